@@ -1,0 +1,90 @@
+-- A certificate without the faults 3 to 6 is canonical.
+use Rattle.std.proofs.Common.{◌≡◌, ◌≢◌, ℕ, suc, zero, ◌+◌, ◌-◌, ◌<◌, ◌≤◌, ◌⊎◌, Bool, true, false, List, [], ◌∷◌, refl, subst, inl, inr, arith, length, get_or}
+use Rattle.std.proofs.lemmas.List.Elements.{All-get_or}
+use Rattle.std.specs.List.{AllZip}
+use native.Mathlib.Decide.{dec_lt, ℕ_discrete}
+use Rattle.misere_theory.specs.Numbering.{KeyBelow}
+use Rattle.misere_theory.specs.Quotients.{Claim}
+use Rattle.misere_theory.specs.Certificates.{Certificate, phi_at, times_of, claim_of, key_of, InRanges, Canonical, pairs_from, TellsApart, LeastApart}
+use Rattle.misere_theory.specs.Faults.{WordFault, OrderFault, PeriodFault, ApartFault}
+use Rattle.misere_theory.proofs.Outcomes.{some_or_all_below}
+use Rattle.misere_theory.proofs.Unique.{KeyBelow-trans}
+use Rattle.misere_theory.proofs.Written.{periodic}
+
+key_below_dec : (a b : ℕ × ℕ) → Dec (KeyBelow a b)
+key_below_dec a b =
+    elim (dec_lt a.0 b.0) [
+      | yes l ↦ yes (inl l)
+      | no f ↦ elim (ℕ_discrete a.0 b.0) [
+        | no g ↦ no (λ h. elim h [ inl l ↦ f l | inr p ↦ g p.0 ])
+        | yes e ↦ elim (dec_lt a.1 b.1) [
+          | yes l ↦ yes (inr (e, l))
+          | no g ↦ no (λ h. elim h [ inl l ↦ f l | inr p ↦ g p.1 ])
+        ]
+      ]
+    ]
+
+same_or_not : (a b : Bool) → (a ≡ b) ⊎ (a ≢ b)
+same_or_not true true = inl refl
+same_or_not true false = inr (λ e. cc)
+same_or_not false true = inr (λ e. cc)
+same_or_not false false = inl refl
+
+least_apart_dec : (c : Claim) (p : ℕ × ℕ) (z : ℕ) → Dec (LeastApart c p z)
+least_apart_dec c p z =
+    elim (dec_lt z c.order) [
+      | no f ↦ no (λ h. f h.0)
+      | yes l ↦ elim (same_or_not (c.portion (c.times p.0 z)) (c.portion (c.times p.1 z))) [
+        | inl e ↦ no (λ h. h.1 e)
+        | inr t ↦ elim (some_or_all_below (TellsApart c p) (λ w. c.portion (c.times p.0 w) ≡ c.portion (c.times p.1 w)) (λ w. other (same_or_not _ _)) z) [
+          | inl (w, b, u) ↦ no (λ h. h.2 w b u)
+          | inr all ↦ yes (l, t, λ w b u. u (all w b))
+        ]
+      ]
+    ]
+  where
+    other : {A B : Type 0} → A ⊎ B → B ⊎ A
+    other (inl a) = inr a
+    other (inr b) = inl b
+
+zip_from_places : {A : Type 0} (R : A → ℕ → Type 0) (d : A) (ps : List A) (zs : List ℕ) → length zs ≡ length ps → ((i : ℕ) → i < length ps → R (get_or ps i d) (get_or zs i 0)) → AllZip R ps zs
+zip_from_places R d [] [] e h = tt
+zip_from_places R d [] (z ∷ zs) e h = absurd (omega arith)
+zip_from_places R d (p ∷ ps) [] e h = absurd (omega arith)
+zip_from_places R d (p ∷ ps) (z ∷ zs) e h = (h 0 (omega arith), zip_from_places R d ps zs (omega arith) (λ i l. h (suc i) (omega arith)))
+
+module _ (c : Certificate) (r : InRanges c) (word : WordFault c → ⊥) (order : OrderFault c → ⊥) (period : PeriodFault c → ⊥) (apart : ApartFault c → ⊥) where
+  next_key : (e : ℕ) → 0 < e → e + 1 < c.order → KeyBelow (key_of c e) (key_of c (e + 1))
+  next_key e p l = elim (key_below_dec (key_of c e) (key_of c (e + 1))) [ yes b ↦ b | no f ↦ absurd (order (inl (e, p, l, f))) ]
+
+  later_key : (d n : ℕ) → 0 < d → d + suc n < c.order → KeyBelow (key_of c d) (key_of c (d + suc n))
+  later_key d zero p l = next_key d p l
+  later_key d (suc n) p l =
+      let e : d + suc n + 1 ≡ d + suc (suc n) = omega arith in
+      KeyBelow-trans _ _ _ (later_key d n p (omega arith)) (subst (λ v. KeyBelow (key_of c (d + suc n)) (key_of c v)) e (next_key (d + suc n) (omega arith) (omega arith)))
+
+  key_range : (e : ℕ) → 0 < e → e < c.order → (1 ≤ (key_of c e).1) × ((key_of c e).1 < c.start + c.period)
+  key_range e p l =
+      let n = r.words.0 in
+      let k = All-get_or (λ k. (k.0 < c.order) × (1 ≤ k.1) × (k.1 < c.start + c.period)) c.words (e - 1) (0, 0) (omega arith) r.words.1 in
+      (k.1, k.2)
+
+  pub canonical_from_none : Canonical c
+  canonical_from_none = record {
+    numbered = record {
+      parent = λ e p l. elim (dec_lt (key_of c e).0 e) [ yes b ↦ b | no f ↦ absurd (word (e, p, l, inl (omega arith))) ];
+      heap = λ e p l. let k = key_range e p l in (k.0, let m = k.1 in omega arith);
+      product = λ e p l. elim (ℕ_discrete (times_of c (key_of c e).0 (phi_at c (key_of c e).1)) e) [ yes b ↦ b | no f ↦ absurd (word (e, p, l, inr f)) ];
+      rising = λ d e p l b. let n : d + suc (e - d - 1) ≡ e = omega arith in subst (λ v. KeyBelow (key_of c d) (key_of c v)) n (later_key d (e - d - 1) p (omega arith));
+      least = λ f h l o b p k. order (inr (f, h, l, o, (let q = r.period.0 in omega arith), p, k));
+    };
+    period = record {
+      from_one = r.start.0;
+      some = r.period.0;
+      repeats = (periodic c r).repeats;
+      least = λ q o l h. period (inl (q, o, l, h));
+      earliest = λ h e. period (inr (h, e));
+    };
+    apart = zip_from_places (LeastApart (claim_of c)) (0, 0) (pairs_from 0 c.order) c.apart r.apart.0
+        (λ i l. elim (least_apart_dec (claim_of c) (get_or (pairs_from 0 c.order) i (0, 0)) (get_or c.apart i 0)) [ yes h ↦ h | no f ↦ absurd (apart (i, l, f)) ]);
+  }

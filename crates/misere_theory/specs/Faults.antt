@@ -1,0 +1,35 @@
+-- The faults 2 to 6 of a certificate's written numbers.
+use Rattle.std.specs.Prelude.{◌≡◌, ◌≢◌, ℕ, ◌+◌, ◌-◌, ◌≤◌, ◌<◌, ◌⊎◌, length, slice_index, slice_index_or}
+use Rattle.misere_theory.specs.Quotients.{Monoid}
+use Rattle.misere_theory.specs.Numbering.{KeyBelow}
+use Rattle.misere_theory.specs.Certificates.{Certificate, phi_at, times_of, claim_of, key_of, pairs_from, LeastApart}
+
+-- fault 2: the table isn't a commutative monoid with identity 0
+abbrev pub LawFault : Certificate → Type 0
+LawFault c = Monoid c.order (times_of c) → ⊥
+
+-- fault 3: an element's key has no smaller element, or has another product
+abbrev pub WordFault : Certificate → Type 0
+WordFault c =
+    (e : ℕ) × (0 < e) × (e < c.order)
+    × ((e ≤ (key_of c e).0) ⊎ (times_of c (key_of c e).0 (phi_at c (key_of c e).1) ≢ e))
+
+-- fault 4: two keys in a row don't rise, or a product has a smaller key
+abbrev pub OrderFault : Certificate → Type 0
+OrderFault c =
+    ((e : ℕ) × (0 < e) × (e + 1 < c.order) × (KeyBelow (key_of c e) (key_of c (e + 1)) → ⊥))
+    ⊎ ((f : ℕ) × (h : ℕ) × (f < c.order) × (1 ≤ h) × (h < c.start + c.period)
+    × (0 < times_of c f (phi_at c h))
+    × KeyBelow (f, h) (key_of c (times_of c f (phi_at c h))))
+
+-- fault 5: a smaller period serves from start on, or the period serves from the heap before start on
+abbrev pub PeriodFault : Certificate → Type 0
+PeriodFault c =
+    ((r : ℕ) × (1 ≤ r) × (r < c.period) × ((n : ℕ) → c.start ≤ n → phi_at c (r + n) ≡ phi_at c n))
+    ⊎ ((1 < c.start) × (phi_at c (c.period + (c.start - 1)) ≡ phi_at c (c.start - 1)))
+
+-- fault 6: of some pair the number given isn't the least that tells it apart
+abbrev pub ApartFault : Certificate → Type 0
+ApartFault c =
+    (i : ℕ) × (i < length (pairs_from 0 c.order))
+    × (LeastApart (claim_of c) (slice_index_or (pairs_from 0 c.order) i (0, 0)) (slice_index c.apart i) → ⊥)
