@@ -1,0 +1,4 @@
+pub mod Bits
+pub mod Text
+pub mod Digits
+pub mod Faults

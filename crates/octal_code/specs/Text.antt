@@ -1,0 +1,26 @@
+-- The spelling of a code: d0, a point, and the digits d1 to dk.
+use Rattle.std.specs.Prelude.{◌≡◌, ◌≢◌, ℕ, ◌+◌, ◌-◌, ◌≤◌, ◌<◌, ◌⊎◌, List, [], ◌∷◌, length, slice_index, All, map}
+use Rattle.misere_theory.specs.Certificates.{IsOctalCode}
+
+-- a digit is one character
+abbrev pub digit_byte : ℕ → ℕ
+digit_byte d = 48 + d
+
+abbrev pub code_text : List ℕ → List ℕ
+code_text [] = []
+code_text (d ∷ ds) = digit_byte d ∷ 46 ∷ map digit_byte ds
+
+-- the bytes spell the code of these digits
+pub record IsCodeText (bytes digits : List ℕ) : Type 0 where
+  pub is_code : IsOctalCode digits
+  pub spelled : bytes ≡ code_text digits
+
+-- as a code, but with 17 or more digits behind the point: d0 is 0 or 4, the others 0 to 7, the last not 0
+abbrev pub IsLongCode : List ℕ → Type 0
+IsLongCode [] = ⊥
+IsLongCode (d ∷ ds) = ((d ≡ 0) ⊎ (d ≡ 4)) × (17 ≤ length ds) × All (λ x. x < 8) ds × (slice_index ds (length ds - 1) ≢ 0)
+
+-- the bytes would spell a code, if codes were longer
+pub record IsLongCodeText (bytes digits : List ℕ) : Type 0 where
+  pub is_long : IsLongCode digits
+  pub spelled : bytes ≡ code_text digits

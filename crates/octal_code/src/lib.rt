@@ -1,0 +1,8 @@
+//! Octal codes, the rule books of heap games: what a player may take away from a heap, and what may stay of it.
+#![tactic(auto)]
+
+mod code;
+mod fault;
+
+pub use code::Code;
+pub use fault::CodeFault;
