@@ -1,10 +1,10 @@
 -- Heaps of any size have the pairs of the heaps 1 to 2 start + 2 period + k.
 use Rattle.std.proofs.Common.{◌≡◌, ℕ, suc, zero, ◌+◌, ◌-◌, ◌*◌, ◌<◌, ◌≤◌, List, [], ◌∷◌, refl, sym, ◌∙◌, ap, subst, arith, IsBitSet}
 use native.Mathlib.Decide.{dec_le}
-use Rattle.misere_theory.specs.Games.{digit, HeapOption}
+use Rattle.misere_theory.specs.Games.{digit, HeapOption, IsHeapUpTo}
 use Rattle.misere_theory.specs.Games.HeapOption.{Nothing, One, Two}
 use Rattle.misere_theory.specs.Quotients.{Claim, value}
-use Rattle.misere_theory.specs.Pairs.{heap_bound, IsPeriodic, SameHeapPair, UpTo}
+use Rattle.misere_theory.specs.Pairs.{heap_bound, IsPeriodic, SameHeapPair}
 
 no_bit_of_zero : (d b : ℕ) → d ≡ 0 → IsBitSet d b → ⊥
 no_bit_of_zero d b e h = let f = subst (λ i. IsBitSet i b) e h in f refl
@@ -50,7 +50,7 @@ module _ (code : List ℕ) (c : Claim) (k start period : ℕ) (ok : IsPeriodic c
     ),
   )
 
-  shown_within : (t n : ℕ) → n < t → 1 ≤ n → (m : ℕ) × UpTo (heap_bound k start period) m × SameHeapPair code c n m
+  shown_within : (t n : ℕ) → n < t → 1 ≤ n → (m : ℕ) × IsHeapUpTo (heap_bound k start period) m × SameHeapPair code c n m
   shown_within zero n l p = absurd (omega arith)
   shown_within (suc t) n l p = elim (dec_le n (heap_bound k start period)) [
     | yes i ↦ (n, (p, i), (refl, λ x. (λ o. o, λ o. o)))
@@ -63,5 +63,5 @@ module _ (code : List ℕ) (c : Claim) (k start period : ℕ) (ok : IsPeriodic c
   ]
 
   -- each heap has the pair of one of the heaps 1 to B
-  pub heap_shown : (n : ℕ) → 1 ≤ n → (m : ℕ) × UpTo (heap_bound k start period) m × SameHeapPair code c n m
+  pub heap_shown : (n : ℕ) → 1 ≤ n → (m : ℕ) × IsHeapUpTo (heap_bound k start period) m × SameHeapPair code c n m
   heap_shown n p = shown_within (suc n) n (omega arith) p

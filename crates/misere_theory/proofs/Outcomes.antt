@@ -1,7 +1,7 @@
 -- Each position is P or N, and none is both.
 use Rattle.std.proofs.Common.{◌≡◌, ℕ, suc, zero, ◌+◌, ◌-◌, ◌<◌, ◌≤◌, ◌⊎◌, List, [], ◌∷◌, ◌++◌, refl, sym, subst, inl, inr, arith, bit_and, ◌^◌, IsBitSet, eq-zero-or-pos, eq-or-lt_of_le, le_of_suc-le-suc}
 use native.Mathlib.Decide.{dec_le}
-use Rattle.misere_theory.specs.Games.{digit, HeapOption, Move, size, IsP, IsN}
+use Rattle.misere_theory.specs.Games.{digit, HeapOption, Move, measure, IsP, IsN}
 use Rattle.misere_theory.specs.Games.HeapOption.{Nothing, One, Two}
 use Rattle.misere_theory.specs.Games.Move.{Here, There}
 use Rattle.misere_theory.specs.Games.IsP.{AllLose}
@@ -109,7 +109,7 @@ some_or_all_moves code Q R (n ∷ X) test =
 pub movable : (code X : List ℕ) → ((Y : List ℕ) × Move code X Y) ⊎ ((Y : List ℕ) → Move code X Y → ⊥)
 movable code X = elim (some_or_all_moves code (λ _. Unit {0}) (λ _. ⊥) X (λ Y m. inl tt)) [ inl (Y, m, _) ↦ inl (Y, m) | inr none ↦ inr none ]
 
-determined_within : (code : List ℕ) (k : ℕ) (X : List ℕ) → size X < k → IsP code X ⊎ IsN code X
+determined_within : (code : List ℕ) (k : ℕ) (X : List ℕ) → measure X < k → IsP code X ⊎ IsN code X
 determined_within code zero X h = absurd (omega arith)
 determined_within code (suc k) X h =
     elim (some_or_all_moves code (IsP code) (IsN code) X (λ Y m. determined_within code k Y (omega (arith, move_smaller m)))) [
@@ -119,4 +119,4 @@ determined_within code (suc k) X h =
 
 -- each position is P or N
 pub determined : (code X : List ℕ) → IsP code X ⊎ IsN code X
-determined code X = determined_within code (suc (size X)) X (omega arith)
+determined code X = determined_within code (suc (measure X)) X (omega arith)

@@ -1,7 +1,7 @@
 -- The local rule at every position, and what the portion predicts.
 use Rattle.std.proofs.Common.{◌≡◌, ℕ, suc, zero, ◌<◌, ◌⊎◌, ◌↔◌, Bool, true, false, List, ◌++◌, refl, sym, ◌∙◌, ap, subst, inl, inr, arith}
 use Rattle.std.proofs.lemmas.Bool.{false_from_ne_true, true≢false}
-use Rattle.misere_theory.specs.Games.{Move, size, Alike, IsP, IsN, IsPosition}
+use Rattle.misere_theory.specs.Games.{Move, measure, Indistinguishable, IsP, IsN, IsPosition}
 use Rattle.misere_theory.specs.Games.IsP.{AllLose}
 use Rattle.misere_theory.specs.Quotients.{Claim, Monoid, value, OptionValue, RuleHolds, RuleFails, Represents, AllApart}
 use native.Mathlib.Decide.{dec_lt}
@@ -27,7 +27,7 @@ same_bool false false f g = refl
 
 module _ (heap : ℕ → Type 0) (code : List ℕ) (c : Claim) (kept : IsKept heap code) where
   -- the local rule at each position makes the portion predict each outcome
-  predicted_within : ((X : List ℕ) → IsPosition heap X → RuleHolds code c X) → (k : ℕ) (X : List ℕ) → size X < k → IsPosition heap X → IsP code X ↔ (c.portion (value c X) ≡ true)
+  predicted_within : ((X : List ℕ) → IsPosition heap X → RuleHolds code c X) → (k : ℕ) (X : List ℕ) → measure X < k → IsPosition heap X → IsP code X ↔ (c.portion (value c X) ≡ true)
   predicted_within rule zero X h w = absurd (omega arith)
   predicted_within rule (suc k) X h w =
       let below : (Z : List ℕ) → Move code X Z → IsP code Z ↔ (c.portion (value c Z) ≡ true) = λ Z i. predicted_within rule k Z (omega (arith, move_smaller i)) (move_kept heap code kept i w) in (
@@ -42,7 +42,7 @@ module _ (heap : ℕ → Type 0) (code : List ℕ) (c : Claim) (kept : IsKept he
       )
 
   pub predicts_from_rule : ((X : List ℕ) → IsPosition heap X → RuleHolds code c X) → (X : List ℕ) → IsPosition heap X → IsP code X ↔ (c.portion (value c X) ≡ true)
-  predicts_from_rule rule X w = predicted_within rule (suc (size X)) X (omega arith) w
+  predicts_from_rule rule X w = predicted_within rule (suc (measure X)) X (omega arith) w
 
   -- a portion that predicts each outcome obeys the local rule at each position
   pub rule_from_predicts : ((X : List ℕ) → IsPosition heap X → IsP code X ↔ (c.portion (value c X) ≡ true)) → (X : List ℕ) → IsPosition heap X → RuleHolds code c X
@@ -92,27 +92,27 @@ module _ (heap : ℕ → Type 0) (code : List ℕ) (c : Claim) (m : Monoid c.ord
   predicts_sum : (X Z : List ℕ) → IsPosition heap X → IsPosition heap Z → IsP code (X ++ Z) ↔ (c.portion (c.times (value c X) (value c Z)) ≡ true)
   predicts_sum X Z p q = subst (λ v. IsP code (X ++ Z) ↔ (c.portion v ≡ true)) (value-append heap c m phi_in X Z p q) (predicts (X ++ Z) (IsPosition-append heap X Z p q))
 
-  pub same_value_alike : (X Y : List ℕ) → IsPosition heap X → IsPosition heap Y → value c X ≡ value c Y → Alike heap code X Y
+  pub same_value_alike : (X Y : List ℕ) → IsPosition heap X → IsPosition heap Y → value c X ≡ value c Y → Indistinguishable heap code X Y
   same_value_alike X Y p q e Z r = (
     λ h. (predicts_sum Y Z q r).1 (ap (λ v. c.portion (c.times v (value c Z))) (sym e) ∙ (predicts_sum X Z p r).0 h),
     λ h. (predicts_sum X Z p r).1 (ap (λ v. c.portion (c.times v (value c Z))) e ∙ (predicts_sum Y Z q r).0 h),
   )
 
   -- alike positions have values that no element tells apart
-  pub alike_same_portion : (X Y : List ℕ) → IsPosition heap X → IsPosition heap Y → Alike heap code X Y → (Z : List ℕ) → IsPosition heap Z → c.portion (c.times (value c X) (value c Z)) ≡ c.portion (c.times (value c Y) (value c Z))
+  pub alike_same_portion : (X Y : List ℕ) → IsPosition heap X → IsPosition heap Y → Indistinguishable heap code X Y → (Z : List ℕ) → IsPosition heap Z → c.portion (c.times (value c X) (value c Z)) ≡ c.portion (c.times (value c Y) (value c Z))
   alike_same_portion X Y p q a Z r =
       same_bool _ _
       (λ t. (predicts_sum Y Z q r).0 ((a Z r).0 ((predicts_sum X Z p r).1 t)))
       (λ t. (predicts_sum X Z p r).0 ((a Z r).1 ((predicts_sum Y Z q r).1 t)))
 
   module _ (reached : (x : ℕ) → x < c.order → (X : List ℕ) × IsPosition heap X × (value c X ≡ x)) (apart : AllApart c) where
-    not_below : (X Y : List ℕ) → IsPosition heap X → IsPosition heap Y → Alike heap code X Y → value c X < value c Y → ⊥
+    not_below : (X Y : List ℕ) → IsPosition heap X → IsPosition heap Y → Indistinguishable heap code X Y → value c X < value c Y → ⊥
     not_below X Y p q a l =
         let (z, z_in, differ) = apart (value c X) (value c Y) l (value_in heap c m phi_in Y q) in
         let (Z, r, e) = reached z z_in in
         differ (subst (λ v. c.portion (c.times (value c X) v) ≡ c.portion (c.times (value c Y) v)) e (alike_same_portion X Y p q a Z r))
 
-    pub alike_same_value : (X Y : List ℕ) → IsPosition heap X → IsPosition heap Y → Alike heap code X Y → value c X ≡ value c Y
+    pub alike_same_value : (X Y : List ℕ) → IsPosition heap X → IsPosition heap Y → Indistinguishable heap code X Y → value c X ≡ value c Y
     alike_same_value X Y p q a =
         elim (dec_lt (value c X) (value c Y)) [
           | yes l ↦ absurd (not_below X Y p q a l)
@@ -126,7 +126,8 @@ module _ (heap : ℕ → Type 0) (code : List ℕ) (c : Claim) (m : Monoid c.ord
     pub represents : Represents heap code c
     represents = record {
       monoid = m;
+      elements = phi_in;
       predicts = predicts;
-      alike = λ X Y p q. (alike_same_value X Y p q, same_value_alike X Y p q);
+      indistinguishable = λ X Y p q. (alike_same_value X Y p q, same_value_alike X Y p q);
       reached = λ x l. reached x l;
     }

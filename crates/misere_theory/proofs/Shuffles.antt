@@ -106,10 +106,10 @@ one_heap_moves (There {n = b} m e) = let (n, R, H, s, o, t) = one_heap_moves m i
 pub multiset_move_from : (code X Y Z : List ℕ) → Move code X Y → IsPermutation Y Z → MultisetMove code X Z
 multiset_move_from code X Y Z m h =
     let (n, R, H, s, o, t) = one_heap_moves m in
-    (n, R, H, to_permutation s, o, IsPermutation-trans _ _ _ (IsPermutation-sym _ _ h) (to_permutation t))
+    (n, H, record { others = R; before = to_permutation s; allowed = o; after = IsPermutation-trans _ _ _ (IsPermutation-sym _ _ h) (to_permutation t) })
 
 pub move_from_multiset : (code X Z : List ℕ) → MultisetMove code X Z → (Y : List ℕ) × Move code X Y × IsPermutation Y Z
 move_from_multiset code X Z w =
-    let (n, R, H, s, o, t) = w in
-    let (Y, m, u) = move_shuffled (back (from_permutation X (n ∷ R) s)) (Here o refl) in
-    (Y, m, IsPermutation-trans _ _ _ (IsPermutation-sym _ _ (to_permutation u)) (IsPermutation-sym _ _ t))
+    let (n, H, one) = w in
+    let (Y, m, u) = move_shuffled (back (from_permutation X (n ∷ one.others) one.before)) (Here one.allowed refl) in
+    (Y, m, IsPermutation-trans _ _ _ (IsPermutation-sym _ _ (to_permutation u)) (IsPermutation-sym _ _ one.after))

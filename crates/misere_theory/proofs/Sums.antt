@@ -1,6 +1,6 @@
 -- Moves, sizes and values of a sum of positions.
 use Rattle.std.proofs.Common.{◌≡◌, ℕ, ◌+◌, ◌-◌, ◌*◌, ◌<◌, ◌⊎◌, List, [], ◌∷◌, ◌++◌, refl, sym, ◌∙◌, ap, inl, inr, append_assoc, arith}
-use Rattle.misere_theory.specs.Games.{HeapOption, Move, size, IsPosition, IsHeap, IsHeapUpTo}
+use Rattle.misere_theory.specs.Games.{HeapOption, Move, measure, IsPosition, IsHeap, IsHeapUpTo}
 use Rattle.misere_theory.specs.Games.HeapOption.{Nothing, One, Two}
 use Rattle.misere_theory.specs.Games.Move.{Here, There}
 use Rattle.misere_theory.specs.Quotients.{Claim, Monoid, value}
@@ -33,18 +33,18 @@ pub move_on_right : (code X Y Y' : List ℕ) → Move code Y Y' → Move code (X
 move_on_right code [] Y Y' m = m
 move_on_right code (n ∷ X) Y Y' m = There (move_on_right code X Y Y' m) refl
 
-pub size-append : (X Y : List ℕ) → size (X ++ Y) ≡ size X + size Y
-size-append [] Y = omega arith
-size-append (n ∷ X) Y = omega (arith, size-append X Y)
+pub measure-append : (X Y : List ℕ) → measure (X ++ Y) ≡ measure X + measure Y
+measure-append [] Y = omega arith
+measure-append (n ∷ X) Y = omega (arith, measure-append X Y)
 
-pub option_smaller : {code : List ℕ} {n : ℕ} {H : List ℕ} → HeapOption code n H → size H < 2 * n - 1
+pub option_smaller : {code : List ℕ} {n : ℕ} {H : List ℕ} → HeapOption code n H → measure H < 2 * n - 1
 option_smaller (Nothing j p e b) = omega arith
 option_smaller (One j a p q e b) = omega arith
 option_smaller (Two j a b p q e c) = omega arith
 
 -- moves lower the measure
-pub move_smaller : {code X Y : List ℕ} → Move code X Y → size Y < size X
-move_smaller (Here {n = n} {X = X} {H = H} o e) = rw e (omega (arith, size-append H X, option_smaller o))
+pub move_smaller : {code X Y : List ℕ} → Move code X Y → measure Y < measure X
+move_smaller (Here {n = n} {X = X} {H = H} o e) = rw e (omega (arith, measure-append H X, option_smaller o))
 move_smaller (There m e) = rw e (omega (arith, move_smaller m))
 
 pub IsPosition-append : (heap : ℕ → Type 0) (X Y : List ℕ) → IsPosition heap X → IsPosition heap Y → IsPosition heap (X ++ Y)

@@ -3,9 +3,17 @@ use Rattle.std.proofs.Common.{◌≡◌, ℕ, suc, zero, ◌+◌, ◌-◌, ◌*�
 use native.Mathlib.Decide.{dec_lt, dec_le}
 use Rattle.misere_theory.specs.Games.{IsHeap, IsPosition}
 use Rattle.misere_theory.specs.Quotients.{Claim, Monoid, value, Represents}
-use Rattle.misere_theory.specs.Numbering.{IsLeastPeriod, KeyBelow, IsNumbered, SameClaim}
+use Rattle.misere_theory.specs.Numbering.{IsLeastPeriod, KeyBelow, IsNumbered}
 use Rattle.misere_theory.proofs.Sums.{value_in, value-append, IsPosition-append}
 use Rattle.misere_theory.proofs.Rules.{same_bool}
+
+-- c and d are the same numbers
+pub record SameClaim (c d : Claim) (key_c key_d : ℕ → ℕ × ℕ) : Type 0 where
+  pub order : c.order ≡ d.order
+  pub phi : (n : ℕ) → IsHeap n → d.phi n ≡ c.phi n
+  pub portion : (x : ℕ) → x < c.order → d.portion x ≡ c.portion x
+  pub times : (x y : ℕ) → x < c.order → y < c.order → d.times x y ≡ c.times x y
+  pub words : (e : ℕ) → 0 < e → e < c.order → ((key_c e).0 ≡ (key_d e).0) × ((key_c e).1 ≡ (key_d e).1)
 
 -- the value of one heap alone
 pub value_of_heap : (c : Claim) → Monoid c.order c.times → (n : ℕ) → c.phi n < c.order → value c (n ∷ []) ≡ c.phi n
@@ -57,7 +65,7 @@ same_keys a b f g =
 -- Numbers. What one claim's least keys say of the other's.
 module _ (code : List ℕ) (c d : Claim) (rc : Represents IsHeap code c) (rd : Represents IsHeap code d) (phi_c : (n : ℕ) → IsHeap n → c.phi n < c.order) (phi_d : (n : ℕ) → IsHeap n → d.phi n < d.order) where
   pub carries : (X Y : List ℕ) → IsPosition IsHeap X → IsPosition IsHeap Y → value c X ≡ value c Y → value d X ≡ value d Y
-  carries X Y p q e = (rd.alike X Y p q).0 ((rc.alike X Y p q).1 e)
+  carries X Y p q e = (rd.indistinguishable X Y p q).0 ((rc.indistinguishable X Y p q).1 e)
 
   abbrev pub Agree : ℕ → Type 0
   Agree e = (X : List ℕ) × IsPosition IsHeap X × (value c X ≡ e) × (value d X ≡ e)
@@ -94,7 +102,7 @@ module _ (code : List ℕ) (c d : Claim) (rc : Represents IsHeap code c) (rd : R
             | yes i ↦ i
             | no g ↦
                 let (Y, y, a, b) = agree (value d (h ∷ F)) (omega arith) in
-                let same : value c (h ∷ F) ≡ value c Y = (rc.alike (h ∷ F) Y (one, w) y).0 ((rd.alike (h ∷ F) Y (one, w) y).1 (sym b)) in
+                let same : value c (h ∷ F) ≡ value c Y = (rc.indistinguishable (h ∷ F) Y (one, w) y).0 ((rd.indistinguishable (h ∷ F) Y (one, w) y).1 (sym b)) in
                 absurd (omega arith)
           ];
           parent = subst (λ v. v < d.order) q (value_in IsHeap d rd.monoid phi_d F w);
@@ -178,7 +186,7 @@ module _ (code : List ℕ) (c d : Claim) (rc : Represents IsHeap code c) (rd : R
 pub same_heaps : (code : List ℕ) (c d : Claim) → Represents IsHeap code c → Represents IsHeap code d → ((n : ℕ) → IsHeap n → c.phi n < c.order) → ((n : ℕ) → IsHeap n → d.phi n < d.order) → (n m : ℕ) → IsHeap n → IsHeap m → d.phi n ≡ d.phi m → c.phi n ≡ c.phi m
 same_heaps code c d rc rd phi_c phi_d n m h k e =
     sym (value_of_heap c rc.monoid n (phi_c n h))
-    ∙ (rc.alike (n ∷ []) (m ∷ []) (h, tt) (k, tt)).0 ((rd.alike (n ∷ []) (m ∷ []) (h, tt) (k, tt)).1 (value_of_heap d rd.monoid n (phi_d n h) ∙ e ∙ sym (value_of_heap d rd.monoid m (phi_d m k))))
+    ∙ (rc.indistinguishable (n ∷ []) (m ∷ []) (h, tt) (k, tt)).0 ((rd.indistinguishable (n ∷ []) (m ∷ []) (h, tt) (k, tt)).1 (value_of_heap d rd.monoid n (phi_d n h) ∙ e ∙ sym (value_of_heap d rd.monoid m (phi_d m k))))
     ∙ value_of_heap c rc.monoid m (phi_c m k)
 
 -- start and period are the same

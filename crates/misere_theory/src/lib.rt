@@ -4,15 +4,15 @@
 ghost use Rattle.std.specs.Prelude.{◌≡◌, ◌⊎◌, ◌↔◌, ◌<◌, ◌≤◌, ◌-◌, ◌*◌, ◌^◌, ◌++◌, ◌∷◌, List, ℕ, true, false, Contains, length, IsPermutation};
 ghost use Rattle.misere_theory.specs.Certificates.{Certificate, claim_of, InRanges, Canonical, Accepted};
 ghost use Rattle.misere_theory.specs.Faults.{WordFault, OrderFault, PeriodFault, ApartFault};
-ghost use Rattle.misere_theory.specs.Games.{Move, MultisetMove, IsP, IsN, IsHeap, IsHeapUpTo, IsPosition, size};
-ghost use Rattle.misere_theory.specs.Pairs.{Pair, IsPeriodic, IsClosed, KeptObey, ElementsObey, UpTo, heap_bound, SameHeapPair, Covers, IsPairOf};
+ghost use Rattle.misere_theory.specs.Games.{Move, MultisetMove, IsP, IsN, IsHeap, IsHeapUpTo, IsPosition, measure};
+ghost use Rattle.misere_theory.specs.Pairs.{Pair, IsPeriodic, IsClosed, KeptObey, ElementsObey, heap_bound, SameHeapPair, Covers, IsPairOf};
 ghost use Rattle.misere_theory.specs.Quotients.{Claim, Monoid, AllApart, Represents, RuleHolds, RuleFails, HeapOptionValue, OptionValue, SumOptionValue, ReachesMoreThan, value};
 
 /// Each position has one outcome, and a move lowers the measure.
 pub fn outcomes_are_determined()
     ensures either { (code X : List ℕ) → IsP code X ⊎ IsN code X }
     ensures not_both { (code X : List ℕ) → IsP code X → IsN code X → ⊥ }
-    ensures falls { (code X Y : List ℕ) → Move code X Y → size Y < size X }
+    ensures falls { (code X Y : List ℕ) → Move code X Y → measure Y < measure X }
     ensures stays { (code X Y : List ℕ) → Move code X Y → IsPosition IsHeap X → IsPosition IsHeap Y }
 {}
 
@@ -60,7 +60,7 @@ pub fn heaps_are_bounded()
     ensures { (code : List ℕ) (c : Claim) (k start period : ℕ)
         → IsPeriodic code c k start period
         → (n : ℕ) → IsHeap n
-        → (m : ℕ) × UpTo (heap_bound k start period) m × SameHeapPair code c n m }
+        → (m : ℕ) × IsHeapUpTo (heap_bound k start period) m × SameHeapPair code c n m }
 {}
 
 /// A closed list of kept pairs over the heaps 1 to B covers the pair of every position.
@@ -69,7 +69,7 @@ pub fn closed_pairs_cover()
         → Monoid c.order c.times
         → ((n : ℕ) → IsHeap n → c.phi n < c.order)
         → IsPeriodic code c k start period
-        → IsClosed code c (UpTo (heap_bound k start period)) kept
+        → IsClosed code c (IsHeapUpTo (heap_bound k start period)) kept
         → (X : List ℕ) → IsPosition IsHeap X → (p : Pair) × Contains kept p × Covers code c p X }
 {}
 
@@ -79,9 +79,9 @@ pub fn closed_pairs_represent()
         → Monoid c.order c.times
         → ((n : ℕ) → IsHeap n → c.phi n < c.order)
         → IsPeriodic code c k start period
-        → IsClosed code c (UpTo (heap_bound k start period)) kept
+        → IsClosed code c (IsHeapUpTo (heap_bound k start period)) kept
         → KeptObey c kept
-        → ElementsObey code c (UpTo (heap_bound k start period))
+        → ElementsObey code c (IsHeapUpTo (heap_bound k start period))
         → ((x : ℕ) → x < c.order → (X : List ℕ) × IsPosition IsHeap X × (value c X ≡ x))
         → AllApart c
         → Represents IsHeap code c }
@@ -125,9 +125,9 @@ pub fn tested_certificates_are_accepted()
         → InRanges c
         → Monoid (claim_of c).order (claim_of c).times
         → Canonical c
-        → IsClosed c.code (claim_of c) (UpTo (heap_bound (length c.code - 1) c.start c.period)) kept
+        → IsClosed c.code (claim_of c) (IsHeapUpTo (heap_bound (length c.code - 1) c.start c.period)) kept
         → KeptObey (claim_of c) kept
-        → ElementsObey c.code (claim_of c) (UpTo (heap_bound (length c.code - 1) c.start c.period))
+        → ElementsObey c.code (claim_of c) (IsHeapUpTo (heap_bound (length c.code - 1) c.start c.period))
         → Accepted c }
 {}
 
