@@ -1,4 +1,4 @@
--- A certificate without the faults 3 to 6 is canonical.
+-- A certificate is canonical exactly where it has none of the faults 3 to 6.
 use Rattle.std.proofs.Common.{◌≡◌, ◌≢◌, ℕ, suc, zero, ◌+◌, ◌-◌, ◌<◌, ◌≤◌, ◌⊎◌, Bool, true, false, List, [], ◌∷◌, refl, subst, inl, inr, arith, length, get_or}
 use Rattle.std.proofs.lemmas.List.Elements.{All-get_or}
 use Rattle.std.specs.List.{AllZip}
@@ -53,6 +53,12 @@ zip_from_places R d [] (z ∷ zs) e h = absurd (omega arith)
 zip_from_places R d (p ∷ ps) [] e h = absurd (omega arith)
 zip_from_places R d (p ∷ ps) (z ∷ zs) e h = (h 0 (omega arith), zip_from_places R d ps zs (omega arith) (λ i l. h (suc i) (omega arith)))
 
+place_of_zip : {A : Type 0} (R : A → ℕ → Type 0) (d : A) (ps : List A) (zs : List ℕ) → AllZip R ps zs → (i : ℕ) → i < length ps → R (get_or ps i d) (get_or zs i 0)
+place_of_zip R d [] zs h i l = absurd (omega arith)
+place_of_zip R d (p ∷ ps) [] h i l = absurd h
+place_of_zip R d (p ∷ ps) (z ∷ zs) h zero l = h.0
+place_of_zip R d (p ∷ ps) (z ∷ zs) h (suc i) l = place_of_zip R d ps zs h.1 i (omega arith)
+
 module _ (c : Certificate) (r : InRanges c) (word : WordFault c → ⊥) (order : OrderFault c → ⊥) (period : PeriodFault c → ⊥) (apart : ApartFault c → ⊥) where
   next_key : (e : ℕ) → 0 < e → e + 1 < c.order → KeyBelow (key_of c e) (key_of c (e + 1))
   next_key e p l = elim (key_below_dec (key_of c e) (key_of c (e + 1))) [ yes b ↦ b | no f ↦ absurd (order (inl (e, p, l, f))) ]
@@ -88,3 +94,23 @@ module _ (c : Certificate) (r : InRanges c) (word : WordFault c → ⊥) (order 
     apart = zip_from_places (LeastApart (claim_of c)) (0, 0) (pairs_from 0 c.order) c.apart r.apart.0
         (λ i l. elim (least_apart_dec (claim_of c) (get_or (pairs_from 0 c.order) i (0, 0)) (get_or c.apart i 0)) [ yes h ↦ h | no f ↦ absurd (apart (i, l, f)) ]);
   }
+
+-- each of the faults 3 to 6 is none that a canonical certificate has
+module _ (c : Certificate) (r : InRanges c) (k : Canonical c) where
+  pub no_word_fault : WordFault c → ⊥
+  no_word_fault (e, pos, l, f) = elim f [ inl high ↦ (let low = k.numbered.parent e pos l in omega arith) | inr other ↦ other (k.numbered.product e pos l) ]
+
+  pub no_order_fault : OrderFault c → ⊥
+  no_order_fault f = elim f [
+    | inl (e, pos, l, still) ↦ still (k.numbered.rising e (e + 1) pos (omega arith) l)
+    | inr (g, h, l, one, high, pos, b) ↦ k.numbered.least g h l one (omega arith) pos b
+  ]
+
+  pub no_period_fault : PeriodFault c → ⊥
+  no_period_fault f = elim f [
+    | inl (q, one, l, again) ↦ k.period.least q one l again
+    | inr (one, e) ↦ k.period.earliest one e
+  ]
+
+  pub no_apart_fault : ApartFault c → ⊥
+  no_apart_fault (i, l, f) = f (place_of_zip (LeastApart (claim_of c)) (0, 0) (pairs_from 0 c.order) c.apart k.apart i l)

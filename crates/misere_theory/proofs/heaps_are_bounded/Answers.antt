@@ -1,5 +1,0 @@
-use Rattle.misere_theory.proofs.Bound.{heap_shown}
-use Rattle.misere_theory.proofs.heaps_are_bounded.Goals as goal
-
-pub returns : goal.returns
-returns g = heap_shown

@@ -1,0 +1,88 @@
+//! Laws of certificates: what their faults exclude, what makes one accepted, and which answers are true of it.
+
+ghost use Rattle.std.specs.Prelude.{◌≡◌, ◌⊎◌, ◌<◌, ◌≤◌, ◌-◌, ◌*◌, ◌^◌, List, ℕ, length};
+ghost use Rattle.misere_theory.specs.Certificates.{Certificate, times_of, claim_of, InRanges, Canonical, Accepted};
+ghost use Rattle.misere_theory.specs.Faults.{WordFault, OrderFault, PeriodFault, ApartFault};
+ghost use Rattle.misere_theory.specs.Games.{IsHeap, IsHeapUpTo, IsPosition};
+ghost use Rattle.misere_theory.specs.Pairs.{Pair, IsClosed, KeptObey, ElementsObey, heap_bound};
+ghost use Rattle.misere_theory.specs.Quotients.{Monoid, Represents, RuleFails};
+ghost use Rattle.misere_theory.specs.Verdicts.{Fault, HasFault, Verdict, IsAllowed};
+ghost use Rattle.misere_theory.specs.Verdicts.Verdict.{Yes, No, Outcome, Limit};
+
+/// The three laws, tested at all elements, make the table of a certificate in its ranges a commutative monoid.
+pub fn tested_tables_are_monoids()
+    ensures { (c : Certificate)
+        → InRanges c
+        → ((x : ℕ) → x < c.order → times_of c 0 x ≡ x)
+        → ((x y : ℕ) → x < c.order → y < c.order → times_of c x y ≡ times_of c y x)
+        → ((x y z : ℕ) → x < c.order → y < c.order → z < c.order → times_of c (times_of c x y) z ≡ times_of c x (times_of c y z))
+        → Monoid c.order (times_of c) }
+{}
+
+/// A certificate in its ranges is canonical exactly where it has none of the faults 3 to 6.
+pub fn faultless_certificates_are_canonical()
+    ensures canonical { (c : Certificate)
+        → InRanges c
+        → (WordFault c → ⊥)
+        → (OrderFault c → ⊥)
+        → (PeriodFault c → ⊥)
+        → (ApartFault c → ⊥)
+        → Canonical c }
+    ensures no_word_fault { (c : Certificate) → InRanges c → Canonical c → WordFault c → ⊥ }
+    ensures no_order_fault { (c : Certificate) → InRanges c → Canonical c → OrderFault c → ⊥ }
+    ensures no_period_fault { (c : Certificate) → InRanges c → Canonical c → PeriodFault c → ⊥ }
+    ensures no_apart_fault { (c : Certificate) → InRanges c → Canonical c → ApartFault c → ⊥ }
+{}
+
+/// A certificate in its ranges has no fault exactly where it is canonical and its table a commutative monoid.
+pub fn faultless_certificates_are_canonical_monoids()
+    ensures both { (c : Certificate) → InRanges c → ((fault : Fault) → HasFault c fault → ⊥) → Monoid c.order (times_of c) × Canonical c }
+    ensures none { (c : Certificate) → InRanges c → Monoid c.order (times_of c) → Canonical c → (fault : Fault) → HasFault c fault → ⊥ }
+{}
+
+/// What a checker tests of a certificate makes it accepted.
+pub fn tested_certificates_are_accepted()
+    ensures { (c : Certificate) (kept : List Pair)
+        → InRanges c
+        → Monoid c.order (times_of c)
+        → Canonical c
+        → IsClosed c.code (claim_of c) (IsHeapUpTo (heap_bound (length c.code - 1) c.start c.period)) kept
+        → KeptObey (claim_of c) kept
+        → ElementsObey c.code (claim_of c) (IsHeapUpTo (heap_bound (length c.code - 1) c.start c.period))
+        → Accepted c }
+{}
+
+/// A canonical certificate of a monoid is accepted exactly where the rule fails at no position.
+pub fn accepted_certificates_obey_the_rule()
+    ensures obeys { (c : Certificate) → Accepted c → (X : List ℕ) → IsPosition IsHeap X → RuleFails c.code (claim_of c) X → ⊥ }
+    ensures accepted { (c : Certificate)
+        → InRanges c
+        → Monoid c.order (times_of c)
+        → Canonical c
+        → ((X : List ℕ) → IsPosition IsHeap X → RuleFails c.code (claim_of c) X → ⊥)
+        → Accepted c }
+{}
+
+/// Accepted certificates get yes or Limit; canonical ones of a monoid that isn't the quotient Outcome or Limit;
+/// a certificate with a fault its first fault alone; and no certificate gets Limit where the limit is order * 2 ^ order or more.
+pub fn true_answers_are_few()
+    ensures accepted { (c : Certificate) (limit : ℕ) (answer : Verdict) → Accepted c → IsAllowed c limit answer → (answer ≡ Yes) ⊎ (answer ≡ Limit) }
+    ensures wrong { (c : Certificate) (limit : ℕ) (answer : Verdict)
+        → InRanges c
+        → Monoid c.order (times_of c)
+        → Canonical c
+        → (Represents IsHeap c.code (claim_of c) → ⊥)
+        → IsAllowed c limit answer
+        → ((X : List ℕ) × (answer ≡ Outcome X)) ⊎ (answer ≡ Limit) }
+    ensures faulty { (c : Certificate) (fault : Fault) (limit other : ℕ) (answer : Verdict)
+        → InRanges c
+        → IsAllowed c limit (No fault)
+        → IsAllowed c other answer
+        → answer ≡ No fault }
+    ensures within { (c : Certificate) (limit : ℕ) → InRanges c → c.order * 2 ^ c.order ≤ limit → IsAllowed c limit Limit → ⊥ }
+{}
+
+/// A code has one accepted certificate at most.
+pub fn accepted_certificates_are_unique()
+    ensures { (c d : Certificate) → Accepted c → Accepted d → c.code ≡ d.code → c ≡ d }
+{}

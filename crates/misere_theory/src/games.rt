@@ -1,0 +1,33 @@
+//! Laws of positions, moves and outcomes.
+
+ghost use Rattle.std.specs.Prelude.{◌≡◌, ◌⊎◌, ◌<◌, ◌++◌, List, ℕ, IsPermutation};
+ghost use Rattle.misere_theory.specs.Games.{Move, MultisetMove, IsP, IsN, IsHeap, IsPosition, measure};
+ghost use Rattle.misere_theory.specs.Quotients.{Claim, Monoid, value};
+
+/// Each position has one outcome, a move leads to a position, and it lowers the measure.
+pub fn outcomes_are_determined()
+    ensures either { (code X : List ℕ) → IsP code X ⊎ IsN code X }
+    ensures not_both { (code X : List ℕ) → IsP code X → IsN code X → ⊥ }
+    ensures falls { (code X Y : List ℕ) → Move code X Y → measure Y < measure X }
+    ensures stays { (code X Y : List ℕ) → Move code X Y → IsPosition IsHeap X → IsPosition IsHeap Y }
+{}
+
+/// The order of a position's heaps does not matter: to its moves, its outcome and its value.
+pub fn order_does_not_matter()
+    ensures moves { (code X Y Z : List ℕ) → Move code X Y → IsPermutation Y Z → MultisetMove code X Z }
+    ensures back { (code X Z : List ℕ) → MultisetMove code X Z → (Y : List ℕ) × Move code X Y × IsPermutation Y Z }
+    ensures outcome { (code X Y : List ℕ) → IsPermutation X Y → IsP code X → IsP code Y }
+    ensures value { (c : Claim) (X Y : List ℕ)
+        → Monoid c.order c.times
+        → ((n : ℕ) → IsHeap n → c.phi n < c.order)
+        → IsPosition IsHeap X
+        → IsPermutation X Y
+        → value c X ≡ value c Y }
+{}
+
+/// A move of a sum is a move of one part.
+pub fn sums_move_in_one_part()
+    ensures parts { (code X Y Z : List ℕ) → Move code (X ++ Y) Z → ((U : List ℕ) × Move code X U × (Z ≡ U ++ Y)) ⊎ ((U : List ℕ) × Move code Y U × (Z ≡ X ++ U)) }
+    ensures left { (code X U Y : List ℕ) → Move code X U → Move code (X ++ Y) (U ++ Y) }
+    ensures right { (code X Y U : List ℕ) → Move code Y U → Move code (X ++ Y) (X ++ U) }
+{}

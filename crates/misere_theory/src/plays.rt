@@ -1,0 +1,1 @@
+//! Laws of plays: reachable positions, and winning by first winning moves.

@@ -1,0 +1,34 @@
+//! Laws of claims: when one is a monoid, when it predicts outcomes, when it is the quotient.
+
+ghost use Rattle.std.specs.Prelude.{◌≡◌, ◌⊎◌, ◌↔◌, ◌<◌, List, ℕ, true};
+ghost use Rattle.misere_theory.specs.Games.{IsP, IsHeap, IsHeapUpTo, IsPosition};
+ghost use Rattle.misere_theory.specs.Quotients.{Claim, Monoid, LawFails, AllApart, Represents, RuleHolds, RuleFails, value};
+
+/// A product that stays below the order is a commutative monoid exactly where no law fails.
+pub fn laws_fail_or_hold()
+    ensures never_both { (order : ℕ) (times : ℕ → ℕ → ℕ) → Monoid order times → LawFails order times → ⊥ }
+    ensures no_failure { (order : ℕ) (times : ℕ → ℕ → ℕ)
+        → 0 < order
+        → ((x y : ℕ) → x < order → y < order → times x y < order)
+        → (LawFails order times → ⊥)
+        → Monoid order times }
+{}
+
+/// The portion predicts every outcome exactly where it obeys the local rule at every position.
+pub fn rule_predicts()
+    ensures rule { (code : List ℕ) (c : Claim) → ((X : List ℕ) → IsPosition IsHeap X → RuleHolds code c X) → (X : List ℕ) → IsPosition IsHeap X → IsP code X ↔ (c.portion (value c X) ≡ true) }
+    ensures back { (code : List ℕ) (c : Claim) → ((X : List ℕ) → IsPosition IsHeap X → IsP code X ↔ (c.portion (value c X) ≡ true)) → (X : List ℕ) → IsPosition IsHeap X → RuleHolds code c X }
+    ensures decided { (code : List ℕ) (c : Claim) (X : List ℕ) → RuleHolds code c X ⊎ RuleFails code c X }
+    ensures fails { (code : List ℕ) (c : Claim) (X : List ℕ) → RuleHolds code c X → RuleFails code c X → ⊥ }
+{}
+
+/// The rule at all positions of heaps up to M makes the partial quotient.
+pub fn rule_represents_partly()
+    ensures { (M : ℕ) (code : List ℕ) (c : Claim)
+        → Monoid c.order c.times
+        → ((n : ℕ) → IsHeapUpTo M n → c.phi n < c.order)
+        → ((X : List ℕ) → IsPosition (IsHeapUpTo M) X → RuleHolds code c X)
+        → ((x : ℕ) → x < c.order → (X : List ℕ) × IsPosition (IsHeapUpTo M) X × (value c X ≡ x))
+        → AllApart c
+        → Represents (IsHeapUpTo M) code c }
+{}
