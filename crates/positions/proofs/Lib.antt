@@ -1,0 +1,6 @@
+pub mod Stages
+pub mod Listed
+pub mod Exact
+pub mod Allowed
+pub mod Permuted
+pub mod Heaps

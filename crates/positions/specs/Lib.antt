@@ -1,0 +1,5 @@
+pub mod Options
+pub mod Walks
+pub mod Exact
+pub mod Positions
+pub mod Moves

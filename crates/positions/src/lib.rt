@@ -1,0 +1,14 @@
+//! Positions of octal games, the options of their heaps, and moves.
+#![tactic(auto)]
+
+mod left;
+mod listing;
+mod moves;
+mod position;
+mod walk;
+
+pub use left::Left;
+pub use listing::{options, options_are_exact, options_up_to};
+pub use moves::{Move, MoveFault, apply, is_option};
+pub use position::{LARGEST, Position};
+pub use walk::Options;

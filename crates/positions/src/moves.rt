@@ -1,0 +1,115 @@
+ghost use Rattle.std.specs.List.Sorted.{IsPermutation};
+ghost use Rattle.std.specs.Prelude.{◌≡◌, ◌+◌, ◌<◌, ◌≤◌, ◌↔◌, ◌++◌, ◌∷◌, length, slice_index, remove, All, Contains, IsTrue, IfOk, OnOk};
+ghost use Rattle.positions.specs.Exact.{heaps_of};
+ghost use Rattle.positions.specs.Moves.{IsMovedTo, move_fault_number};
+ghost use Rattle.positions.specs.Options.{options_of};
+ghost use Rattle.positions.specs.Positions.{IsSize};
+
+use crate::left::Left;
+use crate::position::{Position, place_of};
+use allocation::Memory;
+use octal_code::Code;
+use std::alloc::Allocator;
+
+/// A heap's size, and what a move leaves of such a heap.
+#[derive(Clone, Copy, Debug, PartialEq, Eq)]
+pub struct Move {
+    pub heap: u64,
+    pub left: Left,
+}
+
+/// Why a move can't be made.
+#[derive(Clone, Copy, Debug, PartialEq, Eq)]
+pub enum MoveFault {
+    /// The position has no heap of this size.
+    NoSuchHeap,
+    /// The heap is there, but this isn't an option of it.
+    NotAllowed,
+    /// A growth was refused.
+    Memory,
+}
+
+impl MoveFault {
+    /// The number under which the fault is printed.
+    pub fn number(self) -> u8
+        ensures { result ≡ move_fault_number self }
+    {
+        match self {
+            MoveFault::NoSuchHeap => 1,
+            MoveFault::NotAllowed => 2,
+            MoveFault::Memory => 9,
+        }
+    }
+}
+
+impl From<Memory> for MoveFault {
+    ghost use Rattle.positions.specs.declared.moves.MoveFault.{MoveFault};
+
+    ghost from_gives = { λ _ fault. fault ≡ MoveFault.Memory };
+
+    fn from(_: Memory) -> MoveFault {
+        MoveFault::Memory
+    }
+}
+
+/// Whether a move may leave this of the heap n. No split is tried but the one in question.
+pub fn is_option(code: &Code, n: u64, left: Left) -> bool
+    ensures { IsTrue result ↔ Contains (options_of code.now n) left }
+{
+    match left {
+        Left::Nothing => code.takes_all(n, n),
+        Left::One(a) => code.leaves_one(n, n.saturating_sub(a)),
+        Left::Two(a, b) => {
+            if are_parts(n, a, b) {
+                code.has_bit(n - b - a, 4)
+            } else {
+                false
+            }
+        }
+    }
+}
+
+/// Whether a and b, the smaller first, are parts of what may stay of n.
+fn are_parts(n: u64, a: u64, b: u64) -> bool
+    ensures { IsTrue result ↔ ((1 ≤ a) × (a ≤ b) × (a + b ≤ n)) }
+{
+    a != 0 && a <= b && b <= n && a <= n - b
+}
+
+/// The position after a move. The heap is looked up, and the option is tested by itself, however many the heap has.
+pub fn apply<A: Allocator + Copy>(
+    alloc: A,
+    code: &Code,
+    position: &Position<A>,
+    step: Move,
+) -> Result<Position<A>, MoveFault>
+    ensures ok { IfOk result (λ next. IsMovedTo code.now position.now step.heap step.left next) }
+    ensures no_such_heap { (result ≡ Err MoveFault.NoSuchHeap) ↔ ¬ Contains position.now step.heap }
+    ensures not_allowed { (result ≡ Err MoveFault.NotAllowed) ↔ (Contains position.now step.heap × ¬ Contains (options_of code.now step.heap) step.left) }
+{
+    let Ok(at) = place_of(position.heaps(), step.heap) else {
+        return Err(MoveFault::NoSuchHeap);
+    };
+    if !is_option(code, step.heap, step.left) {
+        return Err(MoveFault::NotAllowed);
+    }
+    let mut next = position.copied(alloc)?;
+    next.remove(at);
+    add_left(&mut next, step.left)?;
+    Ok(next)
+}
+
+/// Adds what a move left of a heap.
+fn add_left<A: Allocator + Copy>(position: &mut Position<A>, left: Left) -> Result<(), Memory>
+    requires { All IsSize (heaps_of left) }
+    ensures { OnOk result (IsPermutation (heaps_of left ++ position.old) position.new) }
+{
+    match left {
+        Left::Nothing => Ok(()),
+        Left::One(a) => position.push(a),
+        Left::Two(a, b) => {
+            position.push(b)?;
+            position.push(a)
+        }
+    }
+}
