@@ -1,0 +1,4 @@
+pub mod Asks
+pub mod Program
+pub mod Refusals
+pub mod Status
