@@ -1,6 +1,6 @@
 -- Transition pairs, which are a value and some values of options: when a list of them speaks for every position.
 -- Transition pairs: after Plambeck and Siegel. Covers, closed lists and their rules: this project's own.
-use Rattle.std.specs.Prelude.{◌≡◌, ℕ, ◌+◌, ◌*◌, ◌≤◌, ◌<◌, ◌⊎◌, ◌↔◌, true, false, List, [], Contains}
+use Rattle.std.specs.Prelude.{◌≡◌, ℕ, ◌+◌, ◌*◌, ◌≤◌, ◌<◌, ◌⊎◌, ◌↔◌, true, false, List, [], ◌∷◌, Contains}
 use Rattle.misere_theory.specs.Games.{digit}
 use Rattle.misere_theory.specs.Quotients.{Claim, value, OptionValue, HeapOptionValue}
 
@@ -73,3 +73,9 @@ heap_bound k start period = 2 * start + 2 * period + k
 -- The heaps n and m have the same pair: the same element and the same values of options.
 abbrev pub SameHeapPair : List ℕ → Claim → ℕ → ℕ → Type 0
 SameHeapPair code c n m = (c.phi n ≡ c.phi m) × ((x : ℕ) → HeapOptionValue code c n x ↔ HeapOptionValue code c m x)
+
+-- Where two heaps are left, the smaller stands first, and it is below the bound.
+abbrev pub IsSmallSplit : ℕ → List ℕ → Type 0
+IsSmallSplit bound [] = Unit {0}
+IsSmallSplit bound (a ∷ []) = Unit {0}
+IsSmallSplit bound (a ∷ b ∷ H) = (a ≤ b) × (a < bound)

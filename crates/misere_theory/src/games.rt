@@ -1,7 +1,7 @@
 //! Laws of positions, moves and outcomes.
 
 ghost use Rattle.std.specs.Prelude.{◌≡◌, ◌⊎◌, ◌<◌, ◌++◌, List, ℕ, IsPermutation};
-ghost use Rattle.misere_theory.specs.Games.{Move, MultisetMove, IsP, IsN, IsHeap, IsPosition, measure};
+ghost use Rattle.misere_theory.specs.Games.{Move, HeapMove, MultisetMove, IsP, IsN, IsHeap, IsPosition, measure};
 ghost use Rattle.misere_theory.specs.Quotients.{Claim, Monoid, value};
 
 /// Each position has one outcome, a move leads to a position, and it lowers the measure.
@@ -23,6 +23,11 @@ pub fn order_does_not_matter()
         → IsPosition IsHeap X
         → IsPermutation X Y
         → value c X ≡ value c Y }
+{}
+
+/// A move of a heap to what is left of it leads to one position, whatever the order of its heaps.
+pub fn heap_moves_lead_to_one_position()
+    ensures { (code X : List ℕ) (n : ℕ) (H Y Z : List ℕ) → HeapMove code X n H Y → HeapMove code X n H Z → IsPermutation Y Z }
 {}
 
 /// A move of a sum is a move of one part.

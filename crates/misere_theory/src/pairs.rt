@@ -1,8 +1,10 @@
 //! Laws of transition pairs: sums, the bound on heaps, closed lists, and how many pairs there are.
 
-ghost use Rattle.std.specs.Prelude.{◌≡◌, ◌↔◌, ◌<◌, ◌*◌, ◌^◌, ◌++◌, ◌∷◌, List, ℕ, true, false, Contains};
-ghost use Rattle.misere_theory.specs.Games.{IsHeap, IsHeapUpTo, IsPosition};
-ghost use Rattle.misere_theory.specs.Pairs.{Pair, IsSamePair, IsPeriodic, IsClosed, KeptObey, ElementsObey, heap_bound, SameHeapPair, Covers, IsPairOf};
+ghost use Rattle.std.specs.Prelude.{◌≡◌, ◌⊎◌, ◌↔◌, ◌<◌, ◌+◌, ◌*◌, ◌^◌, ◌++◌, ◌∷◌, List, ℕ, true, false, Contains};
+ghost use Rattle.std.specs.List.Sorted.{IsNonDecreasing};
+ghost use Rattle.misere_theory.specs.Games.{HeapOption, IsHeap, IsHeapUpTo, IsPosition};
+ghost use Rattle.misere_theory.specs.Pairs.{Pair, IsSamePair, IsPeriodic, IsClosed, KeptObey, ElementsObey, heap_bound, SameHeapPair, Covers, IsPairOf, IsSmallSplit};
+ghost use Rattle.misere_theory.specs.Plays.{LeftBefore};
 ghost use Rattle.misere_theory.specs.Quotients.{Claim, Monoid, AllApart, Represents, RuleFails, HeapOptionValue, OptionValue, SumOptionValue, ReachesMoreThan, value};
 
 /// The pair of a sum is the product of the pairs.
@@ -22,6 +24,22 @@ pub fn heaps_are_bounded()
         → IsPeriodic code c k start period
         → (n : ℕ) → IsHeap n
         → (m : ℕ) × IsHeapUpTo (heap_bound k start period) m × SameHeapPair code c n m }
+{}
+
+/// Of the splits of a heap those whose smaller part is below start + period show all values, and each of the others comes after
+/// one of them with its value.
+pub fn small_parts_are_enough()
+    ensures values { (code : List ℕ) (c : Claim) (k start period : ℕ)
+        → IsPeriodic code c k start period
+        → Monoid c.order c.times
+        → ((n : ℕ) → IsHeap n → c.phi n < c.order)
+        → (n : ℕ) (H : List ℕ) → HeapOption code n H
+        → (L : List ℕ) × HeapOption code n L × IsSmallSplit (start + period) L × (value c L ≡ value c H) }
+    ensures first { (code : List ℕ) (c : Claim) (k start period : ℕ)
+        → IsPeriodic code c k start period
+        → (n : ℕ) (H : List ℕ) → HeapOption code n H
+        → IsNonDecreasing H
+        → (L : List ℕ) × HeapOption code n L × IsSmallSplit (start + period) L × (value c L ≡ value c H) × ((L ≡ H) ⊎ LeftBefore L H) }
 {}
 
 /// A closed list of kept pairs over the heaps 1 to B covers the pair of every position.
