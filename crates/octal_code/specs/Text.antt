@@ -12,7 +12,7 @@ code_text (d ∷ ds) = digit_byte d ∷ 46 ∷ map digit_byte ds
 
 -- the bytes spell the code of these digits
 pub record IsCodeText (bytes digits : List ℕ) : Type 0 where
-  pub is_code : IsOctalCode digits
+  pub code : IsOctalCode digits
   pub spelled : bytes ≡ code_text digits
 
 -- as a code, but with 17 or more digits behind the point: d0 is 0 or 4, the others 0 to 7, the last not 0
@@ -20,7 +20,13 @@ abbrev pub IsLongCode : List ℕ → Type 0
 IsLongCode [] = ⊥
 IsLongCode (d ∷ ds) = ((d ≡ 0) ⊎ (d ≡ 4)) × (17 ≤ length ds) × All (λ x. x < 8) ds × (slice_index ds (length ds - 1) ≢ 0)
 
--- the bytes would spell a code, if codes were longer
-pub record IsLongCodeText (bytes digits : List ℕ) : Type 0 where
-  pub is_long : IsLongCode digits
+-- the bytes would spell a code, if codes could be longer
+pub record IsLongCodeText (bytes : List ℕ) : Type 0 where
+  pub digits : List ℕ
+  pub long : IsLongCode digits
   pub spelled : bytes ≡ code_text digits
+
+-- the bytes spell neither
+pub record IsNoCodeText (bytes : List ℕ) : Type 0 where
+  pub no_code : (digits : List ℕ) → IsCodeText bytes digits → ⊥
+  pub not_long : IsLongCodeText bytes → ⊥

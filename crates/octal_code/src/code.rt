@@ -1,9 +1,15 @@
-ghost use Rattle.std.specs.Prelude.{◌≡◌, ◌-◌, ◌<◌, ◌≤◌, length};
+ghost use Rattle.std.specs.Prelude.{◌≡◌, ◌-◌, ◌<◌, ◌≤◌, ◌↔◌, ◌⊎◌, ℕ, List, IsTrue, All, length};
 ghost use Rattle.misere_theory.specs.Certificates.{IsOctalCode};
 ghost use Rattle.misere_theory.specs.Games.{digit};
 ghost use Rattle.octal_code.specs.Bits.{has_bit, leaves_one, takes_all};
+ghost use Rattle.octal_code.specs.Spelling.{IsOctalByte, IsSpelling, digits_in};
+ghost use Rattle.octal_code.specs.Text.{IsCodeText, IsLongCodeText, IsNoCodeText};
 
+use crate::fault::CodeFault;
 use std::marker::Model;
+
+/// The length of the longest text of a code: a digit, a point and 16 digits.
+const LONGEST: usize = 18;
 
 /// An octal code d0.d1d2..dk, seen as the list of its digits: d0 is 0 or 4, then come 1 to 16 digits 0 to 7, of which the last is not 0.
 #[derive(Clone, Copy)]
@@ -28,6 +34,36 @@ impl Model for Code {
 }
 
 impl Code {
+    /// Reads the text of a code: each code has one.
+    pub fn read(text: &[u8]) -> Result<Code, CodeFault>
+        ensures code { (digits : List ℕ) → (result ≡ Ok digits) ↔ IsCodeText text.now digits }
+        ensures too_long { (result ≡ Err CodeFault.TooLong) ↔ IsLongCodeText text.now }
+        ensures not_a_code { (result ≡ Err CodeFault.NotACode) ↔ IsNoCodeText text.now }
+    {
+        if !is_spelling(text) {
+            return Err(CodeFault::NotACode);
+        }
+        if text.len() > LONGEST {
+            return Err(CodeFault::TooLong);
+        }
+        Ok(Code::spelled(text))
+    }
+
+    /// The code that these bytes spell.
+    fn spelled(text: &[u8]) -> Code
+        requires spelling { IsSpelling text.now }
+        requires short { length text.now ≤ LONGEST }
+        ensures { result ≡ digits_in text.now }
+    {
+        let mut digits = [0; 17];
+        digits[0] = text[0] - b'0';
+        for i in 1..text.len() - 1 {
+            digits[i] = text[i + 1] - b'0';
+        }
+        let count = (text.len() - 1) as u8;
+        Code { digits, count }
+    }
+
     /// The digit dj, which is 0 past the last one.
     pub fn digit(&self, j: u64) -> u8
         ensures value { result ≡ digit self.now j }
@@ -44,6 +80,8 @@ impl Code {
     pub fn last(&self) -> u8
         ensures value { result ≡ length self.now - 1 }
         ensures code { IsOctalCode self.now }
+        ensures some { 2 ≤ length self.now }
+        ensures short { length self.now ≤ 17 }
     {
         self.count - 1
     }
@@ -68,4 +106,28 @@ impl Code {
     {
         self.has_bit(j, 2) && j != 0 && j < n
     }
+}
+
+/// Whether the bytes are 0 or 4, a point, and digits 0 to 7, at least one, the last not 0.
+fn is_spelling(text: &[u8]) -> bool
+    ensures { IsTrue result ↔ IsSpelling text.now }
+{
+    if text.len() < 3 || !is_first(text[0]) || text[1] != b'.' {
+        return false;
+    }
+    are_octal(&text[2..]) && text[text.len() - 1] != b'0'
+}
+
+/// Whether a code may begin with this byte.
+fn is_first(byte: u8) -> bool
+    ensures { IsTrue result ↔ (byte ≡ 48) ⊎ (byte ≡ 52) }
+{
+    byte == b'0' || byte == b'4'
+}
+
+/// Whether the bytes are digits 0 to 7.
+fn are_octal(bytes: &[u8]) -> bool
+    ensures { IsTrue result ↔ All IsOctalByte bytes.now }
+{
+    bytes.iter().all(|byte| b'0' <= *byte && *byte < b'8')
 }
