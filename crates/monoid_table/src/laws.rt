@@ -1,51 +1,19 @@
-// Commutative monoids, and products over them.
-ghost use Rattle.std.specs.Prelude.{◌≡◌, All, List};
-ghost use Rattle.std.specs.List.Sorted.{IsPermutation};
-ghost use Rattle.monoid_table.specs.Laws.{CommMonoidLaws, product_of, power_of};
+//! What holds of tables and of jobs, for callers' proofs.
+ghost use Rattle.std.specs.Prelude.{◌≡◌, ◌+◌, ◌≤◌, ℕ, List, true, false};
+ghost use Rattle.misere_theory.specs.Quotients.{Monoid};
+ghost use Rattle.monoid_table.specs.Grids.{LawBreach, entry};
+ghost use Rattle.monoid_table.specs.Turns.{JobState, is_over, turns};
 
-/// A commutative monoid, as a value whose elements are of another type.
-pub trait CommMonoid {
-    type Element: Drop;
+/// A law that fails at some elements leaves no commutative monoid with identity 0.
+pub fn breaches_refute()
+    ensures { (order : ℕ) (rows : List ℕ) → LawBreach order rows → Monoid order (entry order rows) → ⊥ }
+{}
 
-    /// Holds of its elements.
-    ghost is_in: { Self → Self.Element → Type 0 };
-
-    ghost identity: { Self → Self.Element };
-
-    ghost multiply: { Self → Self.Element → Self.Element → Self.Element };
-
-    fn one(&self) -> Self::Element
-        ensures { result ≡ identity self.now };
-
-    fn times(&self, x: &Self::Element, y: &Self::Element) -> Self::Element
-        requires x_in { is_in self.now x.now }
-        requires y_in { is_in self.now y.now }
-        ensures { result ≡ multiply self.now x.now y.now };
-
-    ghost laws: { (m : Self) → CommMonoidLaws (is_in m) (identity m) (multiply m) };
-}
-
-/// The product of the elements, which doesn't depend on their order.
-pub fn product<M: CommMonoid>(monoid: &M, elements: &[M::Element]) -> M::Element
-    requires { All (M.is_in monoid.now) elements.now }
-    ensures value { result ≡ product_of (M.identity monoid.now) (M.multiply monoid.now) elements.now }
-    ensures any_order { (others : List M.Element) → IsPermutation elements.now others → result ≡ product_of (M.identity monoid.now) (M.multiply monoid.now) others }
-{
-    let mut all = monoid.one();
-    for x in elements {
-        all = monoid.times(&all, x);
-    }
-    all
-}
-
-/// The product of `count` times the element.
-pub fn power<M: CommMonoid>(monoid: &M, x: &M::Element, count: u64) -> M::Element
-    requires { M.is_in monoid.now x.now }
-    ensures { result ≡ power_of (M.identity monoid.now) (M.multiply monoid.now) x.now count }
-{
-    let mut all = monoid.one();
-    for _turn in 0..count {
-        all = monoid.times(x, &all);
-    }
-    all
-}
+/// Turns do not depend on how they are cut, and each that is not after the end spends one unit.
+pub fn turns_add_up()
+    ensures cut { (m n : ℕ) (s : JobState) → turns (m + n) s ≡ turns n (turns m s) }
+    ensures rows { (n : ℕ) (s : JobState) → (turns n s).grid ≡ s.grid }
+    ensures ended { (n : ℕ) (s : JobState) → is_over s ≡ true → turns n s ≡ s }
+    ensures spends { (n : ℕ) (s : JobState) → is_over (turns n s) ≡ false → (turns n s).spent ≡ s.spent + n }
+    ensures at_most { (n : ℕ) (s : JobState) → (turns n s).spent ≤ s.spent + n }
+{}

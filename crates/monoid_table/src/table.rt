@@ -1,150 +1,121 @@
-// Tables of products whose laws were checked.
-ghost use Rattle.std.specs.Prelude.{◌≡◌, ◌+◌, ◌*◌, ◌<◌, ◌≤◌, ◌↔◌, ℕ, length, IsTrue, IfOk, IsOk, slice_index};
-ghost use Rattle.monoid_table.specs.Table.{IsShaped, IsLawful, entry};
+//! Tables of products whose laws were checked.
+ghost use Rattle.std.specs.Prelude.{◌≡◌, ◌+◌, ◌*◌, ◌<◌, ◌≤◌, ◌↔◌, ℕ, All, IfOk, IsOk, Err, OnErr, length, slice_index, slice_range};
+ghost use Rattle.misere_theory.specs.Quotients.{Monoid};
+ghost use Rattle.monoid_table.specs.Grids.{Grid, IsShaped, IsTable, LawBreach, times_in};
 
-use crate::laws::CommMonoid;
+use crate::fault::LawFault;
+use crate::job::TableJob;
+use crate::monoid::CommMonoid;
+use crate::triples::entry_at;
+use std::alloc::{Allocator, Global};
+use std::marker::Model;
 
-#[derive(Debug, Clone, Copy, PartialEq, Eq, Drop)]
-pub enum LawFault {
-    Shape,
-    Law,
-}
-
-/// A table of products whose numbers form a commutative monoid.
+/// A commutative monoid on the numbers below its order, with identity 0, given by its products.
 #[derive(Drop)]
-pub struct Table {
+pub struct Table<A: Allocator = Global> {
     order: u16,
-    rows: Vec<u16>,
-    ghost shaped: { IsShaped order rows.items },
-    ghost lawful: { IsLawful order rows.items },
+    rows: Vec<u16, A>,
 }
 
-fn entry_at(rows: &[u16], order: usize, x: usize, y: usize) -> usize
-    requires shaped { IsShaped order rows.now }
-    requires x_in { x < order }
-    requires y_in { y < order }
-    ensures value { result ≡ entry order rows.now x y }
-    ensures within { result < order }
-{
-    rows[x * order + y] as usize
+impl<A: Allocator> Model for Table<A> {
+    ghost use Rattle.monoid_table.specs.Grids.{Grid, IsTable};
+
+    ghost Value = { Grid };
+
+    ghost view = { λ t. record { order = t.order; entries = t.rows.items } };
+
+    ghost invariant = { λ t. IsTable t.order t.rows.items };
 }
 
-fn is_shaped(rows: &[u16], order: usize) -> bool
-    ensures { IsTrue result ↔ IsShaped order rows.now }
-{
-    if order == 0 || order > 256 || rows.len() != order * order {
-        return false;
-    }
-    for x in rows {
-        if *x as usize >= order {
-            return false;
-        }
-    }
-    true
-}
-
-fn associates_with(rows: &[u16], order: usize, x: usize, y: usize) -> bool
-    requires shaped { IsShaped order rows.now }
-    requires x_in { x < order }
-    requires y_in { y < order }
-    ensures { IsTrue result ↔ ((z : ℕ) → z < order → entry order rows.now (entry order rows.now x y) z ≡ entry order rows.now x (entry order rows.now y z)) }
-{
-    let left = entry_at(rows, order, x, y);
-    for z in 0..order {
-        if entry_at(rows, order, left, z) != entry_at(rows, order, x, entry_at(rows, order, y, z)) {
-            return false;
-        }
-    }
-    true
-}
-
-fn has_identity(rows: &[u16], order: usize) -> bool
-    requires shaped { IsShaped order rows.now }
-    ensures { IsTrue result ↔ ((x : ℕ) → x < order → entry order rows.now 0 x ≡ x) }
-{
-    for x in 0..order {
-        if entry_at(rows, order, 0, x) != x {
-            return false;
-        }
-    }
-    true
-}
-
-fn commutes(rows: &[u16], order: usize) -> bool
-    requires shaped { IsShaped order rows.now }
-    ensures { IsTrue result ↔ ((x y : ℕ) → x < order → y < order → entry order rows.now x y ≡ entry order rows.now y x) }
-{
-    for x in 0..order {
-        for y in 0..order {
-            if entry_at(rows, order, x, y) != entry_at(rows, order, y, x) {
-                return false;
-            }
-        }
-    }
-    true
-}
-
-fn associates(rows: &[u16], order: usize) -> bool
-    requires shaped { IsShaped order rows.now }
-    ensures { IsTrue result ↔ ((x y z : ℕ) → x < order → y < order → z < order → entry order rows.now (entry order rows.now x y) z ≡ entry order rows.now x (entry order rows.now y z)) }
-{
-    for x in 0..order {
-        for y in 0..order {
-            if !associates_with(rows, order, x, y) {
-                return false;
-            }
-        }
-    }
-    true
-}
-
-fn is_lawful(rows: &[u16], order: usize) -> bool
-    requires shaped { IsShaped order rows.now }
-    ensures { IsTrue result ↔ IsLawful order rows.now }
-{
-    has_identity(rows, order) && commutes(rows, order) && associates(rows, order)
-}
-
-impl Table {
-    pub fn new(order: u16, rows: Vec<u16>) -> Result<Table, LawFault>
-        ensures given { IfOk result (λ t. (t.order ≡ order) × (t.rows ≡ rows)) }
-        ensures ok { IsShaped order rows.items → IsLawful order rows.items → IsOk result }
-        ensures shape { (result ≡ Err LawFault.Shape) ↔ ¬ IsShaped order rows.items }
+impl<A: Allocator> Table<A> {
+    /// The table of these rows, which lie one after another: the product of x and y is number y of row x.
+    ///
+    /// Refuses `Shape`, and where the shape is right, `Law`; the rows are dropped then. Takes no memory.
+    pub fn new(order: u16, rows: Vec<u16, A>) -> Result<Table<A>, LawFault>
+        ensures given { IfOk result (λ t. t ≡ record { order = order; entries = rows.items }) }
+        ensures ok { IsOk result ↔ IsTable order rows.items }
+        ensures shape { (result ≡ Err LawFault.Shape) ↔ (¬ IsShaped order rows.items) }
+        ensures law { (result ≡ Err LawFault.Law) ↔ (IsShaped order rows.items × LawBreach order rows.items) }
     {
-        if !is_shaped(&rows, order as usize) {
-            return Err(LawFault::Shape);
-        }
-        if !is_lawful(&rows, order as usize) {
-            return Err(LawFault::Law);
-        }
-        Ok(Table { order, rows })
+        let mut job = TableJob::new(order, rows)?;
+        job.work(u64::MAX)?;
+        Ok(job.finish())
     }
-}
 
-impl Table {
+    /// Rows that were checked.
+    pub(crate) fn from_checked(order: u16, rows: Vec<u16, A>) -> Table<A>
+        requires { IsTable order rows.items }
+        ensures { result ≡ record { order = order; entries = rows.items } }
+    {
+        Table { order, rows }
+    }
+
+    /// How many elements there are: 1 to 256. They are the numbers below it, and 0 is the identity.
     pub fn order(&self) -> u16
-        ensures { result ≡ self.now.order }
+        ensures value { result ≡ self.now.order }
+        ensures range { (1 ≤ result) × (result ≤ 256) }
     {
         self.order
     }
+
+    /// The product of two elements.
+    pub fn times(&self, x: u16, y: u16) -> u16
+        requires x_in { x < self.now.order }
+        requires y_in { y < self.now.order }
+        ensures value { result ≡ times_in self.now x y }
+        ensures within { result < self.now.order }
+    {
+        entry_at(&self.rows, self.order as usize, x as usize, y as usize) as u16
+    }
+
+    /// The products of `x` with 0, 1, and so on.
+    pub fn row(&self, x: u16) -> &[u16]
+        requires { x < self.now.order }
+        ensures length_is { length result.now ≡ self.now.order }
+        ensures products { (y : ℕ) → y < self.now.order → slice_index result.now y ≡ times_in self.now x y }
+        ensures within { All (λ e. e < self.now.order) result.now }
+    {
+        let order = self.order as usize;
+        let start = x as usize * order;
+        &self.rows[start..start + order]
+    }
+
+    /// The rows, as `new` was given them.
+    pub fn into_rows(self) -> Vec<u16, A>
+        ensures { result.items ≡ self.entries }
+    {
+        let Table { rows, .. } = self;
+        rows
+    }
 }
 
-impl CommMonoid for Table {
+/// The products of a table are those of a commutative monoid with identity 0.
+pub fn is_monoid<A: Allocator>(table: &Table<A>)
+    ensures shaped { IsShaped table.now.order table.now.entries }
+    ensures monoid { Monoid table.now.order (times_in table.now) }
+{
+    let _ = &table.order;
+}
+
+impl<A: Allocator> CommMonoid for Table<A> {
     type Element = u16;
 
     ghost use Rattle.std.specs.Prelude.{◌<◌};
-    ghost use Rattle.monoid_table.specs.Table.{entry};
-    ghost use Rattle.monoid_table.specs.TableLaws.{table_laws};
+    ghost use Rattle.monoid_table.specs.Grids.{times_in};
+    ghost use Rattle.monoid_table.specs.Tables.{IsTableGrid, table_laws};
+
+    ghost is_lawful = { IsTableGrid };
 
     ghost is_in = { λ t x. x < t.order };
 
     ghost identity = { λ _. 0 };
 
-    ghost multiply = { λ t x y. entry t.order t.rows.items x y };
+    ghost multiply = { times_in };
 
     ghost laws = { table_laws };
 
     fn one(&self) -> u16 {
+        let _ = &self.order;
         0
     }
 

@@ -1,0 +1,147 @@
+-- Turns one after another.
+use Rattle.std.proofs.Common.{◌≡◌, ◌⊎◌, ℕ, zero, suc, ◌+◌, ◌-◌, ◌*◌, ◌<◌, ◌≤◌, Bool, true, false, not, List, refl, sym, ap, ap₂, ◌∙◌, inl, inr, arith, subst}
+use Rattle.std.specs.Prelude.{◌||◌, ◌==◌, if◌then◌else◌}
+use Rattle.std.proofs.lemmas.Bool.Decides.{nat_tests}
+use Rattle.std.proofs.lemmas.Bool.{cases_lt, cases_eq}
+use Rattle.std.specs.Prelude.{Result, Ok, Err}
+use Rattle.monoid_table.specs.declared.fault.LawFault.{LawFault}
+use Rattle.monoid_table.specs.declared.fault.LawFault.TheVariants.{Law}
+use Rattle.monoid_table.specs.Faults.{answer_of}
+use Rattle.monoid_table.specs.Grids.{Grid}
+use Rattle.monoid_table.specs.Turns.{JobState, triples, triple_holds, is_over, turn, turns, fresh}
+
+abbrev pub state : Grid → ℕ → Bool → JobState
+state g spent refused = record { grid = g; spent = spent; refused = refused }
+
+pub turns-add : (m n : ℕ) (s : JobState) → turns (m + n) s ≡ turns n (turns m s)
+unfolding turns
+turns-add zero n s = let e : zero + n ≡ n = omega arith in ap (λ k. turns k s) e
+turns-add (suc m) n s =
+    let e : suc m + n ≡ suc (m + n) = omega arith in
+    ap (λ k. turns k s) e ∙ turns-add m n (turn s)
+
+turn-over : (s : JobState) → is_over s ≡ true → turn s ≡ s
+turn-over s over = ap (λ b. if b then s else record { grid = s.grid; spent = s.spent + 1; refused = not (triple_holds s.grid.order s.grid.entries s.spent) }) over
+
+turn-going : (s : JobState) → is_over s ≡ false → turn s ≡ state s.grid (s.spent + 1) (not (triple_holds s.grid.order s.grid.entries s.spent))
+turn-going s over = ap (λ b. if b then s else record { grid = s.grid; spent = s.spent + 1; refused = not (triple_holds s.grid.order s.grid.entries s.spent) }) over
+
+-- nothing happens after the end
+pub turns-over : (n : ℕ) (s : JobState) → is_over s ≡ true → turns n s ≡ s
+unfolding turns
+turns-over zero s over = refl
+turns-over (suc n) s over = ap (turns n) (turn-over s over) ∙ turns-over n s over
+
+going : (g : Grid) (spent : ℕ) → spent < triples g.order → is_over (state g spent false) ≡ false
+going g spent lt = differs spent (triples g.order) lt
+  where
+    differs : (m n : ℕ) → m < n → (m == n) ≡ false
+    differs m n lt = grind (arith, nat_tests)
+
+not-not : (b : Bool) → not (not b) ≡ b
+not-not true = refl
+not-not false = refl
+
+-- a run of triples of which all but the last hold
+pub turns-run : (n : ℕ) (g : Grid) (spent : ℕ) (broken : Bool) → 0 < n → spent + n ≤ triples g.order
+    → ((i : ℕ) → spent ≤ i → i + 1 < spent + n → triple_holds g.order g.entries i ≡ true)
+    → triple_holds g.order g.entries (spent + n - 1) ≡ not broken
+    → turns n (state g spent false) ≡ state g (spent + n) broken
+unfolding turns
+turns-run zero g spent broken some within passed last = absurd (omega arith)
+turns-run (suc zero) g spent broken some within passed last =
+    let at : spent + 1 - 1 ≡ spent = omega arith in
+    turn-going (state g spent false) (going g spent (omega arith))
+    ∙ ap (λ b. state g (spent + 1) b) (ap not (sym (ap (triple_holds g.order g.entries) at) ∙ last) ∙ not-not broken)
+turns-run (suc (suc n)) g spent broken some within passed last =
+    let at : spent + 1 + suc n ≡ spent + suc (suc n) = omega arith in
+    ap (turns (suc n)) (turn-going (state g spent false) (going g spent (omega arith)) ∙ ap (λ b. state g (spent + 1) (not b)) (passed spent (omega arith) (omega arith)))
+    ∙ turns-run (suc n) g (spent + 1) broken (omega arith) (omega arith) (λ i low high. passed i (omega arith) (omega arith))
+    (ap (λ k. triple_holds g.order g.entries (k - 1)) at ∙ last)
+    ∙ ap (λ k. state g k broken) at
+
+alike : (m n : ℕ) → m ≡ n → (m == n) ≡ true
+alike m n e = grind (arith, nat_tests)
+
+-- enough turns come to an end
+pub turns-end : (n : ℕ) (g : Grid) (spent : ℕ) → spent ≤ triples g.order → triples g.order ≤ spent + n → is_over (turns n (state g spent false)) ≡ true
+unfolding turns
+turns-end zero g spent within enough = alike spent (triples g.order) (omega arith)
+turns-end (suc n) g spent within enough = elim (cases_lt spent (triples g.order)) [
+  | inl less ↦
+      ap (λ s. is_over (turns n s)) (turn-going (state g spent false) (going g spent less))
+      ∙ elim (triple_holds g.order g.entries spent) as (λ held. is_over (turns n (state g (spent + 1) (not held))) ≡ true) [
+        | true ↦ turns-end n g (spent + 1) (omega arith) (omega arith)
+        | false ↦ ap is_over (turns-over n (state g (spent + 1) true) refl)
+      ]
+  | inr past ↦
+      let over : is_over (state g spent false) ≡ true = alike spent (triples g.order) (omega arith) in
+      ap (λ s. is_over (turns n s)) (turn-over (state g spent false) over) ∙ ap is_over (turns-over n (state g spent false) over) ∙ over
+]
+
+-- the rows stay
+pub turns-grid : (n : ℕ) (s : JobState) → (turns n s).grid ≡ s.grid
+unfolding turns
+turns-grid zero s = refl
+turns-grid (suc n) s = turns-grid n (turn s) ∙ one (is_over s)
+  where
+    one : (b : Bool) → (if b then s else record { grid = s.grid; spent = s.spent + 1; refused = not (triple_holds s.grid.order s.grid.entries s.spent) }).grid ≡ s.grid
+    one true = refl
+    one false = refl
+
+still : (s : JobState) → is_over s ≡ false → s.refused ≡ false
+still s e = elim s.refused as (λ b. (b || (s.spent == triples s.grid.order)) ≡ false → b ≡ false) [ true ↦ λ f. absurd (cc) | false ↦ λ f. refl ] e
+
+-- a run of triples, from any state that isn't over
+pub ran : (n : ℕ) (s : JobState) (broken : Bool) → is_over s ≡ false → 0 < n → s.spent + n ≤ triples s.grid.order
+    → ((i : ℕ) → s.spent ≤ i → i + 1 < s.spent + n → triple_holds s.grid.order s.grid.entries i ≡ true)
+    → triple_holds s.grid.order s.grid.entries (s.spent + n - 1) ≡ not broken
+    → state s.grid (s.spent + n) broken ≡ turns n s
+ran n s broken over some within passed last =
+    sym (ap (λ b. turns n (state s.grid s.spent b)) (still s over) ∙ turns-run n s.grid s.spent broken some within passed last)
+
+-- some turns, and then the others
+pub turns-split : (m k n : ℕ) (s : JobState) → m + k ≡ n → turns k (turns m s) ≡ turns n s
+turns-split m k n s e = sym (turns-add m k s) ∙ ap (λ n. turns n s) e
+
+pub turns-none : (n : ℕ) (s : JobState) → n ≡ 0 → turns n s ≡ s
+unfolding turns
+turns-none n s e = ap (λ n. turns n s) e
+
+-- after the end there is no third answer
+pub over-answers : (s : JobState) (b : Bool) → is_over s ≡ true → answer_of s ≡ Ok b → answer_of s ≡ Ok true
+over-answers s b over ok =
+    elim s.refused as (λ r. (r || (s.spent == triples s.grid.order)) ≡ true → ◌≡◌ {A = Result Bool LawFault} (if r then Err Law else Ok (s.spent == triples s.grid.order)) (Ok b)
+    → ◌≡◌ {A = Result Bool LawFault} (if r then Err Law else Ok (s.spent == triples s.grid.order)) (Ok true)) [
+      | true ↦ λ e f. absurd (cc)
+      | false ↦ λ e f. ap Ok e
+    ] over ok
+
+over-or-not : (s : JobState) → (is_over s ≡ true) ⊎ (is_over s ≡ false)
+over-or-not s = elim (is_over s) as (λ b. (b ≡ true) ⊎ (b ≡ false)) [ true ↦ inl refl | false ↦ inr refl ]
+
+clash : (b : Bool) → b ≡ true → b ≡ false → ⊥
+clash b e f = cc
+
+turn-spends : (s : JobState) → ((turn s).spent ≤ s.spent + 1) × (is_over (turn s) ≡ false → (turn s).spent ≡ s.spent + 1)
+turn-spends s = elim (over-or-not s) [
+  | inl over ↦
+      let same : (turn s).spent ≡ s.spent = ap (λ t. t.spent) (turn-over s over) in
+      (omega arith, λ going. absurd (clash (is_over s) over (sym (ap is_over (turn-over s over)) ∙ going)))
+  | inr going ↦
+      let more : (turn s).spent ≡ s.spent + 1 = ap (λ t. t.spent) (turn-going s going) in
+      (omega arith, λ _. more)
+]
+
+pub turns-spend : (n : ℕ) (s : JobState) → ((turns n s).spent ≤ s.spent + n) × (is_over (turns n s) ≡ false → (turns n s).spent ≡ s.spent + n)
+unfolding turns
+turns-spend zero s = (omega arith, λ _. omega arith)
+turns-spend (suc n) s =
+    let later = turns-spend n (turn s) in
+    let now = turn-spends s in (
+      omega (arith, later.0, now.0),
+      λ going. elim (over-or-not (turn s)) [
+        | inl over ↦ absurd (clash (is_over (turn s)) over (sym (ap is_over (turns-over n (turn s) over)) ∙ going))
+        | inr still ↦ omega (arith, later.1 going, now.1 still)
+      ],
+    )

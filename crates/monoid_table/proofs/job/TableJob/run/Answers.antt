@@ -1,0 +1,13 @@
+use Rattle.std.proofs.Common.{◌≡◌, ◌+◌, ◌-◌, ap, sym, ◌∙◌, false}
+use Rattle.monoid_table.specs.Turns.{JobState, turns, is_over, triple_holds}
+use Rattle.monoid_table.proofs.TurnLaws.{ran}
+use Rattle.monoid_table.proofs.job.TableJob.run.Goals as goal
+
+pub returns-clause-state : goal.returns-clause-state
+returns-clause-state g c =
+    let s : JobState = record { grid = record { order = c.self.inside.order; entries = c.self.inside.rows.items }; spent = c.self.inside.spent; refused = c.self.inside.refused } in
+    let over : is_over s ≡ false = ap is_over c.self.view_is ∙ c.requires.going in
+    ran c.run_from-run.result.units s c.run_from-run.result.broken over c.run_from-run.ensures.within.0 c.run_from-run.ensures.within.2
+    (λ i low high. ap (λ rows. triple_holds c.self.inside.order rows i) (sym c.deref.ensures.value) ∙ c.run_from-run.ensures.passed i low high)
+    (ap (λ rows. triple_holds c.self.inside.order rows (c.self.inside.spent + c.run_from-run.result.units - 1)) (sym c.deref.ensures.value) ∙ c.run_from-run.ensures.last)
+    ∙ ap (turns c.run_from-run.result.units) c.self.view_is

@@ -1,0 +1,126 @@
+//! A table checked in pieces.
+ghost use Rattle.std.specs.Prelude.{◌≡◌, ◌+◌, ◌-◌, ◌*◌, ◌<◌, ◌≤◌, ◌↔◌, ℕ, true, false, IfOk, OnErr, Ok, Err, IsOk};
+ghost use Rattle.monoid_table.specs.Grids.{Grid, IsShaped, IsTable, LawBreach};
+ghost use Rattle.monoid_table.specs.Turns.{JobState, triples, is_over, turns, fresh};
+ghost use Rattle.monoid_table.specs.Faults.{answer_of};
+
+use crate::fault::LawFault;
+use crate::table::Table;
+use crate::triples::{is_shaped, run_from};
+use std::alloc::{Allocator, Global};
+use std::marker::Model;
+
+/// Rows of products whose laws are checked a triple x, y, z at a time.
+#[derive(Drop)]
+pub struct TableJob<A: Allocator = Global> {
+    order: u16,
+    rows: Vec<u16, A>,
+    spent: u64,
+    refused: bool,
+}
+
+impl<A: Allocator> Model for TableJob<A> {
+    ghost use Rattle.monoid_table.specs.Turns.{JobState};
+
+    ghost Value = { JobState };
+
+    ghost view = { λ j. record { grid = record { order = j.order; entries = j.rows.items }; spent = j.spent; refused = j.refused } };
+
+    ghost use Rattle.monoid_table.specs.Jobs.{HasLookedAt};
+
+    ghost invariant = { λ j. HasLookedAt j.order j.rows.items j.spent j.refused };
+}
+
+impl<A: Allocator> TableJob<A> {
+    /// Takes the rows over, with nothing checked yet but their shape.
+    pub fn new(order: u16, rows: Vec<u16, A>) -> Result<TableJob<A>, LawFault>
+        ensures given { IfOk result (λ job. job ≡ fresh (record { order = order; entries = rows.items })) }
+        ensures ok { IsOk result ↔ IsShaped order rows.items }
+        ensures shape { (result ≡ Err LawFault.Shape) ↔ (¬ IsShaped order rows.items) }
+        ensures no_law { OnErr result (result ≡ Err LawFault.Shape) }
+    {
+        if !is_shaped(&rows, order as usize) {
+            return Err(LawFault::Shape);
+        }
+        Ok(TableJob {
+            order,
+            rows,
+            spent: 0,
+            refused: false,
+        })
+    }
+
+    /// The triples looked at so far, one that failed among them.
+    pub fn done(&self) -> u64
+        ensures { result ≡ self.now.spent }
+    {
+        self.spent
+    }
+
+    /// Whether no triple is left to look at.
+    fn is_over(&self) -> bool
+        ensures { result ≡ is_over self.now }
+    {
+        self.refused || self.spent == self.all()
+    }
+
+    /// The number of all triples.
+    fn all(&self) -> u64
+        ensures { result ≡ triples self.now.grid.order }
+    {
+        let order = self.order as u64;
+        order * order * order
+    }
+
+    /// Looks at some triples, at most `units`.
+    fn run(&mut self, units: u64) -> u64
+        requires some { 0 < units }
+        requires going { is_over self.old ≡ false }
+        ensures within { (0 < result) × (result ≤ units) }
+        ensures state { self.new ≡ turns result self.old }
+    {
+        let run = run_from(&self.rows, self.order as usize, self.spent, units);
+        self.spent += run.units;
+        self.refused = run.broken;
+        run.units
+    }
+
+    /// Looks at the next `units` triples: true once all were looked at and every law held.
+    ///
+    /// Answers `Law` at the first triple where a law fails, and at every later call. What the job
+    /// holds and answers depends on the units spent in all, not on how they were cut.
+    pub fn work(&mut self, units: u64) -> Result<bool, LawFault>
+        ensures state { self.new ≡ turns units self.old }
+        ensures answer { result ≡ answer_of self.new }
+        ensures law { OnErr result (LawBreach self.old.grid.order self.old.grid.entries) }
+        ensures table { (result ≡ Ok true) → IsTable self.old.grid.order self.old.grid.entries }
+    {
+        let mut left = units;
+        while left > 0 && !self.is_over() {
+            left -= self.run(left);
+        }
+        self.answer()
+    }
+
+    /// What `work` says of the triples looked at so far.
+    fn answer(&self) -> Result<bool, LawFault>
+        ensures answer { result ≡ answer_of self.now }
+        ensures law { OnErr result (LawBreach self.now.grid.order self.now.grid.entries) }
+        ensures table { (result ≡ Ok true) → IsTable self.now.grid.order self.now.grid.entries }
+    {
+        if self.refused {
+            return Err(LawFault::Law);
+        }
+        Ok(self.spent == self.all())
+    }
+
+    /// The table, once every law was seen to hold.
+    pub fn finish(self) -> Table<A>
+        requires { answer_of self ≡ Ok true }
+        ensures value { result ≡ self.grid }
+        ensures table { IsTable result.order result.entries }
+    {
+        let TableJob { order, rows, .. } = self;
+        Table::from_checked(order, rows)
+    }
+}
