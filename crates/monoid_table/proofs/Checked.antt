@@ -6,8 +6,9 @@ use Rattle.std.proofs.lemmas.Bool.Decides.{nat_tests}
 use Rattle.std.proofs.lemmas.Nat.{div-mul-add, mod-mul-add, mul-add-lt, div_below, mod_below, div-add-mod', mul-le}
 use Rattle.std.proofs.Math.Nat.{mul_comm}
 use Rattle.std.proofs.Common.{add-mul}
-use Rattle.misere_theory.specs.Quotients.{Monoid}
-use Rattle.monoid_table.specs.Grids.{entry, IsShaped, IsTable, LawBreach}
+use Rattle.misere_theory.specs.Quotients.{Monoid, LawFails}
+use Rattle.misere_theory.specs.Quotients.LawFails.{Identity, Commutativity, Associativity}
+use Rattle.monoid_table.specs.Grids.{entry, IsShaped, IsTable}
 use Rattle.monoid_table.specs.Turns.{triples, pair_holds, groups_alike, triple_holds}
 use Rattle.monoid_table.specs.Jobs.{HasLookedAt}
 use Rattle.monoid_table.specs.Faults.{answer_of}
@@ -67,7 +68,7 @@ is-table q rows h =
     }
 
 -- a law failed
-pub is-breach : (q : ℕ) (rows : List ℕ) (spent : ℕ) → HasLookedAt q rows spent true → LawBreach q rows
+pub is-breach : (q : ℕ) (rows : List ℕ) (spent : ℕ) → HasLookedAt q rows spent true → LawFails q (entry q rows)
 unfolding triple_holds
 is-breach q rows spent h =
     let i = spent - 1 in
@@ -78,37 +79,28 @@ is-breach q rows spent h =
     let x = i / q / q in
     let y = i / q % q in
     let z = i % q in
-    record {
-      x = x;
-      y = y;
-      z = z;
-      x_in = div_below (i / q) q q some pair_in;
-      y_in = mod_below (i / q) q some;
-      z_in = mod_below i q some;
-      fails = elim (cases_eq (entry q rows 0 x) x) [
-        | inr bad ↦ inl bad
-        | inl one ↦ elim (cases_eq (entry q rows x y) (entry q rows y x)) [
-          | inr bad ↦ inr (inl bad)
-          | inl two ↦ elim (cases_eq (entry q rows (entry q rows x y) z) (entry q rows x (entry q rows y z))) [
-            | inr bad ↦ inr (inr bad)
-            | inl three ↦ absurd (contradicts _ _ _ _ _ _ one two three failed.1)
-          ]
+    let x_in = div_below (i / q) q q some pair_in in
+    let y_in = mod_below (i / q) q some in
+    let z_in = mod_below i q some in
+    elim (cases_eq (entry q rows 0 x) x) [
+      | inr bad ↦ Identity x x_in bad
+      | inl one ↦ elim (cases_eq (entry q rows x y) (entry q rows y x)) [
+        | inr bad ↦ Commutativity x y x_in y_in bad
+        | inl two ↦ elim (cases_eq (entry q rows (entry q rows x y) z) (entry q rows x (entry q rows y z))) [
+          | inr bad ↦ Associativity x y z x_in y_in z_in bad
+          | inl three ↦ absurd (contradicts _ _ _ _ _ _ one two three failed.1)
         ]
-      ];
-    }
+      ]
+    ]
   where
     contradicts : (a b c d e f : ℕ) → a ≡ b → c ≡ d → e ≡ f → (((a == b) && (c == d)) && (e == f)) ≡ false → ⊥
     contradicts a b c d e f one two three bad = grind (arith, nat_tests)
 
--- a breach leaves no monoid
-pub breach-refutes : (q : ℕ) (rows : List ℕ) → LawBreach q rows → Monoid q (entry q rows) → ⊥
-breach-refutes q rows b m = elim b.fails [
-  | inl bad ↦ bad (m.identity b.x b.x_in)
-  | inr rest ↦ elim rest [
-    | inl bad ↦ bad (m.commutes b.x b.y b.x_in b.y_in)
-    | inr bad ↦ bad (m.associates b.x b.y b.z b.x_in b.y_in b.z_in)
-  ]
-]
+-- where a law fails there is no monoid
+pub failure-refutes : (q : ℕ) (times : ℕ → ℕ → ℕ) → LawFails q times → Monoid q times → ⊥
+failure-refutes q times (Identity x x_in bad) m = bad (m.identity x x_in)
+failure-refutes q times (Commutativity x y x_in y_in bad) m = bad (m.commutes x y x_in y_in)
+failure-refutes q times (Associativity x y z x_in y_in z_in bad) m = bad (m.associates x y z x_in y_in z_in)
 
 -- the triples of a run have the same x and y
 pub holds-in-run : (q : ℕ) (rows : List ℕ) (spent i : ℕ) → 0 < q → spent ≤ i → i < spent + (q - spent % q)
@@ -180,7 +172,7 @@ looked-at-all q rows spent refused all h going e over =
     is-table q rows (subst (λ n. HasLookedAt q rows n false) (same spent all over ∙ e) (subst (λ b. HasLookedAt q rows spent b) going h))
 
 -- a failure was seen
-pub looked-at-failure : (q : ℕ) (rows : List ℕ) (spent : ℕ) (refused : Bool) → HasLookedAt q rows spent refused → refused ≡ true → LawBreach q rows
+pub looked-at-failure : (q : ℕ) (rows : List ℕ) (spent : ℕ) (refused : Bool) → HasLookedAt q rows spent refused → refused ≡ true → LawFails q (entry q rows)
 looked-at-failure q rows spent refused h e = is-breach q rows spent (subst (λ b. HasLookedAt q rows spent b) e h)
 
 -- the triples of the greatest order are counted in 64 bits

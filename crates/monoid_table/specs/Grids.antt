@@ -1,5 +1,5 @@
 -- Products written down: the product of x and y stands in row x, at place y; the rows lie one after another.
-use Rattle.std.specs.Prelude.{◌≡◌, ◌≢◌, ℕ, ◌+◌, ◌*◌, ◌<◌, ◌≤◌, ◌⊎◌, List, length, slice_index}
+use Rattle.std.specs.Prelude.{◌≡◌, ℕ, ◌+◌, ◌*◌, ◌<◌, ◌≤◌, List, length, slice_index}
 use Rattle.misere_theory.specs.Quotients.{Monoid}
 
 -- An order, and the rows.
@@ -25,16 +25,3 @@ pub record IsShaped (order : ℕ) (rows : List ℕ) : Type 0 where
 pub record IsTable (order : ℕ) (rows : List ℕ) : Type 0 where
   pub shaped : IsShaped order rows
   pub monoid : Monoid order (entry order rows)
-
--- One of the laws fails at x, y and z, so there is no such monoid.
-pub record LawBreach (order : ℕ) (rows : List ℕ) : Type 0 where
-  pub x : ℕ
-  pub y : ℕ
-  pub z : ℕ
-  pub x_in : x < order
-  pub y_in : y < order
-  pub z_in : z < order
-  pub fails :
-      (entry order rows 0 x ≢ x)
-      ⊎ (entry order rows x y ≢ entry order rows y x)
-      ⊎ (entry order rows (entry order rows x y) z ≢ entry order rows x (entry order rows y z))

@@ -1,6 +1,7 @@
 //! A table checked in pieces.
 ghost use Rattle.std.specs.Prelude.{◌≡◌, ◌+◌, ◌-◌, ◌*◌, ◌<◌, ◌≤◌, ◌↔◌, ℕ, true, false, IfOk, OnErr, Ok, Err, IsOk};
-ghost use Rattle.monoid_table.specs.Grids.{Grid, IsShaped, IsTable, LawBreach};
+ghost use Rattle.misere_theory.specs.Quotients.{LawFails};
+ghost use Rattle.monoid_table.specs.Grids.{IsShaped, IsTable, entry};
 ghost use Rattle.monoid_table.specs.Turns.{JobState, triples, is_over, turns, fresh};
 ghost use Rattle.monoid_table.specs.Faults.{answer_of};
 
@@ -92,7 +93,7 @@ impl<A: Allocator> TableJob<A> {
     pub fn work(&mut self, units: u64) -> Result<bool, LawFault>
         ensures state { self.new ≡ turns units self.old }
         ensures answer { result ≡ answer_of self.new }
-        ensures law { OnErr result (LawBreach self.old.grid.order self.old.grid.entries) }
+        ensures law { OnErr result (LawFails self.old.grid.order (entry self.old.grid.order self.old.grid.entries)) }
         ensures table { (result ≡ Ok true) → IsTable self.old.grid.order self.old.grid.entries }
     {
         let mut left = units;
@@ -105,7 +106,7 @@ impl<A: Allocator> TableJob<A> {
     /// What `work` says of the triples looked at so far.
     fn answer(&self) -> Result<bool, LawFault>
         ensures answer { result ≡ answer_of self.now }
-        ensures law { OnErr result (LawBreach self.now.grid.order self.now.grid.entries) }
+        ensures law { OnErr result (LawFails self.now.grid.order (entry self.now.grid.order self.now.grid.entries)) }
         ensures table { (result ≡ Ok true) → IsTable self.now.grid.order self.now.grid.entries }
     {
         if self.refused {

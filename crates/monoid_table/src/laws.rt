@@ -1,13 +1,6 @@
-//! What holds of tables and of jobs, for callers' proofs.
-ghost use Rattle.std.specs.Prelude.{◌≡◌, ◌+◌, ◌≤◌, ℕ, List, true, false};
-ghost use Rattle.misere_theory.specs.Quotients.{Monoid};
-ghost use Rattle.monoid_table.specs.Grids.{LawBreach, entry};
+//! What holds of jobs, for callers' proofs.
+ghost use Rattle.std.specs.Prelude.{◌≡◌, ◌+◌, ◌≤◌, ℕ, true, false};
 ghost use Rattle.monoid_table.specs.Turns.{JobState, is_over, turns};
-
-/// A law that fails at some elements leaves no commutative monoid with identity 0.
-pub fn breaches_refute()
-    ensures { (order : ℕ) (rows : List ℕ) → LawBreach order rows → Monoid order (entry order rows) → ⊥ }
-{}
 
 /// Turns do not depend on how they are cut, and each that is not after the end spends one unit.
 pub fn turns_add_up()

@@ -1,7 +1,7 @@
 //! Tables of products whose laws were checked.
-ghost use Rattle.std.specs.Prelude.{◌≡◌, ◌+◌, ◌*◌, ◌<◌, ◌≤◌, ◌↔◌, ℕ, All, IfOk, IsOk, Err, OnErr, length, slice_index, slice_range};
-ghost use Rattle.misere_theory.specs.Quotients.{Monoid};
-ghost use Rattle.monoid_table.specs.Grids.{Grid, IsShaped, IsTable, LawBreach, times_in};
+ghost use Rattle.std.specs.Prelude.{◌≡◌, ◌<◌, ◌≤◌, ◌↔◌, ℕ, All, IfOk, IsOk, Err, length, slice_index};
+ghost use Rattle.misere_theory.specs.Quotients.{LawFails, Monoid};
+ghost use Rattle.monoid_table.specs.Grids.{IsShaped, IsTable, entry, times_in};
 
 use crate::fault::LawFault;
 use crate::job::TableJob;
@@ -35,7 +35,7 @@ impl<A: Allocator> Table<A> {
         ensures given { IfOk result (λ t. t ≡ record { order = order; entries = rows.items }) }
         ensures ok { IsOk result ↔ IsTable order rows.items }
         ensures shape { (result ≡ Err LawFault.Shape) ↔ (¬ IsShaped order rows.items) }
-        ensures law { (result ≡ Err LawFault.Law) ↔ (IsShaped order rows.items × LawBreach order rows.items) }
+        ensures law { (result ≡ Err LawFault.Law) ↔ (IsShaped order rows.items × LawFails order (entry order rows.items)) }
     {
         let mut job = TableJob::new(order, rows)?;
         job.work(u64::MAX)?;

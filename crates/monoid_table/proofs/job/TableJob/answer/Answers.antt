@@ -1,5 +1,6 @@
 use Rattle.std.proofs.Common.{◌≡◌, ap, sym, ◌∙◌, subst}
-use Rattle.monoid_table.specs.Grids.{IsTable, LawBreach}
+use Rattle.misere_theory.specs.Quotients.{LawFails}
+use Rattle.monoid_table.specs.Grids.{entry, IsTable}
 use Rattle.monoid_table.specs.Turns.{triples}
 use Rattle.monoid_table.proofs.Checked.{looked-at-all, looked-at-failure}
 use Rattle.monoid_table.proofs.job.TableJob.answer.Goals as goal
@@ -11,4 +12,4 @@ returns-clause-table g c = λ e.
 
 pub returns-then-self-clause-law : goal.returns-then-self-clause-law
 returns-then-self-clause-law g c =
-    subst (λ s. LawBreach s.grid.order s.grid.entries) c.self.view_is (looked-at-failure _ _ _ _ c.self.invariant c.if-self.true)
+    subst (λ s. LawFails s.grid.order (entry s.grid.order s.grid.entries)) c.self.view_is (looked-at-failure _ _ _ _ c.self.invariant c.if-self.true)

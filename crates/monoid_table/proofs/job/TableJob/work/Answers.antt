@@ -1,6 +1,7 @@
 use Rattle.std.proofs.Common.{◌≡◌, ◌+◌, ◌-◌, ap, ◌∙◌, sym, subst, arith, true}
 use Rattle.std.specs.Prelude.{OnErr, Ok}
-use Rattle.monoid_table.specs.Grids.{Grid, IsTable, LawBreach}
+use Rattle.misere_theory.specs.Quotients.{LawFails}
+use Rattle.monoid_table.specs.Grids.{entry, Grid, IsTable}
 use Rattle.monoid_table.specs.Turns.{turns, is_over}
 use Rattle.monoid_table.proofs.TurnLaws.{turns-split, turns-over, turns-none, turns-grid}
 use Rattle.monoid_table.proofs.job.TableJob.work.Given.{Over}
@@ -27,7 +28,7 @@ pub returns-clause-state : goal.returns-clause-state
 returns-clause-state g c = reached g c
 
 pub returns-clause-law : goal.returns-clause-law
-returns-clause-law g c = subst (λ rows. OnErr c.answer.result (LawBreach rows.order rows.entries)) (same-rows g c) c.answer.ensures.law
+returns-clause-law g c = subst (λ rows. OnErr c.answer.result (LawFails rows.order (entry rows.order rows.entries))) (same-rows g c) c.answer.ensures.law
 
 pub returns-clause-table : goal.returns-clause-table
 returns-clause-table g c = λ e. subst (λ rows. IsTable rows.order rows.entries) (same-rows g c) (c.answer.ensures.table e)

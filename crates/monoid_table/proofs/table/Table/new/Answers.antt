@@ -1,10 +1,10 @@
 use Rattle.std.proofs.Common.{◌≡◌, ◌≤◌, ◌+◌, ap, ◌∙◌, sym, subst, arith, true, false, refl}
 use Rattle.std.specs.Prelude.{Ok}
-use Rattle.monoid_table.specs.Grids.{Grid, IsTable, LawBreach, IsShaped}
+use Rattle.monoid_table.specs.Grids.{Grid, IsTable, IsShaped}
 use Rattle.monoid_table.specs.Turns.{JobState, turns, triples, fresh, is_over}
 use Rattle.monoid_table.specs.Faults.{answer_of}
 use Rattle.monoid_table.proofs.TurnLaws.{state, turns-end, turns-grid, over-answers}
-use Rattle.monoid_table.proofs.Checked.{triples-most, breach-refutes}
+use Rattle.monoid_table.proofs.Checked.{triples-most, failure-refutes}
 use Rattle.monoid_table.proofs.table.Table.new.Given.{Over}
 use Rattle.monoid_table.proofs.table.Table.new.Goals as goal
 
@@ -31,4 +31,4 @@ pub returns-clause-ok : goal.returns-clause-ok
 returns-clause-ok g c = (λ _. table g c, λ _. refl)
 
 pub returns-clause-law : goal.returns-clause-law
-returns-clause-law g c = (λ e. absurd (cc), λ both. absurd (breach-refutes _ _ both.1 (table g c).monoid))
+returns-clause-law g c = (λ e. absurd (cc), λ both. absurd (failure-refutes _ _ both.1 (table g c).monoid))
