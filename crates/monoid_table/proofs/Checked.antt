@@ -1,6 +1,6 @@
 -- What the triples that were looked at say of the laws.
-use Rattle.std.proofs.Common.{◌≡◌, ◌≢◌, ℕ, zero, suc, ◌+◌, ◌-◌, ◌*◌, ◌/◌, ◌%◌, ◌<◌, ◌≤◌, Bool, true, false, eqb, List, refl, sym, ap, ap₂, ◌∙◌, inl, inr, arith, subst}
-use Rattle.std.specs.Prelude.{◌&&◌, ◌==◌, length, slice_index}
+use Rattle.std.proofs.Common.{◌≡◌, ℕ, ◌+◌, ◌-◌, ◌*◌, ◌/◌, ◌%◌, ◌<◌, ◌≤◌, Bool, true, false, List, refl, sym, ap, ap₂, ◌∙◌, inl, inr, arith, subst}
+use Rattle.std.specs.Prelude.{◌&&◌, ◌==◌}
 use Rattle.std.proofs.lemmas.Bool.{cases_lt, cases_eq}
 use Rattle.std.proofs.lemmas.Bool.Decides.{nat_tests}
 use Rattle.std.proofs.lemmas.Nat.{div-mul-add, mod-mul-add, mul-add-lt, div_below, mod_below, div-add-mod', mul-le}
@@ -8,7 +8,7 @@ use Rattle.std.proofs.Math.Nat.{mul_comm}
 use Rattle.std.proofs.Common.{add-mul}
 use Rattle.misere_theory.specs.Quotients.{Monoid, LawFails}
 use Rattle.misere_theory.specs.Quotients.LawFails.{Identity, Commutativity, Associativity}
-use Rattle.monoid_table.specs.Grids.{entry, IsShaped, IsTable}
+use Rattle.monoid_table.specs.Grids.{entry, IsTable}
 use Rattle.monoid_table.specs.Turns.{triples, pair_holds, groups_alike, triple_holds}
 use Rattle.monoid_table.specs.Jobs.{HasLookedAt}
 use Rattle.monoid_table.specs.Faults.{answer_of}

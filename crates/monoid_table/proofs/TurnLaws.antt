@@ -1,14 +1,14 @@
 -- Turns one after another.
-use Rattle.std.proofs.Common.{◌≡◌, ◌⊎◌, ℕ, zero, suc, ◌+◌, ◌-◌, ◌*◌, ◌<◌, ◌≤◌, Bool, true, false, not, List, refl, sym, ap, ap₂, ◌∙◌, inl, inr, arith, subst}
+use Rattle.std.proofs.Common.{◌≡◌, ◌⊎◌, ℕ, zero, suc, ◌+◌, ◌-◌, ◌<◌, ◌≤◌, Bool, true, false, not, refl, sym, ap, ◌∙◌, inl, inr, arith}
 use Rattle.std.specs.Prelude.{◌||◌, ◌==◌, if◌then◌else◌}
 use Rattle.std.proofs.lemmas.Bool.Decides.{nat_tests}
-use Rattle.std.proofs.lemmas.Bool.{cases_lt, cases_eq}
+use Rattle.std.proofs.lemmas.Bool.{cases_lt}
 use Rattle.std.specs.Prelude.{Result, Ok, Err}
 use Rattle.monoid_table.specs.declared.fault.LawFault.{LawFault}
 use Rattle.monoid_table.specs.declared.fault.LawFault.TheVariants.{Law}
 use Rattle.monoid_table.specs.Faults.{answer_of}
 use Rattle.monoid_table.specs.Grids.{Grid}
-use Rattle.monoid_table.specs.Turns.{JobState, triples, triple_holds, is_over, turn, turns, fresh}
+use Rattle.monoid_table.specs.Turns.{JobState, triples, triple_holds, is_over, turn, turns}
 
 abbrev pub state : Grid → ℕ → Bool → JobState
 state g spent refused = record { grid = g; spent = spent; refused = refused }

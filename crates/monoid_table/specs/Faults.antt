@@ -1,4 +1,4 @@
-use Rattle.std.specs.Prelude.{◌≡◌, ℕ, Bool, true, false, ◌==◌, if◌then◌else◌, Result, Ok, Err}
+use Rattle.std.specs.Prelude.{ℕ, Bool, ◌==◌, if◌then◌else◌, Result, Ok, Err}
 use Rattle.monoid_table.specs.declared.fault.LawFault.{LawFault}
 use Rattle.monoid_table.specs.declared.fault.LawFault.TheVariants.{Shape, Law}
 use Rattle.monoid_table.specs.Turns.{JobState, triples}

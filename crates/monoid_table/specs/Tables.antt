@@ -1,8 +1,7 @@
 -- The laws of tables.
-use Rattle.std.specs.Prelude.{◌≡◌, ℕ, ◌+◌, ◌*◌, ◌<◌, ◌≤◌}
-use Rattle.misere_theory.specs.Quotients.{Monoid}
+use Rattle.std.specs.Prelude.{◌<◌}
 use Rattle.monoid_table.specs.Laws.{CommMonoidLaws}
-use Rattle.monoid_table.specs.Grids.{Grid, entry, times_in, IsTable}
+use Rattle.monoid_table.specs.Grids.{Grid, times_in, IsTable}
 
 abbrev pub IsTableGrid : Grid → Type 0
 IsTableGrid g = IsTable g.order g.entries

@@ -1,4 +1,4 @@
-use Rattle.std.proofs.Common.{◌≡◌, ℕ}
+use Rattle.std.proofs.Common.{◌≡◌}
 use Rattle.monoid_table.specs.Laws.{power_of}
 use Rattle.monoid_table.proofs.monoid.power.Given as goal
 

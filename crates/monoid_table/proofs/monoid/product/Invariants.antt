@@ -1,4 +1,4 @@
-use Rattle.std.proofs.Common.{◌≡◌, ℕ, take}
+use Rattle.std.proofs.Common.{◌≡◌, take}
 use Rattle.monoid_table.specs.Laws.{product_of}
 use Rattle.monoid_table.proofs.monoid.product.Given as goal
 

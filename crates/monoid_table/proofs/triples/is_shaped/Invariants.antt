@@ -1,4 +1,4 @@
-use Rattle.std.proofs.Common.{◌≡◌, ℕ, ◌<◌, get_or}
+use Rattle.std.proofs.Common.{ℕ, ◌<◌, get_or}
 use Rattle.monoid_table.proofs.triples.is_shaped.Given as goal
 
 abbrev pub invariant-loop-x : goal.invariant-loop-x

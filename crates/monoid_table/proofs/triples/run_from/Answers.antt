@@ -1,5 +1,5 @@
-use Rattle.std.proofs.Common.{◌≡◌, ◌+◌, ◌-◌, ◌%◌, ◌<◌, ◌≤◌, ap, ◌∙◌, sym, arith, min}
-use Rattle.monoid_table.specs.Turns.{triple_holds, triples}
+use Rattle.std.proofs.Common.{◌≡◌, ◌+◌, ◌-◌, ◌%◌, ap, ◌∙◌, sym, arith}
+use Rattle.monoid_table.specs.Turns.{triple_holds}
 use Rattle.monoid_table.proofs.Checked.{run-passed, run-breach, pair-breach, run-within}
 use Rattle.monoid_table.proofs.triples.run_from.Goals as goal
 

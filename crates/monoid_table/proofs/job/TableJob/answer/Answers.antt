@@ -1,4 +1,4 @@
-use Rattle.std.proofs.Common.{◌≡◌, ap, sym, ◌∙◌, subst}
+use Rattle.std.proofs.Common.{ap, sym, ◌∙◌, subst}
 use Rattle.misere_theory.specs.Quotients.{LawFails}
 use Rattle.monoid_table.specs.Grids.{entry, IsTable}
 use Rattle.monoid_table.specs.Turns.{triples}

@@ -1,4 +1,4 @@
-use Rattle.std.proofs.Common.{◌≡◌, ap, ◌∙◌}
+use Rattle.std.proofs.Common.{ap, ◌∙◌}
 use Rattle.monoid_table.specs.Faults.{answer_of}
 use Rattle.monoid_table.proofs.Checked.{finished}
 use Rattle.monoid_table.proofs.job.TableJob.finish.Goals as goal

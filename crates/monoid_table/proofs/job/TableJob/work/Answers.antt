@@ -1,8 +1,8 @@
-use Rattle.std.proofs.Common.{◌≡◌, ◌+◌, ◌-◌, ap, ◌∙◌, sym, subst, arith, true}
-use Rattle.std.specs.Prelude.{OnErr, Ok}
+use Rattle.std.proofs.Common.{◌≡◌, ◌+◌, ◌-◌, ap, ◌∙◌, sym, subst, arith}
+use Rattle.std.specs.Prelude.{OnErr}
 use Rattle.misere_theory.specs.Quotients.{LawFails}
-use Rattle.monoid_table.specs.Grids.{entry, Grid, IsTable}
-use Rattle.monoid_table.specs.Turns.{turns, is_over}
+use Rattle.monoid_table.specs.Grids.{entry, IsTable}
+use Rattle.monoid_table.specs.Turns.{turns}
 use Rattle.monoid_table.proofs.TurnLaws.{turns-split, turns-over, turns-none, turns-grid}
 use Rattle.monoid_table.proofs.job.TableJob.work.Given.{Over}
 use Rattle.monoid_table.proofs.job.TableJob.work.Goals as goal

@@ -1,4 +1,4 @@
-use Rattle.std.proofs.Common.{◌≡◌, ℕ}
+use Rattle.std.proofs.Common.{◌≡◌}
 use Rattle.monoid_table.specs.Turns.{turns}
 use Rattle.monoid_table.proofs.job.TableJob.work.Given as goal
 

@@ -1,8 +1,7 @@
-use Rattle.std.proofs.Common.{◌≡◌, ◌≤◌, ◌+◌, ap, ◌∙◌, sym, subst, arith, true, false, refl}
-use Rattle.std.specs.Prelude.{Ok}
-use Rattle.monoid_table.specs.Grids.{Grid, IsTable, IsShaped}
-use Rattle.monoid_table.specs.Turns.{JobState, turns, triples, fresh, is_over}
-use Rattle.monoid_table.specs.Faults.{answer_of}
+use Rattle.std.proofs.Common.{◌≡◌, ◌≤◌, ◌+◌, ap, ◌∙◌, sym, subst, arith, false, refl, rules}
+use Rattle.misere_theory.specs.Quotients.{LawFails}
+use Rattle.monoid_table.specs.Grids.{entry, Grid, IsTable, IsShaped}
+use Rattle.monoid_table.specs.Turns.{turns, triples, is_over}
 use Rattle.monoid_table.proofs.TurnLaws.{state, turns-end, turns-grid, over-answers}
 use Rattle.monoid_table.proofs.Checked.{triples-most, failure-refutes}
 use Rattle.monoid_table.proofs.table.Table.new.Given.{Over}
@@ -32,3 +31,9 @@ returns-clause-ok g c = (λ _. table g c, λ _. refl)
 
 pub returns-clause-law : goal.returns-clause-law
 returns-clause-law g c = (λ e. absurd (cc), λ both. absurd (failure-refutes _ _ both.1 (table g c).monoid))
+
+pub returns-in_err-work-clause-law : goal.returns-in_err-work-clause-law
+returns-in_err-work-clause-law g c = (
+  λ _. (c.in_ok-job.ensures.ok.0 refl, subst (λ job. LawFails job.grid.order (entry job.grid.order job.grid.entries)) c.in_ok-job.ensures.given c.in_err-work.ensures.law),
+  λ _. search rules,
+)
