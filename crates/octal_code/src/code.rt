@@ -1,11 +1,13 @@
-ghost use Rattle.std.specs.Prelude.{◌≡◌, ◌-◌, ◌<◌, ◌≤◌, ◌↔◌, ◌⊎◌, ℕ, List, IsTrue, All, length};
+ghost use Rattle.std.specs.Prelude.{◌≡◌, ◌-◌, ◌<◌, ◌≤◌, ◌↔◌, ◌⊎◌, ℕ, List, IsTrue, IfOk, All, length, string_bytes};
 ghost use Rattle.misere_theory.specs.Certificates.{IsOctalCode};
 ghost use Rattle.misere_theory.specs.Games.{digit};
 ghost use Rattle.octal_code.specs.Bits.{has_bit, leaves_one, takes_all};
 ghost use Rattle.octal_code.specs.Spelling.{IsOctalByte, IsSpelling, digits_in};
-ghost use Rattle.octal_code.specs.Text.{IsCodeText, IsLongCodeText, IsNoCodeText};
+ghost use Rattle.octal_code.specs.Text.{code_text, digit_byte, IsCodeText, IsLongCodeText, IsNoCodeText};
 
 use crate::fault::CodeFault;
+use allocation::Memory;
+use std::alloc::Allocator;
 use std::marker::Model;
 
 /// The length of the longest text of a code: a digit, a point and 16 digits.
@@ -47,6 +49,19 @@ impl Code {
             return Err(CodeFault::TooLong);
         }
         Ok(Code::spelled(text))
+    }
+
+    /// The one text of the code.
+    pub fn text<A: Allocator>(&self, alloc: A) -> Result<String<A>, Memory>
+        ensures { IfOk result (λ text. string_bytes text ≡ code_text self.now) }
+    {
+        let mut text = String::with_capacity(alloc, self.last() as usize + 2)?;
+        text.push(digit_char(self.digit(0)))?;
+        text.push('.')?;
+        for j in 1..self.last() as u64 + 1 {
+            text.push(digit_char(self.digit(j)))?;
+        }
+        Ok(text)
     }
 
     /// The code that these bytes spell.
@@ -130,4 +145,11 @@ fn are_octal(bytes: &[u8]) -> bool
     ensures { IsTrue result ↔ All IsOctalByte bytes.now }
 {
     bytes.iter().all(|byte| b'0' <= *byte && *byte < b'8')
+}
+
+fn digit_char(digit: u8) -> char
+    requires { digit < 8 }
+    ensures { result ≡ digit_byte digit }
+{
+    (b'0' + digit) as char
 }
