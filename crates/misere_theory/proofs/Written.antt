@@ -53,7 +53,7 @@ module _ (c : Certificate) (r : InRanges c) where
   pub entry_at : (i : ℕ) → i < length c.phi → phi_at c (suc i) ≡ get_or c.phi i 0
   entry_at i l = phi_by_place (suc i) ∙ ap (λ j. get_or (0 ∷ c.phi) j 0) (place-early c.start c.period (suc i) (let e = r.phi.0 in omega arith))
 
-  repeats : (n : ℕ) → c.start ≤ n → phi_at c (c.period + n) ≡ phi_at c n
+  pub repeats : (n : ℕ) → c.start ≤ n → phi_at c (c.period + n) ≡ phi_at c n
   repeats n h = phi_by_place (c.period + n) ∙ ap (λ i. get_or (0 ∷ c.phi) i 0) (place-repeats c.start c.period n r.period.0 h) ∙ sym (phi_by_place n)
 
   pub periodic : IsPeriodic c.code (claim_of c) (length c.code - 1) c.start c.period

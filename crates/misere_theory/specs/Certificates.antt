@@ -37,6 +37,11 @@ claim_of c = record { order = c.order; times = times_of c; phi = phi_at c; porti
 abbrev pub key_of : Certificate → ℕ → ℕ × ℕ
 key_of c e = slice_index_or c.words (e - 1) (0, 0)
 
+-- The position that the keys of an element spell: for 0 the empty one; else the heap of its key, and what the key's element spells.
+pub data IsSpelled (c : Certificate) : ℕ → List ℕ → Type 0 where
+  Zero : IsSpelled c 0 []
+  Key : {X : List ℕ} → (e : ℕ) → 0 < e → IsSpelled c (key_of c e).0 X → IsSpelled c e ((key_of c e).1 ∷ X)
+
 -- The pairs (x, y), (x, y + 1), .., n of them.
 abbrev pub pairs_with : ℕ → ℕ → ℕ → List (ℕ × ℕ)
 pairs_with x y zero = []

@@ -1,11 +1,11 @@
 //! Laws of certificates: what their faults exclude, what makes one accepted, and which answers are true of it.
 
-ghost use Rattle.std.specs.Prelude.{◌≡◌, ◌⊎◌, ◌<◌, ◌≤◌, ◌-◌, ◌*◌, ◌^◌, List, ℕ, length};
-ghost use Rattle.misere_theory.specs.Certificates.{Certificate, times_of, claim_of, InRanges, Canonical, Accepted};
+ghost use Rattle.std.specs.Prelude.{◌≡◌, ◌⊎◌, ◌<◌, ◌≤◌, ◌+◌, ◌-◌, ◌*◌, ◌^◌, List, ℕ, length};
+ghost use Rattle.misere_theory.specs.Certificates.{Certificate, phi_at, times_of, IsSpelled, claim_of, InRanges, Canonical, Accepted};
 ghost use Rattle.misere_theory.specs.Faults.{WordFault, OrderFault, PeriodFault, ApartFault};
 ghost use Rattle.misere_theory.specs.Games.{IsHeap, IsHeapUpTo, IsPosition};
 ghost use Rattle.misere_theory.specs.Pairs.{Pair, IsClosed, KeptObey, ElementsObey, heap_bound};
-ghost use Rattle.misere_theory.specs.Quotients.{Monoid, Represents, RuleFails};
+ghost use Rattle.misere_theory.specs.Quotients.{Monoid, Represents, RuleFails, value};
 ghost use Rattle.misere_theory.specs.Verdicts.{Fault, HasFault, Verdict, IsAllowed};
 ghost use Rattle.misere_theory.specs.Verdicts.Verdict.{Yes, No, Outcome, Limit};
 
@@ -38,6 +38,26 @@ pub fn faultless_certificates_are_canonical()
 pub fn faultless_certificates_are_canonical_monoids()
     ensures both { (c : Certificate) → InRanges c → ((fault : Fault) → HasFault c fault → ⊥) → Monoid c.order (times_of c) × Canonical c }
     ensures none { (c : Certificate) → InRanges c → Monoid c.order (times_of c) → Canonical c → (fault : Fault) → HasFault c fault → ⊥ }
+{}
+
+/// The position that an element's keys spell has the element as its value, and each element's keys spell one.
+pub fn keys_spell_positions()
+    ensures some { (c : Certificate) → Canonical c → (e : ℕ) → e < c.order → (X : List ℕ) × IsSpelled c e X }
+    ensures value { (c : Certificate) (e : ℕ) (X : List ℕ)
+        → InRanges c
+        → Monoid c.order (times_of c)
+        → Canonical c
+        → e < c.order
+        → IsSpelled c e X
+        → IsPosition IsHeap X × (value (claim_of c) X ≡ e) }
+{}
+
+/// A number that serves as a period for as many heaps in a row as the period from start on serves for all heaps from start on.
+pub fn periods_show_at_once()
+    ensures { (c : Certificate) (r : ℕ)
+        → InRanges c
+        → ((n : ℕ) → c.start ≤ n → n < c.start + c.period → phi_at c (r + n) ≡ phi_at c n)
+        → (n : ℕ) → c.start ≤ n → phi_at c (r + n) ≡ phi_at c n }
 {}
 
 /// What a checker tests of a certificate makes it accepted.
