@@ -44,23 +44,23 @@ abbrev pub AllApart : Claim → Type 0
 AllApart c =
     (x y : ℕ) → x < y → y < c.order → (z : ℕ) × (z < c.order) × (c.portion (c.times x z) ≢ c.portion (c.times y z))
 
--- x is the value of an option of X.
+-- x is the value of an option of X. This project's own.
 abbrev pub OptionValue : List ℕ → Claim → List ℕ → ℕ → Type 0
 OptionValue code c X x = (Y : List ℕ) × Move code X Y × (value c Y ≡ x)
 
--- x is the value of an option of the heap n.
+-- x is the value of an option of the heap n. This project's own.
 abbrev pub HeapOptionValue : List ℕ → Claim → ℕ → ℕ → Type 0
 HeapOptionValue code c n x = (H : List ℕ) × HeapOption code n H × (value c H ≡ x)
 
 -- The local rule at X: its value is in the portion exactly where it has options and none of their values is.
--- The rule of misère outcomes, said of values. Plambeck and Siegel.
+-- The rule of misère outcomes, said of values. This project's own form.
 abbrev pub RuleHolds : List ℕ → Claim → List ℕ → Type 0
 RuleHolds code c X =
     (c.portion (value c X) ≡ true)
     ↔ (((x : ℕ) × OptionValue code c X x) × ((x : ℕ) → OptionValue code c X x → c.portion x ≡ false))
 
 -- The rule fails at X: its value is in the portion, and it has no option or one whose value is there too;
--- or its value is outside, and it has options, all with values outside.
+-- or its value is outside, and it has options, all with values outside. This project's own.
 abbrev pub RuleFails : List ℕ → Claim → List ℕ → Type 0
 RuleFails code c X =
     ((c.portion (value c X) ≡ true)
@@ -69,7 +69,7 @@ RuleFails code c X =
     × ((x : ℕ) × OptionValue code c X x)
     × ((x : ℕ) → OptionValue code c X x → c.portion x ≡ false))
 
--- X and Y have the same transition pair: the same value and the same values of options. After Plambeck and Siegel.
+-- X and Y have the same transition pair: the same value and the same values of options. This project's own form.
 abbrev pub SamePair : List ℕ → Claim → List ℕ → List ℕ → Type 0
 SamePair code c X Y = (value c X ≡ value c Y) × ((x : ℕ) → OptionValue code c X x ↔ OptionValue code c Y x)
 
@@ -77,7 +77,7 @@ SamePair code c X Y = (value c X ≡ value c Y) × ((x : ℕ) → OptionValue co
 abbrev pub ReachesMoreThan : (ℕ → Type 0) → List ℕ → Claim → ℕ → Type 0
 ReachesMoreThan heap code c limit = (Xs : List (List ℕ)) × (limit < length Xs) × All (IsPosition heap) Xs × AllPairs (λ X Y. SamePair code c X Y → ⊥) Xs
 
--- z is the value of an option of one part of a sum, times the value of the other part.
+-- z is the value of an option of one part of a sum, times the value of the other part. This project's own.
 abbrev pub SumOptionValue : List ℕ → Claim → List ℕ → List ℕ → ℕ → Type 0
 SumOptionValue code c X Y z =
     ((x : ℕ) × OptionValue code c X x × (z ≡ c.times x (value c Y)))
