@@ -3,3 +3,4 @@ pub mod Walks
 pub mod Exact
 pub mod Positions
 pub mod Moves
+pub mod Hashes

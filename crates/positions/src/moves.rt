@@ -93,23 +93,7 @@ pub fn apply<A: Allocator + Copy>(
     if !is_option(code, step.heap, step.left) {
         return Err(MoveFault::NotAllowed);
     }
-    let mut next = position.copied(alloc)?;
-    next.remove(at);
-    add_left(&mut next, step.left)?;
+    let mut next = Position::new(alloc);
+    next.set_moved(position, at, step.left)?;
     Ok(next)
-}
-
-/// Adds what a move left of a heap.
-fn add_left<A: Allocator + Copy>(position: &mut Position<A>, left: Left) -> Result<(), Memory>
-    requires { All IsSize (heaps_of left) }
-    ensures { OnOk result (IsPermutation (heaps_of left ++ position.old) position.new) }
-{
-    match left {
-        Left::Nothing => Ok(()),
-        Left::One(a) => position.push(a),
-        Left::Two(a, b) => {
-            position.push(b)?;
-            position.push(a)
-        }
-    }
 }

@@ -1,9 +1,12 @@
 ghost use Rattle.std.specs.List.Sorted.{IsNonDecreasing, IsPermutation};
 ghost use Rattle.std.specs.Prelude.{◌≡◌, ◌<◌, ◌≤◌, ◌∷◌, ◌++◌, [], ℕ, length, slice_index, remove, All, IfOk, OnOk, OnErr, MatchResult};
+ghost use Rattle.positions.specs.Exact.{heaps_of};
 ghost use Rattle.positions.specs.Positions.{IsSize};
 
+use crate::left::Left;
 use allocation::Memory;
 use std::alloc::{Allocator, Global};
+use std::hash::{Hash, Hasher};
 use std::marker::Model;
 
 /// The largest heap: 10^18.
@@ -59,12 +62,49 @@ impl<A: Allocator + Copy> Position<A> {
         Ok(())
     }
 
-    /// Takes the heap at a place away.
-    pub(crate) fn remove(&mut self, at: usize)
+    /// Makes this the position `from` after a move that leaves `left` of the heap at the place `at`. What this position was before doesn't
+    /// matter, and its memory is used again. After a fault it is some position.
+    pub fn set_moved(&mut self, from: &Position<A>, at: usize, left: Left) -> Result<(), Memory>
+        requires there { at < length from.now }
+        requires sizes { All IsSize (heaps_of left) }
+        ensures { OnOk result (IsPermutation (heaps_of left ++ remove from.now at) self.new) }
+    {
+        self.set_same(from)?;
+        self.remove(at);
+        self.add_left(left)
+    }
+
+    /// Makes this the position `from`.
+    fn set_same(&mut self, from: &Position<A>) -> Result<(), Memory>
+        ensures { OnOk result (self.new ≡ from.now) }
+    {
+        let heaps = from.heaps();
+        self.heaps.clear();
+        self.heaps.extend_from_slice(heaps)?;
+        Ok(())
+    }
+
+    /// Takes the heap at the place `at` away.
+    fn remove(&mut self, at: usize)
         requires { at < length self.old }
         ensures { self.new ≡ remove self.old at }
     {
         self.heaps.remove(at);
+    }
+
+    /// Adds what a move left of a heap.
+    fn add_left(&mut self, left: Left) -> Result<(), Memory>
+        requires { All IsSize (heaps_of left) }
+        ensures { OnOk result (IsPermutation (heaps_of left ++ self.old) self.new) }
+    {
+        match left {
+            Left::Nothing => Ok(()),
+            Left::One(a) => self.push(a),
+            Left::Two(a, b) => {
+                self.push(b)?;
+                self.push(a)
+            }
+        }
     }
 
     /// The same heaps in memory of their own.
@@ -84,6 +124,39 @@ impl<A: Allocator + Copy> Position<A> {
         heaps.extend_from_slice(other.heaps())?;
         sort(&mut heaps);
         Ok(Position { heaps })
+    }
+}
+
+impl<A: Allocator> PartialEq for Position<A> {
+    ghost use Rattle.std.specs.Cmp.Lexicographic.{nat_list_eq_equiv, pointwise};
+    ghost use Rattle.std.specs.Cmp.{partial_equiv_from_equiv};
+    ghost use Rattle.std.specs.Prelude.{nat_eq};
+
+    ghost eq = { pointwise nat_eq };
+
+    ghost laws = { partial_equiv_from_equiv nat_list_eq_equiv };
+
+    fn eq(&self, other: &Position<A>) -> bool {
+        self.heaps() == other.heaps()
+    }
+}
+
+impl<A: Allocator> Eq for Position<A> {
+    ghost use Rattle.std.specs.Cmp.Lexicographic.{nat_list_eq_equiv};
+
+    ghost laws = { nat_list_eq_equiv };
+}
+
+impl<A: Allocator> Hash for Position<A> {
+    ghost use Rattle.positions.specs.Hashes.{same_hashes};
+    ghost use Rattle.std.specs.Hash as fed;
+
+    ghost hash_input = { fed.slice fed.u64 };
+
+    ghost respects_eq = { same_hashes };
+
+    fn hash<H: Hasher>(&self, state: &mut H) {
+        self.heaps().hash(state);
     }
 }
 
