@@ -1,9 +1,12 @@
-// Sets of numbers below 256, as four lanes.
+//! Sets of numbers below 256, as four lanes of 64 bits. No call takes memory, and none fails.
 #![tactic(auto)]
 
-ghost use Rattle.std.specs.Prelude.{◌≡◌, ℕ, ◌↔◌, IsTrue};
+ghost use Rattle.std.specs.Prelude.{◌≡◌, ℕ, ◌<◌, ◌↔◌, IsTrue, List, slice_index};
 ghost use Rattle.std.specs.Ordering.{nat_cmp};
 ghost use Rattle.std.specs.FinSet as set;
+ghost use Rattle.element_sets.specs.Translation.{translated, CanTranslate};
+
+mod translate;
 
 use std::hash::{Hash, Hasher};
 use std::marker::Model;
@@ -39,24 +42,28 @@ impl Model for ElementSet {
 }
 
 impl ElementSet {
+    /// The empty set.
     pub fn new() -> Self
         ensures { result ≡ set.empty }
     {
         ElementSet { lanes: [0; 4] }
     }
 
+    /// Whether `x` is a member.
     pub fn contains(&self, x: u8) -> bool
         ensures { result ≡ set.contains self.now x }
     {
         (self.lanes[(x / 64) as usize] >> (x % 64)) & 1 == 1
     }
 
+    /// Adds `x`.
     pub fn insert(&mut self, x: u8)
         ensures { self.new ≡ set.insert self.old x }
     {
         self.lanes[(x / 64) as usize] |= 1u64 << (x % 64);
     }
 
+    /// The members of either set.
     pub fn union(&self, other: &ElementSet) -> ElementSet
         ensures { result ≡ set.union self.now other.now }
     {
@@ -66,6 +73,7 @@ impl ElementSet {
         }
     }
 
+    /// Whether the sets have a member in common.
     pub fn meets(&self, other: &ElementSet) -> bool
         ensures { IsTrue result ↔ ((x : ℕ) × IsTrue (set.contains self.now x) × IsTrue (set.contains other.now x)) }
     {
@@ -73,6 +81,7 @@ impl ElementSet {
         both.reduce_or() != 0
     }
 
+    /// Whether each member is one of the other set.
     pub fn subset(&self, other: &ElementSet) -> bool
         ensures { result ≡ set.is_subset self.now other.now }
     {
@@ -82,10 +91,30 @@ impl ElementSet {
 }
 
 impl ElementSet {
+    /// Whether there is no member.
     pub fn is_empty(&self) -> bool
         ensures { result ≡ set.is_subset self.now set.empty }
     {
         self.subset(&ElementSet::new())
+    }
+
+    /// Adds every member of the other set.
+    pub fn union_with(&mut self, other: &ElementSet)
+        ensures { self.new ≡ set.union self.old other.now }
+    {
+        *self = self.union(other);
+    }
+
+    /// The row's entries at the members. Only members are visited.
+    pub fn translate(&self, row: &[u16]) -> ElementSet
+        requires { CanTranslate self.now row.now }
+        ensures { result ≡ translated self.now row.now }
+    {
+        let mut all = ElementSet::new();
+        for i in 0..4usize {
+            translate::add_lane(&mut all, self.lanes[i], 64 * i, row);
+        }
+        all
     }
 }
 
@@ -128,27 +157,63 @@ pub fn equal(a: &ElementSet, b: &ElementSet) -> bool
     a == b
 }
 
+/// The members of a set are numbers below 256.
+pub fn members_are_small(members: &ElementSet)
+    ensures { (x : ℕ) → IsTrue (set.contains members.now x) → x < 256 }
+{
+    let _ = &members.lanes;
+}
+
+/// A number is in a translated set exactly where it is the row's entry at a member.
+pub fn translations_are_images()
+    ensures { (s : set.FinSet nat_cmp) (row : List ℕ) (y : ℕ)
+        → IsTrue (set.contains (translated s row) y) ↔ ((x : ℕ) × IsTrue (set.contains s x) × (slice_index row x ≡ y)) }
+{}
+
 #[cfg(test)]
 mod tests {
     use super::*;
     use std::test::Fail;
 
+    fn set_of(members: &[u8]) -> ElementSet {
+        let mut all = ElementSet::new();
+        for x in members {
+            all.insert(*x);
+        }
+        all
+    }
+
     #[test]
     fn is_four_lanes(rt: HostRuntime) -> Result<(), Fail> {
         assert_eq!(rt; size_of::<ElementSet>(), 32);
-        let mut a = ElementSet::new();
-        a.insert(0);
-        a.insert(63);
-        a.insert(64);
-        let mut b = ElementSet::new();
-        b.insert(255);
-        assert!(rt; !a.meets(&b));
-        a.insert(255);
-        assert!(rt; a.meets(&b));
-        assert!(rt; b.subset(&a));
-        assert!(rt; !a.subset(&b));
-        assert!(rt; a.contains(63) && !a.contains(62));
-        assert!(rt; ElementSet::new().subset(&ElementSet::new()));
+        Ok(())
+    }
+
+    #[test]
+    fn edges_of_lanes(rt: HostRuntime) -> Result<(), Fail> {
+        let none = ElementSet::new();
+        let edges = set_of(&[0, 63, 64, 255]);
+        assert!(rt; edges.meets(&set_of(&[255])));
+        assert!(rt; !set_of(&[0, 255]).subset(&set_of(&[0, 63, 64])));
+        assert!(rt; !none.meets(&none) && none.subset(&none) && none.is_empty());
+        assert!(rt; edges.contains(63) && !edges.contains(62));
+        assert!(rt; edges == set_of(&[0, 63]).union(&set_of(&[255, 64])));
+        let mut grown = set_of(&[0, 63]);
+        grown.union_with(&set_of(&[64, 255]));
+        assert!(rt; grown == edges && !grown.is_empty());
+        Ok(())
+    }
+
+    #[test]
+    fn translates_from_the_other_end(rt: HostRuntime) -> Result<(), Fail> {
+        let mut row = Vec::new(rt.alloc());
+        for x in 0..256u16 {
+            row.push(255 - x)?;
+        }
+        let edges = set_of(&[0, 63, 64, 255]);
+        members_are_small(&edges);
+        let moved = edges.translate(&row);
+        assert!(rt; moved == set_of(&[0, 191, 192, 255]));
         Ok(())
     }
 }

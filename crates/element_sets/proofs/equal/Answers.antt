@@ -1,5 +1,5 @@
-use Rattle.std.proofs.Common.{ap, sym, ◌∙◌, ◌≡◌}
-use Rattle.element_sets.specs.Same.{same, same-is, same-itself}
+use Rattle.std.proofs.Common.{sym, ◌∙◌}
+use Rattle.element_sets.specs.Same.{same-is, same-itself}
 use Rattle.element_sets.proofs.equal.Goals as goal
 
 pub returns : goal.returns

@@ -1,4 +1,3 @@
-use Rattle.std.specs.FinSet as set
 use Rattle.element_sets.specs.Sets.{meets_when, meets_from}
 use Rattle.element_sets.proofs.ElementSet.meets.Goals as goal
 

@@ -1,0 +1,20 @@
+//! Entries of a row at the members of a set, found member by member.
+ghost use Rattle.std.specs.Prelude.{◌≡◌, ◌+◌, ◌<◌, ◌↔◌, ◌⊎◌, ℕ, length, slice_index, IsTrue};
+ghost use Rattle.std.specs.Int.{bit_at};
+ghost use Rattle.std.specs.FinSet as set;
+ghost use Rattle.element_sets.specs.Hits.{Hits, CanTranslateLane};
+
+use crate::ElementSet;
+
+/// Adds to `all` the row's entries from `base` on at the ones of `lane`.
+pub(crate) fn add_lane(all: &mut ElementSet, lane: u64, base: usize, row: &[u16])
+    requires { CanTranslateLane lane base row.now }
+    ensures { (q : ℕ) → IsTrue (set.contains all.new q) ↔ (IsTrue (set.contains all.old q) ⊎ Hits lane base row.now q) }
+{
+    let mut word = lane;
+    while word != 0 {
+        let bit = word.trailing_zeros();
+        all.insert(row[base + bit as usize] as u8);
+        word &= !(1u64 << bit);
+    }
+}
