@@ -3,10 +3,11 @@ use Rattle.std.proofs.Common.{◌≡◌, ℕ, ◌+◌, ◌^◌, ◌<◌, ◌≤�
 use Rattle.std.specs.Fmt.{decimal}
 use Rattle.std.specs.List.{AllByRecursion}
 use Rattle.std.proofs.lemmas.List.Elements.{recursion_from_All}
-use Rattle.misere_theory.specs.Certificates.{Certificate, InRanges}
-use Rattle.certificate_text.specs.Spelling.{Line, text, code_word, key_word, row_line, Spells}
+use Rattle.misere_theory.specs.Certificates.{Certificate, InRanges, IsOctalCode}
+use Rattle.octal_code.specs.Text.{code_text, IsCodeText}
+use Rattle.certificate_text.specs.Spelling.{Line, text, key_word, row_line, Spells}
 use Rattle.certificate_text.specs.Lines.{IsNumber}
-use Rattle.certificate_text.specs.Lines.{AreWords, IsKey, IsCode, IsLine, AreRows, IsFixed, SpellsByLines}
+use Rattle.certificate_text.specs.Lines.{AreWords, IsKey, IsLine, AreRows, IsFixed, SpellsByLines}
 use Rattle.certificate_text.proofs.Digits.{is_decimal, decimal_is}
 
 module _ {X : Type 0} (IsWord : List ℕ → X → Type 0) (spell : X → List ℕ) (Fits : X → Type 0) (only : (w : List ℕ) (x : X) → Fits x → IsWord w x → w ≡ spell x) (is : (x : X) → Fits x → IsWord (spell x) x) where
@@ -102,18 +103,18 @@ fixed_is x fits = refl
 same_word : List ℕ → List ℕ
 same_word w = w
 
-code_only : (w x : List ℕ) → Any x → IsCode w x → w ≡ code_word x
-code_only w x fits h = h
+code_only : (w x : List ℕ) → IsOctalCode x → IsCodeText w x → w ≡ code_text x
+code_only w x fits h = h.spelled
 
-code_is : (x : List ℕ) → Any x → IsCode (code_word x) x
-code_is x fits = refl
+code_is : (x : List ℕ) → IsOctalCode x → IsCodeText (code_text x) x
+code_is x fits = record { is_code = fits; spelled = refl }
 
 pub from_lines : (b : List ℕ) (c : Certificate) → SpellsByLines b c → Spells b c
 from_lines b c s =
     let small = are_small c s.in_ranges in
     let number = line_only IsNumber decimal Small number_only decimal_is in
     let e1 = line_only IsFixed (λ w. w) Any fixed_only fixed_is (codes "mqc") s.version (codes "1" ∷ []) (tt, tt) s.is_version in
-    let e2 = line_only IsCode code_word Any code_only code_is (codes "code") s.code (c.code ∷ []) (tt, tt) s.is_code in
+    let e2 = line_only IsCodeText code_text IsOctalCode code_only code_is (codes "code") s.code (c.code ∷ []) (s.in_ranges.code, tt) s.is_code in
     let e3 = number (codes "order") s.order (c.order ∷ []) (small.order, tt) s.is_order in
     let e4 = number (codes "start") s.start (c.start ∷ []) (small.start, tt) s.is_start in
     let e5 = number (codes "period") s.period (c.period ∷ []) (small.period, tt) s.is_period in
@@ -140,7 +141,7 @@ to_lines b c s =
     record {
       in_ranges = s.in_ranges;
       version = record { name = codes "mqc"; words = codes "1" ∷ [] };
-      code = record { name = codes "code"; words = code_word c.code ∷ [] };
+      code = record { name = codes "code"; words = code_text c.code ∷ [] };
       order = record { name = codes "order"; words = decimal c.order ∷ [] };
       start = record { name = codes "start"; words = decimal c.start ∷ [] };
       period = record { name = codes "period"; words = decimal c.period ∷ [] };
@@ -152,7 +153,7 @@ to_lines b c s =
       end = record { name = codes "end"; words = [] };
       bytes = s.bytes;
       is_version = record { named = refl; worded = (refl, tt) };
-      is_code = record { named = refl; worded = (refl, tt) };
+      is_code = line_is IsCodeText code_text IsOctalCode code_only code_is (codes "code") (c.code ∷ []) (s.in_ranges.code, tt);
       is_order = number (codes "order") (c.order ∷ []) (small.order, tt);
       is_start = number (codes "start") (c.start ∷ []) (small.start, tt);
       is_period = number (codes "period") (c.period ∷ []) (small.period, tt);

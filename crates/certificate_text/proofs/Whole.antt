@@ -1,17 +1,18 @@
 -- The whole text: what is read is spelled so, and what is spelled so is read.
 use Rattle.std.proofs.Common.{◌≡◌, ℕ, zero, suc, ◌+◌, ◌-◌, ◌*◌, ◌/◌, ◌^◌, ◌<◌, ◌≤◌, List, [], ◌∷◌, ◌++◌, map, length, get_or, Option, Some, refl, sym, ap, subst, ◌∙◌, append_assoc, arith, codes, All, add-one}
 use Rattle.std.specs.Fmt.{decimal}
-use Rattle.std.specs.List.{AllByRecursion}
+use Rattle.std.specs.List.{AllByRecursion, concat}
 use Rattle.std.proofs.Math.Nat.{mul-suc, suc-mul}
 use Rattle.std.proofs.lemmas.List.{append-nil, length-append}
 use Rattle.std.proofs.lemmas.List.Elements.{All-from_recursion, recursion_from_All}
 use Rattle.std.proofs.lemmas.Option.{some_pair_parts}
 use Rattle.misere_theory.specs.Certificates.{Certificate, InRanges, IsOctalCode, pairs_with, pairs_from}
-use Rattle.certificate_text.specs.Spelling.{spaced, code_word, key_word, row_line, text, lines, Line, Spells}
-use Rattle.certificate_text.specs.Reading.{◌>>=◌, fixed_at, number_at, key_at, line_at, field_at, portion_at, code_at, rows_at, rows_of, front_at, certificate_at}
+use Rattle.octal_code.specs.Text.{code_text}
+use Rattle.certificate_text.specs.Spelling.{spaced, key_word, row_line, text, lines, Line, Spells}
+use Rattle.certificate_text.specs.Reading.{◌>>=◌, fixed_at, number_at, key_at, line_at, field_at, portion_at, code_line_at, rows_at, rows_of, front_at, certificate_at}
 use Rattle.certificate_text.proofs.Numbers.{bind_some, fixed_takes, fixed_again}
 use Rattle.certificate_text.proofs.Words.{numbers_reader, keys_reader, KeyFits, line_takes, line_again}
-use Rattle.certificate_text.proofs.Fields.{field_takes, field_again, RisesFrom, portion_takes, portion_again, code_takes, code_again, rows_text, RowFits, joined, rows_take, rows_again, rows_of_joined}
+use Rattle.certificate_text.proofs.Fields.{field_takes, field_again, RisesFrom, portion_takes, portion_again, code_line_takes, code_line_again, rows_text, RowFits, rows_take, rows_again, rows_of_concat}
 
 -- ---- how many pairs
 
@@ -65,7 +66,7 @@ abbrev field_text : List ℕ → ℕ → List ℕ → List ℕ
 field_text name x rest = name ++ (32 ∷ (decimal x ++ 10 ∷ rest))
 
 abbrev front_text : List ℕ → ℕ → ℕ → ℕ → List ℕ → List ℕ
-front_text code order start period rest = codes "mqc 1\ncode " ++ (code_word code ++ (10 ∷ field_text (codes "order") order (field_text (codes "start") start (field_text (codes "period") period rest))))
+front_text code order start period rest = codes "mqc 1\ncode " ++ (code_text code ++ (10 ∷ field_text (codes "order") order (field_text (codes "start") start (field_text (codes "period") period rest))))
 
 record FrontFits (code : List ℕ) (order start period : ℕ) : Type 0 where
   code_fits : IsOctalCode code
@@ -79,22 +80,21 @@ record FrontFits (code : List ℕ) (order start period : ℕ) : Type 0 where
 front_takes : (bytes : List ℕ) (f : List ℕ × ℕ × ℕ × ℕ) (rest : List ℕ) → front_at bytes ≡ Some (f, rest) → (bytes ≡ front_text f.0 f.1 f.2 f.3 rest) × FrontFits f.0 f.1 f.2 f.3
 unfolding front_at
 front_takes bytes f rest e =
-    let a = bind_some (fixed_at (codes "mqc 1\ncode ") bytes) (λ named. code_at named >>= λ code. fixed_at (10 ∷ []) code.1 >>= λ ended. field_at (codes "order") 2 257 ended >>= λ order. field_at (codes "start") 1 1025 order.1 >>= λ start. field_at (codes "period") 1 (1026 - start.0) start.1 >>= λ period. Some ((code.0, order.0, start.0, period.0), period.1)) (f, rest) e in
-    let b = bind_some (code_at a.0) (λ code. fixed_at (10 ∷ []) code.1 >>= λ ended. field_at (codes "order") 2 257 ended >>= λ order. field_at (codes "start") 1 1025 order.1 >>= λ start. field_at (codes "period") 1 (1026 - start.0) start.1 >>= λ period. Some ((code.0, order.0, start.0, period.0), period.1)) (f, rest) a.2 in
-    let c = bind_some (fixed_at (10 ∷ []) b.0.1) (λ ended. field_at (codes "order") 2 257 ended >>= λ order. field_at (codes "start") 1 1025 order.1 >>= λ start. field_at (codes "period") 1 (1026 - start.0) start.1 >>= λ period. Some ((b.0.0, order.0, start.0, period.0), period.1)) (f, rest) b.2 in
-    let d = bind_some (field_at (codes "order") 2 257 c.0) (λ order. field_at (codes "start") 1 1025 order.1 >>= λ start. field_at (codes "period") 1 (1026 - start.0) start.1 >>= λ period. Some ((b.0.0, order.0, start.0, period.0), period.1)) (f, rest) c.2 in
+    let a = bind_some (fixed_at (codes "mqc 1\ncode ") bytes) (λ named. code_line_at named >>= λ code. field_at (codes "order") 2 257 code.1 >>= λ order. field_at (codes "start") 1 1025 order.1 >>= λ start. field_at (codes "period") 1 (1026 - start.0) start.1 >>= λ period. Some ((code.0, order.0, start.0, period.0), period.1)) (f, rest) e in
+    let b = bind_some (code_line_at a.0) (λ code. field_at (codes "order") 2 257 code.1 >>= λ order. field_at (codes "start") 1 1025 order.1 >>= λ start. field_at (codes "period") 1 (1026 - start.0) start.1 >>= λ period. Some ((code.0, order.0, start.0, period.0), period.1)) (f, rest) a.2 in
+    let d = bind_some (field_at (codes "order") 2 257 b.0.1) (λ order. field_at (codes "start") 1 1025 order.1 >>= λ start. field_at (codes "period") 1 (1026 - start.0) start.1 >>= λ period. Some ((b.0.0, order.0, start.0, period.0), period.1)) (f, rest) b.2 in
     let s = bind_some (field_at (codes "start") 1 1025 d.0.1) (λ start. field_at (codes "period") 1 (1026 - start.0) start.1 >>= λ period. Some ((b.0.0, d.0.0, start.0, period.0), period.1)) (f, rest) d.2 in
     let p = bind_some (field_at (codes "period") 1 (1026 - s.0.0) s.0.1) (λ period. Some ((b.0.0, d.0.0, s.0.0, period.0), period.1)) (f, rest) s.2 in
-    let bt = code_takes a.0 b.0.0 b.0.1 b.1 in
-    let dt = field_takes (codes "order") 2 257 c.0 d.0.0 d.0.1 (omega arith) (omega arith) d.1 in
+    let bt = code_line_takes a.0 b.0.0 b.0.1 b.1 in
+    let dt = field_takes (codes "order") 2 257 b.0.1 d.0.0 d.0.1 (omega arith) (omega arith) d.1 in
     let st = field_takes (codes "start") 1 1025 d.0.1 s.0.0 s.0.1 (omega arith) (omega arith) s.1 in
     let below : s.0.0 < 1025 = st.2 in
     let pt = field_takes (codes "period") 1 (1026 - s.0.0) s.0.1 p.0.0 p.0.1 (omega arith) (omega arith) p.1 in
     let q = some_pair_parts (b.0.0, d.0.0, s.0.0, p.0.0) f p.0.1 rest p.2 in
-    let fields : c.0 ≡ field_text (codes "order") d.0.0 (field_text (codes "start") s.0.0 (field_text (codes "period") p.0.0 rest)) =
+    let fields : b.0.1 ≡ field_text (codes "order") d.0.0 (field_text (codes "start") s.0.0 (field_text (codes "period") p.0.0 rest)) =
     dt.0 ∙ ap (field_text (codes "order") d.0.0) (st.0 ∙ ap (field_text (codes "start") s.0.0) (pt.0 ∙ ap (field_text (codes "period") p.0.0) q.1)) in
     let whole : bytes ≡ front_text b.0.0 d.0.0 s.0.0 p.0.0 rest =
-    fixed_takes (codes "mqc 1\ncode ") bytes a.0 a.1 ∙ ap (λ (t : List ℕ). codes "mqc 1\ncode " ++ t) (bt.0 ∙ ap (λ (t : List ℕ). code_word b.0.0 ++ t) (fixed_takes (10 ∷ []) b.0.1 c.0 c.1 ∙ ap (λ (t : List ℕ). 10 ∷ t) fields)) in
+    fixed_takes (codes "mqc 1\ncode ") bytes a.0 a.1 ∙ ap (λ (t : List ℕ). codes "mqc 1\ncode " ++ t) (bt.0 ∙ ap (λ (t : List ℕ). code_text b.0.0 ++ t) (ap (λ (t : List ℕ). 10 ∷ t) fields)) in
     subst (λ (g : List ℕ × ℕ × ℕ × ℕ). (bytes ≡ front_text g.0 g.1 g.2 g.3 rest) × FrontFits g.0 g.1 g.2 g.3) q.0
     (whole, record { code_fits = bt.1; order_from = dt.1; order_below = dt.2; start_from = st.1; start_below = st.2; period_from = pt.1; period_below = pt.2 })
 
@@ -102,9 +102,8 @@ front_again : (code : List ℕ) (order start period : ℕ) (rest : List ℕ) →
 unfolding front_at
 front_again code order start period rest fits =
     rw (
-      fixed_again (codes "mqc 1\ncode ") (code_word code ++ (10 ∷ field_text (codes "order") order (field_text (codes "start") start (field_text (codes "period") period rest)))),
-      code_again code (field_text (codes "order") order (field_text (codes "start") start (field_text (codes "period") period rest))) fits.code_fits,
-      fixed_again (10 ∷ []) (field_text (codes "order") order (field_text (codes "start") start (field_text (codes "period") period rest))),
+      fixed_again (codes "mqc 1\ncode ") (code_text code ++ (10 ∷ field_text (codes "order") order (field_text (codes "start") start (field_text (codes "period") period rest)))),
+      code_line_again code (field_text (codes "order") order (field_text (codes "start") start (field_text (codes "period") period rest))) fits.code_fits,
       field_again (codes "order") 2 257 order (field_text (codes "start") start (field_text (codes "period") period rest)) (omega arith) fits.order_from fits.order_below,
       field_again (codes "start") 1 1025 start (field_text (codes "period") period rest) (omega arith) fits.start_from fits.start_below,
       field_again (codes "period") 1 (1026 - start) period rest (omega arith) fits.period_from fits.period_below,
@@ -137,7 +136,7 @@ text_is : (c : Certificate) (rest : List ℕ) → text (lines c) ++ rest ≡ fro
 text_is c rest =
     text_then_is (lines c) rest
     ∙ rw (
-      append-nil (code_word c.code),
+      append-nil (code_text c.code),
       append-nil (decimal c.order),
       append-nil (decimal c.start),
       append-nil (decimal c.period),
@@ -247,10 +246,10 @@ tail_again c rest h =
     let p1 = line_again decimal (λ x. x < c.order) (number_at c.order) numbers (codes "phi") (c.start + c.period - 1) c.phi portion_ (omega (arith, h.phi.0)) (recursion_from_All (λ x. x < c.order) c.phi h.phi.1) in
     let p2 = portion_again c.order c.portion words_ small h.portion.0 rises in
     let p3 = line_again key_word (KeyFits c.order (c.start + c.period)) (key_at c.order (c.start + c.period)) keys (codes "words") (c.order - 1) c.words rows_ (omega (arith, h.words.0)) (recursion_from_All (KeyFits c.order (c.start + c.period)) c.words h.words.1) in
-    let p4 : rows_at c.order c.order rows_ ≡ Some (joined c.rows, apart_) = subst (λ (n : ℕ). rows_at c.order n rows_ ≡ Some (joined c.rows, apart_)) h.rows.0 (rows_again c.order c.rows apart_ low small row_fits) in
+    let p4 : rows_at c.order c.order rows_ ≡ Some (concat c.rows, apart_) = subst (λ (n : ℕ). rows_at c.order n rows_ ≡ Some (concat c.rows, apart_)) h.rows.0 (rows_again c.order c.rows apart_ low small row_fits) in
     let p5 = line_again decimal (λ x. x < c.order) (number_at c.order) numbers (codes "apart") (c.order * (c.order - 1) / 2) c.apart end_ (h.apart.0 ∙ sym (pairs_count c.order)) (recursion_from_All (λ x. x < c.order) c.apart h.apart.1) in
     let p6 = fixed_again (codes "end\n") rest in
-    let back : rows_of c.order c.order (joined c.rows) ≡ c.rows = subst (λ (n : ℕ). rows_of c.order n (joined c.rows) ≡ c.rows) h.rows.0 (rows_of_joined c.order c.rows row_fits) in
+    let back : rows_of c.order c.order (concat c.rows) ≡ c.rows = subst (λ (n : ℕ). rows_of c.order n (concat c.rows) ≡ c.rows) h.rows.0 (rows_of_concat c.order c.rows row_fits) in
     rw (p1, p2, p3, p4, p5, p6, back) refl
 
 pub certificate_again : (c : Certificate) (rest : List ℕ) → InRanges c → certificate_at (text (lines c) ++ rest) ≡ Some (c, rest)

@@ -2,7 +2,8 @@
 -- The format is this project's own.
 use Rattle.std.specs.Prelude.{◌≡◌, ℕ, ◌+◌, ◌*◌, ◌<◌, List, [], ◌∷◌, ◌++◌, codes}
 use Rattle.misere_theory.specs.Certificates.{Certificate, InRanges}
-use Rattle.certificate_text.specs.Spelling.{Line, text, code_word}
+use Rattle.octal_code.specs.Text.{IsCodeText}
+use Rattle.certificate_text.specs.Spelling.{Line, text}
 
 -- The digits of a number, without leading zeros: one digit, or the digits of a number above 0 and one more digit.
 pub data IsNumber : List ℕ → ℕ → Type 0 where
@@ -16,10 +17,6 @@ pub record IsKey (word : List ℕ) (key : ℕ × ℕ) : Type 0 where
   pub element : IsNumber f key.0
   pub heap : IsNumber h key.1
   pub joined : word ≡ f ++ 58 ∷ h
-
--- a code is written digit for digit, with a point behind the first
-abbrev pub IsCode : List ℕ → List ℕ → Type 0
-IsCode word code = word ≡ code_word code
 
 -- a word that is always the same
 abbrev pub IsFixed : List ℕ → List ℕ → Type 0
@@ -60,7 +57,7 @@ pub record SpellsByLines (b : List ℕ) (c : Certificate) : Type 0 where
   pub end : Line
   pub bytes : b ≡ text (version ∷ code ∷ order ∷ start ∷ period ∷ phi ∷ portion ∷ words ∷ (rows ++ apart ∷ end ∷ []))
   pub is_version : IsLine (codes "mqc") IsFixed version (codes "1" ∷ [])
-  pub is_code : IsLine (codes "code") IsCode code (c.code ∷ [])
+  pub is_code : IsLine (codes "code") IsCodeText code (c.code ∷ [])
   pub is_order : IsLine (codes "order") IsNumber order (c.order ∷ [])
   pub is_start : IsLine (codes "start") IsNumber start (c.start ∷ [])
   pub is_period : IsLine (codes "period") IsNumber period (c.period ∷ [])

@@ -104,6 +104,13 @@ unfoldable pub code_at : List ℕ → Option (List ℕ × List ℕ)
 code_at [] = None
 code_at (d ∷ bytes) = if d == 48 then digits_behind 0 bytes else if d == 52 then digits_behind 4 bytes else None
 
+-- the code and the end of its line
+unfoldable pub code_line_at : List ℕ → Option (List ℕ × List ℕ)
+code_line_at bytes = do
+  code ← code_at bytes
+  ended ← fixed_at (10 ∷ []) code.1
+  Some (code.0, ended)
+
 -- n rows, one after the other
 unfoldable pub rows_at : ℕ → ℕ → List ℕ → Option (List ℕ × List ℕ)
 rows_at order zero bytes = Some ([], bytes)
@@ -120,9 +127,8 @@ rows_of order (suc n) xs = take order xs ∷ rows_of order n (drop order xs)
 unfoldable pub front_at : List ℕ → Option ((List ℕ × ℕ × ℕ × ℕ) × List ℕ)
 front_at bytes = do
   named ← fixed_at (codes "mqc 1\ncode ") bytes
-  code ← code_at named
-  ended ← fixed_at (10 ∷ []) code.1
-  order ← field_at (codes "order") 2 257 ended
+  code ← code_line_at named
+  order ← field_at (codes "order") 2 257 code.1
   start ← field_at (codes "start") 1 1025 order.1
   period ← field_at (codes "period") 1 (1026 - start.0) start.1
   Some ((code.0, order.0, start.0, period.0), period.1)

@@ -2,6 +2,7 @@
 use Rattle.std.specs.Prelude.{◌≡◌, ℕ, ◌+◌, List, [], ◌∷◌, ◌++◌, map, codes}
 use Rattle.std.specs.Fmt.{decimal}
 use Rattle.misere_theory.specs.Certificates.{Certificate, InRanges}
+use Rattle.octal_code.specs.Text.{code_text}
 
 -- a line is its name and its words
 pub record Line : Type 0 where
@@ -18,15 +19,6 @@ abbrev pub text : List Line → List ℕ
 text [] = []
 text (line ∷ lines) = line.name ++ (spaced line.words ++ (10 ∷ text lines))
 
--- a digit of a code is one character
-abbrev pub code_digit : ℕ → ℕ
-code_digit d = 48 + d
-
--- the first digit, a point, and the other digits
-abbrev pub code_word : List ℕ → List ℕ
-code_word [] = []
-code_word (d ∷ ds) = code_digit d ∷ 46 ∷ map code_digit ds
-
 -- f:h
 abbrev pub key_word : ℕ × ℕ → List ℕ
 key_word key = decimal key.0 ++ 58 ∷ decimal key.1
@@ -37,7 +29,7 @@ row_line row = record { name = codes "row"; words = map decimal row }
 abbrev pub lines : Certificate → List Line
 lines c =
     record { name = codes "mqc"; words = codes "1" ∷ [] }
-    ∷ record { name = codes "code"; words = code_word c.code ∷ [] }
+    ∷ record { name = codes "code"; words = code_text c.code ∷ [] }
     ∷ record { name = codes "order"; words = decimal c.order ∷ [] }
     ∷ record { name = codes "start"; words = decimal c.start ∷ [] }
     ∷ record { name = codes "period"; words = decimal c.period ∷ [] }

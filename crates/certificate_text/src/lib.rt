@@ -4,12 +4,14 @@
 //! relation, line for line; `certificate_at` (specs/Reading.antt) reads from left to right. Nothing here runs.
 #![tactic(auto)]
 
-ghost use Rattle.std.specs.Prelude.{◌≡◌, ◌++◌, ◌<◌, ◌^◌, ℕ, List, [], Some};
+ghost use Rattle.std.specs.Prelude.{◌≡◌, ◌≢◌, ◌++◌, ◌∷◌, ◌*◌, ◌<◌, ◌≤◌, ◌^◌, ℕ, List, [], Some, All, length};
+ghost use Rattle.std.specs.List.{concat};
 ghost use Rattle.std.specs.Fmt.{decimal};
 ghost use Rattle.misere_theory.specs.Certificates.{Certificate, InRanges};
+ghost use Rattle.octal_code.specs.Text.{IsCodeText};
 ghost use Rattle.certificate_text.specs.Spelling.{Spells};
 ghost use Rattle.certificate_text.specs.Lines.{IsNumber, SpellsByLines};
-ghost use Rattle.certificate_text.specs.Reading.{certificate_at};
+ghost use Rattle.certificate_text.specs.Reading.{certificate_at, code_line_at, rows_at, rows_of};
 
 /// Bytes spell at most one certificate, a certificate has one spelling, and no spelling begins another.
 pub fn spellings_are_unique()
@@ -35,4 +37,16 @@ pub fn reading_is_spelling()
     ensures ranges { (b : List ℕ) (c : Certificate) (rest : List ℕ) → certificate_at b ≡ Some (c, rest) → InRanges c }
     ensures takes { (b : List ℕ) (c : Certificate) → certificate_at b ≡ Some (c, []) → Spells b c }
     ensures again { (b : List ℕ) (c : Certificate) → Spells b c → certificate_at b ≡ Some (c, []) }
+{}
+
+/// The code's line holds the text of a code, and ends at its first LF.
+pub fn code_lines_are_codes()
+    ensures taken { (b digits rest : List ℕ) → code_line_at b ≡ Some (digits, rest) → (word : List ℕ) × (b ≡ word ++ 10 ∷ rest) × IsCodeText word digits × All (λ x. x ≢ 10) word }
+    ensures again { (word digits rest : List ℕ) → IsCodeText word digits → code_line_at (word ++ 10 ∷ rest) ≡ Some (digits, rest) }
+{}
+
+/// The rows that are read lie one behind the other, with nothing besides.
+pub fn rows_lie_flat()
+    ensures count { (order n : ℕ) (b xs rest : List ℕ) → 0 < order → order ≤ 2 ^ 16 → rows_at order n b ≡ Some (xs, rest) → length xs ≡ n * order }
+    ensures whole { (order n : ℕ) (b xs rest : List ℕ) → 0 < order → order ≤ 2 ^ 16 → rows_at order n b ≡ Some (xs, rest) → concat (rows_of order n xs) ≡ xs }
 {}
