@@ -9,7 +9,7 @@ use Rattle.std.proofs.lemmas.Option.{some_pair_parts}
 use Rattle.std.proofs.lemmas.Bool.Decides.{nat_tests}
 use Rattle.std.proofs.lemmas.List.Elements.{All-from_recursion, recursion_from_All}
 use Rattle.misere_theory.specs.Certificates.{IsOctalCode}
-use Rattle.octal_code.specs.Text.{code_text, digit_byte, IsCodeText}
+use Rattle.octal_code.specs.Text.{code_text, digit_byte}
 use Rattle.certificate_text.specs.Spelling.{spaced}
 use Rattle.certificate_text.specs.Reading.{◌>>=◌, with_front, otherwise, fixed_at, number_at, line_at, field_at, rising_at, portion_at, octal_at, octals_at, code_at, digits_behind, code_line_at, rows_at, rows_of}
 use Rattle.certificate_text.proofs.Numbers.{bind_some, test_some, test_none, chosen, fixed_takes, fixed_again, number_takes, number_again}

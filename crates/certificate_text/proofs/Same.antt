@@ -107,7 +107,7 @@ code_only : (w x : List ℕ) → IsOctalCode x → IsCodeText w x → w ≡ code
 code_only w x fits h = h.spelled
 
 code_is : (x : List ℕ) → IsOctalCode x → IsCodeText (code_text x) x
-code_is x fits = record { is_code = fits; spelled = refl }
+code_is x fits = record { code = fits; spelled = refl }
 
 pub from_lines : (b : List ℕ) (c : Certificate) → SpellsByLines b c → Spells b c
 from_lines b c s =

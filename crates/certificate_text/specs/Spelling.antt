@@ -1,5 +1,5 @@
 -- The one text of each certificate.
-use Rattle.std.specs.Prelude.{◌≡◌, ℕ, ◌+◌, List, [], ◌∷◌, ◌++◌, map, codes}
+use Rattle.std.specs.Prelude.{◌≡◌, ℕ, List, [], ◌∷◌, ◌++◌, map, codes}
 use Rattle.std.specs.Fmt.{decimal}
 use Rattle.misere_theory.specs.Certificates.{Certificate, InRanges}
 use Rattle.octal_code.specs.Text.{code_text}
