@@ -4,9 +4,9 @@ use Rattle.std.specs.List.{Contains, remove}
 use Rattle.std.specs.List.Sorted.{IsPermutation}
 use Rattle.std.proofs.lemmas.List.{get_or_default}
 use Rattle.std.proofs.lemmas.List.Elements.{All-cons, All-nil}
-use Rattle.std.proofs.lemmas.List.Sorted.{IsPermutation-cons, IsPermutation-trans, IsPermutation-remove}
+use Rattle.std.proofs.lemmas.List.Sorted.{IsPermutation-cons, IsPermutation-trans, IsPermutation-remove, IsPermutation-sym}
+use Rattle.misere_theory.specs.Games.{HeapMove}
 use Rattle.positions.specs.Exact.{heaps_of}
-use Rattle.positions.specs.Moves.{IsMovedTo}
 use Rattle.positions.specs.Options.{options_of}
 use Rattle.positions.specs.declared.left.Left.{Left}
 use Rattle.positions.specs.declared.left.Left.TheVariants.{Nothing, One, Two}
@@ -29,10 +29,10 @@ parts_fit code n M (Two a b) c l =
 
 -- the heap at a place goes, and what the move leaves of it comes
 pub moved_to : (code X : List ℕ) (n i : ℕ) (L : Left) (Y : List ℕ) → i < length X → get_or X i 0 ≡ n → Contains (options_of code n) L
-    → IsPermutation (heaps_of L ++ remove X i) Y → IsMovedTo code X n L Y
+    → IsPermutation (heaps_of L ++ remove X i) Y → HeapMove code X n (heaps_of L) Y
 moved_to code X n i L Y l e c p = record {
   others = remove X i;
   before = IsPermutation-remove X i n l (sym e ∙ get_or_default X i 0 n l);
-  is_option = (only code n n L c).0;
-  after = p;
+  allowed = (only code n n L c).0;
+  after = IsPermutation-sym (heaps_of L ++ remove X i) Y p;
 }

@@ -1,7 +1,8 @@
 ghost use Rattle.std.specs.List.Sorted.{IsPermutation};
 ghost use Rattle.std.specs.Prelude.{◌≡◌, ◌+◌, ◌<◌, ◌≤◌, ◌↔◌, ◌++◌, ◌∷◌, length, slice_index, remove, All, Contains, IsTrue, IfOk, OnOk};
+ghost use Rattle.misere_theory.specs.Games.{HeapMove};
 ghost use Rattle.positions.specs.Exact.{heaps_of};
-ghost use Rattle.positions.specs.Moves.{IsMovedTo, move_fault_number};
+ghost use Rattle.positions.specs.Moves.{move_fault_number};
 ghost use Rattle.positions.specs.Options.{options_of};
 ghost use Rattle.positions.specs.Positions.{IsSize};
 
@@ -83,7 +84,7 @@ pub fn apply<A: Allocator + Copy>(
     position: &Position<A>,
     step: Move,
 ) -> Result<Position<A>, MoveFault>
-    ensures ok { IfOk result (λ next. IsMovedTo code.now position.now step.heap step.left next) }
+    ensures ok { IfOk result (HeapMove code.now position.now step.heap (heaps_of step.left)) }
     ensures no_such_heap { (result ≡ Err MoveFault.NoSuchHeap) ↔ ¬ Contains position.now step.heap }
     ensures not_allowed { (result ≡ Err MoveFault.NotAllowed) ↔ (Contains position.now step.heap × ¬ Contains (options_of code.now step.heap) step.left) }
 {
