@@ -1,5 +1,5 @@
 -- Positions have at most order * 2 ^ order different pairs.
-use Rattle.std.proofs.Common.{◌≡◌, ℕ, suc, zero, ◌+◌, ◌*◌, ◌^◌, ◌<◌, ◌≤◌, ◌↔◌, Bool, true, false, cond, List, [], ◌∷◌, refl, sym, ◌∙◌, ap, subst, inl, inr, arith, length, map, get_or, AllPairs, eqb, eqb-true, ne_eqb, ◌||◌, mul-le-mul_right, pow-suc}
+use Rattle.std.proofs.Common.{◌≡◌, ℕ, suc, zero, ◌+◌, ◌*◌, ◌^◌, ◌<◌, ◌≤◌, ◌↔◌, ◌⊎◌, Bool, true, false, cond, List, [], ◌∷◌, refl, sym, ◌∙◌, ap, ap₂, subst, inl, inr, arith, length, map, get_or, AllPairs, eqb, eqb-true, ne_eqb, ◌||◌, mul-le-mul_right, pow-suc}
 use Rattle.std.proofs.Math.ListN.{length-map}
 use Rattle.std.specs.List.{list_any, IsDistinct, AllByRecursion}
 use Rattle.std.proofs.lemmas.Map.Steps.{length-le_from_distinct_below}
@@ -9,6 +9,7 @@ use Rattle.misere_theory.specs.Games.{IsPosition}
 use Rattle.misere_theory.specs.Quotients.{Claim, Monoid, value, OptionValue, SamePair, ReachesMoreThan}
 use Rattle.misere_theory.proofs.Sums.{value_in, IsKept, move_kept}
 use Rattle.misere_theory.proofs.Outcomes.{some_or_all_moves}
+use Rattle.misere_theory.proofs.Rules.{same_bool}
 
 -- the numbers below n that pass, as bits
 mask : (ℕ → Bool) → ℕ → ℕ
@@ -36,6 +37,11 @@ mask-same f g zero e i h = absurd (omega arith)
 mask-same f g (suc n) e i h =
     let (a, b) = bit_same (f n) (g n) (mask f n) (mask g n) (2 ^ n) (mask-below f n) (mask-below g n) e in
     elim (ℕ_discrete i n) [ yes d ↦ ap f d ∙ b ∙ ap g (sym d) | no k ↦ mask-same f g n a i (omega arith) ]
+
+mask-agrees : (f g : ℕ → Bool) (n : ℕ) → ((i : ℕ) → f i ≡ g i) → mask f n ≡ mask g n
+unfolding mask
+mask-agrees f g zero h = refl
+mask-agrees f g (suc n) h = ap₂ (λ a b. a + cond b (2 ^ n) 0) (mask-agrees f g n h) (h n)
 
 digits_below : (u v w m n : ℕ) → u < v → m < w → u * w + m < v * w + n
 digits_below u v w m n h k = let l : suc u * w ≤ v * w = mul-le-mul_right w h in omega arith
@@ -82,6 +88,21 @@ module _ (heap : ℕ → Type 0) (code : List ℕ) (kept : IsKept heap code) (c 
     where
       in_order : {Z : List ℕ} {x : ℕ} → IsPosition heap Z → OptionValue code c Z x → x < c.order
       in_order r o = subst (λ v. v < c.order) o.2 (value_in heap c m phi_in o.0 (move_kept heap code kept o.1 r))
+
+  number_from_pair : (X Y : List ℕ) → SamePair code c X Y → number_of X ≡ number_of Y
+  unfolding number_of
+  number_from_pair X Y s =
+      ap₂ (λ v w. v * 2 ^ c.order + w) s.0
+      (mask-agrees (λ x. (tested X x).0) (λ x. (tested Y x).0) c.order (λ x. same_bool _ _
+      (λ t. (tested Y x).1.1 ((s.1 x).0 ((tested X x).1.0 t)))
+      (λ t. (tested X x).1.1 ((s.1 x).1 ((tested Y x).1.0 t)))))
+
+  -- two positions have the same pair or they do not
+  pub same_pair_dec : (X Y : List ℕ) → IsPosition heap X → IsPosition heap Y → SamePair code c X Y ⊎ (SamePair code c X Y → ⊥)
+  same_pair_dec X Y p q = elim (ℕ_discrete (number_of X) (number_of Y)) [
+    | yes e ↦ inl (pair_from_number X Y p q e)
+    | no f ↦ inr (λ s. f (number_from_pair X Y s))
+  ]
 
   differs_from_all : (X : List ℕ) (Xs : List (List ℕ)) → IsPosition heap X → AllByRecursion (IsPosition heap) Xs → ((k : ℕ) (d : List ℕ) → k < length Xs → SamePair code c X (get_or Xs k d) → ⊥) → AllByRecursion (λ y. eqb (number_of X) y ≡ false) (map number_of Xs)
   differs_from_all X [] p r h = tt

@@ -1,5 +1,5 @@
 -- What each answer to a certificate says of the others, and of a certificate that is accepted or isn't.
-use Rattle.std.proofs.Common.{◌≡◌, ℕ, ◌*◌, ◌^◌, ◌<◌, ◌≤◌, ◌⊎◌, List, refl, ap, inl, inr, arith}
+use Rattle.std.proofs.Common.{◌≡◌, ℕ, ◌*◌, ◌^◌, ◌<◌, ◌≤◌, ◌⊎◌, List, length, ◌-◌, refl, ap, inl, inr, arith}
 use native.Mathlib.Decide.{dec_lt}
 use Rattle.misere_theory.specs.Games.{IsHeap, IsPosition}
 use Rattle.misere_theory.specs.Quotients.{Monoid, Represents, RuleFails}
@@ -9,10 +9,11 @@ use Rattle.misere_theory.specs.Verdicts.Fault.{Law, Word, Order, Period, Apart}
 use Rattle.misere_theory.specs.Verdicts.Verdict.{Yes, No, Outcome, Limit}
 use Rattle.misere_theory.proofs.Sums.{heaps_kept}
 use Rattle.misere_theory.proofs.Rules.{predicts_from_rule, rule_from_predicts, rule_decided, rule_not_both, represents}
-use Rattle.misere_theory.proofs.Written.{phi_in, reached, all_apart}
+use Rattle.misere_theory.proofs.Written.{phi_in, periodic, reached, all_apart}
 use Rattle.misere_theory.proofs.Monoids.{no_law_fails, monoid_in_ranges}
 use Rattle.misere_theory.proofs.FaultLemmas.{canonical_from_none, no_word_fault, no_order_fault, no_period_fault, no_apart_fault}
 use Rattle.misere_theory.proofs.Reach.{reach_bound}
+use Rattle.misere_theory.proofs.Decided.{holds_or_fails}
 
 pub no_fault : (c : Certificate) → InRanges c → Monoid c.order (times_of c) → Canonical c → (fault : Fault) → HasFault c fault → ⊥
 no_fault c r m k Law h = no_law_fails m h
@@ -76,6 +77,14 @@ module _ (c : Certificate) (r : InRanges c) (m : Monoid c.order (times_of c)) (k
             (reached c r m k.numbered)
             (all_apart c k.apart);
       }
+
+  -- so it is accepted, or the rule fails at a position
+  pub accepted_or_fails : Accepted c ⊎ ((X : List ℕ) × IsPosition IsHeap X × RuleFails c.code (claim_of c) X)
+  accepted_or_fails =
+      elim (holds_or_fails c.code (claim_of c) m (λ n _. phi_in c r n) (length c.code - 1) c.start c.period (periodic c r)) [
+        | inl holds ↦ inl (accepted_from_no_failure (λ X p f. rule_not_both c.code (claim_of c) X (holds X p) f))
+        | inr fails ↦ inr fails
+      ]
 
   pub outcome_or_limit : (Represents IsHeap c.code (claim_of c) → ⊥) → (limit : ℕ) (v : Verdict) → IsAllowed c limit v → ((X : List ℕ) × (v ≡ Outcome X)) ⊎ (v ≡ Limit)
   outcome_or_limit not limit Yes h = absurd (not h.represents)

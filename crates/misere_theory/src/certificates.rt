@@ -72,7 +72,8 @@ pub fn tested_certificates_are_accepted()
         → Accepted c }
 {}
 
-/// A canonical certificate of a monoid is accepted exactly where the rule fails at no position.
+/// A canonical certificate of a monoid is accepted exactly where the rule fails at no position; so it is accepted, or the rule fails at
+/// a position.
 pub fn accepted_certificates_obey_the_rule()
     ensures obeys { (c : Certificate) → Accepted c → (X : List ℕ) → IsPosition IsHeap X → RuleFails c.code (claim_of c) X → ⊥ }
     ensures accepted { (c : Certificate)
@@ -81,6 +82,11 @@ pub fn accepted_certificates_obey_the_rule()
         → Canonical c
         → ((X : List ℕ) → IsPosition IsHeap X → RuleFails c.code (claim_of c) X → ⊥)
         → Accepted c }
+    ensures either { (c : Certificate)
+        → InRanges c
+        → Monoid c.order (times_of c)
+        → Canonical c
+        → Accepted c ⊎ ((X : List ℕ) × IsPosition IsHeap X × RuleFails c.code (claim_of c) X) }
 {}
 
 /// Accepted certificates get yes or Limit; canonical ones of a monoid that isn't the quotient Outcome or Limit;

@@ -5,7 +5,7 @@ ghost use Rattle.std.specs.List.Sorted.{IsNonDecreasing};
 ghost use Rattle.misere_theory.specs.Games.{HeapOption, IsHeap, IsHeapUpTo, IsPosition};
 ghost use Rattle.misere_theory.specs.Pairs.{Pair, IsSamePair, IsPeriodic, IsClosed, KeptObey, ElementsObey, heap_bound, SameHeapPair, Covers, IsPairOf, IsSmallSplit};
 ghost use Rattle.misere_theory.specs.Plays.{LeftBefore};
-ghost use Rattle.misere_theory.specs.Quotients.{Claim, Monoid, AllApart, Represents, RuleFails, HeapOptionValue, OptionValue, SumOptionValue, ReachesMoreThan, value};
+ghost use Rattle.misere_theory.specs.Quotients.{Claim, Monoid, AllApart, Represents, RuleHolds, RuleFails, HeapOptionValue, OptionValue, SumOptionValue, ReachesMoreThan, value};
 
 /// The pair of a sum is the product of the pairs.
 pub fn pairs_of_sums_are_products()
@@ -98,6 +98,15 @@ pub fn reach_is_bounded()
         → ((n : ℕ) → IsHeap n → c.phi n < c.order)
         → ReachesMoreThan IsHeap code c limit
         → limit < c.order * 2 ^ c.order }
+{}
+
+/// The rule holds at every position, or it fails at one.
+pub fn rule_holds_or_fails_somewhere()
+    ensures { (code : List ℕ) (c : Claim) (k start period : ℕ)
+        → Monoid c.order c.times
+        → ((n : ℕ) → IsHeap n → c.phi n < c.order)
+        → IsPeriodic code c k start period
+        → ((X : List ℕ) → IsPosition IsHeap X → RuleHolds code c X) ⊎ ((X : List ℕ) × IsPosition IsHeap X × RuleFails code c X) }
 {}
 
 /// Different pairs, each exactly that of a position, show that positions have more than any smaller number of pairs.
