@@ -1,0 +1,105 @@
+-- The options to come, stage by stage.
+use Rattle.std.proofs.Common.{◌≡◌, ℕ, zero, suc, ◌+◌, ◌-◌, ◌/◌, ◌<◌, ◌≤◌, Bool, true, false, List, [], ◌∷◌, ◌++◌, length, get_or, min, refl, sym, ◌∙◌, ap, arith, append_assoc}
+use Rattle.std.specs.Prelude.{◌&&◌, not, eqb, ltb}
+use Rattle.std.specs.List.{flat_map, range_with_len}
+use Rattle.std.specs.FinSet as set
+use Rattle.std.specs.Ordering.{nat_cmp}
+use Rattle.std.proofs.lemmas.Bool.Decides.{nat_tests}
+use Rattle.octal_code.specs.Bits.{has_bit, takes_all, leaves_one}
+use Rattle.positions.specs.Options.{options_at, nothing_left, one_left, two_left, where_holds, splits}
+use Rattle.positions.specs.declared.left.Left.{Left}
+use Rattle.positions.specs.declared.left.Left.TheVariants.{Nothing, One, Two}
+use Rattle.transition_algebra.specs.Trials.{single_left, taking_from, splits_from, with_values}
+
+range_more : (a n m : ℕ) → n ≡ suc m → range_with_len a n ≡ a ∷ range_with_len (a + 1) m
+range_more a n m e = ap (range_with_len a) e
+
+range_none : (a n : ℕ) → n ≡ 0 → range_with_len a n ≡ []
+range_none a n e = ap (range_with_len a) e
+
+where_true : (b : Bool) (xs : List Left) → b ≡ true → where_holds b xs ≡ xs
+where_true b xs e = rw e
+
+where_false : (b : Bool) (xs : List Left) → b ≡ false → where_holds b xs ≡ []
+where_false b xs e = rw e
+
+none_where : (b : Bool) → where_holds b [] ≡ []
+none_where true = refl
+none_where false = refl
+
+-- the options that take j away are those that leave one heap at most, and the splits
+two_from_one : (code : List ℕ) (n most j : ℕ) → two_left code n most j ≡ splits_from code n most j 1
+two_from_one code n most j =
+    let e : min ((n - j) / 2) most ≡ min ((n - j) / 2) most + 1 - 1 = omega arith in
+    ap (λ k. where_holds (has_bit code j 4) (splits (n - j) 1 k)) e
+
+pub single_then_splits : (code : List ℕ) (n most j : ℕ) → j < length code
+    → taking_from code n most j ≡ single_left code n j ++ (splits_from code n most j 1 ++ taking_from code n most (j + 1))
+single_then_splits code n most j l =
+    ap (flat_map (options_at code n most)) (range_more j (length code - j) (length code - (j + 1)) (omega arith))
+    ∙ ap (λ xs. xs ++ taking_from code n most (j + 1)) (sym (append_assoc (nothing_left code n j) (one_left code n j) (two_left code n most j)) ∙ ap (λ xs. single_left code n j ++ xs) (two_from_one code n most j))
+    ∙ append_assoc (single_left code n j) (splits_from code n most j 1) (taking_from code n most (j + 1))
+
+pub none_past : (code : List ℕ) (n most j : ℕ) → length code ≤ j → taking_from code n most j ≡ []
+none_past code n most j l = ap (flat_map (options_at code n most)) (range_none j (length code - j) (omega arith))
+
+not_both : (b c : Bool) (n j : ℕ) → (b && not (eqb j 0) && eqb n j) ≡ true → (c && not (eqb j 0) && ltb j n) ≡ false
+not_both b c n j e = grind (arith, nat_tests)
+
+pub single_nothing : (code : List ℕ) (n j : ℕ) → takes_all code n j ≡ true → single_left code n j ≡ Nothing ∷ []
+single_nothing code n j e =
+    ap (λ xs. xs ++ one_left code n j) (where_true (takes_all code n j) (Nothing ∷ []) e)
+    ∙ ap (λ xs. Nothing ∷ xs) (where_false (leaves_one code n j) (One (n - j) ∷ []) (not_both (has_bit code j 1) (has_bit code j 2) n j e))
+
+pub single_one : (code : List ℕ) (n j : ℕ) → takes_all code n j ≡ false → leaves_one code n j ≡ true → single_left code n j ≡ One (n - j) ∷ []
+single_one code n j e f =
+    ap (λ xs. xs ++ one_left code n j) (where_false (takes_all code n j) (Nothing ∷ []) e) ∙ where_true (leaves_one code n j) (One (n - j) ∷ []) f
+
+pub single_none : (code : List ℕ) (n j : ℕ) → takes_all code n j ≡ false → leaves_one code n j ≡ false → single_left code n j ≡ []
+single_none code n j e f =
+    ap (λ xs. xs ++ one_left code n j) (where_false (takes_all code n j) (Nothing ∷ []) e) ∙ where_false (leaves_one code n j) (One (n - j) ∷ []) f
+
+-- no split is left
+pub splits_off : (code : List ℕ) (n most j a : ℕ) → has_bit code j 4 ≡ false → splits_from code n most j a ≡ []
+splits_off code n most j a e = where_false (has_bit code j 4) (splits (n - j) a (min ((n - j) / 2) most + 1 - a)) e
+
+none_at : (m a k : ℕ) → k ≡ 0 → splits m a k ≡ []
+none_at m a k e = rw e
+
+pub splits_over : (code : List ℕ) (n most j a : ℕ) → min ((n - j) / 2) most < a → splits_from code n most j a ≡ []
+splits_over code n most j a l = ap (where_holds (has_bit code j 4)) (none_at (n - j) a (min ((n - j) / 2) most + 1 - a) (omega arith)) ∙ none_where (has_bit code j 4)
+
+splits_add : (m a c d : ℕ) → splits m a (c + d) ≡ splits m a c ++ splits m (a + c) d
+splits_add m a zero d =
+    let e : 0 + d ≡ d = omega arith in let f : a ≡ a + 0 = omega arith in
+    ap (splits m a) e ∙ ap (λ b. splits m b d) f
+splits_add m a (suc c) d =
+    let e : suc c + d ≡ suc (c + d) = omega arith in let f : a + 1 + c ≡ a + suc c = omega arith in
+    ap (splits m a) e ∙ ap (λ xs. Two a (m - a) ∷ xs) (splits_add m (a + 1) c d ∙ ap (λ b. splits m (a + 1) c ++ splits m b d) f)
+
+-- some splits, and the others
+pub splits_first : (code : List ℕ) (n most j a c : ℕ) → has_bit code j 4 ≡ true → a + c ≤ min ((n - j) / 2) most + 1
+    → splits_from code n most j a ≡ splits (n - j) a c ++ splits_from code n most j (a + c)
+splits_first code n most j a c e l =
+    let h = min ((n - j) / 2) most in
+    let f : h + 1 - a ≡ c + (h + 1 - (a + c)) = omega arith in
+    where_true (has_bit code j 4) (splits (n - j) a (h + 1 - a)) e
+    ∙ ap (splits (n - j) a) f ∙ splits_add (n - j) a c (h + 1 - (a + c))
+    ∙ ap (λ xs. splits (n - j) a c ++ xs) (sym (where_true (has_bit code j 4) (splits (n - j) (a + c) (h + 1 - (a + c))) e))
+
+-- a value more
+pub values_more : (f : ℕ → ℕ) (s t : set.FinSet nat_cmp) (a b v : ℕ) → a < b → v ≡ f a → t ≡ set.insert s v → with_values f t (a + 1) (b - (a + 1)) ≡ with_values f s a (b - a)
+unfolding with_values
+values_more f s t a b v l e i =
+    let m : b - a ≡ suc (b - (a + 1)) = omega arith in
+    ap (λ u. with_values f u (a + 1) (b - (a + 1))) (i ∙ ap (set.insert s) e) ∙ sym (ap (with_values f s a) m)
+
+pub values_none : (f : ℕ → ℕ) (s : set.FinSet nat_cmp) (a n : ℕ) → n ≡ 0 → with_values f s a n ≡ s
+unfolding with_values
+values_none f s a n e = ap (with_values f s a) e
+
+-- an element in range, whatever stands past the end
+pub in_range : {X : Type 0} (xs : List X) (i : ℕ) (d e : X) → i < length xs → get_or xs i d ≡ get_or xs i e
+in_range [] i d e l = absurd (omega arith)
+in_range (x ∷ xs) zero d e l = refl
+in_range (x ∷ xs) (suc i) d e l = in_range xs i d e (omega arith)

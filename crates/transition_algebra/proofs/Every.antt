@@ -1,0 +1,42 @@
+-- Heaps of any size have their pairs among the first.
+use Rattle.std.proofs.Common.{◌≡◌, ℕ, ◌+◌, ◌-◌, ◌<◌, ◌≤◌, List, length, get_or, sym, ◌∙◌, subst, arith}
+use Rattle.std.proofs.lemmas.List.{get_or_past}
+use Rattle.misere_theory.specs.Pairs.{IsPeriodic, SameHeapPair}
+use Rattle.misere_theory.specs.Quotients.{Claim}
+use Rattle.misere_theory.proofs.Bound.{heap_shown}
+use Rattle.monoid_table.specs.Grids.{Grid}
+use Rattle.transition_algebra.specs.Pretending.{Pretending, IsPretending}
+use Rattle.transition_algebra.specs.Heaps.{Agrees, IsHeapPair, IsHeapPairs, bound_of}
+use Rattle.transition_algebra.specs.declared.pair.Pair.{Pair}
+use Rattle.transition_algebra.proofs.Enough.{phi_repeats}
+
+pub periodic : (code : List ℕ) (c : Claim) (table : Grid) (phi : Pretending) → IsPretending phi → Agrees c table phi → IsPeriodic code c (length code - 1) phi.start phi.period
+periodic code c table phi pretending agrees = record {
+  last = λ j l. get_or_past code j 0 (omega arith);
+  from_one = pretending.from_one;
+  some = pretending.some;
+  repeats = λ n l.
+      let one : 1 ≤ n = let f = pretending.from_one in omega arith in
+      agrees.phi_is (phi.period + n) (omega arith) ∙ phi_repeats phi n l ∙ sym (agrees.phi_is n one);
+}
+
+same_pair : (code : List ℕ) (c : Claim) (n m : ℕ) (p : Pair) → SameHeapPair code c n m → IsHeapPair code c m p → IsHeapPair code c n p
+same_pair code c n m p s h = record {
+  value_is = h.value_is ∙ sym s.0;
+  options_are = λ x. (λ o. (s.1 x).1 ((h.options_are x).0 o), λ o. (h.options_are x).1 ((s.1 x).0 o));
+}
+
+pub every_heap : (code : List ℕ) (c : Claim) (table : Grid) (phi : Pretending) (pairs : List Pair)
+    → IsPretending phi
+    → Agrees c table phi
+    → IsHeapPairs code c (bound_of code phi) pairs
+    → (n : ℕ) → 1 ≤ n → (i : ℕ) × (i < length pairs) × ((d : Pair) → IsHeapPair code c n (get_or pairs i d))
+every_heap code c table phi pairs pretending agrees are n one =
+    let (m, u, s) = heap_shown code c (length code - 1) phi.start phi.period (periodic code c table phi pretending agrees) n one in
+    let l : m - 1 < length pairs = let e = are.length_is in let a = u.0 in let b = u.1 in omega arith in
+    let e : m - 1 + 1 ≡ m = let a = u.0 in omega arith in (
+      m - 1,
+      l,
+      λ d. same_pair code c n m (get_or pairs (m - 1) d) s
+          (subst (λ v. IsHeapPair code c v (get_or pairs (m - 1) d)) e (are.each (m - 1) d l)),
+    )

@@ -1,0 +1,9 @@
+mod Images
+mod Enough
+mod Claims
+mod Steps
+mod Within
+mod Coming
+mod Turning
+mod Cost
+mod Every

@@ -1,0 +1,48 @@
+-- The pairs of heaps, as any claim that agrees with a table and a pretending function has them.
+use Rattle.std.specs.Prelude.{◌≡◌, ℕ, ◌+◌, ◌-◌, ◌<◌, ◌≤◌, ◌↔◌, List, length, slice_index_or, IsTrue, All}
+use Rattle.std.specs.FinSet as set
+use Rattle.misere_theory.specs.Quotients.{Claim, HeapOptionValue}
+use Rattle.misere_theory.specs.Pairs.{heap_bound}
+use Rattle.monoid_table.specs.Grids.{Grid, times_in}
+use Rattle.positions.specs.declared.left.Left.{Left}
+use Rattle.positions.specs.declared.left.Left.TheVariants.{Nothing, One, Two}
+use Rattle.transition_algebra.specs.Pretending.{Pretending, phi_at}
+use Rattle.transition_algebra.specs.declared.pair.Pair.{Pair}
+
+-- the claim's monoid is the table's, and its elements of heaps are those of phi
+pub record Agrees (c : Claim) (table : Grid) (phi : Pretending) : Type 0 where
+  pub order_is : c.order ≡ table.order
+  pub times_is : (x y : ℕ) → x < table.order → y < table.order → c.times x y ≡ times_in table x y
+  pub phi_is : (n : ℕ) → 1 ≤ n → c.phi n ≡ phi_at phi n
+
+-- the entries are elements of the table
+abbrev pub IsInto : Grid → Pretending → Type 0
+IsInto table phi = All (λ x. x < table.order) phi.entries
+
+-- the pair has the heap's element and exactly the values of its options
+pub record IsHeapPair (code : List ℕ) (c : Claim) (n : ℕ) (p : Pair) : Type 0 where
+  pub value_is : p.value ≡ c.phi n
+  pub options_are : (x : ℕ) → IsTrue (set.contains p.options x) ↔ HeapOptionValue code c n x
+
+-- the pairs of the heaps 1 to B, in turn
+pub record IsHeapPairs (code : List ℕ) (c : Claim) (B : ℕ) (pairs : List Pair) : Type 0 where
+  pub length_is : length pairs ≡ B
+  pub each : (i : ℕ) (d : Pair) → i < length pairs → IsHeapPair code c (i + 1) (slice_index_or pairs i d)
+
+-- B = 2 start + 2 period + k, for the last digit dk of the code
+abbrev pub bound_of : List ℕ → Pretending → ℕ
+bound_of code phi = heap_bound (length code - 1) phi.start phi.period
+
+-- the pairs are those of the heaps 1 to B, whatever claim agrees with the table and phi
+abbrev pub AreAllHeapPairs : List ℕ → Grid → Pretending → List Pair → Type 0
+AreAllHeapPairs code table phi pairs = (c : Claim) → Agrees c table phi → IsHeapPairs code c (bound_of code phi) pairs
+
+-- Of a split only smaller parts up to this one are tried: those below start + period.
+abbrev pub largest_part : Pretending → ℕ
+largest_part phi = phi.start + phi.period - 1
+
+-- the product of the heaps that are left
+abbrev pub left_value : Grid → Pretending → Left → ℕ
+left_value table phi Nothing = 0
+left_value table phi (One a) = phi_at phi a
+left_value table phi (Two a b) = times_in table (phi_at phi a) (phi_at phi b)

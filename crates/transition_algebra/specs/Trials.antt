@@ -1,0 +1,104 @@
+-- How far the options of the heaps are tried.
+use Rattle.std.specs.Prelude.{◌≡◌, ℕ, zero, suc, ◌+◌, ◌-◌, ◌*◌, ◌/◌, ◌<◌, ◌≤◌, ◌⊎◌, List, [], ◌∷◌, ◌++◌, length, min, slice_index_or}
+use Rattle.std.specs.List.{flat_map, range_with_len}
+use Rattle.std.specs.FinSet as set
+use Rattle.std.specs.Ordering.{nat_cmp}
+use Rattle.monoid_table.specs.Grids.{Grid, times_in}
+use Rattle.octal_code.specs.Bits.{has_bit}
+use Rattle.positions.specs.Options.{nothing_left, one_left, options_at, splits, where_holds}
+use Rattle.positions.specs.declared.left.Left.{Left}
+use Rattle.transition_algebra.specs.Pretending.{Pretending}
+use Rattle.transition_algebra.specs.Pairs.{one}
+use Rattle.transition_algebra.specs.Heaps.{bound_of, largest_part, left_value}
+use Rattle.transition_algebra.specs.Work.{Trying, opening, turns, heap_cost}
+use Rattle.transition_algebra.specs.declared.pair.Pair.{Pair}
+use Rattle.transition_algebra.specs.declared.trial.Stage.{Stage}
+use Rattle.transition_algebra.specs.declared.trial.Stage.TheVariants.{Single, Splits}
+use Rattle.transition_algebra.specs.declared.trial.Trial.{Trial}
+
+-- the options that take j away and leave at most one heap: one at most
+abbrev pub single_left : List ℕ → ℕ → ℕ → List Left
+single_left code n j = nothing_left code n j ++ one_left code n j
+
+-- the options that take j or more away
+abbrev pub taking_from : List ℕ → ℕ → ℕ → ℕ → List Left
+taking_from code n most j = flat_map (options_at code n most) (range_with_len j (length code - j))
+
+-- the largest smaller part of the splits that take j away
+abbrev pub last_part : ℕ → ℕ → ℕ → ℕ
+last_part n most j = min ((n - j) / 2) most
+
+-- the splits that take j away, the smaller part from a on
+abbrev pub splits_from : List ℕ → ℕ → ℕ → ℕ → ℕ → List Left
+splits_from code n most j a = where_holds (has_bit code j 4) (splits (n - j) a (last_part n most j + 1 - a))
+
+-- the options to come
+abbrev pub coming_at : List ℕ → ℕ → ℕ → ℕ → Stage → List Left
+coming_at code n most j Single = taking_from code n most j
+coming_at code n most j (Splits a) = splits_from code n most j a ++ taking_from code n most (j + 1)
+
+-- the element of the heap n, by its pair
+abbrev pub value_at : List Pair → ℕ → ℕ
+value_at pairs n = (slice_index_or pairs (n - 1) one).value
+
+-- the value of the split of the whole heap with this smaller part
+abbrev pub split_value : Grid → List Pair → ℕ → ℕ → ℕ
+split_value table pairs whole a = times_in table (value_at pairs a) (value_at pairs (whole - a))
+
+-- the set, with what f makes of the n numbers from a on
+unfoldable pub with_values : (ℕ → ℕ) → set.FinSet nat_cmp → ℕ → ℕ → set.FinSet nat_cmp
+with_values f s a zero = s
+with_values f s a (suc n) = with_values f (set.insert s (f a)) (a + 1) n
+
+-- the set, with the values of what is left
+unfoldable pub with_left : Grid → Pretending → set.FinSet nat_cmp → List Left → set.FinSet nat_cmp
+with_left table phi s [] = s
+with_left table phi s (x ∷ xs) = with_left table phi (set.insert s (left_value table phi x)) xs
+
+-- the option that leaves one heap at most was tried
+abbrev pub after_single : List ℕ → Grid → Pretending → Trial → Trial
+after_single code table phi t = record t { stage = Splits 1; seen = with_left table phi t.seen (single_left code t.heap t.away); spent = t.spent + length (single_left code t.heap t.away) }
+
+-- so many splits were tried, the smaller part from a on
+abbrev pub after_splits : Grid → List Pair → Trial → ℕ → ℕ → Trial
+after_splits table pairs t a count = record t { stage = Splits (a + count); seen = with_values (split_value table pairs (t.heap - t.away)) t.seen a count; spent = t.spent + count }
+
+-- more is taken away
+abbrev pub after_all : Trial → Trial
+after_all t = record t { away = t.away + 1; stage = Single }
+
+-- the heap's pair is set down
+abbrev pub after_heap : Trial → Trial
+after_heap t = record t { heap = t.heap + 1; away = 0; stage = Single; seen = set.empty; spent = t.spent + 1 }
+
+-- smaller parts count from 1
+abbrev pub IsStage : Stage → Type 0
+IsStage Single = Unit {0}
+IsStage (Splits a) = 1 ≤ a
+
+abbrev pub trying_of : List ℕ → Pretending → Trial → List Pair → Trying
+trying_of code phi t pairs = record { heap = t.heap; coming = coming_at code t.heap (largest_part phi) t.away t.stage; seen = t.seen; pairs = pairs }
+
+-- the trial and the pairs beside it are what the turns spent make of nothing tried
+pub record IsTrial (code : List ℕ) (table : Grid) (phi : Pretending) (t : Trial) (pairs : List Pair) : Type 0 where
+  pub bound_is : t.bound ≡ bound_of code phi
+  pub most_is : t.most ≡ largest_part phi
+  pub away_in : t.away ≤ length code
+  pub stage_in : IsStage t.stage
+  pub within : t.spent ≤ heap_cost code phi
+  pub reached : trying_of code phi t pairs ≡ turns code table phi t.spent (opening code phi)
+
+abbrev pub stages : Stage → ℕ
+stages Single = 1
+stages (Splits a) = 0
+
+-- the stages that are left of a heap
+abbrev pub stages_left : List ℕ → Trial → ℕ
+stages_left code t = 2 * (length code - t.away) + stages t.stage
+
+-- at most so many turns more, and where none, a stage less
+pub record IsRun (code : List ℕ) (table : Grid) (phi : Pretending) (s t : Trial) (pairs : List Pair) (units spent : ℕ) : Type 0 where
+  pub at_most : spent ≤ units
+  pub trial : IsTrial code table phi t pairs
+  pub spent_is : t.spent ≡ s.spent + spent
+  pub falls : (1 ≤ spent) ⊎ (stages_left code t < stages_left code s)

@@ -1,0 +1,90 @@
+//! The pairs of heaps.
+ghost use Rattle.std.specs.Prelude.{◌≡◌, ◌+◌, ◌-◌, ◌<◌, ◌≤◌, IfOk, All};
+ghost use Rattle.misere_theory.specs.Games.{IsHeap, IsPosition};
+ghost use Rattle.misere_theory.specs.Quotients.{Claim};
+ghost use Rattle.positions.specs.Exact.{heaps_of};
+ghost use Rattle.transition_algebra.specs.Pairs.{IsPair};
+ghost use Rattle.transition_algebra.specs.Heaps.{Agrees, IsInto, IsHeapPair, AreAllHeapPairs, bound_of, left_value};
+
+use crate::pair::Pair;
+use crate::phi::{Phi, is_pretending};
+use allocation::Memory;
+use element_sets::ElementSet;
+use monoid_table::{Table, is_monoid};
+use octal_code::Code;
+use positions::{Left, options_up_to};
+use std::alloc::Allocator;
+
+/// B: the heaps 1 to B show the pair of every heap.
+pub(crate) fn bound_of<A: Allocator>(code: &Code, phi: &Phi<A>) -> u64
+    ensures value { result ≡ bound_of code.now phi.now }
+    ensures small { result < 4096 }
+{
+    is_pretending(phi);
+    2 * phi.start() + 2 * phi.period() + code.last() as u64
+}
+
+/// The largest smaller part of a split that is tried.
+pub(crate) fn largest_part<A: Allocator>(phi: &Phi<A>) -> u64
+    ensures { result ≡ phi.now.start + phi.now.period - 1 }
+{
+    is_pretending(phi);
+    phi.start() + phi.period() - 1
+}
+
+/// The product of the heaps that are left.
+pub(crate) fn left_value<A: Allocator>(table: &Table<A>, phi: &Phi<A>, left: Left) -> u16
+    requires into { IsInto table.now phi.now }
+    requires parts { IsPosition IsHeap (heaps_of left) }
+    ensures value { result ≡ left_value table.now phi.now left }
+    ensures within { result < table.now.order }
+    ensures small { result < 256 }
+{
+    is_monoid(table);
+    match left {
+        Left::Nothing => 0,
+        Left::One(a) => phi.at(a),
+        Left::Two(a, b) => table.times(phi.at(a), phi.at(b)),
+    }
+}
+
+/// The pair of the heap n. Of a split only smaller parts below start + period are tried: from two parts of at
+/// least that, the period moved from one to the other keeps the value.
+fn heap_pair<A: Allocator>(code: &Code, table: &Table<A>, phi: &Phi<A>, n: u64) -> Pair
+    requires into { IsInto table.now phi.now }
+    requires from_one { 1 ≤ n }
+    ensures { (c : Claim) → Agrees c table.now phi.now → IsHeapPair code.now c n result }
+{
+    is_monoid(table);
+    is_pretending(phi);
+    let mut options = ElementSet::new();
+    for left in options_up_to(code, n, largest_part(phi)) {
+        options.insert(left_value(table, phi, left) as u8);
+    }
+    Pair {
+        value: phi.at(n),
+        options,
+    }
+}
+
+/// The pairs of the heaps 1 to B = 2 start + 2 period + k, for the last digit dk of the code.
+///
+/// Item n - 1 is exactly the pair of the heap n: its element, and the values of all its options. Every heap of any
+/// size has its pair among them. `Memory` where a growth was refused.
+pub fn heap_pairs<A: Allocator + Copy>(
+    alloc: A,
+    code: &Code,
+    table: &Table<A>,
+    phi: &Phi<A>,
+) -> Result<Vec<Pair, A>, Memory>
+    requires { IsInto table.now phi.now }
+    ensures exact { IfOk result (λ pairs. AreAllHeapPairs code.now table.now phi.now pairs.items) }
+    ensures within { IfOk result (λ pairs. All (IsPair table.now.order) pairs.items) }
+{
+    is_monoid(table);
+    let mut pairs = Vec::new(alloc);
+    for n in 0..bound_of(code, phi) {
+        pairs.push(heap_pair(code, table, phi, n + 1))?;
+    }
+    Ok(pairs)
+}

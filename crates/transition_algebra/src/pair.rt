@@ -1,0 +1,72 @@
+//! Transition pairs, and the monoid that they are.
+ghost use Rattle.std.specs.Prelude.{◌≡◌, ◌<◌, ℕ, true};
+ghost use Rattle.std.specs.FinSet as set;
+ghost use Rattle.transition_algebra.specs.Pairs.{translated};
+
+use element_sets::ElementSet;
+use monoid_table::{CommMonoid, Table, is_monoid};
+use std::alloc::{Allocator, Global};
+
+/// The value of a position, and the set of its options' values.
+#[derive(Clone, Copy, PartialEq, Eq, Hash)]
+pub struct Pair {
+    pub value: u16,
+    pub options: ElementSet,
+}
+
+/// The pairs over a table. The product of two is the pair of a sum, whose options are those of one part beside
+/// the other; the identity is the pair of the empty position.
+#[derive(Drop)]
+pub struct Pairs<'a, A: Allocator = Global> {
+    pub table: &'a Table<A>,
+}
+
+/// The products of an element with each of a set.
+fn translate<A: Allocator>(table: &Table<A>, value: u16, elements: &ElementSet) -> ElementSet
+    requires value_in { value < table.now.order }
+    requires elements_in { (x : ℕ) → set.contains elements.now x ≡ true → x < table.now.order }
+    ensures { result ≡ translated table.now value elements.now }
+{
+    let mut all = ElementSet::new();
+    for x in 0..table.order() {
+        if elements.contains(x as u8) {
+            all.insert(table.times(value, x) as u8);
+        }
+    }
+    all
+}
+
+impl<'a, A: Allocator> CommMonoid for Pairs<'a, A> {
+    type Element = Pair;
+
+    ghost use Rattle.monoid_table.specs.Tables.{IsTableGrid};
+    ghost use Rattle.transition_algebra.specs.Pairs.{IsPair, one, times};
+    ghost use Rattle.transition_algebra.specs.PairLaws.{pair_laws};
+
+    ghost is_lawful = { λ m. IsTableGrid m.table.now };
+
+    ghost is_in = { λ m p. IsPair m.table.now.order p };
+
+    ghost identity = { λ _. one };
+
+    ghost multiply = { λ m p r. times m.table.now p r };
+
+    ghost laws = { λ m h. pair_laws m.table.now h };
+
+    fn one(&self) -> Pair {
+        is_monoid(self.table);
+        Pair {
+            value: 0,
+            options: ElementSet::new(),
+        }
+    }
+
+    fn times(&self, x: &Pair, y: &Pair) -> Pair {
+        let beside_x = translate(self.table, x.value, &y.options);
+        let beside_y = translate(self.table, y.value, &x.options);
+        Pair {
+            value: self.table.times(x.value, y.value),
+            options: beside_x.union(&beside_y),
+        }
+    }
+}

@@ -1,0 +1,165 @@
+//! The options of the heaps, tried one after another.
+ghost use Rattle.std.specs.Prelude.{◌≡◌, ◌+◌, ◌*◌, ◌^◌, ◌<◌, ◌≤◌, [], ◌∷◌, ◌++◌, length, true, IfOk, OnErr, OnOk, All};
+ghost use Rattle.std.specs.Option.{MatchOption};
+ghost use Rattle.misere_theory.specs.Certificates.{IsOctalCode};
+ghost use Rattle.octal_code.specs.Bits.{has_bit};
+ghost use Rattle.transition_algebra.specs.Pretending.{phi_at};
+ghost use Rattle.transition_algebra.specs.Heaps.{IsInto, bound_of, largest_part};
+ghost use Rattle.transition_algebra.specs.Work.{heap_cost};
+ghost use Rattle.transition_algebra.specs.Trials.{IsTrial, IsRun, single_left, splits_from, last_part, split_value, with_values, after_single, after_splits, after_all, after_heap};
+
+use crate::heaps::{bound_of, largest_part, left_value};
+use crate::pair::Pair;
+use crate::phi::Phi;
+use allocation::Memory;
+use element_sets::ElementSet;
+use monoid_table::{Table, is_monoid};
+use octal_code::Code;
+use positions::Left;
+use std::alloc::Allocator;
+
+/// What is tried next: the option that leaves at most one heap, or the splits from this smaller part on.
+#[derive(Clone, Copy)]
+pub(crate) enum Stage {
+    Single,
+    Splits(u64),
+}
+
+/// How far the options of the heaps 1 to `bound` are tried: the heap in hand, what is taken away from it, what is
+/// tried next, the values of the options so far, and the units spent. The pairs of the smaller heaps stand beside it.
+#[derive(Clone, Copy)]
+pub(crate) struct Trial {
+    pub(crate) bound: u64,
+    pub(crate) most: u64,
+    pub(crate) heap: u64,
+    pub(crate) away: u64,
+    pub(crate) stage: Stage,
+    pub(crate) seen: ElementSet,
+    pub(crate) spent: u64,
+}
+
+/// The option of the heap n that takes `away` and leaves at most one heap.
+fn single_option(code: &Code, n: u64, away: u64) -> Option<Left>
+    ensures { MatchOption result (single_left code.now n away ≡ []) (λ left. single_left code.now n away ≡ left ∷ []) }
+{
+    if code.takes_all(n, away) {
+        Some(Left::Nothing)
+    } else if code.leaves_one(n, away) {
+        Some(Left::One(n - away))
+    } else {
+        None
+    }
+}
+
+/// The set, with the values of the splits of `whole` whose smaller parts are the `count` numbers from `first` on.
+/// The element of the heap n is that of pair n - 1.
+fn with_splits<A: Allocator>(
+    table: &Table<A>,
+    pairs: &[Pair],
+    seen: ElementSet,
+    whole: u64,
+    first: u64,
+    count: u64,
+) -> ElementSet
+    requires elements { All (λ p. p.value < table.now.order) pairs.now }
+    requires from_one { 1 ≤ first }
+    requires smaller { 2 * (first + count) ≤ whole + 2 }
+    requires within { whole ≤ length pairs.now + 1 }
+    ensures { result ≡ with_values (split_value table.now pairs.now whole) seen first count }
+{
+    is_monoid(table);
+    let mut all = seen;
+    for part in first..first + count {
+        let x = pairs[(part - 1) as usize].value;
+        let y = pairs[(whole - part - 1) as usize].value;
+        all.insert(table.times(x, y) as u8);
+    }
+    all
+}
+
+impl Trial {
+    /// Nothing tried yet.
+    pub(crate) fn new<A: Allocator>(code: &Code, phi: &Phi<A>) -> Trial {
+        Trial {
+            bound: bound_of(code, phi),
+            most: largest_part(phi),
+            heap: 1,
+            away: 0,
+            stage: Stage::Single,
+            seen: ElementSet::new(),
+            spent: 0,
+        }
+    }
+
+    /// Tries the option that leaves one heap at most, if there is one.
+    #[tactic(auto, unfolding(crate::specs::Trials::with_left))]
+    fn try_single<A: Allocator>(&mut self, code: &Code, table: &Table<A>, phi: &Phi<A>) -> u64
+        requires into { IsInto table.now phi.now }
+        requires small { self.old.spent < 2 ^ 32 }
+        ensures count { result ≡ length (single_left code.now self.old.heap self.old.away) }
+        ensures trial { self.new ≡ after_single code.now table.now phi.now self.old }
+    {
+        self.stage = Stage::Splits(1);
+        match single_option(code, self.heap, self.away) {
+            Some(left) => {
+                self.seen.insert(left_value(table, phi, left) as u8);
+                self.spent += 1;
+                1
+            }
+            None => 0,
+        }
+    }
+
+    /// Tries splits, the smaller part from `part` on, at most `units`; where none is left, turns to what takes more away.
+    fn try_splits<A: Allocator>(
+        &mut self,
+        code: &Code,
+        table: &Table<A>,
+        pairs: &[Pair],
+        part: u64,
+        units: u64,
+    ) -> u64
+        requires some { 1 ≤ units }
+        requires elements { All (λ p. p.value < table.now.order) pairs.now }
+        requires from_one { 1 ≤ part }
+        requires within { self.old.heap ≤ length pairs.now + 1 }
+        requires small { (self.old.spent + self.old.heap < 2 ^ 32) × (self.old.away < 2 ^ 32) }
+        ensures within { result ≤ units }
+        ensures none { result ≡ 0 → (splits_from code.now self.old.heap self.old.most self.old.away part ≡ []) × (self.new ≡ after_all self.old) }
+        ensures some { 1 ≤ result → (has_bit code.now self.old.away 4 ≡ true) × (part + result ≤ last_part self.old.heap self.old.most self.old.away + 1) × (self.new ≡ after_splits table.now pairs.now self.old part result) }
+    {
+        let whole = self.heap.saturating_sub(self.away);
+        let last = (whole / 2).min(self.most);
+        if !code.has_bit(self.away, 4) || last < part {
+            self.away += 1;
+            self.stage = Stage::Single;
+            return 0;
+        }
+        let count = units.min(last + 1 - part);
+        self.seen = with_splits(table, pairs, self.seen, whole, part, count);
+        self.stage = Stage::Splits(part + count);
+        self.spent += count;
+        count
+    }
+
+    /// Sets the heap's pair down and begins the next heap.
+    fn close<A: Allocator>(&mut self, phi: &Phi<A>, pairs: &mut Vec<Pair, A>) -> Result<(), Memory>
+        requires from_one { 1 ≤ self.old.heap }
+        requires small { (self.old.heap < 2 ^ 32) × (self.old.spent < 2 ^ 32) }
+        ensures trial { OnOk result (self.new ≡ after_heap self.old) }
+        ensures pair { OnOk result (pairs.new.items ≡ pairs.old.items ++ (record { value = phi_at phi.now self.old.heap; options = self.old.seen } ∷ [])) }
+        ensures err { OnErr result (self.new ≡ self.old) }
+        ensures err_pairs { OnErr result (pairs.new.items ≡ pairs.old.items) }
+    {
+        pairs.push(Pair {
+            value: phi.at(self.heap),
+            options: self.seen,
+        })?;
+        self.heap += 1;
+        self.away = 0;
+        self.stage = Stage::Single;
+        self.seen = ElementSet::new();
+        self.spent += 1;
+        Ok(())
+    }
+}
