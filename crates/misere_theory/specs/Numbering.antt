@@ -21,4 +21,5 @@ pub record IsNumbered (c : Claim) (heaps : ℕ) (key : ℕ → ℕ × ℕ) : Typ
   pub heap : (e : ℕ) → 0 < e → e < c.order → (1 ≤ (key e).1) × ((key e).1 ≤ heaps)
   pub product : (e : ℕ) → 0 < e → e < c.order → c.times (key e).0 (c.phi (key e).1) ≡ e
   pub rising : (d e : ℕ) → 0 < d → d < e → e < c.order → KeyBelow (key d) (key e)
-  pub least : (f h : ℕ) → f < c.order → 1 ≤ h → h ≤ heaps → 0 < c.times f (c.phi h) → KeyBelow (f, h) (key (c.times f (c.phi h))) → ⊥
+  pub least : (f h : ℕ) → f < c.order → 1 ≤ h → h ≤ heaps → 0 < c.times f (c.phi h)
+      → KeyBelow (f, h) (key (c.times f (c.phi h))) → ⊥

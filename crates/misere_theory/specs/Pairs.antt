@@ -50,7 +50,8 @@ pub record IsClosed (code : List ℕ) (c : Claim) (heaps : ℕ → Type 0) (kept
 -- Each kept pair obeys the rule: outside the portion, if it has options' values, one is in the portion; inside it has one.
 -- That none of them is in the portion then is for ElementsObey.
 pub record KeptObey (c : Claim) (kept : List Pair) : Type 0 where
-  pub outside : (p : Pair) → Contains kept p → c.portion p.value ≡ false → (x : ℕ) → Contains p.options x → (y : ℕ) × Contains p.options y × (c.portion y ≡ true)
+  pub outside : (p : Pair) → Contains kept p → c.portion p.value ≡ false
+      → (x : ℕ) → Contains p.options x → (y : ℕ) × Contains p.options y × (c.portion y ≡ true)
   pub inside : (p : Pair) → Contains kept p → c.portion p.value ≡ true → (x : ℕ) × Contains p.options x
 
 -- No option of one of these heaps leads from the portion into it, whatever element stands beside the heap.

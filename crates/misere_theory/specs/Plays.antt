@@ -10,7 +10,9 @@ pub data Reachable (code : List ℕ) : List ℕ → List ℕ → Type 0 where
 
 -- More than n positions can be reached from X, X itself counted, and positions that differ by the order of heaps counted once.
 abbrev pub MoreReachableThan : List ℕ → List ℕ → ℕ → Type 0
-MoreReachableThan code X n = (Ys : List (List ℕ)) × (n < length Ys) × All (Reachable code X) Ys × AllPairs (λ Y Z. IsPermutation Y Z → ⊥) Ys
+MoreReachableThan code X n =
+    (Ys : List (List ℕ)) × (n < length Ys)
+    × All (Reachable code X) Ys × AllPairs (λ Y Z. IsPermutation Y Z → ⊥) Ys
 
 -- Of what two moves leave of a heap, H comes before L: less is taken away; or as much is, and fewer heaps are left;
 -- or as much is and as many are, and the first is smaller.
@@ -29,7 +31,8 @@ IsWinningMove code X n H = IsNonDecreasing H × ((Y : List ℕ) × HeapMove code
 
 -- It is a winning move, and no winning move comes before it.
 abbrev pub IsFirstWin : List ℕ → List ℕ → ℕ → List ℕ → Type 0
-IsFirstWin code X n H = IsWinningMove code X n H × ((m : ℕ) (L : List ℕ) → IsWinningMove code X m L → MoveBefore m L n H → ⊥)
+IsFirstWin code X n H =
+    IsWinningMove code X n H × ((m : ℕ) (L : List ℕ) → IsWinningMove code X m L → MoveBefore m L n H → ⊥)
 
 -- The first winning move leads from Y to Z.
 abbrev pub IsAnswer : List ℕ → List ℕ → List ℕ → Type 0
@@ -45,4 +48,5 @@ pub data IsHanded (code : List ℕ) : List ℕ → List ℕ → Type 0 where
 pub record Keeps (code : List ℕ) (X : List ℕ) : Type 0 where
   pub handed : (Z : List ℕ) → IsHanded code X Z → IsP code Z
   pub goes_on : (Z : List ℕ) → IsHanded code X Z → (Y : List ℕ) × Move code Z Y
-  pub answered : (Z Y : List ℕ) → IsHanded code X Z → Move code Z Y → ((W : List ℕ) → Move code Y W → ⊥) ⊎ ((W : List ℕ) × IsAnswer code Y W)
+  pub answered : (Z Y : List ℕ) → IsHanded code X Z → Move code Z Y
+      → ((W : List ℕ) → Move code Y W → ⊥) ⊎ ((W : List ℕ) × IsAnswer code Y W)

@@ -22,7 +22,8 @@ pub record Monoid (order : ℕ) (times : ℕ → ℕ → ℕ) : Type 0 where
 pub data LawFails (order : ℕ) (times : ℕ → ℕ → ℕ) : Type 0 where
   Identity : (x : ℕ) → x < order → times 0 x ≢ x → LawFails order times
   Commutativity : (x y : ℕ) → x < order → y < order → times x y ≢ times y x → LawFails order times
-  Associativity : (x y z : ℕ) → x < order → y < order → z < order → times (times x y) z ≢ times x (times y z) → LawFails order times
+  Associativity : (x y z : ℕ) → x < order → y < order → z < order
+      → times (times x y) z ≢ times x (times y z) → LawFails order times
 
 -- The value of a position: the product of its heaps' elements, and 0 for the empty one. Plambeck and Siegel.
 abbrev pub value : Claim → List ℕ → ℕ
@@ -36,7 +37,8 @@ pub record Represents (heap : ℕ → Type 0) (code : List ℕ) (c : Claim) : Ty
   pub monoid : Monoid c.order c.times
   pub elements : (n : ℕ) → heap n → c.phi n < c.order
   pub predicts : (X : List ℕ) → IsPosition heap X → IsP code X ↔ (c.portion (value c X) ≡ true)
-  pub indistinguishable : (X Y : List ℕ) → IsPosition heap X → IsPosition heap Y → Indistinguishable heap code X Y ↔ (value c X ≡ value c Y)
+  pub indistinguishable : (X Y : List ℕ) → IsPosition heap X → IsPosition heap Y
+      → Indistinguishable heap code X Y ↔ (value c X ≡ value c Y)
   pub reached : (x : ℕ) → x < c.order → (X : List ℕ) × IsPosition heap X × (value c X ≡ x)
 
 -- Each two elements are told apart by one that takes only the one of them into the portion. A reduced monoid: Plambeck and Siegel.
@@ -75,7 +77,9 @@ SamePair code c X Y = (value c X ≡ value c Y) × ((x : ℕ) → OptionValue co
 
 -- Positions have more than this many different transition pairs. This project's own.
 abbrev pub ReachesMoreThan : (ℕ → Type 0) → List ℕ → Claim → ℕ → Type 0
-ReachesMoreThan heap code c limit = (Xs : List (List ℕ)) × (limit < length Xs) × All (IsPosition heap) Xs × AllPairs (λ X Y. SamePair code c X Y → ⊥) Xs
+ReachesMoreThan heap code c limit =
+    (Xs : List (List ℕ)) × (limit < length Xs)
+    × All (IsPosition heap) Xs × AllPairs (λ X Y. SamePair code c X Y → ⊥) Xs
 
 -- z is the value of an option of one part of a sum, times the value of the other part. This project's own.
 abbrev pub SumOptionValue : List ℕ → Claim → List ℕ → List ℕ → ℕ → Type 0

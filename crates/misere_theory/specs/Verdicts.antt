@@ -30,7 +30,8 @@ HasFault c Apart = ApartFault c
 
 -- The fault is in the certificate, and none with a smaller number is.
 abbrev pub IsFirstFault : Certificate → Fault → Type 0
-IsFirstFault c fault = HasFault c fault × ((other : Fault) → fault_number other < fault_number fault → HasFault c other → ⊥)
+IsFirstFault c fault =
+    HasFault c fault × ((other : Fault) → fault_number other < fault_number fault → HasFault c other → ⊥)
 
 -- The answers to a certificate whose text could be read: yes, a fault in its numbers, a position where the rule fails,
 -- or too many transition pairs.
@@ -45,5 +46,7 @@ pub data Verdict : Type 0 where
 abbrev pub IsAllowed : Certificate → ℕ → Verdict → Type 0
 IsAllowed c limit Yes = Accepted c
 IsAllowed c limit (No fault) = IsFirstFault c fault
-IsAllowed c limit (Outcome X) = Monoid c.order (times_of c) × Canonical c × IsPosition IsHeap X × RuleFails c.code (claim_of c) X
-IsAllowed c limit Limit = Monoid c.order (times_of c) × Canonical c × ReachesMoreThan IsHeap c.code (claim_of c) limit
+IsAllowed c limit (Outcome X) =
+    Monoid c.order (times_of c) × Canonical c × IsPosition IsHeap X × RuleFails c.code (claim_of c) X
+IsAllowed c limit Limit =
+    Monoid c.order (times_of c) × Canonical c × ReachesMoreThan IsHeap c.code (claim_of c) limit

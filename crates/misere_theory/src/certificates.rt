@@ -15,7 +15,8 @@ pub fn tested_tables_are_monoids()
         → InRanges c
         → ((x : ℕ) → x < c.order → times_of c 0 x ≡ x)
         → ((x y : ℕ) → x < c.order → y < c.order → times_of c x y ≡ times_of c y x)
-        → ((x y z : ℕ) → x < c.order → y < c.order → z < c.order → times_of c (times_of c x y) z ≡ times_of c x (times_of c y z))
+        → ((x y z : ℕ) → x < c.order → y < c.order → z < c.order
+        → times_of c (times_of c x y) z ≡ times_of c x (times_of c y z))
         → Monoid c.order (times_of c) }
 {}
 
@@ -36,8 +37,15 @@ pub fn faultless_certificates_are_canonical()
 
 /// A certificate in its ranges has no fault exactly where it is canonical and its table a commutative monoid.
 pub fn faultless_certificates_are_canonical_monoids()
-    ensures both { (c : Certificate) → InRanges c → ((fault : Fault) → HasFault c fault → ⊥) → Monoid c.order (times_of c) × Canonical c }
-    ensures none { (c : Certificate) → InRanges c → Monoid c.order (times_of c) → Canonical c → (fault : Fault) → HasFault c fault → ⊥ }
+    ensures both { (c : Certificate)
+        → InRanges c
+        → ((fault : Fault) → HasFault c fault → ⊥)
+        → Monoid c.order (times_of c) × Canonical c }
+    ensures none { (c : Certificate)
+        → InRanges c
+        → Monoid c.order (times_of c)
+        → Canonical c
+        → (fault : Fault) → HasFault c fault → ⊥ }
 {}
 
 /// The position that an element's keys spell has the element as its value, and each element's keys spell one.
@@ -75,7 +83,8 @@ pub fn tested_certificates_are_accepted()
 /// A canonical certificate of a monoid is accepted exactly where the rule fails at no position; so it is accepted, or the rule fails at
 /// a position.
 pub fn accepted_certificates_obey_the_rule()
-    ensures obeys { (c : Certificate) → Accepted c → (X : List ℕ) → IsPosition IsHeap X → RuleFails c.code (claim_of c) X → ⊥ }
+    ensures obeys { (c : Certificate) → Accepted c
+        → (X : List ℕ) → IsPosition IsHeap X → RuleFails c.code (claim_of c) X → ⊥ }
     ensures accepted { (c : Certificate)
         → InRanges c
         → Monoid c.order (times_of c)
@@ -92,7 +101,10 @@ pub fn accepted_certificates_obey_the_rule()
 /// Accepted certificates get yes or Limit; canonical ones of a monoid that isn't the quotient Outcome or Limit;
 /// a certificate with a fault its first fault alone; and no certificate gets Limit where the limit is order * 2 ^ order or more.
 pub fn true_answers_are_few()
-    ensures accepted { (c : Certificate) (limit : ℕ) (answer : Verdict) → Accepted c → IsAllowed c limit answer → (answer ≡ Yes) ⊎ (answer ≡ Limit) }
+    ensures accepted { (c : Certificate) (limit : ℕ) (answer : Verdict)
+        → Accepted c
+        → IsAllowed c limit answer
+        → (answer ≡ Yes) ⊎ (answer ≡ Limit) }
     ensures wrong { (c : Certificate) (limit : ℕ) (answer : Verdict)
         → InRanges c
         → Monoid c.order (times_of c)
@@ -105,7 +117,10 @@ pub fn true_answers_are_few()
         → IsAllowed c limit (No fault)
         → IsAllowed c other answer
         → answer ≡ No fault }
-    ensures within { (c : Certificate) (limit : ℕ) → InRanges c → c.order * 2 ^ c.order ≤ limit → IsAllowed c limit Limit → ⊥ }
+    ensures within { (c : Certificate) (limit : ℕ)
+        → InRanges c
+        → c.order * 2 ^ c.order ≤ limit
+        → IsAllowed c limit Limit → ⊥ }
 {}
 
 /// A code has one accepted certificate at most.

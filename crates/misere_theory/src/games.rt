@@ -27,12 +27,14 @@ pub fn order_does_not_matter()
 
 /// A move of a heap to what is left of it leads to one position, whatever the order of its heaps.
 pub fn heap_moves_lead_to_one_position()
-    ensures { (code X : List ℕ) (n : ℕ) (H Y Z : List ℕ) → HeapMove code X n H Y → HeapMove code X n H Z → IsPermutation Y Z }
+    ensures { (code X : List ℕ) (n : ℕ) (H Y Z : List ℕ)
+        → HeapMove code X n H Y → HeapMove code X n H Z → IsPermutation Y Z }
 {}
 
 /// A move of a sum is a move of one part.
 pub fn sums_move_in_one_part()
-    ensures parts { (code X Y Z : List ℕ) → Move code (X ++ Y) Z → ((U : List ℕ) × Move code X U × (Z ≡ U ++ Y)) ⊎ ((U : List ℕ) × Move code Y U × (Z ≡ X ++ U)) }
+    ensures parts { (code X Y Z : List ℕ) → Move code (X ++ Y) Z
+        → ((U : List ℕ) × Move code X U × (Z ≡ U ++ Y)) ⊎ ((U : List ℕ) × Move code Y U × (Z ≡ X ++ U)) }
     ensures left { (code X U Y : List ℕ) → Move code X U → Move code (X ++ Y) (U ++ Y) }
     ensures right { (code X Y U : List ℕ) → Move code Y U → Move code (X ++ Y) (X ++ U) }
 {}

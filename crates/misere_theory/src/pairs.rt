@@ -39,7 +39,8 @@ pub fn small_parts_are_enough()
         → IsPeriodic code c k start period
         → (n : ℕ) (H : List ℕ) → HeapOption code n H
         → IsNonDecreasing H
-        → (L : List ℕ) × HeapOption code n L × IsSmallSplit (start + period) L × (value c L ≡ value c H) × ((L ≡ H) ⊎ LeftBefore L H) }
+        → (L : List ℕ) × HeapOption code n L × IsSmallSplit (start + period) L
+        × (value c L ≡ value c H) × ((L ≡ H) ⊎ LeftBefore L H) }
 {}
 
 /// A closed list of kept pairs over the heaps 1 to B covers the pair of every position.
@@ -106,7 +107,8 @@ pub fn rule_holds_or_fails_somewhere()
         → Monoid c.order c.times
         → ((n : ℕ) → IsHeap n → c.phi n < c.order)
         → IsPeriodic code c k start period
-        → ((X : List ℕ) → IsPosition IsHeap X → RuleHolds code c X) ⊎ ((X : List ℕ) × IsPosition IsHeap X × RuleFails code c X) }
+        → ((X : List ℕ) → IsPosition IsHeap X → RuleHolds code c X)
+        ⊎ ((X : List ℕ) × IsPosition IsHeap X × RuleFails code c X) }
 {}
 
 /// Different pairs, each exactly that of a position, show that positions have more than any smaller number of pairs.

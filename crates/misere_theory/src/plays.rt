@@ -13,8 +13,10 @@ pub fn moves_reach_positions()
 
 /// An N-position with a move has one first winning move, and a P-position has no winning move.
 pub fn first_wins_are_settled()
-    ensures some { (code X : List ℕ) → IsN code X → ((Y : List ℕ) → Move code X Y → ⊥) ⊎ ((n : ℕ) × (H : List ℕ) × IsFirstWin code X n H) }
-    ensures one { (code X : List ℕ) (n m : ℕ) (H L : List ℕ) → IsFirstWin code X n H → IsFirstWin code X m L → (n ≡ m) × (H ≡ L) }
+    ensures some { (code X : List ℕ) → IsN code X
+        → ((Y : List ℕ) → Move code X Y → ⊥) ⊎ ((n : ℕ) × (H : List ℕ) × IsFirstWin code X n H) }
+    ensures one { (code X : List ℕ) (n m : ℕ) (H L : List ℕ)
+        → IsFirstWin code X n H → IsFirstWin code X m L → (n ≡ m) × (H ≡ L) }
     ensures only_there { (code X : List ℕ) (n : ℕ) (H : List ℕ) → IsWinningMove code X n H → IsN code X }
 {}
 

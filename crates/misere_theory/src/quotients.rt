@@ -16,8 +16,12 @@ pub fn laws_fail_or_hold()
 
 /// The portion predicts every outcome exactly where it obeys the local rule at every position.
 pub fn rule_predicts()
-    ensures rule { (code : List ℕ) (c : Claim) → ((X : List ℕ) → IsPosition IsHeap X → RuleHolds code c X) → (X : List ℕ) → IsPosition IsHeap X → IsP code X ↔ (c.portion (value c X) ≡ true) }
-    ensures back { (code : List ℕ) (c : Claim) → ((X : List ℕ) → IsPosition IsHeap X → IsP code X ↔ (c.portion (value c X) ≡ true)) → (X : List ℕ) → IsPosition IsHeap X → RuleHolds code c X }
+    ensures rule { (code : List ℕ) (c : Claim)
+        → ((X : List ℕ) → IsPosition IsHeap X → RuleHolds code c X)
+        → (X : List ℕ) → IsPosition IsHeap X → IsP code X ↔ (c.portion (value c X) ≡ true) }
+    ensures back { (code : List ℕ) (c : Claim)
+        → ((X : List ℕ) → IsPosition IsHeap X → IsP code X ↔ (c.portion (value c X) ≡ true))
+        → (X : List ℕ) → IsPosition IsHeap X → RuleHolds code c X }
     ensures decided { (code : List ℕ) (c : Claim) (X : List ℕ) → RuleHolds code c X ⊎ RuleFails code c X }
     ensures fails { (code : List ℕ) (c : Claim) (X : List ℕ) → RuleHolds code c X → RuleFails code c X → ⊥ }
 {}
