@@ -8,6 +8,7 @@ use Rattle.misere_theory.specs.Games.{IsHeap, IsHeapUpTo, IsPosition}
 use Rattle.misere_theory.specs.Games.Move.{Here, There}
 use Rattle.misere_theory.specs.Quotients.{Claim, Monoid, value, OptionValue, SamePair, RuleHolds, RuleFails, ReachesMoreThan}
 use Rattle.misere_theory.specs.Pairs.{IsPeriodic, SameHeapPair, heap_bound}
+use Rattle.misere_theory.proofs.Basics.{either_way}
 use Rattle.misere_theory.proofs.Sums.{first_or_rest, value-append, heaps_kept, IsPosition-append}
 use Rattle.misere_theory.proofs.Outcomes.{some_or_all_below}
 use Rattle.misere_theory.proofs.Bound.{heap_shown}
@@ -177,14 +178,10 @@ module _ (code : List ℕ) (c : Claim) (m : Monoid c.order c.times) (phi_in : (n
 
     -- so the rule holds everywhere, or fails somewhere
     pub holds_or_fails : ((X : List ℕ) → IsPosition IsHeap X → RuleHolds code c X) ⊎ ((X : List ℕ) × IsPosition IsHeap X × RuleFails code c X)
-    holds_or_fails = elim (some_or_all_words (heap_bound k start period) (c.order * 2 ^ c.order) (RuleFails code c) (RuleHolds code c) (λ X. other (rule_decided code c X))) [
+    holds_or_fails = elim (some_or_all_words (heap_bound k start period) (c.order * 2 ^ c.order) (RuleFails code c) (RuleHolds code c) (λ X. either_way (rule_decided code c X))) [
       | inl (X, p, f) ↦ inr (X, up_to_is_heap (heap_bound k start period) X p, f)
       | inr all ↦ inl (λ X p.
           let (Y, q, s) = bounded X p in
           let (Z, r, l, u) = shorter (heap_bound k start period) (suc (length Y)) Y (omega arith) q in
           rule_of_pair code c Z X (pair-sym code c X Z (pair-trans code c X Y Z s u)) (all Z r l))
     ]
-      where
-        other : {A B : Type 0} → A ⊎ B → B ⊎ A
-        other (inl a) = inr a
-        other (inr b) = inl b

@@ -7,6 +7,7 @@ use Rattle.misere_theory.specs.Numbering.{KeyBelow}
 use Rattle.misere_theory.specs.Quotients.{Claim}
 use Rattle.misere_theory.specs.Certificates.{Certificate, phi_at, times_of, claim_of, key_of, InRanges, Canonical, pairs_from, TellsApart, LeastApart}
 use Rattle.misere_theory.specs.Faults.{WordFault, OrderFault, PeriodFault, ApartFault}
+use Rattle.misere_theory.proofs.Basics.{either_way}
 use Rattle.misere_theory.proofs.Outcomes.{some_or_all_below}
 use Rattle.misere_theory.proofs.Unique.{KeyBelow-trans}
 use Rattle.misere_theory.proofs.Written.{periodic}
@@ -36,16 +37,12 @@ least_apart_dec c p z =
       | no f ↦ no (λ h. f h.0)
       | yes l ↦ elim (same_or_not (c.portion (c.times p.0 z)) (c.portion (c.times p.1 z))) [
         | inl e ↦ no (λ h. h.1 e)
-        | inr t ↦ elim (some_or_all_below (TellsApart c p) (λ w. c.portion (c.times p.0 w) ≡ c.portion (c.times p.1 w)) (λ w. other (same_or_not _ _)) z) [
+        | inr t ↦ elim (some_or_all_below (TellsApart c p) (λ w. c.portion (c.times p.0 w) ≡ c.portion (c.times p.1 w)) (λ w. either_way (same_or_not _ _)) z) [
           | inl (w, b, u) ↦ no (λ h. h.2 w b u)
           | inr all ↦ yes (l, t, λ w b u. u (all w b))
         ]
       ]
     ]
-  where
-    other : {A B : Type 0} → A ⊎ B → B ⊎ A
-    other (inl a) = inr a
-    other (inr b) = inl b
 
 zip_from_places : {A : Type 0} (R : A → ℕ → Type 0) (d : A) (ps : List A) (zs : List ℕ) → length zs ≡ length ps → ((i : ℕ) → i < length ps → R (get_or ps i d) (get_or zs i 0)) → AllZip R ps zs
 zip_from_places R d [] [] e h = tt

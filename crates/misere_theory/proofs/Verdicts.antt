@@ -1,12 +1,12 @@
 -- What each answer to a certificate says of the others, and of a certificate that is accepted or isn't.
 use Rattle.std.proofs.Common.{◌≡◌, ℕ, ◌*◌, ◌^◌, ◌<◌, ◌≤◌, ◌⊎◌, List, length, ◌-◌, refl, ap, inl, inr, arith}
-use native.Mathlib.Decide.{dec_lt}
 use Rattle.misere_theory.specs.Games.{IsHeap, IsPosition}
 use Rattle.misere_theory.specs.Quotients.{Monoid, Represents, RuleFails}
 use Rattle.misere_theory.specs.Certificates.{Certificate, claim_of, times_of, InRanges, Canonical, Accepted}
 use Rattle.misere_theory.specs.Verdicts.{Fault, fault_number, HasFault, Verdict, IsAllowed}
 use Rattle.misere_theory.specs.Verdicts.Fault.{Law, Word, Order, Period, Apart}
 use Rattle.misere_theory.specs.Verdicts.Verdict.{Yes, No, Outcome, Limit}
+use Rattle.misere_theory.proofs.Basics.{neither_smaller}
 use Rattle.misere_theory.proofs.Sums.{heaps_kept}
 use Rattle.misere_theory.proofs.Rules.{predicts_from_rule, rule_from_predicts, rule_decided, rule_not_both, represents}
 use Rattle.misere_theory.proofs.Written.{phi_in, periodic, reached, all_apart}
@@ -97,15 +97,12 @@ never_past_all_pairs c r limit l h =
     let b = reach_bound IsHeap c.code (heaps_kept c.code) (claim_of c) h.0 (λ n _. phi_in c r n) limit h.2 in
     omega arith
 
-even : (m n : ℕ) → (m < n → ⊥) → (n < m → ⊥) → m ≡ n
-even m n f g = elim (dec_lt m n) [ yes l ↦ absurd (f l) | no h ↦ elim (dec_lt n m) [ yes l ↦ absurd (g l) | no k ↦ omega arith ] ]
-
 -- a certificate with a fault has one first fault, and no other answer
 pub fault_alone : (c : Certificate) → InRanges c → (fault : Fault) (limit other : ℕ) (v : Verdict) → IsAllowed c limit (No fault) → IsAllowed c other v → v ≡ No fault
 fault_alone c r fault limit other Yes h a = absurd (no_fault c r a.represents.monoid a.canonical fault h.0)
 fault_alone c r fault limit other (No found) h a =
     let not_less : fault_number found < fault_number fault → ⊥ = λ l. h.1 found l a.0 in
     let not_more : fault_number fault < fault_number found → ⊥ = λ l. a.1 fault l h.0 in
-    ap No (same_number found fault (even (fault_number found) (fault_number fault) not_less not_more))
+    ap No (same_number found fault (neither_smaller (fault_number found) (fault_number fault) not_less not_more))
 fault_alone c r fault limit other (Outcome X) h a = absurd (no_fault c r a.0 a.1 fault h.0)
 fault_alone c r fault limit other Limit h a = absurd (no_fault c r a.0 a.1 fault h.0)

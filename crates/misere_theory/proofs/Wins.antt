@@ -10,6 +10,7 @@ use Rattle.misere_theory.specs.Games.IsP.{AllLose}
 use Rattle.misere_theory.specs.Games.IsN.{Ended, Wins}
 use Rattle.misere_theory.specs.Plays.{LeftBefore, IsWinningMove, IsFirstWin, IsHanded, Keeps}
 use Rattle.misere_theory.specs.Plays.IsHanded.{AtOnce, Later}
+use Rattle.misere_theory.proofs.Basics.{neither_smaller}
 use Rattle.misere_theory.proofs.Outcomes.{determined, not_both, some_or_all_below, some_or_all_options}
 use Rattle.misere_theory.proofs.Shuffles.{Shuffled, back, from_permutation, to_permutation, move_shuffled, p_shuffled, one_heap_moves}
 use Rattle.misere_theory.proofs.Shuffles.Shuffled.{Same, Flip, Then}
@@ -181,18 +182,15 @@ same_left (a ∷ b ∷ c ∷ H) (d ∷ e ∷ L) o i p f g = absurd (no_three o)
     no_three o = elim o [ ]
 same_left (a ∷ b ∷ []) (d ∷ e ∷ c ∷ L) o i p f g = absurd (omega arith)
 
-even : (m n : ℕ) → (m < n → ⊥) → (n < m → ⊥) → m ≡ n
-even m n f g = elim (dec_lt m n) [ yes l ↦ absurd (f l) | no h ↦ elim (dec_lt n m) [ yes l ↦ absurd (g l) | no k ↦ omega arith ] ]
-
 -- there is one first winning move
 pub first_win_once : (code X : List ℕ) (n m : ℕ) (H L : List ℕ) → IsFirstWin code X n H → IsFirstWin code X m L → (n ≡ m) × (H ≡ L)
 first_win_once code X n m H L a b =
-    let e : n ≡ m = even n m (λ l. b.1 n H a.0 (inl l)) (λ l. a.1 m L b.0 (inl l)) in
+    let e : n ≡ m = neither_smaller n m (λ l. b.1 n H a.0 (inl l)) (λ l. a.1 m L b.0 (inl l)) in
     let earlier : LeftBefore H L → ⊥ = λ l. b.1 n H a.0 (inr (e, l)) in
     let later : LeftBefore L H → ⊥ = λ l. a.1 m L b.0 (inr (sym e, l)) in
-    let s : sum H ≡ sum L = even (sum H) (sum L) (λ l. later (inl l)) (λ l. earlier (inl l)) in
-    let k : length H ≡ length L = even (length H) (length L) (λ l. earlier (inr (s, inl l))) (λ l. later (inr (sym s, inl l))) in
-    let f : get_or H 0 0 ≡ get_or L 0 0 = even (get_or H 0 0) (get_or L 0 0) (λ l. earlier (inr (s, inr (k, l)))) (λ l. later (inr (sym s, inr (sym k, l)))) in
+    let s : sum H ≡ sum L = neither_smaller (sum H) (sum L) (λ l. later (inl l)) (λ l. earlier (inl l)) in
+    let k : length H ≡ length L = neither_smaller (length H) (length L) (λ l. earlier (inr (s, inl l))) (λ l. later (inr (sym s, inl l))) in
+    let f : get_or H 0 0 ≡ get_or L 0 0 = neither_smaller (get_or H 0 0) (get_or L 0 0) (λ l. earlier (inr (s, inr (k, l)))) (λ l. later (inr (sym s, inr (sym k, l)))) in
     (e, same_left H L a.0.1.1.allowed (subst (λ i. HeapOption code i L) (sym e) b.0.1.1.allowed) s k f)
 
 -- where a move wins the position is no P-position
