@@ -1,0 +1,120 @@
+ghost use Rattle.std.specs.Prelude.{◌≡◌, ◌≤◌};
+ghost use Rattle.std.specs.List.{concat};
+ghost use Rattle.misere_theory.specs.Certificates.{InRanges};
+ghost use Rattle.certificate.specs.Pieces.{IsWhole, certificate_of, pretending_of};
+
+use crate::key::Key;
+use crate::parts::Parts;
+use octal_code::Code;
+use std::alloc::{Allocator, Global};
+use std::marker::Model;
+use transition_algebra::Phi;
+
+/// A certificate: each number lies in its range, and each line has as many as it should.
+#[derive(Drop)]
+pub struct Cert<A: Allocator = Global> {
+    parts: Parts<A>,
+}
+
+impl<A: Allocator> Model for Cert<A> {
+    ghost use Rattle.misere_theory.specs.Certificates.{Certificate};
+    ghost use Rattle.certificate.specs.Pieces.{certificate_of, IsWhole};
+
+    ghost Value = { Certificate };
+
+    ghost view = { λ c. certificate_of c.parts };
+
+    ghost invariant = { λ c. IsWhole c.parts };
+}
+
+impl<A: Allocator> Cert<A> {
+    /// The certificate with these parts.
+    pub fn from_parts(parts: Parts<A>) -> Cert<A>
+        requires { IsWhole parts }
+        ensures { result ≡ certificate_of parts }
+    {
+        Cert { parts }
+    }
+
+    /// The parts, without copying.
+    pub fn into_parts(self) -> Parts<A>
+        ensures whole { IsWhole result }
+        ensures same { certificate_of result ≡ self }
+    {
+        let Cert { parts } = self;
+        parts
+    }
+
+    /// The code of the game.
+    pub fn code(&self) -> &Code
+        ensures { result.now ≡ self.now.code }
+    {
+        &self.parts.code
+    }
+
+    /// How many elements the monoid has.
+    pub fn order(&self) -> u16
+        ensures value { result ≡ self.now.order }
+        ensures range { (2 ≤ result) × (result ≤ 256) }
+    {
+        self.parts.order
+    }
+
+    /// The heap from which on the elements of heaps repeat.
+    pub fn start(&self) -> u64
+        ensures value { result ≡ self.now.start }
+        ensures range { (1 ≤ result) × (result ≤ 1024) }
+    {
+        self.parts.phi.start()
+    }
+
+    /// After how many heaps they repeat.
+    pub fn period(&self) -> u64
+        ensures value { result ≡ self.now.period }
+        ensures range { (1 ≤ result) × (result ≤ 1024) }
+    {
+        self.parts.phi.period()
+    }
+
+    /// The element of each heap.
+    pub fn phi(&self) -> &Phi<A>
+        ensures { result.now ≡ pretending_of self.now }
+    {
+        &self.parts.phi
+    }
+
+    /// The elements of the P-portion, rising.
+    pub fn portion(&self) -> &[u16]
+        ensures { result.now ≡ self.now.portion }
+    {
+        &self.parts.portion
+    }
+
+    /// The keys of the elements from 1 on.
+    pub fn words(&self) -> &[Key]
+        ensures { result.now ≡ self.now.words }
+    {
+        &self.parts.words
+    }
+
+    /// The rows of the table, one behind the other: row x has the products of x with 0, 1, and so on.
+    pub fn rows(&self) -> &[u16]
+        ensures { result.now ≡ concat self.now.rows }
+    {
+        &self.parts.rows
+    }
+
+    /// For the pairs (0,1), (0,2), .., (1,2), .. the least element that takes just one of the two into the portion.
+    pub fn apart(&self) -> &[u16]
+        ensures { result.now ≡ self.now.apart }
+    {
+        &self.parts.apart
+    }
+}
+
+/// Each number of a certificate lies in its range.
+pub fn in_ranges<A: Allocator>(cert: &Cert<A>)
+    ensures { InRanges cert.now }
+{
+    let _ = &cert.parts;
+}

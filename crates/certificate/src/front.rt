@@ -1,0 +1,52 @@
+//! The lines up to the period.
+ghost use Rattle.std.specs.Prelude.{◌≡◌, ◌≤◌, ◌+◌, IfOk};
+ghost use Rattle.certificate.specs.Given.{Gives};
+ghost use Rattle.certificate_text.specs.Reading.{code_line_at, front_at};
+
+use crate::fault::TextFault;
+use crate::lines::field;
+use crate::reader::Reader;
+use octal_code::Code;
+
+/// What the lines up to the period hold.
+#[derive(Clone, Copy)]
+pub struct Front {
+    pub code: Code,
+    pub order: u16,
+    pub start: u16,
+    pub period: u16,
+}
+
+/// The code up to the end of its line.
+fn code_line(reader: &mut Reader<'_>) -> Result<Code, TextFault>
+    ensures { Gives (λ x. (x, reader.new)) result (code_line_at reader.old) }
+{
+    certificate_text::code_lines_are_codes();
+    let Some(line) = reader.line() else {
+        return Err(TextFault::Text);
+    };
+    match Code::read(line) {
+        Ok(code) => Ok(code),
+        Err(_) => Err(TextFault::Text),
+    }
+}
+
+/// The version, the code, the order, the start and the period.
+#[tactic(auto, unfolding(certificate_text::specs::Reading::front_at))]
+pub fn front_lines(reader: &mut Reader<'_>) -> Result<Front, TextFault>
+    ensures read { Gives (λ x. ((x.code, x.order, x.start, x.period), reader.new)) result (front_at reader.old) }
+    ensures order { IfOk result (λ x. (2 ≤ x.order) × (x.order ≤ 256)) }
+    ensures period { IfOk result (λ x. (1 ≤ x.start) × (1 ≤ x.period) × (x.start + x.period ≤ 1025)) }
+{
+    reader.fixed(b"mqc 1\ncode ")?;
+    let code = code_line(reader)?;
+    let order = field(reader, b"order", 2, 257)?;
+    let start = field(reader, b"start", 1, 1025)?;
+    let period = field(reader, b"period", 1, 1026 - start)?;
+    Ok(Front {
+        code,
+        order,
+        start,
+        period,
+    })
+}

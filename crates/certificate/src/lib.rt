@@ -1,0 +1,23 @@
+//! Certificates: what their lines hold, and how they are read from bytes and written to a sink.
+//!
+//! Which bytes spell which certificate is said in the crate certificate_text.
+#![tactic(auto)]
+
+mod cert;
+mod fault;
+mod front;
+mod key;
+mod keys;
+mod lines;
+mod numbers;
+mod parts;
+mod portion;
+mod reader;
+mod reading;
+
+pub use cert::{Cert, in_ranges};
+pub use fault::TextFault;
+pub use key::Key;
+pub use parts::Parts;
+pub use reading::read;
+pub use streams::{Sink, Source};
