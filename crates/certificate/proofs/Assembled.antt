@@ -1,7 +1,6 @@
 -- The lines read one after another are the certificate.
 use Rattle.std.proofs.Common.{◌≡◌, ℕ, ◌+◌, ◌-◌, ◌*◌, ◌/◌, List, Some, refl, codes}
 use Rattle.certificate_text.specs.Reading.{number_at, key_at, fixed_at, line_at, portion_at, rows_at, front_at, certificate_at}
-use Rattle.transition_algebra.specs.Pretending.{Pretending}
 use Rattle.certificate.specs.Pieces.{Pieces, certificate_of}
 
 abbrev pub pieces : List ℕ → ℕ → ℕ → ℕ → List ℕ → List ℕ → List (ℕ × ℕ) → List ℕ → List ℕ → Pieces

@@ -1,11 +1,11 @@
 -- Reading words one after the other, as a loop does.
-use Rattle.std.proofs.Common.{◌≡◌, ℕ, suc, zero, nat_lt, cond, true, false, ◌-◌, ◌+◌, ◌≤◌, ◌<◌, List, [], ◌∷◌, ◌++◌, Option, Some, None, Result, Ok, Err, refl, sym, ap, ◌∙◌, append_assoc, arith, codes}
+use Rattle.std.proofs.Common.{◌≡◌, ℕ, suc, nat_lt, true, false, ◌-◌, ◌+◌, ◌≤◌, ◌<◌, List, [], ◌∷◌, ◌++◌, Option, Some, None, refl, sym, ap, ◌∙◌, append_assoc, arith, codes}
 use Rattle.std.proofs.lemmas.List.{append-nil}
 use Rattle.std.proofs.lemmas.Option.{some_pair_parts}
 use Rattle.certificate.specs.declared.fault.TextFault.{TextFault}
 use Rattle.certificate.specs.declared.fault.TextFault.TheVariants.{Text, Memory}
 use Rattle.certificate.specs.Given.{Fails}
-use Rattle.certificate_text.specs.Reading.{◌>>=◌, with_front, otherwise, fixed_at, number_at, words_at, rising_at, line_at, rows_at}
+use Rattle.certificate_text.specs.Reading.{◌>>=◌, with_front, fixed_at, number_at, words_at, rising_at, line_at, rows_at}
 use Rattle.std.proofs.lemmas.Bool.{lt-ltb, le-ltb}
 
 pub regroup : {X : Type 0} (front : List X) (x : X) (read : Option (List X × List ℕ)) → with_front front (read >>= λ y. Some (x ∷ y.0, y.1)) ≡ with_front (front ++ x ∷ []) read

@@ -76,12 +76,7 @@ pub fn rows<A: Allocator>(
 
 /// A line of one number, from `least` up to below the limit.
 #[tactic(auto, unfolding(certificate_text::specs::Reading::field_at))]
-pub fn field(
-    reader: &mut Reader<'_>,
-    name: &[u8],
-    least: u16,
-    limit: u16,
-) -> Result<u16, TextFault>
+pub fn field(reader: &mut Reader<'_>, name: &[u8], least: u16, limit: u16) -> Result<u16, TextFault>
     requires { 0 < limit }
     ensures read { Gives (λ x. (x, reader.new)) result (field_at name.now least limit reader.old) }
     ensures range { IfOk result (λ x. (least ≤ x) × (x < limit)) }

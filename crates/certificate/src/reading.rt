@@ -18,10 +18,7 @@ use transition_algebra::Phi;
 
 /// The certificate that stands in front.
 #[tactic(auto, unfolding(certificate_text::specs::Reading::certificate_at))]
-fn certificate<A: Allocator + Copy>(
-    alloc: A,
-    reader: &mut Reader<'_>,
-) -> Result<Cert<A>, TextFault>
+fn certificate<A: Allocator + Copy>(alloc: A, reader: &mut Reader<'_>) -> Result<Cert<A>, TextFault>
     ensures { Gives (λ x. (x, reader.new)) result (certificate_at reader.old) }
 {
     certificate_text::reading_is_spelling();

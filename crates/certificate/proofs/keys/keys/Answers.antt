@@ -1,6 +1,5 @@
-use Rattle.std.proofs.Common.{◌≡◌, ◌++◌, ◌∷◌, [], ◌≤◌, ◌+◌, arith, rules}
 use Rattle.std.proofs.lemmas.Result.{err_from_is_err_and}
-use Rattle.certificate_text.specs.Reading.{with_front, words_at, key_at}
+use Rattle.certificate_text.specs.Reading.{key_at}
 use Rattle.certificate.proofs.Loop.{goes_on, no_space, no_word, is_done}
 use Rattle.certificate.proofs.keys.keys.Goals as goal
 

@@ -1,4 +1,3 @@
-use Rattle.std.proofs.Common.{◌≡◌, ◌++◌, ◌∷◌, [], ◌≤◌, ◌+◌, arith, rules}
 use Rattle.std.proofs.lemmas.Result.{err_from_is_err_and}
 use Rattle.certificate_text.specs.Reading.{number_at}
 use Rattle.certificate.proofs.Loop.{line_has_no_name, line_has_no_words, line_has_no_end, line_is_done}

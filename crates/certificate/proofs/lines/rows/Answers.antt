@@ -1,4 +1,3 @@
-use Rattle.std.proofs.Common.{◌≡◌, ◌++◌, ◌∷◌, [], ◌≤◌, ◌+◌, arith, rules}
 use Rattle.std.proofs.lemmas.Result.{err_from_is_err_and}
 use Rattle.certificate.proofs.Loop.{rows_fail, rows_go_on, rows_are_done}
 use Rattle.certificate.proofs.lines.rows.Goals as goal

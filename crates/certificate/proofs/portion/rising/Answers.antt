@@ -1,6 +1,5 @@
-use Rattle.std.proofs.Common.{◌≡◌, ◌++◌, ◌∷◌, [], ◌≤◌, ◌+◌, arith, rules, List, ℕ, Some, sym, ap, ◌∙◌}
+use Rattle.std.proofs.Common.{arith, List, ℕ, Some, sym, ap, ◌∙◌}
 use Rattle.std.proofs.lemmas.Result.{err_from_is_err_and}
-use Rattle.certificate_text.specs.Reading.{rising_at, number_at}
 use Rattle.certificate.proofs.Loop.{rising_stops, rising_fails, rising_falls, rising_goes_on, rising_is_done}
 use Rattle.certificate.proofs.portion.rising.Goals as goal
 

@@ -1,4 +1,4 @@
-use Rattle.std.proofs.Common.{◌≡◌, ◌≤◌, ◌<◌, ◌^◌, sym, subst, arith}
+use Rattle.std.proofs.Common.{◌≤◌, ◌<◌, ◌^◌, sym, subst, arith}
 use Rattle.misere_theory.specs.Certificates.{InRanges}
 use Rattle.transition_algebra.specs.Pretending.{Pretending}
 use Rattle.certificate.specs.Pieces.{certificate_of}
@@ -24,8 +24,8 @@ from_parts-requires g c =
     let small : c.in_ok-code.field-0.order ≤ 2 ^ 16 = omega (arith, r.order.1) in
     record {
       in_ranges =
-      subst (λ (f : Pretending). InRanges (certificate_of (record { code = c.in_ok-code.field-0.code; order = c.in_ok-code.field-0.order; phi = f; portion = c.in_ok-portion.portion.items; words = c.in_ok-words.words.items; rows = c.in_ok-rows.rows.items; apart = c.in_ok-apart.apart.items })))
-      (sym c.new-phi.ensures) r;
+          subst (λ (f : Pretending). InRanges (certificate_of (record { code = c.in_ok-code.field-0.code; order = c.in_ok-code.field-0.order; phi = f; portion = c.in_ok-portion.portion.items; words = c.in_ok-words.words.items; rows = c.in_ok-rows.rows.items; apart = c.in_ok-apart.apart.items })))
+          (sym c.new-phi.ensures) r;
       rows_long = c.rows_lie_flat.ensures.count c.in_ok-code.field-0.order c.in_ok-code.field-0.order _ _ _ low small c.in_ok-rows.ensures;
       rows_joined = c.rows_lie_flat.ensures.whole c.in_ok-code.field-0.order c.in_ok-code.field-0.order _ _ _ low small c.in_ok-rows.ensures;
     }

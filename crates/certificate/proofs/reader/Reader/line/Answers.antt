@@ -1,4 +1,4 @@
-use Rattle.std.proofs.Common.{rules, ◌≡◌, ◌≢◌, ◌==◌, ◌<◌, ◌≤◌, ◌++◌, ◌∷◌, ◌+◌, ◌-◌, suc, All, Some, None, [], List, ℕ, position, length, take, drop, refl, sym, ap, ◌∙◌, subst, arith}
+use Rattle.std.proofs.Common.{rules, ◌++◌, ◌∷◌, All, List, ℕ, take, sym, ap, ◌∙◌, subst}
 use Rattle.certificate.proofs.FirstLine.{cut_at, no_lf, IsNoLf, whole_drop}
 use Rattle.certificate.proofs.reader.Reader.line.Goals as goal
 
