@@ -1,0 +1,13 @@
+pub mod Lists
+pub mod CoverLaws
+pub mod PairLaws
+pub mod ChainLaws
+pub mod Invariant
+pub mod Theorem
+pub mod Machine
+pub mod PendingLaws
+pub mod Running
+pub mod Turned
+pub mod Positions
+pub mod Words
+pub mod Bound

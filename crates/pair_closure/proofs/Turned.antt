@@ -1,0 +1,106 @@
+-- What each kind of turn reads, and what it leaves.
+use Rattle.std.proofs.Common.{◌≡◌, ℕ, ◌+◌, ◌<◌, ◌≤◌, Bool, true, false, cond, List, [], length, get_or, set, refl, sym, ap, ◌∙◌, subst, inl, inr, arith}
+use Rattle.transition_algebra.specs.declared.pair.Pair.{Pair}
+use Rattle.transition_algebra.specs.Pairs.{IsPair, one, times}
+use Rattle.transition_algebra.specs.PairLaws.{pair_laws}
+use Rattle.pair_closure.specs.declared.members.Member.{Member}
+use Rattle.pair_closure.specs.declared.closure.Held.{Held}
+use Rattle.pair_closure.specs.declared.closure.Generator.{Generator}
+use Rattle.pair_closure.specs.Turns.{State}
+use Rattle.pair_closure.specs.Progress.{Progress, turn, covered, members_with, held_with, generators_with, blank_held, blank_generator, NoneBefore, IsRun, KeepsEmpty, Multiplies, TriesHeap}
+use Rattle.pair_closure.proofs.ChainLaws.{same_default}
+use Rattle.pair_closure.proofs.Machine.{Reached, of_run, held_in, generator_in, kept_by_turns, has_turns, none_before, first_turn, product_turn, heap_turn, with}
+use Rattle.pair_closure.proofs.Running.{next_run, goes_empty, goes_product, goes_heap}
+
+-- what a turn leaves: a run, and where to look next
+abbrev pub Next : Progress → List Member → List Held → List Generator → ℕ → ℕ → ℕ → Type 0
+Next p members held gens next spent from = IsRun (record { state = with p.state members held gens next; spent = spent; failed = p.failed }) × NoneBefore held (length gens) from
+
+pub read_by : (s : State) (at : ℕ) (m : Held) → Multiplies s at → m ≡ get_or s.held at m → m.by < length s.generators
+read_by s at m k e = subst (λ z. z.by < length s.generators) (sym e) (has_turns s.held (length s.generators) at m k.first k.within)
+
+pub read_held : (s : State) (at : ℕ) (m : Held) → Reached s → Multiplies s at → m ≡ get_or s.held at m → IsPair s.table.order m.pair
+read_held s at m r k e = subst (λ z. IsPair s.table.order z.pair) (sym e) (held_in s r at m k.within)
+
+pub read_generator : (s : State) (i : ℕ) (g : Generator) → Reached s → i < length s.generators → g ≡ get_or s.generators i g → IsPair s.table.order g.pair
+read_generator s i g r l e = subst (λ z. IsPair s.table.order z.pair) (sym e) (generator_in s r i g l)
+
+pub product_is_in : (s : State) (p q x : Pair) → Reached s → IsPair s.table.order p → IsPair s.table.order q → x ≡ times s.table p q → IsPair s.table.order x
+product_is_in s p q x r a b e = subst (IsPair s.table.order) (sym e) ((pair_laws s.table r.lawful).times_in p q a b)
+
+pub heap_is_in : (s : State) (x : Pair) → Reached s → s.next < length s.heaps → x ≡ get_or s.heaps s.next x → IsPair s.table.order x
+heap_is_in s x r l e = subst (IsPair s.table.order) (sym (e ∙ same_default s.heaps s.next x one l)) (r.heaps_in s.next l)
+
+-- a state with no members has nothing at all
+nothing : (s : State) → Reached s → KeepsEmpty s → (s.generators ≡ [])
+nothing s r k = elim (kept_by_turns s r) [
+  | inl e ↦ ap (λ z. z.generators) e
+  | inr v ↦ let none = k.none in let some = v.first.0 in absurd (omega arith)
+]
+
+pub empty_turned : (p : Progress) (members : List Member) (held : List Held) → KeepsEmpty p.state → members ≡ members_with p.state.members one 0 0 → held ≡ held_with p.state.held one 0 (length p.state.heaps)
+    → with p.state members held p.state.generators p.state.next ≡ turn p.state
+empty_turned p members held k a b = first_turn p.state members held k.room k.none a (b ∙ ap (λ n. held_with p.state.held one n (length p.state.heaps)) (sym k.none))
+
+pub empty_next : (p : Progress) (members : List Member) (held : List Held) (from : ℕ) → IsRun p → KeepsEmpty p.state → members ≡ members_with p.state.members one 0 0 → held ≡ held_with p.state.held one 0 (length p.state.heaps)
+    → Next p members held p.state.generators p.state.next (p.spent + 1) from
+empty_next p members held from r k a b =
+    let none : length p.state.generators ≡ 0 = ap length (nothing p.state (of_run p r) k) in
+    (next_run p _ _ r (goes_empty p.state k) (empty_turned p members held k a b) refl, λ i l h. omega arith)
+
+-- what a product's turn was given and what it wrote
+pub record Product (s : State) (members : List Member) (held : List Held) (at : ℕ) (m : Held) (g : Generator) (x : Pair) : Type 0 where
+  pub turns : Multiplies s at
+  pub member : m ≡ get_or s.held at m
+  pub generator : g ≡ get_or s.generators m.by g
+  pub product : x ≡ times s.table m.pair g.pair
+  pub members_are : members ≡ cond (covered s.held x) s.members (members_with s.members x m.place g.heap)
+  pub held_are : held ≡ cond (covered s.held x) (set s.held at (record { pair = m.pair; place = m.place; by = m.by + 1 })) (held_with (set s.held at (record { pair = m.pair; place = m.place; by = m.by + 1 })) x (length s.members) 0)
+
+pub product_turned : (s : State) (members : List Member) (held : List Held) (at : ℕ) (m : Held) (g : Generator) (x : Pair) → Product s members held at m g x → with s members held s.generators s.next ≡ turn s
+product_turned s members held at m g x w =
+    let k = w.turns in
+    let l = read_by s at m k w.member in
+    product_turn s members held at m g x (record { pair = m.pair; place = m.place; by = m.by + 1 }) k.room k.some k.first k.within (w.member ∙ same_default s.held at m blank_held k.within) (w.generator ∙ same_default s.generators m.by g blank_generator l) w.product refl w.members_are w.held_are
+
+pub product_next : (p : Progress) (members : List Member) (held : List Held) (at : ℕ) (m : Held) (g : Generator) (x : Pair) (anew : Bool) (from : ℕ) → IsRun p → Product p.state members held at m g x
+    → (anew ≡ false → (k : ℕ) → k < at → get_or held k blank_held ≡ get_or p.state.held k blank_held) → from ≡ cond anew 0 at
+    → Next p members held p.state.generators p.state.next (p.spent + 1) from
+product_next p members held at m g x anew from r w before e =
+    (next_run p _ _ r (goes_product p.state at w.turns) (product_turned p.state members held at m g x w) refl, none anew before e)
+  where
+    none : (b : Bool) → (b ≡ false → (k : ℕ) → k < at → get_or held k blank_held ≡ get_or p.state.held k blank_held) → from ≡ cond b 0 at → NoneBefore held (length p.state.generators) from
+    none true h e k l1 l2 = absurd (omega arith)
+    none false h e k l1 l2 =
+        let first = w.turns.first in
+        subst (λ z. length p.state.generators ≤ z.by) (sym (h refl k (omega arith))) (none_before p.state.held (length p.state.generators) k blank_held (omega arith))
+
+-- what a heap's turn was given and what it wrote
+pub record Tried (s : State) (members : List Member) (held : List Held) (gens : List Generator) (n : ℕ) (x : Pair) : Type 0 where
+  pub turns : TriesHeap s
+  pub heap : x ≡ get_or s.heaps s.next x
+  pub number : n ≡ s.next + 1
+  pub members_are : members ≡ cond (covered s.held x) s.members (members_with s.members x 0 n)
+  pub held_are : held ≡ cond (covered s.held x) s.held (held_with s.held x (length s.members) 0)
+  pub generators_are : gens ≡ cond (covered s.held x) s.generators (generators_with s.generators x n)
+
+pub heap_turned : (s : State) (members : List Member) (held : List Held) (gens : List Generator) (n : ℕ) (x : Pair) → Tried s members held gens n x → with s members held gens n ≡ turn s
+heap_turned s members held gens n x w =
+    let k = w.turns in
+    heap_turn s members held gens x n k.room k.some k.all k.more (w.heap ∙ same_default s.heaps s.next x one k.more) w.number w.members_are w.held_are w.generators_are
+
+pub heap_next : (p : Progress) (members : List Member) (held : List Held) (gens : List Generator) (n : ℕ) (x : Pair) (anew : Bool) (from : ℕ) → IsRun p → Tried p.state members held gens n x
+    → (anew ≡ false → covered p.state.held x ≡ true) → from ≡ cond anew 0 (length held) → Next p members held gens n (p.spent + 1) from
+heap_next p members held gens n x anew from r w kept e =
+    (next_run p _ _ r (goes_heap p.state w.turns) (heap_turned p.state members held gens n x w) refl, none anew kept e)
+  where
+    none : (b : Bool) → (b ≡ false → covered p.state.held x ≡ true) → from ≡ cond b 0 (length held) → NoneBefore held (length gens) from
+    none true h e k l1 l2 = absurd (omega arith)
+    none false h e k l1 l2 =
+        let c = h refl in
+        let same_held : held ≡ p.state.held = w.held_are ∙ ap (λ b. cond b p.state.held (held_with p.state.held x (length p.state.members) 0)) c in
+        let same_gens : gens ≡ p.state.generators = w.generators_are ∙ ap (λ b. cond b p.state.generators (generators_with p.state.generators x n)) c in
+        let all = w.turns.all in
+        let inside : k < length p.state.held = subst (λ z. k < length z) same_held l2 in
+        subst (λ z. length z ≤ (get_or held k blank_held).by) (sym same_gens) (subst (λ z. length p.state.generators ≤ (get_or z k blank_held).by) (sym same_held)
+        (none_before p.state.held (length p.state.generators) k blank_held (omega arith)))

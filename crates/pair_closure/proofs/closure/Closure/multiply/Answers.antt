@@ -1,0 +1,57 @@
+use Rattle.std.proofs.Common.{◌+◌, ◌<◌, ◌∙◌, sym, ap, subst, arith, rules, length}
+use Rattle.pair_closure.specs.Turns.{State}
+use Rattle.pair_closure.specs.Progress.{Multiplies, moved}
+use Rattle.pair_closure.proofs.Machine.{of_run, covers_alike, covered_none}
+use Rattle.pair_closure.proofs.Running.{spent_fits}
+use Rattle.pair_closure.proofs.Turned.{read_by, read_held, read_generator, product_is_in, product_next, product_turned}
+use Rattle.pair_closure.proofs.closure.Closure.multiply.Goals as goal
+
+pub index-requires-2 : goal.index-requires-2
+index-requires-2 g c = let l = read_by _ _ _ (subst (λ z. Multiplies z.state c.args.at) (sym c.self.view_is) c.requires) c.index.ensures in search rules
+
+pub times-product-requires-clause-x_in : goal.times-product-requires-clause-x_in
+times-product-requires-clause-x_in g c = read_held _ _ _ (of_run _ c.self.invariant.0) (subst (λ z. Multiplies z.state c.args.at) (sym c.self.view_is) c.requires) c.index.ensures
+
+pub times-product-requires-clause-y_in : goal.times-product-requires-clause-y_in
+times-product-requires-clause-y_in g c =
+    read_generator _ _ _ (of_run _ c.self.invariant.0) (read_by _ _ _ (subst (λ z. Multiplies z.state c.args.at) (sym c.self.view_is) c.requires) c.index.ensures) c.index-2.ensures
+
+pub overflow_add-multiplied : goal.overflow_add-multiplied
+overflow_add-multiplied g c =
+    let l : c.index.result.now.by < length c.self.inside.generators.items = read_by _ _ _ (subst (λ z. Multiplies z.state c.args.at) (sym c.self.view_is) c.requires) c.index.ensures in
+    search rules
+
+pub settle_product-requires-clause-covers : goal.settle_product-requires-clause-covers
+settle_product-requires-clause-covers g c =
+    let k = subst (λ z. Multiplies z.state c.args.at) (sym c.self.view_is) c.requires in
+    let r = of_run _ c.self.invariant.0 in
+    covers_alike _ r _ (product_is_in _ _ _ _ r (read_held _ _ _ r k c.index.ensures) (read_generator _ _ _ r (read_by _ _ _ k c.index.ensures) c.index-2.ensures) c.times-product.ensures)
+
+pub settle_product-requires-clause-covered : goal.settle_product-requires-clause-covered
+settle_product-requires-clause-covered g c = covered_none _ (of_run _ c.self.invariant.0) _
+
+pub overflow_add-self : goal.overflow_add-self
+overflow_add-self g c = let fits = spent_fits _ c.self.invariant.0 in omega arith
+
+pub invariant_of-self-2 : goal.invariant_of-self-2
+invariant_of-self-2 g c =
+    product_next _ _ _ c.args.at c.index.result.now c.index-2.result.now c.times-product.result c.in_ok-anew.anew _ c.self.invariant.0 (record {
+      turns = subst (λ z. Multiplies z.state c.args.at) (sym c.self.view_is) c.requires;
+      member = c.index.ensures;
+      generator = c.index-2.ensures;
+      product = c.times-product.ensures;
+      members_are = c.in_ok-anew.ensures.members;
+      held_are = c.in_ok-anew.ensures.held;
+    }) (λ e. c.in_ok-anew.ensures.before (search rules)) c.begin-self-inside.ensures
+
+pub returns-clause-ok : goal.returns-clause-ok
+returns-clause-ok g c =
+    ap (λ (t : State). record { state = t; spent = c.self.inside.spent + 1; failed = c.self.inside.failed }) (product_turned _ _ _ c.args.at c.index.result.now c.index-2.result.now c.times-product.result (record {
+      turns = subst (λ z. Multiplies z.state c.args.at) (sym c.self.view_is) c.requires;
+      member = c.index.ensures;
+      generator = c.index-2.ensures;
+      product = c.times-product.ensures;
+      members_are = c.in_ok-anew.ensures.members;
+      held_are = c.in_ok-anew.ensures.held;
+    }))
+    ∙ ap moved c.self.view_is

@@ -1,0 +1,5 @@
+pub mod Covering
+pub mod Chains
+pub mod Turns
+pub mod Progress
+pub mod Positions

@@ -1,0 +1,14 @@
+//! When a pair covers another.
+ghost use Rattle.std.specs.Prelude.{◌≡◌};
+ghost use Rattle.pair_closure.specs.Covering as covering;
+
+use transition_algebra::Pair;
+
+/// The same value, some of the options' values, and one at least where there is one.
+pub(crate) fn covers(x: &Pair, y: &Pair) -> bool
+    ensures { result ≡ covering.covers x.now y.now }
+{
+    x.value == y.value
+        && x.options.subset(&y.options)
+        && (y.options.is_empty() || !x.options.is_empty())
+}

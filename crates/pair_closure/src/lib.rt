@@ -1,0 +1,11 @@
+//! The minimal cover of the pairs of all positions.
+#![tactic(auto)]
+
+mod closure;
+mod covering;
+mod laws;
+mod members;
+
+pub use closure::{Closure, Generator, Grown, Held};
+pub use laws::{closures_end, closures_speak, units_add};
+pub use members::Member;
