@@ -41,6 +41,18 @@ pub record Represents (heap : ℕ → Type 0) (code : List ℕ) (c : Claim) : Ty
       → Indistinguishable heap code X Y ↔ (value c X ≡ value c Y)
   pub reached : (x : ℕ) → x < c.order → (X : List ℕ) × IsPosition heap X × (value c X ≡ x)
 
+-- The same quotient up to the numbering: f sends the elements of c one for one to those of d (g sends them back), and with them
+-- products, the heaps' elements and the portion. Isomorphic bipartite monoids: Plambeck and Siegel.
+pub record SameQuotient (heap : ℕ → Type 0) (c d : Claim) (f g : ℕ → ℕ) : Type 0 where
+  pub onto : (x : ℕ) → x < c.order → f x < d.order
+  pub back : (y : ℕ) → y < d.order → g y < c.order
+  pub there_and_back : (x : ℕ) → x < c.order → g (f x) ≡ x
+  pub back_and_there : (y : ℕ) → y < d.order → f (g y) ≡ y
+  pub identity : f 0 ≡ 0
+  pub products : (x y : ℕ) → x < c.order → y < c.order → f (c.times x y) ≡ d.times (f x) (f y)
+  pub heaps : (n : ℕ) → heap n → f (c.phi n) ≡ d.phi n
+  pub portion : (x : ℕ) → x < c.order → d.portion (f x) ≡ c.portion x
+
 -- Each two elements are told apart by one that takes only the one of them into the portion. A reduced monoid: Plambeck and Siegel.
 abbrev pub AllApart : Claim → Type 0
 AllApart c =

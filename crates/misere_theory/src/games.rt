@@ -1,7 +1,7 @@
 //! Laws of positions, moves and outcomes.
 
 ghost use Rattle.std.specs.Prelude.{◌≡◌, ◌⊎◌, ◌<◌, ◌++◌, List, ℕ, IsPermutation};
-ghost use Rattle.misere_theory.specs.Games.{Move, HeapMove, MultisetMove, IsP, IsN, IsHeap, IsPosition, measure};
+ghost use Rattle.misere_theory.specs.Games.{Move, HeapMove, MultisetMove, IsP, IsN, IsHeap, IsPosition, Indistinguishable, measure};
 ghost use Rattle.misere_theory.specs.Quotients.{Claim, Monoid, value};
 
 /// Each position has one outcome, a move leads to a position, and it lowers the measure.
@@ -37,4 +37,18 @@ pub fn sums_move_in_one_part()
         → ((U : List ℕ) × Move code X U × (Z ≡ U ++ Y)) ⊎ ((U : List ℕ) × Move code Y U × (Z ≡ X ++ U)) }
     ensures left { (code X U Y : List ℕ) → Move code X U → Move code (X ++ Y) (U ++ Y) }
     ensures right { (code X Y U : List ℕ) → Move code Y U → Move code (X ++ Y) (X ++ U) }
+{}
+
+/// Indistinguishability is an equivalence that sums respect, and the order of the parts of a sum does not matter to it.
+pub fn sums_respect_indistinguishability()
+    ensures itself { (code X : List ℕ) → Indistinguishable IsHeap code X X }
+    ensures turned { (code X Y : List ℕ) → Indistinguishable IsHeap code X Y → Indistinguishable IsHeap code Y X }
+    ensures onward { (code X Y Z : List ℕ) → Indistinguishable IsHeap code X Y → Indistinguishable IsHeap code Y Z → Indistinguishable IsHeap code X Z }
+    ensures sums { (code X U Y V : List ℕ)
+        → IsPosition IsHeap U
+        → IsPosition IsHeap Y
+        → Indistinguishable IsHeap code X U
+        → Indistinguishable IsHeap code Y V
+        → Indistinguishable IsHeap code (X ++ Y) (U ++ V) }
+    ensures parts { (code X Y : List ℕ) → Indistinguishable IsHeap code (X ++ Y) (Y ++ X) }
 {}

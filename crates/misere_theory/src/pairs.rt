@@ -67,6 +67,19 @@ pub fn closed_pairs_represent()
         → Represents IsHeap code c }
 {}
 
+/// The same tests over the heaps up to M make the claim the partial quotient of these heaps.
+pub fn closed_pairs_represent_partly()
+    ensures { (M : ℕ) (code : List ℕ) (c : Claim) (kept : List Pair)
+        → Monoid c.order c.times
+        → ((n : ℕ) → IsHeapUpTo M n → c.phi n < c.order)
+        → IsClosed code c (IsHeapUpTo M) kept
+        → KeptObey c kept
+        → ElementsObey code c (IsHeapUpTo M)
+        → ((x : ℕ) → x < c.order → (X : List ℕ) × IsPosition (IsHeapUpTo M) X × (value c X ≡ x))
+        → AllApart c
+        → Represents (IsHeapUpTo M) code c }
+{}
+
 /// Where a test of the closure fails, the rule fails at the position of the pair that was tested.
 pub fn failed_tests_show_positions()
     ensures outside { (code : List ℕ) (c : Claim) (p : Pair) (X : List ℕ)

@@ -2,7 +2,7 @@
 
 ghost use Rattle.std.specs.Prelude.{◌≡◌, ◌⊎◌, ◌↔◌, ◌<◌, List, ℕ, true};
 ghost use Rattle.misere_theory.specs.Games.{IsP, IsHeap, IsHeapUpTo, IsPosition};
-ghost use Rattle.misere_theory.specs.Quotients.{Claim, Monoid, LawFails, AllApart, Represents, RuleHolds, RuleFails, value};
+ghost use Rattle.misere_theory.specs.Quotients.{Claim, Monoid, LawFails, AllApart, Represents, SameQuotient, RuleHolds, RuleFails, value};
 
 /// A product that stays below the order is a commutative monoid exactly where no law fails.
 pub fn laws_fail_or_hold()
@@ -35,4 +35,12 @@ pub fn rule_represents_partly()
         → ((x : ℕ) → x < c.order → (X : List ℕ) × IsPosition (IsHeapUpTo M) X × (value c X ≡ x))
         → AllApart c
         → Represents (IsHeapUpTo M) code c }
+{}
+
+/// A game has one misère quotient, up to the numbering of its elements.
+pub fn quotients_are_unique()
+    ensures { (code : List ℕ) (c d : Claim)
+        → Represents IsHeap code c
+        → Represents IsHeap code d
+        → (f : ℕ → ℕ) × (g : ℕ → ℕ) × SameQuotient IsHeap c d f g }
 {}
