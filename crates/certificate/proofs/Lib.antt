@@ -1,3 +1,4 @@
 pub mod Assembled
 pub mod FirstLine
 pub mod Loop
+pub mod Rows

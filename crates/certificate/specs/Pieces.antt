@@ -3,6 +3,7 @@ use Rattle.std.specs.Prelude.{◌≡◌, ℕ, ◌*◌, List, length}
 use Rattle.std.specs.List.{concat}
 use Rattle.misere_theory.specs.Certificates.{Certificate, InRanges}
 use Rattle.certificate_text.specs.Reading.{rows_of}
+use Rattle.monoid_table.specs.Grids.{Grid}
 use Rattle.transition_algebra.specs.Pretending.{Pretending}
 
 pub record Pieces : Type 0 where
@@ -37,3 +38,7 @@ pub record IsWhole (p : Pieces) : Type 0 where
 -- the pretending function of a certificate
 abbrev pub pretending_of : Certificate → Pretending
 pretending_of c = record { start = c.start; period = c.period; entries = c.phi }
+
+-- the table of a certificate, its rows one behind the other
+abbrev pub grid_of : Certificate → Grid
+grid_of c = record { order = c.order; entries = concat c.rows }

@@ -1,0 +1,64 @@
+-- Rows as lists of their own, and one behind the other.
+use Rattle.std.proofs.Common.{◌≡◌, ◌<◌, ◌+◌, ◌*◌, ℕ, zero, suc, List, [], ◌∷◌, ◌++◌, length, get_or, All, refl, sym, ap, ap₂, ◌∙◌, subst, arith, length-append}
+use Rattle.std.proofs.Math.Nat.{suc-mul}
+use Rattle.std.specs.List.{AllByRecursion, concat}
+use Rattle.std.proofs.lemmas.List.{get_or_append_left, get_or-append-add}
+use Rattle.std.proofs.lemmas.List.Elements.{All-append, All-from_recursion, recursion_from_All}
+use Rattle.misere_theory.specs.Certificates.{Certificate, InRanges, claim_of}
+use Rattle.monoid_table.specs.Grids.{IsShaped}
+use Rattle.transition_algebra.specs.Heaps.{Agrees}
+use Rattle.transition_algebra.specs.Pretending.{IsPretending}
+use Rattle.certificate.specs.Pieces.{grid_of, pretending_of}
+
+abbrev IsRow : ℕ → List ℕ → Type 0
+IsRow order row = (length row ≡ order) × All (λ x. x < order) row
+
+one_row_more : (order x y : ℕ) → suc x * order + y ≡ order + (x * order + y)
+one_row_more order x y = ap (λ (k : ℕ). k + y) (suc-mul x order) ∙ omega arith
+
+no_row_before : (order y : ℕ) → 0 * order + y ≡ y
+no_row_before order y = omega arith
+
+-- entry y of row x
+pub entry_is : (order : ℕ) (rows : List (List ℕ)) (x y : ℕ) → AllByRecursion (IsRow order) rows → x < length rows → y < order
+    → get_or (get_or rows x []) y 0 ≡ get_or (concat rows) (x * order + y) 0
+entry_is order [] x y fits lx ly = absurd (omega arith)
+entry_is order (row ∷ rows) zero y fits lx ly =
+    sym (ap (λ (i : ℕ). get_or (row ++ concat rows) i 0) (no_row_before order y) ∙ get_or_append_left row (concat rows) 0 y (omega (arith, fits.0.0)))
+entry_is order (row ∷ rows) (suc x) y fits lx ly =
+    let place : suc x * order + y ≡ length row + (x * order + y) = one_row_more order x y ∙ ap (λ (k : ℕ). k + (x * order + y)) (sym fits.0.0) in
+    entry_is order rows x y fits.1 (omega arith) ly
+    ∙ sym (ap (λ (i : ℕ). get_or (row ++ concat rows) i 0) place ∙ get_or-append-add row (concat rows) (x * order + y) 0)
+
+length_is : (order : ℕ) (rows : List (List ℕ)) → AllByRecursion (IsRow order) rows → length (concat rows) ≡ length rows * order
+length_is order [] fits = omega arith
+length_is order (row ∷ rows) fits = length-append row (concat rows) ∙ ap₂ (λ (i j : ℕ). i + j) fits.0.0 (length_is order rows fits.1) ∙ sym (suc-mul (length rows) order ∙ omega arith)
+
+all_below : (order : ℕ) (rows : List (List ℕ)) → AllByRecursion (IsRow order) rows → All (λ x. x < order) (concat rows)
+all_below order [] fits = All-from_recursion (λ x. x < order) [] tt
+all_below order (row ∷ rows) fits = All-append (λ x. x < order) row (concat rows) fits.0.1 (all_below order rows fits.1)
+
+module _ (c : Certificate) (h : InRanges c) where
+  rows_fit : AllByRecursion (IsRow c.order) c.rows
+  rows_fit = recursion_from_All (IsRow c.order) c.rows h.rows.1
+
+  pub agrees : Agrees (claim_of c) (grid_of c) (pretending_of c)
+  agrees = record {
+    order_is = refl;
+    times_is = λ x y lx ly. entry_is c.order c.rows x y rows_fit (omega (arith, h.rows.0)) ly;
+    phi_is = λ n some. refl;
+  }
+
+  long : length (concat c.rows) ≡ c.order * c.order
+  long = length_is c.order c.rows rows_fit ∙ ap (λ (n : ℕ). n * c.order) h.rows.0
+
+  pub shaped : IsShaped c.order (concat c.rows)
+  shaped = record {
+    positive = omega (arith, h.order.0);
+    small = h.order.1;
+    length_is = long;
+    below = λ i lt. all_below c.order c.rows rows_fit i 0 (subst (λ (n : ℕ). i < n) (sym long) lt);
+  }
+
+  pub pretending : IsPretending (pretending_of c)
+  pretending = record { from_one = h.start.0; some = h.period.0; short = h.period.2; length_is = h.phi.0 }
