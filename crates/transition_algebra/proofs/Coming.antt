@@ -1,5 +1,5 @@
 -- The options to come, stage by stage.
-use Rattle.std.proofs.Common.{◌≡◌, ℕ, zero, suc, ◌+◌, ◌-◌, ◌/◌, ◌<◌, ◌≤◌, Bool, true, false, List, [], ◌∷◌, ◌++◌, length, get_or, min, refl, sym, ◌∙◌, ap, arith, append_assoc}
+use Rattle.std.proofs.Common.{◌≡◌, ℕ, zero, suc, ◌+◌, ◌-◌, ◌/◌, ◌<◌, ◌≤◌, Bool, true, false, List, [], ◌∷◌, ◌++◌, length, min, refl, sym, ◌∙◌, ap, arith, append_assoc}
 use Rattle.std.specs.Prelude.{◌&&◌, not, eqb, ltb}
 use Rattle.std.specs.List.{flat_map, range_with_len}
 use Rattle.std.specs.FinSet as set
@@ -98,8 +98,10 @@ pub values_none : (f : ℕ → ℕ) (s : set.FinSet nat_cmp) (a n : ℕ) → n �
 unfolding with_values
 values_none f s a n e = ap (with_values f s a) e
 
--- an element in range, whatever stands past the end
-pub in_range : {X : Type 0} (xs : List X) (i : ℕ) (d e : X) → i < length xs → get_or xs i d ≡ get_or xs i e
-in_range [] i d e l = absurd (omega arith)
-in_range (x ∷ xs) zero d e l = refl
-in_range (x ∷ xs) (suc i) d e l = in_range xs i d e (omega arith)
+pub single_short : (code : List ℕ) (n j : ℕ) → length (single_left code n j) ≤ 1
+single_short code n j = by_tests (takes_all code n j) (leaves_one code n j) refl refl
+  where
+    by_tests : (a b : Bool) → takes_all code n j ≡ a → leaves_one code n j ≡ b → length (single_left code n j) ≤ 1
+    by_tests true b e f = let l = ap length (single_nothing code n j e) in omega arith
+    by_tests false true e f = let l = ap length (single_one code n j e f) in omega arith
+    by_tests false false e f = let l = ap length (single_none code n j e f) in omega arith

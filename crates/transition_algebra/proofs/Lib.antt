@@ -6,4 +6,5 @@ mod Within
 mod Coming
 mod Turning
 mod Cost
+mod Running
 mod Every

@@ -1,17 +1,11 @@
 -- The pairs of heaps are pairs of elements.
-use Rattle.std.proofs.Common.{◌≡◌, ℕ, ◌+◌, ◌<◌, ◌≤◌, false, List, [], ◌∷◌, ◌++◌, refl, sym, ◌∙◌, subst, arith}
-use Rattle.std.specs.List.{Contains, All}
+use Rattle.std.proofs.Common.{ℕ, ◌+◌, ◌<◌, ◌≤◌, false, List, refl, sym, ◌∙◌, subst, arith}
+use Rattle.std.specs.List.{All}
 use Rattle.std.specs.FinSet as set
-use Rattle.std.proofs.lemmas.List.Elements.{Contains-append_left, Contains-append_right, All-from_get_or}
-use Rattle.misere_theory.specs.Games.{HeapOption, IsPosition, IsHeap}
+use Rattle.std.proofs.lemmas.List.Elements.{All-from_get_or}
+use Rattle.misere_theory.specs.Games.{HeapOption}
 use Rattle.misere_theory.specs.Games.HeapOption.{Nothing as TakesAll, One as LeavesOne, Two as LeavesTwo}
 use Rattle.misere_theory.specs.Quotients.{Claim, Monoid}
-use Rattle.positions.specs.Options.{options_up_to}
-use Rattle.positions.specs.Exact.{heaps_of, IsLeftAt}
-use Rattle.positions.specs.declared.left.Left.{Left}
-use Rattle.positions.specs.declared.left.Left.TheVariants.{Nothing, One, Two}
-use Rattle.positions.proofs.Listed.{itself_in}
-use Rattle.positions.proofs.Exact.{of_options}
 use Rattle.monoid_table.specs.Grids.{Grid, times_in}
 use Rattle.transition_algebra.specs.Pretending.{Pretending, phi_at}
 use Rattle.transition_algebra.specs.Pairs.{IsPair}
@@ -21,23 +15,11 @@ use Rattle.transition_algebra.proofs.Enough.{phi_in, product_of}
 use Rattle.transition_algebra.proofs.Claims.{option_value}
 use Rattle.transition_algebra.proofs.Steps.{IsTheHeapPair, AreFirstHeapPairs}
 
-heaps_at : (code : List ℕ) (n j : ℕ) (L : Left) → IsLeftAt code n j L → IsPosition IsHeap (heaps_of L)
-heaps_at code n j Nothing h = tt
-heaps_at code n j (One a) (l, p, h, b) = (p, tt)
-heaps_at code n j (Two a b) (p, o, h, s) = (p, (omega arith, tt))
-
--- the next option is one, so its parts are heaps
-pub parts_are_heaps : (code : List ℕ) (n most : ℕ) (yielded coming : List Left) (x : Left) → yielded ++ (x ∷ coming) ≡ options_up_to code n most → IsPosition IsHeap (heaps_of x)
-parts_are_heaps code n most yielded coming x e =
-    let i : Contains (yielded ++ (x ∷ coming)) x = Contains-append_right yielded (x ∷ coming) x (Contains-append_left (x ∷ []) coming x (itself_in x)) in
-    let (j, h) = of_options code n most x (subst (λ xs. Contains xs x) e i) in heaps_at code n j x h
-
 -- the claim of the table and phi themselves
-claim_by : Grid → Pretending → Claim
+abbrev pub claim_by : Grid → Pretending → Claim
 claim_by table phi = record { order = table.order; times = times_in table; phi = phi_at phi; portion = λ _. false }
 
-agrees_itself : (table : Grid) (phi : Pretending) → Agrees (claim_by table phi) table phi
-unfolding claim_by
+pub agrees_itself : (table : Grid) (phi : Pretending) → Agrees (claim_by table phi) table phi
 agrees_itself table phi = record { order_is = refl; times_is = λ x y i j. refl; phi_is = λ n l. refl }
 
 module _ (table : Grid) (monoid : Monoid table.order (times_in table)) (phi : Pretending) (into : IsInto table phi) where

@@ -1,18 +1,17 @@
 //! The pairs of heaps.
 ghost use Rattle.std.specs.Prelude.{◌≡◌, ◌+◌, ◌-◌, ◌<◌, ◌≤◌, IfOk, All};
 ghost use Rattle.misere_theory.specs.Games.{IsHeap, IsPosition};
-ghost use Rattle.misere_theory.specs.Quotients.{Claim};
 ghost use Rattle.positions.specs.Exact.{heaps_of};
 ghost use Rattle.transition_algebra.specs.Pairs.{IsPair};
-ghost use Rattle.transition_algebra.specs.Heaps.{Agrees, IsInto, IsHeapPair, AreAllHeapPairs, bound_of, left_value};
+ghost use Rattle.transition_algebra.specs.Heaps.{IsInto, AreAllHeapPairs, bound_of, left_value};
 
 use crate::pair::Pair;
 use crate::phi::{Phi, is_pretending};
+use crate::trial::Trial;
 use allocation::Memory;
-use element_sets::ElementSet;
 use monoid_table::{Table, is_monoid};
 use octal_code::Code;
-use positions::{Left, options_up_to};
+use positions::Left;
 use std::alloc::Allocator;
 
 /// B: the heaps 1 to B show the pair of every heap.
@@ -48,29 +47,11 @@ pub(crate) fn left_value<A: Allocator>(table: &Table<A>, phi: &Phi<A>, left: Lef
     }
 }
 
-/// The pair of the heap n. Of a split only smaller parts below start + period are tried: from two parts of at
-/// least that, the period moved from one to the other keeps the value.
-fn heap_pair<A: Allocator>(code: &Code, table: &Table<A>, phi: &Phi<A>, n: u64) -> Pair
-    requires into { IsInto table.now phi.now }
-    requires from_one { 1 ≤ n }
-    ensures { (c : Claim) → Agrees c table.now phi.now → IsHeapPair code.now c n result }
-{
-    is_monoid(table);
-    is_pretending(phi);
-    let mut options = ElementSet::new();
-    for left in options_up_to(code, n, largest_part(phi)) {
-        options.insert(left_value(table, phi, left) as u8);
-    }
-    Pair {
-        value: phi.at(n),
-        options,
-    }
-}
-
 /// The pairs of the heaps 1 to B = 2 start + 2 period + k, for the last digit dk of the code.
 ///
 /// Item n - 1 is exactly the pair of the heap n: its element, and the values of all its options. Every heap of any
-/// size has its pair among them. `Memory` where a growth was refused.
+/// size has its pair among them. Of a split only smaller parts below start + period are tried: from two parts of at
+/// least that, the period moved from one to the other keeps the value. `Memory` where a growth was refused.
 pub fn heap_pairs<A: Allocator + Copy>(
     alloc: A,
     code: &Code,
@@ -82,9 +63,10 @@ pub fn heap_pairs<A: Allocator + Copy>(
     ensures within { IfOk result (λ pairs. All (IsPair table.now.order) pairs.items) }
 {
     is_monoid(table);
+    is_pretending(phi);
+    let _last = code.last();
+    let mut trial = Trial::new(code, phi);
     let mut pairs = Vec::new(alloc);
-    for n in 0..bound_of(code, phi) {
-        pairs.push(heap_pair(code, table, phi, n + 1))?;
-    }
+    trial.work(code, table, phi, &mut pairs, u64::MAX)?;
     Ok(pairs)
 }

@@ -4,13 +4,15 @@
 //! commutative monoid, and the heaps 1 to B show the pair of every heap.
 #![tactic(auto)]
 
+mod heap_job;
 mod heaps;
 mod laws;
 mod pair;
 mod phi;
 mod trial;
 
+pub use heap_job::HeapJob;
 pub use heaps::heap_pairs;
-pub use laws::pairs_show_every_heap;
+pub use laws::{cuts_do_not_matter, heap_jobs_end, pairs_show_every_heap};
 pub use pair::{Pair, Pairs};
 pub use phi::{Phi, is_pretending};

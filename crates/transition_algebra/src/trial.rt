@@ -1,16 +1,16 @@
 //! The options of the heaps, tried one after another.
-ghost use Rattle.std.specs.Prelude.{◌≡◌, ◌+◌, ◌*◌, ◌^◌, ◌<◌, ◌≤◌, [], ◌∷◌, ◌++◌, length, true, IfOk, OnErr, OnOk, All};
+ghost use Rattle.std.specs.Prelude.{◌≡◌, ◌+◌, ◌*◌, ◌^◌, ◌<◌, ◌≤◌, ◌↔◌, [], ◌∷◌, ◌++◌, length, min, true, IsTrue, IfOk, OnErr, OnOk, All};
 ghost use Rattle.std.specs.Option.{MatchOption};
-ghost use Rattle.misere_theory.specs.Certificates.{IsOctalCode};
+ghost use Rattle.monoid_table.specs.Grids.{Grid};
 ghost use Rattle.octal_code.specs.Bits.{has_bit};
 ghost use Rattle.transition_algebra.specs.Pretending.{phi_at};
-ghost use Rattle.transition_algebra.specs.Heaps.{IsInto, bound_of, largest_part};
+ghost use Rattle.transition_algebra.specs.Heaps.{IsInto};
 ghost use Rattle.transition_algebra.specs.Work.{heap_cost};
 ghost use Rattle.transition_algebra.specs.Trials.{IsTrial, IsRun, single_left, splits_from, last_part, split_value, with_values, after_single, after_splits, after_all, after_heap};
 
 use crate::heaps::{bound_of, largest_part, left_value};
 use crate::pair::Pair;
-use crate::phi::Phi;
+use crate::phi::{Phi, is_pretending};
 use allocation::Memory;
 use element_sets::ElementSet;
 use monoid_table::{Table, is_monoid};
@@ -79,7 +79,10 @@ fn with_splits<A: Allocator>(
 
 impl Trial {
     /// Nothing tried yet.
-    pub(crate) fn new<A: Allocator>(code: &Code, phi: &Phi<A>) -> Trial {
+    pub(crate) fn new<A: Allocator>(code: &Code, phi: &Phi<A>) -> Trial
+        ensures trial { (table : Grid) → IsTrial code.now table phi.now result [] }
+        ensures spent { result.spent ≡ 0 }
+    {
         Trial {
             bound: bound_of(code, phi),
             most: largest_part(phi),
@@ -161,5 +164,64 @@ impl Trial {
         self.seen = ElementSet::new();
         self.spent += 1;
         Ok(())
+    }
+
+    /// Some turns more, at most `units`; where none was made, a stage less is left of the heap.
+    fn run<A: Allocator>(
+        &mut self,
+        code: &Code,
+        table: &Table<A>,
+        phi: &Phi<A>,
+        pairs: &mut Vec<Pair, A>,
+        units: u64,
+    ) -> Result<u64, Memory>
+        requires into { IsInto table.now phi.now }
+        requires trial { IsTrial code.now table.now phi.now self.old pairs.old.items }
+        requires going { self.old.heap ≤ self.old.bound }
+        requires some { 1 ≤ units }
+        ensures ok { IfOk result (λ spent. IsRun code.now table.now phi.now self.old self.new pairs.new.items units spent) }
+        ensures err { OnErr result (self.new ≡ self.old) }
+        ensures err_pairs { OnErr result (pairs.new.items ≡ pairs.old.items) }
+    {
+        is_monoid(table);
+        is_pretending(phi);
+        if self.away > code.last() as u64 {
+            self.close(phi, pairs)?;
+            return Ok(1);
+        }
+        match self.stage {
+            Stage::Single => Ok(self.try_single(code, table, phi)),
+            Stage::Splits(part) => Ok(self.try_splits(code, table, pairs, part, units)),
+        }
+    }
+
+    /// The next turns, `units` of them or, if fewer are left, all.
+    pub(crate) fn work<A: Allocator>(
+        &mut self,
+        code: &Code,
+        table: &Table<A>,
+        phi: &Phi<A>,
+        pairs: &mut Vec<Pair, A>,
+        units: u64,
+    ) -> Result<(), Memory>
+        requires into { IsInto table.now phi.now }
+        requires trial { IsTrial code.now table.now phi.now self.old pairs.old.items }
+        ensures trial { IsTrial code.now table.now phi.now self.new pairs.new.items }
+        ensures ok { OnOk result (self.new.spent ≡ min (self.old.spent + units) (heap_cost code.now phi.now)) }
+        ensures err { OnErr result ((self.old.spent ≤ self.new.spent) × (self.new.spent < self.old.spent + units)) }
+    {
+        let _last = code.last();
+        let mut left = units;
+        while left > 0 && self.heap <= self.bound {
+            left -= self.run(code, table, phi, pairs, left)?;
+        }
+        Ok(())
+    }
+
+    /// Whether all pairs stand.
+    pub(crate) fn is_over(&self) -> bool
+        ensures { IsTrue result ↔ (self.now.bound < self.now.heap) }
+    {
+        self.heap > self.bound
     }
 }

@@ -1,8 +1,9 @@
 use Rattle.std.proofs.Common.{◌≡◌, ◌+◌, ◌-◌, ◌∙◌, ap, ap₂, sym, arith}
+use Rattle.std.proofs.lemmas.List.{get_or_default}
 use Rattle.monoid_table.specs.Grids.{times_in}
 use Rattle.transition_algebra.specs.Trials.{split_value}
 use Rattle.transition_algebra.specs.Pairs.{one}
-use Rattle.transition_algebra.proofs.Coming.{values_more, values_none, in_range}
+use Rattle.transition_algebra.proofs.Coming.{values_more, values_none}
 use Rattle.transition_algebra.proofs.trial.with_splits.Goals as goal
 
 pub loop-part-preserved : goal.loop-part-preserved
@@ -13,8 +14,8 @@ loop-part-preserved g c =
     let m = c.args.whole - c.loop-part.part in
     let b = c.loop-part.auto.part in
     let t = c.loop-part-test.true in
-    let x = ap (λ p. p.value) (in_range ps (n - 1) c.index-pairs-part.result one (omega arith)) in
-    let y = ap (λ p. p.value) (in_range ps (m - 1) c.index-pairs-whole.result one (omega arith)) in
+    let x = ap (λ p. p.value) (get_or_default ps (n - 1) c.index-pairs-part.result one (omega arith)) in
+    let y = ap (λ p. p.value) (get_or_default ps (m - 1) c.index-pairs-whole.result one (omega arith)) in
     let v : c.times.result ≡ f n = c.times.ensures.value ∙ ap₂ (times_in c.args.table.now) x y in
     values_more f c.loop-part.all c.insert.new.self c.loop-part.part (c.args.first + c.args.count) c.times.result c.loop-part-test.true v c.insert.ensures ∙ c.loop-part.invariant
 

@@ -1,0 +1,302 @@
+-- A run of turns leaves a trial that the turns reached.
+use Rattle.std.proofs.Common.{◌≡◌, ℕ, ◌+◌, ◌-◌, ◌*◌, ◌^◌, ◌<◌, ◌≤◌, ◌↔◌, ◌⊎◌, inl, inr, min, true, false, List, [], ◌∷◌, ◌++◌, length, refl, sym, ◌∙◌, ap, ap₂, subst, arith, append_assoc}
+use Rattle.std.specs.Prelude.{not, eqb, bit_and, Result, Ok, Err, OnErr}
+use Rattle.std.specs.List.{All, flat_map, range_with_len}
+use Rattle.std.specs.FinSet as set
+use Rattle.std.specs.Ordering.{nat_cmp}
+use Rattle.std.proofs.lemmas.List.{length-append, get_or_past}
+use Rattle.std.proofs.lemmas.List.Elements.{All-get_or, All-from_get_or}
+use Rattle.std.proofs.lemmas.List.FromFn.{length-map-range_with_len}
+use native.Mathlib.Decide.{dec_le}
+use Rattle.misere_theory.specs.Games.{IsOctalCode}
+use Rattle.misere_theory.specs.Quotients.{Monoid}
+use Rattle.monoid_table.specs.Grids.{Grid, times_in}
+use Rattle.octal_code.specs.Bits.{has_bit}
+use Rattle.positions.specs.Options.{options_at, splits}
+use Rattle.positions.specs.declared.left.Left.{Left}
+use Rattle.positions.specs.declared.left.Left.TheVariants.{Two}
+use Rattle.transition_algebra.specs.Pretending.{Pretending, IsPretending, phi_at}
+use Rattle.transition_algebra.specs.Pairs.{IsPair, one}
+use Rattle.transition_algebra.specs.Heaps.{IsInto, bound_of, largest_part, left_value}
+use Rattle.transition_algebra.specs.Work.{tries, opening, turns, heap_cost, HeapWork, IsDone, worked}
+use Rattle.transition_algebra.specs.Trials.{single_left, taking_from, last_part, splits_from, coming_at, value_at, split_value, with_left, after_single, after_splits, after_all, after_heap, IsStage, trying_of, IsTrial, stages, stages_left, IsRun}
+use Rattle.transition_algebra.specs.declared.pair.Pair.{Pair}
+use Rattle.transition_algebra.specs.declared.trial.Stage.{Stage}
+use Rattle.transition_algebra.specs.declared.trial.Stage.TheVariants.{Single, Splits}
+use Rattle.transition_algebra.specs.declared.trial.Trial.{Trial}
+use Rattle.transition_algebra.proofs.Coming.{single_then_splits, none_past, splits_off, splits_first}
+use Rattle.transition_algebra.proofs.Cost.{left_after, cost_short}
+use Rattle.transition_algebra.proofs.Steps.{AreFirstHeapPairs}
+use Rattle.transition_algebra.proofs.Turning.{Standing, stands, left, left_some, left_over, turns-add, no_turn, one_turn, closing_turn, split_turns}
+use Rattle.transition_algebra.proofs.Within.{claim_by, agrees_itself, all_in}
+
+pub two_digits : (code : List ℕ) → IsOctalCode code → (2 ≤ length code) × (length code ≤ 17)
+two_digits [] h = absurd h
+two_digits (d ∷ ds) h = let a = h.1 in let b = h.2 in (omega arith, omega arith)
+
+-- what the next turn needs
+pub record Ready (code : List ℕ) (table : Grid) (phi : Pretending) (t : Trial) (pairs : List Pair) : Type 0 where
+  pub from_one : 1 ≤ t.heap
+  pub at_most : t.heap ≤ bound_of code phi + 1
+  pub small : t.spent + t.heap < 2 ^ 32
+  pub elements : All (λ p. p.value < table.order) pairs
+  pub length_is : length pairs + 1 ≡ t.heap
+  pub values : (b : ℕ) → 1 ≤ b → b < t.heap → value_at pairs b ≡ phi_at phi b
+
+square_small : (L B : ℕ) → L ≤ 17 → B ≤ 2066 → L * (B * B) ≤ 72563492
+square_small L B l b =
+    let m : B * B ≤ 2066 * 2066 = grind arith in
+    let n : L * (B * B) ≤ 17 * (2066 * 2066) = grind arith in
+    omega arith
+
+module _ (code : List ℕ) (table : Grid) (monoid : Monoid table.order (times_in table)) (phi : Pretending) (pretending : IsPretending phi) (into : IsInto table phi) where
+  module _ (t : Trial) (pairs : List Pair) (is : IsTrial code table phi t pairs) where
+    pub stands_now : Standing code table phi (trying_of code phi t pairs)
+    stands_now = subst (Standing code table phi) (sym is.reached) (stands code table monoid phi pretending into t.spent)
+
+    pub ready : IsOctalCode code → Ready code table phi t pairs
+    ready octal =
+        let s = stands_now in
+        let c = claim_by table phi in
+        let made = s.made c (agrees_itself table phi) in
+        let agrees = agrees_itself table phi in
+        let k = two_digits code octal in
+        let len : length pairs ≡ t.heap - 1 = made.length_is in
+        let one_up = s.from_one in
+        record {
+          from_one = s.from_one;
+          at_most = s.at_most;
+          small =
+              let p = pretending.short in let q = s.at_most in let w = is.within in
+              let B : bound_of code phi ≤ 2066 = omega arith in
+              let r = cost_short code phi k.0 pretending in
+              let m = square_small (length code) (bound_of code phi) k.1 B in
+              omega arith;
+          elements = All-from_get_or (λ p. p.value < table.order) pairs one (λ i l. (All-get_or (IsPair table.order) pairs i one l (all_in table monoid phi into code (t.heap - 1) pairs s.made)).value);
+          length_is = omega arith;
+          values = λ b f l.
+              let i : b - 1 < length pairs = omega arith in
+              let e : b - 1 + 1 ≡ b = omega arith in
+              (made.each (b - 1) one i).value_is ∙ agrees.phi_is (b - 1 + 1) (omega arith) ∙ ap (phi_at phi) e;
+        }
+
+module _ (code : List ℕ) (table : Grid) (phi : Pretending) where
+  -- the turns that a trial may still make
+  pub room : (t : Trial) (pairs : List Pair) → IsTrial code table phi t pairs → t.heap ≤ bound_of code phi → t.spent + length (coming_at code t.heap (largest_part phi) t.away t.stage) + 1 ≤ heap_cost code phi
+  room t pairs is l =
+      let a = left_some code table phi (trying_of code phi t pairs) l in
+      let b = ap (left code phi) is.reached ∙ left_after code table phi t.spent in
+      omega arith
+
+  -- past the bound all turns were made
+  pub all_spent : (t : Trial) (pairs : List Pair) → IsTrial code table phi t pairs → bound_of code phi < t.heap → t.spent ≡ heap_cost code phi
+  all_spent t pairs is l =
+      let a = left_over code table phi (trying_of code phi t pairs) l in
+      let b = ap (left code phi) is.reached ∙ left_after code table phi t.spent in
+      let w = is.within in
+      omega arith
+
+  moved_on : (s t : Trial) (ps qs : List Pair) (n : ℕ) → IsTrial code table phi s ps → s.heap ≤ bound_of code phi
+      → trying_of code phi t qs ≡ turns code table phi n (trying_of code phi s ps)
+      → t.spent ≡ s.spent + n
+      → n ≤ length (coming_at code s.heap (largest_part phi) s.away s.stage) + 1
+      → t.bound ≡ s.bound → t.most ≡ s.most → t.away ≤ length code → IsStage t.stage
+      → IsTrial code table phi t qs
+  moved_on s t ps qs n is going e spent few bound most away stage = record {
+    bound_is = bound ∙ is.bound_is;
+    most_is = most ∙ is.most_is;
+    away_in = away;
+    stage_in = stage;
+    within = let r = room s ps is going in omega arith;
+    reached = e ∙ ap (turns code table phi n) is.reached ∙ sym (turns-add code table phi s.spent n (opening code phi)) ∙ ap (λ m. turns code table phi m (opening code phi)) (sym spent);
+  }
+
+  single_turns : (n : ℕ) (seen : set.FinSet nat_cmp) (pairs : List Pair) (xs coming rest : List Left)
+      → n ≤ bound_of code phi → length xs ≤ 1 → coming ≡ xs ++ rest
+      → record { heap = n; coming = rest; seen = with_left table phi seen xs; pairs = pairs } ≡ turns code table phi (length xs) (record { heap = n; coming = coming; seen = seen; pairs = pairs })
+  unfolding with_left
+  single_turns n seen pairs [] coming rest l short e =
+      ap (λ ys. record { heap = n; coming = ys; seen = seen; pairs = pairs }) (sym e) ∙ no_turn code table phi (record { heap = n; coming = coming; seen = seen; pairs = pairs })
+  single_turns n seen pairs (x ∷ []) coming rest l short e =
+      one_turn code table phi (record { heap = n; coming = coming; seen = seen; pairs = pairs }) x rest (left_value table phi x) l e refl
+  single_turns n seen pairs (x ∷ y ∷ xs) coming rest l short e = absurd (omega arith)
+
+  pub run_single : (s t : Trial) (ps : List Pair) (units r : ℕ) → IsTrial code table phi s ps → s.heap ≤ bound_of code phi → s.away < length code → s.stage ≡ Single → 1 ≤ units
+      → length (single_left code s.heap s.away) ≤ 1
+      → r ≡ length (single_left code s.heap s.away)
+      → t ≡ after_single code table phi s
+      → IsRun code table phi s t ps units r
+  run_single s t ps units r is going inside stage some short count after =
+      let most = largest_part phi in
+      let xs = single_left code s.heap s.away in
+      let rest = splits_from code s.heap most s.away 1 ++ taking_from code s.heap most (s.away + 1) in
+      let coming : coming_at code s.heap most s.away s.stage ≡ xs ++ rest = ap (coming_at code s.heap most s.away) stage ∙ single_then_splits code s.heap most s.away inside in
+      let few : length xs ≤ length (coming_at code s.heap most s.away s.stage) + 1 = let e = ap length coming ∙ length-append xs rest in omega arith in
+      let u = after_single code table phi s in
+      let moved : IsTrial code table phi u ps =
+      moved_on s u ps ps (length xs) is going (single_turns s.heap s.seen ps xs (coming_at code s.heap most s.away s.stage) rest going short coming) refl few refl refl (omega arith) (omega arith) in
+      subst (λ v. IsRun code table phi s v ps units r) (sym after) (subst (λ n. IsRun code table phi s u ps units n) (sym count) (record {
+        at_most = omega arith;
+        trial = moved;
+        spent_is = refl;
+        falls = inr (let e = ap stages stage in omega arith);
+      }))
+
+  pub run_none : (s t : Trial) (ps : List Pair) (units r a : ℕ) → IsTrial code table phi s ps → s.heap ≤ bound_of code phi → s.away < length code → s.stage ≡ Splits a
+      → r ≡ 0
+      → splits_from code s.heap s.most s.away a ≡ []
+      → t ≡ after_all s
+      → IsRun code table phi s t ps units r
+  run_none s t ps units r a is going inside stage count none after =
+      let most = largest_part phi in
+      let rest = taking_from code s.heap most (s.away + 1) in
+      let coming : coming_at code s.heap most s.away s.stage ≡ rest =
+      ap (coming_at code s.heap most s.away) stage ∙ ap (λ xs. xs ++ rest) (ap (λ m. splits_from code s.heap m s.away a) (sym is.most_is) ∙ none) in
+      let u = after_all s in
+      let same : trying_of code phi u ps ≡ trying_of code phi s ps = ap (λ xs. record { heap = s.heap; coming = xs; seen = s.seen; pairs = ps }) (sym coming) in
+      let here : s.spent ≡ s.spent + 0 = omega arith in
+      let moved : IsTrial code table phi u ps = moved_on s u ps ps 0 is going (same ∙ no_turn code table phi (trying_of code phi s ps)) here (omega arith) refl refl (omega arith) tt in
+      subst (λ v. IsRun code table phi s v ps units r) (sym after) (subst (λ n. IsRun code table phi s u ps units n) (sym count) (record {
+        at_most = omega arith;
+        trial = moved;
+        spent_is = here;
+        falls = inr (omega arith);
+      }))
+
+  pub run_splits : (s t : Trial) (ps : List Pair) (units r a : ℕ) → IsTrial code table phi s ps → Ready code table phi s ps → s.heap ≤ bound_of code phi → s.away < length code → s.stage ≡ Splits a
+      → 1 ≤ r → r ≤ units
+      → has_bit code s.away 4 ≡ true
+      → a + r ≤ last_part s.heap s.most s.away + 1
+      → t ≡ after_splits table ps s a r
+      → IsRun code table phi s t ps units r
+  run_splits s t ps units r a is ready going inside stage some few bit room_for after =
+      let most = largest_part phi in
+      let whole = s.heap - s.away in
+      let one_up : 1 ≤ a = subst IsStage stage is.stage_in in
+      let m = is.most_is in
+      let fits : a + r ≤ last_part s.heap most s.away + 1 = subst (λ v. a + r ≤ last_part s.heap v s.away + 1) m room_for in
+      let rest = splits_from code s.heap most s.away (a + r) ++ taking_from code s.heap most (s.away + 1) in
+      let coming : coming_at code s.heap most s.away s.stage ≡ splits whole a r ++ rest =
+      ap (coming_at code s.heap most s.away) stage
+      ∙ ap (λ xs. xs ++ taking_from code s.heap most (s.away + 1)) (splits_first code s.heap most s.away a r bit fits)
+      ∙ append_assoc (splits whole a r) (splits_from code s.heap most s.away (a + r)) (taking_from code s.heap most (s.away + 1)) in
+      let long : r ≤ length (coming_at code s.heap most s.away s.stage) + 1 =
+      let e = ap length coming ∙ length-append (splits whole a r) rest in
+      let d = length-map-range_with_len (λ x. Two x (whole - x)) a r in
+      omega arith in
+      let u = after_splits table ps s a r in
+      let agree : (b : ℕ) → a ≤ b → b < a + r → split_value table ps whole b ≡ left_value table phi (Two b (whole - b)) =
+      λ b p q. ap₂ (times_in table) (ready.values b (omega arith) (omega arith)) (ready.values (whole - b) (omega arith) (omega arith)) in
+      let moved : IsTrial code table phi u ps =
+      moved_on s u ps ps r is going (split_turns code table phi (split_value table ps whole) whole r a s.heap s.seen ps (coming_at code s.heap most s.away s.stage) rest going coming agree) refl long refl refl is.away_in (omega arith) in
+      subst (λ v. IsRun code table phi s v ps units r) (sym after) (record {
+        at_most = few;
+        trial = moved;
+        spent_is = refl;
+        falls = inl some;
+      })
+
+  none_coming : (n most j : ℕ) (stage : Stage) → length code ≤ j → coming_at code n most j stage ≡ []
+  none_coming n most j Single l = none_past code n most j l
+  none_coming n most j (Splits a) l =
+      let bit : has_bit code j 4 ≡ false = ap (λ d. not (eqb (bit_and d 4) 0)) (get_or_past code j 0 l) in
+      ap (λ xs. xs ++ taking_from code n most (j + 1)) (splits_off code n most j a bit) ∙ none_past code n most (j + 1) (omega arith)
+
+  pub all_to_come : (n : ℕ) → taking_from code n (largest_part phi) 0 ≡ tries code phi n
+  all_to_come n = let e : length code - 0 ≡ length code = omega arith in ap (λ k. flat_map (options_at code n (largest_part phi)) (range_with_len 0 k)) e
+
+  pub run_close : (s t : Trial) (ps qs : List Pair) (units r v : ℕ) → IsTrial code table phi s ps → s.heap ≤ bound_of code phi → length code ≤ s.away → 1 ≤ units
+      → r ≡ 1
+      → t ≡ after_heap s
+      → v ≡ phi_at phi s.heap
+      → qs ≡ ps ++ (record { value = v; options = s.seen } ∷ [])
+      → IsRun code table phi s t qs units r
+  run_close s t ps qs units r v is going past some count after value more =
+      let most = largest_part phi in
+      let u = after_heap s in
+      let next : trying_of code phi u qs ≡ turns code table phi 1 (trying_of code phi s ps) =
+      ap (λ xs. record { heap = s.heap + 1; coming = xs; seen = set.empty; pairs = qs }) (all_to_come (s.heap + 1))
+      ∙ closing_turn code table phi (trying_of code phi s ps) v qs going (none_coming s.heap most s.away s.stage past) value more in
+      let moved : IsTrial code table phi u qs = moved_on s u ps qs 1 is going next refl (omega arith) refl refl (omega arith) tt in
+      subst (λ w. IsRun code table phi s w qs units r) (sym after) (subst (λ n. IsRun code table phi s u qs units n) (sym count) (record {
+        at_most = some;
+        trial = moved;
+        spent_is = refl;
+        falls = inl (omega arith);
+      }))
+
+-- all turns were made exactly where no heap is left
+pub done_over : (code : List ℕ) (table : Grid) (phi : Pretending) (t : Trial) (pairs : List Pair) → IsTrial code table phi t pairs → (t.bound < t.heap) ↔ (t.spent ≡ heap_cost code phi)
+done_over code table phi t pairs is =
+    let b = is.bound_is in (
+      λ l. all_spent code table phi t pairs is (omega arith),
+      λ e. elim (dec_le t.heap (bound_of code phi)) [
+        | no h ↦ omega arith
+        | yes h ↦ absurd (let r = room code table phi t pairs is h in omega arith)
+      ],
+    )
+
+-- then the pairs are those of all heaps up to the bound
+pub finished : (code : List ℕ) (table : Grid) → Monoid table.order (times_in table) → (phi : Pretending) → IsPretending phi → IsInto table phi → (t : Trial) (pairs : List Pair)
+    → IsTrial code table phi t pairs → t.spent ≡ heap_cost code phi → AreFirstHeapPairs code table phi (bound_of code phi) pairs
+finished code table monoid phi pretending into t pairs is done =
+    let s = stands_now code table monoid phi pretending into t pairs is in
+    let over = (done_over code table phi t pairs is).1 done in
+    let e : t.heap - 1 ≡ bound_of code phi = let a = s.at_most in let b = is.bound_is in omega arith in
+    subst (λ B. AreFirstHeapPairs code table phi B pairs) e s.made
+
+-- enough units for all turns
+pub all_units : (code : List ℕ) (phi : Pretending) (a s : ℕ) → IsOctalCode code → IsPretending phi → s ≡ min (a + 18446744073709551615) (heap_cost code phi) → s ≡ heap_cost code phi
+all_units code phi a s octal pretending e =
+    let k = two_digits code octal in
+    let p = pretending.short in
+    let B : bound_of code phi ≤ 2066 = omega arith in
+    let r = cost_short code phi k.0 pretending in
+    let m = square_small (length code) (bound_of code phi) k.1 B in
+    omega arith
+
+-- nothing tried yet
+pub new_trial : (code : List ℕ) (table : Grid) (phi : Pretending) (b m : ℕ) (seen : set.FinSet nat_cmp) → b ≡ bound_of code phi → m ≡ largest_part phi → seen ≡ set.empty
+    → IsTrial code table phi (record { bound = b; most = m; heap = 1; away = 0; stage = Single; seen = seen; spent = 0 }) []
+new_trial code table phi b m seen bound most none = record {
+  bound_is = bound;
+  most_is = most;
+  away_in = omega arith;
+  stage_in = tt;
+  within = omega arith;
+  reached =
+      ap₂ (λ xs s. record { heap = 1; coming = xs; seen = s; pairs = [] }) (all_to_come code table phi 1) none
+      ∙ no_turn code table phi (opening code phi);
+}
+
+-- a turn costs at least what the measure of stages gains
+pub measure_falls : (L n r a s t : ℕ) → L ≤ 17 → r ≤ n → s ≤ 2 * L + 1 → t ≤ 2 * L + 1 → (1 ≤ r) ⊎ (t < s) → a ≡ n - r → 40 * a + t < 40 * n + s
+measure_falls L n r a s t l few top top2 falls e = elim falls [
+  | inl some ↦ omega arith
+  | inr less ↦ omega arith
+]
+
+pub stages_few : (code : List ℕ) (t : Trial) → stages_left code t ≤ 2 * length code + 1
+stages_few code t = few t.stage
+  where
+    few : (stage : Stage) → 2 * (length code - t.away) + stages stage ≤ 2 * length code + 1
+    few Single = omega arith
+    few (Splits a) = omega arith
+
+-- what holds anyway holds on an error
+pub on_err : {T E P : Type 0} (r : Result T E) → P → OnErr r P
+on_err (Ok v) p = tt
+on_err (Err e) p = p
+
+worked_at : (job : HeapWork) (m n : ℕ) → m ≡ n → ◌≡◌ {A = HeapWork} (record job { spent = m }) (record job { spent = n })
+worked_at job m n e = ap (λ k. record job { spent = k }) e
+
+-- however the units are cut
+pub worked-add : (job : HeapWork) (m n : ℕ) → worked job (m + n) ≡ worked (worked job m) n
+worked-add job m n = worked_at job _ _ (omega arith)
+
+pub ends : (job : HeapWork) (units : ℕ) → IsOctalCode job.code → IsPretending job.phi → length job.code * (bound_of job.code job.phi * bound_of job.code job.phi) ≤ units → IsDone (worked job units)
+ends job units octal pretending l = let r = cost_short job.code job.phi (two_digits job.code octal).0 pretending in omega arith
+
+pub cost_at_most : (code : List ℕ) (phi : Pretending) → IsOctalCode code → IsPretending phi → heap_cost code phi ≤ length code * (bound_of code phi * bound_of code phi)
+cost_at_most code phi octal pretending = cost_short code phi (two_digits code octal).0 pretending

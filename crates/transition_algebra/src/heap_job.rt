@@ -1,0 +1,112 @@
+//! The pairs of the heaps, made in pieces.
+ghost use Rattle.std.specs.Prelude.{◌≡◌, ◌+◌, ◌<◌, ◌≤◌, ◌↔◌, All, IsTrue, IsErr, IfOk, OnOk, OnErr, true, false, min};
+ghost use Rattle.transition_algebra.specs.Pairs.{IsPair};
+ghost use Rattle.transition_algebra.specs.Heaps.{IsInto, AreAllHeapPairs};
+ghost use Rattle.transition_algebra.specs.Work.{IsDone, worked, turns, opening};
+
+use crate::pair::Pair;
+use crate::phi::{Phi, is_pretending};
+use crate::trial::Trial;
+use allocation::Memory;
+use monoid_table::{Table, is_monoid};
+use octal_code::Code;
+use std::alloc::{Allocator, Global};
+use std::marker::Model;
+
+/// The pairs of the heaps 1 to B in pieces. A unit tries one option of a heap, or sets down the pair of a heap whose
+/// options are all tried.
+#[derive(Drop)]
+pub struct HeapJob<A: Allocator = Global> {
+    code: Code,
+    table: Table<A>,
+    phi: Phi<A>,
+    trial: Trial,
+    pairs: Vec<Pair, A>,
+    refused: bool,
+}
+
+impl<A: Allocator> Model for HeapJob<A> {
+    ghost use Rattle.transition_algebra.specs.Work.{HeapWork};
+
+    ghost Value = { HeapWork };
+
+    ghost view = { λ j. record { code = j.code; table = j.table; phi = j.phi; spent = j.trial.spent; refused = j.refused } };
+
+    ghost use Rattle.transition_algebra.specs.Heaps.{IsInto};
+    ghost use Rattle.transition_algebra.specs.Trials.{IsTrial};
+
+    ghost invariant = { λ j. IsInto j.table j.phi × IsTrial j.code j.table j.phi j.trial j.pairs.items };
+}
+
+impl<A: Allocator> HeapJob<A> {
+    /// A job that has spent nothing. It holds no pair yet, and takes memory as it works.
+    pub fn new(alloc: A, code: Code, table: Table<A>, phi: Phi<A>) -> HeapJob<A>
+        requires { IsInto table phi }
+        ensures { result ≡ record { code = code; table = table; phi = phi; spent = 0; refused = false } }
+    {
+        let trial = Trial::new(&code, &phi);
+        HeapJob {
+            code,
+            table,
+            phi,
+            trial,
+            pairs: Vec::new(alloc),
+            refused: false,
+        }
+    }
+
+    /// The units spent so far.
+    pub fn spent(&self) -> u64
+        ensures { result ≡ self.now.spent }
+    {
+        self.trial.spent
+    }
+
+    /// The pairs that stand so far: those of the first heaps.
+    pub fn pairs(&self) -> &[Pair]
+        ensures { result.now ≡ (turns self.now.code self.now.table self.now.phi self.now.spent (opening self.now.code self.now.phi)).pairs }
+    {
+        &self.pairs
+    }
+
+    /// Spends `units` units, or as many as there are left; true once all pairs stand.
+    ///
+    /// Once a growth was refused it answers `Memory`, and so it does at every later call.
+    pub fn work(&mut self, units: u64) -> Result<bool, Memory>
+        ensures worked { OnOk result ((self.old.refused ≡ false) × (self.new ≡ worked self.old units)) }
+        ensures done { IfOk result (λ done. IsTrue done ↔ IsDone self.new) }
+        ensures refused { OnErr result (self.new ≡ record self.old { spent = self.new.spent; refused = true }) }
+        ensures stays { IsTrue self.old.refused → IsErr result × (self.new ≡ self.old) }
+    {
+        if self.refused {
+            return Err(Memory);
+        }
+        let made = self
+            .trial
+            .work(&self.code, &self.table, &self.phi, &mut self.pairs, units);
+        self.refused = made.is_err();
+        made?;
+        Ok(self.trial.is_over())
+    }
+
+    /// The pairs, and what the job was opened with.
+    pub fn finish(self) -> (Code, Table<A>, Phi<A>, Vec<Pair, A>)
+        requires { IsDone self }
+        ensures code { result.0 ≡ self.code }
+        ensures table { result.1 ≡ self.table }
+        ensures phi { result.2 ≡ self.phi }
+        ensures exact { AreAllHeapPairs self.code self.table self.phi result.3.items }
+        ensures within { All (IsPair self.table.order) result.3.items }
+    {
+        let HeapJob {
+            code,
+            table,
+            phi,
+            pairs,
+            ..
+        } = self;
+        is_monoid(&table);
+        is_pretending(&phi);
+        (code, table, phi, pairs)
+    }
+}
