@@ -3,11 +3,11 @@ use Rattle.std.proofs.Common.{◌≡◌, ℕ, ◌<◌, ◌⊎◌, true, false, L
 use Rattle.std.proofs.lemmas.Bool.{true≢false}
 use Rattle.misere_theory.specs.Games.{HeapOption, Move, IsPosition}
 use Rattle.misere_theory.specs.Games.Move.{Here, There}
-use Rattle.misere_theory.specs.Quotients.{Claim, Monoid, value, OptionValue, HeapOptionValue, RuleHolds}
+use Rattle.misere_theory.specs.Quotients.{Claim, Monoid, GivesElements, value, OptionValue, HeapOptionValue, RuleHolds}
 use Rattle.misere_theory.proofs.Sums.{first_or_rest, no_move_of_none, value_in, value-append, IsKept}
 use Rattle.misere_theory.proofs.Rules.{true_or_false}
 
-module _ (heap : ℕ → Type 0) (code : List ℕ) (kept : IsKept heap code) (c : Claim) (m : Monoid c.order c.times) (phi_in : (n : ℕ) → heap n → c.phi n < c.order) where
+module _ (heap : ℕ → Type 0) (code : List ℕ) (kept : IsKept heap code) (c : Claim) (m : Monoid c.order c.times) (phi_in : GivesElements heap c) where
   -- a move replaces a factor phi n by the value of an option of n
   pub record Factored (X Y : List ℕ) : Type 0 where
     pub part : ℕ

@@ -6,7 +6,7 @@ use Rattle.std.proofs.Common.{length-append}
 use native.Mathlib.Decide.{dec_le}
 use Rattle.misere_theory.specs.Games.{IsHeap, IsHeapUpTo, IsPosition}
 use Rattle.misere_theory.specs.Games.Move.{Here, There}
-use Rattle.misere_theory.specs.Quotients.{Claim, Monoid, value, OptionValue, SamePair, RuleHolds, RuleFails, ReachesMoreThan}
+use Rattle.misere_theory.specs.Quotients.{Claim, Monoid, GivesElements, value, OptionValue, SamePair, RuleHolds, RuleFails, ReachesMoreThan}
 use Rattle.misere_theory.specs.Pairs.{IsPeriodic, SameHeapPair, heap_bound}
 use Rattle.misere_theory.proofs.Basics.{either_way}
 use Rattle.misere_theory.proofs.Sums.{first_or_rest, value-append, heaps_kept, IsPosition-append}
@@ -84,7 +84,7 @@ up_to_is_heap : (B : ℕ) (X : List ℕ) → IsPosition (IsHeapUpTo B) X → IsP
 up_to_is_heap B [] p = tt
 up_to_is_heap B (n ∷ X) p = (p.0.0, up_to_is_heap B X p.1)
 
-module _ (code : List ℕ) (c : Claim) (m : Monoid c.order c.times) (phi_in : (n : ℕ) → IsHeap n → c.phi n < c.order) where
+module _ (code : List ℕ) (c : Claim) (m : Monoid c.order c.times) (phi_in : GivesElements IsHeap c) where
   cons_option : (n i : ℕ) (X Y : List ℕ) → IsHeap n → IsHeap i → IsPosition IsHeap X → IsPosition IsHeap Y → SameHeapPair code c n i → SamePair code c X Y → (x : ℕ) → OptionValue code c (n ∷ X) x → OptionValue code c (i ∷ Y) x
   cons_option n i X Y one two p q heaps rest x o = elim (first_or_rest o.1) [
     | inl (H, h, e) ↦

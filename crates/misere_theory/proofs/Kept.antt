@@ -2,7 +2,7 @@
 use Rattle.std.proofs.Common.{◌≡◌, ℕ, ◌<◌, true, false, List, refl, sym, ◌∙◌, ap, inl, inr, Contains}
 use Rattle.misere_theory.specs.Games.{IsHeap, IsHeapUpTo, IsPosition}
 use Rattle.misere_theory.proofs.Sums.{heaps_kept, heaps_up_to_kept, IsKept}
-use Rattle.misere_theory.specs.Quotients.{Claim, Monoid, HeapOptionValue, RuleHolds}
+use Rattle.misere_theory.specs.Quotients.{Claim, Monoid, HeapOptionValue, RuleHolds, GivesElements}
 use Rattle.misere_theory.specs.Pairs.{heap_bound, Pair, Covers, IsClosed, KeptObey, ElementsObey, SameHeapPair, IsPeriodic}
 use Rattle.misere_theory.proofs.Bound.{heap_shown}
 use Rattle.misere_theory.proofs.Closures as closures
@@ -10,7 +10,7 @@ use Rattle.misere_theory.proofs.Closures as closures
 -- each heap of the game has the pair of one of the heaps that the list is closed under
 module _
     (heap shown : ℕ → Type 0) (code : List ℕ) (inside : IsKept heap code) (c : Claim) (m : Monoid c.order c.times)
-    (phi_in : (n : ℕ) → heap n → c.phi n < c.order)
+    (phi_in : GivesElements heap c)
     (show : (n : ℕ) → heap n → (b : ℕ) × shown b × SameHeapPair code c n b)
     (kept : List Pair) (closed : IsClosed code c shown kept) where
   abbrev Member : Type 0
@@ -60,7 +60,7 @@ module _
       (every_heap elements)
 
 -- in the whole game the heaps 1 to B show all
-module _ (code : List ℕ) (c : Claim) (m : Monoid c.order c.times) (phi_in : (n : ℕ) → IsHeap n → c.phi n < c.order) (k start period : ℕ) (ok : IsPeriodic code c k start period) (kept : List Pair) (closed : IsClosed code c (IsHeapUpTo (heap_bound k start period)) kept) where
+module _ (code : List ℕ) (c : Claim) (m : Monoid c.order c.times) (phi_in : GivesElements IsHeap c) (k start period : ℕ) (ok : IsPeriodic code c k start period) (kept : List Pair) (closed : IsClosed code c (IsHeapUpTo (heap_bound k start period)) kept) where
   pub all_covered : (X : List ℕ) → IsPosition IsHeap X → (p : Pair) × Contains kept p × Covers code c p X
   all_covered = covered_by_kept IsHeap (IsHeapUpTo (heap_bound k start period)) code (heaps_kept code) c m phi_in (heap_shown code c k start period ok) kept closed
 
@@ -68,6 +68,6 @@ module _ (code : List ℕ) (c : Claim) (m : Monoid c.order c.times) (phi_in : (n
   rule_everywhere = rule_by_kept IsHeap (IsHeapUpTo (heap_bound k start period)) code (heaps_kept code) c m phi_in (heap_shown code c k start period ok) kept closed
 
 -- in the game of the heaps up to M each shows itself
-module _ (M : ℕ) (code : List ℕ) (c : Claim) (m : Monoid c.order c.times) (phi_in : (n : ℕ) → IsHeapUpTo M n → c.phi n < c.order) (kept : List Pair) (closed : IsClosed code c (IsHeapUpTo M) kept) where
+module _ (M : ℕ) (code : List ℕ) (c : Claim) (m : Monoid c.order c.times) (phi_in : GivesElements (IsHeapUpTo M) c) (kept : List Pair) (closed : IsClosed code c (IsHeapUpTo M) kept) where
   pub rule_up_to : KeptObey c kept → ElementsObey code c (IsHeapUpTo M) → (X : List ℕ) → IsPosition (IsHeapUpTo M) X → RuleHolds code c X
   rule_up_to = rule_by_kept (IsHeapUpTo M) (IsHeapUpTo M) code (heaps_up_to_kept M code) c m phi_in (λ n h. (n, h, (refl, λ x. (λ o. o, λ o. o)))) kept closed

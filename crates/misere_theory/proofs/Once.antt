@@ -11,7 +11,7 @@ use Rattle.misere_theory.specs.Games.{IsHeap}
 use Rattle.misere_theory.specs.Quotients.{Represents}
 use Rattle.misere_theory.specs.Certificates.{Certificate, claim_of, key_of, InRanges, Accepted, pairs_with, pairs_from, TellsApart, LeastApart}
 use Rattle.misere_theory.proofs.Unique.{SameClaim, same_period, same_claim}
-use Rattle.misere_theory.proofs.Written.{phi_in, entry_at}
+use Rattle.misere_theory.proofs.Written.{entry_at}
 
 -- The numbers rise from low on and stay below q.
 Rises : ℕ → ℕ → List ℕ → Type 0
@@ -87,10 +87,10 @@ module _ (c d : Certificate) (a : Accepted c) (b : Accepted d) (same_code : c.co
   of_d = subst (λ k. Represents IsHeap k (claim_of d)) (sym same_code) b.represents
 
   periods : (c.start ≡ d.start) × (c.period ≡ d.period)
-  periods = same_period c.code (claim_of c) (claim_of d) a.represents of_d (λ n h. phi_in c a.in_ranges n) (λ n h. phi_in d b.in_ranges n) c.start c.period d.start d.period a.canonical.period b.canonical.period
+  periods = same_period c.code (claim_of c) (claim_of d) a.represents of_d c.start c.period d.start d.period a.canonical.period b.canonical.period
 
   numbers : SameClaim (claim_of c) (claim_of d) (key_of c) (key_of d)
-  numbers = same_claim c.code (claim_of c) (claim_of d) a.represents of_d (λ n h. phi_in c a.in_ranges n) (λ n h. phi_in d b.in_ranges n) c.start c.period d.start d.period (key_of c) (key_of d) a.canonical.period b.canonical.period a.canonical.numbered b.canonical.numbered
+  numbers = same_claim c.code (claim_of c) (claim_of d) a.represents of_d c.start c.period d.start d.period (key_of c) (key_of d) a.canonical.period b.canonical.period a.canonical.numbered b.canonical.numbered
 
   same_order : c.order ≡ d.order
   same_order = numbers.order

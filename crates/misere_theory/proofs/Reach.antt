@@ -6,7 +6,7 @@ use Rattle.std.proofs.lemmas.Map.Steps.{length-le_from_distinct_below}
 use native.Mathlib.Decide.{dec_lt, ℕ_discrete}
 use Rattle.std.proofs.lemmas.List.Elements.{recursion_from_All}
 use Rattle.misere_theory.specs.Games.{IsPosition}
-use Rattle.misere_theory.specs.Quotients.{Claim, Monoid, value, OptionValue, SamePair, ReachesMoreThan}
+use Rattle.misere_theory.specs.Quotients.{Claim, Monoid, GivesElements, value, OptionValue, SamePair, ReachesMoreThan}
 use Rattle.misere_theory.proofs.Sums.{value_in, IsKept, move_kept}
 use Rattle.misere_theory.proofs.Outcomes.{some_or_all_moves}
 use Rattle.misere_theory.proofs.Rules.{same_bool}
@@ -56,7 +56,7 @@ digits_same u v w m n h k e =
       ]
     ]
 
-module _ (heap : ℕ → Type 0) (code : List ℕ) (kept : IsKept heap code) (c : Claim) (m : Monoid c.order c.times) (phi_in : (n : ℕ) → heap n → c.phi n < c.order) where
+module _ (heap : ℕ → Type 0) (code : List ℕ) (kept : IsKept heap code) (c : Claim) (m : Monoid c.order c.times) (phi_in : GivesElements heap c) where
   -- whether x is the value of an option of X
   tested : (X : List ℕ) (x : ℕ) → (b : Bool) × ((b ≡ true) ↔ OptionValue code c X x)
   tested X x =

@@ -2,7 +2,7 @@
 use Rattle.std.proofs.Common.{◌≡◌, ℕ, ◌<◌, true, false, List, ◌∷◌, ◌++◌, refl, sym, ◌∙◌, ap, inl, inr, Contains}
 use Rattle.misere_theory.specs.Games.{IsPosition}
 use Rattle.misere_theory.specs.Games.Move.{Here}
-use Rattle.misere_theory.specs.Quotients.{Claim, Monoid, value, HeapOptionValue, RuleHolds, RuleFails}
+use Rattle.misere_theory.specs.Quotients.{Claim, Monoid, GivesElements, value, HeapOptionValue, RuleHolds, RuleFails}
 use Rattle.misere_theory.specs.Pairs.{Pair, IsPairOf}
 use Rattle.misere_theory.proofs.Sums.{value-append, IsKept}
 use Rattle.misere_theory.proofs.Rules.{rule_not_both, true_or_false}
@@ -16,7 +16,7 @@ module _ (code : List ℕ) (c : Claim) (p : Pair) (X : List ℕ) (is : IsPairOf 
   pub fails_inside : c.portion p.value ≡ true → ((x : ℕ) → Contains p.options x → ⊥) → RuleFails code c X
   fails_inside t none = inl (ap c.portion (sym is.same_value) ∙ t, inl (λ x o. none x ((is.options x).1 o)))
 
-module _ (heap : ℕ → Type 0) (code : List ℕ) (kept : IsKept heap code) (c : Claim) (m : Monoid c.order c.times) (phi_in : (n : ℕ) → heap n → c.phi n < c.order) where
+module _ (heap : ℕ → Type 0) (code : List ℕ) (kept : IsKept heap code) (c : Claim) (m : Monoid c.order c.times) (phi_in : GivesElements heap c) where
   -- an option of a heap that leads from the portion into it, beside the value of some position
   pub fails_by_element : (n h : ℕ) (Y : List ℕ) → IsPosition heap (n ∷ Y) → HeapOptionValue code c n h → c.portion (c.times (c.phi n) (value c Y)) ≡ true → c.portion (c.times h (value c Y)) ≡ true → RuleFails code c (n ∷ Y)
   fails_by_element n h Y p (H, o, e) t u =

@@ -3,7 +3,7 @@ use Rattle.std.proofs.Common.{◌≡◌, ℕ, suc, zero, ◌<◌, ◌⊎◌, ◌
 use Rattle.std.proofs.lemmas.Bool.{false_from_ne_true, true≢false}
 use Rattle.misere_theory.specs.Games.{Move, measure, Indistinguishable, IsP, IsN, IsPosition}
 use Rattle.misere_theory.specs.Games.IsP.{AllLose}
-use Rattle.misere_theory.specs.Quotients.{Claim, Monoid, value, OptionValue, RuleHolds, RuleFails, Represents, AllApart}
+use Rattle.misere_theory.specs.Quotients.{Claim, Monoid, GivesElements, value, OptionValue, RuleHolds, RuleFails, Represents, AllApart}
 use native.Mathlib.Decide.{dec_lt}
 use Rattle.misere_theory.proofs.Sums.{move_smaller, value_in, value-append, IsPosition-append, IsKept, move_kept}
 use Rattle.misere_theory.proofs.Outcomes.{not_both, determined, some_or_all_moves, movable}
@@ -88,7 +88,7 @@ module _ (code : List ℕ) (c : Claim) where
       out_of all x o = subst (λ v. c.portion v ≡ false) o.2 (all o.0 o.1)
 
 -- With every element the value of some position, and each two elements told apart, positions are alike exactly where their values are equal.
-module _ (heap : ℕ → Type 0) (code : List ℕ) (c : Claim) (m : Monoid c.order c.times) (phi_in : (n : ℕ) → heap n → c.phi n < c.order) (predicts : (X : List ℕ) → IsPosition heap X → IsP code X ↔ (c.portion (value c X) ≡ true)) where
+module _ (heap : ℕ → Type 0) (code : List ℕ) (c : Claim) (m : Monoid c.order c.times) (phi_in : GivesElements heap c) (predicts : (X : List ℕ) → IsPosition heap X → IsP code X ↔ (c.portion (value c X) ≡ true)) where
   predicts_sum : (X Z : List ℕ) → IsPosition heap X → IsPosition heap Z → IsP code (X ++ Z) ↔ (c.portion (c.times (value c X) (value c Z)) ≡ true)
   predicts_sum X Z p q = subst (λ v. IsP code (X ++ Z) ↔ (c.portion v ≡ true)) (value-append heap c m phi_in X Z p q) (predicts (X ++ Z) (IsPosition-append heap X Z p q))
 

@@ -5,7 +5,7 @@ use Rattle.misere_theory.specs.Games.{HeapOption, Move, MultisetMove, IsP, IsN, 
 use Rattle.misere_theory.specs.Games.Move.{Here, There}
 use Rattle.misere_theory.specs.Games.IsP.{AllLose}
 use Rattle.misere_theory.specs.Games.IsN.{Ended, Wins}
-use Rattle.misere_theory.specs.Quotients.{Claim, Monoid, value}
+use Rattle.misere_theory.specs.Quotients.{Claim, Monoid, GivesElements, value}
 use Rattle.misere_theory.proofs.Sums.{first_or_rest, value_in}
 
 -- one list is the other in another order, by rules that an induction can follow
@@ -89,7 +89,7 @@ position_shuffled heap Flip p = (p.1.0, (p.0, p.1.1))
 position_shuffled heap (Then s t) p = position_shuffled heap t (position_shuffled heap s p)
 
 -- nor does the value
-module _ (heap : ℕ → Type 0) (c : Claim) (m : Monoid c.order c.times) (phi_in : (n : ℕ) → heap n → c.phi n < c.order) where
+module _ (heap : ℕ → Type 0) (c : Claim) (m : Monoid c.order c.times) (phi_in : GivesElements heap c) where
   pub value_shuffled : {X Y : List ℕ} → Shuffled X Y → IsPosition heap X → value c X ≡ value c Y
   value_shuffled Same p = refl
   value_shuffled (Under {n = n} s) p = ap (c.times (c.phi n)) (value_shuffled s p.1)

@@ -4,7 +4,7 @@ use Rattle.std.specs.List.Sorted.{IsNonDecreasing}
 use native.Mathlib.Decide.{dec_le, ℕ_discrete}
 use Rattle.misere_theory.specs.Games.{HeapOption, digit, IsHeap}
 use Rattle.misere_theory.specs.Games.HeapOption.{Nothing, One, Two}
-use Rattle.misere_theory.specs.Quotients.{Claim, Monoid, value}
+use Rattle.misere_theory.specs.Quotients.{Claim, Monoid, GivesElements, value}
 use Rattle.misere_theory.specs.Pairs.{IsPeriodic, IsSmallSplit}
 use Rattle.misere_theory.specs.Plays.{LeftBefore}
 
@@ -36,7 +36,7 @@ module _ (code : List ℕ) (c : Claim) (k start period : ℕ) (ok : IsPeriodic c
         ],
       )
 
-  module _ (m : Monoid c.order c.times) (phi_in : (n : ℕ) → IsHeap n → c.phi n < c.order) where
+  module _ (m : Monoid c.order c.times) (phi_in : GivesElements IsHeap c) where
     turned : (a b : ℕ) → 1 ≤ a → 1 ≤ b → value c (a ∷ b ∷ []) ≡ value c (b ∷ a ∷ [])
     turned a b p q =
         let alone : (x : ℕ) → x < c.order → c.times x 0 ≡ x = λ x l. m.commutes x 0 l m.some ∙ m.identity x l in

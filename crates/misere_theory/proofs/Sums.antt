@@ -3,7 +3,7 @@ use Rattle.std.proofs.Common.{◌≡◌, ℕ, ◌+◌, ◌-◌, ◌*◌, ◌<◌
 use Rattle.misere_theory.specs.Games.{HeapOption, Move, measure, IsPosition, IsHeap, IsHeapUpTo}
 use Rattle.misere_theory.specs.Games.HeapOption.{Nothing, One, Two}
 use Rattle.misere_theory.specs.Games.Move.{Here, There}
-use Rattle.misere_theory.specs.Quotients.{Claim, Monoid, value}
+use Rattle.misere_theory.specs.Quotients.{Claim, Monoid, GivesElements, value}
 
 -- a move in a position with a first heap is in that heap or in the others
 pub first_or_rest : {code : List ℕ} {n : ℕ} {X Y : List ℕ} → Move code (n ∷ X) Y → ((H : List ℕ) × HeapOption code n H × (Y ≡ H ++ X)) ⊎ ((X' : List ℕ) × Move code X X' × (Y ≡ n ∷ X'))
@@ -70,7 +70,7 @@ pub move_kept : (heap : ℕ → Type 0) (code : List ℕ) → IsKept heap code �
 move_kept heap code k (Here {n = n} {X = X} {H = H} o e) p = rw e (IsPosition-append heap H X (k n H p.0 o) p.1)
 move_kept heap code k (There m e) p = rw e (p.0, move_kept heap code k m p.1)
 
-module _ (heap : ℕ → Type 0) (c : Claim) (m : Monoid c.order c.times) (phi_in : (n : ℕ) → heap n → c.phi n < c.order) where
+module _ (heap : ℕ → Type 0) (c : Claim) (m : Monoid c.order c.times) (phi_in : GivesElements heap c) where
   pub value_in : (X : List ℕ) → IsPosition heap X → value c X < c.order
   value_in [] p = m.some
   value_in (n ∷ X) p = m.closed _ _ (phi_in n p.0) (value_in X p.1)

@@ -63,7 +63,7 @@ same_keys a b f g =
     ]
 
 -- Numbers. What one claim's least keys say of the other's.
-module _ (code : List ℕ) (c d : Claim) (rc : Represents IsHeap code c) (rd : Represents IsHeap code d) (phi_c : (n : ℕ) → IsHeap n → c.phi n < c.order) (phi_d : (n : ℕ) → IsHeap n → d.phi n < d.order) where
+module _ (code : List ℕ) (c d : Claim) (rc : Represents IsHeap code c) (rd : Represents IsHeap code d) where
   pub carries : (X Y : List ℕ) → IsPosition IsHeap X → IsPosition IsHeap Y → value c X ≡ value c Y → value d X ≡ value d Y
   carries X Y p q e = (rd.indistinguishable X Y p q).0 ((rc.indistinguishable X Y p q).1 e)
 
@@ -90,9 +90,9 @@ module _ (code : List ℕ) (c d : Claim) (rc : Represents IsHeap code c) (rd : R
         let (F, w, p, q) = agree f (nc.parent e pos l) in
         let one : IsHeap h = (nc.heap e pos l).0 in
         let here : value c (h ∷ F) ≡ e =
-        rc.monoid.commutes _ _ (phi_c h one) (value_in IsHeap c rc.monoid phi_c F w) ∙ ap (λ v. c.times v (c.phi h)) p ∙ nc.product e pos l in
+        rc.monoid.commutes _ _ (rc.elements h one) (value_in IsHeap c rc.monoid rc.elements F w) ∙ ap (λ v. c.times v (c.phi h)) p ∙ nc.product e pos l in
         let there : value d (h ∷ F) ≡ d.times f (d.phi h) =
-        rd.monoid.commutes _ _ (phi_d h one) (value_in IsHeap d rd.monoid phi_d F w) ∙ ap (λ v. d.times v (d.phi h)) q in
+        rd.monoid.commutes _ _ (rd.elements h one) (value_in IsHeap d rd.monoid rd.elements F w) ∙ ap (λ v. d.times v (d.phi h)) q in
         record {
           position = h ∷ F;
           counts = (one, w);
@@ -105,7 +105,7 @@ module _ (code : List ℕ) (c d : Claim) (rc : Represents IsHeap code c) (rd : R
                 let same : value c (h ∷ F) ≡ value c Y = (rc.indistinguishable (h ∷ F) Y (one, w) y).0 ((rd.indistinguishable (h ∷ F) Y (one, w) y).1 (sym b)) in
                 absurd (omega arith)
           ];
-          parent = subst (λ v. v < d.order) q (value_in IsHeap d rd.monoid phi_d F w);
+          parent = subst (λ v. v < d.order) q (value_in IsHeap d rd.monoid rd.elements F w);
         }
 
     pub key_not_below : (e : ℕ) → 0 < e → e < c.order → Side e → KeyBelow (key_c e) (key_d e) → ⊥
@@ -114,7 +114,7 @@ module _ (code : List ℕ) (c d : Claim) (rc : Represents IsHeap code c) (rd : R
         let h = (key_c e).1 in
         let v = d.times f (d.phi h) in
         let high : e ≤ v = subst (λ z. e ≤ z) w.there w.above in
-        let low : v < d.order = rd.monoid.closed f (d.phi h) w.parent (phi_d h (nc.heap e pos l).0) in
+        let low : v < d.order = rd.monoid.closed f (d.phi h) w.parent (rd.elements h (nc.heap e pos l).0) in
         let range = nc.heap e pos l in
         let minimal : KeyBelow (f, h) (key_d v) → ⊥ = nd.least f h w.parent range.0 range.1 (omega arith) in
         elim (dec_lt e v) [
@@ -123,39 +123,39 @@ module _ (code : List ℕ) (c d : Claim) (rc : Represents IsHeap code c) (rd : R
         ]
 
 -- Both at once.
-module _ (code : List ℕ) (c d : Claim) (rc : Represents IsHeap code c) (rd : Represents IsHeap code d) (phi_c : (n : ℕ) → IsHeap n → c.phi n < c.order) (phi_d : (n : ℕ) → IsHeap n → d.phi n < d.order) (heaps : ℕ) (key_c key_d : ℕ → ℕ × ℕ) (nc : IsNumbered c heaps key_c) (nd : IsNumbered d heaps key_d) where
-  swap_sides : {e : ℕ} → Agree code c d rc rd phi_c phi_d e → Agree code d c rd rc phi_d phi_c e
+module _ (code : List ℕ) (c d : Claim) (rc : Represents IsHeap code c) (rd : Represents IsHeap code d) (heaps : ℕ) (key_c key_d : ℕ → ℕ × ℕ) (nc : IsNumbered c heaps key_c) (nd : IsNumbered d heaps key_d) where
+  swap_sides : {e : ℕ} → Agree code c d rc rd e → Agree code d c rd rc e
   swap_sides (X, w, p, q) = (X, w, q, p)
 
-  pub agree_within : (t e : ℕ) → e < t → e < c.order → Agree code c d rc rd phi_c phi_d e
+  pub agree_within : (t e : ℕ) → e < t → e < c.order → Agree code c d rc rd e
   agree_within zero e h l = absurd (omega arith)
   agree_within (suc t) e h l = elim (eq-zero-or-pos e) [
     | inl z ↦ ([], tt, sym z, sym z)
     | inr pos ↦
-        let smaller : (i : ℕ) → i < e → Agree code c d rc rd phi_c phi_d i = λ i g. agree_within t i (omega arith) (omega arith) in
-        let a = one_side code c d rc rd phi_c phi_d heaps key_c key_d nc nd e pos l smaller in
-        let below : e < d.order = let v = value_in IsHeap d rd.monoid phi_d a.position a.counts in let u = a.above in omega arith in
-        let b = one_side code d c rd rc phi_d phi_c heaps key_d key_c nd nc e pos below (λ i g. swap_sides (smaller i g)) in
+        let smaller : (i : ℕ) → i < e → Agree code c d rc rd i = λ i g. agree_within t i (omega arith) (omega arith) in
+        let a = one_side code c d rc rd heaps key_c key_d nc nd e pos l smaller in
+        let below : e < d.order = let v = value_in IsHeap d rd.monoid rd.elements a.position a.counts in let u = a.above in omega arith in
+        let b = one_side code d c rd rc heaps key_d key_c nd nc e pos below (λ i g. swap_sides (smaller i g)) in
         let keys = same_keys (key_c e) (key_d e)
-        (key_not_below code c d rc rd phi_c phi_d heaps key_c key_d nc nd e pos l a)
-        (key_not_below code d c rd rc phi_d phi_c heaps key_d key_c nd nc e pos below b) in
+        (key_not_below code c d rc rd heaps key_c key_d nc nd e pos l a)
+        (key_not_below code d c rd rc heaps key_d key_c nd nc e pos below b) in
         (a.position, a.counts, a.here, a.there ∙ ap₂ (λ x y. d.times x (d.phi y)) keys.0 keys.1 ∙ nd.product e pos below)
   ]
 
-  pub agree : (e : ℕ) → e < c.order → Agree code c d rc rd phi_c phi_d e
+  pub agree : (e : ℕ) → e < c.order → Agree code c d rc rd e
   agree e l = agree_within (suc e) e (omega arith) l
 
   pub order_le : c.order ≤ d.order
   order_le = elim (dec_le c.order d.order) [
     | yes i ↦ i
-    | no f ↦ let (X, w, p, q) = agree d.order (omega arith) in let v = value_in IsHeap d rd.monoid phi_d X w in absurd (omega arith)
+    | no f ↦ let (X, w, p, q) = agree d.order (omega arith) in let v = value_in IsHeap d rd.monoid rd.elements X w in absurd (omega arith)
   ]
 
   pub same_value : (X : List ℕ) → IsPosition IsHeap X → value d X ≡ value c X
-  same_value X w = agree_at code c d rc rd phi_c phi_d (value c X) (agree (value c X) (value_in IsHeap c rc.monoid phi_c X w)) X w refl
+  same_value X w = agree_at code c d rc rd (value c X) (agree (value c X) (value_in IsHeap c rc.monoid rc.elements X w)) X w refl
 
   pub same_phi : (n : ℕ) → IsHeap n → d.phi n ≡ c.phi n
-  same_phi n h = sym (value_of_heap d rd.monoid n (phi_d n h)) ∙ same_value (n ∷ []) (h, tt) ∙ value_of_heap c rc.monoid n (phi_c n h)
+  same_phi n h = sym (value_of_heap d rd.monoid n (rd.elements n h)) ∙ same_value (n ∷ []) (h, tt) ∙ value_of_heap c rc.monoid n (rc.elements n h)
 
   pub same_portion : (e : ℕ) → e < c.order → d.portion e ≡ c.portion e
   same_portion e l =
@@ -168,32 +168,32 @@ module _ (code : List ℕ) (c d : Claim) (rc : Represents IsHeap code c) (rd : R
   same_times x y i j =
       let (X, w, p, q) = agree x i in
       let (Y, v, r, s) = agree y j in
-      ap₂ d.times (sym q) (sym s) ∙ sym (value-append IsHeap d rd.monoid phi_d X Y w v) ∙ same_value (X ++ Y) (IsPosition-append IsHeap X Y w v) ∙ value-append IsHeap c rc.monoid phi_c X Y w v ∙ ap₂ c.times p r
+      ap₂ d.times (sym q) (sym s) ∙ sym (value-append IsHeap d rd.monoid rd.elements X Y w v) ∙ same_value (X ++ Y) (IsPosition-append IsHeap X Y w v) ∙ value-append IsHeap c rc.monoid rc.elements X Y w v ∙ ap₂ c.times p r
 
   pub same_word : (e : ℕ) → 0 < e → e < c.order → (e < d.order) × (((key_c e).0 ≡ (key_d e).0) × ((key_c e).1 ≡ (key_d e).1))
   same_word e pos l =
-      let smaller : (i : ℕ) → i < e → Agree code c d rc rd phi_c phi_d i = λ i g. agree i (omega arith) in
-      let a = one_side code c d rc rd phi_c phi_d heaps key_c key_d nc nd e pos l smaller in
+      let smaller : (i : ℕ) → i < e → Agree code c d rc rd i = λ i g. agree i (omega arith) in
+      let a = one_side code c d rc rd heaps key_c key_d nc nd e pos l smaller in
       let below : e < d.order = let o = order_le in omega arith in
-      let b = one_side code d c rd rc phi_d phi_c heaps key_d key_c nd nc e pos below (λ i g. swap_sides (smaller i g)) in (
+      let b = one_side code d c rd rc heaps key_d key_c nd nc e pos below (λ i g. swap_sides (smaller i g)) in (
         below,
         same_keys (key_c e) (key_d e)
-            (key_not_below code c d rc rd phi_c phi_d heaps key_c key_d nc nd e pos l a)
-            (key_not_below code d c rd rc phi_d phi_c heaps key_d key_c nd nc e pos below b),
+            (key_not_below code c d rc rd heaps key_c key_d nc nd e pos l a)
+            (key_not_below code d c rd rc heaps key_d key_c nd nc e pos below b),
       )
 
 -- heaps with one element in the one claim have one in the other
-pub same_heaps : (code : List ℕ) (c d : Claim) → Represents IsHeap code c → Represents IsHeap code d → ((n : ℕ) → IsHeap n → c.phi n < c.order) → ((n : ℕ) → IsHeap n → d.phi n < d.order) → (n m : ℕ) → IsHeap n → IsHeap m → d.phi n ≡ d.phi m → c.phi n ≡ c.phi m
-same_heaps code c d rc rd phi_c phi_d n m h k e =
-    sym (value_of_heap c rc.monoid n (phi_c n h))
-    ∙ (rc.indistinguishable (n ∷ []) (m ∷ []) (h, tt) (k, tt)).0 ((rd.indistinguishable (n ∷ []) (m ∷ []) (h, tt) (k, tt)).1 (value_of_heap d rd.monoid n (phi_d n h) ∙ e ∙ sym (value_of_heap d rd.monoid m (phi_d m k))))
-    ∙ value_of_heap c rc.monoid m (phi_c m k)
+pub same_heaps : (code : List ℕ) (c d : Claim) → Represents IsHeap code c → Represents IsHeap code d → (n m : ℕ) → IsHeap n → IsHeap m → d.phi n ≡ d.phi m → c.phi n ≡ c.phi m
+same_heaps code c d rc rd n m h k e =
+    sym (value_of_heap c rc.monoid n (rc.elements n h))
+    ∙ (rc.indistinguishable (n ∷ []) (m ∷ []) (h, tt) (k, tt)).0 ((rd.indistinguishable (n ∷ []) (m ∷ []) (h, tt) (k, tt)).1 (value_of_heap d rd.monoid n (rd.elements n h) ∙ e ∙ sym (value_of_heap d rd.monoid m (rd.elements m k))))
+    ∙ value_of_heap c rc.monoid m (rc.elements m k)
 
 -- start and period are the same
-pub same_period : (code : List ℕ) (c d : Claim) → Represents IsHeap code c → Represents IsHeap code d → ((n : ℕ) → IsHeap n → c.phi n < c.order) → ((n : ℕ) → IsHeap n → d.phi n < d.order) → (s p t r : ℕ) → IsLeastPeriod c s p → IsLeastPeriod d t r → (s ≡ t) × (p ≡ r)
-same_period code c d rc rd phi_c phi_d s p t r k l =
-    let one = same_heaps code c d rc rd phi_c phi_d in
-    let two = same_heaps code d c rd rc phi_d phi_c in
+pub same_period : (code : List ℕ) (c d : Claim) → Represents IsHeap code c → Represents IsHeap code d → (s p t r : ℕ) → IsLeastPeriod c s p → IsLeastPeriod d t r → (s ≡ t) × (p ≡ r)
+same_period code c d rc rd s p t r k l =
+    let one = same_heaps code c d rc rd in
+    let two = same_heaps code d c rd rc in
     let a : p ≤ r = no_shorter c d one s p t r k l in
     let b : r ≤ p = no_shorter d c two t r s p l k in
     let e : p ≡ r = omega arith in
@@ -202,17 +202,17 @@ same_period code c d rc rd phi_c phi_d s p t r k l =
     (omega arith, e)
 
 -- the elements, phi, portion, product and keys are the same
-pub same_claim : (code : List ℕ) (c d : Claim) → Represents IsHeap code c → Represents IsHeap code d → ((n : ℕ) → IsHeap n → c.phi n < c.order) → ((n : ℕ) → IsHeap n → d.phi n < d.order) → (s p t r : ℕ) (key_c key_d : ℕ → ℕ × ℕ) → IsLeastPeriod c s p → IsLeastPeriod d t r → IsNumbered c (s + p - 1) key_c → IsNumbered d (t + r - 1) key_d → SameClaim c d key_c key_d
-same_claim code c d rc rd phi_c phi_d s p t r key_c key_d k l nc nd =
-    let (e, f) = same_period code c d rc rd phi_c phi_d s p t r k l in
+pub same_claim : (code : List ℕ) (c d : Claim) → Represents IsHeap code c → Represents IsHeap code d → (s p t r : ℕ) (key_c key_d : ℕ → ℕ × ℕ) → IsLeastPeriod c s p → IsLeastPeriod d t r → IsNumbered c (s + p - 1) key_c → IsNumbered d (t + r - 1) key_d → SameClaim c d key_c key_d
+same_claim code c d rc rd s p t r key_c key_d k l nc nd =
+    let (e, f) = same_period code c d rc rd s p t r k l in
     let g : t + r - 1 ≡ s + p - 1 = omega arith in
     let nd' : IsNumbered d (s + p - 1) key_d = subst (λ h. IsNumbered d h key_d) g nd in
-    let a : c.order ≤ d.order = order_le code c d rc rd phi_c phi_d (s + p - 1) key_c key_d nc nd' in
-    let b : d.order ≤ c.order = order_le code d c rd rc phi_d phi_c (s + p - 1) key_d key_c nd' nc in
+    let a : c.order ≤ d.order = order_le code c d rc rd (s + p - 1) key_c key_d nc nd' in
+    let b : d.order ≤ c.order = order_le code d c rd rc (s + p - 1) key_d key_c nd' nc in
     record {
       order = omega arith;
-      phi = same_phi code c d rc rd phi_c phi_d (s + p - 1) key_c key_d nc nd';
-      portion = same_portion code c d rc rd phi_c phi_d (s + p - 1) key_c key_d nc nd';
-      times = same_times code c d rc rd phi_c phi_d (s + p - 1) key_c key_d nc nd';
-      words = λ e pos h. (same_word code c d rc rd phi_c phi_d (s + p - 1) key_c key_d nc nd' e pos h).1;
+      phi = same_phi code c d rc rd (s + p - 1) key_c key_d nc nd';
+      portion = same_portion code c d rc rd (s + p - 1) key_c key_d nc nd';
+      times = same_times code c d rc rd (s + p - 1) key_c key_d nc nd';
+      words = λ e pos h. (same_word code c d rc rd (s + p - 1) key_c key_d nc nd' e pos h).1;
     }

@@ -1,7 +1,7 @@
 -- What each answer to a certificate says of the others, and of a certificate that is accepted or isn't.
 use Rattle.std.proofs.Common.{◌≡◌, ℕ, ◌*◌, ◌^◌, ◌<◌, ◌≤◌, ◌⊎◌, List, length, ◌-◌, refl, ap, inl, inr, arith}
 use Rattle.misere_theory.specs.Games.{IsHeap, IsPosition}
-use Rattle.misere_theory.specs.Quotients.{Monoid, Represents, RuleFails}
+use Rattle.misere_theory.specs.Quotients.{Monoid, Represents, RuleFails, GivesElements}
 use Rattle.misere_theory.specs.Certificates.{Certificate, claim_of, times_of, InRanges, Canonical, Accepted}
 use Rattle.misere_theory.specs.Verdicts.{Fault, fault_number, HasFault, Verdict, IsAllowed}
 use Rattle.misere_theory.specs.Verdicts.Fault.{Law, Word, Order, Period, Apart}
@@ -68,7 +68,7 @@ module _ (c : Certificate) (r : InRanges c) (m : Monoid c.order (times_of c)) (k
   pub accepted_from_no_failure : ((X : List ℕ) → IsPosition IsHeap X → RuleFails c.code (claim_of c) X → ⊥) → Accepted c
   accepted_from_no_failure none =
       let claim = claim_of c in
-      let inside : (n : ℕ) → IsHeap n → claim.phi n < claim.order = λ n _. phi_in c r n in
+      let inside : GivesElements IsHeap claim = λ n _. phi_in c r n in
       record {
         in_ranges = r;
         canonical = k;

@@ -30,12 +30,16 @@ abbrev pub value : Claim → List ℕ → ℕ
 value c [] = 0
 value c (n ∷ X) = c.times (c.phi n) (value c X)
 
+-- The pretending function gives each heap an element. Plambeck and Siegel.
+abbrev pub GivesElements : (ℕ → Type 0) → Claim → Type 0
+GivesElements heap c = (n : ℕ) → heap n → c.phi n < c.order
+
 -- The claim is the misère quotient of the code's game: the product is a commutative monoid, each heap has an element, a position is
 -- a P-position exactly where its value is in the portion, two positions are indistinguishable exactly where their values are equal,
 -- and each element is the value of some position. Plambeck and Siegel; Siegel, chapter V.
 pub record Represents (heap : ℕ → Type 0) (code : List ℕ) (c : Claim) : Type 0 where
   pub monoid : Monoid c.order c.times
-  pub elements : (n : ℕ) → heap n → c.phi n < c.order
+  pub elements : GivesElements heap c
   pub predicts : (X : List ℕ) → IsPosition heap X → IsP code X ↔ (c.portion (value c X) ≡ true)
   pub indistinguishable : (X Y : List ℕ) → IsPosition heap X → IsPosition heap Y
       → Indistinguishable heap code X Y ↔ (value c X ≡ value c Y)

@@ -2,7 +2,7 @@
 
 ghost use Rattle.std.specs.Prelude.{◌≡◌, ◌⊎◌, ◌<◌, ◌++◌, List, ℕ, IsPermutation};
 ghost use Rattle.misere_theory.specs.Games.{Move, HeapMove, MultisetMove, IsP, IsN, IsHeap, IsPosition, Indistinguishable, measure};
-ghost use Rattle.misere_theory.specs.Quotients.{Claim, Monoid, value};
+ghost use Rattle.misere_theory.specs.Quotients.{Claim, Monoid, GivesElements, value};
 
 /// Each position has one outcome, a move leads to a position, and it lowers the measure.
 pub fn outcomes_are_determined()
@@ -19,7 +19,7 @@ pub fn order_does_not_matter()
     ensures outcome { (code X Y : List ℕ) → IsPermutation X Y → IsP code X → IsP code Y }
     ensures value { (c : Claim) (X Y : List ℕ)
         → Monoid c.order c.times
-        → ((n : ℕ) → IsHeap n → c.phi n < c.order)
+        → GivesElements IsHeap c
         → IsPosition IsHeap X
         → IsPermutation X Y
         → value c X ≡ value c Y }

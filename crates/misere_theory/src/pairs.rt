@@ -5,13 +5,13 @@ ghost use Rattle.std.specs.List.Sorted.{IsNonDecreasing};
 ghost use Rattle.misere_theory.specs.Games.{HeapOption, IsHeap, IsHeapUpTo, IsPosition};
 ghost use Rattle.misere_theory.specs.Pairs.{Pair, IsSamePair, IsPeriodic, IsClosed, KeptObey, ElementsObey, heap_bound, SameHeapPair, Covers, IsPairOf, IsSmallSplit};
 ghost use Rattle.misere_theory.specs.Plays.{LeftBefore};
-ghost use Rattle.misere_theory.specs.Quotients.{Claim, Monoid, AllApart, Represents, RuleHolds, RuleFails, HeapOptionValue, OptionValue, SumOptionValue, ReachesMoreThan, value};
+ghost use Rattle.misere_theory.specs.Quotients.{Claim, Monoid, AllApart, Represents, RuleHolds, RuleFails, HeapOptionValue, OptionValue, SumOptionValue, ReachesMoreThan, GivesElements, value};
 
 /// The pair of a sum is the product of the pairs.
 pub fn pairs_of_sums_are_products()
     ensures { (code : List ℕ) (c : Claim) (X Y : List ℕ)
         → Monoid c.order c.times
-        → ((n : ℕ) → IsHeap n → c.phi n < c.order)
+        → GivesElements IsHeap c
         → IsPosition IsHeap X
         → IsPosition IsHeap Y
         → (value c (X ++ Y) ≡ c.times (value c X) (value c Y))
@@ -32,7 +32,7 @@ pub fn small_parts_are_enough()
     ensures values { (code : List ℕ) (c : Claim) (k start period : ℕ)
         → IsPeriodic code c k start period
         → Monoid c.order c.times
-        → ((n : ℕ) → IsHeap n → c.phi n < c.order)
+        → GivesElements IsHeap c
         → (n : ℕ) (H : List ℕ) → HeapOption code n H
         → (L : List ℕ) × HeapOption code n L × IsSmallSplit (start + period) L × (value c L ≡ value c H) }
     ensures first { (code : List ℕ) (c : Claim) (k start period : ℕ)
@@ -47,7 +47,7 @@ pub fn small_parts_are_enough()
 pub fn closed_pairs_cover()
     ensures { (code : List ℕ) (c : Claim) (k start period : ℕ) (kept : List Pair)
         → Monoid c.order c.times
-        → ((n : ℕ) → IsHeap n → c.phi n < c.order)
+        → GivesElements IsHeap c
         → IsPeriodic code c k start period
         → IsClosed code c (IsHeapUpTo (heap_bound k start period)) kept
         → (X : List ℕ) → IsPosition IsHeap X → (p : Pair) × Contains kept p × Covers code c p X }
@@ -57,7 +57,7 @@ pub fn closed_pairs_cover()
 pub fn closed_pairs_represent()
     ensures { (code : List ℕ) (c : Claim) (k start period : ℕ) (kept : List Pair)
         → Monoid c.order c.times
-        → ((n : ℕ) → IsHeap n → c.phi n < c.order)
+        → GivesElements IsHeap c
         → IsPeriodic code c k start period
         → IsClosed code c (IsHeapUpTo (heap_bound k start period)) kept
         → KeptObey c kept
@@ -71,7 +71,7 @@ pub fn closed_pairs_represent()
 pub fn closed_pairs_represent_partly()
     ensures { (M : ℕ) (code : List ℕ) (c : Claim) (kept : List Pair)
         → Monoid c.order c.times
-        → ((n : ℕ) → IsHeapUpTo M n → c.phi n < c.order)
+        → GivesElements (IsHeapUpTo M) c
         → IsClosed code c (IsHeapUpTo M) kept
         → KeptObey c kept
         → ElementsObey code c (IsHeapUpTo M)
@@ -97,7 +97,7 @@ pub fn failed_tests_show_positions()
         → IsPosition IsHeap X × RuleFails code c X }
     ensures element { (code : List ℕ) (c : Claim) (n h : ℕ) (Y : List ℕ)
         → Monoid c.order c.times
-        → ((n : ℕ) → IsHeap n → c.phi n < c.order)
+        → GivesElements IsHeap c
         → IsPosition IsHeap (n ∷ Y)
         → HeapOptionValue code c n h
         → c.portion (c.times (c.phi n) (value c Y)) ≡ true
@@ -109,7 +109,7 @@ pub fn failed_tests_show_positions()
 pub fn reach_is_bounded()
     ensures { (code : List ℕ) (c : Claim) (limit : ℕ)
         → Monoid c.order c.times
-        → ((n : ℕ) → IsHeap n → c.phi n < c.order)
+        → GivesElements IsHeap c
         → ReachesMoreThan IsHeap code c limit
         → limit < c.order * 2 ^ c.order }
 {}
@@ -118,7 +118,7 @@ pub fn reach_is_bounded()
 pub fn rule_holds_or_fails_somewhere()
     ensures { (code : List ℕ) (c : Claim) (k start period : ℕ)
         → Monoid c.order c.times
-        → ((n : ℕ) → IsHeap n → c.phi n < c.order)
+        → GivesElements IsHeap c
         → IsPeriodic code c k start period
         → ((X : List ℕ) → IsPosition IsHeap X → RuleHolds code c X)
         ⊎ ((X : List ℕ) × IsPosition IsHeap X × RuleFails code c X) }

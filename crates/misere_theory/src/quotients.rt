@@ -2,7 +2,7 @@
 
 ghost use Rattle.std.specs.Prelude.{◌≡◌, ◌⊎◌, ◌↔◌, ◌<◌, List, ℕ, true};
 ghost use Rattle.misere_theory.specs.Games.{IsP, IsHeap, IsHeapUpTo, IsPosition};
-ghost use Rattle.misere_theory.specs.Quotients.{Claim, Monoid, LawFails, AllApart, Represents, SameQuotient, RuleHolds, RuleFails, value};
+ghost use Rattle.misere_theory.specs.Quotients.{Claim, Monoid, LawFails, AllApart, Represents, SameQuotient, RuleHolds, RuleFails, GivesElements, value};
 
 /// A product that stays below the order is a commutative monoid exactly where no law fails.
 pub fn laws_fail_or_hold()
@@ -30,7 +30,7 @@ pub fn rule_predicts()
 pub fn rule_represents_partly()
     ensures { (M : ℕ) (code : List ℕ) (c : Claim)
         → Monoid c.order c.times
-        → ((n : ℕ) → IsHeapUpTo M n → c.phi n < c.order)
+        → GivesElements (IsHeapUpTo M) c
         → ((X : List ℕ) → IsPosition (IsHeapUpTo M) X → RuleHolds code c X)
         → ((x : ℕ) → x < c.order → (X : List ℕ) × IsPosition (IsHeapUpTo M) X × (value c X ≡ x))
         → AllApart c

@@ -1,4 +1,5 @@
-use Rattle.std.proofs.Common.{ℕ, ◌<◌, length, ◌-◌}
+use Rattle.std.proofs.Common.{length, ◌-◌}
+use Rattle.misere_theory.specs.Quotients.{GivesElements}
 use Rattle.misere_theory.specs.Certificates.{claim_of}
 use Rattle.misere_theory.specs.Games.{IsHeap}
 use Rattle.misere_theory.proofs.Sums.{heaps_kept}
@@ -10,7 +11,7 @@ use Rattle.misere_theory.proofs.certificates.tested_certificates_are_accepted.Go
 pub returns : goal.returns
 returns g c kept ranges monoid canonical closed members elements =
     let claim = claim_of c in
-    let inside : (n : ℕ) → IsHeap n → claim.phi n < claim.order = λ n _. phi_in c ranges n in
+    let inside : GivesElements IsHeap claim = λ n _. phi_in c ranges n in
     let rule = rule_everywhere c.code claim monoid inside (length c.code - 1) c.start c.period (periodic c ranges) kept closed members elements in
     record {
       in_ranges = ranges;
