@@ -17,7 +17,8 @@ module _ (code : List ℕ) (c : Claim) (k start period : ℕ) (ok : IsPeriodic c
   taken : (a : ℕ) → start + period ≤ a → c.phi (a - period) ≡ c.phi a
   taken a l = let e : period + (a - period) ≡ a = omega arith in sym (ok.repeats (a - period) (omega arith)) ∙ ap c.phi e
 
-  raised : (n : ℕ) → 2 * start + period + k ≤ n → {H : List ℕ} → HeapOption code n H → (L : List ℕ) × HeapOption code (period + n) L × (value c L ≡ value c H)
+  raised : (n : ℕ) → 2 * start + period + k ≤ n → {H : List ℕ} → HeapOption code n H
+      → (L : List ℕ) × HeapOption code (period + n) L × (value c L ≡ value c H)
   raised n l (Nothing j p e b) = absurd (let s = ok.from_one in omega (arith, at_most j 0 b))
   raised n l (One j a p q e b) =
       let i = at_most j 1 b in
@@ -29,7 +30,8 @@ module _ (code : List ℕ) (c : Claim) (k start period : ℕ) (ok : IsPeriodic c
         | no t ↦ ((period + a) ∷ b ∷ [], Two j (period + a) b (omega arith) q (omega arith) s, ap (λ v. c.times v (c.times (c.phi b) 0)) (ok.repeats a (omega arith)))
       ]
 
-  lowered : (n : ℕ) → 2 * start + period + k ≤ n → {H : List ℕ} → HeapOption code (period + n) H → (L : List ℕ) × HeapOption code n L × (value c L ≡ value c H)
+  lowered : (n : ℕ) → 2 * start + period + k ≤ n → {H : List ℕ} → HeapOption code (period + n) H
+      → (L : List ℕ) × HeapOption code n L × (value c L ≡ value c H)
   lowered n l (Nothing j p e b) = absurd (let s = ok.from_one in omega (arith, at_most j 0 b))
   lowered n l (One j a p q e b) =
       let i = at_most j 1 b in let s = ok.from_one in

@@ -41,7 +41,8 @@ module _ (heap : ℕ → Type 0) (code : List ℕ) where
   exchanged_parts X Y Z p = (λ h. turned X Y Z h, λ h. turned Y X Z h)
 
   -- sums of indistinguishable positions are indistinguishable
-  pub sums_alike : (X U Y V : List ℕ) → IsPosition heap U → IsPosition heap Y → Indistinguishable heap code X U → Indistinguishable heap code Y V → Indistinguishable heap code (X ++ Y) (U ++ V)
+  pub sums_alike : (X U Y V : List ℕ) → IsPosition heap U → IsPosition heap Y → Indistinguishable heap code X U
+      → Indistinguishable heap code Y V → Indistinguishable heap code (X ++ Y) (U ++ V)
   sums_alike X U Y V p q a b =
       alike-trans (X ++ Y) (U ++ Y) (U ++ V) (beside X U Y q a)
       (alike-trans (U ++ Y) (Y ++ U) (U ++ V) (exchanged_parts U Y) (alike-trans (Y ++ U) (V ++ U) (U ++ V) (beside Y V U p b) (exchanged_parts V U)))

@@ -7,7 +7,9 @@ use Rattle.misere_theory.specs.Quotients.{Claim, Monoid, GivesElements, value, O
 use Rattle.misere_theory.proofs.Sums.{first_or_rest, no_move_of_none, value_in, value-append, IsKept}
 use Rattle.misere_theory.proofs.Rules.{true_or_false}
 
-module _ (heap : ℕ → Type 0) (code : List ℕ) (kept : IsKept heap code) (c : Claim) (m : Monoid c.order c.times) (phi_in : GivesElements heap c) where
+module _
+    (heap : ℕ → Type 0) (code : List ℕ) (kept : IsKept heap code) (c : Claim) (m : Monoid c.order c.times)
+    (phi_in : GivesElements heap c) where
   -- a move replaces a factor phi n by the value of an option of n
   pub record Factored (X Y : List ℕ) : Type 0 where
     pub part : ℕ
@@ -59,7 +61,8 @@ module _ (heap : ℕ → Type 0) (code : List ℕ) (kept : IsKept heap code) (c 
       pub some_heap : (h : ℕ) → HeapOptionValue code c n h → (e : ℕ) × Has j e
       pub some_rest : (f : ℕ) → Has i f → (e : ℕ) × Has j e
 
-    module _ (start : (i : I) × (val i ≡ 0) × ((e : ℕ) → Has i e → ⊥)) (step : (i : I) (n : ℕ) → heap n → (j : I) × CoversProduct j i n) where
+    module _
+        (start : (i : I) × (val i ≡ 0) × ((e : ℕ) → Has i e → ⊥)) (step : (i : I) (n : ℕ) → heap n → (j : I) × CoversProduct j i n) where
       pub covered : (X : List ℕ) → IsPosition heap X → (i : I) × Covers i X
       covered [] p0 = let (i, e, none) = start in (i, record { same_value = e; among = λ x h. absurd (none x h); some = λ Y k. absurd (no_move_of_none k) })
       covered (n ∷ X) w =

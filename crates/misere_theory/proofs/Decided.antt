@@ -53,7 +53,8 @@ some_or_all_words B (suc L) Q R test = elim (test []) [
       ]
 ]
   where
-    each : R [] → ((n : ℕ) → n < B → (X : List ℕ) → IsPosition (IsHeapUpTo B) X → length X ≤ L → R (suc n ∷ X)) → (X : List ℕ) → IsPosition (IsHeapUpTo B) X → length X ≤ suc L → R X
+    each : R [] → ((n : ℕ) → n < B → (X : List ℕ) → IsPosition (IsHeapUpTo B) X → length X ≤ L → R (suc n ∷ X)) → (X : List ℕ)
+        → IsPosition (IsHeapUpTo B) X → length X ≤ suc L → R X
     each r all [] p l = r
     each r all (zero ∷ X) p l = absurd (let o = p.0.0 in omega arith)
     each r all (suc n ∷ X) p l = all n (let o = p.0.1 in omega arith) X p.1 (omega arith)
@@ -85,7 +86,8 @@ up_to_is_heap B [] p = tt
 up_to_is_heap B (n ∷ X) p = (p.0.0, up_to_is_heap B X p.1)
 
 module _ (code : List ℕ) (c : Claim) (m : Monoid c.order c.times) (phi_in : GivesElements IsHeap c) where
-  cons_option : (n i : ℕ) (X Y : List ℕ) → IsHeap n → IsHeap i → IsPosition IsHeap X → IsPosition IsHeap Y → SameHeapPair code c n i → SamePair code c X Y → (x : ℕ) → OptionValue code c (n ∷ X) x → OptionValue code c (i ∷ Y) x
+  cons_option : (n i : ℕ) (X Y : List ℕ) → IsHeap n → IsHeap i → IsPosition IsHeap X → IsPosition IsHeap Y → SameHeapPair code c n i
+      → SamePair code c X Y → (x : ℕ) → OptionValue code c (n ∷ X) x → OptionValue code c (i ∷ Y) x
   cons_option n i X Y one two p q heaps rest x o = elim (first_or_rest o.1) [
     | inl (H, h, e) ↦
         let (L, l, f) = (heaps.1 (value c H)).0 (H, h, refl) in (
@@ -100,7 +102,8 @@ module _ (code : List ℕ) (c : Claim) (m : Monoid c.order c.times) (phi_in : Gi
   ]
 
   -- heaps with the same pair and positions with the same pair make positions with the same pair
-  cons_pair : (n i : ℕ) (X Y : List ℕ) → IsHeap n → IsHeap i → IsPosition IsHeap X → IsPosition IsHeap Y → SameHeapPair code c n i → SamePair code c X Y → SamePair code c (n ∷ X) (i ∷ Y)
+  cons_pair : (n i : ℕ) (X Y : List ℕ) → IsHeap n → IsHeap i → IsPosition IsHeap X → IsPosition IsHeap Y → SameHeapPair code c n i
+      → SamePair code c X Y → SamePair code c (n ∷ X) (i ∷ Y)
   cons_pair n i X Y one two p q heaps rest = (
     ap₂ c.times heaps.0 rest.0,
     λ x. (
@@ -109,7 +112,8 @@ module _ (code : List ℕ) (c : Claim) (m : Monoid c.order c.times) (phi_in : Gi
     ),
   )
 
-  behind_pair : (P X Y : List ℕ) → IsPosition IsHeap P → IsPosition IsHeap X → IsPosition IsHeap Y → SamePair code c X Y → SamePair code c (P ++ X) (P ++ Y)
+  behind_pair : (P X Y : List ℕ) → IsPosition IsHeap P → IsPosition IsHeap X → IsPosition IsHeap Y → SamePair code c X Y
+      → SamePair code c (P ++ X) (P ++ Y)
   behind_pair [] X Y o p q s = s
   behind_pair (n ∷ P) X Y o p q s =
       cons_pair n n (P ++ X) (P ++ Y) o.0 o.0 (IsPosition-append IsHeap P X o.1 p) (IsPosition-append IsHeap P Y o.1 q) (refl, λ x. (λ h. h, λ h. h)) (behind_pair P X Y o.1 p q s)
@@ -145,7 +149,8 @@ module _ (code : List ℕ) (c : Claim) (m : Monoid c.order c.times) (phi_in : Gi
   ]
 
   -- a word of more heaps than there are pairs has the pair of a shorter one
-  shorter : (B t : ℕ) (X : List ℕ) → length X < t → IsPosition (IsHeapUpTo B) X → (Y : List ℕ) × IsPosition (IsHeapUpTo B) Y × (length Y ≤ c.order * 2 ^ c.order) × SamePair code c X Y
+  shorter : (B t : ℕ) (X : List ℕ) → length X < t → IsPosition (IsHeapUpTo B) X
+      → (Y : List ℕ) × IsPosition (IsHeapUpTo B) Y × (length Y ≤ c.order * 2 ^ c.order) × SamePair code c X Y
   shorter B zero X l p = absurd (omega arith)
   shorter B (suc t) X l p = elim (dec_le (length X) (c.order * 2 ^ c.order)) [
     | yes h ↦ (X, p, h, pair-refl code c X)
@@ -169,7 +174,8 @@ module _ (code : List ℕ) (c : Claim) (m : Monoid c.order c.times) (phi_in : Gi
 
   module _ (k start period : ℕ) (ok : IsPeriodic code c k start period) where
     -- each position has the pair of one of the heaps up to B
-    bounded : (X : List ℕ) → IsPosition IsHeap X → (Y : List ℕ) × IsPosition (IsHeapUpTo (heap_bound k start period)) Y × SamePair code c X Y
+    bounded : (X : List ℕ) → IsPosition IsHeap X
+        → (Y : List ℕ) × IsPosition (IsHeapUpTo (heap_bound k start period)) Y × SamePair code c X Y
     bounded [] p = ([], tt, pair-refl code c [])
     bounded (n ∷ X) p =
         let (i, l, same) = heap_shown code c k start period ok n p.0 in

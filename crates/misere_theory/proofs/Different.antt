@@ -4,7 +4,8 @@ use Rattle.misere_theory.specs.Games.{IsPosition}
 use Rattle.misere_theory.specs.Quotients.{Claim, SamePair, ReachesMoreThan}
 use Rattle.misere_theory.specs.Pairs.{Pair, IsSamePair, IsPairOf}
 
-pub same_exactly : (code : List ℕ) (c : Claim) (p q : Pair) (X Y : List ℕ) → IsPairOf code c p X → IsPairOf code c q Y → SamePair code c X Y → IsSamePair p q
+pub same_exactly : (code : List ℕ) (c : Claim) (p q : Pair) (X Y : List ℕ) → IsPairOf code c p X → IsPairOf code c q Y → SamePair code c X Y
+    → IsSamePair p q
 same_exactly code c p q X Y a b s = (
   a.same_value ∙ s.0 ∙ sym b.same_value,
   λ x. (λ h. (b.options x).1 ((s.1 x).0 ((a.options x).0 h)), λ h. (a.options x).1 ((s.1 x).1 ((b.options x).0 h))),

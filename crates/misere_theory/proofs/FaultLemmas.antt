@@ -44,19 +44,23 @@ least_apart_dec c p z =
       ]
     ]
 
-zip_from_places : {A : Type 0} (R : A → ℕ → Type 0) (d : A) (ps : List A) (zs : List ℕ) → length zs ≡ length ps → ((i : ℕ) → i < length ps → R (get_or ps i d) (get_or zs i 0)) → AllZip R ps zs
+zip_from_places : {A : Type 0} (R : A → ℕ → Type 0) (d : A) (ps : List A) (zs : List ℕ) → length zs ≡ length ps
+    → ((i : ℕ) → i < length ps → R (get_or ps i d) (get_or zs i 0)) → AllZip R ps zs
 zip_from_places R d [] [] e h = tt
 zip_from_places R d [] (z ∷ zs) e h = absurd (omega arith)
 zip_from_places R d (p ∷ ps) [] e h = absurd (omega arith)
 zip_from_places R d (p ∷ ps) (z ∷ zs) e h = (h 0 (omega arith), zip_from_places R d ps zs (omega arith) (λ i l. h (suc i) (omega arith)))
 
-place_of_zip : {A : Type 0} (R : A → ℕ → Type 0) (d : A) (ps : List A) (zs : List ℕ) → AllZip R ps zs → (i : ℕ) → i < length ps → R (get_or ps i d) (get_or zs i 0)
+place_of_zip : {A : Type 0} (R : A → ℕ → Type 0) (d : A) (ps : List A) (zs : List ℕ) → AllZip R ps zs → (i : ℕ) → i < length ps
+    → R (get_or ps i d) (get_or zs i 0)
 place_of_zip R d [] zs h i l = absurd (omega arith)
 place_of_zip R d (p ∷ ps) [] h i l = absurd h
 place_of_zip R d (p ∷ ps) (z ∷ zs) h zero l = h.0
 place_of_zip R d (p ∷ ps) (z ∷ zs) h (suc i) l = place_of_zip R d ps zs h.1 i (omega arith)
 
-module _ (c : Certificate) (r : InRanges c) (word : WordFault c → ⊥) (order : OrderFault c → ⊥) (period : PeriodFault c → ⊥) (apart : ApartFault c → ⊥) where
+module _
+    (c : Certificate) (r : InRanges c) (word : WordFault c → ⊥) (order : OrderFault c → ⊥) (period : PeriodFault c → ⊥)
+    (apart : ApartFault c → ⊥) where
   next_key : (e : ℕ) → 0 < e → e + 1 < c.order → KeyBelow (key_of c e) (key_of c (e + 1))
   next_key e p l = elim (key_below_dec (key_of c e) (key_of c (e + 1))) [ yes b ↦ b | no f ↦ absurd (order (inl (e, p, l, f))) ]
 

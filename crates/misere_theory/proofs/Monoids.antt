@@ -11,7 +11,8 @@ no_law_fails m (Identity x p f) = f (m.identity x p)
 no_law_fails m (Commutativity x y p q f) = f (m.commutes x y p q)
 no_law_fails m (Associativity x y z p q r f) = f (m.associates x y z p q r)
 
-pub monoid_from_no_failure : (order : ℕ) (times : ℕ → ℕ → ℕ) → 0 < order → ((x y : ℕ) → x < order → y < order → times x y < order) → (LawFails order times → ⊥) → Monoid order times
+pub monoid_from_no_failure : (order : ℕ) (times : ℕ → ℕ → ℕ) → 0 < order → ((x y : ℕ) → x < order → y < order → times x y < order)
+    → (LawFails order times → ⊥) → Monoid order times
 monoid_from_no_failure order times some closed none = record {
   some = some;
   closed = closed;

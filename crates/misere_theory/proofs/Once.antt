@@ -18,7 +18,8 @@ Rises : ℕ → ℕ → List ℕ → Type 0
 Rises low q [] = Unit {0}
 Rises low q (x ∷ xs) = (low ≤ x) × (x < q) × Rises (suc x) q xs
 
-rises_from_increasing : (low q x : ℕ) (xs : List ℕ) → low ≤ x → x < q → IsStrictlyIncreasing (x ∷ xs) → All (λ y. y < q) xs → Rises low q (x ∷ xs)
+rises_from_increasing : (low q x : ℕ) (xs : List ℕ) → low ≤ x → x < q → IsStrictlyIncreasing (x ∷ xs) → All (λ y. y < q) xs
+    → Rises low q (x ∷ xs)
 unfolding Rises
 rises_from_increasing low q x [] l b up all = (l, b, tt)
 rises_from_increasing low q x (y ∷ ys) l b up all =
@@ -38,7 +39,8 @@ passed_by : (x y v : ℕ) (a b : Bool) → (x ≡ v → ⊥) → (y ≡ v → �
 passed_by x y v a b f g h = rw (ne_eqb x v f, ne_eqb y v g) at h
 
 -- rising lists with the same members are one list
-same_members : (low q : ℕ) (xs ys : List ℕ) → Rises low q xs → Rises low q ys → ((v : ℕ) → v < q → list_any (λ y. y == v) xs ≡ list_any (λ y. y == v) ys) → xs ≡ ys
+same_members : (low q : ℕ) (xs ys : List ℕ) → Rises low q xs → Rises low q ys
+    → ((v : ℕ) → v < q → list_any (λ y. y == v) xs ≡ list_any (λ y. y == v) ys) → xs ≡ ys
 unfolding Rises
 same_members low q [] [] h k same = refl
 same_members low q [] (y ∷ ys) h k same = absurd (true≢false (sym (same y k.1 ∙ ap (λ b. b || list_any (λ z. z == y) ys) (eq-eqb y y refl))))
@@ -58,7 +60,8 @@ same_members low q (x ∷ xs) (y ∷ ys) h k same =
     ]
 
 -- two lists that stand to one list by a relation that determines its answer are one
-zip_same : {A : Type 0} (P : A → Type 0) (R S : A → ℕ → Type 0) → ((p : A) (z w : ℕ) → P p → R p z → S p w → z ≡ w) → (ps : List A) (zs ws : List ℕ) → AllByRecursion P ps → AllZip R ps zs → AllZip S ps ws → zs ≡ ws
+zip_same : {A : Type 0} (P : A → Type 0) (R S : A → ℕ → Type 0) → ((p : A) (z w : ℕ) → P p → R p z → S p w → z ≡ w)
+    → (ps : List A) (zs ws : List ℕ) → AllByRecursion P ps → AllZip R ps zs → AllZip S ps ws → zs ≡ ws
 zip_same P R S same [] [] [] a h k = refl
 zip_same P R S same [] [] (w ∷ ws) a h k = absurd k
 zip_same P R S same [] (z ∷ zs) ws a h k = absurd h
@@ -74,7 +77,8 @@ unfolding InOrder
 with_in q x y zero h l = tt
 with_in q x y (suc n) h l = ((h, omega arith), with_in q x (y + 1) n h (omega arith))
 
-both_in : (q : ℕ) (xs ys : List (ℕ × ℕ)) → AllByRecursion (InOrder q) xs → AllByRecursion (InOrder q) ys → AllByRecursion (InOrder q) (xs ++ ys)
+both_in : (q : ℕ) (xs ys : List (ℕ × ℕ)) → AllByRecursion (InOrder q) xs → AllByRecursion (InOrder q) ys
+    → AllByRecursion (InOrder q) (xs ++ ys)
 both_in q [] ys h k = k
 both_in q (x ∷ xs) ys h k = (h.0, both_in q xs ys h.1 k)
 
@@ -127,7 +131,8 @@ module _ (c d : Certificate) (a : Accepted c) (b : Accepted d) (same_code : c.co
       let q = row_length d b.in_ranges i (omega arith) in
       same_number_lists (get_or c.rows i []) (get_or d.rows i []) (omega arith) (λ j k. sym (numbers.times i j (omega arith) (omega arith))))
 
-  same_telling : (p : ℕ × ℕ) (z : ℕ) → InOrder c.order p → z < c.order → (TellsApart (claim_of c) p z → TellsApart (claim_of d) p z) × (TellsApart (claim_of d) p z → TellsApart (claim_of c) p z)
+  same_telling : (p : ℕ × ℕ) (z : ℕ) → InOrder c.order p → z < c.order
+      → (TellsApart (claim_of c) p z → TellsApart (claim_of d) p z) × (TellsApart (claim_of d) p z → TellsApart (claim_of c) p z)
   unfolding InOrder
   same_telling p z i l =
       let one : (x : ℕ) → x < c.order → (claim_of d).portion ((claim_of d).times x z) ≡ (claim_of c).portion ((claim_of c).times x z) =

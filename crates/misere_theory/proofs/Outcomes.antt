@@ -91,7 +91,8 @@ module _ (code : List ℕ) (n : ℕ) where
         ]
 
 -- either one move leads to the one fact, or each to the other
-pub some_or_all_moves : (code : List ℕ) (Q R : List ℕ → Type 0) (X : List ℕ) → ((Y : List ℕ) → Move code X Y → Q Y ⊎ R Y) → ((Y : List ℕ) × Move code X Y × Q Y) ⊎ ((Y : List ℕ) → Move code X Y → R Y)
+pub some_or_all_moves : (code : List ℕ) (Q R : List ℕ → Type 0) (X : List ℕ) → ((Y : List ℕ) → Move code X Y → Q Y ⊎ R Y)
+    → ((Y : List ℕ) × Move code X Y × Q Y) ⊎ ((Y : List ℕ) → Move code X Y → R Y)
 some_or_all_moves code Q R [] test = inr (λ Y m. absurd (no_move_of_none m))
 some_or_all_moves code Q R (n ∷ X) test =
     elim (some_or_all_options code n (λ H. Q (H ++ X)) (λ H. R (H ++ X)) (λ H o. test (H ++ X) (Here o refl))) [

@@ -4,8 +4,11 @@ use Rattle.misere_theory.specs.Games.{IsPosition}
 use Rattle.misere_theory.specs.Quotients.{Claim, Monoid, GivesElements, value, OptionValue, SumOptionValue}
 use Rattle.misere_theory.proofs.Sums.{value-append, sum_moves, move_on_left, move_on_right, IsKept, move_kept}
 
-module _ (heap : ℕ → Type 0) (code : List ℕ) (kept : IsKept heap code) (c : Claim) (m : Monoid c.order c.times) (phi_in : GivesElements heap c) where
-  pub pair_of_sum : (X Y : List ℕ) → IsPosition heap X → IsPosition heap Y → (value c (X ++ Y) ≡ c.times (value c X) (value c Y)) × ((z : ℕ) → OptionValue code c (X ++ Y) z ↔ SumOptionValue code c X Y z)
+module _
+    (heap : ℕ → Type 0) (code : List ℕ) (kept : IsKept heap code) (c : Claim) (m : Monoid c.order c.times)
+    (phi_in : GivesElements heap c) where
+  pub pair_of_sum : (X Y : List ℕ) → IsPosition heap X → IsPosition heap Y
+      → (value c (X ++ Y) ≡ c.times (value c X) (value c Y)) × ((z : ℕ) → OptionValue code c (X ++ Y) z ↔ SumOptionValue code c X Y z)
   pair_of_sum X Y p q = (
     value-append heap c m phi_in X Y p q,
     λ z. (

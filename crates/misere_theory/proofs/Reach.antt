@@ -56,7 +56,9 @@ digits_same u v w m n h k e =
       ]
     ]
 
-module _ (heap : ℕ → Type 0) (code : List ℕ) (kept : IsKept heap code) (c : Claim) (m : Monoid c.order c.times) (phi_in : GivesElements heap c) where
+module _
+    (heap : ℕ → Type 0) (code : List ℕ) (kept : IsKept heap code) (c : Claim) (m : Monoid c.order c.times)
+    (phi_in : GivesElements heap c) where
   -- whether x is the value of an option of X
   tested : (X : List ℕ) (x : ℕ) → (b : Bool) × ((b ≡ true) ↔ OptionValue code c X x)
   tested X x =
@@ -104,21 +106,26 @@ module _ (heap : ℕ → Type 0) (code : List ℕ) (kept : IsKept heap code) (c 
     | no f ↦ inr (λ s. f (number_from_pair X Y s))
   ]
 
-  differs_from_all : (X : List ℕ) (Xs : List (List ℕ)) → IsPosition heap X → AllByRecursion (IsPosition heap) Xs → ((k : ℕ) (d : List ℕ) → k < length Xs → SamePair code c X (get_or Xs k d) → ⊥) → AllByRecursion (λ y. eqb (number_of X) y ≡ false) (map number_of Xs)
+  differs_from_all : (X : List ℕ) (Xs : List (List ℕ)) → IsPosition heap X → AllByRecursion (IsPosition heap) Xs
+      → ((k : ℕ) (d : List ℕ) → k < length Xs → SamePair code c X (get_or Xs k d) → ⊥)
+      → AllByRecursion (λ y. eqb (number_of X) y ≡ false) (map number_of Xs)
   differs_from_all X [] p r h = tt
   differs_from_all X (Y ∷ Ys) p r h = (ne_eqb _ _ (λ e. h 0 Y (omega arith) (pair_from_number X Y p r.0 e)), differs_from_all X Ys p r.1 (λ k d l. h (suc k) d (omega arith)))
 
-  distinct_numbers : (Xs : List (List ℕ)) → AllByRecursion (IsPosition heap) Xs → AllPairs (λ X Y. SamePair code c X Y → ⊥) Xs → IsDistinct eqb (map number_of Xs)
+  distinct_numbers : (Xs : List (List ℕ)) → AllByRecursion (IsPosition heap) Xs → AllPairs (λ X Y. SamePair code c X Y → ⊥) Xs
+      → IsDistinct eqb (map number_of Xs)
   unfolding IsDistinct
   distinct_numbers [] r h = tt
   distinct_numbers (X ∷ Xs) r h =
       (differs_from_all X Xs r.0 r.1 (λ k d l. h 0 (suc k) d (omega arith) (omega arith)), distinct_numbers Xs r.1 (λ i j d p q. h (suc i) (suc j) d (omega arith) (omega arith)))
 
-  one_below : (X : List ℕ) → IsPosition heap X → (q : ℕ) (rest b : Bool) → eqb q (number_of X) ≡ b → (b || rest) ≡ true → (rest ≡ true → q < c.order * 2 ^ c.order) → q < c.order * 2 ^ c.order
+  one_below : (X : List ℕ) → IsPosition heap X → (q : ℕ) (rest b : Bool) → eqb q (number_of X) ≡ b → (b || rest) ≡ true
+      → (rest ≡ true → q < c.order * 2 ^ c.order) → q < c.order * 2 ^ c.order
   one_below X w q rest true p _ _ = rw (eqb-true q (number_of X) p) (number-below X w)
   one_below X w q rest false p h more = more h
 
-  all_below : (Xs : List (List ℕ)) → AllByRecursion (IsPosition heap) Xs → (q : ℕ) → list_any (eqb q) (map number_of Xs) ≡ true → q < c.order * 2 ^ c.order
+  all_below : (Xs : List (List ℕ)) → AllByRecursion (IsPosition heap) Xs → (q : ℕ) → list_any (eqb q) (map number_of Xs) ≡ true
+      → q < c.order * 2 ^ c.order
   all_below [] r q e = cc
   all_below (X ∷ Xs) r q e = one_below X r.0 q (list_any (eqb q) (map number_of Xs)) (eqb q (number_of X)) refl e (all_below Xs r.1 q)
 

@@ -27,7 +27,8 @@ same_bool false false f g = refl
 
 module _ (heap : ℕ → Type 0) (code : List ℕ) (c : Claim) (kept : IsKept heap code) where
   -- the local rule at each position makes the portion predict each outcome
-  predicted_within : ((X : List ℕ) → IsPosition heap X → RuleHolds code c X) → (k : ℕ) (X : List ℕ) → measure X < k → IsPosition heap X → IsP code X ↔ (c.portion (value c X) ≡ true)
+  predicted_within : ((X : List ℕ) → IsPosition heap X → RuleHolds code c X) → (k : ℕ) (X : List ℕ) → measure X < k → IsPosition heap X
+      → IsP code X ↔ (c.portion (value c X) ≡ true)
   predicted_within rule zero X h w = absurd (omega arith)
   predicted_within rule (suc k) X h w =
       let below : (Z : List ℕ) → Move code X Z → IsP code Z ↔ (c.portion (value c Z) ≡ true) = λ Z i. predicted_within rule k Z (omega (arith, move_smaller i)) (move_kept heap code kept i w) in (
@@ -41,11 +42,13 @@ module _ (heap : ℕ → Type 0) (code : List ℕ) (c : Claim) (kept : IsKept he
         ]),
       )
 
-  pub predicts_from_rule : ((X : List ℕ) → IsPosition heap X → RuleHolds code c X) → (X : List ℕ) → IsPosition heap X → IsP code X ↔ (c.portion (value c X) ≡ true)
+  pub predicts_from_rule : ((X : List ℕ) → IsPosition heap X → RuleHolds code c X) → (X : List ℕ) → IsPosition heap X
+      → IsP code X ↔ (c.portion (value c X) ≡ true)
   predicts_from_rule rule X w = predicted_within rule (suc (measure X)) X (omega arith) w
 
   -- a portion that predicts each outcome obeys the local rule at each position
-  pub rule_from_predicts : ((X : List ℕ) → IsPosition heap X → IsP code X ↔ (c.portion (value c X) ≡ true)) → (X : List ℕ) → IsPosition heap X → RuleHolds code c X
+  pub rule_from_predicts : ((X : List ℕ) → IsPosition heap X → IsP code X ↔ (c.portion (value c X) ≡ true)) → (X : List ℕ)
+      → IsPosition heap X → RuleHolds code c X
   rule_from_predicts predicts X w = (
     λ t. let p : IsP code X = (predicts X w).1 t in let (Y, m) = p_moves p in (
       (value c Y, (Y, m, refl)),
@@ -88,8 +91,11 @@ module _ (code : List ℕ) (c : Claim) where
       out_of all x o = subst (λ v. c.portion v ≡ false) o.2 (all o.0 o.1)
 
 -- With every element the value of some position, and each two elements told apart, positions are alike exactly where their values are equal.
-module _ (heap : ℕ → Type 0) (code : List ℕ) (c : Claim) (m : Monoid c.order c.times) (phi_in : GivesElements heap c) (predicts : (X : List ℕ) → IsPosition heap X → IsP code X ↔ (c.portion (value c X) ≡ true)) where
-  predicts_sum : (X Z : List ℕ) → IsPosition heap X → IsPosition heap Z → IsP code (X ++ Z) ↔ (c.portion (c.times (value c X) (value c Z)) ≡ true)
+module _
+    (heap : ℕ → Type 0) (code : List ℕ) (c : Claim) (m : Monoid c.order c.times) (phi_in : GivesElements heap c)
+    (predicts : (X : List ℕ) → IsPosition heap X → IsP code X ↔ (c.portion (value c X) ≡ true)) where
+  predicts_sum : (X Z : List ℕ) → IsPosition heap X → IsPosition heap Z
+      → IsP code (X ++ Z) ↔ (c.portion (c.times (value c X) (value c Z)) ≡ true)
   predicts_sum X Z p q = subst (λ v. IsP code (X ++ Z) ↔ (c.portion v ≡ true)) (value-append heap c m phi_in X Z p q) (predicts (X ++ Z) (IsPosition-append heap X Z p q))
 
   pub same_value_alike : (X Y : List ℕ) → IsPosition heap X → IsPosition heap Y → value c X ≡ value c Y → Indistinguishable heap code X Y
@@ -99,7 +105,8 @@ module _ (heap : ℕ → Type 0) (code : List ℕ) (c : Claim) (m : Monoid c.ord
   )
 
   -- alike positions have values that no element tells apart
-  pub alike_same_portion : (X Y : List ℕ) → IsPosition heap X → IsPosition heap Y → Indistinguishable heap code X Y → (Z : List ℕ) → IsPosition heap Z → c.portion (c.times (value c X) (value c Z)) ≡ c.portion (c.times (value c Y) (value c Z))
+  pub alike_same_portion : (X Y : List ℕ) → IsPosition heap X → IsPosition heap Y → Indistinguishable heap code X Y → (Z : List ℕ)
+      → IsPosition heap Z → c.portion (c.times (value c X) (value c Z)) ≡ c.portion (c.times (value c Y) (value c Z))
   alike_same_portion X Y p q a Z r =
       same_bool _ _
       (λ t. (predicts_sum Y Z q r).0 ((a Z r).0 ((predicts_sum X Z p r).1 t)))

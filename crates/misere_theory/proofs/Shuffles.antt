@@ -99,7 +99,8 @@ module _ (heap : ℕ → Type 0) (c : Claim) (m : Monoid c.order c.times) (phi_i
       ∙ m.associates _ _ _ (phi_in b p.1.0) (phi_in a p.0) (value_in heap c m phi_in X p.1.1)
   value_shuffled (Then s t) p = value_shuffled s p ∙ value_shuffled t (position_shuffled heap s p)
 
-pub one_heap_moves : {code X Y : List ℕ} → Move code X Y → (n : ℕ) × (R : List ℕ) × (H : List ℕ) × Shuffled X (n ∷ R) × HeapOption code n H × Shuffled Y (H ++ R)
+pub one_heap_moves : {code X Y : List ℕ} → Move code X Y
+    → (n : ℕ) × (R : List ℕ) × (H : List ℕ) × Shuffled X (n ∷ R) × HeapOption code n H × Shuffled Y (H ++ R)
 one_heap_moves (Here {n = n} {X = X} {H = H} o e) = (n, X, H, Same, o, rw e Same)
 one_heap_moves (There {n = b} m e) = let (n, R, H, s, o, t) = one_heap_moves m in (n, b ∷ R, H, Then (Under s) Flip, o, rw e (Then (Under t) (back (to_front H b R))))
 

@@ -43,7 +43,8 @@ module _ (code : List ℕ) (c : Claim) (k start period : ℕ) (ok : IsPeriodic c
         ap (c.times (c.phi a)) (alone (c.phi b) (phi_in b q)) ∙ m.commutes (c.phi a) (c.phi b) (phi_in a p) (phi_in b q) ∙ ap (c.times (c.phi b)) (sym (alone (c.phi a) (phi_in a p)))
 
     -- each option has the value of one whose smaller part stands first and is small
-    pub enough : (n : ℕ) (H : List ℕ) → HeapOption code n H → (L : List ℕ) × HeapOption code n L × IsSmallSplit (start + period) L × (value c L ≡ value c H)
+    pub enough : (n : ℕ) (H : List ℕ) → HeapOption code n H
+        → (L : List ℕ) × HeapOption code n L × IsSmallSplit (start + period) L × (value c L ≡ value c H)
     enough n H (Nothing j l h b) = ([], Nothing j l h b, tt, refl)
     enough n H (One j a l p h b) = (a ∷ [], One j a l p h b, tt, refl)
     enough n H (Two j a b p q h s) = elim (dec_le a b) [

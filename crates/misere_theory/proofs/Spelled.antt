@@ -20,7 +20,8 @@ spelled_within c k (suc t) e h l = elim (eq-zero-or-pos e) [
 pub spelled : (c : Certificate) → Canonical c → (e : ℕ) → e < c.order → (X : List ℕ) × IsSpelled c e X
 spelled c k e l = spelled_within c k (suc e) e (omega arith) l
 
-pub spelled_value : (c : Certificate) (e : ℕ) (X : List ℕ) → InRanges c → Monoid c.order (times_of c) → Canonical c → e < c.order → IsSpelled c e X → IsPosition IsHeap X × (value (claim_of c) X ≡ e)
+pub spelled_value : (c : Certificate) (e : ℕ) (X : List ℕ) → InRanges c → Monoid c.order (times_of c) → Canonical c → e < c.order
+    → IsSpelled c e X → IsPosition IsHeap X × (value (claim_of c) X ≡ e)
 spelled_value c _ _ r m k l Zero = (tt, refl)
 spelled_value c _ _ r m k l (Key e pos w) =
     let up = k.numbered.parent e pos l in
@@ -29,7 +30,8 @@ spelled_value c _ _ r m k l (Key e pos w) =
       ap (times_of c (phi_at c (key_of c e).1)) f ∙ m.commutes _ _ (phi_in c r _) (omega arith) ∙ k.numbered.product e pos l,
     )
 
-module _ (c : Certificate) (r : InRanges c) (q : ℕ) (once : (n : ℕ) → c.start ≤ n → n < c.start + c.period → phi_at c (q + n) ≡ phi_at c n) where
+module _
+    (c : Certificate) (r : InRanges c) (q : ℕ) (once : (n : ℕ) → c.start ≤ n → n < c.start + c.period → phi_at c (q + n) ≡ phi_at c n) where
   serves_within : (t n : ℕ) → n < t → c.start ≤ n → phi_at c (q + n) ≡ phi_at c n
   serves_within zero n h l = absurd (omega arith)
   serves_within (suc t) n h l = elim (dec_lt n (c.start + c.period)) [

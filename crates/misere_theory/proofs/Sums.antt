@@ -6,7 +6,8 @@ use Rattle.misere_theory.specs.Games.Move.{Here, There}
 use Rattle.misere_theory.specs.Quotients.{Claim, Monoid, GivesElements, value}
 
 -- a move in a position with a first heap is in that heap or in the others
-pub first_or_rest : {code : List ℕ} {n : ℕ} {X Y : List ℕ} → Move code (n ∷ X) Y → ((H : List ℕ) × HeapOption code n H × (Y ≡ H ++ X)) ⊎ ((X' : List ℕ) × Move code X X' × (Y ≡ n ∷ X'))
+pub first_or_rest : {code : List ℕ} {n : ℕ} {X Y : List ℕ} → Move code (n ∷ X) Y
+    → ((H : List ℕ) × HeapOption code n H × (Y ≡ H ++ X)) ⊎ ((X' : List ℕ) × Move code X X' × (Y ≡ n ∷ X'))
 first_or_rest (Here o e) = inl (_, o, e)
 first_or_rest (There m e) = inr (_, m, e)
 
@@ -14,7 +15,8 @@ pub no_move_of_none : {code : List ℕ} {Y : List ℕ} → Move code [] Y → �
 no_move_of_none m = elim m [ ]
 
 -- a move of a sum is a move of one of the two
-pub sum_moves : (code X Y Z : List ℕ) → Move code (X ++ Y) Z → ((X' : List ℕ) × Move code X X' × (Z ≡ X' ++ Y)) ⊎ ((Y' : List ℕ) × Move code Y Y' × (Z ≡ X ++ Y'))
+pub sum_moves : (code X Y Z : List ℕ) → Move code (X ++ Y) Z
+    → ((X' : List ℕ) × Move code X X' × (Z ≡ X' ++ Y)) ⊎ ((Y' : List ℕ) × Move code Y Y' × (Z ≡ X ++ Y'))
 sum_moves code [] Y Z m = inr (Z, m, refl)
 sum_moves code (n ∷ X) Y Z m =
     elim (first_or_rest m) [
@@ -66,7 +68,8 @@ heaps_up_to_kept M code n _ h (One j a p q e b) = ((q, let k = h.1 in omega arit
 heaps_up_to_kept M code n _ h (Two j a b p q e c) = ((p, let k = h.1 in omega arith), ((q, let k = h.1 in omega arith), tt))
 
 -- a move leads from a position to a position
-pub move_kept : (heap : ℕ → Type 0) (code : List ℕ) → IsKept heap code → {X Y : List ℕ} → Move code X Y → IsPosition heap X → IsPosition heap Y
+pub move_kept : (heap : ℕ → Type 0) (code : List ℕ) → IsKept heap code → {X Y : List ℕ} → Move code X Y → IsPosition heap X
+    → IsPosition heap Y
 move_kept heap code k (Here {n = n} {X = X} {H = H} o e) p = rw e (IsPosition-append heap H X (k n H p.0 o) p.1)
 move_kept heap code k (There m e) p = rw e (p.0, move_kept heap code k m p.1)
 

@@ -20,7 +20,9 @@ pub value_of_heap : (c : Claim) → Monoid c.order c.times → (n : ℕ) → c.p
 value_of_heap c m n l = m.commutes _ _ l m.some ∙ m.identity _ l
 
 -- Periods. The two claims have the same equalities between heaps.
-module _ (c d : Claim) (same : (n m : ℕ) → IsHeap n → IsHeap m → d.phi n ≡ d.phi m → c.phi n ≡ c.phi m) (s p t r : ℕ) (k : IsLeastPeriod c s p) (l : IsLeastPeriod d t r) where
+module _
+    (c d : Claim) (same : (n m : ℕ) → IsHeap n → IsHeap m → d.phi n ≡ d.phi m → c.phi n ≡ c.phi m) (s p t r : ℕ)
+    (k : IsLeastPeriod c s p) (l : IsLeastPeriod d t r) where
   far : (i n : ℕ) → s ≤ n → c.phi (i * p + n) ≡ c.phi n
   far zero n h = let e : 0 * p + n ≡ n = omega arith in ap c.phi e
   far (suc i) n h = let e : suc i * p + n ≡ p + (i * p + n) = omega arith in ap c.phi e ∙ k.repeats (i * p + n) (omega arith) ∙ far i n h
@@ -123,7 +125,9 @@ module _ (code : List ℕ) (c d : Claim) (rc : Represents IsHeap code c) (rd : R
         ]
 
 -- Both at once.
-module _ (code : List ℕ) (c d : Claim) (rc : Represents IsHeap code c) (rd : Represents IsHeap code d) (heaps : ℕ) (key_c key_d : ℕ → ℕ × ℕ) (nc : IsNumbered c heaps key_c) (nd : IsNumbered d heaps key_d) where
+module _
+    (code : List ℕ) (c d : Claim) (rc : Represents IsHeap code c) (rd : Represents IsHeap code d) (heaps : ℕ) (key_c key_d : ℕ → ℕ × ℕ)
+    (nc : IsNumbered c heaps key_c) (nd : IsNumbered d heaps key_d) where
   swap_sides : {e : ℕ} → Agree code c d rc rd e → Agree code d c rd rc e
   swap_sides (X, w, p, q) = (X, w, q, p)
 
@@ -183,14 +187,16 @@ module _ (code : List ℕ) (c d : Claim) (rc : Represents IsHeap code c) (rd : R
       )
 
 -- heaps with one element in the one claim have one in the other
-pub same_heaps : (code : List ℕ) (c d : Claim) → Represents IsHeap code c → Represents IsHeap code d → (n m : ℕ) → IsHeap n → IsHeap m → d.phi n ≡ d.phi m → c.phi n ≡ c.phi m
+pub same_heaps : (code : List ℕ) (c d : Claim) → Represents IsHeap code c → Represents IsHeap code d → (n m : ℕ) → IsHeap n → IsHeap m
+    → d.phi n ≡ d.phi m → c.phi n ≡ c.phi m
 same_heaps code c d rc rd n m h k e =
     sym (value_of_heap c rc.monoid n (rc.elements n h))
     ∙ (rc.indistinguishable (n ∷ []) (m ∷ []) (h, tt) (k, tt)).0 ((rd.indistinguishable (n ∷ []) (m ∷ []) (h, tt) (k, tt)).1 (value_of_heap d rd.monoid n (rd.elements n h) ∙ e ∙ sym (value_of_heap d rd.monoid m (rd.elements m k))))
     ∙ value_of_heap c rc.monoid m (rc.elements m k)
 
 -- start and period are the same
-pub same_period : (code : List ℕ) (c d : Claim) → Represents IsHeap code c → Represents IsHeap code d → (s p t r : ℕ) → IsLeastPeriod c s p → IsLeastPeriod d t r → (s ≡ t) × (p ≡ r)
+pub same_period : (code : List ℕ) (c d : Claim) → Represents IsHeap code c → Represents IsHeap code d → (s p t r : ℕ) → IsLeastPeriod c s p
+    → IsLeastPeriod d t r → (s ≡ t) × (p ≡ r)
 same_period code c d rc rd s p t r k l =
     let one = same_heaps code c d rc rd in
     let two = same_heaps code d c rd rc in
@@ -202,7 +208,9 @@ same_period code c d rc rd s p t r k l =
     (omega arith, e)
 
 -- the elements, phi, portion, product and keys are the same
-pub same_claim : (code : List ℕ) (c d : Claim) → Represents IsHeap code c → Represents IsHeap code d → (s p t r : ℕ) (key_c key_d : ℕ → ℕ × ℕ) → IsLeastPeriod c s p → IsLeastPeriod d t r → IsNumbered c (s + p - 1) key_c → IsNumbered d (t + r - 1) key_d → SameClaim c d key_c key_d
+pub same_claim : (code : List ℕ) (c d : Claim) → Represents IsHeap code c → Represents IsHeap code d
+    → (s p t r : ℕ) (key_c key_d : ℕ → ℕ × ℕ) → IsLeastPeriod c s p → IsLeastPeriod d t r → IsNumbered c (s + p - 1) key_c
+    → IsNumbered d (t + r - 1) key_d → SameClaim c d key_c key_d
 same_claim code c d rc rd s p t r key_c key_d k l nc nd =
     let (e, f) = same_period code c d rc rd s p t r k l in
     let g : t + r - 1 ≡ s + p - 1 = omega arith in

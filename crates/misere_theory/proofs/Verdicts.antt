@@ -86,7 +86,8 @@ module _ (c : Certificate) (r : InRanges c) (m : Monoid c.order (times_of c)) (k
         | inr fails ↦ inr fails
       ]
 
-  pub outcome_or_limit : (Represents IsHeap c.code (claim_of c) → ⊥) → (limit : ℕ) (v : Verdict) → IsAllowed c limit v → ((X : List ℕ) × (v ≡ Outcome X)) ⊎ (v ≡ Limit)
+  pub outcome_or_limit : (Represents IsHeap c.code (claim_of c) → ⊥) → (limit : ℕ) (v : Verdict) → IsAllowed c limit v
+      → ((X : List ℕ) × (v ≡ Outcome X)) ⊎ (v ≡ Limit)
   outcome_or_limit not limit Yes h = absurd (not h.represents)
   outcome_or_limit not limit (No fault) h = absurd (no_fault c r m k fault h.0)
   outcome_or_limit not limit (Outcome X) h = inl (X, refl)
@@ -98,7 +99,8 @@ never_past_all_pairs c r limit l h =
     omega arith
 
 -- a certificate with a fault has one first fault, and no other answer
-pub fault_alone : (c : Certificate) → InRanges c → (fault : Fault) (limit other : ℕ) (v : Verdict) → IsAllowed c limit (No fault) → IsAllowed c other v → v ≡ No fault
+pub fault_alone : (c : Certificate) → InRanges c → (fault : Fault) (limit other : ℕ) (v : Verdict) → IsAllowed c limit (No fault)
+    → IsAllowed c other v → v ≡ No fault
 fault_alone c r fault limit other Yes h a = absurd (no_fault c r a.represents.monoid a.canonical fault h.0)
 fault_alone c r fault limit other (No found) h a =
     let not_less : fault_number found < fault_number fault → ⊥ = λ l. h.1 found l a.0 in

@@ -33,7 +33,8 @@ in_order_two a b h (suc (suc i)) (suc zero) d k l = absurd (omega arith)
 in_order_two a b h i (suc (suc j)) d k l = absurd (omega arith)
 
 -- of what an option leaves, in order or not, there is an order with the smaller part first
-pub put_in_order : {code : List ℕ} {n : ℕ} {H : List ℕ} → HeapOption code n H → (L : List ℕ) × HeapOption code n L × IsNonDecreasing L × ((X : List ℕ) → Shuffled (H ++ X) (L ++ X))
+pub put_in_order : {code : List ℕ} {n : ℕ} {H : List ℕ} → HeapOption code n H
+    → (L : List ℕ) × HeapOption code n L × IsNonDecreasing L × ((X : List ℕ) → Shuffled (H ++ X) (L ++ X))
 put_in_order (Nothing j p e b) = ([], Nothing j p e b, in_order_none, λ X. Same)
 put_in_order (One j a p q e b) = (a ∷ [], One j a p q e b, in_order_one a, λ X. Same)
 put_in_order (Two j a b p q e s) = elim (dec_le a b) [
@@ -76,7 +77,8 @@ module _ (code X : List ℕ) where
   allowed_of w = w.1.1.allowed
 
   -- a winning move with a property that can be tested, or none
-  winning_with : (n : ℕ) (T : List ℕ → Type 0) → ((H : List ℕ) → T H ⊎ (T H → ⊥)) → ((H : List ℕ) × IsWinningMove code X n H × T H) ⊎ (((H : List ℕ) × IsWinningMove code X n H × T H) → ⊥)
+  winning_with : (n : ℕ) (T : List ℕ → Type 0) → ((H : List ℕ) → T H ⊎ (T H → ⊥))
+      → ((H : List ℕ) × IsWinningMove code X n H × T H) ⊎ (((H : List ℕ) × IsWinningMove code X n H × T H) → ⊥)
   winning_with n T test = elim (some_or_all_options code n (λ H. IsWinningMove code X n H × T H) (λ H. IsWinningMove code X n H × T H → ⊥) both) [
     | inl (H, o, (w, t)) ↦ inl (H, w, t)
     | inr none ↦ inr (λ (H, w, t). none H (allowed_of w) (w, t))
@@ -108,7 +110,8 @@ module _ (code X : List ℕ) where
   equal_test m n = elim (ℕ_discrete m n) [ yes e ↦ inl e | no f ↦ inr f ]
 
   -- the first winning move of the heap n, where it has one
-  pub first_of_heap : (n : ℕ) (H : List ℕ) → IsWinningMove code X n H → (L : List ℕ) × IsWinningMove code X n L × ((K : List ℕ) → IsWinningMove code X n K → LeftBefore K L → ⊥)
+  pub first_of_heap : (n : ℕ) (H : List ℕ) → IsWinningMove code X n H
+      → (L : List ℕ) × IsWinningMove code X n L × ((K : List ℕ) → IsWinningMove code X n K → LeftBefore K L → ⊥)
   first_of_heap n H w =
       let taken : List ℕ → ℕ = λ K. n - sum K in
       let (A, a, _, least_a) = least_number n (λ K. Unit {0}) (λ K. inl tt) taken (suc (taken H)) H (omega arith) w tt in
@@ -137,7 +140,8 @@ module _ (code X : List ℕ) where
       ]
 
   -- the smallest heap with a winning move, among those up to n
-  smallest_heap : (t n : ℕ) (H : List ℕ) → n < t → IsWinningMove code X n H → (m : ℕ) × (L : List ℕ) × IsWinningMove code X m L × ((i : ℕ) (K : List ℕ) → i < m → IsWinningMove code X i K → ⊥)
+  smallest_heap : (t n : ℕ) (H : List ℕ) → n < t → IsWinningMove code X n H
+      → (m : ℕ) × (L : List ℕ) × IsWinningMove code X m L × ((i : ℕ) (K : List ℕ) → i < m → IsWinningMove code X i K → ⊥)
   smallest_heap zero n H l w = absurd (omega arith)
   smallest_heap (suc t) n H l w = elim (some_or_all_below (λ i. (K : List ℕ) × IsWinningMove code X i K) (λ i. ((K : List ℕ) × IsWinningMove code X i K) → ⊥) some_of n) [
     | inl (i, less, (K, k)) ↦ smallest_heap t i K (omega arith) k
@@ -168,7 +172,8 @@ module _ (code X : List ℕ) where
   first_win (Wins m p) = let (n, H, w) = winning_from_move m p in inr (first_win_from n H w)
 
 -- what is left of a heap is settled by its sum, its length and its first part
-same_left : {code : List ℕ} {n : ℕ} (H L : List ℕ) → HeapOption code n H → HeapOption code n L → sum H ≡ sum L → length H ≡ length L → get_or H 0 0 ≡ get_or L 0 0 → H ≡ L
+same_left : {code : List ℕ} {n : ℕ} (H L : List ℕ) → HeapOption code n H → HeapOption code n L → sum H ≡ sum L → length H ≡ length L
+    → get_or H 0 0 ≡ get_or L 0 0 → H ≡ L
 same_left [] [] o i e f g = refl
 same_left (a ∷ []) (b ∷ []) o i e f g = ap (λ x. x ∷ []) g
 same_left (a ∷ b ∷ []) (c ∷ d ∷ []) o i e f g = let h : b ≡ d = omega arith in ap₂ (λ x y. x ∷ y ∷ []) g h

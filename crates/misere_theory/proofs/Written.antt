@@ -65,7 +65,8 @@ module _ (c : Certificate) (r : InRanges c) where
   }
 
   -- by their keys all elements are values
-  pub reached_within : (m : Monoid c.order (times_of c)) → IsNumbered (claim_of c) (c.start + c.period - 1) (key_of c) → (t x : ℕ) → x < t → x < c.order → (X : List ℕ) × IsPosition IsHeap X × (value (claim_of c) X ≡ x)
+  pub reached_within : (m : Monoid c.order (times_of c)) → IsNumbered (claim_of c) (c.start + c.period - 1) (key_of c) → (t x : ℕ) → x < t
+      → x < c.order → (X : List ℕ) × IsPosition IsHeap X × (value (claim_of c) X ≡ x)
   reached_within m k zero x h l = absurd (omega arith)
   reached_within m k (suc t) x h l = elim (eq-zero-or-pos x) [
     | inl z ↦ ([], tt, sym z)
@@ -78,11 +79,13 @@ module _ (c : Certificate) (r : InRanges c) where
         )
   ]
 
-  pub reached : (m : Monoid c.order (times_of c)) → IsNumbered (claim_of c) (c.start + c.period - 1) (key_of c) → (x : ℕ) → x < c.order → (X : List ℕ) × IsPosition IsHeap X × (value (claim_of c) X ≡ x)
+  pub reached : (m : Monoid c.order (times_of c)) → IsNumbered (claim_of c) (c.start + c.period - 1) (key_of c) → (x : ℕ) → x < c.order
+      → (X : List ℕ) × IsPosition IsHeap X × (value (claim_of c) X ≡ x)
   reached m k x l = reached_within m k (suc x) x (omega arith) l
 
 -- the parts of a list of pairs that is joined
-zip_split : {A B : Type 0} (R : A → B → Type 0) (xs ys : List A) (zs : List B) → AllZip R (xs ++ ys) zs → (us : List B) × (vs : List B) × AllZip R xs us × AllZip R ys vs
+zip_split : {A B : Type 0} (R : A → B → Type 0) (xs ys : List A) (zs : List B) → AllZip R (xs ++ ys) zs
+    → (us : List B) × (vs : List B) × AllZip R xs us × AllZip R ys vs
 zip_split R [] ys zs h = ([], zs, tt, h)
 zip_split R (x ∷ xs) ys [] h = absurd h
 zip_split R (x ∷ xs) ys (z ∷ zs) h = let (us, vs, a, b) = zip_split R xs ys zs h.1 in (z ∷ us, vs, (h.0, a), b)
