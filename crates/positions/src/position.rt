@@ -67,11 +67,14 @@ impl<A: Allocator + Copy> Position<A> {
     pub fn set_moved(&mut self, from: &Position<A>, at: usize, left: Left) -> Result<(), Memory>
         requires there { at < length from.now }
         requires sizes { All IsSize (heaps_of left) }
-        ensures { OnOk result (IsPermutation (heaps_of left ++ remove from.now at) self.new) }
+        ensures moved { OnOk result (IsPermutation (heaps_of left ++ remove from.now at) self.new) }
+        ensures rising { OnOk result (IsNonDecreasing self.new) }
     {
         self.set_same(from)?;
         self.remove(at);
-        self.add_left(left)
+        self.add_left(left)?;
+        let _ = &self.heaps;
+        Ok(())
     }
 
     /// Makes this the position `from`.
@@ -109,7 +112,8 @@ impl<A: Allocator + Copy> Position<A> {
 
     /// The same heaps in memory of their own.
     pub fn copied(&self, alloc: A) -> Result<Position<A>, Memory>
-        ensures { IfOk result (λ copy. copy ≡ self.now) }
+        ensures same { IfOk result (λ copy. copy ≡ self.now) }
+        ensures rising { IsNonDecreasing self.now }
     {
         let heaps = Vec::from_slice(alloc, self.heaps.as_slice())?;
         Ok(Position { heaps })

@@ -1,0 +1,10 @@
+//! Outcomes of positions under misère play, found by search.
+#![tactic(auto)]
+
+mod answer;
+mod look;
+mod memo;
+mod search;
+
+pub use answer::{Outcome, SearchFault};
+pub use search::outcome;
