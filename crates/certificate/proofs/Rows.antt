@@ -1,8 +1,8 @@
 -- Rows as lists of their own, and one behind the other.
-use Rattle.std.proofs.Common.{◌≡◌, ◌<◌, ◌+◌, ◌*◌, ℕ, zero, suc, List, [], ◌∷◌, ◌++◌, length, get_or, All, refl, sym, ap, ap₂, ◌∙◌, subst, arith, length-append}
+use Rattle.std.proofs.Common.{◌≡◌, ◌<◌, ◌+◌, ◌-◌, ◌*◌, ℕ, zero, suc, List, [], ◌∷◌, ◌++◌, length, take, drop, get_or, All, refl, sym, ap, ap₂, ◌∙◌, subst, arith, length-append, drop-drop}
 use Rattle.std.proofs.Math.Nat.{suc-mul}
 use Rattle.std.specs.List.{AllByRecursion, concat}
-use Rattle.std.proofs.lemmas.List.{get_or_append_left, get_or-append-add}
+use Rattle.std.proofs.lemmas.List.{get_or_append_left, get_or-append-add, take_at, drop_at}
 use Rattle.std.proofs.lemmas.List.Elements.{All-append, All-from_recursion, recursion_from_All}
 use Rattle.misere_theory.specs.Certificates.{Certificate, InRanges, claim_of}
 use Rattle.monoid_table.specs.Grids.{IsShaped}
@@ -10,11 +10,14 @@ use Rattle.transition_algebra.specs.Heaps.{Agrees}
 use Rattle.transition_algebra.specs.Pretending.{IsPretending}
 use Rattle.certificate.specs.Pieces.{grid_of, pretending_of}
 
-abbrev IsRow : ℕ → List ℕ → Type 0
+abbrev pub IsRow : ℕ → List ℕ → Type 0
 IsRow order row = (length row ≡ order) × All (λ x. x < order) row
 
 one_row_more : (order x y : ℕ) → suc x * order + y ≡ order + (x * order + y)
 one_row_more order x y = ap (λ (k : ℕ). k + y) (suc-mul x order) ∙ omega arith
+
+no_rows : (order : ℕ) → 0 * order ≡ 0
+no_rows order = omega arith
 
 no_row_before : (order y : ℕ) → 0 * order + y ≡ y
 no_row_before order y = omega arith
@@ -38,8 +41,30 @@ all_below : (order : ℕ) (rows : List (List ℕ)) → AllByRecursion (IsRow ord
 all_below order [] fits = All-from_recursion (λ x. x < order) [] tt
 all_below order (row ∷ rows) fits = All-append (λ x. x < order) row (concat rows) fits.0.1 (all_below order rows fits.1)
 
+-- the place of row x
+pub row_is : (order : ℕ) (rows : List (List ℕ)) (x : ℕ) → AllByRecursion (IsRow order) rows → x < length rows → take order (drop (x * order) (concat rows)) ≡ get_or rows x []
+row_is order [] x fits lt = absurd (omega arith)
+row_is order (row ∷ rows) zero fits lt =
+    ap (λ (i : ℕ). take order (drop i (row ++ concat rows))) (no_rows order) ∙ take_at row (concat rows) order fits.0.0
+row_is order (row ∷ rows) (suc x) fits lt =
+    let place : suc x * order ≡ order + x * order = suc-mul x order ∙ omega arith in
+    ap (λ (i : ℕ). take order (drop i (row ++ concat rows))) place
+    ∙ ap (take order) (sym (drop-drop (x * order) order (row ++ concat rows)) ∙ ap (drop (x * order)) (drop_at row (concat rows) order fits.0.0))
+    ∙ row_is order rows x fits.1 (omega arith)
+
+width : (n order : ℕ) → n + order - n ≡ order
+width n order = omega arith
+
+-- row x, cut from the rows as they lie
+pub row_read : (order o : ℕ) (rows : List (List ℕ)) (flat : List ℕ) (x : ℕ) → o ≡ order → flat ≡ concat rows → AllByRecursion (IsRow order) rows → x < length rows
+    → take (x * o + o - x * o) (drop (x * o) flat) ≡ get_or rows x []
+row_read order o rows flat x same lies fits lt =
+    ap (λ (n : ℕ). take n (drop (x * o) flat)) (width (x * o) o)
+    ∙ ap₂ (λ (n : ℕ) (ys : List ℕ). take n (drop (x * n) ys)) same lies
+    ∙ row_is order rows x fits lt
+
 module _ (c : Certificate) (h : InRanges c) where
-  rows_fit : AllByRecursion (IsRow c.order) c.rows
+  pub rows_fit : AllByRecursion (IsRow c.order) c.rows
   rows_fit = recursion_from_All (IsRow c.order) c.rows h.rows.1
 
   pub agrees : Agrees (claim_of c) (grid_of c) (pretending_of c)

@@ -13,13 +13,16 @@ mod lines;
 mod numbers;
 mod parts;
 mod portion;
+mod putting;
 mod reader;
 mod reading;
+mod writing;
 
 pub use cert::{Cert, in_ranges};
-pub use fault::TextFault;
+pub use fault::{TextFault, WriteFault};
 pub use key::Key;
 pub use laws::claims_agree;
 pub use parts::Parts;
 pub use reading::read;
 pub use streams::{Sink, Source};
+pub use writing::write;
