@@ -1,5 +1,5 @@
 //! The closure: members ever kept, those held, and one product a turn.
-ghost use Rattle.std.specs.Prelude.{◌≡◌, ◌↔◌, ◌<◌, ◌≤◌, ◌+◌, ◌*◌, ◌^◌, true, false, ℕ, List, length, filter, not, cond, Ok, IfOk, OnOk, OnErr, IsErr, slice_index_or, slice_set, vec_len};
+ghost use Rattle.std.specs.Prelude.{◌≡◌, ◌↔◌, ◌<◌, ◌≤◌, ◌+◌, ◌*◌, ◌^◌, true, false, ℕ, List, length, All, filter, not, cond, Ok, IfOk, OnOk, OnErr, IsErr, slice_index_or, slice_set, vec_len};
 ghost use Rattle.std.specs.Vec.{vec_capacity};
 ghost use Rattle.std.specs.List.{list_any};
 ghost use Rattle.transition_algebra.specs.Pairs.{IsPair, one};
@@ -227,7 +227,7 @@ fn begin(anew: bool, at: usize) -> usize
 impl<A: Allocator + Copy> Closure<A> {
     /// No member is held yet. Item h of the pairs, from 1 on, stands for a heap of size h.
     pub fn new(alloc: A, table: Table<A>, heaps: Vec<Pair, A>, limit: u32) -> Closure<A>
-        requires pairs { (k : ℕ) → k < length heaps.items → IsPair table.order (slice_index_or heaps.items k one) }
+        requires pairs { All (IsPair table.order) heaps.items }
         requires few { length heaps.items < 2 ^ 32 }
         ensures { result ≡ begun table heaps.items limit }
     {

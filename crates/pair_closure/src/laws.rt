@@ -1,9 +1,9 @@
 //! What holds of turns, however many.
-ghost use Rattle.std.specs.Prelude.{◌≡◌, ◌<◌, ◌+◌, ◌*◌, ◌⊎◌, true, ℕ, List, length, slice_index_or};
+ghost use Rattle.std.specs.Prelude.{◌≡◌, ◌<◌, ◌+◌, ◌*◌, ◌⊎◌, true, ℕ, List, All, length};
 ghost use Rattle.monoid_table.specs.Grids.{Grid};
 ghost use Rattle.monoid_table.specs.Tables.{IsTableGrid};
 ghost use Rattle.transition_algebra.specs.declared.pair.Pair as the_pair;
-ghost use Rattle.transition_algebra.specs.Pairs.{IsPair, one, times};
+ghost use Rattle.transition_algebra.specs.Pairs.{IsPair};
 ghost use Rattle.pair_closure.specs.Turns as turning;
 ghost use Rattle.pair_closure.specs.Progress.{Progress, turns, steps, has_ended};
 ghost use Rattle.pair_closure.specs.Positions.{Speaks, IsMinimal};
@@ -12,11 +12,11 @@ ghost use Rattle.pair_closure.specs.Positions.{Speaks, IsMinimal};
 pub fn closures_speak()
     ensures speaks { (table : Grid) (heaps : List the_pair.Pair) (limit units : ℕ)
         → IsTableGrid table
-        → ((k : ℕ) → k < length heaps → IsPair table.order (slice_index_or heaps k one))
+        → All (IsPair table.order) heaps
         → Speaks (turns units (turning.start table heaps limit)) }
     ensures minimal { (table : Grid) (heaps : List the_pair.Pair) (limit units : ℕ)
         → IsTableGrid table
-        → ((k : ℕ) → k < length heaps → IsPair table.order (slice_index_or heaps k one))
+        → All (IsPair table.order) heaps
         → IsMinimal (turns units (turning.start table heaps limit)) }
 {}
 

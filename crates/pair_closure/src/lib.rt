@@ -5,6 +5,8 @@ mod closure;
 mod covering;
 mod laws;
 mod members;
+#[cfg(test)]
+mod tests;
 
 pub use closure::{Closure, Generator, Grown, Held};
 pub use laws::{closures_end, closures_speak, units_add};
