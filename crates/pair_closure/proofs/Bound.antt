@@ -4,8 +4,8 @@ use Rattle.std.proofs.lemmas.List.Sums.{passes_at_first}
 use Rattle.monoid_table.specs.Grids.{Grid}
 use Rattle.transition_algebra.specs.declared.pair.Pair.{Pair}
 use Rattle.pair_closure.specs.declared.members.Member.{Member}
-use Rattle.pair_closure.specs.declared.closure.Held.{Held}
-use Rattle.pair_closure.specs.declared.closure.Generator.{Generator}
+use Rattle.pair_closure.specs.declared.settle.Held.{Held}
+use Rattle.pair_closure.specs.declared.settle.Generator.{Generator}
 use Rattle.pair_closure.specs.Turns.{State}
 use Rattle.pair_closure.specs.Turns as turning
 use Rattle.pair_closure.proofs.Lists.{by_cond, either}

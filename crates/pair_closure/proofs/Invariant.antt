@@ -10,8 +10,8 @@ use Rattle.pair_closure.proofs.CoverLaws.{CoverLaws}
 use Rattle.monoid_table.specs.Grids.{Grid}
 use Rattle.transition_algebra.specs.declared.pair.Pair.{Pair}
 use Rattle.pair_closure.specs.declared.members.Member.{Member}
-use Rattle.pair_closure.specs.declared.closure.Held.{Held}
-use Rattle.pair_closure.specs.declared.closure.Generator.{Generator}
+use Rattle.pair_closure.specs.declared.settle.Held.{Held}
+use Rattle.pair_closure.specs.declared.settle.Generator.{Generator}
 use Rattle.pair_closure.specs.Turns.{State}
 use Rattle.pair_closure.specs.Turns as turning
 use Rattle.pair_closure.proofs.Lists.{In, by_cond, find_any, any_from, none_from, not_both, either, In-left, In-last, In-push, In-filter, In-filter_passes, In-filter_from, In-set, In-at, true_or, any_set, AllPairs-set}

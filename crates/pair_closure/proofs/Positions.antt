@@ -16,7 +16,7 @@ use Rattle.misere_theory.proofs.Sums.{first_or_rest, no_move_of_none, value-appe
 use Rattle.monoid_table.specs.Grids.{Grid, times_in}
 use Rattle.transition_algebra.specs.declared.pair.Pair.{Pair}
 use Rattle.pair_closure.specs.declared.members.Member.{Member}
-use Rattle.pair_closure.specs.declared.closure.Held.{Held}
+use Rattle.pair_closure.specs.declared.settle.Held.{Held}
 use Rattle.transition_algebra.specs.Pairs.{one, times, IsPair}
 use Rattle.pair_closure.specs.Covering.{covers}
 use Rattle.transition_algebra.specs.Heaps.{IsHeapPair}
@@ -276,11 +276,11 @@ pub speaks : (s : State) → Reached s → Speaks s
 speaks s r code c g = elim (kept_by_turns s r) [
   | inl e ↦ subst (Says code c) (sym e) (start_says code c s.table s.heaps s.limit)
   | inr v ↦ record {
-    words = λ i l. pair_of code c s.table r.lawful g.monoid g.phi_in of _ _ (member_exact code c s.table r.lawful g.monoid g.phi_in of s are v i l);
-    positions = λ i l. (table_words code c s.table r.lawful g.monoid g.phi_in of s are v i l).0;
+    words = λ i l. pair_of code c s.table r.lawful g.monoid g.elements of _ _ (member_exact code c s.table r.lawful g.monoid g.elements of s are v i l);
+    positions = λ i l. (table_words code c s.table r.lawful g.monoid g.elements of s are v i l).0;
     held = λ m h. v.held_members m (Contains-In _ m h);
-    done = λ e. ended code c s.table r.lawful g.monoid g.phi_in of s are v e;
-    over = λ e. more_than code c s.table r.lawful g.monoid g.phi_in of s are v s.limit (ltb-true _ _ e);
+    done = λ e. ended code c s.table r.lawful g.monoid g.elements of s are v e;
+    over = λ e. more_than code c s.table r.lawful g.monoid g.elements of s are v s.limit (ltb-true _ _ e);
   }
 ]
   where

@@ -4,8 +4,8 @@ use Rattle.std.specs.List.{AllByRecursion}
 use Rattle.monoid_table.specs.Laws.{CommMonoidLaws}
 use Rattle.pair_closure.proofs.CoverLaws.{CoverLaws}
 use Rattle.transition_algebra.specs.declared.pair.Pair.{Pair}
-use Rattle.pair_closure.specs.declared.closure.Held.{Held}
-use Rattle.pair_closure.specs.declared.closure.Generator.{Generator}
+use Rattle.pair_closure.specs.declared.settle.Held.{Held}
+use Rattle.pair_closure.specs.declared.settle.Generator.{Generator}
 use Rattle.pair_closure.specs.Turns.{State}
 use Rattle.pair_closure.specs.Turns as turning
 use Rattle.pair_closure.proofs.Lists.{In, find_any, any_from, In-at, place_of}

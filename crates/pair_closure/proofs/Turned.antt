@@ -4,8 +4,8 @@ use Rattle.transition_algebra.specs.declared.pair.Pair.{Pair}
 use Rattle.transition_algebra.specs.Pairs.{IsPair, one, times}
 use Rattle.transition_algebra.specs.PairLaws.{pair_laws}
 use Rattle.pair_closure.specs.declared.members.Member.{Member}
-use Rattle.pair_closure.specs.declared.closure.Held.{Held}
-use Rattle.pair_closure.specs.declared.closure.Generator.{Generator}
+use Rattle.pair_closure.specs.declared.settle.Held.{Held}
+use Rattle.pair_closure.specs.declared.settle.Generator.{Generator}
 use Rattle.pair_closure.specs.Turns.{State}
 use Rattle.pair_closure.specs.Progress.{Progress, turn, covered, members_with, held_with, generators_with, blank_held, blank_generator, NoneBefore, IsRun, KeepsEmpty, Multiplies, TriesHeap}
 use Rattle.pair_closure.proofs.ChainLaws.{same_default}

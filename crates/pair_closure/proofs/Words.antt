@@ -13,7 +13,7 @@ use Rattle.transition_algebra.specs.PairLaws.{pair_laws}
 use Rattle.pair_closure.specs.Covering.{covers}
 use Rattle.pair_closure.specs.Chains.{blank}
 use Rattle.pair_closure.specs.declared.members.Member.{Member}
-use Rattle.pair_closure.specs.declared.closure.Held.{Held}
+use Rattle.pair_closure.specs.declared.settle.Held.{Held}
 use Rattle.pair_closure.specs.Turns.{State}
 use Rattle.pair_closure.specs.Progress.{blank_held}
 use Rattle.pair_closure.specs.Positions.{word, as_pair, IsWordOf}
@@ -108,6 +108,6 @@ walk_ends s r m i at heaps l e w last =
       exact = λ code c g.
           let says = speaks s r code c g in
           let held = says.held m (subst (Contains s.held) (sym e) (In-Contains _ _ (In-at s.held i blank_held l))) in
-          pair_shuffled code c g.monoid g.phi_in (as_pair m.pair) (word s m.place) heaps (heaps_of _ _ (says.positions m.place inside)) shuffled
+          pair_shuffled code c g.monoid g.elements (as_pair m.pair) (word s m.place) heaps (heaps_of _ _ (says.positions m.place inside)) shuffled
           (subst (λ p. theory.IsPairOf code c (as_pair p) (word s m.place)) held.1 (says.words m.place inside));
     }

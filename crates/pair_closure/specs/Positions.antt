@@ -1,14 +1,14 @@
 -- What the pairs of a closure say of positions.
 use Rattle.std.specs.Prelude.{◌≡◌, ℕ, ◌<◌, true, false, List, map, Contains, slice_index_or, length, AllPairs, IsPermutation}
 use Rattle.std.specs.FinSet as set
-use Rattle.misere_theory.specs.Quotients.{Claim, Monoid, ReachesMoreThan}
+use Rattle.misere_theory.specs.Quotients.{Claim, GivesElements, Monoid, ReachesMoreThan}
 use Rattle.misere_theory.specs.Games.{IsHeap, IsHeapUpTo, IsPosition}
 use Rattle.misere_theory.specs.Pairs as theory
 use Rattle.monoid_table.specs.Grids.{Grid, times_in}
 use Rattle.transition_algebra.specs.declared.pair.Pair.{Pair}
 use Rattle.transition_algebra.specs.Pairs.{one, times}
 use Rattle.transition_algebra.specs.Heaps.{IsHeapPairs}
-use Rattle.pair_closure.specs.declared.closure.Held.{Held}
+use Rattle.pair_closure.specs.declared.settle.Held.{Held}
 use Rattle.pair_closure.specs.Covering.{covers}
 use Rattle.pair_closure.specs.Turns.{State}
 use Rattle.pair_closure.specs.Turns as turning
@@ -22,7 +22,7 @@ as_pair p = record { value = p.value; options = set.items p.options }
 -- The claim's products are the table's, and the list gives its pairs of the heaps 1 up to the list's length.
 pub record IsClaimOver (code : List ℕ) (c : Claim) (table : Grid) (heaps : List Pair) : Type 0 where
   pub monoid : Monoid c.order c.times
-  pub phi_in : (n : ℕ) → IsHeap n → c.phi n < c.order
+  pub elements : GivesElements IsHeap c
   pub order_is : c.order ≡ table.order
   pub times_is : (x y : ℕ) → x < table.order → y < table.order → c.times x y ≡ times_in table x y
   pub heaps_are : IsHeapPairs code c (length heaps) heaps

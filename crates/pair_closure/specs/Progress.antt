@@ -7,8 +7,8 @@ use Rattle.transition_algebra.specs.declared.pair.Pair.{Pair}
 use Rattle.transition_algebra.specs.Pairs.{IsPair, one, times}
 use Rattle.pair_closure.specs.Covering.{covers}
 use Rattle.pair_closure.specs.declared.members.Member.{Member}
-use Rattle.pair_closure.specs.declared.closure.Held.{Held}
-use Rattle.pair_closure.specs.declared.closure.Generator.{Generator}
+use Rattle.pair_closure.specs.declared.settle.Held.{Held}
+use Rattle.pair_closure.specs.declared.settle.Generator.{Generator}
 use Rattle.pair_closure.specs.Turns.{State}
 use Rattle.pair_closure.specs.Turns as turning
 

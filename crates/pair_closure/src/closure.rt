@@ -7,8 +7,8 @@ ghost use Rattle.pair_closure.specs.Covering as covering;
 ghost use Rattle.pair_closure.specs.Progress.{Progress, SameData, begun, moved, step, steps, stopped, is_done, is_over, has_ended, members_with, held_with, generators_with, covered, blank_held, first_pending, NoneBefore, KeepsEmpty, Multiplies, TriesHeap};
 ghost use Rattle.pair_closure.specs.Positions.{IsWordOf, Speaks, IsMinimal, IsClosedOver, IsExceeded};
 
-use crate::covering::covers;
 use crate::members::{Member, Members};
+use crate::settle::{Generator, Held, add, begin, hold, pending, settle_heap, settle_product};
 use allocation::Memory;
 use element_sets::ElementSet;
 use monoid_table::{CommMonoid, Table};
@@ -16,21 +16,6 @@ use positions::Position;
 use std::alloc::{AllocError, Allocator, Global};
 use std::marker::Model;
 use transition_algebra::{Pair, Pairs};
-
-/// A member held: its place among those ever kept, and by how many generators it was multiplied.
-#[derive(Clone, Copy)]
-pub struct Held {
-    pub pair: Pair,
-    pub place: usize,
-    pub by: usize,
-}
-
-/// A heap whose pair no member covered. Members are multiplied by these alone.
-#[derive(Clone, Copy)]
-pub struct Generator {
-    pub pair: Pair,
-    pub heap: usize,
-}
 
 /// Where a closure stands.
 #[derive(Clone, Copy, Debug, PartialEq, Eq)]
@@ -84,129 +69,6 @@ impl<A: Allocator> Model for Closure<A> {
     ghost invariant = { λ c. IsRun (record { state = record { table = c.table; heaps = c.heaps.items; limit = c.limit; members = c.members; held = c.held.items; generators = c.generators.items; next = c.next }; spent = c.spent; failed = c.failed }) × NoneBefore c.held.items (length c.generators.items) c.from };
 }
 
-/// The first member held, from `from` on, that some generator hasn't multiplied, or how many are held.
-fn pending(held: &[Held], generators: usize, from: usize) -> usize
-    requires before { NoneBefore held.now generators from }
-    ensures value { result ≡ first_pending held.now generators }
-    ensures within { result ≤ length held.now }
-{
-    let mut at = from.min(held.len());
-    while at < held.len() && held[at].by >= generators {
-        at += 1;
-    }
-    at
-}
-
-/// Makes room for one more member, and adds it. The answer is true unless it covers no member at all.
-fn add<A: Allocator + Copy>(
-    members: &mut Members<A>,
-    held: &mut Vec<Held, A>,
-    member: Member,
-) -> Result<bool, AllocError>
-    ensures members { OnOk result (members.new ≡ members_with members.old member.pair member.parent member.heap) }
-    ensures room { OnOk result (vec_len held.new < vec_capacity held.new) }
-    ensures alone { result ≡ Ok false → list_any (λ m. covering.covers member.pair m.pair) members.old ≡ false }
-    ensures held { held.new.items ≡ held.old.items }
-    ensures err { OnErr result (members.new ≡ members.old) }
-{
-    held.reserve(1)?;
-    let covers_some = members.any_covered_by(&member.pair);
-    members.push(member)?;
-    Ok(covers_some)
-}
-
-/// Gives up the members that x covers.
-fn give_up<A: Allocator>(held: &mut Vec<Held, A>, x: &Pair, covers_some: bool)
-    requires { covers_some ≡ false → list_any (λ m. covering.covers x.now m.pair) held.old.items ≡ false }
-    ensures held { held.new.items ≡ filter (λ m. not (covering.covers x.now m.pair)) held.old.items }
-    ensures len { vec_len held.new ≤ vec_len held.old }
-    ensures capacity { vec_capacity held.new ≡ vec_capacity held.old }
-{
-    if !covers_some {
-        return;
-    }
-    held.retain(|member| !covers(x, &member.pair));
-}
-
-/// Holds x, and gives up the members that it covers.
-fn hold<A: Allocator>(held: &mut Vec<Held, A>, x: Pair, place: usize, by: usize, covers_some: bool)
-    requires room { vec_len held.old < vec_capacity held.old }
-    requires some { covers_some ≡ false → list_any (λ m. covering.covers x m.pair) held.old.items ≡ false }
-    ensures { held.new.items ≡ held_with held.old.items x place by }
-{
-    give_up(held, &x, covers_some);
-    held.push_reserved(Held { pair: x, place, by });
-}
-
-/// The member held at the place was multiplied once more, by the generator of this heap. The answer is true unless all before it stay.
-fn settle_product<A: Allocator + Copy>(
-    members: &mut Members<A>,
-    held: &mut Vec<Held, A>,
-    at: usize,
-    multiplied: Held,
-    product: Pair,
-    heap: usize,
-) -> Result<bool, AllocError>
-    requires within { at < length held.old.items }
-    requires same { multiplied.pair ≡ (slice_index_or held.old.items at blank_held).pair }
-    requires covers { list_any (λ m. covering.covers m.pair product) members.old ≡ covered held.old.items product }
-    requires covered { list_any (λ m. covering.covers product m.pair) members.old ≡ false → list_any (λ m. covering.covers product m.pair) held.old.items ≡ false }
-    ensures members { OnOk result (members.new ≡ cond (covered held.old.items product) members.old (members_with members.old product multiplied.place heap)) }
-    ensures held { OnOk result (held.new.items ≡ cond (covered held.old.items product) (slice_set held.old.items at multiplied) (held_with (slice_set held.old.items at multiplied) product (length members.old) 0)) }
-    ensures before { result ≡ Ok false → (k : ℕ) → k < at → slice_index_or held.new.items k blank_held ≡ slice_index_or held.old.items k blank_held }
-    ensures err_members { OnErr result (members.new ≡ members.old) }
-    ensures err_held { OnErr result (held.new.items ≡ held.old.items) }
-{
-    if members.any_covers(&product) {
-        held[at] = multiplied;
-        return Ok(false);
-    }
-    let place = members.len();
-    let member = Member {
-        pair: product,
-        parent: multiplied.place,
-        heap,
-    };
-    let covers_some = add(members, held, member)?;
-    held[at] = multiplied;
-    hold(held, product, place, 0, covers_some);
-    Ok(covers_some)
-}
-
-/// A heap was tried. The answer is whether its pair was kept.
-fn settle_heap<A: Allocator + Copy>(
-    members: &mut Members<A>,
-    held: &mut Vec<Held, A>,
-    generators: &mut Vec<Generator, A>,
-    pair: Pair,
-    heap: usize,
-) -> Result<bool, AllocError>
-    requires covers { list_any (λ m. covering.covers m.pair pair) members.old ≡ covered held.old.items pair }
-    requires covered { list_any (λ m. covering.covers pair m.pair) members.old ≡ false → list_any (λ m. covering.covers pair m.pair) held.old.items ≡ false }
-    ensures members { OnOk result (members.new ≡ cond (covered held.old.items pair) members.old (members_with members.old pair 0 heap)) }
-    ensures held { OnOk result (held.new.items ≡ cond (covered held.old.items pair) held.old.items (held_with held.old.items pair (length members.old) 0)) }
-    ensures generators { OnOk result (generators.new.items ≡ cond (covered held.old.items pair) generators.old.items (generators_with generators.old.items pair heap)) }
-    ensures kept { result ≡ Ok false → covered held.old.items pair ≡ true }
-    ensures err_members { OnErr result (members.new ≡ members.old) }
-    ensures err_held { OnErr result (held.new.items ≡ held.old.items) }
-    ensures err_generators { OnErr result (generators.new.items ≡ generators.old.items) }
-{
-    if members.any_covers(&pair) {
-        return Ok(false);
-    }
-    generators.reserve(1)?;
-    let place = members.len();
-    let member = Member {
-        pair,
-        parent: 0,
-        heap,
-    };
-    let covers_some = add(members, held, member)?;
-    hold(held, pair, place, 0, covers_some);
-    generators.push_reserved(Generator { pair, heap });
-    Ok(true)
-}
-
 /// The pair of the empty position.
 fn empty() -> Pair
     ensures { result ≡ one }
@@ -215,13 +77,6 @@ fn empty() -> Pair
         value: 0,
         options: ElementSet::new(),
     }
-}
-
-/// Where the look for the next member to multiply may begin.
-fn begin(anew: bool, at: usize) -> usize
-    ensures { result ≡ cond anew 0 at }
-{
-    if anew { 0 } else { at }
 }
 
 impl<A: Allocator + Copy> Closure<A> {

@@ -33,10 +33,12 @@ fn three<A: Allocator + Copy>(alloc: A) -> Result<Option<Closure<A>>, Memory> {
 
 /// Whether a member is of this value, with this one value of options, or none.
 fn is_pair(p: &Pair, value: u16, option: Option<u8>) -> bool {
-    p.value == value && p.options.is_empty() == option.is_none() && match option {
-        Some(x) => p.options.contains(x) && !p.options.contains(1 - x.min(1)),
-        None => true,
-    }
+    p.value == value
+        && p.options.is_empty() == option.is_none()
+        && match option {
+            Some(x) => p.options.contains(x) && !p.options.contains(1 - x.min(1)),
+            None => true,
+        }
 }
 
 #[test]
@@ -45,7 +47,10 @@ fn keeps_three_members(rt: HostRuntime) -> Result<(), Fail> {
         panic!(rt; "no closure");
     };
     let first = closure.grow(1)?;
-    assert_eq!(rt; (first, closure.ever(), closure.spent()), (Grown::More, 1, 1));
+    assert_eq!(rt;
+        (first, closure.ever(), closure.spent()),
+        (Grown::More, 1, 1)
+    );
     let end = closure.grow(1000)?;
     assert_eq!(rt; (end, closure.ever(), closure.kept()), (Grown::Done, 3, 3));
     for (i, value, option) in [(0usize, 0, None), (1, 1, Some(0)), (2, 0, Some(1))] {

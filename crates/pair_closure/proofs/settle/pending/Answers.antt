@@ -1,10 +1,10 @@
 use Rattle.std.proofs.Common.{◌<◌, arith, get_or}
 use Rattle.pair_closure.specs.Progress.{blank_held}
 use Rattle.pair_closure.proofs.PendingLaws.{pending_here, pending_none}
-use Rattle.pair_closure.specs.declared.closure.Held.{Held}
+use Rattle.pair_closure.specs.declared.settle.Held.{Held}
 use Rattle.std.proofs.Common.{subst}
 use Rattle.pair_closure.proofs.ChainLaws.{same_default}
-use Rattle.pair_closure.proofs.closure.pending.Goals as goal
+use Rattle.pair_closure.proofs.settle.pending.Goals as goal
 
 pub returns-else-held-at-clause-value : goal.returns-else-held-at-clause-value
 returns-else-held-at-clause-value c =

@@ -1,6 +1,6 @@
 use Rattle.std.proofs.Common.{◌≤◌, ◌-◌, length}
 use Rattle.pair_closure.specs.Progress.{NoneBefore}
-use Rattle.pair_closure.proofs.closure.pending.Given as goal
+use Rattle.pair_closure.proofs.settle.pending.Given as goal
 
 abbrev pub invariant-loop-at : goal.invariant-loop-at
 invariant-loop-at l = (l.at ≤ length l.held) × NoneBefore l.held l.generators l.at

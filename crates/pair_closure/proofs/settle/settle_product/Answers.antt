@@ -4,8 +4,8 @@ use Rattle.std.proofs.Common.{set, get_or}
 use Rattle.std.specs.List.{list_any}
 use Rattle.pair_closure.specs.Covering.{covers}
 use Rattle.pair_closure.specs.Progress.{held_with, blank_held}
-use Rattle.pair_closure.specs.declared.closure.Held.{Held}
-use Rattle.pair_closure.proofs.closure.settle_product.Goals as goal
+use Rattle.pair_closure.specs.declared.settle.Held.{Held}
+use Rattle.pair_closure.proofs.settle.settle_product.Goals as goal
 
 pub hold-requires-clause-some : goal.hold-requires-clause-some
 hold-requires-clause-some g c = λ e.
