@@ -168,8 +168,3 @@ module _ (t : Grid) (lawful : IsTableGrid t) where
 
   pub pair_laws : CommMonoidLaws (IsPair q) one (times t)
   pair_laws = record { one_in = one_in; times_in = stays_in; identity = times_one; comm = times_comm; assoc = times_assoc }
-
--- all are what f makes of the members of s below n
-pub record IsImageBelow (f : ℕ → ℕ) (s : set.FinSet nat_cmp) (n : ℕ) (all : set.FinSet nat_cmp) : Type 0 where
-  pub only : (y : ℕ) → has all y → (x : ℕ) × (x < n) × has s x × (f x ≡ y)
-  pub each : (x : ℕ) → x < n → has s x → has all (f x)

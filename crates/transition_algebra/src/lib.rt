@@ -9,6 +9,8 @@ mod heaps;
 mod laws;
 mod pair;
 mod phi;
+#[cfg(test)]
+mod tests;
 mod trial;
 
 pub use heap_job::HeapJob;

@@ -27,13 +27,8 @@ fn translate<A: Allocator>(table: &Table<A>, value: u16, elements: &ElementSet) 
     requires elements_in { (x : ℕ) → set.contains elements.now x ≡ true → x < table.now.order }
     ensures { result ≡ translated table.now value elements.now }
 {
-    let mut all = ElementSet::new();
-    for x in 0..table.order() {
-        if elements.contains(x as u8) {
-            all.insert(table.times(value, x) as u8);
-        }
-    }
-    all
+    is_monoid(table);
+    elements.translate(table.row(value))
 }
 
 impl<'a, A: Allocator> CommMonoid for Pairs<'a, A> {

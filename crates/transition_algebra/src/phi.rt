@@ -68,7 +68,7 @@ impl<A: Allocator> Phi<A> {
         let place = if n < self.start + self.period {
             n
         } else {
-            self.start + (n - self.start) % self.period
+            (n - self.start) % self.period + self.start
         };
         self.entries[(place - 1) as usize]
     }
