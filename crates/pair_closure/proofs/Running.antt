@@ -264,3 +264,13 @@ spent_of n p q e h = ap (λ z. z.spent) e ∙ spent_steps n p (ap (λ z. has_end
 
 pub next_steps : (n : ℕ) (p q t : Progress) → q ≡ steps n p → t ≡ step q → t ≡ steps (n + 1) p
 next_steps n p q t e f = let k : suc n ≡ n + 1 = omega arith in f ∙ ap step e ∙ ap (λ j. steps j p) k
+
+spent_range : (n : ℕ) (p : Progress) → (p.spent ≤ (steps n p).spent) × ((steps n p).spent ≤ p.spent + n)
+spent_range zero p = (omega arith, omega arith)
+spent_range (suc n) p =
+    let (a, b) = spent_range n p in
+    let q = steps n p in
+    by_cond (λ z. (p.spent ≤ z.spent) × (z.spent ≤ p.spent + suc n)) (has_ended q.state) q (moved q) (λ _. (omega arith, omega arith)) (λ _. (omega arith, omega arith))
+
+pub spent_in : (m n : ℕ) (p q : Progress) → q ≡ steps m p → m ≤ n → (p.spent ≤ q.spent) × (q.spent ≤ p.spent + n)
+spent_in m n p q e l = subst (λ z. (p.spent ≤ z.spent) × (z.spent ≤ p.spent + n)) (sym e) (let (a, b) = spent_range m p in (omega arith, omega arith))

@@ -80,7 +80,8 @@ fn empty() -> Pair
 }
 
 impl<A: Allocator + Copy> Closure<A> {
-    /// No member is held yet. Item h of the pairs, from 1 on, stands for a heap of size h.
+    /// No member is held yet, and no memory is taken. Item h of the pairs, counted from 1, stands for a heap of size h;
+    /// there are fewer than 2^32 of them. It ends within limit times their number, plus 2, turns.
     pub fn new(alloc: A, table: Table<A>, heaps: Vec<Pair, A>, limit: u32) -> Closure<A>
         requires pairs { All (IsPair table.order) heaps.items }
         requires few { length heaps.items < 2 ^ 32 }
@@ -251,8 +252,9 @@ impl<A: Allocator + Copy> Closure<A> {
     /// Takes so many turns, or fewer where it ends, and answers where it stands then. A turn is one product of a member
     /// with a heap's pair, where the pair of a heap that is tried is its product with the empty member.
     ///
-    /// The answer and what is held depend on the turns taken in all, however they were cut. After `Memory`, for a
-    /// refused growth, what is held is that of the turns before, and every later call answers `Memory`.
+    /// The answer and what is held depend on the turns taken in all, however they were cut; past the end nothing changes.
+    /// After `Memory`, for a refused growth, what is held is that of the turns before, and every later call answers
+    /// `Memory`.
     pub fn grow(&mut self, units: u64) -> Result<Grown, Memory>
         ensures turns { OnOk result (self.new ≡ steps units self.old) }
         ensures more { result ≡ Ok Grown.More → has_ended self.new.state ≡ false }
@@ -270,6 +272,7 @@ impl<A: Allocator + Copy> Closure<A> {
         ensures data { SameData self.old.state self.new.state }
         ensures few { length self.new.state.members ≤ length self.old.state.members + units }
         ensures spent { result ≡ Ok Grown.More → self.new.spent ≡ self.old.spent + units }
+        ensures spent_range { (self.old.spent ≤ self.new.spent) × (self.new.spent ≤ self.old.spent + units) }
     {
         for _unit in 0..units {
             match self.take() {
@@ -313,7 +316,7 @@ impl<A: Allocator + Copy> Closure<A> {
         &self.held[i].pair
     }
 
-    /// Heaps whose position has exactly the pair of a member held, counted from 0.
+    /// A position that has exactly the pair of a member held, counted from 0. `Memory` where its growth was refused.
     pub fn word(&self, i: usize) -> Result<Position<A>, Memory>
         requires { i < length self.now.state.held }
         ensures { IfOk result (IsWordOf self.now.state (slice_index_or self.now.state.held i blank_held)) }

@@ -1,4 +1,19 @@
-//! The minimal cover of the pairs of all positions.
+//! The pairs of all positions, closed under sums, as a minimal cover.
+//!
+//! A pair covers another of the same value where its options' values are among the other's, and it has one where the
+//! other has one. Products respect this: what covers a pair, times a third, covers the pair times the third. So what
+//! the pairs of a cover say of the rule holds at every position.
+//!
+//! The first member is the pair of the empty position. Then the heaps are tried in turn. A heap whose own pair a member
+//! covers makes no products: that member is the pair of a word of earlier heaps, and beside any position the word
+//! covers what the heap would make. Any other heap is a generator, by which each member is multiplied, old and new. A
+//! product is kept where no member covers it, and members that it covers are given up.
+//!
+//! The members ever kept stay in one list, where those of one value are chained: a test for covering looks at these
+//! alone. Members that were given up stay in the chain too, since what they cover is covered by one that is held. No
+//! hash set numbers the members, since a product is looked up by covering and not by equality.
+//!
+//! A unit is a turn, and what a closure is after so many turns is one function of plain data, `specs/Turns.antt`.
 #![tactic(auto)]
 
 mod closure;

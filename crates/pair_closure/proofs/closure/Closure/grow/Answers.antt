@@ -1,6 +1,6 @@
 use Rattle.std.proofs.Common.{◌≡◌, ◌≤◌, ◌+◌, ◌∙◌, sym, arith, rules, true, false, length, subst}
 use Rattle.pair_closure.specs.Progress.{has_ended, SameData}
-use Rattle.pair_closure.proofs.Running.{last_step, data_of, few_of, failed_of, spent_of, next_steps}
+use Rattle.pair_closure.proofs.Running.{last_step, data_of, few_of, failed_of, spent_of, spent_in, next_steps}
 use Rattle.pair_closure.proofs.closure.Closure.grow.Goals as goal
 
 pub returns-in-Ok-false-clause-turns : goal.returns-in-Ok-false-clause-turns
@@ -50,3 +50,16 @@ returns-clause-spent g c = λ e.
     let h : has_ended c.loop-unit.self.state ≡ false = c.standing-2.ensures.more e in
     let all = spent_of c.loop-unit._unit c.args.self.now c.loop-unit.self c.loop-unit.invariant h in
     omega arith
+
+pub returns-in-Ok-false-clause-spent_range : goal.returns-in-Ok-false-clause-spent_range
+returns-in-Ok-false-clause-spent_range g c =
+    let h : has_ended c.loop-unit.self.state ≡ true = c.in-Ok-false.ensures.last (search rules) in
+    spent_in c.args.units c.args.units c.args.self.now c.take.new.self (last_step c.loop-unit._unit c.args.units c.args.self.now c.loop-unit.self c.take.new.self c.loop-unit.invariant c.loop-unit-test.true c.in-Ok-false.ensures.ok h) (omega arith)
+
+pub returns-in-Err-clause-spent_range : goal.returns-in-Err-clause-spent_range
+returns-in-Err-clause-spent_range g c =
+    subst (λ z. (c.args.self.now.spent ≤ z.spent) × (z.spent ≤ c.args.self.now.spent + c.args.units)) (sym (c.self.view_is ∙ c.in-Err.ensures.err))
+    (spent_in c.loop-unit._unit c.args.units c.args.self.now c.loop-unit.self c.loop-unit.invariant (let l = c.loop-unit-test.true in omega arith))
+
+pub returns-clause-spent_range : goal.returns-clause-spent_range
+returns-clause-spent_range g c = spent_in c.loop-unit._unit c.args.units c.args.self.now c.loop-unit.self c.loop-unit.invariant (let l = c.loop-unit.auto in search rules)
