@@ -12,7 +12,7 @@ use Rattle.pair_closure.specs.declared.settle.Held.{Held}
 use Rattle.pair_closure.specs.declared.settle.Generator.{Generator}
 use Rattle.pair_closure.specs.Turns.{State}
 use Rattle.pair_closure.specs.Turns as turning
-use Rattle.pair_closure.specs.Progress.{turn, covered, members_with, held_with, generators_with, blank_held, blank_generator, first_pending, IsRun, Progress}
+use Rattle.pair_closure.specs.Progress.{Tell, turn, covered, members_with, held_with, generators_with, blank_held, blank_generator, first_pending, IsRun, Progress}
 use Rattle.pair_closure.proofs.Lists.{In, In-at, place_of, find_any, any_from, either, not_both}
 use Rattle.pair_closure.proofs.PairLaws.{cover_laws}
 use Rattle.pair_closure.proofs.Invariant as invariant
@@ -59,7 +59,7 @@ place_in s r i d l = elim (kept_by_turns s r) [
 ]
 
 -- a member ever kept covers x exactly where one that is held does
-pub covers_alike : (s : State) → Reached s → (x : Pair) → IsPair s.table.order x → list_any (λ m. covers m.pair x) s.members ≡ covered s.held x
+covers_alike : (s : State) → Reached s → (x : Pair) → IsPair s.table.order x → list_any (λ m. covers m.pair x) s.members ≡ covered s.held x
 covers_alike s r x hx = elim (kept_by_turns s r) [
   | inl e ↦ subst (λ z. list_any (λ m. covers m.pair x) z.members ≡ covered z.held x) (sym e) refl
   | inr v ↦ alike (list_any (λ m. covers m.pair x) s.members) (covered s.held x)
@@ -81,7 +81,7 @@ covers_alike s r x hx = elim (kept_by_turns s r) [
     alike false false f g = refl
 
 -- where x covers no member ever kept, it covers none that is held
-pub covered_none : (s : State) → Reached s → (x : Pair) → list_any (λ m. covers x m.pair) s.members ≡ false → list_any (λ m. covers x m.pair) s.held ≡ false
+covered_none : (s : State) → Reached s → (x : Pair) → list_any (λ m. covers x m.pair) s.members ≡ false → list_any (λ m. covers x m.pair) s.held ≡ false
 covered_none s r x h = elim (kept_by_turns s r) [
   | inl e ↦ ap (λ z. list_any (λ m. covers x m.pair) z.held) e
   | inr v ↦ elim (either (list_any (λ m. covers x m.pair) s.held)) [
@@ -92,6 +92,9 @@ covered_none s r x h = elim (kept_by_turns s r) [
     | inr f ↦ f
   ]
 ]
+
+pub members_tell : (s : State) → Reached s → (x : Pair) → IsPair s.table.order x → Tell s.members s.held x
+members_tell s r x hx = record { covers = covers_alike s r x hx; covered = covered_none s r x }
 
 pub has_turns : (held : List Held) (n i : ℕ) (d : Held) → i ≡ first_pending held n → i < length held → (get_or held i d).by < n
 has_turns held n i d e l = ltb-true _ _ (subst (λ j. nat_lt (get_or held j d).by n ≡ true) (sym e) (passes_at_first (λ m. nat_lt m.by n) held d (subst (λ j. j < length held) e l)))

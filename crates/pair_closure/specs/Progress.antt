@@ -73,6 +73,23 @@ pub record IsRun (p : Progress) : Type 0 where
 abbrev pub covered : List Held → Pair → Bool
 covered held x = list_any (λ m. covers m.pair x) held
 
+-- a member ever kept covers x
+abbrev pub any_covers : List Member → Pair → Bool
+any_covers members x = list_any (λ m. covers m.pair x) members
+
+-- x covers a member ever kept
+abbrev pub covers_any : Pair → List Member → Bool
+covers_any x members = list_any (λ m. covers x m.pair) members
+
+-- x covers a member that is held
+abbrev pub covers_held : Pair → List Held → Bool
+covers_held x held = list_any (λ m. covers x m.pair) held
+
+-- What the members ever kept tell of those held: whether one covers x; and where x covers none of them, it covers none that is held.
+pub record Tell (members : List Member) (held : List Held) (x : Pair) : Type 0 where
+  pub covers : any_covers members x ≡ covered held x
+  pub covered : covers_any x members ≡ false → covers_held x held ≡ false
+
 -- x is added to the members
 abbrev pub members_with : List Member → Pair → ℕ → ℕ → List Member
 members_with members x parent heap = members ++ record { pair = x; parent = parent; heap = heap } ∷ []
@@ -80,6 +97,14 @@ members_with members x parent heap = members ++ record { pair = x; parent = pare
 -- x is held, and what it covers is given up
 abbrev pub held_with : List Held → Pair → ℕ → ℕ → List Held
 held_with held x place by = filter (λ m. not (covers x m.pair)) held ++ record { pair = x; place = place; by = by } ∷ []
+
+-- x is added to the members where none that is held covers it
+abbrev pub members_after : List Member → List Held → Pair → ℕ → ℕ → List Member
+members_after members held x parent heap = cond (covered held x) members (members_with members x parent heap)
+
+-- x is held where none that was held covers it
+abbrev pub held_after : List Held → List Held → Pair → ℕ → List Held
+held_after before held x place = cond (covered before x) held (held_with held x place 0)
 
 abbrev pub generators_with : List Generator → Pair → ℕ → List Generator
 generators_with generators x heap = generators ++ record { pair = x; heap = heap } ∷ []

@@ -1,8 +1,7 @@
 // The members ever kept, found by their value.
 ghost use Rattle.std.specs.Prelude.{◌≡◌, ◌++◌, ◌∷◌, [], ◌<◌, ℕ, length, OnOk, OnErr, slice_index, slice_index_or};
-ghost use Rattle.std.specs.List as lists;
-ghost use Rattle.pair_closure.specs.Covering as covering;
-ghost use Rattle.pair_closure.specs.Chains.{AreChained, blank, last_with};
+ghost use Rattle.pair_closure.specs.Chains.{blank, last_with};
+ghost use Rattle.pair_closure.specs.Progress.{any_covers, covers_any};
 
 use crate::covering::covers;
 use std::alloc::{AllocError, Allocator};
@@ -90,7 +89,7 @@ impl<A: Allocator + Copy> Members<A> {
 
     /// Whether some member covers x.
     pub(crate) fn any_covers(&self, x: &Pair) -> bool
-        ensures { result ≡ lists.list_any (λ m. covering.covers m.pair x.now) self.now }
+        ensures { result ≡ any_covers self.now x.now }
     {
         let mut at = self.newest_with(x.value);
         while at > 0 {
@@ -104,8 +103,8 @@ impl<A: Allocator + Copy> Members<A> {
     }
 
     /// Whether x covers some member.
-    pub(crate) fn any_covered_by(&self, x: &Pair) -> bool
-        ensures { result ≡ lists.list_any (λ m. covering.covers x.now m.pair) self.now }
+    pub(crate) fn covers_any(&self, x: &Pair) -> bool
+        ensures { result ≡ covers_any x.now self.now }
     {
         let mut at = self.newest_with(x.value);
         while at > 0 {

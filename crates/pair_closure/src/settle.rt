@@ -1,9 +1,8 @@
 //! What a turn writes: members kept and given up, and the generators.
 ghost use Rattle.std.specs.Prelude.{◌≡◌, ◌<◌, ◌≤◌, false, true, ℕ, length, filter, not, cond, Ok, OnOk, OnErr, slice_index_or, slice_set, vec_len};
 ghost use Rattle.std.specs.Vec.{vec_capacity};
-ghost use Rattle.std.specs.List.{list_any};
 ghost use Rattle.pair_closure.specs.Covering as covering;
-ghost use Rattle.pair_closure.specs.Progress.{members_with, held_with, generators_with, covered, blank_held, first_pending, NoneBefore};
+ghost use Rattle.pair_closure.specs.Progress.{Tell, covers_any, covers_held, members_with, members_after, held_with, held_after, generators_with, covered, blank_held, first_pending, NoneBefore};
 
 use crate::covering::covers;
 use crate::members::{Member, Members};
@@ -46,19 +45,19 @@ pub(crate) fn add<A: Allocator + Copy>(
 ) -> Result<bool, AllocError>
     ensures members { OnOk result (members.new ≡ members_with members.old member.pair member.parent member.heap) }
     ensures room { OnOk result (vec_len held.new < vec_capacity held.new) }
-    ensures alone { result ≡ Ok false → list_any (λ m. covering.covers member.pair m.pair) members.old ≡ false }
+    ensures alone { result ≡ Ok false → covers_any member.pair members.old ≡ false }
     ensures held { held.new.items ≡ held.old.items }
     ensures err { OnErr result (members.new ≡ members.old) }
 {
     held.reserve(1)?;
-    let covers_some = members.any_covered_by(&member.pair);
+    let covers_some = members.covers_any(&member.pair);
     members.push(member)?;
     Ok(covers_some)
 }
 
 /// Gives up the members that x covers.
 fn give_up<A: Allocator>(held: &mut Vec<Held, A>, x: &Pair, covers_some: bool)
-    requires { covers_some ≡ false → list_any (λ m. covering.covers x.now m.pair) held.old.items ≡ false }
+    requires { covers_some ≡ false → covers_held x.now held.old.items ≡ false }
     ensures held { held.new.items ≡ filter (λ m. not (covering.covers x.now m.pair)) held.old.items }
     ensures len { vec_len held.new ≤ vec_len held.old }
     ensures capacity { vec_capacity held.new ≡ vec_capacity held.old }
@@ -78,14 +77,15 @@ pub(crate) fn hold<A: Allocator>(
     covers_some: bool,
 )
     requires room { vec_len held.old < vec_capacity held.old }
-    requires some { covers_some ≡ false → list_any (λ m. covering.covers x m.pair) held.old.items ≡ false }
+    requires some { covers_some ≡ false → covers_held x held.old.items ≡ false }
     ensures { held.new.items ≡ held_with held.old.items x place by }
 {
     give_up(held, &x, covers_some);
     held.push_reserved(Held { pair: x, place, by });
 }
 
-/// The member held at the place was multiplied once more, by the generator of this heap. The answer is true unless all before it stay.
+/// The member held at the place was multiplied once more, by the generator of this heap. The answer is true unless all
+/// that are held before it stay.
 pub(crate) fn settle_product<A: Allocator + Copy>(
     members: &mut Members<A>,
     held: &mut Vec<Held, A>,
@@ -96,11 +96,11 @@ pub(crate) fn settle_product<A: Allocator + Copy>(
 ) -> Result<bool, AllocError>
     requires within { at < length held.old.items }
     requires same { multiplied.pair ≡ (slice_index_or held.old.items at blank_held).pair }
-    requires covers { list_any (λ m. covering.covers m.pair product) members.old ≡ covered held.old.items product }
-    requires covered { list_any (λ m. covering.covers product m.pair) members.old ≡ false → list_any (λ m. covering.covers product m.pair) held.old.items ≡ false }
-    ensures members { OnOk result (members.new ≡ cond (covered held.old.items product) members.old (members_with members.old product multiplied.place heap)) }
-    ensures held { OnOk result (held.new.items ≡ cond (covered held.old.items product) (slice_set held.old.items at multiplied) (held_with (slice_set held.old.items at multiplied) product (length members.old) 0)) }
-    ensures before { result ≡ Ok false → (k : ℕ) → k < at → slice_index_or held.new.items k blank_held ≡ slice_index_or held.old.items k blank_held }
+    requires tell { Tell members.old held.old.items product }
+    ensures members { OnOk result (members.new ≡ members_after members.old held.old.items product multiplied.place heap) }
+    ensures held { OnOk result (held.new.items ≡ held_after held.old.items (slice_set held.old.items at multiplied) product (length members.old)) }
+    ensures before { result ≡ Ok false → (k : ℕ) → k < at
+        → slice_index_or held.new.items k blank_held ≡ slice_index_or held.old.items k blank_held }
     ensures err_members { OnErr result (members.new ≡ members.old) }
     ensures err_held { OnErr result (held.new.items ≡ held.old.items) }
 {
@@ -128,11 +128,11 @@ pub(crate) fn settle_heap<A: Allocator + Copy>(
     pair: Pair,
     heap: usize,
 ) -> Result<bool, AllocError>
-    requires covers { list_any (λ m. covering.covers m.pair pair) members.old ≡ covered held.old.items pair }
-    requires covered { list_any (λ m. covering.covers pair m.pair) members.old ≡ false → list_any (λ m. covering.covers pair m.pair) held.old.items ≡ false }
-    ensures members { OnOk result (members.new ≡ cond (covered held.old.items pair) members.old (members_with members.old pair 0 heap)) }
-    ensures held { OnOk result (held.new.items ≡ cond (covered held.old.items pair) held.old.items (held_with held.old.items pair (length members.old) 0)) }
-    ensures generators { OnOk result (generators.new.items ≡ cond (covered held.old.items pair) generators.old.items (generators_with generators.old.items pair heap)) }
+    requires tell { Tell members.old held.old.items pair }
+    ensures members { OnOk result (members.new ≡ members_after members.old held.old.items pair 0 heap) }
+    ensures held { OnOk result (held.new.items ≡ held_after held.old.items held.old.items pair (length members.old)) }
+    ensures generators { OnOk result (generators.new.items
+        ≡ cond (covered held.old.items pair) generators.old.items (generators_with generators.old.items pair heap)) }
     ensures kept { result ≡ Ok false → covered held.old.items pair ≡ true }
     ensures err_members { OnErr result (members.new ≡ members.old) }
     ensures err_held { OnErr result (held.new.items ≡ held.old.items) }

@@ -1,6 +1,6 @@
 use Rattle.pair_closure.specs.Covering.{covers}
 use Rattle.pair_closure.proofs.ChainLaws.{IsAt}
-use Rattle.pair_closure.proofs.members.Members.any_covered_by.Given as goal
+use Rattle.pair_closure.proofs.members.Members.covers_any.Given as goal
 
 abbrev pub invariant-loop-at : goal.invariant-loop-at
 invariant-loop-at g l = IsAt l.self-inside.list.items l.x.value (λ p. covers l.x p) l.at

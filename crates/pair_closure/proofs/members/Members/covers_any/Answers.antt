@@ -4,7 +4,7 @@ use Rattle.pair_closure.specs.Covering.{covers}
 use Rattle.pair_closure.specs.Chains.{last_with}
 use Rattle.pair_closure.proofs.ChainLaws.{walk_from, walk_on, walk_falls, walk_ends, read_member, read_older, covered_of}
 use Rattle.pair_closure.specs.declared.members.Member.{Member}
-use Rattle.pair_closure.proofs.members.Members.any_covered_by.Goals as goal
+use Rattle.pair_closure.proofs.members.Members.covers_any.Goals as goal
 
 pub loop-at-init : goal.loop-at-init
 loop-at-init g c =
