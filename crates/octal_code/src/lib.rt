@@ -3,6 +3,8 @@
 
 mod code;
 mod fault;
+#[cfg(test)]
+mod tests;
 
 pub use code::Code;
 pub use fault::CodeFault;

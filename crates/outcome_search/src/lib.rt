@@ -5,6 +5,8 @@ mod answer;
 mod look;
 mod memo;
 mod search;
+#[cfg(test)]
+mod tests;
 
 pub use answer::{Outcome, SearchFault};
 pub use search::outcome;

@@ -4,3 +4,5 @@ pub mod Exact
 pub mod Allowed
 pub mod Permuted
 pub mod Heaps
+pub mod Words
+pub mod Texts

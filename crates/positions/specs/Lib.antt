@@ -4,3 +4,5 @@ pub mod Exact
 pub mod Positions
 pub mod Moves
 pub mod Hashes
+pub mod Text
+pub mod Surveys

@@ -1,12 +1,18 @@
 //! Positions of octal games, the options of their heaps, and moves.
 #![tactic(auto)]
 
+mod fault;
 mod left;
 mod listing;
 mod moves;
 mod position;
+mod reading;
+mod survey;
+#[cfg(test)]
+mod tests;
 mod walk;
 
+pub use fault::PositionFault;
 pub use left::Left;
 pub use listing::{options, options_are_exact, options_up_to};
 pub use moves::{Move, MoveFault, apply, is_option};

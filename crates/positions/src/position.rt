@@ -129,6 +129,16 @@ impl<A: Allocator + Copy> Position<A> {
         sort(&mut heaps);
         Ok(Position { heaps })
     }
+
+    /// The position of these heaps, which stand in any order.
+    pub(crate) fn of(alloc: A, sizes: &[u64]) -> Result<Position<A>, Memory>
+        requires { All IsSize sizes.now }
+        ensures { IfOk result (IsPermutation sizes.now) }
+    {
+        let mut heaps = Vec::from_slice(alloc, sizes)?;
+        sort(&mut heaps);
+        Ok(Position { heaps })
+    }
 }
 
 impl<A: Allocator> PartialEq for Position<A> {
