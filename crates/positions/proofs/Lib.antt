@@ -6,3 +6,4 @@ pub mod Permuted
 pub mod Heaps
 pub mod Words
 pub mod Texts
+pub mod Written

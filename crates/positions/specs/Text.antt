@@ -1,5 +1,5 @@
 -- The text of a position: sizes with single spaces between them, or 0 for the position without heaps.
-use Rattle.std.specs.Prelude.{◌≡◌, ◌≢◌, ℕ, ◌-◌, ◌<◌, ◌≤◌, ◌==◌, List, [], ◌∷◌, length, slice_index, map, All, Contains, codes, IsPermutation}
+use Rattle.std.specs.Prelude.{◌≡◌, ◌≢◌, ℕ, ◌-◌, ◌<◌, ◌≤◌, ◌==◌, List, [], ◌∷◌, ◌++◌, decimal, length, slice_index, map, All, Contains, codes, IsPermutation}
 use Rattle.std.specs.Int.Digits.{number_from_digits}
 use Rattle.std.specs.List.{slice_split, AllZip}
 use Rattle.positions.specs.declared.fault.PositionFault.{PositionFault}
@@ -32,6 +32,16 @@ words_of bytes = slice_split (λ b. b == 32) bytes
 abbrev pub IsPositionText : List ℕ → List ℕ → Type 0
 IsPositionText bytes [] = bytes ≡ codes "0"
 IsPositionText bytes (n ∷ ns) = AllZip IsNumeralOf (words_of bytes) (n ∷ ns)
+
+-- more sizes, each behind a space
+abbrev pub text_behind : List ℕ → List ℕ
+text_behind [] = []
+text_behind (n ∷ ns) = 32 ∷ (decimal n ++ text_behind ns)
+
+-- the text of these sizes, in this order
+abbrev pub position_text : List ℕ → List ℕ
+position_text [] = codes "0"
+position_text (n ∷ ns) = decimal n ++ text_behind ns
 
 -- the bytes are the text of the sizes of X, in some order
 pub record IsTextOf (bytes X : List ℕ) : Type 0 where

@@ -11,6 +11,7 @@ mod survey;
 #[cfg(test)]
 mod tests;
 mod walk;
+mod writing;
 
 pub use fault::PositionFault;
 pub use left::Left;

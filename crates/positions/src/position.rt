@@ -110,6 +110,11 @@ impl<A: Allocator + Copy> Position<A> {
         }
     }
 
+    /// The allocator that holds the heaps.
+    pub(crate) fn allocator(&self) -> A {
+        *self.heaps.allocator()
+    }
+
     /// The same heaps in memory of their own.
     pub fn copied(&self, alloc: A) -> Result<Position<A>, Memory>
         ensures same { IfOk result (λ copy. copy ≡ self.now) }
@@ -123,8 +128,7 @@ impl<A: Allocator + Copy> Position<A> {
     pub fn add(&self, other: &Position<A>) -> Result<Position<A>, Memory>
         ensures { IfOk result (λ sum. IsPermutation (self.now ++ other.now) sum) }
     {
-        let alloc = *self.heaps.allocator();
-        let mut heaps = Vec::from_slice(alloc, self.heaps())?;
+        let mut heaps = Vec::from_slice(self.allocator(), self.heaps())?;
         heaps.extend_from_slice(other.heaps())?;
         sort(&mut heaps);
         Ok(Position { heaps })

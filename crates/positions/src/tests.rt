@@ -1,4 +1,4 @@
-use crate::{Left, Move, MoveFault, Position, apply, options};
+use crate::{Left, Move, MoveFault, Position, PositionFault, apply, options};
 use allocation::Memory;
 use octal_code::Code;
 use ration::Ration;
@@ -31,4 +31,102 @@ fn begins_with_a_large_heap_at_once(rt: HostRuntime) -> Result<(), Fail> {
     assert!(rt; far.next() == Some(Left::One(999_999_999_999_999_999)));
     assert!(rt; far.next() == Some(Left::Two(1, 999_999_999_999_999_998)));
     Ok(())
+}
+
+#[test]
+fn reads_positions(rt: HostRuntime) -> Result<(), Fail> {
+    let rows = [
+        ("2 1 2", "1 2 2"),
+        ("0", "0"),
+        ("1000000000000000000 7", "7 1000000000000000000"),
+    ];
+    for (text, wanted) in rows {
+        let position = Position::read(rt.alloc(), text.as_bytes())?;
+        assert_eq!(rt; position.text()?.as_str(), wanted);
+    }
+    let faults: [(&[u8], u8); 7] = [
+        (b"", 1),
+        (b"1 0", 1),
+        (b"01", 1),
+        (b"1  2", 1),
+        (b"1 ", 1),
+        (b"1000000000000000001", 3),
+        (
+            b"100000000000000000000000000000000000000000000000000000000000000000000 1",
+            3,
+        ),
+    ];
+    for (text, number) in faults {
+        match Position::read(rt.alloc(), text) {
+            Ok(_) => return Err(Fail::new("a fault is missing")),
+            Err(fault) => assert_eq!(rt; fault.number(), number),
+        }
+    }
+    let mut ones = [b'1'; 129];
+    for i in 0..64usize {
+        ones[2 * i + 1] = b' ';
+    }
+    assert!(rt;
+        matches!(
+            Position::read(rt.alloc(), &ones),
+            Err(PositionFault::TooMany)
+        )
+    );
+    let most = Position::read(rt.alloc(), &ones[..127])?;
+    assert_eq!(rt; most.heaps().len(), 64);
+    Ok(())
+}
+
+#[test]
+fn makes_moves(rt: HostRuntime) -> Result<(), Fail> {
+    let code = Code::read(b"0.75")?;
+    let position = Position::read(rt.alloc(), b"1 5")?;
+    let step = |heap, left| Move { heap, left };
+    let next = apply(rt.alloc(), &code, &position, step(5, Left::Two(1, 3)))?;
+    assert_eq!(rt; next.heaps(), [1u64, 1, 3].as_slice());
+    let absent = apply(rt.alloc(), &code, &position, step(4, Left::One(3)));
+    assert!(rt; matches!(absent, Err(MoveFault::NoSuchHeap)));
+    let refused = apply(rt.alloc(), &code, &position, step(5, Left::One(3)));
+    assert!(rt; matches!(refused, Err(MoveFault::NotAllowed)));
+    Ok(())
+}
+
+fn doubled<A: Allocator + Copy>(alloc: A) -> Result<Position<A>, Memory> {
+    let mut position = Position::new(alloc);
+    position.push(4)?;
+    position.push(3)?;
+    position.add(&position)
+}
+
+#[test]
+fn adds_or_says_memory(rt: HostRuntime) -> Result<(), Fail> {
+    for n in 1..99u64 {
+        let ration = Ration::new(rt.alloc(), n);
+        match doubled(&ration) {
+            Ok(sum) => assert_eq!(rt; sum.heaps(), [3u64, 3, 4, 4].as_slice()),
+            Err(memory) => assert_eq!(rt; memory.number(), 9),
+        }
+        if !ration.has_refused() {
+            return Ok(());
+        }
+    }
+    Err(Fail::new("growths go on"))
+}
+
+#[test]
+fn reads_and_writes_or_says_memory(rt: HostRuntime) -> Result<(), Fail> {
+    for n in 1..99u64 {
+        let ration = Ration::new(rt.alloc(), n);
+        match Position::read(&ration, b"30 4 200") {
+            Ok(position) => match position.text() {
+                Ok(text) => assert_eq!(rt; text.as_str(), "4 30 200"),
+                Err(memory) => assert_eq!(rt; memory.number(), 9),
+            },
+            Err(fault) => assert_eq!(rt; fault.number(), 9),
+        }
+        if !ration.has_refused() {
+            return Ok(());
+        }
+    }
+    Err(Fail::new("growths go on"))
 }
