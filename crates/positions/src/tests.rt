@@ -33,6 +33,14 @@ fn begins_with_a_large_heap_at_once(rt: HostRuntime) -> Result<(), Fail> {
     Ok(())
 }
 
+/// 64 heaps of 1.
+const ONES: &[u8] =
+    b"1 1 1 1 1 1 1 1 1 1 1 1 1 1 1 1 1 1 1 1 1 1 1 1 1 1 1 1 1 1 1 1 1 1 1 1 1 1 1 1 1 1 1 1 1 1 1 1 1 1 1 1 1 1 1 1 1 1 1 1 1 1 1 1";
+
+/// 65 heaps of 1.
+const ONE_MORE: &[u8] =
+    b"1 1 1 1 1 1 1 1 1 1 1 1 1 1 1 1 1 1 1 1 1 1 1 1 1 1 1 1 1 1 1 1 1 1 1 1 1 1 1 1 1 1 1 1 1 1 1 1 1 1 1 1 1 1 1 1 1 1 1 1 1 1 1 1 1";
+
 #[test]
 fn reads_positions(rt: HostRuntime) -> Result<(), Fail> {
     let rows = [
@@ -62,18 +70,10 @@ fn reads_positions(rt: HostRuntime) -> Result<(), Fail> {
             Err(fault) => assert_eq!(rt; fault.number(), number),
         }
     }
-    let mut ones = [b'1'; 129];
-    for i in 0..64usize {
-        ones[2 * i + 1] = b' ';
-    }
-    assert!(rt;
-        matches!(
-            Position::read(rt.alloc(), &ones),
-            Err(PositionFault::TooMany)
-        )
-    );
-    let most = Position::read(rt.alloc(), &ones[..127])?;
+    let most = Position::read(rt.alloc(), ONES)?;
     assert_eq!(rt; most.heaps().len(), 64);
+    let many = Position::read(rt.alloc(), ONE_MORE);
+    assert!(rt; matches!(many, Err(PositionFault::TooMany)));
     Ok(())
 }
 

@@ -1,6 +1,6 @@
-use Rattle.std.proofs.Common.{◌≡◌, ◌≤◌, ◌<◌, ◌+◌, ◌++◌, [], ◌∷◌, ◌∙◌, ℕ, List, length, get_or, take, decimal, string_bytes, sym, ap, subst, arith}
+use Rattle.std.proofs.Common.{◌≡◌, ◌+◌, ◌++◌, [], ◌∷◌, ◌∙◌, ℕ, List, get_or, take, decimal, string_bytes, sym, ap, subst, arith}
 use Rattle.std.proofs.lemmas.List.{append-nil}
-use Rattle.positions.specs.Text.{text_behind, position_text, IsPositionText}
+use Rattle.positions.specs.Text.{text_behind, IsPositionText}
 use Rattle.positions.proofs.Written.{written, one_more, all_written}
 use Rattle.positions.proofs.position.Position.text.Goals as goal
 
