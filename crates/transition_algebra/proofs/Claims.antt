@@ -1,47 +1,93 @@
 -- Every claim that agrees with a table and a pretending function has the same pairs of heaps.
-use Rattle.std.proofs.Common.{◌≡◌, ℕ, ◌≤◌, ◌↔◌, List, [], ◌∷◌, refl, sym, ◌∙◌, ap, ap₂}
+use Rattle.std.proofs.Common.{◌≡◌, ℕ, ◌+◌, ◌-◌, ◌<◌, ◌≤◌, ◌↔◌, List, [], ◌∷◌, length, refl, sym, ◌∙◌, ap, ap₂, subst, arith}
 use Rattle.std.specs.List.{Contains}
-use Rattle.misere_theory.specs.Games.{HeapOption}
+use Rattle.std.proofs.lemmas.List.{get_or_past}
+use Rattle.misere_theory.specs.Games.{HeapOption, IsHeap, IsPosition}
 use Rattle.misere_theory.specs.Games.HeapOption.{Nothing as TakesAll, One as LeavesOne, Two as LeavesTwo}
-use Rattle.misere_theory.specs.Quotients.{Claim, Monoid, value, HeapOptionValue}
-use Rattle.positions.specs.Exact.{heaps_of}
+use Rattle.misere_theory.specs.Pairs.{IsPeriodic, IsSmallSplit}
+use Rattle.misere_theory.specs.Quotients.{Claim, Monoid, GivesElements, value, HeapOptionValue}
+use Rattle.misere_theory.proofs.SmallParts.{enough}
+use Rattle.positions.specs.Exact.{heaps_of, IsLeftAt}
 use Rattle.positions.specs.declared.left.Left.{Left}
 use Rattle.positions.specs.declared.left.Left.TheVariants.{Nothing, One, Two}
-use Rattle.positions.proofs.Exact.{only}
+use Rattle.positions.proofs.Exact.{in_options, of_options, only}
 use Rattle.monoid_table.specs.Grids.{Grid, times_in}
-use Rattle.transition_algebra.specs.Pretending.{Pretending, phi_at, IsPretending}
 use Rattle.transition_algebra.specs.Heaps.{Agrees, IsInto, largest_part, left_value}
+use Rattle.transition_algebra.specs.Pretending.{Pretending, phi_at, IsPretending}
 use Rattle.transition_algebra.specs.Work.{tries}
-use Rattle.transition_algebra.proofs.Enough.{phi_in, product_of, enough}
+use Rattle.transition_algebra.proofs.Repeats.{phi_repeats, phi_in}
+
+pub periodic : (code : List ℕ) (c : Claim) (table : Grid) (phi : Pretending) → IsPretending phi → Agrees c table phi → IsPeriodic code c (length code - 1) phi.start phi.period
+periodic code c table phi pretending agrees = record {
+  last = λ j l. get_or_past code j 0 (omega arith);
+  from_one = pretending.from_one;
+  some = pretending.some;
+  repeats = λ n l.
+      let one : 1 ≤ n = let f = pretending.from_one in omega arith in
+      agrees.phi_is (phi.period + n) (omega arith) ∙ phi_repeats phi n l ∙ sym (agrees.phi_is n one);
+}
+
+-- an option whose smaller part stands first and is small is tried
+small_tried : (code : List ℕ) (phi : Pretending) (n : ℕ) (H : List ℕ) → HeapOption code n H → IsSmallSplit (phi.start + phi.period) H → (left : Left) × Contains (tries code phi n) left × (heaps_of left ≡ H)
+small_tried code phi n H (TakesAll j l h b) s = (Nothing, in_options code n (largest_part phi) j Nothing (l, h, b) tt, refl)
+small_tried code phi n H (LeavesOne j a l p h b) s = (One a, in_options code n (largest_part phi) j (One a) (l, p, h, b) tt, refl)
+small_tried code phi n H (LeavesTwo j a b p q h s) w = (Two a b, in_options code n (largest_part phi) j (Two a b) (p, w.0, h, s) (let u = w.1 in omega arith), refl)
+
+-- the parts of what is tried are heaps
+tried_heaps : (code : List ℕ) (n j : ℕ) (left : Left) → IsLeftAt code n j left → IsPosition IsHeap (heaps_of left)
+tried_heaps code n j Nothing h = tt
+tried_heaps code n j (One a) h = (h.1, tt)
+tried_heaps code n j (Two a b) h = (h.0, (let l = h.0 in let m = h.1 in omega arith, tt))
 
 module _ (table : Grid) (monoid : Monoid table.order (times_in table)) (phi : Pretending) (into : IsInto table phi) (c : Claim) (agrees : Agrees c table phi) where
+  in_table : (x : ℕ) → x < c.order → x < table.order
+  in_table x l = let e = agrees.order_is in omega arith
+
+  in_claim : (x : ℕ) → x < table.order → x < c.order
+  in_claim x l = let e = agrees.order_is in omega arith
+
+  times_is : (x y : ℕ) → x < c.order → y < c.order → c.times x y ≡ times_in table x y
+  times_is x y i j = agrees.times_is x y (in_table x i) (in_table y j)
+
+  times_closed : (x y : ℕ) → x < c.order → y < c.order → c.times x y < c.order
+  times_closed x y i j = in_claim (c.times x y) (subst (λ v. v < table.order) (sym (times_is x y i j)) (monoid.closed x y (in_table x i) (in_table y j)))
+
+  pub claim_monoid : Monoid c.order c.times
+  claim_monoid = record {
+    some = in_claim 0 monoid.some;
+    closed = times_closed;
+    identity = λ x i. times_is 0 x (in_claim 0 monoid.some) i ∙ monoid.identity x (in_table x i);
+    commutes = λ x y i j. times_is x y i j ∙ monoid.commutes x y (in_table x i) (in_table y j) ∙ sym (times_is y x j i);
+    associates = λ x y z i j k.
+        times_is (c.times x y) z (times_closed x y i j) k ∙ ap (λ v. times_in table v z) (times_is x y i j)
+        ∙ monoid.associates x y z (in_table x i) (in_table y j) (in_table z k)
+        ∙ sym (ap (times_in table x) (times_is y z j k)) ∙ sym (times_is x (c.times y z) i (times_closed y z j k));
+  }
+
+  pub claim_gives : GivesElements IsHeap c
+  claim_gives n one = in_claim (c.phi n) (subst (λ v. v < table.order) (sym (agrees.phi_is n one)) (phi_in table monoid phi into n))
+
   one_value : (a : ℕ) → 1 ≤ a → value c (a ∷ []) ≡ phi_at phi a
   one_value a l =
-      let i = phi_in table monoid phi into a in
-      ap (λ v. c.times v 0) (agrees.phi_is a l) ∙ agrees.times_is (phi_at phi a) 0 i monoid.some ∙ monoid.commutes (phi_at phi a) 0 i monoid.some ∙ monoid.identity (phi_at phi a) i
+      let i = claim_gives a l in
+      claim_monoid.commutes (c.phi a) 0 i claim_monoid.some ∙ claim_monoid.identity (c.phi a) i ∙ agrees.phi_is a l
 
-  -- the value of what is left, as the claim has it
-  pub option_value : (code : List ℕ) (n : ℕ) (H : List ℕ) → HeapOption code n H → value c H ≡ product_of table monoid phi into H
-  option_value code n H (TakesAll j l h b) = refl
-  option_value code n H (LeavesOne j a l p h b) = one_value a p
-  option_value code n H (LeavesTwo j a b p q h s) =
-      ap₂ (λ v w. c.times v w) (agrees.phi_is a p) (one_value b q)
-      ∙ agrees.times_is (phi_at phi a) (phi_at phi b) (phi_in table monoid phi into a) (phi_in table monoid phi into b)
+  left_is : (left : Left) → IsPosition IsHeap (heaps_of left) → left_value table phi left ≡ value c (heaps_of left)
+  left_is Nothing p = refl
+  left_is (One a) p = sym (one_value a p.0)
+  left_is (Two a b) p =
+      sym (ap₂ c.times (agrees.phi_is a p.0) (one_value b p.1.0) ∙ agrees.times_is (phi_at phi a) (phi_at phi b) (phi_in table monoid phi into a) (phi_in table monoid phi into b))
 
-  left_product : (left : Left) → left_value table phi left ≡ product_of table monoid phi into (heaps_of left)
-  left_product Nothing = refl
-  left_product (One a) = refl
-  left_product (Two a b) = refl
+  left_at : (code : List ℕ) (n : ℕ) (left : Left) → Contains (tries code phi n) left → left_value table phi left ≡ value c (heaps_of left)
+  left_at code n left i = let (j, h) = of_options code n (largest_part phi) left i in left_is left (tried_heaps code n j left h)
 
   -- the values of the options that are tried are those of all
   pub tried_values : (code : List ℕ) (n : ℕ) → IsPretending phi → (x : ℕ) → ((left : Left) × Contains (tries code phi n) left × (left_value table phi left ≡ x)) ↔ HeapOptionValue code c n x
   tried_values code n pretending x = (
-    λ h.
-        let (left, i, e) = h in
-        let o = (only code n (largest_part phi) left i).0 in
-        (heaps_of left, o, option_value code n (heaps_of left) o ∙ sym (left_product left) ∙ e),
+    λ h. let (left, i, e) = h in (heaps_of left, (only code n (largest_part phi) left i).0, sym (left_at code n left i) ∙ e),
     λ h.
         let (H, o, e) = h in
-        let (left, i, f) = enough table monoid phi into pretending code n H o in
-        (left, i, f ∙ sym (option_value code n H o) ∙ e),
+        let (L, p, small, v) = enough code c (length code - 1) phi.start phi.period (periodic code c table phi pretending agrees) claim_monoid claim_gives n H o in
+        let (left, i, same) = small_tried code phi n L p small in
+        (left, i, left_at code n left i ∙ ap (value c) same ∙ v ∙ e),
   )

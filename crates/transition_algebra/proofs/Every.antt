@@ -1,24 +1,13 @@
 -- Heaps of any size have their pairs among the first.
 use Rattle.std.proofs.Common.{◌≡◌, ℕ, ◌+◌, ◌-◌, ◌<◌, ◌≤◌, List, length, get_or, sym, ◌∙◌, subst, arith}
-use Rattle.std.proofs.lemmas.List.{get_or_past}
-use Rattle.misere_theory.specs.Pairs.{IsPeriodic, SameHeapPair}
+use Rattle.misere_theory.specs.Pairs.{SameHeapPair}
 use Rattle.misere_theory.specs.Quotients.{Claim}
 use Rattle.misere_theory.proofs.Bound.{heap_shown}
 use Rattle.monoid_table.specs.Grids.{Grid}
 use Rattle.transition_algebra.specs.Pretending.{Pretending, IsPretending}
 use Rattle.transition_algebra.specs.Heaps.{Agrees, IsHeapPair, IsHeapPairs, bound_of}
 use Rattle.transition_algebra.specs.declared.pair.Pair.{Pair}
-use Rattle.transition_algebra.proofs.Enough.{phi_repeats}
-
-pub periodic : (code : List ℕ) (c : Claim) (table : Grid) (phi : Pretending) → IsPretending phi → Agrees c table phi → IsPeriodic code c (length code - 1) phi.start phi.period
-periodic code c table phi pretending agrees = record {
-  last = λ j l. get_or_past code j 0 (omega arith);
-  from_one = pretending.from_one;
-  some = pretending.some;
-  repeats = λ n l.
-      let one : 1 ≤ n = let f = pretending.from_one in omega arith in
-      agrees.phi_is (phi.period + n) (omega arith) ∙ phi_repeats phi n l ∙ sym (agrees.phi_is n one);
-}
+use Rattle.transition_algebra.proofs.Claims.{periodic}
 
 same_pair : (code : List ℕ) (c : Claim) (n m : ℕ) (p : Pair) → SameHeapPair code c n m → IsHeapPair code c m p → IsHeapPair code c n p
 same_pair code c n m p s h = record {

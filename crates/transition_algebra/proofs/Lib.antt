@@ -1,5 +1,5 @@
 mod Images
-mod Enough
+mod Repeats
 mod Claims
 mod Steps
 mod Within

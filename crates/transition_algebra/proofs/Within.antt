@@ -3,16 +3,16 @@ use Rattle.std.proofs.Common.{ℕ, ◌+◌, ◌<◌, ◌≤◌, false, List, ref
 use Rattle.std.specs.List.{All}
 use Rattle.std.specs.FinSet as set
 use Rattle.std.proofs.lemmas.List.Elements.{All-from_get_or}
-use Rattle.misere_theory.specs.Games.{HeapOption}
-use Rattle.misere_theory.specs.Games.HeapOption.{Nothing as TakesAll, One as LeavesOne, Two as LeavesTwo}
+use Rattle.misere_theory.specs.Games.{IsHeap}
 use Rattle.misere_theory.specs.Quotients.{Claim, Monoid}
 use Rattle.monoid_table.specs.Grids.{Grid, times_in}
 use Rattle.transition_algebra.specs.Pretending.{Pretending, phi_at}
 use Rattle.transition_algebra.specs.Pairs.{IsPair}
 use Rattle.transition_algebra.specs.Heaps.{Agrees, IsInto}
 use Rattle.transition_algebra.specs.declared.pair.Pair.{Pair}
-use Rattle.transition_algebra.proofs.Enough.{phi_in, product_of}
-use Rattle.transition_algebra.proofs.Claims.{option_value}
+use Rattle.misere_theory.proofs.Sums.{heaps_kept, value_in}
+use Rattle.transition_algebra.proofs.Repeats.{phi_in}
+use Rattle.transition_algebra.proofs.Claims.{claim_gives}
 use Rattle.transition_algebra.proofs.Steps.{IsTheHeapPair, AreFirstHeapPairs}
 
 -- the claim of the table and phi themselves
@@ -23,12 +23,6 @@ pub agrees_itself : (table : Grid) (phi : Pretending) → Agrees (claim_by table
 agrees_itself table phi = record { order_is = refl; times_is = λ x y i j. refl; phi_is = λ n l. refl }
 
 module _ (table : Grid) (monoid : Monoid table.order (times_in table)) (phi : Pretending) (into : IsInto table phi) where
-  product_in : (code : List ℕ) (n : ℕ) (H : List ℕ) → HeapOption code n H → product_of table monoid phi into H < table.order
-  product_in code n H (TakesAll j l h b) = monoid.some
-  product_in code n H (LeavesOne j a l p h b) = phi_in table monoid phi into a
-  product_in code n H (LeavesTwo j a b p q h s) =
-      monoid.closed (phi_at phi a) (phi_at phi b) (phi_in table monoid phi into a) (phi_in table monoid phi into b)
-
   pair_in : (code : List ℕ) (n : ℕ) (p : Pair) → 1 ≤ n → IsTheHeapPair code table phi n p → IsPair table.order p
   pair_in code n p one is =
       let c = claim_by table phi in
@@ -38,7 +32,7 @@ module _ (table : Grid) (monoid : Monoid table.order (times_in table)) (phi : Pr
         value = subst (λ v. v < table.order) (sym (here.value_is ∙ agrees.phi_is n one)) (phi_in table monoid phi into n);
         options = λ x h.
             let (H, o, e) = (here.options_are x).0 h in
-            subst (λ v. v < table.order) (sym (option_value table monoid phi into c agrees code n H o) ∙ e) (product_in code n H o);
+            subst (λ v. v < table.order) e (value_in IsHeap c monoid (claim_gives table monoid phi into c agrees) H (heaps_kept code n H one o));
       }
 
   pub all_in : (code : List ℕ) (B : ℕ) (pairs : List Pair) → AreFirstHeapPairs code table phi B pairs → All (IsPair table.order) pairs

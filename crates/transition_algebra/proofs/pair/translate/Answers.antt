@@ -1,4 +1,4 @@
-use Rattle.std.proofs.Common.{◌≡◌, ◌<◌, true, ◌∙◌, arith}
+use Rattle.std.proofs.Common.{◌∙◌, arith}
 use Rattle.std.specs.Prelude.{slice_index}
 use Rattle.monoid_table.specs.Grids.{times_in}
 use Rattle.transition_algebra.proofs.Images.{same_image}
