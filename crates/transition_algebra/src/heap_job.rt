@@ -2,7 +2,7 @@
 ghost use Rattle.std.specs.Prelude.{◌≡◌, ◌+◌, ◌<◌, ◌≤◌, ◌↔◌, All, IsTrue, IsErr, IfOk, OnOk, OnErr, true, false, min};
 ghost use Rattle.transition_algebra.specs.Pairs.{IsPair};
 ghost use Rattle.transition_algebra.specs.Heaps.{IsInto, AreAllHeapPairs};
-ghost use Rattle.transition_algebra.specs.Work.{IsDone, worked, turns, opening};
+ghost use Rattle.transition_algebra.specs.Work.{IsDone, worked, heap_cost, turns, opening};
 
 use crate::pair::Pair;
 use crate::phi::{Phi, is_pretending};
@@ -76,6 +76,7 @@ impl<A: Allocator> HeapJob<A> {
         ensures worked { OnOk result ((self.old.refused ≡ false) × (self.new ≡ worked self.old units)) }
         ensures done { IfOk result (λ done. IsTrue done ↔ IsDone self.new) }
         ensures refused { OnErr result (self.new ≡ record self.old { spent = self.new.spent; refused = true }) }
+        ensures spent { (self.old.spent ≤ self.new.spent) × (self.new.spent ≤ self.old.spent + units) × (self.new.spent ≤ heap_cost self.new.code self.new.phi) }
         ensures stays { IsTrue self.old.refused → IsErr result × (self.new ≡ self.old) }
     {
         if self.refused {
