@@ -1,0 +1,14 @@
+//! Presentations of commutative monoids, and the tables of their least congruences.
+#![tactic(auto)]
+
+mod axes;
+mod bounds;
+mod classes;
+mod fault;
+mod named;
+mod numbering;
+mod read;
+
+pub use fault::PresFault;
+pub use named::{Generator, Named, table_of};
+pub use read::{Presentation, Relation};

@@ -1,0 +1,151 @@
+//! The table of a presentation's least congruence, with names for its generators.
+use crate::axes::Axis;
+use crate::bounds::axes_of;
+use crate::classes::classes_of;
+use crate::fault::PresFault;
+use crate::numbering::{Numbering, numbering_of};
+use crate::read::Presentation;
+use monoid_table::Table;
+use std::alloc::{Allocator, Global};
+
+/// A letter and its element.
+#[derive(Clone, Copy, Debug, PartialEq, Eq)]
+pub struct Generator {
+    pub letter: u8,
+    pub element: u16,
+}
+
+/// A table, and each letter's element, in the order of the alphabet.
+#[derive(Drop)]
+pub struct Named<A: Allocator = Global> {
+    pub table: Table<A>,
+    pub generators: Vec<Generator, A>,
+}
+
+/// The table of the least congruence that holds every relation.
+///
+/// Answers `Unbounded` where some letter that occurs has no relation between two different powers of it alone. Otherwise answers
+/// `Limit` where the product of the letters' least larger exponents of such relations is above `limit`, or there are more than 256
+/// elements. Elements are numbered by least keys: element 0 is the identity, and each other one is a smaller one times a generator.
+pub fn table_of<A: Allocator + Copy>(alloc: A, presentation: &Presentation<A>, limit: u32) -> Result<Named<A>, PresFault> {
+    let relations = presentation.relations();
+    let (axes, size) = axes_of(alloc, relations, limit)?;
+    let classes = classes_of(alloc, &axes, relations, size)?;
+    let numbering = numbering_of(alloc, &axes, &classes)?;
+    let generators = generators_of(alloc, &axes, &numbering)?;
+    let order = numbering.keys.len() + 1;
+    let rows = rows_of(alloc, &axes, &numbering)?;
+    match Table::new(order as u16, rows) {
+        Ok(table) => Ok(Named { table, generators }),
+        Err(_) => Err(PresFault::Limit),
+    }
+}
+
+fn generators_of<A: Allocator + Copy>(alloc: A, axes: &[Axis], numbering: &Numbering<A>) -> Result<Vec<Generator, A>, PresFault> {
+    let mut generators = Vec::new(alloc);
+    for i in 0..axes.len() {
+        generators.push(Generator {
+            letter: b'a' + axes[i].letter,
+            element: numbering.products[i],
+        })?;
+    }
+    Ok(generators)
+}
+
+/// The products, row after row: x times an element is x times its parent times its generator.
+fn rows_of<A: Allocator + Copy>(alloc: A, axes: &[Axis], numbering: &Numbering<A>) -> Result<Vec<u16, A>, PresFault> {
+    let order = numbering.keys.len() + 1;
+    let mut rows = Vec::with_capacity(alloc, order * order)?;
+    for x in 0..order {
+        rows.push(x as u16)?;
+        for e in 1..order {
+            let key = numbering.keys[e - 1];
+            let parent = rows[x * order + key.parent as usize];
+            rows.push(numbering.products[parent as usize * axes.len() + key.generator])?;
+        }
+    }
+    Ok(rows)
+}
+
+#[cfg(test)]
+mod tests {
+    use super::*;
+    use std::test::Fail;
+
+    fn named(alloc: Global, text: &[u8], limit: u32) -> Result<Named, PresFault> {
+        let presentation = Presentation::read(alloc, text)?;
+        table_of(alloc, &presentation, limit)
+    }
+
+    fn number_of(answer: Result<Named, PresFault>) -> u8 {
+        match answer {
+            Ok(_) => 0,
+            Err(fault) => fault.number(),
+        }
+    }
+
+    #[test]
+    fn refusals(rt: HostRuntime) -> Result<(), Fail> {
+        let rows: [(&[u8], u8); 14] = [
+            (b"a=b", 2),
+            (b"a^2=a^2", 2),
+            (b"a^64=1 b^64=1 c^64=1", 3),
+            (b"a^17=1 b^16=1", 3),
+            (b"a^16=a b^16=b c^16=c d^16=d", 3),
+            (b"a^1=1", 1),
+            (b"a^40a^30=1", 1),
+            (b"", 1),
+            (b"a^2=1  b^2=1", 1),
+            (b"a^2=1 ", 1),
+            (b"a^02=1", 1),
+            (b"a^65=1", 1),
+            (b"a1=1", 1),
+            (b"a^2=1 b^2=", 1),
+        ];
+        for (text, number) in rows {
+            assert_eq!(rt; number_of(named(rt.alloc(), text, 65536)), number);
+        }
+        Ok(())
+    }
+
+    #[test]
+    fn tables(rt: HostRuntime) -> Result<(), Fail> {
+        let rows: [(&[u8], &[u16], &[u16]); 8] = [
+            (b"a^3=a", &[1], &[0, 1, 2, 1, 2, 1, 2, 1, 2]),
+            (b"a^2=1 b^2=1", &[1, 2], &[0, 1, 2, 3, 1, 0, 3, 2, 2, 3, 0, 1, 3, 2, 1, 0]),
+            (b"aa=1", &[1], &[0, 1, 1, 0]),
+            (b"a^2=1 a^3=1", &[0], &[0]),
+            (b"a=1", &[0], &[0]),
+            (b"1=a", &[0], &[0]),
+            (b"b^2=1 a=1", &[0, 1], &[0, 1, 1, 0]),
+            (
+                b"a^2=1 b^3=b c^4=c^2 bc=ab c^2=b^2",
+                &[1, 2, 3],
+                &[
+                    0, 1, 2, 3, 4, 5, 6, 7, 1, 0, 4, 5, 2, 3, 7, 6, 2, 4, 6, 4, 7, 2, 2, 4, 3, 5, 4, 6, 2, 7, 7, 6, 4, 2, 7, 2, 6,
+                    4, 4, 2, 5, 3, 2, 7, 4, 6, 6, 7, 6, 7, 2, 7, 4, 6, 6, 7, 7, 6, 4, 6, 2, 7, 7, 6,
+                ],
+            ),
+        ];
+        for (text, elements, table) in rows {
+            let Named { table: found, generators } = named(rt.alloc(), text, 65536)?;
+            assert_eq!(rt; generators.len(), elements.len());
+            for (generator, element) in generators.iter().zip(elements) {
+                assert_eq!(rt; generator.element, *element);
+            }
+            let rows = found.into_rows();
+            assert_eq!(rt; rows.as_slice(), table);
+        }
+        Ok(())
+    }
+
+    #[test]
+    fn whole_box(rt: HostRuntime) -> Result<(), Fail> {
+        let Named { table, generators } = named(rt.alloc(), b"a^16=a b^16=b c^16=c d^16=d a=b b=c c=d", 65536)?;
+        assert_eq!(rt; table.order(), 16);
+        for generator in &generators {
+            assert_eq!(rt; generator.element, 1);
+        }
+        Ok(())
+    }
+}
