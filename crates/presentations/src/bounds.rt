@@ -1,41 +1,20 @@
 //! Letters that occur, and their least powers that come back.
+ghost use Rattle.std.specs.Prelude.{◌≡◌, ◌≢◌, ◌<◌, ◌≤◌, ◌↔◌, ℕ, IfOk, IfSome, IfNone, OnErr, Err, IsTrue, length};
+ghost use Rattle.presentations.specs.Words.{occurs, letters_of};
+ghost use Rattle.presentations.specs.Powers.{IsPowerOf, IsPowerRelation, HasSomePower, IsLeastPower, lower_of};
+ghost use Rattle.presentations.specs.Boxes.{size_of};
+ghost use Rattle.presentations.specs.Boxed.{letters_in, IsBox};
+
 use crate::axes::Axis;
 use crate::fault::PresFault;
 use crate::read::Relation;
 use std::alloc::Allocator;
 
-/// The axes of all letters that occur, in the order of the alphabet, and how many vectors their box has.
-pub fn axes_of<A: Allocator>(alloc: A, relations: &[Relation], limit: u32) -> Result<(Vec<Axis, A>, usize), PresFault> {
-    let mut axes = Vec::new(alloc);
-    let mut size = Some(1usize);
-    for letter in 0..26u8 {
-        if occurs(relations, letter) {
-            let Some((most, back)) = least_power(relations, letter) else {
-                return Err(PresFault::Unbounded);
-            };
-            axes.push(Axis {
-                letter,
-                most,
-                back,
-                stride: size.unwrap_or(0),
-            })?;
-            size = grown(size, most, limit);
-        }
-    }
-    match size {
-        Some(size) => Ok((axes, size)),
-        None => Err(PresFault::Limit),
-    }
-}
-
-/// The size times `most`, where it isn't above the limit.
-fn grown(size: Option<usize>, most: usize, limit: u32) -> Option<usize> {
-    let size = size?.checked_mul(most)?;
-    if size > limit as usize { None } else { Some(size) }
-}
-
 /// Whether the letter stands in some relation.
-fn occurs(relations: &[Relation], letter: u8) -> bool {
+fn occurs(relations: &[Relation], letter: u8) -> bool
+    requires { letter < 26 }
+    ensures { result ≡ occurs relations.now letter }
+{
     for relation in relations {
         if relation.left[letter as usize] > 0 || relation.right[letter as usize] > 0 {
             return true;
@@ -44,35 +23,118 @@ fn occurs(relations: &[Relation], letter: u8) -> bool {
     false
 }
 
-/// The least larger exponent of a relation between two different powers of the letter, and the smaller exponent.
-fn least_power(relations: &[Relation], letter: u8) -> Option<(usize, usize)> {
-    let mut least: Option<(usize, usize)> = None;
-    for relation in relations {
-        if let Some((most, back)) = power_of(relation, letter) {
-            if least.is_none_or(|found| most < found.0) {
-                least = Some((most, back));
-            }
-        }
-    }
-    least
-}
-
-/// The larger and the smaller exponent, where the relation is one between two different powers of the letter.
-fn power_of(relation: &Relation, letter: u8) -> Option<(usize, usize)> {
-    if !is_power(&relation.left, letter) || !is_power(&relation.right, letter) {
-        return None;
-    }
-    let left = relation.left[letter as usize] as usize;
-    let right = relation.right[letter as usize] as usize;
-    if left == right { None } else { Some((left.max(right), left.min(right))) }
-}
-
 /// Whether no other letter stands in the word.
-fn is_power(word: &[u8; 26], letter: u8) -> bool {
+fn is_power(word: &[u8; 26], letter: u8) -> bool
+    requires { letter < 26 }
+    ensures { IsTrue result ↔ IsPowerOf word.now letter }
+{
     for i in 0..26usize {
         if i != letter as usize && word[i] > 0 {
             return false;
         }
     }
     true
+}
+
+/// The larger and the smaller exponent, where the relation is one between two different powers of the letter.
+fn power_of(relation: &Relation, letter: u8) -> Option<(usize, usize)>
+    requires { letter < 26 }
+    ensures some { IfSome result (λ p. IsPowerRelation relation.now letter p.0 p.1 × (p.0 < 256)) }
+    ensures none { IfNone result ((most back : ℕ) → IsPowerRelation relation.now letter most back → ⊥) }
+{
+    if !is_power(&relation.left, letter) || !is_power(&relation.right, letter) {
+        return None;
+    }
+    let left = relation.left[letter as usize] as usize;
+    let right = relation.right[letter as usize] as usize;
+    if left < right {
+        return Some((right, left));
+    }
+    if right < left {
+        return Some((left, right));
+    }
+    None
+}
+
+/// The pair with the smaller first number, where there are two.
+fn lower(least: Option<(usize, usize)>, found: Option<(usize, usize)>) -> Option<(usize, usize)>
+    ensures { result ≡ lower_of least found }
+{
+    match (least, found) {
+        (Some(before), Some(after)) => {
+            if before.0 <= after.0 {
+                Some(before)
+            } else {
+                Some(after)
+            }
+        }
+        (Some(before), None) => Some(before),
+        (None, after) => after,
+    }
+}
+
+/// The least larger exponent of a relation between two different powers of the letter, and the smaller exponent.
+fn least_power(relations: &[Relation], letter: u8) -> Option<(usize, usize)>
+    requires { letter < 26 }
+    ensures { IsLeastPower relations.now letter (length relations.now) result }
+{
+    let mut least: Option<(usize, usize)> = None;
+    for relation in relations {
+        least = lower(least, power_of(relation, letter));
+    }
+    least
+}
+
+/// A letter that occurs and has no relation between two different powers of it.
+fn unbounded(relations: &[Relation]) -> Option<u8>
+    ensures some { IfSome result (λ letter. (letter < 26) × IsTrue (occurs relations.now letter) × (HasSomePower relations.now letter → ⊥)) }
+    ensures none { IfNone result ((letter : ℕ) → letter < 26 → IsTrue (occurs relations.now letter) → HasSomePower relations.now letter) }
+{
+    for letter in 0..26u8 {
+        if occurs(relations, letter) && least_power(relations, letter).is_none() {
+            return Some(letter);
+        }
+    }
+    None
+}
+
+/// The axes of all letters that occur, in the order of the alphabet, and how many vectors their box has.
+pub fn axes_of<A: Allocator>(
+    alloc: A,
+    relations: &[Relation],
+    limit: u32,
+) -> Result<(Vec<Axis, A>, usize), PresFault>
+    ensures boxed { IfOk result (λ r. IsBox r.0.items relations.now) }
+    ensures size { IfOk result (λ r. (r.1 ≡ size_of r.0.items) × (r.1 ≤ limit)) }
+    ensures count { IfOk result (λ r. length r.0.items ≤ 26) }
+    ensures letters { IfOk result (λ r. letters_in r.0.items ≡ letters_of relations.now) }
+    ensures unbounded { (result ≡ Err PresFault.Unbounded) → (letter : ℕ) × (letter < 26) × IsTrue (occurs relations.now letter) × (HasSomePower relations.now letter → ⊥) }
+    ensures not_text { OnErr result (result ≢ Err PresFault.Text) }
+{
+    if unbounded(relations).is_some() {
+        return Err(PresFault::Unbounded);
+    }
+    if limit == 0 {
+        return Err(PresFault::Limit);
+    }
+    let mut axes = Vec::new(alloc);
+    let mut size = 1usize;
+    for letter in 0..26u8 {
+        if occurs(relations, letter) {
+            let Some((most, back)) = least_power(relations, letter) else {
+                return Err(PresFault::Unbounded);
+            };
+            if size * most > limit as usize {
+                return Err(PresFault::Limit);
+            }
+            axes.push(Axis {
+                letter,
+                most,
+                back,
+                stride: size,
+            })?;
+            size *= most;
+        }
+    }
+    Ok((axes, size))
 }

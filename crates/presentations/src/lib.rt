@@ -5,10 +5,13 @@ mod axes;
 mod bounds;
 mod classes;
 mod fault;
+mod laws;
+mod merging;
 mod named;
 mod numbering;
 mod read;
 
 pub use fault::PresFault;
+pub use laws::{classes_are_exact, related_is_least};
 pub use named::{Generator, Named, table_of};
 pub use read::{Presentation, Relation};

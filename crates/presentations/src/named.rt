@@ -1,4 +1,7 @@
 //! The table of a presentation's least congruence, with names for its generators.
+ghost use Rattle.std.specs.Prelude.{◌≡◌, ◌+◌, ◌-◌, ◌*◌, ◌/◌, ◌%◌, ◌<◌, ◌≤◌, ℕ, All, IfOk, OnErr, Err, length, slice_index};
+ghost use Rattle.presentations.specs.Numberings.{AreKeys, AreRows, AreRowsUpTo};
+
 use crate::axes::Axis;
 use crate::bounds::axes_of;
 use crate::classes::classes_of;
@@ -27,44 +30,86 @@ pub struct Named<A: Allocator = Global> {
 /// Answers `Unbounded` where some letter that occurs has no relation between two different powers of it alone. Otherwise answers
 /// `Limit` where the product of the letters' least larger exponents of such relations is above `limit`, or there are more than 256
 /// elements. Elements are numbered by least keys: element 0 is the identity, and each other one is a smaller one times a generator.
-pub fn table_of<A: Allocator + Copy>(alloc: A, presentation: &Presentation<A>, limit: u32) -> Result<Named<A>, PresFault> {
+pub fn table_of<A: Allocator + Copy>(
+    alloc: A,
+    presentation: &Presentation<A>,
+    limit: u32,
+) -> Result<Named<A>, PresFault> {
     let relations = presentation.relations();
     let (axes, size) = axes_of(alloc, relations, limit)?;
     let classes = classes_of(alloc, &axes, relations, size)?;
     let numbering = numbering_of(alloc, &axes, &classes)?;
-    let generators = generators_of(alloc, &axes, &numbering)?;
-    let order = numbering.keys.len() + 1;
-    let rows = rows_of(alloc, &axes, &numbering)?;
+    let generators = generators_of(alloc, &axes, &numbering.products)?;
+    let order = numbering.numbers.order();
+    let rows = rows_of(alloc, axes.len(), &numbering)?;
     match Table::new(order as u16, rows) {
         Ok(table) => Ok(Named { table, generators }),
         Err(_) => Err(PresFault::Limit),
     }
 }
 
-fn generators_of<A: Allocator + Copy>(alloc: A, axes: &[Axis], numbering: &Numbering<A>) -> Result<Vec<Generator, A>, PresFault> {
+/// The letters, each with its element.
+fn generators_of<A: Allocator + Copy>(
+    alloc: A,
+    axes: &[Axis],
+    products: &[u16],
+) -> Result<Vec<Generator, A>, PresFault>
+    requires letters { All (λ a. a.letter < 26) axes.now }
+    requires products { length axes.now ≤ length products.now }
+{
     let mut generators = Vec::new(alloc);
     for i in 0..axes.len() {
         generators.push(Generator {
             letter: b'a' + axes[i].letter,
-            element: numbering.products[i],
+            element: products[i],
         })?;
     }
     Ok(generators)
 }
 
 /// The products, row after row: x times an element is x times its parent times its generator.
-fn rows_of<A: Allocator + Copy>(alloc: A, axes: &[Axis], numbering: &Numbering<A>) -> Result<Vec<u16, A>, PresFault> {
-    let order = numbering.keys.len() + 1;
-    let mut rows = Vec::with_capacity(alloc, order * order)?;
+fn rows_of<A: Allocator + Copy>(
+    alloc: A,
+    letters: usize,
+    numbering: &Numbering<A>,
+) -> Result<Vec<u16, A>, PresFault>
+    requires { AreKeys letters (length numbering.now.numbers.firsts) numbering.now.numbers.keys numbering.now.products.items }
+    ensures rows { IfOk result (λ rows. AreRows letters (length numbering.now.numbers.firsts) numbering.now.numbers.keys numbering.now.products.items rows.items) }
+    ensures refused { OnErr result (result ≡ Err PresFault.OutOfMemory) }
+{
+    let order = numbering.numbers.order();
+    let mut rows: Vec<u16, A> = Vec::new(alloc);
     for x in 0..order {
-        rows.push(x as u16)?;
-        for e in 1..order {
-            let key = numbering.keys[e - 1];
-            let parent = rows[x * order + key.parent as usize];
-            rows.push(numbering.products[parent as usize * axes.len() + key.generator])?;
+        for e in 0..order {
+            rows.push(product_of(&rows, letters, x, e, numbering))?;
         }
     }
     Ok(rows)
+}
+
+/// x times e, where the products so far stand in the rows.
+fn product_of<A: Allocator>(
+    rows: &[u16],
+    letters: usize,
+    x: usize,
+    e: usize,
+    numbering: &Numbering<A>,
+) -> u16
+    requires keys { AreKeys letters (length numbering.now.numbers.firsts) numbering.now.numbers.keys numbering.now.products.items }
+    requires x_in { x < length numbering.now.numbers.firsts }
+    requires e_in { e < length numbering.now.numbers.firsts }
+    requires so_far { AreRowsUpTo letters (length numbering.now.numbers.firsts) numbering.now.numbers.keys numbering.now.products.items rows.now x e }
+    ensures first { e ≡ 0 → result ≡ x }
+    ensures later { 0 < e → result ≡ slice_index numbering.now.products.items (slice_index rows.now (x * length numbering.now.numbers.firsts + slice_index numbering.now.numbers.keys (e - 1) / letters) * letters + slice_index numbering.now.numbers.keys (e - 1) % letters) }
+    ensures within { result < length numbering.now.numbers.firsts }
+{
+    let order = numbering.numbers.order();
+    if e == 0 {
+        return x as u16;
+    }
+    let key = numbering.numbers.key(e);
+    let parent = rows[x * order + key / letters] as usize;
+    numbering.products[parent * letters + key % letters]
 }
 
 #[cfg(test)]
@@ -112,7 +157,11 @@ mod tests {
     fn tables(rt: HostRuntime) -> Result<(), Fail> {
         let rows: [(&[u8], &[u16], &[u16]); 8] = [
             (b"a^3=a", &[1], &[0, 1, 2, 1, 2, 1, 2, 1, 2]),
-            (b"a^2=1 b^2=1", &[1, 2], &[0, 1, 2, 3, 1, 0, 3, 2, 2, 3, 0, 1, 3, 2, 1, 0]),
+            (
+                b"a^2=1 b^2=1",
+                &[1, 2],
+                &[0, 1, 2, 3, 1, 0, 3, 2, 2, 3, 0, 1, 3, 2, 1, 0],
+            ),
             (b"aa=1", &[1], &[0, 1, 1, 0]),
             (b"a^2=1 a^3=1", &[0], &[0]),
             (b"a=1", &[0], &[0]),
@@ -122,13 +171,17 @@ mod tests {
                 b"a^2=1 b^3=b c^4=c^2 bc=ab c^2=b^2",
                 &[1, 2, 3],
                 &[
-                    0, 1, 2, 3, 4, 5, 6, 7, 1, 0, 4, 5, 2, 3, 7, 6, 2, 4, 6, 4, 7, 2, 2, 4, 3, 5, 4, 6, 2, 7, 7, 6, 4, 2, 7, 2, 6,
-                    4, 4, 2, 5, 3, 2, 7, 4, 6, 6, 7, 6, 7, 2, 7, 4, 6, 6, 7, 7, 6, 4, 6, 2, 7, 7, 6,
+                    0, 1, 2, 3, 4, 5, 6, 7, 1, 0, 4, 5, 2, 3, 7, 6, 2, 4, 6, 4, 7, 2, 2, 4, 3, 5,
+                    4, 6, 2, 7, 7, 6, 4, 2, 7, 2, 6, 4, 4, 2, 5, 3, 2, 7, 4, 6, 6, 7, 6, 7, 2, 7,
+                    4, 6, 6, 7, 7, 6, 4, 6, 2, 7, 7, 6,
                 ],
             ),
         ];
         for (text, elements, table) in rows {
-            let Named { table: found, generators } = named(rt.alloc(), text, 65536)?;
+            let Named {
+                table: found,
+                generators,
+            } = named(rt.alloc(), text, 65536)?;
             assert_eq!(rt; generators.len(), elements.len());
             for (generator, element) in generators.iter().zip(elements) {
                 assert_eq!(rt; generator.element, *element);
@@ -141,7 +194,11 @@ mod tests {
 
     #[test]
     fn whole_box(rt: HostRuntime) -> Result<(), Fail> {
-        let Named { table, generators } = named(rt.alloc(), b"a^16=a b^16=b c^16=c d^16=d a=b b=c c=d", 65536)?;
+        let Named { table, generators } = named(
+            rt.alloc(),
+            b"a^16=a b^16=b c^16=c d^16=d a=b b=c c=d",
+            65536,
+        )?;
         assert_eq!(rt; table.order(), 16);
         for generator in &generators {
             assert_eq!(rt; generator.element, 1);

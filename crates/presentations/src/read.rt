@@ -1,8 +1,9 @@
 //! Reading presentations: relations between words in the letters a to z.
-ghost use Rattle.std.specs.Prelude.{◌≤◌, ◌<◌, IfSome, length};
+ghost use Rattle.std.specs.Prelude.{◌≡◌, ◌≤◌, ◌<◌, ◌⊎◌, IfOk, IfSome, OnErr, Err, length};
 
 use crate::fault::PresFault;
 use std::alloc::{Allocator, Global};
+use std::marker::Model;
 
 /// Two words with the same product, each as the exponents of a to z.
 #[derive(Clone, Copy)]
@@ -17,13 +18,25 @@ pub struct Presentation<A: Allocator = Global> {
     relations: Vec<Relation, A>,
 }
 
+impl<A: Allocator> Model for Presentation<A> {
+    ghost use Rattle.std.specs.Prelude.{List};
+    ghost use Rattle.presentations.specs.declared.read.Relation.{Relation};
+
+    ghost Value = { List Relation };
+
+    ghost view = { λ p. p.relations.items };
+}
+
 impl<A: Allocator> Presentation<A> {
     /// Reads 1 to 64 relations `word=word` joined by one space. A word is `1` or letters, each alone or with `^n`, n from 2 to
     /// 64; no letter's exponents come to more than 64 in a word.
-    pub fn read(alloc: A, text: &[u8]) -> Result<Presentation<A>, PresFault> {
+    pub fn read(alloc: A, text: &[u8]) -> Result<Presentation<A>, PresFault>
+        ensures count { IfOk result (λ p. (1 ≤ length p) × (length p ≤ 64)) }
+        ensures only { OnErr result ((result ≡ Err PresFault.Text) ⊎ (result ≡ Err PresFault.OutOfMemory)) }
+    {
         let mut relations = Vec::new(alloc);
         let mut at = 0;
-        for _ in 0..64usize {
+        for _turn in 0..64usize {
             let Some((relation, end)) = relation_at(text, at) else {
                 return Err(PresFault::Text);
             };
@@ -40,7 +53,9 @@ impl<A: Allocator> Presentation<A> {
     }
 
     /// The relations, in their order.
-    pub fn relations(&self) -> &[Relation] {
+    pub fn relations(&self) -> &[Relation]
+        ensures { result.now ≡ self.now }
+    {
         &self.relations
     }
 }
@@ -76,7 +91,11 @@ fn word_at(text: &[u8], at: usize) -> Option<([u8; 26], usize)>
         exponents[letter as usize] = whole as u8;
         end = next;
     }
-    if end == at { None } else { Some((exponents, end)) }
+    if end == at {
+        None
+    } else {
+        Some((exponents, end))
+    }
 }
 
 /// A factor that begins at `at`: its letter, its exponent, and where it ends.
@@ -108,12 +127,20 @@ fn power_at(text: &[u8], at: usize) -> Option<(u8, usize)>
         Some(second) => (10 * first + second, at + 2),
         None => (first, at + 1),
     };
-    if power < 2 || power > 64 || digit_at(text, end).is_some() { None } else { Some((power, end)) }
+    if power < 2 || power > 64 || digit_at(text, end).is_some() {
+        None
+    } else {
+        Some((power, end))
+    }
 }
 
 /// The digit at `at`.
 fn digit_at(text: &[u8], at: usize) -> Option<u8>
     ensures { IfSome result (λ d. (d < 10) × (at < length text.now)) }
 {
-    if at < text.len() && text[at].is_ascii_digit() { Some(text[at] - b'0') } else { None }
+    if at < text.len() && text[at].is_ascii_digit() {
+        Some(text[at] - b'0')
+    } else {
+        None
+    }
 }

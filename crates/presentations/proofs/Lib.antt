@@ -1,0 +1,10 @@
+pub mod VectorLaws
+pub mod BoxLaws
+pub mod PlaceLaws
+pub mod Folding
+pub mod Quotient
+pub mod Merges
+pub mod AxisLaws
+pub mod PowerLaws
+pub mod NumberLaws
+pub mod RowLaws

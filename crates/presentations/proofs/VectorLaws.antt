@@ -1,0 +1,93 @@
+-- Sums of vectors, one exponent at a time.
+use Rattle.std.proofs.Common.{◌≡◌, ℕ, zero, suc, ◌+◌, ◌<◌, List, [], ◌∷◌, length, refl, ap, ap₂, arith, subst}
+use Rattle.presentations.specs.Vectors.{plus, zeros, only, bump}
+
+pub length-zeros : (n : ℕ) → length (zeros n) ≡ n
+length-zeros zero = refl
+length-zeros (suc n) = ap suc (length-zeros n)
+
+pub length-only : (n i k : ℕ) → length (only n i k) ≡ n
+length-only zero i k = refl
+length-only (suc n) zero k = ap suc (length-zeros n)
+length-only (suc n) (suc i) k = ap suc (length-only n i k)
+
+pub length-bump : (v : List ℕ) (i : ℕ) → length (bump v i) ≡ length v
+length-bump [] i = refl
+length-bump (x ∷ v) zero = refl
+length-bump (x ∷ v) (suc i) = ap suc (length-bump v i)
+
+pub length-plus : (u w : List ℕ) → length u ≡ length w → length (plus u w) ≡ length w
+length-plus [] w e = refl
+length-plus (x ∷ u) [] e = absurd (omega arith)
+length-plus (x ∷ u) (y ∷ w) e = ap suc (length-plus u w (omega arith))
+
+pub plus-zeros : (u : List ℕ) (n : ℕ) → length u ≡ n → plus u (zeros n) ≡ u
+plus-zeros [] zero e = refl
+plus-zeros [] (suc n) e = absurd (omega arith)
+plus-zeros (x ∷ u) zero e = absurd (omega arith)
+plus-zeros (x ∷ u) (suc n) e = ap₂ (λ a b. a ∷ b) (zero_right x) (plus-zeros u n (omega arith))
+  where
+    zero_right : (x : ℕ) → x + 0 ≡ x
+    zero_right x = omega arith
+
+pub zeros-plus : (u : List ℕ) (n : ℕ) → length u ≡ n → plus (zeros n) u ≡ u
+zeros-plus [] zero e = refl
+zeros-plus [] (suc n) e = absurd (omega arith)
+zeros-plus (x ∷ u) zero e = absurd (omega arith)
+zeros-plus (x ∷ u) (suc n) e = ap₂ (λ a b. a ∷ b) (zero_left x) (zeros-plus u n (omega arith))
+  where
+    zero_left : (x : ℕ) → 0 + x ≡ x
+    zero_left x = omega arith
+
+pub plus-comm : (u w : List ℕ) → plus u w ≡ plus w u
+plus-comm [] [] = refl
+plus-comm [] (y ∷ w) = refl
+plus-comm (x ∷ u) [] = refl
+plus-comm (x ∷ u) (y ∷ w) = ap₂ (λ a b. a ∷ b) (turned x y) (plus-comm u w)
+  where
+    turned : (x y : ℕ) → x + y ≡ y + x
+    turned x y = omega arith
+
+pub plus-assoc : (u v w : List ℕ) → plus (plus u v) w ≡ plus u (plus v w)
+plus-assoc [] v w = refl
+plus-assoc (x ∷ u) [] w = refl
+plus-assoc (x ∷ u) (y ∷ v) [] = refl
+plus-assoc (x ∷ u) (y ∷ v) (z ∷ w) = ap₂ (λ a b. a ∷ b) (moved x y z) (plus-assoc u v w)
+  where
+    moved : (x y z : ℕ) → x + y + z ≡ x + (y + z)
+    moved x y z = omega arith
+
+-- one letter more is a sum
+pub bump-plus : (v : List ℕ) (n i : ℕ) → length v ≡ n → i < n → plus v (only n i 1) ≡ bump v i
+bump-plus v zero i e lt = absurd (omega arith)
+bump-plus [] (suc n) i e lt = absurd (omega arith)
+bump-plus (x ∷ v) (suc n) zero e lt = ap (λ b. (x + 1) ∷ b) (plus-zeros v n (omega arith))
+bump-plus (x ∷ v) (suc n) (suc i) e lt = ap₂ (λ a b. a ∷ b) (zero_right x) (bump-plus v n i (omega arith) (omega arith))
+  where
+    zero_right : (x : ℕ) → x + 0 ≡ x
+    zero_right x = omega arith
+
+pub plus-bump : (u v : List ℕ) (i : ℕ) → length u ≡ length v → i < length v → plus u (bump v i) ≡ bump (plus u v) i
+plus-bump u [] i e lt = absurd (omega arith)
+plus-bump [] (y ∷ v) i e lt = absurd (omega arith)
+plus-bump (x ∷ u) (y ∷ v) zero e lt = ap (λ a. a ∷ plus u v) (moved x y)
+  where
+    moved : (x y : ℕ) → x + (y + 1) ≡ x + y + 1
+    moved x y = omega arith
+plus-bump (x ∷ u) (y ∷ v) (suc i) e lt = ap (λ b. (x + y) ∷ b) (plus-bump u v i (omega arith) (omega arith))
+
+-- each vector comes from the empty word's by one letter more at a time
+pub by_letters : (n : ℕ) (P : List ℕ → Type 0) → P (zeros n)
+    → ((v : List ℕ) (i : ℕ) → length v ≡ n → i < n → P v → P (bump v i))
+    → (v : List ℕ) → length v ≡ n → P v
+by_letters zero P none more [] e = none
+by_letters zero P none more (x ∷ v) e = absurd (omega arith)
+by_letters (suc n) P none more [] e = absurd (omega arith)
+by_letters (suc n) P none more (x ∷ v) e =
+    by_letters n (λ w. P (x ∷ w)) (heads x) (λ w i len lt p. more (x ∷ w) (suc i) (ap suc len) (omega arith) p) v (omega arith)
+  where
+    heads : (x : ℕ) → P (x ∷ zeros n)
+    heads zero = none
+    heads (suc x) =
+        let next : x + 1 ≡ suc x = omega arith in
+        subst (λ y. P (y ∷ zeros n)) next (more (x ∷ zeros n) 0 (ap suc (length-zeros n)) (omega arith) (heads x))

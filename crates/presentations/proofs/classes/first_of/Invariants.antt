@@ -1,0 +1,18 @@
+use Rattle.std.proofs.Common.{◌≡◌, ◌<◌, ◌≤◌}
+use Rattle.std.specs.Prelude.{slice_index}
+use Rattle.presentations.specs.Boxes.{size_of}
+use Rattle.presentations.specs.Boxed.{AreRelated, Shrinks}
+use Rattle.presentations.proofs.classes.first_of.Given as goal
+
+abbrev pub invariant-loop-parent : goal.invariant-loop-parent
+invariant-loop-parent g l = record {
+  within : l.at < size_of l.initial.merging.axes;
+  down : l.parent ≤ l.at;
+  here : l.parent ≡ slice_index l.merging.parents l.at;
+  on : AreRelated l.initial.merging.axes l.initial.merging.relations l.at l.parent;
+  related : AreRelated l.initial.merging.axes l.initial.merging.relations l.from l.at;
+  kept : Shrinks l.initial.merging l.merging;
+}
+
+abbrev pub decreases-loop-parent : goal.decreases-loop-parent
+decreases-loop-parent g l = l.at

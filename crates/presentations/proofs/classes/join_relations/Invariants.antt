@@ -1,0 +1,5 @@
+use Rattle.presentations.specs.Boxed.{Shrinks}
+use Rattle.presentations.proofs.classes.join_relations.Given as goal
+
+abbrev pub invariant-loop-i : goal.invariant-loop-i
+invariant-loop-i g l = Shrinks l.initial.merging l.merging

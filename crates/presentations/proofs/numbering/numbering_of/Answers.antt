@@ -1,0 +1,58 @@
+use Rattle.std.proofs.Common.{◌≡◌, ◌+◌, ◌*◌, ◌/◌, ◌%◌, ap, ◌∙◌, arith, subst, length, get_or, ◌∷◌, []}
+use Rattle.std.specs.Prelude.{slice_index}
+use Rattle.std.proofs.lemmas.Nat.{mul-le}
+use Rattle.std.proofs.lemmas.List.{length-append}
+use Rattle.presentations.specs.Numberings.{IsAssigned}
+use Rattle.presentations.specs.Boxes.{next_of}
+use Rattle.presentations.proofs.BoxLaws.{size-positive}
+use Rattle.presentations.proofs.NumberLaws.{progress-more, keys-of}
+use Rattle.presentations.proofs.numbering.numbering_of.Goals as goal
+
+pub new-requires-clause-some : goal.new-requires-clause-some
+new-requires-clause-some g c = omega (arith, size-positive 1 c.args.axes.now c.requires.roots.axes_are, c.requires.roots.length_is)
+
+pub loop-products-preserved : goal.loop-products-preserved
+loop-products-preserved g c =
+    let axes = c.args.axes.now in
+    let classes = c.args.classes.now in
+    let n = length axes in
+    let firsts = c.loop-products.numbers.firsts in
+    let products = c.loop-products.products.items in
+    let place : c.len-place.result ≡ length products = omega (arith, c.len-place.ensures) in
+    let rows = ap (λ q. q * n) c.order.ensures.value in
+    let class = get_or classes c.next.result 0 in
+    let assigned = subst (λ k. IsAssigned c.loop-products.numbers c.number.new.self class k c.in_ok-number.number) place c.in_ok-number.ensures.assigned in
+    record {
+      progress = progress-more axes classes firsts c.loop-products.numbers.keys products c.number.new.self.firsts c.number.new.self.keys c.push.new.self.items class c.in_ok-number.number
+          c.loop-products.invariant.progress
+          (omega (arith, rows, c.len.ensures, c.loop-products-test.true))
+          (ap (slice_index classes) (c.next.ensures.value ∙ ap (next_of axes (c.len-place.result % n)) c.first-first.ensures.value ∙ ap (λ l. next_of axes (l % n) (slice_index firsts (l / n))) place))
+          (omega (arith, c.requires.roots.down c.next.result c.next.ensures.within, c.next.ensures.within))
+          (c.requires.roots.firsts c.next.result c.next.ensures.within)
+          assigned.within assigned.there assigned.either c.in_ok-push.ensures.items;
+      places = c.in_ok-number.ensures.places ∙ c.loop-products.invariant.places;
+    }
+
+pub returns-clause-numbering : goal.returns-clause-numbering
+returns-clause-numbering g c =
+    let p = c.loop-products.invariant.progress in
+    let n = ap (λ q. q * length c.args.axes.now) c.order.ensures.value in
+    record {
+      progress = p;
+      most = omega (arith, c.order.ensures.value, c.order.ensures.range.1);
+      whole = omega (arith, p.covers, n, c.len.ensures, c.loop-products-test.false);
+      apart = λ d e hd he. c.order.ensures.apart d e (omega (arith, c.order.ensures.value)) (omega (arith, c.order.ensures.value));
+    }
+
+pub overflow_mul-order : goal.overflow_mul-order
+overflow_mul-order g c = omega (arith, mul-le c.order.result (length c.args.axes.now) 256 26 c.order.ensures.range.1 c.requires.letters)
+
+pub loop-products-smaller : goal.loop-products-smaller
+loop-products-smaller g c =
+    let all = mul-le c.order.result (length c.args.axes.now) 256 (length c.args.axes.now) c.order.ensures.range.1 (omega arith) in
+    let more : length c.push.new.self.items ≡ length c.loop-products.products.items + 1 = ap length c.in_ok-push.ensures.items ∙ length-append c.loop-products.products.items (c.in_ok-number.number ∷ []) in
+    let rows = ap (λ q. q * length c.args.axes.now) c.order.ensures.value in
+    omega (arith, all, more, rows, c.len.ensures, c.loop-products-test.true)
+
+pub returns-clause-keys : goal.returns-clause-keys
+returns-clause-keys g c = keys-of c.args.axes.now c.args.classes.now c.loop-products.numbers.firsts c.loop-products.numbers.keys c.loop-products.products.items (returns-clause-numbering g c)

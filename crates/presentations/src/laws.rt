@@ -1,0 +1,23 @@
+//! What least congruences and the classes of a box are.
+ghost use Rattle.std.specs.Prelude.{◌≡◌, ◌↔◌, ◌<◌, ℕ, Bool, List, Contains, IsTrue, length, slice_index};
+ghost use Rattle.presentations.specs.declared.axes.Axis.{Axis};
+ghost use Rattle.presentations.specs.declared.read.Relation.{Relation};
+ghost use Rattle.presentations.specs.Congruences.{IsCongruence, Related};
+ghost use Rattle.presentations.specs.Boxes.{place_of};
+ghost use Rattle.presentations.specs.Boxed.{pairs_in, AreClasses};
+
+/// What relations give is a congruence that holds them, and every congruence that holds them has it.
+pub fn related_is_least()
+    ensures { (n : ℕ) (pairs : List (List ℕ × List ℕ)) (test : List ℕ → List ℕ → Bool)
+        → IsCongruence n test
+        → ((r : List ℕ × List ℕ) → Contains pairs r → IsTrue (test r.0 r.1))
+        → (u v : List ℕ) → Related n pairs u v → IsTrue (test u v) }
+{}
+
+/// Vectors are in one class exactly where the least congruence relates them.
+pub fn classes_are_exact()
+    ensures { (axes : List Axis) (relations : List Relation) (classes : List ℕ)
+        → AreClasses axes relations classes
+        → (u v : List ℕ) → length u ≡ length axes → length v ≡ length axes
+        → (slice_index classes (place_of axes u) ≡ slice_index classes (place_of axes v)) ↔ Related (length axes) (pairs_in axes relations) u v }
+{}
