@@ -1,0 +1,234 @@
+-- Looks and winning moves.
+use Rattle.std.proofs.Common.{◌≡◌, ℕ, suc, ◌+◌, ◌-◌, ◌<◌, ◌≤◌, ◌⊎◌, inl, inr, Bool, true, false, List, [], ◌∷◌, ◌++◌, length, get_or, sym, ◌∙◌, ap, ap₂, subst, arith}
+use Rattle.std.specs.Prelude.{take, drop}
+use Rattle.std.specs.List.{Contains, AllPairs, remove}
+use Rattle.std.specs.List.Sorted.{IsNonDecreasing}
+use Rattle.std.proofs.lemmas.List.Elements.{Contains-append_left, Contains-append_right, Contains-append_cases}
+use Rattle.std.proofs.lemmas.List.Sorted.{IsPermutation-refl, IsPermutation-sym, IsPermutation-remove, Contains-permutation}
+use Rattle.std.proofs.lemmas.List.{get_or_default}
+use Rattle.std.proofs.Math.Seq.{take-suc}
+use native.Mathlib.Decide.{dec_lt}
+use Rattle.misere_theory.specs.Certificates.{Certificate, InRanges, Accepted, claim_of}
+use Rattle.misere_theory.specs.Games.{HeapOption, HeapMove, IsHeap, IsPosition}
+use Rattle.misere_theory.specs.Pairs.{IsPeriodic}
+use Rattle.misere_theory.specs.Plays.{LeftBefore, IsWinningMove, IsFirstWin}
+use Rattle.misere_theory.specs.Quotients.{Claim, value}
+use Rattle.misere_theory.proofs.SmallParts.{small_or_earlier}
+use Rattle.misere_theory.proofs.Sums.{IsPosition-append, value_in, value-append, heaps_kept}
+use Rattle.misere_theory.proofs.Wins.{winning_leads}
+use Rattle.misere_theory.proofs.Written.{periodic}
+use Rattle.positions.specs.Options.{options_up_to}
+use Rattle.positions.specs.Exact.{heaps_of, IsLeftAt}
+use Rattle.positions.specs.declared.left.Left.{Left}
+use Rattle.positions.specs.declared.left.Left.TheVariants.{Nothing, One, Two}
+use Rattle.positions.proofs.Exact.{only, of_options}
+use Rattle.positions.proofs.Listed.{only_in, itself_in}
+use Rattle.player.specs.Looks.{puts, IsFirstInto}
+use Rattle.player.proofs.Order.{before_trans, not_before_itself, Before, rising, cut_before, small_in, in_order}
+use Rattle.player.proofs.Rests.{heap_at, dropped, taken}
+
+clash : (b : Bool) → b ≡ true → b ≡ false → ⊥
+clash true p q = cc
+clash false p q = cc
+
+module _ (c : Certificate) (ranges : InRanges c) where
+  repeats : IsPeriodic c.code (claim_of c) (length c.code - 1) c.start c.period
+  repeats = periodic c ranges
+
+  abbrev pub looked : ℕ → List Left
+  looked n = options_up_to c.code n (c.start + c.period - 1)
+
+  -- each option has one of its value among the looks, which is it or comes before it
+  pub look_for : (n : ℕ) (H : List ℕ) → HeapOption c.code n H → IsNonDecreasing H
+      → (L : Left) × Contains (looked n) L × (value (claim_of c) (heaps_of L) ≡ value (claim_of c) H) × ((heaps_of L ≡ H) ⊎ LeftBefore (heaps_of L) H)
+  look_for n H o w =
+      let (S, i, small, e, before) = small_or_earlier c.code (claim_of c) (length c.code - 1) c.start c.period repeats n H o w in
+      let (L, there, same) = small_in c.code n (c.start + c.period) S i small in
+      (L, there, ap (value (claim_of c)) same ∙ e, subst (λ v. (v ≡ H) ⊎ LeftBefore v H) (sym same) before)
+
+  same_puts : (y : ℕ) (H L : List ℕ) → value (claim_of c) H ≡ value (claim_of c) L → puts c y H ≡ puts c y L
+  same_puts y H L e = ap (λ v. (claim_of c).portion ((claim_of c).times y v)) e
+
+  -- where no look passes, no option does
+  pub none_into : (n y : ℕ) (seen rest : List Left) → seen ++ rest ≡ looked n → rest ≡ [] → ((L : Left) → Contains seen L → puts c y (heaps_of L) ≡ false)
+      → (H : List ℕ) → HeapOption c.code n H → IsNonDecreasing H → puts c y H ≡ false
+  none_into n y seen rest e none fails H o w =
+      let (L, i, v, b) = look_for n H o w in
+      let here : Contains (seen ++ rest) L = subst (λ xs. Contains xs L) (sym e) i in
+      let in_seen : Contains seen L = elim (Contains-append_cases seen rest L here) [
+        | inl k ↦ k
+        | inr k ↦ absurd (let (j, l, f) = subst (λ xs. Contains xs L) none k in omega arith)
+      ] in
+      sym (same_puts y (heaps_of L) H v) ∙ fails L in_seen
+
+  -- the first look that passes is the first option that does
+  pub first_look : (n y : ℕ) (seen rest : List Left) (L : Left) → seen ++ (L ∷ rest) ≡ looked n → puts c y (heaps_of L) ≡ true → ((M : Left) → Contains seen M → puts c y (heaps_of M) ≡ false)
+      → IsFirstInto c n y (heaps_of L)
+  first_look n y seen rest L e passes fails =
+      let there : Contains (looked n) L = subst (λ xs. Contains xs L) e (Contains-append_right seen (L ∷ rest) L (Contains-append_left (L ∷ []) rest L (itself_in L))) in
+      let o = only c.code n (c.start + c.period - 1) L there in
+      record {
+        option = o.0;
+        in_order = in_order L o.1;
+        here = passes;
+        first = λ M p w q before.
+            let (S, i, v, b) = look_for n M p w in
+            let good : puts c y (heaps_of S) ≡ true = same_puts y (heaps_of S) M v ∙ q in
+            let earlier : LeftBefore (heaps_of S) (heaps_of L) = elim b [
+              | inl same ↦ subst (λ u. LeftBefore u (heaps_of L)) (sym same) before
+              | inr less ↦ before_trans (heaps_of S) M (heaps_of L) less before
+            ] in
+            elim (Contains-append_cases seen (L ∷ rest) S (subst (λ xs. Contains xs S) (sym e) i)) [
+              | inl k ↦ clash (puts c y (heaps_of S)) good (fails S k)
+              | inr k ↦ elim (Contains-append_cases (L ∷ []) rest S k) [
+                | inl h ↦ not_before_itself (heaps_of L) (subst (λ u. LeftBefore (heaps_of u) (heaps_of L)) (sym (only_in L S h)) earlier)
+                | inr h ↦
+                    let after = cut_before Before seen rest L S (subst (AllPairs Before) (sym e) (rising c.code n (c.start + c.period - 1))) h in
+                    not_before_itself (heaps_of L) (before_trans (heaps_of L) (heaps_of S) (heaps_of L) after earlier)
+              ]
+            ];
+      }
+
+  -- the first option that passes is among the looks
+  pub first_among : (n y : ℕ) (H : List ℕ) → IsFirstInto c n y H → (L : Left) × Contains (looked n) L × (heaps_of L ≡ H)
+  first_among n y H into =
+      let (L, i, v, b) = look_for n H into.option into.in_order in
+      let o = only c.code n (c.start + c.period - 1) L i in (
+        L,
+        i,
+        elim b [
+          | inl same ↦ same
+          | inr less ↦ absurd (into.first (heaps_of L) o.0 (in_order L o.1) (same_puts y (heaps_of L) H v ∙ into.here) less)
+        ],
+      )
+
+-- the next look is an option, so its parts are heaps
+pub parts_are_heaps : (c : Certificate) (n : ℕ) (seen rest : List Left) (L : Left) → seen ++ (L ∷ rest) ≡ options_up_to c.code n (c.start + c.period - 1) → IsPosition IsHeap (heaps_of L)
+parts_are_heaps c n seen rest L e =
+    let i : Contains (seen ++ (L ∷ rest)) L = Contains-append_right seen (L ∷ rest) L (Contains-append_left (L ∷ []) rest L (itself_in L)) in
+    let (j, h) = of_options c.code n (c.start + c.period - 1) L (subst (λ xs. Contains xs L) e i) in
+    heaps_at j L h
+  where
+    heaps_at : (j : ℕ) (L : Left) → IsLeftAt c.code n j L → IsPosition IsHeap (heaps_of L)
+    heaps_at j Nothing h = tt
+    heaps_at j (One a) h = (h.1, tt)
+    heaps_at j (Two a b) h = (h.0, (let l = h.0 in let m = h.1 in omega arith, tt))
+
+-- one look more that doesn't pass
+pub seen_more : (c : Certificate) (y : ℕ) (seen : List Left) (L : Left) → puts c y (heaps_of L) ≡ false → ((M : Left) → Contains seen M → puts c y (heaps_of M) ≡ false)
+    → (M : Left) → Contains (seen ++ (L ∷ [])) M → puts c y (heaps_of M) ≡ false
+seen_more c y seen L here before M i = elim (Contains-append_cases seen (L ∷ []) M i) [
+  | inl k ↦ before M k
+  | inr k ↦ subst (λ v. puts c y (heaps_of v) ≡ false) (only_in L M k) here
+]
+
+-- Winning moves of a position, by the values of the other heaps.
+module _ (c : Certificate) (yes_to : Accepted c) (X : List ℕ) (position : IsPosition IsHeap X) where
+  abbrev C : Claim
+  C = claim_of c
+
+  others_in : (i : ℕ) → IsPosition IsHeap (remove X i)
+  others_in i = IsPosition-append IsHeap (take i X) (drop (suc i) X) (taken X i position) (dropped X (suc i) position)
+
+  -- the value of the others, from those before and those behind
+  pub others_value : (i y v w : ℕ) → v ≡ value C (take i X) → w ≡ value C (drop (suc i) X) → y ≡ C.times v w → y ≡ value C (remove X i)
+  others_value i y v w e f g =
+      g ∙ ap₂ C.times e f ∙ sym (value-append IsHeap C yes_to.represents.monoid yes_to.represents.elements (take i X) (drop (suc i) X) (taken X i position) (dropped X (suc i) position))
+
+  made_value : (i : ℕ) (n : ℕ) (H : List ℕ) → 1 ≤ n → HeapOption c.code n H → value C (H ++ remove X i) ≡ C.times (value C (remove X i)) (value C H)
+  made_value i n H one o =
+      let m = yes_to.represents.monoid in
+      let el = yes_to.represents.elements in
+      let p = heaps_kept c.code n H one o in
+      value-append IsHeap C m el H (remove X i) p (others_in i)
+      ∙ m.commutes (value C H) (value C (remove X i)) (value_in IsHeap C m el H p) (value_in IsHeap C m el (remove X i) (others_in i))
+
+  module _ (i n y : ℕ) (there : i < length X) (is : n ≡ get_or X i n) (beside : y ≡ value C (remove X i)) where
+    one_heap : 1 ≤ n
+    one_heap = subst (λ v. 1 ≤ v) (sym is) (heap_at X i n there position)
+
+    move_to : (H : List ℕ) → HeapOption c.code n H → HeapMove c.code X n H (H ++ remove X i)
+    move_to H o = record { others = remove X i; before = IsPermutation-remove X i n there is; allowed = o; after = IsPermutation-refl (H ++ remove X i) }
+
+    puts_is : (H : List ℕ) → HeapOption c.code n H → puts c y H ≡ C.portion (value C (H ++ remove X i))
+    puts_is H o = ap (λ v. C.portion (C.times v (value C H))) beside ∙ ap C.portion (sym (made_value i n H one_heap o))
+
+    made_in : (H : List ℕ) → HeapOption c.code n H → IsPosition IsHeap (H ++ remove X i)
+    made_in H o = IsPosition-append IsHeap H (remove X i) (heaps_kept c.code n H one_heap o) (others_in i)
+
+    pub winning_puts : (H : List ℕ) → IsWinningMove c.code X n H → puts c y H ≡ true
+    winning_puts H w =
+        let o = w.1.1.allowed in
+        puts_is H o ∙ (yes_to.represents.predicts (H ++ remove X i) (made_in H o)).0 (winning_leads w (move_to H o))
+
+    pub puts_wins : (H : List ℕ) → HeapOption c.code n H → IsNonDecreasing H → puts c y H ≡ true → IsWinningMove c.code X n H
+    puts_wins H o w p = (w, (H ++ remove X i, move_to H o, (yes_to.represents.predicts (H ++ remove X i) (made_in H o)).1 (sym (puts_is H o) ∙ p)))
+
+-- the heap that a move moves stands somewhere
+heap_of : (code X : List ℕ) (m : ℕ) (H Y : List ℕ) → HeapMove code X m H Y → (k : ℕ) × (k < length X) × (get_or X k 0 ≡ m)
+heap_of code X m H Y move =
+    let front : Contains (m ∷ move.others) m = Contains-append_left (m ∷ []) move.others m (itself_in m) in
+    let inside : Contains X m = Contains-permutation (m ∷ move.others) X m (IsPermutation-sym X (m ∷ move.others) move.before) front in
+    let (k, l, e) = inside in (k, l, get_or_default X k 0 m l ∙ e)
+
+-- the first option that passes beside the others makes the first winning move, where no smaller heap has one
+pub first_of_all : (c : Certificate) (yes_to : Accepted c) (X : List ℕ) (position : IsPosition IsHeap X) (i n y : ℕ) (there : i < length X) (is : n ≡ get_or X i n) (beside : y ≡ value (claim_of c) (remove X i))
+    → IsNonDecreasing X
+    → ((k : ℕ) → k < i → (H : List ℕ) → IsWinningMove c.code X (get_or X k 0) H → ⊥)
+    → (H : List ℕ) → IsFirstInto c n y H
+    → IsFirstWin c.code X n H
+first_of_all c yes_to X position i n y there is beside rising_heaps none H into = (
+  puts_wins c yes_to X position i n y there is beside H into.option into.in_order into.here,
+  λ m L w before. elim before [
+    | inl less ↦
+        let inside = heap_of c.code X m L w.1.0 w.1.1 in
+        let k = inside.0 in
+        let l = inside.1 in
+        let e : get_or X k 0 ≡ m = inside.2 in
+        elim (dec_lt k i) [
+          | yes a ↦ none k a L (subst (λ v. IsWinningMove c.code X v L) (sym e) w)
+          | no a ↦ absurd (let up = rising_heaps i k 0 (omega arith) l in let d = get_or_default X i n 0 there in omega arith)
+        ]
+    | inr same ↦
+        let w2 = subst (λ v. IsWinningMove c.code X v L) same.0 w in
+        into.first L w2.1.1.allowed w2.0 (winning_puts c yes_to X position i n y there is beside L w2) same.1
+  ],
+)
+
+-- where no heap has a winning move, there is none
+pub none_at_all : (c : Certificate) (X : List ℕ) (i : ℕ) → length X ≤ i
+    → ((k : ℕ) → k < i → (H : List ℕ) → IsWinningMove c.code X (get_or X k 0) H → ⊥)
+    → (n : ℕ) (H : List ℕ) → IsWinningMove c.code X n H → ⊥
+none_at_all c X i past none n H w =
+    let (k, l, e) = heap_of c.code X n H w.1.0 w.1.1 in
+    none k (omega arith) H (subst (λ v. IsWinningMove c.code X v H) (sym e) w)
+
+-- a heap more without a winning move
+pub none_more : (c : Certificate) (yes_to : Accepted c) (X : List ℕ) (position : IsPosition IsHeap X) (i y : ℕ) → i < length X → y ≡ value (claim_of c) (remove X i)
+    → ((H : List ℕ) → HeapOption c.code (get_or X i 0) H → IsNonDecreasing H → puts c y H ≡ false)
+    → ((k : ℕ) → k < i → (H : List ℕ) → IsWinningMove c.code X (get_or X k 0) H → ⊥)
+    → (k : ℕ) → k < i + 1 → (H : List ℕ) → IsWinningMove c.code X (get_or X k 0) H → ⊥
+none_more c yes_to X position i y there beside fails none k l H w = elim (dec_lt k i) [
+  | yes a ↦ none k a H w
+  | no a ↦
+      let e : k ≡ i = omega arith in
+      let n = get_or X i 0 in
+      let w2 = subst (λ v. IsWinningMove c.code X (get_or X v 0) H) e w in
+      let passes = winning_puts c yes_to X position i n y there (get_or_default X i 0 n there) beside H w2 in
+      clash (puts c y H) passes (fails H w2.1.1.allowed w2.0)
+]
+
+-- the value of the heaps so far, with one more
+pub taken_more : (c : Certificate) (yes_to : Accepted c) (X : List ℕ) (position : IsPosition IsHeap X) (i v e w : ℕ) → i < length X
+    → v ≡ value (claim_of c) (take i X) → e ≡ (claim_of c).phi (get_or X i 0) → w ≡ (claim_of c).times v e → w ≡ value (claim_of c) (take (i + 1) X)
+taken_more c yes_to X position i v e w there before is times =
+    let C = claim_of c in
+    let m = yes_to.represents.monoid in
+    let el = yes_to.represents.elements in
+    let n = get_or X i 0 in
+    let one = heap_at X i 0 there position in
+    let alone : C.times (C.phi n) 0 ≡ C.phi n = m.commutes (C.phi n) 0 (el n one) m.some ∙ m.identity (C.phi n) (el n one) in
+    let s : i + 1 ≡ suc i = omega arith in
+    times ∙ ap₂ C.times before (is ∙ sym alone)
+    ∙ sym (value-append IsHeap C m el (take i X) (n ∷ []) (taken X i position) (one, tt))
+    ∙ ap (value C) (sym (ap (λ k. take k X) s ∙ take-suc X i 0 there))

@@ -1,0 +1,5 @@
+mod Rests
+mod Order
+mod Beside
+mod Answered
+mod Few

@@ -1,0 +1,12 @@
+use Rattle.std.proofs.Common.{◌≡◌, ◌-◌, ◌+◌, ◌++◌, false}
+use Rattle.std.specs.List.{Contains}
+use Rattle.positions.specs.Options.{options_up_to}
+use Rattle.positions.specs.Exact.{heaps_of}
+use Rattle.positions.specs.declared.left.Left.{Left}
+use Rattle.player.specs.Looks.{puts}
+use Rattle.player.proofs.looking.first_into.Given as goal
+
+abbrev pub invariant-loop-left : goal.invariant-loop-left
+invariant-loop-left g l =
+    (l.yielded ++ l.left-iterator ≡ options_up_to l.cert.code l.n (l.cert.start + l.cert.period - 1))
+    × ((L : Left) → Contains l.yielded L → puts l.cert l.y (heaps_of L) ≡ false)

@@ -1,0 +1,19 @@
+-- What a player answers in a position, and when the answer is right. This project's own.
+use Rattle.std.specs.Prelude.{◌≡◌, ◌↔◌, ℕ, List}
+use Rattle.misere_theory.specs.Games.{Move, HeapMove, IsP}
+use Rattle.misere_theory.specs.Plays.{IsFirstWin, Keeps}
+use Rattle.positions.specs.Exact.{heaps_of}
+use Rattle.positions.specs.declared.moves.Move.{Move as MoveMade}
+use Rattle.player.specs.declared.answering.Answer.{Answer}
+use Rattle.player.specs.declared.answering.Answer.TheVariants.{Ended, Lost, Wins}
+
+-- The move is the first winning one, and whoever makes it, and answers each move by the first winning one, wins.
+pub record WinsBy (code X : List ℕ) (m : MoveMade) : Type 0 where
+  pub first : IsFirstWin code X m.heap (heaps_of m.left)
+  pub keeps : (Y : List ℕ) → HeapMove code X m.heap (heaps_of m.left) Y → Keeps code Y
+
+-- Ended exactly where there is no move, Lost exactly at P-positions, and a move that is answered is the first that wins.
+pub record IsRightAnswer (code X : List ℕ) (a : Answer) : Type 0 where
+  pub ended : (a ≡ Ended) ↔ ((Y : List ℕ) → Move code X Y → ⊥)
+  pub lost : (a ≡ Lost) ↔ IsP code X
+  pub wins : (m : MoveMade) → a ≡ Wins m → WinsBy code X m

@@ -1,0 +1,64 @@
+//! What a certified quotient says of positions.
+ghost use Rattle.std.specs.Prelude.{◌≡◌, ◌<◌, ◌≤◌, ◌+◌, ◌-◌, ◌*◌, ℕ, List, Contains, length};
+ghost use Rattle.misere_theory.specs.Certificates.{Accepted, claim_of};
+ghost use Rattle.misere_theory.specs.Quotients.{value};
+ghost use Rattle.outcome_search.specs.Outcomes.{HasOutcome};
+ghost use Rattle.positions.specs.Exact.{heaps_of};
+ghost use Rattle.positions.specs.Options.{options_up_to};
+ghost use Rattle.positions.specs.declared.left.Left.{Left};
+ghost use Rattle.player.specs.Answers.{IsRightAnswer};
+ghost use Rattle.player.specs.Looks.{IsFirstInto};
+
+use crate::answering::{Answer, answer_at};
+use crate::looking::looks_at;
+use crate::values::{is_in_portion, product};
+use certificate::{Cert, in_ranges};
+use outcome_search::Outcome;
+use positions::{Options, Position};
+use std::alloc::Allocator;
+
+/// The element of the quotient that is the position's: the product of its heaps' elements.
+pub fn value<A: Allocator, B: Allocator>(cert: &Cert<A>, position: &Position<B>) -> u16
+    requires { Accepted cert.now }
+    ensures value { result ≡ value (claim_of cert.now) position.now }
+    ensures within { result < cert.now.order }
+{
+    product(cert, position.heaps())
+}
+
+/// Who wins from the position under misère play.
+pub fn outcome<A: Allocator, B: Allocator>(cert: &Cert<A>, position: &Position<B>) -> Outcome
+    requires { Accepted cert.now }
+    ensures { HasOutcome cert.now.code position.now result }
+{
+    if is_in_portion(cert, product(cert, position.heaps())) {
+        Outcome::P
+    } else {
+        Outcome::N
+    }
+}
+
+/// What to do in the position: nothing where no move exists or none wins, and else the first move that wins. Heaps
+/// come in the order of their sizes, and of one heap the options in their order. Whoever makes the move that is
+/// answered, and goes on so, hands the opponent a P-position each time and wins, whatever he moves.
+///
+/// Of a heap only its `looks` are tried, so a heap of any size is answered at once. It takes no memory.
+pub fn answer<A: Allocator, B: Allocator>(cert: &Cert<A>, position: &Position<B>) -> Answer
+    requires { Accepted cert.now }
+    ensures { IsRightAnswer cert.now.code position.now result }
+{
+    answer_at(cert, position.heaps())
+}
+
+/// The options of the heap n that a player looks at, in their order: all but the splits whose smaller part is start +
+/// period or more. There are at most (k + 1)(start + period + 1) of them, for the last digit dk of the code, however
+/// large the heap is. Whatever stands beside the heap, the first option that makes a P-position is among them.
+pub fn looks<A: Allocator>(cert: &Cert<A>, n: u64) -> Options
+    requires { Accepted cert.now }
+    ensures list { result ≡ options_up_to cert.now.code n (cert.now.start + cert.now.period - 1) }
+    ensures few { length result ≤ length cert.now.code * (cert.now.start + cert.now.period + 1) }
+    ensures first { (y : ℕ) (H : List ℕ) → IsFirstInto cert.now n y H → (left : Left) × Contains result left × (heaps_of left ≡ H) }
+{
+    in_ranges(cert);
+    looks_at(cert, n)
+}
