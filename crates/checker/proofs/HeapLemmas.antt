@@ -1,0 +1,103 @@
+-- The pairs of the heaps, and what a closure of them says of a certificate.
+use Rattle.std.proofs.Common.{◌≡◌, ℕ, suc, zero, ◌+◌, ◌-◌, ◌<◌, ◌≤◌, true, false, List, [], ◌∷◌, length, map, get_or, Contains, refl, sym, ◌∙◌, ap, subst, arith}
+use Rattle.std.specs.List.{All}
+use Rattle.std.specs.FinSet as set
+use Rattle.std.specs.Ordering.{nat_cmp}
+use Rattle.std.proofs.lemmas.List.{get_or-map, length-map}
+use Rattle.misere_theory.specs.Games.{IsHeap, IsHeapUpTo, IsPosition}
+use Rattle.misere_theory.specs.Quotients.{ReachesMoreThan, RuleFails}
+use Rattle.misere_theory.specs.Pairs.{KeptObey, IsClosed}
+use Rattle.misere_theory.specs.Certificates.{Certificate, claim_of}
+use Rattle.misere_theory.proofs.Written.{phi_in}
+use Rattle.monoid_table.specs.Grids.{Grid}
+use Rattle.transition_algebra.specs.Heaps.{Agrees, AreAllHeapPairs, IsHeapPairs}
+use Rattle.transition_algebra.specs.Pairs.{IsPair}
+use Rattle.transition_algebra.specs.declared.pair.Pair.{Pair}
+use Rattle.pair_closure.specs.Positions.{as_pair, kept, IsClaimOver, IsClosedOver, IsExceeded, IsWordOf}
+use Rattle.pair_closure.specs.Progress.{SameData, blank_held}
+use Rattle.pair_closure.specs.declared.settle.Held.{Held}
+use Rattle.pair_closure.specs.Turns.{State}
+use Rattle.pair_closure.proofs.Positions.{items_have, has_items}
+use Rattle.certificate.specs.Pieces.{Pieces, certificate_of, IsWhole}
+use Rattle.checker.specs.Sheets.{IsSheet}
+use Rattle.checker.specs.Rules.{Obeys, Breaks}
+use Rattle.checker.specs.Closings.{HavePairs, IsClosing, IsCovered, bound_of}
+use Rattle.checker.proofs.Rows.{rows_of-entry}
+use Rattle.checker.proofs.RuleLemmas.{breach_fails}
+
+grid : Pieces → Grid
+grid p = record { order = p.order; entries = p.rows }
+
+module _ (p : Pieces) where
+  agrees : (t : Grid) → t ≡ grid p → Agrees (claim_of (certificate_of p)) t p.phi
+  unfolding grid
+  agrees t e = subst (λ g. Agrees (claim_of (certificate_of p)) g p.phi) (sym e) (record {
+    order_is = refl;
+    times_is = λ x y a b. rows_of-entry p.order p.order p.rows x y a b;
+    phi_is = λ n _. refl;
+  })
+
+  pub heaps_have_pairs : (pairs : List Pair) → AreAllHeapPairs p.code (record { order = p.order; entries = p.rows }) p.phi pairs → All (IsPair p.order) pairs → HavePairs (certificate_of p) pairs
+  unfolding grid
+  heaps_have_pairs pairs exact within = record { exact = exact (claim_of (certificate_of p)) (agrees (grid p) refl); within = within }
+
+  module _ (inside : set.FinSet nat_cmp) (heaps : List Pair) (is : IsClosing p inside heaps) where
+    claim_over : IsClaimOver p.code (claim_of (certificate_of p)) (record { order = p.order; entries = p.rows }) heaps
+    claim_over = record {
+      monoid = is.sheet.lawful.monoid;
+      elements = λ n _. phi_in (certificate_of p) is.sheet.lawful.in_ranges n;
+      order_is = refl;
+      times_is = λ x y a b. rows_of-entry p.order p.order p.rows x y a b;
+      heaps_are = subst (λ n. IsHeapPairs p.code (claim_of (certificate_of p)) n heaps) (sym is.exact.exact.length_is) is.exact.exact;
+    }
+
+    module _ (t : State) (table_is : t.table ≡ record { order = p.order; entries = p.rows }) (heaps_is : t.heaps ≡ heaps) where
+      over_state : IsClaimOver p.code (claim_of (certificate_of p)) t.table t.heaps
+      over_state = subst (λ g. IsClaimOver p.code (claim_of (certificate_of p)) g t.heaps) (sym table_is) (subst (λ h. IsClaimOver p.code (claim_of (certificate_of p)) (record { order = p.order; entries = p.rows }) h) (sym heaps_is) claim_over)
+
+      -- over the limit there are more pairs of positions than it
+      pub over_reaches : IsExceeded t → ReachesMoreThan IsHeap p.code (claim_of (certificate_of p)) t.limit
+      over_reaches more = more p.code (claim_of (certificate_of p)) over_state
+
+      -- a member that breaks the rule shows a position
+      pub member_fails : (m : Held) (X : List ℕ) → IsWordOf t m X → Breaks inside m.pair → RuleFails p.code (claim_of (certificate_of p)) X
+      member_fails m X w b = breach_fails inside m.pair p.code (claim_of (certificate_of p)) X is.sheet.portion (w.exact p.code (claim_of (certificate_of p)) over_state) b
+
+      length_bound : length t.heaps ≡ bound_of (certificate_of p)
+      length_bound = ap length heaps_is ∙ is.exact.exact.length_is
+
+      member_of : (q : _) → Contains (kept t) q → (i : ℕ) × (i < length t.held) × (as_pair (get_or t.held i blank_held).pair ≡ q)
+      member_of q (i, l, e) =
+          let b : i < length t.held = (let n = length-map t.held (λ m. as_pair m.pair) in omega arith) in
+          (i, b, sym (get_or-map (λ m. as_pair m.pair) t.held i blank_held q b) ∙ e)
+
+      obeying : ((i : ℕ) → i < length t.held → Obeys inside (get_or t.held i blank_held).pair) → KeptObey (claim_of (certificate_of p)) (kept t)
+      obeying all = record {
+        outside = λ q k f x h.
+            let (i, l, e) = member_of q k in
+            let m = (get_or t.held i blank_held).pair in
+            let o = all i l in
+            let v = is.sheet.portion m.value ∙ (ap (λ r. (claim_of (certificate_of p)).portion r.value) e ∙ f) in
+            let (y, has, into) = o.leads v x (items_have m.options x (subst (λ r. Contains r.options x) (sym e) h)) in
+            (y, subst (λ r. Contains r.options y) e (has_items m.options y has), sym (is.sheet.portion y) ∙ into);
+        inside = λ q k f.
+            let (i, l, e) = member_of q k in
+            let m = (get_or t.held i blank_held).pair in
+            let o = all i l in
+            let v = is.sheet.portion m.value ∙ (ap (λ r. (claim_of (certificate_of p)).portion r.value) e ∙ f) in
+            let (x, has) = o.some v in
+            (x, subst (λ r. Contains r.options x) e (has_items m.options x has));
+      }
+
+      -- members that all obey the rule cover every position
+      pub members_cover : IsClosedOver t → ((i : ℕ) → i < length t.held → Obeys inside (get_or t.held i blank_held).pair) → IsCovered (certificate_of p)
+      members_cover closed all = record {
+        kept = kept t;
+        closed = subst (λ n. IsClosed p.code (claim_of (certificate_of p)) (IsHeapUpTo n) (kept t)) length_bound (closed p.code (claim_of (certificate_of p)) over_state);
+        obey = obeying all;
+      }
+
+-- positions of the heaps up to some size are positions
+pub position_within : (n : ℕ) (X : List ℕ) → IsPosition (IsHeapUpTo n) X → IsPosition IsHeap X
+position_within n [] p = tt
+position_within n (x ∷ X) p = (p.0.0, position_within n X p.1)

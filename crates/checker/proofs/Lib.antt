@@ -1,0 +1,12 @@
+pub mod Rows
+pub mod TableLemmas
+pub mod FaultLemmas
+pub mod KeyLemmas
+pub mod ProductLemmas
+pub mod PeriodLemmas
+pub mod ApartLemmas
+pub mod RuleLemmas
+pub mod SpellLemmas
+pub mod HeapLemmas
+pub mod ElementLemmas
+pub mod StageLemmas

@@ -1,0 +1,47 @@
+-- What a stage carries of the certificate that the bytes spell stands of the bytes.
+use Rattle.std.proofs.Common.{◌≡◌, ℕ, List, Result, Ok, Err, None, false, refl, sym, subst}
+use Rattle.misere_theory.specs.Certificates.{Certificate}
+use Rattle.certificate_text.specs.Spelling.{Spells}
+use Rattle.checker.specs.Answers.{Answer, Fits, IsTrueOf, answer_of}
+use Rattle.checker.specs.Answers.Answer.{Yes, Text, Law, Word, Order, Period, Apart, Outcome, Limit, Memory}
+use Rattle.checker.specs.Stages.{Carries, Stands, has_ended, ending}
+use Rattle.checker.specs.declared.stage.Stage.{Stage}
+use Rattle.checker.specs.declared.stage.Stage.TheVariants.{Reading, Laws, Keys, Products, Periods, Separating, Heaps, Closing, Elements, Ended}
+
+module _ (bytes : List ℕ) (c : Certificate) (spelled : Spells bytes c) (limit : ℕ) where
+  fitting_is_true : (a : Answer) → Fits c limit a → IsTrueOf bytes limit a
+  fitting_is_true (Yes d) f = (c, spelled, f)
+  fitting_is_true Text f = absurd f
+  fitting_is_true Law f = (c, spelled, f)
+  fitting_is_true Word f = (c, spelled, f)
+  fitting_is_true Order f = (c, spelled, f)
+  fitting_is_true Period f = (c, spelled, f)
+  fitting_is_true Apart f = (c, spelled, f)
+  fitting_is_true (Outcome code X) f = (c, spelled, f)
+  fitting_is_true Limit f = (c, spelled, f)
+  fitting_is_true Memory f = tt
+
+  pub carried_stands : {A : Type 0} (s : Stage A) → Carries c limit s → Stands bytes limit s
+  carried_stands Reading h = absurd h
+  carried_stands (Laws l) h = subst (Spells bytes) (sym h) spelled
+  carried_stands (Keys l) h = subst (Spells bytes) (sym h) spelled
+  carried_stands (Products l) h = subst (Spells bytes) (sym h) spelled
+  carried_stands (Periods l) h = subst (Spells bytes) (sym h) spelled
+  carried_stands (Separating l) h = subst (Spells bytes) (sym h) spelled
+  carried_stands (Heaps l) h = subst (Spells bytes) (sym h) spelled
+  carried_stands (Closing s) h = (subst (Spells bytes) (sym h.0) spelled, h.1)
+  carried_stands (Elements l) h = subst (Spells bytes) (sym h) spelled
+  carried_stands (Ended r) h = fitting_is_true (answer_of r) h
+
+-- a stage that goes on has no answer
+pub going-none : {A : Type 0} (s : Stage A) → has_ended s ≡ false → ending s ≡ None
+going-none Reading e = refl
+going-none (Laws l) e = refl
+going-none (Keys l) e = refl
+going-none (Products l) e = refl
+going-none (Periods l) e = refl
+going-none (Separating l) e = refl
+going-none (Heaps l) e = refl
+going-none (Closing l) e = refl
+going-none (Elements l) e = refl
+going-none (Ended r) e = absurd (cc)

@@ -1,0 +1,15 @@
+use Rattle.std.proofs.Common.{◌≡◌}
+use Rattle.checker.specs.Sheets.{IsLawful}
+use Rattle.checker.specs.Closings.{ElementsSoFar}
+use Rattle.checker.proofs.elements.Elements.work.Given as goal
+
+abbrev pub invariant-heaps : goal.invariant-heaps
+invariant-heaps g l = record {
+  same : l.sheet ≡ l.fn.self;
+  order : l.order ≡ l.sheet.order;
+  lawful : IsLawful l.sheet;
+  so_far : ElementsSoFar l.sheet l.pairs.items l.contexts.items l.heap l.option;
+}
+
+abbrev pub decreases-heaps : goal.decreases-heaps
+decreases-heaps g l = l.left

@@ -1,0 +1,6 @@
+use Rattle.checker.proofs.SpellLemmas.{element_fails}
+use Rattle.checker.proofs.elements.beside.Goals as goal
+
+pub returns-clause-fails : goal.returns-clause-fails
+returns-clause-fails g c =
+    element_fails c.args.sheet.now c.order-order.ensures.lawful c.args.heap c.args.y _ c.push.new.self c.requires.heap.0 c.requires.breach c.in_ok-position.ensures.position c.in_ok-position.ensures.value c.in_ok-push.ensures.ok

@@ -1,0 +1,11 @@
+use Rattle.std.proofs.Common.{◌≡◌, ℕ, ◌<◌, true, false}
+use Rattle.std.specs.FinSet as set
+use Rattle.misere_theory.specs.Certificates.{claim_of, times_of}
+use Rattle.checker.specs.Sheets.{IsLawful}
+use Rattle.checker.proofs.elements.context.Given as goal
+
+abbrev pub invariant-loop-y : goal.invariant-loop-y
+invariant-loop-y g l = record {
+  each : (y : ℕ) → set.contains l.all y ≡ true → (y < l.y) × ((claim_of l.sheet).portion (times_of l.sheet l.x y) ≡ true);
+  every : (y : ℕ) → y < l.y → (claim_of l.sheet).portion (times_of l.sheet l.x y) ≡ true → set.contains l.all y ≡ true;
+}

@@ -1,0 +1,16 @@
+use Rattle.std.proofs.Common.{rules, ◌≡◌, ◌==◌, ℕ, take, get_or, ◌||◌, ◌∙◌, sym, ap, ap₂, arith}
+use Rattle.std.proofs.lemmas.List.Folds.{list_any_more}
+use Rattle.std.proofs.lemmas.Grind.{common_steps}
+use Rattle.std.specs.List.{list_any}
+use Rattle.std.specs.FinSet.{members, contains-insert}
+use Rattle.std.specs.FinSet as set
+use Rattle.checker.proofs.lines.set_of.Goals as goal
+
+pub loop-x-init : goal.loop-x-init
+loop-x-init c = λ x. grind (members, rules)
+
+pub loop-x-preserved : goal.loop-x-preserved
+loop-x-preserved c = λ x.
+    let h = c.loop-x.invariant x in
+    let more = list_any_more (λ y. y == x) c.args.elements.now c.loop-x.x-index 0 (search rules) in
+    grind (members, rules)

@@ -1,0 +1,51 @@
+use Rattle.std.proofs.Common.{rules, arith, subst, ◌+◌, ◌-◌, ◌<◌, ◌≤◌, ◌≡◌, true, sym, inl, inr}
+use Rattle.misere_theory.specs.Certificates.{phi_at}
+use Rattle.misere_theory.specs.Verdicts.{IsFirstFault}
+use Rattle.misere_theory.specs.Verdicts.Fault.{Period}
+use Rattle.checker.proofs.FaultLemmas.{none_below_apart}
+use Rattle.checker.proofs.PeriodLemmas.{again_turn, serves_round, shift_turn, periods_end}
+use Rattle.checker.proofs.periods.Periods.work.Goals as goal
+
+pub shifts-preserved-then-not-comes_again : goal.shifts-preserved-then-not-comes_again
+shifts-preserved-then-not-comes_again g c =
+    let i = c.shifts.invariant in
+    let not = λ (e : phi_at c.shifts.sheet (c.shifts.shift + (c.shifts.sheet.start + c.shifts.count)) ≡ phi_at c.shifts.sheet (c.shifts.sheet.start + c.shifts.count)).
+    let t : c.comes_again.result ≡ true = c.comes_again.ensures.1 (rw i.start (let o = i.lawful.in_ranges.start.0 in omega arith, e)) in
+    let b : ⊥ = cc in b in
+    record {
+      same = i.same;
+      start = i.start;
+      period = i.period;
+      lawful = i.lawful;
+      so_far = shift_turn _ _ _ i.so_far not (search rules);
+    }
+
+pub returns-then-count-period : goal.returns-then-count-period
+returns-then-count-period g c =
+    let i = c.shifts.invariant in
+    let e = rw i.start at (c.comes_again.ensures.0 c.if-not-comes_again.false).1 in
+    λ _. subst (λ d. IsFirstFault d Period) i.same (serves_round c.shifts.sheet i.lawful.in_ranges _ _ i.so_far e (search rules) (search rules), i.so_far.free)
+
+pub shifts-preserved : goal.shifts-preserved
+shifts-preserved g c =
+    let i = c.shifts.invariant in
+    let e = rw i.start at (c.comes_again.ensures.0 c.if-not-comes_again.false).1 in
+    let s = i.so_far.short in
+    let l : c.shifts.count + 1 < c.shifts.sheet.period = omega arith in
+    record {
+      same = i.same;
+      start = i.start;
+      period = i.period;
+      lawful = i.lawful;
+      so_far = again_turn _ _ _ i.so_far e l;
+    }
+
+pub new-requires : goal.new-requires
+new-requires g c =
+    let i = c.shifts.invariant in
+    let w = i.so_far.within in
+    let whole : c.shifts.shift ≡ c.shifts.sheet.period = omega arith in
+    let not = λ (e : (1 < c.shifts.sheet.start) × (phi_at c.shifts.sheet (c.shifts.sheet.period + (c.shifts.sheet.start - 1)) ≡ phi_at c.shifts.sheet (c.shifts.sheet.start - 1))).
+    let t : c.comes_again-2.result ≡ true = c.comes_again-2.ensures.1 (rw (i.start, i.period) (let o = e.0 in omega arith, e.1)) in
+    let b : ⊥ = cc in b in
+    none_below_apart c.shifts.sheet i.so_far.free (periods_end c.shifts.sheet _ _ i.so_far whole not)

@@ -1,0 +1,16 @@
+use Rattle.std.proofs.Common.{◌≡◌, ◌+◌}
+use Rattle.checker.specs.Sheets.{IsLawful}
+use Rattle.checker.specs.Progress.{ProductsSoFar}
+use Rattle.checker.proofs.products.Products.work.Given as goal
+
+abbrev pub invariant-products : goal.invariant-products
+invariant-products g l = record {
+  same : l.sheet ≡ l.fn.self;
+  order : l.order ≡ l.sheet.order;
+  heaps : l.heaps ≡ l.sheet.start + l.sheet.period;
+  lawful : IsLawful l.sheet;
+  so_far : ProductsSoFar l.sheet l.element l.heap;
+}
+
+abbrev pub decreases-products : goal.decreases-products
+decreases-products g l = l.left

@@ -1,0 +1,76 @@
+use Rattle.std.proofs.Common.{length, slice_index, ◌∙◌, rules, arith, subst, ◌+◌, ◌-◌, ◌<◌, ◌≤◌, ◌≡◌, true, sym, inl, inr}
+use Rattle.misere_theory.specs.Certificates.{claim_of, TellsApart, Canonical}
+use Rattle.misere_theory.specs.Verdicts.{IsFirstFault}
+use Rattle.misere_theory.specs.Verdicts.Fault.{Apart}
+use Rattle.misere_theory.proofs.Verdicts.{faultless}
+use Rattle.checker.proofs.FaultLemmas.{none_at_all}
+use Rattle.checker.proofs.ApartLemmas.{apart_in, element_turn, apart_none, apart_smaller, pair_turn, last_pair_turn, apart_end}
+use Rattle.checker.proofs.separating.Separating.work.Goals as goal
+
+pub tells_apart-requires-clause-y_in : goal.tells_apart-requires-clause-y_in
+tells_apart-requires-clause-y_in g c =
+    let i = c.pairs.invariant in
+    apart_in c.pairs.sheet i.lawful.in_ranges _ _ _ _ i.so_far (search rules)
+
+pub returns-then-z-given : goal.returns-then-z-given
+returns-then-z-given g c =
+    let i = c.pairs.invariant in
+    let l : c.pairs.number < length c.pairs.sheet.apart = search rules in
+    let not = λ (t : TellsApart (claim_of c.pairs.sheet) (c.pairs.x, c.pairs.y) c.pairs.z). let r : c.tells_apart.result ≡ true = c.tells_apart.ensures.1 t in let b : ⊥ = cc in b in
+    λ _. subst (λ d. IsFirstFault d Apart) i.same (apart_none c.pairs.sheet i.lawful.in_ranges _ _ _ _ i.so_far l not (search rules), i.so_far.free)
+
+pub pairs-preserved-then-not-tells_apart : goal.pairs-preserved-then-not-tells_apart
+pairs-preserved-then-not-tells_apart g c =
+    let i = c.pairs.invariant in
+    let l : c.pairs.number < length c.pairs.sheet.apart = search rules in
+    let not = λ (t : TellsApart (claim_of c.pairs.sheet) (c.pairs.x, c.pairs.y) c.pairs.z). let r : c.tells_apart.result ≡ true = c.tells_apart.ensures.1 t in let b : ⊥ = cc in b in
+    record {
+      same = i.same;
+      order = i.order;
+      pairs = i.pairs;
+      lawful = i.lawful;
+      so_far = element_turn c.pairs.sheet i.lawful.in_ranges _ _ _ _ i.so_far l not (search rules);
+    }
+
+pub returns-then-z-given-2 : goal.returns-then-z-given-2
+returns-then-z-given-2 g c =
+    let i = c.pairs.invariant in
+    let l : c.pairs.number < length c.pairs.sheet.apart = search rules in
+    λ _. subst (λ d. IsFirstFault d Apart) i.same (apart_smaller c.pairs.sheet i.lawful.in_ranges _ _ _ _ i.so_far l (c.tells_apart.ensures.0 c.if-not-tells_apart.false) (search rules), i.so_far.free)
+
+pub pairs-preserved-then-y-order : goal.pairs-preserved-then-y-order
+pairs-preserved-then-y-order g c =
+    let i = c.pairs.invariant in
+    let l : c.pairs.number < length c.pairs.sheet.apart = search rules in
+    let e : c.pairs.z ≡ slice_index c.pairs.sheet.apart c.pairs.number = (let h = i.so_far.element l in omega arith) in
+    let b : c.pairs.z < c.pairs.sheet.order = search rules in
+    let t = c.tells_apart.ensures.0 c.if-not-tells_apart.false in
+    record {
+      same = i.same;
+      order = i.order;
+      pairs = i.pairs;
+      lawful = i.lawful;
+      so_far = last_pair_turn c.pairs.sheet i.lawful.in_ranges _ _ _ _ i.so_far l b t e (search rules);
+    }
+
+pub pairs-preserved : goal.pairs-preserved
+pairs-preserved g c =
+    let i = c.pairs.invariant in
+    let l : c.pairs.number < length c.pairs.sheet.apart = search rules in
+    let e : c.pairs.z ≡ slice_index c.pairs.sheet.apart c.pairs.number = (let h = i.so_far.element l in omega arith) in
+    let b : c.pairs.z < c.pairs.sheet.order = search rules in
+    let t = c.tells_apart.ensures.0 c.if-not-tells_apart.false in
+    record {
+      same = i.same;
+      order = i.order;
+      pairs = i.pairs;
+      lawful = i.lawful;
+      so_far = pair_turn c.pairs.sheet i.lawful.in_ranges _ _ _ _ i.so_far l b t e (λ m. c.if-y-order.false (m ∙ sym i.order));
+    }
+
+pub new-requires : goal.new-requires
+new-requires g c =
+    let i = c.pairs.invariant in
+    let l : length c.pairs.sheet.apart ≤ c.pairs.number = search rules in
+    let free = none_at_all c.pairs.sheet i.so_far.free (apart_end c.pairs.sheet i.lawful.in_ranges _ _ _ _ i.so_far l) in
+    (faultless c.pairs.sheet i.lawful.in_ranges free).1

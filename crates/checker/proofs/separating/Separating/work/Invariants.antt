@@ -1,0 +1,16 @@
+use Rattle.std.proofs.Common.{◌≡◌, length}
+use Rattle.checker.specs.Sheets.{IsLawful}
+use Rattle.checker.specs.Progress.{ApartSoFar}
+use Rattle.checker.proofs.separating.Separating.work.Given as goal
+
+abbrev pub invariant-pairs : goal.invariant-pairs
+invariant-pairs g l = record {
+  same : l.sheet ≡ l.fn.self;
+  order : l.order ≡ l.sheet.order;
+  pairs : l.pairs ≡ length l.sheet.apart;
+  lawful : IsLawful l.sheet;
+  so_far : ApartSoFar l.sheet l.x l.y l.z l.number;
+}
+
+abbrev pub decreases-pairs : goal.decreases-pairs
+decreases-pairs g l = l.left

@@ -1,0 +1,24 @@
+-- Jobs as their callers see them.
+use Rattle.std.specs.Prelude.{◌≡◌, ◌≢◌, ℕ, List, Option, Some, None}
+use Rattle.checker.specs.Answers.{Answer, IsTrueOf}
+
+-- The bytes and the limit that a job was opened with, the units spent so far, and the answer, once it has ended.
+pub record JobView : Type 0 where
+  pub bytes : List ℕ
+  pub limit : ℕ
+  pub spent : ℕ
+  pub ended : Option Answer
+
+-- the answer is true of the bytes
+abbrev pub IsEnding : List ℕ → ℕ → Option Answer → Type 0
+IsEnding bytes limit None = Unit {0}
+IsEnding bytes limit (Some a) = IsTrueOf bytes limit a
+
+abbrev pub IsTruthful : JobView → Type 0
+IsTruthful j = IsEnding j.bytes j.limit j.ended
+
+-- a job after some units more: it has the same bytes and limit, and where it had ended it is unchanged
+pub record HasAdvanced (old new : JobView) : Type 0 where
+  pub bytes : new.bytes ≡ old.bytes
+  pub limit : new.limit ≡ old.limit
+  pub ended : old.ended ≢ None → new ≡ old

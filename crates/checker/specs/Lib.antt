@@ -1,0 +1,9 @@
+pub mod Sheets
+pub mod Progress
+pub mod Rules
+pub mod Closings
+pub mod Refusals
+pub mod Answers
+pub mod JobViews
+pub mod Jobs
+pub mod Stages

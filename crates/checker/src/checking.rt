@@ -1,0 +1,26 @@
+//! A check from its beginning to its end.
+ghost use Rattle.checker.specs.Answers.{answer_of, IsTrueOf};
+
+use crate::certified::Certified;
+use crate::refusal::Refusal;
+use crate::stage::Stage;
+use std::alloc::Allocator;
+
+/// Whether the bytes are an accepted certificate.
+pub fn check<A: Allocator + Copy>(
+    alloc: A,
+    bytes: &[u8],
+    limit: u32,
+) -> Result<Certified<A>, Refusal<A>>
+    ensures { IsTrueOf bytes.now limit (answer_of result) }
+{
+    let mut stage = Stage::Reading;
+    for _turn in 0..u64::MAX {
+        let mut left = u64::MAX;
+        match stage.work(alloc, bytes, limit, &mut left) {
+            Stage::Ended(answer) => return answer,
+            next => stage = next,
+        }
+    }
+    Err(Refusal::Memory)
+}

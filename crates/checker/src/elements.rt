@@ -1,0 +1,237 @@
+//! The stage that looks at the options of values inside the portion.
+ghost use Rattle.std.specs.Prelude.{◌≡◌, ◌<◌, ◌≤◌, ◌^◌, ◌+◌, ℕ, length, IfOk, IfSome, IfNone, true, false, slice_index_or};
+ghost use Rattle.std.specs.FinSet as set;
+ghost use Rattle.misere_theory.specs.Games.{IsHeap, IsPosition};
+ghost use Rattle.misere_theory.specs.Quotients.{RuleFails};
+ghost use Rattle.misere_theory.specs.Certificates.{Accepted, Canonical, claim_of, times_of};
+ghost use Rattle.checker.specs.Closings.{HavePairs, IsCovered, AreContexts, LeadsIn};
+ghost use Rattle.checker.specs.Stages.{Carries};
+
+use crate::certified::Certified;
+use crate::lines::Lines;
+use crate::refusal::Refusal;
+use crate::sheet::Sheet;
+use crate::spelling::spelled;
+use crate::stage::Stage;
+use allocation::Memory;
+use certificate::{Cert, Parts};
+use element_sets::ElementSet;
+use misere_theory::certificates::tested_certificates_are_accepted;
+use positions::Position;
+use std::alloc::{Allocator, Global};
+use std::marker::Model;
+use transition_algebra::Pair;
+
+/// The heaps and the values of options are looked at, one of each a turn: no element beside both is in the portion with the heap and
+/// with its option.
+#[derive(Drop)]
+pub struct Elements<A: Allocator = Global> {
+    sheet: Sheet<A>,
+    pairs: Vec<Pair, A>,
+    /// For each element those that take it into the portion.
+    contexts: Vec<ElementSet, A>,
+    /// The next heap, less one,
+    heap: usize,
+    /// and the next value.
+    option: u16,
+}
+
+impl<A: Allocator> Model for Elements<A> {
+    ghost use Rattle.misere_theory.specs.Games.{IsHeap, IsPosition};
+    ghost use Rattle.misere_theory.specs.Quotients.{RuleFails};
+    ghost use Rattle.misere_theory.specs.Certificates.{Certificate};
+    ghost use Rattle.checker.specs.Closings.{ElementsSoFar};
+
+    ghost Value = { Certificate };
+
+    ghost view = { λ s. s.sheet };
+
+    ghost invariant = { λ s. ElementsSoFar s.sheet s.pairs.items s.contexts.items s.heap s.option };
+}
+
+/// The elements that take x into the portion.
+fn context<A: Allocator>(sheet: &Sheet<A>, x: u16) -> ElementSet
+    requires { x < sheet.now.order }
+    ensures each { (y : ℕ) → set.contains result y ≡ true → (y < sheet.now.order) × ((claim_of sheet.now).portion (times_of sheet.now x y) ≡ true) }
+    ensures all { (y : ℕ) → y < sheet.now.order → (claim_of sheet.now).portion (times_of sheet.now x y) ≡ true → set.contains result y ≡ true }
+{
+    let mut all = ElementSet::new();
+    for y in 0..sheet.order() {
+        if !sheet.holds(sheet.times(x, y)) {
+            continue;
+        }
+        all.insert(y as u8);
+    }
+    all
+}
+
+/// For each element those that take it into the portion.
+fn contexts<A: Allocator + Copy>(alloc: A, sheet: &Sheet<A>) -> Result<Vec<ElementSet, A>, Memory>
+    ensures { IfOk result (λ all. AreContexts sheet.now all.items) }
+{
+    let mut all = Vec::new(alloc);
+    for x in 0..sheet.order() {
+        all.push(context(sheet, x))?;
+    }
+    Ok(all)
+}
+
+/// The first element below the order that is in both sets.
+fn common(a: &ElementSet, b: &ElementSet, order: u16) -> Option<u16>
+    requires { order < 257 }
+    ensures within { IfSome result (λ y. y < order) }
+    ensures first { IfSome result (λ y. set.contains a.now y ≡ true) }
+    ensures second { IfSome result (λ y. set.contains b.now y ≡ true) }
+    ensures none { IfNone result ((y : ℕ) → y < order → set.contains a.now y ≡ true → set.contains b.now y ≡ false) }
+{
+    if !a.meets(b) {
+        return None;
+    }
+    for y in 0..order {
+        if a.contains(y as u8) && b.contains(y as u8) {
+            return Some(y);
+        }
+    }
+    None
+}
+
+/// The heaps that the keys of y spell, and one heap more.
+fn beside<A: Allocator + Copy>(
+    alloc: A,
+    sheet: &Sheet<A>,
+    heap: u64,
+    y: u16,
+) -> Result<Position<A>, Memory>
+    requires canonical { Canonical sheet.now }
+    requires heap { (1 ≤ heap) × (heap < 2 ^ 16) }
+    requires element { y < sheet.now.order }
+    requires breach { LeadsIn sheet.now heap y }
+    ensures position { IfOk result (IsPosition IsHeap) }
+    ensures fails { IfOk result (RuleFails sheet.now.code (claim_of sheet.now)) }
+{
+    let _order = sheet.order();
+    let mut position = spelled(alloc, sheet, y)?;
+    position.push(heap)?;
+    Ok(position)
+}
+
+/// The rule fails at a position.
+fn failed<A: Allocator>(sheet: Sheet<A>, position: Position<A>) -> Stage<A>
+    requires canonical { Canonical sheet }
+    requires position { IsPosition IsHeap position }
+    requires fails { RuleFails sheet.code (claim_of sheet) position }
+    ensures { (limit : ℕ) → Carries sheet limit result }
+{
+    let _order = sheet.order();
+    let Sheet { code, .. } = sheet;
+    Stage::Ended(Err(Refusal::Outcome(code, position)))
+}
+
+/// An element that is in the portion beside the heap of the pair and beside its option.
+fn breach(pair: &Pair, contexts: &[ElementSet], option: u16, order: u16) -> Option<u16>
+    requires value { pair.now.value < length contexts.now }
+    requires option { option < length contexts.now }
+    requires small { order < 257 }
+    requires below { option < order }
+    ensures within { IfSome result (λ y. y < order) }
+    ensures option { IfSome result (λ _. set.contains pair.now.options option ≡ true) }
+    ensures heap { IfSome result (λ y. set.contains (slice_index_or contexts.now pair.now.value set.empty) y ≡ true) }
+    ensures left { IfSome result (λ y. set.contains (slice_index_or contexts.now option set.empty) y ≡ true) }
+    ensures none { IfNone result (set.contains pair.now.options option ≡ true → (y : ℕ) → y < order → set.contains (slice_index_or contexts.now pair.now.value set.empty) y ≡ true → set.contains (slice_index_or contexts.now option set.empty) y ≡ false) }
+{
+    if !pair.options.contains(option as u8) {
+        return None;
+    }
+    common(
+        &contexts[pair.value as usize],
+        &contexts[option as usize],
+        order,
+    )
+}
+
+/// The certificate, put together again.
+fn accepted<A: Allocator>(sheet: Sheet<A>) -> Certified<A>
+    requires { Accepted sheet }
+    ensures { result ≡ sheet }
+{
+    let Sheet {
+        code,
+        table,
+        phi,
+        lines,
+    } = sheet;
+    let Lines {
+        portion,
+        inside: _,
+        words,
+        apart,
+    } = lines;
+    Certified::new(Cert::from_parts(Parts {
+        code,
+        order: table.order(),
+        phi,
+        portion,
+        words,
+        rows: table.into_rows(),
+        apart,
+    }))
+}
+
+impl<A: Allocator + Copy> Elements<A> {
+    /// Nothing was looked at.
+    pub fn new(alloc: A, sheet: Sheet<A>, pairs: Vec<Pair, A>) -> Result<Elements<A>, Memory>
+        requires canonical { Canonical sheet }
+        requires pairs { HavePairs sheet pairs.items }
+        requires covered { IsCovered sheet }
+        ensures { IfOk result (λ s. s ≡ sheet) }
+    {
+        let contexts = contexts(alloc, &sheet)?;
+        let _order = sheet.order();
+        Ok(Elements {
+            sheet,
+            pairs,
+            contexts,
+            heap: 0,
+            option: 0,
+        })
+    }
+
+    /// Spends units until there are none or the stage ends.
+    pub fn work(self, alloc: A, left: &mut u64) -> Stage<A>
+        ensures { (limit : ℕ) → Carries self limit result }
+    {
+        let Elements {
+            sheet,
+            pairs,
+            contexts,
+            mut heap,
+            mut option,
+        } = self;
+        let order = sheet.order();
+        'heaps: while heap < pairs.len() {
+            if *left == 0 {
+                return Stage::Elements(Elements {
+                    sheet,
+                    pairs,
+                    contexts,
+                    heap,
+                    option,
+                });
+            }
+            *left -= 1;
+            if let Some(y) = breach(&pairs[heap], &contexts, option, order) {
+                return match beside(alloc, &sheet, heap as u64 + 1, y) {
+                    Ok(position) => failed(sheet, position),
+                    Err(_) => Stage::Ended(Err(Refusal::Memory)),
+                };
+            }
+            option += 1;
+            if option == order {
+                option = 0;
+                heap += 1;
+            }
+        }
+        tested_certificates_are_accepted();
+        Stage::Ended(Ok(accepted(sheet)))
+    }
+}

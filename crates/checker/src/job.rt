@@ -1,0 +1,120 @@
+//! Checks in pieces.
+ghost use Rattle.std.specs.Prelude.{◌≡◌, None};
+
+use crate::certified::Certified;
+use crate::refusal::Refusal;
+use crate::stage::Stage;
+use std::alloc::{Allocator, Global};
+use std::marker::Model;
+
+/// How far a job has come: it goes on, or its answer.
+#[derive(Drop)]
+pub enum Progress<'a, A: Allocator = Global> {
+    Going,
+    Yes(&'a Certified<A>),
+    No(&'a Refusal<A>),
+}
+
+/// A check in pieces, a unit a turn.
+#[derive(Drop)]
+pub struct Job<A: Allocator = Global> {
+    alloc: A,
+    bytes: Vec<u8, A>,
+    limit: u32,
+    spent: u64,
+    stage: Stage<A>,
+}
+
+impl<A: Allocator> Model for Job<A> {
+    ghost use Rattle.checker.specs.JobViews.{JobView};
+
+    ghost Value = { JobView };
+
+    ghost use Rattle.checker.specs.Stages.{Stands, ending};
+
+    ghost view = { λ j. record { bytes = j.bytes.items; limit = j.limit; spent = j.spent; ended = ending j.stage } };
+
+    ghost invariant = { λ j. Stands j.bytes.items j.limit j.stage };
+}
+
+impl<A: Allocator + Copy> Job<A> {
+    /// A job that has spent nothing. It takes no memory.
+    pub fn open(alloc: A, bytes: Vec<u8, A>, limit: u32) -> Job<A>
+        ensures { result ≡ record { bytes = bytes.items; limit = limit; spent = 0; ended = None } }
+    {
+        Job {
+            alloc,
+            bytes,
+            limit,
+            spent: 0,
+            stage: Stage::Reading,
+        }
+    }
+}
+
+impl<A: Allocator> Job<A> {
+    ghost use Rattle.checker.specs.Jobs.{Shows};
+    ghost use Rattle.checker.specs.JobViews.{IsTruthful};
+
+    /// The bytes that it was opened with.
+    pub fn bytes(&self) -> &[u8]
+        ensures { result.now ≡ self.now.bytes }
+    {
+        &self.bytes
+    }
+
+    /// The limit that it was opened with.
+    pub fn limit(&self) -> u32
+        ensures { result ≡ self.now.limit }
+    {
+        self.limit
+    }
+
+    /// The units spent so far.
+    pub fn spent(&self) -> u64
+        ensures { result ≡ self.now.spent }
+    {
+        self.spent
+    }
+
+    /// Where it stands.
+    pub fn progress(&self) -> Progress<'_, A>
+        ensures shown { Shows self.now result }
+        ensures truthful { IsTruthful self.now }
+    {
+        match &self.stage {
+            Stage::Ended(Ok(certified)) => Progress::Yes(certified),
+            Stage::Ended(Err(refusal)) => Progress::No(refusal),
+            _ => Progress::Going,
+        }
+    }
+}
+
+impl<A: Allocator + Copy> Job<A> {
+    ghost use Rattle.checker.specs.Jobs.{IsTrueShow};
+    ghost use Rattle.checker.specs.JobViews.{HasAdvanced};
+
+    /// Spends units until there are none or the job ends.
+    fn advance(&mut self, units: u64)
+        ensures { HasAdvanced self.old self.new }
+    {
+        let mut left = units;
+        for _turn in 0..10u8 {
+            if left == 0 || self.stage.has_ended() {
+                return;
+            }
+            let before = left;
+            let stage = std::mem::replace(&mut self.stage, Stage::Reading);
+            self.stage = stage.work(self.alloc, &self.bytes, self.limit, &mut left);
+            self.spent = self.spent.saturating_add(before.saturating_sub(left));
+        }
+    }
+
+    /// Spends units until there are none or the job ends, and shows where it stands then. An ended job stays as it is.
+    pub fn work(&mut self, units: u64) -> Progress<'_, A>
+        ensures { IsTrueShow self.old result }
+    {
+        self.advance(units);
+        self.progress()
+    }
+}

@@ -1,0 +1,107 @@
+ghost use Rattle.std.specs.Prelude.{◌≡◌, ◌<◌, ◌-◌, ◌↔◌, ◌⊎◌, ℕ, IsTrue};
+ghost use Rattle.misere_theory.specs.Numbering.{KeyBelow};
+ghost use Rattle.misere_theory.specs.Certificates.{key_of};
+ghost use Rattle.misere_theory.specs.Faults.{WordFault};
+ghost use Rattle.checker.specs.Progress.{IsKeyOf};
+ghost use Rattle.checker.specs.Stages.{Carries};
+
+use crate::products::Products;
+use crate::refusal::Refusal;
+use crate::sheet::Sheet;
+use crate::stage::Stage;
+use certificate::Key;
+use std::alloc::{Allocator, Global};
+use std::marker::Model;
+
+/// The keys are looked at, one a turn: each names a smaller element and a heap whose product it is, and they rise.
+#[derive(Drop)]
+pub struct Keys<A: Allocator = Global> {
+    sheet: Sheet<A>,
+    /// The next element whose key is looked at.
+    next: u16,
+    /// Whether those looked at rise.
+    rising: bool,
+}
+
+impl<A: Allocator> Model for Keys<A> {
+    ghost use Rattle.misere_theory.specs.Certificates.{Certificate};
+    ghost use Rattle.checker.specs.Progress.{KeysSoFar};
+
+    ghost Value = { Certificate };
+
+    ghost view = { λ s. s.sheet };
+
+    ghost invariant = { λ s. KeysSoFar s.sheet s.next s.rising };
+}
+
+/// Whether the key of an element is one.
+fn is_keyed<A: Allocator>(sheet: &Sheet<A>, e: u16) -> bool
+    requires some { 0 < e }
+    requires below { e < sheet.now.order }
+    ensures keyed { IsTrue result → IsKeyOf sheet.now e }
+    ensures fault { IsTrue result ⊎ WordFault sheet.now }
+{
+    let key = sheet.key(e);
+    key.element < e && sheet.times(key.element, sheet.phi(key.heap as u64)) == e
+}
+
+/// Whether the key of an element is above that of the element before, if that has one.
+fn is_above_last<A: Allocator>(sheet: &Sheet<A>, e: u16) -> bool
+    requires some { 0 < e }
+    requires below { e < sheet.now.order }
+    ensures { IsTrue result ↔ (1 < e → KeyBelow (key_of sheet.now (e - 1)) (key_of sheet.now e)) }
+{
+    e == 1 || is_below(sheet.key(e - 1), sheet.key(e))
+}
+
+/// Keys go by the element first.
+pub fn is_below(a: Key, b: Key) -> bool
+    ensures { IsTrue result ↔ KeyBelow a b }
+{
+    a.element < b.element || (a.element == b.element && a.heap < b.heap)
+}
+
+impl<A: Allocator + Copy> Keys<A> {
+    /// No key was looked at.
+    pub fn new(sheet: Sheet<A>) -> Keys<A>
+        ensures { result ≡ sheet }
+    {
+        let _order = sheet.order();
+        Keys {
+            sheet,
+            next: 1,
+            rising: true,
+        }
+    }
+
+    /// Spends units until there are none or the stage ends.
+    pub fn work(self, left: &mut u64) -> Stage<A>
+        ensures { (limit : ℕ) → Carries self limit result }
+    {
+        let Keys {
+            sheet,
+            mut next,
+            mut rising,
+        } = self;
+        let order = sheet.order();
+        'keys: while next < order {
+            if *left == 0 {
+                return Stage::Keys(Keys {
+                    sheet,
+                    next,
+                    rising,
+                });
+            }
+            *left -= 1;
+            if !is_keyed(&sheet, next) {
+                return Stage::Ended(Err(Refusal::Word));
+            }
+            rising &= is_above_last(&sheet, next);
+            next += 1;
+        }
+        if !rising {
+            return Stage::Ended(Err(Refusal::Order));
+        }
+        Stage::Products(Products::new(sheet))
+    }
+}

@@ -1,0 +1,32 @@
+//! The check of certificates: which bytes are an accepted certificate, and why others are not.
+//!
+//! `check` answers at once, and a `Job` in pieces. A check is a row of stages, one file each: `reading`, `laws`, `keys`, `products`,
+//! `periods`, `separating`, `heaps`, `closing`, `elements`. A unit is one turn of one stage.
+#![tactic(auto)]
+
+mod certified;
+mod checking;
+mod closing;
+mod elements;
+mod heaps;
+mod job;
+mod keys;
+mod laws;
+mod lines;
+mod periods;
+mod products;
+mod reading;
+mod refusal;
+mod rule;
+mod separating;
+mod sheet;
+mod spelling;
+mod stage;
+
+pub use certified::Certified;
+pub use checking::check;
+pub use job::{Job, Progress};
+pub use refusal::Refusal;
+
+#[cfg(test)]
+mod tests;

@@ -1,0 +1,99 @@
+ghost use Rattle.std.specs.Prelude.{◌≡◌, ◌<◌, ◌+◌, ◌≤◌, ◌↔◌, ℕ, IsTrue};
+ghost use Rattle.misere_theory.specs.Certificates.{phi_at};
+ghost use Rattle.checker.specs.Progress.{HasNoFaultBelow};
+ghost use Rattle.checker.specs.Stages.{Carries};
+
+use crate::refusal::Refusal;
+use crate::separating::Separating;
+use crate::sheet::Sheet;
+use crate::stage::Stage;
+use std::alloc::{Allocator, Global};
+use std::marker::Model;
+
+/// The entries are compared, two a turn: no smaller period serves, and the period doesn't serve from an earlier start.
+#[derive(Drop)]
+pub struct Periods<A: Allocator = Global> {
+    sheet: Sheet<A>,
+    /// The period that is tried
+    shift: u16,
+    /// serves for so many heaps from the start on.
+    count: u16,
+}
+
+impl<A: Allocator> Model for Periods<A> {
+    ghost use Rattle.misere_theory.specs.Certificates.{Certificate};
+    ghost use Rattle.checker.specs.Progress.{PeriodsSoFar};
+
+    ghost Value = { Certificate };
+
+    ghost view = { λ s. s.sheet };
+
+    ghost invariant = { λ s. PeriodsSoFar s.sheet s.shift s.count };
+}
+
+/// Whether the entry comes again after the shift.
+fn comes_again<A: Allocator>(sheet: &Sheet<A>, heap: u16, shift: u16) -> bool
+    ensures { IsTrue result ↔ ((1 ≤ heap) × (phi_at sheet.now (shift + heap) ≡ phi_at sheet.now heap)) }
+{
+    let n = heap as u64;
+    n > 0 && sheet.phi(shift as u64 + n) == sheet.phi(n)
+}
+
+impl<A: Allocator + Copy> Periods<A> {
+    /// Nothing was compared.
+    pub fn new(sheet: Sheet<A>) -> Periods<A>
+        requires { HasNoFaultBelow 5 sheet }
+        ensures { result ≡ sheet }
+    {
+        let _order = sheet.order();
+        Periods {
+            sheet,
+            shift: 1,
+            count: 0,
+        }
+    }
+
+    /// Spends units until there are none or the stage ends.
+    pub fn work(self, left: &mut u64) -> Stage<A>
+        ensures { (limit : ℕ) → Carries self limit result }
+    {
+        let Periods {
+            sheet,
+            mut shift,
+            mut count,
+        } = self;
+        let start = sheet.start();
+        let period = sheet.period();
+        'shifts: while shift < period {
+            if *left == 0 {
+                return Stage::Periods(Periods {
+                    sheet,
+                    shift,
+                    count,
+                });
+            }
+            *left -= 1;
+            if !comes_again(&sheet, start + count, shift) {
+                shift += 1;
+                count = 0;
+                continue;
+            }
+            count += 1;
+            if count == period {
+                return Stage::Ended(Err(Refusal::Period));
+            }
+        }
+        if *left == 0 {
+            return Stage::Periods(Periods {
+                sheet,
+                shift,
+                count,
+            });
+        }
+        *left -= 1;
+        if comes_again(&sheet, start - 1, period) {
+            return Stage::Ended(Err(Refusal::Period));
+        }
+        Stage::Separating(Separating::new(sheet))
+    }
+}

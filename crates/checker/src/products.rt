@@ -1,0 +1,94 @@
+ghost use Rattle.std.specs.Prelude.{◌≡◌, ◌<◌, ◌+◌, ◌≤◌, ◌⊎◌, ℕ, IsTrue};
+ghost use Rattle.misere_theory.specs.Faults.{OrderFault};
+ghost use Rattle.checker.specs.Progress.{IsInOrder, AreKeys};
+ghost use Rattle.checker.specs.Stages.{Carries};
+
+use crate::keys::is_below;
+use crate::periods::Periods;
+use crate::refusal::Refusal;
+use crate::sheet::Sheet;
+use crate::stage::Stage;
+use certificate::Key;
+use std::alloc::{Allocator, Global};
+use std::marker::Model;
+
+/// The products of elements and heaps are looked at, one a turn: none has a smaller key than its own.
+#[derive(Drop)]
+pub struct Products<A: Allocator = Global> {
+    sheet: Sheet<A>,
+    /// The next product is of this element
+    element: u16,
+    /// and this heap.
+    heap: u16,
+}
+
+impl<A: Allocator> Model for Products<A> {
+    ghost use Rattle.misere_theory.specs.Certificates.{Certificate};
+    ghost use Rattle.misere_theory.specs.Faults.{OrderFault};
+    ghost use Rattle.checker.specs.Progress.{ProductsSoFar};
+
+    ghost Value = { Certificate };
+
+    ghost view = { λ s. s.sheet };
+
+    ghost invariant = { λ s. ProductsSoFar s.sheet s.element s.heap };
+}
+
+/// Whether the product of an element and a heap has no smaller key than its own.
+fn is_in_order<A: Allocator>(sheet: &Sheet<A>, element: u16, heap: u16) -> bool
+    requires element { element < sheet.now.order }
+    requires from_one { 1 ≤ heap }
+    requires heap { heap < sheet.now.start + sheet.now.period }
+    ensures in_order { IsTrue result → IsInOrder sheet.now element heap }
+    ensures fault { IsTrue result ⊎ OrderFault sheet.now }
+{
+    let product = sheet.times(element, sheet.phi(heap as u64));
+    product == 0 || !is_below(Key { element, heap }, sheet.key(product))
+}
+
+impl<A: Allocator + Copy> Products<A> {
+    /// No product was looked at.
+    pub fn new(sheet: Sheet<A>) -> Products<A>
+        requires { AreKeys sheet }
+        ensures { result ≡ sheet }
+    {
+        let _order = sheet.order();
+        Products {
+            sheet,
+            element: 0,
+            heap: 1,
+        }
+    }
+
+    /// Spends units until there are none or the stage ends.
+    pub fn work(self, left: &mut u64) -> Stage<A>
+        ensures { (limit : ℕ) → Carries self limit result }
+    {
+        let Products {
+            sheet,
+            mut element,
+            mut heap,
+        } = self;
+        let order = sheet.order();
+        let heaps = sheet.start() + sheet.period();
+        'products: while element < order {
+            if *left == 0 {
+                return Stage::Products(Products {
+                    sheet,
+                    element,
+                    heap,
+                });
+            }
+            *left -= 1;
+            if !is_in_order(&sheet, element, heap) {
+                return Stage::Ended(Err(Refusal::Order));
+            }
+            heap += 1;
+            if heap == heaps {
+                heap = 1;
+                element += 1;
+            }
+        }
+        Stage::Periods(Periods::new(sheet))
+    }
+}

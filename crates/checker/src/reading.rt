@@ -1,0 +1,24 @@
+//! The stage that reads the bytes.
+ghost use Rattle.checker.specs.Stages.{Stands};
+
+use crate::laws::Laws;
+use crate::refusal::Refusal;
+use crate::stage::Stage;
+use certificate::{TextFault, read};
+use std::alloc::Allocator;
+
+/// Reads the whole text, if there is a unit.
+pub fn work<A: Allocator + Copy>(alloc: A, bytes: &[u8], limit: u32, left: &mut u64) -> Stage<A>
+    ensures { Stands bytes.now limit result }
+{
+    let _limit = limit;
+    if *left == 0 {
+        return Stage::Reading;
+    }
+    *left -= 1;
+    match read(alloc, bytes) {
+        Ok(cert) => Stage::Laws(Laws::new(cert)),
+        Err(TextFault::Text) => Stage::Ended(Err(Refusal::Text)),
+        Err(TextFault::Memory) => Stage::Ended(Err(Refusal::Memory)),
+    }
+}

@@ -1,0 +1,109 @@
+ghost use Rattle.std.specs.Prelude.{◌≡◌, ◌<◌, ◌+◌, ◌≤◌, ◌↔◌, ℕ, IsTrue};
+ghost use Rattle.misere_theory.specs.Certificates.{claim_of, TellsApart};
+ghost use Rattle.checker.specs.Progress.{HasNoFaultBelow};
+ghost use Rattle.checker.specs.Stages.{Carries};
+
+use crate::heaps::Heaps;
+use crate::refusal::Refusal;
+use crate::sheet::Sheet;
+use crate::stage::Stage;
+use std::alloc::{Allocator, Global};
+use std::marker::Model;
+
+/// The elements that tell two apart are tried, one a turn: the one given is the least.
+#[derive(Drop)]
+pub struct Separating<A: Allocator = Global> {
+    sheet: Sheet<A>,
+    /// The pair that is looked at has the elements x
+    x: u16,
+    /// and y,
+    y: u16,
+    /// and this number.
+    number: usize,
+    /// The element that is tried next.
+    z: u16,
+}
+
+impl<A: Allocator> Model for Separating<A> {
+    ghost use Rattle.misere_theory.specs.Certificates.{Certificate};
+    ghost use Rattle.checker.specs.Progress.{ApartSoFar};
+
+    ghost Value = { Certificate };
+
+    ghost view = { λ s. s.sheet };
+
+    ghost invariant = { λ s. ApartSoFar s.sheet s.x s.y s.z s.number };
+}
+
+/// Whether z takes exactly one of x and y into the portion.
+fn tells_apart<A: Allocator>(sheet: &Sheet<A>, x: u16, y: u16, z: u16) -> bool
+    requires x_in { x < sheet.now.order }
+    requires y_in { y < sheet.now.order }
+    requires z_in { z < sheet.now.order }
+    ensures { IsTrue result ↔ TellsApart (claim_of sheet.now) (x, y) z }
+{
+    sheet.holds(sheet.times(x, z)) != sheet.holds(sheet.times(y, z))
+}
+
+impl<A: Allocator + Copy> Separating<A> {
+    /// No pair was looked at.
+    pub fn new(sheet: Sheet<A>) -> Separating<A>
+        requires { HasNoFaultBelow 6 sheet }
+        ensures { result ≡ sheet }
+    {
+        let _order = sheet.order();
+        Separating {
+            sheet,
+            x: 0,
+            y: 1,
+            number: 0,
+            z: 0,
+        }
+    }
+
+    /// Spends units until there are none or the stage ends.
+    pub fn work(self, alloc: A, left: &mut u64) -> Stage<A>
+        ensures { (limit : ℕ) → Carries self limit result }
+    {
+        let Separating {
+            sheet,
+            mut x,
+            mut y,
+            mut number,
+            mut z,
+        } = self;
+        let order = sheet.order();
+        let pairs = sheet.pairs();
+        'pairs: while number < pairs {
+            if *left == 0 {
+                return Stage::Separating(Separating {
+                    sheet,
+                    x,
+                    y,
+                    number,
+                    z,
+                });
+            }
+            *left -= 1;
+            let given = sheet.apart(number);
+            if !tells_apart(&sheet, x, y, z) {
+                if z == given {
+                    return Stage::Ended(Err(Refusal::Apart));
+                }
+                z += 1;
+                continue;
+            }
+            if z < given {
+                return Stage::Ended(Err(Refusal::Apart));
+            }
+            z = 0;
+            number += 1;
+            y += 1;
+            if y == order {
+                x += 1;
+                y = x + 1;
+            }
+        }
+        Stage::Heaps(Heaps::new(alloc, sheet))
+    }
+}

@@ -1,0 +1,32 @@
+//! The position that an element's keys spell.
+ghost use Rattle.std.specs.Prelude.{◌≡◌, ◌<◌, IfOk};
+ghost use Rattle.misere_theory.specs.Certificates.{Canonical, claim_of};
+ghost use Rattle.misere_theory.specs.Games.{IsHeap, IsPosition};
+ghost use Rattle.misere_theory.specs.Quotients.{value};
+
+use crate::sheet::Sheet;
+use allocation::Memory;
+use positions::Position;
+use std::alloc::Allocator;
+
+/// A position whose value is the element: the heaps of its key, of that key's element, and so on.
+pub fn spelled<A: Allocator + Copy>(
+    alloc: A,
+    sheet: &Sheet<A>,
+    element: u16,
+) -> Result<Position<A>, Memory>
+    requires canonical { Canonical sheet.now }
+    requires element_in { element < sheet.now.order }
+    ensures position { IfOk result (IsPosition IsHeap) }
+    ensures value { IfOk result (λ X. value (claim_of sheet.now) X ≡ element) }
+{
+    let mut position = Position::new(alloc);
+    let _order = sheet.order();
+    let mut left = element;
+    while left > 0 {
+        let key = sheet.key(left);
+        position.push(key.heap as u64)?;
+        left = key.element;
+    }
+    Ok(position)
+}

@@ -1,0 +1,60 @@
+//! The stages of a check, in a row.
+ghost use Rattle.std.specs.Prelude.{◌≡◌};
+
+use crate::certified::Certified;
+use crate::closing::Closing;
+use crate::elements::Elements;
+use crate::heaps::Heaps;
+use crate::keys::Keys;
+use crate::laws::Laws;
+use crate::periods::Periods;
+use crate::products::Products;
+use crate::reading;
+use crate::refusal::Refusal;
+use crate::separating::Separating;
+use std::alloc::{Allocator, Global};
+
+/// A stage of a check, with what it holds.
+#[derive(Drop)]
+pub enum Stage<A: Allocator = Global> {
+    Reading,
+    Laws(Laws<A>),
+    Keys(Keys<A>),
+    Products(Products<A>),
+    Periods(Periods<A>),
+    Separating(Separating<A>),
+    Heaps(Heaps<A>),
+    Closing(Closing<A>),
+    Elements(Elements<A>),
+    Ended(Result<Certified<A>, Refusal<A>>),
+}
+
+impl<A: Allocator + Copy> Stage<A> {
+    ghost use Rattle.checker.specs.Stages.{Stands, has_ended};
+
+    /// Whether the answer stands.
+    pub fn has_ended(&self) -> bool
+        ensures { result ≡ has_ended self.now }
+    {
+        matches!(self, Stage::Ended(_))
+    }
+
+    /// Spends units until there are none or the stage ends.
+    pub fn work(self, alloc: A, bytes: &[u8], limit: u32, left: &mut u64) -> Stage<A>
+        requires { Stands bytes.now limit self }
+        ensures { Stands bytes.now limit result }
+    {
+        match self {
+            Stage::Reading => reading::work(alloc, bytes, limit, left),
+            Stage::Laws(laws) => laws.work(left),
+            Stage::Keys(keys) => keys.work(left),
+            Stage::Products(products) => products.work(left),
+            Stage::Periods(periods) => periods.work(left),
+            Stage::Separating(separating) => separating.work(alloc, left),
+            Stage::Heaps(heaps) => heaps.work(alloc, limit, left),
+            Stage::Closing(closing) => closing.work(alloc, left),
+            Stage::Elements(elements) => elements.work(alloc, left),
+            Stage::Ended(answer) => Stage::Ended(answer),
+        }
+    }
+}
