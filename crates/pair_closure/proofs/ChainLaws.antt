@@ -6,7 +6,7 @@ use Rattle.std.proofs.lemmas.List.{get_or_append_left, get_or_push, get_or_past,
 use Rattle.transition_algebra.specs.declared.pair.Pair.{Pair}
 use Rattle.pair_closure.specs.declared.members.Member.{Member}
 use Rattle.pair_closure.specs.Chains.{AreChained, blank, last_with}
-use Rattle.pair_closure.specs.Covering.{covers}
+use Rattle.transition_algebra.specs.Pairs.{covers}
 use Rattle.pair_closure.proofs.PairLaws.{covering}
 use Rattle.pair_closure.proofs.Lists.{In-at, place_of, any_from, find_any, either, not_both, by_cond}
 

@@ -4,9 +4,8 @@ use Rattle.std.specs.List.{list_any}
 use Rattle.std.proofs.lemmas.List.Sums.{passes_at_first, fails_before_first}
 use Rattle.monoid_table.specs.Tables.{IsTableGrid}
 use Rattle.transition_algebra.specs.declared.pair.Pair.{Pair}
-use Rattle.transition_algebra.specs.Pairs.{IsPair, one, times}
+use Rattle.transition_algebra.specs.Pairs.{IsPair, one, times, covers}
 use Rattle.transition_algebra.specs.PairLaws.{pair_laws}
-use Rattle.pair_closure.specs.Covering.{covers}
 use Rattle.pair_closure.specs.declared.members.Member.{Member}
 use Rattle.pair_closure.specs.declared.settle.Held.{Held}
 use Rattle.pair_closure.specs.declared.settle.Generator.{Generator}

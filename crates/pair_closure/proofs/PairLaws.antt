@@ -8,9 +8,8 @@ use Rattle.std.specs.FinSet.{is_subset-contains, contains-is_subset, contains-it
 use Rattle.monoid_table.specs.Grids.{Grid, times_in}
 use Rattle.monoid_table.specs.Tables.{IsTableGrid}
 use Rattle.transition_algebra.specs.declared.pair.Pair.{Pair}
-use Rattle.transition_algebra.specs.Pairs.{IsPair, times}
+use Rattle.transition_algebra.specs.Pairs.{IsPair, times, is_empty, covers}
 use Rattle.transition_algebra.specs.PairLaws.{has, empty_has, times_has, has_left, has_right}
-use Rattle.pair_closure.specs.Covering.{is_empty, covers}
 use Rattle.pair_closure.proofs.CoverLaws.{CoverLaws}
 use Rattle.pair_closure.proofs.Lists.{or_true, true_or, not_both, either}
 

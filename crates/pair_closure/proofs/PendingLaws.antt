@@ -5,7 +5,7 @@ use Rattle.std.proofs.lemmas.List.Sums.{position_or_len_is}
 use Rattle.std.proofs.lemmas.List.{get_or_append_left, get_or-set_other, length-set}
 use Rattle.pair_closure.specs.declared.settle.Held.{Held}
 use Rattle.transition_algebra.specs.declared.pair.Pair.{Pair}
-use Rattle.pair_closure.specs.Covering.{covers}
+use Rattle.transition_algebra.specs.Pairs.{covers}
 use Rattle.pair_closure.specs.Progress.{blank_held, first_pending, held_with, NoneBefore}
 
 pub pending_here : (held : List Held) (n at : ℕ) → NoneBefore held n at → at < length held → (get_or held at blank_held).by < n → at ≡ first_pending held n

@@ -8,9 +8,8 @@ use Rattle.misere_theory.specs.Pairs as theory
 use Rattle.misere_theory.proofs.Sums.{heaps_kept, move_kept}
 use Rattle.misere_theory.proofs.Shuffles.{Shuffled, back, from_permutation, move_shuffled, position_shuffled, value_shuffled}
 use Rattle.positions.specs.Positions.{IsSize}
-use Rattle.transition_algebra.specs.Pairs.{IsPair, one, times}
+use Rattle.transition_algebra.specs.Pairs.{IsPair, one, times, covers}
 use Rattle.transition_algebra.specs.PairLaws.{pair_laws}
-use Rattle.pair_closure.specs.Covering.{covers}
 use Rattle.pair_closure.specs.Chains.{blank}
 use Rattle.pair_closure.specs.declared.members.Member.{Member}
 use Rattle.pair_closure.specs.declared.settle.Held.{Held}

@@ -1,4 +1,3 @@
-pub mod Covering
 pub mod Chains
 pub mod Turns
 pub mod Progress

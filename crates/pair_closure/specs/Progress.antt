@@ -4,8 +4,7 @@ use Rattle.std.specs.List.{list_any, position_or_len}
 use Rattle.monoid_table.specs.Grids.{Grid}
 use Rattle.monoid_table.specs.Tables.{IsTableGrid}
 use Rattle.transition_algebra.specs.declared.pair.Pair.{Pair}
-use Rattle.transition_algebra.specs.Pairs.{IsPair, one, times}
-use Rattle.pair_closure.specs.Covering.{covers}
+use Rattle.transition_algebra.specs.Pairs.{IsPair, one, times, covers}
 use Rattle.pair_closure.specs.declared.members.Member.{Member}
 use Rattle.pair_closure.specs.declared.settle.Held.{Held}
 use Rattle.pair_closure.specs.declared.settle.Generator.{Generator}

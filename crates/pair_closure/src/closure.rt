@@ -1,10 +1,7 @@
 //! The closure: members ever kept, those held, and one product a turn.
-ghost use Rattle.std.specs.Prelude.{◌≡◌, ◌↔◌, ◌<◌, ◌≤◌, ◌+◌, ◌*◌, ◌^◌, true, false, ℕ, List, length, All, filter, not, cond, Ok, IfOk, OnOk, OnErr, IsErr, slice_index_or, slice_set, vec_len};
-ghost use Rattle.std.specs.Vec.{vec_capacity};
-ghost use Rattle.std.specs.List.{list_any};
+ghost use Rattle.std.specs.Prelude.{◌≡◌, ◌↔◌, ◌<◌, ◌≤◌, ◌+◌, ◌*◌, ◌^◌, true, false, ℕ, length, All, Ok, IfOk, OnOk, OnErr, IsErr, slice_index_or};
 ghost use Rattle.transition_algebra.specs.Pairs.{IsPair, one};
-ghost use Rattle.pair_closure.specs.Covering as covering;
-ghost use Rattle.pair_closure.specs.Progress.{Progress, SameData, begun, moved, step, steps, stopped, is_done, is_over, has_ended, members_with, held_with, generators_with, covered, blank_held, first_pending, NoneBefore, KeepsEmpty, Multiplies, TriesHeap};
+ghost use Rattle.pair_closure.specs.Progress.{Progress, SameData, begun, moved, step, steps, stopped, is_done, is_over, has_ended, blank_held, NoneBefore, KeepsEmpty, Multiplies, TriesHeap};
 ghost use Rattle.pair_closure.specs.Positions.{IsWordOf, Speaks, IsMinimal, IsClosedOver, IsExceeded};
 
 use crate::members::{Member, Members};

@@ -1,6 +1,6 @@
 //! When a pair covers another.
 ghost use Rattle.std.specs.Prelude.{◌≡◌};
-ghost use Rattle.pair_closure.specs.Covering as covering;
+ghost use Rattle.transition_algebra.specs.Pairs as covering;
 
 use transition_algebra::Pair;
 

@@ -1,5 +1,5 @@
 //! What holds of turns, however many.
-ghost use Rattle.std.specs.Prelude.{◌≡◌, ◌<◌, ◌+◌, ◌*◌, ◌⊎◌, true, ℕ, List, All, length};
+ghost use Rattle.std.specs.Prelude.{◌≡◌, ◌+◌, ◌*◌, true, ℕ, List, All, length};
 ghost use Rattle.monoid_table.specs.Grids.{Grid};
 ghost use Rattle.monoid_table.specs.Tables.{IsTableGrid};
 ghost use Rattle.transition_algebra.specs.declared.pair.Pair as the_pair;

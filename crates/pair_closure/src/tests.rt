@@ -1,6 +1,5 @@
 //! The closure of the game 0.3, whole and with growths refused.
-ghost use Rattle.std.specs.Prelude.{◌≡◌, ◌<◌, All, IfSome, length};
-ghost use Rattle.transition_algebra.specs.Pairs.{IsPair};
+ghost use Rattle.std.specs.Prelude.{◌<◌};
 
 use crate::{Closure, Grown};
 use allocation::Memory;

@@ -1,6 +1,6 @@
 use Rattle.std.proofs.Common.{◌≡◌, sym, ◌∙◌, subst, arith, rules, length, false}
 use Rattle.std.specs.List.{list_any}
-use Rattle.pair_closure.specs.Covering.{covers}
+use Rattle.transition_algebra.specs.Pairs.{covers}
 use Rattle.pair_closure.specs.Chains.{last_with}
 use Rattle.pair_closure.proofs.ChainLaws.{walk_from, walk_on, walk_falls, walk_ends, read_member, read_older, covering_of}
 use Rattle.pair_closure.specs.declared.members.Member.{Member}

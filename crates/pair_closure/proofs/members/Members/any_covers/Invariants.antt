@@ -1,4 +1,4 @@
-use Rattle.pair_closure.specs.Covering.{covers}
+use Rattle.transition_algebra.specs.Pairs.{covers}
 use Rattle.pair_closure.proofs.ChainLaws.{IsAt}
 use Rattle.pair_closure.proofs.members.Members.any_covers.Given as goal
 
