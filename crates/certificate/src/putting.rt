@@ -107,7 +107,8 @@ fn put_code<W: Sink>(sink: &mut W, code: &Code) -> Result<(), DeviceFault>
     ensures puts { Puts (W.taken sink.old) (W.taken sink.new) result (code_text code.now) }
     ensures cause { Counts (W.failures sink.old) (W.failures sink.new) result }
 {
-    let _last = code.last();
+    // a code has a first digit
+    let _ = code.last();
     write_whole(sink, &[b'0' + code.digit(0), b'.'])?;
     put_digits(sink, code)
 }

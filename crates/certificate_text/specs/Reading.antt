@@ -1,4 +1,5 @@
--- Reading from left to right: a value and the bytes behind it, or nothing.
+-- Reading from left to right: a value and the bytes behind it, or nothing. It says what a reader does; that this is the
+-- spelling is the law `reading_is_spelling`. This project's own.
 use Rattle.std.specs.Prelude.{ℕ, zero, suc, ◌+◌, ◌-◌, ◌*◌, ◌/◌, List, [], ◌∷◌, ◌++◌, length, take, drop, slice_index, Option, Some, None, Bool, nat_lt, nat_le, ◌&&◌, ◌==◌, if◌then◌else◌, codes}
 use Rattle.misere_theory.specs.Certificates.{Certificate}
 
@@ -23,12 +24,18 @@ is_digit b = nat_le 48 b && nat_le b 57
 -- the further digits of a number
 unfoldable pub more_at : ℕ → ℕ → List ℕ → Option (ℕ × List ℕ)
 more_at limit n [] = Some (n, [])
-more_at limit n (b ∷ bytes) = if is_digit b then (if nat_lt (10 * n + (b - 48)) limit then more_at limit (10 * n + (b - 48)) bytes else None) else Some (n, b ∷ bytes)
+more_at limit n (b ∷ bytes) =
+    if is_digit b
+    then (if nat_lt (10 * n + (b - 48)) limit then more_at limit (10 * n + (b - 48)) bytes else None)
+    else Some (n, b ∷ bytes)
 
 -- a number below limit
 unfoldable pub number_at : ℕ → List ℕ → Option (ℕ × List ℕ)
 number_at limit [] = None
-number_at limit (b ∷ bytes) = if b == 48 then Some (0, bytes) else if is_digit b then (if nat_lt (b - 48) limit then more_at limit (b - 48) bytes else None) else None
+number_at limit (b ∷ bytes) =
+    if b == 48 then Some (0, bytes)
+    else if is_digit b then (if nat_lt (b - 48) limit then more_at limit (b - 48) bytes else None)
+    else None
 
 -- f:h, both below their limits, and h at least 1
 unfoldable pub key_at : ℕ → ℕ → List ℕ → Option ((ℕ × ℕ) × List ℕ)
@@ -72,7 +79,10 @@ otherwise (Some x) y f = f x
 -- at most room numbers that rise from least up to below limit, for as long as spaces stand
 unfoldable pub rising_at : ℕ → ℕ → ℕ → List ℕ → Option (List ℕ × List ℕ)
 rising_at limit zero least bytes = Some ([], bytes)
-rising_at limit (suc room) least bytes = otherwise (fixed_at (32 ∷ []) bytes) (Some ([], bytes)) (λ space. number_at limit space >>= λ x. if nat_lt x.0 least then None else with_front (x.0 ∷ []) (rising_at limit room (x.0 + 1) x.1))
+rising_at limit (suc room) least bytes =
+    otherwise (fixed_at (32 ∷ []) bytes) (Some ([], bytes)) (λ space. number_at limit space >>= λ x.
+    if nat_lt x.0 least then None
+    else with_front (x.0 ∷ []) (rising_at limit room (x.0 + 1) x.1))
 
 -- the portion's line
 unfoldable pub portion_at : ℕ → List ℕ → Option (List ℕ × List ℕ)
@@ -143,4 +153,17 @@ certificate_at bytes = do
   rows ← rows_at front.0.1 front.0.1 words.1
   apart ← line_at (codes "apart") (number_at front.0.1) (front.0.1 * (front.0.1 - 1) / 2) rows.1
   ended ← fixed_at (codes "end\n") apart.1
-  Some (record { code = front.0.0; order = front.0.1; start = front.0.2; period = front.0.3; phi = phi.0; portion = portion.0; words = words.0; rows = rows_of front.0.1 front.0.1 rows.0; apart = apart.0 }, ended)
+  Some (
+    record {
+      code = front.0.0;
+      order = front.0.1;
+      start = front.0.2;
+      period = front.0.3;
+      phi = phi.0;
+      portion = portion.0;
+      words = words.0;
+      rows = rows_of front.0.1 front.0.1 rows.0;
+      apart = apart.0;
+    },
+    ended,
+  )

@@ -1,4 +1,5 @@
--- The one text of each certificate.
+-- The one text of each certificate, `mqc 1`: these lines in this order, each ended by one LF, with single spaces, nothing before
+-- and nothing behind. The ranges of the numbers are the theory's `InRanges`. The format is this project's own.
 use Rattle.std.specs.Prelude.{◌≡◌, ℕ, List, [], ◌∷◌, ◌++◌, map, codes}
 use Rattle.std.specs.Fmt.{decimal}
 use Rattle.misere_theory.specs.Certificates.{Certificate, InRanges}
