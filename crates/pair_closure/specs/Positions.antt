@@ -37,22 +37,25 @@ word s place = turning.word_of one (times s.table) covers s.members place place
 -- What a state says of the positions of a code under a claim.
 pub record Says (code : List ℕ) (c : Claim) (s : State) : Type 0 where
   -- each member ever kept is exactly the pair of its word
-  pub words : (i : ℕ) → i < length s.members → theory.IsPairOf code c (as_pair (slice_index_or s.members i blank).pair) (word s i)
+  pub words : (i : ℕ) → i < length s.members
+      → theory.IsPairOf code c (as_pair (slice_index_or s.members i blank).pair) (word s i)
   -- the words are positions of the heaps given
   pub positions : (i : ℕ) → i < length s.members → IsPosition (IsHeapUpTo (length s.heaps)) (word s i)
   -- members held are among those ever kept
-  pub held : (m : Held) → Contains s.held m → (m.place < length s.members) × ((slice_index_or s.members m.place blank).pair ≡ m.pair)
+  pub held : (m : Held) → Contains s.held m
+      → (m.place < length s.members) × ((slice_index_or s.members m.place blank).pair ≡ m.pair)
   -- once it is done, the pairs held are closed under products with the heaps
   pub done : is_done s ≡ true → theory.IsClosed code c (IsHeapUpTo (length s.heaps)) (kept s)
   -- once it is over, there are more different pairs of positions than the limit
   pub over : is_over s ≡ true → ReachesMoreThan IsHeap code c s.limit
 
--- The heaps are those of the word of a member held, in any order, and their position has exactly the member's pair, whatever claim the
--- table and the pairs are those of.
+-- The heaps are those of the word of a member held, in any order, and their position has exactly the member's pair,
+-- whatever claim the table and the pairs are those of.
 pub record IsWordOf (s : State) (m : Held) (heaps : List ℕ) : Type 0 where
   pub same : IsPermutation (word s m.place) heaps
   pub within : IsPosition (IsHeapUpTo (length s.heaps)) heaps
-  pub exact : (code : List ℕ) (c : Claim) → IsClaimOver code c s.table s.heaps → theory.IsPairOf code c (as_pair m.pair) heaps
+  pub exact : (code : List ℕ) (c : Claim) → IsClaimOver code c s.table s.heaps
+      → theory.IsPairOf code c (as_pair m.pair) heaps
 
 -- Whatever claim the table and the pairs are those of.
 abbrev pub Speaks : State → Type 0
@@ -60,11 +63,14 @@ Speaks s = (code : List ℕ) (c : Claim) → IsClaimOver code c s.table s.heaps 
 
 -- The pairs held are closed under products with the heaps, whatever claim the table and the pairs are those of.
 abbrev pub IsClosedOver : State → Type 0
-IsClosedOver s = (code : List ℕ) (c : Claim) → IsClaimOver code c s.table s.heaps → theory.IsClosed code c (IsHeapUpTo (length s.heaps)) (kept s)
+IsClosedOver s =
+    (code : List ℕ) (c : Claim) → IsClaimOver code c s.table s.heaps
+    → theory.IsClosed code c (IsHeapUpTo (length s.heaps)) (kept s)
 
 -- Positions have more different pairs than the limit, whatever claim the table and the pairs are those of.
 abbrev pub IsExceeded : State → Type 0
-IsExceeded s = (code : List ℕ) (c : Claim) → IsClaimOver code c s.table s.heaps → ReachesMoreThan IsHeap code c s.limit
+IsExceeded s =
+    (code : List ℕ) (c : Claim) → IsClaimOver code c s.table s.heaps → ReachesMoreThan IsHeap code c s.limit
 
 -- What a state is in itself: the members ever kept all differ, and no member held covers another.
 pub record IsMinimal (s : State) : Type 0 where

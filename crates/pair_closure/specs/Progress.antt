@@ -17,6 +17,22 @@ pub record Progress : Type 0 where
   pub spent : ℕ
   pub failed : Bool
 
+-- the parts of a closure as its progress
+abbrev pub progress_of : Grid → List Pair → ℕ → List Member → List Held → List Generator → ℕ → ℕ → Bool → Progress
+progress_of table heaps limit members held generators next spent failed = record {
+  state = record {
+    table = table;
+    heaps = heaps;
+    limit = limit;
+    members = members;
+    held = held;
+    generators = generators;
+    next = next;
+  };
+  spent = spent;
+  failed = failed;
+}
+
 abbrev pub turn : State → State
 turn s = turning.turn one (times s.table) covers s
 
@@ -39,7 +55,7 @@ begun table heaps limit = record { state = turning.start table heaps limit; spen
 
 -- one turn later
 abbrev pub moved : Progress → Progress
-moved p = record { state = turn p.state; spent = p.spent + 1; failed = p.failed }
+moved p = record p { state = turn p.state; spent = p.spent + 1 }
 
 -- a turn, where one is left
 abbrev pub step : Progress → Progress
@@ -57,7 +73,7 @@ pub record SameData (s t : State) : Type 0 where
 
 -- a growth was refused, and nothing else changed
 abbrev pub stopped : Progress → Progress
-stopped p = record { state = p.state; spent = p.spent; failed = true }
+stopped p = record p { failed = true }
 
 -- The state is the one that so many turns reach from its table, heaps and limit, each of which was there to take.
 pub record IsRun (p : Progress) : Type 0 where
@@ -65,8 +81,12 @@ pub record IsRun (p : Progress) : Type 0 where
   pub heaps_in : (k : ℕ) → k < length p.state.heaps → IsPair p.state.table.order (slice_index_or p.state.heaps k one)
   pub few : length p.state.heaps < 2 ^ 32
   pub small : p.state.limit < 2 ^ 32
-  pub reached : p.state ≡ turning.turns one (times p.state.table) covers p.spent (turning.start p.state.table p.state.heaps p.state.limit)
-  pub going : (n : ℕ) → n < p.spent → has_ended (turning.turns one (times p.state.table) covers n (turning.start p.state.table p.state.heaps p.state.limit)) ≡ false
+  pub reached :
+      p.state
+      ≡ turning.turns one (times p.state.table) covers p.spent (turning.start p.state.table p.state.heaps p.state.limit)
+  pub going : (n : ℕ) → n < p.spent
+      → has_ended (turning.turns one (times p.state.table) covers n (turning.start p.state.table p.state.heaps p.state.limit))
+      ≡ false
 
 -- whether a member held covers x
 abbrev pub covered : List Held → Pair → Bool
@@ -84,7 +104,8 @@ covers_any x members = list_any (λ m. covers x m.pair) members
 abbrev pub covers_held : Pair → List Held → Bool
 covers_held x held = list_any (λ m. covers x m.pair) held
 
--- What the members ever kept tell of those held: whether one covers x; and where x covers none of them, it covers none that is held.
+-- What the members ever kept tell of those held: whether one covers x; and where x covers none of them, it covers none
+-- that is held.
 pub record Tell (members : List Member) (held : List Held) (x : Pair) : Type 0 where
   pub covers : any_covers members x ≡ covered held x
   pub covered : covers_any x members ≡ false → covers_held x held ≡ false
@@ -120,7 +141,8 @@ first_pending held generators = position_or_len (λ m. nat_lt m.by generators) h
 
 -- before this place each member held was multiplied by all generators
 abbrev pub NoneBefore : List Held → ℕ → ℕ → Type 0
-NoneBefore held generators from = (k : ℕ) → k < from → k < length held → generators ≤ (slice_index_or held k blank_held).by
+NoneBefore held generators from =
+    (k : ℕ) → k < from → k < length held → generators ≤ (slice_index_or held k blank_held).by
 
 -- The next turn keeps the pair of the empty position.
 pub record KeepsEmpty (s : State) : Type 0 where

@@ -37,14 +37,9 @@ module _ (one : Pair) (times : Pair → Pair → Pair) (covers : Pair → Pair �
 
   -- x becomes a member, and members that it covers are given up
   abbrev pub keep : State → Pair → ℕ → ℕ → ℕ → State
-  keep s x parent heap by = record {
-    table = s.table;
-    heaps = s.heaps;
-    limit = s.limit;
+  keep s x parent heap by = record s {
     members = s.members ++ record { pair = x; parent = parent; heap = heap } ∷ [];
     held = filter (λ m. not (covers x m.pair)) s.held ++ record { pair = x; place = length s.members; by = by } ∷ [];
-    generators = s.generators;
-    next = s.next;
   }
 
   -- the first member that some generator hasn't multiplied
@@ -60,7 +55,7 @@ module _ (one : Pair) (times : Pair → Pair → Pair) (covers : Pair → Pair �
       let m = slice_index_or s.held i no_held in
       let g = slice_index_or s.generators m.by no_generator in
       let x = times m.pair g.pair in
-      let t : State = record { table = s.table; heaps = s.heaps; limit = s.limit; members = s.members; held = slice_set s.held i (multiplied m); generators = s.generators; next = s.next } in
+      let t : State = record s { held = slice_set s.held i (multiplied m) } in
       cond (covered s.held x) t (keep t x m.place g.heap 0)
 
   -- the empty member is multiplied by the next heap
@@ -68,14 +63,18 @@ module _ (one : Pair) (times : Pair → Pair → Pair) (covers : Pair → Pair �
   heap_turn s =
       let x = slice_index_or s.heaps s.next one in
       cond (covered s.held x)
-      (record { table = s.table; heaps = s.heaps; limit = s.limit; members = s.members; held = s.held; generators = s.generators; next = s.next + 1 })
-      (keep (record { table = s.table; heaps = s.heaps; limit = s.limit; members = s.members; held = s.held; generators = s.generators ++ record { pair = x; heap = s.next + 1 } ∷ []; next = s.next + 1 }) x 0 (s.next + 1) 0)
+      (record s { next = s.next + 1 })
+      (keep (record s { generators = s.generators ++ record { pair = x; heap = s.next + 1 } ∷ []; next = s.next + 1 }) x 0 (s.next + 1) 0)
 
   abbrev pub is_over : State → Bool
   is_over s = nat_lt s.limit (length s.members)
 
   abbrev pub is_done : State → Bool
-  is_done s = cond (is_over s) false (cond (nat_lt 0 (length s.members)) (cond (nat_lt (pending s) (length s.held)) false (not (nat_lt s.next (length s.heaps)))) false)
+  is_done s =
+      cond (is_over s) false
+      (cond (nat_lt 0 (length s.members))
+      (cond (nat_lt (pending s) (length s.held)) false (not (nat_lt s.next (length s.heaps))))
+      false)
 
   abbrev pub turn : State → State
   turn s =

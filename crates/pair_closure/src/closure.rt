@@ -1,7 +1,7 @@
 //! The closure: members ever kept, those held, and one product a turn.
 ghost use Rattle.std.specs.Prelude.{◌≡◌, ◌↔◌, ◌<◌, ◌≤◌, ◌+◌, ◌*◌, ◌^◌, true, false, ℕ, length, All, Ok, IfOk, OnOk, OnErr, IsErr, slice_index_or};
 ghost use Rattle.transition_algebra.specs.Pairs.{IsPair, one};
-ghost use Rattle.pair_closure.specs.Progress.{Progress, SameData, begun, moved, step, steps, stopped, is_done, is_over, has_ended, blank_held, NoneBefore, KeepsEmpty, Multiplies, TriesHeap};
+ghost use Rattle.pair_closure.specs.Progress.{SameData, begun, moved, step, steps, stopped, is_done, is_over, has_ended, blank_held, KeepsEmpty, Multiplies, TriesHeap};
 ghost use Rattle.pair_closure.specs.Positions.{IsWordOf, Speaks, IsMinimal, IsClosedOver, IsExceeded};
 
 use crate::members::{Member, Members};
@@ -53,7 +53,7 @@ pub struct Closure<A: Allocator = Global> {
 
 impl<A: Allocator> Model for Closure<A> {
     ghost use Rattle.std.specs.Prelude.{length};
-    ghost use Rattle.pair_closure.specs.Progress.{Progress, IsRun, NoneBefore};
+    ghost use Rattle.pair_closure.specs.Progress.{Progress, progress_of, IsRun, NoneBefore};
     ghost use Rattle.element_sets.specs.contracts.ElementSet as e;
     ghost use Rattle.std.specs.Coded.{codes};
 
@@ -61,9 +61,11 @@ impl<A: Allocator> Model for Closure<A> {
 
     ghost coded = { Prim.hlevel (codes, e.the_row.coded) };
 
-    ghost view = { λ c. record { state = record { table = c.table; heaps = c.heaps.items; limit = c.limit; members = c.members; held = c.held.items; generators = c.generators.items; next = c.next }; spent = c.spent; failed = c.failed } };
+    ghost view = { λ c. progress_of c.table c.heaps.items c.limit c.members c.held.items c.generators.items c.next c.spent c.failed };
 
-    ghost invariant = { λ c. IsRun (record { state = record { table = c.table; heaps = c.heaps.items; limit = c.limit; members = c.members; held = c.held.items; generators = c.generators.items; next = c.next }; spent = c.spent; failed = c.failed }) × NoneBefore c.held.items (length c.generators.items) c.from };
+    ghost invariant = { λ c.
+        IsRun (progress_of c.table c.heaps.items c.limit c.members c.held.items c.generators.items c.next c.spent c.failed)
+        × NoneBefore c.held.items (length c.generators.items) c.from };
 }
 
 /// The pair of the empty position.
