@@ -10,3 +10,4 @@ pub mod SpellLemmas
 pub mod HeapLemmas
 pub mod ElementLemmas
 pub mod StageLemmas
+pub mod AnswerLemmas

@@ -4,6 +4,7 @@
 //! `periods`, `separating`, `heaps`, `closing`, `elements`. A unit is one turn of one stage.
 #![tactic(auto)]
 
+mod answers;
 mod certified;
 mod checking;
 mod closing;
@@ -23,6 +24,7 @@ mod sheet;
 mod spelling;
 mod stage;
 
+pub use answers::{one_text_for_a_code, true_answers};
 pub use certified::Certified;
 pub use checking::check;
 pub use job::{Job, Progress};
