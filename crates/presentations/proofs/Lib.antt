@@ -8,3 +8,5 @@ pub mod AxisLaws
 pub mod PowerLaws
 pub mod NumberLaws
 pub mod RowLaws
+pub mod Elements
+pub mod Whole

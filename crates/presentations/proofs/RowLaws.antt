@@ -1,8 +1,10 @@
 -- Rows written one product after another.
-use Rattle.std.proofs.Common.{◌≡◌, ℕ, zero, suc, ◌+◌, ◌-◌, ◌*◌, ◌/◌, ◌%◌, ◌<◌, List, [], ◌∷◌, ◌++◌, length, get_or, refl, sym, ap, ap₂, ◌∙◌, inl, inr, arith, subst}
-use Rattle.std.specs.Prelude.{slice_index}
+use Rattle.std.proofs.Common.{◌≡◌, ℕ, zero, suc, ◌+◌, ◌-◌, ◌*◌, ◌/◌, ◌%◌, ◌<◌, List, [], ◌∷◌, ◌++◌, length, get_or, map, take, refl, sym, ap, ap₂, ◌∙◌, inl, inr, arith, subst}
+use Rattle.std.specs.Prelude.{slice_index, slice_index_or}
 use Rattle.std.proofs.lemmas.Bool.{cases_lt}
-use Rattle.std.proofs.lemmas.List.{length-append}
+use Rattle.std.proofs.lemmas.List.{length-append, take_more}
+use Rattle.presentations.specs.declared.axes.Axis.{Axis}
+use Rattle.presentations.specs.Boxed.{letters_in}
 use Rattle.std.proofs.lemmas.Nat.{mul-add-lt, same_from_place, mod_below}
 use Rattle.std.proofs.Math.Nat.{mul_comm}
 use Rattle.presentations.specs.Numberings.{AreKeys, AreRows, AreRowsUpTo}
@@ -104,3 +106,14 @@ reads-fit letters order keys products rows x e k old x_in some e_in =
     some_of : (n q l j : ℕ) → j < l → l ≡ q * n → 0 < n
     some_of zero q l j lt e = absurd (omega arith)
     some_of (suc n) q l j lt e = omega arith
+
+pub map-push : {X : Type 0} (f : X → ℕ) (xs : List X) (x : X) → map f (xs ++ x ∷ []) ≡ map f xs ++ f x ∷ []
+map-push f [] x = refl
+map-push f (y ∷ xs) x = ap (λ l. f y ∷ l) (map-push f xs x)
+
+pub letters-take : (axes : List Axis) (i : ℕ) (d : Axis) → i < length axes
+    → map (λ a. 97 + a) (letters_in (take (i + 1) axes)) ≡ map (λ a. 97 + a) (letters_in (take i axes)) ++ (97 + (slice_index_or axes i d).letter) ∷ []
+letters-take axes i d lt =
+    ap (λ l. map (λ a. 97 + a) (letters_in l)) (take_more axes i d lt)
+    ∙ ap (map (λ a. 97 + a)) (map-push (λ a. a.letter) (take i axes) (slice_index_or axes i d))
+    ∙ map-push (λ a. 97 + a) (letters_in (take i axes)) (slice_index_or axes i d).letter

@@ -6,3 +6,4 @@ pub mod Powers
 pub mod Boxes
 pub mod Boxed
 pub mod Numberings
+pub mod Tables

@@ -5,6 +5,8 @@ ghost use Rattle.presentations.specs.declared.read.Relation.{Relation};
 ghost use Rattle.presentations.specs.Congruences.{IsCongruence, Related};
 ghost use Rattle.presentations.specs.Boxes.{place_of};
 ghost use Rattle.presentations.specs.Boxed.{pairs_in, AreClasses};
+ghost use Rattle.presentations.specs.Numberings.{IsNumbering, AreRows};
+ghost use Rattle.monoid_table.specs.Grids.{IsTable};
 
 /// What relations give is a congruence that holds them, and every congruence that holds them has it.
 pub fn related_is_least()
@@ -20,4 +22,13 @@ pub fn classes_are_exact()
         → AreClasses axes relations classes
         → (u v : List ℕ) → length u ≡ length axes → length v ≡ length axes
         → (slice_index classes (place_of axes u) ≡ slice_index classes (place_of axes v)) ↔ Related (length axes) (pairs_in axes relations) u v }
+{}
+
+/// Numbered classes with their rows are a monoid.
+pub fn rows_are_a_table()
+    ensures { (axes : List Axis) (relations : List Relation) (classes firsts keys products rows : List ℕ)
+        → AreClasses axes relations classes
+        → IsNumbering axes classes firsts keys products
+        → AreRows (length axes) (length firsts) keys products rows
+        → IsTable (length firsts) rows }
 {}

@@ -12,6 +12,6 @@ mod numbering;
 mod read;
 
 pub use fault::PresFault;
-pub use laws::{classes_are_exact, related_is_least};
+pub use laws::{classes_are_exact, related_is_least, rows_are_a_table};
 pub use named::{Generator, Named, table_of};
 pub use read::{Presentation, Relation};

@@ -1,13 +1,17 @@
 //! The table of a presentation's least congruence, with names for its generators.
-ghost use Rattle.std.specs.Prelude.{◌≡◌, ◌+◌, ◌-◌, ◌*◌, ◌/◌, ◌%◌, ◌<◌, ◌≤◌, ℕ, All, IfOk, OnErr, Err, length, slice_index};
-ghost use Rattle.presentations.specs.Numberings.{AreKeys, AreRows, AreRowsUpTo};
+ghost use Rattle.std.specs.Prelude.{◌≡◌, ◌+◌, ◌-◌, ◌*◌, ◌/◌, ◌%◌, ◌<◌, ◌≤◌, ◌≢◌, ℕ, All, IfOk, OnErr, Err, IsTrue, length, map, take, slice_index};
+ghost use Rattle.presentations.specs.Words.{occurs, letters_of};
+ghost use Rattle.presentations.specs.Powers.{HasSomePower};
+ghost use Rattle.presentations.specs.Boxed.{letters_in, AreClasses};
+ghost use Rattle.presentations.specs.Tables.{IsTableOf};
+ghost use Rattle.presentations.specs.Numberings.{AreKeys, AreRows, AreRowsUpTo, AreRoots};
 
 use crate::axes::Axis;
 use crate::bounds::axes_of;
 use crate::classes::classes_of;
 use crate::fault::PresFault;
 use crate::numbering::{Numbering, numbering_of};
-use crate::read::Presentation;
+use crate::read::{Presentation, Relation};
 use monoid_table::Table;
 use std::alloc::{Allocator, Global};
 
@@ -34,12 +38,33 @@ pub fn table_of<A: Allocator + Copy>(
     alloc: A,
     presentation: &Presentation<A>,
     limit: u32,
-) -> Result<Named<A>, PresFault> {
+) -> Result<Named<A>, PresFault>
+    ensures table { IfOk result (λ n. IsTableOf presentation.now n.table n.generators.items) }
+    ensures unbounded { (result ≡ Err PresFault.Unbounded) → (letter : ℕ) × (letter < 26) × IsTrue (occurs presentation.now letter) × (HasSomePower presentation.now letter → ⊥) }
+    ensures not_text { OnErr result (result ≢ Err PresFault.Text) }
+{
     let relations = presentation.relations();
     let (axes, size) = axes_of(alloc, relations, limit)?;
     let classes = classes_of(alloc, &axes, relations, size)?;
-    let numbering = numbering_of(alloc, &axes, &classes)?;
-    let generators = generators_of(alloc, &axes, &numbering.products)?;
+    table_in(alloc, relations, &axes, &classes)
+}
+
+/// The table of the classes of a box.
+fn table_in<A: Allocator + Copy>(
+    alloc: A,
+    relations: &[Relation],
+    axes: &[Axis],
+    classes: &[u32],
+) -> Result<Named<A>, PresFault>
+    requires classes { AreClasses axes.now relations.now classes.now }
+    requires roots { AreRoots axes.now classes.now }
+    requires count { length axes.now ≤ 26 }
+    requires letters { letters_in axes.now ≡ letters_of relations.now }
+    ensures table { IfOk result (λ n. IsTableOf relations.now n.table n.generators.items) }
+    ensures only { OnErr result ((result ≢ Err PresFault.Text) × (result ≢ Err PresFault.Unbounded)) }
+{
+    let numbering = numbering_of(alloc, axes, classes)?;
+    let generators = generators_of(alloc, axes, &numbering.products)?;
     let order = numbering.numbers.order();
     let rows = rows_of(alloc, axes.len(), &numbering)?;
     match Table::new(order as u16, rows) {
@@ -56,6 +81,9 @@ fn generators_of<A: Allocator + Copy>(
 ) -> Result<Vec<Generator, A>, PresFault>
     requires letters { All (λ a. a.letter < 26) axes.now }
     requires products { length axes.now ≤ length products.now }
+    ensures letters { IfOk result (λ gs. map (λ g. g.letter) gs.items ≡ map (λ a. 97 + a) (letters_in axes.now)) }
+    ensures elements { IfOk result (λ gs. map (λ g. g.element) gs.items ≡ take (length axes.now) products.now) }
+    ensures refused { OnErr result (result ≡ Err PresFault.OutOfMemory) }
 {
     let mut generators = Vec::new(alloc);
     for i in 0..axes.len() {

@@ -1,0 +1,150 @@
+-- Products of the generators' powers name exponent vectors.
+use Rattle.std.proofs.Common.{◌≡◌, ℕ, zero, suc, ◌+◌, ◌*◌, ◌<◌, ◌≤◌, List, [], ◌∷◌, length, get_or, take, map, refl, sym, ap, ◌∙◌, arith, subst}
+use Rattle.std.specs.Prelude.{slice_index, ◌↔◌}
+use Rattle.std.proofs.lemmas.List.{length-map}
+use Rattle.misere_theory.specs.Quotients.{Monoid}
+use Rattle.monoid_table.specs.Grids.{entry}
+use Rattle.monoid_table.specs.Laws.{power_of}
+use Rattle.presentations.specs.declared.axes.Axis.{Axis}
+use Rattle.presentations.specs.declared.named.Generator.{Generator}
+use Rattle.presentations.specs.declared.read.Relation.{Relation}
+use Rattle.presentations.specs.Vectors.{zeros, bump}
+use Rattle.presentations.specs.Congruences.{Related}
+use Rattle.presentations.specs.Words.{letters_of, pairs_on}
+use Rattle.presentations.specs.Boxed.{letters_in, pairs_in, AreClasses}
+use Rattle.presentations.specs.Numberings.{IsNumbering, AreRows}
+use Rattle.presentations.specs.Tables.{product_at, IsTableOf}
+use Rattle.presentations.proofs.VectorLaws.{length-zeros, length-bump, plus-zeros, plus-bump, by_letters}
+use Rattle.presentations.proofs.Elements.{Names, one-name, names-none, names-bump, names-plus, names-exact, first-vector, names-first, length-first, is-monoid}
+
+module _ (q : ℕ) (times : ℕ → ℕ → ℕ) (m : Monoid q times) where
+  -- each of the elements is below the order
+  abbrev pub Below : List ℕ → Type 0
+  Below [] = Unit {0}
+  Below (g ∷ gs) = (g < q) × Below gs
+
+  power-in : (g n : ℕ) → g < q → power_of 0 times g n < q
+  power-in g zero h = m.some
+  power-in g (suc n) h = m.closed g (power_of 0 times g n) h (power-in g n h)
+
+  product-in : (gs v : List ℕ) → Below gs → product_at times gs v < q
+  product-in [] v h = m.some
+  product-in (g ∷ gs) [] h = m.some
+  product-in (g ∷ gs) (x ∷ v) h = m.closed (power_of 0 times g x) (product_at times gs v) (power-in g x h.0) (product-in gs v h.1)
+
+  pub product-none : (gs : List ℕ) (n : ℕ) → n ≡ length gs → product_at times gs (zeros n) ≡ 0
+  product-none [] n e = refl
+  product-none (g ∷ gs) zero e = refl
+  product-none (g ∷ gs) (suc n) e = ap (times 0) (product-none gs n (omega arith)) ∙ m.identity 0 m.some
+
+  pub product-bump : (gs v : List ℕ) (i : ℕ) → Below gs → length v ≡ length gs → i < length gs → product_at times gs (bump v i) ≡ times (product_at times gs v) (get_or gs i 0)
+  product-bump [] v i h e lt = absurd (omega arith)
+  product-bump (g ∷ gs) [] i h e lt = absurd (omega arith)
+  product-bump (g ∷ gs) (x ∷ v) zero h e lt =
+      let p = power_of 0 times g x in
+      let r = product_at times gs v in
+      let hp = power-in g x h.0 in
+      let hr = product-in gs v h.1 in
+      let next : x + 1 ≡ suc x = omega arith in
+      ap (λ n. times (power_of 0 times g n) r) next ∙ m.associates g p r h.0 hp hr ∙ m.commutes g (times p r) h.0 (m.closed p r hp hr)
+  product-bump (g ∷ gs) (x ∷ v) (suc i) h e lt =
+      let p = power_of 0 times g x in
+      let r = product_at times gs v in
+      let hp = power-in g x h.0 in
+      let hr = product-in gs v h.1 in
+      ap (times p) (product-bump gs v i h.1 (omega arith) (omega arith))
+      ∙ sym (m.associates p r (get_or gs i 0) hp hr (get-in gs i h.1 (omega arith)))
+    where
+      get-in : (gs : List ℕ) (i : ℕ) → Below gs → i < length gs → get_or gs i 0 < q
+      get-in [] i h lt = absurd (omega arith)
+      get-in (g ∷ gs) zero h lt = h.0
+      get-in (g ∷ gs) (suc i) h lt = get-in gs i h.1 (omega arith)
+
+take-get : (n : ℕ) (xs : List ℕ) (i : ℕ) → i < n → get_or (take n xs) i 0 ≡ get_or xs i 0
+take-get zero xs i lt = absurd (omega arith)
+take-get (suc n) [] i lt = refl
+take-get (suc n) (x ∷ xs) zero lt = refl
+take-get (suc n) (x ∷ xs) (suc i) lt = take-get n xs i (omega arith)
+
+take-length : (n : ℕ) (xs : List ℕ) → n ≤ length xs → length (take n xs) ≡ n
+take-length zero xs le = refl
+take-length (suc n) [] le = absurd (omega arith)
+take-length (suc n) (x ∷ xs) le = ap suc (take-length n xs (omega arith))
+
+below-all : (q : ℕ) (times : ℕ → ℕ → ℕ) (m : Monoid q times) (gs : List ℕ) → ((i : ℕ) → i < length gs → get_or gs i 0 < q) → Below q times m gs
+below-all q times m [] h = tt
+below-all q times m (g ∷ gs) h = (h 0 (omega arith), below-all q times m gs (λ i lt. h (suc i) (omega arith)))
+
+module _ (axes : List Axis) (relations : List Relation) (classes firsts keys products rows : List ℕ)
+    (are : AreClasses axes relations classes) (num : IsNumbering axes classes firsts keys products)
+    (is : AreRows (length axes) (length firsts) keys products rows) where
+  abbrev n : ℕ
+  n = length axes
+
+  abbrev q : ℕ
+  q = length firsts
+
+  abbrev times : ℕ → ℕ → ℕ
+  times = entry q rows
+
+  abbrev gens : List ℕ
+  gens = take n products
+
+  abbrev IsName : ℕ → List ℕ → Type 0
+  IsName e v = Names axes relations classes firsts keys products rows are num is e v
+
+  monoid : Monoid q times
+  monoid = is-monoid axes relations classes firsts keys products rows are num is
+
+  enough : n ≤ length products
+  enough = subst (λ l. n ≤ l) (sym num.whole) (more q n num.progress.some)
+    where
+      more : (q n : ℕ) → 0 < q → n ≤ q * n
+      more q n some = grind arith
+
+  letter-name : (i : ℕ) → i < n → IsName (get_or gens i 0) (bump (zeros n) i)
+  letter-name i lt =
+      let at : 0 * n + i ≡ i = omega arith in
+      subst (λ e. IsName e (bump (zeros n) i)) (ap (slice_index products) at ∙ sym (take-get n products i lt))
+      (names-bump axes relations classes firsts keys products rows are num is 0 i (zeros n) (length-zeros n) lt (names-none axes relations classes firsts keys products rows are num is))
+
+  gens-below : Below q times monoid gens
+  gens-below = below-all q times monoid gens (λ i lt. (letter-name i (omega (arith, take-length n products enough))).within)
+
+  pub product-name : (v : List ℕ) → length v ≡ n → IsName (product_at times gens v) v
+  product-name v len = by_letters n (λ w. IsName (product_at times gens w) w) start more v len
+    where
+      gens-length : length gens ≡ n
+      gens-length = take-length n products enough
+
+      start : IsName (product_at times gens (zeros n)) (zeros n)
+      start = subst (λ e. IsName e (zeros n)) (sym (product-none q times monoid gens n (sym gens-length))) (names-none axes relations classes firsts keys products rows are num is)
+
+      more : (w : List ℕ) (i : ℕ) → length w ≡ n → i < n → IsName (product_at times gens w) w → IsName (product_at times gens (bump w i)) (bump w i)
+      more w i e lt nw =
+          let sum = plus-bump w (zeros n) i (e ∙ sym (length-zeros n)) (subst (λ k. i < k) (sym (length-zeros n)) lt) ∙ ap (λ u. bump u i) (plus-zeros w n e) in
+          subst (λ p. IsName p (bump w i)) (sym (product-bump q times monoid gens w i gens-below (e ∙ sym gens-length) (subst (λ k. i < k) (sym gens-length) lt)))
+          (subst (λ u. IsName (times (product_at times gens w) (get_or gens i 0)) u) sum
+          (names-plus axes relations classes firsts keys products rows are num is (product_at times gens w) (get_or gens i 0) w (bump (zeros n) i) e (length-bump (zeros n) i ∙ length-zeros n) nw (letter-name i lt)))
+
+  pub table-of : (generators : List Generator) → letters_in axes ≡ letters_of relations
+      → map (λ g. g.letter) generators ≡ map (λ a. 97 + a) (letters_in axes) → map (λ g. g.element) generators ≡ gens
+      → IsTableOf relations (record { order = q; entries = rows }) generators
+  table-of generators letters named elements =
+      let len : length (letters_of relations) ≡ n = sym (ap length letters) ∙ length-map axes (λ a. a.letter) in
+      record {
+        letters = named ∙ ap (map (λ a. 97 + a)) letters;
+        exact = λ u v eu ev. rw elements (
+            subst (λ ls. (product_at times gens u ≡ product_at times gens v) ↔ Related (length ls) (pairs_on ls relations) u v) letters
+            (subst (λ k. (product_at times gens u ≡ product_at times gens v) ↔ Related k (pairs_in axes relations) u v) (sym (length-map axes (λ a. a.letter)))
+            (names-exact axes relations classes firsts keys products rows are num is (product_at times gens u) (product_at times gens v) u v (eu ∙ len) (ev ∙ len)
+            (product-name u (eu ∙ len)) (product-name v (ev ∙ len)))));
+        reached = λ x lt.
+            let v = first-vector axes relations classes firsts keys products rows are num is x in
+            let e = length-first axes relations classes firsts keys products rows are num is x in (
+              v,
+              e ∙ sym len,
+              rw elements (one-name axes relations classes firsts keys products rows are num is (product_at times gens v) x v (product-name v e)
+                  (names-first axes relations classes firsts keys products rows are num is x lt)),
+            );
+      }

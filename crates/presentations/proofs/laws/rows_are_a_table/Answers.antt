@@ -1,0 +1,5 @@
+use Rattle.presentations.proofs.Elements.{is-table}
+use Rattle.presentations.proofs.laws.rows_are_a_table.Goals as goal
+
+pub returns : goal.returns
+returns c = is-table
