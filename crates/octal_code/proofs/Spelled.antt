@@ -4,7 +4,7 @@ use Rattle.std.proofs.lemmas.List.{length-map, length-drop, length-set, length-t
 use Rattle.std.proofs.lemmas.List.Edits.{fill_by_more}
 use Rattle.std.proofs.lemmas.Grind.{same_number_lists}
 use Rattle.std.proofs.lemmas.List.Elements.{All-map, All-head, All-tail}
-use Rattle.misere_theory.specs.Certificates.{IsOctalCode}
+use Rattle.misere_theory.specs.Games.{IsOctalCode}
 use Rattle.octal_code.specs.Digits.{IsCode}
 use Rattle.octal_code.specs.Text.{digit_byte, code_text, IsCodeText, IsLongCode, IsLongCodeText, IsNoCodeText}
 use Rattle.octal_code.specs.Spelling.{IsOctalByte, IsSpelling, digits_in}

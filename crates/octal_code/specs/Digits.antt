@@ -2,7 +2,7 @@
 use Rattle.std.specs.Prelude.{◌≡◌, ℕ, zero, suc, ◌+◌, ◌-◌, ◌≤◌, List, [], ◌∷◌, ◌++◌, length, slice_index, take, drop, refl}
 use Rattle.std.proofs.Common.{sym, ap, ap₂, ◌∙◌, arith}
 use Rattle.std.proofs.lemmas.List.{take-append-drop, length-drop, length-take-le, get_or-drop}
-use Rattle.misere_theory.specs.Certificates.{IsOctalCode}
+use Rattle.misere_theory.specs.Games.{IsOctalCode}
 use Rattle.octal_code.specs.declared.code.Code.TheInside.{Inside}
 
 -- n zeros

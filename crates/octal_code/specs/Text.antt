@@ -1,6 +1,6 @@
 -- The spelling of a code: d0, a point, and the digits d1 to dk.
 use Rattle.std.specs.Prelude.{◌≡◌, ◌≢◌, ℕ, ◌+◌, ◌-◌, ◌≤◌, ◌<◌, ◌⊎◌, List, [], ◌∷◌, length, slice_index, All, map}
-use Rattle.misere_theory.specs.Certificates.{IsOctalCode}
+use Rattle.misere_theory.specs.Games.{IsOctalCode}
 
 -- a digit is one character
 abbrev pub digit_byte : ℕ → ℕ

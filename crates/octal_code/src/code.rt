@@ -1,6 +1,5 @@
 ghost use Rattle.std.specs.Prelude.{◌≡◌, ◌-◌, ◌<◌, ◌≤◌, ◌↔◌, ◌⊎◌, ℕ, List, IsTrue, IfOk, All, length, string_bytes};
-ghost use Rattle.misere_theory.specs.Certificates.{IsOctalCode};
-ghost use Rattle.misere_theory.specs.Games.{digit};
+ghost use Rattle.misere_theory.specs.Games.{digit, IsOctalCode};
 ghost use Rattle.octal_code.specs.Bits.{has_bit, leaves_one, takes_all};
 ghost use Rattle.octal_code.specs.Spelling.{IsOctalByte, IsSpelling, digits_in};
 ghost use Rattle.octal_code.specs.Text.{code_text, digit_byte, IsCodeText, IsLongCodeText, IsNoCodeText};
