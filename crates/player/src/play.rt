@@ -1,6 +1,6 @@
 //! What a certified quotient says of positions.
 ghost use Rattle.std.specs.Prelude.{◌≡◌, ◌<◌, ◌≤◌, ◌+◌, ◌-◌, ◌*◌, ℕ, List, Contains, length};
-ghost use Rattle.misere_theory.specs.Certificates.{Accepted, claim_of};
+ghost use Rattle.misere_theory.specs.Certificates.{claim_of};
 ghost use Rattle.misere_theory.specs.Quotients.{value};
 ghost use Rattle.outcome_search.specs.Outcomes.{HasOutcome};
 ghost use Rattle.positions.specs.Exact.{heaps_of};
@@ -12,25 +12,28 @@ ghost use Rattle.player.specs.Looks.{IsFirstInto};
 use crate::answering::{Answer, answer_at};
 use crate::looking::looks_at;
 use crate::values::{is_in_portion, product};
-use certificate::{Cert, in_ranges};
+use certificate::in_ranges;
+use checker::Certified;
 use outcome_search::Outcome;
 use positions::{Options, Position};
 use std::alloc::Allocator;
 
 /// The element of the quotient that is the position's: the product of its heaps' elements.
-pub fn value<A: Allocator, B: Allocator>(cert: &Cert<A>, position: &Position<B>) -> u16
-    requires { Accepted cert.now }
-    ensures value { result ≡ value (claim_of cert.now) position.now }
-    ensures within { result < cert.now.order }
+pub fn value<A: Allocator, B: Allocator>(certified: &Certified<A>, position: &Position<B>) -> u16
+    ensures value { result ≡ value (claim_of certified.now) position.now }
+    ensures within { result < certified.now.order }
 {
-    product(cert, position.heaps())
+    product(certified.cert(), position.heaps())
 }
 
 /// Who wins from the position under misère play.
-pub fn outcome<A: Allocator, B: Allocator>(cert: &Cert<A>, position: &Position<B>) -> Outcome
-    requires { Accepted cert.now }
-    ensures { HasOutcome cert.now.code position.now result }
+pub fn outcome<A: Allocator, B: Allocator>(
+    certified: &Certified<A>,
+    position: &Position<B>,
+) -> Outcome
+    ensures { HasOutcome certified.now.code position.now result }
 {
+    let cert = certified.cert();
     if is_in_portion(cert, product(cert, position.heaps())) {
         Outcome::P
     } else {
@@ -43,22 +46,24 @@ pub fn outcome<A: Allocator, B: Allocator>(cert: &Cert<A>, position: &Position<B
 /// answered, and goes on so, hands the opponent a P-position each time and wins, whatever he moves.
 ///
 /// Of a heap only its `looks` are tried, so a heap of any size is answered at once. It takes no memory.
-pub fn answer<A: Allocator, B: Allocator>(cert: &Cert<A>, position: &Position<B>) -> Answer
-    requires { Accepted cert.now }
-    ensures { IsRightAnswer cert.now.code position.now result }
+pub fn answer<A: Allocator, B: Allocator>(
+    certified: &Certified<A>,
+    position: &Position<B>,
+) -> Answer
+    ensures { IsRightAnswer certified.now.code position.now result }
 {
-    answer_at(cert, position.heaps())
+    answer_at(certified.cert(), position.heaps())
 }
 
 /// The options of the heap n that a player looks at, in their order: all but the splits whose smaller part is start +
 /// period or more. There are at most (k + 1)(start + period + 1) of them, for the last digit dk of the code, however
 /// large the heap is. Whatever stands beside the heap, the first option that makes a P-position is among them.
-pub fn looks<A: Allocator>(cert: &Cert<A>, n: u64) -> Options
-    requires { Accepted cert.now }
-    ensures list { result ≡ options_up_to cert.now.code n (cert.now.start + cert.now.period - 1) }
-    ensures few { length result ≤ length cert.now.code * (cert.now.start + cert.now.period + 1) }
-    ensures first { (y : ℕ) (H : List ℕ) → IsFirstInto cert.now n y H → (left : Left) × Contains result left × (heaps_of left ≡ H) }
+pub fn looks<A: Allocator>(certified: &Certified<A>, n: u64) -> Options
+    ensures list { result ≡ options_up_to certified.now.code n (certified.now.start + certified.now.period - 1) }
+    ensures few { length result ≤ length certified.now.code * (certified.now.start + certified.now.period + 1) }
+    ensures first { (y : ℕ) (H : List ℕ) → IsFirstInto certified.now n y H → (left : Left) × Contains result left × (heaps_of left ≡ H) }
 {
+    let cert = certified.cert();
     in_ranges(cert);
     looks_at(cert, n)
 }

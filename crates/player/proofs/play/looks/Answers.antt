@@ -7,20 +7,20 @@ use Rattle.player.proofs.play.looks.Goals as goal
 
 pub returns-clause-few : goal.returns-clause-few
 returns-clause-few g c =
-    let C = c.args.cert.now in
+    let C = c.args.certified.now in
     let e : c.looks_at.result ≡ options_up_to C.code c.args.n (C.start + C.period - 1) =
-    c.looks_at.ensures in
+    c.looks_at.ensures ∙ ap (λ d. options_up_to d.code c.args.n (d.start + d.period - 1)) c.cert-cert.ensures.same in
     let l = ap length e in
     let f = few C.code c.args.n (C.start + C.period - 1) in
-    let s = c.requires.in_ranges.start.0 in
+    let s = c.cert-cert.ensures.accepted.in_ranges.start.0 in
     let m : C.start + C.period - 1 + 2 ≡ C.start + C.period + 1 = omega arith in
     let k = ap (λ v. length C.code * v) m in
     omega arith
 
 pub returns-clause-first : goal.returns-clause-first
 returns-clause-first g c = λ y H into.
-    let C = c.args.cert.now in
+    let C = c.args.certified.now in
     let e : c.looks_at.result ≡ options_up_to C.code c.args.n (C.start + C.period - 1) =
-    c.looks_at.ensures in
-    let (L, i, h) = first_among C c.requires.in_ranges c.args.n y H into in
+    c.looks_at.ensures ∙ ap (λ d. options_up_to d.code c.args.n (d.start + d.period - 1)) c.cert-cert.ensures.same in
+    let (L, i, h) = first_among C c.cert-cert.ensures.accepted.in_ranges c.args.n y H into in
     (L, subst (λ xs. Contains xs L) (sym e) i, h)
