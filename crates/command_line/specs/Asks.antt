@@ -1,6 +1,6 @@
 -- What the words of a command line ask for. This project's own, over the words of `clap`.
-use Rattle.std.specs.Prelude.{◌≡◌, ◌≤◌, ℕ, List, Option, Some, None, codes, decimal, option_map}
-use Rattle.clap.specs.Words.{Row, Text, first_of, subcommand_of}
+use Rattle.std.specs.Prelude.{◌≡◌, ◌≤◌, ℕ, List, [], Option, Some, None, codes, decimal, option_map}
+use Rattle.clap.specs.Words.{Row, Text, first_of, fault_of, subcommand_of}
 use Rattle.command_line.specs.declared.plans.Plan.{Plan}
 use Rattle.command_line.specs.declared.plans.Plan.TheVariants.{Check, Show, Play, Present}
 use Rattle.command_line.specs.Program.{program}
@@ -24,6 +24,10 @@ AsksOf (Some found) (Play file position) =
 AsksOf (Some found) (Present text) =
     (found.0 ≡ codes "present") × (first_of (codes "text") found.1 ≡ Some text.now)
 
+-- the command line takes the words, the program's name first
+abbrev pub IsTaken : List Text → Type 0
+IsTaken words = fault_of program words ≡ []
+
 -- the words, the program's name first, ask for this
 abbrev pub Asks : List Text → Plan → Type 0
-Asks words = AsksOf (subcommand_of program words)
+Asks words plan = IsTaken words × AsksOf (subcommand_of program words) plan

@@ -1,7 +1,7 @@
 -- When each fault of a command line is answered. This project's own.
-use Rattle.std.specs.Prelude.{◌≡◌, ⊤, List, Option, false}
-use Rattle.clap.specs.Words.{Row, Text, subcommand_of, takes}
-use Rattle.command_line.specs.Asks.{AsksOf}
+use Rattle.std.specs.Prelude.{⊤, List, Option}
+use Rattle.clap.specs.Words.{Row, Text, subcommand_of}
+use Rattle.command_line.specs.Asks.{AsksOf, IsTaken}
 use Rattle.command_line.specs.Program.{program}
 use Rattle.command_line.specs.declared.plans.Plan.{Plan}
 use Rattle.command_line.specs.declared.plans.UsageFault.{UsageFault}
@@ -31,7 +31,7 @@ IsOfWords Incomplete = ⊥
 -- the command line does not take them, of the rest that they ask for nothing
 abbrev pub IsTrueOf : List Text → UsageFault → Type 0
 IsTrueOf words Memory = ⊤
-IsTrueOf words (Help text) = takes program words ≡ false
-IsTrueOf words (Words text) = takes program words ≡ false
+IsTrueOf words (Help text) = IsTaken words → ⊥
+IsTrueOf words (Words text) = IsTaken words → ⊥
 IsTrueOf words Limit = AsksNothing (subcommand_of program words)
 IsTrueOf words Incomplete = AsksNothing (subcommand_of program words)

@@ -1,7 +1,7 @@
 //! What the words of a command line ask for.
 ghost use Rattle.std.specs.Prelude.{◌≡◌, ◌≢◌, ◌<◌, ◌^◌, ℕ, Some, IfOk, IfErr, IfSome, IfNone, map, option_map, decimal};
-ghost use Rattle.clap.specs.Words.{found_of, kind_of, rows_of, subcommand_of, subcommand_rows_of, first_of, takes};
-ghost use Rattle.command_line.specs.Asks.{Asks, AsksOf, IsLimit};
+ghost use Rattle.clap.specs.Words.{found_of, kind_of, rows_of, subcommand_of, subcommand_rows_of, first_of};
+ghost use Rattle.command_line.specs.Asks.{Asks, AsksOf, IsLimit, IsTaken};
 ghost use Rattle.command_line.specs.Program.{program};
 ghost use Rattle.command_line.specs.Refusals.{IsTrueOf, IsOfWords, RefusesOf};
 
@@ -97,6 +97,7 @@ fn refused(alloc: Global, e: &clap::Error) -> UsageFault
 
 /// The command that the words name, with its arguments.
 fn parsed<'a>(alloc: Global, words: &'a [&'a str]) -> Result<ArgMatches<'a>, UsageFault>
+    ensures taken { IfOk result (λ _. IsTaken (map (λ w. w.now) words.entry.now)) }
     ensures found { IfOk result (λ m. subcommand_rows_of m ≡ subcommand_of program (map (λ w. w.now) words.entry.now)) }
     ensures fault { IfErr result (IsTrueOf (map (λ w. w.now) words.entry.now)) }
 {

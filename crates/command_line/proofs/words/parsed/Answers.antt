@@ -1,5 +1,6 @@
-use Rattle.std.proofs.Common.{◌≡◌, ◌∙◌, ap, refl, true, false, Bool, Bor, ℕ, map, List}
-use Rattle.clap.specs.Words.{App, Text, is_simple, takes}
+use Rattle.std.proofs.Common.{◌≡◌, ◌∙◌, ap, sym, subst, inl, inr, [], refl, true, Bor, ℕ, map, List}
+use Rattle.clap.specs.Words.{App, IsAmong, Kinds, Text, app_of, kind_of, fault_of, is_simple_and_free}
+use Rattle.command_line.specs.Asks.{IsTaken}
 use Rattle.clap.proofs.OnLiterals.{clap_on_literals}
 use Rattle.command_line.specs.Program.{program}
 use Rattle.command_line.specs.Refusals.{IsOfWords, IsTrueOf}
@@ -7,22 +8,31 @@ use Rattle.command_line.specs.declared.plans.UsageFault.{UsageFault}
 use Rattle.command_line.specs.declared.plans.UsageFault.TheVariants.{Memory, Help, Words, Limit, Incomplete}
 use Rattle.command_line.proofs.words.parsed.Goals as goal
 
-simple : is_simple program ≡ true
+simple : is_simple_and_free program ≡ true
 unfolding clap_on_literals
 simple = refl
 
-not_taken : (b : Bool) → (b ≡ true → ⊥) → b ≡ false
-not_taken true n = absurd (n refl)
-not_taken false n = refl
-
 -- a fault of reading the words tells the truth, where words that are taken want memory alone
-tells : (words : List Text) (fault : UsageFault) → IsOfWords fault → (takes program words ≡ true → fault ≡ Memory) → IsTrueOf words fault
+tells : (words : List Text) (fault : UsageFault) → IsOfWords fault → (IsTaken words → fault ≡ Memory) → IsTrueOf words fault
 tells words Memory own h = tt
-tells words (Help text) own h = not_taken (takes program words) (λ t. let bad = h t in cc)
-tells words (Words text) own h = not_taken (takes program words) (λ t. let bad = h t in cc)
+tells words (Help text) own h = λ t. let bad = h t in cc
+tells words (Words text) own h = λ t. let bad = h t in cc
 tells words Limit own h = absurd own
 tells words Incomplete own h = absurd own
 
 pub returns-in-Err-clause-fault : goal.returns-in-Err-clause-fault
-returns-in-Err-clause-fault c = tells (map (λ (w : Bor (List ℕ)). w.now) c.args.words.now) c.refused.result c.refused.ensures.words
-    (λ t. c.refused.ensures.memory (c.in-Err.ensures.passes (ap (λ (a : App). takes a (map (λ (w : Bor (List ℕ)). w.now) c.args.words.now)) c.in-Ok.ensures ∙ t)))
+returns-in-Err-clause-fault c =
+    let words = map (λ (w : Bor (List ℕ)). w.now) c.args.words.now in
+    let free = ap is_simple_and_free c.in-Ok.ensures ∙ simple in
+    tells words c.refused.result c.refused.ensures.words
+    (λ taken. c.refused.ensures.memory (elim (c.in-Err.ensures.kinds free) [
+      | inl memory ↦ memory
+      | inr among ↦ let none : fault_of (app_of c.in-Ok.command) words ≡ [] = ap (λ (a : App). fault_of a words) c.in-Ok.ensures ∙ taken in
+          absurd (subst (λ (kinds : Kinds). IsAmong (kind_of c.in-Err.e) kinds) none among)
+    ]))
+
+pub returns-in-Ok-try_get_matches_from-clause-taken : goal.returns-in-Ok-try_get_matches_from-clause-taken
+returns-in-Ok-try_get_matches_from-clause-taken c =
+    let words = map (λ (w : Bor (List ℕ)). w.now) c.args.words.now in
+    let free = ap is_simple_and_free c.in-Ok.ensures ∙ simple in
+    sym (ap (λ (a : App). fault_of a words) c.in-Ok.ensures) ∙ c.in-Ok-try_get_matches_from.ensures.kinds free
