@@ -1,0 +1,11 @@
+//! The text of a verdict, and checks from stream to stream.
+#![tactic(auto)]
+
+mod lines;
+mod stream;
+
+pub use lines::verdict_text;
+pub use stream::{MOST_BYTES, check_bytes, check_stream};
+
+#[cfg(test)]
+mod tests;
