@@ -25,6 +25,22 @@ same_bool true b f g = sym (f refl)
 same_bool false true f g = g refl
 same_bool false false f g = refl
 
+module _ (code : List ℕ) (c : Claim) where
+  -- a portion that predicts the outcomes of a position and of its options obeys the local rule there
+  pub rule_at : (X : List ℕ) → IsP code X ↔ (c.portion (value c X) ≡ true)
+      → ((Y : List ℕ) → Move code X Y → IsP code Y ↔ (c.portion (value c Y) ≡ true))
+      → RuleHolds code c X
+  rule_at X here there = (
+    λ t. let p : IsP code X = here.1 t in let (Y, m) = p_moves p in (
+      (value c Y, (Y, m, refl)),
+      λ x o. subst (λ v. c.portion v ≡ false) o.2 (false_from_ne_true _ (λ u. not_both ((there o.0 o.1).1 u) (p_leads_to_n p o.0 o.1))),
+    ),
+    λ r. let ((x, (Y, m, e)), all) = r in here.0 (AllLose m (λ Z i. elim (determined code Z) [
+      | inl p ↦ absurd (true≢false (sym ((there Z i).0 p) ∙ all _ (Z, i, refl)))
+      | inr q ↦ q
+    ])),
+  )
+
 module _ (heap : ℕ → Type 0) (code : List ℕ) (c : Claim) (kept : IsKept heap code) where
   -- the local rule at each position makes the portion predict each outcome
   predicted_within : ((X : List ℕ) → IsPosition heap X → RuleHolds code c X) → (k : ℕ) (X : List ℕ) → measure X < k → IsPosition heap X
@@ -49,16 +65,7 @@ module _ (heap : ℕ → Type 0) (code : List ℕ) (c : Claim) (kept : IsKept he
   -- a portion that predicts each outcome obeys the local rule at each position
   pub rule_from_predicts : ((X : List ℕ) → IsPosition heap X → IsP code X ↔ (c.portion (value c X) ≡ true)) → (X : List ℕ)
       → IsPosition heap X → RuleHolds code c X
-  rule_from_predicts predicts X w = (
-    λ t. let p : IsP code X = (predicts X w).1 t in let (Y, m) = p_moves p in (
-      (value c Y, (Y, m, refl)),
-      λ x o. subst (λ v. c.portion v ≡ false) o.2 (false_from_ne_true _ (λ u. not_both ((predicts o.0 (move_kept heap code kept o.1 w)).1 u) (p_leads_to_n p o.0 o.1))),
-    ),
-    λ r. let ((x, (Y, m, e)), all) = r in (predicts X w).0 (AllLose m (λ Z i. elim (determined code Z) [
-      | inl p ↦ absurd (true≢false (sym ((predicts Z (move_kept heap code kept i w)).0 p) ∙ all _ (Z, i, refl)))
-      | inr q ↦ q
-    ])),
-  )
+  rule_from_predicts predicts X w = rule_at code c X (predicts X w) (λ Y m. predicts Y (move_kept heap code kept m w))
 
 module _ (code : List ℕ) (c : Claim) where
   -- the rule holds or fails at a position, and not both
@@ -66,6 +73,12 @@ module _ (code : List ℕ) (c : Claim) where
   rule_not_both X h (inl (t, inl none)) = let (some, all) = h.0 t in none some.0 some.1
   rule_not_both X h (inl (t, inr (x, o, u))) = true≢false (sym u ∙ (h.0 t).1 x o)
   rule_not_both X h (inr (f, s, all)) = true≢false (sym (h.1 (s, all)) ∙ f)
+
+  -- where the rule fails the portion mispredicts the position or one of its options
+  pub mispredicts : (X : List ℕ) → RuleFails code c X → IsP code X ↔ (c.portion (value c X) ≡ true)
+      → ((Y : List ℕ) → Move code X Y → IsP code Y ↔ (c.portion (value c Y) ≡ true))
+      → ⊥
+  mispredicts X fails here there = rule_not_both X (rule_at code c X here there) fails
 
   pub rule_decided : (X : List ℕ) → RuleHolds code c X ⊎ RuleFails code c X
   rule_decided X =

@@ -1,5 +1,6 @@
 -- Transition pairs, which are a value and some values of options: when a list of them speaks for every position.
--- All of this is the project's own.
+-- Transition pairs make up the transition algebra of the literature (Plambeck and Siegel; Siegel). Covers, closed lists and what is asked
+-- of them are this project's own.
 use Rattle.std.specs.Prelude.{◌≡◌, ℕ, ◌+◌, ◌*◌, ◌≤◌, ◌<◌, ◌⊎◌, ◌↔◌, true, false, List, [], ◌∷◌, Contains}
 use Rattle.misere_theory.specs.Games.{digit}
 use Rattle.misere_theory.specs.Quotients.{Claim, value, OptionValue, HeapOptionValue}
@@ -67,7 +68,8 @@ pub record IsPeriodic (code : List ℕ) (c : Claim) (k start period : ℕ) : Typ
   pub some : 1 ≤ period
   pub repeats : (n : ℕ) → start ≤ n → c.phi (period + n) ≡ c.phi n
 
--- B: each heap has the pair of one of the heaps 1 to B. Compare Guy and Smith's periodicity theorem for normal play.
+-- B: each heap has the pair of one of the heaps 1 to B. Compare Plambeck and Siegel's periodicity
+-- theorem for misère quotients, and Guy and Smith's for normal play.
 abbrev pub heap_bound : ℕ → ℕ → ℕ → ℕ
 heap_bound k start period = 2 * start + 2 * period + k
 

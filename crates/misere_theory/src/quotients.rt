@@ -1,7 +1,7 @@
 //! Laws of claims: when one is a monoid, when it predicts outcomes, when it is the quotient.
 
 ghost use Rattle.std.specs.Prelude.{◌≡◌, ◌⊎◌, ◌↔◌, ◌<◌, List, ℕ, true};
-ghost use Rattle.misere_theory.specs.Games.{IsP, IsHeap, IsHeapUpTo, IsPosition};
+ghost use Rattle.misere_theory.specs.Games.{IsP, IsHeap, IsHeapUpTo, IsPosition, Move};
 ghost use Rattle.misere_theory.specs.Quotients.{Claim, Monoid, LawFails, AllApart, Represents, SameQuotient, RuleHolds, RuleFails, GivesElements, value};
 
 /// A product that stays below the order is a commutative monoid exactly where no law fails.
@@ -24,6 +24,15 @@ pub fn rule_predicts()
         → (X : List ℕ) → IsPosition IsHeap X → RuleHolds code c X }
     ensures decided { (code : List ℕ) (c : Claim) (X : List ℕ) → RuleHolds code c X ⊎ RuleFails code c X }
     ensures fails { (code : List ℕ) (c : Claim) (X : List ℕ) → RuleHolds code c X → RuleFails code c X → ⊥ }
+{}
+
+/// Where the rule fails at a position, the portion mispredicts its outcome or that of one of its options.
+pub fn failed_rules_mispredict()
+    ensures { (code : List ℕ) (c : Claim) (X : List ℕ)
+        → RuleFails code c X
+        → IsP code X ↔ (c.portion (value c X) ≡ true)
+        → ((Y : List ℕ) → Move code X Y → IsP code Y ↔ (c.portion (value c Y) ≡ true))
+        → ⊥ }
 {}
 
 /// The rule at all positions of heaps up to M makes the partial quotient.
