@@ -1,0 +1,20 @@
+use Rattle.std.proofs.Common.{Bool, Bor, ℕ, List, map, subst}
+use Rattle.clap.specs.Words.{subcommand_of}
+use Rattle.command_line.specs.Program.{program}
+use Rattle.misere.specs.Runs.{Does}
+use Rattle.misere.proofs.Asked.{done_as_asked}
+use Rattle.misere.proofs.whole_run.run_words.Goals as goal
+
+pub returns-in-Ok-true-clause-done : goal.returns-in-Ok-true-clause-done
+returns-in-Ok-true-clause-done g c = λ ended plan asked.
+    let input = g.S.Source.left c.args.input.now in let files = g.F.Folder.file c.args.folder.now in
+    let before = g.W.Sink.taken c.args.out.now in let after = g.W.Sink.taken c.carry_out.new.out in
+    done_as_asked (subcommand_of program (map (λ (w : Bor (List ℕ)). w.now) c.args.words.now)) c.in-Ok.plan plan c.in-Ok.ensures.asked.1 asked.1
+    input files before after _ (subst (λ (b : Bool). Does input files c.in-Ok.plan before after b) c.in-Ok-true.field-0-test c.in-Ok-true.ensures)
+
+pub returns-in-Ok-false-clause-done : goal.returns-in-Ok-false-clause-done
+returns-in-Ok-false-clause-done g c = λ ended plan asked.
+    let input = g.S.Source.left c.args.input.now in let files = g.F.Folder.file c.args.folder.now in
+    let before = g.W.Sink.taken c.args.out.now in let after = g.W.Sink.taken c.carry_out.new.out in
+    done_as_asked (subcommand_of program (map (λ (w : Bor (List ℕ)). w.now) c.args.words.now)) c.in-Ok.plan plan c.in-Ok.ensures.asked.1 asked.1
+    input files before after _ (subst (λ (b : Bool). Does input files c.in-Ok.plan before after b) c.in-Ok-false.field-0-test c.in-Ok-false.ensures)

@@ -1,0 +1,55 @@
+//! `present`: the monoid of a presentation.
+use crate::stop::Stop;
+use presentations::{Named, PresFault, Presentation, table_of};
+use std::alloc::Global;
+use streams::{Sink, write_whole};
+
+/// The most exponent vectors that are merged.
+const LIMIT: u32 = 65536;
+
+/// The order, the elements of the generators, and the rows.
+fn show_monoid<W: Sink>(alloc: Global, named: &Named, out: &mut W) -> Result<(), Stop<'static>> {
+    let table = &named.table;
+    let order = table.order();
+    let mut text = format!(in alloc; "order {order}\ngenerators")?;
+    for generator in &named.generators {
+        let (letter, element) = (generator.letter as char, generator.element);
+        write!(text, " {letter}={element}")?;
+    }
+    text.push('\n')?;
+    for x in 0..order {
+        text.push_str("row")?;
+        for y in table.row(x) {
+            let y = *y;
+            write!(text, " {y}")?;
+        }
+        text.push('\n')?;
+    }
+    write_whole(out, text.as_bytes())?;
+    Ok(())
+}
+
+/// Prints the monoid that the text presents, or why there is none.
+pub fn present_command<W: Sink>(
+    alloc: Global,
+    text: &str,
+    out: &mut W,
+) -> Result<bool, Stop<'static>> {
+    let named = Presentation::read(alloc, text.as_bytes()).and_then(|presentation| table_of(
+        alloc,
+        &presentation,
+        LIMIT,
+    ));
+    let refused = match named {
+        Ok(named) => {
+            show_monoid(alloc, &named, out)?;
+            return Ok(true);
+        }
+        Err(PresFault::OutOfMemory) => return Err(Stop::Memory),
+        Err(PresFault::Text) => "refused 1 Text\n",
+        Err(PresFault::Unbounded) => "refused 2 Unbounded\n",
+        Err(PresFault::Limit) => "refused 3 Limit\n",
+    };
+    write_whole(out, refused.as_bytes())?;
+    Ok(false)
+}
