@@ -9,6 +9,8 @@ mod presenting;
 mod showing;
 mod stop;
 mod telling;
+#[cfg(test)]
+mod tests;
 mod whole_run;
 
 use crate::folder::HostFolder;
