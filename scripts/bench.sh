@@ -2,7 +2,8 @@
 # Measures the built program: scripts/bench.sh [--runs N] [--members] [CERTIFICATE ..]
 #
 # For each certificate the least wall time of N runs (15) of `misere check`, the peak memory, its order q and the bound B up to
-# which heaps are looked at. With --members also how many members its closure ever kept, by the least limit that is enough.
+# which heaps are looked at. A peak of about 10 MB or less is that of the script itself. With --members also how many members
+# its closure ever kept, by the least limit that is enough.
 # Without a certificate those of certificates/ are taken.
 here=$(cd "$(dirname "$0")/.." && pwd) || exit 3
 "$here/misere" --help > /dev/null || exit 3
