@@ -6,7 +6,7 @@ ghost use Rattle.monoid_table.specs.Grids.{IsShaped, IsTable, entry, times_in};
 use crate::fault::LawFault;
 use crate::job::TableJob;
 use crate::monoid::CommMonoid;
-use crate::triples::entry_at;
+use crate::triples::{entry_at, row_at};
 use std::alloc::{Allocator, Global};
 use std::marker::Model;
 
@@ -75,9 +75,7 @@ impl<A: Allocator> Table<A> {
         ensures products { (y : ℕ) → y < self.now.order → slice_index result.now y ≡ times_in self.now x y }
         ensures within { All (λ e. e < self.now.order) result.now }
     {
-        let order = self.order as usize;
-        let start = x as usize * order;
-        &self.rows[start..start + order]
+        row_at(&self.rows, self.order as usize, x as usize)
     }
 
     /// The rows, as `new` was given them.

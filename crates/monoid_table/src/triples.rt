@@ -1,5 +1,5 @@
 //! Looking at triples of elements: rows of any shape, and whether a law fails.
-ghost use Rattle.std.specs.Prelude.{◌≡◌, ◌+◌, ◌-◌, ◌*◌, ◌/◌, ◌%◌, ◌<◌, ◌≤◌, ◌↔◌, ℕ, length, IsTrue, slice_index, true, false, not};
+ghost use Rattle.std.specs.Prelude.{◌≡◌, ◌+◌, ◌-◌, ◌*◌, ◌/◌, ◌%◌, ◌<◌, ◌≤◌, ◌↔◌, ℕ, length, IsTrue, slice_index, All, true, false, not};
 ghost use Rattle.monoid_table.specs.Grids.{IsShaped, entry};
 ghost use Rattle.monoid_table.specs.Turns.{pair_holds, groups_alike, triple_holds, triples};
 
@@ -12,6 +12,18 @@ pub fn entry_at(rows: &[u16], order: usize, x: usize, y: usize) -> usize
     ensures within { result < order }
 {
     rows[x * order + y] as usize
+}
+
+/// The products of x with 0, 1, and so on.
+pub fn row_at(rows: &[u16], order: usize, x: usize) -> &[u16]
+    requires shaped { IsShaped order rows.now }
+    requires x_in { x < order }
+    ensures length_is { length result.now ≡ order }
+    ensures products { (y : ℕ) → y < order → slice_index result.now y ≡ entry order rows.now x y }
+    ensures within { All (λ e. e < order) result.now }
+{
+    let start = x * order;
+    &rows[start..start + order]
 }
 
 /// Whether there are as many rows as the order says, each of so many numbers below it, and the order is 1 to 256.
@@ -50,9 +62,11 @@ fn first_breach(rows: &[u16], order: usize, x: usize, y: usize, from: usize, to:
     ensures alike { (z : ℕ) → from ≤ z → z < result → groups_alike order rows.now x y z ≡ true }
     ensures breach { result < to → groups_alike order rows.now x y result ≡ false }
 {
-    let xy = entry_at(rows, order, x, y);
+    let row_x = row_at(rows, order, x);
+    let row_y = row_at(rows, order, y);
+    let row_xy = row_at(rows, order, entry_at(rows, order, x, y));
     for z in from..to {
-        if entry_at(rows, order, xy, z) != entry_at(rows, order, x, entry_at(rows, order, y, z)) {
+        if row_xy[z] != row_x[row_y[z] as usize] {
             return z;
         }
     }
