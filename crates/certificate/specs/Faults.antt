@@ -1,4 +1,4 @@
--- The numbers under which faults are printed.
+-- The numbers under which faults are printed. This project's own.
 use Rattle.std.specs.Prelude.{ℕ}
 use Rattle.certificate.specs.declared.fault.TextFault.{TextFault}
 use Rattle.certificate.specs.declared.fault.TextFault.TheVariants.{Text, Memory}

@@ -1,4 +1,4 @@
--- What a function returned, beside what reading on lists gives.
+-- What a function returned, beside what reading on lists gives. This project's own.
 use Rattle.std.specs.Prelude.{◌≡◌, Option, Some, None, Result, Ok, Err}
 use Rattle.certificate.specs.declared.fault.TextFault.{TextFault}
 use Rattle.certificate.specs.declared.fault.TextFault.TheVariants.{Text, Memory}

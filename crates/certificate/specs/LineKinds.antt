@@ -1,4 +1,4 @@
--- The lines of each kind, as a writer takes them one after another.
+-- The lines of each kind, as a writer takes them one after another. This project's own.
 use Rattle.std.specs.Prelude.{List, [], ◌∷◌, map, codes}
 use Rattle.std.specs.Fmt.{decimal}
 use Rattle.misere_theory.specs.Certificates.{Certificate}

@@ -25,6 +25,18 @@ row 0 1 2 3 4 5 6 7\nrow 1 0 5 6 7 2 3 4\nrow 2 5 7 5 5 4 2 2\nrow 3 6 5 7 7 2 4
 row 4 7 5 7 7 2 4 4\nrow 5 2 4 2 2 7 5 5\nrow 6 3 2 4 4 5 7 7\nrow 7 4 2 4 4 5 7 7\n\
 apart 0 1 1 3 1 1 0 0 0 0 0 0 4 2 1 2 2 0 1 3 3 0 1 1 0 5 0 0\nend\n";
 
+/// A text for `0.75` that is right on all heaps up to 8, and no further.
+const REFUTED: &[u8] = b"mqc 1\ncode 0.75\norder 8\nstart 4\nperiod 2\nphi 1 2 1 2 3\nportion 1 6\n\
+words 0:1 0:2 0:5 1:2 1:5 2:2 4:2\n\
+row 0 1 2 3 4 5 6 7\nrow 1 0 4 5 2 3 7 6\nrow 2 4 6 4 7 2 2 4\nrow 3 5 4 6 2 7 7 6\n\
+row 4 2 7 2 6 4 4 2\nrow 5 3 2 7 4 6 6 7\nrow 6 7 2 7 4 6 6 7\nrow 7 6 4 6 2 7 7 6\n\
+apart 0 1 1 1 1 0 3 0 0 0 0 5 0 2 2 2 0 1 3 3 0 1 4 0 1 0 1 0\nend\n";
+
+/// A text for `0.3` with an element that no heap reaches.
+const UNREACHED: &[u8] =
+    b"mqc 1\ncode 0.3\norder 4\nstart 1\nperiod 2\nphi 1 0\nportion 1\nwords 0:1 0:1 2:1\n\
+row 0 1 2 3\nrow 1 0 3 2\nrow 2 3 0 1\nrow 3 2 1 0\napart 0 0 0 0 0 0\nend\n";
+
 /// The certificate of `0.3`, with one thing changed.
 const OTHERS: [&[u8]; 19] = [
     // line ends of two bytes
@@ -89,7 +101,7 @@ impl Sink for Slit {
 
 #[test]
 fn writes_what_it_reads(rt: HostRuntime) -> Result<(), Fail> {
-    for bytes in [OF_0_1, OF_0_3, OF_0_33, OF_0_75] {
+    for bytes in [OF_0_1, OF_0_3, OF_0_33, OF_0_75, REFUTED, UNREACHED] {
         let cert = read(rt.alloc(), bytes)?;
         let mut sink = MemorySink::new(rt.alloc());
         write(&cert, &mut sink)?;
@@ -124,6 +136,15 @@ fn refuses_other_texts(rt: HostRuntime) {
     for bytes in OTHERS {
         assert!(rt; matches!(read(rt.alloc(), bytes), Err(TextFault::Text)));
     }
+}
+
+#[test]
+fn asks_no_memory_for_an_order(rt: HostRuntime) {
+    let ration = Ration::new(rt.alloc(), 1);
+    let front = b"mqc 1\ncode 0.3\norder 256\nstart 1\nperiod 1024\n";
+    let got = read(&ration, front).map(|_| ());
+    assert_eq!(rt; got, Err(TextFault::Text));
+    assert!(rt; !ration.has_refused());
 }
 
 #[test]
