@@ -99,11 +99,11 @@ impl<A: Allocator + Copy> Closing<A> {
                 })
             }
             Ok(Grown::Over) => {
-                *left = left.saturating_sub(closure.spent().saturating_sub(before));
+                *left = left.saturating_sub((closure.spent() - before) as u64);
                 Stage::Ended(Err(Refusal::Limit))
             }
             Ok(Grown::Done) => {
-                *left = left.saturating_sub(closure.spent().saturating_sub(before));
+                *left = left.saturating_sub((closure.spent() - before) as u64);
                 match first_breach(&closure, &lines.inside) {
                     Some(i) => match closure.word(i) {
                         Ok(position) => Stage::Ended(Err(Refusal::Outcome(code, position))),

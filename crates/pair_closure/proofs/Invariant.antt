@@ -1,5 +1,5 @@
 -- What every turn keeps.
-use Rattle.std.proofs.Common.{◌≡◌, ℕ, zero, suc, ◌+◌, ◌-◌, ◌<◌, ◌≤◌, Bool, true, false, not, List, [], ◌∷◌, ◌++◌, length, get_or, set, refl, sym, ap, ap₂, ◌∙◌, subst, inl, inr, ◌⊎◌, arith, filter, AllPairs, nat_lt, ltb-true, ltb-false, length-append}
+use Rattle.std.proofs.Common.{◌≡◌, ℕ, ◌+◌, ◌-◌, ◌<◌, ◌≤◌, Bool, true, false, not, List, [], ◌∷◌, ◌++◌, length, get_or, set, refl, sym, ap, ap₂, ◌∙◌, subst, inl, inr, ◌⊎◌, arith, filter, AllPairs, nat_lt, ltb-true, ltb-false, length-append}
 use Rattle.std.proofs.lemmas.List.{get_or_append_left, get_or_push}
 use Rattle.std.proofs.lemmas.List.Quantifiers.{all_pairs_push}
 use Rattle.std.proofs.lemmas.List.Kept.{AllPairs-filter}
@@ -7,14 +7,13 @@ use Rattle.std.proofs.lemmas.List.Sums.{passes_at_first}
 use Rattle.std.proofs.lemmas.Bool.{cases_lt}
 use Rattle.monoid_table.specs.Laws.{CommMonoidLaws}
 use Rattle.pair_closure.proofs.CoverLaws.{CoverLaws}
-use Rattle.monoid_table.specs.Grids.{Grid}
 use Rattle.transition_algebra.specs.declared.pair.Pair.{Pair}
 use Rattle.pair_closure.specs.declared.members.Member.{Member}
 use Rattle.pair_closure.specs.declared.settle.Held.{Held}
 use Rattle.pair_closure.specs.declared.settle.Generator.{Generator}
 use Rattle.pair_closure.specs.Turns.{State}
 use Rattle.pair_closure.specs.Turns as turning
-use Rattle.pair_closure.proofs.Lists.{In, by_cond, find_any, any_from, none_from, not_both, either, In-left, In-last, In-push, In-filter, In-filter_passes, In-filter_from, In-set, In-at, true_or, any_set, AllPairs-set}
+use Rattle.pair_closure.proofs.Lists.{In, by_cond, find_any, any_from, none_from, not_both, either, In-left, In-last, In-push, In-filter, In-filter_passes, In-filter_from, In-set, In-at, any_set, AllPairs-set}
 
 -- x is a product of generators
 pub data Made (one : Pair) (times : Pair → Pair → Pair) (gens : List (Generator)) : Pair → Type 0 where
@@ -386,57 +385,3 @@ module _ (IsIn : Pair → Type 0) (one : Pair) (times : Pair → Pair → Pair) 
         product_inv i lt (ltb-true _ _ (passes_at_first (λ m. nat_lt m.by (length s.generators)) s.held no_held lt)) (ltb-false _ _ room))
         (λ _. by_cond (λ t. Inv (Settled t) t) (nat_lt s.next (length s.heaps)) _ _ (λ more. heap_inv (ltb-true _ _ more) (ltb-false _ _ room)) (λ _. v)))
         (λ none. let some = v.first.0 in let no = ltb-false _ _ none in absurd (omega arith)))
-
-  module _ (table : Grid) (heaps : List Pair) (limit : ℕ) (heaps_in : (x : Pair) → In x heaps → IsIn x) where
-    first_inv : let t = turning.keep one times covers (turning.start table heaps limit) one 0 0 (length heaps) in Inv (Settled t) t
-    first_inv = record {
-      heaps_in = heaps_in;
-      held_in = λ m i. elim i [ inl e ↦ subst (λ z. IsIn z.pair) (sym e) laws.one_in | inr k ↦ absurd k ];
-      gens_are = λ g i. absurd i;
-      one_held = true_or (covers one one) false (inl (order.itself one laws.one_in));
-      gens_held = λ g i. absurd i;
-      multiplied = λ m i. elim i [ inl e ↦ inl (ap (λ z. z.pair) e) | inr k ↦ absurd k ];
-      members_made = λ e i. elim i [ inl q ↦ Empty (ap (λ z. z.pair) q) | inr k ↦ absurd k ];
-      members_held = λ e i. elim i [
-        | inl q ↦ true_or (covers one e.pair) false (inl (subst (λ z. covers one z.pair ≡ true) (sym q) (order.itself one laws.one_in)))
-        | inr k ↦ absurd k
-      ];
-      held_members = λ m i. elim i [
-        | inl e ↦ subst (λ n. (n.place < 1) × ((get_or (record { pair = one; parent = 0; heap = 0 } ∷ []) n.place no_member).pair ≡ n.pair)) (sym e) (omega arith, refl)
-        | inr k ↦ absurd k
-      ];
-      heaps_made = λ i l. absurd (omega arith);
-      first = (omega arith, refl);
-      steps = λ i p l. absurd (omega arith);
-      apart = λ i j d p q. absurd (omega arith);
-      minimal = λ i j d p q. absurd (omega arith);
-      within = omega arith;
-    }
-
-    -- after every number of turns, but for none, all is kept
-    pub turns_inv : (n : ℕ) → let t = turning.turns one times covers n (turning.start table heaps limit) in (t ≡ turning.start table heaps limit) ⊎ Inv (Settled t) t
-    turns_inv zero = inl refl
-    turns_inv (suc n) = inr (elim (turns_inv n) [
-      | inl e ↦ subst (λ t. Inv (Settled (turning.turn one times covers t)) (turning.turn one times covers t)) (sym e)
-          (by_cond (λ t. Inv (Settled t) t) (nat_lt limit 0) _ _ (λ over. let no = ltb-true _ _ over in absurd (omega arith)) (λ _. first_inv))
-      | inr v ↦ turn_inv _ v
-    ])
-
-    abbrev Alike : State → State → Type 0
-    Alike s t = (t.heaps ≡ s.heaps) × (t.table ≡ s.table) × (t.limit ≡ s.limit)
-
-    -- turns change neither the heaps nor the table nor the limit
-    pub turn_constants : (s : State) → ((turning.turn one times covers s).heaps ≡ s.heaps) × ((turning.turn one times covers s).table ≡ s.table) × ((turning.turn one times covers s).limit ≡ s.limit)
-    turn_constants s =
-        by_cond (Alike s) (nat_lt s.limit (length s.members)) _ _ (λ _. (refl, refl, refl)) (λ _.
-        by_cond (Alike s) (nat_lt 0 (length s.members)) _ _
-        (λ _. by_cond (Alike s) (nat_lt (turning.pending one times covers s) (length s.held)) _ _
-        (λ _. by_cond (Alike s) (covered s.held (times (get_or s.held (turning.pending one times covers s) no_held).pair (get_or s.generators (get_or s.held (turning.pending one times covers s) no_held).by no_generator).pair)) _ _ (λ _. (refl, refl, refl)) (λ _. (refl, refl, refl)))
-        (λ _. by_cond (Alike s) (nat_lt s.next (length s.heaps)) _ _
-        (λ _. by_cond (Alike s) (covered s.held (get_or s.heaps s.next one)) _ _ (λ _. (refl, refl, refl)) (λ _. (refl, refl, refl)))
-        (λ _. (refl, refl, refl))))
-        (λ _. (refl, refl, refl)))
-
-    pub turns_heaps : (n : ℕ) → (turning.turns one times covers n (turning.start table heaps limit)).heaps ≡ heaps
-    turns_heaps zero = refl
-    turns_heaps (suc n) = (turn_constants (turning.turns one times covers n (turning.start table heaps limit))).0 ∙ turns_heaps n

@@ -3,6 +3,7 @@ pub mod CoverLaws
 pub mod PairLaws
 pub mod ChainLaws
 pub mod Invariant
+pub mod FromStart
 pub mod Theorem
 pub mod Machine
 pub mod PendingLaws

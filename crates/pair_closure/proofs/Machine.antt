@@ -15,6 +15,7 @@ use Rattle.pair_closure.specs.Progress.{Tell, turn, covered, members_with, held_
 use Rattle.pair_closure.proofs.Lists.{In, In-at, place_of, find_any, any_from, either, not_both}
 use Rattle.pair_closure.proofs.PairLaws.{cover_laws}
 use Rattle.pair_closure.proofs.Invariant as invariant
+use Rattle.pair_closure.proofs.FromStart.{turns_inv}
 
 -- turns reach the state from its table, heaps and limit
 pub record Reached (s : State) : Type 0 where
@@ -37,7 +38,7 @@ kept_by_turns s r =
     let q = s.table in
     let h = r.lawful in
     subst (λ z. (z ≡ turning.start s.table s.heaps s.limit) ⊎ invariant.Inv (IsPair q.order) one (times q) covers (pair_laws q h) (cover_laws q h) (invariant.Settled (IsPair q.order) one (times q) covers (pair_laws q h) (cover_laws q h) z) z) (sym r.reached)
-    (invariant.turns_inv (IsPair q.order) one (times q) covers (pair_laws q h) (cover_laws q h) q s.heaps s.limit (heaps_below s r) r.units)
+    (turns_inv (IsPair q.order) one (times q) covers (pair_laws q h) (cover_laws q h) q s.heaps s.limit (heaps_below s r) r.units)
 
 pub held_in : (s : State) → Reached s → (i : ℕ) (d : Held) → i < length s.held → IsPair s.table.order (get_or s.held i d).pair
 held_in s r i d l = elim (kept_by_turns s r) [

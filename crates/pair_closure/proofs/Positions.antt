@@ -25,8 +25,8 @@ use Rattle.pair_closure.specs.Positions.{as_pair, kept, IsClaimOver, Says, Speak
 use Rattle.transition_algebra.specs.PairLaws.{has, empty_has, same_pair, times_has, has_left, has_right, pair_laws}
 use Rattle.monoid_table.specs.Tables.{IsTableGrid}
 use Rattle.pair_closure.proofs.Machine.{Reached, kept_by_turns}
-use Rattle.pair_closure.proofs.Lists.{In, find_any, any_from, In-Contains, Contains-In, place_of}
-use Rattle.pair_closure.proofs.PairLaws.{covering, cover_laws}
+use Rattle.pair_closure.proofs.Lists.{In, find_any, any_from, In-Contains, Contains-In, place_of, not_both}
+use Rattle.pair_closure.proofs.PairLaws.{covering, covers_from, cover_laws}
 use Rattle.pair_closure.proofs.Invariant as invariant
 use Rattle.pair_closure.proofs.Theorem as reached
 
@@ -289,8 +289,15 @@ speaks s r code c g = elim (kept_by_turns s r) [
     are : AreHeapPairs code c s.table s.heaps
     are = heap_pairs code c s.table s.heaps r.heaps_in g
 
+uncovered : (p r : Pair) → covers p r ≡ false → theory.PairCovers (as_pair p) (as_pair r) → ⊥
+uncovered p r e k = not_both (covers_from p r (record {
+  value = k.same_value;
+  among = λ x h. items_have r.options x (k.among x (has_items p.options x h));
+  some = λ x h. let (y, i) = k.some x (has_items r.options x h) in (y, items_have p.options y i);
+})) e
+
 pub minimal : (s : State) → Reached s → IsMinimal s
 minimal s r = elim (kept_by_turns s r) [
   | inl e ↦ subst IsMinimal (sym e) (record { different = λ i j d p q. absurd (omega arith); minimal = λ i j d p q. absurd (omega arith) })
-  | inr v ↦ record { different = v.apart; minimal = v.minimal }
+  | inr v ↦ record { different = v.apart; minimal = λ i j d p q. let (a, b) = v.minimal i j d p q in (uncovered _ _ a, uncovered _ _ b) }
 ]

@@ -132,12 +132,12 @@ spent_le p r =
       | inr less ↦ less
     ]
 
-pub spent_fits : (p : Progress) → IsRun p → p.spent + 1 < 2 ^ 64
+pub spent_fits : (p : Progress) → IsRun p → p.spent + 1 < 2 ^ 128
 spent_fits p r =
     let h = spent_le p r in
-    let few = r.few in
+    let short = r.short in
     let small = r.small in
-    let k = product_le p.state.limit (length p.state.heaps) (2 ^ 32 - 1) (2 ^ 32 - 1) (omega arith) (omega arith) in
+    let k = product_le p.state.limit (length p.state.heaps) (2 ^ 32 - 1) (2 ^ 58 - 1) (omega arith) (omega arith) in
     omega arith
 
 -- one turn more
@@ -154,7 +154,7 @@ next_run p t n r going e m =
     record {
       lawful = subst IsTableGrid (sym a) r.lawful;
       heaps_in = pairs_in _ _ _ _ a b r.heaps_in;
-      few = subst (λ z. length z < 2 ^ 32) (sym b) r.few;
+      short = subst (λ z. length z < 2 ^ 58) (sym b) r.short;
       small = subst (λ z. z < 2 ^ 32) (sym c) r.small;
       reached = from_data t n s.table s.heaps s.limit reach a b c;
       going = subst (λ z. (k : ℕ) → k < n → has_ended (turning.turns one (times z) covers k (turning.start z t.heaps t.limit)) ≡ false) (sym a)
@@ -201,10 +201,6 @@ same_steps (suc n) p =
     let q = steps n p in
     by_cond (λ z. SameData p.state z.state) (has_ended q.state) q (moved q) (λ _. a)
     (λ _. let b = same_after q.state in record { table = b.table ∙ a.table; heaps = b.heaps ∙ a.heaps; limit = b.limit ∙ a.limit })
-
-pub failed_steps : (n : ℕ) (p : Progress) → (steps n p).failed ≡ p.failed
-failed_steps zero p = refl
-failed_steps (suc n) p = let q = steps n p in by_cond (λ z. z.failed ≡ p.failed) (has_ended q.state) q (moved q) (λ _. failed_steps n p) (λ _. failed_steps n p)
 
 -- one turn keeps one member more at most
 abbrev OneMore : State → State → Type 0
@@ -254,9 +250,6 @@ data_of n p q e = subst (λ z. SameData p.state z.state) (sym e) (same_steps n p
 
 pub few_of : (m n : ℕ) (p q : Progress) → q ≡ steps m p → m ≤ n → length q.state.members ≤ length p.state.members + n
 few_of m n p q e l = subst (λ z. length z.state.members ≤ length p.state.members + n) (sym e) (let h = few_steps m p in omega arith)
-
-pub failed_of : (n : ℕ) (p q : Progress) → q ≡ steps n p → p.failed ≡ true → q.failed ≡ true
-failed_of n p q e f = ap (λ z. z.failed) e ∙ failed_steps n p ∙ f
 
 pub spent_of : (n : ℕ) (p q : Progress) → q ≡ steps n p → has_ended q.state ≡ false → q.spent ≡ p.spent + n
 spent_of n p q e h = ap (λ z. z.spent) e ∙ spent_steps n p (ap (λ z. has_ended z.state) (sym e) ∙ h)

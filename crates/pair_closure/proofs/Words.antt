@@ -1,5 +1,5 @@
 -- Words of members, as positions.
-use Rattle.std.proofs.Common.{◌≡◌, ℕ, zero, suc, ◌<◌, ◌≤◌, List, [], ◌∷◌, ◌++◌, length, get_or, refl, sym, ap, ◌∙◌, subst, inl, inr, arith, Contains}
+use Rattle.std.proofs.Common.{◌≡◌, ℕ, zero, suc, ◌^◌, ◌<◌, ◌≤◌, List, [], ◌∷◌, ◌++◌, length, get_or, refl, sym, ap, ◌∙◌, subst, inl, inr, arith, Contains}
 use Rattle.std.specs.List.Sorted.{IsPermutation}
 use Rattle.std.proofs.lemmas.List.Sorted.{IsPermutation-refl, IsPermutation-append_left, IsPermutation-middle, IsPermutation-trans}
 use Rattle.misere_theory.specs.Games.{IsHeap, IsHeapUpTo, IsPosition}
@@ -88,8 +88,8 @@ walk_goes s r place at heaps more m w some e p =
 pub walk_falls : (s : State) → Reached s → (place at : ℕ) (heaps : List ℕ) (m : Member) → Walking s place at heaps → 0 < at → m ≡ get_or s.members at blank → m.parent < at
 walk_falls s r place at heaps m w some e = subst (λ z. z.parent < at) (sym e) (unfolds s r at some w.within).earlier
 
-pub walk_sizes : (s : State) → Reached s → length s.heaps < 4294967296 → (place at : ℕ) (heaps : List ℕ) (m : Member) → Walking s place at heaps → 0 < at → m ≡ get_or s.members at blank → IsSize m.heap
-walk_sizes s r few place at heaps m w some e = subst (λ z. IsSize z.heap) (sym e) (let (a, b) = (unfolds s r at some w.within).heap in (a, omega arith))
+pub walk_sizes : (s : State) → Reached s → length s.heaps < 2 ^ 58 → (place at : ℕ) (heaps : List ℕ) (m : Member) → Walking s place at heaps → 0 < at → m ≡ get_or s.members at blank → IsSize m.heap
+walk_sizes s r short place at heaps m w some e = subst (λ z. IsSize z.heap) (sym e) (let (a, b) = (unfolds s r at some w.within).heap in (a, omega arith))
 
 no_more : (heaps : List ℕ) → heaps ++ [] ≡ heaps
 no_more [] = refl

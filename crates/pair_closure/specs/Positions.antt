@@ -1,5 +1,5 @@
 -- What the pairs of a closure say of positions.
-use Rattle.std.specs.Prelude.{◌≡◌, ℕ, ◌<◌, true, false, List, map, Contains, slice_index_or, length, AllPairs, IsPermutation}
+use Rattle.std.specs.Prelude.{◌≡◌, ℕ, ◌<◌, true, List, map, Contains, slice_index_or, length, AllPairs, IsPermutation}
 use Rattle.std.specs.FinSet as set
 use Rattle.misere_theory.specs.Quotients.{Claim, GivesElements, Monoid, ReachesMoreThan}
 use Rattle.misere_theory.specs.Games.{IsHeap, IsHeapUpTo, IsPosition}
@@ -72,7 +72,11 @@ abbrev pub IsExceeded : State → Type 0
 IsExceeded s =
     (code : List ℕ) (c : Claim) → IsClaimOver code c s.table s.heaps → ReachesMoreThan IsHeap code c s.limit
 
+-- neither covers the other, in the words of the theory
+abbrev pub AreApart : Pair → Pair → Type 0
+AreApart a b = (theory.PairCovers (as_pair a) (as_pair b) → ⊥) × (theory.PairCovers (as_pair b) (as_pair a) → ⊥)
+
 -- What a state is in itself: the members ever kept all differ, and no member held covers another.
 pub record IsMinimal (s : State) : Type 0 where
   pub different : AllPairs (λ a b. a.pair ≡ b.pair → ⊥) s.members
-  pub minimal : AllPairs (λ a b. (covers a.pair b.pair ≡ false) × (covers b.pair a.pair ≡ false)) s.held
+  pub minimal : AllPairs (λ a b. AreApart a.pair b.pair) s.held

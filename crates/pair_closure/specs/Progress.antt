@@ -79,7 +79,7 @@ stopped p = record p { failed = true }
 pub record IsRun (p : Progress) : Type 0 where
   pub lawful : IsTableGrid p.state.table
   pub heaps_in : (k : ℕ) → k < length p.state.heaps → IsPair p.state.table.order (slice_index_or p.state.heaps k one)
-  pub few : length p.state.heaps < 2 ^ 32
+  pub short : length p.state.heaps < 2 ^ 58
   pub small : p.state.limit < 2 ^ 32
   pub reached :
       p.state

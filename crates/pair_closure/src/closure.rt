@@ -4,6 +4,7 @@ ghost use Rattle.transition_algebra.specs.Pairs.{IsPair, one};
 ghost use Rattle.pair_closure.specs.Progress.{SameData, begun, moved, step, steps, stopped, is_done, is_over, has_ended, blank_held, KeepsEmpty, Multiplies, TriesHeap};
 ghost use Rattle.pair_closure.specs.Positions.{IsWordOf, Speaks, IsMinimal, IsClosedOver, IsExceeded};
 
+use crate::fits::is_short;
 use crate::members::{Member, Members};
 use crate::settle::{Generator, Held, add, begin, hold, pending, settle_heap, settle_product};
 use allocation::Memory;
@@ -47,7 +48,7 @@ pub struct Closure<A: Allocator = Global> {
     next: usize,
     // members held before this place were multiplied by all generators
     from: usize,
-    spent: u64,
+    spent: u128,
     failed: bool,
 }
 
@@ -79,14 +80,14 @@ fn empty() -> Pair
 }
 
 impl<A: Allocator + Copy> Closure<A> {
-    /// No member is held yet, and no memory is taken. Item h of the pairs, counted from 1, stands for a heap of size h;
-    /// there are fewer than 2^32 of them. It ends within limit times their number, plus 2, turns.
+    /// No member is held yet, and no memory is taken. Item h of the pairs, counted from 1, stands for a heap of size h. It
+    /// ends within limit times their number, plus 2, turns.
     pub fn new(alloc: A, table: Table<A>, heaps: Vec<Pair, A>, limit: u32) -> Closure<A>
         requires pairs { All (IsPair table.order) heaps.items }
-        requires few { length heaps.items < 2 ^ 32 }
         ensures { result ≡ begun table heaps.items limit }
     {
         monoid_table::is_monoid(&table);
+        is_short(&heaps);
         Closure {
             table,
             heaps,
@@ -196,12 +197,8 @@ impl<A: Allocator + Copy> Closure<A> {
     fn take(&mut self) -> Result<bool, AllocError>
         ensures ok { OnOk result (self.new ≡ step self.old) }
         ensures last { result ≡ Ok false → has_ended self.old.state ≡ true }
-        ensures refused { self.old.failed ≡ true → IsErr result }
         ensures err { OnErr result (self.new ≡ self.old) }
     {
-        if self.failed {
-            return Err(AllocError);
-        }
         match self.task() {
             Task::KeepEmpty => {
                 self.keep_empty()?;
@@ -267,12 +264,16 @@ impl<A: Allocator + Copy> Closure<A> {
         // A refused growth stops it where it is, for good.
         ensures refused { OnErr result ((n : ℕ) × (n ≤ units) × (self.new ≡ stopped (steps n self.old))) }
         ensures stays_refused { self.old.failed ≡ true → IsErr result }
+        ensures stays { self.old.failed ≡ true → self.new ≡ self.old }
 
         ensures data { SameData self.old.state self.new.state }
         ensures few { length self.new.state.members ≤ length self.old.state.members + units }
         ensures spent { result ≡ Ok Grown.More → self.new.spent ≡ self.old.spent + units }
         ensures spent_range { (self.old.spent ≤ self.new.spent) × (self.new.spent ≤ self.old.spent + units) }
     {
+        if self.failed {
+            return Err(Memory);
+        }
         for _unit in 0..units {
             match self.take() {
                 Ok(true) => {}
@@ -287,7 +288,7 @@ impl<A: Allocator + Copy> Closure<A> {
     }
 
     /// How many turns it took.
-    pub fn spent(&self) -> u64
+    pub fn spent(&self) -> u128
         ensures { result ≡ self.now.spent }
     {
         self.spent

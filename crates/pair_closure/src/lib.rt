@@ -1,8 +1,10 @@
 //! The pairs of all positions, closed under sums, as a minimal cover.
 //!
 //! A pair covers another of the same value where its options' values are among the other's, and it has one where the
-//! other has one. Products respect this: what covers a pair, times a third, covers the pair times the third. So what
-//! the pairs of a cover say of the rule holds at every position.
+//! other has one. Products respect this: what covers a pair, times a third, covers the pair times the third. So a list
+//! that covers the empty position and is closed covers every position. Of the rule this says two things. A position has
+//! an option whose value is in the portion, if the pair that covers it has one; and it has an option at all, if that pair
+//! has one. Since a cover leaves options' values out, it doesn't say that none of a position's is in the portion.
 //!
 //! The first member is the pair of the empty position. Then the heaps are tried in turn. A heap whose own pair a member
 //! covers makes no products: that member is the pair of a word of earlier heaps, and beside any position the word
@@ -18,6 +20,7 @@
 
 mod closure;
 mod covering;
+mod fits;
 mod laws;
 mod members;
 mod settle;

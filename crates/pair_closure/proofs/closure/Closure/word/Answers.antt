@@ -19,7 +19,7 @@ loop-at-init g c =
 pub push-requires : goal.push-requires
 push-requires g c =
     let run : IsRun c.args.self.now = subst IsRun c.self.view_is c.self.invariant.0 in
-    walk_sizes c.args.self.now.state (of_run _ run) run.few _ c.loop-at.at c.loop-at.word c.get-member.result c.loop-at.invariant c.loop-at-test.true
+    walk_sizes c.args.self.now.state (of_run _ run) run.short _ c.loop-at.at c.loop-at.word c.get-member.result c.loop-at.invariant c.loop-at-test.true
     (c.get-member.ensures ∙ ap (λ z. get_or z.state.members c.loop-at.at blank) c.self.view_is)
 
 pub loop-at-smaller : goal.loop-at-smaller
