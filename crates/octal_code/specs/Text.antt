@@ -1,4 +1,5 @@
--- The spelling of a code: d0, a point, and the digits d1 to dk.
+-- The spelling of a code: d0, a point, and the digits d1 to dk, as Plambeck and Siegel, and Siegel, write it.
+-- That k is 1 to 16, that the last digit isn't 0, and the refusal of a longer code are this project's own.
 use Rattle.std.specs.Prelude.{◌≡◌, ◌≢◌, ℕ, ◌+◌, ◌-◌, ◌≤◌, ◌<◌, ◌⊎◌, List, [], ◌∷◌, length, slice_index, All, map}
 use Rattle.misere_theory.specs.Games.{IsOctalCode}
 

@@ -1,4 +1,4 @@
-ghost use Rattle.std.specs.Prelude.{◌≡◌, ◌-◌, ◌<◌, ◌≤◌, ◌↔◌, ◌⊎◌, ℕ, List, IsTrue, IfOk, All, length, string_bytes};
+ghost use Rattle.std.specs.Prelude.{◌≡◌, ◌-◌, ◌<◌, ◌≤◌, ◌^◌, ◌↔◌, ◌⊎◌, ℕ, List, IsBitSet, IsTrue, IfOk, All, length, string_bytes};
 ghost use Rattle.misere_theory.specs.Games.{digit, IsOctalCode};
 ghost use Rattle.octal_code.specs.Bits.{has_bit, leaves_one, takes_all};
 ghost use Rattle.octal_code.specs.Spelling.{IsOctalByte, IsSpelling, digits_in};
@@ -100,23 +100,29 @@ impl Code {
         self.count - 1
     }
 
-    /// Whether the digit dj has this bit.
+    /// Whether the digit dj has this bit, which is 1, 2 or 4.
+    #[tactic(auto, using(crate::proofs::Bits::set))]
     pub fn has_bit(&self, j: u64, bit: u8) -> bool
-        ensures { result ≡ has_bit self.now j bit }
+        ensures value { result ≡ has_bit self.now j bit }
+        ensures set { (k : ℕ) → bit ≡ 2 ^ k → (IsTrue result ↔ IsBitSet (digit self.now j) k) }
     {
         self.digit(j) & bit != 0
     }
 
     /// Whether the whole heap n may be taken as j.
+    #[tactic(auto, using(crate::proofs::Bits::takes))]
     pub fn takes_all(&self, n: u64, j: u64) -> bool
-        ensures { result ≡ takes_all self.now n j }
+        ensures value { result ≡ takes_all self.now n j }
+        ensures allowed { IsTrue result ↔ ((1 ≤ j) × (n ≡ j) × IsBitSet (digit self.now j) 0) }
     {
         self.has_bit(j, 1) && j != 0 && n == j
     }
 
     /// Whether one heap may stay of the heap n where j is taken away.
+    #[tactic(auto, using(crate::proofs::Bits::leaves))]
     pub fn leaves_one(&self, n: u64, j: u64) -> bool
-        ensures { result ≡ leaves_one self.now n j }
+        ensures value { result ≡ leaves_one self.now n j }
+        ensures allowed { IsTrue result ↔ ((1 ≤ j) × (j < n) × IsBitSet (digit self.now j) 1) }
     {
         self.has_bit(j, 2) && j != 0 && j < n
     }

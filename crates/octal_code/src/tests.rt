@@ -14,6 +14,10 @@ fn reads_codes(rt: HostRuntime) -> Result<(), Fail> {
     for text in others {
         assert!(rt; matches!(Code::read(text), Err(CodeFault::NotACode)));
     }
+    assert_eq!(rt;
+        (CodeFault::NotACode.number(), CodeFault::TooLong.number()),
+        (1, 2)
+    );
     Ok(())
 }
 
@@ -34,7 +38,7 @@ fn writes_or_says_memory(rt: HostRuntime) -> Result<(), Fail> {
         let ration = Ration::new(rt.alloc(), n);
         match code.text(&ration) {
             Ok(text) => assert_eq!(rt; text.as_str(), "0.75"),
-            Err(memory) => assert_eq!(rt; memory.number(), 9),
+            Err(memory) => assert!(rt; ration.has_refused() && memory.number() == 9),
         }
         if !ration.has_refused() {
             return Ok(());

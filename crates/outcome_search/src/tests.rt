@@ -44,6 +44,25 @@ fn keeps_to_the_budget(rt: HostRuntime) -> Result<(), Fail> {
 }
 
 #[test]
+fn plays_may_be_long(rt: HostRuntime) -> Result<(), Fail> {
+    // In 0.3 each move takes 1, so heaps of even size are N-positions.
+    let code = Code::read(b"0.3")?;
+    let long = Position::read(rt.alloc(), b"100000")?;
+    assert_eq!(rt; outcome(rt.alloc(), &code, &long, u32::MAX)?, Outcome::N);
+    Ok(())
+}
+
+#[test]
+fn says_memory_on_a_large_position(rt: HostRuntime) -> Result<(), Fail> {
+    let code = Code::read(b"0.75")?;
+    let ration = Ration::new(rt.alloc(), 10000);
+    let large = Position::read(&ration, b"999999999999999999 1000000000000000000")?;
+    let answer = outcome(&ration, &code, &large, u32::MAX);
+    assert!(rt; answer == Err(SearchFault::Memory) && ration.has_refused());
+    Ok(())
+}
+
+#[test]
 fn answers_or_says_memory(rt: HostRuntime) -> Result<(), Fail> {
     let code = Code::read(b"0.33")?;
     for n in 1..99u64 {
@@ -52,7 +71,7 @@ fn answers_or_says_memory(rt: HostRuntime) -> Result<(), Fail> {
         if let Ok(position) = asked {
             match outcome(&ration, &code, &position, 65536) {
                 Ok(outcome) => assert!(rt; outcome == Outcome::N),
-                Err(fault) => assert_eq!(rt; fault.number(), 9),
+                Err(fault) => assert!(rt; ration.has_refused() && fault.number() == 9),
             }
         }
         if !ration.has_refused() {

@@ -24,7 +24,8 @@ use Rattle.positions.specs.declared.left.Left.TheVariants.{Nothing, One, Two}
 use Rattle.positions.proofs.Exact.{only, of_options}
 use Rattle.positions.proofs.Listed.{only_in, itself_in}
 use Rattle.player.specs.Looks.{puts, IsFirstInto}
-use Rattle.player.proofs.Order.{before_trans, not_before_itself, Before, rising, cut_before, small_in, in_order}
+use Rattle.positions.proofs.Rising.{Before, rising}
+use Rattle.player.proofs.Order.{before_trans, not_before_itself, cut_before, small_in, in_order}
 use Rattle.player.proofs.Rests.{heap_at, dropped, taken}
 
 clash : (b : Bool) → b ≡ true → b ≡ false → ⊥

@@ -1,40 +1,21 @@
 -- The list of options has each option of the heap once, and nothing else.
-use Rattle.std.proofs.Common.{◌≡◌, ◌≢◌, ℕ, ◌+◌, ◌-◌, ◌/◌, ◌<◌, ◌≤◌, inl, inr, Bool, true, false, not, eqb, ltb, List, [], ◌∷◌, ◌++◌, length, min, refl, sym, subst, arith, IsBitSet, bit_and}
-use Rattle.std.specs.Prelude.{◌&&◌}
+use Rattle.std.proofs.Common.{◌≡◌, ◌≢◌, ℕ, ◌+◌, ◌-◌, ◌/◌, ◌<◌, ◌≤◌, inl, inr, Bool, true, false, List, [], ◌∷◌, ◌++◌, length, min, refl, sym, subst, arith, IsBitSet}
 use Rattle.std.specs.List.{Contains, AllPairs, sum_by}
 use Rattle.std.specs.List.Sorted.{IsPermutation}
 use Rattle.std.proofs.lemmas.List.{get_or_past}
 use Rattle.std.proofs.lemmas.List.Elements.{Contains-append_left, Contains-append_right, Contains-append_cases}
 use Rattle.std.proofs.lemmas.List.Sorted.{IsPermutation-refl, IsPermutation-append_comm, Contains-permutation, length_permutation, sum_by-IsPermutation}
 use Rattle.std.proofs.lemmas.List.Sums.{sum_by-cons}
-use Rattle.std.proofs.lemmas.Bool.Decides.{nat_tests}
 use native.Mathlib.Decide.{dec_le}
 use Rattle.misere_theory.specs.Games.{digit, HeapOption}
 use Rattle.misere_theory.specs.Games.HeapOption.{Nothing as TakesAll, One as LeavesOne, Two as LeavesTwo}
 use Rattle.octal_code.specs.Bits.{has_bit, takes_all, leaves_one}
+use Rattle.octal_code.proofs.Bits.{bit_says, bit_is, all_says, one_says, all_is, one_is}
 use Rattle.positions.specs.Options.{options_of, options_up_to, options_at, nothing_left, one_left, two_left, where_holds, splits}
 use Rattle.positions.specs.Exact.{heaps_of, IsInOrder, IsLeftAt, IsPartUpTo}
 use Rattle.positions.specs.declared.left.Left.{Left}
 use Rattle.positions.specs.declared.left.Left.TheVariants.{Nothing, One, Two}
 use Rattle.positions.proofs.Listed.{nothing_in, only_in, itself_in, in_flat, of_flat, in_map, of_map, AllPairs-append, AllPairs-one, AllPairs-none, AllPairs-flat, AllPairs-range}
-
-pub bit_says : (d m : ℕ) → not (eqb (bit_and d m) 0) ≡ true → bit_and d m ≢ 0
-bit_says d m e = grind (arith, nat_tests)
-
-pub bit_is : (d m : ℕ) → bit_and d m ≢ 0 → not (eqb (bit_and d m) 0) ≡ true
-bit_is d m e = grind (arith, nat_tests)
-
-pub all_says : (b : Bool) (n j : ℕ) → (b && not (eqb j 0) && eqb n j) ≡ true → (b ≡ true) × (1 ≤ j) × (n ≡ j)
-all_says b n j e = (grind (arith, nat_tests), grind (arith, nat_tests), grind (arith, nat_tests))
-
-pub all_is : (b : Bool) (n j : ℕ) → b ≡ true → 1 ≤ j → n ≡ j → (b && not (eqb j 0) && eqb n j) ≡ true
-all_is b n j e l h = grind (arith, nat_tests)
-
-pub one_says : (b : Bool) (n j : ℕ) → (b && not (eqb j 0) && ltb j n) ≡ true → (b ≡ true) × (1 ≤ j) × (j < n)
-one_says b n j e = (grind (arith, nat_tests), grind (arith, nat_tests), grind (arith, nat_tests))
-
-pub one_is : (b : Bool) (n j : ℕ) → b ≡ true → 1 ≤ j → j < n → (b && not (eqb j 0) && ltb j n) ≡ true
-one_is b n j e l h = grind (arith, nat_tests)
 
 in_where : (b : Bool) (xs : List Left) (L : Left) → b ≡ true → Contains xs L → Contains (where_holds b xs) L
 in_where true xs L e c = c

@@ -7,3 +7,4 @@ pub mod Heaps
 pub mod Words
 pub mod Texts
 pub mod Written
+pub mod Rising

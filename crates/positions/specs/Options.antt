@@ -1,4 +1,5 @@
--- The options of a heap, as a list in their order.
+-- The options of a heap, as a list in their order. The options are those of Plambeck and Siegel, 'Misère quotients for impartial games',
+-- and of Siegel, 'Combinatorial Game Theory'; their order is this project's own. The law options_are_exact ties the list to the theory.
 use Rattle.std.specs.Prelude.{ℕ, ◌-◌, ◌/◌, Bool, cond, List, [], ◌∷◌, ◌++◌, length, map, min}
 use Rattle.std.specs.List.{flat_map, range_with_len}
 use Rattle.octal_code.specs.Bits.{has_bit, takes_all, leaves_one}

@@ -1,4 +1,4 @@
--- Positions: heaps, each of 1 to 10^18.
+-- Positions: heaps, each of 1 to 10^18. The upper limit is this project's own; the theory has none.
 use Rattle.std.specs.Prelude.{ℕ, ◌≤◌}
 
 -- how large a heap is

@@ -1,7 +1,8 @@
 ghost use Rattle.std.specs.List.Sorted.{IsPermutation};
 ghost use Rattle.std.specs.Prelude.{◌≡◌, ℕ, ◌↔◌, List, Contains, AllPairs};
 ghost use Rattle.misere_theory.specs.Games.{HeapOption};
-ghost use Rattle.positions.specs.Exact.{heaps_of, IsInOrder, IsPartUpTo};
+ghost use Rattle.misere_theory.specs.Plays.{LeftBefore};
+ghost use Rattle.positions.specs.Exact.{heaps_of, IsInOrder};
 ghost use Rattle.positions.specs.Options.{options_of, options_up_to};
 ghost use Rattle.positions.specs.declared.left.Left.{Left};
 
@@ -31,9 +32,11 @@ pub fn options_up_to(code: &Code, n: u64, most: u64) -> Options
     }
 }
 
-/// The lists are exact: each option of the heap is listed, up to the order of its parts, nothing else is, and nothing twice.
+/// The lists are exact: each option of the heap is listed, up to the order of its parts, nothing else is, and nothing twice. They are in the
+/// order of moves, also where they are cut off at a smaller part of `most`.
 pub fn options_are_exact()
     ensures each { (code : List ℕ) (n : ℕ) (H : List ℕ) → HeapOption code n H → (left : Left) × Contains (options_of code n) left × IsPermutation (heaps_of left) H }
     ensures only { (code : List ℕ) (n : ℕ) (left : Left) → Contains (options_of code n) left → HeapOption code n (heaps_of left) × IsInOrder left }
     ensures once { (code : List ℕ) (n : ℕ) → AllPairs (λ x y. IsPermutation (heaps_of x) (heaps_of y) → ⊥) (options_of code n) }
+    ensures order { (code : List ℕ) (n most : ℕ) → AllPairs (λ x y. LeftBefore (heaps_of x) (heaps_of y)) (options_up_to code n most) }
 {}

@@ -12,6 +12,9 @@ use std::marker::Model;
 /// The largest heap: 10^18.
 pub const LARGEST: u64 = 1_000_000_000_000_000_000;
 
+/// The most sizes in the text of a position. A position itself may have more heaps.
+pub const MOST: usize = 64;
+
 /// A position: any number of heaps, each of 1 to 10^18, seen as the list of their sizes, rising.
 #[derive(Drop)]
 pub struct Position<A: Allocator = Global> {
@@ -63,18 +66,31 @@ impl<A: Allocator + Copy> Position<A> {
     }
 
     /// Makes this the position `from` after a move that leaves `left` of the heap at the place `at`. What this position was before doesn't
-    /// matter, and its memory is used again. After a fault it is some position.
+    /// matter, and its memory is used again. After a fault it is the position without heaps.
     pub fn set_moved(&mut self, from: &Position<A>, at: usize, left: Left) -> Result<(), Memory>
         requires there { at < length from.now }
         requires sizes { All IsSize (heaps_of left) }
         ensures moved { OnOk result (IsPermutation (heaps_of left ++ remove from.now at) self.new) }
-        ensures rising { OnOk result (IsNonDecreasing self.new) }
+        ensures rising { IsNonDecreasing self.new }
+        ensures err { OnErr result (self.new ≡ []) }
+    {
+        let moved = self.try_moved(from, at, left);
+        if moved.is_err() {
+            self.heaps.clear();
+        }
+        let _ = &self.heaps;
+        moved
+    }
+
+    /// Does the same, but for what it leaves after a fault.
+    fn try_moved(&mut self, from: &Position<A>, at: usize, left: Left) -> Result<(), Memory>
+        requires there { at < length from.now }
+        requires sizes { All IsSize (heaps_of left) }
+        ensures { OnOk result (IsPermutation (heaps_of left ++ remove from.now at) self.new) }
     {
         self.set_same(from)?;
         self.remove(at);
-        self.add_left(left)?;
-        let _ = &self.heaps;
-        Ok(())
+        self.add_left(left)
     }
 
     /// Makes this the position `from`.

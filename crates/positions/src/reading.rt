@@ -2,8 +2,8 @@ ghost use Rattle.std.specs.Prelude.{◌≡◌, ◌↔◌, IfOk, IsTrue, codes};
 ghost use Rattle.positions.specs.Text.{HasTooLarge, HasTooMany, IsNoPositionText, IsTextOf};
 
 use crate::fault::PositionFault;
-use crate::position::{LARGEST, Position};
-use crate::survey::{MOST, survey_of};
+use crate::position::{LARGEST, MOST, Position};
+use crate::survey::survey_of;
 use std::alloc::Allocator;
 
 impl<A: Allocator + Copy> Position<A> {

@@ -2,10 +2,7 @@ ghost use Rattle.std.specs.Prelude.{◌≡◌, ◌≢◌, ◌<◌, ◌≤◌, �
 ghost use Rattle.positions.specs.Surveys.{capped, IsSurvey, IsSurveyOf};
 ghost use Rattle.positions.specs.Text.{number_of, words_of, IsNumeral};
 
-use crate::position::LARGEST;
-
-/// The most sizes in a text.
-pub(crate) const MOST: usize = 64;
+use crate::position::{LARGEST, MOST};
 
 /// What is kept of the sizes of a text: how many they are, the first 64, and whether one is too large.
 #[derive(Clone, Copy)]

@@ -104,7 +104,7 @@ fn adds_or_says_memory(rt: HostRuntime) -> Result<(), Fail> {
         let ration = Ration::new(rt.alloc(), n);
         match doubled(&ration) {
             Ok(sum) => assert_eq!(rt; sum.heaps(), [3u64, 3, 4, 4].as_slice()),
-            Err(memory) => assert_eq!(rt; memory.number(), 9),
+            Err(memory) => assert!(rt; ration.has_refused() && memory.number() == 9),
         }
         if !ration.has_refused() {
             return Ok(());
@@ -120,9 +120,9 @@ fn reads_and_writes_or_says_memory(rt: HostRuntime) -> Result<(), Fail> {
         match Position::read(&ration, b"30 4 200") {
             Ok(position) => match position.text() {
                 Ok(text) => assert_eq!(rt; text.as_str(), "4 30 200"),
-                Err(memory) => assert_eq!(rt; memory.number(), 9),
+                Err(memory) => assert!(rt; ration.has_refused() && memory.number() == 9),
             },
-            Err(fault) => assert_eq!(rt; fault.number(), 9),
+            Err(fault) => assert!(rt; ration.has_refused() && fault.number() == 9),
         }
         if !ration.has_refused() {
             return Ok(());
