@@ -12,7 +12,7 @@ use Rattle.std.proofs.lemmas.Bool.Decides.{nat_tests}
 use Rattle.std.proofs.lemmas.Nat.{and_le_l}
 use Rattle.std.proofs.lemmas.Nat.Bits.{bit_at-trailing_zeros, bit_at_clear_same, bit_at_clear_other, bit_at-zero}
 use Rattle.element_sets.specs.Lanes.{has, set_of}
-use Rattle.element_sets.specs.Sets.{contains-set_of, has_past}
+use Rattle.element_sets.specs.LaneLaws.{contains-set_of, has_past}
 use Rattle.element_sets.specs.Hits.{Hits, CanTranslateLane}
 use Rattle.element_sets.specs.Translation.{translated, CanTranslate}
 
@@ -159,8 +159,8 @@ lane_more all new lanes i row before more q = (λ member. forth ((more q).0 memb
           inr (image.0 % 64, low, ap (λ k. bit_at (slice_index lanes k) (image.0 % 64)) (sym lane) ∙ one_has lanes image.0 image.2, ap (slice_index row) place ∙ image.3)
     ]
 
-pub lane_can : (lanes row : List ℕ) (i : ℕ) → i < 4 → length lanes ≡ 4 → CanTranslate (set_of lanes) row → CanTranslateLane (slice_index lanes i) (64 * i) row
-lane_can lanes row i lt four can j below one = can (64 * i + j) (contains-set_of lanes (64 * i + j) four ∙ has_one lanes i j below one)
+pub lane_can : (lanes row : List ℕ) (i : ℕ) → CanTranslate (set_of lanes) row → CanTranslateLane (slice_index lanes i) (64 * i) row
+lane_can lanes row i can j below one = can (64 * i + j) (contains-set_of lanes (64 * i + j) ∙ has_one lanes i j below one)
 
 -- ---- the image of a set
 
@@ -198,25 +198,25 @@ alike true false f g = sym (f refl)
 alike false true f g = g refl
 alike false false f g = refl
 
-pub all_lanes : (all : fin.FinSet nat_cmp) (lanes row : List ℕ) → length lanes ≡ 4
-    → ((q : ℕ) → IsTrue (fin.contains all q) ↔ IsImageBelow lanes 4 row q) → all ≡ translated (set_of lanes) row
-all_lanes all lanes row four image = same_set nat_cmp_total nat_cmp-IsAntisymmetric all _ (λ q. alike _ _
-    (λ member. let i = (image q).0 member in translated_to (set_of lanes) row i.0 q (contains-set_of lanes i.0 four ∙ i.2) i.3)
+pub all_lanes : (all : fin.FinSet nat_cmp) (lanes row : List ℕ)
+    → ((q : ℕ) → IsTrue (fin.contains all q) ↔ IsImageBelow lanes (length lanes) row q) → all ≡ translated (set_of lanes) row
+all_lanes all lanes row image = same_set nat_cmp_total nat_cmp-IsAntisymmetric all _ (λ q. alike _ _
+    (λ member. let i = (image q).0 member in translated_to (set_of lanes) row i.0 q (contains-set_of lanes i.0 ∙ i.2) i.3)
     (λ member.
     let i = translated_from (set_of lanes) row q member in
-    let one : has lanes i.0 ≡ true = sym (contains-set_of lanes i.0 four) ∙ i.1 in
-    elim (cases_lt i.0 256) [
+    let one : has lanes i.0 ≡ true = sym (contains-set_of lanes i.0) ∙ i.1 in
+    elim (cases_lt i.0 (64 * length lanes)) [
       | inl low ↦ (image q).1 (i.0, low, one, i.2)
-      | inr past ↦ absurd (differ (sym one ∙ has_past lanes i.0 four past))
+      | inr past ↦ absurd (differ (sym one ∙ has_past lanes i.0 past))
     ]))
   where
     differ : true ≡ false → ⊥
     differ e = cc
 
-pub small_members : (lanes : List ℕ) (x : ℕ) → length lanes ≡ 4 → IsTrue (fin.contains (set_of lanes) x) → x < 256
-small_members lanes x four member = elim (cases_lt x 256) [
+pub small_members : (lanes : List ℕ) (x : ℕ) → IsTrue (fin.contains (set_of lanes) x) → x < 64 * length lanes
+small_members lanes x member = elim (cases_lt x (64 * length lanes)) [
   | inl low ↦ low
-  | inr past ↦ absurd (differ (sym (sym (contains-set_of lanes x four) ∙ member) ∙ has_past lanes x four past))
+  | inr past ↦ absurd (differ (sym (sym (contains-set_of lanes x) ∙ member) ∙ has_past lanes x past))
 ]
   where
     differ : true ≡ false → ⊥

@@ -30,15 +30,15 @@ impl Model for ElementSet {
 
     ghost view = { λ s. set_of s.lanes };
 
-    ghost invariant = { λ s. AreLanes s.lanes };
+    ghost invariant = { λ s. AreLanes 4 s.lanes };
 
     ghost use Rattle.element_sets.specs.Same.{lanes_of};
-    ghost use Rattle.element_sets.specs.Sets.{lanes_of-set_of};
+    ghost use Rattle.element_sets.specs.LaneLaws.{lanes_of-set_of};
     ghost use Rattle.std.proofs.Common.{ap};
 
-    ghost inverse = { λ s. record { lanes = lanes_of s } };
+    ghost inverse = { λ s. record { lanes = lanes_of 4 s } };
 
-    ghost inverse_ok = { λ a h. ap (λ ls. record { lanes = ls }) (lanes_of-set_of a.lanes h.length_is h.fits) };
+    ghost inverse_ok = { λ a h. ap (λ ls. record { lanes = ls }) (lanes_of-set_of 4 a.lanes h.length_is h.fits) };
 }
 
 impl ElementSet {
@@ -141,9 +141,9 @@ impl Hash for ElementSet {
     ghost use Rattle.element_sets.specs.Same.{lanes_of, same_hashes};
     ghost use Rattle.std.specs.Hash as fed;
 
-    ghost hash_input = { λ s. fed.slice fed.u64 (lanes_of s) };
+    ghost hash_input = { λ s. fed.slice fed.u64 (lanes_of 4 s) };
 
-    ghost respects_eq = { same_hashes };
+    ghost respects_eq = { same_hashes 4 };
 
     fn hash<H: Hasher>(&self, state: &mut H) {
         self.lanes.hash(state);

@@ -1,5 +1,5 @@
 -- Products over lists.
-use Rattle.std.proofs.Common.{◌≡◌, ◌≢◌, ℕ, zero, suc, ◌+◌, ◌<◌, List, [], ◌∷◌, ◌++◌, length, get_or, set, take, refl, sym, ap, ap₂, ◌∙◌, inl, inr, arith, subst}
+use Rattle.std.proofs.Common.{◌≡◌, ◌≢◌, ℕ, zero, suc, ◌+◌, ◌*◌, ◌/◌, ◌%◌, ◌<◌, List, [], ◌∷◌, ◌++◌, length, get_or, set, take, refl, sym, ap, ap₂, ◌∙◌, inl, inr, arith, subst}
 use Rattle.std.specs.List.{All, AllByRecursion}
 use Rattle.std.specs.List.Sorted.{IsPermutation}
 use Rattle.std.proofs.lemmas.Bool.{cases_eq}
@@ -11,6 +11,12 @@ use Rattle.std.proofs.lemmas.List.{set-get_or}
 use Rattle.std.specs.List.{swap}
 use Rattle.monoid_table.specs.Laws.{CommMonoidLaws, product_of, power_of}
 
+-- what is multiplied so far, and the square whose power is left
+pub record IsLeft {E : Type 0} (IsIn : E → Type 0) (one : E) (times : E → E → E) (x : E) (count : ℕ) (all square : E) (left : ℕ) : Type 0 where
+  pub value : times all (power_of one times square left) ≡ power_of one times x count
+  pub all_in : IsIn all
+  pub square_in : IsIn square
+
 module _ {E : Type 0} (IsIn : E → Type 0) (one : E) (times : E → E → E) (laws : CommMonoidLaws IsIn one times) where
   pub product_in : (xs : List E) → AllByRecursion IsIn xs → IsIn (product_of one times xs)
   product_in [] h = laws.one_in
@@ -19,6 +25,46 @@ module _ {E : Type 0} (IsIn : E → Type 0) (one : E) (times : E → E → E) (l
   pub power_in : (x : E) (n : ℕ) → IsIn x → IsIn (power_of one times x n)
   power_in x zero h = laws.one_in
   power_in x (suc n) h = laws.times_in x _ h (power_in x n h)
+
+  -- two factors at a time
+  power-double : (y : E) (n : ℕ) → IsIn y → power_of one times y (2 * n) ≡ power_of one times (times y y) n
+  power-double y zero h = refl
+  power-double y (suc n) h =
+      let e : 2 * suc n ≡ suc (suc (2 * n)) = omega arith in
+      ap (power_of one times y) e ∙ sym (laws.assoc y y (power_of one times y (2 * n)) h h (power_in y (2 * n) h))
+      ∙ ap (times (times y y)) (power-double y n h)
+
+  pub left_first : (x : E) (count : ℕ) (all square : E) → IsIn x → all ≡ one → square ≡ times all x → IsLeft IsIn one times x count all square count
+  left_first x count all square h a s =
+      let is : square ≡ x = s ∙ ap (λ v. times v x) a ∙ laws.identity x h in
+      let all_in : IsIn all = subst IsIn (sym a) laws.one_in in
+      record {
+        value = ap₂ (λ u v. times u (power_of one times v count)) a is ∙ laws.identity _ (power_in x count h);
+        all_in = all_in;
+        square_in = subst IsIn (sym is) h;
+      }
+
+  pub left_even : (x : E) (count : ℕ) (all square next : E) (left : ℕ) → IsLeft IsIn one times x count all square left → (left % 2 ≡ 1 → ⊥) → next ≡ times square square → IsLeft IsIn one times x count all next (left / 2)
+  left_even x count all square next left w even s =
+      let e : 2 * (left / 2) ≡ left = omega arith in
+      record {
+        value = ap (λ v. times all (power_of one times v (left / 2))) s ∙ ap (times all) (sym (power-double square (left / 2) w.square_in) ∙ ap (power_of one times square) e) ∙ w.value;
+        all_in = w.all_in;
+        square_in = subst IsIn (sym s) (laws.times_in _ _ w.square_in w.square_in);
+      }
+
+  pub left_odd : (x : E) (count : ℕ) (all more square next : E) (left : ℕ) → IsLeft IsIn one times x count all square left → left % 2 ≡ 1 → more ≡ times all square → next ≡ times square square → IsLeft IsIn one times x count more next (left / 2)
+  left_odd x count all more square next left w odd a s =
+      let e : suc (2 * (left / 2)) ≡ left = omega arith in
+      let n = left / 2 in
+      record {
+        value =
+            ap₂ (λ u v. times u (power_of one times v n)) a s ∙ ap (times (times all square)) (sym (power-double square n w.square_in))
+            ∙ laws.assoc all square (power_of one times square (2 * n)) w.all_in w.square_in (power_in square (2 * n) w.square_in)
+            ∙ ap (λ k. times all (power_of one times square k)) e ∙ w.value;
+        all_in = subst IsIn (sym a) (laws.times_in _ _ w.all_in w.square_in);
+        square_in = subst IsIn (sym s) (laws.times_in _ _ w.square_in w.square_in);
+      }
 
   pub product-push : (xs : List E) (x : E) → AllByRecursion IsIn xs → IsIn x → product_of one times (xs ++ x ∷ []) ≡ times (product_of one times xs) x
   product-push [] x h hx = laws.comm x one hx laws.one_in

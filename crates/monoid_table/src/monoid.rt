@@ -45,15 +45,21 @@ pub fn product<M: CommMonoid>(monoid: &M, elements: &[M::Element]) -> M::Element
     all
 }
 
-/// The product of `count` times the element.
+/// The product of `count` times the element, by squares: for each binary digit of the count two products at most.
 pub fn power<M: CommMonoid>(monoid: &M, x: &M::Element, count: u64) -> M::Element
     requires { M.is_in monoid.now x.now }
     ensures value { result ≡ power_of (M.identity monoid.now) (M.multiply monoid.now) x.now count }
     ensures within { M.is_in monoid.now result }
 {
     let mut all = monoid.one();
-    for _turn in 0..count {
-        all = monoid.times(x, &all);
+    let mut square = monoid.times(&all, x);
+    let mut left = count;
+    while left > 0 {
+        if left % 2 == 1 {
+            all = monoid.times(&all, &square);
+        }
+        square = monoid.times(&square, &square);
+        left /= 2;
     }
     all
 }

@@ -1,8 +1,11 @@
-use Rattle.std.proofs.Common.{sym, subst}
+use Rattle.std.proofs.Common.{sym, subst, arith}
 use Rattle.std.specs.Prelude.{IsTrue}
 use Rattle.std.specs.FinSet as fin
 use Rattle.element_sets.proofs.HitLaws.{small_members}
 use Rattle.element_sets.proofs.members_are_small.Goals as goal
 
 pub returns : goal.returns
-returns c = λ x member. small_members c.members.inside.lanes x c.members.invariant.length_is (subst (λ s. IsTrue (fin.contains s x)) (sym c.members.view_is) member)
+returns c = λ x member.
+    let four = c.members.invariant.length_is in
+    let low = small_members c.members.inside.lanes x (subst (λ s. IsTrue (fin.contains s x)) (sym c.members.view_is) member) in
+    omega arith

@@ -1,12 +1,12 @@
 use Rattle.std.proofs.Common.{◌≡◌, ap, ◌∙◌, arith, length, length-set}
 use Rattle.std.specs.FinSet as set
-use Rattle.element_sets.specs.Sets.{set_of-set, one_more_fits}
+use Rattle.element_sets.proofs.SetLaws.{set_of-set, one_more_fits}
 use Rattle.element_sets.proofs.ElementSet.insert.Goals as goal
 
 pub returns : goal.returns
 returns c =
-    let four : length c.self.inside.lanes ≡ 4 = omega arith in
-    set_of-set _ c.args.x four (omega arith) (length-set _ _ _ ∙ four) ∙ ap (λ s. set.insert s c.args.x) c.self.view_is
+    let four : length c.self.inside.lanes ≡ 4 = c.self.told in
+    set_of-set _ c.args.x (omega arith) ∙ ap (λ s. set.insert s c.args.x) c.self.view_is
 
 pub invariant_of-self : goal.invariant_of-self
 invariant_of-self c = record { length_is = length-set _ _ _ ∙ c.self.told; fits = one_more_fits _ _ _ (omega arith) c.self.invariant.fits }

@@ -1,8 +1,8 @@
 use Rattle.std.proofs.Common.{ap, sym, ◌∙◌, fold}
 use Rattle.std.specs.Hash as fed
 use Rattle.element_sets.specs.Same.{lanes_of}
-use Rattle.element_sets.specs.Sets.{lanes_of-set_of}
+use Rattle.element_sets.specs.LaneLaws.{lanes_of-set_of}
 use Rattle.element_sets.proofs.ElementSetHash.hash.Goals as goal
 
 pub returns : goal.returns
-returns g c = c.hash.ensures ∙ ap (λ ls. fold g.H.Hasher.write c.args.state.now (fed.slice fed.u64 ls)) (sym (lanes_of-set_of _ c.self.told c.self.invariant.fits) ∙ ap lanes_of c.self.view_is)
+returns g c = c.hash.ensures ∙ ap (λ ls. fold g.H.Hasher.write c.args.state.now (fed.slice fed.u64 ls)) (sym (lanes_of-set_of 4 _ c.self.told c.self.invariant.fits) ∙ ap (lanes_of 4) c.self.view_is)
