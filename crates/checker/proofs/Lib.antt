@@ -9,5 +9,6 @@ pub mod RuleLemmas
 pub mod SpellLemmas
 pub mod HeapLemmas
 pub mod ElementLemmas
+pub mod UnitLemmas
 pub mod StageLemmas
 pub mod AnswerLemmas

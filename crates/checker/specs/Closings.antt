@@ -13,11 +13,6 @@ use Rattle.transition_algebra.specs.Heaps.{IsHeapPairs}
 use Rattle.certificate.specs.Pieces.{Pieces, certificate_of}
 use Rattle.checker.specs.Sheets.{IsSheet}
 
--- a certificate, and how many members may be kept
-pub record Limited : Type 0 where
-  pub certificate : Certificate
-  pub limit : ℕ
-
 -- the heaps 1 to B of a certificate
 abbrev pub bound_of : Certificate → ℕ
 bound_of c = heap_bound (length c.code - 1) c.start c.period

@@ -1,3 +1,4 @@
+pub mod Units
 pub mod Sheets
 pub mod Progress
 pub mod Rules

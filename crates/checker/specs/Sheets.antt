@@ -1,10 +1,11 @@
 -- A certificate as the checker holds it.
-use Rattle.std.specs.Prelude.{◌≡◌, ℕ, ◌<◌, List}
+use Rattle.std.specs.Prelude.{◌≡◌, ℕ, ◌<◌, ◌≤◌, List}
 use Rattle.std.specs.FinSet as set
 use Rattle.std.specs.Ordering.{nat_cmp}
 use Rattle.misere_theory.specs.Certificates.{Certificate, InRanges, times_of, claim_of}
 use Rattle.misere_theory.specs.Quotients.{Monoid}
 use Rattle.monoid_table.specs.Grids.{Grid}
+use Rattle.monoid_table.specs.Turns.{triples}
 use Rattle.transition_algebra.specs.Pretending.{Pretending}
 use Rattle.certificate.specs.Pieces.{Pieces, certificate_of, IsWhole}
 
@@ -26,7 +27,12 @@ pub record IsRead (p : Pieces) (inside : set.FinSet nat_cmp) : Type 0 where
   pub whole : IsWhole p
   pub portion : IsPortion (certificate_of p) inside
 
--- so it is, the parts are whole, and the set is the portion
+-- so they are, and so many triples of the table were looked at
+pub record IsUnderLaws (p : Pieces) (inside : set.FinSet nat_cmp) (spent : ℕ) : Type 0 where
+  pub read : IsRead p inside
+  pub within : spent ≤ triples p.order
+
+-- the parts are whole, the table has the laws, and the set is the portion
 pub record IsSheet (p : Pieces) (inside : set.FinSet nat_cmp) : Type 0 where
   pub whole : IsWhole p
   pub lawful : IsLawful (certificate_of p)

@@ -1,35 +1,36 @@
 -- What stages say of the certificate that they hold.
-use Rattle.std.specs.Prelude.{◌≡◌, ℕ, Bool, true, false, List, Option, Some, None}
+use Rattle.std.specs.Prelude.{◌≡◌, ℕ, ◌+◌, ◌-◌, ◌*◌, ◌<◌, ◌≤◌, Bool, true, false, List, Option, Some, None}
 use Rattle.misere_theory.specs.Certificates.{Certificate}
 use Rattle.certificate_text.specs.Spelling.{Spells}
 use Rattle.checker.specs.Answers.{Answer, answer_of, Fits, IsTrueOf}
+use Rattle.checker.specs.Units.{stage_units}
 use Rattle.checker.specs.declared.stage.Stage.{Stage}
 use Rattle.checker.specs.declared.stage.Stage.TheVariants.{Reading, Laws, Keys, Products, Periods, Separating, Heaps, Closing, Elements, Ended}
 
 -- the stage holds the certificate, or has answered what is true of it
 abbrev pub Carries : {A : Type 0} → Certificate → ℕ → Stage A → Type 0
 Carries c limit Reading = ⊥
-Carries c limit (Laws l) = l ≡ c
-Carries c limit (Keys k) = k ≡ c
-Carries c limit (Products p) = p ≡ c
-Carries c limit (Periods p) = p ≡ c
-Carries c limit (Separating s) = s ≡ c
-Carries c limit (Heaps h) = h ≡ c
+Carries c limit (Laws l) = l.certificate ≡ c
+Carries c limit (Keys k) = k.certificate ≡ c
+Carries c limit (Products p) = p.certificate ≡ c
+Carries c limit (Periods p) = p.certificate ≡ c
+Carries c limit (Separating s) = s.certificate ≡ c
+Carries c limit (Heaps h) = h.certificate ≡ c
 Carries c limit (Closing s) = (s.certificate ≡ c) × (s.limit ≡ limit)
-Carries c limit (Elements e) = e ≡ c
+Carries c limit (Elements e) = e.certificate ≡ c
 Carries c limit (Ended r) = Fits c limit (answer_of r)
 
 -- the stage stands of the bytes
 abbrev pub Stands : {A : Type 0} → List ℕ → ℕ → Stage A → Type 0
 Stands bytes limit Reading = Unit {0}
-Stands bytes limit (Laws l) = Spells bytes l
-Stands bytes limit (Keys k) = Spells bytes k
-Stands bytes limit (Products p) = Spells bytes p
-Stands bytes limit (Periods p) = Spells bytes p
-Stands bytes limit (Separating s) = Spells bytes s
-Stands bytes limit (Heaps h) = Spells bytes h
+Stands bytes limit (Laws l) = Spells bytes l.certificate
+Stands bytes limit (Keys k) = Spells bytes k.certificate
+Stands bytes limit (Products p) = Spells bytes p.certificate
+Stands bytes limit (Periods p) = Spells bytes p.certificate
+Stands bytes limit (Separating s) = Spells bytes s.certificate
+Stands bytes limit (Heaps h) = Spells bytes h.certificate
 Stands bytes limit (Closing s) = Spells bytes s.certificate × (s.limit ≡ limit)
-Stands bytes limit (Elements e) = Spells bytes e
+Stands bytes limit (Elements e) = Spells bytes e.certificate
 Stands bytes limit (Ended r) = IsTrueOf bytes limit (answer_of r)
 
 abbrev pub has_ended : {A : Type 0} → Stage A → Bool
@@ -56,3 +57,28 @@ ending (Heaps h) = None
 ending (Closing s) = None
 ending (Elements e) = None
 ending (Ended r) = Some (answer_of r)
+
+-- the units that a check at this stage takes at most
+abbrev pub needs : {A : Type 0} → Stage A → ℕ
+needs Reading = 9 * stage_units
+needs (Laws l) = l.units + 8 * stage_units
+needs (Keys k) = k.units + 7 * stage_units
+needs (Products p) = p.units + 6 * stage_units
+needs (Periods p) = p.units + 5 * stage_units
+needs (Separating s) = s.units + 4 * stage_units
+needs (Heaps h) = h.units + 3 * stage_units
+needs (Closing s) = s.units + 2 * stage_units
+needs (Elements e) = e.units + stage_units
+needs (Ended r) = 0
+
+-- Of `before` units `after` are left. Those spent and those that the stage then needs are at most `most`; and where some are left, it
+-- needs fewer than that, or nothing.
+pub record Pays {A : Type 0} (most before after : ℕ) (s : Stage A) : Type 0 where
+  pub spends : after ≤ before
+  pub within : before + needs s ≤ after + most
+  pub further : 0 < after → needs s ≤ most - 1
+
+-- the stage stands of the bytes, and what it needs beside the units spent so far isn't too much
+pub record StandsAfter {A : Type 0} (bytes : List ℕ) (limit spent : ℕ) (s : Stage A) : Type 0 where
+  pub stands : Stands bytes limit s
+  pub few : spent + needs s ≤ 9 * stage_units

@@ -15,12 +15,11 @@ pub fn check<A: Allocator + Copy>(
     ensures { IsTrueOf bytes.now limit (answer_of result) }
 {
     let mut stage = Stage::Reading;
-    for _turn in 0..u64::MAX {
+    'stages: loop {
         let mut left = u64::MAX;
         match stage.work(alloc, bytes, limit, &mut left) {
             Stage::Ended(answer) => return answer,
             next => stage = next,
         }
     }
-    Err(Refusal::Memory)
 }

@@ -1,10 +1,11 @@
 //! The stage that closes the pairs under products with the heaps.
-ghost use Rattle.std.specs.Prelude.{◌≡◌, ◌<◌, ℕ, length, IfSome, IfNone, slice_index_or};
+ghost use Rattle.std.specs.Prelude.{◌≡◌, ◌<◌, ◌+◌, ◌*◌, ℕ, length, IfSome, IfNone, slice_index_or};
 ghost use Rattle.misere_theory.specs.Certificates.{Canonical};
 ghost use Rattle.pair_closure.specs.Progress.{blank_held};
 ghost use Rattle.checker.specs.Rules.{Obeys, Breaks};
-ghost use Rattle.checker.specs.Closings.{HavePairs, Limited};
-ghost use Rattle.checker.specs.Stages.{Carries};
+ghost use Rattle.checker.specs.Closings.{HavePairs};
+ghost use Rattle.checker.specs.Units.{stage_units};
+ghost use Rattle.checker.specs.Stages.{Carries, Pays};
 
 use crate::elements::Elements;
 use crate::lines::Lines;
@@ -31,11 +32,13 @@ pub struct Closing<A: Allocator = Global> {
 impl<A: Allocator> Model for Closing<A> {
     ghost use Rattle.certificate.specs.Pieces.{certificate_of};
     ghost use Rattle.checker.specs.Sheets.{pieces_of};
-    ghost use Rattle.checker.specs.Closings.{Limited, IsClosing};
+    ghost use Rattle.std.specs.Prelude.{◌+◌, ◌-◌, ◌*◌, length};
+    ghost use Rattle.checker.specs.Units.{Limited};
+    ghost use Rattle.checker.specs.Closings.{IsClosing};
 
     ghost Value = { Limited };
 
-    ghost view = { λ s. record { certificate = certificate_of (pieces_of s.code s.closure.state.table s.phi s.lines.portion.items s.lines.words.items s.lines.apart.items); limit = s.closure.state.limit } };
+    ghost view = { λ s. record { certificate = certificate_of (pieces_of s.code s.closure.state.table s.phi s.lines.portion.items s.lines.words.items s.lines.apart.items); limit = s.closure.state.limit; units = s.closure.state.limit * length s.closure.state.heaps + 2 - s.closure.spent } };
 
     ghost invariant = { λ s. IsClosing (pieces_of s.code s.closure.state.table s.phi s.lines.portion.items s.lines.words.items s.lines.apart.items) s.lines.inside s.closure.state.heaps };
 }
@@ -61,6 +64,7 @@ impl<A: Allocator + Copy> Closing<A> {
         requires pairs { HavePairs sheet pairs.items }
         ensures certificate { result.certificate ≡ sheet }
         ensures limit { result.limit ≡ limit }
+        ensures units { result.units < stage_units }
     {
         let Sheet {
             code,
@@ -78,7 +82,8 @@ impl<A: Allocator + Copy> Closing<A> {
 
     /// Spends units until there are none or the stage ends.
     pub fn work(self, alloc: A, left: &mut u64) -> Stage<A>
-        ensures { Carries self.certificate self.limit result }
+        ensures carries { Carries self.certificate self.limit result }
+        ensures pays { Pays (self.units + 2 * stage_units) left.old left.new result }
     {
         let Closing {
             code,
@@ -87,23 +92,19 @@ impl<A: Allocator + Copy> Closing<A> {
             mut closure,
         } = self;
         let before = closure.spent();
-        match closure.grow(*left) {
+        let grown = closure.grow(*left);
+        closure.speak();
+        *left -= (closure.spent() - before) as u64;
+        match grown {
             Err(_) => Stage::Ended(Err(Refusal::Memory)),
-            Ok(Grown::More) => {
-                *left = 0;
-                Stage::Closing(Closing {
-                    code,
-                    phi,
-                    lines,
-                    closure,
-                })
-            }
-            Ok(Grown::Over) => {
-                *left = left.saturating_sub((closure.spent() - before) as u64);
-                Stage::Ended(Err(Refusal::Limit))
-            }
+            Ok(Grown::More) => Stage::Closing(Closing {
+                code,
+                phi,
+                lines,
+                closure,
+            }),
+            Ok(Grown::Over) => Stage::Ended(Err(Refusal::Limit)),
             Ok(Grown::Done) => {
-                *left = left.saturating_sub((closure.spent() - before) as u64);
                 match first_breach(&closure, &lines.inside) {
                     Some(i) => match closure.word(i) {
                         Ok(position) => Stage::Ended(Err(Refusal::Outcome(code, position))),

@@ -5,7 +5,8 @@ ghost use Rattle.misere_theory.specs.Games.{IsHeap, IsPosition};
 ghost use Rattle.misere_theory.specs.Quotients.{RuleFails};
 ghost use Rattle.misere_theory.specs.Certificates.{Accepted, Canonical, claim_of, times_of};
 ghost use Rattle.checker.specs.Closings.{HavePairs, IsCovered, AreContexts, LeadsIn};
-ghost use Rattle.checker.specs.Stages.{Carries};
+ghost use Rattle.checker.specs.Units.{stage_units};
+ghost use Rattle.checker.specs.Stages.{Carries, Pays, needs};
 
 use crate::certified::Certified;
 use crate::lines::Lines;
@@ -39,12 +40,13 @@ pub struct Elements<A: Allocator = Global> {
 impl<A: Allocator> Model for Elements<A> {
     ghost use Rattle.misere_theory.specs.Games.{IsHeap, IsPosition};
     ghost use Rattle.misere_theory.specs.Quotients.{RuleFails};
-    ghost use Rattle.misere_theory.specs.Certificates.{Certificate};
+    ghost use Rattle.std.specs.Prelude.{length};
+    ghost use Rattle.checker.specs.Units.{Staged, rest};
     ghost use Rattle.checker.specs.Closings.{ElementsSoFar};
 
-    ghost Value = { Certificate };
+    ghost Value = { Staged };
 
-    ghost view = { λ s. s.sheet };
+    ghost view = { λ s. record { certificate = s.sheet; units = rest (length s.pairs.items) s.heap s.sheet.order s.option } };
 
     ghost invariant = { λ s. ElementsSoFar s.sheet s.pairs.items s.contexts.items s.heap s.option };
 }
@@ -120,7 +122,8 @@ fn failed<A: Allocator>(sheet: Sheet<A>, position: Position<A>) -> Stage<A>
     requires canonical { Canonical sheet }
     requires position { IsPosition IsHeap position }
     requires fails { RuleFails sheet.code (claim_of sheet) position }
-    ensures { (limit : ℕ) → Carries sheet limit result }
+    ensures carries { (limit : ℕ) → Carries sheet limit result }
+    ensures ended { needs result ≡ 0 }
 {
     let _order = sheet.order();
     let Sheet { code, .. } = sheet;
@@ -183,7 +186,8 @@ impl<A: Allocator + Copy> Elements<A> {
         requires canonical { Canonical sheet }
         requires pairs { HavePairs sheet pairs.items }
         requires covered { IsCovered sheet }
-        ensures { IfOk result (λ s. s ≡ sheet) }
+        ensures certificate { IfOk result (λ s. s.certificate ≡ sheet) }
+        ensures units { IfOk result (λ s. s.units < stage_units) }
     {
         let contexts = contexts(alloc, &sheet)?;
         let _order = sheet.order();
@@ -198,7 +202,8 @@ impl<A: Allocator + Copy> Elements<A> {
 
     /// Spends units until there are none or the stage ends.
     pub fn work(self, alloc: A, left: &mut u64) -> Stage<A>
-        ensures { (limit : ℕ) → Carries self limit result }
+        ensures carries { (limit : ℕ) → Carries self.certificate limit result }
+        ensures pays { Pays (self.units + stage_units) left.old left.new result }
     {
         let Elements {
             sheet,

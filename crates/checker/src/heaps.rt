@@ -1,7 +1,8 @@
 //! The stage that makes the pairs of the heaps.
-ghost use Rattle.std.specs.Prelude.{◌≡◌, ℕ};
+ghost use Rattle.std.specs.Prelude.{◌≡◌, ◌<◌, ◌+◌, ◌*◌};
 ghost use Rattle.misere_theory.specs.Certificates.{Canonical};
-ghost use Rattle.checker.specs.Stages.{Carries};
+ghost use Rattle.checker.specs.Units.{stage_units};
+ghost use Rattle.checker.specs.Stages.{Carries, Pays};
 
 use crate::closing::Closing;
 use crate::lines::Lines;
@@ -10,7 +11,7 @@ use crate::sheet::Sheet;
 use crate::stage::Stage;
 use std::alloc::{Allocator, Global};
 use std::marker::Model;
-use transition_algebra::HeapJob;
+use transition_algebra::{HeapJob, heap_jobs_end};
 
 /// The pairs of the heaps 1 to B are made, an option a turn.
 #[derive(Drop)]
@@ -20,14 +21,16 @@ pub struct Heaps<A: Allocator = Global> {
 }
 
 impl<A: Allocator> Model for Heaps<A> {
-    ghost use Rattle.misere_theory.specs.Certificates.{Certificate};
+    ghost use Rattle.std.specs.Prelude.{◌-◌};
+    ghost use Rattle.transition_algebra.specs.Work.{heap_cost};
+    ghost use Rattle.checker.specs.Units.{Staged};
     ghost use Rattle.certificate.specs.Pieces.{certificate_of};
     ghost use Rattle.checker.specs.Sheets.{pieces_of};
     ghost use Rattle.checker.specs.Closings.{IsCanonicalSheet};
 
-    ghost Value = { Certificate };
+    ghost Value = { Staged };
 
-    ghost view = { λ s. certificate_of (pieces_of s.job.code s.job.table s.job.phi s.lines.portion.items s.lines.words.items s.lines.apart.items) };
+    ghost view = { λ s. record { certificate = certificate_of (pieces_of s.job.code s.job.table s.job.phi s.lines.portion.items s.lines.words.items s.lines.apart.items); units = heap_cost s.job.code s.job.phi - s.job.spent } };
 
     ghost invariant = { λ s. IsCanonicalSheet (pieces_of s.job.code s.job.table s.job.phi s.lines.portion.items s.lines.words.items s.lines.apart.items) s.lines.inside };
 }
@@ -36,7 +39,8 @@ impl<A: Allocator + Copy> Heaps<A> {
     /// No option was tried.
     pub fn new(alloc: A, sheet: Sheet<A>) -> Heaps<A>
         requires { Canonical sheet }
-        ensures { result ≡ sheet }
+        ensures certificate { result.certificate ≡ sheet }
+        ensures units { result.units < stage_units }
     {
         let Sheet {
             code,
@@ -44,6 +48,7 @@ impl<A: Allocator + Copy> Heaps<A> {
             phi,
             lines,
         } = sheet;
+        heap_jobs_end();
         Heaps {
             lines,
             job: HeapJob::new(alloc, code, table, phi),
@@ -52,18 +57,17 @@ impl<A: Allocator + Copy> Heaps<A> {
 
     /// Spends units until there are none or the stage ends.
     pub fn work(self, alloc: A, limit: u32, left: &mut u64) -> Stage<A>
-        ensures { Carries self limit result }
+        ensures carries { Carries self.certificate limit result }
+        ensures pays { Pays (self.units + 3 * stage_units) left.old left.new result }
     {
         let Heaps { lines, mut job } = self;
         let before = job.spent();
-        match job.work(*left) {
+        let made = job.work(*left);
+        *left -= job.spent() - before;
+        match made {
             Err(_) => Stage::Ended(Err(Refusal::Memory)),
-            Ok(false) => {
-                *left = 0;
-                Stage::Heaps(Heaps { lines, job })
-            }
+            Ok(false) => Stage::Heaps(Heaps { lines, job }),
             Ok(true) => {
-                *left = left.saturating_sub(job.spent().saturating_sub(before));
                 let (code, table, phi, pairs) = job.finish();
                 let sheet = Sheet {
                     code,

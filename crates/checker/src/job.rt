@@ -30,11 +30,11 @@ impl<A: Allocator> Model for Job<A> {
 
     ghost Value = { JobView };
 
-    ghost use Rattle.checker.specs.Stages.{Stands, ending};
+    ghost use Rattle.checker.specs.Stages.{StandsAfter, ending};
 
     ghost view = { λ j. record { bytes = j.bytes.items; limit = j.limit; spent = j.spent; ended = ending j.stage } };
 
-    ghost invariant = { λ j. Stands j.bytes.items j.limit j.stage };
+    ghost invariant = { λ j. StandsAfter j.bytes.items j.limit j.spent j.stage };
 }
 
 impl<A: Allocator + Copy> Job<A> {
@@ -96,17 +96,14 @@ impl<A: Allocator + Copy> Job<A> {
 
     /// Spends units until there are none or the job ends.
     fn advance(&mut self, units: u64)
-        ensures { HasAdvanced self.old self.new }
+        ensures { HasAdvanced units self.old self.new }
     {
         let mut left = units;
-        for _turn in 0..10u8 {
-            if left == 0 || self.stage.has_ended() {
-                return;
-            }
+        'stages: while left > 0 && !self.stage.has_ended() {
             let before = left;
             let stage = std::mem::replace(&mut self.stage, Stage::Reading);
             self.stage = stage.work(self.alloc, &self.bytes, self.limit, &mut left);
-            self.spent = self.spent.saturating_add(before.saturating_sub(left));
+            self.spent += before - left;
         }
     }
 

@@ -1,9 +1,10 @@
-ghost use Rattle.std.specs.Prelude.{◌≡◌, ◌<◌, ◌-◌, ◌↔◌, ◌⊎◌, ℕ, IsTrue};
+ghost use Rattle.std.specs.Prelude.{◌≡◌, ◌<◌, ◌+◌, ◌-◌, ◌*◌, ◌↔◌, ◌⊎◌, ℕ, IsTrue};
 ghost use Rattle.misere_theory.specs.Numbering.{KeyBelow};
 ghost use Rattle.misere_theory.specs.Certificates.{key_of};
 ghost use Rattle.misere_theory.specs.Faults.{WordFault};
 ghost use Rattle.checker.specs.Progress.{IsKeyOf};
-ghost use Rattle.checker.specs.Stages.{Carries};
+ghost use Rattle.checker.specs.Units.{stage_units};
+ghost use Rattle.checker.specs.Stages.{Carries, Pays};
 
 use crate::products::Products;
 use crate::refusal::Refusal;
@@ -24,12 +25,13 @@ pub struct Keys<A: Allocator = Global> {
 }
 
 impl<A: Allocator> Model for Keys<A> {
-    ghost use Rattle.misere_theory.specs.Certificates.{Certificate};
+    ghost use Rattle.std.specs.Prelude.{◌-◌};
+    ghost use Rattle.checker.specs.Units.{Staged};
     ghost use Rattle.checker.specs.Progress.{KeysSoFar};
 
-    ghost Value = { Certificate };
+    ghost Value = { Staged };
 
-    ghost view = { λ s. s.sheet };
+    ghost view = { λ s. record { certificate = s.sheet; units = s.sheet.order - s.next } };
 
     ghost invariant = { λ s. KeysSoFar s.sheet s.next s.rising };
 }
@@ -64,7 +66,8 @@ pub fn is_below(a: Key, b: Key) -> bool
 impl<A: Allocator + Copy> Keys<A> {
     /// No key was looked at.
     pub fn new(sheet: Sheet<A>) -> Keys<A>
-        ensures { result ≡ sheet }
+        ensures certificate { result.certificate ≡ sheet }
+        ensures units { result.units < stage_units }
     {
         let _order = sheet.order();
         Keys {
@@ -76,7 +79,8 @@ impl<A: Allocator + Copy> Keys<A> {
 
     /// Spends units until there are none or the stage ends.
     pub fn work(self, left: &mut u64) -> Stage<A>
-        ensures { (limit : ℕ) → Carries self limit result }
+        ensures carries { (limit : ℕ) → Carries self.certificate limit result }
+        ensures pays { Pays (self.units + 7 * stage_units) left.old left.new result }
     {
         let Keys {
             sheet,

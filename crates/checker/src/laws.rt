@@ -1,6 +1,7 @@
 //! The stage that checks the laws of the table.
-ghost use Rattle.std.specs.Prelude.{◌≡◌, ℕ};
-ghost use Rattle.checker.specs.Stages.{Carries};
+ghost use Rattle.std.specs.Prelude.{◌≡◌, ◌<◌, ◌+◌, ◌*◌, ℕ};
+ghost use Rattle.checker.specs.Units.{stage_units};
+ghost use Rattle.checker.specs.Stages.{Carries, Pays};
 
 use crate::keys::Keys;
 use crate::lines::{Lines, set_of};
@@ -8,7 +9,7 @@ use crate::refusal::Refusal;
 use crate::sheet::Sheet;
 use crate::stage::Stage;
 use certificate::{Cert, Parts};
-use monoid_table::TableJob;
+use monoid_table::{TableJob, turns_add_up};
 use octal_code::Code;
 use std::alloc::{Allocator, Global};
 use std::marker::Model;
@@ -24,21 +25,24 @@ pub struct Laws<A: Allocator = Global> {
 }
 
 impl<A: Allocator> Model for Laws<A> {
-    ghost use Rattle.misere_theory.specs.Certificates.{Certificate};
+    ghost use Rattle.std.specs.Prelude.{◌-◌};
+    ghost use Rattle.monoid_table.specs.Turns.{triples};
+    ghost use Rattle.checker.specs.Units.{Staged};
     ghost use Rattle.certificate.specs.Pieces.{certificate_of};
-    ghost use Rattle.checker.specs.Sheets.{pieces_of, IsRead};
+    ghost use Rattle.checker.specs.Sheets.{pieces_of, IsUnderLaws};
 
-    ghost Value = { Certificate };
+    ghost Value = { Staged };
 
-    ghost view = { λ s. certificate_of (pieces_of s.code s.job.grid s.phi s.lines.portion.items s.lines.words.items s.lines.apart.items) };
+    ghost view = { λ s. record { certificate = certificate_of (pieces_of s.code s.job.grid s.phi s.lines.portion.items s.lines.words.items s.lines.apart.items); units = triples s.job.grid.order - s.job.spent } };
 
-    ghost invariant = { λ s. IsRead (pieces_of s.code s.job.grid s.phi s.lines.portion.items s.lines.words.items s.lines.apart.items) s.lines.inside };
+    ghost invariant = { λ s. IsUnderLaws (pieces_of s.code s.job.grid s.phi s.lines.portion.items s.lines.words.items s.lines.apart.items) s.lines.inside s.job.spent };
 }
 
 impl<A: Allocator + Copy> Laws<A> {
     /// No triple was looked at.
     pub fn new(cert: Cert<A>) -> Laws<A>
-        ensures { result ≡ cert }
+        ensures certificate { result.certificate ≡ cert }
+        ensures units { result.units < stage_units }
     {
         certificate::claims_agree();
         let Parts {
@@ -69,7 +73,8 @@ impl<A: Allocator + Copy> Laws<A> {
 
     /// Spends units until there are none or the stage ends.
     pub fn work(self, left: &mut u64) -> Stage<A>
-        ensures { (limit : ℕ) → Carries self limit result }
+        ensures carries { (limit : ℕ) → Carries self.certificate limit result }
+        ensures pays { Pays (self.units + 8 * stage_units) left.old left.new result }
     {
         let Laws {
             code,
@@ -77,30 +82,24 @@ impl<A: Allocator + Copy> Laws<A> {
             lines,
             mut job,
         } = self;
+        turns_add_up();
         let before = job.done();
-        match job.work(*left) {
-            Err(_) => {
-                *left = left.saturating_sub(job.done().saturating_sub(before));
-                Stage::Ended(Err(Refusal::Law))
-            }
-            Ok(false) => {
-                *left = 0;
-                Stage::Laws(Laws {
-                    code,
-                    phi,
-                    lines,
-                    job,
-                })
-            }
-            Ok(true) => {
-                *left = left.saturating_sub(job.done().saturating_sub(before));
-                Stage::Keys(Keys::new(Sheet {
-                    code,
-                    table: job.finish(),
-                    phi,
-                    lines,
-                }))
-            }
+        let looked = job.work(*left);
+        *left -= job.done() - before;
+        match looked {
+            Err(_) => Stage::Ended(Err(Refusal::Law)),
+            Ok(false) => Stage::Laws(Laws {
+                code,
+                phi,
+                lines,
+                job,
+            }),
+            Ok(true) => Stage::Keys(Keys::new(Sheet {
+                code,
+                table: job.finish(),
+                phi,
+                lines,
+            })),
         }
     }
 }

@@ -1,7 +1,8 @@
-ghost use Rattle.std.specs.Prelude.{◌≡◌, ◌<◌, ◌+◌, ◌≤◌, ◌↔◌, ℕ, IsTrue};
+ghost use Rattle.std.specs.Prelude.{◌≡◌, ◌<◌, ◌+◌, ◌*◌, ◌≤◌, ◌↔◌, ℕ, IsTrue};
 ghost use Rattle.misere_theory.specs.Certificates.{phi_at};
 ghost use Rattle.checker.specs.Progress.{HasNoFaultBelow};
-ghost use Rattle.checker.specs.Stages.{Carries};
+ghost use Rattle.checker.specs.Units.{stage_units};
+ghost use Rattle.checker.specs.Stages.{Carries, Pays};
 
 use crate::refusal::Refusal;
 use crate::separating::Separating;
@@ -21,12 +22,13 @@ pub struct Periods<A: Allocator = Global> {
 }
 
 impl<A: Allocator> Model for Periods<A> {
-    ghost use Rattle.misere_theory.specs.Certificates.{Certificate};
+    ghost use Rattle.std.specs.Prelude.{◌+◌};
+    ghost use Rattle.checker.specs.Units.{Staged, rest};
     ghost use Rattle.checker.specs.Progress.{PeriodsSoFar};
 
-    ghost Value = { Certificate };
+    ghost Value = { Staged };
 
-    ghost view = { λ s. s.sheet };
+    ghost view = { λ s. record { certificate = s.sheet; units = rest s.sheet.period s.shift (s.sheet.period + 1) s.count + 1 } };
 
     ghost invariant = { λ s. PeriodsSoFar s.sheet s.shift s.count };
 }
@@ -43,7 +45,8 @@ impl<A: Allocator + Copy> Periods<A> {
     /// Nothing was compared.
     pub fn new(sheet: Sheet<A>) -> Periods<A>
         requires { HasNoFaultBelow 5 sheet }
-        ensures { result ≡ sheet }
+        ensures certificate { result.certificate ≡ sheet }
+        ensures units { result.units < stage_units }
     {
         let _order = sheet.order();
         Periods {
@@ -55,7 +58,8 @@ impl<A: Allocator + Copy> Periods<A> {
 
     /// Spends units until there are none or the stage ends.
     pub fn work(self, left: &mut u64) -> Stage<A>
-        ensures { (limit : ℕ) → Carries self limit result }
+        ensures carries { (limit : ℕ) → Carries self.certificate limit result }
+        ensures pays { Pays (self.units + 5 * stage_units) left.old left.new result }
     {
         let Periods {
             sheet,

@@ -1,7 +1,8 @@
-ghost use Rattle.std.specs.Prelude.{◌≡◌, ◌<◌, ◌+◌, ◌≤◌, ◌⊎◌, ℕ, IsTrue};
+ghost use Rattle.std.specs.Prelude.{◌≡◌, ◌<◌, ◌+◌, ◌*◌, ◌≤◌, ◌⊎◌, ℕ, IsTrue};
 ghost use Rattle.misere_theory.specs.Faults.{OrderFault};
 ghost use Rattle.checker.specs.Progress.{IsInOrder, AreKeys};
-ghost use Rattle.checker.specs.Stages.{Carries};
+ghost use Rattle.checker.specs.Units.{stage_units};
+ghost use Rattle.checker.specs.Stages.{Carries, Pays};
 
 use crate::keys::is_below;
 use crate::periods::Periods;
@@ -23,13 +24,14 @@ pub struct Products<A: Allocator = Global> {
 }
 
 impl<A: Allocator> Model for Products<A> {
-    ghost use Rattle.misere_theory.specs.Certificates.{Certificate};
     ghost use Rattle.misere_theory.specs.Faults.{OrderFault};
+    ghost use Rattle.std.specs.Prelude.{◌+◌};
+    ghost use Rattle.checker.specs.Units.{Staged, rest};
     ghost use Rattle.checker.specs.Progress.{ProductsSoFar};
 
-    ghost Value = { Certificate };
+    ghost Value = { Staged };
 
-    ghost view = { λ s. s.sheet };
+    ghost view = { λ s. record { certificate = s.sheet; units = rest s.sheet.order s.element (s.sheet.start + s.sheet.period) s.heap } };
 
     ghost invariant = { λ s. ProductsSoFar s.sheet s.element s.heap };
 }
@@ -50,7 +52,8 @@ impl<A: Allocator + Copy> Products<A> {
     /// No product was looked at.
     pub fn new(sheet: Sheet<A>) -> Products<A>
         requires { AreKeys sheet }
-        ensures { result ≡ sheet }
+        ensures certificate { result.certificate ≡ sheet }
+        ensures units { result.units < stage_units }
     {
         let _order = sheet.order();
         Products {
@@ -62,7 +65,8 @@ impl<A: Allocator + Copy> Products<A> {
 
     /// Spends units until there are none or the stage ends.
     pub fn work(self, left: &mut u64) -> Stage<A>
-        ensures { (limit : ℕ) → Carries self limit result }
+        ensures carries { (limit : ℕ) → Carries self.certificate limit result }
+        ensures pays { Pays (self.units + 6 * stage_units) left.old left.new result }
     {
         let Products {
             sheet,

@@ -1,5 +1,7 @@
 //! The stage that reads the bytes.
-ghost use Rattle.checker.specs.Stages.{Stands};
+ghost use Rattle.std.specs.Prelude.{◌*◌};
+ghost use Rattle.checker.specs.Units.{stage_units};
+ghost use Rattle.checker.specs.Stages.{Stands, Pays};
 
 use crate::laws::Laws;
 use crate::refusal::Refusal;
@@ -9,7 +11,8 @@ use std::alloc::Allocator;
 
 /// Reads the whole text, if there is a unit.
 pub fn work<A: Allocator + Copy>(alloc: A, bytes: &[u8], limit: u32, left: &mut u64) -> Stage<A>
-    ensures { Stands bytes.now limit result }
+    ensures stands { Stands bytes.now limit result }
+    ensures pays { Pays (9 * stage_units) left.old left.new result }
 {
     let _limit = limit;
     if *left == 0 {

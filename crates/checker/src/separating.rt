@@ -1,7 +1,8 @@
-ghost use Rattle.std.specs.Prelude.{◌≡◌, ◌<◌, ◌+◌, ◌≤◌, ◌↔◌, ℕ, IsTrue};
+ghost use Rattle.std.specs.Prelude.{◌≡◌, ◌<◌, ◌+◌, ◌*◌, ◌≤◌, ◌↔◌, ℕ, IsTrue};
 ghost use Rattle.misere_theory.specs.Certificates.{claim_of, TellsApart};
 ghost use Rattle.checker.specs.Progress.{HasNoFaultBelow};
-ghost use Rattle.checker.specs.Stages.{Carries};
+ghost use Rattle.checker.specs.Units.{stage_units};
+ghost use Rattle.checker.specs.Stages.{Carries, Pays};
 
 use crate::heaps::Heaps;
 use crate::refusal::Refusal;
@@ -25,12 +26,13 @@ pub struct Separating<A: Allocator = Global> {
 }
 
 impl<A: Allocator> Model for Separating<A> {
-    ghost use Rattle.misere_theory.specs.Certificates.{Certificate};
+    ghost use Rattle.std.specs.Prelude.{◌+◌, length};
+    ghost use Rattle.checker.specs.Units.{Staged, rest};
     ghost use Rattle.checker.specs.Progress.{ApartSoFar};
 
-    ghost Value = { Certificate };
+    ghost Value = { Staged };
 
-    ghost view = { λ s. s.sheet };
+    ghost view = { λ s. record { certificate = s.sheet; units = rest (length s.sheet.apart) s.number (s.sheet.order + 1) s.z } };
 
     ghost invariant = { λ s. ApartSoFar s.sheet s.x s.y s.z s.number };
 }
@@ -49,7 +51,8 @@ impl<A: Allocator + Copy> Separating<A> {
     /// No pair was looked at.
     pub fn new(sheet: Sheet<A>) -> Separating<A>
         requires { HasNoFaultBelow 6 sheet }
-        ensures { result ≡ sheet }
+        ensures certificate { result.certificate ≡ sheet }
+        ensures units { result.units < stage_units }
     {
         let _order = sheet.order();
         Separating {
@@ -63,7 +66,8 @@ impl<A: Allocator + Copy> Separating<A> {
 
     /// Spends units until there are none or the stage ends.
     pub fn work(self, alloc: A, left: &mut u64) -> Stage<A>
-        ensures { (limit : ℕ) → Carries self limit result }
+        ensures carries { (limit : ℕ) → Carries self.certificate limit result }
+        ensures pays { Pays (self.units + 4 * stage_units) left.old left.new result }
     {
         let Separating {
             sheet,

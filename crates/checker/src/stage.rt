@@ -30,7 +30,7 @@ pub enum Stage<A: Allocator = Global> {
 }
 
 impl<A: Allocator + Copy> Stage<A> {
-    ghost use Rattle.checker.specs.Stages.{Stands, has_ended};
+    ghost use Rattle.checker.specs.Stages.{Stands, Pays, needs, has_ended};
 
     /// Whether the answer stands.
     pub fn has_ended(&self) -> bool
@@ -42,7 +42,8 @@ impl<A: Allocator + Copy> Stage<A> {
     /// Spends units until there are none or the stage ends.
     pub fn work(self, alloc: A, bytes: &[u8], limit: u32, left: &mut u64) -> Stage<A>
         requires { Stands bytes.now limit self }
-        ensures { Stands bytes.now limit result }
+        ensures stands { Stands bytes.now limit result }
+        ensures pays { Pays (needs self) left.old left.new result }
     {
         match self {
             Stage::Reading => reading::work(alloc, bytes, limit, left),

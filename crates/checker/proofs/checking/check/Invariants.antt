@@ -1,5 +1,13 @@
-use Rattle.checker.specs.Stages.{Stands}
+use Rattle.std.proofs.Common.{◌≤◌, ◌*◌}
+use Rattle.checker.specs.Units.{stage_units}
+use Rattle.checker.specs.Stages.{Stands, needs}
 use Rattle.checker.proofs.checking.check.Given as goal
 
-abbrev pub invariant-loop-turn : goal.invariant-loop-turn
-invariant-loop-turn g l = Stands l.bytes l.limit l.stage
+abbrev pub invariant-stages : goal.invariant-stages
+invariant-stages g l = record {
+  stands : Stands l.bytes l.limit l.stage;
+  few : needs l.stage ≤ 9 * stage_units;
+}
+
+abbrev pub decreases-stages : goal.decreases-stages
+decreases-stages g l = needs l.stage

@@ -1,6 +1,7 @@
 use Rattle.std.proofs.Common.{rules, ◌≡◌, ◌<◌, ◌≤◌, ◌+◌, ℕ, length, get_or, true, false, subst, sym, ◌∙◌, ap, arith}
 use Rattle.std.specs.FinSet as set
 use Rattle.checker.specs.Stages.{Carries}
+use Rattle.checker.proofs.UnitLemmas.{rest-place, rest-row}
 use Rattle.checker.proofs.ElementLemmas.{value_below, leads_in, obeys_at, value_turn, heap_turn, elements_end}
 use Rattle.checker.proofs.elements.Elements.work.Goals as goal
 
@@ -17,8 +18,8 @@ beside-requires-clause-breach g c =
     let e = c.deref.ensures.value in
     leads_in c.heaps.sheet i.lawful.in_ranges c.self.inside.pairs.items c.self.inside.contexts.items _ _ c.in-Some.y c.index.result.now i.so_far l c.index.ensures c.in-Some.ensures.option (rw e at c.in-Some.ensures.heap) (rw e at c.in-Some.ensures.left)
 
-pub returns-in-Ok : goal.returns-in-Ok
-returns-in-Ok g c = λ limit. subst (λ d. Carries d limit c.failed.result) c.heaps.invariant.same (c.failed.ensures limit)
+pub returns-in-Ok-clause-carries : goal.returns-in-Ok-clause-carries
+returns-in-Ok-clause-carries g c = λ limit. subst (λ d. Carries d limit c.failed.result) c.heaps.invariant.same (c.failed.ensures.carries limit)
 
 pub heaps-preserved-then-option-order : goal.heaps-preserved-then-option-order
 heaps-preserved-then-option-order g c =
@@ -30,6 +31,8 @@ heaps-preserved-then-option-order g c =
       order = i.order;
       lawful = i.lawful;
       so_far = heap_turn c.heaps.sheet i.lawful.in_ranges c.self.inside.pairs.items c.self.inside.contexts.items _ _ i.so_far o (c.if-option-order.true ∙ i.order) l;
+      spent = omega arith;
+      paid = (let f = rest-row (length c.self.inside.pairs.items) c.heaps.heap c.heaps.sheet.order c.heaps.option l i.so_far.value 0 in omega arith);
     }
 
 pub heaps-preserved : goal.heaps-preserved
@@ -44,6 +47,8 @@ heaps-preserved g c =
       order = i.order;
       lawful = i.lawful;
       so_far = value_turn c.heaps.sheet i.lawful.in_ranges c.self.inside.pairs.items c.self.inside.contexts.items _ _ i.so_far o b;
+      spent = omega arith;
+      paid = (let f = rest-place (length c.self.inside.pairs.items) c.heaps.heap c.heaps.sheet.order c.heaps.option l v in omega arith);
     }
 
 pub accepted-requires : goal.accepted-requires

@@ -1,12 +1,17 @@
-use Rattle.std.proofs.Common.{◌≡◌, ◌≢◌, None}
-use Rattle.checker.specs.Stages.{Stands, ending}
+use Rattle.std.proofs.Common.{◌≡◌, ◌≢◌, ◌+◌, ◌≤◌, None}
+use Rattle.checker.specs.Stages.{StandsAfter, ending, needs}
 use Rattle.checker.proofs.job.Job.advance.Given as goal
 
-abbrev pub invariant-loop-turn : goal.invariant-loop-turn
-invariant-loop-turn g l = record {
+abbrev pub invariant-stages : goal.invariant-stages
+invariant-stages g l = record {
   bytes : l.self-inside.bytes.items ≡ l.initial.self-inside.bytes.items;
   limit : l.self-inside.limit ≡ l.initial.self-inside.limit;
-  stands : Stands l.self-inside.bytes.items l.self-inside.limit l.self-inside.stage;
-  spent : ending l.initial.self-inside.stage ≢ None → l.self-inside.spent ≡ l.initial.self-inside.spent;
-  ended : ending l.initial.self-inside.stage ≢ None → ending l.self-inside.stage ≡ ending l.initial.self-inside.stage;
+  stands : StandsAfter l.self-inside.bytes.items l.self-inside.limit l.self-inside.spent l.self-inside.stage;
+  within : l.left ≤ l.fn.units;
+  spent : l.self-inside.spent + l.left ≡ l.initial.self-inside.spent + l.fn.units;
+  idle : l.fn.units ≡ 0 → ending l.self-inside.stage ≡ ending l.initial.self-inside.stage;
+  ended : ending l.initial.self-inside.stage ≢ None → (l.left ≡ l.fn.units) × (ending l.self-inside.stage ≡ ending l.initial.self-inside.stage);
 }
+
+abbrev pub decreases-stages : goal.decreases-stages
+decreases-stages g l = l.left + needs l.self-inside.stage

@@ -3,6 +3,7 @@ use Rattle.misere_theory.specs.Certificates.{phi_at}
 use Rattle.misere_theory.specs.Verdicts.{IsFirstFault}
 use Rattle.misere_theory.specs.Verdicts.Fault.{Period}
 use Rattle.checker.proofs.FaultLemmas.{none_below_apart}
+use Rattle.checker.proofs.UnitLemmas.{rest-place, rest-row}
 use Rattle.checker.proofs.PeriodLemmas.{again_turn, serves_round, shift_turn, periods_end}
 use Rattle.checker.proofs.periods.Periods.work.Goals as goal
 
@@ -18,10 +19,12 @@ shifts-preserved-then-not-comes_again g c =
       period = i.period;
       lawful = i.lawful;
       so_far = shift_turn _ _ _ i.so_far not (search rules);
+      spent = omega arith;
+      paid = (let f = rest-row c.shifts.sheet.period c.shifts.shift (c.shifts.sheet.period + 1) c.shifts.count (search rules) (let s = i.so_far.short in omega arith) 0 in omega arith);
     }
 
-pub returns-then-count-period : goal.returns-then-count-period
-returns-then-count-period g c =
+pub returns-then-count-period-clause-carries : goal.returns-then-count-period-clause-carries
+returns-then-count-period-clause-carries g c =
     let i = c.shifts.invariant in
     let e = rw i.start at (c.comes_again.ensures.0 c.if-not-comes_again.false).1 in
     λ _. subst (λ d. IsFirstFault d Period) i.same (serves_round c.shifts.sheet i.lawful.in_ranges _ _ i.so_far e (search rules) (search rules), i.so_far.free)
@@ -38,6 +41,8 @@ shifts-preserved g c =
       period = i.period;
       lawful = i.lawful;
       so_far = again_turn _ _ _ i.so_far e l;
+      spent = omega arith;
+      paid = (let f = rest-place c.shifts.sheet.period c.shifts.shift (c.shifts.sheet.period + 1) c.shifts.count (search rules) (omega arith) in omega arith);
     }
 
 pub new-requires : goal.new-requires

@@ -1,15 +1,18 @@
-use Rattle.std.proofs.Common.{◌≡◌, ◌+◌}
+use Rattle.std.proofs.Common.{◌≡◌, ◌+◌, ◌≤◌}
+use Rattle.checker.specs.Units.{rest}
 use Rattle.checker.specs.Sheets.{IsLawful}
 use Rattle.checker.specs.Progress.{ProductsSoFar}
 use Rattle.checker.proofs.products.Products.work.Given as goal
 
 abbrev pub invariant-products : goal.invariant-products
 invariant-products g l = record {
-  same : l.sheet ≡ l.fn.self;
+  same : l.sheet ≡ l.fn.self.certificate;
   order : l.order ≡ l.sheet.order;
   heaps : l.heaps ≡ l.sheet.start + l.sheet.period;
   lawful : IsLawful l.sheet;
   so_far : ProductsSoFar l.sheet l.element l.heap;
+  spent : l.left ≤ l.initial.left;
+  paid : l.initial.left + (rest l.sheet.order l.element (l.sheet.start + l.sheet.period) l.heap) ≤ l.left + l.fn.self.units;
 }
 
 abbrev pub decreases-products : goal.decreases-products

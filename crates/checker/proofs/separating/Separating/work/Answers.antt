@@ -4,6 +4,7 @@ use Rattle.misere_theory.specs.Verdicts.{IsFirstFault}
 use Rattle.misere_theory.specs.Verdicts.Fault.{Apart}
 use Rattle.misere_theory.proofs.Verdicts.{faultless}
 use Rattle.checker.proofs.FaultLemmas.{none_at_all}
+use Rattle.checker.proofs.UnitLemmas.{rest-place, rest-row}
 use Rattle.checker.proofs.ApartLemmas.{apart_in, element_turn, apart_none, apart_smaller, pair_turn, last_pair_turn, apart_end}
 use Rattle.checker.proofs.separating.Separating.work.Goals as goal
 
@@ -12,8 +13,8 @@ tells_apart-requires-clause-y_in g c =
     let i = c.pairs.invariant in
     apart_in c.pairs.sheet i.lawful.in_ranges _ _ _ _ i.so_far (search rules)
 
-pub returns-then-z-given : goal.returns-then-z-given
-returns-then-z-given g c =
+pub returns-then-z-given-clause-carries : goal.returns-then-z-given-clause-carries
+returns-then-z-given-clause-carries g c =
     let i = c.pairs.invariant in
     let l : c.pairs.number < length c.pairs.sheet.apart = search rules in
     let not = λ (t : TellsApart (claim_of c.pairs.sheet) (c.pairs.x, c.pairs.y) c.pairs.z). let r : c.tells_apart.result ≡ true = c.tells_apart.ensures.1 t in let b : ⊥ = cc in b in
@@ -30,10 +31,12 @@ pairs-preserved-then-not-tells_apart g c =
       pairs = i.pairs;
       lawful = i.lawful;
       so_far = element_turn c.pairs.sheet i.lawful.in_ranges _ _ _ _ i.so_far l not (search rules);
+      spent = omega arith;
+      paid = (let b : c.pairs.z < c.pairs.sheet.order = search rules in let f = rest-place (length c.pairs.sheet.apart) c.pairs.number (c.pairs.sheet.order + 1) c.pairs.z l (omega arith) in omega arith);
     }
 
-pub returns-then-z-given-2 : goal.returns-then-z-given-2
-returns-then-z-given-2 g c =
+pub returns-then-z-given-2-clause-carries : goal.returns-then-z-given-2-clause-carries
+returns-then-z-given-2-clause-carries g c =
     let i = c.pairs.invariant in
     let l : c.pairs.number < length c.pairs.sheet.apart = search rules in
     λ _. subst (λ d. IsFirstFault d Apart) i.same (apart_smaller c.pairs.sheet i.lawful.in_ranges _ _ _ _ i.so_far l (c.tells_apart.ensures.0 c.if-not-tells_apart.false) (search rules), i.so_far.free)
@@ -51,6 +54,8 @@ pairs-preserved-then-y-order g c =
       pairs = i.pairs;
       lawful = i.lawful;
       so_far = last_pair_turn c.pairs.sheet i.lawful.in_ranges _ _ _ _ i.so_far l b t e (search rules);
+      spent = omega arith;
+      paid = (let f = rest-row (length c.pairs.sheet.apart) c.pairs.number (c.pairs.sheet.order + 1) c.pairs.z l (omega arith) 0 in omega arith);
     }
 
 pub pairs-preserved : goal.pairs-preserved
@@ -66,6 +71,8 @@ pairs-preserved g c =
       pairs = i.pairs;
       lawful = i.lawful;
       so_far = pair_turn c.pairs.sheet i.lawful.in_ranges _ _ _ _ i.so_far l b t e (λ m. c.if-y-order.false (m ∙ sym i.order));
+      spent = omega arith;
+      paid = (let f = rest-row (length c.pairs.sheet.apart) c.pairs.number (c.pairs.sheet.order + 1) c.pairs.z l (omega arith) 0 in omega arith);
     }
 
 pub new-requires : goal.new-requires

@@ -1,0 +1,105 @@
+-- Units that are left.
+use Rattle.std.proofs.Common.{◌≡◌, Ok, Err, List, [], ◌∷◌, length, length-append, ◌≢◌, ◌==◌, ◌||◌, eq-eqb, ℕ, suc, zero, ◌+◌, ◌-◌, ◌*◌, ◌^◌, ◌<◌, ◌≤◌, Bool, true, false, not, refl, sym, ◌∙◌, ap, subst, arith, if◌then◌else◌}
+use Rattle.std.proofs.lemmas.Nat.{mul-le}
+use Rattle.monoid_table.specs.Turns.{JobState, triples, turn, turns, is_over, triple_holds}
+use Rattle.monoid_table.specs.Faults.{answer_of}
+use Rattle.monoid_table.specs.declared.fault.LawFault.TheVariants.{Law}
+use Rattle.misere_theory.specs.Games.{IsOctalCode}
+use Rattle.misere_theory.specs.Certificates.{Certificate, InRanges, pairs_with, pairs_from}
+use Rattle.transition_algebra.specs.Pretending.{Pretending}
+use Rattle.transition_algebra.specs.Heaps.{bound_of as heaps_bound}
+use Rattle.checker.specs.Closings.{bound_of}
+use Rattle.checker.specs.Units.{rest}
+
+-- places of some rows, at least one
+place : (k m j : ℕ) → 1 ≤ k → j < m → k * m - (j + 1) + 1 ≤ k * m - j
+place k m j a b = let h = mul-le 1 m k m a (omega arith) in omega arith
+
+row : (k l m j i : ℕ) → k ≡ l + 1 → j < m → l * m - i + 1 ≤ k * m - j
+row k l m j i e b = let h : k * m ≡ l * m + m = (rw e (grind arith)) in omega arith
+
+module _ (n i m j : ℕ) (row_in : i < n) (place_in : j < m) where
+  -- a place more
+  pub rest-place : rest n i m (j + 1) + 1 ≤ rest n i m j
+  unfolding rest
+  rest-place = place (n - i) m j (omega arith) place_in
+
+  -- the last place of a row
+  pub rest-row : (first : ℕ) → rest n (i + 1) m first + 1 ≤ rest n i m j
+  unfolding rest
+  rest-row first = row (n - i) (n - (i + 1)) m j first (omega arith) place_in
+
+pub rest-most : (n i m j a b : ℕ) → n ≤ a → m ≤ b → rest n i m j ≤ a * b
+unfolding rest
+rest-most n i m j a b k l = let h = mul-le (n - i) m a b (omega arith) l in omega arith
+
+some-left : (r : Bool) (n m : ℕ) → (r || (n == m)) ≡ false → n ≢ m
+some-left true n m e = absurd (cc)
+some-left false n m e = λ d. let t = eq-eqb n m d in let b : ⊥ = cc in b
+
+choice_grid : (b : Bool) (s t : JobState) → t.grid ≡ s.grid → (if b then s else t).grid ≡ s.grid
+choice_grid true s t e = refl
+choice_grid false s t e = e
+
+turn-grid : (s : JobState) → (turn s).grid ≡ s.grid
+turn-grid s = choice_grid (is_over s) s _ refl
+
+-- the triples of a table, one turn and so many turns later
+module _ (s : JobState) (within : s.spent ≤ triples s.grid.order) where
+  abbrev pub InRange : JobState → ℕ → Type 0
+  InRange t n = (s.spent ≤ t.spent) × (t.spent ≤ s.spent + n) × (t.spent ≤ triples s.grid.order)
+
+  one-turn : (b : Bool) → is_over s ≡ b → InRange (if b then s else record { grid = s.grid; spent = s.spent + 1; refused = not (triple_holds s.grid.order s.grid.entries s.spent) }) 1
+  one-turn true e = (omega arith, omega arith, within)
+  one-turn false e =
+      let d = some-left s.refused s.spent (triples s.grid.order) e in
+      (omega arith, omega arith, omega arith)
+
+pub turns-range : (n : ℕ) (s : JobState) → s.spent ≤ triples s.grid.order → (s.spent ≤ (turns n s).spent) × ((turns n s).spent ≤ s.spent + n) × ((turns n s).spent ≤ triples s.grid.order)
+unfolding turns
+turns-range zero s h = (omega arith, omega arith, h)
+turns-range (suc n) s h =
+    let a = one-turn s h (is_over s) refl in
+    let g = turn-grid s in
+    let b = turns-range n (turn s) (rw g a.2) in
+    let d = rw g at b.2 in
+    (omega arith, omega arith, d)
+
+-- no triple is left where a job says so
+going : (r b : Bool) → (if r then Err Law else Ok b) ≡ Ok false → (r || b) ≡ false
+going true b e = absurd (cc)
+going false b e = cc
+
+pub not-over : (s : JobState) → answer_of s ≡ Ok false → is_over s ≡ false
+not-over s e = going s.refused (s.spent == triples s.grid.order) e
+
+with_length : (x y n : ℕ) → length (pairs_with x y n) ≡ n
+with_length x y zero = refl
+with_length x y (suc n) = let h = with_length x (y + 1) n in omega arith
+
+pairs_at_most : (x n : ℕ) → length (pairs_from x n) ≤ n * n
+pairs_at_most x zero = omega arith
+pairs_at_most x (suc n) =
+    let h = pairs_at_most (x + 1) n in
+    let a = length-append (pairs_with x (x + 1) n) (pairs_from (x + 1) n) in
+    let b = with_length x (x + 1) n in
+    let m : suc n * suc n ≡ n * n + n + n + 1 = grind arith in
+    omega arith
+
+pub pairs_few : (x n : ℕ) → n ≤ 256 → length (pairs_from x n) ≤ 65536
+pairs_few x n l = let h = pairs_at_most x n in let m = mul-le n n 256 256 l l in omega arith
+
+code_short : (code : List ℕ) → IsOctalCode code → length code ≤ 17
+code_short [] h = absurd h
+code_short (d ∷ ds) h = let l = h.2 in omega arith
+
+pub bound_few : (c : Certificate) → InRanges c → bound_of c ≤ 2066
+bound_few c r = let l = code_short c.code r.code in let s = r.period.2 in omega arith
+
+pub cost_few : (code : List ℕ) (phi : Pretending) (cost : ℕ) → IsOctalCode code → phi.start + phi.period ≤ 1025 → cost ≤ length code * (heaps_bound code phi * heaps_bound code phi) → cost < 2 ^ 48
+cost_few code phi cost o s l =
+    let n = code_short code o in
+    let b : heaps_bound code phi ≤ 2066 = omega arith in
+    let m = mul-le (heaps_bound code phi) (heaps_bound code phi) 2066 2066 b b in
+    let k = mul-le (length code) (heaps_bound code phi * heaps_bound code phi) 17 (2066 * 2066) n m in
+    omega arith
