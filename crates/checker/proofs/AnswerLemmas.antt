@@ -1,14 +1,14 @@
 -- Which answers are true of bytes that spell a certificate.
-use Rattle.std.proofs.Common.{◌≡◌, ℕ, ◌*◌, ◌^◌, ◌≤◌, ◌⊎◌, List, refl, sym, ◌∙◌, ap, ap₂, subst, inl, inr}
+use Rattle.std.proofs.Common.{◌≡◌, ℕ, ◌*◌, ◌^◌, ◌≤◌, ◌⊎◌, List, refl, sym, ap, subst, inl, inr}
 use Rattle.misere_theory.specs.Games.{IsHeap}
 use Rattle.misere_theory.specs.Quotients.{Monoid, Represents}
 use Rattle.misere_theory.specs.Certificates.{Certificate, Accepted, Canonical, claim_of, times_of}
 use Rattle.misere_theory.specs.Verdicts.{Verdict, IsAllowed}
 use Rattle.misere_theory.specs.Verdicts.Fault.{Law as law, Word as word, Order as order, Period as period, Apart as apart}
-use Rattle.misere_theory.specs.Verdicts.Verdict.{Yes as Right, No as Faulty, Outcome as Fails, Limit as Over}
+use Rattle.misere_theory.specs.Verdicts.Verdict.{No as Faulty, Outcome as Fails, Limit as Over}
 use Rattle.misere_theory.proofs.Verdicts.{yes_or_limit, outcome_or_limit, never_past_all_pairs}
 use Rattle.certificate_text.specs.Spelling.{Spells}
-use Rattle.checker.specs.Answers.{Answer, Fits, IsTrueOf}
+use Rattle.checker.specs.Answers.{Answer, Fits, Holds, IsTrueOf}
 use Rattle.checker.specs.Answers.Answer.{Yes, Text, Law, Word, Order, Period, Apart, Outcome, Limit, Memory}
 
 module _ (one : (b : List ℕ) (c d : Certificate) → Spells b c → Spells b d → c ≡ d) (bytes : List ℕ) (limit : ℕ) (c : Certificate) (s : Spells bytes c) where
@@ -18,7 +18,7 @@ module _ (one : (b : List ℕ) (c d : Certificate) → Spells b c → Spells b d
   clash : {A : Type 0} {v w : Verdict} → (v ≡ w → ⊥) → v ≡ w → A
   clash n e = absurd (n e)
 
-  pub accepted_answers : Accepted c → (a : Answer) → IsTrueOf bytes limit a → (a ≡ Yes c) ⊎ ((a ≡ Limit) ⊎ (a ≡ Memory))
+  pub accepted_answers : Accepted c → (a : Answer) → Holds bytes limit a → (a ≡ Yes c) ⊎ ((a ≡ Limit) ⊎ (a ≡ Memory))
   accepted_answers k (Yes d) t = inl (ap Yes (fits (Yes d) t).0)
   accepted_answers k Text t = absurd (t c s)
   accepted_answers k Law t = elim (yes_or_limit c k limit (Faulty law) (fits Law t)) [ inl e ↦ absurd (cc) | inr e ↦ absurd (cc) ]
@@ -34,7 +34,7 @@ module _ (one : (b : List ℕ) (c d : Certificate) → Spells b c → Spells b d
     faulty_never : {A : Type 0} (v : Verdict) → ((X : List ℕ) → v ≡ Fails X → ⊥) → (v ≡ Over → ⊥) → IsAllowed c limit v → A
     faulty_never v n o h = elim (outcome_or_limit c s.in_ranges m k wrong limit v h) [ inl p ↦ absurd (n p.0 p.1) | inr e ↦ absurd (o e) ]
 
-    pub wrong_answers : (a : Answer) → IsTrueOf bytes limit a → ((X : List ℕ) × (a ≡ Outcome c.code X)) ⊎ ((a ≡ Limit) ⊎ (a ≡ Memory))
+    pub wrong_answers : (a : Answer) → Holds bytes limit a → ((X : List ℕ) × (a ≡ Outcome c.code X)) ⊎ ((a ≡ Limit) ⊎ (a ≡ Memory))
     wrong_answers (Yes d) t = absurd (wrong (fits (Yes d) t).1.represents)
     wrong_answers Text t = absurd (t c s)
     wrong_answers Law t = faulty_never (Faulty law) (λ X e. cc) (λ e. cc) (fits Law t)
@@ -46,8 +46,20 @@ module _ (one : (b : List ℕ) (c d : Certificate) → Spells b c → Spells b d
     wrong_answers Limit t = inr (inl refl)
     wrong_answers Memory t = inr (inr refl)
 
-  pub never_limit : c.order * 2 ^ c.order ≤ limit → IsTrueOf bytes limit Limit → ⊥
+  pub never_limit : c.order * 2 ^ c.order ≤ limit → Holds bytes limit Limit → ⊥
   never_limit l t = never_past_all_pairs c s.in_ranges limit l (fits Limit t)
 
-pub yes_accepts : (one : (b : List ℕ) (c d : Certificate) → Spells b c → Spells b d → c ≡ d) (bytes : List ℕ) (limit : ℕ) (c : Certificate) → IsTrueOf bytes limit (Yes c) → Spells bytes c × Accepted c
-yes_accepts one bytes limit c (d, t, f) = (subst (Spells bytes) (sym f.0) t, subst Accepted (sym f.0) f.1)
+pub true_answer : (one : (b : List ℕ) (c d : Certificate) → Spells b c → Spells b d → c ≡ d)
+    (text : (a b : List ℕ) (c d : Certificate) → Spells a c → Spells b d → Accepted c → Accepted d → c.code ≡ d.code → a ≡ b)
+    (bytes : List ℕ) (limit : ℕ) (a : Answer) → Holds bytes limit a → IsTrueOf bytes limit a
+true_answer one text bytes limit a h = record {
+  holds = h;
+  yes = λ c e.
+      let (d, t, f) = subst (Holds bytes limit) e h in
+      let spelled = subst (Spells bytes) (sym f.0) t in
+      let accepted = subst Accepted (sym f.0) f.1 in
+      (spelled, accepted, λ other o s k same. text other bytes o c s spelled k accepted same);
+  accepted = λ c s k. accepted_answers one bytes limit c s k a h;
+  wrong = λ c s m k w. wrong_answers one bytes limit c s m k w a h;
+  within = λ c s l e. never_limit one bytes limit c s l (subst (Holds bytes limit) e h);
+}

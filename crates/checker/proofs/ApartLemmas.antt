@@ -1,11 +1,9 @@
 -- One separating element more is tried.
-use Rattle.std.proofs.Common.{◌≡◌, ◌≢◌, ℕ, suc, zero, ◌+◌, ◌-◌, ◌<◌, ◌≤◌, ◌⊎◌, ◌↔◌, Bool, true, false, IsTrue, ◌&&◌, List, [], ◌∷◌, ◌++◌, refl, sym, ◌∙◌, ap, subst, inl, inr, arith, length, drop, get_or}
-use native.Mathlib.Decide.{dec_lt, ℕ_discrete}
-use Rattle.misere_theory.specs.Numbering.{KeyBelow}
-use Rattle.misere_theory.specs.Certificates.{Certificate, InRanges, phi_at, times_of, claim_of, key_of, pairs_with, pairs_from, TellsApart, LeastApart}
-use Rattle.misere_theory.specs.Faults.{WordFault, OrderFault, PeriodFault, ApartFault}
-use Rattle.checker.specs.Sheets.{IsLawful}
-use Rattle.checker.specs.Progress.{IsKeyOf, KeysSoFar, AreKeys, IsInOrder, ProductsSoFar, PeriodsSoFar, ApartSoFar}
+use Rattle.std.proofs.Common.{◌≡◌, ℕ, suc, zero, ◌+◌, ◌-◌, ◌<◌, ◌≤◌, List, [], ◌∷◌, ◌++◌, refl, sym, ◌∙◌, ap, subst, arith, length, drop, get_or}
+use native.Mathlib.Decide.{dec_lt}
+use Rattle.misere_theory.specs.Certificates.{Certificate, InRanges, claim_of, pairs_with, pairs_from, TellsApart, LeastApart}
+use Rattle.misere_theory.specs.Faults.{ApartFault}
+use Rattle.checker.specs.Progress.{ApartSoFar}
 use Rattle.std.proofs.lemmas.List.{drop-drop}
 use Rattle.checker.specs.Progress.{HasNoFaultBelow}
 

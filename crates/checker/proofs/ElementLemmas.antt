@@ -1,20 +1,18 @@
 -- One more heap and value are looked at.
-use Rattle.std.proofs.Common.{◌≡◌, ℕ, suc, zero, ◌+◌, ◌-◌, ◌<◌, ◌≤◌, ◌⊎◌, Bool, true, false, List, length, get_or, refl, sym, ◌∙◌, ap, subst, inl, inr, arith, rules}
-use Rattle.std.specs.List.{All}
+use Rattle.std.proofs.Common.{◌≡◌, ℕ, ◌+◌, ◌<◌, ◌≤◌, ◌⊎◌, Bool, true, false, List, length, get_or, refl, sym, ◌∙◌, ap, subst, arith, rules}
 use Rattle.std.specs.FinSet as set
 use Rattle.std.specs.FinSet.{members}
 use Rattle.std.specs.Ordering.{nat_cmp}
 use Rattle.std.proofs.lemmas.List.Elements.{All-get_or}
-use native.Mathlib.Decide.{dec_lt, ℕ_discrete}
+use native.Mathlib.Decide.{dec_lt}
 use Rattle.misere_theory.specs.Games.{IsHeapUpTo}
 use Rattle.misere_theory.specs.Quotients.{HeapOptionValue}
 use Rattle.misere_theory.specs.Pairs.{ElementsObey}
 use Rattle.misere_theory.specs.Certificates.{Certificate, InRanges, claim_of, times_of, phi_at}
 use Rattle.misere_theory.proofs.Written.{phi_in}
-use Rattle.misere_theory.proofs.Monoids.{products_in}
 use Rattle.transition_algebra.specs.declared.pair.Pair.{Pair}
 use Rattle.transition_algebra.specs.Pairs.{IsPair, one}
-use Rattle.checker.specs.Closings.{HavePairs, ObeysAt, LeadsIn, AreContexts, ElementsSoFar, bound_of}
+use Rattle.checker.specs.Closings.{ObeysAt, LeadsIn, ElementsSoFar, bound_of}
 
 pub insert_has : (s : set.FinSet nat_cmp) (k q : ℕ) → set.contains (set.insert s k) q ≡ true → (q ≡ k) ⊎ (set.contains s q ≡ true)
 insert_has s k q h = grind (members, rules)

@@ -1,13 +1,12 @@
 -- Which faults are excluded, stage by stage.
-use Rattle.std.proofs.Common.{◌≡◌, ℕ, ◌<◌, ◌≤◌, Bool, false, subst, arith}
+use Rattle.std.proofs.Common.{arith}
 use Rattle.misere_theory.specs.Quotients.{Monoid}
 use Rattle.misere_theory.specs.Certificates.{Certificate, times_of}
 use Rattle.misere_theory.specs.Faults.{WordFault, OrderFault, PeriodFault, ApartFault}
-use Rattle.misere_theory.specs.Verdicts.{Fault, HasFault, IsFirstFault}
+use Rattle.misere_theory.specs.Verdicts.{Fault, HasFault}
 use Rattle.misere_theory.specs.Verdicts.Fault.{Law, Word, Order, Period, Apart}
 use Rattle.misere_theory.proofs.Monoids.{no_law_fails}
-use Rattle.checker.specs.Sheets.{IsLawful}
-use Rattle.checker.specs.Progress.{HasNoFaultBelow, AreKeys}
+use Rattle.checker.specs.Progress.{HasNoFaultBelow}
 
 module _ (c : Certificate) where
   pub none_below_law : HasNoFaultBelow 2 c

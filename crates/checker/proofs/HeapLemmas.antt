@@ -1,5 +1,5 @@
 -- The pairs of the heaps, and what a closure of them says of a certificate.
-use Rattle.std.proofs.Common.{◌≡◌, ℕ, suc, zero, ◌+◌, ◌-◌, ◌<◌, ◌≤◌, true, false, List, [], ◌∷◌, length, map, get_or, Contains, refl, sym, ◌∙◌, ap, subst, arith}
+use Rattle.std.proofs.Common.{◌≡◌, ℕ, ◌<◌, List, [], ◌∷◌, length, get_or, Contains, refl, sym, ◌∙◌, ap, subst, arith}
 use Rattle.std.specs.List.{All}
 use Rattle.std.specs.FinSet as set
 use Rattle.std.specs.Ordering.{nat_cmp}
@@ -7,19 +7,18 @@ use Rattle.std.proofs.lemmas.List.{get_or-map, length-map}
 use Rattle.misere_theory.specs.Games.{IsHeap, IsHeapUpTo, IsPosition}
 use Rattle.misere_theory.specs.Quotients.{ReachesMoreThan, RuleFails}
 use Rattle.misere_theory.specs.Pairs.{KeptObey, IsClosed}
-use Rattle.misere_theory.specs.Certificates.{Certificate, claim_of}
+use Rattle.misere_theory.specs.Certificates.{claim_of}
 use Rattle.misere_theory.proofs.Written.{phi_in}
 use Rattle.monoid_table.specs.Grids.{Grid}
 use Rattle.transition_algebra.specs.Heaps.{Agrees, AreAllHeapPairs, IsHeapPairs}
 use Rattle.transition_algebra.specs.Pairs.{IsPair}
 use Rattle.transition_algebra.specs.declared.pair.Pair.{Pair}
 use Rattle.pair_closure.specs.Positions.{as_pair, kept, IsClaimOver, IsClosedOver, IsExceeded, IsWordOf}
-use Rattle.pair_closure.specs.Progress.{SameData, blank_held}
+use Rattle.pair_closure.specs.Progress.{blank_held}
 use Rattle.pair_closure.specs.declared.settle.Held.{Held}
 use Rattle.pair_closure.specs.Turns.{State}
 use Rattle.pair_closure.proofs.Positions.{items_have, has_items}
-use Rattle.certificate.specs.Pieces.{Pieces, certificate_of, IsWhole}
-use Rattle.checker.specs.Sheets.{IsSheet}
+use Rattle.certificate.specs.Pieces.{Pieces, certificate_of}
 use Rattle.checker.specs.Rules.{Obeys, Breaks}
 use Rattle.checker.specs.Closings.{HavePairs, IsClosing, IsCovered, bound_of}
 use Rattle.checker.proofs.Rows.{rows_of-entry}

@@ -1,11 +1,10 @@
 -- One key more is looked at.
-use Rattle.std.proofs.Common.{◌≡◌, ◌≢◌, ℕ, suc, zero, ◌+◌, ◌-◌, ◌<◌, ◌≤◌, ◌⊎◌, ◌↔◌, Bool, true, false, IsTrue, ◌&&◌, List, [], ◌∷◌, ◌++◌, refl, sym, ◌∙◌, ap, subst, inl, inr, arith, length, drop, get_or}
-use native.Mathlib.Decide.{dec_lt, ℕ_discrete}
+use Rattle.std.proofs.Common.{◌≡◌, ℕ, ◌+◌, ◌-◌, ◌<◌, ◌≤◌, ◌⊎◌, ◌↔◌, Bool, true, false, IsTrue, ◌&&◌, refl, sym, subst, inl, inr, arith}
+use native.Mathlib.Decide.{dec_lt}
 use Rattle.misere_theory.specs.Numbering.{KeyBelow}
-use Rattle.misere_theory.specs.Certificates.{Certificate, InRanges, phi_at, times_of, claim_of, key_of, pairs_with, pairs_from, TellsApart, LeastApart}
-use Rattle.misere_theory.specs.Faults.{WordFault, OrderFault, PeriodFault, ApartFault}
-use Rattle.checker.specs.Sheets.{IsLawful}
-use Rattle.checker.specs.Progress.{IsKeyOf, KeysSoFar, AreKeys, IsInOrder, ProductsSoFar, PeriodsSoFar, ApartSoFar}
+use Rattle.misere_theory.specs.Certificates.{Certificate, key_of}
+use Rattle.misere_theory.specs.Faults.{WordFault, OrderFault}
+use Rattle.checker.specs.Progress.{IsKeyOf, KeysSoFar, AreKeys}
 
 split_and : (a b : Bool) → (a && b) ≡ true → (a ≡ true) × (b ≡ true)
 split_and true true e = (refl, refl)

@@ -1,11 +1,10 @@
 -- One product more is looked at.
-use Rattle.std.proofs.Common.{◌≡◌, ◌≢◌, ℕ, suc, zero, ◌+◌, ◌-◌, ◌<◌, ◌≤◌, ◌⊎◌, ◌↔◌, Bool, true, false, IsTrue, ◌&&◌, List, [], ◌∷◌, ◌++◌, refl, sym, ◌∙◌, ap, subst, inl, inr, arith, length, drop, get_or}
+use Rattle.std.proofs.Common.{◌≡◌, ℕ, ◌+◌, ◌<◌, ◌≤◌, subst, inl, inr, arith}
 use native.Mathlib.Decide.{dec_lt, ℕ_discrete}
 use Rattle.misere_theory.specs.Numbering.{KeyBelow}
-use Rattle.misere_theory.specs.Certificates.{Certificate, InRanges, phi_at, times_of, claim_of, key_of, pairs_with, pairs_from, TellsApart, LeastApart}
-use Rattle.misere_theory.specs.Faults.{WordFault, OrderFault, PeriodFault, ApartFault}
-use Rattle.checker.specs.Sheets.{IsLawful}
-use Rattle.checker.specs.Progress.{IsKeyOf, KeysSoFar, AreKeys, IsInOrder, ProductsSoFar, PeriodsSoFar, ApartSoFar}
+use Rattle.misere_theory.specs.Certificates.{Certificate, phi_at, times_of, key_of}
+use Rattle.misere_theory.specs.Faults.{OrderFault}
+use Rattle.checker.specs.Progress.{IsInOrder, ProductsSoFar}
 
 module _ (c : Certificate) where
   -- a product was looked at, and is not the row's last

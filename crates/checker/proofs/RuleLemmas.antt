@@ -1,8 +1,7 @@
 -- The rule at a pair, and what it says in the theory's words.
-use Rattle.std.proofs.Common.{◌≡◌, ◌⊎◌, ℕ, ◌<◌, Bool, true, false, IsTrue, not, List, length, map, Contains, get_or, refl, sym, ◌∙◌, ap, subst, inl, inr}
+use Rattle.std.proofs.Common.{◌≡◌, ◌⊎◌, ℕ, Bool, true, false, List, refl, sym, ◌∙◌, inl, inr}
 use Rattle.std.specs.FinSet as set
 use Rattle.std.specs.Ordering.{nat_cmp}
-use Rattle.misere_theory.specs.Games.{IsHeap, IsPosition}
 use Rattle.misere_theory.specs.Quotients.{Claim, RuleFails}
 use Rattle.misere_theory.specs.Pairs.{IsPairOf}
 use Rattle.misere_theory.proofs.Refusals.{fails_outside, fails_inside}

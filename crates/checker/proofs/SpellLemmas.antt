@@ -1,8 +1,8 @@
 -- The positions that keys spell.
-use Rattle.std.proofs.Common.{◌≡◌, ℕ, suc, zero, ◌+◌, ◌<◌, ◌≤◌, List, [], ◌∷◌, ◌++◌, refl, sym, ◌∙◌, ap, subst, inl, inr, arith, IsPermutation, true}
+use Rattle.std.proofs.Common.{◌≡◌, ℕ, ◌<◌, ◌≤◌, List, ◌∷◌, sym, ◌∙◌, ap, inl, inr, arith, IsPermutation}
 use Rattle.misere_theory.specs.Games.{IsHeap, IsPosition}
-use Rattle.misere_theory.specs.Quotients.{Monoid, value, OptionValue, HeapOptionValue, RuleFails}
-use Rattle.misere_theory.specs.Certificates.{Certificate, Canonical, InRanges, claim_of, times_of, phi_at, key_of}
+use Rattle.misere_theory.specs.Quotients.{value, OptionValue, RuleFails}
+use Rattle.misere_theory.specs.Certificates.{Certificate, Canonical, claim_of, times_of, phi_at, key_of}
 use Rattle.misere_theory.proofs.Written.{phi_in}
 use Rattle.misere_theory.proofs.Sums.{heaps_kept, move_kept, value_in}
 use Rattle.misere_theory.proofs.Shuffles.{Shuffled, from_permutation, back, position_shuffled, value_shuffled, move_shuffled}

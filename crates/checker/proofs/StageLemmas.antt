@@ -1,15 +1,15 @@
 -- What a stage carries of the certificate that the bytes spell stands of the bytes.
-use Rattle.std.proofs.Common.{◌≡◌, ℕ, List, Result, Ok, Err, None, false, refl, sym, subst}
+use Rattle.std.proofs.Common.{◌≡◌, ℕ, List, None, false, refl, sym, subst}
 use Rattle.misere_theory.specs.Certificates.{Certificate}
 use Rattle.certificate_text.specs.Spelling.{Spells}
-use Rattle.checker.specs.Answers.{Answer, Fits, IsTrueOf, answer_of}
+use Rattle.checker.specs.Answers.{Answer, Fits, Holds, answer_of}
 use Rattle.checker.specs.Answers.Answer.{Yes, Text, Law, Word, Order, Period, Apart, Outcome, Limit, Memory}
 use Rattle.checker.specs.Stages.{Carries, Stands, has_ended, ending}
 use Rattle.checker.specs.declared.stage.Stage.{Stage}
 use Rattle.checker.specs.declared.stage.Stage.TheVariants.{Reading, Laws, Keys, Products, Periods, Separating, Heaps, Closing, Elements, Ended}
 
 module _ (bytes : List ℕ) (c : Certificate) (spelled : Spells bytes c) (limit : ℕ) where
-  fitting_is_true : (a : Answer) → Fits c limit a → IsTrueOf bytes limit a
+  fitting_is_true : (a : Answer) → Fits c limit a → Holds bytes limit a
   fitting_is_true (Yes d) f = (c, spelled, f)
   fitting_is_true Text f = absurd f
   fitting_is_true Law f = (c, spelled, f)

@@ -1,5 +1,5 @@
 -- What the looks at a table say of the certificate whose rows it has.
-use Rattle.std.proofs.Common.{◌≡◌, ◌≢◌, ℕ, suc, zero, ◌<◌, Bool, true, false, refl, sym, ◌∙◌, ap, ap₂, subst, if◌then◌else◌, arith}
+use Rattle.std.proofs.Common.{◌≡◌, ℕ, suc, zero, ◌<◌, Bool, true, false, refl, sym, ◌∙◌, ap, subst, if◌then◌else◌, arith}
 use Rattle.misere_theory.specs.Quotients.{Monoid, LawFails}
 use Rattle.misere_theory.specs.Quotients.LawFails.{Identity, Commutativity, Associativity}
 use Rattle.misere_theory.specs.Certificates.{times_of}
@@ -8,7 +8,7 @@ use Rattle.misere_theory.proofs.Monoids.{products_in}
 use Rattle.monoid_table.specs.Grids.{entry, IsTable}
 use Rattle.monoid_table.specs.Turns.{JobState, turn, turns, is_over}
 use Rattle.certificate.specs.Pieces.{Pieces, certificate_of, IsWhole}
-use Rattle.checker.specs.Sheets.{IsLawful, IsRead, IsSheet, pieces_of}
+use Rattle.checker.specs.Sheets.{IsLawful}
 use Rattle.checker.proofs.Rows.{rows_of-entry}
 
 choice_grid : (b : Bool) (s t : JobState) → t.grid ≡ s.grid → (if b then s else t).grid ≡ s.grid

@@ -1,5 +1,5 @@
 -- Units that are left.
-use Rattle.std.proofs.Common.{◌≡◌, Ok, Err, List, [], ◌∷◌, length, length-append, ◌≢◌, ◌==◌, ◌||◌, eq-eqb, ℕ, suc, zero, ◌+◌, ◌-◌, ◌*◌, ◌^◌, ◌<◌, ◌≤◌, Bool, true, false, not, refl, sym, ◌∙◌, ap, subst, arith, if◌then◌else◌}
+use Rattle.std.proofs.Common.{◌≡◌, Ok, Err, List, [], ◌∷◌, length, length-append, ◌≢◌, ◌==◌, ◌||◌, eq-eqb, ℕ, suc, zero, ◌+◌, ◌-◌, ◌*◌, ◌^◌, ◌<◌, ◌≤◌, Bool, true, false, not, refl, arith, if◌then◌else◌}
 use Rattle.std.proofs.lemmas.Nat.{mul-le}
 use Rattle.monoid_table.specs.Turns.{JobState, triples, turn, turns, is_over, triple_holds}
 use Rattle.monoid_table.specs.Faults.{answer_of}

@@ -1,5 +1,5 @@
 -- How far each stage of a check has come, over the numbers of the certificate.
-use Rattle.std.specs.Prelude.{◌≡◌, ◌≢◌, ℕ, ◌+◌, ◌-◌, ◌≤◌, ◌<◌, ◌⊎◌, Bool, true, false, ◌++◌, drop, length, slice_index, slice_index_or}
+use Rattle.std.specs.Prelude.{◌≡◌, ◌≢◌, ℕ, ◌+◌, ◌-◌, ◌≤◌, ◌<◌, Bool, true, false, ◌++◌, drop, length, slice_index, slice_index_or}
 use Rattle.misere_theory.specs.Numbering.{KeyBelow}
 use Rattle.misere_theory.specs.Certificates.{Certificate, phi_at, times_of, claim_of, key_of, pairs_with, pairs_from, TellsApart, LeastApart}
 use Rattle.misere_theory.specs.Verdicts.{Fault, fault_number, HasFault}

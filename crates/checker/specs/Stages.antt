@@ -2,7 +2,7 @@
 use Rattle.std.specs.Prelude.{◌≡◌, ℕ, ◌+◌, ◌-◌, ◌*◌, ◌<◌, ◌≤◌, Bool, true, false, List, Option, Some, None}
 use Rattle.misere_theory.specs.Certificates.{Certificate}
 use Rattle.certificate_text.specs.Spelling.{Spells}
-use Rattle.checker.specs.Answers.{Answer, answer_of, Fits, IsTrueOf}
+use Rattle.checker.specs.Answers.{Answer, answer_of, Fits, Holds}
 use Rattle.checker.specs.Units.{stage_units}
 use Rattle.checker.specs.declared.stage.Stage.{Stage}
 use Rattle.checker.specs.declared.stage.Stage.TheVariants.{Reading, Laws, Keys, Products, Periods, Separating, Heaps, Closing, Elements, Ended}
@@ -31,7 +31,7 @@ Stands bytes limit (Separating s) = Spells bytes s.certificate
 Stands bytes limit (Heaps h) = Spells bytes h.certificate
 Stands bytes limit (Closing s) = Spells bytes s.certificate × (s.limit ≡ limit)
 Stands bytes limit (Elements e) = Spells bytes e.certificate
-Stands bytes limit (Ended r) = IsTrueOf bytes limit (answer_of r)
+Stands bytes limit (Ended r) = Holds bytes limit (answer_of r)
 
 abbrev pub has_ended : {A : Type 0} → Stage A → Bool
 has_ended Reading = false

@@ -1,5 +1,5 @@
 -- How many units the stages of a check take at most.
-use Rattle.std.specs.Prelude.{ℕ, ◌-◌, ◌*◌, ◌^◌, ◌<◌, ◌≡◌}
+use Rattle.std.specs.Prelude.{ℕ, ◌-◌, ◌*◌, ◌^◌}
 use Rattle.misere_theory.specs.Certificates.{Certificate}
 
 -- each stage takes fewer

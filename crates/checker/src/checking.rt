@@ -1,6 +1,7 @@
 //! A check from its beginning to its end.
 ghost use Rattle.checker.specs.Answers.{answer_of, IsTrueOf};
 
+use crate::answers::true_answers;
 use crate::certified::Certified;
 use crate::refusal::Refusal;
 use crate::stage::Stage;
@@ -18,7 +19,10 @@ pub fn check<A: Allocator + Copy>(
     'stages: loop {
         let mut left = u64::MAX;
         match stage.work(alloc, bytes, limit, &mut left) {
-            Stage::Ended(answer) => return answer,
+            Stage::Ended(answer) => {
+                true_answers();
+                return answer;
+            }
             next => stage = next,
         }
     }

@@ -1,6 +1,7 @@
 //! Checks in pieces.
-ghost use Rattle.std.specs.Prelude.{◌≡◌, None};
+ghost use Rattle.std.specs.Prelude.{◌≡◌, ◌≢◌, None};
 
+use crate::answers::true_answers;
 use crate::certified::Certified;
 use crate::refusal::Refusal;
 use crate::stage::Stage;
@@ -82,6 +83,7 @@ impl<A: Allocator> Job<A> {
         ensures shown { Shows self.now result }
         ensures truthful { IsTruthful self.now }
     {
+        true_answers();
         match &self.stage {
             Stage::Ended(Ok(certified)) => Progress::Yes(certified),
             Stage::Ended(Err(refusal)) => Progress::No(refusal),
@@ -91,7 +93,10 @@ impl<A: Allocator> Job<A> {
 }
 
 impl<A: Allocator + Copy> Job<A> {
-    ghost use Rattle.checker.specs.Jobs.{IsTrueShow};
+    ghost use Rattle.std.specs.Borrow.{sem};
+    ghost use Rattle.std.specs.Io.BufRead.{Rests};
+    ghost use Rattle.checker.specs.contracts.job.Job.{the_row};
+    ghost use Rattle.checker.specs.Jobs.{IsTrueShow, Shows};
     ghost use Rattle.checker.specs.JobViews.{HasAdvanced};
 
     /// Spends units until there are none or the job ends.
@@ -109,7 +114,9 @@ impl<A: Allocator + Copy> Job<A> {
 
     /// Spends units until there are none or the job ends, and shows where it stands then. An ended job stays as it is.
     pub fn work(&mut self, units: u64) -> Progress<'_, A>
-        ensures { IsTrueShow self.old result }
+        ensures* after { sem 𝓛 (Rests (the_row A.row A.Allocator) self.entry (λ new. HasAdvanced units self.old new × Shows new result)) }
+        ensures truthful { IsTrueShow self.old result }
+        ensures same { self.old.ended ≢ None → Shows self.old result }
     {
         self.advance(units);
         self.progress()

@@ -1,4 +1,4 @@
-use Rattle.std.proofs.Common.{subst, sym}
+use Rattle.std.proofs.Common.{subst}
 use Rattle.certificate_text.specs.Spelling.{Spells}
 use Rattle.checker.proofs.answers.one_text_for_a_code.Goals as goal
 

@@ -1,4 +1,4 @@
-use Rattle.std.proofs.Common.{◌≡◌, ℕ, ◌<◌}
+use Rattle.std.proofs.Common.{ℕ, ◌<◌}
 use Rattle.std.specs.List.{slice_index_or}
 use Rattle.pair_closure.specs.Progress.{blank_held}
 use Rattle.checker.specs.Rules.{Obeys}

@@ -1,7 +1,6 @@
-use Rattle.std.proofs.Common.{◌≡◌, ℕ, ◌<◌, true, false}
+use Rattle.std.proofs.Common.{◌≡◌, ℕ, ◌<◌, true}
 use Rattle.std.specs.FinSet as set
 use Rattle.misere_theory.specs.Certificates.{claim_of, times_of}
-use Rattle.checker.specs.Sheets.{IsLawful}
 use Rattle.checker.proofs.elements.context.Given as goal
 
 abbrev pub invariant-loop-y : goal.invariant-loop-y

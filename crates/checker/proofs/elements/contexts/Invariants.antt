@@ -1,4 +1,4 @@
-use Rattle.std.proofs.Common.{◌≡◌, ℕ, ◌<◌, true, false, length}
+use Rattle.std.proofs.Common.{◌≡◌, ℕ, ◌<◌, true, length}
 use Rattle.std.specs.List.{slice_index_or}
 use Rattle.std.specs.FinSet as set
 use Rattle.misere_theory.specs.Certificates.{claim_of, times_of}

@@ -1,9 +1,6 @@
-use Rattle.std.proofs.Common.{rules, ◌≡◌, ◌==◌, ℕ, take, get_or, ◌||◌, ◌∙◌, sym, ap, ap₂, arith}
+use Rattle.std.proofs.Common.{rules, ◌==◌}
 use Rattle.std.proofs.lemmas.List.Folds.{list_any_more}
-use Rattle.std.proofs.lemmas.Grind.{common_steps}
-use Rattle.std.specs.List.{list_any}
-use Rattle.std.specs.FinSet.{members, contains-insert}
-use Rattle.std.specs.FinSet as set
+use Rattle.std.specs.FinSet.{members}
 use Rattle.checker.proofs.lines.set_of.Goals as goal
 
 pub loop-x-init : goal.loop-x-init

@@ -1,5 +1,4 @@
 use Rattle.std.proofs.Common.{◌≡◌, ◌⊎◌, Bool, true, false, not, refl, inl, inr, sym, ◌∙◌}
-use Rattle.transition_algebra.specs.Pairs.{is_empty}
 use Rattle.checker.proofs.RuleLemmas.{inside_some, inside_none, outside_none, outside_stays}
 use Rattle.checker.proofs.rule.obeys.Goals as goal
 

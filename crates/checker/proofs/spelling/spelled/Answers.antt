@@ -1,4 +1,4 @@
-use Rattle.std.proofs.Common.{rules, ◌≡◌, ◌<◌, ◌∷◌, ℕ, List, IsPermutation, arith, sym, ◌∙◌, ap, subst, zero}
+use Rattle.std.proofs.Common.{rules, ◌≡◌, ◌∷◌, IsPermutation, arith, sym, ◌∙◌, ap, subst}
 use Rattle.misere_theory.specs.Certificates.{claim_of, times_of, key_of}
 use Rattle.misere_theory.specs.Quotients.{value}
 use Rattle.checker.proofs.SpellLemmas.{position_along, key_spelled, spell_start, spell_end}

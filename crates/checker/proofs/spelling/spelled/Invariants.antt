@@ -1,8 +1,7 @@
 use Rattle.std.proofs.Common.{◌≡◌, ◌<◌}
-use Rattle.misere_theory.specs.Certificates.{Canonical, claim_of, times_of}
+use Rattle.misere_theory.specs.Certificates.{claim_of, times_of}
 use Rattle.misere_theory.specs.Games.{IsHeap, IsPosition}
 use Rattle.misere_theory.specs.Quotients.{value}
-use Rattle.checker.specs.Sheets.{IsLawful}
 use Rattle.checker.proofs.spelling.spelled.Given as goal
 
 abbrev pub invariant-loop-left : goal.invariant-loop-left

@@ -1,4 +1,4 @@
-use Rattle.std.proofs.Common.{rules, ◌≡◌, subst, sym, ◌∙◌, ap, Result, Ok, refl}
+use Rattle.std.proofs.Common.{◌≡◌, subst, sym, ◌∙◌, ap, Result, Ok, refl}
 use Rattle.misere_theory.specs.Games.{IsHeap}
 use Rattle.misere_theory.specs.Quotients.{ReachesMoreThan}
 use Rattle.misere_theory.specs.Certificates.{claim_of}

@@ -2,7 +2,7 @@ use Rattle.std.proofs.Common.{subst, sym}
 use Rattle.std.specs.List.{All}
 use Rattle.transition_algebra.specs.Heaps.{AreAllHeapPairs}
 use Rattle.transition_algebra.specs.Pairs.{IsPair}
-use Rattle.checker.specs.Sheets.{pieces_of, IsSheet}
+use Rattle.checker.specs.Sheets.{pieces_of}
 use Rattle.checker.proofs.HeapLemmas.{heaps_have_pairs}
 use Rattle.checker.proofs.heaps.Heaps.work.Goals as goal
 

@@ -1,5 +1,5 @@
-use Rattle.std.proofs.Common.{◌≡◌, ◌+◌, ◌≤◌, sym, ◌∙◌, ap, arith}
-use Rattle.checker.specs.Stages.{Stands, needs}
+use Rattle.std.proofs.Common.{sym, ◌∙◌, ap, arith}
+use Rattle.checker.specs.Stages.{needs}
 use Rattle.checker.proofs.StageLemmas.{going-none}
 use Rattle.checker.proofs.job.Job.advance.Goals as goal
 

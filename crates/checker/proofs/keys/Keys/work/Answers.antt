@@ -1,4 +1,4 @@
-use Rattle.std.proofs.Common.{rules, arith, subst, inl, inr, sym}
+use Rattle.std.proofs.Common.{rules, arith, subst, inl, inr}
 use Rattle.misere_theory.specs.Verdicts.{IsFirstFault}
 use Rattle.misere_theory.specs.Verdicts.Fault.{Word, Order}
 use Rattle.checker.specs.Progress.{KeysSoFar}

@@ -1,9 +1,7 @@
-use Rattle.std.proofs.Common.{subst, sym, ap, ◌∙◌, ◌≡◌, ◌<◌, ℕ, Ok, arith}
-use Rattle.monoid_table.specs.Grids.{Grid}
+use Rattle.std.proofs.Common.{subst, sym, ap, ◌∙◌, ◌≡◌, Ok, arith}
 use Rattle.monoid_table.specs.Turns.{turns, triples}
 use Rattle.monoid_table.specs.Faults.{answer_of}
 use Rattle.certificate.specs.Pieces.{Pieces, certificate_of}
-use Rattle.misere_theory.specs.Faults.{LawFault}
 use Rattle.misere_theory.specs.Verdicts.{IsFirstFault}
 use Rattle.misere_theory.specs.Verdicts.Fault.{Law}
 use Rattle.checker.specs.Sheets.{pieces_of, IsRead}

@@ -1,4 +1,4 @@
-use Rattle.std.proofs.Common.{rules, arith, subst, ◌+◌, ◌-◌, ◌<◌, ◌≤◌, ◌≡◌, true, sym, inl, inr}
+use Rattle.std.proofs.Common.{rules, arith, subst, ◌+◌, ◌-◌, ◌<◌, ◌≡◌, true}
 use Rattle.misere_theory.specs.Certificates.{phi_at}
 use Rattle.misere_theory.specs.Verdicts.{IsFirstFault}
 use Rattle.misere_theory.specs.Verdicts.Fault.{Period}

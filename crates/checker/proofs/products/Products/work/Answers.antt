@@ -1,4 +1,4 @@
-use Rattle.std.proofs.Common.{rules, arith, subst, ◌+◌, ◌<◌, inl, inr, sym}
+use Rattle.std.proofs.Common.{rules, arith, subst, ◌+◌, ◌<◌, inl, inr}
 use Rattle.misere_theory.specs.Verdicts.{IsFirstFault}
 use Rattle.misere_theory.specs.Verdicts.Fault.{Order}
 use Rattle.checker.proofs.FaultLemmas.{none_below_word, none_below_order}

@@ -1,4 +1,4 @@
-use Rattle.std.proofs.Common.{◌≡◌, ◌+◌, ◌≤◌, length, arith}
+use Rattle.std.proofs.Common.{◌+◌, ◌≤◌, length, arith}
 use Rattle.checker.proofs.UnitLemmas.{rest-most, pairs_few}
 use Rattle.checker.proofs.ApartLemmas.{apart_start}
 use Rattle.checker.proofs.separating.Separating.new.Goals as goal

@@ -1,5 +1,5 @@
-use Rattle.std.proofs.Common.{length, slice_index, ◌∙◌, rules, arith, subst, ◌+◌, ◌-◌, ◌<◌, ◌≤◌, ◌≡◌, true, sym, inl, inr}
-use Rattle.misere_theory.specs.Certificates.{claim_of, TellsApart, Canonical}
+use Rattle.std.proofs.Common.{length, slice_index, ◌∙◌, rules, arith, subst, ◌+◌, ◌<◌, ◌≤◌, ◌≡◌, true, sym}
+use Rattle.misere_theory.specs.Certificates.{claim_of, TellsApart}
 use Rattle.misere_theory.specs.Verdicts.{IsFirstFault}
 use Rattle.misere_theory.specs.Verdicts.Fault.{Apart}
 use Rattle.misere_theory.proofs.Verdicts.{faultless}

@@ -1,4 +1,3 @@
-use Rattle.checker.specs.Stages.{Stands}
 use Rattle.checker.proofs.StageLemmas.{carried_stands}
 use Rattle.checker.proofs.stage.Stage.work.Goals as goal
 
