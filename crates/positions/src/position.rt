@@ -1,5 +1,6 @@
 ghost use Rattle.std.specs.List.Sorted.{IsNonDecreasing, IsPermutation};
-ghost use Rattle.std.specs.Prelude.{◌≡◌, ◌<◌, ◌≤◌, ◌∷◌, ◌++◌, [], ℕ, length, slice_index, remove, All, IfOk, OnOk, OnErr, MatchResult};
+ghost use Rattle.std.specs.Prelude.{◌≡◌, ◌<◌, ◌≤◌, ◌∷◌, ◌++◌, ◌+◌, [], ℕ, length, slice_index, remove, All, IfOk, OnOk, OnErr, MatchResult};
+ghost use Rattle.std.specs.Vec.{vec_capacity};
 ghost use Rattle.positions.specs.Exact.{heaps_of};
 ghost use Rattle.positions.specs.Positions.{IsSize};
 
@@ -66,64 +67,20 @@ impl<A: Allocator + Copy> Position<A> {
     }
 
     /// Makes this the position `from` after a move that leaves `left` of the heap at the place `at`. What this position was before doesn't
-    /// matter, and its memory is used again. After a fault it is the position without heaps.
+    /// matter, and its memory is used again. After a fault it is as it was.
     pub fn set_moved(&mut self, from: &Position<A>, at: usize, left: Left) -> Result<(), Memory>
         requires there { at < length from.now }
         requires sizes { All IsSize (heaps_of left) }
         ensures moved { OnOk result (IsPermutation (heaps_of left ++ remove from.now at) self.new) }
         ensures rising { IsNonDecreasing self.new }
-        ensures err { OnErr result (self.new ≡ []) }
+        ensures err { OnErr result (self.new ≡ self.old) }
     {
-        let moved = self.try_moved(from, at, left);
-        if moved.is_err() {
-            self.heaps.clear();
-        }
-        let _ = &self.heaps;
-        moved
-    }
-
-    /// Does the same, but for what it leaves after a fault.
-    fn try_moved(&mut self, from: &Position<A>, at: usize, left: Left) -> Result<(), Memory>
-        requires there { at < length from.now }
-        requires sizes { All IsSize (heaps_of left) }
-        ensures { OnOk result (IsPermutation (heaps_of left ++ remove from.now at) self.new) }
-    {
-        self.set_same(from)?;
-        self.remove(at);
-        self.add_left(left)
-    }
-
-    /// Makes this the position `from`.
-    fn set_same(&mut self, from: &Position<A>) -> Result<(), Memory>
-        ensures { OnOk result (self.new ≡ from.now) }
-    {
-        let heaps = from.heaps();
-        self.heaps.clear();
-        self.heaps.extend_from_slice(heaps)?;
-        Ok(())
-    }
-
-    /// Takes the heap at the place `at` away.
-    fn remove(&mut self, at: usize)
-        requires { at < length self.old }
-        ensures { self.new ≡ remove self.old at }
-    {
+        let others = from.heaps();
+        self.heaps.reserve(others.len() + 1)?;
+        set_same(&mut self.heaps, others);
         self.heaps.remove(at);
-    }
-
-    /// Adds what a move left of a heap.
-    fn add_left(&mut self, left: Left) -> Result<(), Memory>
-        requires { All IsSize (heaps_of left) }
-        ensures { OnOk result (IsPermutation (heaps_of left ++ self.old) self.new) }
-    {
-        match left {
-            Left::Nothing => Ok(()),
-            Left::One(a) => self.push(a),
-            Left::Two(a, b) => {
-                self.push(b)?;
-                self.push(a)
-            }
-        }
+        add_left(&mut self.heaps, left);
+        Ok(())
     }
 
     /// The allocator that holds the heaps.
@@ -199,6 +156,46 @@ fn sort<A: Allocator>(heaps: &mut Vec<u64, A>)
     ensures rising { IsNonDecreasing heaps.new.items }
 {
     heaps.sort_unstable();
+}
+
+/// Makes these the heaps `from`, for which there is room.
+fn set_same<A: Allocator>(heaps: &mut Vec<u64, A>, from: &[u64])
+    requires { length from.now ≤ vec_capacity heaps.old }
+    ensures items { heaps.new.items ≡ from.now }
+    ensures capacity { vec_capacity heaps.old ≤ vec_capacity heaps.new }
+{
+    heaps.clear();
+    let _ = heaps.extend_from_slice(from);
+}
+
+/// Adds what a move left of a heap, for which there is room.
+fn add_left<A: Allocator>(heaps: &mut Vec<u64, A>, left: Left)
+    requires room { length heaps.old.items + 2 ≤ vec_capacity heaps.old }
+    requires rising { IsNonDecreasing heaps.old.items }
+    ensures same { IsPermutation (heaps_of left ++ heaps.old.items) heaps.new.items }
+    ensures rising { IsNonDecreasing heaps.new.items }
+{
+    match left {
+        Left::Nothing => {}
+        Left::One(a) => add_heap(heaps, a),
+        Left::Two(a, b) => {
+            add_heap(heaps, b);
+            add_heap(heaps, a);
+        }
+    }
+}
+
+/// Adds a heap, for which there is room.
+fn add_heap<A: Allocator>(heaps: &mut Vec<u64, A>, heap: u64)
+    requires room { length heaps.old.items < vec_capacity heaps.old }
+    requires rising { IsNonDecreasing heaps.old.items }
+    ensures same { IsPermutation (heap ∷ heaps.old.items) heaps.new.items }
+    ensures rising { IsNonDecreasing heaps.new.items }
+    ensures len { length heaps.new.items ≡ length heaps.old.items + 1 }
+    ensures capacity { vec_capacity heaps.old ≤ vec_capacity heaps.new }
+{
+    let at = place_for(heaps.as_slice(), heap);
+    let _ = heaps.insert(at, heap);
 }
 
 /// A place where a heap of this size leaves the order as it is.
