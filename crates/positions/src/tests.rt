@@ -113,6 +113,33 @@ fn adds_or_says_memory(rt: HostRuntime) -> Result<(), Fail> {
     Err(Fail::new("growths go on"))
 }
 
+fn moved<A: Allocator + Copy>(alloc: A, code: &Code) -> Result<Position<A>, MoveFault> {
+    let mut position = Position::new(alloc);
+    position.push(1)?;
+    position.push(5)?;
+    let step = Move {
+        heap: 5,
+        left: Left::Two(1, 3),
+    };
+    apply(alloc, code, &position, step)
+}
+
+#[test]
+fn moves_or_says_memory(rt: HostRuntime) -> Result<(), Fail> {
+    let code = Code::read(b"0.75")?;
+    for n in 1..99u64 {
+        let ration = Ration::new(rt.alloc(), n);
+        match moved(&ration, &code) {
+            Ok(next) => assert_eq!(rt; next.heaps(), [1u64, 1, 3].as_slice()),
+            Err(fault) => assert!(rt; ration.has_refused() && fault.number() == 9),
+        }
+        if !ration.has_refused() {
+            return Ok(());
+        }
+    }
+    Err(Fail::new("growths go on"))
+}
+
 #[test]
 fn reads_and_writes_or_says_memory(rt: HostRuntime) -> Result<(), Fail> {
     for n in 1..99u64 {
