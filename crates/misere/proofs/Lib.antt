@@ -1,1 +1,3 @@
-pub mod Asked
+mod Asked
+mod Going
+mod Stopping

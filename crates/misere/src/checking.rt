@@ -1,21 +1,14 @@
 //! `check`: the verdict on a certificate.
-ghost use Rattle.std.specs.Prelude.{◌≤◌, ◌==◌, ℕ, List, IfOk, option_map};
+ghost use Rattle.std.specs.Prelude.{◌<◌, ℕ, List, IfOk, IfErr, option_map};
 ghost use Rattle.verdicts.specs.Streams.{AreKnownAs, Writes, WritesOfStream};
 ghost use Rattle.misere.specs.Runs.{Checks};
+ghost use Rattle.misere.specs.Stops.{IsCheckStop, IsFileStop, IsInputStop};
 
 use crate::folder::Folder;
 use crate::stop::Stop;
 use std::alloc::Global;
 use streams::{Sink, Source, StreamFault};
 use verdicts::{check_bytes, check_stream};
-
-fn stop_of<'a>(fault: StreamFault) -> Stop<'a> {
-    match fault {
-        StreamFault::Read => Stop::Read("standard input"),
-        StreamFault::Write => Stop::Write,
-        StreamFault::Memory => Stop::Memory,
-    }
-}
 
 /// Checks the file, and answers whether it is accepted.
 fn check_file<'a, F: Folder, W: Sink>(
@@ -25,8 +18,9 @@ fn check_file<'a, F: Folder, W: Sink>(
     folder: &mut F,
     out: &mut W,
 ) -> Result<bool, Stop<'a>>
-    ensures { IfOk result (λ said. (bytes : List ℕ) × AreKnownAs (F.file folder.old name.entry.now) bytes
+    ensures checked { IfOk result (λ said. (bytes : List ℕ) × AreKnownAs (F.file folder.old name.entry.now) bytes
         × Writes bytes limit (W.taken out.old) (W.taken out.new) said) }
+    ensures stops { IfErr result (IsFileStop name.entry.now ⊥ (W.failures out.old < W.failures out.new)) }
 {
     let bytes = match folder.read(name) {
         Ok(bytes) => bytes,
@@ -34,7 +28,9 @@ fn check_file<'a, F: Folder, W: Sink>(
     };
     match check_bytes(alloc, &bytes, out, limit) {
         Ok(said) => Ok(said),
-        Err(fault) => Err(stop_of(fault)),
+        Err(StreamFault::Read) => Err(Stop::Read(name)),
+        Err(StreamFault::Write) => Err(Stop::Write),
+        Err(StreamFault::Memory) => Err(Stop::Memory),
     }
 }
 
@@ -45,11 +41,14 @@ fn check_input<'a, S: Source, W: Sink>(
     input: &mut S,
     out: &mut W,
 ) -> Result<bool, Stop<'a>>
-    ensures { IfOk result (WritesOfStream (S.left input.old) limit (W.taken out.old) (W.taken out.new)) }
+    ensures checked { IfOk result (WritesOfStream (S.left input.old) limit (W.taken out.old) (W.taken out.new)) }
+    ensures stops { IfErr result (IsInputStop (S.failures input.old < S.failures input.new) (W.failures out.old < W.failures out.new)) }
 {
     match check_stream(alloc, input, out, limit) {
         Ok(said) => Ok(said),
-        Err(fault) => Err(stop_of(fault)),
+        Err(StreamFault::Read) => Err(Stop::Read("standard input")),
+        Err(StreamFault::Write) => Err(Stop::Write),
+        Err(StreamFault::Memory) => Err(Stop::Memory),
     }
 }
 
@@ -62,7 +61,8 @@ pub fn check_command<'a, F: Folder, S: Source, W: Sink>(
     input: &mut S,
     out: &mut W,
 ) -> Result<bool, Stop<'a>>
-    ensures { IfOk result (Checks (S.left input.old) (F.file folder.old) (option_map (λ f. f.now) file.entry) limit (W.taken out.old) (W.taken out.new)) }
+    ensures checked { IfOk result (Checks (S.left input.old) (F.file folder.old) (option_map (λ f. f.now) file.entry) limit (W.taken out.old) (W.taken out.new)) }
+    ensures stops { IfErr result (IsCheckStop (option_map (λ f. f.now) file.entry) (S.failures input.old < S.failures input.new) (W.failures out.old < W.failures out.new)) }
 {
     match file {
         Some(name) => check_file(alloc, name, limit, folder, out),

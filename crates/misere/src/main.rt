@@ -14,7 +14,7 @@ mod tests;
 mod whole_run;
 
 use crate::folder::HostFolder;
-use crate::telling::{OUT_OF_MEMORY, tell};
+use crate::stop::Stop;
 use crate::whole_run::run;
 use std::io;
 use std::process::ExitCode;
@@ -25,11 +25,11 @@ fn main(rt: HostRuntime) -> ExitCode {
     let mut out = WriterSink::new(io::writer(&rt));
     let mut err = WriterSink::new(rt.stderr());
     let Ok(args) = std::env::args(&rt) else {
-        tell(&mut err, &[OUT_OF_MEMORY]);
+        Stop::Memory.tell(&mut err);
         return ExitCode::from(3);
     };
     let Ok(words) = args.collect::<Vec<String>>(alloc) else {
-        tell(&mut err, &[OUT_OF_MEMORY]);
+        Stop::Memory.tell(&mut err);
         return ExitCode::from(3);
     };
     let mut folder = HostFolder::new(&rt);

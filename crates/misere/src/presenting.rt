@@ -1,4 +1,7 @@
 //! `present`: the monoid of a presentation.
+ghost use Rattle.std.specs.Prelude.{◌<◌, IfErr};
+ghost use Rattle.misere.specs.Stops.{IsOutputStop};
+
 use crate::stop::Stop;
 use presentations::{Named, PresFault, Presentation, table_of};
 use std::alloc::Global;
@@ -8,7 +11,9 @@ use streams::{Sink, write_whole};
 const LIMIT: u32 = 65536;
 
 /// The order, the elements of the generators, and the rows.
-fn show_monoid<W: Sink>(alloc: Global, named: &Named, out: &mut W) -> Result<(), Stop<'static>> {
+fn show_monoid<W: Sink>(alloc: Global, named: &Named, out: &mut W) -> Result<(), Stop<'static>>
+    ensures { IfErr result (IsOutputStop (W.failures out.old < W.failures out.new)) }
+{
     let table = &named.table;
     let order = table.order();
     let mut text = format!(in alloc; "order {order}\ngenerators")?;
@@ -34,7 +39,9 @@ pub fn present_command<W: Sink>(
     alloc: Global,
     text: &str,
     out: &mut W,
-) -> Result<bool, Stop<'static>> {
+) -> Result<bool, Stop<'static>>
+    ensures { IfErr result (IsOutputStop (W.failures out.old < W.failures out.new)) }
+{
     let named = Presentation::read(alloc, text.as_bytes()).and_then(|presentation| table_of(
         alloc,
         &presentation,

@@ -1,10 +1,10 @@
 //! What ends a run before it is done.
-ghost use Rattle.std.specs.Prelude.{◌≡◌, ◌≤◌};
-ghost use Rattle.misere.specs.Stops.{stop_status};
+ghost use Rattle.std.specs.Prelude.{◌≡◌};
+ghost use Rattle.misere.specs.Stops.{IsFileStop, Tells, stop_line, stop_status};
 ghost use Rattle.misere.specs.declared.stop.Stop.TheVariants.{«Memory» as OutOfMemory, «Write» as NotWritten};
 
 use crate::folder::FileFault;
-use crate::telling::{OUT_OF_MEMORY, tell};
+use crate::telling::tell;
 use allocation::Memory;
 use std::alloc::AllocError;
 use streams::{DeviceFault, Sink};
@@ -24,7 +24,9 @@ pub enum Stop<'a> {
 
 impl<'a> Stop<'a> {
     /// Why the file of this name was not read.
-    pub fn of_file(name: &'a str, fault: FileFault) -> Stop<'a> {
+    pub fn of_file(name: &'a str, fault: FileFault) -> Stop<'a>
+        ensures { IsFileStop name.entry.now ⊥ ⊥ result }
+    {
         match fault {
             FileFault::Device => Stop::Read(name),
             FileFault::Memory => Stop::Memory,
@@ -42,12 +44,14 @@ impl<'a> Stop<'a> {
     }
 
     /// Tells the reason on standard error.
-    pub fn tell<E: Sink>(self, err: &mut E) {
+    pub fn tell<E: Sink>(self, err: &mut E)
+        ensures { Tells (E.taken err.old) (E.taken err.new) (E.failures err.old) (E.failures err.new) (stop_line self.entry) }
+    {
         match self {
-            Stop::Read(name) => tell(err, &["misere: cannot read ", name, "\n"]),
-            Stop::Write => tell(err, &["misere: cannot write\n"]),
-            Stop::Memory => tell(err, &[OUT_OF_MEMORY]),
-            Stop::NotAPosition => tell(err, &["misere: not a position\n"]),
+            Stop::Read(name) => tell(err, "misere: cannot read ", name, "\n"),
+            Stop::Write => tell(err, "misere: cannot write\n", "", ""),
+            Stop::Memory => tell(err, "misere: out of memory\n", "", ""),
+            Stop::NotAPosition => tell(err, "misere: not a position\n", "", ""),
         }
     }
 }

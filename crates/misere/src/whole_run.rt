@@ -1,7 +1,8 @@
 //! A whole run.
-ghost use Rattle.std.specs.Prelude.{◌≡◌, ◌≤◌, IfOk, map};
+ghost use Rattle.std.specs.Prelude.{◌≡◌, ◌<◌, ◌≤◌, IfOk, IfErr, map};
 ghost use Rattle.command_line.specs.Status.{status_of};
 ghost use Rattle.misere.specs.Runs.{Does, DoesAsAsked};
+ghost use Rattle.misere.specs.Stops.{AsksInVain, IsTrueOf, StopsAsTold, StopsAtOutput, Tells};
 
 use crate::checking::check_command;
 use crate::folder::Folder;
@@ -23,7 +24,8 @@ fn carry_out<'a, F: Folder, S: Source, W: Sink>(
     input: &mut S,
     out: &mut W,
 ) -> Result<bool, Stop<'a>>
-    ensures { IfOk result (Does (S.left input.old) (F.file folder.old) plan.entry (W.taken out.old) (W.taken out.new)) }
+    ensures done { IfOk result (Does (S.left input.old) (F.file folder.old) plan.entry (W.taken out.old) (W.taken out.new)) }
+    ensures stops { IfErr result (IsTrueOf (S.failures input.old < S.failures input.new) (W.failures out.old < W.failures out.new) plan.entry) }
 {
     match plan {
         Plan::Check { file, limit } => check_command(alloc, file, limit, folder, input, out),
@@ -38,6 +40,8 @@ fn refuse<W: Sink, E: Sink>(fault: &UsageFault, out: &mut W, err: &mut E) -> u8
     ensures range { result ≤ 3 }
     ensures quiet { result ≤ 1 → err.new ≡ err.old }
     ensures help { result ≤ 1 → status_of fault.now ≡ 0 }
+    ensures usage { result ≡ 2 → status_of fault.now ≡ 2 }
+    ensures stops { result ≡ 3 → StopsAtOutput (W.failures out.old < W.failures out.new) (Tells (E.taken err.old) (E.taken err.new) (E.failures err.old) (E.failures err.new)) }
 {
     match fault {
         UsageFault::Help(text) => {
@@ -46,9 +50,14 @@ fn refuse<W: Sink, E: Sink>(fault: &UsageFault, out: &mut W, err: &mut E) -> u8
                 return Stop::Write.status();
             }
         }
-        UsageFault::Words(text) => tell(err, &[text.as_str()]),
-        UsageFault::Limit => tell(err, &["misere: the limit is a number from 1 to 1000000\n"]),
-        UsageFault::Incomplete => tell(err, &["misere: no command; see misere --help\n"]),
+        UsageFault::Words(text) => tell(err, text.as_str(), "", ""),
+        UsageFault::Limit => tell(
+            err,
+            "misere: the limit is a number from 1 to 1000000\n",
+            "",
+            "",
+        ),
+        UsageFault::Incomplete => tell(err, "misere: no command; see misere --help\n", "", ""),
         UsageFault::Memory => Stop::Memory.tell(err),
     }
     fault.status()
@@ -66,6 +75,9 @@ fn run_words<F: Folder, S: Source, W: Sink, E: Sink>(
     ensures range { result ≤ 3 }
     ensures quiet { result ≤ 1 → err.new ≡ err.old }
     ensures done { result ≤ 1 → DoesAsAsked (map (λ w. w.now) words.entry.now) (S.left input.old) (F.file folder.old) (W.taken out.old) (W.taken out.new) result }
+    ensures usage { result ≡ 2 → AsksInVain (map (λ w. w.now) words.entry.now) }
+    ensures stops { result ≡ 3 → StopsAsTold (map (λ w. w.now) words.entry.now) (S.failures input.old < S.failures input.new) (W.failures out.old < W.failures out.new)
+        (Tells (E.taken err.old) (E.taken err.new) (E.failures err.old) (E.failures err.new)) }
 {
     let plan = match plan(alloc, words) {
         Ok(plan) => plan,
@@ -93,8 +105,8 @@ fn texts_of<'a, T: AsStr>(alloc: Global, words: &'a [T]) -> Result<Vec<&'a str>,
 }
 
 /// Does a whole run by the words, the program's name first, and answers the exit status: 0 for yes or done, 1 for no,
-/// 2 for words that ask for nothing, 3 where a device failed or memory was wanting. With status 0 and 1 nothing is told on
-/// standard error.
+/// 2 for words that ask for nothing or for a position that can't be read, 3 where a device failed or memory was wanting, which
+/// is told on standard error. With status 0 and 1 nothing is told there.
 pub fn run<F: Folder, S: Source, W: Sink, E: Sink, T: AsStr>(
     alloc: Global,
     words: &[T],
@@ -106,6 +118,9 @@ pub fn run<F: Folder, S: Source, W: Sink, E: Sink, T: AsStr>(
     ensures range { result ≤ 3 }
     ensures quiet { result ≤ 1 → err.new ≡ err.old }
     ensures done { result ≤ 1 → DoesAsAsked (map T.text words.now) (S.left input.old) (F.file folder.old) (W.taken out.old) (W.taken out.new) result }
+    ensures usage { result ≡ 2 → AsksInVain (map T.text words.now) }
+    ensures stops { result ≡ 3 → StopsAsTold (map T.text words.now) (S.failures input.old < S.failures input.new) (W.failures out.old < W.failures out.new)
+        (Tells (E.taken err.old) (E.taken err.new) (E.failures err.old) (E.failures err.new)) }
 {
     match texts_of(alloc, words) {
         Ok(texts) => run_words(alloc, texts.as_slice(), folder, input, out, err),
