@@ -1,5 +1,5 @@
 -- Words ask for one plan.
-use Rattle.std.proofs.Common.{Bool, true, false, ◌≡◌, ◌∙◌, ◌<◌, ◌≤◌, sym, ap, subst, refl, arith, ℕ, List, [], Option, Some, None, Bor, codes, decimal, option_map, slice_index, unwrap_or}
+use Rattle.std.proofs.Common.{Bool, ◌≡◌, ◌∙◌, sym, ap, subst, arith, ℕ, List, [], Option, Some, None, Bor, codes, option_map, slice_index, unwrap_or}
 use Rattle.std.proofs.lemmas.Fmt.{decimal_injective}
 use Rattle.clap.specs.Words.{Row, Text, subcommand_of}
 use Rattle.command_line.specs.Asks.{Asks, AsksOf, IsLimit}

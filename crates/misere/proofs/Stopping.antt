@@ -1,6 +1,6 @@
 -- A stop of a part is one of the whole.
-use Rattle.std.proofs.Common.{◌≡◌, refl, ℕ, List, [], Bool, false, ap, Result, Ok, Err}
-use Rattle.checker.specs.Answers.{Answer, refused}
+use Rattle.std.proofs.Common.{◌≡◌, refl, ℕ, List, false}
+use Rattle.checker.specs.Answers.{refused}
 use Rattle.checker.specs.declared.refusal.Refusal.{Refusal}
 use Rattle.checker.specs.declared.refusal.Refusal.TheVariants as no
 use Rattle.verdicts.specs.Lines.{is_yes}
