@@ -52,7 +52,7 @@ pub fn present_command<W: Sink>(
             show_monoid(alloc, &named, out)?;
             return Ok(true);
         }
-        Err(PresFault::OutOfMemory) => return Err(Stop::Memory),
+        Err(PresFault::Memory) => return Err(Stop::Memory),
         Err(PresFault::Text) => "refused 1 Text\n",
         Err(PresFault::Unbounded) => "refused 2 Unbounded\n",
         Err(PresFault::Limit) => "refused 3 Limit\n",

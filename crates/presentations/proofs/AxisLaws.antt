@@ -11,12 +11,13 @@ use Rattle.presentations.specs.Vectors.{only, zeros}
 use Rattle.presentations.specs.Congruences.{Related}
 use Rattle.presentations.specs.Congruences.Related.{Given, Turned}
 use Rattle.presentations.specs.Words.{occurs, letters_below, vector_on}
-use Rattle.presentations.specs.Powers.{IsPowerOf, HasPower}
+use Rattle.presentations.specs.Powers.{IsPowerOf, HasPower, IsLeastLarger, IsBoxSize}
 use Rattle.presentations.specs.Boxes.{size_of, AreAxes}
 use Rattle.presentations.specs.Boxed.{letters_in, pairs_in, IsBox}
 use Rattle.presentations.proofs.VectorLaws.{length-only}
 use Rattle.presentations.proofs.PlaceLaws.{length-word, word-at}
 use Rattle.presentations.proofs.Quotient.{pair-of}
+use Rattle.presentations.proofs.SizeLaws.{box-more, box-skip}
 
 -- each axis has its relation
 abbrev pub HavePowers : List Relation → List Axis → Type 0
@@ -180,9 +181,10 @@ pub record Built (relations : List Relation) (limit n size : ℕ) (axes : List A
   pub within : size ≤ limit
   pub letters : letters_in axes ≡ letters_below relations n
   pub powers : HavePowers relations axes
+  pub box : IsBoxSize relations (letters_below relations n) size
 
 pub built-none : (relations : List Relation) (limit : ℕ) → limit ≢ 0 → Built relations limit 0 1 []
-built-none relations limit some = record { axes_are = tt; size_is = refl; within = omega (arith, some); letters = refl; powers = tt }
+built-none relations limit some = record { axes_are = tt; size_is = refl; within = omega (arith, some); letters = refl; powers = tt; box = refl }
 
 next-letters : (relations : List Relation) (n : ℕ) (b : Bool) → occurs relations n ≡ b → letters_below relations (n + 1) ≡ (if b then letters_below relations n ++ n ∷ [] else letters_below relations n)
 next-letters relations n b e =
@@ -196,11 +198,12 @@ built-skip relations limit n size axes b e = record {
   within = b.within;
   letters = b.letters ∙ sym (next-letters relations n false e);
   powers = b.powers;
+  box = box-skip relations n size b.box e;
 }
 
 pub built-push : (relations : List Relation) (limit n size most back k : ℕ) (axes : List Axis) → Built relations limit n size axes → occurs relations n ≡ true
-    → HasPower relations n most back k → size * most ≤ limit → Built relations limit (n + 1) (size * most) (axes ++ (record { letter = n; most = most; back = back; stride = size }) ∷ [])
-built-push relations limit n size most back k axes b e p le =
+    → HasPower relations n most back k → IsLeastLarger relations n most → size * most ≤ limit → Built relations limit (n + 1) (size * most) (axes ++ (record { letter = n; most = most; back = back; stride = size }) ∷ [])
+built-push relations limit n size most back k axes b e p least le =
     let a : Axis = record { letter = n; most = most; back = back; stride = size } in
     record {
       axes_are = axes-push 1 axes a b.axes_are (b.size_is ∙ one (size_of axes)) (p.is none).less;
@@ -208,6 +211,7 @@ built-push relations limit n size most back k axes b e p le =
       within = le;
       letters = letters-push axes a ∙ ap (λ ls. ls ++ n ∷ []) b.letters ∙ sym (next-letters relations n true e);
       powers = powers-push relations axes a b.powers (k, p);
+      box = box-more relations n size most b.box e least;
     }
   where
     one : (s : ℕ) → s ≡ 1 * s

@@ -10,3 +10,5 @@ pub mod NumberLaws
 pub mod RowLaws
 pub mod Elements
 pub mod Whole
+pub mod Faults
+pub mod SizeLaws

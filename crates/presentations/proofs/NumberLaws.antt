@@ -1,12 +1,12 @@
 -- One product more.
-use Rattle.std.proofs.Common.{◌≡◌, ◌⊎◌, ℕ, zero, suc, ◌+◌, ◌-◌, ◌*◌, ◌/◌, ◌%◌, ◌<◌, ◌≤◌, List, [], ◌∷◌, ◌++◌, length, get_or, refl, sym, ap, ◌∙◌, inl, inr, arith}
+use Rattle.std.proofs.Common.{◌≡◌, ◌≢◌, ◌⊎◌, ℕ, zero, suc, ◌+◌, ◌-◌, ◌*◌, ◌/◌, ◌%◌, ◌<◌, ◌≤◌, List, [], ◌∷◌, ◌++◌, length, get_or, refl, sym, ap, ◌∙◌, inl, inr, arith}
 use Rattle.std.specs.Prelude.{slice_index}
 use Rattle.std.proofs.lemmas.Bool.{cases_lt}
 use Rattle.std.proofs.lemmas.List.{length-append}
 use Rattle.std.proofs.lemmas.Nat.{div_below, mul-le}
 use Rattle.presentations.specs.declared.axes.Axis.{Axis}
 use Rattle.presentations.specs.Boxes.{size_of, next_of}
-use Rattle.presentations.specs.Numberings.{IsProgress, IsNumbering, AreKeys}
+use Rattle.presentations.specs.Numberings.{IsProgress, IsNumbering, AreKeys, HasManyClasses}
 use Rattle.presentations.proofs.AxisLaws.{get-push, get-last}
 
 -- the lists so far, and those with one more
@@ -144,4 +144,23 @@ keys-of axes classes firsts keys products n = record {
   whole = n.whole;
   below = λ k lt. (n.progress.steps k lt).0;
   parents = λ j lt. let h = n.progress.keys_in j lt in (h.0, h.2);
+}
+
+-- 256 numbered classes and one without a number are more than 256
+pub many-classes : (axes : List Axis) (classes firsts keys products : List ℕ) (class : ℕ) → IsProgress axes classes firsts keys products
+    → length firsts ≡ 256 → ((d e : ℕ) → d < 256 → e < 256 → slice_index firsts d ≡ slice_index firsts e → d ≡ e)
+    → ((e : ℕ) → e < 256 → slice_index firsts e ≢ class) → class < size_of axes → slice_index classes class ≡ class
+    → HasManyClasses axes classes
+many-classes axes classes firsts keys products class p full apart new low root = record {
+  first = λ i. slice_index (firsts ++ class ∷ []) i;
+  is = λ i le. elim (cases_lt i 256) [
+    | inl before ↦ rw (get-push firsts class i (omega arith)) (p.roots i (omega arith))
+    | inr last ↦ rw (get-last firsts class i (omega arith)) (low, root)
+  ];
+  apart = λ i j lt le same. elim (cases_lt j 256) [
+    | inl before ↦
+        let e = apart i j (omega arith) before (sym (get-push firsts class i (omega arith)) ∙ same ∙ get-push firsts class j (omega arith)) in
+        absurd (omega (arith, e))
+    | inr last ↦ new i (omega arith) (sym (get-push firsts class i (omega arith)) ∙ same ∙ get-last firsts class j (omega arith))
+  ];
 }

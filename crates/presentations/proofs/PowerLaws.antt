@@ -1,10 +1,11 @@
 -- The least of the powers found.
 use Rattle.std.proofs.Common.{◌≡◌, ℕ, zero, suc, ◌+◌, ◌<◌, ◌≤◌, Bool, true, false, List, [], ◌∷◌, length, refl, sym, ap, ◌∙◌, inl, inr, arith, subst}
-use Rattle.std.specs.Prelude.{Option, Some, None, nat_le, is_some, not, if◌then◌else◌, slice_index_or, IfSome, IfNone}
+use Rattle.std.specs.Prelude.{Option, Some, None, nat_le, is_some, not, if◌then◌else◌, slice_index_or, IfSome, IfNone, IsTrue}
 use Rattle.std.proofs.lemmas.Bool.{cases_lt, cases_eq}
 use Rattle.std.proofs.lemmas.Bool.Decides.{nat_tests}
 use Rattle.presentations.specs.declared.read.Relation.{Relation}
-use Rattle.presentations.specs.Powers.{IsPowerRelation, HasPower, HasSomePower, IsLeastPower, lower_of}
+use Rattle.presentations.specs.Powers.{IsPowerRelation, HasPower, HasSomePower, HasLeastPower, IsLeastPower, lower_of}
+use Rattle.presentations.specs.Words.{occurs}
 
 pub any-default : {X : Type 0} (xs : List X) (n : ℕ) (d e : X) → n < length xs → slice_index_or xs n d ≡ slice_index_or xs n e
 any-default [] n d e lt = absurd (omega arith)
@@ -96,3 +97,26 @@ is-none (Some p) b e t = absurd (clash (e ∙ ap not t))
   where
     clash : true ≡ false → ⊥
     clash f = cc
+
+pub when-none : {X : Type 0} (o : Option X) (P : Type 0) (b : Bool) → b ≡ is_some o → b ≡ false → IfNone o P → P
+when-none None P b e f h = h
+when-none (Some p) P b e f h = absurd (clash (sym f ∙ e))
+  where
+    clash : false ≡ true → ⊥
+    clash f = cc
+
+-- every letter below n + 1 that occurs has a least power
+pub powers-next : (relations : List Relation) (n : ℕ) → ((k : ℕ) → k < n → IsTrue (occurs relations k) → HasLeastPower relations k)
+    → (IsTrue (occurs relations n) → HasLeastPower relations n) → (k : ℕ) → k < n + 1 → IsTrue (occurs relations k) → HasLeastPower relations k
+powers-next relations n before here k lt stands = elim (cases_eq k n) [
+  | inl same ↦ subst (HasLeastPower relations) (sym same) (here (subst (λ l. IsTrue (occurs relations l)) same stands))
+  | inr other ↦ before k (omega (arith, other)) stands
+]
+
+pub power-there : (relations : List Relation) (n : ℕ) (o : Option (ℕ × ℕ)) (b : Bool) → is_some o ≡ not b → b ≡ false
+    → IsLeastPower relations n (length relations) o → HasLeastPower relations n
+power-there relations n None b e f least = absurd (clash (e ∙ ap not f))
+  where
+    clash : false ≡ true → ⊥
+    clash f = cc
+power-there relations n (Some p) b e f least = (p, least)

@@ -1,8 +1,12 @@
 -- Products of the generators' powers name exponent vectors.
-use Rattle.std.proofs.Common.{◌≡◌, ℕ, zero, suc, ◌+◌, ◌*◌, ◌<◌, ◌≤◌, List, [], ◌∷◌, length, get_or, take, map, refl, sym, ap, ◌∙◌, arith, subst}
+use Rattle.std.proofs.Common.{◌≡◌, ℕ, zero, suc, ◌+◌, ◌-◌, ◌*◌, ◌/◌, ◌%◌, ◌<◌, ◌≤◌, List, [], ◌∷◌, length, get_or, take, map, refl, sym, ap, ◌∙◌, inl, inr, arith, subst}
 use Rattle.std.specs.Prelude.{slice_index, ◌↔◌}
+use Rattle.std.proofs.lemmas.Bool.{cases_lt}
 use Rattle.std.proofs.lemmas.List.{length-map}
+use Rattle.std.proofs.lemmas.Nat.{mul-add-lt, mul-le, mod_below, div-add-mod'}
+use Rattle.std.proofs.Math.Nat.{mul_comm}
 use Rattle.misere_theory.specs.Quotients.{Monoid}
+use Rattle.misere_theory.specs.Numbering.{KeyBelow}
 use Rattle.monoid_table.specs.Grids.{entry}
 use Rattle.monoid_table.specs.Laws.{power_of}
 use Rattle.presentations.specs.declared.axes.Axis.{Axis}
@@ -11,10 +15,13 @@ use Rattle.presentations.specs.declared.read.Relation.{Relation}
 use Rattle.presentations.specs.Vectors.{zeros, bump}
 use Rattle.presentations.specs.Congruences.{Related}
 use Rattle.presentations.specs.Words.{letters_of, pairs_on}
+use Rattle.presentations.specs.Boxes.{place_of, vector_at}
 use Rattle.presentations.specs.Boxed.{letters_in, pairs_in, AreClasses}
-use Rattle.presentations.specs.Numberings.{IsNumbering, AreRows}
-use Rattle.presentations.specs.Tables.{product_at, IsTableOf}
+use Rattle.presentations.specs.Numberings.{IsNumbering, AreRows, HasManyClasses}
+use Rattle.presentations.specs.Tables.{product_at, IsTableOf, IsNumberedByLeastKeys, HasMoreElements}
 use Rattle.presentations.proofs.VectorLaws.{length-zeros, length-bump, plus-zeros, plus-bump, by_letters}
+use Rattle.presentations.proofs.BoxLaws.{length-vector, place-vector}
+use Rattle.presentations.proofs.Quotient.{class-exact}
 use Rattle.presentations.proofs.Elements.{Names, one-name, names-none, names-bump, names-plus, names-exact, first-vector, names-first, length-first, is-monoid}
 
 module _ (q : ℕ) (times : ℕ → ℕ → ℕ) (m : Monoid q times) where
@@ -75,6 +82,28 @@ below-all : (q : ℕ) (times : ℕ → ℕ → ℕ) (m : Monoid q times) (gs : L
 below-all q times m [] h = tt
 below-all q times m (g ∷ gs) h = (h 0 (omega arith), below-all q times m gs (λ i lt. h (suc i) (omega arith)))
 
+-- places row after row are in the order of keys
+key-below : (n j k : ℕ) → 0 < n → j < k → KeyBelow (j / n, j % n + 1) (k / n, k % n + 1)
+key-below n j k some lt = elim (cases_lt (j / n) (k / n)) [
+  | inl low ↦ inl low
+  | inr high ↦ elim (cases_lt (k / n) (j / n)) [
+    | inl wrong ↦ absurd (omega (arith, mul-le (k / n + 1) n (j / n) n (omega arith) (omega arith), wide (k / n) n, div-add-mod' j n, div-add-mod' k n, mod_below k n some))
+    | inr same ↦
+        let e : j / n ≡ k / n = omega arith in
+        inr (e, omega (arith, ap (λ q. q * n) e, div-add-mod' j n, div-add-mod' k n))
+  ]
+]
+  where
+    wide : (q n : ℕ) → (q + 1) * n ≡ q * n + n
+    wide q n = grind arith
+
+key-least : (n f h k : ℕ) → 1 ≤ h → h ≤ n → k ≤ f * n + (h - 1) → KeyBelow (f, h) (k / n, k % n + 1) → ⊥
+key-least n f h k one h_in low (inl less) = absurd (omega (arith, mul-le (f + 1) n (k / n) n (omega arith) (omega arith), wide f n, div-add-mod' k n))
+  where
+    wide : (q n : ℕ) → (q + 1) * n ≡ q * n + n
+    wide q n = grind arith
+key-least n f h k one h_in low (inr same) = absurd (omega (arith, ap (λ q. q * n) same.0, same.1, div-add-mod' k n))
+
 module _ (axes : List Axis) (relations : List Relation) (classes firsts keys products rows : List ℕ)
     (are : AreClasses axes relations classes) (num : IsNumbering axes classes firsts keys products)
     (is : AreRows (length axes) (length firsts) keys products rows) where
@@ -127,6 +156,63 @@ module _ (axes : List Axis) (relations : List Relation) (classes firsts keys pro
           (subst (λ u. IsName (times (product_at times gens w) (get_or gens i 0)) u) sum
           (names-plus axes relations classes firsts keys products rows are num is (product_at times gens w) (get_or gens i 0) w (bump (zeros n) i) e (length-bump (zeros n) i ∙ length-zeros n) nw (letter-name i lt)))
 
+  -- an element times a generator
+  step : (f i : ℕ) → f < q → i < n → times f (get_or gens i 0) ≡ slice_index products (f * n + i)
+  step f i f_in i_in =
+      let F = first-vector axes relations classes firsts keys products rows are num is f in
+      let len = length-first axes relations classes firsts keys products rows are num is f in
+      let nf = names-first axes relations classes firsts keys products rows are num is f f_in in
+      let sum = plus-bump F (zeros n) i (len ∙ sym (length-zeros n)) (subst (λ k. i < k) (sym (length-zeros n)) i_in) ∙ ap (λ u. bump u i) (plus-zeros F n len) in
+      one-name axes relations classes firsts keys products rows are num is (times f (get_or gens i 0)) (slice_index products (f * n + i)) (bump F i)
+      (subst (λ u. IsName (times f (get_or gens i 0)) u) sum
+      (names-plus axes relations classes firsts keys products rows are num is f (get_or gens i 0) F (bump (zeros n) i) len (length-bump (zeros n) i ∙ length-zeros n) nf (letter-name i i_in)))
+      (names-bump axes relations classes firsts keys products rows are num is f i F len i_in nf)
+
+  -- its place as an element and the number of a generator
+  abbrev key : ℕ → ℕ × ℕ
+  key e = (slice_index keys (e - 1) / n, slice_index keys (e - 1) % n + 1)
+
+  -- the letters are some where an element has a key
+  letters-some : (e : ℕ) → 0 < e → e < q → 0 < n
+  letters-some e some lt = positive n (slice_index keys (e - 1)) q (length products) (num.progress.keys_in (e - 1) (omega (arith, num.progress.keys_are))).0 num.whole
+    where
+      positive : (n k q l : ℕ) → k < l → l ≡ q * n → 0 < n
+      positive zero k q l lt e = absurd (omega (arith, e))
+      positive (suc n) k q l lt e = omega arith
+
+  product-of-key : (e : ℕ) → 0 < e → e < q → times (slice_index keys (e - 1) / n) (slice_index gens (slice_index keys (e - 1) % n + 1 - 1)) ≡ e
+  product-of-key e some lt =
+      let K = slice_index keys (e - 1) in
+      let has = num.progress.keys_in (e - 1) (omega (arith, num.progress.keys_are)) in
+      ap (λ h. times (K / n) (slice_index gens h)) (one_less (K % n))
+      ∙ step (K / n) (K % n) (omega (arith, has.2)) (mod_below K n (letters-some e some lt))
+      ∙ ap (slice_index products) (div-add-mod' K n) ∙ has.1 ∙ one_more e some
+    where
+      one_less : (h : ℕ) → h + 1 - 1 ≡ h
+      one_less h = omega arith
+
+      one_more : (e : ℕ) → 0 < e → e - 1 + 1 ≡ e
+      one_more e some = omega arith
+
+  pub numbered : IsNumberedByLeastKeys (record { order = q; entries = rows }) gens
+  numbered = (key, record {
+    parent = λ e some lt. omega (arith, (num.progress.keys_in (e - 1) (omega (arith, num.progress.keys_are))).2);
+    heap = λ e some lt. (omega arith, omega (arith, mod_below (slice_index keys (e - 1)) n (letters-some e some lt), take-length n products enough));
+    product = product-of-key;
+    rising = λ d e some lt e_in.
+        key-below n (slice_index keys (d - 1)) (slice_index keys (e - 1)) (letters-some e (omega arith) e_in)
+        (num.progress.rising (d - 1) (e - 1) (omega arith) (omega (arith, num.progress.keys_are)));
+    least = λ f h f_in one h_in some before.
+        let same = step f (h - 1) f_in (omega (arith, take-length n products enough)) in
+        let room = place-in f (h - 1) f_in (omega (arith, take-length n products enough)) in
+        let low = num.progress.least (f * n + (h - 1)) room (subst (λ p. 0 < p) same some) in
+        key-least n f h (slice_index keys (times f (slice_index gens (h - 1)) - 1)) one (omega (arith, take-length n products enough))
+        (subst (λ p. slice_index keys (p - 1) ≤ f * n + (h - 1)) (sym same) low) before;
+  })
+    where
+      place-in : (f i : ℕ) → f < q → i < n → f * n + i < length products
+      place-in f i f_in i_in = subst (λ l. f * n + i < l) (mul_comm n q ∙ sym num.whole) (mul-add-lt f n i q f_in i_in)
+
   pub table-of : (generators : List Generator) → letters_in axes ≡ letters_of relations
       → map (λ g. g.letter) generators ≡ map (λ a. 97 + a) (letters_in axes) → map (λ g. g.element) generators ≡ gens
       → IsTableOf relations (record { order = q; entries = rows }) generators
@@ -147,4 +233,21 @@ module _ (axes : List Axis) (relations : List Relation) (classes firsts keys pro
               rw elements (one-name axes relations classes firsts keys products rows are num is (product_at times gens v) x v (product-name v e)
                   (names-first axes relations classes firsts keys products rows are num is x lt)),
             );
+        numbered = rw elements numbered;
       }
+
+-- classes of which there are more than 256
+pub more-elements : (axes : List Axis) (relations : List Relation) (classes : List ℕ) → AreClasses axes relations classes → letters_in axes ≡ letters_of relations
+    → HasManyClasses axes classes → HasMoreElements relations 256
+more-elements axes relations classes are letters many =
+    let len : length axes ≡ length (letters_of relations) = sym (length-map axes (λ a. a.letter)) ∙ ap length letters in
+    record {
+      vector = λ i. vector_at axes (many.first i);
+      long = λ i le. length-vector axes (many.first i) ∙ len;
+      apart = λ i j lt le r. many.apart i j lt le (sym (first i (omega arith)) ∙ (class-exact axes relations classes are _ _ (length-vector axes (many.first i)) (length-vector axes (many.first j))).1
+          (subst (λ k. Related k (pairs_in axes relations) (vector_at axes (many.first i)) (vector_at axes (many.first j))) (sym len)
+          (subst (λ ls. Related (length (letters_of relations)) (pairs_on ls relations) (vector_at axes (many.first i)) (vector_at axes (many.first j))) (sym letters) r)) ∙ first j le);
+    }
+  where
+    first : (i : ℕ) → i ≤ 256 → slice_index classes (place_of axes (vector_at axes (many.first i))) ≡ many.first i
+    first i le = let h = many.is i le in ap (slice_index classes) (place-vector 1 axes (many.first i) are.box.axes_are h.0) ∙ h.1

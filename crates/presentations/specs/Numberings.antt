@@ -1,5 +1,5 @@
 -- Numbers for the classes of a box, by least keys.
-use Rattle.std.specs.Prelude.{◌≡◌, ℕ, ◌+◌, ◌-◌, ◌*◌, ◌/◌, ◌%◌, ◌^◌, ◌<◌, ◌≤◌, ◌⊎◌, List, [], ◌∷◌, ◌++◌, length, slice_index}
+use Rattle.std.specs.Prelude.{◌≡◌, ◌≢◌, ℕ, ◌+◌, ◌-◌, ◌*◌, ◌/◌, ◌%◌, ◌^◌, ◌<◌, ◌≤◌, ◌⊎◌, List, [], ◌∷◌, ◌++◌, length, slice_index}
 use Rattle.presentations.specs.declared.axes.Axis.{Axis}
 use Rattle.presentations.specs.Boxes.{size_of, next_of, AreAxes}
 
@@ -84,3 +84,9 @@ pub record AreRowsUpTo (letters order : ℕ) (keys products rows : List ℕ) (x 
   pub length_is : length rows ≡ x * order + e
   pub below : (i : ℕ) → i < length rows → slice_index rows i < order
   pub are : (y f : ℕ) → y * order + f < length rows → f < order → IsProduct letters order keys products rows y f
+
+-- there are more than 256 classes
+pub record HasManyClasses (axes : List Axis) (classes : List ℕ) : Type 0 where
+  pub first : ℕ → ℕ
+  pub is : (i : ℕ) → i ≤ 256 → (first i < size_of axes) × (slice_index classes (first i) ≡ first i)
+  pub apart : (i j : ℕ) → i < j → j ≤ 256 → first i ≢ first j

@@ -1,6 +1,7 @@
--- Relations between powers of one letter.
-use Rattle.std.specs.Prelude.{◌≡◌, ◌≢◌, ℕ, ◌<◌, ◌⊎◌, ◌≤◌, List, length, slice_index, slice_index_or, Option, Some, None, nat_le, if◌then◌else◌}
+-- Relations between powers of one letter, and the box of exponents below them.
+use Rattle.std.specs.Prelude.{◌≡◌, ◌≢◌, ℕ, ◌*◌, ◌<◌, ◌⊎◌, ◌≤◌, List, [], ◌∷◌, length, slice_index, slice_index_or, Option, Some, None, nat_le, if◌then◌else◌, IsTrue}
 use Rattle.presentations.specs.declared.read.Relation.{Relation}
+use Rattle.presentations.specs.Words.{occurs, letters_of}
 
 -- no other letter stands in the word
 abbrev pub IsPowerOf : List ℕ → ℕ → Type 0
@@ -35,3 +36,34 @@ IsLeastPower relations letter n None = (most back k : ℕ) → k < n → HasPowe
 IsLeastPower relations letter n (Some p) =
     ((k : ℕ) × HasPower relations letter p.0 p.1 k) × (p.0 < 256)
     × ((most back k : ℕ) → k < n → HasPower relations letter most back k → p.0 ≤ most)
+
+-- some letter that occurs has no relation between two different powers of it alone
+pub record IsUnbounded (relations : List Relation) : Type 0 where
+  pub letter : ℕ
+  pub within : letter < 26
+  pub stands : IsTrue (occurs relations letter)
+  pub none : HasSomePower relations letter → ⊥
+
+-- m is the larger exponent of a relation between two different powers of the letter
+abbrev pub IsLarger : List Relation → ℕ → ℕ → Type 0
+IsLarger relations letter m = (back : ℕ) × (k : ℕ) × HasPower relations letter m back k
+
+-- m is the least such exponent
+pub record IsLeastLarger (relations : List Relation) (letter m : ℕ) : Type 0 where
+  pub is : IsLarger relations letter m
+  pub least : (n : ℕ) → IsLarger relations letter n → m ≤ n
+
+-- the product of the letters' least larger exponents is n
+abbrev pub IsBoxSize : List Relation → List ℕ → ℕ → Type 0
+IsBoxSize relations [] n = n ≡ 1
+IsBoxSize relations (letter ∷ letters) n = (m : ℕ) × (rest : ℕ) × IsLeastLarger relations letter m × IsBoxSize relations letters rest × (n ≡ m * rest)
+
+-- the least larger exponents of the letters that occur have a product above the limit
+pub record IsAboveLimit (relations : List Relation) (limit : ℕ) : Type 0 where
+  pub size : ℕ
+  pub is : IsBoxSize relations (letters_of relations) size
+  pub above : limit < size
+
+-- the letter has a least larger exponent
+abbrev pub HasLeastPower : List Relation → ℕ → Type 0
+HasLeastPower relations letter = (p : ℕ × ℕ) × IsLeastPower relations letter (length relations) (Some p)

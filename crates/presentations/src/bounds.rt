@@ -1,7 +1,7 @@
 //! Letters that occur, and their least powers that come back.
 ghost use Rattle.std.specs.Prelude.{◌≡◌, ◌≢◌, ◌<◌, ◌≤◌, ◌↔◌, ℕ, IfOk, IfSome, IfNone, OnErr, Err, IsTrue, length};
 ghost use Rattle.presentations.specs.Words.{occurs, letters_of};
-ghost use Rattle.presentations.specs.Powers.{IsPowerOf, IsPowerRelation, HasSomePower, IsLeastPower, lower_of};
+ghost use Rattle.presentations.specs.Powers.{IsPowerOf, IsPowerRelation, IsLeastPower, IsUnbounded, IsAboveLimit, HasLeastPower, lower_of};
 ghost use Rattle.presentations.specs.Boxes.{size_of};
 ghost use Rattle.presentations.specs.Boxed.{letters_in, IsBox};
 
@@ -87,8 +87,8 @@ fn least_power(relations: &[Relation], letter: u8) -> Option<(usize, usize)>
 
 /// A letter that occurs and has no relation between two different powers of it.
 fn unbounded(relations: &[Relation]) -> Option<u8>
-    ensures some { IfSome result (λ letter. (letter < 26) × IsTrue (occurs relations.now letter) × (HasSomePower relations.now letter → ⊥)) }
-    ensures none { IfNone result ((letter : ℕ) → letter < 26 → IsTrue (occurs relations.now letter) → HasSomePower relations.now letter) }
+    ensures some { IfSome result (λ letter. IsUnbounded relations.now) }
+    ensures none { IfNone result ((letter : ℕ) → letter < 26 → IsTrue (occurs relations.now letter) → HasLeastPower relations.now letter) }
 {
     for letter in 0..26u8 {
         if occurs(relations, letter) && least_power(relations, letter).is_none() {
@@ -108,7 +108,9 @@ pub fn axes_of<A: Allocator>(
     ensures size { IfOk result (λ r. (r.1 ≡ size_of r.0.items) × (r.1 ≤ limit)) }
     ensures count { IfOk result (λ r. length r.0.items ≤ 26) }
     ensures letters { IfOk result (λ r. letters_in r.0.items ≡ letters_of relations.now) }
-    ensures unbounded { (result ≡ Err PresFault.Unbounded) → (letter : ℕ) × (letter < 26) × IsTrue (occurs relations.now letter) × (HasSomePower relations.now letter → ⊥) }
+    ensures within { IfOk result (λ r. IsAboveLimit relations.now limit → ⊥) }
+    ensures unbounded { (result ≡ Err PresFault.Unbounded) ↔ IsUnbounded relations.now }
+    ensures limit { (result ≡ Err PresFault.Limit) → IsAboveLimit relations.now limit }
     ensures not_text { OnErr result (result ≢ Err PresFault.Text) }
 {
     if unbounded(relations).is_some() {

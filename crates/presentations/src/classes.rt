@@ -38,7 +38,7 @@ fn link<A: Allocator>(merging: &mut Merging<'_, A>, x: usize, y: usize) -> Resul
     requires related { AreRelated merging.old.axes merging.old.relations x y }
     ensures kept { Shrinks merging.old merging.new }
     ensures fewer { IfOk result (λ _. sum merging.new.parents < sum merging.old.parents) }
-    ensures refused { OnErr result (result ≡ Err PresFault.OutOfMemory) }
+    ensures refused { OnErr result (result ≡ Err PresFault.Memory) }
 {
     merging.wait(x, y)?;
     if x < y {
@@ -55,7 +55,7 @@ fn join<A: Allocator>(merging: &mut Merging<'_, A>, u: usize, v: usize) -> Resul
     requires v_in { v < size_of merging.old.axes }
     requires related { AreRelated merging.old.axes merging.old.relations u v }
     ensures kept { Shrinks merging.old merging.new }
-    ensures refused { OnErr result (result ≡ Err PresFault.OutOfMemory) }
+    ensures refused { OnErr result (result ≡ Err PresFault.Memory) }
 {
     let x = first_of(merging, u);
     let y = first_of(merging, v);
@@ -75,7 +75,7 @@ fn join_beside<A: Allocator>(
     requires v_in { v < size_of merging.old.axes }
     requires related { AreRelated merging.old.axes merging.old.relations u v }
     ensures kept { Shrinks merging.old merging.new }
-    ensures refused { OnErr result (result ≡ Err PresFault.OutOfMemory) }
+    ensures refused { OnErr result (result ≡ Err PresFault.Memory) }
 {
     for i in 0..merging.letters() {
         let x = merging.next(i, u);
@@ -89,7 +89,7 @@ fn join_beside<A: Allocator>(
 /// Looks at the pairs that were joined, until none is left.
 fn spread<A: Allocator>(merging: &mut Merging<'_, A>) -> Result<(), PresFault>
     ensures kept { Shrinks merging.old merging.new }
-    ensures refused { OnErr result (result ≡ Err PresFault.OutOfMemory) }
+    ensures refused { OnErr result (result ≡ Err PresFault.Memory) }
 {
     for _turn in 0..merging.size() {
         let Some((u, v)) = merging.take_pair() else {
@@ -116,7 +116,7 @@ fn flatten<A: Allocator>(merging: &mut Merging<'_, A>)
 /// Joins what the relations say.
 fn join_relations<A: Allocator>(merging: &mut Merging<'_, A>) -> Result<(), PresFault>
     ensures kept { Shrinks merging.old merging.new }
-    ensures refused { OnErr result (result ≡ Err PresFault.OutOfMemory) }
+    ensures refused { OnErr result (result ≡ Err PresFault.Memory) }
 {
     for i in 0..merging.relations() {
         let (u, v) = merging.places(i);
@@ -194,7 +194,7 @@ fn close<A: Allocator>(merging: &mut Merging<'_, A>) -> Result<(), PresFault>
     ensures kept { Shrinks merging.old merging.new }
     ensures firsts { IfOk result (λ _. AreFirsts merging.new.axes merging.new.parents) }
     ensures closed { IfOk result (λ _. AreClosed merging.new.axes merging.new.relations merging.new.parents) }
-    ensures refused { OnErr result (result ≡ Err PresFault.OutOfMemory) }
+    ensures refused { OnErr result (result ≡ Err PresFault.Memory) }
 {
     join_relations(merging)?;
     spread(merging)?;
@@ -212,7 +212,7 @@ fn numbers_below<A: Allocator>(alloc: A, size: usize) -> Result<Vec<u32, A>, Pre
     requires { size < 2 ^ 32 }
     ensures length_is { IfOk result (λ v. length v.items ≡ size) }
     ensures numbers { IfOk result (λ v. (i : ℕ) → i < size → slice_index v.items i ≡ i) }
-    ensures refused { OnErr result (result ≡ Err PresFault.OutOfMemory) }
+    ensures refused { OnErr result (result ≡ Err PresFault.Memory) }
 {
     let mut numbers = Vec::new(alloc);
     for i in 0..size {
@@ -232,7 +232,7 @@ pub fn classes_of<A: Allocator + Copy>(
     requires size { size ≡ size_of axes.now }
     ensures classes { IfOk result (λ v. AreClasses axes.now relations.now v.items) }
     ensures roots { IfOk result (λ v. AreRoots axes.now v.items) }
-    ensures refused { OnErr result (result ≡ Err PresFault.OutOfMemory) }
+    ensures refused { OnErr result (result ≡ Err PresFault.Memory) }
 {
     let parents = numbers_below(alloc, size)?;
     let mut merging = Merging::new(axes, relations, parents, Vec::new(alloc));

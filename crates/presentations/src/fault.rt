@@ -15,11 +15,11 @@ pub enum PresFault {
     /// The powers' box is above the limit, or there are more than 256 elements.
     Limit,
     /// A growth was refused.
-    OutOfMemory,
+    Memory,
 }
 
 impl PresFault {
-    /// 1 for `Text`, 2 for `Unbounded`, 3 for `Limit`, 9 for `OutOfMemory`.
+    /// 1 for `Text`, 2 for `Unbounded`, 3 for `Limit`, 9 for `Memory`.
     pub fn number(self) -> u8
         ensures { result ≡ number_of self }
     {
@@ -27,40 +27,40 @@ impl PresFault {
             PresFault::Text => 1,
             PresFault::Unbounded => 2,
             PresFault::Limit => 3,
-            PresFault::OutOfMemory => 9,
+            PresFault::Memory => 9,
         }
     }
 }
 
 impl From<Memory> for PresFault {
     ghost use Rattle.std.specs.Prelude.{◌≡◌};
-    ghost use Rattle.presentations.specs.declared.fault.PresFault.TheVariants.{OutOfMemory};
+    ghost use Rattle.presentations.specs.declared.fault.PresFault.TheVariants.{Memory as OutOfMemory};
 
     ghost from_gives = { λ _ fault. fault ≡ OutOfMemory };
 
     fn from(_: Memory) -> PresFault {
-        PresFault::OutOfMemory
+        PresFault::Memory
     }
 }
 
 impl From<AllocError> for PresFault {
     ghost use Rattle.std.specs.Prelude.{◌≡◌};
-    ghost use Rattle.presentations.specs.declared.fault.PresFault.TheVariants.{OutOfMemory};
+    ghost use Rattle.presentations.specs.declared.fault.PresFault.TheVariants.{Memory as OutOfMemory};
 
     ghost from_gives = { λ _ fault. fault ≡ OutOfMemory };
 
     fn from(_: AllocError) -> PresFault {
-        PresFault::OutOfMemory
+        PresFault::Memory
     }
 }
 
 impl<T: Drop> From<AllocFailed<T>> for PresFault {
     ghost use Rattle.std.specs.Prelude.{◌≡◌};
-    ghost use Rattle.presentations.specs.declared.fault.PresFault.TheVariants.{OutOfMemory};
+    ghost use Rattle.presentations.specs.declared.fault.PresFault.TheVariants.{Memory as OutOfMemory};
 
     ghost from_gives = { λ _ fault. fault ≡ OutOfMemory };
 
     fn from(_: AllocFailed<T>) -> PresFault {
-        PresFault::OutOfMemory
+        PresFault::Memory
     }
 }

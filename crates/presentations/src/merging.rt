@@ -100,7 +100,7 @@ impl<'a, A: Allocator> Merging<'a, A> {
         ensures axes { self.new.axes ≡ self.old.axes }
         ensures relations { self.new.relations ≡ self.old.relations }
         ensures parents { self.new.parents ≡ self.old.parents }
-        ensures refused { OnErr result (result ≡ Err PresFault.OutOfMemory) }
+        ensures refused { OnErr result (result ≡ Err PresFault.Memory) }
     {
         self.pending.push((u as u32, v as u32))?;
         Ok(())

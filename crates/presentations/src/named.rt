@@ -1,9 +1,9 @@
 //! The table of a presentation's least congruence, with names for its generators.
-ghost use Rattle.std.specs.Prelude.{◌≡◌, ◌+◌, ◌-◌, ◌*◌, ◌/◌, ◌%◌, ◌<◌, ◌≤◌, ◌≢◌, ℕ, All, IfOk, OnErr, Err, IsTrue, length, map, take, slice_index};
-ghost use Rattle.presentations.specs.Words.{occurs, letters_of};
-ghost use Rattle.presentations.specs.Powers.{HasSomePower};
+ghost use Rattle.std.specs.Prelude.{◌≡◌, ◌↔◌, ◌⊎◌, ◌+◌, ◌-◌, ◌*◌, ◌/◌, ◌%◌, ◌<◌, ◌≤◌, ◌≢◌, All, IfOk, OnErr, Err, length, map, take, slice_index};
+ghost use Rattle.presentations.specs.Words.{letters_of};
+ghost use Rattle.presentations.specs.Powers.{IsUnbounded, IsAboveLimit};
 ghost use Rattle.presentations.specs.Boxed.{letters_in, AreClasses};
-ghost use Rattle.presentations.specs.Tables.{IsTableOf};
+ghost use Rattle.presentations.specs.Tables.{IsTableOf, HasMoreElements};
 ghost use Rattle.presentations.specs.Numberings.{AreKeys, AreRows, AreRowsUpTo, AreRoots};
 
 use crate::axes::Axis;
@@ -31,16 +31,19 @@ pub struct Named<A: Allocator = Global> {
 
 /// The table of the least congruence that holds every relation.
 ///
-/// Answers `Unbounded` where some letter that occurs has no relation between two different powers of it alone. Otherwise answers
-/// `Limit` where the product of the letters' least larger exponents of such relations is above `limit`, or there are more than 256
-/// elements. Elements are numbered by least keys: element 0 is the identity, and each other one is a smaller one times a generator.
+/// Answers `Unbounded` exactly where some letter that occurs has no relation between two different powers of it alone. Otherwise
+/// answers `Limit` where the product of the letters' least larger exponents of such relations is above `limit`, or there are more
+/// than 256 elements. Element 0 is the identity, and the others are numbered by least keys: a smaller element and a generator whose
+/// product they are.
 pub fn table_of<A: Allocator + Copy>(
     alloc: A,
     presentation: &Presentation<A>,
     limit: u32,
 ) -> Result<Named<A>, PresFault>
     ensures table { IfOk result (λ n. IsTableOf presentation.now n.table n.generators.items) }
-    ensures unbounded { (result ≡ Err PresFault.Unbounded) → (letter : ℕ) × (letter < 26) × IsTrue (occurs presentation.now letter) × (HasSomePower presentation.now letter → ⊥) }
+    ensures within { IfOk result (λ _. IsAboveLimit presentation.now limit → ⊥) }
+    ensures unbounded { (result ≡ Err PresFault.Unbounded) ↔ IsUnbounded presentation.now }
+    ensures limit { (result ≡ Err PresFault.Limit) → IsAboveLimit presentation.now limit ⊎ HasMoreElements presentation.now 256 }
     ensures not_text { OnErr result (result ≢ Err PresFault.Text) }
 {
     let relations = presentation.relations();
@@ -61,6 +64,7 @@ fn table_in<A: Allocator + Copy>(
     requires count { length axes.now ≤ 26 }
     requires letters { letters_in axes.now ≡ letters_of relations.now }
     ensures table { IfOk result (λ n. IsTableOf relations.now n.table n.generators.items) }
+    ensures limit { (result ≡ Err PresFault.Limit) → HasMoreElements relations.now 256 }
     ensures only { OnErr result ((result ≢ Err PresFault.Text) × (result ≢ Err PresFault.Unbounded)) }
 {
     let numbering = numbering_of(alloc, axes, classes)?;
@@ -69,7 +73,7 @@ fn table_in<A: Allocator + Copy>(
     let rows = rows_of(alloc, axes.len(), &numbering)?;
     match Table::new(order as u16, rows) {
         Ok(table) => Ok(Named { table, generators }),
-        Err(_) => Err(PresFault::Limit),
+        Err(_) => unreachable!(),
     }
 }
 
@@ -83,7 +87,7 @@ fn generators_of<A: Allocator + Copy>(
     requires products { length axes.now ≤ length products.now }
     ensures letters { IfOk result (λ gs. map (λ g. g.letter) gs.items ≡ map (λ a. 97 + a) (letters_in axes.now)) }
     ensures elements { IfOk result (λ gs. map (λ g. g.element) gs.items ≡ take (length axes.now) products.now) }
-    ensures refused { OnErr result (result ≡ Err PresFault.OutOfMemory) }
+    ensures refused { OnErr result (result ≡ Err PresFault.Memory) }
 {
     let mut generators = Vec::new(alloc);
     for i in 0..axes.len() {
@@ -103,7 +107,7 @@ fn rows_of<A: Allocator + Copy>(
 ) -> Result<Vec<u16, A>, PresFault>
     requires { AreKeys letters (length numbering.now.numbers.firsts) numbering.now.numbers.keys numbering.now.products.items }
     ensures rows { IfOk result (λ rows. AreRows letters (length numbering.now.numbers.firsts) numbering.now.numbers.keys numbering.now.products.items rows.items) }
-    ensures refused { OnErr result (result ≡ Err PresFault.OutOfMemory) }
+    ensures refused { OnErr result (result ≡ Err PresFault.Memory) }
 {
     let order = numbering.numbers.order();
     let mut rows: Vec<u16, A> = Vec::new(alloc);

@@ -1,6 +1,6 @@
 //! Numbers for classes, by least keys.
 ghost use Rattle.std.specs.Prelude.{◌≡◌, ◌≢◌, ◌+◌, ◌-◌, ◌*◌, ◌^◌, ◌<◌, ◌≤◌, ◌∷◌, [], ℕ, IfOk, OnErr, Err, length, slice_index};
-ghost use Rattle.presentations.specs.Numberings.{NumberState, IsAssigned, IsNumbering, AreRoots, AreKeys};
+ghost use Rattle.presentations.specs.Numberings.{NumberState, IsAssigned, IsNumbering, AreRoots, AreKeys, HasManyClasses};
 
 use crate::axes::{Axis, next};
 use crate::fault::PresFault;
@@ -36,7 +36,7 @@ impl<A: Allocator + Copy> Numbers<A> {
         requires some { 0 < places }
         requires small { places < 2 ^ 32 }
         ensures state { IfOk result (λ n. n ≡ record { places = places; firsts = 0 ∷ []; keys = [] }) }
-        ensures refused { OnErr result (result ≡ Err PresFault.OutOfMemory) }
+        ensures refused { OnErr result (result ≡ Err PresFault.Memory) }
     {
         let mut numbers: Vec<u16, A> = vec![in alloc; NONE; places]?;
         numbers[0] = 0;
@@ -118,6 +118,7 @@ pub fn numbering_of<A: Allocator + Copy>(
     requires letters { length axes.now ≤ 26 }
     ensures numbering { IfOk result (λ n. IsNumbering axes.now classes.now n.numbers.firsts n.numbers.keys n.products.items) }
     ensures keys { IfOk result (λ n. AreKeys (length axes.now) (length n.numbers.firsts) n.numbers.keys n.products.items) }
+    ensures limit { (result ≡ Err PresFault.Limit) → HasManyClasses axes.now classes.now }
     ensures only { OnErr result ((result ≢ Err PresFault.Text) × (result ≢ Err PresFault.Unbounded)) }
 {
     let mut numbers = Numbers::new(alloc, classes.len())?;

@@ -32,7 +32,7 @@ impl<A: Allocator> Presentation<A> {
     /// 64; no letter's exponents come to more than 64 in a word.
     pub fn read(alloc: A, text: &[u8]) -> Result<Presentation<A>, PresFault>
         ensures count { IfOk result (λ p. (1 ≤ length p) × (length p ≤ 64)) }
-        ensures only { OnErr result ((result ≡ Err PresFault.Text) ⊎ (result ≡ Err PresFault.OutOfMemory)) }
+        ensures only { OnErr result ((result ≡ Err PresFault.Text) ⊎ (result ≡ Err PresFault.Memory)) }
     {
         let mut relations = Vec::new(alloc);
         let mut at = 0;

@@ -1,11 +1,12 @@
 use Rattle.std.proofs.Common.{◌≡◌, ◌+◌, ◌*◌, ◌/◌, ◌%◌, ap, ◌∙◌, arith, subst, length, get_or, ◌∷◌, []}
-use Rattle.std.specs.Prelude.{slice_index}
+use Rattle.std.specs.Prelude.{slice_index, Err}
 use Rattle.std.proofs.lemmas.Nat.{mul-le}
 use Rattle.std.proofs.lemmas.List.{length-append}
 use Rattle.presentations.specs.Numberings.{IsAssigned}
 use Rattle.presentations.specs.Boxes.{next_of}
 use Rattle.presentations.proofs.BoxLaws.{size-positive}
-use Rattle.presentations.proofs.NumberLaws.{progress-more, keys-of}
+use Rattle.presentations.proofs.Faults.{same-fault}
+use Rattle.presentations.proofs.NumberLaws.{progress-more, keys-of, many-classes}
 use Rattle.presentations.proofs.numbering.numbering_of.Goals as goal
 
 pub new-requires-clause-some : goal.new-requires-clause-some
@@ -56,3 +57,12 @@ loop-products-smaller g c =
 
 pub returns-clause-keys : goal.returns-clause-keys
 returns-clause-keys g c = keys-of c.args.axes.now c.args.classes.now c.loop-products.numbers.firsts c.loop-products.numbers.keys c.loop-products.products.items (returns-clause-numbering g c)
+
+pub returns-in_err-number-clause-limit : goal.returns-in_err-number-clause-limit
+returns-in_err-number-clause-limit g c = λ limit.
+    let full = c.in_err-number.ensures.full (ap Err (same-fault c.from_residual-in_err-number.result _ _ c.from_residual-in_err-number.ensures.1 limit)) in
+    let order : c.order.result ≡ 256 = c.order.ensures.value ∙ full.0 in
+    many-classes c.args.axes.now c.args.classes.now c.loop-products.numbers.firsts c.loop-products.numbers.keys c.loop-products.products.items
+    (get_or c.args.classes.now c.next.result 0) c.loop-products.invariant.progress full.0
+    (λ d e hd he. c.order.ensures.apart d e (omega (arith, order)) (omega (arith, order)))
+    full.1 (omega (arith, c.requires.roots.down c.next.result c.next.ensures.within, c.next.ensures.within)) (c.requires.roots.firsts c.next.result c.next.ensures.within)
