@@ -12,3 +12,5 @@ pub mod Elements
 pub mod Whole
 pub mod Faults
 pub mod SizeLaws
+pub mod Reading
+pub mod Spelled

@@ -195,20 +195,23 @@ module _ (axes : List Axis) (relations : List Relation) (classes firsts keys pro
       one_more e some = omega arith
 
   pub numbered : IsNumberedByLeastKeys (record { order = q; entries = rows }) gens
-  numbered = (key, record {
-    parent = λ e some lt. omega (arith, (num.progress.keys_in (e - 1) (omega (arith, num.progress.keys_are))).2);
-    heap = λ e some lt. (omega arith, omega (arith, mod_below (slice_index keys (e - 1)) n (letters-some e some lt), take-length n products enough));
-    product = product-of-key;
-    rising = λ d e some lt e_in.
-        key-below n (slice_index keys (d - 1)) (slice_index keys (e - 1)) (letters-some e (omega arith) e_in)
-        (num.progress.rising (d - 1) (e - 1) (omega arith) (omega (arith, num.progress.keys_are)));
-    least = λ f h f_in one h_in some before.
-        let same = step f (h - 1) f_in (omega (arith, take-length n products enough)) in
-        let room = place-in f (h - 1) f_in (omega (arith, take-length n products enough)) in
-        let low = num.progress.least (f * n + (h - 1)) room (subst (λ p. 0 < p) same some) in
-        key-least n f h (slice_index keys (times f (slice_index gens (h - 1)) - 1)) one (omega (arith, take-length n products enough))
-        (subst (λ p. slice_index keys (p - 1) ≤ f * n + (h - 1)) (sym same) low) before;
-  })
+  numbered = (
+    key,
+    record {
+      parent = λ e some lt. omega (arith, (num.progress.keys_in (e - 1) (omega (arith, num.progress.keys_are))).2);
+      heap = λ e some lt. (omega arith, omega (arith, mod_below (slice_index keys (e - 1)) n (letters-some e some lt), take-length n products enough));
+      product = product-of-key;
+      rising = λ d e some lt e_in.
+          key-below n (slice_index keys (d - 1)) (slice_index keys (e - 1)) (letters-some e (omega arith) e_in)
+          (num.progress.rising (d - 1) (e - 1) (omega arith) (omega (arith, num.progress.keys_are)));
+      least = λ f h f_in one h_in some before.
+          let same = step f (h - 1) f_in (omega (arith, take-length n products enough)) in
+          let room = place-in f (h - 1) f_in (omega (arith, take-length n products enough)) in
+          let low = num.progress.least (f * n + (h - 1)) room (subst (λ p. 0 < p) same some) in
+          key-least n f h (slice_index keys (times f (slice_index gens (h - 1)) - 1)) one (omega (arith, take-length n products enough))
+          (subst (λ p. slice_index keys (p - 1) ≤ f * n + (h - 1)) (sym same) low) before;
+    },
+  )
     where
       place-in : (f i : ℕ) → f < q → i < n → f * n + i < length products
       place-in f i f_in i_in = subst (λ l. f * n + i < l) (mul_comm n q ∙ sym num.whole) (mul-add-lt f n i q f_in i_in)

@@ -1,13 +1,13 @@
 -- The least congruence of a presentation. The usual definitions.
-use Rattle.std.specs.Prelude.{◌≡◌, ℕ, List, length, Contains, Bool, IsTrue}
+use Rattle.std.specs.Prelude.{◌≡◌, ℕ, List, length, Contains}
 use Rattle.presentations.specs.Vectors.{plus}
 
 -- A congruence on vectors of n exponents: an equivalence that adding a vector to both sides keeps.
-pub record IsCongruence (n : ℕ) (test : List ℕ → List ℕ → Bool) : Type 0 where
-  pub same : (u : List ℕ) → length u ≡ n → IsTrue (test u u)
-  pub turned : (u v : List ℕ) → IsTrue (test u v) → IsTrue (test v u)
-  pub chained : (u v w : List ℕ) → IsTrue (test u v) → IsTrue (test v w) → IsTrue (test u w)
-  pub beside : (u v w : List ℕ) → length w ≡ n → IsTrue (test u v) → IsTrue (test (plus u w) (plus v w))
+pub record IsCongruence (n : ℕ) (R : List ℕ → List ℕ → Type 0) : Type 0 where
+  pub same : (u : List ℕ) → length u ≡ n → R u u
+  pub turned : (u v : List ℕ) → R u v → R v u
+  pub chained : (u v w : List ℕ) → R u v → R v w → R u w
+  pub beside : (u v w : List ℕ) → length w ≡ n → R u v → R (plus u w) (plus v w)
 
 -- The least congruence that holds every relation: what the relations give, and no pair more.
 pub data Related (n : ℕ) (relations : List (List ℕ × List ℕ)) : List ℕ → List ℕ → Type 0 where

@@ -7,3 +7,5 @@ pub mod Boxes
 pub mod Boxed
 pub mod Numberings
 pub mod Tables
+pub mod Text
+pub mod Fronts

@@ -1,5 +1,5 @@
 //! What least congruences and the classes of a box are.
-ghost use Rattle.std.specs.Prelude.{◌≡◌, ◌↔◌, ◌<◌, ℕ, Bool, List, Contains, IsTrue, length, slice_index};
+ghost use Rattle.std.specs.Prelude.{◌≡◌, ◌↔◌, ◌<◌, ℕ, List, Contains, length, slice_index};
 ghost use Rattle.presentations.specs.declared.axes.Axis.{Axis};
 ghost use Rattle.presentations.specs.declared.read.Relation.{Relation};
 ghost use Rattle.presentations.specs.Congruences.{IsCongruence, Related};
@@ -8,12 +8,20 @@ ghost use Rattle.presentations.specs.Boxed.{pairs_in, AreClasses};
 ghost use Rattle.presentations.specs.Numberings.{IsNumbering, AreRows};
 ghost use Rattle.monoid_table.specs.Grids.{IsTable};
 
-/// What relations give is a congruence that holds them, and every congruence that holds them has it.
-pub fn related_is_least()
-    ensures { (n : ℕ) (pairs : List (List ℕ × List ℕ)) (test : List ℕ → List ℕ → Bool)
-        → IsCongruence n test
-        → ((r : List ℕ × List ℕ) → Contains pairs r → IsTrue (test r.0 r.1))
-        → (u v : List ℕ) → Related n pairs u v → IsTrue (test u v) }
+/// A type that stands for a relation between vectors, which proofs alone see.
+pub trait VectorRelation {
+    ghost relates: { List ℕ → List ℕ → Type 0 };
+}
+
+/// What relations give is a congruence that holds them, and every congruence that holds them has it, decidable or not: it is the
+/// intersection of all of them.
+pub fn related_is_least<R: VectorRelation>()
+    ensures congruence { (n : ℕ) (pairs : List (List ℕ × List ℕ)) → IsCongruence n (Related n pairs) }
+    ensures holds { (n : ℕ) (pairs : List (List ℕ × List ℕ)) (r : List ℕ × List ℕ) → Contains pairs r → Related n pairs r.0 r.1 }
+    ensures least { (n : ℕ) (pairs : List (List ℕ × List ℕ))
+        → IsCongruence n R.relates
+        → ((r : List ℕ × List ℕ) → Contains pairs r → R.relates r.0 r.1)
+        → (u v : List ℕ) → Related n pairs u v → R.relates u v }
 {}
 
 /// Vectors are in one class exactly where the least congruence relates them.

@@ -10,8 +10,10 @@ mod merging;
 mod named;
 mod numbering;
 mod read;
+#[cfg(test)]
+mod tests;
 
 pub use fault::PresFault;
-pub use laws::{classes_are_exact, related_is_least, rows_are_a_table};
+pub use laws::{VectorRelation, classes_are_exact, related_is_least, rows_are_a_table};
 pub use named::{Generator, Named, table_of};
 pub use read::{Presentation, Relation};
