@@ -1,5 +1,5 @@
 -- Jobs as their callers see them.
-use Rattle.std.specs.Prelude.{◌≡◌, ◌≢◌, ℕ, ◌+◌, ◌^◌, ◌≤◌, List, Option, Some, None}
+use Rattle.std.specs.Prelude.{◌≡◌, ◌≢◌, ℕ, ◌+◌, ◌^◌, ◌<◌, ◌≤◌, List, Option, Some, None}
 use Rattle.checker.specs.Answers.{Answer, IsTrueOf}
 
 -- The bytes and the limit that a job was opened with, the units spent so far, and the answer, once it has ended.
@@ -17,13 +17,12 @@ IsEnding bytes limit (Some a) = IsTrueOf bytes limit a
 abbrev pub IsTruthful : JobView → Type 0
 IsTruthful j = IsEnding j.bytes j.limit j.ended
 
--- A job after some units more. It has the same bytes and limit. Where it had ended, or there was no unit, it is unchanged; while it goes
--- on it has spent each of them; and 2 ^ 52 are enough for any job.
+-- A job after some units more. It has the same bytes and limit. Where it had ended, or there was no unit, it is unchanged; and while it
+-- goes on it has spent each of them, and fewer than 2 ^ 52 in all.
 pub record HasAdvanced (units : ℕ) (old new : JobView) : Type 0 where
   pub bytes : new.bytes ≡ old.bytes
   pub limit : new.limit ≡ old.limit
   pub ended : old.ended ≢ None → new ≡ old
   pub idle : units ≡ 0 → new ≡ old
   pub spent : (old.spent ≤ new.spent) × (new.spent ≤ old.spent + units)
-  pub going : new.ended ≡ None → new.spent ≡ old.spent + units
-  pub ends : 2 ^ 52 ≤ units → new.ended ≢ None
+  pub going : new.ended ≡ None → (new.spent ≡ old.spent + units) × (new.spent < 2 ^ 52)
