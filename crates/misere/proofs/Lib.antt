@@ -1,3 +1,4 @@
 mod Asked
 mod Going
+mod Printed
 mod Stopping

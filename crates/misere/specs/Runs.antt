@@ -11,6 +11,7 @@ use Rattle.command_line.specs.Asks.{Asks}
 use Rattle.command_line.specs.declared.plans.Plan.{Plan}
 use Rattle.command_line.specs.declared.plans.Plan.TheVariants.{Check, Show, Play, Present}
 use Rattle.verdicts.specs.Streams.{AreKnownAs, Writes, WritesOfStream}
+use Rattle.misere.specs.Shown.{PrintsQuotient}
 use Rattle.misere.specs.Texts.{answer_line}
 
 -- The text of a true answer to the file, or to standard input where none is named, was printed, and it is yes exactly where that
@@ -49,9 +50,9 @@ abbrev pub Plays : (List ℕ → Option (List ℕ)) → List ℕ → List ℕ �
 Plays files file position before after true = Answers files file position before after
 Plays files file position before after false = SaysNo files file before after
 
--- Of what is printed of a certified quotient nothing is said.
+-- The quotient that the file certifies was printed, or the text of a true no to it.
 abbrev pub Shows : (List ℕ → Option (List ℕ)) → List ℕ → Option (List ℕ) → Option (List ℕ) → Bool → Type 0
-Shows files file before after true = (c : Certificate) × Certifies files file c
+Shows files file before after true = (c : Certificate) × Certifies files file c × PrintsQuotient c before after
 Shows files file before after false = SaysNo files file before after
 
 -- What is done for each plan; of present nothing is said here.
