@@ -3,7 +3,7 @@ ghost use Rattle.std.specs.Prelude.{◌≡◌, ◌≢◌, ◌<◌, ◌^◌, ℕ,
 ghost use Rattle.clap.specs.Words.{found_of, kind_of, rows_of, subcommand_of, subcommand_rows_of, first_of};
 ghost use Rattle.command_line.specs.Asks.{Asks, AsksOf, IsLimit, IsTaken};
 ghost use Rattle.command_line.specs.Program.{program};
-ghost use Rattle.command_line.specs.Refusals.{IsTrueOf, IsOfWords, RefusesOf};
+ghost use Rattle.command_line.specs.Refusals.{IsTrueOf, IsOfKind, RefusesOf};
 
 use crate::commands::program_command;
 use crate::plans::{Plan, UsageFault};
@@ -80,7 +80,7 @@ fn asked<'a>(name: &str, given: &ArgMatches<'a>) -> Result<Plan<'a>, UsageFault>
 
 fn refused(alloc: Global, e: &clap::Error) -> UsageFault
     ensures memory { kind_of e.now ≡ ErrorKind.OutOfMemory → result ≡ UsageFault.Memory }
-    ensures words { IsOfWords result }
+    ensures words { IsOfKind (kind_of e.now) result }
 {
     if e.kind() == ErrorKind::OutOfMemory {
         return UsageFault::Memory;

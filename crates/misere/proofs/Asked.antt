@@ -1,7 +1,7 @@
 -- Words ask for one plan.
-use Rattle.std.proofs.Common.{Bool, ◌≡◌, ◌∙◌, sym, ap, subst, arith, ℕ, List, [], Option, Some, None, Bor, codes, option_map, slice_index, unwrap_or}
+use Rattle.std.proofs.Common.{Bool, ◌≡◌, ◌∙◌, sym, ap, subst, arith, inr, ℕ, List, [], Option, Some, None, Bor, codes, option_map, slice_index, unwrap_or}
 use Rattle.std.proofs.lemmas.Fmt.{decimal_injective}
-use Rattle.clap.specs.Words.{Row, Text, subcommand_of}
+use Rattle.clap.specs.Words.{Row, Text, Kinds, IsAmong, subcommand_of}
 use Rattle.command_line.specs.Asks.{Asks, AsksOf, IsLimit}
 use Rattle.command_line.specs.Program.{program}
 use Rattle.command_line.specs.Refusals.{IsTrueOf as IsFaultOf}
@@ -10,7 +10,7 @@ use Rattle.command_line.specs.declared.plans.Plan.{Plan}
 use Rattle.command_line.specs.declared.plans.Plan.TheVariants.{Check, Show, Play, Present}
 use Rattle.command_line.specs.declared.plans.UsageFault.{UsageFault}
 use Rattle.command_line.specs.declared.plans.UsageFault.TheVariants.{Memory as NoMemory, Help, Words, Limit, Incomplete}
-use Rattle.misere.specs.Runs.{Checks, Does, Plays, Shows}
+use Rattle.misere.specs.Runs.{AsksForSomething, Checks, Does, Plays, Shows}
 use Rattle.misere.specs.Stops.{AsksInVain, HasNoPosition, IsCheckStop, IsFileStop, IsNoPosition, IsOutputStop, IsTrueOf, StopsAsTold, stop_line, stop_status}
 use Rattle.misere.specs.declared.stop.Stop.{Stop}
 use Rattle.misere.specs.declared.stop.Stop.TheVariants.{Read, Write, «Memory» as OutOfMemory, NotAPosition}
@@ -96,7 +96,7 @@ output_of_each i o p NotAPosition h = absurd h
 pub asks_for_nothing : (words : List (List ℕ)) (fault : UsageFault) → status_of fault ≡ 2 → IsFaultOf words fault → (plan : Plan) → Asks words plan → ⊥
 asks_for_nothing words NoMemory s h plan asked = omega (arith, s)
 asks_for_nothing words (Help text) s h plan asked = omega (arith, s)
-asks_for_nothing words (Words text) s h plan asked = h asked.0
+asks_for_nothing words (Words text) s h plan asked = subst (λ (kinds : Kinds). IsAmong h.0 kinds) asked.0 h.1
 asks_for_nothing words Limit s h plan asked = h plan asked.1
 asks_for_nothing words Incomplete s h plan asked = h plan asked.1
 
@@ -124,3 +124,11 @@ stops_as_told words i o IsTold p stop a h s told = record {
   told = told;
   true_of = λ plan asked. true_as_asked (subcommand_of program words) p plan a.1 asked.1 i o stop h;
 }
+
+-- words with whose fault a run ends well ask for help
+pub asks_for_help : (words : List (List ℕ)) (fault : UsageFault) → status_of fault ≡ 0 → IsFaultOf words fault → AsksForSomething words
+asks_for_help words NoMemory s h = absurd (omega (arith, s))
+asks_for_help words (Help text) s h = inr h
+asks_for_help words (Words text) s h = absurd (omega (arith, s))
+asks_for_help words Limit s h = absurd (omega (arith, s))
+asks_for_help words Incomplete s h = absurd (omega (arith, s))

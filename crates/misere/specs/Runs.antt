@@ -1,5 +1,5 @@
 -- What a run that ends with status 0 or 1 has done. This project's own.
-use Rattle.std.specs.Prelude.{⊤, ℕ, Bool, true, false, List, Option, Some, None, ◌==◌, option_map}
+use Rattle.std.specs.Prelude.{⊤, ℕ, Bool, true, false, List, Option, Some, None, ◌==◌, ◌⊎◌, option_map}
 use Rattle.std.specs.Io.KnownBytes.{Appends}
 use Rattle.misere_theory.specs.Certificates.{Certificate}
 use Rattle.positions.specs.Text.{IsTextOf}
@@ -8,6 +8,7 @@ use Rattle.checker.specs.Answers.Answer.{Yes}
 use Rattle.player.specs.Answers.{IsRightAnswer}
 use Rattle.player.specs.declared.answering.Answer.{Answer}
 use Rattle.command_line.specs.Asks.{Asks}
+use Rattle.command_line.specs.Refusals.{FailBy, IsHelp}
 use Rattle.command_line.specs.declared.plans.Plan.{Plan}
 use Rattle.command_line.specs.declared.plans.Plan.TheVariants.{Check, Show, Play, Present}
 use Rattle.verdicts.specs.Streams.{AreKnownAs, Writes, WritesOfStream}
@@ -66,3 +67,7 @@ Does input files (Present text) before after well = ⊤
 abbrev pub DoesAsAsked : List (List ℕ) → Option (List ℕ) → (List ℕ → Option (List ℕ)) → Option (List ℕ) → Option (List ℕ) → ℕ → Type 0
 DoesAsAsked words input files before after status =
     (plan : Plan) → Asks words plan → Does input files plan before after (status == 0)
+
+-- The words ask for something: for a plan, or for help.
+abbrev pub AsksForSomething : List (List ℕ) → Type 0
+AsksForSomething words = ((plan : Plan) × Asks words plan) ⊎ FailBy IsHelp words

@@ -1,7 +1,7 @@
 //! A whole run.
 ghost use Rattle.std.specs.Prelude.{◌≡◌, ◌<◌, ◌≤◌, IfOk, IfErr, map};
 ghost use Rattle.command_line.specs.Status.{status_of};
-ghost use Rattle.misere.specs.Runs.{Does, DoesAsAsked};
+ghost use Rattle.misere.specs.Runs.{Does, DoesAsAsked, AsksForSomething};
 ghost use Rattle.misere.specs.Stops.{AsksInVain, IsTrueOf, StopsAsTold, StopsAtOutput, Tells};
 
 use crate::checking::check_command;
@@ -74,6 +74,7 @@ fn run_words<F: Folder, S: Source, W: Sink, E: Sink>(
 ) -> u8
     ensures range { result ≤ 3 }
     ensures quiet { result ≤ 1 → err.new ≡ err.old }
+    ensures asked { result ≤ 1 → AsksForSomething (map (λ w. w.now) words.entry.now) }
     ensures done { result ≤ 1 → DoesAsAsked (map (λ w. w.now) words.entry.now) (S.left input.old) (F.file folder.old) (W.taken out.old) (W.taken out.new) result }
     ensures usage { result ≡ 2 → AsksInVain (map (λ w. w.now) words.entry.now) }
     ensures stops { result ≡ 3 → StopsAsTold (map (λ w. w.now) words.entry.now) (S.failures input.old < S.failures input.new) (W.failures out.old < W.failures out.new)
@@ -104,7 +105,7 @@ fn texts_of<'a, T: AsStr>(alloc: Global, words: &'a [T]) -> Result<Vec<&'a str>,
     Ok(texts)
 }
 
-/// Does a whole run by the words, the program's name first, and answers the exit status: 0 for yes or done, 1 for no,
+/// Does a whole run by the words, the program's name first, and answers the exit status: 0 for yes, done or help, 1 for no,
 /// 2 for words that ask for nothing or for a position that can't be read, 3 where a device failed or memory was wanting, which
 /// is told on standard error. With status 0 and 1 nothing is told there.
 pub fn run<F: Folder, S: Source, W: Sink, E: Sink, T: AsStr>(
@@ -117,6 +118,7 @@ pub fn run<F: Folder, S: Source, W: Sink, E: Sink, T: AsStr>(
 ) -> u8
     ensures range { result ≤ 3 }
     ensures quiet { result ≤ 1 → err.new ≡ err.old }
+    ensures asked { result ≤ 1 → AsksForSomething (map T.text words.now) }
     ensures done { result ≤ 1 → DoesAsAsked (map T.text words.now) (S.left input.old) (F.file folder.old) (W.taken out.old) (W.taken out.new) result }
     ensures usage { result ≡ 2 → AsksInVain (map T.text words.now) }
     ensures stops { result ≡ 3 → StopsAsTold (map T.text words.now) (S.failures input.old < S.failures input.new) (W.failures out.old < W.failures out.new)
