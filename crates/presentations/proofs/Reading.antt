@@ -113,14 +113,6 @@ letter-raised bytes rest behind letter n is low p = record {
         let r = p.only digits m tail q ok (sym (tail-same (tail-same g))) in
         (ap₂ (λ k m. (k, m)) l_is r.0, r.1)
 
-pub letter-with-none : (bytes rest : List ℕ) (letter : ℕ) → bytes ≡ (97 + letter) ∷ 94 ∷ rest → IsNoFront IsPower EndsFactor rest → IsNoFront IsFactor EndsFactor bytes
-letter-with-none bytes rest letter is none other y tail (Alone l lt) ok f = caret tail ok (tail-same (sym f ∙ is))
-  where
-    caret : (tail : List ℕ) → EndsFactor tail → tail ≡ 94 ∷ rest → ⊥
-    caret [] ok g = nothing-there g
-    caret (t ∷ tail) ok g = ok.1 (head-same g)
-letter-with-none bytes rest letter is none other y tail (Raised l n digits lt p) ok f = none digits n tail p ok (sym (tail-same (tail-same (sym f ∙ is))))
-
 -- a factor begins with a letter
 pub factor-letter : (bytes : List ℕ) (f : ℕ × ℕ) → IsFactor bytes f → (b : ℕ) × (bs : List ℕ) × (bytes ≡ b ∷ bs) × (97 ≤ b)
 factor-letter bytes f (Alone letter lt) = (97 + letter, [], refl, omega arith)
@@ -265,10 +257,6 @@ word-product bytes rest v other_one f less = record {
     same : (other y tail : List ℕ) → IsWord other y → EndsWord tail → bytes ≡ other ++ tail → (y ≡ v) × (tail ≡ rest)
     same other y tail Empty ok e = absurd (other_one (subst (StartsWith 49) (sym e) refl))
     same other y tail (Product b w some g) ok e = f.only b w tail g ok e
-
-pub no-word : (bytes : List ℕ) → (StartsWith 49 bytes → ⊥) → IsNoFront AreFewFactors EndsWord bytes → IsNoFront IsWord EndsWord bytes
-no-word bytes other_one none other y tail Empty ok e = other_one (subst (StartsWith 49) (sym e) refl)
-no-word bytes other_one none other y tail (Product b v some f) ok e = none b v tail f ok e
 
 pub no-factors : (bytes rest v : List ℕ) → (StartsWith 49 bytes → ⊥) → IsFront AreFewFactors EndsWord bytes v rest → rest ≡ bytes → IsNoFront IsWord EndsWord bytes
 no-factors bytes rest v other_one f same other y tail Empty ok e = other_one (subst (StartsWith 49) (sym e) refl)

@@ -1,5 +1,5 @@
 //! A box's vectors and pointers between them: each vector points to a related one that doesn't come after it.
-ghost use Rattle.std.specs.Prelude.{◌≡◌, ◌<◌, ◌≤◌, ◌∷◌, IfOk, IfSome, IfNone, OnErr, Err, length, slice_index, slice_index_or, slice_set, ℕ};
+ghost use Rattle.std.specs.Prelude.{◌≡◌, ◌<◌, ◌≤◌, ◌∷◌, ◌++◌, [], IfOk, IfSome, IfNone, OnErr, Err, length, slice_index, slice_index_or, slice_set, ℕ};
 ghost use Rattle.presentations.specs.declared.read.Relation.{Relation};
 ghost use Rattle.presentations.specs.Boxes.{size_of, next_of, place_of};
 ghost use Rattle.presentations.specs.Words.{vector_on};
@@ -100,6 +100,7 @@ impl<'a, A: Allocator> Merging<'a, A> {
         ensures axes { self.new.axes ≡ self.old.axes }
         ensures relations { self.new.relations ≡ self.old.relations }
         ensures parents { self.new.parents ≡ self.old.parents }
+        ensures kept { IfOk result (λ _. self.new.pending ≡ self.old.pending ++ (u, v) ∷ []) }
         ensures refused { OnErr result (result ≡ Err PresFault.Memory) }
     {
         self.pending.push((u as u32, v as u32))?;
@@ -111,6 +112,8 @@ impl<'a, A: Allocator> Merging<'a, A> {
         ensures axes { self.new.axes ≡ self.old.axes }
         ensures relations { self.new.relations ≡ self.old.relations }
         ensures parents { self.new.parents ≡ self.old.parents }
+        ensures last { IfSome result (λ p. self.old.pending ≡ self.new.pending ++ p ∷ []) }
+        ensures none { IfNone result (self.old.pending ≡ []) }
         ensures pair { IfSome result (λ p. (p.0 < size_of self.old.axes) × (p.1 < size_of self.old.axes) × AreRelated self.old.axes self.old.relations p.0 p.1) }
     {
         let (u, v) = self.pending.pop()?;
