@@ -1,5 +1,5 @@
 //! The line of the keys.
-ghost use Rattle.std.specs.Prelude.{◌≡◌, ◌<◌, ◌-◌, codes};
+ghost use Rattle.std.specs.Prelude.{◌<◌, ◌-◌, codes};
 ghost use Rattle.certificate.specs.Given.{Gives};
 ghost use Rattle.certificate_text.specs.Reading.{key_at, words_at, line_at};
 

@@ -1,5 +1,5 @@
 //! How certificates are read.
-ghost use Rattle.std.specs.Prelude.{◌≡◌, Some, IfOk, Err};
+ghost use Rattle.std.specs.Prelude.{◌≡◌, IfOk, Err};
 ghost use Rattle.misere_theory.specs.Certificates.{Certificate};
 ghost use Rattle.certificate.specs.Given.{Gives};
 ghost use Rattle.certificate_text.specs.Reading.{certificate_at};

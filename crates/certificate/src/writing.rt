@@ -1,5 +1,4 @@
 //! How certificates are written.
-ghost use Rattle.std.specs.Prelude.{◌≡◌};
 ghost use Rattle.certificate_text.specs.Spelling.{Spells, lines, text};
 ghost use Rattle.streams.specs.Stream.{Counts, Puts};
 ghost use Rattle.certificate.specs.LineKinds.{lines_of};

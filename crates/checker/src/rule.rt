@@ -1,5 +1,5 @@
 //! The local rule at a pair.
-ghost use Rattle.std.specs.Prelude.{◌≡◌, ◌⊎◌, IsTrue, ℕ};
+ghost use Rattle.std.specs.Prelude.{◌≡◌, ◌⊎◌, IsTrue};
 ghost use Rattle.std.specs.FinSet as set;
 ghost use Rattle.checker.specs.Rules.{Obeys, Breaks};
 

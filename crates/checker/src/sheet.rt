@@ -1,5 +1,5 @@
 //! A certificate under test.
-ghost use Rattle.std.specs.Prelude.{◌≡◌, ◌+◌, ◌-◌, ◌<◌, ◌≤◌, ◌^◌, length, slice_index};
+ghost use Rattle.std.specs.Prelude.{◌≡◌, ◌+◌, ◌-◌, ◌<◌, ◌≤◌, length, slice_index};
 ghost use Rattle.misere_theory.specs.Certificates.{times_of, phi_at, key_of, claim_of};
 ghost use Rattle.checker.specs.Sheets.{IsLawful};
 

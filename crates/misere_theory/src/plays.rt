@@ -1,7 +1,7 @@
 //! Laws of plays: reachable positions, first winning moves, and winning by them.
 
 ghost use Rattle.std.specs.Prelude.{◌≡◌, ◌⊎◌, List, ℕ};
-ghost use Rattle.misere_theory.specs.Games.{Move, MultisetMove, IsP, IsN, IsHeap, IsPosition};
+ghost use Rattle.misere_theory.specs.Games.{Move, IsP, IsN, IsHeap, IsPosition};
 ghost use Rattle.misere_theory.specs.Plays.{Reachable, IsWinningMove, IsFirstWin, Keeps};
 
 /// Moves, one after another, reach positions, whatever the order of their heaps.

@@ -1,5 +1,5 @@
 //! A table checked in pieces.
-ghost use Rattle.std.specs.Prelude.{◌≡◌, ◌+◌, ◌-◌, ◌*◌, ◌<◌, ◌≤◌, ◌↔◌, ℕ, true, false, IfOk, OnErr, Ok, Err, IsOk};
+ghost use Rattle.std.specs.Prelude.{◌≡◌, ◌+◌, ◌-◌, ◌*◌, ◌<◌, ◌≤◌, ◌↔◌, true, false, IfOk, OnErr, Ok, Err, IsOk};
 ghost use Rattle.misere_theory.specs.Quotients.{LawFails};
 ghost use Rattle.monoid_table.specs.Grids.{IsShaped, IsTable, entry};
 ghost use Rattle.monoid_table.specs.Turns.{JobState, triples, is_over, turns, fresh};

@@ -1,4 +1,4 @@
-ghost use Rattle.std.specs.Prelude.{◌≡◌, ◌<◌, length, slice_index, All, IfOk, MatchOption};
+ghost use Rattle.std.specs.Prelude.{◌<◌, length, slice_index, All, IfOk, MatchOption};
 ghost use Rattle.outcome_search.specs.Known.{known, HasSeen, IsUnknown};
 ghost use Rattle.outcome_search.specs.Outcomes.{HasOutcome};
 ghost use Rattle.positions.specs.Options.{options_of};

@@ -1,5 +1,5 @@
 //! The closure: members ever kept, those held, and one product a turn.
-ghost use Rattle.std.specs.Prelude.{◌≡◌, ◌↔◌, ◌<◌, ◌≤◌, ◌+◌, ◌*◌, ◌^◌, true, false, ℕ, length, All, Ok, IfOk, OnOk, OnErr, IsErr, slice_index_or};
+ghost use Rattle.std.specs.Prelude.{◌≡◌, ◌↔◌, ◌<◌, ◌≤◌, ◌+◌, ◌*◌, true, false, ℕ, length, All, Ok, IfOk, OnOk, OnErr, IsErr, slice_index_or};
 ghost use Rattle.transition_algebra.specs.Pairs.{IsPair, one};
 ghost use Rattle.pair_closure.specs.Progress.{SameData, begun, moved, step, steps, stopped, is_done, is_over, has_ended, blank_held, KeepsEmpty, Multiplies, TriesHeap};
 ghost use Rattle.pair_closure.specs.Positions.{IsWordOf, Speaks, IsMinimal, IsClosedOver, IsExceeded};
@@ -215,6 +215,7 @@ impl<A: Allocator + Copy> Closure<A> {
             Task::Done | Task::Over => Ok(false),
         }
     }
+
     /// What holds of every closure. For whatever claim the table and the pairs are those of, each member is exactly the
     /// pair of its word; the members ever kept differ, and none that is held covers another.
     pub fn speak(&self)

@@ -1,5 +1,4 @@
 //! What a player answers in a position.
-ghost use Rattle.std.specs.Prelude.{◌≡◌};
 ghost use Rattle.std.specs.List.Sorted.{IsNonDecreasing};
 ghost use Rattle.misere_theory.specs.Certificates.{Accepted};
 ghost use Rattle.misere_theory.specs.Games.{IsHeap, IsPosition};

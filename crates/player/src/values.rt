@@ -1,5 +1,5 @@
 //! Values of positions, by the rows and entries of a certificate.
-ghost use Rattle.std.specs.Prelude.{◌≡◌, ◌<◌, ◌≤◌, All, IsTrue};
+ghost use Rattle.std.specs.Prelude.{◌≡◌, ◌<◌, ◌≤◌};
 ghost use Rattle.misere_theory.specs.Games.{IsHeap, IsPosition};
 ghost use Rattle.misere_theory.specs.Certificates.{Accepted, claim_of, times_of, phi_at};
 ghost use Rattle.misere_theory.specs.Quotients.{value};

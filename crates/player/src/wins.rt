@@ -1,5 +1,5 @@
 //! Winning moves by values.
-ghost use Rattle.std.specs.Prelude.{◌≡◌, ◌<◌, ◌≤◌, ℕ, List};
+ghost use Rattle.std.specs.Prelude.{◌<◌, ℕ, List};
 ghost use Rattle.std.specs.List.Sorted.{IsNonDecreasing};
 ghost use Rattle.std.specs.Option.{MatchOption};
 ghost use Rattle.misere_theory.specs.Certificates.{Accepted};

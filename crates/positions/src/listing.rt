@@ -1,5 +1,5 @@
 ghost use Rattle.std.specs.List.Sorted.{IsPermutation};
-ghost use Rattle.std.specs.Prelude.{◌≡◌, ℕ, ◌↔◌, List, Contains, AllPairs};
+ghost use Rattle.std.specs.Prelude.{◌≡◌, ℕ, List, Contains, AllPairs};
 ghost use Rattle.misere_theory.specs.Games.{HeapOption};
 ghost use Rattle.misere_theory.specs.Plays.{LeftBefore};
 ghost use Rattle.positions.specs.Exact.{heaps_of, IsInOrder};

@@ -1,10 +1,8 @@
-ghost use Rattle.std.specs.List.Sorted.{IsPermutation};
-ghost use Rattle.std.specs.Prelude.{◌≡◌, ◌+◌, ◌<◌, ◌≤◌, ◌↔◌, ◌++◌, ◌∷◌, length, slice_index, remove, All, Contains, IsTrue, IfOk, OnOk};
+ghost use Rattle.std.specs.Prelude.{◌≡◌, ◌+◌, ◌<◌, ◌≤◌, ◌↔◌, Contains, IsTrue, IfOk};
 ghost use Rattle.misere_theory.specs.Games.{HeapMove};
 ghost use Rattle.positions.specs.Exact.{heaps_of};
 ghost use Rattle.positions.specs.Moves.{move_fault_number};
 ghost use Rattle.positions.specs.Options.{options_of};
-ghost use Rattle.positions.specs.Positions.{IsSize};
 
 use crate::left::Left;
 use crate::position::{Position, place_of};

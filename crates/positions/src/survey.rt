@@ -1,4 +1,4 @@
-ghost use Rattle.std.specs.Prelude.{◌≡◌, ◌≢◌, ◌<◌, ◌≤◌, ◌+◌, ◌++◌, [], ◌∷◌, ◌^◌, ℕ, List, length, slice_index, take, All, MatchOption};
+ghost use Rattle.std.specs.Prelude.{◌≡◌, ◌≢◌, ◌<◌, ◌≤◌, ◌+◌, ◌++◌, [], ◌∷◌, ◌^◌, ℕ, List, length, slice_index, All, MatchOption};
 ghost use Rattle.positions.specs.Surveys.{capped, IsSurvey, IsSurveyOf};
 ghost use Rattle.positions.specs.Text.{number_of, words_of, IsNumeral};
 

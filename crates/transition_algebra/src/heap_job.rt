@@ -1,5 +1,5 @@
 //! The pairs of the heaps, made in pieces.
-ghost use Rattle.std.specs.Prelude.{◌≡◌, ◌+◌, ◌<◌, ◌≤◌, ◌↔◌, All, IsTrue, IsErr, IfOk, OnOk, OnErr, true, false, min};
+ghost use Rattle.std.specs.Prelude.{◌≡◌, ◌+◌, ◌<◌, ◌≤◌, ◌↔◌, All, IsTrue, IsErr, IfOk, OnOk, OnErr, true, false};
 ghost use Rattle.transition_algebra.specs.Pairs.{IsPair};
 ghost use Rattle.transition_algebra.specs.Heaps.{IsInto, AreAllHeapPairs};
 ghost use Rattle.transition_algebra.specs.Work.{IsDone, worked, heap_cost, turns, opening};

@@ -1,5 +1,5 @@
 //! The pairs of heaps.
-ghost use Rattle.std.specs.Prelude.{◌≡◌, ◌+◌, ◌-◌, ◌<◌, ◌≤◌, IfOk, All};
+ghost use Rattle.std.specs.Prelude.{◌≡◌, ◌+◌, ◌-◌, ◌<◌, IfOk, All};
 ghost use Rattle.misere_theory.specs.Games.{IsHeap, IsPosition};
 ghost use Rattle.positions.specs.Exact.{heaps_of};
 ghost use Rattle.transition_algebra.specs.Pairs.{IsPair};

@@ -1,7 +1,6 @@
 //! Checks whose verdict goes to a sink.
-ghost use Rattle.std.specs.Prelude.{◌≡◌, ◌<◌, [], ◌⊎◌, IfOk, IfErr, IsErrOf};
+ghost use Rattle.std.specs.Prelude.{◌≡◌, ◌<◌, ◌⊎◌, IfOk, IfErr, IsErrOf};
 ghost use Rattle.std.specs.String.{string_bytes};
-ghost use Rattle.std.specs.Io.KnownBytes.{Appends};
 ghost use Rattle.streams.specs.Stream.{Puts};
 ghost use Rattle.verdicts.specs.Lines.{is_yes};
 ghost use Rattle.verdicts.specs.Streams.{Answers, Writes, WritesSome, WritesOfStream, WritesSomeOfStream};
