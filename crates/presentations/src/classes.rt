@@ -1,7 +1,7 @@
 //! Classes of the box's vectors: joined until they are those of the least congruence that holds the relations.
-ghost use Rattle.std.specs.Prelude.{◌≡◌, ◌≢◌, ◌<◌, ◌^◌, ◌≤◌, ℕ, IfOk, IfSome, IfNone, OnErr, Err, length, slice_index, sum};
+ghost use Rattle.std.specs.Prelude.{◌≡◌, ◌≢◌, ◌<◌, ◌^◌, ℕ, IfOk, IfSome, IfNone, OnErr, Err, length, slice_index, sum};
 ghost use Rattle.presentations.specs.Boxes.{size_of};
-ghost use Rattle.presentations.specs.Boxed.{MergeState, AreRelated, IsBox, IsGap, Shrinks, AreFirsts, RelationsHold, StepsHold, StepsHoldAt, AreClosed, AreClasses};
+ghost use Rattle.presentations.specs.Boxed.{AreRelated, IsBox, IsGap, Shrinks, AreFirsts, RelationsHold, StepsHold, StepsHoldAt, AreClosed, AreClasses};
 ghost use Rattle.presentations.specs.Numberings.{AreRoots};
 
 use crate::axes::Axis;

@@ -1,5 +1,5 @@
 //! A box's vectors and pointers between them: each vector points to a related one that doesn't come after it.
-ghost use Rattle.std.specs.Prelude.{◌≡◌, ◌<◌, ◌≤◌, ◌∷◌, ◌++◌, [], IfOk, IfSome, IfNone, OnErr, Err, length, slice_index, slice_index_or, slice_set, ℕ};
+ghost use Rattle.std.specs.Prelude.{◌≡◌, ◌<◌, ◌≤◌, ◌∷◌, ◌++◌, [], IfOk, IfSome, IfNone, OnErr, Err, length, slice_index, slice_index_or};
 ghost use Rattle.presentations.specs.declared.read.Relation.{Relation};
 ghost use Rattle.presentations.specs.Boxes.{size_of, next_of, place_of};
 ghost use Rattle.presentations.specs.Words.{vector_on};

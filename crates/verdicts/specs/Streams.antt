@@ -1,6 +1,6 @@
 -- What a check from stream to stream does to both. This project's own.
 use Rattle.std.specs.Prelude.{◌≡◌, ◌≤◌, ◌<◌, ⊤, ℕ, List, Option, Some, None, Bool, length}
-use Rattle.std.specs.Io.KnownBytes.{Appends}
+use Rattle.std.specs.Io.KnownBytes.{Appends, Consumes}
 use Rattle.streams.specs.Stream.{AppendsSome}
 use Rattle.checker.specs.Answers.{Answer, IsTrueOf}
 use Rattle.checker.specs.Answers.Answer.{Text}
@@ -10,6 +10,10 @@ use Rattle.verdicts.specs.Lines.{IsTextOf, is_yes}
 abbrev pub AreKnownAs : Option (List ℕ) → List ℕ → Type 0
 AreKnownAs None bytes = ⊤
 AreKnownAs (Some left) bytes = left ≡ bytes
+
+-- Of the stream at most 4194305 bytes were read.
+abbrev pub ReadsEnough : Option (List ℕ) → Option (List ℕ) → Type 0
+ReadsEnough before after = (bytes : List ℕ) × Consumes before after bytes × (length bytes ≤ 4194305)
 
 -- The answer to a stream of these bytes: more than 4194304 are no certificate.
 pub record IsStreamed (bytes : List ℕ) (limit : ℕ) (answer : Answer) : Type 0 where

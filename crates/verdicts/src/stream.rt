@@ -3,7 +3,7 @@ ghost use Rattle.std.specs.Prelude.{◌≡◌, ◌<◌, ◌⊎◌, IfOk, IfErr, 
 ghost use Rattle.std.specs.String.{string_bytes};
 ghost use Rattle.streams.specs.Stream.{Puts};
 ghost use Rattle.verdicts.specs.Lines.{is_yes};
-ghost use Rattle.verdicts.specs.Streams.{Answers, Writes, WritesSome, WritesOfStream, WritesSomeOfStream};
+ghost use Rattle.verdicts.specs.Streams.{Answers, ReadsEnough, Writes, WritesSome, WritesOfStream, WritesSomeOfStream};
 
 use crate::lines::verdict_text;
 use allocation::Memory;
@@ -73,6 +73,7 @@ pub fn check_stream<R: Source, W: Sink, A: Allocator + Copy>(
     sink: &mut W,
     limit: u32,
 ) -> Result<bool, StreamFault>
+    ensures read { IfOk result (λ _. ReadsEnough (R.left source.old) (R.left source.new)) }
     ensures ok { IfOk result (WritesOfStream (R.left source.old) limit (W.taken sink.old) (W.taken sink.new)) }
     ensures write { IsErrOf result StreamFault.Write → WritesSomeOfStream (R.left source.old) limit (W.taken sink.old) (W.taken sink.new) }
     ensures write_cause { IsErrOf result StreamFault.Write → W.failures sink.old < W.failures sink.new }
