@@ -4,34 +4,43 @@ ghost use Rattle.misere.specs.Stops.{IsOutputStop};
 
 use crate::stop::Stop;
 use presentations::{Named, PresFault, Presentation, table_of};
-use std::alloc::Global;
+use std::alloc::{AllocError, Global};
 use streams::{Sink, write_whole};
 
 /// The most exponent vectors that are merged.
 const LIMIT: u32 = 65536;
 
-/// The order, the elements of the generators, and the rows.
-fn show_monoid<W: Sink>(alloc: Global, named: &Named, out: &mut W) -> Result<(), Stop<'static>>
-    ensures { IfErr result (IsOutputStop (W.failures out.old < W.failures out.new)) }
-{
-    let table = &named.table;
-    let order = table.order();
+/// The order, and the elements of the generators.
+fn head_text(alloc: Global, named: &Named) -> Result<String, AllocError> {
+    let order = named.table.order();
     let mut text = format!(in alloc; "order {order}\ngenerators")?;
     for generator in &named.generators {
         let (letter, element) = (generator.letter as char, generator.element);
         write!(text, " {letter}={element}")?;
     }
     text.push('\n')?;
-    for x in 0..order {
-        text.push_str("row")?;
-        for y in table.row(x) {
-            let y = *y;
-            write!(text, " {y}")?;
-        }
-        text.push('\n')?;
+    Ok(text)
+}
+
+fn row_text(alloc: Global, row: &[u16]) -> Result<String, AllocError> {
+    let mut text = String::new(alloc);
+    text.push_str("row")?;
+    for element in row {
+        let element = *element;
+        write!(text, " {element}")?;
     }
-    write_whole(out, text.as_bytes())?;
-    Ok(())
+    text.push('\n')?;
+    Ok(text)
+}
+
+/// The order, the elements of the generators, and the rows.
+fn monoid_text(alloc: Global, named: &Named) -> Result<String, AllocError> {
+    let mut text = head_text(alloc, named)?;
+    for x in 0..named.table.order() {
+        let row = row_text(alloc, named.table.row(x))?;
+        text.push_str(row.as_str())?;
+    }
+    Ok(text)
 }
 
 /// Prints the monoid that the text presents, or why there is none.
@@ -49,7 +58,8 @@ pub fn present_command<W: Sink>(
     ));
     let refused = match named {
         Ok(named) => {
-            show_monoid(alloc, &named, out)?;
+            let text = monoid_text(alloc, &named)?;
+            write_whole(out, text.as_bytes())?;
             return Ok(true);
         }
         Err(PresFault::Memory) => return Err(Stop::Memory),
