@@ -19,11 +19,13 @@ use positions::{Options, Position};
 use std::alloc::Allocator;
 
 /// The element of the quotient that is the position's: the product of its heaps' elements.
-pub fn value<A: Allocator, B: Allocator>(certified: &Certified<A>, position: &Position<B>) -> u16
+pub fn value<A: Allocator, B: Allocator>(certified: &Certified<A>, position: &Position<B>) -> u8
     ensures value { result ≡ value (claim_of certified.now) position.now }
     ensures within { result < certified.now.order }
 {
-    product(certified.cert(), position.heaps())
+    let cert = certified.cert();
+    in_ranges(cert);
+    product(cert, position.heaps()) as u8
 }
 
 /// Who wins from the position under misère play.
