@@ -10,6 +10,7 @@ use Rattle.command_line.specs.declared.plans.Plan.{Plan}
 use Rattle.command_line.specs.declared.plans.Plan.TheVariants.{Check, Show, Play, Present}
 use Rattle.command_line.specs.declared.plans.UsageFault.{UsageFault}
 use Rattle.command_line.specs.declared.plans.UsageFault.TheVariants.{Memory as NoMemory, Help, Words, Limit, Incomplete}
+use Rattle.misere.specs.Presented.{Presents}
 use Rattle.misere.specs.Runs.{AsksForSomething, Checks, Does, Plays, Shows}
 use Rattle.misere.specs.Stops.{AsksInVain, HasNoPosition, IsCheckStop, IsFileStop, IsNoPosition, IsOutputStop, IsTrueOf, StopsAsTold, stop_line, stop_status}
 use Rattle.misere.specs.declared.stop.Stop.{Stop}
@@ -63,7 +64,7 @@ done_as_asked found p q a b input files before after well h =
     (λ f g m e r. subst (λ (t : Option (List ℕ)). Checks input files t m before after well) e r)
     (λ f g e r. subst (λ (t : List ℕ). Shows files t before after well) e r)
     (λ f g x y e d r. subst (λ (t : List ℕ). Plays files t y.now before after well) e (subst (λ (t : List ℕ). Plays files f.now t before after well) d r))
-    (λ f g e r. r)
+    (λ f g e r. subst (λ (t : List ℕ). Presents t before after well) e r)
     found p q a b h
 
 -- what a stop says of one plan is true of each that the words ask for

@@ -1,4 +1,5 @@
 mod Asked
 mod Going
+mod Monoid
 mod Printed
 mod Stopping

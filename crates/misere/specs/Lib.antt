@@ -1,3 +1,4 @@
+pub mod Presented
 pub mod Runs
 pub mod Shown
 pub mod Stops

@@ -1,5 +1,5 @@
 -- What a run that ends with status 0 or 1 has done. This project's own.
-use Rattle.std.specs.Prelude.{⊤, ℕ, Bool, true, false, List, Option, Some, None, ◌==◌, ◌⊎◌, option_map}
+use Rattle.std.specs.Prelude.{ℕ, Bool, true, false, List, Option, Some, None, ◌==◌, ◌⊎◌, option_map}
 use Rattle.std.specs.Io.KnownBytes.{Appends}
 use Rattle.misere_theory.specs.Certificates.{Certificate}
 use Rattle.positions.specs.Text.{IsTextOf}
@@ -12,6 +12,7 @@ use Rattle.command_line.specs.Refusals.{FailBy, IsHelp}
 use Rattle.command_line.specs.declared.plans.Plan.{Plan}
 use Rattle.command_line.specs.declared.plans.Plan.TheVariants.{Check, Show, Play, Present}
 use Rattle.verdicts.specs.Streams.{AreKnownAs, Writes, WritesOfStream}
+use Rattle.misere.specs.Presented.{Presents}
 use Rattle.misere.specs.Shown.{PrintsQuotient}
 use Rattle.misere.specs.Texts.{answer_line}
 
@@ -56,12 +57,12 @@ abbrev pub Shows : (List ℕ → Option (List ℕ)) → List ℕ → Option (Lis
 Shows files file before after true = (c : Certificate) × Certifies files file c × PrintsQuotient c before after
 Shows files file before after false = SaysNo files file before after
 
--- What is done for each plan; of present nothing is said here.
+-- What is done for each plan.
 abbrev pub Does : Option (List ℕ) → (List ℕ → Option (List ℕ)) → Plan → Option (List ℕ) → Option (List ℕ) → Bool → Type 0
 Does input files (Check file limit) before after well = Checks input files (option_map (λ f. f.now) file) limit before after well
 Does input files (Show file) before after well = Shows files file.now before after well
 Does input files (Play file position) before after well = Plays files file.now position.now before after well
-Does input files (Present text) before after well = ⊤
+Does input files (Present text) before after well = Presents text.now before after well
 
 -- What the words ask for is done, and the status is 0 exactly where it ends well.
 abbrev pub DoesAsAsked : List (List ℕ) → Option (List ℕ) → (List ℕ → Option (List ℕ)) → Option (List ℕ) → Option (List ℕ) → ℕ → Type 0
