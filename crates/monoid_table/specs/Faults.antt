@@ -1,3 +1,4 @@
+-- The numbers of the faults of tables, and what a job answers. This project's own.
 use Rattle.std.specs.Prelude.{ℕ, Bool, ◌==◌, if◌then◌else◌, Result, Ok, Err}
 use Rattle.monoid_table.specs.declared.fault.LawFault.{LawFault}
 use Rattle.monoid_table.specs.declared.fault.LawFault.TheVariants.{Shape, Law}

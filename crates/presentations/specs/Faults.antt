@@ -1,3 +1,4 @@
+-- The numbers of the faults of presentations. This project's own.
 use Rattle.std.specs.Prelude.{ℕ}
 use Rattle.presentations.specs.declared.fault.PresFault.{PresFault}
 use Rattle.presentations.specs.declared.fault.PresFault.TheVariants.{Text, Unbounded, Limit, Memory}
