@@ -5,14 +5,10 @@ use crate::answers::true_answers;
 use crate::certified::Certified;
 use crate::refusal::Refusal;
 use crate::stage::Stage;
-use std::alloc::Allocator;
+use allocation::Room;
 
 /// Whether the bytes are an accepted certificate.
-pub fn check<A: Allocator + Copy>(
-    alloc: A,
-    bytes: &[u8],
-    limit: u32,
-) -> Result<Certified<A>, Refusal<A>>
+pub fn check<A: Room + Copy>(alloc: A, bytes: &[u8], limit: u32) -> Result<Certified<A>, Refusal<A>>
     ensures { IsTrueOf bytes.now limit (answer_of result) }
 {
     let mut stage = Stage::Reading;

@@ -13,23 +13,24 @@ use crate::refusal::Refusal;
 use crate::rule::obeys;
 use crate::sheet::Sheet;
 use crate::stage::Stage;
+use allocation::Room;
 use element_sets::ElementSet;
 use octal_code::Code;
 use pair_closure::{Closure, Grown};
-use std::alloc::{Allocator, Global};
+use std::alloc::Global;
 use std::marker::Model;
 use transition_algebra::{Pair, Phi};
 
 /// The pairs are closed, a product a turn, and each that is held at the end obeys the rule.
 #[derive(Drop)]
-pub struct Closing<A: Allocator = Global> {
+pub struct Closing<A: Room = Global> {
     code: Code,
     phi: Phi<A>,
     lines: Lines<A>,
     closure: Closure<A>,
 }
 
-impl<A: Allocator> Model for Closing<A> {
+impl<A: Room> Model for Closing<A> {
     ghost use Rattle.certificate.specs.Pieces.{certificate_of};
     ghost use Rattle.checker.specs.Sheets.{pieces_of};
     ghost use Rattle.std.specs.Prelude.{◌+◌, ◌-◌, ◌*◌, length};
@@ -44,7 +45,7 @@ impl<A: Allocator> Model for Closing<A> {
 }
 
 /// The first member held that breaks the rule.
-fn first_breach<A: Allocator + Copy>(closure: &Closure<A>, inside: &ElementSet) -> Option<usize>
+fn first_breach<A: Room + Copy>(closure: &Closure<A>, inside: &ElementSet) -> Option<usize>
     ensures within { IfSome result (λ i. i < length closure.now.state.held) }
     ensures breach { IfSome result (λ i. Breaks inside.now (slice_index_or closure.now.state.held i blank_held).pair) }
     ensures none { IfNone result ((i : ℕ) → i < length closure.now.state.held → Obeys inside.now (slice_index_or closure.now.state.held i blank_held).pair) }
@@ -57,7 +58,7 @@ fn first_breach<A: Allocator + Copy>(closure: &Closure<A>, inside: &ElementSet) 
     None
 }
 
-impl<A: Allocator + Copy> Closing<A> {
+impl<A: Room + Copy> Closing<A> {
     /// No member is held.
     pub fn new(alloc: A, sheet: Sheet<A>, pairs: Vec<Pair, A>, limit: u32) -> Closing<A>
         requires canonical { Canonical sheet }

@@ -14,19 +14,19 @@ use crate::refusal::Refusal;
 use crate::sheet::Sheet;
 use crate::spelling::spelled;
 use crate::stage::Stage;
-use allocation::Memory;
+use allocation::{Memory, Room};
 use certificate::{Cert, Parts};
 use element_sets::ElementSet;
 use misere_theory::certificates::tested_certificates_are_accepted;
 use positions::Position;
-use std::alloc::{Allocator, Global};
+use std::alloc::Global;
 use std::marker::Model;
 use transition_algebra::Pair;
 
 /// The heaps and the values of options are looked at, one of each a turn: no element beside both is in the portion with the heap and
 /// with its option.
 #[derive(Drop)]
-pub struct Elements<A: Allocator = Global> {
+pub struct Elements<A: Room = Global> {
     sheet: Sheet<A>,
     pairs: Vec<Pair, A>,
     /// For each element those that take it into the portion.
@@ -37,7 +37,7 @@ pub struct Elements<A: Allocator = Global> {
     option: u16,
 }
 
-impl<A: Allocator> Model for Elements<A> {
+impl<A: Room> Model for Elements<A> {
     ghost use Rattle.misere_theory.specs.Games.{IsHeap, IsPosition};
     ghost use Rattle.misere_theory.specs.Quotients.{RuleFails};
     ghost use Rattle.std.specs.Prelude.{length};
@@ -52,7 +52,7 @@ impl<A: Allocator> Model for Elements<A> {
 }
 
 /// The elements that take x into the portion.
-fn context<A: Allocator>(sheet: &Sheet<A>, x: u16) -> ElementSet
+fn context<A: Room>(sheet: &Sheet<A>, x: u16) -> ElementSet
     requires { x < sheet.now.order }
     ensures each { (y : ℕ) → set.contains result y ≡ true → (y < sheet.now.order) × ((claim_of sheet.now).portion (times_of sheet.now x y) ≡ true) }
     ensures all { (y : ℕ) → y < sheet.now.order → (claim_of sheet.now).portion (times_of sheet.now x y) ≡ true → set.contains result y ≡ true }
@@ -68,7 +68,7 @@ fn context<A: Allocator>(sheet: &Sheet<A>, x: u16) -> ElementSet
 }
 
 /// For each element those that take it into the portion.
-fn contexts<A: Allocator + Copy>(alloc: A, sheet: &Sheet<A>) -> Result<Vec<ElementSet, A>, Memory>
+fn contexts<A: Room + Copy>(alloc: A, sheet: &Sheet<A>) -> Result<Vec<ElementSet, A>, Memory>
     ensures { IfOk result (λ all. AreContexts sheet.now all.items) }
 {
     let mut all = Vec::new(alloc);
@@ -98,7 +98,7 @@ fn common(a: &ElementSet, b: &ElementSet, order: u16) -> Option<u16>
 }
 
 /// The heaps that the keys of y spell, and one heap more.
-fn beside<A: Allocator + Copy>(
+fn beside<A: Room + Copy>(
     alloc: A,
     sheet: &Sheet<A>,
     heap: u64,
@@ -118,7 +118,7 @@ fn beside<A: Allocator + Copy>(
 }
 
 /// The rule fails at a position.
-fn failed<A: Allocator>(sheet: Sheet<A>, position: Position<A>) -> Stage<A>
+fn failed<A: Room>(sheet: Sheet<A>, position: Position<A>) -> Stage<A>
     requires canonical { Canonical sheet }
     requires position { IsPosition IsHeap position }
     requires fails { RuleFails sheet.code (claim_of sheet) position }
@@ -153,7 +153,7 @@ fn breach(pair: &Pair, contexts: &[ElementSet], option: u16, order: u16) -> Opti
 }
 
 /// The certificate, put together again.
-fn accepted<A: Allocator>(sheet: Sheet<A>) -> Certified<A>
+fn accepted<A: Room>(sheet: Sheet<A>) -> Certified<A>
     requires { Accepted sheet }
     ensures { result ≡ sheet }
 {
@@ -180,7 +180,7 @@ fn accepted<A: Allocator>(sheet: Sheet<A>) -> Certified<A>
     }))
 }
 
-impl<A: Allocator + Copy> Elements<A> {
+impl<A: Room + Copy> Elements<A> {
     /// Nothing was looked at.
     pub fn new(alloc: A, sheet: Sheet<A>, pairs: Vec<Pair, A>) -> Result<Elements<A>, Memory>
         requires canonical { Canonical sheet }

@@ -9,18 +9,19 @@ use crate::lines::Lines;
 use crate::refusal::Refusal;
 use crate::sheet::Sheet;
 use crate::stage::Stage;
-use std::alloc::{Allocator, Global};
+use allocation::Room;
+use std::alloc::Global;
 use std::marker::Model;
 use transition_algebra::{HeapJob, heap_jobs_end};
 
 /// The pairs of the heaps 1 to B are made, an option a turn.
 #[derive(Drop)]
-pub struct Heaps<A: Allocator = Global> {
+pub struct Heaps<A: Room = Global> {
     lines: Lines<A>,
     job: HeapJob<A>,
 }
 
-impl<A: Allocator> Model for Heaps<A> {
+impl<A: Room> Model for Heaps<A> {
     ghost use Rattle.std.specs.Prelude.{◌-◌};
     ghost use Rattle.transition_algebra.specs.Work.{heap_cost};
     ghost use Rattle.checker.specs.Units.{Staged};
@@ -35,7 +36,7 @@ impl<A: Allocator> Model for Heaps<A> {
     ghost invariant = { λ s. IsCanonicalSheet (pieces_of s.job.code s.job.table s.job.phi s.lines.portion.items s.lines.words.items s.lines.apart.items) s.lines.inside };
 }
 
-impl<A: Allocator + Copy> Heaps<A> {
+impl<A: Room + Copy> Heaps<A> {
     /// No option was tried.
     pub fn new(alloc: A, sheet: Sheet<A>) -> Heaps<A>
         requires { Canonical sheet }

@@ -5,12 +5,13 @@ use crate::answers::true_answers;
 use crate::certified::Certified;
 use crate::refusal::Refusal;
 use crate::stage::Stage;
+use allocation::Room;
 use std::alloc::{Allocator, Global};
 use std::marker::Model;
 
 /// How far a job has come: it goes on, or its answer.
 #[derive(Drop)]
-pub enum Progress<'a, A: Allocator = Global> {
+pub enum Progress<'a, A: Room = Global> {
     Going,
     Yes(&'a Certified<A>),
     No(&'a Refusal<A>),
@@ -18,7 +19,7 @@ pub enum Progress<'a, A: Allocator = Global> {
 
 /// A check in pieces, a unit a turn.
 #[derive(Drop)]
-pub struct Job<A: Allocator = Global> {
+pub struct Job<A: Room = Global> {
     alloc: A,
     bytes: Vec<u8, A>,
     limit: u32,
@@ -26,7 +27,7 @@ pub struct Job<A: Allocator = Global> {
     stage: Stage<A>,
 }
 
-impl<A: Allocator> Model for Job<A> {
+impl<A: Room> Model for Job<A> {
     ghost use Rattle.checker.specs.JobViews.{JobView};
 
     ghost Value = { JobView };
@@ -38,7 +39,7 @@ impl<A: Allocator> Model for Job<A> {
     ghost invariant = { λ j. StandsAfter j.bytes.items j.limit j.spent j.stage };
 }
 
-impl<A: Allocator + Copy> Job<A> {
+impl<A: Room + Copy> Job<A> {
     /// A job that has spent nothing. It takes no memory.
     pub fn open(alloc: A, bytes: Vec<u8, A>, limit: u32) -> Job<A>
         ensures { result ≡ record { bytes = bytes.items; limit = limit; spent = 0; ended = None } }
@@ -53,7 +54,7 @@ impl<A: Allocator + Copy> Job<A> {
     }
 }
 
-impl<A: Allocator> Job<A> {
+impl<A: Room> Job<A> {
     ghost use Rattle.checker.specs.Jobs.{Shows};
     ghost use Rattle.checker.specs.JobViews.{IsTruthful};
 
@@ -92,7 +93,7 @@ impl<A: Allocator> Job<A> {
     }
 }
 
-impl<A: Allocator + Copy> Job<A> {
+impl<A: Room + Copy> Job<A> {
     ghost use Rattle.std.specs.Borrow.{sem};
     ghost use Rattle.std.specs.Io.BufRead.{Rests};
     ghost use Rattle.checker.specs.contracts.job.Job.{the_row};

@@ -10,13 +10,14 @@ use crate::products::Products;
 use crate::refusal::Refusal;
 use crate::sheet::Sheet;
 use crate::stage::Stage;
+use allocation::Room;
 use certificate::Key;
-use std::alloc::{Allocator, Global};
+use std::alloc::Global;
 use std::marker::Model;
 
 /// The keys are looked at, one a turn: each names a smaller element and a heap whose product it is, and they rise.
 #[derive(Drop)]
-pub struct Keys<A: Allocator = Global> {
+pub struct Keys<A: Room = Global> {
     sheet: Sheet<A>,
     /// The next element whose key is looked at.
     next: u16,
@@ -24,7 +25,7 @@ pub struct Keys<A: Allocator = Global> {
     rising: bool,
 }
 
-impl<A: Allocator> Model for Keys<A> {
+impl<A: Room> Model for Keys<A> {
     ghost use Rattle.std.specs.Prelude.{◌-◌};
     ghost use Rattle.checker.specs.Units.{Staged};
     ghost use Rattle.checker.specs.Progress.{KeysSoFar};
@@ -37,7 +38,7 @@ impl<A: Allocator> Model for Keys<A> {
 }
 
 /// Whether the key of an element is one.
-fn is_keyed<A: Allocator>(sheet: &Sheet<A>, e: u16) -> bool
+fn is_keyed<A: Room>(sheet: &Sheet<A>, e: u16) -> bool
     requires some { 0 < e }
     requires below { e < sheet.now.order }
     ensures keyed { IsTrue result → IsKeyOf sheet.now e }
@@ -48,7 +49,7 @@ fn is_keyed<A: Allocator>(sheet: &Sheet<A>, e: u16) -> bool
 }
 
 /// Whether the key of an element is above that of the element before, if that has one.
-fn is_above_last<A: Allocator>(sheet: &Sheet<A>, e: u16) -> bool
+fn is_above_last<A: Room>(sheet: &Sheet<A>, e: u16) -> bool
     requires some { 0 < e }
     requires below { e < sheet.now.order }
     ensures { IsTrue result ↔ (1 < e → KeyBelow (key_of sheet.now (e - 1)) (key_of sheet.now e)) }
@@ -63,7 +64,7 @@ pub fn is_below(a: Key, b: Key) -> bool
     a.element < b.element || (a.element == b.element && a.heap < b.heap)
 }
 
-impl<A: Allocator + Copy> Keys<A> {
+impl<A: Room + Copy> Keys<A> {
     /// No key was looked at.
     pub fn new(sheet: Sheet<A>) -> Keys<A>
         ensures certificate { result.certificate ≡ sheet }

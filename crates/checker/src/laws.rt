@@ -8,23 +8,24 @@ use crate::lines::{Lines, set_of};
 use crate::refusal::Refusal;
 use crate::sheet::Sheet;
 use crate::stage::Stage;
+use allocation::Room;
 use certificate::{Cert, Parts};
 use monoid_table::{TableJob, turns_add_up};
 use octal_code::Code;
-use std::alloc::{Allocator, Global};
+use std::alloc::Global;
 use std::marker::Model;
 use transition_algebra::Phi;
 
 /// The laws are looked at, a triple of elements a turn.
 #[derive(Drop)]
-pub struct Laws<A: Allocator = Global> {
+pub struct Laws<A: Room = Global> {
     code: Code,
     phi: Phi<A>,
     lines: Lines<A>,
     job: TableJob<A>,
 }
 
-impl<A: Allocator> Model for Laws<A> {
+impl<A: Room> Model for Laws<A> {
     ghost use Rattle.std.specs.Prelude.{◌-◌};
     ghost use Rattle.monoid_table.specs.Turns.{triples};
     ghost use Rattle.checker.specs.Units.{Staged};
@@ -38,7 +39,7 @@ impl<A: Allocator> Model for Laws<A> {
     ghost invariant = { λ s. IsUnderLaws (pieces_of s.code s.job.grid s.phi s.lines.portion.items s.lines.words.items s.lines.apart.items) s.lines.inside s.job.spent };
 }
 
-impl<A: Allocator + Copy> Laws<A> {
+impl<A: Room + Copy> Laws<A> {
     /// No triple was looked at.
     pub fn new(cert: Cert<A>) -> Laws<A>
         ensures certificate { result.certificate ≡ cert }

@@ -8,12 +8,13 @@ use crate::refusal::Refusal;
 use crate::separating::Separating;
 use crate::sheet::Sheet;
 use crate::stage::Stage;
-use std::alloc::{Allocator, Global};
+use allocation::Room;
+use std::alloc::Global;
 use std::marker::Model;
 
 /// The entries are compared, two a turn: no smaller period serves, and the period doesn't serve from an earlier start.
 #[derive(Drop)]
-pub struct Periods<A: Allocator = Global> {
+pub struct Periods<A: Room = Global> {
     sheet: Sheet<A>,
     /// The period that is tried
     shift: u16,
@@ -21,7 +22,7 @@ pub struct Periods<A: Allocator = Global> {
     count: u16,
 }
 
-impl<A: Allocator> Model for Periods<A> {
+impl<A: Room> Model for Periods<A> {
     ghost use Rattle.std.specs.Prelude.{◌+◌};
     ghost use Rattle.checker.specs.Units.{Staged, rest};
     ghost use Rattle.checker.specs.Progress.{PeriodsSoFar};
@@ -34,14 +35,14 @@ impl<A: Allocator> Model for Periods<A> {
 }
 
 /// Whether the entry comes again after the shift.
-fn comes_again<A: Allocator>(sheet: &Sheet<A>, heap: u16, shift: u16) -> bool
+fn comes_again<A: Room>(sheet: &Sheet<A>, heap: u16, shift: u16) -> bool
     ensures { IsTrue result ↔ ((1 ≤ heap) × (phi_at sheet.now (shift + heap) ≡ phi_at sheet.now heap)) }
 {
     let n = heap as u64;
     n > 0 && sheet.phi(shift as u64 + n) == sheet.phi(n)
 }
 
-impl<A: Allocator + Copy> Periods<A> {
+impl<A: Room + Copy> Periods<A> {
     /// Nothing was compared.
     pub fn new(sheet: Sheet<A>) -> Periods<A>
         requires { HasNoFaultBelow 5 sheet }

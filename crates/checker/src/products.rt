@@ -9,13 +9,14 @@ use crate::periods::Periods;
 use crate::refusal::Refusal;
 use crate::sheet::Sheet;
 use crate::stage::Stage;
+use allocation::Room;
 use certificate::Key;
-use std::alloc::{Allocator, Global};
+use std::alloc::Global;
 use std::marker::Model;
 
 /// The products of elements and heaps are looked at, one a turn: none has a smaller key than its own.
 #[derive(Drop)]
-pub struct Products<A: Allocator = Global> {
+pub struct Products<A: Room = Global> {
     sheet: Sheet<A>,
     /// The next product is of this element
     element: u16,
@@ -23,7 +24,7 @@ pub struct Products<A: Allocator = Global> {
     heap: u16,
 }
 
-impl<A: Allocator> Model for Products<A> {
+impl<A: Room> Model for Products<A> {
     ghost use Rattle.misere_theory.specs.Faults.{OrderFault};
     ghost use Rattle.std.specs.Prelude.{◌+◌};
     ghost use Rattle.checker.specs.Units.{Staged, rest};
@@ -37,7 +38,7 @@ impl<A: Allocator> Model for Products<A> {
 }
 
 /// Whether the product of an element and a heap has no smaller key than its own.
-fn is_in_order<A: Allocator>(sheet: &Sheet<A>, element: u16, heap: u16) -> bool
+fn is_in_order<A: Room>(sheet: &Sheet<A>, element: u16, heap: u16) -> bool
     requires element { element < sheet.now.order }
     requires from_one { 1 ≤ heap }
     requires heap { heap < sheet.now.start + sheet.now.period }
@@ -48,7 +49,7 @@ fn is_in_order<A: Allocator>(sheet: &Sheet<A>, element: u16, heap: u16) -> bool
     product == 0 || !is_below(Key { element, heap }, sheet.key(product))
 }
 
-impl<A: Allocator + Copy> Products<A> {
+impl<A: Room + Copy> Products<A> {
     /// No product was looked at.
     pub fn new(sheet: Sheet<A>) -> Products<A>
         requires { AreKeys sheet }

@@ -6,11 +6,11 @@ ghost use Rattle.checker.specs.Stages.{Stands, Pays};
 use crate::laws::Laws;
 use crate::refusal::Refusal;
 use crate::stage::Stage;
+use allocation::Room;
 use certificate::{TextFault, read};
-use std::alloc::Allocator;
 
 /// Reads the whole text, if there is a unit.
-pub fn work<A: Allocator + Copy>(alloc: A, bytes: &[u8], limit: u32, left: &mut u64) -> Stage<A>
+pub fn work<A: Room + Copy>(alloc: A, bytes: &[u8], limit: u32, left: &mut u64) -> Stage<A>
     ensures stands { Stands bytes.now limit result }
     ensures pays { Pays (9 * stage_units) left.old left.new result }
 {

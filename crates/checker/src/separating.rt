@@ -8,12 +8,13 @@ use crate::heaps::Heaps;
 use crate::refusal::Refusal;
 use crate::sheet::Sheet;
 use crate::stage::Stage;
-use std::alloc::{Allocator, Global};
+use allocation::Room;
+use std::alloc::Global;
 use std::marker::Model;
 
 /// The elements that tell two apart are tried, one a turn: the one given is the least.
 #[derive(Drop)]
-pub struct Separating<A: Allocator = Global> {
+pub struct Separating<A: Room = Global> {
     sheet: Sheet<A>,
     /// The pair that is looked at has the elements x
     x: u16,
@@ -25,7 +26,7 @@ pub struct Separating<A: Allocator = Global> {
     z: u16,
 }
 
-impl<A: Allocator> Model for Separating<A> {
+impl<A: Room> Model for Separating<A> {
     ghost use Rattle.std.specs.Prelude.{◌+◌, length};
     ghost use Rattle.checker.specs.Units.{Staged, rest};
     ghost use Rattle.checker.specs.Progress.{ApartSoFar};
@@ -38,7 +39,7 @@ impl<A: Allocator> Model for Separating<A> {
 }
 
 /// Whether z takes exactly one of x and y into the portion.
-fn tells_apart<A: Allocator>(sheet: &Sheet<A>, x: u16, y: u16, z: u16) -> bool
+fn tells_apart<A: Room>(sheet: &Sheet<A>, x: u16, y: u16, z: u16) -> bool
     requires x_in { x < sheet.now.order }
     requires y_in { y < sheet.now.order }
     requires z_in { z < sheet.now.order }
@@ -47,7 +48,7 @@ fn tells_apart<A: Allocator>(sheet: &Sheet<A>, x: u16, y: u16, z: u16) -> bool
     sheet.holds(sheet.times(x, z)) != sheet.holds(sheet.times(y, z))
 }
 
-impl<A: Allocator + Copy> Separating<A> {
+impl<A: Room + Copy> Separating<A> {
     /// No pair was looked at.
     pub fn new(sheet: Sheet<A>) -> Separating<A>
         requires { HasNoFaultBelow 6 sheet }

@@ -5,12 +5,11 @@ ghost use Rattle.misere_theory.specs.Games.{IsHeap, IsPosition};
 ghost use Rattle.misere_theory.specs.Quotients.{value};
 
 use crate::sheet::Sheet;
-use allocation::Memory;
+use allocation::{Memory, Room};
 use positions::Position;
-use std::alloc::Allocator;
 
 /// A position whose value is the element: the heaps of its key, of that key's element, and so on.
-pub fn spelled<A: Allocator + Copy>(
+pub fn spelled<A: Room + Copy>(
     alloc: A,
     sheet: &Sheet<A>,
     element: u16,

@@ -12,11 +12,12 @@ use crate::products::Products;
 use crate::reading;
 use crate::refusal::Refusal;
 use crate::separating::Separating;
-use std::alloc::{Allocator, Global};
+use allocation::Room;
+use std::alloc::Global;
 
 /// A stage of a check, with what it holds.
 #[derive(Drop)]
-pub enum Stage<A: Allocator = Global> {
+pub enum Stage<A: Room = Global> {
     Reading,
     Laws(Laws<A>),
     Keys(Keys<A>),
@@ -29,7 +30,7 @@ pub enum Stage<A: Allocator = Global> {
     Ended(Result<Certified<A>, Refusal<A>>),
 }
 
-impl<A: Allocator + Copy> Stage<A> {
+impl<A: Room + Copy> Stage<A> {
     ghost use Rattle.checker.specs.Stages.{Stands, Pays, needs, has_ended};
 
     /// Whether the answer stands.

@@ -178,3 +178,17 @@ looked-at-failure q rows spent refused h e = is-breach q rows spent (subst (λ b
 -- the triples of the greatest order are counted in 64 bits
 pub triples-most : (q : ℕ) → q ≤ 256 → triples q ≤ 16777216
 triples-most q small = mul-le (q * q) q (256 * 256) 256 (mul-le q q 256 256 small small) small
+
+-- a monoid passes at every triple
+pub monoid-holds : (q : ℕ) (rows : List ℕ) → Monoid q (entry q rows) → (i : ℕ) → i < triples q → triple_holds q rows i ≡ true
+unfolding triple_holds
+monoid-holds q rows m i below =
+    let some = m.some in
+    let pair_in = div_below i q (q * q) some below in
+    let x_in = div_below (i / q) q q some pair_in in
+    let y_in = mod_below (i / q) q some in
+    let z_in = mod_below i q some in
+    together _ _ _ _ _ _ (m.identity _ x_in) (m.commutes _ _ x_in y_in) (m.associates _ _ _ x_in y_in z_in)
+  where
+    together : (a b c d e f : ℕ) → a ≡ b → c ≡ d → e ≡ f → (((a == b) && (c == d)) && (e == f)) ≡ true
+    together a b c d e f one two three = grind (arith, nat_tests)

@@ -6,18 +6,22 @@ ghost use Rattle.monoid_table.specs.Turns.{JobState, triples, is_over, turns, fr
 ghost use Rattle.monoid_table.specs.Faults.{answer_of};
 
 use crate::fault::LawFault;
+use crate::light::is_lawful;
 use crate::table::Table;
-use crate::triples::{is_shaped, run_from};
+use crate::triples::{is_shaped, next_run};
 use std::alloc::{Allocator, Global};
 use std::marker::Model;
 
 /// Rows of products whose laws are checked a triple x, y, z at a time.
+///
+/// The first unit looks whether every law holds by the generators alone. Where it does, no triple needs to be looked at.
 #[derive(Drop)]
 pub struct TableJob<A: Allocator = Global> {
     order: u16,
     rows: Vec<u16, A>,
     spent: u64,
     refused: bool,
+    lawful: bool,
 }
 
 impl<A: Allocator> Model for TableJob<A> {
@@ -27,9 +31,9 @@ impl<A: Allocator> Model for TableJob<A> {
 
     ghost view = { λ j. record { grid = record { order = j.order; entries = j.rows.items }; spent = j.spent; refused = j.refused } };
 
-    ghost use Rattle.monoid_table.specs.Jobs.{HasLookedAt};
+    ghost use Rattle.monoid_table.specs.Jobs.{IsJob};
 
-    ghost invariant = { λ j. HasLookedAt j.order j.rows.items j.spent j.refused };
+    ghost invariant = { λ j. IsJob j.order j.rows.items j.spent j.refused j.lawful };
 }
 
 impl<A: Allocator> TableJob<A> {
@@ -48,6 +52,7 @@ impl<A: Allocator> TableJob<A> {
             rows,
             spent: 0,
             refused: false,
+            lawful: false,
         })
     }
 
@@ -80,7 +85,9 @@ impl<A: Allocator> TableJob<A> {
         ensures within { (0 < result) × (result ≤ units) }
         ensures state { self.new ≡ turns result self.old }
     {
-        let run = run_from(&self.rows, self.order as usize, self.spent, units);
+        let order = self.order as usize;
+        self.lawful = self.lawful || (self.spent == 0 && is_lawful(&self.rows, order));
+        let run = next_run(&self.rows, order, self.lawful, self.spent, units);
         self.spent += run.units;
         self.refused = run.broken;
         run.units

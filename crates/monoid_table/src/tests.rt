@@ -51,3 +51,15 @@ fn rows_that_are_no_table(rt: HostRuntime) -> Result<(), Fail> {
     assert!(rt; matches!(other_identity, Err(LawFault::Law)));
     Ok(())
 }
+
+#[test]
+fn products_that_do_not_associate(rt: HostRuntime) -> Result<(), Fail> {
+    let rows = rows_of(rt.alloc(), &[0, 1, 2, 1, 2, 0, 2, 0, 2])?;
+    let Ok(mut job) = TableJob::new(3, rows) else {
+        panic!(rt; "no job");
+    };
+    assert!(rt; matches!(job.work(14), Ok(false)));
+    assert!(rt; matches!(job.work(u64::MAX), Err(LawFault::Law)));
+    assert_eq!(rt; job.done(), 15);
+    Ok(())
+}

@@ -1,5 +1,6 @@
 //! Looking at triples of elements: rows of any shape, and whether a law fails.
 ghost use Rattle.std.specs.Prelude.{◌≡◌, ◌+◌, ◌-◌, ◌*◌, ◌/◌, ◌%◌, ◌<◌, ◌≤◌, ◌↔◌, ℕ, length, IsTrue, slice_index, All, true, false, not};
+ghost use Rattle.misere_theory.specs.Quotients.{Monoid};
 ghost use Rattle.monoid_table.specs.Grids.{IsShaped, entry};
 ghost use Rattle.monoid_table.specs.Turns.{pair_holds, groups_alike, triple_holds, triples};
 
@@ -52,7 +53,7 @@ fn holds_at_pair(rows: &[u16], order: usize, x: usize, y: usize) -> bool
 }
 
 /// The first z of `from..to` at which (xy)z isn't x(yz), or `to`.
-fn first_breach(rows: &[u16], order: usize, x: usize, y: usize, from: usize, to: usize) -> usize
+pub fn first_breach(rows: &[u16], order: usize, x: usize, y: usize, from: usize, to: usize) -> usize
     requires shaped { IsShaped order rows.now }
     requires x_in { x < order }
     requires y_in { y < order }
@@ -107,6 +108,26 @@ pub fn run_from(rows: &[u16], order: usize, spent: u64, units: u64) -> Run
     }
     Run {
         units: (to - z) as u64,
+        broken: false,
+    }
+}
+
+/// The next run of triples, none of which needs to be looked at where every law is known to hold.
+pub fn next_run(rows: &[u16], order: usize, lawful: bool, spent: u64, units: u64) -> Run
+    requires shaped { IsShaped order rows.now }
+    requires laws { lawful ≡ true → Monoid order (entry order rows.now) }
+    requires some { 0 < units }
+    requires going { spent < triples order }
+    ensures within { (0 < result.units) × (result.units ≤ units) × (spent + result.units ≤ triples order) }
+    ensures passed { (i : ℕ) → spent ≤ i → i + 1 < spent + result.units → triple_holds order rows.now i ≡ true }
+    ensures last { triple_holds order rows.now (spent + result.units - 1) ≡ not result.broken }
+{
+    if !lawful {
+        return run_from(rows, order, spent, units);
+    }
+    let order = order as u64;
+    Run {
+        units: units.min(order * order * order - spent),
         broken: false,
     }
 }

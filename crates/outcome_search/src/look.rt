@@ -5,10 +5,9 @@ ghost use Rattle.positions.specs.Options.{options_of};
 
 use crate::answer::Outcome;
 use crate::memo::Memo;
-use allocation::Memory;
+use allocation::{Memory, Room};
 use octal_code::Code;
 use positions::{Position, options};
-use std::alloc::Allocator;
 
 /// What the options of a heap show.
 #[derive(Clone, Copy)]
@@ -25,7 +24,7 @@ pub(crate) enum Seen {
 
 /// The outcome of a position by what is known, or, where that isn't enough, `None`: then `next` is a position that a move leads to and of which
 /// nothing is known.
-pub(crate) fn look<A: Allocator + Copy>(
+pub(crate) fn look<A: Room + Copy>(
     code: &Code,
     position: &Position<A>,
     memo: &Memo<A>,
@@ -51,7 +50,7 @@ pub(crate) fn look<A: Allocator + Copy>(
 }
 
 /// What the options of the heap at the place `at` show. Where one leads to a position of which nothing is known, `next` is that position.
-fn look_at<A: Allocator + Copy>(
+fn look_at<A: Room + Copy>(
     code: &Code,
     position: &Position<A>,
     at: usize,

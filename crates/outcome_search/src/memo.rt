@@ -5,20 +5,19 @@ ghost use Rattle.std.specs.Map.{keys_of};
 ghost use Rattle.outcome_search.specs.Known.{known};
 
 use crate::answer::Outcome;
-use allocation::Memory;
+use allocation::{Memory, Room};
 use indexmap::IndexMap;
 use positions::Position;
-use std::alloc::Allocator;
 use std::hash::{BuildHasherDefault, FoldHasher};
 use std::marker::Model;
 
 /// The outcomes that a search has found, seen as the list of positions with their outcomes, in the order in which they were found.
 #[derive(Drop)]
-pub(crate) struct Memo<A: Allocator> {
+pub(crate) struct Memo<A: Room> {
     outcomes: IndexMap<Position<A>, Outcome, BuildHasherDefault<FoldHasher>, A>,
 }
 
-impl<A: Allocator> Model for Memo<A> {
+impl<A: Room> Model for Memo<A> {
     ghost use Rattle.std.specs.Prelude.{ℕ, List};
     ghost use Rattle.outcome_search.specs.declared.answer.Outcome.{Outcome};
 
@@ -27,7 +26,7 @@ impl<A: Allocator> Model for Memo<A> {
     ghost view = { λ m. m.outcomes.entries };
 }
 
-impl<A: Allocator + Copy> Memo<A> {
+impl<A: Room + Copy> Memo<A> {
     /// Nothing is known yet.
     pub(crate) fn new(alloc: A) -> Memo<A>
         ensures { result ≡ [] }

@@ -5,14 +5,14 @@ ghost use Rattle.outcome_search.specs.Outcomes.{HasOutcome};
 use crate::answer::{Outcome, SearchFault};
 use crate::look::look;
 use crate::memo::Memo;
+use allocation::Room;
 use octal_code::Code;
 use positions::Position;
-use std::alloc::Allocator;
 
 /// The misère outcome of a position, found by a search through the positions that moves reach from it, which remembers the outcomes that it
 /// finds. It gives up only where more than `budget` positions can be reached, the position itself counted and those that differ by the order
 /// of heaps counted once. The stack doesn't grow with the length of the plays.
-pub fn outcome<A: Allocator + Copy>(
+pub fn outcome<A: Room + Copy>(
     alloc: A,
     code: &Code,
     position: &Position<A>,

@@ -1,14 +1,11 @@
 use crate::{Outcome, SearchFault, outcome};
+use allocation::{Memory, Room};
 use octal_code::Code;
 use positions::Position;
 use ration::Ration;
-use std::alloc::Allocator;
 use std::test::Fail;
 
-fn position<A: Allocator + Copy>(
-    alloc: A,
-    heaps: &[u64],
-) -> Result<Position<A>, allocation::Memory> {
+fn position<A: Room + Copy>(alloc: A, heaps: &[u64]) -> Result<Position<A>, Memory> {
     let mut position = Position::new(alloc);
     for heap in heaps {
         position.push((*heap).clamp(1, 1000))?;

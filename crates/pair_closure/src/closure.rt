@@ -7,7 +7,7 @@ ghost use Rattle.pair_closure.specs.Positions.{IsWordOf, Speaks, IsMinimal, IsCl
 use crate::fits::is_short;
 use crate::members::{Member, Members};
 use crate::settle::{Generator, Held, add, begin, hold, pending, settle_heap, settle_product};
-use allocation::Memory;
+use allocation::{Memory, Room};
 use element_sets::ElementSet;
 use monoid_table::{CommMonoid, Table};
 use positions::Position;
@@ -79,7 +79,7 @@ fn empty() -> Pair
     }
 }
 
-impl<A: Allocator + Copy> Closure<A> {
+impl<A: Room + Copy> Closure<A> {
     /// No member is held yet, and no memory is taken. Item h of the pairs, counted from 1, stands for a heap of size h. It
     /// ends within limit times their number, plus 2, turns.
     pub fn new(alloc: A, table: Table<A>, heaps: Vec<Pair, A>, limit: u32) -> Closure<A>

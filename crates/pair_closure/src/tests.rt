@@ -2,16 +2,15 @@
 ghost use Rattle.std.specs.Prelude.{◌<◌};
 
 use crate::{Closure, Grown};
-use allocation::Memory;
+use allocation::{Memory, Room};
 use monoid_table::Table;
 use octal_code::Code;
 use ration::Ration;
-use std::alloc::Allocator;
 use std::test::Fail;
 use transition_algebra::{Pair, Phi, heap_pairs};
 
 /// The closure of 0.3 over its quotient, of two elements.
-fn three<A: Allocator + Copy>(alloc: A) -> Result<Option<Closure<A>>, Memory> {
+fn three<A: Room + Copy>(alloc: A) -> Result<Option<Closure<A>>, Memory> {
     let mut rows = Vec::new(alloc);
     for x in [0, 1, 1, 0] {
         rows.push(x)?;

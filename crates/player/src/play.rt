@@ -12,6 +12,7 @@ ghost use Rattle.player.specs.Looks.{IsFirstInto};
 use crate::answering::{Answer, answer_at};
 use crate::looking::looks_at;
 use crate::values::{is_in_portion, product};
+use allocation::Room;
 use certificate::in_ranges;
 use checker::Certified;
 use outcome_search::Outcome;
@@ -19,7 +20,7 @@ use positions::{Options, Position};
 use std::alloc::Allocator;
 
 /// The element of the quotient that is the position's: the product of its heaps' elements.
-pub fn value<A: Allocator, B: Allocator>(certified: &Certified<A>, position: &Position<B>) -> u8
+pub fn value<A: Allocator, B: Room>(certified: &Certified<A>, position: &Position<B>) -> u8
     ensures value { result ≡ value (claim_of certified.now) position.now }
     ensures within { result < certified.now.order }
 {
@@ -29,10 +30,7 @@ pub fn value<A: Allocator, B: Allocator>(certified: &Certified<A>, position: &Po
 }
 
 /// Who wins from the position under misère play.
-pub fn outcome<A: Allocator, B: Allocator>(
-    certified: &Certified<A>,
-    position: &Position<B>,
-) -> Outcome
+pub fn outcome<A: Allocator, B: Room>(certified: &Certified<A>, position: &Position<B>) -> Outcome
     ensures { HasOutcome certified.now.code position.now result }
 {
     let cert = certified.cert();
@@ -48,10 +46,7 @@ pub fn outcome<A: Allocator, B: Allocator>(
 /// answered, and goes on so, hands the opponent a P-position each time and wins, whatever he moves.
 ///
 /// Of a heap only its `looks` are tried, so a heap of any size is answered at once. It takes no memory.
-pub fn answer<A: Allocator, B: Allocator>(
-    certified: &Certified<A>,
-    position: &Position<B>,
-) -> Answer
+pub fn answer<A: Allocator, B: Room>(certified: &Certified<A>, position: &Position<B>) -> Answer
     ensures { IsRightAnswer certified.now.code position.now result }
 {
     answer_at(certified.cert(), position.heaps())

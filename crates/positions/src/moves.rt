@@ -6,9 +6,8 @@ ghost use Rattle.positions.specs.Options.{options_of};
 
 use crate::left::Left;
 use crate::position::{Position, place_of};
-use allocation::Memory;
+use allocation::{Memory, Room};
 use octal_code::Code;
-use std::alloc::Allocator;
 
 /// A heap's size, and what a move leaves of such a heap.
 #[derive(Clone, Copy, Debug, PartialEq, Eq)]
@@ -76,7 +75,7 @@ fn are_parts(n: u64, a: u64, b: u64) -> bool
 }
 
 /// The position after a move. The heap is looked up, and the option is tested by itself, however many the heap has.
-pub fn apply<A: Allocator + Copy>(
+pub fn apply<A: Room + Copy>(
     alloc: A,
     code: &Code,
     position: &Position<A>,

@@ -1,12 +1,12 @@
 ghost use Rattle.std.specs.List.Sorted.{IsNonDecreasing, IsPermutation};
 ghost use Rattle.std.specs.Prelude.{◌≡◌, ◌<◌, ◌≤◌, ◌∷◌, ◌++◌, ◌+◌, [], ℕ, length, slice_index, remove, All, IfOk, OnOk, OnErr, MatchResult};
-ghost use Rattle.std.specs.Vec.{vec_capacity};
 ghost use Rattle.positions.specs.Exact.{heaps_of};
 ghost use Rattle.positions.specs.Positions.{IsSize};
 
 use crate::left::Left;
-use allocation::Memory;
-use std::alloc::{Allocator, Global};
+use allocation::{Memory, Room};
+use smallvec::SmallVec;
+use std::alloc::Global;
 use std::hash::{Hash, Hasher};
 use std::marker::Model;
 
@@ -16,13 +16,16 @@ pub const LARGEST: u64 = 1_000_000_000_000_000_000;
 /// The most sizes in the text of a position. A position itself may have more heaps.
 pub const MOST: usize = 64;
 
+/// How many heaps lie in the position itself. More of them lie in an allocation.
+const INLINE: usize = 8;
+
 /// A position: any number of heaps, each of 1 to 10^18, seen as the list of their sizes, rising.
 #[derive(Drop)]
-pub struct Position<A: Allocator = Global> {
-    heaps: Vec<u64, A>,
+pub struct Position<A: Room = Global> {
+    heaps: SmallVec<u64, INLINE, A>,
 }
 
-impl<A: Allocator> Model for Position<A> {
+impl<A: Room> Model for Position<A> {
     ghost use Rattle.std.specs.List.Sorted.{IsNonDecreasing};
     ghost use Rattle.std.specs.Prelude.{ℕ, List, All};
     ghost use Rattle.positions.specs.Positions.{IsSize};
@@ -34,7 +37,7 @@ impl<A: Allocator> Model for Position<A> {
     ghost invariant = { λ p. IsNonDecreasing p.heaps.items × All IsSize p.heaps.items };
 }
 
-impl<A: Allocator> Position<A> {
+impl<A: Room> Position<A> {
     /// The sizes of the heaps, rising.
     pub fn heaps(&self) -> &[u64]
         ensures value { result.now ≡ self.now }
@@ -45,13 +48,13 @@ impl<A: Allocator> Position<A> {
     }
 }
 
-impl<A: Allocator + Copy> Position<A> {
+impl<A: Room + Copy> Position<A> {
     /// The position without heaps. It takes no memory.
     pub fn new(alloc: A) -> Position<A>
         ensures { result ≡ [] }
     {
         Position {
-            heaps: Vec::new(alloc),
+            heaps: SmallVec::new(alloc),
         }
     }
 
@@ -93,7 +96,7 @@ impl<A: Allocator + Copy> Position<A> {
         ensures same { IfOk result (λ copy. copy ≡ self.now) }
         ensures rising { IsNonDecreasing self.now }
     {
-        let heaps = Vec::from_slice(alloc, self.heaps.as_slice())?;
+        let heaps = SmallVec::from_slice(alloc, self.heaps.as_slice())?;
         Ok(Position { heaps })
     }
 
@@ -101,7 +104,7 @@ impl<A: Allocator + Copy> Position<A> {
     pub fn add(&self, other: &Position<A>) -> Result<Position<A>, Memory>
         ensures { IfOk result (λ sum. IsPermutation (self.now ++ other.now) sum) }
     {
-        let mut heaps = Vec::from_slice(self.allocator(), self.heaps())?;
+        let mut heaps = SmallVec::from_slice(self.allocator(), self.heaps())?;
         heaps.extend_from_slice(other.heaps())?;
         sort(&mut heaps);
         Ok(Position { heaps })
@@ -112,13 +115,13 @@ impl<A: Allocator + Copy> Position<A> {
         requires { All IsSize sizes.now }
         ensures { IfOk result (IsPermutation sizes.now) }
     {
-        let mut heaps = Vec::from_slice(alloc, sizes)?;
+        let mut heaps = SmallVec::from_slice(alloc, sizes)?;
         sort(&mut heaps);
         Ok(Position { heaps })
     }
 }
 
-impl<A: Allocator> PartialEq for Position<A> {
+impl<A: Room> PartialEq for Position<A> {
     ghost use Rattle.std.specs.Cmp.Lexicographic.{nat_list_eq_equiv, pointwise};
     ghost use Rattle.std.specs.Cmp.{partial_equiv_from_equiv};
     ghost use Rattle.std.specs.Prelude.{nat_eq};
@@ -132,13 +135,13 @@ impl<A: Allocator> PartialEq for Position<A> {
     }
 }
 
-impl<A: Allocator> Eq for Position<A> {
+impl<A: Room> Eq for Position<A> {
     ghost use Rattle.std.specs.Cmp.Lexicographic.{nat_list_eq_equiv};
 
     ghost laws = { nat_list_eq_equiv };
 }
 
-impl<A: Allocator> Hash for Position<A> {
+impl<A: Room> Hash for Position<A> {
     ghost use Rattle.positions.specs.Hashes.{same_hashes};
     ghost use Rattle.std.specs.Hash as fed;
 
@@ -151,7 +154,7 @@ impl<A: Allocator> Hash for Position<A> {
     }
 }
 
-fn sort<A: Allocator>(heaps: &mut Vec<u64, A>)
+fn sort<A: Room + Copy>(heaps: &mut SmallVec<u64, INLINE, A>)
     ensures same { IsPermutation heaps.old.items heaps.new.items }
     ensures rising { IsNonDecreasing heaps.new.items }
 {
@@ -159,18 +162,18 @@ fn sort<A: Allocator>(heaps: &mut Vec<u64, A>)
 }
 
 /// Makes these the heaps `from`, for which there is room.
-fn set_same<A: Allocator>(heaps: &mut Vec<u64, A>, from: &[u64])
-    requires { length from.now ≤ vec_capacity heaps.old }
+fn set_same<A: Room + Copy>(heaps: &mut SmallVec<u64, INLINE, A>, from: &[u64])
+    requires { length from.now ≤ heaps.old.capacity }
     ensures items { heaps.new.items ≡ from.now }
-    ensures capacity { vec_capacity heaps.old ≤ vec_capacity heaps.new }
+    ensures capacity { heaps.old.capacity ≤ heaps.new.capacity }
 {
     heaps.clear();
     let _ = heaps.extend_from_slice(from);
 }
 
 /// Adds what a move left of a heap, for which there is room.
-fn add_left<A: Allocator>(heaps: &mut Vec<u64, A>, left: Left)
-    requires room { length heaps.old.items + 2 ≤ vec_capacity heaps.old }
+fn add_left<A: Room + Copy>(heaps: &mut SmallVec<u64, INLINE, A>, left: Left)
+    requires room { length heaps.old.items + 2 ≤ heaps.old.capacity }
     requires rising { IsNonDecreasing heaps.old.items }
     ensures same { IsPermutation (heaps_of left ++ heaps.old.items) heaps.new.items }
     ensures rising { IsNonDecreasing heaps.new.items }
@@ -186,13 +189,13 @@ fn add_left<A: Allocator>(heaps: &mut Vec<u64, A>, left: Left)
 }
 
 /// Adds a heap, for which there is room.
-fn add_heap<A: Allocator>(heaps: &mut Vec<u64, A>, heap: u64)
-    requires room { length heaps.old.items < vec_capacity heaps.old }
+fn add_heap<A: Room + Copy>(heaps: &mut SmallVec<u64, INLINE, A>, heap: u64)
+    requires room { length heaps.old.items < heaps.old.capacity }
     requires rising { IsNonDecreasing heaps.old.items }
     ensures same { IsPermutation (heap ∷ heaps.old.items) heaps.new.items }
     ensures rising { IsNonDecreasing heaps.new.items }
     ensures len { length heaps.new.items ≡ length heaps.old.items + 1 }
-    ensures capacity { vec_capacity heaps.old ≤ vec_capacity heaps.new }
+    ensures capacity { heaps.old.capacity ≤ heaps.new.capacity }
 {
     let at = place_for(heaps.as_slice(), heap);
     let _ = heaps.insert(at, heap);

@@ -4,9 +4,9 @@ ghost use Rattle.positions.specs.Text.{HasTooLarge, HasTooMany, IsNoPositionText
 use crate::fault::PositionFault;
 use crate::position::{LARGEST, MOST, Position};
 use crate::survey::survey_of;
-use std::alloc::Allocator;
+use allocation::Room;
 
-impl<A: Allocator + Copy> Position<A> {
+impl<A: Room + Copy> Position<A> {
     /// Reads a position: `0` alone for the one without heaps, or at most 64 sizes in any order, joined by single spaces, each from 1 to 10^18,
     /// decimal and without leading zeros. It takes no memory before it knows that the text is one of a position.
     pub fn read(alloc: A, text: &[u8]) -> Result<Position<A>, PositionFault>

@@ -1,8 +1,7 @@
 use crate::{Left, Move, MoveFault, Position, PositionFault, apply, options};
-use allocation::Memory;
+use allocation::{Memory, Room};
 use octal_code::Code;
 use ration::Ration;
-use std::alloc::Allocator;
 use std::test::Fail;
 
 #[test]
@@ -91,10 +90,12 @@ fn makes_moves(rt: HostRuntime) -> Result<(), Fail> {
     Ok(())
 }
 
-fn doubled<A: Allocator + Copy>(alloc: A) -> Result<Position<A>, Memory> {
+// Twelve heaps: more than a position holds without memory.
+fn doubled<A: Room + Copy>(alloc: A) -> Result<Position<A>, Memory> {
     let mut position = Position::new(alloc);
-    position.push(4)?;
-    position.push(3)?;
+    for heap in 3..9u64 {
+        position.push(heap)?;
+    }
     position.add(&position)
 }
 
@@ -103,7 +104,13 @@ fn adds_or_says_memory(rt: HostRuntime) -> Result<(), Fail> {
     for n in 1..99u64 {
         let ration = Ration::new(rt.alloc(), n);
         match doubled(&ration) {
-            Ok(sum) => assert_eq!(rt; sum.heaps(), [3u64, 3, 4, 4].as_slice()),
+            Ok(sum) => {
+                assert_eq!(rt;
+                    sum.heaps(),
+                    [3u64, 3, 4, 4, 5, 5, 6, 6, 7, 7, 8, 8].as_slice()
+                );
+                assert!(rt; n > 1);
+            }
             Err(memory) => assert!(rt; ration.has_refused() && memory.number() == 9),
         }
         if !ration.has_refused() {
@@ -113,9 +120,11 @@ fn adds_or_says_memory(rt: HostRuntime) -> Result<(), Fail> {
     Err(Fail::new("growths go on"))
 }
 
-fn moved<A: Allocator + Copy>(alloc: A, code: &Code) -> Result<Position<A>, MoveFault> {
+fn moved<A: Room + Copy>(alloc: A, code: &Code) -> Result<Position<A>, MoveFault> {
     let mut position = Position::new(alloc);
-    position.push(1)?;
+    for _ in 0..8u64 {
+        position.push(1)?;
+    }
     position.push(5)?;
     let step = Move {
         heap: 5,
@@ -130,7 +139,10 @@ fn moves_or_says_memory(rt: HostRuntime) -> Result<(), Fail> {
     for n in 1..99u64 {
         let ration = Ration::new(rt.alloc(), n);
         match moved(&ration, &code) {
-            Ok(next) => assert_eq!(rt; next.heaps(), [1u64, 1, 3].as_slice()),
+            Ok(next) => {
+                assert_eq!(rt; next.heaps(), [1u64, 1, 1, 1, 1, 1, 1, 1, 1, 3].as_slice());
+                assert!(rt; n > 1);
+            }
             Err(fault) => assert!(rt; ration.has_refused() && fault.number() == 9),
         }
         if !ration.has_refused() {
@@ -144,9 +156,9 @@ fn moves_or_says_memory(rt: HostRuntime) -> Result<(), Fail> {
 fn reads_and_writes_or_says_memory(rt: HostRuntime) -> Result<(), Fail> {
     for n in 1..99u64 {
         let ration = Ration::new(rt.alloc(), n);
-        match Position::read(&ration, b"30 4 200") {
+        match Position::read(&ration, b"30 4 200 1 2 3 5 6 7") {
             Ok(position) => match position.text() {
-                Ok(text) => assert_eq!(rt; text.as_str(), "4 30 200"),
+                Ok(text) => assert_eq!(rt; text.as_str(), "1 2 3 4 5 6 7 30 200"),
                 Err(memory) => assert!(rt; ration.has_refused() && memory.number() == 9),
             },
             Err(fault) => assert!(rt; ration.has_refused() && fault.number() == 9),

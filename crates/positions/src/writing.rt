@@ -2,12 +2,12 @@ ghost use Rattle.std.specs.Prelude.{◌≡◌, ◌++◌, IfOk, OnOk, decimal, st
 ghost use Rattle.positions.specs.Text.{position_text, IsPositionText};
 
 use crate::position::Position;
-use allocation::Memory;
+use allocation::{Memory, Room};
 use itoa::Buffer;
 use std::alloc::Allocator;
 use std::string::String;
 
-impl<A: Allocator + Copy> Position<A> {
+impl<A: Room + Copy> Position<A> {
     /// The text of the position: its sizes, rising, joined by single spaces, or `0` where it has no heap.
     pub fn text(&self) -> Result<String<A>, Memory>
         ensures bytes { IfOk result (λ text. string_bytes text ≡ position_text self.now) }

@@ -4,19 +4,18 @@ ghost use Rattle.std.specs.String.{string_bytes};
 ghost use Rattle.checker.specs.Answers.Answer.{Outcome as Refuted};
 ghost use Rattle.verdicts.specs.Lines.{yes_line, no_line, IsOutcomeLine, IsTextOf, lent_answer};
 
-use allocation::Memory;
+use allocation::{Memory, Room};
 use certificate::Cert;
 use checker::{Certified, Refusal};
 use octal_code::Code;
 use outcome_search::{Outcome, SearchFault, outcome};
 use positions::Position;
-use std::alloc::Allocator;
 
 /// The most positions through which the outcome of a refused position is searched.
 const BUDGET: u32 = 65536;
 
 /// The line of a yes.
-fn yes_text<A: Allocator + Copy>(alloc: A, cert: &Cert<A>) -> Result<String<A>, Memory>
+fn yes_text<A: Room + Copy>(alloc: A, cert: &Cert<A>) -> Result<String<A>, Memory>
     ensures { IfOk result (λ t. string_bytes t ≡ yes_line cert.now.code cert.now.order cert.now.start cert.now.period) }
 {
     let code = cert.code().text(alloc)?;
@@ -26,7 +25,7 @@ fn yes_text<A: Allocator + Copy>(alloc: A, cert: &Cert<A>) -> Result<String<A>, 
 }
 
 /// The line of a no.
-fn no_text<A: Allocator + Copy>(alloc: A, number: u8, name: &str) -> Result<String<A>, Memory>
+fn no_text<A: Room + Copy>(alloc: A, number: u8, name: &str) -> Result<String<A>, Memory>
     ensures { IfOk result (λ t. string_bytes t ≡ no_line number name.now) }
 {
     let text = format!(in alloc; "no {number} {name}\n")?;
@@ -34,7 +33,7 @@ fn no_text<A: Allocator + Copy>(alloc: A, number: u8, name: &str) -> Result<Stri
 }
 
 /// The line of the outcome of the position.
-fn outcome_line<A: Allocator + Copy>(
+fn outcome_line<A: Room + Copy>(
     alloc: A,
     code: &Code,
     position: &Position<A>,
@@ -50,7 +49,7 @@ fn outcome_line<A: Allocator + Copy>(
 }
 
 /// Three lines: the first, the place, and the last.
-fn three_lines<A: Allocator + Copy>(
+fn three_lines<A: Room + Copy>(
     alloc: A,
     first: &str,
     place: &str,
@@ -63,7 +62,7 @@ fn three_lines<A: Allocator + Copy>(
 }
 
 /// The lines of a refusal by a position.
-fn outcome_text<A: Allocator + Copy>(
+fn outcome_text<A: Room + Copy>(
     alloc: A,
     code: &Code,
     position: &Position<A>,
@@ -78,7 +77,7 @@ fn outcome_text<A: Allocator + Copy>(
 
 /// The text of a verdict: one line, and two more where a position refutes the certificate. Want of memory has no text, and is
 /// handed on.
-pub fn verdict_text<A: Allocator + Copy>(
+pub fn verdict_text<A: Room + Copy>(
     alloc: A,
     verdict: Result<&Certified<A>, &Refusal<A>>,
 ) -> Result<String<A>, Memory>

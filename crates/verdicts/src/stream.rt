@@ -6,9 +6,8 @@ ghost use Rattle.verdicts.specs.Lines.{is_yes};
 ghost use Rattle.verdicts.specs.Streams.{Answers, ReadsEnough, Writes, WritesSome, WritesOfStream, WritesSomeOfStream};
 
 use crate::lines::verdict_text;
-use allocation::Memory;
+use allocation::{Memory, Room};
 use checker::check;
-use std::alloc::Allocator;
 use streams::{Sink, Source, StreamFault, read_whole, write_whole};
 
 /// The greatest length of a stream that is checked.
@@ -18,11 +17,7 @@ pub const MOST_BYTES: usize = 4194304;
 const NO_TEXT: &[u8] = b"no 1 Text\n";
 
 /// Checks the bytes: whether the answer is yes, and its text.
-fn answered<A: Allocator + Copy>(
-    alloc: A,
-    bytes: &[u8],
-    limit: u32,
-) -> Result<(bool, String<A>), Memory>
+fn answered<A: Room + Copy>(alloc: A, bytes: &[u8], limit: u32) -> Result<(bool, String<A>), Memory>
     ensures { IfOk result (λ r. (a : Answers bytes.now limit) × (string_bytes r.1 ≡ a.text) × (r.0 ≡ is_yes a.answer)) }
 {
     let verdict = check(alloc, bytes, limit);
@@ -45,7 +40,7 @@ fn write_text<W: Sink>(sink: &mut W, text: &[u8]) -> Result<(), StreamFault>
 /// Checks the bytes, writes the text of the verdict, and answers whether it is yes.
 ///
 /// After want of memory nothing was written, after a failure of the sink a beginning of the text was.
-pub fn check_bytes<W: Sink, A: Allocator + Copy>(
+pub fn check_bytes<W: Sink, A: Room + Copy>(
     alloc: A,
     bytes: &[u8],
     sink: &mut W,
@@ -67,7 +62,7 @@ pub fn check_bytes<W: Sink, A: Allocator + Copy>(
 /// Of a source with more than [`MOST_BYTES`] bytes one more is read, and it is no certificate. Nothing is written before the
 /// end was reached: not after a failure of the source or want of memory. After a failure of the sink a beginning of the text
 /// was written.
-pub fn check_stream<R: Source, W: Sink, A: Allocator + Copy>(
+pub fn check_stream<R: Source, W: Sink, A: Room + Copy>(
     alloc: A,
     source: &mut R,
     sink: &mut W,

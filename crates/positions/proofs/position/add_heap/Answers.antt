@@ -14,7 +14,7 @@ returns-clause-rising g c =
     let items : c.insert.new.self.items ≡ insert c.args.heaps.now.items c.place_for-at.result c.args.heap = search rules in
     rw items (
     placed c.args.heaps.now.items c.place_for-at.result c.args.heap c.requires.rising
-    (rw (← c.as_slice.ensures.value) c.place_for-at.ensures.within)
-    (rw (← c.as_slice.ensures.value) c.place_for-at.ensures.before)
-    (rw (← c.as_slice.ensures.value) c.place_for-at.ensures.after)
+    (rw (← c.as_slice.ensures) c.place_for-at.ensures.within)
+    (rw (← c.as_slice.ensures) c.place_for-at.ensures.before)
+    (rw (← c.as_slice.ensures) c.place_for-at.ensures.after)
     )

@@ -7,7 +7,7 @@ pub returns-clause-state : goal.returns-clause-state
 returns-clause-state g c =
     let s : JobState = record { grid = record { order = c.self.inside.order; entries = c.self.inside.rows.items }; spent = c.self.inside.spent; refused = c.self.inside.refused } in
     let over : is_over s ≡ false = ap is_over c.self.view_is ∙ c.requires.going in
-    ran c.run_from-run.result.units s c.run_from-run.result.broken over c.run_from-run.ensures.within.0 c.run_from-run.ensures.within.2
-    (λ i low high. ap (λ rows. triple_holds c.self.inside.order rows i) (sym c.deref.ensures.value) ∙ c.run_from-run.ensures.passed i low high)
-    (ap (λ rows. triple_holds c.self.inside.order rows (c.self.inside.spent + c.run_from-run.result.units - 1)) (sym c.deref.ensures.value) ∙ c.run_from-run.ensures.last)
-    ∙ ap (turns c.run_from-run.result.units) c.self.view_is
+    ran c.next_run-run.result.units s c.next_run-run.result.broken over c.next_run-run.ensures.within.0 c.next_run-run.ensures.within.2
+    (λ i low high. ap (λ rows. triple_holds c.self.inside.order rows i) (sym c.deref-2.ensures.value) ∙ c.next_run-run.ensures.passed i low high)
+    (ap (λ rows. triple_holds c.self.inside.order rows (c.self.inside.spent + c.next_run-run.result.units - 1)) (sym c.deref-2.ensures.value) ∙ c.next_run-run.ensures.last)
+    ∙ ap (turns c.next_run-run.result.units) c.self.view_is
