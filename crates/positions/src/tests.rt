@@ -169,3 +169,49 @@ fn reads_and_writes_or_says_memory(rt: HostRuntime) -> Result<(), Fail> {
     }
     Err(Fail::new("growths go on"))
 }
+
+/// Positions of 9, 18, 36 heaps and so on, each made and written: past what lies in a position itself, past the 64 sizes
+/// of a text that is read, past 2^16 bytes and past 2^16 heaps.
+#[test]
+fn memory_suffices_for_many_heaps(rt: HostRuntime) -> Result<(), Fail> {
+    let code = Code::read(b"0.3")?;
+    let step = Move {
+        heap: 7,
+        left: Left::One(6),
+    };
+    let mut position = Position::read(rt.alloc(), b"7 7 7 7 7 7 7 7 7")?;
+    let mut count = 9usize;
+    for _ in 0..14usize {
+        assert_eq!(rt; position.heaps().len(), count);
+        let written = position.text()?;
+        assert_eq!(rt; written.as_bytes().len().saturating_add(1), count.saturating_mul(2));
+        let mut more = position.copied(rt.alloc())?;
+        more.push(8)?;
+        assert_eq!(rt; more.heaps().len(), count.saturating_add(1));
+        let next = apply(rt.alloc(), &code, &position, step)?;
+        assert_eq!(rt; next.heaps().len(), count);
+        assert_eq!(rt; next.heaps().first(), Some(&6));
+        position = position.add(&position)?;
+        count = count.saturating_mul(2);
+    }
+    Ok(())
+}
+
+/// Up to eight heaps take no memory.
+#[test]
+fn few_heaps_take_no_memory(rt: HostRuntime) -> Result<(), Fail> {
+    let code = Code::read(b"0.75")?;
+    let ration = Ration::new(rt.alloc(), 1);
+    let four = Position::read(&ration, b"1 2 3 5")?;
+    let mut eight = four.add(&four)?.copied(&ration)?;
+    let step = Move {
+        heap: 5,
+        left: Left::Two(1, 3),
+    };
+    let five = apply(&ration, &code, &four, step)?;
+    assert_eq!(rt; five.heaps(), [1u64, 1, 2, 3, 3].as_slice());
+    assert!(rt; !ration.has_refused());
+    assert!(rt; eight.push(4).is_err() && ration.has_refused());
+    assert_eq!(rt; eight.heaps(), [1u64, 1, 2, 2, 3, 3, 5, 5].as_slice());
+    Ok(())
+}
