@@ -1,6 +1,7 @@
 //! A certificate under each refused growth, the units of a job, and positions at which the rule fails.
 use crate::{Job, Progress, check};
 use ration::Ration;
+use std::alloc::{AllocError, Global};
 use std::test::Fail;
 
 /// The quotient of 0.33.
@@ -56,6 +57,105 @@ fn hands_out_a_position(rt: HostRuntime) -> Result<(), Fail> {
             assert_eq!(rt; refusal.name(), "Outcome");
             assert!(rt; refusal.failed().is_some());
         }
+    }
+    Ok(())
+}
+
+/// Whether an element of the cyclic group of order 256 is in the portion: the odd ones but 255, or the odd ones and 254.
+fn is_in(but_the_last: bool, x: u8) -> bool {
+    if but_the_last {
+        x % 2 == 1 && x != 255
+    } else {
+        x % 2 == 1 || x == 254
+    }
+}
+
+/// The least element with exactly one of its products with x and with y in the portion.
+fn separating(but_the_last: bool, x: u8, y: u8) -> u8 {
+    for z in 0..256u16 {
+        let z = z as u8;
+        if is_in(but_the_last, x.wrapping_add(z)) != is_in(but_the_last, y.wrapping_add(z)) {
+            return z;
+        }
+    }
+    0
+}
+
+/// A word of a line, behind a space.
+fn put(alloc: Global, text: &mut Vec<u8>, number: u8) -> Result<(), AllocError> {
+    text.extend_from_slice(format!(in alloc; " {number}")?.as_bytes())
+}
+
+/// The lines of the words, the rows and the separating elements.
+fn put_table(alloc: Global, text: &mut Vec<u8>, but_the_last: bool) -> Result<(), AllocError> {
+    text.extend_from_slice(b"\nwords")?;
+    for x in 0..255u8 {
+        put(alloc, text, x)?;
+        text.extend_from_slice(b":1")?;
+    }
+    for x in 0..256u16 {
+        text.extend_from_slice(b"\nrow")?;
+        for y in 0..256u16 {
+            put(alloc, text, (x as u8).wrapping_add(y as u8))?;
+        }
+    }
+    text.extend_from_slice(b"\napart")?;
+    for x in 0..256u16 {
+        for y in x + 1..256 {
+            put(alloc, text, separating(but_the_last, x as u8, y as u8))?;
+        }
+    }
+    text.extend_from_slice(b"\nend\n")
+}
+
+/// A certificate for 0.3 over the cyclic group of order 256, in which a heap of odd size is 1 and one of even size 0. The rule
+/// fails first at positions of many heaps.
+fn cyclic(alloc: Global, but_the_last: bool) -> Result<Vec<u8>, AllocError> {
+    let mut text = Vec::new(alloc);
+    text.extend_from_slice(b"mqc 1\ncode 0.3\norder 256\nstart 1\nperiod 2\nphi 1 0\nportion")?;
+    for x in 0..256u16 {
+        if is_in(but_the_last, x as u8) {
+            put(alloc, &mut text, x as u8)?;
+        }
+    }
+    put_table(alloc, &mut text, but_the_last)?;
+    Ok(text)
+}
+
+/// More than 2^16 bytes, the largest order, more than 256 members, and words of more than 64 heaps: those of a member where the
+/// rule fails outside the portion, and those of an element's keys where it fails inside.
+#[test]
+fn memory_suffices_for_the_largest_order(rt: HostRuntime) -> Result<(), Fail> {
+    for but_the_last in [true, false] {
+        let text = cyclic(rt.alloc(), but_the_last)?;
+        assert!(rt; text.len() > 65536);
+        match check(rt.alloc(), &text, 100000) {
+            Ok(_) => assert!(rt; false),
+            Err(refusal) => {
+                assert_eq!(rt; refusal.number(), 7, "{but_the_last}");
+                let heaps = match refusal.failed() {
+                    Some((_, position)) => position.heaps().len(),
+                    None => 0,
+                };
+                assert!(rt; heaps > 64, "{heaps}");
+            }
+        }
+    }
+    Ok(())
+}
+
+/// The longest pretending function, and so the most heaps, of the code with the most digits.
+#[test]
+fn memory_suffices_for_the_most_heaps(rt: HostRuntime) -> Result<(), Fail> {
+    let mut text = Vec::new(rt.alloc());
+    text.extend_from_slice(b"mqc 1\ncode 0.3000000000000003\norder 2\nstart 1\nperiod 1024\nphi")?;
+    for n in 1..1024u16 {
+        put(rt.alloc(), &mut text, (n % 2) as u8)?;
+    }
+    text.extend_from_slice(b" 1\nportion 1\nwords 0:1\nrow 0 1\nrow 1 0\napart 0\nend\n")?;
+    match check(rt.alloc(), &text, 100000) {
+        Ok(_) => assert!(rt; false),
+        Err(refusal) => assert_eq!(rt; refusal.number(), 7),
     }
     Ok(())
 }
