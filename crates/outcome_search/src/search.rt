@@ -12,10 +12,7 @@ use octal_code::Code;
 use positions::Position;
 
 /// What waits at the start: the position alone.
-fn begun<A: Room + Copy>(
-    alloc: A,
-    position: &Position<A>,
-) -> Result<Vec<Position<A>, A>, Memory>
+fn begun<A: Room + Copy>(alloc: A, position: &Position<A>) -> Result<Vec<Position<A>, A>, Memory>
     ensures alone { IfOk result (λ w. w.items ≡ position.now ∷ []) }
     ensures rising { IsNonDecreasing position.now }
 {

@@ -97,7 +97,10 @@ fn remembers_no_more_than_the_budget(rt: HostRuntime) -> Result<(), Fail> {
         (1000, Err(SearchFault::Budget)),
         (1001, Ok(Outcome::N)),
     ] {
-        assert!(rt; outcome(rt.alloc(), &code, &long, budget) == wanted, "{budget}");
+        assert!(rt;
+            outcome(rt.alloc(), &code, &long, budget) == wanted,
+            "{budget}"
+        );
     }
     Ok(())
 }

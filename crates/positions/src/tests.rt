@@ -184,7 +184,10 @@ fn memory_suffices_for_many_heaps(rt: HostRuntime) -> Result<(), Fail> {
     for _ in 0..14usize {
         assert_eq!(rt; position.heaps().len(), count);
         let written = position.text()?;
-        assert_eq!(rt; written.as_bytes().len().saturating_add(1), count.saturating_mul(2));
+        assert_eq!(rt;
+            written.as_bytes().len().saturating_add(1),
+            count.saturating_mul(2)
+        );
         let mut more = position.copied(rt.alloc())?;
         more.push(8)?;
         assert_eq!(rt; more.heaps().len(), count.saturating_add(1));
