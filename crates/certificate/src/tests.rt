@@ -2,6 +2,7 @@ ghost use Rattle.std.specs.Prelude.{Some};
 
 use crate::{Cert, Sink, TextFault, WriteFault, read, write};
 use ration::Ration;
+use std::alloc::AllocError;
 use std::test::Fail;
 use streams::{DeviceFault, Failures, MemorySink};
 
@@ -186,4 +187,37 @@ fn refused_memory(rt: HostRuntime) {
         assert_eq!(rt; got, Err(TextFault::Memory), "at {n}");
     }
     assert!(rt; false, "it never read to the end");
+}
+
+/// Writes the word so many times, each behind a space.
+fn repeat(text: &mut Vec<u8>, word: &[u8], count: usize) -> Result<(), AllocError> {
+    for _ in 0..count {
+        text.push(b' ')?;
+        text.extend_from_slice(word)?;
+    }
+    Ok(())
+}
+
+/// The most entries, the largest order, and more than 2^16 bytes.
+#[test]
+fn memory_suffices_for_the_largest_text(rt: HostRuntime) -> Result<(), Fail> {
+    let mut text = Vec::new(rt.alloc());
+    text.extend_from_slice(b"mqc 1\ncode 0.3\norder 256\nstart 1\nperiod 1024\nphi")?;
+    repeat(&mut text, b"255", 1024)?;
+    text.extend_from_slice(b"\nportion 255\nwords")?;
+    repeat(&mut text, b"255:1024", 255)?;
+    for _ in 0..256usize {
+        text.extend_from_slice(b"\nrow")?;
+        repeat(&mut text, b"255", 256)?;
+    }
+    text.extend_from_slice(b"\napart")?;
+    repeat(&mut text, b"255", 32640)?;
+    text.extend_from_slice(b"\nend\n")?;
+    let cert = read(rt.alloc(), &text)?;
+    assert_eq!(rt; (cert.order(), cert.words().len()), (256, 255));
+    assert_eq!(rt; (cert.rows().len(), cert.apart().len()), (65536, 32640));
+    let mut sink = MemorySink::new(rt.alloc());
+    write(&cert, &mut sink)?;
+    assert!(rt; sink.bytes() == text.as_slice());
+    Ok(())
 }

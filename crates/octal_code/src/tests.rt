@@ -46,3 +46,13 @@ fn writes_or_says_memory(rt: HostRuntime) -> Result<(), Fail> {
     }
     Err(Fail::new("growths go on"))
 }
+
+#[test]
+fn writes_each_length(rt: HostRuntime) -> Result<(), Fail> {
+    let longest = b"0.1111111111111111";
+    for n in 3..19usize {
+        let code = Code::read(&longest[..n])?;
+        assert_eq!(rt; code.text(rt.alloc())?.as_bytes(), &longest[..n]);
+    }
+    Ok(())
+}

@@ -1,17 +1,17 @@
 -- The search: what is known is right, what is waiting waits for lighter positions, and all can be reached.
-use Rattle.std.proofs.Common.{◌≡◌, ◌≢◌, ℕ, suc, ◌+◌, ◌*◌, ◌-◌, ◌<◌, ◌≤◌, Bool, true, false, cond, List, [], ◌∷◌, ◌++◌, length, get_or, Some, None, refl, sym, ap, ◌∙◌, subst, arith, All, remove, take, drop, ⊎_elim}
+use Rattle.std.proofs.Common.{◌≡◌, ◌≢◌, ℕ, suc, ◌+◌, ◌*◌, ◌-◌, ◌<◌, ◌≤◌, Bool, true, false, cond, List, [], ◌∷◌, ◌++◌, length, get_or, Some, None, refl, sym, ap, ◌∙◌, subst, arith, All, remove, take, drop, ⊎_elim, inl, inr}
 use Rattle.std.proofs.lemmas.Bool.{cases_lt}
 use Rattle.std.proofs.lemmas.List.{get_or_default, length-append}
 use Rattle.std.proofs.Math.ListN.{get_or-append}
 use Rattle.std.proofs.lemmas.List.Edits.{length-remove, get_or-remove_below}
-use Rattle.std.proofs.lemmas.List.Elements.{All-cons, All-nil, All-push, All-append, All-take, All-drop, All-map}
+use Rattle.std.proofs.lemmas.List.Elements.{All-cons, All-nil, All-push, All-append, All-take, All-drop, All-map, Contains-append_cases, Contains-append_right}
 use Rattle.std.proofs.lemmas.Bool.Decides.{Decides-eqb}
 use Rattle.std.proofs.lemmas.Slice.Eq.{slice_eq-Decides}
 use Rattle.std.proofs.lemmas.List.Kept.{AllPairs-cons}
 use Rattle.std.proofs.lemmas.Map.Entries.{length-keys_of}
 use Rattle.std.proofs.lemmas.Map.Made.{AllPairs-from_IsDistinct}
 use Rattle.std.proofs.lemmas.List.Quantifiers.{all_pairs_push, all_pairs_remove}
-use Rattle.positions.proofs.Listed.{AllPairs-one, AllPairs-append}
+use Rattle.positions.proofs.Listed.{AllPairs-one, AllPairs-append, nothing_in, only_in, itself_in}
 use Rattle.std.specs.List.{AllPairs, Contains, IsDistinct}
 use Rattle.std.specs.List.Sorted.{IsNonDecreasing, IsPermutation}
 use Rattle.std.specs.Cmp.Lexicographic.{pointwise, nat_list_eq_equiv}
@@ -28,7 +28,8 @@ use Rattle.misere_theory.proofs.Reachables.{reached_on}
 use Rattle.outcome_search.specs.Outcomes.{HasOutcome}
 use Rattle.outcome_search.specs.Known.{known, IsUnknown}
 use Rattle.outcome_search.specs.declared.answer.Outcome.{Outcome}
-use Rattle.outcome_search.proofs.Seen.{same_position}
+use Rattle.outcome_search.specs.Settled.{Follows, IsSettledBy}
+use Rattle.outcome_search.proofs.Seen.{same_position, follows_right, follows_on}
 use Rattle.outcome_search.proofs.Sorted.{rising_same}
 
 measure_shuffled : {X Y : List ℕ} → Shuffled X Y → measure X ≡ measure Y
@@ -59,6 +60,7 @@ pub record IsSearch (code X : List ℕ) (budget : ℕ) (memo : List (List ℕ ×
   pub first : get_or waiting 0 [] ≡ X
   pub some : 1 ≤ length waiting
   pub within : length memo + length waiting ≤ budget
+  pub follows : (Y : List ℕ) (p : Outcome) → Contains memo (Y, p) → Follows code memo Y p
 
 pub started : (code X : List ℕ) (budget : ℕ) → 1 ≤ budget → IsNonDecreasing X → IsSearch code X budget [] (X ∷ [])
 started code X budget l up = record {
@@ -70,6 +72,7 @@ started code X budget l up = record {
   first = refl;
   some = omega arith;
   within = omega arith;
+  follows = λ Y p c. absurd (nothing_in (Y, p) c);
 }
 
 -- the last of those that wait, which is looked at
@@ -165,6 +168,7 @@ module _ (code X : List ℕ) (budget : ℕ) (memo : List (List ℕ × Outcome)) 
     first = get_or-append waiting (Y ∷ []) [] 0 s.some ∙ s.first;
     some = let n = length-append waiting (Y ∷ []) in let m = s.some in omega arith;
     within = let n = length-append waiting (Y ∷ []) in omega arith;
+    follows = s.follows;
   }
 
   still_new : (o : Outcome) → All (λ Z. known (memo ++ (top, o) ∷ []) Z ≡ None) (remove waiting last)
@@ -176,9 +180,32 @@ module _ (code X : List ℕ) (budget : ℕ) (memo : List (List ℕ × Outcome)) 
       subst (λ Z. known (memo ++ (top, o) ∷ []) Z ≡ None) (sym (get_or-remove_below waiting last d k b (omega arith)))
       (known_more top o (get_or waiting k d) (λ same. let f = ap measure same in omega arith) memo (s.new k d (omega arith)))
 
-  pub closed : (o : Outcome) → 0 < last → HasOutcome code top o → IsSearch code X budget (memo ++ (top, o) ∷ []) (remove waiting last)
+  -- the first that waits is the last where it waits alone
+  pub alone : last ≡ 0 → top ≡ X
+  alone e = sym t.is ∙ ap (λ i. get_or waiting i top) e ∙ get_or_default waiting 0 top [] s.some ∙ s.first
+
+  all_follow : (o : Outcome) → Follows code memo top o → (Y : List ℕ) (p : Outcome) → Contains (memo ++ (top, o) ∷ []) (Y, p) → Follows code (memo ++ (top, o) ∷ []) Y p
+  all_follow o f Y p c = follows_on code memo ((top, o) ∷ []) Y p (elim (Contains-append_cases memo ((top, o) ∷ []) (Y, p) c) [
+    | inl i ↦ s.follows Y p i
+    | inr i ↦ subst (λ e. Follows code memo e.0 e.1) (only_in (top, o) (Y, p) i) f
+  ])
+
+  -- the last outcome of all is settled by those before
+  pub settled : (o : Outcome) → last ≡ 0 → Follows code memo top o → IsSettledBy code X o budget
+  settled o e f = record {
+    list = memo ++ (top, o) ∷ [];
+    few = let n = length-append memo ((top, o) ∷ []) in let l = s.within in let m = s.some in omega arith;
+    here = subst (λ Y. Contains (memo ++ (top, o) ∷ []) (Y, o)) (alone e) (Contains-append_right memo ((top, o) ∷ []) (top, o) (itself_in (top, o)));
+    follows = all_follow o f;
+  }
+
+  pub last_outcome : (o : Outcome) → last ≡ 0 → Follows code memo top o → HasOutcome code X o
+  last_outcome o e f = subst (λ Y. HasOutcome code Y o) (alone e) (follows_right code memo top o s.right f)
+
+  pub closed : (o : Outcome) → 0 < last → Follows code memo top o → IsSearch code X budget (memo ++ (top, o) ∷ []) (remove waiting last)
   closed o l h = record {
-    right = All-push (λ e. HasOutcome code e.0 e.1) memo (top, o) s.right h;
+    right = All-push (λ e. HasOutcome code e.0 e.1) memo (top, o) s.right (follows_right code memo top o s.right h);
+    follows = all_follow o h;
     memo_reached = All-push (λ e. IsOnTheWay code X e.0) memo (top, o) s.memo_reached (at_top (IsOnTheWay code X) waiting last top t s.waiting_reached);
     waiting_reached = All-without (IsOnTheWay code X) waiting last s.waiting_reached;
     new = still_new o;
@@ -220,10 +247,6 @@ module _ (code X : List ℕ) (budget : ℕ) (memo : List (List ℕ × Outcome)) 
             (λ i k h. lighter_differ Y (get_or waiting i k) (lightest Y u i k h)))
             (AllPairs-append Differ (keys_of memo) waiting (keys_differ d) waiting_differ key_differs),
       )
-
-  -- the first that waits is the last where it waits alone
-  pub alone : last ≡ 0 → top ≡ X
-  alone e = sym t.is ∙ ap (λ i. get_or waiting i top) e ∙ get_or_default waiting 0 top [] s.some ∙ s.first
 
 -- the position itself can be reached
 pub itself_reached : (code X : List ℕ) → MoreReachableThan code X 0

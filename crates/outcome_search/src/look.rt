@@ -1,6 +1,6 @@
-ghost use Rattle.std.specs.Prelude.{◌<◌, length, slice_index, All, IfOk, MatchOption};
+ghost use Rattle.std.specs.Prelude.{◌<◌, length, slice_index, IfOk, MatchOption};
 ghost use Rattle.outcome_search.specs.Known.{known, HasSeen, IsUnknown};
-ghost use Rattle.outcome_search.specs.Outcomes.{HasOutcome};
+ghost use Rattle.outcome_search.specs.Settled.{Follows};
 ghost use Rattle.positions.specs.Options.{options_of};
 
 use crate::answer::Outcome;
@@ -30,8 +30,7 @@ pub(crate) fn look<A: Room + Copy>(
     memo: &Memo<A>,
     next: &mut Position<A>,
 ) -> Result<Option<Outcome>, Memory>
-    requires { All (λ e. HasOutcome code.now e.0 e.1) memo.now }
-    ensures { IfOk result (λ seen. MatchOption seen (IsUnknown code.now position.now memo.now next.new) (HasOutcome code.now position.now)) }
+    ensures { IfOk result (λ seen. MatchOption seen (IsUnknown code.now position.now memo.now next.new) (Follows code.now memo.now position.now)) }
 {
     let heaps = position.heaps();
     let mut can_move = false;
@@ -57,8 +56,7 @@ fn look_at<A: Room + Copy>(
     memo: &Memo<A>,
     next: &mut Position<A>,
 ) -> Result<Seen, Memory>
-    requires there { at < length position.now }
-    requires right { All (λ e. HasOutcome code.now e.0 e.1) memo.now }
+    requires { at < length position.now }
     ensures { IfOk result (λ seen. HasSeen code.now position.now memo.now at (options_of code.now (slice_index position.now at)) seen next.new) }
 {
     let mut seen = Seen::Nothing;

@@ -49,31 +49,75 @@ fn plays_may_be_long(rt: HostRuntime) -> Result<(), Fail> {
     Ok(())
 }
 
+/// Nine heaps, so that each position that waits takes memory of its own.
 #[test]
 fn says_memory_on_a_large_position(rt: HostRuntime) -> Result<(), Fail> {
     let code = Code::read(b"0.75")?;
     let ration = Ration::new(rt.alloc(), 10000);
-    let large = Position::read(&ration, b"999999999999999999 1000000000000000000")?;
+    let mut large = Position::new(&ration);
+    for _ in 0..9u64 {
+        large.push(1_000_000_000_000_000_000)?;
+    }
     let answer = outcome(&ration, &code, &large, u32::MAX);
     assert!(rt; answer == Err(SearchFault::Memory) && ration.has_refused());
     Ok(())
 }
 
+/// A position within itself, and one of more heaps than fit there.
 #[test]
 fn answers_or_says_memory(rt: HostRuntime) -> Result<(), Fail> {
-    let code = Code::read(b"0.33")?;
-    for n in 1..99u64 {
-        let ration = Ration::new(rt.alloc(), n);
-        let asked = position(&ration, &[1, 2, 2]);
-        if let Ok(position) = asked {
-            match outcome(&ration, &code, &position, 65536) {
-                Ok(outcome) => assert!(rt; outcome == Outcome::N),
-                Err(fault) => assert!(rt; ration.has_refused() && fault.number() == 9),
+    for heaps in [[1u64, 2, 2].as_slice(), [1; 12].as_slice()] {
+        let mut is_whole = false;
+        for n in 1..99u64 {
+            let ration = Ration::new(rt.alloc(), n);
+            let asked = position(&ration, heaps);
+            if let Ok(position) = asked {
+                match outcome(&ration, &Code::read(b"0.33")?, &position, 65536) {
+                    Ok(outcome) => assert!(rt; outcome == Outcome::N),
+                    Err(fault) => assert!(rt; ration.has_refused() && fault.number() == 9),
+                }
+            }
+            is_whole = !ration.has_refused();
+            if is_whole {
+                break;
             }
         }
-        if !ration.has_refused() {
-            return Ok(());
-        }
+        assert!(rt; is_whole, "growths go on");
     }
-    Err(Fail::new("growths go on"))
+    Ok(())
+}
+
+/// In 0.3 the plays from a heap of 1000 reach 1001 positions, one after another, and each is needed.
+#[test]
+fn remembers_no_more_than_the_budget(rt: HostRuntime) -> Result<(), Fail> {
+    let code = Code::read(b"0.3")?;
+    let long = Position::read(rt.alloc(), b"1000")?;
+    for (budget, wanted) in [
+        (500, Err(SearchFault::Budget)),
+        (1000, Err(SearchFault::Budget)),
+        (1001, Ok(Outcome::N)),
+    ] {
+        assert!(rt;
+            outcome(rt.alloc(), &code, &long, budget) == wanted,
+            "{budget}"
+        );
+    }
+    Ok(())
+}
+
+/// In 0.3 each move takes 1, so a position is P where the sum of its heaps is odd.
+#[test]
+fn memory_suffices_for_many_heaps(rt: HostRuntime) -> Result<(), Fail> {
+    let code = Code::read(b"0.3")?;
+    let mut position = Position::new(rt.alloc());
+    let mut wanted = Outcome::N;
+    for _ in 0..70u64 {
+        assert!(rt; outcome(rt.alloc(), &code, &position, u32::MAX) == Ok(wanted));
+        position.push(1)?;
+        wanted = match wanted {
+            Outcome::P => Outcome::N,
+            Outcome::N => Outcome::P,
+        };
+    }
+    Ok(())
 }

@@ -20,6 +20,7 @@
 
 mod closure;
 mod covering;
+mod covering_all;
 mod fits;
 mod laws;
 mod members;
@@ -28,6 +29,7 @@ mod settle;
 mod tests;
 
 pub use closure::{Closure, Grown};
+pub use covering_all::done_closures_cover;
 pub use laws::{closures_end, closures_speak, units_add};
 pub use members::Member;
 pub use settle::{Generator, Held};

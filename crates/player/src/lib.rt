@@ -4,8 +4,12 @@
 mod answering;
 mod looking;
 mod play;
+#[cfg(test)]
+mod tests;
 mod values;
 mod wins;
 
 pub use answering::Answer;
+pub use outcome_search::Outcome;
 pub use play::{answer, looks, outcome, value};
+pub use positions::Options as Looks;

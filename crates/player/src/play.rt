@@ -1,9 +1,11 @@
 //! What a certified quotient says of positions.
-ghost use Rattle.std.specs.Prelude.{◌≡◌, ◌<◌, ◌≤◌, ◌+◌, ◌-◌, ◌*◌, ℕ, List, Contains, length};
+ghost use Rattle.std.specs.Prelude.{◌≡◌, ◌<◌, ◌≤◌, ◌+◌, ◌-◌, ◌*◌, ℕ, List, Contains, AllPairs, IsPermutation, length};
 ghost use Rattle.misere_theory.specs.Certificates.{claim_of};
+ghost use Rattle.misere_theory.specs.Games.{HeapOption};
+ghost use Rattle.misere_theory.specs.Plays.{LeftBefore};
 ghost use Rattle.misere_theory.specs.Quotients.{value};
 ghost use Rattle.outcome_search.specs.Outcomes.{HasOutcome};
-ghost use Rattle.positions.specs.Exact.{heaps_of};
+ghost use Rattle.positions.specs.Exact.{heaps_of, IsInOrder};
 ghost use Rattle.positions.specs.Options.{options_up_to};
 ghost use Rattle.positions.specs.declared.left.Left.{Left};
 ghost use Rattle.player.specs.Answers.{IsRightAnswer};
@@ -16,7 +18,7 @@ use allocation::Room;
 use certificate::in_ranges;
 use checker::Certified;
 use outcome_search::Outcome;
-use positions::{Options, Position};
+use positions::{Options, Position, options_are_exact};
 use std::alloc::Allocator;
 
 /// The element of the quotient that is the position's: the product of its heaps' elements.
@@ -54,13 +56,18 @@ pub fn answer<A: Allocator, B: Room>(certified: &Certified<A>, position: &Positi
 
 /// The options of the heap n that a player looks at, in their order: all but the splits whose smaller part is start +
 /// period or more. There are at most (k + 1)(start + period + 1) of them, for the last digit dk of the code, however
-/// large the heap is. Whatever stands beside the heap, the first option that makes a P-position is among them.
+/// large the heap is. Each is an option of the heap, none stands there twice, and they are in the order of moves. Whatever stands beside
+/// the heap, the first option that makes a P-position is among them.
 pub fn looks<A: Allocator>(certified: &Certified<A>, n: u64) -> Options
     ensures list { result ≡ options_up_to certified.now.code n (certified.now.start + certified.now.period - 1) }
     ensures few { length result ≤ length certified.now.code * (certified.now.start + certified.now.period + 1) }
+    ensures only { (left : Left) → Contains result left → HeapOption certified.now.code n (heaps_of left) × IsInOrder left }
+    ensures once { AllPairs (λ x y. IsPermutation (heaps_of x) (heaps_of y) → ⊥) result }
+    ensures order { AllPairs (λ x y. LeftBefore (heaps_of x) (heaps_of y)) result }
     ensures first { (y : ℕ) (H : List ℕ) → IsFirstInto certified.now n y H → (left : Left) × Contains result left × (heaps_of left ≡ H) }
 {
     let cert = certified.cert();
     in_ranges(cert);
+    options_are_exact();
     looks_at(cert, n)
 }

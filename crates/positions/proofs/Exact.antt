@@ -1,5 +1,5 @@
 -- The list of options has each option of the heap once, and nothing else.
-use Rattle.std.proofs.Common.{◌≡◌, ◌≢◌, ℕ, ◌+◌, ◌-◌, ◌/◌, ◌<◌, ◌≤◌, inl, inr, Bool, true, false, List, [], ◌∷◌, ◌++◌, length, min, refl, sym, subst, arith, IsBitSet}
+use Rattle.std.proofs.Common.{◌≡◌, ◌≢◌, ◌↔◌, ℕ, ◌+◌, ◌-◌, ◌/◌, ◌<◌, ◌≤◌, inl, inr, Bool, true, false, List, [], ◌∷◌, ◌++◌, length, min, refl, sym, subst, arith, IsBitSet}
 use Rattle.std.specs.List.{Contains, AllPairs, sum_by}
 use Rattle.std.specs.List.Sorted.{IsPermutation}
 use Rattle.std.proofs.lemmas.List.{get_or_past}
@@ -100,6 +100,13 @@ in_all code n j L h = in_options code n n j L h (small code n j L h)
     small code n j Nothing h = tt
     small code n j (One a) h = tt
     small code n j (Two a b) (p, o, h, s) = omega arith
+
+-- a list that is cut off has the options whose smaller part is small
+pub cut : (code : List ℕ) (n most : ℕ) (L : Left) → Contains (options_up_to code n most) L ↔ (Contains (options_of code n) L × IsPartUpTo most L)
+cut code n most L = (
+  λ c. let (j, l, h, i) = of_flat (options_at code n most) 0 (length code) L c in let (k, u) = of_at code n most j L i in (in_all code n j L k, u),
+  λ h. let (j, k) = of_options code n n L h.0 in in_options code n most j L k h.1,
+)
 
 option_of : (code : List ℕ) (n j : ℕ) (L : Left) → IsLeftAt code n j L → HeapOption code n (heaps_of L) × IsInOrder L
 option_of code n j Nothing (l, h, b) = (TakesAll j l h b, tt)

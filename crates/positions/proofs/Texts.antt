@@ -6,7 +6,7 @@ use Rattle.std.specs.List.Sorted.{IsPermutation}
 use Rattle.std.specs.Prelude.{Result, Err, IsErrAnd}
 use Rattle.std.proofs.lemmas.Bool.Decides.{nat_tests}
 use Rattle.std.proofs.lemmas.Int.Digits.{number_after_ge}
-use Rattle.std.proofs.lemmas.List.{length-map}
+use Rattle.std.proofs.lemmas.List.{length-map, length-take}
 use Rattle.std.proofs.lemmas.List.Elements.{All-nil, All-cons, All-head, All-tail, All-contains, Contains-append_left, Contains-append_right}
 use Rattle.std.proofs.lemmas.List.Splits.{length-slice_split}
 use Rattle.std.proofs.lemmas.List.Sorted.{IsPermutation-refl}
@@ -113,9 +113,9 @@ module _ (bytes : List ℕ) (other : bytes ≢ codes "0") where
     pub is_text : IsNoPositionText bytes → ⊥
     is_text none = none (map number_of (words_of bytes)) (text_of bytes s.numerals)
 
-    pub too_many : 64 < survey.count → HasTooMany 64 bytes
+    pub too_many : (most : ℕ) → most < survey.count → HasTooMany most bytes
     unfolding sizes
-    too_many l = record { sizes = map number_of (words_of bytes); text = text_of bytes s.numerals; many = let c = counted in omega arith }
+    too_many most l = record { sizes = map number_of (words_of bytes); text = text_of bytes s.numerals; many = let c = counted in omega arith }
 
     pub not_too_many : survey.count ≤ 64 → HasTooMany 64 bytes → ⊥
     unfolding sizes
@@ -148,6 +148,10 @@ module _ (bytes : List ℕ) (other : bytes ≢ codes "0") where
 
     pub read : survey.count ≤ 64 → survey.large ≡ false → (X : List ℕ) → IsPermutation (take survey.count survey.sizes) X → IsTextOf bytes X
     read l e X p = record { sizes = map number_of (words_of bytes); text = text_of bytes s.numerals; same = subst (λ ns. IsPermutation ns X) (kept l e) p }
+
+-- where so many are not no more than `most`, they are more
+pub more_than : (n : ℕ) (ns : List ℕ) (most : ℕ) → (length (take n ns) ≤ most → ⊥) → most < n
+more_than n ns most over = ⊎_elim (λ l. l) (λ l. absurd (over (let t = length-take n ns in omega arith))) (cases_lt most n)
 
 pub zero_read : IsTextOf (codes "0") []
 zero_read = record { sizes = []; text = refl; same = IsPermutation-refl [] }

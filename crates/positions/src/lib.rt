@@ -17,5 +17,5 @@ pub use fault::PositionFault;
 pub use left::Left;
 pub use listing::{options, options_are_exact, options_up_to};
 pub use moves::{Move, MoveFault, apply, is_option};
-pub use position::{LARGEST, MOST, Position};
+pub use position::{INLINE, LARGEST, MOST, Position};
 pub use walk::Options;

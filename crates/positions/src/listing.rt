@@ -1,8 +1,8 @@
 ghost use Rattle.std.specs.List.Sorted.{IsPermutation};
-ghost use Rattle.std.specs.Prelude.{◌≡◌, ℕ, List, Contains, AllPairs};
+ghost use Rattle.std.specs.Prelude.{◌≡◌, ◌↔◌, ℕ, List, Contains, AllPairs};
 ghost use Rattle.misere_theory.specs.Games.{HeapOption};
 ghost use Rattle.misere_theory.specs.Plays.{LeftBefore};
-ghost use Rattle.positions.specs.Exact.{heaps_of, IsInOrder};
+ghost use Rattle.positions.specs.Exact.{heaps_of, IsInOrder, IsPartUpTo};
 ghost use Rattle.positions.specs.Options.{options_of, options_up_to};
 ghost use Rattle.positions.specs.declared.left.Left.{Left};
 
@@ -32,11 +32,12 @@ pub fn options_up_to(code: &Code, n: u64, most: u64) -> Options
     }
 }
 
-/// The lists are exact: each option of the heap is listed, up to the order of its parts, nothing else is, and nothing twice. They are in the
-/// order of moves, also where they are cut off at a smaller part of `most`.
+/// The lists are exact: each option of the heap is listed, up to the order of its parts, nothing else is, and nothing twice. A list that is
+/// cut off at a smaller part of `most` has those of them whose smaller part, if there are two, is no larger. All are in the order of moves.
 pub fn options_are_exact()
     ensures each { (code : List ℕ) (n : ℕ) (H : List ℕ) → HeapOption code n H → (left : Left) × Contains (options_of code n) left × IsPermutation (heaps_of left) H }
-    ensures only { (code : List ℕ) (n : ℕ) (left : Left) → Contains (options_of code n) left → HeapOption code n (heaps_of left) × IsInOrder left }
-    ensures once { (code : List ℕ) (n : ℕ) → AllPairs (λ x y. IsPermutation (heaps_of x) (heaps_of y) → ⊥) (options_of code n) }
+    ensures only { (code : List ℕ) (n most : ℕ) (left : Left) → Contains (options_up_to code n most) left → HeapOption code n (heaps_of left) × IsInOrder left }
+    ensures cut { (code : List ℕ) (n most : ℕ) (left : Left) → Contains (options_up_to code n most) left ↔ (Contains (options_of code n) left × IsPartUpTo most left) }
+    ensures once { (code : List ℕ) (n most : ℕ) → AllPairs (λ x y. IsPermutation (heaps_of x) (heaps_of y) → ⊥) (options_up_to code n most) }
     ensures order { (code : List ℕ) (n most : ℕ) → AllPairs (λ x y. LeftBefore (heaps_of x) (heaps_of y)) (options_up_to code n most) }
 {}

@@ -1,11 +1,11 @@
-ghost use Rattle.std.specs.Prelude.{◌≡◌, ◌+◌, ◌<◌, ◌≤◌, ◌↔◌, Contains, IsTrue, IfOk};
+ghost use Rattle.std.specs.Prelude.{◌≡◌, ◌+◌, ◌<◌, ◌≤◌, ◌↔◌, Contains, IsTrue, IfOk, length};
 ghost use Rattle.misere_theory.specs.Games.{HeapMove};
 ghost use Rattle.positions.specs.Exact.{heaps_of};
 ghost use Rattle.positions.specs.Moves.{move_fault_number};
 ghost use Rattle.positions.specs.Options.{options_of};
 
 use crate::left::Left;
-use crate::position::{Position, place_of};
+use crate::position::{INLINE, Position, place_of};
 use allocation::{Memory, Room};
 use octal_code::Code;
 
@@ -74,7 +74,8 @@ fn are_parts(n: u64, a: u64, b: u64) -> bool
     a != 0 && a <= b && b <= n && a <= n - b
 }
 
-/// The position after a move. The heap is looked up, and the option is tested by itself, however many the heap has.
+/// The position after a move. The heap is looked up, and the option is tested by itself, however many the heap has. In a position of
+/// fewer than `INLINE` heaps a move takes no memory.
 pub fn apply<A: Room + Copy>(
     alloc: A,
     code: &Code,
@@ -83,6 +84,7 @@ pub fn apply<A: Room + Copy>(
 ) -> Result<Position<A>, MoveFault>
     ensures ok { IfOk result (HeapMove code.now position.now step.heap (heaps_of step.left)) }
     ensures no_such_heap { (result ≡ Err MoveFault.NoSuchHeap) ↔ ¬ Contains position.now step.heap }
+    ensures memory { result ≡ Err MoveFault.Memory → INLINE ≤ length position.now }
     ensures not_allowed { (result ≡ Err MoveFault.NotAllowed) ↔ (Contains position.now step.heap × ¬ Contains (options_of code.now step.heap) step.left) }
 {
     let Ok(at) = place_of(position.heaps(), step.heap) else {

@@ -1,5 +1,5 @@
 ghost use Rattle.std.specs.List.Sorted.{IsNonDecreasing, IsPermutation};
-ghost use Rattle.std.specs.Prelude.{◌≡◌, ◌<◌, ◌≤◌, ◌∷◌, ◌++◌, ◌+◌, [], ℕ, length, slice_index, remove, All, IfOk, OnOk, OnErr, MatchResult};
+ghost use Rattle.std.specs.Prelude.{◌≡◌, ◌<◌, ◌≤◌, ◌∷◌, ◌++◌, ◌+◌, [], ℕ, length, slice_index, remove, All, IsOk, IfOk, OnOk, OnErr, MatchResult};
 ghost use Rattle.positions.specs.Exact.{heaps_of};
 ghost use Rattle.positions.specs.Positions.{IsSize};
 
@@ -17,7 +17,7 @@ pub const LARGEST: u64 = 1_000_000_000_000_000_000;
 pub const MOST: usize = 64;
 
 /// How many heaps lie in the position itself. More of them lie in an allocation.
-const INLINE: usize = 8;
+pub const INLINE: usize = 8;
 
 /// A position: any number of heaps, each of 1 to 10^18, seen as the list of their sizes, rising.
 #[derive(Drop)]
@@ -58,28 +58,33 @@ impl<A: Room + Copy> Position<A> {
         }
     }
 
-    /// Adds a heap. After a fault the position is as it was.
+    /// Adds a heap. After a fault the position is as it was. Up to `INLINE` heaps take no memory.
     pub fn push(&mut self, heap: u64) -> Result<(), Memory>
         requires { IsSize heap }
         ensures ok { OnOk result (IsPermutation (heap ∷ self.old) self.new) }
         ensures err { OnErr result (self.new ≡ self.old) }
+        ensures inline { length self.old < INLINE → IsOk result }
     {
+        let _room = self.heaps.capacity();
         let at = place_for(self.heaps.as_slice(), heap);
         self.heaps.insert(at, heap)?;
         Ok(())
     }
 
     /// Makes this the position `from` after a move that leaves `left` of the heap at the place `at`. What this position was before doesn't
-    /// matter, and its memory is used again. After a fault it is as it was.
+    /// matter, and its memory is used again. After a fault it is as it was. Fewer than `INLINE` heaps take no memory.
     pub fn set_moved(&mut self, from: &Position<A>, at: usize, left: Left) -> Result<(), Memory>
         requires there { at < length from.now }
         requires sizes { All IsSize (heaps_of left) }
         ensures moved { OnOk result (IsPermutation (heaps_of left ++ remove from.now at) self.new) }
         ensures rising { IsNonDecreasing self.new }
         ensures err { OnErr result (self.new ≡ self.old) }
+        ensures inline { length from.now < INLINE → IsOk result }
     {
         let others = from.heaps();
-        self.heaps.reserve(others.len() + 1)?;
+        let _room = self.heaps.capacity();
+        let more = (others.len() + 1).saturating_sub(self.heaps.len());
+        self.heaps.reserve(more)?;
         set_same(&mut self.heaps, others);
         self.heaps.remove(at);
         add_left(&mut self.heaps, left);
@@ -91,18 +96,20 @@ impl<A: Room + Copy> Position<A> {
         *self.heaps.allocator()
     }
 
-    /// The same heaps in memory of their own.
+    /// The same heaps in memory of their own, of which up to `INLINE` take none.
     pub fn copied(&self, alloc: A) -> Result<Position<A>, Memory>
         ensures same { IfOk result (λ copy. copy ≡ self.now) }
         ensures rising { IsNonDecreasing self.now }
+        ensures inline { length self.now ≤ INLINE → IsOk result }
     {
         let heaps = SmallVec::from_slice(alloc, self.heaps.as_slice())?;
         Ok(Position { heaps })
     }
 
-    /// The sum: the heaps of both positions.
+    /// The sum: the heaps of both positions. Up to `INLINE` heaps in all take no memory.
     pub fn add(&self, other: &Position<A>) -> Result<Position<A>, Memory>
-        ensures { IfOk result (λ sum. IsPermutation (self.now ++ other.now) sum) }
+        ensures sum { IfOk result (λ sum. IsPermutation (self.now ++ other.now) sum) }
+        ensures inline { length self.now + length other.now ≤ INLINE → IsOk result }
     {
         let mut heaps = SmallVec::from_slice(self.allocator(), self.heaps())?;
         heaps.extend_from_slice(other.heaps())?;
@@ -113,7 +120,8 @@ impl<A: Room + Copy> Position<A> {
     /// The position of these heaps, which stand in any order.
     pub(crate) fn of(alloc: A, sizes: &[u64]) -> Result<Position<A>, Memory>
         requires { All IsSize sizes.now }
-        ensures { IfOk result (IsPermutation sizes.now) }
+        ensures same { IfOk result (IsPermutation sizes.now) }
+        ensures inline { length sizes.now ≤ INLINE → IsOk result }
     {
         let mut heaps = SmallVec::from_slice(alloc, sizes)?;
         sort(&mut heaps);

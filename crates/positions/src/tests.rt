@@ -169,3 +169,79 @@ fn reads_and_writes_or_says_memory(rt: HostRuntime) -> Result<(), Fail> {
     }
     Err(Fail::new("growths go on"))
 }
+
+/// How long the text is.
+fn written<A: Room + Copy>(position: &Position<A>) -> Result<usize, Memory> {
+    let text = position.text()?;
+    Ok(text.as_bytes().len())
+}
+
+/// How many heaps a copy has with one more.
+fn one_more<A: Room + Copy>(alloc: A, position: &Position<A>) -> Result<usize, Memory> {
+    let mut copy = position.copied(alloc)?;
+    copy.push(8)?;
+    Ok(copy.heaps().len())
+}
+
+/// How many heaps stay after a heap of 7 became one of 6.
+fn moved_on<A: Room + Copy>(alloc: A, position: &Position<A>) -> Option<usize> {
+    let code = Code::read(b"0.3").ok()?;
+    let step = Move {
+        heap: 7,
+        left: Left::One(6),
+    };
+    let next = apply(alloc, &code, position, step).ok()?;
+    Some(next.heaps().len())
+}
+
+/// Positions of 9, 18, 36 heaps and so on, each made and written: past what lies in a position itself, past the 64 sizes
+/// of a text that is read, past 2^16 bytes and past 2^16 heaps.
+#[test]
+fn memory_suffices_for_many_heaps(rt: HostRuntime) -> Result<(), Fail> {
+    let mut position = Position::read(rt.alloc(), b"7 7 7 7 7 7 7 7 7")?;
+    let mut count = 9usize;
+    for _ in 0..14usize {
+        assert_eq!(rt;
+            written(&position),
+            Ok(count.saturating_mul(2).saturating_sub(1))
+        );
+        assert_eq!(rt;
+            one_more(rt.alloc(), &position),
+            Ok(count.saturating_add(1))
+        );
+        assert_eq!(rt; moved_on(rt.alloc(), &position), Some(count));
+        position = position.add(&position)?;
+        count = count.saturating_mul(2);
+    }
+    Ok(())
+}
+
+/// Four heaps read, added to themselves, and copied.
+fn eight<A: Room + Copy>(alloc: A) -> Option<Position<A>> {
+    let four = Position::read(alloc, b"1 2 3 7").ok()?;
+    let eight = four.add(&four).ok()?;
+    eight.copied(alloc).ok()
+}
+
+/// Up to eight heaps take no memory.
+#[test]
+fn few_heaps_take_no_memory(rt: HostRuntime) -> Result<(), Fail> {
+    let ration = Ration::new(rt.alloc(), 1);
+    let Some(mut eight) = eight(&ration) else {
+        return Err(Fail::new("no position"));
+    };
+    assert!(rt; !ration.has_refused());
+    assert!(rt; eight.push(4).is_err() && ration.has_refused());
+    assert_eq!(rt; eight.heaps(), [1u64, 1, 2, 2, 3, 3, 7, 7].as_slice());
+    Ok(())
+}
+
+/// A move from seven heaps takes none either.
+#[test]
+fn moves_of_few_heaps_take_no_memory(rt: HostRuntime) -> Result<(), Fail> {
+    let ration = Ration::new(rt.alloc(), 1);
+    let seven = Position::read(&ration, b"1 2 3 4 5 6 7")?;
+    assert_eq!(rt; moved_on(&ration, &seven), Some(7));
+    assert!(rt; !ration.has_refused());
+    Ok(())
+}

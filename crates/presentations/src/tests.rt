@@ -199,3 +199,31 @@ fn states_the_law(_rt: HostRuntime) -> Result<(), Fail> {
     related_is_least::<SameLength>();
     Ok(())
 }
+
+/// 64 relations between words of all letters, each 64 times: more than 2^16 bytes.
+#[test]
+fn memory_suffices_for_a_long_text(rt: HostRuntime) -> Result<(), Fail> {
+    let mut word = Vec::new(rt.alloc());
+    for letter in b"abcdefghijklmnopqrstuvwxyz" {
+        for _k in 0..64u8 {
+            word.push(*letter)?;
+        }
+    }
+    let mut text = Vec::new(rt.alloc());
+    for k in 0..64u8 {
+        if k > 0 {
+            text.push(b' ')?;
+        }
+        text.extend_from_slice(&word)?;
+        text.push(b'=')?;
+        text.extend_from_slice(&word)?;
+    }
+    assert!(rt; text.len() > 200_000);
+    let presentation = Presentation::read(rt.alloc(), &text)?;
+    assert_eq!(rt; presentation.relations().len(), 64);
+    for relation in presentation.relations() {
+        assert_eq!(rt; relation.left, [64u8; 26]);
+        assert_eq!(rt; relation.right, [64u8; 26]);
+    }
+    Ok(())
+}

@@ -6,6 +6,8 @@ use Rattle.positions.specs.Text.{position_text}
 use Rattle.misere_theory.specs.Certificates.{Certificate}
 use Rattle.misere_theory.specs.Games.{IsP, IsN}
 use Rattle.misere_theory.specs.Plays.{MoreReachableThan}
+use Rattle.outcome_search.specs.Settled.{IsSettledBy}
+use Rattle.outcome_search.specs.declared.answer.Outcome.TheVariants.{P, N}
 use Rattle.checker.specs.Answers.{Answer, refused}
 use Rattle.checker.specs.Answers.Answer.{Yes, Text, Law, Word, Order, Period, Apart, Outcome, Limit, Memory}
 use Rattle.checker.specs.declared.refusal.Refusal.{Refusal}
@@ -20,11 +22,11 @@ yes_line code order start period =
 abbrev pub no_line : ℕ → List ℕ → List ℕ
 no_line number name = codes "no " ++ decimal number ++ codes " " ++ name ++ codes "\n"
 
--- The third line of a refused outcome: the misère outcome of the position, or that it isn't known, which stands only where more
--- than 65536 positions can be reached.
+-- The third line of a refused outcome: the misère outcome of the position, where 65536 positions settle it, or that it isn't known,
+-- which stands only where more than 65536 positions can be reached.
 pub data IsOutcomeLine (code X : List ℕ) : List ℕ → Type 0 where
-  LineP : {line : List ℕ} → IsP code X → line ≡ codes "outcome P\n" → IsOutcomeLine code X line
-  LineN : {line : List ℕ} → IsN code X → line ≡ codes "outcome N\n" → IsOutcomeLine code X line
+  LineP : {line : List ℕ} → IsP code X → IsSettledBy code X P 65536 → line ≡ codes "outcome P\n" → IsOutcomeLine code X line
+  LineN : {line : List ℕ} → IsN code X → IsSettledBy code X N 65536 → line ≡ codes "outcome N\n" → IsOutcomeLine code X line
   LineUnknown : {line : List ℕ} → MoreReachableThan code X 65536 → line ≡ codes "outcome unknown\n" → IsOutcomeLine code X line
 
 -- The text of an answer. Want of memory has none.

@@ -6,6 +6,7 @@ mod stream;
 
 pub use lines::verdict_text;
 pub use stream::{MOST_BYTES, check_bytes, check_stream};
+pub use streams::StreamFault;
 
 #[cfg(test)]
 mod tests;

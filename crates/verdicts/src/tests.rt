@@ -126,3 +126,17 @@ fn answers_want_of_memory(rt: HostRuntime) -> Result<(), Fail> {
     assert!(rt; is_whole);
     Ok(())
 }
+
+/// More than 2^16 bytes, and more than are read.
+#[test]
+fn memory_suffices_for_long_streams(rt: HostRuntime) -> Result<(), Fail> {
+    let alloc = rt.alloc();
+    for count in [70000usize, 4_194_306] {
+        let bytes = vec![in alloc; b'x'; count]?;
+        let mut sink = MemorySink::new(alloc);
+        let checked = check_stream(alloc, &mut MemorySource::new(&bytes), &mut sink, 1000);
+        assert_eq!(rt; checked, Ok(false), "{count}");
+        assert_eq!(rt; sink.bytes(), b"no 1 Text\n".as_slice(), "{count}");
+    }
+    Ok(())
+}

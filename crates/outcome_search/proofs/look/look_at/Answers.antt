@@ -5,23 +5,23 @@ use Rattle.positions.specs.Options.{options_of}
 use Rattle.positions.proofs.Permuted.{parts_fit, moved_to}
 use Rattle.outcome_search.specs.Known.{known}
 use Rattle.outcome_search.specs.declared.answer.Outcome.TheVariants.{P, N}
-use Rattle.outcome_search.proofs.Seen.{walked, wins_by, known_right, one_more, seen_all}
+use Rattle.outcome_search.proofs.Seen.{walked, wins_by, one_more, seen_all}
 use Rattle.outcome_search.proofs.look.look_at.Goals as goal
 
 pub set_moved-requires-clause-sizes : goal.set_moved-requires-clause-sizes
 set_moved-requires-clause-sizes g c =
     let n = slice_index c.args.position.now c.args.at in
     let (whole, listed) = walked _ _ (options_of c.args.code.now n) c.in-Some.left c.next.new.self c.loop-left.invariant.0 c.in-Some.ensures.steps in
-    parts_fit c.args.code.now n 1000000000000000000 c.in-Some.left listed (c.heaps.ensures.sizes c.args.at 0 c.requires.there).1
+    parts_fit c.args.code.now n 1000000000000000000 c.in-Some.left listed (c.heaps.ensures.sizes c.args.at 0 c.requires).1
 
 pub returns-in-Some-P : goal.returns-in-Some-P
 returns-in-Some-P g c =
     let is : known c.args.memo.now c.set_moved.new.self ≡ Some P = cc in
     let n = slice_index c.args.position.now c.args.at in
     let (whole, listed) = walked _ _ (options_of c.args.code.now n) c.in-Some.left c.next.new.self c.loop-left.invariant.0 c.in-Some.ensures.steps in
-    wins_by c.args.code.now c.args.position.now c.set_moved.new.self
-    (n, heaps_of c.in-Some.left, moved_to c.args.code.now c.args.position.now n c.args.at c.in-Some.left c.set_moved.new.self c.requires.there (λ i. n) listed c.in_ok-set_moved.ensures.moved)
-    (known_right c.args.code.now c.args.memo.now c.set_moved.new.self P c.requires.right is)
+    wins_by c.args.code.now c.args.position.now c.set_moved.new.self c.args.memo.now
+    (n, heaps_of c.in-Some.left, moved_to c.args.code.now c.args.position.now n c.args.at c.in-Some.left c.set_moved.new.self c.requires (λ i. n) listed c.in_ok-set_moved.ensures.moved)
+    is
 
 pub loop-left-preserved : goal.loop-left-preserved
 loop-left-preserved g c =
@@ -29,8 +29,7 @@ loop-left-preserved g c =
     let n = slice_index c.args.position.now c.args.at in
     let (whole, listed) = walked _ _ (options_of c.args.code.now n) c.in-Some.left c.next.new.self c.loop-left.invariant.0 c.in-Some.ensures.steps in (
       whole,
-      one_more c.args.code.now c.args.position.now c.args.at c.loop-left.yielded c.loop-left.seen c.in-Some.left c.set_moved.new.self c.loop-left.invariant.1 c.in_ok-set_moved.ensures.moved
-          (known_right c.args.code.now c.args.memo.now c.set_moved.new.self N c.requires.right is),
+      one_more c.args.memo.now c.args.position.now c.args.at c.loop-left.yielded c.loop-left.seen c.in-Some.left c.set_moved.new.self c.loop-left.invariant.1 c.in_ok-set_moved.ensures.moved is,
     )
 
 pub returns-in-None-get : goal.returns-in-None-get
@@ -39,7 +38,7 @@ returns-in-None-get g c =
     let n = slice_index c.args.position.now c.args.at in
     let (whole, listed) = walked _ _ (options_of c.args.code.now n) c.in-Some.left c.next.new.self c.loop-left.invariant.0 c.in-Some.ensures.steps in
     record {
-      move = (n, heaps_of c.in-Some.left, moved_to c.args.code.now c.args.position.now n c.args.at c.in-Some.left c.set_moved.new.self c.requires.there (λ i. n) listed c.in_ok-set_moved.ensures.moved);
+      move = (n, heaps_of c.in-Some.left, moved_to c.args.code.now c.args.position.now n c.args.at c.in-Some.left c.set_moved.new.self c.requires (λ i. n) listed c.in_ok-set_moved.ensures.moved);
       rising = c.in_ok-set_moved.ensures.rising;
       not_known = is;
     }

@@ -1,5 +1,8 @@
 use Rattle.std.proofs.Common.{◌≡◌, ◌+◌, ◌-◌, ◌*◌, length, sym, ◌∙◌, ap, subst, arith}
-use Rattle.std.specs.List.{Contains}
+use Rattle.std.specs.List.{Contains, AllPairs}
+use Rattle.std.specs.List.Sorted.{IsPermutation}
+use Rattle.misere_theory.specs.Plays.{LeftBefore}
+use Rattle.positions.specs.Exact.{heaps_of}
 use Rattle.positions.specs.Options.{options_up_to}
 use Rattle.player.proofs.Beside.{first_among}
 use Rattle.player.proofs.Few.{few}
@@ -24,3 +27,24 @@ returns-clause-first g c = λ y H into.
     c.looks_at.ensures ∙ ap (λ d. options_up_to d.code c.args.n (d.start + d.period - 1)) c.cert-cert.ensures.same in
     let (L, i, h) = first_among C c.cert-cert.ensures.accepted.in_ranges c.args.n y H into in
     (L, subst (λ xs. Contains xs L) (sym e) i, h)
+
+pub returns-clause-only : goal.returns-clause-only
+returns-clause-only g c = λ left i.
+    let C = c.args.certified.now in
+    let e : c.looks_at.result ≡ options_up_to C.code c.args.n (C.start + C.period - 1) =
+    c.looks_at.ensures ∙ ap (λ d. options_up_to d.code c.args.n (d.start + d.period - 1)) c.cert-cert.ensures.same in
+    c.options_are_exact.ensures.only C.code c.args.n (C.start + C.period - 1) left (subst (λ xs. Contains xs left) e i)
+
+pub returns-clause-once : goal.returns-clause-once
+returns-clause-once g c =
+    let C = c.args.certified.now in
+    let e : c.looks_at.result ≡ options_up_to C.code c.args.n (C.start + C.period - 1) =
+    c.looks_at.ensures ∙ ap (λ d. options_up_to d.code c.args.n (d.start + d.period - 1)) c.cert-cert.ensures.same in
+    subst (AllPairs (λ x y. IsPermutation (heaps_of x) (heaps_of y) → ⊥)) (sym e) (c.options_are_exact.ensures.once C.code c.args.n (C.start + C.period - 1))
+
+pub returns-clause-order : goal.returns-clause-order
+returns-clause-order g c =
+    let C = c.args.certified.now in
+    let e : c.looks_at.result ≡ options_up_to C.code c.args.n (C.start + C.period - 1) =
+    c.looks_at.ensures ∙ ap (λ d. options_up_to d.code c.args.n (d.start + d.period - 1)) c.cert-cert.ensures.same in
+    subst (AllPairs (λ x y. LeftBefore (heaps_of x) (heaps_of y))) (sym e) (c.options_are_exact.ensures.order C.code c.args.n (C.start + C.period - 1))

@@ -1,6 +1,6 @@
 use Rattle.std.proofs.Common.{◌≢◌, codes, [], refl, arith}
 use Rattle.positions.specs.declared.fault.PositionFault.TheVariants.{Text, TooMany, TooLarge}
-use Rattle.positions.proofs.Texts.{no_text, is_text, too_many, not_too_many, few, too_large, not_too_large, all_fit, read, is_memory, not_text, not_too_many_fault, not_too_large_fault}
+use Rattle.positions.proofs.Texts.{no_text, is_text, too_many, not_too_many, few, too_large, not_too_large, all_fit, read, more_than, is_memory, not_text, not_too_many_fault, not_too_large_fault}
 use Rattle.positions.proofs.position.Position.read.Goals as goal
 
 pub returns-then-is_zero-clause-text : goal.returns-then-is_zero-clause-text
@@ -29,7 +29,7 @@ returns-then-survey-gt-MOST-clause-text g c =
 pub returns-then-survey-gt-MOST-clause-too_many : goal.returns-then-survey-gt-MOST-clause-too_many
 returns-then-survey-gt-MOST-clause-too_many g c =
     let other : c.args.text.now ≢ codes "0" = λ e. let t = c.is_zero.ensures.1 e in cc in
-    (λ e. too_many c.args.text.now other c.in-Some.survey c.in-Some.ensures (omega arith), λ h. refl)
+    (λ e. too_many c.args.text.now other c.in-Some.survey c.in-Some.ensures 64 (omega arith), λ h. refl)
 
 pub returns-then-survey-gt-MOST-clause-too_large : goal.returns-then-survey-gt-MOST-clause-too_large
 returns-then-survey-gt-MOST-clause-too_large g c =
@@ -71,10 +71,15 @@ returns-in_err-position-clause-too_large g c =
     let other : c.args.text.now ≢ codes "0" = λ e. let t = c.is_zero.ensures.1 e in cc in
     (λ e. absurd (not_too_large_fault (is_memory c.from_residual.result TooLarge c.from_residual.ensures.1 e)), λ h. absurd (not_too_large c.args.text.now other c.in-Some.survey c.in-Some.ensures c.if-survey.false h))
 
+pub returns-in_err-position-clause-memory : goal.returns-in_err-position-clause-memory
+returns-in_err-position-clause-memory g c =
+    let other : c.args.text.now ≢ codes "0" = λ e. let t = c.is_zero.ensures.1 e in cc in
+    λ e. too_many c.args.text.now other c.in-Some.survey c.in-Some.ensures 8 (more_than c.in-Some.survey.count c.in-Some.survey.sizes 8 (λ l. let t = c.in_err-position.ensures.inline l in cc))
+
 pub returns-clause-ok : goal.returns-clause-ok
 returns-clause-ok g c =
     let other : c.args.text.now ≢ codes "0" = λ e. let t = c.is_zero.ensures.1 e in cc in
-    read c.args.text.now other c.in-Some.survey c.in-Some.ensures (omega arith) c.if-survey.false c.in_ok-position.position c.in_ok-position.ensures
+    read c.args.text.now other c.in-Some.survey c.in-Some.ensures (omega arith) c.if-survey.false c.in_ok-position.position c.in_ok-position.ensures.same
 
 pub returns-clause-text : goal.returns-clause-text
 returns-clause-text g c =
