@@ -64,7 +64,6 @@ impl<A: Allocator> Wholes<A> {
         requires elements { HaveElements phi.now pairs.now }
         requires inside { All (λ p. p.value < table.now.order) pairs.now }
         requires within { whole ≤ length pairs.now + 1 }
-        requires small { whole < 4294967296 }
         ensures kept { AreWholes table.now phi.now self.new.sets.items }
         ensures values { IfOk result (λ values. values ≡ values_of_splits table.now phi.now whole) }
     {
