@@ -18,7 +18,9 @@ fn numbers<A: Allocator>(
     ensures { Gives (λ _. (found.new.items, reader.new)) result (with_front found.old.items (words_at (number_at limit) count reader.old)) }
 {
     for _ in 0..count {
-        reader.fixed(b" ")?;
+        if !reader.space() {
+            return Err(TextFault::Text);
+        }
         let x = reader.number(limit)?;
         found.push(x)?;
     }

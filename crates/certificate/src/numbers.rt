@@ -27,25 +27,22 @@ fn is_digit(b: u8) -> bool
 
 /// The further digits of a number, as long as it stays below the limit.
 #[tactic(auto, unfolding(certificate_text::specs::Reading::more_at))]
-fn more(bytes: &[u8], n: u16, limit: u16) -> Result<(u16, &[u8]), TextFault>
+fn more(mut bytes: &[u8], mut n: u16, limit: u16) -> Result<(u16, &[u8]), TextFault>
     requires { n < limit }
     ensures read { Gives (λ x. (x.0, x.1.now)) result (more_at limit n bytes.now) }
     ensures below { IfOk result (λ x. x.0 < limit) }
 {
-    match bytes {
-        [] => Ok((n, bytes)),
-        [b, rest @ ..] => {
-            if !is_digit(*b) {
-                return Ok((n, bytes));
-            }
-            let longer = 10 * n as u32 + (*b - b'0') as u32;
-            if longer < limit as u32 {
-                more(rest, longer as u16, limit)
-            } else {
-                Err(TextFault::Text)
-            }
+    while let [b, rest @ ..] = bytes
+        && is_digit(*b)
+    {
+        let longer = 10 * n as u32 + (*b - b'0') as u32;
+        if longer >= limit as u32 {
+            return Err(TextFault::Text);
         }
+        n = longer as u16;
+        bytes = rest;
     }
+    Ok((n, bytes))
 }
 
 /// A number below the limit, without leading zeros.

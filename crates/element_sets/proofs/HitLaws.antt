@@ -1,16 +1,16 @@
 -- Going over the ones of a lane, and over the lanes.
-use Rattle.std.proofs.Common.{◌≡◌, ◌≢◌, ◌⊎◌, ℕ, ◌+◌, ◌*◌, ◌/◌, ◌%◌, ◌^◌, ◌<◌, Bool, true, false, eqb, List, [], ◌∷◌, length, map, bit_and, refl, sym, ap, ap₂, ◌∙◌, inl, inr, arith, w64}
+use Rattle.std.proofs.Common.{◌≡◌, ◌≢◌, ◌⊎◌, ℕ, zero, suc, ◌+◌, ◌-◌, ◌*◌, ◌≤◌, ◌/◌, ◌%◌, ◌^◌, ◌<◌, Bool, true, false, eqb, List, [], ◌∷◌, length, map, bit_and, refl, sym, ap, ap₂, ◌∙◌, inl, inr, arith, w64}
 use Rattle.std.specs.Prelude.{◌↔◌, ◌||◌, ◌==◌, IsTrue, slice_index}
 use Rattle.std.specs.List.{list_any}
-use Rattle.std.specs.Int.{bit_at, bit_not, trailing_zeros}
+use Rattle.std.specs.Int.{bit_at, trailing_zeros}
 use Rattle.std.specs.Ordering.{nat_cmp, eq_by_cmp}
 use Rattle.std.specs.Cmp.{nat_cmp_total, unsigned_tied}
 use Rattle.std.specs.FinSet as fin
 use Rattle.std.specs.FinSet.{contains-from_list_nat, nat_cmp-IsAntisymmetric, contains-insert, contains-empty, contains-items, same_set}
 use Rattle.std.proofs.lemmas.Bool.{cases_lt, cases_eq}
 use Rattle.std.proofs.lemmas.Bool.Decides.{nat_tests}
-use Rattle.std.proofs.lemmas.Nat.{and_le_l}
-use Rattle.std.proofs.lemmas.Nat.Bits.{bit_at-trailing_zeros, bit_at_clear_same, bit_at_clear_other, bit_at-zero}
+use Rattle.std.proofs.lemmas.Nat.{and_le_r}
+use Rattle.std.proofs.lemmas.Nat.Bits.{bit_at-trailing_zeros, bit_at_and, bit_at_lowest, bit_at-suc, bit_at-zero}
 use Rattle.element_sets.specs.Lanes.{has, set_of}
 use Rattle.element_sets.specs.LaneLaws.{contains-set_of, has_past}
 use Rattle.element_sets.specs.Hits.{Hits, CanTranslateLane}
@@ -26,32 +26,63 @@ IsImageBelow lanes i row q = (x : ℕ) × (x < 64 * i) × (has lanes x ≡ true)
 
 -- the lane without its lowest one
 abbrev pub without_lowest : ℕ → ℕ
-without_lowest n = bit_and n (bit_not w64 (1 * 2 ^ trailing_zeros w64 n % 2 ^ 64))
+without_lowest n = bit_and n (n - 1)
 
-kept_one : (n j : ℕ) → 0 < n → n < 2 ^ 64 → j < 64 → bit_at (without_lowest n) j ≡ 1 → (j ≢ trailing_zeros w64 n) × (bit_at n j ≡ 1)
-kept_one n j some fits lt one =
+-- below a number's lowest one the number before it has ones, there it has none, and above it they agree
+before : (k n : ℕ) → bit_at n k ≡ 1 → ((i : ℕ) → i < k → bit_at n i ≡ 0) → (j : ℕ) → (j ≡ k → bit_at (n - 1) j ≡ 0) × (j ≢ k → bit_at n j ≤ bit_at (n - 1) j)
+before zero n one low zero =
+    let odd = sym (bit_at_lowest n) ∙ one in
+    let e = bit_at_lowest (n - 1) in
+    (λ _. omega arith, λ other. absurd (other refl))
+before zero n one low (suc j) =
+    let odd = sym (bit_at_lowest n) ∙ one in
+    let half : (n - 1) / 2 ≡ n / 2 = omega arith in
+    let same : bit_at (n - 1) (suc j) ≡ bit_at n (suc j) = bit_at-suc (n - 1) j ∙ ap (λ m. bit_at m j) half ∙ sym (bit_at-suc n j) in
+    (λ e. absurd (omega arith), λ _. omega arith)
+before (suc k) n one low zero =
+    let none = low 0 (omega arith) in
+    (λ e. absurd (omega arith), λ _. omega arith)
+before (suc k) n one low (suc j) =
+    let even = sym (bit_at_lowest n) ∙ low 0 (omega arith) in
+    let up = sym (bit_at-suc n k) ∙ one in
+    let some : 0 < n / 2 = above (n / 2) up in
+    let half : (n - 1) / 2 ≡ n / 2 - 1 = omega arith in
+    let there : bit_at (n - 1) (suc j) ≡ bit_at (n / 2 - 1) j = bit_at-suc (n - 1) j ∙ ap (λ m. bit_at m j) half in
+    let here = bit_at-suc n j in
+    let rest = before k (n / 2) up (λ i l. sym (bit_at-suc n i) ∙ low (suc i) (omega arith)) j in
+    (λ e. there ∙ rest.0 (omega arith), λ other. let le = rest.1 (λ e. other (ap suc e)) in omega arith)
+  where
+    above : (m : ℕ) → bit_at m k ≡ 1 → 0 < m
+    above zero e = absurd (let z = sym (bit_at-zero k) ∙ e in omega arith)
+    above (suc m) e = omega arith
+
+lowest_gone : (n : ℕ) → 0 < n → n < 2 ^ 64 → bit_at (without_lowest n) (trailing_zeros w64 n) ≡ 0
+lowest_gone n some fits =
     let t = bit_at-trailing_zeros w64 n some fits in
-    let other : j ≢ trailing_zeros w64 n = λ e. absurd (differ (sym (bit_at_clear_same w64 n (trailing_zeros w64 n) t.0) ∙ ap (bit_at (without_lowest n)) (sym e) ∙ one)) in
-    (other, sym (bit_at_clear_other w64 n (trailing_zeros w64 n) t.0 j lt other) ∙ one)
+    let e = bit_at_and n (n - 1) (trailing_zeros w64 n) in
+    let z = (before (trailing_zeros w64 n) n t.1 t.2 (trailing_zeros w64 n)).0 refl in
+    omega arith
+
+others_stay : (n j : ℕ) → 0 < n → n < 2 ^ 64 → j ≢ trailing_zeros w64 n → bit_at (without_lowest n) j ≡ bit_at n j
+others_stay n j some fits other =
+    let t = bit_at-trailing_zeros w64 n some fits in
+    let e = bit_at_and n (n - 1) j in
+    let z = (before (trailing_zeros w64 n) n t.1 t.2 j).1 other in
+    omega arith
+
+kept_one : (n j : ℕ) → 0 < n → n < 2 ^ 64 → bit_at (without_lowest n) j ≡ 1 → (j ≢ trailing_zeros w64 n) × (bit_at n j ≡ 1)
+kept_one n j some fits one =
+    let other : j ≢ trailing_zeros w64 n = λ e. absurd (differ (sym (lowest_gone n some fits) ∙ ap (bit_at (without_lowest n)) (sym e) ∙ one)) in
+    (other, sym (others_stay n j some fits other) ∙ one)
   where
     differ : ◌≡◌ {A = ℕ} 0 1 → ⊥
     differ e = omega arith
 
-pub falls : (n : ℕ) → 0 < n → n < 2 ^ 64 → without_lowest n < n
-falls n some fits = elim (cases_lt (without_lowest n) n) [
-  | inl less ↦ less
-  | inr more ↦
-      let low = and_le_l n (bit_not w64 (1 * 2 ^ trailing_zeros w64 n % 2 ^ 64)) in
-      let same : without_lowest n ≡ n = omega arith in
-      let t = bit_at-trailing_zeros w64 n some fits in
-      absurd (differ (sym (bit_at_clear_same w64 n (trailing_zeros w64 n) t.0) ∙ ap (λ m. bit_at m (trailing_zeros w64 n)) same ∙ t.1))
-]
-  where
-    differ : ◌≡◌ {A = ℕ} 0 1 → ⊥
-    differ e = omega arith
+pub falls : (n : ℕ) → 0 < n → without_lowest n < n
+falls n some = let low = and_le_r n (n - 1) in omega arith
 
 pub can_still : (n base : ℕ) (row : List ℕ) → 0 < n → n < 2 ^ 64 → CanTranslateLane n base row → CanTranslateLane (without_lowest n) base row
-can_still n base row some fits can j lt one = can j lt (kept_one n j some fits lt one).1
+can_still n base row some fits can j lt one = can j lt (kept_one n j some fits one).1
 
 contains_more : (s : fin.FinSet nat_cmp) (x q : ℕ) → fin.contains (fin.insert s x) q ≡ (eqb q x || fin.contains s q)
 contains_more s x q = contains-insert nat_cmp_total s x q ∙ ap (λ b. b || fin.contains s q) (unsigned_tied q x)
@@ -84,7 +115,7 @@ taken all n base row some fits q = (forth, back)
           inr (trailing_zeros w64 n, t.0, t.1, sym same)
       | inr before ↦ inl before
     ]
-    forth (inr hit) = inr (hit.0, hit.1, (kept_one n hit.0 some fits hit.1 hit.2).1, hit.3)
+    forth (inr hit) = inr (hit.0, hit.1, (kept_one n hit.0 some fits hit.2).1, hit.3)
 
     back : Has all n base row q → Has (fin.insert all (slice_index row (base + trailing_zeros w64 n))) (without_lowest n) base row q
     back (inl member) = inl (contains_more all (slice_index row (base + trailing_zeros w64 n)) q ∙ or_right _ (fin.contains all q) member)
@@ -93,8 +124,7 @@ taken all n base row some fits q = (forth, back)
           let e : q ≡ slice_index row (base + trailing_zeros w64 n) = sym hit.3 ∙ ap (λ j. slice_index row (base + j)) same in
           inl (contains_more all (slice_index row (base + trailing_zeros w64 n)) q ∙ or_left q _ (fin.contains all q) e)
       | inr other ↦
-          let t = bit_at-trailing_zeros w64 n some fits in
-          inr (hit.0, hit.1, bit_at_clear_other w64 n (trailing_zeros w64 n) t.0 hit.0 hit.1 other ∙ hit.2, hit.3)
+          inr (hit.0, hit.1, others_stay n hit.0 some fits other ∙ hit.2, hit.3)
     ]
 
 -- what the code reads at the lowest one

@@ -14,6 +14,6 @@ pub(crate) fn add_lane(all: &mut ElementSet, lane: u64, base: usize, row: &[u16]
     while word != 0 {
         let bit = word.trailing_zeros();
         all.insert(row[base + bit as usize] as u8);
-        word &= !(1u64 << bit);
+        word &= word - 1;
     }
 }

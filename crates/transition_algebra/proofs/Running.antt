@@ -1,6 +1,6 @@
 -- A run of turns leaves a trial that the turns reached.
-use Rattle.std.proofs.Common.{◌≡◌, ℕ, ◌+◌, ◌-◌, ◌*◌, ◌^◌, ◌<◌, ◌≤◌, ◌↔◌, ◌⊎◌, inl, inr, min, true, false, List, [], ◌∷◌, ◌++◌, length, refl, sym, ◌∙◌, ap, ap₂, subst, arith, append_assoc}
-use Rattle.std.specs.Prelude.{not, eqb, bit_and, Result, Ok, Err, OnErr}
+use Rattle.std.proofs.Common.{◌≡◌, ℕ, ◌+◌, ◌-◌, ◌*◌, ◌^◌, ◌<◌, ◌≤◌, ◌↔◌, ◌⊎◌, inl, inr, min, Bool, true, false, List, [], ◌∷◌, ◌++◌, length, refl, sym, ◌∙◌, ap, ap₂, subst, arith, append_assoc}
+use Rattle.std.specs.Prelude.{if◌then◌else◌, not, eqb, bit_and, Result, Ok, Err, OnErr}
 use Rattle.std.specs.List.{All, flat_map, range_with_len}
 use Rattle.std.specs.FinSet as set
 use Rattle.std.specs.Ordering.{nat_cmp}
@@ -19,12 +19,12 @@ use Rattle.transition_algebra.specs.Pretending.{Pretending, IsPretending, phi_at
 use Rattle.transition_algebra.specs.Pairs.{IsPair, one}
 use Rattle.transition_algebra.specs.Heaps.{IsInto, bound_of, largest_part, left_value}
 use Rattle.transition_algebra.specs.Work.{tries, opening, turns, heap_cost, HeapWork, IsDone, worked}
-use Rattle.transition_algebra.specs.Trials.{single_left, taking_from, last_part, splits_from, coming_at, value_at, split_value, with_left, after_single, after_splits, after_all, after_heap, IsStage, trying_of, IsTrial, stages, stages_left, IsRun}
+use Rattle.transition_algebra.specs.Trials.{single_left, taking_from, last_part, splits_from, coming_at, HaveElements, split_value, with_values, seen_at, with_left, after_single, after_splits, after_all, after_heap, IsStage, trying_of, IsTrial, stages, stages_left, IsRun}
 use Rattle.transition_algebra.specs.declared.pair.Pair.{Pair}
 use Rattle.transition_algebra.specs.declared.trial.Stage.{Stage}
 use Rattle.transition_algebra.specs.declared.trial.Stage.TheVariants.{Single, Splits}
 use Rattle.transition_algebra.specs.declared.trial.Trial.{Trial}
-use Rattle.transition_algebra.proofs.Coming.{single_then_splits, none_past, splits_off, splits_first}
+use Rattle.transition_algebra.proofs.Coming.{single_then_splits, none_past, splits_off, splits_over, splits_first, values_none, values_add, values_beside}
 use Rattle.transition_algebra.proofs.Cost.{left_after, cost_short}
 use Rattle.transition_algebra.proofs.Steps.{AreFirstHeapPairs}
 use Rattle.transition_algebra.proofs.Turning.{Standing, stands, left, left_some, left_over, turns-add, no_turn, one_turn, closing_turn, split_turns}
@@ -41,7 +41,7 @@ pub record Ready (code : List ℕ) (table : Grid) (phi : Pretending) (t : Trial)
   pub small : t.spent + t.heap < 2 ^ 32
   pub elements : All (λ p. p.value < table.order) pairs
   pub length_is : length pairs + 1 ≡ t.heap
-  pub values : (b : ℕ) → 1 ≤ b → b < t.heap → value_at pairs b ≡ phi_at phi b
+  pub values : HaveElements phi pairs
 
 square_small : (L B : ℕ) → L ≤ 17 → B ≤ 2066 → L * (B * B) ≤ 72563492
 square_small L B l b =
@@ -51,7 +51,7 @@ square_small L B l b =
 
 module _ (code : List ℕ) (table : Grid) (monoid : Monoid table.order (times_in table)) (phi : Pretending) (pretending : IsPretending phi) (into : IsInto table phi) where
   module _ (t : Trial) (pairs : List Pair) (is : IsTrial code table phi t pairs) where
-    pub stands_now : Standing code table phi (trying_of code phi t pairs)
+    pub stands_now : Standing code table phi (trying_of code table phi t pairs)
     stands_now = subst (Standing code table phi) (sym is.reached) (stands code table monoid phi pretending into t.spent)
 
     pub ready : IsOctalCode code → Ready code table phi t pairs
@@ -80,27 +80,37 @@ module _ (code : List ℕ) (table : Grid) (monoid : Monoid table.order (times_in
               (made.each (b - 1) one i).value_is ∙ agrees.phi_is (b - 1 + 1) (omega arith) ∙ ap (phi_at phi) e;
         }
 
+no_bit : (code : List ℕ) (j : ℕ) → length code ≤ j → has_bit code j 4 ≡ false
+no_bit code j l = ap (λ d. not (eqb (bit_and d 4) 0)) (get_or_past code j 0 l)
+
+no_splits : (code : List ℕ) (n most j a : ℕ) → (has_bit code j 4 ≡ true → last_part n most j < a) → splits_from code n most j a ≡ []
+no_splits code n most j a over = by_bit (has_bit code j 4) refl
+  where
+    by_bit : (b : Bool) → has_bit code j 4 ≡ b → splits_from code n most j a ≡ []
+    by_bit true e = splits_over code n most j a (over e)
+    by_bit false e = splits_off code n most j a e
+
 module _ (code : List ℕ) (table : Grid) (phi : Pretending) where
   -- the turns that a trial may still make
   pub room : (t : Trial) (pairs : List Pair) → IsTrial code table phi t pairs → t.heap ≤ bound_of code phi → t.spent + length (coming_at code t.heap (largest_part phi) t.away t.stage) + 1 ≤ heap_cost code phi
   room t pairs is l =
-      let a = left_some code table phi (trying_of code phi t pairs) l in
+      let a = left_some code table phi (trying_of code table phi t pairs) l in
       let b = ap (left code phi) is.reached ∙ left_after code table phi t.spent in
       omega arith
 
   -- past the bound all turns were made
   pub all_spent : (t : Trial) (pairs : List Pair) → IsTrial code table phi t pairs → bound_of code phi < t.heap → t.spent ≡ heap_cost code phi
   all_spent t pairs is l =
-      let a = left_over code table phi (trying_of code phi t pairs) l in
+      let a = left_over code table phi (trying_of code table phi t pairs) l in
       let b = ap (left code phi) is.reached ∙ left_after code table phi t.spent in
       let w = is.within in
       omega arith
 
   moved_on : (s t : Trial) (ps qs : List Pair) (n : ℕ) → IsTrial code table phi s ps → s.heap ≤ bound_of code phi
-      → trying_of code phi t qs ≡ turns code table phi n (trying_of code phi s ps)
+      → trying_of code table phi t qs ≡ turns code table phi n (trying_of code table phi s ps)
       → t.spent ≡ s.spent + n
       → n ≤ length (coming_at code s.heap (largest_part phi) s.away s.stage) + 1
-      → t.bound ≡ s.bound → t.most ≡ s.most → t.away ≤ length code → IsStage t.stage
+      → t.bound ≡ s.bound → t.most ≡ s.most → t.away ≤ length code → IsStage code t.heap (largest_part phi) t.away t.stage
       → IsTrial code table phi t qs
   moved_on s t ps qs n is going e spent few bound most away stage = record {
     bound_is = bound ∙ is.bound_is;
@@ -126,15 +136,18 @@ module _ (code : List ℕ) (table : Grid) (phi : Pretending) where
       → r ≡ length (single_left code s.heap s.away)
       → t ≡ after_single code table phi s
       → IsRun code table phi s t ps units r
+  unfolding with_values with_left
   run_single s t ps units r is going inside stage some short count after =
       let most = largest_part phi in
       let xs = single_left code s.heap s.away in
       let rest = splits_from code s.heap most s.away 1 ++ taking_from code s.heap most (s.away + 1) in
       let coming : coming_at code s.heap most s.away s.stage ≡ xs ++ rest = ap (coming_at code s.heap most s.away) stage ∙ single_then_splits code s.heap most s.away inside in
       let few : length xs ≤ length (coming_at code s.heap most s.away s.stage) + 1 = let e = ap length coming ∙ length-append xs rest in omega arith in
+      let from : record { heap = s.heap; coming = coming_at code s.heap most s.away s.stage; seen = s.seen; pairs = ps } ≡ trying_of code table phi s ps =
+      ap (λ v. record { heap = s.heap; coming = coming_at code s.heap most s.away s.stage; seen = v; pairs = ps }) (sym (ap (seen_at table phi (s.heap - s.away) s.seen) stage)) in
       let u = after_single code table phi s in
       let moved : IsTrial code table phi u ps =
-      moved_on s u ps ps (length xs) is going (single_turns s.heap s.seen ps xs (coming_at code s.heap most s.away s.stage) rest going short coming) refl few refl refl (omega arith) (omega arith) in
+      moved_on s u ps ps (length xs) is going (single_turns s.heap s.seen ps xs (coming_at code s.heap most s.away s.stage) rest going short coming ∙ ap (turns code table phi (length xs)) from) refl few refl refl (omega arith) (omega arith, λ two. absurd (omega arith)) in
       subst (λ v. IsRun code table phi s v ps units r) (sym after) (subst (λ n. IsRun code table phi s u ps units n) (sym count) (record {
         at_most = omega arith;
         trial = moved;
@@ -142,20 +155,46 @@ module _ (code : List ℕ) (table : Grid) (phi : Pretending) where
         falls = inr (let e = ap stages stage in omega arith);
       }))
 
+  -- once the units of all splits of a whole are spent, their values are those of the whole
+  taken : (whole last a : ℕ) (seen : set.FinSet nat_cmp) (bit b : Bool) → bit ≡ b
+      → 1 ≤ a
+      → (2 ≤ a → (bit ≡ true) × (a ≤ last + 1))
+      → (bit ≡ true → last < a)
+      → (if bit then set.union seen (with_values (split_value table phi whole) set.empty 1 last) else seen) ≡ with_values (split_value table phi whole) seen 1 (a - 1)
+  taken whole last a seen bit true e one_up is over =
+      let l = over e in
+      let n : last ≡ a - 1 = elim (dec_le 2 a) [
+        | yes two ↦ let m = (is two).1 in omega arith
+        | no few ↦ omega arith
+      ] in
+      ap (λ v. if v then set.union seen (with_values (split_value table phi whole) set.empty 1 last) else seen) e
+      ∙ values_beside (split_value table phi whole) seen 1 last ∙ ap (with_values (split_value table phi whole) seen 1) n
+  taken whole last a seen bit false e one_up is over =
+      let n : a - 1 ≡ 0 = elim (dec_le 2 a) [
+        | yes two ↦ absurd (let f = sym e ∙ (is two).0 in cc)
+        | no few ↦ omega arith
+      ] in
+      ap (λ v. if v then set.union seen (with_values (split_value table phi whole) set.empty 1 last) else seen) e
+      ∙ sym (values_none (split_value table phi whole) seen 1 (a - 1) n)
+
   pub run_none : (s t : Trial) (ps : List Pair) (units r a : ℕ) → IsTrial code table phi s ps → s.heap ≤ bound_of code phi → s.away < length code → s.stage ≡ Splits a
       → r ≡ 0
-      → splits_from code s.heap s.most s.away a ≡ []
-      → t ≡ after_all s
+      → (has_bit code s.away 4 ≡ true → last_part s.heap s.most s.away < a)
+      → t ≡ after_all code table phi s
       → IsRun code table phi s t ps units r
-  run_none s t ps units r a is going inside stage count none after =
+  run_none s t ps units r a is going inside stage count over after =
       let most = largest_part phi in
       let rest = taking_from code s.heap most (s.away + 1) in
+      let past : has_bit code s.away 4 ≡ true → last_part s.heap most s.away < a = λ e. subst (λ m. last_part s.heap m s.away < a) is.most_is (over e) in
       let coming : coming_at code s.heap most s.away s.stage ≡ rest =
-      ap (coming_at code s.heap most s.away) stage ∙ ap (λ xs. xs ++ rest) (ap (λ m. splits_from code s.heap m s.away a) (sym is.most_is) ∙ none) in
-      let u = after_all s in
-      let same : trying_of code phi u ps ≡ trying_of code phi s ps = ap (λ xs. record { heap = s.heap; coming = xs; seen = s.seen; pairs = ps }) (sym coming) in
+      ap (coming_at code s.heap most s.away) stage ∙ ap (λ xs. xs ++ rest) (no_splits code s.heap most s.away a past) in
+      let at = subst (IsStage code s.heap most s.away) stage is.stage_in in
+      let u = after_all code table phi s in
+      let seen : u.seen ≡ seen_at table phi (s.heap - s.away) s.seen s.stage =
+      taken (s.heap - s.away) (last_part s.heap most s.away) a s.seen (has_bit code s.away 4) (has_bit code s.away 4) refl at.0 at.1 past ∙ sym (ap (seen_at table phi (s.heap - s.away) s.seen) stage) in
+      let same : trying_of code table phi u ps ≡ trying_of code table phi s ps = ap₂ (λ xs v. record { heap = s.heap; coming = xs; seen = v; pairs = ps }) (sym coming) seen in
       let here : s.spent ≡ s.spent + 0 = omega arith in
-      let moved : IsTrial code table phi u ps = moved_on s u ps ps 0 is going (same ∙ no_turn code table phi (trying_of code phi s ps)) here (omega arith) refl refl (omega arith) tt in
+      let moved : IsTrial code table phi u ps = moved_on s u ps ps 0 is going (same ∙ no_turn code table phi (trying_of code table phi s ps)) here (omega arith) refl refl (omega arith) tt in
       subst (λ v. IsRun code table phi s v ps units r) (sym after) (subst (λ n. IsRun code table phi s u ps units n) (sym count) (record {
         at_most = omega arith;
         trial = moved;
@@ -163,18 +202,18 @@ module _ (code : List ℕ) (table : Grid) (phi : Pretending) where
         falls = inr (omega arith);
       }))
 
-  pub run_splits : (s t : Trial) (ps : List Pair) (units r a : ℕ) → IsTrial code table phi s ps → Ready code table phi s ps → s.heap ≤ bound_of code phi → s.away < length code → s.stage ≡ Splits a
+  pub run_splits : (s t : Trial) (ps : List Pair) (units r a : ℕ) → IsTrial code table phi s ps → s.heap ≤ bound_of code phi → s.away < length code → s.stage ≡ Splits a
       → 1 ≤ r → r ≤ units
       → has_bit code s.away 4 ≡ true
       → a + r ≤ last_part s.heap s.most s.away + 1
-      → t ≡ after_splits table ps s a r
+      → t ≡ after_splits s a r
       → IsRun code table phi s t ps units r
-  run_splits s t ps units r a is ready going inside stage some few bit room_for after =
+  run_splits s t ps units r a is going inside stage some few bit room_for after =
       let most = largest_part phi in
       let whole = s.heap - s.away in
-      let one_up : 1 ≤ a = subst IsStage stage is.stage_in in
-      let m = is.most_is in
-      let fits : a + r ≤ last_part s.heap most s.away + 1 = subst (λ v. a + r ≤ last_part s.heap v s.away + 1) m room_for in
+      let f = split_value table phi whole in
+      let one_up : 1 ≤ a = (subst (IsStage code s.heap most s.away) stage is.stage_in).0 in
+      let fits : a + r ≤ last_part s.heap most s.away + 1 = subst (λ v. a + r ≤ last_part s.heap v s.away + 1) is.most_is room_for in
       let rest = splits_from code s.heap most s.away (a + r) ++ taking_from code s.heap most (s.away + 1) in
       let coming : coming_at code s.heap most s.away s.stage ≡ splits whole a r ++ rest =
       ap (coming_at code s.heap most s.away) stage
@@ -184,11 +223,15 @@ module _ (code : List ℕ) (table : Grid) (phi : Pretending) where
       let e = ap length coming ∙ length-append (splits whole a r) rest in
       let d = length-map-range_with_len (λ x. Two x (whole - x)) a r in
       omega arith in
-      let u = after_splits table ps s a r in
-      let agree : (b : ℕ) → a ≤ b → b < a + r → split_value table ps whole b ≡ left_value table phi (Two b (whole - b)) =
-      λ b p q. ap₂ (times_in table) (ready.values b (omega arith) (omega arith)) (ready.values (whole - b) (omega arith) (omega arith)) in
+      let u = after_splits s a r in
+      let seen : seen_at table phi whole s.seen (Splits (a + r)) ≡ with_values f (with_values f s.seen 1 (a - 1)) a r = values_add f s.seen a r one_up in
+      let from : seen_at table phi whole s.seen s.stage ≡ with_values f s.seen 1 (a - 1) = ap (seen_at table phi whole s.seen) stage in
+      let turned = split_turns code table phi f whole r a s.heap (with_values f s.seen 1 (a - 1)) ps (coming_at code s.heap most s.away s.stage) rest going coming (λ b p q. refl) in
+      let reached : trying_of code table phi u ps ≡ turns code table phi r (trying_of code table phi s ps) =
+      ap (λ v. record { heap = s.heap; coming = rest; seen = v; pairs = ps }) seen ∙ turned
+      ∙ ap (λ v. turns code table phi r (record { heap = s.heap; coming = coming_at code s.heap most s.away s.stage; seen = v; pairs = ps })) (sym from) in
       let moved : IsTrial code table phi u ps =
-      moved_on s u ps ps r is going (split_turns code table phi (split_value table ps whole) whole r a s.heap s.seen ps (coming_at code s.heap most s.away s.stage) rest going coming agree) refl long refl refl is.away_in (omega arith) in
+      moved_on s u ps ps r is going reached refl long refl refl is.away_in (omega arith, λ two. (bit, fits)) in
       subst (λ v. IsRun code table phi s v ps units r) (sym after) (record {
         at_most = few;
         trial = moved;
@@ -199,8 +242,18 @@ module _ (code : List ℕ) (table : Grid) (phi : Pretending) where
   none_coming : (n most j : ℕ) (stage : Stage) → length code ≤ j → coming_at code n most j stage ≡ []
   none_coming n most j Single l = none_past code n most j l
   none_coming n most j (Splits a) l =
-      let bit : has_bit code j 4 ≡ false = ap (λ d. not (eqb (bit_and d 4) 0)) (get_or_past code j 0 l) in
+      let bit : has_bit code j 4 ≡ false = no_bit code j l in
       ap (λ xs. xs ++ taking_from code n most (j + 1)) (splits_off code n most j a bit) ∙ none_past code n most (j + 1) (omega arith)
+
+  -- past the last digit no splits are in hand
+  none_beside : (n most j : ℕ) (seen : set.FinSet nat_cmp) (stage : Stage) → length code ≤ j → IsStage code n most j stage → seen_at table phi (n - j) seen stage ≡ seen
+  none_beside n most j seen Single l is = refl
+  none_beside n most j seen (Splits a) l is =
+      let bit : has_bit code j 4 ≡ false = no_bit code j l in
+      values_none (split_value table phi (n - j)) seen 1 (a - 1) (elim (dec_le 2 a) [
+        | yes two ↦ absurd (let f = sym bit ∙ (is.1 two).0 in cc)
+        | no few ↦ omega arith
+      ])
 
   pub all_to_come : (n : ℕ) → taking_from code n (largest_part phi) 0 ≡ tries code phi n
   all_to_come n = let e : length code - 0 ≡ length code = omega arith in ap (λ k. flat_map (options_at code n (largest_part phi)) (range_with_len 0 k)) e
@@ -214,9 +267,9 @@ module _ (code : List ℕ) (table : Grid) (phi : Pretending) where
   run_close s t ps qs units r v is going past some count after value more =
       let most = largest_part phi in
       let u = after_heap s in
-      let next : trying_of code phi u qs ≡ turns code table phi 1 (trying_of code phi s ps) =
+      let next : trying_of code table phi u qs ≡ turns code table phi 1 (trying_of code table phi s ps) =
       ap (λ xs. record { heap = s.heap + 1; coming = xs; seen = set.empty; pairs = qs }) (all_to_come (s.heap + 1))
-      ∙ closing_turn code table phi (trying_of code phi s ps) v qs going (none_coming s.heap most s.away s.stage past) value more in
+      ∙ closing_turn code table phi (trying_of code table phi s ps) v qs going (none_coming s.heap most s.away s.stage past) value (more ∙ ap (λ w. ps ++ (record { value = v; options = w } ∷ [])) (sym (none_beside s.heap most s.away s.seen s.stage past is.stage_in))) in
       let moved : IsTrial code table phi u qs = moved_on s u ps qs 1 is going next refl (omega arith) refl refl (omega arith) tt in
       subst (λ w. IsRun code table phi s w qs units r) (sym after) (subst (λ n. IsRun code table phi s u qs units n) (sym count) (record {
         at_most = some;

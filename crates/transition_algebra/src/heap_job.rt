@@ -7,6 +7,7 @@ ghost use Rattle.transition_algebra.specs.Work.{IsDone, worked, heap_cost, turns
 use crate::pair::Pair;
 use crate::phi::{Phi, is_pretending};
 use crate::trial::Trial;
+use crate::wholes::Wholes;
 use allocation::Memory;
 use monoid_table::{Table, is_monoid};
 use octal_code::Code;
@@ -22,6 +23,7 @@ pub struct HeapJob<A: Allocator = Global> {
     phi: Phi<A>,
     trial: Trial,
     pairs: Vec<Pair, A>,
+    wholes: Wholes<A>,
     refused: bool,
 }
 
@@ -33,12 +35,12 @@ impl<A: Allocator> Model for HeapJob<A> {
     ghost view = { λ j. record { code = j.code; table = j.table; phi = j.phi; spent = j.trial.spent; refused = j.refused } };
 
     ghost use Rattle.transition_algebra.specs.Heaps.{IsInto};
-    ghost use Rattle.transition_algebra.specs.Trials.{IsTrial};
+    ghost use Rattle.transition_algebra.specs.Trials.{IsTrial, AreWholes};
 
-    ghost invariant = { λ j. IsInto j.table j.phi × IsTrial j.code j.table j.phi j.trial j.pairs.items };
+    ghost invariant = { λ j. IsInto j.table j.phi × IsTrial j.code j.table j.phi j.trial j.pairs.items × AreWholes j.table j.phi j.wholes.sets.items };
 }
 
-impl<A: Allocator> HeapJob<A> {
+impl<A: Allocator + Copy> HeapJob<A> {
     /// A job that has spent nothing. It holds no pair yet, and takes memory as it works.
     pub fn new(alloc: A, code: Code, table: Table<A>, phi: Phi<A>) -> HeapJob<A>
         requires { IsInto table phi }
@@ -51,10 +53,13 @@ impl<A: Allocator> HeapJob<A> {
             phi,
             trial,
             pairs: Vec::new(alloc),
+            wholes: Wholes::new(alloc),
             refused: false,
         }
     }
+}
 
+impl<A: Allocator> HeapJob<A> {
     /// The units spent so far.
     pub fn spent(&self) -> u64
         ensures { result ≡ self.now.spent }
@@ -82,9 +87,14 @@ impl<A: Allocator> HeapJob<A> {
         if self.refused {
             return Err(Memory);
         }
-        let made = self
-            .trial
-            .work(&self.code, &self.table, &self.phi, &mut self.pairs, units);
+        let made = self.trial.work(
+            &self.code,
+            &self.table,
+            &self.phi,
+            &mut self.pairs,
+            &mut self.wholes,
+            units,
+        );
         self.refused = made.is_err();
         made?;
         Ok(self.trial.is_over())

@@ -8,6 +8,7 @@ ghost use Rattle.transition_algebra.specs.Heaps.{IsInto, AreAllHeapPairs, bound_
 use crate::pair::Pair;
 use crate::phi::{Phi, is_pretending};
 use crate::trial::Trial;
+use crate::wholes::Wholes;
 use allocation::Memory;
 use monoid_table::{Table, is_monoid};
 use octal_code::Code;
@@ -67,6 +68,7 @@ pub fn heap_pairs<A: Allocator + Copy>(
     let _last = code.last();
     let mut trial = Trial::new(code, phi);
     let mut pairs = Vec::new(alloc);
-    trial.work(code, table, phi, &mut pairs, u64::MAX)?;
+    let mut wholes = Wholes::new(alloc);
+    trial.work(code, table, phi, &mut pairs, &mut wholes, u64::MAX)?;
     Ok(pairs)
 }

@@ -12,6 +12,7 @@ mod phi;
 #[cfg(test)]
 mod tests;
 mod trial;
+mod wholes;
 
 pub use heap_job::HeapJob;
 pub use heaps::heap_pairs;

@@ -71,12 +71,12 @@ fn are_worked(pairs: &[Pair]) -> bool {
     n == 22
 }
 
-/// A job in pieces of 7 units, its pairs worked out by hand.
-fn in_pieces<A: Allocator + Copy>(alloc: A) -> Option<bool> {
+/// A job in pieces of so many units, its pairs worked out by hand.
+fn in_pieces<A: Allocator + Copy>(alloc: A, units: u64) -> Option<bool> {
     let (code, table, phi) = game(alloc)?;
     let mut job = HeapJob::new(alloc, code, table, phi);
     for _ in 0..1000usize {
-        if job.work(7).ok()? {
+        if job.work(units).ok()? {
             return Some(are_worked(job.pairs()));
         }
     }
@@ -106,7 +106,8 @@ fn a_sum_has_the_product_of_its_pairs(rt: HostRuntime) -> Result<(), Fail> {
 
 #[test]
 fn pieces_make_the_same(rt: HostRuntime) -> Result<(), Fail> {
-    assert_eq!(rt; in_pieces(rt.alloc()), Some(true));
+    assert_eq!(rt; in_pieces(rt.alloc(), 1), Some(true));
+    assert_eq!(rt; in_pieces(rt.alloc(), 7), Some(true));
     Ok(())
 }
 
@@ -114,7 +115,7 @@ fn pieces_make_the_same(rt: HostRuntime) -> Result<(), Fail> {
 fn each_growth_may_be_refused(rt: HostRuntime) -> Result<(), Fail> {
     for n in 1..1000u64 {
         let ration = Ration::new(rt.alloc(), n);
-        let made = in_pieces(&ration);
+        let made = in_pieces(&ration, 7);
         if !ration.has_refused() {
             assert_eq!(rt; made, Some(true));
             return Ok(());

@@ -6,11 +6,12 @@ ghost use Rattle.octal_code.specs.Bits.{has_bit};
 ghost use Rattle.transition_algebra.specs.Pretending.{phi_at};
 ghost use Rattle.transition_algebra.specs.Heaps.{IsInto};
 ghost use Rattle.transition_algebra.specs.Work.{heap_cost};
-ghost use Rattle.transition_algebra.specs.Trials.{IsTrial, IsRun, single_left, splits_from, last_part, split_value, with_values, after_single, after_splits, after_all, after_heap};
+ghost use Rattle.transition_algebra.specs.Trials.{IsTrial, IsRun, AreWholes, HaveElements, single_left, last_part, after_single, after_splits, after_all, after_heap};
 
 use crate::heaps::{bound_of, largest_part, left_value};
 use crate::pair::Pair;
 use crate::phi::{Phi, is_pretending};
+use crate::wholes::Wholes;
 use allocation::Memory;
 use element_sets::ElementSet;
 use monoid_table::{Table, is_monoid};
@@ -26,7 +27,8 @@ pub(crate) enum Stage {
 }
 
 /// How far the options of the heaps 1 to `bound` are tried: the heap in hand, what is taken away from it, what is
-/// tried next, the values of the options so far, and the units spent. The pairs of the smaller heaps stand beside it.
+/// tried next, the values of the options so far but the splits in hand, and the units spent. The pairs of the smaller
+/// heaps stand beside it.
 #[derive(Clone, Copy)]
 pub(crate) struct Trial {
     pub(crate) bound: u64,
@@ -49,32 +51,6 @@ fn single_option(code: &Code, n: u64, away: u64) -> Option<Left>
     } else {
         None
     }
-}
-
-/// The set, with the values of the splits of `whole` whose smaller parts are the `count` numbers from `first` on.
-/// The element of the heap n is that of pair n - 1.
-fn with_splits<A: Allocator>(
-    table: &Table<A>,
-    pairs: &[Pair],
-    seen: ElementSet,
-    whole: u64,
-    first: u64,
-    count: u64,
-) -> ElementSet
-    requires elements { All (λ p. p.value < table.now.order) pairs.now }
-    requires from_one { 1 ≤ first }
-    requires smaller { 2 * (first + count) ≤ whole + 2 }
-    requires within { whole ≤ length pairs.now + 1 }
-    ensures { result ≡ with_values (split_value table.now pairs.now whole) seen first count }
-{
-    is_monoid(table);
-    let mut all = seen;
-    for part in first..first + count {
-        let x = pairs[(part - 1) as usize].value;
-        let y = pairs[(whole - part - 1) as usize].value;
-        all.insert(table.times(x, y) as u8);
-    }
-    all
 }
 
 impl Trial {
@@ -113,36 +89,52 @@ impl Trial {
         }
     }
 
-    /// Tries splits, the smaller part from `part` on, at most `units`; where none is left, turns to what takes more away.
-    fn try_splits<A: Allocator>(
-        &mut self,
-        code: &Code,
-        table: &Table<A>,
-        pairs: &[Pair],
-        part: u64,
-        units: u64,
-    ) -> u64
+    /// Spends a unit for each split, the smaller part from `part` on, at most `units`.
+    fn spend_splits(&mut self, code: &Code, part: u64, units: u64) -> u64
         requires some { 1 ≤ units }
-        requires elements { All (λ p. p.value < table.now.order) pairs.now }
         requires from_one { 1 ≤ part }
-        requires within { self.old.heap ≤ length pairs.now + 1 }
-        requires small { (self.old.spent + self.old.heap < 2 ^ 32) × (self.old.away < 2 ^ 32) }
+        requires small { self.old.spent + self.old.heap < 2 ^ 32 }
         ensures within { result ≤ units }
-        ensures none { result ≡ 0 → (splits_from code.now self.old.heap self.old.most self.old.away part ≡ []) × (self.new ≡ after_all self.old) }
-        ensures some { 1 ≤ result → (has_bit code.now self.old.away 4 ≡ true) × (part + result ≤ last_part self.old.heap self.old.most self.old.away + 1) × (self.new ≡ after_splits table.now pairs.now self.old part result) }
+        ensures none { result ≡ 0 → (has_bit code.now self.old.away 4 ≡ true → last_part self.old.heap self.old.most self.old.away < part) × (self.new ≡ self.old) }
+        ensures some { 1 ≤ result → (has_bit code.now self.old.away 4 ≡ true) × (part + result ≤ last_part self.old.heap self.old.most self.old.away + 1) × (self.new ≡ after_splits self.old part result) }
     {
         let whole = self.heap.saturating_sub(self.away);
         let last = (whole / 2).min(self.most);
         if !code.has_bit(self.away, 4) || last < part {
-            self.away += 1;
-            self.stage = Stage::Single;
             return 0;
         }
         let count = units.min(last + 1 - part);
-        self.seen = with_splits(table, pairs, self.seen, whole, part, count);
         self.stage = Stage::Splits(part + count);
         self.spent += count;
         count
+    }
+
+    /// Takes over the values of the splits, once their units are spent, and turns to what takes more away.
+    fn take_splits<A: Allocator>(
+        &mut self,
+        code: &Code,
+        table: &Table<A>,
+        phi: &Phi<A>,
+        pairs: &[Pair],
+        wholes: &mut Wholes<A>,
+    ) -> Result<(), Memory>
+        requires kept { AreWholes table.now phi.now wholes.old.sets.items }
+        requires elements { HaveElements phi.now pairs.now }
+        requires inside { All (λ p. p.value < table.now.order) pairs.now }
+        requires within { self.old.heap ≤ length pairs.now + 1 }
+        requires small { (self.old.heap < 2 ^ 32) × (self.old.away < 2 ^ 32) }
+        ensures kept { AreWholes table.now phi.now wholes.new.sets.items }
+        ensures trial { OnOk result (self.new ≡ after_all code.now table.now phi.now self.old) }
+        ensures err { OnErr result (self.new ≡ self.old) }
+    {
+        if code.has_bit(self.away, 4) {
+            let whole = self.heap.saturating_sub(self.away);
+            let values = wholes.values(table, phi, pairs, whole)?;
+            self.seen.union_with(&values);
+        }
+        self.away += 1;
+        self.stage = Stage::Single;
+        Ok(())
     }
 
     /// Sets the heap's pair down and begins the next heap.
@@ -173,13 +165,16 @@ impl Trial {
         table: &Table<A>,
         phi: &Phi<A>,
         pairs: &mut Vec<Pair, A>,
+        wholes: &mut Wholes<A>,
         units: u64,
     ) -> Result<u64, Memory>
         requires into { IsInto table.now phi.now }
         requires trial { IsTrial code.now table.now phi.now self.old pairs.old.items }
+        requires kept { AreWholes table.now phi.now wholes.old.sets.items }
         requires going { self.old.heap ≤ self.old.bound }
         requires some { 1 ≤ units }
         ensures ok { IfOk result (λ spent. IsRun code.now table.now phi.now self.old self.new pairs.new.items units spent) }
+        ensures kept { AreWholes table.now phi.now wholes.new.sets.items }
         ensures err { OnErr result (self.new ≡ self.old) }
         ensures err_pairs { OnErr result (pairs.new.items ≡ pairs.old.items) }
     {
@@ -191,7 +186,13 @@ impl Trial {
         }
         match self.stage {
             Stage::Single => Ok(self.try_single(code, table, phi)),
-            Stage::Splits(part) => Ok(self.try_splits(code, table, pairs, part, units)),
+            Stage::Splits(part) => {
+                let spent = self.spend_splits(code, part, units);
+                if spent == 0 {
+                    self.take_splits(code, table, phi, pairs, wholes)?;
+                }
+                Ok(spent)
+            }
         }
     }
 
@@ -202,18 +203,21 @@ impl Trial {
         table: &Table<A>,
         phi: &Phi<A>,
         pairs: &mut Vec<Pair, A>,
+        wholes: &mut Wholes<A>,
         units: u64,
     ) -> Result<(), Memory>
         requires into { IsInto table.now phi.now }
         requires trial { IsTrial code.now table.now phi.now self.old pairs.old.items }
+        requires kept { AreWholes table.now phi.now wholes.old.sets.items }
         ensures trial { IsTrial code.now table.now phi.now self.new pairs.new.items }
+        ensures kept { AreWholes table.now phi.now wholes.new.sets.items }
         ensures ok { OnOk result (self.new.spent ≡ min (self.old.spent + units) (heap_cost code.now phi.now)) }
         ensures err { OnErr result ((self.old.spent ≤ self.new.spent) × (self.new.spent < self.old.spent + units)) }
     {
         let _last = code.last();
         let mut left = units;
         while left > 0 && self.heap <= self.bound {
-            left -= self.run(code, table, phi, pairs, left)?;
+            left -= self.run(code, table, phi, pairs, wholes, left)?;
         }
         Ok(())
     }

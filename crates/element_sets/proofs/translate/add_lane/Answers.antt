@@ -22,7 +22,7 @@ overflow_cast-row c =
     omega arith
 
 pub loop-word-smaller : goal.loop-word-smaller
-loop-word-smaller c = falls c.loop-word.word (omega arith) (omega arith)
+loop-word-smaller c = falls c.loop-word.word (omega arith)
 
 pub loop-word-preserved : goal.loop-word-preserved
 loop-word-preserved c = record {

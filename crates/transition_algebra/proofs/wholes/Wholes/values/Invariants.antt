@@ -1,0 +1,9 @@
+use Rattle.std.proofs.Common.{◌+◌, ◌-◌, length}
+use Rattle.transition_algebra.specs.Trials.{AreWholes}
+use Rattle.transition_algebra.proofs.wholes.Wholes.values.Given as goal
+
+abbrev pub invariant-loop-self : goal.invariant-loop-self
+invariant-loop-self g l = AreWholes l.table l.phi l.self.sets.items
+
+abbrev pub decreases-loop-self : goal.decreases-loop-self
+decreases-loop-self g l = l.whole + 1 - length l.self.sets.items
