@@ -9,7 +9,3 @@ returns-clause-position g c =
 pub returns-clause-fails : goal.returns-clause-fails
 returns-clause-fails g c =
     element_fails c.args.sheet.now c.order-order.ensures.lawful c.args.heap c.args.y _ c.push.new.self c.requires.heap.0 c.requires.breach c.in_ok-position.ensures.position c.in_ok-position.ensures.value c.in_ok-push.ensures.ok
-
-pub returns-clause-position : goal.returns-clause-position
-returns-clause-position g c =
-    position_along c.args.sheet.now c.order-order.ensures.lawful (c.args.heap ∷ c.in_ok-position.position) c.push.new.self c.in_ok-push.ensures.ok (c.requires.heap.0, c.in_ok-position.ensures.position)
