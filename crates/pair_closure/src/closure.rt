@@ -217,6 +217,13 @@ impl<A: Room + Copy> Closure<A> {
         }
     }
 
+    /// Looks for the member that is multiplied next, so that a later look begins there.
+    fn seek(&mut self)
+        ensures { self.new ≡ self.old }
+    {
+        self.from = pending(&self.held, self.generators.len(), self.from);
+    }
+
     /// A growth was refused: it stays where it is, for good.
     fn stop(&mut self)
         ensures { self.new ≡ stopped self.old }
@@ -297,8 +304,6 @@ impl<A: Room + Copy> Closure<A> {
     }
 
     /// Takes turns as `grow` does, but stops after one that keeps a member. That member is then the last one held.
-    ///
-    /// So whoever looks at members as they are kept calls it once for each, and once more.
     pub fn grow_to_member(&mut self, units: u64) -> Result<Grown, Memory>
         ensures turns { OnOk result (GrowsToMember units self.old self.new) }
         ensures more { result ≡ Ok Grown.More → has_ended self.new.state ≡ false }
@@ -306,12 +311,9 @@ impl<A: Room + Copy> Closure<A> {
         ensures over { result ≡ Ok Grown.Over → is_over self.new.state ≡ true }
         ensures closed { result ≡ Ok Grown.Done → IsClosedOver self.new.state }
         ensures exceeded { result ≡ Ok Grown.Over → IsExceeded self.new.state }
-
-        // A refused growth stops it where it is, for good.
         ensures refused { OnErr result ((n : ℕ) × (n ≤ units) × (self.new ≡ stopped (steps n self.old))) }
         ensures stays_refused { self.old.failed ≡ true → IsErr result }
         ensures stays { self.old.failed ≡ true → self.new ≡ self.old }
-
         ensures data { SameData self.old.state self.new.state }
         ensures kept { KeepsOne self.old.state self.new.state }
         ensures costs { length self.old.state.members < length self.new.state.members → self.old.spent < self.new.spent }
@@ -327,6 +329,7 @@ impl<A: Room + Copy> Closure<A> {
             match self.take() {
                 Ok(true) => {
                     if self.ever() > ever {
+                        self.seek();
                         return self.standing();
                     }
                 }

@@ -8,34 +8,34 @@ use Rattle.pair_closure.proofs.closure.Closure.grow_to_member.Goals as goal
 pub returns-then-ever-clause-turns : goal.returns-then-ever-clause-turns
 returns-then-ever-clause-turns g c =
     let i = c.loop-turn.invariant in
-    on_ok c.standing.result (goes c.loop-turn._turn c.args.units c.args.self.now c.loop-turn.self i.reached i.first c.take.new.self c.loop-turn-test.true c.in-Ok-true.ensures.ok)
+    on_ok c.standing.result (goes c.loop-turn._turn c.args.units c.args.self.now c.loop-turn.self i.reached i.first c.seek.new.self c.loop-turn-test.true (c.seek.ensures ∙ c.in-Ok-true.ensures.ok))
 
 pub returns-then-ever-clause-refused : goal.returns-then-ever-clause-refused
 returns-then-ever-clause-refused g c =
     let i = c.loop-turn.invariant in
-    refused_at c.standing.result c.args.units c.args.self.now c.take.new.self
-    (goes c.loop-turn._turn c.args.units c.args.self.now c.loop-turn.self i.reached i.first c.take.new.self c.loop-turn-test.true c.in-Ok-true.ensures.ok)
+    refused_at c.standing.result c.args.units c.args.self.now c.seek.new.self
+    (goes c.loop-turn._turn c.args.units c.args.self.now c.loop-turn.self i.reached i.first c.seek.new.self c.loop-turn-test.true (c.seek.ensures ∙ c.in-Ok-true.ensures.ok))
     c.standing.ensures.refused.0
 
 pub returns-then-ever-clause-data : goal.returns-then-ever-clause-data
 returns-then-ever-clause-data g c =
     let i = c.loop-turn.invariant in
-    grown_data c.args.units c.args.self.now c.take.new.self (goes c.loop-turn._turn c.args.units c.args.self.now c.loop-turn.self i.reached i.first c.take.new.self c.loop-turn-test.true c.in-Ok-true.ensures.ok)
+    grown_data c.args.units c.args.self.now c.seek.new.self (goes c.loop-turn._turn c.args.units c.args.self.now c.loop-turn.self i.reached i.first c.seek.new.self c.loop-turn-test.true (c.seek.ensures ∙ c.in-Ok-true.ensures.ok))
 
 pub returns-then-ever-clause-kept : goal.returns-then-ever-clause-kept
 returns-then-ever-clause-kept g c =
     let i = c.loop-turn.invariant in
-    (keeps_of c.args.units c.args.self.now c.take.new.self (goes c.loop-turn._turn c.args.units c.args.self.now c.loop-turn.self i.reached i.first c.take.new.self c.loop-turn-test.true c.in-Ok-true.ensures.ok))
+    (keeps_of c.args.units c.args.self.now c.seek.new.self (goes c.loop-turn._turn c.args.units c.args.self.now c.loop-turn.self i.reached i.first c.seek.new.self c.loop-turn-test.true (c.seek.ensures ∙ c.in-Ok-true.ensures.ok)))
 
 pub returns-then-ever-clause-spent_range : goal.returns-then-ever-clause-spent_range
 returns-then-ever-clause-spent_range g c =
     let i = c.loop-turn.invariant in
-    grown_spent c.args.units c.args.self.now c.take.new.self (goes c.loop-turn._turn c.args.units c.args.self.now c.loop-turn.self i.reached i.first c.take.new.self c.loop-turn-test.true c.in-Ok-true.ensures.ok)
+    grown_spent c.args.units c.args.self.now c.seek.new.self (goes c.loop-turn._turn c.args.units c.args.self.now c.loop-turn.self i.reached i.first c.seek.new.self c.loop-turn-test.true (c.seek.ensures ∙ c.in-Ok-true.ensures.ok))
 
 pub returns-then-ever-clause-costs : goal.returns-then-ever-clause-costs
 returns-then-ever-clause-costs g c =
     let i = c.loop-turn.invariant in
-    grown_costs c.args.units c.args.self.now c.take.new.self (goes c.loop-turn._turn c.args.units c.args.self.now c.loop-turn.self i.reached i.first c.take.new.self c.loop-turn-test.true c.in-Ok-true.ensures.ok)
+    grown_costs c.args.units c.args.self.now c.seek.new.self (goes c.loop-turn._turn c.args.units c.args.self.now c.loop-turn.self i.reached i.first c.seek.new.self c.loop-turn-test.true (c.seek.ensures ∙ c.in-Ok-true.ensures.ok))
 
 pub returns-in-Ok-false-clause-costs : goal.returns-in-Ok-false-clause-costs
 returns-in-Ok-false-clause-costs g c =
