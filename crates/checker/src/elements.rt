@@ -81,6 +81,7 @@ fn common(a: &ElementSet, b: &ElementSet, order: u16) -> Option<u16>
     ensures within { IfSome result (λ y. y < order) }
     ensures first { IfSome result (λ y. set.contains a.now y ≡ true) }
     ensures second { IfSome result (λ y. set.contains b.now y ≡ true) }
+    ensures least { IfSome result (λ y. (x : ℕ) → x < y → set.contains a.now x ≡ true → set.contains b.now x ≡ false) }
     ensures none { IfNone result ((y : ℕ) → y < order → set.contains a.now y ≡ true → set.contains b.now y ≡ false) }
 {
     if !a.meets(b) {
@@ -127,7 +128,7 @@ fn failed<A: Room>(sheet: Sheet<A>, position: Position<A>) -> Stage<A>
     Stage::Ended(Err(Refusal::Outcome(code, position)))
 }
 
-/// An element that is in the portion beside the heap of the pair and beside its option.
+/// The first element that is in the portion beside the heap of the pair and beside its option.
 fn breach(pair: &Pair, contexts: &[ElementSet], option: u16, order: u16) -> Option<u16>
     requires value { pair.now.value < length contexts.now }
     requires option { option < length contexts.now }
@@ -137,6 +138,7 @@ fn breach(pair: &Pair, contexts: &[ElementSet], option: u16, order: u16) -> Opti
     ensures option { IfSome result (λ _. set.contains pair.now.options option ≡ true) }
     ensures heap { IfSome result (λ y. set.contains (slice_index_or contexts.now pair.now.value set.empty) y ≡ true) }
     ensures left { IfSome result (λ y. set.contains (slice_index_or contexts.now option set.empty) y ≡ true) }
+    ensures least { IfSome result (λ y. (x : ℕ) → x < y → set.contains (slice_index_or contexts.now pair.now.value set.empty) x ≡ true → set.contains (slice_index_or contexts.now option set.empty) x ≡ false) }
     ensures none { IfNone result (set.contains pair.now.options option ≡ true → (y : ℕ) → y < order → set.contains (slice_index_or contexts.now pair.now.value set.empty) y ≡ true → set.contains (slice_index_or contexts.now option set.empty) y ≡ false) }
 {
     if !pair.options.contains(option as u8) {
