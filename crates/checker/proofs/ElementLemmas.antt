@@ -77,7 +77,6 @@ module _ (c : Certificate) (r : InRanges c) (pairs : List Pair) (ctx : List (set
   value_turn i h e o l = record {
     canonical = e.canonical;
     exact = e.exact;
-    covered = e.covered;
     sets = e.sets;
     place = e.place;
     value = l;
@@ -89,7 +88,6 @@ module _ (c : Certificate) (r : InRanges c) (pairs : List Pair) (ctx : List (set
   heap_turn i h e o w l = record {
     canonical = e.canonical;
     exact = e.exact;
-    covered = e.covered;
     sets = e.sets;
     place = omega arith;
     value = omega arith;

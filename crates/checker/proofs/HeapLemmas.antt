@@ -19,7 +19,7 @@ use Rattle.pair_closure.specs.declared.settle.Held.{Held}
 use Rattle.pair_closure.specs.Turns.{State}
 use Rattle.pair_closure.proofs.Positions.{items_have, has_items}
 use Rattle.certificate.specs.Pieces.{Pieces, certificate_of}
-use Rattle.checker.specs.Rules.{Obeys, Breaks}
+use Rattle.checker.specs.Rules.{Obeys, Breaks, HeldObey}
 use Rattle.checker.specs.Closings.{HavePairs, IsClosing, IsCovered, bound_of}
 use Rattle.checker.proofs.Rows.{rows_of-entry}
 use Rattle.checker.proofs.RuleLemmas.{breach_fails}
@@ -89,7 +89,7 @@ module _ (p : Pieces) where
       }
 
       -- members that all obey the rule cover every position
-      pub members_cover : IsClosedOver t → ((i : ℕ) → i < length t.held → Obeys inside (get_or t.held i blank_held).pair) → IsCovered (certificate_of p)
+      pub members_cover : IsClosedOver t → HeldObey inside t.held → IsCovered (certificate_of p)
       members_cover closed all = record {
         kept = kept t;
         closed = subst (λ n. IsClosed p.code (claim_of (certificate_of p)) (IsHeapUpTo n) (kept t)) length_bound (closed p.code (claim_of (certificate_of p)) over_state);

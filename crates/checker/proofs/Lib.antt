@@ -12,3 +12,4 @@ pub mod ElementLemmas
 pub mod UnitLemmas
 pub mod StageLemmas
 pub mod AnswerLemmas
+pub mod HeldLemmas

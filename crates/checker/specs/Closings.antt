@@ -4,7 +4,7 @@ use Rattle.std.specs.FinSet as set
 use Rattle.std.specs.Ordering.{nat_cmp}
 use Rattle.misere_theory.specs.Games.{IsHeapUpTo}
 use Rattle.misere_theory.specs.Quotients.{HeapOptionValue}
-use Rattle.misere_theory.specs.Pairs.{heap_bound, IsClosed, KeptObey}
+use Rattle.misere_theory.specs.Pairs.{heap_bound, IsClosed, KeptObey, ElementsObey}
 use Rattle.misere_theory.specs.Pairs as theory
 use Rattle.misere_theory.specs.Certificates.{Certificate, Canonical, claim_of, times_of, phi_at}
 use Rattle.transition_algebra.specs.declared.pair.Pair.{Pair}
@@ -31,6 +31,7 @@ pub record IsClosing (p : Pieces) (inside : set.FinSet nat_cmp) (pairs : List Pa
   pub sheet : IsSheet p inside
   pub canonical : Canonical (certificate_of p)
   pub exact : HavePairs (certificate_of p) pairs
+  pub elements : ElementsObey (certificate_of p).code (claim_of (certificate_of p)) (IsHeapUpTo (bound_of (certificate_of p)))
 
 -- some closed list of pairs obeys the rule
 pub record IsCovered (c : Certificate) : Type 0 where
@@ -56,7 +57,6 @@ pub record AreContexts (c : Certificate) (contexts : List (set.FinSet nat_cmp)) 
 pub record ElementsSoFar (c : Certificate) (pairs : List Pair) (contexts : List (set.FinSet nat_cmp)) (i h : ℕ) : Type 0 where
   pub canonical : Canonical c
   pub exact : HavePairs c pairs
-  pub covered : IsCovered c
   pub sets : AreContexts c contexts
   pub place : i ≤ length pairs
   pub value : h < c.order

@@ -1,8 +1,10 @@
 -- The local rule at a pair of a value and its options' values.
-use Rattle.std.specs.Prelude.{◌≡◌, ◌⊎◌, ℕ, true, false}
+use Rattle.std.specs.Prelude.{◌≡◌, ◌⊎◌, ℕ, ◌<◌, true, false, List, length, slice_index_or}
 use Rattle.std.specs.FinSet as set
 use Rattle.std.specs.Ordering.{nat_cmp}
 use Rattle.transition_algebra.specs.declared.pair.Pair.{Pair}
+use Rattle.pair_closure.specs.declared.settle.Held.{Held}
+use Rattle.pair_closure.specs.Progress.{blank_held}
 
 -- inside the portion there is an option; outside, where there is one, there is one in the portion
 pub record Obeys (inside : set.FinSet nat_cmp) (p : Pair) : Type 0 where
@@ -16,3 +18,7 @@ Breaks inside p =
     ⊎ ((set.contains inside p.value ≡ false)
     × ((x : ℕ) × (set.contains p.options x ≡ true))
     × ((y : ℕ) → set.contains p.options y ≡ true → set.contains inside y ≡ false))
+
+-- each member held obeys the rule
+abbrev pub HeldObey : set.FinSet nat_cmp → List Held → Type 0
+HeldObey inside held = (i : ℕ) → i < length held → Obeys inside (slice_index_or held i blank_held).pair

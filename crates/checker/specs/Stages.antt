@@ -5,7 +5,7 @@ use Rattle.certificate_text.specs.Spelling.{Spells}
 use Rattle.checker.specs.Answers.{Answer, answer_of, Fits, Holds}
 use Rattle.checker.specs.Units.{stage_units}
 use Rattle.checker.specs.declared.stage.Stage.{Stage}
-use Rattle.checker.specs.declared.stage.Stage.TheVariants.{Reading, Laws, Keys, Products, Periods, Separating, Heaps, Closing, Elements, Ended}
+use Rattle.checker.specs.declared.stage.Stage.TheVariants.{Reading, Laws, Keys, Products, Periods, Separating, Heaps, Elements, Closing, Ended}
 
 -- the stage holds the certificate, or has answered what is true of it
 abbrev pub Carries : {A : Type 0} → Certificate → ℕ → Stage A → Type 0
@@ -16,8 +16,8 @@ Carries c limit (Products p) = p.certificate ≡ c
 Carries c limit (Periods p) = p.certificate ≡ c
 Carries c limit (Separating s) = s.certificate ≡ c
 Carries c limit (Heaps h) = h.certificate ≡ c
-Carries c limit (Closing s) = (s.certificate ≡ c) × (s.limit ≡ limit)
 Carries c limit (Elements e) = e.certificate ≡ c
+Carries c limit (Closing s) = (s.certificate ≡ c) × (s.limit ≡ limit)
 Carries c limit (Ended r) = Fits c limit (answer_of r)
 
 -- the stage stands of the bytes
@@ -29,8 +29,8 @@ Stands bytes limit (Products p) = Spells bytes p.certificate
 Stands bytes limit (Periods p) = Spells bytes p.certificate
 Stands bytes limit (Separating s) = Spells bytes s.certificate
 Stands bytes limit (Heaps h) = Spells bytes h.certificate
-Stands bytes limit (Closing s) = Spells bytes s.certificate × (s.limit ≡ limit)
 Stands bytes limit (Elements e) = Spells bytes e.certificate
+Stands bytes limit (Closing s) = Spells bytes s.certificate × (s.limit ≡ limit)
 Stands bytes limit (Ended r) = Holds bytes limit (answer_of r)
 
 abbrev pub has_ended : {A : Type 0} → Stage A → Bool
@@ -41,8 +41,8 @@ has_ended (Products p) = false
 has_ended (Periods p) = false
 has_ended (Separating s) = false
 has_ended (Heaps h) = false
-has_ended (Closing s) = false
 has_ended (Elements e) = false
+has_ended (Closing s) = false
 has_ended (Ended r) = true
 
 -- the answer, once it stands
@@ -54,8 +54,8 @@ ending (Products p) = None
 ending (Periods p) = None
 ending (Separating s) = None
 ending (Heaps h) = None
-ending (Closing s) = None
 ending (Elements e) = None
+ending (Closing s) = None
 ending (Ended r) = Some (answer_of r)
 
 -- the units that a check at this stage takes at most
@@ -67,8 +67,8 @@ needs (Products p) = p.units + 6 * stage_units
 needs (Periods p) = p.units + 5 * stage_units
 needs (Separating s) = s.units + 4 * stage_units
 needs (Heaps h) = h.units + 3 * stage_units
-needs (Closing s) = s.units + 2 * stage_units
-needs (Elements e) = e.units + stage_units
+needs (Elements e) = e.units + 2 * stage_units
+needs (Closing s) = s.units + stage_units
 needs (Ended r) = 0
 
 -- Of `before` units `after` are left. Those spent and those that the stage then needs are at most `most`; and where some are left, it

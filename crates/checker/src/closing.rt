@@ -1,27 +1,32 @@
 //! The stage that closes the pairs under products with the heaps.
-ghost use Rattle.std.specs.Prelude.{◌≡◌, ◌<◌, ◌+◌, ◌*◌, ℕ, length, IfSome, IfNone, slice_index_or};
-ghost use Rattle.misere_theory.specs.Certificates.{Canonical};
-ghost use Rattle.pair_closure.specs.Progress.{blank_held};
-ghost use Rattle.checker.specs.Rules.{Obeys, Breaks};
-ghost use Rattle.checker.specs.Closings.{HavePairs};
+ghost use Rattle.std.specs.Prelude.{◌≡◌, ◌<◌, ◌≤◌, ◌+◌, ◌*◌, ℕ, length, Ok, slice_index_or};
+ghost use Rattle.misere_theory.specs.Games.{IsHeapUpTo};
+ghost use Rattle.misere_theory.specs.Pairs.{ElementsObey};
+ghost use Rattle.misere_theory.specs.Certificates.{Accepted, Canonical, claim_of};
+ghost use Rattle.pair_closure.specs.Positions.{IsClosedOver, IsExceeded};
+ghost use Rattle.pair_closure.specs.Progress.{SameData, blank_held};
+ghost use Rattle.checker.specs.Rules.{Breaks, HeldObey};
+ghost use Rattle.checker.specs.Closings.{HavePairs, bound_of};
 ghost use Rattle.checker.specs.Units.{stage_units};
 ghost use Rattle.checker.specs.Stages.{Carries, Pays};
 
-use crate::elements::Elements;
+use crate::certified::Certified;
 use crate::lines::Lines;
 use crate::refusal::Refusal;
 use crate::rule::obeys;
 use crate::sheet::Sheet;
 use crate::stage::Stage;
-use allocation::Room;
+use allocation::{Memory, Room};
+use certificate::{Cert, Parts};
 use element_sets::ElementSet;
+use misere_theory::certificates::tested_certificates_are_accepted;
 use octal_code::Code;
 use pair_closure::{Closure, Grown};
 use std::alloc::Global;
 use std::marker::Model;
 use transition_algebra::{Pair, Phi};
 
-/// The pairs are closed, a product a turn, and each that is held at the end obeys the rule.
+/// The pairs are closed, a product a turn, and each obeys the rule as it is kept.
 #[derive(Drop)]
 pub struct Closing<A: Room = Global> {
     code: Code,
@@ -36,26 +41,96 @@ impl<A: Room> Model for Closing<A> {
     ghost use Rattle.std.specs.Prelude.{◌+◌, ◌-◌, ◌*◌, length};
     ghost use Rattle.checker.specs.Units.{Limited};
     ghost use Rattle.checker.specs.Closings.{IsClosing};
+    ghost use Rattle.checker.specs.Rules.{HeldObey};
 
     ghost Value = { Limited };
 
     ghost view = { λ s. record { certificate = certificate_of (pieces_of s.code s.closure.state.table s.phi s.lines.portion.items s.lines.words.items s.lines.apart.items); limit = s.closure.state.limit; units = s.closure.state.limit * length s.closure.state.heaps + 2 - s.closure.spent } };
 
-    ghost invariant = { λ s. IsClosing (pieces_of s.code s.closure.state.table s.phi s.lines.portion.items s.lines.words.items s.lines.apart.items) s.lines.inside s.closure.state.heaps };
+    ghost invariant = { λ s.
+        IsClosing (pieces_of s.code s.closure.state.table s.phi s.lines.portion.items s.lines.words.items s.lines.apart.items) s.lines.inside s.closure.state.heaps
+        × HeldObey s.lines.inside s.closure.state.held };
 }
 
-/// The first member held that breaks the rule.
-fn first_breach<A: Room + Copy>(closure: &Closure<A>, inside: &ElementSet) -> Option<usize>
-    ensures within { IfSome result (λ i. i < length closure.now.state.held) }
-    ensures breach { IfSome result (λ i. Breaks inside.now (slice_index_or closure.now.state.held i blank_held).pair) }
-    ensures none { IfNone result ((i : ℕ) → i < length closure.now.state.held → Obeys inside.now (slice_index_or closure.now.state.held i blank_held).pair) }
+/// How far the pairs are closed.
+#[derive(Clone, Copy)]
+enum Looked {
+    /// A turn is left to take.
+    More,
+    /// The members held cover every position, and each obeys the rule.
+    Done,
+    /// More members were kept than the limit.
+    Over,
+    /// The member held at this place breaks the rule.
+    Broken(usize),
+}
+
+/// Closes the pairs, and looks at the rule at each member in the turn that keeps it.
+fn close<A: Room + Copy>(
+    closure: &mut Closure<A>,
+    inside: &ElementSet,
+    left: &mut u64,
+) -> Result<Looked, Memory>
+    requires { HeldObey inside.now closure.old.state.held }
+    ensures more { result ≡ Ok Looked.More → (left.new ≡ 0) × HeldObey inside.now closure.new.state.held }
+    ensures done { result ≡ Ok Looked.Done → IsClosedOver closure.new.state × HeldObey inside.now closure.new.state.held }
+    ensures over { result ≡ Ok Looked.Over → IsExceeded closure.new.state }
+    ensures broken { (i : ℕ) → result ≡ Ok (Looked.Broken i)
+        → (i < length closure.new.state.held) × Breaks inside.now (slice_index_or closure.new.state.held i blank_held).pair }
+    ensures data { SameData closure.old.state closure.new.state }
+    ensures spends { left.new ≤ left.old }
+    ensures spent { left.new + closure.new.spent ≡ left.old + closure.old.spent }
 {
-    for i in 0..closure.kept() {
-        if !obeys(inside, closure.member(i)) {
-            return Some(i);
+    'members: loop {
+        let before = closure.spent();
+        let ever = closure.ever();
+        let grown = closure.grow_to_member(*left);
+        *left -= (closure.spent() - before) as u64;
+        if closure.ever() > ever {
+            let newest = closure.kept() - 1;
+            if !obeys(inside, closure.member(newest)) {
+                return Ok(Looked::Broken(newest));
+            }
+        }
+        match grown {
+            Err(_) => return Err(Memory),
+            Ok(Grown::Done) => return Ok(Looked::Done),
+            Ok(Grown::Over) => return Ok(Looked::Over),
+            Ok(Grown::More) => {
+                if closure.ever() == ever {
+                    return Ok(Looked::More);
+                }
+            }
         }
     }
-    None
+}
+
+/// The certificate, put together again.
+fn accepted<A: Room>(sheet: Sheet<A>) -> Certified<A>
+    requires { Accepted sheet }
+    ensures { result ≡ sheet }
+{
+    let Sheet {
+        code,
+        table,
+        phi,
+        lines,
+    } = sheet;
+    let Lines {
+        portion,
+        inside: _,
+        words,
+        apart,
+    } = lines;
+    Certified::new(Cert::from_parts(Parts {
+        code,
+        order: table.order(),
+        phi,
+        portion,
+        words,
+        rows: table.into_rows(),
+        apart,
+    }))
 }
 
 impl<A: Room + Copy> Closing<A> {
@@ -63,6 +138,7 @@ impl<A: Room + Copy> Closing<A> {
     pub fn new(alloc: A, sheet: Sheet<A>, pairs: Vec<Pair, A>, limit: u32) -> Closing<A>
         requires canonical { Canonical sheet }
         requires pairs { HavePairs sheet pairs.items }
+        requires elements { ElementsObey sheet.code (claim_of sheet) (IsHeapUpTo (bound_of sheet)) }
         ensures certificate { result.certificate ≡ sheet }
         ensures limit { result.limit ≡ limit }
         ensures units { result.units < stage_units }
@@ -82,9 +158,9 @@ impl<A: Room + Copy> Closing<A> {
     }
 
     /// Spends units until there are none or the stage ends.
-    pub fn work(self, alloc: A, left: &mut u64) -> Stage<A>
+    pub fn work(self, left: &mut u64) -> Stage<A>
         ensures carries { Carries self.certificate self.limit result }
-        ensures pays { Pays (self.units + 2 * stage_units) left.old left.new result }
+        ensures pays { Pays (self.units + stage_units) left.old left.new result }
     {
         let Closing {
             code,
@@ -92,39 +168,30 @@ impl<A: Room + Copy> Closing<A> {
             lines,
             mut closure,
         } = self;
-        let before = closure.spent();
-        let grown = closure.grow(*left);
+        let closed = close(&mut closure, &lines.inside, left);
         closure.speak();
-        *left -= (closure.spent() - before) as u64;
-        match grown {
+        match closed {
             Err(_) => Stage::Ended(Err(Refusal::Memory)),
-            Ok(Grown::More) => Stage::Closing(Closing {
+            Ok(Looked::More) => Stage::Closing(Closing {
                 code,
                 phi,
                 lines,
                 closure,
             }),
-            Ok(Grown::Over) => Stage::Ended(Err(Refusal::Limit)),
-            Ok(Grown::Done) => {
-                match first_breach(&closure, &lines.inside) {
-                    Some(i) => match closure.word(i) {
-                        Ok(position) => Stage::Ended(Err(Refusal::Outcome(code, position))),
-                        Err(_) => Stage::Ended(Err(Refusal::Memory)),
-                    },
-                    None => {
-                        let (table, pairs) = closure.finish();
-                        let sheet = Sheet {
-                            code,
-                            table,
-                            phi,
-                            lines,
-                        };
-                        match Elements::new(alloc, sheet, pairs) {
-                            Ok(elements) => Stage::Elements(elements),
-                            Err(_) => Stage::Ended(Err(Refusal::Memory)),
-                        }
-                    }
-                }
+            Ok(Looked::Over) => Stage::Ended(Err(Refusal::Limit)),
+            Ok(Looked::Broken(i)) => match closure.word(i) {
+                Ok(position) => Stage::Ended(Err(Refusal::Outcome(code, position))),
+                Err(_) => Stage::Ended(Err(Refusal::Memory)),
+            },
+            Ok(Looked::Done) => {
+                let (table, _) = closure.finish();
+                tested_certificates_are_accepted();
+                Stage::Ended(Ok(accepted(Sheet {
+                    code,
+                    table,
+                    phi,
+                    lines,
+                })))
             }
         }
     }

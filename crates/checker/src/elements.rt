@@ -1,23 +1,20 @@
 //! The stage that looks at the options of values inside the portion.
-ghost use Rattle.std.specs.Prelude.{◌≡◌, ◌<◌, ◌≤◌, ◌^◌, ◌+◌, ℕ, length, IfOk, IfSome, IfNone, true, false, slice_index_or};
+ghost use Rattle.std.specs.Prelude.{◌≡◌, ◌<◌, ◌≤◌, ◌^◌, ◌+◌, ◌*◌, ℕ, length, IfOk, IfSome, IfNone, true, false, slice_index_or};
 ghost use Rattle.std.specs.FinSet as set;
 ghost use Rattle.misere_theory.specs.Games.{IsHeap, IsPosition};
 ghost use Rattle.misere_theory.specs.Quotients.{RuleFails};
-ghost use Rattle.misere_theory.specs.Certificates.{Accepted, Canonical, claim_of, times_of};
-ghost use Rattle.checker.specs.Closings.{HavePairs, IsCovered, AreContexts, LeadsIn};
+ghost use Rattle.misere_theory.specs.Certificates.{Canonical, claim_of, times_of};
+ghost use Rattle.checker.specs.Closings.{HavePairs, AreContexts, LeadsIn};
 ghost use Rattle.checker.specs.Units.{stage_units};
 ghost use Rattle.checker.specs.Stages.{Carries, Pays, needs};
 
-use crate::certified::Certified;
-use crate::lines::Lines;
+use crate::closing::Closing;
 use crate::refusal::Refusal;
 use crate::sheet::Sheet;
 use crate::spelling::spelled;
 use crate::stage::Stage;
 use allocation::{Memory, Room};
-use certificate::{Cert, Parts};
 use element_sets::ElementSet;
-use misere_theory::certificates::tested_certificates_are_accepted;
 use positions::Position;
 use std::alloc::Global;
 use std::marker::Model;
@@ -84,6 +81,7 @@ fn common(a: &ElementSet, b: &ElementSet, order: u16) -> Option<u16>
     ensures within { IfSome result (λ y. y < order) }
     ensures first { IfSome result (λ y. set.contains a.now y ≡ true) }
     ensures second { IfSome result (λ y. set.contains b.now y ≡ true) }
+    ensures least { IfSome result (λ y. (x : ℕ) → x < y → set.contains a.now x ≡ true → set.contains b.now x ≡ false) }
     ensures none { IfNone result ((y : ℕ) → y < order → set.contains a.now y ≡ true → set.contains b.now y ≡ false) }
 {
     if !a.meets(b) {
@@ -130,7 +128,7 @@ fn failed<A: Room>(sheet: Sheet<A>, position: Position<A>) -> Stage<A>
     Stage::Ended(Err(Refusal::Outcome(code, position)))
 }
 
-/// An element that is in the portion beside the heap of the pair and beside its option.
+/// The first element that is in the portion beside the heap of the pair and beside its option.
 fn breach(pair: &Pair, contexts: &[ElementSet], option: u16, order: u16) -> Option<u16>
     requires value { pair.now.value < length contexts.now }
     requires option { option < length contexts.now }
@@ -140,6 +138,7 @@ fn breach(pair: &Pair, contexts: &[ElementSet], option: u16, order: u16) -> Opti
     ensures option { IfSome result (λ _. set.contains pair.now.options option ≡ true) }
     ensures heap { IfSome result (λ y. set.contains (slice_index_or contexts.now pair.now.value set.empty) y ≡ true) }
     ensures left { IfSome result (λ y. set.contains (slice_index_or contexts.now option set.empty) y ≡ true) }
+    ensures least { IfSome result (λ y. (x : ℕ) → x < y → set.contains (slice_index_or contexts.now pair.now.value set.empty) x ≡ true → set.contains (slice_index_or contexts.now option set.empty) x ≡ false) }
     ensures none { IfNone result (set.contains pair.now.options option ≡ true → (y : ℕ) → y < order → set.contains (slice_index_or contexts.now pair.now.value set.empty) y ≡ true → set.contains (slice_index_or contexts.now option set.empty) y ≡ false) }
 {
     if !pair.options.contains(option as u8) {
@@ -152,40 +151,11 @@ fn breach(pair: &Pair, contexts: &[ElementSet], option: u16, order: u16) -> Opti
     )
 }
 
-/// The certificate, put together again.
-fn accepted<A: Room>(sheet: Sheet<A>) -> Certified<A>
-    requires { Accepted sheet }
-    ensures { result ≡ sheet }
-{
-    let Sheet {
-        code,
-        table,
-        phi,
-        lines,
-    } = sheet;
-    let Lines {
-        portion,
-        inside: _,
-        words,
-        apart,
-    } = lines;
-    Certified::new(Cert::from_parts(Parts {
-        code,
-        order: table.order(),
-        phi,
-        portion,
-        words,
-        rows: table.into_rows(),
-        apart,
-    }))
-}
-
 impl<A: Room + Copy> Elements<A> {
     /// Nothing was looked at.
     pub fn new(alloc: A, sheet: Sheet<A>, pairs: Vec<Pair, A>) -> Result<Elements<A>, Memory>
         requires canonical { Canonical sheet }
         requires pairs { HavePairs sheet pairs.items }
-        requires covered { IsCovered sheet }
         ensures certificate { IfOk result (λ s. s.certificate ≡ sheet) }
         ensures units { IfOk result (λ s. s.units < stage_units) }
     {
@@ -201,9 +171,9 @@ impl<A: Room + Copy> Elements<A> {
     }
 
     /// Spends units until there are none or the stage ends.
-    pub fn work(self, alloc: A, left: &mut u64) -> Stage<A>
-        ensures carries { (limit : ℕ) → Carries self.certificate limit result }
-        ensures pays { Pays (self.units + stage_units) left.old left.new result }
+    pub fn work(self, alloc: A, limit: u32, left: &mut u64) -> Stage<A>
+        ensures carries { Carries self.certificate limit result }
+        ensures pays { Pays (self.units + 2 * stage_units) left.old left.new result }
     {
         let Elements {
             sheet,
@@ -236,7 +206,6 @@ impl<A: Room + Copy> Elements<A> {
                 heap += 1;
             }
         }
-        tested_certificates_are_accepted();
-        Stage::Ended(Ok(accepted(sheet)))
+        Stage::Closing(Closing::new(alloc, sheet, pairs, limit))
     }
 }

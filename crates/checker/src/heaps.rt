@@ -1,10 +1,10 @@
 //! The stage that makes the pairs of the heaps.
-ghost use Rattle.std.specs.Prelude.{◌≡◌, ◌<◌, ◌+◌, ◌*◌};
+ghost use Rattle.std.specs.Prelude.{◌≡◌, ◌<◌, ◌+◌, ◌*◌, ℕ};
 ghost use Rattle.misere_theory.specs.Certificates.{Canonical};
 ghost use Rattle.checker.specs.Units.{stage_units};
 ghost use Rattle.checker.specs.Stages.{Carries, Pays};
 
-use crate::closing::Closing;
+use crate::elements::Elements;
 use crate::lines::Lines;
 use crate::refusal::Refusal;
 use crate::sheet::Sheet;
@@ -57,8 +57,8 @@ impl<A: Room + Copy> Heaps<A> {
     }
 
     /// Spends units until there are none or the stage ends.
-    pub fn work(self, alloc: A, limit: u32, left: &mut u64) -> Stage<A>
-        ensures carries { Carries self.certificate limit result }
+    pub fn work(self, alloc: A, left: &mut u64) -> Stage<A>
+        ensures carries { (limit : ℕ) → Carries self.certificate limit result }
         ensures pays { Pays (self.units + 3 * stage_units) left.old left.new result }
     {
         let Heaps { lines, mut job } = self;
@@ -76,7 +76,10 @@ impl<A: Room + Copy> Heaps<A> {
                     phi,
                     lines,
                 };
-                Stage::Closing(Closing::new(alloc, sheet, pairs, limit))
+                match Elements::new(alloc, sheet, pairs) {
+                    Ok(elements) => Stage::Elements(elements),
+                    Err(_) => Stage::Ended(Err(Refusal::Memory)),
+                }
             }
         }
     }

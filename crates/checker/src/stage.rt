@@ -25,8 +25,8 @@ pub enum Stage<A: Room = Global> {
     Periods(Periods<A>),
     Separating(Separating<A>),
     Heaps(Heaps<A>),
-    Closing(Closing<A>),
     Elements(Elements<A>),
+    Closing(Closing<A>),
     Ended(Result<Certified<A>, Refusal<A>>),
 }
 
@@ -53,9 +53,9 @@ impl<A: Room + Copy> Stage<A> {
             Stage::Products(products) => products.work(left),
             Stage::Periods(periods) => periods.work(left),
             Stage::Separating(separating) => separating.work(alloc, left),
-            Stage::Heaps(heaps) => heaps.work(alloc, limit, left),
-            Stage::Closing(closing) => closing.work(alloc, left),
-            Stage::Elements(elements) => elements.work(alloc, left),
+            Stage::Heaps(heaps) => heaps.work(alloc, left),
+            Stage::Elements(elements) => elements.work(alloc, limit, left),
+            Stage::Closing(closing) => closing.work(left),
             Stage::Ended(answer) => Stage::Ended(answer),
         }
     }

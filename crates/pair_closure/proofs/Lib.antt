@@ -12,3 +12,4 @@ pub mod Turned
 pub mod Positions
 pub mod Words
 pub mod Bound
+mod Keeping

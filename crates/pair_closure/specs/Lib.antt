@@ -2,3 +2,4 @@ pub mod Chains
 pub mod Turns
 pub mod Progress
 pub mod Positions
+pub mod Keeping

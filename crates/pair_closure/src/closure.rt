@@ -2,6 +2,7 @@
 ghost use Rattle.std.specs.Prelude.{◌≡◌, ◌↔◌, ◌<◌, ◌≤◌, ◌+◌, ◌*◌, true, false, ℕ, length, All, Ok, IfOk, OnOk, OnErr, IsErr, slice_index_or};
 ghost use Rattle.transition_algebra.specs.Pairs.{IsPair, one};
 ghost use Rattle.pair_closure.specs.Progress.{SameData, begun, moved, step, steps, stopped, is_done, is_over, has_ended, blank_held, KeepsEmpty, Multiplies, TriesHeap};
+ghost use Rattle.pair_closure.specs.Keeping.{KeepsOne, GrowsToMember};
 ghost use Rattle.pair_closure.specs.Positions.{IsWordOf, Speaks, IsMinimal, IsClosedOver, IsExceeded};
 
 use crate::fits::is_short;
@@ -216,6 +217,20 @@ impl<A: Room + Copy> Closure<A> {
         }
     }
 
+    /// Looks for the member that is multiplied next, so that a later look begins there.
+    fn seek(&mut self)
+        ensures { self.new ≡ self.old }
+    {
+        self.from = pending(&self.held, self.generators.len(), self.from);
+    }
+
+    /// A growth was refused: it stays where it is, for good.
+    fn stop(&mut self)
+        ensures { self.new ≡ stopped self.old }
+    {
+        self.failed = true;
+    }
+
     /// What holds of every closure. For whatever claim the table and the pairs are those of, each member is exactly the
     /// pair of its word; the members ever kept differ, and none that is held covers another.
     pub fn speak(&self)
@@ -280,7 +295,47 @@ impl<A: Room + Copy> Closure<A> {
                 Ok(true) => {}
                 Ok(false) => return self.standing(),
                 Err(_) => {
-                    self.failed = true;
+                    self.stop();
+                    return self.standing();
+                }
+            }
+        }
+        self.standing()
+    }
+
+    /// Takes turns as `grow` does, but stops after one that keeps a member. That member is then the last one held.
+    pub fn grow_to_member(&mut self, units: u64) -> Result<Grown, Memory>
+        ensures turns { OnOk result (GrowsToMember units self.old self.new) }
+        ensures more { result ≡ Ok Grown.More → has_ended self.new.state ≡ false }
+        ensures done { result ≡ Ok Grown.Done → is_done self.new.state ≡ true }
+        ensures over { result ≡ Ok Grown.Over → is_over self.new.state ≡ true }
+        ensures closed { result ≡ Ok Grown.Done → IsClosedOver self.new.state }
+        ensures exceeded { result ≡ Ok Grown.Over → IsExceeded self.new.state }
+        ensures refused { OnErr result ((n : ℕ) × (n ≤ units) × (self.new ≡ stopped (steps n self.old))) }
+        ensures stays_refused { self.old.failed ≡ true → IsErr result }
+        ensures stays { self.old.failed ≡ true → self.new ≡ self.old }
+        ensures data { SameData self.old.state self.new.state }
+        ensures kept { KeepsOne self.old.state self.new.state }
+        ensures costs { length self.old.state.members < length self.new.state.members → self.old.spent < self.new.spent }
+        ensures spent { result ≡ Ok Grown.More → length self.new.state.members ≡ length self.old.state.members
+            → self.new.spent ≡ self.old.spent + units }
+        ensures spent_range { (self.old.spent ≤ self.new.spent) × (self.new.spent ≤ self.old.spent + units) }
+    {
+        if self.failed {
+            return Err(Memory);
+        }
+        let ever = self.ever();
+        for _turn in 0..units {
+            match self.take() {
+                Ok(true) => {
+                    if self.ever() > ever {
+                        self.seek();
+                        return self.standing();
+                    }
+                }
+                Ok(false) => return self.standing(),
+                Err(_) => {
+                    self.stop();
                     return self.standing();
                 }
             }

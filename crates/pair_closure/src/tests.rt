@@ -63,6 +63,25 @@ fn keeps_three_members(rt: HostRuntime) -> Result<(), Fail> {
     Ok(())
 }
 
+#[test]
+fn stops_at_each_member(rt: HostRuntime) -> Result<(), Fail> {
+    let Some(mut closure) = three(rt.alloc())? else {
+        panic!(rt; "no closure");
+    };
+    // The empty position, the heap 1, and two heaps of 1.
+    for ever in 1..4u64 {
+        closure.grow_to_member(1000)?;
+        assert_eq!(rt; (closure.ever(), closure.spent()), (ever, ever as u128));
+        let kept = closure.kept();
+        if kept > 0 {
+            assert_eq!(rt; closure.word(kept - 1)?.heaps().len() as u64, ever - 1);
+        }
+    }
+    let end = closure.grow_to_member(1000)?;
+    assert_eq!(rt; (end, closure.ever(), closure.kept()), (Grown::Done, 3, 3));
+    Ok(())
+}
+
 /// Whether the closure stopped for good at the call that was refused; `None` where no call was.
 fn stops(rt: &HostRuntime, refused: u64) -> Option<bool> {
     let ration = Ration::new(rt.alloc(), refused);

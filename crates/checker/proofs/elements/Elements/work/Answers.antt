@@ -18,7 +18,7 @@ beside-requires-clause-breach g c =
     leads_in c.heaps.sheet i.lawful.in_ranges c.self.inside.pairs.items c.self.inside.contexts.items _ _ c.in-Some.y c.index.result.now i.so_far l c.index.ensures c.in-Some.ensures.option (rw e at c.in-Some.ensures.heap) (rw e at c.in-Some.ensures.left)
 
 pub returns-in-Ok-clause-carries : goal.returns-in-Ok-clause-carries
-returns-in-Ok-clause-carries g c = λ limit. subst (λ d. Carries d limit c.failed.result) c.heaps.invariant.same (c.failed.ensures.carries limit)
+returns-in-Ok-clause-carries g c = subst (λ d. Carries d c.args.limit c.failed.result) c.heaps.invariant.same (c.failed.ensures.carries c.args.limit)
 
 pub heaps-preserved-then-option-order : goal.heaps-preserved-then-option-order
 heaps-preserved-then-option-order g c =
@@ -50,10 +50,8 @@ heaps-preserved g c =
       paid = (let f = rest-place (length c.self.inside.pairs.items) c.heaps.heap c.heaps.sheet.order c.heaps.option l v in omega arith);
     }
 
-pub accepted-requires : goal.accepted-requires
-accepted-requires g c =
+pub new-requires-clause-elements : goal.new-requires-clause-elements
+new-requires-clause-elements g c =
     let i = c.heaps.invariant in
-    let e = i.so_far in
     let l : length c.self.inside.pairs.items ≤ c.heaps.heap = search rules in
-    c.tested_certificates_are_accepted.ensures c.heaps.sheet e.covered.kept i.lawful.in_ranges i.lawful.monoid e.canonical e.covered.closed e.covered.obey
-    (elements_end c.heaps.sheet i.lawful.in_ranges c.self.inside.pairs.items c.self.inside.contexts.items _ _ e l)
+    elements_end c.heaps.sheet i.lawful.in_ranges c.self.inside.pairs.items c.self.inside.contexts.items _ _ i.so_far l

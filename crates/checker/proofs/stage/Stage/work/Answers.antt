@@ -16,8 +16,8 @@ returns-in-Periods-clause-stands g c = carried_stands c.args.bytes.now c.in-Peri
 pub returns-in-Separating-clause-stands : goal.returns-in-Separating-clause-stands
 returns-in-Separating-clause-stands g c = carried_stands c.args.bytes.now c.in-Separating.separating.certificate (rw c.in-Separating.is at c.requires) c.args.limit c.work-in-Separating.result (c.work-in-Separating.ensures.carries c.args.limit)
 
-pub returns-in-Elements-clause-stands : goal.returns-in-Elements-clause-stands
-returns-in-Elements-clause-stands g c = carried_stands c.args.bytes.now c.in-Elements.elements.certificate (rw c.in-Elements.is at c.requires) c.args.limit c.work-in-Elements.result (c.work-in-Elements.ensures.carries c.args.limit)
+pub returns-in-Heaps-clause-stands : goal.returns-in-Heaps-clause-stands
+returns-in-Heaps-clause-stands g c = carried_stands c.args.bytes.now c.in-Heaps.heaps.certificate (rw c.in-Heaps.is at c.requires) c.args.limit c.work-in-Heaps.result (c.work-in-Heaps.ensures.carries c.args.limit)
 
 pub returns-in-Closing-clause-stands : goal.returns-in-Closing-clause-stands
 returns-in-Closing-clause-stands g c =

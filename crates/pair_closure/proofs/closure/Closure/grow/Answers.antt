@@ -1,5 +1,5 @@
-use Rattle.std.proofs.Common.{◌≡◌, ◌≤◌, ◌+◌, ◌∙◌, sym, arith, rules, true, false, length, subst}
-use Rattle.pair_closure.specs.Progress.{has_ended, SameData}
+use Rattle.std.proofs.Common.{◌≡◌, ◌≤◌, ◌+◌, ◌∙◌, ap, sym, arith, rules, true, false, length, subst}
+use Rattle.pair_closure.specs.Progress.{has_ended, stopped, SameData}
 use Rattle.pair_closure.proofs.Running.{last_step, data_of, few_of, spent_of, spent_in, next_steps}
 use Rattle.pair_closure.proofs.closure.Closure.grow.Goals as goal
 
@@ -20,11 +20,11 @@ returns-in-Ok-false-clause-few g c =
     few_of c.args.units c.args.units _ _ (last_step c.loop-unit._unit c.args.units c.args.self.now c.loop-unit.self c.take.new.self c.loop-unit.invariant c.loop-unit-test.true c.in-Ok-false.ensures.ok h) (omega arith)
 
 pub returns-in-Err-clause-data : goal.returns-in-Err-clause-data
-returns-in-Err-clause-data g c = subst (λ z. SameData c.args.self.now.state z.state) (sym (c.self-in-loop-unit.view_is ∙ c.in-Err.ensures.err)) (data_of c.loop-unit._unit _ _ c.loop-unit.invariant)
+returns-in-Err-clause-data g c = subst (λ z. SameData c.args.self.now.state z.state) (sym (c.stop.ensures ∙ ap stopped c.in-Err.ensures.err)) (data_of c.loop-unit._unit _ _ c.loop-unit.invariant)
 
 pub returns-in-Err-clause-few : goal.returns-in-Err-clause-few
 returns-in-Err-clause-few g c =
-    subst (λ z. length z.state.members ≤ length c.args.self.now.state.members + c.args.units) (sym (c.self-in-loop-unit.view_is ∙ c.in-Err.ensures.err))
+    subst (λ z. length z.state.members ≤ length c.args.self.now.state.members + c.args.units) (sym (c.stop.ensures ∙ ap stopped c.in-Err.ensures.err))
     (few_of c.loop-unit._unit c.args.units _ _ c.loop-unit.invariant (let l = c.loop-unit-test.true in omega arith))
 
 pub loop-unit-preserved : goal.loop-unit-preserved
@@ -49,7 +49,7 @@ returns-in-Ok-false-clause-spent_range g c =
 
 pub returns-in-Err-clause-spent_range : goal.returns-in-Err-clause-spent_range
 returns-in-Err-clause-spent_range g c =
-    subst (λ z. (c.args.self.now.spent ≤ z.spent) × (z.spent ≤ c.args.self.now.spent + c.args.units)) (sym (c.self-in-loop-unit.view_is ∙ c.in-Err.ensures.err))
+    subst (λ z. (c.args.self.now.spent ≤ z.spent) × (z.spent ≤ c.args.self.now.spent + c.args.units)) (sym (c.stop.ensures ∙ ap stopped c.in-Err.ensures.err))
     (spent_in c.loop-unit._unit c.args.units c.args.self.now c.loop-unit.self c.loop-unit.invariant (let l = c.loop-unit-test.true in omega arith))
 
 pub returns-clause-spent_range : goal.returns-clause-spent_range
