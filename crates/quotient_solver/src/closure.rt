@@ -1,4 +1,5 @@
-//! The closure of the heaps' dead contexts, by which a quotient is seen to be right for every position.
+//! The closure of the heaps' dead contexts, by which a quotient is seen to be right for every
+//! position.
 use crate::cells::{index, part, put_index, word};
 use crate::dead::{Dead, dead_of_heap, dead_of_sum, is_empty, is_within, leaves_portion, words_of};
 use crate::quotient::Quotient;
@@ -13,8 +14,8 @@ const MOST_MEMBERS: usize = 500_000;
 
 const MOST_WORDS: usize = 4_000_000;
 
-/// For each value the largest sets of dead contexts that positions have. Those within others aren't needed, nor are empty ones: with more heaps
-/// they stay within, or empty.
+/// For each value the largest sets of dead contexts that positions have. Those within others aren't
+/// needed, nor are empty ones: with more heaps they stay within, or empty.
 #[derive(Drop)]
 pub struct Closure<A: Allocator> {
     words: usize,

@@ -23,7 +23,8 @@ struct Merged<A: Allocator> {
     firsts: Vec<First, A>,
 }
 
-/// What is merged: the pairs of a level and an element, and the values of the options of the heap that the levels count.
+/// What is merged: the pairs of a level and an element, and the values of the options of the heap
+/// that the levels count.
 #[derive(Drop)]
 pub struct Merging<'a, A: Allocator> {
     pub code: &'a Code,

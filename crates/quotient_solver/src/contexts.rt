@@ -1,4 +1,5 @@
-//! The contexts that a failing position asks for: the elements of the wrong guess, and the proper parts of the position.
+//! The contexts that a failing position asks for: the elements of the wrong guess, and the proper
+//! parts of the position.
 use crate::cells::{clear, index, part, put_index, set_bit};
 use crate::dead::{is_empty, is_within};
 use crate::quotient::Quotient;
@@ -113,7 +114,8 @@ impl<A: Allocator> Part<A> {
         value
     }
 
-    /// Sets the bits of the values of the part's options. Answers whether there is one and all are below `elements`.
+    /// Sets the bits of the values of the part's options. Answers whether there is one and all are
+    /// below `elements`.
     fn mask(&self, quotient: &Quotient<A>, elements: usize, mask: &mut Vec<u64, A>) -> bool {
         for (place, size) in self.sizes.iter().enumerate() {
             if index(&self.taken, place) == 0 {
@@ -207,7 +209,8 @@ fn add_parts<A: Allocator + Copy>(
     Ok(added)
 }
 
-/// The contexts for a failing position, with the first elements of the wrong guess. `None` where there is no such part as is to be kept.
+/// The contexts for a failing position, with the first elements of the wrong guess. `None` where
+/// there is no such part as is to be kept.
 pub fn contexts<A: Allocator + Copy>(
     alloc: A,
     quotient: &Quotient<A>,

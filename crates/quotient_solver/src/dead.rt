@@ -1,5 +1,6 @@
-//! Dead contexts: the elements beside which a position's value is outside the portion, and so is that of each of its options. There the rule
-//! that a position without a P-option is a P-position would fail.
+//! Dead contexts: the elements beside which a position's value is outside the portion, and so is
+//! that of each of its options. There the rule that a position without a P-option is a P-position
+//! would fail.
 use crate::cells::{at, bit, put_word, set_bit, word};
 use crate::quotient::Quotient;
 use crate::work::Halt;

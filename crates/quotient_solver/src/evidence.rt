@@ -15,8 +15,9 @@ fn start_of(heaps: &[u16], period: usize) -> usize
     start
 }
 
-/// How many heaps must have elements before the period shows, for a code with `last` digits after the point: the pairs of an element and the
-/// options' elements repeat then too, since of two parts of a larger heap one is so large that a period can be taken off it.
+/// How many heaps must have elements before the period shows, for a code with `last` digits after
+/// the point: the pairs of an element and the options' elements repeat then too, since of two parts
+/// of a larger heap one is so large that a period can be taken off it.
 fn asked(start: usize, period: usize, last: usize) -> usize {
     start
         .saturating_add(period)
@@ -30,8 +31,8 @@ pub fn is_shown(heaps: &[u16], start: usize, period: usize, last: usize) -> bool
     period > 0 && asked(start, period, last) <= heaps.len()
 }
 
-/// The period, and the heap from which on the elements repeat, as (start, period), that the fewest heaps would show, of those that stand at
-/// least twice.
+/// The period, and the heap from which on the elements repeat, as (start, period), that the fewest
+/// heaps would show, of those that stand at least twice.
 pub fn likely_period(heaps: &[u16], last: usize) -> Option<(usize, usize)>
     ensures { IfSome result (λ p. Repeats heaps.now p.0 p.1) }
 {

@@ -58,7 +58,8 @@ fn lightest_inside<A: Allocator + Copy>(
     }))
 }
 
-/// Positions by weight, each with its dead contexts and the one that it was made from by adding a heap.
+/// Positions by weight, each with its dead contexts and the one that it was made from by adding a
+/// heap.
 #[derive(Drop)]
 struct Search<A: Allocator> {
     words: usize,

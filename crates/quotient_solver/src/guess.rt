@@ -8,7 +8,8 @@ use crate::quotient::Quotient;
 use allocation::Memory;
 use std::alloc::{Allocator, Global};
 
-/// A guessed quotient of a game restricted to the heaps 1 to `heaps.len()`. The identity is element 0.
+/// A guessed quotient of a game restricted to the heaps 1 to `heaps.len()`. The identity is element
+/// 0.
 #[derive(Drop)]
 pub struct Guess<A: Allocator = Global> {
     /// How many elements there are.

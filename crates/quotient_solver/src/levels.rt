@@ -8,8 +8,8 @@ use std::alloc::Allocator;
 /// The most pairs of a level and an element.
 const MOST_PAIRS: usize = 40_000;
 
-/// Level k has the row of k heaps beside each element's representative. From `lead` on the levels come round, and those up to the last one
-/// before they do are `count`.
+/// Level k has the row of k heaps beside each element's representative. From `lead` on the levels
+/// come round, and those up to the last one before they do are `count`.
 #[derive(Drop)]
 pub struct Levels<A: Allocator> {
     pub rows: Vec<u64, A>,

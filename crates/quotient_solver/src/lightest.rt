@@ -7,7 +7,8 @@ use crate::work::{Halt, Work};
 use octal_code::Code;
 use std::alloc::Allocator;
 
-/// For each element the weight of its lightest word, and that word: the element of all but its last heap, and the last heap.
+/// For each element the weight of its lightest word, and that word: the element of all but its last
+/// heap, and the last heap.
 #[derive(Drop)]
 pub struct Words<A: Allocator> {
     pub weights: Vec<u64, A>,
@@ -33,7 +34,8 @@ fn light_heaps<A: Allocator + Copy>(
 }
 
 impl<A: Allocator> Words<A> {
-    /// Takes the words of the elements, each with one more heap, where these are lighter. Answers whether one was.
+    /// Takes the words of the elements, each with one more heap, where these are lighter. Answers
+    /// whether one was.
     fn relax(&mut self, quotient: &Quotient<A>, heap: usize) -> bool {
         let mut lighter = false;
         let element = quotient.heap(heap);
@@ -127,7 +129,8 @@ fn products_of<A: Allocator + Copy>(
     Ok(products)
 }
 
-/// The option values of the representatives: those of the word without its last heap, beside that heap, and the other way round.
+/// The option values of the representatives: those of the word without its last heap, beside that
+/// heap, and the other way round.
 fn options_of<A: Allocator + Copy>(
     alloc: A,
     quotient: &Quotient<A>,

@@ -4,7 +4,8 @@ use crate::work::Halt;
 use std::alloc::Allocator;
 use std::mem;
 
-/// A partition of the numbers below some size into classes 0, 1, .., and a key of each number, by which classes are split.
+/// A partition of the numbers below some size into classes 0, 1, .., and a key of each number, by
+/// which classes are split.
 #[derive(Drop)]
 pub struct Partition<A: Allocator> {
     pub classes: Vec<usize, A>,

@@ -7,8 +7,9 @@ use octal_code::Code;
 use positions::{Left, options};
 use std::alloc::Allocator;
 
-/// A commutative monoid with the elements of the heaps 1, 2, .. Each element is known by its lightest representative, where a heap n weighs
-/// 2n - 1, and the elements are numbered by that weight.
+/// A commutative monoid with the elements of the heaps 1, 2, .. Each element is known by its
+/// lightest representative, where a heap n weighs 2n - 1, and the elements are numbered by that
+/// weight.
 #[derive(Drop)]
 pub struct Quotient<A: Allocator> {
     /// How many elements there are.

@@ -86,7 +86,8 @@ fn attempt<A: Allocator + Copy>(
 enum Tried<A: Allocator> {
     /// There was nothing to try.
     Nothing,
-    /// It reached a bound, or the lightest position at which the rule fails isn't heavier than before.
+    /// It reached a bound, or the lightest position at which the rule fails isn't heavier than
+    /// before.
     Worse,
     /// The rule fails at a heavier position.
     Better(Quotient<A>, Failing<A>),

@@ -3,8 +3,8 @@ use crate::cells::{bit, clear, set_bit, word};
 use crate::work::Halt;
 use std::alloc::Allocator;
 
-/// Contexts, each known by its options alone, which are contexts that come before it. Context 0 is the empty position, and each other one has
-/// an option.
+/// Contexts, each known by its options alone, which are contexts that come before it. Context 0 is
+/// the empty position, and each other one has an option.
 #[derive(Drop)]
 pub struct Scene<A: Allocator> {
     /// How many contexts there are.
@@ -30,8 +30,9 @@ impl<A: Allocator + Copy> Scene<A> {
 }
 
 impl<A: Allocator> Scene<A> {
-    /// Writes the row of a position: beside which contexts it is a P-position. `covered` has the contexts beside which some option of it
-    /// is a P-position, and `movable` says whether it has an option.
+    /// Writes the row of a position: beside which contexts it is a P-position. `covered` has the
+    /// contexts beside which some option of it is a P-position, and `movable` says whether it has
+    /// an option.
     pub fn settle(&self, covered: &[u64], movable: bool, row: &mut Vec<u64, A>) {
         clear(row);
         if movable && !bit(covered, 0) {

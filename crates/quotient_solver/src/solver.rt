@@ -13,8 +13,9 @@ use std::marker::Model;
 
 /// A solver that looks at the heaps up to some size, seen as that size.
 ///
-/// It goes from heap to heap. Beside the lightest position of each element, positions of some heaps of the next size are compared, and those that
-/// nothing tells apart are made one element. Where the rule of misère play then fails at some position, the elements are made anew with the parts
+/// It goes from heap to heap. Beside the lightest position of each element, positions of some heaps
+/// of the next size are compared, and those that nothing tells apart are made one element. Where
+/// the rule of misère play then fails at some position, the elements are made anew with the parts
 /// of the lightest such position compared too.
 #[derive(Drop)]
 pub struct Solver<A: Room = Global> {
@@ -41,7 +42,8 @@ fn is_asked(asked: &Option<Code>, code: &Code) -> bool {
 }
 
 impl<A: Room + Copy> Solver<A> {
-    /// A solver that looks at the heaps up to `heaps`, which is taken as 2 where it is less, and as 64 where it is more.
+    /// A solver that looks at the heaps up to `heaps`, which is taken as 2 where it is less, and as
+    /// 64 where it is more.
     pub fn new(alloc: A, heaps: usize) -> Solver<A>
         ensures { result ≡ max 2 (min heaps 64) }
     {
@@ -60,8 +62,9 @@ impl<A: Room + Copy> Solver<A> {
         }
     }
 
-    /// Guesses the quotient of the code's game, or gives up. Nothing is promised of a guess but its shape. The work is bounded, and the
-    /// answer depends on the code, the heaps and what was learned alone.
+    /// Guesses the quotient of the code's game, or gives up. Nothing is promised of a guess but its
+    /// shape. The work is bounded, and the answer depends on the code, the heaps and what was
+    /// learned alone.
     pub fn solve(&mut self, code: &Code) -> Result<Option<Guess<A>>, Memory>
         ensures formed { IfOk result (λ found. IfSome found (λ g. IsWellFormed g.order g.products.items g.lost.items g.heaps.items self.old)) }
         ensures repeats { IfOk result (λ found. IfSome found (λ g. Repeats g.heaps.items g.start g.period)) }
@@ -78,7 +81,8 @@ impl<A: Room + Copy> Solver<A> {
         Ok(guess.filter(|guess| guess.shown || !self.wrong))
     }
 
-    /// Takes note of a position at which the last guess was wrong. A guess whose period doesn't show isn't made again.
+    /// Takes note of a position at which the last guess was wrong. A guess whose period doesn't
+    /// show isn't made again.
     pub fn learn(&mut self, _position: &Position<A>) -> Result<(), Memory>
         ensures { self.new ≡ self.old }
     {

@@ -5,7 +5,8 @@ use positions::Position;
 use ration::Ration;
 use std::test::Fail;
 
-/// Orders and periods of games from the literature: Plambeck and Siegel, 'Misère quotients for impartial games'.
+/// Orders and periods of games from the literature: Plambeck and Siegel, 'Misère quotients for
+/// impartial games'.
 #[test]
 fn finds_known_quotients(rt: HostRuntime) -> Result<(), Fail> {
     let rows: [(&[u8], usize, usize, usize, usize); 5] = [
