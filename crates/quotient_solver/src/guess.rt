@@ -1,0 +1,106 @@
+//! A guessed quotient.
+ghost use Rattle.std.specs.Prelude.{◌≡◌, ◌*◌, ◌<◌, ◌≤◌, length, All, IfOk, IfSome};
+ghost use Rattle.quotient_solver.specs.Guesses.{IsWellFormed, Repeats};
+
+use crate::cells::at;
+use crate::evidence::{is_shown, likely_period};
+use crate::quotient::Quotient;
+use allocation::Memory;
+use std::alloc::{Allocator, Global};
+
+/// A guessed quotient of a game restricted to the heaps 1 to `heaps.len()`. The identity is element
+/// 0.
+#[derive(Drop)]
+pub struct Guess<A: Allocator = Global> {
+    /// How many elements there are.
+    pub order: usize,
+    /// The products: x·y stands at x·order + y.
+    pub products: Vec<u16, A>,
+    /// Whether an element is in the portion, so that its positions are P-positions.
+    pub lost: Vec<bool, A>,
+    /// The elements of the heaps 1, 2, ..
+    pub heaps: Vec<u16, A>,
+    /// The heap from which on the elements repeat, by the likeliest guess, or 0.
+    pub start: usize,
+    /// After how many heaps they repeat, or 0 where nothing is guessed.
+    pub period: usize,
+    /// Whether there are so many heaps that the period is right if the elements are.
+    pub shown: bool,
+}
+
+/// The number itself, where it is below the order, and 0 otherwise.
+fn below(number: usize, order: usize) -> u16
+    requires { 1 ≤ order }
+    ensures { result < order }
+{
+    if number < order && number < 65536 {
+        number as u16
+    } else {
+        0
+    }
+}
+
+/// So many numbers below the order.
+fn numbers_below<A: Allocator + Copy>(
+    alloc: A,
+    cells: &[u16],
+    count: usize,
+    order: usize,
+) -> Result<Vec<u16, A>, Memory>
+    requires { 1 ≤ order }
+    ensures length { IfOk result (λ v. length v.items ≡ count) }
+    ensures below { IfOk result (λ v. All (λ x. x < order) v.items) }
+{
+    let mut numbers: Vec<u16, A> = Vec::new(alloc);
+    for place in 0..count {
+        numbers.push(below(at(cells, place), order))?;
+    }
+    Ok(numbers)
+}
+
+/// The marks of the elements in the portion.
+fn marks<A: Allocator + Copy>(
+    alloc: A,
+    quotient: &Quotient<A>,
+    order: usize,
+) -> Result<Vec<bool, A>, Memory>
+    ensures { IfOk result (λ v. length v.items ≡ order) }
+{
+    let mut lost: Vec<bool, A> = Vec::new(alloc);
+    for element in 0..order {
+        lost.push(quotient.is_lost(element))?;
+    }
+    Ok(lost)
+}
+
+/// A quotient as a guess of at most so many heaps, for a code with `last` digits after the point.
+pub fn guess_of<A: Allocator + Copy>(
+    alloc: A,
+    quotient: &Quotient<A>,
+    most: usize,
+    last: usize,
+) -> Result<Option<Guess<A>>, Memory>
+    ensures formed { IfOk result (λ found. IfSome found (λ g. IsWellFormed g.order g.products.items g.lost.items g.heaps.items most)) }
+    ensures repeats { IfOk result (λ found. IfSome found (λ g. Repeats g.heaps.items g.start g.period)) }
+{
+    let order = quotient.order;
+    let Some(size) = order.checked_mul(order) else {
+        return Ok(None);
+    };
+    let count = quotient.heaps.len();
+    if order == 0 || count > most {
+        return Ok(None);
+    }
+    let heaps = numbers_below(alloc, &quotient.heaps, count, order)?;
+    let (start, period) = likely_period(&heaps, last).unwrap_or((0, 0));
+    let shown = is_shown(&heaps, start, period, last);
+    Ok(Some(Guess {
+        order,
+        products: numbers_below(alloc, &quotient.products, size, order)?,
+        lost: marks(alloc, quotient, order)?,
+        heaps,
+        start,
+        period,
+        shown,
+    }))
+}
