@@ -7,6 +7,7 @@ use Rattle.clap.specs.declared.builder.arg.Arg.{Arg}
 use Rattle.clap.specs.declared.builder.command.Command.{Command}
 use Rattle.command_line.specs.Program.{command}
 
+-- a command with one more argument
 pub with_argument : (old : Command) (arg : Arg) (new : Command) (name : Text) (rules : List Rule)
     (r : Rule) → app_of old ≡ command name rules
     → rule_of arg ≡ r → arg.global ≡ false → AddsArg old arg new
@@ -20,6 +21,7 @@ local_of_plain true false true rest h = cc
 local_of_plain true true g rest h = cc
 local_of_plain false b g rest h = cc
 
+-- a command line with one more command
 pub with_command : (old sub new : Command) (a s : App) → app_of old ≡ a → app_of sub ≡ s
     → s.top.is_plain ≡ true → AddsSubcommand old sub new
     → app_of new ≡ with_subcommand a s.top

@@ -10,6 +10,7 @@ use Rattle.std.proofs.lemmas.Slice.Eq.{bytes_eq-Decides}
 use Rattle.command_line.specs.Numbers.{number_within}
 use Rattle.command_line.specs.declared.numbers.Bounds.{Bounds}
 
+-- the number, where the text spells it and it lies between the bounds
 chosen : Bounds → List ℕ → ℕ → Option ℕ
 chosen bounds text n =
     if bytes_eq text (decimal n) &&
@@ -22,6 +23,7 @@ chosen-fits bounds text n is low high = ap (λ (fits : Bool). if fits then Some 
     (and_from _ _ ((bytes_eq-Decides text (decimal n)).1 is)
     (and_from _ _ (le-leb _ _ low) (le-leb _ _ high)))
 
+-- a number between the bounds is read off its decimal text
 pub number_within-spelled : (bounds : Bounds) (text : List ℕ) (n : ℕ) → text ≡ decimal n
     → n < 4294967296 → bounds.least ≤ n → n ≤ bounds.most
     → number_within bounds text ≡ Some n
@@ -35,6 +37,7 @@ none_chosen : (fits : Bool) (n : ℕ) → (fits ≡ true → ⊥) → (if fits t
 none_chosen true n h = absurd (h refl)
 none_chosen false n h = refl
 
+-- a text that spells no number between the bounds gives none
 pub number_within-none : (bounds : Bounds) (text : List ℕ)
     → ((n : ℕ) → text ≡ decimal n → bounds.least ≤ n → n ≤ bounds.most → ⊥)
     → number_within bounds text ≡ None

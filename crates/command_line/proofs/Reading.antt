@@ -10,6 +10,7 @@ use Rattle.clap.specs.declared.parser.matches.ArgMatches.TheViews.{out-ArgMatche
 use Rattle.command_line.specs.Program.{program}
 use Rattle.command_line.specs.Requests.{Request, plan_of, request_in, unless_refused}
 
+-- words that are taken ask for what their command asks for
 pub plan_of-taken : (words : List Text) → fault_of program words ≡ []
     → plan_of words ≡ request_in (subcommand_of program words)
 unfolding plan_of
@@ -21,6 +22,7 @@ nothing_refused : (kind : ErrorKind) (kinds : Kinds) (request : Option Request) 
 nothing_refused kind [] request h = absurd h
 nothing_refused kind (k ∷ ks) request h = refl
 
+-- words that are refused ask for nothing
 pub plan_of-refused : (words : List Text) (kind : ErrorKind) → IsAmong kind (fault_of program words)
     → plan_of words ≡ None
 unfolding plan_of
@@ -40,6 +42,7 @@ together (Some b) name rows n r e f =
     ap₂ (λ (x : Text) (y : List Row). let pair : Text × List Row = (x, y) in Some pair)
     (sym same_name) (sym same_rows)
 
+-- the command that was entered, with its arguments
 pub entered : (m : ArgMatches) (n : Text) (r : List Row) → Some n ≡ subcommand_name_of m
     → Some r ≡ option_map {U = List Row} (λ p. p.1) (subcommand_rows_of m)
     → subcommand_rows_of m ≡ Some (n, r)
@@ -52,6 +55,7 @@ none_left : (o : Option (Text × List Row)) → None ≡ option_map {U = List Ro
 none_left None e = refl
 none_left (Some p) e = cc
 
+-- no command was entered
 pub none_entered : (m : ArgMatches)
     → None ≡ option_map {U = List Row} (λ p. p.1) (subcommand_rows_of m)
     → subcommand_rows_of m ≡ None

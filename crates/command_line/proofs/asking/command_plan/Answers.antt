@@ -12,6 +12,7 @@ not_true : (b : Bool) → (b ≡ true → ⊥) → b ≡ false
 not_true true h = absurd (h refl)
 not_true false h = refl
 
+-- the name is another word
 other : (name word : Text) → (name ≡ word → ⊥) → bytes_eq word name ≡ false
 other name word h = not_true (bytes_eq word name) (λ e. h (sym ((bytes_eq-Decides word name).0 e)))
 
@@ -20,6 +21,7 @@ passed : {X : Type 0} (b : Bool) (x rest : Option X) → b ≡ false → rest �
 passed true x rest e r = cc
 passed false x rest e r = r
 
+-- a name that is none of the commands' names no command
 unnamed : (name : Text) → (name ≡ codes "check" → ⊥) → (name ≡ codes "solve" → ⊥)
     → (name ≡ codes "show" → ⊥) → (name ≡ codes "play" → ⊥)
     → (name ≡ codes "present" → ⊥) → (name ≡ codes "catalogue" → ⊥) → command_named name ≡ None
