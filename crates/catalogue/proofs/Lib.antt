@@ -1,0 +1,4 @@
+pub mod FileLemmas
+pub mod KeyLemmas
+pub mod StoreLemmas
+pub mod LoadLemmas

@@ -1,0 +1,6 @@
+pub mod Entries
+pub mod Keys
+pub mod Files
+pub mod Faults
+pub mod Loads
+pub mod Parts
