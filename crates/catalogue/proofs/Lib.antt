@@ -2,3 +2,5 @@ pub mod FileLemmas
 pub mod KeyLemmas
 pub mod StoreLemmas
 pub mod LoadLemmas
+pub mod SalvageLemmas
+pub mod TextLemmas

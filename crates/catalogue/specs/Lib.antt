@@ -4,3 +4,5 @@ pub mod Files
 pub mod Faults
 pub mod Loads
 pub mod Parts
+pub mod Salvages
+pub mod Texts

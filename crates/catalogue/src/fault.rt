@@ -1,8 +1,9 @@
 //! Why a catalogue isn't loaded, and why an entry isn't added.
 ghost use Rattle.std.specs.Prelude.{◌≡◌};
-ghost use Rattle.catalogue.specs.Faults.{add_fault_number, load_fault_number};
+ghost use Rattle.catalogue.specs.Faults.{add_fault_number, load_fault_number, write_fault_number};
 ghost use Rattle.catalogue.specs.declared.fault.AddFault.{AddFault};
 ghost use Rattle.catalogue.specs.declared.fault.LoadFault.{LoadFault};
+ghost use Rattle.catalogue.specs.declared.fault.WriteFault.{WriteFault};
 
 use allocation::Memory;
 use checker::Refusal;
@@ -83,5 +84,34 @@ impl AddFault {
             AddFault::Present => 1,
             AddFault::Memory => 9,
         }
+    }
+}
+
+/// Why a catalogue isn't written.
+#[derive(Clone, Copy, Debug, PartialEq, Eq)]
+pub enum WriteFault {
+    /// The sink failed.
+    Write,
+    /// A growth was refused.
+    Memory,
+}
+
+impl WriteFault {
+    /// The number under which the fault is printed.
+    pub fn number(self) -> u8
+        ensures { result ≡ write_fault_number self }
+    {
+        match self {
+            WriteFault::Write => 1,
+            WriteFault::Memory => 9,
+        }
+    }
+}
+
+impl From<Memory> for WriteFault {
+    ghost from_gives = { λ _ fault. fault ≡ WriteFault.Memory };
+
+    fn from(_: Memory) -> WriteFault {
+        WriteFault::Memory
     }
 }

@@ -5,8 +5,13 @@ mod entry;
 mod fault;
 mod file;
 mod key;
+mod laws;
 mod loading;
+mod salvaging;
 mod store;
+mod text;
 
-pub use fault::{AddFault, LoadFault};
+pub use fault::{AddFault, LoadFault, WriteFault};
+pub use laws::texts_of_the_same_codes_are_equal;
 pub use store::Catalogue;
+pub use text::certificate_text;
