@@ -13,3 +13,6 @@ pub use adding::{add, create};
 pub use finding::get;
 pub use listing::list;
 pub use stop::CatalogueStop;
+
+#[cfg(test)]
+mod tests;
