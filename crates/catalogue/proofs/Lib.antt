@@ -1,0 +1,6 @@
+pub mod FileLemmas
+pub mod KeyLemmas
+pub mod StoreLemmas
+pub mod LoadLemmas
+pub mod SalvageLemmas
+pub mod TextLemmas

@@ -1,0 +1,101 @@
+-- Entries that stand, one after the other, and the first that doesn't.
+use Rattle.std.proofs.Common.{◌≡◌, ℕ, zero, suc, ◌+◌, ◌<◌, ◌≤◌, ◌⊎◌, inl, inr, List, [], ◌∷◌, ◌++◌, length, take, drop, map, get_or, Err, refl, sym, ap, subst, ◌∙◌, arith}
+use Rattle.std.specs.List.{AllZip}
+use Rattle.std.proofs.lemmas.List.{take-append-drop, take_more, length-take-le}
+use Rattle.std.proofs.Math.Seq.{drop-cons}
+use Rattle.misere_theory.specs.Certificates.{Certificate}
+use Rattle.serde_json.specs.Data.{Data}
+use Rattle.catalogue.specs.Entries.{HasCode, HaveOtherCodes}
+use Rattle.catalogue.specs.Files.{IsJson, IsFile, Written, written}
+use Rattle.catalogue.specs.Loads.{IsCertified, Stand, IsFaultOf, IsFirstFault, Holds, IsLoaded}
+use Rattle.catalogue.specs.Parts.{IsNoJson, IsNoFile, IsFaultOrMemory, IsTaken}
+use Rattle.catalogue.specs.declared.file.Texts.{Texts}
+use Rattle.catalogue.specs.declared.fault.LoadFault.{LoadFault}
+use Rattle.catalogue.specs.declared.fault.LoadFault.TheVariants as fault
+use Rattle.catalogue.proofs.StoreLemmas.{other_codes_push}
+
+zip_push : (es : List Written) (cs : List Certificate) (e : Written) (c : Certificate) → AllZip IsCertified es cs → IsCertified e c → AllZip IsCertified (es ++ e ∷ []) (cs ++ c ∷ [])
+zip_push [] [] e c h i = (i, tt)
+zip_push [] (d ∷ cs) e c h i = absurd h
+zip_push (x ∷ es) [] e c h i = absurd h
+zip_push (x ∷ es) (d ∷ cs) e c h i = (h.0, zip_push es cs e c h.1 i)
+
+pub stand_push : (es : List Written) (cs : List Certificate) (e : Written) (new : List Certificate) → Stand es cs → IsTaken cs e new → Stand (es ++ e ∷ []) new
+stand_push es cs e new h t = subst (Stand (es ++ e ∷ [])) (sym t.last) (record {
+  certified = zip_push es cs e t.certificate h.certified t.certified;
+  other_codes = other_codes_push cs t.certificate h.other_codes t.absent;
+})
+
+pub nothing_stands : Stand [] []
+nothing_stands = record { certified = tt; other_codes = λ i j d l m. absurd (omega arith) }
+
+-- a text that stands for no entry
+abbrev pub blank : Texts
+blank = record { code = record { ref_ptr = (0, 0); now = [] }; certificate = record { ref_ptr = (0, 0); now = [] } }
+
+pub itself_at : (ts : List Texts) (i : ℕ) (d e : Texts) → i < length ts → get_or ts i d ≡ get_or ts i e
+itself_at [] i d e l = absurd (omega arith)
+itself_at (x ∷ ts) zero d e l = refl
+itself_at (x ∷ ts) (suc i) d e l = itself_at ts i d e (omega arith)
+
+-- the item at a place is the entry there
+pub written_at : (ts : List Texts) (i : ℕ) (t : Texts) → i < length ts → get_or (map written ts) i (written t) ≡ written (get_or ts i t)
+written_at [] i t l = refl
+written_at (x ∷ ts) zero t l = refl
+written_at (x ∷ ts) (suc i) t l = written_at ts i t (omega arith)
+
+pub written_length : (ts : List Texts) → length (map written ts) ≡ length ts
+written_length [] = refl
+written_length (t ∷ ts) = ap suc (written_length ts)
+
+pub written_more : (ts : List Texts) (i : ℕ) (t : Texts) → i < length ts → t ≡ get_or ts i t
+    → take (i + 1) (map written ts) ≡ take i (map written ts) ++ written t ∷ []
+written_more ts i t l is =
+    let n = written_length ts in
+    let m : i < length (map written ts) = omega arith in
+    take_more (map written ts) i (written t) m ∙ ap (λ e. take i (map written ts) ++ e ∷ []) (written_at ts i t l ∙ ap written (sym is))
+
+first_fault : (limit : ℕ) (ts : List Texts) (i : ℕ) (t : Texts) (cs : List Certificate) (f : LoadFault) → i < length ts → t ≡ get_or ts i t
+    → Stand (take i (map written ts)) cs → IsFaultOf limit cs (i + 1) (written t) f → IsFirstFault limit (map written ts) f
+first_fault limit ts i t cs f l is stand h =
+    let es = map written ts in
+    let n = written_length ts in
+    let m : i < length es = omega arith in
+    let long : length (take i es) ≡ i = length-take-le i es (omega arith) in
+    let at : get_or es i (written t) ≡ written t = written_at ts i t l ∙ ap written (sym is) in
+    let place : i + 1 ≡ suc (length (take i es)) = omega arith in
+    record {
+      before = take i es;
+      entry = written t;
+      behind = drop (suc i) es;
+      all = sym (take-append-drop i es) ∙ ap (λ d. take i es ++ d) (drop-cons es i (written t) m) ∙ ap (λ e. take i es ++ e ∷ drop (suc i) es) at;
+      certificates = cs;
+      stand = stand;
+      fault_is = subst (λ p. IsFaultOf limit cs p (written t) f) place h;
+    }
+
+pub loaded_fault : (bytes : List ℕ) (limit : ℕ) (ts : List Texts) (i : ℕ) (t : Texts) (cs : List Certificate) (f : LoadFault) → Holds bytes (map written ts)
+    → i < length ts → t ≡ get_or ts i t → Stand (take i (map written ts)) cs → IsFaultOrMemory limit cs (i + 1) (written t) f → IsLoaded bytes limit (Err f)
+loaded_fault bytes limit ts i t cs f holds l is stand (inl m) = subst (λ g. IsLoaded bytes limit (Err g)) (sym m) tt
+loaded_fault bytes limit ts i t cs fault.Json holds l is stand (inr h) = absurd h
+loaded_fault bytes limit ts i t cs fault.Shape holds l is stand (inr h) = absurd h
+loaded_fault bytes limit ts i t cs (fault.Entry j r) holds l is stand (inr h) = (map written ts, holds, first_fault limit ts i t cs (fault.Entry j r) l is stand h)
+loaded_fault bytes limit ts i t cs (fault.Code j) holds l is stand (inr h) = (map written ts, holds, first_fault limit ts i t cs (fault.Code j) l is stand h)
+loaded_fault bytes limit ts i t cs (fault.Twice j) holds l is stand (inr h) = (map written ts, holds, first_fault limit ts i t cs (fault.Twice j) l is stand h)
+loaded_fault bytes limit ts i t cs fault.Memory holds l is stand (inr h) = absurd h
+
+pub loaded_no_json : (bytes : List ℕ) (limit : ℕ) (f : LoadFault) → IsNoJson bytes f → IsLoaded bytes limit (Err f)
+loaded_no_json bytes limit fault.Json h = h
+loaded_no_json bytes limit fault.Shape h = absurd h
+loaded_no_json bytes limit (fault.Entry j r) h = absurd h
+loaded_no_json bytes limit (fault.Code j) h = absurd h
+loaded_no_json bytes limit (fault.Twice j) h = absurd h
+loaded_no_json bytes limit fault.Memory h = tt
+
+pub loaded_no_file : (bytes : List ℕ) (limit : ℕ) (d : Data) (f : LoadFault) → IsJson bytes d → IsNoFile d f → IsLoaded bytes limit (Err f)
+loaded_no_file bytes limit d fault.Json json h = absurd h
+loaded_no_file bytes limit d fault.Shape json h = (d, json, h)
+loaded_no_file bytes limit d (fault.Entry j r) json h = absurd h
+loaded_no_file bytes limit d (fault.Code j) json h = absurd h
+loaded_no_file bytes limit d (fault.Twice j) json h = absurd h
+loaded_no_file bytes limit d fault.Memory json h = tt

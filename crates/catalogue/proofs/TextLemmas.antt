@@ -1,0 +1,129 @@
+-- Certificates are ASCII, and the data of a catalogue has no float.
+use Rattle.std.proofs.Common.{◌≡◌, ℕ, zero, suc, ◌+◌, ◌<◌, ◌≤◌, ◌^◌, ◌⊎◌, inl, inr, Bool, true, false, ◌||◌, List, [], ◌∷◌, ◌++◌, length, map, take, get_or, Option, Some, None, codes, decimal, All, refl, sym, ap, subst, ◌∙◌, arith}
+use Rattle.std.specs.Str.{IsAscii, IsUtf8}
+use Rattle.std.specs.Io.KnownBytes.{Appends}
+use Rattle.std.specs.List.{AllByRecursion}
+use Rattle.std.proofs.lemmas.Str.{IsAscii-append, IsUtf8-from_ascii}
+use Rattle.std.proofs.lemmas.Str.Ascii.{IsAscii-nil, IsAscii-cons}
+use Rattle.std.proofs.lemmas.Fmt.{IsAscii-decimal}
+use Rattle.octal_code.specs.Text.{code_text, digit_byte}
+use Rattle.certificate_text.specs.Spelling.{Line, spaced, text, key_word, row_line, lines}
+use Rattle.misere_theory.specs.Games.{IsOctalCode}
+use Rattle.misere_theory.specs.Certificates.{Certificate, InRanges}
+use Rattle.serde_json.specs.View.{items_of}
+use Rattle.serde_json.specs.Written.{has_float, items_have_float}
+use Rattle.catalogue.specs.Texts.{entry_data, catalogue_data}
+
+ascii : (bs : List ℕ) → AllByRecursion (λ b. b < 128) bs → IsAscii bs
+ascii [] h = IsAscii-nil
+ascii (b ∷ bs) h = IsAscii-cons b bs h.0 (ascii bs h.1)
+
+abbrev IsPlain : Line → Type 0
+IsPlain line = IsAscii line.name × AllByRecursion IsAscii line.words
+
+spaced_ascii : (ws : List (List ℕ)) → AllByRecursion IsAscii ws → IsAscii (spaced ws)
+spaced_ascii [] h = IsAscii-nil
+spaced_ascii (w ∷ ws) h = IsAscii-cons 32 (w ++ spaced ws) (omega arith) (IsAscii-append w (spaced ws) h.0 (spaced_ascii ws h.1))
+
+text_ascii : (ls : List Line) → AllByRecursion IsPlain ls → IsAscii (text ls)
+text_ascii [] h = IsAscii-nil
+text_ascii (line ∷ ls) h =
+    IsAscii-append line.name (spaced line.words ++ (10 ∷ text ls)) h.0.0
+    (IsAscii-append (spaced line.words) (10 ∷ text ls) (spaced_ascii line.words h.0.1)
+    (IsAscii-cons 10 (text ls) (omega arith) (text_ascii ls h.1)))
+
+small_decimal : (n : ℕ) → n ≤ 2048 → IsAscii (decimal n)
+small_decimal n h = IsAscii-decimal n (omega arith)
+
+decimals : (q : ℕ) (xs : List ℕ) → q ≤ 256 → All (λ x. x < q) xs → AllByRecursion IsAscii (map decimal xs)
+decimals q [] l h = tt
+decimals q (x ∷ xs) l h = (small_decimal x (let m = h 0 x (omega arith) in omega arith), decimals q xs l (λ i d m. h (suc i) d (omega arith)))
+
+key_ascii : (k : ℕ × ℕ) → k.0 ≤ 2048 → k.1 ≤ 2048 → IsAscii (key_word k)
+key_ascii k a b = IsAscii-append (decimal k.0) (58 ∷ decimal k.1) (small_decimal k.0 a) (IsAscii-cons 58 (decimal k.1) (omega arith) (small_decimal k.1 b))
+
+keys : (q s : ℕ) (ks : List (ℕ × ℕ)) → q ≤ 256 → s ≤ 1025 → All (λ k. (k.0 < q) × (1 ≤ k.1) × (k.1 < s)) ks → AllByRecursion IsAscii (map key_word ks)
+keys q s [] l m h = tt
+keys q s (k ∷ ks) l m h =
+    let w = h 0 k (omega arith) in
+    let a = w.0 in
+    let b = w.2 in
+    (key_ascii k (omega arith) (omega arith), keys q s ks l m (λ i d n. h (suc i) d (omega arith)))
+
+rows_plain : (q : ℕ) (rows : List (List ℕ)) (behind : List Line) → q ≤ 256 → All (λ row. (length row ≡ q) × All (λ x. x < q) row) rows → AllByRecursion IsPlain behind
+    → AllByRecursion IsPlain (map row_line rows ++ behind)
+rows_plain q [] behind l h b = b
+rows_plain q (row ∷ rows) behind l h b =
+    ((ascii (codes "row") (omega arith, (omega arith, (omega arith, tt))), decimals q row l ((h 0 row (omega arith)).1)), rows_plain q rows behind l (λ i d n. h (suc i) d (omega arith)) b)
+
+digits_ascii : (ds : List ℕ) → All (λ x. x < 8) ds → IsAscii (map digit_byte ds)
+digits_ascii [] h = IsAscii-nil
+digits_ascii (d ∷ ds) h = IsAscii-cons (48 + d) (map digit_byte ds) (let m = h 0 d (omega arith) in omega arith) (digits_ascii ds (λ i x n. h (suc i) x (omega arith)))
+
+first_small : (d : ℕ) → (d ≡ 0) ⊎ (d ≡ 4) → 48 + d < 128
+first_small d (inl e) = omega arith
+first_small d (inr e) = omega arith
+
+code_ascii : (code : List ℕ) → IsOctalCode code → IsAscii (code_text code)
+code_ascii [] h = absurd h
+code_ascii (d ∷ ds) h = IsAscii-cons (48 + d) (46 ∷ map digit_byte ds) (first_small d h.0) (IsAscii-cons 46 (map digit_byte ds) (omega arith) (digits_ascii ds h.3))
+
+lines_plain : (c : Certificate) → InRanges c → AllByRecursion IsPlain (lines c)
+lines_plain c r =
+    let q = r.order.1 in
+    let s = r.start.1 in
+    let p = r.period.1 in
+    let sp = r.period.2 in (
+      (ascii (codes "mqc") (omega arith, (omega arith, (omega arith, tt))), (ascii (codes "1") (omega arith, tt), tt)),
+      (
+        (ascii (codes "code") (omega arith, (omega arith, (omega arith, (omega arith, tt)))), (code_ascii c.code r.code, tt)),
+        (
+          (ascii (codes "order") (omega arith, (omega arith, (omega arith, (omega arith, (omega arith, tt))))), (small_decimal c.order (omega arith), tt)),
+          (
+            (ascii (codes "start") (omega arith, (omega arith, (omega arith, (omega arith, (omega arith, tt))))), (small_decimal c.start (omega arith), tt)),
+            (
+              (ascii (codes "period") (omega arith, (omega arith, (omega arith, (omega arith, (omega arith, (omega arith, tt)))))), (small_decimal c.period (omega arith), tt)),
+              (
+                (ascii (codes "phi") (omega arith, (omega arith, (omega arith, tt))), decimals c.order c.phi q r.phi.1),
+                (
+                  (ascii (codes "portion") (omega arith, (omega arith, (omega arith, (omega arith, (omega arith, (omega arith, (omega arith, tt))))))), decimals c.order c.portion q r.portion.1),
+                  (
+                    (ascii (codes "words") (omega arith, (omega arith, (omega arith, (omega arith, (omega arith, tt))))), keys c.order (c.start + c.period) c.words q sp r.words.1),
+                    rows_plain c.order c.rows _ q r.rows.1 (
+                      (ascii (codes "apart") (omega arith, (omega arith, (omega arith, (omega arith, (omega arith, tt))))), decimals c.order c.apart q r.apart.1),
+                      ((ascii (codes "end") (omega arith, (omega arith, (omega arith, tt))), tt), tt),
+                    ),
+                  ),
+                ),
+              ),
+            ),
+          ),
+        ),
+      ),
+    )
+
+-- the text of a certificate is UTF-8
+pub certificate_utf8 : (c : Certificate) → InRanges c → IsUtf8 (text (lines c))
+certificate_utf8 c r = IsUtf8-from_ascii (text (lines c)) (text_ascii (lines c) (lines_plain c r))
+
+entries_no_float : (cs : List Certificate) → items_have_float (items_of (map entry_data cs)) ≡ false
+entries_no_float [] = refl
+entries_no_float (c ∷ cs) = entries_no_float cs
+
+pub no_float : (cs : List Certificate) → has_float (catalogue_data cs) ≡ false
+no_float cs = ap (λ b. b || (false || false)) (entries_no_float cs)
+
+pub take_past : {X : Type 0} (xs : List X) (i : ℕ) → length xs ≤ i → take i xs ≡ xs
+take_past [] zero l = refl
+take_past [] (suc i) l = refl
+take_past (x ∷ xs) zero l = absurd (omega arith)
+take_past (x ∷ xs) (suc i) l = ap (λ ys. x ∷ ys) (take_past xs i (omega arith))
+
+-- what an empty sink took is what went out
+pub taken_utf8 : (a b : Option (List ℕ)) (bytes t : List ℕ) → a ≡ Some [] → Appends a b t → b ≡ Some bytes → IsUtf8 t → IsUtf8 bytes
+taken_utf8 None b bytes t e p q u = cc
+taken_utf8 (Some xs) None bytes t e p q u = absurd p
+taken_utf8 (Some xs) (Some ys) bytes t e p q u =
+    let x : xs ≡ [] = cc in
+    let y : ys ≡ bytes = cc in
+    subst IsUtf8 (ap (λ z. z ++ t) (sym x) ∙ sym p ∙ y) u

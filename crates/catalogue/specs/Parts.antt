@@ -1,0 +1,38 @@
+-- What the parts of loading answer.
+use Rattle.std.specs.Prelude.{◌≡◌, ◌⊎◌, ℕ, List, ◌∷◌, ◌++◌, []}
+use Rattle.misere_theory.specs.Certificates.{Certificate}
+use Rattle.serde_json.specs.Data.{Data}
+use Rattle.catalogue.specs.Entries.{HasCode}
+use Rattle.catalogue.specs.Files.{IsJson, IsFile, Written}
+use Rattle.catalogue.specs.Loads.{IsCertified, IsFaultOf}
+use Rattle.catalogue.specs.declared.fault.LoadFault.{LoadFault}
+use Rattle.catalogue.specs.declared.fault.LoadFault.TheVariants.{Json, Shape, Entry, Code, Twice, Memory}
+
+-- the bytes are no JSON, or memory was wanting
+abbrev pub IsNoJson : List ℕ → LoadFault → Type 0
+IsNoJson bytes Json = (d : Data) → IsJson bytes d → ⊥
+IsNoJson bytes Shape = ⊥
+IsNoJson bytes (Entry i refusal) = ⊥
+IsNoJson bytes (Code i) = ⊥
+IsNoJson bytes (Twice i) = ⊥
+IsNoJson bytes Memory = Unit {0}
+
+-- the value is no catalogue file, or memory was wanting
+abbrev pub IsNoFile : Data → LoadFault → Type 0
+IsNoFile d Json = ⊥
+IsNoFile d Shape = (es : List Written) → IsFile d es → ⊥
+IsNoFile d (Entry i refusal) = ⊥
+IsNoFile d (Code i) = ⊥
+IsNoFile d (Twice i) = ⊥
+IsNoFile d Memory = Unit {0}
+
+-- the entry has this fault, or memory was wanting
+abbrev pub IsFaultOrMemory : ℕ → List Certificate → ℕ → Written → LoadFault → Type 0
+IsFaultOrMemory limit cs i e fault = (fault ≡ Memory) ⊎ IsFaultOf limit cs i e fault
+
+-- the entry was certified, its code wasn't there, and now it is the last
+pub record IsTaken (old : List Certificate) (e : Written) (new : List Certificate) : Type 0 where
+  pub certificate : Certificate
+  pub certified : IsCertified e certificate
+  pub absent : HasCode old certificate.code → ⊥
+  pub last : new ≡ old ++ certificate ∷ []

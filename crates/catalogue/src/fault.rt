@@ -1,0 +1,117 @@
+//! Why a catalogue isn't loaded, and why an entry isn't added.
+ghost use Rattle.std.specs.Prelude.{◌≡◌};
+ghost use Rattle.catalogue.specs.Faults.{add_fault_number, load_fault_number, write_fault_number};
+ghost use Rattle.catalogue.specs.declared.fault.AddFault.{AddFault};
+ghost use Rattle.catalogue.specs.declared.fault.LoadFault.{LoadFault};
+ghost use Rattle.catalogue.specs.declared.fault.WriteFault.{WriteFault};
+
+use allocation::Memory;
+use checker::Refusal;
+use std::alloc::{AllocError, AllocFailed};
+
+/// Why bytes give no catalogue. Entries count from 1.
+#[derive(Drop)]
+pub enum LoadFault {
+    /// The bytes are no JSON.
+    Json,
+    /// The JSON value is no catalogue file.
+    Shape,
+    /// The certificate of this entry is refused, and not for want of memory.
+    Entry(usize, Refusal),
+    /// The certificate of this entry is accepted, and the text beside it isn't that of its code.
+    Code(usize),
+    /// An earlier entry has the code of this one.
+    Twice(usize),
+    /// A growth was refused.
+    Memory,
+}
+
+impl LoadFault {
+    /// The number under which the fault is printed. It takes no memory.
+    pub fn number(&self) -> u8
+        ensures { result ≡ load_fault_number self.now }
+    {
+        match self {
+            LoadFault::Json => 1,
+            LoadFault::Shape => 2,
+            LoadFault::Entry(_, _) => 3,
+            LoadFault::Code(_) => 4,
+            LoadFault::Twice(_) => 5,
+            LoadFault::Memory => 9,
+        }
+    }
+}
+
+impl From<AllocError> for LoadFault {
+    ghost from_gives = { λ _ fault. fault ≡ LoadFault.Memory };
+
+    fn from(_: AllocError) -> LoadFault {
+        LoadFault::Memory
+    }
+}
+
+impl<T: Drop> From<AllocFailed<T>> for LoadFault {
+    ghost from_gives = { λ _ fault. fault ≡ LoadFault.Memory };
+
+    fn from(_: AllocFailed<T>) -> LoadFault {
+        LoadFault::Memory
+    }
+}
+
+impl From<Memory> for LoadFault {
+    ghost from_gives = { λ _ fault. fault ≡ LoadFault.Memory };
+
+    fn from(_: Memory) -> LoadFault {
+        LoadFault::Memory
+    }
+}
+
+/// Why an entry isn't added.
+#[derive(Clone, Copy, Debug, PartialEq, Eq)]
+pub enum AddFault {
+    /// The catalogue has an entry for the code.
+    Present,
+    /// A growth was refused.
+    Memory,
+}
+
+impl AddFault {
+    /// The number under which the fault is printed.
+    pub fn number(self) -> u8
+        ensures { result ≡ add_fault_number self }
+    {
+        match self {
+            AddFault::Present => 1,
+            AddFault::Memory => 9,
+        }
+    }
+}
+
+/// Why a catalogue isn't written.
+#[derive(Clone, Copy, Debug, PartialEq, Eq)]
+pub enum WriteFault {
+    /// The sink failed.
+    Write,
+    /// A growth was refused.
+    Memory,
+}
+
+impl WriteFault {
+    /// The number under which the fault is printed.
+    pub fn number(self) -> u8
+        ensures { result ≡ write_fault_number self }
+    {
+        match self {
+            WriteFault::Write => 1,
+            WriteFault::Memory => 9,
+        }
+    }
+}
+
+impl From<Memory> for WriteFault {
+    ghost from_gives = { λ _ fault. fault ≡ WriteFault.Memory };
+
+    fn from(_: Memory) -> WriteFault {
+        WriteFault::Memory
+    }
+}

@@ -1,0 +1,17 @@
+//! Catalogues: certified quotients in a JSON file, one for a code, each checked anew when the file is loaded.
+#![tactic(auto)]
+
+mod entry;
+mod fault;
+mod file;
+mod key;
+mod laws;
+mod loading;
+mod salvaging;
+mod store;
+mod text;
+
+pub use fault::{AddFault, LoadFault, WriteFault};
+pub use laws::texts_of_the_same_codes_are_equal;
+pub use store::Catalogue;
+pub use text::certificate_text;

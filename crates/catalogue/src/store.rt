@@ -1,0 +1,90 @@
+//! Catalogues in memory.
+ghost use Rattle.std.specs.Prelude.{◌≡◌, ◌↔◌, [], ◌∷◌, ◌++◌, All, AllPairs, Contains, IfErr, IfSome, OnErr, OnOk, None};
+ghost use Rattle.misere_theory.specs.Certificates.{Certificate, Accepted};
+ghost use Rattle.catalogue.specs.Entries.{HasCode, HaveOtherCodes};
+
+use crate::fault::AddFault;
+use crate::key::{Key, key_of};
+use checker::Certified;
+use indexmap::IndexMap;
+use misere_theory::certificates::accepted_certificates_are_unique;
+use octal_code::Code;
+use std::alloc::Global;
+use std::marker::Model;
+
+/// Certified quotients in the order in which they were added, one for a code.
+#[derive(Drop)]
+pub struct Catalogue {
+    entries: IndexMap<Key, Certified>,
+}
+
+impl Model for Catalogue {
+    ghost use Rattle.std.specs.Prelude.{List};
+    ghost use Rattle.std.specs.Map.{values_of};
+    ghost use Rattle.misere_theory.specs.Certificates.{Certificate};
+    ghost use Rattle.catalogue.specs.Keys.{AreKeyed};
+
+    ghost Value = { List Certificate };
+
+    ghost view = { λ s. values_of s.entries.entries };
+
+    ghost invariant = { λ s. AreKeyed s.entries.entries };
+}
+
+impl Catalogue {
+    /// A catalogue without entries. It takes no memory.
+    pub fn new(alloc: Global) -> Catalogue
+        ensures { result ≡ [] }
+    {
+        Catalogue {
+            entries: IndexMap::new(alloc),
+        }
+    }
+
+    /// Adds an entry behind the others. Where the code is there already, so is this very certificate. After a refusal nothing
+    /// changed.
+    pub fn add(&mut self, certified: Certified) -> Result<(), AddFault>
+        ensures added { OnOk result (self.new ≡ self.old ++ certified ∷ []) }
+        ensures present { (result ≡ Err AddFault.Present) ↔ HasCode self.old certified.code }
+        ensures same_certificate { result ≡ Err AddFault.Present → Contains self.old certified }
+        ensures absent { OnOk result (HasCode self.old certified.code → ⊥) }
+        ensures unchanged { OnErr result (self.new ≡ self.old) }
+    {
+        if self.get(certified.cert().code()).is_some() {
+            accepted_certificates_are_unique();
+            return Err(AddFault::Present);
+        }
+        self.push(certified)
+    }
+
+    /// Adds an entry of a code that isn't there.
+    fn push(&mut self, certified: Certified) -> Result<(), AddFault>
+        requires { HasCode self.old certified.code → ⊥ }
+        ensures added { OnOk result (self.new ≡ self.old ++ certified ∷ []) }
+        ensures unchanged { OnErr result (self.new ≡ self.old) }
+        ensures memory { IfErr result (λ fault. fault ≡ AddFault.Memory) }
+    {
+        let key = key_of(certified.cert().code());
+        match self.entries.insert(key, certified) {
+            Ok(_) => Ok(()),
+            Err(_) => Err(AddFault::Memory),
+        }
+    }
+
+    /// The entry of a code. It takes no memory.
+    pub fn get(&self, code: &Code) -> Option<&Certified>
+        ensures some { IfSome result (λ found. Contains self.now found.now × (found.now.code ≡ code.now) × Accepted found.now) }
+        ensures none { (result ≡ None) ↔ (HasCode self.now code.now → ⊥) }
+    {
+        self.entries.get(&key_of(code))
+    }
+
+    /// All entries, in the order in which they were added. It takes no memory.
+    pub fn entries(&self) -> &[Certified]
+        ensures all { result.now ≡ self.now }
+        ensures accepted { All Accepted self.now }
+        ensures codes { HaveOtherCodes self.now }
+    {
+        self.entries.values().as_slice()
+    }
+}

@@ -1,0 +1,87 @@
+-- What the actions answer to the bytes of a catalogue file: whether they end well, and what they print. This project's own.
+use Rattle.std.specs.Prelude.{◌≡◌, ◌⊎◌, ℕ, List, [], ◌∷◌, ◌++◌, Bool, true, false, Option, Some, None, Result, Ok, Err, Contains, codes, decimal}
+use Rattle.std.specs.List.{flat_map}
+use Rattle.std.specs.Io.KnownBytes.{Appends}
+use Rattle.certificate_text.specs.Spelling.{lines, text}
+use Rattle.folders.specs.Files.{Holds, Replaces}
+use Rattle.misere_theory.specs.Certificates.{Certificate}
+use Rattle.catalogue.specs.Entries.{HasCode}
+use Rattle.catalogue.specs.Loads.{IsLoaded}
+use Rattle.catalogue.specs.declared.fault.LoadFault.{LoadFault}
+use Rattle.catalogue.specs.Texts.{catalogue_text}
+use Rattle.checker.specs.Answers.{Answer, IsTrueOf}
+use Rattle.checker.specs.Answers.Answer.{Yes, Text, Law, Word, Order, Period, Apart, Outcome, Limit, Memory}
+use Rattle.verdicts.specs.Lines.{IsTextOf}
+use Rattle.catalogue_command.specs.Lines.{added_line, entry_line, IsFaultLine}
+
+-- the lines of all entries, well; or the line of the fault
+abbrev pub ListsAnswer : Result (List Certificate) LoadFault → Bool → List ℕ → Type 0
+ListsAnswer (Ok cs) well printed = (well ≡ true) × (printed ≡ flat_map entry_line cs)
+ListsAnswer (Err fault) well printed = (well ≡ false) × IsFaultLine fault printed
+
+-- what may be loaded of the bytes is listed
+abbrev pub IsListing : List ℕ → ℕ → Bool → List ℕ → Type 0
+IsListing bytes limit well printed = (answer : Result (List Certificate) LoadFault) × IsLoaded bytes limit answer × ListsAnswer answer well printed
+
+-- The text of the certificate of the code, well; that there is none; or the line of the fault.
+abbrev pub GetsAnswer : List ℕ → Result (List Certificate) LoadFault → Bool → List ℕ → Type 0
+GetsAnswer code (Ok cs) well printed =
+    ((c : Certificate) × Contains cs c × (c.code ≡ code) × (well ≡ true) × (printed ≡ text (lines c)))
+    ⊎ ((HasCode cs code → ⊥) × (well ≡ false) × (printed ≡ codes "absent\n"))
+GetsAnswer code (Err fault) well printed = (well ≡ false) × IsFaultLine fault printed
+
+abbrev pub IsGotten : List ℕ → ℕ → List ℕ → Bool → List ℕ → Type 0
+IsGotten bytes limit code well printed = (answer : Result (List Certificate) LoadFault) × IsLoaded bytes limit answer × GetsAnswer code answer well printed
+
+-- the listing of what the file holds went out
+abbrev pub Lists : ℕ → Option (List ℕ → Option (List ℕ)) → List ℕ → Bool → Option (List ℕ) → Option (List ℕ) → Type 0
+Lists limit files file well before after =
+    (bytes printed : List ℕ) × Holds files file bytes × IsListing bytes limit well printed × Appends before after printed
+
+abbrev pub Gets : ℕ → Option (List ℕ → Option (List ℕ)) → List ℕ → List ℕ → Bool → Option (List ℕ) → Option (List ℕ) → Type 0
+Gets limit files file code well before after =
+    (bytes printed : List ℕ) × Holds files file bytes × IsGotten bytes limit code well printed × Appends before after printed
+
+-- The catalogue that an addition begins with: an empty one, or what may be loaded of the file.
+abbrev pub Begins : Bool → ℕ → Option (List ℕ → Option (List ℕ)) → List ℕ → Result (List Certificate) LoadFault → Type 0
+Begins true limit files file answer = answer ≡ Ok []
+Begins false limit files file answer = (bytes : List ℕ) × Holds files file bytes × IsLoaded bytes limit answer
+
+-- The certificate c is added behind the entries cs, well, where its code isn't there; else it is refused.
+abbrev pub Takes : List Certificate → Certificate → Bool → List Certificate → List ℕ → Type 0
+Takes cs c true new printed = (HasCode cs c.code → ⊥) × (new ≡ cs ++ c ∷ []) × (printed ≡ added_line c.code)
+Takes cs c false new printed = HasCode cs c.code × (printed ≡ codes "refused 1 Present\n")
+
+-- what comes of a verdict: a certificate that is accepted may be added, and the text of a no is printed
+abbrev pub AddsTo : List Certificate → Answer → Bool → List Certificate → List ℕ → Type 0
+AddsTo cs (Yes c) well new printed = Takes cs c well new printed
+AddsTo cs Text well new printed = (well ≡ false) × IsTextOf Text printed
+AddsTo cs Law well new printed = (well ≡ false) × IsTextOf Law printed
+AddsTo cs Word well new printed = (well ≡ false) × IsTextOf Word printed
+AddsTo cs Order well new printed = (well ≡ false) × IsTextOf Order printed
+AddsTo cs Period well new printed = (well ≡ false) × IsTextOf Period printed
+AddsTo cs Apart well new printed = (well ≡ false) × IsTextOf Apart printed
+AddsTo cs (Outcome code X) well new printed = (well ≡ false) × IsTextOf (Outcome code X) printed
+AddsTo cs Limit well new printed = (well ≡ false) × IsTextOf Limit printed
+AddsTo cs Memory well new printed = ⊥
+
+-- what comes of the bytes of a certificate, by a verdict that is true of them
+abbrev pub IsAddition : List Certificate → List ℕ → ℕ → Bool → List Certificate → List ℕ → Type 0
+IsAddition cs bytes limit well new printed = (verdict : Answer) × IsTrueOf bytes limit verdict × AddsTo cs verdict well new printed
+
+-- where it ends well the file holds the text of the new entries, else no file changes
+abbrev pub Saves : Option (List ℕ → Option (List ℕ)) → Option (List ℕ → Option (List ℕ)) → List ℕ → Bool → List Certificate → Type 0
+Saves before after file true new = Replaces before after file (catalogue_text new)
+Saves before after file false new = after ≡ before
+
+abbrev pub AddsAnswer : ℕ → Option (List ℕ → Option (List ℕ)) → Option (List ℕ → Option (List ℕ)) → List ℕ → List ℕ → Result (List Certificate) LoadFault → Bool
+    → List ℕ → Type 0
+AddsAnswer limit before after file certificate (Ok cs) well printed =
+    (bytes : List ℕ) × (new : List Certificate) × Holds before certificate bytes × IsAddition cs bytes limit well new printed × Saves before after file well new
+AddsAnswer limit before after file certificate (Err fault) well printed = (well ≡ false) × (after ≡ before) × IsFaultLine fault printed
+
+-- the whole addition: from the files before to those after, and what went out
+abbrev pub Adds : Bool → ℕ → Option (List ℕ → Option (List ℕ)) → Option (List ℕ → Option (List ℕ)) → List ℕ → List ℕ → Bool → Option (List ℕ) → Option (List ℕ) → Type 0
+Adds fresh limit before after file certificate well old new =
+    (answer : Result (List Certificate) LoadFault) × (printed : List ℕ) × Begins fresh limit before file answer
+    × AddsAnswer limit before after file certificate answer well printed × Appends old new printed

@@ -1,0 +1,18 @@
+//! What the program does with a catalogue file: its entries are listed, one is printed, and one is added.
+//!
+//! Each action reads all that it needs, then writes the file where it changes it, and prints last. It answers whether it ended well, or why it stopped.
+#![tactic(auto)]
+
+mod adding;
+mod finding;
+mod lines;
+mod listing;
+mod stop;
+
+pub use adding::{add, create};
+pub use finding::get;
+pub use listing::list;
+pub use stop::CatalogueStop;
+
+#[cfg(test)]
+mod tests;

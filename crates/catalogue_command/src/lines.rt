@@ -1,0 +1,80 @@
+//! The lines of a catalogue.
+ghost use Rattle.std.specs.Prelude.{◌≡◌, IfOk, string_bytes};
+ghost use Rattle.std.specs.List.{flat_map};
+ghost use Rattle.verdicts.specs.Lines.{no_line};
+ghost use Rattle.catalogue_command.specs.Lines.{IsFaultLine, added_line, entry_line, refused_entry};
+
+use allocation::Memory;
+use catalogue::LoadFault;
+use certificate::Cert;
+use checker::Certified;
+use octal_code::Code;
+use std::alloc::Global;
+
+/// The line of an entry.
+fn entry_line(alloc: Global, cert: &Cert) -> Result<String, Memory>
+    ensures { IfOk result (λ t. string_bytes t ≡ entry_line cert.now) }
+{
+    let code = cert.code().text(alloc)?;
+    let (order, start, period) = (cert.order(), cert.start(), cert.period());
+    let text = format!(in alloc; "{code} order {order} start {start} period {period}\n")?;
+    Ok(text)
+}
+
+/// The lines of all entries.
+pub(crate) fn entry_lines(alloc: Global, entries: &[Certified]) -> Result<String, Memory>
+    ensures { IfOk result (λ t. string_bytes t ≡ flat_map entry_line entries.now) }
+{
+    let mut text = String::new(alloc);
+    for certified in entries {
+        let line = entry_line(alloc, certified.cert())?;
+        text.push_str(line.as_str())?;
+    }
+    Ok(text)
+}
+
+/// The number and the name of a refusal.
+fn no_line(alloc: Global, number: u8, name: &str) -> Result<String, Memory>
+    ensures { IfOk result (λ t. string_bytes t ≡ no_line number name.now) }
+{
+    let text = format!(in alloc; "no {number} {name}\n")?;
+    Ok(text)
+}
+
+/// The line of an entry refused under this number and name.
+fn numbered_line(alloc: Global, place: usize, number: u8, name: &str) -> Result<String, Memory>
+    ensures { IfOk result (λ t. string_bytes t ≡ refused_entry place number name.now) }
+{
+    let no = no_line(alloc, number, name)?;
+    let text = format!(in alloc; "refused 3 Entry {place} {no}")?;
+    Ok(text)
+}
+
+/// The line of a fault. Want of memory has none, and is handed on.
+pub(crate) fn fault_line(alloc: Global, fault: &LoadFault) -> Result<String, Memory>
+    ensures { IfOk result (λ t. IsFaultLine fault.now (string_bytes t)) }
+{
+    let text = match fault {
+        LoadFault::Json => String::from_str(alloc, "refused 1 Json\n")?,
+        LoadFault::Shape => String::from_str(alloc, "refused 2 Shape\n")?,
+        LoadFault::Entry(place, refusal) => numbered_line(
+            alloc,
+            *place,
+            refusal.number(),
+            refusal.name(),
+        )?,
+        LoadFault::Code(place) => format!(in alloc; "refused 4 Code {place}\n")?,
+        LoadFault::Twice(place) => format!(in alloc; "refused 5 Twice {place}\n")?,
+        LoadFault::Memory => return Err(Memory),
+    };
+    Ok(text)
+}
+
+/// The line of an entry that was added.
+pub(crate) fn added_line(alloc: Global, code: &Code) -> Result<String, Memory>
+    ensures { IfOk result (λ t. string_bytes t ≡ added_line code.now) }
+{
+    let code = code.text(alloc)?;
+    let text = format!(in alloc; "added {code}\n")?;
+    Ok(text)
+}

@@ -1,0 +1,137 @@
+//! Catalogue files in memory: what is printed, and what the files hold then.
+use crate::{CatalogueStop, add, create, get, list};
+use allocation::Memory;
+use folders::MemoryFolder;
+use std::alloc::Global;
+use std::test::Fail;
+use streams::MemorySink;
+
+const LIMIT: u32 = 1000;
+
+/// The quotient of 0.3, and its text within JSON.
+const NIM: &str =
+    "mqc 1\ncode 0.3\norder 2\nstart 1\nperiod 2\nphi 1 0\nportion 1\nwords 0:1\nrow 0 1\nrow 1 0\napart 0\nend\n";
+
+const ONE_ENTRY: &str =
+    "{\"entries\":[{\"certificate\":\"mqc 1\\ncode 0.3\\norder 2\\nstart 1\\nperiod 2\\nphi 1 0\\nportion 1\\nwords 0:1\\nrow 0 1\\nrow 1 0\\napart 0\\nend\\n\",\"code\":\"0.3\"}],\"version\":1}\n";
+
+/// Another version; a portion that is wrong of the empty position; the code of another game; an entry twice; members in another order.
+const ANOTHER_VERSION: &str = "{\"entries\":[],\"version\":2}";
+
+const A_FLOAT: &str = "{\"entries\":[],\"version\":1.0}";
+
+const VERSION_TWICE: &str = "{\"version\":2,\"entries\":[],\"version\":1}";
+
+const WRONG_PORTION: &str =
+    "{\"entries\":[{\"certificate\":\"mqc 1\\ncode 0.3\\norder 2\\nstart 1\\nperiod 2\\nphi 1 0\\nportion 0\\nwords 0:1\\nrow 0 1\\nrow 1 0\\napart 0\\nend\\n\",\"code\":\"0.3\"}],\"version\":1}";
+
+const ANOTHER_CODE: &str =
+    "{\"entries\":[{\"certificate\":\"mqc 1\\ncode 0.3\\norder 2\\nstart 1\\nperiod 2\\nphi 1 0\\nportion 1\\nwords 0:1\\nrow 0 1\\nrow 1 0\\napart 0\\nend\\n\",\"code\":\"0.33\"},{\"certificate\":\"\",\"code\":\"0.3\"}],\"version\":1}";
+
+const TWICE: &str =
+    "{\"version\":1,\"entries\":[{\"code\":\"0.3\",\"certificate\":\"mqc 1\\ncode 0.3\\norder 2\\nstart 1\\nperiod 2\\nphi 1 0\\nportion 1\\nwords 0:1\\nrow 0 1\\nrow 1 0\\napart 0\\nend\\n\"},{\"code\":\"\\u0030.3\",\"certificate\":\"mqc 1\\ncode 0.3\\norder 2\\nstart 1\\nperiod 2\\nphi 1 0\\nportion 1\\nwords 0:1\\nrow 0 1\\nrow 1 0\\napart 0\\nend\\n\"}]}";
+
+/// Lists a file, and gives what is printed.
+fn listed(alloc: Global, held: &str) -> Result<(Result<bool, CatalogueStop>, MemorySink), Memory> {
+    let mut folder = MemoryFolder::new(alloc);
+    folder.put("x.json", held.as_bytes())?;
+    let mut out = MemorySink::new(alloc);
+    let ended = list(alloc, &mut folder, "x.json", LIMIT, &mut out);
+    Ok((ended, out))
+}
+
+#[test]
+fn lists_a_file_or_says_why_not(rt: HostRuntime) -> Result<(), Fail> {
+    let rows = [
+        ("", false, "refused 1 Json\n"),
+        ("\"\\ud800\"", false, "refused 1 Json\n"),
+        ("[]", false, "refused 2 Shape\n"),
+        (ANOTHER_VERSION, false, "refused 2 Shape\n"),
+        (A_FLOAT, false, "refused 2 Shape\n"),
+        (VERSION_TWICE, true, ""),
+        (WRONG_PORTION, false, "refused 3 Entry 1 no 7 Outcome\n"),
+        (ANOTHER_CODE, false, "refused 4 Code 1\n"),
+        (TWICE, false, "refused 5 Twice 2\n"),
+        (ONE_ENTRY, true, "0.3 order 2 start 1 period 2\n"),
+    ];
+    for (held, well, printed) in rows {
+        let (ended, out) = listed(rt.alloc(), held)?;
+        assert_eq!(rt; ended, Ok(well), "of {held}");
+        assert_eq!(rt; out.bytes(), printed.as_bytes(), "of {held}");
+    }
+    Ok(())
+}
+
+/// Adds the certificate to the file, and gives what is printed.
+fn added(
+    alloc: Global,
+    folder: &mut MemoryFolder,
+    fresh: bool,
+) -> (Result<bool, CatalogueStop>, MemorySink) {
+    let mut out = MemorySink::new(alloc);
+    let ended = add(alloc, folder, "x.json", "a.mqc", fresh, LIMIT, &mut out);
+    (ended, out)
+}
+
+#[test]
+fn adds_an_entry_once(rt: HostRuntime) -> Result<(), Fail> {
+    let mut folder = MemoryFolder::new(rt.alloc());
+    folder.put("a.mqc", NIM.as_bytes())?;
+    let rows = [
+        (true, true, "added 0.3\n"),
+        (false, false, "refused 1 Present\n"),
+    ];
+    for (fresh, well, printed) in rows {
+        let (ended, out) = added(rt.alloc(), &mut folder, fresh);
+        assert_eq!(rt; ended, Ok(well));
+        assert_eq!(rt; out.bytes(), printed.as_bytes());
+        assert_eq!(rt; folder.bytes("x.json"), Some(ONE_ENTRY.as_bytes()));
+    }
+    Ok(())
+}
+
+#[test]
+fn begins_with_an_empty_catalogue(rt: HostRuntime) -> Result<(), Fail> {
+    let mut folder = MemoryFolder::new(rt.alloc());
+    assert!(rt; create(rt.alloc(), &mut folder, "x.json").is_ok());
+    assert_eq!(rt;
+        folder.bytes("x.json"),
+        Some(b"{\"entries\":[],\"version\":1}\n".as_slice())
+    );
+    Ok(())
+}
+
+#[test]
+fn gets_a_certificate(rt: HostRuntime) -> Result<(), Fail> {
+    let rows = [
+        ("0.3", Ok(true), NIM),
+        ("0.33", Ok(false), "absent\n"),
+        ("0.x", Err(CatalogueStop::Code), ""),
+    ];
+    let mut folder = MemoryFolder::new(rt.alloc());
+    folder.put("x.json", ONE_ENTRY.as_bytes())?;
+    for (code, ended, printed) in rows {
+        let mut out = MemorySink::new(rt.alloc());
+        let answer = get(rt.alloc(), &mut folder, "x.json", code, LIMIT, &mut out);
+        assert_eq!(rt; answer, ended, "of {code}");
+        assert_eq!(rt; out.bytes(), printed.as_bytes(), "of {code}");
+    }
+    Ok(())
+}
+
+#[test]
+fn keeps_the_file_where_a_call_fails(rt: HostRuntime) -> Result<(), Fail> {
+    let rows = [
+        (1, Err(CatalogueStop::Certificate), None),
+        (2, Err(CatalogueStop::Write), None),
+        (3, Ok(true), Some(ONE_ENTRY.as_bytes())),
+    ];
+    for (number, ended, held) in rows {
+        let mut folder = MemoryFolder::failing(rt.alloc(), number);
+        folder.put("a.mqc", NIM.as_bytes())?;
+        let (answer, _out) = added(rt.alloc(), &mut folder, true);
+        assert_eq!(rt; answer, ended, "at {number}");
+        assert_eq!(rt; folder.bytes("x.json"), held, "at {number}");
+    }
+    Ok(())
+}
