@@ -1,4 +1,11 @@
 //! A guessed quotient.
+ghost use Rattle.std.specs.Prelude.{◌≡◌, ◌*◌, ◌<◌, ◌≤◌, length, All, IfOk, IfSome};
+ghost use Rattle.quotient_solver.specs.Guesses.{IsWellFormed};
+
+use crate::cells::at;
+use crate::quotient::Quotient;
+use crate::search::Found;
+use allocation::Memory;
 use std::alloc::{Allocator, Global};
 
 /// A guessed quotient of a game restricted to the heaps 1 to `heaps.len()`. The identity is element 0.
@@ -12,8 +19,80 @@ pub struct Guess<A: Allocator = Global> {
     pub lost: Vec<bool, A>,
     /// The elements of the heaps 1, 2, ..
     pub heaps: Vec<u16, A>,
-    /// From which heap on the elements repeat, or 0 where too few heaps were looked at to tell.
+    /// The least heap from which the elements repeat, or 0 where too few heaps were looked at to tell.
     pub start: usize,
     /// After how many heaps they repeat, or 0.
     pub period: usize,
+}
+
+/// The number itself, where it is below the order, and 0 otherwise.
+fn below(number: usize, order: usize) -> u16
+    requires { 1 ≤ order }
+    ensures { result < order }
+{
+    if number < order && number < 65536 {
+        number as u16
+    } else {
+        0
+    }
+}
+
+/// So many numbers below the order.
+fn numbers_below<A: Allocator + Copy>(
+    alloc: A,
+    cells: &[u16],
+    count: usize,
+    order: usize,
+) -> Result<Vec<u16, A>, Memory>
+    requires { 1 ≤ order }
+    ensures length { IfOk result (λ v. length v.items ≡ count) }
+    ensures below { IfOk result (λ v. All (λ x. x < order) v.items) }
+{
+    let mut numbers: Vec<u16, A> = Vec::new(alloc);
+    for place in 0..count {
+        numbers.push(below(at(cells, place), order))?;
+    }
+    Ok(numbers)
+}
+
+/// The marks of the elements in the portion.
+fn marks<A: Allocator + Copy>(
+    alloc: A,
+    quotient: &Quotient<A>,
+    order: usize,
+) -> Result<Vec<bool, A>, Memory>
+    ensures { IfOk result (λ v. length v.items ≡ order) }
+{
+    let mut lost: Vec<bool, A> = Vec::new(alloc);
+    for element in 0..order {
+        lost.push(quotient.is_lost(element))?;
+    }
+    Ok(lost)
+}
+
+/// What was found, as a guess of at most so many heaps.
+pub fn guess_of<A: Allocator + Copy>(
+    alloc: A,
+    found: &Found<A>,
+    most: usize,
+) -> Result<Option<Guess<A>>, Memory>
+    ensures { IfOk result (λ found. IfSome found (λ g. IsWellFormed g.order g.products.items g.lost.items g.heaps.items most)) }
+{
+    let quotient = &found.quotient;
+    let order = quotient.order;
+    let Some(size) = order.checked_mul(order) else {
+        return Ok(None);
+    };
+    let count = quotient.heaps.len();
+    if order == 0 || count > most {
+        return Ok(None);
+    }
+    Ok(Some(Guess {
+        order,
+        products: numbers_below(alloc, &quotient.products, size, order)?,
+        lost: marks(alloc, quotient, order)?,
+        heaps: numbers_below(alloc, &quotient.heaps, count, order)?,
+        start: found.start,
+        period: found.period,
+    }))
 }

@@ -2,9 +2,26 @@
 #![tactic(auto)]
 
 mod cells;
+mod closure;
+mod collapse;
+mod congruence;
+mod contexts;
+mod dead;
+mod evidence;
+mod extend;
+mod failing;
 mod guess;
+mod levels;
+mod lightest;
 mod lists;
+mod partition;
+mod quotient;
+mod repair;
+mod scene;
+mod search;
 mod solver;
+#[cfg(test)]
+mod tests;
 mod work;
 
 pub use guess::Guess;

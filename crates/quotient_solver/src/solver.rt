@@ -1,8 +1,10 @@
 //! The solver.
-ghost use Rattle.std.specs.Prelude.{◌≡◌, IfOk, IfSome, min, max, OnErr};
+ghost use Rattle.std.specs.Prelude.{◌≡◌, IfOk, IfSome, min, max};
 ghost use Rattle.quotient_solver.specs.Guesses.{IsWellFormed};
 
-use crate::guess::Guess;
+use crate::guess::{Guess, guess_of};
+use crate::search::search;
+use crate::work::Halt;
 use allocation::{Memory, Room};
 use octal_code::Code;
 use positions::Position;
@@ -10,10 +12,16 @@ use std::alloc::Global;
 use std::marker::Model;
 
 /// A solver that looks at the heaps up to some size, seen as that size.
+///
+/// It goes from heap to heap. Beside the lightest position of each element, positions of some heaps of the next size are compared, and those that
+/// nothing tells apart are made one element. Where the rule of misère play then fails at some position, the elements are made anew with the parts
+/// of the lightest such position compared too.
 #[derive(Drop)]
 pub struct Solver<A: Room = Global> {
     alloc: A,
     most: usize,
+    asked: Option<Code>,
+    wrong: bool,
 }
 
 impl<A: Room> Model for Solver<A> {
@@ -22,6 +30,14 @@ impl<A: Room> Model for Solver<A> {
     ghost Value = { ℕ };
 
     ghost view = { λ s. s.most };
+}
+
+/// Whether this is the code that was asked last.
+fn is_asked(asked: &Option<Code>, code: &Code) -> bool {
+    match asked {
+        Some(last) => (0..17u64).all(|j| last.digit(j) == code.digit(j)),
+        None => false,
+    }
 }
 
 impl<A: Room + Copy> Solver<A> {
@@ -36,21 +52,39 @@ impl<A: Room + Copy> Solver<A> {
         } else {
             heaps
         };
-        Solver { alloc, most }
+        Solver {
+            alloc,
+            most,
+            asked: None,
+            wrong: false,
+        }
     }
 
-    /// Guesses the quotient of the code's game, or gives up. Nothing is promised of a guess but its shape.
-    pub fn solve(&mut self, _code: &Code) -> Result<Option<Guess<A>>, Memory>
+    /// Guesses the quotient of the code's game, or gives up. Nothing is promised of a guess but its shape. The work is bounded, and the
+    /// answer depends on the code, the heaps and what was learned alone.
+    pub fn solve(&mut self, code: &Code) -> Result<Option<Guess<A>>, Memory>
         ensures guess { IfOk result (λ found. IfSome found (λ g. IsWellFormed g.order g.products.items g.lost.items g.heaps.items self.old)) }
         ensures same { self.new ≡ self.old }
     {
-        Ok(None)
+        self.wrong = self.wrong && is_asked(&self.asked, code);
+        self.asked = Some(*code);
+        match search(self.alloc, code, self.most) {
+            Ok(found) => {
+                if self.wrong && found.period == 0 {
+                    return Ok(None);
+                }
+                guess_of(self.alloc, &found, self.most)
+            }
+            Err(Halt::Memory) => Err(Memory),
+            Err(Halt::GaveUp) => Ok(None),
+        }
     }
 
-    /// Takes note of a position at which a guess was wrong.
+    /// Takes note of a position at which the last guess was wrong. A guess that rests on too few heaps to tell the period isn't made again.
     pub fn learn(&mut self, _position: &Position<A>) -> Result<(), Memory>
         ensures { self.new ≡ self.old }
     {
+        self.wrong = true;
         Ok(())
     }
 }

@@ -56,8 +56,15 @@ impl Work {
         Ok(())
     }
 
-    /// Whether nothing is left.
-    pub fn is_spent(&self) -> bool {
-        self.left == 0
+    /// Takes a share of what is left, for a part of the search.
+    pub fn lend(&mut self, most: u64) -> Work {
+        let left = if self.left < most { self.left } else { most };
+        self.left -= left;
+        Work { left }
+    }
+
+    /// Takes back what is left of a share.
+    pub fn take_back(&mut self, share: Work) {
+        self.left = self.left.saturating_add(share.left);
     }
 }

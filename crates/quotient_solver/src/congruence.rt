@@ -1,0 +1,121 @@
+//! The coarsest congruence of pairs of a level and an element.
+use crate::cells::{index, put_word, word};
+use crate::levels::Levels;
+use crate::partition::Partition;
+use crate::quotient::Quotient;
+use crate::work::{Halt, Work};
+use std::alloc::Allocator;
+
+/// The elements of the heaps but the identity, each once.
+pub fn generators<A: Allocator + Copy>(
+    alloc: A,
+    quotient: &Quotient<A>,
+) -> Result<Vec<usize, A>, Halt> {
+    let mut found: Vec<usize, A> = Vec::new(alloc);
+    for heap in quotient.heaps.iter() {
+        let x = *heap as usize;
+        if x != 0 && !found.contains(&x) {
+            found.push(x)?;
+        }
+    }
+    Ok(found)
+}
+
+/// Parts the pairs by their rows.
+fn part_by_rows<A: Allocator>(
+    partition: &mut Partition<A>,
+    words: usize,
+    rows: &[u64],
+    kept: &[u64],
+) {
+    for place in 0..words {
+        for z in 0..partition.keys.len() {
+            let bits = word(rows, z.wrapping_mul(words).wrapping_add(place)) & word(kept, place);
+            put_word(&mut partition.keys, z, bits);
+        }
+        partition.split();
+    }
+}
+
+/// Takes the classes of the products with an element for keys.
+fn key_by_element<A: Allocator>(
+    partition: &mut Partition<A>,
+    quotient: &Quotient<A>,
+    levels: usize,
+    element: usize,
+) {
+    let order = quotient.order;
+    for k in 0..levels {
+        let from = k.wrapping_mul(order);
+        for y in 0..order {
+            let image = from.wrapping_add(quotient.times(element, y));
+            let class = index(&partition.classes, image) as u64;
+            put_word(&mut partition.keys, from.wrapping_add(y), class);
+        }
+    }
+}
+
+/// Takes the classes one level higher for keys.
+fn key_by_level<A: Allocator>(partition: &mut Partition<A>, order: usize, levels: &Levels<A>) {
+    for k in 0..levels.count {
+        let from = k.wrapping_mul(order);
+        let above = levels.cut(k.wrapping_add(1)).wrapping_mul(order);
+        for y in 0..order {
+            let class = index(&partition.classes, above.wrapping_add(y)) as u64;
+            put_word(&mut partition.keys, from.wrapping_add(y), class);
+        }
+    }
+}
+
+/// The coarsest congruence that keeps the rows, as far as the mask `kept` shows them.
+pub fn congruence<A: Allocator + Copy>(
+    alloc: A,
+    quotient: &Quotient<A>,
+    levels: &Levels<A>,
+    kept: &[u64],
+    work: &mut Work,
+) -> Result<Partition<A>, Halt> {
+    let size = quotient.order.saturating_mul(levels.count);
+    let elements = generators(alloc, quotient)?;
+    work.spend(size.saturating_mul(quotient.words).saturating_mul(4))?;
+    let mut partition = Partition::new(alloc, size)?;
+    part_by_rows(&mut partition, quotient.words, &levels.rows, kept);
+    loop_until_quiet(&mut partition, quotient, levels, &elements, work)?;
+    Ok(partition)
+}
+
+/// Splits by each generator in turn, until none splits a class.
+fn loop_until_quiet<A: Allocator>(
+    partition: &mut Partition<A>,
+    quotient: &Quotient<A>,
+    levels: &Levels<A>,
+    elements: &[usize],
+    work: &mut Work,
+) -> Result<(), Halt> {
+    let mut turn = 0usize;
+    let mut quiet = 0usize;
+    for _ in 0..u64::MAX {
+        work.spend(partition.keys.len().saturating_mul(4).saturating_add(1))?;
+        let before = partition.count;
+        match elements.get(turn) {
+            Some(element) => {
+                key_by_element(partition, quotient, levels.count, *element);
+                turn = turn.wrapping_add(1);
+            }
+            None => {
+                key_by_level(partition, quotient.order, levels);
+                turn = 0;
+            }
+        }
+        partition.split();
+        quiet = if partition.count == before {
+            quiet.wrapping_add(1)
+        } else {
+            0
+        };
+        if quiet > elements.len() {
+            return Ok(());
+        }
+    }
+    Err(Halt::GaveUp)
+}

@@ -1,0 +1,61 @@
+//! The sizes of known quotients, and want of memory.
+use crate::{Guess, Solver};
+use octal_code::Code;
+use positions::Position;
+use ration::Ration;
+use std::test::Fail;
+
+/// Orders and periods of games from the literature: Plambeck and Siegel, 'Misère quotients for impartial games'.
+#[test]
+fn finds_known_quotients(rt: HostRuntime) -> Result<(), Fail> {
+    let rows: [(&[u8], usize, usize, usize, usize); 5] = [
+        (b"0.3", 64, 2, 1, 2),
+        (b"0.33", 64, 6, 1, 3),
+        (b"0.75", 64, 8, 8, 2),
+        // Kayles: of period 12 from the heap 71 on, beyond what is looked at here.
+        (b"0.77", 64, 40, 0, 0),
+        (b"0.33", 9, 6, 0, 0),
+    ];
+    for (text, heaps, order, start, period) in rows {
+        let code = Code::read(text)?;
+        let guess = Solver::new(rt.alloc(), heaps)
+            .solve(&code)?
+            .ok_or("no guess")?;
+        assert_eq!(rt;
+            (guess.order, guess.start, guess.period),
+            (order, start, period)
+        );
+        assert_eq!(rt; guess.products.len(), order * order);
+    }
+    Ok(())
+}
+
+#[test]
+fn a_wrong_guess_without_a_period_is_not_made_again(rt: HostRuntime) -> Result<(), Fail> {
+    let code = Code::read(b"0.33")?;
+    let mut solver = Solver::new(rt.alloc(), 9);
+    assert!(rt; solver.solve(&code)?.is_some());
+    solver.learn(&Position::read(rt.alloc(), b"1 2")?)?;
+    assert!(rt; solver.solve(&code)?.is_none());
+    assert!(rt; solver.solve(&Code::read(b"0.3")?)?.is_some());
+    Ok(())
+}
+
+#[test]
+fn answers_or_says_memory(rt: HostRuntime) -> Result<(), Fail> {
+    let code = Code::read(b"0.75")?;
+    for refused in 1..100000u64 {
+        let ration = Ration::new(rt.alloc(), refused);
+        match Solver::new(&ration, 64).solve(&code) {
+            Ok(found) => {
+                let order = found.map_or(0, |guess: Guess<&Ration<_>>| guess.order);
+                assert_eq!(rt; order, 8, "refused {refused}");
+                if !ration.has_refused() {
+                    return Ok(());
+                }
+            }
+            Err(_) => assert!(rt; ration.has_refused()),
+        }
+    }
+    Err(Fail::new("growths go on"))
+}
