@@ -1,10 +1,10 @@
 //! A guessed quotient.
 ghost use Rattle.std.specs.Prelude.{◌≡◌, ◌*◌, ◌<◌, ◌≤◌, length, All, IfOk, IfSome};
-ghost use Rattle.quotient_solver.specs.Guesses.{IsWellFormed};
+ghost use Rattle.quotient_solver.specs.Guesses.{IsWellFormed, Repeats};
 
 use crate::cells::at;
+use crate::evidence::{is_shown, likely_period};
 use crate::quotient::Quotient;
-use crate::search::Found;
 use allocation::Memory;
 use std::alloc::{Allocator, Global};
 
@@ -19,10 +19,12 @@ pub struct Guess<A: Allocator = Global> {
     pub lost: Vec<bool, A>,
     /// The elements of the heaps 1, 2, ..
     pub heaps: Vec<u16, A>,
-    /// The least heap from which the elements repeat, or 0 where too few heaps were looked at to tell.
+    /// The heap from which on the elements repeat, by the likeliest guess, or 0.
     pub start: usize,
-    /// After how many heaps they repeat, or 0.
+    /// After how many heaps they repeat, or 0 where nothing is guessed.
     pub period: usize,
+    /// Whether there are so many heaps that the period is right if the elements are.
+    pub shown: bool,
 }
 
 /// The number itself, where it is below the order, and 0 otherwise.
@@ -70,15 +72,16 @@ fn marks<A: Allocator + Copy>(
     Ok(lost)
 }
 
-/// What was found, as a guess of at most so many heaps.
+/// A quotient as a guess of at most so many heaps, for a code with `last` digits after the point.
 pub fn guess_of<A: Allocator + Copy>(
     alloc: A,
-    found: &Found<A>,
+    quotient: &Quotient<A>,
     most: usize,
+    last: usize,
 ) -> Result<Option<Guess<A>>, Memory>
-    ensures { IfOk result (λ found. IfSome found (λ g. IsWellFormed g.order g.products.items g.lost.items g.heaps.items most)) }
+    ensures formed { IfOk result (λ found. IfSome found (λ g. IsWellFormed g.order g.products.items g.lost.items g.heaps.items most)) }
+    ensures repeats { IfOk result (λ found. IfSome found (λ g. Repeats g.heaps.items g.start g.period)) }
 {
-    let quotient = &found.quotient;
     let order = quotient.order;
     let Some(size) = order.checked_mul(order) else {
         return Ok(None);
@@ -87,12 +90,16 @@ pub fn guess_of<A: Allocator + Copy>(
     if order == 0 || count > most {
         return Ok(None);
     }
+    let heaps = numbers_below(alloc, &quotient.heaps, count, order)?;
+    let (start, period) = likely_period(&heaps, last).unwrap_or((0, 0));
+    let shown = is_shown(&heaps, start, period, last);
     Ok(Some(Guess {
         order,
         products: numbers_below(alloc, &quotient.products, size, order)?,
         lost: marks(alloc, quotient, order)?,
-        heaps: numbers_below(alloc, &quotient.heaps, count, order)?,
-        start: found.start,
-        period: found.period,
+        heaps,
+        start,
+        period,
+        shown,
     }))
 }

@@ -18,7 +18,7 @@ const MOST_REPAIRS: usize = 30;
 const MOST_TRIES: usize = 200;
 
 /// The most work of a try.
-const TRY: u64 = 400_000_000;
+const TRY: u64 = 200_000_000;
 
 /// How many elements weigh no more than so much.
 fn lighter_elements<A: Allocator>(quotient: &Quotient<A>, weight: usize) -> usize {

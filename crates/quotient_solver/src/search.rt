@@ -1,6 +1,6 @@
 //! The search for a quotient, heap by heap.
 use crate::closure::Closure;
-use crate::evidence::evidence;
+use crate::evidence::{is_shown, likely_period};
 use crate::extend::extend;
 use crate::quotient::Quotient;
 use crate::repair::repair;
@@ -11,14 +11,6 @@ use std::alloc::Allocator;
 
 /// The most elements that a certificate may have. With more heaps a right quotient has no fewer.
 const MOST_ELEMENTS: usize = 256;
-
-/// A quotient that was found, and the period of its heaps, 0 where too few heaps show one.
-#[derive(Drop)]
-pub struct Found<A: Allocator> {
-    pub quotient: Quotient<A>,
-    pub start: usize,
-    pub period: usize,
-}
 
 /// A quotient on the way, and the closure that shows that it is right.
 #[derive(Drop)]
@@ -50,8 +42,20 @@ fn advance<A: Allocator + Copy>(
     Ok(())
 }
 
+/// Whether the heaps show a period.
+fn has_period(heaps: &[u16], last: usize) -> bool {
+    match likely_period(heaps, last) {
+        Some((start, period)) => is_shown(heaps, start, period, last),
+        None => false,
+    }
+}
+
 /// The quotient of the heaps up to the first one by which a period shows, or up to `most`.
-pub fn search<A: Allocator + Copy>(alloc: A, code: &Code, most: usize) -> Result<Found<A>, Halt> {
+pub fn search<A: Allocator + Copy>(
+    alloc: A,
+    code: &Code,
+    most: usize,
+) -> Result<Quotient<A>, Halt> {
     let mut work = Work::new();
     let scene = Scene::plain(alloc)?;
     let quotient = Quotient::trivial(alloc, &scene)?;
@@ -59,25 +63,13 @@ pub fn search<A: Allocator + Copy>(alloc: A, code: &Code, most: usize) -> Result
     let mut state = State { quotient, closure };
     for n in 1..most.saturating_add(1) {
         advance(alloc, code, &scene, &mut state, n, &mut work)?;
-        if let Some((start, period)) = evidence(&state.quotient.heaps, code.last() as usize) {
-            let State {
-                quotient,
-                closure: _,
-            } = state;
-            return Ok(Found {
-                quotient,
-                start,
-                period,
-            });
+        if has_period(&state.quotient.heaps, code.last() as usize) {
+            break;
         }
     }
     let State {
         quotient,
         closure: _,
     } = state;
-    Ok(Found {
-        quotient,
-        start: 0,
-        period: 0,
-    })
+    Ok(quotient)
 }

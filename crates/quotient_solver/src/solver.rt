@@ -1,6 +1,6 @@
 //! The solver.
 ghost use Rattle.std.specs.Prelude.{◌≡◌, IfOk, IfSome, min, max};
-ghost use Rattle.quotient_solver.specs.Guesses.{IsWellFormed};
+ghost use Rattle.quotient_solver.specs.Guesses.{IsWellFormed, Repeats};
 
 use crate::guess::{Guess, guess_of};
 use crate::search::search;
@@ -63,24 +63,22 @@ impl<A: Room + Copy> Solver<A> {
     /// Guesses the quotient of the code's game, or gives up. Nothing is promised of a guess but its shape. The work is bounded, and the
     /// answer depends on the code, the heaps and what was learned alone.
     pub fn solve(&mut self, code: &Code) -> Result<Option<Guess<A>>, Memory>
-        ensures guess { IfOk result (λ found. IfSome found (λ g. IsWellFormed g.order g.products.items g.lost.items g.heaps.items self.old)) }
+        ensures formed { IfOk result (λ found. IfSome found (λ g. IsWellFormed g.order g.products.items g.lost.items g.heaps.items self.old)) }
+        ensures repeats { IfOk result (λ found. IfSome found (λ g. Repeats g.heaps.items g.start g.period)) }
         ensures same { self.new ≡ self.old }
     {
         self.wrong = self.wrong && is_asked(&self.asked, code);
         self.asked = Some(*code);
-        match search(self.alloc, code, self.most) {
-            Ok(found) => {
-                if self.wrong && found.period == 0 {
-                    return Ok(None);
-                }
-                guess_of(self.alloc, &found, self.most)
-            }
-            Err(Halt::Memory) => Err(Memory),
-            Err(Halt::GaveUp) => Ok(None),
-        }
+        let quotient = match search(self.alloc, code, self.most) {
+            Ok(quotient) => quotient,
+            Err(Halt::Memory) => return Err(Memory),
+            Err(Halt::GaveUp) => return Ok(None),
+        };
+        let guess = guess_of(self.alloc, &quotient, self.most, code.last() as usize)?;
+        Ok(guess.filter(|guess| guess.shown || !self.wrong))
     }
 
-    /// Takes note of a position at which the last guess was wrong. A guess that rests on too few heaps to tell the period isn't made again.
+    /// Takes note of a position at which the last guess was wrong. A guess whose period doesn't show isn't made again.
     pub fn learn(&mut self, _position: &Position<A>) -> Result<(), Memory>
         ensures { self.new ≡ self.old }
     {

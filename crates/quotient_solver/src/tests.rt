@@ -11,10 +11,9 @@ fn finds_known_quotients(rt: HostRuntime) -> Result<(), Fail> {
     let rows: [(&[u8], usize, usize, usize, usize); 5] = [
         (b"0.3", 64, 2, 1, 2),
         (b"0.33", 64, 6, 1, 3),
+        (b"0.33", 9, 6, 1, 3),
         (b"0.75", 64, 8, 8, 2),
-        // Kayles: of period 12 from the heap 71 on, beyond what is looked at here.
-        (b"0.77", 64, 40, 0, 0),
-        (b"0.33", 9, 6, 0, 0),
+        (b"0.153", 64, 16, 32, 14),
     ];
     for (text, heaps, order, start, period) in rows {
         let code = Code::read(text)?;
@@ -27,11 +26,16 @@ fn finds_known_quotients(rt: HostRuntime) -> Result<(), Fail> {
         );
         assert_eq!(rt; guess.products.len(), order * order);
     }
+    // Kayles repeats from the heap 71 on, so its period can't be seen here.
+    let kayles = Solver::new(rt.alloc(), 64)
+        .solve(&Code::read(b"0.77")?)?
+        .ok_or("no guess")?;
+    assert_eq!(rt; (kayles.order, kayles.shown), (40, false));
     Ok(())
 }
 
 #[test]
-fn a_wrong_guess_without_a_period_is_not_made_again(rt: HostRuntime) -> Result<(), Fail> {
+fn a_wrong_guess_whose_period_does_not_show_is_not_made_again(rt: HostRuntime) -> Result<(), Fail> {
     let code = Code::read(b"0.33")?;
     let mut solver = Solver::new(rt.alloc(), 9);
     assert!(rt; solver.solve(&code)?.is_some());

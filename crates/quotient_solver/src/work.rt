@@ -30,7 +30,7 @@ impl<T: Drop> From<AllocFailed<T>> for Halt {
 }
 
 /// The work of a whole search, in steps of about a nanosecond.
-const WHOLE: u64 = 2_000_000_000;
+const WHOLE: u64 = 1_000_000_000;
 
 /// The work that is left.
 #[derive(Clone, Copy)]
