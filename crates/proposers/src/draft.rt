@@ -1,9 +1,9 @@
 //! A draft out of a guess.
+use crate::guess::Guess;
 use crate::lines::{push_keys, push_line, push_pair};
 use crate::numbering::Numbering;
 use allocation::Memory;
 use octal_code::Code;
-use quotient_solver::Guess;
 use std::alloc::Global;
 
 /// A guess in the numbers of a certificate.

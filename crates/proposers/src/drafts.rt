@@ -1,9 +1,9 @@
 //! The drafts of one guess, one after another.
 use crate::candidates::{Repeat, candidates};
 use crate::draft::draft;
+use crate::guess::Guess;
 use allocation::Memory;
 use octal_code::Code;
-use quotient_solver::Guess;
 use std::alloc::Global;
 
 /// A guess, and the starts and periods that are still to be tried with it.

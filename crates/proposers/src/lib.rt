@@ -7,6 +7,7 @@ mod candidates;
 mod draft;
 mod drafts;
 mod groups;
+mod guess;
 mod lines;
 mod numbering;
 mod periods;

@@ -1,6 +1,6 @@
 //! Guessed elements, numbered by least keys.
+use crate::guess::Guess;
 use allocation::Memory;
-use quotient_solver::Guess;
 use std::alloc::Global;
 
 /// The number of an element that has none yet.

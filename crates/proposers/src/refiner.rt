@@ -1,10 +1,11 @@
 //! The proposer that solves heap by heap, and learns from positions.
 use crate::drafts::Drafts;
+use crate::guess::Guess;
 use allocation::Memory;
 use checker::Refusal;
 use octal_code::Code;
 use quotient_finder::Proposer;
-use quotient_solver::Solver;
+use quotient_solver::{Guess as Solved, Solver};
 use std::alloc::Global;
 
 /// How often it solves.
@@ -48,11 +49,28 @@ impl Refiner {
         if self.is_stale && self.solves > 0 {
             self.is_stale = false;
             self.solves -= 1;
-            if let Some(guess) = self.solver.solve(code)? {
-                self.drafts = Some(Drafts::new(self.alloc, code, guess)?);
+            if let Some(solved) = self.solver.solve(code)? {
+                self.drafts = Some(Drafts::new(self.alloc, code, guess_of(solved))?);
             }
         }
         Ok(())
+    }
+}
+
+/// What of a solver's guess drafts are written from.
+fn guess_of(solved: Solved) -> Guess {
+    let Solved {
+        order,
+        products,
+        lost,
+        heaps,
+        ..
+    } = solved;
+    Guess {
+        order,
+        products,
+        lost,
+        heaps,
     }
 }
 

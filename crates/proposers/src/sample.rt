@@ -1,12 +1,12 @@
 //! A sample of positions, grouped by their outcomes beside others.
 use crate::groups::{Groups, LETTERS, Row};
+use crate::guess::Guess;
 use crate::words::guess_of;
 use allocation::Memory;
 use indexmap::IndexMap;
 use octal_code::Code;
 use outcome_search::{Outcome, SearchFault, outcome};
 use positions::Position;
-use quotient_solver::Guess;
 use std::alloc::Global;
 use std::hash::{BuildHasherDefault, FoldHasher};
 

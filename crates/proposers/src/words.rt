@@ -1,10 +1,10 @@
 //! Relations between the words of groups, and the monoid that they present.
 use crate::groups::{Groups, LETTERS};
+use crate::guess::Guess;
 use allocation::Memory;
 use monoid_table::Table;
 use outcome_search::Outcome;
 use presentations::{Generator, Named, PresFault, Presentation, table_of};
-use quotient_solver::Guess;
 use std::alloc::Global;
 
 /// How many exponent vectors are merged.
@@ -134,8 +134,6 @@ fn guess(alloc: Global, groups: &Groups, named: Named) -> Result<Guess, Memory> 
         products: table.into_rows(),
         lost,
         heaps,
-        start: 0,
-        period: 0,
     })
 }
 
