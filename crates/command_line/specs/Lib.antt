@@ -1,4 +1,6 @@
-pub mod Asks
+pub mod Numbers
+pub mod Plans
 pub mod Program
 pub mod Refusals
+pub mod Requests
 pub mod Status

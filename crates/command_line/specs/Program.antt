@@ -1,29 +1,60 @@
 -- The program's commands and their arguments, in the words of `clap`. This project's own.
-use Rattle.std.specs.Prelude.{Some, true, codes}
-use Rattle.clap.specs.Words.{App, Rule, new_app, new_rule, with_rule, with_subcommand}
-use Rattle.clap.specs.declared.builder.action.ArgAction.TheVariants.{Set}
+use Rattle.std.specs.Prelude.{List, [], ◌∷◌, Some, true, codes, fold}
+use Rattle.clap.specs.Words.{App, Rule, Text, new_app, new_rule, with_rule, with_subcommand}
+use Rattle.clap.specs.declared.builder.action.ArgAction.TheVariants.{Set, SetTrue}
 
--- the option `--limit N`
-abbrev pub limit : Rule
-limit = record (new_rule (codes "limit")) { long = Some (codes "limit"); action = Some Set }
+-- an argument that may be left out, told by its place
+abbrev pub optional : Text → Rule
+optional id = record (new_rule id) { value_names = 1 }
+
+-- one that is needed
+abbrev pub needed : Text → Rule
+needed id = record (new_rule id) { value_names = 1; required = true }
+
+-- an option with a value
+abbrev pub option : Text → Rule
+option id = record (new_rule id) { long = Some id; action = Some Set; value_names = 1 }
+
+-- an option without one
+abbrev pub flag : Text → Rule
+flag id = record (new_rule id) { long = Some id; action = Some SetTrue }
+
+abbrev pub command : Text → List Rule → App
+command name rules = fold with_rule (new_app name) rules
 
 -- check [FILE] [--limit N]
 abbrev pub check : App
-check = with_rule (with_rule (new_app (codes "check")) (new_rule (codes "file"))) limit
+check = command (codes "check") (optional (codes "file") ∷ option (codes "limit") ∷ [])
+
+-- solve CODE [--limit N] [--rounds R] [--heaps M] [--order Q]
+abbrev pub solve : App
+solve = command (codes "solve")
+    (needed (codes "code") ∷ option (codes "limit") ∷ option (codes "rounds") ∷ option (codes "heaps") ∷ option (codes "order") ∷ [])
 
 -- show FILE
 abbrev pub show : App
-show = with_rule (new_app (codes "show")) (record (new_rule (codes "file")) { required = true })
+show = command (codes "show") (needed (codes "file") ∷ [])
 
 -- play FILE POSITION
 abbrev pub play : App
-play = with_rule (with_rule (new_app (codes "play")) (record (new_rule (codes "file")) { required = true }))
-    (record (new_rule (codes "position")) { required = true })
+play = command (codes "play") (needed (codes "file") ∷ needed (codes "position") ∷ [])
 
 -- present TEXT
 abbrev pub present : App
-present = with_rule (new_app (codes "present")) (record (new_rule (codes "text")) { required = true })
+present = command (codes "present") (needed (codes "text") ∷ [])
+
+-- catalogue FILE [--new] [--add CERTIFICATE] [--get CODE] [--salvage]
+abbrev pub catalogue : App
+catalogue = command (codes "catalogue")
+    (needed (codes "file") ∷ flag (codes "new") ∷ option (codes "add") ∷ option (codes "get") ∷ flag (codes "salvage") ∷ [])
+
+-- the name, which has a version
+abbrev pub misere : App
+misere = record (new_app (codes "misere")) { top = record (new_app (codes "misere")).top { has_version = true } }
+
+abbrev pub commands : List App
+commands = check ∷ solve ∷ show ∷ play ∷ present ∷ catalogue ∷ []
 
 -- the whole command line
 abbrev pub program : App
-program = with_subcommand (with_subcommand (with_subcommand (with_subcommand (new_app (codes "misere")) check.top) show.top) play.top) present.top
+program = fold (λ above c. with_subcommand above c.top) misere commands

@@ -1,12 +1,31 @@
--- The exit status for a command line that asks for nothing. This project's own.
-use Rattle.std.specs.Prelude.{ℕ}
-use Rattle.command_line.specs.declared.plans.UsageFault.{UsageFault}
-use Rattle.command_line.specs.declared.plans.UsageFault.TheVariants.{Memory, Help, Words, Limit, Incomplete}
+-- The exit status for a command line that asks for nothing, and what is told. This project's own.
+use Rattle.std.specs.Prelude.{ℕ, codes, string_bytes}
+use Rattle.clap.specs.Words.{Text}
+use Rattle.command_line.specs.declared.faults.UsageFault.{UsageFault}
+use Rattle.command_line.specs.declared.faults.UsageFault.TheVariants.{Memory, Help, Words, Number, Exclusive, Incomplete}
+use Rattle.command_line.specs.declared.numbers.Quantity.{Quantity}
+use Rattle.command_line.specs.declared.numbers.Quantity.TheVariants.{Limit, Rounds, Heaps, Order}
 
 -- help ends well, refused words with 2, want of memory with 3
 abbrev pub status_of : UsageFault → ℕ
 status_of Memory = 3
 status_of (Help text) = 0
 status_of (Words text) = 2
-status_of Limit = 2
+status_of (Number quantity) = 2
+status_of Exclusive = 2
 status_of Incomplete = 2
+
+abbrev pub range_text : Quantity → Text
+range_text Limit = codes "misere: the limit is a number from 1 to 1000000\n"
+range_text Rounds = codes "misere: the rounds are a number from 1 to 1000\n"
+range_text Heaps = codes "misere: the heaps are a number from 2 to 64\n"
+range_text Order = codes "misere: the order is a number from 2 to 256\n"
+
+-- what is told of the fault
+abbrev pub text_of : UsageFault → Text
+text_of Memory = codes "misere: out of memory\n"
+text_of (Help text) = string_bytes text
+text_of (Words text) = string_bytes text
+text_of (Number quantity) = range_text quantity
+text_of Exclusive = codes "misere: --get goes without --new and --add, --salvage without all three\n"
+text_of Incomplete = codes "misere: no command; see misere --help\n"

@@ -1,45 +1,148 @@
 //! The commands and their arguments, as `clap` reads them.
-ghost use Rattle.std.specs.Prelude.{◌≡◌, IfOk};
-ghost use Rattle.clap.specs.Words.{app_of};
-ghost use Rattle.command_line.specs.Program.{check, play, present, program, show};
+ghost use Rattle.std.specs.Prelude.{◌≡◌, IfOk, codes, false};
+ghost use Rattle.clap.specs.Words.{app_of, new_app, rule_of};
+ghost use Rattle.command_line.specs.Program.{catalogue, check, flag, misere, needed, option, optional, play, present, program, show, solve};
 
 use clap::{Arg, ArgAction, Command};
 use std::alloc::{AllocError, Global};
 
-/// `check [FILE] [--limit N]`
+/// The program's version.
+pub const VERSION: &str = "0.1.0";
+
+/// An argument that may be left out, told by its place.
+fn optional<'a>(alloc: Global, name: &'a str, shown: &'a str, help: &'a str) -> Arg<'a>
+    ensures rule { rule_of result ≡ optional name.entry.now }
+    ensures local { result.global ≡ false }
+{
+    Arg::new(alloc, name).value_name(shown).help(help)
+}
+
+/// An argument that is needed, told by its place.
+fn needed<'a>(alloc: Global, name: &'a str, shown: &'a str, help: &'a str) -> Arg<'a>
+    ensures rule { rule_of result ≡ needed name.entry.now }
+    ensures local { result.global ≡ false }
+{
+    Arg::new(alloc, name)
+        .value_name(shown)
+        .help(help)
+        .required(true)
+}
+
+/// An option with a value.
+fn option<'a>(alloc: Global, name: &'a str, shown: &'a str, help: &'a str) -> Arg<'a>
+    ensures rule { rule_of result ≡ option name.entry.now }
+    ensures local { result.global ≡ false }
+{
+    Arg::new(alloc, name)
+        .long(name)
+        .action(ArgAction::Set)
+        .value_name(shown)
+        .help(help)
+}
+
+/// An option without a value.
+fn flag<'a>(alloc: Global, name: &'a str, help: &'a str) -> Arg<'a>
+    ensures rule { rule_of result ≡ flag name.entry.now }
+    ensures local { result.global ≡ false }
+{
+    Arg::new(alloc, name)
+        .long(name)
+        .action(ArgAction::SetTrue)
+        .help(help)
+}
+
+fn limit<'a>(alloc: Global) -> Arg<'a>
+    ensures rule { rule_of result ≡ option (codes "limit") }
+    ensures local { result.global ≡ false }
+{
+    option(
+        alloc,
+        "limit",
+        "N",
+        "Keep at most N members of a closure: 1 to 1000000, by default 100000",
+    )
+}
+
+/// A command without arguments.
+fn command<'a>(alloc: Global, name: &'a str, about: &'a str) -> Command<'a>
+    ensures { app_of result ≡ new_app name.entry.now }
+{
+    Command::new(alloc, name).about(about)
+}
+
 fn check_command<'a>(alloc: Global) -> Result<Command<'a>, AllocError>
     ensures { IfOk result (λ c. app_of c ≡ check) }
 {
-    let file = Arg::new(alloc, "file");
-    let limit = Arg::new(alloc, "limit")
-        .long("limit")
-        .action(ArgAction::Set);
-    Command::new(alloc, "check").arg(file)?.arg(limit)
+    let about = "Check a certificate, and print the verdict";
+    let file = "The certificate; by default it is read from standard input";
+    command(alloc, "check", about)
+        .arg(optional(alloc, "file", "FILE", file))?
+        .arg(limit(alloc))
 }
 
-/// `show FILE`
+fn solve_command<'a>(alloc: Global) -> Result<Command<'a>, AllocError>
+    ensures { IfOk result (λ c. app_of c ≡ solve) }
+{
+    let about = "Look for the misère quotient of a code, and print its certificate";
+    let rounds = "Give up after R rounds: 1 to 1000, by default 64";
+    let heaps = "Look at the heaps up to M: 2 to 64, by default 24";
+    let order = "Propose no quotient of more than Q elements: 2 to 256, by default 64";
+    command(alloc, "solve", about)
+        .arg(needed(alloc, "code", "CODE", "An octal code, as 0.77"))?
+        .arg(limit(alloc))?
+        .arg(option(alloc, "rounds", "R", rounds))?
+        .arg(option(alloc, "heaps", "M", heaps))?
+        .arg(option(alloc, "order", "Q", order))
+}
+
 fn show_command<'a>(alloc: Global) -> Result<Command<'a>, AllocError>
     ensures { IfOk result (λ c. app_of c ≡ show) }
 {
-    let file = Arg::new(alloc, "file").required(true);
-    Command::new(alloc, "show").arg(file)
+    let about = "Check a certificate, and print the quotient that it certifies";
+    command(alloc, "show", about).arg(needed(alloc, "file", "FILE", "The certificate"))
 }
 
-/// `play FILE POSITION`
 fn play_command<'a>(alloc: Global) -> Result<Command<'a>, AllocError>
     ensures { IfOk result (λ c. app_of c ≡ play) }
 {
-    let file = Arg::new(alloc, "file").required(true);
-    let position = Arg::new(alloc, "position").required(true);
-    Command::new(alloc, "play").arg(file)?.arg(position)
+    let about = "Check a certificate, and print a winning move in a position";
+    let position = "The sizes of the heaps in one word, as '1 2 2'; 0 for no heap";
+    command(alloc, "play", about)
+        .arg(needed(alloc, "file", "FILE", "The certificate"))?
+        .arg(needed(alloc, "position", "POSITION", position))
 }
 
-/// `present TEXT`
 fn present_command<'a>(alloc: Global) -> Result<Command<'a>, AllocError>
     ensures { IfOk result (λ c. app_of c ≡ present) }
 {
-    let text = Arg::new(alloc, "text").required(true);
-    Command::new(alloc, "present").arg(text)
+    let about = "Print the table of the commutative monoid that relations present";
+    let text = "The relations in one word, as 'a^2=1 b^3=b'";
+    command(alloc, "present", about).arg(needed(alloc, "text", "TEXT", text))
+}
+
+fn catalogue_command<'a>(alloc: Global) -> Result<Command<'a>, AllocError>
+    ensures { IfOk result (λ c. app_of c ≡ catalogue) }
+{
+    let about = "Keep certificates in a file, and print a line for each";
+    let new = "Begin with an empty catalogue, and don't read FILE";
+    let add = "Add the certificate in the file CERT, and write FILE";
+    let get = "Print the certificate of CODE; not with --new or --add";
+    let salvage = "Keep the entries without a fault, and write FILE; with no other option";
+    command(alloc, "catalogue", about)
+        .arg(needed(alloc, "file", "FILE", "The catalogue"))?
+        .arg(flag(alloc, "new", new))?
+        .arg(option(alloc, "add", "CERT", add))?
+        .arg(option(alloc, "get", "CODE", get))?
+        .arg(flag(alloc, "salvage", salvage))
+}
+
+/// The program's name, version and purpose.
+fn misere_command<'a>(alloc: Global) -> Command<'a>
+    ensures { app_of result ≡ misere }
+{
+    Command::new(alloc, "misere")
+        .version(VERSION)
+        .about("Finds, checks and plays with misère quotients of octal games")
 }
 
 /// The program's command line.
@@ -47,12 +150,16 @@ pub fn program_command<'a>(alloc: Global) -> Result<Command<'a>, AllocError>
     ensures { IfOk result (λ c. app_of c ≡ program) }
 {
     let check = check_command(alloc)?;
+    let solve = solve_command(alloc)?;
     let show = show_command(alloc)?;
     let play = play_command(alloc)?;
     let present = present_command(alloc)?;
-    Command::new(alloc, "misere")
+    let catalogue = catalogue_command(alloc)?;
+    misere_command(alloc)
         .subcommand(check)?
+        .subcommand(solve)?
         .subcommand(show)?
         .subcommand(play)?
-        .subcommand(present)
+        .subcommand(present)?
+        .subcommand(catalogue)
 }

@@ -1,9 +1,15 @@
 //! What a command line asks of the program.
 #![tactic(auto)]
 
+mod asking;
 mod commands;
+pub mod faults;
+pub mod numbers;
 pub mod plans;
 mod words;
 
-pub use plans::{Plan, UsageFault};
-pub use words::{DEFAULT_LIMIT, MOST_LIMIT, plan};
+pub use commands::VERSION;
+pub use faults::UsageFault;
+pub use numbers::{Bounds, DEFAULT_LIMIT, Quantity};
+pub use plans::{CatalogueTask, Plan};
+pub use words::plan;

@@ -4,7 +4,7 @@ use Rattle.std.specs.Result.{result_ok}
 use Rattle.std.proofs.lemmas.Bool.{ne_eqb}
 use Rattle.std.proofs.lemmas.Fmt.{first_decimal, decimal-digits_value, decimal_digit, parse-decimal}
 use Rattle.std.proofs.lemmas.Str.Parse.{numerals_by_value, tells_digits}
-use Rattle.command_line.proofs.words.number.Goals as goal
+use Rattle.command_line.proofs.numbers.spelled_number.Goals as goal
 
 -- a text with a leading plus, or a leading zero and more, is no decimal
 not_decimal : (text : List ℕ) → (slice_index text 0 ≡ 43) ⊎ ((slice_index text 0 ≡ 48) × (1 < length text))

@@ -1,0 +1,41 @@
+-- The numbers that options take: their names, ranges and defaults. This project's own.
+use Rattle.std.specs.Prelude.{ℕ, ◌&&◌, List, Option, Some, None, codes, decimal, nat_le, if◌then◌else◌}
+use Rattle.std.specs.Str.{bytes_eq}
+use Rattle.std.specs.Str.Parse.{digits_value}
+use Rattle.clap.specs.Words.{Row, Text, first_of}
+use Rattle.command_line.specs.declared.numbers.Bounds.{Bounds}
+use Rattle.command_line.specs.declared.numbers.Quantity.{Quantity}
+use Rattle.command_line.specs.declared.numbers.Quantity.TheVariants.{Limit, Rounds, Heaps, Order}
+
+-- the limit of a check for which none is given
+abbrev pub default_limit : ℕ
+default_limit = 100000
+
+-- the range of each number, and what it is where none is given
+abbrev pub bounds_of : Quantity → Bounds
+bounds_of Limit = record { least = 1; most = 1000000; default = default_limit }
+bounds_of Rounds = record { least = 1; most = 1000; default = 64 }
+bounds_of Heaps = record { least = 2; most = 64; default = 24 }
+bounds_of Order = record { least = 2; most = 256; default = 64 }
+
+-- the name of its option
+abbrev pub name_of : Quantity → Text
+name_of Limit = codes "limit"
+name_of Rounds = codes "rounds"
+name_of Heaps = codes "heaps"
+name_of Order = codes "order"
+
+-- the number that a text spells in decimal without leading zeros, where it lies between the bounds
+unfoldable pub number_within : Bounds → Text → Option ℕ
+number_within bounds text =
+    let n = digits_value 10 text in
+    if bytes_eq text (decimal n) && (nat_le bounds.least n && nat_le n bounds.most) then Some n else None
+
+-- the number given, or the default
+abbrev pub number_in : Bounds → Option Text → Option ℕ
+number_in bounds None = Some bounds.default
+number_in bounds (Some text) = number_within bounds text
+
+-- the number that a command's arguments give
+abbrev pub number_of : Quantity → List Row → Option ℕ
+number_of quantity rows = number_in (bounds_of quantity) (first_of (name_of quantity) rows)

@@ -1,0 +1,120 @@
+-- What the words of a command line ask for, as a function. This project's own, over the words of `clap`.
+use Rattle.std.specs.Prelude.{◌==◌, ℕ, Bool, true, false, List, [], ◌∷◌, Option, Some, None, codes, find, length, option_map, option_and_then, if◌then◌else◌}
+use Rattle.std.specs.Option.{option_map_or}
+use Rattle.std.specs.Str.{bytes_eq}
+use Rattle.clap.specs.Words.{Row, Text, first_of, fault_of, subcommand_of}
+use Rattle.command_line.specs.Numbers.{number_of}
+use Rattle.command_line.specs.Program.{program}
+use Rattle.command_line.specs.declared.numbers.Quantity.TheVariants.{Limit, Rounds, Heaps, Order}
+
+-- what is asked of a catalogue
+pub data CatalogueRequest : Type 0 where
+  Print : CatalogueRequest
+  New : CatalogueRequest
+  Add : Text → CatalogueRequest
+  NewWith : Text → CatalogueRequest
+  Get : Text → CatalogueRequest
+  Salvage : CatalogueRequest
+
+-- what is asked of the program
+pub data Request : Type 0 where
+  Check : Option Text → ℕ → Request
+  Solve : Text → ℕ → ℕ → ℕ → ℕ → Request
+  Show : Text → Request
+  Play : Text → Text → Request
+  Present : Text → Request
+  Catalogue : Text → CatalogueRequest → Request
+
+-- ---- what each command asks for with its arguments
+
+abbrev pub check_request : List Row → Option Request
+check_request rows = option_map (λ limit. Check (first_of (codes "file") rows) limit) (number_of Limit rows)
+
+abbrev pub solve_with : Option Text → Option ℕ → Option ℕ → Option ℕ → Option ℕ → Option Request
+solve_with (Some code) (Some limit) (Some rounds) (Some heaps) (Some order) = Some (Solve code limit rounds heaps order)
+solve_with _ _ _ _ _ = None
+
+abbrev pub solve_request : List Row → Option Request
+solve_request rows =
+    solve_with (first_of (codes "code") rows) (number_of Limit rows) (number_of Rounds rows) (number_of Heaps rows) (number_of Order rows)
+
+abbrev pub show_request : List Row → Option Request
+show_request rows = option_map Show (first_of (codes "file") rows)
+
+abbrev pub play_with : Option Text → Option Text → Option Request
+play_with (Some file) (Some position) = Some (Play file position)
+play_with _ _ = None
+
+abbrev pub play_request : List Row → Option Request
+play_request rows = play_with (first_of (codes "file") rows) (first_of (codes "position") rows)
+
+abbrev pub present_request : List Row → Option Request
+present_request rows = option_map Present (first_of (codes "text") rows)
+
+-- a flag was given
+abbrev pub is_set : Text → List Row → Bool
+is_set flag rows = option_map_or (λ text. bytes_eq text (codes "true")) (first_of flag rows) false
+
+-- what the flags --new and --salvage and the options --add and --get ask for together
+abbrev pub task_of : Bool → Bool → Option Text → Option Text → Option CatalogueRequest
+task_of false false None None = Some Print
+task_of true false None None = Some New
+task_of false false (Some certificate) None = Some (Add certificate)
+task_of true false (Some certificate) None = Some (NewWith certificate)
+task_of false false None (Some code) = Some (Get code)
+task_of false true None None = Some Salvage
+task_of _ _ _ _ = None
+
+abbrev pub task_in : List Row → Option CatalogueRequest
+task_in rows = task_of (is_set (codes "new") rows) (is_set (codes "salvage") rows) (first_of (codes "add") rows) (first_of (codes "get") rows)
+
+abbrev pub catalogue_with : Option Text → Option CatalogueRequest → Option Request
+catalogue_with (Some file) (Some task) = Some (Catalogue file task)
+catalogue_with _ _ = None
+
+abbrev pub catalogue_request : List Row → Option Request
+catalogue_request rows = catalogue_with (first_of (codes "file") rows) (task_in rows)
+
+-- ---- the commands
+
+-- a command: its name, the arguments that it needs, and what it asks for
+pub record Asking : Type 0 where
+  pub name : Text
+  pub needs : List Text
+  pub request : List Row → Option Request
+
+abbrev pub check : Asking
+check = record { name = codes "check"; needs = []; request = check_request }
+
+abbrev pub solve : Asking
+solve = record { name = codes "solve"; needs = codes "code" ∷ []; request = solve_request }
+
+abbrev pub show : Asking
+show = record { name = codes "show"; needs = codes "file" ∷ []; request = show_request }
+
+abbrev pub play : Asking
+play = record { name = codes "play"; needs = codes "file" ∷ codes "position" ∷ []; request = play_request }
+
+abbrev pub present : Asking
+present = record { name = codes "present"; needs = codes "text" ∷ []; request = present_request }
+
+abbrev pub catalogue : Asking
+catalogue = record { name = codes "catalogue"; needs = codes "file" ∷ []; request = catalogue_request }
+
+abbrev pub commands : List Asking
+commands = check ∷ solve ∷ show ∷ play ∷ present ∷ catalogue ∷ []
+
+abbrev pub command_named : Text → Option Asking
+command_named name = find (λ c. bytes_eq c.name name) commands
+
+-- what a command with its arguments asks for
+abbrev pub request_in : Option (Text × List Row) → Option Request
+request_in found = option_and_then (λ f. option_and_then (λ c. c.request f.1) (command_named f.0)) found
+
+-- the command line takes the words, the program's name first
+abbrev pub is_taken : List Text → Bool
+is_taken words = length (fault_of program words) == 0
+
+-- what the words ask for, the program's name first; they ask for nothing where the command line doesn't take them
+unfoldable pub plan_of : List Text → Option Request
+plan_of words = if is_taken words then request_in (subcommand_of program words) else None

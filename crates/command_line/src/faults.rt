@@ -1,0 +1,65 @@
+//! Why a command line asks for nothing.
+ghost use Rattle.std.specs.Prelude.{◌≡◌};
+ghost use Rattle.command_line.specs.Status.{range_text, status_of, text_of};
+
+use crate::numbers::Quantity;
+
+/// Why the words ask for nothing that the program does.
+#[derive(Debug, Drop)]
+pub enum UsageFault {
+    /// A growth was refused.
+    Memory,
+    /// The words ask for help or for the version, which is this text.
+    Help(String),
+    /// The words are refused, as this text says.
+    Words(String),
+    /// A number isn't one of its range, in decimal without leading zeros.
+    Number(Quantity),
+    /// Options stand together that exclude each other.
+    Exclusive,
+    /// A command is missing, or an argument that it needs.
+    Incomplete,
+}
+
+/// What is told of a number out of its range.
+fn range_line(quantity: Quantity) -> &'static str
+    ensures { result.now ≡ range_text quantity }
+{
+    match quantity {
+        Quantity::Limit => "misere: the limit is a number from 1 to 1000000\n",
+        Quantity::Rounds => "misere: the rounds are a number from 1 to 1000\n",
+        Quantity::Heaps => "misere: the heaps are a number from 2 to 64\n",
+        Quantity::Order => "misere: the order is a number from 2 to 256\n",
+    }
+}
+
+impl UsageFault {
+    /// The exit status of a run that meets the fault.
+    pub fn status(&self) -> u8
+        ensures { result ≡ status_of self.now }
+    {
+        match self {
+            UsageFault::Help(_) => 0,
+            UsageFault::Words(_)
+            | UsageFault::Number(_)
+            | UsageFault::Exclusive
+            | UsageFault::Incomplete => 2,
+            UsageFault::Memory => 3,
+        }
+    }
+
+    /// What is told of the fault: help on standard output, all else on standard error.
+    pub fn text(&self) -> &str
+        ensures { result.now ≡ text_of self.now }
+    {
+        match self {
+            UsageFault::Memory => "misere: out of memory\n",
+            UsageFault::Help(text) | UsageFault::Words(text) => text.as_str(),
+            UsageFault::Number(quantity) => range_line(*quantity),
+            UsageFault::Exclusive => {
+                "misere: --get goes without --new and --add, --salvage without all three\n"
+            }
+            UsageFault::Incomplete => "misere: no command; see misere --help\n",
+        }
+    }
+}

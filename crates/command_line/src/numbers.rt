@@ -1,0 +1,82 @@
+//! The numbers that options take.
+ghost use Rattle.std.specs.Prelude.{◌≡◌, ◌≢◌, ◌<◌, ◌^◌, ℕ, Some, None, IfSome, IfNone, option_map, decimal};
+ghost use Rattle.command_line.specs.Numbers.{bounds_of, name_of, number_in};
+
+/// A number that an option takes.
+#[derive(Clone, Copy, Debug, PartialEq, Eq)]
+pub enum Quantity {
+    /// The most members that the closure of a check ever keeps.
+    Limit,
+    /// The most rounds of a search for a quotient.
+    Rounds,
+    /// The largest heap that the search looks at.
+    Heaps,
+    /// The most elements of a quotient that the search proposes.
+    Order,
+}
+
+/// The range of a number, its ends included, and what the number is where none is given.
+#[derive(Clone, Copy, Debug, PartialEq, Eq)]
+pub struct Bounds {
+    pub least: u32,
+    pub most: u32,
+    pub default: u32,
+}
+
+/// The limit of a check for which none is given.
+pub const DEFAULT_LIMIT: u32 = 100000;
+
+impl Quantity {
+    /// The range and the default.
+    pub fn bounds(self) -> Bounds
+        ensures { result ≡ bounds_of self }
+    {
+        let (least, most, default) = match self {
+            Quantity::Limit => (1, 1000000, DEFAULT_LIMIT),
+            Quantity::Rounds => (1, 1000, 64),
+            Quantity::Heaps => (2, 64, 24),
+            Quantity::Order => (2, 256, 64),
+        };
+        Bounds {
+            least,
+            most,
+            default,
+        }
+    }
+
+    /// The name of the option.
+    pub fn name(self) -> &'static str
+        ensures { result.now ≡ name_of self }
+    {
+        match self {
+            Quantity::Limit => "limit",
+            Quantity::Rounds => "rounds",
+            Quantity::Heaps => "heaps",
+            Quantity::Order => "order",
+        }
+    }
+}
+
+/// The number that the text spells in decimal without leading zeros.
+fn spelled_number(text: &str) -> Option<u32>
+    ensures some { IfSome result (λ n. text.now ≡ decimal n) }
+    ensures none { IfNone result ((n : ℕ) → n < 2 ^ 32 → text.now ≢ decimal n) }
+{
+    if text.starts_with('+') {
+        return None;
+    }
+    if text.starts_with('0') && text.len() > 1 {
+        return None;
+    }
+    text.parse::<u32>().ok()
+}
+
+/// The number that was given, or the default, where it lies between the bounds.
+pub(crate) fn number_given(bounds: Bounds, text: Option<&str>) -> Option<u32>
+    ensures { result ≡ number_in bounds (option_map (λ t. t.now) text.entry) }
+{
+    let Some(text) = text else {
+        return Some(bounds.default);
+    };
+    spelled_number(text).filter(|n| bounds.least <= *n && *n <= bounds.most)
+}
