@@ -1,6 +1,6 @@
 -- The program's commands and their arguments, in the words of `clap`. This project's own.
 use Rattle.std.specs.Prelude.{List, [], ◌∷◌, Some, true, codes, fold}
-use Rattle.clap.specs.Words.{App, Rule, Text, new_app, new_rule, with_rule, with_subcommand}
+use Rattle.clap.specs.Words.{App, Rule, Text, new_app, new_rule, with_subcommand}
 use Rattle.clap.specs.declared.builder.action.ArgAction.TheVariants.{Set, SetTrue}
 
 -- an argument that may be left out, told by its place
@@ -19,8 +19,9 @@ option id = record (new_rule id) { long = Some id; action = Some Set; value_name
 abbrev pub flag : Text → Rule
 flag id = record (new_rule id) { long = Some id; action = Some SetTrue }
 
+-- a command with these arguments
 abbrev pub command : Text → List Rule → App
-command name rules = fold with_rule (new_app name) rules
+command name rules = record (new_app name) { top = record (new_app name).top { rules = rules } }
 
 -- check [FILE] [--limit N]
 abbrev pub check : App
@@ -29,7 +30,8 @@ check = command (codes "check") (optional (codes "file") ∷ option (codes "limi
 -- solve CODE [--limit N] [--rounds R] [--heaps M] [--order Q]
 abbrev pub solve : App
 solve = command (codes "solve")
-    (needed (codes "code") ∷ option (codes "limit") ∷ option (codes "rounds") ∷ option (codes "heaps") ∷ option (codes "order") ∷ [])
+    (needed (codes "code") ∷ option (codes "limit") ∷ option (codes "rounds")
+    ∷ option (codes "heaps") ∷ option (codes "order") ∷ [])
 
 -- show FILE
 abbrev pub show : App
@@ -46,11 +48,14 @@ present = command (codes "present") (needed (codes "text") ∷ [])
 -- catalogue FILE [--new] [--add CERTIFICATE] [--get CODE] [--salvage]
 abbrev pub catalogue : App
 catalogue = command (codes "catalogue")
-    (needed (codes "file") ∷ flag (codes "new") ∷ option (codes "add") ∷ option (codes "get") ∷ flag (codes "salvage") ∷ [])
+    (needed (codes "file") ∷ flag (codes "new") ∷ option (codes "add") ∷ option (codes "get")
+    ∷ flag (codes "salvage") ∷ [])
 
--- the name, which has a version
+-- the program's name, which has a version
 abbrev pub misere : App
-misere = record (new_app (codes "misere")) { top = record (new_app (codes "misere")).top { has_version = true } }
+misere = record (new_app (codes "misere")) {
+  top = record (new_app (codes "misere")).top { has_version = true };
+}
 
 abbrev pub commands : List App
 commands = check ∷ solve ∷ show ∷ play ∷ present ∷ catalogue ∷ []

@@ -22,22 +22,6 @@ key_is c ws r k some lt len e is =
     let short : r - 1 < length c.words = omega (arith, some, lt, len) in
     is ∙ ap (λ (xs : List (ℕ × ℕ)). get_or xs (r - 1) k) e ∙ get_or_default c.words (r - 1) k (0, 0) short
 
-pub nothing_out : (a : Option (List ℕ)) → Appends a a []
-nothing_out None = tt
-nothing_out (Some us) = sym (append-nil us)
-
-module _ (c : Certificate) (a b d : Option (List ℕ)) (text bytes : List ℕ) (p : Appends a b text) (q : Appends b d bytes) where
-  pub next_element : (e : ℕ) (sizes : List ℕ) → AreElementLines c e text → AreSpelled c e sizes → bytes ≡ element_line e (letter_of c e) (position_text sizes)
-      → (t : List ℕ) × AreElementLines c (e + 1) t × Appends a d t
-  next_element e sizes lines spelled is = (
-    text ++ element_line e (letter_of c e) (position_text sizes),
-    NextElement e sizes lines spelled,
-    appends_then a b d text (element_line e (letter_of c e) (position_text sizes)) p (subst (λ (t : List ℕ). Appends b d t) is q),
-  )
-
-  pub next_heap : (heap : ℕ) → AreHeapLines c heap text → bytes ≡ heap_line heap (phi_at c heap) → (t : List ℕ) × AreHeapLines c (heap + 1) t × Appends a d t
-  next_heap heap lines is = (
-    text ++ heap_line heap (phi_at c heap),
-    NextHeap heap lines,
-    appends_then a b d text (heap_line heap (phi_at c heap)) p (subst (λ (t : List ℕ). Appends b d t) is q),
-  )
+-- what a printer took that held nothing is what was printed
+pub taken_is : (before after : Option (List ℕ)) (text bytes : List ℕ) → before ≡ Some [] → after ≡ Some bytes → Appends before after text → bytes ≡ text
+taken_is before after text bytes b a h = subst (λ (x : Option (List ℕ)). Appends (Some []) x text) a (subst (λ (x : Option (List ℕ)). Appends x after text) b h)

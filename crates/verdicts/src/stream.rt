@@ -3,7 +3,7 @@ ghost use Rattle.std.specs.Prelude.{◌≡◌, ◌<◌, ◌⊎◌, IfOk, IfErr, 
 ghost use Rattle.std.specs.String.{string_bytes};
 ghost use Rattle.streams.specs.Stream.{Puts};
 ghost use Rattle.verdicts.specs.Lines.{is_yes};
-ghost use Rattle.verdicts.specs.Streams.{Answers, ReadsEnough, Writes, WritesSome, WritesOfStream, WritesSomeOfStream};
+ghost use Rattle.verdicts.specs.Streams.{Answers, CountsReads, ReadsEnough, Writes, WritesSome, WritesOfStream, WritesSomeOfStream};
 
 use crate::lines::verdict_text;
 use allocation::{Memory, Room};
@@ -72,7 +72,7 @@ pub fn check_stream<R: Source, W: Sink, A: Room + Copy>(
     ensures ok { IfOk result (WritesOfStream (R.left source.old) limit (W.taken sink.old) (W.taken sink.new)) }
     ensures write { IsErrOf result StreamFault.Write → WritesSomeOfStream (R.left source.old) limit (W.taken sink.old) (W.taken sink.new) }
     ensures write_cause { IsErrOf result StreamFault.Write → W.failures sink.old < W.failures sink.new }
-    ensures read_cause { IsErrOf result StreamFault.Read → R.failures source.old < R.failures source.new }
+    ensures read_cause { CountsReads (R.failures source.old) (R.failures source.new) result }
     ensures unwritten { IsErrOf result StreamFault.Read ⊎ IsErrOf result StreamFault.Memory → sink.new ≡ sink.old }
 {
     let bytes = read_whole(alloc, source, MOST_BYTES)?;
