@@ -1,6 +1,6 @@
 -- The program's commands and their arguments, in the words of `clap`. This project's own.
 use Rattle.std.specs.Prelude.{List, [], ◌∷◌, Some, true, codes, fold}
-use Rattle.clap.specs.Words.{App, Rule, Text, new_app, new_rule, with_rule, with_subcommand}
+use Rattle.clap.specs.Words.{App, Rule, Text, new_app, new_rule, with_subcommand}
 use Rattle.clap.specs.declared.builder.action.ArgAction.TheVariants.{Set, SetTrue}
 
 -- an argument that may be left out, told by its place
@@ -19,8 +19,9 @@ option id = record (new_rule id) { long = Some id; action = Some Set; value_name
 abbrev pub flag : Text → Rule
 flag id = record (new_rule id) { long = Some id; action = Some SetTrue }
 
+-- a command with these arguments
 abbrev pub command : Text → List Rule → App
-command name rules = fold with_rule (new_app name) rules
+command name rules = record (new_app name) { top = record (new_app name).top { rules = rules } }
 
 -- check [FILE] [--limit N]
 abbrev pub check : App

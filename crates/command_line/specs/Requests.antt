@@ -1,8 +1,8 @@
 -- What the words of a command line ask for, as a function. This project's own, over the words of `clap`.
-use Rattle.std.specs.Prelude.{◌==◌, ℕ, Bool, true, false, List, [], ◌∷◌, Option, Some, None, codes, find, length, option_map, option_and_then, if◌then◌else◌}
+use Rattle.std.specs.Prelude.{ℕ, Bool, true, false, List, [], ◌∷◌, Option, Some, None, codes, find, option_map, option_and_then}
 use Rattle.std.specs.Option.{option_map_or}
 use Rattle.std.specs.Str.{bytes_eq}
-use Rattle.clap.specs.Words.{Row, Text, first_of, fault_of, subcommand_of}
+use Rattle.clap.specs.Words.{Kinds, Row, Text, first_of, fault_of, subcommand_of}
 use Rattle.command_line.specs.Numbers.{number_of}
 use Rattle.command_line.specs.Program.{program}
 use Rattle.command_line.specs.declared.numbers.Quantity.TheVariants.{Limit, Rounds, Heaps, Order}
@@ -111,10 +111,11 @@ command_named name = find (λ c. bytes_eq c.name name) commands
 abbrev pub request_in : Option (Text × List Row) → Option Request
 request_in found = option_and_then (λ f. option_and_then (λ c. c.request f.1) (command_named f.0)) found
 
--- the command line takes the words, the program's name first
-abbrev pub is_taken : List Text → Bool
-is_taken words = length (fault_of program words) == 0
+-- what is asked for where no kind of error is met
+abbrev pub unless_refused : Kinds → Option Request → Option Request
+unless_refused [] request = request
+unless_refused (kind ∷ kinds) request = None
 
 -- what the words ask for, the program's name first; they ask for nothing where the command line doesn't take them
 unfoldable pub plan_of : List Text → Option Request
-plan_of words = if is_taken words then request_in (subcommand_of program words) else None
+plan_of words = unless_refused (fault_of program words) (request_in (subcommand_of program words))

@@ -31,8 +31,9 @@ fn number(given: &ArgMatches<'_>, quantity: Quantity) -> Result<u32, UsageFault>
     ensures number { IfOk result (λ n. number_of quantity (rows_of (found_of given.now)) ≡ Some n) }
     ensures none { IfErr result (λ fault. (number_of quantity (rows_of (found_of given.now)) ≡ None) × (fault ≡ UsageFault.Number quantity)) }
 {
-    number_given(quantity.bounds(), value(given, quantity.name()))
-        .ok_or(UsageFault::Number(quantity))
+    number_given(quantity.bounds(), value(given, quantity.name())).ok_or(UsageFault::Number(
+        quantity,
+    ))
 }
 
 /// Whether the flag of this name was given.

@@ -140,9 +140,9 @@ fn catalogue_command<'a>(alloc: Global) -> Result<Command<'a>, AllocError>
 fn misere_command<'a>(alloc: Global) -> Command<'a>
     ensures { app_of result ≡ misere }
 {
-    Command::new(alloc, "misere")
-        .version(VERSION)
-        .about("Finds, checks and plays with misère quotients of octal games")
+    Command::new(alloc, "misere").version(VERSION).about(
+        "Finds, checks and plays with misère quotients of octal games",
+    )
 }
 
 /// The program's command line.

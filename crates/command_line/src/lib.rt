@@ -6,6 +6,8 @@ mod commands;
 pub mod faults;
 pub mod numbers;
 pub mod plans;
+#[cfg(test)]
+mod tests;
 mod words;
 
 pub use commands::VERSION;

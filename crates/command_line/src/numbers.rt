@@ -1,6 +1,6 @@
 //! The numbers that options take.
-ghost use Rattle.std.specs.Prelude.{◌≡◌, ◌≢◌, ◌<◌, ◌^◌, ℕ, Some, None, IfSome, IfNone, option_map, decimal};
-ghost use Rattle.command_line.specs.Numbers.{bounds_of, name_of, number_in};
+ghost use Rattle.std.specs.Prelude.{◌≡◌, ◌≢◌, ◌<◌, ◌^◌, ℕ, IfSome, IfNone, option_map, decimal};
+ghost use Rattle.command_line.specs.Numbers.{bounds_of, name_of, number_in, number_within};
 
 /// A number that an option takes.
 #[derive(Clone, Copy, Debug, PartialEq, Eq)]
@@ -71,12 +71,24 @@ fn spelled_number(text: &str) -> Option<u32>
     text.parse::<u32>().ok()
 }
 
-/// The number that was given, or the default, where it lies between the bounds.
+/// The number that the text spells, where it lies between the bounds.
+fn number_between(bounds: Bounds, text: &str) -> Option<u32>
+    ensures { result ≡ number_within bounds text.now }
+{
+    let number = spelled_number(text)?;
+    if bounds.least <= number && number <= bounds.most {
+        Some(number)
+    } else {
+        None
+    }
+}
+
+/// The number that was given, or the default.
 pub(crate) fn number_given(bounds: Bounds, text: Option<&str>) -> Option<u32>
     ensures { result ≡ number_in bounds (option_map (λ t. t.now) text.entry) }
 {
-    let Some(text) = text else {
-        return Some(bounds.default);
-    };
-    spelled_number(text).filter(|n| bounds.least <= *n && *n <= bounds.most)
+    match text {
+        Some(text) => number_between(bounds, text),
+        None => Some(bounds.default),
+    }
 }

@@ -5,7 +5,10 @@
 pub enum Plan<'a> {
     /// Check the certificate in the file, or on standard input where no file is named, and keep
     /// at most so many members of its closure.
-    Check { file: Option<&'a str>, limit: u32 },
+    Check {
+        file: Option<&'a str>,
+        limit: u32,
+    },
     /// Look for a quotient of the code, in at most so many rounds, among the heaps up to `heaps`
     /// and the quotients of at most `order` elements; each proposal is checked under the limit.
     Solve {
@@ -16,11 +19,18 @@ pub enum Plan<'a> {
         order: u32,
     },
     /// Print the quotient that the file certifies.
-    Show { file: &'a str },
+    Show {
+        file: &'a str,
+    },
     /// Answer in a position by the quotient that the file certifies.
-    Play { file: &'a str, position: &'a str },
+    Play {
+        file: &'a str,
+        position: &'a str,
+    },
     /// Print the monoid that the text presents.
-    Present { text: &'a str },
+    Present {
+        text: &'a str,
+    },
     /// Do something with the catalogue in the file.
     Catalogue {
         file: &'a str,

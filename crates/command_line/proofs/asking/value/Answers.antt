@@ -4,4 +4,4 @@ use Rattle.clap.specs.Words.{found_of}
 use Rattle.command_line.proofs.asking.value.Goals as goal
 
 pub returns : goal.returns
-returns c = c.get_str.ensures ∙ first_value-rows (found_of c.args.given.now) c.args.id.now
+returns c = c.get_str.ensures ∙ first_value-rows (found_of c.args.given.now) c.args.name.now

@@ -1,0 +1,3 @@
+mod Building
+mod NumberLemmas
+mod Reading
