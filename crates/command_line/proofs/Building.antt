@@ -1,12 +1,16 @@
 -- What a command line is made of.
-use Rattle.std.proofs.Common.{◌≡◌, ◌∙◌, ◌++◌, ◌∷◌, [], ap, ap₂, Bool, List, true, false, not, ◌&&◌, refl}
-use Rattle.clap.specs.Words.{AddsArg, AddsSubcommand, App, Rule, Text, app_of, rule_of, with_rule, with_subcommand}
+use Rattle.std.proofs.Common.{◌≡◌, ◌∙◌, ◌++◌, ◌∷◌, [], ap, ap₂, Bool, List, true, false, not, ◌&&◌}
+use Rattle.std.proofs.Common.{refl}
+use Rattle.clap.specs.Words.{AddsArg, AddsSubcommand, App, Rule, Text, app_of, rule_of, with_rule}
+use Rattle.clap.specs.Words.{with_subcommand}
 use Rattle.clap.specs.declared.builder.arg.Arg.{Arg}
 use Rattle.clap.specs.declared.builder.command.Command.{Command}
 use Rattle.command_line.specs.Program.{command}
 
-pub with_argument : (old : Command) (arg : Arg) (new : Command) (name : Text) (rules : List Rule) (r : Rule) → app_of old ≡ command name rules
-    → rule_of arg ≡ r → arg.global ≡ false → AddsArg old arg new → app_of new ≡ command name (rules ++ r ∷ [])
+pub with_argument : (old : Command) (arg : Arg) (new : Command) (name : Text) (rules : List Rule)
+    (r : Rule) → app_of old ≡ command name rules
+    → rule_of arg ≡ r → arg.global ≡ false → AddsArg old arg new
+    → app_of new ≡ command name (rules ++ r ∷ [])
 with_argument old arg new name rules r o i local h = h.shape local ∙ ap₂ with_rule o i
 
 -- a plain command has no global argument
@@ -16,7 +20,9 @@ local_of_plain true false true rest h = cc
 local_of_plain true true g rest h = cc
 local_of_plain false b g rest h = cc
 
-pub with_command : (old sub new : Command) (a s : App) → app_of old ≡ a → app_of sub ≡ s → s.top.is_plain ≡ true → AddsSubcommand old sub new
+pub with_command : (old sub new : Command) (a s : App) → app_of old ≡ a → app_of sub ≡ s
+    → s.top.is_plain ≡ true → AddsSubcommand old sub new
     → app_of new ≡ with_subcommand a s.top
 with_command old sub new a s o i plain h =
-    h.shape (local_of_plain _ _ _ _ (ap (λ (x : App). x.top.is_plain) i ∙ plain)) ∙ ap₂ with_subcommand o (ap (λ (x : App). x.top) i)
+    h.shape (local_of_plain _ _ _ _ (ap (λ (x : App). x.top.is_plain) i ∙ plain))
+    ∙ ap₂ with_subcommand o (ap (λ (x : App). x.top) i)

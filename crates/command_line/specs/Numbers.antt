@@ -1,5 +1,6 @@
 -- The numbers that options take: their names, ranges and defaults. This project's own.
-use Rattle.std.specs.Prelude.{ℕ, ◌&&◌, List, Option, Some, None, codes, decimal, nat_le, if◌then◌else◌}
+use Rattle.std.specs.Prelude.{◌≤◌, ◌&&◌, ℕ, List, Option, Some, None, codes, decimal, nat_le}
+use Rattle.std.specs.Prelude.{if◌then◌else◌}
 use Rattle.std.specs.Str.{bytes_eq}
 use Rattle.std.specs.Str.Parse.{digits_value}
 use Rattle.clap.specs.Words.{Row, Text, first_of}
@@ -18,6 +19,10 @@ bounds_of Rounds = record { least = 1; most = 1000; default = 64 }
 bounds_of Heaps = record { least = 2; most = 64; default = 24 }
 bounds_of Order = record { least = 2; most = 256; default = 64 }
 
+-- the number lies in its range
+abbrev pub IsWithin : Quantity → ℕ → Type 0
+IsWithin quantity n = ((bounds_of quantity).least ≤ n) × (n ≤ (bounds_of quantity).most)
+
 -- the name of its option
 abbrev pub name_of : Quantity → Text
 name_of Limit = codes "limit"
@@ -29,7 +34,8 @@ name_of Order = codes "order"
 unfoldable pub number_within : Bounds → Text → Option ℕ
 number_within bounds text =
     let n = digits_value 10 text in
-    if bytes_eq text (decimal n) && (nat_le bounds.least n && nat_le n bounds.most) then Some n else None
+    if bytes_eq text (decimal n) && (nat_le bounds.least n && nat_le n bounds.most) then Some n
+    else None
 
 -- the number given, or the default
 abbrev pub number_in : Bounds → Option Text → Option ℕ

@@ -1,8 +1,10 @@
 -- A plan as what is asked for, with its texts as lists of codes. This project's own.
-use Rattle.std.specs.Prelude.{option_map}
+use Rattle.std.specs.Prelude.{⊤, option_map}
+use Rattle.command_line.specs.Numbers.{IsWithin}
 use Rattle.command_line.specs.Requests.{CatalogueRequest, Request}
 use Rattle.command_line.specs.Requests.CatalogueRequest.{Print, New, Add, NewWith, Get, Salvage}
 use Rattle.command_line.specs.Requests.Request.{Check, Solve, Show, Play, Present, Catalogue}
+use Rattle.command_line.specs.declared.numbers.Quantity.TheVariants.{Limit, Rounds, Heaps, Order}
 use Rattle.command_line.specs.declared.plans.CatalogueTask.{CatalogueTask}
 use Rattle.command_line.specs.declared.plans.CatalogueTask.TheVariants as task
 use Rattle.command_line.specs.declared.plans.Plan.{Plan}
@@ -23,3 +25,13 @@ request_of (plan.Show file) = Show file.now
 request_of (plan.Play file position) = Play file.now position.now
 request_of (plan.Present text) = Present text.now
 request_of (plan.Catalogue file asked) = Catalogue file.now (catalogue_request_of asked)
+
+-- each number lies in its range
+abbrev pub HasNumbersWithin : Plan → Type 0
+HasNumbersWithin (plan.Check file limit) = IsWithin Limit limit
+HasNumbersWithin (plan.Solve code limit rounds heaps order) =
+    IsWithin Limit limit × IsWithin Rounds rounds × IsWithin Heaps heaps × IsWithin Order order
+HasNumbersWithin (plan.Show file) = ⊤
+HasNumbersWithin (plan.Play file position) = ⊤
+HasNumbersWithin (plan.Present text) = ⊤
+HasNumbersWithin (plan.Catalogue file asked) = ⊤

@@ -30,7 +30,8 @@ check = command (codes "check") (optional (codes "file") ∷ option (codes "limi
 -- solve CODE [--limit N] [--rounds R] [--heaps M] [--order Q]
 abbrev pub solve : App
 solve = command (codes "solve")
-    (needed (codes "code") ∷ option (codes "limit") ∷ option (codes "rounds") ∷ option (codes "heaps") ∷ option (codes "order") ∷ [])
+    (needed (codes "code") ∷ option (codes "limit") ∷ option (codes "rounds")
+    ∷ option (codes "heaps") ∷ option (codes "order") ∷ [])
 
 -- show FILE
 abbrev pub show : App
@@ -47,11 +48,14 @@ present = command (codes "present") (needed (codes "text") ∷ [])
 -- catalogue FILE [--new] [--add CERTIFICATE] [--get CODE] [--salvage]
 abbrev pub catalogue : App
 catalogue = command (codes "catalogue")
-    (needed (codes "file") ∷ flag (codes "new") ∷ option (codes "add") ∷ option (codes "get") ∷ flag (codes "salvage") ∷ [])
+    (needed (codes "file") ∷ flag (codes "new") ∷ option (codes "add") ∷ option (codes "get")
+    ∷ flag (codes "salvage") ∷ [])
 
--- the name, which has a version
+-- the program's name, which has a version
 abbrev pub misere : App
-misere = record (new_app (codes "misere")) { top = record (new_app (codes "misere")).top { has_version = true } }
+misere = record (new_app (codes "misere")) {
+  top = record (new_app (codes "misere")).top { has_version = true };
+}
 
 abbrev pub commands : List App
 commands = check ∷ solve ∷ show ∷ play ∷ present ∷ catalogue ∷ []

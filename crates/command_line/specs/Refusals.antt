@@ -1,16 +1,18 @@
 -- When each fault of a command line is answered. This project's own.
-use Rattle.std.specs.Prelude.{◌≡◌, ◌⊎◌, ◌&&◌, ◌||◌, ⊤, Bool, true, not, List, Option, Some, None, Result, Ok, Err, codes, is_some}
+use Rattle.std.specs.Prelude.{◌≡◌, ◌⊎◌, ◌&&◌, ◌||◌, ⊤, Bool, true, not, List, Option, Some, None}
+use Rattle.std.specs.Prelude.{Result, Ok, Err, codes, is_some}
 use Rattle.std.specs.List.{list_any}
 use Rattle.clap.specs.Words.{Row, Text, IsAmong, first_of, fault_of, subcommand_of}
 use Rattle.clap.specs.declared.error.kind.ErrorKind.{ErrorKind}
 use Rattle.clap.specs.declared.error.kind.ErrorKind.TheVariants.{DisplayHelp, DisplayVersion}
 use Rattle.command_line.specs.Numbers.{number_of}
-use Rattle.command_line.specs.Plans.{request_of}
+use Rattle.command_line.specs.Plans.{HasNumbersWithin, request_of}
 use Rattle.command_line.specs.Program.{program}
-use Rattle.command_line.specs.Requests.{Asking, command_named, is_set, plan_of}
+use Rattle.command_line.specs.Requests.{Asking, command_named, is_set}
 use Rattle.command_line.specs.declared.plans.Plan.{Plan}
 use Rattle.command_line.specs.declared.faults.UsageFault.{UsageFault}
-use Rattle.command_line.specs.declared.faults.UsageFault.TheVariants.{Memory, Help, Words, Number, Exclusive, Incomplete}
+use Rattle.command_line.specs.declared.faults.UsageFault.TheVariants.{Memory, Help, Words, Number}
+use Rattle.command_line.specs.declared.faults.UsageFault.TheVariants.{Exclusive, Incomplete}
 
 -- ---- faults of a command's arguments
 
@@ -37,7 +39,8 @@ IsMistake command rows Incomplete = lacks command rows ≡ true
 
 -- the arguments ask for this, or else for nothing, for such a mistake
 abbrev pub Answers : Asking → List Row → Result Plan UsageFault → Type 0
-Answers command rows (Ok plan) = command.request rows ≡ Some (request_of plan)
+Answers command rows (Ok plan) =
+    (command.request rows ≡ Some (request_of plan)) × HasNumbersWithin plan
 Answers command rows (Err fault) = (command.request rows ≡ None) × IsMistake command rows fault
 
 -- the fault is one of the command that was found; where none was, the words are incomplete
@@ -72,8 +75,9 @@ FailBy Is words = (kind : ErrorKind) × IsAmong kind (fault_of program words) ×
 abbrev pub AsksForHelp : List Text → Type 0
 AsksForHelp words = FailBy IsHelp words
 
--- what a fault says of the words: of want of memory nothing, of help that they ask for it, of refused words that the
--- command line does not take them for another reason, of the rest what is wrong with the command that they name
+-- what a fault says of the words: of want of memory nothing, of help that they ask for it, of
+-- refused words that the command line does not take them for another reason, of the rest what is
+-- wrong with the command that they name
 abbrev pub IsTrueOf : List Text → UsageFault → Type 0
 IsTrueOf words Memory = ⊤
 IsTrueOf words (Help text) = AsksForHelp words

@@ -1,8 +1,11 @@
--- What the words of a command line ask for, as a function. This project's own, over the words of `clap`.
-use Rattle.std.specs.Prelude.{ℕ, Bool, true, false, List, [], ◌∷◌, Option, Some, None, codes, find, option_map, option_and_then}
+-- What the words of a command line ask for, as a function. This project's own, over the words of
+-- `clap`.
+use Rattle.std.specs.Prelude.{ℕ, Bool, true, false, List, [], ◌∷◌, Option, Some, None, codes, find}
+use Rattle.std.specs.Prelude.{option_map, option_and_then}
 use Rattle.std.specs.Option.{option_map_or}
 use Rattle.std.specs.Str.{bytes_eq}
-use Rattle.clap.specs.Words.{Kinds, Row, Text, first_of, fault_of, subcommand_of}
+use Rattle.clap.specs.Words.{Kinds, Row, Text, first_of, fault_of, found_of, rows_of, subcommand_of}
+use Rattle.clap.specs.declared.parser.matches.ArgMatches.{ArgMatches}
 use Rattle.command_line.specs.Numbers.{number_of}
 use Rattle.command_line.specs.Program.{program}
 use Rattle.command_line.specs.declared.numbers.Quantity.TheVariants.{Limit, Rounds, Heaps, Order}
@@ -27,16 +30,23 @@ pub data Request : Type 0 where
 
 -- ---- what each command asks for with its arguments
 
+-- the arguments of a command
+abbrev pub arguments_of : ArgMatches → List Row
+arguments_of given = rows_of (found_of given)
+
 abbrev pub check_request : List Row → Option Request
-check_request rows = option_map (λ limit. Check (first_of (codes "file") rows) limit) (number_of Limit rows)
+check_request rows =
+    option_map (λ limit. Check (first_of (codes "file") rows) limit) (number_of Limit rows)
 
 abbrev pub solve_with : Option Text → Option ℕ → Option ℕ → Option ℕ → Option ℕ → Option Request
-solve_with (Some code) (Some limit) (Some rounds) (Some heaps) (Some order) = Some (Solve code limit rounds heaps order)
+solve_with (Some code) (Some limit) (Some rounds) (Some heaps) (Some order) =
+    Some (Solve code limit rounds heaps order)
 solve_with _ _ _ _ _ = None
 
 abbrev pub solve_request : List Row → Option Request
 solve_request rows =
-    solve_with (first_of (codes "code") rows) (number_of Limit rows) (number_of Rounds rows) (number_of Heaps rows) (number_of Order rows)
+    solve_with (first_of (codes "code") rows) (number_of Limit rows) (number_of Rounds rows)
+    (number_of Heaps rows) (number_of Order rows)
 
 abbrev pub show_request : List Row → Option Request
 show_request rows = option_map Show (first_of (codes "file") rows)
@@ -66,7 +76,8 @@ task_of false true None None = Some Salvage
 task_of _ _ _ _ = None
 
 abbrev pub task_in : List Row → Option CatalogueRequest
-task_in rows = task_of (is_set (codes "new") rows) (is_set (codes "salvage") rows) (first_of (codes "add") rows) (first_of (codes "get") rows)
+task_in rows = task_of (is_set (codes "new") rows) (is_set (codes "salvage") rows)
+    (first_of (codes "add") rows) (first_of (codes "get") rows)
 
 abbrev pub catalogue_with : Option Text → Option CatalogueRequest → Option Request
 catalogue_with (Some file) (Some task) = Some (Catalogue file task)
@@ -93,13 +104,21 @@ abbrev pub show : Asking
 show = record { name = codes "show"; needs = codes "file" ∷ []; request = show_request }
 
 abbrev pub play : Asking
-play = record { name = codes "play"; needs = codes "file" ∷ codes "position" ∷ []; request = play_request }
+play = record {
+  name = codes "play";
+  needs = codes "file" ∷ codes "position" ∷ [];
+  request = play_request;
+}
 
 abbrev pub present : Asking
 present = record { name = codes "present"; needs = codes "text" ∷ []; request = present_request }
 
 abbrev pub catalogue : Asking
-catalogue = record { name = codes "catalogue"; needs = codes "file" ∷ []; request = catalogue_request }
+catalogue = record {
+  name = codes "catalogue";
+  needs = codes "file" ∷ [];
+  request = catalogue_request;
+}
 
 abbrev pub commands : List Asking
 commands = check ∷ solve ∷ show ∷ play ∷ present ∷ catalogue ∷ []
@@ -109,13 +128,15 @@ command_named name = find (λ c. bytes_eq c.name name) commands
 
 -- what a command with its arguments asks for
 abbrev pub request_in : Option (Text × List Row) → Option Request
-request_in found = option_and_then (λ f. option_and_then (λ c. c.request f.1) (command_named f.0)) found
+request_in found =
+    option_and_then (λ f. option_and_then (λ c. c.request f.1) (command_named f.0)) found
 
 -- what is asked for where no kind of error is met
 abbrev pub unless_refused : Kinds → Option Request → Option Request
 unless_refused [] request = request
 unless_refused (kind ∷ kinds) request = None
 
--- what the words ask for, the program's name first; they ask for nothing where the command line doesn't take them
+-- what the words ask for, the program's name first; they ask for nothing where the command line
+-- doesn't take them
 unfoldable pub plan_of : List Text → Option Request
 plan_of words = unless_refused (fault_of program words) (request_in (subcommand_of program words))

@@ -2,7 +2,8 @@
 use Rattle.std.specs.Prelude.{ℕ, codes, string_bytes}
 use Rattle.clap.specs.Words.{Text}
 use Rattle.command_line.specs.declared.faults.UsageFault.{UsageFault}
-use Rattle.command_line.specs.declared.faults.UsageFault.TheVariants.{Memory, Help, Words, Number, Exclusive, Incomplete}
+use Rattle.command_line.specs.declared.faults.UsageFault.TheVariants.{Memory, Help, Words, Number}
+use Rattle.command_line.specs.declared.faults.UsageFault.TheVariants.{Exclusive, Incomplete}
 use Rattle.command_line.specs.declared.numbers.Quantity.{Quantity}
 use Rattle.command_line.specs.declared.numbers.Quantity.TheVariants.{Limit, Rounds, Heaps, Order}
 
@@ -27,5 +28,6 @@ text_of Memory = codes "misere: out of memory\n"
 text_of (Help text) = string_bytes text
 text_of (Words text) = string_bytes text
 text_of (Number quantity) = range_text quantity
-text_of Exclusive = codes "misere: --get goes without --new and --add, --salvage without all three\n"
+text_of Exclusive =
+    codes "misere: --get goes without --new and --add, --salvage without all three\n"
 text_of Incomplete = codes "misere: no command; see misere --help\n"

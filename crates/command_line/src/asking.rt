@@ -1,10 +1,11 @@
 //! What each command asks for with its arguments.
 ghost use Rattle.std.specs.Prelude.{◌≡◌, None, Some, true, IfOk, IfErr, option_map};
-ghost use Rattle.clap.specs.Words.{first_of, found_of, rows_of};
-ghost use Rattle.command_line.specs.Numbers.{number_of};
-ghost use Rattle.command_line.specs.Plans.{catalogue_request_of, request_of};
+ghost use Rattle.clap.specs.Words.{first_of};
+ghost use Rattle.command_line.specs.Numbers.{IsWithin, number_of};
+ghost use Rattle.command_line.specs.Plans.{HasNumbersWithin, catalogue_request_of, request_of};
 ghost use Rattle.command_line.specs.Refusals.{Answers, IsMistakeIn, has_exclusive};
-ghost use Rattle.command_line.specs.Requests.{catalogue, check, is_set, play, present, request_in, show, solve, task_in};
+ghost use Rattle.command_line.specs.Requests.{arguments_of, catalogue, check, is_set, play};
+ghost use Rattle.command_line.specs.Requests.{present, request_in, show, solve, task_in};
 
 use crate::faults::UsageFault;
 use crate::numbers::{Quantity, number_given};
@@ -13,32 +14,34 @@ use clap::ArgMatches;
 
 /// The value that was given under this name.
 fn value<'a>(given: &ArgMatches<'a>, name: &str) -> Option<&'a str>
-    ensures { option_map (λ t. t.now) result ≡ first_of name.now (rows_of (found_of given.now)) }
+    ensures { option_map (λ t. t.now) result ≡ first_of name.now (arguments_of given.now) }
 {
     given.get_str(name)
 }
 
 /// The value that has to be given under this name.
 fn needed<'a>(given: &ArgMatches<'a>, name: &str) -> Result<&'a str, UsageFault>
-    ensures value { IfOk result (λ t. first_of name.now (rows_of (found_of given.now)) ≡ Some t.now) }
-    ensures none { IfErr result (λ fault. (first_of name.now (rows_of (found_of given.now)) ≡ None) × (fault ≡ UsageFault.Incomplete)) }
+    ensures value { IfOk result (λ t. first_of name.now (arguments_of given.now) ≡ Some t.now) }
+    ensures none { IfErr result (λ fault. (first_of name.now (arguments_of given.now) ≡ None)
+        × (fault ≡ UsageFault.Incomplete)) }
 {
     value(given, name).ok_or(UsageFault::Incomplete)
 }
 
 /// The number that was given, or its default.
 fn number(given: &ArgMatches<'_>, quantity: Quantity) -> Result<u32, UsageFault>
-    ensures number { IfOk result (λ n. number_of quantity (rows_of (found_of given.now)) ≡ Some n) }
-    ensures none { IfErr result (λ fault. (number_of quantity (rows_of (found_of given.now)) ≡ None) × (fault ≡ UsageFault.Number quantity)) }
+    ensures number { IfOk result (λ n. number_of quantity (arguments_of given.now) ≡ Some n) }
+    ensures within { IfOk result (IsWithin quantity) }
+    ensures none { IfErr result (λ fault. (number_of quantity (arguments_of given.now) ≡ None)
+        × (fault ≡ UsageFault.Number quantity)) }
 {
-    number_given(quantity.bounds(), value(given, quantity.name())).ok_or(UsageFault::Number(
-        quantity,
-    ))
+    let text = value(given, quantity.name());
+    number_given(quantity, text).ok_or(UsageFault::Number(quantity))
 }
 
 /// Whether the flag of this name was given.
 fn flag(given: &ArgMatches<'_>, name: &str) -> bool
-    ensures { result ≡ is_set name.now (rows_of (found_of given.now)) }
+    ensures { result ≡ is_set name.now (arguments_of given.now) }
 {
     match value(given, name) {
         Some(text) => text == "true",
@@ -47,7 +50,7 @@ fn flag(given: &ArgMatches<'_>, name: &str) -> bool
 }
 
 fn check_plan<'a>(given: &ArgMatches<'a>) -> Result<Plan<'a>, UsageFault>
-    ensures { Answers check (rows_of (found_of given.now)) result }
+    ensures { Answers check (arguments_of given.now) result }
 {
     let file = value(given, "file");
     let limit = number(given, Quantity::Limit)?;
@@ -55,7 +58,7 @@ fn check_plan<'a>(given: &ArgMatches<'a>) -> Result<Plan<'a>, UsageFault>
 }
 
 fn solve_plan<'a>(given: &ArgMatches<'a>) -> Result<Plan<'a>, UsageFault>
-    ensures { Answers solve (rows_of (found_of given.now)) result }
+    ensures { Answers solve (arguments_of given.now) result }
 {
     let code = needed(given, "code")?;
     let limit = number(given, Quantity::Limit)?;
@@ -72,14 +75,14 @@ fn solve_plan<'a>(given: &ArgMatches<'a>) -> Result<Plan<'a>, UsageFault>
 }
 
 fn show_plan<'a>(given: &ArgMatches<'a>) -> Result<Plan<'a>, UsageFault>
-    ensures { Answers show (rows_of (found_of given.now)) result }
+    ensures { Answers show (arguments_of given.now) result }
 {
     let file = needed(given, "file")?;
     Ok(Plan::Show { file })
 }
 
 fn play_plan<'a>(given: &ArgMatches<'a>) -> Result<Plan<'a>, UsageFault>
-    ensures { Answers play (rows_of (found_of given.now)) result }
+    ensures { Answers play (arguments_of given.now) result }
 {
     let file = needed(given, "file")?;
     let position = needed(given, "position")?;
@@ -87,7 +90,7 @@ fn play_plan<'a>(given: &ArgMatches<'a>) -> Result<Plan<'a>, UsageFault>
 }
 
 fn present_plan<'a>(given: &ArgMatches<'a>) -> Result<Plan<'a>, UsageFault>
-    ensures { Answers present (rows_of (found_of given.now)) result }
+    ensures { Answers present (arguments_of given.now) result }
 {
     let text = needed(given, "text")?;
     Ok(Plan::Present { text })
@@ -95,9 +98,11 @@ fn present_plan<'a>(given: &ArgMatches<'a>) -> Result<Plan<'a>, UsageFault>
 
 /// What is asked of a catalogue.
 fn catalogue_task<'a>(given: &ArgMatches<'a>) -> Result<CatalogueTask<'a>, UsageFault>
-    ensures task { IfOk result (λ task. task_in (rows_of (found_of given.now)) ≡ Some (catalogue_request_of task)) }
-    ensures none { IfErr result (λ fault. (task_in (rows_of (found_of given.now)) ≡ None) × (fault ≡ UsageFault.Exclusive)) }
-    ensures exclusive { IfErr result (λ _. has_exclusive (rows_of (found_of given.now)) ≡ true) }
+    ensures task { IfOk result (λ task. task_in (arguments_of given.now)
+        ≡ Some (catalogue_request_of task)) }
+    ensures none { IfErr result (λ fault. (task_in (arguments_of given.now) ≡ None)
+        × (fault ≡ UsageFault.Exclusive)) }
+    ensures exclusive { IfErr result (λ _. has_exclusive (arguments_of given.now) ≡ true) }
 {
     let is_new = flag(given, "new");
     let salvages = flag(given, "salvage");
@@ -113,7 +118,7 @@ fn catalogue_task<'a>(given: &ArgMatches<'a>) -> Result<CatalogueTask<'a>, Usage
 }
 
 fn catalogue_plan<'a>(given: &ArgMatches<'a>) -> Result<Plan<'a>, UsageFault>
-    ensures { Answers catalogue (rows_of (found_of given.now)) result }
+    ensures { Answers catalogue (arguments_of given.now) result }
 {
     let file = needed(given, "file")?;
     let task = catalogue_task(given)?;
@@ -122,9 +127,12 @@ fn catalogue_plan<'a>(given: &ArgMatches<'a>) -> Result<Plan<'a>, UsageFault>
 
 /// What the command of this name asks for with its arguments.
 pub(crate) fn command_plan<'a>(name: &str, given: &ArgMatches<'a>) -> Result<Plan<'a>, UsageFault>
-    ensures asked { IfOk result (λ plan. request_in (Some (name.now, rows_of (found_of given.now))) ≡ Some (request_of plan)) }
-    ensures nothing { IfErr result (λ _. request_in (Some (name.now, rows_of (found_of given.now))) ≡ None) }
-    ensures fault { IfErr result (IsMistakeIn (Some (name.now, rows_of (found_of given.now)))) }
+    ensures asked { IfOk result (λ plan. request_in (Some (name.now, arguments_of given.now))
+        ≡ Some (request_of plan)) }
+    ensures numbers { IfOk result HasNumbersWithin }
+    ensures nothing { IfErr result (λ _. request_in (Some (name.now, arguments_of given.now))
+        ≡ None) }
+    ensures fault { IfErr result (IsMistakeIn (Some (name.now, arguments_of given.now))) }
 {
     match name {
         "check" => check_plan(given),

@@ -1,7 +1,8 @@
 //! The commands and their arguments, as `clap` reads them.
 ghost use Rattle.std.specs.Prelude.{◌≡◌, IfOk, codes, false};
 ghost use Rattle.clap.specs.Words.{app_of, new_app, rule_of};
-ghost use Rattle.command_line.specs.Program.{catalogue, check, flag, misere, needed, option, optional, play, present, program, show, solve};
+ghost use Rattle.command_line.specs.Program.{catalogue, check, flag, misere, needed, option};
+ghost use Rattle.command_line.specs.Program.{optional, play, present, program, show, solve};
 
 use clap::{Arg, ArgAction, Command};
 use std::alloc::{AllocError, Global};
@@ -140,9 +141,8 @@ fn catalogue_command<'a>(alloc: Global) -> Result<Command<'a>, AllocError>
 fn misere_command<'a>(alloc: Global) -> Command<'a>
     ensures { app_of result ≡ misere }
 {
-    Command::new(alloc, "misere").version(VERSION).about(
-        "Finds, checks and plays with misère quotients of octal games",
-    )
+    let about = "Finds, checks and plays with misère quotients of octal games";
+    Command::new(alloc, "misere").version(VERSION).about(about)
 }
 
 /// The program's command line.

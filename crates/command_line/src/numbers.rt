@@ -1,6 +1,8 @@
 //! The numbers that options take.
-ghost use Rattle.std.specs.Prelude.{◌≡◌, ◌≢◌, ◌<◌, ◌^◌, ℕ, IfSome, IfNone, option_map, decimal};
-ghost use Rattle.command_line.specs.Numbers.{bounds_of, name_of, number_in, number_within};
+ghost use Rattle.std.specs.Prelude.{◌≡◌, ◌≢◌, ◌≤◌, ◌<◌, ◌^◌, ℕ, IfSome, IfNone, decimal};
+ghost use Rattle.std.specs.Prelude.{option_map};
+ghost use Rattle.command_line.specs.Numbers.{IsWithin, bounds_of, name_of, number_in};
+ghost use Rattle.command_line.specs.Numbers.{number_within};
 
 /// A number that an option takes.
 #[derive(Clone, Copy, Debug, PartialEq, Eq)]
@@ -73,7 +75,8 @@ fn spelled_number(text: &str) -> Option<u32>
 
 /// The number that the text spells, where it lies between the bounds.
 fn number_between(bounds: Bounds, text: &str) -> Option<u32>
-    ensures { result ≡ number_within bounds text.now }
+    ensures number { result ≡ number_within bounds text.now }
+    ensures between { IfSome result (λ n. (bounds.least ≤ n) × (n ≤ bounds.most)) }
 {
     let number = spelled_number(text)?;
     if bounds.least <= number && number <= bounds.most {
@@ -84,11 +87,12 @@ fn number_between(bounds: Bounds, text: &str) -> Option<u32>
 }
 
 /// The number that was given, or the default.
-pub(crate) fn number_given(bounds: Bounds, text: Option<&str>) -> Option<u32>
-    ensures { result ≡ number_in bounds (option_map (λ t. t.now) text.entry) }
+pub(crate) fn number_given(quantity: Quantity, text: Option<&str>) -> Option<u32>
+    ensures number { result ≡ number_in (bounds_of quantity) (option_map (λ t. t.now) text.entry) }
+    ensures within { IfSome result (IsWithin quantity) }
 {
     match text {
-        Some(text) => number_between(bounds, text),
-        None => Some(bounds.default),
+        Some(text) => number_between(quantity.bounds(), text),
+        None => Some(quantity.bounds().default),
     }
 }

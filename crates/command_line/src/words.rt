@@ -1,7 +1,7 @@
 //! What the words of a command line ask for.
 ghost use Rattle.std.specs.Prelude.{◌≡◌, ◌≢◌, [], Some, None, IfOk, IfErr, map};
 ghost use Rattle.clap.specs.Words.{fault_of, kind_of, subcommand_of, subcommand_rows_of};
-ghost use Rattle.command_line.specs.Plans.{request_of};
+ghost use Rattle.command_line.specs.Plans.{HasNumbersWithin, request_of};
 ghost use Rattle.command_line.specs.Program.{program};
 ghost use Rattle.command_line.specs.Refusals.{IsOfKind, IsTrueOf};
 ghost use Rattle.command_line.specs.Requests.{plan_of};
@@ -34,8 +34,10 @@ fn refused(alloc: Global, e: &clap::Error) -> UsageFault
 /// The command that the words name, with its arguments.
 fn parsed<'a>(alloc: Global, words: &'a [&'a str]) -> Result<ArgMatches<'a>, UsageFault>
     ensures taken { IfOk result (λ _. fault_of program (map (λ w. w.now) words.entry.now) ≡ []) }
-    ensures found { IfOk result (λ m. subcommand_rows_of m ≡ subcommand_of program (map (λ w. w.now) words.entry.now)) }
-    ensures nothing { IfErr result (λ fault. fault ≢ UsageFault.Memory → plan_of (map (λ w. w.now) words.entry.now) ≡ None) }
+    ensures found { IfOk result (λ m. subcommand_rows_of m
+        ≡ subcommand_of program (map (λ w. w.now) words.entry.now)) }
+    ensures nothing { IfErr result (λ fault. fault ≢ UsageFault.Memory
+        → plan_of (map (λ w. w.now) words.entry.now) ≡ None) }
     ensures fault { IfErr result (IsTrueOf (map (λ w. w.now) words.entry.now)) }
 {
     let Ok(command) = program_command(alloc) else {
@@ -50,8 +52,11 @@ fn parsed<'a>(alloc: Global, words: &'a [&'a str]) -> Result<ArgMatches<'a>, Usa
 /// Reads the words of a command line, the program's name first: what they ask for, or why they ask
 /// for nothing. Words that ask for something meet no other fault than want of memory.
 pub fn plan<'a>(alloc: Global, words: &'a [&'a str]) -> Result<Plan<'a>, UsageFault>
-    ensures asked { IfOk result (λ plan. plan_of (map (λ w. w.now) words.entry.now) ≡ Some (request_of plan)) }
-    ensures nothing { IfErr result (λ fault. fault ≢ UsageFault.Memory → plan_of (map (λ w. w.now) words.entry.now) ≡ None) }
+    ensures asked { IfOk result (λ plan. plan_of (map (λ w. w.now) words.entry.now)
+        ≡ Some (request_of plan)) }
+    ensures numbers { IfOk result HasNumbersWithin }
+    ensures nothing { IfErr result (λ fault. fault ≢ UsageFault.Memory
+        → plan_of (map (λ w. w.now) words.entry.now) ≡ None) }
     ensures fault { IfErr result (IsTrueOf (map (λ w. w.now) words.entry.now)) }
 {
     let matches = parsed(alloc, words)?;
