@@ -18,7 +18,8 @@ use Rattle.command_line.specs.declared.faults.UsageFault.TheVariants.{Exclusive,
 
 -- an argument that the command needs isn't there
 abbrev pub lacks : Asking → List Row → Bool
-lacks command rows = list_any (λ id. not (is_some (first_of id rows))) command.needs
+lacks command rows = list_any (λ rule. rule.required && not (is_some (first_of rule.id rows)))
+    command.app.top.rules
 
 -- --get stands with --new or --add, or --salvage with another of the four
 abbrev pub has_exclusive : List Row → Bool

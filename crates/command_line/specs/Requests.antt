@@ -4,9 +4,11 @@ use Rattle.std.specs.Prelude.{ℕ, Bool, true, false, List, [], ◌∷◌, Optio
 use Rattle.std.specs.Prelude.{option_map, option_and_then}
 use Rattle.std.specs.Option.{option_map_or}
 use Rattle.std.specs.Str.{bytes_eq}
-use Rattle.clap.specs.Words.{Kinds, Row, Text, first_of, fault_of, found_of, rows_of, subcommand_of}
+use Rattle.clap.specs.Words.{App, Kinds, Row, Text, first_of, fault_of, found_of, rows_of}
+use Rattle.clap.specs.Words.{subcommand_of}
 use Rattle.clap.specs.declared.parser.matches.ArgMatches.{ArgMatches}
 use Rattle.command_line.specs.Numbers.{number_of}
+use Rattle.command_line.specs.Program
 use Rattle.command_line.specs.Program.{program}
 use Rattle.command_line.specs.declared.numbers.Quantity.TheVariants.{Limit, Rounds, Heaps, Order}
 
@@ -88,43 +90,34 @@ catalogue_request rows = catalogue_with (first_of (codes "file") rows) (task_in 
 
 -- ---- the commands
 
--- a command: its name, the arguments that it needs, and what it asks for
+-- a command: what it is to `clap`, and what it asks for
 pub record Asking : Type 0 where
-  pub name : Text
-  pub needs : List Text
+  pub app : App
   pub request : List Row → Option Request
 
 abbrev pub check : Asking
-check = record { name = codes "check"; needs = []; request = check_request }
+check = record { app = Program.check; request = check_request }
 
 abbrev pub solve : Asking
-solve = record { name = codes "solve"; needs = codes "code" ∷ []; request = solve_request }
+solve = record { app = Program.solve; request = solve_request }
 
 abbrev pub show : Asking
-show = record { name = codes "show"; needs = codes "file" ∷ []; request = show_request }
+show = record { app = Program.show; request = show_request }
 
 abbrev pub play : Asking
-play = record {
-  name = codes "play";
-  needs = codes "file" ∷ codes "position" ∷ [];
-  request = play_request;
-}
+play = record { app = Program.play; request = play_request }
 
 abbrev pub present : Asking
-present = record { name = codes "present"; needs = codes "text" ∷ []; request = present_request }
+present = record { app = Program.present; request = present_request }
 
 abbrev pub catalogue : Asking
-catalogue = record {
-  name = codes "catalogue";
-  needs = codes "file" ∷ [];
-  request = catalogue_request;
-}
+catalogue = record { app = Program.catalogue; request = catalogue_request }
 
 abbrev pub commands : List Asking
 commands = check ∷ solve ∷ show ∷ play ∷ present ∷ catalogue ∷ []
 
 abbrev pub command_named : Text → Option Asking
-command_named name = find (λ c. bytes_eq c.name name) commands
+command_named name = find (λ c. bytes_eq c.app.top.name name) commands
 
 -- what a command with its arguments asks for
 abbrev pub request_in : Option (Text × List Row) → Option Request

@@ -75,7 +75,7 @@ fn check_command<'a>(alloc: Global) -> Result<Command<'a>, AllocError>
     ensures { IfOk result (λ c. app_of c ≡ check) }
 {
     let about = "Check a certificate, and print the verdict";
-    let file = "The certificate; by default it is read from standard input";
+    let file = "The file of the certificate; by default standard input";
     command(alloc, "check", about)
         .arg(optional(alloc, "file", "FILE", file))?
         .arg(limit(alloc))
@@ -100,7 +100,7 @@ fn show_command<'a>(alloc: Global) -> Result<Command<'a>, AllocError>
     ensures { IfOk result (λ c. app_of c ≡ show) }
 {
     let about = "Check a certificate, and print the quotient that it certifies";
-    command(alloc, "show", about).arg(needed(alloc, "file", "FILE", "The certificate"))
+    command(alloc, "show", about).arg(needed(alloc, "file", "FILE", "The file of the certificate"))
 }
 
 fn play_command<'a>(alloc: Global) -> Result<Command<'a>, AllocError>
@@ -109,7 +109,7 @@ fn play_command<'a>(alloc: Global) -> Result<Command<'a>, AllocError>
     let about = "Check a certificate, and print a winning move in a position";
     let position = "The sizes of the heaps in one word, as '1 2 2'; 0 for no heap";
     command(alloc, "play", about)
-        .arg(needed(alloc, "file", "FILE", "The certificate"))?
+        .arg(needed(alloc, "file", "FILE", "The file of the certificate"))?
         .arg(needed(alloc, "position", "POSITION", position))
 }
 
@@ -124,13 +124,13 @@ fn present_command<'a>(alloc: Global) -> Result<Command<'a>, AllocError>
 fn catalogue_command<'a>(alloc: Global) -> Result<Command<'a>, AllocError>
     ensures { IfOk result (λ c. app_of c ≡ catalogue) }
 {
-    let about = "Keep certificates in a file, and print a line for each";
-    let new = "Begin with an empty catalogue, and don't read FILE";
+    let about = "List the certificates in a catalogue, print one, or add to them";
+    let new = "Begin with an empty catalogue; FILE isn't read";
     let add = "Add the certificate in the file CERT, and write FILE";
-    let get = "Print the certificate of CODE; not with --new or --add";
-    let salvage = "Keep the entries without a fault, and write FILE; with no other option";
+    let get = "Print the certificate of CODE; without --new and --add";
+    let salvage = "Keep the entries without a fault, and write FILE; without another option";
     command(alloc, "catalogue", about)
-        .arg(needed(alloc, "file", "FILE", "The catalogue"))?
+        .arg(needed(alloc, "file", "FILE", "The file of the catalogue"))?
         .arg(flag(alloc, "new", new))?
         .arg(option(alloc, "add", "CERT", add))?
         .arg(option(alloc, "get", "CODE", get))?
