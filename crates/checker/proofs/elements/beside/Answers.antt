@@ -1,5 +1,10 @@
-use Rattle.checker.proofs.SpellLemmas.{element_fails}
+use Rattle.std.proofs.Common.{◌∷◌}
+use Rattle.checker.proofs.SpellLemmas.{element_fails, position_along}
 use Rattle.checker.proofs.elements.beside.Goals as goal
+
+pub returns-clause-position : goal.returns-clause-position
+returns-clause-position g c =
+    position_along c.args.sheet.now c.order-order.ensures.lawful (c.args.heap ∷ c.in_ok-position.position) c.push.new.self c.in_ok-push.ensures.ok (c.requires.heap.0, c.in_ok-position.ensures.position)
 
 pub returns-clause-fails : goal.returns-clause-fails
 returns-clause-fails g c =
