@@ -47,15 +47,19 @@ fn round(
     ensures stays { vec_len proposers.new ≡ vec_len proposers.old }
     ensures memory { IfErr result (λ why. why ≡ GaveUp.Memory) }
 {
-    let mut all = Asked::Nothing;
+    let mut has_drafted = false;
     for proposer in proposers.iter_mut() {
         match ask(alloc, code, proposer, members)? {
             Asked::Found(certified) => return Ok(Asked::Found(certified)),
-            Asked::Drafted => all = Asked::Drafted,
+            Asked::Drafted => has_drafted = true,
             Asked::Nothing => {}
         }
     }
-    Ok(all)
+    if has_drafted {
+        Ok(Asked::Drafted)
+    } else {
+        Ok(Asked::Nothing)
+    }
 }
 
 /// Searches for a certificate of the code: in each round every proposer is asked once, in order, and what it drafts is checked.
