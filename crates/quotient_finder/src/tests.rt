@@ -156,7 +156,10 @@ fn finds_in_the_first_round(rt: HostRuntime) -> Result<(), Fail> {
         Err(_) => assert!(rt; false),
     }
     assert_eq!(rt; sink.bytes(), RIGHT);
-    assert_eq!(rt; counted.as_slice(), [1, 1, 1, 1, 0, 0, 1, 0, 0, 0, 0, 0].as_slice());
+    assert_eq!(rt;
+        counted.as_slice(),
+        [1, 1, 1, 1, 0, 0, 1, 0, 0, 0, 0, 0].as_slice()
+    );
     Ok(())
 }
 
