@@ -23,7 +23,7 @@ struct Sheet {
 ///
 /// There is none where the guess has no such heaps or products, where more than `most` elements are reached, or only one, where none
 /// of them is in the portion, or where no element separates two of them. Whatever numbers the guess holds, the call ends.
-pub fn draft(
+pub(crate) fn draft(
     alloc: Global,
     code: &Code,
     guess: &Guess,

@@ -15,7 +15,6 @@ mod sample;
 mod sampler;
 mod words;
 
-pub use draft::draft;
 pub use periods::least_period;
 pub use refiner::Refiner;
 pub use sampler::Sampler;

@@ -96,13 +96,23 @@ impl Sample {
         })
     }
 
-    /// Takes the positions of the groups for contexts, beside the smallest ones.
+    /// Takes the positions of the groups for contexts, and two heaps of each kind, beside the smallest ones.
     fn look_beside(&mut self, groups: Groups) -> Result<(), Memory> {
         self.contexts.truncate(SMALLEST);
+        for heap in &groups.kinds {
+            let twice = position_of(self.alloc, &[*heap, *heap])?;
+            self.add_context(twice)?;
+        }
         for position in groups.positions {
-            if !self.contexts.contains(&position) {
-                self.contexts.push(position)?;
-            }
+            self.add_context(position)?;
+        }
+        Ok(())
+    }
+
+    /// Adds a context, unless it is there.
+    fn add_context(&mut self, position: Position) -> Result<(), Memory> {
+        if !self.contexts.contains(&position) {
+            self.contexts.push(position)?;
         }
         Ok(())
     }

@@ -1,9 +1,8 @@
 //! Periods, drafts of the two proposers, and guesses of any numbers.
-use crate::{Refiner, Sampler, draft, least_period};
+use crate::{Sampler, least_period};
 use certificate::write;
 use octal_code::Code;
 use quotient_finder::{Limits, Proposer, find};
-use quotient_solver::Guess;
 use std::alloc::Global;
 use std::test::Fail;
 use streams::MemorySink;
