@@ -25,10 +25,9 @@ pub(crate) fn repeats_from(entries: &[u16], period: usize) -> usize
     ensures repeats { RepeatsFrom entries.now result period }
     ensures earliest { (t : ℕ) → 1 ≤ t → RepeatsFrom entries.now t period → result ≤ t }
 {
-    for i in (0..entries.len() - period).rev() {
-        if entries[i] != entries[i + period] {
-            return i + 2;
-        }
+    let mut start = entries.len() - period;
+    while start > 0 && entries[start - 1] == entries[start - 1 + period] {
+        start -= 1;
     }
-    1
+    start + 1
 }

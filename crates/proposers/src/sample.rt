@@ -47,7 +47,7 @@ pub(crate) fn sampled(
     let mut sample = Sample::new(alloc, code)?;
     let mut count = 0;
     for _ in 0..ROUNDS {
-        let Some(groups) = sample.groups(heaps.min(LARGEST), order.min(MOST))? else {
+        let Some(groups) = sample.groups(heaps, order.min(MOST))? else {
             return Ok(None);
         };
         if groups.positions.len() == count {
@@ -155,7 +155,7 @@ impl Sample {
         let empty = Position::new(self.alloc);
         let row = self.row(&empty)?;
         groups.push(empty, Vec::new(self.alloc), row)?;
-        for heap in 1..heaps as u64 + 1 {
+        for heap in 1..heaps.min(LARGEST) as u64 + 1 {
             let position = position_of(self.alloc, &[heap])?;
             let row = self.row(&position)?;
             if !is_known(&row) {
