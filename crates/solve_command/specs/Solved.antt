@@ -10,24 +10,24 @@ use Rattle.solve_command.specs.declared.bounds.SolveBounds.{SolveBounds}
 abbrev pub IsNoCode : List ℕ → Type 0
 IsNoCode text = (digits : List ℕ) → IsCodeText text digits → ⊥
 
--- The spelling of an accepted certificate of the code, of at most so many elements, went out.
+-- the spelling of the certificate went out
+abbrev pub PrintsSpelling : Certificate → Option (List ℕ) → Option (List ℕ) → Type 0
+PrintsSpelling c before after = (bytes : List ℕ) × Spells bytes c × Appends before after bytes
+
+-- An accepted certificate of the code, of at most so many elements, was printed.
 pub record PrintsCertificate (code : List ℕ) (order : ℕ) (before after : Option (List ℕ)) : Type 0 where
   pub c : Certificate
   pub of_code : c.code ≡ code
   pub accepted : Accepted c
   pub small : c.order ≤ order
-  pub bytes : List ℕ
-  pub spelled : Spells bytes c
-  pub printed : Appends before after bytes
+  pub printed : PrintsSpelling c before after
 
 -- The line that says how the search was given up went out. Where no round was asked for, all rounds were spent.
-pub record PrintsGivingUp (rounds : ℕ) (before after : Option (List ℕ)) : Type 0 where
-  pub line : List ℕ
-  pub is_line : (line ≡ codes "gave up 1 Rounds\n") ⊎ (line ≡ codes "gave up 2 Empty\n")
-  pub no_round : rounds ≡ 0 → line ≡ codes "gave up 1 Rounds\n"
-  pub printed : Appends before after line
+abbrev pub PrintsGivingUp : ℕ → Option (List ℕ) → Option (List ℕ) → Type 0
+PrintsGivingUp rounds before after =
+    Appends before after (codes "gave up 1 Rounds\n") ⊎ ((rounds ≢ 0) × Appends before after (codes "gave up 2 Empty\n"))
 
--- what is printed for a code
+-- what is printed for a code, and whether a certificate was found
 abbrev pub Finds : List ℕ → SolveBounds → Option (List ℕ) → Option (List ℕ) → Bool → Type 0
 Finds code bounds before after true = PrintsCertificate code bounds.order before after
 Finds code bounds before after false = PrintsGivingUp bounds.rounds before after

@@ -1,5 +1,5 @@
 //! The search through both proposers.
-ghost use Rattle.std.specs.Prelude.{◌≡◌, IfOk};
+ghost use Rattle.std.specs.Prelude.{◌≡◌, ◌≢◌, IfOk, IfErr};
 ghost use Rattle.quotient_finder.specs.Finding.{IsFound};
 
 use crate::bounds::SolveBounds;
@@ -16,10 +16,15 @@ pub(crate) fn search(alloc: Global, code: &Code, bounds: SolveBounds) -> Result<
 {
     let (heaps, order) = (bounds.heaps as usize, bounds.order as usize);
     let mut proposers: Vec<Box<dyn Proposer>> = Vec::new(alloc);
-    let sampler = Box::new(alloc, Sampler::new(alloc, heaps, order)).map_err(|_| GaveUp::Memory)?;
-    proposers.push(sampler).map_err(|_| GaveUp::Memory)?;
-    let refiner = Box::new(alloc, Refiner::new(alloc, heaps, order)).map_err(|_| GaveUp::Memory)?;
-    proposers.push(refiner).map_err(|_| GaveUp::Memory)?;
+    let Ok(sampler) = Box::new(alloc, Sampler::new(alloc, heaps, order)) else {
+        return Err(GaveUp::Memory);
+    };
+    let Ok(refiner) = Box::new(alloc, Refiner::new(alloc, heaps, order)) else {
+        return Err(GaveUp::Memory);
+    };
+    if proposers.push(sampler).is_err() || proposers.push(refiner).is_err() {
+        return Err(GaveUp::Memory);
+    }
     let limits = Limits {
         rounds: bounds.rounds,
         members: bounds.limit,

@@ -1,8 +1,8 @@
 //! `solve`: what is printed for a code.
-ghost use Rattle.std.specs.Prelude.{◌≡◌, ◌<◌, ◌↔◌, ◌⊎◌, IfOk, IfErr, IsErrOf};
-ghost use Rattle.streams.specs.Stream.{Counts};
-ghost use Rattle.quotient_finder.specs.declared.gave_up.GaveUp.TheVariants.{Memory as OutOfMemory};
-ghost use Rattle.solve_command.specs.Solved.{IsNoCode, PrintsCertificate, Solves, line_of};
+ghost use Rattle.std.specs.Prelude.{◌≡◌, ◌<◌, ◌↔◌, ◌⊎◌, true, false, IfOk, IfErr, IsErrOf};
+ghost use Rattle.std.specs.Io.KnownBytes.{Appends};
+ghost use Rattle.octal_code.specs.Text.{IsCodeText};
+ghost use Rattle.solve_command.specs.Solved.{Finds, IsNoCode, PrintsSpelling, Solves};
 
 use crate::bounds::SolveBounds;
 use crate::search::search;
@@ -29,18 +29,51 @@ pub fn solve<W: Sink>(
     ensures write { IsErrOf result SolveStop.Write → W.failures out.old < W.failures out.new }
     ensures unwritten { IsErrOf result SolveStop.NotACode ⊎ IsErrOf result SolveStop.Memory → out.new ≡ out.old }
 {
-    let Ok(code) = Code::read(text.as_bytes()) else {
-        return Err(SolveStop::NotACode);
-    };
-    match search(alloc, &code, bounds) {
+    let code = code_of(text)?;
+    answer(alloc, &code, bounds, out)
+}
+
+/// The code that the text spells.
+fn code_of(text: &str) -> Result<Code, SolveStop>
+    ensures code { IfOk result (IsCodeText text.now) }
+    ensures no_code { IfErr result (λ stop. (stop ≡ SolveStop.NotACode) × IsNoCode text.now) }
+{
+    match Code::read(text.as_bytes()) {
+        Ok(code) => Ok(code),
+        Err(_) => Err(SolveStop::NotACode),
+    }
+}
+
+/// Prints the certificate that is found, or how the search was given up.
+fn answer<W: Sink>(
+    alloc: Global,
+    code: &Code,
+    bounds: SolveBounds,
+    out: &mut W,
+) -> Result<bool, SolveStop>
+    ensures found { IfOk result (Finds code.now bounds (W.taken out.old) (W.taken out.new)) }
+    ensures a_code { IsErrOf result SolveStop.NotACode → ⊥ }
+    ensures write { IsErrOf result SolveStop.Write → W.failures out.old < W.failures out.new }
+    ensures unwritten { IsErrOf result SolveStop.Memory → out.new ≡ out.old }
+{
+    match search(alloc, code, bounds) {
         Ok(certified) if certified.cert().order() as u32 <= bounds.order => {
-            write(certified.cert(), out)?;
-            Ok(true)
+            print(&certified, out)
         }
         Err(GaveUp::Memory) => Err(SolveStop::Memory),
-        Err(GaveUp::Rounds) => give_up(b"gave up 1 Rounds\n", out),
-        Ok(_) | Err(GaveUp::Empty) => give_up(b"gave up 2 Empty\n", out),
+        Err(GaveUp::Empty) => give_up(b"gave up 2 Empty\n", out),
+        // no proposer drafts a larger order
+        Ok(_) | Err(GaveUp::Rounds) => give_up(b"gave up 1 Rounds\n", out),
     }
+}
+
+/// Prints the certificate.
+fn print<W: Sink>(certified: &Certified, out: &mut W) -> Result<bool, SolveStop>
+    ensures printed { IfOk result (λ found. (found ≡ true) × PrintsSpelling certified.now (W.taken out.old) (W.taken out.new)) }
+    ensures write { IfErr result (λ stop. (stop ≡ SolveStop.Write) × (W.failures out.old < W.failures out.new)) }
+{
+    write(certified.cert(), out)?;
+    Ok(true)
 }
 
 /// Prints how the search was given up.
