@@ -1,0 +1,76 @@
+//! The proposer that solves heap by heap, and learns from positions.
+use crate::drafts::Drafts;
+use allocation::Memory;
+use checker::Refusal;
+use octal_code::Code;
+use quotient_finder::Proposer;
+use quotient_solver::Solver;
+use std::alloc::Global;
+
+/// How often it solves.
+const MOST: u32 = 3;
+
+/// Drafts what a solver guesses of the heaps up to some size. The positions at which the rule failed under a draft go to the solver.
+#[derive(Drop)]
+pub struct Refiner {
+    alloc: Global,
+    order: usize,
+    solver: Solver,
+    drafts: Option<Drafts>,
+    solves: u32,
+    is_stale: bool,
+}
+
+impl Refiner {
+    /// A refiner for the heaps 1 to `heaps`, and drafts of at most `order` elements.
+    pub fn new(alloc: Global, heaps: usize, order: usize) -> Refiner {
+        Refiner {
+            alloc,
+            order,
+            solver: Solver::new(alloc, heaps),
+            drafts: None,
+            solves: MOST,
+            is_stale: true,
+        }
+    }
+
+    /// A draft of the last guess, if one is left.
+    fn left(&mut self, code: &Code) -> Result<Option<Vec<u8>>, Memory> {
+        match &mut self.drafts {
+            Some(drafts) => drafts.next(code, self.order),
+            None => Ok(None),
+        }
+    }
+
+    /// Guesses anew, unless nothing was learned since, or it has solved too often.
+    fn solve(&mut self, code: &Code) -> Result<(), Memory> {
+        self.drafts = None;
+        if self.is_stale && self.solves > 0 {
+            self.is_stale = false;
+            self.solves -= 1;
+            if let Some(guess) = self.solver.solve(code)? {
+                self.drafts = Some(Drafts::new(self.alloc, code, guess)?);
+            }
+        }
+        Ok(())
+    }
+}
+
+impl Proposer for Refiner {
+    fn propose(&mut self, code: &Code) -> Result<Option<Vec<u8>>, Memory> {
+        let draft = self.left(code)?;
+        if draft.is_some() {
+            return Ok(draft);
+        }
+        self.solve(code)?;
+        self.left(code)
+    }
+
+    fn learn(&mut self, refusal: &Refusal) -> Result<(), Memory> {
+        if let Some((_, position)) = refusal.failed() {
+            self.solver.learn(position)?;
+            self.is_stale = true;
+        }
+        Ok(())
+    }
+}

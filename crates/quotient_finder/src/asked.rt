@@ -1,0 +1,14 @@
+//! What comes of asking.
+
+use checker::Certified;
+
+/// What came of asking proposers.
+#[derive(Drop)]
+pub enum Asked {
+    /// A certificate of the code.
+    Found(Certified),
+    /// A draft, but no certificate of the code.
+    Drafted,
+    /// No draft.
+    Nothing,
+}

@@ -1,0 +1,19 @@
+//! The search for a certificate: proposers draft, the checker decides.
+//!
+//! Nothing is believed of a proposer. What `find` hands out is certified for the code that was asked, whatever the proposers do.
+#![tactic(auto)]
+
+mod asked;
+mod gave_up;
+mod limits;
+mod proposer;
+mod rounds;
+mod same;
+
+pub use gave_up::GaveUp;
+pub use limits::Limits;
+pub use proposer::Proposer;
+pub use rounds::find;
+
+#[cfg(test)]
+mod tests;

@@ -1,0 +1,92 @@
+//! Rounds over proposers.
+ghost use Rattle.std.specs.Prelude.{◌≡◌, ◌<◌, ◌⊎◌, IfOk, IfErr, IsErrOf, vec_len};
+ghost use Rattle.quotient_finder.specs.Finding.{IsFound, FindsOnly};
+
+use crate::asked::Asked;
+use crate::gave_up::GaveUp;
+use crate::limits::Limits;
+use crate::proposer::Proposer;
+use crate::same::is_same;
+use checker::{Certified, Refusal, check};
+use octal_code::Code;
+use std::alloc::Global;
+
+/// Asks a proposer once, and tells it of a refusal.
+fn ask(
+    alloc: Global,
+    code: &Code,
+    proposer: &mut Box<dyn Proposer>,
+    members: u32,
+) -> Result<Asked, GaveUp>
+    ensures found { IfOk result (FindsOnly code.now) }
+    ensures memory { IfErr result (λ why. why ≡ GaveUp.Memory) }
+{
+    let Some(draft) = proposer.propose(code)? else {
+        return Ok(Asked::Nothing);
+    };
+    match check(alloc, &draft, members) {
+        Ok(certified) => {
+            if is_same(certified.cert().code(), code) {
+                return Ok(Asked::Found(certified));
+            }
+        }
+        Err(Refusal::Memory) => return Err(GaveUp::Memory),
+        Err(refusal) => proposer.learn(&refusal)?,
+    }
+    Ok(Asked::Drafted)
+}
+
+/// Asks each proposer once, in order, until a certificate of the code is found.
+fn round(
+    alloc: Global,
+    code: &Code,
+    proposers: &mut Vec<Box<dyn Proposer>>,
+    members: u32,
+) -> Result<Asked, GaveUp>
+    ensures found { IfOk result (FindsOnly code.now) }
+    ensures stays { vec_len proposers.new ≡ vec_len proposers.old }
+    ensures memory { IfErr result (λ why. why ≡ GaveUp.Memory) }
+{
+    let mut has_drafted = false;
+    for proposer in proposers.iter_mut() {
+        match ask(alloc, code, proposer, members)? {
+            Asked::Found(certified) => return Ok(Asked::Found(certified)),
+            Asked::Drafted => has_drafted = true,
+            Asked::Nothing => {}
+        }
+    }
+    if has_drafted {
+        Ok(Asked::Drafted)
+    } else {
+        Ok(Asked::Nothing)
+    }
+}
+
+/// Searches for a certificate of the code: in each round every proposer is asked once, in order, and what it drafts is checked.
+///
+/// An accepted certificate of the code ends the search. A refused draft is told to its proposer, and an accepted certificate of
+/// another code is dropped. `Rounds` says that all rounds were spent, `Empty` that there is no proposer, whatever the rounds, or
+/// that none gave a draft in a round, and `Memory` that a proposer or a check answered it. The list stays as long as it is.
+pub fn find(
+    alloc: Global,
+    code: &Code,
+    proposers: &mut Vec<Box<dyn Proposer>>,
+    limits: Limits,
+) -> Result<Certified, GaveUp>
+    ensures found { IfOk result (IsFound code.now) }
+    ensures stays { vec_len proposers.new ≡ vec_len proposers.old }
+    ensures no_proposer { vec_len proposers.old ≡ 0 → result ≡ Err GaveUp.Empty }
+    ensures no_round { 0 < vec_len proposers.old → limits.rounds ≡ 0 → result ≡ Err GaveUp.Rounds }
+{
+    if proposers.is_empty() {
+        return Err(GaveUp::Empty);
+    }
+    for _ in 0..limits.rounds {
+        match round(alloc, code, proposers, limits.members)? {
+            Asked::Found(certified) => return Ok(certified),
+            Asked::Drafted => {}
+            Asked::Nothing => return Err(GaveUp::Empty),
+        }
+    }
+    Err(GaveUp::Rounds)
+}

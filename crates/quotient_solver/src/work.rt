@@ -1,0 +1,63 @@
+//! Work, counted so that every search comes to an end, and the ways in which one ends early.
+use allocation::Memory;
+use std::alloc::{AllocError, AllocFailed};
+
+/// Why a search ended early.
+#[derive(Clone, Copy, Debug, PartialEq, Eq)]
+pub enum Halt {
+    /// A growth was refused.
+    Memory,
+    /// A bound was reached.
+    GaveUp,
+}
+
+impl From<Memory> for Halt {
+    fn from(_: Memory) -> Halt {
+        Halt::Memory
+    }
+}
+
+impl From<AllocError> for Halt {
+    fn from(_: AllocError) -> Halt {
+        Halt::Memory
+    }
+}
+
+impl<T: Drop> From<AllocFailed<T>> for Halt {
+    fn from(_: AllocFailed<T>) -> Halt {
+        Halt::Memory
+    }
+}
+
+/// The work of a whole search, in steps of about a nanosecond.
+const WHOLE: u64 = 2_000_000_000;
+
+/// The work that is left.
+#[derive(Clone, Copy)]
+pub struct Work {
+    left: u64,
+}
+
+impl Work {
+    /// The work of a whole search.
+    pub fn new() -> Work {
+        Work { left: WHOLE }
+    }
+
+    /// Spends so many steps, or gives up.
+    #[inline]
+    pub fn spend(&mut self, steps: usize) -> Result<(), Halt> {
+        let steps = steps as u64;
+        if steps > self.left {
+            self.left = 0;
+            return Err(Halt::GaveUp);
+        }
+        self.left -= steps;
+        Ok(())
+    }
+
+    /// Whether nothing is left.
+    pub fn is_spent(&self) -> bool {
+        self.left == 0
+    }
+}
