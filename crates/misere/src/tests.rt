@@ -273,15 +273,13 @@ fn tells_files_that_fail(rt: HostRuntime) -> Result<(), Fail> {
     Ok(())
 }
 
-/// Runs the words, and says how many of the samples are as they were.
-fn samples_kept(alloc: Global, line: &str) -> Result<usize, FileFault> {
+/// Runs the words, and says whether the samples are as they were.
+fn keeps_samples(alloc: Global, line: &str) -> Result<bool, FileFault> {
     let mut folder = samples(alloc, 0)?;
     let _ = ran_in(alloc, line, &mut folder, &mut MemorySource::new(b""))?;
-    let mut kept = 0;
+    let mut kept = true;
     for (name, text) in CERTIFICATES {
-        if folder.bytes(name).unwrap_or(b"") == text.as_bytes() {
-            kept += 1;
-        }
+        kept = kept && folder.bytes(name).unwrap_or(b"") == text.as_bytes();
     }
     Ok(kept)
 }
@@ -297,11 +295,7 @@ fn leaves_files_alone(rt: HostRuntime) -> Result<(), Fail> {
         "bogus",
     ];
     for line in lines {
-        assert_eq!(rt;
-            samples_kept(rt.alloc(), line)?,
-            CERTIFICATES.len(),
-            "of {line}"
-        );
+        assert!(rt; keeps_samples(rt.alloc(), line)?, "of {line}");
     }
     Ok(())
 }
@@ -343,7 +337,8 @@ fn tells_usage(rt: HostRuntime) -> Result<(), Fail> {
     }
     for line in ["--help", "help", "check|--help"] {
         let run = ran(rt.alloc(), line, &mut MemorySource::new(b""))?;
-        assert!(rt; run.out.bytes().starts_with(b"Usage"), "of {line}");
+        let text = str::from_utf8(run.out.bytes())?;
+        assert!(rt; text.contains("Usage: misere"), "of {line}");
         assert_eq!(rt; run.err.bytes(), b"".as_slice(), "of {line}");
         assert_eq!(rt; run.status, 0, "of {line}");
     }
