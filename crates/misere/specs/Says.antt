@@ -1,5 +1,5 @@
 -- What a run says: the text that it prints, and whether it ends well. This project's own.
-use Rattle.std.specs.Prelude.{◌≡◌, ℕ, Bool, true, false, List, Option, Some, None, Result, Ok, Err, Vec}
+use Rattle.std.specs.Prelude.{◌≡◌, ℕ, Bool, true, false, List, [], Option, Some, None, Result, Ok, Err, Vec}
 use Rattle.misere_theory.specs.Certificates.{Certificate}
 use Rattle.folders.specs.Files.{Holds}
 use Rattle.positions.specs.Text.{IsTextOf}
@@ -10,6 +10,8 @@ use Rattle.player.specs.declared.answering.Answer.{Answer}
 use Rattle.command_line.specs.Numbers.{default_limit}
 use Rattle.command_line.specs.Requests.{Request}
 use Rattle.command_line.specs.Requests.Request.{Check, Solve, Show, Play, Present, Catalogue}
+use Rattle.solve_command.specs.Solved.{Solves}
+use Rattle.solve_command.specs.declared.bounds.SolveBounds.{SolveBounds}
 use Rattle.verdicts.specs.Lines.{is_yes}
 use Rattle.verdicts.specs.Streams.{Answers, AnswersStream}
 use Rattle.misere.specs.Presented.{Presents}
@@ -66,11 +68,16 @@ abbrev pub Shows : Option (List ℕ → Option (List ℕ)) → List ℕ → List
 Shows files file text true = (c : Certificate) × Certifies files file default_limit c × IsQuotientText c text
 Shows files file text false = SaysOfFile files file default_limit text false
 
+-- the spelling of an accepted certificate of the code, within the bounds, or how the search for one was given up
+abbrev pub SaysSolved : List ℕ → SolveBounds → List ℕ → Bool → Type 0
+SaysSolved code bounds text found = Solves code bounds (Some []) (Some text) found
+
 -- what is said for each request, by what is left of standard input and by the files
 abbrev pub Says : Option (List ℕ) → Option (List ℕ → Option (List ℕ)) → Request → List ℕ → Bool → Type 0
 Says input files (Check None limit) text well = SaysOfStream input limit text well
 Says input files (Check (Some file) limit) text well = SaysOfFile files file limit text well
-Says input files (Solve code limit rounds heaps order) text well = ⊥
+Says input files (Solve code limit rounds heaps order) text well =
+    SaysSolved code (record { limit = limit; rounds = rounds; heaps = heaps; order = order }) text well
 Says input files (Show file) text well = Shows files file text well
 Says input files (Play file position) text well = Plays files file position text well
 Says input files (Present presentation) text well = Presents presentation text well

@@ -3,8 +3,9 @@ use Rattle.std.specs.Prelude.{◌≡◌, ◌<◌, ◌⊎◌, ℕ, Bool, true, fa
 use Rattle.positions.specs.Text.{IsNoPositionText, HasTooMany, HasTooLarge}
 use Rattle.command_line.specs.Requests.{Request}
 use Rattle.command_line.specs.Requests.Request.{Check, Solve, Show, Play, Present, Catalogue}
+use Rattle.solve_command.specs.Solved.{IsNoCode}
 use Rattle.misere.specs.declared.stop.Stop.{Stop}
-use Rattle.misere.specs.declared.stop.Stop.TheVariants.{Read, Write, Memory, NotAPosition, NotUtf8, Absent}
+use Rattle.misere.specs.declared.stop.Stop.TheVariants.{Read, Write, Memory, NotAPosition, NotACode, NotUtf8, Absent}
 
 -- a word that can't be read is a fault of usage
 abbrev pub stop_status : Stop → ℕ
@@ -12,6 +13,7 @@ stop_status (Read name) = 3
 stop_status Write = 3
 stop_status Memory = 3
 stop_status NotAPosition = 2
+stop_status NotACode = 2
 stop_status NotUtf8 = 2
 stop_status Absent = 2
 
@@ -21,6 +23,7 @@ stop_line (Read name) = codes "misere: cannot read " ++ (name.now ++ codes "\n")
 stop_line Write = codes "misere: cannot write\n"
 stop_line Memory = codes "misere: out of memory\n"
 stop_line NotAPosition = codes "misere: not a position\n"
+stop_line NotACode = codes "misere: not a code\n"
 stop_line NotUtf8 = codes "misere: a word isn't UTF-8\n"
 stop_line Absent = codes "misere: not there yet\n"
 
@@ -43,6 +46,7 @@ IsMemory (Read name) = ⊥
 IsMemory Write = ⊥
 IsMemory Memory = Unit {0}
 IsMemory NotAPosition = ⊥
+IsMemory NotACode = ⊥
 IsMemory NotUtf8 = ⊥
 IsMemory Absent = ⊥
 
@@ -52,6 +56,7 @@ IsInputCause before after (Read name) = (name.now ≡ codes "standard input") ×
 IsInputCause before after Write = ⊥
 IsInputCause before after Memory = after ≡ before
 IsInputCause before after NotAPosition = ⊥
+IsInputCause before after NotACode = ⊥
 IsInputCause before after NotUtf8 = ⊥
 IsInputCause before after Absent = ⊥
 
@@ -61,6 +66,7 @@ IsFileCause file before after (Read name) = (name.now ≡ file) × (before < aft
 IsFileCause file before after Write = ⊥
 IsFileCause file before after Memory = after ≡ before
 IsFileCause file before after NotAPosition = ⊥
+IsFileCause file before after NotACode = ⊥
 IsFileCause file before after NotUtf8 = ⊥
 IsFileCause file before after Absent = ⊥
 
@@ -70,6 +76,7 @@ IsPositionCause position (Read name) = ⊥
 IsPositionCause position Write = ⊥
 IsPositionCause position Memory = Unit {0}
 IsPositionCause position NotAPosition = IsNoPosition position
+IsPositionCause position NotACode = ⊥
 IsPositionCause position NotUtf8 = ⊥
 IsPositionCause position Absent = ⊥
 
@@ -79,14 +86,25 @@ IsPlayCause file position before after (Read name) = (name.now ≡ file) × (bef
 IsPlayCause file position before after Write = ⊥
 IsPlayCause file position before after Memory = after ≡ before
 IsPlayCause file position before after NotAPosition = IsNoPosition position
+IsPlayCause file position before after NotACode = ⊥
 IsPlayCause file position before after NotUtf8 = ⊥
 IsPlayCause file position before after Absent = ⊥
+
+-- the text isn't a code's, or memory was wanting
+abbrev pub IsSolveCause : List ℕ → Stop → Type 0
+IsSolveCause code (Read name) = ⊥
+IsSolveCause code Write = ⊥
+IsSolveCause code Memory = Unit {0}
+IsSolveCause code NotAPosition = ⊥
+IsSolveCause code NotACode = IsNoCode code
+IsSolveCause code NotUtf8 = ⊥
+IsSolveCause code Absent = ⊥
 
 -- why each request may stop, by the failures before and after
 abbrev pub IsCause : Request → Failed → Failed → Stop → Type 0
 IsCause (Check None limit) before after stop = IsInputCause before.input after.input stop
 IsCause (Check (Some file) limit) before after stop = IsFileCause file before.reads after.reads stop
-IsCause (Solve code limit rounds heaps order) before after stop = stop ≡ Absent
+IsCause (Solve code limit rounds heaps order) before after stop = IsSolveCause code stop
 IsCause (Show file) before after stop = IsFileCause file before.reads after.reads stop
 IsCause (Play file position) before after stop = IsPlayCause file position before.reads after.reads stop
 IsCause (Present text) before after stop = IsMemory stop

@@ -9,6 +9,7 @@ mod playing;
 mod presenting;
 mod said;
 mod showing;
+mod solving;
 mod stop;
 mod telling;
 #[cfg(test)]

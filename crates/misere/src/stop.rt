@@ -20,6 +20,8 @@ pub enum Stop<'a> {
     Memory,
     /// A word is not a position.
     NotAPosition,
+    /// A word is not a code.
+    NotACode,
     /// A word is not text.
     NotUtf8,
     /// The command isn't there yet.
@@ -33,7 +35,7 @@ impl Stop<'_> {
         ensures late { 2 ≤ result }
     {
         match self {
-            Stop::NotAPosition | Stop::NotUtf8 | Stop::Absent => 2,
+            Stop::NotAPosition | Stop::NotACode | Stop::NotUtf8 | Stop::Absent => 2,
             Stop::Read(_) | Stop::Write | Stop::Memory => 3,
         }
     }
@@ -47,6 +49,7 @@ impl Stop<'_> {
             Stop::Write => tell(err, "misere: cannot write\n", "", ""),
             Stop::Memory => tell(err, "misere: out of memory\n", "", ""),
             Stop::NotAPosition => tell(err, "misere: not a position\n", "", ""),
+            Stop::NotACode => tell(err, "misere: not a code\n", "", ""),
             Stop::NotUtf8 => tell(err, "misere: a word isn't UTF-8\n", "", ""),
             Stop::Absent => tell(err, "misere: not there yet\n", "", ""),
         }

@@ -152,9 +152,26 @@ fn presents_monoids(rt: HostRuntime) -> Result<(), Fail> {
 }
 
 #[test]
+fn solves_codes(rt: HostRuntime) -> Result<(), Fail> {
+    let rows = [
+        ("solve|0.3", "0.3.mqc"),
+        ("solve|0.33", "0.33.mqc"),
+        ("solve|0.75", "0.75.mqc"),
+    ];
+    for (line, name) in rows {
+        let run = ran(rt.alloc(), line, &mut MemorySource::new(b""))?;
+        assert_eq!(rt; run.out.bytes(), sample(name)?, "of {line}");
+        assert_eq!(rt; run.err.bytes(), b"".as_slice(), "of {line}");
+        assert_eq!(rt; run.status, 0, "of {line}");
+    }
+    Ok(())
+}
+
+#[test]
 fn refuses_words(rt: HostRuntime) -> Result<(), Fail> {
     let rows = [
         ("play|nowhere.mqc|01", 2, "misere: not a position\n"),
+        ("solve|0.8", 2, "misere: not a code\n"),
         ("play|0.33.mqc|1  2", 2, "misere: not a position\n"),
         (
             "play|0.33.mqc|1000000000000000001",

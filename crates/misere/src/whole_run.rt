@@ -12,10 +12,12 @@ use crate::playing::play_command;
 use crate::presenting::present_command;
 use crate::said::Said;
 use crate::showing::show_command;
+use crate::solving::solve_text;
 use crate::stop::Stop;
 use crate::telling::tell;
 use command_line::{Plan, UsageFault, plan};
 use folders::Folder;
+use solve_command::SolveBounds;
 use std::alloc::{AllocError, Global};
 use std::convert::AsStr;
 use streams::{Sink, Source, write_whole};
@@ -46,12 +48,20 @@ fn carry_out<'a, F: Folder, S: Source>(
         Plan::Play { file, position } => play_command(alloc, file, position, folder),
         Plan::Present { text } => present_command(alloc, text),
         Plan::Solve {
-            code: _,
-            limit: _,
-            rounds: _,
-            heaps: _,
-            order: _,
-        } => Err(Stop::Absent),
+            code,
+            limit,
+            rounds,
+            heaps,
+            order,
+        } => {
+            let bounds = SolveBounds {
+                limit,
+                rounds,
+                heaps,
+                order,
+            };
+            solve_text(alloc, code, bounds)
+        }
         Plan::Catalogue { file: _, task: _ } => Err(Stop::Absent),
     }
 }
