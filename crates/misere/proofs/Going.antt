@@ -3,7 +3,7 @@ use Rattle.std.proofs.Common.{◌≡◌, ◌≤◌, ◌∙◌, ℕ, suc, ◌+◌
 use Rattle.std.proofs.lemmas.List.{length-append, take-append-le}
 use Rattle.std.specs.Io.KnownBytes.{Appends}
 use Rattle.streams.specs.Stream.{AppendsSome, Counts, Puts}
-use Rattle.misere.specs.Stops.{Tells}
+use Rattle.misere.specs.Ends.{Tells, printer}
 
 pub appends_then : (a b c : Option (List ℕ)) (x y : List ℕ) → Appends a b x → Appends b c y → Appends a c (x ++ y)
 appends_then None b c x y p q = tt
@@ -53,6 +53,6 @@ take_all (y ∷ ys) = ap (λ (t : List ℕ). y ∷ t) (take_all ys)
 pub all_is_some : (a b : Option (List ℕ)) (x : List ℕ) → Appends a b x → AppendsSome a b x
 all_is_some a b x p = (length x, omega arith, subst (λ (t : List ℕ). Appends a b t) (sym (take_all x)) p)
 
-pub tells : {T E : Type 0} (a b : Option (List ℕ)) (m n : ℕ) (r : Result T E) (x : List ℕ) → Puts a b r x → Counts m n r → Tells a b m n x
+pub tells : {T E : Type 0} (a b : Option (List ℕ)) (m n : ℕ) (r : Result T E) (x : List ℕ) → Puts a b r x → Counts m n r → Tells (printer a m) (printer b n) x
 tells a b m n (Ok t) x p q = (all_is_some a b x p, λ _. p)
 tells a b m n (Err e) x p q = (p, λ same. absurd (omega (arith, q, same)))

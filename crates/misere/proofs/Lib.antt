@@ -1,5 +1,4 @@
-mod Asked
 mod Going
 mod Monoid
+mod Outcomes
 mod Printed
-mod Stopping

@@ -1,10 +1,12 @@
 -- The lines of a quotient, one more each time.
-use Rattle.std.proofs.Common.{◌≡◌, ◌∙◌, ◌<◌, ℕ, ◌+◌, ◌-◌, List, [], ◌∷◌, ◌++◌, Option, Some, None, get_or, length, append_assoc, append-nil, ap, arith, subst, sym}
+use Rattle.std.proofs.Common.{◌≡◌, ◌∙◌, ◌<◌, ℕ, ◌+◌, ◌-◌, List, [], ◌∷◌, ◌++◌, Option, Some, None, get_or, length, append_assoc, append-nil, ap, arith, subst, sym, Bool}
 use Rattle.std.proofs.lemmas.List.{get_or_default}
 use Rattle.std.specs.Io.KnownBytes.{Appends}
 use Rattle.misere_theory.specs.Certificates.{Certificate, IsSpelled, key_of, phi_at}
 use Rattle.misere_theory.specs.Certificates.IsSpelled.{Key}
 use Rattle.positions.specs.Text.{position_text}
+use Rattle.solve_command.specs.Solved.{Solves}
+use Rattle.solve_command.specs.declared.bounds.SolveBounds.{SolveBounds}
 use Rattle.misere.specs.Shown.{AreElementLines, AreHeapLines, AreSpelled, element_line, heap_line, letter_of}
 use Rattle.misere.specs.Shown.AreElementLines.{NextElement}
 use Rattle.misere.specs.Shown.AreHeapLines.{NextHeap}
@@ -22,22 +24,13 @@ key_is c ws r k some lt len e is =
     let short : r - 1 < length c.words = omega (arith, some, lt, len) in
     is ∙ ap (λ (xs : List (ℕ × ℕ)). get_or xs (r - 1) k) e ∙ get_or_default c.words (r - 1) k (0, 0) short
 
-pub nothing_out : (a : Option (List ℕ)) → Appends a a []
-nothing_out None = tt
-nothing_out (Some us) = sym (append-nil us)
+-- what a printer took that held nothing is what was printed
+pub taken_is : (before after : Option (List ℕ)) (text bytes : List ℕ) → before ≡ Some [] → after ≡ Some bytes → Appends before after text → bytes ≡ text
+taken_is before after text bytes b a h = subst (λ (x : Option (List ℕ)). Appends (Some []) x text) a (subst (λ (x : Option (List ℕ)). Appends x after text) b h)
 
-module _ (c : Certificate) (a b d : Option (List ℕ)) (text bytes : List ℕ) (p : Appends a b text) (q : Appends b d bytes) where
-  pub next_element : (e : ℕ) (sizes : List ℕ) → AreElementLines c e text → AreSpelled c e sizes → bytes ≡ element_line e (letter_of c e) (position_text sizes)
-      → (t : List ℕ) × AreElementLines c (e + 1) t × Appends a d t
-  next_element e sizes lines spelled is = (
-    text ++ element_line e (letter_of c e) (position_text sizes),
-    NextElement e sizes lines spelled,
-    appends_then a b d text (element_line e (letter_of c e) (position_text sizes)) p (subst (λ (t : List ℕ). Appends b d t) is q),
-  )
-
-  pub next_heap : (heap : ℕ) → AreHeapLines c heap text → bytes ≡ heap_line heap (phi_at c heap) → (t : List ℕ) × AreHeapLines c (heap + 1) t × Appends a d t
-  next_heap heap lines is = (
-    text ++ heap_line heap (phi_at c heap),
-    NextHeap heap lines,
-    appends_then a b d text (heap_line heap (phi_at c heap)) p (subst (λ (t : List ℕ). Appends b d t) is q),
-  )
+-- the same of a search
+pub solved_is : (code : List ℕ) (bounds : SolveBounds) (before after : Option (List ℕ)) (text bytes : List ℕ) (found : Bool) → before ≡ Some [] → after ≡ Some bytes
+    → text ≡ bytes → Solves code bounds before after found → Solves code bounds (Some []) (Some text) found
+solved_is code bounds before after text bytes found b a same h =
+    subst (λ (t : List ℕ). Solves code bounds (Some []) (Some t) found) (sym same)
+    (subst (λ (x : Option (List ℕ)). Solves code bounds (Some []) x found) a (subst (λ (x : Option (List ℕ)). Solves code bounds x after found) b h))

@@ -1,5 +1,6 @@
+pub mod Ends
 pub mod Presented
-pub mod Runs
+pub mod Says
 pub mod Shown
 pub mod Stops
 pub mod Texts

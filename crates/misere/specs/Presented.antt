@@ -1,7 +1,6 @@
 -- The lines that `present` prints. This project's own.
-use Rattle.std.specs.Prelude.{◌⊎◌, ℕ, zero, suc, Bool, true, false, List, [], ◌∷◌, ◌++◌, Option, codes, decimal, encode_utf8}
-use Rattle.std.specs.Io.KnownBytes.{Appends}
-use Rattle.monoid_table.specs.Grids.{Grid, times_in}
+use Rattle.std.specs.Prelude.{◌≡◌, ◌⊎◌, ℕ, zero, suc, Bool, true, false, List, [], ◌∷◌, ◌++◌, codes, decimal, encode_utf8}
+use Rattle.monoid_table.specs.Grids.{Grid, IsTable, times_in}
 use Rattle.presentations.specs.declared.named.Generator.{Generator}
 use Rattle.presentations.specs.declared.read.Relation.{Relation}
 use Rattle.presentations.specs.Powers.{IsAboveLimit, IsUnbounded}
@@ -40,25 +39,29 @@ generators_line generators = (codes "generators" ++ generator_words generators) 
 abbrev pub monoid_lines : Grid → List Generator → List ℕ
 monoid_lines table generators = (codes "order " ++ decimal table.order ++ codes "\n" ++ generators_line generators) ++ row_lines table table.order
 
--- The table of the least congruence that the text presents was printed; its box is within the limit.
-pub record PrintsTable (text : List ℕ) (before after : Option (List ℕ)) : Type 0 where
-  pub relations : List Relation
-  pub spelled : SpellsPresentation text relations
+-- The text is the table of the least congruence that holds the relations; it is a commutative monoid, and the box is within the
+-- limit.
+pub record IsTableText (relations : List Relation) (text : List ℕ) : Type 0 where
   pub table : Grid
   pub generators : List Generator
+  pub monoid : IsTable table.order table.entries
   pub is_table : IsTableOf relations table generators
   pub within : IsAboveLimit relations 65536 → ⊥
-  pub printed : Appends before after (monoid_lines table generators)
+  pub lines : text ≡ monoid_lines table generators
 
--- The line that says why there is no table, and it is right.
-pub data RefusesTable (text : List ℕ) : List ℕ → Type 0 where
-  NoText : ((q : List Relation) → SpellsPresentation text q → ⊥) → RefusesTable text (codes "refused 1 Text\n")
-  Unbounded : (relations : List Relation) → SpellsPresentation text relations → IsUnbounded relations
-      → RefusesTable text (codes "refused 2 Unbounded\n")
-  Limit : (relations : List Relation) → SpellsPresentation text relations → IsAboveLimit relations 65536 ⊎ HasMoreElements relations 256
-      → RefusesTable text (codes "refused 3 Limit\n")
+-- The text is the line that says why the relations have no table, and it is right.
+pub data RefusesTable (relations : List Relation) (text : List ℕ) : Type 0 where
+  Unbounded : IsUnbounded relations → text ≡ codes "refused 2 Unbounded\n" → RefusesTable relations text
+  Limit : IsAboveLimit relations 65536 ⊎ HasMoreElements relations 256 → text ≡ codes "refused 3 Limit\n" → RefusesTable relations text
 
--- The table was printed, or why there is none.
-abbrev pub Presents : List ℕ → Option (List ℕ) → Option (List ℕ) → Bool → Type 0
-Presents text before after true = PrintsTable text before after
-Presents text before after false = (line : List ℕ) × RefusesTable text line × Appends before after line
+-- the text is the table, or says why there is none
+abbrev pub PresentsTable : List Relation → List ℕ → Bool → Type 0
+PresentsTable relations text true = IsTableText relations text
+PresentsTable relations text false = RefusesTable relations text
+
+-- The presentation is no list of relations, which the text says, or the text is their table, or says why there is none.
+pub data Presents (presentation text : List ℕ) (well : Bool) : Type 0 where
+  NoText : ((q : List Relation) → SpellsPresentation presentation q → ⊥) → text ≡ codes "refused 1 Text\n" → well ≡ false
+      → Presents presentation text well
+  OfRelations : (relations : List Relation) → SpellsPresentation presentation relations → PresentsTable relations text well
+      → Presents presentation text well

@@ -1,7 +1,6 @@
 -- The lines of a certified quotient. This project's own.
-use Rattle.std.specs.Prelude.{ℕ, ◌+◌, List, [], ◌++◌, Option, if◌then◌else◌, codes, decimal, IsPermutation}
+use Rattle.std.specs.Prelude.{◌≡◌, ℕ, ◌+◌, List, [], ◌++◌, if◌then◌else◌, codes, decimal, IsPermutation}
 use Rattle.std.specs.List.Sorted.{IsNonDecreasing}
-use Rattle.std.specs.Io.KnownBytes.{Appends}
 use Rattle.misere_theory.specs.Certificates.{Certificate, IsSpelled, claim_of, phi_at}
 use Rattle.octal_code.specs.Text.{code_text}
 use Rattle.positions.specs.Text.{position_text}
@@ -44,10 +43,10 @@ pub data AreHeapLines (c : Certificate) : ℕ → List ℕ → Type 0 where
   NoHeap : AreHeapLines c 1 []
   NextHeap : {text : List ℕ} (heap : ℕ) → AreHeapLines c heap text → AreHeapLines c (heap + 1) (text ++ heap_line heap (phi_at c heap))
 
--- All lines went out.
-pub record PrintsQuotient (c : Certificate) (before after : Option (List ℕ)) : Type 0 where
+-- The text is that of the quotient: its code and order, its elements, its heaps, and how they repeat.
+pub record IsQuotientText (c : Certificate) (text : List ℕ) : Type 0 where
   pub elements : List ℕ
   pub heaps : List ℕ
   pub are_elements : AreElementLines c c.order elements
   pub are_heaps : AreHeapLines c (c.start + c.period) heaps
-  pub printed : Appends before after (head_lines c ++ (elements ++ (heaps ++ tail_line c)))
+  pub lines : text ≡ head_lines c ++ elements ++ heaps ++ tail_line c

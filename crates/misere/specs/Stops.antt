@@ -1,13 +1,11 @@
--- Runs that stop early: the status, the line on standard error, and what it says. This project's own.
-use Rattle.std.specs.Prelude.{◌≡◌, ⊤, ◌⊎◌, ℕ, List, Option, Some, None, ◌++◌, codes, option_map}
-use Rattle.std.specs.Io.KnownBytes.{Appends}
-use Rattle.streams.specs.Stream.{AppendsSome}
+-- Runs that stop before anything is printed: why, the status, and the line on standard error. This project's own.
+use Rattle.std.specs.Prelude.{◌≡◌, ◌<◌, ◌⊎◌, ℕ, Bool, true, false, List, Option, Some, None, ◌++◌, codes}
 use Rattle.positions.specs.Text.{IsNoPositionText, HasTooMany, HasTooLarge}
-use Rattle.command_line.specs.Asks.{Asks}
-use Rattle.command_line.specs.declared.plans.Plan.{Plan}
-use Rattle.command_line.specs.declared.plans.Plan.TheVariants.{Check, Show, Play, Present}
+use Rattle.command_line.specs.Requests.{Request}
+use Rattle.command_line.specs.Requests.Request.{Check, Solve, Show, Play, Present, Catalogue}
+use Rattle.solve_command.specs.Solved.{IsNoCode}
 use Rattle.misere.specs.declared.stop.Stop.{Stop}
-use Rattle.misere.specs.declared.stop.Stop.TheVariants.{Read, Write, Memory, NotAPosition}
+use Rattle.misere.specs.declared.stop.Stop.TheVariants.{Read, Write, Memory, NotAPosition, NotACode, NotUtf8, Absent}
 
 -- a word that can't be read is a fault of usage
 abbrev pub stop_status : Stop → ℕ
@@ -15,6 +13,9 @@ stop_status (Read name) = 3
 stop_status Write = 3
 stop_status Memory = 3
 stop_status NotAPosition = 2
+stop_status NotACode = 2
+stop_status NotUtf8 = 2
+stop_status Absent = 2
 
 -- what is told of a stop
 abbrev pub stop_line : Stop → List ℕ
@@ -22,78 +23,102 @@ stop_line (Read name) = codes "misere: cannot read " ++ (name.now ++ codes "\n")
 stop_line Write = codes "misere: cannot write\n"
 stop_line Memory = codes "misere: out of memory\n"
 stop_line NotAPosition = codes "misere: not a position\n"
+stop_line NotACode = codes "misere: not a code\n"
+stop_line NotUtf8 = codes "misere: a word isn't UTF-8\n"
+stop_line Absent = codes "misere: not there yet\n"
 
--- The line went out, all of it unless the sink failed, and then a beginning: what the sink took before and after, and how often
--- it had failed before and after.
-abbrev pub Tells : Option (List ℕ) → Option (List ℕ) → ℕ → ℕ → List ℕ → Type 0
-Tells before after failed_before failed_after line =
-    AppendsSome before after line × (failed_after ≡ failed_before → Appends before after line)
+-- How often each device has failed that a command reads or changes.
+pub record Failed : Type 0 where
+  pub input : ℕ
+  pub reads : ℕ
+  pub writes : ℕ
+
+abbrev pub failed : ℕ → ℕ → ℕ → Failed
+failed input reads writes = record { input = input; reads = reads; writes = writes }
 
 -- the text is not that of at most 64 sizes up to 10^18
 abbrev pub IsNoPosition : List ℕ → Type 0
 IsNoPosition text = IsNoPositionText text ⊎ HasTooMany 64 text ⊎ HasTooLarge 64 1000000000000000000 text
 
--- A stop of reading the text of a position.
-abbrev pub IsPositionStop : List ℕ → Stop → Type 0
-IsPositionStop text (Read name) = ⊥
-IsPositionStop text Write = ⊥
-IsPositionStop text Memory = ⊤
-IsPositionStop text NotAPosition = IsNoPosition text
+-- memory was wanting, and no device failed
+abbrev pub IsMemory : Stop → Type 0
+IsMemory (Read name) = ⊥
+IsMemory Write = ⊥
+IsMemory Memory = Unit {0}
+IsMemory NotAPosition = ⊥
+IsMemory NotACode = ⊥
+IsMemory NotUtf8 = ⊥
+IsMemory Absent = ⊥
 
--- A stop of what prints: the output failed, or memory was wanting, of which nothing is said.
-abbrev pub IsOutputStop : Type 0 → Stop → Type 0
-IsOutputStop output_failed (Read name) = ⊥
-IsOutputStop output_failed Write = output_failed
-IsOutputStop output_failed Memory = ⊤
-IsOutputStop output_failed NotAPosition = ⊥
+-- a read of standard input failed, or none did and memory was wanting
+abbrev pub IsInputCause : ℕ → ℕ → Stop → Type 0
+IsInputCause before after (Read name) = (name.now ≡ codes "standard input") × (before < after)
+IsInputCause before after Write = ⊥
+IsInputCause before after Memory = after ≡ before
+IsInputCause before after NotAPosition = ⊥
+IsInputCause before after NotACode = ⊥
+IsInputCause before after NotUtf8 = ⊥
+IsInputCause before after Absent = ⊥
 
--- A stop of what reads standard input and prints.
-abbrev pub IsInputStop : Type 0 → Type 0 → Stop → Type 0
-IsInputStop input_failed output_failed (Read name) = input_failed × (name.now ≡ codes "standard input")
-IsInputStop input_failed output_failed Write = output_failed
-IsInputStop input_failed output_failed Memory = ⊤
-IsInputStop input_failed output_failed NotAPosition = ⊥
+-- a read of this file failed, or none did and memory was wanting
+abbrev pub IsFileCause : List ℕ → ℕ → ℕ → Stop → Type 0
+IsFileCause file before after (Read name) = (name.now ≡ file) × (before < after)
+IsFileCause file before after Write = ⊥
+IsFileCause file before after Memory = after ≡ before
+IsFileCause file before after NotAPosition = ⊥
+IsFileCause file before after NotACode = ⊥
+IsFileCause file before after NotUtf8 = ⊥
+IsFileCause file before after Absent = ⊥
 
--- A stop of what reads this file and prints: the name told is the file's.
-abbrev pub IsFileStop : List ℕ → Type 0 → Type 0 → Stop → Type 0
-IsFileStop file no_position output_failed (Read name) = name.now ≡ file
-IsFileStop file no_position output_failed Write = output_failed
-IsFileStop file no_position output_failed Memory = ⊤
-IsFileStop file no_position output_failed NotAPosition = no_position
+-- the text isn't that of a position, or memory was wanting
+abbrev pub IsPositionCause : List ℕ → Stop → Type 0
+IsPositionCause position (Read name) = ⊥
+IsPositionCause position Write = ⊥
+IsPositionCause position Memory = Unit {0}
+IsPositionCause position NotAPosition = IsNoPosition position
+IsPositionCause position NotACode = ⊥
+IsPositionCause position NotUtf8 = ⊥
+IsPositionCause position Absent = ⊥
 
--- A stop of a check of this file, or of standard input where none is named.
-abbrev pub IsCheckStop : Option (List ℕ) → Type 0 → Type 0 → Stop → Type 0
-IsCheckStop None input_failed output_failed stop = IsInputStop input_failed output_failed stop
-IsCheckStop (Some file) input_failed output_failed stop = IsFileStop file ⊥ output_failed stop
+-- a read of the file failed, or none did and memory was wanting, or the text isn't that of a position
+abbrev pub IsPlayCause : List ℕ → List ℕ → ℕ → ℕ → Stop → Type 0
+IsPlayCause file position before after (Read name) = (name.now ≡ file) × (before < after)
+IsPlayCause file position before after Write = ⊥
+IsPlayCause file position before after Memory = after ≡ before
+IsPlayCause file position before after NotAPosition = IsNoPosition position
+IsPlayCause file position before after NotACode = ⊥
+IsPlayCause file position before after NotUtf8 = ⊥
+IsPlayCause file position before after Absent = ⊥
 
--- What a stop says is true of the plan, the input and the output.
-abbrev pub IsTrueOf : Type 0 → Type 0 → Plan → Stop → Type 0
-IsTrueOf input_failed output_failed (Check file limit) stop = IsCheckStop (option_map (λ f. f.now) file) input_failed output_failed stop
-IsTrueOf input_failed output_failed (Show file) stop = IsFileStop file.now ⊥ output_failed stop
-IsTrueOf input_failed output_failed (Play file position) stop = IsFileStop file.now (IsNoPosition position.now) output_failed stop
-IsTrueOf input_failed output_failed (Present text) stop = IsOutputStop output_failed stop
+-- the text isn't a code's, or memory was wanting
+abbrev pub IsSolveCause : List ℕ → Stop → Type 0
+IsSolveCause code (Read name) = ⊥
+IsSolveCause code Write = ⊥
+IsSolveCause code Memory = Unit {0}
+IsSolveCause code NotAPosition = ⊥
+IsSolveCause code NotACode = IsNoCode code
+IsSolveCause code NotUtf8 = ⊥
+IsSolveCause code Absent = ⊥
 
--- the plan asks for a position that can't be read
-abbrev pub HasNoPosition : Plan → Type 0
-HasNoPosition (Check file limit) = ⊥
-HasNoPosition (Show file) = ⊥
-HasNoPosition (Play file position) = IsNoPosition position.now
-HasNoPosition (Present text) = ⊥
+-- why each request may stop, by the failures before and after
+abbrev pub IsCause : Request → Failed → Failed → Stop → Type 0
+IsCause (Check None limit) before after stop = IsInputCause before.input after.input stop
+IsCause (Check (Some file) limit) before after stop = IsFileCause file before.reads after.reads stop
+IsCause (Solve code limit rounds heaps order) before after stop = IsSolveCause code stop
+IsCause (Show file) before after stop = IsFileCause file before.reads after.reads stop
+IsCause (Play file position) before after stop = IsPlayCause file position before.reads after.reads stop
+IsCause (Present text) before after stop = IsMemory stop
+IsCause (Catalogue file task) before after stop = stop ≡ Absent
 
--- The run stopped for want of a device or of memory, told so, and what it told is true of what the words ask for.
-pub record StopsAsTold (words : List (List ℕ)) (input_failed output_failed : Type 0) (IsTold : List ℕ → Type 0) : Type 0 where
-  pub stop : Stop
-  pub status : stop_status stop ≡ 3
-  pub told : IsTold (stop_line stop)
-  pub true_of : (plan : Plan) → Asks words plan → IsTrueOf input_failed output_failed plan stop
+-- the request reads standard input
+abbrev pub reads_input : Option Request → Bool
+reads_input (Some (Check None limit)) = true
+reads_input _ = false
 
--- A run that printed stopped, and told so.
-pub record StopsAtOutput (output_failed : Type 0) (IsTold : List ℕ → Type 0) : Type 0 where
-  pub stop : Stop
-  pub status : stop_status stop ≡ 3
-  pub told : IsTold (stop_line stop)
-  pub true_of : IsOutputStop output_failed stop
-
--- The words ask for nothing but for a position that can't be read.
-abbrev pub AsksInVain : List (List ℕ) → Type 0
-AsksInVain words = (plan : Plan) → Asks words plan → HasNoPosition plan
+-- the request reads or writes files
+abbrev pub takes_files : Option Request → Bool
+takes_files (Some (Check (Some file) limit)) = true
+takes_files (Some (Show file)) = true
+takes_files (Some (Play file position)) = true
+takes_files (Some (Catalogue file task)) = true
+takes_files _ = false

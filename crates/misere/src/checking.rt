@@ -1,71 +1,63 @@
 //! `check`: the verdict on a certificate.
-ghost use Rattle.std.specs.Prelude.{◌<◌, ℕ, List, IfOk, IfErr, option_map};
-ghost use Rattle.verdicts.specs.Streams.{AreKnownAs, Writes, WritesOfStream};
-ghost use Rattle.misere.specs.Runs.{Checks};
-ghost use Rattle.misere.specs.Stops.{IsCheckStop, IsFileStop, IsInputStop};
+ghost use Rattle.std.specs.Prelude.{◌≡◌, ◌<◌, IfOk, IfErr, option_map};
+ghost use Rattle.misere.specs.Says.{SaysOfFile, SaysOfStream, SaysVerdict};
+ghost use Rattle.misere.specs.Stops.{IsFileCause, IsInputCause, IsMemory};
 
-use crate::folder::Folder;
+use crate::files::read_file;
+use crate::said::Said;
 use crate::stop::Stop;
+use folders::Folder;
 use std::alloc::Global;
-use streams::{Sink, Source, StreamFault};
+use streams::{MemorySink, Source, StreamFault};
 use verdicts::{check_bytes, check_stream};
 
-/// Checks the file, and answers whether it is accepted.
-fn check_file<'a, F: Folder, W: Sink>(
+/// What is said of the bytes.
+fn check_text(alloc: Global, bytes: &[u8], limit: u32) -> Result<Said, Stop<'static>>
+    ensures said { IfOk result (λ s. SaysVerdict bytes.now limit s.text.items s.well) }
+    ensures stops { IfErr result IsMemory }
+{
+    let mut sink = MemorySink::new(alloc);
+    let Ok(well) = check_bytes(alloc, bytes, &mut sink, limit) else {
+        return Err(Stop::Memory);
+    };
+    let text = sink.bytes().to_vec(alloc)?;
+    Ok(Said { text, well })
+}
+
+/// Checks the file.
+pub fn check_file<'a, F: Folder>(
     alloc: Global,
     name: &'a str,
     limit: u32,
     folder: &mut F,
-    out: &mut W,
-) -> Result<bool, Stop<'a>>
-    ensures checked { IfOk result (λ said. (bytes : List ℕ) × AreKnownAs (F.file folder.old name.entry.now) bytes
-        × Writes bytes limit (W.taken out.old) (W.taken out.new) said) }
-    ensures stops { IfErr result (IsFileStop name.entry.now ⊥ (W.failures out.old < W.failures out.new)) }
+) -> Result<Said, Stop<'a>>
+    ensures said { IfOk result (λ s. SaysOfFile (F.files folder.old) name.entry.now limit s.text.items s.well) }
+    ensures kept { F.files folder.new ≡ F.files folder.old }
+    ensures stops { IfErr result (IsFileCause name.entry.now (F.failed_reads folder.old) (F.failed_reads folder.new)) }
 {
-    let bytes = match folder.read(name) {
-        Ok(bytes) => bytes,
-        Err(fault) => return Err(Stop::of_file(name, fault)),
-    };
-    match check_bytes(alloc, &bytes, out, limit) {
+    let bytes = read_file(folder, name)?;
+    match check_text(alloc, &bytes, limit) {
         Ok(said) => Ok(said),
-        Err(StreamFault::Read) => Err(Stop::Read(name)),
-        Err(StreamFault::Write) => Err(Stop::Write),
-        Err(StreamFault::Memory) => Err(Stop::Memory),
+        Err(_) => Err(Stop::Memory),
     }
 }
 
-/// Checks standard input, and answers whether it is accepted.
-fn check_input<'a, S: Source, W: Sink>(
+/// Checks standard input.
+pub fn check_input<S: Source>(
     alloc: Global,
     limit: u32,
     input: &mut S,
-    out: &mut W,
-) -> Result<bool, Stop<'a>>
-    ensures checked { IfOk result (WritesOfStream (S.left input.old) limit (W.taken out.old) (W.taken out.new)) }
-    ensures stops { IfErr result (IsInputStop (S.failures input.old < S.failures input.new) (W.failures out.old < W.failures out.new)) }
+) -> Result<Said, Stop<'static>>
+    ensures said { IfOk result (λ s. SaysOfStream (S.left input.old) limit s.text.items s.well) }
+    ensures stops { IfErr result (IsInputCause (S.failures input.old) (S.failures input.new)) }
 {
-    match check_stream(alloc, input, out, limit) {
-        Ok(said) => Ok(said),
+    let mut sink = MemorySink::new(alloc);
+    match check_stream(alloc, input, &mut sink, limit) {
+        Ok(well) => {
+            let text = sink.bytes().to_vec(alloc)?;
+            Ok(Said { text, well })
+        }
         Err(StreamFault::Read) => Err(Stop::Read("standard input")),
-        Err(StreamFault::Write) => Err(Stop::Write),
-        Err(StreamFault::Memory) => Err(Stop::Memory),
-    }
-}
-
-/// Checks the file, or standard input where none is named, and prints the verdict's text.
-pub fn check_command<'a, F: Folder, S: Source, W: Sink>(
-    alloc: Global,
-    file: Option<&'a str>,
-    limit: u32,
-    folder: &mut F,
-    input: &mut S,
-    out: &mut W,
-) -> Result<bool, Stop<'a>>
-    ensures checked { IfOk result (Checks (S.left input.old) (F.file folder.old) (option_map (λ f. f.now) file.entry) limit (W.taken out.old) (W.taken out.new)) }
-    ensures stops { IfErr result (IsCheckStop (option_map (λ f. f.now) file.entry) (S.failures input.old < S.failures input.new) (W.failures out.old < W.failures out.new)) }
-{
-    match file {
-        Some(name) => check_file(alloc, name, limit, folder, out),
-        None => check_input(alloc, limit, input, out),
+        Err(StreamFault::Write | StreamFault::Memory) => Err(Stop::Memory),
     }
 }

@@ -3,44 +3,40 @@
 
 mod certifying;
 mod checking;
-mod folder;
+mod ending;
+mod files;
 mod playing;
 mod presenting;
+mod said;
 mod showing;
+mod solving;
 mod stop;
 mod telling;
 #[cfg(test)]
 mod tests;
 mod whole_run;
 
-use crate::folder::HostFolder;
-use crate::stop::Stop;
-use crate::whole_run::run;
+use crate::ending::{ended, stopped, words_of};
+use folders::HostFolder;
 use std::io;
 use std::process::ExitCode;
 use streams::{ReaderSource, WriterSink};
 
 fn main(rt: HostRuntime) -> ExitCode {
-    let alloc = rt.alloc();
-    let mut out = WriterSink::new(io::writer(&rt));
     let mut err = WriterSink::new(rt.stderr());
-    let Ok(args) = std::env::args(&rt) else {
-        Stop::Memory.tell(&mut err);
-        return ExitCode::from(3);
-    };
-    let Ok(words) = args.collect::<Vec<String>>(alloc) else {
-        Stop::Memory.tell(&mut err);
-        return ExitCode::from(3);
+    let words = match words_of(&rt) {
+        Ok(words) => words,
+        Err(stop) => return stopped(stop, &mut err),
     };
     let mut folder = HostFolder::new(&rt);
     let mut input = ReaderSource::new(rt.reader());
-    let status = run(
-        alloc,
-        words.as_slice(),
+    let mut out = WriterSink::new(io::writer(&rt));
+    ended(
+        rt.alloc(),
+        &words,
         &mut folder,
         &mut input,
         &mut out,
         &mut err,
-    );
-    ExitCode::from(status)
+    )
 }

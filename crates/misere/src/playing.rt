@@ -1,18 +1,21 @@
 //! `play`: the answer in a position.
-ghost use Rattle.std.specs.Prelude.{◌≡◌, ◌<◌, IfOk, IfErr};
+ghost use Rattle.std.specs.Prelude.{◌≡◌, true, IfOk, IfErr, IsErrOf};
 ghost use Rattle.std.specs.String.{string_bytes};
 ghost use Rattle.positions.specs.Text.{IsTextOf};
-ghost use Rattle.misere.specs.Runs.{Plays};
-ghost use Rattle.misere.specs.Stops.{IsFileStop, IsNoPosition, IsPositionStop};
+ghost use Rattle.player.specs.Answers.{IsRightAnswer};
+ghost use Rattle.misere.specs.Says.{Plays, PlaysFound};
+ghost use Rattle.misere.specs.Stops.{IsMemory, IsPlayCause, IsPositionCause};
 ghost use Rattle.misere.specs.Texts.{answer_line, one_line, two_line, win_line};
 
 use crate::certifying::certified;
-use crate::folder::Folder;
+use crate::said::Said;
 use crate::stop::Stop;
+use checker::Certified;
+use command_line::DEFAULT_LIMIT;
+use folders::Folder;
 use player::{Answer, answer};
 use positions::{Left, Position, PositionFault};
 use std::alloc::{AllocError, Global};
-use streams::{Sink, write_whole};
 
 /// The line of a winning move that leaves nothing.
 fn nothing_left(alloc: Global, heap: u64) -> Result<String, AllocError>
@@ -63,7 +66,7 @@ fn answer_text(alloc: Global, answer: Answer) -> Result<String, AllocError>
 /// The position of the text.
 fn position_of(alloc: Global, text: &str) -> Result<Position, Stop<'static>>
     ensures read { IfOk result (IsTextOf text.now) }
-    ensures stops { IfErr result (IsPositionStop text.now) }
+    ensures stops { IfErr result (IsPositionCause text.now) }
 {
     match Position::read(alloc, text.as_bytes()) {
         Ok(position) => Ok(position),
@@ -74,22 +77,51 @@ fn position_of(alloc: Global, text: &str) -> Result<Position, Stop<'static>>
     }
 }
 
-/// Prints the answer in the position by the quotient that the file certifies. The position is read first.
-pub fn play_command<'a, F: Folder, W: Sink>(
+/// The line of the answer in the position.
+fn answered(
+    alloc: Global,
+    certified: &Certified,
+    position: &Position,
+) -> Result<Said, Stop<'static>>
+    ensures answered { IfOk result (λ s. (a : Answer) × IsRightAnswer certified.now.code position.now a × (s.text.items ≡ answer_line a)) }
+    ensures well { IfOk result (λ s. s.well ≡ true) }
+    ensures stops { IfErr result IsMemory }
+{
+    let text = answer_text(alloc, answer(certified, position))?;
+    Ok(Said::done(text))
+}
+
+/// What is said in the position by what was found.
+fn said_in(
+    alloc: Global,
+    quotient: Result<Certified, Vec<u8>>,
+    position: &Position,
+) -> Result<Said, Stop<'static>>
+    ensures plays { IfOk result (λ s. PlaysFound quotient position.now s.text.items s.well) }
+    ensures stops { IfErr result IsMemory }
+{
+    match quotient {
+        Ok(certified) => answered(alloc, &certified, position),
+        Err(no) => Ok(Said::no(no)),
+    }
+}
+
+/// Answers in the position by the quotient that the file certifies. The position is read first.
+pub fn play_command<'a, F: Folder>(
     alloc: Global,
     file: &'a str,
     position: &str,
     folder: &mut F,
-    out: &mut W,
-) -> Result<bool, Stop<'a>>
-    ensures plays { IfOk result (Plays (F.file folder.old) file.entry.now position.now (W.taken out.old) (W.taken out.new)) }
-    ensures stops { IfErr result (IsFileStop file.entry.now (IsNoPosition position.now) (W.failures out.old < W.failures out.new)) }
+) -> Result<Said, Stop<'a>>
+    ensures plays { IfOk result (λ s. Plays (F.files folder.old) file.entry.now position.now s.text.items s.well) }
+    ensures kept { F.files folder.new ≡ F.files folder.old }
+    ensures usage { IsErrOf result Stop.NotAPosition → folder.new ≡ folder.old }
+    ensures stops { IfErr result (IsPlayCause file.entry.now position.now (F.failed_reads folder.old) (F.failed_reads folder.new)) }
 {
     let position = position_of(alloc, position)?;
-    let Some(certified) = certified(alloc, file, folder, out)? else {
-        return Ok(false);
-    };
-    let text = answer_text(alloc, answer(&certified, &position))?;
-    write_whole(out, text.as_bytes())?;
-    Ok(true)
+    let found = certified(alloc, file, DEFAULT_LIMIT, folder)?;
+    match said_in(alloc, found.by_default(), &position) {
+        Ok(said) => Ok(said),
+        Err(_) => Err(Stop::Memory),
+    }
 }

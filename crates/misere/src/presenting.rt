@@ -1,15 +1,14 @@
 //! `present`: the monoid of a presentation.
 ghost use Rattle.std.specs.Prelude.{◌≡◌, ◌<◌, IfOk, IfErr, false};
-ghost use Rattle.std.specs.Io.KnownBytes.{Appends};
 ghost use Rattle.std.specs.String.{string_bytes};
-ghost use Rattle.misere.specs.Presented.{Presents, element_word, generator_word, generators_line, monoid_lines, row_line};
-ghost use Rattle.misere.specs.Stops.{IsOutputStop};
+ghost use Rattle.misere.specs.Presented.{Presents, PresentsTable, element_word, generator_word, generators_line, monoid_lines, row_line};
+ghost use Rattle.misere.specs.Stops.{IsMemory};
 
+use crate::said::Said;
 use crate::stop::Stop;
 use monoid_table::Table;
 use presentations::{Generator, Named, PresFault, Presentation, table_of};
 use std::alloc::{AllocError, Global};
-use streams::{Sink, write_whole};
 
 /// The most exponent vectors that are merged.
 const LIMIT: u32 = 65536;
@@ -69,39 +68,38 @@ fn monoid_text(alloc: Global, named: &Named) -> Result<String, AllocError>
     Ok(text)
 }
 
-/// Prints why there is no table.
-fn refuse<W: Sink>(line: &str, out: &mut W) -> Result<bool, Stop<'static>>
-    ensures printed { IfOk result (λ said. (said ≡ false) × Appends (W.taken out.old) (W.taken out.new) line.now) }
-    ensures stops { IfErr result (IsOutputStop (W.failures out.old < W.failures out.new)) }
+/// The line that says why there is no table.
+fn refuse(alloc: Global, line: &str) -> Result<Said, Stop<'static>>
+    ensures no { IfOk result (λ s. (s.text.items ≡ line.now) × (s.well ≡ false)) }
+    ensures stops { IfErr result IsMemory }
 {
-    write_whole(out, line.as_bytes())?;
-    Ok(false)
+    let text = line.as_bytes().to_vec(alloc)?;
+    Ok(Said::no(text))
 }
 
-/// Prints the monoid that the text presents, or why there is none.
-pub fn present_command<W: Sink>(
-    alloc: Global,
-    text: &str,
-    out: &mut W,
-) -> Result<bool, Stop<'static>>
-    ensures presents { IfOk result (Presents text.now (W.taken out.old) (W.taken out.new)) }
-    ensures stops { IfErr result (IsOutputStop (W.failures out.old < W.failures out.new)) }
+/// The monoid of the presentation.
+fn present_table(alloc: Global, presentation: &Presentation) -> Result<Said, Stop<'static>>
+    ensures presents { IfOk result (λ s. PresentsTable presentation.now s.text.items s.well) }
+    ensures stops { IfErr result IsMemory }
 {
-    let presentation = match Presentation::read(alloc, text.as_bytes()) {
-        Ok(presentation) => presentation,
-        Err(PresFault::Memory) => return Err(Stop::Memory),
-        Err(PresFault::Text) => return refuse("refused 1 Text\n", out),
-        Err(PresFault::Unbounded | PresFault::Limit) => unreachable!(),
-    };
-    match table_of(alloc, &presentation, LIMIT) {
-        Ok(named) => {
-            let text = monoid_text(alloc, &named)?;
-            write_whole(out, text.as_bytes())?;
-            Ok(true)
-        }
+    match table_of(alloc, presentation, LIMIT) {
+        Ok(named) => Ok(Said::done(monoid_text(alloc, &named)?)),
         Err(PresFault::Memory) => Err(Stop::Memory),
-        Err(PresFault::Unbounded) => refuse("refused 2 Unbounded\n", out),
-        Err(PresFault::Limit) => refuse("refused 3 Limit\n", out),
+        Err(PresFault::Unbounded) => refuse(alloc, "refused 2 Unbounded\n"),
+        Err(PresFault::Limit) => refuse(alloc, "refused 3 Limit\n"),
         Err(PresFault::Text) => unreachable!(),
+    }
+}
+
+/// The monoid that the text presents, or why there is none.
+pub fn present_command(alloc: Global, text: &str) -> Result<Said, Stop<'static>>
+    ensures presents { IfOk result (λ s. Presents text.now s.text.items s.well) }
+    ensures stops { IfErr result IsMemory }
+{
+    match Presentation::read(alloc, text.as_bytes()) {
+        Ok(presentation) => present_table(alloc, &presentation),
+        Err(PresFault::Memory) => Err(Stop::Memory),
+        Err(PresFault::Text) => refuse(alloc, "refused 1 Text\n"),
+        Err(PresFault::Unbounded | PresFault::Limit) => unreachable!(),
     }
 }

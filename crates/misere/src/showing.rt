@@ -1,20 +1,21 @@
 //! `show`: a certified quotient, line by line.
-ghost use Rattle.std.specs.Prelude.{◌≡◌, ◌<◌, ◌+◌, ℕ, List, IfOk, IfErr};
-ghost use Rattle.std.specs.Io.KnownBytes.{Appends};
+ghost use Rattle.std.specs.Prelude.{◌≡◌, ◌<◌, ◌+◌, IfOk, IfErr};
 ghost use Rattle.std.specs.String.{string_bytes};
 ghost use Rattle.misere_theory.specs.Certificates.{Accepted};
-ghost use Rattle.misere.specs.Runs.{Shows};
-ghost use Rattle.misere.specs.Shown.{AreElementLines, AreHeapLines, AreSpelled, PrintsQuotient, element_line, head_lines, heap_line, letter_of, tail_line};
-ghost use Rattle.misere.specs.Stops.{IsFileStop, IsOutputStop};
+ghost use Rattle.misere.specs.Says.{Shows, ShowsFound};
+ghost use Rattle.misere.specs.Shown.{AreElementLines, AreHeapLines, AreSpelled, IsQuotientText, element_line, head_lines, heap_line, letter_of, tail_line};
+ghost use Rattle.misere.specs.Stops.{IsFileCause, IsMemory};
 
 use crate::certifying::certified;
-use crate::folder::Folder;
+use crate::said::Said;
 use crate::stop::Stop;
 use allocation::Memory;
 use certificate::{Cert, in_ranges};
+use checker::Certified;
+use command_line::DEFAULT_LIMIT;
+use folders::Folder;
 use positions::Position;
 use std::alloc::{AllocError, Global};
-use streams::{Sink, write_whole};
 
 /// The position that the keys of an element spell: the heaps by which it is reached from 0.
 fn spelled(alloc: Global, cert: &Cert, element: u16) -> Result<Position, Memory>
@@ -58,18 +59,17 @@ fn element_text(
 }
 
 /// One line for each element, with its outcome and a position of that value.
-fn show_elements<W: Sink>(alloc: Global, cert: &Cert, out: &mut W) -> Result<(), Stop<'static>>
+fn elements_text(alloc: Global, cert: &Cert) -> Result<String, Memory>
     requires accepted { Accepted cert.now }
-    ensures shown { IfOk result (λ _. (text : List ℕ) × AreElementLines cert.now cert.now.order text × Appends (W.taken out.old) (W.taken out.new) text) }
-    ensures kept { IfOk result (λ _. W.failures out.new ≡ W.failures out.old) }
-    ensures stops { IfErr result (IsOutputStop (W.failures out.old < W.failures out.new)) }
+    ensures { IfOk result (λ t. AreElementLines cert.now cert.now.order (string_bytes t)) }
 {
+    let mut text = String::new(alloc);
     for element in 0..cert.order() {
         let position = spelled(alloc, cert, element)?.text()?;
         let line = element_text(alloc, element, letter(cert, element), position.as_str())?;
-        write_whole(out, line.as_bytes())?;
+        text.push_str(line.as_str())?;
     }
-    Ok(())
+    Ok(text)
 }
 
 fn heap_text(alloc: Global, heap: u64, element: u16) -> Result<String, AllocError>
@@ -80,16 +80,15 @@ fn heap_text(alloc: Global, heap: u64, element: u16) -> Result<String, AllocErro
 }
 
 /// One line for each heap before the elements repeat.
-fn show_heaps<W: Sink>(alloc: Global, cert: &Cert, out: &mut W) -> Result<(), Stop<'static>>
-    ensures shown { IfOk result (λ _. (text : List ℕ) × AreHeapLines cert.now (cert.now.start + cert.now.period) text × Appends (W.taken out.old) (W.taken out.new) text) }
-    ensures kept { IfOk result (λ _. W.failures out.new ≡ W.failures out.old) }
-    ensures stops { IfErr result (IsOutputStop (W.failures out.old < W.failures out.new)) }
+fn heaps_text(alloc: Global, cert: &Cert) -> Result<String, Memory>
+    ensures { IfOk result (λ t. AreHeapLines cert.now (cert.now.start + cert.now.period) (string_bytes t)) }
 {
+    let mut text = String::new(alloc);
     for heap in 1..cert.start() + cert.period() {
         let line = heap_text(alloc, heap, cert.phi().at(heap))?;
-        write_whole(out, line.as_bytes())?;
+        text.push_str(line.as_str())?;
     }
-    Ok(())
+    Ok(text)
 }
 
 fn head_text(alloc: Global, cert: &Cert) -> Result<String, Memory>
@@ -108,34 +107,42 @@ fn tail_text(alloc: Global, cert: &Cert) -> Result<String, Memory>
     Ok(text)
 }
 
-/// Prints the quotient of the certificate.
-fn show_quotient<W: Sink>(alloc: Global, cert: &Cert, out: &mut W) -> Result<(), Stop<'static>>
+/// The quotient of the certificate.
+fn quotient_text(alloc: Global, cert: &Cert) -> Result<String, Memory>
     requires accepted { Accepted cert.now }
-    ensures shown { IfOk result (λ _. PrintsQuotient cert.now (W.taken out.old) (W.taken out.new)) }
-    ensures stops { IfErr result (IsOutputStop (W.failures out.old < W.failures out.new)) }
+    ensures { IfOk result (λ t. IsQuotientText cert.now (string_bytes t)) }
 {
-    let head = head_text(alloc, cert)?;
-    write_whole(out, head.as_bytes())?;
-    show_elements(alloc, cert, out)?;
-    show_heaps(alloc, cert, out)?;
-    let tail = tail_text(alloc, cert)?;
-    write_whole(out, tail.as_bytes())?;
-    Ok(())
+    let mut text = head_text(alloc, cert)?;
+    text.push_str(elements_text(alloc, cert)?.as_str())?;
+    text.push_str(heaps_text(alloc, cert)?.as_str())?;
+    text.push_str(tail_text(alloc, cert)?.as_str())?;
+    Ok(text)
 }
 
-/// Prints the quotient that the file certifies.
-pub fn show_command<'a, F: Folder, W: Sink>(
+/// What is said of what was found.
+fn shown(alloc: Global, quotient: Result<Certified, Vec<u8>>) -> Result<Said, Stop<'static>>
+    ensures shows { IfOk result (λ s. ShowsFound quotient s.text.items s.well) }
+    ensures stops { IfErr result IsMemory }
+{
+    match quotient {
+        Ok(certified) => Ok(Said::done(quotient_text(alloc, certified.cert())?)),
+        Err(no) => Ok(Said::no(no)),
+    }
+}
+
+/// The quotient that the file certifies.
+pub fn show_command<'a, F: Folder>(
     alloc: Global,
     file: &'a str,
     folder: &mut F,
-    out: &mut W,
-) -> Result<bool, Stop<'a>>
-    ensures shows { IfOk result (Shows (F.file folder.old) file.entry.now (W.taken out.old) (W.taken out.new)) }
-    ensures stops { IfErr result (IsFileStop file.entry.now ⊥ (W.failures out.old < W.failures out.new)) }
+) -> Result<Said, Stop<'a>>
+    ensures shows { IfOk result (λ s. Shows (F.files folder.old) file.entry.now s.text.items s.well) }
+    ensures kept { F.files folder.new ≡ F.files folder.old }
+    ensures stops { IfErr result (IsFileCause file.entry.now (F.failed_reads folder.old) (F.failed_reads folder.new)) }
 {
-    let Some(certified) = certified(alloc, file, folder, out)? else {
-        return Ok(false);
-    };
-    show_quotient(alloc, certified.cert(), out)?;
-    Ok(true)
+    let found = certified(alloc, file, DEFAULT_LIMIT, folder)?;
+    match shown(alloc, found.by_default()) {
+        Ok(said) => Ok(said),
+        Err(_) => Err(Stop::Memory),
+    }
 }

@@ -1,57 +1,57 @@
-//! What ends a run before it is done.
-ghost use Rattle.std.specs.Prelude.{◌≡◌};
-ghost use Rattle.misere.specs.Stops.{IsFileStop, Tells, stop_line, stop_status};
-ghost use Rattle.misere.specs.declared.stop.Stop.TheVariants.{«Memory» as OutOfMemory, «Write» as NotWritten};
+//! What ends a run before anything is printed.
+ghost use Rattle.std.specs.Prelude.{◌≡◌, ◌≤◌};
+ghost use Rattle.misere.specs.Stops.{stop_line, stop_status};
+ghost use Rattle.misere.specs.Ends.{Tells, printer};
+ghost use Rattle.misere.specs.declared.stop.Stop.TheVariants.{«Memory» as OutOfMemory};
 
-use crate::folder::FileFault;
 use crate::telling::tell;
 use allocation::Memory;
 use std::alloc::AllocError;
-use streams::{DeviceFault, Sink};
+use streams::Sink;
 
 /// Why a run ends with another status than 0 or 1.
 #[derive(Clone, Copy, Debug, PartialEq, Eq)]
 pub enum Stop<'a> {
     /// The file or stream of this name could not be read.
     Read(&'a str),
-    /// Standard output could not be written.
+    /// Standard output or a file could not be written.
     Write,
     /// A growth was refused.
     Memory,
     /// A word is not a position.
     NotAPosition,
+    /// A word is not a code.
+    NotACode,
+    /// A word is not text.
+    NotUtf8,
+    /// The command isn't there yet.
+    Absent,
 }
 
-impl<'a> Stop<'a> {
-    /// Why the file of this name was not read.
-    pub fn of_file(name: &'a str, fault: FileFault) -> Stop<'a>
-        ensures { IsFileStop name.entry.now ⊥ ⊥ result }
-    {
-        match fault {
-            FileFault::Device => Stop::Read(name),
-            FileFault::Memory => Stop::Memory,
-        }
-    }
-
+impl Stop<'_> {
     /// The exit status.
     pub fn status(self) -> u8
-        ensures { result ≡ stop_status self.entry }
+        ensures status { result ≡ stop_status self.entry }
+        ensures late { 2 ≤ result }
     {
         match self {
-            Stop::NotAPosition => 2,
+            Stop::NotAPosition | Stop::NotACode | Stop::NotUtf8 | Stop::Absent => 2,
             Stop::Read(_) | Stop::Write | Stop::Memory => 3,
         }
     }
 
     /// Tells the reason on standard error.
     pub fn tell<E: Sink>(self, err: &mut E)
-        ensures { Tells (E.taken err.old) (E.taken err.new) (E.failures err.old) (E.failures err.new) (stop_line self.entry) }
+        ensures { Tells (printer (E.taken err.old) (E.failures err.old)) (printer (E.taken err.new) (E.failures err.new)) (stop_line self.entry) }
     {
         match self {
             Stop::Read(name) => tell(err, "misere: cannot read ", name, "\n"),
             Stop::Write => tell(err, "misere: cannot write\n", "", ""),
             Stop::Memory => tell(err, "misere: out of memory\n", "", ""),
             Stop::NotAPosition => tell(err, "misere: not a position\n", "", ""),
+            Stop::NotACode => tell(err, "misere: not a code\n", "", ""),
+            Stop::NotUtf8 => tell(err, "misere: a word isn't UTF-8\n", "", ""),
+            Stop::Absent => tell(err, "misere: not there yet\n", "", ""),
         }
     }
 }
@@ -69,13 +69,5 @@ impl From<Memory> for Stop<'_> {
 
     fn from(_: Memory) -> Self {
         Stop::Memory
-    }
-}
-
-impl From<DeviceFault> for Stop<'_> {
-    ghost from_gives = { λ _ stop. stop ≡ NotWritten };
-
-    fn from(_: DeviceFault) -> Self {
-        Stop::Write
     }
 }

@@ -1,7 +1,7 @@
 //! Lines on standard error. They take no memory.
 ghost use Rattle.std.specs.Prelude.{◌++◌};
 ghost use Rattle.streams.specs.Stream.{Counts, Puts};
-ghost use Rattle.misere.specs.Stops.{Tells};
+ghost use Rattle.misere.specs.Ends.{Tells, printer};
 
 use streams::{DeviceFault, Sink, write_whole};
 
@@ -17,7 +17,7 @@ fn put_pieces<E: Sink>(err: &mut E, front: &str, name: &str, back: &str) -> Resu
 
 /// Tells three pieces, one behind the other. Where the sink fails there is nobody left to tell.
 pub fn tell<E: Sink>(err: &mut E, front: &str, name: &str, back: &str)
-    ensures { Tells (E.taken err.old) (E.taken err.new) (E.failures err.old) (E.failures err.new) (front.now ++ (name.now ++ back.now)) }
+    ensures { Tells (printer (E.taken err.old) (E.failures err.old)) (printer (E.taken err.new) (E.failures err.new)) (front.now ++ (name.now ++ back.now)) }
 {
     let _ = put_pieces(err, front, name, back);
 }

@@ -3,9 +3,12 @@ mod certificates;
 mod fakes;
 mod games;
 
-use self::fakes::{Broken, Many, Shelf};
-use crate::folder::Folder;
+use self::certificates::CERTIFICATES;
+use self::fakes::{Broken, Many, Words, sample, samples};
+use crate::ending::words_of;
+use crate::stop::Stop;
 use crate::whole_run::run as run_whole;
+use folders::{FileFault, MemoryFolder};
 use std::alloc::{AllocError, Global};
 use std::test::Fail;
 use streams::{MemorySink, MemorySource, Source};
@@ -18,24 +21,27 @@ struct Ended {
     err: MemorySink,
 }
 
-/// Runs the words between the bars, behind the program's name.
-fn ran<S: Source>(alloc: Global, line: &str, input: &mut S) -> Result<Ended, AllocError> {
+/// Runs the words between the bars, behind the program's name, in the folder.
+fn ran_in<S: Source>(
+    alloc: Global,
+    line: &str,
+    folder: &mut MemoryFolder,
+    input: &mut S,
+) -> Result<Ended, AllocError> {
     let mut words = vec![in alloc; "misere"]?;
     for word in line.split('|') {
         words.push(word)?;
     }
     let mut out = MemorySink::new(alloc);
     let mut err = MemorySink::new(alloc);
-    let mut shelf = Shelf::new(alloc);
-    let status = run_whole(
-        alloc,
-        words.as_slice(),
-        &mut shelf,
-        input,
-        &mut out,
-        &mut err,
-    );
+    let status = run_whole(alloc, words.as_slice(), folder, input, &mut out, &mut err);
     Ok(Ended { status, out, err })
+}
+
+/// Runs the words where the samples lie. A second reading of a file would fail.
+fn ran<S: Source>(alloc: Global, line: &str, input: &mut S) -> Result<Ended, FileFault> {
+    let mut folder = samples(alloc, 2)?;
+    Ok(ran_in(alloc, line, &mut folder, input)?)
 }
 
 #[test]
@@ -56,6 +62,7 @@ fn answers_of_certificates(rt: HostRuntime) -> Result<(), Fail> {
             "yes 0.3 order 2 start 1 period 2\n",
         ),
         ("check|0.3.mqc|--limit|1", 1, "no 8 Limit\n"),
+        ("check|0.3.mqc|--limit|2", 1, "no 8 Limit\n"),
         ("check|law_rows_equal.mqc", 1, "no 2 Law\n"),
         ("check|word_of_unreached_element.mqc", 1, "no 3 Word\n"),
         ("check|word_with_right_predictions.mqc", 1, "no 3 Word\n"),
@@ -145,9 +152,26 @@ fn presents_monoids(rt: HostRuntime) -> Result<(), Fail> {
 }
 
 #[test]
+fn solves_codes(rt: HostRuntime) -> Result<(), Fail> {
+    let rows = [
+        ("solve|0.3", "0.3.mqc"),
+        ("solve|0.33", "0.33.mqc"),
+        ("solve|0.75", "0.75.mqc"),
+    ];
+    for (line, name) in rows {
+        let run = ran(rt.alloc(), line, &mut MemorySource::new(b""))?;
+        assert_eq!(rt; run.out.bytes(), sample(name)?, "of {line}");
+        assert_eq!(rt; run.err.bytes(), b"".as_slice(), "of {line}");
+        assert_eq!(rt; run.status, 0, "of {line}");
+    }
+    Ok(())
+}
+
+#[test]
 fn refuses_words(rt: HostRuntime) -> Result<(), Fail> {
     let rows = [
         ("play|nowhere.mqc|01", 2, "misere: not a position\n"),
+        ("solve|0.8", 2, "misere: not a code\n"),
         ("play|0.33.mqc|1  2", 2, "misere: not a position\n"),
         (
             "play|0.33.mqc|1000000000000000001",
@@ -194,14 +218,13 @@ fn refuses_words(rt: HostRuntime) -> Result<(), Fail> {
 
 #[test]
 fn reads_standard_input(rt: HostRuntime) -> Result<(), Fail> {
-    let mut shelf = Shelf::new(rt.alloc());
-    let bytes = shelf.read("0.3.mqc").or(Err("a sample"))?;
+    let bytes = sample("0.3.mqc")?;
     for n in 0..bytes.len() {
         let run = ran(rt.alloc(), "check", &mut MemorySource::new(&bytes[..n]))?;
         assert_eq!(rt; run.out.bytes(), b"no 1 Text\n".as_slice(), "of {n} bytes");
         assert_eq!(rt; run.status, 1, "of {n} bytes");
     }
-    let run = ran(rt.alloc(), "check", &mut MemorySource::new(&bytes))?;
+    let run = ran(rt.alloc(), "check", &mut MemorySource::new(bytes))?;
     assert_eq!(rt;
         run.out.bytes(),
         b"yes 0.3 order 2 start 1 period 2\n".as_slice()
@@ -226,14 +249,16 @@ fn meets_broken_devices(rt: HostRuntime) -> Result<(), Fail> {
     for words in [
         ["misere", "check", "0.3.mqc"],
         ["misere", "check", "--help"],
+        ["misere", "show", "0.33.mqc"],
+        ["misere", "present", "a=1"],
     ] {
         let mut err = MemorySink::new(alloc);
-        let (mut shelf, mut out) = (Shelf::new(alloc), Broken::new());
+        let (mut folder, mut out) = (samples(alloc, 0)?, Broken::new());
         let mut input = MemorySource::new(b"");
         let status = run_whole(
             alloc,
             words.as_slice(),
-            &mut shelf,
+            &mut folder,
             &mut input,
             &mut out,
             &mut err,
@@ -241,6 +266,75 @@ fn meets_broken_devices(rt: HostRuntime) -> Result<(), Fail> {
         assert_eq!(rt; err.bytes(), b"misere: cannot write\n".as_slice());
         assert_eq!(rt; status, 3);
     }
+    Ok(())
+}
+
+/// Runs the words in a folder of which the first call fails.
+fn ran_unread(alloc: Global, line: &str) -> Result<Ended, FileFault> {
+    let mut folder = samples(alloc, 1)?;
+    Ok(ran_in(alloc, line, &mut folder, &mut MemorySource::new(b""))?)
+}
+
+#[test]
+fn tells_files_that_fail(rt: HostRuntime) -> Result<(), Fail> {
+    for line in ["check|0.3.mqc", "show|0.3.mqc", "play|0.3.mqc|1"] {
+        let run = ran_unread(rt.alloc(), line)?;
+        assert_eq!(rt;
+            run.err.bytes(),
+            b"misere: cannot read 0.3.mqc\n".as_slice(),
+            "of {line}"
+        );
+        assert_eq!(rt; run.out.bytes(), b"".as_slice(), "of {line}");
+        assert_eq!(rt; run.status, 3, "of {line}");
+    }
+    Ok(())
+}
+
+/// Runs the words, and says whether the samples are as they were.
+fn keeps_samples(alloc: Global, line: &str) -> Result<bool, FileFault> {
+    let mut folder = samples(alloc, 0)?;
+    let _ = ran_in(alloc, line, &mut folder, &mut MemorySource::new(b""))?;
+    let mut kept = true;
+    for (name, text) in CERTIFICATES {
+        kept = kept && folder.bytes(name).unwrap_or(b"") == text.as_bytes();
+    }
+    Ok(kept)
+}
+
+#[test]
+fn leaves_files_alone(rt: HostRuntime) -> Result<(), Fail> {
+    let lines = [
+        "check|0.3.mqc",
+        "check|text_crlf.mqc",
+        "show|0.33.mqc",
+        "play|0.33.mqc|1",
+        "present|a=1",
+        "bogus",
+    ];
+    for line in lines {
+        assert!(rt; keeps_samples(rt.alloc(), line)?, "of {line}");
+    }
+    Ok(())
+}
+
+#[test]
+fn refuses_words_that_are_no_text(rt: HostRuntime) -> Result<(), Fail> {
+    let alloc = rt.alloc();
+    let words = [
+        b"misere".as_slice(),
+        b"check".as_slice(),
+        b"\xff".as_slice(),
+    ];
+    let given = words_of(&Words {
+        alloc,
+        words: &words,
+    });
+    assert!(rt; matches!(given, Err(Stop::NotUtf8)));
+    let given = words_of(&Words {
+        alloc,
+        words: &words[..2],
+    })?;
+    assert_eq!(rt; given.len(), 2);
     Ok(())
 }
 
@@ -260,7 +354,8 @@ fn tells_usage(rt: HostRuntime) -> Result<(), Fail> {
     }
     for line in ["--help", "help", "check|--help"] {
         let run = ran(rt.alloc(), line, &mut MemorySource::new(b""))?;
-        assert!(rt; run.out.bytes().starts_with(b"Usage"), "of {line}");
+        let text = str::from_utf8(run.out.bytes())?;
+        assert!(rt; text.contains("Usage: misere"), "of {line}");
         assert_eq!(rt; run.err.bytes(), b"".as_slice(), "of {line}");
         assert_eq!(rt; run.status, 0, "of {line}");
     }

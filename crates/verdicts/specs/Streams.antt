@@ -1,7 +1,9 @@
 -- What a check from stream to stream does to both. This project's own.
-use Rattle.std.specs.Prelude.{◌≡◌, ◌≤◌, ◌<◌, ⊤, ℕ, List, Option, Some, None, Bool, length}
+use Rattle.std.specs.Prelude.{◌≡◌, ◌≤◌, ◌<◌, ⊤, ℕ, List, Option, Some, None, Result, Ok, Err, Bool, length}
 use Rattle.std.specs.Io.KnownBytes.{Appends, Consumes}
 use Rattle.streams.specs.Stream.{AppendsSome}
+use Rattle.streams.specs.declared.fault.StreamFault.{StreamFault}
+use Rattle.streams.specs.declared.fault.StreamFault.TheVariants.{Read, Write, Memory}
 use Rattle.checker.specs.Answers.{Answer, IsTrueOf}
 use Rattle.checker.specs.Answers.Answer.{Text}
 use Rattle.verdicts.specs.Lines.{IsTextOf, is_yes}
@@ -10,6 +12,13 @@ use Rattle.verdicts.specs.Lines.{IsTextOf, is_yes}
 abbrev pub AreKnownAs : Option (List ℕ) → List ℕ → Type 0
 AreKnownAs None bytes = ⊤
 AreKnownAs (Some left) bytes = left ≡ bytes
+
+-- the source's failures rise where the call ends with Read, and stay where it does not
+abbrev pub CountsReads : {T : Type 0} → ℕ → ℕ → Result T StreamFault → Type 0
+CountsReads before now (Ok x) = now ≡ before
+CountsReads before now (Err Read) = before < now
+CountsReads before now (Err Write) = now ≡ before
+CountsReads before now (Err Memory) = now ≡ before
 
 -- Of the stream at most 4194305 bytes were read.
 abbrev pub ReadsEnough : Option (List ℕ) → Option (List ℕ) → Type 0

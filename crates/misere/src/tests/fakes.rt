@@ -1,43 +1,31 @@
-//! A shelf of files in memory, and streams that fail or are long.
+//! Files in memory, and streams that fail or are long.
 ghost use Rattle.std.specs.Prelude.{None};
 
 use super::certificates::CERTIFICATES;
-use crate::folder::{FileFault, Folder};
+use allocation::Memory;
+use folders::MemoryFolder;
 use std::alloc::Global;
+use std::env::FillError;
+use std::rt::Env;
 use streams::{DeviceFault, Failures, Sink, Source};
 
-/// The sample certificates by their names. Nothing can be written.
-#[derive(Drop)]
-pub struct Shelf {
-    alloc: Global,
-}
-
-impl Shelf {
-    pub fn new(alloc: Global) -> Shelf {
-        Shelf { alloc }
-    }
-}
-
-impl Folder for Shelf {
-    ghost file = { λ _ _. None };
-
-    fn read(&mut self, name: &str) -> Result<Vec<u8>, FileFault> {
-        for (kept, text) in CERTIFICATES {
-            if kept == name {
-                return text
-                    .as_bytes()
-                    .to_vec(self.alloc)
-                    .map_err(|_| FileFault::Memory);
-            }
+/// The bytes of a sample certificate.
+pub fn sample(name: &str) -> Result<&'static [u8], &'static str> {
+    for (kept, text) in CERTIFICATES {
+        if kept == name {
+            return Ok(text.as_bytes());
         }
-        Err(FileFault::Device)
     }
+    Err("no such sample")
+}
 
-    fn write(&mut self, name: &str, bytes: &[u8]) -> Result<(), FileFault> {
-        let _ = name;
-        let _ = bytes;
-        Err(FileFault::Device)
+/// A folder of the sample certificates, of which one call fails.
+pub fn samples(alloc: Global, failing: u64) -> Result<MemoryFolder, Memory> {
+    let mut folder = MemoryFolder::failing(alloc, failing);
+    for (name, text) in CERTIFICATES {
+        folder.put(name, text.as_bytes())?;
     }
+    Ok(folder)
 }
 
 /// A device that always fails.
@@ -93,5 +81,43 @@ impl Source for Many {
         let n = self.left.min(buf.len());
         self.left -= n;
         Ok(n)
+    }
+}
+
+/// Words of a machine, which may be no text.
+#[derive(Drop)]
+pub struct Words<'a> {
+    pub alloc: Global,
+    pub words: &'a [&'a [u8]],
+}
+
+impl Alloc for Words<'_> {
+    type A = Global;
+
+    fn alloc(&self) -> Global {
+        self.alloc
+    }
+}
+
+impl Env for Words<'_> {
+    fn arg(&self, i: usize, buf: &mut [u8]) -> Result<usize, FillError> {
+        let word = self.words.get(i).copied().ok_or(FillError::NotPresent)?;
+        if word.len() > buf.len() {
+            return Err(FillError::TooLong);
+        }
+        buf[..word.len()].copy_from_slice(word);
+        Ok(word.len())
+    }
+
+    fn var(&self, name: &str, buf: &mut [u8]) -> Result<usize, FillError> {
+        let _ = name;
+        let _ = buf;
+        Err(FillError::NotPresent)
+    }
+
+    fn var_at(&self, i: usize, buf: &mut [u8]) -> Result<usize, FillError> {
+        let _ = i;
+        let _ = buf;
+        Err(FillError::NotPresent)
     }
 }

@@ -1,7 +1,6 @@
 //! Certificates against their games, by loops of their own.
-use super::fakes::Shelf;
+use super::fakes::sample;
 use super::ran;
-use crate::folder::Folder;
 use certificate::{Cert, read};
 use outcome_search::{Outcome, outcome};
 use positions::{LARGEST, Left, Position, options};
@@ -81,8 +80,7 @@ fn position_of(alloc: Global, heaps: &[u64]) -> Result<Position, Fail> {
 fn searches_agree_with_values(rt: HostRuntime) -> Result<(), Fail> {
     let alloc = rt.alloc();
     for name in ["0.3.mqc", "0.33.mqc", "0.75.mqc", "0.1.mqc"] {
-        let bytes = Shelf::new(alloc).read(name).or(Err("a sample"))?;
-        let cert = read(alloc, &bytes)?;
+        let cert = read(alloc, sample(name)?)?;
         let mut heaps = Vec::new(alloc);
         let mut count = 0;
         for nth in 1..10000 {
@@ -119,8 +117,7 @@ fn refuting_positions_refute(rt: HostRuntime) -> Result<(), Fail> {
         let place = lines.next().ok_or("a second line")?;
         let place = place.strip_prefix("rule fails at ").ok_or("a place")?;
         let position = Position::read(alloc, place.as_bytes())?;
-        let bytes = Shelf::new(alloc).read(name).or(Err("a sample"))?;
-        let cert = read(alloc, &bytes)?;
+        let cert = read(alloc, sample(name)?)?;
         assert!(rt; rule_fails(&cert, position.heaps()), "{name}");
         let third = lines.next().ok_or("a third line")?;
         assert!(rt; third == "outcome P" || third == "outcome N", "{name}");

@@ -1,34 +1,39 @@
-use Rattle.std.proofs.Common.{Bool, Bor, ◌<◌, ◌∙◌, ℕ, List, map, subst, sym}
-use Rattle.clap.specs.Words.{subcommand_of}
-use Rattle.command_line.specs.Program.{program}
-use Rattle.misere.specs.Runs.{Does}
-use Rattle.misere.specs.Stops.{Tells}
-use Rattle.misere.proofs.Asked.{done_as_asked, in_vain, stops_as_told}
+use Rattle.std.proofs.Common.{rules, refl, arith, Bor, ℕ, List, map}
+use Rattle.command_line.specs.Plans.{request_of}
+use Rattle.command_line.specs.declared.faults.UsageFault.TheVariants.{Help, Words, Number, Exclusive, Incomplete}
+use Rattle.misere.specs.Ends.Ends.{Asked, Helped, Refused}
+use Rattle.misere.proofs.Outcomes.{known_as, no_request}
 use Rattle.misere.proofs.whole_run.run_words.Goals as goal
 
-pub returns-in-Ok-true-clause-done : goal.returns-in-Ok-true-clause-done
-returns-in-Ok-true-clause-done g c = λ ended plan asked.
-    let input = g.S.Source.left c.args.input.now in let files = g.F.Folder.file c.args.folder.now in
-    let before = g.W.Sink.taken c.args.out.now in let after = g.W.Sink.taken c.carry_out.new.out in
-    done_as_asked (subcommand_of program (map (λ (w : Bor (List ℕ)). w.now) c.args.words.now)) c.in-Ok.plan plan c.in-Ok.ensures.asked.1 asked.1
-    input files before after _ (subst (λ (b : Bool). Does input files c.in-Ok.plan before after b) c.in-Ok-true.field-0-test c.in-Ok-true.ensures.done)
+pub returns-in-Ok-clause-ends : goal.returns-in-Ok-clause-ends
+returns-in-Ok-clause-ends g c = Asked (request_of c.in-Ok.plan) c.in-Ok.ensures.asked c.run_plan.ensures.obeys
 
-pub returns-in-Ok-false-clause-done : goal.returns-in-Ok-false-clause-done
-returns-in-Ok-false-clause-done g c = λ ended plan asked.
-    let input = g.S.Source.left c.args.input.now in let files = g.F.Folder.file c.args.folder.now in
-    let before = g.W.Sink.taken c.args.out.now in let after = g.W.Sink.taken c.carry_out.new.out in
-    done_as_asked (subcommand_of program (map (λ (w : Bor (List ℕ)). w.now) c.args.words.now)) c.in-Ok.plan plan c.in-Ok.ensures.asked.1 asked.1
-    input files before after _ (subst (λ (b : Bool). Does input files c.in-Ok.plan before after b) c.in-Ok-false.field-0-test c.in-Ok-false.ensures.done)
+pub returns-in-Err-Help-clause-ends : goal.returns-in-Err-Help-clause-ends
+returns-in-Err-Help-clause-ends g c =
+    Helped (known_as (map (λ (w : Bor (List ℕ)). w.now) c.args.words.now) c.in-Err-Help.field-0 (Help c.in-Err-Help.text) c.in-Err-Help.field-0-is c.in-Err-Help.ensures.fault)
+    (no_request (map (λ (w : Bor (List ℕ)). w.now) c.args.words.now) c.in-Err-Help.field-0 (Help c.in-Err-Help.text) c.in-Err-Help.field-0-is (λ e. omega (arith, e)) c.in-Err-Help.ensures.nothing)
+    c.as_bytes.result.now refl c.print.ensures.printed
 
-pub returns-in-Err-carry_out-clause-usage : goal.returns-in-Err-carry_out-clause-usage
-returns-in-Err-carry_out-clause-usage g c = λ is.
-    in_vain (map (λ (w : Bor (List ℕ)). w.now) c.args.words.now)
-    (g.S.Source.failures c.args.input.now < g.S.Source.failures c.carry_out.new.input) (g.W.Sink.failures c.args.out.now < g.W.Sink.failures c.carry_out.new.out)
-    c.in-Ok.plan c.in-Err-carry_out.stop c.in-Ok.ensures.asked c.in-Err-carry_out.ensures.stops (sym c.status.ensures ∙ is)
+pub returns-in-Err-Words-clause-ends : goal.returns-in-Err-Words-clause-ends
+returns-in-Err-Words-clause-ends g c =
+    Refused (Words c.in-Err-Words.text) refl (known_as (map (λ (w : Bor (List ℕ)). w.now) c.args.words.now) c.in-Err-Words.field-0 (Words c.in-Err-Words.text) c.in-Err-Words.field-0-is c.in-Err-Words.ensures.fault)
+    (no_request (map (λ (w : Bor (List ℕ)). w.now) c.args.words.now) c.in-Err-Words.field-0 (Words c.in-Err-Words.text) c.in-Err-Words.field-0-is (λ e. omega (arith, e)) c.in-Err-Words.ensures.nothing)
+    refl (search rules, refl, search rules)
 
-pub returns-in-Err-carry_out-clause-stops : goal.returns-in-Err-carry_out-clause-stops
-returns-in-Err-carry_out-clause-stops g c = λ is.
-    stops_as_told (map (λ (w : Bor (List ℕ)). w.now) c.args.words.now)
-    (g.S.Source.failures c.args.input.now < g.S.Source.failures c.carry_out.new.input) (g.W.Sink.failures c.args.out.now < g.W.Sink.failures c.carry_out.new.out)
-    (Tells (g.E.Sink.taken c.args.err.now) (g.E.Sink.taken c.tell.new.err) (g.E.Sink.failures c.args.err.now) (g.E.Sink.failures c.tell.new.err))
-    c.in-Ok.plan c.in-Err-carry_out.stop c.in-Ok.ensures.asked c.in-Err-carry_out.ensures.stops (sym c.status.ensures ∙ is) c.tell.ensures
+pub returns-in-Err-Number-clause-ends : goal.returns-in-Err-Number-clause-ends
+returns-in-Err-Number-clause-ends g c =
+    Refused (Number c.in-Err-Number.quantity) refl (known_as (map (λ (w : Bor (List ℕ)). w.now) c.args.words.now) c.in-Err-Number.field-0 (Number c.in-Err-Number.quantity) c.in-Err-Number.field-0-is c.in-Err-Number.ensures.fault)
+    (no_request (map (λ (w : Bor (List ℕ)). w.now) c.args.words.now) c.in-Err-Number.field-0 (Number c.in-Err-Number.quantity) c.in-Err-Number.field-0-is (λ e. omega (arith, e)) c.in-Err-Number.ensures.nothing)
+    refl (search rules, refl, search rules)
+
+pub returns-in-Err-Exclusive-clause-ends : goal.returns-in-Err-Exclusive-clause-ends
+returns-in-Err-Exclusive-clause-ends g c =
+    Refused Exclusive refl (known_as (map (λ (w : Bor (List ℕ)). w.now) c.args.words.now) c.in-Err-Exclusive.field-0 Exclusive c.in-Err-Exclusive.field-0-is c.in-Err-Exclusive.ensures.fault)
+    (no_request (map (λ (w : Bor (List ℕ)). w.now) c.args.words.now) c.in-Err-Exclusive.field-0 Exclusive c.in-Err-Exclusive.field-0-is (λ e. omega (arith, e)) c.in-Err-Exclusive.ensures.nothing)
+    refl (search rules, refl, search rules)
+
+pub returns-in-Err-Incomplete-clause-ends : goal.returns-in-Err-Incomplete-clause-ends
+returns-in-Err-Incomplete-clause-ends g c =
+    Refused Incomplete refl (known_as (map (λ (w : Bor (List ℕ)). w.now) c.args.words.now) c.in-Err-Incomplete.field-0 Incomplete c.in-Err-Incomplete.field-0-is c.in-Err-Incomplete.ensures.fault)
+    (no_request (map (λ (w : Bor (List ℕ)). w.now) c.args.words.now) c.in-Err-Incomplete.field-0 Incomplete c.in-Err-Incomplete.field-0-is (λ e. omega (arith, e)) c.in-Err-Incomplete.ensures.nothing)
+    refl (search rules, refl, search rules)
