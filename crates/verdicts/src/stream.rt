@@ -3,7 +3,7 @@ ghost use Rattle.std.specs.Prelude.{◌≡◌, ◌<◌, ◌⊎◌, IfOk, IfErr, 
 ghost use Rattle.std.specs.String.{string_bytes};
 ghost use Rattle.streams.specs.Stream.{Puts};
 ghost use Rattle.verdicts.specs.Lines.{is_yes};
-ghost use Rattle.verdicts.specs.Streams.{Answers, ReadsEnough, Writes, WritesSome, WritesOfStream, WritesSomeOfStream};
+ghost use Rattle.verdicts.specs.Streams.{Answers, CountsReads, ReadsEnough, Writes, WritesSome, WritesOfStream, WritesSomeOfStream};
 
 use crate::lines::verdict_text;
 use allocation::{Memory, Room};
@@ -60,7 +60,7 @@ pub fn check_bytes<W: Sink, A: Room + Copy>(
 /// Reads the source to its end, writes the text of the verdict on all bytes that it had left, and answers whether that is yes.
 ///
 /// Of a source with more than [`MOST_BYTES`] bytes one more is read, and it is no certificate. Nothing is written before the
-/// end was reached: not after a failure of the source or want of memory, which is answered only where the source didn't fail. After a failure of the sink a beginning of the text
+/// end was reached: not after a failure of the source or want of memory. After a failure of the sink a beginning of the text
 /// was written.
 pub fn check_stream<R: Source, W: Sink, A: Room + Copy>(
     alloc: A,
@@ -72,8 +72,7 @@ pub fn check_stream<R: Source, W: Sink, A: Room + Copy>(
     ensures ok { IfOk result (WritesOfStream (R.left source.old) limit (W.taken sink.old) (W.taken sink.new)) }
     ensures write { IsErrOf result StreamFault.Write → WritesSomeOfStream (R.left source.old) limit (W.taken sink.old) (W.taken sink.new) }
     ensures write_cause { IsErrOf result StreamFault.Write → W.failures sink.old < W.failures sink.new }
-    ensures read_cause { IsErrOf result StreamFault.Read → R.failures source.old < R.failures source.new }
-    ensures memory_cause { IsErrOf result StreamFault.Memory → R.failures source.new ≡ R.failures source.old }
+    ensures read_cause { CountsReads (R.failures source.old) (R.failures source.new) result }
     ensures unwritten { IsErrOf result StreamFault.Read ⊎ IsErrOf result StreamFault.Memory → sink.new ≡ sink.old }
 {
     let bytes = read_whole(alloc, source, MOST_BYTES)?;
