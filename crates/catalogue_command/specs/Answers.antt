@@ -1,18 +1,20 @@
 -- What the actions answer to the bytes of a catalogue file: whether they end well, and what they print. This project's own.
-use Rattle.std.specs.Prelude.{◌≡◌, ◌⊎◌, ℕ, List, [], ◌∷◌, ◌++◌, Bool, true, false, Option, Some, None, Result, Ok, Err, Contains, codes, decimal}
+use Rattle.std.specs.Prelude.{◌≡◌, ◌⊎◌, ℕ, List, [], ◌∷◌, ◌++◌, Bool, true, false, Option, Some, None, Result, Ok, Err, Vec, Contains, codes, decimal}
 use Rattle.std.specs.List.{flat_map}
 use Rattle.std.specs.Io.KnownBytes.{Appends}
+use Rattle.std.specs.declared.alloc.Global.{Global}
 use Rattle.certificate_text.specs.Spelling.{lines, text}
 use Rattle.folders.specs.Files.{Holds, Replaces}
 use Rattle.misere_theory.specs.Certificates.{Certificate}
 use Rattle.catalogue.specs.Entries.{HasCode}
 use Rattle.catalogue.specs.Loads.{IsLoaded}
+use Rattle.catalogue.specs.Salvages.{IsSalvaged}
 use Rattle.catalogue.specs.declared.fault.LoadFault.{LoadFault}
 use Rattle.catalogue.specs.Texts.{catalogue_text}
 use Rattle.checker.specs.Answers.{Answer, IsTrueOf}
 use Rattle.checker.specs.Answers.Answer.{Yes, Text, Law, Word, Order, Period, Apart, Outcome, Limit, Memory}
 use Rattle.verdicts.specs.Lines.{IsTextOf}
-use Rattle.catalogue_command.specs.Lines.{added_line, entry_line, IsFaultLine}
+use Rattle.catalogue_command.specs.Lines.{added_line, entry_line, salvage_lines, IsFaultLine}
 
 -- the lines of all entries, well; or the line of the fault
 abbrev pub ListsAnswer : Result (List Certificate) LoadFault → Bool → List ℕ → Type 0
@@ -85,3 +87,16 @@ abbrev pub Adds : Bool → ℕ → Option (List ℕ → Option (List ℕ)) → O
 Adds fresh limit before after file certificate well old new =
     (answer : Result (List Certificate) LoadFault) × (printed : List ℕ) × Begins fresh limit before file answer
     × AddsAnswer limit before after file certificate answer well printed × Appends old new printed
+
+-- The file holds the text of the entries kept, and the faults and how many are kept are printed; or no file changes, and the line of the fault is printed.
+abbrev pub SalvagesAnswer : Option (List ℕ → Option (List ℕ)) → Option (List ℕ → Option (List ℕ)) → List ℕ → Result (List Certificate × Vec LoadFault Global) LoadFault
+    → Bool → List ℕ → Type 0
+SalvagesAnswer before after file (Ok kept) well printed =
+    (well ≡ true) × Replaces before after file (catalogue_text kept.0) × (printed ≡ salvage_lines kept.0 (kept.1).items)
+SalvagesAnswer before after file (Err fault) well printed = (well ≡ false) × (after ≡ before) × IsFaultLine fault printed
+
+-- the whole salvage: from the files before to those after, and what went out
+abbrev pub Salvages : ℕ → Option (List ℕ → Option (List ℕ)) → Option (List ℕ → Option (List ℕ)) → List ℕ → Bool → Option (List ℕ) → Option (List ℕ) → Type 0
+Salvages limit before after file well old new =
+    (bytes : List ℕ) × (answer : Result (List Certificate × Vec LoadFault Global) LoadFault) × (printed : List ℕ) × Holds before file bytes
+    × IsSalvaged bytes limit answer × SalvagesAnswer before after file answer well printed × Appends old new printed

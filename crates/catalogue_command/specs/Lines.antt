@@ -1,5 +1,6 @@
 -- The lines of a catalogue. This project's own.
-use Rattle.std.specs.Prelude.{◌≡◌, ℕ, List, [], ◌∷◌, ◌++◌, codes, decimal}
+use Rattle.std.specs.Prelude.{◌≡◌, ◌≢◌, ℕ, List, [], ◌∷◌, ◌++◌, codes, decimal, length}
+use Rattle.std.specs.List.{flat_map}
 use Rattle.octal_code.specs.Text.{code_text}
 use Rattle.misere_theory.specs.Certificates.{Certificate}
 use Rattle.checker.specs.Refusals.{refusal_number, refusal_name}
@@ -18,11 +19,19 @@ refused_entry i number name = codes "refused 3 Entry " ++ decimal i ++ codes " "
 abbrev pub added_line : List ℕ → List ℕ
 added_line code = codes "added " ++ code_text code ++ codes "\n"
 
--- the line of a fault; want of memory has none
+-- the line of a fault
+abbrev pub fault_line : LoadFault → List ℕ
+fault_line Json = codes "refused 1 Json\n"
+fault_line Shape = codes "refused 2 Shape\n"
+fault_line (Entry i refusal) = refused_entry i (refusal_number refusal) (refusal_name refusal)
+fault_line (Code i) = codes "refused 4 Code " ++ decimal i ++ codes "\n"
+fault_line (Twice i) = codes "refused 5 Twice " ++ decimal i ++ codes "\n"
+fault_line Memory = []
+
+-- the text is the line of the fault; want of memory has none
 abbrev pub IsFaultLine : LoadFault → List ℕ → Type 0
-IsFaultLine Json text = text ≡ codes "refused 1 Json\n"
-IsFaultLine Shape text = text ≡ codes "refused 2 Shape\n"
-IsFaultLine (Entry i refusal) text = text ≡ refused_entry i (refusal_number refusal) (refusal_name refusal)
-IsFaultLine (Code i) text = text ≡ codes "refused 4 Code " ++ decimal i ++ codes "\n"
-IsFaultLine (Twice i) text = text ≡ codes "refused 5 Twice " ++ decimal i ++ codes "\n"
-IsFaultLine Memory text = ⊥
+IsFaultLine fault text = (fault ≢ Memory) × (text ≡ fault_line fault)
+
+-- what is printed of a salvage: the line of each fault in their order, and how many entries are kept
+abbrev pub salvage_lines : List Certificate → List LoadFault → List ℕ
+salvage_lines cs faults = flat_map fault_line faults ++ codes "kept " ++ decimal (length cs) ++ codes "\n"

@@ -70,7 +70,7 @@ fn addition(
 }
 
 /// Puts the text of a catalogue in place of the file's.
-fn save<F: Folder>(
+pub(crate) fn save<F: Folder>(
     alloc: Global,
     folder: &mut F,
     file: &str,

@@ -2,10 +2,10 @@
 ghost use Rattle.std.specs.Prelude.{◌≡◌, IfOk, string_bytes};
 ghost use Rattle.std.specs.List.{flat_map};
 ghost use Rattle.verdicts.specs.Lines.{no_line};
-ghost use Rattle.catalogue_command.specs.Lines.{IsFaultLine, added_line, entry_line, refused_entry};
+ghost use Rattle.catalogue_command.specs.Lines.{IsFaultLine, added_line, entry_line, fault_line, refused_entry, salvage_lines};
 
 use allocation::Memory;
-use catalogue::LoadFault;
+use catalogue::{Catalogue, LoadFault};
 use certificate::Cert;
 use checker::Certified;
 use octal_code::Code;
@@ -67,6 +67,32 @@ pub(crate) fn fault_line(alloc: Global, fault: &LoadFault) -> Result<String, Mem
         LoadFault::Twice(place) => format!(in alloc; "refused 5 Twice {place}\n")?,
         LoadFault::Memory => return Err(Memory),
     };
+    Ok(text)
+}
+
+/// The lines of all faults.
+fn fault_lines(alloc: Global, faults: &[LoadFault]) -> Result<String, Memory>
+    ensures { IfOk result (λ t. string_bytes t ≡ flat_map fault_line faults.now) }
+{
+    let mut text = String::new(alloc);
+    for fault in faults {
+        let line = fault_line(alloc, fault)?;
+        text.push_str(line.as_str())?;
+    }
+    Ok(text)
+}
+
+/// The lines of a salvage: its faults, and how many entries are kept.
+pub(crate) fn salvage_lines(
+    alloc: Global,
+    catalogue: &Catalogue,
+    faults: &[LoadFault],
+) -> Result<String, Memory>
+    ensures { IfOk result (λ t. string_bytes t ≡ salvage_lines catalogue.now faults.now) }
+{
+    let faults = fault_lines(alloc, faults)?;
+    let kept = catalogue.entries().len();
+    let text = format!(in alloc; "{faults}kept {kept}\n")?;
     Ok(text)
 }
 

@@ -1,5 +1,5 @@
 //! Catalogue files in memory: what is printed, and what the files hold then.
-use crate::{CatalogueStop, add, create, get, list};
+use crate::{CatalogueStop, add, create, get, list, salvage};
 use allocation::Memory;
 use folders::MemoryFolder;
 use std::alloc::Global;
@@ -30,6 +30,10 @@ const ANOTHER_CODE: &str =
 
 const TWICE: &str =
     "{\"version\":1,\"entries\":[{\"code\":\"0.3\",\"certificate\":\"mqc 1\\ncode 0.3\\norder 2\\nstart 1\\nperiod 2\\nphi 1 0\\nportion 1\\nwords 0:1\\nrow 0 1\\nrow 1 0\\napart 0\\nend\\n\"},{\"code\":\"\\u0030.3\",\"certificate\":\"mqc 1\\ncode 0.3\\norder 2\\nstart 1\\nperiod 2\\nphi 1 0\\nportion 1\\nwords 0:1\\nrow 0 1\\nrow 1 0\\napart 0\\nend\\n\"}]}";
+
+/// The quotients of 0.3, 0.33 and 0.75; the last row of the second is wrong at its last product.
+const DAMAGED: &str =
+    "{\"entries\":[{\"certificate\":\"mqc 1\\ncode 0.3\\norder 2\\nstart 1\\nperiod 2\\nphi 1 0\\nportion 1\\nwords 0:1\\nrow 0 1\\nrow 1 0\\napart 0\\nend\\n\",\"code\":\"0.3\"},{\"certificate\":\"mqc 1\\ncode 0.33\\norder 6\\nstart 1\\nperiod 3\\nphi 1 2 0\\nportion 1 4\\nwords 0:1 0:2 1:2 2:2 3:2\\nrow 0 1 2 3 4 5\\nrow 1 0 3 2 5 4\\nrow 2 3 4 5 2 3\\nrow 3 2 5 4 3 2\\nrow 4 5 2 3 4 5\\nrow 5 4 3 2 5 5\\napart 0 1 1 0 4 0 0 4 0 2 0 1 0 1 0\\nend\\n\",\"code\":\"0.33\"},{\"certificate\":\"mqc 1\\ncode 0.75\\norder 8\\nstart 8\\nperiod 2\\nphi 1 2 1 2 3 2 3 2 4\\nportion 1 7\\nwords 0:1 0:2 0:5 0:9 1:2 1:5 1:9\\nrow 0 1 2 3 4 5 6 7\\nrow 1 0 5 6 7 2 3 4\\nrow 2 5 7 5 5 4 2 2\\nrow 3 6 5 7 7 2 4 4\\nrow 4 7 5 7 7 2 4 4\\nrow 5 2 4 2 2 7 5 5\\nrow 6 3 2 4 4 5 7 7\\nrow 7 4 2 4 4 5 7 7\\napart 0 1 1 3 1 1 0 0 0 0 0 0 4 2 1 2 2 0 1 3 3 0 1 1 0 5 0 0\\nend\\n\",\"code\":\"0.75\"}],\"version\":1}";
 
 /// Lists a file, and gives what is printed.
 fn listed(alloc: Global, held: &str) -> Result<(Result<bool, CatalogueStop>, MemorySink), Memory> {
@@ -133,5 +137,43 @@ fn keeps_the_file_where_a_call_fails(rt: HostRuntime) -> Result<(), Fail> {
         assert_eq!(rt; answer, ended, "at {number}");
         assert_eq!(rt; folder.bytes("x.json"), held, "at {number}");
     }
+    Ok(())
+}
+
+/// Salvages the file, and gives what is printed.
+fn salvaged(alloc: Global, folder: &mut MemoryFolder) -> (Result<bool, CatalogueStop>, MemorySink) {
+    let mut out = MemorySink::new(alloc);
+    let ended = salvage(alloc, folder, "x.json", LIMIT, &mut out);
+    (ended, out)
+}
+
+#[test]
+fn keeps_what_stands_of_a_damaged_file(rt: HostRuntime) -> Result<(), Fail> {
+    let mut folder = MemoryFolder::new(rt.alloc());
+    folder.put("x.json", DAMAGED.as_bytes())?;
+    let (ended, out) = salvaged(rt.alloc(), &mut folder);
+    assert_eq!(rt; ended, Ok(true));
+    assert_eq!(rt;
+        out.bytes(),
+        b"refused 3 Entry 2 no 2 Law\nkept 2\n".as_slice()
+    );
+    let mut out = MemorySink::new(rt.alloc());
+    let ended = list(rt.alloc(), &mut folder, "x.json", LIMIT, &mut out);
+    assert_eq!(rt; ended, Ok(true));
+    assert_eq!(rt;
+        out.bytes(),
+        b"0.3 order 2 start 1 period 2\n0.75 order 8 start 8 period 2\n".as_slice()
+    );
+    Ok(())
+}
+
+#[test]
+fn leaves_what_is_no_catalogue(rt: HostRuntime) -> Result<(), Fail> {
+    let mut folder = MemoryFolder::new(rt.alloc());
+    folder.put("x.json", b"[]".as_slice())?;
+    let (ended, out) = salvaged(rt.alloc(), &mut folder);
+    assert_eq!(rt; ended, Ok(false));
+    assert_eq!(rt; out.bytes(), b"refused 2 Shape\n".as_slice());
+    assert_eq!(rt; folder.bytes("x.json"), Some(b"[]".as_slice()));
     Ok(())
 }
