@@ -1,5 +1,5 @@
 -- How many turns there are to the end.
-use Rattle.std.proofs.Common.{◌≡◌, ℕ, zero, suc, ◌+◌, ◌-◌, ◌<◌, ◌≤◌, ◌↔◌, Bool, true, false, not, min, refl, sym, ap, subst, ◌∙◌, inl, inr, arith}
+use Rattle.std.proofs.Common.{◌≡◌, ℕ, zero, suc, ◌+◌, ◌-◌, ◌*◌, ◌<◌, ◌≤◌, ◌↔◌, Bool, true, false, not, min, refl, sym, ap, subst, ◌∙◌, inl, inr, arith}
 use Rattle.std.proofs.lemmas.Bool.Decides.{nat_tests}
 use native.Mathlib.Decide.{dec_lt}
 use Rattle.misere_theory.specs.Quotients.{LawFails}
@@ -238,6 +238,13 @@ module _ (g : Grid) where
       last = λ b. absurd (cc);
       broken = λ b. (omega arith, let e : passing g + 1 - 1 ≡ passing g = omega arith in ap holds e ∙ first-fails l);
     }
+
+    pub cost-some : 0 < table_cost g
+    cost-some =
+        let one = shaped.positive in
+        let square : 1 ≤ g.order * g.order = grind arith in
+        let cube : 1 ≤ g.order * g.order * g.order = grind arith in
+        omega arith
 
     pub cost-table : (passing g ≡ triples g.order) ↔ IsTable g.order g.entries
     cost-table = (

@@ -93,10 +93,11 @@ impl<A: Allocator> TableJob<A> {
         run.units
     }
 
-    /// Looks at the next `units` triples: true once all were looked at and every law held.
+    /// Looks at the next `units` triples, a unit each: true once all were looked at and every law held.
     ///
     /// Answers `Law` at the first triple where a law fails, and at every later call. What the job
-    /// holds and answers depends on the units spent in all, not on how they were cut.
+    /// holds and answers depends on the units spent in all, not on how they were cut. After the end
+    /// no unit is spent.
     pub fn work(&mut self, units: u64) -> Result<bool, LawFault>
         ensures state { self.new ≡ turns units self.old }
         ensures answer { result ≡ answer_of self.new }

@@ -25,6 +25,7 @@ pub fn turns_are_paid()
 /// What it takes to look at a table: a unit for each triple up to the first at which a law fails, or up to the last.
 pub fn tables_cost()
     ensures spent { (n : ℕ) (g : Grid) → (turns n (fresh g)).spent ≡ min n (table_cost g) }
+    ensures some { (g : Grid) → IsShaped g.order g.entries → 0 < table_cost g }
     ensures over { (n : ℕ) (g : Grid) → (is_over (turns n (fresh g)) ≡ true) ↔ (table_cost g ≤ n) }
     ensures refused { (n : ℕ) (g : Grid) → ((turns n (fresh g)).refused ≡ true) ↔ (passing g < min n (triples g.order)) }
     ensures first { (i : ℕ) (g : Grid) → i < passing g → triple_holds g.order g.entries i ≡ true }

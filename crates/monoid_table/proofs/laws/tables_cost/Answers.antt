@@ -1,4 +1,4 @@
-use Rattle.monoid_table.proofs.Costs.{cost-spent, cost-over, cost-refused, first-passes, first-fails, cost-table, cost-no-table}
+use Rattle.monoid_table.proofs.Costs.{cost-spent, cost-some, cost-over, cost-refused, first-passes, first-fails, cost-table, cost-no-table}
 use Rattle.monoid_table.proofs.laws.tables_cost.Goals as goal
 
 pub returns-clause-spent : goal.returns-clause-spent
@@ -21,3 +21,6 @@ returns-clause-table c = cost-table
 
 pub returns-clause-no_table : goal.returns-clause-no_table
 returns-clause-no_table c = cost-no-table
+
+pub returns-clause-some : goal.returns-clause-some
+returns-clause-some c = cost-some
