@@ -7,7 +7,7 @@ use Rattle.transition_algebra.specs.Pairs.{one, times, covers}
 use Rattle.pair_closure.specs.Turns.{State}
 use Rattle.pair_closure.specs.Turns as turning
 use Rattle.pair_closure.specs.Progress.{Progress, IsRun, begun, turns, turn, steps, step, stopped, moved, has_ended}
-use Rattle.pair_closure.specs.Calls.{Takes, IsRefused, Grows, IsLimited, ended, ended_or_kept, cost}
+use Rattle.pair_closure.specs.Calls.{Takes, IsRefused, Grows, IsLimited, ended, ended_or_kept, cost, retaken}
 use Rattle.pair_closure.proofs.Lists.{by_cond, either, not_both, true_or}
 use Rattle.pair_closure.proofs.Machine.{of_run, kept_by_turns}
 use Rattle.pair_closure.proofs.Running.{step_moves, step_stays, same_steps, stays_put, ends_within}
@@ -161,6 +161,16 @@ state_steps (suc n) p =
     by_cond (λ z. z.state ≡ turns (suc n) p.state) (has_ended q.state) q (moved q)
     (λ e. sym (stays_put q.state e) ∙ t ∙ ap (turning.turn one (times p.state.table) covers) (state_steps n p))
     (λ _. t ∙ ap (turning.turn one (times p.state.table) covers) (state_steps n p))
+
+-- what the turns from the beginning reach is what the code holds
+pub run_retaken : (p : Progress) → IsRun p → p ≡ retaken p
+run_retaken p r =
+    let first = begun p.state.table p.state.heaps p.state.limit in
+    let n : ℕ = p.spent in
+    let same : (steps n first).state ≡ p.state = state_steps n first ∙ sym r.reached in
+    let all : (steps n first).spent ≡ 0 + n = all_spent ended ended_ends first n (λ m l. ap has_ended (state_steps m first) ∙ r.going m l) in
+    let count : p.spent ≡ (steps n first).spent = omega arith in
+    ap (λ s. record { state = s; spent = p.spent; failed = p.failed }) (sym same) ∙ ap (λ k. record { state = (steps n first).state; spent = k; failed = p.failed }) count
 
 module _ (table : Grid) (heaps : List Pair) (limit : ℕ) where
   abbrev after : ℕ → Progress

@@ -1,9 +1,8 @@
 //! The closure: members ever kept, those held, and one product a turn.
 ghost use Rattle.std.specs.Prelude.{◌≡◌, ◌↔◌, ◌<◌, ◌≤◌, ◌+◌, ◌*◌, true, false, ℕ, length, All, Ok, IfOk, OnOk, OnErr, IsErr, slice_index_or};
 ghost use Rattle.transition_algebra.specs.Pairs.{IsPair, one};
-ghost use Rattle.pair_closure.specs.Progress.{SameData, begun, moved, step, steps, turns, stopped, is_done, is_over, has_ended, blank_held, KeepsEmpty, Multiplies, TriesHeap};
-ghost use Rattle.pair_closure.specs.Turns.{start};
-ghost use Rattle.pair_closure.specs.Calls.{Grows, IsLimited, ended, ended_or_kept};
+ghost use Rattle.pair_closure.specs.Progress.{SameData, begun, moved, step, steps, stopped, is_done, is_over, has_ended, blank_held, KeepsEmpty, Multiplies, TriesHeap};
+ghost use Rattle.pair_closure.specs.Calls.{Grows, IsLimited, ended, ended_or_kept, retaken};
 ghost use Rattle.pair_closure.specs.Keeping.{KeepsOne, GrowsToMember};
 ghost use Rattle.pair_closure.specs.Positions.{IsWordOf, Speaks, IsMinimal, IsClosedOver, IsExceeded};
 
@@ -235,11 +234,11 @@ impl<A: Room + Copy> Closure<A> {
         self.failed = true;
     }
 
-    /// What holds of every closure. Where it stands is a function of the turns that it took. For whatever claim the table
+    /// What holds of every closure. What it is follows from what it began with and its number of turns. For whatever claim the table
     /// and the pairs are those of, each member is exactly the pair of its word; the members ever kept differ, and none
     /// that is held covers another. They are as many as the limit at most, or one more, where it is over.
     pub fn speak(&self)
-        ensures run { self.now.state ≡ turns self.now.spent (start self.now.state.table self.now.state.heaps self.now.state.limit) }
+        ensures run { self.now ≡ retaken self.now }
         ensures limit { IsLimited self.now.state }
         ensures speaks { Speaks self.now.state }
         ensures minimal { IsMinimal self.now.state }
