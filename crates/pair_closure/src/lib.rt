@@ -15,7 +15,9 @@
 //! alone. Members that were given up stay in the chain too, since what they cover is covered by one that is held. No
 //! hash set numbers the members, since a product is looked up by covering and not by equality.
 //!
-//! A unit is a turn, and what a closure is after so many turns is one function of plain data, `specs/Turns.antt`.
+//! A unit is a turn, and what a closure is after so many turns is one function of plain data, `specs/Turns.antt`. A call
+//! takes a turn for each of its units until it has ended, `specs/Calls.antt`. So the number of its turns in all is said
+//! by the table, the pairs and the limit: at most the limit times the pairs, plus 2.
 #![tactic(auto)]
 
 mod closure;
@@ -30,6 +32,6 @@ mod tests;
 
 pub use closure::{Closure, Grown};
 pub use covering_all::done_closures_cover;
-pub use laws::{closures_end, closures_speak, units_add};
+pub use laws::{calls_decide, closures_cost, closures_end, closures_speak, units_add};
 pub use members::Member;
 pub use settle::{Generator, Held};

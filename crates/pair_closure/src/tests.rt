@@ -9,8 +9,8 @@ use ration::Ration;
 use std::test::Fail;
 use transition_algebra::{Pair, Phi, heap_pairs};
 
-/// The closure of 0.3 over its quotient, of two elements.
-fn three<A: Room + Copy>(alloc: A) -> Result<Option<Closure<A>>, Memory> {
+/// The closure of 0.3 over its quotient, of two elements, and seven heaps.
+fn three<A: Room + Copy>(alloc: A, limit: u32) -> Result<Option<Closure<A>>, Memory> {
     let mut rows = Vec::new(alloc);
     for x in [0, 1, 1, 0] {
         rows.push(x)?;
@@ -26,7 +26,7 @@ fn three<A: Room + Copy>(alloc: A) -> Result<Option<Closure<A>>, Memory> {
     if pairs.len() != 7 {
         return Ok(None);
     }
-    Ok(Some(Closure::new(alloc, table, pairs, 3)))
+    Ok(Some(Closure::new(alloc, table, pairs, limit)))
 }
 
 /// Whether a member is of this value, with this one value of options, or none.
@@ -41,7 +41,7 @@ fn is_pair(p: &Pair, value: u16, option: Option<u8>) -> bool {
 
 #[test]
 fn keeps_three_members(rt: HostRuntime) -> Result<(), Fail> {
-    let Some(mut closure) = three(rt.alloc())? else {
+    let Some(mut closure) = three(rt.alloc(), 3)? else {
         panic!(rt; "no closure");
     };
     let first = closure.grow(1)?;
@@ -65,7 +65,7 @@ fn keeps_three_members(rt: HostRuntime) -> Result<(), Fail> {
 
 #[test]
 fn stops_at_each_member(rt: HostRuntime) -> Result<(), Fail> {
-    let Some(mut closure) = three(rt.alloc())? else {
+    let Some(mut closure) = three(rt.alloc(), 3)? else {
         panic!(rt; "no closure");
     };
     // The empty position, the heap 1, and two heaps of 1.
@@ -82,10 +82,36 @@ fn stops_at_each_member(rt: HostRuntime) -> Result<(), Fail> {
     Ok(())
 }
 
+#[test]
+fn spends_alike_in_any_units(rt: HostRuntime) -> Result<(), Fail> {
+    // The empty position, the heap 1, two and three of it, and the heaps 2 to 7: ten turns, unless the limit comes first.
+    for (limit, end, ever, spent) in [
+        (3, Grown::Done, 3, 10),
+        (2, Grown::Over, 3, 3),
+        (1, Grown::Over, 2, 2),
+        (0, Grown::Over, 1, 1),
+    ] {
+        for units in [1, 7, u64::MAX] {
+            let Some(mut closure) = three(rt.alloc(), limit)? else {
+                panic!(rt; "no closure");
+            };
+            let mut grown = Grown::More;
+            for _call in 0..11 {
+                grown = closure.grow(units)?;
+            }
+            assert_eq!(rt;
+                (grown, closure.ever(), closure.spent()),
+                (end, ever, spent)
+            );
+        }
+    }
+    Ok(())
+}
+
 /// Whether the closure stopped for good at the call that was refused; `None` where no call was.
 fn stops(rt: &HostRuntime, refused: u64) -> Option<bool> {
     let ration = Ration::new(rt.alloc(), refused);
-    let Ok(Some(mut closure)) = three(&ration) else {
+    let Ok(Some(mut closure)) = three(&ration, 3) else {
         return Some(ration.has_refused());
     };
     let grown = closure.grow(1000);
