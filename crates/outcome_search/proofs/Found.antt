@@ -129,7 +129,7 @@ no_key Y (e ∷ es) h =
 abbrev pub Differ : List ℕ → List ℕ → Type 0
 Differ Y Z = IsPermutation Y Z → ⊥
 
-rising_differ : (Y Z : List ℕ) → IsNonDecreasing Y → IsNonDecreasing Z → Y ≢ Z → Differ Y Z
+pub rising_differ : (Y Z : List ℕ) → IsNonDecreasing Y → IsNonDecreasing Z → Y ≢ Z → Differ Y Z
 rising_differ Y Z up vp apart s = apart (rising_same Y Z up vp s)
 
 lighter_differ : (Y Z : List ℕ) → measure Y < measure Z → Differ Y Z

@@ -1,3 +1,5 @@
 pub mod Seen
 pub mod Sorted
 pub mod Found
+mod Heaps
+mod Listing

@@ -1,3 +1,4 @@
 pub mod Outcomes
 pub mod Settled
 pub mod Known
+pub mod Reached

@@ -4,7 +4,9 @@
 mod answer;
 mod look;
 mod memo;
+mod reach;
 mod search;
+mod settling;
 #[cfg(test)]
 mod tests;
 

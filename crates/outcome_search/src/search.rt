@@ -1,42 +1,24 @@
-ghost use Rattle.std.specs.Prelude.{◌≡◌, [], ◌∷◌, ◌++◌, IfOk, OnOk};
-ghost use Rattle.std.specs.List.Sorted.{IsNonDecreasing};
+ghost use Rattle.std.specs.Prelude.{◌≡◌, IfOk};
 ghost use Rattle.misere_theory.specs.Plays.{MoreReachableThan};
 ghost use Rattle.outcome_search.specs.Outcomes.{HasOutcome};
 ghost use Rattle.outcome_search.specs.Settled.{IsSettledBy};
 
 use crate::answer::{Outcome, SearchFault};
-use crate::look::look;
-use crate::memo::Memo;
-use allocation::{Memory, Room};
+use crate::reach::reaches_more;
+use crate::settling::settle;
+use allocation::Room;
 use octal_code::Code;
 use positions::Position;
 
-/// What waits at the start: the position alone.
-fn begun<A: Room + Copy>(alloc: A, position: &Position<A>) -> Result<Vec<Position<A>, A>, Memory>
-    ensures alone { IfOk result (λ w. w.items ≡ position.now ∷ []) }
-    ensures rising { IsNonDecreasing position.now }
-{
-    let mut waiting = Vec::new(alloc);
-    waiting.push(position.copied(alloc)?)?;
-    Ok(waiting)
-}
-
-/// A copy of the position waits behind the others.
-fn add<A: Room + Copy>(
-    alloc: A,
-    waiting: &mut Vec<Position<A>, A>,
-    next: &Position<A>,
-) -> Result<(), Memory>
-    ensures { OnOk result (waiting.new.items ≡ waiting.old.items ++ next.now ∷ []) }
-{
-    waiting.push(next.copied(alloc)?)?;
-    Ok(())
-}
+/// Through so many positions an outcome is searched before the positions are counted that can be reached.
+const FEW: u32 = 1024;
 
 /// The misère outcome of a position, found by a search through the positions that moves reach from it, which remembers the outcomes that it
 /// finds. It gives up only where more than `budget` positions can be reached, the position itself counted and those that differ by the order
 /// of heaps counted once, and it answers only where that many positions settle the answer: it remembers no more. The stack doesn't grow with
 /// the length of the plays.
+///
+/// Where a short search doesn't settle it, the positions are counted first: to give up costs no more than to list `budget` of them.
 pub fn outcome<A: Room + Copy>(
     alloc: A,
     code: &Code,
@@ -47,28 +29,14 @@ pub fn outcome<A: Room + Copy>(
     ensures within { IfOk result (λ outcome. IsSettledBy code.now position.now outcome budget) }
     ensures budget { result ≡ Err SearchFault.Budget → MoreReachableThan code.now position.now budget }
 {
-    if budget == 0 {
-        return Err(SearchFault::Budget);
-    }
-    let mut memo = Memo::new(alloc);
-    let mut next = Position::new(alloc);
-    let mut waiting = begun(alloc, position)?;
-    loop {
-        let last = waiting.len() - 1;
-        match look(code, &waiting[last], &memo, &mut next)? {
-            None => {
-                if memo.len() + waiting.len() >= budget as usize {
-                    return Err(SearchFault::Budget);
-                }
-                add(alloc, &mut waiting, &next)?;
-            }
-            Some(outcome) => {
-                let done = waiting.remove(last);
-                if last == 0 {
-                    return Ok(outcome);
-                }
-                memo.insert(done, outcome)?;
-            }
+    if budget > FEW {
+        match settle(alloc, code, position, FEW) {
+            Err(SearchFault::Budget) => {}
+            answer => return answer,
+        }
+        if reaches_more(alloc, code, position, budget)? {
+            return Err(SearchFault::Budget);
         }
     }
+    settle(alloc, code, position, budget)
 }

@@ -87,21 +87,35 @@ fn answers_or_says_memory(rt: HostRuntime) -> Result<(), Fail> {
     Ok(())
 }
 
-/// In 0.3 the plays from a heap of 1000 reach 1001 positions, one after another, and each is needed.
+/// In 0.3 the plays from a heap of n reach n + 1 positions, one after another, and each is needed.
 #[test]
 fn remembers_no_more_than_the_budget(rt: HostRuntime) -> Result<(), Fail> {
     let code = Code::read(b"0.3")?;
-    let long = Position::read(rt.alloc(), b"1000")?;
-    for (budget, wanted) in [
-        (500, Err(SearchFault::Budget)),
-        (1000, Err(SearchFault::Budget)),
-        (1001, Ok(Outcome::N)),
-    ] {
+    let budget = Err(SearchFault::Budget);
+    let rows: [(&[u8], u32, Result<Outcome, SearchFault>); 6] = [
+        (b"1000", 500, budget),
+        (b"1000", 1000, budget),
+        (b"1000", 1001, Ok(Outcome::N)),
+        (b"2000", 1500, budget),
+        (b"2000", 2000, budget),
+        (b"2000", 2001, Ok(Outcome::N)),
+    ];
+    for (heap, budget, wanted) in rows {
+        let long = Position::read(rt.alloc(), heap)?;
         assert!(rt;
             outcome(rt.alloc(), &code, &long, budget) == wanted,
             "{budget}"
         );
     }
+    Ok(())
+}
+
+/// Each of the two heaps has hundreds of splits, so that their splits make more positions than the budget allows.
+#[test]
+fn gives_up_soon(rt: HostRuntime) -> Result<(), Fail> {
+    let code = Code::read(b"0.7777777777777777")?;
+    let large = position(rt.alloc(), &[94, 416])?;
+    assert!(rt; outcome(rt.alloc(), &code, &large, 65536) == Err(SearchFault::Budget));
     Ok(())
 }
 

@@ -1,11 +1,11 @@
-use Rattle.std.proofs.Common.{◌≡◌, ◌-◌, ◌++◌, [], ◌∷◌, ◌∙◌, ℕ, List, ap, ap₂, sym, subst, arith, remove}
+use Rattle.std.proofs.Common.{◌≡◌, ◌-◌, ◌++◌, [], ◌∷◌, ◌∙◌, ℕ, List, ap, sym, subst, arith, remove}
 use Rattle.std.proofs.lemmas.List.{get_or_default}
 use Rattle.std.specs.Option.{MatchOption}
 use Rattle.outcome_search.specs.Known.{IsUnknown}
 use Rattle.outcome_search.specs.Settled.{Follows}
 use Rattle.misere_theory.specs.Plays.{MoreReachableThan}
 use Rattle.outcome_search.proofs.Found.{IsSearch, IsTop, started, opened, closed, over, itself_reached, settled, last_outcome}
-use Rattle.outcome_search.proofs.search.outcome.Goals as goal
+use Rattle.outcome_search.proofs.settling.settle.Goals as goal
 
 pub returns-then-budget-eq0-clause-budget : goal.returns-then-budget-eq0-clause-budget
 returns-then-budget-eq0-clause-budget g c = λ e. subst (λ n. MoreReachableThan c.args.code.now c.args.position.now n) (sym c.if-budget-eq0.true) (itself_reached c.args.code.now c.args.position.now)

@@ -1,6 +1,6 @@
 use Rattle.std.proofs.Common.{◌+◌, ◌*◌, ◌-◌, length}
 use Rattle.outcome_search.proofs.Found.{IsSearch}
-use Rattle.outcome_search.proofs.search.outcome.Given as goal
+use Rattle.outcome_search.proofs.settling.settle.Given as goal
 
 abbrev pub invariant-loop-waiting : goal.invariant-loop-waiting
 invariant-loop-waiting g l = IsSearch l.code l.position l.budget l.memo l.waiting.items
