@@ -1,6 +1,6 @@
 //! From where on, and after how many heaps, guessed elements may repeat.
-use crate::periods::{least_period, repeats_from};
 use allocation::Memory;
+use periods::{least_period, repeats_from};
 use std::alloc::Global;
 
 /// A start and a period.

@@ -1,6 +1,6 @@
 //! Proposers of certificates, and how their guesses are written.
 //!
-//! Nothing is promised of a draft: the checker decides. `least_period` is exact.
+//! Nothing is promised of a draft: the checker decides.
 #![tactic(auto)]
 
 mod candidates;
@@ -10,13 +10,11 @@ mod groups;
 mod guess;
 mod lines;
 mod numbering;
-mod periods;
 mod refiner;
 mod sample;
 mod sampler;
 mod words;
 
-pub use periods::least_period;
 pub use refiner::Refiner;
 pub use sampler::Sampler;
 

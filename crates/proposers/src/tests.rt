@@ -1,26 +1,11 @@
-//! Periods, drafts of the two proposers, and guesses of any numbers.
-use crate::{Sampler, least_period};
+//! What the sampler finds.
+use crate::Sampler;
 use certificate::write;
 use octal_code::Code;
 use quotient_finder::{Limits, Proposer, find};
 use std::alloc::Global;
 use std::test::Fail;
 use streams::MemorySink;
-
-#[test]
-fn periods_are_least(rt: HostRuntime) {
-    let rows: [(&[u16], Option<(usize, usize)>); 6] = [
-        (&[1, 2, 1, 2, 3, 2, 3, 2, 4, 2, 4, 2], Some((8, 2))),
-        (&[1, 2, 0, 1, 2, 0], Some((1, 3))),
-        (&[1, 2, 0, 1, 2], None),
-        (&[], None),
-        (&[7], None),
-        (&[7, 7], Some((1, 1))),
-    ];
-    for (row, (entries, found)) in rows.into_iter().enumerate() {
-        assert_eq!(rt; least_period(entries), found, "row {row}");
-    }
-}
 
 /// What the sampler finds for a code, alone.
 fn sampled(alloc: Global, code: &str, heaps: usize) -> Result<Vec<u8>, Fail> {

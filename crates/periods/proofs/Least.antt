@@ -1,7 +1,7 @@
 -- What a search through the periods, from 1 on, has shown.
 use Rattle.std.proofs.Common.{◌≡◌, ℕ, ◌+◌, ◌-◌, ◌*◌, ◌/◌, ◌<◌, ◌≤◌, inl, inr, subst, List, length, slice_index, arith}
 use Rattle.std.proofs.lemmas.Bool.{cases_lt}
-use Rattle.proposers.specs.Periods.{RepeatsFrom, IsPeriodic, IsLeastPeriod, HasNoPeriod}
+use Rattle.periods.specs.Periods.{RepeatsFrom, IsPeriodic, IsLeastPeriod, HasNoPeriod}
 
 -- no period below p serves
 abbrev pub NoneBelow : List ℕ → ℕ → Type 0

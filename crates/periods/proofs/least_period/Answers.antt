@@ -1,7 +1,7 @@
 use Rattle.std.proofs.Common.{◌≤◌, ◌+◌, ◌*◌, length, arith}
-use Rattle.proposers.specs.Periods.{IsPeriodic}
-use Rattle.proposers.proofs.Least.{found, none, none_here}
-use Rattle.proposers.proofs.periods.least_period.Goals as goal
+use Rattle.periods.specs.Periods.{IsPeriodic}
+use Rattle.periods.proofs.Least.{found, none, none_here}
+use Rattle.periods.proofs.least_period.Goals as goal
 
 pub returns-then-start-entries-clause-found : goal.returns-then-start-entries-clause-found
 returns-then-start-entries-clause-found c =

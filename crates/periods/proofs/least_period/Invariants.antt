@@ -1,5 +1,5 @@
-use Rattle.proposers.proofs.Least.{NoneBelow}
-use Rattle.proposers.proofs.periods.least_period.Given as goal
+use Rattle.periods.proofs.Least.{NoneBelow}
+use Rattle.periods.proofs.least_period.Given as goal
 
 -- no smaller period serves
 abbrev pub invariant-loop-period : goal.invariant-loop-period

@@ -1,5 +1,5 @@
 -- Periods of finite lists, as of the values of a pretending function that are known so far. This project's own.
-use Rattle.std.specs.Prelude.{◌≡◌, ℕ, ◌+◌, ◌*◌, ◌-◌, ◌≤◌, ◌<◌, List, length, slice_index}
+use Rattle.std.specs.Prelude.{◌≡◌, ℕ, ◌+◌, ◌*◌, ◌-◌, ◌≤◌, List, length, slice_index}
 
 -- the entry of this number, from 1
 abbrev pub entry : List ℕ → ℕ → ℕ

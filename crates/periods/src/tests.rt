@@ -1,0 +1,16 @@
+use crate::least_period;
+
+#[test]
+fn periods_are_least(rt: HostRuntime) {
+    let rows: [(&[u16], Option<(usize, usize)>); 6] = [
+        (&[1, 2, 1, 2, 3, 2, 3, 2, 4, 2, 4, 2], Some((8, 2))),
+        (&[1, 2, 0, 1, 2, 0], Some((1, 3))),
+        (&[1, 2, 0, 1, 2], None),
+        (&[], None),
+        (&[7], None),
+        (&[7, 7], Some((1, 1))),
+    ];
+    for (row, (entries, found)) in rows.into_iter().enumerate() {
+        assert_eq!(rt; least_period(entries), found, "row {row}");
+    }
+}
