@@ -116,9 +116,6 @@ holds-in-run q rows spent i some from before =
     placed : (p z spent i : ℕ) → p + z ≡ spent → spent ≤ i → p + (z + (i - spent)) ≡ i
     placed p z spent i e from = omega arith
 
-pub pair-in : (q spent : ℕ) → 0 < q → spent < triples q → (spent / q / q < q) × (spent / q % q < q) × (spent % q < q)
-pair-in q spent some below = (div_below (spent / q) q q some (div_below spent q (q * q) some below), mod_below (spent / q) q some, mod_below spent q some)
-
 -- what is left of the pair's triples is within all triples
 pub run-within : (q spent : ℕ) → 0 < q → spent < triples q → spent + (q - spent % q) ≤ triples q
 run-within q spent some below =

@@ -1,5 +1,5 @@
 -- How many turns all pairs take.
-use Rattle.std.proofs.Common.{◌≡◌, ℕ, zero, suc, ◌+◌, ◌-◌, ◌*◌, ◌/◌, ◌<◌, ◌≤◌, Bool, true, false, List, [], ◌∷◌, ◌++◌, length, min, refl, ◌∙◌, ap, arith}
+use Rattle.std.proofs.Common.{◌≡◌, ℕ, zero, suc, ◌+◌, ◌-◌, ◌*◌, ◌/◌, ◌<◌, ◌≤◌, ◌↔◌, Bool, true, false, List, [], ◌∷◌, ◌++◌, length, min, refl, ◌∙◌, ap, arith}
 use Rattle.std.specs.List.{sum_by, range_with_len}
 use Rattle.std.proofs.lemmas.List.{length-append}
 use Rattle.std.proofs.lemmas.List.Sums.{sum_by-cons}
@@ -15,7 +15,7 @@ use Rattle.transition_algebra.specs.Pretending.{Pretending, IsPretending}
 use Rattle.transition_algebra.specs.Heaps.{bound_of, largest_part}
 use Rattle.transition_algebra.specs.Work.{Trying, tries, opening, tried, turn, turns, heap_cost}
 use Rattle.transition_algebra.specs.declared.pair.Pair.{Pair}
-use Rattle.transition_algebra.proofs.Turning.{cost_of, left, left_going, left_over, turn_going, turn_over}
+use Rattle.transition_algebra.proofs.Turning.{cost_of, left, left_some, left_going, left_over, turn_going, turn_over}
 
 range_more : (a n m : ℕ) → n ≡ suc m → range_with_len a n ≡ a ∷ range_with_len (a + 1) m
 range_more a n m e = ap (range_with_len a) e
@@ -103,6 +103,18 @@ module _ (code : List ℕ) (table : Grid) (phi : Pretending) where
             let s = sum_none (cost_of code phi) 1 B (omega arith) in
             omega arith
       ]
+
+-- after so many turns no heap is left, and not before
+pub cost_turned : (code : List ℕ) (table : Grid) (phi : Pretending) (n : ℕ) → (bound_of code phi < (turns code table phi n (opening code phi)).heap) ↔ (heap_cost code phi ≤ n)
+cost_turned code table phi n =
+    let s = turns code table phi n (opening code phi) in
+    let e = left_after code table phi n in (
+      λ l. let o = left_over code table phi s l in omega arith,
+      λ l. elim (dec_le s.heap (bound_of code phi)) [
+        | yes h ↦ absurd (let o = left_some code table phi s h in omega arith)
+        | no h ↦ omega arith
+      ],
+    )
 
 where_short : (b : Bool) (xs : List Left) → length (where_holds b xs) ≤ length xs
 where_short true xs = omega arith

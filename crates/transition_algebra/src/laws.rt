@@ -1,5 +1,5 @@
 //! What the pairs of the heaps 1 to B say of all heaps, and when a job has made them.
-ghost use Rattle.std.specs.Prelude.{◌≡◌, ◌+◌, ◌*◌, ◌<◌, ◌≤◌, ℕ, List, length, slice_index_or, All};
+ghost use Rattle.std.specs.Prelude.{◌≡◌, ◌+◌, ◌*◌, ◌<◌, ◌≤◌, ◌↔◌, ℕ, List, length, slice_index_or, All};
 ghost use Rattle.misere_theory.specs.Games.{IsHeap, IsOctalCode};
 ghost use Rattle.misere_theory.specs.Quotients.{Claim};
 ghost use Rattle.monoid_table.specs.Grids.{Grid};
@@ -41,6 +41,7 @@ pub fn cuts_do_not_matter()
 /// A job is done after a unit for each option that is tried and one for each heap: B units at least, and (k + 1) B² at most,
 /// for a code whose last digit is dk.
 pub fn heap_jobs_end()
+    ensures turned { (code : List ℕ) (table : Grid) (phi : Pretending) (n : ℕ) → (bound_of code phi < (turns code table phi n (opening code phi)).heap) ↔ (heap_cost code phi ≤ n) }
     ensures least { (code : List ℕ) (phi : Pretending) → bound_of code phi ≤ heap_cost code phi }
     ensures cost { (code : List ℕ) (phi : Pretending)
         → IsOctalCode code → IsPretending phi
