@@ -10,7 +10,7 @@ use Rattle.pair_closure.specs.Progress.{Progress, IsRun, begun, turns, turn, ste
 use Rattle.pair_closure.specs.Calls.{Takes, IsRefused, Grows, IsLimited, ended, ended_or_kept, cost, retaken}
 use Rattle.pair_closure.proofs.Lists.{by_cond, either, not_both, true_or}
 use Rattle.pair_closure.proofs.Machine.{of_run, kept_by_turns}
-use Rattle.pair_closure.proofs.Running.{step_moves, step_stays, same_steps, stays_put, ends_within}
+use Rattle.pair_closure.proofs.Running.{step_moves, step_stays, same_steps, stays_put, same_after, ends_within}
 
 -- ---- the limit
 
@@ -223,3 +223,30 @@ module _ (table : Grid) (heaps : List Pair) (limit : ℕ) where
     λ e. elim (dec_lt units (cost table heaps limit)) [ yes l ↦ absurd (not_both e (going_before units l)) | no l ↦ omega arith ],
     λ l. (cost_after units l).1,
   )
+
+-- ---- a turn further
+
+pub retaken_on : (p : Progress) → p ≡ retaken p → has_ended p.state ≡ false → moved p ≡ retaken (moved p)
+retaken_on p e h =
+    let first = begun p.state.table p.state.heaps p.state.limit in
+    let q = steps p.spent first in
+    let t = turn p.state in
+    let s : p.state ≡ q.state = ap (λ z. z.state) e in
+    let c : p.spent ≡ q.spent = ap (λ z. z.spent) e in
+    let on : moved q ≡ step q = step_moves q (ap has_ended (sym s) ∙ h) in
+    let d = same_after p.state in
+    let same : begun t.table t.heaps t.limit ≡ first =
+    ap (λ z. begun z t.heaps t.limit) d.table ∙ ap (λ z. begun p.state.table z t.limit) d.heaps ∙ ap (λ z. begun p.state.table p.state.heaps z) d.limit in
+    let k : p.spent + 1 ≡ suc p.spent = omega arith in
+    let r : steps (p.spent + 1) (begun t.table t.heaps t.limit) ≡ moved q = ap (λ j. steps j (begun t.table t.heaps t.limit)) k ∙ ap (λ z. steps (suc p.spent) z) same ∙ sym on in
+    ap (λ z. record { state = turn z; spent = p.spent + 1; failed = p.failed }) s
+    ∙ ap (λ j. record { state = turn q.state; spent = j + 1; failed = p.failed }) c
+    ∙ sym (ap (λ z. record { state = z.state; spent = z.spent; failed = p.failed }) r)
+
+pub left_of : (p : Progress) → p ≡ retaken p → has_ended p.state ≡ false → p.spent < cost p.state.table p.state.heaps p.state.limit
+left_of p e h =
+    let s = ap (λ z. z.state) e in
+    elim (dec_lt p.spent (cost p.state.table p.state.heaps p.state.limit)) [
+      | yes l ↦ l
+      | no l ↦ absurd (not_both ((cost_ends p.state.table p.state.heaps p.state.limit p.spent).1 (omega arith)) (ap has_ended (sym s) ∙ h))
+    ]

@@ -1,12 +1,12 @@
 //! What holds of turns, however many.
-ghost use Rattle.std.specs.Prelude.{◌≡◌, ◌↔◌, ◌≤◌, ◌+◌, ◌*◌, Bool, true, ℕ, List, All, length};
+ghost use Rattle.std.specs.Prelude.{◌≡◌, ◌↔◌, ◌<◌, ◌≤◌, ◌+◌, ◌*◌, Bool, false, true, ℕ, List, All, length};
 ghost use Rattle.monoid_table.specs.Grids.{Grid};
 ghost use Rattle.monoid_table.specs.Tables.{IsTableGrid};
 ghost use Rattle.transition_algebra.specs.declared.pair.Pair as the_pair;
 ghost use Rattle.transition_algebra.specs.Pairs.{IsPair};
 ghost use Rattle.pair_closure.specs.Turns as turning;
-ghost use Rattle.pair_closure.specs.Progress.{Progress, begun, turns, steps, has_ended};
-ghost use Rattle.pair_closure.specs.Calls.{Takes, cost};
+ghost use Rattle.pair_closure.specs.Progress.{Progress, SameData, begun, moved, turns, steps, has_ended};
+ghost use Rattle.pair_closure.specs.Calls.{Takes, cost, retaken};
 ghost use Rattle.pair_closure.specs.Positions.{Speaks, IsMinimal};
 
 /// What turns from the start reach speaks of positions, whatever claim the table and the pairs are those of.
@@ -50,4 +50,13 @@ pub fn closures_cost()
         → cost table heaps limit ≤ units → (steps units (begun table heaps limit)).spent ≡ cost table heaps limit }
     ensures ends { (table : Grid) (heaps : List the_pair.Pair) (limit units : ℕ)
         → (has_ended (steps units (begun table heaps limit)).state ≡ true) ↔ (cost table heaps limit ≤ units) }
+{}
+
+/// A turn that is left leads from what a closure's turns have reached to what one more reaches, of the same table, pairs
+/// and limit. The turns before it are fewer than all.
+pub fn closures_go_on()
+    ensures on { (p : Progress) → p ≡ retaken p → has_ended p.state ≡ false → moved p ≡ retaken (moved p) }
+    ensures data { (p : Progress) → SameData p.state (moved p).state }
+    ensures left { (p : Progress) → p ≡ retaken p → has_ended p.state ≡ false
+        → p.spent < cost p.state.table p.state.heaps p.state.limit }
 {}

@@ -32,6 +32,8 @@ mod tests;
 
 pub use closure::{Closure, Grown};
 pub use covering_all::done_closures_cover;
-pub use laws::{calls_decide, closures_cost, closures_end, closures_speak, units_add};
+pub use laws::{
+    calls_decide, closures_cost, closures_end, closures_go_on, closures_speak, units_add,
+};
 pub use members::Member;
 pub use settle::{Generator, Held};
