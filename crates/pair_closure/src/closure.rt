@@ -24,7 +24,7 @@ pub enum Grown {
     More,
     /// The pairs held cover the pair of each position.
     Done,
-    /// More members were kept than the limit.
+    /// One member more than the limit was kept.
     Over,
 }
 
@@ -386,7 +386,8 @@ impl<A: Room + Copy> Closure<A> {
         &self.held[i].pair
     }
 
-    /// A position that has exactly the pair of a member held, counted from 0. `Memory` where its growth was refused.
+    /// The position that a member held stands for, counted from 0: the heaps whose product it is, rising. Its pair is
+    /// exactly the member's. `Memory` where its growth was refused.
     pub fn word(&self, i: usize) -> Result<Position<A>, Memory>
         requires { i < length self.now.state.held }
         ensures { IfOk result (IsWordOf self.now.state (slice_index_or self.now.state.held i blank_held)) }
