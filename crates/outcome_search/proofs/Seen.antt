@@ -17,9 +17,8 @@ use Rattle.misere_theory.proofs.Shuffles.{move_from_multiset, from_permutation, 
 use Rattle.positions.specs.Exact.{heaps_of}
 use Rattle.positions.specs.Options.{options_of}
 use Rattle.positions.specs.declared.left.Left.{Left}
-use Rattle.positions.proofs.Exact.{each}
 use Rattle.positions.proofs.Listed.{nothing_in, only_in, itself_in}
-use Rattle.positions.proofs.Permuted.{moved_to}
+use Rattle.outcome_search.proofs.Heaps.{move_from_place}
 use Rattle.outcome_search.specs.Outcomes.{HasOutcome}
 use Rattle.outcome_search.specs.Settled.{Lists, Follows}
 use Rattle.outcome_search.specs.Known.{known, AreMistakes, HasSeen}
@@ -65,24 +64,28 @@ move_at (There {n = n} {X = X} {X' = Y} m e) =
     let (i, l, (H, h, s)) = move_at m in
     (suc i, omega arith, (H, h, rw e (IsPermutation-trans (H ++ n ∷ remove X i) (n ∷ (H ++ remove X i)) (n ∷ Y) (IsPermutation-middle H n (remove X i)) (IsPermutation-cons n (H ++ remove X i) Y s))))
 
+-- every option of a heap is in its list, up to the order of its parts
+abbrev pub HasEach : Type 0
+HasEach = (code : List ℕ) (n : ℕ) (H : List ℕ) → HeapOption code n H → (left : Left) × Contains (options_of code n) left × IsPermutation (heaps_of left) H
+
 -- where all options of all heaps are mistakes, every move is
-pub all_mistakes : (code X : List ℕ) (memo : List (List ℕ × Outcome)) → ((k : ℕ) → k < length X → AreMistakes memo X k (options_of code (get_or X k 0))) → (Z : List ℕ) → Move code X Z → Lists memo Z N
-all_mistakes code X memo all Z m =
+pub all_mistakes : HasEach → (code X : List ℕ) (memo : List (List ℕ × Outcome)) → ((k : ℕ) → k < length X → AreMistakes memo X k (options_of code (get_or X k 0))) → (Z : List ℕ) → Move code X Z → Lists memo Z N
+all_mistakes each code X memo all Z m =
     let (i, l, (H, h, s)) = move_at m in
     let (left, c, t) = each code (get_or X i 0) H h in
     all i l left c Z (IsPermutation-trans (heaps_of left ++ remove X i) (H ++ remove X i) Z (IsPermutation-append_left (remove X i) (heaps_of left) H t) s)
 
 -- where no heap has an option there is no move
-pub no_options : (code X : List ℕ) → ((k : ℕ) → k < length X → options_of code (get_or X k 0) ≡ []) → (Z : List ℕ) → Move code X Z → ⊥
-no_options code X all Z m =
+pub no_options : HasEach → (code X : List ℕ) → ((k : ℕ) → k < length X → options_of code (get_or X k 0) ≡ []) → (Z : List ℕ) → Move code X Z → ⊥
+no_options each code X all Z m =
     let (i, l, (H, h, s)) = move_at m in
     let (left, c, t) = each code (get_or X i 0) H h in
     nothing_in left (subst (λ xs. Contains xs left) (all i l) c)
 
 -- an option of a heap makes a move
-pub move_by : (code X : List ℕ) (k : ℕ) (left : Left) → k < length X → Contains (options_of code (get_or X k 0)) left → (Y : List ℕ) × Move code X Y
-move_by code X k left l c =
-    let (Y, m, s) = move_from_multiset code X (heaps_of left ++ remove X k) (get_or X k 0, heaps_of left, moved_to code X (get_or X k 0) k left (heaps_of left ++ remove X k) l refl c (IsPermutation-refl (heaps_of left ++ remove X k))) in
+pub move_by : (code X : List ℕ) (k : ℕ) (H : List ℕ) → k < length X → HeapOption code (get_or X k 0) H → (Y : List ℕ) × Move code X Y
+move_by code X k H l h =
+    let (Y, m, s) = move_from_multiset code X (H ++ remove X k) (move_from_place code X k H (H ++ remove X k) l h (IsPermutation-refl (H ++ remove X k))) in
     (Y, m)
 
 -- two heaps of one size side by side: without the one, the others are those without the other
@@ -161,10 +164,10 @@ module _ (code X : List ℕ) (memo : List (List ℕ × Outcome)) where
     moves = more_moves code X n can_move h.moves e;
   }
 
-  pub looked_loses : (n : ℕ) (can_move : Bool) → n < length X → HasLooked code X memo n can_move → Mistakes n → (left : Left) × Contains (options_of code (get_or X n 0)) left → HasLooked code X memo (n + 1) true
-  looked_loses n can_move l h all (left, c) = record {
+  pub looked_loses : (n : ℕ) (can_move : Bool) → n < length X → HasLooked code X memo n can_move → Mistakes n → (H : List ℕ) → HeapOption code (get_or X n 0) H → HasLooked code X memo (n + 1) true
+  looked_loses n can_move l h all H o = record {
     mistakes = below_more Mistakes n h.mistakes all;
-    moves = move_by code X n left l c;
+    moves = move_by code X n H l o;
   }
 
   pub looked_again : (n : ℕ) (can_move : Bool) → 0 < n → n < length X → get_or X (n - 1) 0 ≡ get_or X n 0 → HasLooked code X memo n can_move → HasLooked code X memo (n + 1) can_move
@@ -176,9 +179,9 @@ module _ (code X : List ℕ) (memo : List (List ℕ × Outcome)) where
         moves = again_moves code X k can_move e' h.moves;
       }
 
-  pub looked_all : (can_move : Bool) → HasLooked code X memo (length X) can_move → Follows code memo X (cond can_move P N)
-  looked_all true h = (h.moves, all_mistakes code X memo h.mistakes)
-  looked_all false h = inl (no_options code X h.moves)
+  pub looked_all : HasEach → (can_move : Bool) → HasLooked code X memo (length X) can_move → Follows code memo X (cond can_move P N)
+  looked_all each true h = (h.moves, all_mistakes each code X memo h.mistakes)
+  looked_all each false h = inl (no_options each code X h.moves)
 
 -- what follows from outcomes that are right is right
 pub follows_right : (code : List ℕ) (memo : List (List ℕ × Outcome)) (X : List ℕ) (o : Outcome) → All (λ e. HasOutcome code e.0 e.1) memo → Follows code memo X o → HasOutcome code X o

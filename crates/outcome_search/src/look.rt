@@ -7,7 +7,7 @@ use crate::answer::Outcome;
 use crate::memo::Memo;
 use allocation::{Memory, Room};
 use octal_code::Code;
-use positions::{Position, options};
+use positions::{Position, options, options_are_exact};
 
 /// What the options of a heap show.
 #[derive(Clone, Copy)]
@@ -32,6 +32,7 @@ pub(crate) fn look<A: Room + Copy>(
 ) -> Result<Option<Outcome>, Memory>
     ensures { IfOk result (λ seen. MatchOption seen (IsUnknown code.now position.now memo.now next.new) (Follows code.now memo.now position.now)) }
 {
+    options_are_exact();
     let heaps = position.heaps();
     let mut can_move = false;
     for (at, heap) in heaps.iter().enumerate() {
@@ -59,6 +60,7 @@ fn look_at<A: Room + Copy>(
     requires { at < length position.now }
     ensures { IfOk result (λ seen. HasSeen code.now position.now memo.now at (options_of code.now (slice_index position.now at)) seen next.new) }
 {
+    options_are_exact();
     let mut seen = Seen::Nothing;
     for left in options(code, position.heaps()[at]) {
         next.set_moved(position, at, left)?;

@@ -1,4 +1,5 @@
 use Rattle.std.proofs.Common.{◌≡◌, ◌<◌, ◌+◌, ◌-◌, ℕ, List, Bool, length, get_or, true, false, ap, sym, subst, arith}
+use Rattle.positions.specs.Exact.{heaps_of}
 use Rattle.positions.specs.Options.{options_of}
 use Rattle.outcome_search.specs.Known.{HasSeen}
 use Rattle.outcome_search.specs.declared.look.Seen.{Seen}
@@ -25,7 +26,8 @@ loop-at-preserved g c =
       | in-Nothing w ↦ subst Looked (sym w.can_move-is) (looked_none c.args.code.now X c.args.memo.now at c.loop-at.can_move c.loop-at.invariant (subst Says w.in-Nothing.is c.in_ok-look_at.ensures))
       | in-Loses w ↦
           let says = subst Says w.in-Loses.is c.in_ok-look_at.ensures in
-          subst Looked (sym w.can_move-is) (looked_loses c.args.code.now X c.args.memo.now at c.loop-at.can_move inside c.loop-at.invariant says.0 says.1)
+          subst Looked (sym w.can_move-is) (looked_loses c.args.code.now X c.args.memo.now at c.loop-at.can_move inside c.loop-at.invariant says.0 (heaps_of says.1.0)
+          (c.options_are_exact.ensures.only c.args.code.now (get_or X at 0) (get_or X at 0) says.1.0 says.1.1).0)
     ]
 
 pub returns-then-can_move : goal.returns-then-can_move
@@ -34,7 +36,7 @@ returns-then-can_move g c =
     let l = ap length c.heaps-heaps.ensures.value in
     let over : c.loop-at.at ≡ length X = let end = c.loop-at.auto.at-end in omega arith in
     let all = subst (λ (n : ℕ). HasLooked c.args.code.now X c.args.memo.now n true) over (subst (λ b. HasLooked c.args.code.now X c.args.memo.now c.loop-at.at b) c.if-can_move.true c.loop-at.invariant) in
-    looked_all c.args.code.now X c.args.memo.now true all
+    looked_all c.args.code.now X c.args.memo.now c.options_are_exact.ensures.each true all
 
 pub returns-else-can_move : goal.returns-else-can_move
 returns-else-can_move g c =
@@ -42,4 +44,4 @@ returns-else-can_move g c =
     let l = ap length c.heaps-heaps.ensures.value in
     let over : c.loop-at.at ≡ length X = let end = c.loop-at.auto.at-end in omega arith in
     let all = subst (λ (n : ℕ). HasLooked c.args.code.now X c.args.memo.now n false) over (subst (λ b. HasLooked c.args.code.now X c.args.memo.now c.loop-at.at b) c.if-can_move.false c.loop-at.invariant) in
-    looked_all c.args.code.now X c.args.memo.now false all
+    looked_all c.args.code.now X c.args.memo.now c.options_are_exact.ensures.each false all

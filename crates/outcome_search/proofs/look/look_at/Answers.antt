@@ -2,7 +2,7 @@ use Rattle.std.proofs.Common.{◌≡◌, ◌++◌, ◌∙◌, slice_index, Some,
 use Rattle.std.proofs.lemmas.List.{append-nil}
 use Rattle.positions.specs.Exact.{heaps_of}
 use Rattle.positions.specs.Options.{options_of}
-use Rattle.positions.proofs.Permuted.{parts_fit, moved_to}
+use Rattle.outcome_search.proofs.Heaps.{option_fits, move_from_place}
 use Rattle.outcome_search.specs.Known.{known}
 use Rattle.outcome_search.specs.declared.answer.Outcome.TheVariants.{P, N}
 use Rattle.outcome_search.proofs.Seen.{walked, wins_by, one_more, seen_all}
@@ -12,7 +12,7 @@ pub set_moved-requires-clause-sizes : goal.set_moved-requires-clause-sizes
 set_moved-requires-clause-sizes g c =
     let n = slice_index c.args.position.now c.args.at in
     let (whole, listed) = walked _ _ (options_of c.args.code.now n) c.in-Some.left c.next.new.self c.loop-left.invariant.0 c.in-Some.ensures.steps in
-    parts_fit c.args.code.now n 1000000000000000000 c.in-Some.left listed (c.heaps.ensures.sizes c.args.at 0 c.requires).1
+    option_fits c.args.code.now n 1000000000000000000 (heaps_of c.in-Some.left) (c.options_are_exact.ensures.only c.args.code.now n n c.in-Some.left listed).0 (c.heaps.ensures.sizes c.args.at 0 c.requires).1
 
 pub returns-in-Some-P : goal.returns-in-Some-P
 returns-in-Some-P g c =
@@ -20,7 +20,8 @@ returns-in-Some-P g c =
     let n = slice_index c.args.position.now c.args.at in
     let (whole, listed) = walked _ _ (options_of c.args.code.now n) c.in-Some.left c.next.new.self c.loop-left.invariant.0 c.in-Some.ensures.steps in
     wins_by c.args.code.now c.args.position.now c.set_moved.new.self c.args.memo.now
-    (n, heaps_of c.in-Some.left, moved_to c.args.code.now c.args.position.now n c.args.at c.in-Some.left c.set_moved.new.self c.requires (λ i. n) listed c.in_ok-set_moved.ensures.moved)
+    (move_from_place c.args.code.now c.args.position.now c.args.at (heaps_of c.in-Some.left) c.set_moved.new.self c.requires
+    (c.options_are_exact.ensures.only c.args.code.now n n c.in-Some.left listed).0 c.in_ok-set_moved.ensures.moved)
     is
 
 pub loop-left-preserved : goal.loop-left-preserved
@@ -38,7 +39,8 @@ returns-in-None-get g c =
     let n = slice_index c.args.position.now c.args.at in
     let (whole, listed) = walked _ _ (options_of c.args.code.now n) c.in-Some.left c.next.new.self c.loop-left.invariant.0 c.in-Some.ensures.steps in
     record {
-      move = (n, heaps_of c.in-Some.left, moved_to c.args.code.now c.args.position.now n c.args.at c.in-Some.left c.set_moved.new.self c.requires (λ i. n) listed c.in_ok-set_moved.ensures.moved);
+      move = (move_from_place c.args.code.now c.args.position.now c.args.at (heaps_of c.in-Some.left) c.set_moved.new.self c.requires
+          (c.options_are_exact.ensures.only c.args.code.now n n c.in-Some.left listed).0 c.in_ok-set_moved.ensures.moved);
       rising = c.in_ok-set_moved.ensures.rising;
       not_known = is;
     }

@@ -1,0 +1,10 @@
+//! Sources and sinks for tests: one byte at a time, or failing at one call.
+#![tactic(auto)]
+
+mod failing;
+mod slow;
+#[cfg(test)]
+mod tests;
+
+pub use failing::{FailingSink, FailingSource};
+pub use slow::{SlowSink, SlowSource};
