@@ -99,9 +99,6 @@ walk_ends ms v test at w e = elim (either (list_any (λ m. test m.pair) ms)) [
   | inr f ↦ sym f
 ]
 
-pub walk_finds : (ms : List Member) (test : Pair → Bool) (k : ℕ) → k < length ms → test (get_or ms k blank).pair ≡ true → true ≡ list_any (λ m. test m.pair) ms
-walk_finds ms test k l e = sym (any_from (λ m. test m.pair) ms _ (In-at ms k blank l) e)
-
 -- one member more
 pub chained_push : (ms : List Member) (older newest : List ℕ) (m : Member) → AreChained ms older newest → m.pair.value < length newest
     → AreChained (ms ++ m ∷ []) (older ++ get_or newest m.pair.value 0 ∷ []) (set newest m.pair.value (length ms + 1))
@@ -149,15 +146,6 @@ chained_push ms older newest m w l =
 -- longer heads with nothing in them
 pub chained_reach : (ms : List Member) (older newest others : List ℕ) → ((v : ℕ) → get_or others v 0 ≡ get_or newest v 0) → AreChained ms older newest → AreChained ms older others
 chained_reach ms older newest others h w = record { length_is = w.length_is; before = w.before; last = λ v. h v ∙ w.last v }
-
-pub zero_more : (xs : List ℕ) (v : ℕ) → get_or (xs ++ 0 ∷ []) v 0 ≡ get_or xs v 0
-zero_more xs v = elim (cases_lt v (length xs)) [
-  | inl h ↦ get_or_append_left xs (0 ∷ []) 0 v h
-  | inr h ↦ elim (cases_eq v (length xs)) [
-    | inl q ↦ get_or_push xs 0 0 v (sym q) ∙ sym (get_or_past xs v 0 (omega arith))
-    | inr q ↦ get_or_past (xs ++ 0 ∷ []) v 0 (omega (arith, length-append xs (0 ∷ []))) ∙ sym (get_or_past xs v 0 h)
-  ]
-]
 
 pub same_default : {A : Type 0} (xs : List A) (i : ℕ) (d e : A) → i < length xs → get_or xs i d ≡ get_or xs i e
 same_default [] i d e l = absurd (omega arith)

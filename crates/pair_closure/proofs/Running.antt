@@ -72,9 +72,6 @@ reached_turns table heaps limit n lawful inside =
 
 -- ---- when no turn is left
 
-pub ended_by : (s : State) → (is_over s ≡ true) ⊎ (is_done s ≡ true) → has_ended s ≡ true
-ended_by s e = true_or (is_over s) (is_done s) e
-
 pub ended_how : (s : State) → has_ended s ≡ true → (is_over s ≡ true) ⊎ (is_done s ≡ true)
 ended_how s e = or_true (is_over s) (is_done s) e
 
@@ -106,18 +103,6 @@ goes_product s at k = tests s (le-ltb _ _ k.room) (inr (inl (lt-ltb _ _ (subst (
 
 pub goes_heap : (s : State) → TriesHeap s → has_ended s ≡ false
 goes_heap s k = tests s (le-ltb _ _ k.room) (inr (inr (lt-ltb _ _ k.more)))
-
-done_parts : (over some more next : Bool) → over ≡ false → some ≡ true → more ≡ false → next ≡ false → cond over false (cond some (cond more false (not next)) false) ≡ true
-done_parts true some more next a b c d = absurd (cc)
-done_parts false false more next a b c d = absurd (cc)
-done_parts false true true next a b c d = absurd (cc)
-done_parts false true false true a b c d = absurd (cc)
-done_parts false true false false a b c d = refl
-
-pub done_now : (s : State) → length s.members ≤ s.limit → 0 < length s.members → length s.held ≤ first_pending s.held (length s.generators) → length s.heaps ≤ s.next → is_done s ≡ true
-done_now s room some none last =
-    done_parts (nat_lt s.limit (length s.members)) (nat_lt 0 (length s.members)) (nat_lt (turning.pending one (times s.table) covers s) (length s.held)) (nat_lt s.next (length s.heaps))
-    (le-ltb _ _ room) (lt-ltb _ _ some) (le-ltb _ _ none) (le-ltb _ _ last)
 
 -- ---- the count of turns
 
