@@ -2,13 +2,13 @@
 use Rattle.std.proofs.Common.{◌≡◌, ℕ, zero, suc, ◌+◌, ◌-◌, ◌<◌, ◌≤◌, Bool, true, false, cond, List, [], ◌∷◌, ◌++◌, length, get_or, set, refl, sym, ap, ◌∙◌, subst, inl, inr, arith, nat_eq, eqb-true, eq-eqb, length-append}
 use Rattle.std.specs.List.{list_any}
 use Rattle.std.proofs.lemmas.Bool.{cases_lt, cases_eq}
-use Rattle.std.proofs.lemmas.List.{get_or_append_left, get_or_push, get_or_past, get_or-set_same, get_or-set_other}
+use Rattle.std.proofs.lemmas.List.{get_or_append_left, get_or_push, get_or-set_same, get_or-set_other}
 use Rattle.transition_algebra.specs.declared.pair.Pair.{Pair}
 use Rattle.pair_closure.specs.declared.members.Member.{Member}
 use Rattle.pair_closure.specs.Chains.{AreChained, blank, last_with}
 use Rattle.transition_algebra.specs.Pairs.{covers}
 use Rattle.pair_closure.proofs.PairLaws.{covering}
-use Rattle.pair_closure.proofs.Lists.{In-at, place_of, any_from, find_any, either, not_both, by_cond}
+use Rattle.pair_closure.proofs.Lists.{place_of, find_any, either, not_both, by_cond}
 
 abbrev value_at : List Member → ℕ → ℕ
 value_at ms i = (get_or ms i blank).pair.value

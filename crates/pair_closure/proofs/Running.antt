@@ -9,7 +9,7 @@ use Rattle.transition_algebra.specs.Pairs.{IsPair, one, times, covers}
 use Rattle.pair_closure.specs.declared.members.Member.{Member}
 use Rattle.pair_closure.specs.Turns.{State}
 use Rattle.pair_closure.specs.Turns as turning
-use Rattle.pair_closure.specs.Progress.{Progress, turn, turns, is_done, is_over, has_ended, moved, step, steps, stopped, SameData, IsRun, KeepsEmpty, Multiplies, TriesHeap, first_pending}
+use Rattle.pair_closure.specs.Progress.{Progress, turn, turns, is_done, is_over, has_ended, moved, step, steps, stopped, SameData, IsRun, KeepsEmpty, Multiplies, TriesHeap}
 use Rattle.pair_closure.proofs.Lists.{either, or_true, true_or, by_cond, not_both}
 use Rattle.pair_closure.proofs.Machine.{Reached}
 use Rattle.pair_closure.proofs.Bound.{stays, ends}
