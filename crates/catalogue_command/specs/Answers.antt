@@ -1,9 +1,9 @@
 -- What the actions answer to the bytes of a catalogue file: whether they end well, and what they print. This project's own.
 use Rattle.std.specs.Prelude.{◌≡◌, ◌⊎◌, ℕ, List, [], ◌∷◌, ◌++◌, Bool, true, false, Option, Some, None, Result, Ok, Err, Vec, Contains, codes, decimal}
 use Rattle.std.specs.List.{flat_map}
-use Rattle.std.specs.Io.KnownBytes.{Appends}
 use Rattle.std.specs.declared.alloc.Global.{Global}
 use Rattle.certificate_text.specs.Spelling.{lines, text}
+use Rattle.octal_code.specs.Text.{IsCodeText}
 use Rattle.folders.specs.Files.{Holds, Replaces}
 use Rattle.misere_theory.specs.Certificates.{Certificate}
 use Rattle.catalogue.specs.Entries.{HasCode}
@@ -35,14 +35,18 @@ GetsAnswer code (Err fault) well printed = (well ≡ false) × IsFaultLine fault
 abbrev pub IsGotten : List ℕ → ℕ → List ℕ → Bool → List ℕ → Type 0
 IsGotten bytes limit code well printed = (answer : Result (List Certificate) LoadFault) × IsLoaded bytes limit answer × GetsAnswer code answer well printed
 
--- the listing of what the file holds went out
-abbrev pub Lists : ℕ → Option (List ℕ → Option (List ℕ)) → List ℕ → Bool → Option (List ℕ) → Option (List ℕ) → Type 0
-Lists limit files file well before after =
-    (bytes printed : List ℕ) × Holds files file bytes × IsListing bytes limit well printed × Appends before after printed
+-- what is said of what the file holds
+abbrev pub Lists : ℕ → Option (List ℕ → Option (List ℕ)) → List ℕ → Bool → List ℕ → Type 0
+Lists limit files file well printed = (bytes : List ℕ) × Holds files file bytes × IsListing bytes limit well printed
 
-abbrev pub Gets : ℕ → Option (List ℕ → Option (List ℕ)) → List ℕ → List ℕ → Bool → Option (List ℕ) → Option (List ℕ) → Type 0
-Gets limit files file code well before after =
-    (bytes printed : List ℕ) × Holds files file bytes × IsGotten bytes limit code well printed × Appends before after printed
+-- the text is a code's, and this is said of what the file holds
+abbrev pub Gets : ℕ → Option (List ℕ → Option (List ℕ)) → List ℕ → List ℕ → Bool → List ℕ → Type 0
+Gets limit files file text well printed =
+    (code bytes : List ℕ) × IsCodeText text code × Holds files file bytes × IsGotten bytes limit code well printed
+
+-- the file holds the empty catalogue, and nothing is printed
+abbrev pub Creates : Option (List ℕ → Option (List ℕ)) → Option (List ℕ → Option (List ℕ)) → List ℕ → Bool → List ℕ → Type 0
+Creates before after file well printed = Replaces before after file (catalogue_text []) × (well ≡ true) × (printed ≡ [])
 
 -- The catalogue that an addition begins with: an empty one, or what may be loaded of the file.
 abbrev pub Begins : Bool → ℕ → Option (List ℕ → Option (List ℕ)) → List ℕ → Result (List Certificate) LoadFault → Type 0
@@ -82,11 +86,10 @@ AddsAnswer limit before after file certificate (Ok cs) well printed =
     (bytes : List ℕ) × (new : List Certificate) × Holds before certificate bytes × IsAddition cs bytes limit well new printed × Saves before after file well new
 AddsAnswer limit before after file certificate (Err fault) well printed = (well ≡ false) × (after ≡ before) × IsFaultLine fault printed
 
--- the whole addition: from the files before to those after, and what went out
-abbrev pub Adds : Bool → ℕ → Option (List ℕ → Option (List ℕ)) → Option (List ℕ → Option (List ℕ)) → List ℕ → List ℕ → Bool → Option (List ℕ) → Option (List ℕ) → Type 0
-Adds fresh limit before after file certificate well old new =
-    (answer : Result (List Certificate) LoadFault) × (printed : List ℕ) × Begins fresh limit before file answer
-    × AddsAnswer limit before after file certificate answer well printed × Appends old new printed
+-- the whole addition: from the files before to those after, and what is printed
+abbrev pub Adds : Bool → ℕ → Option (List ℕ → Option (List ℕ)) → Option (List ℕ → Option (List ℕ)) → List ℕ → List ℕ → Bool → List ℕ → Type 0
+Adds fresh limit before after file certificate well printed =
+    (answer : Result (List Certificate) LoadFault) × Begins fresh limit before file answer × AddsAnswer limit before after file certificate answer well printed
 
 -- The file holds the text of the entries kept, and the faults and how many are kept are printed; or no file changes, and the line of the fault is printed.
 abbrev pub SalvagesAnswer : Option (List ℕ → Option (List ℕ)) → Option (List ℕ → Option (List ℕ)) → List ℕ → Result (List Certificate × Vec LoadFault Global) LoadFault
@@ -95,8 +98,8 @@ SalvagesAnswer before after file (Ok kept) well printed =
     (well ≡ true) × Replaces before after file (catalogue_text kept.0) × (printed ≡ salvage_lines kept.0 (kept.1).items)
 SalvagesAnswer before after file (Err fault) well printed = (well ≡ false) × (after ≡ before) × IsFaultLine fault printed
 
--- the whole salvage: from the files before to those after, and what went out
-abbrev pub Salvages : ℕ → Option (List ℕ → Option (List ℕ)) → Option (List ℕ → Option (List ℕ)) → List ℕ → Bool → Option (List ℕ) → Option (List ℕ) → Type 0
-Salvages limit before after file well old new =
-    (bytes : List ℕ) × (answer : Result (List Certificate × Vec LoadFault Global) LoadFault) × (printed : List ℕ) × Holds before file bytes
-    × IsSalvaged bytes limit answer × SalvagesAnswer before after file answer well printed × Appends old new printed
+-- the whole salvage: from the files before to those after, and what is printed
+abbrev pub Salvages : ℕ → Option (List ℕ → Option (List ℕ)) → Option (List ℕ → Option (List ℕ)) → List ℕ → Bool → List ℕ → Type 0
+Salvages limit before after file well printed =
+    (bytes : List ℕ) × (answer : Result (List Certificate × Vec LoadFault Global) LoadFault) × Holds before file bytes
+    × IsSalvaged bytes limit answer × SalvagesAnswer before after file answer well printed

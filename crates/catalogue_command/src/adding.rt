@@ -1,51 +1,53 @@
 //! A certificate added to a catalogue file.
-ghost use Rattle.std.specs.Prelude.{◌≡◌, [], IfErr, IfOk, OnErr, OnOk, string_bytes};
+ghost use Rattle.std.specs.Prelude.{◌≡◌, [], IfErr, IfOk, OnErr, OnOk, false, string_bytes};
 ghost use Rattle.folders.specs.Files.{Replaces};
 ghost use Rattle.catalogue.specs.Texts.{catalogue_text};
-ghost use Rattle.catalogue_command.specs.Answers.{Adds, Begins, IsAddition, Takes};
+ghost use Rattle.catalogue_command.specs.Answers.{Adds, Begins, Creates, IsAddition, Takes};
+ghost use Rattle.catalogue_command.specs.Stops.{StopsAdd, StopsCreate, StopsList, failed};
 
 use crate::lines::{added_line, fault_line};
-use crate::stop::{CatalogueStop, put, read, tell};
+use crate::report::Report;
+use crate::stop::{CatalogueStop, put, read};
 use allocation::Memory;
 use catalogue::{AddFault, Catalogue, LoadFault};
 use checker::{Certified, check};
 use folders::Folder;
 use std::alloc::Global;
-use streams::Sink;
 use verdicts::verdict_text;
 
 /// The catalogue of the file, or an empty one.
-fn begun<F: Folder>(
+fn begun<'a, F: Folder>(
     alloc: Global,
     folder: &mut F,
-    file: &str,
+    file: &'a str,
     fresh: bool,
     limit: u32,
-) -> Result<Result<Catalogue, LoadFault>, CatalogueStop>
-    ensures begins { IfOk result (Begins fresh limit (F.files folder.old) file.now) }
+) -> Result<Result<Catalogue, LoadFault>, CatalogueStop<'a>>
+    ensures begins { IfOk result (Begins fresh limit (F.files folder.old) file.entry.now) }
     ensures kept { F.files folder.new ≡ F.files folder.old }
+    ensures well { IfOk result (λ _. F.failed_reads folder.new ≡ F.failed_reads folder.old) }
+    ensures writes { F.failed_writes folder.new ≡ F.failed_writes folder.old }
+    ensures read { OnErr result (fresh ≡ false) }
+    ensures stops { IfErr result (StopsList file.entry.now
+        (failed (F.failed_reads folder.old) (F.failed_writes folder.old)) (failed (F.failed_reads folder.new) (F.failed_writes folder.new))) }
 {
     if fresh {
         return Ok(Ok(Catalogue::new(alloc)));
     }
-    let bytes = read(folder, file, CatalogueStop::File)?;
+    let bytes = read(folder, file)?;
     Ok(Catalogue::load(alloc, &bytes, limit))
 }
 
 /// Adds a certificate that was accepted: whether it was added, and what is printed.
-fn taken(
-    alloc: Global,
-    catalogue: &mut Catalogue,
-    certified: Certified,
-) -> Result<(bool, String), Memory>
-    ensures { IfOk result (λ r. Takes catalogue.old certified r.0 catalogue.new (string_bytes r.1)) }
+fn taken(alloc: Global, catalogue: &mut Catalogue, certified: Certified) -> Result<Report, Memory>
+    ensures { IfOk result (λ r. Takes catalogue.old certified r.well catalogue.new (string_bytes r.text)) }
 {
-    let line = added_line(alloc, certified.cert().code())?;
+    let text = added_line(alloc, certified.cert().code())?;
     match catalogue.add(certified) {
-        Ok(()) => Ok((true, line)),
+        Ok(()) => Ok(Report { well: true, text }),
         Err(AddFault::Present) => {
             let text = String::from_str(alloc, "refused 1 Present\n")?;
-            Ok((false, text))
+            Ok(Report { well: false, text })
         }
         Err(AddFault::Memory) => Err(Memory),
     }
@@ -57,14 +59,14 @@ fn addition(
     catalogue: &mut Catalogue,
     bytes: &[u8],
     limit: u32,
-) -> Result<(bool, String), Memory>
-    ensures { IfOk result (λ r. IsAddition catalogue.old bytes.now limit r.0 catalogue.new (string_bytes r.1)) }
+) -> Result<Report, Memory>
+    ensures { IfOk result (λ r. IsAddition catalogue.old bytes.now limit r.well catalogue.new (string_bytes r.text)) }
 {
     match check(alloc, bytes, limit) {
         Ok(certified) => taken(alloc, catalogue, certified),
         Err(refusal) => {
             let text = verdict_text(alloc, Err(&refusal))?;
-            Ok((false, text))
+            Ok(Report { well: false, text })
         }
     }
 }
@@ -75,50 +77,62 @@ pub(crate) fn save<F: Folder>(
     folder: &mut F,
     file: &str,
     catalogue: &Catalogue,
-) -> Result<(), CatalogueStop>
+) -> Result<(), CatalogueStop<'static>>
     ensures saved { OnOk result (Replaces (F.files folder.old) (F.files folder.new) file.now (catalogue_text catalogue.now)) }
     ensures kept { OnErr result (F.files folder.new ≡ F.files folder.old) }
+    ensures stops { IfErr result (StopsCreate
+        (failed (F.failed_reads folder.old) (F.failed_writes folder.old)) (failed (F.failed_reads folder.new) (F.failed_writes folder.new))) }
 {
     let text = catalogue.text(alloc)?;
     put(folder, file, text.as_bytes())
 }
 
-/// Makes a file of the empty catalogue, or puts it in place of what was there. It prints nothing.
-pub fn create<F: Folder>(alloc: Global, folder: &mut F, file: &str) -> Result<(), CatalogueStop>
-    ensures made { OnOk result (Replaces (F.files folder.old) (F.files folder.new) file.now (catalogue_text [])) }
-    ensures kept { OnErr result (F.files folder.new ≡ F.files folder.old) }
-{
-    let catalogue = Catalogue::new(alloc);
-    save(alloc, folder, file, &catalogue)
-}
-
-/// Adds the certificate of another file to the catalogue of the file, or to an empty one, and prints that it was added, or why not. The
-/// catalogue is loaded before the certificate is read, and the file is written before the line is printed.
-pub fn add<F: Folder, W: Sink>(
+/// Makes a file of the empty catalogue, or puts it in place of what was there. Nothing is printed. Where it stops, every file is as it was.
+pub fn create<F: Folder>(
     alloc: Global,
     folder: &mut F,
     file: &str,
-    certificate: &str,
+) -> Result<Report, CatalogueStop<'static>>
+    ensures told { IfOk result (λ r. Creates (F.files folder.old) (F.files folder.new) file.now r.well (string_bytes r.text)) }
+    ensures kept { OnErr result (F.files folder.new ≡ F.files folder.old) }
+    ensures stops { IfErr result (StopsCreate
+        (failed (F.failed_reads folder.old) (F.failed_writes folder.old)) (failed (F.failed_reads folder.new) (F.failed_writes folder.new))) }
+{
+    let catalogue = Catalogue::new(alloc);
+    save(alloc, folder, file, &catalogue)?;
+    Ok(Report {
+        well: true,
+        text: String::new(alloc),
+    })
+}
+
+/// Adds the certificate of another file to the catalogue of the file, or to an empty one, and says that it was added, or why not. The
+/// catalogue is loaded before the certificate is read. Where it stops, every file is as it was.
+pub fn add<'a, F: Folder>(
+    alloc: Global,
+    folder: &mut F,
+    file: &'a str,
+    certificate: &'a str,
     fresh: bool,
     limit: u32,
-    out: &mut W,
-) -> Result<bool, CatalogueStop>
-    ensures { IfOk result (λ well. Adds fresh limit (F.files folder.old) (F.files folder.new) file.now certificate.now well (W.taken out.old) (W.taken out.new)) }
+) -> Result<Report, CatalogueStop<'a>>
+    ensures told { IfOk result (λ r. Adds fresh limit (F.files folder.old) (F.files folder.new) file.entry.now certificate.entry.now r.well (string_bytes r.text)) }
+    ensures kept { OnErr result (F.files folder.new ≡ F.files folder.old) }
+    ensures stops { IfErr result (StopsAdd fresh file.entry.now certificate.entry.now
+        (failed (F.failed_reads folder.old) (F.failed_writes folder.old)) (failed (F.failed_reads folder.new) (F.failed_writes folder.new))) }
 {
     match begun(alloc, folder, file, fresh, limit)? {
         Err(fault) => {
-            let line = fault_line(alloc, &fault)?;
-            tell(out, line.as_str())?;
-            Ok(false)
+            let text = fault_line(alloc, &fault)?;
+            Ok(Report { well: false, text })
         }
         Ok(mut catalogue) => {
-            let bytes = read(folder, certificate, CatalogueStop::Certificate)?;
-            let (well, text) = addition(alloc, &mut catalogue, &bytes, limit)?;
-            if well {
+            let bytes = read(folder, certificate)?;
+            let report = addition(alloc, &mut catalogue, &bytes, limit)?;
+            if report.well {
                 save(alloc, folder, file, &catalogue)?;
             }
-            tell(out, text.as_str())?;
-            Ok(well)
+            Ok(report)
         }
     }
 }

@@ -1,57 +1,58 @@
 //! One entry of a catalogue file.
-ghost use Rattle.std.specs.Prelude.{◌≡◌, IfOk, List, ℕ, string_bytes};
-ghost use Rattle.octal_code.specs.Text.{IsCodeText};
+ghost use Rattle.std.specs.Prelude.{◌≡◌, IfErr, IfOk, IsErrOf, string_bytes};
 ghost use Rattle.catalogue_command.specs.Answers.{Gets, IsGotten};
+ghost use Rattle.catalogue_command.specs.Stops.{StopsGet, failed};
 
 use crate::lines::fault_line;
-use crate::stop::{CatalogueStop, read, tell};
+use crate::report::Report;
+use crate::stop::{CatalogueStop, read};
 use allocation::Memory;
 use catalogue::{Catalogue, certificate_text};
 use folders::Folder;
 use octal_code::Code;
 use std::alloc::Global;
-use streams::Sink;
 
-/// Whether the bytes are a catalogue with the code, and what is printed of them.
-fn entry_of(alloc: Global, bytes: &[u8], code: &Code, limit: u32) -> Result<(bool, String), Memory>
-    ensures { IfOk result (λ r. IsGotten bytes.now limit code.now r.0 (string_bytes r.1)) }
+/// What is printed of the bytes for a code.
+fn entry_of(alloc: Global, bytes: &[u8], code: &Code, limit: u32) -> Result<Report, Memory>
+    ensures { IfOk result (λ r. IsGotten bytes.now limit code.now r.well (string_bytes r.text)) }
 {
     match Catalogue::load(alloc, bytes, limit) {
         Ok(catalogue) => match catalogue.get(code) {
             Some(certified) => {
                 let text = certificate_text(alloc, certified.cert())?;
-                Ok((true, text))
+                Ok(Report { well: true, text })
             }
             None => {
                 let text = String::from_str(alloc, "absent\n")?;
-                Ok((false, text))
+                Ok(Report { well: false, text })
             }
         },
         Err(fault) => {
             let text = fault_line(alloc, &fault)?;
-            Ok((false, text))
+            Ok(Report { well: false, text })
         }
     }
 }
 
-/// Prints the certificate of a code, that there is none, or why the file isn't loaded. A code that can't be read stops it before the file
+/// The certificate of a code, that there is none, or why the file isn't loaded. A code that can't be read stops it before the file
 /// is read.
-pub fn get<F: Folder, W: Sink>(
+pub fn get<'a, F: Folder>(
     alloc: Global,
     folder: &mut F,
-    file: &str,
+    file: &'a str,
     code: &str,
     limit: u32,
-    out: &mut W,
-) -> Result<bool, CatalogueStop>
-    ensures told { IfOk result (λ well. (digits : List ℕ) × IsCodeText code.now digits × Gets limit (F.files folder.old) file.now digits well (W.taken out.old) (W.taken out.new)) }
+) -> Result<Report, CatalogueStop<'a>>
+    ensures told { IfOk result (λ r. Gets limit (F.files folder.old) file.entry.now code.now r.well (string_bytes r.text)) }
     ensures kept { F.files folder.new ≡ F.files folder.old }
+    ensures usage { IsErrOf result CatalogueStop.NotACode → folder.new ≡ folder.old }
+    ensures stops { IfErr result (StopsGet file.entry.now code.now
+        (failed (F.failed_reads folder.old) (F.failed_writes folder.old)) (failed (F.failed_reads folder.new) (F.failed_writes folder.new))) }
 {
     let Ok(code) = Code::read(code.as_bytes()) else {
-        return Err(CatalogueStop::Code);
+        return Err(CatalogueStop::NotACode);
     };
-    let bytes = read(folder, file, CatalogueStop::File)?;
-    let (well, text) = entry_of(alloc, &bytes, &code, limit)?;
-    tell(out, text.as_str())?;
-    Ok(well)
+    let bytes = read(folder, file)?;
+    let report = entry_of(alloc, &bytes, &code, limit)?;
+    Ok(report)
 }

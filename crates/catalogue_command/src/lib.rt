@@ -1,18 +1,21 @@
 //! What the program does with a catalogue file: its entries are listed, one is printed, one is added, and what stands of a damaged file is kept.
 //!
-//! Each action reads all that it needs, then writes the file where it changes it, and prints last. It answers whether it ended well, or why it stopped.
+//! Each action reads all that it needs, makes the text that is to be printed, and then writes the file where it changes it. So the file has
+//! changed exactly where the action ends well, and what stops it says why.
 #![tactic(auto)]
 
 mod adding;
 mod finding;
 mod lines;
 mod listing;
+mod report;
 mod salvaging;
 mod stop;
 
 pub use adding::{add, create};
 pub use finding::get;
 pub use listing::list;
+pub use report::Report;
 pub use salvaging::salvage;
 pub use stop::CatalogueStop;
 

@@ -1,44 +1,45 @@
 //! A catalogue file listed.
-ghost use Rattle.std.specs.Prelude.{◌≡◌, IfOk, string_bytes};
+ghost use Rattle.std.specs.Prelude.{◌≡◌, IfErr, IfOk, string_bytes};
 ghost use Rattle.catalogue_command.specs.Answers.{IsListing, Lists};
+ghost use Rattle.catalogue_command.specs.Stops.{StopsList, failed};
 
 use crate::lines::{entry_lines, fault_line};
-use crate::stop::{CatalogueStop, read, tell};
+use crate::report::Report;
+use crate::stop::{CatalogueStop, read};
 use allocation::Memory;
 use catalogue::Catalogue;
 use folders::Folder;
 use std::alloc::Global;
-use streams::Sink;
 
-/// Whether the bytes are a catalogue, and what is printed of them.
-fn listing_of(alloc: Global, bytes: &[u8], limit: u32) -> Result<(bool, String), Memory>
-    ensures { IfOk result (λ r. IsListing bytes.now limit r.0 (string_bytes r.1)) }
+/// What is printed of the bytes.
+fn listing_of(alloc: Global, bytes: &[u8], limit: u32) -> Result<Report, Memory>
+    ensures { IfOk result (λ r. IsListing bytes.now limit r.well (string_bytes r.text)) }
 {
     match Catalogue::load(alloc, bytes, limit) {
         Ok(catalogue) => {
             let text = entry_lines(alloc, catalogue.entries())?;
-            Ok((true, text))
+            Ok(Report { well: true, text })
         }
         Err(fault) => {
             let text = fault_line(alloc, &fault)?;
-            Ok((false, text))
+            Ok(Report { well: false, text })
         }
     }
 }
 
-/// Prints a line for each entry of the file, or why it isn't loaded.
-pub fn list<F: Folder, W: Sink>(
+/// A line for each entry of the file, or why it isn't loaded.
+pub fn list<'a, F: Folder>(
     alloc: Global,
     folder: &mut F,
-    file: &str,
+    file: &'a str,
     limit: u32,
-    out: &mut W,
-) -> Result<bool, CatalogueStop>
-    ensures told { IfOk result (λ well. Lists limit (F.files folder.old) file.now well (W.taken out.old) (W.taken out.new)) }
+) -> Result<Report, CatalogueStop<'a>>
+    ensures told { IfOk result (λ r. Lists limit (F.files folder.old) file.entry.now r.well (string_bytes r.text)) }
     ensures kept { F.files folder.new ≡ F.files folder.old }
+    ensures stops { IfErr result (StopsList file.entry.now
+        (failed (F.failed_reads folder.old) (F.failed_writes folder.old)) (failed (F.failed_reads folder.new) (F.failed_writes folder.new))) }
 {
-    let bytes = read(folder, file, CatalogueStop::File)?;
-    let (well, text) = listing_of(alloc, &bytes, limit)?;
-    tell(out, text.as_str())?;
-    Ok(well)
+    let bytes = read(folder, file)?;
+    let report = listing_of(alloc, &bytes, limit)?;
+    Ok(report)
 }

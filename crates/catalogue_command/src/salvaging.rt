@@ -1,38 +1,39 @@
 //! What can be kept of a damaged catalogue file.
-ghost use Rattle.std.specs.Prelude.{◌≡◌, IfOk};
+ghost use Rattle.std.specs.Prelude.{◌≡◌, IfErr, IfOk, OnErr, string_bytes};
 ghost use Rattle.catalogue_command.specs.Answers.{Salvages};
+ghost use Rattle.catalogue_command.specs.Stops.{StopsSalvage, failed};
 
 use crate::adding::save;
 use crate::lines::{fault_line, salvage_lines};
-use crate::stop::{CatalogueStop, read, tell};
+use crate::report::Report;
+use crate::stop::{CatalogueStop, read};
 use catalogue::Catalogue;
 use folders::Folder;
 use std::alloc::Global;
-use streams::Sink;
 
-/// Puts the entries of the file that stand in its place, and prints the fault of each other entry and how many are kept; or prints why
-/// the bytes are no catalogue file. The file is written before anything is printed.
-pub fn salvage<F: Folder, W: Sink>(
+/// Puts the entries of the file that stand in its place, and gives the fault of each other entry and how many are kept; or says why
+/// the bytes are no catalogue file, and leaves it. Where it stops, every file is as it was.
+pub fn salvage<'a, F: Folder>(
     alloc: Global,
     folder: &mut F,
-    file: &str,
+    file: &'a str,
     limit: u32,
-    out: &mut W,
-) -> Result<bool, CatalogueStop>
-    ensures { IfOk result (λ well. Salvages limit (F.files folder.old) (F.files folder.new) file.now well (W.taken out.old) (W.taken out.new)) }
+) -> Result<Report, CatalogueStop<'a>>
+    ensures told { IfOk result (λ r. Salvages limit (F.files folder.old) (F.files folder.new) file.entry.now r.well (string_bytes r.text)) }
+    ensures kept { OnErr result (F.files folder.new ≡ F.files folder.old) }
+    ensures stops { IfErr result (StopsSalvage file.entry.now
+        (failed (F.failed_reads folder.old) (F.failed_writes folder.old)) (failed (F.failed_reads folder.new) (F.failed_writes folder.new))) }
 {
-    let bytes = read(folder, file, CatalogueStop::File)?;
+    let bytes = read(folder, file)?;
     match Catalogue::salvage(alloc, &bytes, limit) {
         Err(fault) => {
-            let line = fault_line(alloc, &fault)?;
-            tell(out, line.as_str())?;
-            Ok(false)
+            let text = fault_line(alloc, &fault)?;
+            Ok(Report { well: false, text })
         }
         Ok((catalogue, faults)) => {
             let text = salvage_lines(alloc, &catalogue, &faults)?;
             save(alloc, folder, file, &catalogue)?;
-            tell(out, text.as_str())?;
-            Ok(true)
+            Ok(Report { well: true, text })
         }
     }
 }

@@ -1,10 +1,9 @@
 //! Catalogue files in memory: what is printed, and what the files hold then.
-use crate::{CatalogueStop, add, create, get, list, salvage};
+use crate::{CatalogueStop, Report, add, create, get, list, salvage};
 use allocation::Memory;
 use folders::MemoryFolder;
 use std::alloc::Global;
 use std::test::Fail;
-use streams::MemorySink;
 
 const LIMIT: u32 = 1000;
 
@@ -35,13 +34,11 @@ const TWICE: &str =
 const DAMAGED: &str =
     "{\"entries\":[{\"certificate\":\"mqc 1\\ncode 0.3\\norder 2\\nstart 1\\nperiod 2\\nphi 1 0\\nportion 1\\nwords 0:1\\nrow 0 1\\nrow 1 0\\napart 0\\nend\\n\",\"code\":\"0.3\"},{\"certificate\":\"mqc 1\\ncode 0.33\\norder 6\\nstart 1\\nperiod 3\\nphi 1 2 0\\nportion 1 4\\nwords 0:1 0:2 1:2 2:2 3:2\\nrow 0 1 2 3 4 5\\nrow 1 0 3 2 5 4\\nrow 2 3 4 5 2 3\\nrow 3 2 5 4 3 2\\nrow 4 5 2 3 4 5\\nrow 5 4 3 2 5 5\\napart 0 1 1 0 4 0 0 4 0 2 0 1 0 1 0\\nend\\n\",\"code\":\"0.33\"},{\"certificate\":\"mqc 1\\ncode 0.75\\norder 8\\nstart 8\\nperiod 2\\nphi 1 2 1 2 3 2 3 2 4\\nportion 1 7\\nwords 0:1 0:2 0:5 0:9 1:2 1:5 1:9\\nrow 0 1 2 3 4 5 6 7\\nrow 1 0 5 6 7 2 3 4\\nrow 2 5 7 5 5 4 2 2\\nrow 3 6 5 7 7 2 4 4\\nrow 4 7 5 7 7 2 4 4\\nrow 5 2 4 2 2 7 5 5\\nrow 6 3 2 4 4 5 7 7\\nrow 7 4 2 4 4 5 7 7\\napart 0 1 1 3 1 1 0 0 0 0 0 0 4 2 1 2 2 0 1 3 3 0 1 1 0 5 0 0\\nend\\n\",\"code\":\"0.75\"}],\"version\":1}";
 
-/// Lists a file, and gives what is printed.
-fn listed(alloc: Global, held: &str) -> Result<(Result<bool, CatalogueStop>, MemorySink), Memory> {
+/// Lists a file.
+fn listed(alloc: Global, held: &str) -> Result<Result<Report, CatalogueStop<'static>>, Memory> {
     let mut folder = MemoryFolder::new(alloc);
     folder.put("x.json", held.as_bytes())?;
-    let mut out = MemorySink::new(alloc);
-    let ended = list(alloc, &mut folder, "x.json", LIMIT, &mut out);
-    Ok((ended, out))
+    Ok(list(alloc, &mut folder, "x.json", LIMIT))
 }
 
 #[test]
@@ -59,22 +56,11 @@ fn lists_a_file_or_says_why_not(rt: HostRuntime) -> Result<(), Fail> {
         (ONE_ENTRY, true, "0.3 order 2 start 1 period 2\n"),
     ];
     for (held, well, printed) in rows {
-        let (ended, out) = listed(rt.alloc(), held)?;
-        assert_eq!(rt; ended, Ok(well), "of {held}");
-        assert_eq!(rt; out.bytes(), printed.as_bytes(), "of {held}");
+        let report = listed(rt.alloc(), held)??;
+        assert_eq!(rt; report.well, well, "of {held}");
+        assert_eq!(rt; report.text.as_str(), printed, "of {held}");
     }
     Ok(())
-}
-
-/// Adds the certificate to the file, and gives what is printed.
-fn added(
-    alloc: Global,
-    folder: &mut MemoryFolder,
-    fresh: bool,
-) -> (Result<bool, CatalogueStop>, MemorySink) {
-    let mut out = MemorySink::new(alloc);
-    let ended = add(alloc, folder, "x.json", "a.mqc", fresh, LIMIT, &mut out);
-    (ended, out)
 }
 
 #[test]
@@ -86,9 +72,9 @@ fn adds_an_entry_once(rt: HostRuntime) -> Result<(), Fail> {
         (false, false, "refused 1 Present\n"),
     ];
     for (fresh, well, printed) in rows {
-        let (ended, out) = added(rt.alloc(), &mut folder, fresh);
-        assert_eq!(rt; ended, Ok(well));
-        assert_eq!(rt; out.bytes(), printed.as_bytes());
+        let report = add(rt.alloc(), &mut folder, "x.json", "a.mqc", fresh, LIMIT)?;
+        assert_eq!(rt; report.well, well);
+        assert_eq!(rt; report.text.as_str(), printed);
         assert_eq!(rt; folder.bytes("x.json"), Some(ONE_ENTRY.as_bytes()));
     }
     Ok(())
@@ -97,7 +83,9 @@ fn adds_an_entry_once(rt: HostRuntime) -> Result<(), Fail> {
 #[test]
 fn begins_with_an_empty_catalogue(rt: HostRuntime) -> Result<(), Fail> {
     let mut folder = MemoryFolder::new(rt.alloc());
-    assert!(rt; create(rt.alloc(), &mut folder, "x.json").is_ok());
+    let report = create(rt.alloc(), &mut folder, "x.json")?;
+    assert!(rt; report.well);
+    assert_eq!(rt; report.text.as_str(), "");
     assert_eq!(rt;
         folder.bytes("x.json"),
         Some(b"{\"entries\":[],\"version\":1}\n".as_slice())
@@ -107,62 +95,47 @@ fn begins_with_an_empty_catalogue(rt: HostRuntime) -> Result<(), Fail> {
 
 #[test]
 fn gets_a_certificate(rt: HostRuntime) -> Result<(), Fail> {
-    let rows = [
-        ("0.3", Ok(true), NIM),
-        ("0.33", Ok(false), "absent\n"),
-        ("0.x", Err(CatalogueStop::Code), ""),
-    ];
+    let rows = [("0.3", true, NIM), ("0.33", false, "absent\n")];
     let mut folder = MemoryFolder::new(rt.alloc());
     folder.put("x.json", ONE_ENTRY.as_bytes())?;
-    for (code, ended, printed) in rows {
-        let mut out = MemorySink::new(rt.alloc());
-        let answer = get(rt.alloc(), &mut folder, "x.json", code, LIMIT, &mut out);
-        assert_eq!(rt; answer, ended, "of {code}");
-        assert_eq!(rt; out.bytes(), printed.as_bytes(), "of {code}");
+    for (code, well, printed) in rows {
+        let report = get(rt.alloc(), &mut folder, "x.json", code, LIMIT)?;
+        assert_eq!(rt; report.well, well, "of {code}");
+        assert_eq!(rt; report.text.as_str(), printed, "of {code}");
     }
+    let stop = get(rt.alloc(), &mut folder, "x.json", "0.x", LIMIT);
+    assert!(rt; matches!(stop, Err(CatalogueStop::NotACode)));
     Ok(())
 }
 
 #[test]
 fn keeps_the_file_where_a_call_fails(rt: HostRuntime) -> Result<(), Fail> {
-    let rows = [
-        (1, Err(CatalogueStop::Certificate), None),
-        (2, Err(CatalogueStop::Write), None),
-        (3, Ok(true), Some(ONE_ENTRY.as_bytes())),
-    ];
-    for (number, ended, held) in rows {
+    let rows = [(1, CatalogueStop::Read("a.mqc")), (2, CatalogueStop::Write)];
+    for (number, stop) in rows {
         let mut folder = MemoryFolder::failing(rt.alloc(), number);
         folder.put("a.mqc", NIM.as_bytes())?;
-        let (answer, _out) = added(rt.alloc(), &mut folder, true);
-        assert_eq!(rt; answer, ended, "at {number}");
-        assert_eq!(rt; folder.bytes("x.json"), held, "at {number}");
+        let answer = add(rt.alloc(), &mut folder, "x.json", "a.mqc", true, LIMIT);
+        assert_eq!(rt; answer.err(), Some(stop), "at {number}");
+        assert_eq!(rt; folder.bytes("x.json"), None, "at {number}");
     }
     Ok(())
-}
-
-/// Salvages the file, and gives what is printed.
-fn salvaged(alloc: Global, folder: &mut MemoryFolder) -> (Result<bool, CatalogueStop>, MemorySink) {
-    let mut out = MemorySink::new(alloc);
-    let ended = salvage(alloc, folder, "x.json", LIMIT, &mut out);
-    (ended, out)
 }
 
 #[test]
 fn keeps_what_stands_of_a_damaged_file(rt: HostRuntime) -> Result<(), Fail> {
     let mut folder = MemoryFolder::new(rt.alloc());
     folder.put("x.json", DAMAGED.as_bytes())?;
-    let (ended, out) = salvaged(rt.alloc(), &mut folder);
-    assert_eq!(rt; ended, Ok(true));
+    let report = salvage(rt.alloc(), &mut folder, "x.json", LIMIT)?;
+    assert!(rt; report.well);
     assert_eq!(rt;
-        out.bytes(),
-        b"refused 3 Entry 2 no 2 Law\nkept 2\n".as_slice()
+        report.text.as_str(),
+        "refused 3 Entry 2 no 2 Law\nkept 2\n"
     );
-    let mut out = MemorySink::new(rt.alloc());
-    let ended = list(rt.alloc(), &mut folder, "x.json", LIMIT, &mut out);
-    assert_eq!(rt; ended, Ok(true));
+    let report = list(rt.alloc(), &mut folder, "x.json", LIMIT)?;
+    assert!(rt; report.well);
     assert_eq!(rt;
-        out.bytes(),
-        b"0.3 order 2 start 1 period 2\n0.75 order 8 start 8 period 2\n".as_slice()
+        report.text.as_str(),
+        "0.3 order 2 start 1 period 2\n0.75 order 8 start 8 period 2\n"
     );
     Ok(())
 }
@@ -171,9 +144,9 @@ fn keeps_what_stands_of_a_damaged_file(rt: HostRuntime) -> Result<(), Fail> {
 fn leaves_what_is_no_catalogue(rt: HostRuntime) -> Result<(), Fail> {
     let mut folder = MemoryFolder::new(rt.alloc());
     folder.put("x.json", b"[]".as_slice())?;
-    let (ended, out) = salvaged(rt.alloc(), &mut folder);
-    assert_eq!(rt; ended, Ok(false));
-    assert_eq!(rt; out.bytes(), b"refused 2 Shape\n".as_slice());
+    let report = salvage(rt.alloc(), &mut folder, "x.json", LIMIT)?;
+    assert!(rt; !report.well);
+    assert_eq!(rt; report.text.as_str(), "refused 2 Shape\n");
     assert_eq!(rt; folder.bytes("x.json"), Some(b"[]".as_slice()));
     Ok(())
 }

@@ -7,7 +7,7 @@ use Rattle.command_line.specs.Refusals.{AsksForHelp, IsTrueOf}
 use Rattle.command_line.specs.Requests.{Request, plan_of}
 use Rattle.command_line.specs.Status.{status_of, text_of}
 use Rattle.command_line.specs.declared.faults.UsageFault.{UsageFault}
-use Rattle.misere.specs.Says.{Says}
+use Rattle.misere.specs.Says.{Leaves, Says, file_written}
 use Rattle.misere.specs.Stops.{Failed, IsCause, stop_line, stop_status}
 use Rattle.misere.specs.declared.stop.Stop.{Stop}
 use Rattle.misere.specs.declared.stop.Stop.TheVariants.{Write, Memory}
@@ -54,10 +54,10 @@ pub data Printed (out out' err err' : Printer) (text : List ℕ) (well status : 
 abbrev pub status_if : Bool → ℕ
 status_if well = if well then 0 else 1
 
--- What a run did that was asked for this, and ended with this status: it said so, or stopped before anything was printed, for a
--- cause of this request. Every file is as it was.
+-- What a run did that was asked for this, and ended with this status: it said so, and no file has changed but the one that the request
+-- writes where it ends well; or it stopped before anything was printed, for a cause of this request, and every file is as it was.
 pub data Obeys (request : Request) (old new : Scene) (status : ℕ) : Type 0 where
-  Done : (text : List ℕ) (well : Bool) → Says old.input old.files request text well → new.files ≡ old.files
+  Done : (text : List ℕ) (well : Bool) → Says old.input old.files new.files request text well → Leaves (file_written request well) old.files new.files
       → Printed old.out new.out old.err new.err text (status_if well) status → Obeys request old new status
   Stopped : (stop : Stop) → IsCause request old.failed new.failed stop → new.files ≡ old.files → new.out ≡ old.out
       → Tells old.err new.err (stop_line stop) → status ≡ stop_status stop → Obeys request old new status

@@ -1,14 +1,16 @@
 -- What a run says: the text that it prints, and whether it ends well. This project's own.
 use Rattle.std.specs.Prelude.{◌≡◌, ℕ, Bool, true, false, List, [], Option, Some, None, Result, Ok, Err, Vec}
 use Rattle.misere_theory.specs.Certificates.{Certificate}
-use Rattle.folders.specs.Files.{Holds}
+use Rattle.folders.specs.Files.{Holds, Replaces}
 use Rattle.positions.specs.Text.{IsTextOf}
 use Rattle.checker.specs.Answers.{IsTrueOf}
 use Rattle.checker.specs.Answers.Answer.{Yes}
 use Rattle.player.specs.Answers.{IsRightAnswer}
 use Rattle.player.specs.declared.answering.Answer.{Answer}
 use Rattle.command_line.specs.Numbers.{default_limit}
-use Rattle.command_line.specs.Requests.{Request}
+use Rattle.catalogue_command.specs.Answers.{Adds, Creates, Gets, Lists, Salvages}
+use Rattle.command_line.specs.Requests.{CatalogueRequest, Request}
+use Rattle.command_line.specs.Requests.CatalogueRequest.{Print, New, Add, NewWith, Get, Salvage}
 use Rattle.command_line.specs.Requests.Request.{Check, Solve, Show, Play, Present, Catalogue}
 use Rattle.solve_command.specs.Solved.{Solves}
 use Rattle.solve_command.specs.declared.bounds.SolveBounds.{SolveBounds}
@@ -72,13 +74,47 @@ Shows files file text false = SaysOfFile files file default_limit text false
 abbrev pub SaysSolved : List ℕ → SolveBounds → List ℕ → Bool → Type 0
 SaysSolved code bounds text found = Solves code bounds (Some []) (Some text) found
 
--- what is said for each request, by what is left of standard input and by the files
-abbrev pub Says : Option (List ℕ) → Option (List ℕ → Option (List ℕ)) → Request → List ℕ → Bool → Type 0
-Says input files (Check None limit) text well = SaysOfStream input limit text well
-Says input files (Check (Some file) limit) text well = SaysOfFile files file limit text well
-Says input files (Solve code limit rounds heaps order) text well =
+-- what is said of a catalogue file, and what it holds then, by the files before and after
+abbrev pub SaysOfCatalogue : Option (List ℕ → Option (List ℕ)) → Option (List ℕ → Option (List ℕ)) → List ℕ → CatalogueRequest → List ℕ → Bool → Type 0
+SaysOfCatalogue before after file Print text well = Lists default_limit before file well text
+SaysOfCatalogue before after file New text well = Creates before after file well text
+SaysOfCatalogue before after file (Add certificate) text well = Adds false default_limit before after file certificate well text
+SaysOfCatalogue before after file (NewWith certificate) text well = Adds true default_limit before after file certificate well text
+SaysOfCatalogue before after file (Get code) text well = Gets default_limit before file code well text
+SaysOfCatalogue before after file Salvage text well = Salvages default_limit before after file well text
+
+-- What is said for each request, by what is left of standard input and by the files. What files hold then is said here of a catalogue
+-- alone; the other requests leave every file as it is.
+abbrev pub Says : Option (List ℕ) → Option (List ℕ → Option (List ℕ)) → Option (List ℕ → Option (List ℕ)) → Request → List ℕ → Bool → Type 0
+Says input before after (Check None limit) text well = SaysOfStream input limit text well
+Says input before after (Check (Some file) limit) text well = SaysOfFile before file limit text well
+Says input before after (Solve code limit rounds heaps order) text well =
     SaysSolved code (record { limit = limit; rounds = rounds; heaps = heaps; order = order }) text well
-Says input files (Show file) text well = Shows files file text well
-Says input files (Play file position) text well = Plays files file position text well
-Says input files (Present presentation) text well = Presents presentation text well
-Says input files (Catalogue file task) text well = ⊥
+Says input before after (Show file) text well = Shows before file text well
+Says input before after (Play file position) text well = Plays before file position text well
+Says input before after (Present presentation) text well = Presents presentation text well
+Says input before after (Catalogue file task) text well = SaysOfCatalogue before after file task text well
+
+-- the file, where what writes it ends well
+abbrev pub file_if : List ℕ → Bool → Option (List ℕ)
+file_if file true = Some file
+file_if file false = None
+
+-- the catalogue file, where the task writes it
+abbrev pub catalogue_written : List ℕ → CatalogueRequest → Bool → Option (List ℕ)
+catalogue_written file Print well = None
+catalogue_written file New well = file_if file well
+catalogue_written file (Add certificate) well = file_if file well
+catalogue_written file (NewWith certificate) well = file_if file well
+catalogue_written file (Get code) well = None
+catalogue_written file Salvage well = file_if file well
+
+-- the one file that a request writes
+abbrev pub file_written : Request → Bool → Option (List ℕ)
+file_written (Catalogue file task) well = catalogue_written file task well
+file_written _ well = None
+
+-- every file is as it was, or every file but one, which holds a new text
+abbrev pub Leaves : Option (List ℕ) → Option (List ℕ → Option (List ℕ)) → Option (List ℕ → Option (List ℕ)) → Type 0
+Leaves None before after = after ≡ before
+Leaves (Some file) before after = (bytes : List ℕ) × Replaces before after file bytes

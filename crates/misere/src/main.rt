@@ -1,6 +1,7 @@
 // The program: its words, the machine's files and its streams go to one whole run.
 #![tactic(auto)]
 
+mod cataloguing;
 mod certifying;
 mod checking;
 mod ending;

@@ -1,11 +1,12 @@
 //! What ends a run before anything is printed.
 ghost use Rattle.std.specs.Prelude.{◌≡◌, ◌≤◌};
-ghost use Rattle.misere.specs.Stops.{stop_line, stop_status};
+ghost use Rattle.misere.specs.Stops.{stop_line, stop_of, stop_status};
 ghost use Rattle.misere.specs.Ends.{Tells, printer};
 ghost use Rattle.misere.specs.declared.stop.Stop.TheVariants.{«Memory» as OutOfMemory};
 
 use crate::telling::tell;
 use allocation::Memory;
+use catalogue_command::CatalogueStop;
 use std::alloc::AllocError;
 use streams::Sink;
 
@@ -24,8 +25,6 @@ pub enum Stop<'a> {
     NotACode,
     /// A word is not text.
     NotUtf8,
-    /// The command isn't there yet.
-    Absent,
 }
 
 impl Stop<'_> {
@@ -35,7 +34,7 @@ impl Stop<'_> {
         ensures late { 2 ≤ result }
     {
         match self {
-            Stop::NotAPosition | Stop::NotACode | Stop::NotUtf8 | Stop::Absent => 2,
+            Stop::NotAPosition | Stop::NotACode | Stop::NotUtf8 => 2,
             Stop::Read(_) | Stop::Write | Stop::Memory => 3,
         }
     }
@@ -51,7 +50,6 @@ impl Stop<'_> {
             Stop::NotAPosition => tell(err, "misere: not a position\n", "", ""),
             Stop::NotACode => tell(err, "misere: not a code\n", "", ""),
             Stop::NotUtf8 => tell(err, "misere: a word isn't UTF-8\n", "", ""),
-            Stop::Absent => tell(err, "misere: not there yet\n", "", ""),
         }
     }
 }
@@ -69,5 +67,18 @@ impl From<Memory> for Stop<'_> {
 
     fn from(_: Memory) -> Self {
         Stop::Memory
+    }
+}
+
+impl<'a> From<CatalogueStop<'a>> for Stop<'a> {
+    ghost from_gives = { λ cause stop. stop ≡ stop_of cause };
+
+    fn from(cause: CatalogueStop<'a>) -> Stop<'a> {
+        match cause {
+            CatalogueStop::Read(name) => Stop::Read(name),
+            CatalogueStop::Write => Stop::Write,
+            CatalogueStop::Memory => Stop::Memory,
+            CatalogueStop::NotACode => Stop::NotACode,
+        }
     }
 }

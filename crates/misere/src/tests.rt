@@ -1,4 +1,5 @@
 //! Whole runs: the words in, the exit status and what is printed out.
+mod catalogues;
 mod certificates;
 mod fakes;
 mod games;

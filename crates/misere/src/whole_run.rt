@@ -1,12 +1,13 @@
 //! A whole run.
-ghost use Rattle.std.specs.Prelude.{◌≡◌, ◌≤◌, Some, false, IfOk, IfErr, map};
+ghost use Rattle.std.specs.Prelude.{◌≡◌, ◌≤◌, Some, false, IfOk, IfErr, OnErr, map};
 ghost use Rattle.command_line.specs.Plans.{request_of};
 ghost use Rattle.command_line.specs.Requests.{plan_of};
 ghost use Rattle.command_line.specs.Status.{status_of, text_of};
 ghost use Rattle.misere.specs.Ends.{Ends, Obeys, Printed, Tells, printer, scene};
-ghost use Rattle.misere.specs.Says.{Says};
+ghost use Rattle.misere.specs.Says.{Leaves, Says, file_written};
 ghost use Rattle.misere.specs.Stops.{IsCause, failed, reads_input, stop_status, takes_files};
 
+use crate::cataloguing::catalogue_said;
 use crate::checking::{check_file, check_input};
 use crate::playing::play_command;
 use crate::presenting::present_command;
@@ -22,16 +23,17 @@ use std::alloc::{AllocError, Global};
 use std::convert::AsStr;
 use streams::{Sink, Source, write_whole};
 
-/// What is said of what is planned. Every file stays as it is; standard input and the files are left alone by the plans that
-/// don't read them, and by words that are refused.
+/// What is said of what is planned. Every file stays as it is but the one that the plan writes where it ends well; standard input and
+/// the files are left alone by the plans that don't read them, and by words that are refused.
 fn carry_out<'a, F: Folder, S: Source>(
     alloc: Global,
     plan: Plan<'a>,
     folder: &mut F,
     input: &mut S,
 ) -> Result<Said, Stop<'a>>
-    ensures says { IfOk result (λ s. Says (S.left input.old) (F.files folder.old) (request_of plan.entry) s.text.items s.well) }
-    ensures kept { F.files folder.new ≡ F.files folder.old }
+    ensures says { IfOk result (λ s. Says (S.left input.old) (F.files folder.old) (F.files folder.new) (request_of plan.entry) s.text.items s.well) }
+    ensures leaves { IfOk result (λ s. Leaves (file_written (request_of plan.entry) s.well) (F.files folder.old) (F.files folder.new)) }
+    ensures kept { OnErr result (F.files folder.new ≡ F.files folder.old) }
     ensures stops { IfErr result (IsCause (request_of plan.entry)
         (failed (S.failures input.old) (F.failed_reads folder.old) (F.failed_writes folder.old))
         (failed (S.failures input.new) (F.failed_reads folder.new) (F.failed_writes folder.new))) }
@@ -62,7 +64,7 @@ fn carry_out<'a, F: Folder, S: Source>(
             };
             solve_text(alloc, code, bounds)
         }
-        Plan::Catalogue { file: _, task: _ } => Err(Stop::Absent),
+        Plan::Catalogue { file, task } => catalogue_said(alloc, file, task, folder),
     }
 }
 
@@ -162,8 +164,9 @@ fn texts_of<'a, T: AsStr>(alloc: Global, words: &'a [T]) -> Result<Vec<&'a str>,
 /// Does a whole run by the words, the program's name first, and answers the exit status: 0 for yes, done or help, 1 for no or a
 /// refusal, 2 for words that are no request or a position that can't be read, 3 where a device failed or memory was wanting.
 /// What is asked for is printed whole on standard output, or a beginning of it where that fails; why a run ended with 2 or 3 is
-/// told on standard error, where nothing is told with 0 and 1. No file is changed. Standard input and the files are left alone
-/// by the commands that don't read them, and the files by words that are refused.
+/// told on standard error, where nothing is told with 0 and 1. No file is changed but the catalogue file by what is asked to write it:
+/// where that ends well it holds the new text, and else what it held. Standard input and the files are left alone by the commands that
+/// don't read them, and the files by words that are refused.
 pub fn run<F: Folder, S: Source, W: Sink, E: Sink, T: AsStr>(
     alloc: Global,
     words: &[T],

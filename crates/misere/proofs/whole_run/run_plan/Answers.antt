@@ -6,7 +6,7 @@ use Rattle.misere.proofs.whole_run.run_plan.Goals as goal
 
 pub returns-in-Ok-clause-obeys : goal.returns-in-Ok-clause-obeys
 returns-in-Ok-clause-obeys g c =
-    Done c.in-Ok.said.text.items c.in-Ok.said.well c.in-Ok.ensures.says c.in-Ok.ensures.kept
+    Done c.in-Ok.said.text.items c.in-Ok.said.well c.in-Ok.ensures.says c.in-Ok.ensures.leaves
     (printed_same _ _ _ _ _ _ _ _ _ c.deref.ensures.value c.status.ensures c.print.ensures.printed)
 
 pub returns-in-Err-clause-obeys : goal.returns-in-Err-clause-obeys
