@@ -10,6 +10,16 @@ pub mod SpellLemmas
 pub mod HeapLemmas
 pub mod ElementLemmas
 pub mod UnitLemmas
+pub mod TurnLemmas
+pub mod LoopTurns
+pub mod HeapTurns
+pub mod SortLemmas
+pub mod ElementTurns
+pub mod LawTurns
+pub mod ReadTurns
+pub mod PayLemmas
+pub mod MeasureLemmas
+pub mod CostLemmas
 pub mod StageLemmas
 pub mod AnswerLemmas
 pub mod HeldLemmas

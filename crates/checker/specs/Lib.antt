@@ -7,4 +7,7 @@ pub mod Refusals
 pub mod Answers
 pub mod JobViews
 pub mod Jobs
+pub mod Views
+pub mod Turns
+pub mod Measures
 pub mod Stages

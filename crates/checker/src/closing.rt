@@ -4,10 +4,12 @@ ghost use Rattle.misere_theory.specs.Games.{IsHeapUpTo};
 ghost use Rattle.misere_theory.specs.Pairs.{ElementsObey};
 ghost use Rattle.misere_theory.specs.Certificates.{Accepted, Canonical, claim_of};
 ghost use Rattle.pair_closure.specs.Positions.{IsClosedOver, IsExceeded};
-ghost use Rattle.pair_closure.specs.Progress.{SameData, blank_held};
+ghost use Rattle.pair_closure.specs.Progress.{SameData, begun, blank_held};
+ghost use Rattle.certificate.specs.Pieces.{grid_of};
 ghost use Rattle.checker.specs.Rules.{Breaks, HeldObey};
 ghost use Rattle.checker.specs.Closings.{HavePairs, bound_of};
 ghost use Rattle.checker.specs.Units.{stage_units};
+ghost use Rattle.checker.specs.Views.{closing_units};
 ghost use Rattle.checker.specs.Stages.{Carries, Pays};
 
 use crate::certified::Certified;
@@ -39,13 +41,17 @@ impl<A: Room> Model for Closing<A> {
     ghost use Rattle.certificate.specs.Pieces.{certificate_of};
     ghost use Rattle.checker.specs.Sheets.{pieces_of};
     ghost use Rattle.std.specs.Prelude.{◌+◌, ◌-◌, ◌*◌, length};
-    ghost use Rattle.checker.specs.Units.{Limited};
+    ghost use Rattle.checker.specs.Views.{ClosingView};
     ghost use Rattle.checker.specs.Closings.{IsClosing};
     ghost use Rattle.checker.specs.Rules.{HeldObey};
+    ghost use Rattle.element_sets.specs.contracts.ElementSet as e;
+    ghost use Rattle.std.specs.Coded.{codes};
 
-    ghost Value = { Limited };
+    ghost Value = { ClosingView };
 
-    ghost view = { λ s. record { certificate = certificate_of (pieces_of s.code s.closure.state.table s.phi s.lines.portion.items s.lines.words.items s.lines.apart.items); limit = s.closure.state.limit; units = s.closure.state.limit * length s.closure.state.heaps + 2 - s.closure.spent } };
+    ghost coded = { Prim.hlevel (codes, e.the_row.coded) };
+
+    ghost view = { λ s. record { certificate = certificate_of (pieces_of s.code s.closure.state.table s.phi s.lines.portion.items s.lines.words.items s.lines.apart.items); closure = s.closure } };
 
     ghost invariant = { λ s.
         IsClosing (pieces_of s.code s.closure.state.table s.phi s.lines.portion.items s.lines.words.items s.lines.apart.items) s.lines.inside s.closure.state.heaps
@@ -139,9 +145,8 @@ impl<A: Room + Copy> Closing<A> {
         requires canonical { Canonical sheet }
         requires pairs { HavePairs sheet pairs.items }
         requires elements { ElementsObey sheet.code (claim_of sheet) (IsHeapUpTo (bound_of sheet)) }
-        ensures certificate { result.certificate ≡ sheet }
-        ensures limit { result.limit ≡ limit }
-        ensures units { result.units < stage_units }
+        ensures value { result ≡ record { certificate = sheet; closure = begun (grid_of sheet) pairs.items limit } }
+        ensures units { closing_units result < stage_units }
     {
         let Sheet {
             code,
@@ -159,8 +164,8 @@ impl<A: Room + Copy> Closing<A> {
 
     /// Spends units until there are none or the stage ends.
     pub fn work(self, left: &mut u64) -> Stage<A>
-        ensures carries { Carries self.certificate self.limit result }
-        ensures pays { Pays (self.units + stage_units) left.old left.new result }
+        ensures carries { Carries self.certificate self.closure.state.limit result }
+        ensures pays { Pays (closing_units self + stage_units) left.old left.new result }
     {
         let Closing {
             code,

@@ -26,7 +26,7 @@ returns-in-Ok-Over-clause-carries g c =
     let t = c.close-closed.new.closure.state in
     let kept_data = c.close-closed.ensures.«data» in
     let more = over_reaches p s.lines.inside s.closure.state.heaps i t kept_data.table kept_data.heaps (c.close-closed.ensures.over (closed c.close-closed.result c.in-Ok-Over.field-0 Over c.in-Ok-Over.is (rw c.in-Ok-Over.is at c.in-Ok-Over.field-0-is))) in
-    subst (λ v. Fits v.certificate v.limit Limit) c.self.view_is
+    subst (λ v. Fits v.certificate v.closure.state.limit Limit) c.self.view_is
     (i.sheet.lawful.monoid, i.canonical, subst (ReachesMoreThan IsHeap p.code (claim_of (certificate_of p))) kept_data.limit more)
 
 pub returns-in-Ok-clause-carries : goal.returns-in-Ok-clause-carries
@@ -39,7 +39,7 @@ returns-in-Ok-clause-carries g c =
     let n = c.in-Ok-Broken.i in
     let broken : (n < length t.held) × Breaks s.lines.inside (slice_index_or t.held n blank_held).pair = c.close-closed.ensures.broken n (closed c.close-closed.result c.in-Ok-Broken.field-0 (Broken n) c.in-Ok-Broken.is (rw c.in-Ok-Broken.is at c.in-Ok-Broken.field-0-is)) in
     let fails = member_fails p s.lines.inside s.closure.state.heaps i t kept_data.table kept_data.heaps _ c.in-Ok.position c.in-Ok.ensures broken.1 in
-    subst (λ v. Fits v.certificate v.limit (Outcome s.code c.in-Ok.position)) c.self.view_is
+    subst (λ v. Fits v.certificate v.closure.state.limit (Outcome s.code c.in-Ok.position)) c.self.view_is
     (refl, (i.sheet.lawful.monoid, i.canonical, position_within _ c.in-Ok.position c.in-Ok.ensures.within, fails))
 
 pub word-requires : goal.word-requires
