@@ -20,10 +20,10 @@ turns-add (suc m) n s =
     let e : suc m + n ≡ suc (m + n) = omega arith in
     ap (λ k. turns k s) e ∙ turns-add m n (turn s)
 
-turn-over : (s : JobState) → is_over s ≡ true → turn s ≡ s
+pub turn-over : (s : JobState) → is_over s ≡ true → turn s ≡ s
 turn-over s over = ap (λ b. if b then s else record { grid = s.grid; spent = s.spent + 1; refused = not (triple_holds s.grid.order s.grid.entries s.spent) }) over
 
-turn-going : (s : JobState) → is_over s ≡ false → turn s ≡ state s.grid (s.spent + 1) (not (triple_holds s.grid.order s.grid.entries s.spent))
+pub turn-going : (s : JobState) → is_over s ≡ false → turn s ≡ state s.grid (s.spent + 1) (not (triple_holds s.grid.order s.grid.entries s.spent))
 turn-going s over = ap (λ b. if b then s else record { grid = s.grid; spent = s.spent + 1; refused = not (triple_holds s.grid.order s.grid.entries s.spent) }) over
 
 -- nothing happens after the end
@@ -32,7 +32,7 @@ unfolding turns
 turns-over zero s over = refl
 turns-over (suc n) s over = ap (turns n) (turn-over s over) ∙ turns-over n s over
 
-going : (g : Grid) (spent : ℕ) → spent < triples g.order → is_over (state g spent false) ≡ false
+pub going : (g : Grid) (spent : ℕ) → spent < triples g.order → is_over (state g spent false) ≡ false
 going g spent lt = differs spent (triples g.order) lt
   where
     differs : (m n : ℕ) → m < n → (m == n) ≡ false
@@ -117,10 +117,10 @@ over-answers s b over ok =
       | false ↦ λ e f. ap Ok e
     ] over ok
 
-over-or-not : (s : JobState) → (is_over s ≡ true) ⊎ (is_over s ≡ false)
+pub over-or-not : (s : JobState) → (is_over s ≡ true) ⊎ (is_over s ≡ false)
 over-or-not s = elim (is_over s) as (λ b. (b ≡ true) ⊎ (b ≡ false)) [ true ↦ inl refl | false ↦ inr refl ]
 
-clash : (b : Bool) → b ≡ true → b ≡ false → ⊥
+pub clash : (b : Bool) → b ≡ true → b ≡ false → ⊥
 clash b e f = cc
 
 turn-spends : (s : JobState) → ((turn s).spent ≤ s.spent + 1) × (is_over (turn s) ≡ false → (turn s).spent ≡ s.spent + 1)

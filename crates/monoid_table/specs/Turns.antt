@@ -1,5 +1,5 @@
 -- The laws of a table checked one triple of elements at a time.
-use Rattle.std.specs.Prelude.{ℕ, zero, suc, ◌+◌, ◌*◌, ◌/◌, ◌%◌, Bool, false, not, ◌&&◌, ◌||◌, ◌==◌, if◌then◌else◌, List}
+use Rattle.std.specs.Prelude.{ℕ, zero, suc, ◌+◌, ◌*◌, ◌/◌, ◌%◌, min, Bool, false, not, ◌&&◌, ◌||◌, ◌==◌, if◌then◌else◌, List}
 use Rattle.monoid_table.specs.Grids.{Grid, entry}
 
 -- how many triples were looked at, and whether a law failed at the last of them
@@ -43,3 +43,16 @@ turns (suc n) s = turns n (turn s)
 -- nothing looked at yet
 abbrev pub fresh : Grid → JobState
 fresh g = record { grid = g; spent = 0; refused = false }
+
+-- of the n triples from i on the first at which a law fails, or i + n
+unfoldable pub first_failing : Grid → ℕ → ℕ → ℕ
+first_failing g i zero = i
+first_failing g i (suc n) = if triple_holds g.order g.entries i then first_failing g (i + 1) n else i
+
+-- The triples before the first at which a law fails: all of them where none does.
+abbrev pub passing : Grid → ℕ
+passing g = first_failing g 0 (triples g.order)
+
+-- The turns from the start to the end: the triples that pass, and the one that fails, if there is one.
+abbrev pub table_cost : Grid → ℕ
+table_cost g = min (passing g + 1) (triples g.order)

@@ -34,7 +34,7 @@ small_tried code phi n H (LeavesOne j a l p h b) s = (One a, in_options code n (
 small_tried code phi n H (LeavesTwo j a b p q h s) w = (Two a b, in_options code n (largest_part phi) j (Two a b) (p, w.0, h, s) (let u = w.1 in omega arith), refl)
 
 -- the parts of what is tried are heaps
-tried_heaps : (code : List ℕ) (n j : ℕ) (left : Left) → IsLeftAt code n j left → IsPosition IsHeap (heaps_of left)
+pub tried_heaps : (code : List ℕ) (n j : ℕ) (left : Left) → IsLeftAt code n j left → IsPosition IsHeap (heaps_of left)
 tried_heaps code n j Nothing h = tt
 tried_heaps code n j (One a) h = (h.1, tt)
 tried_heaps code n j (Two a b) h = (h.0, (let l = h.0 in let m = h.1 in omega arith, tt))
@@ -72,7 +72,7 @@ module _ (table : Grid) (monoid : Monoid table.order (times_in table)) (phi : Pr
       let i = claim_gives a l in
       claim_monoid.commutes (c.phi a) 0 i claim_monoid.some ∙ claim_monoid.identity (c.phi a) i ∙ agrees.phi_is a l
 
-  left_is : (left : Left) → IsPosition IsHeap (heaps_of left) → left_value table phi left ≡ value c (heaps_of left)
+  pub left_is : (left : Left) → IsPosition IsHeap (heaps_of left) → left_value table phi left ≡ value c (heaps_of left)
   left_is Nothing p = refl
   left_is (One a) p = sym (one_value a p.0)
   left_is (Two a b) p =

@@ -35,6 +35,19 @@ sum_at_most f M a (suc n) h =
     let m : suc n * M ≡ n * M + M = grind arith in
     omega arith
 
+sum_at_least : (f : ℕ → ℕ) (a n : ℕ) → ((x : ℕ) → 1 ≤ f x) → n ≤ sum_by f (range_with_len a n)
+sum_at_least f a zero h = omega arith
+sum_at_least f a (suc n) h =
+    let e = sum_more f a (suc n) n refl in
+    let here = h a in
+    let rest = sum_at_least f (a + 1) n h in
+    omega arith
+
+-- a turn for each heap at least
+pub cost_long : (code : List ℕ) (phi : Pretending) → bound_of code phi ≤ heap_cost code phi
+unfolding heap_cost
+cost_long code phi = sum_at_least (cost_of code phi) 1 (bound_of code phi) (λ n. omega arith)
+
 module _ (code : List ℕ) (table : Grid) (phi : Pretending) where
   left_tried : (n : ℕ) (seen : _) (pairs : List Pair) (coming : List Left) → n ≤ bound_of code phi
       → left code phi (tried code table phi n seen pairs coming) + 1 ≡ length coming + 1 + sum_by (cost_of code phi) (range_with_len (n + 1) (bound_of code phi - n))

@@ -8,3 +8,4 @@ mod Turning
 mod Cost
 mod Running
 mod Every
+mod Unique

@@ -1,9 +1,11 @@
 -- The pairs of heaps, as any claim that agrees with a table and a pretending function has them.
-use Rattle.std.specs.Prelude.{◌≡◌, ℕ, ◌+◌, ◌-◌, ◌<◌, ◌≤◌, ◌↔◌, List, length, slice_index_or, IsTrue, All}
+use Rattle.std.specs.Prelude.{◌≡◌, ℕ, ◌+◌, ◌-◌, ◌<◌, ◌≤◌, ◌↔◌, List, length, map, slice_index_or, IsTrue, All}
+use Rattle.std.specs.List.{range_with_len}
 use Rattle.std.specs.FinSet as set
 use Rattle.misere_theory.specs.Quotients.{Claim, HeapOptionValue}
 use Rattle.misere_theory.specs.Pairs.{heap_bound}
 use Rattle.monoid_table.specs.Grids.{Grid, times_in}
+use Rattle.positions.specs.Options.{options_of}
 use Rattle.positions.specs.declared.left.Left.{Left}
 use Rattle.positions.specs.declared.left.Left.TheVariants.{Nothing, One, Two}
 use Rattle.transition_algebra.specs.Pretending.{Pretending, phi_at}
@@ -46,3 +48,11 @@ abbrev pub left_value : Grid → Pretending → Left → ℕ
 left_value table phi Nothing = 0
 left_value table phi (One a) = phi_at phi a
 left_value table phi (Two a b) = times_in table (phi_at phi a) (phi_at phi b)
+
+-- the pair of the heap n: its element, and the values of all its options
+abbrev pub heap_pair : List ℕ → Grid → Pretending → ℕ → Pair
+heap_pair code table phi n = record { value = phi_at phi n; options = set.from_list (map (left_value table phi) (options_of code n)) }
+
+-- the pairs of the heaps 1 to B
+abbrev pub all_heap_pairs : List ℕ → Grid → Pretending → List Pair
+all_heap_pairs code table phi = map (heap_pair code table phi) (range_with_len 1 (bound_of code phi))

@@ -1,7 +1,7 @@
 //! The pairs of the heaps, made in pieces.
 ghost use Rattle.std.specs.Prelude.{◌≡◌, ◌+◌, ◌<◌, ◌≤◌, ◌↔◌, All, IsTrue, IsErr, IfOk, OnOk, OnErr, true, false};
 ghost use Rattle.transition_algebra.specs.Pairs.{IsPair};
-ghost use Rattle.transition_algebra.specs.Heaps.{IsInto, AreAllHeapPairs};
+ghost use Rattle.transition_algebra.specs.Heaps.{IsInto, AreAllHeapPairs, all_heap_pairs};
 ghost use Rattle.transition_algebra.specs.Work.{IsDone, worked, heap_cost, turns, opening};
 
 use crate::pair::Pair;
@@ -82,6 +82,7 @@ impl<A: Allocator> HeapJob<A> {
         ensures done { IfOk result (λ done. IsTrue done ↔ IsDone self.new) }
         ensures refused { OnErr result (self.new ≡ record self.old { spent = self.new.spent; refused = true }) }
         ensures spent { (self.old.spent ≤ self.new.spent) × (self.new.spent ≤ self.old.spent + units) × (self.new.spent ≤ heap_cost self.new.code self.new.phi) }
+        ensures short { OnErr result (self.old.refused ≡ false → (self.new.spent < self.old.spent + units) × (self.new.spent < heap_cost self.new.code self.new.phi)) }
         ensures stays { IsTrue self.old.refused → IsErr result × (self.new ≡ self.old) }
     {
         if self.refused {
@@ -106,6 +107,7 @@ impl<A: Allocator> HeapJob<A> {
         ensures code { result.0 ≡ self.code }
         ensures table { result.1 ≡ self.table }
         ensures phi { result.2 ≡ self.phi }
+        ensures made { result.3.items ≡ all_heap_pairs self.code self.table self.phi }
         ensures exact { AreAllHeapPairs self.code self.table self.phi result.3.items }
         ensures within { All (IsPair self.table.order) result.3.items }
     {

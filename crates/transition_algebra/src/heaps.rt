@@ -3,7 +3,7 @@ ghost use Rattle.std.specs.Prelude.{◌≡◌, ◌+◌, ◌-◌, ◌<◌, IfOk, 
 ghost use Rattle.misere_theory.specs.Games.{IsHeap, IsPosition};
 ghost use Rattle.positions.specs.Exact.{heaps_of};
 ghost use Rattle.transition_algebra.specs.Pairs.{IsPair};
-ghost use Rattle.transition_algebra.specs.Heaps.{IsInto, AreAllHeapPairs, bound_of, left_value};
+ghost use Rattle.transition_algebra.specs.Heaps.{IsInto, AreAllHeapPairs, all_heap_pairs, bound_of, left_value};
 
 use crate::pair::Pair;
 use crate::phi::{Phi, is_pretending};
@@ -60,6 +60,7 @@ pub fn heap_pairs<A: Allocator + Copy>(
     phi: &Phi<A>,
 ) -> Result<Vec<Pair, A>, Memory>
     requires { IsInto table.now phi.now }
+    ensures made { IfOk result (λ pairs. pairs.items ≡ all_heap_pairs code.now table.now phi.now) }
     ensures exact { IfOk result (λ pairs. AreAllHeapPairs code.now table.now phi.now pairs.items) }
     ensures within { IfOk result (λ pairs. All (IsPair table.now.order) pairs.items) }
 {

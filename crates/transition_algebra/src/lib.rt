@@ -16,6 +16,6 @@ mod wholes;
 
 pub use heap_job::HeapJob;
 pub use heaps::heap_pairs;
-pub use laws::{cuts_do_not_matter, heap_jobs_end, pairs_show_every_heap};
+pub use laws::{cuts_do_not_matter, heap_jobs_end, heap_pairs_are_one_list, pairs_show_every_heap};
 pub use pair::{Pair, Pairs};
 pub use phi::{Phi, is_pretending};

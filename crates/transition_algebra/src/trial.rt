@@ -212,7 +212,7 @@ impl Trial {
         ensures trial { IsTrial code.now table.now phi.now self.new pairs.new.items }
         ensures kept { AreWholes table.now phi.now wholes.new.sets.items }
         ensures ok { OnOk result (self.new.spent ≡ min (self.old.spent + units) (heap_cost code.now phi.now)) }
-        ensures err { OnErr result ((self.old.spent ≤ self.new.spent) × (self.new.spent < self.old.spent + units)) }
+        ensures err { OnErr result ((self.old.spent ≤ self.new.spent) × (self.new.spent < self.old.spent + units) × (self.new.spent < heap_cost code.now phi.now)) }
     {
         let _last = code.last();
         let mut left = units;

@@ -1,10 +1,11 @@
-use Rattle.std.proofs.Common.{sym, subst}
+use Rattle.std.proofs.Common.{◌≡◌, sym, subst}
 use Rattle.std.specs.List.{All}
 use Rattle.transition_algebra.specs.Pairs.{IsPair}
-use Rattle.transition_algebra.specs.Heaps.{AreAllHeapPairs, bound_of}
+use Rattle.transition_algebra.specs.Heaps.{AreAllHeapPairs, all_heap_pairs, bound_of}
 use Rattle.transition_algebra.specs.Work.{IsDone}
 use Rattle.transition_algebra.proofs.Running.{finished}
 use Rattle.transition_algebra.proofs.Within.{all_in}
+use Rattle.transition_algebra.proofs.Unique.{all_pairs}
 use Rattle.transition_algebra.proofs.heap_job.HeapJob.finish.Goals as goal
 
 pub returns-clause-exact : goal.returns-clause-exact
@@ -18,4 +19,11 @@ returns-clause-within g c =
     let j = c.self.inside in
     subst (λ v. All (IsPair v.table.order) j.pairs.items) c.self.view_is
     (all_in j.table c.is_monoid.ensures.monoid j.phi c.self.invariant.0 j.code (bound_of j.code j.phi) j.pairs.items
+    (finished j.code j.table c.is_monoid.ensures.monoid j.phi c.is_pretending.ensures c.self.invariant.0 j.trial j.pairs.items c.self.invariant.1 (subst IsDone (sym c.self.view_is) c.requires)))
+
+pub returns-clause-made : goal.returns-clause-made
+returns-clause-made g c =
+    let j = c.self.inside in
+    subst (λ v. j.pairs.items ≡ all_heap_pairs v.code v.table v.phi) c.self.view_is
+    (all_pairs j.code j.table c.is_monoid.ensures.monoid j.phi c.is_pretending.ensures c.self.invariant.0 j.pairs.items
     (finished j.code j.table c.is_monoid.ensures.monoid j.phi c.is_pretending.ensures c.self.invariant.0 j.trial j.pairs.items c.self.invariant.1 (subst IsDone (sym c.self.view_is) c.requires)))

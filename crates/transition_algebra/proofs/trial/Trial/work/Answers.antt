@@ -1,7 +1,7 @@
-use Rattle.std.proofs.Common.{◌<◌, length, refl, ap, arith}
+use Rattle.std.proofs.Common.{◌<◌, ◌≤◌, length, refl, ap, arith}
 use Rattle.transition_algebra.specs.Heaps.{bound_of}
 use Rattle.transition_algebra.specs.Trials.{stages_left}
-use Rattle.transition_algebra.proofs.Running.{two_digits, all_spent, measure_falls, stages_few, on_err}
+use Rattle.transition_algebra.proofs.Running.{two_digits, room, all_spent, measure_falls, stages_few, on_err}
 use Rattle.transition_algebra.proofs.trial.Trial.work.Goals as goal
 
 pub loop-left-smaller : goal.loop-left-smaller
@@ -18,7 +18,9 @@ returns-in_err-left-clause-err g c =
     let sum = c.loop-left.invariant.1 in
     let few = c.loop-left.invariant.2 in
     let some = c.loop-left-test.true in
-    on_err c.from_residual.result (omega arith, omega arith)
+    let going : c.loop-left.self.heap ≤ bound_of c.args.code.now c.args.phi.now = let a = c.if-self.true in let b = c.loop-left.invariant.0.bound_is in omega arith in
+    let behind = room c.args.code.now c.args.table.now c.args.phi.now c.loop-left.self c.loop-left.pairs.items c.loop-left.invariant.0 going in
+    on_err c.from_residual.result (omega arith, omega arith, omega arith)
 
 pub returns-else-self-clause-ok : goal.returns-else-self-clause-ok
 returns-else-self-clause-ok g c =
