@@ -13,3 +13,5 @@ pub mod Positions
 pub mod Words
 pub mod Bound
 mod Keeping
+pub mod Calls
+mod Rising

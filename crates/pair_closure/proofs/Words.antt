@@ -1,6 +1,6 @@
 -- Words of members, as positions.
 use Rattle.std.proofs.Common.{◌≡◌, ℕ, zero, suc, ◌^◌, ◌<◌, ◌≤◌, List, [], ◌∷◌, ◌++◌, length, get_or, refl, sym, ap, ◌∙◌, subst, inl, inr, arith, Contains}
-use Rattle.std.specs.List.Sorted.{IsPermutation}
+use Rattle.std.specs.List.Sorted.{IsNonDecreasing, IsPermutation}
 use Rattle.std.proofs.lemmas.List.Sorted.{IsPermutation-refl, IsPermutation-append_left, IsPermutation-middle, IsPermutation-trans}
 use Rattle.misere_theory.specs.Games.{IsHeap, IsHeapUpTo, IsPosition}
 use Rattle.misere_theory.specs.Quotients.{Claim, Monoid}
@@ -21,6 +21,7 @@ use Rattle.pair_closure.proofs.PairLaws.{cover_laws}
 use Rattle.pair_closure.proofs.Theorem as reached
 use Rattle.pair_closure.proofs.Machine.{Reached, kept_by_turns, place_in}
 use Rattle.pair_closure.proofs.Positions.{speaks}
+use Rattle.pair_closure.proofs.Rising.{one_rises}
 
 -- the heaps in any order have the same pair
 pair_shuffled : (code : List ℕ) (c : Claim) (m : Monoid c.order c.times) (phi_in : (n : ℕ) → IsHeap n → c.phi n < c.order) (p : theory.Pair) (X Y : List ℕ) → IsPosition IsHeap X → Shuffled X Y → theory.IsPairOf code c p X → theory.IsPairOf code c p Y
@@ -95,13 +96,14 @@ no_more : (heaps : List ℕ) → heaps ++ [] ≡ heaps
 no_more [] = refl
 no_more (x ∷ xs) = ap (λ ys. x ∷ ys) (no_more xs)
 
-pub walk_ends : (s : State) → Reached s → (m : Held) (i : ℕ) (at : ℕ) (heaps : List ℕ) → i < length s.held → m ≡ get_or s.held i blank_held → Walking s m.place at heaps → at ≤ 0 → IsWordOf s m heaps
-walk_ends s r m i at heaps l e w last =
+pub walk_ends : (s : State) → Reached s → (m : Held) (i : ℕ) (at : ℕ) (heaps : List ℕ) → i < length s.held → m ≡ get_or s.held i blank_held → Walking s m.place at heaps → at ≤ 0 → IsNonDecreasing heaps → IsWordOf s m heaps
+walk_ends s r m i at heaps l e w last rise =
     let none : at ≡ 0 = omega arith in
     let same : IsPermutation (word s m.place) heaps = subst (IsPermutation (word s m.place)) (no_more heaps) (subst (λ z. IsPermutation (word s m.place) (heaps ++ word s z)) none w.rest) in
     let inside : m.place < length s.members = subst (λ z. z.place < length s.members) (sym e) (place_in s r i blank_held l) in
     let shuffled = from_permutation _ _ same in
     record {
+      are = one_rises _ _ same rise;
       same = same;
       within = position_shuffled (IsHeapUpTo (length s.heaps)) shuffled (word_within s r m.place inside);
       exact = λ code c g.

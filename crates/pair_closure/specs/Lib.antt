@@ -3,3 +3,4 @@ pub mod Turns
 pub mod Progress
 pub mod Positions
 pub mod Keeping
+pub mod Calls

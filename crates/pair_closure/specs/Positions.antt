@@ -1,5 +1,5 @@
 -- What the pairs of a closure say of positions.
-use Rattle.std.specs.Prelude.{◌≡◌, ℕ, ◌<◌, true, List, map, Contains, slice_index_or, length, AllPairs, IsPermutation}
+use Rattle.std.specs.Prelude.{◌≡◌, ℕ, ◌<◌, true, cond, nat_lt, List, [], ◌∷◌, map, Contains, slice_index_or, length, AllPairs, IsPermutation}
 use Rattle.std.specs.FinSet as set
 use Rattle.misere_theory.specs.Quotients.{Claim, GivesElements, Monoid, ReachesMoreThan}
 use Rattle.misere_theory.specs.Games.{IsHeap, IsHeapUpTo, IsPosition}
@@ -49,9 +49,20 @@ pub record Says (code : List ℕ) (c : Claim) (s : State) : Type 0 where
   -- once it is over, there are more different pairs of positions than the limit
   pub over : is_over s ≡ true → ReachesMoreThan IsHeap code c s.limit
 
--- The heaps are those of the word of a member held, in any order, and their position has exactly the member's pair,
+-- a heap put among rising ones
+abbrev pub put : ℕ → List ℕ → List ℕ
+put h [] = h ∷ []
+put h (x ∷ xs) = cond (nat_lt x h) (x ∷ put h xs) (h ∷ x ∷ xs)
+
+-- the same heaps, rising
+abbrev pub rising : List ℕ → List ℕ
+rising [] = []
+rising (h ∷ heaps) = put h (rising heaps)
+
+-- The heaps are exactly those of the word of a member held, rising, and their position has exactly the member's pair,
 -- whatever claim the table and the pairs are those of.
 pub record IsWordOf (s : State) (m : Held) (heaps : List ℕ) : Type 0 where
+  pub are : heaps ≡ rising (word s m.place)
   pub same : IsPermutation (word s m.place) heaps
   pub within : IsPosition (IsHeapUpTo (length s.heaps)) heaps
   pub exact : (code : List ℕ) (c : Claim) → IsClaimOver code c s.table s.heaps

@@ -1,7 +1,9 @@
 //! The closure: members ever kept, those held, and one product a turn.
 ghost use Rattle.std.specs.Prelude.{◌≡◌, ◌↔◌, ◌<◌, ◌≤◌, ◌+◌, ◌*◌, true, false, ℕ, length, All, Ok, IfOk, OnOk, OnErr, IsErr, slice_index_or};
 ghost use Rattle.transition_algebra.specs.Pairs.{IsPair, one};
-ghost use Rattle.pair_closure.specs.Progress.{SameData, begun, moved, step, steps, stopped, is_done, is_over, has_ended, blank_held, KeepsEmpty, Multiplies, TriesHeap};
+ghost use Rattle.pair_closure.specs.Progress.{SameData, begun, moved, step, steps, turns, stopped, is_done, is_over, has_ended, blank_held, KeepsEmpty, Multiplies, TriesHeap};
+ghost use Rattle.pair_closure.specs.Turns.{start};
+ghost use Rattle.pair_closure.specs.Calls.{Grows, IsLimited, ended, ended_or_kept};
 ghost use Rattle.pair_closure.specs.Keeping.{KeepsOne, GrowsToMember};
 ghost use Rattle.pair_closure.specs.Positions.{IsWordOf, Speaks, IsMinimal, IsClosedOver, IsExceeded};
 
@@ -197,8 +199,10 @@ impl<A: Room + Copy> Closure<A> {
     /// Takes the next turn, and answers whether one was left.
     fn take(&mut self) -> Result<bool, AllocError>
         ensures ok { OnOk result (self.new ≡ step self.old) }
+        ensures left { result ≡ Ok true → has_ended self.old.state ≡ false }
         ensures last { result ≡ Ok false → has_ended self.old.state ≡ true }
         ensures err { OnErr result (self.new ≡ self.old) }
+        ensures refused { IsErr result → has_ended self.old.state ≡ false }
     {
         match self.task() {
             Task::KeepEmpty => {
@@ -231,9 +235,12 @@ impl<A: Room + Copy> Closure<A> {
         self.failed = true;
     }
 
-    /// What holds of every closure. For whatever claim the table and the pairs are those of, each member is exactly the
-    /// pair of its word; the members ever kept differ, and none that is held covers another.
+    /// What holds of every closure. Where it stands is a function of the turns that it took. For whatever claim the table
+    /// and the pairs are those of, each member is exactly the pair of its word; the members ever kept differ, and none
+    /// that is held covers another. They are as many as the limit at most, or one more, where it is over.
     pub fn speak(&self)
+        ensures run { self.now.state ≡ turns self.now.spent (start self.now.state.table self.now.state.heaps self.now.state.limit) }
+        ensures limit { IsLimited self.now.state }
         ensures speaks { Speaks self.now.state }
         ensures minimal { IsMinimal self.now.state }
         ensures bound { self.now.spent ≤ self.now.state.limit * length self.now.state.heaps + 2 }
@@ -243,6 +250,7 @@ impl<A: Room + Copy> Closure<A> {
 
     /// Where it stands, or `Memory` once a growth was refused.
     fn standing(&self) -> Result<Grown, Memory>
+        ensures limit { IsLimited self.now.state }
         ensures refused { IsErr result ↔ (self.now.failed ≡ true) }
         ensures more { result ≡ Ok Grown.More → has_ended self.now.state ≡ false }
         ensures done { result ≡ Ok Grown.Done → is_done self.now.state ≡ true }
@@ -250,10 +258,10 @@ impl<A: Room + Copy> Closure<A> {
         ensures closed { result ≡ Ok Grown.Done → IsClosedOver self.now.state }
         ensures exceeded { result ≡ Ok Grown.Over → IsExceeded self.now.state }
     {
+        self.speak();
         if self.failed {
             return Err(Memory);
         }
-        self.speak();
         match self.task() {
             Task::KeepEmpty | Task::Multiply(_) | Task::TryHeap => Ok(Grown::More),
             Task::Done => Ok(Grown::Done),
@@ -268,6 +276,9 @@ impl<A: Room + Copy> Closure<A> {
     /// After `Memory`, for a refused growth, what is held is that of the turns before, and every later call answers
     /// `Memory`.
     pub fn grow(&mut self, units: u64) -> Result<Grown, Memory>
+        // A turn for a unit until it has ended, and no turn after that; a turn that memory is refused to isn't taken.
+        ensures grows { Grows ended units result self.old self.new }
+        ensures limit { IsLimited self.new.state }
         ensures turns { OnOk result (self.new ≡ steps units self.old) }
         ensures more { result ≡ Ok Grown.More → has_ended self.new.state ≡ false }
         ensures done { result ≡ Ok Grown.Done → is_done self.new.state ≡ true }
@@ -288,6 +299,7 @@ impl<A: Room + Copy> Closure<A> {
         ensures spent_range { (self.old.spent ≤ self.new.spent) × (self.new.spent ≤ self.old.spent + units) }
     {
         if self.failed {
+            self.speak();
             return Err(Memory);
         }
         for _unit in 0..units {
@@ -305,6 +317,8 @@ impl<A: Room + Copy> Closure<A> {
 
     /// Takes turns as `grow` does, but stops after one that keeps a member. That member is then the last one held.
     pub fn grow_to_member(&mut self, units: u64) -> Result<Grown, Memory>
+        ensures grows { Grows (ended_or_kept self.old) units result self.old self.new }
+        ensures limit { IsLimited self.new.state }
         ensures turns { OnOk result (GrowsToMember units self.old self.new) }
         ensures more { result ≡ Ok Grown.More → has_ended self.new.state ≡ false }
         ensures done { result ≡ Ok Grown.Done → is_done self.new.state ≡ true }
@@ -322,6 +336,7 @@ impl<A: Room + Copy> Closure<A> {
         ensures spent_range { (self.old.spent ≤ self.new.spent) × (self.new.spent ≤ self.old.spent + units) }
     {
         if self.failed {
+            self.speak();
             return Err(Memory);
         }
         let ever = self.ever();
@@ -384,6 +399,7 @@ impl<A: Room + Copy> Closure<A> {
             word.push(member.heap as u64)?;
             at = member.parent;
         }
+        word.heaps();
         Ok(word)
     }
 

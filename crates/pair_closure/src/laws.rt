@@ -1,11 +1,12 @@
 //! What holds of turns, however many.
-ghost use Rattle.std.specs.Prelude.{◌≡◌, ◌+◌, ◌*◌, true, ℕ, List, All, length};
+ghost use Rattle.std.specs.Prelude.{◌≡◌, ◌↔◌, ◌≤◌, ◌+◌, ◌*◌, Bool, true, ℕ, List, All, length};
 ghost use Rattle.monoid_table.specs.Grids.{Grid};
 ghost use Rattle.monoid_table.specs.Tables.{IsTableGrid};
 ghost use Rattle.transition_algebra.specs.declared.pair.Pair as the_pair;
 ghost use Rattle.transition_algebra.specs.Pairs.{IsPair};
 ghost use Rattle.pair_closure.specs.Turns as turning;
-ghost use Rattle.pair_closure.specs.Progress.{Progress, turns, steps, has_ended};
+ghost use Rattle.pair_closure.specs.Progress.{Progress, begun, turns, steps, has_ended};
+ghost use Rattle.pair_closure.specs.Calls.{Takes, cost};
 ghost use Rattle.pair_closure.specs.Positions.{Speaks, IsMinimal};
 
 /// What turns from the start reach speaks of positions, whatever claim the table and the pairs are those of.
@@ -29,4 +30,24 @@ pub fn closures_end()
 /// However units are cut, the turns are the same.
 pub fn units_add()
     ensures { (m n : ℕ) (p : Progress) → steps (m + n) p ≡ steps n (steps m p) }
+{}
+
+/// What a call of so many units comes to, no memory being refused, is one.
+pub fn calls_decide()
+    ensures { (ends : Progress → Bool) (units : ℕ) (p q r : Progress)
+        → Takes ends units p q
+        → Takes ends units p r
+        → q ≡ r }
+{}
+
+/// A closure has its number of turns, which the table, the pairs and the limit say. What it spent is the least of that
+/// number and the units given in all, and it has ended exactly where they are as many.
+pub fn closures_cost()
+    ensures bound { (table : Grid) (heaps : List the_pair.Pair) (limit : ℕ) → cost table heaps limit ≤ limit * length heaps + 2 }
+    ensures before { (table : Grid) (heaps : List the_pair.Pair) (limit units : ℕ)
+        → units ≤ cost table heaps limit → (steps units (begun table heaps limit)).spent ≡ units }
+    ensures after { (table : Grid) (heaps : List the_pair.Pair) (limit units : ℕ)
+        → cost table heaps limit ≤ units → (steps units (begun table heaps limit)).spent ≡ cost table heaps limit }
+    ensures ends { (table : Grid) (heaps : List the_pair.Pair) (limit units : ℕ)
+        → (has_ended (steps units (begun table heaps limit)).state ≡ true) ↔ (cost table heaps limit ≤ units) }
 {}

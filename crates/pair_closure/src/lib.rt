@@ -30,6 +30,6 @@ mod tests;
 
 pub use closure::{Closure, Grown};
 pub use covering_all::done_closures_cover;
-pub use laws::{closures_end, closures_speak, units_add};
+pub use laws::{calls_decide, closures_cost, closures_end, closures_speak, units_add};
 pub use members::Member;
 pub use settle::{Generator, Held};

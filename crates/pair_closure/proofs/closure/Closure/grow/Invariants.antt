@@ -1,6 +1,10 @@
-use Rattle.std.proofs.Common.{◌≡◌}
+use Rattle.std.proofs.Common.{◌≡◌, ℕ, ◌<◌, false}
 use Rattle.pair_closure.specs.Progress.{steps}
+use Rattle.pair_closure.specs.Calls.{ended}
 use Rattle.pair_closure.proofs.closure.Closure.grow.Given as goal
 
 abbrev pub invariant-loop-unit : goal.invariant-loop-unit
-invariant-loop-unit g l = l.self ≡ steps l._unit l.initial.self
+invariant-loop-unit g l = record {
+  reached : l.self ≡ steps l._unit l.initial.self;
+  going : (n : ℕ) → n < l._unit → ended (steps n l.initial.self) ≡ false;
+}

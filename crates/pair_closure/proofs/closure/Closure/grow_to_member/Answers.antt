@@ -1,8 +1,10 @@
-use Rattle.std.proofs.Common.{◌≡◌, ◌<◌, ◌≤◌, ◌+◌, ◌∙◌, ap, sym, arith, rules, length, false, subst}
+use Rattle.std.proofs.Common.{◌≡◌, ◌<◌, ◌≤◌, ◌+◌, ◌∙◌, ap, sym, arith, rules, length, true, false, subst}
 use Rattle.pair_closure.specs.Progress.{SameData, has_ended, stopped}
 use Rattle.pair_closure.specs.Keeping.{KeepsOne}
 use Rattle.pair_closure.proofs.Running.{next_steps, spent_of}
 use Rattle.pair_closure.proofs.Keeping.{goes, rests, grown_data, grown_spent, grown_costs, keeps_of, keeps_none, no_member, refused_at, on_ok}
+use Rattle.pair_closure.specs.Calls.{ended_or_kept}
+use Rattle.pair_closure.proofs.Calls.{kept_ends, goes_on, kept_since, ended_since, one_more, takes, takes_here, takes_one, refused, grows, grows_not}
 use Rattle.pair_closure.proofs.closure.Closure.grow_to_member.Goals as goal
 
 pub returns-then-ever-clause-turns : goal.returns-then-ever-clause-turns
@@ -100,7 +102,11 @@ loop-turn-preserved g c =
     let reached = next_steps c.loop-turn._turn c.args.self.now c.loop-turn.self c.take.new.self i.reached c.in-Ok-true.ensures.ok in
     let most = (keeps_of c.args.units c.args.self.now c.take.new.self (goes c.loop-turn._turn c.args.units c.args.self.now c.loop-turn.self i.reached i.first c.take.new.self c.loop-turn-test.true c.in-Ok-true.ensures.ok)).few.0 in
     let same : length c.take.new.self.state.members ≡ length c.args.self.now.state.members = (let a = c.ever.ensures in let b = c.ever-ever.ensures in let l = c.if-ever.false in omega arith) in
-    record { reached = reached; first = no_member c.loop-turn._turn c.args.self.now c.take.new.self i.first reached same }
+    let here = i.first c.loop-turn._turn (omega arith) in
+    let kept = ap (λ z. length z.state.members) i.reached in
+    let going = one_more (ended_or_kept c.args.self.now) (kept_ends c.args.self.now) c.args.self.now c.loop-turn._turn c.loop-turn.self i.reached i.going
+    (goes_on c.args.self.now c.loop-turn.self (c.in-Ok-true.ensures.left (search rules)) (omega arith)) in
+    record { reached = reached; going = going; first = no_member c.loop-turn._turn c.args.self.now c.take.new.self i.first reached same }
 
 pub returns-clause-data : goal.returns-clause-data
 returns-clause-data g c =
@@ -125,3 +131,43 @@ returns-clause-spent_range g c =
     let i = c.loop-turn.invariant in
     let l : c.loop-turn._turn ≤ c.args.units = (let a = c.loop-turn.auto in search rules) in
     grown_spent c.args.units c.args.self.now c.loop-turn.self (rests c.loop-turn._turn c.args.units c.args.self.now c.loop-turn.self i.reached i.first l)
+
+pub returns-then-ever-clause-grows : goal.returns-then-ever-clause-grows
+returns-then-ever-clause-grows g c =
+    let i = c.loop-turn.invariant in
+    let p = c.args.self.now in
+    let here = i.first c.loop-turn._turn (omega arith) in
+    let kept = ap (λ z. length z.state.members) i.reached in
+    let e = c.seek.ensures ∙ c.in-Ok-true.ensures.ok in
+    let more : length p.state.members < length c.seek.new.self.state.members =
+    (let a = c.ever.ensures in let b = c.ever-ever.ensures in let l = c.if-ever.true in let s = ap (λ z. length z.state.members) c.seek.ensures in omega arith) in
+    grows (ended_or_kept p) (kept_ends p) p c.args.units c.standing.result c.seek.new.self (sym (ap (λ z. z.failed) c.self.view_is) ∙ c.if-self.false)
+    (takes_one (ended_or_kept p) (kept_ends p) p c.args.units c.loop-turn._turn c.loop-turn.self i.reached i.going c.seek.new.self c.loop-turn-test.true e
+    (goes_on p c.loop-turn.self (c.in-Ok-true.ensures.left (search rules)) (omega arith)) (kept_since p c.seek.new.self more)) c.standing.ensures.refused.0
+
+pub returns-in-Ok-false-clause-grows : goal.returns-in-Ok-false-clause-grows
+returns-in-Ok-false-clause-grows g c =
+    let i = c.loop-turn.invariant in
+    let p = c.args.self.now in
+    let h : has_ended c.loop-turn.self.state ≡ true = c.in-Ok-false.ensures.last (search rules) in
+    grows (ended_or_kept p) (kept_ends p) p c.args.units c.standing-in-Ok-false.result c.take.new.self (sym (ap (λ z. z.failed) c.self.view_is) ∙ c.if-self.false)
+    (takes_here (ended_or_kept p) (kept_ends p) p c.args.units c.loop-turn._turn c.loop-turn.self i.reached i.going c.take.new.self c.loop-turn-test.true c.in-Ok-false.ensures.ok h (ended_since p c.loop-turn.self h)) c.standing-in-Ok-false.ensures.refused.0
+
+pub returns-in-Err-clause-grows : goal.returns-in-Err-clause-grows
+returns-in-Err-clause-grows g c =
+    let i = c.loop-turn.invariant in
+    let p = c.args.self.now in
+    let here = i.first c.loop-turn._turn (omega arith) in
+    let kept = ap (λ z. length z.state.members) i.reached in
+    let h : has_ended c.loop-turn.self.state ≡ false = c.in-Err.ensures.refused (search rules) in
+    grows_not (ended_or_kept p) (kept_ends p) p c.args.units c.standing-in-Err.result c.stop.new.self
+    (refused (ended_or_kept p) (kept_ends p) p c.args.units c.loop-turn._turn c.loop-turn.self i.reached i.going c.stop.new.self c.loop-turn-test.true (c.stop.ensures ∙ ap stopped c.in-Err.ensures.err) (goes_on p c.loop-turn.self h (omega arith)))
+    (c.standing-in-Err.ensures.refused.1 (ap (λ z. z.failed) c.stop.ensures))
+
+pub returns-clause-grows : goal.returns-clause-grows
+returns-clause-grows g c =
+    let i = c.loop-turn.invariant in
+    let p = c.args.self.now in
+    let l : c.loop-turn._turn ≤ c.args.units = (let a = c.loop-turn.auto in search rules) in
+    grows (ended_or_kept p) (kept_ends p) p c.args.units c.standing-2.result c.loop-turn.self (sym (ap (λ z. z.failed) c.self.view_is) ∙ c.if-self.false)
+    (takes (ended_or_kept p) (kept_ends p) p c.args.units c.loop-turn._turn c.loop-turn.self i.reached i.going l (λ k. let none = c.loop-turn-test.false in absurd (omega arith))) c.standing-2.ensures.refused.0

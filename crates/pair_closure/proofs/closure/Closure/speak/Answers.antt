@@ -2,7 +2,9 @@ use Rattle.std.proofs.Common.{◌≤◌, ◌+◌, ◌*◌, length, subst}
 use Rattle.pair_closure.specs.Positions.{Speaks, IsMinimal}
 use Rattle.pair_closure.proofs.Machine.{of_run}
 use Rattle.pair_closure.proofs.Positions.{speaks, minimal}
+use Rattle.pair_closure.specs.Calls.{IsLimited}
 use Rattle.pair_closure.proofs.Running.{spent_le}
+use Rattle.pair_closure.proofs.Calls.{limited}
 use Rattle.pair_closure.proofs.closure.Closure.speak.Goals as goal
 
 pub returns-clause-speaks : goal.returns-clause-speaks
@@ -13,3 +15,6 @@ returns-clause-minimal g c = subst (λ z. IsMinimal z.state) c.self.view_is (min
 
 pub returns-clause-bound : goal.returns-clause-bound
 returns-clause-bound g c = subst (λ z. z.spent ≤ z.state.limit * length z.state.heaps + 2) c.self.view_is (spent_le _ c.self.invariant.0)
+
+pub returns-clause-limit : goal.returns-clause-limit
+returns-clause-limit g c = subst (λ z. IsLimited z.state) c.self.view_is (limited _ c.self.invariant.0)

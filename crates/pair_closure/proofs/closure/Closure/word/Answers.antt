@@ -37,4 +37,4 @@ loop-at-preserved g c =
 pub returns : goal.returns
 returns g c =
     let run : IsRun c.args.self.now = subst IsRun c.self.view_is c.self.invariant.0 in
-    walk_ends c.args.self.now.state (of_run _ run) (get_or c.args.self.now.state.held c.args.i blank_held) c.args.i c.loop-at.at c.loop-at.word c.requires refl c.loop-at.invariant c.loop-at-test.false
+    walk_ends c.args.self.now.state (of_run _ run) (get_or c.args.self.now.state.held c.args.i blank_held) c.args.i c.loop-at.at c.loop-at.word c.requires refl c.loop-at.invariant c.loop-at-test.false c.heaps.ensures.rising

@@ -1,0 +1,215 @@
+-- What calls come to, as the code goes.
+use Rattle.std.proofs.Common.{◌≡◌, ℕ, zero, suc, ◌+◌, ◌*◌, ◌<◌, ◌≤◌, ◌↔◌, Bool, true, false, ◌||◌, List, length, refl, sym, ap, ◌∙◌, subst, inl, inr, arith, nat_lt, lt-ltb, le-ltb, ltb-true, ltb-false, Result, Ok, Err, IsErr}
+use native.Mathlib.Decide.{dec_lt}
+use Rattle.monoid_table.specs.Grids.{Grid}
+use Rattle.transition_algebra.specs.declared.pair.Pair.{Pair}
+use Rattle.transition_algebra.specs.Pairs.{one, times, covers}
+use Rattle.pair_closure.specs.Turns.{State}
+use Rattle.pair_closure.specs.Turns as turning
+use Rattle.pair_closure.specs.Progress.{Progress, IsRun, begun, turns, turn, steps, step, stopped, moved, has_ended}
+use Rattle.pair_closure.specs.Calls.{Takes, IsRefused, Grows, IsLimited, ended, ended_or_kept, cost}
+use Rattle.pair_closure.proofs.Lists.{by_cond, either, not_both, true_or}
+use Rattle.pair_closure.proofs.Machine.{of_run, kept_by_turns}
+use Rattle.pair_closure.proofs.Running.{step_moves, step_stays, same_steps, stays_put, ends_within}
+
+-- ---- the limit
+
+kept_within : (s : State) (limit members : ℕ) → limit ≡ s.limit → members ≡ length s.members → members ≤ limit + 1 → IsLimited s
+kept_within s limit members e f h = record {
+  within = λ b. ltb-false s.limit (length s.members) b;
+  over = λ b. let more : s.limit < length s.members = ltb-true s.limit (length s.members) b in omega arith;
+}
+
+pub limited : (p : Progress) → IsRun p → IsLimited p.state
+limited p r = elim (kept_by_turns p.state (of_run p r)) [
+  | inl e ↦ (let none = ap (λ z. length z.members) e in kept_within p.state p.state.limit (length p.state.members) refl refl (omega arith))
+  | inr v ↦ kept_within p.state p.state.limit (length p.state.members) refl refl v.within
+]
+
+-- ---- ends
+
+or_false : (a b : Bool) → (a || b) ≡ false → (a ≡ false) × (b ≡ false)
+or_false true b e = absurd (cc)
+or_false false b e = (refl, e)
+
+neither : (a b : Bool) → a ≡ false → b ≡ false → (a || b) ≡ false
+neither true b e f = absurd (cc)
+neither false b e f = f
+
+-- a turn is left wherever a call goes on
+abbrev pub Ends : (Progress → Bool) → Type 0
+Ends ends = (q : Progress) → ends q ≡ false → has_ended q.state ≡ false
+
+pub ended_ends : Ends ended
+ended_ends q e = e
+
+pub kept_ends : (since : Progress) → Ends (ended_or_kept since)
+kept_ends since q e = (or_false (has_ended q.state) (nat_lt (length since.state.members) (length q.state.members)) e).0
+
+-- where a turn is left and nothing was kept
+pub goes_on : (since q : Progress) → has_ended q.state ≡ false → length q.state.members ≤ length since.state.members → ended_or_kept since q ≡ false
+goes_on since q e l = neither (has_ended q.state) (nat_lt (length since.state.members) (length q.state.members)) e (le-ltb _ _ l)
+
+pub kept_since : (since q : Progress) → length since.state.members < length q.state.members → ended_or_kept since q ≡ true
+kept_since since q l = true_or (has_ended q.state) (nat_lt (length since.state.members) (length q.state.members)) (inr (lt-ltb _ _ l))
+
+pub ended_since : (since q : Progress) → has_ended q.state ≡ true → ended_or_kept since q ≡ true
+ended_since since q e = true_or (has_ended q.state) (nat_lt (length since.state.members) (length q.state.members)) (inl e)
+
+-- ---- turns that were all taken
+
+pub same_failed : (n : ℕ) (p : Progress) → (steps n p).failed ≡ p.failed
+same_failed zero p = refl
+same_failed (suc n) p =
+    let q = steps n p in
+    by_cond (λ z. z.failed ≡ p.failed) (has_ended q.state) q (moved q) (λ _. same_failed n p) (λ _. same_failed n p)
+
+module _ (ends : Progress → Bool) (implies : Ends ends) (p : Progress) where
+  abbrev pub Going : ℕ → Type 0
+  Going n = (m : ℕ) → m < n → ends (steps m p) ≡ false
+
+  all_spent : (n : ℕ) → Going n → (steps n p).spent ≡ p.spent + n
+  all_spent zero h = omega arith
+  all_spent (suc n) h =
+      let q = steps n p in
+      let a = all_spent n (λ m l. h m (omega arith)) in
+      let b : (step q).spent ≡ q.spent + 1 = ap (λ z. z.spent) (sym (step_moves q (implies q (h n (omega arith))))) in
+      omega arith
+
+  pub one_more : (n : ℕ) (q : Progress) → q ≡ steps n p → Going n → ends q ≡ false → Going (n + 1)
+  one_more n q e h f m l = elim (dec_lt m n) [
+    | yes b ↦ h m b
+    | no b ↦ let d : n ≡ m = omega arith in subst (λ j. ends (steps j p) ≡ false) d (subst (λ z. ends z ≡ false) e f)
+  ]
+
+  module _ (units : ℕ) (n : ℕ) (q : Progress) (reached : q ≡ steps n p) (going : Going n) where
+    pub takes : n ≤ units → (n < units → ends q ≡ true) → Takes ends units p q
+    takes l h = record { turns = n; within = l; reached = reached; spent = ap (λ z. z.spent) reached ∙ all_spent n going; going = going; last = h }
+
+    -- no turn was left
+    pub takes_here : (t : Progress) → n < units → t ≡ step q → has_ended q.state ≡ true → ends q ≡ true → Takes ends units p t
+    takes_here t l e h f = subst (Takes ends units p) (sym (e ∙ step_stays q h)) (takes (omega arith) (λ _. f))
+
+    -- the turn that was left is the last
+    pub takes_one : (t : Progress) → n < units → t ≡ step q → ends q ≡ false → ends t ≡ true → Takes ends units p t
+    takes_one t l e f h =
+        let g = one_more n q reached going f in
+        let k : suc n ≡ n + 1 = omega arith in
+        let r : t ≡ steps (n + 1) p = e ∙ ap step reached ∙ ap (λ j. steps j p) k in
+        record { turns = n + 1; within = omega arith; reached = r; spent = ap (λ z. z.spent) r ∙ all_spent (n + 1) g; going = g; last = λ _. h }
+
+    pub refused : (t : Progress) → n < units → t ≡ stopped q → ends q ≡ false → IsRefused ends units p t
+    refused t l e f = record {
+      turns = n;
+      within = l;
+      reached = e ∙ ap stopped reached;
+      spent = ap (λ z. z.spent) (e ∙ ap stopped reached) ∙ all_spent n going;
+      going = λ m k. one_more n q reached going f m (omega arith);
+    }
+
+  -- a call that goes on answers no want of memory
+  pub grows : {X E : Type 0} (units : ℕ) (r : Result X E) (q : Progress) → p.failed ≡ false → Takes ends units p q → (IsErr r → q.failed ≡ true) → Grows ends units r p q
+  grows units (Ok x) q f t h = (t, tt)
+  grows units (Err x) q f t h = (tt, absurd (not_both (h refl) (ap (λ z. z.failed) t.reached ∙ same_failed t.turns p ∙ f)))
+
+  pub grows_not : {X E : Type 0} (units : ℕ) (r : Result X E) (q : Progress) → IsRefused ends units p q → IsErr r → Grows ends units r p q
+  grows_not units (Ok x) q t h = absurd (cc)
+  grows_not units (Err x) q t h = (tt, inr t)
+
+-- ---- how many turns there are
+
+-- a call without a member to stop at takes all units, or ends
+pub units_taken : (units : ℕ) (p : Progress) → Takes ended units p (steps units p)
+units_taken zero p = takes ended ended_ends p zero zero p refl (λ m l. absurd (omega arith)) (omega arith) (λ l. absurd (omega arith))
+units_taken (suc n) p =
+    let q = steps n p in
+    let t = units_taken n p in
+    elim (either (has_ended q.state)) [
+      | inl e ↦ (let w = t.within in takes_here ended ended_ends p (suc n) t.turns q t.reached t.going (step q) (omega arith) refl e e)
+      | inr e ↦ elim (dec_lt t.turns n) [
+        | yes l ↦ absurd (not_both (t.last l) e)
+        | no l ↦
+            let w = t.within in
+            let k : t.turns ≡ n = omega arith in
+            let g : Going ended ended_ends p n = subst (Going ended ended_ends p) k t.going in
+            let h = one_more ended ended_ends p n q refl g e in
+            let d : n + 1 ≡ suc n = omega arith in
+            takes ended ended_ends p (suc n) (suc n) (step q) refl (subst (Going ended ended_ends p) d h) (omega arith) (λ l. absurd (omega arith))
+      ]
+    ]
+
+-- turns that two calls took after one another from the same are the same
+pub taken_alike : (ends : Progress → Bool) (units : ℕ) (p q r : Progress) → Takes ends units p q → Takes ends units p r → q ≡ r
+taken_alike ends units p q r a b =
+    let v = a.within in
+    let w = b.within in
+    elim (dec_lt a.turns b.turns) [
+      | yes l ↦ absurd (not_both (ap ends (sym a.reached) ∙ a.last (omega arith)) (b.going a.turns l))
+      | no l ↦ elim (dec_lt b.turns a.turns) [
+        | yes k ↦ absurd (not_both (ap ends (sym b.reached) ∙ b.last (omega arith)) (a.going b.turns k))
+        | no k ↦ let d : a.turns ≡ b.turns = omega arith in a.reached ∙ ap (λ n. steps n p) d ∙ sym b.reached
+      ]
+    ]
+
+-- the same turns, of the state alone
+state_steps : (n : ℕ) (p : Progress) → (steps n p).state ≡ turns n p.state
+state_steps zero p = refl
+state_steps (suc n) p =
+    let q = steps n p in
+    let same : q.state.table ≡ p.state.table = (same_steps n p).table in
+    let t : turn q.state ≡ turning.turn one (times p.state.table) covers q.state = ap (λ g. turning.turn one (times g) covers q.state) same in
+    by_cond (λ z. z.state ≡ turns (suc n) p.state) (has_ended q.state) q (moved q)
+    (λ e. sym (stays_put q.state e) ∙ t ∙ ap (turning.turn one (times p.state.table) covers) (state_steps n p))
+    (λ _. t ∙ ap (turning.turn one (times p.state.table) covers) (state_steps n p))
+
+module _ (table : Grid) (heaps : List Pair) (limit : ℕ) where
+  abbrev after : ℕ → Progress
+  after n = steps n (begun table heaps limit)
+
+  at_last : has_ended (after (limit * length heaps + 2)).state ≡ true
+  at_last = ap has_ended (state_steps (limit * length heaps + 2) (begun table heaps limit)) ∙ ends_within table heaps limit
+
+  whole : Takes ended (limit * length heaps + 2) (begun table heaps limit) (after (limit * length heaps + 2))
+  whole = units_taken (limit * length heaps + 2) (begun table heaps limit)
+
+  cost_is : whole.turns ≡ cost table heaps limit
+  cost_is = let e : cost table heaps limit ≡ 0 + whole.turns = whole.spent in omega arith
+
+  pub cost_bound : cost table heaps limit ≤ limit * length heaps + 2
+  cost_bound = let w = whole.within in let c = cost_is in omega arith
+
+  ends_there : has_ended (after (cost table heaps limit)).state ≡ true
+  ends_there = ap (λ n. has_ended (after n).state) (sym cost_is) ∙ ap (λ z. has_ended z.state) (sym whole.reached) ∙ at_last
+
+  going_before : (n : ℕ) → n < cost table heaps limit → has_ended (after n).state ≡ false
+  going_before n l = whole.going n (let c = cost_is in omega arith)
+
+  pub cost_before : (units : ℕ) → units ≤ cost table heaps limit → (after units).spent ≡ units
+  cost_before units l =
+      let t = units_taken units (begun table heaps limit) in
+      let w = t.within in
+      let e : (after units).spent ≡ 0 + t.turns = t.spent in
+      elim (dec_lt t.turns units) [
+        | yes k ↦ absurd (not_both (ap (λ z. has_ended z.state) (sym t.reached) ∙ t.last k) (going_before t.turns (omega arith)))
+        | no k ↦ omega arith
+      ]
+
+  pub cost_after : (units : ℕ) → cost table heaps limit ≤ units → ((after units).spent ≡ cost table heaps limit) × (has_ended (after units).state ≡ true)
+  cost_after units l =
+      let t = units_taken units (begun table heaps limit) in
+      let w = t.within in
+      let e : (after units).spent ≡ 0 + t.turns = t.spent in
+      let here : t.turns ≡ cost table heaps limit = elim (dec_lt (cost table heaps limit) t.turns) [
+        | yes k ↦ absurd (not_both ends_there (t.going (cost table heaps limit) k))
+        | no k ↦ elim (dec_lt t.turns (cost table heaps limit)) [
+          | yes j ↦ absurd (not_both (ap (λ z. has_ended z.state) (sym t.reached) ∙ t.last (omega arith)) (going_before t.turns j))
+          | no j ↦ omega arith
+        ]
+      ] in
+      (omega arith, ap (λ z. has_ended z.state) t.reached ∙ ap (λ n. has_ended (after n).state) here ∙ ends_there)
+
+  pub cost_ends : (units : ℕ) → (has_ended (after units).state ≡ true) ↔ (cost table heaps limit ≤ units)
+  cost_ends units = (
+    λ e. elim (dec_lt units (cost table heaps limit)) [ yes l ↦ absurd (not_both e (going_before units l)) | no l ↦ omega arith ],
+    λ l. (cost_after units l).1,
+  )

@@ -1,0 +1,46 @@
+-- Which turns a call takes, and what it comes to.
+use Rattle.std.specs.Prelude.{◌≡◌, ◌⊎◌, ℕ, ◌+◌, ◌*◌, ◌<◌, ◌≤◌, Bool, true, false, ◌||◌, nat_lt, List, length, Result, OnOk, OnErr}
+use Rattle.monoid_table.specs.Grids.{Grid}
+use Rattle.transition_algebra.specs.declared.pair.Pair.{Pair}
+use Rattle.pair_closure.specs.Turns.{State}
+use Rattle.pair_closure.specs.Progress.{Progress, begun, steps, stopped, has_ended, is_over}
+
+-- no turn is left
+abbrev pub ended : Progress → Bool
+ended p = has_ended p.state
+
+-- no turn is left, or a member was kept since
+abbrev pub ended_or_kept : Progress → Progress → Bool
+ended_or_kept since p = has_ended p.state || nat_lt (length since.state.members) (length p.state.members)
+
+-- Turns one after another, each for one unit: the first that comes to such an end is the last, and without one all units are turns.
+pub record Takes (ends : Progress → Bool) (units : ℕ) (old new : Progress) : Type 0 where
+  pub turns : ℕ
+  pub within : turns ≤ units
+  pub reached : new ≡ steps turns old
+  pub spent : new.spent ≡ old.spent + turns
+  pub going : (n : ℕ) → n < turns → ends (steps n old) ≡ false
+  pub last : turns < units → ends new ≡ true
+
+-- The same turns up to one that memory was refused to, which isn't taken and costs nothing.
+pub record IsRefused (ends : Progress → Bool) (units : ℕ) (old new : Progress) : Type 0 where
+  pub turns : ℕ
+  pub within : turns < units
+  pub reached : new ≡ stopped (steps turns old)
+  pub spent : new.spent ≡ old.spent + turns
+  pub going : (n : ℕ) → n ≤ turns → ends (steps n old) ≡ false
+
+-- What a call of so many units answers and comes to. Where memory had been refused before, nothing changes.
+abbrev pub Grows : {X E : Type 0} → (Progress → Bool) → ℕ → Result X E → Progress → Progress → Type 0
+Grows ends units result old new =
+    OnOk result (Takes ends units old new)
+    × OnErr result (((old.failed ≡ true) × (new ≡ old)) ⊎ IsRefused ends units old new)
+
+-- Members ever kept: no more than the limit, or exactly one more, where it is over.
+pub record IsLimited (s : State) : Type 0 where
+  pub within : is_over s ≡ false → length s.members ≤ s.limit
+  pub over : is_over s ≡ true → length s.members ≡ s.limit + 1
+
+-- the turns that a closure takes in all
+abbrev pub cost : Grid → List Pair → ℕ → ℕ
+cost table heaps limit = (steps (limit * length heaps + 2) (begun table heaps limit)).spent
