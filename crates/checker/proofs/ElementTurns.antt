@@ -8,8 +8,9 @@ use Rattle.certificate.specs.Pieces.{grid_of}
 use Rattle.pair_closure.specs.Progress.{begun}
 use Rattle.checker.specs.Answers.Answer.{Outcome}
 use Rattle.checker.specs.Closings.{AreContexts, ElementsSoFar}
+use Rattle.pair_closure.specs.Positions.{rising}
 use Rattle.checker.specs.Views.{ElementsView}
-use Rattle.checker.specs.Turns.{Runs, first_from, holds, leads_in, elements_at, elements_turn, rising, keys_from}
+use Rattle.checker.specs.Turns.{Runs, first_from, holds, leads_in, elements_at, elements_turn, keys_from}
 use Rattle.checker.specs.Turns.Phase.{Elements, Closing, Ended}
 use Rattle.checker.proofs.TurnLemmas.{runs-more, runs-to}
 use Rattle.checker.proofs.ElementLemmas.{value_below}

@@ -63,7 +63,7 @@ unfolding turns
 taken zero s = record { count = 0; at_most = omega arith; same = refl; spent_is = omega arith; going = λ k h. absurd (omega arith) }
 taken (suc most) s = taken-more most s (taken most s) (is_over (turns most s)) refl
 
-no-or : (a b : Bool) → (a || b) ≡ false → (a ≡ false) × (b ≡ false)
+pub no-or : (a b : Bool) → (a || b) ≡ false → (a ≡ false) × (b ≡ false)
 no-or true b e = absurd (cc)
 no-or false b e = (refl, e)
 

@@ -15,6 +15,7 @@ pub mod LoopTurns
 pub mod HeapTurns
 pub mod SortLemmas
 pub mod ElementTurns
+pub mod CloseTurns
 pub mod LawTurns
 pub mod ReadTurns
 pub mod PayLemmas

@@ -6,7 +6,8 @@ use Rattle.std.proofs.lemmas.List.{append-nil}
 use Rattle.misere_theory.specs.Certificates.{Certificate, Canonical, key_of}
 use Rattle.misere_theory.proofs.Shuffles.{Shuffled, from_permutation, to_front}
 use Rattle.misere_theory.proofs.Shuffles.Shuffled.{Same, Under, Flip, Then}
-use Rattle.checker.specs.Turns.{put, rising, keys_from}
+use Rattle.pair_closure.specs.Positions.{put, rising}
+use Rattle.checker.specs.Turns.{keys_from}
 
 put_after : (h x : ℕ) (xs : List ℕ) → x < h → put h (x ∷ xs) ≡ x ∷ put h xs
 put_after h x xs l = let e : nat_lt x h ≡ true = grind (arith, tests) in rw e

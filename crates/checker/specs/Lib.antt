@@ -9,5 +9,6 @@ pub mod JobViews
 pub mod Jobs
 pub mod Views
 pub mod Turns
+pub mod Closes
 pub mod Measures
 pub mod Stages

@@ -1,5 +1,5 @@
 -- A check as turns on plain data: what it costs and what it answers are functions of the bytes and the limit. This project's own.
-use Rattle.std.specs.Prelude.{◌≡◌, ℕ, zero, suc, ◌+◌, ◌-◌, ◌*◌, ◌<◌, ◌≤◌, Bool, true, false, not, ◌&&◌, ◌||◌, ◌==◌, cond, nat_lt, if◌then◌else◌, List, [], ◌∷◌, length, slice_index, slice_index_or, Option, Some, None}
+use Rattle.std.specs.Prelude.{◌≡◌, ℕ, zero, suc, ◌+◌, ◌-◌, ◌*◌, ◌<◌, ◌≤◌, Bool, true, false, not, ◌&&◌, ◌||◌, ◌==◌, nat_lt, if◌then◌else◌, List, [], ◌∷◌, length, slice_index, slice_index_or, Option, Some, None}
 use Rattle.std.specs.List.{list_any}
 use Rattle.std.specs.FinSet as set
 use Rattle.misere_theory.specs.Certificates.{Certificate, claim_of, times_of, phi_at, key_of}
@@ -8,11 +8,12 @@ use Rattle.certificate.specs.Pieces.{grid_of, pretending_of}
 use Rattle.monoid_table.specs.Turns as table
 use Rattle.transition_algebra.specs.declared.pair.Pair.{Pair}
 use Rattle.transition_algebra.specs.Pairs.{is_empty}
-use Rattle.transition_algebra.specs.Work as heaps
+use Rattle.transition_algebra.specs.Work.{heap_cost}
+use Rattle.transition_algebra.specs.Heaps.{all_heap_pairs}
 use Rattle.pair_closure.specs.Turns.{State}
 use Rattle.pair_closure.specs.declared.settle.Held.{Held}
 use Rattle.pair_closure.specs.Progress as closure
-use Rattle.pair_closure.specs.Positions.{word}
+use Rattle.pair_closure.specs.Positions.{rising, word}
 use Rattle.checker.specs.Closings.{bound_of}
 use Rattle.checker.specs.Answers.{Answer}
 use Rattle.checker.specs.Answers.Answer.{Yes, Text, Law, Word, Order, Period, Apart, Outcome, Limit, Memory}
@@ -57,16 +58,6 @@ unfoldable pub first_from : (ℕ → Bool) → ℕ → ℕ → ℕ
 first_from has a zero = a
 first_from has a (suc n) = if has a then a else first_from has (a + 1) n
 
--- a heap put among rising ones
-abbrev pub put : ℕ → List ℕ → List ℕ
-put h [] = h ∷ []
-put h (x ∷ xs) = cond (nat_lt x h) (x ∷ put h xs) (h ∷ x ∷ xs)
-
--- the same heaps, rising
-abbrev pub rising : List ℕ → List ℕ
-rising [] = []
-rising (h ∷ heaps) = put h (rising heaps)
-
 -- the heaps of the key of e, of that key's element, and so on; the first number bounds how many
 unfoldable pub keys_from : Certificate → ℕ → ℕ → List ℕ
 keys_from c zero e = []
@@ -87,15 +78,15 @@ abbrev pub keeps_more : State → State → Bool
 keeps_more s t = nat_lt (length s.members) (length t.members)
 
 -- The rule is looked at for a member in the turn that keeps it.
-unfoldable pub closing_at : Certificate → State → closure.Progress → Phase
-closing_at c s p =
-    if keeps_more s p.state && not (obeys c (newest p.state).pair) then Ended (Outcome c.code (rising (word p.state (newest p.state).place)))
+unfoldable pub closing_at : Certificate → Bool → closure.Progress → Phase
+closing_at c kept p =
+    if kept && not (obeys c (newest p.state).pair) then Ended (Outcome c.code (rising (word p.state (newest p.state).place)))
     else if closure.is_over p.state then Ended Limit
     else if closure.is_done p.state then Ended (Yes c)
     else Closing (record { certificate = c; closure = p })
 
 unfoldable pub closing_turn : ClosingView → Phase
-closing_turn s = closing_at s.certificate s.closure.state (closure.moved s.closure)
+closing_turn s = closing_at s.certificate (keeps_more s.closure.state (closure.moved s.closure).state) (closure.moved s.closure)
 
 -- an element that is in the portion beside the heap of the pair and beside its option h
 abbrev pub leads_in : Certificate → Pair → ℕ → ℕ → Bool
@@ -115,14 +106,11 @@ elements_turn limit e =
     else if e.option + 1 == c.order then elements_at limit c e.pairs (e.heap + 1) 0
     else elements_at limit c e.pairs e.heap (e.option + 1)
 
--- the pairs that so many turns make
-abbrev pub pairs_after : Certificate → ℕ → List Pair
-pairs_after c spent = (heaps.turns c.code (grid_of c) (pretending_of c) spent (heaps.opening c.code (pretending_of c))).pairs
-
+-- the stage that makes pairs with options left to try, or with all pairs what comes behind it
 unfoldable pub heaps_at : ℕ → Certificate → ℕ → Phase
 heaps_at limit c spent =
-    if nat_lt spent (heaps.heap_cost c.code (pretending_of c)) then Heaps (record { certificate = c; spent = spent })
-    else elements_at limit c (pairs_after c spent) 0 0
+    if nat_lt spent (heap_cost c.code (pretending_of c)) then Heaps (record { certificate = c; spent = spent })
+    else elements_at limit c (all_heap_pairs c.code (grid_of c) (pretending_of c)) 0 0
 
 unfoldable pub heaps_turn : ℕ → HeapsView → Phase
 heaps_turn limit h = heaps_at limit h.certificate (h.spent + 1)

@@ -8,7 +8,8 @@ ghost use Rattle.checker.specs.Closings.{HavePairs, AreContexts, LeadsIn};
 ghost use Rattle.checker.specs.Units.{stage_units};
 ghost use Rattle.checker.specs.Views.{elements_units};
 ghost use Rattle.checker.specs.Answers.Answer.{Outcome};
-ghost use Rattle.checker.specs.Turns.{rising, keys_from};
+ghost use Rattle.pair_closure.specs.Positions.{rising};
+ghost use Rattle.checker.specs.Turns.{keys_from};
 ghost use Rattle.checker.specs.Turns.Phase.{Elements as AtElements, Ended as AtEnded};
 ghost use Rattle.checker.specs.Stages.{Carries, Pays, Comes, phase_of, needs};
 

@@ -3,7 +3,8 @@ ghost use Rattle.std.specs.Prelude.{◌≡◌, ◌<◌, IfOk};
 ghost use Rattle.misere_theory.specs.Certificates.{Canonical, claim_of};
 ghost use Rattle.misere_theory.specs.Games.{IsHeap, IsPosition};
 ghost use Rattle.misere_theory.specs.Quotients.{value};
-ghost use Rattle.checker.specs.Turns.{rising, keys_from};
+ghost use Rattle.pair_closure.specs.Positions.{rising};
+ghost use Rattle.checker.specs.Turns.{keys_from};
 
 use crate::sheet::Sheet;
 use allocation::{Memory, Room};

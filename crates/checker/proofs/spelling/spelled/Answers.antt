@@ -2,7 +2,8 @@ use Rattle.std.proofs.Common.{rules, ◌≡◌, ◌∷◌, ◌++◌, IsPermutati
 use Rattle.misere_theory.specs.Certificates.{claim_of, times_of, key_of}
 use Rattle.misere_theory.specs.Quotients.{value}
 use Rattle.checker.proofs.SpellLemmas.{position_along, key_spelled, spell_start, spell_end}
-use Rattle.checker.specs.Turns.{rising, keys_from}
+use Rattle.pair_closure.specs.Positions.{rising}
+use Rattle.checker.specs.Turns.{keys_from}
 use Rattle.checker.proofs.SortLemmas.{spells_on, spells_all}
 use Rattle.checker.proofs.spelling.spelled.Goals as goal
 

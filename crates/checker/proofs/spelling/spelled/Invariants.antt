@@ -2,7 +2,8 @@ use Rattle.std.proofs.Common.{◌≡◌, ◌<◌, ◌++◌}
 use Rattle.misere_theory.specs.Certificates.{claim_of, times_of}
 use Rattle.misere_theory.specs.Games.{IsHeap, IsPosition}
 use Rattle.misere_theory.specs.Quotients.{value}
-use Rattle.checker.specs.Turns.{rising, keys_from}
+use Rattle.pair_closure.specs.Positions.{rising}
+use Rattle.checker.specs.Turns.{keys_from}
 use Rattle.checker.proofs.spelling.spelled.Given as goal
 
 abbrev pub invariant-loop-left : goal.invariant-loop-left

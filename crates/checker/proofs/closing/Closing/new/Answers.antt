@@ -1,20 +1,21 @@
-use Rattle.std.proofs.Common.{◌≡◌, arith, subst, sym, ap, ◌∙◌}
+use Rattle.std.proofs.Common.{◌≡◌, false, refl, arith, subst, sym, ap, ◌∙◌}
 use Rattle.misere_theory.specs.Games.{IsHeapUpTo}
 use Rattle.misere_theory.specs.Pairs.{ElementsObey}
 use Rattle.misere_theory.specs.Certificates.{Certificate, Canonical, claim_of}
 use Rattle.monoid_table.specs.Grids.{Grid}
 use Rattle.certificate.specs.Pieces.{Pieces, certificate_of, grid_of}
 use Rattle.checker.specs.Rules.{HeldObey}
-use Rattle.pair_closure.specs.Progress.{Progress, begun}
+use Rattle.pair_closure.specs.Progress.{Progress, begun, has_ended}
 use Rattle.checker.specs.Views.{ClosingView}
 use Rattle.checker.specs.Sheets.{pieces_of}
 use Rattle.checker.specs.Closings.{HavePairs, IsClosing, bound_of}
+use Rattle.checker.proofs.CloseTurns.{begun_going}
 use Rattle.checker.proofs.closing.Closing.new.Goals as goal
 
 pub invariant_of-result : goal.invariant_of-result
 invariant_of-result g c =
     let s = c.sheet.inside in
-    subst (λ (p : Progress). IsClosing (pieces_of s.code p.state.table s.phi s.lines.portion.items s.lines.words.items s.lines.apart.items) s.lines.inside p.state.heaps × HeldObey s.lines.inside p.state.held) (sym c.new.ensures) (
+    subst (λ (p : Progress). IsClosing (pieces_of s.code p.state.table s.phi s.lines.portion.items s.lines.words.items s.lines.apart.items) s.lines.inside p.state.heaps × HeldObey s.lines.inside p.state.held × (has_ended p.state ≡ false) × (p.failed ≡ false)) (sym c.new.ensures) (
       record {
         sheet = c.sheet.invariant;
         canonical = subst Canonical (sym c.sheet.view_is) c.requires.canonical;
@@ -22,6 +23,8 @@ invariant_of-result g c =
         elements = subst (λ d. ElementsObey d.code (claim_of d) (IsHeapUpTo (bound_of d))) (sym c.sheet.view_is) c.requires.elements;
       },
       λ i l. absurd (omega arith),
+      begun_going s.table c.args.pairs.items c.args.limit,
+      refl,
     )
 
 pub returns-clause-value : goal.returns-clause-value

@@ -4,7 +4,8 @@ use Rattle.checker.proofs.UnitLemmas.{rest-place, rest-row}
 use Rattle.checker.proofs.ElementLemmas.{value_below, leads_in, obeys_at, value_turn, heap_turn, elements_end}
 use Rattle.checker.specs.Answers.Answer.{Outcome}
 use Rattle.checker.specs.Views.{elements_units}
-use Rattle.checker.specs.Turns.{rising, keys_from}
+use Rattle.pair_closure.specs.Positions.{rising}
+use Rattle.checker.specs.Turns.{keys_from}
 use Rattle.checker.specs.Turns.Phase.{Elements, Closing, Ended}
 use Rattle.checker.proofs.TurnLemmas.{runs-none, runs-to}
 use Rattle.checker.proofs.ElementTurns.{elements_in, elements_going, elements_broken, elements_heap, elements_option, elements_over, leads_here, leads_nowhere}
