@@ -23,4 +23,5 @@ pub mod MeasureLemmas
 pub mod CostLemmas
 pub mod StageLemmas
 pub mod AnswerLemmas
+pub mod DueLemmas
 pub mod HeldLemmas
