@@ -33,7 +33,7 @@ pub rest-most : (n i m j a b : ℕ) → n ≤ a → m ≤ b → rest n i m j ≤
 unfolding rest
 rest-most n i m j a b k l = let h = mul-le (n - i) m a b (omega arith) l in omega arith
 
-some-left : (r : Bool) (n m : ℕ) → (r || (n == m)) ≡ false → n ≢ m
+pub some-left : (r : Bool) (n m : ℕ) → (r || (n == m)) ≡ false → n ≢ m
 some-left true n m e = absurd (cc)
 some-left false n m e = λ d. let t = eq-eqb n m d in let b : ⊥ = cc in b
 
@@ -41,7 +41,7 @@ choice_grid : (b : Bool) (s t : JobState) → t.grid ≡ s.grid → (if b then s
 choice_grid true s t e = refl
 choice_grid false s t e = e
 
-turn-grid : (s : JobState) → (turn s).grid ≡ s.grid
+pub turn-grid : (s : JobState) → (turn s).grid ≡ s.grid
 turn-grid s = choice_grid (is_over s) s _ refl
 
 -- the triples of a table, one turn and so many turns later
@@ -88,6 +88,17 @@ pairs_at_most x (suc n) =
 
 pub pairs_few : (x n : ℕ) → n ≤ 256 → length (pairs_from x n) ≤ 65536
 pairs_few x n l = let h = pairs_at_most x n in let m = mul-le n n 256 256 l l in omega arith
+
+-- there are two elements at least, so there is a pair
+some_from : (x n : ℕ) → 2 ≤ n → 0 < length (pairs_from x n)
+some_from x zero l = absurd (omega arith)
+some_from x (suc n) l =
+    let a = length-append (pairs_with x (x + 1) n) (pairs_from (x + 1) n) in
+    let b = with_length x (x + 1) n in
+    omega arith
+
+pub some_pairs : (c : Certificate) → InRanges c → 0 < length c.apart
+some_pairs c r = let h = some_from 0 c.order r.order.0 in let e = r.apart.0 in omega arith
 
 code_short : (code : List ℕ) → IsOctalCode code → length code ≤ 17
 code_short [] h = absurd h

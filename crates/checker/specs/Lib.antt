@@ -5,6 +5,10 @@ pub mod Rules
 pub mod Closings
 pub mod Refusals
 pub mod Answers
+pub mod Views
+pub mod Turns
+pub mod Closes
+pub mod Measures
+pub mod Stages
 pub mod JobViews
 pub mod Jobs
-pub mod Stages

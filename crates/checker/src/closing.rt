@@ -1,14 +1,20 @@
 //! The stage that closes the pairs under products with the heaps.
-ghost use Rattle.std.specs.Prelude.{◌≡◌, ◌<◌, ◌≤◌, ◌+◌, ◌*◌, ℕ, length, Ok, slice_index_or};
+ghost use Rattle.std.specs.Prelude.{◌≡◌, ◌<◌, ◌≤◌, ◌+◌, ◌*◌, ℕ, List, length, false, Ok, OnErr, slice_index_or};
 ghost use Rattle.misere_theory.specs.Games.{IsHeapUpTo};
 ghost use Rattle.misere_theory.specs.Pairs.{ElementsObey};
-ghost use Rattle.misere_theory.specs.Certificates.{Accepted, Canonical, claim_of};
-ghost use Rattle.pair_closure.specs.Positions.{IsClosedOver, IsExceeded};
-ghost use Rattle.pair_closure.specs.Progress.{SameData, blank_held};
+ghost use Rattle.misere_theory.specs.Certificates.{Certificate, Accepted, Canonical, claim_of};
+ghost use Rattle.pair_closure.specs.Positions.{IsClosedOver, IsExceeded, rising, word};
+ghost use Rattle.pair_closure.specs.Progress.{SameData, begun, blank_held, has_ended};
+ghost use Rattle.certificate.specs.Pieces.{grid_of};
 ghost use Rattle.checker.specs.Rules.{Breaks, HeldObey};
 ghost use Rattle.checker.specs.Closings.{HavePairs, bound_of};
 ghost use Rattle.checker.specs.Units.{stage_units};
-ghost use Rattle.checker.specs.Stages.{Carries, Pays};
+ghost use Rattle.checker.specs.Views.{closing_units};
+ghost use Rattle.checker.specs.Answers.Answer.{Yes, Outcome, Limit};
+ghost use Rattle.checker.specs.Turns.{Phase};
+ghost use Rattle.checker.specs.Turns.Phase.{Closing as AtClosing, Ended as AtEnded};
+ghost use Rattle.checker.specs.Closes.{Closes};
+ghost use Rattle.checker.specs.Stages.{Carries, Pays, Comes};
 
 use crate::certified::Certified;
 use crate::lines::Lines;
@@ -38,18 +44,25 @@ pub struct Closing<A: Room = Global> {
 impl<A: Room> Model for Closing<A> {
     ghost use Rattle.certificate.specs.Pieces.{certificate_of};
     ghost use Rattle.checker.specs.Sheets.{pieces_of};
-    ghost use Rattle.std.specs.Prelude.{◌+◌, ◌-◌, ◌*◌, length};
-    ghost use Rattle.checker.specs.Units.{Limited};
+    ghost use Rattle.std.specs.Prelude.{◌≡◌, false};
+    ghost use Rattle.pair_closure.specs.Progress.{has_ended};
+    ghost use Rattle.checker.specs.Views.{ClosingView};
     ghost use Rattle.checker.specs.Closings.{IsClosing};
     ghost use Rattle.checker.specs.Rules.{HeldObey};
+    ghost use Rattle.element_sets.specs.contracts.ElementSet as e;
+    ghost use Rattle.std.specs.Coded.{codes};
 
-    ghost Value = { Limited };
+    ghost Value = { ClosingView };
 
-    ghost view = { λ s. record { certificate = certificate_of (pieces_of s.code s.closure.state.table s.phi s.lines.portion.items s.lines.words.items s.lines.apart.items); limit = s.closure.state.limit; units = s.closure.state.limit * length s.closure.state.heaps + 2 - s.closure.spent } };
+    ghost coded = { Prim.hlevel (codes, e.the_row.coded) };
+
+    ghost view = { λ s. record { certificate = certificate_of (pieces_of s.code s.closure.state.table s.phi s.lines.portion.items s.lines.words.items s.lines.apart.items); closure = s.closure } };
 
     ghost invariant = { λ s.
         IsClosing (pieces_of s.code s.closure.state.table s.phi s.lines.portion.items s.lines.words.items s.lines.apart.items) s.lines.inside s.closure.state.heaps
-        × HeldObey s.lines.inside s.closure.state.held };
+        × HeldObey s.lines.inside s.closure.state.held
+        × (has_ended s.closure.state ≡ false)
+        × (s.closure.failed ≡ false) };
 }
 
 /// How far the pairs are closed.
@@ -71,12 +84,21 @@ fn close<A: Room + Copy>(
     inside: &ElementSet,
     left: &mut u64,
 ) -> Result<Looked, Memory>
-    requires { HeldObey inside.now closure.old.state.held }
+    requires obey { HeldObey inside.now closure.old.state.held }
+    requires going { has_ended closure.old.state ≡ false }
+    requires fresh { closure.old.failed ≡ false }
     ensures more { result ≡ Ok Looked.More → (left.new ≡ 0) × HeldObey inside.now closure.new.state.held }
     ensures done { result ≡ Ok Looked.Done → IsClosedOver closure.new.state × HeldObey inside.now closure.new.state.held }
     ensures over { result ≡ Ok Looked.Over → IsExceeded closure.new.state }
     ensures broken { (i : ℕ) → result ≡ Ok (Looked.Broken i)
         → (i < length closure.new.state.held) × Breaks inside.now (slice_index_or closure.new.state.held i blank_held).pair }
+    ensures stays { result ≡ Ok Looked.More → (has_ended closure.new.state ≡ false) × (closure.new.failed ≡ false) }
+    ensures turns { result ≡ Ok Looked.More → Closes inside.now closure.old left.old left.new (λ c. AtClosing (record { certificate = c; closure = closure.new })) }
+    ensures yes { result ≡ Ok Looked.Done → Closes inside.now closure.old left.old left.new (λ c. AtEnded (Yes c)) }
+    ensures limit { result ≡ Ok Looked.Over → Closes inside.now closure.old left.old left.new (λ c. AtEnded Limit) }
+    ensures outcome { (i : ℕ) → result ≡ Ok (Looked.Broken i)
+        → Closes inside.now closure.old left.old left.new (λ c. AtEnded (Outcome c.code (rising (word closure.new.state (slice_index_or closure.new.state.held i blank_held).place)))) }
+    ensures refused { OnErr result ((to : Certificate → Phase) × Closes inside.now closure.old left.old left.new to) }
     ensures data { SameData closure.old.state closure.new.state }
     ensures spends { left.new ≤ left.old }
     ensures spent { left.new + closure.new.spent ≡ left.old + closure.old.spent }
@@ -139,9 +161,8 @@ impl<A: Room + Copy> Closing<A> {
         requires canonical { Canonical sheet }
         requires pairs { HavePairs sheet pairs.items }
         requires elements { ElementsObey sheet.code (claim_of sheet) (IsHeapUpTo (bound_of sheet)) }
-        ensures certificate { result.certificate ≡ sheet }
-        ensures limit { result.limit ≡ limit }
-        ensures units { result.units < stage_units }
+        ensures value { result ≡ record { certificate = sheet; closure = begun (grid_of sheet) pairs.items limit } }
+        ensures units { closing_units result < stage_units }
     {
         let Sheet {
             code,
@@ -159,8 +180,9 @@ impl<A: Room + Copy> Closing<A> {
 
     /// Spends units until there are none or the stage ends.
     pub fn work(self, left: &mut u64) -> Stage<A>
-        ensures carries { Carries self.certificate self.limit result }
-        ensures pays { Pays (self.units + stage_units) left.old left.new result }
+        ensures carries { Carries self.certificate self.closure.state.limit result }
+        ensures pays { Pays (closing_units self + stage_units) left.old left.new result }
+        ensures comes { (bytes : List ℕ) (limit : ℕ) → Comes bytes limit (AtClosing self) left.old left.new result }
     {
         let Closing {
             code,

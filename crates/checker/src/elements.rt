@@ -1,12 +1,17 @@
 //! The stage that looks at the options of values inside the portion.
-ghost use Rattle.std.specs.Prelude.{◌≡◌, ◌<◌, ◌≤◌, ◌^◌, ◌+◌, ◌*◌, ℕ, length, IfOk, IfSome, IfNone, true, false, slice_index_or};
+ghost use Rattle.std.specs.Prelude.{◌≡◌, ◌<◌, ◌≤◌, ◌^◌, ◌+◌, ◌*◌, ◌∷◌, ℕ, List, length, IfOk, IfSome, IfNone, true, false, slice_index_or};
 ghost use Rattle.std.specs.FinSet as set;
 ghost use Rattle.misere_theory.specs.Games.{IsHeap, IsPosition};
 ghost use Rattle.misere_theory.specs.Quotients.{RuleFails};
 ghost use Rattle.misere_theory.specs.Certificates.{Canonical, claim_of, times_of};
 ghost use Rattle.checker.specs.Closings.{HavePairs, AreContexts, LeadsIn};
 ghost use Rattle.checker.specs.Units.{stage_units};
-ghost use Rattle.checker.specs.Stages.{Carries, Pays, needs};
+ghost use Rattle.checker.specs.Views.{elements_units};
+ghost use Rattle.checker.specs.Answers.Answer.{Outcome};
+ghost use Rattle.pair_closure.specs.Positions.{rising};
+ghost use Rattle.checker.specs.Turns.{keys_from};
+ghost use Rattle.checker.specs.Turns.Phase.{Elements as AtElements, Ended as AtEnded};
+ghost use Rattle.checker.specs.Stages.{Carries, Pays, Comes, phase_of, needs};
 
 use crate::closing::Closing;
 use crate::refusal::Refusal;
@@ -37,15 +42,19 @@ pub struct Elements<A: Room = Global> {
 impl<A: Room> Model for Elements<A> {
     ghost use Rattle.misere_theory.specs.Games.{IsHeap, IsPosition};
     ghost use Rattle.misere_theory.specs.Quotients.{RuleFails};
-    ghost use Rattle.std.specs.Prelude.{length};
-    ghost use Rattle.checker.specs.Units.{Staged, rest};
+    ghost use Rattle.std.specs.Prelude.{◌<◌, length};
+    ghost use Rattle.checker.specs.Views.{ElementsView};
     ghost use Rattle.checker.specs.Closings.{ElementsSoFar};
+    ghost use Rattle.element_sets.specs.contracts.ElementSet as e;
+    ghost use Rattle.std.specs.Coded.{codes};
 
-    ghost Value = { Staged };
+    ghost Value = { ElementsView };
 
-    ghost view = { λ s. record { certificate = s.sheet; units = rest (length s.pairs.items) s.heap s.sheet.order s.option } };
+    ghost coded = { Prim.hlevel (codes, e.the_row.coded) };
 
-    ghost invariant = { λ s. ElementsSoFar s.sheet s.pairs.items s.contexts.items s.heap s.option };
+    ghost view = { λ s. record { certificate = s.sheet; pairs = s.pairs.items; heap = s.heap; option = s.option } };
+
+    ghost invariant = { λ s. ElementsSoFar s.sheet s.pairs.items s.contexts.items s.heap s.option × (s.heap < length s.pairs.items) };
 }
 
 /// The elements that take x into the portion.
@@ -108,10 +117,12 @@ fn beside<A: Room + Copy>(
     requires breach { LeadsIn sheet.now heap y }
     ensures position { IfOk result (IsPosition IsHeap) }
     ensures fails { IfOk result (RuleFails sheet.now.code (claim_of sheet.now)) }
+    ensures exact { IfOk result (λ X. X ≡ rising (heap ∷ keys_from sheet.now sheet.now.order y)) }
 {
     let _order = sheet.order();
     let mut position = spelled(alloc, sheet, y)?;
     position.push(heap)?;
+    position.heaps();
     Ok(position)
 }
 
@@ -122,6 +133,7 @@ fn failed<A: Room>(sheet: Sheet<A>, position: Position<A>) -> Stage<A>
     requires fails { RuleFails sheet.code (claim_of sheet) position }
     ensures carries { (limit : ℕ) → Carries sheet limit result }
     ensures ended { needs result ≡ 0 }
+    ensures shown { phase_of result ≡ AtEnded (Outcome sheet.code position) }
 {
     let _order = sheet.order();
     let Sheet { code, .. } = sheet;
@@ -156,8 +168,8 @@ impl<A: Room + Copy> Elements<A> {
     pub fn new(alloc: A, sheet: Sheet<A>, pairs: Vec<Pair, A>) -> Result<Elements<A>, Memory>
         requires canonical { Canonical sheet }
         requires pairs { HavePairs sheet pairs.items }
-        ensures certificate { IfOk result (λ s. s.certificate ≡ sheet) }
-        ensures units { IfOk result (λ s. s.units < stage_units) }
+        ensures value { IfOk result (λ s. s ≡ record { certificate = sheet; pairs = pairs.items; heap = 0; option = 0 }) }
+        ensures units { IfOk result (λ s. elements_units s < stage_units) }
     {
         let contexts = contexts(alloc, &sheet)?;
         let _order = sheet.order();
@@ -173,7 +185,8 @@ impl<A: Room + Copy> Elements<A> {
     /// Spends units until there are none or the stage ends.
     pub fn work(self, alloc: A, limit: u32, left: &mut u64) -> Stage<A>
         ensures carries { Carries self.certificate limit result }
-        ensures pays { Pays (self.units + 2 * stage_units) left.old left.new result }
+        ensures pays { Pays (elements_units self + 2 * stage_units) left.old left.new result }
+        ensures comes { (bytes : List ℕ) → Comes bytes limit (AtElements self) left.old left.new result }
     {
         let Elements {
             sheet,

@@ -1,8 +1,10 @@
 //! The stage that makes the pairs of the heaps.
-ghost use Rattle.std.specs.Prelude.{◌≡◌, ◌<◌, ◌+◌, ◌*◌, ℕ};
+ghost use Rattle.std.specs.Prelude.{◌≡◌, ◌<◌, ◌+◌, ◌*◌, ℕ, List};
 ghost use Rattle.misere_theory.specs.Certificates.{Canonical};
 ghost use Rattle.checker.specs.Units.{stage_units};
-ghost use Rattle.checker.specs.Stages.{Carries, Pays};
+ghost use Rattle.checker.specs.Views.{heaps_units};
+ghost use Rattle.checker.specs.Turns.Phase.{Heaps as AtHeaps};
+ghost use Rattle.checker.specs.Stages.{Carries, Pays, Comes};
 
 use crate::elements::Elements;
 use crate::lines::Lines;
@@ -22,26 +24,29 @@ pub struct Heaps<A: Room = Global> {
 }
 
 impl<A: Room> Model for Heaps<A> {
-    ghost use Rattle.std.specs.Prelude.{◌-◌};
+    ghost use Rattle.std.specs.Prelude.{◌≡◌, ◌<◌, false};
     ghost use Rattle.transition_algebra.specs.Work.{heap_cost};
-    ghost use Rattle.checker.specs.Units.{Staged};
+    ghost use Rattle.checker.specs.Views.{HeapsView};
     ghost use Rattle.certificate.specs.Pieces.{certificate_of};
     ghost use Rattle.checker.specs.Sheets.{pieces_of};
     ghost use Rattle.checker.specs.Closings.{IsCanonicalSheet};
 
-    ghost Value = { Staged };
+    ghost Value = { HeapsView };
 
-    ghost view = { λ s. record { certificate = certificate_of (pieces_of s.job.code s.job.table s.job.phi s.lines.portion.items s.lines.words.items s.lines.apart.items); units = heap_cost s.job.code s.job.phi - s.job.spent } };
+    ghost view = { λ s. record { certificate = certificate_of (pieces_of s.job.code s.job.table s.job.phi s.lines.portion.items s.lines.words.items s.lines.apart.items); spent = s.job.spent } };
 
-    ghost invariant = { λ s. IsCanonicalSheet (pieces_of s.job.code s.job.table s.job.phi s.lines.portion.items s.lines.words.items s.lines.apart.items) s.lines.inside };
+    ghost invariant = { λ s.
+        IsCanonicalSheet (pieces_of s.job.code s.job.table s.job.phi s.lines.portion.items s.lines.words.items s.lines.apart.items) s.lines.inside
+        × (s.job.spent < heap_cost s.job.code s.job.phi)
+        × (s.job.refused ≡ false) };
 }
 
 impl<A: Room + Copy> Heaps<A> {
     /// No option was tried.
     pub fn new(alloc: A, sheet: Sheet<A>) -> Heaps<A>
         requires { Canonical sheet }
-        ensures certificate { result.certificate ≡ sheet }
-        ensures units { result.units < stage_units }
+        ensures value { result ≡ record { certificate = sheet; spent = 0 } }
+        ensures units { heaps_units result < stage_units }
     {
         let Sheet {
             code,
@@ -59,7 +64,8 @@ impl<A: Room + Copy> Heaps<A> {
     /// Spends units until there are none or the stage ends.
     pub fn work(self, alloc: A, left: &mut u64) -> Stage<A>
         ensures carries { (limit : ℕ) → Carries self.certificate limit result }
-        ensures pays { Pays (self.units + 3 * stage_units) left.old left.new result }
+        ensures pays { Pays (heaps_units self + 3 * stage_units) left.old left.new result }
+        ensures comes { (bytes : List ℕ) (limit : ℕ) → Comes bytes limit (AtHeaps self) left.old left.new result }
     {
         let Heaps { lines, mut job } = self;
         let before = job.spent();

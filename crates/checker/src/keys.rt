@@ -1,10 +1,13 @@
-ghost use Rattle.std.specs.Prelude.{◌≡◌, ◌<◌, ◌+◌, ◌-◌, ◌*◌, ◌↔◌, ◌⊎◌, ℕ, IsTrue};
+ghost use Rattle.std.specs.Prelude.{◌≡◌, ◌<◌, ◌-◌, ◌↔◌, ◌⊎◌, ℕ, List, true, IsTrue};
 ghost use Rattle.misere_theory.specs.Numbering.{KeyBelow};
 ghost use Rattle.misere_theory.specs.Certificates.{key_of};
 ghost use Rattle.misere_theory.specs.Faults.{WordFault};
 ghost use Rattle.checker.specs.Progress.{IsKeyOf};
 ghost use Rattle.checker.specs.Units.{stage_units};
-ghost use Rattle.checker.specs.Stages.{Carries, Pays};
+ghost use Rattle.checker.specs.Views.{keys_units};
+ghost use Rattle.checker.specs.Turns.{key_below, is_keyed, is_above_last, Works};
+ghost use Rattle.checker.specs.Turns.Phase.{Keys as AtKeys};
+ghost use Rattle.checker.specs.Stages.{Carries, phase_of};
 
 use crate::products::Products;
 use crate::refusal::Refusal;
@@ -26,15 +29,15 @@ pub struct Keys<A: Room = Global> {
 }
 
 impl<A: Room> Model for Keys<A> {
-    ghost use Rattle.std.specs.Prelude.{◌-◌};
-    ghost use Rattle.checker.specs.Units.{Staged};
+    ghost use Rattle.std.specs.Prelude.{◌<◌};
+    ghost use Rattle.checker.specs.Views.{KeysView};
     ghost use Rattle.checker.specs.Progress.{KeysSoFar};
 
-    ghost Value = { Staged };
+    ghost Value = { KeysView };
 
-    ghost view = { λ s. record { certificate = s.sheet; units = s.sheet.order - s.next } };
+    ghost view = { λ s. record { certificate = s.sheet; next = s.next; rising = s.rising } };
 
-    ghost invariant = { λ s. KeysSoFar s.sheet s.next s.rising };
+    ghost invariant = { λ s. KeysSoFar s.sheet s.next s.rising × (s.next < s.sheet.order) };
 }
 
 /// Whether the key of an element is one.
@@ -43,6 +46,7 @@ fn is_keyed<A: Room>(sheet: &Sheet<A>, e: u16) -> bool
     requires below { e < sheet.now.order }
     ensures keyed { IsTrue result → IsKeyOf sheet.now e }
     ensures fault { IsTrue result ⊎ WordFault sheet.now }
+    ensures same { result ≡ is_keyed sheet.now e }
 {
     let key = sheet.key(e);
     key.element < e && sheet.times(key.element, sheet.phi(key.heap as u64)) == e
@@ -52,14 +56,16 @@ fn is_keyed<A: Room>(sheet: &Sheet<A>, e: u16) -> bool
 fn is_above_last<A: Room>(sheet: &Sheet<A>, e: u16) -> bool
     requires some { 0 < e }
     requires below { e < sheet.now.order }
-    ensures { IsTrue result ↔ (1 < e → KeyBelow (key_of sheet.now (e - 1)) (key_of sheet.now e)) }
+    ensures above { IsTrue result ↔ (1 < e → KeyBelow (key_of sheet.now (e - 1)) (key_of sheet.now e)) }
+    ensures same { result ≡ is_above_last sheet.now e }
 {
     e == 1 || is_below(sheet.key(e - 1), sheet.key(e))
 }
 
 /// Keys go by the element first.
 pub fn is_below(a: Key, b: Key) -> bool
-    ensures { IsTrue result ↔ KeyBelow a b }
+    ensures below { IsTrue result ↔ KeyBelow a b }
+    ensures same { result ≡ key_below a b }
 {
     a.element < b.element || (a.element == b.element && a.heap < b.heap)
 }
@@ -67,8 +73,8 @@ pub fn is_below(a: Key, b: Key) -> bool
 impl<A: Room + Copy> Keys<A> {
     /// No key was looked at.
     pub fn new(sheet: Sheet<A>) -> Keys<A>
-        ensures certificate { result.certificate ≡ sheet }
-        ensures units { result.units < stage_units }
+        ensures value { result ≡ record { certificate = sheet; next = 1; rising = true } }
+        ensures units { keys_units result < stage_units }
     {
         let _order = sheet.order();
         Keys {
@@ -81,7 +87,7 @@ impl<A: Room + Copy> Keys<A> {
     /// Spends units until there are none or the stage ends.
     pub fn work(self, left: &mut u64) -> Stage<A>
         ensures carries { (limit : ℕ) → Carries self.certificate limit result }
-        ensures pays { Pays (self.units + 7 * stage_units) left.old left.new result }
+        ensures works { (bytes : List ℕ) (limit : ℕ) → Works bytes limit (AtKeys self) left.old left.new (phase_of result) }
     {
         let Keys {
             sheet,

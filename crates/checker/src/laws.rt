@@ -1,7 +1,12 @@
 //! The stage that checks the laws of the table.
-ghost use Rattle.std.specs.Prelude.{◌≡◌, ◌<◌, ◌+◌, ◌*◌, ℕ};
+ghost use Rattle.std.specs.Prelude.{◌≡◌, ◌<◌, ◌≤◌, ℕ, List};
 ghost use Rattle.checker.specs.Units.{stage_units};
-ghost use Rattle.checker.specs.Stages.{Carries, Pays};
+ghost use Rattle.checker.specs.Views.{laws_units};
+ghost use Rattle.monoid_table.specs.Turns.{fresh, triples};
+ghost use Rattle.certificate.specs.Pieces.{grid_of};
+ghost use Rattle.checker.specs.Turns.{Works};
+ghost use Rattle.checker.specs.Turns.Phase.{Laws as AtLaws};
+ghost use Rattle.checker.specs.Stages.{Carries, phase_of};
 
 use crate::keys::Keys;
 use crate::lines::{Lines, set_of};
@@ -27,23 +32,26 @@ pub struct Laws<A: Room = Global> {
 
 impl<A: Room> Model for Laws<A> {
     ghost use Rattle.std.specs.Prelude.{◌-◌};
-    ghost use Rattle.monoid_table.specs.Turns.{triples};
-    ghost use Rattle.checker.specs.Units.{Staged};
+    ghost use Rattle.monoid_table.specs.Turns.{fresh, triples};
+    ghost use Rattle.certificate.specs.Pieces.{grid_of};
+    ghost use Rattle.std.specs.Prelude.{◌≡◌, false};
+    ghost use Rattle.monoid_table.specs.Turns.{is_over};
+    ghost use Rattle.checker.specs.Views.{LawsView};
     ghost use Rattle.certificate.specs.Pieces.{certificate_of};
     ghost use Rattle.checker.specs.Sheets.{pieces_of, IsUnderLaws};
 
-    ghost Value = { Staged };
+    ghost Value = { LawsView };
 
-    ghost view = { λ s. record { certificate = certificate_of (pieces_of s.code s.job.grid s.phi s.lines.portion.items s.lines.words.items s.lines.apart.items); units = triples s.job.grid.order - s.job.spent } };
+    ghost view = { λ s. record { certificate = certificate_of (pieces_of s.code s.job.grid s.phi s.lines.portion.items s.lines.words.items s.lines.apart.items); job = s.job } };
 
-    ghost invariant = { λ s. IsUnderLaws (pieces_of s.code s.job.grid s.phi s.lines.portion.items s.lines.words.items s.lines.apart.items) s.lines.inside s.job.spent };
+    ghost invariant = { λ s. IsUnderLaws (pieces_of s.code s.job.grid s.phi s.lines.portion.items s.lines.words.items s.lines.apart.items) s.lines.inside s.job.spent × (is_over s.job ≡ false) };
 }
 
 impl<A: Room + Copy> Laws<A> {
     /// No triple was looked at.
     pub fn new(cert: Cert<A>) -> Laws<A>
-        ensures certificate { result.certificate ≡ cert }
-        ensures units { result.units < stage_units }
+        ensures value { result ≡ record { certificate = cert; job = fresh (grid_of cert) } }
+        ensures units { laws_units result < stage_units }
     {
         certificate::claims_agree();
         let Parts {
@@ -75,7 +83,8 @@ impl<A: Room + Copy> Laws<A> {
     /// Spends units until there are none or the stage ends.
     pub fn work(self, left: &mut u64) -> Stage<A>
         ensures carries { (limit : ℕ) → Carries self.certificate limit result }
-        ensures pays { Pays (self.units + 8 * stage_units) left.old left.new result }
+        ensures works { (bytes : List ℕ) (limit : ℕ) → Works bytes limit (AtLaws self) left.old left.new (phase_of result) }
+        ensures within { self.job.spent ≤ triples self.job.grid.order }
     {
         let Laws {
             code,

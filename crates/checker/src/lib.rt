@@ -23,12 +23,14 @@ mod separating;
 mod sheet;
 mod spelling;
 mod stage;
+mod turns;
 
 pub use answers::{one_text_for_a_code, true_answers};
 pub use certified::Certified;
 pub use checking::check;
 pub use job::{Job, Progress};
 pub use refusal::Refusal;
+pub use turns::{first_turns_fall, turns_decide};
 
 #[cfg(test)]
 mod tests;

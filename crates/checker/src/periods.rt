@@ -1,8 +1,11 @@
-ghost use Rattle.std.specs.Prelude.{◌≡◌, ◌<◌, ◌+◌, ◌*◌, ◌≤◌, ◌↔◌, ℕ, IsTrue};
+ghost use Rattle.std.specs.Prelude.{◌≡◌, ◌<◌, ◌+◌, ◌*◌, ◌≤◌, ◌↔◌, ℕ, List, IsTrue};
 ghost use Rattle.misere_theory.specs.Certificates.{phi_at};
 ghost use Rattle.checker.specs.Progress.{HasNoFaultBelow};
 ghost use Rattle.checker.specs.Units.{stage_units};
-ghost use Rattle.checker.specs.Stages.{Carries, Pays};
+ghost use Rattle.checker.specs.Views.{periods_units};
+ghost use Rattle.checker.specs.Turns.{comes_again, Works};
+ghost use Rattle.checker.specs.Turns.Phase.{Periods as AtPeriods};
+ghost use Rattle.checker.specs.Stages.{Carries, Pays, phase_of};
 
 use crate::refusal::Refusal;
 use crate::separating::Separating;
@@ -23,20 +26,20 @@ pub struct Periods<A: Room = Global> {
 }
 
 impl<A: Room> Model for Periods<A> {
-    ghost use Rattle.std.specs.Prelude.{◌+◌};
-    ghost use Rattle.checker.specs.Units.{Staged, rest};
+    ghost use Rattle.checker.specs.Views.{PeriodsView};
     ghost use Rattle.checker.specs.Progress.{PeriodsSoFar};
 
-    ghost Value = { Staged };
+    ghost Value = { PeriodsView };
 
-    ghost view = { λ s. record { certificate = s.sheet; units = rest s.sheet.period s.shift (s.sheet.period + 1) s.count + 1 } };
+    ghost view = { λ s. record { certificate = s.sheet; shift = s.shift; count = s.count } };
 
     ghost invariant = { λ s. PeriodsSoFar s.sheet s.shift s.count };
 }
 
 /// Whether the entry comes again after the shift.
 fn comes_again<A: Room>(sheet: &Sheet<A>, heap: u16, shift: u16) -> bool
-    ensures { IsTrue result ↔ ((1 ≤ heap) × (phi_at sheet.now (shift + heap) ≡ phi_at sheet.now heap)) }
+    ensures again { IsTrue result ↔ ((1 ≤ heap) × (phi_at sheet.now (shift + heap) ≡ phi_at sheet.now heap)) }
+    ensures same { result ≡ comes_again sheet.now heap shift }
 {
     let n = heap as u64;
     n > 0 && sheet.phi(shift as u64 + n) == sheet.phi(n)
@@ -46,8 +49,8 @@ impl<A: Room + Copy> Periods<A> {
     /// Nothing was compared.
     pub fn new(sheet: Sheet<A>) -> Periods<A>
         requires { HasNoFaultBelow 5 sheet }
-        ensures certificate { result.certificate ≡ sheet }
-        ensures units { result.units < stage_units }
+        ensures value { result ≡ record { certificate = sheet; shift = 1; count = 0 } }
+        ensures units { periods_units result < stage_units }
     {
         let _order = sheet.order();
         Periods {
@@ -60,7 +63,8 @@ impl<A: Room + Copy> Periods<A> {
     /// Spends units until there are none or the stage ends.
     pub fn work(self, left: &mut u64) -> Stage<A>
         ensures carries { (limit : ℕ) → Carries self.certificate limit result }
-        ensures pays { Pays (self.units + 5 * stage_units) left.old left.new result }
+        ensures pays { Pays (periods_units self + 5 * stage_units) left.old left.new result }
+        ensures works { (bytes : List ℕ) (limit : ℕ) → Works bytes limit (AtPeriods self) left.old left.new (phase_of result) }
     {
         let Periods {
             sheet,

@@ -1,8 +1,11 @@
-ghost use Rattle.std.specs.Prelude.{◌≡◌, ◌<◌, ◌+◌, ◌*◌, ◌≤◌, ◌⊎◌, ℕ, IsTrue};
+ghost use Rattle.std.specs.Prelude.{◌≡◌, ◌<◌, ◌+◌, ◌*◌, ◌≤◌, ◌⊎◌, ℕ, List, IsTrue};
 ghost use Rattle.misere_theory.specs.Faults.{OrderFault};
 ghost use Rattle.checker.specs.Progress.{IsInOrder, AreKeys};
 ghost use Rattle.checker.specs.Units.{stage_units};
-ghost use Rattle.checker.specs.Stages.{Carries, Pays};
+ghost use Rattle.checker.specs.Views.{products_units};
+ghost use Rattle.checker.specs.Turns.{is_in_order, Works};
+ghost use Rattle.checker.specs.Turns.Phase.{Products as AtProducts};
+ghost use Rattle.checker.specs.Stages.{Carries, Pays, phase_of};
 
 use crate::keys::is_below;
 use crate::periods::Periods;
@@ -26,15 +29,15 @@ pub struct Products<A: Room = Global> {
 
 impl<A: Room> Model for Products<A> {
     ghost use Rattle.misere_theory.specs.Faults.{OrderFault};
-    ghost use Rattle.std.specs.Prelude.{◌+◌};
-    ghost use Rattle.checker.specs.Units.{Staged, rest};
+    ghost use Rattle.std.specs.Prelude.{◌<◌};
+    ghost use Rattle.checker.specs.Views.{ProductsView};
     ghost use Rattle.checker.specs.Progress.{ProductsSoFar};
 
-    ghost Value = { Staged };
+    ghost Value = { ProductsView };
 
-    ghost view = { λ s. record { certificate = s.sheet; units = rest s.sheet.order s.element (s.sheet.start + s.sheet.period) s.heap } };
+    ghost view = { λ s. record { certificate = s.sheet; element = s.element; heap = s.heap } };
 
-    ghost invariant = { λ s. ProductsSoFar s.sheet s.element s.heap };
+    ghost invariant = { λ s. ProductsSoFar s.sheet s.element s.heap × (s.element < s.sheet.order) };
 }
 
 /// Whether the product of an element and a heap has no smaller key than its own.
@@ -44,6 +47,7 @@ fn is_in_order<A: Room>(sheet: &Sheet<A>, element: u16, heap: u16) -> bool
     requires heap { heap < sheet.now.start + sheet.now.period }
     ensures in_order { IsTrue result → IsInOrder sheet.now element heap }
     ensures fault { IsTrue result ⊎ OrderFault sheet.now }
+    ensures same { result ≡ is_in_order sheet.now element heap }
 {
     let product = sheet.times(element, sheet.phi(heap as u64));
     product == 0 || !is_below(Key { element, heap }, sheet.key(product))
@@ -53,8 +57,8 @@ impl<A: Room + Copy> Products<A> {
     /// No product was looked at.
     pub fn new(sheet: Sheet<A>) -> Products<A>
         requires { AreKeys sheet }
-        ensures certificate { result.certificate ≡ sheet }
-        ensures units { result.units < stage_units }
+        ensures value { result ≡ record { certificate = sheet; element = 0; heap = 1 } }
+        ensures units { products_units result < stage_units }
     {
         let _order = sheet.order();
         Products {
@@ -67,7 +71,8 @@ impl<A: Room + Copy> Products<A> {
     /// Spends units until there are none or the stage ends.
     pub fn work(self, left: &mut u64) -> Stage<A>
         ensures carries { (limit : ℕ) → Carries self.certificate limit result }
-        ensures pays { Pays (self.units + 6 * stage_units) left.old left.new result }
+        ensures pays { Pays (products_units self + 6 * stage_units) left.old left.new result }
+        ensures works { (bytes : List ℕ) (limit : ℕ) → Works bytes limit (AtProducts self) left.old left.new (phase_of result) }
     {
         let Products {
             sheet,

@@ -1,7 +1,8 @@
 //! The stage that reads the bytes.
 ghost use Rattle.std.specs.Prelude.{◌*◌};
 ghost use Rattle.checker.specs.Units.{stage_units};
-ghost use Rattle.checker.specs.Stages.{Stands, Pays};
+ghost use Rattle.checker.specs.Turns.Phase.{Reading as AtReading};
+ghost use Rattle.checker.specs.Stages.{Stands, Pays, Comes};
 
 use crate::laws::Laws;
 use crate::refusal::Refusal;
@@ -13,8 +14,10 @@ use certificate::{TextFault, read};
 pub fn work<A: Room + Copy>(alloc: A, bytes: &[u8], limit: u32, left: &mut u64) -> Stage<A>
     ensures stands { Stands bytes.now limit result }
     ensures pays { Pays (9 * stage_units) left.old left.new result }
+    ensures comes { Comes bytes.now limit AtReading left.old left.new result }
 {
     let _limit = limit;
+    certificate_text::reading_is_spelling();
     if *left == 0 {
         return Stage::Reading;
     }

@@ -1,8 +1,11 @@
-ghost use Rattle.std.specs.Prelude.{◌≡◌, ◌<◌, ◌+◌, ◌*◌, ◌↔◌, ℕ, IsTrue};
+ghost use Rattle.std.specs.Prelude.{◌≡◌, ◌<◌, ◌+◌, ◌*◌, ◌↔◌, ℕ, List, IsTrue};
 ghost use Rattle.misere_theory.specs.Certificates.{claim_of, TellsApart};
 ghost use Rattle.checker.specs.Progress.{HasNoFaultBelow};
 ghost use Rattle.checker.specs.Units.{stage_units};
-ghost use Rattle.checker.specs.Stages.{Carries, Pays};
+ghost use Rattle.checker.specs.Views.{separating_units};
+ghost use Rattle.checker.specs.Turns.{tells_apart, Works};
+ghost use Rattle.checker.specs.Turns.Phase.{Separating as AtSeparating};
+ghost use Rattle.checker.specs.Stages.{Carries, Pays, phase_of};
 
 use crate::heaps::Heaps;
 use crate::refusal::Refusal;
@@ -27,15 +30,15 @@ pub struct Separating<A: Room = Global> {
 }
 
 impl<A: Room> Model for Separating<A> {
-    ghost use Rattle.std.specs.Prelude.{◌+◌, length};
-    ghost use Rattle.checker.specs.Units.{Staged, rest};
+    ghost use Rattle.std.specs.Prelude.{◌<◌, length};
+    ghost use Rattle.checker.specs.Views.{SeparatingView};
     ghost use Rattle.checker.specs.Progress.{ApartSoFar};
 
-    ghost Value = { Staged };
+    ghost Value = { SeparatingView };
 
-    ghost view = { λ s. record { certificate = s.sheet; units = rest (length s.sheet.apart) s.number (s.sheet.order + 1) s.z } };
+    ghost view = { λ s. record { certificate = s.sheet; x = s.x; y = s.y; number = s.number; z = s.z } };
 
-    ghost invariant = { λ s. ApartSoFar s.sheet s.x s.y s.z s.number };
+    ghost invariant = { λ s. ApartSoFar s.sheet s.x s.y s.z s.number × (s.number < length s.sheet.apart) };
 }
 
 /// Whether z takes exactly one of x and y into the portion.
@@ -43,7 +46,8 @@ fn tells_apart<A: Room>(sheet: &Sheet<A>, x: u16, y: u16, z: u16) -> bool
     requires x_in { x < sheet.now.order }
     requires y_in { y < sheet.now.order }
     requires z_in { z < sheet.now.order }
-    ensures { IsTrue result ↔ TellsApart (claim_of sheet.now) (x, y) z }
+    ensures tells { IsTrue result ↔ TellsApart (claim_of sheet.now) (x, y) z }
+    ensures same { result ≡ tells_apart sheet.now x y z }
 {
     sheet.holds(sheet.times(x, z)) != sheet.holds(sheet.times(y, z))
 }
@@ -52,8 +56,8 @@ impl<A: Room + Copy> Separating<A> {
     /// No pair was looked at.
     pub fn new(sheet: Sheet<A>) -> Separating<A>
         requires { HasNoFaultBelow 6 sheet }
-        ensures certificate { result.certificate ≡ sheet }
-        ensures units { result.units < stage_units }
+        ensures value { result ≡ record { certificate = sheet; x = 0; y = 1; number = 0; z = 0 } }
+        ensures units { separating_units result < stage_units }
     {
         let _order = sheet.order();
         Separating {
@@ -68,7 +72,8 @@ impl<A: Room + Copy> Separating<A> {
     /// Spends units until there are none or the stage ends.
     pub fn work(self, alloc: A, left: &mut u64) -> Stage<A>
         ensures carries { (limit : ℕ) → Carries self.certificate limit result }
-        ensures pays { Pays (self.units + 4 * stage_units) left.old left.new result }
+        ensures pays { Pays (separating_units self + 4 * stage_units) left.old left.new result }
+        ensures works { (bytes : List ℕ) (limit : ℕ) → Works bytes limit (AtSeparating self) left.old left.new (phase_of result) }
     {
         let Separating {
             sheet,

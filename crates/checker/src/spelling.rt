@@ -3,6 +3,8 @@ ghost use Rattle.std.specs.Prelude.{◌≡◌, ◌<◌, IfOk};
 ghost use Rattle.misere_theory.specs.Certificates.{Canonical, claim_of};
 ghost use Rattle.misere_theory.specs.Games.{IsHeap, IsPosition};
 ghost use Rattle.misere_theory.specs.Quotients.{value};
+ghost use Rattle.pair_closure.specs.Positions.{rising};
+ghost use Rattle.checker.specs.Turns.{keys_from};
 
 use crate::sheet::Sheet;
 use allocation::{Memory, Room};
@@ -18,6 +20,7 @@ pub fn spelled<A: Room + Copy>(
     requires element_in { element < sheet.now.order }
     ensures position { IfOk result (IsPosition IsHeap) }
     ensures value { IfOk result (λ X. value (claim_of sheet.now) X ≡ element) }
+    ensures keys { IfOk result (λ X. rising X ≡ rising (keys_from sheet.now sheet.now.order element)) }
 {
     let mut position = Position::new(alloc);
     let _order = sheet.order();

@@ -1,7 +1,11 @@
-use Rattle.std.proofs.Common.{rules, ◌<◌, ◌-◌, length, get_or, arith, ◌∙◌}
+use Rattle.std.proofs.Common.{rules, ◌≡◌, ◌<◌, ◌-◌, length, get_or, refl, arith, ◌∙◌}
 use Rattle.pair_closure.specs.Progress.{blank_held}
 use Rattle.checker.specs.Rules.{Obeys}
 use Rattle.checker.proofs.HeldLemmas.{held_obey, last_obeys, broken_at}
+use Rattle.pair_closure.specs.Progress.{steps}
+use Rattle.checker.specs.Turns.Phase.{Closing}
+use Rattle.checker.proofs.TurnLemmas.{runs-none}
+use Rattle.checker.proofs.CloseTurns.{ok_takes, err_refused, kept_takes, takes_fresh, refused_runs, runs-left, broken_runs, over_runs, done_runs, more_runs}
 use Rattle.checker.proofs.closing.close.Goals.{then-ever+else-not-obeys, else-ever}
 use Rattle.checker.proofs.closing.close.Goals as goal
 
@@ -41,9 +45,96 @@ members-preserved g c =
       | then-ever+else-not-obeys w ↦ last_obeys c.args.inside.now t.held w.kept-newest.result w.member.result.now w.obeys.result w.kept-newest.ensures w.member.ensures w.if-not-obeys.false w.obeys.ensures.yes
       | else-ever w ↦ (let a = w.if-ever.false in let b = c.ever.ensures in let d = c.ever-ever.ensures in absurd (omega arith))
     ]) in
+    let p = c.members.closure in
+    let q = c.grow_to_member-grown.new.self in
+    let k = ok_takes c.grow_to_member-grown.result c.in-Ok-More.field-0 p q c.members.left c.grow_to_member-grown.ensures.grows c.in-Ok-More.is in
+    let on = c.grow_to_member-grown.ensures.more (search rules) in
     record {
       obey = held_obey c.args.inside.now c.members.closure.state t c.grow_to_member-grown.ensures.kept i.obey last;
       same = record { table = d.table ∙ i.same.table; heaps = d.heaps ∙ i.same.heaps; limit = d.limit ∙ i.same.limit };
       spends = (let a = i.spends in omega arith);
       spent = (let a = i.spent in let r = c.grow_to_member-grown.ensures.spent_range in let b = c.spent.ensures in let e = c.spent-before.ensures in omega arith);
+      going = on;
+      fresh = takes_fresh p q c.members.left k i.fresh;
+      runs = λ r portion bytes limit. more_runs r c.args.inside.now portion bytes limit _ p q _ c.members.left _ (i.runs r portion bytes limit) k (let b = c.spent.ensures in let e = c.spent-before.ensures in let f = k.spent in let w = k.within in omega arith) last i.going on;
     }
+
+pub members-init : goal.members-init
+members-init g c = record {
+  obey = c.requires.obey;
+  same = record { table = refl; heaps = refl; limit = refl };
+  spends = omega arith;
+  spent = refl;
+  going = c.requires.going;
+  fresh = c.requires.fresh;
+  runs = λ d portion bytes limit. runs-none bytes limit _ _ _ refl;
+}
+
+pub returns-then-not-obeys-clause-outcome : goal.returns-then-not-obeys-clause-outcome
+returns-then-not-obeys-clause-outcome g c =
+    let i = c.members.invariant in
+    let p = c.members.closure in
+    let q = c.grow_to_member-grown.new.self in
+    let l : length p.state.members < length q.state.members = (let a = c.ever.ensures in let b = c.ever-ever.ensures in let l = c.if-ever.true in omega arith) in
+    let some : 0 < length q.state.held = c.grow_to_member-grown.ensures.kept.last l in
+    let n = c.kept-newest.ensures in
+    let k = kept_takes c.grow_to_member-grown.result p q c.members.left c.grow_to_member-grown.ensures.grows i.fresh l in
+    λ j same d portion bytes limit.
+    let m : c.kept-newest.result - 1 ≡ j = cc in
+    let b = broken_at c.args.inside.now q.state.held (c.kept-newest.result - 1) c.member.result.now c.obeys.result (omega arith) c.member.ensures c.if-not-obeys.true c.obeys.ensures.no j same in
+    broken_runs d c.args.inside.now portion bytes limit _ p q _ c.members.left _ (i.runs d portion bytes limit) k (let b = c.spent.ensures in let e = c.spent-before.ensures in let f = k.spent in let w = k.within in omega arith) j l b.1 (omega arith)
+
+pub returns-in-Err-clause-refused : goal.returns-in-Err-clause-refused
+returns-in-Err-clause-refused g c =
+    let i = c.members.invariant in
+    let p = c.members.closure in
+    let q = c.grow_to_member-grown.new.self in
+    let k = err_refused c.grow_to_member-grown.result c.in-Err.field-0 p q c.members.left c.grow_to_member-grown.ensures.grows i.fresh c.in-Err.is in
+    (λ d. Closing (record { certificate = d; closure = steps k.turns p }), λ d portion bytes limit. runs-left bytes limit _ _ _ _ _ (refused_runs bytes limit d _ p q _ c.members.left (i.runs d portion bytes limit) k) (let b = c.spent.ensures in let e = c.spent-before.ensures in let f = k.spent in let w = k.within in omega arith))
+
+pub returns-in-Ok-Done-clause-yes : goal.returns-in-Ok-Done-clause-yes
+returns-in-Ok-Done-clause-yes g c = λ _.
+    let i = c.members.invariant in
+    let p = c.members.closure in
+    let q = c.grow_to_member-grown.new.self in
+    let t = q.state in
+    let last : length c.members.closure.state.members < length t.members → Obeys c.args.inside.now (get_or t.held (length t.held - 1) blank_held).pair = (λ l. elim c.if-ever.branch [
+      | then-ever+else-not-obeys w ↦ last_obeys c.args.inside.now t.held w.kept-newest.result w.member.result.now w.obeys.result w.kept-newest.ensures w.member.ensures w.if-not-obeys.false w.obeys.ensures.yes
+      | else-ever w ↦ (let a = w.if-ever.false in let b = c.ever.ensures in let d = c.ever-ever.ensures in absurd (omega arith))
+    ]) in
+    let k = ok_takes c.grow_to_member-grown.result c.in-Ok-Done.field-0 p q c.members.left c.grow_to_member-grown.ensures.grows c.in-Ok-Done.is in
+    λ d portion bytes limit. done_runs d c.args.inside.now portion bytes limit _ p q _ c.members.left _ (i.runs d portion bytes limit) k (let b = c.spent.ensures in let e = c.spent-before.ensures in let f = k.spent in let w = k.within in omega arith) last i.going (c.grow_to_member-grown.ensures.done (search rules))
+
+pub returns-in-Ok-Over-clause-limit : goal.returns-in-Ok-Over-clause-limit
+returns-in-Ok-Over-clause-limit g c = λ _.
+    let i = c.members.invariant in
+    let p = c.members.closure in
+    let q = c.grow_to_member-grown.new.self in
+    let t = q.state in
+    let last : length c.members.closure.state.members < length t.members → Obeys c.args.inside.now (get_or t.held (length t.held - 1) blank_held).pair = (λ l. elim c.if-ever.branch [
+      | then-ever+else-not-obeys w ↦ last_obeys c.args.inside.now t.held w.kept-newest.result w.member.result.now w.obeys.result w.kept-newest.ensures w.member.ensures w.if-not-obeys.false w.obeys.ensures.yes
+      | else-ever w ↦ (let a = w.if-ever.false in let b = c.ever.ensures in let d = c.ever-ever.ensures in absurd (omega arith))
+    ]) in
+    let k = ok_takes c.grow_to_member-grown.result c.in-Ok-Over.field-0 p q c.members.left c.grow_to_member-grown.ensures.grows c.in-Ok-Over.is in
+    λ d portion bytes limit. over_runs d c.args.inside.now portion bytes limit _ p q _ c.members.left _ (i.runs d portion bytes limit) k (let b = c.spent.ensures in let e = c.spent-before.ensures in let f = k.spent in let w = k.within in omega arith) last i.going (c.grow_to_member-grown.ensures.over (search rules))
+
+pub returns-then-ever-2-clause-stays : goal.returns-then-ever-2-clause-stays
+returns-then-ever-2-clause-stays g c = λ _.
+    let i = c.members.invariant in
+    let p = c.members.closure in
+    let q = c.grow_to_member-grown.new.self in
+    let k = ok_takes c.grow_to_member-grown.result c.in-Ok-More.field-0 p q c.members.left c.grow_to_member-grown.ensures.grows c.in-Ok-More.is in
+    (c.grow_to_member-grown.ensures.more (search rules), takes_fresh p q c.members.left k i.fresh)
+
+pub returns-then-ever-2-clause-turns : goal.returns-then-ever-2-clause-turns
+returns-then-ever-2-clause-turns g c = λ _.
+    let i = c.members.invariant in
+    let p = c.members.closure in
+    let q = c.grow_to_member-grown.new.self in
+    let t = q.state in
+    let last : length c.members.closure.state.members < length t.members → Obeys c.args.inside.now (get_or t.held (length t.held - 1) blank_held).pair = (λ l. elim c.if-ever.branch [
+      | then-ever+else-not-obeys w ↦ last_obeys c.args.inside.now t.held w.kept-newest.result w.member.result.now w.obeys.result w.kept-newest.ensures w.member.ensures w.if-not-obeys.false w.obeys.ensures.yes
+      | else-ever w ↦ (let a = w.if-ever.false in let b = c.ever.ensures in let d = c.ever-ever.ensures in absurd (omega arith))
+    ]) in
+    let k = ok_takes c.grow_to_member-grown.result c.in-Ok-More.field-0 p q c.members.left c.grow_to_member-grown.ensures.grows c.in-Ok-More.is in
+    λ d portion bytes limit. more_runs d c.args.inside.now portion bytes limit _ p q _ c.members.left _ (i.runs d portion bytes limit) k (let b = c.spent.ensures in let e = c.spent-before.ensures in let f = k.spent in let w = k.within in omega arith) last i.going (c.grow_to_member-grown.ensures.more (search rules))

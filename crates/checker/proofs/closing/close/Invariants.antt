@@ -1,6 +1,8 @@
-use Rattle.std.proofs.Common.{◌≡◌, ◌≤◌, ◌+◌}
-use Rattle.pair_closure.specs.Progress.{SameData}
+use Rattle.std.proofs.Common.{◌≡◌, ◌≤◌, ◌+◌, false}
+use Rattle.pair_closure.specs.Progress.{SameData, has_ended}
 use Rattle.checker.specs.Rules.{HeldObey}
+use Rattle.checker.specs.Turns.Phase.{Closing}
+use Rattle.checker.specs.Closes.{Closes}
 use Rattle.checker.proofs.closing.close.Given as goal
 
 abbrev pub invariant-members : goal.invariant-members
@@ -9,6 +11,9 @@ invariant-members g l = record {
   same : SameData l.initial.closure.state l.closure.state;
   spends : l.left ≤ l.initial.left;
   spent : l.left + l.closure.spent ≡ l.initial.left + l.initial.closure.spent;
+  going : has_ended l.closure.state ≡ false;
+  fresh : l.closure.failed ≡ false;
+  runs : Closes l.inside l.initial.closure l.initial.left l.left (λ c. Closing (record { certificate = c; closure = l.closure }));
 }
 
 abbrev pub decreases-members : goal.decreases-members

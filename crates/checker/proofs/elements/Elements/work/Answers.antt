@@ -1,8 +1,80 @@
-use Rattle.std.proofs.Common.{rules, ◌<◌, ◌≤◌, ◌+◌, length, subst, ◌∙◌, arith}
+use Rattle.std.proofs.Common.{rules, ◌<◌, ◌≤◌, ◌+◌, ◌∷◌, length, subst, sym, ap, refl, inl, inr, ◌∙◌, arith}
 use Rattle.checker.specs.Stages.{Carries}
 use Rattle.checker.proofs.UnitLemmas.{rest-place, rest-row}
 use Rattle.checker.proofs.ElementLemmas.{value_below, leads_in, obeys_at, value_turn, heap_turn, elements_end}
+use Rattle.checker.specs.Answers.Answer.{Outcome}
+use Rattle.checker.specs.Views.{elements_units}
+use Rattle.pair_closure.specs.Positions.{rising}
+use Rattle.checker.specs.Turns.{keys_from}
+use Rattle.checker.specs.Turns.Phase.{Elements, Closing, Ended}
+use Rattle.checker.proofs.TurnLemmas.{runs-none, runs-to}
+use Rattle.checker.proofs.ElementTurns.{elements_in, elements_going, elements_broken, elements_heap, elements_option, elements_over, leads_here, leads_nowhere}
 use Rattle.checker.proofs.elements.Elements.work.Goals as goal
+
+pub heaps-init : goal.heaps-init
+heaps-init g c =
+    let e = ap elements_units c.self.view_is in
+    record {
+      same = ap (λ v. v.certificate) c.self.view_is;
+      order = c.order-order.ensures.value;
+      lawful = c.order-order.ensures.lawful;
+      so_far = c.self.invariant.0;
+      spent = omega arith;
+      paid = omega arith;
+      runs = λ bytes. runs-none bytes c.args.limit _ _ _ (elements_in c.args.limit _ _ _ _ c.self.invariant.1 ∙ ap Elements c.self.view_is);
+    }
+
+pub returns-then-left-eq0-clause-comes : goal.returns-then-left-eq0-clause-comes
+returns-then-left-eq0-clause-comes g c =
+    let i = c.heaps.invariant in
+    λ bytes. record {
+      to = Elements (record { certificate = c.heaps.sheet; pairs = c.self.inside.pairs.items; heap = c.heaps.heap; option = c.heaps.option });
+      runs = elements_going bytes c.args.limit _ _ _ _ _ _ _ (i.runs bytes) (search rules);
+      shown = inl refl;
+      exact = λ h. absurd (omega arith);
+    }
+
+pub returns-in-Ok-clause-comes : goal.returns-in-Ok-clause-comes
+returns-in-Ok-clause-comes g c =
+    let i = c.heaps.invariant in
+    let l : c.heaps.heap < length c.self.inside.pairs.items = search rules in
+    let e = c.deref.ensures.value in
+    let y = c.in-Some.y in
+    let r = i.lawful.in_ranges in
+    let b = c.in-Some.ensures.within in
+    let here = leads_here c.heaps.sheet r c.self.inside.pairs.items c.self.inside.contexts.items _ _ i.so_far l c.index.result.now c.index.ensures y c.in-Some.ensures.option (rw e at c.in-Some.ensures.heap) (rw e at c.in-Some.ensures.left) in
+    λ bytes. record {
+      to = Ended (Outcome c.heaps.sheet.code c.in-Ok.position);
+      runs = runs-to bytes c.args.limit _ _ _ _ _ (elements_broken bytes c.args.limit _ _ _ _ _ _ _ (i.runs bytes) l y (omega arith) (omega arith) here (λ x s. leads_nowhere c.heaps.sheet r c.self.inside.pairs.items c.self.inside.contexts.items _ _ i.so_far l c.index.result.now c.index.ensures x (omega arith) (λ o u. (rw e at c.in-Some.ensures.least) x s u))) (ap (λ X. Ended (Outcome c.heaps.sheet.code X)) (sym c.in-Ok.ensures.exact));
+      shown = inl (sym c.failed.ensures.shown);
+      exact = (let f = c.failed.ensures.shown in λ h. rw f (omega arith));
+    }
+
+pub returns-in-Err-clause-comes : goal.returns-in-Err-clause-comes
+returns-in-Err-clause-comes g c =
+    let i = c.heaps.invariant in
+    let l : c.heaps.heap < length c.self.inside.pairs.items = search rules in
+    let e = c.deref.ensures.value in
+    let y = c.in-Some.y in
+    let r = i.lawful.in_ranges in
+    let b = c.in-Some.ensures.within in
+    let here = leads_here c.heaps.sheet r c.self.inside.pairs.items c.self.inside.contexts.items _ _ i.so_far l c.index.result.now c.index.ensures y c.in-Some.ensures.option (rw e at c.in-Some.ensures.heap) (rw e at c.in-Some.ensures.left) in
+    λ bytes. record {
+      to = Ended (Outcome c.heaps.sheet.code (rising ((c.heaps.heap + 1) ∷ keys_from c.heaps.sheet c.heaps.sheet.order y)));
+      runs = elements_broken bytes c.args.limit _ _ _ _ _ _ _ (i.runs bytes) l y (omega arith) (omega arith) here (λ x s. leads_nowhere c.heaps.sheet r c.self.inside.pairs.items c.self.inside.contexts.items _ _ i.so_far l c.index.result.now c.index.ensures x (omega arith) (λ o u. (rw e at c.in-Some.ensures.least) x s u));
+      shown = inr refl;
+      exact = λ h. omega arith;
+    }
+
+pub returns-clause-comes : goal.returns-clause-comes
+returns-clause-comes g c =
+    let i = c.heaps.invariant in
+    λ bytes. record {
+      to = Closing c.new.result;
+      runs = runs-to bytes c.args.limit _ _ _ _ _ (elements_over bytes c.args.limit _ _ _ _ _ _ _ (i.runs bytes) (search rules)) (ap Closing (sym c.new.ensures.value));
+      shown = inl refl;
+      exact = λ h. omega arith;
+    }
 
 pub breach-requires-clause-value : goal.breach-requires-clause-value
 breach-requires-clause-value g c =
@@ -32,6 +104,7 @@ heaps-preserved-then-option-order g c =
       so_far = heap_turn c.heaps.sheet i.lawful.in_ranges c.self.inside.pairs.items c.self.inside.contexts.items _ _ i.so_far o (c.if-option-order.true ∙ i.order) l;
       spent = omega arith;
       paid = (let f = rest-row (length c.self.inside.pairs.items) c.heaps.heap c.heaps.sheet.order c.heaps.option l i.so_far.value 0 in omega arith);
+      runs = λ bytes. elements_heap bytes c.args.limit _ _ _ _ _ _ _ (i.runs bytes) l (omega arith) (λ x s. leads_nowhere c.heaps.sheet i.lawful.in_ranges c.self.inside.pairs.items c.self.inside.contexts.items _ _ i.so_far l c.index.result.now c.index.ensures x s (λ u. (rw (c.deref.ensures.value, i.order) at c.in_default.ensures.none) u x s)) (c.if-option-order.true ∙ i.order);
     }
 
 pub heaps-preserved : goal.heaps-preserved
@@ -48,6 +121,7 @@ heaps-preserved g c =
       so_far = value_turn c.heaps.sheet i.lawful.in_ranges c.self.inside.pairs.items c.self.inside.contexts.items _ _ i.so_far o b;
       spent = omega arith;
       paid = (let f = rest-place (length c.self.inside.pairs.items) c.heaps.heap c.heaps.sheet.order c.heaps.option l v in omega arith);
+      runs = λ bytes. elements_option bytes c.args.limit _ _ _ _ _ _ _ (i.runs bytes) l (omega arith) (λ x s. leads_nowhere c.heaps.sheet i.lawful.in_ranges c.self.inside.pairs.items c.self.inside.contexts.items _ _ i.so_far l c.index.result.now c.index.ensures x s (λ u. (rw (c.deref.ensures.value, i.order) at c.in_default.ensures.none) u x s)) (λ m. absurd (omega arith));
     }
 
 pub new-requires-clause-elements : goal.new-requires-clause-elements

@@ -1,10 +1,124 @@
-use Rattle.std.proofs.Common.{subst, sym}
+use Rattle.std.proofs.Common.{◌≡◌, ℕ, List, ◌-◌, ◌<◌, ◌≤◌, true, refl, inl, inr, ap, ◌∙◌, subst, sym, arith}
 use Rattle.std.specs.List.{All}
 use Rattle.transition_algebra.specs.Heaps.{AreAllHeapPairs}
 use Rattle.transition_algebra.specs.Pairs.{IsPair}
 use Rattle.checker.specs.Sheets.{pieces_of}
 use Rattle.checker.proofs.HeapLemmas.{heaps_have_pairs}
+use native.Mathlib.Decide.{dec_lt}
+use Rattle.misere_theory.specs.Certificates.{Certificate}
+use Rattle.monoid_table.specs.Grids.{Grid}
+use Rattle.transition_algebra.specs.Pretending.{Pretending}
+use Rattle.transition_algebra.specs.declared.pair.Pair.{Pair}
+use Rattle.transition_algebra.specs.Heaps.{all_heap_pairs}
+use Rattle.transition_algebra.specs.Work.{HeapWork, IsDone, heap_cost}
+use Rattle.certificate.specs.Pieces.{certificate_of, grid_of, pretending_of}
+use Rattle.checker.specs.Turns.{Phase, Runs}
+use Rattle.checker.specs.Turns.Phase.{Heaps, Elements}
+use Rattle.checker.proofs.TurnLemmas.{runs-to}
+use Rattle.checker.proofs.CloseTurns.{runs-left}
+use Rattle.checker.proofs.HeapTurns.{heaps_in, heaps_runs, heaps_end}
 use Rattle.checker.proofs.heaps.Heaps.work.Goals as goal
+
+pub returns-in-Err-clause-comes : goal.returns-in-Err-clause-comes
+returns-in-Err-clause-comes g c = λ bytes limit.
+    let s = c.self.inside in
+    let of : HeapWork → Certificate = λ j. certificate_of (pieces_of j.code j.table j.phi s.lines.portion.items s.lines.words.items s.lines.apart.items) in
+    let J = c.work-made.new.self in
+    let U = c.args.left.now in
+    let r = c.work-made.ensures.spent in
+    let a = c.spent.ensures in
+    let b = c.spent-before.ensures in
+    let h = c.in-Err.ensures.short c.self.invariant.2 in
+    let k : heap_cost J.code J.phi ≡ heap_cost s.job.code s.job.phi = ap (λ (j : HeapWork). heap_cost j.code j.phi) c.in-Err.ensures.refused in
+    let w : J.spent < heap_cost s.job.code s.job.phi = omega arith in
+    let u : J.spent ≤ heap_cost s.job.code s.job.phi = omega arith in
+    let runs = heaps_runs bytes limit (of s.job) s.job.spent c.self.invariant.1 U (U - (J.spent - s.job.spent)) J.spent r.0 u (omega arith) in
+    record {
+      to = Heaps (record { certificate = of s.job; spent = J.spent });
+      runs = runs-left bytes limit U (U - (J.spent - s.job.spent)) _ _ _ (subst (λ v. Runs bytes limit (Heaps v) U (U - (J.spent - s.job.spent)) (Heaps (record { certificate = of s.job; spent = J.spent }))) c.self.view_is (runs-to bytes limit _ _ _ _ _ runs (heaps_in limit (of s.job) J.spent w))) (omega arith);
+      shown = inr refl;
+      exact = λ _. omega arith;
+    }
+
+pub returns-in-Ok-false-clause-comes : goal.returns-in-Ok-false-clause-comes
+returns-in-Ok-false-clause-comes g c = λ bytes limit.
+    let s = c.self.inside in
+    let of : HeapWork → Certificate = λ j. certificate_of (pieces_of j.code j.table j.phi s.lines.portion.items s.lines.words.items s.lines.apart.items) in
+    let J = c.work-made.new.self in
+    let U = c.args.left.now in
+    let r = c.work-made.ensures.spent in
+    let a = c.spent.ensures in
+    let b = c.spent-before.ensures in
+    let e = c.in-Ok-false.ensures.worked.1 in
+    let m = ap (λ (j : HeapWork). j.spent) e in
+    let k : heap_cost J.code J.phi ≡ heap_cost s.job.code s.job.phi = ap (λ (j : HeapWork). heap_cost j.code j.phi) e in
+    let not : IsDone J → ⊥ = λ d. (let t : c.in-Ok-false.field-0 ≡ true = c.in-Ok-false.ensures.done.1 d in cc) in
+    let w : J.spent < heap_cost s.job.code s.job.phi = elim (dec_lt J.spent (heap_cost s.job.code s.job.phi)) [ yes h ↦ h | no f ↦ absurd (not (let q : J.spent ≡ heap_cost J.code J.phi = omega arith in q)) ] in
+    let u : J.spent ≤ heap_cost s.job.code s.job.phi = omega arith in
+    let runs = heaps_runs bytes limit (of s.job) s.job.spent c.self.invariant.1 U (U - (J.spent - s.job.spent)) J.spent r.0 u (omega arith) in
+    record {
+      to = Heaps (record { certificate = of J; spent = J.spent });
+      runs = runs-left bytes limit U (U - (J.spent - s.job.spent)) _ _ _ (subst (λ v. Runs bytes limit (Heaps v) U (U - (J.spent - s.job.spent)) (Heaps (record { certificate = of J; spent = J.spent }))) c.self.view_is (runs-to bytes limit _ _ _ _ _ runs (heaps_in limit (of s.job) J.spent w ∙ ap (λ q. Heaps (record { certificate = of q; spent = J.spent })) (sym e)))) (omega arith);
+      shown = inl refl;
+      exact = λ h. absurd (omega arith);
+    }
+
+pub returns-in-Err-new-clause-comes : goal.returns-in-Err-new-clause-comes
+returns-in-Err-new-clause-comes g c = λ bytes limit.
+    let s = c.self.inside in
+    let of : HeapWork → Certificate = λ j. certificate_of (pieces_of j.code j.table j.phi s.lines.portion.items s.lines.words.items s.lines.apart.items) in
+    let J = c.work-made.new.self in
+    let U = c.args.left.now in
+    let r = c.work-made.ensures.spent in
+    let a = c.spent.ensures in
+    let b = c.spent-before.ensures in
+    let k : heap_cost J.code J.phi ≡ heap_cost s.job.code s.job.phi = ap (λ (j : HeapWork). heap_cost j.code j.phi) c.in-Ok-true.ensures.worked.1 in
+    let d : IsDone J = c.in-Ok-true.ensures.done.0 c.in-Ok-true.field-0-test in
+    let l : heap_cost s.job.code s.job.phi ≤ J.spent = omega (arith, d) in
+    let u : J.spent ≤ heap_cost s.job.code s.job.phi = omega arith in
+    let runs = heaps_runs bytes limit (of s.job) s.job.spent c.self.invariant.1 U (U - (J.spent - s.job.spent)) J.spent r.0 u (omega arith) in
+    let to : Phase = Elements (record { certificate = of s.job; pairs = all_heap_pairs s.job.code (grid_of (of s.job)) (pretending_of (of s.job)); heap = 0; option = 0 }) in
+    record {
+      to = to;
+      runs = runs-left bytes limit U (U - (J.spent - s.job.spent)) _ _ _ (subst (λ v. Runs bytes limit (Heaps v) U (U - (J.spent - s.job.spent)) to) c.self.view_is (runs-to bytes limit _ _ _ _ _ runs (heaps_end limit (of s.job) J.spent c.self.invariant.0.sheet.whole.in_ranges l))) (omega arith);
+      shown = inr refl;
+      exact = λ _. omega arith;
+    }
+
+pub returns-in-Ok-clause-comes : goal.returns-in-Ok-clause-comes
+returns-in-Ok-clause-comes g c = λ bytes limit.
+    let s = c.self.inside in
+    let of : HeapWork → Certificate = λ j. certificate_of (pieces_of j.code j.table j.phi s.lines.portion.items s.lines.words.items s.lines.apart.items) in
+    let J = c.work-made.new.self in
+    let U = c.args.left.now in
+    let r = c.work-made.ensures.spent in
+    let a = c.spent.ensures in
+    let b = c.spent-before.ensures in
+    let e = c.in-Ok-true.ensures.worked.1 in
+    let k : heap_cost J.code J.phi ≡ heap_cost s.job.code s.job.phi = ap (λ (j : HeapWork). heap_cost j.code j.phi) e in
+    let d : IsDone J = c.in-Ok-true.ensures.done.0 c.in-Ok-true.field-0-test in
+    let l : heap_cost s.job.code s.job.phi ≤ J.spent = omega (arith, d) in
+    let u : J.spent ≤ heap_cost s.job.code s.job.phi = omega arith in
+    let runs = heaps_runs bytes limit (of s.job) s.job.spent c.self.invariant.1 U (U - (J.spent - s.job.spent)) J.spent r.0 u (omega arith) in
+    let f = c.finish-code.ensures in
+    let at : List ℕ → Grid → Pretending → List Pair → Phase = λ code table phi pairs. Elements (record { certificate = certificate_of (pieces_of code table phi s.lines.portion.items s.lines.words.items s.lines.apart.items); pairs = pairs; heap = 0; option = 0 }) in
+    let joined : grid_of (of s.job) ≡ s.job.table = ap (λ es. record { order = s.job.table.order; entries = es }) c.self.invariant.0.sheet.whole.rows_joined in
+    let x = c.finish-code.result in
+    let made : at s.job.code s.job.table s.job.phi (all_heap_pairs s.job.code s.job.table s.job.phi) ≡ Elements c.in-Ok.elements =
+    ap (λ (j : HeapWork). at j.code j.table j.phi (all_heap_pairs j.code j.table j.phi)) (sym e)
+    ∙ (ap (at J.code J.table J.phi) (sym f.made)
+    ∙ (ap (λ code. at code J.table J.phi x.3.items) (sym f.code)
+    ∙ (ap (λ table. at x.0 table J.phi x.3.items) (sym f.table)
+    ∙ (ap (λ phi. at x.0 x.1 phi x.3.items) (sym f.phi)
+    ∙ ap Elements (sym c.in-Ok.ensures.value))))) in
+    record {
+      to = Elements c.in-Ok.elements;
+      runs = runs-left bytes limit U (U - (J.spent - s.job.spent)) _ _ _ (subst (λ v. Runs bytes limit (Heaps v) U (U - (J.spent - s.job.spent)) (Elements c.in-Ok.elements)) c.self.view_is
+          (runs-to bytes limit _ _ _ _ _ runs (heaps_end limit (of s.job) J.spent c.self.invariant.0.sheet.whole.in_ranges l
+          ∙ (ap (λ t. at s.job.code s.job.table s.job.phi (all_heap_pairs s.job.code t s.job.phi)) joined ∙ made)))) (omega arith);
+      shown = inl refl;
+      exact = λ _. omega arith;
+    }
 
 pub new-requires-clause-pairs : goal.new-requires-clause-pairs
 new-requires-clause-pairs g c =

@@ -1,6 +1,8 @@
-use Rattle.std.proofs.Common.{◌≡◌, ◌+◌, ◌-◌, ◌≤◌}
+use Rattle.std.proofs.Common.{◌≡◌, ℕ, List}
 use Rattle.checker.specs.Sheets.{IsLawful}
 use Rattle.checker.specs.Progress.{KeysSoFar}
+use Rattle.checker.specs.Turns.{Runs, keys_at}
+use Rattle.checker.specs.Turns.Phase.{Keys as AtKeys}
 use Rattle.checker.proofs.keys.Keys.work.Given as goal
 
 abbrev pub invariant-keys : goal.invariant-keys
@@ -9,8 +11,7 @@ invariant-keys g l = record {
   order : l.order ≡ l.sheet.order;
   lawful : IsLawful l.sheet;
   so_far : KeysSoFar l.sheet l.next l.rising;
-  spent : l.left ≤ l.initial.left;
-  paid : l.initial.left + (l.sheet.order - l.next) ≤ l.left + l.fn.self.units;
+  runs : (bytes : List ℕ) (limit : ℕ) → Runs bytes limit (AtKeys l.fn.self) l.initial.left l.left (keys_at l.sheet l.next l.rising);
 }
 
 abbrev pub decreases-keys : goal.decreases-keys

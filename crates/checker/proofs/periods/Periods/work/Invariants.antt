@@ -1,7 +1,10 @@
-use Rattle.std.proofs.Common.{◌≡◌, ◌+◌, ◌≤◌}
+use Rattle.std.proofs.Common.{◌≡◌, ℕ, List, ◌+◌, ◌≤◌}
 use Rattle.checker.specs.Units.{rest}
+use Rattle.checker.specs.Views.{periods_units}
 use Rattle.checker.specs.Sheets.{IsLawful}
 use Rattle.checker.specs.Progress.{PeriodsSoFar}
+use Rattle.checker.specs.Turns.{Runs}
+use Rattle.checker.specs.Turns.Phase.{Periods as AtPeriods}
 use Rattle.checker.proofs.periods.Periods.work.Given as goal
 
 abbrev pub invariant-shifts : goal.invariant-shifts
@@ -12,7 +15,8 @@ invariant-shifts g l = record {
   lawful : IsLawful l.sheet;
   so_far : PeriodsSoFar l.sheet l.shift l.count;
   spent : l.left ≤ l.initial.left;
-  paid : l.initial.left + (rest l.sheet.period l.shift (l.sheet.period + 1) l.count + 1) ≤ l.left + l.fn.self.units;
+  paid : l.initial.left + (rest l.sheet.period l.shift (l.sheet.period + 1) l.count + 1) ≤ l.left + periods_units l.fn.self;
+  runs : (bytes : List ℕ) (limit : ℕ) → Runs bytes limit (AtPeriods l.fn.self) l.initial.left l.left (AtPeriods (record { certificate = l.sheet; shift = l.shift; count = l.count }));
 }
 
 abbrev pub decreases-shifts : goal.decreases-shifts

@@ -1,11 +1,59 @@
-use Rattle.std.proofs.Common.{rules, arith, subst, ◌+◌, ◌<◌, inl, inr}
+use Rattle.std.proofs.Common.{rules, arith, subst, sym, ap, ◌∙◌, ◌+◌, ◌<◌, inl, inr}
 use Rattle.misere_theory.specs.Verdicts.{IsFirstFault}
 use Rattle.misere_theory.specs.Verdicts.Fault.{Order}
-use Rattle.checker.proofs.FaultLemmas.{none_below_word, none_below_order}
+use Rattle.checker.proofs.FaultLemmas.{none_below_word, none_below_order, none_below_period}
 use Rattle.checker.proofs.KeyLemmas.{keys_fault_free}
 use Rattle.checker.proofs.UnitLemmas.{rest-place, rest-row}
-use Rattle.checker.proofs.ProductLemmas.{product_turn, row_turn}
+use Rattle.checker.proofs.ProductLemmas.{product_turn, row_turn, products_end}
+use Rattle.checker.specs.Views.{products_units}
+use Rattle.checker.specs.Turns.Phase.{Products, Periods}
+use Rattle.checker.proofs.TurnLemmas.{runs-none, runs-to}
+use Rattle.checker.proofs.LoopTurns.{products_in, products_going, products_seen, products_row_seen, products_missed, products_over}
 use Rattle.checker.proofs.products.Products.work.Goals as goal
+
+pub products-init : goal.products-init
+products-init g c =
+    let e = ap products_units c.self.view_is in
+    record {
+      same = ap (λ v. v.certificate) c.self.view_is;
+      order = c.order-order.ensures.value;
+      heaps = search rules;
+      lawful = c.order-order.ensures.lawful;
+      so_far = c.self.invariant.0;
+      spent = omega arith;
+      paid = omega arith;
+      runs = λ bytes limit. runs-none bytes limit _ _ _ (products_in _ _ _ c.self.invariant.1 ∙ ap Products c.self.view_is);
+    }
+
+pub returns-then-left-eq0-clause-works : goal.returns-then-left-eq0-clause-works
+returns-then-left-eq0-clause-works g c =
+    let i = c.products.invariant in
+    λ bytes limit. record {
+      runs = products_going bytes limit _ _ _ _ _ _ (i.runs bytes limit) (search rules);
+      exact = λ h. absurd (omega arith);
+    }
+
+pub returns-then-not-is_in_order-clause-works : goal.returns-then-not-is_in_order-clause-works
+returns-then-not-is_in_order-clause-works g c =
+    let i = c.products.invariant in
+    λ bytes limit. record {
+      runs = products_missed bytes limit _ _ _ _ _ _ (i.runs bytes limit) (search rules) _ (omega arith) c.is_in_order.ensures.same c.if-not-is_in_order.true;
+      exact = λ h. omega arith;
+    }
+
+pub new-requires : goal.new-requires
+new-requires g c =
+    let i = c.products.invariant in
+    let free = none_below_order c.products.sheet (none_below_word c.products.sheet i.lawful.monoid) (keys_fault_free c.products.sheet i.so_far.keys.keyed) in
+    none_below_period c.products.sheet free (products_end c.products.sheet _ _ i.so_far (search rules))
+
+pub returns-clause-works : goal.returns-clause-works
+returns-clause-works g c =
+    let i = c.products.invariant in
+    λ bytes limit. record {
+      runs = runs-to bytes limit _ _ _ _ _ (products_over bytes limit _ _ _ _ _ _ (i.runs bytes limit) (search rules)) (ap Periods (sym c.new.ensures.value));
+      exact = λ h. omega arith;
+    }
 
 pub returns-then-not-is_in_order-clause-carries : goal.returns-then-not-is_in_order-clause-carries
 returns-then-not-is_in_order-clause-carries g c =
@@ -24,6 +72,7 @@ products-preserved-then-heap-heaps g c =
       so_far = row_turn _ _ _ i.so_far (c.is_in_order.ensures.in_order c.if-not-is_in_order.false) (search rules) (search rules);
       spent = omega arith;
       paid = (let f = rest-row c.products.sheet.order c.products.element (c.products.sheet.start + c.products.sheet.period) c.products.heap (search rules) i.so_far.heap 1 in omega arith);
+      runs = λ bytes limit. products_row_seen bytes limit _ _ _ _ _ _ (i.runs bytes limit) (search rules) _ (omega arith) c.is_in_order.ensures.same c.if-not-is_in_order.false (search rules);
     }
 
 pub products-preserved : goal.products-preserved
@@ -39,4 +88,5 @@ products-preserved g c =
       so_far = product_turn _ _ _ i.so_far (c.is_in_order.ensures.in_order c.if-not-is_in_order.false) l;
       spent = omega arith;
       paid = (let f = rest-place c.products.sheet.order c.products.element (c.products.sheet.start + c.products.sheet.period) c.products.heap (search rules) i.so_far.heap in omega arith);
+      runs = λ bytes limit. products_seen bytes limit _ _ _ _ _ _ (i.runs bytes limit) (search rules) _ (omega arith) c.is_in_order.ensures.same c.if-not-is_in_order.false l;
     }

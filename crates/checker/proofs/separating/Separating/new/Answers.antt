@@ -1,10 +1,10 @@
 use Rattle.std.proofs.Common.{◌+◌, ◌≤◌, length, arith}
-use Rattle.checker.proofs.UnitLemmas.{rest-most, pairs_few}
+use Rattle.checker.proofs.UnitLemmas.{rest-most, pairs_few, some_pairs}
 use Rattle.checker.proofs.ApartLemmas.{apart_start}
 use Rattle.checker.proofs.separating.Separating.new.Goals as goal
 
 pub invariant_of-result : goal.invariant_of-result
-invariant_of-result g c = apart_start _ c.order-order.ensures.lawful.in_ranges c.requires
+invariant_of-result g c = let r = c.order-order.ensures.lawful.in_ranges in (apart_start _ r c.requires, some_pairs _ r)
 
 pub returns-clause-units : goal.returns-clause-units
 returns-clause-units g c =

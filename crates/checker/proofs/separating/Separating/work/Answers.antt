@@ -1,4 +1,4 @@
-use Rattle.std.proofs.Common.{length, slice_index, ◌∙◌, rules, arith, subst, ◌+◌, ◌<◌, ◌≤◌, ◌≡◌, true, sym}
+use Rattle.std.proofs.Common.{length, slice_index, ◌∙◌, ap, rules, arith, subst, ◌+◌, ◌<◌, ◌≤◌, ◌≡◌, true, sym}
 use Rattle.misere_theory.specs.Certificates.{claim_of, TellsApart}
 use Rattle.misere_theory.specs.Verdicts.{IsFirstFault}
 use Rattle.misere_theory.specs.Verdicts.Fault.{Apart}
@@ -6,7 +6,58 @@ use Rattle.misere_theory.proofs.Verdicts.{faultless}
 use Rattle.checker.proofs.FaultLemmas.{none_at_all}
 use Rattle.checker.proofs.UnitLemmas.{rest-place, rest-row}
 use Rattle.checker.proofs.ApartLemmas.{apart_in, element_turn, apart_none, apart_smaller, pair_turn, last_pair_turn, apart_end}
+use Rattle.checker.specs.Views.{separating_units}
+use Rattle.checker.specs.Turns.Phase.{Separating, Heaps}
+use Rattle.checker.proofs.TurnLemmas.{runs-none, runs-to}
+use Rattle.checker.proofs.LoopTurns.{separating_in, separating_going, separating_untold, separating_further, separating_smaller, separating_row, separating_pair, separating_over}
+use Rattle.checker.proofs.HeapTurns.{heaps_begin}
 use Rattle.checker.proofs.separating.Separating.work.Goals as goal
+
+pub pairs-init : goal.pairs-init
+pairs-init g c =
+    let e = ap separating_units c.self.view_is in
+    record {
+      same = ap (λ v. v.certificate) c.self.view_is;
+      order = c.order-order.ensures.value;
+      pairs = c.pairs-pairs.ensures.value;
+      lawful = c.order-order.ensures.lawful;
+      so_far = c.self.invariant.0;
+      spent = omega arith;
+      paid = omega arith;
+      runs = λ bytes limit. runs-none bytes limit _ _ _ (separating_in limit _ _ _ _ _ c.self.invariant.1 ∙ ap Separating c.self.view_is);
+    }
+
+pub returns-then-left-eq0-clause-works : goal.returns-then-left-eq0-clause-works
+returns-then-left-eq0-clause-works g c =
+    let i = c.pairs.invariant in
+    λ bytes limit. record {
+      runs = separating_going bytes limit _ _ _ _ _ _ _ _ (i.runs bytes limit) (search rules);
+      exact = λ h. absurd (omega arith);
+    }
+
+pub returns-then-z-given-clause-works : goal.returns-then-z-given-clause-works
+returns-then-z-given-clause-works g c =
+    let i = c.pairs.invariant in
+    λ bytes limit. record {
+      runs = separating_untold bytes limit _ _ _ _ _ _ _ _ (i.runs bytes limit) (search rules) _ (omega arith) c.tells_apart.ensures.same c.if-not-tells_apart.true (search rules);
+      exact = λ h. omega arith;
+    }
+
+pub returns-then-z-given-2-clause-works : goal.returns-then-z-given-2-clause-works
+returns-then-z-given-2-clause-works g c =
+    let i = c.pairs.invariant in
+    λ bytes limit. record {
+      runs = separating_smaller bytes limit _ _ _ _ _ _ _ _ (i.runs bytes limit) (search rules) _ (omega arith) c.tells_apart.ensures.same c.if-not-tells_apart.false (search rules);
+      exact = λ h. omega arith;
+    }
+
+pub returns-clause-works : goal.returns-clause-works
+returns-clause-works g c =
+    let i = c.pairs.invariant in
+    λ bytes limit. record {
+      runs = runs-to bytes limit _ _ _ _ _ (separating_over bytes limit _ _ _ _ _ _ _ _ (i.runs bytes limit) (search rules)) (heaps_begin limit _ i.lawful.in_ranges ∙ ap Heaps (sym c.new.ensures.value));
+      exact = λ h. omega arith;
+    }
 
 pub tells_apart-requires-clause-y_in : goal.tells_apart-requires-clause-y_in
 tells_apart-requires-clause-y_in g c =
@@ -17,14 +68,14 @@ pub returns-then-z-given-clause-carries : goal.returns-then-z-given-clause-carri
 returns-then-z-given-clause-carries g c =
     let i = c.pairs.invariant in
     let l : c.pairs.number < length c.pairs.sheet.apart = search rules in
-    let not = λ (t : TellsApart (claim_of c.pairs.sheet) (c.pairs.x, c.pairs.y) c.pairs.z). let r : c.tells_apart.result ≡ true = c.tells_apart.ensures.1 t in let b : ⊥ = cc in b in
+    let not = λ (t : TellsApart (claim_of c.pairs.sheet) (c.pairs.x, c.pairs.y) c.pairs.z). let r : c.tells_apart.result ≡ true = c.tells_apart.ensures.tells.1 t in let b : ⊥ = cc in b in
     λ _. subst (λ d. IsFirstFault d Apart) i.same (apart_none c.pairs.sheet i.lawful.in_ranges _ _ _ _ i.so_far l not (search rules), i.so_far.free)
 
 pub pairs-preserved-then-not-tells_apart : goal.pairs-preserved-then-not-tells_apart
 pairs-preserved-then-not-tells_apart g c =
     let i = c.pairs.invariant in
     let l : c.pairs.number < length c.pairs.sheet.apart = search rules in
-    let not = λ (t : TellsApart (claim_of c.pairs.sheet) (c.pairs.x, c.pairs.y) c.pairs.z). let r : c.tells_apart.result ≡ true = c.tells_apart.ensures.1 t in let b : ⊥ = cc in b in
+    let not = λ (t : TellsApart (claim_of c.pairs.sheet) (c.pairs.x, c.pairs.y) c.pairs.z). let r : c.tells_apart.result ≡ true = c.tells_apart.ensures.tells.1 t in let b : ⊥ = cc in b in
     record {
       same = i.same;
       order = i.order;
@@ -33,13 +84,14 @@ pairs-preserved-then-not-tells_apart g c =
       so_far = element_turn c.pairs.sheet i.lawful.in_ranges _ _ _ _ i.so_far l not (search rules);
       spent = omega arith;
       paid = (let b : c.pairs.z < c.pairs.sheet.order = search rules in let f = rest-place (length c.pairs.sheet.apart) c.pairs.number (c.pairs.sheet.order + 1) c.pairs.z l (omega arith) in omega arith);
+      runs = λ bytes limit. separating_further bytes limit _ _ _ _ _ _ _ _ (i.runs bytes limit) l _ (omega arith) c.tells_apart.ensures.same c.if-not-tells_apart.true (search rules);
     }
 
 pub returns-then-z-given-2-clause-carries : goal.returns-then-z-given-2-clause-carries
 returns-then-z-given-2-clause-carries g c =
     let i = c.pairs.invariant in
     let l : c.pairs.number < length c.pairs.sheet.apart = search rules in
-    λ _. subst (λ d. IsFirstFault d Apart) i.same (apart_smaller c.pairs.sheet i.lawful.in_ranges _ _ _ _ i.so_far l (c.tells_apart.ensures.0 c.if-not-tells_apart.false) (search rules), i.so_far.free)
+    λ _. subst (λ d. IsFirstFault d Apart) i.same (apart_smaller c.pairs.sheet i.lawful.in_ranges _ _ _ _ i.so_far l (c.tells_apart.ensures.tells.0 c.if-not-tells_apart.false) (search rules), i.so_far.free)
 
 pub pairs-preserved-then-y-order : goal.pairs-preserved-then-y-order
 pairs-preserved-then-y-order g c =
@@ -47,7 +99,7 @@ pairs-preserved-then-y-order g c =
     let l : c.pairs.number < length c.pairs.sheet.apart = search rules in
     let e : c.pairs.z ≡ slice_index c.pairs.sheet.apart c.pairs.number = (let h = i.so_far.element l in omega arith) in
     let b : c.pairs.z < c.pairs.sheet.order = search rules in
-    let t = c.tells_apart.ensures.0 c.if-not-tells_apart.false in
+    let t = c.tells_apart.ensures.tells.0 c.if-not-tells_apart.false in
     record {
       same = i.same;
       order = i.order;
@@ -56,6 +108,7 @@ pairs-preserved-then-y-order g c =
       so_far = last_pair_turn c.pairs.sheet i.lawful.in_ranges _ _ _ _ i.so_far l b t e (search rules);
       spent = omega arith;
       paid = (let f = rest-row (length c.pairs.sheet.apart) c.pairs.number (c.pairs.sheet.order + 1) c.pairs.z l (omega arith) 0 in omega arith);
+      runs = λ bytes limit. separating_row bytes limit _ _ _ _ _ _ _ _ (i.runs bytes limit) l _ (omega arith) c.tells_apart.ensures.same c.if-not-tells_apart.false (omega arith) (search rules);
     }
 
 pub pairs-preserved : goal.pairs-preserved
@@ -64,7 +117,7 @@ pairs-preserved g c =
     let l : c.pairs.number < length c.pairs.sheet.apart = search rules in
     let e : c.pairs.z ≡ slice_index c.pairs.sheet.apart c.pairs.number = (let h = i.so_far.element l in omega arith) in
     let b : c.pairs.z < c.pairs.sheet.order = search rules in
-    let t = c.tells_apart.ensures.0 c.if-not-tells_apart.false in
+    let t = c.tells_apart.ensures.tells.0 c.if-not-tells_apart.false in
     record {
       same = i.same;
       order = i.order;
@@ -73,6 +126,7 @@ pairs-preserved g c =
       so_far = pair_turn c.pairs.sheet i.lawful.in_ranges _ _ _ _ i.so_far l b t e (λ m. c.if-y-order.false (m ∙ sym i.order));
       spent = omega arith;
       paid = (let f = rest-row (length c.pairs.sheet.apart) c.pairs.number (c.pairs.sheet.order + 1) c.pairs.z l (omega arith) 0 in omega arith);
+      runs = λ bytes limit. separating_pair bytes limit _ _ _ _ _ _ _ _ (i.runs bytes limit) l _ (omega arith) c.tells_apart.ensures.same c.if-not-tells_apart.false (omega arith) (λ m. c.if-y-order.false (m ∙ sym i.order));
     }
 
 pub new-requires : goal.new-requires
