@@ -18,21 +18,18 @@ use Rattle.misere_theory.proofs.Sums.{IsPosition-append, value_in, value-append,
 use Rattle.misere_theory.proofs.Wins.{winning_leads}
 use Rattle.misere_theory.proofs.Written.{periodic}
 use Rattle.positions.specs.Options.{options_up_to}
-use Rattle.positions.specs.Exact.{heaps_of, IsLeftAt}
+use Rattle.positions.specs.Exact.{heaps_of}
 use Rattle.positions.specs.declared.left.Left.{Left}
-use Rattle.positions.specs.declared.left.Left.TheVariants.{Nothing, One, Two}
-use Rattle.positions.proofs.Exact.{only, of_options}
 use Rattle.positions.proofs.Listed.{only_in, itself_in}
 use Rattle.player.specs.Looks.{puts, IsFirstInto}
-use Rattle.positions.proofs.Rising.{Before, rising}
-use Rattle.player.proofs.Order.{before_trans, not_before_itself, cut_before, small_in, in_order}
+use Rattle.player.proofs.Order.{AreExact, Before, before_trans, not_before_itself, cut_before, small_in, in_order, option_heaps}
 use Rattle.player.proofs.Rests.{heap_at, dropped, taken}
 
 clash : (b : Bool) → b ≡ true → b ≡ false → ⊥
 clash true p q = cc
 clash false p q = cc
 
-module _ (c : Certificate) (ranges : InRanges c) where
+module _ (c : Certificate) (ranges : InRanges c) (exact : AreExact) where
   repeats : IsPeriodic c.code (claim_of c) (length c.code - 1) c.start c.period
   repeats = periodic c ranges
 
@@ -44,7 +41,7 @@ module _ (c : Certificate) (ranges : InRanges c) where
       → (L : Left) × Contains (looked n) L × (value (claim_of c) (heaps_of L) ≡ value (claim_of c) H) × ((heaps_of L ≡ H) ⊎ LeftBefore (heaps_of L) H)
   look_for n H o w =
       let (S, i, small, e, before) = small_or_earlier c.code (claim_of c) (length c.code - 1) c.start c.period repeats n H o w in
-      let (L, there, same) = small_in c.code n (c.start + c.period) S i small in
+      let (L, there, same) = small_in exact c.code n (c.start + c.period) S i small in
       (L, there, ap (value (claim_of c)) same ∙ e, subst (λ v. (v ≡ H) ⊎ LeftBefore v H) (sym same) before)
 
   same_puts : (y : ℕ) (H L : List ℕ) → value (claim_of c) H ≡ value (claim_of c) L → puts c y H ≡ puts c y L
@@ -67,7 +64,7 @@ module _ (c : Certificate) (ranges : InRanges c) where
       → IsFirstInto c n y (heaps_of L)
   first_look n y seen rest L e passes fails =
       let there : Contains (looked n) L = subst (λ xs. Contains xs L) e (Contains-append_right seen (L ∷ rest) L (Contains-append_left (L ∷ []) rest L (itself_in L))) in
-      let o = only c.code n (c.start + c.period - 1) L there in
+      let o = exact.only c.code n (c.start + c.period - 1) L there in
       record {
         option = o.0;
         in_order = in_order L o.1;
@@ -84,7 +81,7 @@ module _ (c : Certificate) (ranges : InRanges c) where
               | inr k ↦ elim (Contains-append_cases (L ∷ []) rest S k) [
                 | inl h ↦ not_before_itself (heaps_of L) (subst (λ u. LeftBefore (heaps_of u) (heaps_of L)) (sym (only_in L S h)) earlier)
                 | inr h ↦
-                    let after = cut_before Before seen rest L S (subst (AllPairs Before) (sym e) (rising c.code n (c.start + c.period - 1))) h in
+                    let after = cut_before Before seen rest L S (subst (AllPairs Before) (sym e) (exact.order c.code n (c.start + c.period - 1))) h in
                     not_before_itself (heaps_of L) (before_trans (heaps_of L) (heaps_of S) (heaps_of L) after earlier)
               ]
             ];
@@ -94,7 +91,7 @@ module _ (c : Certificate) (ranges : InRanges c) where
   pub first_among : (n y : ℕ) (H : List ℕ) → IsFirstInto c n y H → (L : Left) × Contains (looked n) L × (heaps_of L ≡ H)
   first_among n y H into =
       let (L, i, v, b) = look_for n H into.option into.in_order in
-      let o = only c.code n (c.start + c.period - 1) L i in (
+      let o = exact.only c.code n (c.start + c.period - 1) L i in (
         L,
         i,
         elim b [
@@ -104,16 +101,10 @@ module _ (c : Certificate) (ranges : InRanges c) where
       )
 
 -- the next look is an option, so its parts are heaps
-pub parts_are_heaps : (c : Certificate) (n : ℕ) (seen rest : List Left) (L : Left) → seen ++ (L ∷ rest) ≡ options_up_to c.code n (c.start + c.period - 1) → IsPosition IsHeap (heaps_of L)
-parts_are_heaps c n seen rest L e =
+pub parts_are_heaps : AreExact → (c : Certificate) (n : ℕ) (seen rest : List Left) (L : Left) → seen ++ (L ∷ rest) ≡ options_up_to c.code n (c.start + c.period - 1) → IsPosition IsHeap (heaps_of L)
+parts_are_heaps exact c n seen rest L e =
     let i : Contains (seen ++ (L ∷ rest)) L = Contains-append_right seen (L ∷ rest) L (Contains-append_left (L ∷ []) rest L (itself_in L)) in
-    let (j, h) = of_options c.code n (c.start + c.period - 1) L (subst (λ xs. Contains xs L) e i) in
-    heaps_at j L h
-  where
-    heaps_at : (j : ℕ) (L : Left) → IsLeftAt c.code n j L → IsPosition IsHeap (heaps_of L)
-    heaps_at j Nothing h = tt
-    heaps_at j (One a) h = (h.1, tt)
-    heaps_at j (Two a b) h = (h.0, (let l = h.0 in let m = h.1 in omega arith, tt))
+    option_heaps c.code n (heaps_of L) (exact.only c.code n (c.start + c.period - 1) L (subst (λ xs. Contains xs L) e i)).0
 
 -- one look more that doesn't pass
 pub seen_more : (c : Certificate) (y : ℕ) (seen : List Left) (L : Left) → puts c y (heaps_of L) ≡ false → ((M : Left) → Contains seen M → puts c y (heaps_of M) ≡ false)

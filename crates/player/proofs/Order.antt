@@ -1,16 +1,16 @@
 -- The order of what moves leave, and the options whose smaller part is small.
-use Rattle.std.proofs.Common.{◌≡◌, ℕ, zero, suc, ◌-◌, inl, inr, List, [], ◌∷◌, ◌++◌, refl, ◌∙◌, subst, arith}
+use Rattle.std.proofs.Common.{◌≡◌, ◌↔◌, ℕ, zero, suc, ◌-◌, inl, inr, sym, List, [], ◌∷◌, ◌++◌, ◌∙◌, subst, arith}
 use Rattle.std.specs.List.{Contains, AllPairs}
-use Rattle.std.specs.List.Sorted.{IsNonDecreasing}
-use Rattle.misere_theory.specs.Games.{HeapOption}
+use Rattle.std.specs.List.Sorted.{IsNonDecreasing, IsPermutation}
+use Rattle.misere_theory.specs.Games.{HeapOption, IsHeap, IsPosition}
 use Rattle.misere_theory.specs.Games.HeapOption.{Nothing as TakesAll, One as LeavesOne, Two as LeavesTwo}
 use Rattle.misere_theory.specs.Pairs.{IsSmallSplit}
 use Rattle.misere_theory.specs.Plays.{LeftBefore}
-use Rattle.positions.specs.Options.{options_up_to}
-use Rattle.positions.specs.Exact.{heaps_of, IsInOrder}
+use Rattle.positions.specs.Options.{options_of, options_up_to}
+use Rattle.positions.specs.Exact.{heaps_of, IsInOrder, IsPartUpTo}
 use Rattle.positions.specs.declared.left.Left.{Left}
 use Rattle.positions.specs.declared.left.Left.TheVariants.{Nothing, One, Two}
-use Rattle.positions.proofs.Exact.{in_options}
+use Rattle.outcome_search.proofs.Sorted.{rising_same}
 
 pub before_trans : (H L M : List ℕ) → LeftBefore H L → LeftBefore L M → LeftBefore H M
 before_trans H L M a b = elim a [
@@ -38,12 +38,6 @@ pub cut_before : {X : Type 0} (R : X → X → Type 0) (ys zs : List X) (x y : X
 cut_before R [] zs x y p c = let (k, l, e) = c in subst (R x) (e) (p 0 (suc k) y (omega arith) (omega arith))
 cut_before R (w ∷ ys) zs x y p c = cut_before R ys zs x y (λ i j d l h. p (suc i) (suc j) d (omega arith) (omega arith)) c
 
--- an option whose smaller part is small is listed
-pub small_in : (code : List ℕ) (n bound : ℕ) (H : List ℕ) → HeapOption code n H → IsSmallSplit bound H → (L : Left) × Contains (options_up_to code n (bound - 1)) L × (heaps_of L ≡ H)
-small_in code n bound H (TakesAll j l h b) s = (Nothing, in_options code n (bound - 1) j Nothing (l, h, b) tt, refl)
-small_in code n bound H (LeavesOne j a l p h b) s = (One a, in_options code n (bound - 1) j (One a) (l, p, h, b) tt, refl)
-small_in code n bound H (LeavesTwo j a b p q h s) w = (Two a b, in_options code n (bound - 1) j (Two a b) (p, w.0, h, s) (let u = w.1 in omega arith), refl)
-
 pub in_order : (L : Left) → IsInOrder L → IsNonDecreasing (heaps_of L)
 in_order Nothing h i j d a b = absurd (omega arith)
 in_order (One a) h zero zero d k l = omega arith
@@ -55,3 +49,38 @@ in_order (Two a b) h (suc zero) (suc zero) d k l = omega arith
 in_order (Two a b) h (suc i) zero d k l = absurd (omega arith)
 in_order (Two a b) h (suc (suc i)) (suc zero) d k l = absurd (omega arith)
 in_order (Two a b) h i (suc (suc j)) d k l = absurd (omega arith)
+
+-- what the one leaves comes before what the other leaves
+abbrev pub Before : Left → Left → Type 0
+Before L M = LeftBefore (heaps_of L) (heaps_of M)
+
+-- what the contract of options says
+pub record AreExact : Type 0 where
+  pub each : (code : List ℕ) (n : ℕ) (H : List ℕ) → HeapOption code n H → (left : Left) × Contains (options_of code n) left × IsPermutation (heaps_of left) H
+  pub only : (code : List ℕ) (n most : ℕ) (left : Left) → Contains (options_up_to code n most) left → HeapOption code n (heaps_of left) × IsInOrder left
+  pub cut : (code : List ℕ) (n most : ℕ) (left : Left) → Contains (options_up_to code n most) left ↔ (Contains (options_of code n) left × IsPartUpTo most left)
+  pub order : (code : List ℕ) (n most : ℕ) → AllPairs (λ x y. LeftBefore (heaps_of x) (heaps_of y)) (options_up_to code n most)
+
+small_rises : (code : List ℕ) (n bound : ℕ) (H : List ℕ) → HeapOption code n H → IsSmallSplit bound H → IsNonDecreasing H
+small_rises code n bound H (TakesAll j l h b) s = in_order Nothing tt
+small_rises code n bound H (LeavesOne j a l p h b) s = in_order (One a) tt
+small_rises code n bound H (LeavesTwo j a b p q h s) w = in_order (Two a b) w.0
+
+small_up_to : (bound : ℕ) (L : Left) → IsSmallSplit bound (heaps_of L) → IsPartUpTo (bound - 1) L
+small_up_to bound Nothing w = tt
+small_up_to bound (One a) w = tt
+small_up_to bound (Two a b) w = let l = w.1 in omega arith
+
+-- an option whose smaller part is small is listed
+pub small_in : AreExact → (code : List ℕ) (n bound : ℕ) (H : List ℕ) → HeapOption code n H → IsSmallSplit bound H
+    → (L : Left) × Contains (options_up_to code n (bound - 1)) L × (heaps_of L ≡ H)
+small_in exact code n bound H o w =
+    let (L, i, s) = exact.each code n H o in
+    let same = rising_same (heaps_of L) H (in_order L (exact.only code n n L i).1) (small_rises code n bound H o w) s in
+    (L, (exact.cut code n (bound - 1) L).1 (i, small_up_to bound L (subst (IsSmallSplit bound) (sym same) w)), same)
+
+-- what is left of a heap are heaps
+pub option_heaps : (code : List ℕ) (n : ℕ) (H : List ℕ) → HeapOption code n H → IsPosition IsHeap H
+option_heaps code n H (TakesAll j l h b) = tt
+option_heaps code n H (LeavesOne j a l p h b) = (p, tt)
+option_heaps code n H (LeavesTwo j a b p q h s) = (p, (q, tt))

@@ -11,7 +11,7 @@ ghost use Rattle.player.specs.Looks.{IsFirstInto, puts};
 
 use crate::values::{is_in_portion, times, value_of_left};
 use certificate::{Cert, claims_agree, in_ranges};
-use positions::{Left, Options, options_up_to};
+use positions::{Left, Options, options_are_exact, options_up_to};
 use std::alloc::Allocator;
 
 /// The options that a player looks at: of the splits only those whose smaller part is below start + period.
@@ -31,6 +31,7 @@ pub(crate) fn first_into<A: Allocator>(cert: &Cert<A>, n: u64, y: u16) -> Option
         (λ left. IsFirstInto cert.now n y (heaps_of left)) }
 {
     claims_agree();
+    options_are_exact();
     for left in looks_at(cert, n) {
         if is_in_portion(cert, times(cert, y, value_of_left(cert, left))) {
             return Some(left);

@@ -7,7 +7,7 @@ use Rattle.player.proofs.looking.first_into.Goals as goal
 
 pub value_of_left-requires-clause-parts : goal.value_of_left-requires-clause-parts
 value_of_left-requires-clause-parts g c =
-    parts_are_heaps c.args.cert.now c.args.n c.loop-left.yielded c.next.new.self c.in-Some.left
+    parts_are_heaps (record { each = c.options_are_exact.ensures.each; only = c.options_are_exact.ensures.only; cut = c.options_are_exact.ensures.cut; order = c.options_are_exact.ensures.order }) c.args.cert.now c.args.n c.loop-left.yielded c.next.new.self c.in-Some.left
     (ap (λ xs. c.loop-left.yielded ++ xs) (sym c.in-Some.ensures.steps) ∙ c.loop-left.invariant.0)
 
 pub returns-then-is_in_portion : goal.returns-then-is_in_portion
@@ -15,7 +15,7 @@ returns-then-is_in_portion g c =
     let C = c.args.cert.now in
     let e : puts C c.args.y (heaps_of c.in-Some.left) ≡ c.is_in_portion.result =
     ap (claim_of C).portion (ap (times_of C c.args.y) (sym c.value_of_left.ensures.value) ∙ sym c.times.ensures.value) ∙ sym c.is_in_portion.ensures in
-    first_look C c.requires.accepted.in_ranges c.args.n c.args.y c.loop-left.yielded c.next.new.self c.in-Some.left
+    first_look C c.requires.accepted.in_ranges (record { each = c.options_are_exact.ensures.each; only = c.options_are_exact.ensures.only; cut = c.options_are_exact.ensures.cut; order = c.options_are_exact.ensures.order }) c.args.n c.args.y c.loop-left.yielded c.next.new.self c.in-Some.left
     (ap (λ xs. c.loop-left.yielded ++ xs) (sym c.in-Some.ensures.steps) ∙ c.loop-left.invariant.0) (e ∙ c.if-is_in_portion.true) c.loop-left.invariant.1
 
 pub loop-left-preserved : goal.loop-left-preserved
@@ -29,4 +29,4 @@ loop-left-preserved g c =
 
 pub returns : goal.returns
 returns g c =
-    none_into c.args.cert.now c.requires.accepted.in_ranges c.args.n c.args.y c.loop-left.yielded c.loop-left.left-iterator c.loop-left.invariant.0 c.in-None.ensures.steps.0 c.loop-left.invariant.1
+    none_into c.args.cert.now c.requires.accepted.in_ranges (record { each = c.options_are_exact.ensures.each; only = c.options_are_exact.ensures.only; cut = c.options_are_exact.ensures.cut; order = c.options_are_exact.ensures.order }) c.args.n c.args.y c.loop-left.yielded c.loop-left.left-iterator c.loop-left.invariant.0 c.in-None.ensures.steps.0 c.loop-left.invariant.1

@@ -25,7 +25,7 @@ returns-clause-first g c = λ y H into.
     let C = c.args.certified.now in
     let e : c.looks_at.result ≡ options_up_to C.code c.args.n (C.start + C.period - 1) =
     c.looks_at.ensures ∙ ap (λ d. options_up_to d.code c.args.n (d.start + d.period - 1)) c.cert-cert.ensures.same in
-    let (L, i, h) = first_among C c.cert-cert.ensures.accepted.in_ranges c.args.n y H into in
+    let (L, i, h) = first_among C c.cert-cert.ensures.accepted.in_ranges (record { each = c.options_are_exact.ensures.each; only = c.options_are_exact.ensures.only; cut = c.options_are_exact.ensures.cut; order = c.options_are_exact.ensures.order }) c.args.n y H into in
     (L, subst (λ xs. Contains xs L) (sym e) i, h)
 
 pub returns-clause-only : goal.returns-clause-only
