@@ -11,4 +11,5 @@ pub mod Views
 pub mod Turns
 pub mod Closes
 pub mod Measures
+pub mod Sound
 pub mod Stages
