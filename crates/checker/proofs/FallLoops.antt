@@ -1,20 +1,18 @@
 -- A turn of the stages from laws to separating lowers what a check takes at most, and keeps it sound.
-use Rattle.std.proofs.Common.{◌≡◌, ℕ, zero, suc, ◌+◌, ◌-◌, ◌*◌, ◌<◌, ◌≤◌, Bool, true, false, not, ◌&&◌, ◌==◌, nat_lt, if◌then◌else◌, List, length, slice_index, refl, sym, ◌∙◌, ap, subst, arith, tests, ltb-true}
-use Rattle.std.proofs.lemmas.Nat.{mul-le}
+use Rattle.std.proofs.Common.{◌≡◌, ℕ, ◌+◌, ◌-◌, ◌*◌, ◌<◌, ◌≤◌, Bool, true, false, not, ◌&&◌, ◌==◌, nat_lt, if◌then◌else◌, List, length, slice_index, refl, ◌∙◌, ap, arith, tests, ltb-true}
 use Rattle.std.proofs.lemmas.List.Elements.{All-get_or}
 use Rattle.misere_theory.specs.Certificates.{Certificate, InRanges, pairs_from}
 use Rattle.monoid_table.specs.Turns.{JobState, triples, is_over, turn as turn_job}
-use Rattle.transition_algebra.specs.Pretending.{IsPretending}
 use Rattle.transition_algebra.specs.Work.{heap_cost}
 use Rattle.certificate.specs.Pieces.{pretending_of}
 use Rattle.checker.specs.Answers.Answer.{Law, Word, Order, Period, Apart}
 use Rattle.checker.specs.Closings.{bound_of}
 use Rattle.checker.specs.Units.{rest}
 use Rattle.checker.specs.Views.{LawsView, KeysView, ProductsView, PeriodsView, SeparatingView}
-use Rattle.checker.specs.Turns.{Phase, laws_at, laws_turn, keys_at, keys_turn, is_keyed, is_above_last, products_at, products_turn, is_in_order, periods_turn, comes_again, separating_at, separating_turn, tells_apart, heaps_at}
+use Rattle.checker.specs.Turns.{laws_at, laws_turn, keys_at, keys_turn, is_keyed, is_above_last, products_at, products_turn, is_in_order, periods_turn, comes_again, separating_at, separating_turn, tells_apart, heaps_at}
 use Rattle.checker.specs.Turns.Phase.{Laws, Keys, Products, Periods, Separating, Ended}
-use Rattle.checker.specs.Measures.{measure, behind_laws, behind_keys, behind_products, behind_periods, behind_separating, behind_heaps}
-use Rattle.checker.specs.Sound.{IsSound, AreLaws, AreKeysLeft, AreProducts, ArePeriods, AreSeparating}
+use Rattle.checker.specs.Measures.{measure, behind_laws, behind_keys, behind_products, behind_periods, behind_separating}
+use Rattle.checker.specs.Sound.{AreLaws, AreKeysLeft, AreProducts, ArePeriods, AreSeparating}
 use Rattle.checker.proofs.UnitLemmas.{turn-grid, rest-place, rest-row}
 use Rattle.checker.proofs.LawTurns.{turn-over, turn-spent}
 use Rattle.checker.proofs.FallSteps.{by_test, some_rest, all_rest, but_first, period_rest, pairs_cube}

@@ -1,6 +1,6 @@
 -- What each stage of a check holds while it goes on, in numbers alone.
 use Rattle.std.specs.Prelude.{◌≡◌, ℕ, ◌+◌, ◌<◌, ◌≤◌, false, List, length, slice_index}
-use Rattle.misere_theory.specs.Certificates.{Certificate, InRanges}
+use Rattle.misere_theory.specs.Certificates.{InRanges}
 use Rattle.monoid_table.specs.Grids.{Grid}
 use Rattle.monoid_table.specs.Turns.{triples}
 use Rattle.transition_algebra.specs.declared.pair.Pair.{Pair}
