@@ -1,5 +1,5 @@
 -- Each turn lowers what a check takes at most, so that it ends.
-use Rattle.std.proofs.Common.{◌≡◌, ℕ, zero, suc, ◌+◌, ◌*◌, ◌^◌, ◌<◌, ◌≤◌, ◌↔◌, Bool, true, false, List, [], ◌∷◌, length, Option, Some, None, refl, sym, ◌∙◌, ap, arith}
+use Rattle.std.proofs.Common.{◌≡◌, ℕ, zero, suc, ◌+◌, ◌*◌, ◌^◌, ◌<◌, ◌≤◌, ◌↔◌, Bool, true, false, List, [], ◌∷◌, length, Option, Some, None, refl, sym, ◌∙◌, ap, subst, arith}
 use Rattle.std.proofs.lemmas.Nat.{mul-le}
 use native.Mathlib.Decide.{dec_lt}
 use Rattle.misere_theory.specs.Certificates.{Certificate, InRanges}
@@ -132,14 +132,34 @@ module _ (bytes : List ℕ) (limit : ℕ) where
     unfolding turns_left
     left-zero p = omega arith
 
-    left-most : (most : ℕ) (p : Phase) (b : Bool) → is_ended p ≡ b → turns_left bytes limit most p ≤ most
-    left-most most p true e = let d = left-none most p e in omega arith
-    left-most zero p false e = left-zero p
-    left-most (suc most) p false e = let d = left-more most p e in let h = left-most most (turn bytes limit p) (is_ended (turn bytes limit p)) refl in omega arith
+    -- and it takes no more turns than that, whatever the fuel
+    left-most : (most : ℕ) (p : Phase) → IsSound limit p → (b : Bool) → is_ended p ≡ b → turns_left bytes limit most p ≤ measure bytes limit p
+    left-most most p s true e = let d = left-none most p e in omega arith
+    left-most zero p s false e = let d = left-zero p in omega arith
+    left-most (suc most) p s false e =
+        let f = falls p s e in
+        let a = f.0 in
+        let d = left-more most p e in
+        let h = left-most most (turn bytes limit p) f.1 (is_ended (turn bytes limit p)) refl in
+        omega arith
 
     pub cost_most : cost bytes limit ≤ bound bytes limit
     unfolding cost
-    cost_most = left-most (bound bytes limit) Reading false refl
+    cost_most = left-most (bound bytes limit) Reading tt false refl
+
+    -- what turns have come to is sound
+    sound_at : (n : ℕ) → ((m : ℕ) → m < n → is_ended (turns bytes limit m Reading) ≡ false) → (n + measure bytes limit (turns bytes limit n Reading) ≤ bound bytes limit) × IsSound limit (turns bytes limit n Reading)
+    unfolding turns
+    sound_at zero going = (omega arith, tt)
+    sound_at (suc n) going =
+        let h = sound_at n (λ m l. going m (omega arith)) in
+        let f = falls (turns bytes limit n Reading) h.1 (going n (omega arith)) in
+        let a = h.0 in
+        let b = f.0 in
+        (omega arith, f.1)
+
+    pub within_bound : (n : ℕ) (p : Phase) → Reaches bytes limit n p → n + measure bytes limit p ≤ bound bytes limit
+    within_bound n p r = let h = sound_at n r.going in subst (λ q. n + measure bytes limit q ≤ bound bytes limit) (sym r.reached) h.0
 
     cost_ended : is_ended (turns bytes limit (cost bytes limit) Reading) ≡ true
     unfolding cost

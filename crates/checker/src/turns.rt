@@ -12,6 +12,7 @@ ghost use Rattle.checker.specs.Sound.{IsSound};
 pub fn checks_end()
     ensures falls { (bytes : List ℕ) (limit : ℕ) (p : Phase) → IsSound limit p → is_ended p ≡ false
         → IsSound limit (turn bytes limit p) × (measure bytes limit (turn bytes limit p) < measure bytes limit p) }
+    ensures within { (bytes : List ℕ) (limit n : ℕ) (p : Phase) → Reaches bytes limit n p → n + measure bytes limit p ≤ bound bytes limit }
     ensures most { (bytes : List ℕ) (limit : ℕ) → cost bytes limit ≤ bound bytes limit }
     ensures few { (bytes : List ℕ) (limit : ℕ) → limit < 2 ^ 32 → bound bytes limit < 2 ^ 52 }
     ensures some { (bytes : List ℕ) (limit : ℕ) → 0 < cost bytes limit }
