@@ -10,7 +10,7 @@ use Rattle.transition_algebra.specs.declared.pair.Pair.{Pair}
 use Rattle.pair_closure.specs.Progress.{begun, steps, has_ended}
 use Rattle.pair_closure.specs.Calls.{cost as closure_cost}
 use Rattle.checker.specs.Closings.{bound_of}
-use Rattle.checker.specs.Turns.{Phase, is_ended, turn, turns, turns_left, opened, bound_read, most_turns, bound, cost, verdict, answer_at, Reaches, HasSpent}
+use Rattle.checker.specs.Turns.{Phase, is_ended, turn, turns, turns_left, opened, bound_read, most_turns, bound, most_in_all, cost, verdict, answer_at, Reaches, HasSpent}
 use Rattle.checker.specs.Turns.Phase.{Reading, Laws, Keys, Products, Periods, Separating, Heaps, Elements, Closing, Ended}
 use Rattle.checker.specs.Measures.{measure, behind_laws}
 use Rattle.checker.specs.Sound.{IsSound}
@@ -36,7 +36,7 @@ sums : (q qqq qq qn pp kbb bq bqq bl : ℕ) → q ≤ qq → bq ≤ bqq → qqq 
 sums q qqq qq qn pp kbb bq bqq bl h l = omega arith
 
 total : (a b c d e f g : ℕ) → a ≤ 256 * 256 * 256 → b ≤ 256 * 256 → c ≤ 256 * 1025 → d ≤ 1024 * 1024 → e ≤ 17 * (2066 * 2066) → f ≤ 2066 * (256 * 256) → g ≤ 2066 * 2 ^ 32
-    → 2 * a + b + c + d + e + f + g + 16 < 2 ^ 52
+    → 2 * a + b + c + d + e + f + g + 16 < most_in_all
 total a b c d e f g ha hb hc hd he hf hg = omega arith
 
 module _ (bytes : List ℕ) (limit : ℕ) where
@@ -49,7 +49,7 @@ module _ (bytes : List ℕ) (limit : ℕ) where
       sums c.order (triples c.order) (c.order * c.order) (c.order * (c.start + c.period)) (c.period * c.period) (length c.code * (bound_of c * bound_of c)) (bound_of c * c.order) (bound_of c * (c.order * c.order)) (bound_of c * limit) (omega arith) b
 
   -- as few that a counter of 64 bits holds them
-  few_of : (c : Certificate) → InRanges c → limit < 2 ^ 32 → most_turns bytes limit c < 2 ^ 52
+  few_of : (c : Certificate) → InRanges c → limit < 2 ^ 32 → most_turns bytes limit c < most_in_all
   few_of c r l =
       let q = r.order.1 in
       let p = r.period.1 in
@@ -66,12 +66,12 @@ module _ (bytes : List ℕ) (limit : ℕ) where
       let bl = mul-le (bound_of c) limit 2066 (2 ^ 32) b (omega arith) in
       total (c.order * c.order * c.order) (c.order * c.order) (c.order * (c.start + c.period)) (c.period * c.period) (length c.code * (bound_of c * bound_of c)) (bound_of c * (c.order * c.order)) (bound_of c * limit) q3 q2 n p2 k2 bq bl
 
-  few_read : ReadsRanged → limit < 2 ^ 32 → (x : Option (Certificate × List ℕ)) → certificate_at bytes ≡ x → bound_read bytes limit x < 2 ^ 52
+  few_read : ReadsRanged → limit < 2 ^ 32 → (x : Option (Certificate × List ℕ)) → certificate_at bytes ≡ x → bound_read bytes limit x < most_in_all
   few_read ranged l None e = omega arith
   few_read ranged l (Some (c, [])) e = few_of c (ranged bytes c [] e) l
   few_read ranged l (Some (c, b ∷ more)) e = omega arith
 
-  pub bound_is_few : ReadsRanged → limit < 2 ^ 32 → bound bytes limit < 2 ^ 52
+  pub bound_is_few : ReadsRanged → limit < 2 ^ 32 → bound bytes limit < most_in_all
   bound_is_few ranged l = few_read ranged l (certificate_at bytes) refl
 
   some_triples : (c : Certificate) → InRanges c → 0 < triples c.order
@@ -145,7 +145,7 @@ module _ (bytes : List ℕ) (limit : ℕ) where
 
     pub cost_most : cost bytes limit ≤ bound bytes limit
     unfolding cost
-    cost_most = left-most (bound bytes limit) Reading tt false refl
+    cost_most = left-most most_in_all Reading tt false refl
 
     -- what turns have come to is sound
     sound_at : (n : ℕ) → ((m : ℕ) → m < n → is_ended (turns bytes limit m Reading) ≡ false) → (n + measure bytes limit (turns bytes limit n Reading) ≤ bound bytes limit) × IsSound limit (turns bytes limit n Reading)
@@ -161,9 +161,9 @@ module _ (bytes : List ℕ) (limit : ℕ) where
     pub within_bound : (n : ℕ) (p : Phase) → Reaches bytes limit n p → n + measure bytes limit p ≤ bound bytes limit
     within_bound n p r = let h = sound_at n r.going in subst (λ q. n + measure bytes limit q ≤ bound bytes limit) (sym r.reached) h.0
 
-    cost_ended : is_ended (turns bytes limit (cost bytes limit) Reading) ≡ true
+    cost_ended : bound bytes limit < most_in_all → is_ended (turns bytes limit (cost bytes limit) Reading) ≡ true
     unfolding cost
-    cost_ended = run_by (bound bytes limit) Reading tt (omega arith) false refl
+    cost_ended few = run_by most_in_all Reading tt (omega arith) false refl
 
     answered : (p : Phase) → is_ended p ≡ true → p ≡ Ended (answer_at bytes limit p)
     answered Reading e = absurd cc
@@ -177,36 +177,12 @@ module _ (bytes : List ℕ) (limit : ℕ) where
     answered (Closing x) e = absurd cc
     answered (Ended a) e = refl
 
-    pub cost_ends : turns bytes limit (cost bytes limit) Reading ≡ Ended (verdict bytes limit)
+    pub cost_ends : limit < 2 ^ 32 → turns bytes limit (cost bytes limit) Reading ≡ Ended (verdict bytes limit)
     unfolding verdict
-    cost_ends = answered (turns bytes limit (cost bytes limit) Reading) cost_ended
+    cost_ends small = answered (turns bytes limit (cost bytes limit) Reading) (cost_ended (bound_is_few ranged small))
 
-    some_cost_of : (n : ℕ) → is_ended (turns bytes limit n Reading) ≡ true → 0 < n
-    unfolding turns
-    some_cost_of zero e = absurd cc
-    some_cost_of (suc n) e = omega arith
-
-    pub cost_some : 0 < cost bytes limit
-    cost_some = some_cost_of (cost bytes limit) cost_ended
-
-    -- the end isn't passed
-    reached_within : (n : ℕ) (p : Phase) → Reaches bytes limit n p → n ≤ cost bytes limit
-    reached_within n p r = elim (dec_lt (cost bytes limit) n) [
-      | yes l ↦ absurd (let g = r.going (cost bytes limit) l in let e = cost_ended in cc)
-      | no f ↦ omega (arith, f)
-    ]
-
-    going_within : (n : ℕ) (p : Phase) → Reaches bytes limit n p → is_ended p ≡ false → n < cost bytes limit
-    going_within n p r g = elim (dec_lt n (cost bytes limit)) [
-      | yes l ↦ l
-      | no f ↦ (
-          let w = reached_within n p r in
-          let d : n ≡ cost bytes limit = omega (arith, f) in
-          let e : is_ended p ≡ true = ap is_ended r.reached ∙ ap (λ k. is_ended (turns bytes limit k Reading)) d ∙ cost_ended in
-          absurd cc)
-    ]
-
-    pub spent_is : (n : ℕ) (p : Phase) → Reaches bytes limit n p → HasSpent bytes limit n p
-    spent_is n p r =
-        let m = cost_most in
-        has_spent bytes limit n p r (let w = reached_within n p r in omega arith) (λ g. let w = going_within n p r g in omega arith)
+    pub spent_is : (n : ℕ) (p : Phase) → limit < 2 ^ 32 → Reaches bytes limit n p → HasSpent bytes limit n p
+    spent_is n p small r =
+        let w = within_bound n p r in
+        let f = bound_is_few ranged small in
+        has_spent bytes limit n p r (omega arith) (λ g. omega arith)

@@ -26,4 +26,5 @@ pub mod FallLoops
 pub mod FallLemmas
 pub mod StageLemmas
 pub mod AnswerLemmas
+pub mod DueLemmas
 pub mod HeldLemmas

@@ -5,11 +5,11 @@ pub mod Rules
 pub mod Closings
 pub mod Refusals
 pub mod Answers
-pub mod JobViews
-pub mod Jobs
 pub mod Views
 pub mod Turns
 pub mod Closes
 pub mod Measures
 pub mod Sound
 pub mod Stages
+pub mod JobViews
+pub mod Jobs

@@ -6,7 +6,7 @@ use Rattle.checker.specs.Answers.{Answer, answer_of, Fits, Holds}
 use Rattle.checker.specs.Answers.Answer.{Memory}
 use Rattle.checker.specs.Units.{stage_units}
 use Rattle.checker.specs.Views.{laws_units, keys_units, products_units, periods_units, separating_units, heaps_units, closing_units, elements_units}
-use Rattle.checker.specs.Turns.{Phase, stage_of, Runs}
+use Rattle.checker.specs.Turns.{Phase, stage_of, Runs, Reaches}
 use Rattle.checker.specs.Turns.Phase.{Reading as AtReading, Laws as AtLaws, Keys as AtKeys, Products as AtProducts, Periods as AtPeriods, Separating as AtSeparating, Heaps as AtHeaps, Closing as AtClosing, Elements as AtElements, Ended as AtEnded}
 use Rattle.checker.specs.declared.stage.Stage.{Stage}
 use Rattle.checker.specs.declared.stage.Stage.TheVariants.{Reading, Laws, Keys, Products, Periods, Separating, Heaps, Elements, Closing, Ended}
@@ -98,9 +98,16 @@ pub record Pays {A : Type 0} (most before after : ℕ) (s : Stage A) : Type 0 wh
   pub within : before + needs s ≤ after + most
   pub further : 0 < after → needs s ≤ most - 1
 
--- the stage stands of the bytes, and what it needs beside the units spent so far isn't too much
+-- So many turns have brought the check here, or to where memory was refused to it.
+pub record HasCome {A : Type 0} (bytes : List ℕ) (limit spent : ℕ) (s : Stage A) : Type 0 where
+  pub to : Phase
+  pub reaches : Reaches bytes limit spent to
+  pub shown : (to ≡ phase_of s) ⊎ (phase_of s ≡ AtEnded Memory)
+
+-- the stage stands of the bytes, its turns have brought it here, and what it needs beside the units spent so far isn't too much
 pub record StandsAfter {A : Type 0} (bytes : List ℕ) (limit spent : ℕ) (s : Stage A) : Type 0 where
   pub stands : Stands bytes limit s
+  pub come : HasCome bytes limit spent s
   pub few : spent + needs s ≤ 9 * stage_units
 
 -- Of `before` units `after` are left, and each of the others was a turn at the stage at which the check stood. It stands where they brought

@@ -15,6 +15,7 @@ use Rattle.pair_closure.specs.declared.settle.Held.{Held}
 use Rattle.pair_closure.specs.Progress as closure
 use Rattle.pair_closure.specs.Positions.{rising, word}
 use Rattle.checker.specs.Closings.{bound_of}
+use Rattle.checker.specs.Units.{stage_units}
 use Rattle.checker.specs.Answers.{Answer}
 use Rattle.checker.specs.Answers.Answer.{Yes, Text, Law, Word, Order, Period, Apart, Outcome, Limit, Memory}
 use Rattle.checker.specs.Views.{LawsView, KeysView, ProductsView, PeriodsView, SeparatingView, HeapsView, ElementsView, ClosingView}
@@ -197,6 +198,10 @@ opened None = Ended Text
 opened (Some (c, [])) = Laws (record { certificate = c; job = table.fresh (grid_of c) })
 opened (Some (c, b ∷ rest)) = Ended Text
 
+-- no check takes more turns
+abbrev pub most_in_all : ℕ
+most_in_all = 9 * stage_units
+
 module _ (bytes : List ℕ) (limit : ℕ) where
   -- One turn, which takes one unit. An ended check stays as it is.
   abbrev pub turn : Phase → Phase
@@ -236,7 +241,7 @@ module _ (bytes : List ℕ) (limit : ℕ) where
 
   -- What the check costs: the turns until it has ended.
   unfoldable pub cost : ℕ
-  cost = turns_left bound Reading
+  cost = turns_left most_in_all Reading
 
   abbrev pub answer_at : Phase → Answer
   answer_at (Ended a) = a

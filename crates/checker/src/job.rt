@@ -56,7 +56,7 @@ impl<A: Room + Copy> Job<A> {
 
 impl<A: Room> Job<A> {
     ghost use Rattle.checker.specs.Jobs.{Shows};
-    ghost use Rattle.checker.specs.JobViews.{IsTruthful};
+    ghost use Rattle.checker.specs.JobViews.{IsTruthful, IsDue};
 
     /// The bytes that it was opened with.
     pub fn bytes(&self) -> &[u8]
@@ -72,9 +72,11 @@ impl<A: Room> Job<A> {
         self.limit
     }
 
-    /// The units spent so far.
+    /// The units spent so far. While it goes on they are fewer than the check costs. Once it has ended they are all that the check costs, and
+    /// its answer is the verdict of its bytes and limit, unless memory was refused.
     pub fn spent(&self) -> u64
-        ensures { result ≡ self.now.spent }
+        ensures value { result ≡ self.now.spent }
+        ensures due { IsDue self.now }
     {
         self.spent
     }

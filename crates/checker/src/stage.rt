@@ -1,5 +1,5 @@
 //! The stages of a check, in a row.
-ghost use Rattle.std.specs.Prelude.{◌≡◌};
+ghost use Rattle.std.specs.Prelude.{◌≡◌, false};
 
 use crate::certified::Certified;
 use crate::closing::Closing;
@@ -31,7 +31,7 @@ pub enum Stage<A: Room = Global> {
 }
 
 impl<A: Room + Copy> Stage<A> {
-    ghost use Rattle.checker.specs.Stages.{Stands, Pays, needs, has_ended};
+    ghost use Rattle.checker.specs.Stages.{Stands, Pays, Comes, phase_of, needs, has_ended};
 
     /// Whether the answer stands.
     pub fn has_ended(&self) -> bool
@@ -45,6 +45,7 @@ impl<A: Room + Copy> Stage<A> {
         requires { Stands bytes.now limit self }
         ensures stands { Stands bytes.now limit result }
         ensures pays { Pays (needs self) left.old left.new result }
+        ensures comes { has_ended self ≡ false → Comes bytes.now limit (phase_of self) left.old left.new result }
     {
         match self {
             Stage::Reading => reading::work(alloc, bytes, limit, left),

@@ -1,4 +1,4 @@
-use Rattle.checker.proofs.FallLemmas.{falls, bound_is_few, cost_most, cost_some, cost_ends, spent_is, within_bound, closures_fewer}
+use Rattle.checker.proofs.FallLemmas.{falls, bound_is_few, cost_most, cost_ends, spent_is, within_bound, closures_fewer}
 use Rattle.checker.proofs.turns.checks_end.Goals as goal
 
 pub returns-clause-falls : goal.returns-clause-falls
@@ -7,9 +7,6 @@ returns-clause-falls c = λ bytes limit p s e.
 
 pub returns-clause-most : goal.returns-clause-most
 returns-clause-most c = λ bytes limit. cost_most bytes limit c.reading_is_spelling.ensures.ranges c.heap_jobs_end.ensures.cost (closures_fewer c.closures_cost.ensures.bound c.closures_cost.ensures.ends)
-
-pub returns-clause-some : goal.returns-clause-some
-returns-clause-some c = λ bytes limit. cost_some bytes limit c.reading_is_spelling.ensures.ranges c.heap_jobs_end.ensures.cost (closures_fewer c.closures_cost.ensures.bound c.closures_cost.ensures.ends)
 
 pub returns-clause-ends : goal.returns-clause-ends
 returns-clause-ends c = λ bytes limit. cost_ends bytes limit c.reading_is_spelling.ensures.ranges c.heap_jobs_end.ensures.cost (closures_fewer c.closures_cost.ensures.bound c.closures_cost.ensures.ends)

@@ -1,4 +1,4 @@
-use Rattle.checker.proofs.CostLemmas.{reaches-on, has_spent}
+use Rattle.checker.proofs.CostLemmas.{reaches-on, has_spent, spent_most, some_cost}
 use Rattle.checker.proofs.turns.turns_decide.Goals as goal
 
 pub returns-clause-on : goal.returns-clause-on
@@ -6,3 +6,9 @@ returns-clause-on c = λ bytes limit n p q before after. reaches-on bytes limit 
 
 pub returns-clause-spent : goal.returns-clause-spent
 returns-clause-spent c = λ bytes limit n p. has_spent bytes limit n p
+
+pub returns-clause-most : goal.returns-clause-most
+returns-clause-most c = λ bytes limit n p. spent_most bytes limit n p
+
+pub returns-clause-some : goal.returns-clause-some
+returns-clause-some c = λ bytes limit. some_cost bytes limit

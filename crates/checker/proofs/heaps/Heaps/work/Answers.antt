@@ -15,6 +15,7 @@ use Rattle.certificate.specs.Pieces.{certificate_of, grid_of, pretending_of}
 use Rattle.checker.specs.Turns.{Phase, Runs}
 use Rattle.checker.specs.Turns.Phase.{Heaps, Elements}
 use Rattle.checker.proofs.TurnLemmas.{runs-to}
+use Rattle.checker.proofs.CloseTurns.{runs-left}
 use Rattle.checker.proofs.HeapTurns.{heaps_in, heaps_runs, heaps_end}
 use Rattle.checker.proofs.heaps.Heaps.work.Goals as goal
 
@@ -31,10 +32,10 @@ returns-in-Err-clause-comes g c = λ bytes limit.
     let k : heap_cost J.code J.phi ≡ heap_cost s.job.code s.job.phi = ap (λ (j : HeapWork). heap_cost j.code j.phi) c.in-Err.ensures.refused in
     let w : J.spent < heap_cost s.job.code s.job.phi = omega arith in
     let u : J.spent ≤ heap_cost s.job.code s.job.phi = omega arith in
-    let runs = heaps_runs bytes limit (of s.job) s.job.spent c.self.invariant.1 U (U - (c.spent.result - c.spent-before.result)) J.spent r.0 u (omega arith) in
+    let runs = heaps_runs bytes limit (of s.job) s.job.spent c.self.invariant.1 U (U - (J.spent - s.job.spent)) J.spent r.0 u (omega arith) in
     record {
       to = Heaps (record { certificate = of s.job; spent = J.spent });
-      runs = subst (λ v. Runs bytes limit (Heaps v) U (U - (c.spent.result - c.spent-before.result)) (Heaps (record { certificate = of s.job; spent = J.spent }))) c.self.view_is (runs-to bytes limit _ _ _ _ _ runs (heaps_in limit (of s.job) J.spent w));
+      runs = runs-left bytes limit U (U - (J.spent - s.job.spent)) _ _ _ (subst (λ v. Runs bytes limit (Heaps v) U (U - (J.spent - s.job.spent)) (Heaps (record { certificate = of s.job; spent = J.spent }))) c.self.view_is (runs-to bytes limit _ _ _ _ _ runs (heaps_in limit (of s.job) J.spent w))) (omega arith);
       shown = inr refl;
       exact = λ _. omega arith;
     }
@@ -54,10 +55,10 @@ returns-in-Ok-false-clause-comes g c = λ bytes limit.
     let not : IsDone J → ⊥ = λ d. (let t : c.in-Ok-false.field-0 ≡ true = c.in-Ok-false.ensures.done.1 d in cc) in
     let w : J.spent < heap_cost s.job.code s.job.phi = elim (dec_lt J.spent (heap_cost s.job.code s.job.phi)) [ yes h ↦ h | no f ↦ absurd (not (let q : J.spent ≡ heap_cost J.code J.phi = omega arith in q)) ] in
     let u : J.spent ≤ heap_cost s.job.code s.job.phi = omega arith in
-    let runs = heaps_runs bytes limit (of s.job) s.job.spent c.self.invariant.1 U (U - (c.spent.result - c.spent-before.result)) J.spent r.0 u (omega arith) in
+    let runs = heaps_runs bytes limit (of s.job) s.job.spent c.self.invariant.1 U (U - (J.spent - s.job.spent)) J.spent r.0 u (omega arith) in
     record {
       to = Heaps (record { certificate = of J; spent = J.spent });
-      runs = subst (λ v. Runs bytes limit (Heaps v) U (U - (c.spent.result - c.spent-before.result)) (Heaps (record { certificate = of J; spent = J.spent }))) c.self.view_is (runs-to bytes limit _ _ _ _ _ runs (heaps_in limit (of s.job) J.spent w ∙ ap (λ q. Heaps (record { certificate = of q; spent = J.spent })) (sym e)));
+      runs = runs-left bytes limit U (U - (J.spent - s.job.spent)) _ _ _ (subst (λ v. Runs bytes limit (Heaps v) U (U - (J.spent - s.job.spent)) (Heaps (record { certificate = of J; spent = J.spent }))) c.self.view_is (runs-to bytes limit _ _ _ _ _ runs (heaps_in limit (of s.job) J.spent w ∙ ap (λ q. Heaps (record { certificate = of q; spent = J.spent })) (sym e)))) (omega arith);
       shown = inl refl;
       exact = λ h. absurd (omega arith);
     }
@@ -75,11 +76,11 @@ returns-in-Err-new-clause-comes g c = λ bytes limit.
     let d : IsDone J = c.in-Ok-true.ensures.done.0 c.in-Ok-true.field-0-test in
     let l : heap_cost s.job.code s.job.phi ≤ J.spent = omega (arith, d) in
     let u : J.spent ≤ heap_cost s.job.code s.job.phi = omega arith in
-    let runs = heaps_runs bytes limit (of s.job) s.job.spent c.self.invariant.1 U (U - (c.spent.result - c.spent-before.result)) J.spent r.0 u (omega arith) in
+    let runs = heaps_runs bytes limit (of s.job) s.job.spent c.self.invariant.1 U (U - (J.spent - s.job.spent)) J.spent r.0 u (omega arith) in
     let to : Phase = Elements (record { certificate = of s.job; pairs = all_heap_pairs s.job.code (grid_of (of s.job)) (pretending_of (of s.job)); heap = 0; option = 0 }) in
     record {
       to = to;
-      runs = subst (λ v. Runs bytes limit (Heaps v) U (U - (c.spent.result - c.spent-before.result)) to) c.self.view_is (runs-to bytes limit _ _ _ _ _ runs (heaps_end limit (of s.job) J.spent c.self.invariant.0.sheet.whole.in_ranges l));
+      runs = runs-left bytes limit U (U - (J.spent - s.job.spent)) _ _ _ (subst (λ v. Runs bytes limit (Heaps v) U (U - (J.spent - s.job.spent)) to) c.self.view_is (runs-to bytes limit _ _ _ _ _ runs (heaps_end limit (of s.job) J.spent c.self.invariant.0.sheet.whole.in_ranges l))) (omega arith);
       shown = inr refl;
       exact = λ _. omega arith;
     }
@@ -98,7 +99,7 @@ returns-in-Ok-clause-comes g c = λ bytes limit.
     let d : IsDone J = c.in-Ok-true.ensures.done.0 c.in-Ok-true.field-0-test in
     let l : heap_cost s.job.code s.job.phi ≤ J.spent = omega (arith, d) in
     let u : J.spent ≤ heap_cost s.job.code s.job.phi = omega arith in
-    let runs = heaps_runs bytes limit (of s.job) s.job.spent c.self.invariant.1 U (U - (c.spent.result - c.spent-before.result)) J.spent r.0 u (omega arith) in
+    let runs = heaps_runs bytes limit (of s.job) s.job.spent c.self.invariant.1 U (U - (J.spent - s.job.spent)) J.spent r.0 u (omega arith) in
     let f = c.finish-code.ensures in
     let at : List ℕ → Grid → Pretending → List Pair → Phase = λ code table phi pairs. Elements (record { certificate = certificate_of (pieces_of code table phi s.lines.portion.items s.lines.words.items s.lines.apart.items); pairs = pairs; heap = 0; option = 0 }) in
     let joined : grid_of (of s.job) ≡ s.job.table = ap (λ es. record { order = s.job.table.order; entries = es }) c.self.invariant.0.sheet.whole.rows_joined in
@@ -112,9 +113,9 @@ returns-in-Ok-clause-comes g c = λ bytes limit.
     ∙ ap Elements (sym c.in-Ok.ensures.value))))) in
     record {
       to = Elements c.in-Ok.elements;
-      runs = subst (λ v. Runs bytes limit (Heaps v) U (U - (c.spent.result - c.spent-before.result)) (Elements c.in-Ok.elements)) c.self.view_is
+      runs = runs-left bytes limit U (U - (J.spent - s.job.spent)) _ _ _ (subst (λ v. Runs bytes limit (Heaps v) U (U - (J.spent - s.job.spent)) (Elements c.in-Ok.elements)) c.self.view_is
           (runs-to bytes limit _ _ _ _ _ runs (heaps_end limit (of s.job) J.spent c.self.invariant.0.sheet.whole.in_ranges l
-          ∙ (ap (λ t. at s.job.code s.job.table s.job.phi (all_heap_pairs s.job.code t s.job.phi)) joined ∙ made)));
+          ∙ (ap (λ t. at s.job.code s.job.table s.job.phi (all_heap_pairs s.job.code t s.job.phi)) joined ∙ made)))) (omega arith);
       shown = inl refl;
       exact = λ _. omega arith;
     }

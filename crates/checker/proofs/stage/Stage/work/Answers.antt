@@ -1,5 +1,6 @@
 use Rattle.checker.proofs.StageLemmas.{carried_stands}
 use Rattle.checker.proofs.PayLemmas.{laws_pay, keys_pay}
+use Rattle.checker.proofs.DueLemmas.{works_comes}
 use Rattle.checker.proofs.stage.Stage.work.Goals as goal
 
 pub returns-in-Laws-clause-stands : goal.returns-in-Laws-clause-stands
@@ -34,3 +35,27 @@ pub returns-in-Laws-clause-pays : goal.returns-in-Laws-clause-pays
 returns-in-Laws-clause-pays g c =
     let s = rw c.in-Laws.is at c.requires in
     rw c.in-Laws.is (laws_pay c.args.bytes.now c.args.limit c.in-Laws.laws s.in_ranges c.work-in-Laws.ensures.within _ _ c.work-in-Laws.result (c.work-in-Laws.ensures.works c.args.bytes.now c.args.limit))
+
+pub returns-in-Laws-clause-comes : goal.returns-in-Laws-clause-comes
+returns-in-Laws-clause-comes g c = λ _. rw c.in-Laws.is (works_comes c.args.bytes.now c.args.limit _ _ _ c.work-in-Laws.result (c.work-in-Laws.ensures.works c.args.bytes.now c.args.limit))
+
+pub returns-in-Keys-clause-comes : goal.returns-in-Keys-clause-comes
+returns-in-Keys-clause-comes g c = λ _. rw c.in-Keys.is (works_comes c.args.bytes.now c.args.limit _ _ _ c.work-in-Keys.result (c.work-in-Keys.ensures.works c.args.bytes.now c.args.limit))
+
+pub returns-in-Products-clause-comes : goal.returns-in-Products-clause-comes
+returns-in-Products-clause-comes g c = λ _. rw c.in-Products.is (works_comes c.args.bytes.now c.args.limit _ _ _ c.work-in-Products.result (c.work-in-Products.ensures.works c.args.bytes.now c.args.limit))
+
+pub returns-in-Periods-clause-comes : goal.returns-in-Periods-clause-comes
+returns-in-Periods-clause-comes g c = λ _. rw c.in-Periods.is (works_comes c.args.bytes.now c.args.limit _ _ _ c.work-in-Periods.result (c.work-in-Periods.ensures.works c.args.bytes.now c.args.limit))
+
+pub returns-in-Separating-clause-comes : goal.returns-in-Separating-clause-comes
+returns-in-Separating-clause-comes g c = λ _. rw c.in-Separating.is (works_comes c.args.bytes.now c.args.limit _ _ _ c.work-in-Separating.result (c.work-in-Separating.ensures.works c.args.bytes.now c.args.limit))
+
+pub returns-in-Heaps-clause-comes : goal.returns-in-Heaps-clause-comes
+returns-in-Heaps-clause-comes g c = λ _. rw c.in-Heaps.is (c.work-in-Heaps.ensures.comes c.args.bytes.now c.args.limit)
+
+pub returns-in-Closing-clause-comes : goal.returns-in-Closing-clause-comes
+returns-in-Closing-clause-comes g c = λ _. rw c.in-Closing.is (c.work-in-Closing.ensures.comes c.args.bytes.now c.args.limit)
+
+pub returns-in-Elements-clause-comes : goal.returns-in-Elements-clause-comes
+returns-in-Elements-clause-comes g c = λ _. rw c.in-Elements.is (c.work-in-Elements.ensures.comes c.args.bytes.now)

@@ -1,0 +1,77 @@
+-- What a check has spent is due.
+use Rattle.std.proofs.Common.{◌≡◌, ℕ, ◌+◌, ◌-◌, ◌<◌, ◌≤◌, true, false, List, None, refl, ◌∙◌, ap, subst, inl, inr, arith}
+use Rattle.checker.specs.Answers.{answer_of}
+use Rattle.checker.specs.Answers.Answer.{Memory}
+use Rattle.checker.specs.Turns.{Phase, is_ended, answer_at, stage_of, most_in_all, cost, Works, Reaches, HasSpent}
+use Rattle.checker.specs.Turns.Phase.{Reading as AtReading, Laws as AtLaws, Keys as AtKeys, Products as AtProducts, Periods as AtPeriods, Separating as AtSeparating, Heaps as AtHeaps, Closing as AtClosing, Elements as AtElements, Ended as AtEnded}
+use Rattle.checker.specs.Stages.{phase_of, has_ended, ending, needs, Comes, HasCome}
+use Rattle.checker.specs.JobViews.{IsDueAt}
+use Rattle.checker.specs.declared.stage.Stage.{Stage}
+use Rattle.checker.specs.declared.stage.Stage.TheVariants.{Reading, Laws, Keys, Products, Periods, Separating, Heaps, Elements, Closing, Ended}
+use Rattle.checker.proofs.CostLemmas.{has_spent, spent_most, reaches_first, reaches-runs}
+
+module _ (bytes : List ℕ) (limit : ℕ) where
+  pub works_comes : {A : Type 0} (p : Phase) (before after : ℕ) (s : Stage A) → Works bytes limit p before after (phase_of s) → Comes bytes limit p before after s
+  works_comes p before after s w = record { to = phase_of s; runs = w.runs; shown = inl refl; exact = w.exact }
+
+  pub come_first : {A : Type 0} → HasCome {A = A} bytes limit 0 Reading
+  come_first = record { to = AtReading; reaches = reaches_first bytes limit; shown = inl refl }
+
+  early : {A : Type 0} (s : Stage A) → has_ended s ≡ false → (stage_of (phase_of s) < 9) × (is_ended (phase_of s) ≡ false) × (0 < needs s)
+  early Reading e = (omega arith, refl, omega arith)
+  early (Laws l) e = (omega arith, refl, omega arith)
+  early (Keys k) e = (omega arith, refl, omega arith)
+  early (Products p) e = (omega arith, refl, omega arith)
+  early (Periods p) e = (omega arith, refl, omega arith)
+  early (Separating p) e = (omega arith, refl, omega arith)
+  early (Heaps h) e = (omega arith, refl, omega arith)
+  early (Elements x) e = (omega arith, refl, omega arith)
+  early (Closing x) e = (omega arith, refl, omega arith)
+  early (Ended r) e = absurd (cc)
+
+  not_memory : (p : Phase) → is_ended p ≡ false → p ≡ AtEnded Memory → ⊥
+  not_memory p e d = let t : is_ended p ≡ true = ap is_ended d in let b : ⊥ = cc in b
+
+  -- a stage works on
+  pub come_on : {A : Type 0} (spent before after : ℕ) (s t : Stage A) → has_ended s ≡ false → HasCome bytes limit spent s → Comes bytes limit (phase_of s) before after t → HasCome bytes limit (spent + (before - after)) t
+  come_on spent before after s t e h w =
+      let g = early s e in
+      let r : Reaches bytes limit spent (phase_of s) = elim h.shown [ inl d ↦ subst (Reaches bytes limit spent) d h.reaches | inr m ↦ absurd (not_memory (phase_of s) g.1 m) ] in
+      record { to = w.to; reaches = reaches-runs bytes limit spent (phase_of s) w.to before after r g.0 w.runs; shown = w.shown }
+
+  pub come_next : {A : Type 0} (spent before after : ℕ) (s u t : Stage A) → u ≡ s → has_ended s ≡ false → HasCome bytes limit spent s → (has_ended u ≡ false → Comes bytes limit (phase_of u) before after t) → HasCome bytes limit (spent + (before - after)) t
+  come_next spent before after s u t same e h w = come_on spent before after s t e h (subst (λ x. Comes bytes limit (phase_of x) before after t) same (w (ap has_ended same ∙ e)))
+
+  going_due : {A : Type 0} (spent : ℕ) (s : Stage A) → has_ended s ≡ false → ending s ≡ None → HasCome bytes limit spent s → spent + needs s ≤ most_in_all → spent < cost bytes limit
+  going_due spent s e none h few =
+      let g = early s e in
+      let r : Reaches bytes limit spent (phase_of s) = elim h.shown [ inl d ↦ subst (Reaches bytes limit spent) d h.reaches | inr m ↦ absurd (not_memory (phase_of s) g.1 m) ] in
+      let n = g.2 in
+      spent_less (phase_of s) g.1 (has_spent bytes limit spent (phase_of s) r (omega arith) (λ _. omega arith))
+    where
+      spent_less : (p : Phase) → is_ended p ≡ false → HasSpent bytes limit spent p → spent < cost bytes limit
+      spent_less AtReading f x = x
+      spent_less (AtLaws l) f x = x
+      spent_less (AtKeys k) f x = x
+      spent_less (AtProducts q) f x = x
+      spent_less (AtPeriods q) f x = x
+      spent_less (AtSeparating q) f x = x
+      spent_less (AtHeaps q) f x = x
+      spent_less (AtElements q) f x = x
+      spent_less (AtClosing q) f x = x
+      spent_less (AtEnded a) f x = absurd (cc)
+
+  pub come_due : {A : Type 0} (spent : ℕ) (s : Stage A) → HasCome bytes limit spent s → spent + needs s ≤ most_in_all → IsDueAt bytes limit spent (ending s)
+  come_due spent Reading h few = going_due spent Reading refl refl h few
+  come_due spent (Laws l) h few = going_due spent (Laws l) refl refl h few
+  come_due spent (Keys k) h few = going_due spent (Keys k) refl refl h few
+  come_due spent (Products p) h few = going_due spent (Products p) refl refl h few
+  come_due spent (Periods p) h few = going_due spent (Periods p) refl refl h few
+  come_due spent (Separating p) h few = going_due spent (Separating p) refl refl h few
+  come_due spent (Heaps p) h few = going_due spent (Heaps p) refl refl h few
+  come_due spent (Elements p) h few = going_due spent (Elements p) refl refl h few
+  come_due spent (Closing p) h few = going_due spent (Closing p) refl refl h few
+  come_due spent (Ended r) h few = elim h.shown [
+    | inl d ↦ inl (has_spent bytes limit spent (AtEnded (answer_of r)) (subst (Reaches bytes limit spent) d h.reaches) (omega arith) (λ e. absurd (cc)))
+    | inr m ↦ inr (ap (answer_at bytes limit) m, spent_most bytes limit spent h.to h.reaches (omega arith))
+  ]
