@@ -19,8 +19,11 @@ pub mod CloseTurns
 pub mod LawTurns
 pub mod ReadTurns
 pub mod PayLemmas
-pub mod MeasureLemmas
 pub mod CostLemmas
+pub mod FallSteps
+pub mod FallEnds
+pub mod FallLoops
+pub mod FallLemmas
 pub mod StageLemmas
 pub mod AnswerLemmas
 pub mod DueLemmas

@@ -100,7 +100,7 @@ some_from x (suc n) l =
 pub some_pairs : (c : Certificate) → InRanges c → 0 < length c.apart
 some_pairs c r = let h = some_from 0 c.order r.order.0 in let e = r.apart.0 in omega arith
 
-code_short : (code : List ℕ) → IsOctalCode code → length code ≤ 17
+pub code_short : (code : List ℕ) → IsOctalCode code → length code ≤ 17
 code_short [] h = absurd h
 code_short (d ∷ ds) h = let l = h.2 in omega arith
 

@@ -9,6 +9,7 @@ pub mod Views
 pub mod Turns
 pub mod Closes
 pub mod Measures
+pub mod Sound
 pub mod Stages
 pub mod JobViews
 pub mod Jobs

@@ -30,7 +30,7 @@ pub use certified::Certified;
 pub use checking::check;
 pub use job::{Job, Progress};
 pub use refusal::Refusal;
-pub use turns::{first_turns_fall, turns_decide};
+pub use turns::{checks_end, turns_decide};
 
 #[cfg(test)]
 mod tests;

@@ -1,0 +1,188 @@
+-- Each turn lowers what a check takes at most, so that it ends.
+use Rattle.std.proofs.Common.{◌≡◌, ℕ, zero, suc, ◌+◌, ◌*◌, ◌^◌, ◌<◌, ◌≤◌, ◌↔◌, Bool, true, false, List, [], ◌∷◌, length, Option, Some, None, refl, sym, ◌∙◌, ap, subst, arith}
+use Rattle.std.proofs.lemmas.Nat.{mul-le}
+use native.Mathlib.Decide.{dec_lt}
+use Rattle.misere_theory.specs.Certificates.{Certificate, InRanges}
+use Rattle.certificate_text.specs.Reading.{certificate_at}
+use Rattle.monoid_table.specs.Turns.{triples}
+use Rattle.monoid_table.specs.Grids.{Grid}
+use Rattle.transition_algebra.specs.declared.pair.Pair.{Pair}
+use Rattle.pair_closure.specs.Progress.{begun, steps, has_ended}
+use Rattle.pair_closure.specs.Calls.{cost as closure_cost}
+use Rattle.checker.specs.Closings.{bound_of}
+use Rattle.checker.specs.Turns.{Phase, is_ended, turn, turns, turns_left, opened, bound_read, most_turns, bound, most_in_all, cost, verdict, answer_at, Reaches, HasSpent}
+use Rattle.checker.specs.Turns.Phase.{Reading, Laws, Keys, Products, Periods, Separating, Heaps, Elements, Closing, Ended}
+use Rattle.checker.specs.Measures.{measure, behind_laws}
+use Rattle.checker.specs.Sound.{IsSound}
+use Rattle.checker.proofs.CostLemmas.{has_spent}
+use Rattle.checker.proofs.UnitLemmas.{code_short, bound_few}
+use Rattle.checker.proofs.FallEnds.{ClosuresEnd, HeapsEnd, Below, closing_falls, elements_falls, heaps_falls}
+use Rattle.checker.proofs.FallLoops.{laws_falls, keys_falls, products_falls, periods_falls, separating_falls}
+
+-- what certificate_text tells of what is read
+abbrev pub ReadsRanged : Type 0
+ReadsRanged = (b : List ℕ) (c : Certificate) (rest : List ℕ) → certificate_at b ≡ Some (c, rest) → InRanges c
+
+fewer_than : (a n m : ℕ) → a ≤ m → (a ≤ n → ⊥) → n < m
+fewer_than a n m l f = elim (dec_lt n a) [ yes k ↦ omega arith | no k ↦ absurd (f (omega (arith, k))) ]
+
+-- a closure that goes on has taken fewer turns than all
+pub closures_fewer : ((table : Grid) (pairs : List Pair) (limit : ℕ) → closure_cost table pairs limit ≤ limit * length pairs + 2)
+    → ((table : Grid) (pairs : List Pair) (limit units : ℕ) → (has_ended (steps units (begun table pairs limit)).state ≡ true) ↔ (closure_cost table pairs limit ≤ units))
+    → ClosuresEnd
+closures_fewer most ends table pairs limit units going = fewer_than (closure_cost table pairs limit) units (limit * length pairs + 2) (most table pairs limit) (λ l. let e = (ends table pairs limit units).1 l in absurd cc)
+
+sums : (q qqq qq qn pp kbb bq bqq bl : ℕ) → q ≤ qq → bq ≤ bqq → qqq + (q + (qn + (pp + (qqq + (kbb + (bq + (bl + 2))))))) < 2 * qqq + qq + qn + pp + kbb + bqq + bl + 16
+sums q qqq qq qn pp kbb bq bqq bl h l = omega arith
+
+total : (a b c d e f g : ℕ) → a ≤ 256 * 256 * 256 → b ≤ 256 * 256 → c ≤ 256 * 1025 → d ≤ 1024 * 1024 → e ≤ 17 * (2066 * 2066) → f ≤ 2066 * (256 * 256) → g ≤ 2066 * 2 ^ 32
+    → 2 * a + b + c + d + e + f + g + 16 < most_in_all
+total a b c d e f g ha hb hc hd he hf hg = omega arith
+
+module _ (bytes : List ℕ) (limit : ℕ) where
+  -- the bound of all
+  whole : (c : Certificate) → InRanges c → triples c.order + behind_laws limit c < most_turns bytes limit c
+  whole c r =
+      let o = r.order.0 in
+      let q : 1 * c.order ≤ c.order * c.order = mul-le 1 c.order c.order c.order (omega arith) (omega arith) in
+      let b : bound_of c * c.order ≤ bound_of c * (c.order * c.order) = mul-le (bound_of c) c.order (bound_of c) (c.order * c.order) (omega arith) (omega arith) in
+      sums c.order (triples c.order) (c.order * c.order) (c.order * (c.start + c.period)) (c.period * c.period) (length c.code * (bound_of c * bound_of c)) (bound_of c * c.order) (bound_of c * (c.order * c.order)) (bound_of c * limit) (omega arith) b
+
+  -- as few that a counter of 64 bits holds them
+  few_of : (c : Certificate) → InRanges c → limit < 2 ^ 32 → most_turns bytes limit c < most_in_all
+  few_of c r l =
+      let q = r.order.1 in
+      let p = r.period.1 in
+      let s = r.period.2 in
+      let k = code_short c.code r.code in
+      let b = bound_few c r in
+      let q2 = mul-le c.order c.order 256 256 q q in
+      let q3 = mul-le (c.order * c.order) c.order (256 * 256) 256 q2 q in
+      let n = mul-le c.order (c.start + c.period) 256 1025 q s in
+      let p2 = mul-le c.period c.period 1024 1024 p p in
+      let b2 = mul-le (bound_of c) (bound_of c) 2066 2066 b b in
+      let k2 = mul-le (length c.code) (bound_of c * bound_of c) 17 (2066 * 2066) k b2 in
+      let bq = mul-le (bound_of c) (c.order * c.order) 2066 (256 * 256) b q2 in
+      let bl = mul-le (bound_of c) limit 2066 (2 ^ 32) b (omega arith) in
+      total (c.order * c.order * c.order) (c.order * c.order) (c.order * (c.start + c.period)) (c.period * c.period) (length c.code * (bound_of c * bound_of c)) (bound_of c * (c.order * c.order)) (bound_of c * limit) q3 q2 n p2 k2 bq bl
+
+  few_read : ReadsRanged → limit < 2 ^ 32 → (x : Option (Certificate × List ℕ)) → certificate_at bytes ≡ x → bound_read bytes limit x < most_in_all
+  few_read ranged l None e = omega arith
+  few_read ranged l (Some (c, [])) e = few_of c (ranged bytes c [] e) l
+  few_read ranged l (Some (c, b ∷ more)) e = omega arith
+
+  pub bound_is_few : ReadsRanged → limit < 2 ^ 32 → bound bytes limit < most_in_all
+  bound_is_few ranged l = few_read ranged l (certificate_at bytes) refl
+
+  some_triples : (c : Certificate) → InRanges c → 0 < triples c.order
+  some_triples c r =
+      let o = r.order.0 in
+      let a : 1 * 1 ≤ c.order * c.order = mul-le 1 1 c.order c.order (omega arith) (omega arith) in
+      let b : 1 * 1 ≤ c.order * c.order * c.order = mul-le 1 1 (c.order * c.order) c.order (omega arith) (omega arith) in
+      omega arith
+
+  opens : ReadsRanged → (x : Option (Certificate × List ℕ)) → certificate_at bytes ≡ x → Below bytes limit (bound_read bytes limit x) (opened x)
+  opens ranged None e = (omega arith, tt)
+  opens ranged (Some (c, [])) e = (let r = ranged bytes c [] e in let w = whole c r in (omega arith, record { ranges = r; order = refl; more = some_triples c r }))
+  opens ranged (Some (c, b ∷ more)) e = (omega arith, tt)
+
+  module _ (ranged : ReadsRanged) (costs : HeapsEnd) (ends : ClosuresEnd) where
+    pub falls : (p : Phase) → IsSound limit p → is_ended p ≡ false → Below bytes limit (measure bytes limit p) (turn bytes limit p)
+    falls Reading s e = opens ranged (certificate_at bytes) refl
+    falls (Laws l) s e = laws_falls bytes limit l s
+    falls (Keys k) s e = keys_falls bytes limit k s
+    falls (Products p) s e = products_falls bytes limit p s
+    falls (Periods p) s e = periods_falls bytes limit costs p s
+    falls (Separating x) s e = separating_falls bytes limit costs x s
+    falls (Heaps h) s e = heaps_falls bytes limit h s
+    falls (Elements x) s e = elements_falls bytes limit x s
+    falls (Closing x) s e = closing_falls bytes limit ends x s
+    falls (Ended a) s e = absurd cc
+
+    turns-first : (n : ℕ) (p : Phase) → turns bytes limit n (turn bytes limit p) ≡ turns bytes limit (suc n) p
+    unfolding turns
+    turns-first zero p = refl
+    turns-first (suc n) p = ap (turn bytes limit) (turns-first n p)
+
+    no_turn : (p : Phase) → turns bytes limit 0 p ≡ p
+    unfolding turns
+    no_turn p = refl
+
+    left-none : (most : ℕ) (p : Phase) → is_ended p ≡ true → turns_left bytes limit most p ≡ 0
+    unfolding turns_left
+    left-none zero p e = refl
+    left-none (suc most) p e = rw e
+
+    left-more : (most : ℕ) (p : Phase) → is_ended p ≡ false → turns_left bytes limit (suc most) p ≡ suc (turns_left bytes limit most (turn bytes limit p))
+    unfolding turns_left
+    left-more most p e = let d : turns_left bytes limit most (turn bytes limit p) + 1 ≡ suc (turns_left bytes limit most (turn bytes limit p)) = omega arith in rw e d
+
+    -- with as much fuel as the measure it comes to its end
+    run_by : (most : ℕ) (p : Phase) → IsSound limit p → measure bytes limit p ≤ most → (b : Bool) → is_ended p ≡ b → is_ended (turns bytes limit (turns_left bytes limit most p) p) ≡ true
+    run_by most p s l true e = ap (λ n. is_ended (turns bytes limit n p)) (left-none most p e) ∙ ap is_ended (no_turn p) ∙ e
+    run_by zero p s l false e = absurd (let f = falls p s e in let a = f.0 in omega arith)
+    run_by (suc most) p s l false e =
+        let f = falls p s e in
+        let a = f.0 in
+        ap (λ n. is_ended (turns bytes limit n p)) (left-more most p e)
+        ∙ ap is_ended (sym (turns-first (turns_left bytes limit most (turn bytes limit p)) p))
+        ∙ run_by most (turn bytes limit p) f.1 (omega arith) (is_ended (turn bytes limit p)) refl
+
+    left-zero : (p : Phase) → turns_left bytes limit zero p ≤ zero
+    unfolding turns_left
+    left-zero p = omega arith
+
+    -- and it takes no more turns than that, whatever the fuel
+    left-most : (most : ℕ) (p : Phase) → IsSound limit p → (b : Bool) → is_ended p ≡ b → turns_left bytes limit most p ≤ measure bytes limit p
+    left-most most p s true e = let d = left-none most p e in omega arith
+    left-most zero p s false e = let d = left-zero p in omega arith
+    left-most (suc most) p s false e =
+        let f = falls p s e in
+        let a = f.0 in
+        let d = left-more most p e in
+        let h = left-most most (turn bytes limit p) f.1 (is_ended (turn bytes limit p)) refl in
+        omega arith
+
+    pub cost_most : cost bytes limit ≤ bound bytes limit
+    unfolding cost
+    cost_most = left-most most_in_all Reading tt false refl
+
+    -- what turns have come to is sound
+    sound_at : (n : ℕ) → ((m : ℕ) → m < n → is_ended (turns bytes limit m Reading) ≡ false) → (n + measure bytes limit (turns bytes limit n Reading) ≤ bound bytes limit) × IsSound limit (turns bytes limit n Reading)
+    unfolding turns
+    sound_at zero going = (omega arith, tt)
+    sound_at (suc n) going =
+        let h = sound_at n (λ m l. going m (omega arith)) in
+        let f = falls (turns bytes limit n Reading) h.1 (going n (omega arith)) in
+        let a = h.0 in
+        let b = f.0 in
+        (omega arith, f.1)
+
+    pub within_bound : (n : ℕ) (p : Phase) → Reaches bytes limit n p → n + measure bytes limit p ≤ bound bytes limit
+    within_bound n p r = let h = sound_at n r.going in subst (λ q. n + measure bytes limit q ≤ bound bytes limit) (sym r.reached) h.0
+
+    cost_ended : bound bytes limit < most_in_all → is_ended (turns bytes limit (cost bytes limit) Reading) ≡ true
+    unfolding cost
+    cost_ended few = run_by most_in_all Reading tt (omega arith) false refl
+
+    answered : (p : Phase) → is_ended p ≡ true → p ≡ Ended (answer_at bytes limit p)
+    answered Reading e = absurd cc
+    answered (Laws x) e = absurd cc
+    answered (Keys x) e = absurd cc
+    answered (Products x) e = absurd cc
+    answered (Periods x) e = absurd cc
+    answered (Separating x) e = absurd cc
+    answered (Heaps x) e = absurd cc
+    answered (Elements x) e = absurd cc
+    answered (Closing x) e = absurd cc
+    answered (Ended a) e = refl
+
+    pub cost_ends : limit < 2 ^ 32 → turns bytes limit (cost bytes limit) Reading ≡ Ended (verdict bytes limit)
+    unfolding verdict
+    cost_ends small = answered (turns bytes limit (cost bytes limit) Reading) (cost_ended (bound_is_few ranged small))
+
+    pub spent_is : (n : ℕ) (p : Phase) → limit < 2 ^ 32 → Reaches bytes limit n p → HasSpent bytes limit n p
+    spent_is n p small r =
+        let w = within_bound n p r in
+        let f = bound_is_few ranged small in
+        has_spent bytes limit n p r (omega arith) (λ g. omega arith)
