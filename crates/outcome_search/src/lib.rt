@@ -7,8 +7,6 @@ mod memo;
 mod reach;
 mod search;
 mod settling;
-#[cfg(test)]
-mod tests;
 
 pub use answer::{Outcome, SearchFault};
 pub use search::outcome;

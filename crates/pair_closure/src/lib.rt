@@ -27,8 +27,6 @@ mod fits;
 mod laws;
 mod members;
 mod settle;
-#[cfg(test)]
-mod tests;
 
 pub use closure::{Closure, Grown};
 pub use covering_all::done_closures_cover;

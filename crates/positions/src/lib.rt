@@ -8,8 +8,6 @@ mod moves;
 mod position;
 mod reading;
 mod survey;
-#[cfg(test)]
-mod tests;
 mod walk;
 mod writing;
 

@@ -10,8 +10,6 @@ mod merging;
 mod named;
 mod numbering;
 mod read;
-#[cfg(test)]
-mod tests;
 
 pub use fault::PresFault;
 pub use laws::{VectorRelation, classes_are_exact, related_is_least, rows_are_a_table};

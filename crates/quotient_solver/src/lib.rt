@@ -20,8 +20,6 @@ mod repair;
 mod scene;
 mod search;
 mod solver;
-#[cfg(test)]
-mod tests;
 mod work;
 
 pub use guess::Guess;

@@ -9,8 +9,6 @@ mod heaps;
 mod laws;
 mod pair;
 mod phi;
-#[cfg(test)]
-mod tests;
 mod trial;
 mod wholes;
 

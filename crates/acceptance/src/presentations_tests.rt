@@ -1,8 +1,8 @@
 //! Worked presentations, and want of memory.
 ghost use Rattle.std.specs.Prelude.{◌≡◌, length};
 
-use crate::{Named, PresFault, Presentation, VectorRelation, related_is_least, table_of};
 use monoid_table::Table;
+use presentations::{Named, PresFault, Presentation, VectorRelation, related_is_least, table_of};
 use ration::Ration;
 use std::alloc::{Allocator, Global};
 use std::test::Fail;

@@ -1,10 +1,10 @@
 //! The closure of the game 0.3, whole and with growths refused.
 ghost use Rattle.std.specs.Prelude.{◌<◌};
 
-use crate::{Closure, Grown};
 use allocation::{Memory, Room};
 use monoid_table::Table;
 use octal_code::Code;
+use pair_closure::{Closure, Grown};
 use ration::Ration;
 use std::test::Fail;
 use transition_algebra::{Pair, Phi, heap_pairs};

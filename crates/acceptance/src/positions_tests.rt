@@ -1,6 +1,6 @@
-use crate::{Left, Move, MoveFault, Position, PositionFault, apply, options};
 use allocation::{Memory, Room};
 use octal_code::Code;
+use positions::{Left, Move, MoveFault, Position, PositionFault, apply, options};
 use ration::Ration;
 use std::test::Fail;
 

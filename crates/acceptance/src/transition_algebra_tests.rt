@@ -2,13 +2,13 @@
 ghost use Rattle.std.specs.Prelude.{IfSome};
 ghost use Rattle.transition_algebra.specs.Heaps.{IsInto};
 
-use crate::{HeapJob, Pair, Pairs, Phi, heap_pairs};
 use element_sets::ElementSet;
 use monoid_table::{CommMonoid, Table};
 use octal_code::Code;
 use ration::Ration;
 use std::alloc::Allocator;
 use std::test::Fail;
+use transition_algebra::{HeapJob, Pair, Pairs, Phi, heap_pairs};
 
 /// The elements 1, a, b, c, ab², ab, ac, b², for a² = 1, b³ = b, bc = ab, c² = b².
 const ROWS: [u16; 64] = [

@@ -1,7 +1,7 @@
 //! The sizes of known quotients, and want of memory.
-use crate::{Guess, Solver};
 use octal_code::Code;
 use positions::Position;
+use quotient_solver::{Guess, Solver};
 use ration::Ration;
 use std::test::Fail;
 

@@ -1,6 +1,6 @@
-use crate::{Outcome, SearchFault, outcome};
 use allocation::{Memory, Room};
 use octal_code::Code;
+use outcome_search::{Outcome, SearchFault, outcome};
 use positions::Position;
 use ration::Ration;
 use std::test::Fail;

@@ -1,0 +1,15 @@
+//! Tests of the crates below the checker, by their public names alone. There is nothing else here: a library's proof then waits for no test.
+#![tactic(auto)]
+
+#[cfg(test)]
+mod outcome_search_tests;
+#[cfg(test)]
+mod pair_closure_tests;
+#[cfg(test)]
+mod positions_tests;
+#[cfg(test)]
+mod presentations_tests;
+#[cfg(test)]
+mod quotient_solver_tests;
+#[cfg(test)]
+mod transition_algebra_tests;
