@@ -1,8 +1,9 @@
 //! Laws of turns.
-ghost use Rattle.std.specs.Prelude.{◌≡◌, ◌+◌, ◌-◌, ◌^◌, ◌<◌, ◌≤◌, ℕ, List, false};
+ghost use Rattle.std.specs.Prelude.{◌≡◌, ◌+◌, ◌-◌, ◌*◌, ◌^◌, ◌<◌, ◌≤◌, ℕ, List, false};
 ghost use Rattle.certificate_text.specs.Spelling.{Spells};
 ghost use Rattle.misere_theory.specs.Certificates.{Certificate};
 ghost use Rattle.checker.specs.Turns.{Phase, turn, turns, is_ended, stage_of, most_in_all, bound, cost, verdict, Works, Reaches, HasSpent};
+ghost use Rattle.checker.specs.Answers.Answer.{Yes};
 ghost use Rattle.checker.specs.Turns.Phase.{Reading, Ended};
 ghost use Rattle.checker.specs.Measures.{measure};
 ghost use Rattle.checker.specs.Sound.{IsSound};
@@ -13,6 +14,7 @@ pub fn checks_end()
     ensures falls { (bytes : List ℕ) (limit : ℕ) (p : Phase) → IsSound limit p → is_ended p ≡ false
         → IsSound limit (turn bytes limit p) × (measure bytes limit (turn bytes limit p) < measure bytes limit p) }
     ensures within { (bytes : List ℕ) (limit n : ℕ) (p : Phase) → Reaches bytes limit n p → n + measure bytes limit p ≤ bound bytes limit }
+    ensures least { (bytes : List ℕ) (limit n : ℕ) (c : Certificate) → Reaches bytes limit n (Ended (Yes c)) → c.order * c.order * c.order + c.order * (c.start + c.period) ≤ n }
     ensures most { (bytes : List ℕ) (limit : ℕ) → cost bytes limit ≤ bound bytes limit }
     ensures few { (bytes : List ℕ) (limit : ℕ) → limit < 2 ^ 32 → bound bytes limit < most_in_all }
     ensures ends { (bytes : List ℕ) (limit : ℕ) → limit < 2 ^ 32 → turns bytes limit (cost bytes limit) Reading ≡ Ended (verdict bytes limit) }
