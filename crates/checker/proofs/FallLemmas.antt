@@ -200,3 +200,18 @@ module _ (bytes : List ℕ) (limit : ℕ) where
 
     pub yes_pays : (n : ℕ) (c : Certificate) → Reaches bytes limit n (Ended (Yes c)) → yes_least c ≤ n
     yes_pays n c r = subst (IsPaid n) (sym r.reached) (paid_at n r.going)
+
+    early : (most m : ℕ) (p : Phase) (b : Bool) → is_ended p ≡ b → m < turns_left bytes limit most p → is_ended (turns bytes limit m p) ≡ false
+    early most m p true e l = absurd (let d = left-none most p e in omega arith)
+    early zero m p false e l = absurd (let d = left-zero p in omega arith)
+    early (suc most) zero p false e l = ap is_ended (no_turn p) ∙ e
+    early (suc most) (suc m) p false e l =
+        let d = left-more most p e in
+        ap is_ended (sym (turns-first m p)) ∙ early most m (turn bytes limit p) (is_ended (turn bytes limit p)) refl (omega arith)
+
+    not_before : (m : ℕ) → m < cost bytes limit → is_ended (turns bytes limit m Reading) ≡ false
+    unfolding cost
+    not_before m l = early most_in_all m Reading false refl l
+
+    pub yes_costs : (c : Certificate) → limit < 2 ^ 32 → verdict bytes limit ≡ Yes c → yes_least c ≤ cost bytes limit
+    yes_costs c small e = yes_pays (cost bytes limit) c (record { reached = sym (cost_ends small ∙ ap Ended e); going = not_before })
