@@ -16,6 +16,8 @@ use Rattle.checker.specs.Measures.{measure, behind_laws}
 use Rattle.checker.specs.Sound.{IsSound}
 use Rattle.checker.proofs.CostLemmas.{has_spent}
 use Rattle.checker.proofs.UnitLemmas.{code_short, bound_few}
+use Rattle.checker.specs.Answers.Answer.{Yes}
+use Rattle.checker.proofs.LeastLemmas.{yes_least, IsPaid, paid_on}
 use Rattle.checker.proofs.FallEnds.{ClosuresEnd, HeapsEnd, Below, closing_falls, elements_falls, heaps_falls}
 use Rattle.checker.proofs.FallLoops.{laws_falls, keys_falls, products_falls, periods_falls, separating_falls}
 
@@ -186,3 +188,30 @@ module _ (bytes : List ℕ) (limit : ℕ) where
         let w = within_bound n p r in
         let f = bound_is_few ranged small in
         has_spent bytes limit n p r (omega arith) (λ g. omega arith)
+
+    -- what turns have come to is paid
+    paid_at : (n : ℕ) → ((m : ℕ) → m < n → is_ended (turns bytes limit m Reading) ≡ false) → IsPaid n (turns bytes limit n Reading)
+    unfolding turns
+    paid_at zero going = tt
+    paid_at (suc n) going =
+        let before = λ (m : ℕ) (l : m < n). going m (omega arith) in
+        let d : n + 1 ≡ suc n = omega arith in
+        subst (λ k. IsPaid k (turn bytes limit (turns bytes limit n Reading))) d (paid_on bytes limit n (turns bytes limit n Reading) (sound_at n before).1 (paid_at n before))
+
+    pub yes_pays : (n : ℕ) (c : Certificate) → Reaches bytes limit n (Ended (Yes c)) → yes_least c ≤ n
+    yes_pays n c r = subst (IsPaid n) (sym r.reached) (paid_at n r.going)
+
+    early : (most m : ℕ) (p : Phase) (b : Bool) → is_ended p ≡ b → m < turns_left bytes limit most p → is_ended (turns bytes limit m p) ≡ false
+    early most m p true e l = absurd (let d = left-none most p e in omega arith)
+    early zero m p false e l = absurd (let d = left-zero p in omega arith)
+    early (suc most) zero p false e l = ap is_ended (no_turn p) ∙ e
+    early (suc most) (suc m) p false e l =
+        let d = left-more most p e in
+        ap is_ended (sym (turns-first m p)) ∙ early most m (turn bytes limit p) (is_ended (turn bytes limit p)) refl (omega arith)
+
+    not_before : (m : ℕ) → m < cost bytes limit → is_ended (turns bytes limit m Reading) ≡ false
+    unfolding cost
+    not_before m l = early most_in_all m Reading false refl l
+
+    pub yes_costs : (c : Certificate) → limit < 2 ^ 32 → verdict bytes limit ≡ Yes c → yes_least c ≤ cost bytes limit
+    yes_costs c small e = yes_pays (cost bytes limit) c (record { reached = sym (cost_ends small ∙ ap Ended e); going = not_before })

@@ -23,6 +23,7 @@ pub mod CostLemmas
 pub mod FallSteps
 pub mod FallEnds
 pub mod FallLoops
+pub mod LeastLemmas
 pub mod FallLemmas
 pub mod StageLemmas
 pub mod AnswerLemmas

@@ -1,4 +1,4 @@
-use Rattle.checker.proofs.FallLemmas.{falls, bound_is_few, cost_most, cost_ends, spent_is, within_bound, closures_fewer}
+use Rattle.checker.proofs.FallLemmas.{falls, bound_is_few, cost_most, cost_ends, spent_is, within_bound, yes_costs, closures_fewer}
 use Rattle.checker.proofs.turns.checks_end.Goals as goal
 
 pub returns-clause-falls : goal.returns-clause-falls
@@ -19,3 +19,6 @@ returns-clause-few c = λ bytes limit l. bound_is_few bytes limit c.reading_is_s
 
 pub returns-clause-within : goal.returns-clause-within
 returns-clause-within c = λ bytes limit n p. within_bound bytes limit c.reading_is_spelling.ensures.ranges c.heap_jobs_end.ensures.cost (closures_fewer c.closures_cost.ensures.bound c.closures_cost.ensures.ends) n p
+
+pub returns-clause-least : goal.returns-clause-least
+returns-clause-least c = λ bytes limit d. yes_costs bytes limit c.reading_is_spelling.ensures.ranges c.heap_jobs_end.ensures.cost (closures_fewer c.closures_cost.ensures.bound c.closures_cost.ensures.ends) d
