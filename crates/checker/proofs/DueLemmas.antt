@@ -1,11 +1,13 @@
 -- What a check has spent is due.
-use Rattle.std.proofs.Common.{◌≡◌, ℕ, ◌+◌, ◌-◌, ◌<◌, ◌≤◌, true, false, List, None, refl, ◌∙◌, ap, subst, inl, inr, arith}
+use Rattle.std.proofs.Common.{◌≡◌, ◌⊎◌, Result, ℕ, ◌+◌, ◌-◌, ◌<◌, ◌≤◌, true, false, List, None, refl, ◌∙◌, ap, subst, inl, inr, arith}
+use Rattle.misere_theory.specs.Certificates.{Certificate}
 use Rattle.checker.specs.Answers.{answer_of}
 use Rattle.checker.specs.Answers.Answer.{Memory}
-use Rattle.checker.specs.Turns.{Phase, is_ended, answer_at, stage_of, most_in_all, cost, Works, Reaches, HasSpent}
+use Rattle.checker.specs.Turns.{Phase, is_ended, answer_at, stage_of, most_in_all, cost, verdict, Works, Reaches, HasSpent}
 use Rattle.checker.specs.Turns.Phase.{Reading as AtReading, Laws as AtLaws, Keys as AtKeys, Products as AtProducts, Periods as AtPeriods, Separating as AtSeparating, Heaps as AtHeaps, Closing as AtClosing, Elements as AtElements, Ended as AtEnded}
-use Rattle.checker.specs.Stages.{phase_of, has_ended, ending, needs, Comes, HasCome}
+use Rattle.checker.specs.Stages.{Stands, StandsAfter, Pays, phase_of, has_ended, ending, needs, Comes, HasCome}
 use Rattle.checker.specs.JobViews.{IsDueAt}
+use Rattle.checker.specs.declared.refusal.Refusal.{Refusal}
 use Rattle.checker.specs.declared.stage.Stage.{Stage}
 use Rattle.checker.specs.declared.stage.Stage.TheVariants.{Reading, Laws, Keys, Products, Periods, Separating, Heaps, Elements, Closing, Ended}
 use Rattle.checker.proofs.CostLemmas.{has_spent, spent_most, reaches_first, reaches-runs}
@@ -75,3 +77,27 @@ module _ (bytes : List ℕ) (limit : ℕ) where
     | inl d ↦ inl (has_spent bytes limit spent (AtEnded (answer_of r)) (subst (Reaches bytes limit spent) d h.reaches) (omega arith) (λ e. absurd (cc)))
     | inr m ↦ inr (ap (answer_at bytes limit) m, spent_most bytes limit spent h.to h.reaches (omega arith))
   ]
+
+  -- a check works on
+  pub stands_on : {A : Type 0} (spent before after : ℕ) (s t : Stage A) → has_ended s ≡ false → StandsAfter bytes limit spent s → Stands bytes limit t → Pays (needs s) before after t → (has_ended s ≡ false → Comes bytes limit (phase_of s) before after t) → StandsAfter bytes limit (spent + (before - after)) t
+  stands_on spent before after s t e h stands pays w =
+      let f = h.few in
+      let a = pays.spends in
+      let b = pays.within in
+      record { stands = stands; come = come_on spent before after s t e h.come (w e); few = omega arith }
+
+  -- it has ended
+  pub decided_at : {A : Type 0} (spent : ℕ) (s : Stage A) (r : Result Certificate (Refusal A)) → s ≡ Ended r → StandsAfter bytes limit spent s → (answer_of r ≡ verdict bytes limit) ⊎ (answer_of r ≡ Memory)
+  decided_at spent s r d h = elim (subst (λ x. IsDueAt bytes limit spent (ending x)) d (come_due spent s h.come h.few)) [ inl x ↦ inl x.1 | inr x ↦ inr x.0 ]
+
+pub not_ended : {A : Type 0} (s : Stage A) → ((r : Result Certificate (Refusal A)) → s ≡ Ended r → ⊥) → has_ended s ≡ false
+not_ended Reading f = refl
+not_ended (Laws l) f = refl
+not_ended (Keys k) f = refl
+not_ended (Products p) f = refl
+not_ended (Periods p) f = refl
+not_ended (Separating p) f = refl
+not_ended (Heaps h) f = refl
+not_ended (Elements x) f = refl
+not_ended (Closing x) f = refl
+not_ended (Ended r) f = absurd (f r refl)

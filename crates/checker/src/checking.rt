@@ -1,5 +1,8 @@
 //! A check from its beginning to its end.
+ghost use Rattle.std.specs.Prelude.{◌≡◌, ◌⊎◌};
 ghost use Rattle.checker.specs.Answers.{answer_of, IsTrueOf};
+ghost use Rattle.checker.specs.Answers.Answer.{Memory};
+ghost use Rattle.checker.specs.Turns.{verdict};
 
 use crate::answers::true_answers;
 use crate::certified::Certified;
@@ -7,9 +10,11 @@ use crate::refusal::Refusal;
 use crate::stage::Stage;
 use allocation::Room;
 
-/// Whether the bytes are an accepted certificate.
+/// Whether the bytes are an accepted certificate. The answer is the verdict of the bytes and the limit, which is always the same, unless
+/// memory was refused.
 pub fn check<A: Room + Copy>(alloc: A, bytes: &[u8], limit: u32) -> Result<Certified<A>, Refusal<A>>
-    ensures { IsTrueOf bytes.now limit (answer_of result) }
+    ensures true_of { IsTrueOf bytes.now limit (answer_of result) }
+    ensures decided { (answer_of result ≡ verdict bytes.now limit) ⊎ (answer_of result ≡ Memory) }
 {
     let mut stage = Stage::Reading;
     'stages: loop {

@@ -81,6 +81,14 @@ impl<A: Room> Job<A> {
         self.spent
     }
 
+    /// Makes it as newly opened, with the same bytes and limit. It takes no memory.
+    pub fn again(&mut self)
+        ensures { self.new ≡ record self.old { spent = 0; ended = None } }
+    {
+        self.stage = Stage::Reading;
+        self.spent = 0;
+    }
+
     /// Where it stands.
     pub fn progress(&self) -> Progress<'_, A>
         ensures shown { Shows self.now result }

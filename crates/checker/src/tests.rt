@@ -50,6 +50,25 @@ fn spends_a_unit_a_turn(rt: HostRuntime) -> Result<(), Fail> {
 }
 
 #[test]
+fn begins_again(rt: HostRuntime) -> Result<(), Fail> {
+    let mut job = Job::open(rt.alloc(), WHOLE.to_vec(rt.alloc())?, 100);
+    assert!(rt; matches!(job.work(u64::MAX), Progress::Yes(_)));
+    let whole = job.spent();
+    job.again();
+    assert!(rt; matches!(job.progress(), Progress::Going));
+    assert_eq!(rt; job.spent(), 0);
+    for _ in 0..2000u64 {
+        if !matches!(job.work(7), Progress::Going) {
+            assert!(rt; matches!(job.progress(), Progress::Yes(_)));
+            assert_eq!(rt; job.spent(), whole);
+            return Ok(());
+        }
+    }
+    assert!(rt; false, "it never ended");
+    Ok(())
+}
+
+#[test]
 fn hands_out_a_position(rt: HostRuntime) -> Result<(), Fail> {
     match check(rt.alloc(), IDEMPOTENT, 100) {
         Ok(_) => assert!(rt; false),

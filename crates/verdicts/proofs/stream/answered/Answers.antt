@@ -30,7 +30,7 @@ returns g c = (
   record {
     answer = answer_of c.check-verdict.result;
     text = string_bytes c.in_ok-text.text;
-    true_of = c.check-verdict.ensures;
+    true_of = c.check-verdict.ensures.true_of;
     told = subst (λ (a : Answer). IsTextOf a (string_bytes c.in_ok-text.text)) (lent_is _ _ _ c.as_ref.ensures.value) c.in_ok-text.ensures;
   },
   refl,
