@@ -10,7 +10,7 @@ returns-clause-judged c =
       record {
         answer = refused c.in-Err.refusal;
         text = string_bytes c.in_ok-text.text;
-        true_of = c.in-Err.ensures;
+        true_of = c.in-Err.ensures.true_of;
         told = c.in_ok-text.ensures;
       },
       same,
