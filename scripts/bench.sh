@@ -1,13 +1,14 @@
 #!/bin/sh
 # Measures the built program: scripts/bench.sh [--runs N] [--members] [CERTIFICATE ..]
 #
-# For each certificate the least wall time of N runs (15) of `misere check`, the peak memory, its order q and the bound B up to
-# which heaps are looked at. A peak of about 10 MB or less is that of the script itself. With --members also how many members
+# For each certificate the least wall time of N runs (15) of `misere check`, the units that its check costs, as scripts/bench_units
+# tells them, the peak memory, its order q and the bound B up to which heaps are looked at. A peak of about 10 MB or less is that of the script itself. With --members also how many members
 # its closure ever kept, by the least limit that is enough.
 # Without a certificate those of certificates/ are taken.
 here=$(cd "$(dirname "$0")/.." && pwd) || exit 3
 "$here/misere" --help > /dev/null || exit 3
 exec python3 - "$here" "$@" << 'END'
+import importlib.machinery
 import os
 import sys
 import time
@@ -44,6 +45,13 @@ def numbers(file):
         return "-", "-"
 
 
+def units(here, files):
+    """The units of each check."""
+    sys.dont_write_bytecode = True
+    measure = importlib.machinery.SourceFileLoader("bench_units", str(here / "scripts/bench_units")).load_module()
+    return [str(it[0]) for it in measure.measured(files)]
+
+
 def members(program, file):
     """The least limit under which the check doesn't end by it."""
     low, high = 1, MOST
@@ -67,13 +75,14 @@ def main():
         del words[at : at + 2]
     program = str(here / "crates/misere/out/misere")
     files = words or sorted(str(file) for file in (here / "certificates").glob("*.mqc"))
-    print(f"{'certificate':32} {'ms':>9} {'MB':>7} {'q':>4} {'B':>6}" + (f" {'members':>8}" if wants_members else "") + "  verdict")
-    for file in files:
+    costs = units(here, [str(Path(file).resolve()) for file in files])
+    print(f"{'certificate':32} {'ms':>9} {'units':>10} {'MB':>7} {'q':>4} {'B':>6}" + (f" {'members':>8}" if wants_members else "") + "  verdict")
+    for file, cost in zip(files, costs):
         measured = [run(program, file, MOST) for _ in range(runs)]
         least, peak = min(m[0] for m in measured), max(m[1] for m in measured)
         order, bound = numbers(file)
         kept = f" {members(program, file):>8}" if wants_members else ""
-        print(f"{Path(file).name:32} {least * 1e3:9.2f} {peak / 1024:7.1f} {order:>4} {bound:>6}{kept}  {measured[0][2]}")
+        print(f"{Path(file).name:32} {least * 1e3:9.2f} {cost:>10} {peak / 1024:7.1f} {order:>4} {bound:>6}{kept}  {measured[0][2]}")
 
 
 main()

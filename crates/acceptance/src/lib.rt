@@ -1,6 +1,12 @@
-//! Tests of the crates below the checker, by their public names alone. There is nothing else here: a library's proof then waits for no test.
+//! Tests of the crates below the checker and of catalogues, by their public names alone. There is nothing else here: a library's proof then waits for no test.
 #![tactic(auto)]
 
+#[cfg(test)]
+mod certificate_tests;
+#[cfg(test)]
+mod monoid_table_tests;
+#[cfg(test)]
+mod octal_code_tests;
 #[cfg(test)]
 mod outcome_search_tests;
 #[cfg(test)]

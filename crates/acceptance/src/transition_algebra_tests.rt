@@ -125,3 +125,16 @@ fn each_growth_may_be_refused(rt: HostRuntime) -> Result<(), Fail> {
     assert!(rt; false);
     Ok(())
 }
+
+/// The most entries, whose heaps are the most: of 2051 heaps each has its pair, with the splits of each whole made once.
+#[test]
+fn memory_suffices_for_the_most_heaps(rt: HostRuntime) -> Result<(), Fail> {
+    let code = Code::read(b"0.7")?;
+    let Ok(table) = Table::new(2, [0u16, 1, 1, 0].to_vec(rt.alloc())?) else {
+        panic!(rt; "no table");
+    };
+    let phi = Phi::new(1, 1024, vec![in rt.alloc(); 1u16; 1024]?);
+    let pairs = heap_pairs(rt.alloc(), &code, &table, &phi)?;
+    assert_eq!(rt; pairs.len(), 2051);
+    Ok(())
+}

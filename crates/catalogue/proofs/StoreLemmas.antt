@@ -1,6 +1,6 @@
 -- Looking a code up, and adding an entry.
-use Rattle.std.proofs.Common.{◌≡◌, ◌≢◌, ℕ, zero, suc, ◌<◌, ◌⊎◌, inl, inr, Bool, true, false, cond, List, [], ◌∷◌, ◌++◌, length, get_or, slice_index_or, Option, Some, None, MatchOption, IfSome, All, Contains, Bor, nat_eq, is_some, Result, Ok, Err, OnOk, refl, sym, ap, subst, ◌∙◌, arith}
-use Rattle.std.specs.List.{AllByRecursion, AllPairs}
+use Rattle.std.proofs.Common.{◌≡◌, ◌≢◌, ℕ, Bool, true, false, cond, List, [], ◌∷◌, ◌++◌, get_or, Option, Some, None, MatchOption, IfSome, All, Contains, Bor, nat_eq, is_some, Result, Ok, Err, OnOk, OnErr, refl, sym, ap, subst, ◌∙◌, arith}
+use Rattle.std.specs.List.{AllByRecursion}
 use Rattle.std.specs.Map.{values_of, lookup}
 use Rattle.std.specs.Option.{option_copied}
 use Rattle.std.specs.Cmp.Lexicographic.{pointwise}
@@ -10,13 +10,15 @@ use Rattle.std.proofs.lemmas.List.{map-append}
 use Rattle.std.proofs.lemmas.List.Elements.{All-push, Contains-append_right, Contains-get_or}
 use Rattle.std.proofs.lemmas.List.Quantifiers.{all_pairs_push}
 use Rattle.std.proofs.lemmas.Map.Made.{Contains-tail}
+use Rattle.indexmap.specs.IndexMap.{IndexMap, insert_entry}
+use Rattle.indexmap.proofs.CallerLemmas.{insert_entry-new}
 use Rattle.misere_theory.specs.Games.{IsOctalCode}
 use Rattle.misere_theory.specs.Certificates.{Certificate, Accepted}
 use Rattle.catalogue.specs.Entries.{HasCode, HaveOtherCodes}
 use Rattle.catalogue.specs.Keys.{IsKeyOf, IsKeyed, AreKeyed}
 use Rattle.catalogue.proofs.KeyLemmas.{code_from_key, one_key}
 
-abbrev Held : Type 0
+abbrev pub Held : Type 0
 Held = List ℕ × Certificate
 
 contains_first : (c : Certificate) (cs : List Certificate) → Contains (c ∷ cs) c
@@ -97,6 +99,11 @@ not_found k code es octal key keyed none = by (lookup (pointwise nat_eq k) es) (
     by None h = refl
     by (Some c) h = absurd (none (c, h.0, h.1))
 
+-- a new entry stands behind the others
+pub put_last : {S : Type 0} (map : IndexMap (List ℕ) Certificate S) (key : List ℕ) (c : Certificate) → lookup (pointwise nat_eq key) map.entries ≡ None
+    → insert_entry (pointwise nat_eq) map.entries key c ≡ map.entries ++ (key, c) ∷ []
+put_last map key c none = insert_entry-new (pointwise nat_eq) map key c none
+
 -- what is found is an entry of the code
 pub is_there : (cs : List Certificate) (code : List ℕ) (r : Option (Bor Certificate)) → IfSome r (λ x. Contains cs x.now × (x.now.code ≡ code) × Accepted x.now)
     → is_some r ≡ true → (d : Certificate) × Contains cs d × (d.code ≡ code) × Accepted d
@@ -110,3 +117,12 @@ not_there N (Some x) h t = cc
 pub on_ok : {T E : Type 0} (r : Result T E) (P : Type 0) → P → OnOk r P
 on_ok (Ok x) P p = p
 on_ok (Err e) P p = tt
+
+-- what holds of the entries, with one more or as they were
+pub either : {T E : Type 0} (r : Result T E) (P : List Held → Type 0) (old more new : List Held) → OnOk r (new ≡ more) → OnErr r (new ≡ old) → P old → P more → P new
+either (Ok x) P old more new e f p q = subst P (sym e) q
+either (Err x) P old more new e f p q = subst P (sym f) p
+
+pub within : {T E : Type 0} (r : Result T E) (A B : Type 0) → OnOk r A → (A → B) → OnOk r B
+within (Ok x) A B a f = f a
+within (Err x) A B a f = tt

@@ -1,5 +1,7 @@
 //! Catalogues in memory.
-ghost use Rattle.std.specs.Prelude.{◌≡◌, ◌↔◌, [], ◌∷◌, ◌++◌, All, AllPairs, Contains, IfErr, IfSome, OnErr, OnOk, None};
+ghost use Rattle.std.specs.Prelude.{◌≡◌, ◌↔◌, [], ◌∷◌, ◌++◌, All, AllPairs, Contains, IfErr, IfSome, OnErr, OnOk, None, nat_eq};
+ghost use Rattle.std.specs.Cmp.Lexicographic.{pointwise};
+ghost use Rattle.std.specs.Map.{lookup};
 ghost use Rattle.misere_theory.specs.Certificates.{Certificate, Accepted};
 ghost use Rattle.catalogue.specs.Entries.{HasCode, HaveOtherCodes};
 
@@ -29,6 +31,23 @@ impl Model for Catalogue {
     ghost view = { λ s. values_of s.entries.entries };
 
     ghost invariant = { λ s. AreKeyed s.entries.entries };
+}
+
+/// Puts an entry behind the others, under a key that none of them has.
+fn append(
+    entries: &mut IndexMap<Key, Certified>,
+    key: Key,
+    certified: Certified,
+) -> Result<(), AddFault>
+    requires { lookup (pointwise nat_eq key) entries.old.entries ≡ None }
+    ensures last { OnOk result (entries.new.entries ≡ entries.old.entries ++ (key, certified) ∷ []) }
+    ensures unchanged { OnErr result (entries.new.entries ≡ entries.old.entries) }
+    ensures memory { IfErr result (λ fault. fault ≡ AddFault.Memory) }
+{
+    match entries.insert(key, certified) {
+        Ok(_) => Ok(()),
+        Err(_) => Err(AddFault::Memory),
+    }
 }
 
 impl Catalogue {
@@ -65,10 +84,7 @@ impl Catalogue {
         ensures memory { IfErr result (λ fault. fault ≡ AddFault.Memory) }
     {
         let key = key_of(certified.cert().code());
-        match self.entries.insert(key, certified) {
-            Ok(_) => Ok(()),
-            Err(_) => Err(AddFault::Memory),
-        }
+        append(&mut self.entries, key, certified)
     }
 
     /// The entry of a code. It takes no memory.

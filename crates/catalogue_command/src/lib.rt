@@ -11,6 +11,7 @@ mod listing;
 mod report;
 mod salvaging;
 mod stop;
+mod tasks;
 
 pub use adding::{add, create};
 pub use finding::get;
@@ -18,6 +19,7 @@ pub use listing::list;
 pub use report::Report;
 pub use salvaging::salvage;
 pub use stop::CatalogueStop;
+pub use tasks::act;
 
 #[cfg(test)]
 mod tests;

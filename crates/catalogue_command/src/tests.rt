@@ -1,5 +1,7 @@
 //! Catalogue files in memory: what is printed, and what the files hold then.
-use crate::{CatalogueStop, Report, add, create, get, list, salvage};
+mod tasks;
+
+use crate::{CatalogueStop, Report, list, salvage};
 use allocation::Memory;
 use folders::MemoryFolder;
 use std::alloc::Global;
@@ -59,64 +61,6 @@ fn lists_a_file_or_says_why_not(rt: HostRuntime) -> Result<(), Fail> {
         let report = listed(rt.alloc(), held)??;
         assert_eq!(rt; report.well, well, "of {held}");
         assert_eq!(rt; report.text.as_str(), printed, "of {held}");
-    }
-    Ok(())
-}
-
-#[test]
-fn adds_an_entry_once(rt: HostRuntime) -> Result<(), Fail> {
-    let mut folder = MemoryFolder::new(rt.alloc());
-    folder.put("a.mqc", NIM.as_bytes())?;
-    let rows = [
-        (true, true, "added 0.3\n"),
-        (false, false, "refused 1 Present\n"),
-    ];
-    for (fresh, well, printed) in rows {
-        let report = add(rt.alloc(), &mut folder, "x.json", "a.mqc", fresh, LIMIT)?;
-        assert_eq!(rt; report.well, well);
-        assert_eq!(rt; report.text.as_str(), printed);
-        assert_eq!(rt; folder.bytes("x.json"), Some(ONE_ENTRY.as_bytes()));
-    }
-    Ok(())
-}
-
-#[test]
-fn begins_with_an_empty_catalogue(rt: HostRuntime) -> Result<(), Fail> {
-    let mut folder = MemoryFolder::new(rt.alloc());
-    let report = create(rt.alloc(), &mut folder, "x.json")?;
-    assert!(rt; report.well);
-    assert_eq!(rt; report.text.as_str(), "");
-    assert_eq!(rt;
-        folder.bytes("x.json"),
-        Some(b"{\"entries\":[],\"version\":1}\n".as_slice())
-    );
-    Ok(())
-}
-
-#[test]
-fn gets_a_certificate(rt: HostRuntime) -> Result<(), Fail> {
-    let rows = [("0.3", true, NIM), ("0.33", false, "absent\n")];
-    let mut folder = MemoryFolder::new(rt.alloc());
-    folder.put("x.json", ONE_ENTRY.as_bytes())?;
-    for (code, well, printed) in rows {
-        let report = get(rt.alloc(), &mut folder, "x.json", code, LIMIT)?;
-        assert_eq!(rt; report.well, well, "of {code}");
-        assert_eq!(rt; report.text.as_str(), printed, "of {code}");
-    }
-    let stop = get(rt.alloc(), &mut folder, "x.json", "0.x", LIMIT);
-    assert!(rt; matches!(stop, Err(CatalogueStop::NotACode)));
-    Ok(())
-}
-
-#[test]
-fn keeps_the_file_where_a_call_fails(rt: HostRuntime) -> Result<(), Fail> {
-    let rows = [(1, CatalogueStop::Read("a.mqc")), (2, CatalogueStop::Write)];
-    for (number, stop) in rows {
-        let mut folder = MemoryFolder::failing(rt.alloc(), number);
-        folder.put("a.mqc", NIM.as_bytes())?;
-        let answer = add(rt.alloc(), &mut folder, "x.json", "a.mqc", true, LIMIT);
-        assert_eq!(rt; answer.err(), Some(stop), "at {number}");
-        assert_eq!(rt; folder.bytes("x.json"), None, "at {number}");
     }
     Ok(())
 }

@@ -26,6 +26,3 @@ pub use parts::Parts;
 pub use reading::read;
 pub use streams::{Sink, Source};
 pub use writing::write;
-
-#[cfg(test)]
-mod tests;

@@ -1,8 +1,10 @@
 -- What a check costs, told from its turns.
-use Rattle.std.proofs.Common.{◌≡◌, ℕ, suc, zero, ◌+◌, ◌-◌, ◌<◌, ◌≤◌, true, false, List, refl, sym, ◌∙◌, ap, subst, arith}
+use Rattle.std.proofs.Common.{◌≡◌, ℕ, suc, zero, ◌+◌, ◌-◌, ◌<◌, ◌≤◌, true, false, List, [], ◌∷◌, Option, Some, None, refl, sym, ◌∙◌, ap, subst, arith}
 use native.Mathlib.Decide.{dec_lt}
+use Rattle.misere_theory.specs.Certificates.{Certificate}
+use Rattle.certificate_text.specs.Reading.{certificate_at}
 use Rattle.checker.specs.Answers.{Answer}
-use Rattle.checker.specs.Turns.{Phase, is_ended, stage_of, turn, turns, turns_left, most_in_all, cost, verdict, answer_at, Runs, Works, Reaches, HasSpent}
+use Rattle.checker.specs.Turns.{Phase, is_ended, stage_of, turn, turns, turns_left, bound_read, bound, cost, verdict, answer_at, Runs, Works, Reaches, HasSpent}
 use Rattle.checker.specs.Turns.Phase.{Reading, Laws, Keys, Products, Periods, Separating, Heaps, Closing, Elements, Ended}
 
 -- a stage before the last isn't the end
@@ -64,19 +66,19 @@ module _ (bytes : List ℕ) (limit : ℕ) where
     | no f ↦ (let d : n ≡ m = omega arith in subst (λ k. is_ended (turns bytes limit k Reading) ≡ false) d (ap is_ended (sym r.reached) ∙ e))
   ]
 
-  going_spent : (n : ℕ) (p : Phase) → Reaches bytes limit n p → n < most_in_all → is_ended p ≡ false → n < cost bytes limit
+  going_spent : (n : ℕ) (p : Phase) → Reaches bytes limit n p → n < (bound bytes limit) → is_ended p ≡ false → n < cost bytes limit
   unfolding cost
-  going_spent n p r l e = left-going most_in_all n Reading l (reaches-all n p r e)
+  going_spent n p r l e = left-going (bound bytes limit) n Reading l (reaches-all n p r e)
 
-  ended_spent : (n : ℕ) (a : Answer) → Reaches bytes limit n (Ended a) → n ≤ most_in_all → n ≡ cost bytes limit
+  ended_spent : (n : ℕ) (a : Answer) → Reaches bytes limit n (Ended a) → n ≤ (bound bytes limit) → n ≡ cost bytes limit
   unfolding cost
-  ended_spent n a r l = sym (left-ended most_in_all n Reading l (ap is_ended (sym r.reached)) r.going)
+  ended_spent n a r l = sym (left-ended (bound bytes limit) n Reading l (ap is_ended (sym r.reached)) r.going)
 
   ended_answer : (n : ℕ) (a : Answer) → Reaches bytes limit n (Ended a) → n ≡ cost bytes limit → a ≡ verdict bytes limit
   unfolding verdict
   ended_answer n a r e = ap (answer_at bytes limit) r.reached ∙ ap (λ k. answer_at bytes limit (turns bytes limit k Reading)) e
 
-  pub has_spent : (n : ℕ) (p : Phase) → Reaches bytes limit n p → n ≤ most_in_all → (is_ended p ≡ false → n < most_in_all) → HasSpent bytes limit n p
+  pub has_spent : (n : ℕ) (p : Phase) → Reaches bytes limit n p → n ≤ (bound bytes limit) → (is_ended p ≡ false → n < (bound bytes limit)) → HasSpent bytes limit n p
   has_spent n Reading r l b = going_spent n Reading r (b refl) refl
   has_spent n (Laws x) r l b = going_spent n (Laws x) r (b refl) refl
   has_spent n (Keys x) r l b = going_spent n (Keys x) r (b refl) refl
@@ -88,16 +90,21 @@ module _ (bytes : List ℕ) (limit : ℕ) where
   has_spent n (Elements x) r l b = going_spent n (Elements x) r (b refl) refl
   has_spent n (Ended a) r l b = let e = ended_spent n a r l in (e, ended_answer n a r e)
 
+  some_bound : (x : Option (Certificate × List ℕ)) → 0 < bound_read bytes limit x
+  some_bound None = omega arith
+  some_bound (Some (c, [])) = omega arith
+  some_bound (Some (c, b ∷ rest)) = omega arith
+
   pub some_cost : 0 < cost bytes limit
   unfolding cost turns
-  some_cost = left-going most_in_all 0 Reading (omega arith) (λ m l. (let d : 0 ≡ m = omega arith in subst (λ k. is_ended (turns bytes limit k Reading) ≡ false) d refl))
+  some_cost = left-going (bound bytes limit) 0 Reading (some_bound (certificate_at bytes)) (λ m l. (let d : 0 ≡ m = omega arith in subst (λ k. is_ended (turns bytes limit k Reading) ≡ false) d refl))
 
   -- no more than it costs was spent
-  pub spent_most : (n : ℕ) (p : Phase) → Reaches bytes limit n p → n ≤ most_in_all → n ≤ cost bytes limit
+  pub spent_most : (n : ℕ) (p : Phase) → Reaches bytes limit n p → n ≤ (bound bytes limit) → n ≤ cost bytes limit
   unfolding cost
   spent_most n p r l = elim (dec_lt 0 n) [
     | no f ↦ omega (arith, f)
-    | yes b ↦ (let h = left-going most_in_all (n - 1) Reading (omega arith) (λ m k. r.going m (omega arith)) in omega arith)
+    | yes b ↦ (let h = left-going (bound bytes limit) (n - 1) Reading (omega arith) (λ m k. r.going m (omega arith)) in omega arith)
   ]
 
   pub reaches_first : Reaches bytes limit 0 Reading

@@ -10,11 +10,11 @@ use Rattle.transition_algebra.specs.declared.pair.Pair.{Pair}
 use Rattle.pair_closure.specs.Progress.{begun, steps, has_ended}
 use Rattle.pair_closure.specs.Calls.{cost as closure_cost}
 use Rattle.checker.specs.Closings.{bound_of}
-use Rattle.checker.specs.Turns.{Phase, is_ended, turn, turns, turns_left, opened, bound_read, most_turns, bound, most_in_all, cost, verdict, answer_at, Reaches, HasSpent}
+use Rattle.checker.specs.Turns.{Phase, is_ended, turn, turns, turns_left, opened, bound_read, most_turns, bound, cost, verdict, answer_at, Reaches, HasSpent}
 use Rattle.checker.specs.Turns.Phase.{Reading, Laws, Keys, Products, Periods, Separating, Heaps, Elements, Closing, Ended}
 use Rattle.checker.specs.Measures.{measure, behind_laws}
 use Rattle.checker.specs.Sound.{IsSound}
-use Rattle.checker.proofs.CostLemmas.{has_spent}
+use Rattle.checker.proofs.CostLemmas.{has_spent, spent_most}
 use Rattle.checker.proofs.UnitLemmas.{code_short, bound_few}
 use Rattle.checker.specs.Answers.Answer.{Yes}
 use Rattle.checker.proofs.LeastLemmas.{yes_least, IsPaid, paid_on}
@@ -38,7 +38,7 @@ sums : (q qqq qq qn pp kbb bq bqq bl : ℕ) → q ≤ qq → bq ≤ bqq → qqq 
 sums q qqq qq qn pp kbb bq bqq bl h l = omega arith
 
 total : (a b c d e f g : ℕ) → a ≤ 256 * 256 * 256 → b ≤ 256 * 256 → c ≤ 256 * 1025 → d ≤ 1024 * 1024 → e ≤ 17 * (2066 * 2066) → f ≤ 2066 * (256 * 256) → g ≤ 2066 * 2 ^ 32
-    → 2 * a + b + c + d + e + f + g + 16 < most_in_all
+    → 2 * a + b + c + d + e + f + g + 16 < 2 ^ 52
 total a b c d e f g ha hb hc hd he hf hg = omega arith
 
 module _ (bytes : List ℕ) (limit : ℕ) where
@@ -51,7 +51,7 @@ module _ (bytes : List ℕ) (limit : ℕ) where
       sums c.order (triples c.order) (c.order * c.order) (c.order * (c.start + c.period)) (c.period * c.period) (length c.code * (bound_of c * bound_of c)) (bound_of c * c.order) (bound_of c * (c.order * c.order)) (bound_of c * limit) (omega arith) b
 
   -- as few that a counter of 64 bits holds them
-  few_of : (c : Certificate) → InRanges c → limit < 2 ^ 32 → most_turns bytes limit c < most_in_all
+  few_of : (c : Certificate) → InRanges c → limit < 2 ^ 32 → most_turns bytes limit c < 2 ^ 52
   few_of c r l =
       let q = r.order.1 in
       let p = r.period.1 in
@@ -68,12 +68,12 @@ module _ (bytes : List ℕ) (limit : ℕ) where
       let bl = mul-le (bound_of c) limit 2066 (2 ^ 32) b (omega arith) in
       total (c.order * c.order * c.order) (c.order * c.order) (c.order * (c.start + c.period)) (c.period * c.period) (length c.code * (bound_of c * bound_of c)) (bound_of c * (c.order * c.order)) (bound_of c * limit) q3 q2 n p2 k2 bq bl
 
-  few_read : ReadsRanged → limit < 2 ^ 32 → (x : Option (Certificate × List ℕ)) → certificate_at bytes ≡ x → bound_read bytes limit x < most_in_all
+  few_read : ReadsRanged → limit < 2 ^ 32 → (x : Option (Certificate × List ℕ)) → certificate_at bytes ≡ x → bound_read bytes limit x < 2 ^ 52
   few_read ranged l None e = omega arith
   few_read ranged l (Some (c, [])) e = few_of c (ranged bytes c [] e) l
   few_read ranged l (Some (c, b ∷ more)) e = omega arith
 
-  pub bound_is_few : ReadsRanged → limit < 2 ^ 32 → bound bytes limit < most_in_all
+  pub bound_is_few : ReadsRanged → limit < 2 ^ 32 → bound bytes limit < 2 ^ 52
   bound_is_few ranged l = few_read ranged l (certificate_at bytes) refl
 
   some_triples : (c : Certificate) → InRanges c → 0 < triples c.order
@@ -147,7 +147,7 @@ module _ (bytes : List ℕ) (limit : ℕ) where
 
     pub cost_most : cost bytes limit ≤ bound bytes limit
     unfolding cost
-    cost_most = left-most most_in_all Reading tt false refl
+    cost_most = left-most (bound bytes limit) Reading tt false refl
 
     -- what turns have come to is sound
     sound_at : (n : ℕ) → ((m : ℕ) → m < n → is_ended (turns bytes limit m Reading) ≡ false) → (n + measure bytes limit (turns bytes limit n Reading) ≤ bound bytes limit) × IsSound limit (turns bytes limit n Reading)
@@ -163,9 +163,9 @@ module _ (bytes : List ℕ) (limit : ℕ) where
     pub within_bound : (n : ℕ) (p : Phase) → Reaches bytes limit n p → n + measure bytes limit p ≤ bound bytes limit
     within_bound n p r = let h = sound_at n r.going in subst (λ q. n + measure bytes limit q ≤ bound bytes limit) (sym r.reached) h.0
 
-    cost_ended : bound bytes limit < most_in_all → is_ended (turns bytes limit (cost bytes limit) Reading) ≡ true
+    cost_ended : is_ended (turns bytes limit (cost bytes limit) Reading) ≡ true
     unfolding cost
-    cost_ended few = run_by most_in_all Reading tt (omega arith) false refl
+    cost_ended = run_by (bound bytes limit) Reading tt (omega arith) false refl
 
     answered : (p : Phase) → is_ended p ≡ true → p ≡ Ended (answer_at bytes limit p)
     answered Reading e = absurd cc
@@ -179,15 +179,24 @@ module _ (bytes : List ℕ) (limit : ℕ) where
     answered (Closing x) e = absurd cc
     answered (Ended a) e = refl
 
-    pub cost_ends : limit < 2 ^ 32 → turns bytes limit (cost bytes limit) Reading ≡ Ended (verdict bytes limit)
+    pub cost_ends : turns bytes limit (cost bytes limit) Reading ≡ Ended (verdict bytes limit)
     unfolding verdict
-    cost_ends small = answered (turns bytes limit (cost bytes limit) Reading) (cost_ended (bound_is_few ranged small))
+    cost_ends = answered (turns bytes limit (cost bytes limit) Reading) cost_ended
 
-    pub spent_is : (n : ℕ) (p : Phase) → limit < 2 ^ 32 → Reaches bytes limit n p → HasSpent bytes limit n p
-    spent_is n p small r =
+    -- a turn is left where the check goes on
+    some_left : (p : Phase) → IsSound limit p → is_ended p ≡ false → 0 < measure bytes limit p
+    some_left p s e = let f = falls p s e in let a = f.0 in omega arith
+
+    sound_of : (n : ℕ) (p : Phase) → Reaches bytes limit n p → IsSound limit p
+    sound_of n p r = subst (IsSound limit) (sym r.reached) (sound_at n r.going).1
+
+    pub spent_is : (n : ℕ) (p : Phase) → Reaches bytes limit n p → HasSpent bytes limit n p
+    spent_is n p r =
         let w = within_bound n p r in
-        let f = bound_is_few ranged small in
-        has_spent bytes limit n p r (omega arith) (λ g. omega arith)
+        has_spent bytes limit n p r (omega arith) (λ g. let m = some_left p (sound_of n p r) g in omega arith)
+
+    pub spent_before : (n : ℕ) (p : Phase) → Reaches bytes limit n p → n ≤ cost bytes limit
+    spent_before n p r = let w = within_bound n p r in spent_most bytes limit n p r (omega arith)
 
     -- what turns have come to is paid
     paid_at : (n : ℕ) → ((m : ℕ) → m < n → is_ended (turns bytes limit m Reading) ≡ false) → IsPaid n (turns bytes limit n Reading)
@@ -211,7 +220,7 @@ module _ (bytes : List ℕ) (limit : ℕ) where
 
     not_before : (m : ℕ) → m < cost bytes limit → is_ended (turns bytes limit m Reading) ≡ false
     unfolding cost
-    not_before m l = early most_in_all m Reading false refl l
+    not_before m l = early (bound bytes limit) m Reading false refl l
 
-    pub yes_costs : (c : Certificate) → limit < 2 ^ 32 → verdict bytes limit ≡ Yes c → yes_least c ≤ cost bytes limit
-    yes_costs c small e = yes_pays (cost bytes limit) c (record { reached = sym (cost_ends small ∙ ap Ended e); going = not_before })
+    pub yes_costs : (c : Certificate) → verdict bytes limit ≡ Yes c → yes_least c ≤ cost bytes limit
+    yes_costs c e = yes_pays (cost bytes limit) c (record { reached = sym (cost_ends ∙ ap Ended e); going = not_before })

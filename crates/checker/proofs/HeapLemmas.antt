@@ -7,7 +7,7 @@ use Rattle.std.proofs.lemmas.List.{get_or-map, length-map}
 use Rattle.misere_theory.specs.Games.{IsHeap, IsHeapUpTo, IsPosition}
 use Rattle.misere_theory.specs.Quotients.{ReachesMoreThan, RuleFails}
 use Rattle.misere_theory.specs.Pairs.{KeptObey, IsClosed}
-use Rattle.misere_theory.specs.Certificates.{claim_of}
+use Rattle.misere_theory.specs.Certificates.{Certificate, claim_of}
 use Rattle.misere_theory.proofs.Written.{phi_in}
 use Rattle.monoid_table.specs.Grids.{Grid}
 use Rattle.transition_algebra.specs.Heaps.{Agrees, AreAllHeapPairs, IsHeapPairs}
@@ -19,6 +19,7 @@ use Rattle.pair_closure.specs.declared.settle.Held.{Held}
 use Rattle.pair_closure.specs.Turns.{State}
 use Rattle.pair_closure.proofs.Positions.{items_have, has_items}
 use Rattle.certificate.specs.Pieces.{Pieces, certificate_of}
+use Rattle.checker.specs.Sheets.{IsPortion}
 use Rattle.checker.specs.Rules.{Obeys, Breaks, HeldObey}
 use Rattle.checker.specs.Closings.{HavePairs, IsClosing, IsCovered, bound_of}
 use Rattle.checker.proofs.Rows.{rows_of-entry}
@@ -26,6 +27,31 @@ use Rattle.checker.proofs.RuleLemmas.{breach_fails}
 
 grid : Pieces → Grid
 grid p = record { order = p.order; entries = p.rows }
+
+module _ (c : Certificate) (inside : set.FinSet nat_cmp) (portion : IsPortion c inside) (t : State) where
+  member_of : (q : _) → Contains (kept t) q → (i : ℕ) × (i < length t.held) × (as_pair (get_or t.held i blank_held).pair ≡ q)
+  member_of q (i, l, e) =
+      let b : i < length t.held = (let n = length-map t.held (λ m. as_pair m.pair) in omega arith) in
+      (i, b, sym (get_or-map (λ m. as_pair m.pair) t.held i blank_held q b) ∙ e)
+
+  -- members held that obey the rule, in the theory's words
+  pub obeying : ((i : ℕ) → i < length t.held → Obeys inside (get_or t.held i blank_held).pair) → KeptObey (claim_of c) (kept t)
+  obeying all = record {
+    outside = λ q k f x h.
+        let (i, l, e) = member_of q k in
+        let m = (get_or t.held i blank_held).pair in
+        let o = all i l in
+        let v = portion m.value ∙ (ap (λ r. (claim_of c).portion r.value) e ∙ f) in
+        let (y, has, into) = o.leads v x (items_have m.options x (subst (λ r. Contains r.options x) (sym e) h)) in
+        (y, subst (λ r. Contains r.options y) e (has_items m.options y has), sym (portion y) ∙ into);
+    inside = λ q k f.
+        let (i, l, e) = member_of q k in
+        let m = (get_or t.held i blank_held).pair in
+        let o = all i l in
+        let v = portion m.value ∙ (ap (λ r. (claim_of c).portion r.value) e ∙ f) in
+        let (x, has) = o.some v in
+        (x, subst (λ r. Contains r.options x) e (has_items m.options x has));
+  }
 
 module _ (p : Pieces) where
   agrees : (t : Grid) → t ≡ grid p → Agrees (claim_of (certificate_of p)) t p.phi
@@ -65,35 +91,12 @@ module _ (p : Pieces) where
       length_bound : length t.heaps ≡ bound_of (certificate_of p)
       length_bound = ap length heaps_is ∙ is.exact.exact.length_is
 
-      member_of : (q : _) → Contains (kept t) q → (i : ℕ) × (i < length t.held) × (as_pair (get_or t.held i blank_held).pair ≡ q)
-      member_of q (i, l, e) =
-          let b : i < length t.held = (let n = length-map t.held (λ m. as_pair m.pair) in omega arith) in
-          (i, b, sym (get_or-map (λ m. as_pair m.pair) t.held i blank_held q b) ∙ e)
-
-      obeying : ((i : ℕ) → i < length t.held → Obeys inside (get_or t.held i blank_held).pair) → KeptObey (claim_of (certificate_of p)) (kept t)
-      obeying all = record {
-        outside = λ q k f x h.
-            let (i, l, e) = member_of q k in
-            let m = (get_or t.held i blank_held).pair in
-            let o = all i l in
-            let v = is.sheet.portion m.value ∙ (ap (λ r. (claim_of (certificate_of p)).portion r.value) e ∙ f) in
-            let (y, has, into) = o.leads v x (items_have m.options x (subst (λ r. Contains r.options x) (sym e) h)) in
-            (y, subst (λ r. Contains r.options y) e (has_items m.options y has), sym (is.sheet.portion y) ∙ into);
-        inside = λ q k f.
-            let (i, l, e) = member_of q k in
-            let m = (get_or t.held i blank_held).pair in
-            let o = all i l in
-            let v = is.sheet.portion m.value ∙ (ap (λ r. (claim_of (certificate_of p)).portion r.value) e ∙ f) in
-            let (x, has) = o.some v in
-            (x, subst (λ r. Contains r.options x) e (has_items m.options x has));
-      }
-
       -- members that all obey the rule cover every position
       pub members_cover : IsClosedOver t → HeldObey inside t.held → IsCovered (certificate_of p)
       members_cover closed all = record {
         kept = kept t;
         closed = subst (λ n. IsClosed p.code (claim_of (certificate_of p)) (IsHeapUpTo n) (kept t)) length_bound (closed p.code (claim_of (certificate_of p)) over_state);
-        obey = obeying all;
+        obey = obeying (certificate_of p) inside is.sheet.portion t all;
       }
 
 -- positions of the heaps up to some size are positions

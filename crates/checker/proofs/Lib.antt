@@ -18,7 +18,6 @@ pub mod ElementTurns
 pub mod CloseTurns
 pub mod LawTurns
 pub mod ReadTurns
-pub mod PayLemmas
 pub mod CostLemmas
 pub mod FallSteps
 pub mod FallEnds
@@ -29,3 +28,9 @@ pub mod StageLemmas
 pub mod AnswerLemmas
 pub mod DueLemmas
 pub mod HeldLemmas
+pub mod TrueTests
+pub mod TrueTables
+pub mod TruePhases
+pub mod TrueEnds
+pub mod TrueLoops
+pub mod TrueLemmas

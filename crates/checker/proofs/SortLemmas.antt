@@ -89,12 +89,12 @@ before Z (Then s t) = Then (before Z s) (before Z t)
 
 -- The heaps that the keys of an element spell.
 module _ (c : Certificate) where
-  keys_none : (n : ℕ) → keys_from c n 0 ≡ []
+  pub keys_none : (n : ℕ) → keys_from c n 0 ≡ []
   unfolding keys_from
   keys_none zero = refl
   keys_none (suc n) = refl
 
-  keys_some : (n e : ℕ) → 0 < e → keys_from c (suc n) e ≡ (key_of c e).1 ∷ keys_from c n (key_of c e).0
+  pub keys_some : (n e : ℕ) → 0 < e → keys_from c (suc n) e ≡ (key_of c e).1 ∷ keys_from c n (key_of c e).0
   unfolding keys_from
   keys_some n e p = let f : (e == 0) ≡ false = grind (arith, tests) in rw f
 

@@ -9,7 +9,7 @@ use Rattle.checker.specs.declared.stage.Stage.{Stage}
 use Rattle.checker.specs.declared.stage.Stage.TheVariants.{Reading, Laws, Keys, Products, Periods, Separating, Heaps, Closing, Elements, Ended}
 
 module _ (bytes : List ℕ) (c : Certificate) (spelled : Spells bytes c) (limit : ℕ) where
-  fitting_is_true : (a : Answer) → Fits c limit a → Holds bytes limit a
+  pub fitting_is_true : (a : Answer) → Fits c limit a → Holds bytes limit a
   fitting_is_true (Yes d) f = (c, spelled, f)
   fitting_is_true Text f = absurd f
   fitting_is_true Law f = (c, spelled, f)

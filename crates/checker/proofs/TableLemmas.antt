@@ -24,7 +24,7 @@ turns-grid zero s = refl
 turns-grid (suc n) s = turns-grid n (turn s) ∙ turn-grid s
 
 -- two products that are the same at all elements
-monoid_along : (q : ℕ) (f g : ℕ → ℕ → ℕ) → ((x y : ℕ) → x < q → y < q → f x y ≡ g x y) → Monoid q g → Monoid q f
+pub monoid_along : (q : ℕ) (f g : ℕ → ℕ → ℕ) → ((x y : ℕ) → x < q → y < q → f x y ≡ g x y) → Monoid q g → Monoid q f
 monoid_along q f g e m = record {
   some = m.some;
   closed = λ x y a b. subst (λ v. v < q) (sym (e x y a b)) (m.closed x y a b);
@@ -36,7 +36,7 @@ monoid_along q f g e m = record {
       ap (λ v. f v z) (e x y a b) ∙ (e (g x y) z k d ∙ (m.associates x y z a b d ∙ (sym (e x (g y z) a l) ∙ ap (f x) (sym (e y z b d)))));
 }
 
-fails_along : (q : ℕ) (f g : ℕ → ℕ → ℕ) → 0 < q → ((x y : ℕ) → x < q → y < q → f x y ≡ g x y) → ((x y : ℕ) → x < q → y < q → g x y < q) → LawFails q g → LawFails q f
+pub fails_along : (q : ℕ) (f g : ℕ → ℕ → ℕ) → 0 < q → ((x y : ℕ) → x < q → y < q → f x y ≡ g x y) → ((x y : ℕ) → x < q → y < q → g x y < q) → LawFails q g → LawFails q f
 fails_along q f g p e closed (Identity x a n) = Identity x a (λ h. n (sym (e 0 x p a) ∙ h))
 fails_along q f g p e closed (Commutativity x y a b n) = Commutativity x y a b (λ h. n (sym (e x y a b) ∙ (h ∙ e y x b a)))
 fails_along q f g p e closed (Associativity x y z a b d n) =

@@ -1,11 +1,9 @@
 -- What stages say of the certificate that they hold.
-use Rattle.std.specs.Prelude.{◌≡◌, ◌⊎◌, ℕ, ◌+◌, ◌-◌, ◌*◌, ◌<◌, ◌≤◌, Bool, true, false, List, Option, Some, None}
+use Rattle.std.specs.Prelude.{◌≡◌, ◌⊎◌, ℕ, ◌<◌, Bool, true, false, List, Option, Some, None}
 use Rattle.misere_theory.specs.Certificates.{Certificate}
 use Rattle.certificate_text.specs.Spelling.{Spells}
 use Rattle.checker.specs.Answers.{Answer, answer_of, Fits, Holds}
 use Rattle.checker.specs.Answers.Answer.{Memory}
-use Rattle.checker.specs.Units.{stage_units}
-use Rattle.checker.specs.Views.{laws_units, keys_units, products_units, periods_units, separating_units, heaps_units, closing_units, elements_units}
 use Rattle.checker.specs.Turns.{Phase, stage_of, Runs, Reaches}
 use Rattle.checker.specs.Turns.Phase.{Reading as AtReading, Laws as AtLaws, Keys as AtKeys, Products as AtProducts, Periods as AtPeriods, Separating as AtSeparating, Heaps as AtHeaps, Closing as AtClosing, Elements as AtElements, Ended as AtEnded}
 use Rattle.checker.specs.declared.stage.Stage.{Stage}
@@ -75,40 +73,16 @@ ending (Elements e) = None
 ending (Closing s) = None
 ending (Ended r) = Some (answer_of r)
 
--- the units that a check takes at most from here on
-abbrev pub most_at : Phase → ℕ
-most_at AtReading = 9 * stage_units
-most_at (AtLaws l) = laws_units l + 8 * stage_units
-most_at (AtKeys k) = keys_units k + 7 * stage_units
-most_at (AtProducts p) = products_units p + 6 * stage_units
-most_at (AtPeriods p) = periods_units p + 5 * stage_units
-most_at (AtSeparating s) = separating_units s + 4 * stage_units
-most_at (AtHeaps h) = heaps_units h + 3 * stage_units
-most_at (AtElements e) = elements_units e + 2 * stage_units
-most_at (AtClosing s) = closing_units s + stage_units
-most_at (AtEnded a) = 0
-
-abbrev pub needs : {A : Type 0} → Stage A → ℕ
-needs s = most_at (phase_of s)
-
--- Of `before` units `after` are left. Those spent and those that the stage then needs are at most `most`; and where some are left, it
--- needs fewer than that, or nothing.
-pub record Pays {A : Type 0} (most before after : ℕ) (s : Stage A) : Type 0 where
-  pub spends : after ≤ before
-  pub within : before + needs s ≤ after + most
-  pub further : 0 < after → needs s ≤ most - 1
-
 -- So many turns have brought the check here, or to where memory was refused to it.
 pub record HasCome {A : Type 0} (bytes : List ℕ) (limit spent : ℕ) (s : Stage A) : Type 0 where
   pub to : Phase
   pub reaches : Reaches bytes limit spent to
   pub shown : (to ≡ phase_of s) ⊎ (phase_of s ≡ AtEnded Memory)
 
--- the stage stands of the bytes, its turns have brought it here, and what it needs beside the units spent so far isn't too much
+-- the stage stands of the bytes, and its turns have brought it here
 pub record StandsAfter {A : Type 0} (bytes : List ℕ) (limit spent : ℕ) (s : Stage A) : Type 0 where
   pub stands : Stands bytes limit s
   pub come : HasCome bytes limit spent s
-  pub few : spent + needs s ≤ 9 * stage_units
 
 -- Of `before` units `after` are left, and each of the others was a turn at the stage at which the check stood. It stands where they brought
 -- it, or ended there for want of memory; and units are left only where it came to a later stage, or ended.

@@ -15,7 +15,6 @@ use Rattle.pair_closure.specs.declared.settle.Held.{Held}
 use Rattle.pair_closure.specs.Progress as closure
 use Rattle.pair_closure.specs.Positions.{rising, word}
 use Rattle.checker.specs.Closings.{bound_of}
-use Rattle.checker.specs.Units.{stage_units}
 use Rattle.checker.specs.Answers.{Answer}
 use Rattle.checker.specs.Answers.Answer.{Yes, Text, Law, Word, Order, Period, Apart, Outcome, Limit, Memory}
 use Rattle.checker.specs.Views.{LawsView, KeysView, ProductsView, PeriodsView, SeparatingView, HeapsView, ElementsView, ClosingView}
@@ -198,10 +197,6 @@ opened None = Ended Text
 opened (Some (c, [])) = Laws (record { certificate = c; job = table.fresh (grid_of c) })
 opened (Some (c, b ∷ rest)) = Ended Text
 
--- no check takes more turns
-abbrev pub most_in_all : ℕ
-most_in_all = 9 * stage_units
-
 module _ (bytes : List ℕ) (limit : ℕ) where
   -- One turn, which takes one unit. An ended check stays as it is.
   abbrev pub turn : Phase → Phase
@@ -225,7 +220,7 @@ module _ (bytes : List ℕ) (limit : ℕ) where
   turns_left zero p = 0
   turns_left (suc most) p = if is_ended p then 0 else turns_left most (turn p) + 1
 
-  -- 2q³ + q² + q(n0 + p) + p² + (k + 1)B² + Bq² + B·limit + 16
+  -- No check takes more turns: 2q³ + q² + q(n0 + p) + p² + (k + 1)B² + Bq² + B·limit + 16
   abbrev pub most_turns : Certificate → ℕ
   most_turns c =
       2 * (c.order * c.order * c.order) + c.order * c.order + c.order * (c.start + c.period) + c.period * c.period
@@ -239,9 +234,9 @@ module _ (bytes : List ℕ) (limit : ℕ) where
   abbrev pub bound : ℕ
   bound = bound_read (certificate_at bytes)
 
-  -- What the check costs: the turns until it has ended.
+  -- What the check costs: the turns until it has ended, which are no more than the bound.
   unfoldable pub cost : ℕ
-  cost = turns_left most_in_all Reading
+  cost = turns_left bound Reading
 
   abbrev pub answer_at : Phase → Answer
   answer_at (Ended a) = a

@@ -1,5 +1,5 @@
 -- What each stage of a check holds, in plain data: the certificate, and how far it has come.
-use Rattle.std.specs.Prelude.{ℕ, ◌+◌, ◌-◌, ◌*◌, Bool, List, length}
+use Rattle.std.specs.Prelude.{ℕ, ◌+◌, ◌-◌, Bool, List, length}
 use Rattle.misere_theory.specs.Certificates.{Certificate}
 use Rattle.monoid_table.specs.Turns.{JobState, triples}
 use Rattle.transition_algebra.specs.declared.pair.Pair.{Pair}
@@ -74,9 +74,6 @@ separating_units s = rest (length s.certificate.apart) s.number (s.certificate.o
 
 abbrev pub heaps_units : HeapsView → ℕ
 heaps_units h = heap_cost h.certificate.code (pretending_of h.certificate) - h.spent
-
-abbrev pub closing_units : ClosingView → ℕ
-closing_units s = s.closure.state.limit * length s.closure.state.heaps + 2 - s.closure.spent
 
 abbrev pub elements_units : ElementsView → ℕ
 elements_units e = rest (length e.pairs) e.heap e.certificate.order e.option

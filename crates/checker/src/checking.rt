@@ -8,6 +8,7 @@ use crate::answers::true_answers;
 use crate::certified::Certified;
 use crate::refusal::Refusal;
 use crate::stage::Stage;
+use crate::turns::checks_end;
 use allocation::Room;
 
 /// Whether the bytes are an accepted certificate. The answer is the verdict of the bytes and the limit, which is always the same, unless
@@ -18,6 +19,7 @@ pub fn check<A: Room + Copy>(alloc: A, bytes: &[u8], limit: u32) -> Result<Certi
 {
     let mut stage = Stage::Reading;
     'stages: loop {
+        checks_end();
         let mut left = u64::MAX;
         match stage.work(alloc, bytes, limit, &mut left) {
             Stage::Ended(answer) => {

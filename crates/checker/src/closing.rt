@@ -8,13 +8,11 @@ ghost use Rattle.pair_closure.specs.Progress.{SameData, begun, blank_held, has_e
 ghost use Rattle.certificate.specs.Pieces.{grid_of};
 ghost use Rattle.checker.specs.Rules.{Breaks, HeldObey};
 ghost use Rattle.checker.specs.Closings.{HavePairs, bound_of};
-ghost use Rattle.checker.specs.Units.{stage_units};
-ghost use Rattle.checker.specs.Views.{closing_units};
 ghost use Rattle.checker.specs.Answers.Answer.{Yes, Outcome, Limit};
 ghost use Rattle.checker.specs.Turns.{Phase};
 ghost use Rattle.checker.specs.Turns.Phase.{Closing as AtClosing, Ended as AtEnded};
 ghost use Rattle.checker.specs.Closes.{Closes};
-ghost use Rattle.checker.specs.Stages.{Carries, Pays, Comes};
+ghost use Rattle.checker.specs.Stages.{Carries, Comes};
 
 use crate::certified::Certified;
 use crate::lines::Lines;
@@ -162,7 +160,6 @@ impl<A: Room + Copy> Closing<A> {
         requires pairs { HavePairs sheet pairs.items }
         requires elements { ElementsObey sheet.code (claim_of sheet) (IsHeapUpTo (bound_of sheet)) }
         ensures value { result ≡ record { certificate = sheet; closure = begun (grid_of sheet) pairs.items limit } }
-        ensures units { closing_units result < stage_units }
     {
         let Sheet {
             code,
@@ -181,7 +178,6 @@ impl<A: Room + Copy> Closing<A> {
     /// Spends units until there are none or the stage ends.
     pub fn work(self, left: &mut u64) -> Stage<A>
         ensures carries { Carries self.certificate self.closure.state.limit result }
-        ensures pays { Pays (closing_units self + stage_units) left.old left.new result }
         ensures comes { (bytes : List ℕ) (limit : ℕ) → Comes bytes limit (AtClosing self) left.old left.new result }
     {
         let Closing {

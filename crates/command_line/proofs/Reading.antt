@@ -8,7 +8,8 @@ use Rattle.clap.specs.declared.error.kind.ErrorKind.{ErrorKind}
 use Rattle.clap.specs.declared.parser.matches.ArgMatches.{ArgMatches}
 use Rattle.clap.specs.declared.parser.matches.ArgMatches.TheViews.{out-ArgMatches, out-SubCommand}
 use Rattle.command_line.specs.Program.{program}
-use Rattle.command_line.specs.Requests.{Request, plan_of, request_in, unless_refused}
+use Rattle.command_line.specs.Requests.{plan_of, request_in, unless_refused}
+use Rattle.requests.specs.Requests.{Request}
 
 -- words that are taken ask for what their command asks for
 pub plan_of-taken : (words : List Text) → fault_of program words ≡ []

@@ -7,10 +7,7 @@ use Rattle.clap.specs.Words.{Row, Text, first_of}
 use Rattle.command_line.specs.declared.numbers.Bounds.{Bounds}
 use Rattle.command_line.specs.declared.numbers.Quantity.{Quantity}
 use Rattle.command_line.specs.declared.numbers.Quantity.TheVariants.{Limit, Rounds, Heaps, Order}
-
--- the limit of a check for which none is given
-abbrev pub default_limit : ℕ
-default_limit = 100000
+use Rattle.requests.specs.Requests.{default_limit}
 
 -- the range of each number, and what it is where none is given
 abbrev pub bounds_of : Quantity → Bounds

@@ -51,6 +51,10 @@ catalogue = command (codes "catalogue")
     (needed (codes "file") ∷ flag (codes "new") ∷ option (codes "add") ∷ option (codes "get")
     ∷ flag (codes "salvage") ∷ [])
 
+-- desk SCRIPT
+abbrev pub desk : App
+desk = command (codes "desk") (needed (codes "script") ∷ [])
+
 -- the program's name, which has a version
 abbrev pub misere : App
 misere = record (new_app (codes "misere")) {
@@ -58,7 +62,7 @@ misere = record (new_app (codes "misere")) {
 }
 
 abbrev pub commands : List App
-commands = check ∷ solve ∷ show ∷ play ∷ present ∷ catalogue ∷ []
+commands = check ∷ solve ∷ show ∷ play ∷ present ∷ catalogue ∷ desk ∷ []
 
 -- the whole command line
 abbrev pub program : App

@@ -6,10 +6,11 @@ use Rattle.clap.specs.Words.{Row, Text, IsAmong, first_of, fault_of, subcommand_
 use Rattle.clap.specs.declared.error.kind.ErrorKind.{ErrorKind}
 use Rattle.clap.specs.declared.error.kind.ErrorKind.TheVariants.{DisplayHelp, DisplayVersion}
 use Rattle.command_line.specs.Numbers.{number_of}
-use Rattle.command_line.specs.Plans.{HasNumbersWithin, request_of}
+use Rattle.command_line.specs.Plans.{HasNumbersWithin}
+use Rattle.requests.specs.Requests.{request_of}
 use Rattle.command_line.specs.Program.{program}
 use Rattle.command_line.specs.Requests.{Asking, command_named, is_set}
-use Rattle.command_line.specs.declared.plans.Plan.{Plan}
+use Rattle.requests.specs.declared.plans.Plan.{Plan}
 use Rattle.command_line.specs.declared.faults.UsageFault.{UsageFault}
 use Rattle.command_line.specs.declared.faults.UsageFault.TheVariants.{Memory, Help, Words, Number}
 use Rattle.command_line.specs.declared.faults.UsageFault.TheVariants.{Exclusive, Incomplete}

@@ -11,24 +11,9 @@ use Rattle.command_line.specs.Numbers.{number_of}
 use Rattle.command_line.specs.Program
 use Rattle.command_line.specs.Program.{program}
 use Rattle.command_line.specs.declared.numbers.Quantity.TheVariants.{Limit, Rounds, Heaps, Order}
-
--- what is asked of a catalogue
-pub data CatalogueRequest : Type 0 where
-  Print : CatalogueRequest
-  New : CatalogueRequest
-  Add : Text → CatalogueRequest
-  NewWith : Text → CatalogueRequest
-  Get : Text → CatalogueRequest
-  Salvage : CatalogueRequest
-
--- what is asked of the program
-pub data Request : Type 0 where
-  Check : Option Text → ℕ → Request
-  Solve : Text → ℕ → ℕ → ℕ → ℕ → Request
-  Show : Text → Request
-  Play : Text → Text → Request
-  Present : Text → Request
-  Catalogue : Text → CatalogueRequest → Request
+use Rattle.requests.specs.Requests.{CatalogueRequest, Request}
+use Rattle.requests.specs.Requests.CatalogueRequest.{Print, New, Add, NewWith, Get, Salvage}
+use Rattle.requests.specs.Requests.Request.{Check, Solve, Show, Play, Present, Catalogue, Desk}
 
 -- ---- what each command asks for with its arguments
 
@@ -88,6 +73,9 @@ catalogue_with _ _ = None
 abbrev pub catalogue_request : List Row → Option Request
 catalogue_request rows = catalogue_with (first_of (codes "file") rows) (task_in rows)
 
+abbrev pub desk_request : List Row → Option Request
+desk_request rows = option_map Desk (first_of (codes "script") rows)
+
 -- ---- the commands
 
 -- a command: what it is to `clap`, and what it asks for
@@ -113,8 +101,11 @@ present = record { app = Program.present; request = present_request }
 abbrev pub catalogue : Asking
 catalogue = record { app = Program.catalogue; request = catalogue_request }
 
+abbrev pub desk : Asking
+desk = record { app = Program.desk; request = desk_request }
+
 abbrev pub commands : List Asking
-commands = check ∷ solve ∷ show ∷ play ∷ present ∷ catalogue ∷ []
+commands = check ∷ solve ∷ show ∷ play ∷ present ∷ catalogue ∷ desk ∷ []
 
 abbrev pub command_named : Text → Option Asking
 command_named name = find (λ c. bytes_eq c.app.top.name name) commands

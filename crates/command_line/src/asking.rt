@@ -2,15 +2,16 @@
 ghost use Rattle.std.specs.Prelude.{◌≡◌, None, Some, true, IfOk, IfErr, option_map};
 ghost use Rattle.clap.specs.Words.{first_of};
 ghost use Rattle.command_line.specs.Numbers.{IsWithin, number_of};
-ghost use Rattle.command_line.specs.Plans.{HasNumbersWithin, catalogue_request_of, request_of};
+ghost use Rattle.command_line.specs.Plans.{HasNumbersWithin};
 ghost use Rattle.command_line.specs.Refusals.{Answers, IsMistakeIn, has_exclusive};
-ghost use Rattle.command_line.specs.Requests.{arguments_of, catalogue, check, is_set, play};
+ghost use Rattle.command_line.specs.Requests.{arguments_of, catalogue, check, desk, is_set, play};
 ghost use Rattle.command_line.specs.Requests.{present, request_in, show, solve, task_in};
+ghost use Rattle.requests.specs.Requests.{catalogue_request_of, request_of};
 
 use crate::faults::UsageFault;
 use crate::numbers::{Quantity, number_given};
-use crate::plans::{CatalogueTask, Plan};
 use clap::ArgMatches;
+use requests::{CatalogueTask, Plan};
 
 /// The value that was given under this name.
 fn value<'a>(given: &ArgMatches<'a>, name: &str) -> Option<&'a str>
@@ -125,6 +126,13 @@ fn catalogue_plan<'a>(given: &ArgMatches<'a>) -> Result<Plan<'a>, UsageFault>
     Ok(Plan::Catalogue { file, task })
 }
 
+fn desk_plan<'a>(given: &ArgMatches<'a>) -> Result<Plan<'a>, UsageFault>
+    ensures { Answers desk (arguments_of given.now) result }
+{
+    let script = needed(given, "script")?;
+    Ok(Plan::Desk { script })
+}
+
 /// What the command of this name asks for with its arguments.
 pub(crate) fn command_plan<'a>(name: &str, given: &ArgMatches<'a>) -> Result<Plan<'a>, UsageFault>
     ensures asked { IfOk result (λ plan. request_in (Some (name.now, arguments_of given.now))
@@ -141,6 +149,7 @@ pub(crate) fn command_plan<'a>(name: &str, given: &ArgMatches<'a>) -> Result<Pla
         "play" => play_plan(given),
         "present" => present_plan(given),
         "catalogue" => catalogue_plan(given),
+        "desk" => desk_plan(given),
         _ => Err(UsageFault::Incomplete),
     }
 }

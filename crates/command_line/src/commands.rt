@@ -1,7 +1,7 @@
 //! The commands and their arguments, as `clap` reads them.
 ghost use Rattle.std.specs.Prelude.{◌≡◌, IfOk, codes, false};
 ghost use Rattle.clap.specs.Words.{app_of, new_app, rule_of};
-ghost use Rattle.command_line.specs.Program.{catalogue, check, flag, misere, needed, option};
+ghost use Rattle.command_line.specs.Program.{catalogue, check, desk, flag, misere, needed, option};
 ghost use Rattle.command_line.specs.Program.{optional, play, present, program, show, solve};
 
 use clap::{Arg, ArgAction, Command};
@@ -137,6 +137,15 @@ fn catalogue_command<'a>(alloc: Global) -> Result<Command<'a>, AllocError>
         .arg(flag(alloc, "salvage", salvage))
 }
 
+fn desk_command<'a>(alloc: Global) -> Result<Command<'a>, AllocError>
+    ensures { IfOk result (λ c. app_of c ≡ desk) }
+{
+    let about = "Take the steps of a script, many checks at one desk, and print a line for each";
+    let script =
+        "The file of the script, with steps such as 'open 1 FILE 100000' or 'work 1 1 1000'";
+    command(alloc, "desk", about).arg(needed(alloc, "script", "SCRIPT", script))
+}
+
 /// The program's name, version and purpose.
 fn misere_command<'a>(alloc: Global) -> Command<'a>
     ensures { app_of result ≡ misere }
@@ -155,11 +164,13 @@ pub fn program_command<'a>(alloc: Global) -> Result<Command<'a>, AllocError>
     let play = play_command(alloc)?;
     let present = present_command(alloc)?;
     let catalogue = catalogue_command(alloc)?;
+    let desk = desk_command(alloc)?;
     misere_command(alloc)
         .subcommand(check)?
         .subcommand(solve)?
         .subcommand(show)?
         .subcommand(play)?
         .subcommand(present)?
-        .subcommand(catalogue)
+        .subcommand(catalogue)?
+        .subcommand(desk)
 }

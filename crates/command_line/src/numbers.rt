@@ -4,6 +4,8 @@ ghost use Rattle.std.specs.Prelude.{option_map};
 ghost use Rattle.command_line.specs.Numbers.{IsWithin, bounds_of, name_of, number_in};
 ghost use Rattle.command_line.specs.Numbers.{number_within};
 
+use requests::DEFAULT_LIMIT;
+
 /// A number that an option takes.
 #[derive(Clone, Copy, Debug, PartialEq, Eq)]
 pub enum Quantity {
@@ -24,9 +26,6 @@ pub struct Bounds {
     pub most: u32,
     pub default: u32,
 }
-
-/// The limit of a check for which none is given.
-pub const DEFAULT_LIMIT: u32 = 100000;
 
 impl Quantity {
     /// The range and the default.

@@ -1,17 +1,18 @@
 //! What the words of a command line ask for.
 ghost use Rattle.std.specs.Prelude.{◌≡◌, ◌≢◌, [], Some, None, IfOk, IfErr, map};
 ghost use Rattle.clap.specs.Words.{fault_of, kind_of, subcommand_of, subcommand_rows_of};
-ghost use Rattle.command_line.specs.Plans.{HasNumbersWithin, request_of};
+ghost use Rattle.command_line.specs.Plans.{HasNumbersWithin};
 ghost use Rattle.command_line.specs.Program.{program};
 ghost use Rattle.command_line.specs.Refusals.{IsOfKind, IsTrueOf};
 ghost use Rattle.command_line.specs.Requests.{plan_of};
+ghost use Rattle.requests.specs.Requests.{request_of};
 
 use crate::asking::command_plan;
 use crate::commands::program_command;
 use crate::faults::UsageFault;
-use crate::plans::Plan;
 use clap::ArgMatches;
 use clap::error::ErrorKind;
+use requests::Plan;
 use std::alloc::Global;
 
 fn refused(alloc: Global, e: &clap::Error) -> UsageFault

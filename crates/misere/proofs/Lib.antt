@@ -1,4 +1,1 @@
-mod Going
-mod Monoid
 mod Outcomes
-mod Printed

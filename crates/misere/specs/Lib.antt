@@ -1,6 +1,1 @@
 pub mod Ends
-pub mod Presented
-pub mod Says
-pub mod Shown
-pub mod Stops
-pub mod Texts

@@ -1,11 +1,14 @@
 //! The program's words, and the status that it ends with.
 ghost use Rattle.std.specs.Prelude.{◌≡◌, ◌≢◌, map};
 ghost use Rattle.std.specs.Process.{exit_status};
-ghost use Rattle.misere.specs.Ends.{Ends, Tells, printer, scene};
-ghost use Rattle.misere.specs.Stops.{failed, stop_line, stop_status};
+ghost use Rattle.command_results.specs.Printers.{Tells, printer};
+ghost use Rattle.command_results.specs.Stops.{stop_line, stop_status};
+ghost use Rattle.commands.specs.Causes.{failed};
+ghost use Rattle.commands.specs.Obeys.{scene};
+ghost use Rattle.misere.specs.Ends.{Ends};
 
-use crate::stop::Stop;
 use crate::whole_run::run;
+use command_results::Stop;
 use folders::Folder;
 use std::alloc::Global;
 use std::convert::AsStr;

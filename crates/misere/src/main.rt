@@ -1,18 +1,7 @@
 // The program: its words, the machine's files and its streams go to one whole run.
 #![tactic(auto)]
 
-mod cataloguing;
-mod certifying;
-mod checking;
 mod ending;
-mod files;
-mod playing;
-mod presenting;
-mod said;
-mod showing;
-mod solving;
-mod stop;
-mod telling;
 #[cfg(test)]
 mod tests;
 mod whole_run;

@@ -1,11 +1,13 @@
 //! Tables of products whose laws were checked.
-ghost use Rattle.std.specs.Prelude.{◌≡◌, ◌<◌, ◌≤◌, ◌↔◌, ℕ, All, IfOk, IsOk, Err, length, slice_index};
+ghost use Rattle.std.specs.Prelude.{◌≡◌, ◌<◌, ◌≤◌, ◌↔◌, ℕ, List, All, IfOk, IsOk, Err, length, slice_index};
+ghost use Rattle.std.specs.List.Sorted.{IsPermutation};
 ghost use Rattle.misere_theory.specs.Quotients.{LawFails, Monoid};
 ghost use Rattle.monoid_table.specs.Grids.{IsShaped, IsTable, entry, times_in};
+ghost use Rattle.monoid_table.specs.Laws.{power_of, product_of};
 
 use crate::fault::LawFault;
 use crate::job::TableJob;
-use crate::monoid::CommMonoid;
+use crate::monoid::{CommMonoid, power, product};
 use crate::triples::{entry_at, row_at};
 use std::alloc::{Allocator, Global};
 use std::marker::Model;
@@ -76,6 +78,25 @@ impl<A: Allocator> Table<A> {
         ensures within { All (λ e. e < self.now.order) result.now }
     {
         row_at(&self.rows, self.order as usize, x as usize)
+    }
+
+    /// The product of the elements, which doesn't depend on their order.
+    pub fn product(&self, elements: &[u16]) -> u16
+        requires { All (λ e. e < self.now.order) elements.now }
+        ensures value { result ≡ product_of 0 (times_in self.now) elements.now }
+        ensures any_order { (others : List ℕ) → IsPermutation elements.now others → result ≡ product_of 0 (times_in self.now) others }
+        ensures within { result < self.now.order }
+    {
+        product(self, elements)
+    }
+
+    /// The product of `count` times the element.
+    pub fn power(&self, x: u16, count: u64) -> u16
+        requires { x < self.now.order }
+        ensures value { result ≡ power_of 0 (times_in self.now) x count }
+        ensures within { result < self.now.order }
+    {
+        power(self, &x, count)
     }
 
     /// The rows, as `new` was given them.

@@ -3,8 +3,6 @@
 
 mod code;
 mod fault;
-#[cfg(test)]
-mod tests;
 
 pub use code::Code;
 pub use fault::CodeFault;

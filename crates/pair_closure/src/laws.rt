@@ -7,6 +7,7 @@ ghost use Rattle.transition_algebra.specs.Pairs.{IsPair};
 ghost use Rattle.pair_closure.specs.Turns as turning;
 ghost use Rattle.pair_closure.specs.Progress.{Progress, SameData, begun, moved, turns, steps, has_ended};
 ghost use Rattle.pair_closure.specs.Calls.{Takes, cost, retaken};
+ghost use Rattle.pair_closure.specs.Keeping.{KeepsOne};
 ghost use Rattle.pair_closure.specs.Positions.{Speaks, IsMinimal};
 
 /// What turns from the start reach speaks of positions, whatever claim the table and the pairs are those of.
@@ -53,10 +54,11 @@ pub fn closures_cost()
 {}
 
 /// A turn that is left leads from what a closure's turns have reached to what one more reaches, of the same table, pairs
-/// and limit. The turns before it are fewer than all.
+/// and limit. The turns before it are fewer than all. A turn keeps one member at most, and holds no other pair that wasn't held.
 pub fn closures_go_on()
     ensures on { (p : Progress) → p ≡ retaken p → has_ended p.state ≡ false → moved p ≡ retaken (moved p) }
     ensures data { (p : Progress) → SameData p.state (moved p).state }
+    ensures kept { (p : Progress) → KeepsOne p.state (moved p).state }
     ensures left { (p : Progress) → p ≡ retaken p → has_ended p.state ≡ false
         → p.spent < cost p.state.table p.state.heaps p.state.limit }
 {}

@@ -1,8 +1,12 @@
-//! The least period of a list of elements.
+//! Periods of lists of elements.
 #![tactic(auto)]
 
 ghost use Rattle.std.specs.Prelude.{◌≡◌, ◌≤◌, ◌<◌, ◌+◌, ◌↔◌, ℕ, length, IfSome, IsNone};
 ghost use Rattle.periods.specs.Periods.{HasNoPeriod, IsLeastPeriod, RepeatsFrom};
+
+mod evidence;
+
+pub use evidence::{is_shown, likely_period};
 
 /// The least period of the entries e1, e2, .., and the least start from which on they have it: over the starts s and periods p from 1
 /// on for which e(i + p) = e(i) from s to the end, and which show the period twice, the least p, and then the least s. `None` exactly

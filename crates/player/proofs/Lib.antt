@@ -3,3 +3,4 @@ mod Order
 mod Beside
 mod Answered
 mod Few
+mod OneAnswer

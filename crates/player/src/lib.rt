@@ -2,14 +2,14 @@
 #![tactic(auto)]
 
 mod answering;
+mod laws;
 mod looking;
 mod play;
-#[cfg(test)]
-mod tests;
 mod values;
 mod wins;
 
 pub use answering::Answer;
+pub use laws::right_answers_are_one;
 pub use outcome_search::Outcome;
 pub use play::{answer, looks, outcome, value};
 pub use positions::Options as Looks;

@@ -1,8 +1,7 @@
 //! The proposer that solves heap by heap, and learns from positions.
-use crate::drafts::Drafts;
-use crate::guess::Guess;
 use allocation::Memory;
 use checker::Refusal;
+use drafts::{Drafts, Guess};
 use octal_code::Code;
 use quotient_finder::Proposer;
 use quotient_solver::{Guess as Solved, Solver};

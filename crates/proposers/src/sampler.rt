@@ -1,10 +1,10 @@
 //! The proposer that groups sampled positions by their outcomes.
-use crate::drafts::Drafts;
-use crate::sample::sampled;
 use allocation::Memory;
 use checker::Refusal;
+use drafts::Drafts;
 use octal_code::Code;
 use quotient_finder::Proposer;
+use samples::sampled;
 use std::alloc::Global;
 
 /// Drafts what a small sample of positions suggests.

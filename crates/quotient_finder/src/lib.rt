@@ -14,6 +14,3 @@ pub use gave_up::GaveUp;
 pub use limits::Limits;
 pub use proposer::Proposer;
 pub use rounds::find;
-
-#[cfg(test)]
-mod tests;

@@ -1,5 +1,5 @@
 -- The shape of a guessed quotient. This project's own.
-use Rattle.std.specs.Prelude.{◌≡◌, ◌*◌, ◌+◌, ◌<◌, ◌≤◌, ℕ, List, length, slice_index, All, Bool}
+use Rattle.std.specs.Prelude.{◌≡◌, ◌*◌, ◌<◌, ◌≤◌, ℕ, List, length, All, Bool}
 
 -- Products in flat rows of an order, a mark for each element, and the elements of the heaps 1, 2, .., of which there are at most so many.
 pub record IsWellFormed (order : ℕ) (products : List ℕ) (lost : List Bool) (heaps : List ℕ) (most : ℕ) : Type 0 where
@@ -9,7 +9,3 @@ pub record IsWellFormed (order : ℕ) (products : List ℕ) (lost : List Bool) (
   pub marked : length lost ≡ order
   pub few : length heaps ≤ most
   pub heaps_below : All (λ x. x < order) heaps
-
--- From the heap `start` on, the elements of the heaps 1, 2, .. repeat after so many heaps, as far as the list goes.
-abbrev pub Repeats : List ℕ → ℕ → ℕ → Type 0
-Repeats heaps start period = (i : ℕ) → start ≤ i + 1 → i + period < length heaps → slice_index heaps i ≡ slice_index heaps (i + period)

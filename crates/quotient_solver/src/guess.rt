@@ -1,11 +1,11 @@
 //! A guessed quotient.
 ghost use Rattle.std.specs.Prelude.{◌≡◌, ◌*◌, ◌<◌, ◌≤◌, length, All, IfOk, IfSome};
-ghost use Rattle.quotient_solver.specs.Guesses.{IsWellFormed, Repeats};
+ghost use Rattle.periods.specs.Evidence.{Repeats};
+ghost use Rattle.quotient_solver.specs.Guesses.{IsWellFormed};
 
-use crate::cells::at;
-use crate::evidence::{is_shown, likely_period};
-use crate::quotient::Quotient;
 use allocation::Memory;
+use periods::{is_shown, likely_period};
+use quotient_search::Quotient;
 use std::alloc::{Allocator, Global};
 
 /// A guessed quotient of a game restricted to the heaps 1 to `heaps.len()`. The identity is element
@@ -53,7 +53,8 @@ fn numbers_below<A: Allocator + Copy>(
 {
     let mut numbers: Vec<u16, A> = Vec::new(alloc);
     for place in 0..count {
-        numbers.push(below(at(cells, place), order))?;
+        let number = cells.get(place).copied().unwrap_or(0);
+        numbers.push(below(number as usize, order))?;
     }
     Ok(numbers)
 }
@@ -83,20 +84,20 @@ pub fn guess_of<A: Allocator + Copy>(
     ensures formed { IfOk result (λ found. IfSome found (λ g. IsWellFormed g.order g.products.items g.lost.items g.heaps.items most)) }
     ensures repeats { IfOk result (λ found. IfSome found (λ g. Repeats g.heaps.items g.start g.period)) }
 {
-    let order = quotient.order;
+    let order = quotient.order();
     let Some(size) = order.checked_mul(order) else {
         return Ok(None);
     };
-    let count = quotient.heaps.len();
+    let count = quotient.heaps().len();
     if order == 0 || count > most {
         return Ok(None);
     }
-    let heaps = numbers_below(alloc, &quotient.heaps, count, order)?;
+    let heaps = numbers_below(alloc, quotient.heaps(), count, order)?;
     let (start, period) = likely_period(&heaps, last).unwrap_or((0, 0));
     let shown = is_shown(&heaps, start, period, last);
     Ok(Some(Guess {
         order,
-        products: numbers_below(alloc, &quotient.products, size, order)?,
+        products: numbers_below(alloc, quotient.products(), size, order)?,
         lost: marks(alloc, quotient, order)?,
         heaps,
         start,

@@ -1,13 +1,13 @@
 //! The solver.
 ghost use Rattle.std.specs.Prelude.{◌≡◌, IfOk, IfSome, min, max};
-ghost use Rattle.quotient_solver.specs.Guesses.{IsWellFormed, Repeats};
+ghost use Rattle.periods.specs.Evidence.{Repeats};
+ghost use Rattle.quotient_solver.specs.Guesses.{IsWellFormed};
 
 use crate::guess::{Guess, guess_of};
-use crate::search::search;
-use crate::work::Halt;
 use allocation::{Memory, Room};
 use octal_code::Code;
 use positions::Position;
+use quotient_search::find_quotient;
 use std::alloc::Global;
 use std::marker::Model;
 
@@ -38,6 +38,17 @@ fn is_asked(asked: &Option<Code>, code: &Code) -> bool {
     match asked {
         Some(last) => (0..17u64).all(|j| last.digit(j) == code.digit(j)),
         None => false,
+    }
+}
+
+/// The guess that a search comes to, if it comes to one.
+fn guessed<A: Room + Copy>(alloc: A, code: &Code, most: usize) -> Result<Option<Guess<A>>, Memory>
+    ensures formed { IfOk result (λ found. IfSome found (λ g. IsWellFormed g.order g.products.items g.lost.items g.heaps.items most)) }
+    ensures repeats { IfOk result (λ found. IfSome found (λ g. Repeats g.heaps.items g.start g.period)) }
+{
+    match find_quotient(alloc, code, most)? {
+        Some(quotient) => guess_of(alloc, &quotient, most, code.last() as usize),
+        None => Ok(None),
     }
 }
 
@@ -72,12 +83,7 @@ impl<A: Room + Copy> Solver<A> {
     {
         self.wrong = self.wrong && is_asked(&self.asked, code);
         self.asked = Some(*code);
-        let quotient = match search(self.alloc, code, self.most) {
-            Ok(quotient) => quotient,
-            Err(Halt::Memory) => return Err(Memory),
-            Err(Halt::GaveUp) => return Ok(None),
-        };
-        let guess = guess_of(self.alloc, &quotient, self.most, code.last() as usize)?;
+        let guess = guessed(self.alloc, code, self.most)?;
         Ok(guess.filter(|guess| guess.shown || !self.wrong))
     }
 

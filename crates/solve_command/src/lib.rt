@@ -9,6 +9,3 @@ mod stop;
 pub use bounds::SolveBounds;
 pub use solving::solve;
 pub use stop::SolveStop;
-
-#[cfg(test)]
-mod tests;

@@ -22,6 +22,19 @@ yes_line code order start period =
 abbrev pub no_line : ℕ → List ℕ → List ℕ
 no_line number name = codes "no " ++ decimal number ++ codes " " ++ name ++ codes "\n"
 
+-- The first line of an answer's text: yes with what was certified, or no with the number and the name.
+abbrev pub first_line : Answer → List ℕ
+first_line (Yes c) = yes_line c.code c.order c.start c.period
+first_line Text = no_line 1 (codes "Text")
+first_line Law = no_line 2 (codes "Law")
+first_line Word = no_line 3 (codes "Word")
+first_line Order = no_line 4 (codes "Order")
+first_line Period = no_line 5 (codes "Period")
+first_line Apart = no_line 6 (codes "Apart")
+first_line (Outcome code X) = no_line 7 (codes "Outcome")
+first_line Limit = no_line 8 (codes "Limit")
+first_line Memory = no_line 9 (codes "Memory")
+
 -- The third line of a refused outcome: the misère outcome of the position, where 65536 positions settle it, or that it isn't known,
 -- which stands only where more than 65536 positions can be reached.
 pub data IsOutcomeLine (code X : List ℕ) : List ℕ → Type 0 where

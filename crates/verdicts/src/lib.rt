@@ -4,9 +4,6 @@
 mod lines;
 mod stream;
 
-pub use lines::verdict_text;
+pub use lines::{verdict_line, verdict_text};
 pub use stream::{MOST_BYTES, check_bytes, check_stream};
 pub use streams::StreamFault;
-
-#[cfg(test)]
-mod tests;

@@ -2,7 +2,7 @@
 ghost use Rattle.std.specs.Prelude.{◌≡◌, ◌++◌, IfOk, codes};
 ghost use Rattle.std.specs.String.{string_bytes};
 ghost use Rattle.checker.specs.Answers.Answer.{Outcome as Refuted};
-ghost use Rattle.verdicts.specs.Lines.{yes_line, no_line, IsOutcomeLine, IsTextOf, lent_answer};
+ghost use Rattle.verdicts.specs.Lines.{yes_line, no_line, first_line, IsOutcomeLine, IsTextOf, lent_answer};
 
 use allocation::{Memory, Room};
 use certificate::Cert;
@@ -73,6 +73,19 @@ fn outcome_text<A: Room + Copy>(
     let place = position.text()?;
     let line = outcome_line(alloc, code, position)?;
     three_lines(alloc, first.as_str(), place.as_str(), line)
+}
+
+/// The first line of the text of a verdict. Want of memory has one here, which stands in no text.
+pub fn verdict_line<A: Room + Copy>(
+    alloc: A,
+    verdict: Result<&Certified<A>, &Refusal<A>>,
+) -> Result<String<A>, Memory>
+    ensures { IfOk result (λ t. string_bytes t ≡ first_line (lent_answer verdict.entry)) }
+{
+    match verdict {
+        Ok(certified) => yes_text(alloc, certified.cert()),
+        Err(refusal) => no_text(alloc, refusal.number(), refusal.name()),
+    }
 }
 
 /// The text of a verdict: one line, and two more where a position refutes the certificate. Want of memory has no text, and is

@@ -1,87 +1,36 @@
-//! Files in memory, and streams that fail or are long.
-ghost use Rattle.std.specs.Prelude.{None};
-
-use super::certificates::CERTIFICATES;
+//! Files in memory, and words that may be no text.
 use allocation::Memory;
 use folders::MemoryFolder;
 use std::alloc::Global;
 use std::env::FillError;
 use std::rt::Env;
-use streams::{DeviceFault, Failures, Sink, Source};
 
-/// The bytes of a sample certificate.
-pub fn sample(name: &str) -> Result<&'static [u8], &'static str> {
-    for (kept, text) in CERTIFICATES {
-        if kept == name {
-            return Ok(text.as_bytes());
-        }
-    }
-    Err("no such sample")
-}
+/// The quotients of 0.3 and of 0.33.
+pub const SMALLEST: &str =
+    "mqc 1\ncode 0.3\norder 2\nstart 1\nperiod 2\nphi 1 0\nportion 1\nwords 0:1\nrow 0 1\nrow 1 0\napart 0\nend\n";
 
-/// A folder of the sample certificates, of which one call fails.
+pub const SAMPLE: &str =
+    "mqc 1\ncode 0.33\norder 6\nstart 1\nperiod 3\nphi 1 2 0\nportion 1 4\nwords 0:1 0:2 1:2 2:2 3:2\nrow 0 1 2 3 4 5\nrow 1 0 3 2 5 4\nrow 2 3 4 5 2 3\nrow 3 2 5 4 3 2\nrow 4 5 2 3 4 5\nrow 5 4 3 2 5 4\napart 0 1 1 0 4 0 0 4 0 2 0 1 0 1 0\nend\n";
+
+/// The catalogue of the first.
+pub const ONE_ENTRY: &str =
+    "{\"entries\":[{\"certificate\":\"mqc 1\\ncode 0.3\\norder 2\\nstart 1\\nperiod 2\\nphi 1 0\\nportion 1\\nwords 0:1\\nrow 0 1\\nrow 1 0\\napart 0\\nend\\n\",\"code\":\"0.3\"}],\"version\":1}\n";
+
+pub const EMPTY: &str = "{\"entries\":[],\"version\":1}\n";
+
+/// A folder of two certificates, a text that is none, and a catalogue; this call of it fails.
 pub fn samples(alloc: Global, failing: u64) -> Result<MemoryFolder, Memory> {
     let mut folder = MemoryFolder::failing(alloc, failing);
-    for (name, text) in CERTIFICATES {
+    let files = [
+        ("0.3.mqc", SMALLEST),
+        ("0.33.mqc", SAMPLE),
+        ("text_crlf.mqc", "mqc 1\r\n"),
+        ("x.json", ONE_ENTRY),
+    ];
+    for (name, text) in files {
         folder.put(name, text.as_bytes())?;
     }
     Ok(folder)
-}
-
-/// A device that always fails.
-#[derive(Drop)]
-pub struct Broken {
-    failed: Failures,
-}
-
-impl Broken {
-    pub fn new() -> Broken {
-        Broken {
-            failed: Failures::new(),
-        }
-    }
-}
-
-impl Source for Broken {
-    ghost left = { λ _. None };
-
-    ghost failures = { λ s. s.failed.count };
-
-    fn read(&mut self, buf: &mut [u8]) -> Result<usize, DeviceFault> {
-        let _ = buf;
-        self.failed.add();
-        Err(DeviceFault)
-    }
-}
-
-impl Sink for Broken {
-    ghost taken = { λ _. None };
-
-    ghost failures = { λ s. s.failed.count };
-
-    fn write(&mut self, bytes: &[u8]) -> Result<usize, DeviceFault> {
-        let _ = bytes;
-        self.failed.add();
-        Err(DeviceFault)
-    }
-}
-
-/// Some number of bytes, all of them zero.
-#[derive(Drop)]
-pub struct Many {
-    pub left: usize,
-}
-
-impl Source for Many {
-    ghost left = { λ _. None };
-
-    ghost failures = { λ _. 0 };
-
-    fn read(&mut self, buf: &mut [u8]) -> Result<usize, DeviceFault> {
-        let n = self.left.min(buf.len());
-        self.left -= n;
-        Ok(n)
-    }
 }
 
 /// Words of a machine, which may be no text.

@@ -1,4 +1,5 @@
-use Rattle.checker.proofs.FallLemmas.{falls, bound_is_few, cost_most, cost_ends, spent_is, within_bound, yes_costs, closures_fewer}
+use Rattle.checker.proofs.FallLemmas.{falls, bound_is_few, cost_most, cost_ends, spent_is, within_bound, spent_before, yes_costs, closures_fewer}
+use Rattle.checker.proofs.CostLemmas.{some_cost}
 use Rattle.checker.proofs.turns.checks_end.Goals as goal
 
 pub returns-clause-falls : goal.returns-clause-falls
@@ -22,3 +23,9 @@ returns-clause-within c = λ bytes limit n p. within_bound bytes limit c.reading
 
 pub returns-clause-least : goal.returns-clause-least
 returns-clause-least c = λ bytes limit d. yes_costs bytes limit c.reading_is_spelling.ensures.ranges c.heap_jobs_end.ensures.cost (closures_fewer c.closures_cost.ensures.bound c.closures_cost.ensures.ends) d
+
+pub returns-clause-some : goal.returns-clause-some
+returns-clause-some c = λ bytes limit. some_cost bytes limit
+
+pub returns-clause-before : goal.returns-clause-before
+returns-clause-before c = λ bytes limit n p. spent_before bytes limit c.reading_is_spelling.ensures.ranges c.heap_jobs_end.ensures.cost (closures_fewer c.closures_cost.ensures.bound c.closures_cost.ensures.ends) n p

@@ -24,25 +24,28 @@ passed false x rest e r = r
 -- a name that is none of the commands' names no command
 unnamed : (name : Text) → (name ≡ codes "check" → ⊥) → (name ≡ codes "solve" → ⊥)
     → (name ≡ codes "show" → ⊥) → (name ≡ codes "play" → ⊥)
-    → (name ≡ codes "present" → ⊥) → (name ≡ codes "catalogue" → ⊥) → command_named name ≡ None
-unnamed name check solve show play present catalogue =
+    → (name ≡ codes "present" → ⊥) → (name ≡ codes "catalogue" → ⊥)
+    → (name ≡ codes "desk" → ⊥) → command_named name ≡ None
+unnamed name check solve show play present catalogue desk =
     passed _ _ _ (other name (codes "check") check)
     (passed _ _ _ (other name (codes "solve") solve)
     (passed _ _ _ (other name (codes "show") show)
     (passed _ _ _ (other name (codes "play") play)
     (passed _ _ _ (other name (codes "present") present)
-    (passed _ _ _ (other name (codes "catalogue") catalogue) refl)))))
+    (passed _ _ _ (other name (codes "catalogue") catalogue)
+    (passed _ _ _ (other name (codes "desk") desk) refl))))))
 
 pub returns-in_default-clause-nothing : goal.returns-in_default-clause-nothing
 returns-in_default-clause-nothing c =
     ap (option_and_then (λ (a : Asking). a.request (rows_of (found_of c.args.given.now))))
     (unnamed c.args.name.now c.in_default.not-check c.in_default.not-solve c.in_default.not-show
     c.in_default.not-play c.in_default.not-present
-    c.in_default.not-catalogue)
+    c.in_default.not-catalogue c.in_default.not-desk)
 
 pub returns-in_default-clause-fault : goal.returns-in_default-clause-fault
 returns-in_default-clause-fault c =
     subst (λ (a : Option Asking). IsMistakeOf a (rows_of (found_of c.args.given.now)) Incomplete)
     (sym (unnamed c.args.name.now c.in_default.not-check c.in_default.not-solve
     c.in_default.not-show c.in_default.not-play
-    c.in_default.not-present c.in_default.not-catalogue)) refl
+    c.in_default.not-present c.in_default.not-catalogue
+    c.in_default.not-desk)) refl

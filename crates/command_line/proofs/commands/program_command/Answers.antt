@@ -14,5 +14,7 @@ returns c =
     let play = with_command _ _ _ _ _ show c.in_ok-play.ensures refl c.in_ok-subcommand-4.ensures in
     let present = with_command _ _ _ _ _ play c.in_ok-present.ensures refl
     c.in_ok-subcommand-5.ensures in
-    IfOk-weaker _ _ _ (λ new h. with_command _ _ new _ _ present c.in_ok-catalogue.ensures refl h)
-    c.subcommand-6.ensures
+    let catalogue = with_command _ _ _ _ _ present c.in_ok-catalogue.ensures refl
+    c.in_ok-subcommand-6.ensures in
+    IfOk-weaker _ _ _ (λ new h. with_command _ _ new _ _ catalogue c.in_ok-desk.ensures refl h)
+    c.subcommand-7.ensures

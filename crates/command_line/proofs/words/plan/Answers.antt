@@ -1,11 +1,11 @@
 use Rattle.std.proofs.Common.{◌≡◌, ◌≢◌, ◌∙◌, ap, sym, subst, Bor, ℕ, List, Option, Some, None}
 use Rattle.std.proofs.Common.{IfErr, IfOk, Result, Ok, Err, map}
 use Rattle.clap.specs.Words.{found_of, rows_of}
-use Rattle.command_line.specs.Plans.{request_of}
-use Rattle.command_line.specs.Requests.{Request, request_in}
+use Rattle.command_line.specs.Requests.{request_in}
+use Rattle.requests.specs.Requests.{Request, request_of}
 use Rattle.command_line.specs.declared.faults.UsageFault.{UsageFault}
 use Rattle.command_line.specs.declared.faults.UsageFault.TheVariants.{Memory}
-use Rattle.command_line.specs.declared.plans.Plan.{Plan}
+use Rattle.requests.specs.declared.plans.Plan.{Plan}
 use Rattle.command_line.proofs.Reading.{entered, none_entered, plan_of-taken}
 use Rattle.command_line.proofs.words.plan.Goals as goal
 

@@ -1,5 +1,5 @@
 use Rattle.std.proofs.Common.{rules, refl, arith, Bor, ℕ, List, map}
-use Rattle.command_line.specs.Plans.{request_of}
+use Rattle.requests.specs.Requests.{request_of}
 use Rattle.command_line.specs.declared.faults.UsageFault.TheVariants.{Help, Words, Number, Exclusive, Incomplete}
 use Rattle.misere.specs.Ends.Ends.{Asked, Helped, Refused}
 use Rattle.misere.proofs.Outcomes.{known_as, no_request}

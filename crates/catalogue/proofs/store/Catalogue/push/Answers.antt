@@ -1,38 +1,30 @@
-use Rattle.std.proofs.Common.{◌≡◌, ℕ, List, [], ◌∷◌, ◌++◌, nat_eq, sym, ap, subst, ◌∙◌}
-use Rattle.std.specs.Cmp.Lexicographic.{pointwise}
+use Rattle.std.proofs.Common.{◌≡◌, [], ◌∷◌, ◌++◌, sym, ap, subst, ◌∙◌}
 use Rattle.std.specs.Map.{values_of}
-use Rattle.indexmap.proofs.CallerLemmas.{insert_entry-new}
-use Rattle.misere_theory.specs.Certificates.{Certificate}
 use Rattle.misere_theory.specs.Games.{IsOctalCode}
 use Rattle.catalogue.specs.Entries.{HasCode}
 use Rattle.catalogue.specs.Keys.{IsKeyOf, AreKeyed}
-use Rattle.catalogue.proofs.StoreLemmas.{held_push, not_found, values_push}
+use Rattle.catalogue.proofs.StoreLemmas.{Held, either, held_push, not_found, values_push, within}
 use Rattle.catalogue.proofs.store.Catalogue.push.Goals as goal
 
-module _ (c : goal.Joined-insert-2) where
-  abbrev es : List (List ℕ × Certificate)
-  es = c.self.inside.entries.entries
-
-  abbrev k : List ℕ
-  k = c.key_of-key.result
-
-  code_is : c.code.result.now ≡ c.args.certified.code
-  code_is = c.code.ensures ∙ ap (λ x. x.code) c.cert.ensures.same
-
-  key : IsKeyOf k c.args.certified.code
-  key = subst (IsKeyOf k) code_is c.key_of-key.ensures.key
-
-  octal : IsOctalCode c.args.certified.code
-  octal = subst IsOctalCode code_is c.key_of-key.ensures.code
-
-  none : HasCode (values_of es) c.args.certified.code → ⊥
-  none = subst (λ cs. HasCode cs c.args.certified.code → ⊥) (sym c.self.view_is) c.requires
-
-  entries_are : c.insert.new.self.entries ≡ es ++ (k, c.args.certified) ∷ []
-  entries_are = c.in-Ok.ensures.entries ∙ insert_entry-new (pointwise nat_eq) c.self.inside.entries k c.args.certified (not_found k c.args.certified.code es octal key c.self.invariant.keyed none)
+pub append-requires : goal.append-requires
+append-requires c =
+    let code : c.code.result.now ≡ c.args.certified.code = c.code.ensures ∙ ap (λ x. x.code) c.cert.ensures.same in
+    not_found c.key_of-key.result c.args.certified.code c.self.inside.entries.entries (subst IsOctalCode code c.key_of-key.ensures.code)
+    (subst (IsKeyOf c.key_of-key.result) code c.key_of-key.ensures.key) c.self.invariant.keyed
+    (subst (λ cs. HasCode cs c.args.certified.code → ⊥) (sym c.self.view_is) c.requires)
 
 pub invariant_of-self : goal.invariant_of-self
-invariant_of-self c = subst AreKeyed (sym (entries_are c)) (held_push (es c) (k c) c.args.certified c.self.invariant (key c) (octal c) c.cert.ensures.accepted (none c))
+invariant_of-self c =
+    let es = c.self.inside.entries.entries in
+    let e : Held = (c.key_of-key.result, c.args.certified) in
+    let code : c.code.result.now ≡ c.args.certified.code = c.code.ensures ∙ ap (λ x. x.code) c.cert.ensures.same in
+    either c.append.result AreKeyed es (es ++ e ∷ []) c.append.new.entries.entries c.append.ensures.last c.append.ensures.unchanged c.self.invariant
+    (held_push es c.key_of-key.result c.args.certified c.self.invariant (subst (IsKeyOf c.key_of-key.result) code c.key_of-key.ensures.key)
+    (subst IsOctalCode code c.key_of-key.ensures.code) c.cert.ensures.accepted (subst (λ cs. HasCode cs c.args.certified.code → ⊥) (sym c.self.view_is) c.requires))
 
-pub returns-in-Ok-clause-added : goal.returns-in-Ok-clause-added
-returns-in-Ok-clause-added c = ap values_of (entries_are c) ∙ values_push (es c) (k c, c.args.certified) ∙ ap (λ cs. cs ++ c.args.certified ∷ []) c.self.view_is
+pub returns-clause-added : goal.returns-clause-added
+returns-clause-added c =
+    let es = c.self.inside.entries.entries in
+    let e : Held = (c.key_of-key.result, c.args.certified) in
+    within c.append.result (c.append.new.entries.entries ≡ es ++ e ∷ []) (values_of c.append.new.entries.entries ≡ c.args.self.now ++ c.args.certified ∷ []) c.append.ensures.last
+    (λ last. ap values_of last ∙ values_push es e ∙ ap (λ cs. cs ++ c.args.certified ∷ []) c.self.view_is)

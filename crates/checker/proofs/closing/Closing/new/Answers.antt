@@ -27,11 +27,11 @@ invariant_of-result g c =
       refl,
     )
 
-pub returns-clause-value : goal.returns-clause-value
-returns-clause-value g c =
+pub returns : goal.returns
+returns g c =
     let s = c.sheet.inside in
     let p : Pieces = pieces_of s.code s.table s.phi s.lines.portion.items s.lines.words.items s.lines.apart.items in
     let with : Certificate → Grid → ClosingView = λ d t. record { certificate = d; closure = begun t c.args.pairs.items c.args.limit } in
     let over : Progress → ClosingView = λ q. record { certificate = certificate_of (pieces_of s.code q.state.table s.phi s.lines.portion.items s.lines.words.items s.lines.apart.items); closure = q } in
     let joined : grid_of (certificate_of p) ≡ s.table = ap (λ es. record { order = s.table.order; entries = es }) c.sheet.invariant.whole.rows_joined in
-    ap over c.new.ensures ∙ (ap (with (certificate_of p)) (sym joined) ∙ ap (λ d. with d (grid_of d)) c.sheet.view_is)
+    record { value = ap over c.new.ensures ∙ (ap (with (certificate_of p)) (sym joined) ∙ ap (λ d. with d (grid_of d)) c.sheet.view_is) }

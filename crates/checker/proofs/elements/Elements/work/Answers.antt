@@ -1,9 +1,7 @@
 use Rattle.std.proofs.Common.{rules, ◌<◌, ◌≤◌, ◌+◌, ◌∷◌, length, subst, sym, ap, refl, inl, inr, ◌∙◌, arith}
 use Rattle.checker.specs.Stages.{Carries}
-use Rattle.checker.proofs.UnitLemmas.{rest-place, rest-row}
 use Rattle.checker.proofs.ElementLemmas.{value_below, leads_in, obeys_at, value_turn, heap_turn, elements_end}
 use Rattle.checker.specs.Answers.Answer.{Outcome}
-use Rattle.checker.specs.Views.{elements_units}
 use Rattle.pair_closure.specs.Positions.{rising}
 use Rattle.checker.specs.Turns.{keys_from}
 use Rattle.checker.specs.Turns.Phase.{Elements, Closing, Ended}
@@ -13,14 +11,11 @@ use Rattle.checker.proofs.elements.Elements.work.Goals as goal
 
 pub heaps-init : goal.heaps-init
 heaps-init g c =
-    let e = ap elements_units c.self.view_is in
     record {
       same = ap (λ v. v.certificate) c.self.view_is;
       order = c.order-order.ensures.value;
       lawful = c.order-order.ensures.lawful;
       so_far = c.self.invariant.0;
-      spent = omega arith;
-      paid = omega arith;
       runs = λ bytes. runs-none bytes c.args.limit _ _ _ (elements_in c.args.limit _ _ _ _ c.self.invariant.1 ∙ ap Elements c.self.view_is);
     }
 
@@ -102,8 +97,6 @@ heaps-preserved-then-option-order g c =
       order = i.order;
       lawful = i.lawful;
       so_far = heap_turn c.heaps.sheet i.lawful.in_ranges c.self.inside.pairs.items c.self.inside.contexts.items _ _ i.so_far o (c.if-option-order.true ∙ i.order) l;
-      spent = omega arith;
-      paid = (let f = rest-row (length c.self.inside.pairs.items) c.heaps.heap c.heaps.sheet.order c.heaps.option l i.so_far.value 0 in omega arith);
       runs = λ bytes. elements_heap bytes c.args.limit _ _ _ _ _ _ _ (i.runs bytes) l (omega arith) (λ x s. leads_nowhere c.heaps.sheet i.lawful.in_ranges c.self.inside.pairs.items c.self.inside.contexts.items _ _ i.so_far l c.index.result.now c.index.ensures x s (λ u. (rw (c.deref.ensures.value, i.order) at c.in_default.ensures.none) u x s)) (c.if-option-order.true ∙ i.order);
     }
 
@@ -119,8 +112,6 @@ heaps-preserved g c =
       order = i.order;
       lawful = i.lawful;
       so_far = value_turn c.heaps.sheet i.lawful.in_ranges c.self.inside.pairs.items c.self.inside.contexts.items _ _ i.so_far o b;
-      spent = omega arith;
-      paid = (let f = rest-place (length c.self.inside.pairs.items) c.heaps.heap c.heaps.sheet.order c.heaps.option l v in omega arith);
       runs = λ bytes. elements_option bytes c.args.limit _ _ _ _ _ _ _ (i.runs bytes) l (omega arith) (λ x s. leads_nowhere c.heaps.sheet i.lawful.in_ranges c.self.inside.pairs.items c.self.inside.contexts.items _ _ i.so_far l c.index.result.now c.index.ensures x s (λ u. (rw (c.deref.ensures.value, i.order) at c.in_default.ensures.none) u x s)) (λ m. absurd (omega arith));
     }
 

@@ -1,6 +1,4 @@
-use Rattle.std.proofs.Common.{◌≡◌, ℕ, List, ◌+◌, ◌≤◌, length}
-use Rattle.checker.specs.Units.{rest}
-use Rattle.checker.specs.Views.{elements_units}
+use Rattle.std.proofs.Common.{◌≡◌, ℕ, List}
 use Rattle.checker.specs.Sheets.{IsLawful}
 use Rattle.checker.specs.Closings.{ElementsSoFar}
 use Rattle.checker.specs.Turns.{Runs, elements_at}
@@ -13,8 +11,6 @@ invariant-heaps g l = record {
   order : l.order ≡ l.sheet.order;
   lawful : IsLawful l.sheet;
   so_far : ElementsSoFar l.sheet l.pairs.items l.contexts.items l.heap l.option;
-  spent : l.left ≤ l.initial.left;
-  paid : l.initial.left + (rest (length l.pairs.items) l.heap l.sheet.order l.option) ≤ l.left + elements_units l.fn.self;
   runs : (bytes : List ℕ) → Runs bytes l.limit (AtElements l.fn.self) l.initial.left l.left (elements_at l.limit l.sheet l.pairs.items l.heap l.option);
 }
 

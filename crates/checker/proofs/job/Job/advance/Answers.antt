@@ -1,21 +1,62 @@
-use Rattle.std.proofs.Common.{◌≡◌, false, sym, ◌∙◌, ap, arith}
-use Rattle.checker.specs.Stages.{needs, has_ended}
+use Rattle.std.proofs.Common.{◌≡◌, ◌^◌, false, sym, refl, ◌∙◌, arith}
+use native.Mathlib.Decide.{dec_lt}
+use Rattle.checker.specs.Stages.{has_ended}
 use Rattle.checker.proofs.StageLemmas.{going-none}
-use Rattle.checker.proofs.DueLemmas.{come_next}
+use Rattle.checker.proofs.DueLemmas.{come_next, within}
 use Rattle.checker.proofs.job.Job.advance.Goals as goal
+
+pub stages-init : goal.stages-init
+stages-init g c =
+    let j = c.self.inside in
+    let e = c.checks_end.ensures in
+    record {
+      bytes = refl;
+      limit = refl;
+      stands = c.self.invariant;
+      few = λ n p r. (let w = e.within j.bytes.items j.limit n p r in let b = e.few j.bytes.items j.limit (omega arith) in omega arith);
+      within = omega arith;
+      spent = refl;
+      idle = λ n. refl;
+      ended = λ n. (refl, refl);
+    }
+
+pub overflow_add-self : goal.overflow_add-self
+overflow_add-self g c =
+    let i = c.stages.invariant in
+    let j = c.stages.self-inside in
+    let going : has_ended j.stage ≡ false = sym c.has_ended.ensures ∙ c.if-not-has_ended.true in
+    let w = within j.bytes.items j.limit j.spent c.stages.left c.work.new.left (2 ^ 52) j.stage _ c.work.result c.replace-stage.ensures.value going i.stands.come (rw c.deref.ensures.value at c.work.ensures.comes) i.few in
+    let a = w.1 in
+    omega arith
+
+pub stages-smaller : goal.stages-smaller
+stages-smaller g c =
+    let i = c.stages.invariant in
+    let j = c.stages.self-inside in
+    let going : has_ended j.stage ≡ false = sym c.has_ended.ensures ∙ c.if-not-has_ended.true in
+    let w = within j.bytes.items j.limit j.spent c.stages.left c.work.new.left (2 ^ 52) j.stage _ c.work.result c.replace-stage.ensures.value going i.stands.come (rw c.deref.ensures.value at c.work.ensures.comes) i.few in
+    let a = w.0 in
+    elim (dec_lt 0 c.work.new.left) [
+      | yes b ↦ (let k = w.2 in let later = w.3 b in omega arith)
+      | no f ↦ (let k = w.2 in omega (arith, f))
+    ]
 
 pub stages-preserved : goal.stages-preserved
 stages-preserved g c =
     let i = c.stages.invariant in
-    let going : has_ended c.stages.self-inside.stage ≡ false = sym c.has_ended.ensures ∙ c.if-not-has_ended.true in
-    let none = going-none c.stages.self-inside.stage going in
-    let p = c.work.ensures.pays in
-    let e = ap needs c.replace-stage.ensures.value in
-    let f = i.stands.few in
+    let j = c.stages.self-inside in
+    let going : has_ended j.stage ≡ false = sym c.has_ended.ensures ∙ c.if-not-has_ended.true in
+    let none = going-none j.stage going in
+    let w = within j.bytes.items j.limit j.spent c.stages.left c.work.new.left (2 ^ 52) j.stage _ c.work.result c.replace-stage.ensures.value going i.stands.come (rw c.deref.ensures.value at c.work.ensures.comes) i.few in
+    let a = w.0 in
     record {
       bytes = i.bytes;
       limit = i.limit;
-      stands = record { stands = rw c.deref.ensures.value at c.work.ensures.stands; come = come_next c.stages.self-inside.bytes.items c.stages.self-inside.limit c.stages.self-inside.spent c.stages.left c.work.new.left c.stages.self-inside.stage _ c.work.result c.replace-stage.ensures.value going i.stands.come (rw c.deref.ensures.value at c.work.ensures.comes); few = omega arith };
+      stands = record {
+        stands = rw c.deref.ensures.value at c.work.ensures.stands;
+        come = come_next j.bytes.items j.limit j.spent c.stages.left c.work.new.left j.stage _ c.work.result c.replace-stage.ensures.value going i.stands.come (rw c.deref.ensures.value at c.work.ensures.comes);
+      };
+      few = i.few;
       within = omega arith;
       spent = omega arith;
       idle = λ n. absurd (omega arith);

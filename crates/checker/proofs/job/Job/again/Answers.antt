@@ -1,6 +1,5 @@
-use Rattle.std.proofs.Common.{arith}
 use Rattle.checker.proofs.DueLemmas.{come_first}
 use Rattle.checker.proofs.job.Job.again.Goals as goal
 
 pub invariant_of-self : goal.invariant_of-self
-invariant_of-self g c = record { stands = tt; come = come_first _ _; few = omega arith }
+invariant_of-self g c = record { stands = tt; come = come_first _ _ }

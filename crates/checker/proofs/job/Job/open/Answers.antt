@@ -1,6 +1,5 @@
-use Rattle.std.proofs.Common.{arith}
 use Rattle.checker.proofs.DueLemmas.{come_first}
 use Rattle.checker.proofs.job.Job.open.Goals as goal
 
 pub invariant_of-result : goal.invariant_of-result
-invariant_of-result g c = record { stands = tt; come = come_first _ _; few = omega arith }
+invariant_of-result g c = record { stands = tt; come = come_first _ _ }

@@ -3,9 +3,8 @@ use Rattle.misere_theory.specs.Certificates.{phi_at}
 use Rattle.misere_theory.specs.Verdicts.{IsFirstFault}
 use Rattle.misere_theory.specs.Verdicts.Fault.{Period}
 use Rattle.checker.proofs.FaultLemmas.{none_below_apart}
-use Rattle.checker.proofs.UnitLemmas.{rest-place, rest-row, some_pairs}
+use Rattle.checker.proofs.UnitLemmas.{some_pairs}
 use Rattle.checker.proofs.PeriodLemmas.{again_turn, serves_round, shift_turn, periods_end}
-use Rattle.checker.specs.Views.{periods_units}
 use Rattle.checker.specs.Turns.Phase.{Periods, Separating}
 use Rattle.checker.proofs.TurnLemmas.{runs-none, runs-to}
 use Rattle.checker.proofs.LoopTurns.{periods_shifted, periods_served, periods_counted, periods_early, periods_over}
@@ -13,15 +12,12 @@ use Rattle.checker.proofs.periods.Periods.work.Goals as goal
 
 pub shifts-init : goal.shifts-init
 shifts-init g c =
-    let e = ap periods_units c.self.view_is in
     record {
       same = ap (λ v. v.certificate) c.self.view_is;
       start = c.start-start.ensures.value;
       period = c.period-period.ensures.value;
       lawful = c.start-start.ensures.lawful;
       so_far = c.self.invariant;
-      spent = omega arith;
-      paid = omega arith;
       runs = λ bytes limit. runs-none bytes limit _ _ _ (ap Periods c.self.view_is);
     }
 
@@ -79,8 +75,6 @@ shifts-preserved-then-not-comes_again g c =
       period = i.period;
       lawful = i.lawful;
       so_far = shift_turn _ _ _ i.so_far not (search rules);
-      spent = omega arith;
-      paid = (let f = rest-row c.shifts.sheet.period c.shifts.shift (c.shifts.sheet.period + 1) c.shifts.count (search rules) (let s = i.so_far.short in omega arith) 0 in omega arith);
       runs = λ bytes limit. periods_shifted bytes limit _ _ _ _ _ _ (i.runs bytes limit) (omega arith) _ (search rules) (rw i.start at c.comes_again.ensures.same) c.if-not-comes_again.true;
     }
 
@@ -102,8 +96,6 @@ shifts-preserved g c =
       period = i.period;
       lawful = i.lawful;
       so_far = again_turn _ _ _ i.so_far e l;
-      spent = omega arith;
-      paid = (let f = rest-place c.shifts.sheet.period c.shifts.shift (c.shifts.sheet.period + 1) c.shifts.count (search rules) (omega arith) in omega arith);
       runs = λ bytes limit. periods_counted bytes limit _ _ _ _ _ _ (i.runs bytes limit) (omega arith) _ (search rules) (rw i.start at c.comes_again.ensures.same) c.if-not-comes_again.false l;
     }
 

@@ -1,6 +1,4 @@
-use Rattle.std.proofs.Common.{◌≡◌, ℕ, List, ◌+◌, ◌≤◌}
-use Rattle.checker.specs.Units.{rest}
-use Rattle.checker.specs.Views.{periods_units}
+use Rattle.std.proofs.Common.{◌≡◌, ℕ, List}
 use Rattle.checker.specs.Sheets.{IsLawful}
 use Rattle.checker.specs.Progress.{PeriodsSoFar}
 use Rattle.checker.specs.Turns.{Runs}
@@ -14,8 +12,6 @@ invariant-shifts g l = record {
   period : l.period ≡ l.sheet.period;
   lawful : IsLawful l.sheet;
   so_far : PeriodsSoFar l.sheet l.shift l.count;
-  spent : l.left ≤ l.initial.left;
-  paid : l.initial.left + (rest l.sheet.period l.shift (l.sheet.period + 1) l.count + 1) ≤ l.left + periods_units l.fn.self;
   runs : (bytes : List ℕ) (limit : ℕ) → Runs bytes limit (AtPeriods l.fn.self) l.initial.left l.left (AtPeriods (record { certificate = l.sheet; shift = l.shift; count = l.count }));
 }
 

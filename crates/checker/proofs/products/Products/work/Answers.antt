@@ -3,9 +3,7 @@ use Rattle.misere_theory.specs.Verdicts.{IsFirstFault}
 use Rattle.misere_theory.specs.Verdicts.Fault.{Order}
 use Rattle.checker.proofs.FaultLemmas.{none_below_word, none_below_order, none_below_period}
 use Rattle.checker.proofs.KeyLemmas.{keys_fault_free}
-use Rattle.checker.proofs.UnitLemmas.{rest-place, rest-row}
 use Rattle.checker.proofs.ProductLemmas.{product_turn, row_turn, products_end}
-use Rattle.checker.specs.Views.{products_units}
 use Rattle.checker.specs.Turns.Phase.{Products, Periods}
 use Rattle.checker.proofs.TurnLemmas.{runs-none, runs-to}
 use Rattle.checker.proofs.LoopTurns.{products_in, products_going, products_seen, products_row_seen, products_missed, products_over}
@@ -13,15 +11,12 @@ use Rattle.checker.proofs.products.Products.work.Goals as goal
 
 pub products-init : goal.products-init
 products-init g c =
-    let e = ap products_units c.self.view_is in
     record {
       same = ap (λ v. v.certificate) c.self.view_is;
       order = c.order-order.ensures.value;
       heaps = search rules;
       lawful = c.order-order.ensures.lawful;
       so_far = c.self.invariant.0;
-      spent = omega arith;
-      paid = omega arith;
       runs = λ bytes limit. runs-none bytes limit _ _ _ (products_in _ _ _ c.self.invariant.1 ∙ ap Products c.self.view_is);
     }
 
@@ -70,8 +65,6 @@ products-preserved-then-heap-heaps g c =
       heaps = i.heaps;
       lawful = i.lawful;
       so_far = row_turn _ _ _ i.so_far (c.is_in_order.ensures.in_order c.if-not-is_in_order.false) (search rules) (search rules);
-      spent = omega arith;
-      paid = (let f = rest-row c.products.sheet.order c.products.element (c.products.sheet.start + c.products.sheet.period) c.products.heap (search rules) i.so_far.heap 1 in omega arith);
       runs = λ bytes limit. products_row_seen bytes limit _ _ _ _ _ _ (i.runs bytes limit) (search rules) _ (omega arith) c.is_in_order.ensures.same c.if-not-is_in_order.false (search rules);
     }
 
@@ -86,7 +79,5 @@ products-preserved g c =
       heaps = i.heaps;
       lawful = i.lawful;
       so_far = product_turn _ _ _ i.so_far (c.is_in_order.ensures.in_order c.if-not-is_in_order.false) l;
-      spent = omega arith;
-      paid = (let f = rest-place c.products.sheet.order c.products.element (c.products.sheet.start + c.products.sheet.period) c.products.heap (search rules) i.so_far.heap in omega arith);
       runs = λ bytes limit. products_seen bytes limit _ _ _ _ _ _ (i.runs bytes limit) (search rules) _ (omega arith) c.is_in_order.ensures.same c.if-not-is_in_order.false l;
     }

@@ -1,6 +1,4 @@
-use Rattle.std.proofs.Common.{◌≡◌, ℕ, List, ◌+◌, ◌≤◌}
-use Rattle.checker.specs.Units.{rest}
-use Rattle.checker.specs.Views.{products_units}
+use Rattle.std.proofs.Common.{◌≡◌, ℕ, List, ◌+◌}
 use Rattle.checker.specs.Sheets.{IsLawful}
 use Rattle.checker.specs.Progress.{ProductsSoFar}
 use Rattle.checker.specs.Turns.{Runs, products_at}
@@ -14,8 +12,6 @@ invariant-products g l = record {
   heaps : l.heaps ≡ l.sheet.start + l.sheet.period;
   lawful : IsLawful l.sheet;
   so_far : ProductsSoFar l.sheet l.element l.heap;
-  spent : l.left ≤ l.initial.left;
-  paid : l.initial.left + (rest l.sheet.order l.element (l.sheet.start + l.sheet.period) l.heap) ≤ l.left + products_units l.fn.self;
   runs : (bytes : List ℕ) (limit : ℕ) → Runs bytes limit (AtProducts l.fn.self) l.initial.left l.left (products_at l.sheet l.element l.heap);
 }
 

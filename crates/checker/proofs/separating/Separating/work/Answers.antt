@@ -1,12 +1,10 @@
-use Rattle.std.proofs.Common.{length, slice_index, ◌∙◌, ap, rules, arith, subst, ◌+◌, ◌<◌, ◌≤◌, ◌≡◌, true, sym}
+use Rattle.std.proofs.Common.{length, slice_index, ◌∙◌, ap, rules, arith, subst, ◌<◌, ◌≤◌, ◌≡◌, true, sym}
 use Rattle.misere_theory.specs.Certificates.{claim_of, TellsApart}
 use Rattle.misere_theory.specs.Verdicts.{IsFirstFault}
 use Rattle.misere_theory.specs.Verdicts.Fault.{Apart}
 use Rattle.misere_theory.proofs.Verdicts.{faultless}
 use Rattle.checker.proofs.FaultLemmas.{none_at_all}
-use Rattle.checker.proofs.UnitLemmas.{rest-place, rest-row}
 use Rattle.checker.proofs.ApartLemmas.{apart_in, element_turn, apart_none, apart_smaller, pair_turn, last_pair_turn, apart_end}
-use Rattle.checker.specs.Views.{separating_units}
 use Rattle.checker.specs.Turns.Phase.{Separating, Heaps}
 use Rattle.checker.proofs.TurnLemmas.{runs-none, runs-to}
 use Rattle.checker.proofs.LoopTurns.{separating_in, separating_going, separating_untold, separating_further, separating_smaller, separating_row, separating_pair, separating_over}
@@ -15,15 +13,12 @@ use Rattle.checker.proofs.separating.Separating.work.Goals as goal
 
 pub pairs-init : goal.pairs-init
 pairs-init g c =
-    let e = ap separating_units c.self.view_is in
     record {
       same = ap (λ v. v.certificate) c.self.view_is;
       order = c.order-order.ensures.value;
       pairs = c.pairs-pairs.ensures.value;
       lawful = c.order-order.ensures.lawful;
       so_far = c.self.invariant.0;
-      spent = omega arith;
-      paid = omega arith;
       runs = λ bytes limit. runs-none bytes limit _ _ _ (separating_in limit _ _ _ _ _ c.self.invariant.1 ∙ ap Separating c.self.view_is);
     }
 
@@ -82,8 +77,6 @@ pairs-preserved-then-not-tells_apart g c =
       pairs = i.pairs;
       lawful = i.lawful;
       so_far = element_turn c.pairs.sheet i.lawful.in_ranges _ _ _ _ i.so_far l not (search rules);
-      spent = omega arith;
-      paid = (let b : c.pairs.z < c.pairs.sheet.order = search rules in let f = rest-place (length c.pairs.sheet.apart) c.pairs.number (c.pairs.sheet.order + 1) c.pairs.z l (omega arith) in omega arith);
       runs = λ bytes limit. separating_further bytes limit _ _ _ _ _ _ _ _ (i.runs bytes limit) l _ (omega arith) c.tells_apart.ensures.same c.if-not-tells_apart.true (search rules);
     }
 
@@ -106,8 +99,6 @@ pairs-preserved-then-y-order g c =
       pairs = i.pairs;
       lawful = i.lawful;
       so_far = last_pair_turn c.pairs.sheet i.lawful.in_ranges _ _ _ _ i.so_far l b t e (search rules);
-      spent = omega arith;
-      paid = (let f = rest-row (length c.pairs.sheet.apart) c.pairs.number (c.pairs.sheet.order + 1) c.pairs.z l (omega arith) 0 in omega arith);
       runs = λ bytes limit. separating_row bytes limit _ _ _ _ _ _ _ _ (i.runs bytes limit) l _ (omega arith) c.tells_apart.ensures.same c.if-not-tells_apart.false (omega arith) (search rules);
     }
 
@@ -124,8 +115,6 @@ pairs-preserved g c =
       pairs = i.pairs;
       lawful = i.lawful;
       so_far = pair_turn c.pairs.sheet i.lawful.in_ranges _ _ _ _ i.so_far l b t e (λ m. c.if-y-order.false (m ∙ sym i.order));
-      spent = omega arith;
-      paid = (let f = rest-row (length c.pairs.sheet.apart) c.pairs.number (c.pairs.sheet.order + 1) c.pairs.z l (omega arith) 0 in omega arith);
       runs = λ bytes limit. separating_pair bytes limit _ _ _ _ _ _ _ _ (i.runs bytes limit) l _ (omega arith) c.tells_apart.ensures.same c.if-not-tells_apart.false (omega arith) (λ m. c.if-y-order.false (m ∙ sym i.order));
     }
 

@@ -1,6 +1,4 @@
-use Rattle.std.proofs.Common.{◌≡◌, ℕ, List, length, ◌+◌, ◌≤◌}
-use Rattle.checker.specs.Units.{rest}
-use Rattle.checker.specs.Views.{separating_units}
+use Rattle.std.proofs.Common.{◌≡◌, ℕ, List, length}
 use Rattle.checker.specs.Sheets.{IsLawful}
 use Rattle.checker.specs.Progress.{ApartSoFar}
 use Rattle.checker.specs.Turns.{Runs, separating_at}
@@ -14,8 +12,6 @@ invariant-pairs g l = record {
   pairs : l.pairs ≡ length l.sheet.apart;
   lawful : IsLawful l.sheet;
   so_far : ApartSoFar l.sheet l.x l.y l.z l.number;
-  spent : l.left ≤ l.initial.left;
-  paid : l.initial.left + (rest (length l.sheet.apart) l.number (l.sheet.order + 1) l.z) ≤ l.left + separating_units l.fn.self;
   runs : (bytes : List ℕ) (limit : ℕ) → Runs bytes limit (AtSeparating l.fn.self) l.initial.left l.left (separating_at limit l.sheet l.x l.y l.number l.z);
 }
 

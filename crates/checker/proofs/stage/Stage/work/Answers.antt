@@ -1,5 +1,4 @@
 use Rattle.checker.proofs.StageLemmas.{carried_stands}
-use Rattle.checker.proofs.PayLemmas.{laws_pay, keys_pay}
 use Rattle.checker.proofs.DueLemmas.{works_comes}
 use Rattle.checker.proofs.stage.Stage.work.Goals as goal
 
@@ -25,16 +24,6 @@ pub returns-in-Closing-clause-stands : goal.returns-in-Closing-clause-stands
 returns-in-Closing-clause-stands g c =
     let s = rw c.in-Closing.is at c.requires in
     carried_stands c.args.bytes.now c.in-Closing.closing.certificate s.0 c.args.limit c.work-in-Closing.result (rw s.1 at c.work-in-Closing.ensures.carries)
-
-pub returns-in-Keys-clause-pays : goal.returns-in-Keys-clause-pays
-returns-in-Keys-clause-pays g c =
-    let s = rw c.in-Keys.is at c.requires in
-    rw c.in-Keys.is (keys_pay c.args.bytes.now c.args.limit c.in-Keys.keys s.in_ranges _ _ c.work-in-Keys.result (c.work-in-Keys.ensures.works c.args.bytes.now c.args.limit))
-
-pub returns-in-Laws-clause-pays : goal.returns-in-Laws-clause-pays
-returns-in-Laws-clause-pays g c =
-    let s = rw c.in-Laws.is at c.requires in
-    rw c.in-Laws.is (laws_pay c.args.bytes.now c.args.limit c.in-Laws.laws s.in_ranges c.work-in-Laws.ensures.within _ _ c.work-in-Laws.result (c.work-in-Laws.ensures.works c.args.bytes.now c.args.limit))
 
 pub returns-in-Laws-clause-comes : goal.returns-in-Laws-clause-comes
 returns-in-Laws-clause-comes g c = λ _. rw c.in-Laws.is (works_comes c.args.bytes.now c.args.limit _ _ _ c.work-in-Laws.result (c.work-in-Laws.ensures.works c.args.bytes.now c.args.limit))

@@ -1,0 +1,223 @@
+ghost use Rattle.std.specs.Prelude.{Some};
+
+use certificate::{Cert, Sink, TextFault, WriteFault, read, write};
+use ration::Ration;
+use std::alloc::AllocError;
+use std::test::Fail;
+use streams::{DeviceFault, Failures, MemorySink};
+
+const OF_0_1: &[u8] =
+    b"mqc 1\ncode 0.1\norder 2\nstart 2\nperiod 1\nphi 1 0\nportion 1\nwords 0:1\n\
+row 0 1\nrow 1 0\napart 0\nend\n";
+
+const OF_0_3: &[u8] =
+    b"mqc 1\ncode 0.3\norder 2\nstart 1\nperiod 2\nphi 1 0\nportion 1\nwords 0:1\n\
+row 0 1\nrow 1 0\napart 0\nend\n";
+
+const OF_0_33: &[u8] = b"mqc 1\ncode 0.33\norder 6\nstart 1\nperiod 3\nphi 1 2 0\nportion 1 4\n\
+words 0:1 0:2 1:2 2:2 3:2\n\
+row 0 1 2 3 4 5\nrow 1 0 3 2 5 4\nrow 2 3 4 5 2 3\nrow 3 2 5 4 3 2\nrow 4 5 2 3 4 5\nrow 5 4 3 2 5 4\n\
+apart 0 1 1 0 4 0 0 4 0 2 0 1 0 1 0\nend\n";
+
+const OF_0_75: &[u8] =
+    b"mqc 1\ncode 0.75\norder 8\nstart 8\nperiod 2\nphi 1 2 1 2 3 2 3 2 4\nportion 1 7\n\
+words 0:1 0:2 0:5 0:9 1:2 1:5 1:9\n\
+row 0 1 2 3 4 5 6 7\nrow 1 0 5 6 7 2 3 4\nrow 2 5 7 5 5 4 2 2\nrow 3 6 5 7 7 2 4 4\n\
+row 4 7 5 7 7 2 4 4\nrow 5 2 4 2 2 7 5 5\nrow 6 3 2 4 4 5 7 7\nrow 7 4 2 4 4 5 7 7\n\
+apart 0 1 1 3 1 1 0 0 0 0 0 0 4 2 1 2 2 0 1 3 3 0 1 1 0 5 0 0\nend\n";
+
+/// A text for `0.75` that is right on all heaps up to 8, and no further.
+const REFUTED: &[u8] = b"mqc 1\ncode 0.75\norder 8\nstart 4\nperiod 2\nphi 1 2 1 2 3\nportion 1 6\n\
+words 0:1 0:2 0:5 1:2 1:5 2:2 4:2\n\
+row 0 1 2 3 4 5 6 7\nrow 1 0 4 5 2 3 7 6\nrow 2 4 6 4 7 2 2 4\nrow 3 5 4 6 2 7 7 6\n\
+row 4 2 7 2 6 4 4 2\nrow 5 3 2 7 4 6 6 7\nrow 6 7 2 7 4 6 6 7\nrow 7 6 4 6 2 7 7 6\n\
+apart 0 1 1 1 1 0 3 0 0 0 0 5 0 2 2 2 0 1 3 3 0 1 4 0 1 0 1 0\nend\n";
+
+/// A text for `0.3` with an element that no heap reaches.
+const UNREACHED: &[u8] =
+    b"mqc 1\ncode 0.3\norder 4\nstart 1\nperiod 2\nphi 1 0\nportion 1\nwords 0:1 0:1 2:1\n\
+row 0 1 2 3\nrow 1 0 3 2\nrow 2 3 0 1\nrow 3 2 1 0\napart 0 0 0 0 0 0\nend\n";
+
+/// The certificate of `0.3`, with one thing changed.
+const OTHERS: [&[u8]; 19] = [
+    // line ends of two bytes
+    b"mqc 1\r\ncode 0.3\r\norder 2\r\nstart 1\r\nperiod 2\r\nphi 1 0\r\nportion 1\r\nwords 0:1\r\n\
+row 0 1\r\nrow 1 0\r\napart 0\r\nend\r\n",
+    // a leading zero
+    b"mqc 1\ncode 0.3\norder 02\nstart 1\nperiod 2\nphi 1 0\nportion 1\nwords 0:1\nrow 0 1\nrow 1 0\napart 0\nend\n",
+    // a byte behind
+    b"mqc 1\ncode 0.3\norder 2\nstart 1\nperiod 2\nphi 1 0\nportion 1\nwords 0:1\nrow 0 1\nrow 1 0\napart 0\nend\n\n",
+    // a byte before
+    b" mqc 1\ncode 0.3\norder 2\nstart 1\nperiod 2\nphi 1 0\nportion 1\nwords 0:1\nrow 0 1\nrow 1 0\napart 0\nend\n",
+    // two spaces
+    b"mqc 1\ncode 0.3\norder 2\nstart 1\nperiod 2\nphi 1  0\nportion 1\nwords 0:1\nrow 0 1\nrow 1 0\napart 0\nend\n",
+    // a space at the end of a line
+    b"mqc 1\ncode 0.3\norder 2\nstart 1\nperiod 2\nphi 1 0 \nportion 1\nwords 0:1\nrow 0 1\nrow 1 0\napart 0\nend\n",
+    // another version
+    b"mqc 2\ncode 0.3\norder 2\nstart 1\nperiod 2\nphi 1 0\nportion 1\nwords 0:1\nrow 0 1\nrow 1 0\napart 0\nend\n",
+    // a code with its last digit 0
+    b"mqc 1\ncode 0.30\norder 2\nstart 1\nperiod 2\nphi 1 0\nportion 1\nwords 0:1\nrow 0 1\nrow 1 0\napart 0\nend\n",
+    // an order out of range
+    b"mqc 1\ncode 0.3\norder 1\nstart 1\nperiod 2\nphi 0 0\nportion 0\nwords\nrow 0\napart\nend\n",
+    b"mqc 1\ncode 0.3\norder 257\nstart 1\nperiod 2\nphi 1 0\nportion 1\nwords 0:1\nrow 0 1\nrow 1 0\napart 0\nend\n",
+    b"mqc 1\ncode 0.3\norder 99999999999999999999999999999999\nstart 1\nperiod 2\nphi 1 0\nportion 1\nwords 0:1\nrow 0 1\nrow 1 0\napart 0\nend\n",
+    // an order with nothing behind it
+    b"mqc 1\ncode 0.3\norder 256\n",
+    // a start and a period that are 1026 together
+    b"mqc 1\ncode 0.3\norder 2\nstart 1000\nperiod 26\nphi 1 0\nportion 1\nwords 0:1\nrow 0 1\nrow 1 0\napart 0\nend\n",
+    // an element out of range
+    b"mqc 1\ncode 0.3\norder 2\nstart 1\nperiod 2\nphi 1 2\nportion 1\nwords 0:1\nrow 0 1\nrow 1 0\napart 0\nend\n",
+    // a portion that doesn't rise, and one without elements
+    b"mqc 1\ncode 0.3\norder 2\nstart 1\nperiod 2\nphi 1 0\nportion 1 1\nwords 0:1\nrow 0 1\nrow 1 0\napart 0\nend\n",
+    b"mqc 1\ncode 0.3\norder 2\nstart 1\nperiod 2\nphi 1 0\nportion\nwords 0:1\nrow 0 1\nrow 1 0\napart 0\nend\n",
+    // the heap 0
+    b"mqc 1\ncode 0.3\norder 2\nstart 1\nperiod 2\nphi 1 0\nportion 1\nwords 0:0\nrow 0 1\nrow 1 0\napart 0\nend\n",
+    // a row that is one short, and one row too few
+    b"mqc 1\ncode 0.3\norder 2\nstart 1\nperiod 2\nphi 1 0\nportion 1\nwords 0:1\nrow 0 1\nrow 1\napart 0\nend\n",
+    b"mqc 1\ncode 0.3\norder 2\nstart 1\nperiod 2\nphi 1 0\nportion 1\nwords 0:1\nrow 0 1\napart 0\nend\n",
+];
+
+/// Takes one byte at a time, and fails at one call.
+#[derive(Drop)]
+struct Slit {
+    bytes: Vec<u8>,
+    until: u64,
+    failed: Failures,
+}
+
+impl Sink for Slit {
+    ghost taken = { λ s. Some s.bytes.items };
+
+    ghost failures = { λ s. s.failed.count };
+
+    fn write(&mut self, bytes: &[u8]) -> Result<usize, DeviceFault> {
+        self.until = self.until.saturating_sub(1);
+        if self.until == 0 || self.bytes.push(bytes[0]).is_err() {
+            self.failed.add();
+            return Err(DeviceFault);
+        }
+        Ok(1)
+    }
+}
+
+#[test]
+fn writes_what_it_reads(rt: HostRuntime) -> Result<(), Fail> {
+    for bytes in [OF_0_1, OF_0_3, OF_0_33, OF_0_75, REFUTED, UNREACHED] {
+        let cert = read(rt.alloc(), bytes)?;
+        let mut sink = MemorySink::new(rt.alloc());
+        write(&cert, &mut sink)?;
+        assert_eq!(rt; sink.bytes(), bytes);
+    }
+    Ok(())
+}
+
+#[test]
+fn lends_what_the_lines_hold(rt: HostRuntime) -> Result<(), Fail> {
+    let cert = Cert::from_parts(read(rt.alloc(), OF_0_33)?.into_parts());
+    assert_eq!(rt; cert.code().text(rt.alloc())?.as_str(), "0.33");
+    assert_eq!(rt; cert.order(), 6);
+    assert_eq!(rt; (cert.start(), cert.period()), (1, 3));
+    assert_eq!(rt; cert.phi().entries(), [1u16, 2, 0].as_slice());
+    assert_eq!(rt; cert.portion(), [1u16, 4].as_slice());
+    let words = cert.words();
+    assert_eq!(rt; words.len(), 5);
+    let last = words[4];
+    assert_eq!(rt; (last.element, last.heap), (3, 2));
+    let rows = cert.rows();
+    assert_eq!(rt; rows.len(), 36);
+    assert_eq!(rt; &rows[6..12], [1u16, 0, 3, 2, 5, 4].as_slice());
+    let apart = cert.apart();
+    assert_eq!(rt; apart.len(), 15);
+    assert_eq!(rt; &apart[..5], [0u16, 1, 1, 0, 4].as_slice());
+    Ok(())
+}
+
+#[test]
+fn refuses_other_texts(rt: HostRuntime) {
+    for bytes in OTHERS {
+        assert!(rt; matches!(read(rt.alloc(), bytes), Err(TextFault::Text)));
+    }
+}
+
+#[test]
+fn asks_no_memory_for_an_order(rt: HostRuntime) {
+    let ration = Ration::new(rt.alloc(), 1);
+    let front = b"mqc 1\ncode 0.3\norder 256\nstart 1\nperiod 1024\n";
+    let got = read(&ration, front).map(|_| ());
+    assert_eq!(rt; got, Err(TextFault::Text));
+    assert!(rt; !ration.has_refused());
+}
+
+#[test]
+fn refuses_beginnings(rt: HostRuntime) {
+    for bytes in [OF_0_3, OF_0_33, OF_0_75] {
+        for n in 0..bytes.len() {
+            assert!(rt; matches!(read(rt.alloc(), &bytes[..n]), Err(TextFault::Text)));
+        }
+    }
+}
+
+#[test]
+fn writes_a_beginning(rt: HostRuntime) -> Result<(), Fail> {
+    let cert = read(rt.alloc(), OF_0_3)?;
+    for until in 1..99u64 {
+        let mut sink = Slit {
+            bytes: Vec::new(rt.alloc()),
+            until,
+            failed: Failures::new(),
+        };
+        let written = write(&cert, &mut sink);
+        assert_eq!(rt; written == Err(WriteFault::Write), until < 97, "at {until}");
+        assert!(rt; OF_0_3.starts_with(&sink.bytes), "at {until}");
+        assert_eq!(rt; sink.bytes.len() as u64, until.min(97) - 1, "at {until}");
+    }
+    Ok(())
+}
+
+#[test]
+fn refused_memory(rt: HostRuntime) {
+    for n in 1..40u64 {
+        let ration = Ration::new(rt.alloc(), n);
+        let got = read(&ration, OF_0_75).map(|_| ());
+        if !ration.has_refused() {
+            assert_eq!(rt; got, Ok(()));
+            assert!(rt; n > 5, "{n}");
+            return;
+        }
+        assert_eq!(rt; got, Err(TextFault::Memory), "at {n}");
+    }
+    assert!(rt; false, "it never read to the end");
+}
+
+/// Writes the word so many times, each behind a space.
+fn repeat(text: &mut Vec<u8>, word: &[u8], count: usize) -> Result<(), AllocError> {
+    for _ in 0..count {
+        text.push(b' ')?;
+        text.extend_from_slice(word)?;
+    }
+    Ok(())
+}
+
+/// The most entries, the largest order, and more than 2^16 bytes.
+#[test]
+fn memory_suffices_for_the_largest_text(rt: HostRuntime) -> Result<(), Fail> {
+    let mut text = Vec::new(rt.alloc());
+    text.extend_from_slice(b"mqc 1\ncode 0.3\norder 256\nstart 1\nperiod 1024\nphi")?;
+    repeat(&mut text, b"255", 1024)?;
+    text.extend_from_slice(b"\nportion 255\nwords")?;
+    repeat(&mut text, b"255:1024", 255)?;
+    for _ in 0..256usize {
+        text.extend_from_slice(b"\nrow")?;
+        repeat(&mut text, b"255", 256)?;
+    }
+    text.extend_from_slice(b"\napart")?;
+    repeat(&mut text, b"255", 32640)?;
+    text.extend_from_slice(b"\nend\n")?;
+    let cert = read(rt.alloc(), &text)?;
+    assert_eq!(rt; (cert.order(), cert.words().len()), (256, 255));
+    assert_eq!(rt; (cert.rows().len(), cert.apart().len()), (65536, 32640));
+    let mut sink = MemorySink::new(rt.alloc());
+    write(&cert, &mut sink)?;
+    assert!(rt; sink.bytes() == text.as_slice());
+    Ok(())
+}

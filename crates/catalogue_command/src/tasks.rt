@@ -1,0 +1,41 @@
+//! What can be asked of a catalogue file, each by its action.
+ghost use Rattle.std.specs.Prelude.{◌≡◌, IfErr, IfOk, IsErrOf, OnErr, string_bytes};
+ghost use Rattle.catalogue_command.specs.Stops.{failed};
+ghost use Rattle.catalogue_command.specs.Tasks.{Leaves, SaysOfCatalogue, StopsTask, catalogue_written};
+ghost use Rattle.requests.specs.Requests.{catalogue_request_of};
+
+use crate::adding::{add, create};
+use crate::finding::get;
+use crate::listing::list;
+use crate::report::Report;
+use crate::salvaging::salvage;
+use crate::stop::CatalogueStop;
+use folders::Folder;
+use requests::CatalogueTask;
+use std::alloc::Global;
+
+/// Does what is asked of the catalogue file; the limit is that of each check. No other file changes, and where it stops or doesn't end
+/// well no file does. Where a code can't be read the files are left alone.
+pub fn act<'a, F: Folder>(
+    alloc: Global,
+    folder: &mut F,
+    file: &'a str,
+    task: CatalogueTask<'a>,
+    limit: u32,
+) -> Result<Report, CatalogueStop<'a>>
+    ensures says { IfOk result (λ r. SaysOfCatalogue limit (F.files folder.old) (F.files folder.new) file.entry.now (catalogue_request_of task.entry) (string_bytes r.text) r.well) }
+    ensures leaves { IfOk result (λ r. Leaves (catalogue_written file.entry.now (catalogue_request_of task.entry) r.well) (F.files folder.old) (F.files folder.new)) }
+    ensures kept { OnErr result (F.files folder.new ≡ F.files folder.old) }
+    ensures usage { IsErrOf result CatalogueStop.NotACode → folder.new ≡ folder.old }
+    ensures stops { IfErr result (StopsTask file.entry.now (catalogue_request_of task.entry)
+        (failed (F.failed_reads folder.old) (F.failed_writes folder.old)) (failed (F.failed_reads folder.new) (F.failed_writes folder.new))) }
+{
+    match task {
+        CatalogueTask::Print => list(alloc, folder, file, limit),
+        CatalogueTask::New => create(alloc, folder, file),
+        CatalogueTask::Add(certificate) => add(alloc, folder, file, certificate, false, limit),
+        CatalogueTask::NewWith(certificate) => add(alloc, folder, file, certificate, true, limit),
+        CatalogueTask::Get(code) => get(alloc, folder, file, code, limit),
+        CatalogueTask::Salvage => salvage(alloc, folder, file, limit),
+    }
+}

@@ -1,0 +1,18 @@
+use Rattle.std.proofs.Common.{rules, ◌≡◌}
+use Rattle.std.specs.String.{string_bytes}
+use Rattle.checker.specs.Answers.{refused}
+use Rattle.check_command.proofs.Answered.{refused_is_no}
+use Rattle.check_command.proofs.certifying.judged.Goals as goal
+
+pub returns : goal.returns
+returns c =
+    let same : c.into_bytes.result.items ≡ string_bytes c.in_ok-text.text = search rules in (
+      record {
+        answer = refused c.in-Err.refusal;
+        text = string_bytes c.in_ok-text.text;
+        true_of = c.in-Err.ensures.true_of;
+        told = c.in_ok-text.ensures;
+      },
+      same,
+      refused_is_no c.in-Err.refusal,
+    )

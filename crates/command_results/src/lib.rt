@@ -1,0 +1,17 @@
+//! What commands give: a text that is printed, or why they stop before anything is; and how either goes out.
+#![tactic(auto)]
+
+mod files;
+mod printing;
+mod said;
+mod stop;
+mod telling;
+
+pub use files::read_file;
+pub use printing::print;
+pub use said::Said;
+pub use stop::Stop;
+pub use telling::tell;
+
+#[cfg(test)]
+mod tests;

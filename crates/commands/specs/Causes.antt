@@ -1,0 +1,70 @@
+-- Why each request may stop, and which devices it uses. This project's own.
+use Rattle.std.specs.Prelude.{◌≡◌, ⊤, ℕ, Bool, true, false, List, Option, Some, None}
+use Rattle.catalogue_command.specs.Stops as catalogue
+use Rattle.catalogue_command.specs.Tasks.{StopsTask}
+use Rattle.catalogue_command.specs.declared.stop.CatalogueStop.{CatalogueStop}
+use Rattle.catalogue_command.specs.declared.stop.CatalogueStop.TheVariants as stopped
+use Rattle.check_command.specs.Checks.{IsInputCause}
+use Rattle.command_results.specs.Stops.{IsFileCause, IsMemory}
+use Rattle.command_results.specs.declared.stop.Stop.{Stop}
+use Rattle.command_results.specs.declared.stop.Stop.TheVariants.{Read, Write, Memory, NotACode}
+use Rattle.play_command.specs.Plays.{IsPlayCause}
+use Rattle.requests.specs.Requests.{CatalogueRequest, Request}
+use Rattle.requests.specs.Requests.Request.{Check, Solve, Show, Play, Present, Catalogue, Desk}
+use Rattle.solve_command.specs.Solved.{IsNoCode}
+
+-- How often each device has failed that a command reads or changes.
+pub record Failed : Type 0 where
+  pub input : ℕ
+  pub reads : ℕ
+  pub writes : ℕ
+
+abbrev pub failed : ℕ → ℕ → ℕ → Failed
+failed input reads writes = record { input = input; reads = reads; writes = writes }
+
+-- the text isn't a code's, or memory was wanting
+abbrev pub IsSolveCause : List ℕ → Stop → Type 0
+IsSolveCause code Memory = ⊤
+IsSolveCause code NotACode = IsNoCode code
+IsSolveCause code _ = ⊥
+
+-- the stop of a catalogue, as one of the program
+abbrev pub stop_of : CatalogueStop → Stop
+stop_of (stopped.Read name) = Read name
+stop_of stopped.Write = Write
+stop_of stopped.Memory = Memory
+stop_of stopped.NotACode = NotACode
+
+abbrev pub IsCatalogueCause : List ℕ → CatalogueRequest → catalogue.Failed → catalogue.Failed → Stop → Type 0
+IsCatalogueCause file task before after stop = (cause : CatalogueStop) × (stop ≡ stop_of cause) × StopsTask file task before after cause
+
+-- Why each request may stop before anything is printed, by the failures before and after. A script has an end of its own.
+abbrev pub IsCause : Request → Failed → Failed → Stop → Type 0
+IsCause (Check None limit) before after stop = IsInputCause before.input after.input stop
+IsCause (Check (Some file) limit) before after stop = IsFileCause file before.reads after.reads stop
+IsCause (Solve code limit rounds heaps order) before after stop = IsSolveCause code stop
+IsCause (Show file) before after stop = IsFileCause file before.reads after.reads stop
+IsCause (Play file position) before after stop = IsPlayCause file position before.reads after.reads stop
+IsCause (Present text) before after stop = IsMemory stop
+IsCause (Catalogue file task) before after stop =
+    IsCatalogueCause file task (catalogue.failed before.reads before.writes) (catalogue.failed after.reads after.writes) stop
+IsCause (Desk script) before after stop = ⊥
+
+-- the request reads standard input
+abbrev pub reads_input : Option Request → Bool
+reads_input (Some (Check None limit)) = true
+reads_input _ = false
+
+-- the request reads or writes files
+abbrev pub takes_files : Option Request → Bool
+takes_files (Some (Check (Some file) limit)) = true
+takes_files (Some (Show file)) = true
+takes_files (Some (Play file position)) = true
+takes_files (Some (Catalogue file task)) = true
+takes_files (Some (Desk script)) = true
+takes_files _ = false
+
+-- the request takes the steps of a script
+abbrev pub runs_script : Option Request → Bool
+runs_script (Some (Desk script)) = true
+runs_script _ = false

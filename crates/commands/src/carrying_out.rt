@@ -1,0 +1,67 @@
+//! Plans carried out.
+ghost use Rattle.std.specs.Prelude.{◌≡◌, Some, false, IfOk, IfErr, OnErr};
+ghost use Rattle.catalogue_command.specs.Tasks.{Leaves};
+ghost use Rattle.command_results.specs.Stops.{stop_status};
+ghost use Rattle.commands.specs.Causes.{IsCause, failed, reads_input, runs_script, takes_files};
+ghost use Rattle.commands.specs.Says.{Says, file_written};
+ghost use Rattle.requests.specs.Requests.{request_of};
+
+use crate::cataloguing::catalogue_said;
+use crate::solving::solve_text;
+use check_command::{check_file, check_input};
+use command_results::{Said, Stop};
+use folders::Folder;
+use play_command::play;
+use present_command::present;
+use requests::{DEFAULT_LIMIT, Plan};
+use show_command::show;
+use solve_command::SolveBounds;
+use std::alloc::Global;
+use streams::Source;
+
+/// What is said of what is planned, which is no script. Every file stays as it is but the one that the plan writes where it ends well; standard input and
+/// the files are left alone by the plans that don't read them, and by words that are refused.
+pub(crate) fn carry_out<'a, F: Folder, S: Source>(
+    alloc: Global,
+    plan: Plan<'a>,
+    folder: &mut F,
+    input: &mut S,
+) -> Result<Said, Stop<'a>>
+    requires no_script { runs_script (Some (request_of plan)) ≡ false }
+    ensures says { IfOk result (λ s. Says (S.left input.old) (F.files folder.old) (F.files folder.new) (request_of plan.entry) s.text.items s.well) }
+    ensures leaves { IfOk result (λ s. Leaves (file_written (request_of plan.entry) s.well) (F.files folder.old) (F.files folder.new)) }
+    ensures kept { OnErr result (F.files folder.new ≡ F.files folder.old) }
+    ensures stops { IfErr result (IsCause (request_of plan.entry)
+        (failed (S.failures input.old) (F.failed_reads folder.old) (F.failed_writes folder.old))
+        (failed (S.failures input.new) (F.failed_reads folder.new) (F.failed_writes folder.new))) }
+    ensures usage { IfErr result (λ stop. stop_status stop ≡ 2 → folder.new ≡ folder.old) }
+    ensures input { reads_input (Some (request_of plan.entry)) ≡ false → input.new ≡ input.old }
+    ensures folder { takes_files (Some (request_of plan.entry)) ≡ false → folder.new ≡ folder.old }
+{
+    match plan {
+        Plan::Check { file, limit } => match file {
+            Some(name) => check_file(alloc, name, limit, folder),
+            None => check_input(alloc, limit, input),
+        },
+        Plan::Show { file } => show(alloc, file, DEFAULT_LIMIT, folder),
+        Plan::Play { file, position } => play(alloc, file, position, DEFAULT_LIMIT, folder),
+        Plan::Present { text } => present(alloc, text),
+        Plan::Solve {
+            code,
+            limit,
+            rounds,
+            heaps,
+            order,
+        } => {
+            let bounds = SolveBounds {
+                limit,
+                rounds,
+                heaps,
+                order,
+            };
+            solve_text(alloc, code, bounds)
+        }
+        Plan::Catalogue { file, task } => catalogue_said(alloc, file, task, folder),
+        Plan::Desk { .. } => unreachable!(),
+    }
+}

@@ -1,0 +1,12 @@
+//! What the program does for each request: what is said is printed, or it tells why nothing is.
+#![tactic(auto)]
+
+mod carrying_out;
+mod cataloguing;
+mod running;
+mod solving;
+
+pub use running::run_plan;
+
+#[cfg(test)]
+mod tests;

@@ -1,0 +1,10 @@
+pub mod Lists
+pub mod Places
+pub mod Seen
+pub mod Gone
+pub mod Ended
+pub mod Emptied
+pub mod Filled
+pub mod Free
+pub mod Steps
+pub mod RunLaws

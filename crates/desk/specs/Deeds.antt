@@ -1,0 +1,37 @@
+-- What was done in a step, and the reply that it means.
+use Rattle.std.specs.Prelude.{◌≡◌, Option, Some, None, Result, Ok, Err}
+use Rattle.std.specs.Borrow.{Bor}
+use Rattle.misere_theory.specs.Certificates.{Certificate}
+use Rattle.checker.specs.Answers.{Answer}
+use Rattle.checker.specs.Answers.Answer.{Yes}
+use Rattle.checker.specs.JobViews.{JobView}
+use Rattle.desk.specs.declared.deed.Deed.{Deed}
+use Rattle.desk.specs.declared.deed.Deed.TheVariants as done
+use Rattle.desk.specs.declared.reply.StepFault.{StepFault}
+use Rattle.desk.specs.declared.reply.StepFault.TheVariants as fault
+use Rattle.desk.specs.Machine.{Jobs, Reply, told}
+use Rattle.desk.specs.Machine.Reply.{Opened, Dropped, Tells, Advises, NoJob}
+use Rattle.desk.specs.Replies.{refusal}
+
+-- what is said of a job, if there is one
+abbrev pub told_of : Option JobView → Reply
+told_of (Some job) = told job.ended
+told_of None = NoJob
+
+abbrev pub meant : Jobs → Deed → Reply
+meant jobs (done.Opened number) = Opened number
+meant jobs (done.Shown number) = told_of (jobs number)
+meant jobs done.Dropped = Dropped
+meant jobs (done.Told outcome) = Tells outcome
+meant jobs (done.Advised advice) = Advises advice
+meant jobs (done.Refused fault) = refusal fault
+
+-- the certificate of a job with this ending
+abbrev pub CertifiesBy : Option Answer → Result (Bor Certificate) StepFault → Type 0
+CertifiesBy (Some (Yes c)) found = (lent : Bor Certificate) × (found ≡ Ok lent) × (lent.now ≡ c)
+CertifiesBy other found = found ≡ Err fault.NotCertified
+
+-- that of a job, if there is one
+abbrev pub Certifies : Option JobView → Result (Bor Certificate) StepFault → Type 0
+Certifies (Some job) found = CertifiesBy job.ended found
+Certifies None found = found ≡ Err fault.NoJob

@@ -1,0 +1,63 @@
+//! The checks that jobs share: one for each bytes and limit.
+ghost use Rattle.std.specs.Prelude.{◌≡◌, ◌<◌, None, length, IfOk, OnErr, IfSome, IfNone};
+ghost use Rattle.desk.specs.Desks.{IsWith, IsCoreFor, IsCoreOf, HasNoCore, core_at};
+
+use allocation::{Memory, Room};
+use checker::Job;
+
+/// The core of these bytes and this limit, a new one where there is none. A new one alone may take memory.
+pub(crate) fn core_for<A: Room + Copy>(
+    cores: &mut Vec<Option<Job<A>>, A>,
+    alloc: A,
+    bytes: Vec<u8, A>,
+    limit: u32,
+) -> Result<usize, Memory>
+    ensures ok { IfOk result (λ k. IsCoreFor cores.old.items bytes.items limit k cores.new.items) }
+    ensures err { OnErr result ((cores.new.items ≡ cores.old.items) × HasNoCore cores.old.items bytes.items limit) }
+{
+    if let Some(core) = find(cores, &bytes, limit) {
+        return Ok(core);
+    }
+    if let Some(core) = vacancy(cores) {
+        put(cores, core, Some(Job::open(alloc, bytes, limit)));
+        return Ok(core);
+    }
+    let core = cores.len();
+    cores.push(Some(Job::open(alloc, bytes, limit)))?;
+    Ok(core)
+}
+
+/// Puts a core at a place, or none. What stood there is given up.
+pub(crate) fn put<A: Room>(cores: &mut Vec<Option<Job<A>>, A>, place: usize, core: Option<Job<A>>)
+    requires { place < length cores.old.items }
+    ensures { IsWith cores.old.items place core cores.new.items }
+{
+    cores[place] = core;
+}
+
+/// The place of the core of these bytes and this limit.
+fn find<A: Room>(cores: &Vec<Option<Job<A>>, A>, bytes: &[u8], limit: u32) -> Option<usize>
+    ensures some { IfSome result (λ k. IsCoreOf cores.now.items bytes.now limit k) }
+    ensures none { IfNone result (HasNoCore cores.now.items bytes.now limit) }
+{
+    for i in 0..cores.len() {
+        if let Some(core) = &cores[i] {
+            if core.limit() == limit && core.bytes() == bytes {
+                return Some(i);
+            }
+        }
+    }
+    None
+}
+
+/// A place without a core.
+fn vacancy<A: Room>(cores: &Vec<Option<Job<A>>, A>) -> Option<usize>
+    ensures { IfSome result (λ k. (k < length cores.now.items) × (core_at cores.now.items k ≡ None)) }
+{
+    for i in 0..cores.len() {
+        if cores[i].is_none() {
+            return Some(i);
+        }
+    }
+    None
+}

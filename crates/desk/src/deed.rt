@@ -1,0 +1,15 @@
+//! What was done in a step.
+use crate::reply::StepFault;
+use player::{Answer, Outcome};
+
+/// What was done in a step, before the reply is lent.
+#[derive(Clone, Copy, Debug, PartialEq, Eq)]
+pub(crate) enum Deed {
+    Opened(u8),
+    /// The job of the number is shown as it stands.
+    Shown(u8),
+    Dropped,
+    Told(Outcome),
+    Advised(Answer),
+    Refused(StepFault),
+}

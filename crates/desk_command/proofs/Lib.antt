@@ -1,0 +1,4 @@
+pub mod Ended
+pub mod Going
+pub mod Prints
+pub mod Runs

@@ -1,0 +1,5 @@
+pub mod Calls
+pub mod Ends
+pub mod Lines
+pub mod Scripts
+pub mod Stops

@@ -1,0 +1,106 @@
+//! Why a script ends before its end, and the reading of files.
+ghost use Rattle.std.specs.Prelude.{◌≡◌, ◌≤◌, ◌++◌, IfErr, IfOk, codes, decimal};
+ghost use Rattle.command_results.specs.Printers.{Tells, printer};
+ghost use Rattle.folders.specs.Files.{Holds};
+ghost use Rattle.desk_command.specs.Stops.{IsReadCause, desk_stop_line, desk_stop_status, stop_of};
+ghost use Rattle.desk_command.specs.declared.stop.DeskStop.TheVariants.{«Memory» as OutOfMemory, Write as NotWritten};
+
+use allocation::Memory;
+use command_results::{Stop, tell};
+use desk_script::ScriptFault;
+use folders::{FileFault, Folder};
+use itoa::Buffer;
+use streams::{DeviceFault, Sink};
+
+/// Why a script ends before its end.
+#[derive(Clone, Copy, Debug, PartialEq, Eq)]
+pub enum DeskStop<'a> {
+    /// The line of this number, counted from 1, is the first that isn't a step.
+    NotAStep(usize),
+    /// The file of this name can't be read.
+    Read(&'a str),
+    /// What is printed can't be written.
+    Write,
+    /// A growth was refused.
+    Memory,
+}
+
+impl From<Memory> for DeskStop<'_> {
+    ghost from_gives = { λ _ stop. stop ≡ OutOfMemory };
+
+    fn from(_: Memory) -> Self {
+        DeskStop::Memory
+    }
+}
+
+impl From<DeviceFault> for DeskStop<'_> {
+    ghost from_gives = { λ _ stop. stop ≡ NotWritten };
+
+    fn from(_: DeviceFault) -> Self {
+        DeskStop::Write
+    }
+}
+
+impl From<ScriptFault> for DeskStop<'_> {
+    ghost from_gives = { λ fault stop. stop ≡ stop_of fault };
+
+    fn from(fault: ScriptFault) -> Self {
+        match fault {
+            ScriptFault::NotAStep(number) => DeskStop::NotAStep(number),
+            ScriptFault::Memory => DeskStop::Memory,
+        }
+    }
+}
+
+impl DeskStop<'_> {
+    /// The exit status.
+    pub fn status(self) -> u8
+        ensures status { result ≡ desk_stop_status self.entry }
+        ensures late { 2 ≤ result }
+    {
+        match self {
+            DeskStop::NotAStep(_) => 2,
+            DeskStop::Read(_) | DeskStop::Write | DeskStop::Memory => 3,
+        }
+    }
+
+    /// Tells the reason on standard error.
+    pub fn tell<E: Sink>(self, err: &mut E)
+        ensures { Tells (printer (E.taken err.old) (E.failures err.old)) (printer (E.taken err.new) (E.failures err.new)) (desk_stop_line self.entry) }
+    {
+        match self {
+            DeskStop::NotAStep(number) => tell_line(number, err),
+            DeskStop::Read(name) => Stop::Read(name).tell(err),
+            DeskStop::Write => Stop::Write.tell(err),
+            DeskStop::Memory => Stop::Memory.tell(err),
+        }
+    }
+}
+
+/// Tells that the line of this number isn't a step.
+fn tell_line<E: Sink>(number: usize, err: &mut E)
+    ensures { Tells (printer (E.taken err.old) (E.failures err.old)) (printer (E.taken err.new) (E.failures err.new))
+        (codes "misere: line " ++ (decimal number ++ codes " isn't a step\n")) }
+{
+    let mut buffer = Buffer::new();
+    tell(
+        err,
+        "misere: line ",
+        buffer.format(number),
+        " isn't a step\n",
+    );
+}
+
+/// Reads a file.
+pub(crate) fn read<'a, F: Folder>(folder: &mut F, name: &'a str) -> Result<Vec<u8>, DeskStop<'a>>
+    ensures bytes { IfOk result (λ v. Holds (F.files folder.old) name.entry.now v.items) }
+    ensures kept { F.files folder.new ≡ F.files folder.old }
+    ensures well { IfOk result (λ _. F.failed_reads folder.new ≡ F.failed_reads folder.old) }
+    ensures stops { IfErr result (IsReadCause name.entry.now (F.failed_reads folder.old) (F.failed_reads folder.new)) }
+{
+    match folder.read(name) {
+        Ok(bytes) => Ok(bytes),
+        Err(FileFault::Device) => Err(DeskStop::Read(name)),
+        Err(FileFault::Memory) => Err(DeskStop::Memory),
+    }
+}

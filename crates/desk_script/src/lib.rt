@@ -1,0 +1,16 @@
+//! A desk's script: lines that each spell one step of a client.
+#![tactic(auto)]
+
+mod fault;
+mod line;
+mod number;
+mod script;
+mod step;
+mod tail;
+
+pub use fault::ScriptFault;
+pub use script::read_script;
+pub use step::Step;
+
+#[cfg(test)]
+mod tests;

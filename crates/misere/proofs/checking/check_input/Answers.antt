@@ -1,9 +1,0 @@
-use Rattle.std.proofs.Common.{rules, ◌≡◌, ◌∙◌}
-use Rattle.misere.proofs.Printed.{taken_is}
-use Rattle.misere.proofs.checking.check_input.Goals as goal
-
-pub returns-in-Ok-clause-said : goal.returns-in-Ok-clause-said
-returns-in-Ok-clause-said g c =
-    let w = c.in-Ok.ensures.ok in
-    let same : c.in_ok-text-in-Ok.text.items ≡ c.bytes.result.now = search rules in
-    (w.0, same ∙ taken_is _ _ w.0.text c.bytes.result.now c.new-sink.ensures.taken c.bytes.ensures w.1, w.2)

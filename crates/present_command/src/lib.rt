@@ -1,0 +1,10 @@
+//! `present`: the monoid of a presentation.
+#![tactic(auto)]
+
+mod lines;
+mod presenting;
+
+pub use presenting::present;
+
+#[cfg(test)]
+mod tests;

@@ -1,0 +1,278 @@
+//! The contexts that a failing position asks for: the elements of the wrong guess, and the proper
+//! parts of the position.
+use crate::cells::{clear, index, part, put_index, set_bit};
+use crate::dead::{is_empty, is_within};
+use crate::quotient::Quotient;
+use crate::scene::Scene;
+use crate::work::Halt;
+use std::alloc::Allocator;
+
+/// The most parts of a position that are looked at.
+const MOST_PARTS: usize = 1000;
+
+/// Which contexts tell elements apart.
+#[derive(Clone, Copy, PartialEq, Eq)]
+pub enum Kept {
+    /// All of them.
+    All,
+    /// The empty one and the parts.
+    Parts,
+    /// The empty one and one of the parts that no element stands for.
+    Part(usize),
+}
+
+/// A part of a position: how many heaps of each size it has of those that the position has.
+#[derive(Drop)]
+struct Part<A: Allocator> {
+    sizes: Vec<usize, A>,
+    counts: Vec<usize, A>,
+    taken: Vec<usize, A>,
+}
+
+/// Heaps by their sizes.
+fn sorted<A: Allocator + Copy>(alloc: A, heaps: &[usize]) -> Result<Vec<usize, A>, Halt> {
+    let mut sorted: Vec<usize, A> = Vec::new(alloc);
+    sorted.extend_from_slice(heaps)?;
+    sorted.sort_unstable();
+    Ok(sorted)
+}
+
+impl<A: Allocator + Copy> Part<A> {
+    /// The empty part.
+    fn of(alloc: A, heaps: &[usize]) -> Result<Part<A>, Halt> {
+        let sorted = sorted(alloc, heaps)?;
+        let mut part = Part {
+            sizes: Vec::new(alloc),
+            counts: Vec::new(alloc),
+            taken: Vec::new(alloc),
+        };
+        part.count_all(&sorted)?;
+        Ok(part)
+    }
+}
+
+impl<A: Allocator> Part<A> {
+    /// Adds heaps to the position, by their sizes.
+    fn count_all(&mut self, sorted: &[usize]) -> Result<(), Halt> {
+        for size in sorted {
+            self.count(*size)?;
+        }
+        Ok(())
+    }
+
+    /// Adds a heap to the position, no smaller than the others.
+    fn count(&mut self, size: usize) -> Result<(), Halt> {
+        let last = self.sizes.len().wrapping_sub(1);
+        if index(&self.sizes, last) == size {
+            let count = index(&self.counts, last).wrapping_add(1);
+            put_index(&mut self.counts, last, count);
+        } else {
+            self.sizes.push(size)?;
+            self.counts.push(1)?;
+            self.taken.push(0)?;
+        }
+        Ok(())
+    }
+
+    /// About how many parts there are.
+    fn variety(&self) -> usize {
+        let mut parts = 1usize;
+        for count in self.counts.iter() {
+            parts = parts.saturating_mul(count.saturating_add(1));
+        }
+        if parts < MOST_PARTS {
+            parts
+        } else {
+            MOST_PARTS
+        }
+    }
+
+    /// Goes to the next proper part. Answers whether there is one.
+    fn advance(&mut self) -> bool {
+        for place in 0..self.counts.len() {
+            let have = index(&self.taken, place);
+            if have < index(&self.counts, place) {
+                put_index(&mut self.taken, place, have.wrapping_add(1));
+                return !self.is_whole();
+            }
+            put_index(&mut self.taken, place, 0);
+        }
+        false
+    }
+
+    fn is_whole(&self) -> bool {
+        for (place, count) in self.counts.iter().enumerate() {
+            if index(&self.taken, place) != *count {
+                return false;
+            }
+        }
+        true
+    }
+
+    /// The value without one of the heaps at a place.
+    fn value_without(&self, quotient: &Quotient<A>, without: usize) -> usize {
+        let mut value = 0;
+        for (place, size) in self.sizes.iter().enumerate() {
+            let taken = index(&self.taken, place);
+            let count = if place == without {
+                taken.saturating_sub(1)
+            } else {
+                taken
+            };
+            for _ in 0..count {
+                value = quotient.times(value, quotient.heap(*size));
+            }
+        }
+        value
+    }
+
+    /// Sets the bits of the values of the part's options. Answers whether there is one and all are
+    /// below `elements`.
+    fn mask(&self, quotient: &Quotient<A>, elements: usize, mask: &mut Vec<u64, A>) -> bool {
+        for (place, size) in self.sizes.iter().enumerate() {
+            if index(&self.taken, place) == 0 {
+                continue;
+            }
+            let rest = self.value_without(quotient, place);
+            for option in quotient.heap_moves(*size) {
+                let value = quotient.times(rest, *option as usize);
+                if value >= elements {
+                    return false;
+                }
+                set_bit(mask, value);
+            }
+        }
+        !is_empty(mask)
+    }
+}
+
+/// The context with these options.
+fn context_with<A: Allocator>(scene: &Scene<A>, mask: &[u64]) -> Option<usize> {
+    for context in 0..scene.count {
+        let own = part(&scene.masks, context.wrapping_mul(scene.words), scene.words);
+        if is_within(own, mask) && is_within(mask, own) {
+            return Some(context);
+        }
+    }
+    None
+}
+
+/// The first elements of a quotient, each by the values of its representative's options.
+fn scene_of_elements<A: Allocator + Copy>(
+    alloc: A,
+    quotient: &Quotient<A>,
+    elements: usize,
+    words: usize,
+) -> Result<Scene<A>, Halt> {
+    let mut kept: Vec<u64, A> = vec![in alloc; 0u64; words]?;
+    set_bit(&mut kept, 0);
+    let mut scene = Scene {
+        count: elements,
+        words,
+        masks: Vec::new(alloc),
+        kept,
+    };
+    add_elements(alloc, quotient, &mut scene)?;
+    Ok(scene)
+}
+
+/// Adds the rows of the elements.
+fn add_elements<A: Allocator + Copy>(
+    alloc: A,
+    quotient: &Quotient<A>,
+    scene: &mut Scene<A>,
+) -> Result<(), Halt> {
+    let mut mask: Vec<u64, A> = vec![in alloc; 0u64; scene.words]?;
+    for element in 0..scene.count {
+        write_options(quotient, element, &mut mask);
+        scene.masks.extend_from_slice(&mask)?;
+    }
+    Ok(())
+}
+
+/// Writes the row of the options of an element's representative.
+fn write_options<A: Allocator>(quotient: &Quotient<A>, element: usize, mask: &mut Vec<u64, A>) {
+    clear(mask);
+    for option in quotient.options.list(element) {
+        set_bit(mask, *option as usize);
+    }
+}
+
+/// Adds a part with a row of options, unless it is there, and notes whether it is kept. Answers how
+/// many no element stands for, where it was so many.
+fn add_part<A: Allocator>(
+    mask: &[u64],
+    kept: Kept,
+    added: usize,
+    scene: &mut Scene<A>,
+) -> Result<usize, Halt> {
+    if let Some(context) = context_with(scene, mask) {
+        if kept == Kept::Parts {
+            set_bit(&mut scene.kept, context);
+        }
+        return Ok(added);
+    }
+    if kept == Kept::Parts || kept == Kept::Part(added) {
+        set_bit(&mut scene.kept, scene.count);
+    }
+    scene.masks.extend_from_slice(mask)?;
+    scene.count = scene.count.wrapping_add(1);
+    Ok(added.wrapping_add(1))
+}
+
+/// Adds the parts, and notes those that are kept. Answers how many no element stands for.
+fn add_parts<A: Allocator + Copy>(
+    alloc: A,
+    quotient: &Quotient<A>,
+    part: &mut Part<A>,
+    kept: Kept,
+    scene: &mut Scene<A>,
+) -> Result<usize, Halt> {
+    let elements = scene.count;
+    let mut mask: Vec<u64, A> = vec![in alloc; 0u64; scene.words]?;
+    let mut added = 0usize;
+    for _ in 0..MOST_PARTS {
+        if !part.advance() {
+            break;
+        }
+        clear(&mut mask);
+        if part.mask(quotient, elements, &mut mask) {
+            added = add_part(&mask, kept, added, scene)?;
+        }
+    }
+    Ok(added)
+}
+
+/// Keeps all contexts where all are to be kept. Answers whether there is such a part as is to be
+/// kept, with so many that no element stands for.
+fn keep<A: Allocator>(kept: Kept, added: usize, scene: &mut Scene<A>) -> bool {
+    if kept == Kept::All {
+        for context in 0..scene.count {
+            set_bit(&mut scene.kept, context);
+        }
+    }
+    match kept {
+        Kept::Part(number) => number < added,
+        _ => true,
+    }
+}
+
+/// The contexts for a failing position, with the first elements of the wrong guess. `None` where
+/// there is no such part as is to be kept.
+pub fn contexts<A: Allocator + Copy>(
+    alloc: A,
+    quotient: &Quotient<A>,
+    heaps: &[usize],
+    elements: usize,
+    kept: Kept,
+) -> Result<Option<Scene<A>>, Halt> {
+    let mut part = Part::of(alloc, heaps)?;
+    let words = elements.saturating_add(part.variety()) / 64 + 1;
+    let mut scene = scene_of_elements(alloc, quotient, elements, words)?;
+    let added = add_parts(alloc, quotient, &mut part, kept, &mut scene)?;
+    if keep(kept, added, &mut scene) {
+        Ok(Some(scene))
+    } else {
+        Ok(None)
+    }
+}

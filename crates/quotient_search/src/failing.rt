@@ -1,0 +1,416 @@
+//! The lightest position at which the rule fails.
+use crate::cells::{bit, index, word};
+use crate::chains::{Chains, NONE};
+use crate::dead::{Dead, breaks_portion, dead_of_heap, dead_of_sum, is_empty, is_within, words_of};
+use crate::lightest::{Words, lightest_words};
+use crate::quotient::{Quotient, heap_weight};
+use crate::sets::Sets;
+use crate::work::{Halt, Work};
+use std::alloc::Allocator;
+
+/// The most weight that is looked at, the most positions and the most words of their sets.
+const MOST_WEIGHT: usize = 2000;
+
+const MOST_POSITIONS: usize = 300_000;
+
+const MOST_WORDS: usize = 4_000_000;
+
+/// A position, its heaps in any order, and its weight.
+#[derive(Drop)]
+pub struct Failing<A: Allocator> {
+    pub weight: usize,
+    pub heaps: Vec<usize, A>,
+}
+
+/// A heap beside an element, and its weight. No heap is 0.
+#[derive(Clone, Copy)]
+struct Beside {
+    weight: u64,
+    heap: usize,
+    element: usize,
+}
+
+/// The lightest heap and element beside which the rule fails inside the portion.
+fn lightest_breaking<A: Allocator>(
+    quotient: &Quotient<A>,
+    weights: &[u64],
+    work: &mut Work,
+) -> Result<Beside, Halt> {
+    let mut best = Beside {
+        weight: u64::MAX,
+        heap: 0,
+        element: 0,
+    };
+    for n in 1..quotient.heaps.len().saturating_add(1) {
+        work.spend(quotient.order)?;
+        lighten_breaking(quotient, weights, n, &mut best);
+    }
+    Ok(best)
+}
+
+/// Takes the heap n beside the lightest element by which the rule fails, where it is lighter.
+fn lighten_breaking<A: Allocator>(
+    quotient: &Quotient<A>,
+    weights: &[u64],
+    n: usize,
+    best: &mut Beside,
+) {
+    for element in 0..quotient.order {
+        let weight = word(weights, element).saturating_add(heap_weight(n));
+        if weight < best.weight && breaks_portion(quotient, n, element) {
+            *best = Beside {
+                weight,
+                heap: n,
+                element,
+            };
+        }
+    }
+}
+
+/// Adds the heaps of an element's lightest word.
+fn push_word<A: Allocator>(
+    words: &Words<A>,
+    element: usize,
+    order: usize,
+    heaps: &mut Vec<usize, A>,
+) -> Result<(), Halt> {
+    let mut element = element;
+    for _ in 0..order {
+        if element == 0 {
+            break;
+        }
+        heaps.push(index(&words.heaps, element))?;
+        element = index(&words.before, element);
+    }
+    Ok(())
+}
+
+/// The lightest position in the portion with an option in the portion.
+fn lightest_inside<A: Allocator + Copy>(
+    alloc: A,
+    quotient: &Quotient<A>,
+    work: &mut Work,
+) -> Result<Option<Failing<A>>, Halt> {
+    let words = lightest_words(alloc, quotient, work)?;
+    let best = lightest_breaking(quotient, &words.weights, work)?;
+    if best.heap == 0 || best.weight > MOST_WEIGHT as u64 {
+        return Ok(None);
+    }
+    failing_beside(alloc, &words, best, quotient.order)
+}
+
+/// A heap and an element's lightest word as a position.
+fn failing_beside<A: Allocator + Copy>(
+    alloc: A,
+    words: &Words<A>,
+    best: Beside,
+    order: usize,
+) -> Result<Option<Failing<A>>, Halt> {
+    let mut heaps: Vec<usize, A> = Vec::new(alloc);
+    heaps.push(best.heap)?;
+    push_word(words, best.element, order, &mut heaps)?;
+    Ok(Some(Failing {
+        weight: best.weight as usize,
+        heaps,
+    }))
+}
+
+/// Positions by weight, each with its value, its dead contexts and how it was made.
+#[derive(Drop)]
+struct Search<A: Allocator> {
+    positions: Sets<A>,
+    /// The position that one was made from by adding a heap, and that heap.
+    made: Vec<(usize, usize), A>,
+    /// The positions of each weight.
+    waiting: Chains<A>,
+    /// Those of each value that were looked at.
+    seen: Chains<A>,
+    /// The heaps that are added.
+    generators: Sets<A>,
+}
+
+/// Sets that are written anew for each position.
+#[derive(Drop)]
+struct Scratch<A: Allocator> {
+    set: Vec<u64, A>,
+    sum: Vec<u64, A>,
+}
+
+impl<A: Allocator + Copy> Search<A> {
+    /// The single heaps, for weights below `most`.
+    fn new(alloc: A, quotient: &Quotient<A>, most: usize) -> Result<Search<A>, Halt> {
+        let waiting = Chains::new(alloc, most)?;
+        let seen = Chains::new(alloc, quotient.order)?;
+        let words = words_of(quotient);
+        Ok(Search {
+            positions: Sets::new(alloc, words),
+            made: Vec::new(alloc),
+            waiting,
+            seen,
+            generators: Sets::new(alloc, words),
+        })
+    }
+
+    /// Adds the heaps that have options.
+    fn begin(&mut self, alloc: A, quotient: &Quotient<A>) -> Result<(), Halt> {
+        for n in 1..quotient.heaps.len().saturating_add(1) {
+            if !quotient.heap_moves(n).is_empty() {
+                let set = dead_of_heap(alloc, quotient, n)?;
+                self.add_heap(quotient, n, &set)?;
+            }
+        }
+        Ok(())
+    }
+
+    /// The heaps of a position.
+    fn heaps_of(&self, alloc: A, position: usize) -> Result<Vec<usize, A>, Halt> {
+        let mut heaps: Vec<usize, A> = Vec::new(alloc);
+        self.push_heaps(position, &mut heaps)?;
+        Ok(heaps)
+    }
+
+    /// The lightest position at which the rule fails, and its weight.
+    fn find(
+        &mut self,
+        alloc: A,
+        quotient: &Quotient<A>,
+        work: &mut Work,
+    ) -> Result<Option<(usize, usize)>, Halt> {
+        let sum: Vec<u64, A> = vec![in alloc; 0u64; self.positions.words()]?;
+        let mut scratch = Scratch {
+            set: Vec::new(alloc),
+            sum,
+        };
+        self.find_with(quotient, &mut scratch, work)
+    }
+}
+
+impl<A: Allocator> Search<A> {
+    fn find_with(
+        &mut self,
+        quotient: &Quotient<A>,
+        scratch: &mut Scratch<A>,
+        work: &mut Work,
+    ) -> Result<Option<(usize, usize)>, Halt> {
+        for weight in 0..self.waiting.lists() {
+            if let Some(position) = self.look(quotient, weight, scratch, work)? {
+                return Ok(Some((weight, position)));
+            }
+        }
+        Ok(None)
+    }
+
+    /// Looks at the positions of one weight. Answers the first one at which the rule fails.
+    fn look(
+        &mut self,
+        quotient: &Quotient<A>,
+        weight: usize,
+        scratch: &mut Scratch<A>,
+        work: &mut Work,
+    ) -> Result<Option<usize>, Halt> {
+        let mut position = self.waiting.first(weight);
+        for _ in 0..self.positions.len() {
+            if position == NONE {
+                break;
+            }
+            if self.look_at(quotient, weight, position, scratch, work)? {
+                return Ok(Some(position));
+            }
+            position = self.waiting.after(position);
+        }
+        Ok(None)
+    }
+
+    /// Looks at a position. Answers whether the rule fails at it.
+    fn look_at(
+        &mut self,
+        quotient: &Quotient<A>,
+        weight: usize,
+        position: usize,
+        scratch: &mut Scratch<A>,
+        work: &mut Work,
+    ) -> Result<bool, Halt> {
+        scratch.set.clear();
+        scratch.set.extend_from_slice(self.positions.set(position))?;
+        let value = self.positions.number(position);
+        if self.is_covered(value, &scratch.set, work)? {
+            return Ok(false);
+        }
+        if bit(&scratch.set, 0) {
+            return Ok(true);
+        }
+        self.seen.link(position, value);
+        self.add_heaps(quotient, weight, position, scratch, work)?;
+        Ok(false)
+    }
+
+    /// Adds the heap n with its dead contexts, unless another one does as well.
+    fn add_heap(&mut self, quotient: &Quotient<A>, n: usize, set: &[u64]) -> Result<(), Halt> {
+        let value = quotient.heap(n);
+        if is_empty(set) || self.has_generator(quotient, value, set) {
+            return Ok(());
+        }
+        self.generators.push(n, set)?;
+        self.push(heap_weight(n) as usize, value, set, (NONE, n))
+    }
+
+    /// Whether one of the heaps that are added has this value and as many dead contexts.
+    fn has_generator(&self, quotient: &Quotient<A>, value: usize, set: &[u64]) -> bool {
+        for generator in 0..self.generators.len() {
+            if quotient.heap(self.generators.number(generator)) == value
+                && is_within(set, self.generators.set(generator))
+            {
+                return true;
+            }
+        }
+        false
+    }
+
+    /// Adds the heaps of a position to a list.
+    fn push_heaps(&self, position: usize, heaps: &mut Vec<usize, A>) -> Result<(), Halt> {
+        let mut position = position;
+        for _ in 0..self.made.len() {
+            let Some((from, heap)) = self.made.get(position) else {
+                break;
+            };
+            heaps.push(*heap)?;
+            position = *from;
+        }
+        Ok(())
+    }
+
+    /// Adds a position, where its weight is below the most.
+    fn push(
+        &mut self,
+        weight: usize,
+        value: usize,
+        set: &[u64],
+        made: (usize, usize),
+    ) -> Result<(), Halt> {
+        if weight >= self.waiting.lists() {
+            return Ok(());
+        }
+        if self.positions.len() > MOST_POSITIONS || self.positions.size() > MOST_WORDS {
+            return Err(Halt::GaveUp);
+        }
+        let position = self.positions.len();
+        self.waiting.add()?;
+        self.waiting.link(position, weight);
+        self.positions.push(value, set)?;
+        self.made.push(made)?;
+        self.seen.add()
+    }
+
+    /// Whether a position that was looked at has this value and as many dead contexts.
+    fn is_covered(&self, value: usize, set: &[u64], work: &mut Work) -> Result<bool, Halt> {
+        let mut position = self.seen.first(value);
+        for _ in 0..self.positions.len() {
+            if position == NONE {
+                break;
+            }
+            work.spend(self.positions.words())?;
+            if is_within(set, self.positions.set(position)) {
+                return Ok(true);
+            }
+            position = self.seen.after(position);
+        }
+        Ok(false)
+    }
+
+    /// Adds each heap to a position, whose set is written.
+    fn add_heaps(
+        &mut self,
+        quotient: &Quotient<A>,
+        weight: usize,
+        position: usize,
+        scratch: &mut Scratch<A>,
+        work: &mut Work,
+    ) -> Result<(), Halt> {
+        for generator in 0..self.generators.len() {
+            let heap = self.generators.number(generator);
+            let above = weight.saturating_add(heap_weight(heap) as usize);
+            if above >= self.waiting.lists() {
+                break;
+            }
+            work.spend(quotient.order)?;
+            self.add_sum(quotient, above, position, generator, scratch, work)?;
+        }
+        Ok(())
+    }
+
+    /// Adds a heap to a position, where the sum has dead contexts that no other one has.
+    fn add_sum(
+        &mut self,
+        quotient: &Quotient<A>,
+        above: usize,
+        position: usize,
+        generator: usize,
+        scratch: &mut Scratch<A>,
+        work: &mut Work,
+    ) -> Result<(), Halt> {
+        let heap = self.generators.number(generator);
+        let value = self.positions.number(position);
+        let other = quotient.heap(heap);
+        let x = Dead {
+            value,
+            set: &scratch.set,
+        };
+        let y = Dead {
+            value: other,
+            set: self.generators.set(generator),
+        };
+        if !dead_of_sum(quotient, x, y, &mut scratch.sum) {
+            return Ok(());
+        }
+        let product = quotient.times(value, other);
+        if self.is_covered(product, &scratch.sum, work)? {
+            return Ok(());
+        }
+        self.push(above, product, &scratch.sum, (position, heap))
+    }
+}
+
+/// The lightest position that is dead with nothing beside it, of those that weigh less than `most`.
+fn lightest_dead<A: Allocator + Copy>(
+    alloc: A,
+    quotient: &Quotient<A>,
+    most: usize,
+    work: &mut Work,
+) -> Result<Option<Failing<A>>, Halt> {
+    let mut search = Search::new(alloc, quotient, most)?;
+    found_by(alloc, quotient, &mut search, work)
+}
+
+/// The lightest position that a search finds.
+fn found_by<A: Allocator + Copy>(
+    alloc: A,
+    quotient: &Quotient<A>,
+    search: &mut Search<A>,
+    work: &mut Work,
+) -> Result<Option<Failing<A>>, Halt> {
+    search.begin(alloc, quotient)?;
+    match search.find(alloc, quotient, work)? {
+        Some((weight, position)) => Ok(Some(Failing {
+            weight,
+            heaps: search.heaps_of(alloc, position)?,
+        })),
+        None => Ok(None),
+    }
+}
+
+/// The lightest position at which the rule fails, where one was found.
+pub fn lightest_failing<A: Allocator + Copy>(
+    alloc: A,
+    quotient: &Quotient<A>,
+    work: &mut Work,
+) -> Result<Option<Failing<A>>, Halt> {
+    let inside = lightest_inside(alloc, quotient, work)?;
+    let most = match &inside {
+        Some(failing) => failing.weight,
+        None => MOST_WEIGHT,
+    };
+    match lightest_dead(alloc, quotient, most, work)? {
+        None => Ok(inside),
+        found => Ok(found),
+    }
+}

@@ -1,0 +1,210 @@
+//! Levels: how so many heaps of one size do beside each element.
+use crate::cells::{clear, part, put_word, word};
+use crate::quotient::Quotient;
+use crate::scene::Scene;
+use crate::work::{Halt, Work};
+use std::alloc::Allocator;
+
+/// The most pairs of a level and an element.
+const MOST_PAIRS: usize = 40_000;
+
+/// Level k has the row of k heaps beside each element's representative. From `lead` on the levels
+/// come round, and those up to the last one before they do are `count`.
+#[derive(Drop)]
+pub struct Levels<A: Allocator> {
+    pub rows: Vec<u64, A>,
+    pub count: usize,
+    pub lead: usize,
+}
+
+impl<A: Allocator + Copy> Levels<A> {
+    /// Level 0 alone.
+    pub fn only(alloc: A, quotient: &Quotient<A>) -> Result<Levels<A>, Halt> {
+        let mut rows = Vec::new(alloc);
+        rows.extend_from_slice(&quotient.rows)?;
+        Ok(Levels {
+            rows,
+            count: 1,
+            lead: 0,
+        })
+    }
+}
+
+impl<A: Allocator> Levels<A> {
+    /// The first level that is level k.
+    pub fn cut(&self, k: usize) -> usize {
+        let period = self.count.saturating_sub(self.lead);
+        if k < self.count || period == 0 {
+            k
+        } else {
+            self.lead.wrapping_add(k.wrapping_sub(self.lead) % period)
+        }
+    }
+}
+
+/// Where the row of k heaps beside an element begins.
+fn row_at<A: Allocator>(quotient: &Quotient<A>, k: usize, element: usize) -> usize {
+    k.wrapping_mul(quotient.order)
+        .wrapping_add(element)
+        .wrapping_mul(quotient.words)
+}
+
+/// Adds a row to what is covered.
+fn cover<A: Allocator>(covered: &mut Vec<u64, A>, rows: &[u64], from: usize) {
+    for place in 0..covered.len() {
+        let bits = word(covered, place) | word(rows, from.wrapping_add(place));
+        put_word(covered, place, bits);
+    }
+}
+
+/// Covers what the options of k heaps beside an element cover.
+fn cover_options<A: Allocator>(
+    quotient: &Quotient<A>,
+    moves: &[u16],
+    rows: &[u64],
+    k: usize,
+    element: usize,
+    covered: &mut Vec<u64, A>,
+) {
+    clear(covered);
+    for option in moves {
+        let beside = quotient.times(*option as usize, element);
+        cover(covered, rows, row_at(quotient, k.wrapping_sub(1), beside));
+    }
+    for option in quotient.options.list(element) {
+        cover(covered, rows, row_at(quotient, k, *option as usize));
+    }
+}
+
+/// Adds level k, the next one, of a heap whose options have the values `moves`.
+pub fn raise<A: Allocator + Copy>(
+    alloc: A,
+    scene: &Scene<A>,
+    quotient: &Quotient<A>,
+    moves: &[u16],
+    levels: &mut Levels<A>,
+    k: usize,
+    work: &mut Work,
+) -> Result<(), Halt> {
+    let covered: Vec<u64, A> = vec![in alloc; 0u64; quotient.words]?;
+    let row: Vec<u64, A> = vec![in alloc; 0u64; quotient.words]?;
+    let mut scratch = Scratch { covered, row };
+    raise_with(scene, quotient, moves, levels, k, &mut scratch, work)
+}
+
+/// Rows that are written anew for each element.
+#[derive(Drop)]
+struct Scratch<A: Allocator> {
+    covered: Vec<u64, A>,
+    row: Vec<u64, A>,
+}
+
+fn raise_with<A: Allocator>(
+    scene: &Scene<A>,
+    quotient: &Quotient<A>,
+    moves: &[u16],
+    levels: &mut Levels<A>,
+    k: usize,
+    scratch: &mut Scratch<A>,
+    work: &mut Work,
+) -> Result<(), Halt> {
+    for element in 0..quotient.order {
+        cover_options(
+            quotient,
+            moves,
+            &levels.rows,
+            k,
+            element,
+            &mut scratch.covered,
+        );
+        let options = moves
+            .len()
+            .saturating_add(quotient.options.list(element).len());
+        scene.settle(&scratch.covered, options > 0, &mut scratch.row);
+        levels.rows.extend_from_slice(&scratch.row)?;
+        work.spend(options.saturating_mul(quotient.words))?;
+        work.spend(scene.cost())?;
+    }
+    Ok(())
+}
+
+/// Whether two levels of so many words are the same.
+fn are_same(rows: &[u64], words: usize, j: usize, k: usize) -> bool {
+    let one = part(rows, j.wrapping_mul(words), words);
+    let other = part(rows, k.wrapping_mul(words), words);
+    for place in 0..words {
+        if word(one, place) != word(other, place) {
+            return false;
+        }
+    }
+    true
+}
+
+/// The first level before k that is the same as level k.
+fn same_before(rows: &[u64], words: usize, k: usize) -> Option<usize> {
+    for j in 0..k {
+        if are_same(rows, words, j, k) {
+            return Some(j);
+        }
+    }
+    None
+}
+
+/// Adds levels behind level 1 until they come round.
+pub fn finish<A: Allocator + Copy>(
+    alloc: A,
+    scene: &Scene<A>,
+    quotient: &Quotient<A>,
+    moves: &[u16],
+    levels: &mut Levels<A>,
+    work: &mut Work,
+) -> Result<(), Halt> {
+    let words = quotient.order.saturating_mul(quotient.words);
+    for k in 1..MOST_PAIRS {
+        if k > 1 {
+            raise(alloc, scene, quotient, moves, levels, k, work)?;
+        }
+        work.spend(k)?;
+        if let Some(lead) = same_before(&levels.rows, words, k) {
+            levels.count = k;
+            levels.lead = lead;
+            return Ok(());
+        }
+        if k.saturating_add(1).saturating_mul(quotient.order) > MOST_PAIRS {
+            return Err(Halt::GaveUp);
+        }
+    }
+    Err(Halt::GaveUp)
+}
+
+/// Whether level 1 is what the element x does.
+fn shows<A: Allocator>(
+    scene: &Scene<A>,
+    quotient: &Quotient<A>,
+    levels: &Levels<A>,
+    x: usize,
+) -> bool {
+    for y in 0..quotient.order {
+        let shown = part(&levels.rows, row_at(quotient, 1, y), quotient.words);
+        if !scene.agree(shown, quotient.row(quotient.times(x, y))) {
+            return false;
+        }
+    }
+    true
+}
+
+/// The element that level 1 shows.
+pub fn identify<A: Allocator>(
+    scene: &Scene<A>,
+    quotient: &Quotient<A>,
+    levels: &Levels<A>,
+    work: &mut Work,
+) -> Result<Option<usize>, Halt> {
+    for x in 0..quotient.order {
+        work.spend(8)?;
+        if shows(scene, quotient, levels, x) {
+            return Ok(Some(x));
+        }
+    }
+    Ok(None)
+}

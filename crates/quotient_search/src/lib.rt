@@ -1,0 +1,28 @@
+//! A search for the misère quotients of octal games, heap by heap.
+//!
+//! Nothing is promised of a quotient that is found: it may be wrong.
+#![tactic(auto)]
+
+mod cells;
+mod chains;
+mod closure;
+mod collapse;
+mod congruence;
+mod contexts;
+mod dead;
+mod extend;
+mod failing;
+mod levels;
+mod lightest;
+mod lists;
+mod partition;
+mod quotient;
+mod repair;
+mod scene;
+mod search;
+mod sets;
+mod state;
+mod work;
+
+pub use quotient::Quotient;
+pub use search::find_quotient;

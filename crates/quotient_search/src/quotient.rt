@@ -1,0 +1,129 @@
+//! Quotients on the way: a finite commutative monoid for the heaps up to some size.
+use crate::cells::{at, index, part, small, word};
+use crate::lists::Lists;
+use crate::scene::Scene;
+use crate::work::Halt;
+use octal_code::Code;
+use positions::{Left, options};
+use std::alloc::Allocator;
+
+/// A commutative monoid with the elements of the heaps 1, 2, .. Each element is known by its
+/// lightest representative, where a heap n weighs 2n - 1, and the elements are numbered by that
+/// weight.
+#[derive(Drop)]
+pub struct Quotient<A: Allocator> {
+    /// How many elements there are.
+    pub(crate) order: usize,
+    /// How many words a row has.
+    pub(crate) words: usize,
+    /// The products, row after row.
+    pub(crate) products: Vec<u16, A>,
+    /// For each element the row of the contexts beside which it is lost.
+    pub(crate) rows: Vec<u64, A>,
+    /// The weights of the representatives.
+    pub(crate) weights: Vec<u64, A>,
+    /// The values of the representatives' options.
+    pub(crate) options: Lists<A>,
+    /// The elements of the heaps 1, 2, ..
+    pub(crate) heaps: Vec<u16, A>,
+    /// The values of the heaps' options.
+    pub(crate) moves: Lists<A>,
+}
+
+/// The weight of the heap n.
+pub fn heap_weight(n: usize) -> u64 {
+    (n as u64).saturating_mul(2).saturating_sub(1)
+}
+
+impl<A: Allocator + Copy> Quotient<A> {
+    /// No element yet, and no memory.
+    pub(crate) fn empty(alloc: A) -> Quotient<A> {
+        Quotient {
+            order: 0,
+            words: 0,
+            products: Vec::new(alloc),
+            rows: Vec::new(alloc),
+            weights: Vec::new(alloc),
+            options: Lists::new(alloc),
+            heaps: Vec::new(alloc),
+            moves: Lists::new(alloc),
+        }
+    }
+
+    /// Finds the values of all heaps' options anew.
+    pub(crate) fn renew_moves(&mut self, alloc: A, code: &Code) -> Result<(), Halt> {
+        self.moves = Lists::new(alloc);
+        for n in 1..self.heaps.len().saturating_add(1) {
+            self.add_moves(code, n)?;
+        }
+        Ok(())
+    }
+}
+
+impl<A: Allocator> Quotient<A> {
+    /// Makes an empty one the quotient without any heap.
+    pub(crate) fn begin(&mut self, scene: &Scene<A>) -> Result<(), Halt> {
+        self.order = 1;
+        self.words = scene.words;
+        self.rows.resize(scene.words, 0)?;
+        scene.settle(&[], false, &mut self.rows);
+        self.products.push(0)?;
+        self.weights.push(0)?;
+        self.options.close()
+    }
+
+    /// How many elements there are.
+    pub fn order(&self) -> usize {
+        self.order
+    }
+
+    /// The products, row after row.
+    pub fn products(&self) -> &[u16] {
+        &self.products
+    }
+
+    /// The elements of the heaps 1, 2, ..
+    pub fn heaps(&self) -> &[u16] {
+        &self.heaps
+    }
+
+    /// The product.
+    #[inline]
+    pub(crate) fn times(&self, x: usize, y: usize) -> usize {
+        at(&self.products, x.wrapping_mul(self.order).wrapping_add(y))
+    }
+
+    /// The row of an element.
+    pub(crate) fn row(&self, x: usize) -> &[u64] {
+        part(&self.rows, x.wrapping_mul(self.words), self.words)
+    }
+
+    /// Whether an element is in the portion.
+    #[inline]
+    pub fn is_lost(&self, x: usize) -> bool {
+        word(&self.rows, x.wrapping_mul(self.words)) & 1 == 1
+    }
+
+    /// The element of the heap n.
+    pub(crate) fn heap(&self, n: usize) -> usize {
+        at(&self.heaps, n.wrapping_sub(1))
+    }
+
+    /// The values of the options of the heap n.
+    pub(crate) fn heap_moves(&self, n: usize) -> &[u16] {
+        self.moves.list(n.wrapping_sub(1))
+    }
+
+    /// Adds the values of the options of the heap n, the next one.
+    pub(crate) fn add_moves(&mut self, code: &Code, n: usize) -> Result<(), Halt> {
+        for left in options(code, n as u64) {
+            let value = match left {
+                Left::Nothing => 0,
+                Left::One(a) => self.heap(a as usize),
+                Left::Two(a, b) => self.times(self.heap(a as usize), self.heap(b as usize)),
+            };
+            self.moves.push_new(value)?;
+        }
+        self.moves.close()
+    }
+}

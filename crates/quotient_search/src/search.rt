@@ -1,0 +1,95 @@
+//! The search for a quotient, heap by heap.
+use crate::extend::extend;
+use crate::quotient::Quotient;
+use crate::repair::repair;
+use crate::scene::Scene;
+use crate::state::State;
+use crate::work::{Halt, Work};
+use allocation::Memory;
+use octal_code::Code;
+use periods::{is_shown, likely_period};
+use std::alloc::Allocator;
+
+/// The most elements that a certificate may have. With more heaps a right quotient has no fewer.
+const MOST_ELEMENTS: usize = 256;
+
+/// Adds the heap n, and makes the quotient right.
+fn advance<A: Allocator + Copy>(
+    alloc: A,
+    code: &Code,
+    scene: &Scene<A>,
+    state: &mut State<A>,
+    n: usize,
+    work: &mut Work,
+) -> Result<(), Halt> {
+    if extend(alloc, code, scene, &mut state.quotient, n, work)? {
+        state.closure.renew(alloc, &state.quotient, work)?;
+    } else {
+        state.closure.add(alloc, &state.quotient, n, work)?;
+    }
+    if state.closure.failed {
+        repair(alloc, code, state, work)?;
+    }
+    if state.quotient.order > MOST_ELEMENTS {
+        return Err(Halt::GaveUp);
+    }
+    Ok(())
+}
+
+/// Whether the heaps show a period.
+fn has_period(heaps: &[u16], last: usize) -> bool {
+    match likely_period(heaps, last) {
+        Some((start, period)) => is_shown(heaps, start, period, last),
+        None => false,
+    }
+}
+
+/// Brings an empty state to the quotient of the heaps up to the first one by which a period shows,
+/// or up to `most`.
+fn search_from<A: Allocator + Copy>(
+    alloc: A,
+    code: &Code,
+    most: usize,
+    state: &mut State<A>,
+) -> Result<(), Halt> {
+    let scene = Scene::plain(alloc)?;
+    search_beside(alloc, code, &scene, most, state)
+}
+
+/// Searches beside contexts.
+fn search_beside<A: Allocator + Copy>(
+    alloc: A,
+    code: &Code,
+    scene: &Scene<A>,
+    most: usize,
+    state: &mut State<A>,
+) -> Result<(), Halt> {
+    let mut work = Work::new();
+    state.quotient.begin(scene)?;
+    state.closure.begin(alloc, &state.quotient)?;
+    for n in 1..most.saturating_add(1) {
+        advance(alloc, code, scene, state, n, &mut work)?;
+        if has_period(&state.quotient.heaps, code.last() as usize) {
+            break;
+        }
+    }
+    Ok(())
+}
+
+/// A guess of the quotient of a code's heaps up to the first one by which a period shows, or up to
+/// `most`. `None` where it gives up. The work is bounded.
+pub fn find_quotient<A: Allocator + Copy>(
+    alloc: A,
+    code: &Code,
+    most: usize,
+) -> Result<Option<Quotient<A>>, Memory> {
+    let mut state = State::empty(alloc);
+    match search_from(alloc, code, most, &mut state) {
+        Ok(()) => {
+            let State { quotient, .. } = state;
+            Ok(Some(quotient))
+        }
+        Err(Halt::Memory) => Err(Memory),
+        Err(Halt::GaveUp) => Ok(None),
+    }
+}

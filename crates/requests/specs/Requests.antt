@@ -1,0 +1,48 @@
+-- What can be asked of the program, with texts as lists of codes. This project's own.
+use Rattle.std.specs.Prelude.{ℕ, List, Option, option_map}
+use Rattle.requests.specs.declared.plans.CatalogueTask.{CatalogueTask}
+use Rattle.requests.specs.declared.plans.CatalogueTask.TheVariants as task
+use Rattle.requests.specs.declared.plans.Plan.{Plan}
+use Rattle.requests.specs.declared.plans.Plan.TheVariants as plan
+
+-- the limit of a check for which none is given
+abbrev pub default_limit : ℕ
+default_limit = 100000
+
+-- what is asked of a catalogue
+pub data CatalogueRequest : Type 0 where
+  Print : CatalogueRequest
+  New : CatalogueRequest
+  Add : List ℕ → CatalogueRequest
+  NewWith : List ℕ → CatalogueRequest
+  Get : List ℕ → CatalogueRequest
+  Salvage : CatalogueRequest
+
+-- what is asked of the program
+pub data Request : Type 0 where
+  Check : Option (List ℕ) → ℕ → Request
+  Solve : List ℕ → ℕ → ℕ → ℕ → ℕ → Request
+  Show : List ℕ → Request
+  Play : List ℕ → List ℕ → Request
+  Present : List ℕ → Request
+  Catalogue : List ℕ → CatalogueRequest → Request
+  Desk : List ℕ → Request
+
+-- what a task asks for
+abbrev pub catalogue_request_of : CatalogueTask → CatalogueRequest
+catalogue_request_of task.Print = Print
+catalogue_request_of task.New = New
+catalogue_request_of (task.Add certificate) = Add certificate.now
+catalogue_request_of (task.NewWith certificate) = NewWith certificate.now
+catalogue_request_of (task.Get code) = Get code.now
+catalogue_request_of task.Salvage = Salvage
+
+-- what a plan asks for
+abbrev pub request_of : Plan → Request
+request_of (plan.Check file limit) = Check (option_map (λ f. f.now) file) limit
+request_of (plan.Solve code limit rounds heaps order) = Solve code.now limit rounds heaps order
+request_of (plan.Show file) = Show file.now
+request_of (plan.Play file position) = Play file.now position.now
+request_of (plan.Present text) = Present text.now
+request_of (plan.Catalogue file asked) = Catalogue file.now (catalogue_request_of asked)
+request_of (plan.Desk script) = Desk script.now

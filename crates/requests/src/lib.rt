@@ -1,0 +1,6 @@
+//! What the program can be asked for, apart from the words that ask for it.
+#![tactic(auto)]
+
+mod plans;
+
+pub use plans::{CatalogueTask, DEFAULT_LIMIT, Plan};

@@ -1,0 +1,63 @@
+//! Plans: what is asked for, with the texts as they were given.
+
+/// The limit of a check for which none is given.
+pub const DEFAULT_LIMIT: u32 = 100000;
+
+/// What the program is asked to do.
+#[derive(Clone, Copy, Debug, PartialEq, Eq)]
+pub enum Plan<'a> {
+    /// Check the certificate in the file, or on standard input where no file is named, and keep
+    /// at most so many members of its closure.
+    Check {
+        file: Option<&'a str>,
+        limit: u32,
+    },
+    /// Look for a quotient of the code, in at most so many rounds, among the heaps up to `heaps`
+    /// and the quotients of at most `order` elements; each proposal is checked under the limit.
+    Solve {
+        code: &'a str,
+        limit: u32,
+        rounds: u32,
+        heaps: u32,
+        order: u32,
+    },
+    /// Print the quotient that the file certifies.
+    Show {
+        file: &'a str,
+    },
+    /// Answer in a position by the quotient that the file certifies.
+    Play {
+        file: &'a str,
+        position: &'a str,
+    },
+    /// Print the monoid that the text presents.
+    Present {
+        text: &'a str,
+    },
+    /// Do something with the catalogue in the file.
+    Catalogue {
+        file: &'a str,
+        task: CatalogueTask<'a>,
+    },
+    /// Take the steps of the script in the file, one after another at one desk.
+    Desk {
+        script: &'a str,
+    },
+}
+
+/// What is asked of a catalogue.
+#[derive(Clone, Copy, Debug, PartialEq, Eq)]
+pub enum CatalogueTask<'a> {
+    /// Print a line for each entry.
+    Print,
+    /// Write an empty catalogue, without reading the file.
+    New,
+    /// Add the certificate in this file.
+    Add(&'a str),
+    /// Write a catalogue of the certificate in this file alone, without reading the catalogue.
+    NewWith(&'a str),
+    /// Print the certificate of this code.
+    Get(&'a str),
+    /// Keep the entries that are certified, and tell the others.
+    Salvage,
+}

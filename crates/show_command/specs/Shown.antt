@@ -1,0 +1,63 @@
+-- The lines of a certified quotient. This project's own.
+use Rattle.std.specs.Prelude.{◌≡◌, ℕ, ◌+◌, Bool, true, false, List, [], ◌++◌, Option, Result, Ok, Err, Vec, if◌then◌else◌, codes, decimal, IsPermutation}
+use Rattle.std.specs.List.Sorted.{IsNonDecreasing}
+use Rattle.misere_theory.specs.Certificates.{Certificate, IsSpelled, claim_of, phi_at}
+use Rattle.octal_code.specs.Text.{code_text}
+use Rattle.positions.specs.Text.{position_text}
+use Rattle.check_command.specs.Checks.{Certifies, SaysOfFile}
+
+-- the first two lines
+abbrev pub head_lines : Certificate → List ℕ
+head_lines c = codes "code " ++ code_text c.code ++ codes "\norder " ++ decimal c.order ++ codes "\n"
+
+-- the last line
+abbrev pub tail_line : Certificate → List ℕ
+tail_line c = codes "repeat " ++ decimal c.period ++ codes " from " ++ decimal c.start ++ codes "\n"
+
+-- P for an element of the portion, and N for any other
+abbrev pub letter_of : Certificate → ℕ → List ℕ
+letter_of c e = if (claim_of c).portion e then codes "P" else codes "N"
+
+-- the sizes, rising, of the position that the keys of an element spell
+pub record AreSpelled (c : Certificate) (e : ℕ) (sizes : List ℕ) : Type 0 where
+  pub X : List ℕ
+  pub spelled : IsSpelled c e X
+  pub same : IsPermutation X sizes
+  pub rising : IsNonDecreasing sizes
+
+-- an element, its letter, and a position
+abbrev pub element_line : ℕ → List ℕ → List ℕ → List ℕ
+element_line e letter position = codes "element " ++ decimal e ++ codes " " ++ letter ++ codes " " ++ position ++ codes "\n"
+
+-- The lines of the elements below n, with the positions that their keys spell.
+pub data AreElementLines (c : Certificate) : ℕ → List ℕ → Type 0 where
+  NoElement : AreElementLines c 0 []
+  NextElement : {text : List ℕ} (e : ℕ) (sizes : List ℕ) → AreElementLines c e text → AreSpelled c e sizes
+      → AreElementLines c (e + 1) (text ++ element_line e (letter_of c e) (position_text sizes))
+
+-- a heap and its element
+abbrev pub heap_line : ℕ → ℕ → List ℕ
+heap_line heap element = codes "heap " ++ decimal heap ++ codes " " ++ decimal element ++ codes "\n"
+
+-- The lines of the heaps from 1 to below n.
+pub data AreHeapLines (c : Certificate) : ℕ → List ℕ → Type 0 where
+  NoHeap : AreHeapLines c 1 []
+  NextHeap : {text : List ℕ} (heap : ℕ) → AreHeapLines c heap text → AreHeapLines c (heap + 1) (text ++ heap_line heap (phi_at c heap))
+
+-- The text is that of the quotient: its code and order, its elements, its heaps, and how they repeat.
+pub record IsQuotientText (c : Certificate) (text : List ℕ) : Type 0 where
+  pub elements : List ℕ
+  pub heaps : List ℕ
+  pub are_elements : AreElementLines c c.order elements
+  pub are_heaps : AreHeapLines c (c.start + c.period) heaps
+  pub lines : text ≡ head_lines c ++ elements ++ heaps ++ tail_line c
+
+-- the text of the quotient that was found, and the text of a no where none was
+abbrev pub ShowsFound : {A : Type 0} → Result Certificate (Vec ℕ A) → List ℕ → Bool → Type 0
+ShowsFound (Ok c) text well = IsQuotientText c text × (well ≡ true)
+ShowsFound (Err said) text well = (text ≡ said.items) × (well ≡ false)
+
+-- the text is that of the quotient that the file certifies under the limit, or of a true no
+abbrev pub Shows : Option (List ℕ → Option (List ℕ)) → List ℕ → ℕ → List ℕ → Bool → Type 0
+Shows files file limit text true = (c : Certificate) × Certifies files file limit c × IsQuotientText c text
+Shows files file limit text false = SaysOfFile files file limit text false

@@ -1,0 +1,9 @@
+//! `show`: the quotient that a file certifies, line by line.
+#![tactic(auto)]
+
+mod showing;
+
+pub use showing::show;
+
+#[cfg(test)]
+mod tests;
