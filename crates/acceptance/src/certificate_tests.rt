@@ -1,3 +1,4 @@
+//! Certificates read and written, cut short, and with memory refused.
 ghost use Rattle.std.specs.Prelude.{Some};
 
 use certificate::{Cert, Sink, TextFault, WriteFault, read, write};

@@ -1,3 +1,4 @@
+//! Codes read and written.
 use octal_code::{Code, CodeFault};
 use ration::Ration;
 use std::test::Fail;

@@ -1,3 +1,4 @@
+//! Outcomes of worked positions, the budget, and memory refused.
 use allocation::{Memory, Room};
 use octal_code::Code;
 use outcome_search::{Outcome, SearchFault, outcome};

@@ -1,3 +1,4 @@
+//! Options, moves, and the texts of positions.
 use allocation::{Memory, Room};
 use octal_code::Code;
 use positions::{Left, Move, MoveFault, Position, PositionFault, apply, options};

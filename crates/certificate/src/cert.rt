@@ -1,3 +1,4 @@
+//! Certificates whose lines fit one another.
 ghost use Rattle.std.specs.Prelude.{◌≡◌, ◌≤◌};
 ghost use Rattle.std.specs.List.{concat};
 ghost use Rattle.misere_theory.specs.Certificates.{InRanges};

@@ -1,3 +1,4 @@
+//! Why bytes are no certificate.
 ghost use Rattle.std.specs.Prelude.{◌≡◌};
 ghost use Rattle.certificate.specs.Faults.{text_fault_number};
 ghost use Rattle.certificate.specs.declared.fault.TextFault.TheVariants.{Memory as OutOfMemory};

@@ -1,3 +1,4 @@
+//! Keys of elements.
 use std::marker::Model;
 
 /// Where an element above 0 comes from: it is the product of a smaller element and the element of a heap.

@@ -1,3 +1,4 @@
+//! What a certificate claims, by its lines and by its parts.
 ghost use Rattle.misere_theory.specs.Certificates.{Certificate, InRanges, claim_of};
 ghost use Rattle.monoid_table.specs.Grids.{IsShaped};
 ghost use Rattle.transition_algebra.specs.Heaps.{Agrees, IsInto};

@@ -1,3 +1,4 @@
+//! The lines of a certificate, apart.
 use crate::key::Key;
 use octal_code::Code;
 use std::alloc::{Allocator, Global};

@@ -1,3 +1,4 @@
+//! Sources and sinks that fail at one call.
 ghost use Rattle.std.specs.Prelude.{◌≡◌, ◌+◌, ◌-◌, ◌↔◌, IsTrue};
 
 use streams::{DeviceFault, Failures, Sink, Source};

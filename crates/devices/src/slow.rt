@@ -1,3 +1,4 @@
+//! Sources and sinks of one byte at a time.
 ghost use Rattle.std.specs.Prelude.{◌≡◌, Some, []};
 
 use std::alloc::{Allocator, Global};

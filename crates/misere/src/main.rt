@@ -1,3 +1,4 @@
+//! The program `misere`.
 // The program: its words, the machine's files and its streams go to one whole run.
 #![tactic(auto)]
 

@@ -1,3 +1,4 @@
+//! Octal codes and their text.
 ghost use Rattle.std.specs.Prelude.{◌≡◌, ◌-◌, ◌<◌, ◌≤◌, ◌^◌, ◌↔◌, ◌⊎◌, ℕ, List, IsBitSet, IsTrue, IfOk, All, length, string_bytes};
 ghost use Rattle.misere_theory.specs.Games.{digit, IsOctalCode};
 ghost use Rattle.octal_code.specs.Bits.{has_bit, leaves_one, takes_all};

@@ -1,3 +1,4 @@
+//! Why a text is no code.
 ghost use Rattle.std.specs.Prelude.{◌≡◌};
 ghost use Rattle.octal_code.specs.Faults.{code_fault_number};
 

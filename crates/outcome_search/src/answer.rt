@@ -1,3 +1,4 @@
+//! What a search answers.
 ghost use Rattle.std.specs.Prelude.{◌≡◌};
 ghost use Rattle.outcome_search.specs.Outcomes.{search_fault_number};
 

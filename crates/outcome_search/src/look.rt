@@ -1,3 +1,4 @@
+//! What the options of a position show.
 ghost use Rattle.std.specs.Prelude.{◌<◌, length, slice_index, IfOk, MatchOption};
 ghost use Rattle.outcome_search.specs.Known.{known, HasSeen, IsUnknown};
 ghost use Rattle.outcome_search.specs.Settled.{Follows};

@@ -1,3 +1,4 @@
+//! The search for an outcome.
 ghost use Rattle.std.specs.Prelude.{◌≡◌, IfOk};
 ghost use Rattle.misere_theory.specs.Plays.{MoreReachableThan};
 ghost use Rattle.outcome_search.specs.Outcomes.{HasOutcome};

@@ -1,3 +1,4 @@
+//! Positions settled one after another, the last that waits first.
 ghost use Rattle.std.specs.Prelude.{◌≡◌, [], ◌∷◌, ◌++◌, IfOk, OnOk};
 ghost use Rattle.std.specs.List.Sorted.{IsNonDecreasing};
 ghost use Rattle.misere_theory.specs.Plays.{MoreReachableThan};

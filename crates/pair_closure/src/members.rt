@@ -1,3 +1,4 @@
+//! The members that were kept, by their values.
 // The members ever kept, found by their value.
 ghost use Rattle.std.specs.Prelude.{◌≡◌, ◌++◌, ◌∷◌, [], ◌<◌, ℕ, length, OnOk, OnErr, slice_index, slice_index_or};
 ghost use Rattle.pair_closure.specs.Chains.{blank, last_with};

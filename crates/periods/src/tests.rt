@@ -1,3 +1,4 @@
+//! Least periods of lists.
 use crate::least_period;
 
 #[test]

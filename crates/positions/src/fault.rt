@@ -1,3 +1,4 @@
+//! Why a text is no position.
 ghost use Rattle.std.specs.Prelude.{◌≡◌};
 ghost use Rattle.positions.specs.Text.{position_fault_number};
 

@@ -1,3 +1,4 @@
+//! What a move leaves of a heap.
 /// What a move leaves of a heap, the smaller part first.
 #[derive(Clone, Copy, Debug, PartialEq, Eq)]
 pub enum Left {

@@ -1,3 +1,4 @@
+//! The options of a heap, one after another.
 ghost use Rattle.std.specs.List.Sorted.{IsPermutation};
 ghost use Rattle.std.specs.Prelude.{◌≡◌, ◌↔◌, ℕ, List, Contains, AllPairs};
 ghost use Rattle.misere_theory.specs.Games.{HeapOption};

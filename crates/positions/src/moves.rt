@@ -1,3 +1,4 @@
+//! Moves.
 ghost use Rattle.std.specs.Prelude.{◌≡◌, ◌+◌, ◌<◌, ◌≤◌, ◌↔◌, Contains, IsTrue, IfOk, length};
 ghost use Rattle.misere_theory.specs.Games.{HeapMove};
 ghost use Rattle.positions.specs.Exact.{heaps_of};

@@ -1,3 +1,4 @@
+//! Positions.
 ghost use Rattle.std.specs.List.Sorted.{IsNonDecreasing, IsPermutation};
 ghost use Rattle.std.specs.Prelude.{◌≡◌, ◌<◌, ◌≤◌, ◌∷◌, ◌++◌, ◌+◌, [], ℕ, length, slice_index, remove, All, IsOk, IfOk, OnOk, OnErr, MatchResult};
 ghost use Rattle.positions.specs.Exact.{heaps_of};

@@ -1,3 +1,4 @@
+//! Positions out of texts.
 ghost use Rattle.std.specs.Prelude.{◌≡◌, ◌↔◌, IfOk, IsTrue, codes};
 ghost use Rattle.positions.specs.Text.{HasTooLarge, HasTooMany, IsNoPositionText, IsTextOf};
 

@@ -1,3 +1,4 @@
+//! The sizes that a text names, looked over once.
 ghost use Rattle.std.specs.Prelude.{◌≡◌, ◌≢◌, ◌<◌, ◌≤◌, ◌+◌, ◌++◌, [], ◌∷◌, ◌^◌, ℕ, List, length, slice_index, All, MatchOption};
 ghost use Rattle.positions.specs.Surveys.{capped, IsSurvey, IsSurveyOf};
 ghost use Rattle.positions.specs.Text.{number_of, words_of, IsNumeral};

@@ -1,3 +1,4 @@
+//! A walk over the options of a heap.
 ghost use Rattle.std.specs.Iterator.{YieldsFirst, item_count};
 ghost use Rattle.std.specs.Prelude.{◌<◌, length};
 ghost use Rattle.positions.specs.Walks.{rest, IsTurn};

@@ -1,3 +1,4 @@
+//! The texts of positions.
 ghost use Rattle.std.specs.Prelude.{◌≡◌, ◌++◌, IfOk, OnOk, decimal, string_bytes};
 ghost use Rattle.positions.specs.Text.{position_text, IsPositionText};
 
