@@ -1,11 +1,10 @@
 //! Certificates read and written, cut short, and with memory refused.
-ghost use Rattle.std.specs.Prelude.{Some};
-
-use certificate::{Cert, Sink, TextFault, WriteFault, read, write};
+use certificate::{Cert, TextFault, WriteFault, read, write};
+use devices::{FailingSink, SlowSink};
 use ration::Ration;
 use std::alloc::AllocError;
 use std::test::Fail;
-use streams::{DeviceFault, Failures, MemorySink};
+use streams::MemorySink;
 
 const OF_0_1: &[u8] =
     b"mqc 1\ncode 0.1\norder 2\nstart 2\nperiod 1\nphi 1 0\nportion 1\nwords 0:1\n\
@@ -78,29 +77,6 @@ row 0 1\r\nrow 1 0\r\napart 0\r\nend\r\n",
     b"mqc 1\ncode 0.3\norder 2\nstart 1\nperiod 2\nphi 1 0\nportion 1\nwords 0:1\nrow 0 1\napart 0\nend\n",
 ];
 
-/// Takes one byte at a time, and fails at one call.
-#[derive(Drop)]
-struct Slit {
-    bytes: Vec<u8>,
-    until: u64,
-    failed: Failures,
-}
-
-impl Sink for Slit {
-    ghost taken = { λ s. Some s.bytes.items };
-
-    ghost failures = { λ s. s.failed.count };
-
-    fn write(&mut self, bytes: &[u8]) -> Result<usize, DeviceFault> {
-        self.until = self.until.saturating_sub(1);
-        if self.until == 0 || self.bytes.push(bytes[0]).is_err() {
-            self.failed.add();
-            return Err(DeviceFault);
-        }
-        Ok(1)
-    }
-}
-
 #[test]
 fn writes_what_it_reads(rt: HostRuntime) -> Result<(), Fail> {
     for bytes in [OF_0_1, OF_0_3, OF_0_33, OF_0_75, REFUTED, UNREACHED] {
@@ -162,15 +138,12 @@ fn refuses_beginnings(rt: HostRuntime) {
 fn writes_a_beginning(rt: HostRuntime) -> Result<(), Fail> {
     let cert = read(rt.alloc(), OF_0_3)?;
     for until in 1..99u64 {
-        let mut sink = Slit {
-            bytes: Vec::new(rt.alloc()),
-            until,
-            failed: Failures::new(),
-        };
+        let mut sink = FailingSink::new(SlowSink::new(rt.alloc()), until);
         let written = write(&cert, &mut sink);
+        let bytes = sink.within().bytes();
         assert_eq!(rt; written == Err(WriteFault::Write), until < 97, "at {until}");
-        assert!(rt; OF_0_3.starts_with(&sink.bytes), "at {until}");
-        assert_eq!(rt; sink.bytes.len() as u64, until.min(97) - 1, "at {until}");
+        assert!(rt; OF_0_3.starts_with(bytes), "at {until}");
+        assert_eq!(rt; bytes.len() as u64, until.min(97) - 1, "at {until}");
     }
     Ok(())
 }

@@ -60,6 +60,11 @@ impl Catalogue {
         }
     }
 
+    /// The allocator that holds the entries.
+    pub(crate) fn allocator(&self) -> Global {
+        *self.entries.allocator()
+    }
+
     /// Adds an entry behind the others. Where the code is there already, so is this very certificate. After a refusal nothing
     /// changed.
     pub fn add(&mut self, certified: Certified) -> Result<(), AddFault>

@@ -69,9 +69,10 @@ impl Catalogue {
     }
 
     /// The text of the catalogue: compact JSON and one LF.
-    pub fn text(&self, alloc: Global) -> Result<String, Memory>
+    pub fn text(&self) -> Result<String, Memory>
         ensures { IfOk result (λ t. string_bytes t ≡ catalogue_text self.now) }
     {
+        let alloc = self.allocator();
         let value = self.value(alloc)?;
         let mut text = value.to_string(alloc)?;
         text.push('\n')?;
@@ -82,13 +83,13 @@ impl Catalogue {
     ///
     /// Refuses `Write` only where the sink fails in this call; what went out is then a beginning of the text. After want of memory nothing
     /// was written.
-    pub fn write<W: Sink>(&self, alloc: Global, sink: &mut W) -> Result<(), WriteFault>
+    pub fn write<W: Sink>(&self, sink: &mut W) -> Result<(), WriteFault>
         ensures written { OnOk result (Appends (W.taken sink.old) (W.taken sink.new) (catalogue_text self.now)) }
         ensures beginning { result ≡ Err WriteFault.Write → AppendsSome (W.taken sink.old) (W.taken sink.new) (catalogue_text self.now) }
         ensures cause { result ≡ Err WriteFault.Write → W.failures sink.old < W.failures sink.new }
         ensures unwritten { result ≡ Err WriteFault.Memory → sink.new ≡ sink.old }
     {
-        let text = self.text(alloc)?;
+        let text = self.text()?;
         match write_whole(sink, text.as_bytes()) {
             Ok(()) => Ok(()),
             Err(_) => Err(WriteFault::Write),

@@ -73,7 +73,6 @@ fn addition(
 
 /// Puts the text of a catalogue in place of the file's.
 pub(crate) fn save<F: Folder>(
-    alloc: Global,
     folder: &mut F,
     file: &str,
     catalogue: &Catalogue,
@@ -83,7 +82,7 @@ pub(crate) fn save<F: Folder>(
     ensures stops { IfErr result (StopsCreate
         (failed (F.failed_reads folder.old) (F.failed_writes folder.old)) (failed (F.failed_reads folder.new) (F.failed_writes folder.new))) }
 {
-    let text = catalogue.text(alloc)?;
+    let text = catalogue.text()?;
     put(folder, file, text.as_bytes())
 }
 
@@ -99,7 +98,7 @@ pub fn create<F: Folder>(
         (failed (F.failed_reads folder.old) (F.failed_writes folder.old)) (failed (F.failed_reads folder.new) (F.failed_writes folder.new))) }
 {
     let catalogue = Catalogue::new(alloc);
-    save(alloc, folder, file, &catalogue)?;
+    save(folder, file, &catalogue)?;
     Ok(Report {
         well: true,
         text: String::new(alloc),
@@ -130,7 +129,7 @@ pub fn add<'a, F: Folder>(
             let bytes = read(folder, certificate)?;
             let report = addition(alloc, &mut catalogue, &bytes, limit)?;
             if report.well {
-                save(alloc, folder, file, &catalogue)?;
+                save(folder, file, &catalogue)?;
             }
             Ok(report)
         }

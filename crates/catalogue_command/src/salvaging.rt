@@ -32,7 +32,7 @@ pub fn salvage<'a, F: Folder>(
         }
         Ok((catalogue, faults)) => {
             let text = salvage_lines(alloc, &catalogue, &faults)?;
-            save(alloc, folder, file, &catalogue)?;
+            save(folder, file, &catalogue)?;
             Ok(Report { well: true, text })
         }
     }

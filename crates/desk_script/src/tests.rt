@@ -108,14 +108,18 @@ fn tells_the_first_line_that_is_no_step(rt: HostRuntime) {
 }
 
 #[test]
-fn answers_want_of_memory(rt: HostRuntime) {
+fn answers_want_of_memory(rt: HostRuntime) -> Result<(), Fail> {
     let script =
         b"drop 1 1\nask 1 1 1 2 3 4 5 6 7 8 9 10\nplay 1 1 1 2 3\ndrop 1 1\ndrop 1 1\ndrop 1 1\n";
     for n in 1..100 {
         let ration = Ration::new(rt.alloc(), n);
         match read_script(&ration, script) {
             Ok(steps) => assert_eq!(rt; steps.len(), 6),
-            Err(fault) => assert_eq!(rt; fault, ScriptFault::Memory),
+            Err(fault) => assert!(rt; ration.has_refused() && fault == ScriptFault::Memory),
+        }
+        if !ration.has_refused() {
+            return Ok(());
         }
     }
+    Err(Fail::new("growths go on"))
 }

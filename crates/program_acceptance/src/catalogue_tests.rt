@@ -75,7 +75,7 @@ fn read_back(alloc: Global, text: &str) -> Result<Option<usize>, Fail> {
     let Ok(loaded) = Catalogue::load(alloc, text.as_bytes(), LIMIT) else {
         return Ok(None);
     };
-    let again = loaded.text(alloc)?;
+    let again = loaded.text()?;
     Ok(if again.as_str() == text {
         Some(loaded.entries().len())
     } else {
@@ -91,14 +91,14 @@ fn reads_back_what_it_writes(rt: HostRuntime) -> Result<(), Fail> {
     for count in [0u16, 1, 2, 9, 65, 600] {
         assert!(rt; fill(rt.alloc(), &mut catalogue, held, count)?, "{count}");
         held = count;
-        let text = catalogue.text(rt.alloc())?;
+        let text = catalogue.text()?;
         assert!(rt;
             text.as_str() == file_of(rt.alloc(), count, 1)?.as_str(),
             "{count}"
         );
         assert_eq!(rt; read_back(rt.alloc(), text.as_str())?, Some(count as usize));
     }
-    assert!(rt; catalogue.text(rt.alloc())?.len() > 65536);
+    assert!(rt; catalogue.text()?.len() > 65536);
     Ok(())
 }
 

@@ -4,6 +4,7 @@ use checker::{Job, Progress, Refusal, check};
 use ration::Ration;
 use std::alloc::{AllocError, Global};
 use std::test::Fail;
+use verdicts::verdict_text;
 
 /// The quotient of 0.33.
 const WHOLE: &[u8] =
@@ -170,6 +171,8 @@ fn memory_suffices_for_the_largest_order(rt: HostRuntime) -> Result<(), Fail> {
             Err(refusal) => {
                 let (number, heaps) = told(&refusal);
                 assert!(rt; number == 7 && heaps > 64, "{number} {heaps}");
+                let text = verdict_text(rt.alloc(), Err(&refusal))?;
+                assert!(rt; text.len() > 128);
             }
         }
     }

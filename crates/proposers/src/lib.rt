@@ -6,5 +6,6 @@
 mod refiner;
 mod sampler;
 
+pub use periods::least_period;
 pub use refiner::Refiner;
 pub use sampler::Sampler;
