@@ -1,0 +1,13 @@
+//! Tests of the commands and of the desk, by public names alone.
+#![tactic(auto)]
+
+#[cfg(test)]
+mod check_command_tests;
+#[cfg(test)]
+mod command_results_tests;
+#[cfg(test)]
+mod desk_script_tests;
+#[cfg(test)]
+mod desk_tests;
+#[cfg(test)]
+mod play_command_tests;
