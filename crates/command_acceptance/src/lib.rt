@@ -1,4 +1,4 @@
-//! Tests of the commands and of the desk, by public names alone.
+//! Tests of devices, files, commands and the desk, by public names alone.
 #![tactic(auto)]
 
 #[cfg(test)]
@@ -9,5 +9,9 @@ mod command_results_tests;
 mod desk_script_tests;
 #[cfg(test)]
 mod desk_tests;
+#[cfg(test)]
+mod devices_tests;
+#[cfg(test)]
+mod folders_tests;
 #[cfg(test)]
 mod play_command_tests;

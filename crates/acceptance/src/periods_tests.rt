@@ -1,4 +1,5 @@
-use crate::least_period;
+//! Rows of numbers and their least periods.
+use periods::least_period;
 
 #[test]
 fn periods_are_least(rt: HostRuntime) {
