@@ -1,4 +1,4 @@
-//! Tests of devices, files, commands and the desk, by public names alone.
+//! Tests of devices, files, the desk, its script, and the commands `check` and `play`, by public names alone.
 #![tactic(auto)]
 
 #[cfg(test)]
