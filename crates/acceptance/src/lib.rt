@@ -12,10 +12,16 @@ mod outcome_search_tests;
 #[cfg(test)]
 mod pair_closure_tests;
 #[cfg(test)]
+mod periods_tests;
+#[cfg(test)]
 mod positions_tests;
 #[cfg(test)]
 mod presentations_tests;
 #[cfg(test)]
 mod quotient_solver_tests;
+#[cfg(test)]
+mod ration_tests;
+#[cfg(test)]
+mod streams_tests;
 #[cfg(test)]
 mod transition_algebra_tests;

@@ -20,6 +20,3 @@ pub use report::Report;
 pub use salvaging::salvage;
 pub use stop::CatalogueStop;
 pub use tasks::act;
-
-#[cfg(test)]
-mod tests;

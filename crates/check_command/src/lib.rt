@@ -6,6 +6,3 @@ mod checking;
 
 pub use certifying::certified;
 pub use checking::{check_file, check_input};
-
-#[cfg(test)]
-mod tests;

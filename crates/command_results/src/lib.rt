@@ -12,6 +12,3 @@ pub use printing::print;
 pub use said::Said;
 pub use stop::Stop;
 pub use telling::tell;
-
-#[cfg(test)]
-mod tests;

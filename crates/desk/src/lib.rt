@@ -19,6 +19,3 @@ pub use desk::Desk;
 pub use event::Event;
 pub use laws::{own_calls_decide, steps_are_the_clients_own};
 pub use reply::{Reply, StepFault};
-
-#[cfg(test)]
-mod tests;

@@ -10,6 +10,3 @@ mod whole;
 pub use running::run_script;
 pub use stop::DeskStop;
 pub use whole::run_file;
-
-#[cfg(test)]
-mod tests;

@@ -11,6 +11,3 @@ mod tail;
 pub use fault::ScriptFault;
 pub use script::read_script;
 pub use step::Step;
-
-#[cfg(test)]
-mod tests;

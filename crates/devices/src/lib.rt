@@ -3,8 +3,6 @@
 
 mod failing;
 mod slow;
-#[cfg(test)]
-mod tests;
 
 pub use failing::{FailingSink, FailingSource};
 pub use slow::{SlowSink, SlowSource};

@@ -16,6 +16,3 @@ pub use folder::Folder;
 pub use host::{HostDisk, HostFolder};
 pub use memory::MemoryFolder;
 pub use replacing::{Disk, StageFault, replace};
-
-#[cfg(test)]
-mod tests;

@@ -36,6 +36,3 @@ pub fn repeats_from(entries: &[u16], period: usize) -> usize
     }
     start + 1
 }
-
-#[cfg(test)]
-mod tests;

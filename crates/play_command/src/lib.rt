@@ -6,6 +6,3 @@ mod playing;
 
 pub use answers::answer_text;
 pub use playing::play;
-
-#[cfg(test)]
-mod tests;

@@ -5,6 +5,3 @@ mod lines;
 mod presenting;
 
 pub use presenting::present;
-
-#[cfg(test)]
-mod tests;

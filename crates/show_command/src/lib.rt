@@ -4,6 +4,3 @@
 mod showing;
 
 pub use showing::show;
-
-#[cfg(test)]
-mod tests;

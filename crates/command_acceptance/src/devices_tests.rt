@@ -1,5 +1,5 @@
 //! Streams read and written whole, byte by byte, and with a failure at each call in turn.
-use crate::{FailingSink, FailingSource, SlowSink, SlowSource};
+use devices::{FailingSink, FailingSource, SlowSink, SlowSource};
 use ration::Ration;
 use std::test::Fail;
 use streams::{MemorySink, MemorySource, StreamFault, read_whole, write_whole};

@@ -3,7 +3,7 @@ mod certificates;
 mod games;
 
 use self::certificates::CERTIFICATES;
-use crate::{certified, check_file, check_input};
+use check_command::{certified, check_file, check_input};
 use command_results::{Said, Stop};
 use devices::FailingSource;
 use folders::{FileFault, MemoryFolder};

@@ -1,6 +1,6 @@
 //! Scripts of a few clients, sixteen clients on one certificate, and want of memory at each growth.
-use crate::{Client, Desk, Event, Reply};
 use allocation::{Memory, Room};
+use desk::{Client, Desk, Event, Reply};
 use player::{Answer, Outcome};
 use positions::{Left, Move, Position};
 use ration::Ration;

@@ -1,8 +1,8 @@
 //! Catalogue files in memory: what is printed, and what the files hold then.
 mod tasks;
 
-use crate::{CatalogueStop, Report, list, salvage};
 use allocation::Memory;
+use catalogue_command::{CatalogueStop, Report, list, salvage};
 use folders::MemoryFolder;
 use std::alloc::Global;
 use std::test::Fail;

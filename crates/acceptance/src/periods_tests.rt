@@ -1,5 +1,5 @@
-//! Least periods of lists.
-use crate::least_period;
+//! Rows of numbers and their least periods.
+use periods::least_period;
 
 #[test]
 fn periods_are_least(rt: HostRuntime) {

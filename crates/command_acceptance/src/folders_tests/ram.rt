@@ -1,6 +1,6 @@
 //! A disk in memory of which one step fails: making a file, writing it, waiting for it, or giving it its name.
-use crate::{Disk, StageFault};
 use allocation::Memory;
+use folders::{Disk, StageFault};
 use std::alloc::Global;
 use std::collections::BTreeMap;
 use streams::DeviceFault;

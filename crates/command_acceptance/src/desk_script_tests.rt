@@ -1,6 +1,6 @@
 //! Scripts that are read whole, and lines that aren't steps.
-use crate::{ScriptFault, Step, read_script};
 use allocation::Memory;
+use desk_script::{ScriptFault, Step, read_script};
 use ration::Ration;
 use std::alloc::Global;
 use std::test::Fail;

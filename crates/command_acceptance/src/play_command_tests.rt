@@ -1,7 +1,7 @@
 //! Worked answers.
-use crate::{answer_text, play};
 use command_results::Stop;
 use folders::MemoryFolder;
+use play_command::{answer_text, play};
 use player::Answer;
 use std::test::Fail;
 

@@ -1,5 +1,5 @@
 //! Worked presentations, and texts that present no finite monoid.
-use crate::present;
+use present_command::present;
 use std::test::Fail;
 
 #[test]

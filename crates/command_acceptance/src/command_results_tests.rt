@@ -1,5 +1,5 @@
 //! Statuses, lines and files, each in a row.
-use crate::{Said, Stop, print, read_file};
+use command_results::{Said, Stop, print, read_file};
 use folders::MemoryFolder;
 use std::test::Fail;
 use streams::MemorySink;

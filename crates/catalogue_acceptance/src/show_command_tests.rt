@@ -1,7 +1,7 @@
 //! Worked quotients, shown line by line.
-use crate::show;
 use command_results::Stop;
 use folders::MemoryFolder;
+use show_command::show;
 use std::test::Fail;
 
 const LIMIT: u32 = 100000;

@@ -1,7 +1,7 @@
 //! Tasks one after the other, and with each call of the folder failing.
 use super::{LIMIT, NIM, ONE_ENTRY};
-use crate::{CatalogueStop, act};
 use allocation::Memory;
+use catalogue_command::{CatalogueStop, act};
 use folders::MemoryFolder;
 use requests::CatalogueTask;
 use std::alloc::Global;

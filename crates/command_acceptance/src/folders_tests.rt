@@ -2,8 +2,8 @@
 mod ram;
 
 use self::ram::RamDisk;
-use crate::{FileFault, Folder, HostFolder, MemoryFolder, replace};
 use allocation::Memory;
+use folders::{FileFault, Folder, HostFolder, MemoryFolder, replace};
 use std::alloc::Global;
 use std::fs;
 use std::test::Fail;

@@ -1,6 +1,6 @@
 //! Worked scripts: the lines that are printed, and how a script ends before its end.
-use crate::{DeskStop, run_file, run_script};
 use allocation::Memory;
+use desk_command::{DeskStop, run_file, run_script};
 use devices::FailingSink;
 use folders::MemoryFolder;
 use std::alloc::Global;

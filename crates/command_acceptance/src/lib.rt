@@ -1,0 +1,17 @@
+//! Tests of devices, files, the desk, its script, and the commands `check` and `play`, by public names alone.
+#![tactic(auto)]
+
+#[cfg(test)]
+mod check_command_tests;
+#[cfg(test)]
+mod command_results_tests;
+#[cfg(test)]
+mod desk_script_tests;
+#[cfg(test)]
+mod desk_tests;
+#[cfg(test)]
+mod devices_tests;
+#[cfg(test)]
+mod folders_tests;
+#[cfg(test)]
+mod play_command_tests;
