@@ -1,4 +1,6 @@
 pub mod FileLemmas
+pub mod ConvertLemmas
+pub mod ReadLemmas
 pub mod KeyLemmas
 pub mod StoreLemmas
 pub mod LoadLemmas

@@ -7,6 +7,8 @@ mod file;
 mod key;
 mod laws;
 mod loading;
+mod number;
+mod passing;
 mod salvaging;
 mod store;
 mod text;
