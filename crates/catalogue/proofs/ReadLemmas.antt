@@ -1,12 +1,14 @@
 -- Values, items and members of JSON, a step at a time.
-use Rattle.std.proofs.Common.{◌≡◌, ℕ, ◌-◌, ◌<◌, ◌≤◌, List, [], ◌∷◌, length, Option, Some, None, Result, IfErr, Bool, Bor, option_map, refl, sym, ap, subst, ◌∙◌, arith}
+use Rattle.std.proofs.Common.{◌≡◌, ℕ, zero, suc, ◌-◌, ◌<◌, ◌≤◌, List, [], ◌∷◌, length, Option, Some, None, Result, IfErr, Bool, Bor, option_map, refl, sym, ap, subst, ◌∙◌, arith}
+use Rattle.std.specs.Prelude.{⊤}
 use Rattle.std.specs.Result.{IsErrAnd}
 use Rattle.std.proofs.lemmas.Result.{err_from_is_err_and, IfErr-weaker}
 use Rattle.json.specs.Token.{Token}
 use Rattle.json.specs.declared.token.Token.{Token as Spelt}
 use Rattle.json.specs.declared.token.Token.TheVariants as spelt
 use Rattle.json.specs.Reads.{token_of}
-use Rattle.json.specs.Json.{parse_map, after_end_array, read_key, items, members, value}
+use Rattle.json.specs.Json as json
+use Rattle.json.specs.Json.{Parse, parse_map, after_end_array, read_key, items, members, value_with, value}
 use Rattle.json.proofs.Grammar.{value-begin_array, value-begin_object, value_is, items_end, members_end, members_no_key as without_key}
 use Rattle.serde_json.specs.Data.{Num, Data, null, boolean, number, string, array, object, Items, no_items, item, Members, no_members, put}
 use Rattle.serde_json.specs.Find.{as_u64}
@@ -21,6 +23,10 @@ Those = Option (Items × List Token)
 
 abbrev pub Found : Type 0
 Found = Option (Members × List Token)
+
+pub itself : (o : Those) → o ≡ parse_map (λ ds. ds) o
+itself None = refl
+itself (Some p) = refl
 
 pub twice : (f g : Items → Items) (o : Those) → parse_map f (parse_map g o) ≡ parse_map (λ x. f (g x)) o
 twice f g None = refl
@@ -119,6 +125,44 @@ module _ (depth : ℕ) (ts : List Token) where
   other_refused spelt.Null f g h i j l = absurd (l refl)
   other_refused spelt.Bad f g h i j l = bad_refused
 
+-- ---- what the first token tells of the value
+
+abbrev IsSo : (Data → Type 0) → Option (Data × List Token) → Type 0
+IsSo P None = ⊤
+IsSo P (Some p) = P p.0
+
+so_mapped : {A : Type 0} (P : Data → Type 0) (f : A → Data) → ((a : A) → P (f a)) → (x : Option (A × List Token)) → IsSo P (parse_map f x)
+so_mapped P f h None = tt
+so_mapped P f h (Some p) = h p.0
+
+so_number : (P : Data → Type 0) (ts : List Token) (o : Option Num) → ((n : Num) → o ≡ Some n → P (number n)) → IsSo P (option_map (λ d. (d, ts)) (option_map number o))
+so_number P ts None h = tt
+so_number P ts (Some n) h = h n refl
+
+module _ (ts : List Token) (P : Data → Type 0) (k : Spelt) (object_so : k ≡ spelt.BeginObject → (ms : Members) → P (object ms)) (array_so : k ≡ spelt.BeginArray → (ds : Items) → P (array ds))
+  (string_so : (s : Bor (List ℕ)) → k ≡ spelt.String s → P (string s.now)) (number_so : (s : Bor (List ℕ)) → k ≡ spelt.Number s → (n : Num) → number_of s.now ≡ Some n → P (number n))
+  (boolean_so : (b : Bool) → P (boolean b)) (null_so : P null)
+  where
+  so_with : (a : Parse json.Items) (o : Parse json.Members) (t : Spelt) → k ≡ t → IsSo P (converted of_json (value_with a o (token_of t ∷ ts)))
+  so_with a o spelt.BeginObject e = subst (IsSo P) (sym (converted_object (o ts))) (so_mapped P object (object_so e) (converted (λ ms. of_members ms no_members) (o ts)))
+  so_with a o spelt.EndObject e = tt
+  so_with a o spelt.BeginArray e = subst (IsSo P) (sym (converted_array (a ts))) (so_mapped P array (array_so e) (converted of_items (a ts)))
+  so_with a o spelt.EndArray e = tt
+  so_with a o (spelt.Key s) e = tt
+  so_with a o (spelt.String s) e = string_so s e
+  so_with a o (spelt.Number s) e = so_number P ts (number_of s.now) (number_so s e)
+  so_with a o (spelt.Bool b) e = boolean_so b
+  so_with a o spelt.Null e = null_so
+  so_with a o spelt.Bad e = tt
+
+  so_at : (depth : ℕ) → IsSo P (converted of_json (value depth (token_of k ∷ ts)))
+  unfolding value
+  so_at zero = so_with (λ r. None) (λ r. None) k refl
+  so_at (suc d) = so_with (λ r. items (value d) (length r) r) (λ r. members (value d) (length r) r) k refl
+
+  pub told : (depth : ℕ) (d : Data) (r : List Token) → ReadsValue depth (token_of k ∷ ts) (Some (d, r)) → P d
+  told depth d r e = subst (IsSo P) e (so_at depth)
+
 -- ---- faults
 
 unread_of : (P Q : Type 0) (f : LoadFault) → (P → Q) → IsUnread P f → IsUnread Q f
@@ -139,3 +183,8 @@ unread_then P Q r g h = IfErr-weaker r (IsUnread P) (IsUnread Q) (λ f. unread_o
 
 pub no_json : {T : Type 0} (Q : Type 0) (r : Result T LoadFault) → IsErrAnd r (λ g. g ≡ fault.Json) → Q → IfErr r (IsUnread Q)
 no_json Q r e h = unread Q Q r fault.Json e (λ x. x) h
+
+-- no value begins
+pub no_start : {T : Type 0} (r : Result T LoadFault) (depth : ℕ) (ts : List Token) (f : LoadFault) → ts ≡ [] → f ≡ fault.Json → IsErrAnd r (λ g. g ≡ f) → IfErr r (IsUnread (ReadsValue depth ts None))
+no_start r depth ts f e j is =
+    unread (ReadsValue depth ts None) (ReadsValue depth ts None) r f is (λ h. h) (subst (IsUnread (ReadsValue depth ts None)) (sym j) (subst (λ us. ReadsValue depth us None) (sym e) (nothing_reads depth)))

@@ -3,7 +3,9 @@
 
 mod entry;
 mod fault;
+mod fields;
 mod file;
+mod frame;
 mod key;
 mod laws;
 mod loading;

@@ -6,18 +6,13 @@ use Rattle.json.specs.Reads.{token_of}
 use Rattle.json.proofs.Grammar.{value_is, read_key-shorter}
 use Rattle.serde_json.specs.Data.{null, boolean, number, string, no_items, item, no_members, put, array, object}
 use Rattle.serde_json.specs.Read.{number_of}
-use Rattle.catalogue.specs.Reading.{ReadsItems, ReadsMembers, ReadsValue, IsUnread}
-use Rattle.catalogue.proofs.ReadLemmas.{Found, Those, twice, items_close, items_step, items_stop, members_close, members_step, members_stop, members_no_key, array_begins, object_begins, nothing_reads, string_reads, boolean_reads, null_reads, number_some, number_none, number_reads, number_refused, too_deep, other_refused, unread, unread_then, no_json}
+use Rattle.catalogue.specs.Reading.{ReadsItems, ReadsMembers, ReadsValue}
+use Rattle.catalogue.proofs.ReadLemmas.{itself, twice, items_close, items_step, items_stop, members_close, members_step, members_stop, members_no_key, array_begins, object_begins, no_start, string_reads, boolean_reads, null_reads, number_some, number_none, number_reads, number_refused, too_deep, other_refused, unread, unread_then, no_json}
 use Rattle.catalogue.proofs.passing.+pass.Goals as goal
 use Rattle.catalogue.proofs.passing.+pass.Goals.{pass_from-in_default-via-in-BeginArray+else-depth-gt0, pass_from-in_default-via-in-BeginObject+else-depth-gt0-2, pass_from-in_default-via-in_default}
-use Rattle.catalogue.specs.declared.fault.LoadFault.TheVariants.{Json}
 
 pub pass_items-loop-reader-init : goal.pass_items-loop-reader-init
 pass_items-loop-reader-init t c = ((λ ds. ds), (λ o h. subst (ReadsItems c.args.depth c.args.reader.now) (itself o) h), omega arith)
-  where
-    itself : (o : Those) → o ≡ parse_map (λ ds. ds) o
-    itself None = refl
-    itself (Some p) = refl
 
 pub pass_items-loop-reader-preserved : goal.pass_items-loop-reader-preserved
 pass_items-loop-reader-preserved t c =
@@ -89,9 +84,7 @@ pass_members-returns-clause-passed t c =
 pub pass_value-returns-in_err-token-clause-err : goal.pass_value-returns-in_err-token-clause-err
 pass_value-returns-in_err-token-clause-err t c =
     let empty : c.args.reader.now ≡ [] = grind arith in
-    let json : c.in_err-token.field-0.0 ≡ Json = grind arith in
-    unread (ReadsValue c.args.depth c.args.reader.now None) (ReadsValue c.args.depth c.args.reader.now None) c.from_residual.result c.in_err-token.field-0.0 c.from_residual.ensures.1 (λ h. h)
-    (subst (IsUnread (ReadsValue c.args.depth c.args.reader.now None)) (sym json) (subst (λ ts. ReadsValue c.args.depth ts None) (sym empty) (nothing_reads c.args.depth)))
+    no_start c.from_residual.result c.args.depth c.args.reader.now c.in_err-token.field-0.0 empty (grind arith) c.from_residual.ensures.1
 
 pub pass_from-returns-in-String-clause-passed : goal.pass_from-returns-in-String-clause-passed
 pass_from-returns-in-String-clause-passed t c =
