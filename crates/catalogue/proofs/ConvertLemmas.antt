@@ -1,10 +1,10 @@
 -- What is read of values, items and members, in the terms of `serde_json`.
-use Rattle.std.proofs.Common.{◌≡◌, ℕ, zero, suc, ◌-◌, ◌<◌, ◌≤◌, List, [], ◌∷◌, length, Option, Some, None, option_map, option_and_then, refl, ap, ◌∙◌}
+use Rattle.std.proofs.Common.{◌≡◌, ℕ, zero, suc, ◌-◌, ◌<◌, List, [], ◌∷◌, Option, Some, None, option_map, option_and_then, refl, ap, ◌∙◌}
 use Rattle.json.specs.Token.{Token}
 use Rattle.json.specs.Json as json
 use Rattle.json.specs.Json.{Parse, parse_map, after_end_array, read_key, items_step, items, members}
 use Rattle.json.proofs.Grammar.{items_more, members_more}
-use Rattle.serde_json.specs.Data.{Data, array, object, Items, item, Members, no_members, put}
+use Rattle.serde_json.specs.Data.{Data, array, object, item, Members, no_members, put}
 use Rattle.serde_json.specs.Read.{of_json, of_items, of_members, converted}
 
 abbrev pick : {A : Type 0} → A → Option A → A

@@ -1,13 +1,11 @@
 -- The members of an entry, as they are read.
-use Rattle.std.proofs.Common.{◌≡◌, ◌≢◌, ℕ, List, codes, Option, Some, None, option_map, option_and_then, Bool, true, false, Bor, Less, Greater, nat_cmp, refl, sym, ap, subst, ◌∙◌, arith}
-use Rattle.std.specs.Bool.{MatchBool}
+use Rattle.std.proofs.Common.{◌≡◌, ◌≢◌, ℕ, List, codes, Option, Some, None, option_map, true, Bor, Less, Greater, nat_cmp, refl, sym, ap, subst, ◌∙◌}
 use Rattle.std.specs.Cmp.Lexicographic.{slice_cmp}
-use Rattle.serde_json.specs.Data.{Data, Members, no_members, object, put}
+use Rattle.serde_json.specs.Data.{Data, Members, object, put}
 use Rattle.serde_json.specs.Find.{as_str}
-use Rattle.catalogue.specs.Files.{Written, IsEntry}
 use Rattle.catalogue.specs.Reading.{AreOf, AreFields, EntryIs}
 use Rattle.catalogue.specs.declared.fields.Fields.{Fields}
-use Rattle.catalogue.proofs.PairLemmas.{some_of, not_two, first_put, second_put, other_put, none_found}
+use Rattle.catalogue.proofs.PairLemmas.{some_of, not_two, first_put, second_put, other_put}
 
 abbrev pub certificate : List ℕ
 certificate = codes "certificate"

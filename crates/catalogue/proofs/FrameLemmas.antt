@@ -1,15 +1,15 @@
 -- The members of a catalogue file, and the items among them, as they are read.
-use Rattle.std.proofs.Common.{◌≡◌, ◌≢◌, ℕ, List, [], ◌∷◌, ◌++◌, get_or, map, codes, Option, Some, None, option_map, option_and_then, Bool, true, false, Less, Greater, nat_cmp, Vec, Global, refl, sym, ap, subst, ◌∙◌, arith}
+use Rattle.std.proofs.Common.{◌≡◌, ◌≢◌, ℕ, List, [], ◌∷◌, ◌++◌, get_or, map, codes, Some, None, option_and_then, true, false, Less, Greater, nat_cmp, Vec, Global, refl, sym, ap, subst, ◌∙◌, arith}
 use Rattle.std.proofs.lemmas.List.{append_assoc, append-nil, map-append}
 use Rattle.std.specs.Cmp.Lexicographic.{slice_cmp}
-use Rattle.serde_json.specs.Data.{Data, Items, no_items, item, Members, no_members, array, object, put}
+use Rattle.serde_json.specs.Data.{Data, Items, no_items, item, Members, array, object, put}
 use Rattle.serde_json.specs.Events.{members_len}
 use Rattle.serde_json.specs.Find.{as_array, as_number, as_u64}
-use Rattle.catalogue.specs.Files.{Written, written, IsEntry, AreEntries, IsFrame, IsFile}
+use Rattle.catalogue.specs.Files.{Written, written, IsEntry, AreEntries}
 use Rattle.catalogue.specs.Reading.{pair_of, AreOf, AreParts, EntriesAre, EntryIs, FileIs}
 use Rattle.catalogue.specs.declared.file.Texts.{Texts}
 use Rattle.catalogue.specs.declared.frame.Frame.{Frame}
-use Rattle.catalogue.proofs.PairLemmas.{some_of, not_two, first_put, second_put, other_put, none_found}
+use Rattle.catalogue.proofs.PairLemmas.{some_of, not_two, first_put, second_put, other_put}
 
 abbrev pub entries : List ℕ
 entries = codes "entries"
@@ -31,14 +31,22 @@ put_entries f g d found e v o h =
     (Some d, h.1, subst (AreOf entries version (put entries d found) (Some d) h.1) (sym o) (first_put entries version apart below above found h.0 h.1 d f.others h.2), e, v ∙ h.4)
 
 pub put_version : (f g : Frame) (d : Data) (found : Members) → g.version ≡ option_and_then as_u64 (as_number d) → g.entries ≡ f.entries → g.others ≡ f.others → AreParts f found → AreParts g (put version d found)
-put_version f g d found v e o h =
-    (h.0, Some d, subst (AreOf entries version (put version d found) h.0 (Some d)) (sym o) (second_put entries version apart below above found h.0 h.1 d f.others h.2),
-    subst (λ x. EntriesAre x h.0) (sym e) h.3, v)
+put_version f g d found v e o h = (
+  h.0,
+  Some d,
+  subst (AreOf entries version (put version d found) h.0 (Some d)) (sym o) (second_put entries version apart below above found h.0 h.1 d f.others h.2),
+  subst (λ x. EntriesAre x h.0) (sym e) h.3,
+  v,
+)
 
 pub put_other : (f g : Frame) (k : List ℕ) (d : Data) (found : Members) → k ≢ entries → k ≢ version → g.entries ≡ f.entries → g.version ≡ f.version → g.others ≡ true → AreParts f found → AreParts g (put k d found)
-put_other f g k d found ka kb e v o h =
-    (h.0, h.1, subst (AreOf entries version (put k d found) h.0 h.1) (sym o) (other_put entries version apart below above found h.0 h.1 d k f.others ka kb h.2),
-    subst (λ x. EntriesAre x h.0) (sym e) h.3, v ∙ h.4)
+put_other f g k d found ka kb e v o h = (
+  h.0,
+  h.1,
+  subst (AreOf entries version (put k d found) h.0 h.1) (sym o) (other_put entries version apart below above found h.0 h.1 d k f.others ka kb h.2),
+  subst (λ x. EntriesAre x h.0) (sym e) h.3,
+  v ∙ h.4,
+)
 
 -- an object with another member is no file
 pub other_no_file : (f : Frame) (ms : Members) → f.others ≡ true → AreParts f ms → FileIs None (object ms)

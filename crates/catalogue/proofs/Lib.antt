@@ -1,4 +1,3 @@
-pub mod FileLemmas
 pub mod ConvertLemmas
 pub mod ReadLemmas
 pub mod PairLemmas

@@ -1,5 +1,5 @@
 -- Values, items and members of JSON, a step at a time.
-use Rattle.std.proofs.Common.{◌≡◌, ℕ, zero, suc, ◌-◌, ◌<◌, ◌≤◌, List, [], ◌∷◌, length, Option, Some, None, Result, IfErr, Bool, Bor, option_map, refl, sym, ap, subst, ◌∙◌, arith}
+use Rattle.std.proofs.Common.{◌≡◌, ℕ, zero, suc, ◌-◌, ◌<◌, List, [], ◌∷◌, length, Option, Some, None, Result, IfErr, Bool, Bor, option_map, refl, sym, ap, subst, ◌∙◌, arith}
 use Rattle.std.specs.Prelude.{⊤}
 use Rattle.std.specs.Result.{IsErrAnd}
 use Rattle.std.proofs.lemmas.Result.{err_from_is_err_and, IfErr-weaker}
@@ -140,28 +140,28 @@ so_number P ts None h = tt
 so_number P ts (Some n) h = h n refl
 
 module _ (ts : List Token) (P : Data → Type 0) (k : Spelt) (object_so : k ≡ spelt.BeginObject → (ms : Members) → P (object ms)) (array_so : k ≡ spelt.BeginArray → (ds : Items) → P (array ds))
-  (string_so : (s : Bor (List ℕ)) → k ≡ spelt.String s → P (string s.now)) (number_so : (s : Bor (List ℕ)) → k ≡ spelt.Number s → (n : Num) → number_of s.now ≡ Some n → P (number n))
-  (boolean_so : (b : Bool) → P (boolean b)) (null_so : P null)
+    (string_so : (s : Bor (List ℕ)) → k ≡ spelt.String s → P (string s.now)) (number_so : (s : Bor (List ℕ)) → k ≡ spelt.Number s → (n : Num) → number_of s.now ≡ Some n → P (number n))
+    (boolean_so : (b : Bool) → P (boolean b)) (null_so : P null)
   where
-  so_with : (a : Parse json.Items) (o : Parse json.Members) (t : Spelt) → k ≡ t → IsSo P (converted of_json (value_with a o (token_of t ∷ ts)))
-  so_with a o spelt.BeginObject e = subst (IsSo P) (sym (converted_object (o ts))) (so_mapped P object (object_so e) (converted (λ ms. of_members ms no_members) (o ts)))
-  so_with a o spelt.EndObject e = tt
-  so_with a o spelt.BeginArray e = subst (IsSo P) (sym (converted_array (a ts))) (so_mapped P array (array_so e) (converted of_items (a ts)))
-  so_with a o spelt.EndArray e = tt
-  so_with a o (spelt.Key s) e = tt
-  so_with a o (spelt.String s) e = string_so s e
-  so_with a o (spelt.Number s) e = so_number P ts (number_of s.now) (number_so s e)
-  so_with a o (spelt.Bool b) e = boolean_so b
-  so_with a o spelt.Null e = null_so
-  so_with a o spelt.Bad e = tt
+    so_with : (a : Parse json.Items) (o : Parse json.Members) (t : Spelt) → k ≡ t → IsSo P (converted of_json (value_with a o (token_of t ∷ ts)))
+    so_with a o spelt.BeginObject e = subst (IsSo P) (sym (converted_object (o ts))) (so_mapped P object (object_so e) (converted (λ ms. of_members ms no_members) (o ts)))
+    so_with a o spelt.EndObject e = tt
+    so_with a o spelt.BeginArray e = subst (IsSo P) (sym (converted_array (a ts))) (so_mapped P array (array_so e) (converted of_items (a ts)))
+    so_with a o spelt.EndArray e = tt
+    so_with a o (spelt.Key s) e = tt
+    so_with a o (spelt.String s) e = string_so s e
+    so_with a o (spelt.Number s) e = so_number P ts (number_of s.now) (number_so s e)
+    so_with a o (spelt.Bool b) e = boolean_so b
+    so_with a o spelt.Null e = null_so
+    so_with a o spelt.Bad e = tt
 
-  so_at : (depth : ℕ) → IsSo P (converted of_json (value depth (token_of k ∷ ts)))
-  unfolding value
-  so_at zero = so_with (λ r. None) (λ r. None) k refl
-  so_at (suc d) = so_with (λ r. items (value d) (length r) r) (λ r. members (value d) (length r) r) k refl
+    so_at : (depth : ℕ) → IsSo P (converted of_json (value depth (token_of k ∷ ts)))
+    unfolding value
+    so_at zero = so_with (λ r. None) (λ r. None) k refl
+    so_at (suc d) = so_with (λ r. items (value d) (length r) r) (λ r. members (value d) (length r) r) k refl
 
-  pub told : (depth : ℕ) (d : Data) (r : List Token) → ReadsValue depth (token_of k ∷ ts) (Some (d, r)) → P d
-  told depth d r e = subst (IsSo P) e (so_at depth)
+    pub told : (depth : ℕ) (d : Data) (r : List Token) → ReadsValue depth (token_of k ∷ ts) (Some (d, r)) → P d
+    told depth d r e = subst (IsSo P) e (so_at depth)
 
 -- ---- faults
 

@@ -33,12 +33,7 @@ fn text<'a>(reader: &mut Reader<'a>, depth: usize) -> Result<Option<&'a str>, Lo
 
 impl<'a> Fields<'a> {
     /// Takes the value of the member of this name.
-    fn take(
-        &mut self,
-        reader: &mut Reader<'a>,
-        depth: usize,
-        name: &str,
-    ) -> Result<(), LoadFault>
+    fn take(&mut self, reader: &mut Reader<'a>, depth: usize, name: &str) -> Result<(), LoadFault>
         ensures taken { OnOk result (Puts depth name.now reader.old reader.new (AreFields self.old) (AreFields self.new)) }
         ensures shorter { OnOk result (length reader.new < length reader.old) }
         ensures err { IfErr result (IsUnread (ReadsValue depth reader.old None)) }
@@ -86,7 +81,10 @@ fn members<'a>(reader: &mut Reader<'a>, depth: usize) -> Result<Option<Texts<'a>
 }
 
 /// The value, if it is an entry: an object of exactly the members `code` and `certificate`, both texts. Any other is passed.
-pub(crate) fn entry<'a>(reader: &mut Reader<'a>, depth: usize) -> Result<Option<Texts<'a>>, LoadFault>
+pub(crate) fn entry<'a>(
+    reader: &mut Reader<'a>,
+    depth: usize,
+) -> Result<Option<Texts<'a>>, LoadFault>
     requires { 0 < depth }
     ensures read { IfOk result (λ e. Passes depth reader.old (EntryIs e) reader.new) }
     ensures shorter { OnOk result (length reader.new < length reader.old) }

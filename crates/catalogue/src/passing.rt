@@ -21,7 +21,11 @@ pub(crate) fn pass_value(reader: &mut Reader<'_>, depth: usize) -> Result<(), Lo
 
 /// Passes the rest of the value that begins with this token.
 #[cycle(pass)]
-pub(crate) fn pass_from(token: Token<'_>, reader: &mut Reader<'_>, depth: usize) -> Result<(), LoadFault>
+pub(crate) fn pass_from(
+    token: Token<'_>,
+    reader: &mut Reader<'_>,
+    depth: usize,
+) -> Result<(), LoadFault>
     ensures passed { OnOk result (Passes depth (token_of token.entry ∷ reader.old) (λ d. ⊤) reader.new) }
     ensures shorter { OnOk result (length reader.new < length reader.old + 1) }
     ensures err { IfErr result (IsUnread (ReadsValue depth (token_of token.entry ∷ reader.old) None)) }

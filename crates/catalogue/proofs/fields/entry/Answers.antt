@@ -2,8 +2,7 @@ use Rattle.std.proofs.Common.{◌≡◌, ℕ, ◌-◌, ◌∷◌, length, Some, 
 use Rattle.std.proofs.lemmas.Result.{IfOk-weaker}
 use Rattle.json.specs.Reads.{token_of}
 use Rattle.json.specs.Token.{Token}
-use Rattle.serde_json.specs.Data.{Data, Members, no_members, object}
-use Rattle.catalogue.specs.Files.{Written, IsEntry}
+use Rattle.serde_json.specs.Data.{Members, no_members, object}
 use Rattle.catalogue.specs.Reading.{EntryIs, Passes, ReadsMembers, ReadsValue}
 use Rattle.catalogue.proofs.ReadLemmas.{told, object_begins, unread_then, no_start}
 use Rattle.catalogue.proofs.fields.entry.Goals as goal

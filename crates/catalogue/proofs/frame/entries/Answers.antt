@@ -2,7 +2,7 @@ use Rattle.std.proofs.Common.{◌≡◌, ◌-◌, ◌∷◌, length, Some, None,
 use Rattle.std.proofs.lemmas.Result.{IfOk-weaker}
 use Rattle.json.specs.Reads.{token_of}
 use Rattle.json.specs.Token.{Token}
-use Rattle.serde_json.specs.Data.{Data, Items, array}
+use Rattle.serde_json.specs.Data.{Items, array}
 use Rattle.catalogue.specs.Reading.{EntriesAre, Passes, ReadsItems, ReadsValue}
 use Rattle.catalogue.proofs.ReadLemmas.{told, array_begins, unread_then, no_start}
 use Rattle.catalogue.proofs.frame.entries.Goals as goal

@@ -1,9 +1,8 @@
-use Rattle.std.proofs.Common.{◌≡◌, ℕ, ◌-◌, ◌∷◌, length, Some, None, sym, subst, ap, ◌∙◌, arith}
+use Rattle.std.proofs.Common.{◌≡◌, ℕ, ◌-◌, ◌∷◌, Some, None, sym, subst, ap, ◌∙◌, arith}
 use Rattle.std.proofs.lemmas.Result.{IfOk-weaker}
 use Rattle.json.specs.Reads.{token_of}
 use Rattle.json.specs.Token.{Token}
-use Rattle.serde_json.specs.Data.{Data, Members, no_members, object}
-use Rattle.catalogue.specs.Files.{Written, IsFile}
+use Rattle.serde_json.specs.Data.{Members, no_members, object}
 use Rattle.catalogue.specs.Reading.{FileIs, Passes, ReadsMembers, ReadsValue}
 use Rattle.catalogue.proofs.ReadLemmas.{told, object_begins, unread_then, no_start}
 use Rattle.catalogue.proofs.frame.file.Goals as goal

@@ -1,10 +1,10 @@
-use Rattle.std.proofs.Common.{◌≡◌, ◌<◌, [], ◌∷◌, ◌++◌, length, Some, None, sym, subst, refl, ap, ◌∙◌, arith}
+use Rattle.std.proofs.Common.{◌≡◌, ◌<◌, length, Some, None, sym, subst, arith}
 use Rattle.json.specs.Json.{parse_map, after_end_array}
-use Rattle.serde_json.specs.Data.{Items, no_items, item, array}
+use Rattle.serde_json.specs.Data.{no_items, item}
 use Rattle.catalogue.specs.Files.{IsEntry, written}
 use Rattle.catalogue.specs.Reading.{EntryIs, ReadsItems, ReadsValue}
 use Rattle.catalogue.proofs.FrameLemmas.{Before, none_before, one_more, all_before, none_of}
-use Rattle.catalogue.proofs.ReadLemmas.{Those, itself, twice, items_close, items_step, items_stop, unread}
+use Rattle.catalogue.proofs.ReadLemmas.{itself, twice, items_close, items_step, items_stop, unread}
 use Rattle.catalogue.proofs.frame.items.Goals as goal
 
 pub loop-reader-init : goal.loop-reader-init

@@ -1,4 +1,4 @@
-use Rattle.std.proofs.Common.{◌≡◌, ◌≤◌, length}
+use Rattle.std.proofs.Common.{◌≤◌, length}
 use Rattle.serde_json.specs.Data.{Members, no_members}
 use Rattle.catalogue.specs.Reading.{AreParts, ReadsMembers}
 use Rattle.catalogue.proofs.ReadLemmas.{Found}

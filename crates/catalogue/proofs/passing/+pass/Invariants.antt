@@ -1,4 +1,4 @@
-use Rattle.std.proofs.Common.{◌≡◌, ℕ, ◌+◌, ◌*◌, ◌≤◌, length}
+use Rattle.std.proofs.Common.{◌+◌, ◌*◌, ◌≤◌, length}
 use Rattle.json.specs.Json.{parse_map}
 use Rattle.serde_json.specs.Data.{Items, Members, no_members}
 use Rattle.catalogue.specs.Reading.{ReadsItems, ReadsMembers}

@@ -1,6 +1,6 @@
-use Rattle.std.proofs.Common.{◌≡◌, Some, sym, subst, ap, ◌∙◌, arith}
+use Rattle.std.proofs.Common.{◌≡◌, Some, sym, subst, ap, ◌∙◌}
 use Rattle.std.proofs.lemmas.Slice.Eq.{bytes_eq-Decides}
-use Rattle.serde_json.specs.Data.{Members, put}
+use Rattle.serde_json.specs.Data.{put}
 use Rattle.catalogue.specs.Reading.{ReadsValue, AreFields}
 use Rattle.catalogue.proofs.PairLemmas.{is_not}
 use Rattle.catalogue.proofs.FieldLemmas.{certificate, code, put_certificate, put_code, put_other}
