@@ -1,4 +1,8 @@
-pub mod FileLemmas
+pub mod ConvertLemmas
+pub mod ReadLemmas
+pub mod PairLemmas
+pub mod FieldLemmas
+pub mod FrameLemmas
 pub mod KeyLemmas
 pub mod StoreLemmas
 pub mod LoadLemmas

@@ -1,14 +1,12 @@
 -- Entries that stand, one after the other, and the first that doesn't.
-use Rattle.std.proofs.Common.{◌≡◌, ℕ, zero, suc, ◌+◌, ◌<◌, ◌≤◌, ◌⊎◌, inl, inr, List, [], ◌∷◌, ◌++◌, length, take, drop, map, get_or, Err, refl, sym, ap, subst, ◌∙◌, arith}
+use Rattle.std.proofs.Common.{◌≡◌, ℕ, zero, suc, ◌+◌, ◌<◌, inl, inr, List, [], ◌∷◌, ◌++◌, length, take, drop, map, get_or, Err, refl, sym, ap, subst, ◌∙◌, arith}
 use Rattle.std.specs.List.{AllZip}
 use Rattle.std.proofs.lemmas.List.{take-append-drop, take_more, length-take-le}
 use Rattle.std.proofs.Math.Seq.{drop-cons}
 use Rattle.misere_theory.specs.Certificates.{Certificate}
-use Rattle.serde_json.specs.Data.{Data}
-use Rattle.catalogue.specs.Entries.{HasCode, HaveOtherCodes}
-use Rattle.catalogue.specs.Files.{IsJson, IsFile, Written, written}
+use Rattle.catalogue.specs.Files.{Written, written}
 use Rattle.catalogue.specs.Loads.{IsCertified, Stand, IsFaultOf, IsFirstFault, Holds, IsLoaded}
-use Rattle.catalogue.specs.Parts.{IsNoJson, IsNoFile, IsFaultOrMemory, IsTaken}
+use Rattle.catalogue.specs.Parts.{IsNoFile, IsFaultOrMemory, IsTaken}
 use Rattle.catalogue.specs.declared.file.Texts.{Texts}
 use Rattle.catalogue.specs.declared.fault.LoadFault.{LoadFault}
 use Rattle.catalogue.specs.declared.fault.LoadFault.TheVariants as fault
@@ -84,18 +82,10 @@ loaded_fault bytes limit ts i t cs (fault.Code j) holds l is stand (inr h) = (ma
 loaded_fault bytes limit ts i t cs (fault.Twice j) holds l is stand (inr h) = (map written ts, holds, first_fault limit ts i t cs (fault.Twice j) l is stand h)
 loaded_fault bytes limit ts i t cs fault.Memory holds l is stand (inr h) = absurd h
 
-pub loaded_no_json : (bytes : List ℕ) (limit : ℕ) (f : LoadFault) → IsNoJson bytes f → IsLoaded bytes limit (Err f)
-loaded_no_json bytes limit fault.Json h = h
-loaded_no_json bytes limit fault.Shape h = absurd h
-loaded_no_json bytes limit (fault.Entry j r) h = absurd h
-loaded_no_json bytes limit (fault.Code j) h = absurd h
-loaded_no_json bytes limit (fault.Twice j) h = absurd h
-loaded_no_json bytes limit fault.Memory h = tt
-
-pub loaded_no_file : (bytes : List ℕ) (limit : ℕ) (d : Data) (f : LoadFault) → IsJson bytes d → IsNoFile d f → IsLoaded bytes limit (Err f)
-loaded_no_file bytes limit d fault.Json json h = absurd h
-loaded_no_file bytes limit d fault.Shape json h = (d, json, h)
-loaded_no_file bytes limit d (fault.Entry j r) json h = absurd h
-loaded_no_file bytes limit d (fault.Code j) json h = absurd h
-loaded_no_file bytes limit d (fault.Twice j) json h = absurd h
-loaded_no_file bytes limit d fault.Memory json h = tt
+pub loaded_no_file : (bytes : List ℕ) (limit : ℕ) (f : LoadFault) → IsNoFile bytes f → IsLoaded bytes limit (Err f)
+loaded_no_file bytes limit fault.Json h = h
+loaded_no_file bytes limit fault.Shape h = h
+loaded_no_file bytes limit (fault.Entry j r) h = absurd h
+loaded_no_file bytes limit (fault.Code j) h = absurd h
+loaded_no_file bytes limit (fault.Twice j) h = absurd h
+loaded_no_file bytes limit fault.Memory h = tt

@@ -1,12 +1,12 @@
 -- What becomes of the entries, one after the other.
-use Rattle.std.proofs.Common.{◌≡◌, ℕ, zero, suc, ◌+◌, ◌<◌, ◌≤◌, ◌⊎◌, inl, inr, List, [], ◌∷◌, ◌++◌, length, drop, map, get_or, refl, sym, ap, subst, ◌∙◌, arith}
+use Rattle.std.proofs.Common.{◌≡◌, ℕ, suc, ◌+◌, ◌<◌, ◌≤◌, inl, inr, List, [], ◌∷◌, ◌++◌, length, drop, map, get_or, refl, sym, ap, subst, ◌∙◌, arith}
 use Rattle.std.proofs.lemmas.List.{append_assoc, append-nil}
 use Rattle.std.proofs.Math.ListN.{drop_of_length-le}
 use Rattle.std.proofs.Math.Seq.{drop-cons}
 use Rattle.misere_theory.specs.Certificates.{Certificate}
 use Rattle.catalogue.specs.Files.{Written, written}
 use Rattle.catalogue.specs.Loads.{IsFaultOf}
-use Rattle.catalogue.specs.Parts.{IsTaken, IsFaultOrMemory}
+use Rattle.catalogue.specs.Parts.{IsTaken}
 use Rattle.catalogue.specs.Salvages.{Salvages}
 use Rattle.catalogue.specs.declared.file.Texts.{Texts}
 use Rattle.catalogue.specs.declared.fault.LoadFault.{LoadFault}

@@ -1,6 +1,7 @@
 pub mod Entries
 pub mod Keys
 pub mod Files
+pub mod Reading
 pub mod Faults
 pub mod Loads
 pub mod Parts

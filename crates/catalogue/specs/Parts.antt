@@ -3,28 +3,19 @@ use Rattle.std.specs.Prelude.{◌≡◌, ◌⊎◌, ℕ, List, ◌∷◌, ◌++�
 use Rattle.misere_theory.specs.Certificates.{Certificate}
 use Rattle.serde_json.specs.Data.{Data}
 use Rattle.catalogue.specs.Entries.{HasCode}
-use Rattle.catalogue.specs.Files.{IsJson, IsFile, Written}
-use Rattle.catalogue.specs.Loads.{IsCertified, IsFaultOf}
+use Rattle.catalogue.specs.Files.{IsJson, Written}
+use Rattle.catalogue.specs.Loads.{IsCertified, IsFaultOf, IsShapeless}
 use Rattle.catalogue.specs.declared.fault.LoadFault.{LoadFault}
 use Rattle.catalogue.specs.declared.fault.LoadFault.TheVariants.{Json, Shape, Entry, Code, Twice, Memory}
 
--- the bytes are no JSON, or memory was wanting
-abbrev pub IsNoJson : List ℕ → LoadFault → Type 0
-IsNoJson bytes Json = (d : Data) → IsJson bytes d → ⊥
-IsNoJson bytes Shape = ⊥
-IsNoJson bytes (Entry i refusal) = ⊥
-IsNoJson bytes (Code i) = ⊥
-IsNoJson bytes (Twice i) = ⊥
-IsNoJson bytes Memory = Unit {0}
-
--- the value is no catalogue file, or memory was wanting
-abbrev pub IsNoFile : Data → LoadFault → Type 0
-IsNoFile d Json = ⊥
-IsNoFile d Shape = (es : List Written) → IsFile d es → ⊥
-IsNoFile d (Entry i refusal) = ⊥
-IsNoFile d (Code i) = ⊥
-IsNoFile d (Twice i) = ⊥
-IsNoFile d Memory = Unit {0}
+-- the bytes are no JSON, or no catalogue file, or memory was wanting
+abbrev pub IsNoFile : List ℕ → LoadFault → Type 0
+IsNoFile bytes Json = (d : Data) → IsJson bytes d → ⊥
+IsNoFile bytes Shape = IsShapeless bytes
+IsNoFile bytes (Entry i refusal) = ⊥
+IsNoFile bytes (Code i) = ⊥
+IsNoFile bytes (Twice i) = ⊥
+IsNoFile bytes Memory = Unit {0}
 
 -- the entry has this fault, or memory was wanting
 abbrev pub IsFaultOrMemory : ℕ → List Certificate → ℕ → Written → LoadFault → Type 0

@@ -7,6 +7,7 @@ ghost use Rattle.catalogue.specs.declared.fault.WriteFault.{WriteFault};
 
 use allocation::Memory;
 use checker::Refusal;
+use json::Invalid;
 use std::alloc::{AllocError, AllocFailed};
 
 /// Why bytes give no catalogue. Entries count from 1.
@@ -55,6 +56,14 @@ impl<T: Drop> From<AllocFailed<T>> for LoadFault {
 
     fn from(_: AllocFailed<T>) -> LoadFault {
         LoadFault::Memory
+    }
+}
+
+impl From<Invalid> for LoadFault {
+    ghost from_gives = { λ _ fault. fault ≡ LoadFault.Json };
+
+    fn from(_: Invalid) -> LoadFault {
+        LoadFault::Json
     }
 }
 

@@ -3,10 +3,14 @@
 
 mod entry;
 mod fault;
+mod fields;
 mod file;
+mod frame;
 mod key;
 mod laws;
 mod loading;
+mod number;
+mod passing;
 mod salvaging;
 mod store;
 mod text;

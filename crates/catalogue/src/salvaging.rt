@@ -4,8 +4,8 @@ ghost use Rattle.catalogue.specs.Salvages.{IsSalvaged};
 
 use crate::fault::LoadFault;
 use crate::file::entries_of;
-use crate::loading::value_of;
 use crate::store::Catalogue;
+use json::Scratch;
 use std::alloc::Global;
 
 /// Lists the fault of an entry. Want of memory is none.
@@ -35,8 +35,8 @@ impl Catalogue {
     ) -> Result<(Catalogue, Vec<LoadFault>), LoadFault>
         ensures { IsSalvaged bytes.now limit result }
     {
-        let value = value_of(alloc, bytes)?;
-        let entries = entries_of(alloc, &value)?;
+        let mut scratch = Scratch::new(alloc);
+        let entries = entries_of(alloc, bytes, &mut scratch)?;
         let mut catalogue = Catalogue::new(alloc);
         let mut faults = Vec::new(alloc);
         for (at, entry) in entries.iter().enumerate() {

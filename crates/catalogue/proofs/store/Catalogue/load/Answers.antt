@@ -1,9 +1,8 @@
-use Rattle.std.proofs.Common.{◌≡◌, ◌+◌, get_or, map, take, sym, ap, subst, ◌∙◌}
+use Rattle.std.proofs.Common.{◌+◌, get_or, map, take, sym, subst}
 use Rattle.std.proofs.lemmas.Result.{err_from_is_err_and}
-use Rattle.serde_json.specs.View.{view}
-use Rattle.catalogue.specs.Files.{IsFile, written}
-use Rattle.catalogue.specs.Loads.{Stand, IsLoaded, Holds}
-use Rattle.catalogue.specs.Parts.{IsTaken, IsFaultOrMemory}
+use Rattle.catalogue.specs.Files.{written}
+use Rattle.catalogue.specs.Loads.{Stand, Holds}
+use Rattle.catalogue.specs.Parts.{IsFaultOrMemory}
 use Rattle.catalogue.proofs.LoadLemmas.{blank, itself_at, stand_push, written_more, loaded_fault}
 use Rattle.catalogue.proofs.store.Catalogue.load.Goals as goal
 
@@ -11,11 +10,10 @@ pub returns-in_err-take : goal.returns-in_err-take
 returns-in_err-take c =
     let items = c.deref-entry-items.result.now in
     let p = err_from_is_err_and c.from_residual-in_err-take.result c.from_residual-in_err-take.ensures.1 in
-    let file : IsFile (view c.in_ok-value.value) (map written items)
-    = subst (λ ts. IsFile (view c.in_ok-value.value) (map written ts)) (sym c.deref-entry-items.ensures.value) c.in_ok-entries.ensures.ok in
+    let holds : Holds c.args.bytes.now (map written items) = subst (λ ts. Holds c.args.bytes.now (map written ts)) (sym c.deref-entry-items.ensures.value) c.in_ok-entries.ensures.ok in
     let t = get_or items c.loop-at.at blank in
     rw p.1 (loaded_fault c.args.bytes.now c.args.limit items c.loop-at.at t c.loop-at.catalogue p.0
-    (view c.in_ok-value.value, c.in_ok-value.ensures.ok, file) c.loop-at-test.true (itself_at items c.loop-at.at blank t c.loop-at-test.true) c.loop-at.invariant
+    holds c.loop-at-test.true (itself_at items c.loop-at.at blank t c.loop-at-test.true) c.loop-at.invariant
     (subst (IsFaultOrMemory c.args.limit c.loop-at.catalogue (c.loop-at.at + 1) (written t)) (sym p.2) c.in_err-take.ensures.fault))
 
 pub loop-at-preserved : goal.loop-at-preserved

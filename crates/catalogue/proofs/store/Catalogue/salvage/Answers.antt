@@ -1,8 +1,6 @@
-use Rattle.std.proofs.Common.{◌≡◌, ◌+◌, List, [], ◌∷◌, ◌++◌, map, get_or, inl, inr, sym, ap, subst, ◌∙◌}
-use Rattle.serde_json.specs.View.{view}
-use Rattle.catalogue.specs.Files.{IsFile, written}
-use Rattle.catalogue.specs.Loads.{IsFaultOf}
-use Rattle.catalogue.specs.Salvages.{Salvages}
+use Rattle.std.proofs.Common.{◌+◌, map, get_or, inl, inr, sym, subst}
+use Rattle.catalogue.specs.Files.{written}
+use Rattle.catalogue.specs.Loads.{Holds}
 use Rattle.catalogue.proofs.LoadLemmas.{blank, itself_at}
 use Rattle.catalogue.proofs.SalvageLemmas.{GoesOn, kept, listed, at_end}
 use Rattle.catalogue.proofs.store.Catalogue.salvage.Goals as goal
@@ -26,9 +24,8 @@ loop-at-preserved c =
 pub returns : goal.returns
 returns c =
     let items = c.deref-entry-items.result.now in
-    let file : IsFile (view c.in_ok-value.value) (map written items)
-    = subst (λ ts. IsFile (view c.in_ok-value.value) (map written ts)) (sym c.deref-entry-items.ensures.value) c.in_ok-entries.ensures.ok in (
+    let holds : Holds c.args.bytes.now (map written items) = subst (λ ts. Holds c.args.bytes.now (map written ts)) (sym c.deref-entry-items.ensures.value) c.in_ok-entries.ensures.ok in (
       map written items,
-      (view c.in_ok-value.value, c.in_ok-value.ensures.ok, file),
+      holds,
       at_end c.args.limit items c.loop-at.at c.loop-at.catalogue c.loop-at.faults.items c.loop-at-test.false c.loop-at.invariant,
     )

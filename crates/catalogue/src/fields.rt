@@ -1,0 +1,99 @@
+//! The members of an entry.
+ghost use Rattle.std.specs.Prelude.{◌≡◌, ◌<◌, length, map, option_map, None, Some, IfErr, IfOk, OnOk};
+ghost use Rattle.serde_json.specs.Data.{Members, no_members, object};
+ghost use Rattle.serde_json.specs.Find.{as_str};
+ghost use Rattle.catalogue.specs.Reading.{AreFields, EntryIs, IsUnread, Passes, Puts, ReadsMembers, ReadsValue};
+
+use crate::fault::LoadFault;
+use crate::file::Texts;
+use crate::passing::{pass_from, pass_value};
+use json::{Reader, Token};
+
+/// What was found of an entry's members so far. Of a member that stands twice the last counts.
+#[derive(Clone, Copy)]
+struct Fields<'a> {
+    certificate: Option<&'a str>,
+    code: Option<&'a str>,
+    others: bool,
+}
+
+/// The value, if it is a text. Any other is passed.
+fn text<'a>(reader: &mut Reader<'a>, depth: usize) -> Result<Option<&'a str>, LoadFault>
+    ensures read { IfOk result (λ t. Passes depth reader.old (λ d. option_map (λ s. s.now) t ≡ as_str d) reader.new) }
+    ensures shorter { OnOk result (length reader.new < length reader.old) }
+    ensures err { IfErr result (IsUnread (ReadsValue depth reader.old None)) }
+{
+    let token = reader.next().ok_or(LoadFault::Json)?;
+    if let Token::String(text) = token {
+        return Ok(Some(text));
+    }
+    pass_from(token, reader, depth)?;
+    Ok(None)
+}
+
+impl<'a> Fields<'a> {
+    /// Takes the value of the member of this name.
+    fn take(&mut self, reader: &mut Reader<'a>, depth: usize, name: &str) -> Result<(), LoadFault>
+        ensures taken { OnOk result (Puts depth name.now reader.old reader.new (AreFields self.old) (AreFields self.new)) }
+        ensures shorter { OnOk result (length reader.new < length reader.old) }
+        ensures err { IfErr result (IsUnread (ReadsValue depth reader.old None)) }
+    {
+        if name == "certificate" {
+            self.certificate = text(reader, depth)?;
+        } else if name == "code" {
+            self.code = text(reader, depth)?;
+        } else {
+            pass_value(reader, depth)?;
+            self.others = true;
+        }
+        Ok(())
+    }
+
+    /// The texts of the entry, if these are its members and there is no other.
+    fn texts(&self) -> Option<Texts<'a>>
+        ensures { (ms : Members) → AreFields self.now ms → EntryIs result (object ms) }
+    {
+        if self.others {
+            return None;
+        }
+        let certificate = self.certificate?;
+        let code = self.code?;
+        Some(Texts { code, certificate })
+    }
+}
+
+/// The entry whose members these are, up to the brace that closes it, if it is one.
+fn members<'a>(reader: &mut Reader<'a>, depth: usize) -> Result<Option<Texts<'a>>, LoadFault>
+    ensures read { IfOk result
+        (λ e. (ms : Members) × ReadsMembers depth no_members reader.old (Some (ms, reader.new)) × EntryIs e (object ms)) }
+    ensures shorter { OnOk result (length reader.new < length reader.old) }
+    ensures err { IfErr result (IsUnread (ReadsMembers depth no_members reader.old None)) }
+{
+    let mut fields = Fields {
+        certificate: None,
+        code: None,
+        others: false,
+    };
+    while let Some(name) = reader.next_key()? {
+        fields.take(reader, depth, name)?;
+    }
+    Ok(fields.texts())
+}
+
+/// The value, if it is an entry: an object of exactly the members `code` and `certificate`, both texts. Any other is passed.
+pub(crate) fn entry<'a>(
+    reader: &mut Reader<'a>,
+    depth: usize,
+) -> Result<Option<Texts<'a>>, LoadFault>
+    requires { 0 < depth }
+    ensures read { IfOk result (λ e. Passes depth reader.old (EntryIs e) reader.new) }
+    ensures shorter { OnOk result (length reader.new < length reader.old) }
+    ensures err { IfErr result (IsUnread (ReadsValue depth reader.old None)) }
+{
+    let token = reader.next().ok_or(LoadFault::Json)?;
+    if let Token::BeginObject = token {
+        return members(reader, depth - 1);
+    }
+    pass_from(token, reader, depth)?;
+    Ok(None)
+}

@@ -1,0 +1,156 @@
+//! The members of a catalogue file.
+ghost use Rattle.std.specs.Prelude.{◌≡◌, ◌<◌, length, map, option_and_then, None, Some, IfErr, IfOk, OnOk};
+ghost use Rattle.serde_json.specs.Data.{Items, Members, array, no_members, object};
+ghost use Rattle.serde_json.specs.Find.{as_number, as_u64};
+ghost use Rattle.catalogue.specs.Reading.{AreParts, EntriesAre, FileIs, IsUnread, Passes, Puts, ReadsItems, ReadsMembers, ReadsValue};
+
+use crate::fault::LoadFault;
+use crate::fields::entry;
+use crate::file::Texts;
+use crate::number::whole;
+use crate::passing::{pass_from, pass_items, pass_value};
+use json::{Reader, Token};
+use std::alloc::Global;
+
+/// The version of the files.
+const VERSION: u64 = 1;
+
+/// What was found of a file's members so far. Of a member that stands twice the last counts.
+#[derive(Drop)]
+struct Frame<'a> {
+    entries: Option<Vec<Texts<'a>>>,
+    version: Option<u64>,
+    others: bool,
+}
+
+/// The value, if it is a whole number. Any other is passed.
+fn version(reader: &mut Reader<'_>, depth: usize) -> Result<Option<u64>, LoadFault>
+    ensures read { IfOk result (λ v. Passes depth reader.old (λ d. v ≡ option_and_then as_u64 (as_number d)) reader.new) }
+    ensures shorter { OnOk result (length reader.new < length reader.old) }
+    ensures err { IfErr result (IsUnread (ReadsValue depth reader.old None)) }
+{
+    let token = reader.next().ok_or(LoadFault::Json)?;
+    if let Token::Number(text) = token {
+        return whole(text).ok_or(LoadFault::Json);
+    }
+    pass_from(token, reader, depth)?;
+    Ok(None)
+}
+
+/// The items up to the bracket that closes them, if all are entries.
+fn items<'a>(
+    alloc: Global,
+    reader: &mut Reader<'a>,
+    depth: usize,
+) -> Result<Option<Vec<Texts<'a>>>, LoadFault>
+    requires { 0 < depth }
+    ensures read { IfOk result
+        (λ es. (ds : Items) × ReadsItems depth reader.old (Some (ds, reader.new)) × EntriesAre es (Some (array ds))) }
+    ensures shorter { OnOk result (length reader.new < length reader.old) }
+    ensures err { IfErr result (IsUnread (ReadsItems depth reader.old None)) }
+{
+    let mut entries = Vec::new(alloc);
+    while !reader.take_end_array() {
+        let Some(texts) = entry(reader, depth)? else {
+            pass_items(reader, depth)?;
+            return Ok(None);
+        };
+        entries.push(texts)?;
+    }
+    Ok(Some(entries))
+}
+
+/// The value, if it is an array of entries. Any other is passed.
+fn entries<'a>(
+    alloc: Global,
+    reader: &mut Reader<'a>,
+    depth: usize,
+) -> Result<Option<Vec<Texts<'a>>>, LoadFault>
+    requires { 1 < depth }
+    ensures read { IfOk result (λ es. Passes depth reader.old (λ d. EntriesAre es (Some d)) reader.new) }
+    ensures shorter { OnOk result (length reader.new < length reader.old) }
+    ensures err { IfErr result (IsUnread (ReadsValue depth reader.old None)) }
+{
+    let token = reader.next().ok_or(LoadFault::Json)?;
+    if let Token::BeginArray = token {
+        return items(alloc, reader, depth - 1);
+    }
+    pass_from(token, reader, depth)?;
+    Ok(None)
+}
+
+impl<'a> Frame<'a> {
+    /// Takes the value of the member of this name.
+    fn take(
+        &mut self,
+        alloc: Global,
+        reader: &mut Reader<'a>,
+        depth: usize,
+        name: &str,
+    ) -> Result<(), LoadFault>
+        requires { 1 < depth }
+        ensures taken { OnOk result (Puts depth name.now reader.old reader.new (AreParts self.old) (AreParts self.new)) }
+        ensures shorter { OnOk result (length reader.new < length reader.old) }
+        ensures err { IfErr result (IsUnread (ReadsValue depth reader.old None)) }
+    {
+        if name == "entries" {
+            self.entries = entries(alloc, reader, depth)?;
+        } else if name == "version" {
+            self.version = version(reader, depth)?;
+        } else {
+            pass_value(reader, depth)?;
+            self.others = true;
+        }
+        Ok(())
+    }
+
+    /// The entries of the file, if these are its members and there is no other.
+    fn into_entries(self) -> Option<Vec<Texts<'a>>>
+        ensures { (ms : Members) → AreParts self.entry ms → FileIs result (object ms) }
+    {
+        if self.others || self.version != Some(VERSION) {
+            return None;
+        }
+        self.entries
+    }
+}
+
+/// The entries of the file whose members these are, up to the brace that closes it, if it is one.
+fn members<'a>(
+    alloc: Global,
+    reader: &mut Reader<'a>,
+    depth: usize,
+) -> Result<Option<Vec<Texts<'a>>>, LoadFault>
+    requires { 1 < depth }
+    ensures read { IfOk result
+        (λ es. (ms : Members) × ReadsMembers depth no_members reader.old (Some (ms, reader.new)) × FileIs es (object ms)) }
+    ensures err { IfErr result (IsUnread (ReadsMembers depth no_members reader.old None)) }
+{
+    let mut frame = Frame {
+        entries: None,
+        version: None,
+        others: false,
+    };
+    while let Some(name) = reader.next_key()? {
+        frame.take(alloc, reader, depth, name)?;
+    }
+    Ok(frame.into_entries())
+}
+
+/// The entries of the value, if it is a catalogue file. Any other is passed.
+pub(crate) fn file<'a>(
+    alloc: Global,
+    reader: &mut Reader<'a>,
+    depth: usize,
+) -> Result<Option<Vec<Texts<'a>>>, LoadFault>
+    requires { 2 < depth }
+    ensures read { IfOk result (λ es. Passes depth reader.old (FileIs es) reader.new) }
+    ensures err { IfErr result (IsUnread (ReadsValue depth reader.old None)) }
+{
+    let token = reader.next().ok_or(LoadFault::Json)?;
+    if let Token::BeginObject = token {
+        return members(alloc, reader, depth - 1);
+    }
+    pass_from(token, reader, depth)?;
+    Ok(None)
+}
