@@ -101,6 +101,28 @@ impl<A: Allocator> HeapJob<A> {
         Ok(self.trial.is_over())
     }
 
+    /// Spends units as `work` does, at most `units`, but never the last one: some of the last are always left to `work`. Where a growth is
+    /// refused it spends no more, and `work` tells so.
+    pub fn go_on(&mut self, units: u64)
+        ensures given { self.new ≡ record self.old { spent = self.new.spent; refused = self.new.refused } }
+        ensures spent { (self.old.spent ≤ self.new.spent) × (self.new.spent ≤ self.old.spent + units) }
+        ensures going { self.old.spent < heap_cost self.old.code self.old.phi → self.new.spent < heap_cost self.old.code self.old.phi }
+        ensures stays { IsTrue self.old.refused → self.new ≡ self.old }
+    {
+        if self.refused {
+            return;
+        }
+        let made = self.trial.go_on(
+            &self.code,
+            &self.table,
+            &self.phi,
+            &mut self.pairs,
+            &mut self.wholes,
+            units,
+        );
+        self.refused = made.is_err();
+    }
+
     /// The pairs, and what the job was opened with.
     pub fn finish(self) -> (Code, Table<A>, Phi<A>, Vec<Pair, A>)
         requires { IsDone self }
