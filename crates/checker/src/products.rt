@@ -70,18 +70,18 @@ impl<A: Room + Copy> Products<A> {
         ensures same { self.new.certificate ≡ self.old.certificate }
         ensures runs { (bytes : List ℕ) (limit : ℕ) → Runs bytes limit (AtProducts self.old) left.old left.new (AtProducts self.new) }
     {
-        let order = self.sheet.order();
+        let last = self.sheet.order() - 1;
         let heaps = self.sheet.start() + self.sheet.period();
-        'products: while *left > 0 && is_in_order(&self.sheet, self.element, self.heap) {
-            if self.heap + 1 < heaps {
-                self.heap += 1;
-            } else if self.element + 1 < order {
+        'products: while *left > 0
+            && self.element < last
+            && is_in_order(&self.sheet, self.element, self.heap)
+        {
+            *left -= 1;
+            self.heap += 1;
+            if self.heap == heaps {
                 self.heap = 1;
                 self.element += 1;
-            } else {
-                break;
             }
-            *left -= 1;
         }
     }
 

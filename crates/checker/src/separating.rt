@@ -74,15 +74,19 @@ impl<A: Room + Copy> Separating<A> {
         let order = self.sheet.order();
         let last = self.sheet.pairs() - 1;
         'pairs: while *left > 0 && self.number < last {
-            let tells = tells_apart(&self.sheet, self.x, self.y, self.z);
-            if tells != (self.z == self.sheet.apart(self.number)) {
-                break;
-            }
-            *left -= 1;
-            if !tells {
+            let given = self.sheet.apart(self.number);
+            if !tells_apart(&self.sheet, self.x, self.y, self.z) {
+                if self.z == given {
+                    return;
+                }
+                *left -= 1;
                 self.z += 1;
                 continue;
             }
+            if self.z < given {
+                return;
+            }
+            *left -= 1;
             self.z = 0;
             self.number += 1;
             self.y += 1;
