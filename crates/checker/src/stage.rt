@@ -54,7 +54,7 @@ impl<A: Room + Copy> Stage<A> {
             Stage::Separating(separating) => separating.go_on(left),
             Stage::Heaps(heaps) => heaps.go_on(left),
             Stage::Elements(elements) => elements.go_on(left),
-            Stage::Reading | Stage::Periods(_) | Stage::Closing(_) | Stage::Ended(_) => {}
+            _ => {}
         }
     }
 
