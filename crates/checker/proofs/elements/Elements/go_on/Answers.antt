@@ -1,4 +1,4 @@
-use Rattle.std.proofs.Common.{◌≡◌, ◌<◌, ◌≤◌, ◌+◌, Option, Some, None, false, length, ap, ◌∙◌, arith}
+use Rattle.std.proofs.Common.{◌≡◌, ◌<◌, ◌+◌, Option, Some, None, false, ap, ◌∙◌, arith}
 use Rattle.std.specs.Prelude.{IfNone}
 use Rattle.std.specs.Option.{is_some}
 use Rattle.checker.proofs.ElementLemmas.{obeys_at, value_turn, heap_turn}

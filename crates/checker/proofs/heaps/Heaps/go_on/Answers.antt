@@ -1,9 +1,9 @@
-use Rattle.std.proofs.Common.{◌≡◌, ℕ, List, ◌-◌, ◌<◌, ◌≤◌, sym, ◌∙◌, ap, subst, arith}
+use Rattle.std.proofs.Common.{◌-◌, ◌<◌, ◌≤◌, sym, ◌∙◌, ap, subst, arith}
 use Rattle.misere_theory.specs.Certificates.{Certificate}
 use Rattle.transition_algebra.specs.Work.{HeapWork, heap_cost}
 use Rattle.certificate.specs.Pieces.{certificate_of}
 use Rattle.checker.specs.Sheets.{pieces_of}
-use Rattle.checker.specs.Turns.{Phase, Runs}
+use Rattle.checker.specs.Turns.{Runs}
 use Rattle.checker.specs.Turns.Phase.{Heaps}
 use Rattle.checker.proofs.TurnLemmas.{runs-to}
 use Rattle.checker.proofs.CloseTurns.{runs-left}

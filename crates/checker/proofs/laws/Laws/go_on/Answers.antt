@@ -1,4 +1,4 @@
-use Rattle.std.proofs.Common.{◌≡◌, ◌+◌, ◌-◌, ◌≤◌, subst, sym, ap, ◌∙◌, false, arith}
+use Rattle.std.proofs.Common.{◌≡◌, ◌-◌, subst, sym, ap, ◌∙◌, false, arith}
 use Rattle.monoid_table.specs.Turns.{JobState, turns, triples, is_over}
 use Rattle.monoid_table.specs.Grids.{Grid}
 use Rattle.certificate.specs.Pieces.{certificate_of}

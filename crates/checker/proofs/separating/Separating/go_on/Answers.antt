@@ -1,4 +1,4 @@
-use Rattle.std.proofs.Common.{length, slice_index, ◌∙◌, ap, rules, arith, ◌<◌, ◌≤◌, ◌≡◌, true, sym}
+use Rattle.std.proofs.Common.{slice_index, ◌∙◌, ap, rules, arith, ◌<◌, ◌≡◌, true, sym}
 use Rattle.misere_theory.specs.Certificates.{claim_of, TellsApart}
 use Rattle.checker.proofs.ApartLemmas.{apart_in, element_turn, pair_turn, last_pair_turn}
 use Rattle.checker.specs.Turns.Phase.{Separating}

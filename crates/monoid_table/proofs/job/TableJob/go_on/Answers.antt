@@ -1,4 +1,4 @@
-use Rattle.std.proofs.Common.{◌≡◌, ℕ, ◌+◌, ◌-◌, ◌<◌, ◌≤◌, Bool, true, false, not, ap, sym, ◌∙◌, subst, refl, arith}
+use Rattle.std.proofs.Common.{◌≡◌, ◌+◌, ◌-◌, ◌≤◌, true, false, not, ap, sym, ◌∙◌, subst, refl, arith}
 use native.Mathlib.Decide.{dec_lt}
 use Rattle.monoid_table.specs.Turns.{JobState, is_over, turns, triples, triple_holds}
 use Rattle.monoid_table.proofs.TurnLaws.{passing-on, turns-none}

@@ -1,5 +1,4 @@
-use Rattle.std.proofs.Common.{◌<◌, ◌≤◌, length, refl, ap, arith}
-use Rattle.transition_algebra.specs.Heaps.{bound_of}
+use Rattle.std.proofs.Common.{length, refl, arith}
 use Rattle.transition_algebra.specs.Trials.{stages_left}
 use Rattle.transition_algebra.proofs.Running.{two_digits, room, measure_falls, stages_few}
 use Rattle.transition_algebra.proofs.trial.Trial.go_on.Goals as goal
