@@ -3,14 +3,14 @@ use Rattle.std.proofs.Common.{◌≡◌, ◌⊎◌, Result, ℕ, ◌+◌, ◌-�
 use Rattle.misere_theory.specs.Certificates.{Certificate}
 use Rattle.checker.specs.Answers.{answer_of}
 use Rattle.checker.specs.Answers.Answer.{Memory}
-use Rattle.checker.specs.Turns.{Phase, is_ended, answer_at, stage_of, cost, verdict, Works, Reaches, HasSpent}
+use Rattle.checker.specs.Turns.{Phase, is_ended, answer_at, stage_of, cost, verdict, Runs, Works, Reaches, HasSpent}
 use Rattle.checker.specs.Turns.Phase.{Reading as AtReading, Laws as AtLaws, Keys as AtKeys, Products as AtProducts, Periods as AtPeriods, Separating as AtSeparating, Heaps as AtHeaps, Closing as AtClosing, Elements as AtElements, Ended as AtEnded}
 use Rattle.checker.specs.Stages.{phase_of, has_ended, ending, Comes, HasCome}
 use Rattle.checker.specs.JobViews.{IsDueAt}
 use Rattle.checker.specs.declared.refusal.Refusal.{Refusal}
 use Rattle.checker.specs.declared.stage.Stage.{Stage}
 use Rattle.checker.specs.declared.stage.Stage.TheVariants.{Reading, Laws, Keys, Products, Periods, Separating, Heaps, Elements, Closing, Ended}
-use Rattle.checker.proofs.CostLemmas.{reaches_first, reaches-runs}
+use Rattle.checker.proofs.CostLemmas.{reaches_first, runs-then, reaches-runs}
 
 module _ (bytes : List ℕ) (limit : ℕ) where
   pub works_comes : {A : Type 0} (p : Phase) (before after : ℕ) (s : Stage A) → Works bytes limit p before after (phase_of s) → Comes bytes limit p before after s
@@ -30,6 +30,32 @@ module _ (bytes : List ℕ) (limit : ℕ) where
   early (Elements x) e = (omega arith, refl)
   early (Closing x) e = (omega arith, refl)
   early (Ended r) e = absurd (cc)
+
+  pub going_at : {A : Type 0} (s : Stage A) → stage_of (phase_of s) < 9 → has_ended s ≡ false
+  going_at Reading l = refl
+  going_at (Laws x) l = refl
+  going_at (Keys x) l = refl
+  going_at (Products x) l = refl
+  going_at (Periods x) l = refl
+  going_at (Separating x) l = refl
+  going_at (Heaps x) l = refl
+  going_at (Elements x) l = refl
+  going_at (Closing x) l = refl
+  going_at (Ended r) l = absurd (omega arith)
+
+  -- a stage goes on in place, and then works
+  pub goes_comes : {A : Type 0} (before between after : ℕ) (s q u t : Stage A) → has_ended s ≡ false → Runs bytes limit (phase_of s) before between (phase_of q) → stage_of (phase_of q) ≡ stage_of (phase_of s) → u ≡ q
+      → (has_ended u ≡ false → Comes bytes limit (phase_of u) between after t) → Comes bytes limit (phase_of s) before after t
+  goes_comes before between after s q u t e r same is w =
+      let g = early s e in
+      let f : has_ended q ≡ false = going_at q (omega arith) in
+      let c = subst (λ x. Comes bytes limit (phase_of x) between after t) is (w (ap has_ended is ∙ f)) in
+      record {
+        to = c.to;
+        runs = runs-then bytes limit before between after (phase_of s) (phase_of q) c.to r c.runs same;
+        shown = c.shown;
+        exact = λ h. (let x = c.exact h in omega arith);
+      }
 
   not_memory : (p : Phase) → is_ended p ≡ false → p ≡ AtEnded Memory → ⊥
   not_memory p e d = let t : is_ended p ≡ true = ap is_ended d in let b : ⊥ = cc in b

@@ -41,6 +41,14 @@ module _ (bytes : List ℕ) (limit : ℕ) where
   pub runs-to : (before after : ℕ) (p q s : Phase) → Runs bytes limit p before after q → q ≡ s → Runs bytes limit p before after s
   runs-to before after p q s r e = subst (Runs bytes limit p before after) e r
 
+  -- of other units as many
+  pub runs-of : (a b before after : ℕ) (p q : Phase) → Runs bytes limit p a b q → after ≤ before → a - b ≡ before - after → Runs bytes limit p before after q
+  runs-of a b before after p q r w e = record {
+    within = w;
+    reached = subst (λ n. q ≡ turns bytes limit n p) e r.reached;
+    going = subst (λ k. (n : ℕ) → n < k → stage_of (turns bytes limit n p) ≡ stage_of p) e r.going;
+  }
+
 -- keys are left to look at
 pub keys_in : (c : Certificate) (next : ℕ) (rise : Bool) → next < c.order → keys_at c next rise ≡ Keys (record { certificate = c; next = next; rising = rise })
 unfolding keys_at

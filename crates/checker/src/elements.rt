@@ -7,7 +7,7 @@ ghost use Rattle.misere_theory.specs.Certificates.{Canonical, claim_of, times_of
 ghost use Rattle.checker.specs.Closings.{HavePairs, AreContexts, LeadsIn};
 ghost use Rattle.checker.specs.Answers.Answer.{Outcome};
 ghost use Rattle.pair_closure.specs.Positions.{rising};
-ghost use Rattle.checker.specs.Turns.{keys_from};
+ghost use Rattle.checker.specs.Turns.{keys_from, Runs};
 ghost use Rattle.checker.specs.Turns.Phase.{Elements as AtElements, Ended as AtEnded};
 ghost use Rattle.checker.specs.Stages.{Carries, Comes, phase_of};
 
@@ -176,6 +176,26 @@ impl<A: Room + Copy> Elements<A> {
             heap: 0,
             option: 0,
         })
+    }
+
+    /// Takes turns in place, while the stage surely goes on and there are units.
+    pub fn go_on(&mut self, left: &mut u64)
+        ensures same { self.new.certificate ≡ self.old.certificate }
+        ensures runs { (bytes : List ℕ) (limit : ℕ) → Runs bytes limit (AtElements self.old) left.old left.new (AtElements self.new) }
+    {
+        let order = self.sheet.order();
+        let last = self.pairs.len() - 1;
+        'heaps: while *left > 0 && self.heap < last {
+            if breach(&self.pairs[self.heap], &self.contexts, self.option, order).is_some() {
+                break;
+            }
+            *left -= 1;
+            self.option += 1;
+            if self.option == order {
+                self.option = 0;
+                self.heap += 1;
+            }
+        }
     }
 
     /// Spends units until there are none or the stage ends.

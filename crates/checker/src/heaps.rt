@@ -1,6 +1,7 @@
 //! The stage that makes the pairs of the heaps.
 ghost use Rattle.std.specs.Prelude.{◌≡◌, ◌<◌, ◌+◌, ◌*◌, ℕ, List};
 ghost use Rattle.misere_theory.specs.Certificates.{Canonical};
+ghost use Rattle.checker.specs.Turns.{Runs};
 ghost use Rattle.checker.specs.Turns.Phase.{Heaps as AtHeaps};
 ghost use Rattle.checker.specs.Stages.{Carries, Comes};
 
@@ -22,7 +23,7 @@ pub struct Heaps<A: Room = Global> {
 }
 
 impl<A: Room> Model for Heaps<A> {
-    ghost use Rattle.std.specs.Prelude.{◌≡◌, ◌<◌, false};
+    ghost use Rattle.std.specs.Prelude.{◌<◌};
     ghost use Rattle.transition_algebra.specs.Work.{heap_cost};
     ghost use Rattle.checker.specs.Views.{HeapsView};
     ghost use Rattle.certificate.specs.Pieces.{certificate_of};
@@ -35,8 +36,7 @@ impl<A: Room> Model for Heaps<A> {
 
     ghost invariant = { λ s.
         IsCanonicalSheet (pieces_of s.job.code s.job.table s.job.phi s.lines.portion.items s.lines.words.items s.lines.apart.items) s.lines.inside
-        × (s.job.spent < heap_cost s.job.code s.job.phi)
-        × (s.job.refused ≡ false) };
+        × (s.job.spent < heap_cost s.job.code s.job.phi) };
 }
 
 impl<A: Room + Copy> Heaps<A> {
@@ -56,6 +56,16 @@ impl<A: Room + Copy> Heaps<A> {
             lines,
             job: HeapJob::new(alloc, code, table, phi),
         }
+    }
+
+    /// Takes turns in place, while the stage surely goes on and there are units.
+    pub fn go_on(&mut self, left: &mut u64)
+        ensures same { self.new.certificate ≡ self.old.certificate }
+        ensures runs { (bytes : List ℕ) (limit : ℕ) → Runs bytes limit (AtHeaps self.old) left.old left.new (AtHeaps self.new) }
+    {
+        let before = self.job.spent();
+        self.job.go_on(*left);
+        *left -= self.job.spent() - before;
     }
 
     /// Spends units until there are none or the stage ends.

@@ -120,8 +120,8 @@ impl<A: Room + Copy> Job<A> {
         let mut left = units;
         'stages: while left > 0 && !self.stage.has_ended() {
             let before = left;
-            let stage = std::mem::replace(&mut self.stage, Stage::Reading);
-            self.stage = stage.work(self.alloc, &self.bytes, self.limit, &mut left);
+            self.stage
+                .advance(self.alloc, &self.bytes, self.limit, &mut left);
             self.spent += before - left;
         }
     }

@@ -3,7 +3,7 @@ ghost use Rattle.misere_theory.specs.Numbering.{KeyBelow};
 ghost use Rattle.misere_theory.specs.Certificates.{key_of};
 ghost use Rattle.misere_theory.specs.Faults.{WordFault};
 ghost use Rattle.checker.specs.Progress.{IsKeyOf};
-ghost use Rattle.checker.specs.Turns.{key_below, is_keyed, is_above_last, Works};
+ghost use Rattle.checker.specs.Turns.{key_below, is_keyed, is_above_last, Runs, Works};
 ghost use Rattle.checker.specs.Turns.Phase.{Keys as AtKeys};
 ghost use Rattle.checker.specs.Stages.{Carries, phase_of};
 
@@ -78,6 +78,19 @@ impl<A: Room + Copy> Keys<A> {
             sheet,
             next: 1,
             rising: true,
+        }
+    }
+
+    /// Takes turns in place, while the stage surely goes on and there are units.
+    pub fn go_on(&mut self, left: &mut u64)
+        ensures same { self.new.certificate ≡ self.old.certificate }
+        ensures runs { (bytes : List ℕ) (limit : ℕ) → Runs bytes limit (AtKeys self.old) left.old left.new (AtKeys self.new) }
+    {
+        let last = self.sheet.order() - 1;
+        'keys: while *left > 0 && self.next < last && is_keyed(&self.sheet, self.next) {
+            *left -= 1;
+            self.rising &= is_above_last(&self.sheet, self.next);
+            self.next += 1;
         }
     }
 

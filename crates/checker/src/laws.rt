@@ -2,7 +2,7 @@
 ghost use Rattle.std.specs.Prelude.{◌≡◌, ◌<◌, ◌≤◌, ℕ, List};
 ghost use Rattle.monoid_table.specs.Turns.{fresh, triples};
 ghost use Rattle.certificate.specs.Pieces.{grid_of};
-ghost use Rattle.checker.specs.Turns.{Works};
+ghost use Rattle.checker.specs.Turns.{Runs, Works};
 ghost use Rattle.checker.specs.Turns.Phase.{Laws as AtLaws};
 ghost use Rattle.checker.specs.Stages.{Carries, phase_of};
 
@@ -75,6 +75,16 @@ impl<A: Room + Copy> Laws<A> {
             },
             job,
         }
+    }
+
+    /// Takes turns in place, while the stage surely goes on and there are units.
+    pub fn go_on(&mut self, left: &mut u64)
+        ensures same { self.new.certificate ≡ self.old.certificate }
+        ensures runs { (bytes : List ℕ) (limit : ℕ) → Runs bytes limit (AtLaws self.old) left.old left.new (AtLaws self.new) }
+    {
+        turns_add_up();
+        let looked = self.job.go_on(*left);
+        *left -= looked;
     }
 
     /// Spends units until there are none or the stage ends.

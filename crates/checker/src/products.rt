@@ -1,7 +1,7 @@
 ghost use Rattle.std.specs.Prelude.{◌≡◌, ◌<◌, ◌+◌, ◌*◌, ◌≤◌, ◌⊎◌, ℕ, List, IsTrue};
 ghost use Rattle.misere_theory.specs.Faults.{OrderFault};
 ghost use Rattle.checker.specs.Progress.{IsInOrder, AreKeys};
-ghost use Rattle.checker.specs.Turns.{is_in_order, Works};
+ghost use Rattle.checker.specs.Turns.{is_in_order, Runs, Works};
 ghost use Rattle.checker.specs.Turns.Phase.{Products as AtProducts};
 ghost use Rattle.checker.specs.Stages.{Carries, phase_of};
 
@@ -62,6 +62,26 @@ impl<A: Room + Copy> Products<A> {
             sheet,
             element: 0,
             heap: 1,
+        }
+    }
+
+    /// Takes turns in place, while the stage surely goes on and there are units.
+    pub fn go_on(&mut self, left: &mut u64)
+        ensures same { self.new.certificate ≡ self.old.certificate }
+        ensures runs { (bytes : List ℕ) (limit : ℕ) → Runs bytes limit (AtProducts self.old) left.old left.new (AtProducts self.new) }
+    {
+        let last = self.sheet.order() - 1;
+        let heaps = self.sheet.start() + self.sheet.period();
+        'products: while *left > 0
+            && self.element < last
+            && is_in_order(&self.sheet, self.element, self.heap)
+        {
+            *left -= 1;
+            self.heap += 1;
+            if self.heap == heaps {
+                self.heap = 1;
+                self.element += 1;
+            }
         }
     }
 

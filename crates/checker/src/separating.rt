@@ -1,7 +1,7 @@
 ghost use Rattle.std.specs.Prelude.{◌≡◌, ◌<◌, ◌+◌, ◌*◌, ◌↔◌, ℕ, List, IsTrue};
 ghost use Rattle.misere_theory.specs.Certificates.{claim_of, TellsApart};
 ghost use Rattle.checker.specs.Progress.{HasNoFaultBelow};
-ghost use Rattle.checker.specs.Turns.{tells_apart, Works};
+ghost use Rattle.checker.specs.Turns.{tells_apart, Runs, Works};
 ghost use Rattle.checker.specs.Turns.Phase.{Separating as AtSeparating};
 ghost use Rattle.checker.specs.Stages.{Carries, phase_of};
 
@@ -63,6 +63,37 @@ impl<A: Room + Copy> Separating<A> {
             y: 1,
             number: 0,
             z: 0,
+        }
+    }
+
+    /// Takes turns in place, while the stage surely goes on and there are units.
+    pub fn go_on(&mut self, left: &mut u64)
+        ensures same { self.new.certificate ≡ self.old.certificate }
+        ensures runs { (bytes : List ℕ) (limit : ℕ) → Runs bytes limit (AtSeparating self.old) left.old left.new (AtSeparating self.new) }
+    {
+        let order = self.sheet.order();
+        let last = self.sheet.pairs() - 1;
+        'pairs: while *left > 0 && self.number < last {
+            let given = self.sheet.apart(self.number);
+            if !tells_apart(&self.sheet, self.x, self.y, self.z) {
+                if self.z == given {
+                    return;
+                }
+                *left -= 1;
+                self.z += 1;
+                continue;
+            }
+            if self.z < given {
+                return;
+            }
+            *left -= 1;
+            self.z = 0;
+            self.number += 1;
+            self.y += 1;
+            if self.y == order {
+                self.x += 1;
+                self.y = self.x + 1;
+            }
         }
     }
 

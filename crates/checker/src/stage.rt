@@ -1,5 +1,6 @@
 //! The stages of a check, in a row.
-ghost use Rattle.std.specs.Prelude.{◌≡◌, false};
+ghost use Rattle.std.specs.Prelude.{◌≡◌, ◌*◌, ℕ, List, false};
+ghost use Rattle.checker.specs.Turns.{Runs, stage_of};
 
 use crate::certified::Certified;
 use crate::closing::Closing;
@@ -38,6 +39,36 @@ impl<A: Room + Copy> Stage<A> {
         ensures { result ≡ has_ended self.now }
     {
         matches!(self, Stage::Ended(_))
+    }
+
+    /// Takes turns in place, while the stage surely goes on and there are units.
+    fn go_on(&mut self, left: &mut u64)
+        ensures stands { (bytes : List ℕ) (limit : ℕ) → Stands bytes limit self.old → Stands bytes limit self.new }
+        ensures runs { (bytes : List ℕ) (limit : ℕ) → Runs bytes limit (phase_of self.old) left.old left.new (phase_of self.new) }
+        ensures same { stage_of (phase_of self.new) ≡ stage_of (phase_of self.old) }
+    {
+        match self {
+            Stage::Laws(laws) => laws.go_on(left),
+            Stage::Keys(keys) => keys.go_on(left),
+            Stage::Products(products) => products.go_on(left),
+            Stage::Separating(separating) => separating.go_on(left),
+            Stage::Heaps(heaps) => heaps.go_on(left),
+            Stage::Elements(elements) => elements.go_on(left),
+            _ => {}
+        }
+    }
+
+    /// Spends units until there are none or the stage ends. It is moved only for what may end it.
+    pub fn advance(&mut self, alloc: A, bytes: &[u8], limit: u32, left: &mut u64)
+        requires { Stands bytes.now limit self.old }
+        ensures stands { Stands bytes.now limit self.new }
+        ensures comes { has_ended self.old ≡ false → Comes bytes.now limit (phase_of self.old) left.old left.new self.new }
+    {
+        self.go_on(left);
+        if *left > 0 {
+            let stage = std::mem::replace(self, Stage::Reading);
+            *self = stage.work(alloc, bytes, limit, left);
+        }
     }
 
     /// Spends units until there are none or the stage ends.

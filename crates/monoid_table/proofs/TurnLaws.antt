@@ -100,6 +100,22 @@ pub ran : (n : ℕ) (s : JobState) (broken : Bool) → is_over s ≡ false → 0
 ran n s broken over some within passed last =
     sym (ap (λ b. turns n (state s.grid s.spent b)) (still s over) ∙ turns-run n s.grid s.spent broken some within passed last)
 
+-- triples that hold, none of which is the last
+pub passing-on : (n : ℕ) (s : JobState) → is_over s ≡ false → s.spent + n < triples s.grid.order → ((i : ℕ) → s.spent ≤ i → i < s.spent + n → triple_holds s.grid.order s.grid.entries i ≡ true)
+    → (state s.grid (s.spent + n) s.refused ≡ turns n s) × (is_over (state s.grid (s.spent + n) s.refused) ≡ false)
+unfolding turns
+passing-on zero s over room held =
+    let e : s.spent + 0 ≡ s.spent = omega arith in
+    let d = ap (λ k. state s.grid k s.refused) e in
+    (d, ap is_over d ∙ over)
+passing-on (suc n) s over room held =
+    let a : s.spent ≤ s.spent + suc n - 1 = omega arith in
+    let b : s.spent + suc n - 1 < s.spent + suc n = omega arith in
+    let r = ap (state s.grid (s.spent + suc n)) (still s over) in (
+      r ∙ ran (suc n) s false over (omega arith) (omega arith) (λ i low high. held i low (omega arith)) (held (s.spent + suc n - 1) a b),
+      ap is_over r ∙ going s.grid (s.spent + suc n) room,
+    )
+
 -- some turns, and then the others
 pub turns-split : (m k n : ℕ) (s : JobState) → m + k ≡ n → turns k (turns m s) ≡ turns n s
 turns-split m k n s e = sym (turns-add m k s) ∙ ap (λ n. turns n s) e

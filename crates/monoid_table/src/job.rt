@@ -93,6 +93,25 @@ impl<A: Allocator> TableJob<A> {
         run.units
     }
 
+    /// Looks at triples as `work` does, at most `units`, and answers at how many. The last one, and one where a law fails, it leaves to `work`.
+    pub fn go_on(&mut self, units: u64) -> u64
+        requires { is_over self.old ≡ false }
+        ensures within { result ≤ units }
+        ensures state { self.new ≡ turns result self.old }
+        ensures going { is_over self.new ≡ false }
+    {
+        let most = units.min(self.all() - self.spent - 1);
+        if most == 0 {
+            return 0;
+        }
+        let order = self.order as usize;
+        self.lawful = self.lawful || self.spent == 0 && is_lawful(&self.rows, order);
+        let run = next_run(&self.rows, order, self.lawful, self.spent, most);
+        let passed = if run.broken { run.units - 1 } else { run.units };
+        self.spent += passed;
+        passed
+    }
+
     /// Looks at the next `units` triples, a unit each: true once all were looked at and every law held.
     ///
     /// Answers `Law` at the first triple where a law fails, and at every later call. What the job

@@ -153,6 +153,7 @@ module _ (code : List ℕ) (table : Grid) (phi : Pretending) where
         trial = moved;
         spent_is = refl;
         falls = inr (let e = ap stages stage in omega arith);
+        heap = omega arith;
       }))
 
   -- once the units of all splits of a whole are spent, their values are those of the whole
@@ -200,6 +201,7 @@ module _ (code : List ℕ) (table : Grid) (phi : Pretending) where
         trial = moved;
         spent_is = here;
         falls = inr (omega arith);
+        heap = omega arith;
       }))
 
   pub run_splits : (s t : Trial) (ps : List Pair) (units r a : ℕ) → IsTrial code table phi s ps → s.heap ≤ bound_of code phi → s.away < length code → s.stage ≡ Splits a
@@ -237,6 +239,7 @@ module _ (code : List ℕ) (table : Grid) (phi : Pretending) where
         trial = moved;
         spent_is = refl;
         falls = inl some;
+        heap = omega arith;
       })
 
   none_coming : (n most j : ℕ) (stage : Stage) → length code ≤ j → coming_at code n most j stage ≡ []
@@ -276,6 +279,7 @@ module _ (code : List ℕ) (table : Grid) (phi : Pretending) where
         trial = moved;
         spent_is = refl;
         falls = inl (omega arith);
+        heap = omega arith;
       }))
 
 -- all turns were made exactly where no heap is left

@@ -123,9 +123,10 @@ stages (Splits a) = 0
 abbrev pub stages_left : List ℕ → Trial → ℕ
 stages_left code t = 2 * (length code - t.away) + stages t.stage
 
--- at most so many turns more, and where none, a stage less
+-- at most so many turns more, none of which begins a second heap, and where none, a stage less
 pub record IsRun (code : List ℕ) (table : Grid) (phi : Pretending) (s t : Trial) (pairs : List Pair) (units spent : ℕ) : Type 0 where
   pub at_most : spent ≤ units
   pub trial : IsTrial code table phi t pairs
   pub spent_is : t.spent ≡ s.spent + spent
   pub falls : (1 ≤ spent) ⊎ (stages_left code t < stages_left code s)
+  pub heap : t.heap ≤ s.heap + 1

@@ -101,6 +101,28 @@ impl<A: Allocator> HeapJob<A> {
         Ok(self.trial.is_over())
     }
 
+    /// Spends units as `work` does, at most so many, but none at the last heap, which is left to `work`. Where a growth is refused it spends
+    /// no more, and `work` tells so.
+    pub fn go_on(&mut self, most: u64)
+        ensures given { self.new ≡ record self.old { spent = self.new.spent; refused = self.new.refused } }
+        ensures spent { (self.old.spent ≤ self.new.spent) × (self.new.spent ≤ self.old.spent + most) }
+        ensures going { self.old.spent < heap_cost self.old.code self.old.phi → self.new.spent < heap_cost self.old.code self.old.phi }
+        ensures stays { IsTrue self.old.refused → self.new ≡ self.old }
+    {
+        if self.refused {
+            return;
+        }
+        let tried = self.trial.go_on(
+            &self.code,
+            &self.table,
+            &self.phi,
+            &mut self.pairs,
+            &mut self.wholes,
+            most,
+        );
+        self.refused = tried.is_err();
+    }
+
     /// The pairs, and what the job was opened with.
     pub fn finish(self) -> (Code, Table<A>, Phi<A>, Vec<Pair, A>)
         requires { IsDone self }

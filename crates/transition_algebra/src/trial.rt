@@ -222,6 +222,32 @@ impl Trial {
         Ok(())
     }
 
+    /// The next turns, at most `units`, while a heap smaller than the last is in hand.
+    pub(crate) fn go_on<A: Allocator>(
+        &mut self,
+        code: &Code,
+        table: &Table<A>,
+        phi: &Phi<A>,
+        pairs: &mut Vec<Pair, A>,
+        wholes: &mut Wholes<A>,
+        units: u64,
+    ) -> Result<(), Memory>
+        requires into { IsInto table.now phi.now }
+        requires trial { IsTrial code.now table.now phi.now self.old pairs.old.items }
+        requires kept { AreWholes table.now phi.now wholes.old.sets.items }
+        ensures trial { IsTrial code.now table.now phi.now self.new pairs.new.items }
+        ensures kept { AreWholes table.now phi.now wholes.new.sets.items }
+        ensures spent { (self.old.spent ≤ self.new.spent) × (self.new.spent ≤ self.old.spent + units) }
+        ensures going { self.old.spent < heap_cost code.now phi.now → self.new.spent < heap_cost code.now phi.now }
+    {
+        let _last = code.last();
+        let mut left = units;
+        while left > 0 && self.heap < self.bound {
+            left -= self.run(code, table, phi, pairs, wholes, left)?;
+        }
+        Ok(())
+    }
+
     /// Whether all pairs stand.
     pub(crate) fn is_over(&self) -> bool
         ensures { IsTrue result ↔ (self.now.bound < self.now.heap) }

@@ -1,4 +1,4 @@
-use Rattle.std.proofs.Common.{◌≡◌, ◌<◌, false, refl, sym, subst}
+use Rattle.std.proofs.Common.{◌<◌, sym, subst}
 use Rattle.misere_theory.specs.Certificates.{Canonical}
 use Rattle.transition_algebra.specs.Work.{HeapWork, heap_cost}
 use Rattle.checker.specs.Sheets.{pieces_of}
@@ -10,5 +10,5 @@ pub invariant_of-result : goal.invariant_of-result
 invariant_of-result g c =
     let s = c.sheet.inside in
     let some = some_cost s.code s.phi c.sheet.invariant.whole.in_ranges.start.0 in
-    subst (λ (j : HeapWork). IsCanonicalSheet (pieces_of j.code j.table j.phi s.lines.portion.items s.lines.words.items s.lines.apart.items) s.lines.inside × (j.spent < heap_cost j.code j.phi) × (j.refused ≡ false)) (sym c.new.ensures)
-    (record { sheet = c.sheet.invariant; canonical = subst Canonical (sym c.sheet.view_is) c.requires }, some, refl)
+    subst (λ (j : HeapWork). IsCanonicalSheet (pieces_of j.code j.table j.phi s.lines.portion.items s.lines.words.items s.lines.apart.items) s.lines.inside × (j.spent < heap_cost j.code j.phi)) (sym c.new.ensures)
+    (record { sheet = c.sheet.invariant; canonical = subst Canonical (sym c.sheet.view_is) c.requires }, some)

@@ -1,4 +1,4 @@
-use Rattle.std.proofs.Common.{◌≡◌, ℕ, List, ◌-◌, ◌<◌, ◌≤◌, true, refl, inl, inr, ap, ◌∙◌, subst, sym, arith}
+use Rattle.std.proofs.Common.{◌≡◌, ◌⊎◌, ℕ, List, ◌+◌, ◌-◌, ◌<◌, ◌≤◌, Bool, true, false, refl, inl, inr, ap, ◌∙◌, subst, sym, arith}
 use Rattle.std.specs.List.{All}
 use Rattle.transition_algebra.specs.Heaps.{AreAllHeapPairs}
 use Rattle.transition_algebra.specs.Pairs.{IsPair}
@@ -19,6 +19,11 @@ use Rattle.checker.proofs.CloseTurns.{runs-left}
 use Rattle.checker.proofs.HeapTurns.{heaps_in, heaps_runs, heaps_end}
 use Rattle.checker.proofs.heaps.Heaps.work.Goals as goal
 
+either : (b : Bool) → (b ≡ true) ⊎ (b ≡ false)
+either true = inl refl
+either false = inr refl
+
+-- A growth was refused in this call, or before it.
 pub returns-in-Err-clause-comes : goal.returns-in-Err-clause-comes
 returns-in-Err-clause-comes g c = λ bytes limit.
     let s = c.self.inside in
@@ -28,9 +33,13 @@ returns-in-Err-clause-comes g c = λ bytes limit.
     let r = c.work-made.ensures.spent in
     let a = c.spent.ensures in
     let b = c.spent-before.ensures in
-    let h = c.in-Err.ensures.short c.self.invariant.2 in
     let k : heap_cost J.code J.phi ≡ heap_cost s.job.code s.job.phi = ap (λ (j : HeapWork). heap_cost j.code j.phi) c.in-Err.ensures.refused in
-    let w : J.spent < heap_cost s.job.code s.job.phi = omega arith in
+    let spends : (J.spent ≡ s.job.spent) ⊎ ((J.spent < s.job.spent + U) × (J.spent < heap_cost J.code J.phi)) = elim (either s.job.refused) [
+      | inl t ↦ inl (ap (λ (j : HeapWork). j.spent) (c.work-made.ensures.stays t).1)
+      | inr f ↦ inr (c.in-Err.ensures.short f)
+    ] in
+    let some = c.self.invariant.1 in
+    let w : J.spent < heap_cost s.job.code s.job.phi = elim spends [ inl d ↦ omega arith | inr h ↦ omega (arith, h) ] in
     let u : J.spent ≤ heap_cost s.job.code s.job.phi = omega arith in
     let runs = heaps_runs bytes limit (of s.job) s.job.spent c.self.invariant.1 U (U - (J.spent - s.job.spent)) J.spent r.0 u (omega arith) in
     record {

@@ -25,7 +25,7 @@ overflow_add-self g c =
     let i = c.stages.invariant in
     let j = c.stages.self-inside in
     let going : has_ended j.stage ≡ false = sym c.has_ended.ensures ∙ c.if-not-has_ended.true in
-    let w = within j.bytes.items j.limit j.spent c.stages.left c.work.new.left (2 ^ 52) j.stage _ c.work.result c.replace-stage.ensures.value going i.stands.come (rw c.deref.ensures.value at c.work.ensures.comes) i.few in
+    let w = within j.bytes.items j.limit j.spent c.stages.left c.advance.new.left (2 ^ 52) j.stage j.stage c.advance.new.self refl going i.stands.come (rw c.deref.ensures.value at c.advance.ensures.comes) i.few in
     let a = w.1 in
     omega arith
 
@@ -34,9 +34,9 @@ stages-smaller g c =
     let i = c.stages.invariant in
     let j = c.stages.self-inside in
     let going : has_ended j.stage ≡ false = sym c.has_ended.ensures ∙ c.if-not-has_ended.true in
-    let w = within j.bytes.items j.limit j.spent c.stages.left c.work.new.left (2 ^ 52) j.stage _ c.work.result c.replace-stage.ensures.value going i.stands.come (rw c.deref.ensures.value at c.work.ensures.comes) i.few in
+    let w = within j.bytes.items j.limit j.spent c.stages.left c.advance.new.left (2 ^ 52) j.stage j.stage c.advance.new.self refl going i.stands.come (rw c.deref.ensures.value at c.advance.ensures.comes) i.few in
     let a = w.0 in
-    elim (dec_lt 0 c.work.new.left) [
+    elim (dec_lt 0 c.advance.new.left) [
       | yes b ↦ (let k = w.2 in let later = w.3 b in omega arith)
       | no f ↦ (let k = w.2 in omega (arith, f))
     ]
@@ -47,14 +47,14 @@ stages-preserved g c =
     let j = c.stages.self-inside in
     let going : has_ended j.stage ≡ false = sym c.has_ended.ensures ∙ c.if-not-has_ended.true in
     let none = going-none j.stage going in
-    let w = within j.bytes.items j.limit j.spent c.stages.left c.work.new.left (2 ^ 52) j.stage _ c.work.result c.replace-stage.ensures.value going i.stands.come (rw c.deref.ensures.value at c.work.ensures.comes) i.few in
+    let w = within j.bytes.items j.limit j.spent c.stages.left c.advance.new.left (2 ^ 52) j.stage j.stage c.advance.new.self refl going i.stands.come (rw c.deref.ensures.value at c.advance.ensures.comes) i.few in
     let a = w.0 in
     record {
       bytes = i.bytes;
       limit = i.limit;
       stands = record {
-        stands = rw c.deref.ensures.value at c.work.ensures.stands;
-        come = come_next j.bytes.items j.limit j.spent c.stages.left c.work.new.left j.stage _ c.work.result c.replace-stage.ensures.value going i.stands.come (rw c.deref.ensures.value at c.work.ensures.comes);
+        stands = rw c.deref.ensures.value at c.advance.ensures.stands;
+        come = come_next j.bytes.items j.limit j.spent c.stages.left c.advance.new.left j.stage j.stage c.advance.new.self refl going i.stands.come (rw c.deref.ensures.value at c.advance.ensures.comes);
       };
       few = i.few;
       within = omega arith;

@@ -1,0 +1,22 @@
+use Rattle.std.proofs.Common.{◌≡◌, ℕ, List, ◌+◌, ◌<◌, length}
+use Rattle.checker.specs.Sheets.{IsLawful}
+use Rattle.checker.specs.Closings.{ElementsSoFar}
+use Rattle.checker.specs.Turns.{Runs, elements_at}
+use Rattle.checker.specs.Turns.Phase.{Elements as AtElements}
+use Rattle.checker.proofs.elements.Elements.go_on.Given as goal
+
+abbrev pub invariant-heaps : goal.invariant-heaps
+invariant-heaps g l =
+    let s = l.self-inside in
+    record {
+      same : s.sheet ≡ l.fn.self.certificate;
+      order : l.order ≡ s.sheet.order;
+      last : l.last + 1 ≡ length s.pairs.items;
+      lawful : IsLawful s.sheet;
+      so_far : ElementsSoFar s.sheet s.pairs.items s.contexts.items s.heap s.option;
+      within : s.heap < length s.pairs.items;
+      runs : (bytes : List ℕ) (limit : ℕ) → Runs bytes limit (AtElements l.fn.self) l.initial.left l.left (elements_at limit s.sheet s.pairs.items s.heap s.option);
+    }
+
+abbrev pub decreases-heaps : goal.decreases-heaps
+decreases-heaps g l = l.left

@@ -1,0 +1,25 @@
+use Rattle.std.proofs.Common.{length, refl, arith}
+use Rattle.transition_algebra.specs.Trials.{stages_left}
+use Rattle.transition_algebra.proofs.Running.{two_digits, room, measure_falls, stages_few}
+use Rattle.transition_algebra.proofs.trial.Trial.go_on.Goals as goal
+
+pub loop-left-smaller : goal.loop-left-smaller
+loop-left-smaller g c =
+    let code = c.args.code.now in
+    let r = c.in_ok-left.ensures.ok in
+    let two = two_digits code c.last-last.ensures.code in
+    measure_falls (length code) c.loop-left.left c.in_ok-left.field-0 _ (stages_left code c.loop-left.self) (stages_left code c.run.new.self)
+    two.1 r.at_most (stages_few code c.loop-left.self) (stages_few code c.run.new.self) r.falls refl
+
+pub loop-left-preserved : goal.loop-left-preserved
+loop-left-preserved g c =
+    let i = c.loop-left.invariant in
+    let r = c.in_ok-left.ensures.ok in
+    let few = r.at_most in
+    let spent = r.spent_is in
+    let one = r.heap in
+    let smaller = c.if-self.true in
+    let bound = r.trial.bound_is in
+    let was = i.0.bound_is in
+    let all = room c.args.code.now c.args.table.now c.args.phi.now c.run.new.self c.run.new.pairs.items r.trial (omega arith) in
+    (r.trial, omega arith, omega arith, c.run.ensures.kept, λ _. omega arith)
