@@ -1,6 +1,6 @@
 //! The commands and their arguments, as `clap` reads them.
-ghost use Rattle.std.specs.Prelude.{◌≡◌, IfOk, codes, false};
-ghost use Rattle.clap.specs.Words.{app_of, new_app, rule_of};
+ghost use Rattle.std.specs.Prelude.{◌≡◌, IfOk, codes, false, true};
+ghost use Rattle.clap.specs.Words.{App, app_of, new_app, rule_of, with_subcommand};
 ghost use Rattle.command_line.specs.Program.{catalogue, check, desk, flag, misere, needed, option};
 ghost use Rattle.command_line.specs.Program.{optional, play, present, program, show, solve};
 
@@ -154,23 +154,27 @@ fn misere_command<'a>(alloc: Global) -> Command<'a>
     Command::new(alloc, "misere").version(VERSION).about(about)
 }
 
+/// The program with one command more, where both were made.
+fn with<'a>(
+    program: Result<Command<'a>, AllocError>,
+    command: Result<Command<'a>, AllocError>,
+) -> Result<Command<'a>, AllocError>
+    ensures { (above added : App) → IfOk program.entry (λ p. app_of p ≡ above) → IfOk command.entry (λ c. app_of c ≡ added)
+        → added.top.is_plain ≡ true → IfOk result (λ new. app_of new ≡ with_subcommand above added.top) }
+{
+    program?.subcommand(command?)
+}
+
 /// The program's command line.
 pub fn program_command<'a>(alloc: Global) -> Result<Command<'a>, AllocError>
     ensures { IfOk result (λ c. app_of c ≡ program) }
 {
-    let check = check_command(alloc)?;
-    let solve = solve_command(alloc)?;
-    let show = show_command(alloc)?;
-    let play = play_command(alloc)?;
-    let present = present_command(alloc)?;
-    let catalogue = catalogue_command(alloc)?;
-    let desk = desk_command(alloc)?;
-    misere_command(alloc)
-        .subcommand(check)?
-        .subcommand(solve)?
-        .subcommand(show)?
-        .subcommand(play)?
-        .subcommand(present)?
-        .subcommand(catalogue)?
-        .subcommand(desk)
+    let program = Ok(misere_command(alloc));
+    let program = with(program, check_command(alloc));
+    let program = with(program, solve_command(alloc));
+    let program = with(program, show_command(alloc));
+    let program = with(program, play_command(alloc));
+    let program = with(program, present_command(alloc));
+    let program = with(program, catalogue_command(alloc));
+    with(program, desk_command(alloc))
 }

@@ -1,20 +1,13 @@
 use Rattle.std.proofs.Common.{refl}
-use Rattle.std.proofs.lemmas.Result.{IfOk-weaker}
-use Rattle.command_line.proofs.Building.{with_command}
+use Rattle.command_line.specs.Program.{catalogue, check, desk, misere, play, present, show, solve}
 use Rattle.command_line.proofs.commands.program_command.Goals as goal
 
 pub returns : goal.returns
 returns c =
-    let check = with_command _ _ _ _ _ c.misere_command.ensures c.in_ok-check.ensures refl
-    c.in_ok-subcommand.ensures in
-    let solve = with_command _ _ _ _ _ check c.in_ok-solve.ensures refl c.in_ok-subcommand-2.ensures
-    in
-    let show = with_command _ _ _ _ _ solve c.in_ok-show.ensures refl c.in_ok-subcommand-3.ensures
-    in
-    let play = with_command _ _ _ _ _ show c.in_ok-play.ensures refl c.in_ok-subcommand-4.ensures in
-    let present = with_command _ _ _ _ _ play c.in_ok-present.ensures refl
-    c.in_ok-subcommand-5.ensures in
-    let catalogue = with_command _ _ _ _ _ present c.in_ok-catalogue.ensures refl
-    c.in_ok-subcommand-6.ensures in
-    IfOk-weaker _ _ _ (λ new h. with_command _ _ new _ _ catalogue c.in_ok-desk.ensures refl h)
-    c.subcommand-7.ensures
+    let one = c.with-program.ensures misere check c.misere_command.ensures c.check_command.ensures refl in
+    let two = c.with-program-2.ensures _ solve one c.solve_command.ensures refl in
+    let three = c.with-program-3.ensures _ show two c.show_command.ensures refl in
+    let four = c.with-program-4.ensures _ play three c.play_command.ensures refl in
+    let five = c.with-program-5.ensures _ present four c.present_command.ensures refl in
+    let six = c.with-program-6.ensures _ catalogue five c.catalogue_command.ensures refl in
+    c.with.ensures _ desk six c.desk_command.ensures refl
