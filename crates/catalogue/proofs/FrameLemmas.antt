@@ -1,12 +1,11 @@
 -- The members of a catalogue file, and the items among them, as they are read.
-use Rattle.std.proofs.Common.{◌≡◌, ◌≢◌, ℕ, List, [], ◌∷◌, ◌++◌, get_or, map, codes, Some, None, option_and_then, true, false, Less, Greater, nat_cmp, Vec, Global, refl, sym, ap, subst, ◌∙◌, arith}
+use Rattle.std.proofs.Common.{◌≡◌, ◌≢◌, ℕ, List, [], ◌∷◌, ◌++◌, get_or, map, codes, Some, None, option_and_then, true, Less, Greater, nat_cmp, Vec, Global, refl, sym, ap, subst, ◌∙◌, arith}
 use Rattle.std.proofs.lemmas.List.{append_assoc, append-nil, map-append}
 use Rattle.std.specs.Cmp.Lexicographic.{slice_cmp}
 use Rattle.serde_json.specs.Data.{Data, Items, no_items, item, Members, array, object, put}
-use Rattle.serde_json.specs.Events.{members_len}
 use Rattle.serde_json.specs.Find.{as_array, as_number, as_u64}
 use Rattle.catalogue.specs.Files.{Written, written, IsEntry, AreEntries}
-use Rattle.catalogue.specs.Reading.{pair_of, AreOf, AreParts, EntriesAre, EntryIs, FileIs}
+use Rattle.catalogue.specs.Reading.{AreOf, AreParts, EntriesAre, EntryIs, FileIs}
 use Rattle.catalogue.specs.declared.file.Texts.{Texts}
 use Rattle.catalogue.specs.declared.frame.Frame.{Frame}
 use Rattle.catalogue.proofs.PairLemmas.{some_of, not_two, first_put, second_put, other_put}
@@ -60,31 +59,6 @@ other_no_file f ms o h es is =
 -- nor is one of another version
 pub version_no_file : (f : Frame) (ms : Members) → f.version ≢ Some 1 → AreParts f ms → FileIs None (object ms)
 version_no_file f ms other h es is = other (h.4 ∙ ap (λ y. option_and_then as_u64 (option_and_then as_number y)) (sym h.2.second) ∙ is.frame.version)
-
--- nor is one whose entries aren't all entries
-pub entries_no_file : (f : Frame) (ms : Members) → f.entries ≡ None → AreParts f ms → FileIs None (object ms)
-entries_no_file f ms without h es is =
-    let none = subst (λ x. EntriesAre x h.0) without h.3 in
-    none is.items es (ap (option_and_then as_array) (sym h.2.first) ∙ is.frame.entries) is.entries
-
--- one of the two members alone is a file
-pub is_file : (f : Frame) (ms : Members) (v : Vec Texts Global) → f.others ≡ false → f.version ≡ Some 1 → f.entries ≡ Some v → AreParts f ms → FileIs (Some v) (object ms)
-is_file f ms v o one some h =
-    let all = subst (λ x. EntriesAre x h.0) some h.3 in
-    let x = some_of as_array h.0 all.0 all.1 in
-    let number = sym h.4 ∙ one in
-    let n = some_of as_u64 _ 1 number in
-    let y = some_of as_number h.1 n.0 n.1 in
-    let rest = subst (λ b. AreOf entries version ms h.0 h.1 b) o h.2 in
-    record {
-      items = all.0;
-      frame = record {
-        count = ap members_len (rest.rest) ∙ ap (λ z. members_len (pair_of entries version z h.1)) x.1 ∙ ap (λ z. members_len (pair_of entries version (Some x.0) z)) y.1;
-        version = ap (λ z. option_and_then as_u64 (option_and_then as_number z)) h.2.second ∙ number;
-        entries = ap (option_and_then as_array) h.2.first ∙ all.1;
-      };
-      entries = all.2;
-    }
 
 -- ---- items, one after the other
 
