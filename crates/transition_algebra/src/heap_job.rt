@@ -103,6 +103,7 @@ impl<A: Allocator> HeapJob<A> {
 
     /// Spends units as `work` does, at most so many, but none at the last heap, which is left to `work`. Where a growth is refused it spends
     /// no more, and `work` tells so.
+    #[inline(never)]
     pub fn go_on(&mut self, most: u64)
         ensures given { self.new ≡ record self.old { spent = self.new.spent; refused = self.new.refused } }
         ensures spent { (self.old.spent ≤ self.new.spent) × (self.new.spent ≤ self.old.spent + most) }

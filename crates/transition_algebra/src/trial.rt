@@ -159,6 +159,7 @@ impl Trial {
     }
 
     /// Some turns more, at most `units`; where none was made, a stage less is left of the heap.
+    #[inline(always)]
     fn run<A: Allocator>(
         &mut self,
         code: &Code,
