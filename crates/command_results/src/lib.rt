@@ -4,11 +4,13 @@
 mod files;
 mod printing;
 mod said;
+mod starting;
 mod stop;
 mod telling;
 
 pub use files::read_file;
 pub use printing::print;
 pub use said::Said;
+pub use starting::{stopped, words_of};
 pub use stop::Stop;
 pub use telling::tell;

@@ -1,7 +1,10 @@
 //! What a command says.
-ghost use Rattle.std.specs.Prelude.{◌≡◌, true, false};
+ghost use Rattle.std.specs.Prelude.{◌≡◌, ◌≤◌, true, false};
 ghost use Rattle.std.specs.String.{string_bytes};
-ghost use Rattle.command_results.specs.Printers.{status_if};
+ghost use Rattle.command_results.specs.Printers.{Printed, printer, status_if};
+
+use crate::printing::print;
+use streams::Sink;
 
 /// The text that a command prints, and whether it ends well: a no and a refusal don't.
 #[derive(Drop)]
@@ -35,5 +38,15 @@ impl Said {
         ensures { result ≡ status_if self.now.well }
     {
         if self.well { 0 } else { 1 }
+    }
+
+    /// Prints it, and answers the exit status; where standard output fails, tells so.
+    pub fn print<W: Sink, E: Sink>(&self, out: &mut W, err: &mut E) -> u8
+        ensures printed { Printed (printer (W.taken out.old) (W.failures out.old)) (printer (W.taken out.new) (W.failures out.new))
+            (printer (E.taken err.old) (E.failures err.old)) (printer (E.taken err.new) (E.failures err.new))
+            self.now.text.items (status_if self.now.well) result }
+        ensures quiet { result ≤ 1 → err.new ≡ err.old }
+    {
+        print(&self.text, self.status(), out, err)
     }
 }

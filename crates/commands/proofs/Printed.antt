@@ -1,13 +1,7 @@
--- What was printed, in another form, and what a search said.
+-- What a search said, in another form.
 use Rattle.std.proofs.Common.{◌≡◌, sym, subst, ℕ, Bool, List, [], Option, Some}
-use Rattle.command_results.specs.Printers.{Printed, Printer}
 use Rattle.solve_command.specs.Solved.{Solves}
 use Rattle.solve_command.specs.declared.bounds.SolveBounds.{SolveBounds}
-
--- the same text, and the same status where it is printed whole
-pub printed_same : (out out' err err' : Printer) (t u : List ℕ) (m n s : ℕ) → t ≡ u → m ≡ n → Printed out out' err err' t m s → Printed out out' err err' u n s
-printed_same out out' err err' t u m n s same is h =
-    subst (λ (x : List ℕ). Printed out out' err err' x n s) same (subst (λ (k : ℕ). Printed out out' err err' t k s) is h)
 
 -- what a printer took that held nothing is what a search printed
 pub solved_is : (code : List ℕ) (bounds : SolveBounds) (before after : Option (List ℕ)) (text bytes : List ℕ) (found : Bool) → before ≡ Some [] → after ≡ Some bytes

@@ -6,7 +6,6 @@ ghost use Rattle.commands.specs.Obeys.{Obeys, scene};
 ghost use Rattle.requests.specs.Requests.{request_of};
 
 use crate::carrying_out::carry_out;
-use command_results::print;
 use desk_command::run_file;
 use folders::Folder;
 use requests::Plan;
@@ -38,7 +37,7 @@ pub fn run_plan<F: Folder, S: Source, W: Sink, E: Sink>(
         return run_file(alloc, script, folder, out, err);
     }
     match carry_out(alloc, plan, folder, input) {
-        Ok(said) => print(&said.text, said.status(), out, err),
+        Ok(said) => said.print(out, err),
         Err(stop) => {
             stop.tell(err);
             stop.status()

@@ -7,7 +7,8 @@ mod ending;
 mod tests;
 mod whole_run;
 
-use crate::ending::{ended, stopped, words_of};
+use crate::ending::ended;
+use command_results::{stopped, words_of};
 use folders::HostFolder;
 use std::io;
 use std::process::ExitCode;

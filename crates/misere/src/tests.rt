@@ -2,7 +2,7 @@
 mod fakes;
 
 use self::fakes::{EMPTY, ONE_ENTRY, SAMPLE, SMALLEST, Words, samples};
-use crate::ending::words_of;
+use command_results::words_of;
 use crate::whole_run::run as run_whole;
 use command_results::Stop;
 use devices::{FailingSink, FailingSource};

@@ -2,13 +2,12 @@ use Rattle.std.proofs.Common.{ap, rules, refl}
 use Rattle.command_results.specs.Printers.{printer}
 use Rattle.commands.specs.Obeys.Obeys.{Done, Stepped, Stopped}
 use Rattle.requests.specs.Requests.{request_of}
-use Rattle.commands.proofs.Printed.{printed_same}
 use Rattle.commands.proofs.running.run_plan.Goals as goal
 
 pub returns-in-Ok-clause-obeys : goal.returns-in-Ok-clause-obeys
 returns-in-Ok-clause-obeys g c =
     Done c.in-Ok.said.text.items c.in-Ok.said.well c.in-Ok.ensures.says c.in-Ok.ensures.leaves
-    (printed_same _ _ _ _ _ _ _ _ _ c.deref.ensures.value c.status.ensures c.print.ensures.printed)
+    c.print.ensures.printed
 
 pub returns-in-Err-clause-obeys : goal.returns-in-Err-clause-obeys
 returns-in-Err-clause-obeys g c =
