@@ -4,6 +4,8 @@
 #[cfg(test)]
 mod certificate_tests;
 #[cfg(test)]
+mod element_sets_tests;
+#[cfg(test)]
 mod monoid_table_tests;
 #[cfg(test)]
 mod octal_code_tests;

@@ -1,5 +1,5 @@
 use Rattle.std.proofs.Common.{◌≡◌, ℕ, ◌<◌, length, get_or}
-use Rattle.element_sets.proofs.tests.translates_from_the_other_end.Given as goal
+use Rattle.acceptance.proofs.element_sets_tests.translates_from_the_other_end.Given as goal
 
 abbrev pub invariant-loop-x : goal.invariant-loop-x
 invariant-loop-x g l = record {
