@@ -2,16 +2,11 @@
 // The program: its words, the machine's files and its streams go to one whole run.
 #![tactic(auto)]
 
-mod ending;
-#[cfg(test)]
-mod tests;
-mod whole_run;
-
-use crate::ending::{ended, stopped, words_of};
 use folders::HostFolder;
 use std::io;
 use std::process::ExitCode;
 use streams::{ReaderSource, WriterSink};
+use whole_runs::{ended, stopped, words_of};
 
 fn main(rt: HostRuntime) -> ExitCode {
     let mut err = WriterSink::new(rt.stderr());

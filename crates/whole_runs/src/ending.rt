@@ -5,7 +5,7 @@ ghost use Rattle.command_results.specs.Printers.{Tells, printer};
 ghost use Rattle.command_results.specs.Stops.{stop_line, stop_status};
 ghost use Rattle.commands.specs.Causes.{failed};
 ghost use Rattle.commands.specs.Obeys.{scene};
-ghost use Rattle.misere.specs.Ends.{Ends};
+ghost use Rattle.whole_runs.specs.Ends.{Ends};
 
 use crate::whole_run::run;
 use command_results::Stop;
