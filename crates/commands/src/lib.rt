@@ -7,6 +7,3 @@ mod running;
 mod solving;
 
 pub use running::run_plan;
-
-#[cfg(test)]
-mod tests;

@@ -2,17 +2,12 @@
 // The program: its words, the machine's files and its streams go to one whole run.
 #![tactic(auto)]
 
-mod ending;
-#[cfg(test)]
-mod tests;
-mod whole_run;
-
-use crate::ending::ended;
 use command_results::{stopped, words_of};
 use folders::HostFolder;
 use std::io;
 use std::process::ExitCode;
 use streams::{ReaderSource, WriterSink};
+use whole_runs::ended;
 
 fn main(rt: HostRuntime) -> ExitCode {
     let mut err = WriterSink::new(rt.stderr());

@@ -1,9 +1,9 @@
 use Rattle.std.proofs.Common.{rules, refl, arith, Bor, ℕ, List, map}
 use Rattle.requests.specs.Requests.{request_of}
 use Rattle.command_line.specs.declared.faults.UsageFault.TheVariants.{Help, Words, Number, Exclusive, Incomplete}
-use Rattle.misere.specs.Ends.Ends.{Asked, Helped, Refused}
-use Rattle.misere.proofs.Outcomes.{known_as, no_request}
-use Rattle.misere.proofs.whole_run.run_words.Goals as goal
+use Rattle.whole_runs.specs.Ends.Ends.{Asked, Helped, Refused}
+use Rattle.whole_runs.proofs.Outcomes.{known_as, no_request}
+use Rattle.whole_runs.proofs.whole_run.run_words.Goals as goal
 
 pub returns-in-Ok-clause-ends : goal.returns-in-Ok-clause-ends
 returns-in-Ok-clause-ends g c = Asked (request_of c.in-Ok.plan) c.in-Ok.ensures.asked c.run_plan.ensures.obeys

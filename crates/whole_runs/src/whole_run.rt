@@ -5,7 +5,7 @@ ghost use Rattle.command_line.specs.Status.{status_of, text_of};
 ghost use Rattle.command_results.specs.Printers.{Tells, printer};
 ghost use Rattle.commands.specs.Causes.{failed, reads_input, runs_script, takes_files};
 ghost use Rattle.commands.specs.Obeys.{scene};
-ghost use Rattle.misere.specs.Ends.{Ends};
+ghost use Rattle.whole_runs.specs.Ends.{Ends};
 
 use command_line::{UsageFault, plan};
 use command_results::{Stop, print, tell};

@@ -2,14 +2,13 @@
 mod fakes;
 
 use self::fakes::{EMPTY, ONE_ENTRY, SAMPLE, SMALLEST, Words, samples};
-use command_results::words_of;
-use crate::whole_run::run as run_whole;
-use command_results::Stop;
+use command_results::{Stop, words_of};
 use devices::{FailingSink, FailingSource};
 use folders::{FileFault, MemoryFolder};
 use std::alloc::{AllocError, Global};
 use std::test::Fail;
 use streams::{MemorySink, MemorySource, Source};
+use whole_runs::run as run_whole;
 
 /// What a run did.
 #[derive(Drop)]

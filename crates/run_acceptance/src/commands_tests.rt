@@ -1,5 +1,5 @@
 //! Each plan once: the status, and what is printed or told.
-use crate::run_plan;
+use commands::run_plan;
 use folders::MemoryFolder;
 use requests::{CatalogueTask, Plan};
 use std::test::Fail;

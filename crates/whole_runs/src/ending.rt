@@ -4,7 +4,7 @@ ghost use Rattle.std.specs.Process.{exit_status};
 ghost use Rattle.command_results.specs.Printers.{printer};
 ghost use Rattle.commands.specs.Causes.{failed};
 ghost use Rattle.commands.specs.Obeys.{scene};
-ghost use Rattle.misere.specs.Ends.{Ends};
+ghost use Rattle.whole_runs.specs.Ends.{Ends};
 
 use crate::whole_run::run;
 use folders::Folder;
