@@ -27,12 +27,18 @@ pub fn salvage<'a, F: Folder>(
     let bytes = read(folder, file)?;
     match Catalogue::salvage(alloc, &bytes, limit) {
         Err(fault) => {
-            let text = fault_line(alloc, &fault)?;
-            Ok(Report { well: false, text })
+            let text = fault_line(alloc, &fault);
+            drop(fault);
+            Ok(Report {
+                well: false,
+                text: text?,
+            })
         }
         Ok((catalogue, faults)) => {
             let text = salvage_lines(alloc, &catalogue, &faults)?;
-            save(folder, file, &catalogue)?;
+            let saved = save(folder, file, &catalogue);
+            drop((catalogue, faults));
+            saved?;
             Ok(Report { well: true, text })
         }
     }

@@ -4,6 +4,7 @@ ghost use Rattle.desk.specs.Desks.{IsWith, IsCoreFor, IsCoreOf, HasNoCore, core_
 
 use allocation::{Memory, Room};
 use checker::Job;
+use std::mem;
 
 /// The core of these bytes and this limit, a new one where there is none. A new one alone may take memory.
 pub(crate) fn core_for<A: Room + Copy>(
@@ -32,7 +33,7 @@ pub(crate) fn put<A: Room>(cores: &mut Vec<Option<Job<A>>, A>, place: usize, cor
     requires { place < length cores.old.items }
     ensures { IsWith cores.old.items place core cores.new.items }
 {
-    cores[place] = core;
+    drop(mem::replace(&mut cores[place], core));
 }
 
 /// The place of the core of these bytes and this limit.

@@ -27,6 +27,7 @@ use Rattle.misere_theory.proofs.Shuffles.Shuffled.{Same, Under, Flip, Then}
 use Rattle.misere_theory.proofs.Reachables.{reached_on}
 use Rattle.outcome_search.specs.Outcomes.{HasOutcome}
 use Rattle.outcome_search.specs.Known.{known, IsUnknown}
+use Rattle.outcome_search.specs.Searching.{IsOnTheWay, IsSearch}
 use Rattle.outcome_search.specs.declared.answer.Outcome.{Outcome}
 use Rattle.outcome_search.specs.Settled.{Follows, IsSettledBy}
 use Rattle.outcome_search.proofs.Seen.{same_position, follows_right, follows_on}
@@ -44,23 +45,6 @@ lighter code X Y m =
     let e = measure_shuffled (from_permutation Z Y s) in
     let l = move_smaller k in
     omega arith
-
--- a position on the way: it can be reached, and its heaps rise
-pub record IsOnTheWay (code X Y : List ℕ) : Type 0 where
-  pub reached : Reachable code X Y
-  pub rising : IsNonDecreasing Y
-
--- Some positions are known, and others wait: each for the outcome of the next.
-pub record IsSearch (code X : List ℕ) (budget : ℕ) (memo : List (List ℕ × Outcome)) (waiting : List (List ℕ)) : Type 0 where
-  pub right : All (λ e. HasOutcome code e.0 e.1) memo
-  pub memo_reached : All (λ e. IsOnTheWay code X e.0) memo
-  pub waiting_reached : All (IsOnTheWay code X) waiting
-  pub new : All (λ Y. known memo Y ≡ None) waiting
-  pub falls : AllPairs (λ Y Z. measure Z < measure Y) waiting
-  pub first : get_or waiting 0 [] ≡ X
-  pub some : 1 ≤ length waiting
-  pub within : length memo + length waiting ≤ budget
-  pub follows : (Y : List ℕ) (p : Outcome) → Contains memo (Y, p) → Follows code memo Y p
 
 pub started : (code X : List ℕ) (budget : ℕ) → 1 ≤ budget → IsNonDecreasing X → IsSearch code X budget [] (X ∷ [])
 started code X budget l up = record {

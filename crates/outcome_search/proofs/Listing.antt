@@ -20,7 +20,8 @@ use Rattle.outcome_search.specs.Reached.{IsNext, AddsMoves}
 use Rattle.outcome_search.specs.Settled.{IsSettledBy}
 use Rattle.outcome_search.specs.declared.answer.Outcome.{Outcome}
 use Rattle.outcome_search.proofs.Heaps.{move_from_place}
-use Rattle.outcome_search.proofs.Found.{IsOnTheWay, rising_differ}
+use Rattle.outcome_search.specs.Searching.{IsOnTheWay}
+use Rattle.outcome_search.proofs.Found.{rising_differ}
 
 pub adds_none : (code : List ℕ) (number : ℕ) (old : List (List ℕ)) → AddsMoves code number old old
 adds_none code number old = ([], sym (append-nil old), All-nil (IsNext code (get_or old number [])))

@@ -1,4 +1,5 @@
 pub mod Outcomes
 pub mod Settled
+pub mod Searching
 pub mod Known
 pub mod Reached

@@ -34,8 +34,9 @@ impl<A: Room + Copy> Reached<A> {
         ensures alone { IfOk result (λ reached. reached ≡ position.now ∷ []) }
         ensures rising { IsNonDecreasing position.now }
     {
+        let first = position.copied(alloc)?;
         let mut positions = IndexSet::new(alloc);
-        positions.insert(position.copied(alloc)?)?;
+        positions.insert(first)?;
         Ok(Reached { positions })
     }
 
@@ -112,9 +113,28 @@ impl<A: Room + Copy> Reached<A> {
         }
         Ok(false)
     }
+
+    /// Whether more than `most` positions can be reached from the one that stands here alone,
+    /// itself counted. They are listed breadth first, up to one more than `most`.
+    fn list(&mut self, alloc: A, code: &Code, most: usize) -> Result<bool, Memory>
+        requires alone { self.old ≡ slice_index_or self.old 0 [] ∷ [] }
+        requires rising { IsNonDecreasing (slice_index_or self.old 0 []) }
+        ensures { IfOk result (λ more. IsTrue more
+            → MoreReachableThan code.now (slice_index_or self.old 0 []) most) }
+    {
+        for number in 0..most {
+            if number >= self.len() {
+                break;
+            }
+            if self.add_moves(alloc, code, number, most)? {
+                return Ok(true);
+            }
+        }
+        Ok(false)
+    }
 }
 
-/// Whether more than `most` positions can be reached from the one, itself counted. They are listed breadth first, up to one more than `most`.
+/// Whether more than `most` positions can be reached from the one, itself counted.
 pub(crate) fn reaches_more<A: Room + Copy>(
     alloc: A,
     code: &Code,
@@ -124,13 +144,5 @@ pub(crate) fn reaches_more<A: Room + Copy>(
     ensures { IfOk result (λ more. IsTrue more → MoreReachableThan code.now position.now most) }
 {
     let mut reached = Reached::new(alloc, position)?;
-    for number in 0..most as usize {
-        if number >= reached.len() {
-            break;
-        }
-        if reached.add_moves(alloc, code, number, most as usize)? {
-            return Ok(true);
-        }
-    }
-    Ok(false)
+    reached.list(alloc, code, most as usize)
 }

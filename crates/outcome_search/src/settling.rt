@@ -1,8 +1,9 @@
 //! Positions settled one after another, the last that waits first.
-ghost use Rattle.std.specs.Prelude.{◌≡◌, [], ◌∷◌, ◌++◌, IfOk, OnOk};
+ghost use Rattle.std.specs.Prelude.{◌≡◌, [], ◌∷◌, ◌++◌, slice_index_or, IfOk, OnOk};
 ghost use Rattle.std.specs.List.Sorted.{IsNonDecreasing};
 ghost use Rattle.misere_theory.specs.Plays.{MoreReachableThan};
 ghost use Rattle.outcome_search.specs.Outcomes.{HasOutcome};
+ghost use Rattle.outcome_search.specs.Searching.{IsSearch};
 ghost use Rattle.outcome_search.specs.Settled.{IsSettledBy};
 
 use crate::answer::{Outcome, SearchFault};
@@ -17,8 +18,9 @@ fn begun<A: Room + Copy>(alloc: A, position: &Position<A>) -> Result<Vec<Positio
     ensures alone { IfOk result (λ w. w.items ≡ position.now ∷ []) }
     ensures rising { IsNonDecreasing position.now }
 {
+    let first = position.copied(alloc)?;
     let mut waiting = Vec::new(alloc);
-    waiting.push(position.copied(alloc)?)?;
+    waiting.push(first)?;
     Ok(waiting)
 }
 
@@ -32,6 +34,44 @@ fn add<A: Room + Copy>(
 {
     waiting.push(next.copied(alloc)?)?;
     Ok(())
+}
+
+/// The outcome of the first position that waits, once all behind it are settled. `next` is written
+/// anew at each look.
+fn settle_all<A: Room + Copy>(
+    alloc: A,
+    code: &Code,
+    budget: u32,
+    memo: &mut Memo<A>,
+    waiting: &mut Vec<Position<A>, A>,
+    next: &mut Position<A>,
+) -> Result<Outcome, SearchFault>
+    requires { IsSearch code.now (slice_index_or waiting.old.items 0 []) budget memo.old
+        waiting.old.items }
+    ensures answer { IfOk result (HasOutcome code.now (slice_index_or waiting.old.items 0 [])) }
+    ensures within { IfOk result
+        (λ outcome. IsSettledBy code.now (slice_index_or waiting.old.items 0 []) outcome budget) }
+    ensures budget { result ≡ Err SearchFault.Budget
+        → MoreReachableThan code.now (slice_index_or waiting.old.items 0 []) budget }
+{
+    loop {
+        let last = waiting.len() - 1;
+        match look(code, &waiting[last], memo, next)? {
+            None => {
+                if memo.len() + waiting.len() >= budget as usize {
+                    return Err(SearchFault::Budget);
+                }
+                add(alloc, waiting, next)?;
+            }
+            Some(outcome) => {
+                if last == 0 {
+                    return Ok(outcome);
+                }
+                let done = waiting.remove(last);
+                memo.insert(done, outcome)?;
+            }
+        }
+    }
 }
 
 /// The outcome of a position, found by a search that goes depth first and remembers the outcomes that it finds. It gives up where it would
@@ -49,25 +89,8 @@ pub(crate) fn settle<A: Room + Copy>(
     if budget == 0 {
         return Err(SearchFault::Budget);
     }
+    let mut waiting = begun(alloc, position)?;
     let mut memo = Memo::new(alloc);
     let mut next = Position::new(alloc);
-    let mut waiting = begun(alloc, position)?;
-    loop {
-        let last = waiting.len() - 1;
-        match look(code, &waiting[last], &memo, &mut next)? {
-            None => {
-                if memo.len() + waiting.len() >= budget as usize {
-                    return Err(SearchFault::Budget);
-                }
-                add(alloc, &mut waiting, &next)?;
-            }
-            Some(outcome) => {
-                let done = waiting.remove(last);
-                if last == 0 {
-                    return Ok(outcome);
-                }
-                memo.insert(done, outcome)?;
-            }
-        }
-    }
+    settle_all(alloc, code, budget, &mut memo, &mut waiting, &mut next)
 }

@@ -8,6 +8,7 @@ use crate::scene::Scene;
 use crate::work::{Halt, Work};
 use octal_code::Code;
 use std::alloc::Allocator;
+use std::mem;
 
 /// Adds the heap n, the next one. Answers whether the elements are others than before.
 pub fn extend<A: Allocator + Copy>(
@@ -88,7 +89,11 @@ fn grow<A: Allocator + Copy>(
         kept: &scene.kept,
         words: quotient.words,
     };
-    collapse(alloc, &merging, &mut next, work)?;
-    *quotient = next;
+    let collapsed = collapse(alloc, &merging, &mut next, work);
+    if collapsed.is_ok() {
+        mem::swap(quotient, &mut next);
+    }
+    drop(next);
+    collapsed?;
     Ok(true)
 }

@@ -378,7 +378,9 @@ fn lightest_dead<A: Allocator + Copy>(
     work: &mut Work,
 ) -> Result<Option<Failing<A>>, Halt> {
     let mut search = Search::new(alloc, quotient, most)?;
-    found_by(alloc, quotient, &mut search, work)
+    let found = found_by(alloc, quotient, &mut search, work);
+    drop(search);
+    found
 }
 
 /// The lightest position that a search finds.

@@ -6,6 +6,7 @@ use crate::quotient::{Quotient, heap_weight};
 use crate::work::{Halt, Work};
 use octal_code::Code;
 use std::alloc::Allocator;
+use std::mem;
 
 /// For each element the weight of its lightest word, and that word: the element of all but its last
 /// heap, and the last heap.
@@ -287,9 +288,12 @@ fn take_numbers<A: Allocator + Copy>(
     numbers: &Renumbering<A>,
 ) -> Result<(), Halt> {
     let mut new = Quotient::empty(alloc);
-    renew(alloc, code, quotient, numbers, &mut new)?;
-    *quotient = new;
-    Ok(())
+    let renewed = renew(alloc, code, quotient, numbers, &mut new);
+    if renewed.is_ok() {
+        mem::swap(quotient, &mut new);
+    }
+    drop(new);
+    renewed
 }
 
 /// Finds the representatives of a quotient anew, and numbers the elements by their weights.
@@ -299,7 +303,9 @@ pub fn lighten<A: Allocator + Copy>(
     quotient: &mut Quotient<A>,
     work: &mut Work,
 ) -> Result<(), Halt> {
-    let numbers = renumber(alloc, quotient, work)?;
     work.spend(quotient.order.saturating_mul(quotient.order))?;
-    take_numbers(alloc, code, quotient, &numbers)
+    let numbers = renumber(alloc, quotient, work)?;
+    let taken = take_numbers(alloc, code, quotient, &numbers);
+    drop(numbers);
+    taken
 }

@@ -154,11 +154,12 @@ fn improve<A: Allocator + Copy>(
     work: &mut Work,
 ) -> Result<Tried, Halt> {
     let mut next = State::empty(alloc);
-    let tried = judge(alloc, code, state, scene, &mut next, work)?;
-    if tried == Tried::Better || tried == Tried::Right {
+    let tried = judge(alloc, code, state, scene, &mut next, work);
+    if matches!(tried, Ok(Tried::Better | Tried::Right)) {
         mem::swap(state, &mut next);
     }
-    Ok(tried)
+    drop(next);
+    tried
 }
 
 /// Makes a try.

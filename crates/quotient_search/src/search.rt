@@ -85,11 +85,13 @@ pub fn find_quotient<A: Allocator + Copy>(
 ) -> Result<Option<Quotient<A>>, Memory> {
     let mut state = State::empty(alloc);
     match search_from(alloc, code, most, &mut state) {
-        Ok(()) => {
-            let State { quotient, .. } = state;
-            Ok(Some(quotient))
+        Ok(()) => Ok(Some(state.into_quotient())),
+        Err(halt) => {
+            drop(state);
+            match halt {
+                Halt::Memory => Err(Memory),
+                Halt::GaveUp => Ok(None),
+            }
         }
-        Err(Halt::Memory) => Err(Memory),
-        Err(Halt::GaveUp) => Ok(None),
     }
 }

@@ -26,3 +26,11 @@ impl<A: Allocator + Copy> State<A> {
         }
     }
 }
+
+impl<A: Allocator> State<A> {
+    /// The quotient alone.
+    pub fn into_quotient(self) -> Quotient<A> {
+        let State { quotient, .. } = self;
+        quotient
+    }
+}

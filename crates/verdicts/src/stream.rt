@@ -21,8 +21,10 @@ fn answered<A: Room + Copy>(alloc: A, bytes: &[u8], limit: u32) -> Result<(bool,
     ensures { IfOk result (λ r. (a : Answers bytes.now limit) × (string_bytes r.1 ≡ a.text) × (r.0 ≡ is_yes a.answer)) }
 {
     let verdict = check(alloc, bytes, limit);
-    let text = verdict_text(alloc, verdict.as_ref())?;
-    Ok((verdict.is_ok(), text))
+    let is_yes = verdict.is_ok();
+    let text = verdict_text(alloc, verdict.as_ref());
+    drop(verdict);
+    Ok((is_yes, text?))
 }
 
 /// Writes the text, or a beginning of it where the sink fails.

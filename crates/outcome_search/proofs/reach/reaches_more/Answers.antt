@@ -1,21 +1,14 @@
-use Rattle.std.proofs.Common.{◌<◌, length, All, sym, subst, arith}
-use Rattle.outcome_search.proofs.Found.{IsOnTheWay}
-use Rattle.outcome_search.proofs.Listing.{alone_on_the_way, on_the_way_on, many_reached}
+use Rattle.std.proofs.Common.{◌≡◌, ◌∷◌, [], get_or, IfOk, IsTrue, ap, refl, sym, subst}
+use Rattle.std.specs.List.Sorted.{IsNonDecreasing}
+use Rattle.misere_theory.specs.Plays.{MoreReachableThan}
 use Rattle.outcome_search.proofs.reach.reaches_more.Goals as goal
 
-pub loop-number-init : goal.loop-number-init
-loop-number-init g c =
-    subst (All (IsOnTheWay c.args.code.now c.args.position.now)) (sym c.in_ok-reached.ensures.alone) (alone_on_the_way c.args.code.now c.args.position.now c.in_ok-reached.ensures.rising)
+pub list-requires-clause-alone : goal.list-requires-clause-alone
+list-requires-clause-alone g c = subst (λ r. r ≡ get_or r 0 [] ∷ []) (sym c.in_ok-reached.ensures.alone) refl
 
-pub returns-then-branch : goal.returns-then-branch
-returns-then-branch g c = λ yes.
-    let here : c.loop-number.number < length c.loop-number.reached = let v = c.len.ensures.value in omega arith in
-    let more = c.in_ok-add_moves.ensures.more c.if-branch.true in
-    many_reached c.args.code.now c.args.position.now c.args.most c.add_moves.new.self
-    (on_the_way_on c.args.code.now c.args.position.now c.loop-number.number c.loop-number.reached c.add_moves.new.self here c.loop-number.invariant c.in_ok-add_moves.ensures.adds)
-    more.0 more.1
+pub list-requires-clause-rising : goal.list-requires-clause-rising
+list-requires-clause-rising g c = subst IsNonDecreasing (sym (ap (λ r. get_or r 0 []) c.in_ok-reached.ensures.alone)) c.in_ok-reached.ensures.rising
 
-pub loop-number-preserved : goal.loop-number-preserved
-loop-number-preserved g c =
-    let here : c.loop-number.number < length c.loop-number.reached = let v = c.len.ensures.value in omega arith in
-    on_the_way_on c.args.code.now c.args.position.now c.loop-number.number c.loop-number.reached c.add_moves.new.self here c.loop-number.invariant c.in_ok-add_moves.ensures.adds
+pub returns : goal.returns
+returns g c =
+    subst (λ X. IfOk c.list.result (λ more. IsTrue more → MoreReachableThan c.args.code.now X c.args.most)) (ap (λ r. get_or r 0 []) c.in_ok-reached.ensures.alone) c.list.ensures

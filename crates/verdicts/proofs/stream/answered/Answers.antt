@@ -29,10 +29,10 @@ pub returns : goal.returns
 returns g c = (
   record {
     answer = answer_of c.check-verdict.result;
-    text = string_bytes c.in_ok-text.text;
+    text = string_bytes c.in_ok-text.field-0;
     true_of = c.check-verdict.ensures.true_of;
-    told = subst (λ (a : Answer). IsTextOf a (string_bytes c.in_ok-text.text)) (lent_is _ _ _ c.as_ref.ensures.value) c.in_ok-text.ensures;
+    told = subst (λ (a : Answer). IsTextOf a (string_bytes c.in_ok-text.field-0)) (lent_is _ _ _ c.as_ref.ensures.value) c.in_ok-text.ensures;
   },
   refl,
-  c.is_ok.ensures.value ∙ yes_is _ c.check-verdict.result,
+  c.is_ok-is_yes.ensures.value ∙ yes_is _ c.check-verdict.result,
 )
