@@ -3,14 +3,14 @@ use Rattle.std.proofs.Common.{◌≡◌, ℕ, zero, suc, ◌+◌, ◌*◌, ◌<�
 use native.Mathlib.Decide.{dec_lt}
 use Rattle.monoid_table.specs.Grids.{Grid}
 use Rattle.transition_algebra.specs.declared.pair.Pair.{Pair}
-use Rattle.transition_algebra.specs.Pairs.{one, times, covers}
-use Rattle.pair_closure.specs.Turns.{State}
-use Rattle.pair_closure.specs.Turns as turning
-use Rattle.pair_closure.specs.Progress.{Progress, IsRun, begun, turns, turn, steps, step, stopped, moved, has_ended}
+use Rattle.pair_closure.specs.Turns.{State, has_ended, turn, turns}
+use Rattle.pair_closure.specs.Progress.{Progress, IsRun, begun, steps, step, stopped, moved}
 use Rattle.pair_closure.specs.Calls.{Takes, IsRefused, Grows, IsLimited, ended, ended_or_kept, cost, retaken}
 use Rattle.pair_closure.proofs.Lists.{by_cond, either, not_both, true_or}
 use Rattle.pair_closure.proofs.Machine.{of_run, kept_by_turns}
-use Rattle.pair_closure.proofs.Running.{step_moves, step_stays, same_steps, stays_put, same_after, ends_within}
+use Rattle.pair_closure.proofs.Bound.{ends_within}
+use Rattle.pair_closure.proofs.WhichTurn.{stays_put}
+use Rattle.pair_closure.proofs.Running.{step_moves, step_stays, same_after}
 
 -- ---- the limit
 
@@ -156,11 +156,9 @@ state_steps : (n : ℕ) (p : Progress) → (steps n p).state ≡ turns n p.state
 state_steps zero p = refl
 state_steps (suc n) p =
     let q = steps n p in
-    let same : q.state.table ≡ p.state.table = (same_steps n p).table in
-    let t : turn q.state ≡ turning.turn one (times p.state.table) covers q.state = ap (λ g. turning.turn one (times g) covers q.state) same in
     by_cond (λ z. z.state ≡ turns (suc n) p.state) (has_ended q.state) q (moved q)
-    (λ e. sym (stays_put q.state e) ∙ t ∙ ap (turning.turn one (times p.state.table) covers) (state_steps n p))
-    (λ _. t ∙ ap (turning.turn one (times p.state.table) covers) (state_steps n p))
+    (λ e. sym (stays_put q.state e) ∙ ap turn (state_steps n p))
+    (λ _. ap turn (state_steps n p))
 
 -- what the turns from the beginning reach is what the code holds
 pub run_retaken : (p : Progress) → IsRun p → p ≡ retaken p

@@ -3,14 +3,14 @@ use Rattle.std.proofs.Common.{◌≡◌, ℕ, zero, suc, ◌+◌, ◌-◌, ◌<�
 use native.Mathlib.Decide.{dec_lt}
 use Rattle.std.proofs.lemmas.List.{get_or_append_left, length-set}
 use Rattle.transition_algebra.specs.declared.pair.Pair.{Pair}
-use Rattle.transition_algebra.specs.Pairs.{one, times, covers}
+use Rattle.transition_algebra.specs.Pairs.{one, covers}
 use Rattle.pair_closure.specs.declared.members.Member.{Member}
 use Rattle.pair_closure.specs.declared.settle.Held.{Held}
-use Rattle.pair_closure.specs.Turns.{State}
-use Rattle.pair_closure.specs.Turns as turning
-use Rattle.pair_closure.specs.Progress.{Progress, SameData, turn, has_ended, moved, step, steps, stopped, blank_held}
+use Rattle.pair_closure.specs.Turns.{State, SameData, blank_held, covered, multiplied, pending, is_over, has_ended, turn}
+use Rattle.pair_closure.specs.Progress.{Progress, moved, step, steps, stopped}
 use Rattle.pair_closure.specs.Keeping.{HasPair, KeepsOne, GrowsToMember}
-use Rattle.pair_closure.proofs.Lists.{by_cond, either, In-at, In-filter, place_of, same_after_set}
+use Rattle.pair_closure.proofs.WhichTurn.{product_at, product_if, heap_if}
+use Rattle.pair_closure.proofs.Lists.{by_case, by_cond, either, In-at, In-filter, place_of, same_after_set}
 use Rattle.pair_closure.proofs.Running.{data_of, next_steps, spent_in, step_moves, step_stays, stopped_is}
 
 -- each pair of ys is one of xs
@@ -55,31 +55,27 @@ module _ (s : State) where
         ];
       }
 
-  abbrev kept_as : Pair → List Held → List Held
-  kept_as x held = filter (λ m. not (covers x m.pair)) held
+  abbrev given_up : Pair → List Held → List Held
+  given_up x held = filter (λ m. not (covers x m.pair)) held
 
   pub keeps_after : KeepsOne s (turn s)
   keeps_after =
-      let t = s.table in
-      let i = turning.pending one (times t) covers s in
-      let m = get_or s.held i (turning.no_held one (times t) covers) in
-      let g = get_or s.generators m.by (turning.no_generator one (times t) covers) in
-      let x = times t m.pair g.pair in
+      let at = pending s in
       let y = get_or s.heaps s.next one in
-      let written = set s.held i (turning.multiplied one (times t) covers m) in
-      let same = inherits_set s.held i (turning.multiplied one (times t) covers m) (turning.no_held one (times t) covers) refl in
-      by_cond (KeepsOne s) (nat_lt s.limit (length s.members)) _ _ (λ _. unkept s refl (inherits_itself s.held)) (λ _.
+      let written = set s.held at (multiplied (get_or s.held at blank_held)) in
+      let same = inherits_set s.held at (multiplied (get_or s.held at blank_held)) blank_held refl in
+      by_cond (KeepsOne s) (is_over s) _ _ (λ _. unkept s refl (inherits_itself s.held)) (λ _.
       by_cond (KeepsOne s) (nat_lt 0 (length s.members)) _ _
-      (λ _. by_cond (KeepsOne s) (nat_lt i (length s.held)) _ _
-      (λ _. by_cond (KeepsOne s) (turning.covered one (times t) covers s.held x) _ _
+      (λ _. by_cond (KeepsOne s) (nat_lt at (length s.held)) _ _
+      (λ _. by_case (λ b. KeepsOne s (product_if s at b)) (covered s.held (product_at s at))
       (λ _. unkept _ refl same)
-      (λ _. pushed _ _ (kept_as x written) _ refl refl (inherits_filter s.held written _ same)))
+      (λ _. pushed _ _ (given_up (product_at s at) written) _ refl refl (inherits_filter s.held written _ same)))
       (λ _. by_cond (KeepsOne s) (nat_lt s.next (length s.heaps)) _ _
-      (λ _. by_cond (KeepsOne s) (turning.covered one (times t) covers s.held y) _ _
+      (λ _. by_case (λ b. KeepsOne s (heap_if s b)) (covered s.held y)
       (λ _. unkept _ refl (inherits_itself s.held))
-      (λ _. pushed _ _ (kept_as y s.held) _ refl refl (inherits_filter s.held s.held _ (inherits_itself s.held))))
+      (λ _. pushed _ _ (given_up y s.held) _ refl refl (inherits_filter s.held s.held _ (inherits_itself s.held))))
       (λ _. unkept s refl (inherits_itself s.held))))
-      (λ _. pushed _ _ (kept_as one s.held) _ refl refl (inherits_filter s.held s.held _ (inherits_itself s.held))))
+      (λ _. pushed _ _ (given_up one s.held) _ refl refl (inherits_filter s.held s.held _ (inherits_itself s.held))))
 
 pub keeps_none : (s : State) → KeepsOne s s
 keeps_none s = unkept s s refl (inherits_itself s.held)

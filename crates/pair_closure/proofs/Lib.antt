@@ -1,8 +1,9 @@
 pub mod Lists
-pub mod CoverLaws
 pub mod PairLaws
 pub mod ChainLaws
+pub mod WhichTurn
 pub mod Invariant
+pub mod EachTurn
 pub mod FromStart
 pub mod Theorem
 pub mod Machine

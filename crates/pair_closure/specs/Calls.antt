@@ -2,8 +2,8 @@
 use Rattle.std.specs.Prelude.{◌≡◌, ◌⊎◌, ℕ, ◌+◌, ◌*◌, ◌<◌, ◌≤◌, Bool, true, false, ◌||◌, nat_lt, List, length, Result, OnOk, OnErr}
 use Rattle.monoid_table.specs.Grids.{Grid}
 use Rattle.transition_algebra.specs.declared.pair.Pair.{Pair}
-use Rattle.pair_closure.specs.Turns.{State}
-use Rattle.pair_closure.specs.Progress.{Progress, begun, steps, stopped, has_ended, is_over}
+use Rattle.pair_closure.specs.Turns.{State, has_ended, is_over}
+use Rattle.pair_closure.specs.Progress.{Progress, begun, steps, stopped}
 
 -- no turn is left
 abbrev pub ended : Progress → Bool

@@ -1,7 +1,8 @@
 //! The closure: members ever kept, those held, and one product a turn.
 ghost use Rattle.std.specs.Prelude.{◌≡◌, ◌↔◌, ◌<◌, ◌≤◌, ◌+◌, ◌*◌, true, false, ℕ, length, All, Ok, IfOk, OnOk, OnErr, IsErr, slice_index_or};
 ghost use Rattle.transition_algebra.specs.Pairs.{IsPair, one};
-ghost use Rattle.pair_closure.specs.Progress.{SameData, begun, moved, step, steps, stopped, is_done, is_over, has_ended, blank_held, KeepsEmpty, Multiplies, TriesHeap};
+ghost use Rattle.pair_closure.specs.Turns.{SameData, is_done, is_over, has_ended, blank_held, KeepsEmpty, Multiplies, TriesHeap};
+ghost use Rattle.pair_closure.specs.Progress.{begun, moved, step, steps, stopped};
 ghost use Rattle.pair_closure.specs.Calls.{Grows, IsLimited, ended, ended_or_kept, retaken};
 ghost use Rattle.pair_closure.specs.Keeping.{KeepsOne, GrowsToMember};
 ghost use Rattle.pair_closure.specs.Positions.{IsWordOf, Speaks, IsMinimal, IsClosedOver, IsExceeded};
@@ -56,7 +57,8 @@ pub struct Closure<A: Allocator = Global> {
 
 impl<A: Allocator> Model for Closure<A> {
     ghost use Rattle.std.specs.Prelude.{length};
-    ghost use Rattle.pair_closure.specs.Progress.{Progress, progress_of, IsRun, NoneBefore};
+    ghost use Rattle.pair_closure.specs.Progress.{Progress, progress_of, IsRun};
+    ghost use Rattle.pair_closure.specs.Turns.{NoneBefore};
     ghost use Rattle.element_sets.specs.contracts.ElementSet as e;
     ghost use Rattle.std.specs.Coded.{codes};
 

@@ -1,5 +1,6 @@
 use Rattle.std.proofs.Common.{◌≡◌, ◌≤◌, ◌+◌, ◌∙◌, ap, sym, arith, rules, true, false, length, subst}
-use Rattle.pair_closure.specs.Progress.{has_ended, stopped, SameData}
+use Rattle.pair_closure.specs.Turns.{has_ended, SameData}
+use Rattle.pair_closure.specs.Progress.{stopped}
 use Rattle.pair_closure.proofs.Running.{last_step, data_of, few_of, spent_of, spent_in, next_steps}
 use Rattle.pair_closure.specs.Calls.{ended}
 use Rattle.pair_closure.proofs.Calls.{ended_ends, one_more, takes, takes_here, refused, grows, grows_not}

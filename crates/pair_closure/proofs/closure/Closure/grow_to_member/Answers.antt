@@ -1,5 +1,6 @@
 use Rattle.std.proofs.Common.{◌≡◌, ◌<◌, ◌≤◌, ◌+◌, ◌∙◌, ap, sym, arith, rules, length, true, false, subst}
-use Rattle.pair_closure.specs.Progress.{SameData, has_ended, stopped}
+use Rattle.pair_closure.specs.Turns.{SameData, has_ended}
+use Rattle.pair_closure.specs.Progress.{stopped}
 use Rattle.pair_closure.specs.Keeping.{KeepsOne}
 use Rattle.pair_closure.proofs.Running.{next_steps, spent_of}
 use Rattle.pair_closure.proofs.Keeping.{goes, rests, grown_data, grown_spent, grown_costs, keeps_of, keeps_none, no_member, refused_at, on_ok}
