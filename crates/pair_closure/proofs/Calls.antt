@@ -1,30 +1,14 @@
 -- What calls come to, as the code goes.
-use Rattle.std.proofs.Common.{◌≡◌, ℕ, zero, suc, ◌+◌, ◌*◌, ◌<◌, ◌≤◌, ◌↔◌, Bool, true, false, ◌||◌, List, length, refl, sym, ap, ◌∙◌, subst, inl, inr, arith, nat_lt, lt-ltb, le-ltb, ltb-true, ltb-false, Result, Ok, Err, IsErr}
+use Rattle.std.proofs.Common.{◌≡◌, ℕ, zero, suc, ◌+◌, ◌*◌, ◌<◌, ◌≤◌, ◌↔◌, Bool, true, false, ◌||◌, List, length, refl, sym, ap, ◌∙◌, subst, inl, inr, arith, nat_lt, lt-ltb, le-ltb, Result, Ok, Err, IsErr}
 use native.Mathlib.Decide.{dec_lt}
 use Rattle.monoid_table.specs.Grids.{Grid}
 use Rattle.transition_algebra.specs.declared.pair.Pair.{Pair}
-use Rattle.pair_closure.specs.Turns.{State, has_ended, turn, turns}
-use Rattle.pair_closure.specs.Progress.{Progress, IsRun, begun, steps, step, stopped, moved}
-use Rattle.pair_closure.specs.Calls.{Takes, IsRefused, Grows, IsLimited, ended, ended_or_kept, cost, retaken}
+use Rattle.pair_closure.specs.Turns.{has_ended, turn}
+use Rattle.pair_closure.specs.Progress.{Progress, begun, steps, step, stopped, moved, retaken}
+use Rattle.pair_closure.specs.Calls.{Takes, IsRefused, Grows, ended, ended_or_kept, cost}
 use Rattle.pair_closure.proofs.Lists.{by_cond, either, not_both, true_or}
-use Rattle.pair_closure.proofs.Machine.{of_run, kept_by_turns}
 use Rattle.pair_closure.proofs.Bound.{ends_within}
-use Rattle.pair_closure.proofs.WhichTurn.{stays_put}
-use Rattle.pair_closure.proofs.Running.{step_moves, step_stays, same_after}
-
--- ---- the limit
-
-kept_within : (s : State) (limit members : ℕ) → limit ≡ s.limit → members ≡ length s.members → members ≤ limit + 1 → IsLimited s
-kept_within s limit members e f h = record {
-  within = λ b. ltb-false s.limit (length s.members) b;
-  over = λ b. let more : s.limit < length s.members = ltb-true s.limit (length s.members) b in omega arith;
-}
-
-pub limited : (p : Progress) → IsRun p → IsLimited p.state
-limited p r = elim (kept_by_turns p.state (of_run p r)) [
-  | inl e ↦ (let none = ap (λ z. length z.members) e in kept_within p.state p.state.limit (length p.state.members) refl refl (omega arith))
-  | inr v ↦ kept_within p.state p.state.limit (length p.state.members) refl refl v.within
-]
+use Rattle.pair_closure.proofs.Running.{state_steps, step_moves, step_stays, same_after}
 
 -- ---- ends
 
@@ -150,25 +134,6 @@ taken_alike ends units p q r a b =
         | no k ↦ let d : a.turns ≡ b.turns = omega arith in a.reached ∙ ap (λ n. steps n p) d ∙ sym b.reached
       ]
     ]
-
--- the same turns, of the state alone
-state_steps : (n : ℕ) (p : Progress) → (steps n p).state ≡ turns n p.state
-state_steps zero p = refl
-state_steps (suc n) p =
-    let q = steps n p in
-    by_cond (λ z. z.state ≡ turns (suc n) p.state) (has_ended q.state) q (moved q)
-    (λ e. sym (stays_put q.state e) ∙ ap turn (state_steps n p))
-    (λ _. ap turn (state_steps n p))
-
--- what the turns from the beginning reach is what the code holds
-pub run_retaken : (p : Progress) → IsRun p → p ≡ retaken p
-run_retaken p r =
-    let first = begun p.state.table p.state.heaps p.state.limit in
-    let n : ℕ = p.spent in
-    let same : (steps n first).state ≡ p.state = state_steps n first ∙ sym r.reached in
-    let all : (steps n first).spent ≡ 0 + n = all_spent ended ended_ends first n (λ m l. ap has_ended (state_steps m first) ∙ r.going m l) in
-    let count : p.spent ≡ (steps n first).spent = omega arith in
-    ap (λ s. record { state = s; spent = p.spent; failed = p.failed }) (sym same) ∙ ap (λ k. record { state = (steps n first).state; spent = k; failed = p.failed }) count
 
 module _ (table : Grid) (heaps : List Pair) (limit : ℕ) where
   abbrev after : ℕ → Progress

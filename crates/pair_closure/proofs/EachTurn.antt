@@ -1,5 +1,5 @@
 -- Each turn keeps what the invariant says.
-use Rattle.std.proofs.Common.{◌≡◌, ℕ, ◌+◌, ◌-◌, ◌<◌, ◌≤◌, Bool, true, false, List, [], ◌∷◌, ◌++◌, length, get_or, set, refl, sym, ap, ap₂, ◌∙◌, subst, inl, inr, ◌⊎◌, arith, nat_lt, ltb-true, ltb-false, length-append}
+use Rattle.std.proofs.Common.{◌≡◌, ℕ, ◌+◌, ◌-◌, ◌<◌, ◌≤◌, true, false, [], ◌∷◌, ◌++◌, length, get_or, set, refl, sym, ap, ap₂, ◌∙◌, subst, inl, inr, arith, nat_lt, ltb-true, ltb-false, length-append}
 use Rattle.std.proofs.lemmas.List.{get_or_append_left}
 use Rattle.std.proofs.lemmas.List.Sums.{passes_at_first}
 use Rattle.std.proofs.lemmas.Bool.{cases_lt}
@@ -13,7 +13,7 @@ use Rattle.pair_closure.specs.Turns.{State, blank_held, blank_generator, covered
 use Rattle.pair_closure.proofs.WhichTurn.{product_at, bumped, product_if, passed, widened, heap_if}
 use Rattle.pair_closure.proofs.Lists.{In, by_case, by_cond, find_any, In-left, In-last, In-push, In-set, In-at, any_set, AllPairs-set}
 use Rattle.pair_closure.proofs.PairLaws.{covers_itself}
-use Rattle.pair_closure.proofs.Invariant.{Made, IsGenerator, HasProducts, HasPlace, IsBelow, Neither, Inv, Settled, SettledBut, Holds, settle, generator_in, keep_inv}
+use Rattle.pair_closure.proofs.Invariant.{Made, IsGenerator, HasProducts, HasPlace, IsBelow, Neither, Inv, SettledBut, Holds, settle, keep_inv}
 use Rattle.pair_closure.proofs.Invariant.Made.{Empty, More}
 
 module _ (s : State) (v : Holds s) (i : ℕ) (lt : i < length s.held) (less : (get_or s.held i blank_held).by < length s.generators) where

@@ -1,11 +1,11 @@
 -- What every turn keeps holds after each number of turns.
-use Rattle.std.proofs.Common.{◌≡◌, ℕ, zero, suc, ◌<◌, true, List, [], ◌∷◌, refl, sym, ap, subst, inl, inr, ◌⊎◌, arith, nat_lt, ltb-true}
+use Rattle.std.proofs.Common.{◌≡◌, ℕ, zero, suc, true, List, [], ◌∷◌, refl, sym, ap, subst, inl, inr, ◌⊎◌, arith, nat_lt, ltb-true}
 use Rattle.monoid_table.specs.Grids.{Grid}
 use Rattle.monoid_table.specs.Tables.{IsTableGrid}
 use Rattle.transition_algebra.specs.declared.pair.Pair.{Pair}
 use Rattle.transition_algebra.specs.Pairs.{IsPair, one, covers}
 use Rattle.transition_algebra.specs.PairLaws.{pair_laws}
-use Rattle.pair_closure.specs.Turns.{State, start, empty_turn, turn, turns}
+use Rattle.pair_closure.specs.Turns.{start, empty_turn, turn, turns}
 use Rattle.pair_closure.proofs.Lists.{In, by_cond, true_or}
 use Rattle.pair_closure.proofs.PairLaws.{covers_itself}
 use Rattle.pair_closure.proofs.Invariant.{Holds, HasPlace}

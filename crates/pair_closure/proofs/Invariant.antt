@@ -5,7 +5,6 @@ use Rattle.std.proofs.lemmas.List.Quantifiers.{all_pairs_push}
 use Rattle.std.proofs.lemmas.List.Kept.{AllPairs-filter}
 use Rattle.std.proofs.lemmas.Bool.{cases_lt}
 use Rattle.monoid_table.specs.Grids.{Grid}
-use Rattle.monoid_table.specs.Laws.{CommMonoidLaws}
 use Rattle.monoid_table.specs.Tables.{IsTableGrid}
 use Rattle.transition_algebra.specs.declared.pair.Pair.{Pair}
 use Rattle.transition_algebra.specs.Pairs.{IsPair, one, times, covers}

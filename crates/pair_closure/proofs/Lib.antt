@@ -6,13 +6,14 @@ pub mod Invariant
 pub mod EachTurn
 pub mod FromStart
 pub mod Theorem
-pub mod Machine
-pub mod PendingLaws
+pub mod Bound
 pub mod Running
+pub mod Machine
+pub mod Calls
+pub mod Runs
+pub mod PendingLaws
 pub mod Turned
 pub mod Positions
 pub mod Words
-pub mod Bound
 mod Keeping
-pub mod Calls
 mod Rising

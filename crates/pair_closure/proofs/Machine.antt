@@ -1,5 +1,5 @@
 -- The states that turns reach.
-use Rattle.std.proofs.Common.{◌≡◌, ℕ, ◌<◌, ◌≤◌, Bool, true, false, List, length, get_or, refl, sym, ap, subst, inl, inr, ◌⊎◌, arith, nat_lt, ltb-true, ltb-false}
+use Rattle.std.proofs.Common.{◌≡◌, ℕ, ◌<◌, ◌≤◌, Bool, true, false, List, length, get_or, refl, sym, ap, ◌∙◌, subst, inl, inr, ◌⊎◌, arith, nat_lt, ltb-true, ltb-false}
 use Rattle.std.proofs.lemmas.List.Sums.{passes_at_first, fails_before_first}
 use Rattle.monoid_table.specs.Tables.{IsTableGrid}
 use Rattle.transition_algebra.specs.declared.pair.Pair.{Pair}
@@ -8,12 +8,13 @@ use Rattle.pair_closure.specs.declared.settle.Held.{Held}
 use Rattle.pair_closure.specs.declared.settle.Generator.{Generator}
 use Rattle.pair_closure.specs.Chains.{blank}
 use Rattle.pair_closure.specs.Turns.{State, Tell, start, turns, covered, any_covers, covers_any, covers_held, first_pending}
-use Rattle.pair_closure.specs.Progress.{IsRun, Progress}
+use Rattle.pair_closure.specs.Progress.{IsRun, Progress, begun}
 use Rattle.pair_closure.proofs.Lists.{In, In-at, place_of, find_any, any_from, either, not_both}
 use Rattle.pair_closure.proofs.PairLaws.{covers_trans}
 use Rattle.pair_closure.proofs.Invariant.{Holds}
 use Rattle.pair_closure.proofs.Invariant as invariant
 use Rattle.pair_closure.proofs.FromStart.{turns_inv}
+use Rattle.pair_closure.proofs.Running.{state_steps}
 
 -- turns reach the state from its table, heaps and limit
 pub record Reached (s : State) : Type 0 where
@@ -23,7 +24,12 @@ pub record Reached (s : State) : Type 0 where
   pub reached : s ≡ turns units (start s.table s.heaps s.limit)
 
 pub of_run : (p : Progress) → IsRun p → Reached p.state
-of_run p r = record { lawful = r.lawful; heaps_in = r.heaps_in; units = p.spent; reached = r.reached }
+of_run p r = record {
+  lawful = r.lawful;
+  heaps_in = r.heaps_in;
+  units = p.spent;
+  reached = ap (λ z. z.state) r.run ∙ state_steps p.spent (begun p.state.table p.state.heaps p.state.limit);
+}
 
 heaps_below : (s : State) → Reached s → (x : Pair) → In x s.heaps → IsPair s.table.order x
 heaps_below s r x i = let (k, l, e) = place_of s.heaps x i in subst (IsPair s.table.order) (e one) (r.heaps_in k l)

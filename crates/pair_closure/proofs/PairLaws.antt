@@ -1,17 +1,15 @@
 -- Covering, number by number; products respect it.
-use Rattle.std.proofs.Common.{◌≡◌, ℕ, Bool, true, false, not, List, [], ◌∷◌, refl, sym, ap, ◌∙◌, subst, inl, inr, ◌⊎◌, ◌&&◌, eqb-true, eq-eqb}
-use Rattle.std.specs.List.{list_any}
-use Rattle.std.specs.Ordering.{nat_cmp}
-use Rattle.std.specs.Cmp.{nat_cmp_total, unsigned_tied}
+use Rattle.std.proofs.Common.{◌≡◌, ℕ, Bool, true, false, not, refl, sym, ap, ◌∙◌, subst, inl, inr, ◌&&◌, eqb-true, eq-eqb}
+use Rattle.std.specs.Cmp.{nat_cmp_total}
 use Rattle.std.specs.FinSet as set
-use Rattle.std.specs.FinSet.{is_subset-contains, contains-is_subset, contains-items}
+use Rattle.std.specs.FinSet.{is_subset-contains, contains-is_subset}
 use Rattle.monoid_table.specs.Grids.{Grid, times_in}
 use Rattle.monoid_table.specs.Tables.{IsTableGrid}
 use Rattle.transition_algebra.specs.declared.pair.Pair.{Pair}
-use Rattle.transition_algebra.specs.Pairs.{IsPair, times, is_empty, covers}
+use Rattle.transition_algebra.specs.Pairs.{IsPair, times, covers}
 use Rattle.transition_algebra.specs.PairLaws.{has, empty_has, times_has, has_left, has_right}
 use Rattle.pair_closure.specs.OptionLaws.{some_or_empty}
-use Rattle.pair_closure.proofs.Lists.{or_true, true_or, not_both, either}
+use Rattle.pair_closure.proofs.Lists.{or_true, true_or, not_both}
 
 both : (a b : Bool) → (a && b) ≡ true → (a ≡ true) × (b ≡ true)
 both true true e = (refl, refl)

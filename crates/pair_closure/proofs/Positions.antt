@@ -1,12 +1,12 @@
 -- The states that turns reach, said of positions.
-use Rattle.std.proofs.Common.{◌≡◌, ℕ, zero, suc, ◌+◌, ◌-◌, ◌<◌, ◌≤◌, ◌↔◌, Bool, true, false, cond, not, List, [], ◌∷◌, ◌++◌, length, get_or, refl, sym, ap, ap₂, ◌∙◌, subst, inl, inr, arith, map, Contains, length-append, nat_lt, ltb-true, ltb-false}
+use Rattle.std.proofs.Common.{◌≡◌, ℕ, zero, suc, ◌+◌, ◌-◌, ◌<◌, ◌≤◌, Bool, true, false, cond, List, [], ◌∷◌, ◌++◌, length, get_or, refl, sym, ap, ap₂, ◌∙◌, subst, inl, inr, arith, length-append, nat_lt, ltb-true, ltb-false}
 use Rattle.std.specs.List.{AllByRecursion}
 use Rattle.std.proofs.lemmas.Bool.{cases_lt}
 use Rattle.std.proofs.lemmas.List.Sums.{fails_before_first}
 use Rattle.std.proofs.lemmas.List.{get_or_append_left, get_or_push}
 use Rattle.misere_theory.specs.Games.{IsHeap, IsHeapUpTo, IsPosition}
 use Rattle.misere_theory.specs.Games.Move.{Here, There}
-use Rattle.misere_theory.specs.Quotients.{Claim, Monoid, value, OptionValue, HeapOptionValue, SamePair, ReachesMoreThan}
+use Rattle.misere_theory.specs.Quotients.{Claim, value, OptionValue, SamePair, ReachesMoreThan}
 use Rattle.misere_theory.specs.Pairs as theory
 use Rattle.misere_theory.proofs.Sums.{first_or_rest, no_move_of_none, value-append, heaps_kept}
 use Rattle.monoid_table.specs.Grids.{Grid, times_in}

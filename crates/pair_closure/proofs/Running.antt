@@ -1,18 +1,11 @@
 -- Turns one after another.
-use Rattle.std.proofs.Common.{◌≡◌, ℕ, zero, suc, ◌+◌, ◌-◌, ◌*◌, ◌^◌, ◌<◌, ◌≤◌, Bool, true, false, cond, List, [], ◌∷◌, ◌++◌, length, length-append, get_or, refl, sym, ap, ◌∙◌, subst, inl, inr, arith, nat_lt}
-use Rattle.std.proofs.Math.Nat.{mul-le-mul}
-use Rattle.std.proofs.lemmas.Bool.{cases_lt}
-use Rattle.monoid_table.specs.Grids.{Grid}
-use Rattle.monoid_table.specs.Tables.{IsTableGrid}
-use Rattle.transition_algebra.specs.declared.pair.Pair.{Pair}
-use Rattle.transition_algebra.specs.Pairs.{IsPair, one}
+use Rattle.std.proofs.Common.{◌≡◌, ℕ, zero, suc, ◌+◌, ◌-◌, ◌<◌, ◌≤◌, Bool, true, false, cond, [], ◌∷◌, ◌++◌, length, length-append, get_or, refl, sym, ap, ◌∙◌, subst, inl, inr, arith, nat_lt}
+use Rattle.transition_algebra.specs.Pairs.{one}
 use Rattle.pair_closure.specs.declared.members.Member.{Member}
-use Rattle.pair_closure.specs.Turns.{State, SameData, start, covered, is_over, has_ended, pending, turn, turns}
-use Rattle.pair_closure.specs.Progress.{Progress, moved, step, steps, stopped, IsRun}
+use Rattle.pair_closure.specs.Turns.{State, SameData, covered, is_over, has_ended, pending, turn, turns}
+use Rattle.pair_closure.specs.Progress.{Progress, moved, step, steps, stopped}
 use Rattle.pair_closure.proofs.Lists.{either, by_cond, if_true, if_false, not_both}
 use Rattle.pair_closure.proofs.WhichTurn.{product_at, stays_put}
-use Rattle.pair_closure.proofs.Machine.{Reached}
-use Rattle.pair_closure.proofs.Bound.{ends_within}
 
 pub same_after : (s : State) → SameData s (turn s)
 same_after s =
@@ -30,65 +23,6 @@ same_turns (suc n) s =
     let a = same_turns n s in
     let b = same_after (turns n s) in
     record { table = b.table ∙ a.table; heaps = b.heaps ∙ a.heaps; limit = b.limit ∙ a.limit }
-
-same_start : (t : State) (table : Grid) (heaps : List Pair) (limit : ℕ) → SameData (start table heaps limit) t → start table heaps limit ≡ start t.table t.heaps t.limit
-same_start t table heaps limit d = ap (λ z. start z heaps limit) (sym d.table) ∙ ap (λ z. start t.table z limit) (sym d.heaps) ∙ ap (λ z. start t.table t.heaps z) (sym d.limit)
-
-pub pairs_in : (t q : Grid) (hs heaps : List Pair) → t ≡ q → hs ≡ heaps → ((k : ℕ) → k < length heaps → IsPair q.order (get_or heaps k one)) → (k : ℕ) → k < length hs → IsPair t.order (get_or hs k one)
-pairs_in t q hs heaps a b h = subst (λ z. (k : ℕ) → k < length hs → IsPair z.order (get_or hs k one)) (sym a) (subst (λ z. (k : ℕ) → k < length z → IsPair q.order (get_or z k one)) (sym b) h)
-
-pub reached_turns : (table : Grid) (heaps : List Pair) (limit n : ℕ) → IsTableGrid table → ((k : ℕ) → k < length heaps → IsPair table.order (get_or heaps k one)) → Reached (turns n (start table heaps limit))
-reached_turns table heaps limit n lawful inside =
-    let t = turns n (start table heaps limit) in
-    let d = same_turns n (start table heaps limit) in
-    record {
-      lawful = subst IsTableGrid (sym d.table) lawful;
-      heaps_in = pairs_in _ _ _ _ d.table d.heaps inside;
-      units = n;
-      reached = ap (turns n) (same_start t table heaps limit d);
-    }
-
--- ---- the count of turns
-
-product_le : (a b c d : ℕ) → a ≤ c → b ≤ d → a * b ≤ c * d
-product_le a b c d h k = mul-le-mul h k
-
-pub spent_le : (p : Progress) → IsRun p → p.spent ≤ p.state.limit * length p.state.heaps + 2
-spent_le p r =
-    let s = p.state in
-    elim (cases_lt (s.limit * length s.heaps + 2) p.spent) [
-      | inl more ↦ absurd (not_both (ends_within s.table s.heaps s.limit) (r.going _ more))
-      | inr less ↦ less
-    ]
-
-pub spent_fits : (p : Progress) → IsRun p → p.spent + 1 < 2 ^ 128
-spent_fits p r =
-    let h = spent_le p r in
-    let short = r.short in
-    let small = r.small in
-    let k = product_le p.state.limit (length p.state.heaps) (2 ^ 32 - 1) (2 ^ 58 - 1) (omega arith) (omega arith) in
-    omega arith
-
--- one turn more
-pub next_run : (p : Progress) (t : State) (n : ℕ) → IsRun p → has_ended p.state ≡ false → t ≡ turn p.state → n ≡ p.spent + 1 → IsRun (record { state = t; spent = n; failed = p.failed })
-next_run p t n r going e m =
-    let s = p.state in
-    let d : SameData s t = subst (SameData s) (sym e) (same_after s) in
-    let q : suc p.spent ≡ n = omega arith in
-    let from : start s.table s.heaps s.limit ≡ start t.table t.heaps t.limit = same_start t s.table s.heaps s.limit (record { table = d.table; heaps = d.heaps; limit = d.limit }) in
-    record {
-      lawful = subst IsTableGrid (sym d.table) r.lawful;
-      heaps_in = pairs_in _ _ _ _ d.table d.heaps r.heaps_in;
-      short = subst (λ z. length z < 2 ^ 58) (sym d.heaps) r.short;
-      small = subst (λ z. z < 2 ^ 32) (sym d.limit) r.small;
-      reached = e ∙ ap turn r.reached ∙ ap (λ k. turns k (start s.table s.heaps s.limit)) q ∙ ap (turns n) from;
-      going = subst (λ z. (k : ℕ) → k < n → has_ended (turns k z) ≡ false) from (λ k l. elim (cases_lt k p.spent) [
-        | inl less ↦ r.going k less
-        | inr here ↦
-            let same : p.spent ≡ k = omega arith in
-            subst (λ j. has_ended (turns j (start s.table s.heaps s.limit)) ≡ false) same (subst (λ z. has_ended z ≡ false) r.reached going)
-      ]);
-    }
 
 pub steps_add : (m n : ℕ) (p : Progress) → steps (m + n) p ≡ steps n (steps m p)
 steps_add m zero p = let q : m + 0 ≡ m = omega arith in ap (λ k. steps k p) q
@@ -117,6 +51,15 @@ same_steps (suc n) p =
     let q = steps n p in
     by_cond (λ z. SameData p.state z.state) (has_ended q.state) q (moved q) (λ _. a)
     (λ _. let b = same_after q.state in record { table = b.table ∙ a.table; heaps = b.heaps ∙ a.heaps; limit = b.limit ∙ a.limit })
+
+-- the same turns, of the state alone
+pub state_steps : (n : ℕ) (p : Progress) → (steps n p).state ≡ turns n p.state
+state_steps zero p = refl
+state_steps (suc n) p =
+    let q = steps n p in
+    by_cond (λ z. z.state ≡ turns (suc n) p.state) (has_ended q.state) q (moved q)
+    (λ e. sym (stays_put q.state e) ∙ ap turn (state_steps n p))
+    (λ _. ap turn (state_steps n p))
 
 -- one turn keeps one member more at most
 abbrev OneMore : State → State → Type 0

@@ -10,7 +10,7 @@ use Rattle.pair_closure.specs.Progress.{Progress, IsRun}
 use Rattle.pair_closure.proofs.ChainLaws.{same_default}
 use Rattle.pair_closure.proofs.WhichTurn.{turn_empty, turn_product, turn_heap, goes_empty, goes_product, goes_heap}
 use Rattle.pair_closure.proofs.Machine.{Reached, of_run, held_in, generator_in, kept_by_turns, has_turns, none_before}
-use Rattle.pair_closure.proofs.Running.{next_run}
+use Rattle.pair_closure.proofs.Runs.{next_run}
 
 -- the state with other lists
 abbrev pub with : State → List Member → List Held → List Generator → ℕ → State
@@ -44,7 +44,7 @@ pub empty_next : (p : Progress) (members : List Member) (held : List Held) (from
     → Next p members held p.state.generators p.state.next (p.spent + 1) from
 empty_next p members held from r k a b =
     let none : length p.state.generators ≡ 0 = ap length (nothing p.state (of_run p r) k) in
-    (next_run p _ _ r (goes_empty p.state k) (empty_turned p members held k a b) refl, λ i l h. omega arith)
+    (next_run p _ r (goes_empty p.state k) (empty_turned p members held k a b), λ i l h. omega arith)
 
 -- what a product's turn was given and what it wrote
 pub record Product (s : State) (members : List Member) (held : List Held) (at : ℕ) (m : Held) (g : Generator) (x : Pair) : Type 0 where
@@ -74,7 +74,7 @@ pub product_next : (p : Progress) (members : List Member) (held : List Held) (at
     → (anew ≡ false → (k : ℕ) → k < at → get_or held k blank_held ≡ get_or p.state.held k blank_held) → from ≡ cond anew 0 at
     → Next p members held p.state.generators p.state.next (p.spent + 1) from
 product_next p members held at m g x anew from r w before e =
-    (next_run p _ _ r (goes_product p.state at w.turns) (product_turned p.state members held at m g x w) refl, none anew before e)
+    (next_run p _ r (goes_product p.state at w.turns) (product_turned p.state members held at m g x w), none anew before e)
   where
     none : (b : Bool) → (b ≡ false → (k : ℕ) → k < at → get_or held k blank_held ≡ get_or p.state.held k blank_held) → from ≡ cond b 0 at → NoneBefore held (length p.state.generators) from
     none true h e k l1 l2 = absurd (omega arith)
@@ -102,7 +102,7 @@ heap_turned s members held gens n x w =
 pub heap_next : (p : Progress) (members : List Member) (held : List Held) (gens : List Generator) (n : ℕ) (x : Pair) (anew : Bool) (from : ℕ) → IsRun p → Tried p.state members held gens n x
     → (anew ≡ false → covered p.state.held x ≡ true) → from ≡ cond anew 0 (length held) → Next p members held gens n (p.spent + 1) from
 heap_next p members held gens n x anew from r w kept e =
-    (next_run p _ _ r (goes_heap p.state w.turns) (heap_turned p.state members held gens n x w) refl, none anew kept e)
+    (next_run p _ r (goes_heap p.state w.turns) (heap_turned p.state members held gens n x w), none anew kept e)
   where
     none : (b : Bool) → (b ≡ false → covered p.state.held x ≡ true) → from ≡ cond b 0 (length held) → NoneBefore held (length gens) from
     none true h e k l1 l2 = absurd (omega arith)

@@ -44,7 +44,3 @@ pub record IsLimited (s : State) : Type 0 where
 -- the turns that a closure takes in all
 abbrev pub cost : Grid → List Pair → ℕ → ℕ
 cost table heaps limit = (steps (limit * length heaps + 2) (begun table heaps limit)).spent
-
--- what so many turns from the beginning reach, and whether memory was refused
-abbrev pub retaken : Progress → Progress
-retaken p = record (steps p.spent (begun p.state.table p.state.heaps p.state.limit)) { failed = p.failed }

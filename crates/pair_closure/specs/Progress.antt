@@ -52,11 +52,14 @@ steps (suc n) p = step (steps n p)
 abbrev pub stopped : Progress → Progress
 stopped p = record p { failed = true }
 
--- The state is the one that so many turns reach from its table, heaps and limit, each of which was there to take.
+-- what so many turns from the beginning reach, and whether memory was refused
+abbrev pub retaken : Progress → Progress
+retaken p = record (steps p.spent (begun p.state.table p.state.heaps p.state.limit)) { failed = p.failed }
+
+-- It is what its turns from the beginning reach.
 pub record IsRun (p : Progress) : Type 0 where
   pub lawful : IsTableGrid p.state.table
   pub heaps_in : (k : ℕ) → k < length p.state.heaps → IsPair p.state.table.order (slice_index_or p.state.heaps k one)
   pub short : length p.state.heaps < 2 ^ 58
   pub small : p.state.limit < 2 ^ 32
-  pub reached : p.state ≡ turns p.spent (start p.state.table p.state.heaps p.state.limit)
-  pub going : (n : ℕ) → n < p.spent → has_ended (turns n (start p.state.table p.state.heaps p.state.limit)) ≡ false
+  pub run : p ≡ retaken p

@@ -2,8 +2,8 @@
 ghost use Rattle.std.specs.Prelude.{◌≡◌, ◌↔◌, ◌<◌, ◌≤◌, ◌+◌, ◌*◌, true, false, ℕ, length, All, Ok, IfOk, OnOk, OnErr, IsErr, slice_index_or};
 ghost use Rattle.transition_algebra.specs.Pairs.{IsPair, one};
 ghost use Rattle.pair_closure.specs.Turns.{SameData, is_done, is_over, has_ended, blank_held, KeepsEmpty, Multiplies, TriesHeap};
-ghost use Rattle.pair_closure.specs.Progress.{begun, moved, step, steps, stopped};
-ghost use Rattle.pair_closure.specs.Calls.{Grows, IsLimited, ended, ended_or_kept, retaken};
+ghost use Rattle.pair_closure.specs.Progress.{begun, moved, retaken, step, steps, stopped};
+ghost use Rattle.pair_closure.specs.Calls.{Grows, IsLimited, ended, ended_or_kept};
 ghost use Rattle.pair_closure.specs.Keeping.{KeepsOne, GrowsToMember};
 ghost use Rattle.pair_closure.specs.Positions.{IsWordOf, Speaks, IsMinimal, IsClosedOver, IsExceeded};
 

@@ -2,7 +2,7 @@ use Rattle.std.proofs.Common.{◌+◌, ◌<◌, ◌∙◌, sym, ap, subst, arith
 use Rattle.pair_closure.specs.Turns.{State, Multiplies}
 use Rattle.pair_closure.specs.Progress.{moved}
 use Rattle.pair_closure.proofs.Machine.{of_run, members_tell}
-use Rattle.pair_closure.proofs.Running.{spent_fits}
+use Rattle.pair_closure.proofs.Runs.{spent_fits}
 use Rattle.pair_closure.proofs.Turned.{read_by, read_held, read_generator, product_next, product_turned}
 use Rattle.pair_closure.proofs.closure.Closure.multiply.Goals as goal
 

@@ -2,7 +2,7 @@ use Rattle.std.proofs.Common.{◌+◌, ◌∙◌, sym, ap, subst, arith, rules, 
 use Rattle.pair_closure.specs.Turns.{State, TriesHeap}
 use Rattle.pair_closure.specs.Progress.{moved}
 use Rattle.pair_closure.proofs.Machine.{of_run, members_tell}
-use Rattle.pair_closure.proofs.Running.{spent_fits}
+use Rattle.pair_closure.proofs.Runs.{spent_fits}
 use Rattle.pair_closure.proofs.Turned.{heap_next, heap_turned}
 use Rattle.pair_closure.proofs.closure.Closure.try_heap.Goals as goal
 
