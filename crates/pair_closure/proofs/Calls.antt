@@ -1,18 +1,18 @@
 -- What calls come to, as the code goes.
-use Rattle.std.proofs.Common.{◌≡◌, ℕ, zero, suc, ◌+◌, ◌*◌, ◌<◌, ◌≤◌, ◌↔◌, Bool, true, false, ◌||◌, List, length, refl, sym, ap, ◌∙◌, subst, inl, inr, arith, nat_lt, lt-ltb, le-ltb, Result, Ok, Err, IsErr}
+use Rattle.std.proofs.Common.{◌≡◌, ℕ, zero, suc, ◌+◌, ◌*◌, ◌<◌, ◌≤◌, ◌↔◌, Bool, true, false, ◌||◌, List, length, refl, sym, ap, ◌∙◌, subst, inl, inr, arith, nat_lt, lt-ltb, le-ltb}
 use native.Mathlib.Decide.{dec_lt}
 use Rattle.monoid_table.specs.Grids.{Grid}
 use Rattle.transition_algebra.specs.declared.pair.Pair.{Pair}
 use Rattle.pair_closure.specs.Turns.{has_ended, turn}
 use Rattle.pair_closure.specs.Progress.{Progress, begun, steps, step, stopped, moved, retaken}
-use Rattle.pair_closure.specs.Calls.{Takes, IsRefused, Grows, ended, ended_or_kept, cost}
+use Rattle.pair_closure.specs.Calls.{Takes, IsRefused, ended, ended_or_kept, cost}
 use Rattle.pair_closure.proofs.Lists.{by_cond, either, not_both, true_or}
 use Rattle.pair_closure.proofs.Bound.{ends_within}
 use Rattle.pair_closure.proofs.Running.{state_steps, step_moves, step_stays, same_after}
 
 -- ---- ends
 
-or_false : (a b : Bool) → (a || b) ≡ false → (a ≡ false) × (b ≡ false)
+pub or_false : (a b : Bool) → (a || b) ≡ false → (a ≡ false) × (b ≡ false)
 or_false true b e = absurd (cc)
 or_false false b e = (refl, e)
 
@@ -90,15 +90,6 @@ module _ (ends : Progress → Bool) (implies : Ends ends) (p : Progress) where
       spent = ap (λ z. z.spent) (e ∙ ap stopped reached) ∙ all_spent n going;
       going = λ m k. one_more n q reached going f m (omega arith);
     }
-
-  -- a call that goes on answers no want of memory
-  pub grows : {X E : Type 0} (units : ℕ) (r : Result X E) (q : Progress) → p.failed ≡ false → Takes ends units p q → (IsErr r → q.failed ≡ true) → Grows ends units r p q
-  grows units (Ok x) q f t h = (t, tt)
-  grows units (Err x) q f t h = (tt, absurd (not_both (h refl) (ap (λ z. z.failed) t.reached ∙ same_failed t.turns p ∙ f)))
-
-  pub grows_not : {X E : Type 0} (units : ℕ) (r : Result X E) (q : Progress) → IsRefused ends units p q → IsErr r → Grows ends units r p q
-  grows_not units (Ok x) q t h = absurd (cc)
-  grows_not units (Err x) q t h = (tt, inr t)
 
 -- ---- how many turns there are
 

@@ -16,4 +16,5 @@ pub mod Turned
 pub mod Positions
 pub mod Words
 mod Keeping
+mod Taken
 mod Rising

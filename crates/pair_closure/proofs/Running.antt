@@ -1,10 +1,10 @@
 -- Turns one after another.
-use Rattle.std.proofs.Common.{◌≡◌, ℕ, zero, suc, ◌+◌, ◌-◌, ◌<◌, ◌≤◌, Bool, true, false, cond, [], ◌∷◌, ◌++◌, length, length-append, get_or, refl, sym, ap, ◌∙◌, subst, inl, inr, arith, nat_lt}
+use Rattle.std.proofs.Common.{◌≡◌, ℕ, zero, suc, ◌+◌, ◌-◌, ◌≤◌, Bool, true, false, cond, [], ◌∷◌, ◌++◌, length, length-append, get_or, refl, sym, ap, ◌∙◌, arith, nat_lt}
 use Rattle.transition_algebra.specs.Pairs.{one}
 use Rattle.pair_closure.specs.declared.members.Member.{Member}
 use Rattle.pair_closure.specs.Turns.{State, SameData, covered, is_over, has_ended, pending, turn, turns}
 use Rattle.pair_closure.specs.Progress.{Progress, moved, step, steps, stopped}
-use Rattle.pair_closure.proofs.Lists.{either, by_cond, if_true, if_false, not_both}
+use Rattle.pair_closure.proofs.Lists.{by_cond, if_true, if_false}
 use Rattle.pair_closure.proofs.WhichTurn.{product_at, stays_put}
 
 pub same_after : (s : State) → SameData s (turn s)
@@ -85,41 +85,8 @@ few_steps (suc n) p =
     let q = steps n p in
     by_cond (λ z. length z.state.members ≤ length p.state.members + suc n) (has_ended q.state) q (moved q) (λ _. omega arith) (λ _. let b = few_after q.state in omega arith)
 
--- while turns are left, each of them counts
-pub spent_steps : (n : ℕ) (p : Progress) → has_ended (steps n p).state ≡ false → (steps n p).spent ≡ p.spent + n
-spent_steps zero p h = omega arith
-spent_steps (suc n) p h =
-    let q = steps n p in
-    elim (either (has_ended q.state)) [
-      | inl e ↦ absurd (not_both e (ap (λ z. has_ended z.state) (sym (step_stays q e)) ∙ h))
-      | inr go ↦ let a = spent_steps n p go in let b : (step q).spent ≡ q.spent + 1 = ap (λ z. z.spent) (sym (step_moves q go)) in omega arith
-    ]
-
 pub stopped_is : (p : Progress) → p.failed ≡ true → p ≡ stopped p
 stopped_is p e = ap (λ b. record { state = p.state; spent = p.spent; failed = b }) e
 
--- the turn that finds no turn left
-pub last_step : (m n : ℕ) (p q t : Progress) → q ≡ steps m p → m < n → t ≡ step q → has_ended q.state ≡ true → t ≡ steps n p
-last_step m n p q t e l f h = f ∙ step_stays q h ∙ ended_steps m n p q e (omega arith) h
-
-pub data_of : (n : ℕ) (p q : Progress) → q ≡ steps n p → SameData p.state q.state
-data_of n p q e = subst (λ z. SameData p.state z.state) (sym e) (same_steps n p)
-
-pub few_of : (m n : ℕ) (p q : Progress) → q ≡ steps m p → m ≤ n → length q.state.members ≤ length p.state.members + n
-few_of m n p q e l = subst (λ z. length z.state.members ≤ length p.state.members + n) (sym e) (let h = few_steps m p in omega arith)
-
-pub spent_of : (n : ℕ) (p q : Progress) → q ≡ steps n p → has_ended q.state ≡ false → q.spent ≡ p.spent + n
-spent_of n p q e h = ap (λ z. z.spent) e ∙ spent_steps n p (ap (λ z. has_ended z.state) (sym e) ∙ h)
-
 pub next_steps : (n : ℕ) (p q t : Progress) → q ≡ steps n p → t ≡ step q → t ≡ steps (n + 1) p
 next_steps n p q t e f = let k : suc n ≡ n + 1 = omega arith in f ∙ ap step e ∙ ap (λ j. steps j p) k
-
-spent_range : (n : ℕ) (p : Progress) → (p.spent ≤ (steps n p).spent) × ((steps n p).spent ≤ p.spent + n)
-spent_range zero p = (omega arith, omega arith)
-spent_range (suc n) p =
-    let (a, b) = spent_range n p in
-    let q = steps n p in
-    by_cond (λ z. (p.spent ≤ z.spent) × (z.spent ≤ p.spent + suc n)) (has_ended q.state) q (moved q) (λ _. (omega arith, omega arith)) (λ _. (omega arith, omega arith))
-
-pub spent_in : (m n : ℕ) (p q : Progress) → q ≡ steps m p → m ≤ n → (p.spent ≤ q.spent) × (q.spent ≤ p.spent + n)
-spent_in m n p q e l = subst (λ z. (p.spent ≤ z.spent) × (z.spent ≤ p.spent + n)) (sym e) (let (a, b) = spent_range m p in (omega arith, omega arith))

@@ -30,6 +30,10 @@ pub record IsRefused (ends : Progress → Bool) (units : ℕ) (old new : Progres
   pub spent : new.spent ≡ old.spent + turns
   pub going : (n : ℕ) → n ≤ turns → ends (steps n old) ≡ false
 
+-- The turns of a call: all that it takes, or those up to one that memory was refused to.
+abbrev pub Goes : (Progress → Bool) → ℕ → Progress → Progress → Type 0
+Goes ends units old new = Takes ends units old new ⊎ IsRefused ends units old new
+
 -- What a call of so many units answers and comes to. Where memory had been refused before, nothing changes.
 abbrev pub Grows : {X E : Type 0} → (Progress → Bool) → ℕ → Result X E → Progress → Progress → Type 0
 Grows ends units result old new =
