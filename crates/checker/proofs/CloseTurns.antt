@@ -1,5 +1,5 @@
 -- Turns of the stage that closes the pairs.
-use Rattle.std.proofs.Common.{◌≡◌, ℕ, zero, suc, ◌+◌, ◌-◌, ◌<◌, ◌≤◌, Bool, true, false, not, cond, ◌&&◌, ◌||◌, nat_lt, List, [], ◌∷◌, ◌++◌, length, length-append, slice_index_or, slice_set, ◌==◌, Result, Ok, Err, inl, inr, refl, sym, ◌∙◌, ap, subst, arith, tests}
+use Rattle.std.proofs.Common.{◌≡◌, ℕ, zero, suc, ◌+◌, ◌-◌, ◌<◌, ◌≤◌, Bool, true, false, not, cond, ◌&&◌, ◌||◌, nat_lt, List, [], ◌∷◌, ◌++◌, length, length-append, slice_index_or, ◌==◌, Result, Ok, Err, inl, inr, refl, sym, ◌∙◌, ap, subst, arith, tests}
 use Rattle.std.specs.List.{list_any}
 use Rattle.std.specs.FinSet as set
 use Rattle.std.specs.Ordering.{nat_cmp}
@@ -7,13 +7,12 @@ use native.Mathlib.Decide.{dec_lt}
 use Rattle.misere_theory.specs.Certificates.{Certificate}
 use Rattle.monoid_table.specs.Grids.{Grid}
 use Rattle.transition_algebra.specs.declared.pair.Pair.{Pair}
-use Rattle.transition_algebra.specs.Pairs.{one, times, covers}
-use Rattle.pair_closure.specs.Turns.{State}
-use Rattle.pair_closure.specs.Turns as turning
+use Rattle.pair_closure.specs.declared.members.Member.{Member}
+use Rattle.pair_closure.specs.OptionLaws.{some_or_empty}
+use Rattle.pair_closure.specs.Turns.{State, heap_turn, pending}
 use Rattle.pair_closure.specs.Progress.{Progress, begun, turn, moved, step, steps, has_ended, is_over, is_done, blank_held}
 use Rattle.pair_closure.specs.Positions.{rising, word}
 use Rattle.pair_closure.specs.Calls.{ended_or_kept, Grows, Takes, IsRefused}
-use Rattle.pair_closure.proofs.PairLaws.{some_or_empty}
 use Rattle.checker.specs.Sheets.{IsPortion}
 use Rattle.checker.specs.Rules.{Obeys, Breaks}
 use Rattle.checker.specs.Views.{ClosingView}
@@ -32,28 +31,18 @@ grows_cond : (s t u : State) (b : Bool) → MoreMembers s t → MoreMembers s u 
 grows_cond s t u true g h = g
 grows_cond s t u false g h = h
 
-grows_keep : (s t : State) (x : Pair) (parent heap by : ℕ) → length s.members ≤ length t.members → MoreMembers s (turning.keep one (times s.table) covers t x parent heap by)
-grows_keep s t x parent heap by g = let e = length-append t.members (record { pair = x; parent = parent; heap = heap } ∷ []) in omega arith
-
-product_grows : (s : State) (i : ℕ) → MoreMembers s (turning.product_turn one (times s.table) covers s i)
-product_grows s i =
-    let t : State = record s { held = slice_set s.held i (turning.multiplied one (times s.table) covers (slice_index_or s.held i blank_held)) } in
-    grows_cond s t _ _ (omega arith) (grows_keep s t _ _ _ 0 (omega arith))
-
-heap_grows : (s : State) → MoreMembers s (turning.heap_turn one (times s.table) covers s)
-heap_grows s =
-    let t : State = record s { next = s.next + 1 } in
-    let u : State = record s { generators = s.generators ++ record { pair = slice_index_or s.heaps s.next one; heap = s.next + 1 } ∷ []; next = s.next + 1 } in
-    grows_cond s t _ _ (omega arith) (grows_keep s u _ _ _ 0 (omega arith))
+grows_after : (s : State) (b : Bool) (m : Member) → length s.members ≤ length (cond b s.members (s.members ++ m ∷ []))
+grows_after s true m = omega arith
+grows_after s false m = let e = length-append s.members (m ∷ []) in omega arith
 
 members_grow : (s : State) → MoreMembers s (turn s)
 members_grow s =
     grows_cond s s _ (is_over s) (omega arith)
     (grows_cond s _ _ (nat_lt 0 (length s.members))
-    (grows_cond s _ _ (nat_lt (turning.pending one (times s.table) covers s) (length s.held))
-    (product_grows s (turning.pending one (times s.table) covers s))
-    (grows_cond s (turning.heap_turn one (times s.table) covers s) s (nat_lt s.next (length s.heaps)) (heap_grows s) (omega arith)))
-    (grows_keep s s one 0 0 (length s.heaps) (omega arith)))
+    (grows_cond s _ _ (nat_lt (pending s) (length s.held))
+    (grows_after s _ _)
+    (grows_cond s (heap_turn s) s (nat_lt s.next (length s.heaps)) (grows_after s _ _) (omega arith)))
+    (grows_after s false _))
 
 step_moves : (p : Progress) → has_ended p.state ≡ false → step p ≡ moved p
 step_moves p e = rw e

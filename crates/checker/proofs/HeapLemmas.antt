@@ -17,7 +17,7 @@ use Rattle.pair_closure.specs.Positions.{as_pair, kept, IsClaimOver, IsClosedOve
 use Rattle.pair_closure.specs.Progress.{blank_held}
 use Rattle.pair_closure.specs.declared.settle.Held.{Held}
 use Rattle.pair_closure.specs.Turns.{State}
-use Rattle.pair_closure.proofs.Positions.{items_have, has_items}
+use Rattle.pair_closure.specs.OptionLaws.{items_have, has_items}
 use Rattle.certificate.specs.Pieces.{Pieces, certificate_of}
 use Rattle.checker.specs.Sheets.{IsPortion}
 use Rattle.checker.specs.Rules.{Obeys, Breaks, HeldObey}

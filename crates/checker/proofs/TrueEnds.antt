@@ -16,7 +16,7 @@ use Rattle.misere_theory.proofs.Shuffles.Shuffled.{Same, Under, Flip, Then}
 use Rattle.monoid_table.specs.Grids.{Grid, IsShaped, entry}
 use Rattle.monoid_table.specs.Tables.{IsTableGrid}
 use Rattle.transition_algebra.specs.declared.pair.Pair.{Pair}
-use Rattle.transition_algebra.specs.Pairs.{IsPair, one, times, covers, is_empty}
+use Rattle.transition_algebra.specs.Pairs.{IsPair, is_empty}
 use Rattle.transition_algebra.specs.Pretending.{Pretending, IsPretending}
 use Rattle.transition_algebra.specs.Heaps.{Agrees, IsInto, IsHeapPairs, AreAllHeapPairs, all_heap_pairs}
 use Rattle.transition_algebra.specs.Work.{heap_cost}
@@ -293,9 +293,7 @@ module _ (bytes : List ℕ) (limit : ℕ) where
     same = let a = k.same in let b = known.same p in record { table = b.table ∙ a.table; heaps = b.heaps ∙ a.heaps; limit = b.limit ∙ a.limit }
 
     reached : t ≡ closing.turns (suc k.taken) (turning.start (grid_of c) pairs limit)
-    reached =
-        ap (λ g. turning.turn one (times g) covers p.state) k.same.table
-        ∙ ap (λ s. turning.turn one (times (grid_of c)) covers s) k.reached
+    reached = ap turning.turn k.reached
 
     over : IsClaimOver c.code (claim_of c) t.table t.heaps
     over =

@@ -1,34 +1,18 @@
 -- What calls come to, as the code goes.
-use Rattle.std.proofs.Common.{◌≡◌, ℕ, zero, suc, ◌+◌, ◌*◌, ◌<◌, ◌≤◌, ◌↔◌, Bool, true, false, ◌||◌, List, length, refl, sym, ap, ◌∙◌, subst, inl, inr, arith, nat_lt, lt-ltb, le-ltb, ltb-true, ltb-false, Result, Ok, Err, IsErr}
+use Rattle.std.proofs.Common.{◌≡◌, ℕ, zero, suc, ◌+◌, ◌*◌, ◌<◌, ◌≤◌, ◌↔◌, Bool, true, false, ◌||◌, List, length, refl, sym, ap, ◌∙◌, subst, inl, inr, arith, nat_lt, lt-ltb, le-ltb}
 use native.Mathlib.Decide.{dec_lt}
 use Rattle.monoid_table.specs.Grids.{Grid}
 use Rattle.transition_algebra.specs.declared.pair.Pair.{Pair}
-use Rattle.transition_algebra.specs.Pairs.{one, times, covers}
-use Rattle.pair_closure.specs.Turns.{State}
-use Rattle.pair_closure.specs.Turns as turning
-use Rattle.pair_closure.specs.Progress.{Progress, IsRun, begun, turns, turn, steps, step, stopped, moved, has_ended}
-use Rattle.pair_closure.specs.Calls.{Takes, IsRefused, Grows, IsLimited, ended, ended_or_kept, cost, retaken}
+use Rattle.pair_closure.specs.Turns.{has_ended, turn}
+use Rattle.pair_closure.specs.Progress.{Progress, begun, steps, step, stopped, moved, retaken}
+use Rattle.pair_closure.specs.Calls.{Takes, IsRefused, ended, ended_or_kept, cost}
 use Rattle.pair_closure.proofs.Lists.{by_cond, either, not_both, true_or}
-use Rattle.pair_closure.proofs.Machine.{of_run, kept_by_turns}
-use Rattle.pair_closure.proofs.Running.{step_moves, step_stays, same_steps, stays_put, same_after, ends_within}
-
--- ---- the limit
-
-kept_within : (s : State) (limit members : ℕ) → limit ≡ s.limit → members ≡ length s.members → members ≤ limit + 1 → IsLimited s
-kept_within s limit members e f h = record {
-  within = λ b. ltb-false s.limit (length s.members) b;
-  over = λ b. let more : s.limit < length s.members = ltb-true s.limit (length s.members) b in omega arith;
-}
-
-pub limited : (p : Progress) → IsRun p → IsLimited p.state
-limited p r = elim (kept_by_turns p.state (of_run p r)) [
-  | inl e ↦ (let none = ap (λ z. length z.members) e in kept_within p.state p.state.limit (length p.state.members) refl refl (omega arith))
-  | inr v ↦ kept_within p.state p.state.limit (length p.state.members) refl refl v.within
-]
+use Rattle.pair_closure.proofs.Bound.{ends_within}
+use Rattle.pair_closure.proofs.Running.{state_steps, step_moves, step_stays, same_after}
 
 -- ---- ends
 
-or_false : (a b : Bool) → (a || b) ≡ false → (a ≡ false) × (b ≡ false)
+pub or_false : (a b : Bool) → (a || b) ≡ false → (a ≡ false) × (b ≡ false)
 or_false true b e = absurd (cc)
 or_false false b e = (refl, e)
 
@@ -107,15 +91,6 @@ module _ (ends : Progress → Bool) (implies : Ends ends) (p : Progress) where
       going = λ m k. one_more n q reached going f m (omega arith);
     }
 
-  -- a call that goes on answers no want of memory
-  pub grows : {X E : Type 0} (units : ℕ) (r : Result X E) (q : Progress) → p.failed ≡ false → Takes ends units p q → (IsErr r → q.failed ≡ true) → Grows ends units r p q
-  grows units (Ok x) q f t h = (t, tt)
-  grows units (Err x) q f t h = (tt, absurd (not_both (h refl) (ap (λ z. z.failed) t.reached ∙ same_failed t.turns p ∙ f)))
-
-  pub grows_not : {X E : Type 0} (units : ℕ) (r : Result X E) (q : Progress) → IsRefused ends units p q → IsErr r → Grows ends units r p q
-  grows_not units (Ok x) q t h = absurd (cc)
-  grows_not units (Err x) q t h = (tt, inr t)
-
 -- ---- how many turns there are
 
 -- a call without a member to stop at takes all units, or ends
@@ -150,27 +125,6 @@ taken_alike ends units p q r a b =
         | no k ↦ let d : a.turns ≡ b.turns = omega arith in a.reached ∙ ap (λ n. steps n p) d ∙ sym b.reached
       ]
     ]
-
--- the same turns, of the state alone
-state_steps : (n : ℕ) (p : Progress) → (steps n p).state ≡ turns n p.state
-state_steps zero p = refl
-state_steps (suc n) p =
-    let q = steps n p in
-    let same : q.state.table ≡ p.state.table = (same_steps n p).table in
-    let t : turn q.state ≡ turning.turn one (times p.state.table) covers q.state = ap (λ g. turning.turn one (times g) covers q.state) same in
-    by_cond (λ z. z.state ≡ turns (suc n) p.state) (has_ended q.state) q (moved q)
-    (λ e. sym (stays_put q.state e) ∙ t ∙ ap (turning.turn one (times p.state.table) covers) (state_steps n p))
-    (λ _. t ∙ ap (turning.turn one (times p.state.table) covers) (state_steps n p))
-
--- what the turns from the beginning reach is what the code holds
-pub run_retaken : (p : Progress) → IsRun p → p ≡ retaken p
-run_retaken p r =
-    let first = begun p.state.table p.state.heaps p.state.limit in
-    let n : ℕ = p.spent in
-    let same : (steps n first).state ≡ p.state = state_steps n first ∙ sym r.reached in
-    let all : (steps n first).spent ≡ 0 + n = all_spent ended ended_ends first n (λ m l. ap has_ended (state_steps m first) ∙ r.going m l) in
-    let count : p.spent ≡ (steps n first).spent = omega arith in
-    ap (λ s. record { state = s; spent = p.spent; failed = p.failed }) (sym same) ∙ ap (λ k. record { state = (steps n first).state; spent = k; failed = p.failed }) count
 
 module _ (table : Grid) (heaps : List Pair) (limit : ℕ) where
   abbrev after : ℕ → Progress

@@ -1,17 +1,16 @@
 -- What turns up to one that keeps a member leave of those held.
-use Rattle.std.proofs.Common.{◌≡◌, ℕ, zero, suc, ◌+◌, ◌-◌, ◌<◌, ◌≤◌, Bool, true, not, List, [], ◌∷◌, ◌++◌, length, length-append, get_or, set, filter, refl, sym, ap, ◌∙◌, subst, inl, inr, arith, nat_lt, Result, Ok, Err, OnOk, OnErr, IsErr}
+use Rattle.std.proofs.Common.{◌≡◌, ℕ, zero, suc, ◌-◌, ◌<◌, Bool, not, List, [], ◌∷◌, ◌++◌, length, length-append, get_or, set, filter, refl, sym, ap, ◌∙◌, subst, inl, inr, arith, nat_lt}
 use native.Mathlib.Decide.{dec_lt}
 use Rattle.std.proofs.lemmas.List.{get_or_append_left, length-set}
 use Rattle.transition_algebra.specs.declared.pair.Pair.{Pair}
-use Rattle.transition_algebra.specs.Pairs.{one, times, covers}
+use Rattle.transition_algebra.specs.Pairs.{one, covers}
 use Rattle.pair_closure.specs.declared.members.Member.{Member}
 use Rattle.pair_closure.specs.declared.settle.Held.{Held}
-use Rattle.pair_closure.specs.Turns.{State}
-use Rattle.pair_closure.specs.Turns as turning
-use Rattle.pair_closure.specs.Progress.{Progress, SameData, turn, has_ended, moved, step, steps, stopped, blank_held}
-use Rattle.pair_closure.specs.Keeping.{HasPair, KeepsOne, GrowsToMember}
-use Rattle.pair_closure.proofs.Lists.{by_cond, either, In-at, In-filter, place_of, same_after_set}
-use Rattle.pair_closure.proofs.Running.{data_of, next_steps, spent_in, step_moves, step_stays, stopped_is}
+use Rattle.pair_closure.specs.Turns.{State, blank_held, covered, multiplied, pending, is_over, has_ended, turn}
+use Rattle.pair_closure.specs.Progress.{Progress, moved, steps}
+use Rattle.pair_closure.specs.Keeping.{HasPair, KeepsOne}
+use Rattle.pair_closure.proofs.WhichTurn.{product_at, product_if, heap_if}
+use Rattle.pair_closure.proofs.Lists.{by_case, by_cond, In-at, In-filter, place_of, same_after_set}
 
 -- each pair of ys is one of xs
 abbrev Inherits : List Held → List Held → Type 0
@@ -55,31 +54,27 @@ module _ (s : State) where
         ];
       }
 
-  abbrev kept_as : Pair → List Held → List Held
-  kept_as x held = filter (λ m. not (covers x m.pair)) held
+  abbrev given_up : Pair → List Held → List Held
+  given_up x held = filter (λ m. not (covers x m.pair)) held
 
   pub keeps_after : KeepsOne s (turn s)
   keeps_after =
-      let t = s.table in
-      let i = turning.pending one (times t) covers s in
-      let m = get_or s.held i (turning.no_held one (times t) covers) in
-      let g = get_or s.generators m.by (turning.no_generator one (times t) covers) in
-      let x = times t m.pair g.pair in
+      let at = pending s in
       let y = get_or s.heaps s.next one in
-      let written = set s.held i (turning.multiplied one (times t) covers m) in
-      let same = inherits_set s.held i (turning.multiplied one (times t) covers m) (turning.no_held one (times t) covers) refl in
-      by_cond (KeepsOne s) (nat_lt s.limit (length s.members)) _ _ (λ _. unkept s refl (inherits_itself s.held)) (λ _.
+      let written = set s.held at (multiplied (get_or s.held at blank_held)) in
+      let same = inherits_set s.held at (multiplied (get_or s.held at blank_held)) blank_held refl in
+      by_cond (KeepsOne s) (is_over s) _ _ (λ _. unkept s refl (inherits_itself s.held)) (λ _.
       by_cond (KeepsOne s) (nat_lt 0 (length s.members)) _ _
-      (λ _. by_cond (KeepsOne s) (nat_lt i (length s.held)) _ _
-      (λ _. by_cond (KeepsOne s) (turning.covered one (times t) covers s.held x) _ _
+      (λ _. by_cond (KeepsOne s) (nat_lt at (length s.held)) _ _
+      (λ _. by_case (λ b. KeepsOne s (product_if s at b)) (covered s.held (product_at s at))
       (λ _. unkept _ refl same)
-      (λ _. pushed _ _ (kept_as x written) _ refl refl (inherits_filter s.held written _ same)))
+      (λ _. pushed _ _ (given_up (product_at s at) written) _ refl refl (inherits_filter s.held written _ same)))
       (λ _. by_cond (KeepsOne s) (nat_lt s.next (length s.heaps)) _ _
-      (λ _. by_cond (KeepsOne s) (turning.covered one (times t) covers s.held y) _ _
+      (λ _. by_case (λ b. KeepsOne s (heap_if s b)) (covered s.held y)
       (λ _. unkept _ refl (inherits_itself s.held))
-      (λ _. pushed _ _ (kept_as y s.held) _ refl refl (inherits_filter s.held s.held _ (inherits_itself s.held))))
+      (λ _. pushed _ _ (given_up y s.held) _ refl refl (inherits_filter s.held s.held _ (inherits_itself s.held))))
       (λ _. unkept s refl (inherits_itself s.held))))
-      (λ _. pushed _ _ (kept_as one s.held) _ refl refl (inherits_filter s.held s.held _ (inherits_itself s.held))))
+      (λ _. pushed _ _ (given_up one s.held) _ refl refl (inherits_filter s.held s.held _ (inherits_itself s.held))))
 
 pub keeps_none : (s : State) → KeepsOne s s
 keeps_none s = unkept s s refl (inherits_itself s.held)
@@ -101,71 +96,9 @@ keeps_then s t u a e b =
       ];
     }
 
-keeps_one : (p : Progress) (n : ℕ) → ((m : ℕ) → m < n → length (steps m p).state.members ≡ length p.state.members) → KeepsOne p.state (steps n p).state
+pub keeps_one : (p : Progress) (n : ℕ) → ((m : ℕ) → m < n → length (steps m p).state.members ≡ length p.state.members) → KeepsOne p.state (steps n p).state
 keeps_one p zero h = keeps_none p.state
 keeps_one p (suc n) h =
     let q = steps n p in
     let a = keeps_one p n (λ m l. h m (omega arith)) in
     by_cond (λ z. KeepsOne p.state z.state) (has_ended q.state) q (moved q) (λ _. a) (λ _. keeps_then p.state q.state (turn q.state) a (h n (omega arith)) (keeps_after q.state))
-
-pub keeps_of : (units : ℕ) (p q : Progress) → GrowsToMember units p q → KeepsOne p.state q.state
-keeps_of units p q g = subst (λ z. KeepsOne p.state z.state) (sym g.reached) (keeps_one p g.turns g.first)
-
--- one turn more that keeps nothing
-pub no_member : (n : ℕ) (p q : Progress) → ((m : ℕ) → m < n + 1 → length (steps m p).state.members ≡ length p.state.members) → q ≡ steps (n + 1) p → length q.state.members ≡ length p.state.members
-    → (m : ℕ) → m < n + 1 + 1 → length (steps m p).state.members ≡ length p.state.members
-no_member n p q h e k m l = elim (dec_lt m (n + 1)) [
-  | yes b ↦ h m b
-  | no b ↦ let d : n + 1 ≡ m = omega arith in subst (λ j. length (steps j p).state.members ≡ length p.state.members) d (ap (λ z. length z.state.members) (sym e) ∙ k)
-]
-
--- ---- as the code goes
-
-abbrev pub NoneKept : Progress → ℕ → Type 0
-NoneKept p n = (m : ℕ) → m < n → length (steps m p).state.members ≡ length p.state.members
-
-module _ (n units : ℕ) (p q : Progress) (reached : q ≡ steps n p) (none : NoneKept p (n + 1)) where
-  -- where a turn is left
-  pub goes : (t : Progress) → n < units → t ≡ step q → GrowsToMember units p t
-  goes t l e = record { turns = n + 1; within = omega arith; reached = next_steps n p q t reached e; first = none }
-
-  -- where there is no unit left, or none was there
-  pub rests : n ≤ units → GrowsToMember units p q
-  rests l = record { turns = n; within = l; reached = reached; first = λ m k. none m (omega arith) }
-
-pub grown_data : (units : ℕ) (p q : Progress) → GrowsToMember units p q → SameData p.state q.state
-grown_data units p q g = data_of g.turns p q g.reached
-
-pub grown_spent : (units : ℕ) (p q : Progress) → GrowsToMember units p q → (p.spent ≤ q.spent) × (q.spent ≤ p.spent + units)
-grown_spent units p q g = spent_in g.turns units p q g.reached g.within
-
--- a closure that has failed stands as it is
-pub refused_at : {X E : Type 0} (r : Result X E) (units : ℕ) (p q : Progress) → GrowsToMember units p q → (IsErr r → q.failed ≡ true) → OnErr r ((n : ℕ) × (n ≤ units) × (q ≡ stopped (steps n p)))
-refused_at (Ok x) units p q g h = tt
-refused_at (Err e) units p q g h = (g.turns, g.within, stopped_is q (h refl) ∙ ap stopped g.reached)
-
-pub on_ok : {X E P : Type 0} (r : Result X E) → P → OnOk r P
-on_ok (Ok x) p = p
-on_ok (Err e) p = tt
-
--- a turn that counts for nothing changes nothing
-unspent : (n : ℕ) (p : Progress) → (steps n p).spent ≤ p.spent → (steps n p).state ≡ p.state
-unspent zero p l = refl
-unspent (suc n) p l =
-    let q = steps n p in
-    let m = (spent_in n n p q refl (omega arith)).0 in
-    elim (either (has_ended q.state)) [
-      | inl e ↦ (let h = step_stays q e in ap (λ z. z.state) h ∙ unspent n p (let k = ap (λ z. z.spent) h in omega arith))
-      | inr go ↦ (let k = ap (λ z. z.spent) (step_moves q go) in absurd (omega arith))
-    ]
-
-pub grown_costs : (units : ℕ) (p q : Progress) → GrowsToMember units p q → length p.state.members < length q.state.members → p.spent < q.spent
-grown_costs units p q g l = elim (dec_lt p.spent q.spent) [
-  | yes b ↦ b
-  | no b ↦
-      let e = g.reached in
-      let k = ap (λ z. z.spent) e in
-      let h = ap (λ z. z.state) e ∙ unspent g.turns p (omega arith) in
-      let m = ap (λ z. length z.members) h in
-      absurd (omega arith)
-]

@@ -1,17 +1,20 @@
 pub mod Lists
-pub mod CoverLaws
 pub mod PairLaws
 pub mod ChainLaws
+pub mod WhichTurn
 pub mod Invariant
+pub mod EachTurn
 pub mod FromStart
 pub mod Theorem
-pub mod Machine
-pub mod PendingLaws
+pub mod Bound
 pub mod Running
+pub mod Machine
+pub mod Calls
+pub mod Runs
+pub mod PendingLaws
 pub mod Turned
 pub mod Positions
 pub mod Words
-pub mod Bound
 mod Keeping
-pub mod Calls
+mod Taken
 mod Rising

@@ -1,5 +1,5 @@
 -- Elements of lists, by recursion.
-use Rattle.std.proofs.Common.{◌≡◌, ℕ, zero, suc, ◌<◌, Bool, true, false, cond, List, [], ◌∷◌, ◌++◌, length, get_or, set, refl, sym, ap, ◌∙◌, subst, inl, inr, ◌⊎◌, arith, ◌||◌, filter, AllPairs, Contains, cond}
+use Rattle.std.proofs.Common.{◌≡◌, ℕ, zero, suc, ◌<◌, Bool, true, false, cond, List, [], ◌∷◌, ◌++◌, length, get_or, set, refl, sym, ap, ◌∙◌, subst, inl, inr, ◌⊎◌, arith, ◌||◌, filter, AllPairs, Contains, map}
 use Rattle.std.specs.List.{list_any}
 use Rattle.std.proofs.lemmas.List.{length-set}
 
@@ -10,6 +10,18 @@ In x (y ∷ ys) = (x ≡ y) ⊎ In x ys
 pub by_cond : {A : Type 0} (P : A → Type 0) (b : Bool) (x y : A) → (b ≡ true → P x) → (b ≡ false → P y) → P (cond b x y)
 by_cond P true x y f g = f refl
 by_cond P false x y f g = g refl
+
+pub by_case : (P : Bool → Type 0) (b : Bool) → (b ≡ true → P true) → (b ≡ false → P false) → P b
+by_case P true f g = f refl
+by_case P false f g = g refl
+
+pub if_true : {A : Type 0} (b : Bool) (x y : A) → b ≡ true → cond b x y ≡ x
+if_true true x y e = refl
+if_true false x y e = absurd (cc)
+
+pub if_false : {A : Type 0} (b : Bool) (x y : A) → b ≡ false → cond b x y ≡ y
+if_false true x y e = absurd (cc)
+if_false false x y e = refl
 
 pub or_true : (a b : Bool) → (a || b) ≡ true → (a ≡ true) ⊎ (b ≡ true)
 or_true true b e = inl refl
@@ -131,3 +143,11 @@ module _ {A : Type 0} where
       let len = length-set xs i v in
       from _ _ (subst (λ a. Q a (f (get_or (set xs i v) k c))) (sym (same_after_set f xs i v d e j c))
       (subst (λ a. Q (f (get_or xs j c)) a) (sym (same_after_set f xs i v d e k c)) (to _ _ (all j k c p (omega arith)))))
+
+pub In-map : {A B : Type 0} (f : A → B) (xs : List A) (x : A) → In x xs → In (f x) (map f xs)
+In-map f [] x i = i
+In-map f (y ∷ ys) x i = elim i [ inl e ↦ inl (ap f e) | inr k ↦ inr (In-map f ys x k) ]
+
+pub from_map : {A B : Type 0} (f : A → B) (xs : List A) (y : B) → In y (map f xs) → (x : A) × In x xs × (y ≡ f x)
+from_map f [] y i = absurd i
+from_map f (x ∷ xs) y i = elim i [ inl e ↦ (x, inl refl, e) | inr k ↦ let (z, j, q) = from_map f xs y k in (z, inr j, q) ]

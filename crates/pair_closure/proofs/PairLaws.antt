@@ -1,17 +1,15 @@
 -- Covering, number by number; products respect it.
-use Rattle.std.proofs.Common.{◌≡◌, ℕ, Bool, true, false, not, List, [], ◌∷◌, refl, sym, ap, ◌∙◌, subst, inl, inr, ◌⊎◌, ◌&&◌, eqb-true, eq-eqb}
-use Rattle.std.specs.List.{list_any}
-use Rattle.std.specs.Ordering.{nat_cmp}
-use Rattle.std.specs.Cmp.{nat_cmp_total, unsigned_tied}
+use Rattle.std.proofs.Common.{◌≡◌, ℕ, Bool, true, false, not, refl, sym, ap, ◌∙◌, subst, inl, inr, ◌&&◌, eqb-true, eq-eqb}
+use Rattle.std.specs.Cmp.{nat_cmp_total}
 use Rattle.std.specs.FinSet as set
-use Rattle.std.specs.FinSet.{is_subset-contains, contains-is_subset, contains-items}
+use Rattle.std.specs.FinSet.{is_subset-contains, contains-is_subset}
 use Rattle.monoid_table.specs.Grids.{Grid, times_in}
 use Rattle.monoid_table.specs.Tables.{IsTableGrid}
 use Rattle.transition_algebra.specs.declared.pair.Pair.{Pair}
-use Rattle.transition_algebra.specs.Pairs.{IsPair, times, is_empty, covers}
+use Rattle.transition_algebra.specs.Pairs.{IsPair, times, covers}
 use Rattle.transition_algebra.specs.PairLaws.{has, empty_has, times_has, has_left, has_right}
-use Rattle.pair_closure.proofs.CoverLaws.{CoverLaws}
-use Rattle.pair_closure.proofs.Lists.{or_true, true_or, not_both, either}
+use Rattle.pair_closure.specs.OptionLaws.{some_or_empty}
+use Rattle.pair_closure.proofs.Lists.{or_true, true_or, not_both}
 
 both : (a b : Bool) → (a && b) ≡ true → (a ≡ true) × (b ≡ true)
 both true true e = (refl, refl)
@@ -22,18 +20,6 @@ both_from : (a b : Bool) → a ≡ true → b ≡ true → (a && b) ≡ true
 both_from true true e f = refl
 both_from true false e f = absurd (cc)
 both_from false b e f = absurd (cc)
-
--- some member, or none
-pub some_or_empty : (s : set.FinSet nat_cmp) → (is_empty s ≡ false × ((x : ℕ) × has s x)) ⊎ (is_empty s ≡ true × ((x : ℕ) → has s x → ⊥))
-some_or_empty s = split (set.items s) refl
-  where
-    split : (xs : List ℕ) → set.items s ≡ xs → (is_empty s ≡ false × ((x : ℕ) × has s x)) ⊎ (is_empty s ≡ true × ((x : ℕ) → has s x → ⊥))
-    split [] e =
-        let none : (x : ℕ) → has s x → ⊥ = λ x h. not_both (sym (contains-items s x ∙ ap (list_any _) e) ∙ h) refl in
-        inr (contains-is_subset nat_cmp_total s set.empty (λ q h. absurd (none q h)), none)
-    split (x ∷ xs) e =
-        let h : has s x = contains-items s x ∙ ap (list_any _) e ∙ true_or _ _ (inl (unsigned_tied x x ∙ eq-eqb x x refl)) in
-        inl (elim (either (is_empty s)) [ inl t ↦ absurd (empty_has x (is_subset-contains nat_cmp_total s set.empty t x h)) | inr f ↦ f ], (x, h))
 
 pub record Covering (p r : Pair) : Type 0 where
   pub value : p.value ≡ r.value
@@ -64,25 +50,26 @@ covers_from p r c = both_from _ _ (eq-eqb _ _ c.value) (both_from _ _ (contains-
       inr (elim (some_or_empty p.options) [ inl u ↦ ap not u.0 | inr u ↦ absurd (u.1 x h) ])
 ])))
 
-module _ (t : Grid) (lawful : IsTableGrid t) where
-  pub cover_laws : CoverLaws (IsPair t.order) (times t) covers
-  cover_laws = record {
-    itself = λ p a. covers_from p p (record { value = refl; among = λ y h. h; some = λ y h. (y, h) });
-    trans = λ p r u a b c d e.
-        let f = covering p r d in
-        let g = covering r u e in
-        covers_from p u (record { value = f.value ∙ g.value; among = λ y h. g.among y (f.among y h); some = λ y h. let (x, k) = g.some y h in f.some x k });
-    grows = λ p r u a b c d.
-        let f = covering p r d in
-        covers_from (times t p u) (times t r u) (record {
-          value = ap (λ v. times_in t v u.value) f.value;
-          among = λ y h. elim (times_has t lawful p u y h) [
-            | inl (x, k, e) ↦ subst (has (times t r u).options) (ap (λ v. times_in t v x) (sym f.value) ∙ e) (has_right t lawful r u c x k)
-            | inr (x, k, e) ↦ subst (has (times t r u).options) e (has_left t lawful r u b x (f.among x k))
-          ];
-          some = λ y h. elim (times_has t lawful r u y h) [
-            | inl (x, k, e) ↦ (times_in t p.value x, has_right t lawful p u c x k)
-            | inr (x, k, e) ↦ let (z, l) = f.some x k in (times_in t u.value z, has_left t lawful p u a z l)
-          ];
-        });
-  }
+pub covers_itself : (p : Pair) → covers p p ≡ true
+covers_itself p = covers_from p p (record { value = refl; among = λ y h. h; some = λ y h. (y, h) })
+
+pub covers_trans : (p r u : Pair) → covers p r ≡ true → covers r u ≡ true → covers p u ≡ true
+covers_trans p r u d e =
+    let f = covering p r d in
+    let g = covering r u e in
+    covers_from p u (record { value = f.value ∙ g.value; among = λ y h. g.among y (f.among y h); some = λ y h. let (x, k) = g.some y h in f.some x k })
+
+pub covers_grows : (t : Grid) → IsTableGrid t → (p r u : Pair) → IsPair t.order p → IsPair t.order r → IsPair t.order u → covers p r ≡ true → covers (times t p u) (times t r u) ≡ true
+covers_grows t lawful p r u a b c d =
+    let f = covering p r d in
+    covers_from (times t p u) (times t r u) (record {
+      value = ap (λ v. times_in t v u.value) f.value;
+      among = λ y h. elim (times_has t lawful p u y h) [
+        | inl (x, k, e) ↦ subst (has (times t r u).options) (ap (λ v. times_in t v x) (sym f.value) ∙ e) (has_right t lawful r u c x k)
+        | inr (x, k, e) ↦ subst (has (times t r u).options) e (has_left t lawful r u b x (f.among x k))
+      ];
+      some = λ y h. elim (times_has t lawful r u y h) [
+        | inl (x, k, e) ↦ (times_in t p.value x, has_right t lawful p u c x k)
+        | inr (x, k, e) ↦ let (z, l) = f.some x k in (times_in t u.value z, has_left t lawful p u a z l)
+      ];
+    })

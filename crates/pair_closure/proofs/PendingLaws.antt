@@ -6,7 +6,7 @@ use Rattle.std.proofs.lemmas.List.{get_or_append_left, get_or-set_other, length-
 use Rattle.pair_closure.specs.declared.settle.Held.{Held}
 use Rattle.transition_algebra.specs.declared.pair.Pair.{Pair}
 use Rattle.transition_algebra.specs.Pairs.{covers}
-use Rattle.pair_closure.specs.Progress.{blank_held, first_pending, held_with, NoneBefore}
+use Rattle.pair_closure.specs.Turns.{blank_held, first_pending, held_with, NoneBefore}
 
 pub pending_here : (held : List Held) (n at : ℕ) → NoneBefore held n at → at < length held → (get_or held at blank_held).by < n → at ≡ first_pending held n
 pending_here held n at before l b = sym (position_or_len_is (λ m. nat_lt m.by n) held at blank_held (omega arith) (λ k h. le-ltb _ _ (before k h (omega arith))) (λ _. lt-ltb _ _ b))

@@ -1,173 +1,38 @@
 -- Turns one after another.
-use Rattle.std.proofs.Common.{◌≡◌, ℕ, zero, suc, ◌+◌, ◌-◌, ◌*◌, ◌^◌, ◌<◌, ◌≤◌, Bool, true, false, cond, not, ◌||◌, List, [], ◌∷◌, ◌++◌, length, length-append, get_or, refl, sym, ap, ◌∙◌, subst, inl, inr, ◌⊎◌, arith, nat_lt, lt-ltb, le-ltb}
-use Rattle.std.proofs.Math.Nat.{mul-le-mul}
-use Rattle.std.proofs.lemmas.Bool.{cases_lt}
-use Rattle.monoid_table.specs.Grids.{Grid}
-use Rattle.monoid_table.specs.Tables.{IsTableGrid}
-use Rattle.transition_algebra.specs.declared.pair.Pair.{Pair}
-use Rattle.transition_algebra.specs.Pairs.{IsPair, one, times, covers}
+use Rattle.std.proofs.Common.{◌≡◌, ℕ, zero, suc, ◌+◌, ◌-◌, ◌≤◌, Bool, true, false, cond, [], ◌∷◌, ◌++◌, length, length-append, get_or, refl, sym, ap, ◌∙◌, arith, nat_lt}
+use Rattle.transition_algebra.specs.Pairs.{one}
 use Rattle.pair_closure.specs.declared.members.Member.{Member}
-use Rattle.pair_closure.specs.Turns.{State}
-use Rattle.pair_closure.specs.Turns as turning
-use Rattle.pair_closure.specs.Progress.{Progress, turn, turns, is_done, is_over, has_ended, moved, step, steps, stopped, SameData, IsRun, KeepsEmpty, Multiplies, TriesHeap}
-use Rattle.pair_closure.proofs.Lists.{either, or_true, true_or, by_cond, not_both}
-use Rattle.pair_closure.proofs.Machine.{Reached}
-use Rattle.pair_closure.proofs.Bound.{stays, ends}
-
-module _ (table : Grid) where
-  abbrev one_turn : State → State
-  one_turn s = turning.turn one (times table) covers s
-
-  abbrev many : ℕ → State → State
-  many n s = turning.turns one (times table) covers n s
-
-  abbrev tested : State → Pair → Bool
-  tested s x = turning.covered one (times table) covers s.held x
-
-  abbrev held_at : State → ℕ → Pair
-  held_at s i = (get_or s.held i (turning.no_held one (times table) covers)).pair
-
-  same_turn : (s : State) → SameData s (one_turn s)
-  same_turn s =
-      by_cond (SameData s) (nat_lt s.limit (length s.members)) _ _ (λ _. record { table = refl; heaps = refl; limit = refl }) (λ _.
-      by_cond (SameData s) (nat_lt 0 (length s.members)) _ _
-      (λ _. by_cond (SameData s) (nat_lt (turning.pending one (times table) covers s) (length s.held)) _ _
-      (λ _. by_cond (SameData s) (tested s (times table (held_at s (turning.pending one (times table) covers s)) (get_or s.generators (get_or s.held (turning.pending one (times table) covers s) (turning.no_held one (times table) covers)).by (turning.no_generator one (times table) covers)).pair)) _ _ (λ _. record { table = refl; heaps = refl; limit = refl }) (λ _. record { table = refl; heaps = refl; limit = refl }))
-      (λ _. by_cond (SameData s) (nat_lt s.next (length s.heaps)) _ _
-      (λ _. by_cond (SameData s) (tested s (get_or s.heaps s.next one)) _ _ (λ _. record { table = refl; heaps = refl; limit = refl }) (λ _. record { table = refl; heaps = refl; limit = refl }))
-      (λ _. record { table = refl; heaps = refl; limit = refl })))
-      (λ _. record { table = refl; heaps = refl; limit = refl }))
-
-  pub same_turns : (n : ℕ) (s : State) → SameData s (many n s)
-  same_turns zero s = record { table = refl; heaps = refl; limit = refl }
-  same_turns (suc n) s =
-      let a = same_turns n s in
-      let b = same_turn (many n s) in
-      record { table = b.table ∙ a.table; heaps = b.heaps ∙ a.heaps; limit = b.limit ∙ a.limit }
+use Rattle.pair_closure.specs.Turns.{State, SameData, covered, is_over, has_ended, pending, turn, turns}
+use Rattle.pair_closure.specs.Progress.{Progress, moved, step, steps, stopped}
+use Rattle.pair_closure.proofs.Lists.{by_cond, if_true, if_false}
+use Rattle.pair_closure.proofs.WhichTurn.{product_at, stays_put}
 
 pub same_after : (s : State) → SameData s (turn s)
-same_after s = same_turn s.table s
+same_after s =
+    let same : SameData s s = record { table = refl; heaps = refl; limit = refl } in
+    by_cond (SameData s) (is_over s) _ _ (λ _. same) (λ _.
+    by_cond (SameData s) (nat_lt 0 (length s.members)) _ _
+    (λ _. by_cond (SameData s) (nat_lt (pending s) (length s.held)) _ _
+    (λ _. record { table = refl; heaps = refl; limit = refl })
+    (λ _. by_cond (SameData s) (nat_lt s.next (length s.heaps)) _ _ (λ _. record { table = refl; heaps = refl; limit = refl }) (λ _. same)))
+    (λ _. record { table = refl; heaps = refl; limit = refl }))
 
--- what is reached from the start is reached from its own data
-pub from_data : (u : State) (n : ℕ) (table : Grid) (heaps : List Pair) (limit : ℕ) → u ≡ turning.turns one (times table) covers n (turning.start table heaps limit) → u.table ≡ table → u.heaps ≡ heaps → u.limit ≡ limit
-    → u ≡ turning.turns one (times u.table) covers n (turning.start u.table u.heaps u.limit)
-from_data u n table heaps limit e a b c =
-    e ∙ ap (λ t. turning.turns one (times t) covers n (turning.start t heaps limit)) (sym a)
-    ∙ ap (λ hs. turning.turns one (times u.table) covers n (turning.start u.table hs limit)) (sym b)
-    ∙ ap (λ k. turning.turns one (times u.table) covers n (turning.start u.table u.heaps k)) (sym c)
-
-pub pairs_in : (t q : Grid) (hs heaps : List Pair) → t ≡ q → hs ≡ heaps → ((k : ℕ) → k < length heaps → IsPair q.order (get_or heaps k one)) → (k : ℕ) → k < length hs → IsPair t.order (get_or hs k one)
-pairs_in t q hs heaps a b h = subst (λ z. (k : ℕ) → k < length hs → IsPair z.order (get_or hs k one)) (sym a) (subst (λ z. (k : ℕ) → k < length z → IsPair q.order (get_or z k one)) (sym b) h)
-
-pub reached_turns : (table : Grid) (heaps : List Pair) (limit n : ℕ) → IsTableGrid table → ((k : ℕ) → k < length heaps → IsPair table.order (get_or heaps k one)) → Reached (turning.turns one (times table) covers n (turning.start table heaps limit))
-reached_turns table heaps limit n lawful inside =
-    let u = turning.turns one (times table) covers n (turning.start table heaps limit) in
-    let d = same_turns table n (turning.start table heaps limit) in
-    record {
-      lawful = subst IsTableGrid (sym d.table) lawful;
-      heaps_in = pairs_in _ _ _ _ d.table d.heaps inside;
-      units = n;
-      reached = from_data u n table heaps limit refl d.table d.heaps d.limit;
-    }
-
--- ---- when no turn is left
-
-pub ended_how : (s : State) → has_ended s ≡ true → (is_over s ≡ true) ⊎ (is_done s ≡ true)
-ended_how s e = or_true (is_over s) (is_done s) e
-
-pub stays_put : (s : State) → has_ended s ≡ true → turn s ≡ s
-stays_put s e = stays one (times s.table) covers s (ended_how s e)
-
-pub ends_within : (table : Grid) (heaps : List Pair) (limit : ℕ) → has_ended (turns (limit * length heaps + 2) (turning.start table heaps limit)) ≡ true
-ends_within table heaps limit =
-    let s = turning.turns one (times table) covers (limit * length heaps + 2) (turning.start table heaps limit) in
-    let d = same_turns table (limit * length heaps + 2) (turning.start table heaps limit) in
-    subst (λ t. (turning.is_over one (times t) covers s || turning.is_done one (times t) covers s) ≡ true) (sym d.table)
-    (true_or (turning.is_over one (times table) covers s) (turning.is_done one (times table) covers s) (ends one (times table) covers table heaps limit))
-
-no_end : (over some more next : Bool) → over ≡ false → (some ≡ false) ⊎ (more ≡ true) ⊎ (next ≡ true) → (over || cond over false (cond some (cond more false (not next)) false)) ≡ false
-no_end true some more next e h = absurd (cc)
-no_end false false more next e h = refl
-no_end false true true next e h = refl
-no_end false true false true e h = refl
-no_end false true false false e h = elim h [ inl a ↦ absurd (cc) | inr b ↦ elim b [ inl a ↦ absurd (cc) | inr a ↦ absurd (cc) ] ]
-
-tests : (s : State) → nat_lt s.limit (length s.members) ≡ false → (nat_lt 0 (length s.members) ≡ false) ⊎ (nat_lt (turning.pending one (times s.table) covers s) (length s.held) ≡ true) ⊎ (nat_lt s.next (length s.heaps) ≡ true) → has_ended s ≡ false
-tests s a b = no_end (nat_lt s.limit (length s.members)) (nat_lt 0 (length s.members)) (nat_lt (turning.pending one (times s.table) covers s) (length s.held)) (nat_lt s.next (length s.heaps)) a b
-
-pub goes_empty : (s : State) → KeepsEmpty s → has_ended s ≡ false
-goes_empty s k = tests s (le-ltb _ _ k.room) (inl (let none = k.none in le-ltb _ _ (omega arith)))
-
-pub goes_product : (s : State) (at : ℕ) → Multiplies s at → has_ended s ≡ false
-goes_product s at k = tests s (le-ltb _ _ k.room) (inr (inl (lt-ltb _ _ (subst (λ i. i < length s.held) k.first k.within))))
-
-pub goes_heap : (s : State) → TriesHeap s → has_ended s ≡ false
-goes_heap s k = tests s (le-ltb _ _ k.room) (inr (inr (lt-ltb _ _ k.more)))
-
--- ---- the count of turns
-
-product_le : (a b c d : ℕ) → a ≤ c → b ≤ d → a * b ≤ c * d
-product_le a b c d h k = mul-le-mul h k
-
-pub spent_le : (p : Progress) → IsRun p → p.spent ≤ p.state.limit * length p.state.heaps + 2
-spent_le p r =
-    let s = p.state in
-    elim (cases_lt (s.limit * length s.heaps + 2) p.spent) [
-      | inl more ↦ absurd (not_both (ends_within s.table s.heaps s.limit) (r.going _ more))
-      | inr less ↦ less
-    ]
-
-pub spent_fits : (p : Progress) → IsRun p → p.spent + 1 < 2 ^ 128
-spent_fits p r =
-    let h = spent_le p r in
-    let short = r.short in
-    let small = r.small in
-    let k = product_le p.state.limit (length p.state.heaps) (2 ^ 32 - 1) (2 ^ 58 - 1) (omega arith) (omega arith) in
-    omega arith
-
--- one turn more
-pub next_run : (p : Progress) (t : State) (n : ℕ) → IsRun p → has_ended p.state ≡ false → t ≡ turn p.state → n ≡ p.spent + 1 → IsRun (record { state = t; spent = n; failed = p.failed })
-next_run p t n r going e m =
-    let s = p.state in
-    let d = same_after s in
-    let a : t.table ≡ s.table = ap (λ z. z.table) e ∙ d.table in
-    let b : t.heaps ≡ s.heaps = ap (λ z. z.heaps) e ∙ d.heaps in
-    let c : t.limit ≡ s.limit = ap (λ z. z.limit) e ∙ d.limit in
-    let q : suc p.spent ≡ n = omega arith in
-    let reach : t ≡ turning.turns one (times s.table) covers n (turning.start s.table s.heaps s.limit) =
-    e ∙ ap (turning.turn one (times s.table) covers) r.reached ∙ ap (λ k. turning.turns one (times s.table) covers k (turning.start s.table s.heaps s.limit)) q in
-    record {
-      lawful = subst IsTableGrid (sym a) r.lawful;
-      heaps_in = pairs_in _ _ _ _ a b r.heaps_in;
-      short = subst (λ z. length z < 2 ^ 58) (sym b) r.short;
-      small = subst (λ z. z < 2 ^ 32) (sym c) r.small;
-      reached = from_data t n s.table s.heaps s.limit reach a b c;
-      going = subst (λ z. (k : ℕ) → k < n → has_ended (turning.turns one (times z) covers k (turning.start z t.heaps t.limit)) ≡ false) (sym a)
-          (subst (λ z. (k : ℕ) → k < n → has_ended (turning.turns one (times s.table) covers k (turning.start s.table z t.limit)) ≡ false) (sym b)
-          (subst (λ z. (k : ℕ) → k < n → has_ended (turning.turns one (times s.table) covers k (turning.start s.table s.heaps z)) ≡ false) (sym c)
-          (λ k l. elim (cases_lt k p.spent) [
-            | inl less ↦ r.going k less
-            | inr here ↦ let same : p.spent ≡ k = omega arith in subst (λ j. has_ended (turning.turns one (times s.table) covers j (turning.start s.table s.heaps s.limit)) ≡ false) same (subst (λ z. has_ended z ≡ false) r.reached going)
-          ])));
-    }
+pub same_turns : (n : ℕ) (s : State) → SameData s (turns n s)
+same_turns zero s = record { table = refl; heaps = refl; limit = refl }
+same_turns (suc n) s =
+    let a = same_turns n s in
+    let b = same_after (turns n s) in
+    record { table = b.table ∙ a.table; heaps = b.heaps ∙ a.heaps; limit = b.limit ∙ a.limit }
 
 pub steps_add : (m n : ℕ) (p : Progress) → steps (m + n) p ≡ steps n (steps m p)
 steps_add m zero p = let q : m + 0 ≡ m = omega arith in ap (λ k. steps k p) q
 steps_add m (suc n) p = let q : m + suc n ≡ suc (m + n) = omega arith in ap (λ k. steps k p) q ∙ ap step (steps_add m n p)
 
 pub step_stays : (p : Progress) → has_ended p.state ≡ true → step p ≡ p
-step_stays p e = split (has_ended p.state) e
-  where
-    split : (b : Bool) → b ≡ true → cond b p (moved p) ≡ p
-    split true e = refl
-    split false e = absurd (cc)
+step_stays p e = if_true (has_ended p.state) p (moved p) e
 
 pub step_moves : (p : Progress) → has_ended p.state ≡ false → moved p ≡ step p
-step_moves p e = split (has_ended p.state) e
-  where
-    split : (b : Bool) → b ≡ false → moved p ≡ cond b p (moved p)
-    split true e = absurd (cc)
-    split false e = refl
+step_moves p e = sym (if_false (has_ended p.state) p (moved p) e)
 
 steps_stay : (n : ℕ) (p : Progress) → has_ended p.state ≡ true → steps n p ≡ p
 steps_stay zero p e = refl
@@ -187,24 +52,31 @@ same_steps (suc n) p =
     by_cond (λ z. SameData p.state z.state) (has_ended q.state) q (moved q) (λ _. a)
     (λ _. let b = same_after q.state in record { table = b.table ∙ a.table; heaps = b.heaps ∙ a.heaps; limit = b.limit ∙ a.limit })
 
+-- the same turns, of the state alone
+pub state_steps : (n : ℕ) (p : Progress) → (steps n p).state ≡ turns n p.state
+state_steps zero p = refl
+state_steps (suc n) p =
+    let q = steps n p in
+    by_cond (λ z. z.state ≡ turns (suc n) p.state) (has_ended q.state) q (moved q)
+    (λ e. sym (stays_put q.state e) ∙ ap turn (state_steps n p))
+    (λ _. ap turn (state_steps n p))
+
 -- one turn keeps one member more at most
 abbrev OneMore : State → State → Type 0
 OneMore s t = length t.members ≤ length s.members + 1
 
 few_after : (s : State) → OneMore s (turn s)
 few_after s =
-    let t = s.table in
-    by_cond (OneMore s) (nat_lt s.limit (length s.members)) _ _ (λ _. omega arith) (λ _.
+    by_cond (OneMore s) (is_over s) _ _ (λ _. omega arith) (λ _.
     by_cond (OneMore s) (nat_lt 0 (length s.members)) _ _
-    (λ _. by_cond (OneMore s) (nat_lt (turning.pending one (times t) covers s) (length s.held)) _ _
-    (λ _. by_cond (OneMore s) (tested t s (times t (held_at t s (turning.pending one (times t) covers s)) (get_or s.generators (get_or s.held (turning.pending one (times t) covers s) (turning.no_held one (times t) covers)).by (turning.no_generator one (times t) covers)).pair)) _ _ (λ _. omega arith) (λ _. pushed _))
-    (λ _. by_cond (OneMore s) (nat_lt s.next (length s.heaps)) _ _
-    (λ _. by_cond (OneMore s) (tested t s (get_or s.heaps s.next one)) _ _ (λ _. omega arith) (λ _. pushed _))
-    (λ _. omega arith)))
-    (λ _. pushed _))
+    (λ _. by_cond (OneMore s) (nat_lt (pending s) (length s.held)) _ _
+    (λ _. at_most (covered s.held (product_at s (pending s))) _)
+    (λ _. by_cond (OneMore s) (nat_lt s.next (length s.heaps)) _ _ (λ _. at_most (covered s.held (get_or s.heaps s.next one)) _) (λ _. omega arith)))
+    (λ _. at_most false _))
   where
-    pushed : (m : Member) → length (s.members ++ m ∷ []) ≤ length s.members + 1
-    pushed m = omega (arith, length-append s.members (m ∷ []))
+    at_most : (b : Bool) (m : Member) → length (cond b s.members (s.members ++ m ∷ [])) ≤ length s.members + 1
+    at_most true m = omega arith
+    at_most false m = omega (arith, length-append s.members (m ∷ []))
 
 pub few_steps : (n : ℕ) (p : Progress) → length (steps n p).state.members ≤ length p.state.members + n
 few_steps zero p = omega arith
@@ -213,41 +85,8 @@ few_steps (suc n) p =
     let q = steps n p in
     by_cond (λ z. length z.state.members ≤ length p.state.members + suc n) (has_ended q.state) q (moved q) (λ _. omega arith) (λ _. let b = few_after q.state in omega arith)
 
--- while turns are left, each of them counts
-pub spent_steps : (n : ℕ) (p : Progress) → has_ended (steps n p).state ≡ false → (steps n p).spent ≡ p.spent + n
-spent_steps zero p h = omega arith
-spent_steps (suc n) p h =
-    let q = steps n p in
-    elim (either (has_ended q.state)) [
-      | inl e ↦ absurd (not_both e (ap (λ z. has_ended z.state) (sym (step_stays q e)) ∙ h))
-      | inr go ↦ let a = spent_steps n p go in let b : (step q).spent ≡ q.spent + 1 = ap (λ z. z.spent) (sym (step_moves q go)) in omega arith
-    ]
-
 pub stopped_is : (p : Progress) → p.failed ≡ true → p ≡ stopped p
 stopped_is p e = ap (λ b. record { state = p.state; spent = p.spent; failed = b }) e
 
--- the turn that finds no turn left
-pub last_step : (m n : ℕ) (p q t : Progress) → q ≡ steps m p → m < n → t ≡ step q → has_ended q.state ≡ true → t ≡ steps n p
-last_step m n p q t e l f h = f ∙ step_stays q h ∙ ended_steps m n p q e (omega arith) h
-
-pub data_of : (n : ℕ) (p q : Progress) → q ≡ steps n p → SameData p.state q.state
-data_of n p q e = subst (λ z. SameData p.state z.state) (sym e) (same_steps n p)
-
-pub few_of : (m n : ℕ) (p q : Progress) → q ≡ steps m p → m ≤ n → length q.state.members ≤ length p.state.members + n
-few_of m n p q e l = subst (λ z. length z.state.members ≤ length p.state.members + n) (sym e) (let h = few_steps m p in omega arith)
-
-pub spent_of : (n : ℕ) (p q : Progress) → q ≡ steps n p → has_ended q.state ≡ false → q.spent ≡ p.spent + n
-spent_of n p q e h = ap (λ z. z.spent) e ∙ spent_steps n p (ap (λ z. has_ended z.state) (sym e) ∙ h)
-
 pub next_steps : (n : ℕ) (p q t : Progress) → q ≡ steps n p → t ≡ step q → t ≡ steps (n + 1) p
 next_steps n p q t e f = let k : suc n ≡ n + 1 = omega arith in f ∙ ap step e ∙ ap (λ j. steps j p) k
-
-spent_range : (n : ℕ) (p : Progress) → (p.spent ≤ (steps n p).spent) × ((steps n p).spent ≤ p.spent + n)
-spent_range zero p = (omega arith, omega arith)
-spent_range (suc n) p =
-    let (a, b) = spent_range n p in
-    let q = steps n p in
-    by_cond (λ z. (p.spent ≤ z.spent) × (z.spent ≤ p.spent + suc n)) (has_ended q.state) q (moved q) (λ _. (omega arith, omega arith)) (λ _. (omega arith, omega arith))
-
-pub spent_in : (m n : ℕ) (p q : Progress) → q ≡ steps m p → m ≤ n → (p.spent ≤ q.spent) × (q.spent ≤ p.spent + n)
-spent_in m n p q e l = subst (λ z. (p.spent ≤ z.spent) × (z.spent ≤ p.spent + n)) (sym e) (let (a, b) = spent_range m p in (omega arith, omega arith))

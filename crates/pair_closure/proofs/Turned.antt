@@ -1,16 +1,20 @@
 -- What each kind of turn reads, and what it leaves.
-use Rattle.std.proofs.Common.{◌≡◌, ℕ, ◌+◌, ◌<◌, ◌≤◌, Bool, true, false, cond, List, [], length, get_or, set, refl, sym, ap, ◌∙◌, subst, inl, inr, arith}
+use Rattle.std.proofs.Common.{◌≡◌, ℕ, ◌+◌, ◌<◌, ◌≤◌, Bool, true, false, cond, List, [], length, get_or, set, refl, sym, ap, ap₂, ◌∙◌, subst, inl, inr, arith}
 use Rattle.transition_algebra.specs.declared.pair.Pair.{Pair}
 use Rattle.transition_algebra.specs.Pairs.{IsPair, one, times}
-use Rattle.transition_algebra.specs.PairLaws.{pair_laws}
 use Rattle.pair_closure.specs.declared.members.Member.{Member}
 use Rattle.pair_closure.specs.declared.settle.Held.{Held}
 use Rattle.pair_closure.specs.declared.settle.Generator.{Generator}
-use Rattle.pair_closure.specs.Turns.{State}
-use Rattle.pair_closure.specs.Progress.{Progress, turn, covered, members_with, held_with, generators_with, blank_held, blank_generator, NoneBefore, IsRun, KeepsEmpty, Multiplies, TriesHeap}
+use Rattle.pair_closure.specs.Turns.{State, turn, covered, members_with, held_with, members_after, held_after, generators_with, multiplied, blank_held, blank_generator, NoneBefore, KeepsEmpty, Multiplies, TriesHeap}
+use Rattle.pair_closure.specs.Progress.{Progress, IsRun}
 use Rattle.pair_closure.proofs.ChainLaws.{same_default}
-use Rattle.pair_closure.proofs.Machine.{Reached, of_run, held_in, generator_in, kept_by_turns, has_turns, none_before, first_turn, product_turn, heap_turn, with}
-use Rattle.pair_closure.proofs.Running.{next_run, goes_empty, goes_product, goes_heap}
+use Rattle.pair_closure.proofs.WhichTurn.{turn_empty, turn_product, turn_heap, goes_empty, goes_product, goes_heap}
+use Rattle.pair_closure.proofs.Machine.{Reached, of_run, held_in, generator_in, kept_by_turns, has_turns, none_before}
+use Rattle.pair_closure.proofs.Runs.{next_run}
+
+-- the state with other lists
+abbrev pub with : State → List Member → List Held → List Generator → ℕ → State
+with s members held gens next = record s { members = members; held = held; generators = gens; next = next }
 
 -- what a turn leaves: a run, and where to look next
 abbrev pub Next : Progress → List Member → List Held → List Generator → ℕ → ℕ → ℕ → Type 0
@@ -25,12 +29,6 @@ read_held s at m r k e = subst (λ z. IsPair s.table.order z.pair) (sym e) (held
 pub read_generator : (s : State) (i : ℕ) (g : Generator) → Reached s → i < length s.generators → g ≡ get_or s.generators i g → IsPair s.table.order g.pair
 read_generator s i g r l e = subst (λ z. IsPair s.table.order z.pair) (sym e) (generator_in s r i g l)
 
-pub product_is_in : (s : State) (p q x : Pair) → Reached s → IsPair s.table.order p → IsPair s.table.order q → x ≡ times s.table p q → IsPair s.table.order x
-product_is_in s p q x r a b e = subst (IsPair s.table.order) (sym e) ((pair_laws s.table r.lawful).times_in p q a b)
-
-pub heap_is_in : (s : State) (x : Pair) → Reached s → s.next < length s.heaps → x ≡ get_or s.heaps s.next x → IsPair s.table.order x
-heap_is_in s x r l e = subst (IsPair s.table.order) (sym (e ∙ same_default s.heaps s.next x one l)) (r.heaps_in s.next l)
-
 -- a state with no members has nothing at all
 nothing : (s : State) → Reached s → KeepsEmpty s → (s.generators ≡ [])
 nothing s r k = elim (kept_by_turns s r) [
@@ -40,13 +38,13 @@ nothing s r k = elim (kept_by_turns s r) [
 
 pub empty_turned : (p : Progress) (members : List Member) (held : List Held) → KeepsEmpty p.state → members ≡ members_with p.state.members one 0 0 → held ≡ held_with p.state.held one 0 (length p.state.heaps)
     → with p.state members held p.state.generators p.state.next ≡ turn p.state
-empty_turned p members held k a b = first_turn p.state members held k.room k.none a (b ∙ ap (λ n. held_with p.state.held one n (length p.state.heaps)) (sym k.none))
+empty_turned p members held k a b = ap₂ (λ e h. with p.state e h p.state.generators p.state.next) a b ∙ sym (turn_empty p.state k)
 
 pub empty_next : (p : Progress) (members : List Member) (held : List Held) (from : ℕ) → IsRun p → KeepsEmpty p.state → members ≡ members_with p.state.members one 0 0 → held ≡ held_with p.state.held one 0 (length p.state.heaps)
     → Next p members held p.state.generators p.state.next (p.spent + 1) from
 empty_next p members held from r k a b =
     let none : length p.state.generators ≡ 0 = ap length (nothing p.state (of_run p r) k) in
-    (next_run p _ _ r (goes_empty p.state k) (empty_turned p members held k a b) refl, λ i l h. omega arith)
+    (next_run p _ r (goes_empty p.state k) (empty_turned p members held k a b), λ i l h. omega arith)
 
 -- what a product's turn was given and what it wrote
 pub record Product (s : State) (members : List Member) (held : List Held) (at : ℕ) (m : Held) (g : Generator) (x : Pair) : Type 0 where
@@ -54,20 +52,29 @@ pub record Product (s : State) (members : List Member) (held : List Held) (at : 
   pub member : m ≡ get_or s.held at m
   pub generator : g ≡ get_or s.generators m.by g
   pub product : x ≡ times s.table m.pair g.pair
-  pub members_are : members ≡ cond (covered s.held x) s.members (members_with s.members x m.place g.heap)
-  pub held_are : held ≡ cond (covered s.held x) (set s.held at (record { pair = m.pair; place = m.place; by = m.by + 1 })) (held_with (set s.held at (record { pair = m.pair; place = m.place; by = m.by + 1 })) x (length s.members) 0)
+  pub members_are : members ≡ members_after s.members s.held x m.place g.heap
+  pub held_are : held ≡ held_after s.held (set s.held at (multiplied m)) x (length s.members)
 
 pub product_turned : (s : State) (members : List Member) (held : List Held) (at : ℕ) (m : Held) (g : Generator) (x : Pair) → Product s members held at m g x → with s members held s.generators s.next ≡ turn s
 product_turned s members held at m g x w =
     let k = w.turns in
     let l = read_by s at m k w.member in
-    product_turn s members held at m g x (record { pair = m.pair; place = m.place; by = m.by + 1 }) k.room k.some k.first k.within (w.member ∙ same_default s.held at m blank_held k.within) (w.generator ∙ same_default s.generators m.by g blank_generator l) w.product refl w.members_are w.held_are
+    let same_member : m ≡ get_or s.held at blank_held = w.member ∙ same_default s.held at m blank_held k.within in
+    let same_generator : g ≡ get_or s.generators m.by blank_generator = w.generator ∙ same_default s.generators m.by g blank_generator l in
+    ap₂ (λ e h. with s e h s.generators s.next) w.members_are w.held_are
+    ∙ ap (state_of m g) w.product
+    ∙ ap (λ z. state_of m z (times s.table m.pair z.pair)) same_generator
+    ∙ ap (λ z. state_of z (get_or s.generators z.by blank_generator) (times s.table z.pair (get_or s.generators z.by blank_generator).pair)) same_member
+    ∙ sym (turn_product s at k)
+  where
+    state_of : Held → Generator → Pair → State
+    state_of m g x = with s (members_after s.members s.held x m.place g.heap) (held_after s.held (set s.held at (multiplied m)) x (length s.members)) s.generators s.next
 
 pub product_next : (p : Progress) (members : List Member) (held : List Held) (at : ℕ) (m : Held) (g : Generator) (x : Pair) (anew : Bool) (from : ℕ) → IsRun p → Product p.state members held at m g x
     → (anew ≡ false → (k : ℕ) → k < at → get_or held k blank_held ≡ get_or p.state.held k blank_held) → from ≡ cond anew 0 at
     → Next p members held p.state.generators p.state.next (p.spent + 1) from
 product_next p members held at m g x anew from r w before e =
-    (next_run p _ _ r (goes_product p.state at w.turns) (product_turned p.state members held at m g x w) refl, none anew before e)
+    (next_run p _ r (goes_product p.state at w.turns) (product_turned p.state members held at m g x w), none anew before e)
   where
     none : (b : Bool) → (b ≡ false → (k : ℕ) → k < at → get_or held k blank_held ≡ get_or p.state.held k blank_held) → from ≡ cond b 0 at → NoneBefore held (length p.state.generators) from
     none true h e k l1 l2 = absurd (omega arith)
@@ -80,19 +87,22 @@ pub record Tried (s : State) (members : List Member) (held : List Held) (gens : 
   pub turns : TriesHeap s
   pub heap : x ≡ get_or s.heaps s.next x
   pub number : n ≡ s.next + 1
-  pub members_are : members ≡ cond (covered s.held x) s.members (members_with s.members x 0 n)
-  pub held_are : held ≡ cond (covered s.held x) s.held (held_with s.held x (length s.members) 0)
+  pub members_are : members ≡ members_after s.members s.held x 0 n
+  pub held_are : held ≡ held_after s.held s.held x (length s.members)
   pub generators_are : gens ≡ cond (covered s.held x) s.generators (generators_with s.generators x n)
 
 pub heap_turned : (s : State) (members : List Member) (held : List Held) (gens : List Generator) (n : ℕ) (x : Pair) → Tried s members held gens n x → with s members held gens n ≡ turn s
 heap_turned s members held gens n x w =
     let k = w.turns in
-    heap_turn s members held gens x n k.room k.some k.all k.more (w.heap ∙ same_default s.heaps s.next x one k.more) w.number w.members_are w.held_are w.generators_are
+    let same : x ≡ get_or s.heaps s.next one = w.heap ∙ same_default s.heaps s.next x one k.more in
+    ap₂ (λ e h. with s e h gens n) w.members_are w.held_are ∙ ap (λ z. with s (members_after s.members s.held x 0 n) (held_after s.held s.held x (length s.members)) z n) w.generators_are
+    ∙ ap₂ (λ z k. with s (members_after s.members s.held z 0 k) (held_after s.held s.held z (length s.members)) (cond (covered s.held z) s.generators (generators_with s.generators z k)) k) same w.number
+    ∙ sym (turn_heap s k)
 
 pub heap_next : (p : Progress) (members : List Member) (held : List Held) (gens : List Generator) (n : ℕ) (x : Pair) (anew : Bool) (from : ℕ) → IsRun p → Tried p.state members held gens n x
     → (anew ≡ false → covered p.state.held x ≡ true) → from ≡ cond anew 0 (length held) → Next p members held gens n (p.spent + 1) from
 heap_next p members held gens n x anew from r w kept e =
-    (next_run p _ _ r (goes_heap p.state w.turns) (heap_turned p.state members held gens n x w) refl, none anew kept e)
+    (next_run p _ r (goes_heap p.state w.turns) (heap_turned p.state members held gens n x w), none anew kept e)
   where
     none : (b : Bool) → (b ≡ false → covered p.state.held x ≡ true) → from ≡ cond b 0 (length held) → NoneBefore held (length gens) from
     none true h e k l1 l2 = absurd (omega arith)

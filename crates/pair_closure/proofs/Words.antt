@@ -8,16 +8,12 @@ use Rattle.misere_theory.specs.Pairs as theory
 use Rattle.misere_theory.proofs.Sums.{heaps_kept, move_kept}
 use Rattle.misere_theory.proofs.Shuffles.{Shuffled, back, from_permutation, move_shuffled, position_shuffled, value_shuffled}
 use Rattle.positions.specs.Positions.{IsSize}
-use Rattle.transition_algebra.specs.Pairs.{IsPair, one, times, covers}
-use Rattle.transition_algebra.specs.PairLaws.{pair_laws}
 use Rattle.pair_closure.specs.Chains.{blank}
 use Rattle.pair_closure.specs.declared.members.Member.{Member}
 use Rattle.pair_closure.specs.declared.settle.Held.{Held}
-use Rattle.pair_closure.specs.Turns.{State}
-use Rattle.pair_closure.specs.Progress.{blank_held}
+use Rattle.pair_closure.specs.Turns.{State, blank_held}
 use Rattle.pair_closure.specs.Positions.{word, as_pair, IsWordOf}
 use Rattle.pair_closure.proofs.Lists.{In-at, In-Contains}
-use Rattle.pair_closure.proofs.PairLaws.{cover_laws}
 use Rattle.pair_closure.proofs.Theorem as reached
 use Rattle.pair_closure.proofs.Machine.{Reached, kept_by_turns, place_in}
 use Rattle.pair_closure.proofs.Positions.{speaks}
@@ -46,7 +42,7 @@ heaps_of B (n ∷ X) p = (p.0.0, heaps_of B X p.1)
 word_within : (s : State) → Reached s → (i : ℕ) → i < length s.members → IsPosition (IsHeapUpTo (length s.heaps)) (word s i)
 word_within s r i l = elim (kept_by_turns s r) [
   | inl e ↦ absurd (let none = ap (λ z. length z.members) e in omega arith)
-  | inr v ↦ (reached.word_is (IsPair s.table.order) one (times s.table) covers (pair_laws s.table r.lawful) (cover_laws s.table r.lawful) s v i i (omega arith) l).0
+  | inr v ↦ (reached.word_is s v i i (omega arith) l).0
 ]
 
 -- a word is its last heap and the word of the member before
@@ -62,7 +58,7 @@ unfolds s r (suc k) some l = elim (kept_by_turns s r) [
   | inr v ↦
       let step = v.steps (suc k) some l in
       let before = step.earlier in
-      let same = reached.word_bound (IsPair s.table.order) one (times s.table) covers (pair_laws s.table r.lawful) (cover_laws s.table r.lawful) s v k (get_or s.members (suc k) blank).parent (get_or s.members (suc k) blank).parent (omega arith) (omega arith) (omega arith) in
+      let same = reached.word_bound s v k (get_or s.members (suc k) blank).parent (get_or s.members (suc k) blank).parent (omega arith) (omega arith) (omega arith) in
       record { is = ap (λ w. (get_or s.members (suc k) blank).heap ∷ w) same; earlier = before; heap = step.heap }
 ]
 

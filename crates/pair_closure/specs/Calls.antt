@@ -2,8 +2,8 @@
 use Rattle.std.specs.Prelude.{◌≡◌, ◌⊎◌, ℕ, ◌+◌, ◌*◌, ◌<◌, ◌≤◌, Bool, true, false, ◌||◌, nat_lt, List, length, Result, OnOk, OnErr}
 use Rattle.monoid_table.specs.Grids.{Grid}
 use Rattle.transition_algebra.specs.declared.pair.Pair.{Pair}
-use Rattle.pair_closure.specs.Turns.{State}
-use Rattle.pair_closure.specs.Progress.{Progress, begun, steps, stopped, has_ended, is_over}
+use Rattle.pair_closure.specs.Turns.{State, has_ended, is_over}
+use Rattle.pair_closure.specs.Progress.{Progress, begun, steps, stopped}
 
 -- no turn is left
 abbrev pub ended : Progress → Bool
@@ -30,6 +30,10 @@ pub record IsRefused (ends : Progress → Bool) (units : ℕ) (old new : Progres
   pub spent : new.spent ≡ old.spent + turns
   pub going : (n : ℕ) → n ≤ turns → ends (steps n old) ≡ false
 
+-- The turns of a call: all that it takes, or those up to one that memory was refused to.
+abbrev pub Goes : (Progress → Bool) → ℕ → Progress → Progress → Type 0
+Goes ends units old new = Takes ends units old new ⊎ IsRefused ends units old new
+
 -- What a call of so many units answers and comes to. Where memory had been refused before, nothing changes.
 abbrev pub Grows : {X E : Type 0} → (Progress → Bool) → ℕ → Result X E → Progress → Progress → Type 0
 Grows ends units result old new =
@@ -44,7 +48,3 @@ pub record IsLimited (s : State) : Type 0 where
 -- the turns that a closure takes in all
 abbrev pub cost : Grid → List Pair → ℕ → ℕ
 cost table heaps limit = (steps (limit * length heaps + 2) (begun table heaps limit)).spent
-
--- what so many turns from the beginning reach, and whether memory was refused
-abbrev pub retaken : Progress → Progress
-retaken p = record (steps p.spent (begun p.state.table p.state.heaps p.state.limit)) { failed = p.failed }

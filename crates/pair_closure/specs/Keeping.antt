@@ -2,8 +2,8 @@
 use Rattle.std.specs.Prelude.{◌≡◌, ◌⊎◌, ℕ, ◌+◌, ◌-◌, ◌<◌, ◌≤◌, List, length, slice_index_or}
 use Rattle.transition_algebra.specs.declared.pair.Pair.{Pair}
 use Rattle.pair_closure.specs.declared.settle.Held.{Held}
-use Rattle.pair_closure.specs.Turns.{State}
-use Rattle.pair_closure.specs.Progress.{Progress, steps, blank_held}
+use Rattle.pair_closure.specs.Turns.{State, blank_held}
+use Rattle.pair_closure.specs.Progress.{Progress, steps}
 
 -- one of those held has this pair
 abbrev pub HasPair : List Held → Pair → Type 0

@@ -6,13 +6,10 @@ use Rattle.misere_theory.specs.Games.{IsHeap, IsHeapUpTo, IsPosition}
 use Rattle.misere_theory.specs.Pairs as theory
 use Rattle.monoid_table.specs.Grids.{Grid, times_in}
 use Rattle.transition_algebra.specs.declared.pair.Pair.{Pair}
-use Rattle.transition_algebra.specs.Pairs.{one, times, covers}
 use Rattle.transition_algebra.specs.Heaps.{IsHeapPairs}
 use Rattle.pair_closure.specs.declared.settle.Held.{Held}
-use Rattle.pair_closure.specs.Turns.{State}
-use Rattle.pair_closure.specs.Turns as turning
+use Rattle.pair_closure.specs.Turns.{State, is_done, is_over, word_of}
 use Rattle.pair_closure.specs.Chains.{blank}
-use Rattle.pair_closure.specs.Progress.{is_done, is_over}
 
 -- a pair in the words of the theory
 abbrev pub as_pair : Pair → theory.Pair
@@ -32,7 +29,7 @@ kept s = map (λ m. as_pair m.pair) s.held
 
 -- the heaps whose product is the member ever kept at a place
 abbrev pub word : State → ℕ → List ℕ
-word s place = turning.word_of one (times s.table) covers s.members place place
+word s place = word_of s.members place place
 
 -- What a state says of the positions of a code under a claim.
 pub record Says (code : List ℕ) (c : Claim) (s : State) : Type 0 where

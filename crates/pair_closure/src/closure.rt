@@ -1,8 +1,9 @@
 //! The closure: members ever kept, those held, and one product a turn.
 ghost use Rattle.std.specs.Prelude.{◌≡◌, ◌↔◌, ◌<◌, ◌≤◌, ◌+◌, ◌*◌, true, false, ℕ, length, All, Ok, IfOk, OnOk, OnErr, IsErr, slice_index_or};
 ghost use Rattle.transition_algebra.specs.Pairs.{IsPair, one};
-ghost use Rattle.pair_closure.specs.Progress.{SameData, begun, moved, step, steps, stopped, is_done, is_over, has_ended, blank_held, KeepsEmpty, Multiplies, TriesHeap};
-ghost use Rattle.pair_closure.specs.Calls.{Grows, IsLimited, ended, ended_or_kept, retaken};
+ghost use Rattle.pair_closure.specs.Turns.{SameData, is_done, is_over, has_ended, blank_held, KeepsEmpty, Multiplies, TriesHeap};
+ghost use Rattle.pair_closure.specs.Progress.{begun, moved, retaken, step, steps, stopped};
+ghost use Rattle.pair_closure.specs.Calls.{Goes, Grows, IsLimited, ended, ended_or_kept};
 ghost use Rattle.pair_closure.specs.Keeping.{KeepsOne, GrowsToMember};
 ghost use Rattle.pair_closure.specs.Positions.{IsWordOf, Speaks, IsMinimal, IsClosedOver, IsExceeded};
 
@@ -56,7 +57,8 @@ pub struct Closure<A: Allocator = Global> {
 
 impl<A: Allocator> Model for Closure<A> {
     ghost use Rattle.std.specs.Prelude.{length};
-    ghost use Rattle.pair_closure.specs.Progress.{Progress, progress_of, IsRun, NoneBefore};
+    ghost use Rattle.pair_closure.specs.Progress.{Progress, progress_of, IsRun};
+    ghost use Rattle.pair_closure.specs.Turns.{NoneBefore};
     ghost use Rattle.element_sets.specs.contracts.ElementSet as e;
     ghost use Rattle.std.specs.Coded.{codes};
 
@@ -268,6 +270,46 @@ impl<A: Room + Copy> Closure<A> {
         }
     }
 
+    /// A turn for each unit, until it has ended or memory is refused to one.
+    fn take_turns(&mut self, units: u64)
+        requires { self.old.failed ≡ false }
+        ensures { Goes ended units self.old self.new }
+    {
+        for _unit in 0..units {
+            match self.take() {
+                Ok(true) => {}
+                Ok(false) => return,
+                Err(_) => {
+                    self.stop();
+                    return;
+                }
+            }
+        }
+    }
+
+    /// The same, up to a turn that keeps a member.
+    fn turn_to_member(&mut self, units: u64)
+        requires { self.old.failed ≡ false }
+        ensures { Goes (ended_or_kept self.old) units self.old self.new }
+    {
+        let ever = self.ever();
+        for _turn in 0..units {
+            match self.take() {
+                Ok(true) => {
+                    if self.ever() > ever {
+                        self.seek();
+                        return;
+                    }
+                }
+                Ok(false) => return,
+                Err(_) => {
+                    self.stop();
+                    return;
+                }
+            }
+        }
+    }
+
     /// Takes so many turns, or fewer where it ends, and answers where it stands then. A turn is one product of a member
     /// with a heap's pair, where the pair of a heap that is tried is its product with the empty member.
     ///
@@ -301,16 +343,7 @@ impl<A: Room + Copy> Closure<A> {
             self.speak();
             return Err(Memory);
         }
-        for _unit in 0..units {
-            match self.take() {
-                Ok(true) => {}
-                Ok(false) => return self.standing(),
-                Err(_) => {
-                    self.stop();
-                    return self.standing();
-                }
-            }
-        }
+        self.take_turns(units);
         self.standing()
     }
 
@@ -338,22 +371,7 @@ impl<A: Room + Copy> Closure<A> {
             self.speak();
             return Err(Memory);
         }
-        let ever = self.ever();
-        for _turn in 0..units {
-            match self.take() {
-                Ok(true) => {
-                    if self.ever() > ever {
-                        self.seek();
-                        return self.standing();
-                    }
-                }
-                Ok(false) => return self.standing(),
-                Err(_) => {
-                    self.stop();
-                    return self.standing();
-                }
-            }
-        }
+        self.turn_to_member(units);
         self.standing()
     }
 

@@ -5,8 +5,9 @@ ghost use Rattle.monoid_table.specs.Tables.{IsTableGrid};
 ghost use Rattle.transition_algebra.specs.declared.pair.Pair as the_pair;
 ghost use Rattle.transition_algebra.specs.Pairs.{IsPair};
 ghost use Rattle.pair_closure.specs.Turns as turning;
-ghost use Rattle.pair_closure.specs.Progress.{Progress, SameData, begun, moved, turns, steps, has_ended};
-ghost use Rattle.pair_closure.specs.Calls.{Takes, cost, retaken};
+ghost use Rattle.pair_closure.specs.Turns.{SameData, turns, has_ended};
+ghost use Rattle.pair_closure.specs.Progress.{Progress, begun, moved, retaken, steps};
+ghost use Rattle.pair_closure.specs.Calls.{Takes, cost};
 ghost use Rattle.pair_closure.specs.Keeping.{KeepsOne};
 ghost use Rattle.pair_closure.specs.Positions.{Speaks, IsMinimal};
 

@@ -2,7 +2,7 @@
 // The members ever kept, found by their value.
 ghost use Rattle.std.specs.Prelude.{◌≡◌, ◌++◌, ◌∷◌, [], ◌<◌, ℕ, length, OnOk, OnErr, slice_index, slice_index_or};
 ghost use Rattle.pair_closure.specs.Chains.{blank, last_with};
-ghost use Rattle.pair_closure.specs.Progress.{any_covers, covers_any};
+ghost use Rattle.pair_closure.specs.Turns.{any_covers, covers_any};
 
 use crate::covering::covers;
 use std::alloc::{AllocError, Allocator};

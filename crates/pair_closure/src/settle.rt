@@ -2,7 +2,7 @@
 ghost use Rattle.std.specs.Prelude.{◌≡◌, ◌<◌, ◌≤◌, false, true, ℕ, length, filter, not, cond, Ok, OnOk, OnErr, slice_index_or, slice_set, vec_len};
 ghost use Rattle.std.specs.Vec.{vec_capacity};
 ghost use Rattle.transition_algebra.specs.Pairs as covering;
-ghost use Rattle.pair_closure.specs.Progress.{Tell, covers_any, covers_held, members_with, members_after, held_with, held_after, generators_with, covered, blank_held, first_pending, NoneBefore};
+ghost use Rattle.pair_closure.specs.Turns.{Tell, covers_any, covers_held, members_with, members_after, held_with, held_after, generators_with, covered, blank_held, first_pending, NoneBefore};
 
 use crate::covering::covers;
 use crate::members::{Member, Members};

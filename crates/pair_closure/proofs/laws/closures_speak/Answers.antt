@@ -1,5 +1,5 @@
 use Rattle.transition_algebra.specs.Pairs.{one}
-use Rattle.pair_closure.proofs.Running.{reached_turns}
+use Rattle.pair_closure.proofs.Runs.{reached_turns}
 use Rattle.pair_closure.proofs.Positions.{speaks, minimal}
 use Rattle.pair_closure.proofs.laws.closures_speak.Goals as goal
 

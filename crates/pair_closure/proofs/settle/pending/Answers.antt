@@ -1,5 +1,5 @@
 use Rattle.std.proofs.Common.{◌<◌, arith, get_or}
-use Rattle.pair_closure.specs.Progress.{blank_held}
+use Rattle.pair_closure.specs.Turns.{blank_held}
 use Rattle.pair_closure.proofs.PendingLaws.{pending_here, pending_none}
 use Rattle.pair_closure.specs.declared.settle.Held.{Held}
 use Rattle.std.proofs.Common.{subst}

@@ -1,5 +1,5 @@
 use Rattle.std.proofs.Common.{◌≤◌, ◌-◌, length}
-use Rattle.pair_closure.specs.Progress.{NoneBefore}
+use Rattle.pair_closure.specs.Turns.{NoneBefore}
 use Rattle.pair_closure.proofs.settle.pending.Given as goal
 
 abbrev pub invariant-loop-at : goal.invariant-loop-at

@@ -3,7 +3,7 @@ use Rattle.pair_closure.proofs.PendingLaws.{any_write, before_hold}
 use Rattle.std.proofs.Common.{set, get_or}
 use Rattle.std.specs.List.{list_any}
 use Rattle.transition_algebra.specs.Pairs.{covers}
-use Rattle.pair_closure.specs.Progress.{held_with, blank_held}
+use Rattle.pair_closure.specs.Turns.{held_with, blank_held}
 use Rattle.pair_closure.specs.declared.settle.Held.{Held}
 use Rattle.pair_closure.proofs.settle.settle_product.Goals as goal
 

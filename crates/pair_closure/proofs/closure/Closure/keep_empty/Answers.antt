@@ -1,7 +1,7 @@
 use Rattle.std.proofs.Common.{◌≡◌, sym, subst, arith, rules, length}
 use Rattle.transition_algebra.specs.Pairs.{one}
-use Rattle.pair_closure.specs.Progress.{KeepsEmpty, members_with, held_with}
-use Rattle.pair_closure.proofs.Running.{spent_fits}
+use Rattle.pair_closure.specs.Turns.{KeepsEmpty, members_with, held_with}
+use Rattle.pair_closure.proofs.Runs.{spent_fits}
 use Rattle.pair_closure.proofs.Turned.{empty_next}
 use Rattle.pair_closure.proofs.closure.Closure.keep_empty.Goals as goal
 

@@ -1,9 +1,9 @@
 use Rattle.std.proofs.Common.{◌+◌, ◌<◌, ◌∙◌, sym, ap, subst, arith, rules, length}
-use Rattle.pair_closure.specs.Turns.{State}
-use Rattle.pair_closure.specs.Progress.{Multiplies, moved}
+use Rattle.pair_closure.specs.Turns.{State, Multiplies}
+use Rattle.pair_closure.specs.Progress.{moved}
 use Rattle.pair_closure.proofs.Machine.{of_run, members_tell}
-use Rattle.pair_closure.proofs.Running.{spent_fits}
-use Rattle.pair_closure.proofs.Turned.{read_by, read_held, read_generator, product_is_in, product_next, product_turned}
+use Rattle.pair_closure.proofs.Runs.{spent_fits}
+use Rattle.pair_closure.proofs.Turned.{read_by, read_held, read_generator, product_next, product_turned}
 use Rattle.pair_closure.proofs.closure.Closure.multiply.Goals as goal
 
 pub index-requires-2 : goal.index-requires-2
@@ -22,10 +22,7 @@ overflow_add-multiplied g c =
     search rules
 
 pub settle_product-requires-clause-tell : goal.settle_product-requires-clause-tell
-settle_product-requires-clause-tell g c =
-    let k = subst (λ z. Multiplies z.state c.args.at) (sym c.self.view_is) c.requires in
-    let r = of_run _ c.self.invariant.0 in
-    members_tell _ r _ (product_is_in _ _ _ _ r (read_held _ _ _ r k c.index.ensures) (read_generator _ _ _ r (read_by _ _ _ k c.index.ensures) c.index-2.ensures) c.times-product.ensures)
+settle_product-requires-clause-tell g c = members_tell _ (of_run _ c.self.invariant.0) _
 
 pub overflow_add-self : goal.overflow_add-self
 overflow_add-self g c = let fits = spent_fits _ c.self.invariant.0 in omega arith

@@ -1,5 +1,5 @@
 use Rattle.std.proofs.Common.{◌≡◌, ◌<◌, length, subst, rules}
-use Rattle.pair_closure.specs.Progress.{blank_held, first_pending}
+use Rattle.pair_closure.specs.Turns.{blank_held, first_pending}
 use Rattle.pair_closure.proofs.Machine.{none_before}
 use Rattle.pair_closure.proofs.closure.Closure.seek.Goals as goal
 

@@ -2,9 +2,9 @@ use Rattle.std.proofs.Common.{◌≡◌, ◌≤◌, ◌+◌, ◌*◌, length, su
 use Rattle.pair_closure.specs.Positions.{Speaks, IsMinimal}
 use Rattle.pair_closure.proofs.Machine.{of_run}
 use Rattle.pair_closure.proofs.Positions.{speaks, minimal}
-use Rattle.pair_closure.specs.Calls.{IsLimited, retaken}
-use Rattle.pair_closure.proofs.Running.{spent_le}
-use Rattle.pair_closure.proofs.Calls.{limited, run_retaken}
+use Rattle.pair_closure.specs.Progress.{retaken}
+use Rattle.pair_closure.specs.Calls.{IsLimited}
+use Rattle.pair_closure.proofs.Runs.{spent_le, limited}
 use Rattle.pair_closure.proofs.closure.Closure.speak.Goals as goal
 
 pub returns-clause-speaks : goal.returns-clause-speaks
@@ -20,4 +20,4 @@ pub returns-clause-limit : goal.returns-clause-limit
 returns-clause-limit g c = subst (λ z. IsLimited z.state) c.self.view_is (limited _ c.self.invariant.0)
 
 pub returns-clause-run : goal.returns-clause-run
-returns-clause-run g c = subst (λ z. z ≡ retaken z) c.self.view_is (run_retaken _ c.self.invariant.0)
+returns-clause-run g c = subst (λ z. z ≡ retaken z) c.self.view_is c.self.invariant.0.run

@@ -1,15 +1,13 @@
 use Rattle.std.proofs.Common.{◌+◌, ◌∙◌, sym, ap, subst, arith, rules, refl}
-use Rattle.pair_closure.specs.Turns.{State}
-use Rattle.pair_closure.specs.Progress.{TriesHeap, moved}
+use Rattle.pair_closure.specs.Turns.{State, TriesHeap}
+use Rattle.pair_closure.specs.Progress.{moved}
 use Rattle.pair_closure.proofs.Machine.{of_run, members_tell}
-use Rattle.pair_closure.proofs.Running.{spent_fits}
-use Rattle.pair_closure.proofs.Turned.{heap_is_in, heap_next, heap_turned}
+use Rattle.pair_closure.proofs.Runs.{spent_fits}
+use Rattle.pair_closure.proofs.Turned.{heap_next, heap_turned}
 use Rattle.pair_closure.proofs.closure.Closure.try_heap.Goals as goal
 
 pub settle_heap-requires : goal.settle_heap-requires
-settle_heap-requires g c =
-    let r = of_run _ c.self.invariant.0 in
-    record { tell = members_tell _ r _ (heap_is_in _ _ r (subst (λ z. TriesHeap z.state) (sym c.self.view_is) c.requires).more c.index-pair.ensures) }
+settle_heap-requires g c = record { tell = members_tell _ (of_run _ c.self.invariant.0) _ }
 
 pub overflow_add-self : goal.overflow_add-self
 overflow_add-self g c = let fits = spent_fits _ c.self.invariant.0 in omega arith

@@ -1,5 +1,5 @@
 use Rattle.std.proofs.Common.{get_or}
-use Rattle.pair_closure.specs.Progress.{blank_held}
+use Rattle.pair_closure.specs.Turns.{blank_held}
 use Rattle.pair_closure.proofs.Words.{Walking}
 use Rattle.pair_closure.proofs.closure.Closure.word.Given as goal
 

@@ -1,7 +1,7 @@
 use Rattle.std.proofs.Common.{◌≡◌, ℕ, ◌<◌, false}
 use Rattle.pair_closure.specs.Progress.{steps}
 use Rattle.pair_closure.specs.Calls.{ended}
-use Rattle.pair_closure.proofs.closure.Closure.grow.Given as goal
+use Rattle.pair_closure.proofs.closure.Closure.take_turns.Given as goal
 
 abbrev pub invariant-loop-unit : goal.invariant-loop-unit
 invariant-loop-unit g l = record {
