@@ -1,11 +1,10 @@
 -- The same heaps, rising, are one list.
-use Rattle.std.proofs.Common.{◌≡◌, ℕ, zero, suc, ◌<◌, ◌≤◌, true, false, nat_lt, List, [], ◌∷◌, ◌++◌, IsPermutation, refl, sym, ◌∙◌, ap, subst, arith, tests, ◌==◌}
+use Rattle.std.proofs.Common.{◌≡◌, ℕ, zero, suc, ◌<◌, ◌≤◌, true, false, nat_lt, List, [], ◌∷◌, IsPermutation, refl, sym, ◌∙◌, ap, arith, tests, ◌==◌}
 use Rattle.std.specs.List.Sorted.{IsNonDecreasing}
 use native.Mathlib.Decide.{dec_lt}
-use Rattle.std.proofs.lemmas.List.{append-nil}
 use Rattle.misere_theory.specs.Certificates.{Certificate, Canonical, IsSpelled, key_of}
 use Rattle.misere_theory.specs.Certificates.IsSpelled.{Zero, Key}
-use Rattle.misere_theory.proofs.Shuffles.{Shuffled, from_permutation, to_front}
+use Rattle.misere_theory.proofs.Shuffles.{Shuffled, from_permutation}
 use Rattle.misere_theory.proofs.Shuffles.Shuffled.{Same, Under, Flip, Then}
 use Rattle.pair_closure.specs.Positions.{put, rising}
 use Rattle.checker.specs.Turns.{keys_from}

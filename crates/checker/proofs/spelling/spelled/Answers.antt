@@ -1,7 +1,6 @@
-use Rattle.std.proofs.Common.{◌≡◌, ◌∙◌, ◌<◌, ◌≤◌, ◌-◌, ℕ, List, [], ◌∷◌, ◌++◌, length, IsPermutation, append-nil, get_or, refl, subst, sym, ap, arith}
-use Rattle.std.proofs.lemmas.List.{get_or_default}
-use Rattle.std.proofs.lemmas.List.Sorted.{IsPermutation-refl, IsPermutation-push_more}
-use Rattle.misere_theory.specs.Certificates.{Certificate, IsSpelled}
+use Rattle.std.proofs.Common.{◌≡◌, ◌∙◌, ℕ, List, [], ◌∷◌, ◌++◌, IsPermutation, append-nil, subst, sym, ap, arith}
+use Rattle.std.proofs.lemmas.List.Sorted.{IsPermutation-push_more}
+use Rattle.misere_theory.specs.Certificates.{IsSpelled}
 use Rattle.misere_theory.specs.Certificates.IsSpelled.{Zero}
 use Rattle.checker.specs.Spelled.{key_in}
 use Rattle.checker.proofs.SpellLemmas.{key_is, key_more}

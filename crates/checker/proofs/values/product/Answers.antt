@@ -1,4 +1,4 @@
-use Rattle.std.proofs.Common.{length, sym, ◌∙◌, ap, arith}
+use Rattle.std.proofs.Common.{sym, ◌∙◌, ap, arith}
 use Rattle.misere_theory.specs.Certificates.{claim_of, times_of}
 use Rattle.misere_theory.specs.Quotients.{value}
 use Rattle.std.proofs.Math.Seq.{drop-length}

@@ -1,4 +1,4 @@
-use Rattle.std.proofs.Common.{◌≡◌, ◌+◌, length, sym, subst, ◌∙◌, ap, arith}
+use Rattle.std.proofs.Common.{length, sym, subst, ◌∙◌, ap, arith}
 use Rattle.misere_theory.specs.Certificates.{Accepted}
 use Rattle.checker.proofs.SpellLemmas.{go_down, sizes_spelled}
 use Rattle.checker.proofs.certified.Certified.spelled.Goals as goal
