@@ -7,6 +7,7 @@ pub mod PeriodLemmas
 pub mod ApartLemmas
 pub mod RuleLemmas
 pub mod SpellLemmas
+pub mod ValueLemmas
 pub mod HeapLemmas
 pub mod ElementLemmas
 pub mod UnitLemmas

@@ -1,10 +1,10 @@
 -- The same heaps, rising, are one list.
-use Rattle.std.proofs.Common.{◌≡◌, ℕ, zero, suc, ◌<◌, ◌≤◌, true, false, nat_lt, List, [], ◌∷◌, ◌++◌, IsPermutation, refl, sym, ◌∙◌, ap, subst, arith, tests, ◌==◌}
+use Rattle.std.proofs.Common.{◌≡◌, ℕ, zero, suc, ◌<◌, ◌≤◌, true, false, nat_lt, List, [], ◌∷◌, IsPermutation, refl, sym, ◌∙◌, ap, arith, tests, ◌==◌}
 use Rattle.std.specs.List.Sorted.{IsNonDecreasing}
 use native.Mathlib.Decide.{dec_lt}
-use Rattle.std.proofs.lemmas.List.{append-nil}
-use Rattle.misere_theory.specs.Certificates.{Certificate, Canonical, key_of}
-use Rattle.misere_theory.proofs.Shuffles.{Shuffled, from_permutation, to_front}
+use Rattle.misere_theory.specs.Certificates.{Certificate, Canonical, IsSpelled, key_of}
+use Rattle.misere_theory.specs.Certificates.IsSpelled.{Zero, Key}
+use Rattle.misere_theory.proofs.Shuffles.{Shuffled, from_permutation}
 use Rattle.misere_theory.proofs.Shuffles.Shuffled.{Same, Under, Flip, Then}
 use Rattle.pair_closure.specs.Positions.{put, rising}
 use Rattle.checker.specs.Turns.{keys_from}
@@ -57,7 +57,7 @@ put_both a b (x ∷ xs) = elim (dec_lt x a) [
 ]
 
 -- the order before doesn't matter
-rising_same : {X Y : List ℕ} → Shuffled X Y → rising X ≡ rising Y
+pub rising_same : {X Y : List ℕ} → Shuffled X Y → rising X ≡ rising Y
 rising_same Same = refl
 rising_same (Under {n = n} s) = ap (put n) (rising_same s)
 rising_same (Flip {a = a} {b = b} {X = X}) = put_both a b (rising X)
@@ -81,12 +81,6 @@ rising_is X Y s r = sym (rising_same (from_permutation X Y s) ∙ risen Y r)
 pub rising_shuffled : (X Y : List ℕ) → Shuffled X Y → IsNonDecreasing Y → Y ≡ rising X
 rising_shuffled X Y s r = sym (rising_same s ∙ risen Y r)
 
-before : (Z : List ℕ) {X Y : List ℕ} → Shuffled X Y → Shuffled (X ++ Z) (Y ++ Z)
-before Z Same = Same
-before Z (Under s) = Under (before Z s)
-before Z Flip = Flip
-before Z (Then s t) = Then (before Z s) (before Z t)
-
 -- The heaps that the keys of an element spell.
 module _ (c : Certificate) where
   pub keys_none : (n : ℕ) → keys_from c n 0 ≡ []
@@ -98,37 +92,13 @@ module _ (c : Certificate) where
   unfolding keys_from
   keys_some n e p = let f : (e == 0) ≡ false = grind (arith, tests) in rw f
 
-  no_keys : (n e : ℕ) → (0 < e → ⊥) → keys_from c n e ≡ []
-  no_keys n e f = let d : 0 ≡ e = omega (arith, f) in subst (λ v. keys_from c n v ≡ []) d (keys_none n)
-
-  module _ (k : Canonical c) where
-    -- more than enough keys are looked at
-    keys_enough : (n m e : ℕ) → e ≤ n → e ≤ m → e < c.order → keys_from c n e ≡ keys_from c m e
-    keys_enough zero m e a b l = let f : (0 < e → ⊥) = λ h. omega arith in no_keys zero e f ∙ sym (no_keys m e f)
-    keys_enough (suc n) zero e a b l = let f : (0 < e → ⊥) = λ h. omega arith in no_keys (suc n) e f ∙ sym (no_keys zero e f)
-    keys_enough (suc n) (suc m) e a b l = elim (dec_lt 0 e) [
-      | no f ↦ no_keys (suc n) e f ∙ sym (no_keys (suc m) e f)
-      | yes p ↦
-          let up = k.numbered.parent e p l in
-          keys_some n e p ∙ (ap (λ ks. (key_of c e).1 ∷ ks) (keys_enough n m (key_of c e).0 (omega arith) (omega arith) (omega arith)) ∙ sym (keys_some m e p))
-    ]
-
-    keys_next : (e : ℕ) → 0 < e → e < c.order → keys_from c c.order e ≡ (key_of c e).1 ∷ keys_from c c.order (key_of c e).0
-    keys_next e p l = keys_enough c.order (suc c.order) e (omega arith) (omega arith) l ∙ keys_some c.order e p
-
-    -- a key more is spelled
-    pub spells_on : (W X : List ℕ) (e y : ℕ) → 0 < e → e < c.order → IsPermutation ((key_of c e).1 ∷ W) X → rising (W ++ keys_from c c.order e) ≡ rising (keys_from c c.order y) → rising (X ++ keys_from c c.order (key_of c e).0) ≡ rising (keys_from c c.order y)
-    spells_on W X e y p l s is =
-        let K = keys_from c c.order (key_of c e).0 in
-        sym (rising_same (before K (from_permutation ((key_of c e).1 ∷ W) X s)))
-        ∙ (sym (rising_same (to_front W (key_of c e).1 K))
-        ∙ (ap (λ ks. rising (W ++ ks)) (sym (keys_next e p l)) ∙ is))
-
-  -- all are spelled
-  pub spells_all : (W : List ℕ) (e y : ℕ) → e ≡ 0 → rising (W ++ keys_from c c.order e) ≡ rising (keys_from c c.order y) → rising W ≡ rising (keys_from c c.order y)
-  spells_all W e y z is =
-      let none : W ++ keys_from c c.order e ≡ W = ap (λ v. W ++ keys_from c c.order v) z ∙ (ap (λ ks. W ++ ks) (keys_none c.order) ∙ append-nil W) in
-      sym (ap rising none) ∙ is
+  -- what the keys spell is those heaps, where enough keys are looked at
+  pub keys_are : Canonical c → (n e : ℕ) (X : List ℕ) → e ≤ n → e < c.order → IsSpelled c e X → keys_from c n e ≡ X
+  keys_are k n _ _ a l Zero = keys_none n
+  keys_are k zero _ _ a l (Key e p w) = absurd (omega arith)
+  keys_are k (suc n) _ _ a l (Key e p w) =
+      let up = k.numbered.parent e p l in
+      keys_some n e p ∙ ap (λ ks. (key_of c e).1 ∷ ks) (keys_are k n (key_of c e).0 _ (omega arith) (omega arith) w)
 
 -- a heap more
 pub rising_with : (n : ℕ) (W X K : List ℕ) → IsPermutation (n ∷ W) X → IsNonDecreasing X → rising W ≡ rising K → X ≡ rising (n ∷ K)

@@ -1,5 +1,6 @@
 pub mod Units
 pub mod Sheets
+pub mod Spelled
 pub mod Progress
 pub mod Rules
 pub mod Closings

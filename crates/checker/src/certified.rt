@@ -1,8 +1,17 @@
 //! Accepted certificates.
-ghost use Rattle.std.specs.Prelude.{◌≡◌};
-ghost use Rattle.misere_theory.specs.Certificates.{Accepted};
+ghost use Rattle.std.specs.Prelude.{◌≡◌, ◌<◌, ◌≤◌, IfOk};
+ghost use Rattle.misere_theory.specs.Certificates.{Accepted, claim_of, times_of, phi_at};
+ghost use Rattle.misere_theory.specs.Games.{IsHeap, IsPosition};
+ghost use Rattle.misere_theory.specs.Quotients.{value};
+ghost use Rattle.checker.specs.Sheets.{IsPortion};
+ghost use Rattle.checker.specs.Spelled.{AreSpelled};
 
+use crate::spelling::spelled;
+use crate::values::{element, product, times};
+use allocation::{Memory, Room};
 use certificate::Cert;
+use element_sets::ElementSet;
+use positions::Position;
 use std::alloc::{Allocator, Global};
 use std::marker::Model;
 
@@ -12,25 +21,29 @@ use std::marker::Model;
 #[derive(Drop)]
 pub struct Certified<A: Allocator = Global> {
     cert: Cert<A>,
+    /// The portion.
+    inside: ElementSet,
 }
 
 impl<A: Allocator> Model for Certified<A> {
     ghost use Rattle.misere_theory.specs.Certificates.{Certificate, Accepted};
+    ghost use Rattle.checker.specs.Sheets.{IsPortion};
 
     ghost Value = { Certificate };
 
     ghost view = { λ s. s.cert };
 
-    ghost invariant = { λ s. Accepted s.cert };
+    ghost invariant = { λ s. Accepted s.cert × IsPortion s.cert s.inside };
 }
 
 impl<A: Allocator> Certified<A> {
     /// Keeps a certificate that was accepted.
-    pub(crate) fn new(cert: Cert<A>) -> Certified<A>
-        requires { Accepted cert }
+    pub(crate) fn new(cert: Cert<A>, inside: ElementSet) -> Certified<A>
+        requires accepted { Accepted cert }
+        requires portion { IsPortion cert inside }
         ensures { result ≡ cert }
     {
-        Certified { cert }
+        Certified { cert, inside }
     }
 
     /// The certificate. It takes no memory.
@@ -39,5 +52,53 @@ impl<A: Allocator> Certified<A> {
         ensures accepted { Accepted self.now }
     {
         &self.cert
+    }
+
+    /// The element of the heap n.
+    pub fn element(&self, n: u64) -> u16
+        requires { 1 ≤ n }
+        ensures value { result ≡ phi_at self.now n }
+        ensures within { result < self.now.order }
+    {
+        element(&self.cert, n)
+    }
+
+    /// The product of two elements.
+    pub fn times(&self, x: u16, y: u16) -> u16
+        requires x_in { x < self.now.order }
+        requires y_in { y < self.now.order }
+        ensures value { result ≡ times_of self.now x y }
+        ensures within { result < self.now.order }
+    {
+        times(&self.cert, x, y)
+    }
+
+    /// The value of the heaps: the product of their elements.
+    pub fn value(&self, heaps: &[u64]) -> u16
+        requires { IsPosition IsHeap heaps.now }
+        ensures value { result ≡ value (claim_of self.now) heaps.now }
+        ensures within { result < self.now.order }
+        ensures accepted { Accepted self.now }
+    {
+        product(&self.cert, heaps)
+    }
+
+    /// Whether the element is in the P-portion.
+    pub fn holds(&self, x: u16) -> bool
+        requires { x < self.now.order }
+        ensures { result ≡ (claim_of self.now).portion x }
+    {
+        self.inside.contains(x as u8)
+    }
+
+    /// The position that the keys of the element spell, whose value is the element.
+    pub fn spelled<B: Room + Copy>(&self, alloc: B, element: u16) -> Result<Position<B>, Memory>
+        requires { element < self.now.order }
+        ensures keys { IfOk result (AreSpelled self.now element) }
+        ensures position { IfOk result (IsPosition IsHeap) }
+        ensures value { IfOk result (λ X. value (claim_of self.now) X ≡ element) }
+    {
+        let position = spelled(alloc, self.cert.words(), element)?;
+        Ok(position)
     }
 }

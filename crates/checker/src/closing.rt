@@ -138,11 +138,11 @@ fn accepted<A: Room>(sheet: Sheet<A>) -> Certified<A>
     } = sheet;
     let Lines {
         portion,
-        inside: _,
+        inside,
         words,
         apart,
     } = lines;
-    Certified::new(Cert::from_parts(Parts {
+    let cert = Cert::from_parts(Parts {
         code,
         order: table.order(),
         phi,
@@ -150,7 +150,8 @@ fn accepted<A: Room>(sheet: Sheet<A>) -> Certified<A>
         words,
         rows: table.into_rows(),
         apart,
-    }))
+    });
+    Certified::new(cert, inside)
 }
 
 impl<A: Room + Copy> Closing<A> {

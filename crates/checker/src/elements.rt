@@ -13,7 +13,7 @@ ghost use Rattle.checker.specs.Stages.{Carries, Comes, phase_of};
 
 use crate::closing::Closing;
 use crate::refusal::Refusal;
-use crate::sheet::Sheet;
+use crate::sheet::{Sheet, sheets_are_lawful};
 use crate::spelling::spelled;
 use crate::stage::Stage;
 use allocation::{Memory, Room};
@@ -117,8 +117,7 @@ fn beside<A: Room + Copy>(
     ensures fails { IfOk result (RuleFails sheet.now.code (claim_of sheet.now)) }
     ensures exact { IfOk result (λ X. X ≡ rising (heap ∷ keys_from sheet.now sheet.now.order y)) }
 {
-    let _order = sheet.order();
-    let mut position = spelled(alloc, sheet, y)?;
+    let mut position = spelled(alloc, sheet.words(), y)?;
     position.push(heap)?;
     position.heaps();
     Ok(position)
@@ -132,7 +131,7 @@ fn failed<A: Room>(sheet: Sheet<A>, position: Position<A>) -> Stage<A>
     ensures carries { (limit : ℕ) → Carries sheet limit result }
     ensures shown { phase_of result ≡ AtEnded (Outcome sheet.code position) }
 {
-    let _order = sheet.order();
+    sheets_are_lawful(&sheet);
     let Sheet { code, .. } = sheet;
     Stage::Ended(Err(Refusal::Outcome(code, position)))
 }
@@ -168,7 +167,7 @@ impl<A: Room + Copy> Elements<A> {
         ensures value { IfOk result (λ s. s ≡ record { certificate = sheet; pairs = pairs.items; heap = 0; option = 0 }) }
     {
         let contexts = contexts(alloc, &sheet)?;
-        let _order = sheet.order();
+        sheets_are_lawful(&sheet);
         Ok(Elements {
             sheet,
             pairs,

@@ -1,3 +1,4 @@
+//! The stage that looks at the keys of the elements.
 ghost use Rattle.std.specs.Prelude.{◌≡◌, ◌<◌, ◌-◌, ◌↔◌, ◌⊎◌, ℕ, List, true, IsTrue};
 ghost use Rattle.misere_theory.specs.Numbering.{KeyBelow};
 ghost use Rattle.misere_theory.specs.Certificates.{key_of};
@@ -9,7 +10,7 @@ ghost use Rattle.checker.specs.Stages.{Carries, phase_of};
 
 use crate::products::Products;
 use crate::refusal::Refusal;
-use crate::sheet::Sheet;
+use crate::sheet::{Sheet, sheets_are_lawful};
 use crate::stage::Stage;
 use allocation::Room;
 use certificate::Key;
@@ -73,7 +74,7 @@ impl<A: Room + Copy> Keys<A> {
     pub fn new(sheet: Sheet<A>) -> Keys<A>
         ensures value { result ≡ record { certificate = sheet; next = 1; rising = true } }
     {
-        let _order = sheet.order();
+        sheets_are_lawful(&sheet);
         Keys {
             sheet,
             next: 1,

@@ -24,6 +24,7 @@ mod sheet;
 mod spelling;
 mod stage;
 mod turns;
+mod values;
 
 pub use answers::{one_text_for_a_code, true_answers};
 pub use certified::Certified;

@@ -1,3 +1,4 @@
+//! The stage that compares the elements of heaps: start and period are the least.
 ghost use Rattle.std.specs.Prelude.{◌≡◌, ◌<◌, ◌+◌, ◌*◌, ◌≤◌, ◌↔◌, ℕ, List, IsTrue};
 ghost use Rattle.misere_theory.specs.Certificates.{phi_at};
 ghost use Rattle.checker.specs.Progress.{HasNoFaultBelow};
@@ -7,7 +8,7 @@ ghost use Rattle.checker.specs.Stages.{Carries, phase_of};
 
 use crate::refusal::Refusal;
 use crate::separating::Separating;
-use crate::sheet::Sheet;
+use crate::sheet::{Sheet, sheets_are_lawful};
 use crate::stage::Stage;
 use allocation::Room;
 use std::alloc::Global;
@@ -49,7 +50,7 @@ impl<A: Room + Copy> Periods<A> {
         requires { HasNoFaultBelow 5 sheet }
         ensures value { result ≡ record { certificate = sheet; shift = 1; count = 0 } }
     {
-        let _order = sheet.order();
+        sheets_are_lawful(&sheet);
         Periods {
             sheet,
             shift: 1,

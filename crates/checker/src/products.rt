@@ -1,3 +1,4 @@
+//! The stage that looks at the products of elements and heaps.
 ghost use Rattle.std.specs.Prelude.{◌≡◌, ◌<◌, ◌+◌, ◌*◌, ◌≤◌, ◌⊎◌, ℕ, List, IsTrue};
 ghost use Rattle.misere_theory.specs.Faults.{OrderFault};
 ghost use Rattle.checker.specs.Progress.{IsInOrder, AreKeys};
@@ -8,7 +9,7 @@ ghost use Rattle.checker.specs.Stages.{Carries, phase_of};
 use crate::keys::is_below;
 use crate::periods::Periods;
 use crate::refusal::Refusal;
-use crate::sheet::Sheet;
+use crate::sheet::{Sheet, sheets_are_lawful};
 use crate::stage::Stage;
 use allocation::Room;
 use certificate::Key;
@@ -57,7 +58,7 @@ impl<A: Room + Copy> Products<A> {
         requires { AreKeys sheet }
         ensures value { result ≡ record { certificate = sheet; element = 0; heap = 1 } }
     {
-        let _order = sheet.order();
+        sheets_are_lawful(&sheet);
         Products {
             sheet,
             element: 0,

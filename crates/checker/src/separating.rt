@@ -1,3 +1,4 @@
+//! The stage that tries the elements that tell two apart.
 ghost use Rattle.std.specs.Prelude.{◌≡◌, ◌<◌, ◌+◌, ◌*◌, ◌↔◌, ℕ, List, IsTrue};
 ghost use Rattle.misere_theory.specs.Certificates.{claim_of, TellsApart};
 ghost use Rattle.checker.specs.Progress.{HasNoFaultBelow};
@@ -7,7 +8,7 @@ ghost use Rattle.checker.specs.Stages.{Carries, phase_of};
 
 use crate::heaps::Heaps;
 use crate::refusal::Refusal;
-use crate::sheet::Sheet;
+use crate::sheet::{Sheet, sheets_are_lawful};
 use crate::stage::Stage;
 use allocation::Room;
 use std::alloc::Global;
@@ -56,7 +57,7 @@ impl<A: Room + Copy> Separating<A> {
         requires { HasNoFaultBelow 6 sheet }
         ensures value { result ≡ record { certificate = sheet; x = 0; y = 1; number = 0; z = 0 } }
     {
-        let _order = sheet.order();
+        sheets_are_lawful(&sheet);
         Separating {
             sheet,
             x: 0,

@@ -99,6 +99,14 @@ impl<A: Allocator> Sheet<A> {
         self.lines.inside.contains(x as u8)
     }
 
+    /// The keys of the elements from 1 on.
+    pub fn words(&self) -> &[Key]
+        ensures value { result.now ≡ self.now.words }
+        ensures lawful { IsLawful self.now }
+    {
+        &self.lines.words
+    }
+
     /// How many pairs of elements there are.
     pub fn pairs(&self) -> usize
         ensures value { result ≡ length self.now.apart }
@@ -114,4 +122,11 @@ impl<A: Allocator> Sheet<A> {
     {
         self.lines.apart[pair]
     }
+}
+
+/// The numbers of a sheet are in their ranges, and its table has the laws.
+pub fn sheets_are_lawful<A: Allocator>(sheet: &Sheet<A>)
+    ensures { IsLawful sheet.now }
+{
+    let _ = &sheet.lines;
 }

@@ -1,34 +1,27 @@
 //! The position that an element's keys spell.
-ghost use Rattle.std.specs.Prelude.{◌≡◌, ◌<◌, IfOk};
-ghost use Rattle.misere_theory.specs.Certificates.{Canonical, claim_of};
-ghost use Rattle.misere_theory.specs.Games.{IsHeap, IsPosition};
-ghost use Rattle.misere_theory.specs.Quotients.{value};
-ghost use Rattle.pair_closure.specs.Positions.{rising};
-ghost use Rattle.checker.specs.Turns.{keys_from};
+ghost use Rattle.std.specs.Prelude.{◌≡◌, ◌≤◌, IfOk, length};
+ghost use Rattle.misere_theory.specs.Certificates.{Certificate};
+ghost use Rattle.checker.specs.Spelled.{AreSpelled, GoDown};
 
-use crate::sheet::Sheet;
 use allocation::{Memory, Room};
+use certificate::Key;
 use positions::Position;
 
-/// A position whose value is the element: the heaps of its key, of that key's element, and so on.
-pub fn spelled<A: Room + Copy>(
-    alloc: A,
-    sheet: &Sheet<A>,
-    element: u16,
-) -> Result<Position<A>, Memory>
-    requires canonical { Canonical sheet.now }
-    requires element_in { element < sheet.now.order }
-    ensures position { IfOk result (IsPosition IsHeap) }
-    ensures value { IfOk result (λ X. value (claim_of sheet.now) X ≡ element) }
-    ensures keys { IfOk result (λ X. rising X ≡ rising (keys_from sheet.now sheet.now.order element)) }
+/// The position that the keys of an element spell: the heap of its key, that of this key's element,
+/// and so on.
+pub fn spelled<A: Room + Copy>(alloc: A, words: &[Key], element: u16) -> Result<Position<A>, Memory>
+    requires down { GoDown words.now }
+    requires element_in { element ≤ length words.now }
+    ensures { IfOk result (λ X. (c : Certificate) → c.words ≡ words.now → AreSpelled c element X) }
 {
     let mut position = Position::new(alloc);
-    let _order = sheet.order();
-    let mut left = element;
-    while left > 0 {
-        let key = sheet.key(left);
+    let mut reached = element;
+    while reached > 0 {
+        let key = words[reached as usize - 1];
         position.push(key.heap as u64)?;
-        left = key.element;
+        reached = key.element;
     }
+    // they stand rising
+    position.heaps();
     Ok(position)
 }

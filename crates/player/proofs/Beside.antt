@@ -1,12 +1,11 @@
 -- Looks and winning moves.
-use Rattle.std.proofs.Common.{◌≡◌, ℕ, suc, ◌+◌, ◌-◌, ◌<◌, ◌≤◌, ◌⊎◌, inl, inr, Bool, true, false, List, [], ◌∷◌, ◌++◌, length, get_or, sym, ◌∙◌, ap, ap₂, subst, arith}
+use Rattle.std.proofs.Common.{◌≡◌, ℕ, suc, ◌+◌, ◌-◌, ◌<◌, ◌≤◌, ◌⊎◌, inl, inr, Bool, true, false, List, [], ◌∷◌, ◌++◌, length, get_or, sym, ◌∙◌, ap, subst, arith}
 use Rattle.std.specs.Prelude.{take, drop}
 use Rattle.std.specs.List.{Contains, AllPairs, remove}
 use Rattle.std.specs.List.Sorted.{IsNonDecreasing}
 use Rattle.std.proofs.lemmas.List.Elements.{Contains-append_left, Contains-append_right, Contains-append_cases}
 use Rattle.std.proofs.lemmas.List.Sorted.{IsPermutation-refl, IsPermutation-sym, IsPermutation-remove, Contains-permutation}
 use Rattle.std.proofs.lemmas.List.{get_or_default}
-use Rattle.std.proofs.Math.Seq.{take-suc}
 use native.Mathlib.Decide.{dec_lt}
 use Rattle.misere_theory.specs.Certificates.{Certificate, InRanges, Accepted, claim_of}
 use Rattle.misere_theory.specs.Games.{HeapOption, HeapMove, IsHeap, IsPosition}
@@ -122,11 +121,6 @@ module _ (c : Certificate) (yes_to : Accepted c) (X : List ℕ) (position : IsPo
   others_in : (i : ℕ) → IsPosition IsHeap (remove X i)
   others_in i = IsPosition-append IsHeap (take i X) (drop (suc i) X) (taken X i position) (dropped X (suc i) position)
 
-  -- the value of the others, from those before and those behind
-  pub others_value : (i y v w : ℕ) → v ≡ value C (take i X) → w ≡ value C (drop (suc i) X) → y ≡ C.times v w → y ≡ value C (remove X i)
-  others_value i y v w e f g =
-      g ∙ ap₂ C.times e f ∙ sym (value-append IsHeap C yes_to.represents.monoid yes_to.represents.elements (take i X) (drop (suc i) X) (taken X i position) (dropped X (suc i) position))
-
   made_value : (i : ℕ) (n : ℕ) (H : List ℕ) → 1 ≤ n → HeapOption c.code n H → value C (H ++ remove X i) ≡ C.times (value C (remove X i)) (value C H)
   made_value i n H one o =
       let m = yes_to.represents.monoid in
@@ -209,18 +203,3 @@ none_more c yes_to X position i y there beside fails none k l H w = elim (dec_lt
       let passes = winning_puts c yes_to X position i n y there (get_or_default X i 0 n there) beside H w2 in
       clash (puts c y H) passes (fails H w2.1.1.allowed w2.0)
 ]
-
--- the value of the heaps so far, with one more
-pub taken_more : (c : Certificate) (yes_to : Accepted c) (X : List ℕ) (position : IsPosition IsHeap X) (i v e w : ℕ) → i < length X
-    → v ≡ value (claim_of c) (take i X) → e ≡ (claim_of c).phi (get_or X i 0) → w ≡ (claim_of c).times v e → w ≡ value (claim_of c) (take (i + 1) X)
-taken_more c yes_to X position i v e w there before is times =
-    let C = claim_of c in
-    let m = yes_to.represents.monoid in
-    let el = yes_to.represents.elements in
-    let n = get_or X i 0 in
-    let one = heap_at X i 0 there position in
-    let alone : C.times (C.phi n) 0 ≡ C.phi n = m.commutes (C.phi n) 0 (el n one) m.some ∙ m.identity (C.phi n) (el n one) in
-    let s : i + 1 ≡ suc i = omega arith in
-    times ∙ ap₂ C.times before (is ∙ sym alone)
-    ∙ sym (value-append IsHeap C m el (take i X) (n ∷ []) (taken X i position) (one, tt))
-    ∙ ap (value C) (sym (ap (λ k. take k X) s ∙ take-suc X i 0 there))

@@ -1,12 +1,10 @@
 //! What a player answers in a position.
 ghost use Rattle.std.specs.List.Sorted.{IsNonDecreasing};
-ghost use Rattle.misere_theory.specs.Certificates.{Accepted};
 ghost use Rattle.misere_theory.specs.Games.{IsHeap, IsPosition};
 ghost use Rattle.player.specs.Answers.{IsRightAnswer};
 
-use crate::values::{is_in_portion, product};
 use crate::wins::first_win;
-use certificate::Cert;
+use checker::Certified;
 use positions::Move;
 use std::alloc::Allocator;
 
@@ -22,16 +20,15 @@ pub enum Answer {
 }
 
 /// The answer in the position of these heaps, which stand rising.
-pub(crate) fn answer_at<A: Allocator>(cert: &Cert<A>, heaps: &[u64]) -> Answer
-    requires accepted { Accepted cert.now }
+pub(crate) fn answer_at<A: Allocator>(certified: &Certified<A>, heaps: &[u64]) -> Answer
     requires position { IsPosition IsHeap heaps.now }
     requires rising { IsNonDecreasing heaps.now }
-    ensures { IsRightAnswer cert.now.code heaps.now result }
+    ensures { IsRightAnswer certified.now.code heaps.now result }
 {
-    if is_in_portion(cert, product(cert, heaps)) {
+    if certified.holds(certified.value(heaps)) {
         return Answer::Lost;
     }
-    match first_win(cert, heaps) {
+    match first_win(certified, heaps) {
         Some(made) => Answer::Wins(made),
         None => Answer::Ended,
     }

@@ -5,7 +5,6 @@ mod answering;
 mod laws;
 mod looking;
 mod play;
-mod values;
 mod wins;
 
 pub use answering::Answer;

@@ -2,38 +2,52 @@
 ghost use Rattle.std.specs.Prelude.{◌≡◌, ◌<◌, ◌+◌, ◌-◌, ℕ, List, false};
 ghost use Rattle.std.specs.List.Sorted.{IsNonDecreasing};
 ghost use Rattle.std.specs.Option.{MatchOption};
-ghost use Rattle.misere_theory.specs.Certificates.{Accepted};
-ghost use Rattle.misere_theory.specs.Games.{HeapOption};
+ghost use Rattle.misere_theory.specs.Certificates.{Accepted, claim_of};
+ghost use Rattle.misere_theory.specs.Games.{HeapOption, IsHeap, IsPosition};
+ghost use Rattle.misere_theory.specs.Quotients.{value};
 ghost use Rattle.positions.specs.Exact.{heaps_of};
 ghost use Rattle.positions.specs.Options.{options_up_to};
 ghost use Rattle.positions.specs.declared.left.Left.{Left};
 ghost use Rattle.player.specs.Looks.{IsFirstInto, puts};
 
-use crate::values::{is_in_portion, times, value_of_left};
-use certificate::{Cert, claims_agree, in_ranges};
+use certificate::in_ranges;
+use checker::Certified;
 use positions::{Left, Options, options_are_exact, options_up_to};
 use std::alloc::Allocator;
 
 /// The options that a player looks at: of the splits only those whose smaller part is below start + period.
-pub(crate) fn looks_at<A: Allocator>(cert: &Cert<A>, n: u64) -> Options
-    ensures { result ≡ options_up_to cert.now.code n (cert.now.start + cert.now.period - 1) }
+pub(crate) fn looks_at<A: Allocator>(certified: &Certified<A>, n: u64) -> Options
+    ensures list { result ≡ options_up_to certified.now.code n (certified.now.start + certified.now.period - 1) }
+    ensures accepted { Accepted certified.now }
 {
+    let cert = certified.cert();
     in_ranges(cert);
     options_up_to(cert.code(), n, cert.start() + cert.period() - 1)
 }
 
-/// The first option of the heap n that makes a value in the P-portion beside a position of value y.
-pub(crate) fn first_into<A: Allocator>(cert: &Cert<A>, n: u64, y: u16) -> Option<Left>
-    requires accepted { Accepted cert.now }
-    requires y_in { y < cert.now.order }
-    ensures { MatchOption result
-        ((H : List ℕ) → HeapOption cert.now.code n H → IsNonDecreasing H → puts cert.now y H ≡ false)
-        (λ left. IsFirstInto cert.now n y (heaps_of left)) }
+/// The product of the heaps that are left.
+fn value_of_left<A: Allocator>(certified: &Certified<A>, left: Left) -> u16
+    requires { IsPosition IsHeap (heaps_of left) }
+    ensures value { result ≡ value (claim_of certified.now) (heaps_of left) }
+    ensures within { result < certified.now.order }
 {
-    claims_agree();
+    match left {
+        Left::Nothing => certified.value(&[]),
+        Left::One(a) => certified.value(&[a]),
+        Left::Two(a, b) => certified.value(&[a, b]),
+    }
+}
+
+/// The first option of the heap n that makes a value in the P-portion beside a position of value y.
+pub(crate) fn first_into<A: Allocator>(certified: &Certified<A>, n: u64, y: u16) -> Option<Left>
+    requires { y < certified.now.order }
+    ensures { MatchOption result
+        ((H : List ℕ) → HeapOption certified.now.code n H → IsNonDecreasing H → puts certified.now y H ≡ false)
+        (λ left. IsFirstInto certified.now n y (heaps_of left)) }
+{
     options_are_exact();
-    for left in looks_at(cert, n) {
-        if is_in_portion(cert, times(cert, y, value_of_left(cert, left))) {
+    for left in looks_at(certified, n) {
+        if certified.holds(certified.times(y, value_of_left(certified, left))) {
             return Some(left);
         }
     }

@@ -13,9 +13,7 @@ ghost use Rattle.player.specs.Looks.{IsFirstInto};
 
 use crate::answering::{Answer, answer_at};
 use crate::looking::looks_at;
-use crate::values::{is_in_portion, product};
 use allocation::Room;
-use certificate::in_ranges;
 use checker::Certified;
 use outcome_search::Outcome;
 use positions::{Options, Position, options_are_exact};
@@ -26,17 +24,14 @@ pub fn value<A: Allocator, B: Room>(certified: &Certified<A>, position: &Positio
     ensures value { result ≡ value (claim_of certified.now) position.now }
     ensures within { result < certified.now.order }
 {
-    let cert = certified.cert();
-    in_ranges(cert);
-    product(cert, position.heaps()) as u8
+    certified.value(position.heaps()) as u8
 }
 
 /// Who wins from the position under misère play.
 pub fn outcome<A: Allocator, B: Room>(certified: &Certified<A>, position: &Position<B>) -> Outcome
     ensures { HasOutcome certified.now.code position.now result }
 {
-    let cert = certified.cert();
-    if is_in_portion(cert, product(cert, position.heaps())) {
+    if certified.holds(certified.value(position.heaps())) {
         Outcome::P
     } else {
         Outcome::N
@@ -51,7 +46,7 @@ pub fn outcome<A: Allocator, B: Room>(certified: &Certified<A>, position: &Posit
 pub fn answer<A: Allocator, B: Room>(certified: &Certified<A>, position: &Position<B>) -> Answer
     ensures { IsRightAnswer certified.now.code position.now result }
 {
-    answer_at(certified.cert(), position.heaps())
+    answer_at(certified, position.heaps())
 }
 
 /// The options of the heap n that a player looks at, in their order: all but the splits whose smaller part is start +
@@ -66,8 +61,6 @@ pub fn looks<A: Allocator>(certified: &Certified<A>, n: u64) -> Options
     ensures order { AllPairs (λ x y. LeftBefore (heaps_of x) (heaps_of y)) result }
     ensures first { (y : ℕ) (H : List ℕ) → IsFirstInto certified.now n y H → (left : Left) × Contains result left × (heaps_of left ≡ H) }
 {
-    let cert = certified.cert();
-    in_ranges(cert);
     options_are_exact();
-    looks_at(cert, n)
+    looks_at(certified, n)
 }

@@ -1,9 +1,9 @@
 -- The lines of a certified quotient. This project's own.
-use Rattle.std.specs.Prelude.{◌≡◌, ℕ, ◌+◌, Bool, true, false, List, [], ◌++◌, Option, Result, Ok, Err, Vec, if◌then◌else◌, codes, decimal, IsPermutation}
-use Rattle.std.specs.List.Sorted.{IsNonDecreasing}
-use Rattle.misere_theory.specs.Certificates.{Certificate, IsSpelled, claim_of, phi_at}
+use Rattle.std.specs.Prelude.{◌≡◌, ℕ, ◌+◌, Bool, true, false, List, [], ◌++◌, Option, Result, Ok, Err, Vec, if◌then◌else◌, codes, decimal}
+use Rattle.misere_theory.specs.Certificates.{Certificate, claim_of, phi_at}
 use Rattle.octal_code.specs.Text.{code_text}
 use Rattle.positions.specs.Text.{position_text}
+use Rattle.checker.specs.Spelled.{AreSpelled}
 use Rattle.check_command.specs.Checks.{Certifies, SaysOfFile}
 
 -- the first two lines
@@ -17,13 +17,6 @@ tail_line c = codes "repeat " ++ decimal c.period ++ codes " from " ++ decimal c
 -- P for an element of the portion, and N for any other
 abbrev pub letter_of : Certificate → ℕ → List ℕ
 letter_of c e = if (claim_of c).portion e then codes "P" else codes "N"
-
--- the sizes, rising, of the position that the keys of an element spell
-pub record AreSpelled (c : Certificate) (e : ℕ) (sizes : List ℕ) : Type 0 where
-  pub X : List ℕ
-  pub spelled : IsSpelled c e X
-  pub same : IsPermutation X sizes
-  pub rising : IsNonDecreasing sizes
 
 -- an element, its letter, and a position
 abbrev pub element_line : ℕ → List ℕ → List ℕ → List ℕ

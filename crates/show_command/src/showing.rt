@@ -1,46 +1,22 @@
 //! `show`: a certified quotient, line by line.
 ghost use Rattle.std.specs.Prelude.{◌≡◌, ◌<◌, ◌+◌, IfOk, IfErr};
 ghost use Rattle.std.specs.String.{string_bytes};
-ghost use Rattle.misere_theory.specs.Certificates.{Accepted};
 ghost use Rattle.command_results.specs.Stops.{IsFileCause};
-ghost use Rattle.show_command.specs.Shown.{AreElementLines, AreHeapLines, AreSpelled, IsQuotientText, Shows, ShowsFound, element_line, head_lines, heap_line, letter_of, tail_line};
+ghost use Rattle.show_command.specs.Shown.{AreElementLines, AreHeapLines, IsQuotientText, Shows, ShowsFound, element_line, head_lines, heap_line, letter_of, tail_line};
 
 use allocation::Memory;
-use certificate::{Cert, in_ranges};
+use certificate::Cert;
 use check_command::certified;
 use checker::Certified;
 use command_results::{Said, Stop};
 use folders::Folder;
-use positions::Position;
 use std::alloc::{AllocError, Global};
 
-/// The position that the keys of an element spell: the heaps by which it is reached from 0.
-fn spelled(alloc: Global, cert: &Cert, element: u16) -> Result<Position, Memory>
-    requires accepted { Accepted cert.now }
-    requires below { element < cert.now.order }
-    ensures { IfOk result (AreSpelled cert.now element) }
+fn letter(certified: &Certified, element: u16) -> &'static str
+    requires { element < certified.now.order }
+    ensures { result.now ≡ letter_of certified.now element }
 {
-    in_ranges(cert);
-    let mut position = Position::new(alloc);
-    let mut reached = element;
-    while reached > 0 {
-        let key = cert.words()[reached as usize - 1];
-        position.push(key.heap as u64)?;
-        reached = key.element;
-    }
-    // they stand rising
-    let _ = position.heaps();
-    Ok(position)
-}
-
-fn letter(cert: &Cert, element: u16) -> &'static str
-    ensures { result.now ≡ letter_of cert.now element }
-{
-    if cert.portion().contains(&element) {
-        "P"
-    } else {
-        "N"
-    }
+    if certified.holds(element) { "P" } else { "N" }
 }
 
 fn element_text(
@@ -56,14 +32,14 @@ fn element_text(
 }
 
 /// One line for each element, with its outcome and a position of that value.
-fn elements_text(alloc: Global, cert: &Cert) -> Result<String, Memory>
-    requires accepted { Accepted cert.now }
-    ensures { IfOk result (λ t. AreElementLines cert.now cert.now.order (string_bytes t)) }
+fn elements_text(alloc: Global, certified: &Certified) -> Result<String, Memory>
+    ensures { IfOk result (λ t. AreElementLines certified.now certified.now.order (string_bytes t)) }
 {
     let mut text = String::new(alloc);
-    for element in 0..cert.order() {
-        let position = spelled(alloc, cert, element)?.text()?;
-        let line = element_text(alloc, element, letter(cert, element), position.as_str())?;
+    for element in 0..certified.cert().order() {
+        let position = certified.spelled(alloc, element)?.text()?;
+        let letter = letter(certified, element);
+        let line = element_text(alloc, element, letter, position.as_str())?;
         text.push_str(line.as_str())?;
     }
     Ok(text)
@@ -77,12 +53,13 @@ fn heap_text(alloc: Global, heap: u64, element: u16) -> Result<String, AllocErro
 }
 
 /// One line for each heap before the elements repeat.
-fn heaps_text(alloc: Global, cert: &Cert) -> Result<String, Memory>
-    ensures { IfOk result (λ t. AreHeapLines cert.now (cert.now.start + cert.now.period) (string_bytes t)) }
+fn heaps_text(alloc: Global, certified: &Certified) -> Result<String, Memory>
+    ensures { IfOk result (λ t. AreHeapLines certified.now (certified.now.start + certified.now.period) (string_bytes t)) }
 {
+    let cert = certified.cert();
     let mut text = String::new(alloc);
     for heap in 1..cert.start() + cert.period() {
-        let line = heap_text(alloc, heap, cert.phi().at(heap))?;
+        let line = heap_text(alloc, heap, certified.element(heap))?;
         text.push_str(line.as_str())?;
     }
     Ok(text)
@@ -105,14 +82,13 @@ fn tail_text(alloc: Global, cert: &Cert) -> Result<String, Memory>
 }
 
 /// The quotient of the certificate.
-fn quotient_text(alloc: Global, cert: &Cert) -> Result<String, Memory>
-    requires accepted { Accepted cert.now }
-    ensures { IfOk result (λ t. IsQuotientText cert.now (string_bytes t)) }
+fn quotient_text(alloc: Global, certified: &Certified) -> Result<String, Memory>
+    ensures { IfOk result (λ t. IsQuotientText certified.now (string_bytes t)) }
 {
-    let mut text = head_text(alloc, cert)?;
-    text.push_str(elements_text(alloc, cert)?.as_str())?;
-    text.push_str(heaps_text(alloc, cert)?.as_str())?;
-    text.push_str(tail_text(alloc, cert)?.as_str())?;
+    let mut text = head_text(alloc, certified.cert())?;
+    text.push_str(elements_text(alloc, certified)?.as_str())?;
+    text.push_str(heaps_text(alloc, certified)?.as_str())?;
+    text.push_str(tail_text(alloc, certified.cert())?.as_str())?;
     Ok(text)
 }
 
@@ -121,7 +97,7 @@ fn shown(alloc: Global, quotient: Result<Certified, Vec<u8>>) -> Result<Said, Me
     ensures { IfOk result (λ s. ShowsFound quotient s.text.items s.well) }
 {
     match quotient {
-        Ok(certified) => Ok(Said::done(quotient_text(alloc, certified.cert())?)),
+        Ok(certified) => Ok(Said::done(quotient_text(alloc, &certified)?)),
         Err(no) => Ok(Said::no(no)),
     }
 }

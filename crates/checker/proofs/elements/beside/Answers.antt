@@ -1,17 +1,33 @@
-use Rattle.std.proofs.Common.{◌∷◌}
-use Rattle.checker.proofs.SpellLemmas.{element_fails, position_along}
+use Rattle.std.proofs.Common.{◌∷◌, arith, length, ap, sym}
+use Rattle.checker.proofs.SpellLemmas.{element_fails, go_down, position_along, sizes_spelled}
 use Rattle.checker.specs.Turns.{keys_from}
 use Rattle.checker.proofs.SortLemmas.{rising_with}
 use Rattle.checker.proofs.elements.beside.Goals as goal
 
+pub spelled-requires-clause-down : goal.spelled-requires-clause-down
+spelled-requires-clause-down g c = go_down c.args.sheet.now c.words.result.now c.words.ensures.value c.words.ensures.lawful.in_ranges c.requires.canonical
+
+pub spelled-requires-clause-element_in : goal.spelled-requires-clause-element_in
+spelled-requires-clause-element_in g c =
+    let e = ap length c.words.ensures.value in
+    let n = c.words.ensures.lawful.in_ranges.words.0 in
+    let b = c.requires.element in
+    omega arith
+
 pub returns-clause-position : goal.returns-clause-position
 returns-clause-position g c =
-    position_along c.args.sheet.now c.order-order.ensures.lawful (c.args.heap ∷ c.in_ok-position.position) c.push.new.self c.in_ok-push.ensures.ok (c.requires.heap.0, c.in_ok-position.ensures.position)
+    let s = c.args.sheet.now in
+    let spelled = sizes_spelled s c.words.ensures.lawful c.requires.canonical c.args.y c.in_ok-position.position c.requires.element (c.in_ok-position.ensures s (sym c.words.ensures.value)) in
+    position_along s c.words.ensures.lawful (c.args.heap ∷ c.in_ok-position.position) c.push.new.self c.in_ok-push.ensures.ok (c.requires.heap.0, spelled.0)
 
 pub returns-clause-fails : goal.returns-clause-fails
 returns-clause-fails g c =
-    element_fails c.args.sheet.now c.order-order.ensures.lawful c.args.heap c.args.y _ c.push.new.self c.requires.heap.0 c.requires.breach c.in_ok-position.ensures.position c.in_ok-position.ensures.value c.in_ok-push.ensures.ok
+    let s = c.args.sheet.now in
+    let spelled = sizes_spelled s c.words.ensures.lawful c.requires.canonical c.args.y c.in_ok-position.position c.requires.element (c.in_ok-position.ensures s (sym c.words.ensures.value)) in
+    element_fails s c.words.ensures.lawful c.args.heap c.args.y _ c.push.new.self c.requires.heap.0 c.requires.breach spelled.0 spelled.1 c.in_ok-push.ensures.ok
 
 pub returns-clause-exact : goal.returns-clause-exact
 returns-clause-exact g c =
-    rising_with c.args.heap c.in_ok-position.position c.push.new.self (keys_from c.args.sheet.now c.args.sheet.now.order c.args.y) c.in_ok-push.ensures.ok c.heaps.ensures.rising c.in_ok-position.ensures.keys
+    let s = c.args.sheet.now in
+    let spelled = sizes_spelled s c.words.ensures.lawful c.requires.canonical c.args.y c.in_ok-position.position c.requires.element (c.in_ok-position.ensures s (sym c.words.ensures.value)) in
+    rising_with c.args.heap c.in_ok-position.position c.push.new.self (keys_from s s.order c.args.y) c.in_ok-push.ensures.ok c.heaps.ensures.rising spelled.2

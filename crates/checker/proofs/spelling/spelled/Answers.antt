@@ -1,49 +1,57 @@
-use Rattle.std.proofs.Common.{rules, ◌≡◌, ◌∷◌, ◌++◌, IsPermutation, arith, refl, sym, ◌∙◌, ap, subst}
-use Rattle.misere_theory.specs.Certificates.{claim_of, times_of, key_of}
-use Rattle.misere_theory.specs.Quotients.{value}
-use Rattle.checker.proofs.SpellLemmas.{position_along, key_spelled, spell_start, spell_end}
-use Rattle.pair_closure.specs.Positions.{rising}
-use Rattle.checker.specs.Turns.{keys_from}
-use Rattle.checker.proofs.SortLemmas.{spells_on, spells_all}
+use Rattle.std.proofs.Common.{◌≡◌, ◌∙◌, ℕ, List, [], ◌∷◌, ◌++◌, IsPermutation, append-nil, subst, sym, ap, arith}
+use Rattle.std.proofs.lemmas.List.Sorted.{IsPermutation-push_more}
+use Rattle.misere_theory.specs.Certificates.{IsSpelled}
+use Rattle.misere_theory.specs.Certificates.IsSpelled.{Zero}
+use Rattle.checker.specs.Spelled.{key_in}
+use Rattle.checker.proofs.SpellLemmas.{key_is, key_more}
 use Rattle.checker.proofs.spelling.spelled.Goals as goal
 
-pub loop-left-init : goal.loop-left-init
-loop-left-init g c = record {
-  below = c.requires.element_in;
-  heaps = rw c.new-position.ensures tt;
-  value = rw c.new-position.ensures (spell_start c.args.sheet.now c.order-order.ensures.lawful c.args.element c.requires.element_in);
-  keys = rw c.new-position.ensures refl;
-}
+pub push-requires : goal.push-requires
+push-requires g c =
+    let ws = c.args.words.now in
+    let r = c.loop-reached.reached in
+    let k : (c.key.inside.element, c.key.inside.heap) ≡ key_in ws r = c.key.view_is ∙ key_is ws r c.index-words-reached.result c.loop-reached-test.true c.loop-reached.invariant.0 c.index-words-reached.is in
+    let e : c.key.inside.heap ≡ (key_in ws r).1 = ap (λ (p : ℕ × ℕ). p.1) k in
+    let one = c.requires.down.heap r c.loop-reached-test.true c.loop-reached.invariant.0 in
+    (omega arith, omega arith)
 
-pub loop-left-smaller : goal.loop-left-smaller
-loop-left-smaller g c =
-    let e : c.key.inside.element ≡ (key_of c.args.sheet.now c.loop-left.left).0 = ap (λ k. k.0) (c.key.view_is ∙ c.key-key.ensures.value) in
-    rw e (c.requires.canonical.numbered.parent c.loop-left.left c.loop-left-test.true c.loop-left.invariant.below)
+pub loop-reached-smaller : goal.loop-reached-smaller
+loop-reached-smaller g c =
+    let ws = c.args.words.now in
+    let r = c.loop-reached.reached in
+    let k : (c.key.inside.element, c.key.inside.heap) ≡ key_in ws r = c.key.view_is ∙ key_is ws r c.index-words-reached.result c.loop-reached-test.true c.loop-reached.invariant.0 c.index-words-reached.is in
+    let e : c.key.inside.element ≡ (key_in ws r).0 = ap (λ (p : ℕ × ℕ). p.0) k in
+    let down = c.requires.down.parent r c.loop-reached-test.true c.loop-reached.invariant.0 in
+    omega (arith, e, down)
 
-pub loop-left-preserved : goal.loop-left-preserved
-loop-left-preserved g c =
-    let i = c.loop-left.invariant in
-    let s = c.args.sheet.now in
-    let e = c.loop-left.left in
-    let k : (c.key.inside.element, c.key.inside.heap) ≡ key_of s e = c.key.view_is ∙ c.key-key.ensures.value in
-    let heap = c.requires.canonical.numbered.heap e c.loop-left-test.true i.below in
-    let p = subst (λ h. IsPermutation (h ∷ c.loop-left.position) c.push.new.self) (ap (λ k. k.1) k) c.in_ok-push.ensures.ok in
-    let v = key_spelled s c.order-order.ensures.lawful c.requires.canonical c.loop-left.position c.push.new.self e c.args.element c.loop-left-test.true i.below i.heaps p i.value in
+pub loop-reached-preserved : goal.loop-reached-preserved
+loop-reached-preserved g c =
+    let ws = c.args.words.now in
+    let r = c.loop-reached.reached in
+    let i = c.loop-reached.invariant in
+    let k : (c.key.inside.element, c.key.inside.heap) ≡ key_in ws r = c.key.view_is ∙ key_is ws r c.index-words-reached.result c.loop-reached-test.true i.0 c.index-words-reached.is in
+    let e : c.key.inside.element ≡ (key_in ws r).0 = ap (λ (p : ℕ × ℕ). p.0) k in
+    let h : c.key.inside.heap ≡ (key_in ws r).1 = ap (λ (p : ℕ × ℕ). p.1) k in
+    let down = c.requires.down.parent r c.loop-reached-test.true i.0 in
+    let path : List ℕ = i.1.0 in (
+      omega (arith, e, down, i.0),
+      (
+        path ++ (key_in ws r).1 ∷ [],
+        IsPermutation-push_more path c.loop-reached.position c.push.new.self (key_in ws r).1 i.1.1
+            (subst (λ (x : ℕ). IsPermutation (x ∷ c.loop-reached.position) c.push.new.self) h c.in_ok-push.ensures.ok),
+        λ d same Y s. key_more d ws same c.args.element r path c.loop-reached-test.true (i.1.2 d same) Y (subst (λ (x : ℕ). IsSpelled d x Y) e s),
+      ),
+    )
+
+pub returns : goal.returns
+returns g c = λ d same.
+    let i = c.loop-reached.invariant in
+    let z : c.loop-reached.reached ≡ 0 = omega (arith, c.loop-reached-test.false) in
+    let path : List ℕ = i.1.0 in
     record {
-      below = search rules;
-      heaps = position_along s c.order-order.ensures.lawful ((key_of s e).1 ∷ c.loop-left.position) c.push.new.self p (heap.0, i.heaps);
-      value = subst (λ f. times_of s (value (claim_of s) c.push.new.self) f ≡ c.args.element) (sym (ap (λ k. k.0) k)) v;
-      keys = subst (λ f. rising (c.push.new.self ++ keys_from s s.order f) ≡ rising (keys_from s s.order c.args.element)) (sym (ap (λ k. k.0) k)) (spells_on s c.requires.canonical c.loop-left.position c.push.new.self e c.args.element c.loop-left-test.true i.below p i.keys);
+      X = path;
+      spelled = subst (λ (t : List ℕ). IsSpelled d c.args.element t) (append-nil path)
+          (i.1.2 d same [] (subst (λ (x : ℕ). IsSpelled d x []) (sym z) Zero));
+      same = i.1.1;
+      rising = c.heaps.ensures.rising;
     }
-
-pub returns-clause-value : goal.returns-clause-value
-returns-clause-value g c =
-    let i = c.loop-left.invariant in
-    let z : c.loop-left.left ≡ 0 = omega arith in
-    spell_end c.args.sheet.now c.order-order.ensures.lawful c.loop-left.position c.args.element i.heaps (rw z at i.value)
-
-pub returns-clause-keys : goal.returns-clause-keys
-returns-clause-keys g c =
-    let i = c.loop-left.invariant in
-    let z : c.loop-left.left ≡ 0 = omega arith in
-    spells_all c.args.sheet.now c.loop-left.position c.loop-left.left c.args.element z i.keys

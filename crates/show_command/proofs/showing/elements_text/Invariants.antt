@@ -3,4 +3,4 @@ use Rattle.show_command.specs.Shown.{AreElementLines}
 use Rattle.show_command.proofs.showing.elements_text.Given as goal
 
 abbrev pub invariant-loop-element : goal.invariant-loop-element
-invariant-loop-element l = AreElementLines l.cert l.element (string_bytes l.text)
+invariant-loop-element l = AreElementLines l.certified l.element (string_bytes l.text)

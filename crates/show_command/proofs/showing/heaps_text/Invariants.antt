@@ -3,4 +3,4 @@ use Rattle.show_command.specs.Shown.{AreHeapLines}
 use Rattle.show_command.proofs.showing.heaps_text.Given as goal
 
 abbrev pub invariant-loop-heap : goal.invariant-loop-heap
-invariant-loop-heap l = AreHeapLines l.cert l.heap (string_bytes l.text)
+invariant-loop-heap l = AreHeapLines l.certified l.heap (string_bytes l.text)

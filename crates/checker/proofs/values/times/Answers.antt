@@ -1,6 +1,6 @@
 use Rattle.std.proofs.Common.{◌≡◌, ◌*◌, length, ap, arith}
-use Rattle.player.proofs.Rests.{place_below}
-use Rattle.player.proofs.values.times.Goals as goal
+use Rattle.checker.proofs.ValueLemmas.{place_below}
+use Rattle.checker.proofs.values.times.Goals as goal
 
 pub bounds-rows-x : goal.bounds-rows-x
 bounds-rows-x g c =

@@ -1,16 +1,14 @@
-//! Values of positions, by the rows and entries of a certificate.
+//! Values of positions, by the rows and entries of an accepted certificate.
 ghost use Rattle.std.specs.Prelude.{◌≡◌, ◌<◌, ◌≤◌};
 ghost use Rattle.misere_theory.specs.Games.{IsHeap, IsPosition};
 ghost use Rattle.misere_theory.specs.Certificates.{Accepted, claim_of, times_of, phi_at};
 ghost use Rattle.misere_theory.specs.Quotients.{value};
-ghost use Rattle.positions.specs.Exact.{heaps_of};
 
 use certificate::{Cert, claims_agree};
-use positions::Left;
 use std::alloc::Allocator;
 
 /// The element of the heap n.
-pub(crate) fn element<A: Allocator>(cert: &Cert<A>, n: u64) -> u16
+pub fn element<A: Allocator>(cert: &Cert<A>, n: u64) -> u16
     requires accepted { Accepted cert.now }
     requires from_one { 1 ≤ n }
     ensures value { result ≡ phi_at cert.now n }
@@ -20,7 +18,7 @@ pub(crate) fn element<A: Allocator>(cert: &Cert<A>, n: u64) -> u16
 }
 
 /// The product of two elements.
-pub(crate) fn times<A: Allocator>(cert: &Cert<A>, x: u16, y: u16) -> u16
+pub fn times<A: Allocator>(cert: &Cert<A>, x: u16, y: u16) -> u16
     requires accepted { Accepted cert.now }
     requires x_in { x < cert.now.order }
     requires y_in { y < cert.now.order }
@@ -32,7 +30,7 @@ pub(crate) fn times<A: Allocator>(cert: &Cert<A>, x: u16, y: u16) -> u16
 }
 
 /// The product of the heaps' elements.
-pub(crate) fn product<A: Allocator>(cert: &Cert<A>, heaps: &[u64]) -> u16
+pub fn product<A: Allocator>(cert: &Cert<A>, heaps: &[u64]) -> u16
     requires accepted { Accepted cert.now }
     requires position { IsPosition IsHeap heaps.now }
     ensures value { result ≡ value (claim_of cert.now) heaps.now }
@@ -45,25 +43,4 @@ pub(crate) fn product<A: Allocator>(cert: &Cert<A>, heaps: &[u64]) -> u16
         all = times(cert, element(cert, heaps[at]), all);
     }
     all
-}
-
-/// The product of the heaps that are left.
-pub(crate) fn value_of_left<A: Allocator>(cert: &Cert<A>, left: Left) -> u16
-    requires accepted { Accepted cert.now }
-    requires parts { IsPosition IsHeap (heaps_of left) }
-    ensures value { result ≡ value (claim_of cert.now) (heaps_of left) }
-    ensures within { result < cert.now.order }
-{
-    match left {
-        Left::Nothing => 0,
-        Left::One(a) => times(cert, element(cert, a), 0),
-        Left::Two(a, b) => times(cert, element(cert, a), times(cert, element(cert, b), 0)),
-    }
-}
-
-/// Whether an element is in the P-portion.
-pub(crate) fn is_in_portion<A: Allocator>(cert: &Cert<A>, x: u16) -> bool
-    ensures { result ≡ (claim_of cert.now).portion x }
-{
-    cert.portion().contains(&x)
 }

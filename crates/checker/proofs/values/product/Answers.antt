@@ -1,13 +1,14 @@
-use Rattle.std.proofs.Common.{length, sym, ◌∙◌, ap, arith}
+use Rattle.std.proofs.Common.{sym, ◌∙◌, ap, arith}
 use Rattle.misere_theory.specs.Certificates.{claim_of, times_of}
 use Rattle.misere_theory.specs.Quotients.{value}
-use Rattle.player.proofs.Rests.{all_dropped, value_more}
-use Rattle.player.proofs.values.product.Goals as goal
+use Rattle.std.proofs.Math.Seq.{drop-length}
+use Rattle.checker.proofs.ValueLemmas.{value_more}
+use Rattle.checker.proofs.values.product.Goals as goal
 
 pub loop-at-init : goal.loop-at-init
 loop-at-init g c =
     let X = c.args.heaps.now in
-    (omega arith, sym (ap (value (claim_of c.args.cert.now)) (all_dropped X (length X) (omega arith))), c.requires.accepted.represents.monoid.some)
+    (omega arith, sym (ap (value (claim_of c.args.cert.now)) (drop-length X)), c.requires.accepted.represents.monoid.some)
 
 pub loop-at-preserved : goal.loop-at-preserved
 loop-at-preserved g c =
