@@ -16,7 +16,8 @@ row 0 1\nrow 1 0\napart 0\nend\n";
 
 const OF_0_33: &[u8] = b"mqc 1\ncode 0.33\norder 6\nstart 1\nperiod 3\nphi 1 2 0\nportion 1 4\n\
 words 0:1 0:2 1:2 2:2 3:2\n\
-row 0 1 2 3 4 5\nrow 1 0 3 2 5 4\nrow 2 3 4 5 2 3\nrow 3 2 5 4 3 2\nrow 4 5 2 3 4 5\nrow 5 4 3 2 5 4\n\
+row 0 1 2 3 4 5\nrow 1 0 3 2 5 4\nrow 2 3 4 5 2 3\nrow 3 2 5 4 3 2\nrow 4 5 2 3 4 5\n\
+row 5 4 3 2 5 4\n\
 apart 0 1 1 0 4 0 0 4 0 2 0 1 0 1 0\nend\n";
 
 const OF_0_75: &[u8] =
@@ -44,37 +45,53 @@ const OTHERS: [&[u8]; 19] = [
     b"mqc 1\r\ncode 0.3\r\norder 2\r\nstart 1\r\nperiod 2\r\nphi 1 0\r\nportion 1\r\nwords 0:1\r\n\
 row 0 1\r\nrow 1 0\r\napart 0\r\nend\r\n",
     // a leading zero
-    b"mqc 1\ncode 0.3\norder 02\nstart 1\nperiod 2\nphi 1 0\nportion 1\nwords 0:1\nrow 0 1\nrow 1 0\napart 0\nend\n",
+    b"mqc 1\ncode 0.3\norder 02\nstart 1\nperiod 2\nphi 1 0\nportion 1\nwords 0:1\nrow 0 1\n\
+row 1 0\napart 0\nend\n",
     // a byte behind
-    b"mqc 1\ncode 0.3\norder 2\nstart 1\nperiod 2\nphi 1 0\nportion 1\nwords 0:1\nrow 0 1\nrow 1 0\napart 0\nend\n\n",
+    b"mqc 1\ncode 0.3\norder 2\nstart 1\nperiod 2\nphi 1 0\nportion 1\nwords 0:1\nrow 0 1\n\
+row 1 0\napart 0\nend\n\n",
     // a byte before
-    b" mqc 1\ncode 0.3\norder 2\nstart 1\nperiod 2\nphi 1 0\nportion 1\nwords 0:1\nrow 0 1\nrow 1 0\napart 0\nend\n",
+    b" mqc 1\ncode 0.3\norder 2\nstart 1\nperiod 2\nphi 1 0\nportion 1\nwords 0:1\nrow 0 1\n\
+row 1 0\napart 0\nend\n",
     // two spaces
-    b"mqc 1\ncode 0.3\norder 2\nstart 1\nperiod 2\nphi 1  0\nportion 1\nwords 0:1\nrow 0 1\nrow 1 0\napart 0\nend\n",
+    b"mqc 1\ncode 0.3\norder 2\nstart 1\nperiod 2\nphi 1  0\nportion 1\nwords 0:1\nrow 0 1\n\
+row 1 0\napart 0\nend\n",
     // a space at the end of a line
-    b"mqc 1\ncode 0.3\norder 2\nstart 1\nperiod 2\nphi 1 0 \nportion 1\nwords 0:1\nrow 0 1\nrow 1 0\napart 0\nend\n",
+    b"mqc 1\ncode 0.3\norder 2\nstart 1\nperiod 2\nphi 1 0 \nportion 1\nwords 0:1\nrow 0 1\n\
+row 1 0\napart 0\nend\n",
     // another version
-    b"mqc 2\ncode 0.3\norder 2\nstart 1\nperiod 2\nphi 1 0\nportion 1\nwords 0:1\nrow 0 1\nrow 1 0\napart 0\nend\n",
+    b"mqc 2\ncode 0.3\norder 2\nstart 1\nperiod 2\nphi 1 0\nportion 1\nwords 0:1\nrow 0 1\n\
+row 1 0\napart 0\nend\n",
     // a code with its last digit 0
-    b"mqc 1\ncode 0.30\norder 2\nstart 1\nperiod 2\nphi 1 0\nportion 1\nwords 0:1\nrow 0 1\nrow 1 0\napart 0\nend\n",
+    b"mqc 1\ncode 0.30\norder 2\nstart 1\nperiod 2\nphi 1 0\nportion 1\nwords 0:1\nrow 0 1\n\
+row 1 0\napart 0\nend\n",
     // an order out of range
     b"mqc 1\ncode 0.3\norder 1\nstart 1\nperiod 2\nphi 0 0\nportion 0\nwords\nrow 0\napart\nend\n",
-    b"mqc 1\ncode 0.3\norder 257\nstart 1\nperiod 2\nphi 1 0\nportion 1\nwords 0:1\nrow 0 1\nrow 1 0\napart 0\nend\n",
-    b"mqc 1\ncode 0.3\norder 99999999999999999999999999999999\nstart 1\nperiod 2\nphi 1 0\nportion 1\nwords 0:1\nrow 0 1\nrow 1 0\napart 0\nend\n",
+    b"mqc 1\ncode 0.3\norder 257\nstart 1\nperiod 2\nphi 1 0\nportion 1\nwords 0:1\nrow 0 1\n\
+row 1 0\napart 0\nend\n",
+    b"mqc 1\ncode 0.3\norder 99999999999999999999999999999999\nstart 1\nperiod 2\nphi 1 0\n\
+portion 1\nwords 0:1\nrow 0 1\nrow 1 0\napart 0\nend\n",
     // an order with nothing behind it
     b"mqc 1\ncode 0.3\norder 256\n",
     // a start and a period that are 1026 together
-    b"mqc 1\ncode 0.3\norder 2\nstart 1000\nperiod 26\nphi 1 0\nportion 1\nwords 0:1\nrow 0 1\nrow 1 0\napart 0\nend\n",
+    b"mqc 1\ncode 0.3\norder 2\nstart 1000\nperiod 26\nphi 1 0\nportion 1\nwords 0:1\nrow 0 1\n\
+row 1 0\napart 0\nend\n",
     // an element out of range
-    b"mqc 1\ncode 0.3\norder 2\nstart 1\nperiod 2\nphi 1 2\nportion 1\nwords 0:1\nrow 0 1\nrow 1 0\napart 0\nend\n",
+    b"mqc 1\ncode 0.3\norder 2\nstart 1\nperiod 2\nphi 1 2\nportion 1\nwords 0:1\nrow 0 1\n\
+row 1 0\napart 0\nend\n",
     // a portion that doesn't rise, and one without elements
-    b"mqc 1\ncode 0.3\norder 2\nstart 1\nperiod 2\nphi 1 0\nportion 1 1\nwords 0:1\nrow 0 1\nrow 1 0\napart 0\nend\n",
-    b"mqc 1\ncode 0.3\norder 2\nstart 1\nperiod 2\nphi 1 0\nportion\nwords 0:1\nrow 0 1\nrow 1 0\napart 0\nend\n",
+    b"mqc 1\ncode 0.3\norder 2\nstart 1\nperiod 2\nphi 1 0\nportion 1 1\nwords 0:1\nrow 0 1\n\
+row 1 0\napart 0\nend\n",
+    b"mqc 1\ncode 0.3\norder 2\nstart 1\nperiod 2\nphi 1 0\nportion\nwords 0:1\nrow 0 1\nrow 1 0\n\
+apart 0\nend\n",
     // the heap 0
-    b"mqc 1\ncode 0.3\norder 2\nstart 1\nperiod 2\nphi 1 0\nportion 1\nwords 0:0\nrow 0 1\nrow 1 0\napart 0\nend\n",
+    b"mqc 1\ncode 0.3\norder 2\nstart 1\nperiod 2\nphi 1 0\nportion 1\nwords 0:0\nrow 0 1\n\
+row 1 0\napart 0\nend\n",
     // a row that is one short, and one row too few
-    b"mqc 1\ncode 0.3\norder 2\nstart 1\nperiod 2\nphi 1 0\nportion 1\nwords 0:1\nrow 0 1\nrow 1\napart 0\nend\n",
-    b"mqc 1\ncode 0.3\norder 2\nstart 1\nperiod 2\nphi 1 0\nportion 1\nwords 0:1\nrow 0 1\napart 0\nend\n",
+    b"mqc 1\ncode 0.3\norder 2\nstart 1\nperiod 2\nphi 1 0\nportion 1\nwords 0:1\nrow 0 1\nrow 1\n\
+apart 0\nend\n",
+    b"mqc 1\ncode 0.3\norder 2\nstart 1\nperiod 2\nphi 1 0\nportion 1\nwords 0:1\nrow 0 1\n\
+apart 0\nend\n",
 ];
 
 #[test]

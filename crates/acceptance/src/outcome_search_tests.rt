@@ -111,7 +111,8 @@ fn remembers_no_more_than_the_budget(rt: HostRuntime) -> Result<(), Fail> {
     Ok(())
 }
 
-/// Each of the two heaps has hundreds of splits, so that their splits make more positions than the budget allows.
+/// Each of the two heaps has hundreds of splits, so that their splits make more positions than the
+/// budget allows.
 #[test]
 fn gives_up_soon(rt: HostRuntime) -> Result<(), Fail> {
     let code = Code::read(b"0.7777777777777777")?;

@@ -84,7 +84,8 @@ fn stops_at_each_member(rt: HostRuntime) -> Result<(), Fail> {
 
 #[test]
 fn spends_alike_in_any_units(rt: HostRuntime) -> Result<(), Fail> {
-    // The empty position, the heap 1, two and three of it, and the heaps 2 to 7: ten turns, unless the limit comes first.
+    // The empty position, the heap 1, two and three of it, and the heaps 2 to 7: ten turns, unless
+    // the limit comes first.
     for (limit, end, ever, spent) in [
         (3, Grown::Done, 3, 10),
         (2, Grown::Over, 3, 3),

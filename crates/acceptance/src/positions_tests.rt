@@ -195,8 +195,8 @@ fn moved_on<A: Room + Copy>(alloc: A, position: &Position<A>) -> Option<usize> {
     Some(next.heaps().len())
 }
 
-/// Positions of 9, 18, 36 heaps and so on, each made and written: past what lies in a position itself, past the 64 sizes
-/// of a text that is read, past 2^16 bytes and past 2^16 heaps.
+/// Positions of 9, 18, 36 heaps and so on, each made and written: past what lies in a position
+/// itself, past the 64 sizes of a text that is read, past 2^16 bytes and past 2^16 heaps.
 #[test]
 fn memory_suffices_for_many_heaps(rt: HostRuntime) -> Result<(), Fail> {
     let mut position = Position::read(rt.alloc(), b"7 7 7 7 7 7 7 7 7")?;

@@ -126,7 +126,8 @@ fn each_growth_may_be_refused(rt: HostRuntime) -> Result<(), Fail> {
     Ok(())
 }
 
-/// The most entries, whose heaps are the most: of 2051 heaps each has its pair, with the splits of each whole made once.
+/// The most entries, whose heaps are the most: of 2051 heaps each has its pair, with the splits of
+/// each whole made once.
 #[test]
 fn memory_suffices_for_the_most_heaps(rt: HostRuntime) -> Result<(), Fail> {
     let code = Code::read(b"0.7")?;

@@ -18,7 +18,8 @@ last_digit (d ∷ ds) h =
     λ z. h.4 (sym (ap (λ j. slice_index (d ∷ ds) j) one) ∙ z)
 
 -- a code whose digits are those of another is no longer
-no_longer : (a b : List ℕ) → IsOctalCode b → ((j : ℕ) → j < 17 → digit a j ≡ digit b j) → length b ≤ length a
+no_longer : (a b : List ℕ) → IsOctalCode b → ((j : ℕ) → j < 17 → digit a j ≡ digit b j)
+    → length b ≤ length a
 no_longer a b h same = elim (cases_lt (length a) (length b)) [
   | inl l ↦ let s = short_code b h in
       let past : length a ≤ length b - 1 = omega arith in
@@ -28,7 +29,8 @@ no_longer a b h same = elim (cases_lt (length a) (length b)) [
 ]
 
 -- codes with the same digits are the same
-code_from_digits : (a b : List ℕ) → IsOctalCode a → IsOctalCode b → ((j : ℕ) → j < 17 → digit a j ≡ digit b j) → a ≡ b
+code_from_digits : (a b : List ℕ) → IsOctalCode a → IsOctalCode b
+    → ((j : ℕ) → j < 17 → digit a j ≡ digit b j) → a ≡ b
 code_from_digits a b ha hb same =
     let ab = no_longer a b hb same in
     let ba = no_longer b a ha (λ j l. sym (same j l)) in
@@ -36,10 +38,14 @@ code_from_digits a b ha hb same =
     ext_get_or 0 a b (omega arith) (λ i l. let m : i < length a = l in same i (omega arith))
 
 -- codes with the same key are the same
-pub code_from_key : (k a b : List ℕ) → IsOctalCode a → IsOctalCode b → IsKeyOf k a → IsKeyOf k b → a ≡ b
-code_from_key k a b ha hb ka kb = code_from_digits a b ha hb (λ j l. sym (ka.digits j l) ∙ kb.digits j l)
+pub code_from_key : (k a b : List ℕ) → IsOctalCode a → IsOctalCode b → IsKeyOf k a → IsKeyOf k b
+    → a ≡ b
+code_from_key k a b ha hb ka kb =
+    code_from_digits a b ha hb (λ j l. sym (ka.digits j l) ∙ kb.digits j l)
 
 -- a code has one key
 pub one_key : (k l a : List ℕ) → IsKeyOf k a → IsKeyOf l a → k ≡ l
 one_key k l a kk kl =
-    ext_get_or 0 k l (kk.places ∙ sym kl.places) (λ i h. let p = kk.places in let m : i < length k = h in let w : i < 17 = omega arith in kk.digits i w ∙ sym (kl.digits i w))
+    ext_get_or 0 k l (kk.places ∙ sym kl.places) (λ i h. let p = kk.places in
+    let m : i < length k = h in let w : i < 17 = omega arith in
+    kk.digits i w ∙ sym (kl.digits i w))

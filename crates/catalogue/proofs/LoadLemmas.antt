@@ -12,13 +12,15 @@ use Rattle.catalogue.specs.declared.fault.LoadFault.{LoadFault}
 use Rattle.catalogue.specs.declared.fault.LoadFault.TheVariants as fault
 use Rattle.catalogue.proofs.StoreLemmas.{other_codes_push}
 
-zip_push : (es : List Written) (cs : List Certificate) (e : Written) (c : Certificate) → AllZip IsCertified es cs → IsCertified e c → AllZip IsCertified (es ++ e ∷ []) (cs ++ c ∷ [])
+zip_push : (es : List Written) (cs : List Certificate) (e : Written) (c : Certificate)
+    → AllZip IsCertified es cs → IsCertified e c → AllZip IsCertified (es ++ e ∷ []) (cs ++ c ∷ [])
 zip_push [] [] e c h i = (i, tt)
 zip_push [] (d ∷ cs) e c h i = absurd h
 zip_push (x ∷ es) [] e c h i = absurd h
 zip_push (x ∷ es) (d ∷ cs) e c h i = (h.0, zip_push es cs e c h.1 i)
 
-pub stand_push : (es : List Written) (cs : List Certificate) (e : Written) (new : List Certificate) → Stand es cs → IsTaken cs e new → Stand (es ++ e ∷ []) new
+pub stand_push : (es : List Written) (cs : List Certificate) (e : Written) (new : List Certificate)
+    → Stand es cs → IsTaken cs e new → Stand (es ++ e ∷ []) new
 stand_push es cs e new h t = subst (Stand (es ++ e ∷ [])) (sym t.last) (record {
   certified = zip_push es cs e t.certificate h.certified t.certified;
   other_codes = other_codes_push cs t.certificate h.other_codes t.absent;
@@ -29,15 +31,21 @@ nothing_stands = record { certified = tt; other_codes = λ i j d l m. absurd (om
 
 -- a text that stands for no entry
 abbrev pub blank : Texts
-blank = record { code = record { ref_ptr = (0, 0); now = [] }; certificate = record { ref_ptr = (0, 0); now = [] } }
+blank =
+    record {
+      code = record { ref_ptr = (0, 0); now = [] };
+      certificate = record { ref_ptr = (0, 0); now = [] };
+    }
 
-pub itself_at : (ts : List Texts) (i : ℕ) (d e : Texts) → i < length ts → get_or ts i d ≡ get_or ts i e
+pub itself_at : (ts : List Texts) (i : ℕ) (d e : Texts) → i < length ts
+    → get_or ts i d ≡ get_or ts i e
 itself_at [] i d e l = absurd (omega arith)
 itself_at (x ∷ ts) zero d e l = refl
 itself_at (x ∷ ts) (suc i) d e l = itself_at ts i d e (omega arith)
 
 -- the item at a place is the entry there
-pub written_at : (ts : List Texts) (i : ℕ) (t : Texts) → i < length ts → get_or (map written ts) i (written t) ≡ written (get_or ts i t)
+pub written_at : (ts : List Texts) (i : ℕ) (t : Texts) → i < length ts
+    → get_or (map written ts) i (written t) ≡ written (get_or ts i t)
 written_at [] i t l = refl
 written_at (x ∷ ts) zero t l = refl
 written_at (x ∷ ts) (suc i) t l = written_at ts i t (omega arith)
@@ -51,10 +59,13 @@ pub written_more : (ts : List Texts) (i : ℕ) (t : Texts) → i < length ts →
 written_more ts i t l is =
     let n = written_length ts in
     let m : i < length (map written ts) = omega arith in
-    take_more (map written ts) i (written t) m ∙ ap (λ e. take i (map written ts) ++ e ∷ []) (written_at ts i t l ∙ ap written (sym is))
+    take_more (map written ts) i (written t) m ∙ ap (λ e. take i (map written ts) ++ e ∷ [])
+    (written_at ts i t l ∙ ap written (sym is))
 
-first_fault : (limit : ℕ) (ts : List Texts) (i : ℕ) (t : Texts) (cs : List Certificate) (f : LoadFault) → i < length ts → t ≡ get_or ts i t
-    → Stand (take i (map written ts)) cs → IsFaultOf limit cs (i + 1) (written t) f → IsFirstFault limit (map written ts) f
+first_fault : (limit : ℕ) (ts : List Texts) (i : ℕ) (t : Texts) (cs : List Certificate)
+    (f : LoadFault) → i < length ts → t ≡ get_or ts i t
+    → Stand (take i (map written ts)) cs → IsFaultOf limit cs (i + 1) (written t) f
+    → IsFirstFault limit (map written ts) f
 first_fault limit ts i t cs f l is stand h =
     let es = map written ts in
     let n = written_length ts in
@@ -66,23 +77,31 @@ first_fault limit ts i t cs f l is stand h =
       before = take i es;
       entry = written t;
       behind = drop (suc i) es;
-      all = sym (take-append-drop i es) ∙ ap (λ d. take i es ++ d) (drop-cons es i (written t) m) ∙ ap (λ e. take i es ++ e ∷ drop (suc i) es) at;
+      all = sym (take-append-drop i es) ∙ ap (λ d. take i es ++ d) (drop-cons es i (written t) m)
+          ∙ ap (λ e. take i es ++ e ∷ drop (suc i) es) at;
       certificates = cs;
       stand = stand;
       fault_is = subst (λ p. IsFaultOf limit cs p (written t) f) place h;
     }
 
-pub loaded_fault : (bytes : List ℕ) (limit : ℕ) (ts : List Texts) (i : ℕ) (t : Texts) (cs : List Certificate) (f : LoadFault) → Holds bytes (map written ts)
-    → i < length ts → t ≡ get_or ts i t → Stand (take i (map written ts)) cs → IsFaultOrMemory limit cs (i + 1) (written t) f → IsLoaded bytes limit (Err f)
-loaded_fault bytes limit ts i t cs f holds l is stand (inl m) = subst (λ g. IsLoaded bytes limit (Err g)) (sym m) tt
+pub loaded_fault : (bytes : List ℕ) (limit : ℕ) (ts : List Texts) (i : ℕ) (t : Texts)
+    (cs : List Certificate) (f : LoadFault) → Holds bytes (map written ts)
+    → i < length ts → t ≡ get_or ts i t → Stand (take i (map written ts)) cs
+    → IsFaultOrMemory limit cs (i + 1) (written t) f → IsLoaded bytes limit (Err f)
+loaded_fault bytes limit ts i t cs f holds l is stand (inl m) =
+    subst (λ g. IsLoaded bytes limit (Err g)) (sym m) tt
 loaded_fault bytes limit ts i t cs fault.Json holds l is stand (inr h) = absurd h
 loaded_fault bytes limit ts i t cs fault.Shape holds l is stand (inr h) = absurd h
-loaded_fault bytes limit ts i t cs (fault.Entry j r) holds l is stand (inr h) = (map written ts, holds, first_fault limit ts i t cs (fault.Entry j r) l is stand h)
-loaded_fault bytes limit ts i t cs (fault.Code j) holds l is stand (inr h) = (map written ts, holds, first_fault limit ts i t cs (fault.Code j) l is stand h)
-loaded_fault bytes limit ts i t cs (fault.Twice j) holds l is stand (inr h) = (map written ts, holds, first_fault limit ts i t cs (fault.Twice j) l is stand h)
+loaded_fault bytes limit ts i t cs (fault.Entry j r) holds l is stand (inr h) =
+    (map written ts, holds, first_fault limit ts i t cs (fault.Entry j r) l is stand h)
+loaded_fault bytes limit ts i t cs (fault.Code j) holds l is stand (inr h) =
+    (map written ts, holds, first_fault limit ts i t cs (fault.Code j) l is stand h)
+loaded_fault bytes limit ts i t cs (fault.Twice j) holds l is stand (inr h) =
+    (map written ts, holds, first_fault limit ts i t cs (fault.Twice j) l is stand h)
 loaded_fault bytes limit ts i t cs fault.Memory holds l is stand (inr h) = absurd h
 
-pub loaded_no_file : (bytes : List ℕ) (limit : ℕ) (f : LoadFault) → IsNoFile bytes f → IsLoaded bytes limit (Err f)
+pub loaded_no_file : (bytes : List ℕ) (limit : ℕ) (f : LoadFault) → IsNoFile bytes f
+    → IsLoaded bytes limit (Err f)
 loaded_no_file bytes limit fault.Json h = h
 loaded_no_file bytes limit fault.Shape h = h
 loaded_no_file bytes limit (fault.Entry j r) h = absurd h

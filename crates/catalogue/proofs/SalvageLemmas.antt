@@ -14,9 +14,11 @@ use Rattle.catalogue.proofs.LoadLemmas.{written_at, written_length}
 
 -- whatever becomes of the entries from the place on becomes of all, behind the faults listed so far
 abbrev pub GoesOn : ℕ → List Certificate → ℕ → List Written → List LoadFault → Type 0
-GoesOn limit held i es faults = (cs : List Certificate) (more : List LoadFault) → Salvages limit held (i + 1) (drop i es) cs more → Salvages limit [] 1 es cs (faults ++ more)
+GoesOn limit held i es faults = (cs : List Certificate) (more : List LoadFault)
+    → Salvages limit held (i + 1) (drop i es) cs more → Salvages limit [] 1 es cs (faults ++ more)
 
-module _ (limit : ℕ) (ts : List Texts) (i : ℕ) (t : Texts) (l : i < length ts) (is : t ≡ get_or ts i t) where
+module _ (limit : ℕ) (ts : List Texts) (i : ℕ) (t : Texts) (l : i < length ts)
+    (is : t ≡ get_or ts i t) where
   abbrev all : List Written
   all = map written ts
 
@@ -25,23 +27,27 @@ module _ (limit : ℕ) (ts : List Texts) (i : ℕ) (t : Texts) (l : i < length t
       let n = written_length ts in
       let m : i < length all = omega arith in
       let next : suc i ≡ i + 1 = omega arith in
-      drop-cons all i (written t) m ∙ ap (λ e. e ∷ drop (suc i) all) (written_at ts i t l ∙ ap written (sym is)) ∙ ap (λ j. written t ∷ drop j all) next
+      drop-cons all i (written t) m ∙ ap (λ e. e ∷ drop (suc i) all)
+      (written_at ts i t l ∙ ap written (sym is)) ∙ ap (λ j. written t ∷ drop j all) next
 
   next_place : i + 1 + 1 ≡ suc (i + 1)
   next_place = omega arith
 
-  pub kept : (held new : List Certificate) (faults : List LoadFault) → IsTaken held (written t) new → GoesOn limit held i all faults → GoesOn limit new (i + 1) all faults
+  pub kept : (held new : List Certificate) (faults : List LoadFault) → IsTaken held (written t) new
+      → GoesOn limit held i all faults → GoesOn limit new (i + 1) all faults
   kept held new faults taken goes cs more h =
       goes cs more (subst (λ es. Salvages limit held (i + 1) es cs more) (sym here)
       (inl (
         taken.certificate,
         taken.certified,
         taken.absent,
-        subst (λ p. Salvages limit (held ++ taken.certificate ∷ []) p (drop (i + 1) all) cs more) next_place
+        subst (λ p. Salvages limit (held ++ taken.certificate ∷ []) p (drop (i + 1) all) cs more)
+            next_place
             (subst (λ k. Salvages limit k (i + 1 + 1) (drop (i + 1) all) cs more) taken.last h),
       )))
 
-  pub listed : (held new : List Certificate) (faults : List LoadFault) (f : LoadFault) → new ≡ held → IsFaultOf limit held (i + 1) (written t) f
+  pub listed : (held new : List Certificate) (faults : List LoadFault) (f : LoadFault) → new ≡ held
+      → IsFaultOf limit held (i + 1) (written t) f
       → GoesOn limit held i all faults → GoesOn limit new (i + 1) all (faults ++ f ∷ [])
   listed held new faults f same fault goes cs more h =
       subst (Salvages limit [] 1 all cs) (sym (append_assoc faults (f ∷ []) more))
@@ -56,10 +62,13 @@ module _ (limit : ℕ) (ts : List Texts) (i : ℕ) (t : Texts) (l : i < length t
       ))))
 
 -- at the end nothing is left
-pub at_end : (limit : ℕ) (ts : List Texts) (i : ℕ) (held : List Certificate) (faults : List LoadFault) → length ts ≤ i → GoesOn limit held i (map written ts) faults
+pub at_end : (limit : ℕ) (ts : List Texts) (i : ℕ) (held : List Certificate)
+    (faults : List LoadFault) → length ts ≤ i → GoesOn limit held i (map written ts) faults
     → Salvages limit [] 1 (map written ts) held faults
 at_end limit ts i held faults l goes =
     let n = written_length ts in
     let m : length (map written ts) ≤ i = omega arith in
     subst (Salvages limit [] 1 (map written ts) held) (append-nil faults)
-    (goes held [] (subst (λ es. Salvages limit held (i + 1) es held []) (sym (drop_of_length-le (map written ts) m)) (refl, refl)))
+    (goes held []
+    (subst (λ es. Salvages limit held (i + 1) es held [])
+    (sym (drop_of_length-le (map written ts) m)) (refl, refl)))

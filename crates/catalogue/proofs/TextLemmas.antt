@@ -23,7 +23,9 @@ IsPlain line = IsAscii line.name × AllByRecursion IsAscii line.words
 
 spaced_ascii : (ws : List (List ℕ)) → AllByRecursion IsAscii ws → IsAscii (spaced ws)
 spaced_ascii [] h = IsAscii-nil
-spaced_ascii (w ∷ ws) h = IsAscii-cons 32 (w ++ spaced ws) (omega arith) (IsAscii-append w (spaced ws) h.0 (spaced_ascii ws h.1))
+spaced_ascii (w ∷ ws) h =
+    IsAscii-cons 32 (w ++ spaced ws) (omega arith)
+    (IsAscii-append w (spaced ws) h.0 (spaced_ascii ws h.1))
 
 text_ascii : (ls : List Line) → AllByRecursion IsPlain ls → IsAscii (text ls)
 text_ascii [] h = IsAscii-nil
@@ -35,14 +37,21 @@ text_ascii (line ∷ ls) h =
 small_decimal : (n : ℕ) → n ≤ 2048 → IsAscii (decimal n)
 small_decimal n h = IsAscii-decimal n (omega arith)
 
-decimals : (q : ℕ) (xs : List ℕ) → q ≤ 256 → All (λ x. x < q) xs → AllByRecursion IsAscii (map decimal xs)
+decimals : (q : ℕ) (xs : List ℕ) → q ≤ 256 → All (λ x. x < q) xs
+    → AllByRecursion IsAscii (map decimal xs)
 decimals q [] l h = tt
-decimals q (x ∷ xs) l h = (small_decimal x (let m = h 0 x (omega arith) in omega arith), decimals q xs l (λ i d m. h (suc i) d (omega arith)))
+decimals q (x ∷ xs) l h = (
+  small_decimal x (let m = h 0 x (omega arith) in omega arith),
+  decimals q xs l (λ i d m. h (suc i) d (omega arith)),
+)
 
 key_ascii : (k : ℕ × ℕ) → k.0 ≤ 2048 → k.1 ≤ 2048 → IsAscii (key_word k)
-key_ascii k a b = IsAscii-append (decimal k.0) (58 ∷ decimal k.1) (small_decimal k.0 a) (IsAscii-cons 58 (decimal k.1) (omega arith) (small_decimal k.1 b))
+key_ascii k a b =
+    IsAscii-append (decimal k.0) (58 ∷ decimal k.1) (small_decimal k.0 a)
+    (IsAscii-cons 58 (decimal k.1) (omega arith) (small_decimal k.1 b))
 
-keys : (q s : ℕ) (ks : List (ℕ × ℕ)) → q ≤ 256 → s ≤ 1025 → All (λ k. (k.0 < q) × (1 ≤ k.1) × (k.1 < s)) ks → AllByRecursion IsAscii (map key_word ks)
+keys : (q s : ℕ) (ks : List (ℕ × ℕ)) → q ≤ 256 → s ≤ 1025
+    → All (λ k. (k.0 < q) × (1 ≤ k.1) × (k.1 < s)) ks → AllByRecursion IsAscii (map key_word ks)
 keys q s [] l m h = tt
 keys q s (k ∷ ks) l m h =
     let w = h 0 k (omega arith) in
@@ -50,15 +59,22 @@ keys q s (k ∷ ks) l m h =
     let b = w.2 in
     (key_ascii k (omega arith) (omega arith), keys q s ks l m (λ i d n. h (suc i) d (omega arith)))
 
-rows_plain : (q : ℕ) (rows : List (List ℕ)) (behind : List Line) → q ≤ 256 → All (λ row. (length row ≡ q) × All (λ x. x < q) row) rows → AllByRecursion IsPlain behind
+rows_plain : (q : ℕ) (rows : List (List ℕ)) (behind : List Line) → q ≤ 256
+    → All (λ row. (length row ≡ q) × All (λ x. x < q) row) rows → AllByRecursion IsPlain behind
     → AllByRecursion IsPlain (map row_line rows ++ behind)
 rows_plain q [] behind l h b = b
-rows_plain q (row ∷ rows) behind l h b =
-    ((ascii (codes "row") (omega arith, (omega arith, (omega arith, tt))), decimals q row l ((h 0 row (omega arith)).1)), rows_plain q rows behind l (λ i d n. h (suc i) d (omega arith)) b)
+rows_plain q (row ∷ rows) behind l h b = (
+  (
+    ascii (codes "row") (omega arith, (omega arith, (omega arith, tt))),
+    decimals q row l ((h 0 row (omega arith)).1),
+  ),
+  rows_plain q rows behind l (λ i d n. h (suc i) d (omega arith)) b,
+)
 
 digits_ascii : (ds : List ℕ) → All (λ x. x < 8) ds → IsAscii (map digit_byte ds)
 digits_ascii [] h = IsAscii-nil
-digits_ascii (d ∷ ds) h = IsAscii-cons (48 + d) (map digit_byte ds) (let m = h 0 d (omega arith) in omega arith) (digits_ascii ds (λ i x n. h (suc i) x (omega arith)))
+digits_ascii (d ∷ ds) h = IsAscii-cons (48 + d) (map digit_byte ds) (let m = h 0 d (omega arith) in
+    omega arith) (digits_ascii ds (λ i x n. h (suc i) x (omega arith)))
 
 first_small : (d : ℕ) → (d ≡ 0) ⊎ (d ≡ 4) → 48 + d < 128
 first_small d (inl e) = omega arith
@@ -66,7 +82,9 @@ first_small d (inr e) = omega arith
 
 code_ascii : (code : List ℕ) → IsOctalCode code → IsAscii (code_text code)
 code_ascii [] h = absurd h
-code_ascii (d ∷ ds) h = IsAscii-cons (48 + d) (46 ∷ map digit_byte ds) (first_small d h.0) (IsAscii-cons 46 (map digit_byte ds) (omega arith) (digits_ascii ds h.3))
+code_ascii (d ∷ ds) h =
+    IsAscii-cons (48 + d) (46 ∷ map digit_byte ds) (first_small d h.0)
+    (IsAscii-cons 46 (map digit_byte ds) (omega arith) (digits_ascii ds h.3))
 
 lines_plain : (c : Certificate) → InRanges c → AllByRecursion IsPlain (lines c)
 lines_plain c r =
@@ -74,24 +92,74 @@ lines_plain c r =
     let s = r.start.1 in
     let p = r.period.1 in
     let sp = r.period.2 in (
-      (ascii (codes "mqc") (omega arith, (omega arith, (omega arith, tt))), (ascii (codes "1") (omega arith, tt), tt)),
       (
-        (ascii (codes "code") (omega arith, (omega arith, (omega arith, (omega arith, tt)))), (code_ascii c.code r.code, tt)),
+        ascii (codes "mqc") (omega arith, (omega arith, (omega arith, tt))),
+        (ascii (codes "1") (omega arith, tt), tt),
+      ),
+      (
         (
-          (ascii (codes "order") (omega arith, (omega arith, (omega arith, (omega arith, (omega arith, tt))))), (small_decimal c.order (omega arith), tt)),
+          ascii (codes "code") (omega arith, (omega arith, (omega arith, (omega arith, tt)))),
+          (code_ascii c.code r.code, tt),
+        ),
+        (
           (
-            (ascii (codes "start") (omega arith, (omega arith, (omega arith, (omega arith, (omega arith, tt))))), (small_decimal c.start (omega arith), tt)),
+            ascii (codes "order")
+                (omega arith, (omega arith, (omega arith, (omega arith, (omega arith, tt))))),
+            (small_decimal c.order (omega arith), tt),
+          ),
+          (
             (
-              (ascii (codes "period") (omega arith, (omega arith, (omega arith, (omega arith, (omega arith, (omega arith, tt)))))), (small_decimal c.period (omega arith), tt)),
+              ascii (codes "start")
+                  (omega arith, (omega arith, (omega arith, (omega arith, (omega arith, tt))))),
+              (small_decimal c.start (omega arith), tt),
+            ),
+            (
               (
-                (ascii (codes "phi") (omega arith, (omega arith, (omega arith, tt))), decimals c.order c.phi q r.phi.1),
+                ascii (codes "period") (
+                  omega arith,
+                  (omega arith, (omega arith, (omega arith, (omega arith, (omega arith, tt))))),
+                ),
+                (small_decimal c.period (omega arith), tt),
+              ),
+              (
                 (
-                  (ascii (codes "portion") (omega arith, (omega arith, (omega arith, (omega arith, (omega arith, (omega arith, (omega arith, tt))))))), decimals c.order c.portion q r.portion.1),
+                  ascii (codes "phi") (omega arith, (omega arith, (omega arith, tt))),
+                  decimals c.order c.phi q r.phi.1,
+                ),
+                (
                   (
-                    (ascii (codes "words") (omega arith, (omega arith, (omega arith, (omega arith, (omega arith, tt))))), keys c.order (c.start + c.period) c.words q sp r.words.1),
+                    ascii (codes "portion") (
+                      omega arith,
+                      (
+                        omega arith,
+                        (
+                          omega arith,
+                          (omega arith, (omega arith, (omega arith, (omega arith, tt)))),
+                        ),
+                      ),
+                    ),
+                    decimals c.order c.portion q r.portion.1,
+                  ),
+                  (
+                    (
+                      ascii (codes "words") (
+                        omega arith,
+                        (omega arith, (omega arith, (omega arith, (omega arith, tt)))),
+                      ),
+                      keys c.order (c.start + c.period) c.words q sp r.words.1,
+                    ),
                     rows_plain c.order c.rows _ q r.rows.1 (
-                      (ascii (codes "apart") (omega arith, (omega arith, (omega arith, (omega arith, (omega arith, tt))))), decimals c.order c.apart q r.apart.1),
-                      ((ascii (codes "end") (omega arith, (omega arith, (omega arith, tt))), tt), tt),
+                      (
+                        ascii (codes "apart") (
+                          omega arith,
+                          (omega arith, (omega arith, (omega arith, (omega arith, tt)))),
+                        ),
+                        decimals c.order c.apart q r.apart.1,
+                      ),
+                      (
+                        (ascii (codes "end") (omega arith, (omega arith, (omega arith, tt))), tt),
+                        tt,
+                      ),
                     ),
                   ),
                 ),
@@ -120,7 +188,8 @@ take_past (x ∷ xs) zero l = absurd (omega arith)
 take_past (x ∷ xs) (suc i) l = ap (λ ys. x ∷ ys) (take_past xs i (omega arith))
 
 -- what an empty sink took is what went out
-pub taken_utf8 : (a b : Option (List ℕ)) (bytes t : List ℕ) → a ≡ Some [] → Appends a b t → b ≡ Some bytes → IsUtf8 t → IsUtf8 bytes
+pub taken_utf8 : (a b : Option (List ℕ)) (bytes t : List ℕ) → a ≡ Some [] → Appends a b t
+    → b ≡ Some bytes → IsUtf8 t → IsUtf8 bytes
 taken_utf8 None b bytes t e p q u = cc
 taken_utf8 (Some xs) None bytes t e p q u = absurd p
 taken_utf8 (Some xs) (Some ys) bytes t e p q u =

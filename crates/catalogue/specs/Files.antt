@@ -44,7 +44,8 @@ AreEntries (item d ds) (e ∷ es) = IsEntry d e × AreEntries ds es
 abbrev pub version_of : Data → Option ℕ
 version_of d = option_and_then as_u64 (option_and_then as_number (get (codes "version") d))
 
--- an object with exactly the members `version`, the number 1, and `entries`, an array of these items
+-- an object with exactly the members `version`, the number 1, and `entries`, an array of these
+-- items
 pub record IsFrame (d : Data) (items : Items) : Type 0 where
   pub count : member_count d ≡ 2
   pub version : version_of d ≡ Some 1

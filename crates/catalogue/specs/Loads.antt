@@ -26,14 +26,18 @@ pub record Stand (es : List Written) (cs : List Certificate) : Type 0 where
   pub certified : AllZip IsCertified es cs
   pub other_codes : HaveOtherCodes cs
 
--- The first fault of the entry e, the i-th, where the entries before gave the certificates cs: its certificate is refused; else the code
--- isn't that of its certificate; else the code is there already.
+-- The first fault of the entry e, the i-th, where the entries before gave the certificates cs: its
+-- certificate is refused; else the code isn't that of its certificate; else the code is there
+-- already.
 abbrev pub IsFaultOf : ℕ → List Certificate → ℕ → Written → LoadFault → Type 0
 IsFaultOf limit cs i e Json = ⊥
 IsFaultOf limit cs i e Shape = ⊥
-IsFaultOf limit cs i e (Entry j refusal) = (j ≡ i) × IsTrueOf e.certificate limit (refused refusal) × (refused refusal ≢ WantOfMemory)
-IsFaultOf limit cs i e (Code j) = (j ≡ i) × ((c : Certificate) × IsAcceptedText e.certificate c × (e.code ≢ code_text c.code))
-IsFaultOf limit cs i e (Twice j) = (j ≡ i) × ((c : Certificate) × IsCertified e c × HasCode cs c.code)
+IsFaultOf limit cs i e (Entry j refusal) = (j ≡ i) × IsTrueOf e.certificate limit (refused refusal)
+    × (refused refusal ≢ WantOfMemory)
+IsFaultOf limit cs i e (Code j) =
+    (j ≡ i) × ((c : Certificate) × IsAcceptedText e.certificate c × (e.code ≢ code_text c.code))
+IsFaultOf limit cs i e (Twice j) =
+    (j ≡ i) × ((c : Certificate) × IsCertified e c × HasCode cs c.code)
 IsFaultOf limit cs i e Memory = ⊥
 
 -- the first entry at fault, the entries before it, which stand, and its fault; entries count from 1
@@ -58,7 +62,8 @@ IsShapeless bytes = (d : Data) × IsJson bytes d × ((es : List Written) → IsF
 abbrev pub IsFaulty : List ℕ → ℕ → LoadFault → Type 0
 IsFaulty bytes limit fault = (es : List Written) × Holds bytes es × IsFirstFault limit es fault
 
--- What may be answered to bytes: the certificates of all entries in order, or the fault. Want of memory may be answered at any time.
+-- What may be answered to bytes: the certificates of all entries in order, or the fault. Want of
+-- memory may be answered at any time.
 abbrev pub IsLoaded : List ℕ → ℕ → Result (List Certificate) LoadFault → Type 0
 IsLoaded bytes limit (Ok cs) = (es : List Written) × Holds bytes es × Stand es cs
 IsLoaded bytes limit (Err Json) = (d : Data) → IsJson bytes d → ⊥

@@ -24,7 +24,8 @@ ReadsItems depth ts o = (n : ℕ) → length ts ≤ n → converted of_items (it
 
 -- members up to the brace that closes them, put to those that were found before
 abbrev pub ReadsMembers : ℕ → Members → List Token → Option (Members × List Token) → Type 0
-ReadsMembers depth found ts o = (n : ℕ) → length ts ≤ n → converted (λ ms. of_members ms found) (members (value depth) n ts) ≡ o
+ReadsMembers depth found ts o = (n : ℕ) → length ts ≤ n
+    → converted (λ ms. of_members ms found) (members (value depth) n ts) ≡ o
 
 -- the new tokens are those behind a value of which this is so
 abbrev pub Passes : ℕ → List Token → (Data → Type 0) → List Token → Type 0
@@ -59,8 +60,10 @@ pub record AreOf (a b : List ℕ) (found : Members) (x y : Option Data) (others 
   pub rest : MatchBool others (HasOther a b found) (found ≡ pair_of a b x y)
 
 -- a value was read, and put at the key it makes P into Q
-abbrev pub Puts : ℕ → List ℕ → List Token → List Token → (Members → Type 0) → (Members → Type 0) → Type 0
-Puts depth key old new P Q = (d : Data) × ReadsValue depth old (Some (d, new)) × ((found : Members) → P found → Q (put key d found))
+abbrev pub Puts : ℕ → List ℕ → List Token → List Token → (Members → Type 0) → (Members → Type 0)
+    → Type 0
+Puts depth key old new P Q = (d : Data) × ReadsValue depth old (Some (d, new))
+    × ((found : Members) → P found → Q (put key d found))
 
 -- ---- entries
 
@@ -73,14 +76,17 @@ EntryIs (Some t) d = IsEntry d (written t)
 abbrev pub AreFields : Fields → Members → Type 0
 AreFields f found =
     (x y : Option Data) × AreOf (codes "certificate") (codes "code") found x y f.others
-    × (option_map (λ s. s.now) f.certificate ≡ option_and_then as_str x) × (option_map (λ s. s.now) f.code ≡ option_and_then as_str y)
+    × (option_map (λ s. s.now) f.certificate ≡ option_and_then as_str x)
+    × (option_map (λ s. s.now) f.code ≡ option_and_then as_str y)
 
 -- ---- files
 
 -- the value is an array of these entries, or of no entries
 abbrev pub EntriesAre : Option (Vec Texts Global) → Option Data → Type 0
-EntriesAre None x = (ds : Items) → (es : List Written) → option_and_then as_array x ≡ Some ds → AreEntries ds es → ⊥
-EntriesAre (Some v) x = (ds : Items) × (option_and_then as_array x ≡ Some ds) × AreEntries ds (map written v.items)
+EntriesAre None x = (ds : Items) → (es : List Written) → option_and_then as_array x ≡ Some ds
+    → AreEntries ds es → ⊥
+EntriesAre (Some v) x = (ds : Items) × (option_and_then as_array x ≡ Some ds)
+    × AreEntries ds (map written v.items)
 
 -- the value is a file of these entries, or none
 abbrev pub FileIs : Option (Vec Texts Global) → Data → Type 0

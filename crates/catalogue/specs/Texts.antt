@@ -9,11 +9,17 @@ use Rattle.serde_json.specs.Written.{compact_text}
 
 -- an entry: the text of the certificate and that of its code
 abbrev pub entry_data : Certificate → Data
-entry_data c = object (member (codes "certificate") (string (text (lines c))) (member (codes "code") (string (code_text c.code)) no_members))
+entry_data c =
+    object
+    (member (codes "certificate") (string (text (lines c)))
+    (member (codes "code") (string (code_text c.code)) no_members))
 
 -- the entries, and the version 1
 abbrev pub file_data : Items → Data
-file_data items = object (member (codes "entries") (array items) (member (codes "version") (number (unsigned 1)) no_members))
+file_data items =
+    object
+    (member (codes "entries") (array items)
+    (member (codes "version") (number (unsigned 1)) no_members))
 
 -- the entries in their order
 abbrev pub catalogue_data : List Certificate → Data

@@ -19,7 +19,8 @@ fn certified(
     limit: u32,
 ) -> Result<Certified, LoadFault>
     ensures ok { IfOk result (IsCertified (written entry.now)) }
-    ensures err { IfErr result (λ fault. (cs : List Certificate) → IsFaultOrMemory limit cs place (written entry.now) fault) }
+    ensures err { IfErr result (λ fault. (cs : List Certificate)
+        → IsFaultOrMemory limit cs place (written entry.now) fault) }
 {
     match check(alloc, entry.certificate.as_bytes(), limit) {
         Ok(certified) => {

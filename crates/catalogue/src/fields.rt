@@ -19,7 +19,8 @@ struct Fields<'a> {
 
 /// The value, if it is a text. Any other is passed.
 fn text<'a>(reader: &mut Reader<'a>, depth: usize) -> Result<Option<&'a str>, LoadFault>
-    ensures read { IfOk result (λ t. Passes depth reader.old (λ d. option_map (λ s. s.now) t ≡ as_str d) reader.new) }
+    ensures read { IfOk result
+        (λ t. Passes depth reader.old (λ d. option_map (λ s. s.now) t ≡ as_str d) reader.new) }
     ensures shorter { OnOk result (length reader.new < length reader.old) }
     ensures err { IfErr result (IsUnread (ReadsValue depth reader.old None)) }
 {
@@ -34,7 +35,8 @@ fn text<'a>(reader: &mut Reader<'a>, depth: usize) -> Result<Option<&'a str>, Lo
 impl<'a> Fields<'a> {
     /// Takes the value of the member of this name.
     fn take(&mut self, reader: &mut Reader<'a>, depth: usize, name: &str) -> Result<(), LoadFault>
-        ensures taken { OnOk result (Puts depth name.now reader.old reader.new (AreFields self.old) (AreFields self.new)) }
+        ensures taken { OnOk result
+            (Puts depth name.now reader.old reader.new (AreFields self.old) (AreFields self.new)) }
         ensures shorter { OnOk result (length reader.new < length reader.old) }
         ensures err { IfErr result (IsUnread (ReadsValue depth reader.old None)) }
     {
@@ -65,7 +67,8 @@ impl<'a> Fields<'a> {
 /// The entry whose members these are, up to the brace that closes it, if it is one.
 fn members<'a>(reader: &mut Reader<'a>, depth: usize) -> Result<Option<Texts<'a>>, LoadFault>
     ensures read { IfOk result
-        (λ e. (ms : Members) × ReadsMembers depth no_members reader.old (Some (ms, reader.new)) × EntryIs e (object ms)) }
+        (λ e. (ms : Members) × ReadsMembers depth no_members reader.old (Some (ms, reader.new))
+        × EntryIs e (object ms)) }
     ensures shorter { OnOk result (length reader.new < length reader.old) }
     ensures err { IfErr result (IsUnread (ReadsMembers depth no_members reader.old None)) }
 {
@@ -80,7 +83,8 @@ fn members<'a>(reader: &mut Reader<'a>, depth: usize) -> Result<Option<Texts<'a>
     Ok(fields.texts())
 }
 
-/// The value, if it is an entry: an object of exactly the members `code` and `certificate`, both texts. Any other is passed.
+/// The value, if it is an entry: an object of exactly the members `code` and `certificate`, both
+/// texts. Any other is passed.
 pub(crate) fn entry<'a>(
     reader: &mut Reader<'a>,
     depth: usize,

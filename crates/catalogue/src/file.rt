@@ -19,7 +19,8 @@ pub(crate) struct Texts<'a> {
     pub(crate) certificate: &'a str,
 }
 
-/// The entries of a catalogue file, in order. Texts with escapes are written to `scratch`; nothing else of the file is kept.
+/// The entries of a catalogue file, in order. Texts with escapes are written to `scratch`; nothing
+/// else of the file is kept.
 pub(crate) fn entries_of<'a>(
     alloc: Global,
     bytes: &'a [u8],

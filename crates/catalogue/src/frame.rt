@@ -25,7 +25,8 @@ struct Frame<'a> {
 
 /// The value, if it is a whole number. Any other is passed.
 fn version(reader: &mut Reader<'_>, depth: usize) -> Result<Option<u64>, LoadFault>
-    ensures read { IfOk result (λ v. Passes depth reader.old (λ d. v ≡ option_and_then as_u64 (as_number d)) reader.new) }
+    ensures read { IfOk result
+        (λ v. Passes depth reader.old (λ d. v ≡ option_and_then as_u64 (as_number d)) reader.new) }
     ensures shorter { OnOk result (length reader.new < length reader.old) }
     ensures err { IfErr result (IsUnread (ReadsValue depth reader.old None)) }
 {
@@ -45,7 +46,8 @@ fn items<'a>(
 ) -> Result<Option<Vec<Texts<'a>>>, LoadFault>
     requires { 0 < depth }
     ensures read { IfOk result
-        (λ es. (ds : Items) × ReadsItems depth reader.old (Some (ds, reader.new)) × EntriesAre es (Some (array ds))) }
+        (λ es. (ds : Items) × ReadsItems depth reader.old (Some (ds, reader.new))
+        × EntriesAre es (Some (array ds))) }
     ensures shorter { OnOk result (length reader.new < length reader.old) }
     ensures err { IfErr result (IsUnread (ReadsItems depth reader.old None)) }
 {
@@ -67,7 +69,8 @@ fn entries<'a>(
     depth: usize,
 ) -> Result<Option<Vec<Texts<'a>>>, LoadFault>
     requires { 1 < depth }
-    ensures read { IfOk result (λ es. Passes depth reader.old (λ d. EntriesAre es (Some d)) reader.new) }
+    ensures read { IfOk result
+        (λ es. Passes depth reader.old (λ d. EntriesAre es (Some d)) reader.new) }
     ensures shorter { OnOk result (length reader.new < length reader.old) }
     ensures err { IfErr result (IsUnread (ReadsValue depth reader.old None)) }
 {
@@ -89,7 +92,8 @@ impl<'a> Frame<'a> {
         name: &str,
     ) -> Result<(), LoadFault>
         requires { 1 < depth }
-        ensures taken { OnOk result (Puts depth name.now reader.old reader.new (AreParts self.old) (AreParts self.new)) }
+        ensures taken { OnOk result
+            (Puts depth name.now reader.old reader.new (AreParts self.old) (AreParts self.new)) }
         ensures shorter { OnOk result (length reader.new < length reader.old) }
         ensures err { IfErr result (IsUnread (ReadsValue depth reader.old None)) }
     {
@@ -123,7 +127,8 @@ fn members<'a>(
 ) -> Result<Option<Vec<Texts<'a>>>, LoadFault>
     requires { 1 < depth }
     ensures read { IfOk result
-        (λ es. (ms : Members) × ReadsMembers depth no_members reader.old (Some (ms, reader.new)) × FileIs es (object ms)) }
+        (λ es. (ms : Members) × ReadsMembers depth no_members reader.old (Some (ms, reader.new))
+        × FileIs es (object ms)) }
     ensures err { IfErr result (IsUnread (ReadsMembers depth no_members reader.old None)) }
 {
     let mut frame = Frame {

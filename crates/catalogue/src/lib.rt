@@ -1,4 +1,5 @@
-//! Catalogues: certified quotients in a JSON file, one for a code, each checked anew when the file is loaded.
+//! Catalogues: certified quotients in a JSON file, one for a code, each checked anew when the file
+//! is loaded.
 #![tactic(auto)]
 
 mod entry;

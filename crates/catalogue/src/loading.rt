@@ -10,8 +10,9 @@ use std::alloc::Global;
 impl Catalogue {
     /// Loads a catalogue file. Every entry is checked anew, by `limit`, and none is believed.
     ///
-    /// The faults in their order: the bytes are no JSON; the value is no catalogue file; then the first entry at fault, and its first
-    /// fault: its certificate is refused, the code isn't that of its certificate, an earlier entry has the code.
+    /// The faults in their order: the bytes are no JSON; the value is no catalogue file; then the
+    /// first entry at fault, and its first fault: its certificate is refused, the code isn't that
+    /// of its certificate, an earlier entry has the code.
     pub fn load(alloc: Global, bytes: &[u8], limit: u32) -> Result<Catalogue, LoadFault>
         ensures { IsLoaded bytes.now limit result }
     {

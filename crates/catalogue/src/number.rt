@@ -5,8 +5,9 @@ ghost use Rattle.serde_json.specs.Read.{number_of, number_from, float_of};
 
 use fast_float::Numeral;
 
-/// The whole number that the text of a JSON number writes: nothing where it is too large for a float, `Some(None)` where it is another
-/// number, as one below zero, one with a point or one of more than 64 bits.
+/// The whole number that the text of a JSON number writes: nothing where it is too large for a
+/// float, `Some(None)` where it is another number, as one below zero, one with a point or one of
+/// more than 64 bits.
 pub(crate) fn whole(text: &str) -> Option<Option<u64>>
     ensures { result ≡ option_map as_u64 (number_of text.now) }
 {

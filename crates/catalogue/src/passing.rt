@@ -26,9 +26,11 @@ pub(crate) fn pass_from(
     reader: &mut Reader<'_>,
     depth: usize,
 ) -> Result<(), LoadFault>
-    ensures passed { OnOk result (Passes depth (token_of token.entry ∷ reader.old) (λ d. ⊤) reader.new) }
+    ensures passed { OnOk result
+        (Passes depth (token_of token.entry ∷ reader.old) (λ d. ⊤) reader.new) }
     ensures shorter { OnOk result (length reader.new < length reader.old + 1) }
-    ensures err { IfErr result (IsUnread (ReadsValue depth (token_of token.entry ∷ reader.old) None)) }
+    ensures err { IfErr result
+        (IsUnread (ReadsValue depth (token_of token.entry ∷ reader.old) None)) }
 {
     match token {
         Token::String(_) | Token::Bool(_) | Token::Null => Ok(()),
@@ -45,7 +47,8 @@ pub(crate) fn pass_from(
 /// Passes items and the bracket that closes them.
 #[cycle(pass)]
 pub(crate) fn pass_items(reader: &mut Reader<'_>, depth: usize) -> Result<(), LoadFault>
-    ensures passed { OnOk result ((ds : Items) × ReadsItems depth reader.old (Some (ds, reader.new))) }
+    ensures passed { OnOk result
+        ((ds : Items) × ReadsItems depth reader.old (Some (ds, reader.new))) }
     ensures shorter { OnOk result (length reader.new < length reader.old) }
     ensures err { IfErr result (IsUnread (ReadsItems depth reader.old None)) }
 {
@@ -58,7 +61,8 @@ pub(crate) fn pass_items(reader: &mut Reader<'_>, depth: usize) -> Result<(), Lo
 /// Passes members and the brace that closes them.
 #[cycle(pass)]
 fn pass_members(reader: &mut Reader<'_>, depth: usize) -> Result<(), LoadFault>
-    ensures passed { OnOk result ((ms : Members) × ReadsMembers depth no_members reader.old (Some (ms, reader.new))) }
+    ensures passed { OnOk result
+        ((ms : Members) × ReadsMembers depth no_members reader.old (Some (ms, reader.new))) }
     ensures shorter { OnOk result (length reader.new < length reader.old) }
     ensures err { IfErr result (IsUnread (ReadsMembers depth no_members reader.old None)) }
 {

@@ -40,7 +40,8 @@ fn append(
     certified: Certified,
 ) -> Result<(), AddFault>
     requires { lookup (pointwise nat_eq key) entries.old.entries ≡ None }
-    ensures last { OnOk result (entries.new.entries ≡ entries.old.entries ++ (key, certified) ∷ []) }
+    ensures last { OnOk result (entries.new.entries ≡ entries.old.entries
+        ++ (key, certified) ∷ []) }
     ensures unchanged { OnErr result (entries.new.entries ≡ entries.old.entries) }
     ensures memory { IfErr result (λ fault. fault ≡ AddFault.Memory) }
 {
@@ -65,8 +66,8 @@ impl Catalogue {
         *self.entries.allocator()
     }
 
-    /// Adds an entry behind the others. Where the code is there already, so is this very certificate. After a refusal nothing
-    /// changed.
+    /// Adds an entry behind the others. Where the code is there already, so is this very
+    /// certificate. After a refusal nothing changed.
     pub fn add(&mut self, certified: Certified) -> Result<(), AddFault>
         ensures added { OnOk result (self.new ≡ self.old ++ certified ∷ []) }
         ensures present { (result ≡ Err AddFault.Present) ↔ HasCode self.old certified.code }
@@ -94,7 +95,8 @@ impl Catalogue {
 
     /// The entry of a code. It takes no memory.
     pub fn get(&self, code: &Code) -> Option<&Certified>
-        ensures some { IfSome result (λ found. Contains self.now found.now × (found.now.code ≡ code.now) × Accepted found.now) }
+        ensures some { IfSome result (λ found. Contains self.now found.now
+            × (found.now.code ≡ code.now) × Accepted found.now) }
         ensures none { (result ≡ None) ↔ (HasCode self.now code.now → ⊥) }
     {
         self.entries.get(&key_of(code))

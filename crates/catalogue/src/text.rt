@@ -81,11 +81,13 @@ impl Catalogue {
 
     /// Writes the text of the catalogue.
     ///
-    /// Refuses `Write` only where the sink fails in this call; what went out is then a beginning of the text. After want of memory nothing
-    /// was written.
+    /// Refuses `Write` only where the sink fails in this call; what went out is then a beginning of
+    /// the text. After want of memory nothing was written.
     pub fn write<W: Sink>(&self, sink: &mut W) -> Result<(), WriteFault>
-        ensures written { OnOk result (Appends (W.taken sink.old) (W.taken sink.new) (catalogue_text self.now)) }
-        ensures beginning { result ≡ Err WriteFault.Write → AppendsSome (W.taken sink.old) (W.taken sink.new) (catalogue_text self.now) }
+        ensures written { OnOk result
+            (Appends (W.taken sink.old) (W.taken sink.new) (catalogue_text self.now)) }
+        ensures beginning { result ≡ Err WriteFault.Write
+            → AppendsSome (W.taken sink.old) (W.taken sink.new) (catalogue_text self.now) }
         ensures cause { result ≡ Err WriteFault.Write → W.failures sink.old < W.failures sink.new }
         ensures unwritten { result ≡ Err WriteFault.Memory → sink.new ≡ sink.old }
     {

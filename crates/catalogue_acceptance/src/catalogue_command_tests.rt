@@ -11,12 +11,15 @@ const LIMIT: u32 = 1000;
 
 /// The quotient of 0.3, and its text within JSON.
 const NIM: &str =
-    "mqc 1\ncode 0.3\norder 2\nstart 1\nperiod 2\nphi 1 0\nportion 1\nwords 0:1\nrow 0 1\nrow 1 0\napart 0\nend\n";
+    "mqc 1\ncode 0.3\norder 2\nstart 1\nperiod 2\nphi 1 0\nportion 1\nwords 0:1\nrow 0 1\nrow 1 0\n\
+apart 0\nend\n";
 
 const ONE_ENTRY: &str =
-    "{\"entries\":[{\"certificate\":\"mqc 1\\ncode 0.3\\norder 2\\nstart 1\\nperiod 2\\nphi 1 0\\nportion 1\\nwords 0:1\\nrow 0 1\\nrow 1 0\\napart 0\\nend\\n\",\"code\":\"0.3\"}],\"version\":1}\n";
+    "{\"entries\":[{\"certificate\":\"mqc 1\\ncode 0.3\\norder 2\\nstart 1\\nperiod 2\\nphi 1 0\\n\
+portion 1\\nwords 0:1\\nrow 0 1\\nrow 1 0\\napart 0\\nend\\n\",\"code\":\"0.3\"}],\"version\":1}\n";
 
-/// Another version; a portion that is wrong of the empty position; the code of another game; an entry twice; members in another order.
+/// Another version; a portion that is wrong of the empty position; the code of another game; an
+/// entry twice; members in another order.
 const ANOTHER_VERSION: &str = "{\"entries\":[],\"version\":2}";
 
 const A_FLOAT: &str = "{\"entries\":[],\"version\":1.0}";
@@ -24,17 +27,34 @@ const A_FLOAT: &str = "{\"entries\":[],\"version\":1.0}";
 const VERSION_TWICE: &str = "{\"version\":2,\"entries\":[],\"version\":1}";
 
 const WRONG_PORTION: &str =
-    "{\"entries\":[{\"certificate\":\"mqc 1\\ncode 0.3\\norder 2\\nstart 1\\nperiod 2\\nphi 1 0\\nportion 0\\nwords 0:1\\nrow 0 1\\nrow 1 0\\napart 0\\nend\\n\",\"code\":\"0.3\"}],\"version\":1}";
+    "{\"entries\":[{\"certificate\":\"mqc 1\\ncode 0.3\\norder 2\\nstart 1\\nperiod 2\\nphi 1 0\\n\
+portion 0\\nwords 0:1\\nrow 0 1\\nrow 1 0\\napart 0\\nend\\n\",\"code\":\"0.3\"}],\"version\":1}";
 
 const ANOTHER_CODE: &str =
-    "{\"entries\":[{\"certificate\":\"mqc 1\\ncode 0.3\\norder 2\\nstart 1\\nperiod 2\\nphi 1 0\\nportion 1\\nwords 0:1\\nrow 0 1\\nrow 1 0\\napart 0\\nend\\n\",\"code\":\"0.33\"},{\"certificate\":\"\",\"code\":\"0.3\"}],\"version\":1}";
+    "{\"entries\":[{\"certificate\":\"mqc 1\\ncode 0.3\\norder 2\\nstart 1\\nperiod 2\\nphi 1 0\\n\
+portion 1\\nwords 0:1\\nrow 0 1\\nrow 1 0\\napart 0\\nend\\n\
+\",\"code\":\"0.33\"},{\"certificate\":\"\",\"code\":\"0.3\"}],\"version\":1}";
 
 const TWICE: &str =
-    "{\"version\":1,\"entries\":[{\"code\":\"0.3\",\"certificate\":\"mqc 1\\ncode 0.3\\norder 2\\nstart 1\\nperiod 2\\nphi 1 0\\nportion 1\\nwords 0:1\\nrow 0 1\\nrow 1 0\\napart 0\\nend\\n\"},{\"code\":\"\\u0030.3\",\"certificate\":\"mqc 1\\ncode 0.3\\norder 2\\nstart 1\\nperiod 2\\nphi 1 0\\nportion 1\\nwords 0:1\\nrow 0 1\\nrow 1 0\\napart 0\\nend\\n\"}]}";
+    "{\"version\":1,\"entries\":[{\"code\":\"0.3\",\"certificate\":\"mqc 1\\ncode 0.3\\norder 2\\n\
+start 1\\nperiod 2\\nphi 1 0\\nportion 1\\nwords 0:1\\nrow 0 1\\nrow 1 0\\napart 0\\nend\\n\
+\"},{\"code\":\"\\u0030.3\",\"certificate\":\"mqc 1\\ncode 0.3\\norder 2\\nstart 1\\nperiod 2\\n\
+phi 1 0\\nportion 1\\nwords 0:1\\nrow 0 1\\nrow 1 0\\napart 0\\nend\\n\"}]}";
 
 /// The quotients of 0.3, 0.33 and 0.75; the last row of the second is wrong at its last product.
 const DAMAGED: &str =
-    "{\"entries\":[{\"certificate\":\"mqc 1\\ncode 0.3\\norder 2\\nstart 1\\nperiod 2\\nphi 1 0\\nportion 1\\nwords 0:1\\nrow 0 1\\nrow 1 0\\napart 0\\nend\\n\",\"code\":\"0.3\"},{\"certificate\":\"mqc 1\\ncode 0.33\\norder 6\\nstart 1\\nperiod 3\\nphi 1 2 0\\nportion 1 4\\nwords 0:1 0:2 1:2 2:2 3:2\\nrow 0 1 2 3 4 5\\nrow 1 0 3 2 5 4\\nrow 2 3 4 5 2 3\\nrow 3 2 5 4 3 2\\nrow 4 5 2 3 4 5\\nrow 5 4 3 2 5 5\\napart 0 1 1 0 4 0 0 4 0 2 0 1 0 1 0\\nend\\n\",\"code\":\"0.33\"},{\"certificate\":\"mqc 1\\ncode 0.75\\norder 8\\nstart 8\\nperiod 2\\nphi 1 2 1 2 3 2 3 2 4\\nportion 1 7\\nwords 0:1 0:2 0:5 0:9 1:2 1:5 1:9\\nrow 0 1 2 3 4 5 6 7\\nrow 1 0 5 6 7 2 3 4\\nrow 2 5 7 5 5 4 2 2\\nrow 3 6 5 7 7 2 4 4\\nrow 4 7 5 7 7 2 4 4\\nrow 5 2 4 2 2 7 5 5\\nrow 6 3 2 4 4 5 7 7\\nrow 7 4 2 4 4 5 7 7\\napart 0 1 1 3 1 1 0 0 0 0 0 0 4 2 1 2 2 0 1 3 3 0 1 1 0 5 0 0\\nend\\n\",\"code\":\"0.75\"}],\"version\":1}";
+    "{\"entries\":[{\"certificate\":\"mqc 1\\ncode 0.3\\norder 2\\nstart 1\\nperiod 2\\nphi 1 0\\n\
+portion 1\\nwords 0:1\\nrow 0 1\\nrow 1 0\\napart 0\\nend\\n\
+\",\"code\":\"0.3\"},{\"certificate\":\"mqc 1\\ncode 0.33\\norder 6\\nstart 1\\nperiod 3\\n\
+phi 1 2 0\\nportion 1 4\\nwords 0:1 0:2 1:2 2:2 3:2\\nrow 0 1 2 3 4 5\\nrow 1 0 3 2 5 4\\n\
+row 2 3 4 5 2 3\\nrow 3 2 5 4 3 2\\nrow 4 5 2 3 4 5\\nrow 5 4 3 2 5 5\\n\
+apart 0 1 1 0 4 0 0 4 0 2 0 1 0 1 0\\nend\\n\",\"code\":\"0.33\"},{\"certificate\":\"mqc 1\\n\
+code 0.75\\norder 8\\nstart 8\\nperiod 2\\nphi 1 2 1 2 3 2 3 2 4\\nportion 1 7\\n\
+words 0:1 0:2 0:5 0:9 1:2 1:5 1:9\\nrow 0 1 2 3 4 5 6 7\\nrow 1 0 5 6 7 2 3 4\\n\
+row 2 5 7 5 5 4 2 2\\nrow 3 6 5 7 7 2 4 4\\nrow 4 7 5 7 7 2 4 4\\nrow 5 2 4 2 2 7 5 5\\n\
+row 6 3 2 4 4 5 7 7\\nrow 7 4 2 4 4 5 7 7\\n\
+apart 0 1 1 3 1 1 0 0 0 0 0 0 4 2 1 2 2 0 1 3 3 0 1 1 0 5 0 0\\nend\\n\
+\",\"code\":\"0.75\"}],\"version\":1}";
 
 /// Lists a file.
 fn listed(alloc: Global, held: &str) -> Result<Result<Report, CatalogueStop<'static>>, Memory> {

@@ -11,19 +11,28 @@ use streams::MemorySink;
 static FILES: [(&str, &str); 4] = [
     (
         "a.mqc",
-        "mqc 1\ncode 0.3\norder 2\nstart 1\nperiod 2\nphi 1 0\nportion 1\nwords 0:1\nrow 0 1\nrow 1 0\napart 0\nend\n",
+        "mqc 1\ncode 0.3\norder 2\nstart 1\nperiod 2\nphi 1 0\nportion 1\nwords 0:1\nrow 0 1\n\
+row 1 0\napart 0\nend\n",
     ),
     (
         "b.mqc",
-        "mqc 1\ncode 0.33\norder 6\nstart 1\nperiod 3\nphi 1 2 0\nportion 1 4\nwords 0:1 0:2 1:2 2:2 3:2\nrow 0 1 2 3 4 5\nrow 1 0 3 2 5 4\nrow 2 3 4 5 2 3\nrow 3 2 5 4 3 2\nrow 4 5 2 3 4 5\nrow 5 4 3 2 5 4\napart 0 1 1 0 4 0 0 4 0 2 0 1 0 1 0\nend\n",
+        "mqc 1\ncode 0.33\norder 6\nstart 1\nperiod 3\nphi 1 2 0\nportion 1 4\n\
+words 0:1 0:2 1:2 2:2 3:2\nrow 0 1 2 3 4 5\nrow 1 0 3 2 5 4\nrow 2 3 4 5 2 3\nrow 3 2 5 4 3 2\n\
+row 4 5 2 3 4 5\nrow 5 4 3 2 5 4\napart 0 1 1 0 4 0 0 4 0 2 0 1 0 1 0\nend\n",
     ),
     (
         "c.mqc",
-        "mqc 1\ncode 0.75\norder 8\nstart 8\nperiod 2\nphi 1 2 1 2 3 2 3 2 4\nportion 1 7\nwords 0:1 0:2 0:5 0:9 1:2 1:5 1:9\nrow 0 1 2 3 4 5 6 7\nrow 1 0 5 6 7 2 3 4\nrow 2 5 7 5 5 4 2 2\nrow 3 6 5 7 7 2 4 4\nrow 4 7 5 7 7 2 4 4\nrow 5 2 4 2 2 7 5 5\nrow 6 3 2 4 4 5 7 7\nrow 7 4 2 4 4 5 7 7\napart 0 1 1 3 1 1 0 0 0 0 0 0 4 2 1 2 2 0 1 3 3 0 1 1 0 5 0 0\nend\n",
+        "mqc 1\ncode 0.75\norder 8\nstart 8\nperiod 2\nphi 1 2 1 2 3 2 3 2 4\nportion 1 7\n\
+words 0:1 0:2 0:5 0:9 1:2 1:5 1:9\nrow 0 1 2 3 4 5 6 7\nrow 1 0 5 6 7 2 3 4\nrow 2 5 7 5 5 4 2 2\n\
+row 3 6 5 7 7 2 4 4\nrow 4 7 5 7 7 2 4 4\nrow 5 2 4 2 2 7 5 5\nrow 6 3 2 4 4 5 7 7\n\
+row 7 4 2 4 4 5 7 7\napart 0 1 1 3 1 1 0 0 0 0 0 0 4 2 1 2 2 0 1 3 3 0 1 1 0 5 0 0\nend\n",
     ),
     (
         "d.mqc",
-        "mqc 1\ncode 0.75\norder 8\nstart 4\nperiod 2\nphi 1 2 1 2 3\nportion 1 6\nwords 0:1 0:2 0:5 1:2 1:5 2:2 4:2\nrow 0 1 2 3 4 5 6 7\nrow 1 0 4 5 2 3 7 6\nrow 2 4 6 4 7 2 2 4\nrow 3 5 4 6 2 7 7 6\nrow 4 2 7 2 6 4 4 2\nrow 5 3 2 7 4 6 6 7\nrow 6 7 2 7 4 6 6 7\nrow 7 6 4 6 2 7 7 6\napart 0 1 1 1 1 0 3 0 0 0 0 5 0 2 2 2 0 1 3 3 0 1 4 0 1 0 1 0\nend\n",
+        "mqc 1\ncode 0.75\norder 8\nstart 4\nperiod 2\nphi 1 2 1 2 3\nportion 1 6\n\
+words 0:1 0:2 0:5 1:2 1:5 2:2 4:2\nrow 0 1 2 3 4 5 6 7\nrow 1 0 4 5 2 3 7 6\nrow 2 4 6 4 7 2 2 4\n\
+row 3 5 4 6 2 7 7 6\nrow 4 2 7 2 6 4 4 2\nrow 5 3 2 7 4 6 6 7\nrow 6 7 2 7 4 6 6 7\n\
+row 7 6 4 6 2 7 7 6\napart 0 1 1 1 1 0 3 0 0 0 0 5 0 2 2 2 0 1 3 3 0 1 4 0 1 0 1 0\nend\n",
     ),
 ];
 
@@ -36,15 +45,21 @@ fn folder(alloc: Global) -> Result<MemoryFolder, Memory> {
     Ok(folder)
 }
 
-/// Two clients in turn, of whom one has a wrong certificate; one client with jobs that are dropped, idle, worked far, and over their limit.
+/// Two clients in turn, of whom one has a wrong certificate; one client with jobs that are dropped,
+/// idle, worked far, and over their limit.
 static WORKED: [(&[u8], &[u8]); 3] = [
     (
-        b"open 1 c.mqc 2048\nopen 2 d.mqc 2048\nwork 1 1 0\nwork 2 1 1000000\nask 1 1 1\nwork 1 1 1000000\nask 1 1 1 9\nplay 1 1 10\nask 2 1 1\ndrop 2 1\nwork 2 1 5\n",
-        b"opened 1\nopened 1\ngoing\nno 7 Outcome\nrefused 22 NotCertified\nyes 0.75 order 8 start 8 period 2\nP\nwins 10 -> 2 6\nrefused 22 NotCertified\ndropped\nrefused 21 NoJob\n",
+        b"open 1 c.mqc 2048\nopen 2 d.mqc 2048\nwork 1 1 0\nwork 2 1 1000000\nask 1 1 1\n\
+work 1 1 1000000\nask 1 1 1 9\nplay 1 1 10\nask 2 1 1\ndrop 2 1\nwork 2 1 5\n",
+        b"opened 1\nopened 1\ngoing\nno 7 Outcome\nrefused 22 NotCertified\n\
+yes 0.75 order 8 start 8 period 2\nP\nwins 10 -> 2 6\nrefused 22 NotCertified\ndropped\n\
+refused 21 NoJob\n",
     ),
     (
-        b"open 3 b.mqc 100000\nwork 3 1 5\ndrop 3 1\nopen 3 a.mqc 8\nwork 3 1 0\nwork 3 1 18446744073709551615\nwork 3 1 0\nask 3 1 1\nopen 3 a.mqc 0\nwork 3 2 1000\nask 3 1 1 1\n",
-        b"opened 1\ngoing\ndropped\nopened 1\ngoing\nyes 0.3 order 2 start 1 period 2\nyes 0.3 order 2 start 1 period 2\nP\nopened 2\nno 8 Limit\nN\n",
+        b"open 3 b.mqc 100000\nwork 3 1 5\ndrop 3 1\nopen 3 a.mqc 8\nwork 3 1 0\n\
+work 3 1 18446744073709551615\nwork 3 1 0\nask 3 1 1\nopen 3 a.mqc 0\nwork 3 2 1000\nask 3 1 1 1\n",
+        b"opened 1\ngoing\ndropped\nopened 1\ngoing\nyes 0.3 order 2 start 1 period 2\n\
+yes 0.3 order 2 start 1 period 2\nP\nopened 2\nno 8 Limit\nN\n",
     ),
     (b"", b""),
 ];
@@ -82,7 +97,8 @@ fn refuses_the_sixty_fifth_job(rt: HostRuntime) -> Result<(), Fail> {
     Ok(())
 }
 
-/// Scripts that end before their end: why, and the lines that stand. The file of a fifth job is read before the job is refused.
+/// Scripts that end before their end: why, and the lines that stand. The file of a fifth job is
+/// read before the job is refused.
 static BROKEN: [(&[u8], DeskStop<'static>, &[u8]); 4] = [
     (
         b"open 1 a.mqc 8\nopen 17 a.mqc 8\n",

@@ -1,4 +1,5 @@
-//! Tests of the commands over catalogues, scripts, presentations and quotients that are shown, by public names alone.
+//! Tests of the commands over catalogues, scripts, presentations and quotients that are shown, by
+//! public names alone.
 #![tactic(auto)]
 
 #[cfg(test)]

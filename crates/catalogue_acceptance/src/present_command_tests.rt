@@ -7,7 +7,9 @@ fn presents_monoids(rt: HostRuntime) -> Result<(), Fail> {
     let rows = [
         (
             "a^2=1 b^3=b c^4=c^2 bc=ab c^2=b^2",
-            "order 8\ngenerators a=1 b=2 c=3\nrow 0 1 2 3 4 5 6 7\nrow 1 0 4 5 2 3 7 6\nrow 2 4 6 4 7 2 2 4\nrow 3 5 4 6 2 7 7 6\nrow 4 2 7 2 6 4 4 2\nrow 5 3 2 7 4 6 6 7\nrow 6 7 2 7 4 6 6 7\nrow 7 6 4 6 2 7 7 6\n",
+            "order 8\ngenerators a=1 b=2 c=3\nrow 0 1 2 3 4 5 6 7\nrow 1 0 4 5 2 3 7 6\n\
+row 2 4 6 4 7 2 2 4\nrow 3 5 4 6 2 7 7 6\nrow 4 2 7 2 6 4 4 2\nrow 5 3 2 7 4 6 6 7\n\
+row 6 7 2 7 4 6 6 7\nrow 7 6 4 6 2 7 7 6\n",
         ),
         ("a=1", "order 1\ngenerators a=0\nrow 0\n"),
         (

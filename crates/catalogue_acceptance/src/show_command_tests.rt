@@ -8,10 +8,12 @@ const LIMIT: u32 = 100000;
 
 /// The quotients of 0.1 and of 0.33.
 const SMALLEST: &str =
-    "mqc 1\ncode 0.1\norder 2\nstart 2\nperiod 1\nphi 1 0\nportion 1\nwords 0:1\nrow 0 1\nrow 1 0\napart 0\nend\n";
+    "mqc 1\ncode 0.1\norder 2\nstart 2\nperiod 1\nphi 1 0\nportion 1\nwords 0:1\nrow 0 1\nrow 1 0\n\
+apart 0\nend\n";
 
-const SAMPLE: &str =
-    "mqc 1\ncode 0.33\norder 6\nstart 1\nperiod 3\nphi 1 2 0\nportion 1 4\nwords 0:1 0:2 1:2 2:2 3:2\nrow 0 1 2 3 4 5\nrow 1 0 3 2 5 4\nrow 2 3 4 5 2 3\nrow 3 2 5 4 3 2\nrow 4 5 2 3 4 5\nrow 5 4 3 2 5 4\napart 0 1 1 0 4 0 0 4 0 2 0 1 0 1 0\nend\n";
+const SAMPLE: &str = "mqc 1\ncode 0.33\norder 6\nstart 1\nperiod 3\nphi 1 2 0\nportion 1 4\n\
+words 0:1 0:2 1:2 2:2 3:2\nrow 0 1 2 3 4 5\nrow 1 0 3 2 5 4\nrow 2 3 4 5 2 3\nrow 3 2 5 4 3 2\n\
+row 4 5 2 3 4 5\nrow 5 4 3 2 5 4\napart 0 1 1 0 4 0 0 4 0 2 0 1 0 1 0\nend\n";
 
 #[test]
 fn shows_quotients(rt: HostRuntime) -> Result<(), Fail> {
@@ -19,12 +21,14 @@ fn shows_quotients(rt: HostRuntime) -> Result<(), Fail> {
         (
             SMALLEST,
             true,
-            "code 0.1\norder 2\nelement 0 N 0\nelement 1 P 1\nheap 1 1\nheap 2 0\nrepeat 1 from 2\n",
+            "code 0.1\norder 2\nelement 0 N 0\nelement 1 P 1\nheap 1 1\nheap 2 0\n\
+repeat 1 from 2\n",
         ),
         (
             SAMPLE,
             true,
-            "code 0.33\norder 6\nelement 0 N 0\nelement 1 P 1\nelement 2 N 2\nelement 3 N 1 2\nelement 4 P 2 2\nelement 5 N 1 2 2\nheap 1 1\nheap 2 2\nheap 3 0\nrepeat 3 from 1\n",
+            "code 0.33\norder 6\nelement 0 N 0\nelement 1 P 1\nelement 2 N 2\nelement 3 N 1 2\n\
+element 4 P 2 2\nelement 5 N 1 2 2\nheap 1 1\nheap 2 2\nheap 3 0\nrepeat 3 from 1\n",
         ),
         ("mqc 1\n", false, "no 1 Text\n"),
     ];

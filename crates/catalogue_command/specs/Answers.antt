@@ -1,4 +1,5 @@
--- What the actions answer to the bytes of a catalogue file: whether they end well, and what they print. This project's own.
+-- What the actions answer to the bytes of a catalogue file: whether they end well, and what they
+-- print. This project's own.
 use Rattle.std.specs.Prelude.{◌≡◌, ◌⊎◌, ℕ, List, [], ◌∷◌, ◌++◌, Bool, true, false, Option, Some, None, Result, Ok, Err, Vec, Contains, codes, decimal}
 use Rattle.std.specs.List.{flat_map}
 use Rattle.std.specs.declared.alloc.Global.{Global}
@@ -23,42 +24,54 @@ ListsAnswer (Err fault) well printed = (well ≡ false) × IsFaultLine fault pri
 
 -- what may be loaded of the bytes is listed
 abbrev pub IsListing : List ℕ → ℕ → Bool → List ℕ → Type 0
-IsListing bytes limit well printed = (answer : Result (List Certificate) LoadFault) × IsLoaded bytes limit answer × ListsAnswer answer well printed
+IsListing bytes limit well printed = (answer : Result (List Certificate) LoadFault)
+    × IsLoaded bytes limit answer × ListsAnswer answer well printed
 
 -- The text of the certificate of the code, well; that there is none; or the line of the fault.
 abbrev pub GetsAnswer : List ℕ → Result (List Certificate) LoadFault → Bool → List ℕ → Type 0
 GetsAnswer code (Ok cs) well printed =
-    ((c : Certificate) × Contains cs c × (c.code ≡ code) × (well ≡ true) × (printed ≡ text (lines c)))
+    ((c : Certificate) × Contains cs c × (c.code ≡ code) × (well ≡ true)
+    × (printed ≡ text (lines c)))
     ⊎ ((HasCode cs code → ⊥) × (well ≡ false) × (printed ≡ codes "absent\n"))
 GetsAnswer code (Err fault) well printed = (well ≡ false) × IsFaultLine fault printed
 
 abbrev pub IsGotten : List ℕ → ℕ → List ℕ → Bool → List ℕ → Type 0
-IsGotten bytes limit code well printed = (answer : Result (List Certificate) LoadFault) × IsLoaded bytes limit answer × GetsAnswer code answer well printed
+IsGotten bytes limit code well printed = (answer : Result (List Certificate) LoadFault)
+    × IsLoaded bytes limit answer × GetsAnswer code answer well printed
 
 -- what is said of what the file holds
 abbrev pub Lists : ℕ → Option (List ℕ → Option (List ℕ)) → List ℕ → Bool → List ℕ → Type 0
-Lists limit files file well printed = (bytes : List ℕ) × Holds files file bytes × IsListing bytes limit well printed
+Lists limit files file well printed = (bytes : List ℕ) × Holds files file bytes
+    × IsListing bytes limit well printed
 
 -- the text is a code's, and this is said of what the file holds
 abbrev pub Gets : ℕ → Option (List ℕ → Option (List ℕ)) → List ℕ → List ℕ → Bool → List ℕ → Type 0
 Gets limit files file text well printed =
-    (code bytes : List ℕ) × IsCodeText text code × Holds files file bytes × IsGotten bytes limit code well printed
+    (code bytes : List ℕ) × IsCodeText text code × Holds files file bytes
+    × IsGotten bytes limit code well printed
 
 -- the file holds the empty catalogue, and nothing is printed
-abbrev pub Creates : Option (List ℕ → Option (List ℕ)) → Option (List ℕ → Option (List ℕ)) → List ℕ → Bool → List ℕ → Type 0
-Creates before after file well printed = Replaces before after file (catalogue_text []) × (well ≡ true) × (printed ≡ [])
+abbrev pub Creates : Option (List ℕ → Option (List ℕ)) → Option (List ℕ → Option (List ℕ)) → List ℕ
+    → Bool → List ℕ → Type 0
+Creates before after file well printed = Replaces before after file (catalogue_text [])
+    × (well ≡ true) × (printed ≡ [])
 
 -- The catalogue that an addition begins with: an empty one, or what may be loaded of the file.
-abbrev pub Begins : Bool → ℕ → Option (List ℕ → Option (List ℕ)) → List ℕ → Result (List Certificate) LoadFault → Type 0
+abbrev pub Begins : Bool → ℕ → Option (List ℕ → Option (List ℕ)) → List ℕ
+    → Result (List Certificate) LoadFault → Type 0
 Begins true limit files file answer = answer ≡ Ok []
-Begins false limit files file answer = (bytes : List ℕ) × Holds files file bytes × IsLoaded bytes limit answer
+Begins false limit files file answer = (bytes : List ℕ) × Holds files file bytes
+    × IsLoaded bytes limit answer
 
--- The certificate c is added behind the entries cs, well, where its code isn't there; else it is refused.
+-- The certificate c is added behind the entries cs, well, where its code isn't there; else it is
+-- refused.
 abbrev pub Takes : List Certificate → Certificate → Bool → List Certificate → List ℕ → Type 0
-Takes cs c true new printed = (HasCode cs c.code → ⊥) × (new ≡ cs ++ c ∷ []) × (printed ≡ added_line c.code)
+Takes cs c true new printed = (HasCode cs c.code → ⊥) × (new ≡ cs ++ c ∷ [])
+    × (printed ≡ added_line c.code)
 Takes cs c false new printed = HasCode cs c.code × (printed ≡ codes "refused 1 Present\n")
 
--- what comes of a verdict: a certificate that is accepted may be added, and the text of a no is printed
+-- what comes of a verdict: a certificate that is accepted may be added, and the text of a no is
+-- printed
 abbrev pub AddsTo : List Certificate → Answer → Bool → List Certificate → List ℕ → Type 0
 AddsTo cs (Yes c) well new printed = Takes cs c well new printed
 AddsTo cs Text well new printed = (well ≡ false) × IsTextOf Text printed
@@ -73,33 +86,46 @@ AddsTo cs Memory well new printed = ⊥
 
 -- what comes of the bytes of a certificate, by a verdict that is true of them
 abbrev pub IsAddition : List Certificate → List ℕ → ℕ → Bool → List Certificate → List ℕ → Type 0
-IsAddition cs bytes limit well new printed = (verdict : Answer) × IsTrueOf bytes limit verdict × AddsTo cs verdict well new printed
+IsAddition cs bytes limit well new printed = (verdict : Answer) × IsTrueOf bytes limit verdict
+    × AddsTo cs verdict well new printed
 
 -- where it ends well the file holds the text of the new entries, else no file changes
-abbrev pub Saves : Option (List ℕ → Option (List ℕ)) → Option (List ℕ → Option (List ℕ)) → List ℕ → Bool → List Certificate → Type 0
+abbrev pub Saves : Option (List ℕ → Option (List ℕ)) → Option (List ℕ → Option (List ℕ)) → List ℕ
+    → Bool → List Certificate → Type 0
 Saves before after file true new = Replaces before after file (catalogue_text new)
 Saves before after file false new = after ≡ before
 
-abbrev pub AddsAnswer : ℕ → Option (List ℕ → Option (List ℕ)) → Option (List ℕ → Option (List ℕ)) → List ℕ → List ℕ → Result (List Certificate) LoadFault → Bool
+abbrev pub AddsAnswer : ℕ → Option (List ℕ → Option (List ℕ)) → Option (List ℕ → Option (List ℕ))
+    → List ℕ → List ℕ → Result (List Certificate) LoadFault → Bool
     → List ℕ → Type 0
 AddsAnswer limit before after file certificate (Ok cs) well printed =
-    (bytes : List ℕ) × (new : List Certificate) × Holds before certificate bytes × IsAddition cs bytes limit well new printed × Saves before after file well new
-AddsAnswer limit before after file certificate (Err fault) well printed = (well ≡ false) × (after ≡ before) × IsFaultLine fault printed
+    (bytes : List ℕ) × (new : List Certificate) × Holds before certificate bytes
+    × IsAddition cs bytes limit well new printed × Saves before after file well new
+AddsAnswer limit before after file certificate (Err fault) well printed =
+    (well ≡ false) × (after ≡ before) × IsFaultLine fault printed
 
 -- the whole addition: from the files before to those after, and what is printed
-abbrev pub Adds : Bool → ℕ → Option (List ℕ → Option (List ℕ)) → Option (List ℕ → Option (List ℕ)) → List ℕ → List ℕ → Bool → List ℕ → Type 0
+abbrev pub Adds : Bool → ℕ → Option (List ℕ → Option (List ℕ)) → Option (List ℕ → Option (List ℕ))
+    → List ℕ → List ℕ → Bool → List ℕ → Type 0
 Adds fresh limit before after file certificate well printed =
-    (answer : Result (List Certificate) LoadFault) × Begins fresh limit before file answer × AddsAnswer limit before after file certificate answer well printed
+    (answer : Result (List Certificate) LoadFault) × Begins fresh limit before file answer
+    × AddsAnswer limit before after file certificate answer well printed
 
--- The file holds the text of the entries kept, and the faults and how many are kept are printed; or no file changes, and the line of the fault is printed.
-abbrev pub SalvagesAnswer : Option (List ℕ → Option (List ℕ)) → Option (List ℕ → Option (List ℕ)) → List ℕ → Result (List Certificate × Vec LoadFault Global) LoadFault
+-- The file holds the text of the entries kept, and the faults and how many are kept are printed; or
+-- no file changes, and the line of the fault is printed.
+abbrev pub SalvagesAnswer : Option (List ℕ → Option (List ℕ)) → Option (List ℕ → Option (List ℕ))
+    → List ℕ → Result (List Certificate × Vec LoadFault Global) LoadFault
     → Bool → List ℕ → Type 0
 SalvagesAnswer before after file (Ok kept) well printed =
-    (well ≡ true) × Replaces before after file (catalogue_text kept.0) × (printed ≡ salvage_lines kept.0 (kept.1).items)
-SalvagesAnswer before after file (Err fault) well printed = (well ≡ false) × (after ≡ before) × IsFaultLine fault printed
+    (well ≡ true) × Replaces before after file (catalogue_text kept.0)
+    × (printed ≡ salvage_lines kept.0 (kept.1).items)
+SalvagesAnswer before after file (Err fault) well printed = (well ≡ false) × (after ≡ before)
+    × IsFaultLine fault printed
 
 -- the whole salvage: from the files before to those after, and what is printed
-abbrev pub Salvages : ℕ → Option (List ℕ → Option (List ℕ)) → Option (List ℕ → Option (List ℕ)) → List ℕ → Bool → List ℕ → Type 0
+abbrev pub Salvages : ℕ → Option (List ℕ → Option (List ℕ)) → Option (List ℕ → Option (List ℕ))
+    → List ℕ → Bool → List ℕ → Type 0
 Salvages limit before after file well printed =
-    (bytes : List ℕ) × (answer : Result (List Certificate × Vec LoadFault Global) LoadFault) × Holds before file bytes
+    (bytes : List ℕ) × (answer : Result (List Certificate × Vec LoadFault Global) LoadFault)
+    × Holds before file bytes
     × IsSalvaged bytes limit answer × SalvagesAnswer before after file answer well printed

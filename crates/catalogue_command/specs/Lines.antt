@@ -10,11 +10,13 @@ use Rattle.catalogue.specs.declared.fault.LoadFault.TheVariants.{Json, Shape, En
 
 abbrev pub entry_line : Certificate → List ℕ
 entry_line c =
-    code_text c.code ++ codes " order " ++ decimal c.order ++ codes " start " ++ decimal c.start ++ codes " period " ++ decimal c.period ++ codes "\n"
+    code_text c.code ++ codes " order " ++ decimal c.order ++ codes " start " ++ decimal c.start
+    ++ codes " period " ++ decimal c.period ++ codes "\n"
 
 -- an entry, refused under this number and name
 abbrev pub refused_entry : ℕ → ℕ → List ℕ → List ℕ
-refused_entry i number name = codes "refused 3 Entry " ++ decimal i ++ codes " " ++ no_line number name
+refused_entry i number name = codes "refused 3 Entry " ++ decimal i ++ codes " "
+    ++ no_line number name
 
 abbrev pub added_line : List ℕ → List ℕ
 added_line code = codes "added " ++ code_text code ++ codes "\n"
@@ -32,6 +34,8 @@ fault_line Memory = []
 abbrev pub IsFaultLine : LoadFault → List ℕ → Type 0
 IsFaultLine fault text = (fault ≢ Memory) × (text ≡ fault_line fault)
 
--- what is printed of a salvage: the line of each fault in their order, and how many entries are kept
+-- what is printed of a salvage: the line of each fault in their order, and how many entries are
+-- kept
 abbrev pub salvage_lines : List Certificate → List LoadFault → List ℕ
-salvage_lines cs faults = flat_map fault_line faults ++ codes "kept " ++ decimal (length cs) ++ codes "\n"
+salvage_lines cs faults = flat_map fault_line faults ++ codes "kept " ++ decimal (length cs)
+    ++ codes "\n"

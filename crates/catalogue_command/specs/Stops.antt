@@ -12,12 +12,14 @@ pub record Failed : Type 0 where
 abbrev pub failed : ℕ → ℕ → Failed
 failed reads writes = record { reads = reads; writes = writes }
 
--- Why an action stops that reads such files, and may write, and may need a code: a read of such a file failed, or a write did, or no
--- device failed and memory was wanting, or there is no code.
+-- Why an action stops that reads such files, and may write, and may need a code: a read of such a
+-- file failed, or a write did, or no device failed and memory was wanting, or there is no code.
 abbrev pub IsStop : (List ℕ → Type 0) → Type 0 → Type 0 → Failed → Failed → CatalogueStop → Type 0
-IsStop Reads MayWrite LacksCode before after (Read name) = Reads name.now × (before.reads < after.reads)
+IsStop Reads MayWrite LacksCode before after (Read name) =
+    Reads name.now × (before.reads < after.reads)
 IsStop Reads MayWrite LacksCode before after Write = MayWrite × (before.writes < after.writes)
-IsStop Reads MayWrite LacksCode before after Memory = (after.reads ≡ before.reads) × (after.writes ≡ before.writes)
+IsStop Reads MayWrite LacksCode before after Memory = (after.reads ≡ before.reads)
+    × (after.writes ≡ before.writes)
 IsStop Reads MayWrite LacksCode before after NotACode = LacksCode
 
 -- the text isn't a code's
@@ -36,9 +38,11 @@ StopsGet file code = IsStop (λ name. name ≡ file) ⊥ (IsNoCode code)
 abbrev pub StopsCreate : Failed → Failed → CatalogueStop → Type 0
 StopsCreate = IsStop (λ name. ⊥) ⊤ ⊥
 
--- an addition reads the certificate, and the file unless it begins with an empty catalogue, and writes
+-- an addition reads the certificate, and the file unless it begins with an empty catalogue, and
+-- writes
 abbrev pub StopsAdd : Bool → List ℕ → List ℕ → Failed → Failed → CatalogueStop → Type 0
-StopsAdd fresh file certificate = IsStop (λ name. ((fresh ≡ false) × (name ≡ file)) ⊎ (name ≡ certificate)) ⊤ ⊥
+StopsAdd fresh file certificate =
+    IsStop (λ name. ((fresh ≡ false) × (name ≡ file)) ⊎ (name ≡ certificate)) ⊤ ⊥
 
 -- a salvage reads the file and writes
 abbrev pub StopsSalvage : List ℕ → Failed → Failed → CatalogueStop → Type 0

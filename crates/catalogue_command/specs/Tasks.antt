@@ -1,4 +1,5 @@
--- What is said of a catalogue file, what it holds then, and why a task stops, for each task. This project's own.
+-- What is said of a catalogue file, what it holds then, and why a task stops, for each task. This
+-- project's own.
 use Rattle.std.specs.Prelude.{◌≡◌, ℕ, Bool, true, false, List, Option, Some, None}
 use Rattle.folders.specs.Files.{Replaces}
 use Rattle.requests.specs.Requests.{CatalogueRequest}
@@ -8,13 +9,17 @@ use Rattle.catalogue_command.specs.Stops.{Failed, StopsAdd, StopsCreate, StopsGe
 use Rattle.catalogue_command.specs.declared.stop.CatalogueStop.{CatalogueStop}
 
 -- what is said of a catalogue file, and what it holds then, by the files before and after
-abbrev pub SaysOfCatalogue : ℕ → Option (List ℕ → Option (List ℕ)) → Option (List ℕ → Option (List ℕ)) → List ℕ → CatalogueRequest → List ℕ → Bool → Type 0
+abbrev pub SaysOfCatalogue : ℕ → Option (List ℕ → Option (List ℕ))
+    → Option (List ℕ → Option (List ℕ)) → List ℕ → CatalogueRequest → List ℕ → Bool → Type 0
 SaysOfCatalogue limit before after file Print text well = Lists limit before file well text
 SaysOfCatalogue limit before after file New text well = Creates before after file well text
-SaysOfCatalogue limit before after file (Add certificate) text well = Adds false limit before after file certificate well text
-SaysOfCatalogue limit before after file (NewWith certificate) text well = Adds true limit before after file certificate well text
+SaysOfCatalogue limit before after file (Add certificate) text well =
+    Adds false limit before after file certificate well text
+SaysOfCatalogue limit before after file (NewWith certificate) text well =
+    Adds true limit before after file certificate well text
 SaysOfCatalogue limit before after file (Get code) text well = Gets limit before file code well text
-SaysOfCatalogue limit before after file Salvage text well = Salvages limit before after file well text
+SaysOfCatalogue limit before after file Salvage text well =
+    Salvages limit before after file well text
 
 -- the file, where what writes it ends well
 abbrev pub file_if : List ℕ → Bool → Option (List ℕ)
@@ -31,7 +36,8 @@ catalogue_written file (Get code) well = None
 catalogue_written file Salvage well = file_if file well
 
 -- every file is as it was, or every file but one, which holds a new text
-abbrev pub Leaves : Option (List ℕ) → Option (List ℕ → Option (List ℕ)) → Option (List ℕ → Option (List ℕ)) → Type 0
+abbrev pub Leaves : Option (List ℕ) → Option (List ℕ → Option (List ℕ))
+    → Option (List ℕ → Option (List ℕ)) → Type 0
 Leaves None before after = after ≡ before
 Leaves (Some file) before after = (bytes : List ℕ) × Replaces before after file bytes
 
@@ -39,7 +45,9 @@ Leaves (Some file) before after = (bytes : List ℕ) × Replaces before after fi
 abbrev pub StopsTask : List ℕ → CatalogueRequest → Failed → Failed → CatalogueStop → Type 0
 StopsTask file Print before after stop = StopsList file before after stop
 StopsTask file New before after stop = StopsCreate before after stop
-StopsTask file (Add certificate) before after stop = StopsAdd false file certificate before after stop
-StopsTask file (NewWith certificate) before after stop = StopsAdd true file certificate before after stop
+StopsTask file (Add certificate) before after stop =
+    StopsAdd false file certificate before after stop
+StopsTask file (NewWith certificate) before after stop =
+    StopsAdd true file certificate before after stop
 StopsTask file (Get code) before after stop = StopsGet file code before after stop
 StopsTask file Salvage before after stop = StopsSalvage file before after stop

@@ -29,7 +29,8 @@ fn begun<'a, F: Folder>(
     ensures writes { F.failed_writes folder.new ≡ F.failed_writes folder.old }
     ensures read { OnErr result (fresh ≡ false) }
     ensures stops { IfErr result (StopsList file.entry.now
-        (failed (F.failed_reads folder.old) (F.failed_writes folder.old)) (failed (F.failed_reads folder.new) (F.failed_writes folder.new))) }
+        (failed (F.failed_reads folder.old) (F.failed_writes folder.old))
+        (failed (F.failed_reads folder.new) (F.failed_writes folder.new))) }
 {
     if fresh {
         return Ok(Ok(Catalogue::new(alloc)));
@@ -40,7 +41,8 @@ fn begun<'a, F: Folder>(
 
 /// Adds a certificate that was accepted: whether it was added, and what is printed.
 fn taken(alloc: Global, catalogue: &mut Catalogue, certified: Certified) -> Result<Report, Memory>
-    ensures { IfOk result (λ r. Takes catalogue.old certified r.well catalogue.new (string_bytes r.text)) }
+    ensures { IfOk result
+        (λ r. Takes catalogue.old certified r.well catalogue.new (string_bytes r.text)) }
 {
     let text = added_line(alloc, certified.cert().code())?;
     match catalogue.add(certified) {
@@ -60,7 +62,8 @@ fn addition(
     bytes: &[u8],
     limit: u32,
 ) -> Result<Report, Memory>
-    ensures { IfOk result (λ r. IsAddition catalogue.old bytes.now limit r.well catalogue.new (string_bytes r.text)) }
+    ensures { IfOk result
+        (λ r. IsAddition catalogue.old bytes.now limit r.well catalogue.new (string_bytes r.text)) }
 {
     match check(alloc, bytes, limit) {
         Ok(certified) => taken(alloc, catalogue, certified),
@@ -77,25 +80,32 @@ pub(crate) fn save<F: Folder>(
     file: &str,
     catalogue: &Catalogue,
 ) -> Result<(), CatalogueStop<'static>>
-    ensures saved { OnOk result (Replaces (F.files folder.old) (F.files folder.new) file.now (catalogue_text catalogue.now)) }
+    ensures saved { OnOk result
+        (Replaces (F.files folder.old) (F.files folder.new) file.now
+        (catalogue_text catalogue.now)) }
     ensures kept { OnErr result (F.files folder.new ≡ F.files folder.old) }
     ensures stops { IfErr result (StopsCreate
-        (failed (F.failed_reads folder.old) (F.failed_writes folder.old)) (failed (F.failed_reads folder.new) (F.failed_writes folder.new))) }
+        (failed (F.failed_reads folder.old) (F.failed_writes folder.old))
+        (failed (F.failed_reads folder.new) (F.failed_writes folder.new))) }
 {
     let text = catalogue.text()?;
     put(folder, file, text.as_bytes())
 }
 
-/// Makes a file of the empty catalogue, or puts it in place of what was there. Nothing is printed. Where it stops, every file is as it was.
+/// Makes a file of the empty catalogue, or puts it in place of what was there. Nothing is printed.
+/// Where it stops, every file is as it was.
 pub fn create<F: Folder>(
     alloc: Global,
     folder: &mut F,
     file: &str,
 ) -> Result<Report, CatalogueStop<'static>>
-    ensures told { IfOk result (λ r. Creates (F.files folder.old) (F.files folder.new) file.now r.well (string_bytes r.text)) }
+    ensures told { IfOk result
+        (λ r. Creates (F.files folder.old) (F.files folder.new) file.now r.well
+        (string_bytes r.text)) }
     ensures kept { OnErr result (F.files folder.new ≡ F.files folder.old) }
     ensures stops { IfErr result (StopsCreate
-        (failed (F.failed_reads folder.old) (F.failed_writes folder.old)) (failed (F.failed_reads folder.new) (F.failed_writes folder.new))) }
+        (failed (F.failed_reads folder.old) (F.failed_writes folder.old))
+        (failed (F.failed_reads folder.new) (F.failed_writes folder.new))) }
 {
     let catalogue = Catalogue::new(alloc);
     save(folder, file, &catalogue)?;
@@ -105,8 +115,9 @@ pub fn create<F: Folder>(
     })
 }
 
-/// Adds the certificate of another file to the catalogue of the file, or to an empty one, and says that it was added, or why not. The
-/// catalogue is loaded before the certificate is read. Where it stops, every file is as it was.
+/// Adds the certificate of another file to the catalogue of the file, or to an empty one, and says
+/// that it was added, or why not. The catalogue is loaded before the certificate is read. Where it
+/// stops, every file is as it was.
 pub fn add<'a, F: Folder>(
     alloc: Global,
     folder: &mut F,
@@ -115,10 +126,13 @@ pub fn add<'a, F: Folder>(
     fresh: bool,
     limit: u32,
 ) -> Result<Report, CatalogueStop<'a>>
-    ensures told { IfOk result (λ r. Adds fresh limit (F.files folder.old) (F.files folder.new) file.entry.now certificate.entry.now r.well (string_bytes r.text)) }
+    ensures told { IfOk result
+        (λ r. Adds fresh limit (F.files folder.old) (F.files folder.new) file.entry.now
+        certificate.entry.now r.well (string_bytes r.text)) }
     ensures kept { OnErr result (F.files folder.new ≡ F.files folder.old) }
     ensures stops { IfErr result (StopsAdd fresh file.entry.now certificate.entry.now
-        (failed (F.failed_reads folder.old) (F.failed_writes folder.old)) (failed (F.failed_reads folder.new) (F.failed_writes folder.new))) }
+        (failed (F.failed_reads folder.old) (F.failed_writes folder.old))
+        (failed (F.failed_reads folder.new) (F.failed_writes folder.new))) }
 {
     match begun(alloc, folder, file, fresh, limit)? {
         Err(fault) => {

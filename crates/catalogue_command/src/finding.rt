@@ -34,8 +34,8 @@ fn entry_of(alloc: Global, bytes: &[u8], code: &Code, limit: u32) -> Result<Repo
     }
 }
 
-/// The certificate of a code, that there is none, or why the file isn't loaded. A code that can't be read stops it before the file
-/// is read.
+/// The certificate of a code, that there is none, or why the file isn't loaded. A code that can't
+/// be read stops it before the file is read.
 pub fn get<'a, F: Folder>(
     alloc: Global,
     folder: &mut F,
@@ -43,11 +43,14 @@ pub fn get<'a, F: Folder>(
     code: &str,
     limit: u32,
 ) -> Result<Report, CatalogueStop<'a>>
-    ensures told { IfOk result (λ r. Gets limit (F.files folder.old) file.entry.now code.now r.well (string_bytes r.text)) }
+    ensures told { IfOk result
+        (λ r. Gets limit (F.files folder.old) file.entry.now code.now r.well
+        (string_bytes r.text)) }
     ensures kept { F.files folder.new ≡ F.files folder.old }
     ensures usage { IsErrOf result CatalogueStop.NotACode → folder.new ≡ folder.old }
     ensures stops { IfErr result (StopsGet file.entry.now code.now
-        (failed (F.failed_reads folder.old) (F.failed_writes folder.old)) (failed (F.failed_reads folder.new) (F.failed_writes folder.new))) }
+        (failed (F.failed_reads folder.old) (F.failed_writes folder.old))
+        (failed (F.failed_reads folder.new) (F.failed_writes folder.new))) }
 {
     let Ok(code) = Code::read(code.as_bytes()) else {
         return Err(CatalogueStop::NotACode);

@@ -1,7 +1,9 @@
-//! What the program does with a catalogue file: its entries are listed, one is printed, one is added, and what stands of a damaged file is kept.
+//! What the program does with a catalogue file: its entries are listed, one is printed, one is
+//! added, and what stands of a damaged file is kept.
 //!
-//! Each action reads all that it needs, makes the text that is to be printed, and then writes the file where it changes it. So the file has
-//! changed exactly where the action ends well, and what stops it says why.
+//! Each action reads all that it needs, makes the text that is to be printed, and then writes the
+//! file where it changes it. So the file has changed exactly where the action ends well, and what
+//! stops it says why.
 #![tactic(auto)]
 
 mod adding;

@@ -34,10 +34,12 @@ pub fn list<'a, F: Folder>(
     file: &'a str,
     limit: u32,
 ) -> Result<Report, CatalogueStop<'a>>
-    ensures told { IfOk result (λ r. Lists limit (F.files folder.old) file.entry.now r.well (string_bytes r.text)) }
+    ensures told { IfOk result
+        (λ r. Lists limit (F.files folder.old) file.entry.now r.well (string_bytes r.text)) }
     ensures kept { F.files folder.new ≡ F.files folder.old }
     ensures stops { IfErr result (StopsList file.entry.now
-        (failed (F.failed_reads folder.old) (F.failed_writes folder.old)) (failed (F.failed_reads folder.new) (F.failed_writes folder.new))) }
+        (failed (F.failed_reads folder.old) (F.failed_writes folder.old))
+        (failed (F.failed_reads folder.new) (F.failed_writes folder.new))) }
 {
     let bytes = read(folder, file)?;
     let report = listing_of(alloc, &bytes, limit)?;

@@ -11,18 +11,22 @@ use catalogue::Catalogue;
 use folders::Folder;
 use std::alloc::Global;
 
-/// Puts the entries of the file that stand in its place, and gives the fault of each other entry and how many are kept; or says why
-/// the bytes are no catalogue file, and leaves it. Where it stops, every file is as it was.
+/// Puts the entries of the file that stand in its place, and gives the fault of each other entry
+/// and how many are kept; or says why the bytes are no catalogue file, and leaves it. Where it
+/// stops, every file is as it was.
 pub fn salvage<'a, F: Folder>(
     alloc: Global,
     folder: &mut F,
     file: &'a str,
     limit: u32,
 ) -> Result<Report, CatalogueStop<'a>>
-    ensures told { IfOk result (λ r. Salvages limit (F.files folder.old) (F.files folder.new) file.entry.now r.well (string_bytes r.text)) }
+    ensures told { IfOk result
+        (λ r. Salvages limit (F.files folder.old) (F.files folder.new) file.entry.now r.well
+        (string_bytes r.text)) }
     ensures kept { OnErr result (F.files folder.new ≡ F.files folder.old) }
     ensures stops { IfErr result (StopsSalvage file.entry.now
-        (failed (F.failed_reads folder.old) (F.failed_writes folder.old)) (failed (F.failed_reads folder.new) (F.failed_writes folder.new))) }
+        (failed (F.failed_reads folder.old) (F.failed_writes folder.old))
+        (failed (F.failed_reads folder.new) (F.failed_writes folder.new))) }
 {
     let bytes = read(folder, file)?;
     match Catalogue::salvage(alloc, &bytes, limit) {

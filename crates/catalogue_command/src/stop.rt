@@ -38,7 +38,8 @@ pub(crate) fn read<'a, F: Folder>(
     ensures well { IfOk result (λ _. F.failed_reads folder.new ≡ F.failed_reads folder.old) }
     ensures writes { F.failed_writes folder.new ≡ F.failed_writes folder.old }
     ensures stops { IfErr result (StopsList name.entry.now
-        (failed (F.failed_reads folder.old) (F.failed_writes folder.old)) (failed (F.failed_reads folder.new) (F.failed_writes folder.new))) }
+        (failed (F.failed_reads folder.old) (F.failed_writes folder.old))
+        (failed (F.failed_reads folder.new) (F.failed_writes folder.new))) }
 {
     match folder.read(name) {
         Ok(bytes) => Ok(bytes),
@@ -53,10 +54,12 @@ pub(crate) fn put<F: Folder>(
     name: &str,
     bytes: &[u8],
 ) -> Result<(), CatalogueStop<'static>>
-    ensures written { OnOk result (Replaces (F.files folder.old) (F.files folder.new) name.now bytes.now) }
+    ensures written { OnOk result
+        (Replaces (F.files folder.old) (F.files folder.new) name.now bytes.now) }
     ensures kept { OnErr result (F.files folder.new ≡ F.files folder.old) }
     ensures stops { IfErr result (StopsCreate
-        (failed (F.failed_reads folder.old) (F.failed_writes folder.old)) (failed (F.failed_reads folder.new) (F.failed_writes folder.new))) }
+        (failed (F.failed_reads folder.old) (F.failed_writes folder.old))
+        (failed (F.failed_reads folder.new) (F.failed_writes folder.new))) }
 {
     match folder.write(name, bytes) {
         Ok(()) => Ok(()),

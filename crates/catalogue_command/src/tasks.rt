@@ -14,8 +14,9 @@ use folders::Folder;
 use requests::CatalogueTask;
 use std::alloc::Global;
 
-/// Does what is asked of the catalogue file; the limit is that of each check. No other file changes, and where it stops or doesn't end
-/// well no file does. Where a code can't be read the files are left alone.
+/// Does what is asked of the catalogue file; the limit is that of each check. No other file
+/// changes, and where it stops or doesn't end well no file does. Where a code can't be read the
+/// files are left alone.
 pub fn act<'a, F: Folder>(
     alloc: Global,
     folder: &mut F,
@@ -23,12 +24,17 @@ pub fn act<'a, F: Folder>(
     task: CatalogueTask<'a>,
     limit: u32,
 ) -> Result<Report, CatalogueStop<'a>>
-    ensures says { IfOk result (λ r. SaysOfCatalogue limit (F.files folder.old) (F.files folder.new) file.entry.now (catalogue_request_of task.entry) (string_bytes r.text) r.well) }
-    ensures leaves { IfOk result (λ r. Leaves (catalogue_written file.entry.now (catalogue_request_of task.entry) r.well) (F.files folder.old) (F.files folder.new)) }
+    ensures says { IfOk result
+        (λ r. SaysOfCatalogue limit (F.files folder.old) (F.files folder.new) file.entry.now
+        (catalogue_request_of task.entry) (string_bytes r.text) r.well) }
+    ensures leaves { IfOk result
+        (λ r. Leaves (catalogue_written file.entry.now (catalogue_request_of task.entry) r.well)
+        (F.files folder.old) (F.files folder.new)) }
     ensures kept { OnErr result (F.files folder.new ≡ F.files folder.old) }
     ensures usage { IsErrOf result CatalogueStop.NotACode → folder.new ≡ folder.old }
     ensures stops { IfErr result (StopsTask file.entry.now (catalogue_request_of task.entry)
-        (failed (F.failed_reads folder.old) (F.failed_writes folder.old)) (failed (F.failed_reads folder.new) (F.failed_writes folder.new))) }
+        (failed (F.failed_reads folder.old) (F.failed_writes folder.old))
+        (failed (F.failed_reads folder.new) (F.failed_writes folder.new))) }
 {
     match task {
         CatalogueTask::Print => list(alloc, folder, file, limit),

@@ -9,7 +9,8 @@ use Rattle.certificate.specs.LineKinds.{lines_of}
 use Rattle.certificate.proofs.Out.{text_of_pieces}
 
 abbrev pub all_kinds : List LineKind
-all_kinds = Version ∷ Code ∷ Order ∷ Start ∷ Period ∷ Phi ∷ Portion ∷ Words ∷ Rows ∷ Apart ∷ End ∷ []
+all_kinds = Version ∷ Code ∷ Order ∷ Start ∷ Period ∷ Phi ∷ Portion ∷ Words ∷ Rows ∷ Apart ∷ End
+    ∷ []
 
 abbrev pub kind_text : Certificate → LineKind → List ℕ
 kind_text c kind = text (lines_of c kind)

@@ -23,40 +23,53 @@ no_row_before : (order y : ℕ) → 0 * order + y ≡ y
 no_row_before order y = omega arith
 
 -- entry y of row x
-pub entry_is : (order : ℕ) (rows : List (List ℕ)) (x y : ℕ) → AllByRecursion (IsRow order) rows → x < length rows → y < order
+pub entry_is : (order : ℕ) (rows : List (List ℕ)) (x y : ℕ) → AllByRecursion (IsRow order) rows
+    → x < length rows → y < order
     → get_or (get_or rows x []) y 0 ≡ get_or (concat rows) (x * order + y) 0
 entry_is order [] x y fits lx ly = absurd (omega arith)
 entry_is order (row ∷ rows) zero y fits lx ly =
-    sym (ap (λ (i : ℕ). get_or (row ++ concat rows) i 0) (no_row_before order y) ∙ get_or_append_left row (concat rows) 0 y (omega (arith, fits.0.0)))
+    sym (ap (λ (i : ℕ). get_or (row ++ concat rows) i 0) (no_row_before order y)
+    ∙ get_or_append_left row (concat rows) 0 y (omega (arith, fits.0.0)))
 entry_is order (row ∷ rows) (suc x) y fits lx ly =
-    let place : suc x * order + y ≡ length row + (x * order + y) = one_row_more order x y ∙ ap (λ (k : ℕ). k + (x * order + y)) (sym fits.0.0) in
+    let place : suc x * order + y ≡ length row + (x * order + y) =
+    one_row_more order x y ∙ ap (λ (k : ℕ). k + (x * order + y)) (sym fits.0.0) in
     entry_is order rows x y fits.1 (omega arith) ly
-    ∙ sym (ap (λ (i : ℕ). get_or (row ++ concat rows) i 0) place ∙ get_or-append-add row (concat rows) (x * order + y) 0)
+    ∙ sym (ap (λ (i : ℕ). get_or (row ++ concat rows) i 0) place
+    ∙ get_or-append-add row (concat rows) (x * order + y) 0)
 
-length_is : (order : ℕ) (rows : List (List ℕ)) → AllByRecursion (IsRow order) rows → length (concat rows) ≡ length rows * order
+length_is : (order : ℕ) (rows : List (List ℕ)) → AllByRecursion (IsRow order) rows
+    → length (concat rows) ≡ length rows * order
 length_is order [] fits = omega arith
-length_is order (row ∷ rows) fits = length-append row (concat rows) ∙ ap₂ (λ (i j : ℕ). i + j) fits.0.0 (length_is order rows fits.1) ∙ sym (suc-mul (length rows) order ∙ omega arith)
+length_is order (row ∷ rows) fits =
+    length-append row (concat rows) ∙ ap₂ (λ (i j : ℕ). i + j) fits.0.0
+    (length_is order rows fits.1) ∙ sym (suc-mul (length rows) order ∙ omega arith)
 
-all_below : (order : ℕ) (rows : List (List ℕ)) → AllByRecursion (IsRow order) rows → All (λ x. x < order) (concat rows)
+all_below : (order : ℕ) (rows : List (List ℕ)) → AllByRecursion (IsRow order) rows
+    → All (λ x. x < order) (concat rows)
 all_below order [] fits = All-from_recursion (λ x. x < order) [] tt
-all_below order (row ∷ rows) fits = All-append (λ x. x < order) row (concat rows) fits.0.1 (all_below order rows fits.1)
+all_below order (row ∷ rows) fits =
+    All-append (λ x. x < order) row (concat rows) fits.0.1 (all_below order rows fits.1)
 
 -- the place of row x
-pub row_is : (order : ℕ) (rows : List (List ℕ)) (x : ℕ) → AllByRecursion (IsRow order) rows → x < length rows → take order (drop (x * order) (concat rows)) ≡ get_or rows x []
+pub row_is : (order : ℕ) (rows : List (List ℕ)) (x : ℕ) → AllByRecursion (IsRow order) rows
+    → x < length rows → take order (drop (x * order) (concat rows)) ≡ get_or rows x []
 row_is order [] x fits lt = absurd (omega arith)
 row_is order (row ∷ rows) zero fits lt =
-    ap (λ (i : ℕ). take order (drop i (row ++ concat rows))) (no_rows order) ∙ take_at row (concat rows) order fits.0.0
+    ap (λ (i : ℕ). take order (drop i (row ++ concat rows))) (no_rows order)
+    ∙ take_at row (concat rows) order fits.0.0
 row_is order (row ∷ rows) (suc x) fits lt =
     let place : suc x * order ≡ order + x * order = suc-mul x order ∙ omega arith in
     ap (λ (i : ℕ). take order (drop i (row ++ concat rows))) place
-    ∙ ap (take order) (sym (drop-drop (x * order) order (row ++ concat rows)) ∙ ap (drop (x * order)) (drop_at row (concat rows) order fits.0.0))
+    ∙ ap (take order) (sym (drop-drop (x * order) order (row ++ concat rows))
+    ∙ ap (drop (x * order)) (drop_at row (concat rows) order fits.0.0))
     ∙ row_is order rows x fits.1 (omega arith)
 
 width : (n order : ℕ) → n + order - n ≡ order
 width n order = omega arith
 
 -- row x, cut from the rows as they lie
-pub row_read : (order o : ℕ) (rows : List (List ℕ)) (flat : List ℕ) (x : ℕ) → o ≡ order → flat ≡ concat rows → AllByRecursion (IsRow order) rows → x < length rows
+pub row_read : (order o : ℕ) (rows : List (List ℕ)) (flat : List ℕ) (x : ℕ) → o ≡ order
+    → flat ≡ concat rows → AllByRecursion (IsRow order) rows → x < length rows
     → take (x * o + o - x * o) (drop (x * o) flat) ≡ get_or rows x []
 row_read order o rows flat x same lies fits lt =
     ap (λ (n : ℕ). take n (drop (x * o) flat)) (width (x * o) o)
@@ -86,4 +99,5 @@ module _ (c : Certificate) (h : InRanges c) where
   }
 
   pub pretending : IsPretending (pretending_of c)
-  pretending = record { from_one = h.start.0; some = h.period.0; short = h.period.2; length_is = h.phi.0 }
+  pretending =
+      record { from_one = h.start.0; some = h.period.0; short = h.period.2; length_is = h.phi.0 }

@@ -1,4 +1,5 @@
--- The parts of a certificate as they lie in memory, and the certificate that they are. This project's own.
+-- The parts of a certificate as they lie in memory, and the certificate that they are. This
+-- project's own.
 use Rattle.std.specs.Prelude.{◌≡◌, ℕ, ◌*◌, List, length}
 use Rattle.std.specs.List.{concat}
 use Rattle.misere_theory.specs.Certificates.{Certificate, InRanges}

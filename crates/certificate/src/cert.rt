@@ -98,14 +98,16 @@ impl<A: Allocator> Cert<A> {
         &self.parts.words
     }
 
-    /// The rows of the table, one behind the other: row x has the products of x with 0, 1, and so on.
+    /// The rows of the table, one behind the other: row x has the products of x with 0, 1, and so
+    /// on.
     pub fn rows(&self) -> &[u16]
         ensures { result.now ≡ concat self.now.rows }
     {
         &self.parts.rows
     }
 
-    /// For the pairs (0,1), (0,2), .., (1,2), .. the least element that takes just one of the two into the portion.
+    /// For the pairs (0,1), (0,2), .., (1,2), .. the least element that takes just one of the two
+    /// into the portion.
     pub fn apart(&self) -> &[u16]
         ensures { result.now ≡ self.now.apart }
     {

@@ -34,9 +34,11 @@ fn code_line(reader: &mut Reader<'_>) -> Result<Code, TextFault>
 /// The version, the code, the order, the start and the period.
 #[tactic(auto, unfolding(certificate_text::specs::Reading::front_at))]
 pub fn front_lines(reader: &mut Reader<'_>) -> Result<Front, TextFault>
-    ensures read { Gives (λ x. ((x.code, x.order, x.start, x.period), reader.new)) result (front_at reader.old) }
+    ensures read { Gives (λ x. ((x.code, x.order, x.start, x.period), reader.new)) result
+        (front_at reader.old) }
     ensures order { IfOk result (λ x. (2 ≤ x.order) × (x.order ≤ 256)) }
-    ensures period { IfOk result (λ x. (1 ≤ x.start) × (1 ≤ x.period) × (x.start + x.period ≤ 1025)) }
+    ensures period { IfOk result (λ x. (1 ≤ x.start) × (1 ≤ x.period)
+        × (x.start + x.period ≤ 1025)) }
 {
     reader.fixed(b"mqc 1\ncode ")?;
     let code = code_line(reader)?;

@@ -1,7 +1,8 @@
 //! Keys of elements.
 use std::marker::Model;
 
-/// Where an element above 0 comes from: it is the product of a smaller element and the element of a heap.
+/// Where an element above 0 comes from: it is the product of a smaller element and the element of a
+/// heap.
 #[derive(Clone, Copy)]
 pub struct Key {
     pub element: u16,

@@ -35,7 +35,8 @@ fn keys<A: Allocator>(
 ) -> Result<Vec<Key, A>, TextFault>
     requires low { 0 < order }
     requires some { 0 < heaps }
-    ensures { Gives (λ x. (x.items, reader.new)) result (words_at (key_at order heaps) count reader.old) }
+    ensures { Gives (λ x. (x.items, reader.new)) result
+        (words_at (key_at order heaps) count reader.old) }
 {
     let mut found = Vec::new(alloc);
     for _ in 0..count {
@@ -56,7 +57,8 @@ pub fn key_line<A: Allocator>(
 ) -> Result<Vec<Key, A>, TextFault>
     requires low { 0 < order }
     requires some { 0 < heaps }
-    ensures { Gives (λ x. (x.items, reader.new)) result (line_at (codes "words") (key_at order heaps) (order - 1) reader.old) }
+    ensures { Gives (λ x. (x.items, reader.new)) result
+        (line_at (codes "words") (key_at order heaps) (order - 1) reader.old) }
 {
     reader.fixed(b"words")?;
     let found = keys(alloc, reader, order - 1, order, heaps)?;

@@ -15,7 +15,8 @@ fn numbers<A: Allocator>(
     limit: u16,
 ) -> Result<(), TextFault>
     requires { 0 < limit }
-    ensures { Gives (λ _. (found.new.items, reader.new)) result (with_front found.old.items (words_at (number_at limit) count reader.old)) }
+    ensures { Gives (λ _. (found.new.items, reader.new)) result
+        (with_front found.old.items (words_at (number_at limit) count reader.old)) }
 {
     for _ in 0..count {
         if !reader.space() {
@@ -36,7 +37,8 @@ fn line_behind<A: Allocator>(
     limit: u16,
 ) -> Result<(), TextFault>
     requires { 0 < limit }
-    ensures { Gives (λ _. (found.new.items, reader.new)) result (with_front found.old.items (line_at name.now (number_at limit) count reader.old)) }
+    ensures { Gives (λ _. (found.new.items, reader.new)) result
+        (with_front found.old.items (line_at name.now (number_at limit) count reader.old)) }
 {
     reader.fixed(name)?;
     numbers(reader, found, count, limit)?;
@@ -53,7 +55,8 @@ pub fn line<A: Allocator>(
     limit: u16,
 ) -> Result<Vec<u16, A>, TextFault>
     requires { 0 < limit }
-    ensures { Gives (λ x. (x.items, reader.new)) result (line_at name.now (number_at limit) count reader.old) }
+    ensures { Gives (λ x. (x.items, reader.new)) result
+        (line_at name.now (number_at limit) count reader.old) }
 {
     let mut found = Vec::new(alloc);
     line_behind(reader, &mut found, name, count, limit)?;

@@ -22,5 +22,14 @@ impl<A: Allocator> Model for Parts<A> {
 
     ghost Value = { Pieces };
 
-    ghost view = { λ p. record { code = p.code; order = p.order; phi = p.phi; portion = p.portion.items; words = p.words.items; rows = p.rows.items; apart = p.apart.items } };
+    ghost view = { λ p.
+        record {
+          code = p.code;
+          order = p.order;
+          phi = p.phi;
+          portion = p.portion.items;
+          words = p.words.items;
+          rows = p.rows.items;
+          apart = p.apart.items;
+        } };
 }

@@ -33,7 +33,8 @@ fn put_word<W: Sink>(sink: &mut W, n: u16) -> Result<(), DeviceFault>
 
 /// Numbers, each behind a space.
 fn put_words<W: Sink>(sink: &mut W, numbers: &[u16]) -> Result<(), DeviceFault>
-    ensures puts { Puts (W.taken sink.old) (W.taken sink.new) result (spaced (map decimal numbers.now)) }
+    ensures puts { Puts (W.taken sink.old) (W.taken sink.new) result
+        (spaced (map decimal numbers.now)) }
     ensures cause { Counts (W.failures sink.old) (W.failures sink.new) result }
 {
     for x in numbers {
@@ -44,7 +45,8 @@ fn put_words<W: Sink>(sink: &mut W, numbers: &[u16]) -> Result<(), DeviceFault>
 
 /// A line of numbers.
 pub fn put_line<W: Sink>(sink: &mut W, name: &[u8], numbers: &[u16]) -> Result<(), DeviceFault>
-    ensures puts { Puts (W.taken sink.old) (W.taken sink.new) result (name.now ++ (spaced (map decimal numbers.now) ++ 10 ∷ [])) }
+    ensures puts { Puts (W.taken sink.old) (W.taken sink.new) result
+        (name.now ++ (spaced (map decimal numbers.now) ++ 10 ∷ [])) }
     ensures cause { Counts (W.failures sink.old) (W.failures sink.new) result }
 {
     write_whole(sink, name)?;
@@ -72,7 +74,8 @@ fn put_key<W: Sink>(sink: &mut W, key: Key) -> Result<(), DeviceFault>
 
 /// Keys, each behind a space.
 fn put_keys<W: Sink>(sink: &mut W, keys: &[Key]) -> Result<(), DeviceFault>
-    ensures puts { Puts (W.taken sink.old) (W.taken sink.new) result (spaced (map key_word keys.now)) }
+    ensures puts { Puts (W.taken sink.old) (W.taken sink.new) result
+        (spaced (map key_word keys.now)) }
     ensures cause { Counts (W.failures sink.old) (W.failures sink.new) result }
 {
     for key in keys {
@@ -83,7 +86,8 @@ fn put_keys<W: Sink>(sink: &mut W, keys: &[Key]) -> Result<(), DeviceFault>
 
 /// The line of the keys.
 pub fn put_key_line<W: Sink>(sink: &mut W, keys: &[Key]) -> Result<(), DeviceFault>
-    ensures puts { Puts (W.taken sink.old) (W.taken sink.new) result (codes "words" ++ (spaced (map key_word keys.now) ++ 10 ∷ [])) }
+    ensures puts { Puts (W.taken sink.old) (W.taken sink.new) result
+        (codes "words" ++ (spaced (map key_word keys.now) ++ 10 ∷ [])) }
     ensures cause { Counts (W.failures sink.old) (W.failures sink.new) result }
 {
     write_whole(sink, b"words")?;
@@ -93,7 +97,8 @@ pub fn put_key_line<W: Sink>(sink: &mut W, keys: &[Key]) -> Result<(), DeviceFau
 
 /// The digits of a code behind the first.
 fn put_digits<W: Sink>(sink: &mut W, code: &Code) -> Result<(), DeviceFault>
-    ensures puts { Puts (W.taken sink.old) (W.taken sink.new) result (map digit_byte (drop 1 code.now)) }
+    ensures puts { Puts (W.taken sink.old) (W.taken sink.new) result
+        (map digit_byte (drop 1 code.now)) }
     ensures cause { Counts (W.failures sink.old) (W.failures sink.new) result }
 {
     for j in 0..code.last() as u64 {
@@ -115,7 +120,8 @@ fn put_code<W: Sink>(sink: &mut W, code: &Code) -> Result<(), DeviceFault>
 
 /// The line of the code.
 pub fn put_code_line<W: Sink>(sink: &mut W, code: &Code) -> Result<(), DeviceFault>
-    ensures puts { Puts (W.taken sink.old) (W.taken sink.new) result (codes "code " ++ (code_text code.now ++ 10 ∷ [])) }
+    ensures puts { Puts (W.taken sink.old) (W.taken sink.new) result
+        (codes "code " ++ (code_text code.now ++ 10 ∷ [])) }
     ensures cause { Counts (W.failures sink.old) (W.failures sink.new) result }
 {
     write_whole(sink, b"code ")?;
@@ -125,7 +131,8 @@ pub fn put_code_line<W: Sink>(sink: &mut W, code: &Code) -> Result<(), DeviceFau
 
 /// The lines of the rows.
 pub fn put_rows<A: Allocator, W: Sink>(sink: &mut W, cert: &Cert<A>) -> Result<(), DeviceFault>
-    ensures puts { Puts (W.taken sink.old) (W.taken sink.new) result (text (map row_line cert.now.rows)) }
+    ensures puts { Puts (W.taken sink.old) (W.taken sink.new) result
+        (text (map row_line cert.now.rows)) }
     ensures cause { Counts (W.failures sink.old) (W.failures sink.new) result }
 {
     in_ranges(cert);

@@ -48,7 +48,8 @@ impl<'a> Reader<'a> {
     /// Takes a space if one stands in front.
     #[tactic(auto, unfolding(certificate_text::specs::Reading::fixed_at))]
     pub fn space(&mut self) -> bool
-        ensures taken { MatchBool result (fixed_at (codes " ") self.old ≡ Some self.new) (fixed_at (codes " ") self.old ≡ None) }
+        ensures taken { MatchBool result (fixed_at (codes " ") self.old ≡ Some self.new)
+            (fixed_at (codes " ") self.old ≡ None) }
         ensures stays { OnFalse result (self.new ≡ self.old) }
     {
         match self.rest {
@@ -73,7 +74,8 @@ impl<'a> Reader<'a> {
 
     /// Takes the bytes up to the first LF, and the LF.
     pub fn line(&mut self) -> Option<&'a [u8]>
-        ensures { MatchOption result (All (λ b. b ≢ 10) self.old) (λ line. (self.old ≡ line.now ++ 10 ∷ self.new) × All (λ b. b ≢ 10) line.now) }
+        ensures { MatchOption result (All (λ b. b ≢ 10) self.old)
+            (λ line. (self.old ≡ line.now ++ 10 ∷ self.new) × All (λ b. b ≢ 10) line.now) }
     {
         let end = first_lf(self.rest)?;
         let line = &self.rest[..end];

@@ -51,7 +51,8 @@ fn certificate<A: Allocator + Copy>(alloc: A, reader: &mut Reader<'_>) -> Result
 
 /// Reads all of the bytes as a certificate.
 ///
-/// Refuses `Text` where they spell none, and `Memory` only where a growth was refused. What it reserves grows with what it has read.
+/// Refuses `Text` where they spell none, and `Memory` only where a growth was refused. What it
+/// reserves grows with what it has read.
 pub fn read<A: Allocator + Copy>(alloc: A, bytes: &[u8]) -> Result<Cert<A>, TextFault>
     // What is read is spelled so.
     ensures ok { IfOk result (λ c. Spells bytes.now c) }

@@ -46,7 +46,8 @@ fn put_lines<A: Allocator, W: Sink>(
     kind: LineKind,
     sink: &mut W,
 ) -> Result<(), DeviceFault>
-    ensures puts { Puts (W.taken sink.old) (W.taken sink.new) result (text (lines_of cert.now kind)) }
+    ensures puts { Puts (W.taken sink.old) (W.taken sink.new) result
+        (text (lines_of cert.now kind)) }
     ensures cause { Counts (W.failures sink.old) (W.failures sink.new) result }
 {
     match kind {
@@ -66,7 +67,8 @@ fn put_lines<A: Allocator, W: Sink>(
 
 /// Writes the spelling of a certificate, without taking memory.
 ///
-/// Refuses `Write` only where the sink fails in this call; what went out is then a beginning of the spelling.
+/// Refuses `Write` only where the sink fails in this call; what went out is then a beginning of the
+/// spelling.
 pub fn write<A: Allocator, W: Sink>(cert: &Cert<A>, sink: &mut W) -> Result<(), WriteFault>
     ensures puts { Puts (W.taken sink.old) (W.taken sink.new) result (text (lines cert.now)) }
     ensures spelled { Spells (text (lines cert.now)) cert.now }

@@ -8,22 +8,26 @@ use Rattle.std.proofs.lemmas.Bool.Decides.{nat_tests}
 use Rattle.certificate_text.specs.Reading.{◌>>=◌, fixed_at, is_digit, more_at, number_at}
 
 -- the value of a step that did not fail
-pub bind_some : {A B : Type 0} (r : Option A) (f : A → Option B) (y : B) → (r >>= f) ≡ Some y → (x : A) × (r ≡ Some x) × (f x ≡ Some y)
+pub bind_some : {A B : Type 0} (r : Option A) (f : A → Option B) (y : B) → (r >>= f) ≡ Some y
+    → (x : A) × (r ≡ Some x) × (f x ≡ Some y)
 bind_some (Some x) f y e = (x, refl, e)
 bind_some None f y e = absurd cc
 
 pub some_is : {A : Type 0} (x y : A) → Some x ≡ Some y → x ≡ y
 some_is x y e = cc
 
-pub test_some : {A : Type 0} (b : Bool) (r : Option A) (y : A) → cond b r None ≡ Some y → (b ≡ true) × (r ≡ Some y)
+pub test_some : {A : Type 0} (b : Bool) (r : Option A) (y : A) → cond b r None ≡ Some y
+    → (b ≡ true) × (r ≡ Some y)
 test_some true r y e = (refl, e)
 test_some false r y e = absurd cc
 
-pub test_none : {A : Type 0} (b : Bool) (r : Option A) (y : A) → cond b None r ≡ Some y → (b ≡ false) × (r ≡ Some y)
+pub test_none : {A : Type 0} (b : Bool) (r : Option A) (y : A) → cond b None r ≡ Some y
+    → (b ≡ false) × (r ≡ Some y)
 test_none true r y e = absurd cc
 test_none false r y e = (refl, e)
 
-pub chosen : {A : Type 0} (b : Bool) (x y z : A) → cond b x y ≡ z → ((b ≡ true) × (x ≡ z)) ⊎ ((b ≡ false) × (y ≡ z))
+pub chosen : {A : Type 0} (b : Bool) (x y z : A) → cond b x y ≡ z → ((b ≡ true) × (x ≡ z))
+    ⊎ ((b ≡ false) × (y ≡ z))
 chosen true x y z e = inl (refl, e)
 chosen false x y z e = inr (refl, e)
 
@@ -63,60 +67,93 @@ append-nil : (xs : List ℕ) → xs ++ [] ≡ xs
 append-nil [] = refl
 append-nil (x ∷ xs) = ap (λ (ys : List ℕ). x ∷ ys) (append-nil xs)
 
-one_more : (n d : ℕ) → 0 < n → 10 * n + d < 2 ^ 64 → d < 10 → decimal (10 * n + d) ≡ decimal n ++ (48 + d) ∷ []
+one_more : (n d : ℕ) → 0 < n → 10 * n + d < 2 ^ 64 → d < 10
+    → decimal (10 * n + d) ≡ decimal n ++ (48 + d) ∷ []
 one_more n d pos fits lt =
     let q : (10 * n + d) / 10 ≡ n = omega arith in
     let r : (10 * n + d) % 10 ≡ d = omega arith in
     decimal_step (10 * n + d) (omega arith) fits ∙ rw (q, r) refl
 
-more_takes : (limit n : ℕ) (bytes : List ℕ) (m : ℕ) (rest : List ℕ) → 0 < n → n < limit → limit ≤ 2 ^ 16 → more_at limit n bytes ≡ Some (m, rest) → Longer n m bytes rest × (m < limit)
+more_takes : (limit n : ℕ) (bytes : List ℕ) (m : ℕ) (rest : List ℕ) → 0 < n → n < limit
+    → limit ≤ 2 ^ 16 → more_at limit n bytes ≡ Some (m, rest) → Longer n m bytes rest × (m < limit)
 unfolding more_at
 more_takes limit n [] m rest pos lt small e =
-    let p = some_pair_parts n m [] rest e in
-    (([], p.1, ap decimal (sym p.0) ∙ sym (append-nil (decimal n))), subst (λ (k : ℕ). k < limit) p.0 lt)
+    let p = some_pair_parts n m [] rest e in (
+      ([], p.1, ap decimal (sym p.0) ∙ sym (append-nil (decimal n))),
+      subst (λ (k : ℕ). k < limit) p.0 lt,
+    )
 more_takes limit n (b ∷ bytes) m rest pos lt small e =
-    elim (chosen (is_digit b) (cond (nat_lt (10 * n + (b - 48)) limit) (more_at limit (10 * n + (b - 48)) bytes) None) (Some (n, b ∷ bytes)) (Some (m, rest)) e) [
+    elim (chosen (is_digit b)
+    (cond (nat_lt (10 * n + (b - 48)) limit) (more_at limit (10 * n + (b - 48)) bytes) None)
+    (Some (n, b ∷ bytes)) (Some (m, rest)) e) [
       | inl c ↦
           let d = digit_is b c.0 in
-          let t = test_some (nat_lt (10 * n + (b - 48)) limit) (more_at limit (10 * n + (b - 48)) bytes) (m, rest) c.1 in
+          let t =
+          test_some (nat_lt (10 * n + (b - 48)) limit) (more_at limit (10 * n + (b - 48)) bytes)
+          (m, rest) c.1 in
           let below : 10 * n + (b - 48) < limit = ltb-true _ _ t.0 in
           let r = more_takes limit (10 * n + (b - 48)) bytes m rest (omega arith) below small t.1 in
-          let step : decimal (10 * n + (b - 48)) ≡ decimal n ++ b ∷ [] = one_more n (b - 48) pos (omega arith) (omega arith) ∙ ap (λ (x : ℕ). decimal n ++ x ∷ []) d.2 in
-          ((b ∷ r.0.0, ap (λ (x : List ℕ). b ∷ x) r.0.1, r.0.2 ∙ ap (λ (x : List ℕ). x ++ r.0.0) step ∙ append_assoc (decimal n) (b ∷ []) r.0.0), r.1)
+          let step : decimal (10 * n + (b - 48)) ≡ decimal n ++ b ∷ [] =
+          one_more n (b - 48) pos (omega arith) (omega arith)
+          ∙ ap (λ (x : ℕ). decimal n ++ x ∷ []) d.2 in (
+            (
+              b ∷ r.0.0,
+              ap (λ (x : List ℕ). b ∷ x) r.0.1,
+              r.0.2
+                  ∙ ap (λ (x : List ℕ). x ++ r.0.0) step ∙ append_assoc (decimal n) (b ∷ []) r.0.0,
+            ),
+            r.1,
+          )
       | inr c ↦
-          let p = some_pair_parts n m (b ∷ bytes) rest c.1 in
-          (([], p.1, ap decimal (sym p.0) ∙ sym (append-nil (decimal n))), subst (λ (k : ℕ). k < limit) p.0 lt)
+          let p = some_pair_parts n m (b ∷ bytes) rest c.1 in (
+            ([], p.1, ap decimal (sym p.0) ∙ sym (append-nil (decimal n))),
+            subst (λ (k : ℕ). k < limit) p.0 lt,
+          )
     ]
 
-pub number_takes : (limit : ℕ) (bytes : List ℕ) (m : ℕ) (rest : List ℕ) → 0 < limit → limit ≤ 2 ^ 16 → number_at limit bytes ≡ Some (m, rest) → (bytes ≡ decimal m ++ rest) × (m < limit)
+pub number_takes : (limit : ℕ) (bytes : List ℕ) (m : ℕ) (rest : List ℕ) → 0 < limit → limit ≤ 2 ^ 16
+    → number_at limit bytes ≡ Some (m, rest) → (bytes ≡ decimal m ++ rest) × (m < limit)
 unfolding number_at
 number_takes limit [] m rest low small e = absurd cc
 number_takes limit (b ∷ bytes) m rest low small e =
-    elim (chosen (b == 48) (Some (0, bytes)) (cond (is_digit b) (cond (nat_lt (b - 48) limit) (more_at limit (b - 48) bytes) None) None) (Some (m, rest)) e) [
+    elim (chosen (b == 48) (Some (0, bytes))
+    (cond (is_digit b) (cond (nat_lt (b - 48) limit) (more_at limit (b - 48) bytes) None) None)
+    (Some (m, rest)) e) [
       | inl c ↦
           let p = some_pair_parts 0 m bytes rest c.1 in
           let zero : b ≡ 48 = eqb-true b 48 c.0 in
           let is : m ≡ 0 = sym p.0 in
           (rw (is, zero, p.1, decimal_digit 0 (omega arith)) refl, rw is low)
       | inr c ↦
-          let digit = test_some (is_digit b) (cond (nat_lt (b - 48) limit) (more_at limit (b - 48) bytes) None) (m, rest) c.1 in
+          let digit =
+          test_some (is_digit b)
+          (cond (nat_lt (b - 48) limit) (more_at limit (b - 48) bytes) None) (m, rest) c.1 in
           let d = digit_is b digit.0 in
-          let t = test_some (nat_lt (b - 48) limit) (more_at limit (b - 48) bytes) (m, rest) digit.1 in
+          let t = test_some (nat_lt (b - 48) limit) (more_at limit (b - 48) bytes) (m, rest) digit.1
+          in
           let below : b - 48 < limit = ltb-true _ _ t.0 in
-          let other : b ≢ 48 = λ same. absurd (let clash : (b == 48) ≡ true = eq-eqb b 48 same in cc) in
+          let other : b ≢ 48 =
+          λ same. absurd (let clash : (b == 48) ≡ true = eq-eqb b 48 same in cc) in
           let r = more_takes limit (b - 48) bytes m rest (omega arith) below small t.1 in
-          let first : decimal (b - 48) ≡ b ∷ [] = decimal_digit (b - 48) (omega arith) ∙ ap (λ (x : ℕ). x ∷ []) d.2 in
-          (ap (λ (x : List ℕ). b ∷ x) r.0.1 ∙ sym (ap (λ (x : List ℕ). x ++ rest) (r.0.2 ∙ ap (λ (x : List ℕ). x ++ r.0.0) first)), r.1)
+          let first : decimal (b - 48) ≡ b ∷ [] =
+          decimal_digit (b - 48) (omega arith) ∙ ap (λ (x : ℕ). x ∷ []) d.2 in (
+            ap (λ (x : List ℕ). b ∷ x) r.0.1
+                ∙ sym (ap (λ (x : List ℕ). x ++ rest)
+                (r.0.2 ∙ ap (λ (x : List ℕ). x ++ r.0.0) first)),
+            r.1,
+          )
     ]
 
 -- ---- and back
 
-more_stops : (limit n s : ℕ) (rest : List ℕ) → is_digit s ≡ false → more_at limit n (s ∷ rest) ≡ Some (n, s ∷ rest)
+more_stops : (limit n s : ℕ) (rest : List ℕ) → is_digit s ≡ false
+    → more_at limit n (s ∷ rest) ≡ Some (n, s ∷ rest)
 unfolding more_at
 more_stops limit n s rest e = rw e refl
 
 abbrev Begins : ℕ → ℕ → List ℕ → Type 0
-Begins limit n ds = 0 < n → n < limit → (rest : List ℕ) → number_at limit (ds ++ rest) ≡ more_at limit n rest
+Begins limit n ds = 0 < n → n < limit → (rest : List ℕ)
+    → number_at limit (ds ++ rest) ≡ more_at limit n rest
 
 begins_one : (limit n : ℕ) → n < 10 → Begins limit n ((48 + n) ∷ [])
 unfolding number_at
@@ -126,21 +163,26 @@ begins_one limit n lt pos small rest =
     let fits : nat_lt n limit ≡ true = lt-ltb n limit small in
     rw (other, is_digit_again n lt, v, fits) refl
 
-begins_more : (limit n : ℕ) (ds : List ℕ) → 10 ≤ n → Begins limit (n / 10) ds → Begins limit n (ds ++ (48 + n % 10) ∷ [])
+begins_more : (limit n : ℕ) (ds : List ℕ) → 10 ≤ n → Begins limit (n / 10) ds
+    → Begins limit n (ds ++ (48 + n % 10) ∷ [])
 unfolding more_at
 begins_more limit n ds le h pos small rest =
     let v : 48 + n % 10 - 48 ≡ n % 10 = omega arith in
     let lt : n % 10 < 10 = omega arith in
     let whole : 10 * (n / 10) + n % 10 ≡ n = omega arith in
     let fits : nat_lt n limit ≡ true = lt-ltb n limit small in
-    let step : more_at limit (n / 10) ((48 + n % 10) ∷ rest) ≡ more_at limit n rest = rw (is_digit_again (n % 10) lt, v, whole, fits) refl in
-    ap (number_at limit) (append_assoc ds ((48 + n % 10) ∷ []) rest) ∙ h (omega arith) (omega arith) ((48 + n % 10) ∷ rest) ∙ step
+    let step : more_at limit (n / 10) ((48 + n % 10) ∷ rest) ≡ more_at limit n rest =
+    rw (is_digit_again (n % 10) lt, v, whole, fits) refl in
+    ap (number_at limit) (append_assoc ds ((48 + n % 10) ∷ []) rest)
+    ∙ h (omega arith) (omega arith) ((48 + n % 10) ∷ rest) ∙ step
 
 number_zero : (limit : ℕ) (rest : List ℕ) → number_at limit (decimal 0 ++ rest) ≡ Some (0, rest)
 unfolding number_at
 number_zero limit rest = rw (decimal_digit 0 (omega arith)) refl
 
-pub number_again : (limit n s : ℕ) (rest : List ℕ) → n < limit → limit ≤ 2 ^ 16 → is_digit s ≡ false → number_at limit (decimal n ++ s ∷ rest) ≡ Some (n, s ∷ rest)
+pub number_again : (limit n s : ℕ) (rest : List ℕ) → n < limit → limit ≤ 2 ^ 16 → is_digit s ≡ false
+    → number_at limit (decimal n ++ s ∷ rest) ≡ Some (n, s ∷ rest)
 number_again limit zero s rest lt small e = number_zero limit (s ∷ rest)
 number_again limit (suc n) s rest lt small e =
-    decimal_by_steps (Begins limit) (begins_one limit) (begins_more limit) (suc n) (omega arith) (omega arith) lt (s ∷ rest) ∙ more_stops limit (suc n) s rest e
+    decimal_by_steps (Begins limit) (begins_one limit) (begins_more limit) (suc n) (omega arith)
+    (omega arith) lt (s ∷ rest) ∙ more_stops limit (suc n) s rest e

@@ -10,21 +10,30 @@ use Rattle.certificate_text.specs.Lines.{IsNumber}
 use Rattle.certificate_text.specs.Lines.{AreWords, IsKey, IsLine, AreRows, IsFixed, SpellsByLines}
 use Rattle.certificate_text.proofs.Digits.{is_decimal, decimal_is}
 
-module _ {X : Type 0} (IsWord : List ℕ → X → Type 0) (spell : X → List ℕ) (Fits : X → Type 0) (only : (w : List ℕ) (x : X) → Fits x → IsWord w x → w ≡ spell x) (is : (x : X) → Fits x → IsWord (spell x) x) where
-  words_only : (ws : List (List ℕ)) (xs : List X) → AllByRecursion Fits xs → AreWords IsWord ws xs → ws ≡ map spell xs
+module _ {X : Type 0} (IsWord : List ℕ → X → Type 0) (spell : X → List ℕ) (Fits : X → Type 0)
+    (only : (w : List ℕ) (x : X) → Fits x → IsWord w x → w ≡ spell x) (is : (x : X) → Fits x
+    → IsWord (spell x) x) where
+  words_only : (ws : List (List ℕ)) (xs : List X) → AllByRecursion Fits xs → AreWords IsWord ws xs
+      → ws ≡ map spell xs
   words_only [] [] fits h = refl
   words_only [] (x ∷ xs) fits h = absurd h
   words_only (w ∷ ws) [] fits h = absurd h
-  words_only (w ∷ ws) (x ∷ xs) fits h = ap₂ (λ (v : List ℕ) (vs : List (List ℕ)). v ∷ vs) (only w x fits.0 h.0) (words_only ws xs fits.1 h.1)
+  words_only (w ∷ ws) (x ∷ xs) fits h =
+      ap₂ (λ (v : List ℕ) (vs : List (List ℕ)). v ∷ vs) (only w x fits.0 h.0)
+      (words_only ws xs fits.1 h.1)
 
   words_are : (xs : List X) → AllByRecursion Fits xs → AreWords IsWord (map spell xs) xs
   words_are [] fits = tt
   words_are (x ∷ xs) fits = (is x fits.0, words_are xs fits.1)
 
-  line_only : (name : List ℕ) (line : Line) (xs : List X) → AllByRecursion Fits xs → IsLine name IsWord line xs → line ≡ record { name = name; words = map spell xs }
-  line_only name line xs fits h = ap₂ (λ (n : List ℕ) (ws : List (List ℕ)). record { name = n; words = ws }) h.named (words_only line.words xs fits h.worded)
+  line_only : (name : List ℕ) (line : Line) (xs : List X) → AllByRecursion Fits xs
+      → IsLine name IsWord line xs → line ≡ record { name = name; words = map spell xs }
+  line_only name line xs fits h =
+      ap₂ (λ (n : List ℕ) (ws : List (List ℕ)). record { name = n; words = ws }) h.named
+      (words_only line.words xs fits h.worded)
 
-  line_is : (name : List ℕ) (xs : List X) → AllByRecursion Fits xs → IsLine name IsWord (record { name = name; words = map spell xs }) xs
+  line_is : (name : List ℕ) (xs : List X) → AllByRecursion Fits xs
+      → IsLine name IsWord (record { name = name; words = map spell xs }) xs
   line_is name xs fits = record { named = refl; worded = words_are xs fits }
 
 abbrev Small : ℕ → Type 0
@@ -40,34 +49,57 @@ number_only : (w : List ℕ) (n : ℕ) → Small n → IsNumber w n → w ≡ de
 number_only w n fits h = is_decimal h fits
 
 key_only : (w : List ℕ) (k : ℕ × ℕ) → SmallKey k → IsKey w k → w ≡ key_word k
-key_only w k fits h = h.joined ∙ ap₂ (λ (f : List ℕ) (g : List ℕ). f ++ 58 ∷ g) (is_decimal h.element fits.0) (is_decimal h.heap fits.1)
+key_only w k fits h =
+    h.joined ∙ ap₂ (λ (f : List ℕ) (g : List ℕ). f ++ 58 ∷ g) (is_decimal h.element fits.0)
+    (is_decimal h.heap fits.1)
 
 key_is : (k : ℕ × ℕ) → SmallKey k → IsKey (key_word k) k
-key_is k fits = record { f = decimal k.0; h = decimal k.1; element = decimal_is k.0 fits.0; heap = decimal_is k.1 fits.1; joined = refl }
+key_is k fits =
+    record {
+      f = decimal k.0;
+      h = decimal k.1;
+      element = decimal_is k.0 fits.0;
+      heap = decimal_is k.1 fits.1;
+      joined = refl;
+    }
 
-rows_only : (ls : List Line) (rows : List (List ℕ)) → AllByRecursion (AllByRecursion Small) rows → AreRows ls rows → ls ≡ map row_line rows
+rows_only : (ls : List Line) (rows : List (List ℕ)) → AllByRecursion (AllByRecursion Small) rows
+    → AreRows ls rows → ls ≡ map row_line rows
 rows_only [] [] fits h = refl
 rows_only [] (r ∷ rs) fits h = absurd h
 rows_only (l ∷ ls) [] fits h = absurd h
-rows_only (l ∷ ls) (r ∷ rs) fits h = ap₂ (λ (v : Line) (vs : List Line). v ∷ vs) (line_only IsNumber decimal Small number_only decimal_is (codes "row") l r fits.0 h.0) (rows_only ls rs fits.1 h.1)
+rows_only (l ∷ ls) (r ∷ rs) fits h =
+    ap₂ (λ (v : Line) (vs : List Line). v ∷ vs)
+    (line_only IsNumber decimal Small number_only decimal_is (codes "row") l r fits.0 h.0)
+    (rows_only ls rs fits.1 h.1)
 
-rows_are : (rows : List (List ℕ)) → AllByRecursion (AllByRecursion Small) rows → AreRows (map row_line rows) rows
+rows_are : (rows : List (List ℕ)) → AllByRecursion (AllByRecursion Small) rows
+    → AreRows (map row_line rows) rows
 rows_are [] fits = tt
-rows_are (r ∷ rs) fits = (line_is IsNumber decimal Small number_only decimal_is (codes "row") r fits.0, rows_are rs fits.1)
+rows_are (r ∷ rs) fits = (
+  line_is IsNumber decimal Small number_only decimal_is (codes "row") r fits.0,
+  rows_are rs fits.1,
+)
 
 -- ---- the numbers of a certificate are small
 
-smaller : (m : ℕ) → m ≤ 2 ^ 64 → (xs : List ℕ) → AllByRecursion (λ x. x < m) xs → AllByRecursion Small xs
+smaller : (m : ℕ) → m ≤ 2 ^ 64 → (xs : List ℕ) → AllByRecursion (λ x. x < m) xs
+    → AllByRecursion Small xs
 smaller m le [] h = tt
 smaller m le (x ∷ xs) h = (omega (arith, h.0), smaller m le xs h.1)
 
-smaller_keys : (m n : ℕ) → m ≤ 2 ^ 64 → n ≤ 2 ^ 64 → (ks : List (ℕ × ℕ)) → AllByRecursion (λ k. (k.0 < m) × (1 ≤ k.1) × (k.1 < n)) ks → AllByRecursion SmallKey ks
+smaller_keys : (m n : ℕ) → m ≤ 2 ^ 64 → n ≤ 2 ^ 64 → (ks : List (ℕ × ℕ))
+    → AllByRecursion (λ k. (k.0 < m) × (1 ≤ k.1) × (k.1 < n)) ks → AllByRecursion SmallKey ks
 smaller_keys m n lm ln [] h = tt
-smaller_keys m n lm ln (k ∷ ks) h = ((omega (arith, h.0.0), omega (arith, h.0.2)), smaller_keys m n lm ln ks h.1)
+smaller_keys m n lm ln (k ∷ ks) h =
+    ((omega (arith, h.0.0), omega (arith, h.0.2)), smaller_keys m n lm ln ks h.1)
 
-smaller_rows : (m : ℕ) → m ≤ 2 ^ 64 → (rows : List (List ℕ)) → AllByRecursion (λ row. (length row ≡ m) × All (λ x. x < m) row) rows → AllByRecursion (AllByRecursion Small) rows
+smaller_rows : (m : ℕ) → m ≤ 2 ^ 64 → (rows : List (List ℕ))
+    → AllByRecursion (λ row. (length row ≡ m) × All (λ x. x < m) row) rows
+    → AllByRecursion (AllByRecursion Small) rows
 smaller_rows m le [] h = tt
-smaller_rows m le (r ∷ rs) h = (smaller m le r (recursion_from_All (λ x. x < m) r h.0.1), smaller_rows m le rs h.1)
+smaller_rows m le (r ∷ rs) h =
+    (smaller m le r (recursion_from_All (λ x. x < m) r h.0.1), smaller_rows m le rs h.1)
 
 record AreSmall (c : Certificate) : Type 0 where
   order : Small c.order
@@ -88,9 +120,16 @@ are_small c h =
       start = omega (arith, h.start.1);
       period = omega (arith, h.period.1);
       phi = smaller c.order q c.phi (recursion_from_All (λ x. x < c.order) c.phi h.phi.1);
-      portion = smaller c.order q c.portion (recursion_from_All (λ x. x < c.order) c.portion h.portion.1);
-      words = smaller_keys c.order (c.start + c.period) q p c.words (recursion_from_All (λ k. (k.0 < c.order) × (1 ≤ k.1) × (k.1 < c.start + c.period)) c.words h.words.1);
-      rows = smaller_rows c.order q c.rows (recursion_from_All (λ row. (length row ≡ c.order) × All (λ x. x < c.order) row) c.rows h.rows.1);
+      portion =
+          smaller c.order q c.portion (recursion_from_All (λ x. x < c.order) c.portion h.portion.1);
+      words =
+          smaller_keys c.order (c.start + c.period) q p c.words
+          (recursion_from_All (λ k. (k.0 < c.order) × (1 ≤ k.1) × (k.1 < c.start + c.period))
+          c.words h.words.1);
+      rows =
+          smaller_rows c.order q c.rows
+          (recursion_from_All (λ row. (length row ≡ c.order) × All (λ x. x < c.order) row) c.rows
+          h.rows.1);
       apart = smaller c.order q c.apart (recursion_from_All (λ x. x < c.order) c.apart h.apart.1);
     }
 
@@ -113,25 +152,37 @@ pub from_lines : (b : List ℕ) (c : Certificate) → SpellsByLines b c → Spel
 from_lines b c s =
     let small = are_small c s.in_ranges in
     let number = line_only IsNumber decimal Small number_only decimal_is in
-    let e1 = line_only IsFixed (λ w. w) Any fixed_only fixed_is (codes "mqc") s.version (codes "1" ∷ []) (tt, tt) s.is_version in
-    let e2 = line_only IsCodeText code_text IsOctalCode code_only code_is (codes "code") s.code (c.code ∷ []) (s.in_ranges.code, tt) s.is_code in
+    let e1 = line_only IsFixed (λ w. w) Any fixed_only fixed_is (codes "mqc") s.version
+    (codes "1" ∷ []) (tt, tt) s.is_version in
+    let e2 = line_only IsCodeText code_text IsOctalCode code_only code_is (codes "code") s.code
+    (c.code ∷ []) (s.in_ranges.code, tt) s.is_code in
     let e3 = number (codes "order") s.order (c.order ∷ []) (small.order, tt) s.is_order in
     let e4 = number (codes "start") s.start (c.start ∷ []) (small.start, tt) s.is_start in
     let e5 = number (codes "period") s.period (c.period ∷ []) (small.period, tt) s.is_period in
     let e6 = number (codes "phi") s.phi c.phi small.phi s.is_phi in
     let e7 = number (codes "portion") s.portion c.portion small.portion s.is_portion in
-    let e8 = line_only IsKey key_word SmallKey key_only key_is (codes "words") s.words c.words small.words s.is_words in
+    let e8 =
+    line_only IsKey key_word SmallKey key_only key_is (codes "words") s.words c.words
+    small.words s.is_words in
     let e9 = rows_only s.rows c.rows small.rows s.are_rows in
     let e10 = number (codes "apart") s.apart c.apart small.apart s.is_apart in
-    let e11 = line_only IsFixed (λ w. w) Any fixed_only fixed_is (codes "end") s.end [] tt s.is_end in
+    let e11 = line_only IsFixed (λ w. w) Any fixed_only fixed_is (codes "end") s.end [] tt s.is_end
+    in
     record {
       in_ranges = s.in_ranges;
       bytes = s.bytes ∙ ap text (
-          ap (λ (l : Line). l ∷ s.code ∷ s.order ∷ s.start ∷ s.period ∷ s.phi ∷ s.portion ∷ s.words ∷ (s.rows ++ s.apart ∷ s.end ∷ [])) e1
+          ap (λ (l : Line). l ∷ s.code ∷ s.order ∷ s.start ∷ s.period ∷ s.phi ∷ s.portion ∷ s.words
+          ∷ (s.rows ++ s.apart ∷ s.end ∷ [])) e1
           ∙ ap (λ (ls : List Line). record { name = codes "mqc"; words = codes "1" ∷ [] } ∷ ls) (
-          ap₂ (λ (l : Line) (ls : List Line). l ∷ ls) e2 (ap₂ (λ (l : Line) (ls : List Line). l ∷ ls) e3 (ap₂ (λ (l : Line) (ls : List Line). l ∷ ls) e4 (ap₂ (λ (l : Line) (ls : List Line). l ∷ ls) e5
-          (ap₂ (λ (l : Line) (ls : List Line). l ∷ ls) e6 (ap₂ (λ (l : Line) (ls : List Line). l ∷ ls) e7 (ap₂ (λ (l : Line) (ls : List Line). l ∷ ls) e8
-          (ap₂ (λ (rs : List Line) (ls : List Line). rs ++ ls) e9 (ap₂ (λ (l : Line) (m : Line). l ∷ m ∷ []) e10 e11))))))))));
+          ap₂ (λ (l : Line) (ls : List Line). l ∷ ls) e2
+          (ap₂ (λ (l : Line) (ls : List Line). l ∷ ls) e3
+          (ap₂ (λ (l : Line) (ls : List Line). l ∷ ls) e4
+          (ap₂ (λ (l : Line) (ls : List Line). l ∷ ls) e5
+          (ap₂ (λ (l : Line) (ls : List Line). l ∷ ls) e6
+          (ap₂ (λ (l : Line) (ls : List Line). l ∷ ls) e7
+          (ap₂ (λ (l : Line) (ls : List Line). l ∷ ls) e8
+          (ap₂ (λ (rs : List Line) (ls : List Line). rs ++ ls) e9
+          (ap₂ (λ (l : Line) (m : Line). l ∷ m ∷ []) e10 e11))))))))));
     }
 
 pub to_lines : (b : List ℕ) (c : Certificate) → Spells b c → SpellsByLines b c
@@ -153,13 +204,16 @@ to_lines b c s =
       end = record { name = codes "end"; words = [] };
       bytes = s.bytes;
       is_version = record { named = refl; worded = (refl, tt) };
-      is_code = line_is IsCodeText code_text IsOctalCode code_only code_is (codes "code") (c.code ∷ []) (s.in_ranges.code, tt);
+      is_code =
+          line_is IsCodeText code_text IsOctalCode code_only code_is (codes "code") (c.code ∷ [])
+          (s.in_ranges.code, tt);
       is_order = number (codes "order") (c.order ∷ []) (small.order, tt);
       is_start = number (codes "start") (c.start ∷ []) (small.start, tt);
       is_period = number (codes "period") (c.period ∷ []) (small.period, tt);
       is_phi = number (codes "phi") c.phi small.phi;
       is_portion = number (codes "portion") c.portion small.portion;
-      is_words = line_is IsKey key_word SmallKey key_only key_is (codes "words") c.words small.words;
+      is_words =
+          line_is IsKey key_word SmallKey key_only key_is (codes "words") c.words small.words;
       are_rows = rows_are c.rows small.rows;
       is_apart = number (codes "apart") c.apart small.apart;
       is_end = record { named = refl; worded = tt };

@@ -1,14 +1,16 @@
--- The text of a certificate as a relation between bytes and the certificate's numbers, by cases on numbers, words and lines.
--- The format is this project's own.
+-- The text of a certificate as a relation between bytes and the certificate's numbers, by cases on
+-- numbers, words and lines. The format is this project's own.
 use Rattle.std.specs.Prelude.{◌≡◌, ℕ, ◌+◌, ◌*◌, ◌<◌, List, [], ◌∷◌, ◌++◌, codes}
 use Rattle.misere_theory.specs.Certificates.{Certificate, InRanges}
 use Rattle.octal_code.specs.Text.{IsCodeText}
 use Rattle.certificate_text.specs.Spelling.{Line, text}
 
--- The digits of a number, without leading zeros: one digit, or the digits of a number above 0 and one more digit.
+-- The digits of a number, without leading zeros: one digit, or the digits of a number above 0 and
+-- one more digit.
 pub data IsNumber : List ℕ → ℕ → Type 0 where
   One : (d : ℕ) → d < 10 → IsNumber ((48 + d) ∷ []) d
-  More : {ds : List ℕ} {n : ℕ} (d : ℕ) → IsNumber ds n → 0 < n → d < 10 → IsNumber (ds ++ (48 + d) ∷ []) (10 * n + d)
+  More : {ds : List ℕ} {n : ℕ} (d : ℕ) → IsNumber ds n → 0 < n → d < 10
+      → IsNumber (ds ++ (48 + d) ∷ []) (10 * n + d)
 
 -- a key f:h, an element and a heap
 pub record IsKey (word : List ℕ) (key : ℕ × ℕ) : Type 0 where
@@ -30,7 +32,8 @@ AreWords IsWord (w ∷ ws) [] = ⊥
 AreWords IsWord (w ∷ ws) (x ∷ xs) = IsWord w x × AreWords IsWord ws xs
 
 -- a line of this name, whose words are these values
-pub record IsLine {X : Type 0} (name : List ℕ) (IsWord : List ℕ → X → Type 0) (line : Line) (xs : List X) : Type 0 where
+pub record IsLine {X : Type 0} (name : List ℕ) (IsWord : List ℕ → X → Type 0) (line : Line)
+    (xs : List X) : Type 0 where
   pub named : line.name ≡ name
   pub worded : AreWords IsWord line.words xs
 
@@ -55,7 +58,9 @@ pub record SpellsByLines (b : List ℕ) (c : Certificate) : Type 0 where
   pub rows : List Line
   pub apart : Line
   pub end : Line
-  pub bytes : b ≡ text (version ∷ code ∷ order ∷ start ∷ period ∷ phi ∷ portion ∷ words ∷ (rows ++ apart ∷ end ∷ []))
+  pub bytes : b
+      ≡ text (version ∷ code ∷ order ∷ start ∷ period ∷ phi ∷ portion ∷ words
+      ∷ (rows ++ apart ∷ end ∷ []))
   pub is_version : IsLine (codes "mqc") IsFixed version (codes "1" ∷ [])
   pub is_code : IsLine (codes "code") IsCodeText code (c.code ∷ [])
   pub is_order : IsLine (codes "order") IsNumber order (c.order ∷ [])

@@ -1,5 +1,5 @@
--- Reading from left to right: a value and the bytes behind it, or nothing. It says what a reader does; that this is the
--- spelling is the law `reading_is_spelling`. This project's own.
+-- Reading from left to right: a value and the bytes behind it, or nothing. It says what a reader
+-- does; that this is the spelling is the law `reading_is_spelling`. This project's own.
 use Rattle.std.specs.Prelude.{ℕ, zero, suc, ◌+◌, ◌-◌, ◌*◌, ◌/◌, List, [], ◌∷◌, ◌++◌, length, take, drop, slice_index, Option, Some, None, Bool, nat_lt, nat_le, ◌&&◌, ◌==◌, if◌then◌else◌, codes}
 use Rattle.misere_theory.specs.Certificates.{Certificate}
 
@@ -26,7 +26,8 @@ unfoldable pub more_at : ℕ → ℕ → List ℕ → Option (ℕ × List ℕ)
 more_at limit n [] = Some (n, [])
 more_at limit n (b ∷ bytes) =
     if is_digit b
-    then (if nat_lt (10 * n + (b - 48)) limit then more_at limit (10 * n + (b - 48)) bytes else None)
+    then (if nat_lt (10 * n + (b - 48)) limit then more_at limit (10 * n + (b - 48)) bytes else
+    None)
     else Some (n, b ∷ bytes)
 
 -- a number below limit
@@ -46,7 +47,8 @@ key_at order heaps bytes = do
   if nat_lt 0 h.0 then Some ((f.0, h.0), h.1) else None
 
 -- count words, each behind a space
-unfoldable pub words_at : {X : Type 0} → (List ℕ → Option (X × List ℕ)) → ℕ → List ℕ → Option (List X × List ℕ)
+unfoldable pub words_at : {X : Type 0} → (List ℕ → Option (X × List ℕ)) → ℕ → List ℕ
+    → Option (List X × List ℕ)
 words_at word zero bytes = Some ([], bytes)
 words_at word (suc n) bytes = do
   space ← fixed_at (32 ∷ []) bytes
@@ -55,7 +57,8 @@ words_at word (suc n) bytes = do
   Some (x.0 ∷ xs.0, xs.1)
 
 -- a line of count words
-unfoldable pub line_at : {X : Type 0} → List ℕ → (List ℕ → Option (X × List ℕ)) → ℕ → List ℕ → Option (List X × List ℕ)
+unfoldable pub line_at : {X : Type 0} → List ℕ → (List ℕ → Option (X × List ℕ)) → ℕ → List ℕ
+    → Option (List X × List ℕ)
 line_at name word count bytes = do
   named ← fixed_at name bytes
   xs ← words_at word count named
@@ -100,19 +103,22 @@ octal_at (b ∷ bytes) = if nat_le 48 b && nat_le b 55 then Some (b - 48, bytes)
 -- at most room of them
 unfoldable pub octals_at : ℕ → List ℕ → Option (List ℕ × List ℕ)
 octals_at zero bytes = Some ([], bytes)
-octals_at (suc room) bytes = otherwise (octal_at bytes) (Some ([], bytes)) (λ d. with_front (d.0 ∷ []) (octals_at room d.1))
+octals_at (suc room) bytes =
+    otherwise (octal_at bytes) (Some ([], bytes)) (λ d. with_front (d.0 ∷ []) (octals_at room d.1))
 
 -- a point and the digits, behind the first one
 unfoldable pub digits_behind : ℕ → List ℕ → Option (List ℕ × List ℕ)
 digits_behind d bytes = do
   point ← fixed_at (46 ∷ []) bytes
   ds ← with_front (d ∷ []) (octals_at 16 point)
-  if nat_lt (length ds.0) 2 then None else if slice_index ds.0 (length ds.0 - 1) == 0 then None else Some ds
+  if nat_lt (length ds.0) 2 then None else
+      if slice_index ds.0 (length ds.0 - 1) == 0 then None else Some ds
 
 -- 0. or 4. and one to sixteen digits, the last not 0
 unfoldable pub code_at : List ℕ → Option (List ℕ × List ℕ)
 code_at [] = None
-code_at (d ∷ bytes) = if d == 48 then digits_behind 0 bytes else if d == 52 then digits_behind 4 bytes else None
+code_at (d ∷ bytes) =
+    if d == 48 then digits_behind 0 bytes else if d == 52 then digits_behind 4 bytes else None
 
 -- the code and the end of its line
 unfoldable pub code_line_at : List ℕ → Option (List ℕ × List ℕ)
@@ -149,7 +155,8 @@ certificate_at bytes = do
   front ← front_at bytes
   phi ← line_at (codes "phi") (number_at front.0.1) (front.0.2 + front.0.3 - 1) front.1
   portion ← portion_at front.0.1 phi.1
-  words ← line_at (codes "words") (key_at front.0.1 (front.0.2 + front.0.3)) (front.0.1 - 1) portion.1
+  words ← line_at (codes "words") (key_at front.0.1 (front.0.2 + front.0.3)) (front.0.1 - 1)
+      portion.1
   rows ← rows_at front.0.1 front.0.1 words.1
   apart ← line_at (codes "apart") (number_at front.0.1) (front.0.1 * (front.0.1 - 1) / 2) rows.1
   ended ← fixed_at (codes "end\n") apart.1

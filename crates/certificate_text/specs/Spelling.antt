@@ -1,5 +1,6 @@
--- The one text of each certificate, `mqc 1`: these lines in this order, each ended by one LF, with single spaces, nothing before
--- and nothing behind. The ranges of the numbers are the theory's `InRanges`. The format is this project's own.
+-- The one text of each certificate, `mqc 1`: these lines in this order, each ended by one LF, with
+-- single spaces, nothing before and nothing behind. The ranges of the numbers are the theory's
+-- `InRanges`. The format is this project's own.
 use Rattle.std.specs.Prelude.{◌≡◌, ℕ, List, [], ◌∷◌, ◌++◌, map, codes}
 use Rattle.std.specs.Fmt.{decimal}
 use Rattle.misere_theory.specs.Certificates.{Certificate, InRanges}
@@ -37,7 +38,8 @@ lines c =
     ∷ record { name = codes "phi"; words = map decimal c.phi }
     ∷ record { name = codes "portion"; words = map decimal c.portion }
     ∷ record { name = codes "words"; words = map key_word c.words }
-    ∷ (map row_line c.rows ++ record { name = codes "apart"; words = map decimal c.apart } ∷ record { name = codes "end"; words = [] } ∷ [])
+    ∷ (map row_line c.rows ++ record { name = codes "apart"; words = map decimal c.apart }
+    ∷ record { name = codes "end"; words = [] } ∷ [])
 
 -- the bytes b are the text of the certificate c, whose numbers are in their ranges
 pub record Spells (b : List ℕ) (c : Certificate) : Type 0 where

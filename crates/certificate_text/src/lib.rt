@@ -1,7 +1,8 @@
 //! The text of certificates: which bytes spell which certificate, as definitions, and their laws.
 //!
-//! `Spells` (specs/Spelling.antt) is the one text of each certificate; `SpellsByLines` (specs/Lines.antt) says the same as a
-//! relation, line for line; `certificate_at` (specs/Reading.antt) reads from left to right. Nothing here runs.
+//! `Spells` (specs/Spelling.antt) is the one text of each certificate; `SpellsByLines`
+//! (specs/Lines.antt) says the same as a relation, line for line; `certificate_at`
+//! (specs/Reading.antt) reads from left to right. Nothing here runs.
 #![tactic(auto)]
 
 ghost use Rattle.std.specs.Prelude.{◌≡◌, ◌≢◌, ◌++◌, ◌∷◌, ◌*◌, ◌<◌, ◌≤◌, ◌^◌, ℕ, List, [], Some, All, length};
@@ -13,11 +14,13 @@ ghost use Rattle.certificate_text.specs.Spelling.{Spells};
 ghost use Rattle.certificate_text.specs.Lines.{IsNumber, SpellsByLines};
 ghost use Rattle.certificate_text.specs.Reading.{certificate_at, code_line_at, rows_at, rows_of};
 
-/// Bytes spell at most one certificate, a certificate has one spelling, and no spelling begins another.
+/// Bytes spell at most one certificate, a certificate has one spelling, and no spelling begins
+/// another.
 pub fn spellings_are_unique()
     ensures value { (b : List ℕ) (c d : Certificate) → Spells b c → Spells b d → c ≡ d }
     ensures bytes { (a b : List ℕ) (c : Certificate) → Spells a c → Spells b c → a ≡ b }
-    ensures beginning { (a x : List ℕ) (c d : Certificate) → Spells a c → Spells (a ++ x) d → x ≡ [] }
+    ensures beginning { (a x : List ℕ) (c d : Certificate) → Spells a c → Spells (a ++ x) d
+        → x ≡ [] }
 {}
 
 /// The text of a certificate is its lines, each with its words: the two ways to say it agree.
@@ -34,19 +37,25 @@ pub fn numbers_are_decimal()
 
 /// What is read from left to right to the end is spelled so, and what is spelled so is read.
 pub fn reading_is_spelling()
-    ensures ranges { (b : List ℕ) (c : Certificate) (rest : List ℕ) → certificate_at b ≡ Some (c, rest) → InRanges c }
+    ensures ranges { (b : List ℕ) (c : Certificate) (rest : List ℕ)
+        → certificate_at b ≡ Some (c, rest) → InRanges c }
     ensures takes { (b : List ℕ) (c : Certificate) → certificate_at b ≡ Some (c, []) → Spells b c }
     ensures again { (b : List ℕ) (c : Certificate) → Spells b c → certificate_at b ≡ Some (c, []) }
 {}
 
 /// The code's line holds the text of a code, and ends at its first LF.
 pub fn code_lines_are_codes()
-    ensures taken { (b digits rest : List ℕ) → code_line_at b ≡ Some (digits, rest) → (word : List ℕ) × (b ≡ word ++ 10 ∷ rest) × IsCodeText word digits × All (λ x. x ≢ 10) word }
-    ensures again { (word digits rest : List ℕ) → IsCodeText word digits → code_line_at (word ++ 10 ∷ rest) ≡ Some (digits, rest) }
+    ensures taken { (b digits rest : List ℕ) → code_line_at b ≡ Some (digits, rest)
+        → (word : List ℕ) × (b ≡ word ++ 10 ∷ rest) × IsCodeText word digits
+        × All (λ x. x ≢ 10) word }
+    ensures again { (word digits rest : List ℕ) → IsCodeText word digits
+        → code_line_at (word ++ 10 ∷ rest) ≡ Some (digits, rest) }
 {}
 
 /// The rows that are read lie one behind the other, with nothing besides.
 pub fn rows_lie_flat()
-    ensures count { (order n : ℕ) (b xs rest : List ℕ) → 0 < order → order ≤ 2 ^ 16 → rows_at order n b ≡ Some (xs, rest) → length xs ≡ n * order }
-    ensures whole { (order n : ℕ) (b xs rest : List ℕ) → 0 < order → order ≤ 2 ^ 16 → rows_at order n b ≡ Some (xs, rest) → concat (rows_of order n xs) ≡ xs }
+    ensures count { (order n : ℕ) (b xs rest : List ℕ) → 0 < order → order ≤ 2 ^ 16
+        → rows_at order n b ≡ Some (xs, rest) → length xs ≡ n * order }
+    ensures whole { (order n : ℕ) (b xs rest : List ℕ) → 0 < order → order ≤ 2 ^ 16
+        → rows_at order n b ≡ Some (xs, rest) → concat (rows_of order n xs) ≡ xs }
 {}

@@ -18,5 +18,8 @@ refused_is_no no.Limit = refl
 refused_is_no no.Memory = refl
 
 -- what a printer took that held nothing is what was printed
-pub taken_is : (before after : Option (List ℕ)) (text bytes : List ℕ) → before ≡ Some [] → after ≡ Some bytes → Appends before after text → bytes ≡ text
-taken_is before after text bytes b a h = subst (λ (x : Option (List ℕ)). Appends (Some []) x text) a (subst (λ (x : Option (List ℕ)). Appends x after text) b h)
+pub taken_is : (before after : Option (List ℕ)) (text bytes : List ℕ) → before ≡ Some []
+    → after ≡ Some bytes → Appends before after text → bytes ≡ text
+taken_is before after text bytes b a h =
+    subst (λ (x : Option (List ℕ)). Appends (Some []) x text) a
+    (subst (λ (x : Option (List ℕ)). Appends x after text) b h)

@@ -1,4 +1,5 @@
--- What is said of a certificate: the text that is printed, and whether that is a yes. This project's own.
+-- What is said of a certificate: the text that is printed, and whether that is a yes. This
+-- project's own.
 use Rattle.std.specs.Prelude.{◌≡◌, ◌<◌, ℕ, Bool, false, List, Option, Result, Ok, Err, Vec, codes}
 use Rattle.misere_theory.specs.Certificates.{Certificate}
 use Rattle.folders.specs.Files.{Holds}
@@ -11,19 +12,23 @@ use Rattle.command_results.specs.declared.stop.Stop.TheVariants.{Read, Memory}
 
 -- the text of a true answer to the bytes, and whether that is yes
 abbrev pub SaysVerdict : List ℕ → ℕ → List ℕ → Bool → Type 0
-SaysVerdict bytes limit text accepted = (a : Answers bytes limit) × (text ≡ a.text) × (accepted ≡ is_yes a.answer)
+SaysVerdict bytes limit text accepted = (a : Answers bytes limit) × (text ≡ a.text)
+    × (accepted ≡ is_yes a.answer)
 
 -- the same for a stream that had these bytes left
 abbrev pub SaysOfStream : Option (List ℕ) → ℕ → List ℕ → Bool → Type 0
-SaysOfStream left limit text accepted = (a : AnswersStream left limit) × (text ≡ a.text) × (accepted ≡ is_yes a.answer)
+SaysOfStream left limit text accepted = (a : AnswersStream left limit) × (text ≡ a.text)
+    × (accepted ≡ is_yes a.answer)
 
 -- the same for the bytes of a file
 abbrev pub SaysOfFile : Option (List ℕ → Option (List ℕ)) → List ℕ → ℕ → List ℕ → Bool → Type 0
-SaysOfFile files file limit text accepted = (bytes : List ℕ) × Holds files file bytes × SaysVerdict bytes limit text accepted
+SaysOfFile files file limit text accepted = (bytes : List ℕ) × Holds files file bytes
+    × SaysVerdict bytes limit text accepted
 
 -- the file certifies c, under the limit
 abbrev pub Certifies : Option (List ℕ → Option (List ℕ)) → List ℕ → ℕ → Certificate → Type 0
-Certifies files file limit c = (bytes : List ℕ) × Holds files file bytes × IsTrueOf bytes limit (Yes c)
+Certifies files file limit c = (bytes : List ℕ) × Holds files file bytes
+    × IsTrueOf bytes limit (Yes c)
 
 -- the bytes certify a quotient under the limit, or else the text is that of a true no
 abbrev pub Judges : {A : Type 0} → List ℕ → ℕ → Result Certificate (Vec ℕ A) → Type 0
@@ -31,8 +36,10 @@ Judges bytes limit (Ok c) = IsTrueOf bytes limit (Yes c)
 Judges bytes limit (Err text) = SaysVerdict bytes limit text.items false
 
 -- the same for the bytes of a file
-abbrev pub Finds : {A : Type 0} → Option (List ℕ → Option (List ℕ)) → List ℕ → ℕ → Result Certificate (Vec ℕ A) → Type 0
-Finds files file limit quotient = (bytes : List ℕ) × Holds files file bytes × Judges bytes limit quotient
+abbrev pub Finds : {A : Type 0} → Option (List ℕ → Option (List ℕ)) → List ℕ → ℕ
+    → Result Certificate (Vec ℕ A) → Type 0
+Finds files file limit quotient = (bytes : List ℕ) × Holds files file bytes
+    × Judges bytes limit quotient
 
 -- a read of standard input failed, or none did and memory was wanting
 abbrev pub IsInputCause : ℕ → ℕ → Stop → Type 0

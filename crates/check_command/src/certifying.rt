@@ -33,7 +33,8 @@ pub fn certified<'a, F: Folder>(
     ensures kept { F.files folder.new ≡ F.files folder.old }
     ensures well { IfOk result (λ _. F.failed_reads folder.new ≡ F.failed_reads folder.old) }
     ensures writes { F.failed_writes folder.new ≡ F.failed_writes folder.old }
-    ensures stops { IfErr result (IsFileCause file.entry.now (F.failed_reads folder.old) (F.failed_reads folder.new)) }
+    ensures stops { IfErr result
+        (IsFileCause file.entry.now (F.failed_reads folder.old) (F.failed_reads folder.new)) }
 {
     let bytes = read_file(folder, file)?;
     let found = judged(alloc, &bytes, limit)?;

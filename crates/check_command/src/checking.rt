@@ -29,9 +29,11 @@ pub fn check_file<'a, F: Folder>(
     limit: u32,
     folder: &mut F,
 ) -> Result<Said, Stop<'a>>
-    ensures said { IfOk result (λ s. SaysOfFile (F.files folder.old) name.entry.now limit s.text.items s.well) }
+    ensures said { IfOk result
+        (λ s. SaysOfFile (F.files folder.old) name.entry.now limit s.text.items s.well) }
     ensures kept { F.files folder.new ≡ F.files folder.old }
-    ensures stops { IfErr result (IsFileCause name.entry.now (F.failed_reads folder.old) (F.failed_reads folder.new)) }
+    ensures stops { IfErr result
+        (IsFileCause name.entry.now (F.failed_reads folder.old) (F.failed_reads folder.new)) }
 {
     let bytes = read_file(folder, name)?;
     match check_text(alloc, &bytes, limit) {

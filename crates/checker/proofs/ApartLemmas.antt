@@ -24,11 +24,14 @@ drop-none (suc n) (x ∷ xs) e = let h = drop-none n xs e in omega arith
 
 pairs_with-more : (x y n : ℕ) → 0 < n → pairs_with x y n ≡ (x, y) ∷ pairs_with x (y + 1) (n - 1)
 pairs_with-more x y zero h = absurd (omega arith)
-pairs_with-more x y (suc n) h = let d : n ≡ suc n - 1 = omega arith in ap (λ m. (x, y) ∷ pairs_with x (y + 1) m) d
+pairs_with-more x y (suc n) h = let d : n ≡ suc n - 1 = omega arith in
+    ap (λ m. (x, y) ∷ pairs_with x (y + 1) m) d
 
-pairs_from-more : (x n : ℕ) → 0 < n → pairs_from x n ≡ pairs_with x (x + 1) (n - 1) ++ pairs_from (x + 1) (n - 1)
+pairs_from-more : (x n : ℕ) → 0 < n → pairs_from x n ≡ pairs_with x (x + 1) (n - 1)
+    ++ pairs_from (x + 1) (n - 1)
 pairs_from-more x zero h = absurd (omega arith)
-pairs_from-more x (suc n) h = let d : n ≡ suc n - 1 = omega arith in ap (λ m. pairs_with x (x + 1) m ++ pairs_from (x + 1) m) d
+pairs_from-more x (suc n) h = let d : n ≡ suc n - 1 = omega arith in
+    ap (λ m. pairs_with x (x + 1) m ++ pairs_from (x + 1) m) d
 
 module _ (c : Certificate) (r : InRanges c) where
   pub apart_start : HasNoFaultBelow 6 c → ApartSoFar c 0 1 0 0
@@ -55,23 +58,36 @@ module _ (c : Certificate) (r : InRanges c) where
         let d : c.order - y ≡ 0 = omega arith in
         let t = a.last e in
         let u : c.order - (x + 1) ≡ 0 = omega arith in
-        let none : drop n (pairs_from 0 c.order) ≡ [] = a.rest ∙ ap (λ m. pairs_with x y m ++ pairs_from (x + 1) (c.order - (x + 1))) d ∙ ap (pairs_from (x + 1)) u in
+        let none : drop n (pairs_from 0 c.order) ≡ [] =
+        a.rest ∙ ap (λ m. pairs_with x y m ++ pairs_from (x + 1) (c.order - (x + 1))) d
+        ∙ ap (pairs_from (x + 1)) u in
         let k = drop-none n (pairs_from 0 c.order) none in
         let len = r.apart.0 in
         absurd (omega arith)
   ]
 
-  rest_cons : (x y z n : ℕ) → ApartSoFar c x y z n → y < c.order → drop n (pairs_from 0 c.order) ≡ (x, y) ∷ (pairs_with x (y + 1) (c.order - y - 1) ++ pairs_from (x + 1) (c.order - (x + 1)))
-  rest_cons x y z n a l = a.rest ∙ ap (λ p. p ++ pairs_from (x + 1) (c.order - (x + 1))) (pairs_with-more x y (c.order - y) (omega arith))
+  rest_cons : (x y z n : ℕ) → ApartSoFar c x y z n → y < c.order
+      → drop n (pairs_from 0 c.order)
+      ≡ (x, y) ∷ (pairs_with x (y + 1) (c.order - y - 1) ++ pairs_from (x + 1) (c.order - (x + 1)))
+  rest_cons x y z n a l =
+      a.rest ∙ ap (λ p. p ++ pairs_from (x + 1) (c.order - (x + 1)))
+      (pairs_with-more x y (c.order - y) (omega arith))
 
-  pair_is : (x y z n : ℕ) → ApartSoFar c x y z n → y < c.order → get_or (pairs_from 0 c.order) n (0, 0) ≡ (x, y)
-  pair_is x y z n a l = get-drop n (pairs_from 0 c.order) (0, 0) ∙ ap (λ ps. get_or ps 0 (0, 0)) (rest_cons x y z n a l)
+  pair_is : (x y z n : ℕ) → ApartSoFar c x y z n → y < c.order
+      → get_or (pairs_from 0 c.order) n (0, 0) ≡ (x, y)
+  pair_is x y z n a l =
+      get-drop n (pairs_from 0 c.order) (0, 0)
+      ∙ ap (λ ps. get_or ps 0 (0, 0)) (rest_cons x y z n a l)
 
-  rest_next : (x y z n : ℕ) → ApartSoFar c x y z n → y < c.order → drop (n + 1) (pairs_from 0 c.order) ≡ pairs_with x (y + 1) (c.order - y - 1) ++ pairs_from (x + 1) (c.order - (x + 1))
+  rest_next : (x y z n : ℕ) → ApartSoFar c x y z n → y < c.order
+      → drop (n + 1) (pairs_from 0 c.order) ≡ pairs_with x (y + 1) (c.order - y - 1)
+      ++ pairs_from (x + 1) (c.order - (x + 1))
   rest_next x y z n a l = drop-one n (pairs_from 0 c.order) ∙ ap (drop 1) (rest_cons x y z n a l)
 
   -- z doesn't tell them apart
-  pub element_turn : (x y z n : ℕ) → ApartSoFar c x y z n → n < length c.apart → (TellsApart (claim_of c) (x, y) z → ⊥) → (z ≡ get_or c.apart n 0 → ⊥) → ApartSoFar c x y (z + 1) n
+  pub element_turn : (x y z n : ℕ) → ApartSoFar c x y z n → n < length c.apart
+      → (TellsApart (claim_of c) (x, y) z → ⊥) → (z ≡ get_or c.apart n 0 → ⊥)
+      → ApartSoFar c x y (z + 1) n
   element_turn x y z n a l untold other = record {
     free = a.free;
     rises = a.rises;
@@ -81,34 +97,66 @@ module _ (c : Certificate) (r : InRanges c) where
     rest = a.rest;
     before = a.before;
     element = λ h. (let e = a.element h in omega (arith, other));
-    below = λ w h. elim (dec_lt w z) [ yes b ↦ a.below w b | no f ↦ (let d : z ≡ w = omega arith in subst (λ v. TellsApart (claim_of c) (x, y) v → ⊥) d untold) ];
+    below =
+        λ w h.
+        elim (dec_lt w z) [
+          | yes b ↦ a.below w b
+          | no f ↦ (let d : z ≡ w = omega arith in
+              subst (λ v. TellsApart (claim_of c) (x, y) v → ⊥) d untold)
+        ];
   }
 
   -- the number given doesn't tell them apart
-  pub apart_none : (x y z n : ℕ) → ApartSoFar c x y z n → n < length c.apart → (TellsApart (claim_of c) (x, y) z → ⊥) → z ≡ get_or c.apart n 0 → ApartFault c
+  pub apart_none : (x y z n : ℕ) → ApartSoFar c x y z n → n < length c.apart
+      → (TellsApart (claim_of c) (x, y) z → ⊥) → z ≡ get_or c.apart n 0 → ApartFault c
   apart_none x y z n a l untold e =
-      let len = r.apart.0 in
-      (n, omega arith, λ h. untold (subst (λ v. TellsApart (claim_of c) (x, y) v) (sym e) (subst (λ p. TellsApart (claim_of c) p (get_or c.apart n 0)) (pair_is x y z n a (apart_in x y z n a l)) h.1)))
+      let len = r.apart.0 in (
+        n,
+        omega arith,
+        λ h.
+            untold
+            (subst (λ v. TellsApart (claim_of c) (x, y) v) (sym e)
+            (subst (λ p. TellsApart (claim_of c) p (get_or c.apart n 0))
+            (pair_is x y z n a (apart_in x y z n a l)) h.1)),
+      )
 
   -- a smaller number tells them apart
-  pub apart_smaller : (x y z n : ℕ) → ApartSoFar c x y z n → n < length c.apart → TellsApart (claim_of c) (x, y) z → z < get_or c.apart n 0 → ApartFault c
+  pub apart_smaller : (x y z n : ℕ) → ApartSoFar c x y z n → n < length c.apart
+      → TellsApart (claim_of c) (x, y) z → z < get_or c.apart n 0 → ApartFault c
   apart_smaller x y z n a l tells b =
-      let len = r.apart.0 in
-      (n, omega arith, λ h. h.2 z b (subst (λ p. TellsApart (claim_of c) p z) (sym (pair_is x y z n a (apart_in x y z n a l))) tells))
+      let len = r.apart.0 in (
+        n,
+        omega arith,
+        λ h.
+            h.2 z b
+            (subst (λ p. TellsApart (claim_of c) p z)
+            (sym (pair_is x y z n a (apart_in x y z n a l)))
+            tells),
+      )
 
-  least : (x y z n : ℕ) → ApartSoFar c x y z n → n < length c.apart → z < c.order → TellsApart (claim_of c) (x, y) z → z ≡ get_or c.apart n 0 → LeastApart (claim_of c) (get_or (pairs_from 0 c.order) n (0, 0)) (get_or c.apart n 0)
+  least : (x y z n : ℕ) → ApartSoFar c x y z n → n < length c.apart → z < c.order
+      → TellsApart (claim_of c) (x, y) z → z ≡ get_or c.apart n 0
+      → LeastApart (claim_of c) (get_or (pairs_from 0 c.order) n (0, 0)) (get_or c.apart n 0)
   least x y z n a l b tells e =
       let at : LeastApart (claim_of c) (x, y) z = (b, tells, a.below) in
-      subst (λ p. LeastApart (claim_of c) p (get_or c.apart n 0)) (sym (pair_is x y z n a (apart_in x y z n a l))) (subst (LeastApart (claim_of c) (x, y)) e at)
+      subst (λ p. LeastApart (claim_of c) p (get_or c.apart n 0))
+      (sym (pair_is x y z n a (apart_in x y z n a l)))
+      (subst (LeastApart (claim_of c) (x, y)) e at)
 
-  before_next : (x y z n : ℕ) → ApartSoFar c x y z n → n < length c.apart → z < c.order → TellsApart (claim_of c) (x, y) z → z ≡ get_or c.apart n 0 → (j : ℕ) → j < n + 1 → LeastApart (claim_of c) (get_or (pairs_from 0 c.order) j (0, 0)) (get_or c.apart j 0)
+  before_next : (x y z n : ℕ) → ApartSoFar c x y z n → n < length c.apart → z < c.order
+      → TellsApart (claim_of c) (x, y) z → z ≡ get_or c.apart n 0 → (j : ℕ) → j < n + 1
+      → LeastApart (claim_of c) (get_or (pairs_from 0 c.order) j (0, 0)) (get_or c.apart j 0)
   before_next x y z n a l b tells e j h = elim (dec_lt j n) [
     | yes s ↦ a.before j s
-    | no f ↦ (let d : n ≡ j = omega arith in subst (λ v. LeastApart (claim_of c) (get_or (pairs_from 0 c.order) v (0, 0)) (get_or c.apart v 0)) d (least x y z n a l b tells e))
+    | no f ↦ (let d : n ≡ j = omega arith in
+        subst (λ v. LeastApart (claim_of c) (get_or (pairs_from 0 c.order) v (0, 0))
+        (get_or c.apart v 0)) d (least x y z n a l b tells e))
   ]
 
   -- it is the least, and x has a further pair
-  pub pair_turn : (x y z n : ℕ) → ApartSoFar c x y z n → n < length c.apart → z < c.order → TellsApart (claim_of c) (x, y) z → z ≡ get_or c.apart n 0 → (y + 1 ≡ c.order → ⊥) → ApartSoFar c x (y + 1) 0 (n + 1)
+  pub pair_turn : (x y z n : ℕ) → ApartSoFar c x y z n → n < length c.apart → z < c.order
+      → TellsApart (claim_of c) (x, y) z → z ≡ get_or c.apart n 0 → (y + 1 ≡ c.order → ⊥)
+      → ApartSoFar c x (y + 1) 0 (n + 1)
   pair_turn x y z n a l b tells e more =
       let up = apart_in x y z n a l in
       let s = a.rises in
@@ -119,14 +167,18 @@ module _ (c : Certificate) (r : InRanges c) where
         within = omega arith;
         last = λ q. absurd (more q);
         place = omega arith;
-        rest = rest_next x y z n a up ∙ ap (λ m. pairs_with x (y + 1) m ++ pairs_from (x + 1) (c.order - (x + 1))) d;
+        rest =
+            rest_next x y z n a up
+            ∙ ap (λ m. pairs_with x (y + 1) m ++ pairs_from (x + 1) (c.order - (x + 1))) d;
         before = before_next x y z n a l b tells e;
         element = λ h. omega arith;
         below = λ v h. absurd (omega arith);
       }
 
   -- it is the least, and x has no further pair
-  pub last_pair_turn : (x y z n : ℕ) → ApartSoFar c x y z n → n < length c.apart → z < c.order → TellsApart (claim_of c) (x, y) z → z ≡ get_or c.apart n 0 → y + 1 ≡ c.order → ApartSoFar c (x + 1) (x + 1 + 1) 0 (n + 1)
+  pub last_pair_turn : (x y z n : ℕ) → ApartSoFar c x y z n → n < length c.apart → z < c.order
+      → TellsApart (claim_of c) (x, y) z → z ≡ get_or c.apart n 0 → y + 1 ≡ c.order
+      → ApartSoFar c (x + 1) (x + 1 + 1) 0 (n + 1)
   last_pair_turn x y z n a l b tells e done =
       let s = a.rises in
       let d : c.order - y - 1 ≡ 0 = omega arith in

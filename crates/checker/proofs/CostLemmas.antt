@@ -21,17 +21,21 @@ goes-on (Elements x) l = refl
 goes-on (Ended a) l = absurd (omega arith)
 
 module _ (bytes : List ℕ) (limit : ℕ) where
-  turns-add : (m n : ℕ) (p : Phase) → turns bytes limit m (turns bytes limit n p) ≡ turns bytes limit (n + m) p
+  turns-add : (m n : ℕ) (p : Phase) → turns bytes limit m (turns bytes limit n p)
+      ≡ turns bytes limit (n + m) p
   unfolding turns
   turns-add zero n p = let d : n ≡ n + zero = omega arith in ap (λ k. turns bytes limit k p) d
-  turns-add (suc m) n p = let d : suc (n + m) ≡ n + suc m = omega arith in ap (turn bytes limit) (turns-add m n p) ∙ ap (λ k. turns bytes limit k p) d
+  turns-add (suc m) n p = let d : suc (n + m) ≡ n + suc m = omega arith in
+      ap (turn bytes limit) (turns-add m n p) ∙ ap (λ k. turns bytes limit k p) d
 
-  turns-first : (n : ℕ) (p : Phase) → turns bytes limit n (turn bytes limit p) ≡ turns bytes limit (suc n) p
+  turns-first : (n : ℕ) (p : Phase) → turns bytes limit n (turn bytes limit p)
+      ≡ turns bytes limit (suc n) p
   unfolding turns
   turns-first zero p = refl
   turns-first (suc n) p = ap (turn bytes limit) (turns-first n p)
 
-  left-more : (most : ℕ) (p : Phase) → is_ended p ≡ false → turns_left bytes limit (suc most) p ≡ turns_left bytes limit most (turn bytes limit p) + 1
+  left-more : (most : ℕ) (p : Phase) → is_ended p ≡ false
+      → turns_left bytes limit (suc most) p ≡ turns_left bytes limit most (turn bytes limit p) + 1
   unfolding turns_left
   left-more most p e = rw e
 
@@ -41,44 +45,63 @@ module _ (bytes : List ℕ) (limit : ℕ) where
   left-none (suc most) p e = rw e
 
   -- the end is so many turns off
-  pub left-ended : (most n : ℕ) (p : Phase) → n ≤ most → is_ended (turns bytes limit n p) ≡ true → ((m : ℕ) → m < n → is_ended (turns bytes limit m p) ≡ false) → turns_left bytes limit most p ≡ n
+  pub left-ended : (most n : ℕ) (p : Phase) → n ≤ most → is_ended (turns bytes limit n p) ≡ true
+      → ((m : ℕ) → m < n → is_ended (turns bytes limit m p) ≡ false)
+      → turns_left bytes limit most p ≡ n
   unfolding turns
   left-ended most zero p l e going = left-none most p e
   left-ended zero (suc n) p l e going = absurd (omega arith)
   left-ended (suc most) (suc n) p l e going =
-      let h = left-ended most n (turn bytes limit p) (omega arith) (ap is_ended (turns-first n p) ∙ e) (λ m b. ap is_ended (turns-first m p) ∙ going (suc m) (omega arith)) in
+      let h =
+      left-ended most n (turn bytes limit p) (omega arith) (ap is_ended (turns-first n p) ∙ e)
+      (λ m b. ap is_ended (turns-first m p) ∙ going (suc m) (omega arith)) in
       let g = left-more most p (going 0 (omega arith)) in
       omega arith
 
   -- it is further off
-  pub left-going : (most n : ℕ) (p : Phase) → n < most → ((m : ℕ) → m ≤ n → is_ended (turns bytes limit m p) ≡ false) → n < turns_left bytes limit most p
+  pub left-going : (most n : ℕ) (p : Phase) → n < most
+      → ((m : ℕ) → m ≤ n → is_ended (turns bytes limit m p) ≡ false)
+      → n < turns_left bytes limit most p
   unfolding turns
   left-going zero n p l going = absurd (omega arith)
-  left-going (suc most) zero p l going = let g = left-more most p (going 0 (omega arith)) in omega arith
+  left-going (suc most) zero p l going = let g = left-more most p (going 0 (omega arith)) in
+      omega arith
   left-going (suc most) (suc n) p l going =
-      let h = left-going most n (turn bytes limit p) (omega arith) (λ m b. ap is_ended (turns-first m p) ∙ going (suc m) (omega arith)) in
+      let h =
+      left-going most n (turn bytes limit p) (omega arith)
+      (λ m b. ap is_ended (turns-first m p) ∙ going (suc m) (omega arith)) in
       let g = left-more most p (going 0 (omega arith)) in
       omega arith
 
-  reaches-all : (n : ℕ) (p : Phase) → Reaches bytes limit n p → is_ended p ≡ false → (m : ℕ) → m ≤ n → is_ended (turns bytes limit m Reading) ≡ false
+  reaches-all : (n : ℕ) (p : Phase) → Reaches bytes limit n p → is_ended p ≡ false → (m : ℕ) → m ≤ n
+      → is_ended (turns bytes limit m Reading) ≡ false
   reaches-all n p r e m l = elim (dec_lt m n) [
     | yes b ↦ r.going m b
-    | no f ↦ (let d : n ≡ m = omega arith in subst (λ k. is_ended (turns bytes limit k Reading) ≡ false) d (ap is_ended (sym r.reached) ∙ e))
+    | no f ↦ (let d : n ≡ m = omega arith in
+        subst (λ k. is_ended (turns bytes limit k Reading) ≡ false) d
+        (ap is_ended (sym r.reached) ∙ e))
   ]
 
-  going_spent : (n : ℕ) (p : Phase) → Reaches bytes limit n p → n < (bound bytes limit) → is_ended p ≡ false → n < cost bytes limit
+  going_spent : (n : ℕ) (p : Phase) → Reaches bytes limit n p → n < (bound bytes limit)
+      → is_ended p ≡ false → n < cost bytes limit
   unfolding cost
   going_spent n p r l e = left-going (bound bytes limit) n Reading l (reaches-all n p r e)
 
-  ended_spent : (n : ℕ) (a : Answer) → Reaches bytes limit n (Ended a) → n ≤ (bound bytes limit) → n ≡ cost bytes limit
+  ended_spent : (n : ℕ) (a : Answer) → Reaches bytes limit n (Ended a) → n ≤ (bound bytes limit)
+      → n ≡ cost bytes limit
   unfolding cost
-  ended_spent n a r l = sym (left-ended (bound bytes limit) n Reading l (ap is_ended (sym r.reached)) r.going)
+  ended_spent n a r l =
+      sym (left-ended (bound bytes limit) n Reading l (ap is_ended (sym r.reached)) r.going)
 
-  ended_answer : (n : ℕ) (a : Answer) → Reaches bytes limit n (Ended a) → n ≡ cost bytes limit → a ≡ verdict bytes limit
+  ended_answer : (n : ℕ) (a : Answer) → Reaches bytes limit n (Ended a) → n ≡ cost bytes limit
+      → a ≡ verdict bytes limit
   unfolding verdict
-  ended_answer n a r e = ap (answer_at bytes limit) r.reached ∙ ap (λ k. answer_at bytes limit (turns bytes limit k Reading)) e
+  ended_answer n a r e =
+      ap (answer_at bytes limit) r.reached
+      ∙ ap (λ k. answer_at bytes limit (turns bytes limit k Reading)) e
 
-  pub has_spent : (n : ℕ) (p : Phase) → Reaches bytes limit n p → n ≤ (bound bytes limit) → (is_ended p ≡ false → n < (bound bytes limit)) → HasSpent bytes limit n p
+  pub has_spent : (n : ℕ) (p : Phase) → Reaches bytes limit n p → n ≤ (bound bytes limit)
+      → (is_ended p ≡ false → n < (bound bytes limit)) → HasSpent bytes limit n p
   has_spent n Reading r l b = going_spent n Reading r (b refl) refl
   has_spent n (Laws x) r l b = going_spent n (Laws x) r (b refl) refl
   has_spent n (Keys x) r l b = going_spent n (Keys x) r (b refl) refl
@@ -97,14 +120,20 @@ module _ (bytes : List ℕ) (limit : ℕ) where
 
   pub some_cost : 0 < cost bytes limit
   unfolding cost turns
-  some_cost = left-going (bound bytes limit) 0 Reading (some_bound (certificate_at bytes)) (λ m l. (let d : 0 ≡ m = omega arith in subst (λ k. is_ended (turns bytes limit k Reading) ≡ false) d refl))
+  some_cost = left-going (bound bytes limit) 0 Reading (some_bound (certificate_at bytes))
+      (λ m l. (let d : 0 ≡ m = omega arith in
+      subst (λ k. is_ended (turns bytes limit k Reading) ≡ false) d refl))
 
   -- no more than it costs was spent
-  pub spent_most : (n : ℕ) (p : Phase) → Reaches bytes limit n p → n ≤ (bound bytes limit) → n ≤ cost bytes limit
+  pub spent_most : (n : ℕ) (p : Phase) → Reaches bytes limit n p → n ≤ (bound bytes limit)
+      → n ≤ cost bytes limit
   unfolding cost
   spent_most n p r l = elim (dec_lt 0 n) [
     | no f ↦ omega (arith, f)
-    | yes b ↦ (let h = left-going (bound bytes limit) (n - 1) Reading (omega arith) (λ m k. r.going m (omega arith)) in omega arith)
+    | yes b ↦
+        (let h =
+        left-going (bound bytes limit) (n - 1) Reading (omega arith)
+        (λ m k. r.going m (omega arith)) in omega arith)
   ]
 
   pub reaches_first : Reaches bytes limit 0 Reading
@@ -112,36 +141,55 @@ module _ (bytes : List ℕ) (limit : ℕ) where
   reaches_first = record { reached = refl; going = λ m l. absurd (omega arith) }
 
   -- turns behind turns at the same stage
-  pub runs-then : (before between after : ℕ) (p q r : Phase) → Runs bytes limit p before between q → Runs bytes limit q between after r → stage_of q ≡ stage_of p → Runs bytes limit p before after r
+  pub runs-then : (before between after : ℕ) (p q r : Phase) → Runs bytes limit p before between q
+      → Runs bytes limit q between after r → stage_of q ≡ stage_of p
+      → Runs bytes limit p before after r
   runs-then before between after p q r a b same =
       let u = a.within in
       let v = b.within in
       let d : before - between + (between - after) ≡ before - after = omega arith in
       record {
         within = omega arith;
-        reached = b.reached ∙ (ap (turns bytes limit (between - after)) a.reached ∙ (turns-add (between - after) (before - between) p ∙ ap (λ k. turns bytes limit k p) d));
+        reached =
+            b.reached
+            ∙ (ap (turns bytes limit (between - after)) a.reached
+            ∙ (turns-add (between - after) (before - between) p
+            ∙ ap (λ k. turns bytes limit k p) d));
         going = λ n l. elim (dec_lt n (before - between)) [
           | yes h ↦ a.going n h
           | no f ↦ (
               let e : before - between + (n - (before - between)) ≡ n = omega (arith, f) in
-              let at = ap stage_of (ap (turns bytes limit (n - (before - between))) a.reached ∙ (turns-add (n - (before - between)) (before - between) p ∙ ap (λ k. turns bytes limit k p) e)) in
+              let at =
+              ap stage_of (ap (turns bytes limit (n - (before - between))) a.reached
+              ∙ (turns-add (n - (before - between)) (before - between) p
+              ∙ ap (λ k. turns bytes limit k p) e)) in
               sym at ∙ (b.going (n - (before - between)) (omega (arith, f)) ∙ same))
         ];
       }
 
   -- what a stage does more
-  pub reaches-runs : (n : ℕ) (p q : Phase) (before after : ℕ) → Reaches bytes limit n p → stage_of p < 9 → Runs bytes limit p before after q → Reaches bytes limit (n + (before - after)) q
+  pub reaches-runs : (n : ℕ) (p q : Phase) (before after : ℕ) → Reaches bytes limit n p
+      → stage_of p < 9 → Runs bytes limit p before after q
+      → Reaches bytes limit (n + (before - after)) q
   reaches-runs n p q before after r l w = record {
-    reached = w.reached ∙ (ap (turns bytes limit (before - after)) r.reached ∙ turns-add (before - after) n Reading);
+    reached =
+        w.reached
+        ∙ (ap (turns bytes limit (before - after)) r.reached
+        ∙ turns-add (before - after) n Reading);
     going = λ m h. elim (dec_lt m n) [
       | yes b ↦ r.going m b
       | no f ↦
           let d : n + (m - n) ≡ m = omega arith in
-          let s : stage_of (turns bytes limit (m - n) p) ≡ stage_of p = w.going (m - n) (omega arith) in
+          let s : stage_of (turns bytes limit (m - n) p) ≡ stage_of p =
+          w.going (m - n) (omega arith) in
           let g = goes-on (turns bytes limit (m - n) p) (omega arith) in
-          subst (λ k. is_ended (turns bytes limit k Reading) ≡ false) d (ap is_ended (sym (turns-add (m - n) n Reading)) ∙ (ap (λ x. is_ended (turns bytes limit (m - n) x)) (sym r.reached) ∙ g))
+          subst (λ k. is_ended (turns bytes limit k Reading) ≡ false) d
+          (ap is_ended (sym (turns-add (m - n) n Reading))
+          ∙ (ap (λ x. is_ended (turns bytes limit (m - n) x)) (sym r.reached) ∙ g))
     ];
   }
 
-  pub reaches-on : (n : ℕ) (p q : Phase) (before after : ℕ) → Reaches bytes limit n p → stage_of p < 9 → Works bytes limit p before after q → Reaches bytes limit (n + (before - after)) q
+  pub reaches-on : (n : ℕ) (p q : Phase) (before after : ℕ) → Reaches bytes limit n p
+      → stage_of p < 9 → Works bytes limit p before after q
+      → Reaches bytes limit (n + (before - after)) q
   reaches-on n p q before after r l w = reaches-runs n p q before after r l w.runs

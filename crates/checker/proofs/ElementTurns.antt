@@ -19,7 +19,8 @@ use Rattle.std.proofs.lemmas.List.{get_or_default}
 abbrev pub blank : Pair
 blank = record { value = 0; options = set.empty }
 
-first_step : (has : ℕ → Bool) (a n y : ℕ) (v : Bool) → has a ≡ v → (has a ≡ true → a ≡ y) → (has a ≡ false → first_from has (a + 1) n ≡ y) → first_from has a (suc n) ≡ y
+first_step : (has : ℕ → Bool) (a n y : ℕ) (v : Bool) → has a ≡ v → (has a ≡ true → a ≡ y)
+    → (has a ≡ false → first_from has (a + 1) n ≡ y) → first_from has a (suc n) ≡ y
 unfolding first_from
 first_step has a n y true e t f = rw e (t e)
 first_step has a n y false e t f = rw e (f e)
@@ -29,14 +30,18 @@ contrary {b = true} e f = cc
 contrary {b = false} e f = cc
 
 -- the first is the one before which there is none
-pub first_is : (has : ℕ → Bool) (a n y : ℕ) → a ≤ y → y < a + n → has y ≡ true → ((x : ℕ) → a ≤ x → x < y → has x ≡ false) → first_from has a n ≡ y
+pub first_is : (has : ℕ → Bool) (a n y : ℕ) → a ≤ y → y < a + n → has y ≡ true
+    → ((x : ℕ) → a ≤ x → x < y → has x ≡ false) → first_from has a n ≡ y
 first_is has a zero y l b t none = absurd (omega arith)
 first_is has a (suc n) y l b t none =
     first_step has a n y (has a) refl
     (λ e. (let m : (a < y → ⊥) = λ h. contrary e (none a (omega arith) h) in omega (arith, m)))
-    (λ e. (let m : (a ≡ y → ⊥) = λ d. contrary (subst (λ v. has v ≡ true) (sym d) t) e in first_is has (a + 1) n y (omega (arith, m)) (omega arith) t (λ x u v. none x (omega arith) v)))
+    (λ e. (let m : (a ≡ y → ⊥) = λ d. contrary (subst (λ v. has v ≡ true) (sym d) t) e in
+    first_is has (a + 1) n y (omega (arith, m)) (omega arith) t
+    (λ x u v. none x (omega arith) v)))
 
-pub first_none : (has : ℕ → Bool) (a n : ℕ) → ((x : ℕ) → a ≤ x → x < a + n → has x ≡ false) → first_from has a n ≡ a + n
+pub first_none : (has : ℕ → Bool) (a n : ℕ) → ((x : ℕ) → a ≤ x → x < a + n → has x ≡ false)
+    → first_from has a n ≡ a + n
 unfolding first_from
 first_none has a zero none = omega arith
 first_none has a (suc n) none =
@@ -48,7 +53,8 @@ and_true : (a b d : Bool) → a ≡ true → b ≡ true → d ≡ true → (a &&
 and_true a b d e f g = rw (e, f, g) refl
 
 -- what the sets of elements say is what the turns ask
-module _ (c : Certificate) (ctx : List (set.FinSet nat_cmp)) (a : AreContexts c ctx) (p : Pair) (value_in : p.value < c.order) (h : ℕ) (option_in : h < c.order) where
+module _ (c : Certificate) (ctx : List (set.FinSet nat_cmp)) (a : AreContexts c ctx) (p : Pair)
+    (value_in : p.value < c.order) (h : ℕ) (option_in : h < c.order) where
   not_both : (b d : Bool) → (b ≡ true → d ≡ true → ⊥) → (b && d) ≡ false
   not_both true true n = absurd (n refl refl)
   not_both true false n = refl
@@ -58,80 +64,136 @@ module _ (c : Certificate) (ctx : List (set.FinSet nat_cmp)) (a : AreContexts c 
   not_all true b d n = n refl
   not_all false b d n = refl
 
-  pub leads_at : (y : ℕ) → set.contains p.options h ≡ true → set.contains (slice_index_or ctx p.value set.empty) y ≡ true → set.contains (slice_index_or ctx h set.empty) y ≡ true → leads_in c p h y ≡ true
-  leads_at y o u v = and_true (set.contains p.options h) (holds c (times_of c p.value y)) (holds c (times_of c h y)) o (a.each p.value y value_in u).1 (a.each h y option_in v).1
+  pub leads_at : (y : ℕ) → set.contains p.options h ≡ true
+      → set.contains (slice_index_or ctx p.value set.empty) y ≡ true
+      → set.contains (slice_index_or ctx h set.empty) y ≡ true → leads_in c p h y ≡ true
+  leads_at y o u v =
+      and_true (set.contains p.options h) (holds c (times_of c p.value y))
+      (holds c (times_of c h y)) o (a.each p.value y value_in u).1 (a.each h y option_in v).1
 
-  pub leads_not : (y : ℕ) → y < c.order → (set.contains p.options h ≡ true → set.contains (slice_index_or ctx p.value set.empty) y ≡ true → set.contains (slice_index_or ctx h set.empty) y ≡ false) → leads_in c p h y ≡ false
+  pub leads_not : (y : ℕ) → y < c.order
+      → (set.contains p.options h ≡ true → set.contains (slice_index_or ctx p.value set.empty) y
+      ≡ true → set.contains (slice_index_or ctx h set.empty) y ≡ false) → leads_in c p h y ≡ false
   leads_not y b n =
       not_all (set.contains p.options h) (holds c (times_of c p.value y)) (holds c (times_of c h y))
-      (λ o. not_both (holds c (times_of c p.value y)) (holds c (times_of c h y)) (λ u v. contrary (a.all h y option_in b v) (n o (a.all p.value y value_in b u))))
+      (λ o. not_both (holds c (times_of c p.value y)) (holds c (times_of c h y))
+      (λ u v. contrary (a.all h y option_in b v) (n o (a.all p.value y value_in b u))))
 
 -- the same, of the heap and the value in hand
-module _ (c : Certificate) (r : InRanges c) (pairs : List Pair) (ctx : List (set.FinSet nat_cmp)) (i h : ℕ) (e : ElementsSoFar c pairs ctx i h) (l : i < length pairs) (p : Pair) (is : p ≡ get_or pairs i p) where
+module _ (c : Certificate) (r : InRanges c) (pairs : List Pair) (ctx : List (set.FinSet nat_cmp))
+    (i h : ℕ) (e : ElementsSoFar c pairs ctx i h) (l : i < length pairs) (p : Pair)
+    (is : p ≡ get_or pairs i p) where
   value_in : p.value < c.order
-  value_in = let v = value_below c r pairs ctx i h p e l is in let n = e.sets.length_is in omega arith
+  value_in = let v = value_below c r pairs ctx i h p e l is in let n = e.sets.length_is in
+      omega arith
 
   pair_is : p ≡ slice_index_or pairs i blank
   pair_is = is ∙ get_or_default pairs i p blank l
 
-  pub leads_here : (y : ℕ) → set.contains p.options h ≡ true → set.contains (slice_index_or ctx p.value set.empty) y ≡ true → set.contains (slice_index_or ctx h set.empty) y ≡ true → leads_in c (slice_index_or pairs i blank) h y ≡ true
-  leads_here y o u v = subst (λ q. leads_in c q h y ≡ true) pair_is (leads_at c ctx e.sets p value_in h e.value y o u v)
+  pub leads_here : (y : ℕ) → set.contains p.options h ≡ true
+      → set.contains (slice_index_or ctx p.value set.empty) y ≡ true
+      → set.contains (slice_index_or ctx h set.empty) y ≡ true
+      → leads_in c (slice_index_or pairs i blank) h y ≡ true
+  leads_here y o u v =
+      subst (λ q. leads_in c q h y ≡ true) pair_is
+      (leads_at c ctx e.sets p value_in h e.value y o u v)
 
-  pub leads_nowhere : (y : ℕ) → y < c.order → (set.contains p.options h ≡ true → set.contains (slice_index_or ctx p.value set.empty) y ≡ true → set.contains (slice_index_or ctx h set.empty) y ≡ false) → leads_in c (slice_index_or pairs i blank) h y ≡ false
-  leads_nowhere y b n = subst (λ q. leads_in c q h y ≡ false) pair_is (leads_not c ctx e.sets p value_in h e.value y b n)
+  pub leads_nowhere : (y : ℕ) → y < c.order
+      → (set.contains p.options h ≡ true → set.contains (slice_index_or ctx p.value set.empty) y
+      ≡ true → set.contains (slice_index_or ctx h set.empty) y ≡ false)
+      → leads_in c (slice_index_or pairs i blank) h y ≡ false
+  leads_nowhere y b n =
+      subst (λ q. leads_in c q h y ≡ false) pair_is
+      (leads_not c ctx e.sets p value_in h e.value y b n)
 
 -- heaps are left to look at
-pub elements_in : (limit : ℕ) (c : Certificate) (pairs : List Pair) (i h : ℕ) → i < length pairs → elements_at limit c pairs i h ≡ Elements (record { certificate = c; pairs = pairs; heap = i; option = h })
+pub elements_in : (limit : ℕ) (c : Certificate) (pairs : List Pair) (i h : ℕ) → i < length pairs
+    → elements_at limit c pairs i h
+    ≡ Elements (record { certificate = c; pairs = pairs; heap = i; option = h })
 unfolding elements_at
-elements_in limit c pairs i h l = let e : nat_lt i (length pairs) ≡ true = grind (arith, tests) in rw e
+elements_in limit c pairs i h l = let e : nat_lt i (length pairs) ≡ true = grind (arith, tests) in
+    rw e
 
-elements_out : (limit : ℕ) (c : Certificate) (pairs : List Pair) (i h : ℕ) → length pairs ≤ i → elements_at limit c pairs i h ≡ Closing (record { certificate = c; closure = begun (grid_of c) pairs limit })
+elements_out : (limit : ℕ) (c : Certificate) (pairs : List Pair) (i h : ℕ) → length pairs ≤ i
+    → elements_at limit c pairs i h
+    ≡ Closing (record { certificate = c; closure = begun (grid_of c) pairs limit })
 unfolding elements_at
-elements_out limit c pairs i h l = let e : nat_lt i (length pairs) ≡ false = grind (arith, tests) in rw e
+elements_out limit c pairs i h l = let e : nat_lt i (length pairs) ≡ false = grind (arith, tests) in
+    rw e
 
 -- one turn
-module _ (limit : ℕ) (c : Certificate) (pairs : List Pair) (i h y : ℕ) (first : first_from (leads_in c (slice_index_or pairs i blank) h) 0 c.order ≡ y) where
-  breaks : nat_lt y c.order ≡ true → elements_turn limit (record { certificate = c; pairs = pairs; heap = i; option = h }) ≡ Ended (Outcome c.code (rising ((i + 1) ∷ keys_from c c.order y)))
+module _ (limit : ℕ) (c : Certificate) (pairs : List Pair) (i h y : ℕ)
+    (first : first_from (leads_in c (slice_index_or pairs i blank) h) 0 c.order ≡ y) where
+  breaks : nat_lt y c.order ≡ true
+      → elements_turn limit (record { certificate = c; pairs = pairs; heap = i; option = h })
+      ≡ Ended (Outcome c.code (rising ((i + 1) ∷ keys_from c c.order y)))
   unfolding elements_turn
   breaks e = rw (first, e)
 
-  next_heap : nat_lt y c.order ≡ false → (h + 1 == c.order) ≡ true → elements_turn limit (record { certificate = c; pairs = pairs; heap = i; option = h }) ≡ elements_at limit c pairs (i + 1) 0
+  next_heap : nat_lt y c.order ≡ false → (h + 1 == c.order) ≡ true
+      → elements_turn limit (record { certificate = c; pairs = pairs; heap = i; option = h })
+      ≡ elements_at limit c pairs (i + 1) 0
   unfolding elements_turn
   next_heap e d = rw (first, e, d)
 
-  next_option : nat_lt y c.order ≡ false → (h + 1 == c.order) ≡ false → elements_turn limit (record { certificate = c; pairs = pairs; heap = i; option = h }) ≡ elements_at limit c pairs i (h + 1)
+  next_option : nat_lt y c.order ≡ false → (h + 1 == c.order) ≡ false
+      → elements_turn limit (record { certificate = c; pairs = pairs; heap = i; option = h })
+      ≡ elements_at limit c pairs i (h + 1)
   unfolding elements_turn
   next_option e d = rw (first, e, d)
 
-module _ (bytes : List ℕ) (limit : ℕ) (p : ElementsView) (c : Certificate) (pairs : List Pair) (i h : ℕ) (before after : ℕ) (r : Runs bytes limit (Elements p) before after (elements_at limit c pairs i h)) where
+module _ (bytes : List ℕ) (limit : ℕ) (p : ElementsView) (c : Certificate) (pairs : List Pair)
+    (i h : ℕ) (before after : ℕ)
+    (r : Runs bytes limit (Elements p) before after (elements_at limit c pairs i h)) where
   module _ (l : i < length pairs) where
-    pub elements_going : Runs bytes limit (Elements p) before after (Elements (record { certificate = c; pairs = pairs; heap = i; option = h }))
-    elements_going = runs-to bytes limit before after (Elements p) _ _ r (elements_in limit c pairs i h l)
+    pub elements_going : Runs bytes limit (Elements p) before after
+        (Elements (record { certificate = c; pairs = pairs; heap = i; option = h }))
+    elements_going =
+        runs-to bytes limit before after (Elements p) _ _ r (elements_in limit c pairs i h l)
 
-    elements_look : 0 < after → Runs bytes limit (Elements p) before (after - 1) (elements_turn limit (record { certificate = c; pairs = pairs; heap = i; option = h }))
+    elements_look : 0 < after
+        → Runs bytes limit (Elements p) before (after - 1)
+        (elements_turn limit (record { certificate = c; pairs = pairs; heap = i; option = h }))
     elements_look some = runs-more bytes limit before after (Elements p) _ elements_going some refl
 
-    pub elements_broken : (y : ℕ) → 0 < after → y < c.order → leads_in c (slice_index_or pairs i blank) h y ≡ true → ((x : ℕ) → x < y → leads_in c (slice_index_or pairs i blank) h x ≡ false) → Runs bytes limit (Elements p) before (after - 1) (Ended (Outcome c.code (rising ((i + 1) ∷ keys_from c c.order y))))
+    pub elements_broken : (y : ℕ) → 0 < after → y < c.order
+        → leads_in c (slice_index_or pairs i blank) h y ≡ true
+        → ((x : ℕ) → x < y → leads_in c (slice_index_or pairs i blank) h x ≡ false)
+        → Runs bytes limit (Elements p) before (after - 1)
+        (Ended (Outcome c.code (rising ((i + 1) ∷ keys_from c c.order y))))
     elements_broken y some b t none =
-        let first = first_is (leads_in c (slice_index_or pairs i blank) h) 0 c.order y (omega arith) (omega arith) t (λ x u v. none x v) in
+        let first = first_is (leads_in c (slice_index_or pairs i blank) h) 0 c.order y (omega arith)
+        (omega arith) t (λ x u v. none x v) in
         let e : nat_lt y c.order ≡ true = grind (arith, tests) in
-        runs-to bytes limit before (after - 1) (Elements p) _ _ (elements_look some) (breaks limit c pairs i h y first e)
+        runs-to bytes limit before (after - 1) (Elements p) _ _ (elements_look some)
+        (breaks limit c pairs i h y first e)
 
-    module _ (some : 0 < after) (none : (x : ℕ) → x < c.order → leads_in c (slice_index_or pairs i blank) h x ≡ false) where
+    module _ (some : 0 < after) (none : (x : ℕ) → x < c.order
+        → leads_in c (slice_index_or pairs i blank) h x ≡ false) where
       first : first_from (leads_in c (slice_index_or pairs i blank) h) 0 c.order ≡ c.order
-      first = (let d : 0 + c.order ≡ c.order = omega arith in first_none (leads_in c (slice_index_or pairs i blank) h) 0 c.order (λ x u v. none x (omega arith)) ∙ d)
+      first =
+          (let d : 0 + c.order ≡ c.order = omega arith in
+          first_none (leads_in c (slice_index_or pairs i blank) h) 0 c.order
+          (λ x u v. none x (omega arith)) ∙ d)
 
-      pub elements_heap : h + 1 ≡ c.order → Runs bytes limit (Elements p) before (after - 1) (elements_at limit c pairs (i + 1) 0)
+      pub elements_heap : h + 1 ≡ c.order
+          → Runs bytes limit (Elements p) before (after - 1) (elements_at limit c pairs (i + 1) 0)
       elements_heap d =
           let e : nat_lt c.order c.order ≡ false = grind (arith, tests) in
           let g : (h + 1 == c.order) ≡ true = grind (arith, tests) in
-          runs-to bytes limit before (after - 1) (Elements p) _ _ (elements_look some) (next_heap limit c pairs i h c.order first e g)
+          runs-to bytes limit before (after - 1) (Elements p) _ _ (elements_look some)
+          (next_heap limit c pairs i h c.order first e g)
 
-      pub elements_option : (h + 1 ≡ c.order → ⊥) → Runs bytes limit (Elements p) before (after - 1) (elements_at limit c pairs i (h + 1))
+      pub elements_option : (h + 1 ≡ c.order → ⊥)
+          → Runs bytes limit (Elements p) before (after - 1) (elements_at limit c pairs i (h + 1))
       elements_option d =
           let e : nat_lt c.order c.order ≡ false = grind (arith, tests) in
           let g : (h + 1 == c.order) ≡ false = grind (arith, tests) in
-          runs-to bytes limit before (after - 1) (Elements p) _ _ (elements_look some) (next_option limit c pairs i h c.order first e g)
+          runs-to bytes limit before (after - 1) (Elements p) _ _ (elements_look some)
+          (next_option limit c pairs i h c.order first e g)
 
-  pub elements_over : length pairs ≤ i → Runs bytes limit (Elements p) before after (Closing (record { certificate = c; closure = begun (grid_of c) pairs limit }))
-  elements_over l = runs-to bytes limit before after (Elements p) _ _ r (elements_out limit c pairs i h l)
+  pub elements_over : length pairs ≤ i
+      → Runs bytes limit (Elements p) before after
+      (Closing (record { certificate = c; closure = begun (grid_of c) pairs limit }))
+  elements_over l =
+      runs-to bytes limit before after (Elements p) _ _ r (elements_out limit c pairs i h l)

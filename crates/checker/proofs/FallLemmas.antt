@@ -23,32 +23,48 @@ use Rattle.checker.proofs.FallLoops.{laws_falls, keys_falls, products_falls, per
 
 -- what certificate_text tells of what is read
 abbrev pub ReadsRanged : Type 0
-ReadsRanged = (b : List ℕ) (c : Certificate) (rest : List ℕ) → certificate_at b ≡ Some (c, rest) → InRanges c
+ReadsRanged = (b : List ℕ) (c : Certificate) (rest : List ℕ) → certificate_at b ≡ Some (c, rest)
+    → InRanges c
 
 fewer_than : (a n m : ℕ) → a ≤ m → (a ≤ n → ⊥) → n < m
-fewer_than a n m l f = elim (dec_lt n a) [ yes k ↦ omega arith | no k ↦ absurd (f (omega (arith, k))) ]
+fewer_than a n m l f =
+    elim (dec_lt n a) [ yes k ↦ omega arith | no k ↦ absurd (f (omega (arith, k))) ]
 
 -- a closure that goes on has taken fewer turns than all
-pub closures_fewer : ((table : Grid) (pairs : List Pair) (limit : ℕ) → closure_cost table pairs limit ≤ limit * length pairs + 2)
-    → ((table : Grid) (pairs : List Pair) (limit units : ℕ) → (has_ended (steps units (begun table pairs limit)).state ≡ true) ↔ (closure_cost table pairs limit ≤ units))
+pub closures_fewer : ((table : Grid) (pairs : List Pair) (limit : ℕ)
+    → closure_cost table pairs limit ≤ limit * length pairs + 2)
+    → ((table : Grid) (pairs : List Pair) (limit units : ℕ)
+    → (has_ended (steps units (begun table pairs limit)).state ≡ true)
+    ↔ (closure_cost table pairs limit ≤ units))
     → ClosuresEnd
-closures_fewer most ends table pairs limit units going = fewer_than (closure_cost table pairs limit) units (limit * length pairs + 2) (most table pairs limit) (λ l. let e = (ends table pairs limit units).1 l in absurd cc)
+closures_fewer most ends table pairs limit units going =
+    fewer_than (closure_cost table pairs limit) units (limit * length pairs + 2)
+    (most table pairs limit) (λ l. let e = (ends table pairs limit units).1 l in absurd cc)
 
-sums : (q qqq qq qn pp kbb bq bqq bl : ℕ) → q ≤ qq → bq ≤ bqq → qqq + (q + (qn + (pp + (qqq + (kbb + (bq + (bl + 2))))))) < 2 * qqq + qq + qn + pp + kbb + bqq + bl + 16
+sums : (q qqq qq qn pp kbb bq bqq bl : ℕ) → q ≤ qq → bq ≤ bqq
+    → qqq + (q + (qn + (pp + (qqq + (kbb + (bq + (bl + 2))))))) < 2 * qqq + qq + qn + pp + kbb + bqq
+    + bl + 16
 sums q qqq qq qn pp kbb bq bqq bl h l = omega arith
 
-total : (a b c d e f g : ℕ) → a ≤ 256 * 256 * 256 → b ≤ 256 * 256 → c ≤ 256 * 1025 → d ≤ 1024 * 1024 → e ≤ 17 * (2066 * 2066) → f ≤ 2066 * (256 * 256) → g ≤ 2066 * 2 ^ 32
+total : (a b c d e f g : ℕ) → a ≤ 256 * 256 * 256 → b ≤ 256 * 256 → c ≤ 256 * 1025 → d ≤ 1024 * 1024
+    → e ≤ 17 * (2066 * 2066) → f ≤ 2066 * (256 * 256) → g ≤ 2066 * 2 ^ 32
     → 2 * a + b + c + d + e + f + g + 16 < 2 ^ 52
 total a b c d e f g ha hb hc hd he hf hg = omega arith
 
 module _ (bytes : List ℕ) (limit : ℕ) where
   -- the bound of all
-  whole : (c : Certificate) → InRanges c → triples c.order + behind_laws limit c < most_turns bytes limit c
+  whole : (c : Certificate) → InRanges c
+      → triples c.order + behind_laws limit c < most_turns bytes limit c
   whole c r =
       let o = r.order.0 in
-      let q : 1 * c.order ≤ c.order * c.order = mul-le 1 c.order c.order c.order (omega arith) (omega arith) in
-      let b : bound_of c * c.order ≤ bound_of c * (c.order * c.order) = mul-le (bound_of c) c.order (bound_of c) (c.order * c.order) (omega arith) (omega arith) in
-      sums c.order (triples c.order) (c.order * c.order) (c.order * (c.start + c.period)) (c.period * c.period) (length c.code * (bound_of c * bound_of c)) (bound_of c * c.order) (bound_of c * (c.order * c.order)) (bound_of c * limit) (omega arith) b
+      let q : 1 * c.order ≤ c.order * c.order =
+      mul-le 1 c.order c.order c.order (omega arith) (omega arith) in
+      let b : bound_of c * c.order ≤ bound_of c * (c.order * c.order) =
+      mul-le (bound_of c) c.order (bound_of c) (c.order * c.order) (omega arith) (omega arith)
+      in
+      sums c.order (triples c.order) (c.order * c.order) (c.order * (c.start + c.period))
+      (c.period * c.period) (length c.code * (bound_of c * bound_of c)) (bound_of c * c.order)
+      (bound_of c * (c.order * c.order)) (bound_of c * limit) (omega arith) b
 
   -- as few that a counter of 64 bits holds them
   few_of : (c : Certificate) → InRanges c → limit < 2 ^ 32 → most_turns bytes limit c < 2 ^ 52
@@ -66,9 +82,12 @@ module _ (bytes : List ℕ) (limit : ℕ) where
       let k2 = mul-le (length c.code) (bound_of c * bound_of c) 17 (2066 * 2066) k b2 in
       let bq = mul-le (bound_of c) (c.order * c.order) 2066 (256 * 256) b q2 in
       let bl = mul-le (bound_of c) limit 2066 (2 ^ 32) b (omega arith) in
-      total (c.order * c.order * c.order) (c.order * c.order) (c.order * (c.start + c.period)) (c.period * c.period) (length c.code * (bound_of c * bound_of c)) (bound_of c * (c.order * c.order)) (bound_of c * limit) q3 q2 n p2 k2 bq bl
+      total (c.order * c.order * c.order) (c.order * c.order) (c.order * (c.start + c.period))
+      (c.period * c.period) (length c.code * (bound_of c * bound_of c))
+      (bound_of c * (c.order * c.order)) (bound_of c * limit) q3 q2 n p2 k2 bq bl
 
-  few_read : ReadsRanged → limit < 2 ^ 32 → (x : Option (Certificate × List ℕ)) → certificate_at bytes ≡ x → bound_read bytes limit x < 2 ^ 52
+  few_read : ReadsRanged → limit < 2 ^ 32 → (x : Option (Certificate × List ℕ))
+      → certificate_at bytes ≡ x → bound_read bytes limit x < 2 ^ 52
   few_read ranged l None e = omega arith
   few_read ranged l (Some (c, [])) e = few_of c (ranged bytes c [] e) l
   few_read ranged l (Some (c, b ∷ more)) e = omega arith
@@ -80,16 +99,21 @@ module _ (bytes : List ℕ) (limit : ℕ) where
   some_triples c r =
       let o = r.order.0 in
       let a : 1 * 1 ≤ c.order * c.order = mul-le 1 1 c.order c.order (omega arith) (omega arith) in
-      let b : 1 * 1 ≤ c.order * c.order * c.order = mul-le 1 1 (c.order * c.order) c.order (omega arith) (omega arith) in
+      let b : 1 * 1 ≤ c.order * c.order * c.order =
+      mul-le 1 1 (c.order * c.order) c.order (omega arith) (omega arith) in
       omega arith
 
-  opens : ReadsRanged → (x : Option (Certificate × List ℕ)) → certificate_at bytes ≡ x → Below bytes limit (bound_read bytes limit x) (opened x)
+  opens : ReadsRanged → (x : Option (Certificate × List ℕ)) → certificate_at bytes ≡ x
+      → Below bytes limit (bound_read bytes limit x) (opened x)
   opens ranged None e = (omega arith, tt)
-  opens ranged (Some (c, [])) e = (let r = ranged bytes c [] e in let w = whole c r in (omega arith, record { ranges = r; order = refl; more = some_triples c r }))
+  opens ranged (Some (c, [])) e =
+      (let r = ranged bytes c [] e in let w = whole c r in
+      (omega arith, record { ranges = r; order = refl; more = some_triples c r }))
   opens ranged (Some (c, b ∷ more)) e = (omega arith, tt)
 
   module _ (ranged : ReadsRanged) (costs : HeapsEnd) (ends : ClosuresEnd) where
-    pub falls : (p : Phase) → IsSound limit p → is_ended p ≡ false → Below bytes limit (measure bytes limit p) (turn bytes limit p)
+    pub falls : (p : Phase) → IsSound limit p → is_ended p ≡ false
+        → Below bytes limit (measure bytes limit p) (turn bytes limit p)
     falls Reading s e = opens ranged (certificate_at bytes) refl
     falls (Laws l) s e = laws_falls bytes limit l s
     falls (Keys k) s e = keys_falls bytes limit k s
@@ -101,7 +125,8 @@ module _ (bytes : List ℕ) (limit : ℕ) where
     falls (Closing x) s e = closing_falls bytes limit ends x s
     falls (Ended a) s e = absurd cc
 
-    turns-first : (n : ℕ) (p : Phase) → turns bytes limit n (turn bytes limit p) ≡ turns bytes limit (suc n) p
+    turns-first : (n : ℕ) (p : Phase) → turns bytes limit n (turn bytes limit p)
+        ≡ turns bytes limit (suc n) p
     unfolding turns
     turns-first zero p = refl
     turns-first (suc n) p = ap (turn bytes limit) (turns-first n p)
@@ -115,13 +140,18 @@ module _ (bytes : List ℕ) (limit : ℕ) where
     left-none zero p e = refl
     left-none (suc most) p e = rw e
 
-    left-more : (most : ℕ) (p : Phase) → is_ended p ≡ false → turns_left bytes limit (suc most) p ≡ suc (turns_left bytes limit most (turn bytes limit p))
+    left-more : (most : ℕ) (p : Phase) → is_ended p ≡ false
+        → turns_left bytes limit (suc most) p
+        ≡ suc (turns_left bytes limit most (turn bytes limit p))
     unfolding turns_left
-    left-more most p e = let d : turns_left bytes limit most (turn bytes limit p) + 1 ≡ suc (turns_left bytes limit most (turn bytes limit p)) = omega arith in rw e d
+    left-more most p e = let d : turns_left bytes limit most (turn bytes limit p) + 1
+        ≡ suc (turns_left bytes limit most (turn bytes limit p)) = omega arith in rw e d
 
     -- with as much fuel as the measure it comes to its end
-    run_by : (most : ℕ) (p : Phase) → IsSound limit p → measure bytes limit p ≤ most → (b : Bool) → is_ended p ≡ b → is_ended (turns bytes limit (turns_left bytes limit most p) p) ≡ true
-    run_by most p s l true e = ap (λ n. is_ended (turns bytes limit n p)) (left-none most p e) ∙ ap is_ended (no_turn p) ∙ e
+    run_by : (most : ℕ) (p : Phase) → IsSound limit p → measure bytes limit p ≤ most → (b : Bool)
+        → is_ended p ≡ b → is_ended (turns bytes limit (turns_left bytes limit most p) p) ≡ true
+    run_by most p s l true e = ap (λ n. is_ended (turns bytes limit n p)) (left-none most p e)
+        ∙ ap is_ended (no_turn p) ∙ e
     run_by zero p s l false e = absurd (let f = falls p s e in let a = f.0 in omega arith)
     run_by (suc most) p s l false e =
         let f = falls p s e in
@@ -135,7 +165,8 @@ module _ (bytes : List ℕ) (limit : ℕ) where
     left-zero p = omega arith
 
     -- and it takes no more turns than that, whatever the fuel
-    left-most : (most : ℕ) (p : Phase) → IsSound limit p → (b : Bool) → is_ended p ≡ b → turns_left bytes limit most p ≤ measure bytes limit p
+    left-most : (most : ℕ) (p : Phase) → IsSound limit p → (b : Bool) → is_ended p ≡ b
+        → turns_left bytes limit most p ≤ measure bytes limit p
     left-most most p s true e = let d = left-none most p e in omega arith
     left-most zero p s false e = let d = left-zero p in omega arith
     left-most (suc most) p s false e =
@@ -150,7 +181,9 @@ module _ (bytes : List ℕ) (limit : ℕ) where
     cost_most = left-most (bound bytes limit) Reading tt false refl
 
     -- what turns have come to is sound
-    sound_at : (n : ℕ) → ((m : ℕ) → m < n → is_ended (turns bytes limit m Reading) ≡ false) → (n + measure bytes limit (turns bytes limit n Reading) ≤ bound bytes limit) × IsSound limit (turns bytes limit n Reading)
+    sound_at : (n : ℕ) → ((m : ℕ) → m < n → is_ended (turns bytes limit m Reading) ≡ false)
+        → (n + measure bytes limit (turns bytes limit n Reading) ≤ bound bytes limit)
+        × IsSound limit (turns bytes limit n Reading)
     unfolding turns
     sound_at zero going = (omega arith, tt)
     sound_at (suc n) going =
@@ -160,8 +193,10 @@ module _ (bytes : List ℕ) (limit : ℕ) where
         let b = f.0 in
         (omega arith, f.1)
 
-    pub within_bound : (n : ℕ) (p : Phase) → Reaches bytes limit n p → n + measure bytes limit p ≤ bound bytes limit
-    within_bound n p r = let h = sound_at n r.going in subst (λ q. n + measure bytes limit q ≤ bound bytes limit) (sym r.reached) h.0
+    pub within_bound : (n : ℕ) (p : Phase) → Reaches bytes limit n p
+        → n + measure bytes limit p ≤ bound bytes limit
+    within_bound n p r = let h = sound_at n r.going in
+        subst (λ q. n + measure bytes limit q ≤ bound bytes limit) (sym r.reached) h.0
 
     cost_ended : is_ended (turns bytes limit (cost bytes limit) Reading) ≡ true
     unfolding cost
@@ -193,34 +228,43 @@ module _ (bytes : List ℕ) (limit : ℕ) where
     pub spent_is : (n : ℕ) (p : Phase) → Reaches bytes limit n p → HasSpent bytes limit n p
     spent_is n p r =
         let w = within_bound n p r in
-        has_spent bytes limit n p r (omega arith) (λ g. let m = some_left p (sound_of n p r) g in omega arith)
+        has_spent bytes limit n p r (omega arith) (λ g. let m = some_left p (sound_of n p r) g in
+        omega arith)
 
     pub spent_before : (n : ℕ) (p : Phase) → Reaches bytes limit n p → n ≤ cost bytes limit
     spent_before n p r = let w = within_bound n p r in spent_most bytes limit n p r (omega arith)
 
     -- what turns have come to is paid
-    paid_at : (n : ℕ) → ((m : ℕ) → m < n → is_ended (turns bytes limit m Reading) ≡ false) → IsPaid n (turns bytes limit n Reading)
+    paid_at : (n : ℕ) → ((m : ℕ) → m < n → is_ended (turns bytes limit m Reading) ≡ false)
+        → IsPaid n (turns bytes limit n Reading)
     unfolding turns
     paid_at zero going = tt
     paid_at (suc n) going =
         let before = λ (m : ℕ) (l : m < n). going m (omega arith) in
         let d : n + 1 ≡ suc n = omega arith in
-        subst (λ k. IsPaid k (turn bytes limit (turns bytes limit n Reading))) d (paid_on bytes limit n (turns bytes limit n Reading) (sound_at n before).1 (paid_at n before))
+        subst (λ k. IsPaid k (turn bytes limit (turns bytes limit n Reading))) d
+        (paid_on bytes limit n (turns bytes limit n Reading) (sound_at n before).1
+        (paid_at n before))
 
-    pub yes_pays : (n : ℕ) (c : Certificate) → Reaches bytes limit n (Ended (Yes c)) → yes_least c ≤ n
+    pub yes_pays : (n : ℕ) (c : Certificate) → Reaches bytes limit n (Ended (Yes c))
+        → yes_least c ≤ n
     yes_pays n c r = subst (IsPaid n) (sym r.reached) (paid_at n r.going)
 
-    early : (most m : ℕ) (p : Phase) (b : Bool) → is_ended p ≡ b → m < turns_left bytes limit most p → is_ended (turns bytes limit m p) ≡ false
+    early : (most m : ℕ) (p : Phase) (b : Bool) → is_ended p ≡ b → m < turns_left bytes limit most p
+        → is_ended (turns bytes limit m p) ≡ false
     early most m p true e l = absurd (let d = left-none most p e in omega arith)
     early zero m p false e l = absurd (let d = left-zero p in omega arith)
     early (suc most) zero p false e l = ap is_ended (no_turn p) ∙ e
     early (suc most) (suc m) p false e l =
         let d = left-more most p e in
-        ap is_ended (sym (turns-first m p)) ∙ early most m (turn bytes limit p) (is_ended (turn bytes limit p)) refl (omega arith)
+        ap is_ended (sym (turns-first m p)) ∙ early most m (turn bytes limit p)
+        (is_ended (turn bytes limit p)) refl (omega arith)
 
     not_before : (m : ℕ) → m < cost bytes limit → is_ended (turns bytes limit m Reading) ≡ false
     unfolding cost
     not_before m l = early (bound bytes limit) m Reading false refl l
 
     pub yes_costs : (c : Certificate) → verdict bytes limit ≡ Yes c → yes_least c ≤ cost bytes limit
-    yes_costs c e = yes_pays (cost bytes limit) c (record { reached = sym (cost_ends ∙ ap Ended e); going = not_before })
+    yes_costs c e =
+        yes_pays (cost bytes limit) c
+        (record { reached = sym (cost_ends ∙ ap Ended e); going = not_before })

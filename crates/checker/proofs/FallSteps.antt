@@ -7,11 +7,13 @@ use Rattle.checker.specs.Units.{rest}
 use Rattle.checker.specs.Turns.{Phase}
 use Rattle.checker.proofs.UnitLemmas.{rest-place}
 
-pub by_test : (P : Phase → Type 0) (b : Bool) (x y : Phase) → (b ≡ true → P x) → (b ≡ false → P y) → P (if b then x else y)
+pub by_test : (P : Phase → Type 0) (b : Bool) (x y : Phase) → (b ≡ true → P x) → (b ≡ false → P y)
+    → P (if b then x else y)
 by_test P true x y f g = f refl
 by_test P false x y f g = g refl
 
-pub some_rest : (rows row places place : ℕ) → row < rows → place < places → 0 < rest rows row places place
+pub some_rest : (rows row places place : ℕ) → row < rows → place < places
+    → 0 < rest rows row places place
 some_rest rows row places place l k = let h = rest-place rows row places place l k in omega arith
 
 -- all places

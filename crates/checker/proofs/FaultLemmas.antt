@@ -44,7 +44,8 @@ module _ (c : Certificate) where
   none_below_apart f n Period b h = n h
   none_below_apart f n Apart b h = absurd (omega arith)
 
-  pub none_at_all : HasNoFaultBelow 6 c → (ApartFault c → ⊥) → (fault : Fault) → HasFault c fault → ⊥
+  pub none_at_all : HasNoFaultBelow 6 c → (ApartFault c → ⊥) → (fault : Fault) → HasFault c fault
+      → ⊥
   none_at_all f n Law h = f Law (omega arith) h
   none_at_all f n Word h = f Word (omega arith) h
   none_at_all f n Order h = f Order (omega arith) h

@@ -28,30 +28,39 @@ use Rattle.checker.proofs.RuleLemmas.{breach_fails}
 grid : Pieces → Grid
 grid p = record { order = p.order; entries = p.rows }
 
-module _ (c : Certificate) (inside : set.FinSet nat_cmp) (portion : IsPortion c inside) (t : State) where
-  member_of : (q : _) → Contains (kept t) q → (i : ℕ) × (i < length t.held) × (as_pair (get_or t.held i blank_held).pair ≡ q)
-  member_of q (i, l, e) =
-      let b : i < length t.held = (let n = length-map t.held (λ m. as_pair m.pair) in omega arith) in
-      (i, b, sym (get_or-map (λ m. as_pair m.pair) t.held i blank_held q b) ∙ e)
+module _ (c : Certificate) (inside : set.FinSet nat_cmp) (portion : IsPortion c inside) (t : State)
+  where
+    member_of : (q : _) → Contains (kept t) q → (i : ℕ) × (i < length t.held)
+        × (as_pair (get_or t.held i blank_held).pair ≡ q)
+    member_of q (i, l, e) =
+        let b : i < length t.held = (let n = length-map t.held (λ m. as_pair m.pair) in omega arith)
+        in
+        (i, b, sym (get_or-map (λ m. as_pair m.pair) t.held i blank_held q b) ∙ e)
 
-  -- members held that obey the rule, in the theory's words
-  pub obeying : ((i : ℕ) → i < length t.held → Obeys inside (get_or t.held i blank_held).pair) → KeptObey (claim_of c) (kept t)
-  obeying all = record {
-    outside = λ q k f x h.
-        let (i, l, e) = member_of q k in
-        let m = (get_or t.held i blank_held).pair in
-        let o = all i l in
-        let v = portion m.value ∙ (ap (λ r. (claim_of c).portion r.value) e ∙ f) in
-        let (y, has, into) = o.leads v x (items_have m.options x (subst (λ r. Contains r.options x) (sym e) h)) in
-        (y, subst (λ r. Contains r.options y) e (has_items m.options y has), sym (portion y) ∙ into);
-    inside = λ q k f.
-        let (i, l, e) = member_of q k in
-        let m = (get_or t.held i blank_held).pair in
-        let o = all i l in
-        let v = portion m.value ∙ (ap (λ r. (claim_of c).portion r.value) e ∙ f) in
-        let (x, has) = o.some v in
-        (x, subst (λ r. Contains r.options x) e (has_items m.options x has));
-  }
+    -- members held that obey the rule, in the theory's words
+    pub obeying : ((i : ℕ) → i < length t.held → Obeys inside (get_or t.held i blank_held).pair)
+        → KeptObey (claim_of c) (kept t)
+    obeying all = record {
+      outside = λ q k f x h.
+          let (i, l, e) = member_of q k in
+          let m = (get_or t.held i blank_held).pair in
+          let o = all i l in
+          let v = portion m.value ∙ (ap (λ r. (claim_of c).portion r.value) e ∙ f) in
+          let (y, has, into) =
+          o.leads v x (items_have m.options x (subst (λ r. Contains r.options x) (sym e) h)) in (
+            y,
+            subst (λ r. Contains r.options y) e (has_items m.options y has),
+            sym (portion y)
+                ∙ into,
+          );
+      inside = λ q k f.
+          let (i, l, e) = member_of q k in
+          let m = (get_or t.held i blank_held).pair in
+          let o = all i l in
+          let v = portion m.value ∙ (ap (λ r. (claim_of c).portion r.value) e ∙ f) in
+          let (x, has) = o.some v in
+          (x, subst (λ r. Contains r.options x) e (has_items m.options x has));
+    }
 
 module _ (p : Pieces) where
   agrees : (t : Grid) → t ≡ grid p → Agrees (claim_of (certificate_of p)) t p.phi
@@ -62,31 +71,46 @@ module _ (p : Pieces) where
     phi_is = λ n _. refl;
   })
 
-  pub heaps_have_pairs : (pairs : List Pair) → AreAllHeapPairs p.code (record { order = p.order; entries = p.rows }) p.phi pairs → All (IsPair p.order) pairs → HavePairs (certificate_of p) pairs
+  pub heaps_have_pairs : (pairs : List Pair)
+      → AreAllHeapPairs p.code (record { order = p.order; entries = p.rows }) p.phi pairs
+      → All (IsPair p.order) pairs → HavePairs (certificate_of p) pairs
   unfolding grid
-  heaps_have_pairs pairs exact within = record { exact = exact (claim_of (certificate_of p)) (agrees (grid p) refl); within = within }
+  heaps_have_pairs pairs exact within =
+      record { exact = exact (claim_of (certificate_of p)) (agrees (grid p) refl); within = within }
 
   module _ (inside : set.FinSet nat_cmp) (heaps : List Pair) (is : IsClosing p inside heaps) where
-    claim_over : IsClaimOver p.code (claim_of (certificate_of p)) (record { order = p.order; entries = p.rows }) heaps
+    claim_over : IsClaimOver p.code (claim_of (certificate_of p))
+        (record { order = p.order; entries = p.rows }) heaps
     claim_over = record {
       monoid = is.sheet.lawful.monoid;
       elements = λ n _. phi_in (certificate_of p) is.sheet.lawful.in_ranges n;
       order_is = refl;
       times_is = λ x y a b. rows_of-entry p.order p.order p.rows x y a b;
-      heaps_are = subst (λ n. IsHeapPairs p.code (claim_of (certificate_of p)) n heaps) (sym is.exact.exact.length_is) is.exact.exact;
+      heaps_are =
+          subst (λ n. IsHeapPairs p.code (claim_of (certificate_of p)) n heaps)
+          (sym is.exact.exact.length_is) is.exact.exact;
     }
 
-    module _ (t : State) (table_is : t.table ≡ record { order = p.order; entries = p.rows }) (heaps_is : t.heaps ≡ heaps) where
+    module _ (t : State) (table_is : t.table ≡ record { order = p.order; entries = p.rows })
+        (heaps_is : t.heaps ≡ heaps) where
       over_state : IsClaimOver p.code (claim_of (certificate_of p)) t.table t.heaps
-      over_state = subst (λ g. IsClaimOver p.code (claim_of (certificate_of p)) g t.heaps) (sym table_is) (subst (λ h. IsClaimOver p.code (claim_of (certificate_of p)) (record { order = p.order; entries = p.rows }) h) (sym heaps_is) claim_over)
+      over_state =
+          subst (λ g. IsClaimOver p.code (claim_of (certificate_of p)) g t.heaps) (sym table_is)
+          (subst
+          (λ h. IsClaimOver p.code (claim_of (certificate_of p))
+          (record { order = p.order; entries = p.rows }) h) (sym heaps_is) claim_over)
 
       -- over the limit there are more pairs of positions than it
-      pub over_reaches : IsExceeded t → ReachesMoreThan IsHeap p.code (claim_of (certificate_of p)) t.limit
+      pub over_reaches : IsExceeded t
+          → ReachesMoreThan IsHeap p.code (claim_of (certificate_of p)) t.limit
       over_reaches more = more p.code (claim_of (certificate_of p)) over_state
 
       -- a member that breaks the rule shows a position
-      pub member_fails : (m : Held) (X : List ℕ) → IsWordOf t m X → Breaks inside m.pair → RuleFails p.code (claim_of (certificate_of p)) X
-      member_fails m X w b = breach_fails inside m.pair p.code (claim_of (certificate_of p)) X is.sheet.portion (w.exact p.code (claim_of (certificate_of p)) over_state) b
+      pub member_fails : (m : Held) (X : List ℕ) → IsWordOf t m X → Breaks inside m.pair
+          → RuleFails p.code (claim_of (certificate_of p)) X
+      member_fails m X w b =
+          breach_fails inside m.pair p.code (claim_of (certificate_of p)) X is.sheet.portion
+          (w.exact p.code (claim_of (certificate_of p)) over_state) b
 
       length_bound : length t.heaps ≡ bound_of (certificate_of p)
       length_bound = ap length heaps_is ∙ is.exact.exact.length_is
@@ -95,7 +119,9 @@ module _ (p : Pieces) where
       pub members_cover : IsClosedOver t → HeldObey inside t.held → IsCovered (certificate_of p)
       members_cover closed all = record {
         kept = kept t;
-        closed = subst (λ n. IsClosed p.code (claim_of (certificate_of p)) (IsHeapUpTo n) (kept t)) length_bound (closed p.code (claim_of (certificate_of p)) over_state);
+        closed =
+            subst (λ n. IsClosed p.code (claim_of (certificate_of p)) (IsHeapUpTo n) (kept t))
+            length_bound (closed p.code (claim_of (certificate_of p)) over_state);
         obey = obeying (certificate_of p) inside is.sheet.portion t all;
       }
 

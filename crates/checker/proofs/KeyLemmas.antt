@@ -16,11 +16,19 @@ fails_and true b e = inr e
 fails_and false b e = inl refl
 
 module _ (c : Certificate) where
-  keyed_on : (n : ℕ) → ((e : ℕ) → 0 < e → e < n → IsKeyOf c e) → IsKeyOf c n → (e : ℕ) → 0 < e → e < n + 1 → IsKeyOf c e
-  keyed_on n all k e p l = elim (dec_lt e n) [ yes b ↦ all e p b | no f ↦ (let d : n ≡ e = omega arith in subst (IsKeyOf c) d k) ]
+  keyed_on : (n : ℕ) → ((e : ℕ) → 0 < e → e < n → IsKeyOf c e) → IsKeyOf c n → (e : ℕ) → 0 < e
+      → e < n + 1 → IsKeyOf c e
+  keyed_on n all k e p l =
+      elim (dec_lt e n) [
+        | yes b ↦ all e p b
+        | no f ↦ (let d : n ≡ e = omega arith in
+            subst (IsKeyOf c) d k)
+      ]
 
   -- a key was looked at
-  pub key_turn : (n : ℕ) (r s : Bool) → KeysSoFar c n r → n < c.order → IsKeyOf c n → (IsTrue s ↔ (1 < n → KeyBelow (key_of c (n - 1)) (key_of c n))) → KeysSoFar c (n + 1) (r && s)
+  pub key_turn : (n : ℕ) (r s : Bool) → KeysSoFar c n r → n < c.order → IsKeyOf c n
+      → (IsTrue s ↔ (1 < n → KeyBelow (key_of c (n - 1)) (key_of c n)))
+      → KeysSoFar c (n + 1) (r && s)
   key_turn n r s k l is above = record {
     from_one = omega arith;
     within = omega arith;
@@ -31,16 +39,23 @@ module _ (c : Certificate) where
           let d : e + 1 ≡ n = omega arith in
           let d' : n - 1 ≡ e = omega arith in
           let h = above.0 v (omega arith) in
-          subst (λ m. KeyBelow (key_of c e) (key_of c m)) (sym d) (subst (λ m. KeyBelow (key_of c m) (key_of c n)) d' h)
+          subst (λ m. KeyBelow (key_of c e) (key_of c m)) (sym d)
+          (subst (λ m. KeyBelow (key_of c m) (key_of c n)) d' h)
     ];
     falls = λ t. elim (fails_and r s t) [
       | inl u ↦ k.falls u
       | inr v ↦
-          let never : (1 < n → KeyBelow (key_of c (n - 1)) (key_of c n)) → ⊥ = λ h. (let w : true ≡ s = sym (above.1 h) in cc) in
+          let never : (1 < n → KeyBelow (key_of c (n - 1)) (key_of c n)) → ⊥ =
+          λ h. (let w : true ≡ s = sym (above.1 h) in cc) in
           elim (dec_lt 1 n) [
             | yes g ↦
-                let d : n - 1 + 1 ≡ n = omega arith in
-                (n - 1, omega arith, omega arith, λ h. never (λ _. subst (λ m. KeyBelow (key_of c (n - 1)) (key_of c m)) d h))
+                let d : n - 1 + 1 ≡ n = omega arith in (
+                  n - 1,
+                  omega arith,
+                  omega arith,
+                  λ h.
+                      never (λ _. subst (λ m. KeyBelow (key_of c (n - 1)) (key_of c m)) d h),
+                )
             | no f ↦ absurd (never (λ g. absurd (f g)))
           ]
     ];
@@ -66,7 +81,8 @@ module _ (c : Certificate) where
   pub keys_fall : (n : ℕ) (r : Bool) → KeysSoFar c n r → r ≡ false → OrderFault c
   keys_fall n r k f = inl (k.falls f)
 
-  keys_all : (n : ℕ) (r : Bool) → KeysSoFar c n r → c.order ≤ n → (e : ℕ) → 0 < e → e < c.order → IsKeyOf c e
+  keys_all : (n : ℕ) (r : Bool) → KeysSoFar c n r → c.order ≤ n → (e : ℕ) → 0 < e → e < c.order
+      → IsKeyOf c e
   keys_all n r k l e p b = k.keyed e p (omega arith)
 
   pub keys_word_free : (n : ℕ) (r : Bool) → KeysSoFar c n r → c.order ≤ n → WordFault c → ⊥

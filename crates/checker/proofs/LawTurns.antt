@@ -30,7 +30,8 @@ record Taken (most : ℕ) (s : JobState) : Type 0 where
   spent_is : (turns most s).spent ≡ s.spent + count
   going : (k : ℕ) → k < count → is_over (turns k s) ≡ false
 
-taken-more : (most : ℕ) (s : JobState) → Taken most s → (b : Bool) → is_over (turns most s) ≡ b → Taken (suc most) s
+taken-more : (most : ℕ) (s : JobState) → Taken most s → (b : Bool) → is_over (turns most s) ≡ b
+    → Taken (suc most) s
 taken-more most s t true e =
     let same : turns (suc most) s ≡ turns most s = turns-snoc most s ∙ turn-over (turns most s) e in
     let l = t.at_most in
@@ -46,7 +47,8 @@ taken-more most s t false e =
     let i = t.spent_is in
     let d : t.count + 1 ≡ suc t.count = omega arith in
     let u = turn-spent (turns most s) e in
-    let v : (turns (suc most) s).spent ≡ (turn (turns most s)).spent = ap (λ x. x.spent) (turns-snoc most s) in
+    let v : (turns (suc most) s).spent ≡ (turn (turns most s)).spent =
+    ap (λ x. x.spent) (turns-snoc most s) in
     record {
       count = suc t.count;
       at_most = omega arith;
@@ -54,13 +56,21 @@ taken-more most s t false e =
       spent_is = omega arith;
       going = λ k h. elim (dec_lt k t.count) [
         | yes b ↦ t.going k b
-        | no f ↦ (let q : t.count ≡ k = omega arith in subst (λ m. is_over (turns m s) ≡ false) q (ap is_over (sym t.same) ∙ e))
+        | no f ↦ (let q : t.count ≡ k = omega arith in
+            subst (λ m. is_over (turns m s) ≡ false) q (ap is_over (sym t.same) ∙ e))
       ];
     }
 
 taken : (most : ℕ) (s : JobState) → Taken most s
 unfolding turns
-taken zero s = record { count = 0; at_most = omega arith; same = refl; spent_is = omega arith; going = λ k h. absurd (omega arith) }
+taken zero s =
+    record {
+      count = 0;
+      at_most = omega arith;
+      same = refl;
+      spent_is = omega arith;
+      going = λ k h. absurd (omega arith);
+    }
 taken (suc most) s = taken-more most s (taken most s) (is_over (turns most s)) refl
 
 pub no-or : (a b : Bool) → (a || b) ≡ false → (a ≡ false) × (b ≡ false)
@@ -68,7 +78,8 @@ no-or true b e = absurd (cc)
 no-or false b e = (refl, e)
 
 -- a triple is left to look at
-pub laws_in : (c : Certificate) (s : JobState) → is_over s ≡ false → laws_at c s ≡ Laws (record { certificate = c; job = s })
+pub laws_in : (c : Certificate) (s : JobState) → is_over s ≡ false
+    → laws_at c s ≡ Laws (record { certificate = c; job = s })
 unfolding laws_at
 laws_in c s e = let (a, b) = no-or s.refused (s.spent == triples s.grid.order) e in rw (a, b)
 
@@ -80,35 +91,50 @@ held : (r b : Bool) → (if r then Err Broken else Ok b) ≡ Ok true → (r ≡ 
 held true b e = absurd (cc)
 held false b e = (refl, cc)
 
-pub laws_broken : (c : Certificate) (s : JobState) (f : LawFault) → answer_of s ≡ Err f → laws_at c s ≡ Ended Law
+pub laws_broken : (c : Certificate) (s : JobState) (f : LawFault) → answer_of s ≡ Err f
+    → laws_at c s ≡ Ended Law
 unfolding laws_at
 laws_broken c s f e = let a = broken s.refused (s.spent == triples s.grid.order) f e in rw a
 
-pub laws_held : (c : Certificate) (s : JobState) → answer_of s ≡ Ok true → laws_at c s ≡ Keys (record { certificate = c; next = 1; rising = true })
+pub laws_held : (c : Certificate) (s : JobState) → answer_of s ≡ Ok true
+    → laws_at c s ≡ Keys (record { certificate = c; next = 1; rising = true })
 unfolding laws_at
 laws_held c s e = let (a, b) = held s.refused (s.spent == triples s.grid.order) e in rw (a, b)
 
-module _ (bytes : List ℕ) (limit : ℕ) (c : Certificate) (s : JobState) (some : is_over s ≡ false) where
-  -- while the job goes on, the turns of the check are the job's
-  along : (n : ℕ) → ((k : ℕ) → k < n → is_over (turns k s) ≡ false) → check.turns bytes limit n (Laws (record { certificate = c; job = s })) ≡ laws_at c (turns n s)
-  unfolding turns check.turns laws_turn
-  along zero going = sym (laws_in c s some)
-  along (suc n) going =
-      ap (check.turn bytes limit) (along n (λ k h. going k (omega arith)) ∙ laws_in c (turns n s) (going n (omega arith)))
-      ∙ ap (laws_at c) (sym (turns-snoc n s))
+module _ (bytes : List ℕ) (limit : ℕ) (c : Certificate) (s : JobState) (some : is_over s ≡ false)
+  where
+    -- while the job goes on, the turns of the check are the job's
+    along : (n : ℕ) → ((k : ℕ) → k < n → is_over (turns k s) ≡ false)
+        → check.turns bytes limit n (Laws (record { certificate = c; job = s }))
+        ≡ laws_at c (turns n s)
+    unfolding turns check.turns laws_turn
+    along zero going = sym (laws_in c s some)
+    along (suc n) going =
+        ap (check.turn bytes limit) (along n (λ k h. going k (omega arith))
+        ∙ laws_in c (turns n s) (going n (omega arith)))
+        ∙ ap (laws_at c) (sym (turns-snoc n s))
 
-  pub laws_works : (before after : ℕ) (to : Phase) → after + (turns before s).spent ≡ before + s.spent → to ≡ laws_at c (turns before s) → (0 < after → 1 < stage_of to)
-      → Works bytes limit (Laws (record { certificate = c; job = s })) before after to
-  laws_works before after to e is exact =
-      let t = taken before s in
-      let l = t.at_most in
-      let i = t.spent_is in
-      let d : t.count ≡ before - after = omega arith in
-      record {
-        runs = record {
-          within = omega arith;
-          reached = is ∙ (ap (laws_at c) t.same ∙ (sym (along t.count t.going) ∙ ap (λ n. check.turns bytes limit n (Laws (record { certificate = c; job = s }))) d));
-          going = λ n h. ap stage_of (along n (λ k b. t.going k (omega arith)) ∙ laws_in c (turns n s) (t.going n (omega arith)));
-        };
-        exact = exact;
-      }
+    pub laws_works : (before after : ℕ) (to : Phase)
+        → after + (turns before s).spent ≡ before + s.spent → to ≡ laws_at c (turns before s)
+        → (0 < after → 1 < stage_of to)
+        → Works bytes limit (Laws (record { certificate = c; job = s })) before after to
+    laws_works before after to e is exact =
+        let t = taken before s in
+        let l = t.at_most in
+        let i = t.spent_is in
+        let d : t.count ≡ before - after = omega arith in
+        record {
+          runs = record {
+            within = omega arith;
+            reached =
+                is ∙ (ap (laws_at c) t.same
+                ∙ (sym (along t.count t.going)
+                ∙ ap (λ n. check.turns bytes limit n (Laws (record { certificate = c; job = s })))
+                d));
+            going =
+                λ n h.
+                ap stage_of (along n (λ k b. t.going k (omega arith))
+                ∙ laws_in c (turns n s) (t.going n (omega arith)));
+          };
+          exact = exact;
+        }

@@ -8,18 +8,25 @@ use Rattle.checker.specs.Progress.{IsInOrder, ProductsSoFar}
 
 module _ (c : Certificate) where
   -- a product was looked at, and is not the row's last
-  pub product_turn : (f h : ℕ) → ProductsSoFar c f h → IsInOrder c f h → h + 1 < c.start + c.period → ProductsSoFar c f (h + 1)
+  pub product_turn : (f h : ℕ) → ProductsSoFar c f h → IsInOrder c f h → h + 1 < c.start + c.period
+      → ProductsSoFar c f (h + 1)
   product_turn f h p is l = record {
     keys = p.keys;
     within = p.within;
     from_one = omega arith;
     heap = l;
     rows = p.rows;
-    row = λ k o b. elim (dec_lt k h) [ yes g ↦ p.row k o g | no n ↦ (let d : h ≡ k = omega arith in subst (IsInOrder c f) d is) ];
+    row = λ k o b.
+        elim (dec_lt k h) [
+          | yes g ↦ p.row k o g
+          | no n ↦ (let d : h ≡ k = omega arith in
+              subst (IsInOrder c f) d is)
+        ];
   }
 
   -- it is the row's last
-  pub row_turn : (f h : ℕ) → ProductsSoFar c f h → IsInOrder c f h → h + 1 ≡ c.start + c.period → f < c.order → ProductsSoFar c (f + 1) 1
+  pub row_turn : (f h : ℕ) → ProductsSoFar c f h → IsInOrder c f h → h + 1 ≡ c.start + c.period
+      → f < c.order → ProductsSoFar c (f + 1) 1
   row_turn f h p is l b = record {
     keys = p.keys;
     within = omega arith;
@@ -29,12 +36,18 @@ module _ (c : Certificate) where
       | yes s ↦ p.rows g k s o m
       | no n ↦
           let d : f ≡ g = omega arith in
-          subst (λ v. IsInOrder c v k) d (elim (dec_lt k h) [ yes s ↦ p.row k o s | no t ↦ (let e : h ≡ k = omega arith in subst (IsInOrder c f) e is) ])
+          subst (λ v. IsInOrder c v k) d
+          (elim (dec_lt k h) [
+            | yes s ↦ p.row k o s
+            | no t ↦ (let e : h ≡ k = omega arith in
+                subst (IsInOrder c f) e is)
+          ])
     ];
     row = λ k o m. absurd (omega arith);
   }
 
-  pub not_in_order : (f h : ℕ) → f < c.order → 1 ≤ h → h < c.start + c.period → (IsInOrder c f h → ⊥) → OrderFault c
+  pub not_in_order : (f h : ℕ) → f < c.order → 1 ≤ h → h < c.start + c.period
+      → (IsInOrder c f h → ⊥) → OrderFault c
   not_in_order f h l o b not = elim (dec_lt 0 (times_of c f (phi_at c h))) [
     | no z ↦ absurd (not (λ p k. z p))
     | yes p ↦ elim (key_below_dec (f, h) (key_of c (times_of c f (phi_at c h)))) [

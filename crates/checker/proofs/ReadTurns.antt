@@ -9,13 +9,18 @@ use Rattle.checker.specs.Answers.Answer.{Text}
 use Rattle.checker.specs.Turns.{opened}
 use Rattle.checker.specs.Turns.Phase.{Laws, Ended}
 
-pub opened-read : (bytes : List ℕ) (c : Certificate) → certificate_at bytes ≡ Some (c, []) → Laws (record { certificate = c; job = fresh (grid_of c) }) ≡ opened (certificate_at bytes)
+pub opened-read : (bytes : List ℕ) (c : Certificate) → certificate_at bytes ≡ Some (c, [])
+    → Laws (record { certificate = c; job = fresh (grid_of c) }) ≡ opened (certificate_at bytes)
 opened-read bytes c e = sym (ap opened e)
 
-opened-none : (takes : (b : List ℕ) (c : Certificate) → certificate_at b ≡ Some (c, []) → Spells b c) (bytes : List ℕ) (none : (c : Certificate) → Spells bytes c → ⊥) (x : Option (Certificate × List ℕ)) → certificate_at bytes ≡ x → Ended Text ≡ opened x
+opened-none : (takes : (b : List ℕ) (c : Certificate) → certificate_at b ≡ Some (c, [])
+    → Spells b c) (bytes : List ℕ) (none : (c : Certificate) → Spells bytes c → ⊥)
+    (x : Option (Certificate × List ℕ)) → certificate_at bytes ≡ x → Ended Text ≡ opened x
 opened-none takes bytes none None e = refl
 opened-none takes bytes none (Some (c, [])) e = absurd (none c (takes bytes c e))
 opened-none takes bytes none (Some (c, b ∷ rest)) e = refl
 
-pub opened-text : (takes : (b : List ℕ) (c : Certificate) → certificate_at b ≡ Some (c, []) → Spells b c) (bytes : List ℕ) → ((c : Certificate) → Spells bytes c → ⊥) → Ended Text ≡ opened (certificate_at bytes)
+pub opened-text : (takes : (b : List ℕ) (c : Certificate) → certificate_at b ≡ Some (c, [])
+    → Spells b c) (bytes : List ℕ) → ((c : Certificate) → Spells bytes c → ⊥)
+    → Ended Text ≡ opened (certificate_at bytes)
 opened-text takes bytes none = opened-none takes bytes none (certificate_at bytes) refl

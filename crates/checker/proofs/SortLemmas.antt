@@ -16,13 +16,18 @@ put_before : (h x : ℕ) (xs : List ℕ) → h ≤ x → put h (x ∷ xs) ≡ h 
 put_before h x xs l = let e : nat_lt x h ≡ false = grind (arith, tests) in rw e
 
 -- two heaps put in front of all others
-pairs_put : (a b x : ℕ) (xs : List ℕ) → a ≤ b → b ≤ x → put a (put b (x ∷ xs)) ≡ put b (put a (x ∷ xs))
+pairs_put : (a b x : ℕ) (xs : List ℕ) → a ≤ b → b ≤ x
+    → put a (put b (x ∷ xs)) ≡ put b (put a (x ∷ xs))
 pairs_put a b x xs s l =
-    let left : put a (put b (x ∷ xs)) ≡ a ∷ b ∷ x ∷ xs = ap (put a) (put_before b x xs l) ∙ put_before a b (x ∷ xs) s in
-    let first : put b (put a (x ∷ xs)) ≡ put b (a ∷ x ∷ xs) = ap (put b) (put_before a x xs (omega arith)) in
+    let left : put a (put b (x ∷ xs)) ≡ a ∷ b ∷ x ∷ xs =
+    ap (put a) (put_before b x xs l) ∙ put_before a b (x ∷ xs) s in
+    let first : put b (put a (x ∷ xs)) ≡ put b (a ∷ x ∷ xs) =
+    ap (put b) (put_before a x xs (omega arith)) in
     elim (dec_lt a b) [
-      | yes h ↦ left ∙ sym (first ∙ (put_after b a (x ∷ xs) h ∙ ap (λ ys. a ∷ ys) (put_before b x xs l)))
-      | no f ↦ (let d : a ≡ b = omega arith in ap (λ m. put m (put b (x ∷ xs))) d ∙ sym (ap (λ m. put b (put m (x ∷ xs))) d))
+      | yes h ↦ left
+          ∙ sym (first ∙ (put_after b a (x ∷ xs) h ∙ ap (λ ys. a ∷ ys) (put_before b x xs l)))
+      | no f ↦ (let d : a ≡ b = omega arith in
+          ap (λ m. put m (put b (x ∷ xs))) d ∙ sym (ap (λ m. put b (put m (x ∷ xs))) d))
     ]
 
 put_twice : (a b : ℕ) → put a (put b []) ≡ put b (put a [])
@@ -30,7 +35,8 @@ put_twice a b = elim (dec_lt a b) [
   | yes h ↦ put_before a b [] (omega arith) ∙ sym (put_after b a [] h)
   | no f ↦ elim (dec_lt b a) [
     | yes h ↦ put_after a b [] h ∙ sym (put_before b a [] (omega arith))
-    | no g ↦ (let d : a ≡ b = omega arith in ap (λ m. put m (put b [])) d ∙ sym (ap (λ m. put b (put m [])) d))
+    | no g ↦ (let d : a ≡ b = omega arith in
+        ap (λ m. put m (put b [])) d ∙ sym (ap (λ m. put b (put m [])) d))
   ]
 ]
 
@@ -39,16 +45,19 @@ put_both a b [] = put_twice a b
 put_both a b (x ∷ xs) = elim (dec_lt x a) [
   | yes ha ↦ elim (dec_lt x b) [
     | yes hb ↦
-        ap (put a) (put_after b x xs hb) ∙ (put_after a x (put b xs) ha ∙ (ap (λ ys. x ∷ ys) (put_both a b xs)
+        ap (put a) (put_after b x xs hb)
+        ∙ (put_after a x (put b xs) ha ∙ (ap (λ ys. x ∷ ys) (put_both a b xs)
         ∙ sym (ap (put b) (put_after a x xs ha) ∙ put_after b x (put a xs) hb)))
     | no fb ↦
-        ap (put a) (put_before b x xs (omega arith)) ∙ (put_after a b (x ∷ xs) (omega arith) ∙ (ap (λ ys. b ∷ ys) (put_after a x xs ha)
+        ap (put a) (put_before b x xs (omega arith))
+        ∙ (put_after a b (x ∷ xs) (omega arith) ∙ (ap (λ ys. b ∷ ys) (put_after a x xs ha)
         ∙ sym (ap (put b) (put_after a x xs ha) ∙ put_before b x (put a xs) (omega arith))))
   ]
   | no fa ↦ elim (dec_lt x b) [
     | yes hb ↦
         ap (put a) (put_after b x xs hb) ∙ (put_before a x (put b xs) (omega arith)
-        ∙ sym (ap (put b) (put_before a x xs (omega arith)) ∙ (put_after b a (x ∷ xs) (omega arith) ∙ ap (λ ys. a ∷ ys) (put_after b x xs hb))))
+        ∙ sym (ap (put b) (put_before a x xs (omega arith))
+        ∙ (put_after b a (x ∷ xs) (omega arith) ∙ ap (λ ys. a ∷ ys) (put_after b x xs hb))))
     | no fb ↦ elim (dec_lt b a) [
       | yes h ↦ sym (pairs_put b a x xs (omega arith) (omega arith))
       | no f ↦ pairs_put a b x xs (omega arith) (omega arith)
@@ -88,18 +97,22 @@ module _ (c : Certificate) where
   keys_none zero = refl
   keys_none (suc n) = refl
 
-  pub keys_some : (n e : ℕ) → 0 < e → keys_from c (suc n) e ≡ (key_of c e).1 ∷ keys_from c n (key_of c e).0
+  pub keys_some : (n e : ℕ) → 0 < e
+      → keys_from c (suc n) e ≡ (key_of c e).1 ∷ keys_from c n (key_of c e).0
   unfolding keys_from
   keys_some n e p = let f : (e == 0) ≡ false = grind (arith, tests) in rw f
 
   -- what the keys spell is those heaps, where enough keys are looked at
-  pub keys_are : Canonical c → (n e : ℕ) (X : List ℕ) → e ≤ n → e < c.order → IsSpelled c e X → keys_from c n e ≡ X
+  pub keys_are : Canonical c → (n e : ℕ) (X : List ℕ) → e ≤ n → e < c.order → IsSpelled c e X
+      → keys_from c n e ≡ X
   keys_are k n _ _ a l Zero = keys_none n
   keys_are k zero _ _ a l (Key e p w) = absurd (omega arith)
   keys_are k (suc n) _ _ a l (Key e p w) =
       let up = k.numbered.parent e p l in
-      keys_some n e p ∙ ap (λ ks. (key_of c e).1 ∷ ks) (keys_are k n (key_of c e).0 _ (omega arith) (omega arith) w)
+      keys_some n e p ∙ ap (λ ks. (key_of c e).1 ∷ ks)
+      (keys_are k n (key_of c e).0 _ (omega arith) (omega arith) w)
 
 -- a heap more
-pub rising_with : (n : ℕ) (W X K : List ℕ) → IsPermutation (n ∷ W) X → IsNonDecreasing X → rising W ≡ rising K → X ≡ rising (n ∷ K)
+pub rising_with : (n : ℕ) (W X K : List ℕ) → IsPermutation (n ∷ W) X → IsNonDecreasing X
+    → rising W ≡ rising K → X ≡ rising (n ∷ K)
 rising_with n W X K s r is = rising_is (n ∷ W) X s r ∙ ap (put n) is

@@ -24,7 +24,8 @@ turns-grid zero s = refl
 turns-grid (suc n) s = turns-grid n (turn s) ∙ turn-grid s
 
 -- two products that are the same at all elements
-pub monoid_along : (q : ℕ) (f g : ℕ → ℕ → ℕ) → ((x y : ℕ) → x < q → y < q → f x y ≡ g x y) → Monoid q g → Monoid q f
+pub monoid_along : (q : ℕ) (f g : ℕ → ℕ → ℕ) → ((x y : ℕ) → x < q → y < q → f x y ≡ g x y)
+    → Monoid q g → Monoid q f
 monoid_along q f g e m = record {
   some = m.some;
   closed = λ x y a b. subst (λ v. v < q) (sym (e x y a b)) (m.closed x y a b);
@@ -33,31 +34,39 @@ monoid_along q f g e m = record {
   associates = λ x y z a b d.
       let k = m.closed x y a b in
       let l = m.closed y z b d in
-      ap (λ v. f v z) (e x y a b) ∙ (e (g x y) z k d ∙ (m.associates x y z a b d ∙ (sym (e x (g y z) a l) ∙ ap (f x) (sym (e y z b d)))));
+      ap (λ v. f v z) (e x y a b)
+      ∙ (e (g x y) z k d
+      ∙ (m.associates x y z a b d ∙ (sym (e x (g y z) a l) ∙ ap (f x) (sym (e y z b d)))));
 }
 
-pub fails_along : (q : ℕ) (f g : ℕ → ℕ → ℕ) → 0 < q → ((x y : ℕ) → x < q → y < q → f x y ≡ g x y) → ((x y : ℕ) → x < q → y < q → g x y < q) → LawFails q g → LawFails q f
+pub fails_along : (q : ℕ) (f g : ℕ → ℕ → ℕ) → 0 < q → ((x y : ℕ) → x < q → y < q → f x y ≡ g x y)
+    → ((x y : ℕ) → x < q → y < q → g x y < q) → LawFails q g → LawFails q f
 fails_along q f g p e closed (Identity x a n) = Identity x a (λ h. n (sym (e 0 x p a) ∙ h))
-fails_along q f g p e closed (Commutativity x y a b n) = Commutativity x y a b (λ h. n (sym (e x y a b) ∙ (h ∙ e y x b a)))
+fails_along q f g p e closed (Commutativity x y a b n) =
+    Commutativity x y a b (λ h. n (sym (e x y a b) ∙ (h ∙ e y x b a)))
 fails_along q f g p e closed (Associativity x y z a b d n) =
     Associativity x y z a b d (λ h.
     let k = closed x y a b in
     let l = closed y z b d in
-    n (sym (e (g x y) z k d) ∙ (sym (ap (λ v. f v z) (e x y a b)) ∙ (h ∙ (ap (f x) (e y z b d) ∙ e x (g y z) a l)))))
+    n (sym (e (g x y) z k d)
+    ∙ (sym (ap (λ v. f v z) (e x y a b)) ∙ (h ∙ (ap (f x) (e y z b d) ∙ e x (g y z) a l)))))
 
 module _ (p : Pieces) (w : IsWhole p) where
-  products : (x y : ℕ) → x < p.order → y < p.order → times_of (certificate_of p) x y ≡ entry p.order p.rows x y
+  products : (x y : ℕ) → x < p.order → y < p.order
+      → times_of (certificate_of p) x y ≡ entry p.order p.rows x y
   products x y a b = rows_of-entry p.order p.order p.rows x y a b
 
   pub table_lawful : IsTable p.order p.rows → IsLawful (certificate_of p)
   table_lawful t = record {
     in_ranges = w.in_ranges;
-    monoid = monoid_along p.order (times_of (certificate_of p)) (entry p.order p.rows) products t.monoid;
+    monoid =
+        monoid_along p.order (times_of (certificate_of p)) (entry p.order p.rows) products t.monoid;
   }
 
   pub law_fault : LawFails p.order (entry p.order p.rows) → LawFault (certificate_of p)
   law_fault f =
       let r = w.in_ranges in
       let c = certificate_of p in
-      fails_along p.order (times_of c) (entry p.order p.rows) (let o = r.order.0 in omega arith) products
+      fails_along p.order (times_of c) (entry p.order p.rows) (let o = r.order.0 in
+      omega arith) products
       (λ x y a b. subst (λ v. v < p.order) (products x y a b) (products_in c r x y a b)) f

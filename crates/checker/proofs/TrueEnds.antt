@@ -51,17 +51,24 @@ pub record HeapsAreKnown : Type 0 where
   pub shaped : (c : Certificate) → InRanges c → IsShaped c.order (concat c.rows)
   pub pretending : (c : Certificate) → InRanges c → IsPretending (pretending_of c)
   pub into : (c : Certificate) → InRanges c → IsInto (grid_of c) (pretending_of c)
-  pub exact : (code : List ℕ) (table : Grid) (phi : Pretending) → IsTableGrid table → IsPretending phi → IsInto table phi
-      → AreAllHeapPairs code table phi (all_heap_pairs code table phi) × All (IsPair table.order) (all_heap_pairs code table phi)
-  pub speaks : (table : Grid) (heaps : List Pair) (limit units : ℕ) → IsTableGrid table → All (IsPair table.order) heaps → Speaks (closing.turns units (turning.start table heaps limit))
+  pub exact : (code : List ℕ) (table : Grid) (phi : Pretending) → IsTableGrid table
+      → IsPretending phi → IsInto table phi
+      → AreAllHeapPairs code table phi (all_heap_pairs code table phi)
+      × All (IsPair table.order) (all_heap_pairs code table phi)
+  pub speaks : (table : Grid) (heaps : List Pair) (limit units : ℕ) → IsTableGrid table
+      → All (IsPair table.order) heaps
+      → Speaks (closing.turns units (turning.start table heaps limit))
   pub keeps : (p : closing.Progress) → KeepsOne p.state (closing.moved p).state
   pub same : (p : closing.Progress) → closing.SameData p.state (closing.moved p).state
-  pub accepted : (c : Certificate) (members : List theory.Pair) → InRanges c → Monoid c.order (times_of c) → Canonical c
-      → IsClosed c.code (claim_of c) (IsHeapUpTo (bound_of c)) members → KeptObey (claim_of c) members
+  pub accepted : (c : Certificate) (members : List theory.Pair) → InRanges c
+      → Monoid c.order (times_of c) → Canonical c
+      → IsClosed c.code (claim_of c) (IsHeapUpTo (bound_of c)) members
+      → KeptObey (claim_of c) members
       → ElementsObey c.code (claim_of c) (IsHeapUpTo (bound_of c)) → Accepted c
 
 -- the same heaps, rising
-put_by : (h x : ℕ) (xs : List ℕ) (b : Bool) → Shuffled (h ∷ xs) (put h xs) → Shuffled (h ∷ x ∷ xs) (cond b (x ∷ put h xs) (h ∷ x ∷ xs))
+put_by : (h x : ℕ) (xs : List ℕ) (b : Bool) → Shuffled (h ∷ xs) (put h xs)
+    → Shuffled (h ∷ x ∷ xs) (cond b (x ∷ put h xs) (h ∷ x ∷ xs))
 put_by h x xs true s = Then Flip (Under s)
 put_by h x xs false s = Same
 
@@ -74,46 +81,56 @@ shuffled_rising [] = Same
 shuffled_rising (h ∷ xs) = Then (Under (shuffled_rising xs)) (put_shuffled h (rising xs))
 
 -- the rule at a pair, as a turn asks for it
-module _ (c : Certificate) (inside : set.FinSet nat_cmp) (portion : IsPortion c inside) (p : Pair) where
-  obeys_by : (v e : Bool) → holds c p.value ≡ v → is_empty p.options ≡ e → obeys c p ≡ true → Obeys inside p
-  obeys_by true true v e o = absurd (let f : obeys c p ≡ false = rw (v, e) refl in opposite o f)
-  obeys_by true false v e o = inside_some inside p (portion p.value ∙ v) e
-  obeys_by false true v e o = outside_none inside p (portion p.value ∙ v) e
-  obeys_by false false v e o =
-      let t : list_any (λ y. set.contains p.options y) c.portion ≡ true = rw (v, e) at o in
-      let (y, m, u) = any_in (λ y. set.contains p.options y) c.portion t in
-      outside_leads inside p (portion p.value ∙ v) (y, u, portion y ∙ m)
+module _ (c : Certificate) (inside : set.FinSet nat_cmp) (portion : IsPortion c inside) (p : Pair)
+  where
+    obeys_by : (v e : Bool) → holds c p.value ≡ v → is_empty p.options ≡ e → obeys c p ≡ true
+        → Obeys inside p
+    obeys_by true true v e o = absurd (let f : obeys c p ≡ false = rw (v, e) refl in opposite o f)
+    obeys_by true false v e o = inside_some inside p (portion p.value ∙ v) e
+    obeys_by false true v e o = outside_none inside p (portion p.value ∙ v) e
+    obeys_by false false v e o =
+        let t : list_any (λ y. set.contains p.options y) c.portion ≡ true = rw (v, e) at o in
+        let (y, m, u) = any_in (λ y. set.contains p.options y) c.portion t in
+        outside_leads inside p (portion p.value ∙ v) (y, u, portion y ∙ m)
 
-  rule_holds : obeys c p ≡ true → Obeys inside p
-  rule_holds o = obeys_by (holds c p.value) (is_empty p.options) refl refl o
+    rule_holds : obeys c p ≡ true → Obeys inside p
+    rule_holds o = obeys_by (holds c p.value) (is_empty p.options) refl refl o
 
-  breaks_by : (v e : Bool) → holds c p.value ≡ v → is_empty p.options ≡ e → obeys c p ≡ false → Breaks inside p
-  breaks_by true true v e o = inside_none inside p (portion p.value ∙ v) e
-  breaks_by true false v e o = absurd (let t : obeys c p ≡ true = rw (v, e) refl in opposite t o)
-  breaks_by false true v e o = absurd (let t : obeys c p ≡ true = rw (v, e) refl in opposite t o)
-  breaks_by false false v e o =
-      let f : list_any (λ y. set.contains p.options y) c.portion ≡ false = rw (v, e) at o in
-      outside_stays inside p (portion p.value ∙ v) e (λ m. (let (y, h, k) = m in opposite (any_of (λ z. set.contains p.options z) c.portion y (sym (portion y) ∙ k) h) f))
+    breaks_by : (v e : Bool) → holds c p.value ≡ v → is_empty p.options ≡ e → obeys c p ≡ false
+        → Breaks inside p
+    breaks_by true true v e o = inside_none inside p (portion p.value ∙ v) e
+    breaks_by true false v e o = absurd (let t : obeys c p ≡ true = rw (v, e) refl in opposite t o)
+    breaks_by false true v e o = absurd (let t : obeys c p ≡ true = rw (v, e) refl in opposite t o)
+    breaks_by false false v e o =
+        let f : list_any (λ y. set.contains p.options y) c.portion ≡ false = rw (v, e) at o in
+        outside_stays inside p (portion p.value ∙ v) e
+        (λ m. (let (y, h, k) = m in
+        opposite (any_of (λ z. set.contains p.options z) c.portion y (sym (portion y) ∙ k) h) f))
 
-  rule_breaks : obeys c p ≡ false → Breaks inside p
-  rule_breaks o = breaks_by (holds c p.value) (is_empty p.options) refl refl o
+    rule_breaks : obeys c p ≡ false → Breaks inside p
+    rule_breaks o = breaks_by (holds c p.value) (is_empty p.options) refl refl o
 
 -- the portion as a set
 the_portion : (c : Certificate) → (inside : set.FinSet nat_cmp) × IsPortion c inside
 the_portion c = (set.from_list c.portion, λ x. set.contains-from_list_nat c.portion x)
 
 -- what a search for the first says
-first_by : (has : ℕ → Bool) (a n : ℕ) (v : Bool) → has a ≡ v → (first_from has (a + 1) n < a + 1 + n → has (first_from has (a + 1) n) ≡ true) → first_from has a (suc n) < a + suc n → has (first_from has a (suc n)) ≡ true
+first_by : (has : ℕ → Bool) (a n : ℕ) (v : Bool) → has a ≡ v
+    → (first_from has (a + 1) n < a + 1 + n → has (first_from has (a + 1) n) ≡ true)
+    → first_from has a (suc n) < a + suc n → has (first_from has a (suc n)) ≡ true
 unfolding first_from
 first_by has a n true e more l = rw e e
-first_by has a n false e more l = let k : first_from has (a + 1) n < a + suc n = rw e at l in rw e (more (omega arith))
+first_by has a n false e more l = let k : first_from has (a + 1) n < a + suc n = rw e at l in
+    rw e (more (omega arith))
 
-first_has : (has : ℕ → Bool) (a n : ℕ) → first_from has a n < a + n → has (first_from has a n) ≡ true
+first_has : (has : ℕ → Bool) (a n : ℕ) → first_from has a n < a + n
+    → has (first_from has a n) ≡ true
 unfolding first_from
 first_has has a zero l = absurd (omega arith)
 first_has has a (suc n) l = first_by has a n (has a) refl (first_has has (a + 1) n) l
 
-none_by : (has : ℕ → Bool) (a n : ℕ) (v : Bool) → has a ≡ v → (a + 1 + n ≤ first_from has (a + 1) n → (x : ℕ) → a + 1 ≤ x → x < a + 1 + n → has x ≡ false)
+none_by : (has : ℕ → Bool) (a n : ℕ) (v : Bool) → has a ≡ v
+    → (a + 1 + n ≤ first_from has (a + 1) n → (x : ℕ) → a + 1 ≤ x → x < a + 1 + n → has x ≡ false)
     → a + suc n ≤ first_from has a (suc n) → (x : ℕ) → a ≤ x → x < a + suc n → has x ≡ false
 unfolding first_from
 none_by has a n true e more l x u w = absurd (let k : a + suc n ≤ a = rw e at l in omega arith)
@@ -124,35 +141,47 @@ none_by has a n false e more l x u w =
       | no f ↦ (let d : a ≡ x = omega (arith, f) in subst (λ m. has m ≡ false) d e)
     ]
 
-first_none : (has : ℕ → Bool) (a n : ℕ) → a + n ≤ first_from has a n → (x : ℕ) → a ≤ x → x < a + n → has x ≡ false
+first_none : (has : ℕ → Bool) (a n : ℕ) → a + n ≤ first_from has a n → (x : ℕ) → a ≤ x → x < a + n
+    → has x ≡ false
 first_none has a zero l x u w = absurd (omega arith)
 first_none has a (suc n) l x u w = none_by has a n (has a) refl (first_none has (a + 1) n) l x u w
 
 -- the keys of an element spell a position that has its value
-module _ (c : Certificate) (r : InRanges c) (m : Monoid c.order (times_of c)) (k : Canonical c) where
-  spell_none : (n e : ℕ) → 0 ≡ e → IsPosition IsHeap (keys_from c n e) × (value (claim_of c) (keys_from c n e) ≡ e)
-  spell_none n e d = subst (λ v. IsPosition IsHeap (keys_from c n v) × (value (claim_of c) (keys_from c n v) ≡ v)) d
-      (subst (λ X. IsPosition IsHeap X × (value (claim_of c) X ≡ 0)) (sym (keys_none c n)) (tt, refl))
+module _ (c : Certificate) (r : InRanges c) (m : Monoid c.order (times_of c)) (k : Canonical c)
+  where
+    spell_none : (n e : ℕ) → 0 ≡ e → IsPosition IsHeap (keys_from c n e)
+        × (value (claim_of c) (keys_from c n e) ≡ e)
+    spell_none n e d =
+        subst (λ v. IsPosition IsHeap (keys_from c n v)
+        × (value (claim_of c) (keys_from c n v) ≡ v))
+        d
+        (subst (λ X. IsPosition IsHeap X × (value (claim_of c) X ≡ 0)) (sym (keys_none c n))
+        (tt, refl))
 
-  keys_spell : (n e : ℕ) → e ≤ n → e < c.order → IsPosition IsHeap (keys_from c n e) × (value (claim_of c) (keys_from c n e) ≡ e)
-  keys_spell zero e l b = spell_none zero e (omega arith)
-  keys_spell (suc n) e l b = elim (dec_lt 0 e) [
-    | no f ↦ spell_none (suc n) e (omega (arith, f))
-    | yes p ↦
-        let f = (key_of c e).0 in
-        let h = (key_of c e).1 in
-        let up = k.numbered.parent e p b in
-        let (x, v) = keys_spell n f (omega arith) (omega arith) in
-        let heap = (k.numbered.heap e p b).0 in
-        let is : value (claim_of c) (h ∷ keys_from c n f) ≡ e = ap (times_of c (phi_at c h)) v ∙ (m.commutes (phi_at c h) f (phi_in c r h) (omega arith) ∙ k.numbered.product e p b) in
-        subst (λ X. IsPosition IsHeap X × (value (claim_of c) X ≡ e)) (sym (keys_some c n e p)) ((heap, x), is)
-  ]
+    keys_spell : (n e : ℕ) → e ≤ n → e < c.order → IsPosition IsHeap (keys_from c n e)
+        × (value (claim_of c) (keys_from c n e) ≡ e)
+    keys_spell zero e l b = spell_none zero e (omega arith)
+    keys_spell (suc n) e l b = elim (dec_lt 0 e) [
+      | no f ↦ spell_none (suc n) e (omega (arith, f))
+      | yes p ↦
+          let f = (key_of c e).0 in
+          let h = (key_of c e).1 in
+          let up = k.numbered.parent e p b in
+          let (x, v) = keys_spell n f (omega arith) (omega arith) in
+          let heap = (k.numbered.heap e p b).0 in
+          let is : value (claim_of c) (h ∷ keys_from c n f) ≡ e =
+          ap (times_of c (phi_at c h)) v
+          ∙ (m.commutes (phi_at c h) f (phi_in c r h) (omega arith) ∙ k.numbered.product e p b) in
+          subst (λ X. IsPosition IsHeap X × (value (claim_of c) X ≡ e)) (sym (keys_some c n e p))
+          ((heap, x), is)
+    ]
 
 abbrev blank : Pair
 blank = record { value = 0; options = set.empty }
 
 -- one heap and value more
-module _ (c : Certificate) (r : InRanges c) (pairs : List Pair) (i h : ℕ) (e : LooksSoFar c pairs i h) (l : i < length pairs) where
+module _ (c : Certificate) (r : InRanges c) (pairs : List Pair) (i h : ℕ)
+    (e : LooksSoFar c pairs i h) (l : i < length pairs) where
   abbrev here : Pair
   here = slice_index_or pairs i blank
 
@@ -160,18 +189,27 @@ module _ (c : Certificate) (r : InRanges c) (pairs : List Pair) (i h : ℕ) (e :
   leads y t =
       let q = e.exact.exact.each i blank l in
       let (o, u) = both (set.contains here.options h) _ t in
-      let (a, b) = both (holds c (times_of c here.value y)) (holds c (times_of c h y)) u in
-      (h, (q.options_are h).0 o, subst (λ n. (claim_of c).portion (times_of c n y) ≡ true) q.value_is a, b)
+      let (a, b) = both (holds c (times_of c here.value y)) (holds c (times_of c h y)) u in (
+        h,
+        (q.options_are h).0 o,
+        subst (λ n. (claim_of c).portion (times_of c n y) ≡ true)
+            q.value_is a,
+        b,
+      )
 
   obeyed : ((y : ℕ) → y < c.order → leads_in c here h y ≡ false) → ObeysAt c (i + 1) h
   obeyed none o y b t =
       let q = e.exact.exact.each i blank l in
       let has : set.contains here.options h ≡ true = (q.options_are h).1 o in
-      let a : holds c (times_of c here.value y) ≡ true = subst (λ n. (claim_of c).portion (times_of c n y) ≡ true) (sym q.value_is) t in
-      is_not (holds c (times_of c h y)) (λ u. let x : leads_in c here h y ≡ true = rw (has, a, u) refl in opposite x (none y b))
+      let a : holds c (times_of c here.value y) ≡ true =
+      subst (λ n. (claim_of c).portion (times_of c n y) ≡ true) (sym q.value_is) t in
+      is_not (holds c (times_of c h y))
+      (λ u. let x : leads_in c here h y ≡ true = rw (has, a, u) refl in opposite x (none y b))
 
   option_below : (x : ℕ) → HeapOptionValue c.code (claim_of c) (i + 1) x → x < c.order
-  option_below x o = (All-get_or (IsPair c.order) pairs i blank l e.exact.within).options x (((e.exact.exact.each i blank l).options_are x).1 o)
+  option_below x o =
+      (All-get_or (IsPair c.order) pairs i blank l e.exact.within).options x
+      (((e.exact.exact.each i blank l).options_are x).1 o)
 
   value_turn : ObeysAt c (i + 1) h → h + 1 < c.order → LooksSoFar c pairs i (h + 1)
   value_turn o b = record {
@@ -179,7 +217,13 @@ module _ (c : Certificate) (r : InRanges c) (pairs : List Pair) (i h : ℕ) (e :
     place = e.place;
     value = b;
     heaps = e.heaps;
-    heap = λ g k. elim (dec_lt g h) [ yes s ↦ e.heap g s | no f ↦ (let d : h ≡ g = omega (arith, f) in subst (ObeysAt c (i + 1)) d o) ];
+    heap =
+        λ g k.
+        elim (dec_lt g h) [
+          | yes s ↦ e.heap g s
+          | no f ↦ (let d : h ≡ g = omega (arith, f) in
+              subst (ObeysAt c (i + 1)) d o)
+        ];
   }
 
   heap_turn : ObeysAt c (i + 1) h → h + 1 ≡ c.order → LooksSoFar c pairs (i + 1) 0
@@ -193,29 +237,51 @@ module _ (c : Certificate) (r : InRanges c) (pairs : List Pair) (i h : ℕ) (e :
           let d : i + 1 ≡ n = omega arith in
           subst (λ m. ObeysAt c m g) d (λ x.
           let below = option_below g x in
-          elim (dec_lt g h) [ yes u ↦ e.heap g u x | no f ↦ (let k : h ≡ g = omega (arith, f) in subst (ObeysAt c (i + 1)) k o x) ])
+          elim (dec_lt g h) [
+            | yes u ↦ e.heap g u x
+            | no f ↦ (let k : h ≡ g = omega (arith, f) in
+                subst (ObeysAt c (i + 1)) k o x)
+          ])
     ];
     heap = λ g b. absurd (omega arith);
   }
 
 module _ (bytes : List ℕ) (limit : ℕ) where
   -- what is true of the certificate is of the bytes
-  pub faulty : (c : Certificate) → IsSpelled bytes limit c → (a : Answer) → Fits c limit a → (a ≡ Memory → ⊥) → IsRight bytes limit (Ended a)
+  pub faulty : (c : Certificate) → IsSpelled bytes limit c → (a : Answer) → Fits c limit a
+      → (a ≡ Memory → ⊥) → IsRight bytes limit (Ended a)
   faulty c s a f n = (fitting_is_true bytes c s.spelled limit a f, n)
 
-  module _ (known : HeapsAreKnown) (c : Certificate) (is : IsSpelled bytes limit c) (canonical : Canonical c) where
-    elements_at-right : (pairs : List Pair) (i h : ℕ) → LooksSoFar c pairs i h → IsRight bytes limit (elements_at limit c pairs i h)
+  module _ (known : HeapsAreKnown) (c : Certificate) (is : IsSpelled bytes limit c)
+      (canonical : Canonical c) where
+    elements_at-right : (pairs : List Pair) (i h : ℕ) → LooksSoFar c pairs i h
+        → IsRight bytes limit (elements_at limit c pairs i h)
     unfolding elements_at
     elements_at-right pairs i h e =
-        by_test (IsRight bytes limit) (nat_lt i (length pairs)) (Elements (record { certificate = c; pairs = pairs; heap = i; option = h })) (Closing (record { certificate = c; closure = closing.begun (grid_of c) pairs limit }))
-        (λ t. record { is = is; canonical = canonical; so_far = e; more = less_is i (length pairs) t })
+        by_test (IsRight bytes limit) (nat_lt i (length pairs))
+        (Elements (record { certificate = c; pairs = pairs; heap = i; option = h }))
+        (Closing (record { certificate = c; closure = closing.begun (grid_of c) pairs limit }))
+        (λ t. record {
+          is = is;
+          canonical = canonical;
+          so_far = e;
+          more = less_is i (length pairs) t;
+        })
         (λ t. let l = not_less i (length pairs) t in record {
           is = is;
           canonical = canonical;
           pairs = pairs;
           exact = e.exact;
-          elements = λ n g y b o k u. (let w = e.exact.exact.length_is in e.heaps n g b.0 (let m = b.1 in omega arith) o y k u);
-          closure = record { taken = 0; reached = refl; same = record { table = refl; heaps = refl; limit = refl }; obey = λ j b. absurd (omega arith) };
+          elements =
+              λ n g y b o k u. (let w = e.exact.exact.length_is in
+              e.heaps n g b.0 (let m = b.1 in omega arith) o y k u);
+          closure =
+              record {
+                taken = 0;
+                reached = refl;
+                same = record { table = refl; heaps = refl; limit = refl };
+                obey = λ j b. absurd (omega arith);
+              };
         })
 
     table_is : IsTableGrid (grid_of c)
@@ -224,21 +290,27 @@ module _ (bytes : List ℕ) (limit : ℕ) where
         let a = known.agrees c r in
         record {
           shaped = known.shaped c r;
-          monoid = monoid_along c.order (entry c.order (concat c.rows)) (times_of c) (λ x y k l. sym (a.times_is x y k l)) is.lawful.monoid;
+          monoid =
+              monoid_along c.order (entry c.order (concat c.rows)) (times_of c)
+              (λ x y k l. sym (a.times_is x y k l)) is.lawful.monoid;
         }
 
     all_pairs : HavePairs c (all_heap_pairs c.code (grid_of c) (pretending_of c))
     all_pairs =
         let r = is.lawful.in_ranges in
-        let x = known.exact c.code (grid_of c) (pretending_of c) table_is (known.pretending c r) (known.into c r) in
+        let x = known.exact c.code (grid_of c) (pretending_of c) table_is (known.pretending c r)
+        (known.into c r) in
         record { exact = x.0 (claim_of c) (known.agrees c r); within = x.1 }
 
     heaps_at-right : (spent : ℕ) → IsRight bytes limit (heaps_at limit c spent)
     unfolding heaps_at
     heaps_at-right spent =
-        by_test (IsRight bytes limit) (nat_lt spent (heap_cost c.code (pretending_of c))) (Heaps (record { certificate = c; spent = spent })) (elements_at limit c (all_heap_pairs c.code (grid_of c) (pretending_of c)) 0 0)
+        by_test (IsRight bytes limit) (nat_lt spent (heap_cost c.code (pretending_of c)))
+        (Heaps (record { certificate = c; spent = spent }))
+        (elements_at limit c (all_heap_pairs c.code (grid_of c) (pretending_of c)) 0 0)
         (λ t. record { is = is; canonical = canonical })
-        (λ t. let o = is.lawful.in_ranges.order.0 in elements_at-right (all_heap_pairs c.code (grid_of c) (pretending_of c)) 0 0 (record {
+        (λ t. let o = is.lawful.in_ranges.order.0 in
+        elements_at-right (all_heap_pairs c.code (grid_of c) (pretending_of c)) 0 0 (record {
           exact = all_pairs;
           place = omega arith;
           value = omega arith;
@@ -249,11 +321,13 @@ module _ (bytes : List ℕ) (limit : ℕ) where
     pub heaps_begin : IsRight bytes limit (heaps_at limit c 0)
     heaps_begin = heaps_at-right 0
 
-  pub heaps_right : HeapsAreKnown → (h : HeapsView) → AreHeaps bytes limit h → IsRight bytes limit (heaps_turn limit h)
+  pub heaps_right : HeapsAreKnown → (h : HeapsView) → AreHeaps bytes limit h
+      → IsRight bytes limit (heaps_turn limit h)
   unfolding heaps_turn
   heaps_right known h a = heaps_at-right known h.certificate a.is a.canonical (h.spent + 1)
 
-  pub elements_right : HeapsAreKnown → (v : ElementsView) → AreElements bytes limit v → IsRight bytes limit (elements_turn limit v)
+  pub elements_right : HeapsAreKnown → (v : ElementsView) → AreElements bytes limit v
+      → IsRight bytes limit (elements_turn limit v)
   unfolding elements_turn
   elements_right known v a =
       let c = v.certificate in
@@ -264,25 +338,38 @@ module _ (bytes : List ℕ) (limit : ℕ) where
       let has = leads_in c (here c r v.pairs v.heap v.option e l) v.option in
       let y = first_from has 0 c.order in
       let b = e.value in
-      by_test (IsRight bytes limit) (nat_lt y c.order) (Ended (Outcome c.code (rising ((v.heap + 1) ∷ keys_from c c.order y))))
-      (if v.option + 1 == c.order then elements_at limit c v.pairs (v.heap + 1) 0 else elements_at limit c v.pairs v.heap (v.option + 1))
+      by_test (IsRight bytes limit) (nat_lt y c.order)
+      (Ended (Outcome c.code (rising ((v.heap + 1) ∷ keys_from c c.order y))))
+      (if v.option + 1 == c.order then elements_at limit c v.pairs (v.heap + 1) 0 else elements_at
+      limit c v.pairs v.heap (v.option + 1))
       (λ t. let w = less_is y c.order t in
       let K = keys_from c c.order y in
       let (x, is) = keys_spell c r m a.canonical c.order y (omega arith) w in
       let f = leads c r v.pairs v.heap v.option e l y (first_has has 0 c.order (omega arith)) in
       let s = shuffled_rising ((v.heap + 1) ∷ K) in
       let X = rising ((v.heap + 1) ∷ K) in
-      let fails = element_fails c a.is.lawful (v.heap + 1) y K X (omega arith) f x is (to_permutation s) in
-      faulty c a.is (Outcome c.code X) (refl, (m, a.canonical, position_shuffled IsHeap s (omega arith, x), fails)) (λ q. cc))
+      let fails =
+      element_fails c a.is.lawful (v.heap + 1) y K X (omega arith) f x is (to_permutation s) in
+      faulty c a.is (Outcome c.code X)
+      (refl, (m, a.canonical, position_shuffled IsHeap s (omega arith, x), fails)) (λ q. cc))
       (λ t. let n = not_less y c.order t in
-      let o = obeyed c r v.pairs v.heap v.option e l (λ z k. first_none has 0 c.order (omega arith) z (omega arith) (omega arith)) in
-      by_test (IsRight bytes limit) (v.option + 1 == c.order) (elements_at limit c v.pairs (v.heap + 1) 0) (elements_at limit c v.pairs v.heap (v.option + 1))
-      (λ d. elements_at-right known c a.is a.canonical v.pairs (v.heap + 1) 0 (heap_turn c r v.pairs v.heap v.option e l o (same_is (v.option + 1) c.order d)))
-      (λ d. let n = not_same (v.option + 1) c.order d in elements_at-right known c a.is a.canonical v.pairs v.heap (v.option + 1) (value_turn c r v.pairs v.heap v.option e l o (omega (arith, n)))))
+      let o =
+      obeyed c r v.pairs v.heap v.option e l
+      (λ z k. first_none has 0 c.order (omega arith) z (omega arith) (omega arith)) in
+      by_test (IsRight bytes limit) (v.option + 1 == c.order)
+      (elements_at limit c v.pairs (v.heap + 1) 0)
+      (elements_at limit c v.pairs v.heap (v.option + 1))
+      (λ d. elements_at-right known c a.is a.canonical v.pairs (v.heap + 1) 0
+      (heap_turn c r v.pairs v.heap v.option e l o (same_is (v.option + 1) c.order d)))
+      (λ d. let n = not_same (v.option + 1) c.order d in
+      elements_at-right known c a.is a.canonical v.pairs v.heap (v.option + 1)
+      (value_turn c r v.pairs v.heap v.option e l o (omega (arith, n)))))
 
   -- the closure, a turn later
-  module _ (known : HeapsAreKnown) (c : Certificate) (is : IsSpelled bytes limit c) (canonical : Canonical c) (pairs : List Pair) (exact : HavePairs c pairs)
-      (elements : ElementsObey c.code (claim_of c) (IsHeapUpTo (bound_of c))) (p : closing.Progress) (k : IsClosure bytes limit c pairs p) where
+  module _ (known : HeapsAreKnown) (c : Certificate) (is : IsSpelled bytes limit c)
+      (canonical : Canonical c) (pairs : List Pair) (exact : HavePairs c pairs)
+      (elements : ElementsObey c.code (claim_of c) (IsHeapUpTo (bound_of c))) (p : closing.Progress)
+      (k : IsClosure bytes limit c pairs p) where
     abbrev q : closing.Progress
     q = closing.moved p
 
@@ -290,7 +377,8 @@ module _ (bytes : List ℕ) (limit : ℕ) where
     t = (closing.moved p).state
 
     same : closing.SameData (turning.start (grid_of c) pairs limit) t
-    same = let a = k.same in let b = known.same p in record { table = b.table ∙ a.table; heaps = b.heaps ∙ a.heaps; limit = b.limit ∙ a.limit }
+    same = let a = k.same in let b = known.same p in
+        record { table = b.table ∙ a.table; heaps = b.heaps ∙ a.heaps; limit = b.limit ∙ a.limit }
 
     reached : t ≡ closing.turns (suc k.taken) (turning.start (grid_of c) pairs limit)
     reached = ap turning.turn k.reached
@@ -306,31 +394,50 @@ module _ (bytes : List ℕ) (limit : ℕ) where
           times_is = (known.agrees c r).times_is;
           heaps_are = subst (λ n. IsHeapPairs c.code (claim_of c) n pairs) (sym n) exact.exact;
         } in
-        subst (λ g. IsClaimOver c.code (claim_of c) g t.heaps) (sym same.table) (subst (λ hs. IsClaimOver c.code (claim_of c) (grid_of c) hs) (sym same.heaps) of)
+        subst (λ g. IsClaimOver c.code (claim_of c) g t.heaps) (sym same.table)
+        (subst (λ hs. IsClaimOver c.code (claim_of c) (grid_of c) hs) (sym same.heaps) of)
 
     speaks : Speaks t
-    speaks = subst Speaks (sym reached) (known.speaks (grid_of c) pairs limit (suc k.taken) (table_is known c is canonical) exact.within)
+    speaks =
+        subst Speaks (sym reached)
+        (known.speaks (grid_of c) pairs limit (suc k.taken) (table_is known c is canonical)
+        exact.within)
 
     count : length t.heaps ≡ bound_of c
     count = ap length same.heaps ∙ exact.exact.length_is
 
     -- the member kept breaks the rule
-    broken : length p.state.members < length t.members → obeys c (newest t).pair ≡ false → Fits c limit (Outcome c.code (rising (word t (newest t).place)))
+    broken : length p.state.members < length t.members → obeys c (newest t).pair ≡ false
+        → Fits c limit (Outcome c.code (rising (word t (newest t).place)))
     broken more f =
         let keeps = known.keeps p in
         let some = keeps.last more in
         let says = speaks c.code (claim_of c) over in
-        let at = says.held (newest t) (Contains-get_or t.held (length t.held - 1) closing.blank_held (omega arith)) in
+        let at =
+        says.held (newest t)
+        (Contains-get_or t.held (length t.held - 1) closing.blank_held (omega arith)) in
         let m = newest t in
         let W = word t m.place in
         let (inside, portion) = the_portion c in
-        let pair = subst (λ x. theory.IsPairOf c.code (claim_of c) (as_pair x) W) at.1 (says.words m.place at.0) in
-        let fails = breach_fails inside m.pair c.code (claim_of c) W portion pair (rule_breaks c inside portion m.pair f) in
+        let pair =
+        subst (λ x. theory.IsPairOf c.code (claim_of c) (as_pair x) W) at.1
+        (says.words m.place at.0) in
+        let fails =
+        breach_fails inside m.pair c.code (claim_of c) W portion pair
+        (rule_breaks c inside portion m.pair f) in
         let place = position_within _ W (says.positions m.place at.0) in
-        let s = shuffled_rising W in
-        (refl, (is.lawful.monoid, canonical, position_shuffled IsHeap s place, fails_along c is.lawful W (rising W) (to_permutation s) place fails))
+        let s = shuffled_rising W in (
+          refl,
+          (
+            is.lawful.monoid,
+            canonical,
+            position_shuffled IsHeap s place,
+            fails_along c is.lawful W (rising W) (to_permutation s) place fails,
+          ),
+        )
 
-    all_obey : (keeps_more p.state t && not (obeys c (newest t).pair)) ≡ false → (i : ℕ) → i < length t.held → obeys c (slice_index_or t.held i closing.blank_held).pair ≡ true
+    all_obey : (keeps_more p.state t && not (obeys c (newest t).pair)) ≡ false → (i : ℕ)
+        → i < length t.held → obeys c (slice_index_or t.held i closing.blank_held).pair ≡ true
     all_obey quiet i l = elim ((known.keeps p).held i l) [
       | inl (j, b, e) ↦ subst (λ x. obeys c x ≡ true) e (k.obey j b)
       | inr (more, e) ↦
@@ -343,26 +450,50 @@ module _ (bytes : List ℕ) (limit : ℕ) where
     unfolding closing_at
     closing_right-at =
         let says = speaks c.code (claim_of c) over in
-        by_test (IsRight bytes limit) (keeps_more p.state t && not (obeys c (newest t).pair)) (Ended (Outcome c.code (rising (word t (newest t).place))))
-        (if closing.is_over t then Ended Limit else if closing.is_done t then Ended (Yes c) else Closing (record { certificate = c; closure = q }))
+        by_test (IsRight bytes limit) (keeps_more p.state t && not (obeys c (newest t).pair))
+        (Ended (Outcome c.code (rising (word t (newest t).place))))
+        (if closing.is_over t then Ended Limit else if closing.is_done t then Ended (Yes c) else
+        Closing (record { certificate = c; closure = q }))
         (λ e. let (a, b) = both (keeps_more p.state t) (not (obeys c (newest t).pair)) e in
-        faulty c is (Outcome c.code (rising (word t (newest t).place))) (broken (less_is (length p.state.members) (length t.members) a) (not_true (obeys c (newest t).pair) b)) (λ d. cc))
-        (λ e. by_test (IsRight bytes limit) (closing.is_over t) (Ended Limit) (if closing.is_done t then Ended (Yes c) else Closing (record { certificate = c; closure = q }))
-        (λ o. faulty c is Limit (is.lawful.monoid, canonical, subst (ReachesMoreThan IsHeap c.code (claim_of c)) same.limit (says.over o)) (λ d. cc))
-        (λ _. by_test (IsRight bytes limit) (closing.is_done t) (Ended (Yes c)) (Closing (record { certificate = c; closure = q }))
-        (λ o. let closed = subst (λ n. IsClosed c.code (claim_of c) (IsHeapUpTo n) (kept t)) count (says.done o) in
+        faulty c is (Outcome c.code (rising (word t (newest t).place)))
+        (broken (less_is (length p.state.members) (length t.members) a)
+        (not_true (obeys c (newest t).pair) b)) (λ d. cc))
+        (λ e. by_test (IsRight bytes limit) (closing.is_over t) (Ended Limit)
+        (if closing.is_done t then Ended (Yes c) else Closing
+        (record { certificate = c; closure = q }))
+        (λ o. faulty c is Limit (
+          is.lawful.monoid,
+          canonical,
+          subst (ReachesMoreThan IsHeap c.code (claim_of c))
+              same.limit (says.over o),
+        ) (λ d. cc))
+        (λ _. by_test (IsRight bytes limit) (closing.is_done t) (Ended (Yes c))
+        (Closing (record { certificate = c; closure = q }))
+        (λ o. let closed =
+        subst (λ n. IsClosed c.code (claim_of c) (IsHeapUpTo n) (kept t)) count (says.done o) in
         let (inside, portion) = the_portion c in
-        let obey = obeying c inside portion t (λ i l. rule_holds c inside portion (slice_index_or t.held i closing.blank_held).pair (all_obey e i l)) in
-        faulty c is (Yes c) (refl, known.accepted c (kept t) is.lawful.in_ranges is.lawful.monoid canonical closed obey elements) (λ d. cc))
+        let obey =
+        obeying c inside portion t
+        (λ i l. rule_holds c inside portion (slice_index_or t.held i closing.blank_held).pair
+        (all_obey e i l)) in
+        faulty c is (Yes c) (
+          refl,
+          known.accepted c (kept t) is.lawful.in_ranges is.lawful.monoid canonical closed
+              obey elements,
+        ) (λ d. cc))
         (λ _. record {
           is = is;
           canonical = canonical;
           pairs = pairs;
           exact = exact;
           elements = elements;
-          closure = record { taken = suc k.taken; reached = reached; same = same; obey = all_obey e };
+          closure =
+              record { taken = suc k.taken; reached = reached; same = same; obey = all_obey e };
         })))
 
-  pub closing_right : HeapsAreKnown → (s : ClosingView) → AreClosing bytes limit s → IsRight bytes limit (closing_turn s)
+  pub closing_right : HeapsAreKnown → (s : ClosingView) → AreClosing bytes limit s
+      → IsRight bytes limit (closing_turn s)
   unfolding closing_turn
-  closing_right known s a = closing_right-at known s.certificate a.is a.canonical a.pairs a.exact a.elements s.closure a.closure
+  closing_right known s a =
+      closing_right-at known s.certificate a.is a.canonical a.pairs a.exact a.elements s.closure
+      a.closure

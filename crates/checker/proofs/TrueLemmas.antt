@@ -15,7 +15,8 @@ use Rattle.checker.proofs.TrueLoops.{laws_right, keys_right, products_right, per
 
 -- what the crates below tell of reading and of tables
 pub record TextsAreKnown : Type 0 where
-  pub ranges : (b : List ℕ) (c : Certificate) (rest : List ℕ) → certificate_at b ≡ Some (c, rest) → InRanges c
+  pub ranges : (b : List ℕ) (c : Certificate) (rest : List ℕ) → certificate_at b ≡ Some (c, rest)
+      → InRanges c
   pub takes : (b : List ℕ) (c : Certificate) → certificate_at b ≡ Some (c, []) → Spells b c
   pub again : (b : List ℕ) (c : Certificate) → Spells b c → certificate_at b ≡ Some (c, [])
   pub tables : TablesCost
@@ -37,15 +38,23 @@ unfolding behind
 longer c d b rest e = let n : b ∷ rest ≡ [] = ap behind e in cc
 
 module _ (texts : TextsAreKnown) (known : HeapsAreKnown) (bytes : List ℕ) (limit : ℕ) where
-  opens : (x : Option (Certificate × List ℕ)) → certificate_at bytes ≡ x → IsRight bytes limit (opened x)
+  opens : (x : Option (Certificate × List ℕ)) → certificate_at bytes ≡ x
+      → IsRight bytes limit (opened x)
   unfolding table_turns
   opens None e = (λ d s. none_read d (sym e ∙ texts.again bytes d s), λ q. cc)
-  opens (Some (c, [])) e = record { spelled = texts.takes bytes c e; ranges = texts.ranges bytes c [] e; taken = 0; job = refl }
+  opens (Some (c, [])) e =
+      record {
+        spelled = texts.takes bytes c e;
+        ranges = texts.ranges bytes c [] e;
+        taken = 0;
+        job = refl;
+      }
   opens (Some (c, b ∷ rest)) e = (λ d s. longer c d b rest (sym e ∙ texts.again bytes d s), λ q. cc)
 
   turn_right : (p : Phase) → IsRight bytes limit p → IsRight bytes limit (turn bytes limit p)
   turn_right Reading h = opens (certificate_at bytes) refl
-  turn_right (Laws l) h = laws_right bytes limit texts.tables texts.next known.shaped known.agrees l h
+  turn_right (Laws l) h =
+      laws_right bytes limit texts.tables texts.next known.shaped known.agrees l h
   turn_right (Keys k) h = keys_right bytes limit k h
   turn_right (Products p) h = products_right bytes limit p h
   turn_right (Periods p) h = periods_right bytes limit known p h
@@ -60,5 +69,6 @@ module _ (texts : TextsAreKnown) (known : HeapsAreKnown) (bytes : List ℕ) (lim
   turns_right zero = tt
   turns_right (suc n) = turn_right (turns bytes limit n Reading) (turns_right n)
 
-  pub verdict_right : turns bytes limit (cost bytes limit) Reading ≡ Ended (verdict bytes limit) → Holds bytes limit (verdict bytes limit) × (verdict bytes limit ≢ Memory)
+  pub verdict_right : turns bytes limit (cost bytes limit) Reading ≡ Ended (verdict bytes limit)
+      → Holds bytes limit (verdict bytes limit) × (verdict bytes limit ≢ Memory)
   verdict_right e = subst (IsRight bytes limit) e (turns_right (cost bytes limit))

@@ -74,14 +74,16 @@ module _ (bytes : List ℕ) (limit : ℕ) where
     pub taken : ℕ
     pub reached : p.state ≡ closing.turns taken (turning.start (grid_of c) pairs limit)
     pub same : closing.SameData (turning.start (grid_of c) pairs limit) p.state
-    pub obey : (i : ℕ) → i < length p.state.held → obeys c (slice_index_or p.state.held i closing.blank_held).pair ≡ true
+    pub obey : (i : ℕ) → i < length p.state.held
+        → obeys c (slice_index_or p.state.held i closing.blank_held).pair ≡ true
 
   pub record AreClosing (s : ClosingView) : Type 0 where
     pub is : IsSpelled s.certificate
     pub canonical : Canonical s.certificate
     pub pairs : List Pair
     pub exact : HavePairs s.certificate pairs
-    pub elements : ElementsObey s.certificate.code (claim_of s.certificate) (IsHeapUpTo (bound_of s.certificate))
+    pub elements : ElementsObey s.certificate.code (claim_of s.certificate)
+        (IsHeapUpTo (bound_of s.certificate))
     pub closure : IsClosure s.certificate pairs s.closure
 
   abbrev pub IsRight : Phase → Type 0

@@ -44,29 +44,41 @@ below_is a b e = elim (dec_lt a.0 b.0) [
 
 is_below : (a b : ℕ × ℕ) → KeyBelow a b → key_below a b ≡ true
 is_below a b (inl l) = let e : nat_lt a.0 b.0 ≡ true = grind (arith, tests) in rw e refl
-is_below a b (inr (d, l)) = let n : nat_lt a.0 b.0 ≡ false = grind (arith, tests) in let e : (a.0 == b.0) ≡ true = grind (arith, tests) in let k : nat_lt a.1 b.1 ≡ true = grind (arith, tests) in rw (n, e, k) refl
+is_below a b (inr (d, l)) = let n : nat_lt a.0 b.0 ≡ false = grind (arith, tests) in
+    let e : (a.0 == b.0) ≡ true = grind (arith, tests) in let k : nat_lt a.1 b.1 ≡ true =
+    grind (arith, tests) in rw (n, e, k) refl
 
 module _ (c : Certificate) where
   pub keyed_is : (e : ℕ) → is_keyed c e ≡ true → IsKeyOf c e
   keyed_is e t =
-      let (a, b) = both (nat_lt (key_of c e).0 e) (times_of c (key_of c e).0 (phi_at c (key_of c e).1) == e) t in
-      (less_is (key_of c e).0 e a, same_is (times_of c (key_of c e).0 (phi_at c (key_of c e).1)) e b)
+      let (a, b) =
+      both (nat_lt (key_of c e).0 e) (times_of c (key_of c e).0 (phi_at c (key_of c e).1) == e)
+      t in (
+        less_is (key_of c e).0 e a,
+        same_is (times_of c (key_of c e).0 (phi_at c (key_of c e).1)) e
+            b,
+      )
 
   pub not_keyed : (e : ℕ) → is_keyed c e ≡ false → IsKeyOf c e → ⊥
   not_keyed e f k =
       let a : nat_lt (key_of c e).0 e ≡ true = (let l = k.0 in grind (arith, tests)) in
-      let b : (times_of c (key_of c e).0 (phi_at c (key_of c e).1) == e) ≡ true = (let d = k.1 in grind (arith, tests)) in
+      let b : (times_of c (key_of c e).0 (phi_at c (key_of c e).1) == e) ≡ true =
+      (let d = k.1 in grind (arith, tests)) in
       let t : is_keyed c e ≡ true = rw (a, b) refl in
       opposite t f
 
-  pub above_is : (n : ℕ) → 1 ≤ n → IsTrue (is_above_last c n) ↔ (1 < n → KeyBelow (key_of c (n - 1)) (key_of c n))
+  pub above_is : (n : ℕ) → 1 ≤ n → IsTrue (is_above_last c n)
+      ↔ (1 < n → KeyBelow (key_of c (n - 1)) (key_of c n))
   above_is n o = elim (dec_lt 1 n) [
     | no f ↦
         let e : (n == 1) ≡ true = grind (arith, tests, f) in
         (λ t l. absurd (f l), λ h. rw e refl)
     | yes l ↦
-        let e : (n == 1) ≡ false = grind (arith, tests) in
-        (λ t k. below_is (key_of c (n - 1)) (key_of c n) (rw e at t), λ h. rw e (is_below (key_of c (n - 1)) (key_of c n) (h l)))
+        let e : (n == 1) ≡ false = grind (arith, tests) in (
+          λ t k. below_is (key_of c (n - 1)) (key_of c n) (rw e at t),
+          λ h.
+              rw e (is_below (key_of c (n - 1)) (key_of c n) (h l)),
+        )
   ]
 
   pub in_order_is : (f h : ℕ) → is_in_order c f h ≡ true → IsInOrder c f h
@@ -82,20 +94,25 @@ module _ (c : Certificate) where
   order_fails f h e o =
       let x = times_of c f (phi_at c h) in
       elim (dec_lt 0 x) [
-        | no z ↦ (let d : (x == 0) ≡ true = grind (arith, tests, z) in let t : is_in_order c f h ≡ true = (rw d refl) in opposite t e)
+        | no z ↦ (let d : (x == 0) ≡ true = grind (arith, tests, z) in
+            let t : is_in_order c f h ≡ true = (rw d refl) in opposite t e)
         | yes p ↦
             let d : (x == 0) ≡ false = grind (arith, tests) in
-            let k : key_below (f, h) (key_of c x) ≡ false = is_not (key_below (f, h) (key_of c x)) (λ t. o p (below_is (f, h) (key_of c x) t)) in
+            let k : key_below (f, h) (key_of c x) ≡ false =
+            is_not (key_below (f, h) (key_of c x)) (λ t. o p (below_is (f, h) (key_of c x) t))
+            in
             let t : is_in_order c f h ≡ true = (rw (d, k) refl) in
             opposite t e
       ]
 
-  pub again_is : (heap shift : ℕ) → comes_again c heap shift ≡ true → (0 < heap) × (phi_at c (shift + heap) ≡ phi_at c heap)
+  pub again_is : (heap shift : ℕ) → comes_again c heap shift ≡ true
+      → (0 < heap) × (phi_at c (shift + heap) ≡ phi_at c heap)
   again_is heap shift t =
       let (a, b) = both (nat_lt 0 heap) (phi_at c (shift + heap) == phi_at c heap) t in
       (less_is 0 heap a, same_is (phi_at c (shift + heap)) (phi_at c heap) b)
 
-  pub not_again : (heap shift : ℕ) → comes_again c heap shift ≡ false → 0 < heap → phi_at c (shift + heap) ≡ phi_at c heap → ⊥
+  pub not_again : (heap shift : ℕ) → comes_again c heap shift ≡ false → 0 < heap
+      → phi_at c (shift + heap) ≡ phi_at c heap → ⊥
   not_again heap shift f p d =
       let a : nat_lt 0 heap ≡ true = grind (arith, tests) in
       let b : (phi_at c (shift + heap) == phi_at c heap) ≡ true = grind (arith, tests) in
@@ -116,10 +133,12 @@ alike false false e d = d refl
 
 module _ (c : Certificate) (x y z : ℕ) where
   pub apart_is : tells_apart c x y z ≡ true → TellsApart (claim_of c) (x, y) z
-  apart_is t = differ ((claim_of c).portion (times_of c x z)) ((claim_of c).portion (times_of c y z)) t
+  apart_is t =
+      differ ((claim_of c).portion (times_of c x z)) ((claim_of c).portion (times_of c y z)) t
 
   pub not_apart : tells_apart c x y z ≡ false → TellsApart (claim_of c) (x, y) z → ⊥
-  not_apart f = alike ((claim_of c).portion (times_of c x z)) ((claim_of c).portion (times_of c y z)) f
+  not_apart f =
+      alike ((claim_of c).portion (times_of c x z)) ((claim_of c).portion (times_of c y z)) f
 
 pub not_false : (b : Bool) → not b ≡ false → b ≡ true
 not_false true e = refl

@@ -20,29 +20,39 @@ module _ (bytes : List ℕ) (limit : ℕ) where
       }
 
   -- a turn more
-  pub runs-more : (before after : ℕ) (p q : Phase) → Runs bytes limit p before after q → 0 < after → stage_of q ≡ stage_of p → Runs bytes limit p before (after - 1) (turn bytes limit q)
+  pub runs-more : (before after : ℕ) (p q : Phase) → Runs bytes limit p before after q → 0 < after
+      → stage_of q ≡ stage_of p → Runs bytes limit p before (after - 1) (turn bytes limit q)
   unfolding turns
   runs-more before after p q r some same =
       let w = r.within in
       let d : before - (after - 1) ≡ suc (before - after) = omega arith in
       record {
         within = omega arith;
-        reached = subst (λ m. turn bytes limit q ≡ turns bytes limit m p) (sym d) (ap (turn bytes limit) r.reached);
+        reached =
+            subst (λ m. turn bytes limit q ≡ turns bytes limit m p) (sym d)
+            (ap (turn bytes limit) r.reached);
         going = λ n h. elim (dec_lt n (before - after)) [
           | yes b ↦ r.going n b
-          | no f ↦ (let e : before - after ≡ n = omega arith in subst (λ m. stage_of (turns bytes limit m p) ≡ stage_of p) e (ap stage_of (sym r.reached) ∙ same))
+          | no f ↦ (let e : before - after ≡ n = omega arith in
+              subst (λ m. stage_of (turns bytes limit m p) ≡ stage_of p) e
+              (ap stage_of (sym r.reached) ∙ same))
         ];
       }
 
   -- one turn
-  pub runs-one : (before : ℕ) (p q : Phase) → 0 < before → q ≡ turn bytes limit p → Runs bytes limit p before (before - 1) q
-  runs-one before p q some e = subst (Runs bytes limit p before (before - 1)) (sym e) (runs-more before before p p (runs-none before p p refl) some refl)
+  pub runs-one : (before : ℕ) (p q : Phase) → 0 < before → q ≡ turn bytes limit p
+      → Runs bytes limit p before (before - 1) q
+  runs-one before p q some e =
+      subst (Runs bytes limit p before (before - 1)) (sym e)
+      (runs-more before before p p (runs-none before p p refl) some refl)
 
-  pub runs-to : (before after : ℕ) (p q s : Phase) → Runs bytes limit p before after q → q ≡ s → Runs bytes limit p before after s
+  pub runs-to : (before after : ℕ) (p q s : Phase) → Runs bytes limit p before after q → q ≡ s
+      → Runs bytes limit p before after s
   runs-to before after p q s r e = subst (Runs bytes limit p before after) e r
 
   -- of other units as many
-  pub runs-of : (a b before after : ℕ) (p q : Phase) → Runs bytes limit p a b q → after ≤ before → a - b ≡ before - after → Runs bytes limit p before after q
+  pub runs-of : (a b before after : ℕ) (p q : Phase) → Runs bytes limit p a b q → after ≤ before
+      → a - b ≡ before - after → Runs bytes limit p before after q
   runs-of a b before after p q r w e = record {
     within = w;
     reached = subst (λ n. q ≡ turns bytes limit n p) e r.reached;
@@ -50,12 +60,14 @@ module _ (bytes : List ℕ) (limit : ℕ) where
   }
 
 -- keys are left to look at
-pub keys_in : (c : Certificate) (next : ℕ) (rise : Bool) → next < c.order → keys_at c next rise ≡ Keys (record { certificate = c; next = next; rising = rise })
+pub keys_in : (c : Certificate) (next : ℕ) (rise : Bool) → next < c.order
+    → keys_at c next rise ≡ Keys (record { certificate = c; next = next; rising = rise })
 unfolding keys_at
 keys_in c next rise l = let e : nat_lt next c.order ≡ true = grind (arith, tests) in rw e
 
 -- none is left
-pub keys_out : (c : Certificate) (next : ℕ) → c.order ≤ next → keys_at c next true ≡ Products (record { certificate = c; element = 0; heap = 1 })
+pub keys_out : (c : Certificate) (next : ℕ) → c.order ≤ next
+    → keys_at c next true ≡ Products (record { certificate = c; element = 0; heap = 1 })
 unfolding keys_at
 keys_out c next l = let e : nat_lt next c.order ≡ false = grind (arith, tests) in rw e
 
@@ -63,30 +75,49 @@ pub keys_fallen : (c : Certificate) (next : ℕ) → c.order ≤ next → keys_a
 unfolding keys_at
 keys_fallen c next l = let e : nat_lt next c.order ≡ false = grind (arith, tests) in rw e
 
-pub keys_more : (c : Certificate) (next : ℕ) (rise : Bool) → is_keyed c next ≡ true → keys_turn (record { certificate = c; next = next; rising = rise }) ≡ keys_at c (next + 1) (rise && is_above_last c next)
+pub keys_more : (c : Certificate) (next : ℕ) (rise : Bool) → is_keyed c next ≡ true
+    → keys_turn (record { certificate = c; next = next; rising = rise })
+    ≡ keys_at c (next + 1) (rise && is_above_last c next)
 unfolding keys_turn
 keys_more c next rise e = rw e
 
-pub keys_stop : (c : Certificate) (next : ℕ) (rise : Bool) → is_keyed c next ≡ false → keys_turn (record { certificate = c; next = next; rising = rise }) ≡ Ended Word
+pub keys_stop : (c : Certificate) (next : ℕ) (rise : Bool) → is_keyed c next ≡ false
+    → keys_turn (record { certificate = c; next = next; rising = rise }) ≡ Ended Word
 unfolding keys_turn
 keys_stop c next rise e = rw e
 
-module _ (bytes : List ℕ) (limit : ℕ) (k : KeysView) (c : Certificate) (next : ℕ) (rise : Bool) (before after : ℕ) (r : Runs bytes limit (Keys k) before after (keys_at c next rise)) where
+module _ (bytes : List ℕ) (limit : ℕ) (k : KeysView) (c : Certificate) (next : ℕ) (rise : Bool)
+    (before after : ℕ) (r : Runs bytes limit (Keys k) before after (keys_at c next rise)) where
   module _ (l : next < c.order) where
-    pub keys_going : Runs bytes limit (Keys k) before after (Keys (record { certificate = c; next = next; rising = rise }))
+    pub keys_going : Runs bytes limit (Keys k) before after
+        (Keys (record { certificate = c; next = next; rising = rise }))
     keys_going = runs-to bytes limit before after (Keys k) _ _ r (keys_in c next rise l)
 
-    keys_look : 0 < after → Runs bytes limit (Keys k) before (after - 1) (keys_turn (record { certificate = c; next = next; rising = rise }))
+    keys_look : 0 < after
+        → Runs bytes limit (Keys k) before (after - 1)
+        (keys_turn (record { certificate = c; next = next; rising = rise }))
     keys_look some = runs-more bytes limit before after (Keys k) _ keys_going some refl
 
-    pub keys_seen : (b s : Bool) → 0 < after → b ≡ true → b ≡ is_keyed c next → s ≡ is_above_last c next → Runs bytes limit (Keys k) before (after - 1) (keys_at c (next + 1) (rise && s))
-    keys_seen b s some t e d = runs-to bytes limit before (after - 1) (Keys k) _ _ (keys_look some) (keys_more c next rise (sym e ∙ t) ∙ ap (λ v. keys_at c (next + 1) (rise && v)) (sym d))
+    pub keys_seen : (b s : Bool) → 0 < after → b ≡ true → b ≡ is_keyed c next
+        → s ≡ is_above_last c next
+        → Runs bytes limit (Keys k) before (after - 1) (keys_at c (next + 1) (rise && s))
+    keys_seen b s some t e d =
+        runs-to bytes limit before (after - 1) (Keys k) _ _ (keys_look some)
+        (keys_more c next rise (sym e ∙ t) ∙ ap (λ v. keys_at c (next + 1) (rise && v)) (sym d))
 
-    pub keys_missed : (b : Bool) → 0 < after → b ≡ false → b ≡ is_keyed c next → Runs bytes limit (Keys k) before (after - 1) (Ended Word)
-    keys_missed b some t e = runs-to bytes limit before (after - 1) (Keys k) _ _ (keys_look some) (keys_stop c next rise (sym e ∙ t))
+    pub keys_missed : (b : Bool) → 0 < after → b ≡ false → b ≡ is_keyed c next
+        → Runs bytes limit (Keys k) before (after - 1) (Ended Word)
+    keys_missed b some t e =
+        runs-to bytes limit before (after - 1) (Keys k) _ _ (keys_look some)
+        (keys_stop c next rise (sym e ∙ t))
 
-  pub keys_over : c.order ≤ next → rise ≡ true → Runs bytes limit (Keys k) before after (Products (record { certificate = c; element = 0; heap = 1 }))
-  keys_over l t = runs-to bytes limit before after (Keys k) _ _ r (ap (keys_at c next) t ∙ keys_out c next l)
+  pub keys_over : c.order ≤ next → rise ≡ true
+      → Runs bytes limit (Keys k) before after
+      (Products (record { certificate = c; element = 0; heap = 1 }))
+  keys_over l t =
+      runs-to bytes limit before after (Keys k) _ _ r (ap (keys_at c next) t ∙ keys_out c next l)
 
-  pub keys_fall_over : c.order ≤ next → rise ≡ false → Runs bytes limit (Keys k) before after (Ended Order)
-  keys_fall_over l t = runs-to bytes limit before after (Keys k) _ _ r (ap (keys_at c next) t ∙ keys_fallen c next l)
+  pub keys_fall_over : c.order ≤ next → rise ≡ false
+      → Runs bytes limit (Keys k) before after (Ended Order)
+  keys_fall_over l t =
+      runs-to bytes limit before after (Keys k) _ _ r (ap (keys_at c next) t ∙ keys_fallen c next l)

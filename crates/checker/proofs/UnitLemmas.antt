@@ -49,13 +49,21 @@ module _ (s : JobState) (within : s.spent ≤ triples s.grid.order) where
   abbrev pub InRange : JobState → ℕ → Type 0
   InRange t n = (s.spent ≤ t.spent) × (t.spent ≤ s.spent + n) × (t.spent ≤ triples s.grid.order)
 
-  one-turn : (b : Bool) → is_over s ≡ b → InRange (if b then s else record { grid = s.grid; spent = s.spent + 1; refused = not (triple_holds s.grid.order s.grid.entries s.spent) }) 1
+  one-turn : (b : Bool) → is_over s ≡ b
+      → InRange
+      (if b then s else record {
+        grid = s.grid;
+        spent = s.spent + 1;
+        refused = not (triple_holds s.grid.order s.grid.entries s.spent);
+      }) 1
   one-turn true e = (omega arith, omega arith, within)
   one-turn false e =
       let d = some-left s.refused s.spent (triples s.grid.order) e in
       (omega arith, omega arith, omega arith)
 
-pub turns-range : (n : ℕ) (s : JobState) → s.spent ≤ triples s.grid.order → (s.spent ≤ (turns n s).spent) × ((turns n s).spent ≤ s.spent + n) × ((turns n s).spent ≤ triples s.grid.order)
+pub turns-range : (n : ℕ) (s : JobState) → s.spent ≤ triples s.grid.order
+    → (s.spent ≤ (turns n s).spent) × ((turns n s).spent ≤ s.spent + n)
+    × ((turns n s).spent ≤ triples s.grid.order)
 unfolding turns
 turns-range zero s h = (omega arith, omega arith, h)
 turns-range (suc n) s h =
@@ -107,10 +115,13 @@ code_short (d ∷ ds) h = let l = h.2 in omega arith
 pub bound_few : (c : Certificate) → InRanges c → bound_of c ≤ 2066
 bound_few c r = let l = code_short c.code r.code in let s = r.period.2 in omega arith
 
-pub cost_few : (code : List ℕ) (phi : Pretending) (cost : ℕ) → IsOctalCode code → phi.start + phi.period ≤ 1025 → cost ≤ length code * (heaps_bound code phi * heaps_bound code phi) → cost < 2 ^ 48
+pub cost_few : (code : List ℕ) (phi : Pretending) (cost : ℕ) → IsOctalCode code
+    → phi.start + phi.period ≤ 1025
+    → cost ≤ length code * (heaps_bound code phi * heaps_bound code phi) → cost < 2 ^ 48
 cost_few code phi cost o s l =
     let n = code_short code o in
     let b : heaps_bound code phi ≤ 2066 = omega arith in
     let m = mul-le (heaps_bound code phi) (heaps_bound code phi) 2066 2066 b b in
-    let k = mul-le (length code) (heaps_bound code phi * heaps_bound code phi) 17 (2066 * 2066) n m in
+    let k = mul-le (length code) (heaps_bound code phi * heaps_bound code phi) 17 (2066 * 2066) n m
+    in
     omega arith

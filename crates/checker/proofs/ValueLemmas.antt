@@ -8,9 +8,12 @@ pub place_below : (q x y : ℕ) → x < q → y < q → x * q + y < q * q
 place_below q x y hx hy = grind arith
 
 -- one heap more in front
-pub value_more : (c : Claim) (X : List ℕ) (at v w : ℕ) → 0 < at → at ≤ length X → v ≡ c.phi (get_or X (at - 1) 0) → w ≡ c.times v (value c (drop at X)) → w ≡ value c (drop (at - 1) X)
+pub value_more : (c : Claim) (X : List ℕ) (at v w : ℕ) → 0 < at → at ≤ length X
+    → v ≡ c.phi (get_or X (at - 1) 0) → w ≡ c.times v (value c (drop at X))
+    → w ≡ value c (drop (at - 1) X)
 value_more c X at v w some l ph times =
     let i = at - 1 in
     let s : at ≡ suc i = omega arith in
-    times ∙ ap (λ u. c.times u (value c (drop at X))) ph ∙ ap (λ k. c.times (c.phi (get_or X i 0)) (value c (drop k X))) s
+    times ∙ ap (λ u. c.times u (value c (drop at X))) ph
+    ∙ ap (λ k. c.times (c.phi (get_or X i 0)) (value c (drop k X))) s
     ∙ ap (value c) (sym (drop-cons X i 0 (omega arith)))

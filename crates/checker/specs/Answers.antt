@@ -55,8 +55,8 @@ Fits c limit Memory = Unit {0}
 abbrev pub SpellFitting : List ℕ → ℕ → Answer → Type 0
 SpellFitting bytes limit answer = (c : Certificate) × Spells bytes c × Fits c limit answer
 
--- The answer holds of the bytes: Text where they spell no certificate, Memory at any time, and every other one of the certificate that
--- they spell.
+-- The answer holds of the bytes: Text where they spell no certificate, Memory at any time, and
+-- every other one of the certificate that they spell.
 abbrev pub Holds : List ℕ → ℕ → Answer → Type 0
 Holds bytes limit Text = (c : Certificate) → Spells bytes c → ⊥
 Holds bytes limit Memory = Unit {0}
@@ -71,7 +71,8 @@ Holds bytes limit Limit = SpellFitting bytes limit Limit
 
 -- each accepted text of the certificate's code is these bytes
 abbrev pub IsOnlyText : List ℕ → Certificate → Type 0
-IsOnlyText bytes c = (other : List ℕ) (d : Certificate) → Spells other d → Accepted d → d.code ≡ c.code → other ≡ bytes
+IsOnlyText bytes c = (other : List ℕ) (d : Certificate) → Spells other d → Accepted d
+    → d.code ≡ c.code → other ≡ bytes
 
 -- The answer is true of the bytes. It holds of them, and so
 --   a yes is to the one accepted text of its code,
@@ -81,7 +82,8 @@ IsOnlyText bytes c = (other : List ℕ) (d : Certificate) → Spells other d →
 pub record IsTrueOf (bytes : List ℕ) (limit : ℕ) (answer : Answer) : Type 0 where
   pub holds : Holds bytes limit answer
   pub yes : (c : Certificate) → answer ≡ Yes c → Spells bytes c × Accepted c × IsOnlyText bytes c
-  pub accepted : (c : Certificate) → Spells bytes c → Accepted c → (answer ≡ Yes c) ⊎ ((answer ≡ Limit) ⊎ (answer ≡ Memory))
+  pub accepted : (c : Certificate) → Spells bytes c → Accepted c
+      → (answer ≡ Yes c) ⊎ ((answer ≡ Limit) ⊎ (answer ≡ Memory))
   pub wrong : (c : Certificate) → Spells bytes c → Monoid c.order (times_of c) → Canonical c
       → (Represents IsHeap c.code (claim_of c) → ⊥)
       → ((X : List ℕ) × (answer ≡ Outcome c.code X)) ⊎ ((answer ≡ Limit) ⊎ (answer ≡ Memory))

@@ -8,8 +8,9 @@ use Rattle.checker.specs.Sheets.{IsPortion}
 use Rattle.checker.specs.Turns.{Phase, Runs}
 use Rattle.checker.specs.Turns.Phase.{Closing}
 
--- Of `before` units `after` are left, and the others were turns, from this closure on, to this phase, whatever certificate of this portion
--- is under test.
+-- Of `before` units `after` are left, and the others were turns, from this closure on, to this
+-- phase, whatever certificate of this portion is under test.
 abbrev pub Closes : set.FinSet nat_cmp → Progress → ℕ → ℕ → (Certificate → Phase) → Type 0
 Closes inside p before after to =
-    (c : Certificate) → IsPortion c inside → (bytes : List ℕ) (limit : ℕ) → Runs bytes limit (Closing (record { certificate = c; closure = p })) before after (to c)
+    (c : Certificate) → IsPortion c inside → (bytes : List ℕ) (limit : ℕ)
+    → Runs bytes limit (Closing (record { certificate = c; closure = p })) before after (to c)

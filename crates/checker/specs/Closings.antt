@@ -31,7 +31,8 @@ pub record IsClosing (p : Pieces) (inside : set.FinSet nat_cmp) (pairs : List Pa
   pub sheet : IsSheet p inside
   pub canonical : Canonical (certificate_of p)
   pub exact : HavePairs (certificate_of p) pairs
-  pub elements : ElementsObey (certificate_of p).code (claim_of (certificate_of p)) (IsHeapUpTo (bound_of (certificate_of p)))
+  pub elements : ElementsObey (certificate_of p).code (claim_of (certificate_of p))
+      (IsHeapUpTo (bound_of (certificate_of p)))
 
 -- some closed list of pairs obeys the rule
 pub record IsCovered (c : Certificate) : Type 0 where
@@ -39,22 +40,30 @@ pub record IsCovered (c : Certificate) : Type 0 where
   pub closed : IsClosed c.code (claim_of c) (IsHeapUpTo (bound_of c)) kept
   pub obey : KeptObey (claim_of c) kept
 
--- no option of the heap n with the value h leads from the portion into it, whatever element stands beside
+-- no option of the heap n with the value h leads from the portion into it, whatever element stands
+-- beside
 abbrev pub ObeysAt : Certificate → ℕ → ℕ → Type 0
-ObeysAt c n h = HeapOptionValue c.code (claim_of c) n h → (y : ℕ) → y < c.order → (claim_of c).portion (times_of c (phi_at c n) y) ≡ true → (claim_of c).portion (times_of c h y) ≡ false
+ObeysAt c n h = HeapOptionValue c.code (claim_of c) n h → (y : ℕ) → y < c.order
+    → (claim_of c).portion (times_of c (phi_at c n) y) ≡ true
+    → (claim_of c).portion (times_of c h y) ≡ false
 
 -- some option of the heap n leads from the portion into it, with the element y beside
 abbrev pub LeadsIn : Certificate → ℕ → ℕ → Type 0
-LeadsIn c n y = (h : ℕ) × HeapOptionValue c.code (claim_of c) n h × ((claim_of c).portion (times_of c (phi_at c n) y) ≡ true) × ((claim_of c).portion (times_of c h y) ≡ true)
+LeadsIn c n y = (h : ℕ) × HeapOptionValue c.code (claim_of c) n h
+    × ((claim_of c).portion (times_of c (phi_at c n) y) ≡ true)
+    × ((claim_of c).portion (times_of c h y) ≡ true)
 
 -- set x has the elements that take x into the portion
 pub record AreContexts (c : Certificate) (contexts : List (set.FinSet nat_cmp)) : Type 0 where
   pub length_is : length contexts ≡ c.order
-  pub each : (x y : ℕ) → x < c.order → set.contains (slice_index_or contexts x set.empty) y ≡ true → (y < c.order) × ((claim_of c).portion (times_of c x y) ≡ true)
-  pub all : (x y : ℕ) → x < c.order → y < c.order → (claim_of c).portion (times_of c x y) ≡ true → set.contains (slice_index_or contexts x set.empty) y ≡ true
+  pub each : (x y : ℕ) → x < c.order → set.contains (slice_index_or contexts x set.empty) y ≡ true
+      → (y < c.order) × ((claim_of c).portion (times_of c x y) ≡ true)
+  pub all : (x y : ℕ) → x < c.order → y < c.order → (claim_of c).portion (times_of c x y) ≡ true
+      → set.contains (slice_index_or contexts x set.empty) y ≡ true
 
 -- the heaps below number i + 1 were looked at, and of it the values below h
-pub record ElementsSoFar (c : Certificate) (pairs : List Pair) (contexts : List (set.FinSet nat_cmp)) (i h : ℕ) : Type 0 where
+pub record ElementsSoFar (c : Certificate) (pairs : List Pair)
+    (contexts : List (set.FinSet nat_cmp)) (i h : ℕ) : Type 0 where
   pub canonical : Canonical c
   pub exact : HavePairs c pairs
   pub sets : AreContexts c contexts

@@ -4,7 +4,8 @@ use Rattle.checker.specs.Answers.{Answer, IsTrueOf}
 use Rattle.checker.specs.Answers.Answer.{Memory}
 use Rattle.checker.specs.Turns.{cost, verdict}
 
--- The bytes and the limit that a job was opened with, the units spent so far, and the answer, once it has ended.
+-- The bytes and the limit that a job was opened with, the units spent so far, and the answer, once
+-- it has ended.
 pub record JobView : Type 0 where
   pub bytes : List ℕ
   pub limit : ℕ
@@ -19,18 +20,21 @@ IsEnding bytes limit (Some a) = IsTrueOf bytes limit a
 abbrev pub IsTruthful : JobView → Type 0
 IsTruthful j = IsEnding j.bytes j.limit j.ended
 
--- While a check goes on, less is spent than it costs. Once it has ended, all that it costs was spent, and the answer is its verdict, unless
--- memory was refused: then no more was spent.
+-- While a check goes on, less is spent than it costs. Once it has ended, all that it costs was
+-- spent, and the answer is its verdict, unless memory was refused: then no more was spent.
 abbrev pub IsDueAt : List ℕ → ℕ → ℕ → Option Answer → Type 0
 IsDueAt bytes limit spent None = spent < cost bytes limit
-IsDueAt bytes limit spent (Some a) = ((spent ≡ cost bytes limit) × (a ≡ verdict bytes limit)) ⊎ ((a ≡ Memory) × (spent ≤ cost bytes limit))
+IsDueAt bytes limit spent (Some a) = ((spent ≡ cost bytes limit) × (a ≡ verdict bytes limit))
+    ⊎ ((a ≡ Memory) × (spent ≤ cost bytes limit))
 
--- What a job has spent, and how it ended, are functions of its bytes and limit and of the units that it was given.
+-- What a job has spent, and how it ended, are functions of its bytes and limit and of the units
+-- that it was given.
 abbrev pub IsDue : JobView → Type 0
 IsDue j = IsDueAt j.bytes j.limit j.spent j.ended
 
--- A job after some units more. It has the same bytes and limit. Where it had ended, or there was no unit, it is unchanged; and while it
--- goes on it has spent each of them, and fewer than 2 ^ 52 in all.
+-- A job after some units more. It has the same bytes and limit. Where it had ended, or there was no
+-- unit, it is unchanged; and while it goes on it has spent each of them, and fewer than 2 ^ 52 in
+-- all.
 pub record HasAdvanced (units : ℕ) (old new : JobView) : Type 0 where
   pub bytes : new.bytes ≡ old.bytes
   pub limit : new.limit ≡ old.limit

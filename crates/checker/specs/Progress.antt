@@ -17,8 +17,10 @@ pub record KeysSoFar (c : Certificate) (next : ℕ) (rising : Bool) : Type 0 whe
   pub from_one : 1 ≤ next
   pub within : next ≤ c.order
   pub keyed : (e : ℕ) → 0 < e → e < next → IsKeyOf c e
-  pub rise : rising ≡ true → (e : ℕ) → 0 < e → e + 1 < next → KeyBelow (key_of c e) (key_of c (e + 1))
-  pub falls : rising ≡ false → (e : ℕ) × (0 < e) × (e + 1 < c.order) × (KeyBelow (key_of c e) (key_of c (e + 1)) → ⊥)
+  pub rise : rising ≡ true → (e : ℕ) → 0 < e → e + 1 < next
+      → KeyBelow (key_of c e) (key_of c (e + 1))
+  pub falls : rising ≡ false → (e : ℕ) × (0 < e) × (e + 1 < c.order)
+      × (KeyBelow (key_of c e) (key_of c (e + 1)) → ⊥)
 
 -- each key is right, and they rise
 pub record AreKeys (c : Certificate) : Type 0 where
@@ -27,7 +29,8 @@ pub record AreKeys (c : Certificate) : Type 0 where
 
 -- the product of f and the heap h has no smaller key than its own
 abbrev pub IsInOrder : Certificate → ℕ → ℕ → Type 0
-IsInOrder c f h = 0 < times_of c f (phi_at c h) → KeyBelow (f, h) (key_of c (times_of c f (phi_at c h))) → ⊥
+IsInOrder c f h = 0 < times_of c f (phi_at c h)
+    → KeyBelow (f, h) (key_of c (times_of c f (phi_at c h))) → ⊥
 
 -- the products of the elements below f, and of f with the heaps below h, were looked at
 pub record ProductsSoFar (c : Certificate) (f h : ℕ) : Type 0 where
@@ -47,14 +50,18 @@ pub record PeriodsSoFar (c : Certificate) (r i : ℕ) : Type 0 where
   pub short : i < c.period
   pub same : (j : ℕ) → j < i → phi_at c (r + (c.start + j)) ≡ phi_at c (c.start + j)
 
--- the pairs of elements before the number were looked at, and for (x, y), which has this number, the elements below z
+-- the pairs of elements before the number were looked at, and for (x, y), which has this number,
+-- the elements below z
 pub record ApartSoFar (c : Certificate) (x y z number : ℕ) : Type 0 where
   pub free : HasNoFaultBelow 6 c
   pub rises : x < y
   pub within : y ≤ c.order
   pub last : y ≡ c.order → x + 1 ≡ c.order
   pub place : number ≤ length c.apart
-  pub rest : drop number (pairs_from 0 c.order) ≡ pairs_with x y (c.order - y) ++ pairs_from (x + 1) (c.order - (x + 1))
-  pub before : (j : ℕ) → j < number → LeastApart (claim_of c) (slice_index_or (pairs_from 0 c.order) j (0, 0)) (slice_index c.apart j)
+  pub rest : drop number (pairs_from 0 c.order) ≡ pairs_with x y (c.order - y)
+      ++ pairs_from (x + 1) (c.order - (x + 1))
+  pub before : (j : ℕ) → j < number
+      → LeastApart (claim_of c) (slice_index_or (pairs_from 0 c.order) j (0, 0))
+      (slice_index c.apart j)
   pub element : number < length c.apart → z ≤ slice_index c.apart number
   pub below : (w : ℕ) → w < z → TellsApart (claim_of c) (x, y) w → ⊥

@@ -9,7 +9,8 @@ use Rattle.pair_closure.specs.Progress.{blank_held}
 -- inside the portion there is an option; outside, where there is one, there is one in the portion
 pub record Obeys (inside : set.FinSet nat_cmp) (p : Pair) : Type 0 where
   pub some : set.contains inside p.value ≡ true → (x : ℕ) × (set.contains p.options x ≡ true)
-  pub leads : set.contains inside p.value ≡ false → (x : ℕ) → set.contains p.options x ≡ true → (y : ℕ) × (set.contains p.options y ≡ true) × (set.contains inside y ≡ true)
+  pub leads : set.contains inside p.value ≡ false → (x : ℕ) → set.contains p.options x ≡ true
+      → (y : ℕ) × (set.contains p.options y ≡ true) × (set.contains inside y ≡ true)
 
 -- inside the portion without an option, or outside with options but none in the portion
 abbrev pub Breaks : set.FinSet nat_cmp → Pair → Type 0
@@ -21,4 +22,5 @@ Breaks inside p =
 
 -- each member held obeys the rule
 abbrev pub HeldObey : set.FinSet nat_cmp → List Held → Type 0
-HeldObey inside held = (i : ℕ) → i < length held → Obeys inside (slice_index_or held i blank_held).pair
+HeldObey inside held = (i : ℕ) → i < length held
+    → Obeys inside (slice_index_or held i blank_held).pair

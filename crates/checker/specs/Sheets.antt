@@ -11,7 +11,16 @@ use Rattle.certificate.specs.Pieces.{Pieces, certificate_of, IsWhole}
 
 -- the parts of a certificate whose rows are a table's
 abbrev pub pieces_of : List ℕ → Grid → Pretending → List ℕ → List (ℕ × ℕ) → List ℕ → Pieces
-pieces_of code table phi portion words apart = record { code = code; order = table.order; phi = phi; portion = portion; words = words; rows = table.entries; apart = apart }
+pieces_of code table phi portion words apart =
+    record {
+      code = code;
+      order = table.order;
+      phi = phi;
+      portion = portion;
+      words = words;
+      rows = table.entries;
+      apart = apart;
+    }
 
 -- the numbers are in their ranges, and the table has the laws
 pub record IsLawful (c : Certificate) : Type 0 where

@@ -46,7 +46,8 @@ pub record AreElements (e : ElementsView) : Type 0 where
   pub heap : e.heap < length e.pairs
   pub option : e.option < e.certificate.order
 
--- The closure is the one that its turns reach from as many pairs as there are heaps 1 to B, and it goes on.
+-- The closure is the one that its turns reach from as many pairs as there are heaps 1 to B, and it
+-- goes on.
 pub record IsOpen (limit : ℕ) (s : ClosingView) : Type 0 where
   pub table : Grid
   pub heaps : List Pair

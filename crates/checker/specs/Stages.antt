@@ -84,9 +84,11 @@ pub record StandsAfter {A : Type 0} (bytes : List ℕ) (limit spent : ℕ) (s : 
   pub stands : Stands bytes limit s
   pub come : HasCome bytes limit spent s
 
--- Of `before` units `after` are left, and each of the others was a turn at the stage at which the check stood. It stands where they brought
--- it, or ended there for want of memory; and units are left only where it came to a later stage, or ended.
-pub record Comes {A : Type 0} (bytes : List ℕ) (limit : ℕ) (from : Phase) (before after : ℕ) (s : Stage A) : Type 0 where
+-- Of `before` units `after` are left, and each of the others was a turn at the stage at which the
+-- check stood. It stands where they brought it, or ended there for want of memory; and units are
+-- left only where it came to a later stage, or ended.
+pub record Comes {A : Type 0} (bytes : List ℕ) (limit : ℕ) (from : Phase) (before after : ℕ)
+    (s : Stage A) : Type 0 where
   pub to : Phase
   pub runs : Runs bytes limit from before after to
   pub shown : (to ≡ phase_of s) ⊎ (phase_of s ≡ AtEnded Memory)

@@ -1,4 +1,5 @@
--- A check as turns on plain data: what it costs and what it answers are functions of the bytes and the limit. This project's own.
+-- A check as turns on plain data: what it costs and what it answers are functions of the bytes and
+-- the limit. This project's own.
 use Rattle.std.specs.Prelude.{◌≡◌, ℕ, zero, suc, ◌+◌, ◌-◌, ◌*◌, ◌<◌, ◌≤◌, Bool, true, false, not, ◌&&◌, ◌||◌, ◌==◌, nat_lt, if◌then◌else◌, List, [], ◌∷◌, length, slice_index, slice_index_or, Option, Some, None}
 use Rattle.std.specs.List.{list_any}
 use Rattle.std.specs.FinSet as set
@@ -63,11 +64,13 @@ unfoldable pub keys_from : Certificate → ℕ → ℕ → List ℕ
 keys_from c zero e = []
 keys_from c (suc n) e = if e == 0 then [] else (key_of c e).1 ∷ keys_from c n (key_of c e).0
 
--- The stages, from the last one back. `X_at` is the stage with something left to look at, or what comes behind it.
+-- The stages, from the last one back. `X_at` is the stage with something left to look at, or what
+-- comes behind it.
 
 -- the rule, but for options in the portion of a value in the portion
 abbrev pub obeys : Certificate → Pair → Bool
-obeys c p = if holds c p.value then not (is_empty p.options) else is_empty p.options || list_any (λ y. set.contains p.options y) c.portion
+obeys c p = if holds c p.value then not (is_empty p.options) else is_empty p.options
+    || list_any (λ y. set.contains p.options y) c.portion
 
 -- the member held last
 abbrev pub newest : State → Held
@@ -80,28 +83,36 @@ keeps_more s t = nat_lt (length s.members) (length t.members)
 -- The rule is looked at for a member in the turn that keeps it.
 unfoldable pub closing_at : Certificate → Bool → closure.Progress → Phase
 closing_at c kept p =
-    if kept && not (obeys c (newest p.state).pair) then Ended (Outcome c.code (rising (word p.state (newest p.state).place)))
+    if kept && not (obeys c (newest p.state).pair) then Ended
+    (Outcome c.code (rising (word p.state (newest p.state).place)))
     else if closure.is_over p.state then Ended Limit
     else if closure.is_done p.state then Ended (Yes c)
     else Closing (record { certificate = c; closure = p })
 
 unfoldable pub closing_turn : ClosingView → Phase
-closing_turn s = closing_at s.certificate (keeps_more s.closure.state (closure.moved s.closure).state) (closure.moved s.closure)
+closing_turn s =
+    closing_at s.certificate (keeps_more s.closure.state (closure.moved s.closure).state)
+    (closure.moved s.closure)
 
 -- an element that is in the portion beside the heap of the pair and beside its option h
 abbrev pub leads_in : Certificate → Pair → ℕ → ℕ → Bool
-leads_in c p h y = set.contains p.options h && (holds c (times_of c p.value y) && holds c (times_of c h y))
+leads_in c p h y =
+    set.contains p.options h && (holds c (times_of c p.value y) && holds c (times_of c h y))
 
 unfoldable pub elements_at : ℕ → Certificate → List Pair → ℕ → ℕ → Phase
 elements_at limit c pairs heap option =
-    if nat_lt heap (length pairs) then Elements (record { certificate = c; pairs = pairs; heap = heap; option = option })
+    if nat_lt heap (length pairs) then Elements
+    (record { certificate = c; pairs = pairs; heap = heap; option = option })
     else Closing (record { certificate = c; closure = closure.begun (grid_of c) pairs limit })
 
 -- the least element that leads in is handed out, with the heap beside
 unfoldable pub elements_turn : ℕ → ElementsView → Phase
 elements_turn limit e =
     let c = e.certificate in
-    let y = first_from (leads_in c (slice_index_or e.pairs e.heap (record { value = 0; options = set.empty })) e.option) 0 c.order in
+    let y =
+    first_from
+    (leads_in c (slice_index_or e.pairs e.heap (record { value = 0; options = set.empty }))
+    e.option) 0 c.order in
     if nat_lt y c.order then Ended (Outcome c.code (rising ((e.heap + 1) ∷ keys_from c c.order y)))
     else if e.option + 1 == c.order then elements_at limit c e.pairs (e.heap + 1) 0
     else elements_at limit c e.pairs e.heap (e.option + 1)
@@ -109,7 +120,8 @@ elements_turn limit e =
 -- the stage that makes pairs with options left to try, or with all pairs what comes behind it
 unfoldable pub heaps_at : ℕ → Certificate → ℕ → Phase
 heaps_at limit c spent =
-    if nat_lt spent (heap_cost c.code (pretending_of c)) then Heaps (record { certificate = c; spent = spent })
+    if nat_lt spent (heap_cost c.code (pretending_of c)) then Heaps
+    (record { certificate = c; spent = spent })
     else elements_at limit c (all_heap_pairs c.code (grid_of c) (pretending_of c)) 0 0
 
 unfoldable pub heaps_turn : ℕ → HeapsView → Phase
@@ -117,17 +129,20 @@ heaps_turn limit h = heaps_at limit h.certificate (h.spent + 1)
 
 unfoldable pub separating_at : ℕ → Certificate → ℕ → ℕ → ℕ → ℕ → Phase
 separating_at limit c x y number z =
-    if nat_lt number (length c.apart) then Separating (record { certificate = c; x = x; y = y; number = number; z = z })
+    if nat_lt number (length c.apart) then Separating
+    (record { certificate = c; x = x; y = y; number = number; z = z })
     else heaps_at limit c 0
 
 abbrev pub tells_apart : Certificate → ℕ → ℕ → ℕ → Bool
-tells_apart c x y z = if holds c (times_of c x z) then not (holds c (times_of c y z)) else holds c (times_of c y z)
+tells_apart c x y z = if holds c (times_of c x z) then not (holds c (times_of c y z)) else holds c
+    (times_of c y z)
 
 unfoldable pub separating_turn : ℕ → SeparatingView → Phase
 separating_turn limit s =
     let c = s.certificate in
     let given = slice_index c.apart s.number in
-    if not (tells_apart c s.x s.y s.z) then (if s.z == given then Ended Apart else separating_at limit c s.x s.y s.number (s.z + 1))
+    if not (tells_apart c s.x s.y s.z) then
+    (if s.z == given then Ended Apart else separating_at limit c s.x s.y s.number (s.z + 1))
     else if nat_lt s.z given then Ended Apart
     else if s.y + 1 == c.order then separating_at limit c (s.x + 1) (s.x + 2) (s.number + 1) 0
     else separating_at limit c s.x (s.y + 1) (s.number + 1) 0
@@ -141,7 +156,8 @@ periods_turn limit p =
     let c = p.certificate in
     if nat_lt p.shift c.period
     then (
-    if not (comes_again c (c.start + p.count) p.shift) then Periods (record { certificate = c; shift = p.shift + 1; count = 0 })
+    if not (comes_again c (c.start + p.count) p.shift) then Periods
+    (record { certificate = c; shift = p.shift + 1; count = 0 })
     else if p.count + 1 == c.period then Ended Period
     else Periods (record { certificate = c; shift = p.shift; count = p.count + 1 }))
     else if comes_again c (c.start - 1) c.period then Ended Period
@@ -149,7 +165,8 @@ periods_turn limit p =
 
 unfoldable pub products_at : Certificate → ℕ → ℕ → Phase
 products_at c element heap =
-    if nat_lt element c.order then Products (record { certificate = c; element = element; heap = heap })
+    if nat_lt element c.order then Products
+    (record { certificate = c; element = element; heap = heap })
     else Periods (record { certificate = c; shift = 1; count = 0 })
 
 -- keys go by the element first
@@ -157,7 +174,9 @@ abbrev pub key_below : ℕ × ℕ → ℕ × ℕ → Bool
 key_below a b = nat_lt a.0 b.0 || ((a.0 == b.0) && nat_lt a.1 b.1)
 
 abbrev pub is_in_order : Certificate → ℕ → ℕ → Bool
-is_in_order c f h = (times_of c f (phi_at c h) == 0) || not (key_below (f, h) (key_of c (times_of c f (phi_at c h))))
+is_in_order c f h =
+    (times_of c f (phi_at c h) == 0)
+    || not (key_below (f, h) (key_of c (times_of c f (phi_at c h))))
 
 unfoldable pub products_turn : ProductsView → Phase
 products_turn p =
@@ -180,12 +199,14 @@ is_above_last c e = (e == 1) || key_below (key_of c (e - 1)) (key_of c e)
 unfoldable pub keys_turn : KeysView → Phase
 keys_turn k =
     let c = k.certificate in
-    if is_keyed c k.next then keys_at c (k.next + 1) (k.rising && is_above_last c k.next) else Ended Word
+    if is_keyed c k.next then keys_at c (k.next + 1) (k.rising && is_above_last c k.next) else Ended
+    Word
 
 unfoldable pub laws_at : Certificate → table.JobState → Phase
 laws_at c job =
     if job.refused then Ended Law
-    else if job.spent == table.triples job.grid.order then Keys (record { certificate = c; next = 1; rising = true })
+    else if job.spent == table.triples job.grid.order then Keys
+    (record { certificate = c; next = 1; rising = true })
     else Laws (record { certificate = c; job = job })
 
 unfoldable pub laws_turn : LawsView → Phase
@@ -223,8 +244,10 @@ module _ (bytes : List ℕ) (limit : ℕ) where
   -- No check takes more turns: 2q³ + q² + q(n0 + p) + p² + (k + 1)B² + Bq² + B·limit + 16
   abbrev pub most_turns : Certificate → ℕ
   most_turns c =
-      2 * (c.order * c.order * c.order) + c.order * c.order + c.order * (c.start + c.period) + c.period * c.period
-      + length c.code * (bound_of c * bound_of c) + bound_of c * (c.order * c.order) + bound_of c * limit + 16
+      2 * (c.order * c.order * c.order) + c.order * c.order + c.order * (c.start + c.period)
+      + c.period * c.period
+      + length c.code * (bound_of c * bound_of c) + bound_of c * (c.order * c.order) + bound_of c
+      * limit + 16
 
   abbrev pub bound_read : Option (Certificate × List ℕ) → ℕ
   bound_read None = 16
@@ -246,7 +269,8 @@ module _ (bytes : List ℕ) (limit : ℕ) where
   unfoldable pub verdict : Answer
   verdict = answer_at (turns cost Reading)
 
-  -- Of `before` units `after` are left, and each of the others was a turn, at the stage at which the check stood.
+  -- Of `before` units `after` are left, and each of the others was a turn, at the stage at which
+  -- the check stood.
   pub record Runs (from : Phase) (before after : ℕ) (to : Phase) : Type 0 where
     pub within : after ≤ before
     pub reached : to ≡ turns (before - after) from

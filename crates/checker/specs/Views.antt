@@ -64,7 +64,8 @@ abbrev pub keys_units : KeysView → ℕ
 keys_units k = k.certificate.order - k.next
 
 abbrev pub products_units : ProductsView → ℕ
-products_units p = rest p.certificate.order p.element (p.certificate.start + p.certificate.period) p.heap
+products_units p =
+    rest p.certificate.order p.element (p.certificate.start + p.certificate.period) p.heap
 
 abbrev pub periods_units : PeriodsView → ℕ
 periods_units p = rest p.certificate.period p.shift (p.certificate.period + 1) p.count + 1

@@ -6,7 +6,8 @@ ghost use Rattle.checker.specs.Answers.{Answer, Holds, IsTrueOf};
 
 /// An answer that holds of bytes is true of them.
 pub fn true_answers()
-    ensures { (bytes : List ℕ) (limit : ℕ) (answer : Answer) → Holds bytes limit answer → IsTrueOf bytes limit answer }
+    ensures { (bytes : List ℕ) (limit : ℕ) (answer : Answer) → Holds bytes limit answer
+        → IsTrueOf bytes limit answer }
 {
     certificate_text::spellings_are_unique();
     one_text_for_a_code();
@@ -14,7 +15,8 @@ pub fn true_answers()
 
 /// A code has one accepted text at most.
 pub fn one_text_for_a_code()
-    ensures { (a b : List ℕ) (c d : Certificate) → Spells a c → Spells b d → Accepted c → Accepted d → c.code ≡ d.code → a ≡ b }
+    ensures { (a b : List ℕ) (c d : Certificate) → Spells a c → Spells b d → Accepted c → Accepted d
+        → c.code ≡ d.code → a ≡ b }
 {
     misere_theory::certificates::accepted_certificates_are_unique();
     certificate_text::spellings_are_unique();

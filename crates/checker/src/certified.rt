@@ -15,9 +15,11 @@ use positions::Position;
 use std::alloc::{Allocator, Global};
 use std::marker::Model;
 
-/// A certificate that a check has accepted: it is canonical, and its monoid with its portion is the misère quotient of its code.
+/// A certificate that a check has accepted: it is canonical, and its monoid with its portion is the
+/// misère quotient of its code.
 ///
-/// It exists only by a yes. The misère quotient is that of Plambeck and Siegel, "Misère quotients for impartial games".
+/// It exists only by a yes. The misère quotient is that of Plambeck and Siegel, "Misère quotients
+/// for impartial games".
 #[derive(Drop)]
 pub struct Certified<A: Allocator = Global> {
     cert: Cert<A>,

@@ -11,8 +11,8 @@ use crate::stage::Stage;
 use crate::turns::checks_end;
 use allocation::Room;
 
-/// Whether the bytes are an accepted certificate. The answer is the verdict of the bytes and the limit, which is always the same, unless
-/// memory was refused.
+/// Whether the bytes are an accepted certificate. The answer is the verdict of the bytes and the
+/// limit, which is always the same, unless memory was refused.
 pub fn check<A: Room + Copy>(alloc: A, bytes: &[u8], limit: u32) -> Result<Certified<A>, Refusal<A>>
     ensures true_of { IsTrueOf bytes.now limit (answer_of result) }
     ensures decided { (answer_of result ≡ verdict bytes.now limit) ⊎ (answer_of result ≡ Memory) }

@@ -54,10 +54,19 @@ impl<A: Room> Model for Closing<A> {
 
     ghost coded = { Prim.hlevel (codes, e.the_row.coded) };
 
-    ghost view = { λ s. record { certificate = certificate_of (pieces_of s.code s.closure.state.table s.phi s.lines.portion.items s.lines.words.items s.lines.apart.items); closure = s.closure } };
+    ghost view = { λ s.
+        record {
+          certificate = certificate_of
+              (pieces_of s.code s.closure.state.table s.phi s.lines.portion.items
+              s.lines.words.items
+              s.lines.apart.items);
+          closure = s.closure;
+        } };
 
     ghost invariant = { λ s.
-        IsClosing (pieces_of s.code s.closure.state.table s.phi s.lines.portion.items s.lines.words.items s.lines.apart.items) s.lines.inside s.closure.state.heaps
+        IsClosing
+        (pieces_of s.code s.closure.state.table s.phi s.lines.portion.items s.lines.words.items
+        s.lines.apart.items) s.lines.inside s.closure.state.heaps
         × HeldObey s.lines.inside s.closure.state.held
         × (has_ended s.closure.state ≡ false)
         × (s.closure.failed ≡ false) };
@@ -85,18 +94,31 @@ fn close<A: Room + Copy>(
     requires obey { HeldObey inside.now closure.old.state.held }
     requires going { has_ended closure.old.state ≡ false }
     requires fresh { closure.old.failed ≡ false }
-    ensures more { result ≡ Ok Looked.More → (left.new ≡ 0) × HeldObey inside.now closure.new.state.held }
-    ensures done { result ≡ Ok Looked.Done → IsClosedOver closure.new.state × HeldObey inside.now closure.new.state.held }
+    ensures more { result ≡ Ok Looked.More
+        → (left.new ≡ 0) × HeldObey inside.now closure.new.state.held }
+    ensures done { result ≡ Ok Looked.Done → IsClosedOver closure.new.state
+        × HeldObey inside.now closure.new.state.held }
     ensures over { result ≡ Ok Looked.Over → IsExceeded closure.new.state }
     ensures broken { (i : ℕ) → result ≡ Ok (Looked.Broken i)
-        → (i < length closure.new.state.held) × Breaks inside.now (slice_index_or closure.new.state.held i blank_held).pair }
-    ensures stays { result ≡ Ok Looked.More → (has_ended closure.new.state ≡ false) × (closure.new.failed ≡ false) }
-    ensures turns { result ≡ Ok Looked.More → Closes inside.now closure.old left.old left.new (λ c. AtClosing (record { certificate = c; closure = closure.new })) }
-    ensures yes { result ≡ Ok Looked.Done → Closes inside.now closure.old left.old left.new (λ c. AtEnded (Yes c)) }
-    ensures limit { result ≡ Ok Looked.Over → Closes inside.now closure.old left.old left.new (λ c. AtEnded Limit) }
+        → (i < length closure.new.state.held)
+        × Breaks inside.now (slice_index_or closure.new.state.held i blank_held).pair }
+    ensures stays { result ≡ Ok Looked.More → (has_ended closure.new.state ≡ false)
+        × (closure.new.failed ≡ false) }
+    ensures turns { result ≡ Ok Looked.More
+        → Closes inside.now closure.old left.old left.new
+        (λ c. AtClosing (record { certificate = c; closure = closure.new })) }
+    ensures yes { result ≡ Ok Looked.Done
+        → Closes inside.now closure.old left.old left.new (λ c. AtEnded (Yes c)) }
+    ensures limit { result ≡ Ok Looked.Over
+        → Closes inside.now closure.old left.old left.new (λ c. AtEnded Limit) }
     ensures outcome { (i : ℕ) → result ≡ Ok (Looked.Broken i)
-        → Closes inside.now closure.old left.old left.new (λ c. AtEnded (Outcome c.code (rising (word closure.new.state (slice_index_or closure.new.state.held i blank_held).place)))) }
-    ensures refused { OnErr result ((to : Certificate → Phase) × Closes inside.now closure.old left.old left.new to) }
+        → Closes inside.now closure.old left.old left.new
+        (λ c. AtEnded
+        (Outcome c.code
+        (rising
+        (word closure.new.state (slice_index_or closure.new.state.held i blank_held).place)))) }
+    ensures refused { OnErr result ((to : Certificate → Phase)
+        × Closes inside.now closure.old left.old left.new to) }
     ensures data { SameData closure.old.state closure.new.state }
     ensures spends { left.new ≤ left.old }
     ensures spent { left.new + closure.new.spent ≡ left.old + closure.old.spent }
@@ -160,7 +182,8 @@ impl<A: Room + Copy> Closing<A> {
         requires canonical { Canonical sheet }
         requires pairs { HavePairs sheet pairs.items }
         requires elements { ElementsObey sheet.code (claim_of sheet) (IsHeapUpTo (bound_of sheet)) }
-        ensures value { result ≡ record { certificate = sheet; closure = begun (grid_of sheet) pairs.items limit } }
+        ensures value { result
+            ≡ record { certificate = sheet; closure = begun (grid_of sheet) pairs.items limit } }
     {
         let Sheet {
             code,
@@ -179,7 +202,8 @@ impl<A: Room + Copy> Closing<A> {
     /// Spends units until there are none or the stage ends.
     pub fn work(self, left: &mut u64) -> Stage<A>
         ensures carries { Carries self.certificate self.closure.state.limit result }
-        ensures comes { (bytes : List ℕ) (limit : ℕ) → Comes bytes limit (AtClosing self) left.old left.new result }
+        ensures comes { (bytes : List ℕ) (limit : ℕ)
+            → Comes bytes limit (AtClosing self) left.old left.new result }
     {
         let Closing {
             code,

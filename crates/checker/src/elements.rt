@@ -23,8 +23,8 @@ use std::alloc::Global;
 use std::marker::Model;
 use transition_algebra::Pair;
 
-/// The heaps and the values of options are looked at, one of each a turn: no element beside both is in the portion with the heap and
-/// with its option.
+/// The heaps and the values of options are looked at, one of each a turn: no element beside both is
+/// in the portion with the heap and with its option.
 #[derive(Drop)]
 pub struct Elements<A: Room = Global> {
     sheet: Sheet<A>,
@@ -50,16 +50,21 @@ impl<A: Room> Model for Elements<A> {
 
     ghost coded = { Prim.hlevel (codes, e.the_row.coded) };
 
-    ghost view = { λ s. record { certificate = s.sheet; pairs = s.pairs.items; heap = s.heap; option = s.option } };
+    ghost view = { λ s.
+        record { certificate = s.sheet; pairs = s.pairs.items; heap = s.heap; option = s.option } };
 
-    ghost invariant = { λ s. ElementsSoFar s.sheet s.pairs.items s.contexts.items s.heap s.option × (s.heap < length s.pairs.items) };
+    ghost invariant = { λ s. ElementsSoFar s.sheet s.pairs.items s.contexts.items s.heap s.option
+        × (s.heap < length s.pairs.items) };
 }
 
 /// The elements that take x into the portion.
 fn context<A: Room>(sheet: &Sheet<A>, x: u16) -> ElementSet
     requires { x < sheet.now.order }
-    ensures each { (y : ℕ) → set.contains result y ≡ true → (y < sheet.now.order) × ((claim_of sheet.now).portion (times_of sheet.now x y) ≡ true) }
-    ensures all { (y : ℕ) → y < sheet.now.order → (claim_of sheet.now).portion (times_of sheet.now x y) ≡ true → set.contains result y ≡ true }
+    ensures each { (y : ℕ) → set.contains result y ≡ true → (y < sheet.now.order)
+        × ((claim_of sheet.now).portion (times_of sheet.now x y) ≡ true) }
+    ensures all { (y : ℕ) → y < sheet.now.order
+        → (claim_of sheet.now).portion (times_of sheet.now x y) ≡ true
+        → set.contains result y ≡ true }
 {
     let mut all = ElementSet::new();
     for y in 0..sheet.order() {
@@ -88,8 +93,10 @@ fn common(a: &ElementSet, b: &ElementSet, order: u16) -> Option<u16>
     ensures within { IfSome result (λ y. y < order) }
     ensures first { IfSome result (λ y. set.contains a.now y ≡ true) }
     ensures second { IfSome result (λ y. set.contains b.now y ≡ true) }
-    ensures least { IfSome result (λ y. (x : ℕ) → x < y → set.contains a.now x ≡ true → set.contains b.now x ≡ false) }
-    ensures none { IfNone result ((y : ℕ) → y < order → set.contains a.now y ≡ true → set.contains b.now y ≡ false) }
+    ensures least { IfSome result (λ y. (x : ℕ) → x < y → set.contains a.now x ≡ true
+        → set.contains b.now x ≡ false) }
+    ensures none { IfNone result ((y : ℕ) → y < order → set.contains a.now y ≡ true
+        → set.contains b.now y ≡ false) }
 {
     if !a.meets(b) {
         return None;
@@ -144,10 +151,16 @@ fn breach(pair: &Pair, contexts: &[ElementSet], option: u16, order: u16) -> Opti
     requires below { option < order }
     ensures within { IfSome result (λ y. y < order) }
     ensures option { IfSome result (λ _. set.contains pair.now.options option ≡ true) }
-    ensures heap { IfSome result (λ y. set.contains (slice_index_or contexts.now pair.now.value set.empty) y ≡ true) }
-    ensures left { IfSome result (λ y. set.contains (slice_index_or contexts.now option set.empty) y ≡ true) }
-    ensures least { IfSome result (λ y. (x : ℕ) → x < y → set.contains (slice_index_or contexts.now pair.now.value set.empty) x ≡ true → set.contains (slice_index_or contexts.now option set.empty) x ≡ false) }
-    ensures none { IfNone result (set.contains pair.now.options option ≡ true → (y : ℕ) → y < order → set.contains (slice_index_or contexts.now pair.now.value set.empty) y ≡ true → set.contains (slice_index_or contexts.now option set.empty) y ≡ false) }
+    ensures heap { IfSome result
+        (λ y. set.contains (slice_index_or contexts.now pair.now.value set.empty) y ≡ true) }
+    ensures left { IfSome result (λ y. set.contains (slice_index_or contexts.now option set.empty) y
+        ≡ true) }
+    ensures least { IfSome result (λ y. (x : ℕ) → x < y
+        → set.contains (slice_index_or contexts.now pair.now.value set.empty) x ≡ true
+        → set.contains (slice_index_or contexts.now option set.empty) x ≡ false) }
+    ensures none { IfNone result (set.contains pair.now.options option ≡ true → (y : ℕ) → y < order
+        → set.contains (slice_index_or contexts.now pair.now.value set.empty) y ≡ true
+        → set.contains (slice_index_or contexts.now option set.empty) y ≡ false) }
 {
     if !pair.options.contains(option as u8) {
         return None;
@@ -164,7 +177,8 @@ impl<A: Room + Copy> Elements<A> {
     pub fn new(alloc: A, sheet: Sheet<A>, pairs: Vec<Pair, A>) -> Result<Elements<A>, Memory>
         requires canonical { Canonical sheet }
         requires pairs { HavePairs sheet pairs.items }
-        ensures value { IfOk result (λ s. s ≡ record { certificate = sheet; pairs = pairs.items; heap = 0; option = 0 }) }
+        ensures value { IfOk result
+            (λ s. s ≡ record { certificate = sheet; pairs = pairs.items; heap = 0; option = 0 }) }
     {
         let contexts = contexts(alloc, &sheet)?;
         sheets_are_lawful(&sheet);
@@ -180,7 +194,8 @@ impl<A: Room + Copy> Elements<A> {
     /// Takes turns in place, while the stage surely goes on and there are units.
     pub fn go_on(&mut self, left: &mut u64)
         ensures same { self.new.certificate ≡ self.old.certificate }
-        ensures runs { (bytes : List ℕ) (limit : ℕ) → Runs bytes limit (AtElements self.old) left.old left.new (AtElements self.new) }
+        ensures runs { (bytes : List ℕ) (limit : ℕ)
+            → Runs bytes limit (AtElements self.old) left.old left.new (AtElements self.new) }
     {
         let order = self.sheet.order();
         let last = self.pairs.len() - 1;
@@ -200,7 +215,8 @@ impl<A: Room + Copy> Elements<A> {
     /// Spends units until there are none or the stage ends.
     pub fn work(self, alloc: A, limit: u32, left: &mut u64) -> Stage<A>
         ensures carries { Carries self.certificate limit result }
-        ensures comes { (bytes : List ℕ) → Comes bytes limit (AtElements self) left.old left.new result }
+        ensures comes { (bytes : List ℕ)
+            → Comes bytes limit (AtElements self) left.old left.new result }
     {
         let Elements {
             sheet,

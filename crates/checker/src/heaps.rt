@@ -32,10 +32,18 @@ impl<A: Room> Model for Heaps<A> {
 
     ghost Value = { HeapsView };
 
-    ghost view = { λ s. record { certificate = certificate_of (pieces_of s.job.code s.job.table s.job.phi s.lines.portion.items s.lines.words.items s.lines.apart.items); spent = s.job.spent } };
+    ghost view = { λ s.
+        record {
+          certificate = certificate_of
+              (pieces_of s.job.code s.job.table s.job.phi s.lines.portion.items s.lines.words.items
+              s.lines.apart.items);
+          spent = s.job.spent;
+        } };
 
     ghost invariant = { λ s.
-        IsCanonicalSheet (pieces_of s.job.code s.job.table s.job.phi s.lines.portion.items s.lines.words.items s.lines.apart.items) s.lines.inside
+        IsCanonicalSheet
+        (pieces_of s.job.code s.job.table s.job.phi s.lines.portion.items s.lines.words.items
+        s.lines.apart.items) s.lines.inside
         × (s.job.spent < heap_cost s.job.code s.job.phi) };
 }
 
@@ -61,7 +69,8 @@ impl<A: Room + Copy> Heaps<A> {
     /// Takes turns in place, while the stage surely goes on and there are units.
     pub fn go_on(&mut self, left: &mut u64)
         ensures same { self.new.certificate ≡ self.old.certificate }
-        ensures runs { (bytes : List ℕ) (limit : ℕ) → Runs bytes limit (AtHeaps self.old) left.old left.new (AtHeaps self.new) }
+        ensures runs { (bytes : List ℕ) (limit : ℕ)
+            → Runs bytes limit (AtHeaps self.old) left.old left.new (AtHeaps self.new) }
     {
         let before = self.job.spent();
         self.job.go_on(*left);
@@ -71,7 +80,8 @@ impl<A: Room + Copy> Heaps<A> {
     /// Spends units until there are none or the stage ends.
     pub fn work(self, alloc: A, left: &mut u64) -> Stage<A>
         ensures carries { (limit : ℕ) → Carries self.certificate limit result }
-        ensures comes { (bytes : List ℕ) (limit : ℕ) → Comes bytes limit (AtHeaps self) left.old left.new result }
+        ensures comes { (bytes : List ℕ) (limit : ℕ)
+            → Comes bytes limit (AtHeaps self) left.old left.new result }
     {
         let Heaps { lines, mut job } = self;
         let before = job.spent();

@@ -35,7 +35,8 @@ impl<A: Room> Model for Job<A> {
 
     ghost use Rattle.checker.specs.Stages.{StandsAfter, ending};
 
-    ghost view = { λ j. record { bytes = j.bytes.items; limit = j.limit; spent = j.spent; ended = ending j.stage } };
+    ghost view = { λ j.
+        record { bytes = j.bytes.items; limit = j.limit; spent = j.spent; ended = ending j.stage } };
 
     ghost invariant = { λ j. StandsAfter j.bytes.items j.limit j.spent j.stage };
 }
@@ -73,8 +74,9 @@ impl<A: Room> Job<A> {
         self.limit
     }
 
-    /// The units spent so far. While it goes on they are fewer than the check costs. Once it has ended they are all that the check costs, and
-    /// its answer is the verdict of its bytes and limit, unless memory was refused.
+    /// The units spent so far. While it goes on they are fewer than the check costs. Once it has
+    /// ended they are all that the check costs, and its answer is the verdict of its bytes and
+    /// limit, unless memory was refused.
     pub fn spent(&self) -> u64
         ensures value { result ≡ self.now.spent }
         ensures due { IsDue self.now }
@@ -126,9 +128,12 @@ impl<A: Room + Copy> Job<A> {
         }
     }
 
-    /// Spends units until there are none or the job ends, and shows where it stands then. An ended job stays as it is.
+    /// Spends units until there are none or the job ends, and shows where it stands then. An ended
+    /// job stays as it is.
     pub fn work(&mut self, units: u64) -> Progress<'_, A>
-        ensures* after { sem 𝓛 (Rests (the_row A.row A.Allocator) self.entry (λ new. HasAdvanced units self.old new × Shows new result)) }
+        ensures* after { sem 𝓛
+            (Rests (the_row A.row A.Allocator) self.entry (λ new. HasAdvanced units self.old new
+            × Shows new result)) }
         ensures truthful { IsTrueShow self.old result }
         ensures same { self.old.ended ≢ None → Shows self.old result }
     {

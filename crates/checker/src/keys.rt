@@ -17,7 +17,8 @@ use certificate::Key;
 use std::alloc::Global;
 use std::marker::Model;
 
-/// The keys are looked at, one a turn: each names a smaller element and a heap whose product it is, and they rise.
+/// The keys are looked at, one a turn: each names a smaller element and a heap whose product it is,
+/// and they rise.
 #[derive(Drop)]
 pub struct Keys<A: Room = Global> {
     sheet: Sheet<A>,
@@ -55,7 +56,8 @@ fn is_keyed<A: Room>(sheet: &Sheet<A>, e: u16) -> bool
 fn is_above_last<A: Room>(sheet: &Sheet<A>, e: u16) -> bool
     requires some { 0 < e }
     requires below { e < sheet.now.order }
-    ensures above { IsTrue result ↔ (1 < e → KeyBelow (key_of sheet.now (e - 1)) (key_of sheet.now e)) }
+    ensures above { IsTrue result
+        ↔ (1 < e → KeyBelow (key_of sheet.now (e - 1)) (key_of sheet.now e)) }
     ensures same { result ≡ is_above_last sheet.now e }
 {
     e == 1 || is_below(sheet.key(e - 1), sheet.key(e))
@@ -85,7 +87,8 @@ impl<A: Room + Copy> Keys<A> {
     /// Takes turns in place, while the stage surely goes on and there are units.
     pub fn go_on(&mut self, left: &mut u64)
         ensures same { self.new.certificate ≡ self.old.certificate }
-        ensures runs { (bytes : List ℕ) (limit : ℕ) → Runs bytes limit (AtKeys self.old) left.old left.new (AtKeys self.new) }
+        ensures runs { (bytes : List ℕ) (limit : ℕ)
+            → Runs bytes limit (AtKeys self.old) left.old left.new (AtKeys self.new) }
     {
         let last = self.sheet.order() - 1;
         'keys: while *left > 0 && self.next < last && is_keyed(&self.sheet, self.next) {
@@ -98,7 +101,8 @@ impl<A: Room + Copy> Keys<A> {
     /// Spends units until there are none or the stage ends.
     pub fn work(self, left: &mut u64) -> Stage<A>
         ensures carries { (limit : ℕ) → Carries self.certificate limit result }
-        ensures works { (bytes : List ℕ) (limit : ℕ) → Works bytes limit (AtKeys self) left.old left.new (phase_of result) }
+        ensures works { (bytes : List ℕ) (limit : ℕ)
+            → Works bytes limit (AtKeys self) left.old left.new (phase_of result) }
     {
         let Keys {
             sheet,

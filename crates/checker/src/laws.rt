@@ -40,9 +40,18 @@ impl<A: Room> Model for Laws<A> {
 
     ghost Value = { LawsView };
 
-    ghost view = { λ s. record { certificate = certificate_of (pieces_of s.code s.job.grid s.phi s.lines.portion.items s.lines.words.items s.lines.apart.items); job = s.job } };
+    ghost view = { λ s.
+        record {
+          certificate = certificate_of
+              (pieces_of s.code s.job.grid s.phi s.lines.portion.items s.lines.words.items
+              s.lines.apart.items);
+          job = s.job;
+        } };
 
-    ghost invariant = { λ s. IsUnderLaws (pieces_of s.code s.job.grid s.phi s.lines.portion.items s.lines.words.items s.lines.apart.items) s.lines.inside s.job.spent × (is_over s.job ≡ false) };
+    ghost invariant = { λ s.
+        IsUnderLaws
+        (pieces_of s.code s.job.grid s.phi s.lines.portion.items s.lines.words.items
+        s.lines.apart.items) s.lines.inside s.job.spent × (is_over s.job ≡ false) };
 }
 
 impl<A: Room + Copy> Laws<A> {
@@ -80,7 +89,8 @@ impl<A: Room + Copy> Laws<A> {
     /// Takes turns in place, while the stage surely goes on and there are units.
     pub fn go_on(&mut self, left: &mut u64)
         ensures same { self.new.certificate ≡ self.old.certificate }
-        ensures runs { (bytes : List ℕ) (limit : ℕ) → Runs bytes limit (AtLaws self.old) left.old left.new (AtLaws self.new) }
+        ensures runs { (bytes : List ℕ) (limit : ℕ)
+            → Runs bytes limit (AtLaws self.old) left.old left.new (AtLaws self.new) }
     {
         turns_add_up();
         let looked = self.job.go_on(*left);
@@ -90,7 +100,8 @@ impl<A: Room + Copy> Laws<A> {
     /// Spends units until there are none or the stage ends.
     pub fn work(self, left: &mut u64) -> Stage<A>
         ensures carries { (limit : ℕ) → Carries self.certificate limit result }
-        ensures works { (bytes : List ℕ) (limit : ℕ) → Works bytes limit (AtLaws self) left.old left.new (phase_of result) }
+        ensures works { (bytes : List ℕ) (limit : ℕ)
+            → Works bytes limit (AtLaws self) left.old left.new (phase_of result) }
     {
         let Laws {
             code,

@@ -1,7 +1,8 @@
 //! The check of certificates: which bytes are an accepted certificate, and why others are not.
 //!
-//! `check` answers at once, and a `Job` in pieces. A check is a row of stages, one file each: `reading`, `laws`, `keys`, `products`,
-//! `periods`, `separating`, `heaps`, `elements`, `closing`. A unit is one turn of one stage.
+//! `check` answers at once, and a `Job` in pieces. A check is a row of stages, one file each:
+//! `reading`, `laws`, `keys`, `products`, `periods`, `separating`, `heaps`, `elements`, `closing`.
+//! A unit is one turn of one stage.
 #![tactic(auto)]
 
 mod answers;

@@ -14,7 +14,8 @@ use allocation::Room;
 use std::alloc::Global;
 use std::marker::Model;
 
-/// The entries are compared, two a turn: no smaller period serves, and the period doesn't serve from an earlier start.
+/// The entries are compared, two a turn: no smaller period serves, and the period doesn't serve
+/// from an earlier start.
 #[derive(Drop)]
 pub struct Periods<A: Room = Global> {
     sheet: Sheet<A>,
@@ -37,7 +38,8 @@ impl<A: Room> Model for Periods<A> {
 
 /// Whether the entry comes again after the shift.
 fn comes_again<A: Room>(sheet: &Sheet<A>, heap: u16, shift: u16) -> bool
-    ensures again { IsTrue result ↔ ((1 ≤ heap) × (phi_at sheet.now (shift + heap) ≡ phi_at sheet.now heap)) }
+    ensures again { IsTrue result
+        ↔ ((1 ≤ heap) × (phi_at sheet.now (shift + heap) ≡ phi_at sheet.now heap)) }
     ensures same { result ≡ comes_again sheet.now heap shift }
 {
     let n = heap as u64;
@@ -61,7 +63,8 @@ impl<A: Room + Copy> Periods<A> {
     /// Spends units until there are none or the stage ends.
     pub fn work(self, left: &mut u64) -> Stage<A>
         ensures carries { (limit : ℕ) → Carries self.certificate limit result }
-        ensures works { (bytes : List ℕ) (limit : ℕ) → Works bytes limit (AtPeriods self) left.old left.new (phase_of result) }
+        ensures works { (bytes : List ℕ) (limit : ℕ)
+            → Works bytes limit (AtPeriods self) left.old left.new (phase_of result) }
     {
         let Periods {
             sheet,

@@ -16,7 +16,8 @@ use certificate::Key;
 use std::alloc::Global;
 use std::marker::Model;
 
-/// The products of elements and heaps are looked at, one a turn: none has a smaller key than its own.
+/// The products of elements and heaps are looked at, one a turn: none has a smaller key than its
+/// own.
 #[derive(Drop)]
 pub struct Products<A: Room = Global> {
     sheet: Sheet<A>,
@@ -69,7 +70,8 @@ impl<A: Room + Copy> Products<A> {
     /// Takes turns in place, while the stage surely goes on and there are units.
     pub fn go_on(&mut self, left: &mut u64)
         ensures same { self.new.certificate ≡ self.old.certificate }
-        ensures runs { (bytes : List ℕ) (limit : ℕ) → Runs bytes limit (AtProducts self.old) left.old left.new (AtProducts self.new) }
+        ensures runs { (bytes : List ℕ) (limit : ℕ)
+            → Runs bytes limit (AtProducts self.old) left.old left.new (AtProducts self.new) }
     {
         let last = self.sheet.order() - 1;
         let heaps = self.sheet.start() + self.sheet.period();
@@ -89,7 +91,8 @@ impl<A: Room + Copy> Products<A> {
     /// Spends units until there are none or the stage ends.
     pub fn work(self, left: &mut u64) -> Stage<A>
         ensures carries { (limit : ℕ) → Carries self.certificate limit result }
-        ensures works { (bytes : List ℕ) (limit : ℕ) → Works bytes limit (AtProducts self) left.old left.new (phase_of result) }
+        ensures works { (bytes : List ℕ) (limit : ℕ)
+            → Works bytes limit (AtProducts self) left.old left.new (phase_of result) }
     {
         let Products {
             sheet,

@@ -65,7 +65,8 @@ impl<A: Room> Refusal<A> {
         }
     }
 
-    /// The certificate's code and the position at which the rule fails, for `Outcome` alone. It takes no memory.
+    /// The certificate's code and the position at which the rule fails, for `Outcome` alone. It
+    /// takes no memory.
     pub fn failed(&self) -> Option<(&Code, &Position<A>)>
         ensures { IsFailure self.now result }
     {

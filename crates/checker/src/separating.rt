@@ -35,9 +35,11 @@ impl<A: Room> Model for Separating<A> {
 
     ghost Value = { SeparatingView };
 
-    ghost view = { λ s. record { certificate = s.sheet; x = s.x; y = s.y; number = s.number; z = s.z } };
+    ghost view = { λ s.
+        record { certificate = s.sheet; x = s.x; y = s.y; number = s.number; z = s.z } };
 
-    ghost invariant = { λ s. ApartSoFar s.sheet s.x s.y s.z s.number × (s.number < length s.sheet.apart) };
+    ghost invariant = { λ s. ApartSoFar s.sheet s.x s.y s.z s.number
+        × (s.number < length s.sheet.apart) };
 }
 
 /// Whether z takes exactly one of x and y into the portion.
@@ -70,7 +72,8 @@ impl<A: Room + Copy> Separating<A> {
     /// Takes turns in place, while the stage surely goes on and there are units.
     pub fn go_on(&mut self, left: &mut u64)
         ensures same { self.new.certificate ≡ self.old.certificate }
-        ensures runs { (bytes : List ℕ) (limit : ℕ) → Runs bytes limit (AtSeparating self.old) left.old left.new (AtSeparating self.new) }
+        ensures runs { (bytes : List ℕ) (limit : ℕ)
+            → Runs bytes limit (AtSeparating self.old) left.old left.new (AtSeparating self.new) }
     {
         let order = self.sheet.order();
         let last = self.sheet.pairs() - 1;
@@ -101,7 +104,8 @@ impl<A: Room + Copy> Separating<A> {
     /// Spends units until there are none or the stage ends.
     pub fn work(self, alloc: A, left: &mut u64) -> Stage<A>
         ensures carries { (limit : ℕ) → Carries self.certificate limit result }
-        ensures works { (bytes : List ℕ) (limit : ℕ) → Works bytes limit (AtSeparating self) left.old left.new (phase_of result) }
+        ensures works { (bytes : List ℕ) (limit : ℕ)
+            → Works bytes limit (AtSeparating self) left.old left.new (phase_of result) }
     {
         let Separating {
             sheet,

@@ -27,9 +27,15 @@ impl<A: Allocator> Model for Sheet<A> {
 
     ghost Value = { Certificate };
 
-    ghost view = { λ s. certificate_of (pieces_of s.code s.table s.phi s.lines.portion.items s.lines.words.items s.lines.apart.items) };
+    ghost view = { λ s.
+        certificate_of
+        (pieces_of s.code s.table s.phi s.lines.portion.items s.lines.words.items
+        s.lines.apart.items) };
 
-    ghost invariant = { λ s. IsSheet (pieces_of s.code s.table s.phi s.lines.portion.items s.lines.words.items s.lines.apart.items) s.lines.inside };
+    ghost invariant = { λ s.
+        IsSheet
+        (pieces_of s.code s.table s.phi s.lines.portion.items s.lines.words.items
+        s.lines.apart.items) s.lines.inside };
 }
 
 impl<A: Allocator> Sheet<A> {

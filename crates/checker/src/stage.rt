@@ -43,8 +43,10 @@ impl<A: Room + Copy> Stage<A> {
 
     /// Takes turns in place, while the stage surely goes on and there are units.
     fn go_on(&mut self, left: &mut u64)
-        ensures stands { (bytes : List ℕ) (limit : ℕ) → Stands bytes limit self.old → Stands bytes limit self.new }
-        ensures runs { (bytes : List ℕ) (limit : ℕ) → Runs bytes limit (phase_of self.old) left.old left.new (phase_of self.new) }
+        ensures stands { (bytes : List ℕ) (limit : ℕ) → Stands bytes limit self.old
+            → Stands bytes limit self.new }
+        ensures runs { (bytes : List ℕ) (limit : ℕ)
+            → Runs bytes limit (phase_of self.old) left.old left.new (phase_of self.new) }
         ensures same { stage_of (phase_of self.new) ≡ stage_of (phase_of self.old) }
     {
         match self {
@@ -62,7 +64,8 @@ impl<A: Room + Copy> Stage<A> {
     pub fn advance(&mut self, alloc: A, bytes: &[u8], limit: u32, left: &mut u64)
         requires { Stands bytes.now limit self.old }
         ensures stands { Stands bytes.now limit self.new }
-        ensures comes { has_ended self.old ≡ false → Comes bytes.now limit (phase_of self.old) left.old left.new self.new }
+        ensures comes { has_ended self.old ≡ false
+            → Comes bytes.now limit (phase_of self.old) left.old left.new self.new }
     {
         self.go_on(left);
         if *left > 0 {
@@ -75,7 +78,8 @@ impl<A: Room + Copy> Stage<A> {
     pub fn work(self, alloc: A, bytes: &[u8], limit: u32, left: &mut u64) -> Stage<A>
         requires { Stands bytes.now limit self }
         ensures stands { Stands bytes.now limit result }
-        ensures comes { has_ended self ≡ false → Comes bytes.now limit (phase_of self) left.old left.new result }
+        ensures comes { has_ended self ≡ false
+            → Comes bytes.now limit (phase_of self) left.old left.new result }
     {
         match self {
             Stage::Reading => reading::work(alloc, bytes, limit, left),

@@ -11,29 +11,35 @@ ghost use Rattle.checker.specs.Sound.{IsSound};
 
 use crate::answers::true_answers;
 
-/// Each turn keeps what its stage holds sound, and lowers what the check takes at most. So from its start a check comes to its end
-/// after at most as many turns as the bound, which are those that it costs, and there stands what it answers. A yes has taken one for
-/// each triple of the table, each key and each product at least.
+/// Each turn keeps what its stage holds sound, and lowers what the check takes at most. So from its
+/// start a check comes to its end after at most as many turns as the bound, which are those that it
+/// costs, and there stands what it answers. A yes has taken one for each triple of the table, each
+/// key and each product at least.
 pub fn checks_end()
     ensures falls { (bytes : List ℕ) (limit : ℕ) (p : Phase) → IsSound limit p → is_ended p ≡ false
-        → IsSound limit (turn bytes limit p) × (measure bytes limit (turn bytes limit p) < measure bytes limit p) }
-    ensures within { (bytes : List ℕ) (limit n : ℕ) (p : Phase) → Reaches bytes limit n p → n + measure bytes limit p ≤ bound bytes limit }
+        → IsSound limit (turn bytes limit p)
+        × (measure bytes limit (turn bytes limit p) < measure bytes limit p) }
+    ensures within { (bytes : List ℕ) (limit n : ℕ) (p : Phase) → Reaches bytes limit n p
+        → n + measure bytes limit p ≤ bound bytes limit }
     ensures least { (bytes : List ℕ) (limit : ℕ) (c : Certificate) → verdict bytes limit ≡ Yes c
         → c.order * c.order * c.order + c.order * (c.start + c.period) ≤ cost bytes limit }
     ensures some { (bytes : List ℕ) (limit : ℕ) → 0 < cost bytes limit }
     ensures most { (bytes : List ℕ) (limit : ℕ) → cost bytes limit ≤ bound bytes limit }
     ensures few { (bytes : List ℕ) (limit : ℕ) → limit < 2 ^ 32 → bound bytes limit < 2 ^ 52 }
-    ensures ends { (bytes : List ℕ) (limit : ℕ) → turns bytes limit (cost bytes limit) Reading ≡ Ended (verdict bytes limit) }
-    ensures spent { (bytes : List ℕ) (limit n : ℕ) (p : Phase) → Reaches bytes limit n p → HasSpent bytes limit n p }
-    ensures before { (bytes : List ℕ) (limit n : ℕ) (p : Phase) → Reaches bytes limit n p → n ≤ cost bytes limit }
+    ensures ends { (bytes : List ℕ) (limit : ℕ) → turns bytes limit (cost bytes limit) Reading
+        ≡ Ended (verdict bytes limit) }
+    ensures spent { (bytes : List ℕ) (limit n : ℕ) (p : Phase) → Reaches bytes limit n p
+        → HasSpent bytes limit n p }
+    ensures before { (bytes : List ℕ) (limit n : ℕ) (p : Phase) → Reaches bytes limit n p
+        → n ≤ cost bytes limit }
 {
     certificate_text::reading_is_spelling();
     transition_algebra::heap_jobs_end();
     pair_closure::closures_cost();
 }
 
-/// The verdict of any bytes under any limit is true of them, and never that memory was refused. Where it is a yes, its numbers are those of
-/// the certificate that the bytes spell.
+/// The verdict of any bytes under any limit is true of them, and never that memory was refused.
+/// Where it is a yes, its numbers are those of the certificate that the bytes spell.
 pub fn verdicts_are_true()
     ensures { (bytes : List ℕ) (limit : ℕ) → IsTrueOf bytes limit (verdict bytes limit)
         × (verdict bytes limit ≢ Memory)
@@ -52,9 +58,11 @@ pub fn verdicts_are_true()
     misere_theory::certificates::tested_certificates_are_accepted();
 }
 
-/// However the units were cut, a check comes to what its turns come to; and it costs a turn at least.
+/// However the units were cut, a check comes to what its turns come to; and it costs a turn at
+/// least.
 pub fn turns_decide()
-    ensures on { (bytes : List ℕ) (limit n : ℕ) (p q : Phase) (before after : ℕ) → Reaches bytes limit n p → stage_of p < 9
+    ensures on { (bytes : List ℕ) (limit n : ℕ) (p q : Phase) (before after : ℕ)
+        → Reaches bytes limit n p → stage_of p < 9
         → Works bytes limit p before after q → Reaches bytes limit (n + (before - after)) q }
     ensures some { (bytes : List ℕ) (limit : ℕ) → 0 < cost bytes limit }
 {}

@@ -7,7 +7,8 @@ use std::test::Fail;
 
 /// Each kind of step, with the least and the greatest numbers.
 const ALL_KINDS: &[u8] =
-    b"open 16 a/b.mqc 4294967295\nopen 1 0 0\nwork 1 4 18446744073709551615\nwork 2 1 0\ndrop 2 3\nask 3 2 2 1 2\nplay 4 1 0\n";
+    b"open 16 a/b.mqc 4294967295\nopen 1 0 0\nwork 1 4 18446744073709551615\nwork 2 1 0\ndrop 2 3\n\
+ask 3 2 2 1 2\nplay 4 1 0\n";
 
 /// The step in words of another order.
 fn told(alloc: Global, step: &Step<'_>) -> Result<String, Memory> {

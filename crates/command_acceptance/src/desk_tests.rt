@@ -8,16 +8,24 @@ use std::test::Fail;
 
 /// The quotients of 0.3, 0.33 and 0.75, and a certificate for 0.75 that is right up to heap 8.
 static OF_0_3: &[u8] =
-    b"mqc 1\ncode 0.3\norder 2\nstart 1\nperiod 2\nphi 1 0\nportion 1\nwords 0:1\nrow 0 1\nrow 1 0\napart 0\nend\n";
+    b"mqc 1\ncode 0.3\norder 2\nstart 1\nperiod 2\nphi 1 0\nportion 1\nwords 0:1\nrow 0 1\n\
+row 1 0\napart 0\nend\n";
 
-static OF_0_33: &[u8] =
-    b"mqc 1\ncode 0.33\norder 6\nstart 1\nperiod 3\nphi 1 2 0\nportion 1 4\nwords 0:1 0:2 1:2 2:2 3:2\nrow 0 1 2 3 4 5\nrow 1 0 3 2 5 4\nrow 2 3 4 5 2 3\nrow 3 2 5 4 3 2\nrow 4 5 2 3 4 5\nrow 5 4 3 2 5 4\napart 0 1 1 0 4 0 0 4 0 2 0 1 0 1 0\nend\n";
+static OF_0_33: &[u8] = b"mqc 1\ncode 0.33\norder 6\nstart 1\nperiod 3\nphi 1 2 0\nportion 1 4\n\
+words 0:1 0:2 1:2 2:2 3:2\nrow 0 1 2 3 4 5\nrow 1 0 3 2 5 4\nrow 2 3 4 5 2 3\nrow 3 2 5 4 3 2\n\
+row 4 5 2 3 4 5\nrow 5 4 3 2 5 4\napart 0 1 1 0 4 0 0 4 0 2 0 1 0 1 0\nend\n";
 
 static OF_0_75: &[u8] =
-    b"mqc 1\ncode 0.75\norder 8\nstart 8\nperiod 2\nphi 1 2 1 2 3 2 3 2 4\nportion 1 7\nwords 0:1 0:2 0:5 0:9 1:2 1:5 1:9\nrow 0 1 2 3 4 5 6 7\nrow 1 0 5 6 7 2 3 4\nrow 2 5 7 5 5 4 2 2\nrow 3 6 5 7 7 2 4 4\nrow 4 7 5 7 7 2 4 4\nrow 5 2 4 2 2 7 5 5\nrow 6 3 2 4 4 5 7 7\nrow 7 4 2 4 4 5 7 7\napart 0 1 1 3 1 1 0 0 0 0 0 0 4 2 1 2 2 0 1 3 3 0 1 1 0 5 0 0\nend\n";
+    b"mqc 1\ncode 0.75\norder 8\nstart 8\nperiod 2\nphi 1 2 1 2 3 2 3 2 4\nportion 1 7\n\
+words 0:1 0:2 0:5 0:9 1:2 1:5 1:9\nrow 0 1 2 3 4 5 6 7\nrow 1 0 5 6 7 2 3 4\nrow 2 5 7 5 5 4 2 2\n\
+row 3 6 5 7 7 2 4 4\nrow 4 7 5 7 7 2 4 4\nrow 5 2 4 2 2 7 5 5\nrow 6 3 2 4 4 5 7 7\n\
+row 7 4 2 4 4 5 7 7\napart 0 1 1 3 1 1 0 0 0 0 0 0 4 2 1 2 2 0 1 3 3 0 1 1 0 5 0 0\nend\n";
 
 static RIGHT_UP_TO_8: &[u8] =
-    b"mqc 1\ncode 0.75\norder 8\nstart 4\nperiod 2\nphi 1 2 1 2 3\nportion 1 6\nwords 0:1 0:2 0:5 1:2 1:5 2:2 4:2\nrow 0 1 2 3 4 5 6 7\nrow 1 0 4 5 2 3 7 6\nrow 2 4 6 4 7 2 2 4\nrow 3 5 4 6 2 7 7 6\nrow 4 2 7 2 6 4 4 2\nrow 5 3 2 7 4 6 6 7\nrow 6 7 2 7 4 6 6 7\nrow 7 6 4 6 2 7 7 6\napart 0 1 1 1 1 0 3 0 0 0 0 5 0 2 2 2 0 1 3 3 0 1 4 0 1 0 1 0\nend\n";
+    b"mqc 1\ncode 0.75\norder 8\nstart 4\nperiod 2\nphi 1 2 1 2 3\nportion 1 6\n\
+words 0:1 0:2 0:5 1:2 1:5 2:2 4:2\nrow 0 1 2 3 4 5 6 7\nrow 1 0 4 5 2 3 7 6\nrow 2 4 6 4 7 2 2 4\n\
+row 3 5 4 6 2 7 7 6\nrow 4 2 7 2 6 4 4 2\nrow 5 3 2 7 4 6 6 7\nrow 6 7 2 7 4 6 6 7\n\
+row 7 6 4 6 2 7 7 6\napart 0 1 1 1 1 0 3 0 0 0 0 5 0 2 2 2 0 1 3 3 0 1 4 0 1 0 1 0\nend\n";
 
 /// What a client asks.
 #[derive(Clone, Copy)]
@@ -82,7 +90,8 @@ fn take<A: Room + Copy>(alloc: A, desk: &mut Desk<A>, client: u8, step: Step) ->
     }
 }
 
-/// The first jobs of the clients 1 and 2 work in turn, each by its units, to their ends: after how many steps, and what is said then.
+/// The first jobs of the clients 1 and 2 work in turn, each by its units, to their ends: after how
+/// many steps, and what is said then.
 fn in_turn<A: Room + Copy>(alloc: A, desk: &mut Desk<A>, units: [u64; 2]) -> [(u64, Said); 2] {
     let mut ends = [(0, Said::Going); 2];
     for round in 1..50000u64 {
@@ -222,7 +231,8 @@ fn counts_each_jobs_units(rt: HostRuntime) -> Result<(), Fail> {
     panic!(rt; "they never ended");
 }
 
-/// After the yes of one client's job the others' equal jobs take no memory; and where a growth was refused to that one, they say yes.
+/// After the yes of one client's job the others' equal jobs take no memory; and where a growth was
+/// refused to that one, they say yes.
 #[test]
 fn shares_a_check(rt: HostRuntime) -> Result<(), Fail> {
     let ample = Ration::new(rt.alloc(), 0);

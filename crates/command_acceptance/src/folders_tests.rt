@@ -55,7 +55,8 @@ fn fails_at_one_call(rt: HostRuntime) -> Result<(), Fail> {
     Ok(())
 }
 
-/// Replaces a file beside which another's file has the first name that is tried, and says whether that succeeds.
+/// Replaces a file beside which another's file has the first name that is tried, and says whether
+/// that succeeds.
 fn replaced(alloc: Global, number: u64) -> Result<(bool, RamDisk), Memory> {
     let mut disk = RamDisk::failing(alloc, number);
     disk.keep("a", b"old text")?;

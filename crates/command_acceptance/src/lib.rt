@@ -1,4 +1,5 @@
-//! Tests of devices, files, the desk, its script, and the commands `check` and `play`, by public names alone.
+//! Tests of devices, files, the desk, its script, and the commands `check` and `play`, by public
+//! names alone.
 #![tactic(auto)]
 
 #[cfg(test)]

@@ -159,8 +159,10 @@ fn with<'a>(
     program: Result<Command<'a>, AllocError>,
     command: Result<Command<'a>, AllocError>,
 ) -> Result<Command<'a>, AllocError>
-    ensures { (above added : App) → IfOk program.entry (λ p. app_of p ≡ above) → IfOk command.entry (λ c. app_of c ≡ added)
-        → added.top.is_plain ≡ true → IfOk result (λ new. app_of new ≡ with_subcommand above added.top) }
+    ensures { (above added : App) → IfOk program.entry (λ p. app_of p ≡ above)
+        → IfOk command.entry (λ c. app_of c ≡ added)
+        → added.top.is_plain ≡ true
+        → IfOk result (λ new. app_of new ≡ with_subcommand above added.top) }
 {
     program?.subcommand(command?)
 }

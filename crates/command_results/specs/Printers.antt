@@ -5,7 +5,8 @@ use Rattle.streams.specs.Stream.{AppendsSome}
 use Rattle.command_results.specs.Stops.{stop_line}
 use Rattle.command_results.specs.declared.stop.Stop.TheVariants.{Write}
 
--- Standard output or standard error: the bytes that it took, where they are known, and how often it failed.
+-- Standard output or standard error: the bytes that it took, where they are known, and how often it
+-- failed.
 pub record Printer : Type 0 where
   pub taken : Option (List ℕ)
   pub failures : ℕ
@@ -19,17 +20,22 @@ Prints before after text = Appends before.taken after.taken text
 
 -- a beginning of the text went out, and then the printer failed
 abbrev pub PrintsSome : Printer → Printer → List ℕ → Type 0
-PrintsSome before after text = AppendsSome before.taken after.taken text × (before.failures < after.failures)
+PrintsSome before after text = AppendsSome before.taken after.taken text
+    × (before.failures < after.failures)
 
 -- the line went out, all of it unless the printer failed, and then a beginning
 abbrev pub Tells : Printer → Printer → List ℕ → Type 0
 Tells before after line =
-    AppendsSome before.taken after.taken line × (after.failures ≡ before.failures → Appends before.taken after.taken line)
+    AppendsSome before.taken after.taken line
+    × (after.failures ≡ before.failures → Appends before.taken after.taken line)
 
--- A text was printed, and the status is that of its run; or standard output failed, which is told, with status 3.
+-- A text was printed, and the status is that of its run; or standard output failed, which is told,
+-- with status 3.
 pub data Printed (out out' err err' : Printer) (text : List ℕ) (well status : ℕ) : Type 0 where
-  Whole : Prints out out' text → err' ≡ err → status ≡ well → Printed out out' err err' text well status
-  Part : PrintsSome out out' text → Tells err err' (stop_line Write) → status ≡ 3 → Printed out out' err err' text well status
+  Whole : Prints out out' text → err' ≡ err → status ≡ well
+      → Printed out out' err err' text well status
+  Part : PrintsSome out out' text → Tells err err' (stop_line Write) → status ≡ 3
+      → Printed out out' err err' text well status
 
 -- 0 for what ends well, 1 for a no or a refusal
 abbrev pub status_if : Bool → ℕ

@@ -1,4 +1,5 @@
--- What stops a command before anything is printed: the status, the line on standard error, and when it is answered. This project's own.
+-- What stops a command before anything is printed: the status, the line on standard error, and when
+-- it is answered. This project's own.
 use Rattle.std.specs.Prelude.{◌≡◌, ◌<◌, ⊤, ℕ, List, ◌++◌, codes}
 use Rattle.command_results.specs.declared.stop.Stop.{Stop}
 use Rattle.command_results.specs.declared.stop.Stop.TheVariants.{Read, Write, Memory, NotAPosition, NotACode, NotUtf8}

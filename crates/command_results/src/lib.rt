@@ -1,4 +1,5 @@
-//! What commands give: a text that is printed, or why they stop before anything is; and how either goes out.
+//! What commands give: a text that is printed, or why they stop before anything is; and how either
+//! goes out.
 #![tactic(auto)]
 
 mod files;

@@ -42,8 +42,10 @@ impl Said {
 
     /// Prints it, and answers the exit status; where standard output fails, tells so.
     pub fn print<W: Sink, E: Sink>(&self, out: &mut W, err: &mut E) -> u8
-        ensures printed { Printed (printer (W.taken out.old) (W.failures out.old)) (printer (W.taken out.new) (W.failures out.new))
-            (printer (E.taken err.old) (E.failures err.old)) (printer (E.taken err.new) (E.failures err.new))
+        ensures printed { Printed (printer (W.taken out.old) (W.failures out.old))
+            (printer (W.taken out.new) (W.failures out.new))
+            (printer (E.taken err.old) (E.failures err.old))
+            (printer (E.taken err.new) (E.failures err.new))
             self.now.text.items (status_if self.now.well) result }
         ensures quiet { result ≤ 1 → err.new ≡ err.old }
     {

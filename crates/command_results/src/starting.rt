@@ -34,7 +34,8 @@ pub fn words_of<R: Env + AllocGlobal>(rt: &R) -> Result<Vec<String>, Stop<'stati
 /// Tells why the program ends before it runs.
 pub fn stopped<E: Sink>(stop: Stop<'_>, err: &mut E) -> ExitCode
     ensures status { exit_status result ≡ stop_status stop.entry }
-    ensures told { Tells (printer (E.taken err.old) (E.failures err.old)) (printer (E.taken err.new) (E.failures err.new)) (stop_line stop.entry) }
+    ensures told { Tells (printer (E.taken err.old) (E.failures err.old))
+        (printer (E.taken err.new) (E.failures err.new)) (stop_line stop.entry) }
 {
     stop.tell(err);
     ExitCode::from(stop.status())

@@ -40,7 +40,8 @@ impl Stop<'_> {
 
     /// Tells the reason on standard error.
     pub fn tell<E: Sink>(self, err: &mut E)
-        ensures { Tells (printer (E.taken err.old) (E.failures err.old)) (printer (E.taken err.new) (E.failures err.new)) (stop_line self.entry) }
+        ensures { Tells (printer (E.taken err.old) (E.failures err.old))
+            (printer (E.taken err.new) (E.failures err.new)) (stop_line self.entry) }
     {
         match self {
             Stop::Read(name) => tell(err, "misere: cannot read ", name, "\n"),

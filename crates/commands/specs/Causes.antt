@@ -35,19 +35,24 @@ stop_of stopped.Write = Write
 stop_of stopped.Memory = Memory
 stop_of stopped.NotACode = NotACode
 
-abbrev pub IsCatalogueCause : List ℕ → CatalogueRequest → catalogue.Failed → catalogue.Failed → Stop → Type 0
-IsCatalogueCause file task before after stop = (cause : CatalogueStop) × (stop ≡ stop_of cause) × StopsTask file task before after cause
+abbrev pub IsCatalogueCause : List ℕ → CatalogueRequest → catalogue.Failed → catalogue.Failed → Stop
+    → Type 0
+IsCatalogueCause file task before after stop = (cause : CatalogueStop) × (stop ≡ stop_of cause)
+    × StopsTask file task before after cause
 
--- Why each request may stop before anything is printed, by the failures before and after. A script has an end of its own.
+-- Why each request may stop before anything is printed, by the failures before and after. A script
+-- has an end of its own.
 abbrev pub IsCause : Request → Failed → Failed → Stop → Type 0
 IsCause (Check None limit) before after stop = IsInputCause before.input after.input stop
 IsCause (Check (Some file) limit) before after stop = IsFileCause file before.reads after.reads stop
 IsCause (Solve code limit rounds heaps order) before after stop = IsSolveCause code stop
 IsCause (Show file) before after stop = IsFileCause file before.reads after.reads stop
-IsCause (Play file position) before after stop = IsPlayCause file position before.reads after.reads stop
+IsCause (Play file position) before after stop =
+    IsPlayCause file position before.reads after.reads stop
 IsCause (Present text) before after stop = IsMemory stop
 IsCause (Catalogue file task) before after stop =
-    IsCatalogueCause file task (catalogue.failed before.reads before.writes) (catalogue.failed after.reads after.writes) stop
+    IsCatalogueCause file task (catalogue.failed before.reads before.writes)
+    (catalogue.failed after.reads after.writes) stop
 IsCause (Desk script) before after stop = ⊥
 
 -- the request reads standard input

@@ -10,8 +10,8 @@ use Rattle.desk_command.specs.Ends.{EndsScript}
 use Rattle.requests.specs.Requests.{Request}
 use Rattle.requests.specs.Requests.Request.{Desk}
 
--- What can be seen of a run's devices: what is left of standard input, the files, how often each failed, what was printed and
--- what was told; the bytes where they are known.
+-- What can be seen of a run's devices: what is left of standard input, the files, how often each
+-- failed, what was printed and what was told; the bytes where they are known.
 pub record Scene : Type 0 where
   pub input : Option (List ℕ)
   pub files : Option (List ℕ → Option (List ℕ))
@@ -19,16 +19,25 @@ pub record Scene : Type 0 where
   pub out : Printer
   pub err : Printer
 
-abbrev pub scene : Option (List ℕ) → Option (List ℕ → Option (List ℕ)) → Failed → Printer → Printer → Scene
-scene input files failed out err = record { input = input; files = files; failed = failed; out = out; err = err }
+abbrev pub scene : Option (List ℕ) → Option (List ℕ → Option (List ℕ)) → Failed → Printer → Printer
+    → Scene
+scene input files failed out err =
+    record { input = input; files = files; failed = failed; out = out; err = err }
 
--- What a run did that was asked for this, and ended with this status: it said so, and no file has changed but the one that the request
--- writes where it ends well; or it stopped before anything was printed, for a cause of this request, and every file is as it was; or it took the
--- steps of a script, to its end or not, and every file is as it was.
+-- What a run did that was asked for this, and ended with this status: it said so, and no file has
+-- changed but the one that the request writes where it ends well; or it stopped before anything was
+-- printed, for a cause of this request, and every file is as it was; or it took the steps of a
+-- script, to its end or not, and every file is as it was.
 pub data Obeys (request : Request) (old new : Scene) (status : ℕ) : Type 0 where
-  Done : (text : List ℕ) (well : Bool) → Says old.input old.files new.files request text well → Leaves (file_written request well) old.files new.files
-      → Printed old.out new.out old.err new.err text (status_if well) status → Obeys request old new status
-  Stopped : (stop : Stop) → IsCause request old.failed new.failed stop → new.files ≡ old.files → new.out ≡ old.out
-      → Tells old.err new.err (stop_line stop) → status ≡ stop_status stop → Obeys request old new status
-  Stepped : (script : List ℕ) → request ≡ Desk script → EndsScript old.files script old.failed.reads new.failed.reads old.out new.out old.err new.err status
+  Done : (text : List ℕ) (well : Bool) → Says old.input old.files new.files request text well
+      → Leaves (file_written request well) old.files new.files
+      → Printed old.out new.out old.err new.err text (status_if well) status
+      → Obeys request old new status
+  Stopped : (stop : Stop) → IsCause request old.failed new.failed stop → new.files ≡ old.files
+      → new.out ≡ old.out
+      → Tells old.err new.err (stop_line stop) → status ≡ stop_status stop
+      → Obeys request old new status
+  Stepped : (script : List ℕ) → request ≡ Desk script
+      → EndsScript old.files script old.failed.reads new.failed.reads old.out new.out old.err
+      new.err status
       → new.files ≡ old.files → Obeys request old new status

@@ -19,8 +19,9 @@ use solve_command::SolveBounds;
 use std::alloc::Global;
 use streams::Source;
 
-/// What is said of what is planned, which is no script. Every file stays as it is but the one that the plan writes where it ends well; standard input and
-/// the files are left alone by the plans that don't read them, and by words that are refused.
+/// What is said of what is planned, which is no script. Every file stays as it is but the one that
+/// the plan writes where it ends well; standard input and the files are left alone by the plans
+/// that don't read them, and by words that are refused.
 pub(crate) fn carry_out<'a, F: Folder, S: Source>(
     alloc: Global,
     plan: Plan<'a>,
@@ -28,8 +29,12 @@ pub(crate) fn carry_out<'a, F: Folder, S: Source>(
     input: &mut S,
 ) -> Result<Said, Stop<'a>>
     requires no_script { runs_script (Some (request_of plan)) ≡ false }
-    ensures says { IfOk result (λ s. Says (S.left input.old) (F.files folder.old) (F.files folder.new) (request_of plan.entry) s.text.items s.well) }
-    ensures leaves { IfOk result (λ s. Leaves (file_written (request_of plan.entry) s.well) (F.files folder.old) (F.files folder.new)) }
+    ensures says { IfOk result
+        (λ s. Says (S.left input.old) (F.files folder.old) (F.files folder.new)
+        (request_of plan.entry) s.text.items s.well) }
+    ensures leaves { IfOk result
+        (λ s. Leaves (file_written (request_of plan.entry) s.well) (F.files folder.old)
+        (F.files folder.new)) }
     ensures kept { OnErr result (F.files folder.new ≡ F.files folder.old) }
     ensures stops { IfErr result (IsCause (request_of plan.entry)
         (failed (S.failures input.old) (F.failed_reads folder.old) (F.failed_writes folder.old))

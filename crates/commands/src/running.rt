@@ -12,9 +12,11 @@ use requests::Plan;
 use std::alloc::Global;
 use streams::{Sink, Source};
 
-/// Does what is planned, prints what is said of it or tells why it stopped, and answers the status: 0 where it ends well, 1 for a no or
-/// a refusal, 2 for a text that can't be read or a script with a line that isn't a step, 3 where a device failed or memory was wanting. No file is changed but the one that the plan
-/// writes where it ends well; standard input and the files are left alone by the plans that don't read them.
+/// Does what is planned, prints what is said of it or tells why it stopped, and answers the status:
+/// 0 where it ends well, 1 for a no or a refusal, 2 for a text that can't be read or a script with
+/// a line that isn't a step, 3 where a device failed or memory was wanting. No file is changed but
+/// the one that the plan writes where it ends well; standard input and the files are left alone by
+/// the plans that don't read them.
 pub fn run_plan<F: Folder, S: Source, W: Sink, E: Sink>(
     alloc: Global,
     plan: Plan<'_>,
@@ -24,12 +26,17 @@ pub fn run_plan<F: Folder, S: Source, W: Sink, E: Sink>(
     err: &mut E,
 ) -> u8
     ensures obeys { Obeys (request_of plan.entry)
-        (scene (S.left input.old) (F.files folder.old) (failed (S.failures input.old) (F.failed_reads folder.old) (F.failed_writes folder.old))
-        (printer (W.taken out.old) (W.failures out.old)) (printer (E.taken err.old) (E.failures err.old)))
-        (scene (S.left input.new) (F.files folder.new) (failed (S.failures input.new) (F.failed_reads folder.new) (F.failed_writes folder.new))
-        (printer (W.taken out.new) (W.failures out.new)) (printer (E.taken err.new) (E.failures err.new))) result }
+        (scene (S.left input.old) (F.files folder.old)
+        (failed (S.failures input.old) (F.failed_reads folder.old) (F.failed_writes folder.old))
+        (printer (W.taken out.old) (W.failures out.old))
+        (printer (E.taken err.old) (E.failures err.old)))
+        (scene (S.left input.new) (F.files folder.new)
+        (failed (S.failures input.new) (F.failed_reads folder.new) (F.failed_writes folder.new))
+        (printer (W.taken out.new) (W.failures out.new))
+        (printer (E.taken err.new) (E.failures err.new))) result }
     ensures quiet { result ≤ 1 → err.new ≡ err.old }
-    ensures usage { runs_script (Some (request_of plan.entry)) ≡ false → result ≡ 2 → folder.new ≡ folder.old }
+    ensures usage { runs_script (Some (request_of plan.entry)) ≡ false → result ≡ 2
+        → folder.new ≡ folder.old }
     ensures input { reads_input (Some (request_of plan.entry)) ≡ false → input.new ≡ input.old }
     ensures folder { takes_files (Some (request_of plan.entry)) ≡ false → folder.new ≡ folder.old }
 {

@@ -25,27 +25,40 @@ use Rattle.desk.specs.declared.reply.StepFault.TheVariants as fault
 use Rattle.desk.specs.Desks.{core_at, slot_at, seen, job_in, IsDesk}
 use Rattle.desk.proofs.Gone.{core_found}
 
-pub ended_job : (places : List (Option Slot)) (cores : List (Option JobView)) (i : ℕ) (s : Slot) (core : JobView) (d : Option JobView)
-    → IsDesk places cores → get_or places i None ≡ Some s → s.standing ≡ Ended → get_or cores s.core d ≡ Some core
+pub ended_job : (places : List (Option Slot)) (cores : List (Option JobView)) (i : ℕ) (s : Slot)
+    (core : JobView) (d : Option JobView)
+    → IsDesk places cores → get_or places i None ≡ Some s → s.standing ≡ Ended
+    → get_or cores s.core d ≡ Some core
     → (job : JobView) × (job_in cores (slot_at places i) ≡ Some job) × (job.ended ≡ core.ended)
 ended_job places cores i s core d desk at ends found =
     let held = desk.held i s at in
-    let here : core_at cores s.core ≡ Some core = core_found places cores i s core d desk at found in
+    let here : core_at cores s.core ≡ Some core = core_found places cores i s core d desk at found
+    in
     let is : held.0 ≡ core = cc in
-    let stands : (s.spent ≡ cost held.0.bytes held.0.limit) × (held.0.ended ≡ Some (verdict held.0.bytes held.0.limit)) = subst (λ (x : Standing). StandsBeside x s.spent held.0) ends held.2 in
-    let e : core.ended ≡ Some (verdict core.bytes core.limit) = subst (λ (c : JobView). c.ended ≡ Some (verdict c.bytes c.limit)) is stands.1 in
-    (job_of core s, ap (job_in cores) at ∙ ap (λ c. seen c s) here, ap (λ x. ending x (verdict core.bytes core.limit)) ends ∙ sym e)
+    let stands : (s.spent ≡ cost held.0.bytes held.0.limit)
+    × (held.0.ended ≡ Some (verdict held.0.bytes held.0.limit)) =
+    subst (λ (x : Standing). StandsBeside x s.spent held.0) ends held.2 in
+    let e : core.ended ≡ Some (verdict core.bytes core.limit) =
+    subst (λ (c : JobView). c.ended ≡ Some (verdict c.bytes c.limit)) is stands.1 in (
+      job_of core s,
+      ap (job_in cores) at ∙ ap (λ c. seen c s) here,
+      ap (λ x. ending x (verdict core.bytes core.limit)) ends ∙ sym e,
+    )
 
-pub told_ended : (o : Option JobView) (job : JobView) (a : Option Answer) → o ≡ Some job → job.ended ≡ a → told a ≡ told_of o
+pub told_ended : (o : Option JobView) (job : JobView) (a : Option Answer) → o ≡ Some job
+    → job.ended ≡ a → told a ≡ told_of o
 told_ended o job a is e = sym (ap told_of is ∙ ap told e)
 
 -- The certificate of such a job, and what it says of a position
 
-pub certifies_yes : (o : Option JobView) (job : JobView) (lent : Bor Certificate) → o ≡ Some job → job.ended ≡ Some (Yes lent.now) → Certifies o (Ok lent)
+pub certifies_yes : (o : Option JobView) (job : JobView) (lent : Bor Certificate) → o ≡ Some job
+    → job.ended ≡ Some (Yes lent.now) → Certifies o (Ok lent)
 certifies_yes o job lent is e =
-    subst (λ (q : Option JobView). Certifies q (Ok lent)) (sym is) (subst (λ (a : Option Answer). CertifiesBy a (Ok lent)) (sym e) (lent, refl, refl))
+    subst (λ (q : Option JobView). Certifies q (Ok lent)) (sym is)
+    (subst (λ (a : Option Answer). CertifiesBy a (Ok lent)) (sym e) (lent, refl, refl))
 
-no_certificate : {A : Type 0} (r : Refusal A) → CertifiesBy (Some (refused r)) (Err fault.NotCertified)
+no_certificate : {A : Type 0} (r : Refusal A)
+    → CertifiesBy (Some (refused r)) (Err fault.NotCertified)
 no_certificate refusing.Text = refl
 no_certificate refusing.Law = refl
 no_certificate refusing.Word = refl
@@ -56,31 +69,39 @@ no_certificate (refusing.Outcome code X) = refl
 no_certificate refusing.Limit = refl
 no_certificate refusing.Memory = refl
 
-pub certifies_no : {A : Type 0} (o : Option JobView) (job : JobView) (r : Refusal A) → o ≡ Some job → job.ended ≡ Some (refused r) → Certifies o (Err fault.NotCertified)
+pub certifies_no : {A : Type 0} (o : Option JobView) (job : JobView) (r : Refusal A) → o ≡ Some job
+    → job.ended ≡ Some (refused r) → Certifies o (Err fault.NotCertified)
 certifies_no o job r is e =
     subst (λ (q : Option JobView). Certifies q (Err fault.NotCertified)) (sym is)
-    (subst (λ (a : Option Answer). CertifiesBy a (Err fault.NotCertified)) (sym e) (no_certificate r))
+    (subst (λ (a : Option Answer). CertifiesBy a (Err fault.NotCertified)) (sym e)
+    (no_certificate r))
 
-pub certifies_going : (o : Option JobView) (job : JobView) → o ≡ Some job → job.ended ≡ None → Certifies o (Err fault.NotCertified)
+pub certifies_going : (o : Option JobView) (job : JobView) → o ≡ Some job → job.ended ≡ None
+    → Certifies o (Err fault.NotCertified)
 certifies_going o job is e =
     subst (λ (q : Option JobView). Certifies q (Err fault.NotCertified)) (sym is)
     (subst (λ (a : Option Answer). CertifiesBy a (Err fault.NotCertified)) (sym e) refl)
 
 -- a slot that goes on or memory was wanting to, beside its core
-pub certifies_not_ended : (places : List (Option Slot)) (cores : List (Option JobView)) (i : ℕ) (s : Slot) → IsDesk places cores → get_or places i None ≡ Some s
+pub certifies_not_ended : (places : List (Option Slot)) (cores : List (Option JobView)) (i : ℕ)
+    (s : Slot) → IsDesk places cores → get_or places i None ≡ Some s
     → s.standing ≢ Ended → Certifies (job_in cores (slot_at places i)) (Err fault.NotCertified)
 certifies_not_ended places cores i s desk at not_ended =
     let held = desk.held i s at in
-    let is : job_in cores (slot_at places i) ≡ Some (job_of held.0 s) = ap (job_in cores) at ∙ ap (λ c. seen c s) held.1 in
-    subst (λ (q : Option JobView). Certifies q (Err fault.NotCertified)) (sym is) (standing_case s.standing (verdict held.0.bytes held.0.limit) not_ended)
+    let is : job_in cores (slot_at places i) ≡ Some (job_of held.0 s) =
+    ap (job_in cores) at ∙ ap (λ c. seen c s) held.1 in
+    subst (λ (q : Option JobView). Certifies q (Err fault.NotCertified)) (sym is)
+    (standing_case s.standing (verdict held.0.bytes held.0.limit) not_ended)
   where
-    standing_case : (d : Standing) (v : Answer) → d ≢ Ended → CertifiesBy (ending d v) (Err fault.NotCertified)
+    standing_case : (d : Standing) (v : Answer) → d ≢ Ended
+        → CertifiesBy (ending d v) (Err fault.NotCertified)
     standing_case Going v apart = refl
     standing_case Ended v apart = absurd (apart refl)
     standing_case Starved v apart = refl
 
 module _ (found : Result (Bor Certificate) StepFault) where
-  yes_by : (e : Option Answer) (lent : Bor Certificate) → CertifiesBy e found → found ≡ Ok lent → e ≡ Some (Yes lent.now)
+  yes_by : (e : Option Answer) (lent : Bor Certificate) → CertifiesBy e found → found ≡ Ok lent
+      → e ≡ Some (Yes lent.now)
   yes_by (Some (Yes c)) lent f g =
       let same : Ok f.0 ≡ Ok lent = sym f.1 ∙ g in
       let is : f.0 ≡ lent = cc in
@@ -97,9 +118,11 @@ module _ (found : Result (Bor Certificate) StepFault) where
   yes_by None lent f g = absurd (cc)
 
   says_no : StepFault → Option Answer → Type 0
-  says_no f e = (refusal f ≡ NotCertified) × ((X : List ℕ) → Outcomes e X NotCertified × Advices e X NotCertified)
+  says_no f e = (refusal f ≡ NotCertified)
+      × ((X : List ℕ) → Outcomes e X NotCertified × Advices e X NotCertified)
 
-  not_certified : (f : StepFault) → found ≡ Err fault.NotCertified → found ≡ Err f → refusal f ≡ NotCertified
+  not_certified : (f : StepFault) → found ≡ Err fault.NotCertified → found ≡ Err f
+      → refusal f ≡ NotCertified
   not_certified f e g = let is : fault.NotCertified ≡ f = cc in ap refusal (sym is)
 
   no_by : (e : Option Answer) (f : StepFault) → CertifiesBy e found → found ≡ Err f → says_no f e
@@ -117,24 +140,36 @@ module _ (found : Result (Bor Certificate) StepFault) where
   no_by None f h g = (not_certified f h g, λ X. (refl, refl))
 
   module _ (jobs : Jobs) (X : List ℕ) where
-    pub asks_yes : (o : Option JobView) (lent : Bor Certificate) (out : Told) → Certifies o found → found ≡ Ok lent → HasOutcome lent.now.code X out
+    pub asks_yes : (o : Option JobView) (lent : Bor Certificate) (out : Told) → Certifies o found
+        → found ≡ Ok lent → HasOutcome lent.now.code X out
         → Asks jobs X o (Tells out) jobs
     asks_yes None lent out h g has = absurd (cc)
-    asks_yes (Some job) lent out h g has =
-        (subst (λ (a : Option Answer). Outcomes a X (Tells out)) (sym (yes_by job.ended lent h g)) (out, refl, has), refl)
+    asks_yes (Some job) lent out h g has = (
+      subst (λ (a : Option Answer). Outcomes a X (Tells out)) (sym (yes_by job.ended lent h g))
+          (out, refl, has),
+      refl,
+    )
 
-    pub asks_no : (o : Option JobView) (f : StepFault) → Certifies o found → found ≡ Err f → Asks jobs X o (refusal f) jobs
+    pub asks_no : (o : Option JobView) (f : StepFault) → Certifies o found → found ≡ Err f
+        → Asks jobs X o (refusal f) jobs
     unfolding says_no
     asks_no None f h g = let is : fault.NoJob ≡ f = cc in (ap refusal (sym is), refl)
-    asks_no (Some job) f h g = let no = no_by job.ended f h g in (subst (λ (r : Reply). Outcomes job.ended X r) (sym no.0) (no.1 X).0, refl)
+    asks_no (Some job) f h g = let no = no_by job.ended f h g in
+        (subst (λ (r : Reply). Outcomes job.ended X r) (sym no.0) (no.1 X).0, refl)
 
-    pub plays_yes : (o : Option JobView) (lent : Bor Certificate) (advice : Advice) → Certifies o found → found ≡ Ok lent → IsRightAnswer lent.now.code X advice
+    pub plays_yes : (o : Option JobView) (lent : Bor Certificate) (advice : Advice)
+        → Certifies o found → found ≡ Ok lent → IsRightAnswer lent.now.code X advice
         → Plays jobs X o (Advises advice) jobs
     plays_yes None lent advice h g right = absurd (cc)
-    plays_yes (Some job) lent advice h g right =
-        (subst (λ (a : Option Answer). Advices a X (Advises advice)) (sym (yes_by job.ended lent h g)) (advice, refl, right), refl)
+    plays_yes (Some job) lent advice h g right = (
+      subst (λ (a : Option Answer). Advices a X (Advises advice))
+          (sym (yes_by job.ended lent h g)) (advice, refl, right),
+      refl,
+    )
 
-    pub plays_no : (o : Option JobView) (f : StepFault) → Certifies o found → found ≡ Err f → Plays jobs X o (refusal f) jobs
+    pub plays_no : (o : Option JobView) (f : StepFault) → Certifies o found → found ≡ Err f
+        → Plays jobs X o (refusal f) jobs
     unfolding says_no
     plays_no None f h g = let is : fault.NoJob ≡ f = cc in (ap refusal (sym is), refl)
-    plays_no (Some job) f h g = let no = no_by job.ended f h g in (subst (λ (r : Reply). Advices job.ended X r) (sym no.0) (no.1 X).1, refl)
+    plays_no (Some job) f h g = let no = no_by job.ended f h g in
+        (subst (λ (r : Reply). Advices job.ended X r) (sym no.0) (no.1 X).1, refl)

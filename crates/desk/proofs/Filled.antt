@@ -15,43 +15,67 @@ use Rattle.desk.proofs.Lists.{push_case, with_here, with_other}
 use Rattle.desk.proofs.Seen.{is_seen, job_at_place}
 
 -- beside these cores, and the jobs that are seen are the same
-pub record IsDeskFor (places : List (Option Slot)) (cores cores' : List (Option JobView)) (bytes : List ℕ) (limit k : ℕ) : Type 0 where
-  pub held : (i : ℕ) (s : Slot) → slot_at places i ≡ Some s → (core : JobView) × (core_at cores' s.core ≡ Some core) × StandsBeside s.standing s.spent core
+pub record IsDeskFor (places : List (Option Slot)) (cores cores' : List (Option JobView))
+    (bytes : List ℕ) (limit k : ℕ) : Type 0 where
+  pub held : (i : ℕ) (s : Slot) → slot_at places i ≡ Some s
+      → (core : JobView) × (core_at cores' s.core ≡ Some core)
+      × StandsBeside s.standing s.spent core
   pub used : (l : ℕ) (a : JobView) → core_at cores' l ≡ Some a → (k ≡ l) ⊎ HasSlot places l
   pub sound : (l : ℕ) (a : JobView) → core_at cores' l ≡ Some a → a.ended ≢ Some Memory
-  pub apart : (l m : ℕ) (a b : JobView) → core_at cores' l ≡ Some a → core_at cores' m ≡ Some b → a.bytes ≡ b.bytes → a.limit ≡ b.limit → l ≡ m
+  pub apart : (l m : ℕ) (a b : JobView) → core_at cores' l ≡ Some a → core_at cores' m ≡ Some b
+      → a.bytes ≡ b.bytes → a.limit ≡ b.limit → l ≡ m
   pub core : IsCoreOf cores' bytes limit k
-  pub stay : (j : ℕ) (r : Slot) → slot_at places j ≡ Some r → core_at cores' r.core ≡ core_at cores r.core
+  pub stay : (j : ℕ) (r : Slot) → slot_at places j ≡ Some r
+      → core_at cores' r.core ≡ core_at cores r.core
 
-module _ (places : List (Option Slot)) (cores cores' : List (Option JobView)) (bytes : List ℕ) (limit k : ℕ) (desk : IsDesk places cores)
-    (none : HasNoCore cores bytes limit) (free : core_at cores k ≡ None) (added : IsWith cores k (Some (fresh bytes limit)) cores') where
-  stay_case : (r : Slot) → (c : JobView) → core_at cores r.core ≡ Some c → (b : Bool) → (k == r.core) ≡ b → core_at cores' r.core ≡ core_at cores r.core
-  stay_case r c at true e = let empty : core_at cores r.core ≡ None = ap (λ n. core_at cores n) (sym (eqb-true k r.core e)) ∙ free in absurd (cc)
+module _ (places : List (Option Slot)) (cores cores' : List (Option JobView)) (bytes : List ℕ)
+    (limit k : ℕ) (desk : IsDesk places cores)
+    (none : HasNoCore cores bytes limit) (free : core_at cores k ≡ None)
+    (added : IsWith cores k (Some (fresh bytes limit)) cores') where
+  stay_case : (r : Slot) → (c : JobView) → core_at cores r.core ≡ Some c → (b : Bool)
+      → (k == r.core) ≡ b → core_at cores' r.core ≡ core_at cores r.core
+  stay_case r c at true e = let empty : core_at cores r.core ≡ None =
+      ap (λ n. core_at cores n) (sym (eqb-true k r.core e)) ∙ free in absurd (cc)
   stay_case r c at false e = with_other cores cores' k r.core (Some (fresh bytes limit)) added e
 
-  stay_added : (j : ℕ) (r : Slot) → slot_at places j ≡ Some r → core_at cores' r.core ≡ core_at cores r.core
+  stay_added : (j : ℕ) (r : Slot) → slot_at places j ≡ Some r
+      → core_at cores' r.core ≡ core_at cores r.core
   stay_added j r at = let held = desk.held j r at in stay_case r held.0 held.1 (k == r.core) refl
 
   -- a core is the new one or an old one
-  added_case : (l : ℕ) (a : JobView) → core_at cores' l ≡ Some a → (b : Bool) → (k == l) ≡ b → ((k ≡ l) × (a ≡ fresh bytes limit)) ⊎ (core_at cores l ≡ Some a)
+  added_case : (l : ℕ) (a : JobView) → core_at cores' l ≡ Some a → (b : Bool) → (k == l) ≡ b
+      → ((k ≡ l) × (a ≡ fresh bytes limit)) ⊎ (core_at cores l ≡ Some a)
   added_case l a at true e =
-      let here : core_at cores' l ≡ Some (fresh bytes limit) = ap (λ n. core_at cores' n) (sym (eqb-true k l e)) ∙ with_here cores cores' k (Some (fresh bytes limit)) added in
+      let here : core_at cores' l ≡ Some (fresh bytes limit) =
+      ap (λ n. core_at cores' n) (sym (eqb-true k l e))
+      ∙ with_here cores cores' k (Some (fresh bytes limit)) added in
       inl (eqb-true k l e, cc)
-  added_case l a at false e = inr (sym (with_other cores cores' k l (Some (fresh bytes limit)) added e) ∙ at)
+  added_case l a at false e =
+      inr (sym (with_other cores cores' k l (Some (fresh bytes limit)) added e) ∙ at)
 
-  sound_case : (l : ℕ) (a : JobView) → ((k ≡ l) × (a ≡ fresh bytes limit)) ⊎ (core_at cores l ≡ Some a) → a.ended ≢ Some Memory
-  sound_case l a (inl new) = λ e. let n : a.ended ≡ None = ap (λ (c : JobView). c.ended) new.1 in absurd (cc)
+  sound_case : (l : ℕ) (a : JobView) → ((k ≡ l) × (a ≡ fresh bytes limit))
+      ⊎ (core_at cores l ≡ Some a) → a.ended ≢ Some Memory
+  sound_case l a (inl new) = λ e. let n : a.ended ≡ None = ap (λ (c : JobView). c.ended) new.1 in
+      absurd (cc)
   sound_case l a (inr old) = desk.sound l a old
 
-  used_case : (l : ℕ) (a : JobView) → ((k ≡ l) × (a ≡ fresh bytes limit)) ⊎ (core_at cores l ≡ Some a) → (k ≡ l) ⊎ HasSlot places l
+  used_case : (l : ℕ) (a : JobView) → ((k ≡ l) × (a ≡ fresh bytes limit))
+      ⊎ (core_at cores l ≡ Some a) → (k ≡ l) ⊎ HasSlot places l
   used_case l a (inl new) = inl new.0
   used_case l a (inr old) = inr (desk.used l a old)
 
-  apart_case : (l m : ℕ) (a b : JobView) → ((k ≡ l) × (a ≡ fresh bytes limit)) ⊎ (core_at cores l ≡ Some a) → ((k ≡ m) × (b ≡ fresh bytes limit)) ⊎ (core_at cores m ≡ Some b)
+  apart_case : (l m : ℕ) (a b : JobView) → ((k ≡ l) × (a ≡ fresh bytes limit))
+      ⊎ (core_at cores l ≡ Some a) → ((k ≡ m) × (b ≡ fresh bytes limit))
+      ⊎ (core_at cores m ≡ Some b)
       → a.bytes ≡ b.bytes → a.limit ≡ b.limit → l ≡ m
   apart_case l m a b (inl x) (inl y) e f = sym x.0 ∙ y.0
-  apart_case l m a b (inl x) (inr y) e f = absurd (none m b y (sym e ∙ ap (λ (c : JobView). c.bytes) x.1) (sym f ∙ ap (λ (c : JobView). c.limit) x.1))
-  apart_case l m a b (inr x) (inl y) e f = absurd (none l a x (e ∙ ap (λ (c : JobView). c.bytes) y.1) (f ∙ ap (λ (c : JobView). c.limit) y.1))
+  apart_case l m a b (inl x) (inr y) e f =
+      absurd
+      (none m b y (sym e ∙ ap (λ (c : JobView). c.bytes) x.1)
+      (sym f ∙ ap (λ (c : JobView). c.limit) x.1))
+  apart_case l m a b (inr x) (inl y) e f =
+      absurd
+      (none l a x (e ∙ ap (λ (c : JobView). c.bytes) y.1) (f ∙ ap (λ (c : JobView). c.limit) y.1))
   apart_case l m a b (inr x) (inr y) e f = desk.apart l m a b x y e f
 
   pub desk_added : IsDeskFor places cores cores' bytes limit k
@@ -59,15 +83,20 @@ module _ (places : List (Option Slot)) (cores cores' : List (Option JobView)) (b
     held = λ j r at. let held = desk.held j r at in (held.0, stay_added j r at ∙ held.1, held.2);
     used = λ l a at. used_case l a (added_case l a at (k == l) refl);
     sound = λ l a at. sound_case l a (added_case l a at (k == l) refl);
-    apart = λ l m a b at bt. apart_case l m a b (added_case l a at (k == l) refl) (added_case m b bt (k == m) refl);
-    core = (fresh bytes limit, with_here cores cores' k (Some (fresh bytes limit)) added, refl, refl);
+    apart =
+        λ l m a b at bt. apart_case l m a b (added_case l a at (k == l) refl)
+        (added_case m b bt (k == m) refl);
+    core =
+        (fresh bytes limit, with_here cores cores' k (Some (fresh bytes limit)) added, refl, refl);
     stay = stay_added;
   }
 
-pub desk_for : (places : List (Option Slot)) (cores cores' : List (Option JobView)) (bytes : List ℕ) (limit k : ℕ) → IsDesk places cores
+pub desk_for : (places : List (Option Slot)) (cores cores' : List (Option JobView)) (bytes : List ℕ)
+    (limit k : ℕ) → IsDesk places cores
     → IsCoreFor cores bytes limit k cores' → IsDeskFor places cores cores' bytes limit k
 desk_for places cores cores' bytes limit k desk (inl old) =
-    subst (λ (now : List (Option JobView)). IsDeskFor places cores now bytes limit k) (sym old.1) (record {
+    subst (λ (now : List (Option JobView)). IsDeskFor places cores now bytes limit k) (sym old.1)
+    (record {
       held = desk.held;
       used = λ l a at. inr (desk.used l a at);
       sound = desk.sound;
@@ -75,88 +104,128 @@ desk_for places cores cores' bytes limit k desk (inl old) =
       core = old.0;
       stay = λ j r at. refl;
     })
-desk_for places cores cores' bytes limit k desk (inr new) = desk_added places cores cores' bytes limit k desk new.0 new.1 new.2
+desk_for places cores cores' bytes limit k desk (inr new) =
+    desk_added places cores cores' bytes limit k desk new.0 new.1 new.2
 
-module _ (places places' : List (Option Slot)) (cores cores' : List (Option JobView)) (bytes : List ℕ) (limit k i : ℕ) (found : IsDeskFor places cores cores' bytes limit k)
-    (costs : (b : List ℕ) (l : ℕ) → 0 < cost b l) (free : slot_at places i ≡ None) (filled : IsWith places i (Some (record { core = k; spent = 0; standing = Going })) places') where
-  filled_case : (j : ℕ) (r : Slot) → slot_at places' j ≡ Some r → (b : Bool) → (i == j) ≡ b → (c : JobView) × (core_at cores' r.core ≡ Some c) × StandsBeside r.standing r.spent c
-  filled_case j r at true e =
-      let new : Slot = record { core = k; spent = 0; standing = Going } in
-      let here : slot_at places' j ≡ Some new = ap (λ n. slot_at places' n) (sym (eqb-true i j e)) ∙ with_here places places' i (Some new) filled in
-      let is : new ≡ r = cc in
-      let below : 0 < cost found.core.0.bytes found.core.0.limit = costs found.core.0.bytes found.core.0.limit in
-      subst (λ (x : Slot). (c : JobView) × (core_at cores' x.core ≡ Some c) × StandsBeside x.standing x.spent c) is (found.core.0, found.core.1, below)
-  filled_case j r at false e = found.held j r (sym (with_other places places' i j _ filled e) ∙ at)
+module _ (places places' : List (Option Slot)) (cores cores' : List (Option JobView))
+    (bytes : List ℕ) (limit k i : ℕ) (found : IsDeskFor places cores cores' bytes limit k)
+    (costs : (b : List ℕ) (l : ℕ) → 0 < cost b l) (free : slot_at places i ≡ None)
+    (filled : IsWith places i (Some (record { core = k; spent = 0; standing = Going })) places')
+  where
+    filled_case : (j : ℕ) (r : Slot) → slot_at places' j ≡ Some r → (b : Bool) → (i == j) ≡ b
+        → (c : JobView) × (core_at cores' r.core ≡ Some c) × StandsBeside r.standing r.spent c
+    filled_case j r at true e =
+        let new : Slot = record { core = k; spent = 0; standing = Going } in
+        let here : slot_at places' j ≡ Some new = ap (λ n. slot_at places' n) (sym (eqb-true i j e))
+        ∙ with_here places places' i (Some new) filled in
+        let is : new ≡ r = cc in
+        let below : 0 < cost found.core.0.bytes found.core.0.limit =
+        costs found.core.0.bytes found.core.0.limit in
+        subst (λ (x : Slot). (c : JobView) × (core_at cores' x.core ≡ Some c)
+        × StandsBeside x.standing x.spent c) is (found.core.0, found.core.1, below)
+    filled_case j r at false e =
+        found.held j r (sym (with_other places places' i j _ filled e) ∙ at)
 
-  kept_case : (l j : ℕ) (r : Slot) → slot_at places j ≡ Some r → r.core ≡ l → (b : Bool) → (i == j) ≡ b → HasSlot places' l
-  kept_case l j r at has true e =
-      let none : slot_at places j ≡ None = ap (λ n. slot_at places n) (sym (eqb-true i j e)) ∙ free in
-      absurd (cc)
-  kept_case l j r at has false e = (j, r, with_other places places' i j _ filled e ∙ at, has)
+    kept_case : (l j : ℕ) (r : Slot) → slot_at places j ≡ Some r → r.core ≡ l → (b : Bool)
+        → (i == j) ≡ b → HasSlot places' l
+    kept_case l j r at has true e =
+        let none : slot_at places j ≡ None = ap (λ n. slot_at places n) (sym (eqb-true i j e))
+        ∙ free
+        in
+        absurd (cc)
+    kept_case l j r at has false e = (j, r, with_other places places' i j _ filled e ∙ at, has)
 
-  used_filled : (l : ℕ) → (k ≡ l) ⊎ HasSlot places l → HasSlot places' l
-  used_filled l (inl new) = (i, record { core = k; spent = 0; standing = Going }, with_here places places' i _ filled, new)
-  used_filled l (inr old) = kept_case l old.0 old.1 old.2 old.3 (i == old.0) refl
+    used_filled : (l : ℕ) → (k ≡ l) ⊎ HasSlot places l → HasSlot places' l
+    used_filled l (inl new) = (
+      i,
+      record { core = k; spent = 0; standing = Going },
+      with_here places places' i _ filled,
+      new,
+    )
+    used_filled l (inr old) = kept_case l old.0 old.1 old.2 old.3 (i == old.0) refl
 
-  pub desk_filled : IsDesk places' cores'
-  desk_filled = record {
-    held = λ j r at. filled_case j r at (i == j) refl;
-    used = λ l a at. used_filled l (found.used l a at);
-    sound = found.sound;
-    apart = found.apart;
-  }
+    pub desk_filled : IsDesk places' cores'
+    desk_filled = record {
+      held = λ j r at. filled_case j r at (i == j) refl;
+      used = λ l a at. used_filled l (found.used l a at);
+      sound = found.sound;
+      apart = found.apart;
+    }
 
-  old_case : (j : ℕ) (o : Option Slot) → slot_at places j ≡ o → job_in cores' o ≡ job_in cores o
-  old_case j None at = refl
-  old_case j (Some r) at = ap (λ c. seen c r) (found.stay j r at)
+    old_case : (j : ℕ) (o : Option Slot) → slot_at places j ≡ o → job_in cores' o ≡ job_in cores o
+    old_case j None at = refl
+    old_case j (Some r) at = ap (λ c. seen c r) (found.stay j r at)
 
-  new_job : job_of found.core.0 (record { core = k; spent = 0; standing = Going }) ≡ fresh bytes limit
-  new_job =
-      ap (λ (b : List ℕ). record { bytes = b; limit = found.core.0.limit; spent = 0; ended = None }) found.core.2
-      ∙ ap (λ (l : ℕ). record { bytes = bytes; limit = l; spent = 0; ended = None }) found.core.3
+    new_job : job_of found.core.0 (record { core = k; spent = 0; standing = Going })
+        ≡ fresh bytes limit
+    new_job =
+        ap (λ (b : List ℕ).
+        record { bytes = b; limit = found.core.0.limit; spent = 0; ended = None })
+        found.core.2
+        ∙ ap (λ (l : ℕ). record { bytes = bytes; limit = l; spent = 0; ended = None }) found.core.3
 
-  filled_job_case : (j : ℕ) (b : Bool) → (i == j) ≡ b → get_or (jobs_in places' cores') j None ≡ (if b then Some (fresh bytes limit) else get_or (jobs_in places cores) j None)
-  filled_job_case j true e =
-      let new : Slot = record { core = k; spent = 0; standing = Going } in
-      job_at_place places' cores' j
-      ∙ (ap (job_in cores') (ap (λ n. slot_at places' n) (sym (eqb-true i j e)) ∙ with_here places places' i (Some new) filled)
-      ∙ (ap (λ c. seen c new) found.core.1 ∙ ap Some new_job))
-  filled_job_case j false e =
-      job_at_place places' cores' j
-      ∙ (ap (job_in cores') (with_other places places' i j _ filled e)
-      ∙ (old_case j (slot_at places j) refl
-      ∙ sym (job_at_place places cores j)))
+    filled_job_case : (j : ℕ) (b : Bool) → (i == j) ≡ b
+        → get_or (jobs_in places' cores') j None
+        ≡ (if b then Some (fresh bytes limit) else get_or (jobs_in places cores) j None)
+    filled_job_case j true e =
+        let new : Slot = record { core = k; spent = 0; standing = Going } in
+        job_at_place places' cores' j
+        ∙ (ap (job_in cores') (ap (λ n. slot_at places' n) (sym (eqb-true i j e))
+        ∙ with_here places places' i (Some new) filled)
+        ∙ (ap (λ c. seen c new) found.core.1 ∙ ap Some new_job))
+    filled_job_case j false e =
+        job_at_place places' cores' j
+        ∙ (ap (job_in cores') (with_other places places' i j _ filled e)
+        ∙ (old_case j (slot_at places j) refl
+        ∙ sym (job_at_place places cores j)))
 
-  pub jobs_filled : IsWith (jobs_in places cores) i (Some (fresh bytes limit)) (jobs_in places' cores')
-  jobs_filled = λ j. filled_job_case j (i == j) refl
+    pub jobs_filled : IsWith (jobs_in places cores) i (Some (fresh bytes limit))
+        (jobs_in places' cores')
+    jobs_filled = λ j. filled_job_case j (i == j) refl
 
-pub none_first : (places : List (Option Slot)) (cores : List (Option JobView)) (bytes : List ℕ) (limit : ℕ) → HasNoCore cores bytes limit → NoneAsFarIn (jobs_in places cores) bytes limit 0
+pub none_first : (places : List (Option Slot)) (cores : List (Option JobView)) (bytes : List ℕ)
+    (limit : ℕ) → HasNoCore cores bytes limit → NoneAsFarIn (jobs_in places cores) bytes limit 0
 none_first places cores bytes limit none = λ i job at fed same_bytes same_limit far.
     let one = is_seen places cores i job at in
     none one.slot.core one.core one.core_is
-    (sym (ap (λ (v : JobView). v.bytes) one.job_is) ∙ same_bytes) (sym (ap (λ (v : JobView). v.limit) one.job_is) ∙ same_limit)
+    (sym (ap (λ (v : JobView). v.bytes) one.job_is) ∙ same_bytes)
+    (sym (ap (λ (v : JobView). v.limit) one.job_is) ∙ same_limit)
 
-pub core_for_push : (cores cores' : List (Option JobView)) (k : ℕ) (bytes : List ℕ) (limit : ℕ) (new : Option JobView)
-    → HasNoCore cores bytes limit → k ≡ length cores → new ≡ Some (fresh bytes limit) → cores' ≡ cores ++ new ∷ [] → IsCoreFor cores bytes limit k cores'
+pub core_for_push : (cores cores' : List (Option JobView)) (k : ℕ) (bytes : List ℕ) (limit : ℕ)
+    (new : Option JobView)
+    → HasNoCore cores bytes limit → k ≡ length cores → new ≡ Some (fresh bytes limit)
+    → cores' ≡ cores ++ new ∷ [] → IsCoreFor cores bytes limit k cores'
 core_for_push cores cores' k bytes limit new none at is e =
-    inr (none, get_or_past cores k None (omega arith), λ i. push_case cores cores' k (Some (fresh bytes limit)) at (e ∙ ap (λ x. cores ++ x ∷ []) is) i (k == i) refl)
+    inr (
+      none,
+      get_or_past cores k None (omega arith),
+      λ i.
+          push_case cores cores' k (Some (fresh bytes limit)) at (e ∙ ap (λ x. cores ++ x ∷ []) is)
+          i
+          (k == i) refl,
+    )
 
 -- A desk without jobs
 
 nothing_in : (cores : List (Option JobView)) (k : ℕ) → cores ≡ [] → core_at cores k ≡ None
 nothing_in cores k none = ap (λ (l : List (Option JobView)). core_at l k) none
 
-pub empty_desk : (places : List (Option Slot)) (cores : List (Option JobView)) → ((i : ℕ) → slot_at places i ≡ None) → cores ≡ [] → IsDesk places cores
+pub empty_desk : (places : List (Option Slot)) (cores : List (Option JobView))
+    → ((i : ℕ) → slot_at places i ≡ None) → cores ≡ [] → IsDesk places cores
 empty_desk places cores empty none = record {
   held = λ i s at. let e : slot_at places i ≡ None = empty i in absurd (cc);
   used = λ k core at. let e : core_at cores k ≡ None = nothing_in cores k none in absurd (cc);
   sound = λ k core at. let e : core_at cores k ≡ None = nothing_in cores k none in absurd (cc);
-  apart = λ k l a b at bt x y. let e : core_at cores k ≡ None = nothing_in cores k none in absurd (cc);
+  apart = λ k l a b at bt x y. let e : core_at cores k ≡ None = nothing_in cores k none in
+      absurd (cc);
 }
 
-empty_at : (places : List (Option Slot)) (cores : List (Option JobView)) → ((i : ℕ) → slot_at places i ≡ None) → (o : Option ℕ) → job_at (jobs_in places cores) o ≡ None
+empty_at : (places : List (Option Slot)) (cores : List (Option JobView))
+    → ((i : ℕ) → slot_at places i ≡ None) → (o : Option ℕ) → job_at (jobs_in places cores) o ≡ None
 empty_at places cores empty None = refl
 empty_at places cores empty (Some i) = job_at_place places cores i ∙ ap (job_in cores) (empty i)
 
-pub empty_state : (places : List (Option Slot)) (cores : List (Option JobView)) → ((i : ℕ) → slot_at places i ≡ None) → (client number : ℕ) → state_of (jobs_in places cores) client number ≡ None
+pub empty_state : (places : List (Option Slot)) (cores : List (Option JobView))
+    → ((i : ℕ) → slot_at places i ≡ None) → (client number : ℕ)
+    → state_of (jobs_in places cores) client number ≡ None
 empty_state places cores empty client number = empty_at places cores empty (place_of client number)

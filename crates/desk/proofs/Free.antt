@@ -9,9 +9,12 @@ use Rattle.desk.proofs.Seen.{job_at_place}
 use Rattle.desk.proofs.Steps.{state_at}
 
 pick : Bool → Bool → Bool → Bool → Option ℕ
-pick a b c d = if a then Some 1 else (if b then Some 2 else (if c then Some 3 else (if d then Some 4 else None)))
+pick a b c d =
+    if a then Some 1 else
+    (if b then Some 2 else (if c then Some 3 else (if d then Some 4 else None)))
 
-least_alike : {X Y : Type 0} (f : ℕ → Option X) (g : ℕ → Option Y) → ((n : ℕ) → is_free (f n) ≡ is_free (g n)) → least_free f ≡ least_free g
+least_alike : {X Y : Type 0} (f : ℕ → Option X) (g : ℕ → Option Y)
+    → ((n : ℕ) → is_free (f n) ≡ is_free (g n)) → least_free f ≡ least_free g
 unfolding pick
 least_alike f g e =
     ap (λ a. pick a (is_free (f 2)) (is_free (f 3)) (is_free (f 4))) (e 1)
@@ -19,7 +22,8 @@ least_alike f g e =
     ∙ (ap (λ c. pick (is_free (g 1)) (is_free (g 2)) c (is_free (f 4))) (e 3)
     ∙ ap (λ d. pick (is_free (g 1)) (is_free (g 2)) (is_free (g 3)) d) (e 4)))
 
-within_four : (k n : ℕ) → 1 ≤ k → k ≤ 4 → (let a : Option ℕ = Some k in a) ≡ Some n → (1 ≤ n) × (n ≤ 4)
+within_four : (k n : ℕ) → 1 ≤ k → k ≤ 4 → (let a : Option ℕ = Some k in a) ≡ Some n
+    → (1 ≤ n) × (n ≤ 4)
 within_four k n low high e = let is : k ≡ n = cc in (omega arith, omega arith)
 
 range_case : (a b c d : Bool) (n : ℕ) → pick a b c d ≡ Some n → (1 ≤ n) × (n ≤ 4)
@@ -30,48 +34,73 @@ range_case false false true d n e = within_four 3 n (omega arith) (omega arith) 
 range_case false false false true n e = within_four 4 n (omega arith) (omega arith) e
 range_case false false false false n e = absurd (cc)
 
-pub least_range : {X : Type 0} (f : ℕ → Option X) (n : ℕ) → least_free f ≡ Some n → (1 ≤ n) × (n ≤ 4)
+pub least_range : {X : Type 0} (f : ℕ → Option X) (n : ℕ) → least_free f ≡ Some n
+    → (1 ≤ n) × (n ≤ 4)
 unfolding pick
 least_range f n e = range_case (is_free (f 1)) (is_free (f 2)) (is_free (f 3)) (is_free (f 4)) n e
 
-free_slot : (places : List (Option Slot)) (cores : List (Option JobView)) (i : ℕ) (o : Option Slot) → slot_at places i ≡ o → IsDesk places cores → is_free o ≡ is_free (job_in cores o)
+free_slot : (places : List (Option Slot)) (cores : List (Option JobView)) (i : ℕ) (o : Option Slot)
+    → slot_at places i ≡ o → IsDesk places cores → is_free o ≡ is_free (job_in cores o)
 free_slot places cores i None at desk = refl
-free_slot places cores i (Some r) at desk = let held = desk.held i r at in sym (ap (λ c. is_free (seen c r)) held.1)
+free_slot places cores i (Some r) at desk = let held = desk.held i r at in
+    sym (ap (λ c. is_free (seen c r)) held.1)
 
-free_place : (places : List (Option Slot)) (cores : List (Option JobView)) (o : Option ℕ) → IsDesk places cores → is_free (slot_of places o) ≡ is_free (job_at (jobs_in places cores) o)
+free_place : (places : List (Option Slot)) (cores : List (Option JobView)) (o : Option ℕ)
+    → IsDesk places cores → is_free (slot_of places o) ≡ is_free (job_at (jobs_in places cores) o)
 free_place places cores None desk = refl
-free_place places cores (Some i) desk = free_slot places cores i (slot_at places i) refl desk ∙ sym (ap is_free (job_at_place places cores i))
+free_place places cores (Some i) desk = free_slot places cores i (slot_at places i) refl desk
+    ∙ sym (ap is_free (job_at_place places cores i))
 
-pub least_slots : (places : List (Option Slot)) (cores : List (Option JobView)) (c : ℕ) → IsDesk places cores → least_free (slots_of places c) ≡ least_free (state_of (jobs_in places cores) c)
-least_slots places cores c desk = least_alike (slots_of places c) (state_of (jobs_in places cores) c) (λ n. free_place places cores (place_of c n) desk)
+pub least_slots : (places : List (Option Slot)) (cores : List (Option JobView)) (c : ℕ)
+    → IsDesk places cores
+    → least_free (slots_of places c) ≡ least_free (state_of (jobs_in places cores) c)
+least_slots places cores c desk =
+    least_alike (slots_of places c) (state_of (jobs_in places cores) c)
+    (λ n. free_place places cores (place_of c n) desk)
 
 -- the number that is free names a place without a slot
 is_none : {X : Type 0} (o : Option X) → is_free o ≡ true → o ≡ None
 is_none None e = refl
 is_none (Some x) e = absurd (cc)
 
-free_case : {X : Type 0} (f : ℕ → Option X) (n : ℕ) (a b c d : Bool) → is_free (f 1) ≡ a → is_free (f 2) ≡ b → is_free (f 3) ≡ c → is_free (f 4) ≡ d → pick a b c d ≡ Some n → f n ≡ None
+free_case : {X : Type 0} (f : ℕ → Option X) (n : ℕ) (a b c d : Bool) → is_free (f 1) ≡ a
+    → is_free (f 2) ≡ b → is_free (f 3) ≡ c → is_free (f 4) ≡ d → pick a b c d ≡ Some n → f n ≡ None
 unfolding pick
-free_case f n true b c d p q r s e = let is : 1 ≡ n = cc in is_none (f n) (ap (λ k. is_free (f k)) (sym is) ∙ p)
-free_case f n false true c d p q r s e = let is : 2 ≡ n = cc in is_none (f n) (ap (λ k. is_free (f k)) (sym is) ∙ q)
-free_case f n false false true d p q r s e = let is : 3 ≡ n = cc in is_none (f n) (ap (λ k. is_free (f k)) (sym is) ∙ r)
-free_case f n false false false true p q r s e = let is : 4 ≡ n = cc in is_none (f n) (ap (λ k. is_free (f k)) (sym is) ∙ s)
+free_case f n true b c d p q r s e = let is : 1 ≡ n = cc in
+    is_none (f n) (ap (λ k. is_free (f k)) (sym is) ∙ p)
+free_case f n false true c d p q r s e = let is : 2 ≡ n = cc in
+    is_none (f n) (ap (λ k. is_free (f k)) (sym is) ∙ q)
+free_case f n false false true d p q r s e = let is : 3 ≡ n = cc in
+    is_none (f n) (ap (λ k. is_free (f k)) (sym is) ∙ r)
+free_case f n false false false true p q r s e = let is : 4 ≡ n = cc in
+    is_none (f n) (ap (λ k. is_free (f k)) (sym is) ∙ s)
 free_case f n false false false false p q r s e = absurd (cc)
 
 pub least_none : {X : Type 0} (f : ℕ → Option X) (n : ℕ) → least_free f ≡ Some n → f n ≡ None
 unfolding pick
-least_none f n e = free_case f n (is_free (f 1)) (is_free (f 2)) (is_free (f 3)) (is_free (f 4)) refl refl refl refl e
+least_none f n e =
+    free_case f n (is_free (f 1)) (is_free (f 2)) (is_free (f 3)) (is_free (f 4)) refl refl refl
+    refl e
 
 -- a place with a slot has a job, and one without has none
-pub held_job : (places : List (Option Slot)) (cores : List (Option JobView)) (i : ℕ) → IsDesk places cores → is_free (slot_at places i) ≡ is_free (get_or (jobs_in places cores) i None)
-held_job places cores i desk = free_slot places cores i (slot_at places i) refl desk ∙ sym (ap is_free (job_at_place places cores i))
+pub held_job : (places : List (Option Slot)) (cores : List (Option JobView)) (i : ℕ)
+    → IsDesk places cores
+    → is_free (slot_at places i) ≡ is_free (get_or (jobs_in places cores) i None)
+held_job places cores i desk = free_slot places cores i (slot_at places i) refl desk
+    ∙ sym (ap is_free (job_at_place places cores i))
 
-pub free_job : (places : List (Option Slot)) (cores : List (Option JobView)) (i : ℕ) → IsDesk places cores → is_free (slot_at places i) ≡ true → get_or (jobs_in places cores) i None ≡ None
-free_job places cores i desk free = is_none (get_or (jobs_in places cores) i None) (sym (held_job places cores i desk) ∙ free)
+pub free_job : (places : List (Option Slot)) (cores : List (Option JobView)) (i : ℕ)
+    → IsDesk places cores → is_free (slot_at places i) ≡ true
+    → get_or (jobs_in places cores) i None ≡ None
+free_job places cores i desk free =
+    is_none (get_or (jobs_in places cores) i None) (sym (held_job places cores i desk) ∙ free)
 
-pub least_of : (places : List (Option Slot)) (cores jobs : List (Option JobView)) (c : ℕ) → IsDesk places cores → jobs_in places cores ≡ jobs
+pub least_of : (places : List (Option Slot)) (cores jobs : List (Option JobView)) (c : ℕ)
+    → IsDesk places cores → jobs_in places cores ≡ jobs
     → least_free (state_of jobs c) ≡ least_free (slots_of places c)
-least_of places cores jobs c desk is = ap (λ (now : List (Option JobView)). least_free (state_of now c)) (sym is) ∙ sym (least_slots places cores c desk)
+least_of places cores jobs c desk is =
+    ap (λ (now : List (Option JobView)). least_free (state_of now c)) (sym is)
+    ∙ sym (least_slots places cores c desk)
 
 flip : (b r : Bool) → r ≡ not b → b ≡ not r
 flip true true e = absurd (cc)
@@ -79,12 +108,17 @@ flip true false e = refl
 flip false true e = refl
 flip false false e = absurd (cc)
 
-pub nothing_at : (places : List (Option Slot)) (cores jobs : List (Option JobView)) (c n i : ℕ) → IsDesk places cores → jobs_in places cores ≡ jobs → place_of c n ≡ Some i
+pub nothing_at : (places : List (Option Slot)) (cores jobs : List (Option JobView)) (c n i : ℕ)
+    → IsDesk places cores → jobs_in places cores ≡ jobs → place_of c n ≡ Some i
     → false ≡ not (is_free (slot_at places i)) → state_of jobs c n ≡ None
 nothing_at places cores jobs c n i desk is at free =
-    state_at jobs c n i at ∙ (ap (λ (l : List (Option JobView)). get_or l i None) (sym is) ∙ free_job places cores i desk (flip (is_free (slot_at places i)) false free))
+    state_at jobs c n i at
+    ∙ (ap (λ (l : List (Option JobView)). get_or l i None) (sym is)
+    ∙ free_job places cores i desk (flip (is_free (slot_at places i)) false free))
 
-pub something_at : (places : List (Option Slot)) (cores jobs : List (Option JobView)) (i : ℕ) → IsDesk places cores → jobs_in places cores ≡ jobs
+pub something_at : (places : List (Option Slot)) (cores jobs : List (Option JobView)) (i : ℕ)
+    → IsDesk places cores → jobs_in places cores ≡ jobs
     → true ≡ not (is_free (slot_at places i)) → is_free (get_or jobs i None) ≡ false
 something_at places cores jobs i desk is free =
-    ap (λ (l : List (Option JobView)). is_free (get_or l i None)) (sym is) ∙ (sym (held_job places cores i desk) ∙ flip (is_free (slot_at places i)) true free)
+    ap (λ (l : List (Option JobView)). is_free (get_or l i None)) (sym is)
+    ∙ (sym (held_job places cores i desk) ∙ flip (is_free (slot_at places i)) true free)

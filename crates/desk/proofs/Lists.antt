@@ -13,35 +13,43 @@ eqb_false i j e = λ same. let t : (i == j) ≡ true = eq-eqb i j (sym same) in 
 pub eqb_no : (i j : ℕ) → (i ≡ j → ⊥) → (i == j) ≡ false
 eqb_no i j differ = elim (eqb_tells i j) [ inl same ↦ absurd (differ same.1) | inr other ↦ other.0 ]
 
-with_set_case : {X : Type 0} (xs : List (Option X)) (i : ℕ) (x : Option X) → i < length xs → (j : ℕ) (b : Bool) → (i == j) ≡ b
+with_set_case : {X : Type 0} (xs : List (Option X)) (i : ℕ) (x : Option X) → i < length xs
+    → (j : ℕ) (b : Bool) → (i == j) ≡ b
     → get_or (set xs i x) j None ≡ (if b then x else get_or xs j None)
 with_set_case xs i x below j true e =
     let same : j ≡ i = sym (eqb-true i j e) in
     ap (λ k. get_or (set xs i x) k None) same ∙ get_or-set_same xs i x None below
 with_set_case xs i x below j false e = get_or-set_other xs i j x None (eqb_false i j e)
 
-pub with_set : {X : Type 0} (xs : List (Option X)) (i : ℕ) (x : Option X) → i < length xs → IsWith xs i x (set xs i x)
+pub with_set : {X : Type 0} (xs : List (Option X)) (i : ℕ) (x : Option X) → i < length xs
+    → IsWith xs i x (set xs i x)
 with_set xs i x below = λ j. with_set_case xs i x below j (i == j) refl
 
 -- an item of a list with one changed: the new one, or another's
-pub with_here : {X : Type 0} (xs ys : List (Option X)) (i : ℕ) (x : Option X) → IsWith xs i x ys → get_or ys i None ≡ x
+pub with_here : {X : Type 0} (xs ys : List (Option X)) (i : ℕ) (x : Option X) → IsWith xs i x ys
+    → get_or ys i None ≡ x
 with_here xs ys i x w = w i ∙ ap (λ b. if b then x else get_or xs i None) (eq-eqb i i refl)
 
-pub with_other : {X : Type 0} (xs ys : List (Option X)) (i j : ℕ) (x : Option X) → IsWith xs i x ys → (i == j) ≡ false → get_or ys j None ≡ get_or xs j None
+pub with_other : {X : Type 0} (xs ys : List (Option X)) (i j : ℕ) (x : Option X) → IsWith xs i x ys
+    → (i == j) ≡ false → get_or ys j None ≡ get_or xs j None
 with_other xs ys i j x w e = w j ∙ ap (λ b. if b then x else get_or xs j None) e
 
-push_other : {X : Type 0} (xs : List (Option X)) (x : Option X) (i : ℕ) → i ≢ length xs → (b : Bool) → nat_lt i (length xs) ≡ b → get_or (xs ++ x ∷ []) i None ≡ get_or xs i None
-push_other xs x i apart true below = get_or_append_left xs (x ∷ []) None i (grind (arith, common_steps))
+push_other : {X : Type 0} (xs : List (Option X)) (x : Option X) (i : ℕ) → i ≢ length xs → (b : Bool)
+    → nat_lt i (length xs) ≡ b → get_or (xs ++ x ∷ []) i None ≡ get_or xs i None
+push_other xs x i apart true below =
+    get_or_append_left xs (x ∷ []) None i (grind (arith, common_steps))
 push_other xs x i apart false past =
     let beyond : length xs < i = grind (arith, common_steps, apart) in
     let more : length (xs ++ x ∷ []) ≡ length xs + 1 = length-append xs (x ∷ []) in
     get_or_past (xs ++ x ∷ []) i None (omega arith) ∙ sym (get_or_past xs i None (omega arith))
 
-pub push_case : {X : Type 0} (xs ys : List (Option X)) (k : ℕ) (x : Option X) → k ≡ length xs → ys ≡ xs ++ x ∷ [] → (i : ℕ) (b : Bool) → (k == i) ≡ b
+pub push_case : {X : Type 0} (xs ys : List (Option X)) (k : ℕ) (x : Option X) → k ≡ length xs
+    → ys ≡ xs ++ x ∷ [] → (i : ℕ) (b : Bool) → (k == i) ≡ b
     → get_or ys i None ≡ (if b then x else get_or xs i None)
 push_case xs ys k x at is i true e =
     let same : i ≡ length xs = sym (eqb-true k i e) ∙ at in
-    ap (λ l. get_or l i None) is ∙ (ap (λ n. get_or (xs ++ x ∷ []) n None) same ∙ get_or-append_seam xs x [] None)
+    ap (λ l. get_or l i None) is
+    ∙ (ap (λ n. get_or (xs ++ x ∷ []) n None) same ∙ get_or-append_seam xs x [] None)
 push_case xs ys k x at is i false e =
     let other : i ≢ k = eqb_false k i e in
     let apart : i ≢ length xs = λ h. other (h ∙ sym at) in

@@ -24,8 +24,10 @@ told_one code X N N f g = refl
 told_one code X P N f g = absurd (not_both f g)
 told_one code X N P f g = absurd (not_both g f)
 
-outcomes_one : (e : Option Answer) (X : List ℕ) (a b : Reply) → Outcomes e X a → Outcomes e X b → a ≡ b
-outcomes_one (Some (Yes c)) X a b f g = f.1 ∙ (ap Tells (told_one c.code X f.0 g.0 f.2 g.2) ∙ sym g.1)
+outcomes_one : (e : Option Answer) (X : List ℕ) (a b : Reply) → Outcomes e X a → Outcomes e X b
+    → a ≡ b
+outcomes_one (Some (Yes c)) X a b f g =
+    f.1 ∙ (ap Tells (told_one c.code X f.0 g.0 f.2 g.2) ∙ sym g.1)
 outcomes_one (Some Text) X a b f g = f ∙ sym g
 outcomes_one (Some Law) X a b f g = f ∙ sym g
 outcomes_one (Some Word) X a b f g = f ∙ sym g
@@ -37,19 +39,23 @@ outcomes_one (Some Limit) X a b f g = f ∙ sym g
 outcomes_one (Some Memory) X a b f g = f ∙ sym g
 outcomes_one None X a b f g = f ∙ sym g
 
-opens_one : (old : Jobs) (bytes : List ℕ) (limit : ℕ) (o : Option ℕ) (a b : Reply) (m n : Jobs) → Opens old bytes limit o a m → Opens old bytes limit o b n → (a ≡ b) × (m ≡ n)
+opens_one : (old : Jobs) (bytes : List ℕ) (limit : ℕ) (o : Option ℕ) (a b : Reply) (m n : Jobs)
+    → Opens old bytes limit o a m → Opens old bytes limit o b n → (a ≡ b) × (m ≡ n)
 opens_one old bytes limit (Some j) a b m n f g = (f.0 ∙ sym g.0, f.1 ∙ sym g.1)
 opens_one old bytes limit None a b m n f g = (f.0 ∙ sym g.0, f.1 ∙ sym g.1)
 
-drops_one : (old : Jobs) (j : ℕ) (o : Option JobView) (a b : Reply) (m n : Jobs) → Drops old j o a m → Drops old j o b n → (a ≡ b) × (m ≡ n)
+drops_one : (old : Jobs) (j : ℕ) (o : Option JobView) (a b : Reply) (m n : Jobs) → Drops old j o a m
+    → Drops old j o b n → (a ≡ b) × (m ≡ n)
 drops_one old j (Some job) a b m n f g = (f.0 ∙ sym g.0, f.1 ∙ sym g.1)
 drops_one old j None a b m n f g = (f.0 ∙ sym g.0, f.1 ∙ sym g.1)
 
-asks_one : (old : Jobs) (X : List ℕ) (o : Option JobView) (a b : Reply) (m n : Jobs) → Asks old X o a m → Asks old X o b n → (a ≡ b) × (m ≡ n)
+asks_one : (old : Jobs) (X : List ℕ) (o : Option JobView) (a b : Reply) (m n : Jobs)
+    → Asks old X o a m → Asks old X o b n → (a ≡ b) × (m ≡ n)
 asks_one old X (Some job) a b m n f g = (outcomes_one job.ended X a b f.0 g.0, f.1 ∙ sym g.1)
 asks_one old X None a b m n f g = (f.0 ∙ sym g.0, f.1 ∙ sym g.1)
 
-none_head : (reply : Reply) (replies : List Reply) → HasNoNine (reply ∷ replies) → is_nine reply ≡ false
+none_head : (reply : Reply) (replies : List Reply) → HasNoNine (reply ∷ replies)
+    → is_nine reply ≡ false
 none_head reply replies free = free 0 reply (omega arith)
 
 none_tail : (reply : Reply) (replies : List Reply) → HasNoNine (reply ∷ replies) → HasNoNine replies
@@ -62,14 +68,18 @@ told_done (Some a) = refl
 here_now : (s : State) (client : ℕ) (jobs : Jobs) → with_jobs s client jobs client ≡ jobs
 here_now s client jobs = ap (λ b. if b then jobs else s client) (eq-eqb client client refl)
 
-others_stay : (s : State) (client other : ℕ) (jobs : Jobs) → (client == other) ≡ false → with_jobs s client jobs other ≡ s other
+others_stay : (s : State) (client other : ℕ) (jobs : Jobs) → (client == other) ≡ false
+    → with_jobs s client jobs other ≡ s other
 others_stay s client other jobs e = ap (λ b. if b then jobs else s other) e
 
 -- right answers are one
-module _ (right_one : (code X : List ℕ) (a b : Advice) → IsRightAnswer code X a → IsRightAnswer code X b → a ≡ b)
+module _ (right_one : (code X : List ℕ) (a b : Advice) → IsRightAnswer code X a
+    → IsRightAnswer code X b → a ≡ b)
     (cost : List ℕ → ℕ → ℕ) (verdict : List ℕ → ℕ → Answer) where
-  advices_one : (e : Option Answer) (X : List ℕ) (a b : Reply) → Advices e X a → Advices e X b → a ≡ b
-  advices_one (Some (Yes c)) X a b f g = f.1 ∙ (ap Advises (right_one c.code X f.0 g.0 f.2 g.2) ∙ sym g.1)
+  advices_one : (e : Option Answer) (X : List ℕ) (a b : Reply) → Advices e X a → Advices e X b
+      → a ≡ b
+  advices_one (Some (Yes c)) X a b f g =
+      f.1 ∙ (ap Advises (right_one c.code X f.0 g.0 f.2 g.2) ∙ sym g.1)
   advices_one (Some Text) X a b f g = f ∙ sym g
   advices_one (Some Law) X a b f g = f ∙ sym g
   advices_one (Some Word) X a b f g = f ∙ sym g
@@ -81,26 +91,32 @@ module _ (right_one : (code X : List ℕ) (a b : Advice) → IsRightAnswer code 
   advices_one (Some Memory) X a b f g = f ∙ sym g
   advices_one None X a b f g = f ∙ sym g
 
-  plays_one : (old : Jobs) (X : List ℕ) (o : Option JobView) (a b : Reply) (m n : Jobs) → Plays old X o a m → Plays old X o b n → (a ≡ b) × (m ≡ n)
+  plays_one : (old : Jobs) (X : List ℕ) (o : Option JobView) (a b : Reply) (m n : Jobs)
+      → Plays old X o a m → Plays old X o b n → (a ≡ b) × (m ≡ n)
   plays_one old X (Some job) a b m n f g = (advices_one job.ended X a b f.0 g.0, f.1 ∙ sym g.1)
   plays_one old X None a b m n f g = (f.0 ∙ sym g.0, f.1 ∙ sym g.1)
 
-  works_one : (old : Jobs) (j u : ℕ) (o : Option JobView) (a b : Reply) (m n : Jobs) → Works cost verdict old j u o a m → Works cost verdict old j u o b n → (a ≡ b) × (m ≡ n)
+  works_one : (old : Jobs) (j u : ℕ) (o : Option JobView) (a b : Reply) (m n : Jobs)
+      → Works cost verdict old j u o a m → Works cost verdict old j u o b n → (a ≡ b) × (m ≡ n)
   works_one old j u (Some job) a b m n f g = (f.0 ∙ sym g.0, f.1 ∙ sym g.1)
   works_one old j u None a b m n f g = (f.0 ∙ sym g.0, f.1 ∙ sym g.1)
 
-  serves_one : (old : Jobs) (e : Event) (a b : Reply) (m n : Jobs) → Serves cost verdict old e a m → Serves cost verdict old e b n → (a ≡ b) × (m ≡ n)
-  serves_one old (Open bytes limit) a b m n f g = opens_one old bytes limit (least_free old) a b m n f g
+  serves_one : (old : Jobs) (e : Event) (a b : Reply) (m n : Jobs) → Serves cost verdict old e a m
+      → Serves cost verdict old e b n → (a ≡ b) × (m ≡ n)
+  serves_one old (Open bytes limit) a b m n f g =
+      opens_one old bytes limit (least_free old) a b m n f g
   serves_one old (Work j u) a b m n f g = works_one old j u (old j) a b m n f g
   serves_one old (Drop j) a b m n f g = drops_one old j (old j) a b m n f g
   serves_one old (Ask j X) a b m n f g = asks_one old X (old j) a b m n f g
   serves_one old (Play j X) a b m n f g = plays_one old X (old j) a b m n f g
 
-  starves_nine : (state : State) (old : Jobs) (j u : ℕ) (o : Option JobView) (a : Reply) (m : Jobs) → Starves cost verdict state old j u o a m → is_nine a ≡ true
+  starves_nine : (state : State) (old : Jobs) (j u : ℕ) (o : Option JobView) (a : Reply) (m : Jobs)
+      → Starves cost verdict state old j u o a m → is_nine a ≡ true
   starves_nine state old j u (Some job) a m f = ap is_nine f.3
   starves_nine state old j u None a m f = absurd f
 
-  refuses_nine : (state : State) (old : Jobs) (e : Event) (a : Reply) (m : Jobs) → Refuses cost verdict state old e a m → is_nine a ≡ true
+  refuses_nine : (state : State) (old : Jobs) (e : Event) (a : Reply) (m : Jobs)
+      → Refuses cost verdict state old e a m → is_nine a ≡ true
   refuses_nine state old (Open bytes limit) a m f = ap is_nine f.2
   refuses_nine state old (Work j u) a m f = starves_nine state old j u (old j) a m f
   refuses_nine state old (Drop j) a m f = absurd f
@@ -108,72 +124,97 @@ module _ (right_one : (code X : List ℕ) (a b : Advice) → IsRightAnswer code 
   refuses_nine state old (Play j X) a m f = absurd f
 
   -- where memory isn't wanting, a step is one where it is refused to nobody
-  ample : (old new : State) (call : Call) (reply : Reply) → is_nine reply ≡ false → Step cost verdict old call reply new → AmpleStep cost verdict old call reply new
+  ample : (old new : State) (call : Call) (reply : Reply) → is_nine reply ≡ false
+      → Step cost verdict old call reply new → AmpleStep cost verdict old call reply new
   ample old new call reply free step =
       elim step.1 [
         | inl serves ↦ (step.0, serves, step.2)
         | inr refuses ↦
-            let nine : is_nine reply ≡ true = refuses_nine old (old call.client) call.event reply step.0 refuses in
+            let nine : is_nine reply ≡ true =
+            refuses_nine old (old call.client) call.event reply step.0 refuses in
             absurd (cc)
       ]
 
-  pub own_step : (old new other next : State) (call : Call) (a b : Reply) → Step cost verdict old call a new → Step cost verdict other call b next
-      → old call.client ≡ other call.client → is_nine a ≡ false → is_nine b ≡ false → (a ≡ b) × (new call.client ≡ next call.client)
+  pub own_step : (old new other next : State) (call : Call) (a b : Reply)
+      → Step cost verdict old call a new → Step cost verdict other call b next
+      → old call.client ≡ other call.client → is_nine a ≡ false → is_nine b ≡ false
+      → (a ≡ b) × (new call.client ≡ next call.client)
   own_step old new other next call a b s t same free_a free_b =
       let f = ample old new call a free_a s in
       let g = ample other next call b free_b t in
-      let one = serves_one (other call.client) call.event a b f.0 g.0 (subst (λ (mine : Jobs). Serves cost verdict mine call.event a f.0) same f.1) g.1 in (
+      let one =
+      serves_one (other call.client) call.event a b f.0 g.0
+      (subst (λ (mine : Jobs). Serves cost verdict mine call.event a f.0) same f.1) g.1 in (
         one.0,
         ap (λ (state : State). state call.client) f.2
-            ∙ (here_now old call.client f.0 ∙ (one.1 ∙ (sym (here_now other call.client g.0) ∙ sym (ap (λ (state : State). state call.client) g.2)))),
+            ∙ (here_now old call.client f.0
+            ∙ (one.1
+            ∙ (sym (here_now other call.client g.0)
+            ∙ sym (ap (λ (state : State). state call.client) g.2)))),
       )
 
-  pub others_step : (old new : State) (call : Call) (reply : Reply) (client : ℕ) → Step cost verdict old call reply new → client ≢ call.client → new client ≡ old client
+  pub others_step : (old new : State) (call : Call) (reply : Reply) (client : ℕ)
+      → Step cost verdict old call reply new → client ≢ call.client → new client ≡ old client
   others_step old new call reply client step apart =
-      ap (λ (state : State). state client) step.2 ∙ others_stay old call.client client step.0 (eqb_no call.client client (λ e. apart (sym e)))
+      ap (λ (state : State). state client) step.2 ∙ others_stay old call.client client step.0
+      (eqb_no call.client client (λ e. apart (sym e)))
 
   -- what isn't done changes no job
-  opens_kept : (old : Jobs) (bytes : List ℕ) (limit : ℕ) (o : Option ℕ) (a : Reply) (m : Jobs) → Opens old bytes limit o a m → is_refused a ≡ true → m ≡ old
-  opens_kept old bytes limit (Some j) a m f undone = let done : is_refused a ≡ false = ap is_refused f.0 in absurd (cc)
+  opens_kept : (old : Jobs) (bytes : List ℕ) (limit : ℕ) (o : Option ℕ) (a : Reply) (m : Jobs)
+      → Opens old bytes limit o a m → is_refused a ≡ true → m ≡ old
+  opens_kept old bytes limit (Some j) a m f undone = let done : is_refused a ≡ false =
+      ap is_refused f.0 in absurd (cc)
   opens_kept old bytes limit None a m f undone = f.1
 
-  drops_kept : (old : Jobs) (j : ℕ) (o : Option JobView) (a : Reply) (m : Jobs) → Drops old j o a m → is_refused a ≡ true → m ≡ old
-  drops_kept old j (Some job) a m f undone = let done : is_refused a ≡ false = ap is_refused f.0 in absurd (cc)
+  drops_kept : (old : Jobs) (j : ℕ) (o : Option JobView) (a : Reply) (m : Jobs) → Drops old j o a m
+      → is_refused a ≡ true → m ≡ old
+  drops_kept old j (Some job) a m f undone = let done : is_refused a ≡ false = ap is_refused f.0 in
+      absurd (cc)
   drops_kept old j None a m f undone = f.1
 
-  works_kept : (old : Jobs) (j u : ℕ) (o : Option JobView) (a : Reply) (m : Jobs) → Works cost verdict old j u o a m → is_refused a ≡ true → m ≡ old
+  works_kept : (old : Jobs) (j u : ℕ) (o : Option JobView) (a : Reply) (m : Jobs)
+      → Works cost verdict old j u o a m → is_refused a ≡ true → m ≡ old
   works_kept old j u (Some job) a m f undone =
-      let done : is_refused a ≡ false = ap is_refused f.0 ∙ told_done (worked cost verdict job u).ended in
+      let done : is_refused a ≡ false =
+      ap is_refused f.0 ∙ told_done (worked cost verdict job u).ended in
       absurd (cc)
   works_kept old j u None a m f undone = f.1
 
-  asks_kept : (old : Jobs) (X : List ℕ) (o : Option JobView) (a : Reply) (m : Jobs) → Asks old X o a m → m ≡ old
+  asks_kept : (old : Jobs) (X : List ℕ) (o : Option JobView) (a : Reply) (m : Jobs)
+      → Asks old X o a m → m ≡ old
   asks_kept old X (Some job) a m f = f.1
   asks_kept old X None a m f = f.1
 
-  plays_kept : (old : Jobs) (X : List ℕ) (o : Option JobView) (a : Reply) (m : Jobs) → Plays old X o a m → m ≡ old
+  plays_kept : (old : Jobs) (X : List ℕ) (o : Option JobView) (a : Reply) (m : Jobs)
+      → Plays old X o a m → m ≡ old
   plays_kept old X (Some job) a m f = f.1
   plays_kept old X None a m f = f.1
 
-  serves_kept : (old : Jobs) (e : Event) (a : Reply) (m : Jobs) → Serves cost verdict old e a m → is_refused a ≡ true → m ≡ old
-  serves_kept old (Open bytes limit) a m f undone = opens_kept old bytes limit (least_free old) a m f undone
+  serves_kept : (old : Jobs) (e : Event) (a : Reply) (m : Jobs) → Serves cost verdict old e a m
+      → is_refused a ≡ true → m ≡ old
+  serves_kept old (Open bytes limit) a m f undone =
+      opens_kept old bytes limit (least_free old) a m f undone
   serves_kept old (Work j u) a m f undone = works_kept old j u (old j) a m f undone
   serves_kept old (Drop j) a m f undone = drops_kept old j (old j) a m f undone
   serves_kept old (Ask j X) a m f undone = asks_kept old X (old j) a m f
   serves_kept old (Play j X) a m f undone = plays_kept old X (old j) a m f
 
-  starves_kept : (state : State) (old : Jobs) (j u : ℕ) (o : Option JobView) (a : Reply) (m : Jobs) → Starves cost verdict state old j u o a m → is_refused a ≡ true → m ≡ old
-  starves_kept state old j u (Some job) a m f undone = let done : is_refused a ≡ false = ap is_refused f.3 in absurd (cc)
+  starves_kept : (state : State) (old : Jobs) (j u : ℕ) (o : Option JobView) (a : Reply) (m : Jobs)
+      → Starves cost verdict state old j u o a m → is_refused a ≡ true → m ≡ old
+  starves_kept state old j u (Some job) a m f undone = let done : is_refused a ≡ false =
+      ap is_refused f.3 in absurd (cc)
   starves_kept state old j u None a m f undone = absurd f
 
-  refuses_kept : (state : State) (old : Jobs) (e : Event) (a : Reply) (m : Jobs) → Refuses cost verdict state old e a m → is_refused a ≡ true → m ≡ old
+  refuses_kept : (state : State) (old : Jobs) (e : Event) (a : Reply) (m : Jobs)
+      → Refuses cost verdict state old e a m → is_refused a ≡ true → m ≡ old
   refuses_kept state old (Open bytes limit) a m f undone = f.3
   refuses_kept state old (Work j u) a m f undone = starves_kept state old j u (old j) a m f undone
   refuses_kept state old (Drop j) a m f undone = absurd f
   refuses_kept state old (Ask j X) a m f undone = absurd f
   refuses_kept state old (Play j X) a m f undone = absurd f
 
-  pub refused_step : (old new : State) (call : Call) (reply : Reply) → Step cost verdict old call reply new → is_refused reply ≡ true → new ≡ old
+  pub refused_step : (old new : State) (call : Call) (reply : Reply)
+      → Step cost verdict old call reply new → is_refused reply ≡ true → new ≡ old
   refused_step old new call reply step undone =
       let kept : step.0 ≡ old call.client = elim step.1 [
         | inl serves ↦ serves_kept (old call.client) call.event reply step.0 serves undone
@@ -182,7 +223,9 @@ module _ (right_one : (code X : List ℕ) (a b : Advice) → IsRightAnswer code 
       step.2 ∙ (ap (λ jobs. with_jobs old call.client jobs) kept ∙ sym (with_same old call.client))
 
   -- two ample runs of the same calls give the same replies
-  pub runs_one : (calls : List Call) (a b : List Reply) (old s t : State) → Run (AmpleStep cost verdict) old calls a s → Run (AmpleStep cost verdict) old calls b t → a ≡ b
+  pub runs_one : (calls : List Call) (a b : List Reply) (old s t : State)
+      → Run (AmpleStep cost verdict) old calls a s → Run (AmpleStep cost verdict) old calls b t
+      → a ≡ b
   runs_one [] [] [] old s t f g = refl
   runs_one [] (x ∷ a) b old s t f g = absurd f
   runs_one [] [] (y ∷ b) old s t f g = absurd g
@@ -190,33 +233,62 @@ module _ (right_one : (code X : List ℕ) (a b : Advice) → IsRightAnswer code 
   runs_one (call ∷ calls) (x ∷ a) [] old s t f g = absurd g
   runs_one (call ∷ calls) (x ∷ a) (y ∷ b) old s t f g =
       let one = serves_one (old call.client) call.event x y f.1.0 g.1.0 f.1.1 g.1.1 in
-      let mids : f.0 ≡ g.0 = f.1.2 ∙ (ap (λ jobs. with_jobs old call.client jobs) one.1 ∙ sym g.1.2) in
+      let mids : f.0 ≡ g.0 = f.1.2 ∙ (ap (λ jobs. with_jobs old call.client jobs) one.1 ∙ sym g.1.2)
+      in
       let P : State → Type 0 = λ mid. Run (AmpleStep cost verdict) mid calls a s in
       let rest : a ≡ b = runs_one calls a b g.0 s t (subst P mids f.2) g.2 in
       ap (λ r. r ∷ a) one.0 ∙ ap (λ l. y ∷ l) rest
 
-  -- the jobs of a client, after a step of any client, are those that the same step leaves where the client's jobs were the same
-  own_after : (s t : State) (client other : ℕ) (jobs : Jobs) → s other ≡ t other → with_jobs s client jobs other ≡ with_jobs t client jobs other
+  -- the jobs of a client, after a step of any client, are those that the same step leaves where the
+  -- client's jobs were the same
+  own_after : (s t : State) (client other : ℕ) (jobs : Jobs) → s other ≡ t other
+      → with_jobs s client jobs other ≡ with_jobs t client jobs other
   own_after s t client other jobs e = ap (λ mine. if client == other then jobs else mine) e
 
-  own_case : (call : Call) (calls : List Call) (reply : Reply) (replies : List Reply) (old alone end : State) (client : ℕ)
+  own_case : (call : Call) (calls : List Call) (reply : Reply) (replies : List Reply)
+      (old alone end : State) (client : ℕ)
       → old client ≡ alone client → Run (Step cost verdict) old (call ∷ calls) (reply ∷ replies) end
-      → ((mid other : State) → mid client ≡ other client → Run (Step cost verdict) mid calls replies end → HasNoNine (replies_to client calls replies)
+      → ((mid other : State) → mid client ≡ other client
+      → Run (Step cost verdict) mid calls replies end
+      → HasNoNine (replies_to client calls replies)
       → AmpleRun cost verdict other (calls_of client calls) (replies_to client calls replies))
       → (b : Bool) → (call.client == client) ≡ b
-      → HasNoNine (if b then reply ∷ replies_to client calls replies else replies_to client calls replies)
-      → AmpleRun cost verdict alone (if b then call ∷ calls_of client calls else calls_of client calls) (if b then reply ∷ replies_to client calls replies else replies_to client calls replies)
+      → HasNoNine
+      (if b then reply ∷ replies_to client calls replies else replies_to client calls replies)
+      → AmpleRun cost verdict alone
+      (if b then call ∷ calls_of client calls else calls_of client calls)
+      (if b then reply ∷ replies_to client calls replies else replies_to client calls replies)
   own_case call calls reply replies old alone end client same run further false e free =
-      further run.0 alone (ap (λ s. s client) run.1.2 ∙ (others_stay old call.client client run.1.0 e ∙ same)) run.2 free
+      further run.0 alone
+      (ap (λ s. s client) run.1.2 ∙ (others_stay old call.client client run.1.0 e ∙ same)) run.2
+      free
   own_case call calls reply replies old alone end client same run further true e free =
       let is : call.client ≡ client = eqb-true call.client client e in
-      let here : old call.client ≡ alone call.client = subst (λ (c : ℕ). old c ≡ alone c) (sym is) same in
-      let step = ample old run.0 call reply (none_head reply (replies_to client calls replies) free) run.1 in
+      let here : old call.client ≡ alone call.client =
+      subst (λ (c : ℕ). old c ≡ alone c) (sym is) same in
+      let step =
+      ample old run.0 call reply (none_head reply (replies_to client calls replies) free) run.1
+      in
       let next : State = with_jobs alone call.client step.0 in
-      let rest = further run.0 next (ap (λ s. s client) step.2 ∙ own_after old alone call.client client step.0 same) run.2 (none_tail reply (replies_to client calls replies) free) in
-      (rest.0, (next, (step.0, subst (λ (mine : Jobs). Serves cost verdict mine call.event reply step.0) here step.1, refl), rest.1))
+      let rest =
+      further run.0 next
+      (ap (λ s. s client) step.2 ∙ own_after old alone call.client client step.0 same) run.2
+      (none_tail reply (replies_to client calls replies) free) in (
+        rest.0,
+        (
+          next,
+          (
+            step.0,
+            subst (λ (mine : Jobs). Serves cost verdict mine call.event reply step.0) here
+                step.1,
+            refl,
+          ),
+          rest.1,
+        ),
+      )
 
-  pub alone_from : (calls : List Call) (replies : List Reply) (old alone end : State) (client : ℕ) → old client ≡ alone client
+  pub alone_from : (calls : List Call) (replies : List Reply) (old alone end : State) (client : ℕ)
+      → old client ≡ alone client
       → Run (Step cost verdict) old calls replies end → HasNoNine (replies_to client calls replies)
       → AmpleRun cost verdict alone (calls_of client calls) (replies_to client calls replies)
   alone_from [] [] old alone end client same run free = (alone, refl)

@@ -14,7 +14,8 @@ use Rattle.desk.specs.Desks.{job_at, state_of, IsWith, NoneAsFarIn, HaveWorked}
 use Rattle.desk.proofs.Lists.{with_here}
 use Rattle.desk.proofs.Places.{state_with}
 
-pub state_at : (jobs : List (Option JobView)) (c n place : ℕ) → place_of c n ≡ Some place → state_of jobs c n ≡ get_or jobs place None
+pub state_at : (jobs : List (Option JobView)) (c n place : ℕ) → place_of c n ≡ Some place
+    → state_of jobs c n ≡ get_or jobs place None
 state_at jobs c n place at = ap (job_at jobs) at
 
 same_case : (s : State) (c d : ℕ) (b : Bool) → (c == d) ≡ b → s d ≡ (if b then s c else s d)
@@ -25,78 +26,111 @@ same_case s c d false e = refl
 pub with_same : (s : State) (c : ℕ) → s ≡ with_jobs s c (s c)
 with_same s c = fun_ext (λ d. same_case s c d (c == d) refl)
 
-first_case : (jobs : List (Option JobView)) (bytes : List ℕ) (limit spent : ℕ) → NoneAsFarIn jobs bytes limit spent
-    → (o : Option ℕ) (job : JobView) → job_at jobs o ≡ Some job → job.ended ≢ Some Memory → job.bytes ≡ bytes → job.limit ≡ limit → spent ≤ job.spent → ⊥
+first_case : (jobs : List (Option JobView)) (bytes : List ℕ) (limit spent : ℕ)
+    → NoneAsFarIn jobs bytes limit spent
+    → (o : Option ℕ) (job : JobView) → job_at jobs o ≡ Some job → job.ended ≢ Some Memory
+    → job.bytes ≡ bytes → job.limit ≡ limit → spent ≤ job.spent → ⊥
 first_case jobs bytes limit spent first None job at = absurd (cc)
 first_case jobs bytes limit spent first (Some i) job at = first i job at
 
-pub first_at : (jobs : List (Option JobView)) (bytes : List ℕ) (limit spent : ℕ) → NoneAsFarIn jobs bytes limit spent → NoneAsFar (state_of jobs) bytes limit spent
-first_at jobs bytes limit spent first = λ client number job at. first_case jobs bytes limit spent first (place_of client number) job at
+pub first_at : (jobs : List (Option JobView)) (bytes : List ℕ) (limit spent : ℕ)
+    → NoneAsFarIn jobs bytes limit spent → NoneAsFar (state_of jobs) bytes limit spent
+first_at jobs bytes limit spent first =
+    λ client number job at. first_case jobs bytes limit spent first (place_of client number) job at
 
 module _ (old new : List (Option JobView)) (c n units : ℕ) where
-  pub work_nowhere : place_of c n ≡ None → Step cost verdict (state_of old) (record { client = c; event = Work n units }) (told_of (state_of old c n)) (state_of old)
+  pub work_nowhere : place_of c n ≡ None
+      → Step cost verdict (state_of old) (record { client = c; event = Work n units })
+      (told_of (state_of old c n)) (state_of old)
   work_nowhere at =
       let none : state_of old c n ≡ None = ap (job_at old) at in (
         state_of old c,
-        inl (subst (λ (q : Option JobView). Works cost verdict (state_of old c) n units q (told_of q) (state_of old c)) (sym none) (refl, refl)),
+        inl (subst
+            (λ (q : Option JobView). Works cost verdict (state_of old c) n units q (told_of q)
+            (state_of old c)) (sym none) (refl, refl)),
         with_same (state_of old) c,
       )
 
-  work_case : (place : ℕ) → place_of c n ≡ Some place → (o : Option JobView) → get_or old place None ≡ o → HaveWorked old place o units new
-      → Step cost verdict (state_of old) (record { client = c; event = Work n units }) (told_of (state_of new c n)) (state_of new)
+  work_case : (place : ℕ) → place_of c n ≡ Some place → (o : Option JobView)
+      → get_or old place None ≡ o → HaveWorked old place o units new
+      → Step cost verdict (state_of old) (record { client = c; event = Work n units })
+      (told_of (state_of new c n)) (state_of new)
   work_case place at None is same =
       let none : state_of old c n ≡ None = state_at old c n place at ∙ is in
-      subst (λ (jobs : List (Option JobView)). Step cost verdict (state_of old) (record { client = c; event = Work n units }) (told_of (state_of jobs c n)) (state_of jobs)) (sym same) (
+      subst (λ (jobs : List (Option JobView)). Step cost verdict (state_of old)
+      (record { client = c; event = Work n units }) (told_of (state_of jobs c n))
+      (state_of jobs)) (sym same) (
         state_of old c,
-        inl (subst (λ (q : Option JobView). Works cost verdict (state_of old c) n units q (told_of q) (state_of old c)) (sym none) (refl, refl)),
+        inl (subst
+            (λ (q : Option JobView). Works cost verdict (state_of old c) n units q (told_of q)
+            (state_of old c)) (sym none) (refl, refl)),
         with_same (state_of old) c,
       )
   work_case place at (Some job) is (inl with) =
       let here : state_of old c n ≡ Some job = state_at old c n place at ∙ is in
-      let now : state_of new c n ≡ Some (worked cost verdict job units) = state_at new c n place at ∙ with_here old new place (Some (worked cost verdict job units)) with in
+      let now : state_of new c n ≡ Some (worked cost verdict job units) =
+      state_at new c n place at ∙ with_here old new place (Some (worked cost verdict job units))
+      with in
       let jobs : Jobs = with_job (state_of old c) n (Some (worked cost verdict job units)) in (
         jobs,
-        inl (subst (λ (q : Option JobView). Works cost verdict (state_of old c) n units q (told_of (state_of new c n)) jobs) (sym here) (ap told_of now, refl)),
+        inl (subst
+            (λ (q : Option JobView). Works cost verdict (state_of old c) n units q
+            (told_of (state_of new c n)) jobs) (sym here) (ap told_of now, refl)),
         state_with old new c n place (Some (worked cost verdict job units)) at with,
       )
   work_case place at (Some job) is (inr wanting) =
       let here : state_of old c n ≡ Some job = state_at old c n place at ∙ is in
-      let now : state_of new c n ≡ Some (starved job) = state_at new c n place at ∙ with_here old new place (Some (starved job)) wanting.jobs_are in
+      let now : state_of new c n ≡ Some (starved job) =
+      state_at new c n place at ∙ with_here old new place (Some (starved job)) wanting.jobs_are
+      in
       let jobs : Jobs = with_job (state_of old c) n (Some (starved job)) in (
         jobs,
-        inr (subst (λ (q : Option JobView). Starves cost verdict (state_of old) (state_of old c) n units q (told_of (state_of new c n)) jobs) (sym here) (
-          wanting.going,
-          wanting.within,
-          first_at old job.bytes job.limit (min (job.spent + units) (cost job.bytes job.limit)) wanting.first,
-          ap told_of now,
-          refl,
-        )),
+        inr (subst
+            (λ (q : Option JobView). Starves cost verdict (state_of old) (state_of old c) n units q
+            (told_of (state_of new c n)) jobs) (sym here) (
+              wanting.going,
+              wanting.within,
+              first_at old job.bytes job.limit (min (job.spent + units) (cost job.bytes job.limit))
+                  wanting.first,
+              ap told_of now,
+              refl,
+            )),
         state_with old new c n place (Some (starved job)) at wanting.jobs_are,
       )
 
-  pub work_step : (place : ℕ) → place_of c n ≡ Some place → HaveWorked old place (get_or old place None) units new
-      → Step cost verdict (state_of old) (record { client = c; event = Work n units }) (told_of (state_of new c n)) (state_of new)
+  pub work_step : (place : ℕ) → place_of c n ≡ Some place
+      → HaveWorked old place (get_or old place None) units new
+      → Step cost verdict (state_of old) (record { client = c; event = Work n units })
+      (told_of (state_of new c n)) (state_of new)
   work_step place at h = work_case place at (get_or old place None) refl h
 
 module _ (old new : List (Option JobView)) (c : ℕ) (bytes : List ℕ) (limit : ℕ) where
-  pub open_step : (n place : ℕ) → place_of c n ≡ Some place → least_free (state_of old c) ≡ Some n → IsWith old place (Some (fresh bytes limit)) new
-      → Step cost verdict (state_of old) (record { client = c; event = Open bytes limit }) (Opened n) (state_of new)
+  pub open_step : (n place : ℕ) → place_of c n ≡ Some place → least_free (state_of old c) ≡ Some n
+      → IsWith old place (Some (fresh bytes limit)) new
+      → Step cost verdict (state_of old) (record { client = c; event = Open bytes limit })
+      (Opened n) (state_of new)
   open_step n place at free with =
       let jobs : Jobs = with_job (state_of old c) n (Some (fresh bytes limit)) in (
         jobs,
-        inl (subst (λ (o : Option ℕ). Opens (state_of old c) bytes limit o (Opened n) jobs) (sym free) (refl, refl)),
+        inl (subst (λ (o : Option ℕ). Opens (state_of old c) bytes limit o (Opened n) jobs)
+            (sym free) (refl, refl)),
         state_with old new c n place (Some (fresh bytes limit)) at with,
       )
 
-  pub open_full : least_free (state_of old c) ≡ None → Step cost verdict (state_of old) (record { client = c; event = Open bytes limit }) Full (state_of old)
+  pub open_full : least_free (state_of old c) ≡ None
+      → Step cost verdict (state_of old) (record { client = c; event = Open bytes limit }) Full
+      (state_of old)
   open_full full = (
     state_of old c,
-    inl (subst (λ (o : Option ℕ). Opens (state_of old c) bytes limit o Full (state_of old c)) (sym full) (refl, refl)),
+    inl (subst (λ (o : Option ℕ). Opens (state_of old c) bytes limit o Full (state_of old c))
+        (sym full) (refl, refl)),
     with_same (state_of old) c,
   )
 
-  pub open_starved : (n : ℕ) → least_free (state_of old c) ≡ Some n → NoneAsFarIn old bytes limit 0 → new ≡ old
-      → Step cost verdict (state_of old) (record { client = c; event = Open bytes limit }) NoMemory (state_of new)
+  pub open_starved : (n : ℕ) → least_free (state_of old c) ≡ Some n → NoneAsFarIn old bytes limit 0
+      → new ≡ old
+      → Step cost verdict (state_of old) (record { client = c; event = Open bytes limit }) NoMemory
+      (state_of new)
   open_starved n free first same =
       let no : least_free (state_of old c) ≢ None = λ e. absurd (cc) in (
         state_of old c,
@@ -105,30 +139,43 @@ module _ (old new : List (Option JobView)) (c : ℕ) (bytes : List ℕ) (limit :
       )
 
 module _ (old new : List (Option JobView)) (c n : ℕ) where
-  drop_case : (place : ℕ) → place_of c n ≡ Some place → (o : Option JobView) → get_or old place None ≡ o → is_free o ≡ false → IsWith old place None new
-      → Step cost verdict (state_of old) (record { client = c; event = Drop n }) Dropped (state_of new)
+  drop_case : (place : ℕ) → place_of c n ≡ Some place → (o : Option JobView)
+      → get_or old place None ≡ o → is_free o ≡ false → IsWith old place None new
+      → Step cost verdict (state_of old) (record { client = c; event = Drop n }) Dropped
+      (state_of new)
   drop_case place at None is held with = absurd (cc)
   drop_case place at (Some job) is held with =
       let here : state_of old c n ≡ Some job = state_at old c n place at ∙ is in
-      let jobs : Jobs = with_job (state_of old c) n None in
-      (jobs, inl (subst (λ (q : Option JobView). Drops (state_of old c) n q Dropped jobs) (sym here) (refl, refl)), state_with old new c n place None at with)
+      let jobs : Jobs = with_job (state_of old c) n None in (
+        jobs,
+        inl (subst (λ (q : Option JobView). Drops (state_of old c) n q Dropped jobs) (sym here)
+            (refl, refl)),
+        state_with old new c n place None at with,
+      )
 
-  pub drop_step : (place : ℕ) → place_of c n ≡ Some place → is_free (get_or old place None) ≡ false → IsWith old place None new
-      → Step cost verdict (state_of old) (record { client = c; event = Drop n }) Dropped (state_of new)
+  pub drop_step : (place : ℕ) → place_of c n ≡ Some place → is_free (get_or old place None) ≡ false
+      → IsWith old place None new
+      → Step cost verdict (state_of old) (record { client = c; event = Drop n }) Dropped
+      (state_of new)
   drop_step place at held with = drop_case place at (get_or old place None) refl held with
 
-  pub drop_nothing : state_of old c n ≡ None → new ≡ old → Step cost verdict (state_of old) (record { client = c; event = Drop n }) NoJob (state_of new)
+  pub drop_nothing : state_of old c n ≡ None → new ≡ old
+      → Step cost verdict (state_of old) (record { client = c; event = Drop n }) NoJob
+      (state_of new)
   drop_nothing none same = (
     state_of old c,
-    inl (subst (λ (q : Option JobView). Drops (state_of old c) n q NoJob (state_of old c)) (sym none) (refl, refl)),
+    inl (subst (λ (q : Option JobView). Drops (state_of old c) n q NoJob (state_of old c))
+        (sym none) (refl, refl)),
     ap state_of same ∙ with_same (state_of old) c,
   )
 
 -- a step that changes no job
 pub same_step : (jobs : List (Option JobView)) (c : ℕ) (e f : Event) (reply : Reply) → e ≡ f
-    → Serves cost verdict (state_of jobs c) f reply (state_of jobs c) → Step cost verdict (state_of jobs) (record { client = c; event = e }) reply (state_of jobs)
+    → Serves cost verdict (state_of jobs c) f reply (state_of jobs c)
+    → Step cost verdict (state_of jobs) (record { client = c; event = e }) reply (state_of jobs)
 same_step jobs c e f reply is serves = (
   state_of jobs c,
-  inl (subst (λ (g : Event). Serves cost verdict (state_of jobs c) g reply (state_of jobs c)) (sym is) serves),
+  inl (subst (λ (g : Event). Serves cost verdict (state_of jobs c) g reply (state_of jobs c))
+      (sym is) serves),
   with_same (state_of jobs) c,
 )

@@ -36,7 +36,9 @@ state_of jobs = λ client number. job_at jobs (place_of client number)
 
 -- a step of the machine
 abbrev pub IsStep : List (Option JobView) → ℕ → Event → Reply → List (Option JobView) → Type 0
-IsStep old client event reply new = Step cost verdict (state_of old) (record { client = client; event = event }) reply (state_of new)
+IsStep old client event reply new =
+    Step cost verdict (state_of old) (record { client = client; event = event }) reply
+    (state_of new)
 
 -- that leaves the client's jobs as they are
 abbrev pub IsServed : Jobs → Event → Reply → Type 0
@@ -46,17 +48,20 @@ IsServed jobs event reply = Serves cost verdict jobs event reply jobs
 abbrev pub HasSlot : List (Option Slot) → ℕ → Type 0
 HasSlot places k = (i : ℕ) × (s : Slot) × (slot_at places i ≡ Some s) × (s.core ≡ k)
 
--- Each job has a core, beside which it stands, and each core a job; no core has ended for want of memory, and no two have the same bytes
--- and limit.
+-- Each job has a core, beside which it stands, and each core a job; no core has ended for want of
+-- memory, and no two have the same bytes and limit.
 pub record IsDesk (places : List (Option Slot)) (cores : List (Option JobView)) : Type 0 where
-  pub held : (i : ℕ) (s : Slot) → slot_at places i ≡ Some s → (core : JobView) × (core_at cores s.core ≡ Some core) × StandsBeside s.standing s.spent core
+  pub held : (i : ℕ) (s : Slot) → slot_at places i ≡ Some s
+      → (core : JobView) × (core_at cores s.core ≡ Some core) × StandsBeside s.standing s.spent core
   pub used : (k : ℕ) (core : JobView) → core_at cores k ≡ Some core → HasSlot places k
   pub sound : (k : ℕ) (core : JobView) → core_at cores k ≡ Some core → core.ended ≢ Some Memory
-  pub apart : (k l : ℕ) (a b : JobView) → core_at cores k ≡ Some a → core_at cores l ≡ Some b → a.bytes ≡ b.bytes → a.limit ≡ b.limit → k ≡ l
+  pub apart : (k l : ℕ) (a b : JobView) → core_at cores k ≡ Some a → core_at cores l ≡ Some b
+      → a.bytes ≡ b.bytes → a.limit ≡ b.limit → k ≡ l
 
 -- the list with x at this place, and the others as they were
 abbrev pub IsWith : {X : Type 0} → List (Option X) → ℕ → Option X → List (Option X) → Type 0
-IsWith old place x new = (i : ℕ) → slice_index_or new i None ≡ (if place == i then x else slice_index_or old i None)
+IsWith old place x new = (i : ℕ)
+    → slice_index_or new i None ≡ (if place == i then x else slice_index_or old i None)
 
 -- No job that hasn't ended for want of memory has these bytes and this limit and is as far.
 abbrev pub NoneAsFarIn : List (Option JobView) → List ℕ → ℕ → ℕ → Type 0
@@ -65,17 +70,21 @@ NoneAsFarIn jobs bytes limit spent =
     → job.bytes ≡ bytes → job.limit ≡ limit → spent ≤ job.spent → ⊥
 
 -- the job that was to work ended for want of memory
-pub record IsStarvedAt (old : List (Option JobView)) (place : ℕ) (job : JobView) (units : ℕ) (new : List (Option JobView)) : Type 0 where
+pub record IsStarvedAt (old : List (Option JobView)) (place : ℕ) (job : JobView) (units : ℕ)
+    (new : List (Option JobView)) : Type 0 where
   pub going : job.ended ≡ None
   pub within : job.spent ≤ cost job.bytes job.limit
-  pub first : NoneAsFarIn old job.bytes job.limit (min (job.spent + units) (cost job.bytes job.limit))
+  pub first : NoneAsFarIn old job.bytes job.limit
+      (min (job.spent + units) (cost job.bytes job.limit))
   pub jobs_are : IsWith old place (Some (starved job)) new
 
 -- the jobs after that of this place worked
-abbrev pub HaveWorked : List (Option JobView) → ℕ → Option JobView → ℕ → List (Option JobView) → Type 0
+abbrev pub HaveWorked : List (Option JobView) → ℕ → Option JobView → ℕ → List (Option JobView)
+    → Type 0
 HaveWorked old place None units new = new ≡ old
 HaveWorked old place (Some job) units new =
-    IsWith old place (Some (worked cost verdict job units)) new ⊎ IsStarvedAt old place job units new
+    IsWith old place (Some (worked cost verdict job units)) new
+    ⊎ IsStarvedAt old place job units new
 
 -- the slots of a client, by the numbers of its jobs
 abbrev pub slot_of : List (Option Slot) → Option ℕ → Option Slot
@@ -87,13 +96,17 @@ slots_of places client number = slot_of places (place_of client number)
 
 -- core k has these bytes and this limit
 abbrev pub IsCoreOf : List (Option JobView) → List ℕ → ℕ → ℕ → Type 0
-IsCoreOf cores bytes limit k = (core : JobView) × (core_at cores k ≡ Some core) × (core.bytes ≡ bytes) × (core.limit ≡ limit)
+IsCoreOf cores bytes limit k = (core : JobView) × (core_at cores k ≡ Some core)
+    × (core.bytes ≡ bytes) × (core.limit ≡ limit)
 
 abbrev pub HasNoCore : List (Option JobView) → List ℕ → ℕ → Type 0
-HasNoCore cores bytes limit = (k : ℕ) (core : JobView) → core_at cores k ≡ Some core → core.bytes ≡ bytes → core.limit ≡ limit → ⊥
+HasNoCore cores bytes limit = (k : ℕ) (core : JobView) → core_at cores k ≡ Some core
+    → core.bytes ≡ bytes → core.limit ≡ limit → ⊥
 
--- Core k is that of these bytes and this limit: the one that was there, or a new one where there was none.
+-- Core k is that of these bytes and this limit: the one that was there, or a new one where there
+-- was none.
 abbrev pub IsCoreFor : List (Option JobView) → List ℕ → ℕ → ℕ → List (Option JobView) → Type 0
 IsCoreFor old bytes limit k new =
     (IsCoreOf old bytes limit k × (new ≡ old))
-    ⊎ (HasNoCore old bytes limit × (core_at old k ≡ None) × IsWith old k (Some (fresh bytes limit)) new)
+    ⊎ (HasNoCore old bytes limit × (core_at old k ≡ None)
+    × IsWith old k (Some (fresh bytes limit)) new)

@@ -1,5 +1,6 @@
--- The desk as a machine: which jobs each client has open, and how a step of a client may be answered. This project's own. A check is known
--- by two functions of its bytes and limit alone: what it costs, in units, and its verdict.
+-- The desk as a machine: which jobs each client has open, and how a step of a client may be
+-- answered. This project's own. A check is known by two functions of its bytes and limit alone:
+-- what it costs, in units, and its verdict.
 use Rattle.std.specs.Prelude.{◌≡◌, ◌≢◌, ◌⊎◌, ℕ, ◌+◌, ◌≤◌, ◌==◌, nat_lt, Bool, true, false, if◌then◌else◌, List, Option, Some, None, min}
 use Rattle.outcome_search.specs.Outcomes.{HasOutcome}
 use Rattle.outcome_search.specs.declared.answer.Outcome.{Outcome}
@@ -17,7 +18,8 @@ Jobs = ℕ → Option JobView
 abbrev pub State : Type 0
 State = ℕ → Jobs
 
--- Open a job of these bytes and this limit; work a job by so many units; give it up; ask it for the outcome of a position, or what to play.
+-- Open a job of these bytes and this limit; work a job by so many units; give it up; ask it for the
+-- outcome of a position, or what to play.
 pub data Event : Type 0 where
   Open : List ℕ → ℕ → Event
   Work : ℕ → ℕ → Event
@@ -70,7 +72,8 @@ told None = Going
 told (Some a) = Says a
 
 abbrev pub Opens : Jobs → List ℕ → ℕ → Option ℕ → Reply → Jobs → Type 0
-Opens old bytes limit (Some number) reply new = (reply ≡ Opened number) × (new ≡ with_job old number (Some (fresh bytes limit)))
+Opens old bytes limit (Some number) reply new = (reply ≡ Opened number)
+    × (new ≡ with_job old number (Some (fresh bytes limit)))
 Opens old bytes limit None reply new = (reply ≡ Full) × (new ≡ old)
 
 abbrev pub Drops : Jobs → ℕ → Option JobView → Reply → Jobs → Type 0
@@ -95,7 +98,8 @@ abbrev pub Plays : Jobs → List ℕ → Option JobView → Reply → Jobs → T
 Plays old X (Some job) reply new = Advices job.ended X reply × (new ≡ old)
 Plays old X None reply new = (reply ≡ NoJob) × (new ≡ old)
 
--- No open job that hasn't ended for want of memory has these bytes and this limit and has spent so much.
+-- No open job that hasn't ended for want of memory has these bytes and this limit and has spent so
+-- much.
 abbrev pub NoneAsFar : State → List ℕ → ℕ → ℕ → Type 0
 NoneAsFar state bytes limit spent =
     (client number : ℕ) (job : JobView) → state client number ≡ Some job → job.ended ≢ Some Memory
@@ -107,17 +111,22 @@ module _ (cost : List ℕ → ℕ → ℕ) (verdict : List ℕ → ℕ → Answe
   worked_on None job units =
       if nat_lt (job.spent + units) (cost job.bytes job.limit)
       then record job { spent = job.spent + units; ended = None }
-      else record job { spent = cost job.bytes job.limit; ended = Some (verdict job.bytes job.limit) }
+      else record job {
+        spent = cost job.bytes job.limit;
+        ended = Some (verdict job.bytes job.limit);
+      }
   worked_on (Some a) job units = job
 
   abbrev pub worked : JobView → ℕ → JobView
   worked job units = worked_on job.ended job units
 
   abbrev pub Works : Jobs → ℕ → ℕ → Option JobView → Reply → Jobs → Type 0
-  Works old number units (Some job) reply new = (reply ≡ told (worked job units).ended) × (new ≡ with_job old number (Some (worked job units)))
+  Works old number units (Some job) reply new = (reply ≡ told (worked job units).ended)
+      × (new ≡ with_job old number (Some (worked job units)))
   Works old number units None reply new = (reply ≡ NoJob) × (new ≡ old)
 
-  -- From a client's jobs the event may be answered so, and leaves those, where memory isn't refused.
+  -- From a client's jobs the event may be answered so, and leaves those, where memory isn't
+  -- refused.
   abbrev pub Serves : Jobs → Event → Reply → Jobs → Type 0
   Serves old (Open bytes limit) reply new = Opens old bytes limit (least_free old) reply new
   Serves old (Work number units) reply new = Works old number units (old number) reply new
@@ -125,7 +134,8 @@ module _ (cost : List ℕ → ℕ → ℕ) (verdict : List ℕ → ℕ → Answe
   Serves old (Ask number X) reply new = Asks old X (old number) reply new
   Serves old (Play number X) reply new = Plays old X (old number) reply new
 
-  -- The job that was to work ends for want of memory. It goes on until then, and no equal job is as far as it was to come.
+  -- The job that was to work ends for want of memory. It goes on until then, and no equal job is as
+  -- far as it was to come.
   abbrev pub Starves : State → Jobs → ℕ → ℕ → Option JobView → Reply → Jobs → Type 0
   Starves state old number units (Some job) reply new =
       (job.ended ≡ None) × (job.spent ≤ cost job.bytes job.limit)
@@ -133,18 +143,25 @@ module _ (cost : List ℕ → ℕ → ℕ) (verdict : List ℕ → ℕ → Answe
       × (reply ≡ Says Memory) × (new ≡ with_job old number (Some (starved job)))
   Starves state old number units None reply new = ⊥
 
-  -- The same where memory is refused, to a client with those jobs in the state. Only Open and Work take any.
+  -- The same where memory is refused, to a client with those jobs in the state. Only Open and Work
+  -- take any.
   abbrev pub Refuses : State → Jobs → Event → Reply → Jobs → Type 0
-  Refuses state old (Open bytes limit) reply new = (least_free old ≢ None) × NoneAsFar state bytes limit 0 × (reply ≡ NoMemory) × (new ≡ old)
-  Refuses state old (Work number units) reply new = Starves state old number units (old number) reply new
+  Refuses state old (Open bytes limit) reply new = (least_free old ≢ None)
+      × NoneAsFar state bytes limit 0 × (reply ≡ NoMemory) × (new ≡ old)
+  Refuses state old (Work number units) reply new =
+      Starves state old number units (old number) reply new
   Refuses state old other reply new = ⊥
 
-  -- A step where memory is refused to nobody: the client's jobs and its event decide it, and no other client's jobs change.
+  -- A step where memory is refused to nobody: the client's jobs and its event decide it, and no
+  -- other client's jobs change.
   abbrev pub AmpleStep : State → Call → Reply → State → Type 0
-  AmpleStep old call reply new = (jobs : Jobs) × Serves (old call.client) call.event reply jobs × (new ≡ with_jobs old call.client jobs)
+  AmpleStep old call reply new = (jobs : Jobs) × Serves (old call.client) call.event reply jobs
+      × (new ≡ with_jobs old call.client jobs)
 
   -- A step, whether memory is refused in it or not.
   abbrev pub Step : State → Call → Reply → State → Type 0
   Step old call reply new =
-      (jobs : Jobs) × (Serves (old call.client) call.event reply jobs ⊎ Refuses old (old call.client) call.event reply jobs)
+      (jobs : Jobs)
+      × (Serves (old call.client) call.event reply jobs
+      ⊎ Refuses old (old call.client) call.event reply jobs)
       × (new ≡ with_jobs old call.client jobs)

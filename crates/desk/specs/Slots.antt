@@ -22,21 +22,34 @@ standing_of (Some other) = Ended
 
 -- the job of a slot whose core was opened with these bytes and this limit
 abbrev pub job_of : JobView → Slot → JobView
-job_of core s = record { bytes = core.bytes; limit = core.limit; spent = s.spent; ended = ending s.standing (verdict core.bytes core.limit) }
+job_of core s =
+    record {
+      bytes = core.bytes;
+      limit = core.limit;
+      spent = s.spent;
+      ended = ending s.standing (verdict core.bytes core.limit);
+    }
 
--- The slot stands beside its core: a job that goes on has spent less than it costs, one that has ended all, and then so has the core.
+-- The slot stands beside its core: a job that goes on has spent less than it costs, one that has
+-- ended all, and then so has the core.
 abbrev pub StandsBeside : Standing → ℕ → JobView → Type 0
 StandsBeside Going spent core = spent < cost core.bytes core.limit
-StandsBeside Ended spent core = (spent ≡ cost core.bytes core.limit) × (core.ended ≡ Some (verdict core.bytes core.limit))
+StandsBeside Ended spent core = (spent ≡ cost core.bytes core.limit)
+    × (core.ended ≡ Some (verdict core.bytes core.limit))
 StandsBeside Starved spent core = spent ≤ cost core.bytes core.limit
 
--- no job of the core that memory wasn't wanting to has spent more, and one has spent so many, if any
+-- no job of the core that memory wasn't wanting to has spent more, and one has spent so many, if
+-- any
 pub record IsFurthest (places : List (Option Slot)) (core most : ℕ) : Type 0 where
-  pub above : (i : ℕ) (s : Slot) → slice_index_or places i None ≡ Some s → s.core ≡ core → s.standing ≢ Starved → s.spent ≤ most
-  pub reached : (most ≡ 0) ⊎ ((i : ℕ) × (s : Slot) × (slice_index_or places i None ≡ Some s) × (s.core ≡ core) × (s.standing ≢ Starved) × (s.spent ≡ most))
+  pub above : (i : ℕ) (s : Slot) → slice_index_or places i None ≡ Some s → s.core ≡ core
+      → s.standing ≢ Starved → s.spent ≤ most
+  pub reached : (most ≡ 0)
+      ⊎ ((i : ℕ) × (s : Slot) × (slice_index_or places i None ≡ Some s) × (s.core ≡ core)
+      × (s.standing ≢ Starved) × (s.spent ≡ most))
 
 -- the core after a slot of it has gone on, and the slot
-pub record HasGoneOn (old : JobView) (furthest : ℕ) (slot : Slot) (units : ℕ) (new : JobView) (after : Slot) : Type 0 where
+pub record HasGoneOn (old : JobView) (furthest : ℕ) (slot : Slot) (units : ℕ) (new : JobView)
+    (after : Slot) : Type 0 where
   pub bytes : new.bytes ≡ old.bytes
   pub limit : new.limit ≡ old.limit
   pub sound : new.ended ≢ Some Memory
@@ -44,4 +57,5 @@ pub record HasGoneOn (old : JobView) (furthest : ℕ) (slot : Slot) (units : ℕ
   pub core : after.core ≡ slot.core
   pub stands : StandsBeside after.standing after.spent new
   pub gone : (job_of new after ≡ worked cost verdict (job_of old slot) units)
-      ⊎ ((after.standing ≡ Starved) × (after.spent ≡ slot.spent) × (furthest < min (slot.spent + units) (cost old.bytes old.limit)))
+      ⊎ ((after.standing ≡ Starved) × (after.spent ≡ slot.spent)
+      × (furthest < min (slot.spent + units) (cost old.bytes old.limit)))

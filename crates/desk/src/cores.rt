@@ -6,7 +6,8 @@ use allocation::{Memory, Room};
 use checker::Job;
 use std::mem;
 
-/// The core of these bytes and this limit, a new one where there is none. A new one alone may take memory.
+/// The core of these bytes and this limit, a new one where there is none. A new one alone may take
+/// memory.
 pub(crate) fn core_for<A: Room + Copy>(
     cores: &mut Vec<Option<Job<A>>, A>,
     alloc: A,
@@ -14,7 +15,8 @@ pub(crate) fn core_for<A: Room + Copy>(
     limit: u32,
 ) -> Result<usize, Memory>
     ensures ok { IfOk result (λ k. IsCoreFor cores.old.items bytes.items limit k cores.new.items) }
-    ensures err { OnErr result ((cores.new.items ≡ cores.old.items) × HasNoCore cores.old.items bytes.items limit) }
+    ensures err { OnErr result ((cores.new.items ≡ cores.old.items)
+        × HasNoCore cores.old.items bytes.items limit) }
 {
     if let Some(core) = find(cores, &bytes, limit) {
         return Ok(core);
@@ -53,7 +55,8 @@ fn find<A: Room>(cores: &Vec<Option<Job<A>>, A>, bytes: &[u8], limit: u32) -> Op
 
 /// A place without a core.
 fn vacancy<A: Room>(cores: &Vec<Option<Job<A>>, A>) -> Option<usize>
-    ensures { IfSome result (λ k. (k < length cores.now.items) × (core_at cores.now.items k ≡ None)) }
+    ensures { IfSome result (λ k. (k < length cores.now.items)
+        × (core_at cores.now.items k ≡ None)) }
 {
     for i in 0..cores.len() {
         if cores[i].is_none() {

@@ -11,8 +11,8 @@ use positions::Position;
 use std::alloc::Global;
 use std::marker::Model;
 
-/// Jobs of sixteen clients, four each, seen as the machine's state. Open jobs of the same bytes and limit share one check, so the desk
-/// takes the memory of its different checks.
+/// Jobs of sixteen clients, four each, seen as the machine's state. Open jobs of the same bytes and
+/// limit share one check, so the desk takes the memory of its different checks.
 #[derive(Drop)]
 pub struct Desk<A: Room = Global> {
     alloc: A,
@@ -59,12 +59,15 @@ impl<A: Room + Copy> Desk<A> {
         }
     }
 
-    /// One step of a client: a step of the machine. It acts on one job of that client, and every other client's jobs stay. Only `Open` and
-    /// `Work` may take memory, and not where another job of the same bytes and limit, which memory wasn't wanting to, is as far. Want of it in
-    /// `Work` ends that job alone, and its reply is a refusal of the number 9 from then on.
+    /// One step of a client: a step of the machine. It acts on one job of that client, and every
+    /// other client's jobs stay. Only `Open` and `Work` may take memory, and not where another job
+    /// of the same bytes and limit, which memory wasn't wanting to, is as far. Want of it in `Work`
+    /// ends that job alone, and its reply is a refusal of the number 9 from then on.
     pub fn step(&mut self, client: Client, event: Event<A>) -> Reply<'_, A>
         ensures* step { sem 𝓛 (Rests (the_row A.row A.Allocator) self.entry
-            (λ new. Step cost verdict (state_of self.old) (record { client = client; event = event_of event }) (reply_of result) (state_of new))) }
+            (λ new. Step cost verdict (state_of self.old)
+            (record { client = client; event = event_of event }) (reply_of result)
+            (state_of new))) }
     {
         let deed = self.act(client, event);
         self.reply(client, deed)
@@ -72,7 +75,8 @@ impl<A: Room + Copy> Desk<A> {
 
     /// Does what the client asks.
     fn act(&mut self, client: Client, event: Event<A>) -> Deed
-        ensures { IsStep self.old client (event_of event) (meant (state_of self.new client) result) self.new }
+        ensures { IsStep self.old client (event_of event) (meant (state_of self.new client) result)
+            self.new }
     {
         match event {
             Event::Open(bytes, limit) => self.open(client, bytes, limit),
@@ -85,7 +89,8 @@ impl<A: Room + Copy> Desk<A> {
 
     /// Opens a job.
     fn open(&mut self, client: Client, bytes: Vec<u8, A>, limit: u32) -> Deed
-        ensures { IsStep self.old client (Open bytes.items limit) (meant (state_of self.new client) result) self.new }
+        ensures { IsStep self.old client (Open bytes.items limit)
+            (meant (state_of self.new client) result) self.new }
     {
         let Some(number) = free_number(&self.places, client) else {
             return Deed::Refused(StepFault::Full);
@@ -108,7 +113,8 @@ impl<A: Room + Copy> Desk<A> {
 
     /// Works a job.
     fn work(&mut self, client: Client, number: u8, units: u64) -> Deed
-        ensures { IsStep self.old client (Work number units) (meant (state_of self.new client) result) self.new }
+        ensures { IsStep self.old client (Work number units)
+            (meant (state_of self.new client) result) self.new }
     {
         if let Some(place) = client.place(number) {
             work_at(&mut self.places, &mut self.cores, place, units);
@@ -118,7 +124,8 @@ impl<A: Room + Copy> Desk<A> {
 
     /// Gives a job up.
     fn give_up(&mut self, client: Client, number: u8) -> Deed
-        ensures { IsStep self.old client (Drop number) (meant (state_of self.new client) result) self.new }
+        ensures { IsStep self.old client (Drop number) (meant (state_of self.new client) result)
+            self.new }
     {
         let Some(place) = client.place(number) else {
             return Deed::Refused(StepFault::NoJob);
@@ -131,7 +138,8 @@ impl<A: Room + Copy> Desk<A> {
 
     /// Asks a job for the outcome of a position.
     fn ask(&self, client: Client, number: u8, position: &Position<A>) -> Deed
-        ensures { IsServed (state_of self.now client) (Ask number position.now) (meant (state_of self.now client) result) }
+        ensures { IsServed (state_of self.now client) (Ask number position.now)
+            (meant (state_of self.now client) result) }
     {
         match self.certified(client, number) {
             Ok(certified) => Deed::Told(player::outcome(certified, position)),
@@ -141,7 +149,8 @@ impl<A: Room + Copy> Desk<A> {
 
     /// Asks a job what to play in a position.
     fn play(&self, client: Client, number: u8, position: &Position<A>) -> Deed
-        ensures { IsServed (state_of self.now client) (Play number position.now) (meant (state_of self.now client) result) }
+        ensures { IsServed (state_of self.now client) (Play number position.now)
+            (meant (state_of self.now client) result) }
     {
         match self.certified(client, number) {
             Ok(certified) => Deed::Advised(player::answer(certified, position)),

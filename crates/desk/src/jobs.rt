@@ -64,9 +64,12 @@ pub(crate) fn open_at<A: Room + Copy>(
     requires free { slot_at places.old place ≡ None }
     ensures desk { IsDesk places.new cores.new.items }
     ensures ok { OnOk result
-        (IsWith (jobs_in places.old cores.old.items) place (Some (fresh bytes.items limit)) (jobs_in places.new cores.new.items)) }
-    ensures first { OnErr result (NoneAsFarIn (jobs_in places.old cores.old.items) bytes.items limit 0) }
-    ensures err { OnErr result (jobs_in places.new cores.new.items ≡ jobs_in places.old cores.old.items) }
+        (IsWith (jobs_in places.old cores.old.items) place (Some (fresh bytes.items limit))
+        (jobs_in places.new cores.new.items)) }
+    ensures first { OnErr result
+        (NoneAsFarIn (jobs_in places.old cores.old.items) bytes.items limit 0) }
+    ensures err { OnErr result
+        (jobs_in places.new cores.new.items ≡ jobs_in places.old cores.old.items) }
 {
     checks_end();
     let core = core_for(cores, alloc, bytes, limit)?;
@@ -88,7 +91,8 @@ pub(crate) fn work_at<A: Room + Copy>(
     requires desk { IsDesk places.old cores.old.items }
     requires place { place < length places.old }
     ensures desk { IsDesk places.new cores.new.items }
-    ensures worked { HaveWorked (jobs_in places.old cores.old.items) place (job_in cores.old.items (slot_at places.old place)) units
+    ensures worked { HaveWorked (jobs_in places.old cores.old.items) place
+        (job_in cores.old.items (slot_at places.old place)) units
         (jobs_in places.new cores.new.items) }
 {
     let Some(slot) = places[place] else {
@@ -103,7 +107,8 @@ pub(crate) fn work_at<A: Room + Copy>(
     }
 }
 
-/// Gives up the job of the place, and its core with the last job of it. Answers whether there was a job.
+/// Gives up the job of the place, and its core with the last job of it. Answers whether there was a
+/// job.
 pub(crate) fn give_up_at<A: Room>(
     places: &mut [Option<Slot>],
     cores: &mut Vec<Option<Job<A>>, A>,
@@ -113,8 +118,11 @@ pub(crate) fn give_up_at<A: Room>(
     requires place { place < length places.old }
     ensures desk { IsDesk places.new cores.new.items }
     ensures free { result ≡ not (is_free (slot_at places.old place)) }
-    ensures jobs { IsTrue result → IsWith (jobs_in places.old cores.old.items) place None (jobs_in places.new cores.new.items) }
-    ensures same { (result ≡ false) → jobs_in places.new cores.new.items ≡ jobs_in places.old cores.old.items }
+    ensures jobs { IsTrue result
+        → IsWith (jobs_in places.old cores.old.items) place None
+        (jobs_in places.new cores.new.items) }
+    ensures same { (result ≡ false)
+        → jobs_in places.new cores.new.items ≡ jobs_in places.old cores.old.items }
 {
     let Some(slot) = places[place] else {
         return false;

@@ -1,7 +1,8 @@
 //! Many checks in progress at once: sixteen clients with four jobs each, one step at a time.
 //!
-//! What a client is told depends on its own steps alone, but for want of memory: `own_calls_decide`. Open jobs of the same bytes and limit
-//! share one check, and each has a count of units of its own.
+//! What a client is told depends on its own steps alone, but for want of memory:
+//! `own_calls_decide`. Open jobs of the same bytes and limit share one check, and each has a count
+//! of units of its own.
 #![tactic(auto)]
 
 mod client;

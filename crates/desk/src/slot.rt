@@ -26,8 +26,8 @@ pub(crate) struct Slot {
     pub standing: Standing,
 }
 
-/// A core, worked further where the slot's job must go further than it and than every other job of it; and the slot after these units. Where
-/// memory is refused the core begins again.
+/// A core, worked further where the slot's job must go further than it and than every other job of
+/// it; and the slot after these units. Where memory is refused the core begins again.
 pub(crate) fn go_on<A: Room + Copy>(
     core: &mut Job<A>,
     furthest: u64,
@@ -114,8 +114,10 @@ pub(crate) fn furthest(places: &[Option<Slot>], core: usize) -> u64
 
 /// Whether a job of the core is open.
 pub(crate) fn is_held(places: &[Option<Slot>], core: usize) -> bool
-    ensures none { (result ≡ false) → (i : ℕ) (s : Slot) → slot_at places.now i ≡ Some s → s.core ≢ core }
-    ensures some { IsTrue result → (i : ℕ) × (s : Slot) × (slot_at places.now i ≡ Some s) × (s.core ≡ core) }
+    ensures none { (result ≡ false) → (i : ℕ) (s : Slot) → slot_at places.now i ≡ Some s
+        → s.core ≢ core }
+    ensures some { IsTrue result → (i : ℕ) × (s : Slot) × (slot_at places.now i ≡ Some s)
+        × (s.core ≡ core) }
 {
     for place in places {
         if let Some(slot) = place {

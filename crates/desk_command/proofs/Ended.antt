@@ -8,18 +8,23 @@ use Rattle.desk_command.specs.Scripts.{Runs}
 use Rattle.desk_command.specs.Stops.{IsStop, desk_stop_line, desk_stop_status}
 use Rattle.desk_command.specs.declared.stop.DeskStop.{DeskStop}
 
-module _ (files now : Option (List ℕ → Option (List ℕ))) (file held script : List ℕ) (reads mid reads' : ℕ) (out out' err err' : Printer)
-    (files_are : now ≡ files) (reads_are : mid ≡ reads) (script_is : script ≡ held) (holds : Holds files file held) where
-  pub whole : Runs now script out.taken out'.taken → err' ≡ err → EndsScript files file reads reads' out out' err err' 0
+module _ (files now : Option (List ℕ → Option (List ℕ))) (file held script : List ℕ)
+    (reads mid reads' : ℕ) (out out' err err' : Printer)
+    (files_are : now ≡ files) (reads_are : mid ≡ reads) (script_is : script ≡ held)
+    (holds : Holds files file held) where
+  pub whole : Runs now script out.taken out'.taken → err' ≡ err
+      → EndsScript files file reads reads' out out' err err' 0
   whole r e =
       Whole held holds
       (subst (λ (f : Option (List ℕ → Option (List ℕ))). Runs f held out.taken out'.taken) files_are
       (subst (λ (s : List ℕ). Runs now s out.taken out'.taken) script_is r)) e refl
 
-  pub broken : (stop : DeskStop) (status : ℕ) → IsStop now script mid reads' out out' stop → Tells err err' (desk_stop_line stop) → status ≡ desk_stop_status stop
+  pub broken : (stop : DeskStop) (status : ℕ) → IsStop now script mid reads' out out' stop
+      → Tells err err' (desk_stop_line stop) → status ≡ desk_stop_status stop
       → EndsScript files file reads reads' out out' err err' status
   broken stop status b t s =
       Broken held stop holds
-      (subst (λ (f : Option (List ℕ → Option (List ℕ))). IsStop f held reads reads' out out' stop) files_are
+      (subst (λ (f : Option (List ℕ → Option (List ℕ))). IsStop f held reads reads' out out' stop)
+      files_are
       (subst (λ (n : ℕ). IsStop now held n reads' out out' stop) reads_are
       (subst (λ (x : List ℕ). IsStop now x mid reads' out out' stop) script_is b))) t s

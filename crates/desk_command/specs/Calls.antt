@@ -11,7 +11,8 @@ call client event = record { client = client; event = event }
 
 -- The call that a step is: of its client, and to open a job on what the file holds.
 abbrev pub IsCall : Option (List ℕ → Option (List ℕ)) → Step → Call → Type 0
-IsCall files (Open client file limit) asked = (bytes : List ℕ) × Holds files file bytes × (asked ≡ call client (Opening bytes limit))
+IsCall files (Open client file limit) asked = (bytes : List ℕ) × Holds files file bytes
+    × (asked ≡ call client (Opening bytes limit))
 IsCall files (Work client job units) asked = asked ≡ call client (Working job units)
 IsCall files (Drop client job) asked = asked ≡ call client (Dropping job)
 IsCall files (Ask client job position) asked = asked ≡ call client (Asking job position)

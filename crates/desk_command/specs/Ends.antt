@@ -12,10 +12,15 @@ use Rattle.desk_command.specs.declared.stop.DeskStop.{DeskStop}
 --   Whole: every step was taken, and the lines of the replies were printed.
 --   Broken: it ended before its end, for a cause that is told; the lines so far stand.
 --   Unread: the file couldn't be read, for a cause that is told, and nothing is printed.
-pub data EndsScript (files : Option (List ℕ → Option (List ℕ))) (file : List ℕ) (reads reads' : ℕ) (out out' err err' : Printer) (status : ℕ) : Type 0 where
-  Whole : (script : List ℕ) → Holds files file script → Runs files script out.taken out'.taken → err' ≡ err → status ≡ 0
+pub data EndsScript (files : Option (List ℕ → Option (List ℕ))) (file : List ℕ) (reads reads' : ℕ)
+    (out out' err err' : Printer) (status : ℕ) : Type 0 where
+  Whole : (script : List ℕ) → Holds files file script → Runs files script out.taken out'.taken
+      → err' ≡ err → status ≡ 0
       → EndsScript files file reads reads' out out' err err' status
-  Broken : (script : List ℕ) (stop : DeskStop) → Holds files file script → IsStop files script reads reads' out out' stop
-      → Tells err err' (desk_stop_line stop) → status ≡ desk_stop_status stop → EndsScript files file reads reads' out out' err err' status
-  Unread : (stop : Stop) → IsFileCause file reads reads' stop → out' ≡ out → Tells err err' (stop_line stop) → status ≡ 3
+  Broken : (script : List ℕ) (stop : DeskStop) → Holds files file script
+      → IsStop files script reads reads' out out' stop
+      → Tells err err' (desk_stop_line stop) → status ≡ desk_stop_status stop
+      → EndsScript files file reads reads' out out' err err' status
+  Unread : (stop : Stop) → IsFileCause file reads reads' stop → out' ≡ out
+      → Tells err err' (stop_line stop) → status ≡ 3
       → EndsScript files file reads reads' out out' err err' status

@@ -14,8 +14,8 @@ abbrev pub outcome_line : Outcome → List ℕ
 outcome_line P = codes "P\n"
 outcome_line N = codes "N\n"
 
--- The text is the line of the reply. A job that has ended is told by the first line of its verdict's text, want of memory among them; want of
--- memory for a new job has no line.
+-- The text is the line of the reply. A job that has ended is told by the first line of its
+-- verdict's text, want of memory among them; want of memory for a new job has no line.
 abbrev pub IsLineOf : Reply → List ℕ → Type 0
 IsLineOf (Opened number) text = text ≡ opened_line number
 IsLineOf Going text = text ≡ codes "going\n"
@@ -31,4 +31,5 @@ IsLineOf NoMemory text = ⊥
 -- the lines of the replies, one behind the other
 abbrev pub AreLinesOf : List Reply → List ℕ → Type 0
 AreLinesOf [] text = text ≡ []
-AreLinesOf (reply ∷ replies) text = (line rest : List ℕ) × IsLineOf reply line × AreLinesOf replies rest × (text ≡ line ++ rest)
+AreLinesOf (reply ∷ replies) text = (line rest : List ℕ) × IsLineOf reply line
+    × AreLinesOf replies rest × (text ≡ line ++ rest)

@@ -23,7 +23,8 @@ desk_stop_status Memory = 3
 
 -- what is told of a stop
 abbrev pub desk_stop_line : DeskStop → List ℕ
-desk_stop_line (NotAStep number) = codes "misere: line " ++ (decimal number ++ codes " isn't a step\n")
+desk_stop_line (NotAStep number) =
+    codes "misere: line " ++ (decimal number ++ codes " isn't a step\n")
 desk_stop_line (Read name) = stop_line (stop.Read name)
 desk_stop_line Write = stop_line stop.Write
 desk_stop_line Memory = stop_line stop.Memory
@@ -39,7 +40,8 @@ IsReadCause file before after (Read name) = (name.now ≡ file) × (before < aft
 IsReadCause file before after Memory = after ≡ before
 IsReadCause file before after other = ⊥
 
--- a step stops where a read of the file that it opens failed, or where none did and memory was wanting
+-- a step stops where a read of the file that it opens failed, or where none did and memory was
+-- wanting
 abbrev pub IsStepCause : Step → ℕ → ℕ → DeskStop → Type 0
 IsStepCause (Open client file limit) before after stop = IsReadCause file before after stop
 IsStepCause step before after Memory = after ≡ before
@@ -50,27 +52,37 @@ abbrev pub IsOpenOf : List ℕ → Step → Type 0
 IsOpenOf file (Open client name limit) = name ≡ file
 IsOpenOf file other = ⊥
 
--- Why steps end before the last, by the reads that failed before and after: a read of a step's file failed, and the lines of the steps before
--- it stand; or what is printed failed, and a beginning of the lines of some steps stands; or no device failed and memory was wanting, and the
--- lines of some steps stand.
-abbrev pub Breaks : Option (List ℕ → Option (List ℕ)) → List Step → ℕ → ℕ → Printer → Printer → DeskStop → Type 0
+-- Why steps end before the last, by the reads that failed before and after: a read of a step's file
+-- failed, and the lines of the steps before it stand; or what is printed failed, and a beginning of
+-- the lines of some steps stands; or no device failed and memory was wanting, and the lines of some
+-- steps stand.
+abbrev pub Breaks : Option (List ℕ → Option (List ℕ)) → List Step → ℕ → ℕ → Printer → Printer
+    → DeskStop → Type 0
 Breaks files steps reads reads' old new (NotAStep number) = ⊥
 Breaks files steps reads reads' old new (Read name) =
-    (step : Step) × (left : List Step) × (lines : List ℕ) × HasRunTo files steps (step ∷ left) lines × IsOpenOf name.now step
+    (step : Step) × (left : List Step) × (lines : List ℕ) × HasRunTo files steps (step ∷ left) lines
+    × IsOpenOf name.now step
     × Appends old.taken new.taken lines × (reads < reads')
 Breaks files steps reads reads' old new Write =
-    (left : List Step) × (lines : List ℕ) × HasRunTo files steps left lines × AppendsSome old.taken new.taken lines × (old.failures < new.failures)
+    (left : List Step) × (lines : List ℕ) × HasRunTo files steps left lines
+    × AppendsSome old.taken new.taken lines × (old.failures < new.failures)
 Breaks files steps reads reads' old new Memory =
-    (left : List Step) × (lines : List ℕ) × HasRunTo files steps left lines × Appends old.taken new.taken lines
+    (left : List Step) × (lines : List ℕ) × HasRunTo files steps left lines
+    × Appends old.taken new.taken lines
     × (reads' ≡ reads) × (new.failures ≡ old.failures)
 
 -- the same of a script's steps
-abbrev pub BreaksOff : Option (List ℕ → Option (List ℕ)) → List ℕ → ℕ → ℕ → Printer → Printer → DeskStop → Type 0
-BreaksOff files script reads reads' old new stop = (steps : List Step) × AreSteps script steps × Breaks files steps reads reads' old new stop
+abbrev pub BreaksOff : Option (List ℕ → Option (List ℕ)) → List ℕ → ℕ → ℕ → Printer → Printer
+    → DeskStop → Type 0
+BreaksOff files script reads reads' old new stop = (steps : List Step) × AreSteps script steps
+    × Breaks files steps reads reads' old new stop
 
--- Why a script ends before its end: a line isn't a step, and nothing was done; or memory was wanting before the first step, and nothing was
--- done; or its steps end before the last.
-abbrev pub IsStop : Option (List ℕ → Option (List ℕ)) → List ℕ → ℕ → ℕ → Printer → Printer → DeskStop → Type 0
-IsStop files script reads reads' old new (NotAStep number) = IsFirstOther script number × (reads' ≡ reads) × (new ≡ old)
-IsStop files script reads reads' old new Memory = ((reads' ≡ reads) × (new ≡ old)) ⊎ BreaksOff files script reads reads' old new Memory
+-- Why a script ends before its end: a line isn't a step, and nothing was done; or memory was
+-- wanting before the first step, and nothing was done; or its steps end before the last.
+abbrev pub IsStop : Option (List ℕ → Option (List ℕ)) → List ℕ → ℕ → ℕ → Printer → Printer
+    → DeskStop → Type 0
+IsStop files script reads reads' old new (NotAStep number) = IsFirstOther script number
+    × (reads' ≡ reads) × (new ≡ old)
+IsStop files script reads reads' old new Memory = ((reads' ≡ reads) × (new ≡ old))
+    ⊎ BreaksOff files script reads reads' old new Memory
 IsStop files script reads reads' old new stop = BreaksOff files script reads reads' old new stop

@@ -29,10 +29,13 @@ fn client_numbered(number: u8) -> Client
 /// Whose step it is, and what is asked: a file is read now.
 fn asked_by<'a, F: Folder>(folder: &mut F, step: Step<'a>) -> Result<(Client, Event), DeskStop<'a>>
     requires { IsClient (client_of (step_of step)) }
-    ensures asked { IfOk result (λ asked. IsCall (F.files folder.old) (step_of step.entry) (call asked.0 (event_of asked.1))) }
+    ensures asked { IfOk result
+        (λ asked. IsCall (F.files folder.old) (step_of step.entry)
+        (call asked.0 (event_of asked.1))) }
     ensures kept { F.files folder.new ≡ F.files folder.old }
     ensures well { IfOk result (λ _. F.failed_reads folder.new ≡ F.failed_reads folder.old) }
-    ensures stops { IfErr result (IsStepCause (step_of step.entry) (F.failed_reads folder.old) (F.failed_reads folder.new)) }
+    ensures stops { IfErr result
+        (IsStepCause (step_of step.entry) (F.failed_reads folder.old) (F.failed_reads folder.new)) }
 {
     match step {
         Step::Open {
@@ -66,10 +69,13 @@ pub(crate) fn take_step<'a, F: Folder>(
     folder: &mut F,
 ) -> Result<String, DeskStop<'a>>
     requires { IsClient (client_of (step_of step)) }
-    ensures line { IfOk result (λ t. Takes (F.files folder.old) (step_of step.entry) (state_of desk.old) (state_of desk.new) (string_bytes t)) }
+    ensures line { IfOk result
+        (λ t. Takes (F.files folder.old) (step_of step.entry) (state_of desk.old)
+        (state_of desk.new) (string_bytes t)) }
     ensures kept { F.files folder.new ≡ F.files folder.old }
     ensures well { IfOk result (λ _. F.failed_reads folder.new ≡ F.failed_reads folder.old) }
-    ensures stops { IfErr result (IsStepCause (step_of step.entry) (F.failed_reads folder.old) (F.failed_reads folder.new)) }
+    ensures stops { IfErr result
+        (IsStepCause (step_of step.entry) (F.failed_reads folder.old) (F.failed_reads folder.new)) }
 {
     let (client, event) = asked_by(folder, step)?;
     let line = reply_line(alloc, desk.step(client, event))?;

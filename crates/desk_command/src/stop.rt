@@ -66,7 +66,8 @@ impl DeskStop<'_> {
 
     /// Tells the reason on standard error.
     pub fn tell<E: Sink>(self, err: &mut E)
-        ensures { Tells (printer (E.taken err.old) (E.failures err.old)) (printer (E.taken err.new) (E.failures err.new)) (desk_stop_line self.entry) }
+        ensures { Tells (printer (E.taken err.old) (E.failures err.old))
+            (printer (E.taken err.new) (E.failures err.new)) (desk_stop_line self.entry) }
     {
         match self {
             DeskStop::NotAStep(number) => tell_line(number, err),
@@ -79,7 +80,8 @@ impl DeskStop<'_> {
 
 /// Tells that the line of this number isn't a step.
 fn tell_line<E: Sink>(number: usize, err: &mut E)
-    ensures { Tells (printer (E.taken err.old) (E.failures err.old)) (printer (E.taken err.new) (E.failures err.new))
+    ensures { Tells (printer (E.taken err.old) (E.failures err.old))
+        (printer (E.taken err.new) (E.failures err.new))
         (codes "misere: line " ++ (decimal number ++ codes " isn't a step\n")) }
 {
     let mut buffer = Buffer::new();
@@ -96,7 +98,8 @@ pub(crate) fn read<'a, F: Folder>(folder: &mut F, name: &'a str) -> Result<Vec<u
     ensures bytes { IfOk result (λ v. Holds (F.files folder.old) name.entry.now v.items) }
     ensures kept { F.files folder.new ≡ F.files folder.old }
     ensures well { IfOk result (λ _. F.failed_reads folder.new ≡ F.failed_reads folder.old) }
-    ensures stops { IfErr result (IsReadCause name.entry.now (F.failed_reads folder.old) (F.failed_reads folder.new)) }
+    ensures stops { IfErr result
+        (IsReadCause name.entry.now (F.failed_reads folder.old) (F.failed_reads folder.new)) }
 {
     match folder.read(name) {
         Ok(bytes) => Ok(bytes),

@@ -9,9 +9,10 @@ use folders::Folder;
 use std::alloc::Global;
 use streams::Sink;
 
-/// Takes the steps of the script in the file at one desk, prints a line for each, and answers the status: 0 where the script ran to its end,
-/// refusals among its replies or not; 2 where a line isn't a step, and then nothing is printed; 3 where a device failed or memory was wanting,
-/// and then the lines so far stand. Why it ended before its end is told. No file changes.
+/// Takes the steps of the script in the file at one desk, prints a line for each, and answers the
+/// status: 0 where the script ran to its end, refusals among its replies or not; 2 where a line
+/// isn't a step, and then nothing is printed; 3 where a device failed or memory was wanting, and
+/// then the lines so far stand. Why it ended before its end is told. No file changes.
 pub fn run_file<F: Folder, W: Sink, E: Sink>(
     alloc: Global,
     script: &str,
@@ -19,9 +20,12 @@ pub fn run_file<F: Folder, W: Sink, E: Sink>(
     out: &mut W,
     err: &mut E,
 ) -> u8
-    ensures ends { EndsScript (F.files folder.old) script.now (F.failed_reads folder.old) (F.failed_reads folder.new)
-        (printer (W.taken out.old) (W.failures out.old)) (printer (W.taken out.new) (W.failures out.new))
-        (printer (E.taken err.old) (E.failures err.old)) (printer (E.taken err.new) (E.failures err.new)) result }
+    ensures ends { EndsScript (F.files folder.old) script.now (F.failed_reads folder.old)
+        (F.failed_reads folder.new)
+        (printer (W.taken out.old) (W.failures out.old))
+        (printer (W.taken out.new) (W.failures out.new))
+        (printer (E.taken err.old) (E.failures err.old))
+        (printer (E.taken err.new) (E.failures err.new)) result }
     ensures kept { F.files folder.new ≡ F.files folder.old }
     ensures quiet { result ≤ 1 → err.new ≡ err.old }
 {

@@ -2,7 +2,8 @@
 use Rattle.std.specs.Prelude.{◌≡◌, ◌≢◌, ◌⊎◌, ◌≤◌, ◌<◌, ◌^◌, ℕ, List, [], ◌∷◌, ◌++◌, All, IsUtf8, codes, decimal}
 use Rattle.positions.specs.Text.{IsTextOf, IsNoPositionText, HasTooMany, HasTooLarge}
 
--- Open client file limit, Work client job units, Drop client job, Ask client job position, Play client job position
+-- Open client file limit, Work client job units, Drop client job, Ask client job position, Play
+-- client job position
 pub data Step : Type 0 where
   Open : ℕ → List ℕ → ℕ → Step
   Work : ℕ → ℕ → ℕ → Step
@@ -42,7 +43,8 @@ IsFileName file = (file ≢ []) × Lacks 32 file
 
 -- the text isn't that of at most 64 sizes up to 10^18
 abbrev pub IsNoPosition : List ℕ → Type 0
-IsNoPosition text = IsNoPositionText text ⊎ HasTooMany 64 text ⊎ HasTooLarge 64 1000000000000000000 text
+IsNoPosition text = IsNoPositionText text ⊎ HasTooMany 64 text
+    ⊎ HasTooLarge 64 1000000000000000000 text
 
 -- the text is that of the position
 abbrev pub IsPosition : List ℕ → List ℕ → Type 0
@@ -54,17 +56,21 @@ spaced front back = front ++ 32 ∷ back
 
 -- a job, and a position in any of its texts
 abbrev pub SpellsPosition : List ℕ → ℕ → List ℕ → Type 0
-SpellsPosition tail job position = IsJob job × ((text : List ℕ) × IsPosition text position × (tail ≡ spaced (decimal job) text))
+SpellsPosition tail job position =
+    IsJob job × ((text : List ℕ) × IsPosition text position × (tail ≡ spaced (decimal job) text))
 
 -- what stands behind the step's word and its client
 abbrev pub SpellsTail : List ℕ → Step → Type 0
-SpellsTail tail (Open client file limit) = IsFileName file × (limit < 2 ^ 32) × (tail ≡ spaced file (decimal limit))
-SpellsTail tail (Work client job units) = IsJob job × (units < 2 ^ 64) × (tail ≡ spaced (decimal job) (decimal units))
+SpellsTail tail (Open client file limit) = IsFileName file × (limit < 2 ^ 32)
+    × (tail ≡ spaced file (decimal limit))
+SpellsTail tail (Work client job units) = IsJob job × (units < 2 ^ 64)
+    × (tail ≡ spaced (decimal job) (decimal units))
 SpellsTail tail (Drop client job) = IsJob job × (tail ≡ decimal job)
 SpellsTail tail (Ask client job position) = SpellsPosition tail job position
 SpellsTail tail (Play client job position) = SpellsPosition tail job position
 
--- The line, without its LF, spells the step: text of the step's word, its client, and the rest, with single spaces.
+-- The line, without its LF, spells the step: text of the step's word, its client, and the rest,
+-- with single spaces.
 pub record Spells (line : List ℕ) (step : Step) : Type 0 where
   pub text : IsUtf8 line
   pub client : IsClient (client_of step)

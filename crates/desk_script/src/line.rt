@@ -19,7 +19,8 @@ pub fn cut(text: &str) -> Option<(&str, &str)>
 
 /// The client of this number.
 fn client_of(text: &str) -> Option<u8>
-    ensures { MatchOption result ((n : ℕ) → IsClient n → text.now ≢ decimal n) (λ n. IsClient n × (text.now ≡ decimal n)) }
+    ensures { MatchOption result ((n : ℕ) → IsClient n → text.now ≢ decimal n)
+        (λ n. IsClient n × (text.now ≡ decimal n)) }
 {
     match number_between(1, 16, text) {
         Some(number) => Some(number as u8),
@@ -30,7 +31,8 @@ fn client_of(text: &str) -> Option<u8>
 /// The step that the line spells, without its LF.
 pub fn line_step<'a, A: Room + Copy>(alloc: A, line: &'a [u8]) -> Result<Step<'a, A>, LineFault>
     ensures spelled { IfOk result (λ step. Spells line.now (step_of step)) }
-    ensures other { result ≡ Err LineFault.NotAStep → (step : StepSpelled) → Spells line.now step → ⊥ }
+    ensures other { result ≡ Err LineFault.NotAStep → (step : StepSpelled) → Spells line.now step
+        → ⊥ }
 {
     let Ok(text) = str::from_utf8(line) else {
         return Err(LineFault::NotAStep);

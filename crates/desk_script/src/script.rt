@@ -33,7 +33,8 @@ fn first_step<'a, A: Room + Copy>(
     Ok((step, rest))
 }
 
-/// Reads a script: the steps that its lines spell, or the number of the first line that isn't a step. Nothing is done.
+/// Reads a script: the steps that its lines spell, or the number of the first line that isn't a
+/// step. Nothing is done.
 pub fn read_script<'a, A: Room + Copy>(
     alloc: A,
     script: &'a [u8],

@@ -12,7 +12,8 @@ use positions::{Position, PositionFault};
 
 /// The job of this number.
 fn job_of(text: &str) -> Option<u8>
-    ensures { MatchOption result ((n : ℕ) → IsJob n → text.now ≢ decimal n) (λ n. IsJob n × (text.now ≡ decimal n)) }
+    ensures { MatchOption result ((n : ℕ) → IsJob n → text.now ≢ decimal n)
+        (λ n. IsJob n × (text.now ≡ decimal n)) }
 {
     match number_between(1, 4, text) {
         Some(number) => Some(number as u8),
@@ -22,7 +23,8 @@ fn job_of(text: &str) -> Option<u8>
 
 /// A file and a limit.
 fn file_and_limit(tail: &str) -> Option<(&str, u32)>
-    ensures { MatchOption result ((file : List ℕ) (limit : ℕ) → IsFileName file → limit < 2 ^ 32 → tail.now ≢ spaced file (decimal limit))
+    ensures { MatchOption result ((file : List ℕ) (limit : ℕ) → IsFileName file → limit < 2 ^ 32
+        → tail.now ≢ spaced file (decimal limit))
         (λ parts. IsFileName parts.0.now × (tail.now ≡ spaced parts.0.now (decimal parts.1))) }
 {
     let (file, limit) = cut(tail)?;
@@ -35,7 +37,8 @@ fn file_and_limit(tail: &str) -> Option<(&str, u32)>
 
 /// A job and units.
 fn job_and_units(tail: &str) -> Option<(u8, u64)>
-    ensures { MatchOption result ((job units : ℕ) → IsJob job → units < 2 ^ 64 → tail.now ≢ spaced (decimal job) (decimal units))
+    ensures { MatchOption result ((job units : ℕ) → IsJob job → units < 2 ^ 64
+        → tail.now ≢ spaced (decimal job) (decimal units))
         (λ parts. IsJob parts.0 × (tail.now ≡ spaced (decimal parts.0) (decimal parts.1))) }
 {
     let (job, units) = cut(tail)?;
@@ -47,7 +50,8 @@ fn job_and_units(tail: &str) -> Option<(u8, u64)>
 /// The position of the text.
 fn position_of<A: Room + Copy>(alloc: A, text: &str) -> Result<Position<A>, LineFault>
     ensures position { IfOk result (IsPosition text.now) }
-    ensures other { result ≡ Err LineFault.NotAStep → (position : List ℕ) → IsPosition text.now position → ⊥ }
+    ensures other { result ≡ Err LineFault.NotAStep → (position : List ℕ)
+        → IsPosition text.now position → ⊥ }
 {
     match Position::read(alloc, text.as_bytes()) {
         Ok(position) => Ok(position),
@@ -61,7 +65,8 @@ fn position_of<A: Room + Copy>(alloc: A, text: &str) -> Result<Position<A>, Line
 /// A job and a position.
 fn job_and_position<A: Room + Copy>(alloc: A, tail: &str) -> Result<(u8, Position<A>), LineFault>
     ensures spelled { IfOk result (λ parts. SpellsPosition tail.now parts.0 parts.1) }
-    ensures other { result ≡ Err LineFault.NotAStep → (job : ℕ) (position : List ℕ) → SpellsPosition tail.now job position → ⊥ }
+    ensures other { result ≡ Err LineFault.NotAStep → (job : ℕ) (position : List ℕ)
+        → SpellsPosition tail.now job position → ⊥ }
 {
     let Some((job, text)) = cut(tail) else {
         return Err(LineFault::NotAStep);
@@ -83,7 +88,8 @@ pub fn step_behind<'a, A: Room + Copy>(
     ensures word { IfOk result (λ step. word_of (step_of step) ≡ word.now) }
     ensures client { IfOk result (λ step. client_of (step_of step) ≡ client) }
     ensures tail { IfOk result (λ step. SpellsTail tail.now (step_of step)) }
-    ensures other { result ≡ Err LineFault.NotAStep → (step : StepSpelled) → word_of step ≡ word.now → SpellsTail tail.now step → ⊥ }
+    ensures other { result ≡ Err LineFault.NotAStep → (step : StepSpelled) → word_of step ≡ word.now
+        → SpellsTail tail.now step → ⊥ }
 {
     match word {
         "open" => match file_and_limit(tail) {

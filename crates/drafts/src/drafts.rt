@@ -26,7 +26,8 @@ impl Drafts {
         })
     }
 
-    /// The next draft of at most so many elements, if there is one. Each start and period is tried once.
+    /// The next draft of at most so many elements, if there is one. Each start and period is tried
+    /// once.
     pub fn next(&mut self, code: &Code, most: usize) -> Result<Option<Vec<u8>>, Memory> {
         while let Some(repeat) = self.waiting.pop() {
             let draft = draft(self.alloc, code, &self.guess, repeat, most)?;

@@ -1,6 +1,7 @@
 //! A guess, as drafts are written from it.
 
-/// A guessed quotient of the heaps 1 to `heaps.len()`, of which nothing is believed. The identity is element 0.
+/// A guessed quotient of the heaps 1 to `heaps.len()`, of which nothing is believed. The identity
+/// is element 0.
 #[derive(Drop)]
 pub struct Guess {
     /// How many elements there are.

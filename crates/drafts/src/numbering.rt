@@ -43,8 +43,8 @@ impl Numbering {
         }
     }
 
-    /// Numbers the elements that products of these heaps' elements reach. Answers whether there are no more than `most` of them, and at
-    /// least two.
+    /// Numbers the elements that products of these heaps' elements reach. Answers whether there are
+    /// no more than `most` of them, and at least two.
     pub fn fill(&mut self, guess: &Guess, heaps: &[u16], most: usize) -> Result<bool, Memory> {
         if guess.order >= NONE as usize {
             return Ok(false);
@@ -70,7 +70,8 @@ impl Numbering {
         Ok(true)
     }
 
-    /// Gives an element made so the next number, unless it has one. Answers whether it has one then.
+    /// Gives an element made so the next number, unless it has one. Answers whether it has one
+    /// then.
     fn reach(&mut self, element: u16, key: Key) -> Result<bool, Memory> {
         if self.number(element).is_some() {
             return Ok(true);

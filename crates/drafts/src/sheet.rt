@@ -104,8 +104,9 @@ impl Sheet {
         }
     }
 
-    /// Fills in a guess of these heaps. Answers whether it could: whether the guess has its products, no more than `most` elements are
-    /// reached and at least two, one of them is in the portion, and an element separates each two.
+    /// Fills in a guess of these heaps. Answers whether it could: whether the guess has its
+    /// products, no more than `most` elements are reached and at least two, one of them is in the
+    /// portion, and an element separates each two.
     pub fn fill(
         &mut self,
         alloc: Global,

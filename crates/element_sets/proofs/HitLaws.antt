@@ -28,8 +28,10 @@ IsImageBelow lanes i row q = (x : ℕ) × (x < 64 * i) × (has lanes x ≡ true)
 abbrev pub without_lowest : ℕ → ℕ
 without_lowest n = bit_and n (n - 1)
 
--- below a number's lowest one the number before it has ones, there it has none, and above it they agree
-before : (k n : ℕ) → bit_at n k ≡ 1 → ((i : ℕ) → i < k → bit_at n i ≡ 0) → (j : ℕ) → (j ≡ k → bit_at (n - 1) j ≡ 0) × (j ≢ k → bit_at n j ≤ bit_at (n - 1) j)
+-- below a number's lowest one the number before it has ones, there it has none, and above it they
+-- agree
+before : (k n : ℕ) → bit_at n k ≡ 1 → ((i : ℕ) → i < k → bit_at n i ≡ 0) → (j : ℕ)
+    → (j ≡ k → bit_at (n - 1) j ≡ 0) × (j ≢ k → bit_at n j ≤ bit_at (n - 1) j)
 before zero n one low zero =
     let odd = sym (bit_at_lowest n) ∙ one in
     let e = bit_at_lowest (n - 1) in
@@ -37,7 +39,8 @@ before zero n one low zero =
 before zero n one low (suc j) =
     let odd = sym (bit_at_lowest n) ∙ one in
     let half : (n - 1) / 2 ≡ n / 2 = omega arith in
-    let same : bit_at (n - 1) (suc j) ≡ bit_at n (suc j) = bit_at-suc (n - 1) j ∙ ap (λ m. bit_at m j) half ∙ sym (bit_at-suc n j) in
+    let same : bit_at (n - 1) (suc j) ≡ bit_at n (suc j) =
+    bit_at-suc (n - 1) j ∙ ap (λ m. bit_at m j) half ∙ sym (bit_at-suc n j) in
     (λ e. absurd (omega arith), λ _. omega arith)
 before (suc k) n one low zero =
     let none = low 0 (omega arith) in
@@ -47,10 +50,14 @@ before (suc k) n one low (suc j) =
     let up = sym (bit_at-suc n k) ∙ one in
     let some : 0 < n / 2 = above (n / 2) up in
     let half : (n - 1) / 2 ≡ n / 2 - 1 = omega arith in
-    let there : bit_at (n - 1) (suc j) ≡ bit_at (n / 2 - 1) j = bit_at-suc (n - 1) j ∙ ap (λ m. bit_at m j) half in
+    let there : bit_at (n - 1) (suc j) ≡ bit_at (n / 2 - 1) j =
+    bit_at-suc (n - 1) j ∙ ap (λ m. bit_at m j) half in
     let here = bit_at-suc n j in
-    let rest = before k (n / 2) up (λ i l. sym (bit_at-suc n i) ∙ low (suc i) (omega arith)) j in
-    (λ e. there ∙ rest.0 (omega arith), λ other. let le = rest.1 (λ e. other (ap suc e)) in omega arith)
+    let rest = before k (n / 2) up (λ i l. sym (bit_at-suc n i) ∙ low (suc i) (omega arith)) j in (
+      λ e. there ∙ rest.0 (omega arith),
+      λ other. let le = rest.1 (λ e. other (ap suc e)) in
+          omega arith,
+    )
   where
     above : (m : ℕ) → bit_at m k ≡ 1 → 0 < m
     above zero e = absurd (let z = sym (bit_at-zero k) ∙ e in omega arith)
@@ -63,16 +70,20 @@ lowest_gone n some fits =
     let z = (before (trailing_zeros w64 n) n t.1 t.2 (trailing_zeros w64 n)).0 refl in
     omega arith
 
-others_stay : (n j : ℕ) → 0 < n → n < 2 ^ 64 → j ≢ trailing_zeros w64 n → bit_at (without_lowest n) j ≡ bit_at n j
+others_stay : (n j : ℕ) → 0 < n → n < 2 ^ 64 → j ≢ trailing_zeros w64 n
+    → bit_at (without_lowest n) j ≡ bit_at n j
 others_stay n j some fits other =
     let t = bit_at-trailing_zeros w64 n some fits in
     let e = bit_at_and n (n - 1) j in
     let z = (before (trailing_zeros w64 n) n t.1 t.2 j).1 other in
     omega arith
 
-kept_one : (n j : ℕ) → 0 < n → n < 2 ^ 64 → bit_at (without_lowest n) j ≡ 1 → (j ≢ trailing_zeros w64 n) × (bit_at n j ≡ 1)
+kept_one : (n j : ℕ) → 0 < n → n < 2 ^ 64 → bit_at (without_lowest n) j ≡ 1
+    → (j ≢ trailing_zeros w64 n) × (bit_at n j ≡ 1)
 kept_one n j some fits one =
-    let other : j ≢ trailing_zeros w64 n = λ e. absurd (differ (sym (lowest_gone n some fits) ∙ ap (bit_at (without_lowest n)) (sym e) ∙ one)) in
+    let other : j ≢ trailing_zeros w64 n =
+    λ e. absurd
+    (differ (sym (lowest_gone n some fits) ∙ ap (bit_at (without_lowest n)) (sym e) ∙ one)) in
     (other, sym (others_stay n j some fits other) ∙ one)
   where
     differ : ◌≡◌ {A = ℕ} 0 1 → ⊥
@@ -81,11 +92,14 @@ kept_one n j some fits one =
 pub falls : (n : ℕ) → 0 < n → without_lowest n < n
 falls n some = let low = and_le_r n (n - 1) in omega arith
 
-pub can_still : (n base : ℕ) (row : List ℕ) → 0 < n → n < 2 ^ 64 → CanTranslateLane n base row → CanTranslateLane (without_lowest n) base row
+pub can_still : (n base : ℕ) (row : List ℕ) → 0 < n → n < 2 ^ 64 → CanTranslateLane n base row
+    → CanTranslateLane (without_lowest n) base row
 can_still n base row some fits can j lt one = can j lt (kept_one n j some fits one).1
 
-contains_more : (s : fin.FinSet nat_cmp) (x q : ℕ) → fin.contains (fin.insert s x) q ≡ (eqb q x || fin.contains s q)
-contains_more s x q = contains-insert nat_cmp_total s x q ∙ ap (λ b. b || fin.contains s q) (unsigned_tied q x)
+contains_more : (s : fin.FinSet nat_cmp) (x q : ℕ)
+    → fin.contains (fin.insert s x) q ≡ (eqb q x || fin.contains s q)
+contains_more s x q =
+    contains-insert nat_cmp_total s x q ∙ ap (λ b. b || fin.contains s q) (unsigned_tied q x)
 
 or_cases : (q x : ℕ) (b : Bool) → (eqb q x || b) ≡ true → (q ≡ x) ⊎ (b ≡ true)
 or_cases q x b e = elim (cases_eq q x) [
@@ -105,44 +119,63 @@ or_right false b e = e
 
 -- one entry taken over
 pub taken : (all : fin.FinSet nat_cmp) (n base : ℕ) (row : List ℕ) → 0 < n → n < 2 ^ 64
-    → (q : ℕ) → Has (fin.insert all (slice_index row (base + trailing_zeros w64 n))) (without_lowest n) base row q ↔ Has all n base row q
+    → (q : ℕ)
+    → Has (fin.insert all (slice_index row (base + trailing_zeros w64 n))) (without_lowest n)
+    base row q ↔ Has all n base row q
 taken all n base row some fits q = (forth, back)
   where
-    forth : Has (fin.insert all (slice_index row (base + trailing_zeros w64 n))) (without_lowest n) base row q → Has all n base row q
-    forth (inl member) = elim (or_cases q (slice_index row (base + trailing_zeros w64 n)) (fin.contains all q) (sym (contains_more all (slice_index row (base + trailing_zeros w64 n)) q) ∙ member)) [
-      | inl same ↦
-          let t = bit_at-trailing_zeros w64 n some fits in
-          inr (trailing_zeros w64 n, t.0, t.1, sym same)
-      | inr before ↦ inl before
-    ]
+    forth : Has (fin.insert all (slice_index row (base + trailing_zeros w64 n))) (without_lowest n)
+        base row q → Has all n base row q
+    forth (inl member) =
+        elim (or_cases q (slice_index row (base + trailing_zeros w64 n)) (fin.contains all q)
+        (sym (contains_more all (slice_index row (base + trailing_zeros w64 n)) q) ∙ member)) [
+          | inl same ↦
+              let t = bit_at-trailing_zeros w64 n some fits in
+              inr (trailing_zeros w64 n, t.0, t.1, sym same)
+          | inr before ↦ inl before
+        ]
     forth (inr hit) = inr (hit.0, hit.1, (kept_one n hit.0 some fits hit.2).1, hit.3)
 
-    back : Has all n base row q → Has (fin.insert all (slice_index row (base + trailing_zeros w64 n))) (without_lowest n) base row q
-    back (inl member) = inl (contains_more all (slice_index row (base + trailing_zeros w64 n)) q ∙ or_right _ (fin.contains all q) member)
+    back : Has all n base row q
+        → Has (fin.insert all (slice_index row (base + trailing_zeros w64 n))) (without_lowest n)
+        base row q
+    back (inl member) =
+        inl (contains_more all (slice_index row (base + trailing_zeros w64 n)) q
+        ∙ or_right _ (fin.contains all q) member)
     back (inr hit) = elim (cases_eq hit.0 (trailing_zeros w64 n)) [
       | inl same ↦
-          let e : q ≡ slice_index row (base + trailing_zeros w64 n) = sym hit.3 ∙ ap (λ j. slice_index row (base + j)) same in
-          inl (contains_more all (slice_index row (base + trailing_zeros w64 n)) q ∙ or_left q _ (fin.contains all q) e)
+          let e : q ≡ slice_index row (base + trailing_zeros w64 n) =
+          sym hit.3 ∙ ap (λ j. slice_index row (base + j)) same in
+          inl (contains_more all (slice_index row (base + trailing_zeros w64 n)) q
+          ∙ or_left q _ (fin.contains all q) e)
       | inr other ↦
           inr (hit.0, hit.1, others_stay n hit.0 some fits other ∙ hit.2, hit.3)
     ]
 
 -- what the code reads at the lowest one
 pub lowest_can : (n base : ℕ) (row : List ℕ) → 0 < n → n < 2 ^ 64 → CanTranslateLane n base row
-    → (trailing_zeros w64 n < 64) × (base + trailing_zeros w64 n < length row) × (slice_index row (base + trailing_zeros w64 n) < 256)
+    → (trailing_zeros w64 n < 64) × (base + trailing_zeros w64 n < length row)
+    × (slice_index row (base + trailing_zeros w64 n) < 256)
 lowest_can n base row some fits can =
     let t = bit_at-trailing_zeros w64 n some fits in
     let here = can (trailing_zeros w64 n) t.0 t.1 in
     (t.0, here.0, here.1)
 
-pub no_image : (s : fin.FinSet nat_cmp) (lanes row : List ℕ) → s ≡ fin.empty → (q : ℕ) → IsTrue (fin.contains s q) ↔ IsImageBelow lanes 0 row q
-no_image s lanes row e q = (λ member. absurd (differ (sym (contains-empty nat_cmp q) ∙ ap (λ t. fin.contains t q) (sym e) ∙ member)), λ image. absurd (omega (arith, image.1)))
+pub no_image : (s : fin.FinSet nat_cmp) (lanes row : List ℕ) → s ≡ fin.empty → (q : ℕ)
+    → IsTrue (fin.contains s q) ↔ IsImageBelow lanes 0 row q
+no_image s lanes row e q = (
+  λ member.
+      absurd
+      (differ (sym (contains-empty nat_cmp q) ∙ ap (λ t. fin.contains t q) (sym e) ∙ member)),
+  λ image. absurd (omega (arith, image.1)),
+)
   where
     differ : false ≡ true → ⊥
     differ e = cc
 
 -- nothing is left
-pub nothing_left : (all : fin.FinSet nat_cmp) (n base : ℕ) (row : List ℕ) (q : ℕ) → n ≡ 0 → IsTrue (fin.contains all q) ↔ Has all n base row q
+pub nothing_left : (all : fin.FinSet nat_cmp) (n base : ℕ) (row : List ℕ) (q : ℕ) → n ≡ 0
+    → IsTrue (fin.contains all q) ↔ Has all n base row q
 nothing_left all n base row q none = (inl, back)
   where
     differ : ◌≡◌ {A = ℕ} 0 1 → ⊥
@@ -150,7 +183,8 @@ nothing_left all n base row q none = (inl, back)
 
     back : Has all n base row q → IsTrue (fin.contains all q)
     back (inl member) = member
-    back (inr hit) = absurd (differ (sym (bit_at-zero hit.0) ∙ ap (λ m. bit_at m hit.0) (sym none) ∙ hit.2))
+    back (inr hit) =
+        absurd (differ (sym (bit_at-zero hit.0) ∙ ap (λ m. bit_at m hit.0) (sym none) ∙ hit.2))
 
 -- ---- the lanes one after another
 
@@ -160,24 +194,29 @@ is_one m e = grind (arith, nat_tests)
 one_is : (m : ℕ) → m ≡ 1 → (m == 1) ≡ true
 one_is m e = grind (arith, nat_tests)
 
-has_one : (lanes : List ℕ) (i j : ℕ) → j < 64 → bit_at (slice_index lanes i) j ≡ 1 → has lanes (64 * i + j) ≡ true
+has_one : (lanes : List ℕ) (i j : ℕ) → j < 64 → bit_at (slice_index lanes i) j ≡ 1
+    → has lanes (64 * i + j) ≡ true
 has_one lanes i j lt one =
     let row : (64 * i + j) / 64 ≡ i = omega arith in
     let col : (64 * i + j) % 64 ≡ j = omega arith in
     ap₂ (λ k b. bit_at (slice_index lanes k) b == 1) row col ∙ one_is _ one
 
-one_has : (lanes : List ℕ) (x : ℕ) → has lanes x ≡ true → bit_at (slice_index lanes (x / 64)) (x % 64) ≡ 1
+one_has : (lanes : List ℕ) (x : ℕ) → has lanes x ≡ true
+    → bit_at (slice_index lanes (x / 64)) (x % 64) ≡ 1
 one_has lanes x e = is_one _ e
 
 pub lane_more : (all new : fin.FinSet nat_cmp) (lanes : List ℕ) (i : ℕ) (row : List ℕ)
     → ((q : ℕ) → IsTrue (fin.contains all q) ↔ IsImageBelow lanes i row q)
     → ((q : ℕ) → IsTrue (fin.contains new q) ↔ Has all (slice_index lanes i) (64 * i) row q)
     → (q : ℕ) → IsTrue (fin.contains new q) ↔ IsImageBelow lanes (i + 1) row q
-lane_more all new lanes i row before more q = (λ member. forth ((more q).0 member), λ image. (more q).1 (back image))
+lane_more all new lanes i row before more q =
+    (λ member. forth ((more q).0 member), λ image. (more q).1 (back image))
   where
     forth : Has all (slice_index lanes i) (64 * i) row q → IsImageBelow lanes (i + 1) row q
-    forth (inl member) = let image = (before q).0 member in (image.0, omega (arith, image.1), image.2, image.3)
-    forth (inr hit) = (64 * i + hit.0, omega (arith, hit.1), has_one lanes i hit.0 hit.1 hit.2, hit.3)
+    forth (inl member) = let image = (before q).0 member in
+        (image.0, omega (arith, image.1), image.2, image.3)
+    forth (inr hit) =
+        (64 * i + hit.0, omega (arith, hit.1), has_one lanes i hit.0 hit.1 hit.2, hit.3)
 
     back : IsImageBelow lanes (i + 1) row q → Has all (slice_index lanes i) (64 * i) row q
     back image = elim (cases_lt image.0 (64 * i)) [
@@ -186,38 +225,59 @@ lane_more all new lanes i row before more q = (λ member. forth ((more q).0 memb
           let lane : image.0 / 64 ≡ i = omega (arith, image.1) in
           let place : 64 * i + image.0 % 64 ≡ image.0 = omega (arith, image.1) in
           let low : image.0 % 64 < 64 = omega arith in
-          inr (image.0 % 64, low, ap (λ k. bit_at (slice_index lanes k) (image.0 % 64)) (sym lane) ∙ one_has lanes image.0 image.2, ap (slice_index row) place ∙ image.3)
+          inr (
+            image.0 % 64,
+            low,
+            ap (λ k. bit_at (slice_index lanes k) (image.0 % 64)) (sym lane)
+                ∙ one_has lanes image.0 image.2,
+            ap (slice_index row) place ∙ image.3,
+          )
     ]
 
-pub lane_can : (lanes row : List ℕ) (i : ℕ) → CanTranslate (set_of lanes) row → CanTranslateLane (slice_index lanes i) (64 * i) row
-lane_can lanes row i can j below one = can (64 * i + j) (contains-set_of lanes (64 * i + j) ∙ has_one lanes i j below one)
+pub lane_can : (lanes row : List ℕ) (i : ℕ) → CanTranslate (set_of lanes) row
+    → CanTranslateLane (slice_index lanes i) (64 * i) row
+lane_can lanes row i can j below one =
+    can (64 * i + j) (contains-set_of lanes (64 * i + j) ∙ has_one lanes i j below one)
 
 -- ---- the image of a set
 
-any_from : (f : ℕ → ℕ) (xs : List ℕ) (q : ℕ) → list_any (λ y. y == q) (map f xs) ≡ true → (x : ℕ) × (list_any (eq_by_cmp nat_cmp x) xs ≡ true) × (f x ≡ q)
+any_from : (f : ℕ → ℕ) (xs : List ℕ) (q : ℕ) → list_any (λ y. y == q) (map f xs) ≡ true
+    → (x : ℕ) × (list_any (eq_by_cmp nat_cmp x) xs ≡ true) × (f x ≡ q)
 any_from f [] q e = absurd (cc)
 any_from f (x ∷ xs) q e = elim (or_cases (f x) q (list_any (λ y. y == q) (map f xs)) e) [
-  | inl same ↦ (x, ap (λ b. b || list_any (eq_by_cmp nat_cmp x) xs) (unsigned_tied x x ∙ itself x), same)
+  | inl same ↦ (
+    x,
+    ap (λ b. b || list_any (eq_by_cmp nat_cmp x) xs) (unsigned_tied x x ∙ itself x),
+    same,
+  )
   | inr rest ↦ let r = any_from f xs q rest in (r.0, or_right _ _ r.1, r.2)
 ]
   where
     itself : (n : ℕ) → eqb n n ≡ true
     itself n = grind (arith, nat_tests)
 
-any_to : (f : ℕ → ℕ) (xs : List ℕ) (x q : ℕ) → list_any (eq_by_cmp nat_cmp x) xs ≡ true → f x ≡ q → list_any (λ y. y == q) (map f xs) ≡ true
+any_to : (f : ℕ → ℕ) (xs : List ℕ) (x q : ℕ) → list_any (eq_by_cmp nat_cmp x) xs ≡ true → f x ≡ q
+    → list_any (λ y. y == q) (map f xs) ≡ true
 any_to f [] x q e same = absurd (cc)
-any_to f (y ∷ xs) x q e same = elim (or_cases x y (list_any (eq_by_cmp nat_cmp x) xs) (ap (λ b. b || list_any (eq_by_cmp nat_cmp x) xs) (sym (unsigned_tied x y)) ∙ e)) [
-  | inl here ↦ or_left (f y) q _ (ap f (sym here) ∙ same)
-  | inr rest ↦ or_right _ _ (any_to f xs x q rest same)
-]
+any_to f (y ∷ xs) x q e same =
+    elim (or_cases x y (list_any (eq_by_cmp nat_cmp x) xs)
+    (ap (λ b. b || list_any (eq_by_cmp nat_cmp x) xs) (sym (unsigned_tied x y)) ∙ e)) [
+      | inl here ↦ or_left (f y) q _ (ap f (sym here) ∙ same)
+      | inr rest ↦ or_right _ _ (any_to f xs x q rest same)
+    ]
 
 -- the members of the image are the row's entries at the members
-pub translated_from : (s : fin.FinSet nat_cmp) (row : List ℕ) (q : ℕ) → IsTrue (fin.contains (translated s row) q) → (x : ℕ) × IsTrue (fin.contains s x) × (slice_index row x ≡ q)
+pub translated_from : (s : fin.FinSet nat_cmp) (row : List ℕ) (q : ℕ)
+    → IsTrue (fin.contains (translated s row) q) → (x : ℕ) × IsTrue (fin.contains s x)
+    × (slice_index row x ≡ q)
 translated_from s row q member =
-    let r = any_from (λ x. slice_index row x) (fin.items s) q (sym (contains-from_list_nat (map (λ x. slice_index row x) (fin.items s)) q) ∙ member) in
+    let r =
+    any_from (λ x. slice_index row x) (fin.items s) q
+    (sym (contains-from_list_nat (map (λ x. slice_index row x) (fin.items s)) q) ∙ member) in
     (r.0, contains-items s r.0 ∙ r.1, r.2)
 
-pub translated_to : (s : fin.FinSet nat_cmp) (row : List ℕ) (x q : ℕ) → IsTrue (fin.contains s x) → slice_index row x ≡ q → IsTrue (fin.contains (translated s row) q)
+pub translated_to : (s : fin.FinSet nat_cmp) (row : List ℕ) (x q : ℕ) → IsTrue (fin.contains s x)
+    → slice_index row x ≡ q → IsTrue (fin.contains (translated s row) q)
 translated_to s row x q member same =
     contains-from_list_nat (map (λ x. slice_index row x) (fin.items s)) q
     ∙ any_to (λ x. slice_index row x) (fin.items s) x q (sym (contains-items s x) ∙ member) same
@@ -229,9 +289,11 @@ alike false true f g = g refl
 alike false false f g = refl
 
 pub all_lanes : (all : fin.FinSet nat_cmp) (lanes row : List ℕ)
-    → ((q : ℕ) → IsTrue (fin.contains all q) ↔ IsImageBelow lanes (length lanes) row q) → all ≡ translated (set_of lanes) row
+    → ((q : ℕ) → IsTrue (fin.contains all q) ↔ IsImageBelow lanes (length lanes) row q)
+    → all ≡ translated (set_of lanes) row
 all_lanes all lanes row image = same_set nat_cmp_total nat_cmp-IsAntisymmetric all _ (λ q. alike _ _
-    (λ member. let i = (image q).0 member in translated_to (set_of lanes) row i.0 q (contains-set_of lanes i.0 ∙ i.2) i.3)
+    (λ member. let i = (image q).0 member in
+    translated_to (set_of lanes) row i.0 q (contains-set_of lanes i.0 ∙ i.2) i.3)
     (λ member.
     let i = translated_from (set_of lanes) row q member in
     let one : has lanes i.0 ≡ true = sym (contains-set_of lanes i.0) ∙ i.1 in
@@ -243,10 +305,12 @@ all_lanes all lanes row image = same_set nat_cmp_total nat_cmp-IsAntisymmetric a
     differ : true ≡ false → ⊥
     differ e = cc
 
-pub small_members : (lanes : List ℕ) (x : ℕ) → IsTrue (fin.contains (set_of lanes) x) → x < 64 * length lanes
+pub small_members : (lanes : List ℕ) (x : ℕ) → IsTrue (fin.contains (set_of lanes) x)
+    → x < 64 * length lanes
 small_members lanes x member = elim (cases_lt x (64 * length lanes)) [
   | inl low ↦ low
-  | inr past ↦ absurd (differ (sym (sym (contains-set_of lanes x) ∙ member) ∙ has_past lanes x past))
+  | inr past ↦ absurd
+      (differ (sym (sym (contains-set_of lanes x) ∙ member) ∙ has_past lanes x past))
 ]
   where
     differ : true ≡ false → ⊥

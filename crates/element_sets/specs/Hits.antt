@@ -7,4 +7,5 @@ abbrev pub Hits : ℕ → ℕ → List ℕ → ℕ → Type 0
 Hits lane base row q = (j : ℕ) × (j < 64) × (bit_at lane j ≡ 1) × (slice_index row (base + j) ≡ q)
 
 abbrev pub CanTranslateLane : ℕ → ℕ → List ℕ → Type 0
-CanTranslateLane lane base row = (j : ℕ) → j < 64 → bit_at lane j ≡ 1 → (base + j < length row) × (slice_index row (base + j) < 256)
+CanTranslateLane lane base row = (j : ℕ) → j < 64 → bit_at lane j ≡ 1 → (base + j < length row)
+    × (slice_index row (base + j) < 256)

@@ -9,4 +9,5 @@ translated s row = set.from_list (map (λ x. slice_index row x) (set.items s))
 
 -- The row has an entry below 256 at each member.
 abbrev pub CanTranslate : set.FinSet nat_cmp → List ℕ → Type 0
-CanTranslate s row = (x : ℕ) → IsTrue (set.contains s x) → (x < length row) × (slice_index row x < 256)
+CanTranslate s row = (x : ℕ) → IsTrue (set.contains s x)
+    → (x < length row) × (slice_index row x < 256)

@@ -38,7 +38,8 @@ impl Model for ElementSet {
 
     ghost inverse = { λ s. record { lanes = lanes_of 4 s } };
 
-    ghost inverse_ok = { λ a h. ap (λ ls. record { lanes = ls }) (lanes_of-set_of 4 a.lanes h.length_is h.fits) };
+    ghost inverse_ok = { λ a h. ap (λ ls. record { lanes = ls })
+        (lanes_of-set_of 4 a.lanes h.length_is h.fits) };
 }
 
 impl ElementSet {
@@ -75,7 +76,8 @@ impl ElementSet {
 
     /// Whether the sets have a member in common.
     pub fn meets(&self, other: &ElementSet) -> bool
-        ensures { IsTrue result ↔ ((x : ℕ) × IsTrue (set.contains self.now x) × IsTrue (set.contains other.now x)) }
+        ensures { IsTrue result
+            ↔ ((x : ℕ) × IsTrue (set.contains self.now x) × IsTrue (set.contains other.now x)) }
     {
         let both = u64x4::from_array(self.lanes) & u64x4::from_array(other.lanes);
         both.reduce_or() != 0
@@ -167,5 +169,6 @@ pub fn members_are_small(members: &ElementSet)
 /// A number is in a translated set exactly where it is the row's entry at a member.
 pub fn translations_are_images()
     ensures { (s : set.FinSet nat_cmp) (row : List ℕ) (y : ℕ)
-        → IsTrue (set.contains (translated s row) y) ↔ ((x : ℕ) × IsTrue (set.contains s x) × (slice_index row x ≡ y)) }
+        → IsTrue (set.contains (translated s row) y)
+        ↔ ((x : ℕ) × IsTrue (set.contains s x) × (slice_index row x ≡ y)) }
 {}

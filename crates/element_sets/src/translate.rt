@@ -8,7 +8,8 @@ use crate::ElementSet;
 /// Adds to `all` the row's entries from `base` on at the ones of `lane`.
 pub(crate) fn add_lane(all: &mut ElementSet, lane: u64, base: usize, row: &[u16])
     requires { CanTranslateLane lane base row.now }
-    ensures { (q : ℕ) → IsTrue (set.contains all.new q) ↔ (IsTrue (set.contains all.old q) ⊎ Hits lane base row.now q) }
+    ensures { (q : ℕ) → IsTrue (set.contains all.new q)
+        ↔ (IsTrue (set.contains all.old q) ⊎ Hits lane base row.now q) }
 {
     let mut word = lane;
     while word != 0 {

@@ -13,8 +13,10 @@ abbrev pub file_of : Option (List ℕ → Option (List ℕ)) → List ℕ → Op
 file_of None name = None
 file_of (Some files) name = files name
 
--- the bytes stand in place of that one file's, and each other file is as it was, where the files are known
-abbrev pub Replaces : Option (List ℕ → Option (List ℕ)) → Option (List ℕ → Option (List ℕ)) → List ℕ → List ℕ → Type 0
+-- the bytes stand in place of that one file's, and each other file is as it was, where the files
+-- are known
+abbrev pub Replaces : Option (List ℕ → Option (List ℕ)) → Option (List ℕ → Option (List ℕ)) → List ℕ
+    → List ℕ → Type 0
 Replaces None after name bytes = ⊤
 Replaces (Some before) None name bytes = ⊥
 Replaces (Some before) (Some after) name bytes =
@@ -26,8 +28,10 @@ Counts before now (Ok x) = now ≡ before
 Counts before now (Err Device) = before < now
 Counts before now (Err Memory) = now ≡ before
 
--- a call that succeeds puts the bytes in place of the file's, and one that fails leaves every file as it was
-abbrev pub Writes : {T : Type 0} → Option (List ℕ → Option (List ℕ)) → Option (List ℕ → Option (List ℕ)) → Result T FileFault
+-- a call that succeeds puts the bytes in place of the file's, and one that fails leaves every file
+-- as it was
+abbrev pub Writes : {T : Type 0} → Option (List ℕ → Option (List ℕ))
+    → Option (List ℕ → Option (List ℕ)) → Result T FileFault
     → List ℕ → List ℕ → Type 0
 Writes before after (Ok x) name bytes = Replaces before after name bytes
 Writes before after (Err e) name bytes = after ≡ before

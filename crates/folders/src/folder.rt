@@ -22,8 +22,8 @@ pub trait Folder {
         ensures cause { Counts (failed_reads self.old) (failed_reads self.new) result }
         ensures writes { failed_writes self.new ≡ failed_writes self.old };
 
-    /// Puts the bytes in place of the file's, or makes the file. Every other file stays as it is, and after a call that
-    /// fails every file is as it was.
+    /// Puts the bytes in place of the file's, or makes the file. Every other file stays as it is,
+    /// and after a call that fails every file is as it was.
     fn write(&mut self, name: &str, bytes: &[u8]) -> Result<(), FileFault>
         ensures written { Writes (files self.old) (files self.new) result name.now bytes.now }
         ensures cause { Counts (failed_writes self.old) (failed_writes self.new) result }

@@ -46,7 +46,8 @@ impl<R: Files> Disk for HostDisk<'_, R> {
     }
 }
 
-/// The files of the machine, of whose bytes nothing is claimed. A file is replaced whole or not at all.
+/// The files of the machine, of whose bytes nothing is claimed. A file is replaced whole or not at
+/// all.
 #[derive(Drop)]
 pub struct HostFolder<'a, R> {
     rt: &'a R,

@@ -1,8 +1,9 @@
 //! Named files: where they are read and replaced.
 //!
-//! A `Folder` counts the reads and the writes of a device that failed, in ghosts that have no greatest value, so that a contract
-//! can say that a fault was told only where the device failed. Over memory it also tells what each file holds; of the machine's
-//! files nothing is claimed but the counts.
+//! A `Folder` counts the reads and the writes of a device that failed, in ghosts that have no
+//! greatest value, so that a contract can say that a fault was told only where the device failed.
+//! Over memory it also tells what each file holds; of the machine's files nothing is claimed but
+//! the counts.
 #![tactic(auto)]
 
 mod fault;

@@ -57,8 +57,10 @@ impl MemoryFolder {
 
     /// Puts the bytes in place of the file's, or makes the file. It is no call that may fail.
     pub fn put(&mut self, name: &str, bytes: &[u8]) -> Result<(), Memory>
-        ensures put { let files = ⟦<MemoryFolder as Folder>⟧.files in IfOk result (λ _. Replaces (files self.old) (files self.new) name.now bytes.now) }
-        ensures kept { let files = ⟦<MemoryFolder as Folder>⟧.files in OnErr result (files self.new ≡ files self.old) }
+        ensures put { let files = ⟦<MemoryFolder as Folder>⟧.files in
+            IfOk result (λ _. Replaces (files self.old) (files self.new) name.now bytes.now) }
+        ensures kept { let files = ⟦<MemoryFolder as Folder>⟧.files in
+            OnErr result (files self.new ≡ files self.old) }
         ensures reads { self.new.failed_reads ≡ self.old.failed_reads }
         ensures writes { self.new.failed_writes ≡ self.old.failed_writes }
     {
@@ -70,7 +72,8 @@ impl MemoryFolder {
 
     /// The bytes of the file.
     pub fn bytes(&self, name: &str) -> Option<&[u8]>
-        ensures { option_map (λ b. b.now) result ≡ file_of (⟦<MemoryFolder as Folder>⟧.files self.now) name.now }
+        ensures { option_map (λ b. b.now) result
+            ≡ file_of (⟦<MemoryFolder as Folder>⟧.files self.now) name.now }
     {
         self.files.get(name).map(|bytes| bytes.as_slice())
     }

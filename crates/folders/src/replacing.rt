@@ -32,7 +32,8 @@ fn name_beside(alloc: Global, name: &str, number: u32) -> Result<String, AllocEr
     format!(in alloc; "{name}.{number}.new")
 }
 
-/// Takes away what is left of a file that isn't put in place. Where that fails too there is nothing left to do.
+/// Takes away what is left of a file that isn't put in place. Where that fails too there is nothing
+/// left to do.
 fn give_up<D: Disk>(disk: &mut D, beside: &str) -> FileFault {
     let _ = disk.remove(beside);
     FileFault::Device
@@ -46,8 +47,9 @@ fn settle<D: Disk>(disk: &mut D, beside: &str, name: &str) -> Result<(), FileFau
     }
 }
 
-/// Puts the bytes in place of the file's, whole or not at all: they are written to a new file beside it, in the same folder,
-/// which then takes its name. So the file holds what it held until all of the bytes lie on the device.
+/// Puts the bytes in place of the file's, whole or not at all: they are written to a new file
+/// beside it, in the same folder, which then takes its name. So the file holds what it held until
+/// all of the bytes lie on the device.
 pub fn replace<D: Disk>(
     alloc: Global,
     disk: &mut D,

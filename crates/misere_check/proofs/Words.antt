@@ -4,7 +4,8 @@ use Rattle.misere_check.specs.Ends.{file_named}
 
 module _ {A : Type 0} (text : A → List ℕ) where
   -- of two words it is the second
-  pub second_named : (words : List A) (d : A) → length words ≡ 2 → file_named (map text words) ≡ Some (text (get_or words 1 d))
+  pub second_named : (words : List A) (d : A) → length words ≡ 2
+      → file_named (map text words) ≡ Some (text (get_or words 1 d))
   unfolding file_named
   second_named [] d two = absurd (omega (arith, two))
   second_named (a ∷ []) d two = absurd (omega (arith, two))

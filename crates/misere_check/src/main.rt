@@ -1,4 +1,5 @@
-//! The program `misere_check`: the check of one file, for a clone whose whole program isn't built yet.
+//! The program `misere_check`: the check of one file, for a clone whose whole program isn't built
+//! yet.
 // The machine's files and streams, and the file that the words name, go to one whole check.
 #![tactic(auto)]
 

@@ -32,9 +32,12 @@ fn check_named<F: Folder, W: Sink, E: Sink>(
     out: &mut W,
     err: &mut E,
 ) -> u8
-    ensures checks { Checks name.now (F.files folder.old) (F.failed_reads folder.old) (F.failed_reads folder.new)
-        (printer (W.taken out.old) (W.failures out.old)) (printer (W.taken out.new) (W.failures out.new))
-        (printer (E.taken err.old) (E.failures err.old)) (printer (E.taken err.new) (E.failures err.new)) result }
+    ensures checks { Checks name.now (F.files folder.old) (F.failed_reads folder.old)
+        (F.failed_reads folder.new)
+        (printer (W.taken out.old) (W.failures out.old))
+        (printer (W.taken out.new) (W.failures out.new))
+        (printer (E.taken err.old) (E.failures err.old))
+        (printer (E.taken err.new) (E.failures err.new)) result }
     ensures kept { F.files folder.new ≡ F.files folder.old }
 {
     match check_file(alloc, name, DEFAULT_LIMIT, folder) {
@@ -46,9 +49,10 @@ fn check_named<F: Folder, W: Sink, E: Sink>(
     }
 }
 
-/// Checks the one file that the words name, the program's name first, and answers the exit status: 0 for yes, 1 for no, 2 where they name none
-/// or more, 3 where a device failed or memory was wanting. The verdict is printed on standard output, or a beginning of it where that fails; why a run
-/// ended with 2 or 3 is told on standard error. No file is changed.
+/// Checks the one file that the words name, the program's name first, and answers the exit status:
+/// 0 for yes, 1 for no, 2 where they name none or more, 3 where a device failed or memory was
+/// wanting. The verdict is printed on standard output, or a beginning of it where that fails; why a
+/// run ended with 2 or 3 is told on standard error. No file is changed.
 pub fn run<F: Folder, W: Sink, E: Sink, T: AsStr>(
     alloc: Global,
     words: &[T],
@@ -56,9 +60,12 @@ pub fn run<F: Folder, W: Sink, E: Sink, T: AsStr>(
     out: &mut W,
     err: &mut E,
 ) -> u8
-    ensures ends { Ends (map T.text words.now) (F.files folder.old) (F.failed_reads folder.old) (F.failed_reads folder.new)
-        (printer (W.taken out.old) (W.failures out.old)) (printer (W.taken out.new) (W.failures out.new))
-        (printer (E.taken err.old) (E.failures err.old)) (printer (E.taken err.new) (E.failures err.new)) result }
+    ensures ends { Ends (map T.text words.now) (F.files folder.old) (F.failed_reads folder.old)
+        (F.failed_reads folder.new)
+        (printer (W.taken out.old) (W.failures out.old))
+        (printer (W.taken out.new) (W.failures out.new))
+        (printer (E.taken err.old) (E.failures err.old))
+        (printer (E.taken err.new) (E.failures err.new)) result }
     ensures kept { F.files folder.new ≡ F.files folder.old }
 {
     match file_of(words) {

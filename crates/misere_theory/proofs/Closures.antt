@@ -1,4 +1,5 @@
--- A closed set of pairs covers the pair of every position, and the rule need only be tested at its members.
+-- A closed set of pairs covers the pair of every position, and the rule need only be tested at its
+-- members.
 use Rattle.std.proofs.Common.{◌≡◌, ℕ, ◌<◌, ◌⊎◌, true, false, List, [], ◌∷◌, ◌++◌, refl, sym, ◌∙◌, ap, subst, inl, inr}
 use Rattle.std.proofs.lemmas.Bool.{true≢false}
 use Rattle.misere_theory.specs.Games.{HeapOption, Move, IsPosition}
@@ -8,7 +9,8 @@ use Rattle.misere_theory.proofs.Sums.{first_or_rest, no_move_of_none, value_in, 
 use Rattle.misere_theory.proofs.Rules.{true_or_false}
 
 module _
-    (heap : ℕ → Type 0) (code : List ℕ) (kept : IsKept heap code) (c : Claim) (m : Monoid c.order c.times)
+    (heap : ℕ → Type 0) (code : List ℕ) (kept : IsKept heap code) (c : Claim)
+    (m : Monoid c.order c.times)
     (phi_in : GivesElements heap c) where
   -- a move replaces a factor phi n by the value of an option of n
   pub record Factored (X Y : List ℕ) : Type 0 where
@@ -21,8 +23,11 @@ module _
     pub from : value c X ≡ c.times (c.phi part) rest
     pub to : value c Y ≡ c.times (value c left) rest
 
-  left_commutes : (x y z : ℕ) → x < c.order → y < c.order → z < c.order → c.times x (c.times y z) ≡ c.times y (c.times x z)
-  left_commutes x y z p q r = sym (m.associates x y z p q r) ∙ ap (λ v. c.times v z) (m.commutes x y p q) ∙ m.associates y x z q p r
+  left_commutes : (x y z : ℕ) → x < c.order → y < c.order → z < c.order
+      → c.times x (c.times y z) ≡ c.times y (c.times x z)
+  left_commutes x y z p q r =
+      sym (m.associates x y z p q r) ∙ ap (λ v. c.times v z) (m.commutes x y p q)
+      ∙ m.associates y x z q p r
 
   pub factored : {X Y : List ℕ} → Move code X Y → IsPosition heap X → Factored X Y
   factored (Here {n = n} {X = X} {H = H} o e) p = record {
@@ -42,11 +47,16 @@ module _
     rest = c.times (c.phi n) f.rest;
     below = m.closed _ _ (phi_in n p.0) f.below;
     of_heap = f.of_heap;
-    from = ap (c.times (c.phi n)) f.from ∙ left_commutes _ _ _ (phi_in n p.0) (phi_in f.part f.counts) f.below;
-    to = ap (value c) e ∙ (ap (c.times (c.phi n)) f.to ∙ left_commutes _ _ _ (phi_in n p.0) (value_in heap c m phi_in f.left (kept f.part f.left f.counts f.of_heap)) f.below);
+    from =
+        ap (c.times (c.phi n)) f.from ∙ left_commutes _ _ _ (phi_in n p.0) (phi_in f.part f.counts)
+        f.below;
+    to = ap (value c) e
+        ∙ (ap (c.times (c.phi n)) f.to ∙ left_commutes _ _ _ (phi_in n p.0)
+        (value_in heap c m phi_in f.left (kept f.part f.left f.counts f.of_heap)) f.below);
   }
 
-  -- Members with a value and a set each. Each position has one of its value, whose set is among the position's and is empty only where that is.
+  -- Members with a value and a set each. Each position has one of its value, whose set is among the
+  -- position's and is empty only where that is.
   module _ (I : Type 0) (val : I → ℕ) (Has : I → ℕ → Type 0) where
     pub record Covers (i : I) (X : List ℕ) : Type 0 where
       pub same_value : val i ≡ value c X
@@ -57,14 +67,23 @@ module _
     pub record CoversProduct (j i : I) (n : ℕ) : Type 0 where
       pub same_value : val j ≡ c.times (c.phi n) (val i)
       pub among : (e : ℕ) → Has j e →
-          ((h : ℕ) × HeapOptionValue code c n h × (e ≡ c.times h (val i))) ⊎ ((f : ℕ) × Has i f × (e ≡ c.times (c.phi n) f))
+          ((h : ℕ) × HeapOptionValue code c n h × (e ≡ c.times h (val i)))
+          ⊎ ((f : ℕ) × Has i f × (e ≡ c.times (c.phi n) f))
       pub some_heap : (h : ℕ) → HeapOptionValue code c n h → (e : ℕ) × Has j e
       pub some_rest : (f : ℕ) → Has i f → (e : ℕ) × Has j e
 
     module _
-        (start : (i : I) × (val i ≡ 0) × ((e : ℕ) → Has i e → ⊥)) (step : (i : I) (n : ℕ) → heap n → (j : I) × CoversProduct j i n) where
+        (start : (i : I) × (val i ≡ 0) × ((e : ℕ) → Has i e → ⊥)) (step : (i : I) (n : ℕ) → heap n
+        → (j : I) × CoversProduct j i n) where
       pub covered : (X : List ℕ) → IsPosition heap X → (i : I) × Covers i X
-      covered [] p0 = let (i, e, none) = start in (i, record { same_value = e; among = λ x h. absurd (none x h); some = λ Y k. absurd (no_move_of_none k) })
+      covered [] p0 = let (i, e, none) = start in (
+        i,
+        record {
+          same_value = e;
+          among = λ x h. absurd (none x h);
+          some = λ Y k. absurd (no_move_of_none k);
+        },
+      )
       covered (n ∷ X) w =
           let (i, k) = covered X w.1 in
           let (j, p) = step i n w.0 in (
@@ -72,9 +91,15 @@ module _
             record {
               same_value = p.same_value ∙ ap (c.times (c.phi n)) k.same_value;
               among = λ e h. elim (p.among e h) [
-                | inl (v, (H, o, q), d) ↦
-                    (H ++ X, Here o refl, value-append heap c m phi_in H X (kept n H w.0 o) w.1 ∙ ap (λ z. c.times z (value c X)) q ∙ ap (c.times v) (sym k.same_value) ∙ sym d)
-                | inr (f, g, d) ↦ let (Y, i', q) = k.among f g in (n ∷ Y, There i' refl, ap (c.times (c.phi n)) q ∙ sym d)
+                | inl (v, (H, o, q), d) ↦ (
+                  H ++ X,
+                  Here o refl,
+                  value-append heap c m phi_in H X (kept n H w.0 o) w.1
+                      ∙ ap (λ z. c.times z (value c X)) q ∙ ap (c.times v) (sym k.same_value)
+                      ∙ sym d,
+                )
+                | inr (f, g, d) ↦ let (Y, i', q) = k.among f g in
+                    (n ∷ Y, There i' refl, ap (c.times (c.phi n)) q ∙ sym d)
               ];
               some = λ Y i'. elim (first_or_rest i') [
                 | inl (H, o, d) ↦ p.some_heap (value c H) (H, o, refl)
@@ -83,18 +108,23 @@ module _
             },
           )
 
-      -- the rule at each position, from the rule at the members outside the portion and a check by elements inside it
+      -- the rule at each position, from the rule at the members outside the portion and a check by
+      -- elements inside it
       pub rule_from_members :
-          ((i : I) → c.portion (val i) ≡ false → (e : ℕ) → Has i e → (f : ℕ) × Has i f × (c.portion f ≡ true))
+          ((i : I) → c.portion (val i) ≡ false → (e : ℕ) → Has i e
+          → (f : ℕ) × Has i f × (c.portion f ≡ true))
           → ((i : I) → c.portion (val i) ≡ true → (e : ℕ) × Has i e)
-          → ((n h y : ℕ) → heap n → HeapOptionValue code c n h → y < c.order → c.portion (c.times (c.phi n) y) ≡ true → c.portion (c.times h y) ≡ false)
+          → ((n h y : ℕ) → heap n → HeapOptionValue code c n h → y < c.order
+          → c.portion (c.times (c.phi n) y) ≡ true → c.portion (c.times h y) ≡ false)
           → (X : List ℕ) → IsPosition heap X → RuleHolds code c X
       rule_from_members outside inside elements X w =
           let (i, k) = covered X w in (
             λ t. let (e, h) = inside i (ap c.portion k.same_value ∙ t) in (
               (e, k.among e h),
               λ x o. let f = factored o.1 w in
-                  subst (λ v. c.portion v ≡ false) (sym f.to ∙ o.2) (elements f.part (value c f.left) f.rest f.counts (f.left, f.of_heap, refl) f.below (ap c.portion (sym f.from) ∙ t)),
+                  subst (λ v. c.portion v ≡ false) (sym f.to ∙ o.2)
+                  (elements f.part (value c f.left) f.rest f.counts (f.left, f.of_heap, refl)
+                  f.below (ap c.portion (sym f.from) ∙ t)),
             ),
             λ r. let ((x, o), all) = r in elim (true_or_false (c.portion (value c X))) [
               | inl t ↦ t

@@ -15,7 +15,8 @@ covers_trans p q r a b = record {
 
 module _ (code : List ℕ) (c : Claim) (n : ℕ) where
   -- what covers a cover of a product covers the product
-  pub product_covered_again : (p r q : Pair) → PairCovers p r → CoversProduct code c r n q → CoversProduct code c p n q
+  pub product_covered_again : (p r q : Pair) → PairCovers p r → CoversProduct code c r n q
+      → CoversProduct code c p n q
   product_covered_again p r q a b = record {
     same_value = a.same_value ∙ b.same_value;
     among = λ x h. b.among x (a.among x h);
@@ -23,7 +24,8 @@ module _ (code : List ℕ) (c : Claim) (n : ℕ) where
   }
 
   -- the product of a cover stands for the product of what it covers
-  pub product_of_cover : (r p q : Pair) → PairCovers p q → CoversProduct code c r n p → CoversProduct code c r n q
+  pub product_of_cover : (r p q : Pair) → PairCovers p q → CoversProduct code c r n p
+      → CoversProduct code c r n q
   product_of_cover r p q a b = record {
     same_value = b.same_value ∙ ap (c.times (c.phi n)) a.same_value;
     among = λ x h. elim (b.among x h) [

@@ -1,4 +1,5 @@
--- The rule holds at every position, or fails at one: words of at most order * 2 ^ order heaps up to B show every pair.
+-- The rule holds at every position, or fails at one: words of at most order * 2 ^ order heaps up to
+-- B show every pair.
 use Rattle.std.proofs.Common.{◌≡◌, ℕ, zero, suc, ◌+◌, ◌*◌, ◌^◌, ◌<◌, ◌≤◌, ◌⊎◌, List, [], ◌∷◌, ◌++◌, length, refl, sym, ◌∙◌, ap, ap₂, subst, inl, inr, arith, AllPairs, All}
 use Rattle.std.proofs.lemmas.List.Kept.{AllPairs-cons}
 use Rattle.std.proofs.lemmas.List.Elements.{All-cons}
@@ -18,22 +19,29 @@ use Rattle.misere_theory.proofs.Rules.{rule_decided}
 pub pair-refl : (code : List ℕ) (c : Claim) (X : List ℕ) → SamePair code c X X
 pair-refl code c X = (refl, λ x. (λ o. o, λ o. o))
 
-pub pair-sym : (code : List ℕ) (c : Claim) (X Y : List ℕ) → SamePair code c X Y → SamePair code c Y X
+pub pair-sym : (code : List ℕ) (c : Claim) (X Y : List ℕ) → SamePair code c X Y
+    → SamePair code c Y X
 pair-sym code c X Y s = (sym s.0, λ x. ((s.1 x).1, (s.1 x).0))
 
-pub pair-trans : (code : List ℕ) (c : Claim) (X Y Z : List ℕ) → SamePair code c X Y → SamePair code c Y Z → SamePair code c X Z
-pair-trans code c X Y Z s t = (s.0 ∙ t.0, λ x. (λ o. (t.1 x).0 ((s.1 x).0 o), λ o. (s.1 x).1 ((t.1 x).1 o)))
+pub pair-trans : (code : List ℕ) (c : Claim) (X Y Z : List ℕ) → SamePair code c X Y
+    → SamePair code c Y Z → SamePair code c X Z
+pair-trans code c X Y Z s t =
+    (s.0 ∙ t.0, λ x. (λ o. (t.1 x).0 ((s.1 x).0 o), λ o. (s.1 x).1 ((t.1 x).1 o)))
 
 -- the rule speaks of the pair alone
-pub rule_of_pair : (code : List ℕ) (c : Claim) (X Y : List ℕ) → SamePair code c X Y → RuleHolds code c X → RuleHolds code c Y
+pub rule_of_pair : (code : List ℕ) (c : Claim) (X Y : List ℕ) → SamePair code c X Y
+    → RuleHolds code c X → RuleHolds code c Y
 rule_of_pair code c X Y s h = (
-  λ t. let ((x, o), none) = h.0 (ap c.portion s.0 ∙ t) in ((x, (s.1 x).0 o), λ y p. none y ((s.1 y).1 p)),
-  λ r. let ((x, o), none) = r in ap c.portion (sym s.0) ∙ h.1 ((x, (s.1 x).1 o), λ y p. none y ((s.1 y).0 p)),
+  λ t. let ((x, o), none) = h.0 (ap c.portion s.0 ∙ t) in
+      ((x, (s.1 x).0 o), λ y p. none y ((s.1 y).1 p)),
+  λ r. let ((x, o), none) = r in
+      ap c.portion (sym s.0) ∙ h.1 ((x, (s.1 x).1 o), λ y p. none y ((s.1 y).0 p)),
 )
 
 -- one word over some heaps up to a length has the one fact, or each has the other
 pub some_or_all_words : (B L : ℕ) (Q R : List ℕ → Type 0) → ((X : List ℕ) → Q X ⊎ R X)
-    → ((X : List ℕ) × IsPosition (IsHeapUpTo B) X × Q X) ⊎ ((X : List ℕ) → IsPosition (IsHeapUpTo B) X → length X ≤ L → R X)
+    → ((X : List ℕ) × IsPosition (IsHeapUpTo B) X × Q X)
+    ⊎ ((X : List ℕ) → IsPosition (IsHeapUpTo B) X → length X ≤ L → R X)
 some_or_all_words B zero Q R test = elim (test []) [
   | inl q ↦ inl ([], tt, q)
   | inr r ↦ inr (λ X p l. only X l r)
@@ -47,13 +55,15 @@ some_or_all_words B (suc L) Q R test = elim (test []) [
   | inr r ↦ elim (some_or_all_below
       (λ n. (X : List ℕ) × IsPosition (IsHeapUpTo B) X × Q (suc n ∷ X))
       (λ n. (X : List ℕ) → IsPosition (IsHeapUpTo B) X → length X ≤ L → R (suc n ∷ X))
-      (λ n. some_or_all_words B L (λ X. Q (suc n ∷ X)) (λ X. R (suc n ∷ X)) (λ X. test (suc n ∷ X))) B) [
+      (λ n. some_or_all_words B L (λ X. Q (suc n ∷ X)) (λ X. R (suc n ∷ X)) (λ X. test (suc n ∷ X)))
+      B) [
         | inl (n, l, (X, p, q)) ↦ inl (suc n ∷ X, ((omega arith, omega arith), p), q)
         | inr all ↦ inr (each r all)
       ]
 ]
   where
-    each : R [] → ((n : ℕ) → n < B → (X : List ℕ) → IsPosition (IsHeapUpTo B) X → length X ≤ L → R (suc n ∷ X)) → (X : List ℕ)
+    each : R [] → ((n : ℕ) → n < B → (X : List ℕ) → IsPosition (IsHeapUpTo B) X → length X ≤ L
+        → R (suc n ∷ X)) → (X : List ℕ)
         → IsPosition (IsHeapUpTo B) X → length X ≤ suc L → R X
     each r all [] p l = r
     each r all (zero ∷ X) p l = absurd (let o = p.0.0 in omega arith)
@@ -68,10 +78,12 @@ unfolding suffixes
 length-suffixes [] = refl
 length-suffixes (n ∷ X) = ap suc (length-suffixes X)
 
-all_suffixes : (heap : ℕ → Type 0) (X : List ℕ) → IsPosition heap X → All (IsPosition heap) (suffixes X)
+all_suffixes : (heap : ℕ → Type 0) (X : List ℕ) → IsPosition heap X
+    → All (IsPosition heap) (suffixes X)
 unfolding suffixes
 all_suffixes heap [] p = All-cons (IsPosition heap) [] [] tt (λ k d l. absurd (omega arith))
-all_suffixes heap (n ∷ X) p = All-cons (IsPosition heap) (n ∷ X) (suffixes X) p (all_suffixes heap X p.1)
+all_suffixes heap (n ∷ X) p =
+    All-cons (IsPosition heap) (n ∷ X) (suffixes X) p (all_suffixes heap X p.1)
 
 position_behind : (heap : ℕ → Type 0) (P S : List ℕ) → IsPosition heap (P ++ S) → IsPosition heap S
 position_behind heap [] S p = p
@@ -85,109 +97,154 @@ up_to_is_heap : (B : ℕ) (X : List ℕ) → IsPosition (IsHeapUpTo B) X → IsP
 up_to_is_heap B [] p = tt
 up_to_is_heap B (n ∷ X) p = (p.0.0, up_to_is_heap B X p.1)
 
-module _ (code : List ℕ) (c : Claim) (m : Monoid c.order c.times) (phi_in : GivesElements IsHeap c) where
-  cons_option : (n i : ℕ) (X Y : List ℕ) → IsHeap n → IsHeap i → IsPosition IsHeap X → IsPosition IsHeap Y → SameHeapPair code c n i
-      → SamePair code c X Y → (x : ℕ) → OptionValue code c (n ∷ X) x → OptionValue code c (i ∷ Y) x
-  cons_option n i X Y one two p q heaps rest x o = elim (first_or_rest o.1) [
-    | inl (H, h, e) ↦
-        let (L, l, f) = (heaps.1 (value c H)).0 (H, h, refl) in (
-          L ++ Y,
-          Here l refl,
-          value-append IsHeap c m phi_in L Y (heaps_kept code i L two l) q ∙ ap₂ c.times f (sym rest.0)
-              ∙ sym (value-append IsHeap c m phi_in H X (heaps_kept code n H one h) p) ∙ ap (value c) (sym e) ∙ o.2,
+module _ (code : List ℕ) (c : Claim) (m : Monoid c.order c.times) (phi_in : GivesElements IsHeap c)
+  where
+    cons_option : (n i : ℕ) (X Y : List ℕ) → IsHeap n → IsHeap i → IsPosition IsHeap X
+        → IsPosition IsHeap Y → SameHeapPair code c n i
+        → SamePair code c X Y → (x : ℕ) → OptionValue code c (n ∷ X) x
+        → OptionValue code c (i ∷ Y) x
+    cons_option n i X Y one two p q heaps rest x o = elim (first_or_rest o.1) [
+      | inl (H, h, e) ↦
+          let (L, l, f) = (heaps.1 (value c H)).0 (H, h, refl) in (
+            L ++ Y,
+            Here l refl,
+            value-append IsHeap c m phi_in L Y (heaps_kept code i L two l) q
+                ∙ ap₂ c.times f (sym rest.0)
+                ∙ sym (value-append IsHeap c m phi_in H X (heaps_kept code n H one h) p)
+                ∙ ap (value c) (sym e) ∙ o.2,
+          )
+      | inr (W, k, e) ↦
+          let (V, l, f) = (rest.1 (value c W)).0 (W, k, refl) in
+          (i ∷ V, There l refl, ap₂ c.times (sym heaps.0) f ∙ ap (value c) (sym e) ∙ o.2)
+    ]
+
+    -- heaps with the same pair and positions with the same pair make positions with the same pair
+    cons_pair : (n i : ℕ) (X Y : List ℕ) → IsHeap n → IsHeap i → IsPosition IsHeap X
+        → IsPosition IsHeap Y → SameHeapPair code c n i
+        → SamePair code c X Y → SamePair code c (n ∷ X) (i ∷ Y)
+    cons_pair n i X Y one two p q heaps rest = (
+      ap₂ c.times heaps.0 rest.0,
+      λ x. (
+        λ o. cons_option n i X Y one two p q heaps rest x o,
+        λ o. cons_option i n Y X two one q p (sym heaps.0, λ y. ((heaps.1 y).1, (heaps.1 y).0))
+            (pair-sym code c X Y rest) x o,
+      ),
+    )
+
+    behind_pair : (P X Y : List ℕ) → IsPosition IsHeap P → IsPosition IsHeap X → IsPosition IsHeap Y
+        → SamePair code c X Y
+        → SamePair code c (P ++ X) (P ++ Y)
+    behind_pair [] X Y o p q s = s
+    behind_pair (n ∷ P) X Y o p q s =
+        cons_pair n n (P ++ X) (P ++ Y) o.0 o.0 (IsPosition-append IsHeap P X o.1 p)
+        (IsPosition-append IsHeap P Y o.1 q) (refl, λ x. (λ h. h, λ h. h))
+        (behind_pair P X Y o.1 p q s)
+
+    -- Y has the pair of a suffix of X, or of none
+    same_suffix : (Y X : List ℕ) → IsPosition IsHeap Y → IsPosition IsHeap X
+        → ((R : List ℕ) × (S : List ℕ) × (X ≡ R ++ S) × SamePair code c Y S)
+        ⊎ All (λ Z. SamePair code c Y Z → ⊥) (suffixes X)
+    unfolding suffixes
+    same_suffix Y [] q p = elim (same_pair_dec IsHeap code (heaps_kept code) c m phi_in Y [] q tt) [
+      | inl s ↦ inl ([], [], refl, s)
+      | inr f ↦ inr
+          (All-cons (λ Z. SamePair code c Y Z → ⊥) [] [] f (λ k d l. absurd (omega arith)))
+    ]
+    same_suffix Y (n ∷ X) q p =
+        elim (same_pair_dec IsHeap code (heaps_kept code) c m phi_in Y (n ∷ X) q p) [
+          | inl s ↦ inl ([], n ∷ X, refl, s)
+          | inr f ↦ elim (same_suffix Y X q p.1) [
+            | inl (R, S, e, s) ↦ inl (n ∷ R, S, ap (λ l. n ∷ l) e, s)
+            | inr all ↦ inr (All-cons (λ Z. SamePair code c Y Z → ⊥) (n ∷ X) (suffixes X) f all)
+          ]
+        ]
+
+    -- some part R of X can be left out behind P, or all suffixes have different pairs
+    part_or_apart : (X : List ℕ) → IsPosition IsHeap X
+        → ((P : List ℕ) × (R : List ℕ) × (S : List ℕ) × (X ≡ P ++ (R ++ S)) × (1 ≤ length R)
+        × SamePair code c (R ++ S) S)
+        ⊎ AllPairs (λ Y Z. SamePair code c Y Z → ⊥) (suffixes X)
+    unfolding suffixes
+    part_or_apart [] p = inr (λ i j d h l. absurd (omega arith))
+    part_or_apart (n ∷ X) p = elim (part_or_apart X p.1) [
+      | inl (P, R, S, e, l, s) ↦ inl (n ∷ P, R, S, ap (λ w. n ∷ w) e, l, s)
+      | inr apart ↦ elim (same_suffix (n ∷ X) X p p.1) [
+        | inl (R, S, e, s) ↦ inl (
+          [],
+          n ∷ R,
+          S,
+          ap (λ w. n ∷ w) e,
+          omega arith,
+          subst (λ w. SamePair code c (n ∷ w) S) e s,
         )
-    | inr (W, k, e) ↦
-        let (V, l, f) = (rest.1 (value c W)).0 (W, k, refl) in
-        (i ∷ V, There l refl, ap₂ c.times (sym heaps.0) f ∙ ap (value c) (sym e) ∙ o.2)
-  ]
-
-  -- heaps with the same pair and positions with the same pair make positions with the same pair
-  cons_pair : (n i : ℕ) (X Y : List ℕ) → IsHeap n → IsHeap i → IsPosition IsHeap X → IsPosition IsHeap Y → SameHeapPair code c n i
-      → SamePair code c X Y → SamePair code c (n ∷ X) (i ∷ Y)
-  cons_pair n i X Y one two p q heaps rest = (
-    ap₂ c.times heaps.0 rest.0,
-    λ x. (
-      λ o. cons_option n i X Y one two p q heaps rest x o,
-      λ o. cons_option i n Y X two one q p (sym heaps.0, λ y. ((heaps.1 y).1, (heaps.1 y).0)) (pair-sym code c X Y rest) x o,
-    ),
-  )
-
-  behind_pair : (P X Y : List ℕ) → IsPosition IsHeap P → IsPosition IsHeap X → IsPosition IsHeap Y → SamePair code c X Y
-      → SamePair code c (P ++ X) (P ++ Y)
-  behind_pair [] X Y o p q s = s
-  behind_pair (n ∷ P) X Y o p q s =
-      cons_pair n n (P ++ X) (P ++ Y) o.0 o.0 (IsPosition-append IsHeap P X o.1 p) (IsPosition-append IsHeap P Y o.1 q) (refl, λ x. (λ h. h, λ h. h)) (behind_pair P X Y o.1 p q s)
-
-  -- Y has the pair of a suffix of X, or of none
-  same_suffix : (Y X : List ℕ) → IsPosition IsHeap Y → IsPosition IsHeap X
-      → ((R : List ℕ) × (S : List ℕ) × (X ≡ R ++ S) × SamePair code c Y S) ⊎ All (λ Z. SamePair code c Y Z → ⊥) (suffixes X)
-  unfolding suffixes
-  same_suffix Y [] q p = elim (same_pair_dec IsHeap code (heaps_kept code) c m phi_in Y [] q tt) [
-    | inl s ↦ inl ([], [], refl, s)
-    | inr f ↦ inr (All-cons (λ Z. SamePair code c Y Z → ⊥) [] [] f (λ k d l. absurd (omega arith)))
-  ]
-  same_suffix Y (n ∷ X) q p = elim (same_pair_dec IsHeap code (heaps_kept code) c m phi_in Y (n ∷ X) q p) [
-    | inl s ↦ inl ([], n ∷ X, refl, s)
-    | inr f ↦ elim (same_suffix Y X q p.1) [
-      | inl (R, S, e, s) ↦ inl (n ∷ R, S, ap (λ l. n ∷ l) e, s)
-      | inr all ↦ inr (All-cons (λ Z. SamePair code c Y Z → ⊥) (n ∷ X) (suffixes X) f all)
+        | inr all ↦ inr
+            (AllPairs-cons (λ Y Z. SamePair code c Y Z → ⊥) (n ∷ X) (suffixes X) all apart)
+      ]
     ]
-  ]
 
-  -- some part R of X can be left out behind P, or all suffixes have different pairs
-  part_or_apart : (X : List ℕ) → IsPosition IsHeap X
-      → ((P : List ℕ) × (R : List ℕ) × (S : List ℕ) × (X ≡ P ++ (R ++ S)) × (1 ≤ length R) × SamePair code c (R ++ S) S)
-      ⊎ AllPairs (λ Y Z. SamePair code c Y Z → ⊥) (suffixes X)
-  unfolding suffixes
-  part_or_apart [] p = inr (λ i j d h l. absurd (omega arith))
-  part_or_apart (n ∷ X) p = elim (part_or_apart X p.1) [
-    | inl (P, R, S, e, l, s) ↦ inl (n ∷ P, R, S, ap (λ w. n ∷ w) e, l, s)
-    | inr apart ↦ elim (same_suffix (n ∷ X) X p p.1) [
-      | inl (R, S, e, s) ↦ inl ([], n ∷ R, S, ap (λ w. n ∷ w) e, omega arith, subst (λ w. SamePair code c (n ∷ w) S) e s)
-      | inr all ↦ inr (AllPairs-cons (λ Y Z. SamePair code c Y Z → ⊥) (n ∷ X) (suffixes X) all apart)
+    -- a word of more heaps than there are pairs has the pair of a shorter one
+    shorter : (B t : ℕ) (X : List ℕ) → length X < t → IsPosition (IsHeapUpTo B) X
+        → (Y : List ℕ) × IsPosition (IsHeapUpTo B) Y × (length Y ≤ c.order * 2 ^ c.order)
+        × SamePair code c X Y
+    shorter B zero X l p = absurd (omega arith)
+    shorter B (suc t) X l p = elim (dec_le (length X) (c.order * 2 ^ c.order)) [
+      | yes h ↦ (X, p, h, pair-refl code c X)
+      | no h ↦ elim (part_or_apart X (up_to_is_heap B X p)) [
+        | inr apart ↦
+            let more : ReachesMoreThan IsHeap code c (c.order * 2 ^ c.order) = (
+              suffixes X,
+              (let e = length-suffixes X in omega arith),
+              all_suffixes IsHeap X (up_to_is_heap B X p),
+              apart,
+            ) in
+            let low =
+            reach_bound IsHeap code (heaps_kept code) c m phi_in (c.order * 2 ^ c.order) more in
+            absurd (omega arith)
+        | inl (P, R, S, e, some, s) ↦
+            let whole : IsPosition (IsHeapUpTo B) (P ++ (R ++ S)) =
+            subst (IsPosition (IsHeapUpTo B)) e p in
+            let front = position_before (IsHeapUpTo B) P (R ++ S) whole in
+            let back = position_behind (IsHeapUpTo B) P (R ++ S) whole in
+            let end = position_behind (IsHeapUpTo B) R S back in
+            let kept : SamePair code c X (P ++ S) =
+            subst (λ w. SamePair code c w (P ++ S)) (sym e)
+            (behind_pair P (R ++ S) S (up_to_is_heap B P front) (up_to_is_heap B (R ++ S) back)
+            (up_to_is_heap B S end) s) in
+            let long : length X ≡ length P + (length R + length S) =
+            ap length e ∙ length-append P (R ++ S) ∙ ap (λ v. length P + v) (length-append R S) in
+            let short : length (P ++ S) ≡ length P + length S = length-append P S in
+            let (Y, q, k, u) =
+            shorter B t (P ++ S) (omega arith) (IsPosition-append (IsHeapUpTo B) P S front end) in
+            (Y, q, k, pair-trans code c X (P ++ S) Y kept u)
+      ]
     ]
-  ]
 
-  -- a word of more heaps than there are pairs has the pair of a shorter one
-  shorter : (B t : ℕ) (X : List ℕ) → length X < t → IsPosition (IsHeapUpTo B) X
-      → (Y : List ℕ) × IsPosition (IsHeapUpTo B) Y × (length Y ≤ c.order * 2 ^ c.order) × SamePair code c X Y
-  shorter B zero X l p = absurd (omega arith)
-  shorter B (suc t) X l p = elim (dec_le (length X) (c.order * 2 ^ c.order)) [
-    | yes h ↦ (X, p, h, pair-refl code c X)
-    | no h ↦ elim (part_or_apart X (up_to_is_heap B X p)) [
-      | inr apart ↦
-          let more : ReachesMoreThan IsHeap code c (c.order * 2 ^ c.order) = (suffixes X, (let e = length-suffixes X in omega arith), all_suffixes IsHeap X (up_to_is_heap B X p), apart) in
-          let low = reach_bound IsHeap code (heaps_kept code) c m phi_in (c.order * 2 ^ c.order) more in
-          absurd (omega arith)
-      | inl (P, R, S, e, some, s) ↦
-          let whole : IsPosition (IsHeapUpTo B) (P ++ (R ++ S)) = subst (IsPosition (IsHeapUpTo B)) e p in
-          let front = position_before (IsHeapUpTo B) P (R ++ S) whole in
-          let back = position_behind (IsHeapUpTo B) P (R ++ S) whole in
-          let end = position_behind (IsHeapUpTo B) R S back in
-          let kept : SamePair code c X (P ++ S) = subst (λ w. SamePair code c w (P ++ S)) (sym e) (behind_pair P (R ++ S) S (up_to_is_heap B P front) (up_to_is_heap B (R ++ S) back) (up_to_is_heap B S end) s) in
-          let long : length X ≡ length P + (length R + length S) = ap length e ∙ length-append P (R ++ S) ∙ ap (λ v. length P + v) (length-append R S) in
-          let short : length (P ++ S) ≡ length P + length S = length-append P S in
-          let (Y, q, k, u) = shorter B t (P ++ S) (omega arith) (IsPosition-append (IsHeapUpTo B) P S front end) in
-          (Y, q, k, pair-trans code c X (P ++ S) Y kept u)
-    ]
-  ]
+    module _ (k start period : ℕ) (ok : IsPeriodic code c k start period) where
+      -- each position has the pair of one of the heaps up to B
+      bounded : (X : List ℕ) → IsPosition IsHeap X
+          → (Y : List ℕ) × IsPosition (IsHeapUpTo (heap_bound k start period)) Y
+          × SamePair code c X Y
+      bounded [] p = ([], tt, pair-refl code c [])
+      bounded (n ∷ X) p =
+          let (i, l, same) = heap_shown code c k start period ok n p.0 in
+          let (Y, q, s) = bounded X p.1 in (
+            i ∷ Y,
+            (l, q),
+            cons_pair n i X Y p.0 l.0 p.1 (up_to_is_heap (heap_bound k start period) Y q) same s,
+          )
 
-  module _ (k start period : ℕ) (ok : IsPeriodic code c k start period) where
-    -- each position has the pair of one of the heaps up to B
-    bounded : (X : List ℕ) → IsPosition IsHeap X
-        → (Y : List ℕ) × IsPosition (IsHeapUpTo (heap_bound k start period)) Y × SamePair code c X Y
-    bounded [] p = ([], tt, pair-refl code c [])
-    bounded (n ∷ X) p =
-        let (i, l, same) = heap_shown code c k start period ok n p.0 in
-        let (Y, q, s) = bounded X p.1 in
-        (i ∷ Y, (l, q), cons_pair n i X Y p.0 l.0 p.1 (up_to_is_heap (heap_bound k start period) Y q) same s)
-
-    -- so the rule holds everywhere, or fails somewhere
-    pub holds_or_fails : ((X : List ℕ) → IsPosition IsHeap X → RuleHolds code c X) ⊎ ((X : List ℕ) × IsPosition IsHeap X × RuleFails code c X)
-    holds_or_fails = elim (some_or_all_words (heap_bound k start period) (c.order * 2 ^ c.order) (RuleFails code c) (RuleHolds code c) (λ X. either_way (rule_decided code c X))) [
-      | inl (X, p, f) ↦ inr (X, up_to_is_heap (heap_bound k start period) X p, f)
-      | inr all ↦ inl (λ X p.
-          let (Y, q, s) = bounded X p in
-          let (Z, r, l, u) = shorter (heap_bound k start period) (suc (length Y)) Y (omega arith) q in
-          rule_of_pair code c Z X (pair-sym code c X Z (pair-trans code c X Y Z s u)) (all Z r l))
-    ]
+      -- so the rule holds everywhere, or fails somewhere
+      pub holds_or_fails : ((X : List ℕ) → IsPosition IsHeap X → RuleHolds code c X)
+          ⊎ ((X : List ℕ) × IsPosition IsHeap X × RuleFails code c X)
+      holds_or_fails =
+          elim (some_or_all_words (heap_bound k start period) (c.order * 2 ^ c.order)
+          (RuleFails code c) (RuleHolds code c) (λ X. either_way (rule_decided code c X))) [
+            | inl (X, p, f) ↦ inr (X, up_to_is_heap (heap_bound k start period) X p, f)
+            | inr all ↦ inl (λ X p.
+                let (Y, q, s) = bounded X p in
+                let (Z, r, l, u) =
+                shorter (heap_bound k start period) (suc (length Y)) Y (omega arith) q
+                in
+                rule_of_pair code c Z X (pair-sym code c X Z (pair-trans code c X Y Z s u))
+                (all Z r l))
+          ]

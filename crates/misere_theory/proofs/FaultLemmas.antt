@@ -37,21 +37,27 @@ least_apart_dec c p z =
       | no f ↦ no (λ h. f h.0)
       | yes l ↦ elim (same_or_not (c.portion (c.times p.0 z)) (c.portion (c.times p.1 z))) [
         | inl e ↦ no (λ h. h.1 e)
-        | inr t ↦ elim (some_or_all_below (TellsApart c p) (λ w. c.portion (c.times p.0 w) ≡ c.portion (c.times p.1 w)) (λ w. either_way (same_or_not _ _)) z) [
-          | inl (w, b, u) ↦ no (λ h. h.2 w b u)
-          | inr all ↦ yes (l, t, λ w b u. u (all w b))
-        ]
+        | inr t ↦ elim
+            (some_or_all_below (TellsApart c p)
+            (λ w. c.portion (c.times p.0 w) ≡ c.portion (c.times p.1 w))
+            (λ w. either_way (same_or_not _ _)) z) [
+              | inl (w, b, u) ↦ no (λ h. h.2 w b u)
+              | inr all ↦ yes (l, t, λ w b u. u (all w b))
+            ]
       ]
     ]
 
-zip_from_places : {A : Type 0} (R : A → ℕ → Type 0) (d : A) (ps : List A) (zs : List ℕ) → length zs ≡ length ps
+zip_from_places : {A : Type 0} (R : A → ℕ → Type 0) (d : A) (ps : List A) (zs : List ℕ)
+    → length zs ≡ length ps
     → ((i : ℕ) → i < length ps → R (get_or ps i d) (get_or zs i 0)) → AllZip R ps zs
 zip_from_places R d [] [] e h = tt
 zip_from_places R d [] (z ∷ zs) e h = absurd (omega arith)
 zip_from_places R d (p ∷ ps) [] e h = absurd (omega arith)
-zip_from_places R d (p ∷ ps) (z ∷ zs) e h = (h 0 (omega arith), zip_from_places R d ps zs (omega arith) (λ i l. h (suc i) (omega arith)))
+zip_from_places R d (p ∷ ps) (z ∷ zs) e h =
+    (h 0 (omega arith), zip_from_places R d ps zs (omega arith) (λ i l. h (suc i) (omega arith)))
 
-place_of_zip : {A : Type 0} (R : A → ℕ → Type 0) (d : A) (ps : List A) (zs : List ℕ) → AllZip R ps zs → (i : ℕ) → i < length ps
+place_of_zip : {A : Type 0} (R : A → ℕ → Type 0) (d : A) (ps : List A) (zs : List ℕ)
+    → AllZip R ps zs → (i : ℕ) → i < length ps
     → R (get_or ps i d) (get_or zs i 0)
 place_of_zip R d [] zs h i l = absurd (omega arith)
 place_of_zip R d (p ∷ ps) [] h i l = absurd h
@@ -59,30 +65,44 @@ place_of_zip R d (p ∷ ps) (z ∷ zs) h zero l = h.0
 place_of_zip R d (p ∷ ps) (z ∷ zs) h (suc i) l = place_of_zip R d ps zs h.1 i (omega arith)
 
 module _
-    (c : Certificate) (r : InRanges c) (word : WordFault c → ⊥) (order : OrderFault c → ⊥) (period : PeriodFault c → ⊥)
+    (c : Certificate) (r : InRanges c) (word : WordFault c → ⊥) (order : OrderFault c → ⊥)
+    (period : PeriodFault c → ⊥)
     (apart : ApartFault c → ⊥) where
   next_key : (e : ℕ) → 0 < e → e + 1 < c.order → KeyBelow (key_of c e) (key_of c (e + 1))
-  next_key e p l = elim (key_below_dec (key_of c e) (key_of c (e + 1))) [ yes b ↦ b | no f ↦ absurd (order (inl (e, p, l, f))) ]
+  next_key e p l =
+      elim (key_below_dec (key_of c e) (key_of c (e + 1)))
+      [ yes b ↦ b | no f ↦ absurd (order (inl (e, p, l, f))) ]
 
   later_key : (d n : ℕ) → 0 < d → d + suc n < c.order → KeyBelow (key_of c d) (key_of c (d + suc n))
   later_key d zero p l = next_key d p l
   later_key d (suc n) p l =
       let e : d + suc n + 1 ≡ d + suc (suc n) = omega arith in
-      KeyBelow-trans _ _ _ (later_key d n p (omega arith)) (subst (λ v. KeyBelow (key_of c (d + suc n)) (key_of c v)) e (next_key (d + suc n) (omega arith) (omega arith)))
+      KeyBelow-trans _ _ _ (later_key d n p (omega arith))
+      (subst (λ v. KeyBelow (key_of c (d + suc n)) (key_of c v)) e
+      (next_key (d + suc n) (omega arith) (omega arith)))
 
-  key_range : (e : ℕ) → 0 < e → e < c.order → (1 ≤ (key_of c e).1) × ((key_of c e).1 < c.start + c.period)
+  key_range : (e : ℕ) → 0 < e → e < c.order → (1 ≤ (key_of c e).1)
+      × ((key_of c e).1 < c.start + c.period)
   key_range e p l =
       let n = r.words.0 in
-      let k = All-get_or (λ k. (k.0 < c.order) × (1 ≤ k.1) × (k.1 < c.start + c.period)) c.words (e - 1) (0, 0) (omega arith) r.words.1 in
+      let k = All-get_or (λ k. (k.0 < c.order) × (1 ≤ k.1) × (k.1 < c.start + c.period)) c.words
+      (e - 1) (0, 0) (omega arith) r.words.1 in
       (k.1, k.2)
 
   pub canonical_from_none : Canonical c
   canonical_from_none = record {
     numbered = record {
-      parent = λ e p l. elim (dec_lt (key_of c e).0 e) [ yes b ↦ b | no f ↦ absurd (word (e, p, l, inl (omega arith))) ];
+      parent =
+          λ e p l.
+          elim (dec_lt (key_of c e).0 e)
+          [ yes b ↦ b | no f ↦ absurd (word (e, p, l, inl (omega arith))) ];
       heap = λ e p l. let k = key_range e p l in (k.0, let m = k.1 in omega arith);
-      product = λ e p l. elim (ℕ_discrete (times_of c (key_of c e).0 (phi_at c (key_of c e).1)) e) [ yes b ↦ b | no f ↦ absurd (word (e, p, l, inr f)) ];
-      rising = λ d e p l b. let n : d + suc (e - d - 1) ≡ e = omega arith in subst (λ v. KeyBelow (key_of c d) (key_of c v)) n (later_key d (e - d - 1) p (omega arith));
+      product =
+          λ e p l. elim (ℕ_discrete (times_of c (key_of c e).0 (phi_at c (key_of c e).1)) e)
+          [ yes b ↦ b | no f ↦ absurd (word (e, p, l, inr f)) ];
+      rising = λ d e p l b. let n : d + suc (e - d - 1) ≡ e = omega arith in
+          subst (λ v. KeyBelow (key_of c d) (key_of c v)) n
+          (later_key d (e - d - 1) p (omega arith));
       least = λ f h l o b p k. order (inr (f, h, l, o, (let q = r.period.0 in omega arith), p, k));
     };
     period = record {
@@ -92,14 +112,22 @@ module _
       least = λ q o l h. period (inl (q, o, l, h));
       earliest = λ h e. period (inr (h, e));
     };
-    apart = zip_from_places (LeastApart (claim_of c)) (0, 0) (pairs_from 0 c.order) c.apart r.apart.0
-        (λ i l. elim (least_apart_dec (claim_of c) (get_or (pairs_from 0 c.order) i (0, 0)) (get_or c.apart i 0)) [ yes h ↦ h | no f ↦ absurd (apart (i, l, f)) ]);
+    apart =
+        zip_from_places (LeastApart (claim_of c)) (0, 0) (pairs_from 0 c.order) c.apart r.apart.0
+        (λ i l.
+        elim (least_apart_dec (claim_of c) (get_or (pairs_from 0 c.order) i (0, 0))
+        (get_or c.apart i 0)) [ yes h ↦ h | no f ↦ absurd (apart (i, l, f)) ]);
   }
 
 -- each of the faults 3 to 6 is none that a canonical certificate has
 module _ (c : Certificate) (r : InRanges c) (k : Canonical c) where
   pub no_word_fault : WordFault c → ⊥
-  no_word_fault (e, pos, l, f) = elim f [ inl high ↦ (let low = k.numbered.parent e pos l in omega arith) | inr other ↦ other (k.numbered.product e pos l) ]
+  no_word_fault (e, pos, l, f) =
+      elim f [
+        | inl high ↦ (let low = k.numbered.parent e pos l in omega arith)
+        | inr other ↦ other
+            (k.numbered.product e pos l)
+      ]
 
   pub no_order_fault : OrderFault c → ⊥
   no_order_fault f = elim f [
@@ -114,4 +142,5 @@ module _ (c : Certificate) (r : InRanges c) (k : Canonical c) where
   ]
 
   pub no_apart_fault : ApartFault c → ⊥
-  no_apart_fault (i, l, f) = f (place_of_zip (LeastApart (claim_of c)) (0, 0) (pairs_from 0 c.order) c.apart k.apart i l)
+  no_apart_fault (i, l, f) =
+      f (place_of_zip (LeastApart (claim_of c)) (0, 0) (pairs_from 0 c.order) c.apart k.apart i l)

@@ -1,4 +1,5 @@
--- A closed list of kept pairs speaks for every position: in the whole game over the heaps 1 to B, and in that of the heaps up to M.
+-- A closed list of kept pairs speaks for every position: in the whole game over the heaps 1 to B,
+-- and in that of the heaps up to M.
 use Rattle.std.proofs.Common.{◌≡◌, ℕ, ◌<◌, true, false, List, refl, sym, ◌∙◌, ap, inl, inr, Contains}
 use Rattle.misere_theory.specs.Games.{IsHeap, IsHeapUpTo, IsPosition}
 use Rattle.misere_theory.proofs.Sums.{heaps_kept, heaps_up_to_kept, IsKept}
@@ -9,7 +10,8 @@ use Rattle.misere_theory.proofs.Closures as closures
 
 -- each heap of the game has the pair of one of the heaps that the list is closed under
 module _
-    (heap shown : ℕ → Type 0) (code : List ℕ) (inside : IsKept heap code) (c : Claim) (m : Monoid c.order c.times)
+    (heap shown : ℕ → Type 0) (code : List ℕ) (inside : IsKept heap code) (c : Claim)
+    (m : Monoid c.order c.times)
     (phi_in : GivesElements heap c)
     (show : (n : ℕ) → heap n → (b : ℕ) × shown b × SameHeapPair code c n b)
     (kept : List Pair) (closed : IsClosed code c shown kept) where
@@ -23,10 +25,12 @@ module _
   MemberHas i x = Contains i.0.options x
 
   first : (i : Member) × (member_value i ≡ 0) × ((x : ℕ) → MemberHas i x → ⊥)
-  first = let (p, h, w) = closed.start in ((p, h), w.same_value, λ x e. let (Y, q, _) = w.among x e in elim q [ ])
+  first = let (p, h, w) = closed.start in
+      ((p, h), w.same_value, λ x e. let (Y, q, _) = w.among x e in elim q [ ])
 
   next : (i : Member) (n : ℕ) → heap n
-      → (j : Member) × closures.CoversProduct heap code inside c m phi_in Member member_value MemberHas j i n
+      → (j : Member) × closures.CoversProduct heap code inside c m phi_in Member member_value
+      MemberHas j i n
   next i n l =
       let (b, u, same) = show n l in
       let (p, h, w) = closed.step i.0 i.1 b u in (
@@ -43,38 +47,59 @@ module _
       )
 
   -- each position has a kept pair that covers it
-  pub covered_by_kept : (X : List ℕ) → IsPosition heap X → (p : Pair) × Contains kept p × Covers code c p X
+  pub covered_by_kept : (X : List ℕ) → IsPosition heap X → (p : Pair) × Contains kept p
+      × Covers code c p X
   covered_by_kept X r =
-      let (i, w) = closures.covered heap code inside c m phi_in Member member_value MemberHas first next X r in
-      (i.0, i.1, record { same_value = w.same_value; among = w.among; some = λ x o. w.some o.0 o.1 })
+      let (i, w) =
+      closures.covered heap code inside c m phi_in Member member_value MemberHas first next X r
+      in (
+        i.0,
+        i.1,
+        record { same_value = w.same_value; among = w.among; some = λ x o. w.some o.0 o.1 },
+      )
 
-  every_heap : ElementsObey code c shown → (n h y : ℕ) → heap n → HeapOptionValue code c n h → y < c.order
+  every_heap : ElementsObey code c shown → (n h y : ℕ) → heap n → HeapOptionValue code c n h
+      → y < c.order
       → c.portion (c.times (c.phi n) y) ≡ true → c.portion (c.times h y) ≡ false
   every_heap obey n h y q o l t =
       let (b, u, same) = show n q in
       obey b h y u ((same.1 h).0 o) l (ap (λ v. c.portion (c.times v y)) (sym same.0) ∙ t)
 
-  pub rule_by_kept : KeptObey c kept → ElementsObey code c shown → (X : List ℕ) → IsPosition heap X → RuleHolds code c X
+  pub rule_by_kept : KeptObey c kept → ElementsObey code c shown → (X : List ℕ) → IsPosition heap X
+      → RuleHolds code c X
   rule_by_kept members elements =
-      closures.rule_from_members heap code inside c m phi_in Member member_value MemberHas first next
+      closures.rule_from_members heap code inside c m phi_in Member member_value MemberHas first
+      next
       (λ i f x e. members.outside i.0 i.1 f x e)
       (λ i t. members.inside i.0 i.1 t)
       (every_heap elements)
 
 -- in the whole game the heaps 1 to B show all
 module _
-    (code : List ℕ) (c : Claim) (m : Monoid c.order c.times) (phi_in : GivesElements IsHeap c) (k start period : ℕ)
-    (ok : IsPeriodic code c k start period) (kept : List Pair) (closed : IsClosed code c (IsHeapUpTo (heap_bound k start period)) kept) where
-  pub all_covered : (X : List ℕ) → IsPosition IsHeap X → (p : Pair) × Contains kept p × Covers code c p X
-  all_covered = covered_by_kept IsHeap (IsHeapUpTo (heap_bound k start period)) code (heaps_kept code) c m phi_in (heap_shown code c k start period ok) kept closed
+    (code : List ℕ) (c : Claim) (m : Monoid c.order c.times) (phi_in : GivesElements IsHeap c)
+    (k start period : ℕ)
+    (ok : IsPeriodic code c k start period) (kept : List Pair)
+    (closed : IsClosed code c (IsHeapUpTo (heap_bound k start period)) kept) where
+  pub all_covered : (X : List ℕ) → IsPosition IsHeap X → (p : Pair) × Contains kept p
+      × Covers code c p X
+  all_covered =
+      covered_by_kept IsHeap (IsHeapUpTo (heap_bound k start period)) code (heaps_kept code) c m
+      phi_in (heap_shown code c k start period ok) kept closed
 
-  pub rule_everywhere : KeptObey c kept → ElementsObey code c (IsHeapUpTo (heap_bound k start period)) → (X : List ℕ) → IsPosition IsHeap X
+  pub rule_everywhere : KeptObey c kept
+      → ElementsObey code c (IsHeapUpTo (heap_bound k start period)) → (X : List ℕ)
+      → IsPosition IsHeap X
       → RuleHolds code c X
-  rule_everywhere = rule_by_kept IsHeap (IsHeapUpTo (heap_bound k start period)) code (heaps_kept code) c m phi_in (heap_shown code c k start period ok) kept closed
+  rule_everywhere =
+      rule_by_kept IsHeap (IsHeapUpTo (heap_bound k start period)) code (heaps_kept code) c m phi_in
+      (heap_shown code c k start period ok) kept closed
 
 -- in the game of the heaps up to M each shows itself
 module _
-    (M : ℕ) (code : List ℕ) (c : Claim) (m : Monoid c.order c.times) (phi_in : GivesElements (IsHeapUpTo M) c) (kept : List Pair)
+    (M : ℕ) (code : List ℕ) (c : Claim) (m : Monoid c.order c.times)
+    (phi_in : GivesElements (IsHeapUpTo M) c) (kept : List Pair)
     (closed : IsClosed code c (IsHeapUpTo M) kept) where
-  pub rule_up_to : KeptObey c kept → ElementsObey code c (IsHeapUpTo M) → (X : List ℕ) → IsPosition (IsHeapUpTo M) X → RuleHolds code c X
-  rule_up_to = rule_by_kept (IsHeapUpTo M) (IsHeapUpTo M) code (heaps_up_to_kept M code) c m phi_in (λ n h. (n, h, (refl, λ x. (λ o. o, λ o. o)))) kept closed
+  pub rule_up_to : KeptObey c kept → ElementsObey code c (IsHeapUpTo M) → (X : List ℕ)
+      → IsPosition (IsHeapUpTo M) X → RuleHolds code c X
+  rule_up_to = rule_by_kept (IsHeapUpTo M) (IsHeapUpTo M) code (heaps_up_to_kept M code) c m phi_in
+      (λ n h. (n, h, (refl, λ x. (λ o. o, λ o. o)))) kept closed

@@ -17,11 +17,13 @@ less_shuffled n (b ∷ X) R l = elim l [
   | inr (S, i, f) ↦ rw f (Then (Under (less_shuffled n X S i)) Flip)
 ]
 
-pub less_in_order : {X Y : List ℕ} → Shuffled X Y → (n : ℕ) (R : List ℕ) → Less n X R → (S : List ℕ) × Less n Y S × Shuffled R S
+pub less_in_order : {X Y : List ℕ} → Shuffled X Y → (n : ℕ) (R : List ℕ) → Less n X R
+    → (S : List ℕ) × Less n Y S × Shuffled R S
 less_in_order Same n R l = (R, l, Same)
 less_in_order (Under {n = b} {X = X} {Y = Y} s) n R l = elim l [
   | inl (e, f) ↦ (Y, inl (e, refl), rw f s)
-  | inr (S, i, f) ↦ let (T, j, t) = less_in_order s n S i in (b ∷ T, inr (T, j, refl), rw f (Under t))
+  | inr (S, i, f) ↦ let (T, j, t) = less_in_order s n S i in
+      (b ∷ T, inr (T, j, refl), rw f (Under t))
 ]
 less_in_order (Flip {a = a} {b = b} {X = X}) n R l = elim l [
   | inl (e, f) ↦ (b ∷ X, inr (X, inl (e, refl), refl), rw f Same)
@@ -48,7 +50,8 @@ less_once n (b ∷ X) R S l k = elim l [
   ]
 ]
 
-pub less_or_none : (n : ℕ) (X : List ℕ) → ((R : List ℕ) × Less n X R) ⊎ ((R : List ℕ) → Less n X R → ⊥)
+pub less_or_none : (n : ℕ) (X : List ℕ) → ((R : List ℕ) × Less n X R)
+    ⊎ ((R : List ℕ) → Less n X R → ⊥)
 less_or_none n [] = inr (λ R l. l)
 less_or_none n (b ∷ X) = elim (ℕ_discrete b n) [
   | yes e ↦ inl (X, inl (e, refl))
@@ -64,10 +67,14 @@ rest_once n X R S s t =
     let (U, i, u) = less_in_order (Then (back s) t) n R (inl (refl, refl)) in
     Then u (less_once n (n ∷ S) U S i (inl (refl, refl)))
 
-pub moved_once : {code X : List ℕ} {n : ℕ} {H Y Z : List ℕ} → HeapMove code X n H Y → HeapMove code X n H Z → Shuffled Y Z
+pub moved_once : {code X : List ℕ} {n : ℕ} {H Y Z : List ℕ} → HeapMove code X n H Y
+    → HeapMove code X n H Z → Shuffled Y Z
 moved_once {X = X} {n = n} {H = H} {Y = Y} {Z = Z} a b =
-    let s = rest_once n X a.others b.others (from_permutation X (n ∷ a.others) a.before) (from_permutation X (n ∷ b.others) b.before) in
-    Then (from_permutation Y (H ++ a.others) a.after) (Then (behind H a.others b.others s) (back (from_permutation Z (H ++ b.others) b.after)))
+    let s = rest_once n X a.others b.others (from_permutation X (n ∷ a.others) a.before)
+    (from_permutation X (n ∷ b.others) b.before) in
+    Then (from_permutation Y (H ++ a.others) a.after)
+    (Then (behind H a.others b.others s) (back (from_permutation Z (H ++ b.others) b.after)))
 
-pub moved_once_permuted : (code X : List ℕ) (n : ℕ) (H Y Z : List ℕ) → HeapMove code X n H Y → HeapMove code X n H Z → IsPermutation Y Z
+pub moved_once_permuted : (code X : List ℕ) (n : ℕ) (H Y Z : List ℕ) → HeapMove code X n H Y
+    → HeapMove code X n H Z → IsPermutation Y Z
 moved_once_permuted code X n H Y Z a b = to_permutation (moved_once a b)

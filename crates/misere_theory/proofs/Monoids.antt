@@ -11,32 +11,45 @@ no_law_fails m (Identity x p f) = f (m.identity x p)
 no_law_fails m (Commutativity x y p q f) = f (m.commutes x y p q)
 no_law_fails m (Associativity x y z p q r f) = f (m.associates x y z p q r)
 
-pub monoid_from_no_failure : (order : ℕ) (times : ℕ → ℕ → ℕ) → 0 < order → ((x y : ℕ) → x < order → y < order → times x y < order)
+pub monoid_from_no_failure : (order : ℕ) (times : ℕ → ℕ → ℕ) → 0 < order
+    → ((x y : ℕ) → x < order → y < order → times x y < order)
     → (LawFails order times → ⊥) → Monoid order times
 monoid_from_no_failure order times some closed none = record {
   some = some;
   closed = closed;
-  identity = λ x p. elim (ℕ_discrete (times 0 x) x) [ yes e ↦ e | no f ↦ absurd (none (Identity x p f)) ];
-  commutes = λ x y p q. elim (ℕ_discrete (times x y) (times y x)) [ yes e ↦ e | no f ↦ absurd (none (Commutativity x y p q f)) ];
-  associates = λ x y z p q r. elim (ℕ_discrete (times (times x y) z) (times x (times y z))) [ yes e ↦ e | no f ↦ absurd (none (Associativity x y z p q r f)) ];
+  identity =
+      λ x p. elim (ℕ_discrete (times 0 x) x) [ yes e ↦ e | no f ↦ absurd (none (Identity x p f)) ];
+  commutes =
+      λ x y p q.
+      elim (ℕ_discrete (times x y) (times y x))
+      [ yes e ↦ e | no f ↦ absurd (none (Commutativity x y p q f)) ];
+  associates =
+      λ x y z p q r. elim (ℕ_discrete (times (times x y) z) (times x (times y z)))
+      [ yes e ↦ e | no f ↦ absurd (none (Associativity x y z p q r f)) ];
 }
 
 -- the rows of a certificate in its ranges hold elements
-pub products_in : (c : Certificate) → InRanges c → (x y : ℕ) → x < c.order → y < c.order → times_of c x y < c.order
+pub products_in : (c : Certificate) → InRanges c → (x y : ℕ) → x < c.order → y < c.order
+    → times_of c x y < c.order
 products_in c r x y p q =
     let l = r.rows.0 in
-    let row = All-get_or (λ row. (length row ≡ c.order) × All (λ z. z < c.order) row) c.rows x [] (omega arith) r.rows.1 in
+    let row = All-get_or (λ row. (length row ≡ c.order) × All (λ z. z < c.order) row) c.rows x []
+    (omega arith) r.rows.1 in
     let e = row.0 in
     All-get_or (λ z. z < c.order) (get_or c.rows x []) y 0 (omega arith) row.1
 
-pub monoid_in_ranges : (c : Certificate) → InRanges c → (LawFails c.order (times_of c) → ⊥) → Monoid c.order (times_of c)
-monoid_in_ranges c r none = monoid_from_no_failure c.order (times_of c) (let o = r.order in omega arith) (products_in c r) none
+pub monoid_in_ranges : (c : Certificate) → InRanges c → (LawFails c.order (times_of c) → ⊥)
+    → Monoid c.order (times_of c)
+monoid_in_ranges c r none =
+    monoid_from_no_failure c.order (times_of c) (let o = r.order in omega arith) (products_in c r)
+    none
 
 pub monoid_from_tests :
     (c : Certificate) → InRanges c
     → ((x : ℕ) → x < c.order → times_of c 0 x ≡ x)
     → ((x y : ℕ) → x < c.order → y < c.order → times_of c x y ≡ times_of c y x)
-    → ((x y z : ℕ) → x < c.order → y < c.order → z < c.order → times_of c (times_of c x y) z ≡ times_of c x (times_of c y z))
+    → ((x y z : ℕ) → x < c.order → y < c.order → z < c.order
+    → times_of c (times_of c x y) z ≡ times_of c x (times_of c y z))
     → Monoid c.order (times_of c)
 monoid_from_tests c r one both three = record {
   some = let o = r.order in omega arith;

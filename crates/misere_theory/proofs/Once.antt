@@ -18,24 +18,37 @@ Rises : ℕ → ℕ → List ℕ → Type 0
 Rises low q [] = Unit {0}
 Rises low q (x ∷ xs) = (low ≤ x) × (x < q) × Rises (suc x) q xs
 
-rises_from_increasing : (low q x : ℕ) (xs : List ℕ) → low ≤ x → x < q → IsStrictlyIncreasing (x ∷ xs) → All (λ y. y < q) xs
+rises_from_increasing : (low q x : ℕ) (xs : List ℕ) → low ≤ x → x < q
+    → IsStrictlyIncreasing (x ∷ xs) → All (λ y. y < q) xs
     → Rises low q (x ∷ xs)
 unfolding Rises
 rises_from_increasing low q x [] l b up all = (l, b, tt)
-rises_from_increasing low q x (y ∷ ys) l b up all =
-    (l, b, rises_from_increasing (suc x) q y ys (up 0 (omega arith)) (all 0 0 (omega arith)) (λ k h. let e : suc k + 1 ≡ suc (k + 1) = omega arith in subst (λ i. get_or (y ∷ ys) k 0 < get_or (x ∷ y ∷ ys) i 0) e (up (suc k) (omega arith))) (All-tail (λ z. z < q) y ys all))
+rises_from_increasing low q x (y ∷ ys) l b up all = (
+  l,
+  b,
+  rises_from_increasing (suc x) q y ys (up 0 (omega arith)) (all 0 0 (omega arith))
+      (λ k h. let e : suc k + 1 ≡ suc (k + 1) = omega arith in
+      subst (λ i. get_or (y ∷ ys) k 0 < get_or (x ∷ y ∷ ys) i 0) e (up (suc k) (omega arith)))
+      (All-tail (λ z. z < q) y ys all),
+)
 
 rises : (q : ℕ) (xs : List ℕ) → IsStrictlyIncreasing xs → All (λ y. y < q) xs → Rises 0 q xs
 unfolding Rises
 rises q [] up all = tt
-rises q (x ∷ xs) up all = rises_from_increasing 0 q x xs (omega arith) (all 0 0 (omega arith)) up (All-tail (λ z. z < q) x xs all)
+rises q (x ∷ xs) up all =
+    rises_from_increasing 0 q x xs (omega arith) (all 0 0 (omega arith)) up
+    (All-tail (λ z. z < q) x xs all)
 
-none_below : (low q v : ℕ) (xs : List ℕ) → Rises low q xs → v < low → list_any (λ y. y == v) xs ≡ false
+none_below : (low q v : ℕ) (xs : List ℕ) → Rises low q xs → v < low
+    → list_any (λ y. y == v) xs ≡ false
 unfolding Rises
 none_below low q v [] h l = refl
-none_below low q v (x ∷ xs) h l = rw (ne_eqb x v (let a = h.0 in λ e. omega arith)) (none_below (suc x) q v xs h.2 (let a = h.0 in omega arith))
+none_below low q v (x ∷ xs) h l =
+    rw (ne_eqb x v (let a = h.0 in λ e. omega arith))
+    (none_below (suc x) q v xs h.2 (let a = h.0 in omega arith))
 
-passed_by : (x y v : ℕ) (a b : Bool) → (x ≡ v → ⊥) → (y ≡ v → ⊥) → ((x == v) || a) ≡ ((y == v) || b) → a ≡ b
+passed_by : (x y v : ℕ) (a b : Bool) → (x ≡ v → ⊥) → (y ≡ v → ⊥) → ((x == v) || a) ≡ ((y == v) || b)
+    → a ≡ b
 passed_by x y v a b f g h = rw (ne_eqb x v f, ne_eqb y v g) at h
 
 -- rising lists with the same members are one list
@@ -43,31 +56,45 @@ same_members : (low q : ℕ) (xs ys : List ℕ) → Rises low q xs → Rises low
     → ((v : ℕ) → v < q → list_any (λ y. y == v) xs ≡ list_any (λ y. y == v) ys) → xs ≡ ys
 unfolding Rises
 same_members low q [] [] h k same = refl
-same_members low q [] (y ∷ ys) h k same = absurd (true≢false (sym (same y k.1 ∙ ap (λ b. b || list_any (λ z. z == y) ys) (eq-eqb y y refl))))
-same_members low q (x ∷ xs) [] h k same = absurd (true≢false (sym (ap (λ b. b || list_any (λ z. z == x) xs) (eq-eqb x x refl)) ∙ same x h.1))
+same_members low q [] (y ∷ ys) h k same =
+    absurd
+    (true≢false (sym (same y k.1 ∙ ap (λ b. b || list_any (λ z. z == y) ys) (eq-eqb y y refl))))
+same_members low q (x ∷ xs) [] h k same =
+    absurd
+    (true≢false (sym (ap (λ b. b || list_any (λ z. z == x) xs) (eq-eqb x x refl)) ∙ same x h.1))
 same_members low q (x ∷ xs) (y ∷ ys) h k same =
     elim (dec_lt x y) [
-      | yes l ↦ absurd (true≢false (sym (ap (λ b. b || list_any (λ z. z == x) xs) (eq-eqb x x refl)) ∙ same x h.1 ∙ none_below y q x (y ∷ ys) (omega arith, k.1, k.2) l))
+      | yes l ↦ absurd
+          (true≢false (sym (ap (λ b. b || list_any (λ z. z == x) xs) (eq-eqb x x refl)) ∙ same x h.1
+          ∙ none_below y q x (y ∷ ys) (omega arith, k.1, k.2) l))
       | no f ↦ elim (dec_lt y x) [
-        | yes l ↦ absurd (true≢false (sym (ap (λ b. b || list_any (λ z. z == y) ys) (eq-eqb y y refl)) ∙ sym (same y k.1) ∙ none_below x q y (x ∷ xs) (omega arith, h.1, h.2) l))
+        | yes l ↦ absurd
+            (true≢false (sym (ap (λ b. b || list_any (λ z. z == y) ys) (eq-eqb y y refl))
+            ∙ sym (same y k.1) ∙ none_below x q y (x ∷ xs) (omega arith, h.1, h.2) l))
         | no g ↦
             let e : x ≡ y = omega arith in
-            ap₂ (λ a l. a ∷ l) e (same_members (suc x) q xs ys h.2 (subst (λ v. Rises (suc v) q ys) (sym e) k.2) (λ v b. elim (dec_lt x v) [
+            ap₂ (λ a l. a ∷ l) e
+            (same_members (suc x) q xs ys h.2 (subst (λ v. Rises (suc v) q ys) (sym e) k.2)
+            (λ v b. elim (dec_lt x v) [
               | yes l ↦ passed_by x y v _ _ (λ d. omega arith) (λ d. omega arith) (same v b)
-              | no i ↦ none_below (suc x) q v xs h.2 (omega arith) ∙ sym (none_below (suc y) q v ys k.2 (omega arith))
+              | no i ↦ none_below (suc x) q v xs h.2 (omega arith)
+                  ∙ sym (none_below (suc y) q v ys k.2 (omega arith))
             ]))
       ]
     ]
 
 -- two lists that stand to one list by a relation that determines its answer are one
-zip_same : {A : Type 0} (P : A → Type 0) (R S : A → ℕ → Type 0) → ((p : A) (z w : ℕ) → P p → R p z → S p w → z ≡ w)
-    → (ps : List A) (zs ws : List ℕ) → AllByRecursion P ps → AllZip R ps zs → AllZip S ps ws → zs ≡ ws
+zip_same : {A : Type 0} (P : A → Type 0) (R S : A → ℕ → Type 0)
+    → ((p : A) (z w : ℕ) → P p → R p z → S p w → z ≡ w)
+    → (ps : List A) (zs ws : List ℕ) → AllByRecursion P ps → AllZip R ps zs → AllZip S ps ws
+    → zs ≡ ws
 zip_same P R S same [] [] [] a h k = refl
 zip_same P R S same [] [] (w ∷ ws) a h k = absurd k
 zip_same P R S same [] (z ∷ zs) ws a h k = absurd h
 zip_same P R S same (p ∷ ps) [] ws a h k = absurd h
 zip_same P R S same (p ∷ ps) (z ∷ zs) [] a h k = absurd k
-zip_same P R S same (p ∷ ps) (z ∷ zs) (w ∷ ws) a h k = ap₂ (λ v l. v ∷ l) (same p z w a.0 h.0 k.0) (zip_same P R S same ps zs ws a.1 h.1 k.1)
+zip_same P R S same (p ∷ ps) (z ∷ zs) (w ∷ ws) a h k =
+    ap₂ (λ v l. v ∷ l) (same p z w a.0 h.0 k.0) (zip_same P R S same ps zs ws a.1 h.1 k.1)
 
 InOrder : ℕ → ℕ × ℕ → Type 0
 InOrder q p = (p.0 < q) × (p.1 < q)
@@ -77,38 +104,51 @@ unfolding InOrder
 with_in q x y zero h l = tt
 with_in q x y (suc n) h l = ((h, omega arith), with_in q x (y + 1) n h (omega arith))
 
-both_in : (q : ℕ) (xs ys : List (ℕ × ℕ)) → AllByRecursion (InOrder q) xs → AllByRecursion (InOrder q) ys
+both_in : (q : ℕ) (xs ys : List (ℕ × ℕ)) → AllByRecursion (InOrder q) xs
+    → AllByRecursion (InOrder q) ys
     → AllByRecursion (InOrder q) (xs ++ ys)
 both_in q [] ys h k = k
 both_in q (x ∷ xs) ys h k = (h.0, both_in q xs ys h.1 k)
 
 from_in : (q x n : ℕ) → x + n ≤ q → AllByRecursion (InOrder q) (pairs_from x n)
 from_in q x zero l = tt
-from_in q x (suc n) l = both_in q (pairs_with x (x + 1) n) (pairs_from (x + 1) n) (with_in q x (x + 1) n (omega arith) (omega arith)) (from_in q (x + 1) n (omega arith))
+from_in q x (suc n) l =
+    both_in q (pairs_with x (x + 1) n) (pairs_from (x + 1) n)
+    (with_in q x (x + 1) n (omega arith) (omega arith)) (from_in q (x + 1) n (omega arith))
 
 module _ (c d : Certificate) (a : Accepted c) (b : Accepted d) (same_code : c.code ≡ d.code) where
   of_d : Represents IsHeap c.code (claim_of d)
   of_d = subst (λ k. Represents IsHeap k (claim_of d)) (sym same_code) b.represents
 
   periods : (c.start ≡ d.start) × (c.period ≡ d.period)
-  periods = same_period c.code (claim_of c) (claim_of d) a.represents of_d c.start c.period d.start d.period a.canonical.period b.canonical.period
+  periods = same_period c.code (claim_of c) (claim_of d) a.represents of_d c.start c.period d.start
+      d.period a.canonical.period b.canonical.period
 
   numbers : SameClaim (claim_of c) (claim_of d) (key_of c) (key_of d)
-  numbers = same_claim c.code (claim_of c) (claim_of d) a.represents of_d c.start c.period d.start d.period (key_of c) (key_of d) a.canonical.period b.canonical.period a.canonical.numbered b.canonical.numbered
+  numbers = same_claim c.code (claim_of c) (claim_of d) a.represents of_d c.start c.period d.start
+      d.period (key_of c) (key_of d) a.canonical.period b.canonical.period a.canonical.numbered
+      b.canonical.numbered
 
   same_order : c.order ≡ d.order
   same_order = numbers.order
 
   phi_length : length c.phi ≡ length d.phi
-  phi_length = let e = a.in_ranges.phi.0 in let f = b.in_ranges.phi.0 in let g = periods.0 in let h = periods.1 in omega arith
+  phi_length = let e = a.in_ranges.phi.0 in let f = b.in_ranges.phi.0 in let g = periods.0 in
+      let h = periods.1 in omega arith
 
   same_phi_line : c.phi ≡ d.phi
-  same_phi_line = same_number_lists c.phi d.phi phi_length (λ k h. sym (entry_at c a.in_ranges k h) ∙ sym (numbers.phi (suc k) (omega arith)) ∙ entry_at d b.in_ranges k (let e = phi_length in omega arith))
+  same_phi_line =
+      same_number_lists c.phi d.phi phi_length (λ k h. sym (entry_at c a.in_ranges k h)
+      ∙ sym (numbers.phi (suc k) (omega arith)) ∙ entry_at d b.in_ranges k (let e = phi_length in
+      omega arith))
 
   same_portion_line : c.portion ≡ d.portion
   same_portion_line =
-      let up : Rises 0 d.order d.portion = rises d.order d.portion b.in_ranges.portion.2 b.in_ranges.portion.1 in
-      same_members 0 c.order c.portion d.portion (rises c.order c.portion a.in_ranges.portion.2 a.in_ranges.portion.1) (subst (λ q. Rises 0 q d.portion) (sym same_order) up) (λ v l. sym (numbers.portion v l))
+      let up : Rises 0 d.order d.portion =
+      rises d.order d.portion b.in_ranges.portion.2 b.in_ranges.portion.1 in
+      same_members 0 c.order c.portion d.portion
+      (rises c.order c.portion a.in_ranges.portion.2 a.in_ranges.portion.1)
+      (subst (λ q. Rises 0 q d.portion) (sym same_order) up) (λ v l. sym (numbers.portion v l))
 
   key_at : (e : Certificate) (i : ℕ) → key_of e (suc i) ≡ get_or e.words i (0, 0)
   key_at e i = let f : suc i - 1 ≡ i = omega arith in ap (λ j. get_or e.words j (0, 0)) f
@@ -120,8 +160,11 @@ module _ (c d : Certificate) (a : Accepted c) (b : Accepted d) (same_code : c.co
       let (u, v) = numbers.words (suc i) (omega arith) (omega arith) in
       sym (key_at c i) ∙ ap₂ (λ x y. (x, y)) u v ∙ key_at d i)
 
-  row_length : (e : Certificate) → InRanges e → (i : ℕ) → i < e.order → length (get_or e.rows i []) ≡ e.order
-  row_length e r i h = let l = r.rows.0 in (All-get_or (λ row. (length row ≡ e.order) × All (λ x. x < e.order) row) e.rows i [] (omega arith) r.rows.1).0
+  row_length : (e : Certificate) → InRanges e → (i : ℕ) → i < e.order
+      → length (get_or e.rows i []) ≡ e.order
+  row_length e r i h = let l = r.rows.0 in
+      (All-get_or (λ row. (length row ≡ e.order) × All (λ x. x < e.order) row) e.rows i []
+      (omega arith) r.rows.1).0
 
   same_rows : c.rows ≡ d.rows
   same_rows =
@@ -129,29 +172,43 @@ module _ (c d : Certificate) (a : Accepted c) (b : Accepted d) (same_code : c.co
       ext_get_or [] c.rows d.rows (omega arith) (λ i h.
       let p = row_length c a.in_ranges i (omega arith) in
       let q = row_length d b.in_ranges i (omega arith) in
-      same_number_lists (get_or c.rows i []) (get_or d.rows i []) (omega arith) (λ j k. sym (numbers.times i j (omega arith) (omega arith))))
+      same_number_lists (get_or c.rows i []) (get_or d.rows i []) (omega arith)
+      (λ j k. sym (numbers.times i j (omega arith) (omega arith))))
 
   same_telling : (p : ℕ × ℕ) (z : ℕ) → InOrder c.order p → z < c.order
-      → (TellsApart (claim_of c) p z → TellsApart (claim_of d) p z) × (TellsApart (claim_of d) p z → TellsApart (claim_of c) p z)
+      → (TellsApart (claim_of c) p z → TellsApart (claim_of d) p z)
+      × (TellsApart (claim_of d) p z → TellsApart (claim_of c) p z)
   unfolding InOrder
   same_telling p z i l =
-      let one : (x : ℕ) → x < c.order → (claim_of d).portion ((claim_of d).times x z) ≡ (claim_of c).portion ((claim_of c).times x z) =
-      λ x h. ap (claim_of d).portion (numbers.times x z h l) ∙ numbers.portion _ (a.represents.monoid.closed x z h l) in
-      (λ t e. t (sym (one p.0 i.0) ∙ e ∙ one p.1 i.1), λ t e. t (one p.0 i.0 ∙ e ∙ sym (one p.1 i.1)))
+      let one : (x : ℕ) → x < c.order → (claim_of d).portion ((claim_of d).times x z)
+      ≡ (claim_of c).portion ((claim_of c).times x z) =
+      λ x h. ap (claim_of d).portion (numbers.times x z h l)
+      ∙ numbers.portion _ (a.represents.monoid.closed x z h l) in (
+        λ t e. t (sym (one p.0 i.0) ∙ e ∙ one p.1 i.1),
+        λ t e.
+            t (one p.0 i.0 ∙ e ∙ sym (one p.1 i.1)),
+      )
 
   same_apart : c.apart ≡ d.apart
   same_apart =
-      zip_same (InOrder c.order) (LeastApart (claim_of c)) (LeastApart (claim_of d)) least_same (pairs_from 0 c.order) c.apart d.apart
+      zip_same (InOrder c.order) (LeastApart (claim_of c)) (LeastApart (claim_of d)) least_same
+      (pairs_from 0 c.order) c.apart d.apart
       (from_in c.order 0 c.order (omega arith)) a.canonical.apart
-      (subst (λ q. AllZip (LeastApart (claim_of d)) (pairs_from 0 q) d.apart) (sym same_order) b.canonical.apart)
+      (subst (λ q. AllZip (LeastApart (claim_of d)) (pairs_from 0 q) d.apart) (sym same_order)
+      b.canonical.apart)
     where
-      least_same : (p : ℕ × ℕ) (z w : ℕ) → InOrder c.order p → LeastApart (claim_of c) p z → LeastApart (claim_of d) p w → z ≡ w
+      least_same : (p : ℕ × ℕ) (z w : ℕ) → InOrder c.order p → LeastApart (claim_of c) p z
+          → LeastApart (claim_of d) p w → z ≡ w
       least_same p z w i h k =
           let g = same_order in
           let u = k.0 in
           elim (dec_lt z w) [
             | yes l ↦ absurd (k.2 z l ((same_telling p z i h.0).0 h.1))
-            | no f ↦ elim (dec_lt w z) [ yes l ↦ absurd (h.2 w l ((same_telling p w i (omega arith)).1 k.1)) | no e ↦ omega arith ]
+            | no f ↦ elim (dec_lt w z) [
+              | yes l ↦ absurd (h.2 w l ((same_telling p w i (omega arith)).1 k.1))
+              | no e ↦ omega
+                  arith
+            ]
           ]
 
   -- the two certificates are one

@@ -19,14 +19,17 @@ mutual
   never_both (Wins k p) (AllLose m all) = not_both p (all _ k)
 
 -- Below a bound either one number has a fact, or each has the other.
-pub some_or_all_below : (Q R : ℕ → Type 0) → ((k : ℕ) → Q k ⊎ R k) → (n : ℕ) → ((k : ℕ) × (k < n) × Q k) ⊎ ((k : ℕ) → k < n → R k)
+pub some_or_all_below : (Q R : ℕ → Type 0) → ((k : ℕ) → Q k ⊎ R k) → (n : ℕ)
+    → ((k : ℕ) × (k < n) × Q k) ⊎ ((k : ℕ) → k < n → R k)
 some_or_all_below Q R test zero = inr (λ k h. absurd (omega arith))
 some_or_all_below Q R test (suc n) =
     elim (some_or_all_below Q R test n) [
       | inl (k, h, q) ↦ inl (k, omega arith, q)
       | inr all ↦ elim (test n) [
         | inl q ↦ inl (n, omega arith, q)
-        | inr r ↦ inr (λ k h. elim (eq-or-lt_of_le (le_of_suc-le-suc h)) [ inl e ↦ subst R (sym e) r | inr l ↦ all k l ])
+        | inr r ↦ inr
+            (λ k h. elim (eq-or-lt_of_le (le_of_suc-le-suc h))
+            [ inl e ↦ subst R (sym e) r | inr l ↦ all k l ])
       ]
     ]
 
@@ -36,28 +39,38 @@ both_dec (no f) _ = no (λ p. f p.0)
 both_dec (yes a) (no g) = no (λ p. g p.1)
 
 bit_dec : (d k : ℕ) → Dec (IsBitSet d k)
-bit_dec d k = elim (eq-zero-or-pos (bit_and d (2 ^ k))) [ inl e ↦ no (λ h. h e) | inr l ↦ yes (λ e. omega arith) ]
+bit_dec d k =
+    elim (eq-zero-or-pos (bit_and d (2 ^ k)))
+    [ inl e ↦ no (λ h. h e) | inr l ↦ yes (λ e. omega arith) ]
 
 module _ (code : List ℕ) (n : ℕ) where
   -- what an option that leaves nothing says
   pub nothing_says : HeapOption code n [] → (1 ≤ n) × IsBitSet (digit code n) 0
   nothing_says (Nothing j p e b) = (omega arith, subst (λ i. IsBitSet (digit code i) 0) (sym e) b)
 
-  one_says : (a : ℕ) → HeapOption code n (a ∷ []) → (1 ≤ n - a) × ((1 ≤ a) × IsBitSet (digit code (n - a)) 1)
-  one_says a (One j _ p q e b) = let f : j ≡ n - a = omega arith in (omega arith, (q, subst (λ i. IsBitSet (digit code i) 1) f b))
+  one_says : (a : ℕ) → HeapOption code n (a ∷ [])
+      → (1 ≤ n - a) × ((1 ≤ a) × IsBitSet (digit code (n - a)) 1)
+  one_says a (One j _ p q e b) = let f : j ≡ n - a = omega arith in
+      (omega arith, (q, subst (λ i. IsBitSet (digit code i) 1) f b))
 
-  two_says : (a b : ℕ) → HeapOption code n (a ∷ b ∷ []) → (1 ≤ a) × ((1 ≤ b) × ((a + b ≤ n) × IsBitSet (digit code (n - (a + b))) 2))
-  two_says a b (Two j _ _ p q e s) = let f : j ≡ n - (a + b) = omega arith in (p, (q, (omega arith, subst (λ i. IsBitSet (digit code i) 2) f s)))
+  two_says : (a b : ℕ) → HeapOption code n (a ∷ b ∷ [])
+      → (1 ≤ a) × ((1 ≤ b) × ((a + b ≤ n) × IsBitSet (digit code (n - (a + b))) 2))
+  two_says a b (Two j _ _ p q e s) = let f : j ≡ n - (a + b) = omega arith in
+      (p, (q, (omega arith, subst (λ i. IsBitSet (digit code i) 2) f s)))
 
   option_dec : (H : List ℕ) → Dec (HeapOption code n H)
-  option_dec [] = elim (both_dec (dec_le 1 n) (bit_dec (digit code n) 0)) [ yes (l, b) ↦ yes (Nothing n l refl b) | no f ↦ no (λ o. f (nothing_says o)) ]
+  option_dec [] =
+      elim (both_dec (dec_le 1 n) (bit_dec (digit code n) 0))
+      [ yes (l, b) ↦ yes (Nothing n l refl b) | no f ↦ no (λ o. f (nothing_says o)) ]
   option_dec (a ∷ []) =
       elim (both_dec (dec_le 1 (n - a)) (both_dec (dec_le 1 a) (bit_dec (digit code (n - a)) 1))) [
         | yes (l, (p, b)) ↦ yes (One (n - a) a l p (omega arith) b)
         | no f ↦ no (λ o. f (one_says a o))
       ]
   option_dec (a ∷ b ∷ []) =
-      elim (both_dec (dec_le 1 a) (both_dec (dec_le 1 b) (both_dec (dec_le (a + b) n) (bit_dec (digit code (n - (a + b))) 2)))) [
+      elim (both_dec (dec_le 1 a)
+      (both_dec (dec_le 1 b)
+      (both_dec (dec_le (a + b) n) (bit_dec (digit code (n - (a + b))) 2)))) [
         | yes (p, (q, (l, s))) ↦ yes (Two (n - (a + b)) a b p q (omega arith) s)
         | no f ↦ no (λ o. f (two_says a b o))
       ]
@@ -65,57 +78,76 @@ module _ (code : List ℕ) (n : ℕ) where
 
   module _ (Q R : List ℕ → Type 0) (test : (H : List ℕ) → HeapOption code n H → Q H ⊎ R H) where
     option_test : (H : List ℕ) → (HeapOption code n H × Q H) ⊎ (HeapOption code n H → R H)
-    option_test H = elim (option_dec H) [ no f ↦ inr (λ o. absurd (f o)) | yes o ↦ elim (test H o) [ inl q ↦ inl (o, q) | inr r ↦ inr (λ _. r) ] ]
+    option_test H =
+        elim (option_dec H) [
+          | no f ↦ inr (λ o. absurd (f o))
+          | yes o ↦ elim (test H o)
+              [ inl q ↦ inl (o, q) | inr r ↦ inr (λ _. r) ]
+        ]
 
     gathered :
         (HeapOption code n [] → R [])
         → ((a : ℕ) → a < suc n → HeapOption code n (a ∷ []) → R (a ∷ []))
-        → ((a : ℕ) → a < suc n → (b : ℕ) → b < suc n → HeapOption code n (a ∷ b ∷ []) → R (a ∷ b ∷ []))
+        → ((a : ℕ) → a < suc n → (b : ℕ) → b < suc n → HeapOption code n (a ∷ b ∷ [])
+        → R (a ∷ b ∷ []))
         → (H : List ℕ) → HeapOption code n H → R H
     gathered none one two _ (Nothing j p e b) = none (Nothing j p e b)
     gathered none one two _ (One j a p q e b) = one a (omega arith) (One j a p q e b)
-    gathered none one two _ (Two j a b p q e s) = two a (omega arith) b (omega arith) (Two j a b p q e s)
+    gathered none one two _ (Two j a b p q e s) =
+        two a (omega arith) b (omega arith) (Two j a b p q e s)
 
     -- either one option of the heap has the one fact, or each has the other
-    pub some_or_all_options : ((H : List ℕ) × HeapOption code n H × Q H) ⊎ ((H : List ℕ) → HeapOption code n H → R H)
+    pub some_or_all_options : ((H : List ℕ) × HeapOption code n H × Q H)
+        ⊎ ((H : List ℕ) → HeapOption code n H → R H)
     some_or_all_options =
         elim (option_test []) [
           | inl (o, q) ↦ inl ([], o, q)
           | inr none ↦ elim (some_or_all_below _ _ (λ a. option_test (a ∷ [])) (suc n)) [
             | inl (a, _, (o, q)) ↦ inl (a ∷ [], o, q)
-            | inr one ↦ elim (some_or_all_below _ _ (λ a. some_or_all_below _ _ (λ b. option_test (a ∷ b ∷ [])) (suc n)) (suc n)) [
-              | inl (a, _, (b, _, (o, q))) ↦ inl (a ∷ b ∷ [], o, q)
-              | inr two ↦ inr (gathered none one two)
-            ]
+            | inr one ↦ elim
+                (some_or_all_below _ _
+                (λ a. some_or_all_below _ _ (λ b. option_test (a ∷ b ∷ [])) (suc n)) (suc n)) [
+                  | inl (a, _, (b, _, (o, q))) ↦ inl (a ∷ b ∷ [], o, q)
+                  | inr two ↦ inr (gathered none one two)
+                ]
           ]
         ]
 
 -- either one move leads to the one fact, or each to the other
-pub some_or_all_moves : (code : List ℕ) (Q R : List ℕ → Type 0) (X : List ℕ) → ((Y : List ℕ) → Move code X Y → Q Y ⊎ R Y)
+pub some_or_all_moves : (code : List ℕ) (Q R : List ℕ → Type 0) (X : List ℕ)
+    → ((Y : List ℕ) → Move code X Y → Q Y ⊎ R Y)
     → ((Y : List ℕ) × Move code X Y × Q Y) ⊎ ((Y : List ℕ) → Move code X Y → R Y)
 some_or_all_moves code Q R [] test = inr (λ Y m. absurd (no_move_of_none m))
 some_or_all_moves code Q R (n ∷ X) test =
-    elim (some_or_all_options code n (λ H. Q (H ++ X)) (λ H. R (H ++ X)) (λ H o. test (H ++ X) (Here o refl))) [
+    elim (some_or_all_options code n (λ H. Q (H ++ X)) (λ H. R (H ++ X))
+    (λ H o. test (H ++ X) (Here o refl))) [
       | inl (H, o, q) ↦ inl (H ++ X, Here o refl, q)
-      | inr here ↦ elim (some_or_all_moves code (λ Y. Q (n ∷ Y)) (λ Y. R (n ∷ Y)) X (λ Y m. test (n ∷ Y) (There m refl))) [
-        | inl (Y, m, q) ↦ inl (n ∷ Y, There m refl, q)
-        | inr there ↦ inr (λ Y m. elim (first_or_rest m) [
-          | inl (H, o, e) ↦ subst R (sym e) (here H o)
-          | inr (X', k, e) ↦ subst R (sym e) (there X' k)
-        ])
-      ]
+      | inr here ↦ elim
+          (some_or_all_moves code (λ Y. Q (n ∷ Y)) (λ Y. R (n ∷ Y)) X
+          (λ Y m. test (n ∷ Y) (There m refl))) [
+            | inl (Y, m, q) ↦ inl (n ∷ Y, There m refl, q)
+            | inr there ↦ inr (λ Y m. elim (first_or_rest m) [
+              | inl (H, o, e) ↦ subst R (sym e) (here H o)
+              | inr (X', k, e) ↦ subst R (sym e) (there X' k)
+            ])
+          ]
     ]
 
 -- a position has a move or has none
-pub movable : (code X : List ℕ) → ((Y : List ℕ) × Move code X Y) ⊎ ((Y : List ℕ) → Move code X Y → ⊥)
-movable code X = elim (some_or_all_moves code (λ _. Unit {0}) (λ _. ⊥) X (λ Y m. inl tt)) [ inl (Y, m, _) ↦ inl (Y, m) | inr none ↦ inr none ]
+pub movable : (code X : List ℕ) → ((Y : List ℕ) × Move code X Y)
+    ⊎ ((Y : List ℕ) → Move code X Y → ⊥)
+movable code X =
+    elim (some_or_all_moves code (λ _. Unit {0}) (λ _. ⊥) X (λ Y m. inl tt))
+    [ inl (Y, m, _) ↦ inl (Y, m) | inr none ↦ inr none ]
 
 determined_within : (code : List ℕ) (k : ℕ) (X : List ℕ) → measure X < k → IsP code X ⊎ IsN code X
 determined_within code zero X h = absurd (omega arith)
 determined_within code (suc k) X h =
-    elim (some_or_all_moves code (IsP code) (IsN code) X (λ Y m. determined_within code k Y (omega (arith, move_smaller m)))) [
+    elim (some_or_all_moves code (IsP code) (IsN code) X
+    (λ Y m. determined_within code k Y (omega (arith, move_smaller m)))) [
       | inl (Y, m, p) ↦ inr (Wins m p)
-      | inr all ↦ elim (movable code X) [ inl (Y, m) ↦ inl (AllLose m all) | inr none ↦ inr (Ended none) ]
+      | inr all ↦ elim (movable code X)
+          [ inl (Y, m) ↦ inl (AllLose m all) | inr none ↦ inr (Ended none) ]
     ]
 
 -- each position is P or N

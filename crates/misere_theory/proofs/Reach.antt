@@ -20,7 +20,8 @@ bit_room : (b : Bool) (x w : ℕ) → x < w → x + cond b w 0 < w * 2
 bit_room true x w h = omega arith
 bit_room false x w h = omega arith
 
-bit_same : (a b : Bool) (x y w : ℕ) → x < w → y < w → x + cond a w 0 ≡ y + cond b w 0 → (x ≡ y) × (a ≡ b)
+bit_same : (a b : Bool) (x y w : ℕ) → x < w → y < w → x + cond a w 0 ≡ y + cond b w 0
+    → (x ≡ y) × (a ≡ b)
 bit_same true true x y w h k e = (omega arith, refl)
 bit_same true false x y w h k e = absurd (omega arith)
 bit_same false true x y w h k e = absurd (omega arith)
@@ -35,8 +36,13 @@ mask-same : (f g : ℕ → Bool) (n : ℕ) → mask f n ≡ mask g n → (i : �
 unfolding mask
 mask-same f g zero e i h = absurd (omega arith)
 mask-same f g (suc n) e i h =
-    let (a, b) = bit_same (f n) (g n) (mask f n) (mask g n) (2 ^ n) (mask-below f n) (mask-below g n) e in
-    elim (ℕ_discrete i n) [ yes d ↦ ap f d ∙ b ∙ ap g (sym d) | no k ↦ mask-same f g n a i (omega arith) ]
+    let (a, b) =
+    bit_same (f n) (g n) (mask f n) (mask g n) (2 ^ n) (mask-below f n) (mask-below g n) e in
+    elim (ℕ_discrete i n) [
+      | yes d ↦ ap f d ∙ b ∙ ap g (sym d)
+      | no k ↦ mask-same f g n a i
+          (omega arith)
+    ]
 
 mask-agrees : (f g : ℕ → Bool) (n : ℕ) → ((i : ℕ) → f i ≡ g i) → mask f n ≡ mask g n
 unfolding mask
@@ -57,12 +63,14 @@ digits_same u v w m n h k e =
     ]
 
 module _
-    (heap : ℕ → Type 0) (code : List ℕ) (kept : IsKept heap code) (c : Claim) (m : Monoid c.order c.times)
+    (heap : ℕ → Type 0) (code : List ℕ) (kept : IsKept heap code) (c : Claim)
+    (m : Monoid c.order c.times)
     (phi_in : GivesElements heap c) where
   -- whether x is the value of an option of X
   tested : (X : List ℕ) (x : ℕ) → (b : Bool) × ((b ≡ true) ↔ OptionValue code c X x)
   tested X x =
-      elim (some_or_all_moves code (λ Y. value c Y ≡ x) (λ Y. value c Y ≡ x → ⊥) X (λ Y i. elim (ℕ_discrete (value c Y) x) [ yes e ↦ inl e | no f ↦ inr f ])) [
+      elim (some_or_all_moves code (λ Y. value c Y ≡ x) (λ Y. value c Y ≡ x → ⊥) X
+      (λ Y i. elim (ℕ_discrete (value c Y) x) [ yes e ↦ inl e | no f ↦ inr f ])) [
         | inl (Y, i, e) ↦ (true, (λ _. (Y, i, e), λ _. refl))
         | inr all ↦ (false, (λ e. cc, λ o. absurd (all o.0 o.1 o.2)))
       ]
@@ -74,22 +82,32 @@ module _
   unfolding number_of
   number-below X w =
       let v = value_in heap c m phi_in X w in
-      let o = digits_below (value c X) c.order (2 ^ c.order) (mask (λ x. (tested X x).0) c.order) 0 v (mask-below _ c.order) in
+      let o = digits_below (value c X) c.order (2 ^ c.order) (mask (λ x. (tested X x).0) c.order) 0
+      v (mask-below _ c.order) in
       omega arith
 
-  pair_from_number : (X Y : List ℕ) → IsPosition heap X → IsPosition heap Y → number_of X ≡ number_of Y → SamePair code c X Y
+  pair_from_number : (X Y : List ℕ) → IsPosition heap X → IsPosition heap Y
+      → number_of X ≡ number_of Y → SamePair code c X Y
   unfolding number_of
   pair_from_number X Y p q e =
-      let (a, b) = digits_same (value c X) (value c Y) (2 ^ c.order) _ _ (mask-below (λ x. (tested X x).0) c.order) (mask-below (λ x. (tested Y x).0) c.order) e in (
+      let (a, b) =
+      digits_same (value c X) (value c Y) (2 ^ c.order) _ _
+      (mask-below (λ x. (tested X x).0) c.order) (mask-below (λ x. (tested Y x).0) c.order) e in (
         a,
         λ x. (
-          λ o. (tested Y x).1.0 (sym (mask-same (λ i. (tested X i).0) (λ i. (tested Y i).0) c.order b x (in_order p o)) ∙ (tested X x).1.1 o),
-          λ o. (tested X x).1.0 (mask-same (λ i. (tested X i).0) (λ i. (tested Y i).0) c.order b x (in_order q o) ∙ (tested Y x).1.1 o),
+          λ o. (tested Y x).1.0
+              (sym (mask-same (λ i. (tested X i).0) (λ i. (tested Y i).0) c.order b x
+              (in_order p o)) ∙ (tested X x).1.1 o),
+          λ o. (tested X x).1.0
+              (mask-same (λ i. (tested X i).0) (λ i. (tested Y i).0) c.order b x (in_order q o)
+              ∙ (tested Y x).1.1 o),
         ),
       )
     where
       in_order : {Z : List ℕ} {x : ℕ} → IsPosition heap Z → OptionValue code c Z x → x < c.order
-      in_order r o = subst (λ v. v < c.order) o.2 (value_in heap c m phi_in o.0 (move_kept heap code kept o.1 r))
+      in_order r o =
+          subst (λ v. v < c.order) o.2
+          (value_in heap c m phi_in o.0 (move_kept heap code kept o.1 r))
 
   number_from_pair : (X Y : List ℕ) → SamePair code c X Y → number_of X ≡ number_of Y
   unfolding number_of
@@ -100,38 +118,52 @@ module _
       (λ t. (tested X x).1.1 ((s.1 x).1 ((tested Y x).1.0 t)))))
 
   -- two positions have the same pair or they do not
-  pub same_pair_dec : (X Y : List ℕ) → IsPosition heap X → IsPosition heap Y → SamePair code c X Y ⊎ (SamePair code c X Y → ⊥)
+  pub same_pair_dec : (X Y : List ℕ) → IsPosition heap X → IsPosition heap Y → SamePair code c X Y
+      ⊎ (SamePair code c X Y → ⊥)
   same_pair_dec X Y p q = elim (ℕ_discrete (number_of X) (number_of Y)) [
     | yes e ↦ inl (pair_from_number X Y p q e)
     | no f ↦ inr (λ s. f (number_from_pair X Y s))
   ]
 
-  differs_from_all : (X : List ℕ) (Xs : List (List ℕ)) → IsPosition heap X → AllByRecursion (IsPosition heap) Xs
+  differs_from_all : (X : List ℕ) (Xs : List (List ℕ)) → IsPosition heap X
+      → AllByRecursion (IsPosition heap) Xs
       → ((k : ℕ) (d : List ℕ) → k < length Xs → SamePair code c X (get_or Xs k d) → ⊥)
       → AllByRecursion (λ y. eqb (number_of X) y ≡ false) (map number_of Xs)
   differs_from_all X [] p r h = tt
-  differs_from_all X (Y ∷ Ys) p r h = (ne_eqb _ _ (λ e. h 0 Y (omega arith) (pair_from_number X Y p r.0 e)), differs_from_all X Ys p r.1 (λ k d l. h (suc k) d (omega arith)))
+  differs_from_all X (Y ∷ Ys) p r h = (
+    ne_eqb _ _ (λ e. h 0 Y (omega arith) (pair_from_number X Y p r.0 e)),
+    differs_from_all X Ys p r.1 (λ k d l. h (suc k) d (omega arith)),
+  )
 
-  distinct_numbers : (Xs : List (List ℕ)) → AllByRecursion (IsPosition heap) Xs → AllPairs (λ X Y. SamePair code c X Y → ⊥) Xs
+  distinct_numbers : (Xs : List (List ℕ)) → AllByRecursion (IsPosition heap) Xs
+      → AllPairs (λ X Y. SamePair code c X Y → ⊥) Xs
       → IsDistinct eqb (map number_of Xs)
   unfolding IsDistinct
   distinct_numbers [] r h = tt
-  distinct_numbers (X ∷ Xs) r h =
-      (differs_from_all X Xs r.0 r.1 (λ k d l. h 0 (suc k) d (omega arith) (omega arith)), distinct_numbers Xs r.1 (λ i j d p q. h (suc i) (suc j) d (omega arith) (omega arith)))
+  distinct_numbers (X ∷ Xs) r h = (
+    differs_from_all X Xs r.0 r.1 (λ k d l. h 0 (suc k) d (omega arith) (omega arith)),
+    distinct_numbers Xs r.1 (λ i j d p q. h (suc i) (suc j) d (omega arith) (omega arith)),
+  )
 
-  one_below : (X : List ℕ) → IsPosition heap X → (q : ℕ) (rest b : Bool) → eqb q (number_of X) ≡ b → (b || rest) ≡ true
+  one_below : (X : List ℕ) → IsPosition heap X → (q : ℕ) (rest b : Bool) → eqb q (number_of X) ≡ b
+      → (b || rest) ≡ true
       → (rest ≡ true → q < c.order * 2 ^ c.order) → q < c.order * 2 ^ c.order
   one_below X w q rest true p _ _ = rw (eqb-true q (number_of X) p) (number-below X w)
   one_below X w q rest false p h more = more h
 
-  all_below : (Xs : List (List ℕ)) → AllByRecursion (IsPosition heap) Xs → (q : ℕ) → list_any (eqb q) (map number_of Xs) ≡ true
+  all_below : (Xs : List (List ℕ)) → AllByRecursion (IsPosition heap) Xs → (q : ℕ)
+      → list_any (eqb q) (map number_of Xs) ≡ true
       → q < c.order * 2 ^ c.order
   all_below [] r q e = cc
-  all_below (X ∷ Xs) r q e = one_below X r.0 q (list_any (eqb q) (map number_of Xs)) (eqb q (number_of X)) refl e (all_below Xs r.1 q)
+  all_below (X ∷ Xs) r q e =
+      one_below X r.0 q (list_any (eqb q) (map number_of Xs)) (eqb q (number_of X)) refl e
+      (all_below Xs r.1 q)
 
   -- so a closure with a limit of order * 2 ^ order never passes it
   pub reach_bound : (limit : ℕ) → ReachesMoreThan heap code c limit → limit < c.order * 2 ^ c.order
   reach_bound limit (Xs, more, all, apart) =
       let r = recursion_from_All (IsPosition heap) Xs all in
-      let l = length-le_from_distinct_below (map number_of Xs) (c.order * 2 ^ c.order) (distinct_numbers Xs r apart) (all_below Xs r) in
+      let l =
+      length-le_from_distinct_below (map number_of Xs) (c.order * 2 ^ c.order)
+      (distinct_numbers Xs r apart) (all_below Xs r) in
       let same = length-map Xs number_of in omega arith

@@ -7,7 +7,8 @@ use Rattle.misere_theory.specs.Certificates.{Certificate, phi_at, times_of, clai
 use Rattle.misere_theory.specs.Certificates.IsSpelled.{Zero, Key}
 use Rattle.misere_theory.proofs.Written.{phi_in, repeats}
 
-spelled_within : (c : Certificate) → Canonical c → (t e : ℕ) → e < t → e < c.order → (X : List ℕ) × IsSpelled c e X
+spelled_within : (c : Certificate) → Canonical c → (t e : ℕ) → e < t → e < c.order
+    → (X : List ℕ) × IsSpelled c e X
 spelled_within c k zero e h l = absurd (omega arith)
 spelled_within c k (suc t) e h l = elim (eq-zero-or-pos e) [
   | inl z ↦ ([], subst (λ v. IsSpelled c v []) (sym z) Zero)
@@ -17,21 +18,25 @@ spelled_within c k (suc t) e h l = elim (eq-zero-or-pos e) [
       ((key_of c e).1 ∷ X, Key e pos w)
 ]
 
-pub spelled : (c : Certificate) → Canonical c → (e : ℕ) → e < c.order → (X : List ℕ) × IsSpelled c e X
+pub spelled : (c : Certificate) → Canonical c → (e : ℕ) → e < c.order
+    → (X : List ℕ) × IsSpelled c e X
 spelled c k e l = spelled_within c k (suc e) e (omega arith) l
 
-pub spelled_value : (c : Certificate) (e : ℕ) (X : List ℕ) → InRanges c → Monoid c.order (times_of c) → Canonical c → e < c.order
+pub spelled_value : (c : Certificate) (e : ℕ) (X : List ℕ) → InRanges c
+    → Monoid c.order (times_of c) → Canonical c → e < c.order
     → IsSpelled c e X → IsPosition IsHeap X × (value (claim_of c) X ≡ e)
 spelled_value c _ _ r m k l Zero = (tt, refl)
 spelled_value c _ _ r m k l (Key e pos w) =
     let up = k.numbered.parent e pos l in
     let (p, f) = spelled_value c (key_of c e).0 _ r m k (omega arith) w in (
       ((k.numbered.heap e pos l).0, p),
-      ap (times_of c (phi_at c (key_of c e).1)) f ∙ m.commutes _ _ (phi_in c r _) (omega arith) ∙ k.numbered.product e pos l,
+      ap (times_of c (phi_at c (key_of c e).1)) f ∙ m.commutes _ _ (phi_in c r _) (omega arith)
+          ∙ k.numbered.product e pos l,
     )
 
 module _
-    (c : Certificate) (r : InRanges c) (q : ℕ) (once : (n : ℕ) → c.start ≤ n → n < c.start + c.period → phi_at c (q + n) ≡ phi_at c n) where
+    (c : Certificate) (r : InRanges c) (q : ℕ) (once : (n : ℕ) → c.start ≤ n
+    → n < c.start + c.period → phi_at c (q + n) ≡ phi_at c n) where
   serves_within : (t n : ℕ) → n < t → c.start ≤ n → phi_at c (q + n) ≡ phi_at c n
   serves_within zero n h l = absurd (omega arith)
   serves_within (suc t) n h l = elim (dec_lt n (c.start + c.period)) [
@@ -40,7 +45,9 @@ module _
         let one = r.period.0 in
         let e : c.period + (q + (n - c.period)) ≡ q + n = omega arith in
         let g : c.period + (n - c.period) ≡ n = omega arith in
-        sym (ap (phi_at c) e) ∙ repeats c r (q + (n - c.period)) (omega arith) ∙ serves_within t (n - c.period) (omega arith) (omega arith) ∙ sym (repeats c r (n - c.period) (omega arith)) ∙ ap (phi_at c) g
+        sym (ap (phi_at c) e) ∙ repeats c r (q + (n - c.period)) (omega arith)
+        ∙ serves_within t (n - c.period) (omega arith) (omega arith)
+        ∙ sym (repeats c r (n - c.period) (omega arith)) ∙ ap (phi_at c) g
   ]
 
   pub serves_always : (n : ℕ) → c.start ≤ n → phi_at c (q + n) ≡ phi_at c n

@@ -7,7 +7,8 @@ use Rattle.misere_theory.specs.Quotients.{Claim, Monoid, GivesElements, value}
 
 -- a move in a position with a first heap is in that heap or in the others
 pub first_or_rest : {code : List ℕ} {n : ℕ} {X Y : List ℕ} → Move code (n ∷ X) Y
-    → ((H : List ℕ) × HeapOption code n H × (Y ≡ H ++ X)) ⊎ ((X' : List ℕ) × Move code X X' × (Y ≡ n ∷ X'))
+    → ((H : List ℕ) × HeapOption code n H × (Y ≡ H ++ X))
+    ⊎ ((X' : List ℕ) × Move code X X' × (Y ≡ n ∷ X'))
 first_or_rest (Here o e) = inl (_, o, e)
 first_or_rest (There m e) = inr (_, m, e)
 
@@ -16,7 +17,8 @@ no_move_of_none m = elim m [ ]
 
 -- a move of a sum is a move of one of the two
 pub sum_moves : (code X Y Z : List ℕ) → Move code (X ++ Y) Z
-    → ((X' : List ℕ) × Move code X X' × (Z ≡ X' ++ Y)) ⊎ ((Y' : List ℕ) × Move code Y Y' × (Z ≡ X ++ Y'))
+    → ((X' : List ℕ) × Move code X X' × (Z ≡ X' ++ Y))
+    ⊎ ((Y' : List ℕ) × Move code Y Y' × (Z ≡ X ++ Y'))
 sum_moves code [] Y Z m = inr (Z, m, refl)
 sum_moves code (n ∷ X) Y Z m =
     elim (first_or_rest m) [
@@ -39,17 +41,20 @@ pub measure-append : (X Y : List ℕ) → measure (X ++ Y) ≡ measure X + measu
 measure-append [] Y = omega arith
 measure-append (n ∷ X) Y = omega (arith, measure-append X Y)
 
-pub option_smaller : {code : List ℕ} {n : ℕ} {H : List ℕ} → HeapOption code n H → measure H < 2 * n - 1
+pub option_smaller : {code : List ℕ} {n : ℕ} {H : List ℕ} → HeapOption code n H
+    → measure H < 2 * n - 1
 option_smaller (Nothing j p e b) = omega arith
 option_smaller (One j a p q e b) = omega arith
 option_smaller (Two j a b p q e c) = omega arith
 
 -- moves lower the measure
 pub move_smaller : {code X Y : List ℕ} → Move code X Y → measure Y < measure X
-move_smaller (Here {n = n} {X = X} {H = H} o e) = rw e (omega (arith, measure-append H X, option_smaller o))
+move_smaller (Here {n = n} {X = X} {H = H} o e) =
+    rw e (omega (arith, measure-append H X, option_smaller o))
 move_smaller (There m e) = rw e (omega (arith, move_smaller m))
 
-pub IsPosition-append : (heap : ℕ → Type 0) (X Y : List ℕ) → IsPosition heap X → IsPosition heap Y → IsPosition heap (X ++ Y)
+pub IsPosition-append : (heap : ℕ → Type 0) (X Y : List ℕ) → IsPosition heap X → IsPosition heap Y
+    → IsPosition heap (X ++ Y)
 IsPosition-append heap [] Y p q = q
 IsPosition-append heap (n ∷ X) Y p q = (p.0, IsPosition-append heap X Y p.1 q)
 
@@ -65,19 +70,25 @@ heaps_kept code n _ h (Two j a b p q e c) = (p, (q, tt))
 pub heaps_up_to_kept : (M : ℕ) (code : List ℕ) → IsKept (IsHeapUpTo M) code
 heaps_up_to_kept M code n _ h (Nothing j p e b) = tt
 heaps_up_to_kept M code n _ h (One j a p q e b) = ((q, let k = h.1 in omega arith), tt)
-heaps_up_to_kept M code n _ h (Two j a b p q e c) = ((p, let k = h.1 in omega arith), ((q, let k = h.1 in omega arith), tt))
+heaps_up_to_kept M code n _ h (Two j a b p q e c) =
+    ((p, let k = h.1 in omega arith), ((q, let k = h.1 in omega arith), tt))
 
 -- a move leads from a position to a position
-pub move_kept : (heap : ℕ → Type 0) (code : List ℕ) → IsKept heap code → {X Y : List ℕ} → Move code X Y → IsPosition heap X
+pub move_kept : (heap : ℕ → Type 0) (code : List ℕ) → IsKept heap code → {X Y : List ℕ}
+    → Move code X Y → IsPosition heap X
     → IsPosition heap Y
-move_kept heap code k (Here {n = n} {X = X} {H = H} o e) p = rw e (IsPosition-append heap H X (k n H p.0 o) p.1)
+move_kept heap code k (Here {n = n} {X = X} {H = H} o e) p =
+    rw e (IsPosition-append heap H X (k n H p.0 o) p.1)
 move_kept heap code k (There m e) p = rw e (p.0, move_kept heap code k m p.1)
 
-module _ (heap : ℕ → Type 0) (c : Claim) (m : Monoid c.order c.times) (phi_in : GivesElements heap c) where
+module _ (heap : ℕ → Type 0) (c : Claim) (m : Monoid c.order c.times)
+    (phi_in : GivesElements heap c) where
   pub value_in : (X : List ℕ) → IsPosition heap X → value c X < c.order
   value_in [] p = m.some
   value_in (n ∷ X) p = m.closed _ _ (phi_in n p.0) (value_in X p.1)
 
-  pub value-append : (X Y : List ℕ) → IsPosition heap X → IsPosition heap Y → value c (X ++ Y) ≡ c.times (value c X) (value c Y)
+  pub value-append : (X Y : List ℕ) → IsPosition heap X → IsPosition heap Y
+      → value c (X ++ Y) ≡ c.times (value c X) (value c Y)
   value-append [] Y p q = sym (m.identity _ (value_in Y q))
-  value-append (n ∷ X) Y p q = ap (c.times (c.phi n)) (value-append X Y p.1 q) ∙ sym (m.associates _ _ _ (phi_in n p.0) (value_in X p.1) (value_in Y q))
+  value-append (n ∷ X) Y p q = ap (c.times (c.phi n)) (value-append X Y p.1 q)
+      ∙ sym (m.associates _ _ _ (phi_in n p.0) (value_in X p.1) (value_in Y q))

@@ -13,36 +13,47 @@ pub record SameClaim (c d : Claim) (key_c key_d : ℕ → ℕ × ℕ) : Type 0 w
   pub phi : (n : ℕ) → IsHeap n → d.phi n ≡ c.phi n
   pub portion : (x : ℕ) → x < c.order → d.portion x ≡ c.portion x
   pub times : (x y : ℕ) → x < c.order → y < c.order → d.times x y ≡ c.times x y
-  pub words : (e : ℕ) → 0 < e → e < c.order → ((key_c e).0 ≡ (key_d e).0) × ((key_c e).1 ≡ (key_d e).1)
+  pub words : (e : ℕ) → 0 < e → e < c.order → ((key_c e).0 ≡ (key_d e).0)
+      × ((key_c e).1 ≡ (key_d e).1)
 
 -- the value of one heap alone
-pub value_of_heap : (c : Claim) → Monoid c.order c.times → (n : ℕ) → c.phi n < c.order → value c (n ∷ []) ≡ c.phi n
+pub value_of_heap : (c : Claim) → Monoid c.order c.times → (n : ℕ) → c.phi n < c.order
+    → value c (n ∷ []) ≡ c.phi n
 value_of_heap c m n l = m.commutes _ _ l m.some ∙ m.identity _ l
 
 -- Periods. The two claims have the same equalities between heaps.
 module _
-    (c d : Claim) (same : (n m : ℕ) → IsHeap n → IsHeap m → d.phi n ≡ d.phi m → c.phi n ≡ c.phi m) (s p t r : ℕ)
+    (c d : Claim) (same : (n m : ℕ) → IsHeap n → IsHeap m → d.phi n ≡ d.phi m → c.phi n ≡ c.phi m)
+    (s p t r : ℕ)
     (k : IsLeastPeriod c s p) (l : IsLeastPeriod d t r) where
   far : (i n : ℕ) → s ≤ n → c.phi (i * p + n) ≡ c.phi n
   far zero n h = let e : 0 * p + n ≡ n = omega arith in ap c.phi e
-  far (suc i) n h = let e : suc i * p + n ≡ p + (i * p + n) = omega arith in ap c.phi e ∙ k.repeats (i * p + n) (omega arith) ∙ far i n h
+  far (suc i) n h = let e : suc i * p + n ≡ p + (i * p + n) = omega arith in
+      ap c.phi e ∙ k.repeats (i * p + n) (omega arith) ∙ far i n h
 
   also_repeats : (n : ℕ) → s ≤ n → c.phi (r + n) ≡ c.phi n
   also_repeats n h =
       let e : t * p + (r + n) ≡ r + (t * p + n) = omega arith in
-      sym (far t (r + n) (omega arith)) ∙ ap c.phi e ∙ same (r + (t * p + n)) (t * p + n) (let o = k.from_one in omega arith) (let o = k.from_one in omega arith) (l.repeats (t * p + n) (past t n)) ∙ far t n h
+      sym (far t (r + n) (omega arith)) ∙ ap c.phi e ∙ same (r + (t * p + n)) (t * p + n)
+      (let o = k.from_one in omega arith) (let o = k.from_one in omega arith)
+      (l.repeats (t * p + n) (past t n)) ∙ far t n h
     where
       past : (i n : ℕ) → i ≤ i * p + n
       past zero n = omega arith
       past (suc i) n = let o = k.some in omega (arith, past i n)
 
   pub no_shorter : p ≤ r
-  no_shorter = elim (dec_le p r) [ yes q ↦ q | no f ↦ absurd (k.least r l.some (omega arith) also_repeats) ]
+  no_shorter =
+      elim (dec_le p r) [ yes q ↦ q | no f ↦ absurd (k.least r l.some (omega arith) also_repeats) ]
 
   pub no_earlier : p ≡ r → s ≤ t
   no_earlier e = elim (dec_le s t) [
     | yes q ↦ q
-    | no f ↦ absurd (k.earliest (let o = l.from_one in omega arith) (subst (λ v. c.phi (v + (s - 1)) ≡ c.phi (s - 1)) (sym e) (same (r + (s - 1)) (s - 1) (let o = l.from_one in omega arith) (let o = l.from_one in omega arith) (l.repeats (s - 1) (omega arith)))))
+    | no f ↦ absurd
+        (k.earliest (let o = l.from_one in omega arith)
+        (subst (λ v. c.phi (v + (s - 1)) ≡ c.phi (s - 1)) (sym e)
+        (same (r + (s - 1)) (s - 1) (let o = l.from_one in omega arith) (let o = l.from_one in
+        omega arith) (l.repeats (s - 1) (omega arith)))))
   ]
 
 pub KeyBelow-trans : (a b z : ℕ × ℕ) → KeyBelow a b → KeyBelow b z → KeyBelow a z
@@ -59,23 +70,28 @@ same_keys a b f g =
         | yes l ↦ absurd (g (inl l))
         | no j ↦ let e : a.0 ≡ b.0 = omega arith in elim (dec_lt a.1 b.1) [
           | yes l ↦ absurd (f (inr (e, l)))
-          | no v ↦ elim (dec_lt b.1 a.1) [ yes l ↦ absurd (g (inr (sym e, l))) | no w ↦ (e, omega arith) ]
+          | no v ↦ elim (dec_lt b.1 a.1)
+              [ yes l ↦ absurd (g (inr (sym e, l))) | no w ↦ (e, omega arith) ]
         ]
       ]
     ]
 
 -- Numbers. What one claim's least keys say of the other's.
-module _ (code : List ℕ) (c d : Claim) (rc : Represents IsHeap code c) (rd : Represents IsHeap code d) where
-  pub carries : (X Y : List ℕ) → IsPosition IsHeap X → IsPosition IsHeap Y → value c X ≡ value c Y → value d X ≡ value d Y
+module _ (code : List ℕ) (c d : Claim) (rc : Represents IsHeap code c)
+    (rd : Represents IsHeap code d) where
+  pub carries : (X Y : List ℕ) → IsPosition IsHeap X → IsPosition IsHeap Y → value c X ≡ value c Y
+      → value d X ≡ value d Y
   carries X Y p q e = (rd.indistinguishable X Y p q).0 ((rc.indistinguishable X Y p q).1 e)
 
   abbrev pub Agree : ℕ → Type 0
   Agree e = (X : List ℕ) × IsPosition IsHeap X × (value c X ≡ e) × (value d X ≡ e)
 
-  pub agree_at : (e : ℕ) → Agree e → (X : List ℕ) → IsPosition IsHeap X → value c X ≡ e → value d X ≡ e
+  pub agree_at : (e : ℕ) → Agree e → (X : List ℕ) → IsPosition IsHeap X → value c X ≡ e
+      → value d X ≡ e
   agree_at e (Y, y, p, q) X x h = carries X Y x y (h ∙ sym p) ∙ q
 
-  module _ (heaps : ℕ) (key_c key_d : ℕ → ℕ × ℕ) (nc : IsNumbered c heaps key_c) (nd : IsNumbered d heaps key_d) where
+  module _ (heaps : ℕ) (key_c key_d : ℕ → ℕ × ℕ) (nc : IsNumbered c heaps key_c)
+      (nd : IsNumbered d heaps key_d) where
     -- the position that e's key names, with e's value on the one side and no less on the other
     pub record Side (e : ℕ) : Type 0 where
       pub position : List ℕ
@@ -92,9 +108,11 @@ module _ (code : List ℕ) (c d : Claim) (rc : Represents IsHeap code c) (rd : R
         let (F, w, p, q) = agree f (nc.parent e pos l) in
         let one : IsHeap h = (nc.heap e pos l).0 in
         let here : value c (h ∷ F) ≡ e =
-        rc.monoid.commutes _ _ (rc.elements h one) (value_in IsHeap c rc.monoid rc.elements F w) ∙ ap (λ v. c.times v (c.phi h)) p ∙ nc.product e pos l in
+        rc.monoid.commutes _ _ (rc.elements h one) (value_in IsHeap c rc.monoid rc.elements F w)
+        ∙ ap (λ v. c.times v (c.phi h)) p ∙ nc.product e pos l in
         let there : value d (h ∷ F) ≡ d.times f (d.phi h) =
-        rd.monoid.commutes _ _ (rd.elements h one) (value_in IsHeap d rd.monoid rd.elements F w) ∙ ap (λ v. d.times v (d.phi h)) q in
+        rd.monoid.commutes _ _ (rd.elements h one) (value_in IsHeap d rd.monoid rd.elements F w)
+        ∙ ap (λ v. d.times v (d.phi h)) q in
         record {
           position = h ∷ F;
           counts = (one, w);
@@ -104,7 +122,9 @@ module _ (code : List ℕ) (c d : Claim) (rc : Represents IsHeap code c) (rd : R
             | yes i ↦ i
             | no g ↦
                 let (Y, y, a, b) = agree (value d (h ∷ F)) (omega arith) in
-                let same : value c (h ∷ F) ≡ value c Y = (rc.indistinguishable (h ∷ F) Y (one, w) y).0 ((rd.indistinguishable (h ∷ F) Y (one, w) y).1 (sym b)) in
+                let same : value c (h ∷ F) ≡ value c Y =
+                (rc.indistinguishable (h ∷ F) Y (one, w) y).0
+                ((rd.indistinguishable (h ∷ F) Y (one, w) y).1 (sym b)) in
                 absurd (omega arith)
           ];
           parent = subst (λ v. v < d.order) q (value_in IsHeap d rd.monoid rd.elements F w);
@@ -116,17 +136,21 @@ module _ (code : List ℕ) (c d : Claim) (rc : Represents IsHeap code c) (rd : R
         let h = (key_c e).1 in
         let v = d.times f (d.phi h) in
         let high : e ≤ v = subst (λ z. e ≤ z) w.there w.above in
-        let low : v < d.order = rd.monoid.closed f (d.phi h) w.parent (rd.elements h (nc.heap e pos l).0) in
+        let low : v < d.order =
+        rd.monoid.closed f (d.phi h) w.parent (rd.elements h (nc.heap e pos l).0) in
         let range = nc.heap e pos l in
-        let minimal : KeyBelow (f, h) (key_d v) → ⊥ = nd.least f h w.parent range.0 range.1 (omega arith) in
+        let minimal : KeyBelow (f, h) (key_d v) → ⊥ =
+        nd.least f h w.parent range.0 range.1 (omega arith) in
         elim (dec_lt e v) [
           | yes i ↦ minimal (KeyBelow-trans (f, h) (key_d e) (key_d v) b (nd.rising e v pos i low))
-          | no g ↦ let same : e ≡ v = omega arith in minimal (subst (λ z. KeyBelow (f, h) (key_d z)) same b)
+          | no g ↦ let same : e ≡ v = omega arith in
+              minimal (subst (λ z. KeyBelow (f, h) (key_d z)) same b)
         ]
 
 -- Both at once.
 module _
-    (code : List ℕ) (c d : Claim) (rc : Represents IsHeap code c) (rd : Represents IsHeap code d) (heaps : ℕ) (key_c key_d : ℕ → ℕ × ℕ)
+    (code : List ℕ) (c d : Claim) (rc : Represents IsHeap code c) (rd : Represents IsHeap code d)
+    (heaps : ℕ) (key_c key_d : ℕ → ℕ × ℕ)
     (nc : IsNumbered c heaps key_c) (nd : IsNumbered d heaps key_d) where
   swap_sides : {e : ℕ} → Agree code c d rc rd e → Agree code d c rd rc e
   swap_sides (X, w, p, q) = (X, w, q, p)
@@ -136,14 +160,24 @@ module _
   agree_within (suc t) e h l = elim (eq-zero-or-pos e) [
     | inl z ↦ ([], tt, sym z, sym z)
     | inr pos ↦
-        let smaller : (i : ℕ) → i < e → Agree code c d rc rd i = λ i g. agree_within t i (omega arith) (omega arith) in
+        let smaller : (i : ℕ) → i < e → Agree code c d rc rd i =
+        λ i g. agree_within t i (omega arith) (omega arith) in
         let a = one_side code c d rc rd heaps key_c key_d nc nd e pos l smaller in
-        let below : e < d.order = let v = value_in IsHeap d rd.monoid rd.elements a.position a.counts in let u = a.above in omega arith in
-        let b = one_side code d c rd rc heaps key_d key_c nd nc e pos below (λ i g. swap_sides (smaller i g)) in
+        let below : e < d.order = let v =
+        value_in IsHeap d rd.monoid rd.elements a.position a.counts in let u = a.above in
+        omega arith in
+        let b =
+        one_side code d c rd rc heaps key_d key_c nd nc e pos below
+        (λ i g. swap_sides (smaller i g)) in
         let keys = same_keys (key_c e) (key_d e)
         (key_not_below code c d rc rd heaps key_c key_d nc nd e pos l a)
-        (key_not_below code d c rd rc heaps key_d key_c nd nc e pos below b) in
-        (a.position, a.counts, a.here, a.there ∙ ap₂ (λ x y. d.times x (d.phi y)) keys.0 keys.1 ∙ nd.product e pos below)
+        (key_not_below code d c rd rc heaps key_d key_c nd nc e pos below b) in (
+          a.position,
+          a.counts,
+          a.here,
+          a.there ∙ ap₂ (λ x y. d.times x (d.phi y)) keys.0 keys.1
+              ∙ nd.product e pos below,
+        )
   ]
 
   pub agree : (e : ℕ) → e < c.order → Agree code c d rc rd e
@@ -152,14 +186,18 @@ module _
   pub order_le : c.order ≤ d.order
   order_le = elim (dec_le c.order d.order) [
     | yes i ↦ i
-    | no f ↦ let (X, w, p, q) = agree d.order (omega arith) in let v = value_in IsHeap d rd.monoid rd.elements X w in absurd (omega arith)
+    | no f ↦ let (X, w, p, q) = agree d.order (omega arith) in let v =
+        value_in IsHeap d rd.monoid rd.elements X w in absurd (omega arith)
   ]
 
   pub same_value : (X : List ℕ) → IsPosition IsHeap X → value d X ≡ value c X
-  same_value X w = agree_at code c d rc rd (value c X) (agree (value c X) (value_in IsHeap c rc.monoid rc.elements X w)) X w refl
+  same_value X w =
+      agree_at code c d rc rd (value c X)
+      (agree (value c X) (value_in IsHeap c rc.monoid rc.elements X w)) X w refl
 
   pub same_phi : (n : ℕ) → IsHeap n → d.phi n ≡ c.phi n
-  same_phi n h = sym (value_of_heap d rd.monoid n (rd.elements n h)) ∙ same_value (n ∷ []) (h, tt) ∙ value_of_heap c rc.monoid n (rc.elements n h)
+  same_phi n h = sym (value_of_heap d rd.monoid n (rd.elements n h)) ∙ same_value (n ∷ []) (h, tt)
+      ∙ value_of_heap c rc.monoid n (rc.elements n h)
 
   pub same_portion : (e : ℕ) → e < c.order → d.portion e ≡ c.portion e
   same_portion e l =
@@ -172,14 +210,19 @@ module _
   same_times x y i j =
       let (X, w, p, q) = agree x i in
       let (Y, v, r, s) = agree y j in
-      ap₂ d.times (sym q) (sym s) ∙ sym (value-append IsHeap d rd.monoid rd.elements X Y w v) ∙ same_value (X ++ Y) (IsPosition-append IsHeap X Y w v) ∙ value-append IsHeap c rc.monoid rc.elements X Y w v ∙ ap₂ c.times p r
+      ap₂ d.times (sym q) (sym s) ∙ sym (value-append IsHeap d rd.monoid rd.elements X Y w v)
+      ∙ same_value (X ++ Y) (IsPosition-append IsHeap X Y w v)
+      ∙ value-append IsHeap c rc.monoid rc.elements X Y w v ∙ ap₂ c.times p r
 
-  pub same_word : (e : ℕ) → 0 < e → e < c.order → (e < d.order) × (((key_c e).0 ≡ (key_d e).0) × ((key_c e).1 ≡ (key_d e).1))
+  pub same_word : (e : ℕ) → 0 < e → e < c.order
+      → (e < d.order) × (((key_c e).0 ≡ (key_d e).0) × ((key_c e).1 ≡ (key_d e).1))
   same_word e pos l =
       let smaller : (i : ℕ) → i < e → Agree code c d rc rd i = λ i g. agree i (omega arith) in
       let a = one_side code c d rc rd heaps key_c key_d nc nd e pos l smaller in
       let below : e < d.order = let o = order_le in omega arith in
-      let b = one_side code d c rd rc heaps key_d key_c nd nc e pos below (λ i g. swap_sides (smaller i g)) in (
+      let b =
+      one_side code d c rd rc heaps key_d key_c nd nc e pos below
+      (λ i g. swap_sides (smaller i g)) in (
         below,
         same_keys (key_c e) (key_d e)
             (key_not_below code c d rc rd heaps key_c key_d nc nd e pos l a)
@@ -187,15 +230,20 @@ module _
       )
 
 -- heaps with one element in the one claim have one in the other
-pub same_heaps : (code : List ℕ) (c d : Claim) → Represents IsHeap code c → Represents IsHeap code d → (n m : ℕ) → IsHeap n → IsHeap m
+pub same_heaps : (code : List ℕ) (c d : Claim) → Represents IsHeap code c → Represents IsHeap code d
+    → (n m : ℕ) → IsHeap n → IsHeap m
     → d.phi n ≡ d.phi m → c.phi n ≡ c.phi m
 same_heaps code c d rc rd n m h k e =
     sym (value_of_heap c rc.monoid n (rc.elements n h))
-    ∙ (rc.indistinguishable (n ∷ []) (m ∷ []) (h, tt) (k, tt)).0 ((rd.indistinguishable (n ∷ []) (m ∷ []) (h, tt) (k, tt)).1 (value_of_heap d rd.monoid n (rd.elements n h) ∙ e ∙ sym (value_of_heap d rd.monoid m (rd.elements m k))))
+    ∙ (rc.indistinguishable (n ∷ []) (m ∷ []) (h, tt) (k, tt)).0
+    ((rd.indistinguishable (n ∷ []) (m ∷ []) (h, tt) (k, tt)).1
+    (value_of_heap d rd.monoid n (rd.elements n h) ∙ e
+    ∙ sym (value_of_heap d rd.monoid m (rd.elements m k))))
     ∙ value_of_heap c rc.monoid m (rc.elements m k)
 
 -- start and period are the same
-pub same_period : (code : List ℕ) (c d : Claim) → Represents IsHeap code c → Represents IsHeap code d → (s p t r : ℕ) → IsLeastPeriod c s p
+pub same_period : (code : List ℕ) (c d : Claim) → Represents IsHeap code c
+    → Represents IsHeap code d → (s p t r : ℕ) → IsLeastPeriod c s p
     → IsLeastPeriod d t r → (s ≡ t) × (p ≡ r)
 same_period code c d rc rd s p t r k l =
     let one = same_heaps code c d rc rd in
@@ -209,7 +257,8 @@ same_period code c d rc rd s p t r k l =
 
 -- the elements, phi, portion, product and keys are the same
 pub same_claim : (code : List ℕ) (c d : Claim) → Represents IsHeap code c → Represents IsHeap code d
-    → (s p t r : ℕ) (key_c key_d : ℕ → ℕ × ℕ) → IsLeastPeriod c s p → IsLeastPeriod d t r → IsNumbered c (s + p - 1) key_c
+    → (s p t r : ℕ) (key_c key_d : ℕ → ℕ × ℕ) → IsLeastPeriod c s p → IsLeastPeriod d t r
+    → IsNumbered c (s + p - 1) key_c
     → IsNumbered d (t + r - 1) key_d → SameClaim c d key_c key_d
 same_claim code c d rc rd s p t r key_c key_d k l nc nd =
     let (e, f) = same_period code c d rc rd s p t r k l in

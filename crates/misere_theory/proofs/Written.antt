@@ -25,15 +25,19 @@ place-late s p n h = rw (le-ltb n (s + p) h)
 place-below : (s p n : ℕ) → 1 ≤ p → place s p n < s + p
 place-below s p n o = elim (dec_lt n (s + p)) [
   | yes l ↦ rw (place-early s p n l) l
-  | no f ↦ rw (place-late s p n (omega arith)) (let m : (n - s) % p < p = mod-lt (n - s) o in omega arith)
+  | no f ↦ rw (place-late s p n (omega arith)) (let m : (n - s) % p < p = mod-lt (n - s) o in
+      omega arith)
 ]
 
 place-repeats : (s p n : ℕ) → 1 ≤ p → s ≤ n → place s p (p + n) ≡ place s p n
 place-repeats s p n o h =
     let e : p + n - s ≡ p + (n - s) = omega arith in
-    let up : place s p (p + n) ≡ s + (n - s) % p = place-late s p (p + n) (omega arith) ∙ ap (λ v. s + v % p) e ∙ ap (λ v. s + v) (add-mod_left p (n - s)) in
+    let up : place s p (p + n) ≡ s + (n - s) % p =
+    place-late s p (p + n) (omega arith) ∙ ap (λ v. s + v % p) e
+    ∙ ap (λ v. s + v) (add-mod_left p (n - s)) in
     elim (dec_lt n (s + p)) [
-      | yes l ↦ up ∙ ap (λ v. s + v) (mod-eq_of_lt (omega arith)) ∙ (let f : s + (n - s) ≡ n = omega arith in f) ∙ sym (place-early s p n l)
+      | yes l ↦ up ∙ ap (λ v. s + v) (mod-eq_of_lt (omega arith))
+          ∙ (let f : s + (n - s) ≡ n = omega arith in f) ∙ sym (place-early s p n l)
       | no f ↦ up ∙ sym (place-late s p n (omega arith))
     ]
 
@@ -47,14 +51,21 @@ module _ (c : Certificate) (r : InRanges c) where
   entry_in (suc i) l = All-get_or (λ x. x < c.order) c.phi i 0 (omega arith) r.phi.1
 
   pub phi_in : (n : ℕ) → (claim_of c).phi n < (claim_of c).order
-  phi_in n = subst (λ v. v < c.order) (sym (phi_by_place n)) (entry_in _ (let o = place-below c.start c.period n r.period.0 in let e = r.phi.0 in omega arith))
+  phi_in n =
+      subst (λ v. v < c.order) (sym (phi_by_place n))
+      (entry_in _ (let o = place-below c.start c.period n r.period.0 in let e = r.phi.0 in
+      omega arith))
 
   -- an entry of the phi line is phi of its heap
   pub entry_at : (i : ℕ) → i < length c.phi → phi_at c (suc i) ≡ get_or c.phi i 0
-  entry_at i l = phi_by_place (suc i) ∙ ap (λ j. get_or (0 ∷ c.phi) j 0) (place-early c.start c.period (suc i) (let e = r.phi.0 in omega arith))
+  entry_at i l =
+      phi_by_place (suc i) ∙ ap (λ j. get_or (0 ∷ c.phi) j 0)
+      (place-early c.start c.period (suc i) (let e = r.phi.0 in omega arith))
 
   pub repeats : (n : ℕ) → c.start ≤ n → phi_at c (c.period + n) ≡ phi_at c n
-  repeats n h = phi_by_place (c.period + n) ∙ ap (λ i. get_or (0 ∷ c.phi) i 0) (place-repeats c.start c.period n r.period.0 h) ∙ sym (phi_by_place n)
+  repeats n h =
+      phi_by_place (c.period + n) ∙ ap (λ i. get_or (0 ∷ c.phi) i 0)
+      (place-repeats c.start c.period n r.period.0 h) ∙ sym (phi_by_place n)
 
   pub periodic : IsPeriodic c.code (claim_of c) (length c.code - 1) c.start c.period
   periodic = record {
@@ -65,7 +76,8 @@ module _ (c : Certificate) (r : InRanges c) where
   }
 
   -- by their keys all elements are values
-  pub reached_within : (m : Monoid c.order (times_of c)) → IsNumbered (claim_of c) (c.start + c.period - 1) (key_of c) → (t x : ℕ) → x < t
+  pub reached_within : (m : Monoid c.order (times_of c))
+      → IsNumbered (claim_of c) (c.start + c.period - 1) (key_of c) → (t x : ℕ) → x < t
       → x < c.order → (X : List ℕ) × IsPosition IsHeap X × (value (claim_of c) X ≡ x)
   reached_within m k zero x h l = absurd (omega arith)
   reached_within m k (suc t) x h l = elim (eq-zero-or-pos x) [
@@ -75,33 +87,40 @@ module _ (c : Certificate) (r : InRanges c) where
         let (F, w, e) = reached_within m k t (key_of c x).0 (omega arith) (omega arith) in (
           (key_of c x).1 ∷ F,
           ((k.heap x pos l).0, w),
-          ap (times_of c (phi_at c (key_of c x).1)) e ∙ m.commutes _ _ (phi_in _) (omega arith) ∙ k.product x pos l,
+          ap (times_of c (phi_at c (key_of c x).1)) e ∙ m.commutes _ _ (phi_in _) (omega arith)
+              ∙ k.product x pos l,
         )
   ]
 
-  pub reached : (m : Monoid c.order (times_of c)) → IsNumbered (claim_of c) (c.start + c.period - 1) (key_of c) → (x : ℕ) → x < c.order
+  pub reached : (m : Monoid c.order (times_of c))
+      → IsNumbered (claim_of c) (c.start + c.period - 1) (key_of c) → (x : ℕ) → x < c.order
       → (X : List ℕ) × IsPosition IsHeap X × (value (claim_of c) X ≡ x)
   reached m k x l = reached_within m k (suc x) x (omega arith) l
 
 -- the parts of a list of pairs that is joined
-zip_split : {A B : Type 0} (R : A → B → Type 0) (xs ys : List A) (zs : List B) → AllZip R (xs ++ ys) zs
+zip_split : {A B : Type 0} (R : A → B → Type 0) (xs ys : List A) (zs : List B)
+    → AllZip R (xs ++ ys) zs
     → (us : List B) × (vs : List B) × AllZip R xs us × AllZip R ys vs
 zip_split R [] ys zs h = ([], zs, tt, h)
 zip_split R (x ∷ xs) ys [] h = absurd h
-zip_split R (x ∷ xs) ys (z ∷ zs) h = let (us, vs, a, b) = zip_split R xs ys zs h.1 in (z ∷ us, vs, (h.0, a), b)
+zip_split R (x ∷ xs) ys (z ∷ zs) h = let (us, vs, a, b) = zip_split R xs ys zs h.1 in
+    (z ∷ us, vs, (h.0, a), b)
 
 module _ (R : ℕ × ℕ → ℕ → Type 0) where
-  pair_at : (x y n : ℕ) (zs : List ℕ) → AllZip R (pairs_with x y n) zs → (k : ℕ) → k < n → (z : ℕ) × R (x, y + k) z
+  pair_at : (x y n : ℕ) (zs : List ℕ) → AllZip R (pairs_with x y n) zs → (k : ℕ) → k < n
+      → (z : ℕ) × R (x, y + k) z
   pair_at x y zero zs h k l = absurd (omega arith)
   pair_at x y (suc n) [] h k l = absurd h
-  pair_at x y (suc n) (z ∷ zs) h zero l = let e : y ≡ y + 0 = omega arith in (z, subst (λ v. R (x, v) z) e h.0)
+  pair_at x y (suc n) (z ∷ zs) h zero l = let e : y ≡ y + 0 = omega arith in
+      (z, subst (λ v. R (x, v) z) e h.0)
   pair_at x y (suc n) (z ∷ zs) h (suc k) l =
       let (w, g) = pair_at x (y + 1) n zs h.1 k (omega arith) in
       let e : y + 1 + k ≡ y + suc k = omega arith in
       (w, subst (λ v. R (x, v) w) e g)
 
   -- each two numbers from x on stand in the list of pairs
-  pub pair_of : (x n : ℕ) (zs : List ℕ) → AllZip R (pairs_from x n) zs → (a b : ℕ) → x ≤ a → a < b → b < x + n → (z : ℕ) × R (a, b) z
+  pub pair_of : (x n : ℕ) (zs : List ℕ) → AllZip R (pairs_from x n) zs → (a b : ℕ) → x ≤ a → a < b
+      → b < x + n → (z : ℕ) × R (a, b) z
   pair_of x zero zs h a b i j l = absurd (omega arith)
   pair_of x (suc n) zs h a b i j l =
       let (us, vs, p, q) = zip_split R (pairs_with x (x + 1) n) (pairs_from (x + 1) n) zs h in
@@ -115,7 +134,9 @@ module _ (R : ℕ × ℕ → ℕ → Type 0) where
       ]
 
 -- the written elements tell each two apart
-pub all_apart : (c : Certificate) → AllZip (LeastApart (claim_of c)) (pairs_from 0 c.order) c.apart → AllApart (claim_of c)
+pub all_apart : (c : Certificate) → AllZip (LeastApart (claim_of c)) (pairs_from 0 c.order) c.apart
+    → AllApart (claim_of c)
 all_apart c h x y l below =
-    let (z, g) = pair_of (LeastApart (claim_of c)) 0 c.order c.apart h x y (omega arith) l (omega arith) in
+    let (z, g) =
+    pair_of (LeastApart (claim_of c)) 0 c.order c.apart h x y (omega arith) l (omega arith) in
     (z, g.0, g.1)

@@ -14,7 +14,8 @@ WordFault c =
     (e : ℕ) × (0 < e) × (e < c.order)
     × ((e ≤ (key_of c e).0) ⊎ (times_of c (key_of c e).0 (phi_at c (key_of c e).1) ≢ e))
 
--- Fault 4: two keys in a row don't rise, or an element and a heap whose product is above 0 come before the key of the product.
+-- Fault 4: two keys in a row don't rise, or an element and a heap whose product is above 0 come
+-- before the key of the product.
 abbrev pub OrderFault : Certificate → Type 0
 OrderFault c =
     ((e : ℕ) × (0 < e) × (e + 1 < c.order) × (KeyBelow (key_of c e) (key_of c (e + 1)) → ⊥))
@@ -22,14 +23,17 @@ OrderFault c =
     × (0 < times_of c f (phi_at c h))
     × KeyBelow (f, h) (key_of c (times_of c f (phi_at c h))))
 
--- Fault 5: a smaller period serves from start on, or the period serves from the heap before start on.
+-- Fault 5: a smaller period serves from start on, or the period serves from the heap before start
+-- on.
 abbrev pub PeriodFault : Certificate → Type 0
 PeriodFault c =
     ((r : ℕ) × (1 ≤ r) × (r < c.period) × ((n : ℕ) → c.start ≤ n → phi_at c (r + n) ≡ phi_at c n))
     ⊎ ((1 < c.start) × (phi_at c (c.period + (c.start - 1)) ≡ phi_at c (c.start - 1)))
 
--- Fault 6: beside some pair of elements stands another number than the least element that tells it apart.
+-- Fault 6: beside some pair of elements stands another number than the least element that tells it
+-- apart.
 abbrev pub ApartFault : Certificate → Type 0
 ApartFault c =
     (i : ℕ) × (i < length (pairs_from 0 c.order))
-    × (LeastApart (claim_of c) (slice_index_or (pairs_from 0 c.order) i (0, 0)) (slice_index c.apart i) → ⊥)
+    × (LeastApart (claim_of c) (slice_index_or (pairs_from 0 c.order) i (0, 0))
+    (slice_index c.apart i) → ⊥)

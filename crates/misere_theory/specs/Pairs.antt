@@ -1,6 +1,6 @@
--- Transition pairs, which are a value and some values of options: when a list of them speaks for every position.
--- Transition pairs make up the transition algebra of the literature (Plambeck and Siegel; Siegel). Covers, closed lists and what is asked
--- of them are this project's own.
+-- Transition pairs, which are a value and some values of options: when a list of them speaks for
+-- every position. Transition pairs make up the transition algebra of the literature (Plambeck and
+-- Siegel; Siegel). Covers, closed lists and what is asked of them are this project's own.
 use Rattle.std.specs.Prelude.{◌≡◌, ℕ, ◌+◌, ◌*◌, ◌≤◌, ◌<◌, ◌⊎◌, ◌↔◌, true, false, List, [], ◌∷◌, Contains}
 use Rattle.misere_theory.specs.Games.{digit}
 use Rattle.misere_theory.specs.Quotients.{Claim, value, OptionValue, HeapOptionValue}
@@ -19,7 +19,8 @@ pub record IsPairOf (code : List ℕ) (c : Claim) (p : Pair) (X : List ℕ) : Ty
   pub same_value : p.value ≡ value c X
   pub options : (x : ℕ) → Contains p.options x ↔ OptionValue code c X x
 
--- p covers X: it has the value of X, and some of the values of X's options, at least one where X has an option.
+-- p covers X: it has the value of X, and some of the values of X's options, at least one where X
+-- has an option.
 pub record Covers (code : List ℕ) (c : Claim) (p : Pair) (X : List ℕ) : Type 0 where
   pub same_value : p.value ≡ value c X
   pub among : (x : ℕ) → Contains p.options x → OptionValue code c X x
@@ -43,19 +44,24 @@ pub record CoversProduct (code : List ℕ) (c : Claim) (p : Pair) (n : ℕ) (q :
   pub among : (x : ℕ) → Contains p.options x → ProductValue code c n q x
   pub some : (x : ℕ) → ProductValue code c n q x → (y : ℕ) × Contains p.options y
 
--- The kept pairs cover the empty position, and the product of each of these heaps with each of them.
-pub record IsClosed (code : List ℕ) (c : Claim) (heaps : ℕ → Type 0) (kept : List Pair) : Type 0 where
-  pub start : (p : Pair) × Contains kept p × Covers code c p []
-  pub step : (q : Pair) → Contains kept q → (n : ℕ) → heaps n → (p : Pair) × Contains kept p × CoversProduct code c p n q
+-- The kept pairs cover the empty position, and the product of each of these heaps with each of
+-- them.
+pub record IsClosed (code : List ℕ) (c : Claim) (heaps : ℕ → Type 0) (kept : List Pair) : Type 0
+  where
+    pub start : (p : Pair) × Contains kept p × Covers code c p []
+    pub step : (q : Pair) → Contains kept q → (n : ℕ) → heaps n → (p : Pair) × Contains kept p
+        × CoversProduct code c p n q
 
--- Each kept pair obeys the rule: outside the portion, if it has options' values, one is in the portion; inside it has one.
--- That none of them is in the portion then is for ElementsObey.
+-- Each kept pair obeys the rule: outside the portion, if it has options' values, one is in the
+-- portion; inside it has one. That none of them is in the portion then is for ElementsObey.
 pub record KeptObey (c : Claim) (kept : List Pair) : Type 0 where
   pub outside : (p : Pair) → Contains kept p → c.portion p.value ≡ false
       → (x : ℕ) → Contains p.options x → (y : ℕ) × Contains p.options y × (c.portion y ≡ true)
-  pub inside : (p : Pair) → Contains kept p → c.portion p.value ≡ true → (x : ℕ) × Contains p.options x
+  pub inside : (p : Pair) → Contains kept p
+      → c.portion p.value ≡ true → (x : ℕ) × Contains p.options x
 
--- No option of one of these heaps leads from the portion into it, whatever element stands beside the heap.
+-- No option of one of these heaps leads from the portion into it, whatever element stands beside
+-- the heap.
 abbrev pub ElementsObey : List ℕ → Claim → (ℕ → Type 0) → Type 0
 ElementsObey code c heaps =
     (n h y : ℕ) → heaps n → HeapOptionValue code c n h → y < c.order
@@ -75,7 +81,8 @@ heap_bound k start period = 2 * start + 2 * period + k
 
 -- The heaps n and m have the same pair: the same element and the same values of options.
 abbrev pub SameHeapPair : List ℕ → Claim → ℕ → ℕ → Type 0
-SameHeapPair code c n m = (c.phi n ≡ c.phi m) × ((x : ℕ) → HeapOptionValue code c n x ↔ HeapOptionValue code c m x)
+SameHeapPair code c n m =
+    (c.phi n ≡ c.phi m) × ((x : ℕ) → HeapOptionValue code c n x ↔ HeapOptionValue code c m x)
 
 -- Where two heaps are left, the smaller stands first, and it is below the bound.
 abbrev pub IsSmallSplit : ℕ → List ℕ → Type 0

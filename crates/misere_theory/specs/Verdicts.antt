@@ -31,22 +31,25 @@ HasFault c Apart = ApartFault c
 -- The fault is in the certificate, and none with a smaller number is.
 abbrev pub IsFirstFault : Certificate → Fault → Type 0
 IsFirstFault c fault =
-    HasFault c fault × ((other : Fault) → fault_number other < fault_number fault → HasFault c other → ⊥)
+    HasFault c fault × ((other : Fault) → fault_number other < fault_number fault → HasFault c other
+    → ⊥)
 
--- The answers to a certificate whose text could be read: yes, a fault in its numbers, a position where the rule fails,
--- or too many transition pairs.
+-- The answers to a certificate whose text could be read: yes, a fault in its numbers, a position
+-- where the rule fails, or too many transition pairs.
 pub data Verdict : Type 0 where
   Yes : Verdict
   No : Fault → Verdict
   Outcome : List ℕ → Verdict
   Limit : Verdict
 
--- Which answers are true of a certificate in its ranges: yes where it is accepted; a fault where it is the first; and for a canonical
--- certificate of a monoid a position where the rule fails, or that positions have more than limit different transition pairs.
+-- Which answers are true of a certificate in its ranges: yes where it is accepted; a fault where it
+-- is the first; and for a canonical certificate of a monoid a position where the rule fails, or
+-- that positions have more than limit different transition pairs.
 abbrev pub IsAllowed : Certificate → ℕ → Verdict → Type 0
 IsAllowed c limit Yes = Accepted c
 IsAllowed c limit (No fault) = IsFirstFault c fault
 IsAllowed c limit (Outcome X) =
-    Monoid c.order (times_of c) × Canonical c × IsPosition IsHeap X × RuleFails c.code (claim_of c) X
+    Monoid c.order (times_of c) × Canonical c × IsPosition IsHeap X
+    × RuleFails c.code (claim_of c) X
 IsAllowed c limit Limit =
     Monoid c.order (times_of c) × Canonical c × ReachesMoreThan IsHeap c.code (claim_of c) limit

@@ -1,4 +1,5 @@
-//! Laws of certificates: what their faults exclude, what makes one accepted, and which answers are true of it.
+//! Laws of certificates: what their faults exclude, what makes one accepted, and which answers are
+//! true of it.
 
 ghost use Rattle.std.specs.Prelude.{◌≡◌, ◌⊎◌, ◌<◌, ◌≤◌, ◌+◌, ◌-◌, ◌*◌, ◌^◌, List, ℕ, length};
 ghost use Rattle.misere_theory.specs.Certificates.{Certificate, phi_at, times_of, IsSpelled, claim_of, InRanges, Canonical, Accepted};
@@ -9,7 +10,8 @@ ghost use Rattle.misere_theory.specs.Quotients.{Monoid, Represents, RuleFails, v
 ghost use Rattle.misere_theory.specs.Verdicts.{Fault, HasFault, Verdict, IsAllowed};
 ghost use Rattle.misere_theory.specs.Verdicts.Verdict.{Yes, No, Outcome, Limit};
 
-/// The three laws, tested at all elements, make the table of a certificate in its ranges a commutative monoid.
+/// The three laws, tested at all elements, make the table of a certificate in its ranges a
+/// commutative monoid.
 pub fn tested_tables_are_monoids()
     ensures { (c : Certificate)
         → InRanges c
@@ -35,7 +37,8 @@ pub fn faultless_certificates_are_canonical()
     ensures no_apart_fault { (c : Certificate) → InRanges c → Canonical c → ApartFault c → ⊥ }
 {}
 
-/// A certificate in its ranges has no fault exactly where it is canonical and its table a commutative monoid.
+/// A certificate in its ranges has no fault exactly where it is canonical and its table a
+/// commutative monoid.
 pub fn faultless_certificates_are_canonical_monoids()
     ensures both { (c : Certificate)
         → InRanges c
@@ -48,9 +51,11 @@ pub fn faultless_certificates_are_canonical_monoids()
         → (fault : Fault) → HasFault c fault → ⊥ }
 {}
 
-/// The position that an element's keys spell has the element as its value, and each element's keys spell one.
+/// The position that an element's keys spell has the element as its value, and each element's keys
+/// spell one.
 pub fn keys_spell_positions()
-    ensures some { (c : Certificate) → Canonical c → (e : ℕ) → e < c.order → (X : List ℕ) × IsSpelled c e X }
+    ensures some { (c : Certificate) → Canonical c → (e : ℕ) → e < c.order
+        → (X : List ℕ) × IsSpelled c e X }
     ensures value { (c : Certificate) (e : ℕ) (X : List ℕ)
         → InRanges c
         → Monoid c.order (times_of c)
@@ -60,7 +65,8 @@ pub fn keys_spell_positions()
         → IsPosition IsHeap X × (value (claim_of c) X ≡ e) }
 {}
 
-/// A number that serves as a period for as many heaps in a row as the period from start on serves for all heaps from start on.
+/// A number that serves as a period for as many heaps in a row as the period from start on serves
+/// for all heaps from start on.
 pub fn periods_show_at_once()
     ensures { (c : Certificate) (r : ℕ)
         → InRanges c
@@ -74,14 +80,16 @@ pub fn tested_certificates_are_accepted()
         → InRanges c
         → Monoid c.order (times_of c)
         → Canonical c
-        → IsClosed c.code (claim_of c) (IsHeapUpTo (heap_bound (length c.code - 1) c.start c.period)) kept
+        → IsClosed c.code (claim_of c)
+        (IsHeapUpTo (heap_bound (length c.code - 1) c.start c.period)) kept
         → KeptObey (claim_of c) kept
-        → ElementsObey c.code (claim_of c) (IsHeapUpTo (heap_bound (length c.code - 1) c.start c.period))
+        → ElementsObey c.code (claim_of c)
+        (IsHeapUpTo (heap_bound (length c.code - 1) c.start c.period))
         → Accepted c }
 {}
 
-/// A canonical certificate of a monoid is accepted exactly where the rule fails at no position; so it is accepted, or the rule fails at
-/// a position.
+/// A canonical certificate of a monoid is accepted exactly where the rule fails at no position; so
+/// it is accepted, or the rule fails at a position.
 pub fn accepted_certificates_obey_the_rule()
     ensures obeys { (c : Certificate) → Accepted c
         → (X : List ℕ) → IsPosition IsHeap X → RuleFails c.code (claim_of c) X → ⊥ }
@@ -98,8 +106,9 @@ pub fn accepted_certificates_obey_the_rule()
         → Accepted c ⊎ ((X : List ℕ) × IsPosition IsHeap X × RuleFails c.code (claim_of c) X) }
 {}
 
-/// Accepted certificates get yes or Limit; canonical ones of a monoid that isn't the quotient Outcome or Limit;
-/// a certificate with a fault its first fault alone; and no certificate gets Limit where the limit is order * 2 ^ order or more.
+/// Accepted certificates get yes or Limit; canonical ones of a monoid that isn't the quotient
+/// Outcome or Limit; a certificate with a fault its first fault alone; and no certificate gets
+/// Limit where the limit is order * 2 ^ order or more.
 pub fn true_answers_are_few()
     ensures accepted { (c : Certificate) (limit : ℕ) (answer : Verdict)
         → Accepted c

@@ -9,13 +9,16 @@ pub fn outcomes_are_determined()
     ensures either { (code X : List ℕ) → IsP code X ⊎ IsN code X }
     ensures not_both { (code X : List ℕ) → IsP code X → IsN code X → ⊥ }
     ensures falls { (code X Y : List ℕ) → Move code X Y → measure Y < measure X }
-    ensures stays { (code X Y : List ℕ) → Move code X Y → IsPosition IsHeap X → IsPosition IsHeap Y }
+    ensures stays { (code X Y : List ℕ) → Move code X Y → IsPosition IsHeap X
+        → IsPosition IsHeap Y }
 {}
 
 /// The order of a position's heaps does not matter: to its moves, its outcome and its value.
 pub fn order_does_not_matter()
-    ensures moves { (code X Y Z : List ℕ) → Move code X Y → IsPermutation Y Z → MultisetMove code X Z }
-    ensures back { (code X Z : List ℕ) → MultisetMove code X Z → (Y : List ℕ) × Move code X Y × IsPermutation Y Z }
+    ensures moves { (code X Y Z : List ℕ) → Move code X Y → IsPermutation Y Z
+        → MultisetMove code X Z }
+    ensures back { (code X Z : List ℕ) → MultisetMove code X Z → (Y : List ℕ) × Move code X Y
+        × IsPermutation Y Z }
     ensures outcome { (code X Y : List ℕ) → IsPermutation X Y → IsP code X → IsP code Y }
     ensures value { (c : Claim) (X Y : List ℕ)
         → Monoid c.order c.times
@@ -34,16 +37,20 @@ pub fn heap_moves_lead_to_one_position()
 /// A move of a sum is a move of one part.
 pub fn sums_move_in_one_part()
     ensures parts { (code X Y Z : List ℕ) → Move code (X ++ Y) Z
-        → ((U : List ℕ) × Move code X U × (Z ≡ U ++ Y)) ⊎ ((U : List ℕ) × Move code Y U × (Z ≡ X ++ U)) }
+        → ((U : List ℕ) × Move code X U × (Z ≡ U ++ Y))
+        ⊎ ((U : List ℕ) × Move code Y U × (Z ≡ X ++ U)) }
     ensures left { (code X U Y : List ℕ) → Move code X U → Move code (X ++ Y) (U ++ Y) }
     ensures right { (code X Y U : List ℕ) → Move code Y U → Move code (X ++ Y) (X ++ U) }
 {}
 
-/// Indistinguishability is an equivalence that sums respect, and the order of the parts of a sum does not matter to it.
+/// Indistinguishability is an equivalence that sums respect, and the order of the parts of a sum
+/// does not matter to it.
 pub fn sums_respect_indistinguishability()
     ensures itself { (code X : List ℕ) → Indistinguishable IsHeap code X X }
-    ensures turned { (code X Y : List ℕ) → Indistinguishable IsHeap code X Y → Indistinguishable IsHeap code Y X }
-    ensures onward { (code X Y Z : List ℕ) → Indistinguishable IsHeap code X Y → Indistinguishable IsHeap code Y Z → Indistinguishable IsHeap code X Z }
+    ensures turned { (code X Y : List ℕ) → Indistinguishable IsHeap code X Y
+        → Indistinguishable IsHeap code Y X }
+    ensures onward { (code X Y Z : List ℕ) → Indistinguishable IsHeap code X Y
+        → Indistinguishable IsHeap code Y Z → Indistinguishable IsHeap code X Z }
     ensures sums { (code X U Y V : List ℕ)
         → IsPosition IsHeap U
         → IsPosition IsHeap Y

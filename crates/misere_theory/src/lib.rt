@@ -1,7 +1,8 @@
-//! The theory of misère quotients of octal games: its definitions, and its laws, each the contract of a function that does nothing.
+//! The theory of misère quotients of octal games: its definitions, and its laws, each the contract
+//! of a function that does nothing.
 //!
-//! Nothing runs here. A law is a function so that the check proves its statement; other crates cite the definitions in their contracts
-//! and the lemmas in their proofs.
+//! Nothing runs here. A law is a function so that the check proves its statement; other crates cite
+//! the definitions in their contracts and the lemmas in their proofs.
 //!
 //! | Folder | What stands there |
 //! |---|---|
@@ -9,8 +10,10 @@
 //! | `specs/Quotients` | claims, monoids, values, the misère quotient, the local rule |
 //! | `specs/Pairs` | transition pairs, covers, closed lists, the bound on heaps |
 //! | `specs/Numbering` | least periods, least keys |
-//! | `specs/Certificates` | the numbers of a certificate, their ranges, when it is canonical and accepted |
-//! | `specs/Faults`, `specs/Verdicts` | each fault of a certificate, and which answers are true of it |
+//! | `specs/Certificates` | the numbers of a certificate, their ranges, when it is canonical and
+//! accepted |
+//! | `specs/Faults`, `specs/Verdicts` | each fault of a certificate, and which answers are true of
+//! it |
 //! | `specs/Plays` | reachable positions, first winning moves, plays that answer by them |
 //! | `src/` | the laws, by the same topics |
 //! | `proofs/` | the lemmas, a file for each idea, and beside them a folder for each law |

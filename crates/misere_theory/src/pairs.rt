@@ -26,15 +26,16 @@ pub fn heaps_are_bounded()
         → (m : ℕ) × IsHeapUpTo (heap_bound k start period) m × SameHeapPair code c n m }
 {}
 
-/// Of the splits of a heap those whose smaller part is below start + period show all values, and each of the others comes after
-/// one of them with its value.
+/// Of the splits of a heap those whose smaller part is below start + period show all values, and
+/// each of the others comes after one of them with its value.
 pub fn small_parts_are_enough()
     ensures values { (code : List ℕ) (c : Claim) (k start period : ℕ)
         → IsPeriodic code c k start period
         → Monoid c.order c.times
         → GivesElements IsHeap c
         → (n : ℕ) (H : List ℕ) → HeapOption code n H
-        → (L : List ℕ) × HeapOption code n L × IsSmallSplit (start + period) L × (value c L ≡ value c H) }
+        → (L : List ℕ) × HeapOption code n L × IsSmallSplit (start + period) L
+        × (value c L ≡ value c H) }
     ensures first { (code : List ℕ) (c : Claim) (k start period : ℕ)
         → IsPeriodic code c k start period
         → (n : ℕ) (H : List ℕ) → HeapOption code n H
@@ -124,7 +125,8 @@ pub fn rule_holds_or_fails_somewhere()
         ⊎ ((X : List ℕ) × IsPosition IsHeap X × RuleFails code c X) }
 {}
 
-/// Different pairs, each exactly that of a position, show that positions have more than any smaller number of pairs.
+/// Different pairs, each exactly that of a position, show that positions have more than any smaller
+/// number of pairs.
 pub fn different_pairs_are_counted()
     ensures { (code : List ℕ) (c : Claim) (n : ℕ) (pair : ℕ → Pair) (word : ℕ → List ℕ)
         → ((i : ℕ) → i < n → IsPairOf code c (pair i) (word i))

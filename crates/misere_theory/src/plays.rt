@@ -7,8 +7,10 @@ ghost use Rattle.misere_theory.specs.Plays.{Reachable, IsWinningMove, IsFirstWin
 /// Moves, one after another, reach positions, whatever the order of their heaps.
 pub fn moves_reach_positions()
     ensures by_a_move { (code X Y : List ℕ) → Move code X Y → Reachable code X Y }
-    ensures onward { (code X Y Z : List ℕ) → Reachable code X Y → Reachable code Y Z → Reachable code X Z }
-    ensures stays { (code X Y : List ℕ) → Reachable code X Y → IsPosition IsHeap X → IsPosition IsHeap Y }
+    ensures onward { (code X Y Z : List ℕ) → Reachable code X Y → Reachable code Y Z
+        → Reachable code X Z }
+    ensures stays { (code X Y : List ℕ) → Reachable code X Y → IsPosition IsHeap X
+        → IsPosition IsHeap Y }
 {}
 
 /// An N-position with a move has one first winning move, and a P-position has no winning move.
@@ -17,7 +19,8 @@ pub fn first_wins_are_settled()
         → ((Y : List ℕ) → Move code X Y → ⊥) ⊎ ((n : ℕ) × (H : List ℕ) × IsFirstWin code X n H) }
     ensures one { (code X : List ℕ) (n m : ℕ) (H L : List ℕ)
         → IsFirstWin code X n H → IsFirstWin code X m L → (n ≡ m) × (H ≡ L) }
-    ensures only_there { (code X : List ℕ) (n : ℕ) (H : List ℕ) → IsWinningMove code X n H → IsN code X }
+    ensures only_there { (code X : List ℕ) (n : ℕ) (H : List ℕ) → IsWinningMove code X n H
+        → IsN code X }
 {}
 
 /// Whoever hands over a P-position, and answers each move by the first winning one, wins.

@@ -6,7 +6,8 @@ ghost use Rattle.misere_theory.specs.Quotients.{Claim, Monoid, LawFails, AllApar
 
 /// A product that stays below the order is a commutative monoid exactly where no law fails.
 pub fn laws_fail_or_hold()
-    ensures never_both { (order : ℕ) (times : ℕ → ℕ → ℕ) → Monoid order times → LawFails order times → ⊥ }
+    ensures never_both { (order : ℕ) (times : ℕ → ℕ → ℕ) → Monoid order times → LawFails order times
+        → ⊥ }
     ensures no_failure { (order : ℕ) (times : ℕ → ℕ → ℕ)
         → 0 < order
         → ((x y : ℕ) → x < order → y < order → times x y < order)
@@ -22,11 +23,14 @@ pub fn rule_predicts()
     ensures back { (code : List ℕ) (c : Claim)
         → ((X : List ℕ) → IsPosition IsHeap X → IsP code X ↔ (c.portion (value c X) ≡ true))
         → (X : List ℕ) → IsPosition IsHeap X → RuleHolds code c X }
-    ensures decided { (code : List ℕ) (c : Claim) (X : List ℕ) → RuleHolds code c X ⊎ RuleFails code c X }
-    ensures fails { (code : List ℕ) (c : Claim) (X : List ℕ) → RuleHolds code c X → RuleFails code c X → ⊥ }
+    ensures decided { (code : List ℕ) (c : Claim) (X : List ℕ)
+        → RuleHolds code c X ⊎ RuleFails code c X }
+    ensures fails { (code : List ℕ) (c : Claim) (X : List ℕ) → RuleHolds code c X
+        → RuleFails code c X → ⊥ }
 {}
 
-/// Where the rule fails at a position, the portion mispredicts its outcome or that of one of its options.
+/// Where the rule fails at a position, the portion mispredicts its outcome or that of one of its
+/// options.
 pub fn failed_rules_mispredict()
     ensures { (code : List ℕ) (c : Claim) (X : List ℕ)
         → RuleFails code c X

@@ -24,21 +24,29 @@ same m n e = grind (arith, nat_tests)
 
 -- the number of the triple x, y, z
 pub holds-at : (q : ℕ) (rows : List ℕ) (x y z : ℕ) → y < q → z < q
-    → triple_holds q rows ((x * q + y) * q + z) ≡ (pair_holds q rows x y && groups_alike q rows x y z)
+    → triple_holds q rows ((x * q + y) * q + z)
+    ≡ (pair_holds q rows x y && groups_alike q rows x y z)
 unfolding triple_holds
 holds-at q rows x y z hy hz =
-    rw (div-mul-add (x * q + y) q z hz, mod-mul-add (x * q + y) q z hz, div-mul-add x q y hy, mod-mul-add x q y hy)
+    rw (
+      div-mul-add (x * q + y) q z hz,
+      mod-mul-add (x * q + y) q z hz,
+      div-mul-add x q y hy,
+      mod-mul-add x q y hy,
+    )
 
 pub number-below : (q x y z : ℕ) → x < q → y < q → z < q → (x * q + y) * q + z < triples q
 number-below q x y z hx hy hz =
-    subst (λ n. (x * q + y) * q + z < n) (mul_comm q (q * q)) (mul-add-lt (x * q + y) q z (q * q) (mul-add-lt x q y q hx hy) hz)
+    subst (λ n. (x * q + y) * q + z < n) (mul_comm q (q * q))
+    (mul-add-lt (x * q + y) q z (q * q) (mul-add-lt x q y q hx hy) hz)
 
 record Holding (q : ℕ) (rows : List ℕ) (x y z : ℕ) : Type 0 where
   identity : entry q rows 0 x ≡ x
   commutes : entry q rows x y ≡ entry q rows y x
   associates : entry q rows (entry q rows x y) z ≡ entry q rows x (entry q rows y z)
 
-all-below : (q : ℕ) (rows : List ℕ) (spent : ℕ) → HasLookedAt q rows spent false → (i : ℕ) → i < spent → triple_holds q rows i ≡ true
+all-below : (q : ℕ) (rows : List ℕ) (spent : ℕ) → HasLookedAt q rows spent false → (i : ℕ)
+    → i < spent → triple_holds q rows i ≡ true
 all-below q rows spent h i lt = elim (cases_lt (i + 1) spent) [
   | inl less ↦ h.passed i less
   | inr past ↦
@@ -46,9 +54,13 @@ all-below q rows spent h i lt = elim (cases_lt (i + 1) spent) [
       subst (λ n. triple_holds q rows n ≡ true) e (h.last refl (omega arith))
 ]
 
-holding : (q : ℕ) (rows : List ℕ) → HasLookedAt q rows (triples q) false → (x y z : ℕ) → x < q → y < q → z < q → Holding q rows x y z
+holding : (q : ℕ) (rows : List ℕ) → HasLookedAt q rows (triples q) false → (x y z : ℕ) → x < q
+    → y < q → z < q → Holding q rows x y z
 holding q rows h x y z hx hy hz =
-    let all = and-true _ _ (sym (holds-at q rows x y z hy hz) ∙ all-below q rows (triples q) h _ (number-below q x y z hx hy hz)) in
+    let all =
+    and-true _ _
+    (sym (holds-at q rows x y z hy hz) ∙ all-below q rows (triples q) h _
+    (number-below q x y z hx hy hz)) in
     let pair = and-true _ _ all.0 in
     record { identity = same _ _ pair.0; commutes = same _ _ pair.1; associates = same _ _ all.1 }
 
@@ -68,7 +80,8 @@ is-table q rows h =
     }
 
 -- a law failed
-pub is-breach : (q : ℕ) (rows : List ℕ) (spent : ℕ) → HasLookedAt q rows spent true → LawFails q (entry q rows)
+pub is-breach : (q : ℕ) (rows : List ℕ) (spent : ℕ) → HasLookedAt q rows spent true
+    → LawFails q (entry q rows)
 unfolding triple_holds
 is-breach q rows spent h =
     let i = spent - 1 in
@@ -86,32 +99,40 @@ is-breach q rows spent h =
       | inr bad ↦ Identity x x_in bad
       | inl one ↦ elim (cases_eq (entry q rows x y) (entry q rows y x)) [
         | inr bad ↦ Commutativity x y x_in y_in bad
-        | inl two ↦ elim (cases_eq (entry q rows (entry q rows x y) z) (entry q rows x (entry q rows y z))) [
-          | inr bad ↦ Associativity x y z x_in y_in z_in bad
-          | inl three ↦ absurd (contradicts _ _ _ _ _ _ one two three failed.1)
-        ]
+        | inl two ↦ elim
+            (cases_eq (entry q rows (entry q rows x y) z) (entry q rows x (entry q rows y z))) [
+              | inr bad ↦ Associativity x y z x_in y_in z_in bad
+              | inl three ↦ absurd (contradicts _ _ _ _ _ _ one two three failed.1)
+            ]
       ]
     ]
   where
-    contradicts : (a b c d e f : ℕ) → a ≡ b → c ≡ d → e ≡ f → (((a == b) && (c == d)) && (e == f)) ≡ false → ⊥
+    contradicts : (a b c d e f : ℕ) → a ≡ b → c ≡ d → e ≡ f
+        → (((a == b) && (c == d)) && (e == f)) ≡ false → ⊥
     contradicts a b c d e f one two three bad = grind (arith, nat_tests)
 
 -- where a law fails there is no monoid
 pub failure-refutes : (q : ℕ) (times : ℕ → ℕ → ℕ) → LawFails q times → Monoid q times → ⊥
 failure-refutes q times (Identity x x_in bad) m = bad (m.identity x x_in)
 failure-refutes q times (Commutativity x y x_in y_in bad) m = bad (m.commutes x y x_in y_in)
-failure-refutes q times (Associativity x y z x_in y_in z_in bad) m = bad (m.associates x y z x_in y_in z_in)
+failure-refutes q times (Associativity x y z x_in y_in z_in bad) m =
+    bad (m.associates x y z x_in y_in z_in)
 
 -- the triples of a run have the same x and y
-pub holds-in-run : (q : ℕ) (rows : List ℕ) (spent i : ℕ) → 0 < q → spent ≤ i → i < spent + (q - spent % q)
-    → triple_holds q rows i ≡ (pair_holds q rows (spent / q / q) (spent / q % q) && groups_alike q rows (spent / q / q) (spent / q % q) (spent % q + (i - spent)))
+pub holds-in-run : (q : ℕ) (rows : List ℕ) (spent i : ℕ) → 0 < q → spent ≤ i
+    → i < spent + (q - spent % q)
+    → triple_holds q rows i
+    ≡ (pair_holds q rows (spent / q / q) (spent / q % q) && groups_alike q rows (spent / q / q)
+    (spent / q % q) (spent % q + (i - spent)))
 holds-in-run q rows spent i some from before =
     let pair = spent / q in
     let z = spent % q in
     let low : z < q = mod_below spent q some in
     let e : (pair / q * q + pair % q) * q + (z + (i - spent)) ≡ i =
-    ap (λ p. p * q + (z + (i - spent))) (div-add-mod' pair q) ∙ placed (pair * q) z spent i (div-add-mod' spent q) from in
-    sym (ap (triple_holds q rows) e) ∙ holds-at q rows (pair / q) (pair % q) (z + (i - spent)) (mod_below pair q some) (omega arith)
+    ap (λ p. p * q + (z + (i - spent))) (div-add-mod' pair q)
+    ∙ placed (pair * q) z spent i (div-add-mod' spent q) from in
+    sym (ap (triple_holds q rows) e) ∙ holds-at q rows (pair / q) (pair % q) (z + (i - spent))
+    (mod_below pair q some) (omega arith)
   where
     placed : (p z spent i : ℕ) → p + z ≡ spent → spent ≤ i → p + (z + (i - spent)) ≡ i
     placed p z spent i e from = omega arith
@@ -122,16 +143,19 @@ run-within q spent some below =
     let pair = spent / q in
     let whole = div-add-mod' spent q in
     let low : spent % q < q = mod_below spent q some in
-    let most : pair * q + q ≤ q * q * q = row-most pair q (q * q) (div_below spent q (q * q) some below) in
+    let most : pair * q + q ≤ q * q * q =
+    row-most pair q (q * q) (div_below spent q (q * q) some below) in
     omega arith
   where
     row-most : (p q h : ℕ) → p < h → p * q + q ≤ h * q
-    row-most p q h lt = omega (arith, mul-le (p + 1) q h q (omega arith) (omega arith), add-mul p 1 q)
+    row-most p q h lt =
+        omega (arith, mul-le (p + 1) q h q (omega arith) (omega arith), add-mul p 1 q)
 
 -- up to stop, all triples of the pair hold
 pub run-passed : (q : ℕ) (rows : List ℕ) (spent stop : ℕ) → 0 < q → stop ≤ q
     → pair_holds q rows (spent / q / q) (spent / q % q) ≡ true
-    → ((z : ℕ) → spent % q ≤ z → z < stop → groups_alike q rows (spent / q / q) (spent / q % q) z ≡ true)
+    → ((z : ℕ) → spent % q ≤ z → z < stop → groups_alike q rows (spent / q / q) (spent / q % q) z
+    ≡ true)
     → (i : ℕ) → spent ≤ i → i < spent + (stop - spent % q) → triple_holds q rows i ≡ true
 run-passed q rows spent stop some to_in pair alike i from before =
     holds-in-run q rows spent i some from (omega arith)
@@ -143,41 +167,54 @@ pub run-breach : (q : ℕ) (rows : List ℕ) (spent stop : ℕ) → 0 < q → st
 run-breach q rows spent stop some stop_in from breach =
     let e : spent % q + (spent + (stop - spent % q) - spent) ≡ stop = omega arith in
     holds-in-run q rows spent (spent + (stop - spent % q)) some (omega arith) (omega arith)
-    ∙ ap (λ z. pair_holds q rows (spent / q / q) (spent / q % q) && groups_alike q rows (spent / q / q) (spent / q % q) z) e
-    ∙ ap (λ b. pair_holds q rows (spent / q / q) (spent / q % q) && b) breach ∙ and-false (pair_holds q rows (spent / q / q) (spent / q % q))
+    ∙ ap (λ z. pair_holds q rows (spent / q / q) (spent / q % q)
+    && groups_alike q rows (spent / q / q) (spent / q % q) z) e
+    ∙ ap (λ b. pair_holds q rows (spent / q / q) (spent / q % q) && b) breach
+    ∙ and-false (pair_holds q rows (spent / q / q) (spent / q % q))
   where
     and-false : (b : Bool) → (b && false) ≡ false
     and-false true = refl
     and-false false = refl
 
-pub pair-breach : (q : ℕ) (rows : List ℕ) (spent : ℕ) → pair_holds q rows (spent / q / q) (spent / q % q) ≡ false → triple_holds q rows spent ≡ false
+pub pair-breach : (q : ℕ) (rows : List ℕ) (spent : ℕ)
+    → pair_holds q rows (spent / q / q) (spent / q % q) ≡ false → triple_holds q rows spent ≡ false
 unfolding triple_holds
-pair-breach q rows spent breach = ap (λ b. b && groups_alike q rows (spent / q / q) (spent / q % q) (spent % q)) breach
+pair-breach q rows spent breach =
+    ap (λ b. b && groups_alike q rows (spent / q / q) (spent / q % q) (spent % q)) breach
 
 -- what `Ok true` says
-pub finished : (q : ℕ) (rows : List ℕ) (spent : ℕ) (refused : Bool) → HasLookedAt q rows spent refused
-    → answer_of (record { grid = record { order = q; entries = rows }; spent = spent; refused = refused }) ≡ Ok true → IsTable q rows
+pub finished : (q : ℕ) (rows : List ℕ) (spent : ℕ) (refused : Bool)
+    → HasLookedAt q rows spent refused
+    → answer_of
+    (record { grid = record { order = q; entries = rows }; spent = spent; refused = refused })
+    ≡ Ok true → IsTable q rows
 finished q rows spent true h e = absurd (cc)
 finished q rows spent false h e =
     let all : spent ≡ triples q = same spent (triples q) (cc) in
     is-table q rows (subst (λ n. HasLookedAt q rows n false) all h)
 
 -- all triples looked at, none failed
-pub looked-at-all : (q : ℕ) (rows : List ℕ) (spent : ℕ) (refused : Bool) (all : ℕ) → HasLookedAt q rows spent refused
+pub looked-at-all : (q : ℕ) (rows : List ℕ) (spent : ℕ) (refused : Bool) (all : ℕ)
+    → HasLookedAt q rows spent refused
     → refused ≡ false → all ≡ triples q → (spent == all) ≡ true → IsTable q rows
 looked-at-all q rows spent refused all h going e over =
-    is-table q rows (subst (λ n. HasLookedAt q rows n false) (same spent all over ∙ e) (subst (λ b. HasLookedAt q rows spent b) going h))
+    is-table q rows
+    (subst (λ n. HasLookedAt q rows n false) (same spent all over ∙ e)
+    (subst (λ b. HasLookedAt q rows spent b) going h))
 
 -- a failure was seen
-pub looked-at-failure : (q : ℕ) (rows : List ℕ) (spent : ℕ) (refused : Bool) → HasLookedAt q rows spent refused → refused ≡ true → LawFails q (entry q rows)
-looked-at-failure q rows spent refused h e = is-breach q rows spent (subst (λ b. HasLookedAt q rows spent b) e h)
+pub looked-at-failure : (q : ℕ) (rows : List ℕ) (spent : ℕ) (refused : Bool)
+    → HasLookedAt q rows spent refused → refused ≡ true → LawFails q (entry q rows)
+looked-at-failure q rows spent refused h e =
+    is-breach q rows spent (subst (λ b. HasLookedAt q rows spent b) e h)
 
 -- the triples of the greatest order are counted in 64 bits
 pub triples-most : (q : ℕ) → q ≤ 256 → triples q ≤ 16777216
 triples-most q small = mul-le (q * q) q (256 * 256) 256 (mul-le q q 256 256 small small) small
 
 -- a monoid passes at every triple
-pub monoid-holds : (q : ℕ) (rows : List ℕ) → Monoid q (entry q rows) → (i : ℕ) → i < triples q → triple_holds q rows i ≡ true
+pub monoid-holds : (q : ℕ) (rows : List ℕ) → Monoid q (entry q rows) → (i : ℕ) → i < triples q
+    → triple_holds q rows i ≡ true
 unfolding triple_holds
 monoid-holds q rows m i below =
     let some = m.some in
@@ -185,7 +222,9 @@ monoid-holds q rows m i below =
     let x_in = div_below (i / q) q q some pair_in in
     let y_in = mod_below (i / q) q some in
     let z_in = mod_below i q some in
-    together _ _ _ _ _ _ (m.identity _ x_in) (m.commutes _ _ x_in y_in) (m.associates _ _ _ x_in y_in z_in)
+    together _ _ _ _ _ _ (m.identity _ x_in) (m.commutes _ _ x_in y_in)
+    (m.associates _ _ _ x_in y_in z_in)
   where
-    together : (a b c d e f : ℕ) → a ≡ b → c ≡ d → e ≡ f → (((a == b) && (c == d)) && (e == f)) ≡ true
+    together : (a b c d e f : ℕ) → a ≡ b → c ≡ d → e ≡ f
+        → (((a == b) && (c == d)) && (e == f)) ≡ true
     together a b c d e f one two three = grind (arith, nat_tests)

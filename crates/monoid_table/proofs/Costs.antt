@@ -36,18 +36,22 @@ turns-taken (suc n) s = elim (over-or-not s) [
   | inr on ↦
       let e = ap (λ t. t.spent) (turn-going s on) in
       let m = more-spent n (turn s) in
-      let d : (turns n (turn s)).spent - s.spent ≡ suc ((turns n (turn s)).spent - (turn s).spent) = omega arith in
+      let d : (turns n (turn s)).spent - s.spent ≡ suc ((turns n (turn s)).spent - (turn s).spent) =
+      omega arith in
       ap (λ k. turns k s) d ∙ turns-taken n (turn s)
 ]
 
 -- and none of them is taken after the end
-pub turns-not-over : (n k : ℕ) (s : JobState) → s.spent + k < (turns n s).spent → is_over (turns k s) ≡ false
+pub turns-not-over : (n k : ℕ) (s : JobState) → s.spent + k < (turns n s).spent
+    → is_over (turns k s) ≡ false
 turns-not-over n k s l = elim (over-or-not (turns k s)) [
   | inr on ↦ on
   | inl over ↦ elim (dec_lt k n) [
     | yes b ↦
         let d : k + (n - k) ≡ n = omega arith in
-        let e : turns n s ≡ turns k s = ap (λ m. turns m s) (sym d) ∙ (turns-add k (n - k) s ∙ turns-over (n - k) (turns k s) over) in
+        let e : turns n s ≡ turns k s =
+        ap (λ m. turns m s) (sym d)
+        ∙ (turns-add k (n - k) s ∙ turns-over (n - k) (turns k s) over) in
         let f = ap (λ t. t.spent) e in
         let m = (turns-spend k s).0 in
         absurd (omega arith)
@@ -55,7 +59,8 @@ turns-not-over n k s l = elim (over-or-not (turns k s)) [
   ]
 ]
 
-pub turns-left : (n : ℕ) (s : JobState) → (turns n s).spent < s.spent + n → is_over (turns n s) ≡ true
+pub turns-left : (n : ℕ) (s : JobState) → (turns n s).spent < s.spent + n
+    → is_over (turns n s) ≡ true
 turns-left n s l = elim (over-or-not (turns n s)) [
   | inl over ↦ over
   | inr on ↦ let e = (turns-spend n s).1 on in absurd (omega arith)
@@ -69,7 +74,8 @@ run-first : (n : ℕ) (g : Grid) (broken : Bool) → 0 < n → n ≤ triples g.o
 run-first n g broken some within passed last =
     let e : 0 + n ≡ n = omega arith in
     let d : 0 + n - 1 ≡ n - 1 = omega arith in
-    turns-run n g 0 broken some (omega arith) (λ i a b. passed i (omega arith)) (ap (triple_holds g.order g.entries) d ∙ last)
+    turns-run n g 0 broken some (omega arith) (λ i a b. passed i (omega arith))
+    (ap (triple_holds g.order g.entries) d ∙ last)
     ∙ ap (λ k. state g k broken) e
 
 module _ (g : Grid) where
@@ -96,10 +102,25 @@ module _ (g : Grid) where
     failed : first < i + n → holds first ≡ false
 
   first-none : (i : ℕ) → IsFirst i 0 (first_failing g i 0)
-  first-none i = subst (IsFirst i 0) (sym (none-there i)) (record { from = omega arith; within = omega arith; passed = λ k a b. absurd (omega arith); failed = λ l. absurd (omega arith) })
+  first-none i =
+      subst (IsFirst i 0) (sym (none-there i))
+      (record {
+        from = omega arith;
+        within = omega arith;
+        passed = λ k a b. absurd (omega arith);
+        failed = λ l. absurd (omega arith);
+      })
 
-  first-more : (i n : ℕ) → IsFirst (i + 1) n (first_failing g (i + 1) n) → (b : Bool) → holds i ≡ b → IsFirst i (suc n) (first_failing g i (suc n))
-  first-more i n h false e = subst (IsFirst i (suc n)) (sym (failed-here i n e)) (record { from = omega arith; within = omega arith; passed = λ k a b. absurd (omega arith); failed = λ l. e })
+  first-more : (i n : ℕ) → IsFirst (i + 1) n (first_failing g (i + 1) n) → (b : Bool) → holds i ≡ b
+      → IsFirst i (suc n) (first_failing g i (suc n))
+  first-more i n h false e =
+      subst (IsFirst i (suc n)) (sym (failed-here i n e))
+      (record {
+        from = omega arith;
+        within = omega arith;
+        passed = λ k a b. absurd (omega arith);
+        failed = λ l. e;
+      })
   first-more i n h true e =
       let a = h.from in
       let b = h.within in
@@ -127,7 +148,9 @@ module _ (g : Grid) where
   passed-all (suc n) l =
       let h = passing-first in
       let w = h.within in
-      run-first (suc n) g false (omega arith) (omega arith) (λ i b. h.passed i (omega arith) (omega arith)) (h.passed (suc n - 1) (omega arith) (omega arith))
+      run-first (suc n) g false (omega arith) (omega arith)
+      (λ i b. h.passed i (omega arith) (omega arith))
+      (h.passed (suc n - 1) (omega arith) (omega arith))
 
   over-at-all : (n : ℕ) → n ≡ triples g.order → is_over (state g n false) ≡ true
   over-at-all n e = grind (arith, nat_tests)
@@ -151,7 +174,8 @@ module _ (g : Grid) where
           broken = true;
           count_is = omega arith;
           reached =
-              turns-next (passing g) (fresh g) ∙ ap turn (passed-all (passing g) (omega arith)) ∙ turn-going (state g (passing g) false) (going g (passing g) l)
+              turns-next (passing g) (fresh g) ∙ ap turn (passed-all (passing g) (omega arith))
+              ∙ turn-going (state g (passing g) false) (going g (passing g) l)
               ∙ ap (λ b. state g (passing g + 1) (not b)) (h.failed (omega arith));
           over = refl;
           all = λ e. absurd (cc);
@@ -171,21 +195,26 @@ module _ (g : Grid) where
         }
   ]
 
-  before-the-end : (n : ℕ) → n < ending.count → (turns n (fresh g) ≡ state g n false) × (n ≤ passing g) × (n < triples g.order)
+  before-the-end : (n : ℕ) → n < ending.count → (turns n (fresh g) ≡ state g n false)
+      × (n ≤ passing g) × (n < triples g.order)
   before-the-end n l =
       let e = ending.count_is in
       (passed-all n (omega arith), omega arith, omega arith)
 
-  behind-the-end : (n : ℕ) → ending.count ≤ n → turns n (fresh g) ≡ state g ending.count ending.broken
+  behind-the-end : (n : ℕ) → ending.count ≤ n
+      → turns n (fresh g) ≡ state g ending.count ending.broken
   behind-the-end n l =
       let d : ending.count + (n - ending.count) ≡ n = omega arith in
       ap (λ m. turns m (fresh g)) (sym d) ∙ (turns-add ending.count (n - ending.count) (fresh g)
-      ∙ (ap (turns (n - ending.count)) ending.reached ∙ turns-over (n - ending.count) (state g ending.count ending.broken) ending.over))
+      ∙ (ap (turns (n - ending.count)) ending.reached
+      ∙ turns-over (n - ending.count) (state g ending.count ending.broken) ending.over))
 
   pub cost-spent : (n : ℕ) → (turns n (fresh g)).spent ≡ min n (table_cost g)
   cost-spent n = elim (dec_lt n ending.count) [
-    | yes l ↦ (let a = ap (λ t. t.spent) (before-the-end n l).0 in let e = ending.count_is in omega arith)
-    | no l ↦ (let a = ap (λ t. t.spent) (behind-the-end n (omega arith)) in let e = ending.count_is in omega arith)
+    | yes l ↦ (let a = ap (λ t. t.spent) (before-the-end n l).0 in let e = ending.count_is in
+        omega arith)
+    | no l ↦ (let a = ap (λ t. t.spent) (behind-the-end n (omega arith)) in let e = ending.count_is
+        in omega arith)
   ]
 
   pub cost-over : (n : ℕ) → (is_over (turns n (fresh g)) ≡ true) ↔ (table_cost g ≤ n)
@@ -200,7 +229,8 @@ module _ (g : Grid) where
         (λ over. omega arith, λ m. ap is_over a ∙ ending.over)
   ]
 
-  pub cost-refused : (n : ℕ) → ((turns n (fresh g)).refused ≡ true) ↔ (passing g < min n (triples g.order))
+  pub cost-refused : (n : ℕ) → ((turns n (fresh g)).refused ≡ true)
+      ↔ (passing g < min n (triples g.order))
   cost-refused n = elim (dec_lt n ending.count) [
     | yes l ↦
         let (a, p, t) = before-the-end n l in
@@ -210,9 +240,12 @@ module _ (g : Grid) where
         by_broken ending.broken refl a (omega arith)
   ]
     where
-      by_broken : (b : Bool) → ending.broken ≡ b → (turns n (fresh g)).refused ≡ ending.broken → ending.count ≤ n → ((turns n (fresh g)).refused ≡ true) ↔ (passing g < min n (triples g.order))
+      by_broken : (b : Bool) → ending.broken ≡ b → (turns n (fresh g)).refused ≡ ending.broken
+          → ending.count ≤ n → ((turns n (fresh g)).refused ≡ true)
+          ↔ (passing g < min n (triples g.order))
       by_broken true e a l = let (below, count) = ending.some e in (λ r. omega arith, λ m. a ∙ e)
-      by_broken false e a l = let whole = ending.all e in (λ r. absurd (clash _ r (a ∙ e)), λ m. absurd (omega arith))
+      by_broken false e a l = let whole = ending.all e in
+          (λ r. absurd (clash _ r (a ∙ e)), λ m. absurd (omega arith))
 
   pub first-passes : (i : ℕ) → i < passing g → holds i ≡ true
   first-passes i l = passing-first.passed i (omega arith) l
@@ -230,13 +263,18 @@ module _ (g : Grid) where
       broken = λ b. absurd (cc);
     }
 
-    failure-looked : passing g < triples g.order → HasLookedAt g.order g.entries (passing g + 1) true
+    failure-looked : passing g < triples g.order
+        → HasLookedAt g.order g.entries (passing g + 1) true
     failure-looked l = record {
       shaped = shaped;
       within = omega arith;
       passed = λ i m. first-passes i (omega arith);
       last = λ b. absurd (cc);
-      broken = λ b. (omega arith, let e : passing g + 1 - 1 ≡ passing g = omega arith in ap holds e ∙ first-fails l);
+      broken = λ b. (
+        omega arith,
+        let e : passing g + 1 - 1 ≡ passing g = omega arith in
+            ap holds e ∙ first-fails l,
+      );
     }
 
     pub cost-some : 0 < table_cost g
@@ -250,7 +288,8 @@ module _ (g : Grid) where
     cost-table = (
       λ e. is-table g.order g.entries (all-looked e),
       λ t. elim (dec_lt (passing g) (triples g.order)) [
-        | yes l ↦ absurd (clash _ (monoid-holds g.order g.entries t.monoid (passing g) l) (first-fails l))
+        | yes l ↦ absurd
+            (clash _ (monoid-holds g.order g.entries t.monoid (passing g) l) (first-fails l))
         | no l ↦ (let w = passing-first.within in omega arith)
       ],
     )
@@ -259,9 +298,12 @@ module _ (g : Grid) where
     cost-no-table l = is-breach g.order g.entries (passing g + 1) (failure-looked l)
 
 -- a job that has looked so far is so many turns from the start
-pub looked-turns : (g : Grid) (spent : ℕ) (refused : Bool) → HasLookedAt g.order g.entries spent refused → state g spent refused ≡ turns spent (fresh g)
+pub looked-turns : (g : Grid) (spent : ℕ) (refused : Bool)
+    → HasLookedAt g.order g.entries spent refused → state g spent refused ≡ turns spent (fresh g)
 unfolding turns
 looked-turns g zero true h = absurd (let b = h.broken refl in omega arith)
 looked-turns g zero false h = refl
-looked-turns g (suc n) false h = sym (run-first (suc n) g false (omega arith) h.within h.passed (h.last refl (omega arith)))
-looked-turns g (suc n) true h = sym (run-first (suc n) g true (omega arith) h.within h.passed (h.broken refl).1)
+looked-turns g (suc n) false h =
+    sym (run-first (suc n) g false (omega arith) h.within h.passed (h.last refl (omega arith)))
+looked-turns g (suc n) true h =
+    sym (run-first (suc n) g true (omega arith) h.within h.passed (h.broken refl).1)

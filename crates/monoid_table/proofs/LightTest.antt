@@ -6,13 +6,15 @@ use Rattle.misere_theory.specs.Quotients.{Monoid}
 use Rattle.monoid_table.specs.Grids.{IsShaped, entry}
 use Rattle.monoid_table.specs.Light.{StaysBelow, AssociatesAt, IsComposite, IsGenerator, HoldsAtPairs, GeneratorsAssociate}
 
-pub product-associates : (q : ℕ) (times : ℕ → ℕ → ℕ) → StaysBelow q times → (v w : ℕ) → v < q → w < q
+pub product-associates : (q : ℕ) (times : ℕ → ℕ → ℕ) → StaysBelow q times → (v w : ℕ) → v < q
+    → w < q
     → AssociatesAt q times v → AssociatesAt q times w → AssociatesAt q times (times v w)
 product-associates q times stays v w hv hw at_v at_w = λ x z hx hz.
     ap (λ u. times u z) (sym (at_v x w hx hw)) ∙ at_w (times x v) z (stays x v hx hv) hz
     ∙ at_v x (times w z) hx (stays w z hw hz) ∙ ap (times x) (sym (at_w v z hv hz))
 
-some-or-none : (P : ℕ → Type 0) → ((k : ℕ) → P k ⊎ (P k → ⊥)) → (n : ℕ) → ((k : ℕ) × (k < n) × P k) ⊎ ((k : ℕ) → k < n → P k → ⊥)
+some-or-none : (P : ℕ → Type 0) → ((k : ℕ) → P k ⊎ (P k → ⊥)) → (n : ℕ) → ((k : ℕ) × (k < n) × P k)
+    ⊎ ((k : ℕ) → k < n → P k → ⊥)
 some-or-none P each zero = inr (λ k less p. absurd (omega arith))
 some-or-none P each (suc n) = elim (some-or-none P each n) [
   | inl some ↦ let less : some.0 < suc n = omega arith in inl (some.0, less, some.2)
@@ -26,12 +28,15 @@ some-or-none P each (suc n) = elim (some-or-none P each n) [
 ]
 
 composite-or-generator : (times : ℕ → ℕ → ℕ) (y : ℕ) → IsComposite times y ⊎ IsGenerator times y
-composite-or-generator times y = elim (some-or-none (λ u. (v : ℕ) × (v < y) × (times u v ≡ y)) in_row y) [
-  | inl s ↦ inl (record { left = s.0; right = s.2.0; left_less = s.1; right_less = s.2.1; is = s.2.2 })
-  | inr none ↦ inr (λ c. none c.left c.left_less (c.right, c.right_less, c.is))
-]
+composite-or-generator times y =
+    elim (some-or-none (λ u. (v : ℕ) × (v < y) × (times u v ≡ y)) in_row y) [
+      | inl s ↦ inl
+          (record { left = s.0; right = s.2.0; left_less = s.1; right_less = s.2.1; is = s.2.2 })
+      | inr none ↦ inr (λ c. none c.left c.left_less (c.right, c.right_less, c.is))
+    ]
   where
-    in_row : (u : ℕ) → ((v : ℕ) × (v < y) × (times u v ≡ y)) ⊎ (((v : ℕ) × (v < y) × (times u v ≡ y)) → ⊥)
+    in_row : (u : ℕ) → ((v : ℕ) × (v < y) × (times u v ≡ y))
+        ⊎ (((v : ℕ) × (v < y) × (times u v ≡ y)) → ⊥)
     in_row u = elim (some-or-none (λ v. times u v ≡ y) (λ v. cases_eq (times u v) y) y) [
       | inl some ↦ inl some
       | inr none ↦ inr (λ s. none s.0 s.1 s.2)
@@ -48,7 +53,9 @@ all-below q times stays generators (suc n) y less hy = elim (composite-or-genera
       let nl : c.left < n = omega arith in
       let nr : c.right < n = omega arith in
       subst (λ u. AssociatesAt q times u) c.is
-      (product-associates q times stays c.left c.right hl hr (all-below q times stays generators n c.left nl hl) (all-below q times stays generators n c.right nr hr))
+      (product-associates q times stays c.left c.right hl hr
+      (all-below q times stays generators n c.left nl hl)
+      (all-below q times stays generators n c.right nr hr))
   | inr g ↦ generators y hy g
 ]
 
@@ -62,9 +69,11 @@ all-associate q times stays generators y hy =
 -- the identity in the middle
 one-associates : (q : ℕ) (times : ℕ → ℕ → ℕ) → 0 < q → HoldsAtPairs q times → AssociatesAt q times 0
 one-associates q times some pairs = λ x z hx hz.
-    ap (λ u. times u z) (pairs.commutes x 0 hx some ∙ pairs.identity x hx) ∙ ap (times x) (sym (pairs.identity z hz))
+    ap (λ u. times u z) (pairs.commutes x 0 hx some ∙ pairs.identity x hx)
+    ∙ ap (times x) (sym (pairs.identity z hz))
 
-pub is-monoid : (q : ℕ) (times : ℕ → ℕ → ℕ) → 0 < q → StaysBelow q times → HoldsAtPairs q times → GeneratorsAssociate q times → Monoid q times
+pub is-monoid : (q : ℕ) (times : ℕ → ℕ → ℕ) → 0 < q → StaysBelow q times → HoldsAtPairs q times
+    → GeneratorsAssociate q times → Monoid q times
 is-monoid q times some stays pairs generators = record {
   some = some;
   closed = stays;

@@ -1,4 +1,5 @@
--- Products written down: the product of x and y stands in row x, at place y; the rows lie one after another.
+-- Products written down: the product of x and y stands in row x, at place y; the rows lie one after
+-- another.
 use Rattle.std.specs.Prelude.{◌≡◌, ℕ, ◌+◌, ◌*◌, ◌<◌, ◌≤◌, List, length, slice_index}
 use Rattle.misere_theory.specs.Quotients.{Monoid}
 

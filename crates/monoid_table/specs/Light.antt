@@ -1,4 +1,5 @@
--- What Light's associativity test looks at. Clifford and Preston, The Algebraic Theory of Semigroups, volume I, section 1.2.
+-- What Light's associativity test looks at. Clifford and Preston, The Algebraic Theory of
+-- Semigroups, volume I, section 1.2.
 use Rattle.std.specs.Prelude.{◌≡◌, ℕ, ◌<◌, Bool, true, false, List, slice_index_or}
 use Rattle.monoid_table.specs.Grids.{entry}
 
@@ -8,7 +9,8 @@ StaysBelow order times = (x y : ℕ) → x < order → y < order → times x y <
 
 -- (xy)z is x(yz) for all x and z
 abbrev pub AssociatesAt : ℕ → (ℕ → ℕ → ℕ) → ℕ → Type 0
-AssociatesAt order times y = (x z : ℕ) → x < order → z < order → times (times x y) z ≡ times x (times y z)
+AssociatesAt order times y = (x z : ℕ) → x < order → z < order
+    → times (times x y) z ≡ times x (times y z)
 
 -- the element is the product of two smaller ones
 pub record IsComposite (times : ℕ → ℕ → ℕ) (y : ℕ) : Type 0 where
@@ -28,8 +30,10 @@ pub record HoldsAtPairs (order : ℕ) (times : ℕ → ℕ → ℕ) : Type 0 whe
 
 -- (xy)z is x(yz) for all x and z, and y each generator but 0
 abbrev pub GeneratorsAssociate : ℕ → (ℕ → ℕ → ℕ) → Type 0
-GeneratorsAssociate order times = (y : ℕ) → 0 < y → y < order → IsGenerator times y → AssociatesAt order times y
+GeneratorsAssociate order times = (y : ℕ) → 0 < y → y < order → IsGenerator times y
+    → AssociatesAt order times y
 
 -- what is marked is composite
 abbrev pub AreComposite : ℕ → List ℕ → List Bool → Type 0
-AreComposite order rows marks = (k : ℕ) → slice_index_or marks k false ≡ true → IsComposite (entry order rows) k
+AreComposite order rows marks = (k : ℕ) → slice_index_or marks k false ≡ true
+    → IsComposite (entry order rows) k

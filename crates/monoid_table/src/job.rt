@@ -14,7 +14,8 @@ use std::marker::Model;
 
 /// Rows of products whose laws are checked a triple x, y, z at a time.
 ///
-/// The first unit looks whether every law holds by the generators alone. Where it does, no triple needs to be looked at.
+/// The first unit looks whether every law holds by the generators alone. Where it does, no triple
+/// needs to be looked at.
 #[derive(Drop)]
 pub struct TableJob<A: Allocator = Global> {
     order: u16,
@@ -29,7 +30,12 @@ impl<A: Allocator> Model for TableJob<A> {
 
     ghost Value = { JobState };
 
-    ghost view = { λ j. record { grid = record { order = j.order; entries = j.rows.items }; spent = j.spent; refused = j.refused } };
+    ghost view = { λ j.
+        record {
+          grid = record { order = j.order; entries = j.rows.items };
+          spent = j.spent;
+          refused = j.refused;
+        } };
 
     ghost use Rattle.monoid_table.specs.Jobs.{IsJob};
 
@@ -39,7 +45,8 @@ impl<A: Allocator> Model for TableJob<A> {
 impl<A: Allocator> TableJob<A> {
     /// Takes the rows over, with nothing checked yet but their shape.
     pub fn new(order: u16, rows: Vec<u16, A>) -> Result<TableJob<A>, LawFault>
-        ensures given { IfOk result (λ job. job ≡ fresh (record { order = order; entries = rows.items })) }
+        ensures given { IfOk result
+            (λ job. job ≡ fresh (record { order = order; entries = rows.items })) }
         ensures ok { IsOk result ↔ IsShaped order rows.items }
         ensures shape { (result ≡ Err LawFault.Shape) ↔ (¬ IsShaped order rows.items) }
         ensures no_law { OnErr result (result ≡ Err LawFault.Shape) }
@@ -93,7 +100,8 @@ impl<A: Allocator> TableJob<A> {
         run.units
     }
 
-    /// Looks at triples as `work` does, at most `units`, and answers at how many. The last one, and one where a law fails, it leaves to `work`.
+    /// Looks at triples as `work` does, at most `units`, and answers at how many. The last one, and
+    /// one where a law fails, it leaves to `work`.
     pub fn go_on(&mut self, units: u64) -> u64
         requires { is_over self.old ≡ false }
         ensures within { result ≤ units }
@@ -112,7 +120,8 @@ impl<A: Allocator> TableJob<A> {
         passed
     }
 
-    /// Looks at the next `units` triples, a unit each: true once all were looked at and every law held.
+    /// Looks at the next `units` triples, a unit each: true once all were looked at and every law
+    /// held.
     ///
     /// Answers `Law` at the first triple where a law fails, and at every later call. What the job
     /// holds and answers depends on the units spent in all, not on how they were cut. After the end
@@ -120,7 +129,8 @@ impl<A: Allocator> TableJob<A> {
     pub fn work(&mut self, units: u64) -> Result<bool, LawFault>
         ensures state { self.new ≡ turns units self.old }
         ensures answer { result ≡ answer_of self.new }
-        ensures law { OnErr result (LawFails self.old.grid.order (entry self.old.grid.order self.old.grid.entries)) }
+        ensures law { OnErr result
+            (LawFails self.old.grid.order (entry self.old.grid.order self.old.grid.entries)) }
         ensures table { (result ≡ Ok true) → IsTable self.old.grid.order self.old.grid.entries }
     {
         let mut left = units;
@@ -133,7 +143,8 @@ impl<A: Allocator> TableJob<A> {
     /// What `work` says of the triples looked at so far.
     fn answer(&self) -> Result<bool, LawFault>
         ensures answer { result ≡ answer_of self.now }
-        ensures law { OnErr result (LawFails self.now.grid.order (entry self.now.grid.order self.now.grid.entries)) }
+        ensures law { OnErr result
+            (LawFails self.now.grid.order (entry self.now.grid.order self.now.grid.entries)) }
         ensures table { (result ≡ Ok true) → IsTable self.now.grid.order self.now.grid.entries }
     {
         if self.refused {

@@ -66,7 +66,8 @@ fn composites(rows: &[u16], order: usize) -> [bool; 256]
     marks
 }
 
-/// Whether (xy)z is x(yz) for all x and z: with x and z in each other's place it's the same equation.
+/// Whether (xy)z is x(yz) for all x and z: with x and z in each other's place it's the same
+/// equation.
 fn associates_at(rows: &[u16], order: usize, y: usize) -> bool
     requires shaped { IsShaped order rows.now }
     requires pairs { HoldsAtPairs order (entry order rows.now) }

@@ -34,8 +34,10 @@ pub trait CommMonoid {
 /// The product of the elements, which doesn't depend on their order.
 pub fn product<M: CommMonoid>(monoid: &M, elements: &[M::Element]) -> M::Element
     requires { All (M.is_in monoid.now) elements.now }
-    ensures value { result ≡ product_of (M.identity monoid.now) (M.multiply monoid.now) elements.now }
-    ensures any_order { (others : List M.Element) → IsPermutation elements.now others → result ≡ product_of (M.identity monoid.now) (M.multiply monoid.now) others }
+    ensures value { result ≡ product_of (M.identity monoid.now) (M.multiply monoid.now)
+        elements.now }
+    ensures any_order { (others : List M.Element) → IsPermutation elements.now others
+        → result ≡ product_of (M.identity monoid.now) (M.multiply monoid.now) others }
     ensures within { M.is_in monoid.now result }
 {
     let mut all = monoid.one();
@@ -45,7 +47,8 @@ pub fn product<M: CommMonoid>(monoid: &M, elements: &[M::Element]) -> M::Element
     all
 }
 
-/// The product of `count` times the element, by squares: for each binary digit of the count two products at most.
+/// The product of `count` times the element, by squares: for each binary digit of the count two
+/// products at most.
 pub fn power<M: CommMonoid>(monoid: &M, x: &M::Element, count: u64) -> M::Element
     requires { M.is_in monoid.now x.now }
     ensures value { result ≡ power_of (M.identity monoid.now) (M.multiply monoid.now) x.now count }

@@ -30,14 +30,17 @@ impl<A: Allocator> Model for Table<A> {
 }
 
 impl<A: Allocator> Table<A> {
-    /// The table of these rows, which lie one after another: the product of x and y is number y of row x.
+    /// The table of these rows, which lie one after another: the product of x and y is number y of
+    /// row x.
     ///
-    /// Refuses `Shape`, and where the shape is right, `Law`; the rows are dropped then. Takes no memory.
+    /// Refuses `Shape`, and where the shape is right, `Law`; the rows are dropped then. Takes no
+    /// memory.
     pub fn new(order: u16, rows: Vec<u16, A>) -> Result<Table<A>, LawFault>
         ensures given { IfOk result (λ t. t ≡ record { order = order; entries = rows.items }) }
         ensures ok { IsOk result ↔ IsTable order rows.items }
         ensures shape { (result ≡ Err LawFault.Shape) ↔ (¬ IsShaped order rows.items) }
-        ensures law { (result ≡ Err LawFault.Law) ↔ (IsShaped order rows.items × LawFails order (entry order rows.items)) }
+        ensures law { (result ≡ Err LawFault.Law)
+            ↔ (IsShaped order rows.items × LawFails order (entry order rows.items)) }
     {
         let mut job = TableJob::new(order, rows)?;
         job.work(u64::MAX)?;
@@ -74,7 +77,8 @@ impl<A: Allocator> Table<A> {
     pub fn row(&self, x: u16) -> &[u16]
         requires { x < self.now.order }
         ensures length_is { length result.now ≡ self.now.order }
-        ensures products { (y : ℕ) → y < self.now.order → slice_index result.now y ≡ times_in self.now x y }
+        ensures products { (y : ℕ) → y < self.now.order
+            → slice_index result.now y ≡ times_in self.now x y }
         ensures within { All (λ e. e < self.now.order) result.now }
     {
         row_at(&self.rows, self.order as usize, x as usize)
@@ -84,7 +88,8 @@ impl<A: Allocator> Table<A> {
     pub fn product(&self, elements: &[u16]) -> u16
         requires { All (λ e. e < self.now.order) elements.now }
         ensures value { result ≡ product_of 0 (times_in self.now) elements.now }
-        ensures any_order { (others : List ℕ) → IsPermutation elements.now others → result ≡ product_of 0 (times_in self.now) others }
+        ensures any_order { (others : List ℕ) → IsPermutation elements.now others
+            → result ≡ product_of 0 (times_in self.now) others }
         ensures within { result < self.now.order }
     {
         product(self, elements)

@@ -27,7 +27,8 @@ pub fn row_at(rows: &[u16], order: usize, x: usize) -> &[u16]
     &rows[start..start + order]
 }
 
-/// Whether there are as many rows as the order says, each of so many numbers below it, and the order is 1 to 256.
+/// Whether there are as many rows as the order says, each of so many numbers below it, and the
+/// order is 1 to 256.
 pub fn is_shaped(rows: &[u16], order: usize) -> bool
     ensures { IsTrue result ↔ IsShaped order rows.now }
 {
@@ -86,8 +87,10 @@ pub fn run_from(rows: &[u16], order: usize, spent: u64, units: u64) -> Run
     requires shaped { IsShaped order rows.now }
     requires some { 0 < units }
     requires going { spent < triples order }
-    ensures within { (0 < result.units) × (result.units ≤ units) × (spent + result.units ≤ triples order) }
-    ensures passed { (i : ℕ) → spent ≤ i → i + 1 < spent + result.units → triple_holds order rows.now i ≡ true }
+    ensures within { (0 < result.units) × (result.units ≤ units)
+        × (spent + result.units ≤ triples order) }
+    ensures passed { (i : ℕ) → spent ≤ i → i + 1 < spent + result.units
+        → triple_holds order rows.now i ≡ true }
     ensures last { triple_holds order rows.now (spent + result.units - 1) ≡ not result.broken }
 {
     let pair = spent as usize / order;
@@ -118,8 +121,10 @@ pub fn next_run(rows: &[u16], order: usize, lawful: bool, spent: u64, units: u64
     requires laws { lawful ≡ true → Monoid order (entry order rows.now) }
     requires some { 0 < units }
     requires going { spent < triples order }
-    ensures within { (0 < result.units) × (result.units ≤ units) × (spent + result.units ≤ triples order) }
-    ensures passed { (i : ℕ) → spent ≤ i → i + 1 < spent + result.units → triple_holds order rows.now i ≡ true }
+    ensures within { (0 < result.units) × (result.units ≤ units)
+        × (spent + result.units ≤ triples order) }
+    ensures passed { (i : ℕ) → spent ≤ i → i + 1 < spent + result.units
+        → triple_holds order rows.now i ≡ true }
     ensures last { triple_holds order rows.now (spent + result.units - 1) ≡ not result.broken }
 {
     if !lawful {

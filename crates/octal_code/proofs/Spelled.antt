@@ -12,40 +12,54 @@ use Rattle.octal_code.specs.Spelling.{IsOctalByte, IsSpelling, digits_in}
 -- what codes and longer ones have in common
 abbrev pub AreDigits : List ℕ → Type 0
 AreDigits [] = ⊥
-AreDigits (d ∷ ds) = ((d ≡ 0) ⊎ (d ≡ 4)) × (1 ≤ length ds) × All (λ x. x < 8) ds × (get_or ds (length ds - 1) 0 ≢ 0)
+AreDigits (d ∷ ds) = ((d ≡ 0) ⊎ (d ≡ 4)) × (1 ≤ length ds) × All (λ x. x < 8) ds
+    × (get_or ds (length ds - 1) 0 ≢ 0)
 
-parts : (bytes : List ℕ) → 3 ≤ length bytes → bytes ≡ get_or bytes 0 0 ∷ get_or bytes 1 0 ∷ drop 2 bytes
+parts : (bytes : List ℕ) → 3 ≤ length bytes
+    → bytes ≡ get_or bytes 0 0 ∷ get_or bytes 1 0 ∷ drop 2 bytes
 parts [] l = absurd (omega arith)
 parts (a ∷ []) l = absurd (omega arith)
 parts (a ∷ b ∷ bytes) l = refl
 
 spelled_again : (bs : List ℕ) → All IsOctalByte bs → map digit_byte (map (λ b. b - 48) bs) ≡ bs
 spelled_again [] h = refl
-spelled_again (b ∷ bs) h = ap₂ (λ x xs. x ∷ xs) (let here = All-head IsOctalByte b bs h in omega arith) (spelled_again bs (All-tail IsOctalByte b bs h))
+spelled_again (b ∷ bs) h =
+    ap₂ (λ x xs. x ∷ xs) (let here = All-head IsOctalByte b bs h in omega arith)
+    (spelled_again bs (All-tail IsOctalByte b bs h))
 
 read_again : (ds : List ℕ) → map (λ b. b - 48) (map digit_byte ds) ≡ ds
 read_again [] = refl
 read_again (d ∷ ds) = ap₂ (λ x xs. x ∷ xs) (omega arith) (read_again ds)
 
 digits_below : (bs : List ℕ) → All IsOctalByte bs → All (λ x. x < 8) (map (λ b. b - 48) bs)
-digits_below bs h = All-map (λ x. x < 8) (λ b. b - 48) bs (λ k d l. let here = h k d l in omega arith)
+digits_below bs h =
+    All-map (λ x. x < 8) (λ b. b - 48) bs (λ k d l. let here = h k d l in omega arith)
 
 bytes_above : (ds : List ℕ) → All (λ x. x < 8) ds → All IsOctalByte (map digit_byte ds)
-bytes_above ds h = All-map IsOctalByte digit_byte ds (λ k d l. let here = h k d l in (omega arith, omega arith))
+bytes_above ds h =
+    All-map IsOctalByte digit_byte ds (λ k d l. let here = h k d l in (omega arith, omega arith))
 
 -- the last digit is that of the last byte
-last_digit : (bytes : List ℕ) → 3 ≤ length bytes → get_or (map (λ b. b - 48) (drop 2 bytes)) (length (map (λ b. b - 48) (drop 2 bytes)) - 1) 0 ≡ get_or bytes (length bytes - 1) 0 - 48
+last_digit : (bytes : List ℕ) → 3 ≤ length bytes
+    → get_or (map (λ b. b - 48) (drop 2 bytes)) (length (map (λ b. b - 48) (drop 2 bytes)) - 1) 0
+    ≡ get_or bytes (length bytes - 1) 0 - 48
 last_digit bytes l =
-    let n : length (map (λ b. b - 48) (drop 2 bytes)) ≡ length bytes - 2 = length-map (drop 2 bytes) (λ b. b - 48) ∙ length-drop 2 bytes in
+    let n : length (map (λ b. b - 48) (drop 2 bytes)) ≡ length bytes - 2 =
+    length-map (drop 2 bytes) (λ b. b - 48) ∙ length-drop 2 bytes in
     let m = length-drop 2 bytes in
     ap (λ k. get_or (map (λ b. b - 48) (drop 2 bytes)) (k - 1) 0) n
     ∙ get_or-map (λ b. b - 48) (drop 2 bytes) (length bytes - 2 - 1) 0 0 (omega arith)
-    ∙ ap (λ b. b - 48) (get_or-drop 2 bytes (length bytes - 2 - 1) 0 ∙ ap (λ k. get_or bytes k 0) (omega arith))
+    ∙ ap (λ b. b - 48) (get_or-drop 2 bytes (length bytes - 2 - 1) 0
+    ∙ ap (λ k. get_or bytes k 0) (omega arith))
 
-last_byte : (d : ℕ) (ds : List ℕ) → 1 ≤ length ds → get_or (code_text (d ∷ ds)) (length (code_text (d ∷ ds)) - 1) 0 ≡ 48 + get_or ds (length ds - 1) 0
+last_byte : (d : ℕ) (ds : List ℕ) → 1 ≤ length ds
+    → get_or (code_text (d ∷ ds)) (length (code_text (d ∷ ds)) - 1) 0
+    ≡ 48 + get_or ds (length ds - 1) 0
 last_byte d ds l =
     let n : length (map digit_byte ds) ≡ length ds = length-map ds digit_byte in
-    ap (λ k. get_or (digit_byte d ∷ 46 ∷ map digit_byte ds) k 0) (let e : suc (suc (length (map digit_byte ds))) - 1 ≡ suc (suc (length ds - 1)) = omega arith in e)
+    ap (λ k. get_or (digit_byte d ∷ 46 ∷ map digit_byte ds) k 0)
+    (let e : suc (suc (length (map digit_byte ds))) - 1 ≡ suc (suc (length ds - 1)) =
+    omega arith in e)
     ∙ get_or-map digit_byte ds (length ds - 1) 0 0 (omega arith)
 
 first_digit : (b : ℕ) → (b ≡ 48) ⊎ (b ≡ 52) → ((b - 48 ≡ 0) ⊎ (b - 48 ≡ 4)) × (48 + (b - 48) ≡ b)
@@ -56,14 +70,17 @@ first_byte : (d : ℕ) → (d ≡ 0) ⊎ (d ≡ 4) → (48 + d ≡ 48) ⊎ (48 +
 first_byte d (inl e) = inl (omega arith)
 first_byte d (inr e) = inr (omega arith)
 
-last_byte_is_digit : (bytes : List ℕ) → 3 ≤ length bytes → All IsOctalByte (drop 2 bytes) → 48 ≤ get_or bytes (length bytes - 1) 0
+last_byte_is_digit : (bytes : List ℕ) → 3 ≤ length bytes → All IsOctalByte (drop 2 bytes)
+    → 48 ≤ get_or bytes (length bytes - 1) 0
 last_byte_is_digit bytes l h =
     let m = length-drop 2 bytes in
     let here = h (length bytes - 3) 0 (omega arith) in
-    let e : get_or (drop 2 bytes) (length bytes - 3) 0 ≡ get_or bytes (length bytes - 1) 0 = get_or-drop 2 bytes (length bytes - 3) 0 ∙ ap (λ k. get_or bytes k 0) (omega arith) in
+    let e : get_or (drop 2 bytes) (length bytes - 3) 0 ≡ get_or bytes (length bytes - 1) 0 =
+    get_or-drop 2 bytes (length bytes - 3) 0 ∙ ap (λ k. get_or bytes k 0) (omega arith) in
     omega arith
 
-pub digits_of_spelling : (bytes : List ℕ) → IsSpelling bytes → AreDigits (digits_in bytes) × (bytes ≡ code_text (digits_in bytes))
+pub digits_of_spelling : (bytes : List ℕ) → IsSpelling bytes → AreDigits (digits_in bytes)
+    × (bytes ≡ code_text (digits_in bytes))
 digits_of_spelling bytes h =
     let l = h.some in
     let n = length-map (drop 2 bytes) (λ b. b - 48) in
@@ -72,10 +89,12 @@ digits_of_spelling bytes h =
     let low = last_byte_is_digit bytes l h.octal in
     let last = last_digit bytes l in (
       (d.0, omega arith, digits_below (drop 2 bytes) h.octal, λ e. h.last (omega arith)),
-      parts bytes l ∙ ap₂ (λ x xs. x ∷ xs) (sym d.1) (ap₂ (λ x xs. x ∷ xs) h.point (sym (spelled_again (drop 2 bytes) h.octal))),
+      parts bytes l ∙ ap₂ (λ x xs. x ∷ xs) (sym d.1)
+          (ap₂ (λ x xs. x ∷ xs) h.point (sym (spelled_again (drop 2 bytes) h.octal))),
     )
 
-pub spelling_of_digits : (ds : List ℕ) → AreDigits ds → IsSpelling (code_text ds) × (digits_in (code_text ds) ≡ ds)
+pub spelling_of_digits : (ds : List ℕ) → AreDigits ds → IsSpelling (code_text ds)
+    × (digits_in (code_text ds) ≡ ds)
 spelling_of_digits [] h = absurd h
 spelling_of_digits (d ∷ ds) (first, some, octal, last) =
     let n = length-map ds digit_byte in
@@ -92,31 +111,45 @@ spelling_of_digits (d ∷ ds) (first, some, octal, last) =
 
 digits_of_code : (ds : List ℕ) → IsOctalCode ds → AreDigits ds × (length (code_text ds) ≤ 18)
 digits_of_code [] h = absurd h
-digits_of_code (d ∷ ds) (first, some, short, octal, last) = ((first, some, octal, last), let n = length-map ds digit_byte in omega arith)
+digits_of_code (d ∷ ds) (first, some, short, octal, last) =
+    ((first, some, octal, last), let n = length-map ds digit_byte in omega arith)
 
 digits_of_long : (ds : List ℕ) → IsLongCode ds → AreDigits ds × (18 < length (code_text ds))
 digits_of_long [] h = absurd h
-digits_of_long (d ∷ ds) (first, many, octal, last) = ((first, omega arith, octal, last), let n = length-map ds digit_byte in omega arith)
+digits_of_long (d ∷ ds) (first, many, octal, last) =
+    ((first, omega arith, octal, last), let n = length-map ds digit_byte in omega arith)
 
 code_of_digits : (ds : List ℕ) → AreDigits ds → length (code_text ds) ≤ 18 → IsOctalCode ds
 code_of_digits [] h l = absurd h
-code_of_digits (d ∷ ds) (first, some, octal, last) l = (first, some, let n = length-map ds digit_byte in omega arith, octal, last)
+code_of_digits (d ∷ ds) (first, some, octal, last) l =
+    (first, some, let n = length-map ds digit_byte in omega arith, octal, last)
 
 long_of_digits : (ds : List ℕ) → AreDigits ds → 18 < length (code_text ds) → IsLongCode ds
 long_of_digits [] h l = absurd h
-long_of_digits (d ∷ ds) (first, some, octal, last) l = (first, let n = length-map ds digit_byte in omega arith, octal, last)
+long_of_digits (d ∷ ds) (first, some, octal, last) l =
+    (first, let n = length-map ds digit_byte in omega arith, octal, last)
 
-pub code_read : (bytes : List ℕ) → IsSpelling bytes → length bytes ≤ 18 → IsCodeText bytes (digits_in bytes)
+pub code_read : (bytes : List ℕ) → IsSpelling bytes → length bytes ≤ 18
+    → IsCodeText bytes (digits_in bytes)
 code_read bytes h l =
     let (ds, e) = digits_of_spelling bytes h in
-    record { code = code_of_digits (digits_in bytes) ds (subst (λ b. length b ≤ 18) e l); spelled = e }
+    record {
+      code = code_of_digits (digits_in bytes) ds (subst (λ b. length b ≤ 18) e l);
+      spelled = e;
+    }
 
 pub long_read : (bytes : List ℕ) → IsSpelling bytes → 18 < length bytes → IsLongCodeText bytes
 long_read bytes h l =
     let (ds, e) = digits_of_spelling bytes h in
-    record { digits = digits_in bytes; long = long_of_digits (digits_in bytes) ds (subst (λ b. 18 < length b) e l); spelled = e }
+    record {
+      digits = digits_in bytes;
+      long = long_of_digits (digits_in bytes) ds
+          (subst (λ b. 18 < length b) e l);
+      spelled = e;
+    }
 
-pub read_code : (bytes ds : List ℕ) → IsCodeText bytes ds → IsSpelling bytes × (length bytes ≤ 18) × (digits_in bytes ≡ ds)
+pub read_code : (bytes ds : List ℕ) → IsCodeText bytes ds → IsSpelling bytes × (length bytes ≤ 18)
+    × (digits_in bytes ≡ ds)
 read_code bytes ds h =
     let (d, l) = digits_of_code ds h.code in
     let (s, e) = spelling_of_digits ds d in
@@ -128,7 +161,8 @@ read_long bytes h =
     let (s, e) = spelling_of_digits h.digits d in
     subst (λ b. IsSpelling b × (18 < length b)) (sym h.spelled) (s, l)
 
-digit_at : (bytes : List ℕ) (i : ℕ) → 1 ≤ i → i + 1 < length bytes → get_or (digits_in bytes) i 0 ≡ get_or bytes (i + 1) 0 - 48
+digit_at : (bytes : List ℕ) (i : ℕ) → 1 ≤ i → i + 1 < length bytes
+    → get_or (digits_in bytes) i 0 ≡ get_or bytes (i + 1) 0 - 48
 digit_at bytes zero l h = absurd (omega arith)
 digit_at bytes (suc i) l h =
     let m = length-drop 2 bytes in
@@ -141,25 +175,32 @@ pub record IsFilled (bytes ds : List ℕ) (i : ℕ) : Type 0 where
   pub there : (k : ℕ) → k < i → get_or ds k 0 ≡ get_or (digits_in bytes) k 0
   pub zeros : (k : ℕ) → i ≤ k → get_or ds k 0 ≡ 0
 
-pub filled_more : (bytes ds : List ℕ) (i : ℕ) → 1 ≤ i → i + 1 < length bytes → i < 17 → IsFilled bytes ds i → IsFilled bytes (set ds i (get_or bytes (i + 1) 0 - 48)) (i + 1)
+pub filled_more : (bytes ds : List ℕ) (i : ℕ) → 1 ≤ i → i + 1 < length bytes → i < 17
+    → IsFilled bytes ds i → IsFilled bytes (set ds i (get_or bytes (i + 1) 0 - 48)) (i + 1)
 filled_more bytes ds i l h s f = record {
   room = length-set ds i (get_or bytes (i + 1) 0 - 48) ∙ f.room;
-  there = subst (λ v. (k : ℕ) → k < i + 1 → get_or (set ds i v) k 0 ≡ get_or (digits_in bytes) k 0) (digit_at bytes i l h)
-      (fill_by_more (λ k. get_or (digits_in bytes) k 0) ds i 0 (let r = f.room in omega arith) f.there);
-  zeros = λ k m. get_or-set_other ds i k (get_or bytes (i + 1) 0 - 48) 0 (λ e. omega arith) ∙ f.zeros k (omega arith);
+  there = subst (λ v. (k : ℕ) → k < i + 1 → get_or (set ds i v) k 0 ≡ get_or (digits_in bytes) k 0)
+      (digit_at bytes i l h)
+      (fill_by_more (λ k. get_or (digits_in bytes) k 0) ds i 0 (let r = f.room in
+      omega arith) f.there);
+  zeros = λ k m. get_or-set_other ds i k (get_or bytes (i + 1) 0 - 48) 0 (λ e. omega arith)
+      ∙ f.zeros k (omega arith);
 }
 
-pub filled_all : (bytes ds : List ℕ) → IsSpelling bytes → length bytes ≤ 18 → IsFilled bytes ds (length bytes - 1) → take (length bytes - 1) ds ≡ digits_in bytes
+pub filled_all : (bytes ds : List ℕ) → IsSpelling bytes → length bytes ≤ 18
+    → IsFilled bytes ds (length bytes - 1) → take (length bytes - 1) ds ≡ digits_in bytes
 filled_all bytes ds h l f =
     let some = h.some in
     let r = f.room in
     let n = length-map (drop 2 bytes) (λ b. b - 48) in
     let m = length-drop 2 bytes in
-    let t : length (take (length bytes - 1) ds) ≡ length bytes - 1 = length-take-le (length bytes - 1) ds (omega arith) in
+    let t : length (take (length bytes - 1) ds) ≡ length bytes - 1 =
+    length-take-le (length bytes - 1) ds (omega arith) in
     same_number_lists (take (length bytes - 1) ds) (digits_in bytes) (omega arith)
     (λ k s. get_or-take (length bytes - 1) ds k 0 (omega arith) ∙ f.there k (omega arith))
 
-pub filled_code : (bytes ds : List ℕ) → IsSpelling bytes → length bytes ≤ 18 → IsFilled bytes ds (length bytes - 1) → IsCode ds (length bytes - 1)
+pub filled_code : (bytes ds : List ℕ) → IsSpelling bytes → length bytes ≤ 18
+    → IsFilled bytes ds (length bytes - 1) → IsCode ds (length bytes - 1)
 filled_code bytes ds h l f = record {
   room = f.room;
   short = let some = h.some in omega arith;
@@ -168,4 +209,5 @@ filled_code bytes ds h l f = record {
 }
 
 pub no_code : (bytes : List ℕ) → (IsSpelling bytes → ⊥) → IsNoCodeText bytes
-no_code bytes h = record { no_code = λ ds c. h (read_code bytes ds c).0; not_long = λ l. h (read_long bytes l).0 }
+no_code bytes h =
+    record { no_code = λ ds c. h (read_code bytes ds c).0; not_long = λ l. h (read_long bytes l).0 }

@@ -28,10 +28,13 @@ all_zeros (x ∷ xs) h = ap₂ (λ y ys. y ∷ ys) (h 0) (all_zeros xs (λ j. h 
 abbrev pub inside : List ℕ → ℕ → Inside
 inside ds n = record { digits = ds; count = n }
 
-pub padded-take : (ds : List ℕ) (n : ℕ) → IsCode ds n → inside (padded (take n ds)) (length (take n ds)) ≡ inside ds n
+pub padded-take : (ds : List ℕ) (n : ℕ) → IsCode ds n
+    → inside (padded (take n ds)) (length (take n ds)) ≡ inside ds n
 padded-take ds n h =
-    let l : length (take n ds) ≡ n = length-take-le n ds (let r = h.room in let s = h.short in omega arith) in
+    let l : length (take n ds) ≡ n =
+    length-take-le n ds (let r = h.room in let s = h.short in omega arith) in
     let r : drop n ds ≡ zeros (17 - n) =
     all_zeros (drop n ds) (λ j. get_or-drop n ds j 0 ∙ h.past (n + j) (omega arith))
     ∙ ap zeros (length-drop n ds ∙ ap (λ m. m - n) h.room) in
-    ap₂ inside (ap (λ m. take n ds ++ zeros (17 - m)) l ∙ ap (λ v. take n ds ++ v) (sym r) ∙ take-append-drop n ds) l
+    ap₂ inside (ap (λ m. take n ds ++ zeros (17 - m)) l ∙ ap (λ v. take n ds ++ v) (sym r)
+    ∙ take-append-drop n ds) l

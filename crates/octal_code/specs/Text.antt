@@ -1,5 +1,6 @@
--- The spelling of a code: d0, a point, and the digits d1 to dk, as Plambeck and Siegel, and Siegel, write it.
--- That k is 1 to 16, that the last digit isn't 0, and the refusal of a longer code are this project's own.
+-- The spelling of a code: d0, a point, and the digits d1 to dk, as Plambeck and Siegel, and Siegel,
+-- write it. That k is 1 to 16, that the last digit isn't 0, and the refusal of a longer code are
+-- this project's own.
 use Rattle.std.specs.Prelude.{◌≡◌, ◌≢◌, ℕ, ◌+◌, ◌-◌, ◌≤◌, ◌<◌, ◌⊎◌, List, [], ◌∷◌, length, slice_index, All, map}
 use Rattle.misere_theory.specs.Games.{IsOctalCode}
 
@@ -16,10 +17,12 @@ pub record IsCodeText (bytes digits : List ℕ) : Type 0 where
   pub code : IsOctalCode digits
   pub spelled : bytes ≡ code_text digits
 
--- as a code, but with 17 or more digits behind the point: d0 is 0 or 4, the others 0 to 7, the last not 0
+-- as a code, but with 17 or more digits behind the point: d0 is 0 or 4, the others 0 to 7, the last
+-- not 0
 abbrev pub IsLongCode : List ℕ → Type 0
 IsLongCode [] = ⊥
-IsLongCode (d ∷ ds) = ((d ≡ 0) ⊎ (d ≡ 4)) × (17 ≤ length ds) × All (λ x. x < 8) ds × (slice_index ds (length ds - 1) ≢ 0)
+IsLongCode (d ∷ ds) = ((d ≡ 0) ⊎ (d ≡ 4)) × (17 ≤ length ds) × All (λ x. x < 8) ds
+    × (slice_index ds (length ds - 1) ≢ 0)
 
 -- the bytes would spell a code, if codes could be longer
 pub record IsLongCodeText (bytes : List ℕ) : Type 0 where

@@ -13,7 +13,8 @@ use std::marker::Model;
 /// The length of the longest text of a code: a digit, a point and 16 digits.
 const LONGEST: usize = 18;
 
-/// An octal code d0.d1d2..dk, seen as the list of its digits: d0 is 0 or 4, then come 1 to 16 digits 0 to 7, of which the last is not 0.
+/// An octal code d0.d1d2..dk, seen as the list of its digits: d0 is 0 or 4, then come 1 to 16
+/// digits 0 to 7, of which the last is not 0.
 #[derive(Clone, Copy)]
 pub struct Code {
     digits: [u8; 17],

@@ -1,4 +1,5 @@
-//! Octal codes, the rule books of heap games: what a player may take away from a heap, and what may stay of it.
+//! Octal codes, the rule books of heap games: what a player may take away from a heap, and what may
+//! stay of it.
 #![tactic(auto)]
 
 mod code;

@@ -8,15 +8,19 @@ use Rattle.misere_theory.specs.Games.{HeapOption, MultisetMove}
 use Rattle.misere_theory.specs.Games.HeapOption.{One, Two}
 
 -- no part is larger than the heap
-pub option_fits : (code : List ℕ) (n M : ℕ) (H : List ℕ) → HeapOption code n H → n ≤ M → All (λ m. (1 ≤ m) × (m ≤ M)) H
+pub option_fits : (code : List ℕ) (n M : ℕ) (H : List ℕ) → HeapOption code n H → n ≤ M
+    → All (λ m. (1 ≤ m) × (m ≤ M)) H
 option_fits code n M [] h l = All-nil (λ m. (1 ≤ m) × (m ≤ M))
-option_fits code n M (a ∷ []) (One j _ p q e b) l = All-cons (λ m. (1 ≤ m) × (m ≤ M)) a [] (q, omega arith) (All-nil (λ m. (1 ≤ m) × (m ≤ M)))
+option_fits code n M (a ∷ []) (One j _ p q e b) l =
+    All-cons (λ m. (1 ≤ m) × (m ≤ M)) a [] (q, omega arith) (All-nil (λ m. (1 ≤ m) × (m ≤ M)))
 option_fits code n M (a ∷ b ∷ []) (Two j _ _ p q e d) l =
-    All-cons (λ m. (1 ≤ m) × (m ≤ M)) a (b ∷ []) (p, omega arith) (All-cons (λ m. (1 ≤ m) × (m ≤ M)) b [] (q, omega arith) (All-nil (λ m. (1 ≤ m) × (m ≤ M))))
+    All-cons (λ m. (1 ≤ m) × (m ≤ M)) a (b ∷ []) (p, omega arith)
+    (All-cons (λ m. (1 ≤ m) × (m ≤ M)) b [] (q, omega arith) (All-nil (λ m. (1 ≤ m) × (m ≤ M))))
 option_fits code n M (a ∷ (b ∷ (_ ∷ _))) h l = elim h [ ]
 
 -- the heap at a place goes, and what the move leaves of it comes
-pub move_from_place : (code X : List ℕ) (i : ℕ) (H Y : List ℕ) → i < length X → HeapOption code (get_or X i 0) H
+pub move_from_place : (code X : List ℕ) (i : ℕ) (H Y : List ℕ) → i < length X
+    → HeapOption code (get_or X i 0) H
     → IsPermutation (H ++ remove X i) Y → MultisetMove code X Y
 move_from_place code X i H Y l h s = (
   get_or X i 0,

@@ -27,62 +27,90 @@ pub adds_none : (code : List ℕ) (number : ℕ) (old : List (List ℕ)) → Add
 adds_none code number old = ([], sym (append-nil old), All-nil (IsNext code (get_or old number [])))
 
 -- the position with the number stays
-pub same_place : (code : List ℕ) (number : ℕ) (old new : List (List ℕ)) → number < length old → AddsMoves code number old new → get_or new number [] ≡ get_or old number []
-same_place code number old new l (more, e, all) = ap (λ ys. get_or ys number []) e ∙ get_or-append old more [] number l
+pub same_place : (code : List ℕ) (number : ℕ) (old new : List (List ℕ)) → number < length old
+    → AddsMoves code number old new → get_or new number [] ≡ get_or old number []
+same_place code number old new l (more, e, all) =
+    ap (λ ys. get_or ys number []) e ∙ get_or-append old more [] number l
 
-pub no_shorter : (code : List ℕ) (number : ℕ) (old new : List (List ℕ)) → AddsMoves code number old new → length old ≤ length new
-no_shorter code number old new (more, e, all) = let n = ap length e ∙ length-append old more in omega arith
+pub no_shorter : (code : List ℕ) (number : ℕ) (old new : List (List ℕ))
+    → AddsMoves code number old new → length old ≤ length new
+no_shorter code number old new (more, e, all) = let n = ap length e ∙ length-append old more in
+    omega arith
 
-pub adds_one : (code : List ℕ) (number : ℕ) (old mid : List (List ℕ)) (Y : List ℕ) → IsNext code (get_or old number []) Y → AddsMoves code number old mid
+pub adds_one : (code : List ℕ) (number : ℕ) (old mid : List (List ℕ)) (Y : List ℕ)
+    → IsNext code (get_or old number []) Y → AddsMoves code number old mid
     → AddsMoves code number old (insert_key (pointwise nat_eq) mid Y)
 adds_one code number old mid Y next (more, e, all) = by (list_any (pointwise nat_eq Y) mid)
   where
     by : (b : Bool) → AddsMoves code number old (if b then mid else mid ++ Y ∷ [])
     by true = (more, e, all)
-    by false = (more ++ Y ∷ [], ap (λ ys. ys ++ Y ∷ []) e ∙ append_assoc old more (Y ∷ []), All-push (IsNext code (get_or old number [])) more Y all next)
+    by false = (
+      more ++ Y ∷ [],
+      ap (λ ys. ys ++ Y ∷ []) e ∙ append_assoc old more (Y ∷ []),
+      All-push (IsNext code (get_or old number [])) more Y all next,
+    )
 
-pub adds_on : (code : List ℕ) (number : ℕ) (old mid new : List (List ℕ)) → number < length old → AddsMoves code number old mid → AddsMoves code number mid new → AddsMoves code number old new
+pub adds_on : (code : List ℕ) (number : ℕ) (old mid new : List (List ℕ)) → number < length old
+    → AddsMoves code number old mid → AddsMoves code number mid new → AddsMoves code number old new
 adds_on code number old mid new l (more, e, all) (rest, f, each) = (
   more ++ rest,
   f ∙ ap (λ ys. ys ++ rest) e ∙ append_assoc old more rest,
   All-append (IsNext code (get_or old number [])) more rest all
-      (subst (λ X. All (IsNext code X) rest) (same_place code number old mid l (more, e, all)) each),
+      (subst (λ X. All (IsNext code X) rest) (same_place code number old mid l (more, e, all))
+      each),
 )
 
 -- what moves lead to from a position on the way is on the way
-pub on_the_way_on : (code X : List ℕ) (number : ℕ) (old new : List (List ℕ)) → number < length old → All (IsOnTheWay code X) old → AddsMoves code number old new → All (IsOnTheWay code X) new
+pub on_the_way_on : (code X : List ℕ) (number : ℕ) (old new : List (List ℕ)) → number < length old
+    → All (IsOnTheWay code X) old → AddsMoves code number old new → All (IsOnTheWay code X) new
 on_the_way_on code X number old new l way (more, e, all) =
     let from = way number [] l in
     subst (All (IsOnTheWay code X)) (sym e)
     (All-append (IsOnTheWay code X) old more way
     (All-weaker (IsNext code (get_or old number [])) (IsOnTheWay code X)
-    (λ Y n. record { reached = reached_on from.reached (After n.move (Already (IsPermutation-refl Y))); rising = n.rising }) more all))
+    (λ Y n.
+    record {
+      reached = reached_on from.reached (After n.move (Already (IsPermutation-refl Y)));
+      rising = n.rising;
+    }) more all))
 
 pub alone_on_the_way : (code X : List ℕ) → IsNonDecreasing X → All (IsOnTheWay code X) (X ∷ [])
-alone_on_the_way code X up = All-cons (IsOnTheWay code X) X [] (record { reached = Already (IsPermutation-refl X); rising = up }) (All-nil (IsOnTheWay code X))
+alone_on_the_way code X up =
+    All-cons (IsOnTheWay code X) X []
+    (record { reached = Already (IsPermutation-refl X); rising = up }) (All-nil (IsOnTheWay code X))
 
 -- more than n distinct positions on the way are more than n that can be reached
-pub many_reached : (code X : List ℕ) (n : ℕ) (Ys : List (List ℕ)) → All (IsOnTheWay code X) Ys → n < length Ys → IsDistinct (pointwise nat_eq) Ys → MoreReachableThan code X n
+pub many_reached : (code X : List ℕ) (n : ℕ) (Ys : List (List ℕ)) → All (IsOnTheWay code X) Ys
+    → n < length Ys → IsDistinct (pointwise nat_eq) Ys → MoreReachableThan code X n
 many_reached code X n Ys way l d = (
   Ys,
   l,
   λ i k h. (way i k h).reached,
-  λ i j k m h. rising_differ (get_or Ys i k) (get_or Ys j k) (way i k (omega arith)).rising (way j k h).rising
-      (AllPairs-from_IsDistinct (λ Y Z. slice_eq-Decides Decides-eqb Y Z (pointwise nat_eq Y Z) refl) Ys d i j k m h),
+  λ i j k m h. rising_differ (get_or Ys i k) (get_or Ys j k) (way i k (omega arith)).rising
+      (way j k h).rising
+      (AllPairs-from_IsDistinct
+      (λ Y Z. slice_eq-Decides Decides-eqb Y Z (pointwise nat_eq Y Z) refl) Ys d i j k m h),
 )
 
 -- the position behind a move from the one with the number
-pub moved_on : (code : List ℕ) (number place : ℕ) (old mid : List (List ℕ)) (from H next : List ℕ) → number < length old → place < length (get_or old number [])
-    → AddsMoves code number old mid → from ≡ get_or mid number [] → HeapOption code (get_or (get_or old number []) place 0) H
-    → IsPermutation (H ++ remove from place) next → IsNonDecreasing next → AddsMoves code number old (insert_key (pointwise nat_eq) mid next)
+pub moved_on : (code : List ℕ) (number place : ℕ) (old mid : List (List ℕ)) (from H next : List ℕ)
+    → number < length old → place < length (get_or old number [])
+    → AddsMoves code number old mid → from ≡ get_or mid number []
+    → HeapOption code (get_or (get_or old number []) place 0) H
+    → IsPermutation (H ++ remove from place) next → IsNonDecreasing next
+    → AddsMoves code number old (insert_key (pointwise nat_eq) mid next)
 moved_on code number place old mid from H next l p adds is h s up =
     let same = is ∙ same_place code number old mid l adds in
     let next' : IsNext code (get_or old number []) next = record {
-      move = move_from_place code (get_or old number []) place H next p h (subst (λ F. IsPermutation (H ++ remove F place) next) same s);
+      move =
+          move_from_place code (get_or old number []) place H next p h
+          (subst (λ F. IsPermutation (H ++ remove F place) next) same s);
       rising = up;
     } in
     adds_one code number old mid next next' adds
 
 -- what a few positions settle, more settle
-pub settled_within : (code X : List ℕ) (o : Outcome) (few n : ℕ) → few ≤ n → IsSettledBy code X o few → IsSettledBy code X o n
-settled_within code X o few n l s = record { list = s.list; few = let f = s.few in omega arith; here = s.here; follows = s.follows }
+pub settled_within : (code X : List ℕ) (o : Outcome) (few n : ℕ) → few ≤ n
+    → IsSettledBy code X o few → IsSettledBy code X o n
+settled_within code X o few n l s =
+    record { list = s.list; few = let f = s.few in omega arith; here = s.here; follows = s.follows }

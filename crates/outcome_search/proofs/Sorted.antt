@@ -25,23 +25,31 @@ at-above v z l = grind (arith, nat_tests)
 
 none_at : (v : ℕ) (ys : List ℕ) → All (λ z. v < z) ys → sum_by (at v) ys ≡ 0
 none_at v [] h = refl
-none_at v (y ∷ ys) h = sum_by-cons (at v) y ys ∙ ap₂ (λ m n. m + n) (at-above v y (All-head (λ z. v < z) y ys h)) (none_at v ys (All-tail (λ z. v < z) y ys h))
+none_at v (y ∷ ys) h =
+    sum_by-cons (at v) y ys ∙ ap₂ (λ m n. m + n) (at-above v y (All-head (λ z. v < z) y ys h))
+    (none_at v ys (All-tail (λ z. v < z) y ys h))
 
 some_at : (v : ℕ) (ys : List ℕ) → sum_by (at v) (v ∷ ys) ≡ 0 → ⊥
 some_at v ys e = let s = sum_by-cons (at v) v ys in let o = at-same v in absurd (omega arith)
 
-rising_above : (v y : ℕ) (ys : List ℕ) → IsNonDecreasing (y ∷ ys) → v < y → All (λ z. v < z) (y ∷ ys)
+rising_above : (v y : ℕ) (ys : List ℕ) → IsNonDecreasing (y ∷ ys) → v < y
+    → All (λ z. v < z) (y ∷ ys)
 rising_above v y ys up l = λ k d h. let r = up 0 k d (omega arith) h in omega arith
 
 rising_tail : (y : ℕ) (ys : List ℕ) → IsNonDecreasing (y ∷ ys) → IsNonDecreasing ys
 rising_tail y ys up = λ i j d l h. up (suc i) (suc j) d (omega arith) (omega arith)
 
-not_less : (x y : ℕ) (xs ys : List ℕ) → IsNonDecreasing (y ∷ ys) → SameSums (x ∷ xs) (y ∷ ys) → x < y → ⊥
-not_less x y xs ys up same l = some_at x xs (same (at x) ∙ none_at x (y ∷ ys) (rising_above x y ys up l))
+not_less : (x y : ℕ) (xs ys : List ℕ) → IsNonDecreasing (y ∷ ys) → SameSums (x ∷ xs) (y ∷ ys)
+    → x < y → ⊥
+not_less x y xs ys up same l =
+    some_at x xs (same (at x) ∙ none_at x (y ∷ ys) (rising_above x y ys up l))
 
-head_same : (x y : ℕ) (xs ys : List ℕ) → IsNonDecreasing (x ∷ xs) → IsNonDecreasing (y ∷ ys) → SameSums (x ∷ xs) (y ∷ ys) → x ≡ y
+head_same : (x y : ℕ) (xs ys : List ℕ) → IsNonDecreasing (x ∷ xs) → IsNonDecreasing (y ∷ ys)
+    → SameSums (x ∷ xs) (y ∷ ys) → x ≡ y
 head_same x y xs ys up vp same =
-    ⊎_elim (λ l. absurd (not_less x y xs ys vp same l)) (λ l. ⊎_elim (λ m. absurd (not_less y x ys xs up (λ f. sym (same f)) m)) (λ m. omega arith) (cases_lt y x)) (cases_lt x y)
+    ⊎_elim (λ l. absurd (not_less x y xs ys vp same l))
+    (λ l. ⊎_elim (λ m. absurd (not_less y x ys xs up (λ f. sym (same f)) m)) (λ m. omega arith)
+    (cases_lt y x)) (cases_lt x y)
 
 same_sums : (xs ys : List ℕ) → IsNonDecreasing xs → IsNonDecreasing ys → SameSums xs ys → xs ≡ ys
 same_sums [] [] up vp same = refl
@@ -50,7 +58,9 @@ same_sums (x ∷ xs) [] up vp same = absurd (some_at x xs (same (at x)))
 same_sums (x ∷ xs) (y ∷ ys) up vp same =
     let e = head_same x y xs ys up vp same in
     ap₂ (λ z zs. z ∷ zs) e (same_sums xs ys (rising_tail x xs up) (rising_tail y ys vp)
-    (λ f. let s = same f in let p = sum_by-cons f x xs in let q = sum_by-cons f y ys in let h : f x ≡ f y = ap f e in omega arith))
+    (λ f. let s = same f in let p = sum_by-cons f x xs in let q = sum_by-cons f y ys in
+    let h : f x ≡ f y = ap f e in omega arith))
 
-pub rising_same : (xs ys : List ℕ) → IsNonDecreasing xs → IsNonDecreasing ys → IsPermutation xs ys → xs ≡ ys
+pub rising_same : (xs ys : List ℕ) → IsNonDecreasing xs → IsNonDecreasing ys → IsPermutation xs ys
+    → xs ≡ ys
 rising_same xs ys up vp s = same_sums xs ys up vp (λ f. sym (sum_by-IsPermutation f xs ys s))

@@ -22,13 +22,17 @@ pub record IsUnknown (code X : List ℕ) (memo : List (List ℕ × Outcome)) (Y 
   pub rising : IsNonDecreasing Y
   pub not_known : known memo Y ≡ None
 
--- Each of these options of the heap at the place `at` of X is known to be a mistake: the next player then wins.
+-- Each of these options of the heap at the place `at` of X is known to be a mistake: the next
+-- player then wins.
 abbrev pub AreMistakes : List (List ℕ × Outcome) → List ℕ → ℕ → List Left → Type 0
-AreMistakes memo X at lefts = (left : Left) → Contains lefts left → (Y : List ℕ) → IsPermutation (heaps_of left ++ remove X at) Y → Lists memo Y N
+AreMistakes memo X at lefts = (left : Left) → Contains lefts left → (Y : List ℕ)
+    → IsPermutation (heaps_of left ++ remove X at) Y → Lists memo Y N
 
 -- what these options of the heap at the place `at` have shown
-abbrev pub HasSeen : List ℕ → List ℕ → List (List ℕ × Outcome) → ℕ → List Left → Seen → List ℕ → Type 0
+abbrev pub HasSeen : List ℕ → List ℕ → List (List ℕ × Outcome) → ℕ → List Left → Seen → List ℕ
+    → Type 0
 HasSeen code X memo at lefts Nothing next = lefts ≡ []
-HasSeen code X memo at lefts Loses next = AreMistakes memo X at lefts × ((left : Left) × Contains lefts left)
+HasSeen code X memo at lefts Loses next = AreMistakes memo X at lefts
+    × ((left : Left) × Contains lefts left)
 HasSeen code X memo at lefts Wins next = (Y : List ℕ) × Move code X Y × Lists memo Y P
 HasSeen code X memo at lefts Unknown next = IsUnknown code X memo next

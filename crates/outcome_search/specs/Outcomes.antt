@@ -1,4 +1,5 @@
--- What the answers of a search say. Misère outcomes: Siegel, 'Combinatorial Game Theory', chapter V; the search is this project's own.
+-- What the answers of a search say. Misère outcomes: Siegel, 'Combinatorial Game Theory', chapter
+-- V; the search is this project's own.
 use Rattle.std.specs.Prelude.{ℕ, List}
 use Rattle.misere_theory.specs.Games.{IsP, IsN}
 use Rattle.outcome_search.specs.declared.answer.Outcome.{Outcome}

@@ -11,4 +11,5 @@ pub record IsNext (code X Y : List ℕ) : Type 0 where
 -- behind the old positions stand some to which moves lead from the one with this number
 abbrev pub AddsMoves : List ℕ → ℕ → List (List ℕ) → List (List ℕ) → Type 0
 AddsMoves code number old new =
-    (more : List (List ℕ)) × (new ≡ old ++ more) × All (IsNext code (slice_index_or old number [])) more
+    (more : List (List ℕ)) × (new ≡ old ++ more)
+    × All (IsNext code (slice_index_or old number [])) more

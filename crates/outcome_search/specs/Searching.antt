@@ -1,4 +1,5 @@
--- How far a search for an outcome has come. Misère outcomes: Siegel, 'Combinatorial Game Theory', chapter V; the search is this project's own.
+-- How far a search for an outcome has come. Misère outcomes: Siegel, 'Combinatorial Game Theory',
+-- chapter V; the search is this project's own.
 use Rattle.std.specs.Prelude.{◌≡◌, ℕ, ◌+◌, ◌<◌, ◌≤◌, List, [], length, All, Contains, None, slice_index_or}
 use Rattle.std.specs.List.{AllPairs}
 use Rattle.std.specs.List.Sorted.{IsNonDecreasing}
@@ -15,7 +16,8 @@ pub record IsOnTheWay (code X Y : List ℕ) : Type 0 where
   pub rising : IsNonDecreasing Y
 
 -- Some positions are known, and others wait: each for the outcome of the next.
-pub record IsSearch (code X : List ℕ) (budget : ℕ) (memo : List (List ℕ × Outcome)) (waiting : List (List ℕ)) : Type 0 where
+pub record IsSearch (code X : List ℕ) (budget : ℕ) (memo : List (List ℕ × Outcome))
+    (waiting : List (List ℕ)) : Type 0 where
   pub right : All (λ e. HasOutcome code e.0 e.1) memo
   pub memo_reached : All (λ e. IsOnTheWay code X e.0) memo
   pub waiting_reached : All (IsOnTheWay code X) waiting

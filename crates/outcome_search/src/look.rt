@@ -23,15 +23,17 @@ pub(crate) enum Seen {
     Unknown,
 }
 
-/// The outcome of a position by what is known, or, where that isn't enough, `None`: then `next` is a position that a move leads to and of which
-/// nothing is known.
+/// The outcome of a position by what is known, or, where that isn't enough, `None`: then `next` is
+/// a position that a move leads to and of which nothing is known.
 pub(crate) fn look<A: Room + Copy>(
     code: &Code,
     position: &Position<A>,
     memo: &Memo<A>,
     next: &mut Position<A>,
 ) -> Result<Option<Outcome>, Memory>
-    ensures { IfOk result (λ seen. MatchOption seen (IsUnknown code.now position.now memo.now next.new) (Follows code.now memo.now position.now)) }
+    ensures { IfOk result
+        (λ seen. MatchOption seen (IsUnknown code.now position.now memo.now next.new)
+        (Follows code.now memo.now position.now)) }
 {
     options_are_exact();
     let heaps = position.heaps();
@@ -50,7 +52,8 @@ pub(crate) fn look<A: Room + Copy>(
     Ok(Some(if can_move { Outcome::P } else { Outcome::N }))
 }
 
-/// What the options of the heap at the place `at` show. Where one leads to a position of which nothing is known, `next` is that position.
+/// What the options of the heap at the place `at` show. Where one leads to a position of which
+/// nothing is known, `next` is that position.
 fn look_at<A: Room + Copy>(
     code: &Code,
     position: &Position<A>,
@@ -59,7 +62,9 @@ fn look_at<A: Room + Copy>(
     next: &mut Position<A>,
 ) -> Result<Seen, Memory>
     requires { at < length position.now }
-    ensures { IfOk result (λ seen. HasSeen code.now position.now memo.now at (options_of code.now (slice_index position.now at)) seen next.new) }
+    ensures { IfOk result
+        (λ seen. HasSeen code.now position.now memo.now at
+        (options_of code.now (slice_index position.now at)) seen next.new) }
 {
     options_are_exact();
     let mut seen = Seen::Nothing;

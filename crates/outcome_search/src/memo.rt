@@ -12,7 +12,8 @@ use positions::Position;
 use std::hash::{BuildHasherDefault, FoldHasher};
 use std::marker::Model;
 
-/// The outcomes that a search has found, seen as the list of positions with their outcomes, in the order in which they were found.
+/// The outcomes that a search has found, seen as the list of positions with their outcomes, in the
+/// order in which they were found.
 #[derive(Drop)]
 pub(crate) struct Memo<A: Room> {
     outcomes: IndexMap<Position<A>, Outcome, BuildHasherDefault<FoldHasher>, A>,

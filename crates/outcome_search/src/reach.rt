@@ -64,8 +64,8 @@ impl<A: Room + Copy> Reached<A> {
         Ok(())
     }
 
-    /// Adds the positions to which moves lead from the one with this number, and answers whether there are more than `most` now. It stops
-    /// where there are.
+    /// Adds the positions to which moves lead from the one with this number, and answers whether
+    /// there are more than `most` now. It stops where there are.
     fn add_moves(
         &mut self,
         alloc: A,
@@ -75,7 +75,8 @@ impl<A: Room + Copy> Reached<A> {
     ) -> Result<bool, Memory>
         requires { number < length self.old }
         ensures adds { OnOk result (AddsMoves code.now number self.old self.new) }
-        ensures more { IfOk result (λ more. IsTrue more → (most < length self.new) × IsDistinct (pointwise nat_eq) self.new) }
+        ensures more { IfOk result (λ more. IsTrue more → (most < length self.new)
+            × IsDistinct (pointwise nat_eq) self.new) }
     {
         let mut before = 0;
         for place in 0..self.at(number).heaps().len() {
@@ -100,7 +101,8 @@ impl<A: Room + Copy> Reached<A> {
         requires there { number < length self.old }
         requires place { place < length (slice_index_or self.old number []) }
         ensures adds { OnOk result (AddsMoves code.now number self.old self.new) }
-        ensures more { IfOk result (λ more. IsTrue more → (most < length self.new) × IsDistinct (pointwise nat_eq) self.new) }
+        ensures more { IfOk result (λ more. IsTrue more → (most < length self.new)
+            × IsDistinct (pointwise nat_eq) self.new) }
     {
         options_are_exact();
         for left in options(code, self.at(number).heaps()[place]) {

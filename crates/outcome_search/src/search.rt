@@ -11,15 +11,18 @@ use allocation::Room;
 use octal_code::Code;
 use positions::Position;
 
-/// Through so many positions an outcome is searched before the positions are counted that can be reached.
+/// Through so many positions an outcome is searched before the positions are counted that can be
+/// reached.
 const FEW: u32 = 1024;
 
-/// The misère outcome of a position, found by a search through the positions that moves reach from it, which remembers the outcomes that it
-/// finds. It gives up only where more than `budget` positions can be reached, the position itself counted and those that differ by the order
-/// of heaps counted once, and it answers only where that many positions settle the answer: it remembers no more. The stack doesn't grow with
-/// the length of the plays.
+/// The misère outcome of a position, found by a search through the positions that moves reach from
+/// it, which remembers the outcomes that it finds. It gives up only where more than `budget`
+/// positions can be reached, the position itself counted and those that differ by the order of
+/// heaps counted once, and it answers only where that many positions settle the answer: it
+/// remembers no more. The stack doesn't grow with the length of the plays.
 ///
-/// Where a short search doesn't settle it, the positions are counted first: to give up costs no more than to list `budget` of them.
+/// Where a short search doesn't settle it, the positions are counted first: to give up costs no
+/// more than to list `budget` of them.
 pub fn outcome<A: Room + Copy>(
     alloc: A,
     code: &Code,
@@ -28,7 +31,8 @@ pub fn outcome<A: Room + Copy>(
 ) -> Result<Outcome, SearchFault>
     ensures answer { IfOk result (HasOutcome code.now position.now) }
     ensures within { IfOk result (λ outcome. IsSettledBy code.now position.now outcome budget) }
-    ensures budget { result ≡ Err SearchFault.Budget → MoreReachableThan code.now position.now budget }
+    ensures budget { result ≡ Err SearchFault.Budget
+        → MoreReachableThan code.now position.now budget }
 {
     if budget > FEW {
         match settle(alloc, code, position, FEW) {

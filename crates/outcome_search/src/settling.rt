@@ -74,8 +74,9 @@ fn settle_all<A: Room + Copy>(
     }
 }
 
-/// The outcome of a position, found by a search that goes depth first and remembers the outcomes that it finds. It gives up where it would
-/// have to remember more than `budget` of them. The stack doesn't grow with the length of the plays.
+/// The outcome of a position, found by a search that goes depth first and remembers the outcomes
+/// that it finds. It gives up where it would have to remember more than `budget` of them. The stack
+/// doesn't grow with the length of the plays.
 pub(crate) fn settle<A: Room + Copy>(
     alloc: A,
     code: &Code,
@@ -84,7 +85,8 @@ pub(crate) fn settle<A: Room + Copy>(
 ) -> Result<Outcome, SearchFault>
     ensures answer { IfOk result (HasOutcome code.now position.now) }
     ensures within { IfOk result (λ outcome. IsSettledBy code.now position.now outcome budget) }
-    ensures budget { result ≡ Err SearchFault.Budget → MoreReachableThan code.now position.now budget }
+    ensures budget { result ≡ Err SearchFault.Budget
+        → MoreReachableThan code.now position.now budget }
 {
     if budget == 0 {
         return Err(SearchFault::Budget);

@@ -24,10 +24,13 @@ left-push B (m ∷ ms) n = omega (arith, left-push B ms n)
 left-filter : (B : ℕ) (p : Held → Bool) (ms : List Held) → left B (filter p ms) ≤ left B ms
 unfolding left
 left-filter B p [] = omega arith
-left-filter B p (m ∷ ms) = by_cond (λ z. left B z ≤ (B - m.by) + left B ms) (p m) (m ∷ filter p ms) (filter p ms)
-    (λ _. let h = left-filter B p ms in omega arith) (λ _. let h = left-filter B p ms in omega arith)
+left-filter B p (m ∷ ms) =
+    by_cond (λ z. left B z ≤ (B - m.by) + left B ms) (p m) (m ∷ filter p ms) (filter p ms)
+    (λ _. let h = left-filter B p ms in omega arith) (λ _. let h = left-filter B p ms in
+    omega arith)
 
-left-set : (B : ℕ) (ms : List Held) (i : ℕ) (n d : Held) → i < length ms → (get_or ms i d).by < B → n.by ≡ (get_or ms i d).by + 1 → left B (set ms i n) + 1 ≡ left B ms
+left-set : (B : ℕ) (ms : List Held) (i : ℕ) (n d : Held) → i < length ms → (get_or ms i d).by < B
+    → n.by ≡ (get_or ms i d).by + 1 → left B (set ms i n) + 1 ≡ left B ms
 unfolding left
 left-set B [] i n d l h e = absurd (omega arith)
 left-set B (m ∷ ms) zero n d l h e = omega arith
@@ -40,7 +43,8 @@ room_step l n B h =
     omega (arith, f, suc-mul (l - (n + 1)) B)
 
 pot : State → ℕ
-pot s = (s.limit - length s.members) * length s.heaps + left (length s.heaps) s.held + (length s.heaps - s.next)
+pot s = (s.limit - length s.members) * length s.heaps + left (length s.heaps) s.held
+    + (length s.heaps - s.next)
 
 measure : State → ℕ
 measure s = cond (is_over s) 0 (pot s)
@@ -56,32 +60,39 @@ measure-le : (s : State) (n : ℕ) → pot s ≤ n → measure s ≤ n
 unfolding measure
 measure-le s n h = by_cond (λ z. z ≤ n) (is_over s) 0 (pot s) (λ _. omega arith) (λ _. h)
 
-measure_of-keep : (t : State) (x : Pair) (parent heap : ℕ) → measure (kept_with t x parent heap) ≤ pot t
+measure_of-keep : (t : State) (x : Pair) (parent heap : ℕ)
+    → measure (kept_with t x parent heap) ≤ pot t
 unfolding measure pot
 measure_of-keep t x parent heap =
     let n : Held = record { pair = x; place = length t.members; by = 0 } in
     let e : Member = record { pair = x; parent = parent; heap = heap } in
     let len = length-append t.members (e ∷ []) in
     let B = length t.heaps in
-    by_cond (λ z. z ≤ (t.limit - length t.members) * B + left B t.held + (B - t.next)) (is_over (kept_with t x parent heap)) 0 _ (λ _. omega arith) (λ room.
+    by_cond (λ z. z ≤ (t.limit - length t.members) * B + left B t.held + (B - t.next))
+    (is_over (kept_with t x parent heap)) 0 _ (λ _. omega arith) (λ room.
     let less : length (t.members ++ e ∷ []) ≤ t.limit = ltb-false _ _ room in
     let a = room_step t.limit (length t.members) B (omega arith) in
     let b = left-push B (filter (λ m. not (covers x m.pair)) t.held) n in
     let c = left-filter B (λ m. not (covers x m.pair)) t.held in
-    let f : (t.limit - length (t.members ++ e ∷ [])) * B ≡ (t.limit - (length t.members + 1)) * B = ap (λ z. (t.limit - z) * B) len in
+    let f : (t.limit - length (t.members ++ e ∷ [])) * B ≡ (t.limit - (length t.members + 1)) * B =
+    ap (λ z. (t.limit - z) * B) len in
     omega arith)
 
-pot-bump : (s : State) (i : ℕ) → i < length s.held → (get_or s.held i blank_held).by < length s.heaps → pot (bumped s i) + 1 ≡ pot s
+pot-bump : (s : State) (i : ℕ) → i < length s.held
+    → (get_or s.held i blank_held).by < length s.heaps → pot (bumped s i) + 1 ≡ pot s
 unfolding pot
 pot-bump s i l h =
-    let a = left-set (length s.heaps) s.held i (multiplied (get_or s.held i blank_held)) blank_held l h refl in
+    let a = left-set (length s.heaps) s.held i (multiplied (get_or s.held i blank_held)) blank_held
+    l h refl in
     omega arith
 
-pot-next : (s : State) → s.next < length s.heaps → (pot (passed s) + 1 ≡ pot s) × (pot (widened s) + 1 ≡ pot s)
+pot-next : (s : State) → s.next < length s.heaps → (pot (passed s) + 1 ≡ pot s)
+    × (pot (widened s) + 1 ≡ pot s)
 unfolding pot
 pot-next s l = (omega arith, omega arith)
 
-product_falls : (s : State) → Few s → (i : ℕ) → i < length s.held → (get_or s.held i blank_held).by < length s.generators → Falls (pot s) (product_turn s i)
+product_falls : (s : State) → Few s → (i : ℕ) → i < length s.held
+    → (get_or s.held i blank_held).by < length s.generators → Falls (pot s) (product_turn s i)
 product_falls s few i l h =
     let (a, b, c) = few in
     let e = pot-bump s i l (omega arith) in
@@ -89,8 +100,10 @@ product_falls s few i l h =
     let g = get_or s.generators m.by blank_generator in
     let n : Member = record { pair = product_at s i; parent = m.place; heap = g.heap } in
     by_case (λ z. Falls (pot s) (product_if s i z)) (covered s.held (product_at s i))
-    (λ _. let u = measure-le (bumped s i) (pot (bumped s i)) (omega arith) in (omega arith, (a, b, c)))
-    (λ _. let u = measure_of-keep (bumped s i) (product_at s i) m.place g.heap in (omega arith, (a, b, omega (arith, length-append s.members (n ∷ [])))))
+    (λ _. let u = measure-le (bumped s i) (pot (bumped s i)) (omega arith) in
+    (omega arith, (a, b, c)))
+    (λ _. let u = measure_of-keep (bumped s i) (product_at s i) m.place g.heap in
+    (omega arith, (a, b, omega (arith, length-append s.members (n ∷ [])))))
 
 heap_falls : (s : State) → Few s → s.next < length s.heaps → Falls (pot s) (heap_turn s)
 heap_falls s few l =
@@ -100,8 +113,16 @@ heap_falls s few l =
     let n : Member = record { pair = x; parent = 0; heap = s.next + 1 } in
     let (e, f) = pot-next s l in
     by_case (λ z. Falls (pot s) (heap_if s z)) (covered s.held x)
-    (λ _. let u = measure-le (passed s) (pot (passed s)) (omega arith) in (omega arith, (omega arith, omega arith, c)))
-    (λ _. let u = measure_of-keep (widened s) x 0 (s.next + 1) in (omega arith, (omega (arith, length-append s.generators (g ∷ [])), omega arith, omega (arith, length-append s.members (n ∷ [])))))
+    (λ _. let u = measure-le (passed s) (pot (passed s)) (omega arith) in
+    (omega arith, (omega arith, omega arith, c)))
+    (λ _. let u = measure_of-keep (widened s) x 0 (s.next + 1) in (
+      omega arith,
+      (
+        omega (arith, length-append s.generators (g ∷ [])),
+        omega arith,
+        omega (arith, length-append s.members (n ∷ [])),
+      ),
+    ))
 
 same_measure : (s : State) → is_over s ≡ false → measure s ≡ pot s
 unfolding measure
@@ -116,15 +137,31 @@ falls s few = elim (either (is_over s)) [
       elim (either (nat_lt (pending s) (length s.held))) [
         | inl more ↦
             let lt = ltb-true _ _ more in
-            let k : Multiplies s (pending s) = record { room = ltb-false _ _ room; some = few.2; first = refl; within = lt } in
-            let r = product_falls s few (pending s) lt (ltb-true _ _ (passes_at_first (λ m. nat_lt m.by (length s.generators)) s.held blank_held lt)) in
-            inr (subst (Falls (measure s)) (sym (turn_product s (pending s) k)) (subst (λ n. Falls n (product_turn s (pending s))) (sym is) r))
+            let k : Multiplies s (pending s) =
+            record { room = ltb-false _ _ room; some = few.2; first = refl; within = lt } in
+            let r =
+            product_falls s few (pending s) lt
+            (ltb-true _ _
+            (passes_at_first (λ m. nat_lt m.by (length s.generators)) s.held blank_held lt)) in
+            inr (subst (Falls (measure s)) (sym (turn_product s (pending s) k))
+            (subst (λ n. Falls n (product_turn s (pending s))) (sym is) r))
         | inr none ↦ elim (either (nat_lt s.next (length s.heaps))) [
           | inl more ↦
-              let k : TriesHeap s = record { room = ltb-false _ _ room; some = few.2; all = ltb-false _ _ none; more = ltb-true _ _ more } in
-              inr (subst (Falls (measure s)) (sym (turn_heap s k)) (subst (λ n. Falls n (heap_turn s)) (sym is) (heap_falls s few (ltb-true _ _ more))))
+              let k : TriesHeap s =
+              record {
+                room = ltb-false _ _ room;
+                some = few.2;
+                all = ltb-false _ _ none;
+                more = ltb-true _ _ more;
+              } in
+              inr (subst (Falls (measure s)) (sym (turn_heap s k))
+              (subst (λ n. Falls n (heap_turn s)) (sym is)
+              (heap_falls s few (ltb-true _ _ more))))
           | inr last ↦
-              inl (true_or (is_over s) (is_done s) (inr (if_false (is_over s) false _ room ∙ if_true (nat_lt 0 (length s.members)) _ false (lt-ltb _ _ few.2) ∙ if_false (nat_lt (pending s) (length s.held)) false _ none ∙ ap not last)))
+              inl (true_or (is_over s) (is_done s)
+              (inr (if_false (is_over s) false _ room
+              ∙ if_true (nat_lt 0 (length s.members)) _ false (lt-ltb _ _ few.2)
+              ∙ if_false (nat_lt (pending s) (length s.held)) false _ none ∙ ap not last)))
         ]
       ]
 ]
@@ -141,18 +178,23 @@ module _ (table : Grid) (heaps : List Pair) (limit : ℕ) where
 
   first_measure : measure first ≤ limit * length heaps
   unfolding measure pot left
-  first_measure = by_cond (λ z. z ≤ limit * length heaps) (is_over first) 0 _ (λ _. omega arith) (λ room.
+  first_measure = by_cond (λ z. z ≤ limit * length heaps) (is_over first) 0 _ (λ _. omega arith)
+      (λ room.
       let more : 1 ≤ limit = ltb-false _ _ room in
       let a = room_step limit 0 (length heaps) (omega arith) in
       let b : (limit - (0 + 1)) * length heaps ≡ (limit - 1) * length heaps = refl in
-      let c : (limit - 0) * length heaps ≡ limit * length heaps = ap (λ z. z * length heaps) (let q : limit - 0 ≡ limit = omega arith in q) in
+      let c : (limit - 0) * length heaps ≡ limit * length heaps =
+      ap (λ z. z * length heaps) (let q : limit - 0 ≡ limit = omega arith in q) in
       omega arith)
 
   still : (n : ℕ) → has_ended (after n) ≡ true → has_ended (after (suc n)) ≡ true
   still n e = subst (λ s. has_ended s ≡ true) (sym (stays_put (after n) e)) e
 
-  counted : (n : ℕ) → (has_ended (after (suc n)) ≡ true) ⊎ ((measure (after (suc n)) + n ≤ limit * length heaps) × Few (after (suc n)))
-  counted zero = inr (subst (λ z. (measure z + 0 ≤ limit * length heaps) × Few z) (sym first_is) (let h = first_measure in omega arith, (omega arith, omega arith, omega arith)))
+  counted : (n : ℕ) → (has_ended (after (suc n)) ≡ true)
+      ⊎ ((measure (after (suc n)) + n ≤ limit * length heaps) × Few (after (suc n)))
+  counted zero =
+      inr (subst (λ z. (measure z + 0 ≤ limit * length heaps) × Few z) (sym first_is)
+      (let h = first_measure in omega arith, (omega arith, omega arith, omega arith)))
   counted (suc n) = elim (counted n) [
     | inl e ↦ inl (still (suc n) e)
     | inr (h, few) ↦ elim (falls (after (suc n)) few) [
@@ -165,4 +207,6 @@ module _ (table : Grid) (heaps : List Pair) (limit : ℕ) where
   pub ends_within : has_ended (after (limit * length heaps + 2)) ≡ true
   ends_within =
       let q : suc (limit * length heaps + 1) ≡ limit * length heaps + 2 = omega arith in
-      subst (λ k. has_ended (after k) ≡ true) q (elim (counted (limit * length heaps + 1)) [ inl e ↦ e | inr (h, f) ↦ absurd (omega arith) ])
+      subst (λ k. has_ended (after k) ≡ true) q
+      (elim (counted (limit * length heaps + 1))
+      [ inl e ↦ e | inr (h, f) ↦ absurd (omega arith) ])

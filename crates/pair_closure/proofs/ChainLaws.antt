@@ -15,34 +15,47 @@ value_at ms i = (get_or ms i blank).pair.value
 
 pub last-le : (ms : List Member) (v n : ℕ) → last_with ms v n ≤ n
 last-le ms v zero = omega arith
-last-le ms v (suc n) = by_cond (λ z. z ≤ suc n) (nat_eq (value_at ms n) v) (suc n) (last_with ms v n) (λ _. omega arith) (λ _. let h = last-le ms v n in omega arith)
+last-le ms v (suc n) =
+    by_cond (λ z. z ≤ suc n) (nat_eq (value_at ms n) v) (suc n) (last_with ms v n)
+    (λ _. omega arith) (λ _. let h = last-le ms v n in omega arith)
 
 -- the member there has the value
-pub last-is : (ms : List Member) (v n : ℕ) → 0 < last_with ms v n → value_at ms (last_with ms v n - 1) ≡ v
+pub last-is : (ms : List Member) (v n : ℕ) → 0 < last_with ms v n
+    → value_at ms (last_with ms v n - 1) ≡ v
 last-is ms v zero h = absurd (omega arith)
 last-is ms v (suc n) h = split (last-is ms v n) (nat_eq (value_at ms n) v) refl h
   where
-    split : (0 < last_with ms v n → value_at ms (last_with ms v n - 1) ≡ v) → (b : Bool) → nat_eq (value_at ms n) v ≡ b → 0 < cond b (suc n) (last_with ms v n) → value_at ms (cond b (suc n) (last_with ms v n) - 1) ≡ v
-    split r true e h = let q : n ≡ suc n - 1 = omega arith in subst (λ k. value_at ms k ≡ v) q (eqb-true _ _ e)
+    split : (0 < last_with ms v n → value_at ms (last_with ms v n - 1) ≡ v) → (b : Bool)
+        → nat_eq (value_at ms n) v ≡ b → 0 < cond b (suc n) (last_with ms v n)
+        → value_at ms (cond b (suc n) (last_with ms v n) - 1) ≡ v
+    split r true e h = let q : n ≡ suc n - 1 = omega arith in
+        subst (λ k. value_at ms k ≡ v) q (eqb-true _ _ e)
     split r false e h = r h
 
 -- no later one has it
-pub last-skips : (ms : List Member) (v n k : ℕ) → last_with ms v n ≤ k → k < n → value_at ms k ≡ v → ⊥
+pub last-skips : (ms : List Member) (v n k : ℕ) → last_with ms v n ≤ k → k < n → value_at ms k ≡ v
+    → ⊥
 last-skips ms v zero k a l e = omega arith
-last-skips ms v (suc n) k a l e = split (λ a h. last-skips ms v n k a h e) (nat_eq (value_at ms n) v) refl a
+last-skips ms v (suc n) k a l e =
+    split (λ a h. last-skips ms v n k a h e) (nat_eq (value_at ms n) v) refl a
   where
-    split : (last_with ms v n ≤ k → k < n → ⊥) → (b : Bool) → nat_eq (value_at ms n) v ≡ b → cond b (suc n) (last_with ms v n) ≤ k → ⊥
+    split : (last_with ms v n ≤ k → k < n → ⊥) → (b : Bool) → nat_eq (value_at ms n) v ≡ b
+        → cond b (suc n) (last_with ms v n) ≤ k → ⊥
     split r true q a = omega arith
     split r false q a = elim (cases_lt k n) [
       | inl h ↦ r a h
-      | inr h ↦ let r : k ≡ n = omega arith in not_both (eq-eqb _ _ (ap (value_at ms) (sym r) ∙ e)) q
+      | inr h ↦ let r : k ≡ n = omega arith in
+          not_both (eq-eqb _ _ (ap (value_at ms) (sym r) ∙ e)) q
     ]
 
 -- places that are the same below n
-pub last-same : (ms ns : List Member) (v n : ℕ) → ((k : ℕ) → k < n → value_at ms k ≡ value_at ns k) → last_with ms v n ≡ last_with ns v n
+pub last-same : (ms ns : List Member) (v n : ℕ) → ((k : ℕ) → k < n → value_at ms k ≡ value_at ns k)
+    → last_with ms v n ≡ last_with ns v n
 last-same ms ns v zero h = refl
 last-same ms ns v (suc n) h =
-    ap (λ z. cond (nat_eq z v) (suc n) (last_with ms v n)) (h n (omega arith)) ∙ ap (cond (nat_eq (value_at ns n) v) (suc n)) (last-same ms ns v n (λ k l. h k (omega arith)))
+    ap (λ z. cond (nat_eq z v) (suc n) (last_with ms v n)) (h n (omega arith))
+    ∙ ap (cond (nat_eq (value_at ns n) v) (suc n))
+    (last-same ms ns v n (λ k l. h k (omega arith)))
 
 -- a walk has passed no member that passes the test
 pub record IsAt (ms : List Member) (v : ℕ) (test : Pair → Bool) (at : ℕ) : Type 0 where
@@ -60,17 +73,20 @@ covering_of x p e = (covering p x e).value
 pub covered_of : (x : Pair) → OfValue (λ p. covers x p) x.value
 covered_of x p e = sym (covering x p e).value
 
-fails_off : (test : Pair → Bool) (v : ℕ) → OfValue test v → (p : Pair) → (p.value ≡ v → ⊥) → test p ≡ false
+fails_off : (test : Pair → Bool) (v : ℕ) → OfValue test v → (p : Pair) → (p.value ≡ v → ⊥)
+    → test p ≡ false
 fails_off test v of p h = elim (either (test p)) [ inl t ↦ absurd (h (of p t)) | inr f ↦ f ]
 
-pub walk_from : (ms : List Member) (v : ℕ) (test : Pair → Bool) (at : ℕ) → OfValue test v → at ≡ last_with ms v (length ms) → IsAt ms v test at
+pub walk_from : (ms : List Member) (v : ℕ) (test : Pair → Bool) (at : ℕ) → OfValue test v
+    → at ≡ last_with ms v (length ms) → IsAt ms v test at
 walk_from ms v test at of e = subst (IsAt ms v test) (sym e) (record {
   within = last-le ms v (length ms);
   value = last-is ms v (length ms);
   passed = λ k a l. fails_off test v of _ (last-skips ms v (length ms) k a l);
 })
 
-pub walk_on : (ms : List Member) (v : ℕ) (test : Pair → Bool) (at next : ℕ) → OfValue test v → IsAt ms v test at → 0 < at → test (get_or ms (at - 1) blank).pair ≡ false
+pub walk_on : (ms : List Member) (v : ℕ) (test : Pair → Bool) (at next : ℕ) → OfValue test v
+    → IsAt ms v test at → 0 < at → test (get_or ms (at - 1) blank).pair ≡ false
     → next ≡ last_with ms (value_at ms (at - 1)) (at - 1) → IsAt ms v test next
 walk_on ms v test at next of w some fails e =
     let f : next ≡ last_with ms v (at - 1) = e ∙ ap (λ z. last_with ms z (at - 1)) (w.value some) in
@@ -87,10 +103,12 @@ walk_on ms v test at next of w some fails e =
       ];
     })
 
-pub walk_falls : (ms : List Member) (v at next : ℕ) → 0 < at → next ≡ last_with ms v (at - 1) → next < at
+pub walk_falls : (ms : List Member) (v at next : ℕ) → 0 < at → next ≡ last_with ms v (at - 1)
+    → next < at
 walk_falls ms v at next some e = let h = last-le ms v (at - 1) in omega arith
 
-pub walk_ends : (ms : List Member) (v : ℕ) (test : Pair → Bool) (at : ℕ) → IsAt ms v test at → at ≡ 0 → false ≡ list_any (λ m. test m.pair) ms
+pub walk_ends : (ms : List Member) (v : ℕ) (test : Pair → Bool) (at : ℕ) → IsAt ms v test at
+    → at ≡ 0 → false ≡ list_any (λ m. test m.pair) ms
 walk_ends ms v test at w e = elim (either (list_any (λ m. test m.pair) ms)) [
   | inl t ↦
       let (m, i, p) = find_any (λ m. test m.pair) ms t in
@@ -100,32 +118,49 @@ walk_ends ms v test at w e = elim (either (list_any (λ m. test m.pair) ms)) [
 ]
 
 -- one member more
-pub chained_push : (ms : List Member) (older newest : List ℕ) (m : Member) → AreChained ms older newest → m.pair.value < length newest
-    → AreChained (ms ++ m ∷ []) (older ++ get_or newest m.pair.value 0 ∷ []) (set newest m.pair.value (length ms + 1))
+pub chained_push : (ms : List Member) (older newest : List ℕ) (m : Member)
+    → AreChained ms older newest → m.pair.value < length newest
+    → AreChained (ms ++ m ∷ []) (older ++ get_or newest m.pair.value 0 ∷ [])
+    (set newest m.pair.value (length ms + 1))
 chained_push ms older newest m w l =
     let n = length ms in
     let more : length (ms ++ m ∷ []) ≡ suc n = omega (arith, length-append ms (m ∷ [])) in
     let new : get_or (ms ++ m ∷ []) n blank ≡ m = get_or_push ms m blank n refl in
-    let same : (k : ℕ) → k < n → value_at ms k ≡ value_at (ms ++ m ∷ []) k = λ k h. ap (λ z. z.pair.value) (sym (get_or_append_left ms (m ∷ []) blank k h)) in
+    let same : (k : ℕ) → k < n → value_at ms k ≡ value_at (ms ++ m ∷ []) k =
+    λ k h. ap (λ z. z.pair.value) (sym (get_or_append_left ms (m ∷ []) blank k h)) in
     let len = w.length_is in
     record {
-      length_is = omega (arith, length-append ms (m ∷ []), length-append older (get_or newest m.pair.value 0 ∷ []));
+      length_is =
+          omega (
+            arith,
+            length-append ms (m ∷ []),
+            length-append older (get_or newest m.pair.value 0 ∷ []),
+          );
       before = λ i h. elim (cases_lt i n) [
         | inl k ↦
-            get_or_append_left older (get_or newest m.pair.value 0 ∷ []) 0 i (omega arith) ∙ w.before i k ∙ ap (λ z. last_with ms z i) (same i k)
+            get_or_append_left older (get_or newest m.pair.value 0 ∷ []) 0 i (omega arith)
+            ∙ w.before i k ∙ ap (λ z. last_with ms z i) (same i k)
             ∙ last-same ms (ms ++ m ∷ []) _ i (λ j p. same j (omega arith))
         | inr k ↦
             let q : i ≡ n = omega arith in
-            get_or_push older (get_or newest m.pair.value 0) 0 i (len ∙ sym q) ∙ w.last m.pair.value ∙ last-same ms (ms ++ m ∷ []) _ n same
-            ∙ ap (λ z. last_with (ms ++ m ∷ []) z.pair.value n) (sym new) ∙ ap (λ j. last_with (ms ++ m ∷ []) (value_at (ms ++ m ∷ []) j) j) (sym q)
+            get_or_push older (get_or newest m.pair.value 0) 0 i (len ∙ sym q) ∙ w.last m.pair.value
+            ∙ last-same ms (ms ++ m ∷ []) _ n same
+            ∙ ap (λ z. last_with (ms ++ m ∷ []) z.pair.value n) (sym new)
+            ∙ ap (λ j. last_with (ms ++ m ∷ []) (value_at (ms ++ m ∷ []) j) j) (sym q)
       ];
       last = λ v. elim (cases_eq v m.pair.value) [
         | inl q ↦
-            ap (λ z. get_or (set newest m.pair.value (n + 1)) z 0) q ∙ get_or-set_same newest m.pair.value (n + 1) 0 l ∙ plus_one n
-            ∙ sym (pick (nat_eq (value_at (ms ++ m ∷ []) n) v) _ _ (eq-eqb _ _ (ap (λ z. z.pair.value) new ∙ sym q))) ∙ ap (last_with (ms ++ m ∷ []) v) (sym more)
+            ap (λ z. get_or (set newest m.pair.value (n + 1)) z 0) q
+            ∙ get_or-set_same newest m.pair.value (n + 1) 0 l ∙ plus_one n
+            ∙ sym (pick (nat_eq (value_at (ms ++ m ∷ []) n) v) _ _
+            (eq-eqb _ _ (ap (λ z. z.pair.value) new ∙ sym q))) ∙ ap (last_with (ms ++ m ∷ []) v)
+            (sym more)
         | inr q ↦
-            get_or-set_other newest m.pair.value v (n + 1) 0 q ∙ w.last v ∙ last-same ms (ms ++ m ∷ []) v n same
-            ∙ sym (drop_to (nat_eq (value_at (ms ++ m ∷ []) n) v) (suc n) _ (differs _ (λ e. q (sym e ∙ ap (λ z. z.pair.value) new)))) ∙ ap (last_with (ms ++ m ∷ []) v) (sym more)
+            get_or-set_other newest m.pair.value v (n + 1) 0 q ∙ w.last v
+            ∙ last-same ms (ms ++ m ∷ []) v n same
+            ∙ sym (drop_to (nat_eq (value_at (ms ++ m ∷ []) n) v) (suc n) _
+            (differs _ (λ e. q (sym e ∙ ap (λ z. z.pair.value) new))))
+            ∙ ap (last_with (ms ++ m ∷ []) v) (sym more)
       ];
     }
   where
@@ -141,33 +176,48 @@ chained_push ms older newest m w l =
     drop_to false x y e = refl
 
     differs : {a : ℕ} (b : ℕ) → (a ≡ b → ⊥) → nat_eq a b ≡ false
-    differs {a = a} b h = elim (either (nat_eq a b)) [ inl t ↦ absurd (h (eqb-true a b t)) | inr f ↦ f ]
+    differs {a = a} b h =
+        elim (either (nat_eq a b)) [ inl t ↦ absurd (h (eqb-true a b t)) | inr f ↦ f ]
 
 -- longer heads with nothing in them
-pub chained_reach : (ms : List Member) (older newest others : List ℕ) → ((v : ℕ) → get_or others v 0 ≡ get_or newest v 0) → AreChained ms older newest → AreChained ms older others
-chained_reach ms older newest others h w = record { length_is = w.length_is; before = w.before; last = λ v. h v ∙ w.last v }
+pub chained_reach : (ms : List Member) (older newest others : List ℕ)
+    → ((v : ℕ) → get_or others v 0 ≡ get_or newest v 0) → AreChained ms older newest
+    → AreChained ms older others
+chained_reach ms older newest others h w =
+    record { length_is = w.length_is; before = w.before; last = λ v. h v ∙ w.last v }
 
-pub same_default : {A : Type 0} (xs : List A) (i : ℕ) (d e : A) → i < length xs → get_or xs i d ≡ get_or xs i e
+pub same_default : {A : Type 0} (xs : List A) (i : ℕ) (d e : A) → i < length xs
+    → get_or xs i d ≡ get_or xs i e
 same_default [] i d e l = absurd (omega arith)
 same_default (x ∷ xs) zero d e l = refl
 same_default (x ∷ xs) (suc i) d e l = same_default xs i d e (omega arith)
 
 -- what a step of a walk reads
-pub read_member : (ms : List Member) (v : ℕ) (test : Pair → Bool) (at : ℕ) (m : Member) → IsAt ms v test at → 0 < at → m ≡ get_or ms (at - 1) m → m ≡ get_or ms (at - 1) blank
-read_member ms v test at m w some e = let l = w.within in e ∙ same_default ms (at - 1) m blank (omega arith)
+pub read_member : (ms : List Member) (v : ℕ) (test : Pair → Bool) (at : ℕ) (m : Member)
+    → IsAt ms v test at → 0 < at → m ≡ get_or ms (at - 1) m → m ≡ get_or ms (at - 1) blank
+read_member ms v test at m w some e = let l = w.within in
+    e ∙ same_default ms (at - 1) m blank (omega arith)
 
-pub read_older : (ms : List Member) (older newest : List ℕ) (v : ℕ) (test : Pair → Bool) (at r : ℕ) → AreChained ms older newest → IsAt ms v test at → 0 < at → r ≡ get_or older (at - 1) r → r ≡ last_with ms (value_at ms (at - 1)) (at - 1)
+pub read_older : (ms : List Member) (older newest : List ℕ) (v : ℕ) (test : Pair → Bool) (at r : ℕ)
+    → AreChained ms older newest → IsAt ms v test at → 0 < at → r ≡ get_or older (at - 1) r
+    → r ≡ last_with ms (value_at ms (at - 1)) (at - 1)
 read_older ms older newest v test at r chain w some e =
     let l = w.within in
     let k = chain.length_is in
     e ∙ same_default older (at - 1) r 0 (omega arith) ∙ chain.before (at - 1) (omega arith)
 
 -- what a push writes
-pub pushed : (ms : List Member) (older newest : List ℕ) (m : Member) (ms2 : List Member) (older2 : List ℕ) (n before : ℕ) → AreChained ms older newest → m.pair.value < length newest
-    → ms2 ≡ ms ++ m ∷ [] → older2 ≡ older ++ before ∷ [] → n ≡ length ms → before ≡ get_or newest m.pair.value before → AreChained ms2 older2 (set newest m.pair.value (n + 1))
+pub pushed : (ms : List Member) (older newest : List ℕ) (m : Member) (ms2 : List Member)
+    (older2 : List ℕ) (n before : ℕ) → AreChained ms older newest → m.pair.value < length newest
+    → ms2 ≡ ms ++ m ∷ [] → older2 ≡ older ++ before ∷ [] → n ≡ length ms
+    → before ≡ get_or newest m.pair.value before
+    → AreChained ms2 older2 (set newest m.pair.value (n + 1))
 pushed ms older newest m ms2 older2 n before w l a b d e =
-    let f : before ≡ get_or newest m.pair.value 0 = e ∙ same_default newest m.pair.value before 0 l in
+    let f : before ≡ get_or newest m.pair.value 0 = e ∙ same_default newest m.pair.value before 0 l
+    in
     subst (λ z. AreChained z older2 (set newest m.pair.value (n + 1))) (sym a)
     (subst (λ z. AreChained (ms ++ m ∷ []) z (set newest m.pair.value (n + 1))) (sym b)
-    (subst (λ z. AreChained (ms ++ m ∷ []) (older ++ z ∷ []) (set newest m.pair.value (n + 1))) (sym f)
-    (subst (λ z. AreChained (ms ++ m ∷ []) (older ++ get_or newest m.pair.value 0 ∷ []) (set newest m.pair.value (z + 1))) (sym d) (chained_push ms older newest m w l))))
+    (subst (λ z. AreChained (ms ++ m ∷ []) (older ++ z ∷ []) (set newest m.pair.value (n + 1)))
+    (sym f)
+    (subst (λ z. AreChained (ms ++ m ∷ []) (older ++ get_or newest m.pair.value 0 ∷ [])
+    (set newest m.pair.value (z + 1))) (sym d) (chained_push ms older newest m w l))))

@@ -21,7 +21,8 @@ use Rattle.pair_closure.proofs.PairLaws.{covers_itself, covers_trans}
 -- x is a product of generators
 pub data Made (table : Grid) (gens : List Generator) : Pair → Type 0 where
   Empty : {x : Pair} → x ≡ one → Made table gens x
-  More : {x y : Pair} (g : Generator) → Made table gens x → In g gens → y ≡ times table x g.pair → Made table gens y
+  More : {x y : Pair} (g : Generator) → Made table gens x → In g gens → y ≡ times table x g.pair
+      → Made table gens y
 
 -- the member ever kept at i is an earlier one times a heap
 pub record IsStep (table : Grid) (heaps : List Pair) (members : List Member) (i : ℕ) : Type 0 where
@@ -29,7 +30,8 @@ pub record IsStep (table : Grid) (heaps : List Pair) (members : List Member) (i 
   pub heap : (1 ≤ (get_or members i blank).heap) × ((get_or members i blank).heap ≤ length heaps)
   pub product :
       (get_or members i blank).pair
-      ≡ times table (get_or members (get_or members i blank).parent blank).pair (get_or heaps ((get_or members i blank).heap - 1) one)
+      ≡ times table (get_or members (get_or members i blank).parent blank).pair
+      (get_or heaps ((get_or members i blank).heap - 1) one)
 
 pub record IsGenerator (heaps : List Pair) (g : Generator) : Type 0 where
   pub heap : (1 ≤ g.heap) × (g.heap ≤ length heaps)
@@ -39,7 +41,8 @@ pub record IsGenerator (heaps : List Pair) (g : Generator) : Type 0 where
 abbrev pub HasProducts : Grid → List Generator → (Pair → Type 0) → Held → Type 0
 HasProducts table gens C m =
     (m.pair ≡ one)
-    ⊎ ((m.by ≤ length gens) × ((j : ℕ) → j < m.by → C (times table m.pair (get_or gens j blank_generator).pair)))
+    ⊎ ((m.by ≤ length gens)
+    × ((j : ℕ) → j < m.by → C (times table m.pair (get_or gens j blank_generator).pair)))
 
 -- the member held is the one ever kept at its place
 abbrev pub HasPlace : List Member → Held → Type 0
@@ -86,7 +89,8 @@ abbrev pub SettledBut : List Held → Pair → Pair → Type 0
 SettledBut held x y = (covered held y ≡ true) ⊎ (y ≡ x)
 
 -- what is covered still is after x was kept
-covered_after_keep : (held : List Held) (x y : Pair) (place by : ℕ) → SettledBut held x y → covered (held_with held x place by) y ≡ true
+covered_after_keep : (held : List Held) (x y : Pair) (place by : ℕ) → SettledBut held x y
+    → covered (held_with held x place by) y ≡ true
 covered_after_keep held x y place by h =
     elim h [
       | inr same ↦ last (subst (λ z. covers x z ≡ true) (sym same) (covers_itself x))
@@ -94,7 +98,9 @@ covered_after_keep held x y place by h =
           let (m, i, c) = find_any (λ m. covers m.pair y) held old in
           elim (either (covers x m.pair)) [
             | inl up ↦ last (covers_trans x m.pair y up c)
-            | inr stays ↦ any_from (λ m. covers m.pair y) _ m (In-left _ _ m (In-filter_from (λ m. not (covers x m.pair)) held m i (ap not stays))) c
+            | inr stays ↦ any_from (λ m. covers m.pair y) _ m
+                (In-left _ _ m
+                (In-filter_from (λ m. not (covers x m.pair)) held m i (ap not stays))) c
           ]
     ]
   where
@@ -102,7 +108,8 @@ covered_after_keep held x y place by h =
     last c = any_from (λ m. covers m.pair y) _ _ (In-last _ _) c
 
 -- where the product turns out covered, all is settled
-pub settle : (s : State) (x : Pair) → covered s.held x ≡ true → Inv (SettledBut s.held x) s → Holds s
+pub settle : (s : State) (x : Pair) → covered s.held x ≡ true → Inv (SettledBut s.held x) s
+    → Holds s
 settle s x c v = record {
   lawful = v.lawful;
   heaps_in = v.heaps_in;
@@ -110,7 +117,9 @@ settle s x c v = record {
   gens_are = v.gens_are;
   one_held = v.one_held;
   gens_held = λ g i. done (v.gens_held g i);
-  products = λ m i. elim (v.products m i) [ inl e ↦ inl e | inr (b, all) ↦ inr (b, λ j l. done (all j l)) ];
+  products =
+      λ m i.
+      elim (v.products m i) [ inl e ↦ inl e | inr (b, all) ↦ inr (b, λ j l. done (all j l)) ];
   members_made = v.members_made;
   members_held = v.members_held;
   held_members = v.held_members;
@@ -125,31 +134,42 @@ settle s x c v = record {
     done : {y : Pair} → SettledBut s.held x y → covered s.held y ≡ true
     done h = elim h [ inl e ↦ e | inr e ↦ ap (covered s.held) e ∙ c ]
 
-pub generator_in : {C : Pair → Type 0} (s : State) → Inv C s → (g : Generator) → In g s.generators → IsPair s.table.order g.pair
+pub generator_in : {C : Pair → Type 0} (s : State) → Inv C s → (g : Generator) → In g s.generators
+    → IsPair s.table.order g.pair
 generator_in s v g i =
     let w = v.gens_are g i in
     let (a, b) = w.heap in
     subst (IsPair s.table.order) (sym w.pair) (v.heaps_in _ (In-at s.heaps _ one (omega arith)))
 
-pub made_in : {C : Pair → Type 0} (s : State) → Inv C s → {x : Pair} → Made s.table s.generators x → IsPair s.table.order x
+pub made_in : {C : Pair → Type 0} (s : State) → Inv C s → {x : Pair} → Made s.table s.generators x
+    → IsPair s.table.order x
 made_in s v (Empty e) = subst (IsPair s.table.order) (sym e) (pair_laws s.table v.lawful).one_in
-made_in s v (More g w i e) = subst (IsPair s.table.order) (sym e) ((pair_laws s.table v.lawful).times_in _ _ (made_in s v w) (generator_in s v g i))
+made_in s v (More g w i e) =
+    subst (IsPair s.table.order) (sym e)
+    ((pair_laws s.table v.lawful).times_in _ _ (made_in s v w) (generator_in s v g i))
 
-step_stays : (table : Grid) (heaps : List Pair) (members : List Member) (n : Member) (i : ℕ) → i < length members → IsStep table heaps members i → IsStep table heaps (members ++ n ∷ []) i
+step_stays : (table : Grid) (heaps : List Pair) (members : List Member) (n : Member) (i : ℕ)
+    → i < length members → IsStep table heaps members i → IsStep table heaps (members ++ n ∷ []) i
 step_stays table heaps members n i lt w =
     let e1 = get_or_append_left members (n ∷ []) blank i lt in
     let less = w.earlier in
-    let e2 = get_or_append_left members (n ∷ []) blank (get_or members i blank).parent (omega arith) in
+    let e2 = get_or_append_left members (n ∷ []) blank (get_or members i blank).parent (omega arith)
+    in
     record {
       earlier = subst (λ z. z.parent < i) (sym e1) w.earlier;
       heap = subst (λ z. (1 ≤ z.heap) × (z.heap ≤ length heaps)) (sym e1) w.heap;
       product =
-          subst (λ z. z.pair ≡ times table (get_or (members ++ n ∷ []) z.parent blank).pair (get_or heaps (z.heap - 1) one)) (sym e1)
-          (w.product ∙ ap (λ z. times table z.pair (get_or heaps ((get_or members i blank).heap - 1) one)) (sym e2));
+          subst (λ z. z.pair ≡ times table (get_or (members ++ n ∷ []) z.parent blank).pair
+          (get_or heaps (z.heap - 1) one)) (sym e1)
+          (w.product
+          ∙ ap (λ z. times table z.pair (get_or heaps ((get_or members i blank).heap - 1) one))
+          (sym e2));
     }
 
-step_new : (table : Grid) (heaps : List Pair) (members : List Member) (n : Member) → n.parent < length members → (1 ≤ n.heap) × (n.heap ≤ length heaps)
-    → n.pair ≡ times table (get_or members n.parent blank).pair (get_or heaps (n.heap - 1) one) → IsStep table heaps (members ++ n ∷ []) (length members)
+step_new : (table : Grid) (heaps : List Pair) (members : List Member) (n : Member)
+    → n.parent < length members → (1 ≤ n.heap) × (n.heap ≤ length heaps)
+    → n.pair ≡ times table (get_or members n.parent blank).pair (get_or heaps (n.heap - 1) one)
+    → IsStep table heaps (members ++ n ∷ []) (length members)
 step_new table heaps members n less heap is =
     let e1 = get_or_push members n blank (length members) refl in
     let e2 = get_or_append_left members (n ∷ []) blank n.parent less in
@@ -157,19 +177,25 @@ step_new table heaps members n less heap is =
       earlier = subst (λ z. z.parent < length members) (sym e1) less;
       heap = subst (λ z. (1 ≤ z.heap) × (z.heap ≤ length heaps)) (sym e1) heap;
       product =
-          subst (λ z. z.pair ≡ times table (get_or (members ++ n ∷ []) z.parent blank).pair (get_or heaps (z.heap - 1) one)) (sym e1)
+          subst (λ z. z.pair ≡ times table (get_or (members ++ n ∷ []) z.parent blank).pair
+          (get_or heaps (z.heap - 1) one)) (sym e1)
           (is ∙ ap (λ z. times table z.pair (get_or heaps (n.heap - 1) one)) (sym e2));
     }
 
-module _ (s : State) (x : Pair) (parent heap : ℕ) (v : Inv (SettledBut s.held x) s) (new : covered s.held x ≡ false) (room : length s.members ≤ s.limit) (made : Made s.table s.generators x)
-    (older : parent < length s.members) (is_heap : (1 ≤ heap) × (heap ≤ length s.heaps)) (is : x ≡ times s.table (get_or s.members parent blank).pair (get_or s.heaps (heap - 1) one)) where
+module _ (s : State) (x : Pair) (parent heap : ℕ) (v : Inv (SettledBut s.held x) s)
+    (new : covered s.held x ≡ false) (room : length s.members ≤ s.limit)
+    (made : Made s.table s.generators x)
+    (older : parent < length s.members) (is_heap : (1 ≤ heap) × (heap ≤ length s.heaps))
+    (is : x ≡ times s.table (get_or s.members parent blank).pair
+    (get_or s.heaps (heap - 1) one)) where
   abbrev e_new : Member
   e_new = record { pair = x; parent = parent; heap = heap }
 
   abbrev n_new : Held
   n_new = record { pair = x; place = length s.members; by = 0 }
 
-  lift : (y : Pair) → SettledBut s.held x y → covered (held_with s.held x (length s.members) 0) y ≡ true
+  lift : (y : Pair) → SettledBut s.held x y → covered (held_with s.held x (length s.members) 0) y
+      ≡ true
   lift y h = covered_after_keep s.held x y _ _ h
 
   old_member : (m : Held) → In m (filter (λ m. not (covers x m.pair)) s.held) → In m s.held
@@ -183,33 +209,69 @@ module _ (s : State) (x : Pair) (parent heap : ℕ) (v : Inv (SettledBut s.held 
   keep_inv = record {
     lawful = v.lawful;
     heaps_in = v.heaps_in;
-    held_in = λ m i. elim (In-push _ _ m i) [ inl h ↦ v.held_in m (old_member m h) | inr e ↦ subst (λ n. IsPair s.table.order n.pair) (sym e) (made_in s v made) ];
+    held_in =
+        λ m i.
+        elim (In-push _ _ m i) [
+          | inl h ↦ v.held_in m (old_member m h)
+          | inr e ↦ subst (λ n. IsPair s.table.order n.pair)
+              (sym e) (made_in s v made)
+        ];
     gens_are = v.gens_are;
     one_held = lift one (inl v.one_held);
     gens_held = λ g i. lift g.pair (v.gens_held g i);
     products = λ m i. elim (In-push _ _ m i) [
-      | inl h ↦ elim (v.products m (old_member m h)) [ inl e ↦ inl e | inr (b, all) ↦ inr (b, λ j l. lift _ (all j l)) ]
-      | inr e ↦ subst (HasProducts s.table s.generators (Settled (kept_with s x parent heap))) (sym e) (inr (omega arith, λ j l. absurd (omega arith)))
+      | inl h ↦ elim (v.products m (old_member m h))
+          [ inl e ↦ inl e | inr (b, all) ↦ inr (b, λ j l. lift _ (all j l)) ]
+      | inr e ↦ subst (HasProducts s.table s.generators (Settled (kept_with s x parent heap)))
+          (sym e) (inr (omega arith, λ j l. absurd (omega arith)))
     ];
-    members_made = λ e i. elim (In-push _ _ e i) [ inl h ↦ v.members_made e h | inr q ↦ subst (λ n. Made s.table s.generators n.pair) (sym q) made ];
-    members_held = λ e i. elim (In-push _ _ e i) [ inl h ↦ lift e.pair (inl (v.members_held e h)) | inr q ↦ lift e.pair (inr (ap (λ n. n.pair) q)) ];
+    members_made =
+        λ e i.
+        elim (In-push _ _ e i) [
+          | inl h ↦ v.members_made e h
+          | inr q ↦ subst (λ n. Made s.table s.generators n.pair)
+              (sym q) made
+        ];
+    members_held =
+        λ e i.
+        elim (In-push _ _ e i) [
+          | inl h ↦ lift e.pair (inl (v.members_held e h))
+          | inr q ↦ lift e.pair
+              (inr (ap (λ n. n.pair) q))
+        ];
     held_members = λ m i. elim (In-push _ _ m i) [
-      | inl h ↦ let (l, q) = v.held_members m (old_member m h) in
-          (omega (arith, length-append s.members (e_new ∷ [])), ap (λ z. z.pair) (get_or_append_left s.members (e_new ∷ []) blank m.place l) ∙ q)
-      | inr e ↦ subst (HasPlace (s.members ++ e_new ∷ [])) (sym e)
-          (omega (arith, length-append s.members (e_new ∷ [])), ap (λ z. z.pair) (get_or_push s.members e_new blank (length s.members) refl))
+      | inl h ↦ let (l, q) = v.held_members m (old_member m h) in (
+        omega (arith, length-append s.members (e_new ∷ [])),
+        ap (λ z. z.pair) (get_or_append_left s.members (e_new ∷ []) blank m.place l) ∙ q,
+      )
+      | inr e ↦ subst (HasPlace (s.members ++ e_new ∷ [])) (sym e) (
+        omega (arith, length-append s.members (e_new ∷ [])),
+        ap (λ z. z.pair) (get_or_push s.members e_new blank (length s.members) refl),
+      )
     ];
     heaps_made = v.heaps_made;
-    first = let (l, q) = v.first in (omega (arith, length-append s.members (e_new ∷ [])), ap (λ z. z.pair) (get_or_append_left s.members (e_new ∷ []) blank 0 l) ∙ q);
+    first = let (l, q) = v.first in (
+      omega (arith, length-append s.members (e_new ∷ [])),
+      ap (λ z. z.pair) (get_or_append_left s.members (e_new ∷ []) blank 0 l) ∙ q,
+    );
     steps = λ i p l. elim (cases_lt i (length s.members)) [
       | inl h ↦ step_stays s.table s.heaps s.members e_new i h (v.steps i p h)
       | inr h ↦
           let q : length s.members ≡ i = omega (arith, length-append s.members (e_new ∷ [])) in
-          subst (IsStep s.table s.heaps (s.members ++ e_new ∷ [])) q (step_new s.table s.heaps s.members e_new older is_heap is)
+          subst (IsStep s.table s.heaps (s.members ++ e_new ∷ [])) q
+          (step_new s.table s.heaps s.members e_new older is_heap is)
     ];
-    apart = all_pairs_push Differ s.members e_new v.apart (λ k d l q. not_both (subst (λ z. covered s.held z ≡ true) q (v.members_held _ (In-at s.members k d l))) new);
-    minimal = all_pairs_push Neither _ n_new (AllPairs-filter Neither (λ m. not (covers x m.pair)) s.held v.minimal) (λ k d l.
-        let i = In-at (filter (λ m. not (covers x m.pair)) s.held) k d l in
-        (none_from (λ m. covers m.pair x) s.held _ new (old_member _ i), fails _ (In-filter_passes _ s.held _ i)));
+    apart =
+        all_pairs_push Differ s.members e_new v.apart
+        (λ k d l q.
+        not_both (subst (λ z. covered s.held z ≡ true) q (v.members_held _ (In-at s.members k d l)))
+        new);
+    minimal =
+        all_pairs_push Neither _ n_new
+        (AllPairs-filter Neither (λ m. not (covers x m.pair)) s.held v.minimal) (λ k d l.
+        let i = In-at (filter (λ m. not (covers x m.pair)) s.held) k d l in (
+          none_from (λ m. covers m.pair x) s.held _ new (old_member _ i),
+          fails _ (In-filter_passes _ s.held _ i),
+        ));
     within = omega (arith, length-append s.members (e_new ∷ []));
   }

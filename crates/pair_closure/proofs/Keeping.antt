@@ -19,7 +19,8 @@ Inherits xs ys = (i : ℕ) → i < length ys → HasPair xs (get_or ys i blank_h
 inherits_itself : (xs : List Held) → Inherits xs xs
 inherits_itself xs i l = (i, l, refl)
 
-inherits_set : (xs : List Held) (i : ℕ) (v d : Held) → v.pair ≡ (get_or xs i d).pair → Inherits xs (set xs i v)
+inherits_set : (xs : List Held) (i : ℕ) (v d : Held) → v.pair ≡ (get_or xs i d).pair
+    → Inherits xs (set xs i v)
 inherits_set xs i v d e k l =
     let n = length-set xs i v in
     (k, omega arith, sym (same_after_set (λ m. m.pair) xs i v d e k blank_held))
@@ -41,7 +42,8 @@ module _ (s : State) where
       }
 
   -- a member is kept
-  pushed : (t : State) (m : Member) (ys : List Held) (x : Held) → t.members ≡ s.members ++ m ∷ [] → t.held ≡ ys ++ x ∷ [] → Inherits s.held ys → KeepsOne s t
+  pushed : (t : State) (m : Member) (ys : List Held) (x : Held) → t.members ≡ s.members ++ m ∷ []
+      → t.held ≡ ys ++ x ∷ [] → Inherits s.held ys → KeepsOne s t
   pushed t m ys x e f h =
       let n = ap length e ∙ length-append s.members (m ∷ []) in
       let k = ap length f ∙ length-append ys (x ∷ []) in
@@ -49,8 +51,16 @@ module _ (s : State) where
         few = (omega arith, omega arith);
         last = λ l. omega arith;
         held = λ i l. elim (dec_lt i (length ys)) [
-          | yes b ↦ inl (subst (HasPair s.held) (ap (λ m. m.pair) (sym (ap (λ z. get_or z i blank_held) f ∙ get_or_append_left ys (x ∷ []) blank_held i b))) (h i b))
-          | no b ↦ inr (omega arith, let d : i ≡ length t.held - 1 = omega arith in ap (λ j. (get_or t.held j blank_held).pair) d)
+          | yes b ↦ inl
+              (subst (HasPair s.held)
+              (ap (λ m. m.pair)
+              (sym (ap (λ z. get_or z i blank_held) f ∙ get_or_append_left ys (x ∷ []) blank_held i
+              b))) (h i b))
+          | no b ↦ inr (
+            omega arith,
+            let d : i ≡ length t.held - 1 = omega arith in
+                ap (λ j. (get_or t.held j blank_held).pair) d,
+          )
         ];
       }
 
@@ -62,25 +72,30 @@ module _ (s : State) where
       let at = pending s in
       let y = get_or s.heaps s.next one in
       let written = set s.held at (multiplied (get_or s.held at blank_held)) in
-      let same = inherits_set s.held at (multiplied (get_or s.held at blank_held)) blank_held refl in
+      let same = inherits_set s.held at (multiplied (get_or s.held at blank_held)) blank_held refl
+      in
       by_cond (KeepsOne s) (is_over s) _ _ (λ _. unkept s refl (inherits_itself s.held)) (λ _.
       by_cond (KeepsOne s) (nat_lt 0 (length s.members)) _ _
       (λ _. by_cond (KeepsOne s) (nat_lt at (length s.held)) _ _
       (λ _. by_case (λ b. KeepsOne s (product_if s at b)) (covered s.held (product_at s at))
       (λ _. unkept _ refl same)
-      (λ _. pushed _ _ (given_up (product_at s at) written) _ refl refl (inherits_filter s.held written _ same)))
+      (λ _. pushed _ _ (given_up (product_at s at) written) _ refl refl
+      (inherits_filter s.held written _ same)))
       (λ _. by_cond (KeepsOne s) (nat_lt s.next (length s.heaps)) _ _
       (λ _. by_case (λ b. KeepsOne s (heap_if s b)) (covered s.held y)
       (λ _. unkept _ refl (inherits_itself s.held))
-      (λ _. pushed _ _ (given_up y s.held) _ refl refl (inherits_filter s.held s.held _ (inherits_itself s.held))))
+      (λ _. pushed _ _ (given_up y s.held) _ refl refl
+      (inherits_filter s.held s.held _ (inherits_itself s.held))))
       (λ _. unkept s refl (inherits_itself s.held))))
-      (λ _. pushed _ _ (given_up one s.held) _ refl refl (inherits_filter s.held s.held _ (inherits_itself s.held))))
+      (λ _. pushed _ _ (given_up one s.held) _ refl refl
+      (inherits_filter s.held s.held _ (inherits_itself s.held))))
 
 pub keeps_none : (s : State) → KeepsOne s s
 keeps_none s = unkept s s refl (inherits_itself s.held)
 
 -- nothing was kept, and then one member at most
-keeps_then : (s t u : State) → KeepsOne s t → length t.members ≡ length s.members → KeepsOne t u → KeepsOne s u
+keeps_then : (s t u : State) → KeepsOne s t → length t.members ≡ length s.members → KeepsOne t u
+    → KeepsOne s u
 keeps_then s t u a e b =
     let n = b.few.0 in
     let m = b.few.1 in
@@ -96,9 +111,12 @@ keeps_then s t u a e b =
       ];
     }
 
-pub keeps_one : (p : Progress) (n : ℕ) → ((m : ℕ) → m < n → length (steps m p).state.members ≡ length p.state.members) → KeepsOne p.state (steps n p).state
+pub keeps_one : (p : Progress) (n : ℕ)
+    → ((m : ℕ) → m < n → length (steps m p).state.members ≡ length p.state.members)
+    → KeepsOne p.state (steps n p).state
 keeps_one p zero h = keeps_none p.state
 keeps_one p (suc n) h =
     let q = steps n p in
     let a = keeps_one p n (λ m l. h m (omega arith)) in
-    by_cond (λ z. KeepsOne p.state z.state) (has_ended q.state) q (moved q) (λ _. a) (λ _. keeps_then p.state q.state (turn q.state) a (h n (omega arith)) (keeps_after q.state))
+    by_cond (λ z. KeepsOne p.state z.state) (has_ended q.state) q (moved q) (λ _. a)
+    (λ _. keeps_then p.state q.state (turn q.state) a (h n (omega arith)) (keeps_after q.state))

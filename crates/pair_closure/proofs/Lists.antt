@@ -7,7 +7,8 @@ abbrev pub In : {A : Type 0} → A → List A → Type 0
 In x [] = ⊥
 In x (y ∷ ys) = (x ≡ y) ⊎ In x ys
 
-pub by_cond : {A : Type 0} (P : A → Type 0) (b : Bool) (x y : A) → (b ≡ true → P x) → (b ≡ false → P y) → P (cond b x y)
+pub by_cond : {A : Type 0} (P : A → Type 0) (b : Bool) (x y : A) → (b ≡ true → P x)
+    → (b ≡ false → P y) → P (cond b x y)
 by_cond P true x y f g = f refl
 by_cond P false x y f g = g refl
 
@@ -39,7 +40,8 @@ either true = inl refl
 either false = inr refl
 
 module _ {A : Type 0} where
-  pub find_any : (p : A → Bool) (xs : List A) → list_any p xs ≡ true → (x : A) × In x xs × (p x ≡ true)
+  pub find_any : (p : A → Bool) (xs : List A) → list_any p xs ≡ true
+      → (x : A) × In x xs × (p x ≡ true)
   find_any p [] e = absurd (cc)
   find_any p (y ∷ ys) e = elim (or_true (p y) (list_any p ys) e) [
     | inl h ↦ (y, inl refl, h)
@@ -53,7 +55,8 @@ module _ {A : Type 0} where
     | inr h ↦ inr (any_from p ys x h e)
   ])
 
-  pub none_from : (p : A → Bool) (xs : List A) (x : A) → list_any p xs ≡ false → In x xs → p x ≡ false
+  pub none_from : (p : A → Bool) (xs : List A) (x : A) → list_any p xs ≡ false → In x xs
+      → p x ≡ false
   none_from p xs x e i = elim (either (p x)) [
     | inl t ↦ absurd (not_both (any_from p xs x i t) e)
     | inr f ↦ f
@@ -78,7 +81,8 @@ module _ {A : Type 0} where
   In-filter p [] x i = i
   In-filter p (y ∷ ys) x i = split (In-filter p ys x) (p y) i
     where
-      split : (In x (filter p ys) → In x ys) → (b : Bool) → In x (cond b (y ∷ filter p ys) (filter p ys)) → (x ≡ y) ⊎ In x ys
+      split : (In x (filter p ys) → In x ys) → (b : Bool)
+          → In x (cond b (y ∷ filter p ys) (filter p ys)) → (x ≡ y) ⊎ In x ys
       split r true i = elim i [ inl h ↦ inl h | inr h ↦ inr (r h) ]
       split r false i = inr (r i)
 
@@ -86,15 +90,18 @@ module _ {A : Type 0} where
   In-filter_passes p [] x i = absurd i
   In-filter_passes p (y ∷ ys) x i = split (In-filter_passes p ys x) (p y) refl i
     where
-      split : (In x (filter p ys) → p x ≡ true) → (b : Bool) → p y ≡ b → In x (cond b (y ∷ filter p ys) (filter p ys)) → p x ≡ true
+      split : (In x (filter p ys) → p x ≡ true) → (b : Bool) → p y ≡ b
+          → In x (cond b (y ∷ filter p ys) (filter p ys)) → p x ≡ true
       split r true e i = elim i [ inl h ↦ ap p h ∙ e | inr h ↦ r h ]
       split r false e i = r i
 
-  pub In-filter_from : (p : A → Bool) (xs : List A) (x : A) → In x xs → p x ≡ true → In x (filter p xs)
+  pub In-filter_from : (p : A → Bool) (xs : List A) (x : A) → In x xs → p x ≡ true
+      → In x (filter p xs)
   In-filter_from p [] x i e = i
   In-filter_from p (y ∷ ys) x i e = split (λ h. In-filter_from p ys x h e) (p y) refl i
     where
-      split : (In x ys → In x (filter p ys)) → (b : Bool) → p y ≡ b → (x ≡ y) ⊎ In x ys → In x (cond b (y ∷ filter p ys) (filter p ys))
+      split : (In x ys → In x (filter p ys)) → (b : Bool) → p y ≡ b → (x ≡ y) ⊎ In x ys
+          → In x (cond b (y ∷ filter p ys) (filter p ys))
       split r true q i = elim i [ inl h ↦ inl h | inr h ↦ inr (r h) ]
       split r false q i = elim i [ inl h ↦ absurd (not_both (ap p (sym h) ∙ e) q) | inr h ↦ r h ]
 
@@ -111,7 +118,8 @@ module _ {A : Type 0} where
   In-at (y ∷ ys) zero d h = inl refl
   In-at (y ∷ ys) (suc i) d h = inr (In-at ys i d (omega arith))
 
-  pub place_of : (xs : List A) (x : A) → In x xs → (i : ℕ) × (i < length xs) × ((d : A) → get_or xs i d ≡ x)
+  pub place_of : (xs : List A) (x : A) → In x xs → (i : ℕ) × (i < length xs)
+      × ((d : A) → get_or xs i d ≡ x)
   place_of [] x h = absurd h
   place_of (y ∷ ys) x h = elim h [
     | inl e ↦ (0, omega arith, λ d. sym e)
@@ -125,29 +133,38 @@ module _ {A : Type 0} where
   Contains-In xs x h = subst (λ y. In y xs) h.2 (In-at xs h.0 x h.1)
 
   -- a written element that a test doesn't tell from the old one
-  pub any_set : (p : A → Bool) (xs : List A) (i : ℕ) (v d : A) → p v ≡ p (get_or xs i d) → list_any p (set xs i v) ≡ list_any p xs
+  pub any_set : (p : A → Bool) (xs : List A) (i : ℕ) (v d : A) → p v ≡ p (get_or xs i d)
+      → list_any p (set xs i v) ≡ list_any p xs
   any_set p [] i v d e = refl
   any_set p (y ∷ ys) zero v d e = ap (λ b. b || list_any p ys) e
   any_set p (y ∷ ys) (suc i) v d e = ap (λ b. p y || b) (any_set p ys i v d e)
 
   -- what a written element keeps
-  pub same_after_set : {B : Type 0} (f : A → B) (xs : List A) (i : ℕ) (v d : A) → f v ≡ f (get_or xs i d) → (k : ℕ) (e : A) → f (get_or (set xs i v) k e) ≡ f (get_or xs k e)
+  pub same_after_set : {B : Type 0} (f : A → B) (xs : List A) (i : ℕ) (v d : A)
+      → f v ≡ f (get_or xs i d) → (k : ℕ) (e : A) → f (get_or (set xs i v) k e) ≡ f (get_or xs k e)
   same_after_set f [] i v d e k c = refl
   same_after_set f (y ∷ ys) zero v d e zero c = e
   same_after_set f (y ∷ ys) zero v d e (suc k) c = refl
   same_after_set f (y ∷ ys) (suc i) v d e zero c = refl
   same_after_set f (y ∷ ys) (suc i) v d e (suc k) c = same_after_set f ys i v d e k c
 
-  pub AllPairs-set : (R : A → A → Type 0) {B : Type 0} (f : A → B) (Q : B → B → Type 0) → ((x y : A) → R x y → Q (f x) (f y)) → ((x y : A) → Q (f x) (f y) → R x y) → (xs : List A) (i : ℕ) (v d : A) → f v ≡ f (get_or xs i d) → AllPairs R xs → AllPairs R (set xs i v)
+  pub AllPairs-set : (R : A → A → Type 0) {B : Type 0} (f : A → B) (Q : B → B → Type 0)
+      → ((x y : A) → R x y → Q (f x) (f y)) → ((x y : A) → Q (f x) (f y) → R x y)
+      → (xs : List A) (i : ℕ) (v d : A) → f v ≡ f (get_or xs i d) → AllPairs R xs
+      → AllPairs R (set xs i v)
   AllPairs-set R f Q to from xs i v d e all j k c p q =
       let len = length-set xs i v in
-      from _ _ (subst (λ a. Q a (f (get_or (set xs i v) k c))) (sym (same_after_set f xs i v d e j c))
-      (subst (λ a. Q (f (get_or xs j c)) a) (sym (same_after_set f xs i v d e k c)) (to _ _ (all j k c p (omega arith)))))
+      from _ _
+      (subst (λ a. Q a (f (get_or (set xs i v) k c))) (sym (same_after_set f xs i v d e j c))
+      (subst (λ a. Q (f (get_or xs j c)) a) (sym (same_after_set f xs i v d e k c))
+      (to _ _ (all j k c p (omega arith)))))
 
 pub In-map : {A B : Type 0} (f : A → B) (xs : List A) (x : A) → In x xs → In (f x) (map f xs)
 In-map f [] x i = i
 In-map f (y ∷ ys) x i = elim i [ inl e ↦ inl (ap f e) | inr k ↦ inr (In-map f ys x k) ]
 
-pub from_map : {A B : Type 0} (f : A → B) (xs : List A) (y : B) → In y (map f xs) → (x : A) × In x xs × (y ≡ f x)
+pub from_map : {A B : Type 0} (f : A → B) (xs : List A) (y : B) → In y (map f xs)
+    → (x : A) × In x xs × (y ≡ f x)
 from_map f [] y i = absurd i
-from_map f (x ∷ xs) y i = elim i [ inl e ↦ (x, inl refl, e) | inr k ↦ let (z, j, q) = from_map f xs y k in (z, inr j, q) ]
+from_map f (x ∷ xs) y i =
+    elim i [ inl e ↦ (x, inl refl, e) | inr k ↦ let (z, j, q) = from_map f xs y k in (z, inr j, q) ]

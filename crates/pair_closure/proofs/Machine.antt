@@ -28,30 +28,36 @@ of_run p r = record {
   lawful = r.lawful;
   heaps_in = r.heaps_in;
   units = p.spent;
-  reached = ap (λ z. z.state) r.run ∙ state_steps p.spent (begun p.state.table p.state.heaps p.state.limit);
+  reached =
+      ap (λ z. z.state) r.run
+      ∙ state_steps p.spent (begun p.state.table p.state.heaps p.state.limit);
 }
 
 heaps_below : (s : State) → Reached s → (x : Pair) → In x s.heaps → IsPair s.table.order x
-heaps_below s r x i = let (k, l, e) = place_of s.heaps x i in subst (IsPair s.table.order) (e one) (r.heaps_in k l)
+heaps_below s r x i = let (k, l, e) = place_of s.heaps x i in
+    subst (IsPair s.table.order) (e one) (r.heaps_in k l)
 
 pub kept_by_turns : (s : State) → Reached s → (s ≡ start s.table s.heaps s.limit) ⊎ Holds s
 kept_by_turns s r =
     subst (λ z. (z ≡ start s.table s.heaps s.limit) ⊎ Holds z) (sym r.reached)
     (turns_inv s.table s.heaps s.limit r.lawful (heaps_below s r) r.units)
 
-pub held_in : (s : State) → Reached s → (i : ℕ) (d : Held) → i < length s.held → IsPair s.table.order (get_or s.held i d).pair
+pub held_in : (s : State) → Reached s → (i : ℕ) (d : Held) → i < length s.held
+    → IsPair s.table.order (get_or s.held i d).pair
 held_in s r i d l = elim (kept_by_turns s r) [
   | inl e ↦ absurd (let none = ap (λ z. length z.held) e in omega arith)
   | inr v ↦ v.held_in _ (In-at s.held i d l)
 ]
 
-pub generator_in : (s : State) → Reached s → (i : ℕ) (d : Generator) → i < length s.generators → IsPair s.table.order (get_or s.generators i d).pair
+pub generator_in : (s : State) → Reached s → (i : ℕ) (d : Generator) → i < length s.generators
+    → IsPair s.table.order (get_or s.generators i d).pair
 generator_in s r i d l = elim (kept_by_turns s r) [
   | inl e ↦ absurd (let none = ap (λ z. length z.generators) e in omega arith)
   | inr v ↦ invariant.generator_in s v _ (In-at s.generators i d l)
 ]
 
-pub place_in : (s : State) → Reached s → (i : ℕ) (d : Held) → i < length s.held → (get_or s.held i d).place < length s.members
+pub place_in : (s : State) → Reached s → (i : ℕ) (d : Held) → i < length s.held
+    → (get_or s.held i d).place < length s.members
 place_in s r i d l = elim (kept_by_turns s r) [
   | inl e ↦ absurd (let none = ap (λ z. length z.held) e in omega arith)
   | inr v ↦ (v.held_members _ (In-at s.held i d l)).0
@@ -69,7 +75,8 @@ covers_alike s r x = elim (kept_by_turns s r) [
       (λ t.
       let (n, j, d) = find_any (λ n. covers n.pair x) s.held t in
       let (l, q) = v.held_members n j in
-      any_from (λ m. covers m.pair x) s.members _ (In-at s.members n.place blank l) (subst (λ z. covers z x ≡ true) (sym q) d))
+      any_from (λ m. covers m.pair x) s.members _ (In-at s.members n.place blank l)
+      (subst (λ z. covers z x ≡ true) (sym q) d))
 ]
   where
     alike : (a b : Bool) → (a ≡ true → b ≡ true) → (b ≡ true → a ≡ true) → a ≡ b
@@ -78,14 +85,17 @@ covers_alike s r x = elim (kept_by_turns s r) [
     alike false false f g = refl
 
 -- where x covers no member ever kept, it covers none that is held
-covered_none : (s : State) → Reached s → (x : Pair) → covers_any x s.members ≡ false → covers_held x s.held ≡ false
+covered_none : (s : State) → Reached s → (x : Pair) → covers_any x s.members ≡ false
+    → covers_held x s.held ≡ false
 covered_none s r x h = elim (kept_by_turns s r) [
   | inl e ↦ ap (λ z. covers_held x z.held) e
   | inr v ↦ elim (either (covers_held x s.held)) [
     | inl t ↦
         let (n, j, d) = find_any (λ n. covers x n.pair) s.held t in
         let (l, q) = v.held_members n j in
-        absurd (not_both (any_from (λ m. covers x m.pair) s.members _ (In-at s.members n.place blank l) (subst (λ z. covers x z ≡ true) (sym q) d)) h)
+        absurd
+        (not_both (any_from (λ m. covers x m.pair) s.members _ (In-at s.members n.place blank l)
+        (subst (λ z. covers x z ≡ true) (sym q) d)) h)
     | inr f ↦ f
   ]
 ]
@@ -93,8 +103,13 @@ covered_none s r x h = elim (kept_by_turns s r) [
 pub members_tell : (s : State) → Reached s → (x : Pair) → Tell s.members s.held x
 members_tell s r x = record { covers = covers_alike s r x; covered = covered_none s r x }
 
-pub has_turns : (held : List Held) (n i : ℕ) (d : Held) → i ≡ first_pending held n → i < length held → (get_or held i d).by < n
-has_turns held n i d e l = ltb-true _ _ (subst (λ j. nat_lt (get_or held j d).by n ≡ true) (sym e) (passes_at_first (λ m. nat_lt m.by n) held d (subst (λ j. j < length held) e l)))
+pub has_turns : (held : List Held) (n i : ℕ) (d : Held) → i ≡ first_pending held n → i < length held
+    → (get_or held i d).by < n
+has_turns held n i d e l =
+    ltb-true _ _
+    (subst (λ j. nat_lt (get_or held j d).by n ≡ true) (sym e)
+    (passes_at_first (λ m. nat_lt m.by n) held d (subst (λ j. j < length held) e l)))
 
-pub none_before : (held : List Held) (n k : ℕ) (d : Held) → k < first_pending held n → n ≤ (get_or held k d).by
+pub none_before : (held : List Held) (n k : ℕ) (d : Held) → k < first_pending held n
+    → n ≤ (get_or held k d).by
 none_before held n k d l = ltb-false _ _ (fails_before_first (λ m. nat_lt m.by n) held k d l)

@@ -27,7 +27,8 @@ use Rattle.pair_closure.proofs.Machine.{Reached, kept_by_turns}
 use Rattle.pair_closure.proofs.PairLaws.{covering, covers_from}
 use Rattle.pair_closure.proofs.Theorem as reached
 
-module _ (code : List ℕ) (c : Claim) (s : State) (v : Holds s) (g : IsClaimOver code c s.table s.heaps) where
+module _ (code : List ℕ) (c : Claim) (s : State) (v : Holds s)
+    (g : IsClaimOver code c s.table s.heaps) where
   abbrev dot : ℕ → ℕ → ℕ
   dot x y = times_in s.table x y
 
@@ -37,13 +38,19 @@ module _ (code : List ℕ) (c : Claim) (s : State) (v : Holds s) (g : IsClaimOve
     pub from : (x : ℕ) → OptionValue code c X x → has p.options x
 
   pub pair_of : (p : Pair) (X : List ℕ) → Exact p X → theory.IsPairOf code c (as_pair p) X
-  pair_of p X e = record { same_value = e.value; options = λ x. (λ h. e.to x (items_have p.options x h), λ o. has_items p.options x (e.from x o)) }
+  pair_of p X e =
+      record {
+        same_value = e.value;
+        options = λ x.
+            (λ h. e.to x (items_have p.options x h), λ o. has_items p.options x (e.from x o));
+      }
 
   abbrev heap : ℕ → Pair
   heap n = get_or s.heaps (n - 1) one
 
   each : (n : ℕ) → 1 ≤ n → n ≤ length s.heaps → IsHeapPair code c n (heap n)
-  each n a b = let q : n - 1 + 1 ≡ n = omega arith in subst (λ k. IsHeapPair code c k (heap n)) q (g.heaps_are.each (n - 1) one (omega arith))
+  each n a b = let q : n - 1 + 1 ≡ n = omega arith in
+      subst (λ k. IsHeapPair code c k (heap n)) q (g.heaps_are.each (n - 1) one (omega arith))
 
   heap_in : (n : ℕ) → 1 ≤ n → n ≤ length s.heaps → IsPair s.table.order (heap n)
   heap_in n a b = v.heaps_in (heap n) (In-at s.heaps (n - 1) one (omega arith))
@@ -59,7 +66,12 @@ module _ (code : List ℕ) (c : Claim) (s : State) (v : Holds s) (g : IsClaimOve
   position (h ∷ w) p = (p.0.0, position w p.1)
 
   pub word_exact : (w : List ℕ) → IsWord w → Exact (product w) w
-  word_exact [] p = record { value = refl; to = λ x h. absurd (empty_has x h); from = λ x o. absurd (no_move_of_none o.1) }
+  word_exact [] p =
+      record {
+        value = refl;
+        to = λ x h. absurd (empty_has x h);
+        from = λ x o. absurd (no_move_of_none o.1);
+      }
   word_exact (n ∷ w) p =
       let e = word_exact w p.1 in
       let (a, b) = p.0 in
@@ -67,17 +79,24 @@ module _ (code : List ℕ) (c : Claim) (s : State) (v : Holds s) (g : IsClaimOve
       let pw = reached.word_in s v w p.1 in
       let pos = position w p.1 in
       record {
-        value = sym (g.times_is _ _ hn.value pw.value) ∙ ap₂ c.times ((each n a b).value_is) e.value;
+        value =
+            sym (g.times_is _ _ hn.value pw.value) ∙ ap₂ c.times ((each n a b).value_is) e.value;
         to = λ y h. elim (times_has s.table v.lawful (heap n) (product w) y h) [
           | inl (x, k, d) ↦
-              let (Y, i, q) = e.to x k in
-              (n ∷ Y, There i refl, ap₂ c.times (sym ((each n a b).value_is)) q ∙ g.times_is _ _ hn.value (pw.options x k) ∙ d)
+              let (Y, i, q) = e.to x k in (
+                n ∷ Y,
+                There i refl,
+                ap₂ c.times (sym ((each n a b).value_is)) q
+                    ∙ g.times_is _ _ hn.value (pw.options x k) ∙ d,
+              )
           | inr (x, k, d) ↦
               let (H, o, q) = ((each n a b).options_are x).0 k in
               let xin = hn.options x k in (
                 H ++ w,
                 Here o refl,
-                value-append IsHeap c g.monoid g.elements H w (heaps_kept code n H a o) pos ∙ ap₂ c.times q (sym e.value) ∙ g.times_is _ _ xin pw.value ∙ pair_commutes x (product w).value xin pw.value ∙ d,
+                value-append IsHeap c g.monoid g.elements H w (heaps_kept code n H a o) pos
+                    ∙ ap₂ c.times q (sym e.value) ∙ g.times_is _ _ xin pw.value
+                    ∙ pair_commutes x (product w).value xin pw.value ∙ d,
               )
         ];
         from = λ y o. elim (first_or_rest o.1) [
@@ -85,13 +104,16 @@ module _ (code : List ℕ) (c : Claim) (s : State) (v : Holds s) (g : IsClaimOve
               let k = ((each n a b).options_are (value c H)).1 (H, i, refl) in
               let xin = hn.options _ k in
               subst (has (times s.table (heap n) (product w)).options)
-              (pair_commutes (product w).value (value c H) pw.value xin ∙ sym (g.times_is _ _ xin pw.value) ∙ ap (c.times (value c H)) e.value
-              ∙ sym (value-append IsHeap c g.monoid g.elements H w (heaps_kept code n H a i) pos) ∙ sym (ap (value c) q) ∙ o.2)
+              (pair_commutes (product w).value (value c H) pw.value xin
+              ∙ sym (g.times_is _ _ xin pw.value) ∙ ap (c.times (value c H)) e.value
+              ∙ sym (value-append IsHeap c g.monoid g.elements H w (heaps_kept code n H a i) pos)
+              ∙ sym (ap (value c) q) ∙ o.2)
               (has_left s.table v.lawful (heap n) (product w) hn _ k)
           | inr (Y, i, q) ↦
               let k = e.from (value c Y) (Y, i, refl) in
               subst (has (times s.table (heap n) (product w)).options)
-              (sym (g.times_is _ _ hn.value (pw.options _ k)) ∙ ap (λ z. c.times z (value c Y)) ((each n a b).value_is) ∙ sym (ap (value c) q) ∙ o.2)
+              (sym (g.times_is _ _ hn.value (pw.options _ k)) ∙ ap (λ z. c.times z (value c Y))
+              ((each n a b).value_is) ∙ sym (ap (value c) q) ∙ o.2)
               (has_right s.table v.lawful (heap n) (product w) pw _ k)
         ];
       }
@@ -99,7 +121,8 @@ module _ (code : List ℕ) (c : Claim) (s : State) (v : Holds s) (g : IsClaimOve
       pair_commutes : (x y : ℕ) → x < s.table.order → y < s.table.order → dot x y ≡ dot y x
       pair_commutes x y p q = v.lawful.monoid.commutes x y p q
 
-  table_words : (i : ℕ) → i < length s.members → IsWord (word_of s.members i i) × ((get_or s.members i blank).pair ≡ product (word_of s.members i i))
+  table_words : (i : ℕ) → i < length s.members → IsWord (word_of s.members i i)
+      × ((get_or s.members i blank).pair ≡ product (word_of s.members i i))
   table_words i l = reached.word_is s v i i (omega arith) l
 
   abbrev member_at : ℕ → Member
@@ -109,10 +132,12 @@ module _ (code : List ℕ) (c : Claim) (s : State) (v : Holds s) (g : IsClaimOve
   word_at i = word_of s.members i i
 
   pub member_exact : (i : ℕ) → i < length s.members → Exact (member_at i).pair (word_at i)
-  member_exact i l = let (w, e) = table_words i l in subst (λ z. Exact z (word_at i)) (sym e) (word_exact (word_at i) w)
+  member_exact i l = let (w, e) = table_words i l in
+      subst (λ z. Exact z (word_at i)) (sym e) (word_exact (word_at i) w)
 
   -- a member that covers a position's exact pair covers the position
-  covers_position : (p r : Pair) (X : List ℕ) → covers p r ≡ true → Exact r X → theory.Covers code c (as_pair p) X
+  covers_position : (p r : Pair) (X : List ℕ) → covers p r ≡ true → Exact r X
+      → theory.Covers code c (as_pair p) X
   covers_position p r X k e =
       let w = covering p r k in
       record {
@@ -121,19 +146,38 @@ module _ (code : List ℕ) (c : Claim) (s : State) (v : Holds s) (g : IsClaimOve
         some = λ x o. let (y, h) = w.some x (e.from x o) in (y, has_items p.options y h);
       }
 
-  covers_product : (p q : Pair) (n : ℕ) → IsHeapUpTo (length s.heaps) n → IsPair s.table.order q → covers p (times s.table (heap n) q) ≡ true → theory.CoversProduct code c (as_pair p) n (as_pair q)
+  covers_product : (p q : Pair) (n : ℕ) → IsHeapUpTo (length s.heaps) n → IsPair s.table.order q
+      → covers p (times s.table (heap n) q) ≡ true
+      → theory.CoversProduct code c (as_pair p) n (as_pair q)
   covers_product p q n (a, b) qin k =
       let w = covering p (times s.table (heap n) q) k in
       let hn = heap_in n a b in
       record {
-        same_value = w.value ∙ sym (g.times_is _ _ hn.value qin.value) ∙ ap (λ z. c.times z q.value) ((each n a b).value_is);
-        among = λ x h. elim (times_has s.table v.lawful (heap n) q x (w.among x (items_have p.options x h))) [
-          | inl (y, i, d) ↦ inr (y, has_items q.options y i, sym d ∙ sym (g.times_is _ _ hn.value (qin.options y i)) ∙ ap (λ z. c.times z y) ((each n a b).value_is))
-          | inr (y, i, d) ↦ inl (y, ((each n a b).options_are y).0 i, sym d ∙ v.lawful.monoid.commutes _ _ qin.value (hn.options y i) ∙ sym (g.times_is _ _ (hn.options y i) qin.value))
-        ];
+        same_value = w.value ∙ sym (g.times_is _ _ hn.value qin.value)
+            ∙ ap (λ z. c.times z q.value) ((each n a b).value_is);
+        among =
+            λ x h.
+            elim (times_has s.table v.lawful (heap n) q x (w.among x (items_have p.options x h))) [
+              | inl (y, i, d) ↦ inr (
+                y,
+                has_items q.options y i,
+                sym d ∙ sym (g.times_is _ _ hn.value (qin.options y i))
+                    ∙ ap (λ z. c.times z y) ((each n a b).value_is),
+              )
+              | inr (y, i, d) ↦ inl (
+                y,
+                ((each n a b).options_are y).0 i,
+                sym d
+                    ∙ v.lawful.monoid.commutes _ _ qin.value (hn.options y i)
+                    ∙ sym (g.times_is _ _ (hn.options y i) qin.value),
+              )
+            ];
         some = λ x h. elim h [
-          | inl (y, o, d) ↦ let i = ((each n a b).options_are y).1 o in let (z, u) = w.some _ (has_left s.table v.lawful (heap n) q hn y i) in (z, has_items p.options z u)
-          | inr (y, i, d) ↦ let (z, u) = w.some _ (has_right s.table v.lawful (heap n) q qin y (items_have q.options y i)) in (z, has_items p.options z u)
+          | inl (y, o, d) ↦ let i = ((each n a b).options_are y).1 o in let (z, u) =
+              w.some _ (has_left s.table v.lawful (heap n) q hn y i) in (z, has_items p.options z u)
+          | inr (y, i, d) ↦ let (z, u) =
+              w.some _ (has_right s.table v.lawful (heap n) q qin y (items_have q.options y i)) in
+              (z, has_items p.options z u)
         ];
       }
 
@@ -141,25 +185,35 @@ module _ (code : List ℕ) (c : Claim) (s : State) (v : Holds s) (g : IsClaimOve
   finished m i none =
       let (k, l, e) = place_of s.held m i in
       let d = blank_held in
-      let f = fails_before_first (λ m. nat_lt m.by (length s.generators)) s.held k d (omega arith) in
-      ltb-false m.by (length s.generators) (subst (λ z. nat_lt z.by (length s.generators) ≡ false) (e d) f)
+      let f = fails_before_first (λ m. nat_lt m.by (length s.generators)) s.held k d (omega arith)
+      in
+      ltb-false m.by (length s.generators)
+      (subst (λ z. nat_lt z.by (length s.generators) ≡ false) (e d) f)
 
-  pub closed : length s.held ≤ pending s → length s.heaps ≤ s.next → theory.IsClosed code c (IsHeapUpTo (length s.heaps)) (kept s)
+  pub closed : length s.held ≤ pending s → length s.heaps ≤ s.next
+      → theory.IsClosed code c (IsHeapUpTo (length s.heaps)) (kept s)
   closed none all =
       let words = reached.words_covered s v (λ m i. finished m i none) all in
       record {
         start =
-            let (m, i, k) = find_any (λ m. covers m.pair one) s.held v.one_held in
-            (as_pair m.pair, In-Contains _ _ (In-map (λ m. as_pair m.pair) s.held m i), covers_position m.pair one [] k (word_exact [] tt));
+            let (m, i, k) = find_any (λ m. covers m.pair one) s.held v.one_held in (
+              as_pair m.pair,
+              In-Contains _ _ (In-map (λ m. as_pair m.pair) s.held m i),
+              covers_position m.pair one [] k (word_exact [] tt),
+            );
         step = λ q h n up.
             let (m, i, e) = from_map (λ m. as_pair m.pair) s.held q (Contains-In _ _ h) in
             let (l, f) = v.held_members m i in
             let (w, g) = table_words m.place l in
-            let (m2, j, k) = find_any (λ u. covers u.pair (product (n ∷ word_at m.place))) s.held (words (n ∷ word_at m.place) (up, w)) in
-            let k2 : covers m2.pair (times s.table (heap n) m.pair) ≡ true = subst (λ z. covers m2.pair (times s.table (heap n) z) ≡ true) (sym g ∙ f) k in (
+            let (m2, j, k) =
+            find_any (λ u. covers u.pair (product (n ∷ word_at m.place))) s.held
+            (words (n ∷ word_at m.place) (up, w)) in
+            let k2 : covers m2.pair (times s.table (heap n) m.pair) ≡ true =
+            subst (λ z. covers m2.pair (times s.table (heap n) z) ≡ true) (sym g ∙ f) k in (
               as_pair m2.pair,
               In-Contains _ _ (In-map (λ m. as_pair m.pair) s.held m2 j),
-              subst (theory.CoversProduct code c (as_pair m2.pair) n) (sym e) (covers_product m2.pair m.pair n up (v.held_in m i) k2),
+              subst (theory.CoversProduct code c (as_pair m2.pair) n) (sym e)
+                  (covers_product m2.pair m.pair n up (v.held_in m i) k2),
             );
       }
 
@@ -171,14 +225,17 @@ module _ (code : List ℕ) (c : Claim) (s : State) (v : Holds s) (g : IsClaimOve
   length_words : (n : ℕ) → length (words_below n) ≡ n
   unfolding words_below
   length_words zero = refl
-  length_words (suc n) = omega (arith, length-append (words_below n) (word_at n ∷ []), length_words n)
+  length_words (suc n) =
+      omega (arith, length-append (words_below n) (word_at n ∷ []), length_words n)
 
   word_below : (n k : ℕ) (d : List ℕ) → k < n → get_or (words_below n) k d ≡ word_at k
   unfolding words_below
   word_below zero k d l = absurd (omega arith)
   word_below (suc n) k d l = elim (cases_lt k n) [
-    | inl h ↦ get_or_append_left (words_below n) (word_at n ∷ []) d k (omega (arith, length_words n)) ∙ word_below n k d h
-    | inr h ↦ let q : k ≡ n = omega arith in get_or_push (words_below n) (word_at n) d k (length_words n ∙ sym q) ∙ ap word_at (sym q)
+    | inl h ↦ get_or_append_left (words_below n) (word_at n ∷ []) d k
+        (omega (arith, length_words n)) ∙ word_below n k d h
+    | inr h ↦ let q : k ≡ n = omega arith in
+        get_or_push (words_below n) (word_at n) d k (length_words n ∙ sym q) ∙ ap word_at (sym q)
   ]
 
   pub differ : (X Y : List ℕ) (p r : Pair) → Exact p X → Exact r Y → SamePair code c X Y → p ≡ r
@@ -191,12 +248,16 @@ module _ (code : List ℕ) (c : Claim) (s : State) (v : Holds s) (g : IsClaimOve
       let n = length s.members in (
         words_below n,
         omega (arith, length_words n),
-        λ k d h. let lt : k < n = omega (arith, length_words n) in subst (IsPosition IsHeap) (sym (word_below n k d lt)) (position (word_at k) (table_words k lt).0),
+        λ k d h. let lt : k < n = omega (arith, length_words n) in
+            subst (IsPosition IsHeap) (sym (word_below n k d lt))
+            (position (word_at k) (table_words k lt).0),
         λ i j d h k same.
             let lj : j < n = omega (arith, length_words n) in
             let li : i < n = omega arith in
             let e = differ (word_at i) (word_at j) _ _ (member_exact i li) (member_exact j lj)
-            (subst (λ z. SamePair code c z (word_at j)) (word_below n i d li) (subst (SamePair code c (get_or (words_below n) i d)) (word_below n j d lj) same)) in
+            (subst (λ z. SamePair code c z (word_at j)) (word_below n i d li)
+            (subst (SamePair code c (get_or (words_below n) i d)) (word_below n j d lj) same))
+            in
             v.apart i j _ h lj e,
       )
 
@@ -204,7 +265,8 @@ module _ (code : List ℕ) (c : Claim) (s : State) (v : Holds s) (g : IsClaimOve
   ended e = let (a, b) = done_parts s e in closed (ltb-false _ _ a) (ltb-false _ _ b)
 
 -- the start says all this of nothing
-start_says : (code : List ℕ) (c : Claim) (t : Grid) (heaps : List Pair) (limit : ℕ) → Says code c (start t heaps limit)
+start_says : (code : List ℕ) (c : Claim) (t : Grid) (heaps : List Pair) (limit : ℕ)
+    → Says code c (start t heaps limit)
 start_says code c t heaps limit = record {
   words = λ i l. absurd (omega arith);
   positions = λ i l. absurd (omega arith);
@@ -238,6 +300,14 @@ uncovered p r e k = not_both (covers_from p r (record {
 
 pub minimal : (s : State) → Reached s → IsMinimal s
 minimal s r = elim (kept_by_turns s r) [
-  | inl e ↦ subst IsMinimal (sym e) (record { different = λ i j d p q. absurd (omega arith); minimal = λ i j d p q. absurd (omega arith) })
-  | inr v ↦ record { different = v.apart; minimal = λ i j d p q. let (a, b) = v.minimal i j d p q in (uncovered _ _ a, uncovered _ _ b) }
+  | inl e ↦ subst IsMinimal (sym e)
+      (record {
+        different = λ i j d p q. absurd (omega arith);
+        minimal = λ i j d p q. absurd (omega arith);
+      })
+  | inr v ↦ record {
+    different = v.apart;
+    minimal = λ i j d p q. let (a, b) = v.minimal i j d p q in
+        (uncovered _ _ a, uncovered _ _ b);
+  }
 ]

@@ -14,7 +14,8 @@ same_after s =
     by_cond (SameData s) (nat_lt 0 (length s.members)) _ _
     (λ _. by_cond (SameData s) (nat_lt (pending s) (length s.held)) _ _
     (λ _. record { table = refl; heaps = refl; limit = refl })
-    (λ _. by_cond (SameData s) (nat_lt s.next (length s.heaps)) _ _ (λ _. record { table = refl; heaps = refl; limit = refl }) (λ _. same)))
+    (λ _. by_cond (SameData s) (nat_lt s.next (length s.heaps)) _ _
+    (λ _. record { table = refl; heaps = refl; limit = refl }) (λ _. same)))
     (λ _. record { table = refl; heaps = refl; limit = refl }))
 
 pub same_turns : (n : ℕ) (s : State) → SameData s (turns n s)
@@ -26,7 +27,8 @@ same_turns (suc n) s =
 
 pub steps_add : (m n : ℕ) (p : Progress) → steps (m + n) p ≡ steps n (steps m p)
 steps_add m zero p = let q : m + 0 ≡ m = omega arith in ap (λ k. steps k p) q
-steps_add m (suc n) p = let q : m + suc n ≡ suc (m + n) = omega arith in ap (λ k. steps k p) q ∙ ap step (steps_add m n p)
+steps_add m (suc n) p = let q : m + suc n ≡ suc (m + n) = omega arith in
+    ap (λ k. steps k p) q ∙ ap step (steps_add m n p)
 
 pub step_stays : (p : Progress) → has_ended p.state ≡ true → step p ≡ p
 step_stays p e = if_true (has_ended p.state) p (moved p) e
@@ -39,10 +41,12 @@ steps_stay zero p e = refl
 steps_stay (suc n) p e = ap step (steps_stay n p e) ∙ step_stays p e
 
 -- turns past the end change nothing
-pub ended_steps : (m n : ℕ) (p q : Progress) → q ≡ steps m p → m ≤ n → has_ended q.state ≡ true → q ≡ steps n p
+pub ended_steps : (m n : ℕ) (p q : Progress) → q ≡ steps m p → m ≤ n → has_ended q.state ≡ true
+    → q ≡ steps n p
 ended_steps m n p q e l d =
     let k : m + (n - m) ≡ n = omega arith in
-    sym (steps_stay (n - m) q d) ∙ ap (steps (n - m)) e ∙ sym (steps_add m (n - m) p) ∙ ap (λ j. steps j p) k
+    sym (steps_stay (n - m) q d) ∙ ap (steps (n - m)) e ∙ sym (steps_add m (n - m) p)
+    ∙ ap (λ j. steps j p) k
 
 pub same_steps : (n : ℕ) (p : Progress) → SameData p.state (steps n p).state
 same_steps zero p = record { table = refl; heaps = refl; limit = refl }
@@ -50,7 +54,8 @@ same_steps (suc n) p =
     let a = same_steps n p in
     let q = steps n p in
     by_cond (λ z. SameData p.state z.state) (has_ended q.state) q (moved q) (λ _. a)
-    (λ _. let b = same_after q.state in record { table = b.table ∙ a.table; heaps = b.heaps ∙ a.heaps; limit = b.limit ∙ a.limit })
+    (λ _. let b = same_after q.state in
+    record { table = b.table ∙ a.table; heaps = b.heaps ∙ a.heaps; limit = b.limit ∙ a.limit })
 
 -- the same turns, of the state alone
 pub state_steps : (n : ℕ) (p : Progress) → (steps n p).state ≡ turns n p.state
@@ -71,22 +76,27 @@ few_after s =
     by_cond (OneMore s) (nat_lt 0 (length s.members)) _ _
     (λ _. by_cond (OneMore s) (nat_lt (pending s) (length s.held)) _ _
     (λ _. at_most (covered s.held (product_at s (pending s))) _)
-    (λ _. by_cond (OneMore s) (nat_lt s.next (length s.heaps)) _ _ (λ _. at_most (covered s.held (get_or s.heaps s.next one)) _) (λ _. omega arith)))
+    (λ _. by_cond (OneMore s) (nat_lt s.next (length s.heaps)) _ _
+    (λ _. at_most (covered s.held (get_or s.heaps s.next one)) _) (λ _. omega arith)))
     (λ _. at_most false _))
   where
-    at_most : (b : Bool) (m : Member) → length (cond b s.members (s.members ++ m ∷ [])) ≤ length s.members + 1
+    at_most : (b : Bool) (m : Member) → length (cond b s.members (s.members ++ m ∷ []))
+        ≤ length s.members + 1
     at_most true m = omega arith
     at_most false m = omega (arith, length-append s.members (m ∷ []))
 
-pub few_steps : (n : ℕ) (p : Progress) → length (steps n p).state.members ≤ length p.state.members + n
+pub few_steps : (n : ℕ) (p : Progress)
+    → length (steps n p).state.members ≤ length p.state.members + n
 few_steps zero p = omega arith
 few_steps (suc n) p =
     let a = few_steps n p in
     let q = steps n p in
-    by_cond (λ z. length z.state.members ≤ length p.state.members + suc n) (has_ended q.state) q (moved q) (λ _. omega arith) (λ _. let b = few_after q.state in omega arith)
+    by_cond (λ z. length z.state.members ≤ length p.state.members + suc n) (has_ended q.state) q
+    (moved q) (λ _. omega arith) (λ _. let b = few_after q.state in omega arith)
 
 pub stopped_is : (p : Progress) → p.failed ≡ true → p ≡ stopped p
 stopped_is p e = ap (λ b. record { state = p.state; spent = p.spent; failed = b }) e
 
 pub next_steps : (n : ℕ) (p q t : Progress) → q ≡ steps n p → t ≡ step q → t ≡ steps (n + 1) p
-next_steps n p q t e f = let k : suc n ≡ n + 1 = omega arith in f ∙ ap step e ∙ ap (λ j. steps j p) k
+next_steps n p q t e f = let k : suc n ≡ n + 1 = omega arith in
+    f ∙ ap step e ∙ ap (λ j. steps j p) k

@@ -18,7 +18,8 @@ pub record Went (ends : Progress → Bool) (units : ℕ) (p q : Progress) : Type
   pub spent : q.spent ≡ p.spent + turns
   pub going : (n : ℕ) → n < turns → ends (steps n p) ≡ false
 
-pub went : (ends : Progress → Bool) (units : ℕ) (p q : Progress) → Goes ends units p q → Went ends units p q
+pub went : (ends : Progress → Bool) (units : ℕ) (p q : Progress) → Goes ends units p q
+    → Went ends units p q
 went ends units p q (inl t) = record {
   turns = t.turns;
   within = t.within;
@@ -62,13 +63,16 @@ module _ (ends : Progress → Bool) (units : ℕ) (p q : Progress) (w : Went end
 -- ---- answers
 
 module _ {X E : Type 0} (ends : Progress → Bool) (units : ℕ) (p q : Progress) where
-  pub grows_of : (r : Result X E) → p.failed ≡ false → Goes ends units p q → (IsErr r ↔ (q.failed ≡ true)) → Grows ends units r p q
+  pub grows_of : (r : Result X E) → p.failed ≡ false → Goes ends units p q
+      → (IsErr r ↔ (q.failed ≡ true)) → Grows ends units r p q
   grows_of (Ok x) f (inl t) h = (t, tt)
-  grows_of (Err x) f (inl t) h = (tt, absurd (not_both (h.0 refl) (ap (λ z. z.failed) t.reached ∙ same_failed t.turns p ∙ f)))
+  grows_of (Err x) f (inl t) h =
+      (tt, absurd (not_both (h.0 refl) (ap (λ z. z.failed) t.reached ∙ same_failed t.turns p ∙ f)))
   grows_of (Ok x) f (inr t) h = let e = h.1 (ap (λ z. z.failed) t.reached) in absurd (cc)
   grows_of (Err x) f (inr t) h = (tt, inr t)
 
-  pub refused_of : (r : Result X E) → Grows ends units r p q → OnErr r ((n : ℕ) × (n ≤ units) × (q ≡ stopped (steps n p)))
+  pub refused_of : (r : Result X E) → Grows ends units r p q
+      → OnErr r ((n : ℕ) × (n ≤ units) × (q ≡ stopped (steps n p)))
   refused_of (Ok x) g = tt
   refused_of (Err e) g = elim g.1 [
     | inl (f, same) ↦ (0, omega arith, same ∙ stopped_is p f)
@@ -76,14 +80,17 @@ module _ {X E : Type 0} (ends : Progress → Bool) (units : ℕ) (p q : Progress
   ]
 
 -- all units were taken where a turn is left
-spent_of : (ends : Progress → Bool) (units : ℕ) (p q : Progress) → Takes ends units p q → ends q ≡ false → q.spent ≡ p.spent + units
+spent_of : (ends : Progress → Bool) (units : ℕ) (p q : Progress) → Takes ends units p q
+    → ends q ≡ false → q.spent ≡ p.spent + units
 spent_of ends units p q t h =
     let l = t.within in
     let e = t.spent in
     elim (dec_lt t.turns units) [ yes b ↦ absurd (not_both (t.last b) h) | no b ↦ omega arith ]
 
-pub spent_by : {X E : Type 0} (ends : Progress → Bool) (units : ℕ) (p q : Progress) (r : Result X E) (x : X) → Grows ends units r p q → r ≡ Ok x → ends q ≡ false → q.spent ≡ p.spent + units
-spent_by ends units p q r x g e h = spent_of ends units p q (subst (λ z. Grows ends units z p q) e g).0 h
+pub spent_by : {X E : Type 0} (ends : Progress → Bool) (units : ℕ) (p q : Progress) (r : Result X E)
+    (x : X) → Grows ends units r p q → r ≡ Ok x → ends q ≡ false → q.spent ≡ p.spent + units
+spent_by ends units p q r x g e h =
+    spent_of ends units p q (subst (λ z. Grows ends units z p q) e g).0 h
 
 all_steps : (units : ℕ) (p q : Progress) → Takes ended units p q → q ≡ steps units p
 all_steps units p q t =
@@ -93,7 +100,8 @@ all_steps units p q t =
       | no b ↦ let e : t.turns ≡ units = omega arith in t.reached ∙ ap (λ n. steps n p) e
     ]
 
-pub steps_of : {X E : Type 0} (units : ℕ) (p q : Progress) (r : Result X E) → Grows ended units r p q → OnOk r (q ≡ steps units p)
+pub steps_of : {X E : Type 0} (units : ℕ) (p q : Progress) (r : Result X E)
+    → Grows ended units r p q → OnOk r (q ≡ steps units p)
 steps_of units p q (Ok x) g = all_steps units p q g.0
 steps_of units p q (Err e) g = tt
 
@@ -104,28 +112,45 @@ more_after p =
     by_cond (λ z. length p.state.members ≤ length z.state.members) (has_ended p.state) p (moved p)
     (λ _. omega arith) (λ _. (keeps_after p.state).few.0)
 
-pub more_after_step : (p q : Progress) → q ≡ step p → length p.state.members ≤ length q.state.members
-more_after_step p q e = subst (λ z. length p.state.members ≤ length z.state.members) (sym e) (more_after p)
+pub more_after_step : (p q : Progress) → q ≡ step p
+    → length p.state.members ≤ length q.state.members
+more_after_step p q e =
+    subst (λ z. length p.state.members ≤ length z.state.members) (sym e) (more_after p)
 
 more_steps : (n : ℕ) (p : Progress) → length p.state.members ≤ length (steps n p).state.members
 more_steps zero p = omega arith
 more_steps (suc n) p = let a = more_steps n p in let b = more_after (steps n p) in omega arith
 
-none_kept : (p : Progress) (n : ℕ) → ended_or_kept p (steps n p) ≡ false → length (steps n p).state.members ≡ length p.state.members
+none_kept : (p : Progress) (n : ℕ) → ended_or_kept p (steps n p) ≡ false
+    → length (steps n p).state.members ≡ length p.state.members
 none_kept p n e =
     let a = more_steps n p in
-    let b = ltb-false _ _ (or_false (has_ended (steps n p).state) (nat_lt (length p.state.members) (length (steps n p).state.members)) e).1 in
+    let b =
+    ltb-false _ _
+    (or_false (has_ended (steps n p).state)
+    (nat_lt (length p.state.members) (length (steps n p).state.members)) e).1 in
     omega arith
 
-pub went_keeps : (units : ℕ) (p q : Progress) → Went (ended_or_kept p) units p q → KeepsOne p.state q.state
-went_keeps units p q w = subst (KeepsOne p.state) (sym w.state) (keeps_one p w.turns (λ n l. none_kept p n (w.going n l)))
+pub went_keeps : (units : ℕ) (p q : Progress) → Went (ended_or_kept p) units p q
+    → KeepsOne p.state q.state
+went_keeps units p q w =
+    subst (KeepsOne p.state) (sym w.state)
+    (keeps_one p w.turns (λ n l. none_kept p n (w.going n l)))
 
-pub to_member_of : {X E : Type 0} (units : ℕ) (p q : Progress) (r : Result X E) → Grows (ended_or_kept p) units r p q → OnOk r (GrowsToMember units p q)
+pub to_member_of : {X E : Type 0} (units : ℕ) (p q : Progress) (r : Result X E)
+    → Grows (ended_or_kept p) units r p q → OnOk r (GrowsToMember units p q)
 to_member_of units p q (Ok x) g =
     let t = g.0 in
-    record { turns = t.turns; within = t.within; reached = t.reached; first = λ n l. none_kept p n (t.going n l) }
+    record {
+      turns = t.turns;
+      within = t.within;
+      reached = t.reached;
+      first = λ n l. none_kept p n (t.going n l);
+    }
 to_member_of units p q (Err e) g = tt
 
-pub spent_to_member : {X E : Type 0} (units : ℕ) (p q : Progress) (r : Result X E) (x : X) → Grows (ended_or_kept p) units r p q → r ≡ Ok x → has_ended q.state ≡ false
+pub spent_to_member : {X E : Type 0} (units : ℕ) (p q : Progress) (r : Result X E) (x : X)
+    → Grows (ended_or_kept p) units r p q → r ≡ Ok x → has_ended q.state ≡ false
     → length q.state.members ≡ length p.state.members → q.spent ≡ p.spent + units
-spent_to_member units p q r x g e h same = spent_by (ended_or_kept p) units p q r x g e (goes_on p q h (omega arith))
+spent_to_member units p q r x g e h same =
+    spent_by (ended_or_kept p) units p q r x g e (goes_on p q h (omega arith))

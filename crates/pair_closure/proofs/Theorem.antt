@@ -1,4 +1,5 @@
--- What a state reached by turns says: of its words, and, once it is done, of every product of heaps.
+-- What a state reached by turns says: of its words, and, once it is done, of every product of
+-- heaps.
 use Rattle.std.proofs.Common.{◌≡◌, ℕ, zero, suc, ◌-◌, ◌<◌, ◌≤◌, true, List, [], ◌∷◌, length, get_or, refl, sym, ap, ◌∙◌, subst, inl, inr, arith}
 use Rattle.std.specs.List.{AllByRecursion}
 use Rattle.monoid_table.specs.Laws.{CommMonoidLaws}
@@ -33,7 +34,8 @@ module _ (s : State) (v : Holds s) where
       let (m, i, d) = find_any (λ m. covers m.pair x) s.held c in
       any_from (λ m. covers m.pair y) s.held m i (covers_trans _ x y d k)
 
-  grows : (x y z : Pair) → IsIn x → IsIn y → IsIn z → covers x y ≡ true → covers (dot x z) (dot y z) ≡ true
+  grows : (x y z : Pair) → IsIn x → IsIn y → IsIn z → covers x y ≡ true
+      → covers (dot x z) (dot y z) ≡ true
   grows x y z a b c k = covers_grows s.table v.lawful x y z a b c k
 
   abbrev pub IsWord : List ℕ → Type 0
@@ -49,7 +51,8 @@ module _ (s : State) (v : Holds s) where
   word_in [] p = laws.one_in
   word_in (h ∷ w) p = laws.times_in _ _ (heap_in h p.0) (word_in w p.1)
 
-  module _ (finished : (m : Held) → In m s.held → length s.generators ≤ m.by) (all_heaps : length s.heaps ≤ s.next) where
+  module _ (finished : (m : Held) → In m s.held → length s.generators ≤ m.by)
+      (all_heaps : length s.heaps ≤ s.next) where
     -- products by x keep what is covered covered
     abbrev Good : Pair → Type 0
     Good x = (y : Pair) → IsIn y → cov y → cov (dot y x)
@@ -61,7 +64,8 @@ module _ (s : State) (v : Holds s) where
         let hg = generator_in s v g i in
         cov_trans (dot m.pair g.pair) (dot y g.pair)
         (elim (v.products m k) [
-          | inl e ↦ subst cov (sym (ap (λ z. dot z g.pair) e ∙ laws.identity _ hg)) (v.gens_held g i)
+          | inl e ↦ subst cov (sym (ap (λ z. dot z g.pair) e ∙ laws.identity _ hg))
+              (v.gens_held g i)
           | inr (b, all) ↦
               let (j, l, at) = place_of s.generators g i in
               let f = finished m k in
@@ -70,11 +74,13 @@ module _ (s : State) (v : Holds s) where
         (grows _ _ _ hm hy hg d)
 
     made_good : {x : Pair} → Made s.table s.generators x → Good x
-    made_good (Empty e) y hy c = subst cov (sym (ap (dot y) e ∙ laws.comm _ _ hy laws.one_in ∙ laws.identity y hy)) c
+    made_good (Empty e) y hy c =
+        subst cov (sym (ap (dot y) e ∙ laws.comm _ _ hy laws.one_in ∙ laws.identity y hy)) c
     made_good (More g w i e) y hy c =
         let hx = made_in s v w in
         let hg = generator_in s v g i in
-        subst cov (sym (ap (dot y) e ∙ sym (laws.assoc y _ _ hy hx hg))) (generator_good g i (dot y _) (laws.times_in _ _ hy hx) (made_good w y hy c))
+        subst cov (sym (ap (dot y) e ∙ sym (laws.assoc y _ _ hy hx hg)))
+        (generator_good g i (dot y _) (laws.times_in _ _ hy hx) (made_good w y hy c))
 
     heap_good : (h : ℕ) → (1 ≤ h) × (h ≤ length s.heaps) → Good (get_or s.heaps (h - 1) one)
     heap_good h (a, b) y hy c =
@@ -88,23 +94,31 @@ module _ (s : State) (v : Holds s) where
     -- every product of heaps is covered
     pub words_covered : (w : List ℕ) → IsWord w → cov (product w)
     words_covered [] p = v.one_held
-    words_covered (h ∷ w) p = subst cov (laws.comm _ _ (word_in w p.1) (heap_in h p.0)) (heap_good h p.0 _ (word_in w p.1) (words_covered w p.1))
+    words_covered (h ∷ w) p =
+        subst cov (laws.comm _ _ (word_in w p.1) (heap_in h p.0))
+        (heap_good h p.0 _ (word_in w p.1) (words_covered w p.1))
 
   abbrev member_at : ℕ → Member
   member_at i = get_or s.members i blank
 
   -- the words of the members ever kept
-  pub word_is : (n i : ℕ) → i ≤ n → i < length s.members → IsWord (word_of s.members n i) × ((member_at i).pair ≡ product (word_of s.members n i))
-  word_is zero i l k = (tt, let q : 0 ≡ i = omega arith in subst (λ j. (member_at j).pair ≡ one) q (v.first.1))
+  pub word_is : (n i : ℕ) → i ≤ n → i < length s.members → IsWord (word_of s.members n i)
+      × ((member_at i).pair ≡ product (word_of s.members n i))
+  word_is zero i l k =
+      (tt, let q : 0 ≡ i = omega arith in subst (λ j. (member_at j).pair ≡ one) q (v.first.1))
   word_is (suc n) zero l k = (tt, v.first.1)
   word_is (suc n) (suc i) l k =
       let w = v.steps (suc i) (omega arith) k in
       let less = w.earlier in
-      let (a, b) = word_is n (member_at (suc i)).parent (omega arith) (omega arith) in
-      ((w.heap, a), w.product ∙ ap (λ z. dot z (get_or s.heaps ((member_at (suc i)).heap - 1) one)) b ∙ laws.comm _ _ (word_in _ a) (heap_in _ w.heap))
+      let (a, b) = word_is n (member_at (suc i)).parent (omega arith) (omega arith) in (
+        (w.heap, a),
+        w.product ∙ ap (λ z. dot z (get_or s.heaps ((member_at (suc i)).heap - 1) one))
+            b ∙ laws.comm _ _ (word_in _ a) (heap_in _ w.heap),
+      )
 
   -- a word doesn't depend on the bound of its length
-  pub word_bound : (n m i : ℕ) → i ≤ n → i ≤ m → i < length s.members → word_of s.members n i ≡ word_of s.members m i
+  pub word_bound : (n m i : ℕ) → i ≤ n → i ≤ m → i < length s.members
+      → word_of s.members n i ≡ word_of s.members m i
   word_bound zero zero i a b l = refl
   word_bound zero (suc m) zero a b l = refl
   word_bound zero (suc m) (suc i) a b l = absurd (omega arith)
@@ -114,4 +128,5 @@ module _ (s : State) (v : Holds s) where
   word_bound (suc n) (suc m) (suc i) a b l =
       let w = v.steps (suc i) (omega arith) l in
       let less = w.earlier in
-      ap (λ z. (member_at (suc i)).heap ∷ z) (word_bound n m (member_at (suc i)).parent (omega arith) (omega arith) (omega arith))
+      ap (λ z. (member_at (suc i)).heap ∷ z)
+      (word_bound n m (member_at (suc i)).parent (omega arith) (omega arith) (omega arith))

@@ -14,20 +14,30 @@ use Rattle.pair_closure.proofs.Runs.{next_run}
 
 -- the state with other lists
 abbrev pub with : State → List Member → List Held → List Generator → ℕ → State
-with s members held gens next = record s { members = members; held = held; generators = gens; next = next }
+with s members held gens next =
+    record s { members = members; held = held; generators = gens; next = next }
 
 -- what a turn leaves: a run, and where to look next
 abbrev pub Next : Progress → List Member → List Held → List Generator → ℕ → ℕ → ℕ → Type 0
-Next p members held gens next spent from = IsRun (record { state = with p.state members held gens next; spent = spent; failed = p.failed }) × NoneBefore held (length gens) from
+Next p members held gens next spent from =
+    IsRun (record { state = with p.state members held gens next; spent = spent; failed = p.failed })
+    × NoneBefore held (length gens) from
 
-pub read_by : (s : State) (at : ℕ) (m : Held) → Multiplies s at → m ≡ get_or s.held at m → m.by < length s.generators
-read_by s at m k e = subst (λ z. z.by < length s.generators) (sym e) (has_turns s.held (length s.generators) at m k.first k.within)
+pub read_by : (s : State) (at : ℕ) (m : Held) → Multiplies s at → m ≡ get_or s.held at m
+    → m.by < length s.generators
+read_by s at m k e =
+    subst (λ z. z.by < length s.generators) (sym e)
+    (has_turns s.held (length s.generators) at m k.first k.within)
 
-pub read_held : (s : State) (at : ℕ) (m : Held) → Reached s → Multiplies s at → m ≡ get_or s.held at m → IsPair s.table.order m.pair
-read_held s at m r k e = subst (λ z. IsPair s.table.order z.pair) (sym e) (held_in s r at m k.within)
+pub read_held : (s : State) (at : ℕ) (m : Held) → Reached s → Multiplies s at
+    → m ≡ get_or s.held at m → IsPair s.table.order m.pair
+read_held s at m r k e =
+    subst (λ z. IsPair s.table.order z.pair) (sym e) (held_in s r at m k.within)
 
-pub read_generator : (s : State) (i : ℕ) (g : Generator) → Reached s → i < length s.generators → g ≡ get_or s.generators i g → IsPair s.table.order g.pair
-read_generator s i g r l e = subst (λ z. IsPair s.table.order z.pair) (sym e) (generator_in s r i g l)
+pub read_generator : (s : State) (i : ℕ) (g : Generator) → Reached s → i < length s.generators
+    → g ≡ get_or s.generators i g → IsPair s.table.order g.pair
+read_generator s i g r l e =
+    subst (λ z. IsPair s.table.order z.pair) (sym e) (generator_in s r i g l)
 
 -- a state with no members has nothing at all
 nothing : (s : State) → Reached s → KeepsEmpty s → (s.generators ≡ [])
@@ -36,18 +46,27 @@ nothing s r k = elim (kept_by_turns s r) [
   | inr v ↦ let none = k.none in let some = v.first.0 in absurd (omega arith)
 ]
 
-pub empty_turned : (p : Progress) (members : List Member) (held : List Held) → KeepsEmpty p.state → members ≡ members_with p.state.members one 0 0 → held ≡ held_with p.state.held one 0 (length p.state.heaps)
+pub empty_turned : (p : Progress) (members : List Member) (held : List Held) → KeepsEmpty p.state
+    → members ≡ members_with p.state.members one 0 0
+    → held ≡ held_with p.state.held one 0 (length p.state.heaps)
     → with p.state members held p.state.generators p.state.next ≡ turn p.state
-empty_turned p members held k a b = ap₂ (λ e h. with p.state e h p.state.generators p.state.next) a b ∙ sym (turn_empty p.state k)
+empty_turned p members held k a b =
+    ap₂ (λ e h. with p.state e h p.state.generators p.state.next) a b ∙ sym (turn_empty p.state k)
 
-pub empty_next : (p : Progress) (members : List Member) (held : List Held) (from : ℕ) → IsRun p → KeepsEmpty p.state → members ≡ members_with p.state.members one 0 0 → held ≡ held_with p.state.held one 0 (length p.state.heaps)
+pub empty_next : (p : Progress) (members : List Member) (held : List Held) (from : ℕ) → IsRun p
+    → KeepsEmpty p.state → members ≡ members_with p.state.members one 0 0
+    → held ≡ held_with p.state.held one 0 (length p.state.heaps)
     → Next p members held p.state.generators p.state.next (p.spent + 1) from
 empty_next p members held from r k a b =
-    let none : length p.state.generators ≡ 0 = ap length (nothing p.state (of_run p r) k) in
-    (next_run p _ r (goes_empty p.state k) (empty_turned p members held k a b), λ i l h. omega arith)
+    let none : length p.state.generators ≡ 0 = ap length (nothing p.state (of_run p r) k) in (
+      next_run p _ r (goes_empty p.state k) (empty_turned p members held k a b),
+      λ i l h.
+          omega arith,
+    )
 
 -- what a product's turn was given and what it wrote
-pub record Product (s : State) (members : List Member) (held : List Held) (at : ℕ) (m : Held) (g : Generator) (x : Pair) : Type 0 where
+pub record Product (s : State) (members : List Member) (held : List Held) (at : ℕ) (m : Held)
+    (g : Generator) (x : Pair) : Type 0 where
   pub turns : Multiplies s at
   pub member : m ≡ get_or s.held at m
   pub generator : g ≡ get_or s.generators m.by g
@@ -55,62 +74,97 @@ pub record Product (s : State) (members : List Member) (held : List Held) (at : 
   pub members_are : members ≡ members_after s.members s.held x m.place g.heap
   pub held_are : held ≡ held_after s.held (set s.held at (multiplied m)) x (length s.members)
 
-pub product_turned : (s : State) (members : List Member) (held : List Held) (at : ℕ) (m : Held) (g : Generator) (x : Pair) → Product s members held at m g x → with s members held s.generators s.next ≡ turn s
+pub product_turned : (s : State) (members : List Member) (held : List Held) (at : ℕ) (m : Held)
+    (g : Generator) (x : Pair) → Product s members held at m g x
+    → with s members held s.generators s.next ≡ turn s
 product_turned s members held at m g x w =
     let k = w.turns in
     let l = read_by s at m k w.member in
-    let same_member : m ≡ get_or s.held at blank_held = w.member ∙ same_default s.held at m blank_held k.within in
-    let same_generator : g ≡ get_or s.generators m.by blank_generator = w.generator ∙ same_default s.generators m.by g blank_generator l in
+    let same_member : m ≡ get_or s.held at blank_held =
+    w.member ∙ same_default s.held at m blank_held k.within in
+    let same_generator : g ≡ get_or s.generators m.by blank_generator =
+    w.generator ∙ same_default s.generators m.by g blank_generator l in
     ap₂ (λ e h. with s e h s.generators s.next) w.members_are w.held_are
     ∙ ap (state_of m g) w.product
     ∙ ap (λ z. state_of m z (times s.table m.pair z.pair)) same_generator
-    ∙ ap (λ z. state_of z (get_or s.generators z.by blank_generator) (times s.table z.pair (get_or s.generators z.by blank_generator).pair)) same_member
+    ∙ ap (λ z. state_of z (get_or s.generators z.by blank_generator)
+    (times s.table z.pair (get_or s.generators z.by blank_generator).pair)) same_member
     ∙ sym (turn_product s at k)
   where
     state_of : Held → Generator → Pair → State
-    state_of m g x = with s (members_after s.members s.held x m.place g.heap) (held_after s.held (set s.held at (multiplied m)) x (length s.members)) s.generators s.next
+    state_of m g x =
+        with s (members_after s.members s.held x m.place g.heap)
+        (held_after s.held (set s.held at (multiplied m)) x (length s.members)) s.generators s.next
 
-pub product_next : (p : Progress) (members : List Member) (held : List Held) (at : ℕ) (m : Held) (g : Generator) (x : Pair) (anew : Bool) (from : ℕ) → IsRun p → Product p.state members held at m g x
-    → (anew ≡ false → (k : ℕ) → k < at → get_or held k blank_held ≡ get_or p.state.held k blank_held) → from ≡ cond anew 0 at
+pub product_next : (p : Progress) (members : List Member) (held : List Held) (at : ℕ) (m : Held)
+    (g : Generator) (x : Pair) (anew : Bool) (from : ℕ) → IsRun p
+    → Product p.state members held at m g x
+    → (anew ≡ false → (k : ℕ) → k < at
+    → get_or held k blank_held ≡ get_or p.state.held k blank_held) → from ≡ cond anew 0 at
     → Next p members held p.state.generators p.state.next (p.spent + 1) from
-product_next p members held at m g x anew from r w before e =
-    (next_run p _ r (goes_product p.state at w.turns) (product_turned p.state members held at m g x w), none anew before e)
+product_next p members held at m g x anew from r w before e = (
+  next_run p _ r (goes_product p.state at w.turns)
+      (product_turned p.state members held at m g x w),
+  none anew before e,
+)
   where
-    none : (b : Bool) → (b ≡ false → (k : ℕ) → k < at → get_or held k blank_held ≡ get_or p.state.held k blank_held) → from ≡ cond b 0 at → NoneBefore held (length p.state.generators) from
+    none : (b : Bool)
+        → (b ≡ false → (k : ℕ) → k < at
+        → get_or held k blank_held ≡ get_or p.state.held k blank_held) → from ≡ cond b 0 at
+        → NoneBefore held (length p.state.generators) from
     none true h e k l1 l2 = absurd (omega arith)
     none false h e k l1 l2 =
         let first = w.turns.first in
-        subst (λ z. length p.state.generators ≤ z.by) (sym (h refl k (omega arith))) (none_before p.state.held (length p.state.generators) k blank_held (omega arith))
+        subst (λ z. length p.state.generators ≤ z.by) (sym (h refl k (omega arith)))
+        (none_before p.state.held (length p.state.generators) k blank_held (omega arith))
 
 -- what a heap's turn was given and what it wrote
-pub record Tried (s : State) (members : List Member) (held : List Held) (gens : List Generator) (n : ℕ) (x : Pair) : Type 0 where
+pub record Tried (s : State) (members : List Member) (held : List Held) (gens : List Generator)
+    (n : ℕ) (x : Pair) : Type 0 where
   pub turns : TriesHeap s
   pub heap : x ≡ get_or s.heaps s.next x
   pub number : n ≡ s.next + 1
   pub members_are : members ≡ members_after s.members s.held x 0 n
   pub held_are : held ≡ held_after s.held s.held x (length s.members)
-  pub generators_are : gens ≡ cond (covered s.held x) s.generators (generators_with s.generators x n)
+  pub generators_are : gens ≡ cond (covered s.held x) s.generators
+      (generators_with s.generators x n)
 
-pub heap_turned : (s : State) (members : List Member) (held : List Held) (gens : List Generator) (n : ℕ) (x : Pair) → Tried s members held gens n x → with s members held gens n ≡ turn s
+pub heap_turned : (s : State) (members : List Member) (held : List Held) (gens : List Generator)
+    (n : ℕ) (x : Pair) → Tried s members held gens n x → with s members held gens n ≡ turn s
 heap_turned s members held gens n x w =
     let k = w.turns in
     let same : x ≡ get_or s.heaps s.next one = w.heap ∙ same_default s.heaps s.next x one k.more in
-    ap₂ (λ e h. with s e h gens n) w.members_are w.held_are ∙ ap (λ z. with s (members_after s.members s.held x 0 n) (held_after s.held s.held x (length s.members)) z n) w.generators_are
-    ∙ ap₂ (λ z k. with s (members_after s.members s.held z 0 k) (held_after s.held s.held z (length s.members)) (cond (covered s.held z) s.generators (generators_with s.generators z k)) k) same w.number
+    ap₂ (λ e h. with s e h gens n) w.members_are w.held_are
+    ∙ ap (λ z. with s (members_after s.members s.held x 0 n)
+    (held_after s.held s.held x (length s.members)) z n) w.generators_are
+    ∙ ap₂ (λ z k. with s (members_after s.members s.held z 0 k)
+    (held_after s.held s.held z (length s.members))
+    (cond (covered s.held z) s.generators (generators_with s.generators z k)) k) same w.number
     ∙ sym (turn_heap s k)
 
-pub heap_next : (p : Progress) (members : List Member) (held : List Held) (gens : List Generator) (n : ℕ) (x : Pair) (anew : Bool) (from : ℕ) → IsRun p → Tried p.state members held gens n x
-    → (anew ≡ false → covered p.state.held x ≡ true) → from ≡ cond anew 0 (length held) → Next p members held gens n (p.spent + 1) from
-heap_next p members held gens n x anew from r w kept e =
-    (next_run p _ r (goes_heap p.state w.turns) (heap_turned p.state members held gens n x w), none anew kept e)
+pub heap_next : (p : Progress) (members : List Member) (held : List Held) (gens : List Generator)
+    (n : ℕ) (x : Pair) (anew : Bool) (from : ℕ) → IsRun p → Tried p.state members held gens n x
+    → (anew ≡ false → covered p.state.held x ≡ true) → from ≡ cond anew 0 (length held)
+    → Next p members held gens n (p.spent + 1) from
+heap_next p members held gens n x anew from r w kept e = (
+  next_run p _ r (goes_heap p.state w.turns) (heap_turned p.state members held gens n x w),
+  none anew kept e,
+)
   where
-    none : (b : Bool) → (b ≡ false → covered p.state.held x ≡ true) → from ≡ cond b 0 (length held) → NoneBefore held (length gens) from
+    none : (b : Bool) → (b ≡ false → covered p.state.held x ≡ true) → from ≡ cond b 0 (length held)
+        → NoneBefore held (length gens) from
     none true h e k l1 l2 = absurd (omega arith)
     none false h e k l1 l2 =
         let c = h refl in
-        let same_held : held ≡ p.state.held = w.held_are ∙ ap (λ b. cond b p.state.held (held_with p.state.held x (length p.state.members) 0)) c in
-        let same_gens : gens ≡ p.state.generators = w.generators_are ∙ ap (λ b. cond b p.state.generators (generators_with p.state.generators x n)) c in
+        let same_held : held ≡ p.state.held =
+        w.held_are
+        ∙ ap (λ b. cond b p.state.held (held_with p.state.held x (length p.state.members) 0)) c
+        in
+        let same_gens : gens ≡ p.state.generators =
+        w.generators_are
+        ∙ ap (λ b. cond b p.state.generators (generators_with p.state.generators x n)) c in
         let all = w.turns.all in
         let inside : k < length p.state.held = subst (λ z. k < length z) same_held l2 in
-        subst (λ z. length z ≤ (get_or held k blank_held).by) (sym same_gens) (subst (λ z. length p.state.generators ≤ (get_or z k blank_held).by) (sym same_held)
+        subst (λ z. length z ≤ (get_or held k blank_held).by) (sym same_gens)
+        (subst (λ z. length p.state.generators ≤ (get_or z k blank_held).by) (sym same_held)
         (none_before p.state.held (length p.state.generators) k blank_held (omega arith)))

@@ -20,18 +20,29 @@ use Rattle.pair_closure.proofs.Positions.{speaks}
 use Rattle.pair_closure.proofs.Rising.{one_rises}
 
 -- the heaps in any order have the same pair
-pair_shuffled : (code : List ℕ) (c : Claim) (m : Monoid c.order c.times) (phi_in : (n : ℕ) → IsHeap n → c.phi n < c.order) (p : theory.Pair) (X Y : List ℕ) → IsPosition IsHeap X → Shuffled X Y → theory.IsPairOf code c p X → theory.IsPairOf code c p Y
+pair_shuffled : (code : List ℕ) (c : Claim) (m : Monoid c.order c.times) (phi_in : (n : ℕ)
+    → IsHeap n → c.phi n < c.order) (p : theory.Pair) (X Y : List ℕ) → IsPosition IsHeap X
+    → Shuffled X Y → theory.IsPairOf code c p X → theory.IsPairOf code c p Y
 pair_shuffled code c m phi_in p X Y inside s e = record {
   same_value = e.same_value ∙ value_shuffled IsHeap c m phi_in s inside;
   options = λ x. (
     λ h.
         let (Z, i, q) = (e.options x).0 h in
-        let (W, j, t) = move_shuffled s i in
-        (W, j, sym (value_shuffled IsHeap c m phi_in t (move_kept IsHeap code (heaps_kept code) i inside)) ∙ q),
+        let (W, j, t) = move_shuffled s i in (
+          W,
+          j,
+          sym (value_shuffled IsHeap c m phi_in t
+              (move_kept IsHeap code (heaps_kept code) i inside)) ∙ q,
+        ),
     λ o.
         let (W, j, q) = o in
         let (Z, i, t) = move_shuffled (back s) j in
-        (e.options x).1 (Z, i, sym (value_shuffled IsHeap c m phi_in t (move_kept IsHeap code (heaps_kept code) j (position_shuffled IsHeap s inside))) ∙ q),
+        (e.options x).1 (
+          Z,
+          i,
+          sym (value_shuffled IsHeap c m phi_in t
+              (move_kept IsHeap code (heaps_kept code) j (position_shuffled IsHeap s inside))) ∙ q,
+        ),
   );
 }
 
@@ -39,7 +50,8 @@ heaps_of : (B : ℕ) (X : List ℕ) → IsPosition (IsHeapUpTo B) X → IsPositi
 heaps_of B [] p = tt
 heaps_of B (n ∷ X) p = (p.0.0, heaps_of B X p.1)
 
-word_within : (s : State) → Reached s → (i : ℕ) → i < length s.members → IsPosition (IsHeapUpTo (length s.heaps)) (word s i)
+word_within : (s : State) → Reached s → (i : ℕ) → i < length s.members
+    → IsPosition (IsHeapUpTo (length s.heaps)) (word s i)
 word_within s r i l = elim (kept_by_turns s r) [
   | inl e ↦ absurd (let none = ap (λ z. length z.members) e in omega arith)
   | inr v ↦ (reached.word_is s v i i (omega arith) l).0
@@ -58,8 +70,14 @@ unfolds s r (suc k) some l = elim (kept_by_turns s r) [
   | inr v ↦
       let step = v.steps (suc k) some l in
       let before = step.earlier in
-      let same = reached.word_bound s v k (get_or s.members (suc k) blank).parent (get_or s.members (suc k) blank).parent (omega arith) (omega arith) (omega arith) in
-      record { is = ap (λ w. (get_or s.members (suc k) blank).heap ∷ w) same; earlier = before; heap = step.heap }
+      let same =
+      reached.word_bound s v k (get_or s.members (suc k) blank).parent
+      (get_or s.members (suc k) blank).parent (omega arith) (omega arith) (omega arith) in
+      record {
+        is = ap (λ w. (get_or s.members (suc k) blank).heap ∷ w) same;
+        earlier = before;
+        heap = step.heap;
+      }
 ]
 
 -- the heaps read so far, and the word of the member that is next
@@ -67,44 +85,72 @@ pub record Walking (s : State) (place at : ℕ) (heaps : List ℕ) : Type 0 wher
   pub within : at < length s.members
   pub rest : IsPermutation (word s place) (heaps ++ word s at)
 
-pub walk_begins : (s : State) (place : ℕ) (heaps : List ℕ) → place < length s.members → heaps ≡ [] → Walking s place place heaps
-walk_begins s place heaps l e = record { within = l; rest = subst (λ z. IsPermutation (word s place) (z ++ word s place)) (sym e) (IsPermutation-refl (word s place)) }
+pub walk_begins : (s : State) (place : ℕ) (heaps : List ℕ) → place < length s.members → heaps ≡ []
+    → Walking s place place heaps
+walk_begins s place heaps l e =
+    record {
+      within = l;
+      rest = subst (λ z. IsPermutation (word s place) (z ++ word s place))
+          (sym e) (IsPermutation-refl (word s place));
+    }
 
-pub walk_goes : (s : State) → Reached s → (place at : ℕ) (heaps more : List ℕ) (m : Member) → Walking s place at heaps → 0 < at → m ≡ get_or s.members at blank → IsPermutation (m.heap ∷ heaps) more → Walking s place m.parent more
+pub walk_goes : (s : State) → Reached s → (place at : ℕ) (heaps more : List ℕ) (m : Member)
+    → Walking s place at heaps → 0 < at → m ≡ get_or s.members at blank
+    → IsPermutation (m.heap ∷ heaps) more → Walking s place m.parent more
 walk_goes s r place at heaps more m w some e p =
     let u = unfolds s r at some w.within in
-    let first : word s at ≡ m.heap ∷ word s m.parent = u.is ∙ ap (λ z. z.heap ∷ word s z.parent) (sym e) in
+    let first : word s at ≡ m.heap ∷ word s m.parent =
+    u.is ∙ ap (λ z. z.heap ∷ word s z.parent) (sym e) in
     let less : m.parent < at = subst (λ z. z.parent < at) (sym e) u.earlier in
     let inside = w.within in
     record {
       within = omega arith;
-      rest = IsPermutation-trans _ _ _ (subst (λ z. IsPermutation (word s place) (heaps ++ z)) first w.rest)
-          (IsPermutation-trans _ _ _ (IsPermutation-middle heaps m.heap (word s m.parent)) (IsPermutation-append_left (word s m.parent) (m.heap ∷ heaps) more p));
+      rest =
+          IsPermutation-trans _ _ _
+          (subst (λ z. IsPermutation (word s place) (heaps ++ z)) first w.rest)
+          (IsPermutation-trans _ _ _ (IsPermutation-middle heaps m.heap (word s m.parent))
+          (IsPermutation-append_left (word s m.parent) (m.heap ∷ heaps) more p));
     }
 
-pub walk_falls : (s : State) → Reached s → (place at : ℕ) (heaps : List ℕ) (m : Member) → Walking s place at heaps → 0 < at → m ≡ get_or s.members at blank → m.parent < at
-walk_falls s r place at heaps m w some e = subst (λ z. z.parent < at) (sym e) (unfolds s r at some w.within).earlier
+pub walk_falls : (s : State) → Reached s → (place at : ℕ) (heaps : List ℕ) (m : Member)
+    → Walking s place at heaps → 0 < at → m ≡ get_or s.members at blank → m.parent < at
+walk_falls s r place at heaps m w some e =
+    subst (λ z. z.parent < at) (sym e) (unfolds s r at some w.within).earlier
 
-pub walk_sizes : (s : State) → Reached s → length s.heaps < 2 ^ 58 → (place at : ℕ) (heaps : List ℕ) (m : Member) → Walking s place at heaps → 0 < at → m ≡ get_or s.members at blank → IsSize m.heap
-walk_sizes s r short place at heaps m w some e = subst (λ z. IsSize z.heap) (sym e) (let (a, b) = (unfolds s r at some w.within).heap in (a, omega arith))
+pub walk_sizes : (s : State) → Reached s → length s.heaps < 2 ^ 58
+    → (place at : ℕ) (heaps : List ℕ) (m : Member) → Walking s place at heaps → 0 < at
+    → m ≡ get_or s.members at blank → IsSize m.heap
+walk_sizes s r short place at heaps m w some e =
+    subst (λ z. IsSize z.heap) (sym e) (let (a, b) = (unfolds s r at some w.within).heap in
+    (a, omega arith))
 
 no_more : (heaps : List ℕ) → heaps ++ [] ≡ heaps
 no_more [] = refl
 no_more (x ∷ xs) = ap (λ ys. x ∷ ys) (no_more xs)
 
-pub walk_ends : (s : State) → Reached s → (m : Held) (i : ℕ) (at : ℕ) (heaps : List ℕ) → i < length s.held → m ≡ get_or s.held i blank_held → Walking s m.place at heaps → at ≤ 0 → IsNonDecreasing heaps → IsWordOf s m heaps
+pub walk_ends : (s : State) → Reached s → (m : Held) (i : ℕ) (at : ℕ) (heaps : List ℕ)
+    → i < length s.held → m ≡ get_or s.held i blank_held → Walking s m.place at heaps → at ≤ 0
+    → IsNonDecreasing heaps → IsWordOf s m heaps
 walk_ends s r m i at heaps l e w last rise =
     let none : at ≡ 0 = omega arith in
-    let same : IsPermutation (word s m.place) heaps = subst (IsPermutation (word s m.place)) (no_more heaps) (subst (λ z. IsPermutation (word s m.place) (heaps ++ word s z)) none w.rest) in
-    let inside : m.place < length s.members = subst (λ z. z.place < length s.members) (sym e) (place_in s r i blank_held l) in
+    let same : IsPermutation (word s m.place) heaps =
+    subst (IsPermutation (word s m.place)) (no_more heaps)
+    (subst (λ z. IsPermutation (word s m.place) (heaps ++ word s z)) none w.rest) in
+    let inside : m.place < length s.members =
+    subst (λ z. z.place < length s.members) (sym e) (place_in s r i blank_held l) in
     let shuffled = from_permutation _ _ same in
     record {
       are = one_rises _ _ same rise;
       same = same;
-      within = position_shuffled (IsHeapUpTo (length s.heaps)) shuffled (word_within s r m.place inside);
+      within =
+          position_shuffled (IsHeapUpTo (length s.heaps)) shuffled (word_within s r m.place inside);
       exact = λ code c g.
           let says = speaks s r code c g in
-          let held = says.held m (subst (Contains s.held) (sym e) (In-Contains _ _ (In-at s.held i blank_held l))) in
-          pair_shuffled code c g.monoid g.elements (as_pair m.pair) (word s m.place) heaps (heaps_of _ _ (says.positions m.place inside)) shuffled
-          (subst (λ p. theory.IsPairOf code c (as_pair p) (word s m.place)) held.1 (says.words m.place inside));
+          let held =
+          says.held m
+          (subst (Contains s.held) (sym e) (In-Contains _ _ (In-at s.held i blank_held l))) in
+          pair_shuffled code c g.monoid g.elements (as_pair m.pair) (word s m.place) heaps
+          (heaps_of _ _ (says.positions m.place inside)) shuffled
+          (subst (λ p. theory.IsPairOf code c (as_pair p) (word s m.place)) held.1
+          (says.words m.place inside));
     }

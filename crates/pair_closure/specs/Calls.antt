@@ -11,9 +11,11 @@ ended p = has_ended p.state
 
 -- no turn is left, or a member was kept since
 abbrev pub ended_or_kept : Progress → Progress → Bool
-ended_or_kept since p = has_ended p.state || nat_lt (length since.state.members) (length p.state.members)
+ended_or_kept since p =
+    has_ended p.state || nat_lt (length since.state.members) (length p.state.members)
 
--- Turns one after another, each for one unit: the first that comes to such an end is the last, and without one all units are turns.
+-- Turns one after another, each for one unit: the first that comes to such an end is the last, and
+-- without one all units are turns.
 pub record Takes (ends : Progress → Bool) (units : ℕ) (old new : Progress) : Type 0 where
   pub turns : ℕ
   pub within : turns ≤ units
@@ -34,8 +36,10 @@ pub record IsRefused (ends : Progress → Bool) (units : ℕ) (old new : Progres
 abbrev pub Goes : (Progress → Bool) → ℕ → Progress → Progress → Type 0
 Goes ends units old new = Takes ends units old new ⊎ IsRefused ends units old new
 
--- What a call of so many units answers and comes to. Where memory had been refused before, nothing changes.
-abbrev pub Grows : {X E : Type 0} → (Progress → Bool) → ℕ → Result X E → Progress → Progress → Type 0
+-- What a call of so many units answers and comes to. Where memory had been refused before, nothing
+-- changes.
+abbrev pub Grows : {X E : Type 0} → (Progress → Bool) → ℕ → Result X E → Progress → Progress
+    → Type 0
 Grows ends units result old new =
     OnOk result (Takes ends units old new)
     × OnErr result (((old.failed ≡ true) × (new ≡ old)) ⊎ IsRefused ends units old new)

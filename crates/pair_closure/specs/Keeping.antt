@@ -9,15 +9,16 @@ use Rattle.pair_closure.specs.Progress.{Progress, steps}
 abbrev pub HasPair : List Held → Pair → Type 0
 HasPair held x = (j : ℕ) × (j < length held) × ((slice_index_or held j blank_held).pair ≡ x)
 
--- From s to t one member was kept at most. If none was, each pair that is held was held before; otherwise that may differ for the
--- pair of the last one held.
+-- From s to t one member was kept at most. If none was, each pair that is held was held before;
+-- otherwise that may differ for the pair of the last one held.
 pub record KeepsOne (s t : State) : Type 0 where
   pub few : (length s.members ≤ length t.members) × (length t.members ≤ length s.members + 1)
   pub last : length s.members < length t.members → 0 < length t.held
   pub held : (i : ℕ) → i < length t.held
       → HasPair s.held (slice_index_or t.held i blank_held).pair
       ⊎ ((length s.members < length t.members)
-      × ((slice_index_or t.held i blank_held).pair ≡ (slice_index_or t.held (length t.held - 1) blank_held).pair))
+      × ((slice_index_or t.held i blank_held).pair
+      ≡ (slice_index_or t.held (length t.held - 1) blank_held).pair))
 
 -- So many turns at most, of which none but the last keeps a member.
 pub record GrowsToMember (units : ℕ) (old new : Progress) : Type 0 where

@@ -15,7 +15,8 @@ use Rattle.pair_closure.specs.Chains.{blank}
 abbrev pub as_pair : Pair → theory.Pair
 as_pair p = record { value = p.value; options = set.items p.options }
 
--- The claim's products are the table's, and the list gives its pairs of the heaps 1 up to the list's length.
+-- The claim's products are the table's, and the list gives its pairs of the heaps 1 up to the
+-- list's length.
 pub record IsClaimOver (code : List ℕ) (c : Claim) (table : Grid) (heaps : List Pair) : Type 0 where
   pub monoid : Monoid c.order c.times
   pub elements : GivesElements IsHeap c
@@ -37,7 +38,8 @@ pub record Says (code : List ℕ) (c : Claim) (s : State) : Type 0 where
   pub words : (i : ℕ) → i < length s.members
       → theory.IsPairOf code c (as_pair (slice_index_or s.members i blank).pair) (word s i)
   -- the words are positions of the heaps given
-  pub positions : (i : ℕ) → i < length s.members → IsPosition (IsHeapUpTo (length s.heaps)) (word s i)
+  pub positions : (i : ℕ) → i < length s.members
+      → IsPosition (IsHeapUpTo (length s.heaps)) (word s i)
   -- members held are among those ever kept
   pub held : (m : Held) → Contains s.held m
       → (m.place < length s.members) × ((slice_index_or s.members m.place blank).pair ≡ m.pair)
@@ -56,8 +58,8 @@ abbrev pub rising : List ℕ → List ℕ
 rising [] = []
 rising (h ∷ heaps) = put h (rising heaps)
 
--- The heaps are exactly those of the word of a member held, rising, and their position has exactly the member's pair,
--- whatever claim the table and the pairs are those of.
+-- The heaps are exactly those of the word of a member held, rising, and their position has exactly
+-- the member's pair, whatever claim the table and the pairs are those of.
 pub record IsWordOf (s : State) (m : Held) (heaps : List ℕ) : Type 0 where
   pub are : heaps ≡ rising (word s m.place)
   pub same : IsPermutation (word s m.place) heaps
@@ -69,20 +71,24 @@ pub record IsWordOf (s : State) (m : Held) (heaps : List ℕ) : Type 0 where
 abbrev pub Speaks : State → Type 0
 Speaks s = (code : List ℕ) (c : Claim) → IsClaimOver code c s.table s.heaps → Says code c s
 
--- The pairs held are closed under products with the heaps, whatever claim the table and the pairs are those of.
+-- The pairs held are closed under products with the heaps, whatever claim the table and the pairs
+-- are those of.
 abbrev pub IsClosedOver : State → Type 0
 IsClosedOver s =
     (code : List ℕ) (c : Claim) → IsClaimOver code c s.table s.heaps
     → theory.IsClosed code c (IsHeapUpTo (length s.heaps)) (kept s)
 
--- Positions have more different pairs than the limit, whatever claim the table and the pairs are those of.
+-- Positions have more different pairs than the limit, whatever claim the table and the pairs are
+-- those of.
 abbrev pub IsExceeded : State → Type 0
 IsExceeded s =
-    (code : List ℕ) (c : Claim) → IsClaimOver code c s.table s.heaps → ReachesMoreThan IsHeap code c s.limit
+    (code : List ℕ) (c : Claim) → IsClaimOver code c s.table s.heaps
+    → ReachesMoreThan IsHeap code c s.limit
 
 -- neither covers the other, in the words of the theory
 abbrev pub AreApart : Pair → Pair → Type 0
-AreApart a b = (theory.PairCovers (as_pair a) (as_pair b) → ⊥) × (theory.PairCovers (as_pair b) (as_pair a) → ⊥)
+AreApart a b = (theory.PairCovers (as_pair a) (as_pair b) → ⊥)
+    × (theory.PairCovers (as_pair b) (as_pair a) → ⊥)
 
 -- What a state is in itself: the members ever kept all differ, and no member held covers another.
 pub record IsMinimal (s : State) : Type 0 where

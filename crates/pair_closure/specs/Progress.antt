@@ -17,7 +17,8 @@ pub record Progress : Type 0 where
   pub failed : Bool
 
 -- the parts of a closure as its progress
-abbrev pub progress_of : Grid → List Pair → ℕ → List Member → List Held → List Generator → ℕ → ℕ → Bool → Progress
+abbrev pub progress_of : Grid → List Pair → ℕ → List Member → List Held → List Generator → ℕ → ℕ
+    → Bool → Progress
 progress_of table heaps limit members held generators next spent failed = record {
   state = record {
     table = table;
@@ -54,12 +55,14 @@ stopped p = record p { failed = true }
 
 -- what so many turns from the beginning reach, and whether memory was refused
 abbrev pub retaken : Progress → Progress
-retaken p = record (steps p.spent (begun p.state.table p.state.heaps p.state.limit)) { failed = p.failed }
+retaken p =
+    record (steps p.spent (begun p.state.table p.state.heaps p.state.limit)) { failed = p.failed }
 
 -- It is what its turns from the beginning reach.
 pub record IsRun (p : Progress) : Type 0 where
   pub lawful : IsTableGrid p.state.table
-  pub heaps_in : (k : ℕ) → k < length p.state.heaps → IsPair p.state.table.order (slice_index_or p.state.heaps k one)
+  pub heaps_in : (k : ℕ) → k < length p.state.heaps
+      → IsPair p.state.table.order (slice_index_or p.state.heaps k one)
   pub short : length p.state.heaps < 2 ^ 58
   pub small : p.state.limit < 2 ^ 32
   pub run : p ≡ retaken p

@@ -9,8 +9,8 @@ pub use Rattle.pair_closure.specs.declared.members.Member.{Member}
 pub use Rattle.pair_closure.specs.declared.settle.Held.{Held}
 pub use Rattle.pair_closure.specs.declared.settle.Generator.{Generator}
 
--- What doesn't change: the table, the pairs of the heaps and the limit. What does: the members ever kept, those held, the heaps that
--- no member covered, and how many heaps were tried.
+-- What doesn't change: the table, the pairs of the heaps and the limit. What does: the members ever
+-- kept, those held, the heaps that no member covered, and how many heaps were tried.
 pub record State : Type 0 where
   pub table : Grid
   pub heaps : List Pair
@@ -21,7 +21,16 @@ pub record State : Type 0 where
   pub next : ℕ
 
 abbrev pub start : Grid → List Pair → ℕ → State
-start table heaps limit = record { table = table; heaps = heaps; limit = limit; members = []; held = []; generators = []; next = 0 }
+start table heaps limit =
+    record {
+      table = table;
+      heaps = heaps;
+      limit = limit;
+      members = [];
+      held = [];
+      generators = [];
+      next = 0;
+    }
 
 -- turns change neither the table nor the pairs of the heaps nor the limit
 pub record SameData (s t : State) : Type 0 where
@@ -53,8 +62,8 @@ covers_any x members = list_any (λ m. covers x m.pair) members
 abbrev pub covers_held : Pair → List Held → Bool
 covers_held x held = list_any (λ m. covers x m.pair) held
 
--- What the members ever kept tell of those held: whether one covers x; and where x covers none of them, it covers none
--- that is held.
+-- What the members ever kept tell of those held: whether one covers x; and where x covers none of
+-- them, it covers none that is held.
 pub record Tell (members : List Member) (held : List Held) (x : Pair) : Type 0 where
   pub covers : any_covers members x ≡ covered held x
   pub covered : covers_any x members ≡ false → covers_held x held ≡ false
@@ -63,18 +72,21 @@ pub record Tell (members : List Member) (held : List Held) (x : Pair) : Type 0 w
 
 -- x is added to the members
 abbrev pub members_with : List Member → Pair → ℕ → ℕ → List Member
-members_with members x parent heap = members ++ record { pair = x; parent = parent; heap = heap } ∷ []
+members_with members x parent heap =
+    members ++ record { pair = x; parent = parent; heap = heap } ∷ []
 
 -- x is held, and what it covers is given up
 abbrev pub held_with : List Held → Pair → ℕ → ℕ → List Held
-held_with held x place by = filter (λ m. not (covers x m.pair)) held ++ record { pair = x; place = place; by = by } ∷ []
+held_with held x place by =
+    filter (λ m. not (covers x m.pair)) held ++ record { pair = x; place = place; by = by } ∷ []
 
 abbrev pub generators_with : List Generator → Pair → ℕ → List Generator
 generators_with generators x heap = generators ++ record { pair = x; heap = heap } ∷ []
 
 -- x is added to the members where none that is held covers it
 abbrev pub members_after : List Member → List Held → Pair → ℕ → ℕ → List Member
-members_after members held x parent heap = cond (covered held x) members (members_with members x parent heap)
+members_after members held x parent heap =
+    cond (covered held x) members (members_with members x parent heap)
 
 -- x is held where none that was held covers it
 abbrev pub held_after : List Held → List Held → Pair → ℕ → List Held
@@ -131,7 +143,11 @@ pub record TriesHeap (s : State) : Type 0 where
 
 -- the pair of the empty position is the first member
 abbrev pub empty_turn : State → State
-empty_turn s = record s { members = members_with s.members one 0 0; held = held_with s.held one 0 (length s.heaps) }
+empty_turn s =
+    record s {
+      members = members_with s.members one 0 0;
+      held = held_with s.held one 0 (length s.heaps);
+    }
 
 abbrev pub multiplied : Held → Held
 multiplied m = record { pair = m.pair; place = m.place; by = m.by + 1 }
@@ -154,7 +170,8 @@ heap_turn s =
     record s {
       members = members_after s.members s.held x 0 (s.next + 1);
       held = held_after s.held s.held x (length s.members);
-      generators = cond (covered s.held x) s.generators (generators_with s.generators x (s.next + 1));
+      generators =
+          cond (covered s.held x) s.generators (generators_with s.generators x (s.next + 1));
       next = s.next + 1;
     }
 
@@ -175,10 +192,13 @@ turns (suc n) s = turn (turns n s)
 -- the product of a word of heaps
 abbrev pub product_of_heaps : Grid → List Pair → List ℕ → Pair
 product_of_heaps table heaps [] = one
-product_of_heaps table heaps (h ∷ w) = times table (slice_index_or heaps (h - 1) one) (product_of_heaps table heaps w)
+product_of_heaps table heaps (h ∷ w) =
+    times table (slice_index_or heaps (h - 1) one) (product_of_heaps table heaps w)
 
--- the word of the member ever kept at a place, read from its last heap back; the first number bounds its length
+-- the word of the member ever kept at a place, read from its last heap back; the first number
+-- bounds its length
 abbrev pub word_of : List Member → ℕ → ℕ → List ℕ
 word_of members zero i = []
 word_of members (suc n) zero = []
-word_of members (suc n) (suc i) = let e = slice_index_or members (suc i) blank in e.heap ∷ word_of members n e.parent
+word_of members (suc n) (suc i) = let e = slice_index_or members (suc i) blank in
+    e.heap ∷ word_of members n e.parent

@@ -66,10 +66,12 @@ impl<A: Allocator> Model for Closure<A> {
 
     ghost coded = { Prim.hlevel (codes, e.the_row.coded) };
 
-    ghost view = { λ c. progress_of c.table c.heaps.items c.limit c.members c.held.items c.generators.items c.next c.spent c.failed };
+    ghost view = { λ c. progress_of c.table c.heaps.items c.limit c.members c.held.items
+        c.generators.items c.next c.spent c.failed };
 
     ghost invariant = { λ c.
-        IsRun (progress_of c.table c.heaps.items c.limit c.members c.held.items c.generators.items c.next c.spent c.failed)
+        IsRun (progress_of c.table c.heaps.items c.limit c.members c.held.items c.generators.items
+        c.next c.spent c.failed)
         × NoneBefore c.held.items (length c.generators.items) c.from };
 }
 
@@ -84,8 +86,8 @@ fn empty() -> Pair
 }
 
 impl<A: Room + Copy> Closure<A> {
-    /// No member is held yet, and no memory is taken. Item h of the pairs, counted from 1, stands for a heap of size h. It
-    /// ends within limit times their number, plus 2, turns.
+    /// No member is held yet, and no memory is taken. Item h of the pairs, counted from 1, stands
+    /// for a heap of size h. It ends within limit times their number, plus 2, turns.
     pub fn new(alloc: A, table: Table<A>, heaps: Vec<Pair, A>, limit: u32) -> Closure<A>
         requires pairs { All (IsPair table.order) heaps.items }
         ensures { result ≡ begun table heaps.items limit }
@@ -236,9 +238,10 @@ impl<A: Room + Copy> Closure<A> {
         self.failed = true;
     }
 
-    /// What holds of every closure. What it is follows from what it began with and its number of turns. For whatever claim the table
-    /// and the pairs are those of, each member is exactly the pair of its word; the members ever kept differ, and none
-    /// that is held covers another. They are as many as the limit at most, or one more, where it is over.
+    /// What holds of every closure. What it is follows from what it began with and its number of
+    /// turns. For whatever claim the table and the pairs are those of, each member is exactly the
+    /// pair of its word; the members ever kept differ, and none that is held covers another. They
+    /// are as many as the limit at most, or one more, where it is over.
     pub fn speak(&self)
         ensures run { self.now ≡ retaken self.now }
         ensures limit { IsLimited self.now.state }
@@ -310,14 +313,16 @@ impl<A: Room + Copy> Closure<A> {
         }
     }
 
-    /// Takes so many turns, or fewer where it ends, and answers where it stands then. A turn is one product of a member
-    /// with a heap's pair, where the pair of a heap that is tried is its product with the empty member.
+    /// Takes so many turns, or fewer where it ends, and answers where it stands then. A turn is one
+    /// product of a member with a heap's pair, where the pair of a heap that is tried is its
+    /// product with the empty member.
     ///
-    /// The answer and what is held depend on the turns taken in all, however they were cut; past the end nothing changes.
-    /// After `Memory`, for a refused growth, what is held is that of the turns before, and every later call answers
-    /// `Memory`.
+    /// The answer and what is held depend on the turns taken in all, however they were cut; past
+    /// the end nothing changes. After `Memory`, for a refused growth, what is held is that of the
+    /// turns before, and every later call answers `Memory`.
     pub fn grow(&mut self, units: u64) -> Result<Grown, Memory>
-        // A turn for a unit until it has ended, and no turn after that; a turn that memory is refused to isn't taken.
+        // A turn for a unit until it has ended, and no turn after that; a turn that memory is
+        // refused to isn't taken.
         ensures grows { Grows ended units result self.old self.new }
         ensures limit { IsLimited self.new.state }
         ensures turns { OnOk result (self.new ≡ steps units self.old) }
@@ -325,19 +330,22 @@ impl<A: Room + Copy> Closure<A> {
         ensures done { result ≡ Ok Grown.Done → is_done self.new.state ≡ true }
         ensures over { result ≡ Ok Grown.Over → is_over self.new.state ≡ true }
 
-        // Done: the pairs held cover that of each position. Over: there are more pairs of positions than the limit.
+        // Done: the pairs held cover that of each position. Over: there are more pairs of positions
+        // than the limit.
         ensures closed { result ≡ Ok Grown.Done → IsClosedOver self.new.state }
         ensures exceeded { result ≡ Ok Grown.Over → IsExceeded self.new.state }
 
         // A refused growth stops it where it is, for good.
-        ensures refused { OnErr result ((n : ℕ) × (n ≤ units) × (self.new ≡ stopped (steps n self.old))) }
+        ensures refused { OnErr result ((n : ℕ) × (n ≤ units)
+            × (self.new ≡ stopped (steps n self.old))) }
         ensures stays_refused { self.old.failed ≡ true → IsErr result }
         ensures stays { self.old.failed ≡ true → self.new ≡ self.old }
 
         ensures data { SameData self.old.state self.new.state }
         ensures few { length self.new.state.members ≤ length self.old.state.members + units }
         ensures spent { result ≡ Ok Grown.More → self.new.spent ≡ self.old.spent + units }
-        ensures spent_range { (self.old.spent ≤ self.new.spent) × (self.new.spent ≤ self.old.spent + units) }
+        ensures spent_range { (self.old.spent ≤ self.new.spent)
+            × (self.new.spent ≤ self.old.spent + units) }
     {
         if self.failed {
             self.speak();
@@ -347,7 +355,8 @@ impl<A: Room + Copy> Closure<A> {
         self.standing()
     }
 
-    /// Takes turns as `grow` does, but stops after one that keeps a member. That member is then the last one held.
+    /// Takes turns as `grow` does, but stops after one that keeps a member. That member is then the
+    /// last one held.
     pub fn grow_to_member(&mut self, units: u64) -> Result<Grown, Memory>
         ensures grows { Grows (ended_or_kept self.old) units result self.old self.new }
         ensures limit { IsLimited self.new.state }
@@ -357,15 +366,19 @@ impl<A: Room + Copy> Closure<A> {
         ensures over { result ≡ Ok Grown.Over → is_over self.new.state ≡ true }
         ensures closed { result ≡ Ok Grown.Done → IsClosedOver self.new.state }
         ensures exceeded { result ≡ Ok Grown.Over → IsExceeded self.new.state }
-        ensures refused { OnErr result ((n : ℕ) × (n ≤ units) × (self.new ≡ stopped (steps n self.old))) }
+        ensures refused { OnErr result ((n : ℕ) × (n ≤ units)
+            × (self.new ≡ stopped (steps n self.old))) }
         ensures stays_refused { self.old.failed ≡ true → IsErr result }
         ensures stays { self.old.failed ≡ true → self.new ≡ self.old }
         ensures data { SameData self.old.state self.new.state }
         ensures kept { KeepsOne self.old.state self.new.state }
-        ensures costs { length self.old.state.members < length self.new.state.members → self.old.spent < self.new.spent }
-        ensures spent { result ≡ Ok Grown.More → length self.new.state.members ≡ length self.old.state.members
+        ensures costs { length self.old.state.members < length self.new.state.members
+            → self.old.spent < self.new.spent }
+        ensures spent { result ≡ Ok Grown.More
+            → length self.new.state.members ≡ length self.old.state.members
             → self.new.spent ≡ self.old.spent + units }
-        ensures spent_range { (self.old.spent ≤ self.new.spent) × (self.new.spent ≤ self.old.spent + units) }
+        ensures spent_range { (self.old.spent ≤ self.new.spent)
+            × (self.new.spent ≤ self.old.spent + units) }
     {
         if self.failed {
             self.speak();
@@ -404,11 +417,12 @@ impl<A: Room + Copy> Closure<A> {
         &self.held[i].pair
     }
 
-    /// The position that a member held stands for, counted from 0: the heaps whose product it is, rising. Its pair is
-    /// exactly the member's. `Memory` where its growth was refused.
+    /// The position that a member held stands for, counted from 0: the heaps whose product it is,
+    /// rising. Its pair is exactly the member's. `Memory` where its growth was refused.
     pub fn word(&self, i: usize) -> Result<Position<A>, Memory>
         requires { i < length self.now.state.held }
-        ensures { IfOk result (IsWordOf self.now.state (slice_index_or self.now.state.held i blank_held)) }
+        ensures { IfOk result
+            (IsWordOf self.now.state (slice_index_or self.now.state.held i blank_held)) }
     {
         let mut word = Position::new(*self.held.allocator());
         let mut at = self.held[i].place;

@@ -8,8 +8,9 @@ ghost use Rattle.pair_closure.specs.Turns.{State};
 
 use misere_theory::pairs::closed_pairs_cover;
 
-/// Where the pairs were those of the heaps 1 to B, the pairs that a closure holds once it is done cover that of every position, with any
-/// number of heaps of any size: one that is held has the position's value, and some of its options' values, at least one where there is one.
+/// Where the pairs were those of the heaps 1 to B, the pairs that a closure holds once it is done
+/// cover that of every position, with any number of heaps of any size: one that is held has the
+/// position's value, and some of its options' values, at least one where there is one.
 pub fn done_closures_cover()
     ensures { (code : List ℕ) (c : Claim) (k start period : ℕ) (s : State)
         → IsClosedOver s

@@ -11,7 +11,8 @@ ghost use Rattle.pair_closure.specs.Calls.{Takes, cost};
 ghost use Rattle.pair_closure.specs.Keeping.{KeepsOne};
 ghost use Rattle.pair_closure.specs.Positions.{Speaks, IsMinimal};
 
-/// What turns from the start reach speaks of positions, whatever claim the table and the pairs are those of.
+/// What turns from the start reach speaks of positions, whatever claim the table and the pairs are
+/// those of.
 pub fn closures_speak()
     ensures speaks { (table : Grid) (heaps : List the_pair.Pair) (limit units : ℕ)
         → IsTableGrid table
@@ -42,22 +43,28 @@ pub fn calls_decide()
         → q ≡ r }
 {}
 
-/// A closure has its number of turns, which the table, the pairs and the limit say. What it spent is the least of that
-/// number and the units given in all, and it has ended exactly where they are as many.
+/// A closure has its number of turns, which the table, the pairs and the limit say. What it spent
+/// is the least of that number and the units given in all, and it has ended exactly where they are
+/// as many.
 pub fn closures_cost()
-    ensures bound { (table : Grid) (heaps : List the_pair.Pair) (limit : ℕ) → cost table heaps limit ≤ limit * length heaps + 2 }
+    ensures bound { (table : Grid) (heaps : List the_pair.Pair) (limit : ℕ)
+        → cost table heaps limit ≤ limit * length heaps + 2 }
     ensures before { (table : Grid) (heaps : List the_pair.Pair) (limit units : ℕ)
         → units ≤ cost table heaps limit → (steps units (begun table heaps limit)).spent ≡ units }
     ensures after { (table : Grid) (heaps : List the_pair.Pair) (limit units : ℕ)
-        → cost table heaps limit ≤ units → (steps units (begun table heaps limit)).spent ≡ cost table heaps limit }
+        → cost table heaps limit ≤ units → (steps units (begun table heaps limit)).spent
+        ≡ cost table heaps limit }
     ensures ends { (table : Grid) (heaps : List the_pair.Pair) (limit units : ℕ)
-        → (has_ended (steps units (begun table heaps limit)).state ≡ true) ↔ (cost table heaps limit ≤ units) }
+        → (has_ended (steps units (begun table heaps limit)).state ≡ true)
+        ↔ (cost table heaps limit ≤ units) }
 {}
 
-/// A turn that is left leads from what a closure's turns have reached to what one more reaches, of the same table, pairs
-/// and limit. The turns before it are fewer than all. A turn keeps one member at most, and holds no other pair that wasn't held.
+/// A turn that is left leads from what a closure's turns have reached to what one more reaches, of
+/// the same table, pairs and limit. The turns before it are fewer than all. A turn keeps one member
+/// at most, and holds no other pair that wasn't held.
 pub fn closures_go_on()
-    ensures on { (p : Progress) → p ≡ retaken p → has_ended p.state ≡ false → moved p ≡ retaken (moved p) }
+    ensures on { (p : Progress) → p ≡ retaken p → has_ended p.state ≡ false
+        → moved p ≡ retaken (moved p) }
     ensures data { (p : Progress) → SameData p.state (moved p).state }
     ensures kept { (p : Progress) → KeepsOne p.state (moved p).state }
     ensures left { (p : Progress) → p ≡ retaken p → has_ended p.state ≡ false

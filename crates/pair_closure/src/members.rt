@@ -9,7 +9,8 @@ use std::alloc::{AllocError, Allocator};
 use std::marker::Model;
 use transition_algebra::Pair;
 
-/// A member ever kept: the pair of the one at the place `parent` times that of the heap. The first is the pair of the empty position.
+/// A member ever kept: the pair of the one at the place `parent` times that of the heap. The first
+/// is the pair of the empty position.
 #[derive(Clone, Copy)]
 pub struct Member {
     pub pair: Pair,
@@ -17,13 +18,15 @@ pub struct Member {
     pub heap: usize,
 }
 
-/// The members ever kept, in their order. Those of one value are chained, so that a test looks at no others.
+/// The members ever kept, in their order. Those of one value are chained, so that a test looks at
+/// no others.
 #[derive(Drop)]
 pub(crate) struct Members<A: Allocator> {
     list: Vec<Member, A>,
     // one more than the place of the one before with the same value, or 0
     older: Vec<usize, A>,
-    // for each value one more than the place of its last member, or 0; values past the end have none
+    // for each value one more than the place of its last member, or 0; values past the end have
+    // none
     newest: Vec<usize, A>,
 }
 

@@ -24,7 +24,8 @@ pub struct Generator {
     pub heap: usize,
 }
 
-/// The first member held, from `from` on, that some generator hasn't multiplied, or how many are held.
+/// The first member held, from `from` on, that some generator hasn't multiplied, or how many are
+/// held.
 pub(crate) fn pending(held: &[Held], generators: usize, from: usize) -> usize
     requires before { NoneBefore held.now generators from }
     ensures value { result ≡ first_pending held.now generators }
@@ -37,13 +38,15 @@ pub(crate) fn pending(held: &[Held], generators: usize, from: usize) -> usize
     at
 }
 
-/// Makes room for one more member, and adds it. The answer is true unless it covers no member at all.
+/// Makes room for one more member, and adds it. The answer is true unless it covers no member at
+/// all.
 pub(crate) fn add<A: Allocator + Copy>(
     members: &mut Members<A>,
     held: &mut Vec<Held, A>,
     member: Member,
 ) -> Result<bool, AllocError>
-    ensures members { OnOk result (members.new ≡ members_with members.old member.pair member.parent member.heap) }
+    ensures members { OnOk result
+        (members.new ≡ members_with members.old member.pair member.parent member.heap) }
     ensures room { OnOk result (vec_len held.new < vec_capacity held.new) }
     ensures alone { result ≡ Ok false → covers_any member.pair members.old ≡ false }
     ensures held { held.new.items ≡ held.old.items }
@@ -58,7 +61,8 @@ pub(crate) fn add<A: Allocator + Copy>(
 /// Gives up the members that x covers.
 fn give_up<A: Allocator>(held: &mut Vec<Held, A>, x: &Pair, covers_some: bool)
     requires { covers_some ≡ false → covers_held x.now held.old.items ≡ false }
-    ensures held { held.new.items ≡ filter (λ m. not (covering.covers x.now m.pair)) held.old.items }
+    ensures held { held.new.items ≡ filter (λ m. not (covering.covers x.now m.pair))
+        held.old.items }
     ensures len { vec_len held.new ≤ vec_len held.old }
     ensures capacity { vec_capacity held.new ≡ vec_capacity held.old }
 {
@@ -84,8 +88,8 @@ pub(crate) fn hold<A: Allocator>(
     held.push_reserved(Held { pair: x, place, by });
 }
 
-/// The member held at the place was multiplied once more, by the generator of this heap. The answer is true unless all
-/// that are held before it stay.
+/// The member held at the place was multiplied once more, by the generator of this heap. The answer
+/// is true unless all that are held before it stay.
 pub(crate) fn settle_product<A: Allocator + Copy>(
     members: &mut Members<A>,
     held: &mut Vec<Held, A>,
@@ -97,8 +101,11 @@ pub(crate) fn settle_product<A: Allocator + Copy>(
     requires within { at < length held.old.items }
     requires same { multiplied.pair ≡ (slice_index_or held.old.items at blank_held).pair }
     requires tell { Tell members.old held.old.items product }
-    ensures members { OnOk result (members.new ≡ members_after members.old held.old.items product multiplied.place heap) }
-    ensures held { OnOk result (held.new.items ≡ held_after held.old.items (slice_set held.old.items at multiplied) product (length members.old)) }
+    ensures members { OnOk result
+        (members.new ≡ members_after members.old held.old.items product multiplied.place heap) }
+    ensures held { OnOk result
+        (held.new.items ≡ held_after held.old.items (slice_set held.old.items at multiplied) product
+        (length members.old)) }
     ensures before { result ≡ Ok false → (k : ℕ) → k < at
         → slice_index_or held.new.items k blank_held ≡ slice_index_or held.old.items k blank_held }
     ensures err_members { OnErr result (members.new ≡ members.old) }
@@ -129,10 +136,13 @@ pub(crate) fn settle_heap<A: Allocator + Copy>(
     heap: usize,
 ) -> Result<bool, AllocError>
     requires tell { Tell members.old held.old.items pair }
-    ensures members { OnOk result (members.new ≡ members_after members.old held.old.items pair 0 heap) }
-    ensures held { OnOk result (held.new.items ≡ held_after held.old.items held.old.items pair (length members.old)) }
+    ensures members { OnOk result
+        (members.new ≡ members_after members.old held.old.items pair 0 heap) }
+    ensures held { OnOk result
+        (held.new.items ≡ held_after held.old.items held.old.items pair (length members.old)) }
     ensures generators { OnOk result (generators.new.items
-        ≡ cond (covered held.old.items pair) generators.old.items (generators_with generators.old.items pair heap)) }
+        ≡ cond (covered held.old.items pair) generators.old.items
+        (generators_with generators.old.items pair heap)) }
     ensures kept { result ≡ Ok false → covered held.old.items pair ≡ true }
     ensures err_members { OnErr result (members.new ≡ members.old) }
     ensures err_held { OnErr result (held.new.items ≡ held.old.items) }

@@ -1,4 +1,5 @@
--- Periods of finite lists, as of the values of a pretending function that are known so far. This project's own.
+-- Periods of finite lists, as of the values of a pretending function that are known so far. This
+-- project's own.
 use Rattle.std.specs.Prelude.{◌≡◌, ℕ, ◌+◌, ◌*◌, ◌-◌, ◌≤◌, List, length, slice_index}
 
 -- the entry of this number, from 1
@@ -16,7 +17,8 @@ pub record IsPeriodic (es : List ℕ) (s p : ℕ) : Type 0 where
   pub shown_twice : s + 2 * p ≤ length es + 1
   pub repeats : RepeatsFrom es s p
 
--- The list has the period p from s on; no smaller period serves from anywhere, and p from no smaller start.
+-- The list has the period p from s on; no smaller period serves from anywhere, and p from no
+-- smaller start.
 pub record IsLeastPeriod (es : List ℕ) (s p : ℕ) : Type 0 where
   pub is : IsPeriodic es s p
   pub least : (t q : ℕ) → IsPeriodic es t q → p ≤ q

@@ -4,7 +4,8 @@ ghost use Rattle.periods.specs.Evidence.{Repeats};
 
 /// The least place from which the elements repeat, up to the last one.
 fn start_of(heaps: &[u16], period: usize) -> usize
-    ensures { (i : ℕ) → result ≤ i → i + period < length heaps.now → slice_index heaps.now i ≡ slice_index heaps.now (i + period) }
+    ensures { (i : ℕ) → result ≤ i → i + period < length heaps.now
+        → slice_index heaps.now i ≡ slice_index heaps.now (i + period) }
 {
     let mut start = 0usize;
     for place in 0..heaps.len().saturating_sub(period) {

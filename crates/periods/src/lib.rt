@@ -8,9 +8,10 @@ mod evidence;
 
 pub use evidence::{is_shown, likely_period};
 
-/// The least period of the entries e1, e2, .., and the least start from which on they have it: over the starts s and periods p from 1
-/// on for which e(i + p) = e(i) from s to the end, and which show the period twice, the least p, and then the least s. `None` exactly
-/// where there is no such pair. It takes no memory.
+/// The least period of the entries e1, e2, .., and the least start from which on they have it: over
+/// the starts s and periods p from 1 on for which e(i + p) = e(i) from s to the end, and which show
+/// the period twice, the least p, and then the least s. `None` exactly where there is no such pair.
+/// It takes no memory.
 pub fn least_period(entries: &[u16]) -> Option<(usize, usize)>
     ensures found { IfSome result (λ r. IsLeastPeriod entries.now r.0 r.1) }
     ensures none { IsNone result ↔ HasNoPeriod entries.now }
@@ -24,7 +25,8 @@ pub fn least_period(entries: &[u16]) -> Option<(usize, usize)>
     None
 }
 
-/// The first entry from which on the entries repeat after so many, up to the last one. It takes no memory.
+/// The first entry from which on the entries repeat after so many, up to the last one. It takes no
+/// memory.
 pub fn repeats_from(entries: &[u16], period: usize) -> usize
     ensures starts { (1 ≤ result) × (result ≤ length entries.now + 1) }
     ensures repeats { RepeatsFrom entries.now result period }

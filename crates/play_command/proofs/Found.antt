@@ -5,9 +5,13 @@ use Rattle.positions.specs.Text.{IsTextOf}
 use Rattle.check_command.specs.Checks.{Finds, SaysOfFile}
 use Rattle.play_command.specs.Plays.{Plays, PlaysFound}
 
-pub plays_found : {A : Type 0} (files : Option (List ℕ → Option (List ℕ))) (file : List ℕ) (limit : ℕ) (position : List ℕ) (q : Result Certificate (Vec ℕ A)) (X text : List ℕ) (well : Bool)
-    → Finds files file limit q → IsTextOf position X → PlaysFound q X text well → Plays files file limit position text well
+pub plays_found : {A : Type 0} (files : Option (List ℕ → Option (List ℕ))) (file : List ℕ)
+    (limit : ℕ) (position : List ℕ) (q : Result Certificate (Vec ℕ A)) (X text : List ℕ)
+    (well : Bool)
+    → Finds files file limit q → IsTextOf position X → PlaysFound q X text well
+    → Plays files file limit position text well
 plays_found files file limit position (Ok c) X text well f read h =
     subst (λ (b : Bool). Plays files file limit position text b) (sym h.1) (c, f, (X, read, h.0))
 plays_found files file limit position (Err said) X text well f read h =
-    subst (λ (b : Bool). Plays files file limit position text b) (sym h.1) (subst (λ (t : List ℕ). SaysOfFile files file limit t false) (sym h.0) f)
+    subst (λ (b : Bool). Plays files file limit position text b) (sym h.1)
+    (subst (λ (t : List ℕ). SaysOfFile files file limit t false) (sym h.0) f)

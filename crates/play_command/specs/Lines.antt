@@ -11,7 +11,8 @@ one_line heap a = codes "wins " ++ decimal heap ++ codes " -> " ++ decimal a ++ 
 
 -- the heap that is taken, and two sizes that are left
 abbrev pub two_line : ℕ → ℕ → ℕ → List ℕ
-two_line heap a b = codes "wins " ++ decimal heap ++ codes " -> " ++ decimal a ++ codes " " ++ decimal b ++ codes "\n"
+two_line heap a b = codes "wins " ++ decimal heap ++ codes " -> " ++ decimal a ++ codes " "
+    ++ decimal b ++ codes "\n"
 
 -- the heap that is taken, and what is left of it, 0 for nothing
 abbrev pub win_line : ℕ → Left → List ℕ

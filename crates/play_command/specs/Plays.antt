@@ -1,4 +1,5 @@
--- What is said in a position, by the quotient that a file certifies, and why nothing is. This project's own.
+-- What is said in a position, by the quotient that a file certifies, and why nothing is. This
+-- project's own.
 use Rattle.std.specs.Prelude.{◌≡◌, ◌<◌, ◌⊎◌, ⊤, ℕ, Bool, true, false, List, Option, Result, Ok, Err, Vec}
 use Rattle.misere_theory.specs.Certificates.{Certificate}
 use Rattle.positions.specs.Text.{IsNoPositionText, IsTextOf, HasTooMany, HasTooLarge}
@@ -14,19 +15,23 @@ abbrev pub AnswersIn : Certificate → List ℕ → List ℕ → Type 0
 AnswersIn c X text = (answer : Answer) × IsRightAnswer c.code X answer × (text ≡ answer_line answer)
 
 -- the same where a quotient was found, and the text of a no where none was
-abbrev pub PlaysFound : {A : Type 0} → Result Certificate (Vec ℕ A) → List ℕ → List ℕ → Bool → Type 0
+abbrev pub PlaysFound : {A : Type 0} → Result Certificate (Vec ℕ A) → List ℕ → List ℕ → Bool
+    → Type 0
 PlaysFound (Ok c) X text well = AnswersIn c X text × (well ≡ true)
 PlaysFound (Err said) X text well = (text ≡ said.items) × (well ≡ false)
 
--- the answer in the position is right in the game that the file certifies a quotient of under the limit, or the text is that of a true no
+-- the answer in the position is right in the game that the file certifies a quotient of under the
+-- limit, or the text is that of a true no
 abbrev pub Plays : Option (List ℕ → Option (List ℕ)) → List ℕ → ℕ → List ℕ → List ℕ → Bool → Type 0
 Plays files file limit position text true =
-    (c : Certificate) × Certifies files file limit c × ((X : List ℕ) × IsTextOf position X × AnswersIn c X text)
+    (c : Certificate) × Certifies files file limit c
+    × ((X : List ℕ) × IsTextOf position X × AnswersIn c X text)
 Plays files file limit position text false = SaysOfFile files file limit text false
 
 -- the text is not that of at most 64 sizes up to 10^18
 abbrev pub IsNoPosition : List ℕ → Type 0
-IsNoPosition text = IsNoPositionText text ⊎ HasTooMany 64 text ⊎ HasTooLarge 64 1000000000000000000 text
+IsNoPosition text = IsNoPositionText text ⊎ HasTooMany 64 text
+    ⊎ HasTooLarge 64 1000000000000000000 text
 
 -- the text isn't that of a position, or memory was wanting
 abbrev pub IsPositionCause : List ℕ → Stop → Type 0
@@ -34,7 +39,8 @@ IsPositionCause position Memory = ⊤
 IsPositionCause position NotAPosition = IsNoPosition position
 IsPositionCause position _ = ⊥
 
--- a read of the file failed, or none did and memory was wanting, or the text isn't that of a position
+-- a read of the file failed, or none did and memory was wanting, or the text isn't that of a
+-- position
 abbrev pub IsPlayCause : List ℕ → List ℕ → ℕ → ℕ → Stop → Type 0
 IsPlayCause file position before after (Read name) = (name.now ≡ file) × (before < after)
 IsPlayCause file position before after Memory = after ≡ before

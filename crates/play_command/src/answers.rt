@@ -42,7 +42,8 @@ fn win_text(alloc: Global, heap: u64, left: Left) -> Result<String, AllocError>
     }
 }
 
-/// The line of an answer: `ended`, `lost`, or `wins`, the heap that is taken, and what is left of it, 0 for nothing.
+/// The line of an answer: `ended`, `lost`, or `wins`, the heap that is taken, and what is left of
+/// it, 0 for nothing.
 pub fn answer_text(alloc: Global, answer: Answer) -> Result<String, AllocError>
     ensures { IfOk result (λ t. string_bytes t ≡ answer_line answer) }
 {

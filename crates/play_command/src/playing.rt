@@ -49,8 +49,9 @@ fn said_in(
     }
 }
 
-/// Answers in the position by the quotient that the file certifies under the limit: with the first winning move, that each move loses, or
-/// that there is none; or says why the file certifies no quotient. The position is read first.
+/// Answers in the position by the quotient that the file certifies under the limit: with the first
+/// winning move, that each move loses, or that there is none; or says why the file certifies no
+/// quotient. The position is read first.
 pub fn play<'a, F: Folder>(
     alloc: Global,
     file: &'a str,
@@ -58,10 +59,13 @@ pub fn play<'a, F: Folder>(
     limit: u32,
     folder: &mut F,
 ) -> Result<Said, Stop<'a>>
-    ensures plays { IfOk result (λ s. Plays (F.files folder.old) file.entry.now limit position.now s.text.items s.well) }
+    ensures plays { IfOk result
+        (λ s. Plays (F.files folder.old) file.entry.now limit position.now s.text.items s.well) }
     ensures kept { F.files folder.new ≡ F.files folder.old }
     ensures usage { IsErrOf result Stop.NotAPosition → folder.new ≡ folder.old }
-    ensures stops { IfErr result (IsPlayCause file.entry.now position.now (F.failed_reads folder.old) (F.failed_reads folder.new)) }
+    ensures stops { IfErr result
+        (IsPlayCause file.entry.now position.now (F.failed_reads folder.old)
+        (F.failed_reads folder.new)) }
 {
     let position = position_of(alloc, position)?;
     let quotient = certified(alloc, file, limit, folder)?;

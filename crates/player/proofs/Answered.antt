@@ -29,20 +29,26 @@ lost_right code X p = record {
   wins = λ m e. absurd (cc);
 }
 
-pub wins_right : (code X : List ℕ) (m : MoveMade) → IsFirstWin code X m.heap (heaps_of m.left) → IsRightAnswer code X (Wins m)
+pub wins_right : (code X : List ℕ) (m : MoveMade) → IsFirstWin code X m.heap (heaps_of m.left)
+    → IsRightAnswer code X (Wins m)
 unfolding made_of
 wins_right code X m first =
     let n : IsN code X = wins_at_n code X m.heap (heaps_of m.left) first.0 in
     record {
       ended = (λ e. absurd (cc), λ none. absurd (no_end code X m first none));
       lost = (λ e. absurd (cc), λ p. absurd (not_both p n));
-      wins = λ k e. subst (WinsBy code X) (ap (made_of m) e) (record { first = first; keeps = λ Y move. p_keeps code Y (winning_leads first.0 move) });
+      wins =
+          λ k e. subst (WinsBy code X) (ap (made_of m) e)
+          (record { first = first; keeps = λ Y move. p_keeps code Y (winning_leads first.0 move) });
     }
   where
-    no_end : (code X : List ℕ) (m : MoveMade) → IsFirstWin code X m.heap (heaps_of m.left) → ((Y : List ℕ) → Move code X Y → ⊥) → ⊥
-    no_end code X m first none = let (Y, move, p) = move_from_multiset code X first.0.1.0 (m.heap, heaps_of m.left, first.0.1.1) in none Y move
+    no_end : (code X : List ℕ) (m : MoveMade) → IsFirstWin code X m.heap (heaps_of m.left)
+        → ((Y : List ℕ) → Move code X Y → ⊥) → ⊥
+    no_end code X m first none = let (Y, move, p) =
+        move_from_multiset code X first.0.1.0 (m.heap, heaps_of m.left, first.0.1.1) in none Y move
 
-pub ended_right : (code X : List ℕ) → (IsP code X → ⊥) → ((n : ℕ) (H : List ℕ) → IsWinningMove code X n H → ⊥) → IsRightAnswer code X Ended
+pub ended_right : (code X : List ℕ) → (IsP code X → ⊥)
+    → ((n : ℕ) (H : List ℕ) → IsWinningMove code X n H → ⊥) → IsRightAnswer code X Ended
 ended_right code X not_p none = record {
   ended = (λ e. no_moves, λ h. refl);
   lost = (λ e. absurd (cc), λ p. absurd (not_p p));
@@ -53,18 +59,32 @@ ended_right code X not_p none = record {
     at_n = elim (determined code X) [ inl p ↦ absurd (not_p p) | inr n ↦ n ]
 
     no_moves : (Y : List ℕ) → Move code X Y → ⊥
-    no_moves = elim (first_win code X at_n) [ inl h ↦ h | inr h ↦ let (n, H, w) = h in absurd (none n H w.0) ]
+    no_moves = elim (first_win code X at_n) [
+      | inl h ↦ h
+      | inr h ↦ let (n, H, w) = h in
+          absurd (none n H w.0)
+    ]
 
 -- in the portion exactly at P-positions
-pub p_here : (c : Certificate) → Accepted c → (X : List ℕ) → IsPosition IsHeap X → (v : ℕ) (b : Bool) → v ≡ value (claim_of c) X → b ≡ (claim_of c).portion v → b ≡ true → IsP c.code X
-p_here c yes_to X position v b e f here = (yes_to.represents.predicts X position).1 (ap (claim_of c).portion (sym e) ∙ sym f ∙ here)
+pub p_here : (c : Certificate) → Accepted c → (X : List ℕ) → IsPosition IsHeap X
+    → (v : ℕ) (b : Bool) → v ≡ value (claim_of c) X → b ≡ (claim_of c).portion v → b ≡ true
+    → IsP c.code X
+p_here c yes_to X position v b e f here =
+    (yes_to.represents.predicts X position).1 (ap (claim_of c).portion (sym e) ∙ sym f ∙ here)
 
-pub not_p_here : (c : Certificate) → Accepted c → (X : List ℕ) → IsPosition IsHeap X → (v : ℕ) (b : Bool) → v ≡ value (claim_of c) X → b ≡ (claim_of c).portion v → b ≡ false → IsP c.code X → ⊥
-not_p_here c yes_to X position v b e f out p = clash b (f ∙ ap (claim_of c).portion e ∙ (yes_to.represents.predicts X position).0 p) out
+pub not_p_here : (c : Certificate) → Accepted c → (X : List ℕ) → IsPosition IsHeap X
+    → (v : ℕ) (b : Bool) → v ≡ value (claim_of c) X → b ≡ (claim_of c).portion v → b ≡ false
+    → IsP c.code X → ⊥
+not_p_here c yes_to X position v b e f out p =
+    clash b (f ∙ ap (claim_of c).portion e ∙ (yes_to.represents.predicts X position).0 p) out
   where
     clash : (b : Bool) → b ≡ true → b ≡ false → ⊥
     clash true p q = cc
     clash false p q = cc
 
-pub n_here : (c : Certificate) → Accepted c → (X : List ℕ) → IsPosition IsHeap X → (v : ℕ) (b : Bool) → v ≡ value (claim_of c) X → b ≡ (claim_of c).portion v → b ≡ false → IsN c.code X
-n_here c yes_to X position v b e f out = elim (determined c.code X) [ inl p ↦ absurd (not_p_here c yes_to X position v b e f out p) | inr n ↦ n ]
+pub n_here : (c : Certificate) → Accepted c → (X : List ℕ) → IsPosition IsHeap X
+    → (v : ℕ) (b : Bool) → v ≡ value (claim_of c) X → b ≡ (claim_of c).portion v → b ≡ false
+    → IsN c.code X
+n_here c yes_to X position v b e f out =
+    elim (determined c.code X)
+    [ inl p ↦ absurd (not_p_here c yes_to X position v b e f out p) | inr n ↦ n ]

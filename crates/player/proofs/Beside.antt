@@ -37,17 +37,28 @@ module _ (c : Certificate) (ranges : InRanges c) (exact : AreExact) where
 
   -- each option has one of its value among the looks, which is it or comes before it
   pub look_for : (n : ℕ) (H : List ℕ) → HeapOption c.code n H → IsNonDecreasing H
-      → (L : Left) × Contains (looked n) L × (value (claim_of c) (heaps_of L) ≡ value (claim_of c) H) × ((heaps_of L ≡ H) ⊎ LeftBefore (heaps_of L) H)
+      → (L : Left) × Contains (looked n) L
+      × (value (claim_of c) (heaps_of L) ≡ value (claim_of c) H)
+      × ((heaps_of L ≡ H) ⊎ LeftBefore (heaps_of L) H)
   look_for n H o w =
-      let (S, i, small, e, before) = small_or_earlier c.code (claim_of c) (length c.code - 1) c.start c.period repeats n H o w in
-      let (L, there, same) = small_in exact c.code n (c.start + c.period) S i small in
-      (L, there, ap (value (claim_of c)) same ∙ e, subst (λ v. (v ≡ H) ⊎ LeftBefore v H) (sym same) before)
+      let (S, i, small, e, before) =
+      small_or_earlier c.code (claim_of c) (length c.code - 1) c.start c.period repeats n H o w
+      in
+      let (L, there, same) = small_in exact c.code n (c.start + c.period) S i small in (
+        L,
+        there,
+        ap (value (claim_of c)) same ∙ e,
+        subst (λ v. (v ≡ H) ⊎ LeftBefore v H) (sym same)
+            before,
+      )
 
-  same_puts : (y : ℕ) (H L : List ℕ) → value (claim_of c) H ≡ value (claim_of c) L → puts c y H ≡ puts c y L
+  same_puts : (y : ℕ) (H L : List ℕ) → value (claim_of c) H ≡ value (claim_of c) L
+      → puts c y H ≡ puts c y L
   same_puts y H L e = ap (λ v. (claim_of c).portion ((claim_of c).times y v)) e
 
   -- where no look passes, no option does
-  pub none_into : (n y : ℕ) (seen rest : List Left) → seen ++ rest ≡ looked n → rest ≡ [] → ((L : Left) → Contains seen L → puts c y (heaps_of L) ≡ false)
+  pub none_into : (n y : ℕ) (seen rest : List Left) → seen ++ rest ≡ looked n → rest ≡ []
+      → ((L : Left) → Contains seen L → puts c y (heaps_of L) ≡ false)
       → (H : List ℕ) → HeapOption c.code n H → IsNonDecreasing H → puts c y H ≡ false
   none_into n y seen rest e none fails H o w =
       let (L, i, v, b) = look_for n H o w in
@@ -59,10 +70,15 @@ module _ (c : Certificate) (ranges : InRanges c) (exact : AreExact) where
       sym (same_puts y (heaps_of L) H v) ∙ fails L in_seen
 
   -- the first look that passes is the first option that does
-  pub first_look : (n y : ℕ) (seen rest : List Left) (L : Left) → seen ++ (L ∷ rest) ≡ looked n → puts c y (heaps_of L) ≡ true → ((M : Left) → Contains seen M → puts c y (heaps_of M) ≡ false)
+  pub first_look : (n y : ℕ) (seen rest : List Left) (L : Left) → seen ++ (L ∷ rest) ≡ looked n
+      → puts c y (heaps_of L) ≡ true
+      → ((M : Left) → Contains seen M → puts c y (heaps_of M) ≡ false)
       → IsFirstInto c n y (heaps_of L)
   first_look n y seen rest L e passes fails =
-      let there : Contains (looked n) L = subst (λ xs. Contains xs L) e (Contains-append_right seen (L ∷ rest) L (Contains-append_left (L ∷ []) rest L (itself_in L))) in
+      let there : Contains (looked n) L =
+      subst (λ xs. Contains xs L) e
+      (Contains-append_right seen (L ∷ rest) L
+      (Contains-append_left (L ∷ []) rest L (itself_in L))) in
       let o = exact.only c.code n (c.start + c.period - 1) L there in
       record {
         option = o.0;
@@ -78,16 +94,23 @@ module _ (c : Certificate) (ranges : InRanges c) (exact : AreExact) where
             elim (Contains-append_cases seen (L ∷ rest) S (subst (λ xs. Contains xs S) (sym e) i)) [
               | inl k ↦ clash (puts c y (heaps_of S)) good (fails S k)
               | inr k ↦ elim (Contains-append_cases (L ∷ []) rest S k) [
-                | inl h ↦ not_before_itself (heaps_of L) (subst (λ u. LeftBefore (heaps_of u) (heaps_of L)) (sym (only_in L S h)) earlier)
+                | inl h ↦ not_before_itself (heaps_of L)
+                    (subst (λ u. LeftBefore (heaps_of u) (heaps_of L)) (sym (only_in L S h))
+                    earlier)
                 | inr h ↦
-                    let after = cut_before Before seen rest L S (subst (AllPairs Before) (sym e) (exact.order c.code n (c.start + c.period - 1))) h in
-                    not_before_itself (heaps_of L) (before_trans (heaps_of L) (heaps_of S) (heaps_of L) after earlier)
+                    let after =
+                    cut_before Before seen rest L S
+                    (subst (AllPairs Before) (sym e)
+                    (exact.order c.code n (c.start + c.period - 1))) h in
+                    not_before_itself (heaps_of L)
+                    (before_trans (heaps_of L) (heaps_of S) (heaps_of L) after earlier)
               ]
             ];
       }
 
   -- the first option that passes is among the looks
-  pub first_among : (n y : ℕ) (H : List ℕ) → IsFirstInto c n y H → (L : Left) × Contains (looked n) L × (heaps_of L ≡ H)
+  pub first_among : (n y : ℕ) (H : List ℕ) → IsFirstInto c n y H
+      → (L : Left) × Contains (looked n) L × (heaps_of L ≡ H)
   first_among n y H into =
       let (L, i, v, b) = look_for n H into.option into.in_order in
       let o = exact.only c.code n (c.start + c.period - 1) L i in (
@@ -95,18 +118,26 @@ module _ (c : Certificate) (ranges : InRanges c) (exact : AreExact) where
         i,
         elim b [
           | inl same ↦ same
-          | inr less ↦ absurd (into.first (heaps_of L) o.0 (in_order L o.1) (same_puts y (heaps_of L) H v ∙ into.here) less)
+          | inr less ↦ absurd
+              (into.first (heaps_of L) o.0 (in_order L o.1)
+              (same_puts y (heaps_of L) H v ∙ into.here) less)
         ],
       )
 
 -- the next look is an option, so its parts are heaps
-pub parts_are_heaps : AreExact → (c : Certificate) (n : ℕ) (seen rest : List Left) (L : Left) → seen ++ (L ∷ rest) ≡ options_up_to c.code n (c.start + c.period - 1) → IsPosition IsHeap (heaps_of L)
+pub parts_are_heaps : AreExact → (c : Certificate) (n : ℕ) (seen rest : List Left) (L : Left)
+    → seen ++ (L ∷ rest) ≡ options_up_to c.code n (c.start + c.period - 1)
+    → IsPosition IsHeap (heaps_of L)
 parts_are_heaps exact c n seen rest L e =
-    let i : Contains (seen ++ (L ∷ rest)) L = Contains-append_right seen (L ∷ rest) L (Contains-append_left (L ∷ []) rest L (itself_in L)) in
-    option_heaps c.code n (heaps_of L) (exact.only c.code n (c.start + c.period - 1) L (subst (λ xs. Contains xs L) e i)).0
+    let i : Contains (seen ++ (L ∷ rest)) L =
+    Contains-append_right seen (L ∷ rest) L (Contains-append_left (L ∷ []) rest L (itself_in L))
+    in
+    option_heaps c.code n (heaps_of L)
+    (exact.only c.code n (c.start + c.period - 1) L (subst (λ xs. Contains xs L) e i)).0
 
 -- one look more that doesn't pass
-pub seen_more : (c : Certificate) (y : ℕ) (seen : List Left) (L : Left) → puts c y (heaps_of L) ≡ false → ((M : Left) → Contains seen M → puts c y (heaps_of M) ≡ false)
+pub seen_more : (c : Certificate) (y : ℕ) (seen : List Left) (L : Left)
+    → puts c y (heaps_of L) ≡ false → ((M : Left) → Contains seen M → puts c y (heaps_of M) ≡ false)
     → (M : Left) → Contains (seen ++ (L ∷ [])) M → puts c y (heaps_of M) ≡ false
 seen_more c y seen L here before M i = elim (Contains-append_cases seen (L ∷ []) M i) [
   | inl k ↦ before M k
@@ -119,46 +150,76 @@ module _ (c : Certificate) (yes_to : Accepted c) (X : List ℕ) (position : IsPo
   C = claim_of c
 
   others_in : (i : ℕ) → IsPosition IsHeap (remove X i)
-  others_in i = IsPosition-append IsHeap (take i X) (drop (suc i) X) (taken X i position) (dropped X (suc i) position)
+  others_in i =
+      IsPosition-append IsHeap (take i X) (drop (suc i) X) (taken X i position)
+      (dropped X (suc i) position)
 
-  made_value : (i : ℕ) (n : ℕ) (H : List ℕ) → 1 ≤ n → HeapOption c.code n H → value C (H ++ remove X i) ≡ C.times (value C (remove X i)) (value C H)
+  made_value : (i : ℕ) (n : ℕ) (H : List ℕ) → 1 ≤ n → HeapOption c.code n H
+      → value C (H ++ remove X i) ≡ C.times (value C (remove X i)) (value C H)
   made_value i n H one o =
       let m = yes_to.represents.monoid in
       let el = yes_to.represents.elements in
       let p = heaps_kept c.code n H one o in
       value-append IsHeap C m el H (remove X i) p (others_in i)
-      ∙ m.commutes (value C H) (value C (remove X i)) (value_in IsHeap C m el H p) (value_in IsHeap C m el (remove X i) (others_in i))
+      ∙ m.commutes (value C H) (value C (remove X i)) (value_in IsHeap C m el H p)
+      (value_in IsHeap C m el (remove X i) (others_in i))
 
-  module _ (i n y : ℕ) (there : i < length X) (is : n ≡ get_or X i n) (beside : y ≡ value C (remove X i)) where
+  module _ (i n y : ℕ) (there : i < length X) (is : n ≡ get_or X i n)
+      (beside : y ≡ value C (remove X i)) where
     one_heap : 1 ≤ n
     one_heap = subst (λ v. 1 ≤ v) (sym is) (heap_at X i n there position)
 
     move_to : (H : List ℕ) → HeapOption c.code n H → HeapMove c.code X n H (H ++ remove X i)
-    move_to H o = record { others = remove X i; before = IsPermutation-remove X i n there is; allowed = o; after = IsPermutation-refl (H ++ remove X i) }
+    move_to H o =
+        record {
+          others = remove X i;
+          before = IsPermutation-remove X i n there is;
+          allowed = o;
+          after = IsPermutation-refl (H ++ remove X i);
+        }
 
-    puts_is : (H : List ℕ) → HeapOption c.code n H → puts c y H ≡ C.portion (value C (H ++ remove X i))
-    puts_is H o = ap (λ v. C.portion (C.times v (value C H))) beside ∙ ap C.portion (sym (made_value i n H one_heap o))
+    puts_is : (H : List ℕ) → HeapOption c.code n H
+        → puts c y H ≡ C.portion (value C (H ++ remove X i))
+    puts_is H o = ap (λ v. C.portion (C.times v (value C H))) beside
+        ∙ ap C.portion (sym (made_value i n H one_heap o))
 
     made_in : (H : List ℕ) → HeapOption c.code n H → IsPosition IsHeap (H ++ remove X i)
-    made_in H o = IsPosition-append IsHeap H (remove X i) (heaps_kept c.code n H one_heap o) (others_in i)
+    made_in H o = IsPosition-append IsHeap H (remove X i) (heaps_kept c.code n H one_heap o)
+        (others_in i)
 
     pub winning_puts : (H : List ℕ) → IsWinningMove c.code X n H → puts c y H ≡ true
     winning_puts H w =
         let o = w.1.1.allowed in
-        puts_is H o ∙ (yes_to.represents.predicts (H ++ remove X i) (made_in H o)).0 (winning_leads w (move_to H o))
+        puts_is H o ∙ (yes_to.represents.predicts (H ++ remove X i) (made_in H o)).0
+        (winning_leads w (move_to H o))
 
-    pub puts_wins : (H : List ℕ) → HeapOption c.code n H → IsNonDecreasing H → puts c y H ≡ true → IsWinningMove c.code X n H
-    puts_wins H o w p = (w, (H ++ remove X i, move_to H o, (yes_to.represents.predicts (H ++ remove X i) (made_in H o)).1 (sym (puts_is H o) ∙ p)))
+    pub puts_wins : (H : List ℕ) → HeapOption c.code n H → IsNonDecreasing H → puts c y H ≡ true
+        → IsWinningMove c.code X n H
+    puts_wins H o w p = (
+      w,
+      (
+        H ++ remove X i,
+        move_to H o,
+        (yes_to.represents.predicts (H ++ remove X i) (made_in H o)).1 (sym (puts_is H o) ∙ p),
+      ),
+    )
 
 -- the heap that a move moves stands somewhere
-heap_of : (code X : List ℕ) (m : ℕ) (H Y : List ℕ) → HeapMove code X m H Y → (k : ℕ) × (k < length X) × (get_or X k 0 ≡ m)
+heap_of : (code X : List ℕ) (m : ℕ) (H Y : List ℕ) → HeapMove code X m H Y
+    → (k : ℕ) × (k < length X) × (get_or X k 0 ≡ m)
 heap_of code X m H Y move =
-    let front : Contains (m ∷ move.others) m = Contains-append_left (m ∷ []) move.others m (itself_in m) in
-    let inside : Contains X m = Contains-permutation (m ∷ move.others) X m (IsPermutation-sym X (m ∷ move.others) move.before) front in
+    let front : Contains (m ∷ move.others) m =
+    Contains-append_left (m ∷ []) move.others m (itself_in m) in
+    let inside : Contains X m =
+    Contains-permutation (m ∷ move.others) X m
+    (IsPermutation-sym X (m ∷ move.others) move.before) front in
     let (k, l, e) = inside in (k, l, get_or_default X k 0 m l ∙ e)
 
--- the first option that passes beside the others makes the first winning move, where no smaller heap has one
-pub first_of_all : (c : Certificate) (yes_to : Accepted c) (X : List ℕ) (position : IsPosition IsHeap X) (i n y : ℕ) (there : i < length X) (is : n ≡ get_or X i n) (beside : y ≡ value (claim_of c) (remove X i))
+-- the first option that passes beside the others makes the first winning move, where no smaller
+-- heap has one
+pub first_of_all : (c : Certificate) (yes_to : Accepted c) (X : List ℕ)
+    (position : IsPosition IsHeap X) (i n y : ℕ) (there : i < length X) (is : n ≡ get_or X i n)
+    (beside : y ≡ value (claim_of c) (remove X i))
     → IsNonDecreasing X
     → ((k : ℕ) → k < i → (H : List ℕ) → IsWinningMove c.code X (get_or X k 0) H → ⊥)
     → (H : List ℕ) → IsFirstInto c n y H
@@ -173,11 +234,13 @@ first_of_all c yes_to X position i n y there is beside rising_heaps none H into 
         let e : get_or X k 0 ≡ m = inside.2 in
         elim (dec_lt k i) [
           | yes a ↦ none k a L (subst (λ v. IsWinningMove c.code X v L) (sym e) w)
-          | no a ↦ absurd (let up = rising_heaps i k 0 (omega arith) l in let d = get_or_default X i n 0 there in omega arith)
+          | no a ↦ absurd (let up = rising_heaps i k 0 (omega arith) l in
+              let d = get_or_default X i n 0 there in omega arith)
         ]
     | inr same ↦
         let w2 = subst (λ v. IsWinningMove c.code X v L) same.0 w in
-        into.first L w2.1.1.allowed w2.0 (winning_puts c yes_to X position i n y there is beside L w2) same.1
+        into.first L w2.1.1.allowed w2.0
+        (winning_puts c yes_to X position i n y there is beside L w2) same.1
   ],
 )
 
@@ -190,7 +253,8 @@ none_at_all c X i past none n H w =
     none k (omega arith) H (subst (λ v. IsWinningMove c.code X v H) (sym e) w)
 
 -- a heap more without a winning move
-pub none_more : (c : Certificate) (yes_to : Accepted c) (X : List ℕ) (position : IsPosition IsHeap X) (i y : ℕ) → i < length X → y ≡ value (claim_of c) (remove X i)
+pub none_more : (c : Certificate) (yes_to : Accepted c) (X : List ℕ)
+    (position : IsPosition IsHeap X) (i y : ℕ) → i < length X → y ≡ value (claim_of c) (remove X i)
     → ((H : List ℕ) → HeapOption c.code (get_or X i 0) H → IsNonDecreasing H → puts c y H ≡ false)
     → ((k : ℕ) → k < i → (H : List ℕ) → IsWinningMove c.code X (get_or X k 0) H → ⊥)
     → (k : ℕ) → k < i + 1 → (H : List ℕ) → IsWinningMove c.code X (get_or X k 0) H → ⊥
@@ -200,6 +264,7 @@ none_more c yes_to X position i y there beside fails none k l H w = elim (dec_lt
       let e : k ≡ i = omega arith in
       let n = get_or X i 0 in
       let w2 = subst (λ v. IsWinningMove c.code X (get_or X v 0) H) e w in
-      let passes = winning_puts c yes_to X position i n y there (get_or_default X i 0 n there) beside H w2 in
+      let passes =
+      winning_puts c yes_to X position i n y there (get_or_default X i 0 n there) beside H w2 in
       clash (puts c y H) passes (fails H w2.1.1.allowed w2.0)
 ]

@@ -33,8 +33,10 @@ few_at code n most j =
     let f = length-append (one_left code n j) (two_left code n most j) in
     omega arith
 
-pub few : (code : List ℕ) (n most : ℕ) → length (options_up_to code n most) ≤ length code * (most + 2)
+pub few : (code : List ℕ) (n most : ℕ)
+    → length (options_up_to code n most) ≤ length code * (most + 2)
 few code n most =
     let e = length-flat_map (options_at code n most) (range_with_len 0 (length code)) in
-    let s = sum_at_most (λ j. length (options_at code n most j)) (most + 2) 0 (length code) (few_at code n most) in
+    let s = sum_at_most (λ j. length (options_at code n most j)) (most + 2) 0 (length code)
+    (few_at code n most) in
     omega arith

@@ -1,4 +1,5 @@
--- Winning moves of the heaps from one place to before another, by the value of the heaps beside them.
+-- Winning moves of the heaps from one place to before another, by the value of the heaps beside
+-- them.
 use Rattle.std.proofs.Common.{◌≡◌, ℕ, ◌+◌, ◌-◌, ◌<◌, ◌≤◌, List, [], ◌++◌, length, get_or, append_assoc, sym, ◌∙◌, ap, ap₂, subst, arith}
 use Rattle.std.specs.Prelude.{take, drop}
 use Rattle.std.specs.List.Sorted.{IsNonDecreasing}
@@ -18,7 +19,8 @@ module _ (c : Certificate) (yes_to : Accepted c) where
   C = claim_of c
 
   -- heaps put between others
-  between : (P M S : List ℕ) → IsPosition IsHeap P → IsPosition IsHeap M → IsPosition IsHeap S → C.times (value C (P ++ S)) (value C M) ≡ value C (P ++ (M ++ S))
+  between : (P M S : List ℕ) → IsPosition IsHeap P → IsPosition IsHeap M → IsPosition IsHeap S
+      → C.times (value C (P ++ S)) (value C M) ≡ value C (P ++ (M ++ S))
   between P M S p m s =
       let k = yes_to.represents.monoid in
       let el = yes_to.represents.elements in
@@ -27,37 +29,50 @@ module _ (c : Certificate) (yes_to : Accepted c) where
       let vs = value_in IsHeap C k el S s in
       ap (λ v. C.times v (value C M)) (value-append IsHeap C k el P S p s)
       ∙ (k.associates (value C P) (value C S) (value C M) vp vs vm
-      ∙ (ap (C.times (value C P)) (k.commutes (value C S) (value C M) vs vm ∙ sym (value-append IsHeap C k el M S m s))
+      ∙ (ap (C.times (value C P)) (k.commutes (value C S) (value C M) vs vm
+      ∙ sym (value-append IsHeap C k el M S m s))
       ∙ sym (value-append IsHeap C k el P (M ++ S) p (IsPosition-append IsHeap M S m s))))
 
-  module _ (X : List ℕ) (position : IsPosition IsHeap X) (from middle to y b r : ℕ) (a : from ≤ middle) (z : middle ≤ to)
+  module _ (X : List ℕ) (position : IsPosition IsHeap X) (from middle to y b r : ℕ)
+      (a : from ≤ middle) (z : middle ≤ to)
       (beside : y ≡ value C (heaps_beside X from to)) (times : r ≡ C.times y b) where
     -- beside the first half stand the second half and those beside both
-    pub beside_first : b ≡ value C (take (to - middle) (drop middle X)) → r ≡ value C (heaps_beside X from middle)
+    pub beside_first : b ≡ value C (take (to - middle) (drop middle X))
+        → r ≡ value C (heaps_beside X from middle)
     beside_first is =
         let M = take (to - middle) (drop middle X) in
         let s : middle + (to - middle) ≡ to = omega arith in
         let joined : M ++ drop to X ≡ drop middle X =
-        ap (λ Z. M ++ Z) (sym (drop-drop (to - middle) middle X ∙ ap (λ k. drop k X) s)) ∙ take-append-drop (to - middle) (drop middle X) in
+        ap (λ Z. M ++ Z) (sym (drop-drop (to - middle) middle X ∙ ap (λ k. drop k X) s))
+        ∙ take-append-drop (to - middle) (drop middle X) in
         times ∙ (ap₂ C.times beside is
-        ∙ (between (take from X) M (drop to X) (taken X from position) (taken (drop middle X) (to - middle) (dropped X middle position)) (dropped X to position)
+        ∙ (between (take from X) M (drop to X) (taken X from position)
+        (taken (drop middle X) (to - middle) (dropped X middle position))
+        (dropped X to position)
         ∙ ap (λ Z. value C (take from X ++ Z)) joined))
 
-    pub beside_second : b ≡ value C (take (middle - from) (drop from X)) → r ≡ value C (heaps_beside X middle to)
+    pub beside_second : b ≡ value C (take (middle - from) (drop from X))
+        → r ≡ value C (heaps_beside X middle to)
     beside_second is =
         let M = take (middle - from) (drop from X) in
         let s : from + (middle - from) ≡ middle = omega arith in
-        let joined : take from X ++ M ≡ take middle X = sym (take-add from (middle - from) X) ∙ ap (λ k. take k X) s in
+        let joined : take from X ++ M ≡ take middle X =
+        sym (take-add from (middle - from) X) ∙ ap (λ k. take k X) s in
         times ∙ (ap₂ C.times beside is
-        ∙ (between (take from X) M (drop to X) (taken X from position) (taken (drop from X) (middle - from) (dropped X from position)) (dropped X to position)
-        ∙ ap (value C) (sym (append_assoc (take from X) M (drop to X)) ∙ ap (λ Z. Z ++ drop to X) joined)))
+        ∙ (between (take from X) M (drop to X) (taken X from position)
+        (taken (drop from X) (middle - from) (dropped X from position)) (dropped X to position)
+        ∙ ap (value C) (sym (append_assoc (take from X) M (drop to X))
+        ∙ ap (λ Z. Z ++ drop to X) joined)))
 
 -- beside all heaps stands none
-pub none_beside : (c : Claim) (X : List ℕ) (y : ℕ) → y ≡ value c [] → y ≡ value c (heaps_beside X 0 (length X))
+pub none_beside : (c : Claim) (X : List ℕ) (y : ℕ) → y ≡ value c []
+    → y ≡ value c (heaps_beside X 0 (length X))
 none_beside c X y e = e ∙ ap (value c) (sym (drop-length X))
 
 -- where the last heap is as large as one that was tried, all between are
-pub none_of_equal : (code X : List ℕ) → IsNonDecreasing X → (from to : ℕ) → 0 < from → from < to → to ≤ length X → get_or X (from - 1) 0 ≡ get_or X (to - 1) 0 → NoneWinsBelow code X from → NoneWinsBelow code X to
+pub none_of_equal : (code X : List ℕ) → IsNonDecreasing X → (from to : ℕ) → 0 < from → from < to
+    → to ≤ length X → get_or X (from - 1) 0 ≡ get_or X (to - 1) 0 → NoneWinsBelow code X from
+    → NoneWinsBelow code X to
 none_of_equal code X rises from to some up within same none k l H w = elim (dec_lt k from) [
   | yes a ↦ none k a H w
   | no a ↦

@@ -23,11 +23,14 @@ lefts_one (Two a d) (Two b c) e = cc
 moves_one : (m k : MoveMade) → m.heap ≡ k.heap → m.left ≡ k.left → m ≡ k
 moves_one m k e f = ap₂ (λ (n : ℕ) (l : Left). record { heap = n; left = l }) e f
 
-pub answers_one : (code X : List ℕ) (a b : Answer) → IsRightAnswer code X a → IsRightAnswer code X b → a ≡ b
+pub answers_one : (code X : List ℕ) (a b : Answer) → IsRightAnswer code X a → IsRightAnswer code X b
+    → a ≡ b
 answers_one code X Ended b f g = sym (g.ended.1 (f.ended.0 refl))
 answers_one code X Lost b f g = sym (g.lost.1 (f.lost.0 refl))
 answers_one code X (Wins m) Ended f g = f.ended.1 (g.ended.0 refl)
 answers_one code X (Wins m) Lost f g = f.lost.1 (g.lost.0 refl)
 answers_one code X (Wins m) (Wins k) f g =
-    let one = first_win_once code X m.heap k.heap (heaps_of m.left) (heaps_of k.left) (f.wins m refl).first (g.wins k refl).first in
+    let one =
+    first_win_once code X m.heap k.heap (heaps_of m.left) (heaps_of k.left)
+    (f.wins m refl).first (g.wins k refl).first in
     ap Wins (moves_one m k one.0 (lefts_one m.left k.left one.1))

@@ -21,7 +21,11 @@ before_trans H L M a b = elim a [
       p.0 ∙ q.0,
       elim p.1 [
         | inl r ↦ elim q.1 [ inl s ↦ inl (omega arith) | inr s ↦ inl (let t = s.0 in omega arith) ]
-        | inr r ↦ elim q.1 [ inl s ↦ inl (let t = r.0 in omega arith) | inr s ↦ inr (r.0 ∙ s.0, (let t = r.1 in let u = s.1 in omega arith)) ]
+        | inr r ↦ elim q.1 [
+          | inl s ↦ inl (let t = r.0 in omega arith)
+          | inr s ↦ inr
+              (r.0 ∙ s.0, (let t = r.1 in let u = s.1 in omega arith))
+        ]
       ],
     )
   ]
@@ -34,9 +38,12 @@ not_before_itself H a = elim a [
 ]
 
 -- an element before the cut comes before one behind it
-pub cut_before : {X : Type 0} (R : X → X → Type 0) (ys zs : List X) (x y : X) → AllPairs R (ys ++ (x ∷ zs)) → Contains zs y → R x y
-cut_before R [] zs x y p c = let (k, l, e) = c in subst (R x) (e) (p 0 (suc k) y (omega arith) (omega arith))
-cut_before R (w ∷ ys) zs x y p c = cut_before R ys zs x y (λ i j d l h. p (suc i) (suc j) d (omega arith) (omega arith)) c
+pub cut_before : {X : Type 0} (R : X → X → Type 0) (ys zs : List X) (x y : X)
+    → AllPairs R (ys ++ (x ∷ zs)) → Contains zs y → R x y
+cut_before R [] zs x y p c = let (k, l, e) = c in
+    subst (R x) (e) (p 0 (suc k) y (omega arith) (omega arith))
+cut_before R (w ∷ ys) zs x y p c =
+    cut_before R ys zs x y (λ i j d l h. p (suc i) (suc j) d (omega arith) (omega arith)) c
 
 pub in_order : (L : Left) → IsInOrder L → IsNonDecreasing (heaps_of L)
 in_order Nothing h i j d a b = absurd (omega arith)
@@ -56,12 +63,17 @@ Before L M = LeftBefore (heaps_of L) (heaps_of M)
 
 -- what the contract of options says
 pub record AreExact : Type 0 where
-  pub each : (code : List ℕ) (n : ℕ) (H : List ℕ) → HeapOption code n H → (left : Left) × Contains (options_of code n) left × IsPermutation (heaps_of left) H
-  pub only : (code : List ℕ) (n most : ℕ) (left : Left) → Contains (options_up_to code n most) left → HeapOption code n (heaps_of left) × IsInOrder left
-  pub cut : (code : List ℕ) (n most : ℕ) (left : Left) → Contains (options_up_to code n most) left ↔ (Contains (options_of code n) left × IsPartUpTo most left)
-  pub order : (code : List ℕ) (n most : ℕ) → AllPairs (λ x y. LeftBefore (heaps_of x) (heaps_of y)) (options_up_to code n most)
+  pub each : (code : List ℕ) (n : ℕ) (H : List ℕ) → HeapOption code n H
+      → (left : Left) × Contains (options_of code n) left × IsPermutation (heaps_of left) H
+  pub only : (code : List ℕ) (n most : ℕ) (left : Left) → Contains (options_up_to code n most) left
+      → HeapOption code n (heaps_of left) × IsInOrder left
+  pub cut : (code : List ℕ) (n most : ℕ) (left : Left) → Contains (options_up_to code n most) left
+      ↔ (Contains (options_of code n) left × IsPartUpTo most left)
+  pub order : (code : List ℕ) (n most : ℕ)
+      → AllPairs (λ x y. LeftBefore (heaps_of x) (heaps_of y)) (options_up_to code n most)
 
-small_rises : (code : List ℕ) (n bound : ℕ) (H : List ℕ) → HeapOption code n H → IsSmallSplit bound H → IsNonDecreasing H
+small_rises : (code : List ℕ) (n bound : ℕ) (H : List ℕ) → HeapOption code n H
+    → IsSmallSplit bound H → IsNonDecreasing H
 small_rises code n bound H (TakesAll j l h b) s = in_order Nothing tt
 small_rises code n bound H (LeavesOne j a l p h b) s = in_order (One a) tt
 small_rises code n bound H (LeavesTwo j a b p q h s) w = in_order (Two a b) w.0
@@ -72,12 +84,19 @@ small_up_to bound (One a) w = tt
 small_up_to bound (Two a b) w = let l = w.1 in omega arith
 
 -- an option whose smaller part is small is listed
-pub small_in : AreExact → (code : List ℕ) (n bound : ℕ) (H : List ℕ) → HeapOption code n H → IsSmallSplit bound H
+pub small_in : AreExact → (code : List ℕ) (n bound : ℕ) (H : List ℕ) → HeapOption code n H
+    → IsSmallSplit bound H
     → (L : Left) × Contains (options_up_to code n (bound - 1)) L × (heaps_of L ≡ H)
 small_in exact code n bound H o w =
     let (L, i, s) = exact.each code n H o in
-    let same = rising_same (heaps_of L) H (in_order L (exact.only code n n L i).1) (small_rises code n bound H o w) s in
-    (L, (exact.cut code n (bound - 1) L).1 (i, small_up_to bound L (subst (IsSmallSplit bound) (sym same) w)), same)
+    let same =
+    rising_same (heaps_of L) H (in_order L (exact.only code n n L i).1)
+    (small_rises code n bound H o w) s in (
+      L,
+      (exact.cut code n (bound - 1) L).1
+          (i, small_up_to bound L (subst (IsSmallSplit bound) (sym same) w)),
+      same,
+    )
 
 -- what is left of a heap are heaps
 pub option_heaps : (code : List ℕ) (n : ℕ) (H : List ℕ) → HeapOption code n H → IsPosition IsHeap H

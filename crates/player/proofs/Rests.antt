@@ -21,10 +21,13 @@ taken [] (suc i) p = tt
 taken (n ∷ X) (suc i) p = (p.0, taken X i p.1)
 
 -- every size that counts as a heap
-pub all_heaps : (P : ℕ → Type 0) → ((n : ℕ) → P n → 1 ≤ n) → (X : List ℕ) → All P X → IsPosition IsHeap X
+pub all_heaps : (P : ℕ → Type 0) → ((n : ℕ) → P n → 1 ≤ n) → (X : List ℕ) → All P X
+    → IsPosition IsHeap X
 all_heaps P one [] all = tt
-all_heaps P one (n ∷ X) all = (one n (all 0 0 (omega arith)), all_heaps P one X (λ k d l. all (suc k) d (omega arith)))
+all_heaps P one (n ∷ X) all =
+    (one n (all 0 0 (omega arith)), all_heaps P one X (λ k d l. all (suc k) d (omega arith)))
 
 -- sizes that a position has are heaps
 pub sizes_are_heaps : (X Y : List ℕ) → Y ≡ X → All IsSize X → IsPosition IsHeap Y
-sizes_are_heaps X Y e sizes = subst (IsPosition IsHeap) (sym e) (all_heaps IsSize (λ n s. s.0) X sizes)
+sizes_are_heaps X Y e sizes =
+    subst (IsPosition IsHeap) (sym e) (all_heaps IsSize (λ n s. s.0) X sizes)

@@ -7,12 +7,14 @@ use Rattle.positions.specs.declared.moves.Move.{Move as MoveMade}
 use Rattle.player.specs.declared.answering.Answer.{Answer}
 use Rattle.player.specs.declared.answering.Answer.TheVariants.{Ended, Lost, Wins}
 
--- The move is the first winning one, and whoever makes it, and answers each move by the first winning one, wins.
+-- The move is the first winning one, and whoever makes it, and answers each move by the first
+-- winning one, wins.
 pub record WinsBy (code X : List ℕ) (m : MoveMade) : Type 0 where
   pub first : IsFirstWin code X m.heap (heaps_of m.left)
   pub keeps : (Y : List ℕ) → HeapMove code X m.heap (heaps_of m.left) Y → Keeps code Y
 
--- Ended exactly where there is no move, Lost exactly at P-positions, and a move that is answered is the first that wins.
+-- Ended exactly where there is no move, Lost exactly at P-positions, and a move that is answered is
+-- the first that wins.
 pub record IsRightAnswer (code X : List ℕ) (a : Answer) : Type 0 where
   pub ended : (a ≡ Ended) ↔ ((Y : List ℕ) → Move code X Y → ⊥)
   pub lost : (a ≡ Lost) ↔ IsP code X

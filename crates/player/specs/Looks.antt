@@ -10,9 +10,11 @@ use Rattle.misere_theory.specs.Quotients.{value}
 abbrev pub puts : Certificate → ℕ → List ℕ → Bool
 puts c y H = (claim_of c).portion ((claim_of c).times y (value (claim_of c) H))
 
--- H is the first option of the heap n, the smaller part first, that makes a value in the P-portion beside y. This project's own.
+-- H is the first option of the heap n, the smaller part first, that makes a value in the P-portion
+-- beside y. This project's own.
 pub record IsFirstInto (c : Certificate) (n y : ℕ) (H : List ℕ) : Type 0 where
   pub option : HeapOption c.code n H
   pub in_order : IsNonDecreasing H
   pub here : puts c y H ≡ true
-  pub first : (L : List ℕ) → HeapOption c.code n L → IsNonDecreasing L → puts c y L ≡ true → LeftBefore L H → ⊥
+  pub first : (L : List ℕ) → HeapOption c.code n L → IsNonDecreasing L → puts c y L ≡ true
+      → LeftBefore L H → ⊥

@@ -4,7 +4,8 @@ use Rattle.misere_theory.specs.Plays.{IsWinningMove}
 
 -- no winning move moves one of the first n heaps
 abbrev pub NoneWinsBelow : List ℕ → List ℕ → ℕ → Type 0
-NoneWinsBelow code X n = (k : ℕ) → k < n → (H : List ℕ) → IsWinningMove code X (slice_index X k) H → ⊥
+NoneWinsBelow code X n = (k : ℕ) → k < n → (H : List ℕ) → IsWinningMove code X (slice_index X k) H
+    → ⊥
 
 -- all heaps but those from one place to before another
 abbrev pub heaps_beside : List ℕ → ℕ → ℕ → List ℕ

@@ -5,5 +5,6 @@ ghost use Rattle.player.specs.declared.answering.Answer.{Answer};
 
 /// A position has one right answer.
 pub fn right_answers_are_one()
-    ensures { (code X : List ℕ) (a b : Answer) → IsRightAnswer code X a → IsRightAnswer code X b → a ≡ b }
+    ensures { (code X : List ℕ) (a b : Answer) → IsRightAnswer code X a → IsRightAnswer code X b
+        → a ≡ b }
 {}

@@ -15,9 +15,11 @@ use checker::Certified;
 use positions::{Left, Options, options_are_exact, options_up_to};
 use std::alloc::Allocator;
 
-/// The options that a player looks at: of the splits only those whose smaller part is below start + period.
+/// The options that a player looks at: of the splits only those whose smaller part is below start +
+/// period.
 pub(crate) fn looks_at<A: Allocator>(certified: &Certified<A>, n: u64) -> Options
-    ensures list { result ≡ options_up_to certified.now.code n (certified.now.start + certified.now.period - 1) }
+    ensures list { result ≡ options_up_to certified.now.code n
+        (certified.now.start + certified.now.period - 1) }
     ensures accepted { Accepted certified.now }
 {
     let cert = certified.cert();
@@ -42,7 +44,8 @@ fn value_of_left<A: Allocator>(certified: &Certified<A>, left: Left) -> u16
 pub(crate) fn first_into<A: Allocator>(certified: &Certified<A>, n: u64, y: u16) -> Option<Left>
     requires { y < certified.now.order }
     ensures { MatchOption result
-        ((H : List ℕ) → HeapOption certified.now.code n H → IsNonDecreasing H → puts certified.now y H ≡ false)
+        ((H : List ℕ) → HeapOption certified.now.code n H → IsNonDecreasing H
+        → puts certified.now y H ≡ false)
         (λ left. IsFirstInto certified.now n y (heaps_of left)) }
 {
     options_are_exact();

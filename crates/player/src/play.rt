@@ -38,28 +38,35 @@ pub fn outcome<A: Allocator, B: Room>(certified: &Certified<A>, position: &Posit
     }
 }
 
-/// What to do in the position: nothing where no move exists or none wins, and else the first move that wins. Heaps
-/// come in the order of their sizes, and of one heap the options in their order. Whoever makes the move that is
-/// answered, and goes on so, hands the opponent a P-position each time and wins, whatever he moves.
+/// What to do in the position: nothing where no move exists or none wins, and else the first move
+/// that wins. Heaps come in the order of their sizes, and of one heap the options in their order.
+/// Whoever makes the move that is answered, and goes on so, hands the opponent a P-position each
+/// time and wins, whatever he moves.
 ///
-/// Of a heap only its `looks` are tried, so a heap of any size is answered at once. It takes no memory.
+/// Of a heap only its `looks` are tried, so a heap of any size is answered at once. It takes no
+/// memory.
 pub fn answer<A: Allocator, B: Room>(certified: &Certified<A>, position: &Position<B>) -> Answer
     ensures { IsRightAnswer certified.now.code position.now result }
 {
     answer_at(certified, position.heaps())
 }
 
-/// The options of the heap n that a player looks at, in their order: all but the splits whose smaller part is start +
-/// period or more. There are at most (k + 1)(start + period + 1) of them, for the last digit dk of the code, however
-/// large the heap is. Each is an option of the heap, none stands there twice, and they are in the order of moves. Whatever stands beside
-/// the heap, the first option that makes a P-position is among them.
+/// The options of the heap n that a player looks at, in their order: all but the splits whose
+/// smaller part is start + period or more. There are at most (k + 1)(start + period + 1) of them,
+/// for the last digit dk of the code, however large the heap is. Each is an option of the heap,
+/// none stands there twice, and they are in the order of moves. Whatever stands beside the heap,
+/// the first option that makes a P-position is among them.
 pub fn looks<A: Allocator>(certified: &Certified<A>, n: u64) -> Options
-    ensures list { result ≡ options_up_to certified.now.code n (certified.now.start + certified.now.period - 1) }
-    ensures few { length result ≤ length certified.now.code * (certified.now.start + certified.now.period + 1) }
-    ensures only { (left : Left) → Contains result left → HeapOption certified.now.code n (heaps_of left) × IsInOrder left }
+    ensures list { result ≡ options_up_to certified.now.code n
+        (certified.now.start + certified.now.period - 1) }
+    ensures few { length result ≤ length certified.now.code
+        * (certified.now.start + certified.now.period + 1) }
+    ensures only { (left : Left) → Contains result left
+        → HeapOption certified.now.code n (heaps_of left) × IsInOrder left }
     ensures once { AllPairs (λ x y. IsPermutation (heaps_of x) (heaps_of y) → ⊥) result }
     ensures order { AllPairs (λ x y. LeftBefore (heaps_of x) (heaps_of y)) result }
-    ensures first { (y : ℕ) (H : List ℕ) → IsFirstInto certified.now n y H → (left : Left) × Contains result left × (heaps_of left ≡ H) }
+    ensures first { (y : ℕ) (H : List ℕ) → IsFirstInto certified.now n y H
+        → (left : Left) × Contains result left × (heaps_of left ≡ H) }
 {
     options_are_exact();
     looks_at(certified, n)

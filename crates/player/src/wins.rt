@@ -43,8 +43,8 @@ fn first_win_at<A: Allocator>(
 /// The first winning move of the heaps at the places `from` to before `to`, where no heap before
 /// them has one. `beside` is the value of all other heaps.
 ///
-/// The heaps are halved, so that n of them cost about n log n products, and no memory. Of equal heaps
-/// one is tried.
+/// The heaps are halved, so that n of them cost about n log n products, and no memory. Of equal
+/// heaps one is tried.
 fn first_win_within<A: Allocator>(
     certified: &Certified<A>,
     heaps: &[u64],

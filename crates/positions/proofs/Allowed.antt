@@ -9,18 +9,23 @@ use Rattle.positions.specs.Exact.{IsLeftAt}
 use Rattle.positions.specs.declared.left.Left.TheVariants.{Nothing, One, Two}
 use Rattle.positions.proofs.Exact.{in_all, of_options}
 
-pub nothing_allowed : (code : List ℕ) (n : ℕ) → (takes_all code n n ≡ true) ↔ Contains (options_of code n) Nothing
+pub nothing_allowed : (code : List ℕ) (n : ℕ) → (takes_all code n n ≡ true)
+    ↔ Contains (options_of code n) Nothing
 nothing_allowed code n = (
-  λ e. let (b, l, h) = all_says (has_bit code n 1) n n e in in_all code n n Nothing (l, refl, bit_says (digit code n) 1 b),
+  λ e. let (b, l, h) = all_says (has_bit code n 1) n n e in
+      in_all code n n Nothing (l, refl, bit_says (digit code n) 1 b),
   λ c.
       let (j, m) = of_options code n n Nothing c in
       let (l, h, b) = subst (λ i. IsLeftAt code n i Nothing) (sym m.1) m in
       all_is (has_bit code n 1) n n (bit_is (digit code n) 1 b) l refl,
 )
 
-pub one_allowed : (code : List ℕ) (n a : ℕ) → (leaves_one code n (n - a) ≡ true) ↔ Contains (options_of code n) (One a)
+pub one_allowed : (code : List ℕ) (n a : ℕ) → (leaves_one code n (n - a) ≡ true)
+    ↔ Contains (options_of code n) (One a)
 one_allowed code n a = (
-  λ e. let (b, l, h) = one_says (has_bit code (n - a) 2) n (n - a) e in in_all code n (n - a) (One a) (l, omega arith, omega arith, bit_says (digit code (n - a)) 2 b),
+  λ e. let (b, l, h) = one_says (has_bit code (n - a) 2) n (n - a) e in
+      in_all code n (n - a) (One a)
+      (l, omega arith, omega arith, bit_says (digit code (n - a)) 2 b),
   λ c.
       let (j, m) = of_options code n n (One a) c in
       let e : j ≡ n - a = let s = m.2 in omega arith in
@@ -28,9 +33,11 @@ one_allowed code n a = (
       one_is (has_bit code (n - a) 2) n (n - a) (bit_is (digit code (n - a)) 2 b) l (omega arith),
 )
 
-pub two_allowed : (code : List ℕ) (n a b : ℕ) → 1 ≤ a → a ≤ b → a + b ≤ n → (has_bit code (n - b - a) 4 ≡ true) ↔ Contains (options_of code n) (Two a b)
+pub two_allowed : (code : List ℕ) (n a b : ℕ) → 1 ≤ a → a ≤ b → a + b ≤ n
+    → (has_bit code (n - b - a) 4 ≡ true) ↔ Contains (options_of code n) (Two a b)
 two_allowed code n a b p o l = (
-  λ e. in_all code n (n - b - a) (Two a b) (p, o, omega arith, bit_says (digit code (n - b - a)) 4 e),
+  λ e. in_all code n (n - b - a) (Two a b)
+      (p, o, omega arith, bit_says (digit code (n - b - a)) 4 e),
   λ c.
       let (j, m) = of_options code n n (Two a b) c in
       let e : j ≡ n - b - a = let s = m.2 in omega arith in
@@ -38,5 +45,7 @@ two_allowed code n a b p o l = (
       bit_is (digit code (n - b - a)) 4 s,
 )
 
-pub two_refused : (code : List ℕ) (n a b : ℕ) → Contains (options_of code n) (Two a b) → (1 ≤ a) × (a ≤ b) × (a + b ≤ n)
-two_refused code n a b c = let (j, m) = of_options code n n (Two a b) c in let (q, r, h, s) = m in (q, r, omega arith)
+pub two_refused : (code : List ℕ) (n a b : ℕ) → Contains (options_of code n) (Two a b)
+    → (1 ≤ a) × (a ≤ b) × (a + b ≤ n)
+two_refused code n a b c = let (j, m) = of_options code n n (Two a b) c in let (q, r, h, s) = m in
+    (q, r, omega arith)

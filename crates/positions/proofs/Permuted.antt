@@ -12,11 +12,14 @@ use Rattle.positions.specs.declared.left.Left.{Left}
 use Rattle.positions.specs.declared.left.Left.TheVariants.{Nothing, One, Two}
 use Rattle.positions.proofs.Exact.{of_options, only}
 
-pub two_pushed : (a b : ℕ) (xs ys zs : List ℕ) → IsPermutation (b ∷ xs) ys → IsPermutation (a ∷ ys) zs → IsPermutation (a ∷ b ∷ xs) zs
-two_pushed a b xs ys zs p q = IsPermutation-trans (a ∷ b ∷ xs) (a ∷ ys) zs (IsPermutation-cons a (b ∷ xs) ys p) q
+pub two_pushed : (a b : ℕ) (xs ys zs : List ℕ) → IsPermutation (b ∷ xs) ys
+    → IsPermutation (a ∷ ys) zs → IsPermutation (a ∷ b ∷ xs) zs
+two_pushed a b xs ys zs p q =
+    IsPermutation-trans (a ∷ b ∷ xs) (a ∷ ys) zs (IsPermutation-cons a (b ∷ xs) ys p) q
 
 -- the parts of a heap up to M are heaps up to M
-pub parts_fit : (code : List ℕ) (n M : ℕ) (L : Left) → Contains (options_of code n) L → n ≤ M → All (λ m. (1 ≤ m) × (m ≤ M)) (heaps_of L)
+pub parts_fit : (code : List ℕ) (n M : ℕ) (L : Left) → Contains (options_of code n) L → n ≤ M
+    → All (λ m. (1 ≤ m) × (m ≤ M)) (heaps_of L)
 parts_fit code n M Nothing c l = All-nil (λ m. (1 ≤ m) × (m ≤ M))
 parts_fit code n M (One a) c l =
     let (j, h) = of_options code n n (One a) c in
@@ -25,10 +28,13 @@ parts_fit code n M (One a) c l =
 parts_fit code n M (Two a b) c l =
     let (j, h) = of_options code n n (Two a b) c in
     let (p, q, s, d) = h in
-    All-cons (λ m. (1 ≤ m) × (m ≤ M)) a (b ∷ []) (p, omega arith) (All-cons (λ m. (1 ≤ m) × (m ≤ M)) b [] (omega arith, omega arith) (All-nil (λ m. (1 ≤ m) × (m ≤ M))))
+    All-cons (λ m. (1 ≤ m) × (m ≤ M)) a (b ∷ []) (p, omega arith)
+    (All-cons (λ m. (1 ≤ m) × (m ≤ M)) b [] (omega arith, omega arith)
+    (All-nil (λ m. (1 ≤ m) × (m ≤ M))))
 
 -- the heap at a place goes, and what the move leaves of it comes
-pub moved_to : (code X : List ℕ) (n i : ℕ) (L : Left) (Y : List ℕ) → i < length X → get_or X i 0 ≡ n → Contains (options_of code n) L
+pub moved_to : (code X : List ℕ) (n i : ℕ) (L : Left) (Y : List ℕ) → i < length X → get_or X i 0 ≡ n
+    → Contains (options_of code n) L
     → IsPermutation (heaps_of L ++ remove X i) Y → HeapMove code X n (heaps_of L) Y
 moved_to code X n i L Y l e c p = record {
   others = remove X i;

@@ -22,39 +22,55 @@ sum_left code n j (One a) h = let z : sum (a ∷ []) ≡ a = sum_one a in let e 
   where
     sum_one : (a : ℕ) → sum (a ∷ []) ≡ a
     sum_one a = omega arith
-sum_left code n j (Two a b) h = let z : sum (a ∷ b ∷ []) ≡ a + b = sum_two a b in let e = h.2 in omega arith
+sum_left code n j (Two a b) h = let z : sum (a ∷ b ∷ []) ≡ a + b = sum_two a b in let e = h.2 in
+    omega arith
   where
     sum_two : (a b : ℕ) → sum (a ∷ b ∷ []) ≡ a + b
     sum_two a b = omega arith
 
-across_js : (code : List ℕ) (n i j : ℕ) (L M : Left) → i < j → IsLeftAt code n i L → IsLeftAt code n j M → Before L M
-across_js code n i j L M l p q = let a = sum_left code n i L p in let b = sum_left code n j M q in inl (omega arith)
+across_js : (code : List ℕ) (n i j : ℕ) (L M : Left) → i < j → IsLeftAt code n i L
+    → IsLeftAt code n j M → Before L M
+across_js code n i j L M l p q = let a = sum_left code n i L p in let b = sum_left code n j M q in
+    inl (omega arith)
 
 of_where : (b : Bool) (xs : List Left) (L : Left) → Contains (where_holds b xs) L → Contains xs L
 of_where true xs L c = c
 of_where false xs L c = absurd (nothing_in L c)
 
-AllPairs-where : (b : Bool) (xs : List Left) → AllPairs Before xs → AllPairs Before (where_holds b xs)
+AllPairs-where : (b : Bool) (xs : List Left) → AllPairs Before xs
+    → AllPairs Before (where_holds b xs)
 AllPairs-where true xs p = p
 AllPairs-where false xs p = AllPairs-none Before
 
 module _ (code : List ℕ) (n most j : ℕ) where
   is_nothing : (L : Left) → Contains (nothing_left code n j) L → (L ≡ Nothing) × (n ≡ j)
   is_nothing L c =
-      let e : L ≡ Nothing = sym (only_in Nothing L (of_where (takes_all code n j) (Nothing ∷ []) L c)) in
-      let h = (of_at code n most j L (Contains-append_left (nothing_left code n j) (one_left code n j ++ two_left code n most j) L c)).0 in
+      let e : L ≡ Nothing =
+      sym (only_in Nothing L (of_where (takes_all code n j) (Nothing ∷ []) L c)) in
+      let h =
+      (of_at code n most j L
+      (Contains-append_left (nothing_left code n j)
+      (one_left code n j ++ two_left code n most j) L c)).0 in
       (e, (subst (IsLeftAt code n j) e h).1)
 
   is_one : (L : Left) → Contains (one_left code n j) L → (L ≡ One (n - j)) × (j < n)
   is_one L c =
-      let e : L ≡ One (n - j) = sym (only_in (One (n - j)) L (of_where (leaves_one code n j) (One (n - j) ∷ []) L c)) in
-      let h = (of_at code n most j L (Contains-append_right (nothing_left code n j) (one_left code n j ++ two_left code n most j) L (Contains-append_left (one_left code n j) (two_left code n most j) L c))).0 in
+      let e : L ≡ One (n - j) =
+      sym (only_in (One (n - j)) L (of_where (leaves_one code n j) (One (n - j) ∷ []) L c)) in
+      let h =
+      (of_at code n most j L
+      (Contains-append_right (nothing_left code n j)
+      (one_left code n j ++ two_left code n most j) L
+      (Contains-append_left (one_left code n j) (two_left code n most j) L c))).0 in
       let i = subst (IsLeftAt code n j) e h in
       (e, let a = i.1 in omega arith)
 
-  is_two : (L : Left) → Contains (two_left code n most j) L → (a : ℕ) × (L ≡ Two a (n - j - a)) × (1 ≤ a) × (a < n - j)
+  is_two : (L : Left) → Contains (two_left code n most j) L → (a : ℕ) × (L ≡ Two a (n - j - a))
+      × (1 ≤ a) × (a < n - j)
   is_two L c =
-      let (a, l, h, s) = of_map (λ b. Two b (n - j - b)) 1 (min ((n - j) / 2) most) L (of_where (has_bit code j 4) (splits (n - j) 1 (min ((n - j) / 2) most)) L c) in
+      let (a, l, h, s) =
+      of_map (λ b. Two b (n - j - b)) 1 (min ((n - j) / 2) most) L
+      (of_where (has_bit code j 4) (splits (n - j) 1 (min ((n - j) / 2) most)) L c) in
       (a, sym s, l, omega arith)
 
   rising_at : AllPairs Before (options_at code n most j)
@@ -64,7 +80,8 @@ module _ (code : List ℕ) (n most j : ℕ) where
       (AllPairs-append Before (one_left code n j) (two_left code n most j)
       (AllPairs-where (leaves_one code n j) (One (n - j) ∷ []) (AllPairs-one Before (One (n - j))))
       (AllPairs-where (has_bit code j 4) (splits (n - j) 1 (min ((n - j) / 2) most))
-      (AllPairs-range Before (λ b. Two b (n - j - b)) 1 (min ((n - j) / 2) most) (λ a b l m h. splits_rise a b m (omega arith))))
+      (AllPairs-range Before (λ b. Two b (n - j - b)) 1 (min ((n - j) / 2) most)
+      (λ a b l m h. splits_rise a b m (omega arith))))
       (λ L M c d.
       let (e, i) = is_one L c in
       let (a, f, k, m) = is_two M d in
@@ -77,7 +94,8 @@ module _ (code : List ℕ) (n most j : ℕ) where
         | inr h ↦ let (a, f, k, m) = is_two M h in omega arith
       ]))
     where
-      splits_rise : (a b : ℕ) → a < b → b ≤ (n - j) / 2 → Before (Two a (n - j - a)) (Two b (n - j - b))
+      splits_rise : (a b : ℕ) → a < b → b ≤ (n - j) / 2
+          → Before (Two a (n - j - a)) (Two b (n - j - b))
       splits_rise a b l h = inr (omega arith, inr (refl, l))
 
       one_first : (a : ℕ) → a < n - j → Before (One (n - j)) (Two a (n - j - a))
@@ -87,4 +105,5 @@ pub rising : (code : List ℕ) (n most : ℕ) → AllPairs Before (options_up_to
 rising code n most =
     AllPairs-flat Before (options_at code n most) 0 (length code)
     (λ j l h. rising_at code n most j)
-    (λ i j L M l m h c d. across_js code n i j L M m (of_at code n most i L c).0 (of_at code n most j M d).0)
+    (λ i j L M l m h c d. across_js code n i j L M m (of_at code n most i L c).0
+    (of_at code n most j M d).0)

@@ -25,16 +25,19 @@ one_digit n l = record {
   some = omega arith;
   digits = All-cons IsDigitByte (48 + n) [] (omega arith, omega arith) (All-nil IsDigitByte);
   first = λ p e. omega arith;
-  value = let v : number_from_digits 10 ((48 + n - 48) ∷ []) ≡ 0 * 10 + (48 + n - 48) = refl in v ∙ omega arith;
+  value = let v : number_from_digits 10 ((48 + n - 48) ∷ []) ≡ 0 * 10 + (48 + n - 48) = refl in
+      v ∙ omega arith;
 }
 
-more_digits : (n : ℕ) (ds : List ℕ) → 10 ≤ n → IsDecimal (n / 10) ds → IsDecimal n (ds ++ (48 + n % 10) ∷ [])
+more_digits : (n : ℕ) (ds : List ℕ) → 10 ≤ n → IsDecimal (n / 10) ds
+    → IsDecimal n (ds ++ (48 + n % 10) ∷ [])
 more_digits n ds l h =
     let some = h.some in
     record {
       some = let m = length-append ds ((48 + n % 10) ∷ []) in omega arith;
       digits = All-push IsDigitByte ds (48 + n % 10) h.digits (omega arith, omega arith);
-      first = λ p e. h.first (omega arith) (sym (get_or-append ds ((48 + n % 10) ∷ []) 0 0 some) ∙ e);
+      first =
+          λ p e. h.first (omega arith) (sym (get_or-append ds ((48 + n % 10) ∷ []) 0 0 some) ∙ e);
       value =
           ap (number_from_digits 10) (map-append (λ b. b - 48) ds ((48 + n % 10) ∷ []))
           ∙ number_push 10 (map (λ b. b - 48) ds) (48 + n % 10 - 48)
@@ -48,7 +51,10 @@ decimal_is n l = decimal_by_steps IsDecimal one_digit more_digits n l
 numeral_is : (n : ℕ) → IsSize n → IsNumeralOf (decimal n) n
 numeral_is n s =
     let d = decimal_is n (omega arith) in
-    record { numeral = record { some = d.some; digits = d.digits; first = d.first s.0 }; value = sym d.value }
+    record {
+      numeral = record { some = d.some; digits = d.digits; first = d.first s.0 };
+      value = sym d.value;
+    }
 
 -- ---- the words of what is written
 
@@ -58,13 +64,16 @@ no_space n l = λ k d m. let h = (decimal_is n l).digits k d m in apart (get_or 
     apart : (b : ℕ) → 48 ≤ b → eqb b 32 ≡ false
     apart b l = grind (arith, nat_tests)
 
-words : (n : ℕ) (ns : List ℕ) → All IsSize (n ∷ ns) → words_of (decimal n ++ text_behind ns) ≡ map decimal (n ∷ ns)
+words : (n : ℕ) (ns : List ℕ) → All IsSize (n ∷ ns)
+    → words_of (decimal n ++ text_behind ns) ≡ map decimal (n ∷ ns)
 words n [] a =
     let s = All-head IsSize n [] a in
-    ap words_of (append-nil (decimal n)) ∙ slice_split_none (λ b. eqb b 32) (decimal n) (no_space n (omega arith))
+    ap words_of (append-nil (decimal n)) ∙ slice_split_none (λ b. eqb b 32) (decimal n)
+    (no_space n (omega arith))
 words n (m ∷ ms) a =
     let s = All-head IsSize n (m ∷ ms) a in
-    slice_split_at (λ b. eqb b 32) (decimal n) 32 (decimal m ++ text_behind ms) (no_space n (omega arith)) refl
+    slice_split_at (λ b. eqb b 32) (decimal n) 32 (decimal m ++ text_behind ms)
+    (no_space n (omega arith)) refl
     ∙ ap (λ ws. decimal n ∷ ws) (words m ms (All-tail IsSize n (m ∷ ms) a))
 
 numerals : (ns : List ℕ) → All IsSize ns → AllZip IsNumeralOf (map decimal ns) ns
@@ -73,22 +82,31 @@ numerals (n ∷ ns) a = (numeral_is n (All-head IsSize n ns a), numerals ns (All
 
 pub written : (X : List ℕ) → All IsSize X → IsPositionText (position_text X) X
 written [] a = refl
-written (n ∷ ns) a = subst (λ ws. AllZip IsNumeralOf ws (n ∷ ns)) (sym (words n ns a)) (numerals (n ∷ ns) a)
+written (n ∷ ns) a =
+    subst (λ ws. AllZip IsNumeralOf ws (n ∷ ns)) (sym (words n ns a)) (numerals (n ∷ ns) a)
 
 -- ---- one size after another
 
 behind-push : (ns : List ℕ) (n : ℕ) → text_behind (ns ++ n ∷ []) ≡ text_behind ns ++ 32 ∷ decimal n
 behind-push [] n = ap (λ ds. 32 ∷ ds) (append-nil (decimal n))
 behind-push (m ∷ ms) n =
-    ap (λ ds. 32 ∷ (decimal m ++ ds)) (behind-push ms n) ∙ ap (λ ds. 32 ∷ ds) (sym (append_assoc (decimal m) (text_behind ms) (32 ∷ decimal n)))
+    ap (λ ds. 32 ∷ (decimal m ++ ds)) (behind-push ms n)
+    ∙ ap (λ ds. 32 ∷ ds) (sym (append_assoc (decimal m) (text_behind ms) (32 ∷ decimal n)))
 
-pub one_more : (first : ℕ) (others : List ℕ) (i : ℕ) (old : List ℕ) → i < length others → old ≡ decimal first ++ text_behind (take i others)
-    → (old ++ 32 ∷ []) ++ decimal (get_or others i 0) ≡ decimal first ++ text_behind (take (i + 1) others)
+pub one_more : (first : ℕ) (others : List ℕ) (i : ℕ) (old : List ℕ) → i < length others
+    → old ≡ decimal first ++ text_behind (take i others)
+    → (old ++ 32 ∷ []) ++ decimal (get_or others i 0) ≡ decimal first
+    ++ text_behind (take (i + 1) others)
 one_more first others i old l e =
     append_assoc old (32 ∷ []) (decimal (get_or others i 0))
     ∙ ap (λ bs. bs ++ 32 ∷ decimal (get_or others i 0)) e
     ∙ append_assoc (decimal first) (text_behind (take i others)) (32 ∷ decimal (get_or others i 0))
-    ∙ ap (λ bs. decimal first ++ bs) (sym (ap text_behind (take_more others i 0 l) ∙ behind-push (take i others) (get_or others i 0)))
+    ∙ ap (λ bs. decimal first ++ bs)
+    (sym (ap text_behind (take_more others i 0 l)
+    ∙ behind-push (take i others) (get_or others i 0)))
 
-pub all_written : (first : ℕ) (others bytes X : List ℕ) (i : ℕ) → length others ≤ i → bytes ≡ decimal first ++ text_behind (take i others) → X ≡ first ∷ others → bytes ≡ position_text X
-all_written first others bytes X i l e x = e ∙ ap (λ ns. decimal first ++ text_behind ns) (take_all i others l) ∙ sym (ap position_text x)
+pub all_written : (first : ℕ) (others bytes X : List ℕ) (i : ℕ) → length others ≤ i
+    → bytes ≡ decimal first ++ text_behind (take i others) → X ≡ first ∷ others
+    → bytes ≡ position_text X
+all_written first others bytes X i l e x =
+    e ∙ ap (λ ns. decimal first ++ text_behind ns) (take_all i others l) ∙ sym (ap position_text x)

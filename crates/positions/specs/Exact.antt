@@ -1,4 +1,5 @@
--- What a list of options has to do with the options of a heap, which are those of Plambeck and Siegel, and of Siegel. This project's own words.
+-- What a list of options has to do with the options of a heap, which are those of Plambeck and
+-- Siegel, and of Siegel. This project's own words.
 use Rattle.std.specs.Prelude.{◌≡◌, ℕ, ◌+◌, ◌≤◌, List, [], ◌∷◌, IsBitSet}
 use Rattle.misere_theory.specs.Games.{digit}
 use Rattle.positions.specs.declared.left.Left.{Left}

@@ -1,5 +1,6 @@
--- The options of a heap, as a list in their order. The options are those of Plambeck and Siegel, 'Misère quotients for impartial games',
--- and of Siegel, 'Combinatorial Game Theory'; their order is this project's own. The law options_are_exact ties the list to the theory.
+-- The options of a heap, as a list in their order. The options are those of Plambeck and Siegel,
+-- 'Misère quotients for impartial games', and of Siegel, 'Combinatorial Game Theory'; their order
+-- is this project's own. The law options_are_exact ties the list to the theory.
 use Rattle.std.specs.Prelude.{ℕ, ◌-◌, ◌/◌, Bool, cond, List, [], ◌∷◌, ◌++◌, length, map, min}
 use Rattle.std.specs.List.{flat_map, range_with_len}
 use Rattle.octal_code.specs.Bits.{has_bit, takes_all, leaves_one}
@@ -30,7 +31,8 @@ two_left code n most j = where_holds (has_bit code j 4) (splits (n - j) 1 (min (
 abbrev pub options_at : List ℕ → ℕ → ℕ → ℕ → List Left
 options_at code n most j = nothing_left code n j ++ (one_left code n j ++ two_left code n most j)
 
--- the options whose smaller part is at most `most`: j rising from 0; for one j the bits 1, 2 and 4; the smaller part rising
+-- the options whose smaller part is at most `most`: j rising from 0; for one j the bits 1, 2 and 4;
+-- the smaller part rising
 abbrev pub options_up_to : List ℕ → ℕ → ℕ → List Left
 options_up_to code n most = flat_map (options_at code n most) (range_with_len 0 (length code))
 

@@ -8,7 +8,8 @@ use Rattle.positions.specs.declared.survey.Survey.{Survey}
 abbrev pub capped : ℕ → ℕ
 capped n = min n 1000000000000000001
 
--- how many sizes there are, whether one is too large, and, where they are no more than 64, the sizes
+-- how many sizes there are, whether one is too large, and, where they are no more than 64, the
+-- sizes
 pub record IsSurvey (sizes : List ℕ) (survey : Survey) : Type 0 where
   pub room : length survey.sizes ≡ 64
   pub count : survey.count ≡ length sizes

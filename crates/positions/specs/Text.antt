@@ -1,4 +1,5 @@
--- The text of a position: sizes with single spaces between them, or 0 for the position without heaps. This project's own.
+-- The text of a position: sizes with single spaces between them, or 0 for the position without
+-- heaps. This project's own.
 use Rattle.std.specs.Prelude.{◌≡◌, ◌≢◌, ℕ, ◌-◌, ◌<◌, ◌≤◌, ◌==◌, List, [], ◌∷◌, ◌++◌, decimal, length, slice_index, map, All, Contains, codes, IsPermutation}
 use Rattle.std.specs.Int.Digits.{number_from_digits}
 use Rattle.std.specs.List.{slice_split, AllZip}

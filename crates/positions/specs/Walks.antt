@@ -16,8 +16,11 @@ options_from code n most j = flat_map (options_at code n most) (range_with_len j
 -- what is left at j, and for all larger ones
 abbrev pub left_at : List ℕ → ℕ → ℕ → ℕ → Stage → List Left
 left_at code n most j Whole = options_from code n most j
-left_at code n most j Part = (one_left code n j ++ two_left code n most j) ++ options_from code n most (j + 1)
-left_at code n most j (Parts a) = where_holds (has_bit code j 4) (splits (n - j) a (min ((n - j) / 2) most + 1 - a)) ++ options_from code n most (j + 1)
+left_at code n most j Part = (one_left code n j ++ two_left code n most j)
+    ++ options_from code n most (j + 1)
+left_at code n most j (Parts a) =
+    where_holds (has_bit code j 4) (splits (n - j) a (min ((n - j) / 2) most + 1 - a))
+    ++ options_from code n most (j + 1)
 
 abbrev pub rest : Walk → List Left
 rest w = left_at w.code w.heap w.most w.away w.stage
@@ -34,4 +37,5 @@ steps_left w = 3 * (length w.code - w.away) + stages w.stage
 
 -- one stage: an option, or the next stage with nothing lost
 abbrev pub IsTurn : Walk → Option Left → Walk → Type 0
-IsTurn s r t = MatchOption r ((rest s ≡ rest t) × (steps_left t < steps_left s)) (λ x. rest s ≡ x ∷ rest t)
+IsTurn s r t =
+    MatchOption r ((rest s ≡ rest t) × (steps_left t < steps_left s)) (λ x. rest s ≡ x ∷ rest t)

@@ -75,8 +75,8 @@ fn are_parts(n: u64, a: u64, b: u64) -> bool
     a != 0 && a <= b && b <= n && a <= n - b
 }
 
-/// The position after a move. The heap is looked up, and the option is tested by itself, however many the heap has. In a position of
-/// fewer than `INLINE` heaps a move takes no memory.
+/// The position after a move. The heap is looked up, and the option is tested by itself, however
+/// many the heap has. In a position of fewer than `INLINE` heaps a move takes no memory.
 pub fn apply<A: Room + Copy>(
     alloc: A,
     code: &Code,
@@ -86,7 +86,8 @@ pub fn apply<A: Room + Copy>(
     ensures ok { IfOk result (HeapMove code.now position.now step.heap (heaps_of step.left)) }
     ensures no_such_heap { (result ≡ Err MoveFault.NoSuchHeap) ↔ ¬ Contains position.now step.heap }
     ensures memory { result ≡ Err MoveFault.Memory → INLINE ≤ length position.now }
-    ensures not_allowed { (result ≡ Err MoveFault.NotAllowed) ↔ (Contains position.now step.heap × ¬ Contains (options_of code.now step.heap) step.left) }
+    ensures not_allowed { (result ≡ Err MoveFault.NotAllowed)
+        ↔ (Contains position.now step.heap × ¬ Contains (options_of code.now step.heap) step.left) }
 {
     let Ok(at) = place_of(position.heaps(), step.heap) else {
         return Err(MoveFault::NoSuchHeap);

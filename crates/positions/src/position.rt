@@ -72,8 +72,9 @@ impl<A: Room + Copy> Position<A> {
         Ok(())
     }
 
-    /// Makes this the position `from` after a move that leaves `left` of the heap at the place `at`. What this position was before doesn't
-    /// matter, and its memory is used again. After a fault it is as it was. Fewer than `INLINE` heaps take no memory.
+    /// Makes this the position `from` after a move that leaves `left` of the heap at the place
+    /// `at`. What this position was before doesn't matter, and its memory is used again. After a
+    /// fault it is as it was. Fewer than `INLINE` heaps take no memory.
     pub fn set_moved(&mut self, from: &Position<A>, at: usize, left: Left) -> Result<(), Memory>
         requires there { at < length from.now }
         requires sizes { All IsSize (heaps_of left) }
@@ -227,7 +228,8 @@ pub(crate) fn place_of(heaps: &[u64], heap: u64) -> Result<usize, usize>
     requires { IsNonDecreasing heaps.now }
     ensures { MatchResult result
         (λ at. (at < length heaps.now) × (slice_index heaps.now at ≡ heap))
-        (λ at. (at ≤ length heaps.now) × ((k : ℕ) → k < at → slice_index heaps.now k < heap) × ((k : ℕ) → at ≤ k → k < length heaps.now → heap < slice_index heaps.now k)) }
+        (λ at. (at ≤ length heaps.now) × ((k : ℕ) → k < at → slice_index heaps.now k < heap)
+        × ((k : ℕ) → at ≤ k → k < length heaps.now → heap < slice_index heaps.now k)) }
 {
     heaps.binary_search(&heap)
 }

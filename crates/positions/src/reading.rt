@@ -8,14 +8,16 @@ use crate::survey::survey_of;
 use allocation::Room;
 
 impl<A: Room + Copy> Position<A> {
-    /// Reads a position: `0` alone for the one without heaps, or at most 64 sizes in any order, joined by single spaces, each from 1 to 10^18,
-    /// decimal and without leading zeros. It takes no memory before it knows that the text is one of a position, and none for up to `INLINE`
+    /// Reads a position: `0` alone for the one without heaps, or at most 64 sizes in any order,
+    /// joined by single spaces, each from 1 to 10^18, decimal and without leading zeros. It takes
+    /// no memory before it knows that the text is one of a position, and none for up to `INLINE`
     /// sizes.
     pub fn read(alloc: A, text: &[u8]) -> Result<Position<A>, PositionFault>
         ensures ok { IfOk result (IsTextOf text.now) }
         ensures text { (result ≡ Err PositionFault.Text) ↔ IsNoPositionText text.now }
         ensures too_many { (result ≡ Err PositionFault.TooMany) ↔ HasTooMany MOST text.now }
-        ensures too_large { (result ≡ Err PositionFault.TooLarge) ↔ HasTooLarge MOST LARGEST text.now }
+        ensures too_large { (result ≡ Err PositionFault.TooLarge)
+            ↔ HasTooLarge MOST LARGEST text.now }
         ensures memory { result ≡ Err PositionFault.Memory → HasTooMany INLINE text.now }
     {
         if is_zero(text) {

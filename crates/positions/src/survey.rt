@@ -5,7 +5,8 @@ ghost use Rattle.positions.specs.Text.{number_of, words_of, IsNumeral};
 
 use crate::position::{LARGEST, MOST};
 
-/// What is kept of the sizes of a text: how many they are, the first 64, and whether one is too large.
+/// What is kept of the sizes of a text: how many they are, the first 64, and whether one is too
+/// large.
 #[derive(Clone, Copy)]
 pub(crate) struct Survey {
     pub(crate) sizes: [u64; 64],
@@ -28,7 +29,8 @@ impl Survey {
     /// One more size was seen.
     fn note(&mut self, size: u64)
         requires { self.old.count + 1 < 2 ^ 64 }
-        ensures { (sizes : List ℕ) → IsSurvey sizes self.old → IsSurvey (sizes ++ size ∷ []) self.new }
+        ensures { (sizes : List ℕ) → IsSurvey sizes self.old
+            → IsSurvey (sizes ++ size ∷ []) self.new }
     {
         if self.count < MOST {
             self.sizes[self.count] = size;
@@ -40,7 +42,8 @@ impl Survey {
 
 /// A survey of the words of a text, or `None` where one is no numeral.
 pub(crate) fn survey_of(text: &[u8]) -> Option<Survey>
-    ensures { MatchOption result (All IsNumeral (words_of text.now) → ⊥) (IsSurveyOf (words_of text.now)) }
+    ensures { MatchOption result (All IsNumeral (words_of text.now) → ⊥)
+        (IsSurveyOf (words_of text.now)) }
 {
     let mut survey = Survey::new();
     let mut rest = text;
@@ -73,7 +76,8 @@ fn word_len(text: &[u8]) -> usize
 
 /// The number that a numeral writes, capped, or `None` where the word is no numeral.
 fn size_of(word: &[u8]) -> Option<u64>
-    ensures { MatchOption result (IsNumeral word.now → ⊥) (λ n. IsNumeral word.now × (n ≡ capped (number_of word.now))) }
+    ensures { MatchOption result (IsNumeral word.now → ⊥) (λ n. IsNumeral word.now
+        × (n ≡ capped (number_of word.now))) }
 {
     if word.is_empty() || word[0] == b'0' {
         return None;

@@ -9,7 +9,8 @@ use std::alloc::Allocator;
 use std::string::String;
 
 impl<A: Room + Copy> Position<A> {
-    /// The text of the position: its sizes, rising, joined by single spaces, or `0` where it has no heap.
+    /// The text of the position: its sizes, rising, joined by single spaces, or `0` where it has no
+    /// heap.
     pub fn text(&self) -> Result<String<A>, Memory>
         ensures bytes { IfOk result (λ text. string_bytes text ≡ position_text self.now) }
         ensures reads { IfOk result (λ text. IsPositionText (string_bytes text) self.now) }

@@ -37,10 +37,12 @@ generators_line generators = (codes "generators" ++ generator_words generators) 
 
 -- the order, the elements of the generators, and the rows
 abbrev pub monoid_lines : Grid → List Generator → List ℕ
-monoid_lines table generators = (codes "order " ++ decimal table.order ++ codes "\n" ++ generators_line generators) ++ row_lines table table.order
+monoid_lines table generators =
+    (codes "order " ++ decimal table.order ++ codes "\n" ++ generators_line generators)
+    ++ row_lines table table.order
 
--- The text is the table of the least congruence that holds the relations; it is a commutative monoid, and the box is within the
--- limit.
+-- The text is the table of the least congruence that holds the relations; it is a commutative
+-- monoid, and the box is within the limit.
 pub record IsTableText (relations : List Relation) (text : List ℕ) : Type 0 where
   pub table : Grid
   pub generators : List Generator
@@ -51,17 +53,22 @@ pub record IsTableText (relations : List Relation) (text : List ℕ) : Type 0 wh
 
 -- The text is the line that says why the relations have no table, and it is right.
 pub data RefusesTable (relations : List Relation) (text : List ℕ) : Type 0 where
-  Unbounded : IsUnbounded relations → text ≡ codes "refused 2 Unbounded\n" → RefusesTable relations text
-  Limit : IsAboveLimit relations 65536 ⊎ HasMoreElements relations 256 → text ≡ codes "refused 3 Limit\n" → RefusesTable relations text
+  Unbounded : IsUnbounded relations → text ≡ codes "refused 2 Unbounded\n"
+      → RefusesTable relations text
+  Limit : IsAboveLimit relations 65536 ⊎ HasMoreElements relations 256
+      → text ≡ codes "refused 3 Limit\n" → RefusesTable relations text
 
 -- the text is the table, or says why there is none
 abbrev pub PresentsTable : List Relation → List ℕ → Bool → Type 0
 PresentsTable relations text true = IsTableText relations text
 PresentsTable relations text false = RefusesTable relations text
 
--- The presentation is no list of relations, which the text says, or the text is their table, or says why there is none.
+-- The presentation is no list of relations, which the text says, or the text is their table, or
+-- says why there is none.
 pub data Presents (presentation text : List ℕ) (well : Bool) : Type 0 where
-  NoText : ((q : List Relation) → SpellsPresentation presentation q → ⊥) → text ≡ codes "refused 1 Text\n" → well ≡ false
+  NoText : ((q : List Relation) → SpellsPresentation presentation q → ⊥)
+      → text ≡ codes "refused 1 Text\n" → well ≡ false
       → Presents presentation text well
-  OfRelations : (relations : List Relation) → SpellsPresentation presentation relations → PresentsTable relations text well
+  OfRelations : (relations : List Relation) → SpellsPresentation presentation relations
+      → PresentsTable relations text well
       → Presents presentation text well

@@ -53,7 +53,8 @@ fn row_text(alloc: Global, table: &Table, x: u16) -> Result<String, AllocError>
 
 /// The order, the elements of the generators, and the rows.
 pub(crate) fn monoid_text(alloc: Global, named: &Named) -> Result<String, AllocError>
-    ensures { IfOk result (λ t. string_bytes t ≡ monoid_lines named.now.table named.now.generators.items) }
+    ensures { IfOk result
+        (λ t. string_bytes t ≡ monoid_lines named.now.table named.now.generators.items) }
 {
     let order = named.table.order();
     let generators = generators_text(alloc, &named.generators)?;

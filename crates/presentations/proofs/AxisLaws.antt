@@ -22,18 +22,23 @@ use Rattle.presentations.proofs.SizeLaws.{box-more, box-skip}
 -- each axis has its relation
 abbrev pub HavePowers : List Relation → List Axis → Type 0
 HavePowers relations [] = Unit {0}
-HavePowers relations (a ∷ axes) = ((k : ℕ) × HasPower relations a.letter a.most a.back k) × HavePowers relations axes
+HavePowers relations (a ∷ axes) = ((k : ℕ) × HasPower relations a.letter a.most a.back k)
+    × HavePowers relations axes
 
-pub powers-push : (relations : List Relation) (axes : List Axis) (a : Axis) → HavePowers relations axes → (k : ℕ) × HasPower relations a.letter a.most a.back k → HavePowers relations (axes ++ a ∷ [])
+pub powers-push : (relations : List Relation) (axes : List Axis) (a : Axis)
+    → HavePowers relations axes → (k : ℕ) × HasPower relations a.letter a.most a.back k
+    → HavePowers relations (axes ++ a ∷ [])
 powers-push relations [] a h p = (p, tt)
 powers-push relations (b ∷ axes) a h p = (h.0, powers-push relations axes a h.1 p)
 
-pub axes-push : (s : ℕ) (axes : List Axis) (a : Axis) → AreAxes s axes → a.stride ≡ s * size_of axes → a.back < a.most → AreAxes s (axes ++ a ∷ [])
+pub axes-push : (s : ℕ) (axes : List Axis) (a : Axis) → AreAxes s axes → a.stride ≡ s * size_of axes
+    → a.back < a.most → AreAxes s (axes ++ a ∷ [])
 axes-push s [] a h e lt = (e ∙ one s, lt, tt)
   where
     one : (s : ℕ) → s * 1 ≡ s
     one s = omega arith
-axes-push s (b ∷ axes) a h e lt = (h.0, h.1, axes-push (s * b.most) axes a h.2 (e ∙ moved s b.most (size_of axes)) lt)
+axes-push s (b ∷ axes) a h e lt =
+    (h.0, h.1, axes-push (s * b.most) axes a h.2 (e ∙ moved s b.most (size_of axes)) lt)
   where
     moved : (s m n : ℕ) → s * (m * n) ≡ s * m * n
     moved s m n = grind arith
@@ -43,12 +48,14 @@ size-push [] a = plain a.most
   where
     plain : (m : ℕ) → m * 1 ≡ 1 * m
     plain m = omega arith
-size-push (b ∷ axes) a = ap (λ n. b.most * n) (size-push axes a) ∙ moved b.most (size_of axes) a.most
+size-push (b ∷ axes) a =
+    ap (λ n. b.most * n) (size-push axes a) ∙ moved b.most (size_of axes) a.most
   where
     moved : (s m n : ℕ) → s * (m * n) ≡ s * m * n
     moved s m n = grind arith
 
-pub letters-push : (axes : List Axis) (a : Axis) → letters_in (axes ++ a ∷ []) ≡ letters_in axes ++ a.letter ∷ []
+pub letters-push : (axes : List Axis) (a : Axis) → letters_in (axes ++ a ∷ []) ≡ letters_in axes
+    ++ a.letter ∷ []
 letters-push [] a = refl
 letters-push (b ∷ axes) a = ap (λ ls. b.letter ∷ ls) (letters-push axes a)
 
@@ -77,8 +84,18 @@ rising-push n letters h =
         | inr high ↦ omega (arith, get-last letters n i (omega (arith, len)))
       ];
       rising = λ i j lt jn. elim (cases_lt j (length letters)) [
-        | inl low ↦ omega (arith, get-push letters n i (omega arith), get-push letters n j low, h.rising i j lt low)
-        | inr high ↦ omega (arith, get-push letters n i (omega (arith, len)), get-last letters n j (omega (arith, len)), h.below i (omega (arith, len)))
+        | inl low ↦ omega (
+          arith,
+          get-push letters n i (omega arith),
+          get-push letters n j low,
+          h.rising i j lt low,
+        )
+        | inr high ↦ omega (
+          arith,
+          get-push letters n i (omega (arith, len)),
+          get-last letters n j (omega (arith, len)),
+          h.below i (omega (arith, len)),
+        )
       ];
     }
 
@@ -86,13 +103,18 @@ rising-more : (n : ℕ) (letters : List ℕ) → Rising n letters → Rising (su
 rising-more n letters h = record { below = λ i lt. omega (arith, h.below i lt); rising = h.rising }
 
 letters-rise : (relations : List Relation) (n : ℕ) → Rising n (letters_below relations n)
-letters-rise relations zero = record { below = λ i lt. absurd (omega arith); rising = λ i j lt jn. absurd (omega arith) }
-letters-rise relations (suc n) = elim (occurs relations n) as (λ b. Rising (suc n) (if b then letters_below relations n ++ n ∷ [] else letters_below relations n)) [
-  | true ↦ rising-push n (letters_below relations n) (letters-rise relations n)
-  | false ↦ rising-more n (letters_below relations n) (letters-rise relations n)
-]
+letters-rise relations zero =
+    record { below = λ i lt. absurd (omega arith); rising = λ i j lt jn. absurd (omega arith) }
+letters-rise relations (suc n) =
+    elim (occurs relations n) as
+    (λ b. Rising (suc n)
+    (if b then letters_below relations n ++ n ∷ [] else letters_below relations n)) [
+      | true ↦ rising-push n (letters_below relations n) (letters-rise relations n)
+      | false ↦ rising-more n (letters_below relations n) (letters-rise relations n)
+    ]
 
-only-at : (n i k x : ℕ) → k < n → ((k ≡ i) × (get_or (only n i x) k 0 ≡ x)) ⊎ ((k ≢ i) × (get_or (only n i x) k 0 ≡ 0))
+only-at : (n i k x : ℕ) → k < n → ((k ≡ i) × (get_or (only n i x) k 0 ≡ x))
+    ⊎ ((k ≢ i) × (get_or (only n i x) k 0 ≡ 0))
 only-at zero i k x lt = absurd (omega arith)
 only-at (suc n) zero zero x lt = inl (refl, refl)
 only-at (suc n) zero (suc k) x lt = inr (λ e. absurd (omega arith), nothing n k)
@@ -108,34 +130,62 @@ only-at (suc n) (suc i) (suc k) x lt = elim (only-at n i k x (omega arith)) [
 ]
 
 -- a power of one letter as a vector
-power-vector : (axes : List Axis) (word : List ℕ) (i x : ℕ) (d : Axis) → i < length axes → Rising 26 (letters_in axes)
-    → IsPowerOf word (slice_index_or axes i d).letter → slice_index word (slice_index_or axes i d).letter ≡ x
+power-vector : (axes : List Axis) (word : List ℕ) (i x : ℕ) (d : Axis) → i < length axes
+    → Rising 26 (letters_in axes)
+    → IsPowerOf word (slice_index_or axes i d).letter
+    → slice_index word (slice_index_or axes i d).letter ≡ x
     → vector_on (letters_in axes) word ≡ only (length axes) i x
 power-vector axes word i x d lt rise power is =
     ext_get_or 0 _ _ (length-word axes word ∙ sym (length-only (length axes) i x)) (λ k below.
     let len = length-word axes word in
     let inside : k < length axes = omega (arith, len) in
     elim (only-at (length axes) i k x inside) [
-      | inl here ↦ word-at axes word k d inside ∙ ap (λ j. slice_index word (slice_index_or axes j d).letter) here.0 ∙ is ∙ sym here.1
-      | inr apart ↦ word-at axes word k d inside ∙ power (slice_index_or axes k d).letter (in26 k inside) (differ k inside apart.0) ∙ sym apart.1
+      | inl here ↦ word-at axes word k d inside
+          ∙ ap (λ j. slice_index word (slice_index_or axes j d).letter) here.0 ∙ is ∙ sym here.1
+      | inr apart ↦ word-at axes word k d inside ∙ power (slice_index_or axes k d).letter
+          (in26 k inside) (differ k inside apart.0) ∙ sym apart.1
     ])
   where
-    letter-at : (axes : List Axis) (k : ℕ) (d : Axis) → k < length axes → get_or (letters_in axes) k 0 ≡ (slice_index_or axes k d).letter
+    letter-at : (axes : List Axis) (k : ℕ) (d : Axis) → k < length axes
+        → get_or (letters_in axes) k 0 ≡ (slice_index_or axes k d).letter
     letter-at [] k d lt = absurd (omega arith)
     letter-at (a ∷ axes) zero d lt = refl
     letter-at (a ∷ axes) (suc k) d lt = letter-at axes k d (omega arith)
 
     in26 : (k : ℕ) → k < length axes → (slice_index_or axes k d).letter < 26
-    in26 k h = omega (arith, letter-at axes k d h, rise.below k (omega (arith, length-map axes (λ a. a.letter))))
+    in26 k h =
+        omega (
+          arith,
+          letter-at axes k d h,
+          rise.below k (omega (arith, length-map axes (λ a. a.letter))),
+        )
 
-    differ : (k : ℕ) → k < length axes → k ≢ i → (slice_index_or axes k d).letter ≢ (slice_index_or axes i d).letter
+    differ : (k : ℕ) → k < length axes → k ≢ i
+        → (slice_index_or axes k d).letter ≢ (slice_index_or axes i d).letter
     differ k h ne e = elim (cases_lt k i) [
-      | inl low ↦ absurd (omega (arith, e, letter-at axes k d h, letter-at axes i d lt, rise.rising k i low (omega (arith, length-map axes (λ a. a.letter)))))
-      | inr high ↦ absurd (omega (arith, e, ne, letter-at axes k d h, letter-at axes i d lt, rise.rising i k (omega (arith, ne)) (omega (arith, length-map axes (λ a. a.letter)))))
+      | inl low ↦ absurd
+          (omega (
+            arith,
+            e,
+            letter-at axes k d h,
+            letter-at axes i d lt,
+            rise.rising k i low (omega (arith, length-map axes (λ a. a.letter))),
+          ))
+      | inr high ↦ absurd
+          (omega (
+            arith,
+            e,
+            ne,
+            letter-at axes k d h,
+            letter-at axes i d lt,
+            rise.rising i k (omega (arith, ne)) (omega (arith, length-map axes (λ a. a.letter))),
+          ))
     ]
 
-power-at : (relations : List Relation) (axes : List Axis) (i : ℕ) (d : Axis) → HavePowers relations axes → i < length axes
-    → (k : ℕ) × HasPower relations (slice_index_or axes i d).letter (slice_index_or axes i d).most (slice_index_or axes i d).back k
+power-at : (relations : List Relation) (axes : List Axis) (i : ℕ) (d : Axis)
+    → HavePowers relations axes → i < length axes
+    → (k : ℕ) × HasPower relations (slice_index_or axes i d).letter (slice_index_or axes i d).most
+    (slice_index_or axes i d).back k
 power-at relations [] i d h lt = absurd (omega arith)
 power-at relations (a ∷ axes) zero d h lt = h.0
 power-at relations (a ∷ axes) (suc i) d h lt = power-at relations axes i d h.1 (omega arith)
@@ -143,28 +193,48 @@ power-at relations (a ∷ axes) (suc i) d h lt = power-at relations axes i d h.1
 none : Relation
 none = record { left = []; right = [] }
 
-axis-related : (relations : List Relation) (axes : List Axis) (i : ℕ) (d : Axis) → HavePowers relations axes → Rising 26 (letters_in axes) → i < length axes
-    → Related (length axes) (pairs_in axes relations) (only (length axes) i (slice_index_or axes i d).most) (only (length axes) i (slice_index_or axes i d).back)
+axis-related : (relations : List Relation) (axes : List Axis) (i : ℕ) (d : Axis)
+    → HavePowers relations axes → Rising 26 (letters_in axes) → i < length axes
+    → Related (length axes) (pairs_in axes relations)
+    (only (length axes) i (slice_index_or axes i d).most)
+    (only (length axes) i (slice_index_or axes i d).back)
 axis-related relations axes i d h rise lt =
     let a = slice_index_or axes i d in
     let p = power-at relations axes i d h lt in
     let r = slice_index_or relations p.0 none in
     let is = p.1.is none in
-    let given : Related (length axes) (pairs_in axes relations) (vector_on (letters_in axes) r.left) (vector_on (letters_in axes) r.right) = Given _ (pair-of (letters_in axes) relations p.0 none p.1.within) in
+    let given : Related (length axes) (pairs_in axes relations) (vector_on (letters_in axes) r.left)
+    (vector_on (letters_in axes) r.right) =
+    Given _ (pair-of (letters_in axes) relations p.0 none p.1.within) in
     elim is.exponents [
       | inl same ↦
-          subst (λ u. Related (length axes) (pairs_in axes relations) u (only (length axes) i a.back)) (power-vector axes r.left i a.most d lt rise is.left same.0)
-          (subst (λ v. Related (length axes) (pairs_in axes relations) (vector_on (letters_in axes) r.left) v) (power-vector axes r.right i a.back d lt rise is.right same.1) given)
+          subst (λ u. Related (length axes) (pairs_in axes relations) u
+          (only (length axes) i a.back))
+          (power-vector axes r.left i a.most d lt rise is.left same.0)
+          (subst
+          (λ v. Related (length axes) (pairs_in axes relations)
+          (vector_on (letters_in axes) r.left) v)
+          (power-vector axes r.right i a.back d lt rise is.right same.1) given)
       | inr turned ↦
-          Turned _ _ (subst (λ u. Related (length axes) (pairs_in axes relations) u (only (length axes) i a.most)) (power-vector axes r.left i a.back d lt rise is.left turned.0)
-          (subst (λ v. Related (length axes) (pairs_in axes relations) (vector_on (letters_in axes) r.left) v) (power-vector axes r.right i a.most d lt rise is.right turned.1) given))
+          Turned _ _
+          (subst
+          (λ u. Related (length axes) (pairs_in axes relations) u (only (length axes) i a.most))
+          (power-vector axes r.left i a.back d lt rise is.left turned.0)
+          (subst
+          (λ v. Related (length axes) (pairs_in axes relations)
+          (vector_on (letters_in axes) r.left) v)
+          (power-vector axes r.right i a.most d lt rise is.right turned.1) given))
     ]
 
-all-below : (axes : List Axis) → ((i : ℕ) → i < length (letters_in axes) → get_or (letters_in axes) i 0 < 26) → AllByRecursion (λ a. a.letter < 26) axes
+all-below : (axes : List Axis)
+    → ((i : ℕ) → i < length (letters_in axes) → get_or (letters_in axes) i 0 < 26)
+    → AllByRecursion (λ a. a.letter < 26) axes
 all-below [] h = tt
 all-below (a ∷ axes) h = (h 0 (omega arith), all-below axes (λ i lt. h (suc i) (omega arith)))
 
-pub is-box : (relations : List Relation) (axes : List Axis) → AreAxes 1 axes → size_of axes < 4294967296 → letters_in axes ≡ letters_below relations 26 → HavePowers relations axes → IsBox axes relations
+pub is-box : (relations : List Relation) (axes : List Axis) → AreAxes 1 axes
+    → size_of axes < 4294967296 → letters_in axes ≡ letters_below relations 26
+    → HavePowers relations axes → IsBox axes relations
 is-box relations axes are small letters powers =
     let rise = subst (Rising 26) (sym letters) (letters-rise relations 26) in
     record {
@@ -184,14 +254,27 @@ pub record Built (relations : List Relation) (limit n size : ℕ) (axes : List A
   pub box : IsBoxSize relations (letters_below relations n) size
 
 pub built-none : (relations : List Relation) (limit : ℕ) → limit ≢ 0 → Built relations limit 0 1 []
-built-none relations limit some = record { axes_are = tt; size_is = refl; within = omega (arith, some); letters = refl; powers = tt; box = refl }
+built-none relations limit some =
+    record {
+      axes_are = tt;
+      size_is = refl;
+      within = omega (arith, some);
+      letters = refl;
+      powers = tt;
+      box = refl;
+    }
 
-next-letters : (relations : List Relation) (n : ℕ) (b : Bool) → occurs relations n ≡ b → letters_below relations (n + 1) ≡ (if b then letters_below relations n ++ n ∷ [] else letters_below relations n)
+next-letters : (relations : List Relation) (n : ℕ) (b : Bool) → occurs relations n ≡ b
+    → letters_below relations (n + 1)
+    ≡ (if b then letters_below relations n ++ n ∷ [] else letters_below relations n)
 next-letters relations n b e =
     let next : n + 1 ≡ suc n = omega arith in
-    ap (letters_below relations) next ∙ ap (λ t. if t then letters_below relations n ++ n ∷ [] else letters_below relations n) e
+    ap (letters_below relations) next
+    ∙ ap (λ t. if t then letters_below relations n ++ n ∷ [] else letters_below relations n) e
 
-pub built-skip : (relations : List Relation) (limit n size : ℕ) (axes : List Axis) → Built relations limit n size axes → occurs relations n ≡ false → Built relations limit (n + 1) size axes
+pub built-skip : (relations : List Relation) (limit n size : ℕ) (axes : List Axis)
+    → Built relations limit n size axes → occurs relations n ≡ false
+    → Built relations limit (n + 1) size axes
 built-skip relations limit n size axes b e = record {
   axes_are = b.axes_are;
   size_is = b.size_is;
@@ -201,15 +284,19 @@ built-skip relations limit n size axes b e = record {
   box = box-skip relations n size b.box e;
 }
 
-pub built-push : (relations : List Relation) (limit n size most back k : ℕ) (axes : List Axis) → Built relations limit n size axes → occurs relations n ≡ true
-    → HasPower relations n most back k → IsLeastLarger relations n most → size * most ≤ limit → Built relations limit (n + 1) (size * most) (axes ++ (record { letter = n; most = most; back = back; stride = size }) ∷ [])
+pub built-push : (relations : List Relation) (limit n size most back k : ℕ) (axes : List Axis)
+    → Built relations limit n size axes → occurs relations n ≡ true
+    → HasPower relations n most back k → IsLeastLarger relations n most → size * most ≤ limit
+    → Built relations limit (n + 1) (size * most)
+    (axes ++ (record { letter = n; most = most; back = back; stride = size }) ∷ [])
 built-push relations limit n size most back k axes b e p least le =
     let a : Axis = record { letter = n; most = most; back = back; stride = size } in
     record {
       axes_are = axes-push 1 axes a b.axes_are (b.size_is ∙ one (size_of axes)) (p.is none).less;
       size_is = ap (λ s. s * most) b.size_is ∙ sym (size-push axes a);
       within = le;
-      letters = letters-push axes a ∙ ap (λ ls. ls ++ n ∷ []) b.letters ∙ sym (next-letters relations n true e);
+      letters = letters-push axes a ∙ ap (λ ls. ls ++ n ∷ []) b.letters
+          ∙ sym (next-letters relations n true e);
       powers = powers-push relations axes a b.powers (k, p);
       box = box-more relations n size most b.box e least;
     }
@@ -217,20 +304,31 @@ built-push relations limit n size most back k axes b e p least le =
     one : (s : ℕ) → s ≡ 1 * s
     one s = omega arith
 
-pub built-box : (relations : List Relation) (limit n size : ℕ) (axes : List Axis) → Built relations limit n size axes → n ≡ 26 → limit < 4294967296 → IsBox axes relations
+pub built-box : (relations : List Relation) (limit n size : ℕ) (axes : List Axis)
+    → Built relations limit n size axes → n ≡ 26 → limit < 4294967296 → IsBox axes relations
 built-box relations limit n size axes b e small =
-    is-box relations axes b.axes_are (omega (arith, b.size_is, b.within)) (b.letters ∙ ap (letters_below relations) e) b.powers
+    is-box relations axes b.axes_are (omega (arith, b.size_is, b.within))
+    (b.letters ∙ ap (letters_below relations) e) b.powers
 
-rising-floor : (n : ℕ) (letters : List ℕ) (i : ℕ) → Rising n letters → i < length letters → i ≤ get_or letters i 0
+rising-floor : (n : ℕ) (letters : List ℕ) (i : ℕ) → Rising n letters → i < length letters
+    → i ≤ get_or letters i 0
 rising-floor n letters zero h lt = omega arith
-rising-floor n letters (suc i) h lt = omega (arith, rising-floor n letters i h (omega arith), h.rising i (suc i) (omega arith) lt)
+rising-floor n letters (suc i) h lt =
+    omega (arith, rising-floor n letters i h (omega arith), h.rising i (suc i) (omega arith) lt)
 
 -- there are no more letters than 26
-pub few-letters : (relations : List Relation) (limit n size : ℕ) (axes : List Axis) → Built relations limit n size axes → n ≤ 26 → length axes ≤ 26
+pub few-letters : (relations : List Relation) (limit n size : ℕ) (axes : List Axis)
+    → Built relations limit n size axes → n ≤ 26 → length axes ≤ 26
 few-letters relations limit n size axes b le = elim (cases_lt 26 (length axes)) [
   | inl more ↦
-      let len : length (letters_below relations n) ≡ length axes = sym (ap length b.letters) ∙ length-map axes (λ a. a.letter) in
+      let len : length (letters_below relations n) ≡ length axes =
+      sym (ap length b.letters) ∙ length-map axes (λ a. a.letter) in
       let rise = letters-rise relations n in
-      absurd (omega (arith, rising-floor n (letters_below relations n) 26 rise (omega (arith, len)), rise.below 26 (omega (arith, len))))
+      absurd
+      (omega (
+        arith,
+        rising-floor n (letters_below relations n) 26 rise (omega (arith, len)),
+        rise.below 26 (omega (arith, len)),
+      ))
   | inr few ↦ few
 ]

@@ -19,58 +19,91 @@ use Rattle.presentations.proofs.Quotient.{pair-of}
 pub sum-lowered : (xs : List ℕ) (i v : ℕ) → v ≤ get_or xs i 0 → sum (set xs i v) ≤ sum xs
 sum-lowered [] i v le = omega arith
 sum-lowered (x ∷ xs) zero v le = omega (arith, sum_by-cons (λ y. y) v xs, sum_by-cons (λ y. y) x xs)
-sum-lowered (x ∷ xs) (suc i) v le = omega (arith, sum-lowered xs i v le, sum_by-cons (λ y. y) x (set xs i v), sum_by-cons (λ y. y) x xs)
+sum-lowered (x ∷ xs) (suc i) v le =
+    omega (
+      arith,
+      sum-lowered xs i v le,
+      sum_by-cons (λ y. y) x (set xs i v),
+      sum_by-cons (λ y. y) x xs,
+    )
 
 pub sum-less : (xs : List ℕ) (i v : ℕ) → v < get_or xs i 0 → sum (set xs i v) < sum xs
 sum-less [] i v lt = absurd (omega arith)
 sum-less (x ∷ xs) zero v lt = omega (arith, sum_by-cons (λ y. y) v xs, sum_by-cons (λ y. y) x xs)
-sum-less (x ∷ xs) (suc i) v lt = omega (arith, sum-less xs i v lt, sum_by-cons (λ y. y) x (set xs i v), sum_by-cons (λ y. y) x xs)
+sum-less (x ∷ xs) (suc i) v lt =
+    omega (
+      arith,
+      sum-less xs i v lt,
+      sum_by-cons (λ y. y) x (set xs i v),
+      sum_by-cons (λ y. y) x xs,
+    )
 
 pub itself : (axes : List Axis) (relations : List Relation) (u : ℕ) → AreRelated axes relations u u
 itself axes relations u = Same (vector_at axes u) (length-vector axes u)
 
-pub chain : (axes : List Axis) (relations : List Relation) (u v w : ℕ) → AreRelated axes relations u v → AreRelated axes relations v w → AreRelated axes relations u w
+pub chain : (axes : List Axis) (relations : List Relation) (u v w : ℕ)
+    → AreRelated axes relations u v → AreRelated axes relations v w → AreRelated axes relations u w
 chain axes relations u v w r s = Chained _ _ _ r s
 
-pub turn : (axes : List Axis) (relations : List Relation) (u v : ℕ) → AreRelated axes relations u v → AreRelated axes relations v u
+pub turn : (axes : List Axis) (relations : List Relation) (u v : ℕ) → AreRelated axes relations u v
+    → AreRelated axes relations v u
 turn axes relations u v r = Turned _ _ r
 
-pub step : (axes : List Axis) (relations : List Relation) (u v i : ℕ) → IsBox axes relations → i < length axes → AreRelated axes relations u v → AreRelated axes relations (next_of axes i u) (next_of axes i v)
-step axes relations u v i box lt r = step-related axes (pairs_in axes relations) box.axes_are box.powers u v i lt r
+pub step : (axes : List Axis) (relations : List Relation) (u v i : ℕ) → IsBox axes relations
+    → i < length axes → AreRelated axes relations u v
+    → AreRelated axes relations (next_of axes i u) (next_of axes i v)
+step axes relations u v i box lt r =
+    step-related axes (pairs_in axes relations) box.axes_are box.powers u v i lt r
 
-pub relation : (axes : List Axis) (relations : List Relation) (i : ℕ) (d : Relation) → IsBox axes relations → i < length relations
-    → AreRelated axes relations (place_of axes (vector_on (letters_in axes) (slice_index_or relations i d).left)) (place_of axes (vector_on (letters_in axes) (slice_index_or relations i d).right))
+pub relation : (axes : List Axis) (relations : List Relation) (i : ℕ) (d : Relation)
+    → IsBox axes relations → i < length relations
+    → AreRelated axes relations
+    (place_of axes (vector_on (letters_in axes) (slice_index_or relations i d).left))
+    (place_of axes (vector_on (letters_in axes) (slice_index_or relations i d).right))
 relation axes relations i d box lt =
-    relation-related axes (pairs_in axes relations) box.axes_are box.powers _ _ (length-word axes _) (length-word axes _)
+    relation-related axes (pairs_in axes relations) box.axes_are box.powers _ _ (length-word axes _)
+    (length-word axes _)
     (Given _ (pair-of (letters_in axes) relations i d lt))
 
-pub pointed : (axes : List Axis) (relations : List Relation) (parents : List ℕ) (pending : List (ℕ × ℕ)) (at to : ℕ)
-    → IsMerging axes relations parents pending → at < size_of axes → to ≤ at → AreRelated axes relations at to → IsMerging axes relations (set parents at to) pending
+pub pointed : (axes : List Axis) (relations : List Relation) (parents : List ℕ)
+    (pending : List (ℕ × ℕ)) (at to : ℕ)
+    → IsMerging axes relations parents pending → at < size_of axes → to ≤ at
+    → AreRelated axes relations at to → IsMerging axes relations (set parents at to) pending
 pointed axes relations parents pending at to is lt le r = record {
   box = is.box;
   length_is = length-set parents at to ∙ is.length_is;
   down = λ u h. elim (cases_eq u at) [
     | inl same ↦
-        let here : get_or (set parents at to) at 0 ≡ to = get_or-set_same parents at to 0 (omega (arith, is.length_is)) in
+        let here : get_or (set parents at to) at 0 ≡ to =
+        get_or-set_same parents at to 0 (omega (arith, is.length_is)) in
         subst (λ w. get_or (set parents at to) w 0 ≤ w) (sym same) (omega (arith, here))
     | inr other ↦ omega (arith, get_or-set_other parents at u to 0 other, is.down u h)
   ];
   related = λ u h. elim (cases_eq u at) [
     | inl same ↦
-        let here : get_or (set parents at to) at 0 ≡ to = get_or-set_same parents at to 0 (omega (arith, is.length_is)) in
-        subst (λ w. AreRelated axes relations w (get_or (set parents at to) w 0)) (sym same) (subst (λ p. AreRelated axes relations at p) (sym here) r)
-    | inr other ↦ subst (λ p. AreRelated axes relations u p) (sym (get_or-set_other parents at u to 0 other)) (is.related u h)
+        let here : get_or (set parents at to) at 0 ≡ to =
+        get_or-set_same parents at to 0 (omega (arith, is.length_is)) in
+        subst (λ w. AreRelated axes relations w (get_or (set parents at to) w 0)) (sym same)
+        (subst (λ p. AreRelated axes relations at p) (sym here) r)
+    | inr other ↦ subst (λ p. AreRelated axes relations u p)
+        (sym (get_or-set_other parents at u to 0 other)) (is.related u h)
   ];
   waiting = is.waiting;
 }
 
 pub shrinks-trans : (a b c : MergeState) → Shrinks a b → Shrinks b c → Shrinks a c
-shrinks-trans a b c s t = record { axes = t.axes ∙ s.axes; relations = t.relations ∙ s.relations; shorter = omega (arith, s.shorter, t.shorter) }
+shrinks-trans a b c s t =
+    record {
+      axes = t.axes ∙ s.axes;
+      relations = t.relations ∙ s.relations;
+      shorter = omega (arith, s.shorter, t.shorter);
+    }
 
 pub shrinks-same : (a : MergeState) → Shrinks a a
 shrinks-same a = record { axes = refl; relations = refl; shorter = omega arith }
 
-pub shrinks-pointed : (a b : MergeState) (at to : ℕ) → IsPointed a b at to → to ≤ get_or a.parents at 0 → Shrinks a b
+pub shrinks-pointed : (a b : MergeState) (at to : ℕ) → IsPointed a b at to
+    → to ≤ get_or a.parents at 0 → Shrinks a b
 shrinks-pointed a b at to p le = record {
   axes = p.axes;
   relations = p.relations;
@@ -78,16 +111,24 @@ shrinks-pointed a b at to p le = record {
 }
 
 -- the same box under another name
-pub move : (a b : MergeState) (u v : ℕ) → a.axes ≡ b.axes → a.relations ≡ b.relations → AreRelated a.axes a.relations u v → AreRelated b.axes b.relations u v
-move a b u v e f r = subst (λ rs. AreRelated b.axes rs u v) f (subst (λ axes. AreRelated axes a.relations u v) e r)
+pub move : (a b : MergeState) (u v : ℕ) → a.axes ≡ b.axes → a.relations ≡ b.relations
+    → AreRelated a.axes a.relations u v → AreRelated b.axes b.relations u v
+move a b u v e f r =
+    subst (λ rs. AreRelated b.axes rs u v) f (subst (λ axes. AreRelated axes a.relations u v) e r)
 
-pub step-at : (axes : List Axis) (relations : List Relation) (a b i u v : ℕ) → IsBox axes relations → i < length axes → AreRelated axes relations a b
+pub step-at : (axes : List Axis) (relations : List Relation) (a b i u v : ℕ) → IsBox axes relations
+    → i < length axes → AreRelated axes relations a b
     → u ≡ next_of axes i a → v ≡ next_of axes i b → AreRelated axes relations u v
 step-at axes relations a b i u v box lt r e f =
-    subst (λ w. AreRelated axes relations u w) (sym f) (subst (λ w. AreRelated axes relations w (next_of axes i b)) (sym e) (step axes relations a b i box lt r))
+    subst (λ w. AreRelated axes relations u w) (sym f)
+    (subst (λ w. AreRelated axes relations w (next_of axes i b)) (sym e)
+    (step axes relations a b i box lt r))
 
-pub gap-from : (axes : List Axis) (relations : List Relation) (parents : List ℕ) (u v x y : ℕ) → AreFirsts axes parents → u < size_of axes → v < size_of axes
-    → x ≡ slice_index parents u → y ≡ slice_index parents v → x ≤ u → y ≤ v → AreRelated axes relations u x → AreRelated axes relations v y → AreRelated axes relations u v → x ≢ y
+pub gap-from : (axes : List Axis) (relations : List Relation) (parents : List ℕ) (u v x y : ℕ)
+    → AreFirsts axes parents → u < size_of axes → v < size_of axes
+    → x ≡ slice_index parents u → y ≡ slice_index parents v → x ≤ u → y ≤ v
+    → AreRelated axes relations u x → AreRelated axes relations v y
+    → AreRelated axes relations u v → x ≢ y
     → IsGap axes relations parents x y
 gap-from axes relations parents u v x y firsts hu hv ex ey lx ly rx ry r ne = record {
   x_in = omega arith;
@@ -95,14 +136,17 @@ gap-from axes relations parents u v x y firsts hu hv ex ey lx ly rx ry r ne = re
   x_first = ap (slice_index parents) ex ∙ firsts u hu ∙ sym ex;
   y_first = ap (slice_index parents) ey ∙ firsts v hv ∙ sym ey;
   differ = ne;
-  related = chain axes relations x u y (turn axes relations u x rx) (chain axes relations u v y r ry);
+  related =
+      chain axes relations x u y (turn axes relations u x rx) (chain axes relations u v y r ry);
 }
 
 -- one vector more points to the first of its class
-pub flat-more : (parents : List ℕ) (i above : ℕ) → i < length parents → ((u : ℕ) → u < length parents → get_or parents u 0 ≤ u)
+pub flat-more : (parents : List ℕ) (i above : ℕ) → i < length parents
+    → ((u : ℕ) → u < length parents → get_or parents u 0 ≤ u)
     → above ≡ get_or parents (get_or parents i 0) 0
     → ((u : ℕ) → u < i → get_or parents (get_or parents u 0) 0 ≡ get_or parents u 0)
-    → (u : ℕ) → u < i + 1 → get_or (set parents i above) (get_or (set parents i above) u 0) 0 ≡ get_or (set parents i above) u 0
+    → (u : ℕ) → u < i + 1 → get_or (set parents i above) (get_or (set parents i above) u 0) 0
+    ≡ get_or (set parents i above) u 0
 flat-more parents i above lt down is firsts u h = elim (cases_eq u i) [
   | inl same ↦ rw same (at_i)
   | inr other ↦
@@ -110,13 +154,15 @@ flat-more parents i above lt down is firsts u h = elim (cases_eq u i) [
       let low = down u (omega arith) in
       let apart : get_or parents u 0 ≢ i = λ e. absurd (omega (arith, e)) in
       ap (λ w. get_or (set parents i above) w 0) (get_or-set_other parents i u above 0 other)
-      ∙ get_or-set_other parents i (get_or parents u 0) above 0 apart ∙ firsts u before ∙ sym (get_or-set_other parents i u above 0 other)
+      ∙ get_or-set_other parents i (get_or parents u 0) above 0 apart ∙ firsts u before
+      ∙ sym (get_or-set_other parents i u above 0 other)
 ]
   where
     here : get_or (set parents i above) i 0 ≡ above
     here = get_or-set_same parents i above 0 lt
 
-    at_i : get_or (set parents i above) (get_or (set parents i above) i 0) 0 ≡ get_or (set parents i above) i 0
+    at_i : get_or (set parents i above) (get_or (set parents i above) i 0) 0
+        ≡ get_or (set parents i above) i 0
     at_i = ap (λ w. get_or (set parents i above) w 0) here ∙ fixed ∙ sym here
       where
         fixed : get_or (set parents i above) above 0 ≡ above
@@ -129,22 +175,36 @@ flat-more parents i above lt down is firsts u h = elim (cases_eq u i) [
               let under : get_or parents i 0 < i = omega (arith, lower) in
               let lower_still = down (get_or parents i 0) (omega arith) in
               let apart : above ≢ i = λ e. absurd (omega (arith, e, is)) in
-              get_or-set_other parents i above above 0 apart ∙ ap (λ w. get_or parents w 0) is ∙ firsts (get_or parents i 0) under ∙ sym is
+              get_or-set_other parents i above above 0 apart ∙ ap (λ w. get_or parents w 0) is
+              ∙ firsts (get_or parents i 0) under ∙ sym is
         ]
 
 abbrev pub no_relation : Relation
 no_relation = record { left = []; right = [] }
 
 -- each vector by itself
-pub fresh-merging : (axes : List Axis) (relations : List Relation) (parents : List ℕ) (pending : List (ℕ × ℕ)) → IsBox axes relations → length parents ≡ size_of axes
-    → ((i : ℕ) → i < size_of axes → slice_index parents i ≡ i) → pending ≡ [] → IsMerging axes relations parents pending
+pub fresh-merging : (axes : List Axis) (relations : List Relation) (parents : List ℕ)
+    (pending : List (ℕ × ℕ)) → IsBox axes relations → length parents ≡ size_of axes
+    → ((i : ℕ) → i < size_of axes → slice_index parents i ≡ i) → pending ≡ []
+    → IsMerging axes relations parents pending
 fresh-merging axes relations parents pending box len same none = record {
   box = box;
   length_is = len;
   down = λ u h. omega (arith, same u h);
-  related = λ u h. subst (λ w. AreRelated axes relations u w) (sym (same u h)) (itself axes relations u);
-  waiting = subst (λ ps. All (λ p. (p.0 < size_of axes) × (p.1 < size_of axes) × AreRelated axes relations p.0 p.1) ps) (sym none) (λ k d lt. absurd (omega arith));
+  related =
+      λ u h. subst (λ w. AreRelated axes relations u w) (sym (same u h)) (itself axes relations u);
+  waiting =
+      subst (λ ps. All (λ p. (p.0 < size_of axes) × (p.1 < size_of axes)
+      × AreRelated axes relations p.0 p.1) ps) (sym none) (λ k d lt. absurd (omega arith));
 }
 
-pub roots-of : (axes : List Axis) (relations : List Relation) (classes : List ℕ) → AreClasses axes relations classes → AreRoots axes classes
-roots-of axes relations classes are = record { axes_are = are.box.axes_are; small = are.box.small; length_is = are.length_is; down = are.down; firsts = are.firsts }
+pub roots-of : (axes : List Axis) (relations : List Relation) (classes : List ℕ)
+    → AreClasses axes relations classes → AreRoots axes classes
+roots-of axes relations classes are =
+    record {
+      axes_are = are.box.axes_are;
+      small = are.box.small;
+      length_is = are.length_is;
+      down = are.down;
+      firsts = are.firsts;
+    }

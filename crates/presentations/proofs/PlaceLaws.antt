@@ -23,12 +23,14 @@ pub partial-none : (v : List ℕ) → partial v 0 0 ≡ zeros (length v)
 partial-none [] = refl
 partial-none (x ∷ v) = refl
 
-pub partial-more : (v : List ℕ) (i k : ℕ) → i < length v → bump (partial v i k) i ≡ partial v i (k + 1)
+pub partial-more : (v : List ℕ) (i k : ℕ) → i < length v
+    → bump (partial v i k) i ≡ partial v i (k + 1)
 partial-more [] i k lt = absurd (omega arith)
 partial-more (x ∷ v) zero k lt = refl
 partial-more (x ∷ v) (suc i) k lt = ap (λ w. x ∷ w) (partial-more v i k (omega arith))
 
-pub partial-next : (v : List ℕ) (i k : ℕ) → i < length v → k ≡ get_or v i 0 → partial v i k ≡ partial v (i + 1) 0
+pub partial-next : (v : List ℕ) (i k : ℕ) → i < length v → k ≡ get_or v i 0
+    → partial v i k ≡ partial v (i + 1) 0
 partial-next [] i k lt e = absurd (omega arith)
 partial-next (x ∷ v) zero k lt e =
     let one : 0 + 1 ≡ suc zero = omega arith in
@@ -42,11 +44,13 @@ partial-all [] i le = refl
 partial-all (x ∷ v) zero le = absurd (omega arith)
 partial-all (x ∷ v) (suc i) le = ap (λ w. x ∷ w) (partial-all v i (omega arith))
 
-pub length-word : (axes : List Axis) (word : List ℕ) → length (vector_on (letters_in axes) word) ≡ length axes
+pub length-word : (axes : List Axis) (word : List ℕ) → length (vector_on (letters_in axes) word)
+    ≡ length axes
 length-word axes word = length-map (letters_in axes) _ ∙ length-map axes _
 
 pub word-at : (axes : List Axis) (word : List ℕ) (i : ℕ) (d : Axis) → i < length axes
-    → get_or (vector_on (letters_in axes) word) i 0 ≡ slice_index word (slice_index_or axes i d).letter
+    → get_or (vector_on (letters_in axes) word) i 0
+    ≡ slice_index word (slice_index_or axes i d).letter
 word-at [] word i d lt = absurd (omega arith)
 word-at (a ∷ axes) word zero d lt = refl
 word-at (a ∷ axes) word (suc i) d lt = word-at axes word i d (omega arith)

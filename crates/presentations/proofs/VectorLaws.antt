@@ -62,19 +62,22 @@ pub bump-plus : (v : List ℕ) (n i : ℕ) → length v ≡ n → i < n → plus
 bump-plus v zero i e lt = absurd (omega arith)
 bump-plus [] (suc n) i e lt = absurd (omega arith)
 bump-plus (x ∷ v) (suc n) zero e lt = ap (λ b. (x + 1) ∷ b) (plus-zeros v n (omega arith))
-bump-plus (x ∷ v) (suc n) (suc i) e lt = ap₂ (λ a b. a ∷ b) (zero_right x) (bump-plus v n i (omega arith) (omega arith))
+bump-plus (x ∷ v) (suc n) (suc i) e lt =
+    ap₂ (λ a b. a ∷ b) (zero_right x) (bump-plus v n i (omega arith) (omega arith))
   where
     zero_right : (x : ℕ) → x + 0 ≡ x
     zero_right x = omega arith
 
-pub plus-bump : (u v : List ℕ) (i : ℕ) → length u ≡ length v → i < length v → plus u (bump v i) ≡ bump (plus u v) i
+pub plus-bump : (u v : List ℕ) (i : ℕ) → length u ≡ length v → i < length v
+    → plus u (bump v i) ≡ bump (plus u v) i
 plus-bump u [] i e lt = absurd (omega arith)
 plus-bump [] (y ∷ v) i e lt = absurd (omega arith)
 plus-bump (x ∷ u) (y ∷ v) zero e lt = ap (λ a. a ∷ plus u v) (moved x y)
   where
     moved : (x y : ℕ) → x + (y + 1) ≡ x + y + 1
     moved x y = omega arith
-plus-bump (x ∷ u) (y ∷ v) (suc i) e lt = ap (λ b. (x + y) ∷ b) (plus-bump u v i (omega arith) (omega arith))
+plus-bump (x ∷ u) (y ∷ v) (suc i) e lt =
+    ap (λ b. (x + y) ∷ b) (plus-bump u v i (omega arith) (omega arith))
 
 -- each vector comes from the empty word's by one letter more at a time
 pub by_letters : (n : ℕ) (P : List ℕ → Type 0) → P (zeros n)
@@ -84,10 +87,12 @@ by_letters zero P none more [] e = none
 by_letters zero P none more (x ∷ v) e = absurd (omega arith)
 by_letters (suc n) P none more [] e = absurd (omega arith)
 by_letters (suc n) P none more (x ∷ v) e =
-    by_letters n (λ w. P (x ∷ w)) (heads x) (λ w i len lt p. more (x ∷ w) (suc i) (ap suc len) (omega arith) p) v (omega arith)
+    by_letters n (λ w. P (x ∷ w)) (heads x)
+    (λ w i len lt p. more (x ∷ w) (suc i) (ap suc len) (omega arith) p) v (omega arith)
   where
     heads : (x : ℕ) → P (x ∷ zeros n)
     heads zero = none
     heads (suc x) =
         let next : x + 1 ≡ suc x = omega arith in
-        subst (λ y. P (y ∷ zeros n)) next (more (x ∷ zeros n) 0 (ap suc (length-zeros n)) (omega arith) (heads x))
+        subst (λ y. P (y ∷ zeros n)) next
+        (more (x ∷ zeros n) 0 (ap suc (length-zeros n)) (omega arith) (heads x))

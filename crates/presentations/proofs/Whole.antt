@@ -37,14 +37,18 @@ module _ (q : ℕ) (times : ℕ → ℕ → ℕ) (m : Monoid q times) where
   product-in : (gs v : List ℕ) → Below gs → product_at times gs v < q
   product-in [] v h = m.some
   product-in (g ∷ gs) [] h = m.some
-  product-in (g ∷ gs) (x ∷ v) h = m.closed (power_of 0 times g x) (product_at times gs v) (power-in g x h.0) (product-in gs v h.1)
+  product-in (g ∷ gs) (x ∷ v) h =
+      m.closed (power_of 0 times g x) (product_at times gs v) (power-in g x h.0)
+      (product-in gs v h.1)
 
   pub product-none : (gs : List ℕ) (n : ℕ) → n ≡ length gs → product_at times gs (zeros n) ≡ 0
   product-none [] n e = refl
   product-none (g ∷ gs) zero e = refl
-  product-none (g ∷ gs) (suc n) e = ap (times 0) (product-none gs n (omega arith)) ∙ m.identity 0 m.some
+  product-none (g ∷ gs) (suc n) e = ap (times 0) (product-none gs n (omega arith))
+      ∙ m.identity 0 m.some
 
-  pub product-bump : (gs v : List ℕ) (i : ℕ) → Below gs → length v ≡ length gs → i < length gs → product_at times gs (bump v i) ≡ times (product_at times gs v) (get_or gs i 0)
+  pub product-bump : (gs v : List ℕ) (i : ℕ) → Below gs → length v ≡ length gs → i < length gs
+      → product_at times gs (bump v i) ≡ times (product_at times gs v) (get_or gs i 0)
   product-bump [] v i h e lt = absurd (omega arith)
   product-bump (g ∷ gs) [] i h e lt = absurd (omega arith)
   product-bump (g ∷ gs) (x ∷ v) zero h e lt =
@@ -53,7 +57,8 @@ module _ (q : ℕ) (times : ℕ → ℕ → ℕ) (m : Monoid q times) where
       let hp = power-in g x h.0 in
       let hr = product-in gs v h.1 in
       let next : x + 1 ≡ suc x = omega arith in
-      ap (λ n. times (power_of 0 times g n) r) next ∙ m.associates g p r h.0 hp hr ∙ m.commutes g (times p r) h.0 (m.closed p r hp hr)
+      ap (λ n. times (power_of 0 times g n) r) next ∙ m.associates g p r h.0 hp hr
+      ∙ m.commutes g (times p r) h.0 (m.closed p r hp hr)
   product-bump (g ∷ gs) (x ∷ v) (suc i) h e lt =
       let p = power_of 0 times g x in
       let r = product_at times gs v in
@@ -78,16 +83,26 @@ take-length zero xs le = refl
 take-length (suc n) [] le = absurd (omega arith)
 take-length (suc n) (x ∷ xs) le = ap suc (take-length n xs (omega arith))
 
-below-all : (q : ℕ) (times : ℕ → ℕ → ℕ) (m : Monoid q times) (gs : List ℕ) → ((i : ℕ) → i < length gs → get_or gs i 0 < q) → Below q times m gs
+below-all : (q : ℕ) (times : ℕ → ℕ → ℕ) (m : Monoid q times) (gs : List ℕ)
+    → ((i : ℕ) → i < length gs → get_or gs i 0 < q) → Below q times m gs
 below-all q times m [] h = tt
-below-all q times m (g ∷ gs) h = (h 0 (omega arith), below-all q times m gs (λ i lt. h (suc i) (omega arith)))
+below-all q times m (g ∷ gs) h =
+    (h 0 (omega arith), below-all q times m gs (λ i lt. h (suc i) (omega arith)))
 
 -- places row after row are in the order of keys
 key-below : (n j k : ℕ) → 0 < n → j < k → KeyBelow (j / n, j % n + 1) (k / n, k % n + 1)
 key-below n j k some lt = elim (cases_lt (j / n) (k / n)) [
   | inl low ↦ inl low
   | inr high ↦ elim (cases_lt (k / n) (j / n)) [
-    | inl wrong ↦ absurd (omega (arith, mul-le (k / n + 1) n (j / n) n (omega arith) (omega arith), wide (k / n) n, div-add-mod' j n, div-add-mod' k n, mod_below k n some))
+    | inl wrong ↦ absurd
+        (omega (
+          arith,
+          mul-le (k / n + 1) n (j / n) n (omega arith) (omega arith),
+          wide (k / n) n,
+          div-add-mod' j n,
+          div-add-mod' k n,
+          mod_below k n some,
+        ))
     | inr same ↦
         let e : j / n ≡ k / n = omega arith in
         inr (e, omega (arith, ap (λ q. q * n) e, div-add-mod' j n, div-add-mod' k n))
@@ -97,12 +112,21 @@ key-below n j k some lt = elim (cases_lt (j / n) (k / n)) [
     wide : (q n : ℕ) → (q + 1) * n ≡ q * n + n
     wide q n = grind arith
 
-key-least : (n f h k : ℕ) → 1 ≤ h → h ≤ n → k ≤ f * n + (h - 1) → KeyBelow (f, h) (k / n, k % n + 1) → ⊥
-key-least n f h k one h_in low (inl less) = absurd (omega (arith, mul-le (f + 1) n (k / n) n (omega arith) (omega arith), wide f n, div-add-mod' k n))
+key-least : (n f h k : ℕ) → 1 ≤ h → h ≤ n → k ≤ f * n + (h - 1) → KeyBelow (f, h) (k / n, k % n + 1)
+    → ⊥
+key-least n f h k one h_in low (inl less) =
+    absurd
+    (omega (
+      arith,
+      mul-le (f + 1) n (k / n) n (omega arith) (omega arith),
+      wide f n,
+      div-add-mod' k n,
+    ))
   where
     wide : (q n : ℕ) → (q + 1) * n ≡ q * n + n
     wide q n = grind arith
-key-least n f h k one h_in low (inr same) = absurd (omega (arith, ap (λ q. q * n) same.0, same.1, div-add-mod' k n))
+key-least n f h k one h_in low (inr same) =
+    absurd (omega (arith, ap (λ q. q * n) same.0, same.1, div-add-mod' k n))
 
 module _ (axes : List Axis) (relations : List Relation) (classes firsts keys products rows : List ℕ)
     (are : AreClasses axes relations classes) (num : IsNumbering axes classes firsts keys products)
@@ -134,11 +158,16 @@ module _ (axes : List Axis) (relations : List Relation) (classes firsts keys pro
   letter-name : (i : ℕ) → i < n → IsName (get_or gens i 0) (bump (zeros n) i)
   letter-name i lt =
       let at : 0 * n + i ≡ i = omega arith in
-      subst (λ e. IsName e (bump (zeros n) i)) (ap (slice_index products) at ∙ sym (take-get n products i lt))
-      (names-bump axes relations classes firsts keys products rows are num is 0 i (zeros n) (length-zeros n) lt (names-none axes relations classes firsts keys products rows are num is))
+      subst (λ e. IsName e (bump (zeros n) i))
+      (ap (slice_index products) at ∙ sym (take-get n products i lt))
+      (names-bump axes relations classes firsts keys products rows are num is 0 i (zeros n)
+      (length-zeros n) lt
+      (names-none axes relations classes firsts keys products rows are num is))
 
   gens-below : Below q times monoid gens
-  gens-below = below-all q times monoid gens (λ i lt. (letter-name i (omega (arith, take-length n products enough))).within)
+  gens-below =
+      below-all q times monoid gens
+      (λ i lt. (letter-name i (omega (arith, take-length n products enough))).within)
 
   pub product-name : (v : List ℕ) → length v ≡ n → IsName (product_at times gens v) v
   product-name v len = by_letters n (λ w. IsName (product_at times gens w) w) start more v len
@@ -147,14 +176,25 @@ module _ (axes : List Axis) (relations : List Relation) (classes firsts keys pro
       gens-length = take-length n products enough
 
       start : IsName (product_at times gens (zeros n)) (zeros n)
-      start = subst (λ e. IsName e (zeros n)) (sym (product-none q times monoid gens n (sym gens-length))) (names-none axes relations classes firsts keys products rows are num is)
+      start =
+          subst (λ e. IsName e (zeros n))
+          (sym (product-none q times monoid gens n (sym gens-length)))
+          (names-none axes relations classes firsts keys products rows are num is)
 
-      more : (w : List ℕ) (i : ℕ) → length w ≡ n → i < n → IsName (product_at times gens w) w → IsName (product_at times gens (bump w i)) (bump w i)
+      more : (w : List ℕ) (i : ℕ) → length w ≡ n → i < n → IsName (product_at times gens w) w
+          → IsName (product_at times gens (bump w i)) (bump w i)
       more w i e lt nw =
-          let sum = plus-bump w (zeros n) i (e ∙ sym (length-zeros n)) (subst (λ k. i < k) (sym (length-zeros n)) lt) ∙ ap (λ u. bump u i) (plus-zeros w n e) in
-          subst (λ p. IsName p (bump w i)) (sym (product-bump q times monoid gens w i gens-below (e ∙ sym gens-length) (subst (λ k. i < k) (sym gens-length) lt)))
+          let sum =
+          plus-bump w (zeros n) i (e ∙ sym (length-zeros n))
+          (subst (λ k. i < k) (sym (length-zeros n)) lt) ∙ ap (λ u. bump u i) (plus-zeros w n e)
+          in
+          subst (λ p. IsName p (bump w i))
+          (sym (product-bump q times monoid gens w i gens-below (e ∙ sym gens-length)
+          (subst (λ k. i < k) (sym gens-length) lt)))
           (subst (λ u. IsName (times (product_at times gens w) (get_or gens i 0)) u) sum
-          (names-plus axes relations classes firsts keys products rows are num is (product_at times gens w) (get_or gens i 0) w (bump (zeros n) i) e (length-bump (zeros n) i ∙ length-zeros n) nw (letter-name i lt)))
+          (names-plus axes relations classes firsts keys products rows are num is
+          (product_at times gens w) (get_or gens i 0) w (bump (zeros n) i) e
+          (length-bump (zeros n) i ∙ length-zeros n) nw (letter-name i lt)))
 
   -- an element times a generator
   step : (f i : ℕ) → f < q → i < n → times f (get_or gens i 0) ≡ slice_index products (f * n + i)
@@ -162,10 +202,16 @@ module _ (axes : List Axis) (relations : List Relation) (classes firsts keys pro
       let F = first-vector axes relations classes firsts keys products rows are num is f in
       let len = length-first axes relations classes firsts keys products rows are num is f in
       let nf = names-first axes relations classes firsts keys products rows are num is f f_in in
-      let sum = plus-bump F (zeros n) i (len ∙ sym (length-zeros n)) (subst (λ k. i < k) (sym (length-zeros n)) i_in) ∙ ap (λ u. bump u i) (plus-zeros F n len) in
-      one-name axes relations classes firsts keys products rows are num is (times f (get_or gens i 0)) (slice_index products (f * n + i)) (bump F i)
+      let sum =
+      plus-bump F (zeros n) i (len ∙ sym (length-zeros n))
+      (subst (λ k. i < k) (sym (length-zeros n)) i_in) ∙ ap (λ u. bump u i) (plus-zeros F n len)
+      in
+      one-name axes relations classes firsts keys products rows are num is
+      (times f (get_or gens i 0)) (slice_index products (f * n + i)) (bump F i)
       (subst (λ u. IsName (times f (get_or gens i 0)) u) sum
-      (names-plus axes relations classes firsts keys products rows are num is f (get_or gens i 0) F (bump (zeros n) i) len (length-bump (zeros n) i ∙ length-zeros n) nf (letter-name i i_in)))
+      (names-plus axes relations classes firsts keys products rows are num is f (get_or gens i 0) F
+      (bump (zeros n) i) len (length-bump (zeros n) i ∙ length-zeros n) nf
+      (letter-name i i_in)))
       (names-bump axes relations classes firsts keys products rows are num is f i F len i_in nf)
 
   -- its place as an element and the number of a generator
@@ -174,13 +220,17 @@ module _ (axes : List Axis) (relations : List Relation) (classes firsts keys pro
 
   -- the letters are some where an element has a key
   letters-some : (e : ℕ) → 0 < e → e < q → 0 < n
-  letters-some e some lt = positive n (slice_index keys (e - 1)) q (length products) (num.progress.keys_in (e - 1) (omega (arith, num.progress.keys_are))).0 num.whole
+  letters-some e some lt =
+      positive n (slice_index keys (e - 1)) q (length products)
+      (num.progress.keys_in (e - 1) (omega (arith, num.progress.keys_are))).0 num.whole
     where
       positive : (n k q l : ℕ) → k < l → l ≡ q * n → 0 < n
       positive zero k q l lt e = absurd (omega (arith, e))
       positive (suc n) k q l lt e = omega arith
 
-  product-of-key : (e : ℕ) → 0 < e → e < q → times (slice_index keys (e - 1) / n) (slice_index gens (slice_index keys (e - 1) % n + 1 - 1)) ≡ e
+  product-of-key : (e : ℕ) → 0 < e → e < q
+      → times (slice_index keys (e - 1) / n)
+      (slice_index gens (slice_index keys (e - 1) % n + 1 - 1)) ≡ e
   product-of-key e some lt =
       let K = slice_index keys (e - 1) in
       let has = num.progress.keys_in (e - 1) (omega (arith, num.progress.keys_are)) in
@@ -198,59 +248,93 @@ module _ (axes : List Axis) (relations : List Relation) (classes firsts keys pro
   numbered = (
     key,
     record {
-      parent = λ e some lt. omega (arith, (num.progress.keys_in (e - 1) (omega (arith, num.progress.keys_are))).2);
-      heap = λ e some lt. (omega arith, omega (arith, mod_below (slice_index keys (e - 1)) n (letters-some e some lt), take-length n products enough));
+      parent =
+          λ e some lt.
+          omega (arith, (num.progress.keys_in (e - 1) (omega (arith, num.progress.keys_are))).2);
+      heap =
+          λ e some lt. (
+            omega arith,
+            omega (
+              arith,
+              mod_below (slice_index keys (e - 1)) n (letters-some e some lt),
+              take-length n products enough,
+            ),
+          );
       product = product-of-key;
       rising = λ d e some lt e_in.
-          key-below n (slice_index keys (d - 1)) (slice_index keys (e - 1)) (letters-some e (omega arith) e_in)
-          (num.progress.rising (d - 1) (e - 1) (omega arith) (omega (arith, num.progress.keys_are)));
+          key-below n (slice_index keys (d - 1)) (slice_index keys (e - 1))
+          (letters-some e (omega arith) e_in)
+          (num.progress.rising (d - 1) (e - 1) (omega arith)
+          (omega (arith, num.progress.keys_are)));
       least = λ f h f_in one h_in some before.
           let same = step f (h - 1) f_in (omega (arith, take-length n products enough)) in
           let room = place-in f (h - 1) f_in (omega (arith, take-length n products enough)) in
           let low = num.progress.least (f * n + (h - 1)) room (subst (λ p. 0 < p) same some) in
-          key-least n f h (slice_index keys (times f (slice_index gens (h - 1)) - 1)) one (omega (arith, take-length n products enough))
+          key-least n f h (slice_index keys (times f (slice_index gens (h - 1)) - 1)) one
+          (omega (arith, take-length n products enough))
           (subst (λ p. slice_index keys (p - 1) ≤ f * n + (h - 1)) (sym same) low) before;
     },
   )
     where
       place-in : (f i : ℕ) → f < q → i < n → f * n + i < length products
-      place-in f i f_in i_in = subst (λ l. f * n + i < l) (mul_comm n q ∙ sym num.whole) (mul-add-lt f n i q f_in i_in)
+      place-in f i f_in i_in =
+          subst (λ l. f * n + i < l) (mul_comm n q ∙ sym num.whole) (mul-add-lt f n i q f_in i_in)
 
   pub table-of : (generators : List Generator) → letters_in axes ≡ letters_of relations
-      → map (λ g. g.letter) generators ≡ map (λ a. 97 + a) (letters_in axes) → map (λ g. g.element) generators ≡ gens
+      → map (λ g. g.letter) generators ≡ map (λ a. 97 + a) (letters_in axes)
+      → map (λ g. g.element) generators ≡ gens
       → IsTableOf relations (record { order = q; entries = rows }) generators
   table-of generators letters named elements =
-      let len : length (letters_of relations) ≡ n = sym (ap length letters) ∙ length-map axes (λ a. a.letter) in
+      let len : length (letters_of relations) ≡ n =
+      sym (ap length letters) ∙ length-map axes (λ a. a.letter) in
       record {
         letters = named ∙ ap (map (λ a. 97 + a)) letters;
         exact = λ u v eu ev. rw elements (
-            subst (λ ls. (product_at times gens u ≡ product_at times gens v) ↔ Related (length ls) (pairs_on ls relations) u v) letters
-            (subst (λ k. (product_at times gens u ≡ product_at times gens v) ↔ Related k (pairs_in axes relations) u v) (sym (length-map axes (λ a. a.letter)))
-            (names-exact axes relations classes firsts keys products rows are num is (product_at times gens u) (product_at times gens v) u v (eu ∙ len) (ev ∙ len)
+            subst (λ ls. (product_at times gens u ≡ product_at times gens v)
+            ↔ Related (length ls) (pairs_on ls relations) u v) letters
+            (subst (λ k. (product_at times gens u ≡ product_at times gens v)
+            ↔ Related k (pairs_in axes relations) u v) (sym (length-map axes (λ a. a.letter)))
+            (names-exact axes relations classes firsts keys products rows are num is
+            (product_at times gens u) (product_at times gens v) u v (eu ∙ len) (ev ∙ len)
             (product-name u (eu ∙ len)) (product-name v (ev ∙ len)))));
         reached = λ x lt.
             let v = first-vector axes relations classes firsts keys products rows are num is x in
             let e = length-first axes relations classes firsts keys products rows are num is x in (
               v,
               e ∙ sym len,
-              rw elements (one-name axes relations classes firsts keys products rows are num is (product_at times gens v) x v (product-name v e)
+              rw elements
+                  (one-name axes relations classes firsts keys products rows are num is
+                  (product_at times gens v) x v (product-name v e)
                   (names-first axes relations classes firsts keys products rows are num is x lt)),
             );
         numbered = rw elements numbered;
       }
 
 -- classes of which there are more than 256
-pub more-elements : (axes : List Axis) (relations : List Relation) (classes : List ℕ) → AreClasses axes relations classes → letters_in axes ≡ letters_of relations
+pub more-elements : (axes : List Axis) (relations : List Relation) (classes : List ℕ)
+    → AreClasses axes relations classes → letters_in axes ≡ letters_of relations
     → HasManyClasses axes classes → HasMoreElements relations 256
 more-elements axes relations classes are letters many =
-    let len : length axes ≡ length (letters_of relations) = sym (length-map axes (λ a. a.letter)) ∙ ap length letters in
+    let len : length axes ≡ length (letters_of relations) =
+    sym (length-map axes (λ a. a.letter)) ∙ ap length letters in
     record {
       vector = λ i. vector_at axes (many.first i);
       long = λ i le. length-vector axes (many.first i) ∙ len;
-      apart = λ i j lt le r. many.apart i j lt le (sym (first i (omega arith)) ∙ (class-exact axes relations classes are _ _ (length-vector axes (many.first i)) (length-vector axes (many.first j))).1
-          (subst (λ k. Related k (pairs_in axes relations) (vector_at axes (many.first i)) (vector_at axes (many.first j))) (sym len)
-          (subst (λ ls. Related (length (letters_of relations)) (pairs_on ls relations) (vector_at axes (many.first i)) (vector_at axes (many.first j))) (sym letters) r)) ∙ first j le);
+      apart =
+          λ i j lt le r.
+          many.apart i j lt le
+          (sym (first i (omega arith))
+          ∙ (class-exact axes relations classes are _ _ (length-vector axes (many.first i))
+          (length-vector axes (many.first j))).1
+          (subst (λ k. Related k (pairs_in axes relations) (vector_at axes (many.first i))
+          (vector_at axes (many.first j))) (sym len)
+          (subst
+          (λ ls. Related (length (letters_of relations)) (pairs_on ls relations)
+          (vector_at axes (many.first i)) (vector_at axes (many.first j))) (sym letters) r))
+          ∙ first j le);
     }
   where
-    first : (i : ℕ) → i ≤ 256 → slice_index classes (place_of axes (vector_at axes (many.first i))) ≡ many.first i
-    first i le = let h = many.is i le in ap (slice_index classes) (place-vector 1 axes (many.first i) are.box.axes_are h.0) ∙ h.1
+    first : (i : ℕ) → i ≤ 256 → slice_index classes (place_of axes (vector_at axes (many.first i)))
+        ≡ many.first i
+    first i le = let h = many.is i le in
+        ap (slice_index classes) (place-vector 1 axes (many.first i) are.box.axes_are h.0) ∙ h.1

@@ -14,5 +14,7 @@ pub data Related (n : ℕ) (relations : List (List ℕ × List ℕ)) : List ℕ 
   Given : (r : List ℕ × List ℕ) → Contains relations r → Related n relations r.0 r.1
   Same : (u : List ℕ) → length u ≡ n → Related n relations u u
   Turned : (u v : List ℕ) → Related n relations u v → Related n relations v u
-  Chained : (u v w : List ℕ) → Related n relations u v → Related n relations v w → Related n relations u w
-  Beside : (u v w : List ℕ) → length w ≡ n → Related n relations u v → Related n relations (plus u w) (plus v w)
+  Chained : (u v w : List ℕ) → Related n relations u v → Related n relations v w
+      → Related n relations u w
+  Beside : (u v w : List ℕ) → length w ≡ n → Related n relations u v
+      → Related n relations (plus u w) (plus v w)

@@ -22,7 +22,8 @@ pub record HasPower (relations : List Relation) (letter most back k : ℕ) : Typ
   pub is : (d : Relation) → IsPowerRelation (slice_index_or relations k d) letter most back
 
 abbrev pub HasSomePower : List Relation → ℕ → Type 0
-HasSomePower relations letter = (most : ℕ) × (back : ℕ) × (k : ℕ) × HasPower relations letter most back k
+HasSomePower relations letter = (most : ℕ) × (back : ℕ) × (k : ℕ)
+    × HasPower relations letter most back k
 
 -- the pair with the smaller first number, where there are two
 abbrev pub lower_of : Option (ℕ × ℕ) → Option (ℕ × ℕ) → Option (ℕ × ℕ)
@@ -32,7 +33,8 @@ lower_of (Some before) (Some after) = if nat_le before.0 after.0 then Some befor
 
 -- the least larger exponent of such a relation among the first n
 abbrev pub IsLeastPower : List Relation → ℕ → ℕ → Option (ℕ × ℕ) → Type 0
-IsLeastPower relations letter n None = (most back k : ℕ) → k < n → HasPower relations letter most back k → ⊥
+IsLeastPower relations letter n None = (most back k : ℕ) → k < n
+    → HasPower relations letter most back k → ⊥
 IsLeastPower relations letter n (Some p) =
     ((k : ℕ) × HasPower relations letter p.0 p.1 k) × (p.0 < 256)
     × ((most back k : ℕ) → k < n → HasPower relations letter most back k → p.0 ≤ most)
@@ -56,7 +58,8 @@ pub record IsLeastLarger (relations : List Relation) (letter m : ℕ) : Type 0 w
 -- the product of the letters' least larger exponents is n
 abbrev pub IsBoxSize : List Relation → List ℕ → ℕ → Type 0
 IsBoxSize relations [] n = n ≡ 1
-IsBoxSize relations (letter ∷ letters) n = (m : ℕ) × (rest : ℕ) × IsLeastLarger relations letter m × IsBoxSize relations letters rest × (n ≡ m * rest)
+IsBoxSize relations (letter ∷ letters) n = (m : ℕ) × (rest : ℕ) × IsLeastLarger relations letter m
+    × IsBoxSize relations letters rest × (n ≡ m * rest)
 
 -- the least larger exponents of the letters that occur have a product above the limit
 pub record IsAboveLimit (relations : List Relation) (limit : ℕ) : Type 0 where
@@ -66,4 +69,5 @@ pub record IsAboveLimit (relations : List Relation) (limit : ℕ) : Type 0 where
 
 -- the letter has a least larger exponent
 abbrev pub HasLeastPower : List Relation → ℕ → Type 0
-HasLeastPower relations letter = (p : ℕ × ℕ) × IsLeastPower relations letter (length relations) (Some p)
+HasLeastPower relations letter =
+    (p : ℕ × ℕ) × IsLeastPower relations letter (length relations) (Some p)

@@ -17,26 +17,41 @@ product_at times (g ∷ gs) (x ∷ v) = times (power_of 0 times g x) (product_at
 
 -- the table with the generators' elements in place of those of the heaps 1, 2, ..
 abbrev pub as_claim : Grid → List ℕ → Claim
-as_claim table elements = record { order = table.order; times = times_in table; phi = λ h. slice_index elements (h - 1); portion = λ _. false }
+as_claim table elements =
+    record {
+      order = table.order;
+      times = times_in table;
+      phi = λ h. slice_index elements (h - 1);
+      portion = λ _. false;
+    }
 
--- The elements are numbered by least keys, as those of a certificate: a key is an element and the number of a generator, the first of
--- which is 1.
+-- The elements are numbered by least keys, as those of a certificate: a key is an element and the
+-- number of a generator, the first of which is 1.
 abbrev pub IsNumberedByLeastKeys : Grid → List ℕ → Type 0
-IsNumberedByLeastKeys table elements = (key : ℕ → ℕ × ℕ) × IsNumbered (as_claim table elements) (length elements) key
+IsNumberedByLeastKeys table elements =
+    (key : ℕ → ℕ × ℕ) × IsNumbered (as_claim table elements) (length elements) key
 
--- Each letter that occurs has an element; products of powers are equal exactly where the least congruence relates their exponents;
--- each element is such a product; and the elements are numbered by least keys.
-pub record IsTableOf (relations : List Relation) (table : Grid) (generators : List Generator) : Type 0 where
+-- Each letter that occurs has an element; products of powers are equal exactly where the least
+-- congruence relates their exponents; each element is such a product; and the elements are numbered
+-- by least keys.
+pub record IsTableOf (relations : List Relation) (table : Grid) (generators : List Generator) : Type
+    0 where
   pub letters : map (λ g. g.letter) generators ≡ map (λ a. 97 + a) (letters_of relations)
-  pub exact : (u v : List ℕ) → length u ≡ length (letters_of relations) → length v ≡ length (letters_of relations)
-      → (product_at (times_in table) (map (λ g. g.element) generators) u ≡ product_at (times_in table) (map (λ g. g.element) generators) v)
+  pub exact : (u v : List ℕ) → length u ≡ length (letters_of relations)
+      → length v ≡ length (letters_of relations)
+      → (product_at (times_in table) (map (λ g. g.element) generators) u
+      ≡ product_at (times_in table) (map (λ g. g.element) generators) v)
       ↔ Related (length (letters_of relations)) (pairs_on (letters_of relations) relations) u v
   pub reached : (x : ℕ) → x < table.order
-      → (v : List ℕ) × (length v ≡ length (letters_of relations)) × (product_at (times_in table) (map (λ g. g.element) generators) v ≡ x)
+      → (v : List ℕ) × (length v ≡ length (letters_of relations))
+      × (product_at (times_in table) (map (λ g. g.element) generators) v ≡ x)
   pub numbered : IsNumberedByLeastKeys table (map (λ g. g.element) generators)
 
--- The least congruence's monoid has more than n elements: there are n + 1 vectors of which it relates no two.
+-- The least congruence's monoid has more than n elements: there are n + 1 vectors of which it
+-- relates no two.
 pub record HasMoreElements (relations : List Relation) (n : ℕ) : Type 0 where
   pub vector : ℕ → List ℕ
   pub long : (i : ℕ) → i ≤ n → length (vector i) ≡ length (letters_of relations)
-  pub apart : (i j : ℕ) → i < j → j ≤ n → Related (length (letters_of relations)) (pairs_on (letters_of relations) relations) (vector i) (vector j) → ⊥
+  pub apart : (i j : ℕ) → i < j → j ≤ n
+      → Related (length (letters_of relations)) (pairs_on (letters_of relations) relations)
+      (vector i) (vector j) → ⊥

@@ -5,12 +5,15 @@ use Rattle.presentations.specs.declared.read.Relation.{Relation}
 
 -- the letter stands in some relation; the letters are 0 for a to 25 for z
 abbrev pub occurs : List Relation → ℕ → Bool
-occurs relations letter = list_any (λ r. nat_lt 0 (slice_index r.left letter) || nat_lt 0 (slice_index r.right letter)) relations
+occurs relations letter =
+    list_any (λ r. nat_lt 0 (slice_index r.left letter) || nat_lt 0 (slice_index r.right letter))
+    relations
 
 -- the first n letters that occur, in the order of the alphabet
 abbrev pub letters_below : List Relation → ℕ → List ℕ
 letters_below relations zero = []
-letters_below relations (suc n) = if occurs relations n then letters_below relations n ++ n ∷ [] else letters_below relations n
+letters_below relations (suc n) = if occurs relations n then letters_below relations n
+    ++ n ∷ [] else letters_below relations n
 
 -- the generators
 abbrev pub letters_of : List Relation → List ℕ
@@ -22,4 +25,5 @@ vector_on letters word = map (λ a. slice_index word a) letters
 
 -- the relations as pairs of vectors
 abbrev pub pairs_on : List ℕ → List Relation → List (List ℕ × List ℕ)
-pairs_on letters relations = map (λ r. (vector_on letters r.left, vector_on letters r.right)) relations
+pairs_on letters relations =
+    map (λ r. (vector_on letters r.left, vector_on letters r.right)) relations

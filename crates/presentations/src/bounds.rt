@@ -36,11 +36,13 @@ fn is_power(word: &[u8; 26], letter: u8) -> bool
     true
 }
 
-/// The larger and the smaller exponent, where the relation is one between two different powers of the letter.
+/// The larger and the smaller exponent, where the relation is one between two different powers of
+/// the letter.
 fn power_of(relation: &Relation, letter: u8) -> Option<(usize, usize)>
     requires { letter < 26 }
     ensures some { IfSome result (λ p. IsPowerRelation relation.now letter p.0 p.1 × (p.0 < 256)) }
-    ensures none { IfNone result ((most back : ℕ) → IsPowerRelation relation.now letter most back → ⊥) }
+    ensures none { IfNone result ((most back : ℕ) → IsPowerRelation relation.now letter most back
+        → ⊥) }
 {
     if !is_power(&relation.left, letter) || !is_power(&relation.right, letter) {
         return None;
@@ -73,7 +75,8 @@ fn lower(least: Option<(usize, usize)>, found: Option<(usize, usize)>) -> Option
     }
 }
 
-/// The least larger exponent of a relation between two different powers of the letter, and the smaller exponent.
+/// The least larger exponent of a relation between two different powers of the letter, and the
+/// smaller exponent.
 fn least_power(relations: &[Relation], letter: u8) -> Option<(usize, usize)>
     requires { letter < 26 }
     ensures { IsLeastPower relations.now letter (length relations.now) result }
@@ -88,7 +91,8 @@ fn least_power(relations: &[Relation], letter: u8) -> Option<(usize, usize)>
 /// A letter that occurs and has no relation between two different powers of it.
 fn unbounded(relations: &[Relation]) -> Option<u8>
     ensures some { IfSome result (λ letter. IsUnbounded relations.now) }
-    ensures none { IfNone result ((letter : ℕ) → letter < 26 → IsTrue (occurs relations.now letter) → HasLeastPower relations.now letter) }
+    ensures none { IfNone result ((letter : ℕ) → letter < 26 → IsTrue (occurs relations.now letter)
+        → HasLeastPower relations.now letter) }
 {
     for letter in 0..26u8 {
         if occurs(relations, letter) && least_power(relations, letter).is_none() {
@@ -98,7 +102,8 @@ fn unbounded(relations: &[Relation]) -> Option<u8>
     None
 }
 
-/// The axes of all letters that occur, in the order of the alphabet, and how many vectors their box has.
+/// The axes of all letters that occur, in the order of the alphabet, and how many vectors their box
+/// has.
 pub fn axes_of<A: Allocator>(
     alloc: A,
     relations: &[Relation],

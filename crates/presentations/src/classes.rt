@@ -1,4 +1,5 @@
-//! Classes of the box's vectors: joined until they are those of the least congruence that holds the relations.
+//! Classes of the box's vectors: joined until they are those of the least congruence that holds the
+//! relations.
 ghost use Rattle.std.specs.Prelude.{◌≡◌, ◌≢◌, ◌<◌, ◌^◌, ℕ, IfOk, IfSome, IfNone, OnErr, Err, length, slice_index, sum};
 ghost use Rattle.presentations.specs.Boxes.{size_of};
 ghost use Rattle.presentations.specs.Boxed.{AreRelated, IsBox, IsGap, Shrinks, AreFirsts, RelationsHold, StepsHold, StepsHoldAt, AreClosed, AreClasses};
@@ -128,8 +129,10 @@ fn join_relations<A: Allocator>(merging: &mut Merging<'_, A>) -> Result<(), Pres
 /// The firsts of two classes that a relation makes one.
 fn relation_gap<A: Allocator>(merging: &Merging<'_, A>) -> Option<(usize, usize)>
     requires { AreFirsts merging.now.axes merging.now.parents }
-    ensures gap { IfSome result (λ p. IsGap merging.now.axes merging.now.relations merging.now.parents p.0 p.1) }
-    ensures none { IfNone result (RelationsHold merging.now.axes merging.now.relations merging.now.parents) }
+    ensures gap { IfSome result
+        (λ p. IsGap merging.now.axes merging.now.relations merging.now.parents p.0 p.1) }
+    ensures none { IfNone result
+        (RelationsHold merging.now.axes merging.now.relations merging.now.parents) }
 {
     for i in 0..merging.relations() {
         let (left, right) = merging.places(i);
@@ -142,10 +145,12 @@ fn relation_gap<A: Allocator>(merging: &Merging<'_, A>) -> Option<(usize, usize)
     None
 }
 
-/// The firsts of two classes that one letter more beside a vector and the first of its class makes one.
+/// The firsts of two classes that one letter more beside a vector and the first of its class makes
+/// one.
 fn step_gap<A: Allocator>(merging: &Merging<'_, A>) -> Option<(usize, usize)>
     requires { AreFirsts merging.now.axes merging.now.parents }
-    ensures gap { IfSome result (λ p. IsGap merging.now.axes merging.now.relations merging.now.parents p.0 p.1) }
+    ensures gap { IfSome result
+        (λ p. IsGap merging.now.axes merging.now.relations merging.now.parents p.0 p.1) }
     ensures none { IfNone result (StepsHold merging.now.axes merging.now.parents) }
 {
     for at in 0..merging.size() {
@@ -160,7 +165,8 @@ fn step_gap<A: Allocator>(merging: &Merging<'_, A>) -> Option<(usize, usize)>
 fn gap_at<A: Allocator>(merging: &Merging<'_, A>, at: usize) -> Option<(usize, usize)>
     requires firsts { AreFirsts merging.now.axes merging.now.parents }
     requires at_in { at < size_of merging.now.axes }
-    ensures gap { IfSome result (λ p. IsGap merging.now.axes merging.now.relations merging.now.parents p.0 p.1) }
+    ensures gap { IfSome result
+        (λ p. IsGap merging.now.axes merging.now.relations merging.now.parents p.0 p.1) }
     ensures none { IfNone result (StepsHoldAt merging.now.axes merging.now.parents at) }
 {
     merging.boxed();
@@ -180,8 +186,10 @@ fn gap_at<A: Allocator>(merging: &Merging<'_, A>, at: usize) -> Option<(usize, u
 /// Two firsts that the least congruence relates.
 fn gap<A: Allocator>(merging: &Merging<'_, A>) -> Option<(usize, usize)>
     requires { AreFirsts merging.now.axes merging.now.parents }
-    ensures gap { IfSome result (λ p. IsGap merging.now.axes merging.now.relations merging.now.parents p.0 p.1) }
-    ensures none { IfNone result (AreClosed merging.now.axes merging.now.relations merging.now.parents) }
+    ensures gap { IfSome result
+        (λ p. IsGap merging.now.axes merging.now.relations merging.now.parents p.0 p.1) }
+    ensures none { IfNone result
+        (AreClosed merging.now.axes merging.now.relations merging.now.parents) }
 {
     match relation_gap(merging) {
         Some(pair) => Some(pair),
@@ -193,7 +201,8 @@ fn gap<A: Allocator>(merging: &Merging<'_, A>) -> Option<(usize, usize)>
 fn close<A: Allocator>(merging: &mut Merging<'_, A>) -> Result<(), PresFault>
     ensures kept { Shrinks merging.old merging.new }
     ensures firsts { IfOk result (λ _. AreFirsts merging.new.axes merging.new.parents) }
-    ensures closed { IfOk result (λ _. AreClosed merging.new.axes merging.new.relations merging.new.parents) }
+    ensures closed { IfOk result
+        (λ _. AreClosed merging.new.axes merging.new.relations merging.new.parents) }
     ensures refused { OnErr result (result ≡ Err PresFault.Memory) }
 {
     join_relations(merging)?;

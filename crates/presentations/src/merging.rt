@@ -1,4 +1,5 @@
-//! A box's vectors and pointers between them: each vector points to a related one that doesn't come after it.
+//! A box's vectors and pointers between them: each vector points to a related one that doesn't come
+//! after it.
 ghost use Rattle.std.specs.Prelude.{◌≡◌, ◌<◌, ◌≤◌, ◌∷◌, ◌++◌, [], IfOk, IfSome, IfNone, OnErr, Err, length, slice_index, slice_index_or};
 ghost use Rattle.presentations.specs.declared.read.Relation.{Relation};
 ghost use Rattle.presentations.specs.Boxes.{size_of, next_of, place_of};
@@ -25,7 +26,13 @@ impl<'a, A: Allocator> Model for Merging<'a, A> {
 
     ghost Value = { MergeState };
 
-    ghost view = { λ m. record { axes = m.axes.now; relations = m.relations.now; parents = m.parents.items; pending = m.pending.items } };
+    ghost view = { λ m.
+        record {
+          axes = m.axes.now;
+          relations = m.relations.now;
+          parents = m.parents.items;
+          pending = m.pending.items;
+        } };
 
     ghost invariant = { λ m. IsMerging m.axes.now m.relations.now m.parents.items m.pending.items };
 }
@@ -114,7 +121,8 @@ impl<'a, A: Allocator> Merging<'a, A> {
         ensures parents { self.new.parents ≡ self.old.parents }
         ensures last { IfSome result (λ p. self.old.pending ≡ self.new.pending ++ p ∷ []) }
         ensures none { IfNone result (self.old.pending ≡ []) }
-        ensures pair { IfSome result (λ p. (p.0 < size_of self.old.axes) × (p.1 < size_of self.old.axes) × AreRelated self.old.axes self.old.relations p.0 p.1) }
+        ensures pair { IfSome result (λ p. (p.0 < size_of self.old.axes)
+            × (p.1 < size_of self.old.axes) × AreRelated self.old.axes self.old.relations p.0 p.1) }
     {
         let (u, v) = self.pending.pop()?;
         Some((u as usize, v as usize))
@@ -133,8 +141,14 @@ impl<'a, A: Allocator> Merging<'a, A> {
     /// The places of both words of relation `i`.
     pub fn places(&self, i: usize) -> (usize, usize)
         requires { i < length self.now.relations }
-        ensures left { (d : Relation) → result.0 ≡ place_of self.now.axes (vector_on (letters_in self.now.axes) (slice_index_or self.now.relations i d).left) }
-        ensures right { (d : Relation) → result.1 ≡ place_of self.now.axes (vector_on (letters_in self.now.axes) (slice_index_or self.now.relations i d).right) }
+        ensures left { (d : Relation)
+            → result.0
+            ≡ place_of self.now.axes
+            (vector_on (letters_in self.now.axes) (slice_index_or self.now.relations i d).left) }
+        ensures right { (d : Relation)
+            → result.1
+            ≡ place_of self.now.axes
+            (vector_on (letters_in self.now.axes) (slice_index_or self.now.relations i d).right) }
         ensures left_in { result.0 < size_of self.now.axes }
         ensures right_in { result.1 < size_of self.now.axes }
         ensures related { AreRelated self.now.axes self.now.relations result.0 result.1 }
@@ -150,7 +164,8 @@ impl<'a, A: Allocator> Merging<'a, A> {
     /// The axes are a box's, and the pointers lead to related vectors that don't come after.
     pub fn boxed(&self)
         ensures boxed { IsBox self.now.axes self.now.relations }
-        ensures merging { IsMerging self.now.axes self.now.relations self.now.parents self.now.pending }
+        ensures merging { IsMerging self.now.axes self.now.relations self.now.parents
+            self.now.pending }
     {
         let _ = &self.parents;
     }
@@ -158,7 +173,8 @@ impl<'a, A: Allocator> Merging<'a, A> {
     /// The pointers.
     pub fn into_parents(self) -> Vec<u32, A>
         ensures value { result.items ≡ self.entry.parents }
-        ensures merging { IsMerging self.entry.axes self.entry.relations result.items self.entry.pending }
+        ensures merging { IsMerging self.entry.axes self.entry.relations result.items
+            self.entry.pending }
     {
         let Merging { parents, .. } = self;
         parents

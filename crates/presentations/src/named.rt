@@ -31,9 +31,10 @@ pub struct Named<A: Allocator = Global> {
 
 /// The table of the least congruence that holds every relation.
 ///
-/// Answers `Unbounded` exactly where some letter that occurs has no relation between two different powers of it alone. Otherwise
-/// answers `Limit` where the product of the letters' least larger exponents of such relations is above `limit`, or there are more
-/// than 256 elements. Element 0 is the identity, and the others are numbered by least keys: a smaller element and a generator whose
+/// Answers `Unbounded` exactly where some letter that occurs has no relation between two different
+/// powers of it alone. Otherwise answers `Limit` where the product of the letters' least larger
+/// exponents of such relations is above `limit`, or there are more than 256 elements. Element 0 is
+/// the identity, and the others are numbered by least keys: a smaller element and a generator whose
 /// product they are.
 pub fn table_of<A: Allocator + Copy>(
     alloc: A,
@@ -43,7 +44,8 @@ pub fn table_of<A: Allocator + Copy>(
     ensures table { IfOk result (λ n. IsTableOf presentation.now n.table n.generators.items) }
     ensures within { IfOk result (λ _. IsAboveLimit presentation.now limit → ⊥) }
     ensures unbounded { (result ≡ Err PresFault.Unbounded) ↔ IsUnbounded presentation.now }
-    ensures limit { (result ≡ Err PresFault.Limit) → IsAboveLimit presentation.now limit ⊎ HasMoreElements presentation.now 256 }
+    ensures limit { (result ≡ Err PresFault.Limit) → IsAboveLimit presentation.now limit
+        ⊎ HasMoreElements presentation.now 256 }
     ensures not_text { OnErr result (result ≢ Err PresFault.Text) }
 {
     let relations = presentation.relations();
@@ -65,7 +67,8 @@ fn table_in<A: Allocator + Copy>(
     requires letters { letters_in axes.now ≡ letters_of relations.now }
     ensures table { IfOk result (λ n. IsTableOf relations.now n.table n.generators.items) }
     ensures limit { (result ≡ Err PresFault.Limit) → HasMoreElements relations.now 256 }
-    ensures only { OnErr result ((result ≢ Err PresFault.Text) × (result ≢ Err PresFault.Unbounded)) }
+    ensures only { OnErr result ((result ≢ Err PresFault.Text)
+        × (result ≢ Err PresFault.Unbounded)) }
 {
     let numbering = numbering_of(alloc, axes, classes)?;
     let generators = generators_of(alloc, axes, &numbering.products)?;
@@ -85,8 +88,10 @@ fn generators_of<A: Allocator + Copy>(
 ) -> Result<Vec<Generator, A>, PresFault>
     requires letters { All (λ a. a.letter < 26) axes.now }
     requires products { length axes.now ≤ length products.now }
-    ensures letters { IfOk result (λ gs. map (λ g. g.letter) gs.items ≡ map (λ a. 97 + a) (letters_in axes.now)) }
-    ensures elements { IfOk result (λ gs. map (λ g. g.element) gs.items ≡ take (length axes.now) products.now) }
+    ensures letters { IfOk result
+        (λ gs. map (λ g. g.letter) gs.items ≡ map (λ a. 97 + a) (letters_in axes.now)) }
+    ensures elements { IfOk result
+        (λ gs. map (λ g. g.element) gs.items ≡ take (length axes.now) products.now) }
     ensures refused { OnErr result (result ≡ Err PresFault.Memory) }
 {
     let mut generators = Vec::new(alloc);
@@ -105,8 +110,11 @@ fn rows_of<A: Allocator + Copy>(
     letters: usize,
     numbering: &Numbering<A>,
 ) -> Result<Vec<u16, A>, PresFault>
-    requires { AreKeys letters (length numbering.now.numbers.firsts) numbering.now.numbers.keys numbering.now.products.items }
-    ensures rows { IfOk result (λ rows. AreRows letters (length numbering.now.numbers.firsts) numbering.now.numbers.keys numbering.now.products.items rows.items) }
+    requires { AreKeys letters (length numbering.now.numbers.firsts) numbering.now.numbers.keys
+        numbering.now.products.items }
+    ensures rows { IfOk result
+        (λ rows. AreRows letters (length numbering.now.numbers.firsts) numbering.now.numbers.keys
+        numbering.now.products.items rows.items) }
     ensures refused { OnErr result (result ≡ Err PresFault.Memory) }
 {
     let order = numbering.numbers.order();
@@ -127,12 +135,18 @@ fn product_of<A: Allocator>(
     e: usize,
     numbering: &Numbering<A>,
 ) -> u16
-    requires keys { AreKeys letters (length numbering.now.numbers.firsts) numbering.now.numbers.keys numbering.now.products.items }
+    requires keys { AreKeys letters (length numbering.now.numbers.firsts) numbering.now.numbers.keys
+        numbering.now.products.items }
     requires x_in { x < length numbering.now.numbers.firsts }
     requires e_in { e < length numbering.now.numbers.firsts }
-    requires so_far { AreRowsUpTo letters (length numbering.now.numbers.firsts) numbering.now.numbers.keys numbering.now.products.items rows.now x e }
+    requires so_far { AreRowsUpTo letters (length numbering.now.numbers.firsts)
+        numbering.now.numbers.keys numbering.now.products.items rows.now x e }
     ensures first { e ≡ 0 → result ≡ x }
-    ensures later { 0 < e → result ≡ slice_index numbering.now.products.items (slice_index rows.now (x * length numbering.now.numbers.firsts + slice_index numbering.now.numbers.keys (e - 1) / letters) * letters + slice_index numbering.now.numbers.keys (e - 1) % letters) }
+    ensures later { 0 < e
+        → result ≡ slice_index numbering.now.products.items
+        (slice_index rows.now
+        (x * length numbering.now.numbers.firsts + slice_index numbering.now.numbers.keys
+        (e - 1) / letters) * letters + slice_index numbering.now.numbers.keys (e - 1) % letters) }
     ensures within { result < length numbering.now.numbers.firsts }
 {
     let order = numbering.numbers.order();

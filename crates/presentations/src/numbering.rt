@@ -9,8 +9,8 @@ use std::marker::Model;
 
 const NONE: u16 = 256;
 
-/// Classes with their numbers: the first vector of each, and for each number above 0 its key, which is the place of a product of
-/// a smaller element with a generator, row after row.
+/// Classes with their numbers: the first vector of each, and for each number above 0 its key, which
+/// is the place of a product of a smaller element with a generator, row after row.
 #[derive(Drop)]
 pub struct Numbers<A: Allocator> {
     numbers: Vec<u16, A>,
@@ -25,7 +25,8 @@ impl<A: Allocator> Model for Numbers<A> {
 
     ghost use Rattle.std.specs.Prelude.{length};
 
-    ghost view = { λ n. record { places = length n.numbers.items; firsts = n.firsts.items; keys = n.keys.items } };
+    ghost view = { λ n.
+        record { places = length n.numbers.items; firsts = n.firsts.items; keys = n.keys.items } };
 
     ghost invariant = { λ n. AreNumbers n.numbers.items n.firsts.items };
 }
@@ -35,7 +36,8 @@ impl<A: Allocator + Copy> Numbers<A> {
     fn new(alloc: A, places: usize) -> Result<Numbers<A>, PresFault>
         requires some { 0 < places }
         requires small { places < 2 ^ 32 }
-        ensures state { IfOk result (λ n. n ≡ record { places = places; firsts = 0 ∷ []; keys = [] }) }
+        ensures state { IfOk result
+            (λ n. n ≡ record { places = places; firsts = 0 ∷ []; keys = [] }) }
         ensures refused { OnErr result (result ≡ Err PresFault.Memory) }
     {
         let mut numbers: Vec<u16, A> = vec![in alloc; NONE; places]?;
@@ -55,7 +57,8 @@ impl<A: Allocator> Numbers<A> {
     pub fn order(&self) -> usize
         ensures value { result ≡ length self.now.firsts }
         ensures range { (0 < result) × (result ≤ 256) }
-        ensures apart { (d e : ℕ) → d < result → e < result → slice_index self.now.firsts d ≡ slice_index self.now.firsts e → d ≡ e }
+        ensures apart { (d e : ℕ) → d < result → e < result
+            → slice_index self.now.firsts d ≡ slice_index self.now.firsts e → d ≡ e }
     {
         self.firsts.len()
     }
@@ -83,8 +86,10 @@ impl<A: Allocator> Numbers<A> {
         requires { class < self.old.places }
         ensures assigned { IfOk result (λ n. IsAssigned self.old self.new class key n) }
         ensures places { self.new.places ≡ self.old.places }
-        ensures full { (result ≡ Err PresFault.Limit) → (length self.old.firsts ≡ 256) × ((e : ℕ) → e < 256 → slice_index self.old.firsts e ≢ class) }
-        ensures only { OnErr result ((result ≢ Err PresFault.Text) × (result ≢ Err PresFault.Unbounded)) }
+        ensures full { (result ≡ Err PresFault.Limit) → (length self.old.firsts ≡ 256)
+            × ((e : ℕ) → e < 256 → slice_index self.old.firsts e ≢ class) }
+        ensures only { OnErr result ((result ≢ Err PresFault.Text)
+            × (result ≢ Err PresFault.Unbounded)) }
     {
         let known = self.numbers[class];
         if known != NONE {
@@ -116,10 +121,13 @@ pub fn numbering_of<A: Allocator + Copy>(
 ) -> Result<Numbering<A>, PresFault>
     requires roots { AreRoots axes.now classes.now }
     requires letters { length axes.now ≤ 26 }
-    ensures numbering { IfOk result (λ n. IsNumbering axes.now classes.now n.numbers.firsts n.numbers.keys n.products.items) }
-    ensures keys { IfOk result (λ n. AreKeys (length axes.now) (length n.numbers.firsts) n.numbers.keys n.products.items) }
+    ensures numbering { IfOk result
+        (λ n. IsNumbering axes.now classes.now n.numbers.firsts n.numbers.keys n.products.items) }
+    ensures keys { IfOk result
+        (λ n. AreKeys (length axes.now) (length n.numbers.firsts) n.numbers.keys n.products.items) }
     ensures limit { (result ≡ Err PresFault.Limit) → HasManyClasses axes.now classes.now }
-    ensures only { OnErr result ((result ≢ Err PresFault.Text) × (result ≢ Err PresFault.Unbounded)) }
+    ensures only { OnErr result ((result ≢ Err PresFault.Text)
+        × (result ≢ Err PresFault.Unbounded)) }
 {
     let mut numbers = Numbers::new(alloc, classes.len())?;
     let mut products: Vec<u16, A> = Vec::new(alloc);

@@ -30,12 +30,15 @@ impl<A: Allocator> Model for Presentation<A> {
 }
 
 impl<A: Allocator> Presentation<A> {
-    /// Reads 1 to 64 relations `word=word` joined by one space. A word is `1` or letters, each alone or with `^n`, n from 2 to
-    /// 64; no letter's exponents come to more than 64 in a word.
+    /// Reads 1 to 64 relations `word=word` joined by one space. A word is `1` or letters, each
+    /// alone or with `^n`, n from 2 to 64; no letter's exponents come to more than 64 in a word.
     pub fn read(alloc: A, text: &[u8]) -> Result<Presentation<A>, PresFault>
-        ensures spelled { IfOk result (λ p. (q : List Relation) → SpellsPresentation text.now q ↔ (p ≡ q)) }
-        ensures text { (result ≡ Err PresFault.Text) → (q : List Relation) → SpellsPresentation text.now q → ⊥ }
-        ensures only { OnErr result ((result ≡ Err PresFault.Text) ⊎ (result ≡ Err PresFault.Memory)) }
+        ensures spelled { IfOk result (λ p. (q : List Relation) → SpellsPresentation text.now q
+            ↔ (p ≡ q)) }
+        ensures text { (result ≡ Err PresFault.Text) → (q : List Relation)
+            → SpellsPresentation text.now q → ⊥ }
+        ensures only { OnErr result ((result ≡ Err PresFault.Text)
+            ⊎ (result ≡ Err PresFault.Memory)) }
     {
         let mut relations = Vec::new(alloc);
         let mut at = 0;
@@ -66,7 +69,8 @@ impl<A: Allocator> Presentation<A> {
 /// A relation that begins at `at`, and where it ends.
 fn relation_at(text: &[u8], at: usize) -> Option<(Relation, usize)>
     requires { at ≤ length text.now }
-    ensures some { IfSome result (λ r. IsFront IsRelation EndsRelation (drop at text.now) r.0 (drop r.1 text.now)) }
+    ensures some { IfSome result
+        (λ r. IsFront IsRelation EndsRelation (drop at text.now) r.0 (drop r.1 text.now)) }
     ensures none { IfNone result (IsNoFront IsRelation EndsRelation (drop at text.now)) }
     ensures within { IfSome result (λ r. r.1 ≤ length text.now) }
 {
@@ -81,7 +85,8 @@ fn relation_at(text: &[u8], at: usize) -> Option<(Relation, usize)>
 /// A word that begins at `at`, as exponents, and where it ends.
 fn word_at(text: &[u8], at: usize) -> Option<([u8; 26], usize)>
     requires { at ≤ length text.now }
-    ensures some { IfSome result (λ r. IsFront IsWord EndsWord (drop at text.now) r.0 (drop r.1 text.now)) }
+    ensures some { IfSome result
+        (λ r. IsFront IsWord EndsWord (drop at text.now) r.0 (drop r.1 text.now)) }
     ensures none { IfNone result (IsNoFront IsWord EndsWord (drop at text.now)) }
     ensures within { IfSome result (λ r. r.1 ≤ length text.now) }
 {
@@ -99,7 +104,8 @@ fn word_at(text: &[u8], at: usize) -> Option<([u8; 26], usize)>
 /// All factors from `at` on, as exponents, and where they end.
 fn factors_at(text: &[u8], at: usize) -> Option<([u8; 26], usize)>
     requires { at ≤ length text.now }
-    ensures some { IfSome result (λ r. IsFront AreFewFactors EndsWord (drop at text.now) r.0 (drop r.1 text.now)) }
+    ensures some { IfSome result
+        (λ r. IsFront AreFewFactors EndsWord (drop at text.now) r.0 (drop r.1 text.now)) }
     ensures none { IfNone result (IsNoFront AreFewFactors EndsWord (drop at text.now)) }
     ensures within { IfSome result (λ r. (at ≤ r.1) × (r.1 ≤ length text.now)) }
 {
@@ -119,9 +125,11 @@ fn factors_at(text: &[u8], at: usize) -> Option<([u8; 26], usize)>
 /// A factor that begins at `at`: its letter, its exponent, and where it ends.
 fn factor_at(text: &[u8], at: usize) -> Option<(u8, u8, usize)>
     requires { at ≤ length text.now }
-    ensures some { IfSome result (λ f. IsFront IsFactor EndsFactor (drop at text.now) (f.0, f.1) (drop f.2 text.now)) }
+    ensures some { IfSome result
+        (λ f. IsFront IsFactor EndsFactor (drop at text.now) (f.0, f.1) (drop f.2 text.now)) }
     ensures none { IfNone result (IsNoFront IsFactor EndsFactor (drop at text.now)) }
-    ensures within { IfSome result (λ f. (f.0 < 26) × (f.1 ≤ 64) × (at < f.2) × (f.2 ≤ length text.now)) }
+    ensures within { IfSome result (λ f. (f.0 < 26) × (f.1 ≤ 64) × (at < f.2)
+        × (f.2 ≤ length text.now)) }
 {
     let letter = letter_at(text, at)?;
     if !is_byte(text, at + 1, b'^') {
@@ -134,7 +142,8 @@ fn factor_at(text: &[u8], at: usize) -> Option<(u8, u8, usize)>
 /// A number from 2 to 64 without leading zeros that begins at `at`, and where it ends.
 fn power_at(text: &[u8], at: usize) -> Option<(u8, usize)>
     requires { at ≤ length text.now }
-    ensures some { IfSome result (λ p. IsFront IsPower EndsFactor (drop at text.now) p.0 (drop p.1 text.now)) }
+    ensures some { IfSome result
+        (λ p. IsFront IsPower EndsFactor (drop at text.now) p.0 (drop p.1 text.now)) }
     ensures none { IfNone result (IsNoFront IsPower EndsFactor (drop at text.now)) }
     ensures within { IfSome result (λ p. (p.0 ≤ 64) × (at < p.1) × (p.1 ≤ length text.now)) }
 {
@@ -158,7 +167,8 @@ fn power_at(text: &[u8], at: usize) -> Option<(u8, usize)>
 
 /// The digit at `at`.
 fn digit_at(text: &[u8], at: usize) -> Option<u8>
-    ensures some { IfSome result (λ d. (d < 10) × (at < length text.now) × (drop at text.now ≡ (48 + d) ∷ drop (at + 1) text.now)) }
+    ensures some { IfSome result (λ d. (d < 10) × (at < length text.now)
+        × (drop at text.now ≡ (48 + d) ∷ drop (at + 1) text.now)) }
     ensures none { IfNone result (EndsDigits (drop at text.now)) }
 {
     if at < text.len() && text[at].is_ascii_digit() {
@@ -170,8 +180,10 @@ fn digit_at(text: &[u8], at: usize) -> Option<u8>
 
 /// The letter at `at`: 0 for a to 25 for z.
 fn letter_at(text: &[u8], at: usize) -> Option<u8>
-    ensures some { IfSome result (λ l. (l < 26) × (at < length text.now) × (drop at text.now ≡ (97 + l) ∷ drop (at + 1) text.now)) }
-    ensures none { IfNone result ((l : ℕ) (tail : List ℕ) → l < 26 → drop at text.now ≡ (97 + l) ∷ tail → ⊥) }
+    ensures some { IfSome result (λ l. (l < 26) × (at < length text.now)
+        × (drop at text.now ≡ (97 + l) ∷ drop (at + 1) text.now)) }
+    ensures none { IfNone result ((l : ℕ) (tail : List ℕ) → l < 26
+        → drop at text.now ≡ (97 + l) ∷ tail → ⊥) }
 {
     if at < text.len() && text[at].is_ascii_lowercase() {
         Some(text[at] - b'a')

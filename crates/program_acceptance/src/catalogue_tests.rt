@@ -19,7 +19,8 @@ fn digits_of(alloc: Global, number: u16) -> Result<String, AllocError> {
     Ok(digits)
 }
 
-/// The certificate of a code of zeros and ones, with these line ends: the digits are the heaps' elements.
+/// The certificate of a code of zeros and ones, with these line ends: the digits are the heaps'
+/// elements.
 fn by_rule(alloc: Global, digits: &str, end: &str) -> Result<String, AllocError> {
     let mut phi = String::new(alloc);
     let mut first = 0;

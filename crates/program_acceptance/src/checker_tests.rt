@@ -1,4 +1,5 @@
-//! A certificate under each refused growth, the units of a job, and positions at which the rule fails.
+//! A certificate under each refused growth, the units of a job, and positions at which the rule
+//! fails.
 use allocation::Room;
 use checker::{Job, Progress, Refusal, check};
 use ration::Ration;
@@ -7,12 +8,14 @@ use std::test::Fail;
 use verdicts::verdict_text;
 
 /// The quotient of 0.33.
-const WHOLE: &[u8] =
-    b"mqc 1\ncode 0.33\norder 6\nstart 1\nperiod 3\nphi 1 2 0\nportion 1 4\nwords 0:1 0:2 1:2 2:2 3:2\nrow 0 1 2 3 4 5\nrow 1 0 3 2 5 4\nrow 2 3 4 5 2 3\nrow 3 2 5 4 3 2\nrow 4 5 2 3 4 5\nrow 5 4 3 2 5 4\napart 0 1 1 0 4 0 0 4 0 2 0 1 0 1 0\nend\n";
+const WHOLE: &[u8] = b"mqc 1\ncode 0.33\norder 6\nstart 1\nperiod 3\nphi 1 2 0\nportion 1 4\n\
+words 0:1 0:2 1:2 2:2 3:2\nrow 0 1 2 3 4 5\nrow 1 0 3 2 5 4\nrow 2 3 4 5 2 3\nrow 3 2 5 4 3 2\n\
+row 4 5 2 3 4 5\nrow 5 4 3 2 5 4\napart 0 1 1 0 4 0 0 4 0 2 0 1 0 1 0\nend\n";
 
 /// A table of 0.3 in which 1 times 1 is 1: the rule fails at two heaps of 1, among others.
 const IDEMPOTENT: &[u8] =
-    b"mqc 1\ncode 0.3\norder 2\nstart 1\nperiod 2\nphi 1 0\nportion 1\nwords 0:1\nrow 0 1\nrow 1 1\napart 0\nend\n";
+    b"mqc 1\ncode 0.3\norder 2\nstart 1\nperiod 2\nphi 1 0\nportion 1\nwords 0:1\nrow 0 1\n\
+row 1 1\napart 0\nend\n";
 
 #[test]
 fn says_yes_or_memory(rt: HostRuntime) -> Result<(), Fail> {
@@ -39,7 +42,8 @@ fn spends_a_unit_a_turn(rt: HostRuntime) -> Result<(), Fail> {
         let goes_on = matches!(job.work(1), Progress::Going);
         assert_eq!(rt; job.spent(), turn);
         if !goes_on {
-            // The reading, every triple, every key and every product of an element with an entry were looked at.
+            // The reading, every triple, every key and every product of an element with an entry
+            // were looked at.
             assert!(rt; turn >= 6 * 6 * 6 + 6 * 4, "{turn}");
             assert!(rt; matches!(job.work(1), Progress::Yes(_)));
             assert_eq!(rt; job.spent(), turn);
@@ -87,7 +91,8 @@ fn times(order: u16, x: u16, y: u16) -> u16 {
     x.wrapping_add(y) % order.max(1)
 }
 
-/// Whether an element of a cyclic group is in the portion: the odd ones but the last, or the odd ones and the last but one.
+/// Whether an element of a cyclic group is in the portion: the odd ones but the last, or the odd
+/// ones and the last but one.
 fn is_in(order: u16, but_the_last: bool, x: u16) -> bool {
     if but_the_last {
         x % 2 == 1 && x.saturating_add(1) != order
@@ -128,8 +133,8 @@ fn put_table(alloc: Global, text: &mut Vec<u8>, order: u16) -> Result<(), AllocE
     Ok(())
 }
 
-/// A certificate for 0.3 over a cyclic group of even order, in which a heap of odd size is 1 and one of even size 0. The rule
-/// fails first at positions of many heaps.
+/// A certificate for 0.3 over a cyclic group of even order, in which a heap of odd size is 1 and
+/// one of even size 0. The rule fails first at positions of many heaps.
 fn cyclic(alloc: Global, order: u16, but_the_last: bool) -> Result<Vec<u8>, AllocError> {
     let mut text = Vec::new(alloc);
     text.extend_from_slice(b"mqc 1\ncode 0.3\norder")?;
@@ -159,8 +164,9 @@ fn told<A: Room>(refusal: &Refusal<A>) -> (u8, usize) {
     }
 }
 
-/// More than 2^16 bytes, the largest order, more than 256 members, and words of more than 64 heaps: those of a member where the
-/// rule fails outside the portion, and those of an element's keys where it fails inside.
+/// More than 2^16 bytes, the largest order, more than 256 members, and words of more than 64 heaps:
+/// those of a member where the rule fails outside the portion, and those of an element's keys where
+/// it fails inside.
 #[test]
 fn memory_suffices_for_the_largest_order(rt: HostRuntime) -> Result<(), Fail> {
     for but_the_last in [true, false] {

@@ -6,7 +6,10 @@ use std::alloc::Global;
 use std::test::Fail;
 
 const OF_0_75: &[u8] =
-    b"mqc 1\ncode 0.75\norder 8\nstart 8\nperiod 2\nphi 1 2 1 2 3 2 3 2 4\nportion 1 7\nwords 0:1 0:2 0:5 0:9 1:2 1:5 1:9\nrow 0 1 2 3 4 5 6 7\nrow 1 0 5 6 7 2 3 4\nrow 2 5 7 5 5 4 2 2\nrow 3 6 5 7 7 2 4 4\nrow 4 7 5 7 7 2 4 4\nrow 5 2 4 2 2 7 5 5\nrow 6 3 2 4 4 5 7 7\nrow 7 4 2 4 4 5 7 7\napart 0 1 1 3 1 1 0 0 0 0 0 0 4 2 1 2 2 0 1 3 3 0 1 1 0 5 0 0\nend\n";
+    b"mqc 1\ncode 0.75\norder 8\nstart 8\nperiod 2\nphi 1 2 1 2 3 2 3 2 4\nportion 1 7\n\
+words 0:1 0:2 0:5 0:9 1:2 1:5 1:9\nrow 0 1 2 3 4 5 6 7\nrow 1 0 5 6 7 2 3 4\nrow 2 5 7 5 5 4 2 2\n\
+row 3 6 5 7 7 2 4 4\nrow 4 7 5 7 7 2 4 4\nrow 5 2 4 2 2 7 5 5\nrow 6 3 2 4 4 5 7 7\n\
+row 7 4 2 4 4 5 7 7\napart 0 1 1 3 1 1 0 0 0 0 0 0 4 2 1 2 2 0 1 3 3 0 1 1 0 5 0 0\nend\n";
 
 const LARGE: u64 = 1_000_000_000_000_000_000;
 
@@ -54,7 +57,8 @@ fn has_values_and_outcomes(rt: HostRuntime) -> Result<(), Fail> {
     Ok(())
 }
 
-/// With 1 taken away one heap or two may stay, with 2 two: of the splits those with a smaller part up to 9.
+/// With 1 taken away one heap or two may stay, with 2 two: of the splits those with a smaller part
+/// up to 9.
 #[test]
 fn looks_at_few_options(rt: HostRuntime) -> Result<(), Fail> {
     let certified = quotient(rt.alloc())?;

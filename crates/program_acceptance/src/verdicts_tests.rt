@@ -1,4 +1,5 @@
-//! Checks from stream to stream: byte by byte, with devices that fail at one call, with memory refused, and of damaged texts.
+//! Checks from stream to stream: byte by byte, with devices that fail at one call, with memory
+//! refused, and of damaged texts.
 use devices::{FailingSink, FailingSource, SlowSink, SlowSource};
 use ration::Ration;
 use std::alloc::Global;
@@ -8,13 +9,18 @@ use verdicts::{MOST_BYTES, check_stream};
 
 /// The certificates of the games 0.3, 0.33 and 0.75.
 static SMALLEST: &[u8] =
-    b"mqc 1\ncode 0.3\norder 2\nstart 1\nperiod 2\nphi 1 0\nportion 1\nwords 0:1\nrow 0 1\nrow 1 0\napart 0\nend\n";
+    b"mqc 1\ncode 0.3\norder 2\nstart 1\nperiod 2\nphi 1 0\nportion 1\nwords 0:1\nrow 0 1\n\
+row 1 0\napart 0\nend\n";
 
-static SAMPLE: &[u8] =
-    b"mqc 1\ncode 0.33\norder 6\nstart 1\nperiod 3\nphi 1 2 0\nportion 1 4\nwords 0:1 0:2 1:2 2:2 3:2\nrow 0 1 2 3 4 5\nrow 1 0 3 2 5 4\nrow 2 3 4 5 2 3\nrow 3 2 5 4 3 2\nrow 4 5 2 3 4 5\nrow 5 4 3 2 5 4\napart 0 1 1 0 4 0 0 4 0 2 0 1 0 1 0\nend\n";
+static SAMPLE: &[u8] = b"mqc 1\ncode 0.33\norder 6\nstart 1\nperiod 3\nphi 1 2 0\nportion 1 4\n\
+words 0:1 0:2 1:2 2:2 3:2\nrow 0 1 2 3 4 5\nrow 1 0 3 2 5 4\nrow 2 3 4 5 2 3\nrow 3 2 5 4 3 2\n\
+row 4 5 2 3 4 5\nrow 5 4 3 2 5 4\napart 0 1 1 0 4 0 0 4 0 2 0 1 0 1 0\nend\n";
 
 static LARGER: &[u8] =
-    b"mqc 1\ncode 0.75\norder 8\nstart 8\nperiod 2\nphi 1 2 1 2 3 2 3 2 4\nportion 1 7\nwords 0:1 0:2 0:5 0:9 1:2 1:5 1:9\nrow 0 1 2 3 4 5 6 7\nrow 1 0 5 6 7 2 3 4\nrow 2 5 7 5 5 4 2 2\nrow 3 6 5 7 7 2 4 4\nrow 4 7 5 7 7 2 4 4\nrow 5 2 4 2 2 7 5 5\nrow 6 3 2 4 4 5 7 7\nrow 7 4 2 4 4 5 7 7\napart 0 1 1 3 1 1 0 0 0 0 0 0 4 2 1 2 2 0 1 3 3 0 1 1 0 5 0 0\nend\n";
+    b"mqc 1\ncode 0.75\norder 8\nstart 8\nperiod 2\nphi 1 2 1 2 3 2 3 2 4\nportion 1 7\n\
+words 0:1 0:2 0:5 0:9 1:2 1:5 1:9\nrow 0 1 2 3 4 5 6 7\nrow 1 0 5 6 7 2 3 4\nrow 2 5 7 5 5 4 2 2\n\
+row 3 6 5 7 7 2 4 4\nrow 4 7 5 7 7 2 4 4\nrow 5 2 4 2 2 7 5 5\nrow 6 3 2 4 4 5 7 7\n\
+row 7 4 2 4 4 5 7 7\napart 0 1 1 3 1 1 0 0 0 0 0 0 4 2 1 2 2 0 1 3 3 0 1 1 0 5 0 0\nend\n";
 
 static VERDICT: &[u8] = b"yes 0.33 order 6 start 1 period 3\n";
 
@@ -97,7 +103,8 @@ fn refuses_each_beginning(rt: HostRuntime) -> Result<(), Fail> {
     Ok(())
 }
 
-/// The second line, from byte 6 on, has the code: only such a change could make the certificate of another game.
+/// The second line, from byte 6 on, has the code: only such a change could make the certificate of
+/// another game.
 #[test]
 fn refuses_each_change_of_a_byte(rt: HostRuntime) -> Result<(), Fail> {
     let alloc = rt.alloc();
@@ -119,7 +126,8 @@ fn refuses_each_change_of_a_byte(rt: HostRuntime) -> Result<(), Fail> {
     Ok(())
 }
 
-/// More than 2^16 bytes; as many as are read, with none left then; and more, of which one more is read.
+/// More than 2^16 bytes; as many as are read, with none left then; and more, of which one more is
+/// read.
 #[test]
 fn long_streams_are_no_text(rt: HostRuntime) -> Result<(), Fail> {
     let alloc = rt.alloc();

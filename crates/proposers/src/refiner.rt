@@ -10,7 +10,8 @@ use std::alloc::Global;
 /// How often it solves.
 const MOST: u32 = 3;
 
-/// Drafts what a solver guesses of the heaps up to some size. The positions at which the rule failed under a draft go to the solver.
+/// Drafts what a solver guesses of the heaps up to some size. The positions at which the rule
+/// failed under a draft go to the solver.
 #[derive(Drop)]
 pub struct Refiner {
     alloc: Global,

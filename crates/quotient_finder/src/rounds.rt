@@ -62,11 +62,13 @@ fn round(
     }
 }
 
-/// Searches for a certificate of the code: in each round every proposer is asked once, in order, and what it drafts is checked.
+/// Searches for a certificate of the code: in each round every proposer is asked once, in order,
+/// and what it drafts is checked.
 ///
-/// An accepted certificate of the code ends the search. A refused draft is told to its proposer, and an accepted certificate of
-/// another code is dropped. `Rounds` says that all rounds were spent, `Empty` that there is no proposer, whatever the rounds, or
-/// that none gave a draft in a round, and `Memory` that a proposer or a check answered it. The list stays as long as it is.
+/// An accepted certificate of the code ends the search. A refused draft is told to its proposer,
+/// and an accepted certificate of another code is dropped. `Rounds` says that all rounds were
+/// spent, `Empty` that there is no proposer, whatever the rounds, or that none gave a draft in a
+/// round, and `Memory` that a proposer or a check answered it. The list stays as long as it is.
 pub fn find(
     alloc: Global,
     code: &Code,

@@ -6,7 +6,8 @@ use std::alloc::Allocator;
 /// No item.
 pub const NONE: usize = usize::MAX;
 
-/// So many lists of items 0, 1, .., each item in at most one of them, and the last one put in first.
+/// So many lists of items 0, 1, .., each item in at most one of them, and the last one put in
+/// first.
 #[derive(Drop)]
 pub struct Chains<A: Allocator> {
     heads: Vec<usize, A>,

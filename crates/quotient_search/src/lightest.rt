@@ -77,7 +77,8 @@ impl<A: Allocator> Words<A> {
         Ok(())
     }
 
-    /// Takes the words with one more of the heaps, where these are lighter. Answers whether one was.
+    /// Takes the words with one more of the heaps, where these are lighter. Answers whether one
+    /// was.
     fn relax_all(
         &mut self,
         quotient: &Quotient<A>,

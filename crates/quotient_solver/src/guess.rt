@@ -81,8 +81,11 @@ pub fn guess_of<A: Allocator + Copy>(
     most: usize,
     last: usize,
 ) -> Result<Option<Guess<A>>, Memory>
-    ensures formed { IfOk result (λ found. IfSome found (λ g. IsWellFormed g.order g.products.items g.lost.items g.heaps.items most)) }
-    ensures repeats { IfOk result (λ found. IfSome found (λ g. Repeats g.heaps.items g.start g.period)) }
+    ensures formed { IfOk result
+        (λ found.
+        IfSome found (λ g. IsWellFormed g.order g.products.items g.lost.items g.heaps.items most)) }
+    ensures repeats { IfOk result
+        (λ found. IfSome found (λ g. Repeats g.heaps.items g.start g.period)) }
 {
     let order = quotient.order();
     let Some(size) = order.checked_mul(order) else {

@@ -43,8 +43,11 @@ fn is_asked(asked: &Option<Code>, code: &Code) -> bool {
 
 /// The guess that a search comes to, if it comes to one.
 fn guessed<A: Room + Copy>(alloc: A, code: &Code, most: usize) -> Result<Option<Guess<A>>, Memory>
-    ensures formed { IfOk result (λ found. IfSome found (λ g. IsWellFormed g.order g.products.items g.lost.items g.heaps.items most)) }
-    ensures repeats { IfOk result (λ found. IfSome found (λ g. Repeats g.heaps.items g.start g.period)) }
+    ensures formed { IfOk result
+        (λ found.
+        IfSome found (λ g. IsWellFormed g.order g.products.items g.lost.items g.heaps.items most)) }
+    ensures repeats { IfOk result
+        (λ found. IfSome found (λ g. Repeats g.heaps.items g.start g.period)) }
 {
     match find_quotient(alloc, code, most)? {
         Some(quotient) => guess_of(alloc, &quotient, most, code.last() as usize),
@@ -77,8 +80,12 @@ impl<A: Room + Copy> Solver<A> {
     /// shape. The work is bounded, and the answer depends on the code, the heaps and what was
     /// learned alone.
     pub fn solve(&mut self, code: &Code) -> Result<Option<Guess<A>>, Memory>
-        ensures formed { IfOk result (λ found. IfSome found (λ g. IsWellFormed g.order g.products.items g.lost.items g.heaps.items self.old)) }
-        ensures repeats { IfOk result (λ found. IfSome found (λ g. Repeats g.heaps.items g.start g.period)) }
+        ensures formed { IfOk result
+            (λ found.
+            IfSome found
+            (λ g. IsWellFormed g.order g.products.items g.lost.items g.heaps.items self.old)) }
+        ensures repeats { IfOk result
+            (λ found. IfSome found (λ g. Repeats g.heaps.items g.start g.period)) }
         ensures same { self.new ≡ self.old }
     {
         self.wrong = self.wrong && is_asked(&self.asked, code);

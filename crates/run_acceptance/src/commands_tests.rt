@@ -7,7 +7,8 @@ use streams::{MemorySink, MemorySource};
 
 /// The quotient of 0.3.
 const NIM: &str =
-    "mqc 1\ncode 0.3\norder 2\nstart 1\nperiod 2\nphi 1 0\nportion 1\nwords 0:1\nrow 0 1\nrow 1 0\napart 0\nend\n";
+    "mqc 1\ncode 0.3\norder 2\nstart 1\nperiod 2\nphi 1 0\nportion 1\nwords 0:1\nrow 0 1\nrow 1 0\n\
+apart 0\nend\n";
 
 /// A search of the least kind.
 const SEARCH: Plan<'static> = Plan::Solve {

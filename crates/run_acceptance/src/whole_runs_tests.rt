@@ -60,7 +60,8 @@ fn does_what_is_asked(rt: HostRuntime) -> Result<(), Fail> {
         (
             "show|0.3.mqc",
             0,
-            "code 0.3\norder 2\nelement 0 N 0\nelement 1 P 1\nheap 1 1\nheap 2 0\nrepeat 2 from 1\n",
+            "code 0.3\norder 2\nelement 0 N 0\nelement 1 P 1\nheap 1 1\nheap 2 0\n\
+repeat 2 from 1\n",
         ),
         (
             "present|a^2=1",

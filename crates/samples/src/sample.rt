@@ -28,7 +28,8 @@ const SMALLEST: usize = 9;
 /// How often the sample is grouped.
 const ROUNDS: u32 = 5;
 
-/// What is sampled: the contexts beside which outcomes are looked at, and the outcomes that were searched.
+/// What is sampled: the contexts beside which outcomes are looked at, and the outcomes that were
+/// searched.
 #[derive(Drop)]
 struct Sample {
     alloc: Global,
@@ -56,8 +57,9 @@ enum Added {
     No,
 }
 
-/// Guesses a quotient of a code's heaps 1 to at most `heaps` by a sample of positions of few heaps. A position whose outcome isn't found
-/// within a budget is left out. There is no guess where more than `order` groups are found.
+/// Guesses a quotient of a code's heaps 1 to at most `heaps` by a sample of positions of few heaps.
+/// A position whose outcome isn't found within a budget is left out. There is no guess where more
+/// than `order` groups are found.
 pub fn sampled(
     alloc: Global,
     code: &Code,
@@ -126,7 +128,8 @@ impl Sample {
         Ok(Round::Other(count))
     }
 
-    /// Takes the positions of the groups for contexts, and two heaps of each kind, beside the smallest ones.
+    /// Takes the positions of the groups for contexts, and two heaps of each kind, beside the
+    /// smallest ones.
     fn look_beside(&mut self, groups: Groups) -> Result<(), Memory> {
         let Groups {
             mut members,
@@ -196,7 +199,8 @@ impl Sample {
         Ok(row)
     }
 
-    /// Finds the groups that the heaps and products with them fall into, and answers whether it could.
+    /// Finds the groups that the heaps and products with them fall into, and answers whether it
+    /// could.
     fn group(&mut self, groups: &mut Groups, heaps: usize, order: usize) -> Result<bool, Memory> {
         self.add_empty(groups)?;
         for heap in 1..heaps.min(LARGEST) as u64 + 1 {
@@ -282,7 +286,8 @@ impl Sample {
         })
     }
 
-    /// Finds the groups of a group's position with a heap of each kind more, and answers whether it could.
+    /// Finds the groups of a group's position with a heap of each kind more, and answers whether it
+    /// could.
     fn multiply(&mut self, groups: &mut Groups, at: usize, order: usize) -> Result<bool, Memory> {
         for k in 0..groups.kinds.len() {
             let Some(group) = self.product(groups, at, k, order)? else {

@@ -41,7 +41,8 @@ fn relations(alloc: Global, groups: &Groups) -> Result<Option<Vec<u8>>, Memory> 
     Ok(Some(text))
 }
 
-/// Adds the relations, each with a space behind. Answers whether each kind has two powers in one group.
+/// Adds the relations, each with a space behind. Answers whether each kind has two powers in one
+/// group.
 fn push_relations(alloc: Global, text: &mut Vec<u8>, groups: &Groups) -> Result<bool, Memory> {
     for k in 0..groups.kinds.len() {
         let Some((more, less)) = powers(alloc, groups, k)? else {

@@ -29,19 +29,26 @@ fn prints_the_certificates_of_worked_codes(rt: HostRuntime) -> Result<(), Fail> 
     let rows: [(&str, &[u8]); 4] = [
         (
             "0.1",
-            b"mqc 1\ncode 0.1\norder 2\nstart 2\nperiod 1\nphi 1 0\nportion 1\nwords 0:1\nrow 0 1\nrow 1 0\napart 0\nend\n",
+            b"mqc 1\ncode 0.1\norder 2\nstart 2\nperiod 1\nphi 1 0\nportion 1\nwords 0:1\nrow 0 1\n\
+row 1 0\napart 0\nend\n",
         ),
         (
             "0.3",
-            b"mqc 1\ncode 0.3\norder 2\nstart 1\nperiod 2\nphi 1 0\nportion 1\nwords 0:1\nrow 0 1\nrow 1 0\napart 0\nend\n",
+            b"mqc 1\ncode 0.3\norder 2\nstart 1\nperiod 2\nphi 1 0\nportion 1\nwords 0:1\nrow 0 1\n\
+row 1 0\napart 0\nend\n",
         ),
         (
             "0.33",
-            b"mqc 1\ncode 0.33\norder 6\nstart 1\nperiod 3\nphi 1 2 0\nportion 1 4\nwords 0:1 0:2 1:2 2:2 3:2\nrow 0 1 2 3 4 5\nrow 1 0 3 2 5 4\nrow 2 3 4 5 2 3\nrow 3 2 5 4 3 2\nrow 4 5 2 3 4 5\nrow 5 4 3 2 5 4\napart 0 1 1 0 4 0 0 4 0 2 0 1 0 1 0\nend\n",
+            b"mqc 1\ncode 0.33\norder 6\nstart 1\nperiod 3\nphi 1 2 0\nportion 1 4\n\
+words 0:1 0:2 1:2 2:2 3:2\nrow 0 1 2 3 4 5\nrow 1 0 3 2 5 4\nrow 2 3 4 5 2 3\nrow 3 2 5 4 3 2\n\
+row 4 5 2 3 4 5\nrow 5 4 3 2 5 4\napart 0 1 1 0 4 0 0 4 0 2 0 1 0 1 0\nend\n",
         ),
         (
             "0.75",
-            b"mqc 1\ncode 0.75\norder 8\nstart 8\nperiod 2\nphi 1 2 1 2 3 2 3 2 4\nportion 1 7\nwords 0:1 0:2 0:5 0:9 1:2 1:5 1:9\nrow 0 1 2 3 4 5 6 7\nrow 1 0 5 6 7 2 3 4\nrow 2 5 7 5 5 4 2 2\nrow 3 6 5 7 7 2 4 4\nrow 4 7 5 7 7 2 4 4\nrow 5 2 4 2 2 7 5 5\nrow 6 3 2 4 4 5 7 7\nrow 7 4 2 4 4 5 7 7\napart 0 1 1 3 1 1 0 0 0 0 0 0 4 2 1 2 2 0 1 3 3 0 1 1 0 5 0 0\nend\n",
+            b"mqc 1\ncode 0.75\norder 8\nstart 8\nperiod 2\nphi 1 2 1 2 3 2 3 2 4\nportion 1 7\n\
+words 0:1 0:2 0:5 0:9 1:2 1:5 1:9\nrow 0 1 2 3 4 5 6 7\nrow 1 0 5 6 7 2 3 4\nrow 2 5 7 5 5 4 2 2\n\
+row 3 6 5 7 7 2 4 4\nrow 4 7 5 7 7 2 4 4\nrow 5 2 4 2 2 7 5 5\nrow 6 3 2 4 4 5 7 7\n\
+row 7 4 2 4 4 5 7 7\napart 0 1 1 3 1 1 0 0 0 0 0 0 4 2 1 2 2 0 1 3 3 0 1 1 0 5 0 0\nend\n",
         ),
     ];
     for (code, text) in rows {
@@ -56,7 +63,8 @@ fn prints_the_certificates_of_worked_codes(rt: HostRuntime) -> Result<(), Fail> 
     Ok(())
 }
 
-/// The certificate of a code of which each digit behind the point is 0 or 1: the digits are the heaps' elements.
+/// The certificate of a code of which each digit behind the point is 0 or 1: the digits are the
+/// heaps' elements.
 fn by_rule(alloc: Global, digits: &str) -> Result<String, Fail> {
     let mut phi = String::new(alloc);
     let mut first = 0;
@@ -69,7 +77,8 @@ fn by_rule(alloc: Global, digits: &str) -> Result<String, Fail> {
     }
     let start = digits.len().saturating_add(1);
     Ok(format!(in alloc;
-        "mqc 1\ncode 0.{digits}\norder 2\nstart {start}\nperiod 1\nphi {phi}0\nportion 1\nwords 0:{first}\nrow 0 1\nrow 1 0\napart 0\nend\n"
+        "mqc 1\ncode 0.{digits}\norder 2\nstart {start}\nperiod 1\nphi {phi}0\nportion 1\n\
+words 0:{first}\nrow 0 1\nrow 1 0\napart 0\nend\n"
     )?)
 }
 
@@ -106,15 +115,19 @@ fn solves_stretched_codes(rt: HostRuntime) -> Result<(), Fail> {
     let rows: [(&str, &[u8]); 3] = [
         (
             "0.03",
-            b"mqc 1\ncode 0.03\norder 2\nstart 1\nperiod 4\nphi 0 1 1 0\nportion 1\nwords 0:2\nrow 0 1\nrow 1 0\napart 0\nend\n",
+            b"mqc 1\ncode 0.03\norder 2\nstart 1\nperiod 4\nphi 0 1 1 0\nportion 1\nwords 0:2\n\
+row 0 1\nrow 1 0\napart 0\nend\n",
         ),
         (
             "0.003",
-            b"mqc 1\ncode 0.003\norder 2\nstart 1\nperiod 6\nphi 0 0 1 1 1 0\nportion 1\nwords 0:3\nrow 0 1\nrow 1 0\napart 0\nend\n",
+            b"mqc 1\ncode 0.003\norder 2\nstart 1\nperiod 6\nphi 0 0 1 1 1 0\nportion 1\n\
+words 0:3\nrow 0 1\nrow 1 0\napart 0\nend\n",
         ),
         (
             "0.0303",
-            b"mqc 1\ncode 0.0303\norder 6\nstart 1\nperiod 6\nphi 0 1 1 2 2 0\nportion 1 4\nwords 0:2 0:4 1:4 2:4 3:4\nrow 0 1 2 3 4 5\nrow 1 0 3 2 5 4\nrow 2 3 4 5 2 3\nrow 3 2 5 4 3 2\nrow 4 5 2 3 4 5\nrow 5 4 3 2 5 4\napart 0 1 1 0 4 0 0 4 0 2 0 1 0 1 0\nend\n",
+            b"mqc 1\ncode 0.0303\norder 6\nstart 1\nperiod 6\nphi 0 1 1 2 2 0\nportion 1 4\n\
+words 0:2 0:4 1:4 2:4 3:4\nrow 0 1 2 3 4 5\nrow 1 0 3 2 5 4\nrow 2 3 4 5 2 3\nrow 3 2 5 4 3 2\n\
+row 4 5 2 3 4 5\nrow 5 4 3 2 5 4\napart 0 1 1 0 4 0 0 4 0 2 0 1 0 1 0\nend\n",
         ),
     ];
     for (code, text) in rows {

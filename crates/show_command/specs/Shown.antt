@@ -8,7 +8,8 @@ use Rattle.check_command.specs.Checks.{Certifies, SaysOfFile}
 
 -- the first two lines
 abbrev pub head_lines : Certificate → List ℕ
-head_lines c = codes "code " ++ code_text c.code ++ codes "\norder " ++ decimal c.order ++ codes "\n"
+head_lines c = codes "code " ++ code_text c.code ++ codes "\norder " ++ decimal c.order
+    ++ codes "\n"
 
 -- the last line
 abbrev pub tail_line : Certificate → List ℕ
@@ -20,12 +21,14 @@ letter_of c e = if (claim_of c).portion e then codes "P" else codes "N"
 
 -- an element, its letter, and a position
 abbrev pub element_line : ℕ → List ℕ → List ℕ → List ℕ
-element_line e letter position = codes "element " ++ decimal e ++ codes " " ++ letter ++ codes " " ++ position ++ codes "\n"
+element_line e letter position = codes "element " ++ decimal e ++ codes " " ++ letter ++ codes " "
+    ++ position ++ codes "\n"
 
 -- The lines of the elements below n, with the positions that their keys spell.
 pub data AreElementLines (c : Certificate) : ℕ → List ℕ → Type 0 where
   NoElement : AreElementLines c 0 []
-  NextElement : {text : List ℕ} (e : ℕ) (sizes : List ℕ) → AreElementLines c e text → AreSpelled c e sizes
+  NextElement : {text : List ℕ} (e : ℕ) (sizes : List ℕ) → AreElementLines c e text
+      → AreSpelled c e sizes
       → AreElementLines c (e + 1) (text ++ element_line e (letter_of c e) (position_text sizes))
 
 -- a heap and its element
@@ -35,9 +38,11 @@ heap_line heap element = codes "heap " ++ decimal heap ++ codes " " ++ decimal e
 -- The lines of the heaps from 1 to below n.
 pub data AreHeapLines (c : Certificate) : ℕ → List ℕ → Type 0 where
   NoHeap : AreHeapLines c 1 []
-  NextHeap : {text : List ℕ} (heap : ℕ) → AreHeapLines c heap text → AreHeapLines c (heap + 1) (text ++ heap_line heap (phi_at c heap))
+  NextHeap : {text : List ℕ} (heap : ℕ) → AreHeapLines c heap text
+      → AreHeapLines c (heap + 1) (text ++ heap_line heap (phi_at c heap))
 
--- The text is that of the quotient: its code and order, its elements, its heaps, and how they repeat.
+-- The text is that of the quotient: its code and order, its elements, its heaps, and how they
+-- repeat.
 pub record IsQuotientText (c : Certificate) (text : List ℕ) : Type 0 where
   pub elements : List ℕ
   pub heaps : List ℕ
@@ -52,5 +57,6 @@ ShowsFound (Err said) text well = (text ≡ said.items) × (well ≡ false)
 
 -- the text is that of the quotient that the file certifies under the limit, or of a true no
 abbrev pub Shows : Option (List ℕ → Option (List ℕ)) → List ℕ → ℕ → List ℕ → Bool → Type 0
-Shows files file limit text true = (c : Certificate) × Certifies files file limit c × IsQuotientText c text
+Shows files file limit text true = (c : Certificate) × Certifies files file limit c
+    × IsQuotientText c text
 Shows files file limit text false = SaysOfFile files file limit text false

@@ -33,7 +33,8 @@ fn element_text(
 
 /// One line for each element, with its outcome and a position of that value.
 fn elements_text(alloc: Global, certified: &Certified) -> Result<String, Memory>
-    ensures { IfOk result (λ t. AreElementLines certified.now certified.now.order (string_bytes t)) }
+    ensures { IfOk result
+        (λ t. AreElementLines certified.now certified.now.order (string_bytes t)) }
 {
     let mut text = String::new(alloc);
     for element in 0..certified.cert().order() {
@@ -54,7 +55,9 @@ fn heap_text(alloc: Global, heap: u64, element: u16) -> Result<String, AllocErro
 
 /// One line for each heap before the elements repeat.
 fn heaps_text(alloc: Global, certified: &Certified) -> Result<String, Memory>
-    ensures { IfOk result (λ t. AreHeapLines certified.now (certified.now.start + certified.now.period) (string_bytes t)) }
+    ensures { IfOk result
+        (λ t. AreHeapLines certified.now (certified.now.start + certified.now.period)
+        (string_bytes t)) }
 {
     let cert = certified.cert();
     let mut text = String::new(alloc);
@@ -102,17 +105,20 @@ fn shown(alloc: Global, quotient: Result<Certified, Vec<u8>>) -> Result<Said, Me
     }
 }
 
-/// The quotient that the file certifies under the limit: its code and order, each element with its outcome and a position of that value,
-/// each heap with its element, and how the heaps repeat; or else why it certifies none.
+/// The quotient that the file certifies under the limit: its code and order, each element with its
+/// outcome and a position of that value, each heap with its element, and how the heaps repeat; or
+/// else why it certifies none.
 pub fn show<'a, F: Folder>(
     alloc: Global,
     file: &'a str,
     limit: u32,
     folder: &mut F,
 ) -> Result<Said, Stop<'a>>
-    ensures shows { IfOk result (λ s. Shows (F.files folder.old) file.entry.now limit s.text.items s.well) }
+    ensures shows { IfOk result
+        (λ s. Shows (F.files folder.old) file.entry.now limit s.text.items s.well) }
     ensures kept { F.files folder.new ≡ F.files folder.old }
-    ensures stops { IfErr result (IsFileCause file.entry.now (F.failed_reads folder.old) (F.failed_reads folder.new)) }
+    ensures stops { IfErr result
+        (IsFileCause file.entry.now (F.failed_reads folder.old) (F.failed_reads folder.new)) }
 {
     let quotient = certified(alloc, file, limit, folder)?;
     match shown(alloc, quotient) {

@@ -10,38 +10,50 @@ use Rattle.solve_command.specs.declared.bounds.SolveBounds.{SolveBounds}
 use Rattle.solve_command.specs.declared.stop.SolveStop.{SolveStop}
 use Rattle.solve_command.specs.Solved.{Finds, PrintsCertificate, PrintsSpelling, Solves}
 
-pub solved : (text code : List ℕ) (bounds : SolveBounds) (before after : Option (List ℕ)) (r : Result Bool SolveStop)
-    → IsCodeText text code → IfOk r (Finds code bounds before after) → IfOk r (Solves text bounds before after)
+pub solved : (text code : List ℕ) (bounds : SolveBounds) (before after : Option (List ℕ))
+    (r : Result Bool SolveStop)
+    → IsCodeText text code → IfOk r (Finds code bounds before after)
+    → IfOk r (Solves text bounds before after)
 solved text code bounds before after (Ok found) is f = (code, is, f)
 solved text code bounds before after (Err stop) is f = tt
 
-pub certificate : (c : Certificate) (code : List ℕ) (bounds : SolveBounds) (before after : Option (List ℕ)) (r : Result Bool SolveStop)
-    → c.code ≡ code → Accepted c → c.order ≤ bounds.order → IfOk r (λ found. (found ≡ true) × PrintsSpelling c before after)
+pub certificate : (c : Certificate) (code : List ℕ) (bounds : SolveBounds)
+    (before after : Option (List ℕ)) (r : Result Bool SolveStop)
+    → c.code ≡ code → Accepted c → c.order ≤ bounds.order
+    → IfOk r (λ found. (found ≡ true) × PrintsSpelling c before after)
     → IfOk r (Finds code bounds before after)
 certificate c code bounds before after (Ok true) is a small p =
     record { c = c; of_code = is; accepted = a; small = small; printed = p.1 }
 certificate c code bounds before after (Ok false) is a small p = let no : false ≡ true = p.0 in cc
 certificate c code bounds before after (Err stop) is a small p = tt
 
-pub rounds : (code : List ℕ) (bounds : SolveBounds) (before after : Option (List ℕ)) (r : Result Bool SolveStop)
-    → IfOk r (λ found. (found ≡ false) × Appends before after (codes "gave up 1 Rounds\n")) → IfOk r (Finds code bounds before after)
+pub rounds : (code : List ℕ) (bounds : SolveBounds) (before after : Option (List ℕ))
+    (r : Result Bool SolveStop)
+    → IfOk r (λ found. (found ≡ false) × Appends before after (codes "gave up 1 Rounds\n"))
+    → IfOk r (Finds code bounds before after)
 rounds code bounds before after (Ok false) p = inl p.1
 rounds code bounds before after (Ok true) p = let no : true ≡ false = p.0 in cc
 rounds code bounds before after (Err stop) p = tt
 
-pub empty : (code : List ℕ) (bounds : SolveBounds) (before after : Option (List ℕ)) (r : Result Bool SolveStop)
-    → bounds.rounds ≢ 0 → IfOk r (λ found. (found ≡ false) × Appends before after (codes "gave up 2 Empty\n")) → IfOk r (Finds code bounds before after)
+pub empty : (code : List ℕ) (bounds : SolveBounds) (before after : Option (List ℕ))
+    (r : Result Bool SolveStop)
+    → bounds.rounds ≢ 0
+    → IfOk r (λ found. (found ≡ false) × Appends before after (codes "gave up 2 Empty\n"))
+    → IfOk r (Finds code bounds before after)
 empty code bounds before after (Ok false) some p = inr (some, p.1)
 empty code bounds before after (Ok true) some p = let no : true ≡ false = p.0 in cc
 empty code bounds before after (Err stop) some p = tt
 
-pub spelling : (c d : Certificate) (bytes : List ℕ) (before after : Option (List ℕ)) → d ≡ c → Spells bytes d → Appends before after bytes
+pub spelling : (c d : Certificate) (bytes : List ℕ) (before after : Option (List ℕ)) → d ≡ c
+    → Spells bytes d → Appends before after bytes
     → PrintsSpelling c before after
 spelling c d bytes before after e s p =
     let P : Certificate → Type 0 = λ m. PrintsSpelling m before after in subst P e (bytes, s, p)
 
 pub within : (c d : Certificate) (n m : ℕ) → d ≡ c → n ≡ d.order → n ≤ m → c.order ≤ m
-within c d n m e f h = let o : d.order ≡ c.order = ap (λ (x : Certificate). x.order) e in omega arith
+within c d n m e f h = let o : d.order ≡ c.order = ap (λ (x : Certificate). x.order) e in
+    omega arith
 
 pub not_empty : (r : Result Certificate GaveUp) → r ≡ Err Empty → IfErr r (λ why. why ≢ Empty) → ⊥
-not_empty r e h = let P : Result Certificate GaveUp → Type 0 = λ x. IfErr x (λ why. why ≢ Empty) in subst P e h refl
+not_empty r e h = let P : Result Certificate GaveUp → Type 0 = λ x. IfErr x (λ why. why ≢ Empty) in
+    subst P e h refl

@@ -14,10 +14,11 @@ use quotient_finder::GaveUp;
 use std::alloc::Global;
 use streams::{Sink, write_whole};
 
-/// Searches for a certificate of the code that the text spells, and prints it, or how the search was given up. Answers whether it
-/// was found.
+/// Searches for a certificate of the code that the text spells, and prints it, or how the search
+/// was given up. Answers whether it was found.
 ///
-/// Where the text is no code's, or memory was wanting, nothing was written; after a failure of the sink a beginning of the text was.
+/// Where the text is no code's, or memory was wanting, nothing was written; after a failure of the
+/// sink a beginning of the text was.
 pub fn solve<W: Sink>(
     alloc: Global,
     text: &str,
@@ -27,7 +28,8 @@ pub fn solve<W: Sink>(
     ensures solved { IfOk result (Solves text.now bounds (W.taken out.old) (W.taken out.new)) }
     ensures not_a_code { IsErrOf result SolveStop.NotACode ↔ IsNoCode text.now }
     ensures write { IsErrOf result SolveStop.Write → W.failures out.old < W.failures out.new }
-    ensures unwritten { IsErrOf result SolveStop.NotACode ⊎ IsErrOf result SolveStop.Memory → out.new ≡ out.old }
+    ensures unwritten { IsErrOf result SolveStop.NotACode ⊎ IsErrOf result SolveStop.Memory
+        → out.new ≡ out.old }
 {
     let code = code_of(text)?;
     answer(alloc, &code, bounds, out)
@@ -69,8 +71,10 @@ fn answer<W: Sink>(
 
 /// Prints the certificate.
 fn print<W: Sink>(certified: &Certified, out: &mut W) -> Result<bool, SolveStop>
-    ensures printed { IfOk result (λ found. (found ≡ true) × PrintsSpelling certified.now (W.taken out.old) (W.taken out.new)) }
-    ensures write { IfErr result (λ stop. (stop ≡ SolveStop.Write) × (W.failures out.old < W.failures out.new)) }
+    ensures printed { IfOk result (λ found. (found ≡ true)
+        × PrintsSpelling certified.now (W.taken out.old) (W.taken out.new)) }
+    ensures write { IfErr result (λ stop. (stop ≡ SolveStop.Write)
+        × (W.failures out.old < W.failures out.new)) }
 {
     write(certified.cert(), out)?;
     Ok(true)
@@ -78,8 +82,10 @@ fn print<W: Sink>(certified: &Certified, out: &mut W) -> Result<bool, SolveStop>
 
 /// Prints how the search was given up.
 fn give_up<W: Sink>(line: &[u8], out: &mut W) -> Result<bool, SolveStop>
-    ensures printed { IfOk result (λ found. (found ≡ false) × Appends (W.taken out.old) (W.taken out.new) line.now) }
-    ensures write { IfErr result (λ stop. (stop ≡ SolveStop.Write) × (W.failures out.old < W.failures out.new)) }
+    ensures printed { IfOk result (λ found. (found ≡ false)
+        × Appends (W.taken out.old) (W.taken out.new) line.now) }
+    ensures write { IfErr result (λ stop. (stop ≡ SolveStop.Write)
+        × (W.failures out.old < W.failures out.new)) }
 {
     write_whole(out, line)?;
     Ok(false)

@@ -17,29 +17,42 @@ use Rattle.transition_algebra.specs.Pretending.{Pretending, phi_at, IsPretending
 use Rattle.transition_algebra.specs.Work.{tries}
 use Rattle.transition_algebra.proofs.Repeats.{phi_repeats, phi_in}
 
-pub periodic : (code : List ℕ) (c : Claim) (table : Grid) (phi : Pretending) → IsPretending phi → Agrees c table phi → IsPeriodic code c (length code - 1) phi.start phi.period
+pub periodic : (code : List ℕ) (c : Claim) (table : Grid) (phi : Pretending) → IsPretending phi
+    → Agrees c table phi → IsPeriodic code c (length code - 1) phi.start phi.period
 periodic code c table phi pretending agrees = record {
   last = λ j l. get_or_past code j 0 (omega arith);
   from_one = pretending.from_one;
   some = pretending.some;
   repeats = λ n l.
       let one : 1 ≤ n = let f = pretending.from_one in omega arith in
-      agrees.phi_is (phi.period + n) (omega arith) ∙ phi_repeats phi n l ∙ sym (agrees.phi_is n one);
+      agrees.phi_is (phi.period + n) (omega arith) ∙ phi_repeats phi n l
+      ∙ sym (agrees.phi_is n one);
 }
 
 -- an option whose smaller part stands first and is small is tried
-small_tried : (code : List ℕ) (phi : Pretending) (n : ℕ) (H : List ℕ) → HeapOption code n H → IsSmallSplit (phi.start + phi.period) H → (left : Left) × Contains (tries code phi n) left × (heaps_of left ≡ H)
-small_tried code phi n H (TakesAll j l h b) s = (Nothing, in_options code n (largest_part phi) j Nothing (l, h, b) tt, refl)
-small_tried code phi n H (LeavesOne j a l p h b) s = (One a, in_options code n (largest_part phi) j (One a) (l, p, h, b) tt, refl)
-small_tried code phi n H (LeavesTwo j a b p q h s) w = (Two a b, in_options code n (largest_part phi) j (Two a b) (p, w.0, h, s) (let u = w.1 in omega arith), refl)
+small_tried : (code : List ℕ) (phi : Pretending) (n : ℕ) (H : List ℕ) → HeapOption code n H
+    → IsSmallSplit (phi.start + phi.period) H → (left : Left) × Contains (tries code phi n) left
+    × (heaps_of left ≡ H)
+small_tried code phi n H (TakesAll j l h b) s =
+    (Nothing, in_options code n (largest_part phi) j Nothing (l, h, b) tt, refl)
+small_tried code phi n H (LeavesOne j a l p h b) s =
+    (One a, in_options code n (largest_part phi) j (One a) (l, p, h, b) tt, refl)
+small_tried code phi n H (LeavesTwo j a b p q h s) w = (
+  Two a b,
+  in_options code n (largest_part phi) j (Two a b) (p, w.0, h, s) (let u = w.1 in
+      omega arith),
+  refl,
+)
 
 -- the parts of what is tried are heaps
-pub tried_heaps : (code : List ℕ) (n j : ℕ) (left : Left) → IsLeftAt code n j left → IsPosition IsHeap (heaps_of left)
+pub tried_heaps : (code : List ℕ) (n j : ℕ) (left : Left) → IsLeftAt code n j left
+    → IsPosition IsHeap (heaps_of left)
 tried_heaps code n j Nothing h = tt
 tried_heaps code n j (One a) h = (h.1, tt)
 tried_heaps code n j (Two a b) h = (h.0, (let l = h.0 in let m = h.1 in omega arith, tt))
 
-module _ (table : Grid) (monoid : Monoid table.order (times_in table)) (phi : Pretending) (into : IsInto table phi) (c : Claim) (agrees : Agrees c table phi) where
+module _ (table : Grid) (monoid : Monoid table.order (times_in table)) (phi : Pretending)
+    (into : IsInto table phi) (c : Claim) (agrees : Agrees c table phi) where
   in_table : (x : ℕ) → x < c.order → x < table.order
   in_table x l = let e = agrees.order_is in omega arith
 
@@ -50,44 +63,62 @@ module _ (table : Grid) (monoid : Monoid table.order (times_in table)) (phi : Pr
   times_is x y i j = agrees.times_is x y (in_table x i) (in_table y j)
 
   times_closed : (x y : ℕ) → x < c.order → y < c.order → c.times x y < c.order
-  times_closed x y i j = in_claim (c.times x y) (subst (λ v. v < table.order) (sym (times_is x y i j)) (monoid.closed x y (in_table x i) (in_table y j)))
+  times_closed x y i j =
+      in_claim (c.times x y)
+      (subst (λ v. v < table.order) (sym (times_is x y i j))
+      (monoid.closed x y (in_table x i) (in_table y j)))
 
   pub claim_monoid : Monoid c.order c.times
   claim_monoid = record {
     some = in_claim 0 monoid.some;
     closed = times_closed;
     identity = λ x i. times_is 0 x (in_claim 0 monoid.some) i ∙ monoid.identity x (in_table x i);
-    commutes = λ x y i j. times_is x y i j ∙ monoid.commutes x y (in_table x i) (in_table y j) ∙ sym (times_is y x j i);
+    commutes = λ x y i j. times_is x y i j ∙ monoid.commutes x y (in_table x i) (in_table y j)
+        ∙ sym (times_is y x j i);
     associates = λ x y z i j k.
-        times_is (c.times x y) z (times_closed x y i j) k ∙ ap (λ v. times_in table v z) (times_is x y i j)
+        times_is (c.times x y) z (times_closed x y i j) k
+        ∙ ap (λ v. times_in table v z) (times_is x y i j)
         ∙ monoid.associates x y z (in_table x i) (in_table y j) (in_table z k)
-        ∙ sym (ap (times_in table x) (times_is y z j k)) ∙ sym (times_is x (c.times y z) i (times_closed y z j k));
+        ∙ sym (ap (times_in table x) (times_is y z j k))
+        ∙ sym (times_is x (c.times y z) i (times_closed y z j k));
   }
 
   pub claim_gives : GivesElements IsHeap c
-  claim_gives n one = in_claim (c.phi n) (subst (λ v. v < table.order) (sym (agrees.phi_is n one)) (phi_in table monoid phi into n))
+  claim_gives n one =
+      in_claim (c.phi n)
+      (subst (λ v. v < table.order) (sym (agrees.phi_is n one)) (phi_in table monoid phi into n))
 
   one_value : (a : ℕ) → 1 ≤ a → value c (a ∷ []) ≡ phi_at phi a
   one_value a l =
       let i = claim_gives a l in
-      claim_monoid.commutes (c.phi a) 0 i claim_monoid.some ∙ claim_monoid.identity (c.phi a) i ∙ agrees.phi_is a l
+      claim_monoid.commutes (c.phi a) 0 i claim_monoid.some ∙ claim_monoid.identity (c.phi a) i
+      ∙ agrees.phi_is a l
 
-  pub left_is : (left : Left) → IsPosition IsHeap (heaps_of left) → left_value table phi left ≡ value c (heaps_of left)
+  pub left_is : (left : Left) → IsPosition IsHeap (heaps_of left)
+      → left_value table phi left ≡ value c (heaps_of left)
   left_is Nothing p = refl
   left_is (One a) p = sym (one_value a p.0)
   left_is (Two a b) p =
-      sym (ap₂ c.times (agrees.phi_is a p.0) (one_value b p.1.0) ∙ agrees.times_is (phi_at phi a) (phi_at phi b) (phi_in table monoid phi into a) (phi_in table monoid phi into b))
+      sym (ap₂ c.times (agrees.phi_is a p.0) (one_value b p.1.0) ∙ agrees.times_is (phi_at phi a)
+      (phi_at phi b) (phi_in table monoid phi into a) (phi_in table monoid phi into b))
 
-  left_at : (code : List ℕ) (n : ℕ) (left : Left) → Contains (tries code phi n) left → left_value table phi left ≡ value c (heaps_of left)
-  left_at code n left i = let (j, h) = of_options code n (largest_part phi) left i in left_is left (tried_heaps code n j left h)
+  left_at : (code : List ℕ) (n : ℕ) (left : Left) → Contains (tries code phi n) left
+      → left_value table phi left ≡ value c (heaps_of left)
+  left_at code n left i = let (j, h) = of_options code n (largest_part phi) left i in
+      left_is left (tried_heaps code n j left h)
 
   -- the values of the options that are tried are those of all
-  pub tried_values : (code : List ℕ) (n : ℕ) → IsPretending phi → (x : ℕ) → ((left : Left) × Contains (tries code phi n) left × (left_value table phi left ≡ x)) ↔ HeapOptionValue code c n x
+  pub tried_values : (code : List ℕ) (n : ℕ) → IsPretending phi → (x : ℕ)
+      → ((left : Left) × Contains (tries code phi n) left × (left_value table phi left ≡ x))
+      ↔ HeapOptionValue code c n x
   tried_values code n pretending x = (
-    λ h. let (left, i, e) = h in (heaps_of left, (only code n (largest_part phi) left i).0, sym (left_at code n left i) ∙ e),
+    λ h. let (left, i, e) = h in
+        (heaps_of left, (only code n (largest_part phi) left i).0, sym (left_at code n left i) ∙ e),
     λ h.
         let (H, o, e) = h in
-        let (L, p, small, v) = enough code c (length code - 1) phi.start phi.period (periodic code c table phi pretending agrees) claim_monoid claim_gives n H o in
+        let (L, p, small, v) =
+        enough code c (length code - 1) phi.start phi.period
+        (periodic code c table phi pretending agrees) claim_monoid claim_gives n H o in
         let (left, i, same) = small_tried code phi n L p small in
         (left, i, left_at code n left i ∙ ap (value c) same ∙ v ∙ e),
   )

@@ -36,40 +36,60 @@ two_from_one code n most j =
     ap (λ k. where_holds (has_bit code j 4) (splits (n - j) 1 k)) e
 
 pub single_then_splits : (code : List ℕ) (n most j : ℕ) → j < length code
-    → taking_from code n most j ≡ single_left code n j ++ (splits_from code n most j 1 ++ taking_from code n most (j + 1))
+    → taking_from code n most j ≡ single_left code n j
+    ++ (splits_from code n most j 1 ++ taking_from code n most (j + 1))
 single_then_splits code n most j l =
-    ap (flat_map (options_at code n most)) (range_more j (length code - j) (length code - (j + 1)) (omega arith))
-    ∙ ap (λ xs. xs ++ taking_from code n most (j + 1)) (sym (append_assoc (nothing_left code n j) (one_left code n j) (two_left code n most j)) ∙ ap (λ xs. single_left code n j ++ xs) (two_from_one code n most j))
-    ∙ append_assoc (single_left code n j) (splits_from code n most j 1) (taking_from code n most (j + 1))
+    ap (flat_map (options_at code n most))
+    (range_more j (length code - j) (length code - (j + 1)) (omega arith))
+    ∙ ap (λ xs. xs ++ taking_from code n most (j + 1))
+    (sym (append_assoc (nothing_left code n j) (one_left code n j) (two_left code n most j))
+    ∙ ap (λ xs. single_left code n j ++ xs) (two_from_one code n most j))
+    ∙ append_assoc (single_left code n j) (splits_from code n most j 1)
+    (taking_from code n most (j + 1))
 
 pub none_past : (code : List ℕ) (n most j : ℕ) → length code ≤ j → taking_from code n most j ≡ []
-none_past code n most j l = ap (flat_map (options_at code n most)) (range_none j (length code - j) (omega arith))
+none_past code n most j l =
+    ap (flat_map (options_at code n most)) (range_none j (length code - j) (omega arith))
 
-not_both : (b c : Bool) (n j : ℕ) → (b && not (eqb j 0) && eqb n j) ≡ true → (c && not (eqb j 0) && ltb j n) ≡ false
+not_both : (b c : Bool) (n j : ℕ) → (b && not (eqb j 0) && eqb n j) ≡ true
+    → (c && not (eqb j 0) && ltb j n) ≡ false
 not_both b c n j e = grind (arith, nat_tests)
 
-pub single_nothing : (code : List ℕ) (n j : ℕ) → takes_all code n j ≡ true → single_left code n j ≡ Nothing ∷ []
+pub single_nothing : (code : List ℕ) (n j : ℕ) → takes_all code n j ≡ true
+    → single_left code n j ≡ Nothing ∷ []
 single_nothing code n j e =
     ap (λ xs. xs ++ one_left code n j) (where_true (takes_all code n j) (Nothing ∷ []) e)
-    ∙ ap (λ xs. Nothing ∷ xs) (where_false (leaves_one code n j) (One (n - j) ∷ []) (not_both (has_bit code j 1) (has_bit code j 2) n j e))
+    ∙ ap (λ xs. Nothing ∷ xs)
+    (where_false (leaves_one code n j) (One (n - j) ∷ [])
+    (not_both (has_bit code j 1) (has_bit code j 2) n j e))
 
-pub single_one : (code : List ℕ) (n j : ℕ) → takes_all code n j ≡ false → leaves_one code n j ≡ true → single_left code n j ≡ One (n - j) ∷ []
+pub single_one : (code : List ℕ) (n j : ℕ) → takes_all code n j ≡ false → leaves_one code n j ≡ true
+    → single_left code n j ≡ One (n - j) ∷ []
 single_one code n j e f =
-    ap (λ xs. xs ++ one_left code n j) (where_false (takes_all code n j) (Nothing ∷ []) e) ∙ where_true (leaves_one code n j) (One (n - j) ∷ []) f
+    ap (λ xs. xs ++ one_left code n j) (where_false (takes_all code n j) (Nothing ∷ []) e)
+    ∙ where_true (leaves_one code n j) (One (n - j) ∷ []) f
 
-pub single_none : (code : List ℕ) (n j : ℕ) → takes_all code n j ≡ false → leaves_one code n j ≡ false → single_left code n j ≡ []
+pub single_none : (code : List ℕ) (n j : ℕ) → takes_all code n j ≡ false
+    → leaves_one code n j ≡ false → single_left code n j ≡ []
 single_none code n j e f =
-    ap (λ xs. xs ++ one_left code n j) (where_false (takes_all code n j) (Nothing ∷ []) e) ∙ where_false (leaves_one code n j) (One (n - j) ∷ []) f
+    ap (λ xs. xs ++ one_left code n j) (where_false (takes_all code n j) (Nothing ∷ []) e)
+    ∙ where_false (leaves_one code n j) (One (n - j) ∷ []) f
 
 -- no split is left
-pub splits_off : (code : List ℕ) (n most j a : ℕ) → has_bit code j 4 ≡ false → splits_from code n most j a ≡ []
-splits_off code n most j a e = where_false (has_bit code j 4) (splits (n - j) a (min ((n - j) / 2) most + 1 - a)) e
+pub splits_off : (code : List ℕ) (n most j a : ℕ) → has_bit code j 4 ≡ false
+    → splits_from code n most j a ≡ []
+splits_off code n most j a e =
+    where_false (has_bit code j 4) (splits (n - j) a (min ((n - j) / 2) most + 1 - a)) e
 
 none_at : (m a k : ℕ) → k ≡ 0 → splits m a k ≡ []
 none_at m a k e = rw e
 
-pub splits_over : (code : List ℕ) (n most j a : ℕ) → min ((n - j) / 2) most < a → splits_from code n most j a ≡ []
-splits_over code n most j a l = ap (where_holds (has_bit code j 4)) (none_at (n - j) a (min ((n - j) / 2) most + 1 - a) (omega arith)) ∙ none_where (has_bit code j 4)
+pub splits_over : (code : List ℕ) (n most j a : ℕ) → min ((n - j) / 2) most < a
+    → splits_from code n most j a ≡ []
+splits_over code n most j a l =
+    ap (where_holds (has_bit code j 4))
+    (none_at (n - j) a (min ((n - j) / 2) most + 1 - a) (omega arith))
+    ∙ none_where (has_bit code j 4)
 
 splits_add : (m a c d : ℕ) → splits m a (c + d) ≡ splits m a c ++ splits m (a + c) d
 splits_add m a zero d =
@@ -77,47 +97,61 @@ splits_add m a zero d =
     ap (splits m a) e ∙ ap (λ b. splits m b d) f
 splits_add m a (suc c) d =
     let e : suc c + d ≡ suc (c + d) = omega arith in let f : a + 1 + c ≡ a + suc c = omega arith in
-    ap (splits m a) e ∙ ap (λ xs. Two a (m - a) ∷ xs) (splits_add m (a + 1) c d ∙ ap (λ b. splits m (a + 1) c ++ splits m b d) f)
+    ap (splits m a) e
+    ∙ ap (λ xs. Two a (m - a) ∷ xs)
+    (splits_add m (a + 1) c d ∙ ap (λ b. splits m (a + 1) c ++ splits m b d) f)
 
 -- some splits, and the others
-pub splits_first : (code : List ℕ) (n most j a c : ℕ) → has_bit code j 4 ≡ true → a + c ≤ min ((n - j) / 2) most + 1
+pub splits_first : (code : List ℕ) (n most j a c : ℕ) → has_bit code j 4 ≡ true
+    → a + c ≤ min ((n - j) / 2) most + 1
     → splits_from code n most j a ≡ splits (n - j) a c ++ splits_from code n most j (a + c)
 splits_first code n most j a c e l =
     let h = min ((n - j) / 2) most in
     let f : h + 1 - a ≡ c + (h + 1 - (a + c)) = omega arith in
     where_true (has_bit code j 4) (splits (n - j) a (h + 1 - a)) e
     ∙ ap (splits (n - j) a) f ∙ splits_add (n - j) a c (h + 1 - (a + c))
-    ∙ ap (λ xs. splits (n - j) a c ++ xs) (sym (where_true (has_bit code j 4) (splits (n - j) (a + c) (h + 1 - (a + c))) e))
+    ∙ ap (λ xs. splits (n - j) a c ++ xs)
+    (sym (where_true (has_bit code j 4) (splits (n - j) (a + c) (h + 1 - (a + c))) e))
 
 -- a value more
-pub values_more : (f : ℕ → ℕ) (s t : set.FinSet nat_cmp) (a b v : ℕ) → a < b → v ≡ f a → t ≡ set.insert s v → with_values f t (a + 1) (b - (a + 1)) ≡ with_values f s a (b - a)
+pub values_more : (f : ℕ → ℕ) (s t : set.FinSet nat_cmp) (a b v : ℕ) → a < b → v ≡ f a
+    → t ≡ set.insert s v → with_values f t (a + 1) (b - (a + 1)) ≡ with_values f s a (b - a)
 unfolding with_values
 values_more f s t a b v l e i =
     let m : b - a ≡ suc (b - (a + 1)) = omega arith in
-    ap (λ u. with_values f u (a + 1) (b - (a + 1))) (i ∙ ap (set.insert s) e) ∙ sym (ap (with_values f s a) m)
+    ap (λ u. with_values f u (a + 1) (b - (a + 1))) (i ∙ ap (set.insert s) e)
+    ∙ sym (ap (with_values f s a) m)
 
 pub values_none : (f : ℕ → ℕ) (s : set.FinSet nat_cmp) (a n : ℕ) → n ≡ 0 → with_values f s a n ≡ s
 unfolding with_values
 values_none f s a n e = ap (with_values f s a) e
 
 -- the values of some numbers, and of those behind
-pub values_add : (f : ℕ → ℕ) (s : set.FinSet nat_cmp) (a n : ℕ) → 1 ≤ a → with_values f s 1 (a + n - 1) ≡ with_values f (with_values f s 1 (a - 1)) a n
+pub values_add : (f : ℕ → ℕ) (s : set.FinSet nat_cmp) (a n : ℕ) → 1 ≤ a
+    → with_values f s 1 (a + n - 1) ≡ with_values f (with_values f s 1 (a - 1)) a n
 unfolding with_values
 values_add f s a n l =
     let e : a + n - 1 ≡ a - 1 + n = omega arith in
     let g : 1 + (a - 1) ≡ a = omega arith in
-    ap (with_values f s 1) e ∙ split s 1 (a - 1) ∙ ap (λ b. with_values f (with_values f s 1 (a - 1)) b n) g
+    ap (with_values f s 1) e ∙ split s 1 (a - 1)
+    ∙ ap (λ b. with_values f (with_values f s 1 (a - 1)) b n) g
   where
-    split : (t : set.FinSet nat_cmp) (b m : ℕ) → with_values f t b (m + n) ≡ with_values f (with_values f t b m) (b + m) n
-    split t b zero = let h : 0 + n ≡ n = omega arith in let i : b ≡ b + 0 = omega arith in ap (with_values f t b) h ∙ ap (λ c. with_values f t c n) i
+    split : (t : set.FinSet nat_cmp) (b m : ℕ)
+        → with_values f t b (m + n) ≡ with_values f (with_values f t b m) (b + m) n
+    split t b zero = let h : 0 + n ≡ n = omega arith in let i : b ≡ b + 0 = omega arith in
+        ap (with_values f t b) h ∙ ap (λ c. with_values f t c n) i
     split t b (suc m) =
-        let h : suc m + n ≡ suc (m + n) = omega arith in let i : b + 1 + m ≡ b + suc m = omega arith in
-        ap (with_values f t b) h ∙ split (set.insert t (f b)) (b + 1) m ∙ ap (λ c. with_values f (with_values f (set.insert t (f b)) (b + 1) m) c n) i
+        let h : suc m + n ≡ suc (m + n) = omega arith in let i : b + 1 + m ≡ b + suc m = omega arith
+        in
+        ap (with_values f t b) h ∙ split (set.insert t (f b)) (b + 1) m
+        ∙ ap (λ c. with_values f (with_values f (set.insert t (f b)) (b + 1) m) c n) i
 
 -- what has the values is the set with the values alone beside it
-pub values_beside : (f : ℕ → ℕ) (s : set.FinSet nat_cmp) (a n : ℕ) → set.union s (with_values f set.empty a n) ≡ with_values f s a n
+pub values_beside : (f : ℕ → ℕ) (s : set.FinSet nat_cmp) (a n : ℕ)
+    → set.union s (with_values f set.empty a n) ≡ with_values f s a n
 unfolding with_values
-values_beside f s a n = same_members (set.union s (with_values f set.empty a n)) (with_values f s a n)
+values_beside f s a n =
+    same_members (set.union s (with_values f set.empty a n)) (with_values f s a n)
     (λ q h. elim (has_union s (with_values f set.empty a n) q h) [
       | inl k ↦ stays s a n q k
       | inr k ↦ elim (values_of set.empty a n q k) [
@@ -127,14 +161,16 @@ values_beside f s a n = same_members (set.union s (with_values f set.empty a n))
     ])
     (λ q h. union_has s (with_values f set.empty a n) q (elim (values_of s a n q h) [
       | inl k ↦ inl k
-      | inr (b, p, l, e) ↦ inr (subst (has (with_values f set.empty a n)) e (value_of set.empty a n b p l))
+      | inr (b, p, l, e) ↦ inr
+          (subst (has (with_values f set.empty a n)) e (value_of set.empty a n b p l))
     ]))
   where
     stays : (t : set.FinSet nat_cmp) (b m q : ℕ) → has t q → has (with_values f t b m) q
     stays t b zero q h = h
     stays t b (suc m) q h = stays (set.insert t (f b)) (b + 1) m q (insert_has t (f b) q (inr h))
 
-    values_of : (t : set.FinSet nat_cmp) (b m q : ℕ) → has (with_values f t b m) q → has t q ⊎ ((c : ℕ) × (b ≤ c) × (c < b + m) × (f c ≡ q))
+    values_of : (t : set.FinSet nat_cmp) (b m q : ℕ) → has (with_values f t b m) q
+        → has t q ⊎ ((c : ℕ) × (b ≤ c) × (c < b + m) × (f c ≡ q))
     values_of t b zero q h = inl h
     values_of t b (suc m) q h = elim (values_of (set.insert t (f b)) (b + 1) m q h) [
       | inl k ↦ elim (has_insert t (f b) q k) [
@@ -144,7 +180,8 @@ values_beside f s a n = same_members (set.union s (with_values f set.empty a n))
       | inr (c, p, l, e) ↦ inr (c, omega arith, omega arith, e)
     ]
 
-    value_of : (t : set.FinSet nat_cmp) (b m c : ℕ) → b ≤ c → c < b + m → has (with_values f t b m) (f c)
+    value_of : (t : set.FinSet nat_cmp) (b m c : ℕ) → b ≤ c → c < b + m
+        → has (with_values f t b m) (f c)
     value_of t b zero c p l = absurd (omega arith)
     value_of t b (suc m) c p l = elim (dec_le (b + 1) c) [
       | yes more ↦ value_of (set.insert t (f b)) (b + 1) m c more (omega arith)
@@ -156,7 +193,8 @@ values_beside f s a n = same_members (set.union s (with_values f set.empty a n))
 pub single_short : (code : List ℕ) (n j : ℕ) → length (single_left code n j) ≤ 1
 single_short code n j = by_tests (takes_all code n j) (leaves_one code n j) refl refl
   where
-    by_tests : (a b : Bool) → takes_all code n j ≡ a → leaves_one code n j ≡ b → length (single_left code n j) ≤ 1
+    by_tests : (a b : Bool) → takes_all code n j ≡ a → leaves_one code n j ≡ b
+        → length (single_left code n j) ≤ 1
     by_tests true b e f = let l = ap length (single_nothing code n j e) in omega arith
     by_tests false true e f = let l = ap length (single_one code n j e f) in omega arith
     by_tests false false e f = let l = ap length (single_none code n j e f) in omega arith

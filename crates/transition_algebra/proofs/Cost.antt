@@ -20,18 +20,21 @@ use Rattle.transition_algebra.proofs.Turning.{cost_of, left, left_some, left_goi
 range_more : (a n m : ℕ) → n ≡ suc m → range_with_len a n ≡ a ∷ range_with_len (a + 1) m
 range_more a n m e = ap (range_with_len a) e
 
-sum_more : (f : ℕ → ℕ) (a n m : ℕ) → n ≡ suc m → sum_by f (range_with_len a n) ≡ f a + sum_by f (range_with_len (a + 1) m)
+sum_more : (f : ℕ → ℕ) (a n m : ℕ) → n ≡ suc m
+    → sum_by f (range_with_len a n) ≡ f a + sum_by f (range_with_len (a + 1) m)
 sum_more f a n m e = ap (sum_by f) (range_more a n m e) ∙ sum_by-cons f a (range_with_len (a + 1) m)
 
 sum_none : (f : ℕ → ℕ) (a n : ℕ) → n ≡ 0 → sum_by f (range_with_len a n) ≡ 0
 sum_none f a n e = ap (λ k. sum_by f (range_with_len a k)) e
 
-sum_at_most : (f : ℕ → ℕ) (M a n : ℕ) → ((x : ℕ) → a ≤ x → x < a + n → f x ≤ M) → sum_by f (range_with_len a n) ≤ n * M
+sum_at_most : (f : ℕ → ℕ) (M a n : ℕ) → ((x : ℕ) → a ≤ x → x < a + n → f x ≤ M)
+    → sum_by f (range_with_len a n) ≤ n * M
 sum_at_most f M a zero h = let e = sum_none f a 0 refl in omega arith
 sum_at_most f M a (suc n) h =
     let e = sum_more f a (suc n) n refl in
     let here : f a ≤ M = h a (omega arith) (omega arith) in
-    let rest : sum_by f (range_with_len (a + 1) n) ≤ n * M = sum_at_most f M (a + 1) n (λ x p q. h x (omega arith) (omega arith)) in
+    let rest : sum_by f (range_with_len (a + 1) n) ≤ n * M =
+    sum_at_most f M (a + 1) n (λ x p q. h x (omega arith) (omega arith)) in
     let m : suc n * M ≡ n * M + M = grind arith in
     omega arith
 
@@ -50,7 +53,9 @@ cost_long code phi = sum_at_least (cost_of code phi) 1 (bound_of code phi) (λ n
 
 module _ (code : List ℕ) (table : Grid) (phi : Pretending) where
   left_tried : (n : ℕ) (seen : _) (pairs : List Pair) (coming : List Left) → n ≤ bound_of code phi
-      → left code phi (tried code table phi n seen pairs coming) + 1 ≡ length coming + 1 + sum_by (cost_of code phi) (range_with_len (n + 1) (bound_of code phi - n))
+      → left code phi (tried code table phi n seen pairs coming) + 1
+      ≡ length coming + 1 + sum_by (cost_of code phi)
+      (range_with_len (n + 1) (bound_of code phi - n))
   left_tried n seen pairs (x ∷ xs) l =
       let e = left_going code table phi (tried code table phi n seen pairs (x ∷ xs)) l in
       omega arith
@@ -85,10 +90,12 @@ module _ (code : List ℕ) (table : Grid) (phi : Pretending) where
   left_turns : (n : ℕ) (s : Trying) → left code phi (turns code table phi n s) ≡ left code phi s - n
   unfolding turns
   left_turns zero s = omega arith
-  left_turns (suc n) s = let e = left_turns n (turn code table phi s) in let f = left_turn s in omega arith
+  left_turns (suc n) s = let e = left_turns n (turn code table phi s) in let f = left_turn s in
+      omega arith
 
   -- each turn from the start is one less
-  pub left_after : (n : ℕ) → left code phi (turns code table phi n (opening code phi)) ≡ heap_cost code phi - n
+  pub left_after : (n : ℕ) → left code phi (turns code table phi n (opening code phi))
+      ≡ heap_cost code phi - n
   unfolding heap_cost
   left_after n =
       let B = bound_of code phi in
@@ -105,7 +112,9 @@ module _ (code : List ℕ) (table : Grid) (phi : Pretending) where
       ]
 
 -- after so many turns no heap is left, and not before
-pub cost_turned : (code : List ℕ) (table : Grid) (phi : Pretending) (n : ℕ) → (bound_of code phi < (turns code table phi n (opening code phi)).heap) ↔ (heap_cost code phi ≤ n)
+pub cost_turned : (code : List ℕ) (table : Grid) (phi : Pretending) (n : ℕ)
+    → (bound_of code phi < (turns code table phi n (opening code phi)).heap)
+    ↔ (heap_cost code phi ≤ n)
 cost_turned code table phi n =
     let s = turns code table phi n (opening code phi) in
     let e = left_after code table phi n in (
@@ -130,11 +139,13 @@ options_at_short code n most j =
     let f = length-append (one_left code n j) (two_left code n most j) in
     omega arith
 
-tries_short : (code : List ℕ) (phi : Pretending) (n : ℕ) → length (tries code phi n) ≤ length code * (2 + n / 2)
+tries_short : (code : List ℕ) (phi : Pretending) (n : ℕ)
+    → length (tries code phi n) ≤ length code * (2 + n / 2)
 tries_short code phi n =
     let most = largest_part phi in
     let e = length-flat_map (options_at code n most) (range_with_len 0 (length code)) in
-    let s = sum_at_most (λ j. length (options_at code n most j)) (2 + n / 2) 0 (length code) (λ j p q. options_at_short code n most j) in
+    let s = sum_at_most (λ j. length (options_at code n most j)) (2 + n / 2) 0 (length code)
+    (λ j p q. options_at_short code n most j) in
     omega arith
 
 one_heap : (L B n : ℕ) → 1 ≤ L → 5 ≤ B → n ≤ B → L * (2 + n / 2) + 1 ≤ L * B
@@ -145,7 +156,8 @@ one_heap L B n l b h =
     omega arith
 
 -- at most (k + 1) B² turns
-pub cost_short : (code : List ℕ) (phi : Pretending) → 2 ≤ length code → IsPretending phi → heap_cost code phi ≤ length code * (bound_of code phi * bound_of code phi)
+pub cost_short : (code : List ℕ) (phi : Pretending) → 2 ≤ length code → IsPretending phi
+    → heap_cost code phi ≤ length code * (bound_of code phi * bound_of code phi)
 unfolding heap_cost
 cost_short code phi some pretending =
     let B = bound_of code phi in

@@ -9,20 +9,26 @@ use Rattle.transition_algebra.specs.Heaps.{Agrees, IsHeapPair, IsHeapPairs, boun
 use Rattle.transition_algebra.specs.declared.pair.Pair.{Pair}
 use Rattle.transition_algebra.proofs.Claims.{periodic}
 
-same_pair : (code : List ℕ) (c : Claim) (n m : ℕ) (p : Pair) → SameHeapPair code c n m → IsHeapPair code c m p → IsHeapPair code c n p
+same_pair : (code : List ℕ) (c : Claim) (n m : ℕ) (p : Pair) → SameHeapPair code c n m
+    → IsHeapPair code c m p → IsHeapPair code c n p
 same_pair code c n m p s h = record {
   value_is = h.value_is ∙ sym s.0;
-  options_are = λ x. (λ o. (s.1 x).1 ((h.options_are x).0 o), λ o. (h.options_are x).1 ((s.1 x).0 o));
+  options_are =
+      λ x. (λ o. (s.1 x).1 ((h.options_are x).0 o), λ o. (h.options_are x).1 ((s.1 x).0 o));
 }
 
 pub every_heap : (code : List ℕ) (c : Claim) (table : Grid) (phi : Pretending) (pairs : List Pair)
     → IsPretending phi
     → Agrees c table phi
     → IsHeapPairs code c (bound_of code phi) pairs
-    → (n : ℕ) → 1 ≤ n → (i : ℕ) × (i < length pairs) × ((d : Pair) → IsHeapPair code c n (get_or pairs i d))
+    → (n : ℕ) → 1 ≤ n → (i : ℕ) × (i < length pairs)
+    × ((d : Pair) → IsHeapPair code c n (get_or pairs i d))
 every_heap code c table phi pairs pretending agrees are n one =
-    let (m, u, s) = heap_shown code c (length code - 1) phi.start phi.period (periodic code c table phi pretending agrees) n one in
-    let l : m - 1 < length pairs = let e = are.length_is in let a = u.0 in let b = u.1 in omega arith in
+    let (m, u, s) =
+    heap_shown code c (length code - 1) phi.start phi.period
+    (periodic code c table phi pretending agrees) n one in
+    let l : m - 1 < length pairs = let e = are.length_is in let a = u.0 in let b = u.1 in
+    omega arith in
     let e : m - 1 + 1 ≡ m = let a = u.0 in omega arith in (
       m - 1,
       l,

@@ -25,32 +25,41 @@ abbrev place : ℕ → ℕ → ℕ → ℕ
 place start period n = cond (ltb n (start + period)) n (start + (n - start) % period)
 
 -- past the start the place repeats
-place_repeats : (start period n : ℕ) → start ≤ n → place start period (period + n) ≡ place start period n
+place_repeats : (start period n : ℕ) → start ≤ n
+    → place start period (period + n) ≡ place start period n
 place_repeats start period n l =
     let e : period + n - start ≡ period + (n - start) = omega arith in
     let far : place start period (period + n) ≡ start + (n - start) % period =
-    cond-false (ltb (period + n) (start + period)) (period + n) (start + (period + n - start) % period) (not_below (period + n) (start + period) (omega arith))
+    cond-false (ltb (period + n) (start + period)) (period + n)
+    (start + (period + n - start) % period)
+    (not_below (period + n) (start + period) (omega arith))
     ∙ ap (λ v. start + v % period) e ∙ ap (λ v. start + v) (add-mod_left period (n - start)) in
     far ∙ sym (elim (dec_le (start + period) n) [
-      | yes h ↦ cond-false (ltb n (start + period)) n (start + (n - start) % period) (not_below n (start + period) h)
+      | yes h ↦ cond-false (ltb n (start + period)) n (start + (n - start) % period)
+          (not_below n (start + period) h)
       | no h ↦
           let s : n - start < period = omega arith in
           let m : (n - start) % period ≡ n - start = mod-eq_of_lt s in
           let back : n ≡ start + (n - start) % period = omega arith in
-          cond-true (ltb n (start + period)) n (start + (n - start) % period) (below n (start + period) (omega arith)) ∙ back
+          cond-true (ltb n (start + period)) n (start + (n - start) % period)
+          (below n (start + period) (omega arith)) ∙ back
     ])
 
-pub phi_repeats : (phi : Pretending) (n : ℕ) → phi.start ≤ n → phi_at phi (phi.period + n) ≡ phi_at phi n
-phi_repeats phi n l = ap (λ v. slice_index (0 ∷ phi.entries) v) (place_repeats phi.start phi.period n l)
+pub phi_repeats : (phi : Pretending) (n : ℕ) → phi.start ≤ n
+    → phi_at phi (phi.period + n) ≡ phi_at phi n
+phi_repeats phi n l =
+    ap (λ v. slice_index (0 ∷ phi.entries) v) (place_repeats phi.start phi.period n l)
 
-pub entry_in : (order : ℕ) (xs : List ℕ) (k : ℕ) → 0 < order → All (λ x. x < order) xs → slice_index (0 ∷ xs) k < order
+pub entry_in : (order : ℕ) (xs : List ℕ) (k : ℕ) → 0 < order → All (λ x. x < order) xs
+    → slice_index (0 ∷ xs) k < order
 entry_in order xs zero some all = some
 entry_in order xs (suc k) some all = elim (dec_lt k (length xs)) [
   | yes l ↦ All-get_or (λ x. x < order) xs k 0 l all
   | no l ↦ let e : get_or xs k 0 ≡ 0 = get_or_past xs k 0 (omega arith) in omega arith
 ]
 
-module _ (table : Grid) (monoid : Monoid table.order (times_in table)) (phi : Pretending) (into : IsInto table phi) where
+module _ (table : Grid) (monoid : Monoid table.order (times_in table)) (phi : Pretending)
+    (into : IsInto table phi) where
   pub phi_in : (n : ℕ) → phi_at phi n < table.order
   phi_in n = entry_in table.order phi.entries (place phi.start phi.period n) monoid.some into
 

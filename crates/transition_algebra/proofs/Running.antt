@@ -35,7 +35,8 @@ two_digits [] h = absurd h
 two_digits (d ∷ ds) h = let a = h.1 in let b = h.2 in (omega arith, omega arith)
 
 -- what the next turn needs
-pub record Ready (code : List ℕ) (table : Grid) (phi : Pretending) (t : Trial) (pairs : List Pair) : Type 0 where
+pub record Ready (code : List ℕ) (table : Grid) (phi : Pretending) (t : Trial) (pairs : List Pair) :
+    Type 0 where
   pub from_one : 1 ≤ t.heap
   pub at_most : t.heap ≤ bound_of code phi + 1
   pub small : t.spent + t.heap < 2 ^ 32
@@ -49,10 +50,13 @@ square_small L B l b =
     let n : L * (B * B) ≤ 17 * (2066 * 2066) = grind arith in
     omega arith
 
-module _ (code : List ℕ) (table : Grid) (monoid : Monoid table.order (times_in table)) (phi : Pretending) (pretending : IsPretending phi) (into : IsInto table phi) where
+module _ (code : List ℕ) (table : Grid) (monoid : Monoid table.order (times_in table))
+    (phi : Pretending) (pretending : IsPretending phi) (into : IsInto table phi) where
   module _ (t : Trial) (pairs : List Pair) (is : IsTrial code table phi t pairs) where
     pub stands_now : Standing code table phi (trying_of code table phi t pairs)
-    stands_now = subst (Standing code table phi) (sym is.reached) (stands code table monoid phi pretending into t.spent)
+    stands_now =
+        subst (Standing code table phi) (sym is.reached)
+        (stands code table monoid phi pretending into t.spent)
 
     pub ready : IsOctalCode code → Ready code table phi t pairs
     ready octal =
@@ -72,18 +76,24 @@ module _ (code : List ℕ) (table : Grid) (monoid : Monoid table.order (times_in
               let r = cost_short code phi k.0 pretending in
               let m = square_small (length code) (bound_of code phi) k.1 B in
               omega arith;
-          elements = All-from_get_or (λ p. p.value < table.order) pairs one (λ i l. (All-get_or (IsPair table.order) pairs i one l (all_in table monoid phi into code (t.heap - 1) pairs s.made)).value);
+          elements =
+              All-from_get_or (λ p. p.value < table.order) pairs one
+              (λ i l.
+              (All-get_or (IsPair table.order) pairs i one l
+              (all_in table monoid phi into code (t.heap - 1) pairs s.made)).value);
           length_is = omega arith;
           values = λ b f l.
               let i : b - 1 < length pairs = omega arith in
               let e : b - 1 + 1 ≡ b = omega arith in
-              (made.each (b - 1) one i).value_is ∙ agrees.phi_is (b - 1 + 1) (omega arith) ∙ ap (phi_at phi) e;
+              (made.each (b - 1) one i).value_is ∙ agrees.phi_is (b - 1 + 1) (omega arith)
+              ∙ ap (phi_at phi) e;
         }
 
 no_bit : (code : List ℕ) (j : ℕ) → length code ≤ j → has_bit code j 4 ≡ false
 no_bit code j l = ap (λ d. not (eqb (bit_and d 4) 0)) (get_or_past code j 0 l)
 
-no_splits : (code : List ℕ) (n most j a : ℕ) → (has_bit code j 4 ≡ true → last_part n most j < a) → splits_from code n most j a ≡ []
+no_splits : (code : List ℕ) (n most j a : ℕ) → (has_bit code j 4 ≡ true → last_part n most j < a)
+    → splits_from code n most j a ≡ []
 no_splits code n most j a over = by_bit (has_bit code j 4) refl
   where
     by_bit : (b : Bool) → has_bit code j 4 ≡ b → splits_from code n most j a ≡ []
@@ -92,25 +102,31 @@ no_splits code n most j a over = by_bit (has_bit code j 4) refl
 
 module _ (code : List ℕ) (table : Grid) (phi : Pretending) where
   -- the turns that a trial may still make
-  pub room : (t : Trial) (pairs : List Pair) → IsTrial code table phi t pairs → t.heap ≤ bound_of code phi → t.spent + length (coming_at code t.heap (largest_part phi) t.away t.stage) + 1 ≤ heap_cost code phi
+  pub room : (t : Trial) (pairs : List Pair) → IsTrial code table phi t pairs
+      → t.heap ≤ bound_of code phi
+      → t.spent + length (coming_at code t.heap (largest_part phi) t.away t.stage) + 1
+      ≤ heap_cost code phi
   room t pairs is l =
       let a = left_some code table phi (trying_of code table phi t pairs) l in
       let b = ap (left code phi) is.reached ∙ left_after code table phi t.spent in
       omega arith
 
   -- past the bound all turns were made
-  pub all_spent : (t : Trial) (pairs : List Pair) → IsTrial code table phi t pairs → bound_of code phi < t.heap → t.spent ≡ heap_cost code phi
+  pub all_spent : (t : Trial) (pairs : List Pair) → IsTrial code table phi t pairs
+      → bound_of code phi < t.heap → t.spent ≡ heap_cost code phi
   all_spent t pairs is l =
       let a = left_over code table phi (trying_of code table phi t pairs) l in
       let b = ap (left code phi) is.reached ∙ left_after code table phi t.spent in
       let w = is.within in
       omega arith
 
-  moved_on : (s t : Trial) (ps qs : List Pair) (n : ℕ) → IsTrial code table phi s ps → s.heap ≤ bound_of code phi
+  moved_on : (s t : Trial) (ps qs : List Pair) (n : ℕ) → IsTrial code table phi s ps
+      → s.heap ≤ bound_of code phi
       → trying_of code table phi t qs ≡ turns code table phi n (trying_of code table phi s ps)
       → t.spent ≡ s.spent + n
       → n ≤ length (coming_at code s.heap (largest_part phi) s.away s.stage) + 1
-      → t.bound ≡ s.bound → t.most ≡ s.most → t.away ≤ length code → IsStage code t.heap (largest_part phi) t.away t.stage
+      → t.bound ≡ s.bound → t.most ≡ s.most → t.away ≤ length code
+      → IsStage code t.heap (largest_part phi) t.away t.stage
       → IsTrial code table phi t qs
   moved_on s t ps qs n is going e spent few bound most away stage = record {
     bound_is = bound ∙ is.bound_is;
@@ -118,20 +134,29 @@ module _ (code : List ℕ) (table : Grid) (phi : Pretending) where
     away_in = away;
     stage_in = stage;
     within = let r = room s ps is going in omega arith;
-    reached = e ∙ ap (turns code table phi n) is.reached ∙ sym (turns-add code table phi s.spent n (opening code phi)) ∙ ap (λ m. turns code table phi m (opening code phi)) (sym spent);
+    reached = e ∙ ap (turns code table phi n) is.reached
+        ∙ sym (turns-add code table phi s.spent n (opening code phi))
+        ∙ ap (λ m. turns code table phi m (opening code phi)) (sym spent);
   }
 
-  single_turns : (n : ℕ) (seen : set.FinSet nat_cmp) (pairs : List Pair) (xs coming rest : List Left)
+  single_turns : (n : ℕ) (seen : set.FinSet nat_cmp) (pairs : List Pair)
+      (xs coming rest : List Left)
       → n ≤ bound_of code phi → length xs ≤ 1 → coming ≡ xs ++ rest
-      → record { heap = n; coming = rest; seen = with_left table phi seen xs; pairs = pairs } ≡ turns code table phi (length xs) (record { heap = n; coming = coming; seen = seen; pairs = pairs })
+      → record { heap = n; coming = rest; seen = with_left table phi seen xs; pairs = pairs }
+      ≡ turns code table phi (length xs)
+      (record { heap = n; coming = coming; seen = seen; pairs = pairs })
   unfolding with_left
   single_turns n seen pairs [] coming rest l short e =
-      ap (λ ys. record { heap = n; coming = ys; seen = seen; pairs = pairs }) (sym e) ∙ no_turn code table phi (record { heap = n; coming = coming; seen = seen; pairs = pairs })
+      ap (λ ys. record { heap = n; coming = ys; seen = seen; pairs = pairs }) (sym e)
+      ∙ no_turn code table phi
+      (record { heap = n; coming = coming; seen = seen; pairs = pairs })
   single_turns n seen pairs (x ∷ []) coming rest l short e =
-      one_turn code table phi (record { heap = n; coming = coming; seen = seen; pairs = pairs }) x rest (left_value table phi x) l e refl
+      one_turn code table phi (record { heap = n; coming = coming; seen = seen; pairs = pairs }) x
+      rest (left_value table phi x) l e refl
   single_turns n seen pairs (x ∷ y ∷ xs) coming rest l short e = absurd (omega arith)
 
-  pub run_single : (s t : Trial) (ps : List Pair) (units r : ℕ) → IsTrial code table phi s ps → s.heap ≤ bound_of code phi → s.away < length code → s.stage ≡ Single → 1 ≤ units
+  pub run_single : (s t : Trial) (ps : List Pair) (units r : ℕ) → IsTrial code table phi s ps
+      → s.heap ≤ bound_of code phi → s.away < length code → s.stage ≡ Single → 1 ≤ units
       → length (single_left code s.heap s.away) ≤ 1
       → r ≡ length (single_left code s.heap s.away)
       → t ≡ after_single code table phi s
@@ -140,15 +165,33 @@ module _ (code : List ℕ) (table : Grid) (phi : Pretending) where
   run_single s t ps units r is going inside stage some short count after =
       let most = largest_part phi in
       let xs = single_left code s.heap s.away in
-      let rest = splits_from code s.heap most s.away 1 ++ taking_from code s.heap most (s.away + 1) in
-      let coming : coming_at code s.heap most s.away s.stage ≡ xs ++ rest = ap (coming_at code s.heap most s.away) stage ∙ single_then_splits code s.heap most s.away inside in
-      let few : length xs ≤ length (coming_at code s.heap most s.away s.stage) + 1 = let e = ap length coming ∙ length-append xs rest in omega arith in
-      let from : record { heap = s.heap; coming = coming_at code s.heap most s.away s.stage; seen = s.seen; pairs = ps } ≡ trying_of code table phi s ps =
-      ap (λ v. record { heap = s.heap; coming = coming_at code s.heap most s.away s.stage; seen = v; pairs = ps }) (sym (ap (seen_at table phi (s.heap - s.away) s.seen) stage)) in
+      let rest = splits_from code s.heap most s.away 1 ++ taking_from code s.heap most (s.away + 1)
+      in
+      let coming : coming_at code s.heap most s.away s.stage ≡ xs ++ rest =
+      ap (coming_at code s.heap most s.away) stage ∙ single_then_splits code s.heap most s.away
+      inside in
+      let few : length xs ≤ length (coming_at code s.heap most s.away s.stage) + 1 = let e =
+      ap length coming ∙ length-append xs rest in omega arith in
+      let from : record {
+        heap = s.heap;
+        coming = coming_at code s.heap most s.away s.stage;
+        seen = s.seen;
+        pairs = ps;
+      } ≡ trying_of code table phi s ps =
+      ap (λ v. record {
+        heap = s.heap;
+        coming = coming_at code s.heap most s.away s.stage;
+        seen = v;
+        pairs = ps;
+      }) (sym (ap (seen_at table phi (s.heap - s.away) s.seen) stage)) in
       let u = after_single code table phi s in
       let moved : IsTrial code table phi u ps =
-      moved_on s u ps ps (length xs) is going (single_turns s.heap s.seen ps xs (coming_at code s.heap most s.away s.stage) rest going short coming ∙ ap (turns code table phi (length xs)) from) refl few refl refl (omega arith) (omega arith, λ two. absurd (omega arith)) in
-      subst (λ v. IsRun code table phi s v ps units r) (sym after) (subst (λ n. IsRun code table phi s u ps units n) (sym count) (record {
+      moved_on s u ps ps (length xs) is going
+      (single_turns s.heap s.seen ps xs (coming_at code s.heap most s.away s.stage) rest going
+      short coming ∙ ap (turns code table phi (length xs)) from) refl few refl refl
+      (omega arith) (omega arith, λ two. absurd (omega arith)) in
+      subst (λ v. IsRun code table phi s v ps units r) (sym after)
+      (subst (λ n. IsRun code table phi s u ps units n) (sym count) (record {
         at_most = omega arith;
         trial = moved;
         spent_is = refl;
@@ -161,24 +204,29 @@ module _ (code : List ℕ) (table : Grid) (phi : Pretending) where
       → 1 ≤ a
       → (2 ≤ a → (bit ≡ true) × (a ≤ last + 1))
       → (bit ≡ true → last < a)
-      → (if bit then set.union seen (with_values (split_value table phi whole) set.empty 1 last) else seen) ≡ with_values (split_value table phi whole) seen 1 (a - 1)
+      → (if bit then set.union seen (with_values (split_value table phi whole) set.empty 1 last)
+      else seen) ≡ with_values (split_value table phi whole) seen 1 (a - 1)
   taken whole last a seen bit true e one_up is over =
       let l = over e in
       let n : last ≡ a - 1 = elim (dec_le 2 a) [
         | yes two ↦ let m = (is two).1 in omega arith
         | no few ↦ omega arith
       ] in
-      ap (λ v. if v then set.union seen (with_values (split_value table phi whole) set.empty 1 last) else seen) e
-      ∙ values_beside (split_value table phi whole) seen 1 last ∙ ap (with_values (split_value table phi whole) seen 1) n
+      ap (λ v. if v then set.union seen (with_values (split_value table phi whole) set.empty 1 last)
+      else seen) e
+      ∙ values_beside (split_value table phi whole) seen 1 last
+      ∙ ap (with_values (split_value table phi whole) seen 1) n
   taken whole last a seen bit false e one_up is over =
       let n : a - 1 ≡ 0 = elim (dec_le 2 a) [
         | yes two ↦ absurd (let f = sym e ∙ (is two).0 in cc)
         | no few ↦ omega arith
       ] in
-      ap (λ v. if v then set.union seen (with_values (split_value table phi whole) set.empty 1 last) else seen) e
+      ap (λ v. if v then set.union seen (with_values (split_value table phi whole) set.empty 1 last)
+      else seen) e
       ∙ sym (values_none (split_value table phi whole) seen 1 (a - 1) n)
 
-  pub run_none : (s t : Trial) (ps : List Pair) (units r a : ℕ) → IsTrial code table phi s ps → s.heap ≤ bound_of code phi → s.away < length code → s.stage ≡ Splits a
+  pub run_none : (s t : Trial) (ps : List Pair) (units r a : ℕ) → IsTrial code table phi s ps
+      → s.heap ≤ bound_of code phi → s.away < length code → s.stage ≡ Splits a
       → r ≡ 0
       → (has_bit code s.away 4 ≡ true → last_part s.heap s.most s.away < a)
       → t ≡ after_all code table phi s
@@ -186,17 +234,27 @@ module _ (code : List ℕ) (table : Grid) (phi : Pretending) where
   run_none s t ps units r a is going inside stage count over after =
       let most = largest_part phi in
       let rest = taking_from code s.heap most (s.away + 1) in
-      let past : has_bit code s.away 4 ≡ true → last_part s.heap most s.away < a = λ e. subst (λ m. last_part s.heap m s.away < a) is.most_is (over e) in
+      let past : has_bit code s.away 4 ≡ true → last_part s.heap most s.away < a =
+      λ e. subst (λ m. last_part s.heap m s.away < a) is.most_is (over e) in
       let coming : coming_at code s.heap most s.away s.stage ≡ rest =
-      ap (coming_at code s.heap most s.away) stage ∙ ap (λ xs. xs ++ rest) (no_splits code s.heap most s.away a past) in
+      ap (coming_at code s.heap most s.away) stage
+      ∙ ap (λ xs. xs ++ rest) (no_splits code s.heap most s.away a past) in
       let at = subst (IsStage code s.heap most s.away) stage is.stage_in in
       let u = after_all code table phi s in
       let seen : u.seen ≡ seen_at table phi (s.heap - s.away) s.seen s.stage =
-      taken (s.heap - s.away) (last_part s.heap most s.away) a s.seen (has_bit code s.away 4) (has_bit code s.away 4) refl at.0 at.1 past ∙ sym (ap (seen_at table phi (s.heap - s.away) s.seen) stage) in
-      let same : trying_of code table phi u ps ≡ trying_of code table phi s ps = ap₂ (λ xs v. record { heap = s.heap; coming = xs; seen = v; pairs = ps }) (sym coming) seen in
+      taken (s.heap - s.away) (last_part s.heap most s.away) a s.seen (has_bit code s.away 4)
+      (has_bit code s.away 4) refl at.0 at.1 past
+      ∙ sym (ap (seen_at table phi (s.heap - s.away) s.seen) stage) in
+      let same : trying_of code table phi u ps ≡ trying_of code table phi s ps =
+      ap₂ (λ xs v. record { heap = s.heap; coming = xs; seen = v; pairs = ps }) (sym coming)
+      seen in
       let here : s.spent ≡ s.spent + 0 = omega arith in
-      let moved : IsTrial code table phi u ps = moved_on s u ps ps 0 is going (same ∙ no_turn code table phi (trying_of code table phi s ps)) here (omega arith) refl refl (omega arith) tt in
-      subst (λ v. IsRun code table phi s v ps units r) (sym after) (subst (λ n. IsRun code table phi s u ps units n) (sym count) (record {
+      let moved : IsTrial code table phi u ps =
+      moved_on s u ps ps 0 is going
+      (same ∙ no_turn code table phi (trying_of code table phi s ps)) here (omega arith) refl
+      refl (omega arith) tt in
+      subst (λ v. IsRun code table phi s v ps units r) (sym after)
+      (subst (λ n. IsRun code table phi s u ps units n) (sym count) (record {
         at_most = omega arith;
         trial = moved;
         spent_is = here;
@@ -204,7 +262,8 @@ module _ (code : List ℕ) (table : Grid) (phi : Pretending) where
         heap = omega arith;
       }))
 
-  pub run_splits : (s t : Trial) (ps : List Pair) (units r a : ℕ) → IsTrial code table phi s ps → s.heap ≤ bound_of code phi → s.away < length code → s.stage ≡ Splits a
+  pub run_splits : (s t : Trial) (ps : List Pair) (units r a : ℕ) → IsTrial code table phi s ps
+      → s.heap ≤ bound_of code phi → s.away < length code → s.stage ≡ Splits a
       → 1 ≤ r → r ≤ units
       → has_bit code s.away 4 ≡ true
       → a + r ≤ last_part s.heap s.most s.away + 1
@@ -215,25 +274,41 @@ module _ (code : List ℕ) (table : Grid) (phi : Pretending) where
       let whole = s.heap - s.away in
       let f = split_value table phi whole in
       let one_up : 1 ≤ a = (subst (IsStage code s.heap most s.away) stage is.stage_in).0 in
-      let fits : a + r ≤ last_part s.heap most s.away + 1 = subst (λ v. a + r ≤ last_part s.heap v s.away + 1) is.most_is room_for in
-      let rest = splits_from code s.heap most s.away (a + r) ++ taking_from code s.heap most (s.away + 1) in
+      let fits : a + r ≤ last_part s.heap most s.away + 1 =
+      subst (λ v. a + r ≤ last_part s.heap v s.away + 1) is.most_is room_for in
+      let rest = splits_from code s.heap most s.away (a + r)
+      ++ taking_from code s.heap most (s.away + 1) in
       let coming : coming_at code s.heap most s.away s.stage ≡ splits whole a r ++ rest =
       ap (coming_at code s.heap most s.away) stage
-      ∙ ap (λ xs. xs ++ taking_from code s.heap most (s.away + 1)) (splits_first code s.heap most s.away a r bit fits)
-      ∙ append_assoc (splits whole a r) (splits_from code s.heap most s.away (a + r)) (taking_from code s.heap most (s.away + 1)) in
+      ∙ ap (λ xs. xs ++ taking_from code s.heap most (s.away + 1))
+      (splits_first code s.heap most s.away a r bit fits)
+      ∙ append_assoc (splits whole a r) (splits_from code s.heap most s.away (a + r))
+      (taking_from code s.heap most (s.away + 1)) in
       let long : r ≤ length (coming_at code s.heap most s.away s.stage) + 1 =
       let e = ap length coming ∙ length-append (splits whole a r) rest in
       let d = length-map-range_with_len (λ x. Two x (whole - x)) a r in
       omega arith in
       let u = after_splits s a r in
-      let seen : seen_at table phi whole s.seen (Splits (a + r)) ≡ with_values f (with_values f s.seen 1 (a - 1)) a r = values_add f s.seen a r one_up in
-      let from : seen_at table phi whole s.seen s.stage ≡ with_values f s.seen 1 (a - 1) = ap (seen_at table phi whole s.seen) stage in
-      let turned = split_turns code table phi f whole r a s.heap (with_values f s.seen 1 (a - 1)) ps (coming_at code s.heap most s.away s.stage) rest going coming (λ b p q. refl) in
-      let reached : trying_of code table phi u ps ≡ turns code table phi r (trying_of code table phi s ps) =
+      let seen : seen_at table phi whole s.seen (Splits (a + r))
+      ≡ with_values f (with_values f s.seen 1 (a - 1)) a r = values_add f s.seen a r one_up in
+      let from : seen_at table phi whole s.seen s.stage ≡ with_values f s.seen 1 (a - 1) =
+      ap (seen_at table phi whole s.seen) stage in
+      let turned = split_turns code table phi f whole r a s.heap (with_values f s.seen 1 (a - 1)) ps
+      (coming_at code s.heap most s.away s.stage) rest going coming (λ b p q. refl) in
+      let reached : trying_of code table phi u ps
+      ≡ turns code table phi r (trying_of code table phi s ps) =
       ap (λ v. record { heap = s.heap; coming = rest; seen = v; pairs = ps }) seen ∙ turned
-      ∙ ap (λ v. turns code table phi r (record { heap = s.heap; coming = coming_at code s.heap most s.away s.stage; seen = v; pairs = ps })) (sym from) in
+      ∙ ap (λ v.
+      turns code table phi r
+      (record {
+        heap = s.heap;
+        coming = coming_at code s.heap most s.away s.stage;
+        seen = v;
+        pairs = ps;
+      })) (sym from) in
       let moved : IsTrial code table phi u ps =
-      moved_on s u ps ps r is going reached refl long refl refl is.away_in (omega arith, λ two. (bit, fits)) in
+      moved_on s u ps ps r is going reached refl long refl refl is.away_in
+      (omega arith, λ two. (bit, fits)) in
       subst (λ v. IsRun code table phi s v ps units r) (sym after) (record {
         at_most = few;
         trial = moved;
@@ -242,14 +317,17 @@ module _ (code : List ℕ) (table : Grid) (phi : Pretending) where
         heap = omega arith;
       })
 
-  none_coming : (n most j : ℕ) (stage : Stage) → length code ≤ j → coming_at code n most j stage ≡ []
+  none_coming : (n most j : ℕ) (stage : Stage) → length code ≤ j
+      → coming_at code n most j stage ≡ []
   none_coming n most j Single l = none_past code n most j l
   none_coming n most j (Splits a) l =
       let bit : has_bit code j 4 ≡ false = no_bit code j l in
-      ap (λ xs. xs ++ taking_from code n most (j + 1)) (splits_off code n most j a bit) ∙ none_past code n most (j + 1) (omega arith)
+      ap (λ xs. xs ++ taking_from code n most (j + 1)) (splits_off code n most j a bit)
+      ∙ none_past code n most (j + 1) (omega arith)
 
   -- past the last digit no splits are in hand
-  none_beside : (n most j : ℕ) (seen : set.FinSet nat_cmp) (stage : Stage) → length code ≤ j → IsStage code n most j stage → seen_at table phi (n - j) seen stage ≡ seen
+  none_beside : (n most j : ℕ) (seen : set.FinSet nat_cmp) (stage : Stage) → length code ≤ j
+      → IsStage code n most j stage → seen_at table phi (n - j) seen stage ≡ seen
   none_beside n most j seen Single l is = refl
   none_beside n most j seen (Splits a) l is =
       let bit : has_bit code j 4 ≡ false = no_bit code j l in
@@ -259,9 +337,11 @@ module _ (code : List ℕ) (table : Grid) (phi : Pretending) where
       ])
 
   pub all_to_come : (n : ℕ) → taking_from code n (largest_part phi) 0 ≡ tries code phi n
-  all_to_come n = let e : length code - 0 ≡ length code = omega arith in ap (λ k. flat_map (options_at code n (largest_part phi)) (range_with_len 0 k)) e
+  all_to_come n = let e : length code - 0 ≡ length code = omega arith in
+      ap (λ k. flat_map (options_at code n (largest_part phi)) (range_with_len 0 k)) e
 
-  pub run_close : (s t : Trial) (ps qs : List Pair) (units r v : ℕ) → IsTrial code table phi s ps → s.heap ≤ bound_of code phi → length code ≤ s.away → 1 ≤ units
+  pub run_close : (s t : Trial) (ps qs : List Pair) (units r v : ℕ) → IsTrial code table phi s ps
+      → s.heap ≤ bound_of code phi → length code ≤ s.away → 1 ≤ units
       → r ≡ 1
       → t ≡ after_heap s
       → v ≡ phi_at phi s.heap
@@ -270,11 +350,18 @@ module _ (code : List ℕ) (table : Grid) (phi : Pretending) where
   run_close s t ps qs units r v is going past some count after value more =
       let most = largest_part phi in
       let u = after_heap s in
-      let next : trying_of code table phi u qs ≡ turns code table phi 1 (trying_of code table phi s ps) =
-      ap (λ xs. record { heap = s.heap + 1; coming = xs; seen = set.empty; pairs = qs }) (all_to_come (s.heap + 1))
-      ∙ closing_turn code table phi (trying_of code table phi s ps) v qs going (none_coming s.heap most s.away s.stage past) value (more ∙ ap (λ w. ps ++ (record { value = v; options = w } ∷ [])) (sym (none_beside s.heap most s.away s.seen s.stage past is.stage_in))) in
-      let moved : IsTrial code table phi u qs = moved_on s u ps qs 1 is going next refl (omega arith) refl refl (omega arith) tt in
-      subst (λ w. IsRun code table phi s w qs units r) (sym after) (subst (λ n. IsRun code table phi s u qs units n) (sym count) (record {
+      let next : trying_of code table phi u qs
+      ≡ turns code table phi 1 (trying_of code table phi s ps) =
+      ap (λ xs. record { heap = s.heap + 1; coming = xs; seen = set.empty; pairs = qs })
+      (all_to_come (s.heap + 1))
+      ∙ closing_turn code table phi (trying_of code table phi s ps) v qs going
+      (none_coming s.heap most s.away s.stage past) value
+      (more ∙ ap (λ w. ps ++ (record { value = v; options = w } ∷ []))
+      (sym (none_beside s.heap most s.away s.seen s.stage past is.stage_in))) in
+      let moved : IsTrial code table phi u qs =
+      moved_on s u ps qs 1 is going next refl (omega arith) refl refl (omega arith) tt in
+      subst (λ w. IsRun code table phi s w qs units r) (sym after)
+      (subst (λ n. IsRun code table phi s u qs units n) (sym count) (record {
         at_most = some;
         trial = moved;
         spent_is = refl;
@@ -283,7 +370,8 @@ module _ (code : List ℕ) (table : Grid) (phi : Pretending) where
       }))
 
 -- all turns were made exactly where no heap is left
-pub done_over : (code : List ℕ) (table : Grid) (phi : Pretending) (t : Trial) (pairs : List Pair) → IsTrial code table phi t pairs → (t.bound < t.heap) ↔ (t.spent ≡ heap_cost code phi)
+pub done_over : (code : List ℕ) (table : Grid) (phi : Pretending) (t : Trial) (pairs : List Pair)
+    → IsTrial code table phi t pairs → (t.bound < t.heap) ↔ (t.spent ≡ heap_cost code phi)
 done_over code table phi t pairs is =
     let b = is.bound_is in (
       λ l. all_spent code table phi t pairs is (omega arith),
@@ -294,16 +382,20 @@ done_over code table phi t pairs is =
     )
 
 -- then the pairs are those of all heaps up to the bound
-pub finished : (code : List ℕ) (table : Grid) → Monoid table.order (times_in table) → (phi : Pretending) → IsPretending phi → IsInto table phi → (t : Trial) (pairs : List Pair)
-    → IsTrial code table phi t pairs → t.spent ≡ heap_cost code phi → AreFirstHeapPairs code table phi (bound_of code phi) pairs
+pub finished : (code : List ℕ) (table : Grid) → Monoid table.order (times_in table)
+    → (phi : Pretending) → IsPretending phi → IsInto table phi → (t : Trial) (pairs : List Pair)
+    → IsTrial code table phi t pairs → t.spent ≡ heap_cost code phi
+    → AreFirstHeapPairs code table phi (bound_of code phi) pairs
 finished code table monoid phi pretending into t pairs is done =
     let s = stands_now code table monoid phi pretending into t pairs is in
     let over = (done_over code table phi t pairs is).1 done in
-    let e : t.heap - 1 ≡ bound_of code phi = let a = s.at_most in let b = is.bound_is in omega arith in
+    let e : t.heap - 1 ≡ bound_of code phi = let a = s.at_most in let b = is.bound_is in omega arith
+    in
     subst (λ B. AreFirstHeapPairs code table phi B pairs) e s.made
 
 -- enough units for all turns
-pub all_units : (code : List ℕ) (phi : Pretending) (a s : ℕ) → IsOctalCode code → IsPretending phi → s ≡ min (a + 18446744073709551615) (heap_cost code phi) → s ≡ heap_cost code phi
+pub all_units : (code : List ℕ) (phi : Pretending) (a s : ℕ) → IsOctalCode code → IsPretending phi
+    → s ≡ min (a + 18446744073709551615) (heap_cost code phi) → s ≡ heap_cost code phi
 all_units code phi a s octal pretending e =
     let k = two_digits code octal in
     let p = pretending.short in
@@ -313,8 +405,11 @@ all_units code phi a s octal pretending e =
     omega arith
 
 -- nothing tried yet
-pub new_trial : (code : List ℕ) (table : Grid) (phi : Pretending) (b m : ℕ) (seen : set.FinSet nat_cmp) → b ≡ bound_of code phi → m ≡ largest_part phi → seen ≡ set.empty
-    → IsTrial code table phi (record { bound = b; most = m; heap = 1; away = 0; stage = Single; seen = seen; spent = 0 }) []
+pub new_trial : (code : List ℕ) (table : Grid) (phi : Pretending) (b m : ℕ)
+    (seen : set.FinSet nat_cmp) → b ≡ bound_of code phi → m ≡ largest_part phi → seen ≡ set.empty
+    → IsTrial code table phi
+    (record { bound = b; most = m; heap = 1; away = 0; stage = Single; seen = seen; spent = 0 })
+    []
 new_trial code table phi b m seen bound most none = record {
   bound_is = bound;
   most_is = most;
@@ -322,12 +417,14 @@ new_trial code table phi b m seen bound most none = record {
   stage_in = tt;
   within = omega arith;
   reached =
-      ap₂ (λ xs s. record { heap = 1; coming = xs; seen = s; pairs = [] }) (all_to_come code table phi 1) none
+      ap₂ (λ xs s. record { heap = 1; coming = xs; seen = s; pairs = [] })
+      (all_to_come code table phi 1) none
       ∙ no_turn code table phi (opening code phi);
 }
 
 -- a turn costs at least what the measure of stages gains
-pub measure_falls : (L n r a s t : ℕ) → L ≤ 17 → r ≤ n → s ≤ 2 * L + 1 → t ≤ 2 * L + 1 → (1 ≤ r) ⊎ (t < s) → a ≡ n - r → 40 * a + t < 40 * n + s
+pub measure_falls : (L n r a s t : ℕ) → L ≤ 17 → r ≤ n → s ≤ 2 * L + 1 → t ≤ 2 * L + 1
+    → (1 ≤ r) ⊎ (t < s) → a ≡ n - r → 40 * a + t < 40 * n + s
 measure_falls L n r a s t l few top top2 falls e = elim falls [
   | inl some ↦ omega arith
   | inr less ↦ omega arith
@@ -345,15 +442,20 @@ pub on_err : {T E P : Type 0} (r : Result T E) → P → OnErr r P
 on_err (Ok v) p = tt
 on_err (Err e) p = p
 
-worked_at : (job : HeapWork) (m n : ℕ) → m ≡ n → ◌≡◌ {A = HeapWork} (record job { spent = m }) (record job { spent = n })
+worked_at : (job : HeapWork) (m n : ℕ) → m ≡ n
+    → ◌≡◌ {A = HeapWork} (record job { spent = m }) (record job { spent = n })
 worked_at job m n e = ap (λ k. record job { spent = k }) e
 
 -- however the units are cut
 pub worked-add : (job : HeapWork) (m n : ℕ) → worked job (m + n) ≡ worked (worked job m) n
 worked-add job m n = worked_at job _ _ (omega arith)
 
-pub ends : (job : HeapWork) (units : ℕ) → IsOctalCode job.code → IsPretending job.phi → length job.code * (bound_of job.code job.phi * bound_of job.code job.phi) ≤ units → IsDone (worked job units)
-ends job units octal pretending l = let r = cost_short job.code job.phi (two_digits job.code octal).0 pretending in omega arith
+pub ends : (job : HeapWork) (units : ℕ) → IsOctalCode job.code → IsPretending job.phi
+    → length job.code * (bound_of job.code job.phi * bound_of job.code job.phi) ≤ units
+    → IsDone (worked job units)
+ends job units octal pretending l = let r =
+    cost_short job.code job.phi (two_digits job.code octal).0 pretending in omega arith
 
-pub cost_at_most : (code : List ℕ) (phi : Pretending) → IsOctalCode code → IsPretending phi → heap_cost code phi ≤ length code * (bound_of code phi * bound_of code phi)
+pub cost_at_most : (code : List ℕ) (phi : Pretending) → IsOctalCode code → IsPretending phi
+    → heap_cost code phi ≤ length code * (bound_of code phi * bound_of code phi)
 cost_at_most code phi octal pretending = cost_short code phi (two_digits code octal).0 pretending

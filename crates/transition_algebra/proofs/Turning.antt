@@ -17,9 +17,11 @@ use Rattle.transition_algebra.specs.Trials.{with_values}
 use Rattle.transition_algebra.specs.declared.pair.Pair.{Pair}
 use Rattle.transition_algebra.proofs.Steps.{SeenSo, none_seen, one_more, the_pair, AreFirstHeapPairs, pairs_more, no_pairs}
 
-pub turns-add : (code : List ℕ) (table : Grid) (phi : Pretending) (m n : ℕ) (s : Trying) → turns code table phi (m + n) s ≡ turns code table phi n (turns code table phi m s)
+pub turns-add : (code : List ℕ) (table : Grid) (phi : Pretending) (m n : ℕ) (s : Trying)
+    → turns code table phi (m + n) s ≡ turns code table phi n (turns code table phi m s)
 unfolding turns
-turns-add code table phi zero n s = let e : 0 + n ≡ n = omega arith in ap (λ k. turns code table phi k s) e
+turns-add code table phi zero n s = let e : 0 + n ≡ n = omega arith in
+    ap (λ k. turns code table phi k s) e
 turns-add code table phi (suc m) n s =
     let e : suc m + n ≡ suc (m + n) = omega arith in
     ap (λ k. turns code table phi k s) e ∙ turns-add code table phi m n (turn code table phi s)
@@ -34,41 +36,70 @@ still : (bound heap : ℕ) → nat_lt bound heap ≡ false → heap ≤ bound
 still bound heap e = grind (arith, nat_tests)
 
 module _ (code : List ℕ) (table : Grid) (phi : Pretending) where
-  pub turn_going : (s : Trying) → s.heap ≤ bound_of code phi → turn code table phi s ≡ tried code table phi s.heap s.seen s.pairs s.coming
-  turn_going s l = ap (λ b. if b then s else tried code table phi s.heap s.seen s.pairs s.coming) (going (bound_of code phi) s.heap l)
+  pub turn_going : (s : Trying) → s.heap ≤ bound_of code phi
+      → turn code table phi s ≡ tried code table phi s.heap s.seen s.pairs s.coming
+  turn_going s l = ap (λ b. if b then s else tried code table phi s.heap s.seen s.pairs s.coming)
+      (going (bound_of code phi) s.heap l)
 
   pub turn_over : (s : Trying) → bound_of code phi < s.heap → turn code table phi s ≡ s
-  turn_over s l = ap (λ b. if b then s else tried code table phi s.heap s.seen s.pairs s.coming) (not_going (bound_of code phi) s.heap l)
+  turn_over s l = ap (λ b. if b then s else tried code table phi s.heap s.seen s.pairs s.coming)
+      (not_going (bound_of code phi) s.heap l)
 
   -- no turn, one option, one pair
   pub no_turn : (s : Trying) → s ≡ turns code table phi 0 s
   unfolding turns
   no_turn s = refl
 
-  pub one_turn : (s : Trying) (x : Left) (xs : List Left) (v : ℕ) → s.heap ≤ bound_of code phi → s.coming ≡ x ∷ xs → v ≡ left_value table phi x
-      → record { heap = s.heap; coming = xs; seen = set.insert s.seen v; pairs = s.pairs } ≡ turns code table phi 1 s
+  pub one_turn : (s : Trying) (x : Left) (xs : List Left) (v : ℕ) → s.heap ≤ bound_of code phi
+      → s.coming ≡ x ∷ xs → v ≡ left_value table phi x
+      → record { heap = s.heap; coming = xs; seen = set.insert s.seen v; pairs = s.pairs }
+      ≡ turns code table phi 1 s
   unfolding turns
-  one_turn s x xs v l e f = sym (turn_going s l ∙ ap (tried code table phi s.heap s.seen s.pairs) e ∙ ap (λ w. record { heap = s.heap; coming = xs; seen = set.insert s.seen w; pairs = s.pairs }) (sym f))
+  one_turn s x xs v l e f =
+      sym (turn_going s l ∙ ap (tried code table phi s.heap s.seen s.pairs) e
+      ∙ ap (λ w. record { heap = s.heap; coming = xs; seen = set.insert s.seen w; pairs = s.pairs })
+      (sym f))
 
-  pub closing_turn : (s : Trying) (v : ℕ) (pairs : List Pair) → s.heap ≤ bound_of code phi → s.coming ≡ [] → v ≡ phi_at phi s.heap → pairs ≡ s.pairs ++ (record { value = v; options = s.seen } ∷ [])
-      → record { heap = s.heap + 1; coming = tries code phi (s.heap + 1); seen = set.empty; pairs = pairs } ≡ turns code table phi 1 s
+  pub closing_turn : (s : Trying) (v : ℕ) (pairs : List Pair) → s.heap ≤ bound_of code phi
+      → s.coming ≡ [] → v ≡ phi_at phi s.heap
+      → pairs ≡ s.pairs ++ (record { value = v; options = s.seen } ∷ [])
+      → record {
+        heap = s.heap + 1;
+        coming = tries code phi (s.heap + 1);
+        seen = set.empty;
+        pairs = pairs;
+      } ≡ turns code table phi 1 s
   unfolding turns
   closing_turn s v pairs l e f g =
       sym (turn_going s l ∙ ap (tried code table phi s.heap s.seen s.pairs) e
-      ∙ ap (λ ps. record { heap = s.heap + 1; coming = tries code phi (s.heap + 1); seen = set.empty; pairs = ps }) (ap (λ w. s.pairs ++ (record { value = w; options = s.seen } ∷ [])) (sym f) ∙ sym g))
+      ∙ ap (λ ps.
+      record {
+        heap = s.heap + 1;
+        coming = tries code phi (s.heap + 1);
+        seen = set.empty;
+        pairs = ps;
+      }) (ap (λ w. s.pairs ++ (record { value = w; options = s.seen } ∷ [])) (sym f)
+      ∙ sym g))
 
   -- so many splits
-  pub split_turns : (f : ℕ → ℕ) (m count a n : ℕ) (seen : set.FinSet nat_cmp) (pairs : List Pair) (coming rest : List Left)
+  pub split_turns : (f : ℕ → ℕ) (m count a n : ℕ) (seen : set.FinSet nat_cmp) (pairs : List Pair)
+      (coming rest : List Left)
       → n ≤ bound_of code phi
       → coming ≡ splits m a count ++ rest
       → ((b : ℕ) → a ≤ b → b < a + count → f b ≡ left_value table phi (Two b (m - b)))
-      → record { heap = n; coming = rest; seen = with_values f seen a count; pairs = pairs } ≡ turns code table phi count (record { heap = n; coming = coming; seen = seen; pairs = pairs })
+      → record { heap = n; coming = rest; seen = with_values f seen a count; pairs = pairs }
+      ≡ turns code table phi count
+      (record { heap = n; coming = coming; seen = seen; pairs = pairs })
   unfolding turns with_values
-  split_turns f m zero a n seen pairs coming rest l e g = ap (λ xs. record { heap = n; coming = xs; seen = seen; pairs = pairs }) (sym e)
+  split_turns f m zero a n seen pairs coming rest l e g =
+      ap (λ xs. record { heap = n; coming = xs; seen = seen; pairs = pairs }) (sym e)
   split_turns f m (suc c) a n seen pairs coming rest l e g =
       let s : Trying = record { heap = n; coming = coming; seen = seen; pairs = pairs } in
-      split_turns f m c (a + 1) n (set.insert seen (f a)) pairs (splits m (a + 1) c ++ rest) rest l refl (λ b p q. g b (omega arith) (omega arith))
-      ∙ ap (turns code table phi c) (one_turn s (Two a (m - a)) (splits m (a + 1) c ++ rest) (f a) l e (g a (omega arith) (omega arith)))
+      split_turns f m c (a + 1) n (set.insert seen (f a)) pairs (splits m (a + 1) c ++ rest) rest l
+      refl (λ b p q. g b (omega arith) (omega arith))
+      ∙ ap (turns code table phi c)
+      (one_turn s (Two a (m - a)) (splits m (a + 1) c ++ rest) (f a) l e
+      (g a (omega arith) (omega arith)))
 
 -- what stands after turns from the start
 pub record Standing (code : List ℕ) (table : Grid) (phi : Pretending) (s : Trying) : Type 0 where
@@ -78,8 +109,10 @@ pub record Standing (code : List ℕ) (table : Grid) (phi : Pretending) (s : Try
   pub yielded : List Left
   pub now : SeenSo table phi (tries code phi s.heap) yielded s.coming s.seen
 
-module _ (code : List ℕ) (table : Grid) (monoid : Monoid table.order (times_in table)) (phi : Pretending) (pretending : IsPretending phi) (into : IsInto table phi) where
-  stands_tried : (n : ℕ) (seen : set.FinSet nat_cmp) (pairs : List Pair) (coming yielded : List Left)
+module _ (code : List ℕ) (table : Grid) (monoid : Monoid table.order (times_in table))
+    (phi : Pretending) (pretending : IsPretending phi) (into : IsInto table phi) where
+  stands_tried : (n : ℕ) (seen : set.FinSet nat_cmp) (pairs : List Pair)
+      (coming yielded : List Left)
       → 1 ≤ n
       → n ≤ bound_of code phi
       → AreFirstHeapPairs code table phi (n - 1) pairs
@@ -90,32 +123,41 @@ module _ (code : List ℕ) (table : Grid) (monoid : Monoid table.order (times_in
       let e : n - 1 + 1 ≡ n = omega arith in
       let f : n ≡ n + 1 - 1 = omega arith in
       let here = the_pair table monoid phi pretending into code n yielded [] p so refl from refl in
-      let more = pairs_more code table phi (n - 1) pairs (pairs ++ (p ∷ [])) p made (λ c a. subst (λ v. IsHeapPair code c v p) (sym e) (here c a)) refl in
+      let more =
+      pairs_more code table phi (n - 1) pairs (pairs ++ (p ∷ [])) p made
+      (λ c a. subst (λ v. IsHeapPair code c v p) (sym e) (here c a)) refl in
       record {
         from_one = omega arith;
         at_most = omega arith;
         made = subst (λ v. AreFirstHeapPairs code table phi v (pairs ++ (p ∷ []))) (e ∙ f) more;
         yielded = [];
-        now = none_seen table phi (tries code phi (n + 1)) (tries code phi (n + 1)) set.empty refl refl;
+        now = none_seen table phi (tries code phi (n + 1)) (tries code phi (n + 1)) set.empty refl
+            refl;
       }
   stands_tried n seen pairs (x ∷ xs) yielded from below made so = record {
     from_one = from;
     at_most = omega arith;
     made = made;
     yielded = yielded ++ (x ∷ []);
-    now = one_more table phi (tries code phi n) yielded xs seen x (left_value table phi x) (x ∷ xs) (set.insert seen (left_value table phi x)) so refl refl refl;
+    now = one_more table phi (tries code phi n) yielded xs seen x (left_value table phi x) (x ∷ xs)
+        (set.insert seen (left_value table phi x)) so refl refl refl;
   }
 
-  stands_where : (b : Bool) (s t : Trying) → Standing code table phi s → (b ≡ false → Standing code table phi t) → Standing code table phi (if b then s else t)
+  stands_where : (b : Bool) (s t : Trying) → Standing code table phi s
+      → (b ≡ false → Standing code table phi t) → Standing code table phi (if b then s else t)
   stands_where true s t p q = p
   stands_where false s t p q = q refl
 
-  stands_turn : (s : Trying) → Standing code table phi s → Standing code table phi (turn code table phi s)
+  stands_turn : (s : Trying) → Standing code table phi s
+      → Standing code table phi (turn code table phi s)
   stands_turn s p =
-      stands_where (nat_lt (bound_of code phi) s.heap) s (tried code table phi s.heap s.seen s.pairs s.coming) p
-      (λ e. stands_tried s.heap s.seen s.pairs s.coming p.yielded p.from_one (still (bound_of code phi) s.heap e) p.made p.now)
+      stands_where (nat_lt (bound_of code phi) s.heap) s
+      (tried code table phi s.heap s.seen s.pairs s.coming) p
+      (λ e. stands_tried s.heap s.seen s.pairs s.coming p.yielded p.from_one
+      (still (bound_of code phi) s.heap e) p.made p.now)
 
-  stands_turns : (n : ℕ) (s : Trying) → Standing code table phi s → Standing code table phi (turns code table phi n s)
+  stands_turns : (n : ℕ) (s : Trying) → Standing code table phi s
+      → Standing code table phi (turns code table phi n s)
   unfolding turns
   stands_turns zero s p = p
   stands_turns (suc n) s p = stands_turns n (turn code table phi s) (stands_turn s p)
@@ -124,7 +166,8 @@ module _ (code : List ℕ) (table : Grid) (monoid : Monoid table.order (times_in
   stands_opening = record {
     from_one = omega arith;
     at_most = omega arith;
-    made = let z : 0 ≡ 1 - 1 = refl in subst (λ v. AreFirstHeapPairs code table phi v []) z (no_pairs code table phi [] refl);
+    made = let z : 0 ≡ 1 - 1 = refl in
+        subst (λ v. AreFirstHeapPairs code table phi v []) z (no_pairs code table phi [] refl);
     yielded = [];
     now = none_seen table phi (tries code phi 1) (tries code phi 1) set.empty refl refl;
   }
@@ -137,16 +180,25 @@ abbrev pub cost_of : List ℕ → Pretending → ℕ → ℕ
 cost_of code phi n = length (tries code phi n) + 1
 
 pub left : List ℕ → Pretending → Trying → ℕ
-left code phi s = if nat_lt (bound_of code phi) s.heap then 0 else length s.coming + 1 + sum_by (cost_of code phi) (range_with_len (s.heap + 1) (bound_of code phi - s.heap))
+left code phi s = if nat_lt (bound_of code phi) s.heap then 0 else length s.coming + 1
+    + sum_by (cost_of code phi) (range_with_len (s.heap + 1) (bound_of code phi - s.heap))
 
 module _ (code : List ℕ) (table : Grid) (phi : Pretending) where
-  pub left_going : (s : Trying) → s.heap ≤ bound_of code phi → left code phi s ≡ length s.coming + 1 + sum_by (cost_of code phi) (range_with_len (s.heap + 1) (bound_of code phi - s.heap))
+  pub left_going : (s : Trying) → s.heap ≤ bound_of code phi
+      → left code phi s ≡ length s.coming + 1 + sum_by (cost_of code phi)
+      (range_with_len (s.heap + 1) (bound_of code phi - s.heap))
   unfolding left
-  left_going s l = ap (λ b. if b then 0 else length s.coming + 1 + sum_by (cost_of code phi) (range_with_len (s.heap + 1) (bound_of code phi - s.heap))) (going (bound_of code phi) s.heap l)
+  left_going s l =
+      ap (λ b. if b then 0 else length s.coming + 1 + sum_by (cost_of code phi)
+      (range_with_len (s.heap + 1) (bound_of code phi - s.heap)))
+      (going (bound_of code phi) s.heap l)
 
   pub left_over : (s : Trying) → bound_of code phi < s.heap → left code phi s ≡ 0
   unfolding left
-  left_over s l = ap (λ b. if b then 0 else length s.coming + 1 + sum_by (cost_of code phi) (range_with_len (s.heap + 1) (bound_of code phi - s.heap))) (not_going (bound_of code phi) s.heap l)
+  left_over s l =
+      ap (λ b. if b then 0 else length s.coming + 1 + sum_by (cost_of code phi)
+      (range_with_len (s.heap + 1) (bound_of code phi - s.heap)))
+      (not_going (bound_of code phi) s.heap l)
 
   pub left_some : (s : Trying) → s.heap ≤ bound_of code phi → length s.coming + 1 ≤ left code phi s
   left_some s l = let e = left_going s l in omega arith

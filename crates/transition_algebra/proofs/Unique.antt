@@ -35,42 +35,56 @@ true_or false true e = refl
 true_or false false e = absurd (elim e [ inl f ↦ (cc) | inr f ↦ (cc) ])
 
 module _ (f : Left → ℕ) where
-  any_value : (xs : List Left) (q : ℕ) → list_any (λ y. nat_eq y q) (map f xs) ≡ true → (x : Left) × Contains xs x × (f x ≡ q)
+  any_value : (xs : List Left) (q : ℕ) → list_any (λ y. nat_eq y q) (map f xs) ≡ true
+      → (x : Left) × Contains xs x × (f x ≡ q)
   any_value [] q h = absurd (cc)
   any_value (x ∷ xs) q h = elim (or_true _ _ h) [
     | inl e ↦ (x, Contains-append_left (x ∷ []) xs x (itself_in x), eqb-true (f x) q e)
     | inr e ↦ let (l, i, g) = any_value xs q e in (l, Contains-append_right (x ∷ []) xs l i, g)
   ]
 
-  value_any : (xs : List Left) (x : Left) → Contains xs x → list_any (λ y. nat_eq y (f x)) (map f xs) ≡ true
+  value_any : (xs : List Left) (x : Left) → Contains xs x
+      → list_any (λ y. nat_eq y (f x)) (map f xs) ≡ true
   value_any [] x c = absurd (nothing_in x c)
   value_any (y ∷ ys) x c = true_or _ _ (elim (Contains-append_cases (y ∷ []) ys x c) [
     | inl h ↦ inl (eq-eqb (f y) (f x) (ap f (only_in y x h)))
     | inr h ↦ inr (value_any ys x h)
   ])
 
-  has_value : (xs : List Left) (q : ℕ) → has (set.from_list (map f xs)) q → (x : Left) × Contains xs x × (f x ≡ q)
+  has_value : (xs : List Left) (q : ℕ) → has (set.from_list (map f xs)) q
+      → (x : Left) × Contains xs x × (f x ≡ q)
   has_value xs q h = any_value xs q (sym (contains-from_list_nat (map f xs) q) ∙ h)
 
-  value_has : (xs : List Left) (x : Left) (q : ℕ) → Contains xs x → f x ≡ q → has (set.from_list (map f xs)) q
-  value_has xs x q c e = subst (has (set.from_list (map f xs))) e (contains-from_list_nat (map f xs) (f x) ∙ value_any xs x c)
+  value_has : (xs : List Left) (x : Left) (q : ℕ) → Contains xs x → f x ≡ q
+      → has (set.from_list (map f xs)) q
+  value_has xs x q c e =
+      subst (has (set.from_list (map f xs))) e (contains-from_list_nat (map f xs) (f x)
+      ∙ value_any xs x c)
 
-module _ (code : List ℕ) (table : Grid) (monoid : Monoid table.order (times_in table)) (phi : Pretending) (pretending : IsPretending phi) (into : IsInto table phi) where
+module _ (code : List ℕ) (table : Grid) (monoid : Monoid table.order (times_in table))
+    (phi : Pretending) (pretending : IsPretending phi) (into : IsInto table phi) where
   module _ (c : Claim) (agrees : Agrees c table phi) where
-    option_value : (n : ℕ) (left : Left) → Contains (options_of code n) left → HeapOptionValue code c n (left_value table phi left)
+    option_value : (n : ℕ) (left : Left) → Contains (options_of code n) left
+        → HeapOptionValue code c n (left_value table phi left)
     option_value n left i =
-        let (j, h) = of_options code n n left i in
-        (heaps_of left, (only code n n left i).0, sym (left_is table monoid phi into c agrees left (tried_heaps code n j left h)))
+        let (j, h) = of_options code n n left i in (
+          heaps_of left,
+          (only code n n left i).0,
+          sym (left_is table monoid phi into c agrees left (tried_heaps code n j left h)),
+        )
 
     -- it has the values of all options of the heap
     one_heap_pair : (n : ℕ) → 1 ≤ n → IsHeapPair code c n (heap_pair code table phi n)
     one_heap_pair n one = record {
       value_is = sym (agrees.phi_is n one);
       options_are = λ x. (
-        λ h. let (left, i, e) = has_value (left_value table phi) (options_of code n) x h in subst (HeapOptionValue code c n) e (option_value n left i),
+        λ h. let (left, i, e) = has_value (left_value table phi) (options_of code n) x h in
+            subst (HeapOptionValue code c n) e (option_value n left i),
         λ h.
-            let (left, i, e) = (tried_values table monoid phi into c agrees code n pretending x).1 h in
-            value_has (left_value table phi) (options_of code n) left x ((cut code n (largest_part phi) left).0 i).0 e,
+            let (left, i, e) = (tried_values table monoid phi into c agrees code n pretending x).1 h
+            in
+            value_has (left_value table phi) (options_of code n) left x
+            ((cut code n (largest_part phi) left).0 i).0 e,
       );
     }
 
@@ -81,33 +95,49 @@ module _ (code : List ℕ) (table : Grid) (monoid : Monoid table.order (times_in
       let long = length-map-range_with_len f 1 B in
       record {
         length_is = long;
-        each = λ i d l. subst (IsHeapPair code c (i + 1)) (sym (get_or-map-range_with_len f 1 B i (i + 1) d (omega arith) (omega arith))) (one_heap_pair c agrees (i + 1) (omega arith));
+        each =
+            λ i d l. subst (IsHeapPair code c (i + 1))
+            (sym (get_or-map-range_with_len f 1 B i (i + 1) d (omega arith) (omega arith)))
+            (one_heap_pair c agrees (i + 1) (omega arith));
       }
 
-same_heap_pair : (code : List ℕ) (c : Claim) (n : ℕ) (p q : Pair) → IsHeapPair code c n p → IsHeapPair code c n q → p ≡ q
-same_heap_pair code c n p q h k = same_pair p q (h.value_is ∙ sym k.value_is) (λ x a. (k.options_are x).1 ((h.options_are x).0 a)) (λ x a. (h.options_are x).1 ((k.options_are x).0 a))
+same_heap_pair : (code : List ℕ) (c : Claim) (n : ℕ) (p q : Pair) → IsHeapPair code c n p
+    → IsHeapPair code c n q → p ≡ q
+same_heap_pair code c n p q h k =
+    same_pair p q (h.value_is ∙ sym k.value_is) (λ x a. (k.options_are x).1 ((h.options_are x).0 a))
+    (λ x a. (h.options_are x).1 ((k.options_are x).0 a))
 
 -- there is one list of pairs at most
-same_heap_pairs : (code : List ℕ) (c : Claim) (B : ℕ) (ps qs : List Pair) → IsHeapPairs code c B ps → IsHeapPairs code c B qs → ps ≡ qs
+same_heap_pairs : (code : List ℕ) (c : Claim) (B : ℕ) (ps qs : List Pair) → IsHeapPairs code c B ps
+    → IsHeapPairs code c B qs → ps ≡ qs
 same_heap_pairs code c B ps qs h k =
     let long = h.length_is in
     let too = k.length_is in
-    same_lists ps qs (omega arith) (λ i d l. same_heap_pair code c (i + 1) (get_or ps i d) (get_or qs i d) (h.each i d l) (k.each i d (omega arith)))
+    same_lists ps qs (omega arith)
+    (λ i d l. same_heap_pair code c (i + 1) (get_or ps i d) (get_or qs i d) (h.each i d l)
+    (k.each i d (omega arith)))
 
 -- and so it is this one
-pub only_pairs : (code : List ℕ) (table : Grid) → Monoid table.order (times_in table) → (phi : Pretending) → IsPretending phi → IsInto table phi → (c : Claim) (pairs : List Pair)
-    → Agrees c table phi → IsHeapPairs code c (bound_of code phi) pairs → pairs ≡ all_heap_pairs code table phi
+pub only_pairs : (code : List ℕ) (table : Grid) → Monoid table.order (times_in table)
+    → (phi : Pretending) → IsPretending phi → IsInto table phi → (c : Claim) (pairs : List Pair)
+    → Agrees c table phi → IsHeapPairs code c (bound_of code phi) pairs
+    → pairs ≡ all_heap_pairs code table phi
 only_pairs code table monoid phi pretending into c pairs agrees are =
-    same_heap_pairs code c (bound_of code phi) pairs (all_heap_pairs code table phi) are (all_are_pairs code table monoid phi pretending into c agrees)
+    same_heap_pairs code c (bound_of code phi) pairs (all_heap_pairs code table phi) are
+    (all_are_pairs code table monoid phi pretending into c agrees)
 
-pub all_pairs : (code : List ℕ) (table : Grid) → Monoid table.order (times_in table) → (phi : Pretending) → IsPretending phi → IsInto table phi → (pairs : List Pair)
+pub all_pairs : (code : List ℕ) (table : Grid) → Monoid table.order (times_in table)
+    → (phi : Pretending) → IsPretending phi → IsInto table phi → (pairs : List Pair)
     → AreAllHeapPairs code table phi pairs → pairs ≡ all_heap_pairs code table phi
 all_pairs code table monoid phi pretending into pairs are =
-    only_pairs code table monoid phi pretending into (claim_by table phi) pairs (agrees_itself table phi) (are (claim_by table phi) (agrees_itself table phi))
+    only_pairs code table monoid phi pretending into (claim_by table phi) pairs
+    (agrees_itself table phi) (are (claim_by table phi) (agrees_itself table phi))
 
 -- all turns make it
-pub turned_pairs : (code : List ℕ) (table : Grid) → Monoid table.order (times_in table) → (phi : Pretending) → IsPretending phi → IsInto table phi
-    → (turns code table phi (heap_cost code phi) (opening code phi)).pairs ≡ all_heap_pairs code table phi
+pub turned_pairs : (code : List ℕ) (table : Grid) → Monoid table.order (times_in table)
+    → (phi : Pretending) → IsPretending phi → IsInto table phi
+    → (turns code table phi (heap_cost code phi) (opening code phi)).pairs
+    ≡ all_heap_pairs code table phi
 turned_pairs code table monoid phi pretending into =
     let s = turns code table phi (heap_cost code phi) (opening code phi) in
     let stand = stands code table monoid phi pretending into (heap_cost code phi) in
@@ -117,4 +147,5 @@ turned_pairs code table monoid phi pretending into =
       | yes l ↦ absurd (let some = left_some code table phi s l in omega arith)
       | no l ↦ omega arith
     ] in
-    all_pairs code table monoid phi pretending into s.pairs (subst (λ B. AreFirstHeapPairs code table phi B s.pairs) past stand.made)
+    all_pairs code table monoid phi pretending into s.pairs
+    (subst (λ B. AreFirstHeapPairs code table phi B s.pairs) past stand.made)

@@ -17,26 +17,37 @@ use Rattle.transition_algebra.proofs.Steps.{IsTheHeapPair, AreFirstHeapPairs}
 
 -- the claim of the table and phi themselves
 abbrev pub claim_by : Grid → Pretending → Claim
-claim_by table phi = record { order = table.order; times = times_in table; phi = phi_at phi; portion = λ _. false }
+claim_by table phi =
+    record { order = table.order; times = times_in table; phi = phi_at phi; portion = λ _. false }
 
 pub agrees_itself : (table : Grid) (phi : Pretending) → Agrees (claim_by table phi) table phi
-agrees_itself table phi = record { order_is = refl; times_is = λ x y i j. refl; phi_is = λ n l. refl }
+agrees_itself table phi =
+    record { order_is = refl; times_is = λ x y i j. refl; phi_is = λ n l. refl }
 
-module _ (table : Grid) (monoid : Monoid table.order (times_in table)) (phi : Pretending) (into : IsInto table phi) where
-  pair_in : (code : List ℕ) (n : ℕ) (p : Pair) → 1 ≤ n → IsTheHeapPair code table phi n p → IsPair table.order p
+module _ (table : Grid) (monoid : Monoid table.order (times_in table)) (phi : Pretending)
+    (into : IsInto table phi) where
+  pair_in : (code : List ℕ) (n : ℕ) (p : Pair) → 1 ≤ n → IsTheHeapPair code table phi n p
+      → IsPair table.order p
   pair_in code n p one is =
       let c = claim_by table phi in
       let agrees = agrees_itself table phi in
       let here = is c agrees in
       record {
-        value = subst (λ v. v < table.order) (sym (here.value_is ∙ agrees.phi_is n one)) (phi_in table monoid phi into n);
+        value =
+            subst (λ v. v < table.order) (sym (here.value_is ∙ agrees.phi_is n one))
+            (phi_in table monoid phi into n);
         options = λ x h.
             let (H, o, e) = (here.options_are x).0 h in
-            subst (λ v. v < table.order) e (value_in IsHeap c monoid (claim_gives table monoid phi into c agrees) H (heaps_kept code n H one o));
+            subst (λ v. v < table.order) e
+            (value_in IsHeap c monoid (claim_gives table monoid phi into c agrees) H
+            (heaps_kept code n H one o));
       }
 
-  pub all_in : (code : List ℕ) (B : ℕ) (pairs : List Pair) → AreFirstHeapPairs code table phi B pairs → All (IsPair table.order) pairs
-  all_in code B pairs are = All-from_get_or (IsPair table.order) pairs blank (λ i l. pair_in code (i + 1) _ (omega arith) (λ c a. (are c a).each i blank l))
+  pub all_in : (code : List ℕ) (B : ℕ) (pairs : List Pair)
+      → AreFirstHeapPairs code table phi B pairs → All (IsPair table.order) pairs
+  all_in code B pairs are =
+      All-from_get_or (IsPair table.order) pairs blank
+      (λ i l. pair_in code (i + 1) _ (omega arith) (λ c a. (are c a).each i blank l))
     where
       blank : Pair
       blank = record { value = 0; options = set.empty }

@@ -29,7 +29,8 @@ pub record IsHeapPair (code : List ℕ) (c : Claim) (n : ℕ) (p : Pair) : Type 
 -- the pairs of the heaps 1 to B, in turn
 pub record IsHeapPairs (code : List ℕ) (c : Claim) (B : ℕ) (pairs : List Pair) : Type 0 where
   pub length_is : length pairs ≡ B
-  pub each : (i : ℕ) (d : Pair) → i < length pairs → IsHeapPair code c (i + 1) (slice_index_or pairs i d)
+  pub each : (i : ℕ) (d : Pair) → i < length pairs
+      → IsHeapPair code c (i + 1) (slice_index_or pairs i d)
 
 -- B = 2 start + 2 period + k, for the last digit dk of the code
 abbrev pub bound_of : List ℕ → Pretending → ℕ
@@ -37,7 +38,8 @@ bound_of code phi = heap_bound (length code - 1) phi.start phi.period
 
 -- the pairs are those of the heaps 1 to B, whatever claim agrees with the table and phi
 abbrev pub AreAllHeapPairs : List ℕ → Grid → Pretending → List Pair → Type 0
-AreAllHeapPairs code table phi pairs = (c : Claim) → Agrees c table phi → IsHeapPairs code c (bound_of code phi) pairs
+AreAllHeapPairs code table phi pairs = (c : Claim) → Agrees c table phi
+    → IsHeapPairs code c (bound_of code phi) pairs
 
 -- Of a split only smaller parts up to this one are tried: those below start + period.
 abbrev pub largest_part : Pretending → ℕ
@@ -51,8 +53,13 @@ left_value table phi (Two a b) = times_in table (phi_at phi a) (phi_at phi b)
 
 -- the pair of the heap n: its element, and the values of all its options
 abbrev pub heap_pair : List ℕ → Grid → Pretending → ℕ → Pair
-heap_pair code table phi n = record { value = phi_at phi n; options = set.from_list (map (left_value table phi) (options_of code n)) }
+heap_pair code table phi n =
+    record {
+      value = phi_at phi n;
+      options = set.from_list (map (left_value table phi) (options_of code n));
+    }
 
 -- the pairs of the heaps 1 to B
 abbrev pub all_heap_pairs : List ℕ → Grid → Pretending → List Pair
-all_heap_pairs code table phi = map (heap_pair code table phi) (range_with_len 1 (bound_of code phi))
+all_heap_pairs code table phi =
+    map (heap_pair code table phi) (range_with_len 1 (bound_of code phi))

@@ -48,30 +48,37 @@ empty_has q h = let e = contains-empty nat_cmp q in cc
 abbrev pub image : (ℕ → ℕ) → set.FinSet nat_cmp → set.FinSet nat_cmp
 image f s = set.from_list (map f (set.items s))
 
-any_map : (f : ℕ → ℕ) (xs : List ℕ) (y : ℕ) → list_any (λ z. nat_eq z y) (map f xs) ≡ true → (x : ℕ) × (list_any (λ z. nat_eq z x) xs ≡ true) × (f x ≡ y)
+any_map : (f : ℕ → ℕ) (xs : List ℕ) (y : ℕ) → list_any (λ z. nat_eq z y) (map f xs) ≡ true
+    → (x : ℕ) × (list_any (λ z. nat_eq z x) xs ≡ true) × (f x ≡ y)
 any_map f [] y h = absurd (cc)
 any_map f (x ∷ xs) y h = elim (or_true _ _ h) [
   | inl e ↦ (x, true_or _ _ (inl (eq-eqb x x refl)), eqb-true (f x) y e)
   | inr e ↦ let (z, i, g) = any_map f xs y e in (z, true_or _ _ (inr i), g)
 ]
 
-map_any : (f : ℕ → ℕ) (xs : List ℕ) (x : ℕ) → list_any (λ z. nat_eq z x) xs ≡ true → list_any (λ z. nat_eq z (f x)) (map f xs) ≡ true
+map_any : (f : ℕ → ℕ) (xs : List ℕ) (x : ℕ) → list_any (λ z. nat_eq z x) xs ≡ true
+    → list_any (λ z. nat_eq z (f x)) (map f xs) ≡ true
 map_any f [] x h = absurd (cc)
 map_any f (z ∷ xs) x h = true_or _ _ (elim (or_true _ _ h) [
   | inl e ↦ inl (eq-eqb (f z) (f x) (ap f (eqb-true z x e)))
   | inr e ↦ inr (map_any f xs x e)
 ])
 
-items_have : (s : set.FinSet nat_cmp) (x : ℕ) → list_any (λ z. nat_eq z x) (set.items s) ≡ set.contains s x
-items_have s x = sym (contains-from_list_nat (set.items s) x) ∙ contains-from_list nat_cmp_total (set.items s) x ∙ sym (contains-items s x)
+items_have : (s : set.FinSet nat_cmp) (x : ℕ) → list_any (λ z. nat_eq z x) (set.items s)
+    ≡ set.contains s x
+items_have s x = sym (contains-from_list_nat (set.items s) x) ∙ contains-from_list nat_cmp_total
+    (set.items s) x ∙ sym (contains-items s x)
 
-pub has_image : (f : ℕ → ℕ) (s : set.FinSet nat_cmp) (y : ℕ) → has (image f s) y → (x : ℕ) × has s x × (f x ≡ y)
+pub has_image : (f : ℕ → ℕ) (s : set.FinSet nat_cmp) (y : ℕ) → has (image f s) y
+    → (x : ℕ) × has s x × (f x ≡ y)
 has_image f s y h =
-    let (x, i, e) = any_map f (set.items s) y (sym (contains-from_list_nat (map f (set.items s)) y) ∙ h) in
+    let (x, i, e) =
+    any_map f (set.items s) y (sym (contains-from_list_nat (map f (set.items s)) y) ∙ h) in
     (x, sym (items_have s x) ∙ i, e)
 
 pub image_has : (f : ℕ → ℕ) (s : set.FinSet nat_cmp) (x : ℕ) → has s x → has (image f s) (f x)
-image_has f s x h = contains-from_list_nat (map f (set.items s)) (f x) ∙ map_any f (set.items s) x (items_have s x ∙ h)
+image_has f s x h = contains-from_list_nat (map f (set.items s)) (f x)
+    ∙ map_any f (set.items s) x (items_have s x ∙ h)
 
 alike : (a b : Bool) → (a ≡ true → b ≡ true) → (b ≡ true → a ≡ true) → a ≡ b
 alike true true f g = refl
@@ -80,11 +87,15 @@ alike false true f g = g refl
 alike false false f g = refl
 
 -- sets with the same members are the same
-pub same_members : (s t : set.FinSet nat_cmp) → ((q : ℕ) → has s q → has t q) → ((q : ℕ) → has t q → has s q) → s ≡ t
-same_members s t to from = same_set nat_cmp_total nat_cmp-IsAntisymmetric s t (λ q. alike _ _ (to q) (from q))
+pub same_members : (s t : set.FinSet nat_cmp) → ((q : ℕ) → has s q → has t q)
+    → ((q : ℕ) → has t q → has s q) → s ≡ t
+same_members s t to from =
+    same_set nat_cmp_total nat_cmp-IsAntisymmetric s t (λ q. alike _ _ (to q) (from q))
 
-pub same_pair : (p r : Pair) → p.value ≡ r.value → ((q : ℕ) → has p.options q → has r.options q) → ((q : ℕ) → has r.options q → has p.options q) → p ≡ r
-same_pair p r e to from = ap₂ (λ v o. record { value = v; options = o }) e (same_members p.options r.options to from)
+pub same_pair : (p r : Pair) → p.value ≡ r.value → ((q : ℕ) → has p.options q → has r.options q)
+    → ((q : ℕ) → has r.options q → has p.options q) → p ≡ r
+same_pair p r e to from =
+    ap₂ (λ v o. record { value = v; options = o }) e (same_members p.options r.options to from)
 
 module _ (t : Grid) (lawful : IsTableGrid t) where
   abbrev q : ℕ
@@ -94,16 +105,20 @@ module _ (t : Grid) (lawful : IsTableGrid t) where
   dot x y = times_in t x y
 
   -- an option of one part beside the value of the other
-  pub times_has : (p r : Pair) (y : ℕ) → has (times t p r).options y → ((x : ℕ) × has r.options x × (dot p.value x ≡ y)) ⊎ ((x : ℕ) × has p.options x × (dot r.value x ≡ y))
+  pub times_has : (p r : Pair) (y : ℕ) → has (times t p r).options y
+      → ((x : ℕ) × has r.options x × (dot p.value x ≡ y))
+      ⊎ ((x : ℕ) × has p.options x × (dot r.value x ≡ y))
   times_has p r y h = elim (has_union _ _ y h) [
     | inl k ↦ inl (has_image (dot p.value) r.options y k)
     | inr k ↦ inr (has_image (dot r.value) p.options y k)
   ]
 
-  pub has_right : (p r : Pair) → IsPair q r → (x : ℕ) → has r.options x → has (times t p r).options (dot p.value x)
+  pub has_right : (p r : Pair) → IsPair q r → (x : ℕ) → has r.options x
+      → has (times t p r).options (dot p.value x)
   has_right p r w x h = union_has _ _ _ (inl (image_has (dot p.value) r.options x h))
 
-  pub has_left : (p r : Pair) → IsPair q p → (x : ℕ) → has p.options x → has (times t p r).options (dot r.value x)
+  pub has_left : (p r : Pair) → IsPair q p → (x : ℕ) → has p.options x
+      → has (times t p r).options (dot r.value x)
   has_left p r w x h = union_has _ _ _ (inr (image_has (dot r.value) p.options x h))
 
   abbrev laws : CommMonoidLaws (λ x. x < q) 0 dot
@@ -121,14 +136,16 @@ module _ (t : Grid) (lawful : IsTableGrid t) where
   pub one_in : IsPair q one
   one_in = record { value = laws.one_in; options = λ x h. absurd (empty_has x h) }
 
-  swapped : (p r : Pair) → IsPair q p → IsPair q r → (y : ℕ) → has (times t p r).options y → has (times t r p).options y
+  swapped : (p r : Pair) → IsPair q p → IsPair q r → (y : ℕ) → has (times t p r).options y
+      → has (times t r p).options y
   swapped p r a b y h = elim (times_has p r y h) [
     | inl (x, k, e) ↦ subst (has (times t r p).options) e (has_left r p b x k)
     | inr (x, k, e) ↦ subst (has (times t r p).options) e (has_right r p a x k)
   ]
 
   times_comm : (p r : Pair) → IsPair q p → IsPair q r → times t p r ≡ times t r p
-  times_comm p r a b = same_pair _ _ (laws.comm _ _ a.value b.value) (swapped p r a b) (swapped r p b a)
+  times_comm p r a b =
+      same_pair _ _ (laws.comm _ _ a.value b.value) (swapped p r a b) (swapped r p b a)
 
   times_one : (p : Pair) → IsPair q p → times t one p ≡ p
   times_one p a = same_pair _ _ (laws.identity _ a.value)
@@ -136,35 +153,53 @@ module _ (t : Grid) (lawful : IsTableGrid t) where
         | inl (x, k, e) ↦ subst (has p.options) (sym (laws.identity x (a.options x k)) ∙ e) k
         | inr (x, k, e) ↦ absurd (empty_has x k)
       ])
-      (λ y h. subst (has (times t one p).options) (laws.identity y (a.options y h)) (has_right one p a y h))
+      (λ y h. subst (has (times t one p).options) (laws.identity y (a.options y h))
+      (has_right one p a y h))
 
-  regrouped : (p r u : Pair) → IsPair q p → IsPair q r → IsPair q u → (y : ℕ) → has (times t (times t p r) u).options y → has (times t p (times t r u)).options y
+  regrouped : (p r u : Pair) → IsPair q p → IsPair q r → IsPair q u → (y : ℕ)
+      → has (times t (times t p r) u).options y → has (times t p (times t r u)).options y
   regrouped p r u a b c y h =
       let ru = stays_in r u b c in
       elim (times_has (times t p r) u y h) [
         | inl (x, k, e) ↦
-            subst (has (times t p (times t r u)).options) (sym (laws.assoc _ _ x a.value b.value (c.options x k)) ∙ e) (has_right p (times t r u) ru _ (has_right r u c x k))
+            subst (has (times t p (times t r u)).options)
+            (sym (laws.assoc _ _ x a.value b.value (c.options x k)) ∙ e)
+            (has_right p (times t r u) ru _ (has_right r u c x k))
         | inr (x, k, e) ↦ elim (times_has p r x k) [
           | inl (z, l, d) ↦
               let zq = b.options z l in
               -- u·(p·z) is p·(u·z)
               subst (has (times t p (times t r u)).options)
-              (sym (laws.assoc _ _ z a.value c.value zq) ∙ ap (λ v. dot v z) (laws.comm _ _ a.value c.value) ∙ laws.assoc _ _ z c.value a.value zq ∙ ap (dot u.value) d ∙ e)
+              (sym (laws.assoc _ _ z a.value c.value zq)
+              ∙ ap (λ v. dot v z) (laws.comm _ _ a.value c.value)
+              ∙ laws.assoc _ _ z c.value a.value zq ∙ ap (dot u.value) d ∙ e)
               (has_right p (times t r u) ru _ (has_left r u b z l))
           | inr (z, l, d) ↦
               let zq = a.options z l in
               subst (has (times t p (times t r u)).options)
-              (ap (λ v. dot v z) (laws.comm _ _ b.value c.value) ∙ laws.assoc _ _ z c.value b.value zq ∙ ap (dot u.value) d ∙ e)
+              (ap (λ v. dot v z) (laws.comm _ _ b.value c.value)
+              ∙ laws.assoc _ _ z c.value b.value zq ∙ ap (dot u.value) d ∙ e)
               (has_left p (times t r u) a z l)
         ]
       ]
 
-  times_assoc : (p r u : Pair) → IsPair q p → IsPair q r → IsPair q u → times t (times t p r) u ≡ times t p (times t r u)
-  times_assoc p r u a b c = same_pair _ _ (laws.assoc _ _ _ a.value b.value c.value) (regrouped p r u a b c)
+  times_assoc : (p r u : Pair) → IsPair q p → IsPair q r → IsPair q u
+      → times t (times t p r) u ≡ times t p (times t r u)
+  times_assoc p r u a b c =
+      same_pair _ _ (laws.assoc _ _ _ a.value b.value c.value) (regrouped p r u a b c)
       (λ y h.
-      let one_way = times_comm p (times t r u) a (stays_in r u b c) ∙ ap (λ z. times t z p) (times_comm r u b c) in
+      let one_way = times_comm p (times t r u) a (stays_in r u b c)
+      ∙ ap (λ z. times t z p) (times_comm r u b c) in
       let k = regrouped u r p c b a y (subst (λ z. has z.options y) one_way h) in
-      subst (λ z. has z.options y) (times_comm u (times t r p) c (stays_in r p b a) ∙ ap (λ z. times t z u) (times_comm r p b a)) k)
+      subst (λ z. has z.options y) (times_comm u (times t r p) c (stays_in r p b a)
+      ∙ ap (λ z. times t z u) (times_comm r p b a)) k)
 
   pub pair_laws : CommMonoidLaws (IsPair q) one (times t)
-  pair_laws = record { one_in = one_in; times_in = stays_in; identity = times_one; comm = times_comm; assoc = times_assoc }
+  pair_laws =
+      record {
+        one_in = one_in;
+        times_in = stays_in;
+        identity = times_one;
+        comm = times_comm;
+        assoc = times_assoc;
+      }

@@ -1,5 +1,6 @@
--- Pairs of a value and the set of options' values: their products, and when one covers another.
--- The pairs are the transition algebra of Plambeck and Siegel, "Misère quotients for impartial games"; covering is this project's own.
+-- Pairs of a value and the set of options' values: their products, and when one covers another. The
+-- pairs are the transition algebra of Plambeck and Siegel, "Misère quotients for impartial games";
+-- covering is this project's own.
 use Rattle.std.specs.Prelude.{◌≡◌, ℕ, ◌<◌, Bool, true, not, ◌&&◌, ◌||◌, nat_eq, map}
 use Rattle.std.specs.Ordering.{nat_cmp}
 use Rattle.std.specs.FinSet as set
@@ -31,4 +32,6 @@ is_empty s = set.is_subset s set.empty
 
 -- the same value, some of the options' values, and one at least where there is one
 abbrev pub covers : Pair → Pair → Bool
-covers p r = nat_eq p.value r.value && (set.is_subset p.options r.options && (is_empty r.options || not (is_empty p.options)))
+covers p r =
+    nat_eq p.value r.value
+    && (set.is_subset p.options r.options && (is_empty r.options || not (is_empty p.options)))

@@ -10,9 +10,12 @@ pub record Pretending : Type 0 where
 
 -- the element of the heap n
 abbrev pub phi_at : Pretending → ℕ → ℕ
-phi_at f n = slice_index (0 ∷ f.entries) (if nat_lt n (f.start + f.period) then n else f.start + (n - f.start) % f.period)
+phi_at f n =
+    slice_index (0 ∷ f.entries)
+    (if nat_lt n (f.start + f.period) then n else f.start + (n - f.start) % f.period)
 
--- start and period are at least 1, their sum is at most 1025, and each heap below the sum has an entry
+-- start and period are at least 1, their sum is at most 1025, and each heap below the sum has an
+-- entry
 pub record IsPretending (f : Pretending) : Type 0 where
   pub from_one : 1 ≤ f.start
   pub some : 1 ≤ f.period

@@ -31,7 +31,8 @@ last_part n most j = min ((n - j) / 2) most
 
 -- the splits that take j away, the smaller part from a on
 abbrev pub splits_from : List ℕ → ℕ → ℕ → ℕ → ℕ → List Left
-splits_from code n most j a = where_holds (has_bit code j 4) (splits (n - j) a (last_part n most j + 1 - a))
+splits_from code n most j a =
+    where_holds (has_bit code j 4) (splits (n - j) a (last_part n most j + 1 - a))
 
 -- the options to come
 abbrev pub coming_at : List ℕ → ℕ → ℕ → ℕ → Stage → List Left
@@ -57,11 +58,13 @@ with_values f s a (suc n) = with_values f (set.insert s (f a)) (a + 1) n
 
 -- the values of the splits of the whole heap that are tried
 abbrev pub values_of_splits : Grid → Pretending → ℕ → set.FinSet nat_cmp
-values_of_splits table phi whole = with_values (split_value table phi whole) set.empty 1 (min (whole / 2) (largest_part phi))
+values_of_splits table phi whole =
+    with_values (split_value table phi whole) set.empty 1 (min (whole / 2) (largest_part phi))
 
 -- set number m has the values of the splits of the heap m
 abbrev pub AreWholes : Grid → Pretending → List (set.FinSet nat_cmp) → Type 0
-AreWholes table phi sets = (m : ℕ) → m < length sets → slice_index_or sets m set.empty ≡ values_of_splits table phi m
+AreWholes table phi sets = (m : ℕ) → m < length sets
+    → slice_index_or sets m set.empty ≡ values_of_splits table phi m
 
 -- the set, with the values of what is left
 unfoldable pub with_left : Grid → Pretending → set.FinSet nat_cmp → List Left → set.FinSet nat_cmp
@@ -70,7 +73,12 @@ with_left table phi s (x ∷ xs) = with_left table phi (set.insert s (left_value
 
 -- the option that leaves one heap at most was tried
 abbrev pub after_single : List ℕ → Grid → Pretending → Trial → Trial
-after_single code table phi t = record t { stage = Splits 1; seen = with_left table phi t.seen (single_left code t.heap t.away); spent = t.spent + length (single_left code t.heap t.away) }
+after_single code table phi t =
+    record t {
+      stage = Splits 1;
+      seen = with_left table phi t.seen (single_left code t.heap t.away);
+      spent = t.spent + length (single_left code t.heap t.away);
+    }
 
 -- so many splits were tried, the smaller part from a on
 abbrev pub after_splits : Trial → ℕ → ℕ → Trial
@@ -81,19 +89,24 @@ abbrev pub after_all : List ℕ → Grid → Pretending → Trial → Trial
 after_all code table phi t = record t {
   away = t.away + 1;
   stage = Single;
-  seen = if has_bit code t.away 4 then set.union t.seen (values_of_splits table phi (t.heap - t.away)) else t.seen;
+  seen =
+      if has_bit code t.away 4 then set.union t.seen (values_of_splits table phi (t.heap - t.away))
+      else t.seen;
 }
 
 -- the heap's pair is set down
 abbrev pub after_heap : Trial → Trial
-after_heap t = record t { heap = t.heap + 1; away = 0; stage = Single; seen = set.empty; spent = t.spent + 1 }
+after_heap t =
+    record t { heap = t.heap + 1; away = 0; stage = Single; seen = set.empty; spent = t.spent + 1 }
 
 -- smaller parts count from 1, and go past the last by one at most
 abbrev pub IsStage : List ℕ → ℕ → ℕ → ℕ → Stage → Type 0
 IsStage code n most j Single = Unit {0}
-IsStage code n most j (Splits a) = (1 ≤ a) × (2 ≤ a → (has_bit code j 4 ≡ true) × (a ≤ last_part n most j + 1))
+IsStage code n most j (Splits a) =
+    (1 ≤ a) × (2 ≤ a → (has_bit code j 4 ≡ true) × (a ≤ last_part n most j + 1))
 
--- The values of the options tried: those of splits are taken over once all splits of a whole are tried.
+-- The values of the options tried: those of splits are taken over once all splits of a whole are
+-- tried.
 abbrev pub seen_at : Grid → Pretending → ℕ → set.FinSet nat_cmp → Stage → set.FinSet nat_cmp
 seen_at table phi whole seen Single = seen
 seen_at table phi whole seen (Splits a) = with_values (split_value table phi whole) seen 1 (a - 1)
@@ -107,7 +120,8 @@ trying_of code table phi t pairs = record {
 }
 
 -- the trial and the pairs beside it are what the turns spent make of nothing tried
-pub record IsTrial (code : List ℕ) (table : Grid) (phi : Pretending) (t : Trial) (pairs : List Pair) : Type 0 where
+pub record IsTrial (code : List ℕ) (table : Grid) (phi : Pretending) (t : Trial)
+    (pairs : List Pair) : Type 0 where
   pub bound_is : t.bound ≡ bound_of code phi
   pub most_is : t.most ≡ largest_part phi
   pub away_in : t.away ≤ length code
@@ -124,7 +138,8 @@ abbrev pub stages_left : List ℕ → Trial → ℕ
 stages_left code t = 2 * (length code - t.away) + stages t.stage
 
 -- at most so many turns more, none of which begins a second heap, and where none, a stage less
-pub record IsRun (code : List ℕ) (table : Grid) (phi : Pretending) (s t : Trial) (pairs : List Pair) (units spent : ℕ) : Type 0 where
+pub record IsRun (code : List ℕ) (table : Grid) (phi : Pretending) (s t : Trial) (pairs : List Pair)
+    (units spent : ℕ) : Type 0 where
   pub at_most : spent ≤ units
   pub trial : IsTrial code table phi t pairs
   pub spent_is : t.spent ≡ s.spent + spent

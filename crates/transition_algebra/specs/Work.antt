@@ -1,4 +1,5 @@
--- The pairs of the heaps 1 to B, made a turn at a time. A turn tries one option, or sets down the pair of a heap whose options are tried.
+-- The pairs of the heaps 1 to B, made a turn at a time. A turn tries one option, or sets down the
+-- pair of a heap whose options are tried.
 use Rattle.std.specs.Prelude.{◌≡◌, ℕ, zero, suc, ◌+◌, Bool, nat_lt, min, if◌then◌else◌, List, [], ◌∷◌, ◌++◌, length}
 use Rattle.std.specs.List.{sum_by, range_with_len}
 use Rattle.std.specs.FinSet as set
@@ -14,7 +15,8 @@ use Rattle.transition_algebra.specs.declared.pair.Pair.{Pair}
 abbrev pub tries : List ℕ → Pretending → ℕ → List Left
 tries code phi n = options_up_to code n (largest_part phi)
 
--- the heap in hand, its options to come, the values of those tried, and the pairs of the smaller heaps
+-- the heap in hand, its options to come, the values of those tried, and the pairs of the smaller
+-- heaps
 pub record Trying : Type 0 where
   pub heap : ℕ
   pub coming : List Left
@@ -26,14 +28,24 @@ abbrev pub opening : List ℕ → Pretending → Trying
 opening code phi = record { heap = 1; coming = tries code phi 1; seen = set.empty; pairs = [] }
 
 -- an option more, or the pair of the heap n, and the next heap
-abbrev pub tried : List ℕ → Grid → Pretending → ℕ → set.FinSet nat_cmp → List Pair → List Left → Trying
+abbrev pub tried : List ℕ → Grid → Pretending → ℕ → set.FinSet nat_cmp → List Pair → List Left
+    → Trying
 tried code table phi n seen pairs [] =
-    record { heap = n + 1; coming = tries code phi (n + 1); seen = set.empty; pairs = pairs ++ (record { value = phi_at phi n; options = seen } ∷ []) }
-tried code table phi n seen pairs (x ∷ xs) = record { heap = n; coming = xs; seen = set.insert seen (left_value table phi x); pairs = pairs }
+    record {
+      heap = n + 1;
+      coming = tries code phi (n + 1);
+      seen = set.empty;
+      pairs = pairs
+          ++ (record { value = phi_at phi n; options = seen } ∷ []);
+    }
+tried code table phi n seen pairs (x ∷ xs) =
+    record { heap = n; coming = xs; seen = set.insert seen (left_value table phi x); pairs = pairs }
 
 -- a turn; past the bound nothing is left to do
 abbrev pub turn : List ℕ → Grid → Pretending → Trying → Trying
-turn code table phi s = if nat_lt (bound_of code phi) s.heap then s else tried code table phi s.heap s.seen s.pairs s.coming
+turn code table phi s =
+    if nat_lt (bound_of code phi) s.heap then s else tried code table phi s.heap s.seen s.pairs
+    s.coming
 
 unfoldable pub turns : List ℕ → Grid → Pretending → ℕ → Trying → Trying
 turns code table phi zero s = s
@@ -41,7 +53,8 @@ turns code table phi (suc n) s = turns code table phi n (turn code table phi s)
 
 -- the turns that all pairs take
 unfoldable pub heap_cost : List ℕ → Pretending → ℕ
-heap_cost code phi = sum_by (λ n. length (tries code phi n) + 1) (range_with_len 1 (bound_of code phi))
+heap_cost code phi =
+    sum_by (λ n. length (tries code phi n) + 1) (range_with_len 1 (bound_of code phi))
 
 -- What a job was opened with, the units it has spent, and whether a growth was refused to it.
 pub record HeapWork : Type 0 where

@@ -14,8 +14,8 @@ use octal_code::Code;
 use std::alloc::{Allocator, Global};
 use std::marker::Model;
 
-/// The pairs of the heaps 1 to B in pieces. A unit tries one option of a heap, or sets down the pair of a heap whose
-/// options are all tried.
+/// The pairs of the heaps 1 to B in pieces. A unit tries one option of a heap, or sets down the
+/// pair of a heap whose options are all tried.
 #[derive(Drop)]
 pub struct HeapJob<A: Allocator = Global> {
     code: Code,
@@ -32,19 +32,28 @@ impl<A: Allocator> Model for HeapJob<A> {
 
     ghost Value = { HeapWork };
 
-    ghost view = { λ j. record { code = j.code; table = j.table; phi = j.phi; spent = j.trial.spent; refused = j.refused } };
+    ghost view = { λ j. record {
+      code = j.code;
+      table = j.table;
+      phi = j.phi;
+      spent = j.trial.spent;
+      refused = j.refused;
+    } };
 
     ghost use Rattle.transition_algebra.specs.Heaps.{IsInto};
     ghost use Rattle.transition_algebra.specs.Trials.{IsTrial, AreWholes};
 
-    ghost invariant = { λ j. IsInto j.table j.phi × IsTrial j.code j.table j.phi j.trial j.pairs.items × AreWholes j.table j.phi j.wholes.sets.items };
+    ghost invariant = { λ j. IsInto j.table j.phi
+        × IsTrial j.code j.table j.phi j.trial j.pairs.items
+        × AreWholes j.table j.phi j.wholes.sets.items };
 }
 
 impl<A: Allocator + Copy> HeapJob<A> {
     /// A job that has spent nothing. It holds no pair yet, and takes memory as it works.
     pub fn new(alloc: A, code: Code, table: Table<A>, phi: Phi<A>) -> HeapJob<A>
         requires { IsInto table phi }
-        ensures { result ≡ record { code = code; table = table; phi = phi; spent = 0; refused = false } }
+        ensures { result
+            ≡ record { code = code; table = table; phi = phi; spent = 0; refused = false } }
     {
         let trial = Trial::new(&code, &phi);
         HeapJob {
@@ -69,7 +78,9 @@ impl<A: Allocator> HeapJob<A> {
 
     /// The pairs that stand so far: those of the first heaps.
     pub fn pairs(&self) -> &[Pair]
-        ensures { result.now ≡ (turns self.now.code self.now.table self.now.phi self.now.spent (opening self.now.code self.now.phi)).pairs }
+        ensures { result.now
+            ≡ (turns self.now.code self.now.table self.now.phi self.now.spent
+            (opening self.now.code self.now.phi)).pairs }
     {
         &self.pairs
     }
@@ -78,11 +89,17 @@ impl<A: Allocator> HeapJob<A> {
     ///
     /// Once a growth was refused it answers `Memory`, and so it does at every later call.
     pub fn work(&mut self, units: u64) -> Result<bool, Memory>
-        ensures worked { OnOk result ((self.old.refused ≡ false) × (self.new ≡ worked self.old units)) }
+        ensures worked { OnOk result ((self.old.refused ≡ false)
+            × (self.new ≡ worked self.old units)) }
         ensures done { IfOk result (λ done. IsTrue done ↔ IsDone self.new) }
-        ensures refused { OnErr result (self.new ≡ record self.old { spent = self.new.spent; refused = true }) }
-        ensures spent { (self.old.spent ≤ self.new.spent) × (self.new.spent ≤ self.old.spent + units) × (self.new.spent ≤ heap_cost self.new.code self.new.phi) }
-        ensures short { OnErr result (self.old.refused ≡ false → (self.new.spent < self.old.spent + units) × (self.new.spent < heap_cost self.new.code self.new.phi)) }
+        ensures refused { OnErr result
+            (self.new ≡ record self.old { spent = self.new.spent; refused = true }) }
+        ensures spent { (self.old.spent ≤ self.new.spent)
+            × (self.new.spent ≤ self.old.spent + units)
+            × (self.new.spent ≤ heap_cost self.new.code self.new.phi) }
+        ensures short { OnErr result (self.old.refused ≡ false
+            → (self.new.spent < self.old.spent + units)
+            × (self.new.spent < heap_cost self.new.code self.new.phi)) }
         ensures stays { IsTrue self.old.refused → IsErr result × (self.new ≡ self.old) }
     {
         if self.refused {
@@ -101,13 +118,16 @@ impl<A: Allocator> HeapJob<A> {
         Ok(self.trial.is_over())
     }
 
-    /// Spends units as `work` does, at most so many, but none at the last heap, which is left to `work`. Where a growth is refused it spends
-    /// no more, and `work` tells so.
+    /// Spends units as `work` does, at most so many, but none at the last heap, which is left to
+    /// `work`. Where a growth is refused it spends no more, and `work` tells so.
     #[inline(never)]
     pub fn go_on(&mut self, most: u64)
-        ensures given { self.new ≡ record self.old { spent = self.new.spent; refused = self.new.refused } }
-        ensures spent { (self.old.spent ≤ self.new.spent) × (self.new.spent ≤ self.old.spent + most) }
-        ensures going { self.old.spent < heap_cost self.old.code self.old.phi → self.new.spent < heap_cost self.old.code self.old.phi }
+        ensures given { self.new
+            ≡ record self.old { spent = self.new.spent; refused = self.new.refused } }
+        ensures spent { (self.old.spent ≤ self.new.spent)
+            × (self.new.spent ≤ self.old.spent + most) }
+        ensures going { self.old.spent < heap_cost self.old.code self.old.phi
+            → self.new.spent < heap_cost self.old.code self.old.phi }
         ensures stays { IsTrue self.old.refused → self.new ≡ self.old }
     {
         if self.refused {

@@ -50,9 +50,10 @@ pub(crate) fn left_value<A: Allocator>(table: &Table<A>, phi: &Phi<A>, left: Lef
 
 /// The pairs of the heaps 1 to B = 2 start + 2 period + k, for the last digit dk of the code.
 ///
-/// Item n - 1 is exactly the pair of the heap n: its element, and the values of all its options. Every heap of any
-/// size has its pair among them. Of a split only smaller parts below start + period are tried: from two parts of at
-/// least that, the period moved from one to the other keeps the value. `Memory` where a growth was refused.
+/// Item n - 1 is exactly the pair of the heap n: its element, and the values of all its options.
+/// Every heap of any size has its pair among them. Of a split only smaller parts below start +
+/// period are tried: from two parts of at least that, the period moved from one to the other keeps
+/// the value. `Memory` where a growth was refused.
 pub fn heap_pairs<A: Allocator + Copy>(
     alloc: A,
     code: &Code,

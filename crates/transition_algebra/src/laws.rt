@@ -17,31 +17,40 @@ pub fn pairs_show_every_heap()
         → Agrees c table phi
         → IsHeapPairs code c (bound_of code phi) pairs
         → (n : ℕ) → IsHeap n
-        → (i : ℕ) × (i < length pairs) × ((d : Pair) → IsHeapPair code c n (slice_index_or pairs i d)) }
+        → (i : ℕ) × (i < length pairs)
+        × ((d : Pair) → IsHeapPair code c n (slice_index_or pairs i d)) }
 {}
 
 /// The pairs of the heaps 1 to B are one list, and the turns of a job make it.
 pub fn heap_pairs_are_one_list()
-    ensures exact { (code : List ℕ) (table : Grid) (phi : Pretending) → IsTableGrid table → IsPretending phi → IsInto table phi
-        → AreAllHeapPairs code table phi (all_heap_pairs code table phi) × All (IsPair table.order) (all_heap_pairs code table phi) }
-    ensures only { (code : List ℕ) (table : Grid) (phi : Pretending) (c : Claim) (pairs : List Pair) → IsTableGrid table → IsPretending phi → IsInto table phi
+    ensures exact { (code : List ℕ) (table : Grid) (phi : Pretending) → IsTableGrid table
+        → IsPretending phi → IsInto table phi
+        → AreAllHeapPairs code table phi (all_heap_pairs code table phi)
+        × All (IsPair table.order) (all_heap_pairs code table phi) }
+    ensures only { (code : List ℕ) (table : Grid) (phi : Pretending) (c : Claim) (pairs : List Pair)
+        → IsTableGrid table → IsPretending phi → IsInto table phi
         → Agrees c table phi
         → IsHeapPairs code c (bound_of code phi) pairs
         → pairs ≡ all_heap_pairs code table phi }
-    ensures turned { (code : List ℕ) (table : Grid) (phi : Pretending) → IsTableGrid table → IsPretending phi → IsInto table phi
-        → (turns code table phi (heap_cost code phi) (opening code phi)).pairs ≡ all_heap_pairs code table phi }
+    ensures turned { (code : List ℕ) (table : Grid) (phi : Pretending) → IsTableGrid table
+        → IsPretending phi → IsInto table phi
+        → (turns code table phi (heap_cost code phi) (opening code phi)).pairs
+        ≡ all_heap_pairs code table phi }
 {}
 
 /// However a job's units are cut, it makes the same turns and comes to the same.
 pub fn cuts_do_not_matter()
-    ensures turns { (code : List ℕ) (table : Grid) (phi : Pretending) (m n : ℕ) (s : Trying) → turns code table phi (m + n) s ≡ turns code table phi n (turns code table phi m s) }
+    ensures turns { (code : List ℕ) (table : Grid) (phi : Pretending) (m n : ℕ) (s : Trying)
+        → turns code table phi (m + n) s ≡ turns code table phi n (turns code table phi m s) }
     ensures worked { (job : HeapWork) (m n : ℕ) → worked job (m + n) ≡ worked (worked job m) n }
 {}
 
-/// A job is done after a unit for each option that is tried and one for each heap: B units at least, and (k + 1) B² at most,
-/// for a code whose last digit is dk.
+/// A job is done after a unit for each option that is tried and one for each heap: B units at
+/// least, and (k + 1) B² at most, for a code whose last digit is dk.
 pub fn heap_jobs_end()
-    ensures turned { (code : List ℕ) (table : Grid) (phi : Pretending) (n : ℕ) → (bound_of code phi < (turns code table phi n (opening code phi)).heap) ↔ (heap_cost code phi ≤ n) }
+    ensures turned { (code : List ℕ) (table : Grid) (phi : Pretending) (n : ℕ)
+        → (bound_of code phi < (turns code table phi n (opening code phi)).heap)
+        ↔ (heap_cost code phi ≤ n) }
     ensures least { (code : List ℕ) (phi : Pretending) → bound_of code phi ≤ heap_cost code phi }
     ensures cost { (code : List ℕ) (phi : Pretending)
         → IsOctalCode code → IsPretending phi

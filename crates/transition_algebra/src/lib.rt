@@ -1,7 +1,7 @@
 //! Pretending functions, transition pairs, and the pairs of the heaps.
 //!
-//! The pair of a position is its value and the set of its options' values. The pairs over a table are a
-//! commutative monoid, and the heaps 1 to B show the pair of every heap.
+//! The pair of a position is its value and the set of its options' values. The pairs over a table
+//! are a commutative monoid, and the heaps 1 to B show the pair of every heap.
 #![tactic(auto)]
 
 mod heap_job;

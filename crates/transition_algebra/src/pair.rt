@@ -14,8 +14,8 @@ pub struct Pair {
     pub options: ElementSet,
 }
 
-/// The pairs over a table. The product of two is the pair of a sum, whose options are those of one part beside
-/// the other; the identity is the pair of the empty position.
+/// The pairs over a table. The product of two is the pair of a sum, whose options are those of one
+/// part beside the other; the identity is the pair of the empty position.
 #[derive(Drop)]
 pub struct Pairs<'a, A: Allocator = Global> {
     pub table: &'a Table<A>,

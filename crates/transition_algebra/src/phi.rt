@@ -5,8 +5,9 @@ ghost use Rattle.transition_algebra.specs.Pretending.{phi_at, IsPretending};
 use std::alloc::{Allocator, Global};
 use std::marker::Model;
 
-/// An element for each heap size from 1 up: those of the heaps below start + period are written down, and from
-/// start on they repeat with the period. Start and period are at least 1, and their sum is at most 1025.
+/// An element for each heap size from 1 up: those of the heaps below start + period are written
+/// down, and from start on they repeat with the period. Start and period are at least 1, and their
+/// sum is at most 1025.
 ///
 /// The pretending function of Plambeck and Siegel, "Misère quotients for impartial games".
 #[derive(Drop)]
@@ -23,13 +24,15 @@ impl<A: Allocator> Model for Phi<A> {
 
     ghost view = { λ f. record { start = f.start; period = f.period; entries = f.entries.items } };
 
-    ghost invariant = { λ f. IsPretending (record { start = f.start; period = f.period; entries = f.entries.items }) };
+    ghost invariant = { λ f.
+        IsPretending (record { start = f.start; period = f.period; entries = f.entries.items }) };
 }
 
 impl<A: Allocator> Phi<A> {
     /// The function whose values at the heaps 1, 2, .., start + period - 1 are the entries.
     pub fn new(start: u64, period: u64, entries: Vec<u16, A>) -> Phi<A>
-        requires { IsPretending (record { start = start; period = period; entries = entries.items }) }
+        requires { IsPretending
+            (record { start = start; period = period; entries = entries.items }) }
         ensures { result ≡ record { start = start; period = period; entries = entries.items } }
     {
         Phi {

@@ -19,16 +19,17 @@ use octal_code::Code;
 use positions::Left;
 use std::alloc::Allocator;
 
-/// What is tried next: the option that leaves at most one heap, or the splits from this smaller part on.
+/// What is tried next: the option that leaves at most one heap, or the splits from this smaller
+/// part on.
 #[derive(Clone, Copy)]
 pub(crate) enum Stage {
     Single,
     Splits(u64),
 }
 
-/// How far the options of the heaps 1 to `bound` are tried: the heap in hand, what is taken away from it, what is
-/// tried next, the values of the options so far but the splits in hand, and the units spent. The pairs of the smaller
-/// heaps stand beside it.
+/// How far the options of the heaps 1 to `bound` are tried: the heap in hand, what is taken away
+/// from it, what is tried next, the values of the options so far but the splits in hand, and the
+/// units spent. The pairs of the smaller heaps stand beside it.
 #[derive(Clone, Copy)]
 pub(crate) struct Trial {
     pub(crate) bound: u64,
@@ -42,7 +43,8 @@ pub(crate) struct Trial {
 
 /// The option of the heap n that takes `away` and leaves at most one heap.
 fn single_option(code: &Code, n: u64, away: u64) -> Option<Left>
-    ensures { MatchOption result (single_left code.now n away ≡ []) (λ left. single_left code.now n away ≡ left ∷ []) }
+    ensures { MatchOption result (single_left code.now n away ≡ [])
+        (λ left. single_left code.now n away ≡ left ∷ []) }
 {
     if code.takes_all(n, away) {
         Some(Left::Nothing)
@@ -95,8 +97,12 @@ impl Trial {
         requires from_one { 1 ≤ part }
         requires small { self.old.spent + self.old.heap < 2 ^ 32 }
         ensures within { result ≤ units }
-        ensures none { result ≡ 0 → (has_bit code.now self.old.away 4 ≡ true → last_part self.old.heap self.old.most self.old.away < part) × (self.new ≡ self.old) }
-        ensures some { 1 ≤ result → (has_bit code.now self.old.away 4 ≡ true) × (part + result ≤ last_part self.old.heap self.old.most self.old.away + 1) × (self.new ≡ after_splits self.old part result) }
+        ensures none { result ≡ 0
+            → (has_bit code.now self.old.away 4 ≡ true
+            → last_part self.old.heap self.old.most self.old.away < part) × (self.new ≡ self.old) }
+        ensures some { 1 ≤ result → (has_bit code.now self.old.away 4 ≡ true)
+            × (part + result ≤ last_part self.old.heap self.old.most self.old.away + 1)
+            × (self.new ≡ after_splits self.old part result) }
     {
         let whole = self.heap.saturating_sub(self.away);
         let last = (whole / 2).min(self.most);
@@ -109,7 +115,8 @@ impl Trial {
         count
     }
 
-    /// Takes over the values of the splits, once their units are spent, and turns to what takes more away.
+    /// Takes over the values of the splits, once their units are spent, and turns to what takes
+    /// more away.
     fn take_splits<A: Allocator>(
         &mut self,
         code: &Code,
@@ -142,7 +149,9 @@ impl Trial {
         requires from_one { 1 ≤ self.old.heap }
         requires small { (self.old.heap < 2 ^ 32) × (self.old.spent < 2 ^ 32) }
         ensures trial { OnOk result (self.new ≡ after_heap self.old) }
-        ensures pair { OnOk result (pairs.new.items ≡ pairs.old.items ++ (record { value = phi_at phi.now self.old.heap; options = self.old.seen } ∷ [])) }
+        ensures pair { OnOk result
+            (pairs.new.items ≡ pairs.old.items
+            ++ (record { value = phi_at phi.now self.old.heap; options = self.old.seen } ∷ [])) }
         ensures err { OnErr result (self.new ≡ self.old) }
         ensures err_pairs { OnErr result (pairs.new.items ≡ pairs.old.items) }
     {
@@ -174,7 +183,9 @@ impl Trial {
         requires kept { AreWholes table.now phi.now wholes.old.sets.items }
         requires going { self.old.heap ≤ self.old.bound }
         requires some { 1 ≤ units }
-        ensures ok { IfOk result (λ spent. IsRun code.now table.now phi.now self.old self.new pairs.new.items units spent) }
+        ensures ok { IfOk result
+            (λ spent. IsRun code.now table.now phi.now self.old self.new pairs.new.items units
+            spent) }
         ensures kept { AreWholes table.now phi.now wholes.new.sets.items }
         ensures err { OnErr result (self.new ≡ self.old) }
         ensures err_pairs { OnErr result (pairs.new.items ≡ pairs.old.items) }
@@ -212,8 +223,11 @@ impl Trial {
         requires kept { AreWholes table.now phi.now wholes.old.sets.items }
         ensures trial { IsTrial code.now table.now phi.now self.new pairs.new.items }
         ensures kept { AreWholes table.now phi.now wholes.new.sets.items }
-        ensures ok { OnOk result (self.new.spent ≡ min (self.old.spent + units) (heap_cost code.now phi.now)) }
-        ensures err { OnErr result ((self.old.spent ≤ self.new.spent) × (self.new.spent < self.old.spent + units) × (self.new.spent < heap_cost code.now phi.now)) }
+        ensures ok { OnOk result
+            (self.new.spent ≡ min (self.old.spent + units) (heap_cost code.now phi.now)) }
+        ensures err { OnErr result ((self.old.spent ≤ self.new.spent)
+            × (self.new.spent < self.old.spent + units)
+            × (self.new.spent < heap_cost code.now phi.now)) }
     {
         let _last = code.last();
         let mut left = units;
@@ -238,8 +252,10 @@ impl Trial {
         requires kept { AreWholes table.now phi.now wholes.old.sets.items }
         ensures trial { IsTrial code.now table.now phi.now self.new pairs.new.items }
         ensures kept { AreWholes table.now phi.now wholes.new.sets.items }
-        ensures spent { (self.old.spent ≤ self.new.spent) × (self.new.spent ≤ self.old.spent + units) }
-        ensures going { self.old.spent < heap_cost code.now phi.now → self.new.spent < heap_cost code.now phi.now }
+        ensures spent { (self.old.spent ≤ self.new.spent)
+            × (self.new.spent ≤ self.old.spent + units) }
+        ensures going { self.old.spent < heap_cost code.now phi.now
+            → self.new.spent < heap_cost code.now phi.now }
     {
         let _last = code.last();
         let mut left = units;

@@ -12,14 +12,15 @@ use element_sets::ElementSet;
 use monoid_table::{Table, is_monoid};
 use std::alloc::Allocator;
 
-/// The values of the splits of the heaps 0, 1, and so on. They don't depend on what was taken away before the split, so
-/// each set serves every larger heap.
+/// The values of the splits of the heaps 0, 1, and so on. They don't depend on what was taken away
+/// before the split, so each set serves every larger heap.
 #[derive(Drop)]
 pub(crate) struct Wholes<A: Allocator> {
     pub(crate) sets: Vec<ElementSet, A>,
 }
 
-/// The values of the splits of `whole` that are tried. The element of the heap n is that of pair n - 1.
+/// The values of the splits of `whole` that are tried. The element of the heap n is that of pair n
+/// - 1.
 fn values_of_splits<A: Allocator>(
     table: &Table<A>,
     phi: &Phi<A>,

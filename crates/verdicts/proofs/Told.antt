@@ -7,12 +7,14 @@ use Rattle.verdicts.specs.Lines.{no_line}
 use Rattle.verdicts.specs.Streams.{AreKnownAs, Answers, AnswersStream}
 
 -- where the end was reached, what was read is all that was left
-pub all_read : (left after : Option (List ℕ)) (v : List ℕ) → Consumes left after v → IsAtEnd after → AreKnownAs left v
+pub all_read : (left after : Option (List ℕ)) (v : List ℕ) → Consumes left after v → IsAtEnd after
+    → AreKnownAs left v
 all_read None after v took end = tt
 all_read (Some xs) None v took end = absurd took
 all_read (Some xs) (Some ys) v took end = took ∙ ap (λ zs. v ++ zs) end ∙ append-nil v
 
-abbrev pub streamed : (left after : Option (List ℕ)) (v : List ℕ) (limit : ℕ) → Consumes left after v → IsAtEnd after
+abbrev pub streamed : (left after : Option (List ℕ)) (v : List ℕ) (limit : ℕ)
+    → Consumes left after v → IsAtEnd after
     → length v ≤ 4194304 → Answers v limit → AnswersStream left limit
 streamed left after v limit took end short a = record {
   bytes = v;
@@ -27,18 +29,24 @@ pub known_or : (left : Option (List ℕ)) (v : List ℕ) → AreKnownAs left (un
 known_or None v = tt
 known_or (Some xs) v = refl
 
-pub longer : (left after : Option (List ℕ)) (v : List ℕ) → Consumes left after v → length v ≤ length (unwrap_or left v)
+pub longer : (left after : Option (List ℕ)) (v : List ℕ) → Consumes left after v
+    → length v ≤ length (unwrap_or left v)
 longer None after v took = omega arith
 longer (Some xs) None v took = absurd took
 longer (Some xs) (Some ys) v took = rw took (omega (arith, length-append v ys))
 
-abbrev pub long_stream : (left after : Option (List ℕ)) (v : List ℕ) (limit : ℕ) → Consumes left after v → 4194304 < length v → AnswersStream left limit
+abbrev pub long_stream : (left after : Option (List ℕ)) (v : List ℕ) (limit : ℕ)
+    → Consumes left after v → 4194304 < length v → AnswersStream left limit
 long_stream left after v limit took big = record {
   bytes = unwrap_or left v;
   known = known_or left v;
   answer = Text;
   text = no_line 1 (codes "Text");
-  true_of = record { long = λ _. refl; short = λ h. absurd (omega (arith, h, big, longer left after v took)) };
+  true_of =
+      record {
+        long = λ _. refl;
+        short = λ h. absurd (omega (arith, h, big, longer left after v took));
+      };
   told = refl;
 }
 

@@ -15,14 +15,16 @@ use Rattle.checker.specs.declared.refusal.Refusal.{Refusal}
 -- yes, with the code, the order, the start and the period that were certified
 abbrev pub yes_line : List ℕ → ℕ → ℕ → ℕ → List ℕ
 yes_line code order start period =
-    codes "yes " ++ code_text code ++ codes " order " ++ decimal order ++ codes " start " ++ decimal start
+    codes "yes " ++ code_text code ++ codes " order " ++ decimal order ++ codes " start "
+    ++ decimal start
     ++ codes " period " ++ decimal period ++ codes "\n"
 
 -- no, with the number and the name of the refusal
 abbrev pub no_line : ℕ → List ℕ → List ℕ
 no_line number name = codes "no " ++ decimal number ++ codes " " ++ name ++ codes "\n"
 
--- The first line of an answer's text: yes with what was certified, or no with the number and the name.
+-- The first line of an answer's text: yes with what was certified, or no with the number and the
+-- name.
 abbrev pub first_line : Answer → List ℕ
 first_line (Yes c) = yes_line c.code c.order c.start c.period
 first_line Text = no_line 1 (codes "Text")
@@ -35,12 +37,16 @@ first_line (Outcome code X) = no_line 7 (codes "Outcome")
 first_line Limit = no_line 8 (codes "Limit")
 first_line Memory = no_line 9 (codes "Memory")
 
--- The third line of a refused outcome: the misère outcome of the position, where 65536 positions settle it, or that it isn't known,
--- which stands only where more than 65536 positions can be reached.
+-- The third line of a refused outcome: the misère outcome of the position, where 65536 positions
+-- settle it, or that it isn't known, which stands only where more than 65536 positions can be
+-- reached.
 pub data IsOutcomeLine (code X : List ℕ) : List ℕ → Type 0 where
-  LineP : {line : List ℕ} → IsP code X → IsSettledBy code X P 65536 → line ≡ codes "outcome P\n" → IsOutcomeLine code X line
-  LineN : {line : List ℕ} → IsN code X → IsSettledBy code X N 65536 → line ≡ codes "outcome N\n" → IsOutcomeLine code X line
-  LineUnknown : {line : List ℕ} → MoreReachableThan code X 65536 → line ≡ codes "outcome unknown\n" → IsOutcomeLine code X line
+  LineP : {line : List ℕ} → IsP code X → IsSettledBy code X P 65536 → line ≡ codes "outcome P\n"
+      → IsOutcomeLine code X line
+  LineN : {line : List ℕ} → IsN code X → IsSettledBy code X N 65536 → line ≡ codes "outcome N\n"
+      → IsOutcomeLine code X line
+  LineUnknown : {line : List ℕ} → MoreReachableThan code X 65536 → line ≡ codes "outcome unknown\n"
+      → IsOutcomeLine code X line
 
 -- The text of an answer. Want of memory has none.
 abbrev pub IsTextOf : Answer → List ℕ → Type 0
@@ -53,7 +59,8 @@ IsTextOf Period text = text ≡ no_line 5 (codes "Period")
 IsTextOf Apart text = text ≡ no_line 6 (codes "Apart")
 IsTextOf (Outcome code X) text =
     (line : List ℕ) × IsOutcomeLine code X line
-    × (text ≡ no_line 7 (codes "Outcome") ++ codes "rule fails at " ++ position_text X ++ codes "\n" ++ line)
+    × (text ≡ no_line 7 (codes "Outcome") ++ codes "rule fails at " ++ position_text X ++ codes "\n"
+    ++ line)
 IsTextOf Limit text = text ≡ no_line 8 (codes "Limit")
 IsTextOf Memory text = ⊥
 

@@ -59,4 +59,5 @@ WritesOfStream left limit before after accepted =
     (a : AnswersStream left limit) × Appends before after a.text × (accepted ≡ is_yes a.answer)
 
 abbrev pub WritesSomeOfStream : Option (List ℕ) → ℕ → Option (List ℕ) → Option (List ℕ) → Type 0
-WritesSomeOfStream left limit before after = (a : AnswersStream left limit) × AppendsSome before after a.text
+WritesSomeOfStream left limit before after = (a : AnswersStream left limit)
+    × AppendsSome before after a.text

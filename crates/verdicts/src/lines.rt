@@ -16,7 +16,9 @@ const BUDGET: u32 = 65536;
 
 /// The line of a yes.
 fn yes_text<A: Room + Copy>(alloc: A, cert: &Cert<A>) -> Result<String<A>, Memory>
-    ensures { IfOk result (λ t. string_bytes t ≡ yes_line cert.now.code cert.now.order cert.now.start cert.now.period) }
+    ensures { IfOk result
+        (λ t. string_bytes t ≡ yes_line cert.now.code cert.now.order cert.now.start
+        cert.now.period) }
 {
     let code = cert.code().text(alloc)?;
     let (order, start, period) = (cert.order(), cert.start(), cert.period());
@@ -88,8 +90,8 @@ pub fn verdict_line<A: Room + Copy>(
     }
 }
 
-/// The text of a verdict: one line, and two more where a position refutes the certificate. Want of memory has no text, and is
-/// handed on.
+/// The text of a verdict: one line, and two more where a position refutes the certificate. Want of
+/// memory has no text, and is handed on.
 pub fn verdict_text<A: Room + Copy>(
     alloc: A,
     verdict: Result<&Certified<A>, &Refusal<A>>,

@@ -18,7 +18,8 @@ const NO_TEXT: &[u8] = b"no 1 Text\n";
 
 /// Checks the bytes: whether the answer is yes, and its text.
 fn answered<A: Room + Copy>(alloc: A, bytes: &[u8], limit: u32) -> Result<(bool, String<A>), Memory>
-    ensures { IfOk result (λ r. (a : Answers bytes.now limit) × (string_bytes r.1 ≡ a.text) × (r.0 ≡ is_yes a.answer)) }
+    ensures { IfOk result (λ r. (a : Answers bytes.now limit) × (string_bytes r.1 ≡ a.text)
+        × (r.0 ≡ is_yes a.answer)) }
 {
     let verdict = check(alloc, bytes, limit);
     let is_yes = verdict.is_ok();
@@ -41,7 +42,8 @@ fn write_text<W: Sink>(sink: &mut W, text: &[u8]) -> Result<(), StreamFault>
 
 /// Checks the bytes, writes the text of the verdict, and answers whether it is yes.
 ///
-/// After want of memory nothing was written, after a failure of the sink a beginning of the text was.
+/// After want of memory nothing was written, after a failure of the sink a beginning of the text
+/// was.
 pub fn check_bytes<W: Sink, A: Room + Copy>(
     alloc: A,
     bytes: &[u8],
@@ -49,7 +51,8 @@ pub fn check_bytes<W: Sink, A: Room + Copy>(
     limit: u32,
 ) -> Result<bool, StreamFault>
     ensures ok { IfOk result (Writes bytes.now limit (W.taken sink.old) (W.taken sink.new)) }
-    ensures write { IsErrOf result StreamFault.Write → WritesSome bytes.now limit (W.taken sink.old) (W.taken sink.new) }
+    ensures write { IsErrOf result StreamFault.Write
+        → WritesSome bytes.now limit (W.taken sink.old) (W.taken sink.new) }
     ensures cause { IsErrOf result StreamFault.Write → W.failures sink.old < W.failures sink.new }
     ensures memory { IsErrOf result StreamFault.Memory → sink.new ≡ sink.old }
     ensures never { IsErrOf result StreamFault.Read → ⊥ }
@@ -59,11 +62,12 @@ pub fn check_bytes<W: Sink, A: Room + Copy>(
     Ok(is_yes)
 }
 
-/// Reads the source to its end, writes the text of the verdict on all bytes that it had left, and answers whether that is yes.
+/// Reads the source to its end, writes the text of the verdict on all bytes that it had left, and
+/// answers whether that is yes.
 ///
-/// Of a source with more than [`MOST_BYTES`] bytes one more is read, and it is no certificate. Nothing is written before the
-/// end was reached: not after a failure of the source or want of memory. After a failure of the sink a beginning of the text
-/// was written.
+/// Of a source with more than [`MOST_BYTES`] bytes one more is read, and it is no certificate.
+/// Nothing is written before the end was reached: not after a failure of the source or want of
+/// memory. After a failure of the sink a beginning of the text was written.
 pub fn check_stream<R: Source, W: Sink, A: Room + Copy>(
     alloc: A,
     source: &mut R,
@@ -71,11 +75,15 @@ pub fn check_stream<R: Source, W: Sink, A: Room + Copy>(
     limit: u32,
 ) -> Result<bool, StreamFault>
     ensures read { IfOk result (λ _. ReadsEnough (R.left source.old) (R.left source.new)) }
-    ensures ok { IfOk result (WritesOfStream (R.left source.old) limit (W.taken sink.old) (W.taken sink.new)) }
-    ensures write { IsErrOf result StreamFault.Write → WritesSomeOfStream (R.left source.old) limit (W.taken sink.old) (W.taken sink.new) }
-    ensures write_cause { IsErrOf result StreamFault.Write → W.failures sink.old < W.failures sink.new }
+    ensures ok { IfOk result
+        (WritesOfStream (R.left source.old) limit (W.taken sink.old) (W.taken sink.new)) }
+    ensures write { IsErrOf result StreamFault.Write
+        → WritesSomeOfStream (R.left source.old) limit (W.taken sink.old) (W.taken sink.new) }
+    ensures write_cause { IsErrOf result StreamFault.Write
+        → W.failures sink.old < W.failures sink.new }
     ensures read_cause { CountsReads (R.failures source.old) (R.failures source.new) result }
-    ensures unwritten { IsErrOf result StreamFault.Read ⊎ IsErrOf result StreamFault.Memory → sink.new ≡ sink.old }
+    ensures unwritten { IsErrOf result StreamFault.Read ⊎ IsErrOf result StreamFault.Memory
+        → sink.new ≡ sink.old }
 {
     let bytes = read_whole(alloc, source, MOST_BYTES)?;
     if bytes.len() > MOST_BYTES {

@@ -7,10 +7,12 @@ use Rattle.command_line.specs.declared.faults.UsageFault.{UsageFault}
 use Rattle.command_line.specs.declared.faults.UsageFault.TheVariants.{Memory}
 
 -- what a fault says of the words, by what it is
-pub known_as : (words : List (List ℕ)) (f fault : UsageFault) → f ≡ fault → IsTrueOf words f → IsTrueOf words fault
+pub known_as : (words : List (List ℕ)) (f fault : UsageFault) → f ≡ fault → IsTrueOf words f
+    → IsTrueOf words fault
 known_as words f fault is h = subst (λ (x : UsageFault). IsTrueOf words x) is h
 
 -- words with a fault that isn't want of memory are no request
-pub no_request : (words : List (List ℕ)) (f fault : UsageFault) → f ≡ fault → (status_of fault ≡ 3 → ⊥)
+pub no_request : (words : List (List ℕ)) (f fault : UsageFault) → f ≡ fault
+    → (status_of fault ≡ 3 → ⊥)
     → ((f ≡ Memory → ⊥) → plan_of words ≡ None) → plan_of words ≡ None
 no_request words f fault is other h = h (λ m. other (sym (ap status_of is) ∙ ap status_of m))

@@ -23,10 +23,14 @@ pub fn ended<F: Folder, S: Source, W: Sink, E: Sink, T: AsStr>(
     err: &mut E,
 ) -> ExitCode
     ensures ends { Ends (map T.text words.now)
-        (scene (S.left input.old) (F.files folder.old) (failed (S.failures input.old) (F.failed_reads folder.old) (F.failed_writes folder.old))
-        (printer (W.taken out.old) (W.failures out.old)) (printer (E.taken err.old) (E.failures err.old)))
-        (scene (S.left input.new) (F.files folder.new) (failed (S.failures input.new) (F.failed_reads folder.new) (F.failed_writes folder.new))
-        (printer (W.taken out.new) (W.failures out.new)) (printer (E.taken err.new) (E.failures err.new))) (exit_status result) }
+        (scene (S.left input.old) (F.files folder.old)
+        (failed (S.failures input.old) (F.failed_reads folder.old) (F.failed_writes folder.old))
+        (printer (W.taken out.old) (W.failures out.old))
+        (printer (E.taken err.old) (E.failures err.old)))
+        (scene (S.left input.new) (F.files folder.new)
+        (failed (S.failures input.new) (F.failed_reads folder.new) (F.failed_writes folder.new))
+        (printer (W.taken out.new) (W.failures out.new))
+        (printer (E.taken err.new) (E.failures err.new))) (exit_status result) }
 {
     ExitCode::from(run(alloc, words, folder, input, out, err))
 }

@@ -18,7 +18,8 @@ use streams::{Sink, Source};
 /// Answers words that are no request, nor ask for help.
 fn refuse<E: Sink>(fault: &UsageFault, err: &mut E) -> u8
     ensures status { result ≡ status_of fault.now }
-    ensures told { Tells (printer (E.taken err.old) (E.failures err.old)) (printer (E.taken err.new) (E.failures err.new)) (text_of fault.now) }
+    ensures told { Tells (printer (E.taken err.old) (E.failures err.old))
+        (printer (E.taken err.new) (E.failures err.new)) (text_of fault.now) }
 {
     tell(err, fault.text(), "", "");
     fault.status()
@@ -34,14 +35,21 @@ fn run_words<F: Folder, S: Source, W: Sink, E: Sink>(
     err: &mut E,
 ) -> u8
     ensures ends { Ends (map (λ w. w.now) words.entry.now)
-        (scene (S.left input.old) (F.files folder.old) (failed (S.failures input.old) (F.failed_reads folder.old) (F.failed_writes folder.old))
-        (printer (W.taken out.old) (W.failures out.old)) (printer (E.taken err.old) (E.failures err.old)))
-        (scene (S.left input.new) (F.files folder.new) (failed (S.failures input.new) (F.failed_reads folder.new) (F.failed_writes folder.new))
-        (printer (W.taken out.new) (W.failures out.new)) (printer (E.taken err.new) (E.failures err.new))) result }
+        (scene (S.left input.old) (F.files folder.old)
+        (failed (S.failures input.old) (F.failed_reads folder.old) (F.failed_writes folder.old))
+        (printer (W.taken out.old) (W.failures out.old))
+        (printer (E.taken err.old) (E.failures err.old)))
+        (scene (S.left input.new) (F.files folder.new)
+        (failed (S.failures input.new) (F.failed_reads folder.new) (F.failed_writes folder.new))
+        (printer (W.taken out.new) (W.failures out.new))
+        (printer (E.taken err.new) (E.failures err.new))) result }
     ensures quiet { result ≤ 1 → err.new ≡ err.old }
-    ensures usage { runs_script (plan_of (map (λ w. w.now) words.entry.now)) ≡ false → result ≡ 2 → folder.new ≡ folder.old }
-    ensures input { reads_input (plan_of (map (λ w. w.now) words.entry.now)) ≡ false → input.new ≡ input.old }
-    ensures folder { takes_files (plan_of (map (λ w. w.now) words.entry.now)) ≡ false → folder.new ≡ folder.old }
+    ensures usage { runs_script (plan_of (map (λ w. w.now) words.entry.now)) ≡ false → result ≡ 2
+        → folder.new ≡ folder.old }
+    ensures input { reads_input (plan_of (map (λ w. w.now) words.entry.now)) ≡ false
+        → input.new ≡ input.old }
+    ensures folder { takes_files (plan_of (map (λ w. w.now) words.entry.now)) ≡ false
+        → folder.new ≡ folder.old }
 {
     match plan(alloc, words) {
         Ok(plan) => run_plan(alloc, plan, folder, input, out, err),
@@ -65,13 +73,14 @@ fn texts_of<'a, T: AsStr>(alloc: Global, words: &'a [T]) -> Result<Vec<&'a str>,
     Ok(texts)
 }
 
-/// Does a whole run by the words, the program's name first, and answers the exit status: 0 for yes, done or help, 1 for no or a
-/// refusal, 2 for words that are no request, a position that can't be read or a script with a line that isn't a step, 3 where a device failed or
-/// memory was wanting.
-/// What is asked for is printed whole on standard output, or a beginning of it where that fails or a script breaks off; why a run ended with 2 or 3 is
-/// told on standard error, where nothing is told with 0 and 1. No file is changed but the catalogue file by what is asked to write it:
-/// where that ends well it holds the new text, and else what it held. Standard input and the files are left alone by the commands that
-/// don't read them, and the files by words that are refused.
+/// Does a whole run by the words, the program's name first, and answers the exit status: 0 for yes,
+/// done or help, 1 for no or a refusal, 2 for words that are no request, a position that can't be
+/// read or a script with a line that isn't a step, 3 where a device failed or memory was wanting.
+/// What is asked for is printed whole on standard output, or a beginning of it where that fails or
+/// a script breaks off; why a run ended with 2 or 3 is told on standard error, where nothing is
+/// told with 0 and 1. No file is changed but the catalogue file by what is asked to write it: where
+/// that ends well it holds the new text, and else what it held. Standard input and the files are
+/// left alone by the commands that don't read them, and the files by words that are refused.
 pub fn run<F: Folder, S: Source, W: Sink, E: Sink, T: AsStr>(
     alloc: Global,
     words: &[T],
@@ -81,14 +90,20 @@ pub fn run<F: Folder, S: Source, W: Sink, E: Sink, T: AsStr>(
     err: &mut E,
 ) -> u8
     ensures ends { Ends (map T.text words.now)
-        (scene (S.left input.old) (F.files folder.old) (failed (S.failures input.old) (F.failed_reads folder.old) (F.failed_writes folder.old))
-        (printer (W.taken out.old) (W.failures out.old)) (printer (E.taken err.old) (E.failures err.old)))
-        (scene (S.left input.new) (F.files folder.new) (failed (S.failures input.new) (F.failed_reads folder.new) (F.failed_writes folder.new))
-        (printer (W.taken out.new) (W.failures out.new)) (printer (E.taken err.new) (E.failures err.new))) result }
+        (scene (S.left input.old) (F.files folder.old)
+        (failed (S.failures input.old) (F.failed_reads folder.old) (F.failed_writes folder.old))
+        (printer (W.taken out.old) (W.failures out.old))
+        (printer (E.taken err.old) (E.failures err.old)))
+        (scene (S.left input.new) (F.files folder.new)
+        (failed (S.failures input.new) (F.failed_reads folder.new) (F.failed_writes folder.new))
+        (printer (W.taken out.new) (W.failures out.new))
+        (printer (E.taken err.new) (E.failures err.new))) result }
     ensures quiet { result ≤ 1 → err.new ≡ err.old }
-    ensures usage { runs_script (plan_of (map T.text words.now)) ≡ false → result ≡ 2 → folder.new ≡ folder.old }
+    ensures usage { runs_script (plan_of (map T.text words.now)) ≡ false → result ≡ 2
+        → folder.new ≡ folder.old }
     ensures input { reads_input (plan_of (map T.text words.now)) ≡ false → input.new ≡ input.old }
-    ensures folder { takes_files (plan_of (map T.text words.now)) ≡ false → folder.new ≡ folder.old }
+    ensures folder { takes_files (plan_of (map T.text words.now)) ≡ false
+        → folder.new ≡ folder.old }
 {
     match texts_of(alloc, words) {
         Ok(texts) => run_words(alloc, texts.as_slice(), folder, input, out, err),

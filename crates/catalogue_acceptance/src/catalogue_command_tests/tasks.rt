@@ -11,13 +11,18 @@ const EMPTY: &str = "{\"entries\":[],\"version\":1}\n";
 
 /// The quotients of 0.1, 0.33 and 0.75.
 const SMALLEST: &str =
-    "mqc 1\ncode 0.1\norder 2\nstart 2\nperiod 1\nphi 1 0\nportion 1\nwords 0:1\nrow 0 1\nrow 1 0\napart 0\nend\n";
+    "mqc 1\ncode 0.1\norder 2\nstart 2\nperiod 1\nphi 1 0\nportion 1\nwords 0:1\nrow 0 1\nrow 1 0\n\
+apart 0\nend\n";
 
-const SAMPLE: &str =
-    "mqc 1\ncode 0.33\norder 6\nstart 1\nperiod 3\nphi 1 2 0\nportion 1 4\nwords 0:1 0:2 1:2 2:2 3:2\nrow 0 1 2 3 4 5\nrow 1 0 3 2 5 4\nrow 2 3 4 5 2 3\nrow 3 2 5 4 3 2\nrow 4 5 2 3 4 5\nrow 5 4 3 2 5 4\napart 0 1 1 0 4 0 0 4 0 2 0 1 0 1 0\nend\n";
+const SAMPLE: &str = "mqc 1\ncode 0.33\norder 6\nstart 1\nperiod 3\nphi 1 2 0\nportion 1 4\n\
+words 0:1 0:2 1:2 2:2 3:2\nrow 0 1 2 3 4 5\nrow 1 0 3 2 5 4\nrow 2 3 4 5 2 3\nrow 3 2 5 4 3 2\n\
+row 4 5 2 3 4 5\nrow 5 4 3 2 5 4\napart 0 1 1 0 4 0 0 4 0 2 0 1 0 1 0\nend\n";
 
 const LARGER: &str =
-    "mqc 1\ncode 0.75\norder 8\nstart 8\nperiod 2\nphi 1 2 1 2 3 2 3 2 4\nportion 1 7\nwords 0:1 0:2 0:5 0:9 1:2 1:5 1:9\nrow 0 1 2 3 4 5 6 7\nrow 1 0 5 6 7 2 3 4\nrow 2 5 7 5 5 4 2 2\nrow 3 6 5 7 7 2 4 4\nrow 4 7 5 7 7 2 4 4\nrow 5 2 4 2 2 7 5 5\nrow 6 3 2 4 4 5 7 7\nrow 7 4 2 4 4 5 7 7\napart 0 1 1 3 1 1 0 0 0 0 0 0 4 2 1 2 2 0 1 3 3 0 1 1 0 5 0 0\nend\n";
+    "mqc 1\ncode 0.75\norder 8\nstart 8\nperiod 2\nphi 1 2 1 2 3 2 3 2 4\nportion 1 7\n\
+words 0:1 0:2 0:5 0:9 1:2 1:5 1:9\nrow 0 1 2 3 4 5 6 7\nrow 1 0 5 6 7 2 3 4\nrow 2 5 7 5 5 4 2 2\n\
+row 3 6 5 7 7 2 4 4\nrow 4 7 5 7 7 2 4 4\nrow 5 2 4 2 2 7 5 5\nrow 6 3 2 4 4 5 7 7\n\
+row 7 4 2 4 4 5 7 7\napart 0 1 1 3 1 1 0 0 0 0 0 0 4 2 1 2 2 0 1 3 3 0 1 1 0 5 0 0\nend\n";
 
 /// The certificates, of which one is none, and of which this call fails.
 fn certificates(alloc: Global, failing: u64) -> Result<MemoryFolder, Memory> {
@@ -35,7 +40,8 @@ fn certificates(alloc: Global, failing: u64) -> Result<MemoryFolder, Memory> {
     Ok(folder)
 }
 
-/// A file and a task, and then whether it ends well and what is printed, or why it stops, and what x.json holds.
+/// A file and a task, and then whether it ends well and what is printed, or why it stops, and what
+/// x.json holds.
 type Row = (
     &'static str,
     CatalogueTask<'static>,

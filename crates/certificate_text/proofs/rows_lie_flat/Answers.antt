@@ -2,7 +2,9 @@ use Rattle.certificate_text.proofs.Fields.{rows_are_all}
 use Rattle.certificate_text.proofs.rows_lie_flat.Goals as goal
 
 pub returns-clause-count : goal.returns-clause-count
-returns-clause-count g order n b xs rest low small e = (rows_are_all order n b xs rest low small e).0
+returns-clause-count g order n b xs rest low small e =
+    (rows_are_all order n b xs rest low small e).0
 
 pub returns-clause-whole : goal.returns-clause-whole
-returns-clause-whole g order n b xs rest low small e = (rows_are_all order n b xs rest low small e).1
+returns-clause-whole g order n b xs rest low small e =
+    (rows_are_all order n b xs rest low small e).1

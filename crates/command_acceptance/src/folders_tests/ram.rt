@@ -1,4 +1,5 @@
-//! A disk in memory of which one step fails: making a file, writing it, waiting for it, or giving it its name.
+//! A disk in memory of which one step fails: making a file, writing it, waiting for it, or giving
+//! it its name.
 use allocation::Memory;
 use folders::{Disk, StageFault};
 use std::alloc::Global;

@@ -17,8 +17,11 @@ equal_from_ne xs ys e = by (bytes_eq xs ys) refl e
 pub returns-else-ne-clause-ok : goal.returns-else-ne-clause-ok
 returns-else-ne-clause-ok c =
     let yes = c.check.ensures.true_of.yes c.in-Ok.certified (ap answer_of c.in-Ok.is) in
-    let same : c.as_str.result.now ≡ c.args.entry.now.code.now = equal_from_ne _ _ (sym c.ne.ensures ∙ c.if-ne.false) in
+    let same : c.as_str.result.now ≡ c.args.entry.now.code.now =
+    equal_from_ne _ _ (sym c.ne.ensures ∙ c.if-ne.false) in
     record {
-      certificate = subst (λ b. IsAcceptedText b c.in-Ok.certified) c.as_bytes.ensures.value (yes.0, yes.1);
-      code = sym same ∙ c.as_str.ensures.value ∙ c.in_ok-code-in-Ok.ensures ∙ ap code_text (c.code.ensures ∙ ap (λ x. x.code) c.cert.ensures.same);
+      certificate =
+          subst (λ b. IsAcceptedText b c.in-Ok.certified) c.as_bytes.ensures.value (yes.0, yes.1);
+      code = sym same ∙ c.as_str.ensures.value ∙ c.in_ok-code-in-Ok.ensures
+          ∙ ap code_text (c.code.ensures ∙ ap (λ x. x.code) c.cert.ensures.same);
     }

@@ -8,24 +8,38 @@ use Rattle.catalogue.proofs.ReadLemmas.{told, object_begins, unread_then, no_sta
 use Rattle.catalogue.proofs.fields.entry.Goals as goal
 
 pub returns-in_err-token-clause-err : goal.returns-in_err-token-clause-err
-returns-in_err-token-clause-err c = no_start c.from_residual.result c.args.depth c.args.reader.now c.in_err-token.field-0.0 (grind arith) (grind arith) c.from_residual.ensures.1
+returns-in_err-token-clause-err c =
+    no_start c.from_residual.result c.args.depth c.args.reader.now c.in_err-token.field-0.0
+    (grind arith) (grind arith) c.from_residual.ensures.1
 
 pub returns-in-BeginObject-clause-read : goal.returns-in-BeginObject-clause-read
 returns-in-BeginObject-clause-read c =
     let old = c.next.new.self in
     let new = c.members.new.reader in
     let first : c.args.reader.now ≡ token_of c.in_ok-token.token ∷ old = grind arith in
-    let is : c.args.reader.now ≡ Token.begin_object ∷ old = first ∙ ap (λ k. token_of k ∷ old) c.in-BeginObject.is in
-    IfOk-weaker c.members.result (λ e. (ms : Members) × ReadsMembers (c.args.depth - 1) no_members old (Some (ms, new)) × EntryIs e (object ms)) (λ e. Passes c.args.depth c.args.reader.now (EntryIs e) new)
-    (λ e h. (object h.0, subst (λ ts. ReadsValue c.args.depth ts (Some (object h.0, new))) (sym is) (object_begins c.args.depth old (Some (h.0, new)) (omega arith) h.1), h.2)) c.members.ensures.read
+    let is : c.args.reader.now ≡ Token.begin_object ∷ old =
+    first ∙ ap (λ k. token_of k ∷ old) c.in-BeginObject.is in
+    IfOk-weaker c.members.result (λ e. (ms : Members)
+    × ReadsMembers (c.args.depth - 1) no_members old (Some (ms, new)) × EntryIs e (object ms))
+    (λ e. Passes c.args.depth c.args.reader.now (EntryIs e) new)
+    (λ e h. (
+      object h.0,
+      subst (λ ts. ReadsValue c.args.depth ts (Some (object h.0, new))) (sym is)
+          (object_begins c.args.depth old (Some (h.0, new)) (omega arith) h.1),
+      h.2,
+    ))
+    c.members.ensures.read
 
 pub returns-in-BeginObject-clause-err : goal.returns-in-BeginObject-clause-err
 returns-in-BeginObject-clause-err c =
     let old = c.next.new.self in
     let first : c.args.reader.now ≡ token_of c.in_ok-token.token ∷ old = grind arith in
-    let is : c.args.reader.now ≡ Token.begin_object ∷ old = first ∙ ap (λ k. token_of k ∷ old) c.in-BeginObject.is in
-    unread_then (ReadsMembers (c.args.depth - 1) no_members old None) (ReadsValue c.args.depth c.args.reader.now None) c.members.result
-    (λ h. subst (λ ts. ReadsValue c.args.depth ts None) (sym is) (object_begins c.args.depth old None (omega arith) h)) c.members.ensures.err
+    let is : c.args.reader.now ≡ Token.begin_object ∷ old =
+    first ∙ ap (λ k. token_of k ∷ old) c.in-BeginObject.is in
+    unread_then (ReadsMembers (c.args.depth - 1) no_members old None)
+    (ReadsValue c.args.depth c.args.reader.now None) c.members.result
+    (λ h. subst (λ ts. ReadsValue c.args.depth ts None) (sym is)
+    (object_begins c.args.depth old None (omega arith) h)) c.members.ensures.err
 
 pub returns : goal.returns
 returns c =
@@ -33,10 +47,17 @@ returns c =
     let passed = c.in_ok-pass_from.ensures.passed in
     let r = c.pass_from.new.reader in
     let none : EntryIs None passed.0
-    = told c.next.new.self (EntryIs None) c.in_ok-token.token (λ e ms. absurd (c.in_default.not-BeginObject e)) (λ e ds w i. never i.count) (λ s e w i. never i.count) (λ s e n q w i. never i.count)
+    = told c.next.new.self (EntryIs None) c.in_ok-token.token
+    (λ e ms. absurd (c.in_default.not-BeginObject e)) (λ e ds w i. never i.count)
+    (λ s e w i. never i.count) (λ s e n q w i. never i.count)
     (λ b w i. never i.count) (λ w i. never i.count) c.args.depth passed.0 r passed.1 in
     record {
-      read = (passed.0, subst (λ ts. ReadsValue c.args.depth ts (Some (passed.0, r))) (sym first) passed.1, none);
+      read = (
+        passed.0,
+        subst (λ ts. ReadsValue c.args.depth ts (Some (passed.0, r))) (sym first)
+            passed.1,
+        none,
+      );
       shorter = omega (arith, ap length first, c.in_ok-pass_from.ensures.shorter);
       err = tt;
     }

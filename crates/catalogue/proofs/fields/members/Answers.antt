@@ -9,13 +9,16 @@ use Rattle.catalogue.proofs.ReadLemmas.{members_close, members_step, members_sto
 use Rattle.catalogue.proofs.fields.members.Goals as goal
 
 pub loop-name-init : goal.loop-name-init
-loop-name-init c = (no_members, (None, None, none_found certificate code, refl, refl), (λ o h. h), omega arith)
+loop-name-init c =
+    (no_members, (None, None, none_found certificate code, refl, refl), (λ o h. h), omega arith)
 
 pub returns-in_err-name-clause-err : goal.returns-in_err-name-clause-err
 returns-in_err-name-clause-err c =
     let l = c.loop-name in
-    no_json (ReadsMembers c.args.depth no_members c.args.reader.now None) c.from_residual.result c.from_residual.ensures.1
-    (l.invariant.2 None (members_no_key c.args.depth l.reader l.invariant.0 c.in_err-name.ensures.value))
+    no_json (ReadsMembers c.args.depth no_members c.args.reader.now None) c.from_residual.result
+    c.from_residual.ensures.1
+    (l.invariant.2 None
+    (members_no_key c.args.depth l.reader l.invariant.0 c.in_err-name.ensures.value))
 
 pub loop-name-preserved : goal.loop-name-preserved
 loop-name-preserved c =
@@ -29,7 +32,9 @@ loop-name-preserved c =
     let less : length r < length l.reader = omega (arith, c.in_ok-take.ensures.shorter, nearer) in (
       put k taken.0 l.invariant.0,
       taken.2 l.invariant.0 l.invariant.1,
-      (λ o h. l.invariant.2 o (members_step c.args.depth l.reader r l.invariant.0 k s taken.0 o named taken.1 less h)),
+      (λ o h.
+          l.invariant.2 o
+          (members_step c.args.depth l.reader r l.invariant.0 k s taken.0 o named taken.1 less h)),
       omega (arith, l.invariant.3, less),
     )
 
@@ -39,11 +44,20 @@ returns-in_err-take-clause-err c =
     let k = c.in-Some.name.now in
     let s = c.next_key.new.self in
     let named : read_key l.reader ≡ Some (Some k, s) = grind arith in
-    unread (ReadsValue c.args.depth s None) (ReadsMembers c.args.depth no_members c.args.reader.now None) c.from_residual-in_err-take.result c.in_err-take.field-0.0
-    c.from_residual-in_err-take.ensures.1 (λ none. l.invariant.2 None (members_stop c.args.depth l.reader l.invariant.0 k s named none)) c.in_err-take.ensures.err
+    unread (ReadsValue c.args.depth s None)
+    (ReadsMembers c.args.depth no_members c.args.reader.now None)
+    c.from_residual-in_err-take.result c.in_err-take.field-0.0
+    c.from_residual-in_err-take.ensures.1
+    (λ none.
+    l.invariant.2 None (members_stop c.args.depth l.reader l.invariant.0 k s named none))
+    c.in_err-take.ensures.err
 
 pub returns-clause-read : goal.returns-clause-read
 returns-clause-read c =
     let l = c.loop-name in
-    let r = c.next_key.new.self in
-    (l.invariant.0, l.invariant.2 (Some (l.invariant.0, r)) (members_close c.args.depth l.reader r l.invariant.0 (grind arith)), c.texts.ensures l.invariant.0 l.invariant.1)
+    let r = c.next_key.new.self in (
+      l.invariant.0,
+      l.invariant.2 (Some (l.invariant.0, r))
+          (members_close c.args.depth l.reader r l.invariant.0 (grind arith)),
+      c.texts.ensures l.invariant.0 l.invariant.1,
+    )

@@ -7,7 +7,9 @@ use Rattle.catalogue.proofs.fields.members.Given as goal
 -- what was found so far; whatever the members that are left are put to it
 abbrev pub invariant-loop-name : goal.invariant-loop-name
 invariant-loop-name l =
-    (found : Members) × AreFields l.fields found × ((o : Found) → ReadsMembers l.depth found l.reader o → ReadsMembers l.depth no_members l.initial.reader o)
+    (found : Members) × AreFields l.fields found
+    × ((o : Found) → ReadsMembers l.depth found l.reader o
+    → ReadsMembers l.depth no_members l.initial.reader o)
     × (length l.reader ≤ length l.initial.reader)
 
 abbrev pub decreases-loop-name : goal.decreases-loop-name

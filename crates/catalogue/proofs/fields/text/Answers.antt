@@ -7,14 +7,20 @@ use Rattle.catalogue.proofs.ReadLemmas.{told, string_reads, no_start}
 use Rattle.catalogue.proofs.fields.text.Goals as goal
 
 pub returns-in_err-token-clause-err : goal.returns-in_err-token-clause-err
-returns-in_err-token-clause-err c = no_start c.from_residual.result c.args.depth c.args.reader.now c.in_err-token.field-0.0 (grind arith) (grind arith) c.from_residual.ensures.1
+returns-in_err-token-clause-err c =
+    no_start c.from_residual.result c.args.depth c.args.reader.now c.in_err-token.field-0.0
+    (grind arith) (grind arith) c.from_residual.ensures.1
 
 pub returns-in-String-clause-read : goal.returns-in-String-clause-read
 returns-in-String-clause-read c =
     let first : c.args.reader.now ≡ token_of c.in_ok-token.token ∷ c.next.new.self = grind arith in
     let is = first ∙ ap (λ k. token_of k ∷ c.next.new.self) c.in-String.is in
-    let s = c.in-String.text.now in
-    (string s, subst (λ ts. ReadsValue c.args.depth ts (Some (string s, c.next.new.self))) (sym is) (string_reads c.args.depth c.next.new.self s), refl)
+    let s = c.in-String.text.now in (
+      string s,
+      subst (λ ts. ReadsValue c.args.depth ts (Some (string s, c.next.new.self))) (sym is)
+          (string_reads c.args.depth c.next.new.self s),
+      refl,
+    )
 
 pub returns : goal.returns
 returns c =
@@ -22,9 +28,16 @@ returns c =
     let passed = c.in_ok-pass_from.ensures.passed in
     let r = c.pass_from.new.reader in
     let none : None ≡ as_str passed.0
-    = told c.next.new.self (λ d. None ≡ as_str d) c.in_ok-token.token (λ e ms. refl) (λ e ds. refl) (λ s e. absurd (c.in_default.not-String s e)) (λ s e n q. refl) (λ b. refl) refl c.args.depth passed.0 r passed.1 in
+    = told c.next.new.self (λ d. None ≡ as_str d) c.in_ok-token.token (λ e ms. refl) (λ e ds. refl)
+    (λ s e. absurd (c.in_default.not-String s e)) (λ s e n q. refl) (λ b. refl) refl
+    c.args.depth passed.0 r passed.1 in
     record {
-      read = (passed.0, subst (λ ts. ReadsValue c.args.depth ts (Some (passed.0, r))) (sym first) passed.1, none);
+      read = (
+        passed.0,
+        subst (λ ts. ReadsValue c.args.depth ts (Some (passed.0, r))) (sym first)
+            passed.1,
+        none,
+      );
       shorter = omega (arith, ap length first, c.in_ok-pass_from.ensures.shorter);
       err = tt;
     }

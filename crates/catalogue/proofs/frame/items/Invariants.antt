@@ -9,7 +9,9 @@ use Rattle.catalogue.proofs.frame.items.Given as goal
 -- the items so far are entries; whatever the items that are left are stands behind them
 abbrev pub invariant-loop-reader : goal.invariant-loop-reader
 invariant-loop-reader l =
-    (f : Items → Items) × Before f l.entries.items × ((o : Those) → ReadsItems l.depth l.reader o → ReadsItems l.depth l.initial.reader (parse_map f o))
+    (f : Items → Items) × Before f l.entries.items
+    × ((o : Those) → ReadsItems l.depth l.reader o
+    → ReadsItems l.depth l.initial.reader (parse_map f o))
     × (length l.reader ≤ length l.initial.reader)
 
 abbrev pub decreases-loop-reader : goal.decreases-loop-reader

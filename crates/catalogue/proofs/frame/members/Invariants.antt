@@ -7,7 +7,9 @@ use Rattle.catalogue.proofs.frame.members.Given as goal
 -- what was found so far; whatever the members that are left are put to it
 abbrev pub invariant-loop-frame : goal.invariant-loop-frame
 invariant-loop-frame l =
-    (found : Members) × AreParts l.frame found × ((o : Found) → ReadsMembers l.depth found l.reader o → ReadsMembers l.depth no_members l.initial.reader o)
+    (found : Members) × AreParts l.frame found
+    × ((o : Found) → ReadsMembers l.depth found l.reader o
+    → ReadsMembers l.depth no_members l.initial.reader o)
     × (length l.reader ≤ length l.initial.reader)
 
 abbrev pub decreases-loop-frame : goal.decreases-loop-frame

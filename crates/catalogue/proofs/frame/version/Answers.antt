@@ -11,19 +11,32 @@ use Rattle.catalogue.proofs.ReadLemmas.{told, number_reads, number_refused, no_s
 use Rattle.catalogue.proofs.frame.version.Goals as goal
 
 pub returns-in_err-token-clause-err : goal.returns-in_err-token-clause-err
-returns-in_err-token-clause-err c = no_start c.from_residual.result c.args.depth c.args.reader.now c.in_err-token.field-0.0 (grind arith) (grind arith) c.from_residual.ensures.1
+returns-in_err-token-clause-err c =
+    no_start c.from_residual.result c.args.depth c.args.reader.now c.in_err-token.field-0.0
+    (grind arith) (grind arith) c.from_residual.ensures.1
 
 pub returns-in-Number-clause-read : goal.returns-in-Number-clause-read
 returns-in-Number-clause-read c =
     let r = c.next.new.self in
     let s = c.in-Number.text.now in
     let first : c.args.reader.now ≡ token_of c.in_ok-token.token ∷ r = grind arith in
-    let is : c.args.reader.now ≡ Token.number s ∷ r = first ∙ ap (λ k. token_of k ∷ r) c.in-Number.is in
-    let result : c.ok_or-in-Number.result ≡ ok_or (option_map as_u64 (number_of s)) Json = c.ok_or-in-Number.ensures.value ∙ ap (λ o. ok_or o Json) c.whole.ensures in
-    subst (λ x. IfOk x (λ v. Passes c.args.depth c.args.reader.now (λ d. v ≡ option_and_then as_u64 (as_number d)) r)) (sym result)
-    (subst (λ ts. IfOk (ok_or (option_map as_u64 (number_of s)) Json) (λ v. Passes c.args.depth ts (λ d. v ≡ option_and_then as_u64 (as_number d)) r)) (sym is) (go s r (number_of s) refl))
+    let is : c.args.reader.now ≡ Token.number s ∷ r =
+    first ∙ ap (λ k. token_of k ∷ r) c.in-Number.is in
+    let result : c.ok_or-in-Number.result ≡ ok_or (option_map as_u64 (number_of s)) Json =
+    c.ok_or-in-Number.ensures.value ∙ ap (λ o. ok_or o Json) c.whole.ensures in
+    subst (λ x.
+    IfOk x
+    (λ v. Passes c.args.depth c.args.reader.now (λ d. v ≡ option_and_then as_u64 (as_number d))
+    r)) (sym result)
+    (subst
+    (λ ts. IfOk (ok_or (option_map as_u64 (number_of s)) Json)
+    (λ v. Passes c.args.depth ts (λ d. v ≡ option_and_then as_u64 (as_number d)) r)) (sym is)
+    (go s r (number_of s) refl))
   where
-    go : (s : List ℕ) (r : List Token) (o : Option Num) → number_of s ≡ o → IfOk (ok_or (option_map as_u64 o) Json) (λ v. Passes c.args.depth (Token.number s ∷ r) (λ d. v ≡ option_and_then as_u64 (as_number d)) r)
+    go : (s : List ℕ) (r : List Token) (o : Option Num) → number_of s ≡ o
+        → IfOk (ok_or (option_map as_u64 o) Json)
+        (λ v. Passes c.args.depth (Token.number s ∷ r)
+        (λ d. v ≡ option_and_then as_u64 (as_number d)) r)
     go s r None e = tt
     go s r (Some n) e = (number n, number_reads c.args.depth r s n e, refl)
 
@@ -32,12 +45,18 @@ returns-in-Number-clause-err c =
     let r = c.next.new.self in
     let s = c.in-Number.text.now in
     let first : c.args.reader.now ≡ token_of c.in_ok-token.token ∷ r = grind arith in
-    let is : c.args.reader.now ≡ Token.number s ∷ r = first ∙ ap (λ k. token_of k ∷ r) c.in-Number.is in
-    let result : c.ok_or-in-Number.result ≡ ok_or (option_map as_u64 (number_of s)) Json = c.ok_or-in-Number.ensures.value ∙ ap (λ o. ok_or o Json) c.whole.ensures in
+    let is : c.args.reader.now ≡ Token.number s ∷ r =
+    first ∙ ap (λ k. token_of k ∷ r) c.in-Number.is in
+    let result : c.ok_or-in-Number.result ≡ ok_or (option_map as_u64 (number_of s)) Json =
+    c.ok_or-in-Number.ensures.value ∙ ap (λ o. ok_or o Json) c.whole.ensures in
     subst (λ x. IfErr x (IsUnread (ReadsValue c.args.depth c.args.reader.now None))) (sym result)
-    (subst (λ ts. IfErr (ok_or (option_map as_u64 (number_of s)) Json) (IsUnread (ReadsValue c.args.depth ts None))) (sym is) (go s r (number_of s) refl))
+    (subst
+    (λ ts. IfErr (ok_or (option_map as_u64 (number_of s)) Json)
+    (IsUnread (ReadsValue c.args.depth ts None))) (sym is) (go s r (number_of s) refl))
   where
-    go : (s : List ℕ) (r : List Token) (o : Option Num) → number_of s ≡ o → IfErr (ok_or (option_map as_u64 o) Json) (IsUnread (ReadsValue c.args.depth (Token.number s ∷ r) None))
+    go : (s : List ℕ) (r : List Token) (o : Option Num) → number_of s ≡ o
+        → IfErr (ok_or (option_map as_u64 o) Json)
+        (IsUnread (ReadsValue c.args.depth (Token.number s ∷ r) None))
     go s r None e = number_refused c.args.depth r s e
     go s r (Some n) e = tt
 
@@ -47,9 +66,17 @@ returns c =
     let passed = c.in_ok-pass_from.ensures.passed in
     let r = c.pass_from.new.reader in
     let none : None ≡ option_and_then as_u64 (as_number passed.0)
-    = told c.next.new.self (λ d. None ≡ option_and_then as_u64 (as_number d)) c.in_ok-token.token (λ e ms. refl) (λ e ds. refl) (λ s e. refl) (λ s e n q. absurd (c.in_default.not-Number s e)) (λ b. refl) refl c.args.depth passed.0 r passed.1 in
+    = told c.next.new.self (λ d. None ≡ option_and_then as_u64 (as_number d)) c.in_ok-token.token
+    (λ e ms. refl) (λ e ds. refl) (λ s e. refl)
+    (λ s e n q. absurd (c.in_default.not-Number s e)) (λ b. refl) refl c.args.depth passed.0 r
+    passed.1 in
     record {
-      read = (passed.0, subst (λ ts. ReadsValue c.args.depth ts (Some (passed.0, r))) (sym first) passed.1, none);
+      read = (
+        passed.0,
+        subst (λ ts. ReadsValue c.args.depth ts (Some (passed.0, r))) (sym first)
+            passed.1,
+        none,
+      );
       shorter = omega (arith, ap length first, c.in_ok-pass_from.ensures.shorter);
       err = tt;
     }

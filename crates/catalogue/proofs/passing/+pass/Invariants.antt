@@ -20,7 +20,9 @@ decreases-pass_members l = 3 * l.depth + 2
 -- whatever the items that are left are becomes a part of all
 abbrev pub invariant-pass_items-loop-reader : goal.invariant-pass_items-loop-reader
 invariant-pass_items-loop-reader l =
-    (f : Items → Items) × ((o : Those) → ReadsItems l.depth l.reader o → ReadsItems l.depth l.initial.reader (parse_map f o))
+    (f : Items → Items)
+    × ((o : Those) → ReadsItems l.depth l.reader o
+    → ReadsItems l.depth l.initial.reader (parse_map f o))
     × (length l.reader ≤ length l.initial.reader)
 
 abbrev pub decreases-pass_items-loop-reader : goal.decreases-pass_items-loop-reader
@@ -28,7 +30,8 @@ decreases-pass_items-loop-reader l = length l.reader
 
 abbrev pub invariant-pass_members-loop-reader : goal.invariant-pass_members-loop-reader
 invariant-pass_members-loop-reader l =
-    (found : Members) × ((o : Found) → ReadsMembers l.depth found l.reader o → ReadsMembers l.depth no_members l.initial.reader o)
+    (found : Members) × ((o : Found) → ReadsMembers l.depth found l.reader o
+    → ReadsMembers l.depth no_members l.initial.reader o)
     × (length l.reader ≤ length l.initial.reader)
 
 abbrev pub decreases-pass_members-loop-reader : goal.decreases-pass_members-loop-reader

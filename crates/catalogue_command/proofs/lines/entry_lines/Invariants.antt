@@ -4,4 +4,5 @@ use Rattle.catalogue_command.specs.Lines.{entry_line}
 use Rattle.catalogue_command.proofs.lines.entry_lines.Given as goal
 
 abbrev pub invariant-loop-certified : goal.invariant-loop-certified
-invariant-loop-certified l = string_bytes l.text ≡ flat_map entry_line (take l.certified-index l.entries)
+invariant-loop-certified l =
+    string_bytes l.text ≡ flat_map entry_line (take l.certified-index l.entries)

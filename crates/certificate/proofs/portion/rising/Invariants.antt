@@ -7,4 +7,5 @@ pub record SoFar (limit least : ℕ) (front : List ℕ) (left : ℕ) (bytes all 
   pub read : with_front front (rising_at limit left least bytes) ≡ rising_at limit limit 0 all
 
 abbrev pub invariant-loop : goal.invariant-loop
-invariant-loop g l = SoFar l.limit l.least l.found.items (l.limit - l.counter) l.reader l.initial.reader
+invariant-loop g l =
+    SoFar l.limit l.least l.found.items (l.limit - l.counter) l.reader l.initial.reader

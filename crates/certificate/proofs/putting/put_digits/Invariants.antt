@@ -6,5 +6,6 @@ use Rattle.certificate.proofs.putting.put_digits.Given as goal
 
 abbrev pub invariant-loop-j : goal.invariant-loop-j
 invariant-loop-j g l =
-    Appends (g.W.Sink.taken l.initial.sink) (g.W.Sink.taken l.sink) (flat_map (λ d. digit_byte d ∷ []) (take l.j (drop 1 l.code)))
+    Appends (g.W.Sink.taken l.initial.sink) (g.W.Sink.taken l.sink)
+    (flat_map (λ d. digit_byte d ∷ []) (take l.j (drop 1 l.code)))
     × (g.W.Sink.failures l.sink ≡ g.W.Sink.failures l.initial.sink)

@@ -7,8 +7,17 @@ use Rattle.certificate.proofs.putting.put_line.Goals as goal
 
 pub returns-in_err-put_words-clause-puts : goal.returns-in_err-put_words-clause-puts
 returns-in_err-put_words-clause-puts g c =
-    let p = err_from_is_err_and c.from_residual-in_err-put_words.result c.from_residual-in_err-put_words.ensures.1 in
-    rw (p.1) (some_of_three (g.W.Sink.taken c.args.sink.now) (g.W.Sink.taken c.write_whole.new.sink) (g.W.Sink.taken c.put_words.new.sink) (g.W.Sink.taken c.put_words.new.sink) c.args.name.now (spaced (map decimal c.args.numbers.now)) (10 ∷ []) c.in_ok-write_whole.ensures.puts c.in_err-put_words.ensures.puts)
+    let p =
+    err_from_is_err_and c.from_residual-in_err-put_words.result
+    c.from_residual-in_err-put_words.ensures.1 in
+    rw (p.1) (some_of_three (g.W.Sink.taken c.args.sink.now) (g.W.Sink.taken c.write_whole.new.sink)
+    (g.W.Sink.taken c.put_words.new.sink) (g.W.Sink.taken c.put_words.new.sink) c.args.name.now
+    (spaced (map decimal c.args.numbers.now)) (10 ∷ []) c.in_ok-write_whole.ensures.puts
+    c.in_err-put_words.ensures.puts)
 
 pub returns-clause-puts : goal.returns-clause-puts
-returns-clause-puts g c = puts_three (g.W.Sink.taken c.args.sink.now) (g.W.Sink.taken c.write_whole.new.sink) (g.W.Sink.taken c.put_words.new.sink) (g.W.Sink.taken c.write_whole-2.new.sink) c.args.name.now (spaced (map decimal c.args.numbers.now)) (10 ∷ []) c.write_whole-2.result c.in_ok-write_whole.ensures.puts c.in_ok-put_words.ensures.puts c.write_whole-2.ensures.puts
+returns-clause-puts g c =
+    puts_three (g.W.Sink.taken c.args.sink.now) (g.W.Sink.taken c.write_whole.new.sink)
+    (g.W.Sink.taken c.put_words.new.sink) (g.W.Sink.taken c.write_whole-2.new.sink) c.args.name.now
+    (spaced (map decimal c.args.numbers.now)) (10 ∷ []) c.write_whole-2.result
+    c.in_ok-write_whole.ensures.puts c.in_ok-put_words.ensures.puts c.write_whole-2.ensures.puts

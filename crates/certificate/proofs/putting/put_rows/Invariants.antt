@@ -6,5 +6,6 @@ use Rattle.certificate.proofs.putting.put_rows.Given as goal
 
 abbrev pub invariant-loop-x : goal.invariant-loop-x
 invariant-loop-x g l =
-    Appends (g.W.Sink.taken l.initial.sink) (g.W.Sink.taken l.sink) (flat_map row_text (take l.x l.cert.rows))
+    Appends (g.W.Sink.taken l.initial.sink) (g.W.Sink.taken l.sink)
+    (flat_map row_text (take l.x l.cert.rows))
     × (g.W.Sink.failures l.sink ≡ g.W.Sink.failures l.initial.sink)

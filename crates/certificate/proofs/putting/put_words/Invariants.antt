@@ -6,5 +6,6 @@ use Rattle.certificate.proofs.putting.put_words.Given as goal
 
 abbrev pub invariant-loop-x : goal.invariant-loop-x
 invariant-loop-x g l =
-    Appends (g.W.Sink.taken l.initial.sink) (g.W.Sink.taken l.sink) (flat_map (λ x. 32 ∷ decimal x) (take l.x-index l.numbers))
+    Appends (g.W.Sink.taken l.initial.sink) (g.W.Sink.taken l.sink)
+    (flat_map (λ x. 32 ∷ decimal x) (take l.x-index l.numbers))
     × (g.W.Sink.failures l.sink ≡ g.W.Sink.failures l.initial.sink)

@@ -7,5 +7,6 @@ use Rattle.certificate.proofs.writing.write.Given as goal
 
 abbrev pub invariant-loop-kind : goal.invariant-loop-kind
 invariant-loop-kind g l =
-    Appends (g.W.Sink.taken l.initial.sink) (g.W.Sink.taken l.sink) (flat_map (λ k. text (lines_of l.cert k)) (take l.kind-index l.kind-items))
+    Appends (g.W.Sink.taken l.initial.sink) (g.W.Sink.taken l.sink)
+    (flat_map (λ k. text (lines_of l.cert k)) (take l.kind-index l.kind-items))
     × (g.W.Sink.failures l.sink ≡ g.W.Sink.failures l.initial.sink)

@@ -16,8 +16,10 @@ pub returns-in-Ended-clause-decided : goal.returns-in-Ended-clause-decided
 returns-in-Ended-clause-decided g c =
     let i = c.stages.invariant in
     let e = c.checks_end.ensures in
-    decided_at c.args.bytes.now c.args.limit (e.spent c.args.bytes.now c.args.limit) (e.before c.args.bytes.now c.args.limit) _ c.work.result _ c.in-Ended.is
-    (come_next c.args.bytes.now c.args.limit i.stands.0 _ c.work.new.left c.stages.stage c.stages.stage c.work.result refl i.going i.stands.1.come c.work.ensures.comes)
+    decided_at c.args.bytes.now c.args.limit (e.spent c.args.bytes.now c.args.limit)
+    (e.before c.args.bytes.now c.args.limit) _ c.work.result _ c.in-Ended.is
+    (come_next c.args.bytes.now c.args.limit i.stands.0 _ c.work.new.left c.stages.stage
+    c.stages.stage c.work.result refl i.going i.stands.1.come c.work.ensures.comes)
 
 pub stages-preserved : goal.stages-preserved
 stages-preserved g c =
@@ -27,13 +29,16 @@ stages-preserved g c =
         _,
         record {
           stands = c.work.ensures.stands;
-          come = come_next c.args.bytes.now c.args.limit i.stands.0 _ c.work.new.left c.stages.stage c.stages.stage c.work.result refl i.going i.stands.1.come c.work.ensures.comes;
+          come =
+              come_next c.args.bytes.now c.args.limit i.stands.0 _ c.work.new.left c.stages.stage
+              c.stages.stage c.work.result refl i.going i.stands.1.come c.work.ensures.comes;
         },
       );
       going = not_ended c.work.result c.in_default.not-Ended;
     }
 
--- far fewer units are spent than there are, so that some are left and the check has come to a later stage
+-- far fewer units are spent than there are, so that some are left and the check has come to a later
+-- stage
 pub stages-smaller : goal.stages-smaller
 stages-smaller g c =
     let i = c.stages.invariant in
@@ -43,7 +48,9 @@ stages-smaller g c =
     let b = e.few c.args.bytes.now c.args.limit (omega arith) in
     let d : n < 2 ^ 52 = omega arith in
     d) in
-    let w = within c.args.bytes.now c.args.limit i.stands.0 _ c.work.new.left (2 ^ 52) c.stages.stage c.stages.stage c.work.result refl i.going i.stands.1.come c.work.ensures.comes few in
+    let w =
+    within c.args.bytes.now c.args.limit i.stands.0 _ c.work.new.left (2 ^ 52) c.stages.stage
+    c.stages.stage c.work.result refl i.going i.stands.1.come c.work.ensures.comes few in
     let a = w.1 in
     let b = w.2 in
     let later = w.3 (omega arith) in

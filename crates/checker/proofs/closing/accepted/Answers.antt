@@ -3,4 +3,6 @@ use Rattle.checker.specs.Sheets.{IsPortion}
 use Rattle.checker.proofs.closing.accepted.Goals as goal
 
 pub new-requires-clause-portion : goal.new-requires-clause-portion
-new-requires-clause-portion g c = subst (λ d. IsPortion d c.sheet.inside.lines.inside) (sym c.from_parts-cert.ensures) c.sheet.invariant.portion
+new-requires-clause-portion g c =
+    subst (λ d. IsPortion d c.sheet.inside.lines.inside) (sym c.from_parts-cert.ensures)
+    c.sheet.invariant.portion

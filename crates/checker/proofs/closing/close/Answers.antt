@@ -11,52 +11,88 @@ use Rattle.checker.proofs.closing.close.Goals as goal
 
 pub overflow_sub-newest : goal.overflow_sub-newest
 overflow_sub-newest g c =
-    let some : 0 < length c.grow_to_member-grown.new.self.state.held = c.grow_to_member-grown.ensures.kept.last (let a = c.ever.ensures in let b = c.ever-ever.ensures in let l = c.if-ever.true in omega arith) in
+    let some : 0 < length c.grow_to_member-grown.new.self.state.held =
+    c.grow_to_member-grown.ensures.kept.last (let a = c.ever.ensures in
+    let b = c.ever-ever.ensures in let l = c.if-ever.true in omega arith) in
     let n = c.kept-newest.ensures in
     omega arith
 
 pub member-requires : goal.member-requires
 member-requires g c =
-    let some : 0 < length c.grow_to_member-grown.new.self.state.held = c.grow_to_member-grown.ensures.kept.last (let a = c.ever.ensures in let b = c.ever-ever.ensures in let l = c.if-ever.true in omega arith) in
+    let some : 0 < length c.grow_to_member-grown.new.self.state.held =
+    c.grow_to_member-grown.ensures.kept.last (let a = c.ever.ensures in
+    let b = c.ever-ever.ensures in let l = c.if-ever.true in omega arith) in
     let n = c.kept-newest.ensures in
     omega arith
 
 pub returns-then-not-obeys-clause-broken : goal.returns-then-not-obeys-clause-broken
 returns-then-not-obeys-clause-broken g c =
-    let some : 0 < length c.grow_to_member-grown.new.self.state.held = c.grow_to_member-grown.ensures.kept.last (let a = c.ever.ensures in let b = c.ever-ever.ensures in let l = c.if-ever.true in omega arith) in
+    let some : 0 < length c.grow_to_member-grown.new.self.state.held =
+    c.grow_to_member-grown.ensures.kept.last (let a = c.ever.ensures in
+    let b = c.ever-ever.ensures in let l = c.if-ever.true in omega arith) in
     let n = c.kept-newest.ensures in
-    broken_at c.args.inside.now c.grow_to_member-grown.new.self.state.held (c.kept-newest.result - 1) c.member.result.now c.obeys.result (omega arith) c.member.ensures c.if-not-obeys.true c.obeys.ensures.no
+    broken_at c.args.inside.now c.grow_to_member-grown.new.self.state.held
+    (c.kept-newest.result - 1) c.member.result.now c.obeys.result (omega arith) c.member.ensures
+    c.if-not-obeys.true c.obeys.ensures.no
 
 pub returns-in-Ok-Done-clause-done : goal.returns-in-Ok-Done-clause-done
 returns-in-Ok-Done-clause-done g c = λ _.
     let t = c.grow_to_member-grown.new.self.state in
-    let last : length c.members.closure.state.members < length t.members → Obeys c.args.inside.now (get_or t.held (length t.held - 1) blank_held).pair = (λ l. elim c.if-ever.branch [
-      | then-ever+else-not-obeys w ↦ last_obeys c.args.inside.now t.held w.kept-newest.result w.member.result.now w.obeys.result w.kept-newest.ensures w.member.ensures w.if-not-obeys.false w.obeys.ensures.yes
-      | else-ever w ↦ (let a = w.if-ever.false in let b = c.ever.ensures in let d = c.ever-ever.ensures in absurd (omega arith))
-    ]) in
-    (c.grow_to_member-grown.ensures.closed (search rules), held_obey c.args.inside.now c.members.closure.state t c.grow_to_member-grown.ensures.kept c.members.invariant.obey last)
+    let last : length c.members.closure.state.members < length t.members
+    → Obeys c.args.inside.now (get_or t.held (length t.held - 1) blank_held).pair =
+    (λ l. elim c.if-ever.branch [
+      | then-ever+else-not-obeys w ↦ last_obeys c.args.inside.now t.held w.kept-newest.result
+          w.member.result.now w.obeys.result w.kept-newest.ensures w.member.ensures
+          w.if-not-obeys.false w.obeys.ensures.yes
+      | else-ever w ↦ (let a = w.if-ever.false in let b = c.ever.ensures in
+          let d = c.ever-ever.ensures in absurd (omega arith))
+    ]) in (
+      c.grow_to_member-grown.ensures.closed (search rules),
+      held_obey c.args.inside.now c.members.closure.state t c.grow_to_member-grown.ensures.kept
+          c.members.invariant.obey last,
+    )
 
 pub members-preserved : goal.members-preserved
 members-preserved g c =
     let t = c.grow_to_member-grown.new.self.state in
     let i = c.members.invariant in
     let d = c.grow_to_member-grown.ensures.«data» in
-    let last : length c.members.closure.state.members < length t.members → Obeys c.args.inside.now (get_or t.held (length t.held - 1) blank_held).pair = (λ l. elim c.if-ever.branch [
-      | then-ever+else-not-obeys w ↦ last_obeys c.args.inside.now t.held w.kept-newest.result w.member.result.now w.obeys.result w.kept-newest.ensures w.member.ensures w.if-not-obeys.false w.obeys.ensures.yes
-      | else-ever w ↦ (let a = w.if-ever.false in let b = c.ever.ensures in let d = c.ever-ever.ensures in absurd (omega arith))
+    let last : length c.members.closure.state.members < length t.members
+    → Obeys c.args.inside.now (get_or t.held (length t.held - 1) blank_held).pair =
+    (λ l. elim c.if-ever.branch [
+      | then-ever+else-not-obeys w ↦ last_obeys c.args.inside.now t.held w.kept-newest.result
+          w.member.result.now w.obeys.result w.kept-newest.ensures w.member.ensures
+          w.if-not-obeys.false w.obeys.ensures.yes
+      | else-ever w ↦ (let a = w.if-ever.false in let b = c.ever.ensures in
+          let d = c.ever-ever.ensures in absurd (omega arith))
     ]) in
     let p = c.members.closure in
     let q = c.grow_to_member-grown.new.self in
-    let k = ok_takes c.grow_to_member-grown.result c.in-Ok-More.field-0 p q c.members.left c.grow_to_member-grown.ensures.grows c.in-Ok-More.is in
+    let k =
+    ok_takes c.grow_to_member-grown.result c.in-Ok-More.field-0 p q c.members.left
+    c.grow_to_member-grown.ensures.grows c.in-Ok-More.is in
     let on = c.grow_to_member-grown.ensures.more (search rules) in
     record {
-      obey = held_obey c.args.inside.now c.members.closure.state t c.grow_to_member-grown.ensures.kept i.obey last;
-      same = record { table = d.table ∙ i.same.table; heaps = d.heaps ∙ i.same.heaps; limit = d.limit ∙ i.same.limit };
+      obey =
+          held_obey c.args.inside.now c.members.closure.state t c.grow_to_member-grown.ensures.kept
+          i.obey last;
+      same =
+          record {
+            table = d.table ∙ i.same.table;
+            heaps = d.heaps ∙ i.same.heaps;
+            limit = d.limit
+                ∙ i.same.limit;
+          };
       spends = (let a = i.spends in omega arith);
-      spent = (let a = i.spent in let r = c.grow_to_member-grown.ensures.spent_range in let b = c.spent.ensures in let e = c.spent-before.ensures in omega arith);
+      spent = (let a = i.spent in let r = c.grow_to_member-grown.ensures.spent_range in
+          let b = c.spent.ensures in let e = c.spent-before.ensures in omega arith);
       going = on;
       fresh = takes_fresh p q c.members.left k i.fresh;
-      runs = λ r portion bytes limit. more_runs r c.args.inside.now portion bytes limit _ p q _ c.members.left _ (i.runs r portion bytes limit) k (let b = c.spent.ensures in let e = c.spent-before.ensures in let f = k.spent in let w = k.within in omega arith) last i.going on;
+      runs =
+          λ r portion bytes limit. more_runs r c.args.inside.now portion bytes limit _ p q _
+          c.members.left _ (i.runs r portion bytes limit) k (let b = c.spent.ensures in
+          let e = c.spent-before.ensures in let f = k.spent in let w = k.within in omega arith) last
+          i.going on;
     }
 
 pub members-init : goal.members-init
@@ -75,22 +111,38 @@ returns-then-not-obeys-clause-outcome g c =
     let i = c.members.invariant in
     let p = c.members.closure in
     let q = c.grow_to_member-grown.new.self in
-    let l : length p.state.members < length q.state.members = (let a = c.ever.ensures in let b = c.ever-ever.ensures in let l = c.if-ever.true in omega arith) in
+    let l : length p.state.members < length q.state.members =
+    (let a = c.ever.ensures in let b = c.ever-ever.ensures in let l = c.if-ever.true in
+    omega arith) in
     let some : 0 < length q.state.held = c.grow_to_member-grown.ensures.kept.last l in
     let n = c.kept-newest.ensures in
-    let k = kept_takes c.grow_to_member-grown.result p q c.members.left c.grow_to_member-grown.ensures.grows i.fresh l in
+    let k =
+    kept_takes c.grow_to_member-grown.result p q c.members.left
+    c.grow_to_member-grown.ensures.grows i.fresh l in
     λ j same d portion bytes limit.
     let m : c.kept-newest.result - 1 ≡ j = cc in
-    let b = broken_at c.args.inside.now q.state.held (c.kept-newest.result - 1) c.member.result.now c.obeys.result (omega arith) c.member.ensures c.if-not-obeys.true c.obeys.ensures.no j same in
-    broken_runs d c.args.inside.now portion bytes limit _ p q _ c.members.left _ (i.runs d portion bytes limit) k (let b = c.spent.ensures in let e = c.spent-before.ensures in let f = k.spent in let w = k.within in omega arith) j l b.1 (omega arith)
+    let b = broken_at c.args.inside.now q.state.held (c.kept-newest.result - 1) c.member.result.now
+    c.obeys.result (omega arith) c.member.ensures c.if-not-obeys.true c.obeys.ensures.no j same
+    in
+    broken_runs d c.args.inside.now portion bytes limit _ p q _ c.members.left _
+    (i.runs d portion bytes limit) k (let b = c.spent.ensures in let e = c.spent-before.ensures
+    in let f = k.spent in let w = k.within in omega arith) j l b.1 (omega arith)
 
 pub returns-in-Err-clause-refused : goal.returns-in-Err-clause-refused
 returns-in-Err-clause-refused g c =
     let i = c.members.invariant in
     let p = c.members.closure in
     let q = c.grow_to_member-grown.new.self in
-    let k = err_refused c.grow_to_member-grown.result c.in-Err.field-0 p q c.members.left c.grow_to_member-grown.ensures.grows i.fresh c.in-Err.is in
-    (λ d. Closing (record { certificate = d; closure = steps k.turns p }), λ d portion bytes limit. runs-left bytes limit _ _ _ _ _ (refused_runs bytes limit d _ p q _ c.members.left (i.runs d portion bytes limit) k) (let b = c.spent.ensures in let e = c.spent-before.ensures in let f = k.spent in let w = k.within in omega arith))
+    let k =
+    err_refused c.grow_to_member-grown.result c.in-Err.field-0 p q c.members.left
+    c.grow_to_member-grown.ensures.grows i.fresh c.in-Err.is in (
+      λ d. Closing (record { certificate = d; closure = steps k.turns p }),
+      λ d portion bytes limit.
+          runs-left bytes limit _ _ _ _ _
+          (refused_runs bytes limit d _ p q _ c.members.left (i.runs d portion bytes limit) k)
+          (let b = c.spent.ensures in let e = c.spent-before.ensures in let f = k.spent in let w =
+          k.within in omega arith),
+    )
 
 pub returns-in-Ok-Done-clause-yes : goal.returns-in-Ok-Done-clause-yes
 returns-in-Ok-Done-clause-yes g c = λ _.
@@ -98,12 +150,22 @@ returns-in-Ok-Done-clause-yes g c = λ _.
     let p = c.members.closure in
     let q = c.grow_to_member-grown.new.self in
     let t = q.state in
-    let last : length c.members.closure.state.members < length t.members → Obeys c.args.inside.now (get_or t.held (length t.held - 1) blank_held).pair = (λ l. elim c.if-ever.branch [
-      | then-ever+else-not-obeys w ↦ last_obeys c.args.inside.now t.held w.kept-newest.result w.member.result.now w.obeys.result w.kept-newest.ensures w.member.ensures w.if-not-obeys.false w.obeys.ensures.yes
-      | else-ever w ↦ (let a = w.if-ever.false in let b = c.ever.ensures in let d = c.ever-ever.ensures in absurd (omega arith))
+    let last : length c.members.closure.state.members < length t.members
+    → Obeys c.args.inside.now (get_or t.held (length t.held - 1) blank_held).pair =
+    (λ l. elim c.if-ever.branch [
+      | then-ever+else-not-obeys w ↦ last_obeys c.args.inside.now t.held w.kept-newest.result
+          w.member.result.now w.obeys.result w.kept-newest.ensures w.member.ensures
+          w.if-not-obeys.false w.obeys.ensures.yes
+      | else-ever w ↦ (let a = w.if-ever.false in let b = c.ever.ensures in
+          let d = c.ever-ever.ensures in absurd (omega arith))
     ]) in
-    let k = ok_takes c.grow_to_member-grown.result c.in-Ok-Done.field-0 p q c.members.left c.grow_to_member-grown.ensures.grows c.in-Ok-Done.is in
-    λ d portion bytes limit. done_runs d c.args.inside.now portion bytes limit _ p q _ c.members.left _ (i.runs d portion bytes limit) k (let b = c.spent.ensures in let e = c.spent-before.ensures in let f = k.spent in let w = k.within in omega arith) last i.going (c.grow_to_member-grown.ensures.done (search rules))
+    let k =
+    ok_takes c.grow_to_member-grown.result c.in-Ok-Done.field-0 p q c.members.left
+    c.grow_to_member-grown.ensures.grows c.in-Ok-Done.is in
+    λ d portion bytes limit. done_runs d c.args.inside.now portion bytes limit _ p q _
+    c.members.left _ (i.runs d portion bytes limit) k (let b = c.spent.ensures in
+    let e = c.spent-before.ensures in let f = k.spent in let w = k.within in omega arith) last
+    i.going (c.grow_to_member-grown.ensures.done (search rules))
 
 pub returns-in-Ok-Over-clause-limit : goal.returns-in-Ok-Over-clause-limit
 returns-in-Ok-Over-clause-limit g c = λ _.
@@ -111,19 +173,31 @@ returns-in-Ok-Over-clause-limit g c = λ _.
     let p = c.members.closure in
     let q = c.grow_to_member-grown.new.self in
     let t = q.state in
-    let last : length c.members.closure.state.members < length t.members → Obeys c.args.inside.now (get_or t.held (length t.held - 1) blank_held).pair = (λ l. elim c.if-ever.branch [
-      | then-ever+else-not-obeys w ↦ last_obeys c.args.inside.now t.held w.kept-newest.result w.member.result.now w.obeys.result w.kept-newest.ensures w.member.ensures w.if-not-obeys.false w.obeys.ensures.yes
-      | else-ever w ↦ (let a = w.if-ever.false in let b = c.ever.ensures in let d = c.ever-ever.ensures in absurd (omega arith))
+    let last : length c.members.closure.state.members < length t.members
+    → Obeys c.args.inside.now (get_or t.held (length t.held - 1) blank_held).pair =
+    (λ l. elim c.if-ever.branch [
+      | then-ever+else-not-obeys w ↦ last_obeys c.args.inside.now t.held w.kept-newest.result
+          w.member.result.now w.obeys.result w.kept-newest.ensures w.member.ensures
+          w.if-not-obeys.false w.obeys.ensures.yes
+      | else-ever w ↦ (let a = w.if-ever.false in let b = c.ever.ensures in
+          let d = c.ever-ever.ensures in absurd (omega arith))
     ]) in
-    let k = ok_takes c.grow_to_member-grown.result c.in-Ok-Over.field-0 p q c.members.left c.grow_to_member-grown.ensures.grows c.in-Ok-Over.is in
-    λ d portion bytes limit. over_runs d c.args.inside.now portion bytes limit _ p q _ c.members.left _ (i.runs d portion bytes limit) k (let b = c.spent.ensures in let e = c.spent-before.ensures in let f = k.spent in let w = k.within in omega arith) last i.going (c.grow_to_member-grown.ensures.over (search rules))
+    let k =
+    ok_takes c.grow_to_member-grown.result c.in-Ok-Over.field-0 p q c.members.left
+    c.grow_to_member-grown.ensures.grows c.in-Ok-Over.is in
+    λ d portion bytes limit. over_runs d c.args.inside.now portion bytes limit _ p q _
+    c.members.left _ (i.runs d portion bytes limit) k (let b = c.spent.ensures in
+    let e = c.spent-before.ensures in let f = k.spent in let w = k.within in omega arith) last
+    i.going (c.grow_to_member-grown.ensures.over (search rules))
 
 pub returns-then-ever-2-clause-stays : goal.returns-then-ever-2-clause-stays
 returns-then-ever-2-clause-stays g c = λ _.
     let i = c.members.invariant in
     let p = c.members.closure in
     let q = c.grow_to_member-grown.new.self in
-    let k = ok_takes c.grow_to_member-grown.result c.in-Ok-More.field-0 p q c.members.left c.grow_to_member-grown.ensures.grows c.in-Ok-More.is in
+    let k =
+    ok_takes c.grow_to_member-grown.result c.in-Ok-More.field-0 p q c.members.left
+    c.grow_to_member-grown.ensures.grows c.in-Ok-More.is in
     (c.grow_to_member-grown.ensures.more (search rules), takes_fresh p q c.members.left k i.fresh)
 
 pub returns-then-ever-2-clause-turns : goal.returns-then-ever-2-clause-turns
@@ -132,9 +206,19 @@ returns-then-ever-2-clause-turns g c = λ _.
     let p = c.members.closure in
     let q = c.grow_to_member-grown.new.self in
     let t = q.state in
-    let last : length c.members.closure.state.members < length t.members → Obeys c.args.inside.now (get_or t.held (length t.held - 1) blank_held).pair = (λ l. elim c.if-ever.branch [
-      | then-ever+else-not-obeys w ↦ last_obeys c.args.inside.now t.held w.kept-newest.result w.member.result.now w.obeys.result w.kept-newest.ensures w.member.ensures w.if-not-obeys.false w.obeys.ensures.yes
-      | else-ever w ↦ (let a = w.if-ever.false in let b = c.ever.ensures in let d = c.ever-ever.ensures in absurd (omega arith))
+    let last : length c.members.closure.state.members < length t.members
+    → Obeys c.args.inside.now (get_or t.held (length t.held - 1) blank_held).pair =
+    (λ l. elim c.if-ever.branch [
+      | then-ever+else-not-obeys w ↦ last_obeys c.args.inside.now t.held w.kept-newest.result
+          w.member.result.now w.obeys.result w.kept-newest.ensures w.member.ensures
+          w.if-not-obeys.false w.obeys.ensures.yes
+      | else-ever w ↦ (let a = w.if-ever.false in let b = c.ever.ensures in
+          let d = c.ever-ever.ensures in absurd (omega arith))
     ]) in
-    let k = ok_takes c.grow_to_member-grown.result c.in-Ok-More.field-0 p q c.members.left c.grow_to_member-grown.ensures.grows c.in-Ok-More.is in
-    λ d portion bytes limit. more_runs d c.args.inside.now portion bytes limit _ p q _ c.members.left _ (i.runs d portion bytes limit) k (let b = c.spent.ensures in let e = c.spent-before.ensures in let f = k.spent in let w = k.within in omega arith) last i.going (c.grow_to_member-grown.ensures.more (search rules))
+    let k =
+    ok_takes c.grow_to_member-grown.result c.in-Ok-More.field-0 p q c.members.left
+    c.grow_to_member-grown.ensures.grows c.in-Ok-More.is in
+    λ d portion bytes limit. more_runs d c.args.inside.now portion bytes limit _ p q _
+    c.members.left _ (i.runs d portion bytes limit) k (let b = c.spent.ensures in
+    let e = c.spent-before.ensures in let f = k.spent in let w = k.within in omega arith) last
+    i.going (c.grow_to_member-grown.ensures.more (search rules))

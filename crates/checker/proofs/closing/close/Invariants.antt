@@ -13,7 +13,8 @@ invariant-members g l = record {
   spent : l.left + l.closure.spent ≡ l.initial.left + l.initial.closure.spent;
   going : has_ended l.closure.state ≡ false;
   fresh : l.closure.failed ≡ false;
-  runs : Closes l.inside l.initial.closure l.initial.left l.left (λ c. Closing (record { certificate = c; closure = l.closure }));
+  runs : Closes l.inside l.initial.closure l.initial.left l.left
+      (λ c. Closing (record { certificate = c; closure = l.closure }));
 }
 
 abbrev pub decreases-members : goal.decreases-members

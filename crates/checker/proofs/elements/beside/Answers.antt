@@ -5,7 +5,9 @@ use Rattle.checker.proofs.SortLemmas.{rising_with}
 use Rattle.checker.proofs.elements.beside.Goals as goal
 
 pub spelled-requires-clause-down : goal.spelled-requires-clause-down
-spelled-requires-clause-down g c = go_down c.args.sheet.now c.words.result.now c.words.ensures.value c.words.ensures.lawful.in_ranges c.requires.canonical
+spelled-requires-clause-down g c =
+    go_down c.args.sheet.now c.words.result.now c.words.ensures.value
+    c.words.ensures.lawful.in_ranges c.requires.canonical
 
 pub spelled-requires-clause-element_in : goal.spelled-requires-clause-element_in
 spelled-requires-clause-element_in g c =
@@ -17,17 +19,29 @@ spelled-requires-clause-element_in g c =
 pub returns-clause-position : goal.returns-clause-position
 returns-clause-position g c =
     let s = c.args.sheet.now in
-    let spelled = sizes_spelled s c.words.ensures.lawful c.requires.canonical c.args.y c.in_ok-position.position c.requires.element (c.in_ok-position.ensures s (sym c.words.ensures.value)) in
-    position_along s c.words.ensures.lawful (c.args.heap ∷ c.in_ok-position.position) c.push.new.self c.in_ok-push.ensures.ok (c.requires.heap.0, spelled.0)
+    let spelled =
+    sizes_spelled s c.words.ensures.lawful c.requires.canonical c.args.y
+    c.in_ok-position.position c.requires.element
+    (c.in_ok-position.ensures s (sym c.words.ensures.value)) in
+    position_along s c.words.ensures.lawful (c.args.heap ∷ c.in_ok-position.position)
+    c.push.new.self c.in_ok-push.ensures.ok (c.requires.heap.0, spelled.0)
 
 pub returns-clause-fails : goal.returns-clause-fails
 returns-clause-fails g c =
     let s = c.args.sheet.now in
-    let spelled = sizes_spelled s c.words.ensures.lawful c.requires.canonical c.args.y c.in_ok-position.position c.requires.element (c.in_ok-position.ensures s (sym c.words.ensures.value)) in
-    element_fails s c.words.ensures.lawful c.args.heap c.args.y _ c.push.new.self c.requires.heap.0 c.requires.breach spelled.0 spelled.1 c.in_ok-push.ensures.ok
+    let spelled =
+    sizes_spelled s c.words.ensures.lawful c.requires.canonical c.args.y
+    c.in_ok-position.position c.requires.element
+    (c.in_ok-position.ensures s (sym c.words.ensures.value)) in
+    element_fails s c.words.ensures.lawful c.args.heap c.args.y _ c.push.new.self c.requires.heap.0
+    c.requires.breach spelled.0 spelled.1 c.in_ok-push.ensures.ok
 
 pub returns-clause-exact : goal.returns-clause-exact
 returns-clause-exact g c =
     let s = c.args.sheet.now in
-    let spelled = sizes_spelled s c.words.ensures.lawful c.requires.canonical c.args.y c.in_ok-position.position c.requires.element (c.in_ok-position.ensures s (sym c.words.ensures.value)) in
-    rising_with c.args.heap c.in_ok-position.position c.push.new.self (keys_from s s.order c.args.y) c.in_ok-push.ensures.ok c.heaps.ensures.rising spelled.2
+    let spelled =
+    sizes_spelled s c.words.ensures.lawful c.requires.canonical c.args.y
+    c.in_ok-position.position c.requires.element
+    (c.in_ok-position.ensures s (sym c.words.ensures.value)) in
+    rising_with c.args.heap c.in_ok-position.position c.push.new.self (keys_from s s.order c.args.y)
+    c.in_ok-push.ensures.ok c.heaps.ensures.rising spelled.2

@@ -15,14 +15,22 @@ pub loop-y-preserved : goal.loop-y-preserved
 loop-y-preserved g c =
     let i = c.loop-y.invariant in
     let s = c.args.sheet.now in
-    let here : (claim_of s).portion (times_of s c.args.x c.loop-y.y) ≡ true = ap (claim_of s).portion (sym c.times.ensures.value) ∙ (sym c.holds.ensures ∙ c.if-not-holds.false) in
+    let here : (claim_of s).portion (times_of s c.args.x c.loop-y.y) ≡ true =
+    ap (claim_of s).portion (sym c.times.ensures.value)
+    ∙ (sym c.holds.ensures ∙ c.if-not-holds.false) in
     record {
       each = λ y h. elim (insert_has c.loop-y.all c.loop-y.y y (rw c.insert.ensures at h)) [
-        | inl e ↦ (omega arith, subst (λ v. (claim_of s).portion (times_of s c.args.x v) ≡ true) (sym e) here)
+        | inl e ↦ (
+          omega arith,
+          subst (λ v. (claim_of s).portion (times_of s c.args.x v) ≡ true)
+              (sym e) here,
+        )
         | inr o ↦ (let b = i.each y o in (omega arith, b.1))
       ];
       every = λ y b t. rw c.insert.ensures (elim (dec_lt y c.loop-y.y) [
         | yes l ↦ insert_old c.loop-y.all c.loop-y.y y (i.every y l t)
-        | no f ↦ (let d : c.loop-y.y ≡ y = omega arith in subst (λ v. set.contains (set.insert c.loop-y.all c.loop-y.y) v ≡ true) d (insert_new c.loop-y.all c.loop-y.y))
+        | no f ↦ (let d : c.loop-y.y ≡ y = omega arith in
+            subst (λ v. set.contains (set.insert c.loop-y.all c.loop-y.y) v ≡ true) d
+            (insert_new c.loop-y.all c.loop-y.y))
       ]);
     }

@@ -7,6 +7,9 @@ use Rattle.checker.proofs.elements.contexts.Given as goal
 abbrev pub invariant-loop-x : goal.invariant-loop-x
 invariant-loop-x g l = record {
   count : length l.all.items ≡ l.x;
-  each : (x y : ℕ) → x < l.x → set.contains (slice_index_or l.all.items x set.empty) y ≡ true → (y < l.sheet.order) × ((claim_of l.sheet).portion (times_of l.sheet x y) ≡ true);
-  every : (x y : ℕ) → x < l.x → y < l.sheet.order → (claim_of l.sheet).portion (times_of l.sheet x y) ≡ true → set.contains (slice_index_or l.all.items x set.empty) y ≡ true;
+  each : (x y : ℕ) → x < l.x → set.contains (slice_index_or l.all.items x set.empty) y ≡ true
+      → (y < l.sheet.order) × ((claim_of l.sheet).portion (times_of l.sheet x y) ≡ true);
+  every : (x y : ℕ) → x < l.x → y < l.sheet.order
+      → (claim_of l.sheet).portion (times_of l.sheet x y) ≡ true
+      → set.contains (slice_index_or l.all.items x set.empty) y ≡ true;
 }

@@ -18,7 +18,10 @@ returns-then-left-eq0-clause-comes g c = record {
 pub returns-in-Ok-clause-comes : goal.returns-in-Ok-clause-comes
 returns-in-Ok-clause-comes g c = record {
   to = Laws c.new.result;
-  runs = runs-one c.args.bytes.now c.args.limit _ Reading _ (omega arith) (ap Laws c.new.ensures.value ∙ opened-read _ _ (c.reading_is_spelling.ensures.again _ _ c.in-Ok.ensures.ok));
+  runs =
+      runs-one c.args.bytes.now c.args.limit _ Reading _ (omega arith)
+      (ap Laws c.new.ensures.value
+      ∙ opened-read _ _ (c.reading_is_spelling.ensures.again _ _ c.in-Ok.ensures.ok));
   shown = inl refl;
   exact = λ h. omega arith;
 }
@@ -26,7 +29,10 @@ returns-in-Ok-clause-comes g c = record {
 pub returns-in-Err-Text-clause-comes : goal.returns-in-Err-Text-clause-comes
 returns-in-Err-Text-clause-comes g c = record {
   to = Ended Text;
-  runs = runs-one c.args.bytes.now c.args.limit _ Reading _ (omega arith) (opened-text c.reading_is_spelling.ensures.takes _ (c.read.ensures.text (c.in-Err-Text.is ∙ ap Err c.in-Err-Text.field-0-is)));
+  runs =
+      runs-one c.args.bytes.now c.args.limit _ Reading _ (omega arith)
+      (opened-text c.reading_is_spelling.ensures.takes _
+      (c.read.ensures.text (c.in-Err-Text.is ∙ ap Err c.in-Err-Text.field-0-is)));
   shown = inl refl;
   exact = λ h. omega arith;
 }

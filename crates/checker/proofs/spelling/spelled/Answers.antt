@@ -10,7 +10,9 @@ pub push-requires : goal.push-requires
 push-requires g c =
     let ws = c.args.words.now in
     let r = c.loop-reached.reached in
-    let k : (c.key.inside.element, c.key.inside.heap) ≡ key_in ws r = c.key.view_is ∙ key_is ws r c.index-words-reached.result c.loop-reached-test.true c.loop-reached.invariant.0 c.index-words-reached.is in
+    let k : (c.key.inside.element, c.key.inside.heap) ≡ key_in ws r =
+    c.key.view_is ∙ key_is ws r c.index-words-reached.result c.loop-reached-test.true
+    c.loop-reached.invariant.0 c.index-words-reached.is in
     let e : c.key.inside.heap ≡ (key_in ws r).1 = ap (λ (p : ℕ × ℕ). p.1) k in
     let one = c.requires.down.heap r c.loop-reached-test.true c.loop-reached.invariant.0 in
     (omega arith, omega arith)
@@ -19,7 +21,9 @@ pub loop-reached-smaller : goal.loop-reached-smaller
 loop-reached-smaller g c =
     let ws = c.args.words.now in
     let r = c.loop-reached.reached in
-    let k : (c.key.inside.element, c.key.inside.heap) ≡ key_in ws r = c.key.view_is ∙ key_is ws r c.index-words-reached.result c.loop-reached-test.true c.loop-reached.invariant.0 c.index-words-reached.is in
+    let k : (c.key.inside.element, c.key.inside.heap) ≡ key_in ws r =
+    c.key.view_is ∙ key_is ws r c.index-words-reached.result c.loop-reached-test.true
+    c.loop-reached.invariant.0 c.index-words-reached.is in
     let e : c.key.inside.element ≡ (key_in ws r).0 = ap (λ (p : ℕ × ℕ). p.0) k in
     let down = c.requires.down.parent r c.loop-reached-test.true c.loop-reached.invariant.0 in
     omega (arith, e, down)
@@ -29,7 +33,9 @@ loop-reached-preserved g c =
     let ws = c.args.words.now in
     let r = c.loop-reached.reached in
     let i = c.loop-reached.invariant in
-    let k : (c.key.inside.element, c.key.inside.heap) ≡ key_in ws r = c.key.view_is ∙ key_is ws r c.index-words-reached.result c.loop-reached-test.true i.0 c.index-words-reached.is in
+    let k : (c.key.inside.element, c.key.inside.heap) ≡ key_in ws r =
+    c.key.view_is ∙ key_is ws r c.index-words-reached.result c.loop-reached-test.true i.0
+    c.index-words-reached.is in
     let e : c.key.inside.element ≡ (key_in ws r).0 = ap (λ (p : ℕ × ℕ). p.0) k in
     let h : c.key.inside.heap ≡ (key_in ws r).1 = ap (λ (p : ℕ × ℕ). p.1) k in
     let down = c.requires.down.parent r c.loop-reached-test.true i.0 in
@@ -38,8 +44,10 @@ loop-reached-preserved g c =
       (
         path ++ (key_in ws r).1 ∷ [],
         IsPermutation-push_more path c.loop-reached.position c.push.new.self (key_in ws r).1 i.1.1
-            (subst (λ (x : ℕ). IsPermutation (x ∷ c.loop-reached.position) c.push.new.self) h c.in_ok-push.ensures.ok),
-        λ d same Y s. key_more d ws same c.args.element r path c.loop-reached-test.true (i.1.2 d same) Y (subst (λ (x : ℕ). IsSpelled d x Y) e s),
+            (subst (λ (x : ℕ). IsPermutation (x ∷ c.loop-reached.position) c.push.new.self) h
+            c.in_ok-push.ensures.ok),
+        λ d same Y s. key_more d ws same c.args.element r path c.loop-reached-test.true
+            (i.1.2 d same) Y (subst (λ (x : ℕ). IsSpelled d x Y) e s),
       ),
     )
 

@@ -7,7 +7,8 @@ invariant-loop-reached g l =
     (l.reached ≤ length l.words)
     × ((path : List ℕ)
     × IsPermutation path l.position
-    × ((c : Certificate) → c.words ≡ l.words → (Y : List ℕ) → IsSpelled c l.reached Y → IsSpelled c l.fn.element (path ++ Y)))
+    × ((c : Certificate) → c.words ≡ l.words → (Y : List ℕ) → IsSpelled c l.reached Y
+    → IsSpelled c l.fn.element (path ++ Y)))
 
 abbrev pub decreases-loop-reached : goal.decreases-loop-reached
 decreases-loop-reached g l = l.reached

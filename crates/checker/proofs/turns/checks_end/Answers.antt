@@ -4,28 +4,49 @@ use Rattle.checker.proofs.turns.checks_end.Goals as goal
 
 pub returns-clause-falls : goal.returns-clause-falls
 returns-clause-falls c = λ bytes limit p s e.
-    let f = falls bytes limit c.reading_is_spelling.ensures.ranges c.heap_jobs_end.ensures.cost (closures_fewer c.closures_cost.ensures.bound c.closures_cost.ensures.ends) p s e in (f.1, f.0)
+    let f = falls bytes limit c.reading_is_spelling.ensures.ranges c.heap_jobs_end.ensures.cost
+    (closures_fewer c.closures_cost.ensures.bound c.closures_cost.ensures.ends) p s e in
+    (f.1, f.0)
 
 pub returns-clause-most : goal.returns-clause-most
-returns-clause-most c = λ bytes limit. cost_most bytes limit c.reading_is_spelling.ensures.ranges c.heap_jobs_end.ensures.cost (closures_fewer c.closures_cost.ensures.bound c.closures_cost.ensures.ends)
+returns-clause-most c =
+    λ bytes limit. cost_most bytes limit c.reading_is_spelling.ensures.ranges
+    c.heap_jobs_end.ensures.cost
+    (closures_fewer c.closures_cost.ensures.bound c.closures_cost.ensures.ends)
 
 pub returns-clause-ends : goal.returns-clause-ends
-returns-clause-ends c = λ bytes limit. cost_ends bytes limit c.reading_is_spelling.ensures.ranges c.heap_jobs_end.ensures.cost (closures_fewer c.closures_cost.ensures.bound c.closures_cost.ensures.ends)
+returns-clause-ends c =
+    λ bytes limit. cost_ends bytes limit c.reading_is_spelling.ensures.ranges
+    c.heap_jobs_end.ensures.cost
+    (closures_fewer c.closures_cost.ensures.bound c.closures_cost.ensures.ends)
 
 pub returns-clause-spent : goal.returns-clause-spent
-returns-clause-spent c = λ bytes limit n p. spent_is bytes limit c.reading_is_spelling.ensures.ranges c.heap_jobs_end.ensures.cost (closures_fewer c.closures_cost.ensures.bound c.closures_cost.ensures.ends) n p
+returns-clause-spent c =
+    λ bytes limit n p. spent_is bytes limit c.reading_is_spelling.ensures.ranges
+    c.heap_jobs_end.ensures.cost
+    (closures_fewer c.closures_cost.ensures.bound c.closures_cost.ensures.ends) n p
 
 pub returns-clause-few : goal.returns-clause-few
-returns-clause-few c = λ bytes limit l. bound_is_few bytes limit c.reading_is_spelling.ensures.ranges l
+returns-clause-few c =
+    λ bytes limit l. bound_is_few bytes limit c.reading_is_spelling.ensures.ranges l
 
 pub returns-clause-within : goal.returns-clause-within
-returns-clause-within c = λ bytes limit n p. within_bound bytes limit c.reading_is_spelling.ensures.ranges c.heap_jobs_end.ensures.cost (closures_fewer c.closures_cost.ensures.bound c.closures_cost.ensures.ends) n p
+returns-clause-within c =
+    λ bytes limit n p. within_bound bytes limit c.reading_is_spelling.ensures.ranges
+    c.heap_jobs_end.ensures.cost
+    (closures_fewer c.closures_cost.ensures.bound c.closures_cost.ensures.ends) n p
 
 pub returns-clause-least : goal.returns-clause-least
-returns-clause-least c = λ bytes limit d. yes_costs bytes limit c.reading_is_spelling.ensures.ranges c.heap_jobs_end.ensures.cost (closures_fewer c.closures_cost.ensures.bound c.closures_cost.ensures.ends) d
+returns-clause-least c =
+    λ bytes limit d. yes_costs bytes limit c.reading_is_spelling.ensures.ranges
+    c.heap_jobs_end.ensures.cost
+    (closures_fewer c.closures_cost.ensures.bound c.closures_cost.ensures.ends) d
 
 pub returns-clause-some : goal.returns-clause-some
 returns-clause-some c = λ bytes limit. some_cost bytes limit
 
 pub returns-clause-before : goal.returns-clause-before
-returns-clause-before c = λ bytes limit n p. spent_before bytes limit c.reading_is_spelling.ensures.ranges c.heap_jobs_end.ensures.cost (closures_fewer c.closures_cost.ensures.bound c.closures_cost.ensures.ends) n p
+returns-clause-before c =
+    λ bytes limit n p. spent_before bytes limit c.reading_is_spelling.ensures.ranges
+    c.heap_jobs_end.ensures.cost
+    (closures_fewer c.closures_cost.ensures.bound c.closures_cost.ensures.ends) n p

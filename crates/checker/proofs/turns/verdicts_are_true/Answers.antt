@@ -28,5 +28,9 @@ returns c = λ bytes limit.
       accepted = c.tested_certificates_are_accepted.ensures;
     } in
     let right = verdict_right texts known bytes limit (c.checks_end.ensures.ends bytes limit) in
-    let is = c.true_answers.ensures bytes limit _ right.0 in
-    (is, right.1, λ d e yes spelled. c.spellings_are_unique.ensures.value bytes d e (is.yes d yes).0 spelled)
+    let is = c.true_answers.ensures bytes limit _ right.0 in (
+      is,
+      right.1,
+      λ d e yes spelled. c.spellings_are_unique.ensures.value bytes d e (is.yes d yes).0
+          spelled,
+    )

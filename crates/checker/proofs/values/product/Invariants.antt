@@ -5,7 +5,8 @@ use Rattle.misere_theory.specs.Quotients.{value}
 use Rattle.checker.proofs.values.product.Given as goal
 
 abbrev pub invariant-loop-at : goal.invariant-loop-at
-invariant-loop-at g l = (l.at ≤ length l.heaps) × (l.all ≡ value (claim_of l.cert) (drop l.at l.heaps)) × (l.all < l.cert.order)
+invariant-loop-at g l = (l.at ≤ length l.heaps)
+    × (l.all ≡ value (claim_of l.cert) (drop l.at l.heaps)) × (l.all < l.cert.order)
 
 abbrev pub decreases-loop-at : goal.decreases-loop-at
 decreases-loop-at g l = l.at

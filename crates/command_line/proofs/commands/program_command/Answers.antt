@@ -4,7 +4,8 @@ use Rattle.command_line.proofs.commands.program_command.Goals as goal
 
 pub returns : goal.returns
 returns c =
-    let one = c.with-program.ensures misere check c.misere_command.ensures c.check_command.ensures refl in
+    let one =
+    c.with-program.ensures misere check c.misere_command.ensures c.check_command.ensures refl in
     let two = c.with-program-2.ensures _ solve one c.solve_command.ensures refl in
     let three = c.with-program-3.ensures _ show two c.show_command.ensures refl in
     let four = c.with-program-4.ensures _ play three c.play_command.ensures refl in

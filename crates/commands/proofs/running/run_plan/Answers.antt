@@ -11,8 +11,10 @@ returns-in-Ok-clause-obeys g c =
 
 pub returns-in-Err-clause-obeys : goal.returns-in-Err-clause-obeys
 returns-in-Err-clause-obeys g c =
-    Stopped c.in-Err.stop c.in-Err.ensures.stops c.in-Err.ensures.kept refl c.tell.ensures (search rules)
+    Stopped c.in-Err.stop c.in-Err.ensures.stops c.in-Err.ensures.kept refl c.tell.ensures
+    (search rules)
 
 pub returns-in-Desk-clause-obeys : goal.returns-in-Desk-clause-obeys
 returns-in-Desk-clause-obeys g c =
-    Stepped c.in-Desk.script.now (ap request_of c.in-Desk.is) c.run_file.ensures.ends c.run_file.ensures.kept
+    Stepped c.in-Desk.script.now (ap request_of c.in-Desk.is) c.run_file.ensures.ends
+    c.run_file.ensures.kept

@@ -7,20 +7,30 @@ use Rattle.desk.proofs.cores.core_for.Goals as goal
 
 pub returns-in_err-push-clause-err : goal.returns-in_err-push-clause-err
 returns-in_err-push-clause-err g c =
-    let none : HasNoCore c.args.cores.now.items c.args.bytes.items c.args.limit = subst (λ (b : List ℕ). HasNoCore c.args.cores.now.items b c.args.limit) c.deref.ensures.value c.in_default.ensures.none in
-    on_err ((c.push.new.self.items ≡ c.args.cores.now.items) × HasNoCore c.args.cores.now.items c.args.bytes.items c.args.limit) c.from_residual.result (c.in_err-push.ensures.items, none)
+    let none : HasNoCore c.args.cores.now.items c.args.bytes.items c.args.limit =
+    subst (λ (b : List ℕ). HasNoCore c.args.cores.now.items b c.args.limit)
+    c.deref.ensures.value c.in_default.ensures.none in
+    on_err ((c.push.new.self.items ≡ c.args.cores.now.items)
+    × HasNoCore c.args.cores.now.items c.args.bytes.items c.args.limit) c.from_residual.result
+    (c.in_err-push.ensures.items, none)
 
 pub returns-in-Some-vacancy-clause-ok : goal.returns-in-Some-vacancy-clause-ok
 returns-in-Some-vacancy-clause-ok g c =
     let cores = c.args.cores.now.items in
     let k = c.in-Some-vacancy.core in
-    let none : HasNoCore cores c.args.bytes.items c.args.limit = subst (λ (b : List ℕ). HasNoCore cores b c.args.limit) c.deref.ensures.value c.in_default.ensures.none in
+    let none : HasNoCore cores c.args.bytes.items c.args.limit =
+    subst (λ (b : List ℕ). HasNoCore cores b c.args.limit) c.deref.ensures.value
+    c.in_default.ensures.none in
     let P : Option JobView → Type 0 = λ new. IsWith cores k new c.put.new.cores.items in
     inr (none, c.in-Some-vacancy.ensures.1, subst P (ap Some c.open.ensures) c.put.ensures)
 
 pub returns-clause-ok : goal.returns-clause-ok
 returns-clause-ok g c =
-    let none : HasNoCore c.args.cores.now.items c.args.bytes.items c.args.limit = subst (λ (b : List ℕ). HasNoCore c.args.cores.now.items b c.args.limit) c.deref.ensures.value c.in_default.ensures.none in
+    let none : HasNoCore c.args.cores.now.items c.args.bytes.items c.args.limit =
+    subst (λ (b : List ℕ). HasNoCore c.args.cores.now.items b c.args.limit)
+    c.deref.ensures.value c.in_default.ensures.none in
     let len = c.args.cores.now.ok in
     let at : c.len-core.result ≡ length c.args.cores.now.items = omega arith in
-    core_for_push c.args.cores.now.items c.push.new.self.items c.len-core.result c.args.bytes.items c.args.limit (Some c.open-2.result) none at (ap Some c.open-2.ensures) c.in_ok-push.ensures.items
+    core_for_push c.args.cores.now.items c.push.new.self.items c.len-core.result c.args.bytes.items
+    c.args.limit (Some c.open-2.result) none at (ap Some c.open-2.ensures)
+    c.in_ok-push.ensures.items

@@ -5,24 +5,32 @@ use Rattle.desk.proofs.jobs.certified_at.Goals as goal
 
 pub index-requires : goal.index-requires
 index-requires g c =
-    let within : c.in-Some.slot.core < length c.args.cores.now.items = core_within c.args.places.now c.args.cores.now.items c.args.place c.in-Some.slot c.requires.desk c.in-Some.is in
+    let within : c.in-Some.slot.core < length c.args.cores.now.items =
+    core_within c.args.places.now c.args.cores.now.items c.args.place c.in-Some.slot
+    c.requires.desk c.in-Some.is in
     let len = c.args.cores.now.ok in
     omega arith
 
 pub returns-in-Yes : goal.returns-in-Yes
 returns-in-Yes g c =
-    let job = ended_job c.args.places.now c.args.cores.now.items c.args.place c.in-Some.slot c.in-Some-index.core c.index.result.now c.requires.desk c.in-Some.is c.in-Ended.is
+    let job =
+    ended_job c.args.places.now c.args.cores.now.items c.args.place c.in-Some.slot
+    c.in-Some-index.core c.index.result.now c.requires.desk c.in-Some.is c.in-Ended.is
     (sym c.index.ensures ∙ c.in-Some-index.is) in
     certifies_yes _ job.0 c.in-Yes.certified job.1 (job.2 ∙ c.in-Yes.ensures.shown)
 
 pub returns-in-No : goal.returns-in-No
 returns-in-No g c =
-    let job = ended_job c.args.places.now c.args.cores.now.items c.args.place c.in-Some.slot c.in-Some-index.core c.index.result.now c.requires.desk c.in-Some.is c.in-Ended.is
+    let job =
+    ended_job c.args.places.now c.args.cores.now.items c.args.place c.in-Some.slot
+    c.in-Some-index.core c.index.result.now c.requires.desk c.in-Some.is c.in-Ended.is
     (sym c.index.ensures ∙ c.in-Some-index.is) in
     certifies_no _ job.0 c.in-No.field-0.now job.1 (job.2 ∙ c.in-No.ensures.shown)
 
 pub returns-in-Going : goal.returns-in-Going
 returns-in-Going g c =
-    let job = ended_job c.args.places.now c.args.cores.now.items c.args.place c.in-Some.slot c.in-Some-index.core c.index.result.now c.requires.desk c.in-Some.is c.in-Ended.is
+    let job =
+    ended_job c.args.places.now c.args.cores.now.items c.args.place c.in-Some.slot
+    c.in-Some-index.core c.index.result.now c.requires.desk c.in-Some.is c.in-Ended.is
     (sym c.index.ensures ∙ c.in-Some-index.is) in
     certifies_going _ job.0 job.1 (job.2 ∙ c.in-Going.ensures.shown)

@@ -6,7 +6,9 @@ use Rattle.desk.proofs.jobs.give_up_at.Goals as goal
 
 pub put-requires : goal.put-requires
 put-requires g c =
-    let within : c.in-Some.slot.core < length c.args.cores.now.items = core_within c.args.places.now c.args.cores.now.items c.args.place c.in-Some.slot c.requires.desk c.in-Some.is in
+    let within : c.in-Some.slot.core < length c.args.cores.now.items =
+    core_within c.args.places.now c.args.cores.now.items c.args.place c.in-Some.slot
+    c.requires.desk c.in-Some.is in
     let len = c.args.cores.now.ok in
     omega arith
 
@@ -18,8 +20,10 @@ returns-then-not-is_held-clause-desk g c =
     let emptied = with_set places c.args.place None c.requires.place in
     let gone = c.put.ensures in
     let free = c.if-not-is_held.ensures.none refl in
-    desk_emptied places _ cores _ c.args.place c.requires.desk emptied (stay_without _ cores _ k gone free) (only_without _ cores _ k gone free)
-    (used_without places _ cores c.args.place c.in-Some.slot c.requires.desk c.in-Some.is emptied _ gone)
+    desk_emptied places _ cores _ c.args.place c.requires.desk emptied
+    (stay_without _ cores _ k gone free) (only_without _ cores _ k gone free)
+    (used_without places _ cores c.args.place c.in-Some.slot c.requires.desk c.in-Some.is emptied _
+    gone)
 
 pub returns-then-not-is_held-clause-jobs : goal.returns-then-not-is_held-clause-jobs
 returns-then-not-is_held-clause-jobs g c =
@@ -29,21 +33,27 @@ returns-then-not-is_held-clause-jobs g c =
     let emptied = with_set places c.args.place None c.requires.place in
     let gone = c.put.ensures in
     let free = c.if-not-is_held.ensures.none refl in
-    λ yes. jobs_emptied places _ cores _ c.args.place c.requires.desk emptied (stay_without _ cores _ k gone free) (only_without _ cores _ k gone free)
-    (used_without places _ cores c.args.place c.in-Some.slot c.requires.desk c.in-Some.is emptied _ gone)
+    λ yes. jobs_emptied places _ cores _ c.args.place c.requires.desk emptied
+    (stay_without _ cores _ k gone free) (only_without _ cores _ k gone free)
+    (used_without places _ cores c.args.place c.in-Some.slot c.requires.desk c.in-Some.is emptied _
+    gone)
 
 pub returns-else-not-is_held-clause-desk : goal.returns-else-not-is_held-clause-desk
 returns-else-not-is_held-clause-desk g c =
     let places = c.args.places.now in
     let cores = c.args.cores.now.items in
     let emptied = with_set places c.args.place None c.requires.place in
-    desk_emptied places _ cores _ c.args.place c.requires.desk emptied (λ j r at. refl) (λ k a at. at)
-    (used_held places _ cores c.args.place c.in-Some.slot c.requires.desk c.in-Some.is emptied (c.if-not-is_held.ensures.some refl))
+    desk_emptied places _ cores _ c.args.place c.requires.desk emptied (λ j r at. refl)
+    (λ k a at. at)
+    (used_held places _ cores c.args.place c.in-Some.slot c.requires.desk c.in-Some.is emptied
+    (c.if-not-is_held.ensures.some refl))
 
 pub returns-else-not-is_held-clause-jobs : goal.returns-else-not-is_held-clause-jobs
 returns-else-not-is_held-clause-jobs g c =
     let places = c.args.places.now in
     let cores = c.args.cores.now.items in
     let emptied = with_set places c.args.place None c.requires.place in
-    λ yes. jobs_emptied places _ cores _ c.args.place c.requires.desk emptied (λ j r at. refl) (λ k a at. at)
-    (used_held places _ cores c.args.place c.in-Some.slot c.requires.desk c.in-Some.is emptied (c.if-not-is_held.ensures.some refl))
+    λ yes. jobs_emptied places _ cores _ c.args.place c.requires.desk emptied (λ j r at. refl)
+    (λ k a at. at)
+    (used_held places _ cores c.args.place c.in-Some.slot c.requires.desk c.in-Some.is emptied
+    (c.if-not-is_held.ensures.some refl))

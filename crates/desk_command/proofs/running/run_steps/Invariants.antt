@@ -7,6 +7,8 @@ use Rattle.desk_command.proofs.running.run_steps.Given as goal
 
 abbrev pub invariant-loop-step : goal.invariant-loop-step
 invariant-loop-step g l =
-    HasGone (g.F.Folder.files l.initial.folder) (g.F.Folder.files l.folder) (steps_of l.fn.steps.items) (steps_of (into_iter_items l.step-iterator)) (state_of l.desk)
+    HasGone (g.F.Folder.files l.initial.folder) (g.F.Folder.files l.folder)
+    (steps_of l.fn.steps.items) (steps_of (into_iter_items l.step-iterator)) (state_of l.desk)
     (g.F.Folder.failed_reads l.initial.folder) (g.F.Folder.failed_reads l.folder)
-    (printer (g.W.Sink.taken l.initial.sink) (g.W.Sink.failures l.initial.sink)) (printer (g.W.Sink.taken l.sink) (g.W.Sink.failures l.sink))
+    (printer (g.W.Sink.taken l.initial.sink) (g.W.Sink.failures l.initial.sink))
+    (printer (g.W.Sink.taken l.sink) (g.W.Sink.failures l.sink))

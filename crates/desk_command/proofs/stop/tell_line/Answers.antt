@@ -4,6 +4,8 @@ use Rattle.desk_command.proofs.stop.tell_line.Goals as goal
 
 pub returns : goal.returns
 returns g c =
-    subst (λ (t : List ℕ). Tells (printer (g.E.Sink.taken c.args.err.now) (g.E.Sink.failures c.args.err.now))
-    (printer (g.E.Sink.taken c.tell.new.err) (g.E.Sink.failures c.tell.new.err)) (codes "misere: line " ++ (t ++ codes " isn't a step\n")))
+    subst (λ (t : List ℕ).
+    Tells (printer (g.E.Sink.taken c.args.err.now) (g.E.Sink.failures c.args.err.now))
+    (printer (g.E.Sink.taken c.tell.new.err) (g.E.Sink.failures c.tell.new.err))
+    (codes "misere: line " ++ (t ++ codes " isn't a step\n")))
     c.format.ensures.text c.tell.ensures

@@ -6,4 +6,5 @@ use Rattle.element_sets.proofs.ElementSet.contains.Goals as goal
 
 pub returns : goal.returns
 returns c =
-    ap (λ n. eqb n 1) (shr_and_one _ _) ∙ sym (contains-set_of _ c.args.x) ∙ ap (λ s. set.contains s c.args.x) c.self.view_is
+    ap (λ n. eqb n 1) (shr_and_one _ _) ∙ sym (contains-set_of _ c.args.x)
+    ∙ ap (λ s. set.contains s c.args.x) c.self.view_is

@@ -9,4 +9,8 @@ returns c =
     set_of-set _ c.args.x (omega arith) ∙ ap (λ s. set.insert s c.args.x) c.self.view_is
 
 pub invariant_of-self : goal.invariant_of-self
-invariant_of-self c = record { length_is = length-set _ _ _ ∙ c.self.told; fits = one_more_fits _ _ _ (omega arith) c.self.invariant.fits }
+invariant_of-self c =
+    record {
+      length_is = length-set _ _ _ ∙ c.self.told;
+      fits = one_more_fits _ _ _ (omega arith) c.self.invariant.fits;
+    }

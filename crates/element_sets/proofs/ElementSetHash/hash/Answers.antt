@@ -5,4 +5,6 @@ use Rattle.element_sets.specs.LaneLaws.{lanes_of-set_of}
 use Rattle.element_sets.proofs.ElementSetHash.hash.Goals as goal
 
 pub returns : goal.returns
-returns g c = c.hash.ensures ∙ ap (λ ls. fold g.H.Hasher.write c.args.state.now (fed.slice fed.u64 ls)) (sym (lanes_of-set_of 4 _ c.self.told c.self.invariant.fits) ∙ ap (lanes_of 4) c.self.view_is)
+returns g c =
+    c.hash.ensures ∙ ap (λ ls. fold g.H.Hasher.write c.args.state.now (fed.slice fed.u64 ls))
+    (sym (lanes_of-set_of 4 _ c.self.told c.self.invariant.fits) ∙ ap (lanes_of 4) c.self.view_is)

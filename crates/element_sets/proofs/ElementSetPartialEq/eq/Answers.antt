@@ -4,4 +4,6 @@ use Rattle.element_sets.proofs.SetLaws.{eq_is}
 use Rattle.element_sets.proofs.ElementSetPartialEq.eq.Goals as goal
 
 pub returns : goal.returns
-returns c = c.eq.ensures ∙ eq_is _ _ (c.self.told ∙ sym c.other.told) c.self.invariant.fits c.other.invariant.fits ∙ ap₂ same c.self.view_is c.other.view_is
+returns c =
+    c.eq.ensures ∙ eq_is _ _ (c.self.told ∙ sym c.other.told) c.self.invariant.fits
+    c.other.invariant.fits ∙ ap₂ same c.self.view_is c.other.view_is

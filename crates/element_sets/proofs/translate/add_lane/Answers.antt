@@ -5,20 +5,28 @@ use Rattle.element_sets.proofs.translate.add_lane.Goals as goal
 
 pub overflow_add-base : goal.overflow_add-base
 overflow_add-base c =
-    let here = lowest_can c.loop-word.word c.args.base c.args.row.now (omega arith) (omega arith) c.loop-word.invariant.can in
+    let here =
+    lowest_can c.loop-word.word c.args.base c.args.row.now (omega arith) (omega arith)
+    c.loop-word.invariant.can in
     omega arith
 
 pub offset_bounds-row-base : goal.offset_bounds-row-base
 offset_bounds-row-base c =
-    let here = lowest_can c.loop-word.word c.args.base c.args.row.now (omega arith) (omega arith) c.loop-word.invariant.can in
+    let here =
+    lowest_can c.loop-word.word c.args.base c.args.row.now (omega arith) (omega arith)
+    c.loop-word.invariant.can in
     omega arith
 
 pub bounds-row-base : goal.bounds-row-base
-bounds-row-base c = (lowest_can c.loop-word.word c.args.base c.args.row.now (omega arith) (omega arith) c.loop-word.invariant.can).1
+bounds-row-base c =
+    (lowest_can c.loop-word.word c.args.base c.args.row.now (omega arith) (omega arith)
+    c.loop-word.invariant.can).1
 
 pub overflow_cast-row : goal.overflow_cast-row
 overflow_cast-row c =
-    let here = lowest_can c.loop-word.word c.args.base c.args.row.now (omega arith) (omega arith) c.loop-word.invariant.can in
+    let here =
+    lowest_can c.loop-word.word c.args.base c.args.row.now (omega arith) (omega arith)
+    c.loop-word.invariant.can in
     omega arith
 
 pub loop-word-smaller : goal.loop-word-smaller
@@ -27,14 +35,19 @@ loop-word-smaller c = falls c.loop-word.word (omega arith)
 pub loop-word-preserved : goal.loop-word-preserved
 loop-word-preserved c = record {
   same = λ q.
-      let one = taken c.loop-word.all c.loop-word.word c.args.base c.args.row.now (omega arith) (omega arith) q in
+      let one = taken c.loop-word.all c.loop-word.word c.args.base c.args.row.now (omega arith)
+      (omega arith) q in
       let before = c.loop-word.invariant.same q in
-      subst (λ s. Has s (without_lowest c.loop-word.word) c.args.base c.args.row.now q ↔ Has c.args.all.now c.args.lane c.args.base c.args.row.now q) (sym c.insert.ensures) (λ h. before.0 (one.0 h), λ h. one.1 (before.1 h));
-  can = can_still c.loop-word.word c.args.base c.args.row.now (omega arith) (omega arith) c.loop-word.invariant.can;
+      subst (λ s. Has s (without_lowest c.loop-word.word) c.args.base c.args.row.now q
+      ↔ Has c.args.all.now c.args.lane c.args.base c.args.row.now q) (sym c.insert.ensures)
+      (λ h. before.0 (one.0 h), λ h. one.1 (before.1 h));
+  can = can_still c.loop-word.word c.args.base c.args.row.now (omega arith) (omega arith)
+      c.loop-word.invariant.can;
 }
 
 pub returns : goal.returns
 returns c = λ q.
-    let done = nothing_left c.loop-word.all c.loop-word.word c.args.base c.args.row.now q (omega arith) in
+    let done = nothing_left c.loop-word.all c.loop-word.word c.args.base c.args.row.now q
+    (omega arith) in
     let all = c.loop-word.invariant.same q in
     (λ h. all.0 (done.0 h), λ h. done.1 (all.1 h))

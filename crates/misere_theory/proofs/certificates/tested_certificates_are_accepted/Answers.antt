@@ -12,9 +12,13 @@ pub returns : goal.returns
 returns g c kept ranges monoid canonical closed members elements =
     let claim = claim_of c in
     let inside : GivesElements IsHeap claim = λ n _. phi_in c ranges n in
-    let rule = rule_everywhere c.code claim monoid inside (length c.code - 1) c.start c.period (periodic c ranges) kept closed members elements in
+    let rule = rule_everywhere c.code claim monoid inside (length c.code - 1) c.start c.period
+    (periodic c ranges) kept closed members elements in
     record {
       in_ranges = ranges;
       canonical = canonical;
-      represents = represents IsHeap c.code claim monoid inside (predicts_from_rule IsHeap c.code claim (heaps_kept c.code) rule) (reached c ranges monoid canonical.numbered) (all_apart c canonical.apart);
+      represents =
+          represents IsHeap c.code claim monoid inside
+          (predicts_from_rule IsHeap c.code claim (heaps_kept c.code) rule)
+          (reached c ranges monoid canonical.numbered) (all_apart c canonical.apart);
     }

@@ -8,7 +8,8 @@ pub returns-clause-wrong : goal.returns-clause-wrong
 returns-clause-wrong g c limit answer r m k not h = outcome_or_limit c r m k not limit answer h
 
 pub returns-clause-faulty : goal.returns-clause-faulty
-returns-clause-faulty g c fault limit other answer r h a = fault_alone c r fault limit other answer h a
+returns-clause-faulty g c fault limit other answer r h a =
+    fault_alone c r fault limit other answer h a
 
 pub returns-clause-within : goal.returns-clause-within
 returns-clause-within g c limit r l h = never_past_all_pairs c r limit l h

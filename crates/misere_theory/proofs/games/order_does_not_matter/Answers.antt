@@ -12,4 +12,5 @@ pub returns-clause-outcome : goal.returns-clause-outcome
 returns-clause-outcome g code X Y s p = p_shuffled p (from_permutation X Y s)
 
 pub returns-clause-value : goal.returns-clause-value
-returns-clause-value g c X Y monoid phi_in p s = value_shuffled IsHeap c monoid phi_in (from_permutation X Y s) p
+returns-clause-value g c X Y monoid phi_in p s =
+    value_shuffled IsHeap c monoid phi_in (from_permutation X Y s) p

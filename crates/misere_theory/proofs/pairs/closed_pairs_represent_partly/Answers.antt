@@ -7,5 +7,6 @@ use Rattle.misere_theory.proofs.pairs.closed_pairs_represent_partly.Goals as goa
 pub returns : goal.returns
 returns g M code c kept monoid phi_in closed members elements reached apart =
     represents (IsHeapUpTo M) code c monoid phi_in
-    (predicts_from_rule (IsHeapUpTo M) code c (heaps_up_to_kept M code) (rule_up_to M code c monoid phi_in kept closed members elements))
+    (predicts_from_rule (IsHeapUpTo M) code c (heaps_up_to_kept M code)
+    (rule_up_to M code c monoid phi_in kept closed members elements))
     reached apart

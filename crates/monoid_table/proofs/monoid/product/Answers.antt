@@ -9,16 +9,26 @@ pub returns-clause-any_order : goal.returns-clause-any_order
 returns-clause-any_order g c = λ others p.
     let m = c.args.monoid.now in
     let whole = take_all c.loop-x.x-index c.args.elements.now c.loop-x-test.false in
-    c.loop-x.invariant.value ∙ ap (product_of (g.M.CommMonoid.identity m) (g.M.CommMonoid.multiply m)) whole
-    ∙ sym (product-permutation _ _ _ (g.met.M.CommMonoid.laws m c.one-all.ensures.lawful) c.args.elements.now others p (recursion_from_All (g.M.CommMonoid.is_in m) c.args.elements.now c.requires))
+    c.loop-x.invariant.value
+    ∙ ap (product_of (g.M.CommMonoid.identity m) (g.M.CommMonoid.multiply m)) whole
+    ∙ sym (product-permutation _ _ _ (g.met.M.CommMonoid.laws m c.one-all.ensures.lawful)
+    c.args.elements.now others p
+    (recursion_from_All (g.M.CommMonoid.is_in m) c.args.elements.now c.requires))
 
 pub loop-x-preserved : goal.loop-x-preserved
 loop-x-preserved g c =
     let m = c.args.monoid.now in
-    let value : c.times-all.result ≡ product_of (g.M.CommMonoid.identity m) (g.M.CommMonoid.multiply m) (take (c.loop-x.x-index + 1) c.args.elements.now) =
-    c.times-all.ensures ∙ ap (λ v. g.M.CommMonoid.multiply m v c.x-item.result) c.loop-x.invariant.value
-    ∙ product-take_more _ _ _ (g.met.M.CommMonoid.laws m c.one-all.ensures.lawful) c.args.elements.now c.loop-x.x-index c.x-item.result c.requires c.loop-x-test.true c.x-item.is in
+    let value : c.times-all.result ≡ product_of (g.M.CommMonoid.identity m)
+    (g.M.CommMonoid.multiply m) (take (c.loop-x.x-index + 1) c.args.elements.now) =
+    c.times-all.ensures ∙ ap (λ v. g.M.CommMonoid.multiply m v c.x-item.result)
+    c.loop-x.invariant.value
+    ∙ product-take_more _ _ _ (g.met.M.CommMonoid.laws m c.one-all.ensures.lawful)
+    c.args.elements.now c.loop-x.x-index c.x-item.result c.requires c.loop-x-test.true
+    c.x-item.is in
     record {
       value = value;
-      inside = subst (g.M.CommMonoid.is_in m) (sym value) (product-take_in _ _ _ (g.met.M.CommMonoid.laws m c.one-all.ensures.lawful) c.args.elements.now (c.loop-x.x-index + 1) c.requires);
+      inside =
+          subst (g.M.CommMonoid.is_in m) (sym value)
+          (product-take_in _ _ _ (g.met.M.CommMonoid.laws m c.one-all.ensures.lawful)
+          c.args.elements.now (c.loop-x.x-index + 1) c.requires);
     }

@@ -17,13 +17,16 @@ returns-then-stop-to-clause-within c =
 pub returns-then-stop-to-clause-passed : goal.returns-then-stop-to-clause-passed
 returns-then-stop-to-clause-passed c = λ i from before.
     run-passed _ _ c.args.spent c.first_breach-stop.result c.requires.shaped.positive (omega arith)
-    (sym c.holds_at_pair.ensures ∙ c.if-not-holds_at_pair.false) c.first_breach-stop.ensures.alike i from (omega arith)
+    (sym c.holds_at_pair.ensures ∙ c.if-not-holds_at_pair.false) c.first_breach-stop.ensures.alike i
+    from (omega arith)
 
 pub returns-then-stop-to-clause-last : goal.returns-then-stop-to-clause-last
 returns-then-stop-to-clause-last c =
-    let at : c.args.spent + (c.first_breach-stop.result - c.args.spent % c.args.order + 1) - 1 ≡ c.args.spent + (c.first_breach-stop.result - c.args.spent % c.args.order) = omega arith in
+    let at : c.args.spent + (c.first_breach-stop.result - c.args.spent % c.args.order + 1) - 1
+    ≡ c.args.spent + (c.first_breach-stop.result - c.args.spent % c.args.order) = omega arith in
     ap (triple_holds c.args.order c.args.rows.now) at
-    ∙ run-breach _ _ c.args.spent c.first_breach-stop.result c.requires.shaped.positive (omega arith) (omega arith) (c.first_breach-stop.ensures.breach (omega arith))
+    ∙ run-breach _ _ c.args.spent c.first_breach-stop.result c.requires.shaped.positive
+    (omega arith) (omega arith) (c.first_breach-stop.ensures.breach (omega arith))
 
 pub returns-clause-within : goal.returns-clause-within
 returns-clause-within c =
@@ -33,9 +36,11 @@ returns-clause-within c =
 pub returns-clause-passed : goal.returns-clause-passed
 returns-clause-passed c = λ i from before.
     run-passed _ _ c.args.spent c.first_breach-stop.result c.requires.shaped.positive (omega arith)
-    (sym c.holds_at_pair.ensures ∙ c.if-not-holds_at_pair.false) c.first_breach-stop.ensures.alike i from (omega arith)
+    (sym c.holds_at_pair.ensures ∙ c.if-not-holds_at_pair.false) c.first_breach-stop.ensures.alike i
+    from (omega arith)
 
 pub returns-clause-last : goal.returns-clause-last
 returns-clause-last c =
     run-passed _ _ c.args.spent c.first_breach-stop.result c.requires.shaped.positive (omega arith)
-    (sym c.holds_at_pair.ensures ∙ c.if-not-holds_at_pair.false) c.first_breach-stop.ensures.alike _ (omega arith) (omega arith)
+    (sym c.holds_at_pair.ensures ∙ c.if-not-holds_at_pair.false) c.first_breach-stop.ensures.alike _
+    (omega arith) (omega arith)

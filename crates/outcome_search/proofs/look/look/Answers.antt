@@ -11,8 +11,11 @@ pub loop-at-preserved-then-heaps-at : goal.loop-at-preserved-then-heaps-at
 loop-at-preserved-then-heaps-at g c =
     let X = c.args.position.now in
     let l = ap length c.heaps-heaps.ensures.value in
-    let same = subst (λ (h : List ℕ). get_or h (c.loop-at.at - 1) 0 ≡ get_or h c.loop-at.at 0) c.heaps-heaps.ensures.value c.if-heaps-at.true in
-    looked_again c.args.code.now X c.args.memo.now c.loop-at.at c.loop-at.can_move c.if-at-gt0.true (omega arith) same c.loop-at.invariant
+    let same =
+    subst (λ (h : List ℕ). get_or h (c.loop-at.at - 1) 0 ≡ get_or h c.loop-at.at 0)
+    c.heaps-heaps.ensures.value c.if-heaps-at.true in
+    looked_again c.args.code.now X c.args.memo.now c.loop-at.at c.loop-at.can_move c.if-at-gt0.true
+    (omega arith) same c.loop-at.invariant
 
 pub loop-at-preserved : goal.loop-at-preserved
 loop-at-preserved g c =
@@ -20,14 +23,21 @@ loop-at-preserved g c =
     let at = c.loop-at.at in
     let l = ap length c.heaps-heaps.ensures.value in
     let inside : at < length X = omega arith in
-    let Says : Seen → Type 0 = λ s. HasSeen c.args.code.now X c.args.memo.now at (options_of c.args.code.now (get_or X at 0)) s c.look_at.new.next in
+    let Says : Seen → Type 0 =
+    λ s. HasSeen c.args.code.now X c.args.memo.now at
+    (options_of c.args.code.now (get_or X at 0)) s c.look_at.new.next in
     let Looked : Bool → Type 0 = λ b. HasLooked c.args.code.now X c.args.memo.now (at + 1) b in
     elim c.match-branch-2.branch [
-      | in-Nothing w ↦ subst Looked (sym w.can_move-is) (looked_none c.args.code.now X c.args.memo.now at c.loop-at.can_move c.loop-at.invariant (subst Says w.in-Nothing.is c.in_ok-look_at.ensures))
+      | in-Nothing w ↦ subst Looked (sym w.can_move-is)
+          (looked_none c.args.code.now X c.args.memo.now at c.loop-at.can_move c.loop-at.invariant
+          (subst Says w.in-Nothing.is c.in_ok-look_at.ensures))
       | in-Loses w ↦
           let says = subst Says w.in-Loses.is c.in_ok-look_at.ensures in
-          subst Looked (sym w.can_move-is) (looked_loses c.args.code.now X c.args.memo.now at c.loop-at.can_move inside c.loop-at.invariant says.0 (heaps_of says.1.0)
-          (c.options_are_exact.ensures.only c.args.code.now (get_or X at 0) (get_or X at 0) says.1.0 says.1.1).0)
+          subst Looked (sym w.can_move-is)
+          (looked_loses c.args.code.now X c.args.memo.now at c.loop-at.can_move inside
+          c.loop-at.invariant says.0 (heaps_of says.1.0)
+          (c.options_are_exact.ensures.only c.args.code.now (get_or X at 0) (get_or X at 0) says.1.0
+          says.1.1).0)
     ]
 
 pub returns-then-can_move : goal.returns-then-can_move
@@ -35,7 +45,9 @@ returns-then-can_move g c =
     let X = c.args.position.now in
     let l = ap length c.heaps-heaps.ensures.value in
     let over : c.loop-at.at ≡ length X = let end = c.loop-at.auto.at-end in omega arith in
-    let all = subst (λ (n : ℕ). HasLooked c.args.code.now X c.args.memo.now n true) over (subst (λ b. HasLooked c.args.code.now X c.args.memo.now c.loop-at.at b) c.if-can_move.true c.loop-at.invariant) in
+    let all = subst (λ (n : ℕ). HasLooked c.args.code.now X c.args.memo.now n true) over
+    (subst (λ b. HasLooked c.args.code.now X c.args.memo.now c.loop-at.at b) c.if-can_move.true
+    c.loop-at.invariant) in
     looked_all c.args.code.now X c.args.memo.now c.options_are_exact.ensures.each true all
 
 pub returns-else-can_move : goal.returns-else-can_move
@@ -43,5 +55,7 @@ returns-else-can_move g c =
     let X = c.args.position.now in
     let l = ap length c.heaps-heaps.ensures.value in
     let over : c.loop-at.at ≡ length X = let end = c.loop-at.auto.at-end in omega arith in
-    let all = subst (λ (n : ℕ). HasLooked c.args.code.now X c.args.memo.now n false) over (subst (λ b. HasLooked c.args.code.now X c.args.memo.now c.loop-at.at b) c.if-can_move.false c.loop-at.invariant) in
+    let all = subst (λ (n : ℕ). HasLooked c.args.code.now X c.args.memo.now n false) over
+    (subst (λ b. HasLooked c.args.code.now X c.args.memo.now c.loop-at.at b) c.if-can_move.false
+    c.loop-at.invariant) in
     looked_all c.args.code.now X c.args.memo.now c.options_are_exact.ensures.each false all

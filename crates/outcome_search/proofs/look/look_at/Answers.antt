@@ -11,36 +11,53 @@ use Rattle.outcome_search.proofs.look.look_at.Goals as goal
 pub set_moved-requires-clause-sizes : goal.set_moved-requires-clause-sizes
 set_moved-requires-clause-sizes g c =
     let n = slice_index c.args.position.now c.args.at in
-    let (whole, listed) = walked _ _ (options_of c.args.code.now n) c.in-Some.left c.next.new.self c.loop-left.invariant.0 c.in-Some.ensures.steps in
-    option_fits c.args.code.now n 1000000000000000000 (heaps_of c.in-Some.left) (c.options_are_exact.ensures.only c.args.code.now n n c.in-Some.left listed).0 (c.heaps.ensures.sizes c.args.at 0 c.requires).1
+    let (whole, listed) =
+    walked _ _ (options_of c.args.code.now n) c.in-Some.left c.next.new.self
+    c.loop-left.invariant.0 c.in-Some.ensures.steps in
+    option_fits c.args.code.now n 1000000000000000000 (heaps_of c.in-Some.left)
+    (c.options_are_exact.ensures.only c.args.code.now n n c.in-Some.left listed).0
+    (c.heaps.ensures.sizes c.args.at 0 c.requires).1
 
 pub returns-in-Some-P : goal.returns-in-Some-P
 returns-in-Some-P g c =
     let is : known c.args.memo.now c.set_moved.new.self ≡ Some P = cc in
     let n = slice_index c.args.position.now c.args.at in
-    let (whole, listed) = walked _ _ (options_of c.args.code.now n) c.in-Some.left c.next.new.self c.loop-left.invariant.0 c.in-Some.ensures.steps in
+    let (whole, listed) =
+    walked _ _ (options_of c.args.code.now n) c.in-Some.left c.next.new.self
+    c.loop-left.invariant.0 c.in-Some.ensures.steps in
     wins_by c.args.code.now c.args.position.now c.set_moved.new.self c.args.memo.now
-    (move_from_place c.args.code.now c.args.position.now c.args.at (heaps_of c.in-Some.left) c.set_moved.new.self c.requires
-    (c.options_are_exact.ensures.only c.args.code.now n n c.in-Some.left listed).0 c.in_ok-set_moved.ensures.moved)
+    (move_from_place c.args.code.now c.args.position.now c.args.at (heaps_of c.in-Some.left)
+    c.set_moved.new.self c.requires
+    (c.options_are_exact.ensures.only c.args.code.now n n c.in-Some.left listed).0
+    c.in_ok-set_moved.ensures.moved)
     is
 
 pub loop-left-preserved : goal.loop-left-preserved
 loop-left-preserved g c =
     let is : known c.args.memo.now c.set_moved.new.self ≡ Some N = cc in
     let n = slice_index c.args.position.now c.args.at in
-    let (whole, listed) = walked _ _ (options_of c.args.code.now n) c.in-Some.left c.next.new.self c.loop-left.invariant.0 c.in-Some.ensures.steps in (
+    let (whole, listed) =
+    walked _ _ (options_of c.args.code.now n) c.in-Some.left c.next.new.self
+    c.loop-left.invariant.0 c.in-Some.ensures.steps in (
       whole,
-      one_more c.args.memo.now c.args.position.now c.args.at c.loop-left.yielded c.loop-left.seen c.in-Some.left c.set_moved.new.self c.loop-left.invariant.1 c.in_ok-set_moved.ensures.moved is,
+      one_more c.args.memo.now c.args.position.now c.args.at c.loop-left.yielded c.loop-left.seen
+          c.in-Some.left c.set_moved.new.self c.loop-left.invariant.1
+          c.in_ok-set_moved.ensures.moved is,
     )
 
 pub returns-in-None-get : goal.returns-in-None-get
 returns-in-None-get g c =
     let is : known c.args.memo.now c.set_moved.new.self ≡ None = cc in
     let n = slice_index c.args.position.now c.args.at in
-    let (whole, listed) = walked _ _ (options_of c.args.code.now n) c.in-Some.left c.next.new.self c.loop-left.invariant.0 c.in-Some.ensures.steps in
+    let (whole, listed) =
+    walked _ _ (options_of c.args.code.now n) c.in-Some.left c.next.new.self
+    c.loop-left.invariant.0 c.in-Some.ensures.steps in
     record {
-      move = (move_from_place c.args.code.now c.args.position.now c.args.at (heaps_of c.in-Some.left) c.set_moved.new.self c.requires
-          (c.options_are_exact.ensures.only c.args.code.now n n c.in-Some.left listed).0 c.in_ok-set_moved.ensures.moved);
+      move =
+          (move_from_place c.args.code.now c.args.position.now c.args.at (heaps_of c.in-Some.left)
+          c.set_moved.new.self c.requires
+          (c.options_are_exact.ensures.only c.args.code.now n n c.in-Some.left listed).0
+          c.in_ok-set_moved.ensures.moved);
       rising = c.in_ok-set_moved.ensures.rising;
       not_known = is;
     }
@@ -48,5 +65,9 @@ returns-in-None-get g c =
 pub returns : goal.returns
 returns g c =
     let l = c.loop-left in
-    let whole : l.yielded ≡ options_of c.args.code.now (slice_index c.args.position.now c.args.at) = sym (append-nil l.yielded) ∙ ap (λ v. l.yielded ++ v) (sym c.in-None.ensures.steps.0) ∙ l.invariant.0 in
-    seen_all c.args.code.now c.args.position.now c.args.memo.now c.args.at l.yielded (options_of c.args.code.now (slice_index c.args.position.now c.args.at)) l.seen l.next whole l.invariant.1
+    let whole : l.yielded ≡ options_of c.args.code.now (slice_index c.args.position.now c.args.at) =
+    sym (append-nil l.yielded) ∙ ap (λ v. l.yielded ++ v) (sym c.in-None.ensures.steps.0)
+    ∙ l.invariant.0 in
+    seen_all c.args.code.now c.args.position.now c.args.memo.now c.args.at l.yielded
+    (options_of c.args.code.now (slice_index c.args.position.now c.args.at)) l.seen l.next whole
+    l.invariant.1

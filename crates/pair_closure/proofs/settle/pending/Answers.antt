@@ -8,8 +8,12 @@ use Rattle.pair_closure.proofs.settle.pending.Goals as goal
 
 pub returns-else-held-at-clause-value : goal.returns-else-held-at-clause-value
 returns-else-held-at-clause-value c =
-    let here : (get_or c.args.held.now c.loop-at.at blank_held).by < c.args.generators = subst (λ (m : Held). m.by < c.args.generators) (same_default c.args.held.now c.loop-at.at _ blank_held c.loop-at-test.true) c.if-held-at.false in
+    let here : (get_or c.args.held.now c.loop-at.at blank_held).by < c.args.generators =
+    subst (λ (m : Held). m.by < c.args.generators)
+    (same_default c.args.held.now c.loop-at.at _ blank_held c.loop-at-test.true)
+    c.if-held-at.false in
     pending_here _ _ _ c.loop-at.invariant.1 c.loop-at-test.true here
 
 pub returns-after-loop-at-clause-value : goal.returns-after-loop-at-clause-value
-returns-after-loop-at-clause-value c = let last = c.loop-at.invariant.0 in pending_none _ _ _ c.loop-at.invariant.1 (omega arith)
+returns-after-loop-at-clause-value c = let last = c.loop-at.invariant.0 in
+    pending_none _ _ _ c.loop-at.invariant.1 (omega arith)

@@ -10,13 +10,21 @@ use Rattle.pair_closure.proofs.settle.settle_product.Goals as goal
 pub hold-requires-clause-some : goal.hold-requires-clause-some
 hold-requires-clause-some g c = λ e.
     let none = c.requires.tell.covered (c.in_ok-covers_some.ensures.alone (search rules)) in
-    ap (λ held. list_any (λ (m : Held). covers c.args.product m.pair) (set held c.args.at c.args.multiplied)) c.in_ok-covers_some.ensures.held
-    ∙ any_write c.args.product c.args.held.now.items c.args.at c.args.multiplied c.requires.same ∙ none
+    ap (λ held. list_any (λ (m : Held). covers c.args.product m.pair)
+    (set held c.args.at c.args.multiplied)) c.in_ok-covers_some.ensures.held
+    ∙ any_write c.args.product c.args.held.now.items c.args.at c.args.multiplied c.requires.same
+    ∙ none
 
 pub returns-clause-before : goal.returns-clause-before
 returns-clause-before g c = λ e k l.
     let none = c.requires.tell.covered (c.in_ok-covers_some.ensures.alone (search rules)) in
-    let kept : c.hold.new.held.items ≡ held_with (set c.args.held.now.items c.args.at c.args.multiplied) c.args.product c.len-place.result 0 =
-    c.hold.ensures ∙ ap (λ held. held_with (set held c.args.at c.args.multiplied) c.args.product c.len-place.result 0) c.in_ok-covers_some.ensures.held in
+    let kept : c.hold.new.held.items
+    ≡ held_with (set c.args.held.now.items c.args.at c.args.multiplied) c.args.product
+    c.len-place.result 0 =
+    c.hold.ensures
+    ∙ ap (λ held. held_with (set held c.args.at c.args.multiplied) c.args.product
+    c.len-place.result 0) c.in_ok-covers_some.ensures.held in
     ap (λ held. get_or held k blank_held) kept
-    ∙ before_hold _ _ _ _ _ _ c.requires.within (any_write c.args.product c.args.held.now.items c.args.at c.args.multiplied c.requires.same ∙ none) k l
+    ∙ before_hold _ _ _ _ _ _ c.requires.within
+    (any_write c.args.product c.args.held.now.items c.args.at c.args.multiplied c.requires.same
+    ∙ none) k l

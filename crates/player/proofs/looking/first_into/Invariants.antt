@@ -8,5 +8,6 @@ use Rattle.player.proofs.looking.first_into.Given as goal
 
 abbrev pub invariant-loop-left : goal.invariant-loop-left
 invariant-loop-left g l =
-    (l.yielded ++ l.left-iterator ≡ options_up_to l.certified.code l.n (l.certified.start + l.certified.period - 1))
+    (l.yielded ++ l.left-iterator ≡ options_up_to l.certified.code l.n
+    (l.certified.start + l.certified.period - 1))
     × ((L : Left) → Contains l.yielded L → puts l.certified l.y (heaps_of L) ≡ false)

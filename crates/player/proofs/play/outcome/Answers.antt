@@ -6,18 +6,24 @@ use Rattle.player.proofs.Rests.{sizes_are_heaps}
 use Rattle.player.proofs.play.outcome.Goals as goal
 
 pub value-requires : goal.value-requires
-value-requires g c = sizes_are_heaps c.args.position.now c.heaps.result.now c.heaps.ensures.value c.heaps.ensures.sizes
+value-requires g c =
+    sizes_are_heaps c.args.position.now c.heaps.result.now c.heaps.ensures.value
+    c.heaps.ensures.sizes
 
 pub returns-then-holds : goal.returns-then-holds
 returns-then-holds g c =
     let C = c.args.certified.now in
     let X = c.args.position.now in
-    p_here C c.value.ensures.accepted X (sizes_are_heaps X X refl c.heaps.ensures.sizes) c.value.result c.holds.result
-    (c.value.ensures.value ∙ ap (value (claim_of C)) c.heaps.ensures.value) c.holds.ensures c.if-holds.true
+    p_here C c.value.ensures.accepted X (sizes_are_heaps X X refl c.heaps.ensures.sizes)
+    c.value.result c.holds.result
+    (c.value.ensures.value ∙ ap (value (claim_of C)) c.heaps.ensures.value) c.holds.ensures
+    c.if-holds.true
 
 pub returns-else-holds : goal.returns-else-holds
 returns-else-holds g c =
     let C = c.args.certified.now in
     let X = c.args.position.now in
-    n_here C c.value.ensures.accepted X (sizes_are_heaps X X refl c.heaps.ensures.sizes) c.value.result c.holds.result
-    (c.value.ensures.value ∙ ap (value (claim_of C)) c.heaps.ensures.value) c.holds.ensures c.if-holds.false
+    n_here C c.value.ensures.accepted X (sizes_are_heaps X X refl c.heaps.ensures.sizes)
+    c.value.result c.holds.result
+    (c.value.ensures.value ∙ ap (value (claim_of C)) c.heaps.ensures.value) c.holds.ensures
+    c.if-holds.false

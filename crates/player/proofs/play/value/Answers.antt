@@ -2,4 +2,6 @@ use Rattle.player.proofs.Rests.{sizes_are_heaps}
 use Rattle.player.proofs.play.value.Goals as goal
 
 pub value-requires : goal.value-requires
-value-requires g c = sizes_are_heaps c.args.position.now c.heaps.result.now c.heaps.ensures.value c.heaps.ensures.sizes
+value-requires g c =
+    sizes_are_heaps c.args.position.now c.heaps.result.now c.heaps.ensures.value
+    c.heaps.ensures.sizes

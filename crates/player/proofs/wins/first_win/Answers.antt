@@ -6,17 +6,22 @@ use Rattle.player.proofs.Beside.{none_at_all}
 use Rattle.player.proofs.Halves.{none_beside}
 use Rattle.player.proofs.wins.first_win.Goals as goal
 
-mapped : {P Q : Type 0} (R : Move → Type 0) (r : Option Move) → (P → Q) → MatchOption r P R → MatchOption r Q R
+mapped : {P Q : Type 0} (R : Move → Type 0) (r : Option Move) → (P → Q) → MatchOption r P R
+    → MatchOption r Q R
 mapped R None f p = f p
 mapped R (Some m) f p = p
 
 pub returns-then-is_empty : goal.returns-then-is_empty
-returns-then-is_empty g c = none_at_all c.args.certified.now c.args.heaps.now 0 (search rules) (λ k l. absurd (omega arith))
+returns-then-is_empty g c =
+    none_at_all c.args.certified.now c.args.heaps.now 0 (search rules) (λ k l. absurd (omega arith))
 
 pub first_win_within-requires-clause-beside : goal.first_win_within-requires-clause-beside
-first_win_within-requires-clause-beside g c = none_beside (claim_of c.args.certified.now) c.args.heaps.now c.value.result c.value.ensures.value
+first_win_within-requires-clause-beside g c =
+    none_beside (claim_of c.args.certified.now) c.args.heaps.now c.value.result
+    c.value.ensures.value
 
 pub returns : goal.returns
 returns g c =
     let X = c.args.heaps.now in
-    mapped _ c.first_win_within.result (none_at_all c.args.certified.now X (length X) (omega arith)) c.first_win_within.ensures
+    mapped _ c.first_win_within.result (none_at_all c.args.certified.now X (length X) (omega arith))
+    c.first_win_within.ensures

@@ -4,4 +4,6 @@ use Rattle.smallvec.proofs.SmallVecLemmas.{items-with_items}
 use Rattle.positions.proofs.position.sort.Goals as goal
 
 pub returns-clause-rising : goal.returns-clause-rising
-returns-clause-rising g c = rw (items-with_items c.args.heaps.now c.sort_unstable.new.self (search rules)) (IsNonDecreasingBy-from_sort (λ x. x) _ c.sort_unstable.ensures.sorted)
+returns-clause-rising g c =
+    rw (items-with_items c.args.heaps.now c.sort_unstable.new.self (search rules))
+    (IsNonDecreasingBy-from_sort (λ x. x) _ c.sort_unstable.ensures.sorted)

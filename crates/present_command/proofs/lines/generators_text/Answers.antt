@@ -11,4 +11,5 @@ loop-generator-preserved c =
     c.in_ok-push_str.ensures.bytes
     ∙ ap₂ ◌++◌ c.loop-generator.invariant word
     ∙ append_assoc (codes "generators") (generator_words (take i gs)) (generator_word _)
-    ∙ ap (λ (t : List ℕ). codes "generators" ++ t) (sym (next_generator gs i _ c.loop-generator-test.true (search rules)))
+    ∙ ap (λ (t : List ℕ). codes "generators" ++ t)
+    (sym (next_generator gs i _ c.loop-generator-test.true (search rules)))

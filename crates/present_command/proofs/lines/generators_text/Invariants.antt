@@ -4,4 +4,6 @@ use Rattle.present_command.specs.Presented.{generator_words}
 use Rattle.present_command.proofs.lines.generators_text.Given as goal
 
 abbrev pub invariant-loop-generator : goal.invariant-loop-generator
-invariant-loop-generator l = string_bytes l.text ≡ codes "generators" ++ generator_words (take l.generator-index l.generators)
+invariant-loop-generator l =
+    string_bytes l.text ≡ codes "generators"
+    ++ generator_words (take l.generator-index l.generators)

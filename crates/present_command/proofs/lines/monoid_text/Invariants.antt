@@ -6,4 +6,5 @@ use Rattle.present_command.proofs.lines.monoid_text.Given as goal
 abbrev pub invariant-loop-x : goal.invariant-loop-x
 invariant-loop-x l =
     string_bytes l.text
-    ≡ (codes "order " ++ decimal l.named.table.order ++ codes "\n" ++ generators_line l.named.generators.items) ++ row_lines l.named.table l.x
+    ≡ (codes "order " ++ decimal l.named.table.order ++ codes "\n"
+    ++ generators_line l.named.generators.items) ++ row_lines l.named.table l.x

@@ -4,14 +4,19 @@ use Rattle.presentations.proofs.BoxLaws.{axis-facts, next-by-code, next-below, n
 use Rattle.presentations.proofs.axes.next.Goals as goal
 
 pub nonzero_div-exponent : goal.nonzero_div-exponent
-nonzero_div-exponent c = (axis-facts 1 c.args.axes.now c.args.i no_axis (omega arith) c.requires.axes c.requires.i_in).0
+nonzero_div-exponent c =
+    (axis-facts 1 c.args.axes.now c.args.i no_axis (omega arith) c.requires.axes c.requires.i_in).0
 
 pub nonzero_rem-exponent : goal.nonzero_rem-exponent
-nonzero_rem-exponent c = let facts = axis-facts 1 c.args.axes.now c.args.i no_axis (omega arith) c.requires.axes c.requires.i_in in omega (arith, facts.1)
+nonzero_rem-exponent c = let facts =
+    axis-facts 1 c.args.axes.now c.args.i no_axis (omega arith) c.requires.axes c.requires.i_in in
+    omega (arith, facts.1)
 
 pub after-requires : goal.after-requires
 after-requires c =
-    let facts = axis-facts 1 c.args.axes.now c.args.i no_axis (omega arith) c.requires.axes c.requires.i_in in
+    let facts =
+    axis-facts 1 c.args.axes.now c.args.i no_axis (omega arith) c.requires.axes c.requires.i_in
+    in
     mod_below _ _ (omega (arith, facts.1))
 
 pub returns-clause-value : goal.returns-clause-value

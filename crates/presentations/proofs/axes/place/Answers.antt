@@ -12,7 +12,9 @@ loop-i-init c =
     let axes = c.args.axes.now in
     let v = vector_on (letters_in axes) c.args.word.now in
     record {
-      value = sym (ap (place_of axes) (partial-none v ∙ ap zeros (length-word axes c.args.word.now)) ∙ place-zeros axes);
+      value =
+          sym (ap (place_of axes) (partial-none v ∙ ap zeros (length-word axes c.args.word.now))
+          ∙ place-zeros axes);
       within = size-positive 1 axes c.requires.axes;
     }
 
@@ -26,7 +28,9 @@ loop-i-preserved c =
     let all : c.loop-k._k ≡ get_or v c.loop-i.i 0 = omega (arith, entry) in
     let lt : c.loop-i.i < length v = omega (arith, len) in
     record {
-      value = c.loop-k.invariant.value ∙ ap (place_of axes) (partial-next v c.loop-i.i c.loop-k._k lt all);
+      value =
+          c.loop-k.invariant.value
+          ∙ ap (place_of axes) (partial-next v c.loop-i.i c.loop-k._k lt all);
       within = c.loop-k.invariant.within;
     }
 
@@ -40,7 +44,8 @@ loop-k-preserved c =
     record {
       value =
           c.next-at.ensures.value ∙ ap (next_of axes c.loop-i.i) c.loop-k.invariant.value
-          ∙ sym (place-bump 1 axes (partial v c.loop-i.i c.loop-k._k) c.loop-i.i c.requires.axes (length-partial v c.loop-i.i c.loop-k._k ∙ len) c.loop-i-test.true)
+          ∙ sym (place-bump 1 axes (partial v c.loop-i.i c.loop-k._k) c.loop-i.i c.requires.axes
+          (length-partial v c.loop-i.i c.loop-k._k ∙ len) c.loop-i-test.true)
           ∙ ap (place_of axes) (partial-more v c.loop-i.i c.loop-k._k lt);
       within = c.next-at.ensures.within;
     }

@@ -9,12 +9,17 @@ returns-then-is_none-clause-some c = record {
   letter = c.loop-letter.letter;
   within = c.loop-letter-test.true;
   stands = sym c.occurs.ensures ∙ c.if-occurs.true;
-  none = none-at-all c.args.relations.now c.loop-letter.letter c.least_power.result (is-none _ c.is_none.result c.is_none.ensures c.if-is_none.true) c.least_power.ensures;
+  none = none-at-all c.args.relations.now c.loop-letter.letter c.least_power.result
+      (is-none _ c.is_none.result c.is_none.ensures c.if-is_none.true) c.least_power.ensures;
 }
 
 pub loop-letter-preserved : goal.loop-letter-preserved
-loop-letter-preserved c = powers-next c.args.relations.now c.loop-letter.letter c.loop-letter.invariant (λ stands.
+loop-letter-preserved c =
+    powers-next c.args.relations.now c.loop-letter.letter c.loop-letter.invariant (λ stands.
     elim c.else-occurs.branch [
-      | else-occurs-via-then-occurs+else-is_none w ↦ power-there c.args.relations.now c.loop-letter.letter w.least_power.result w.is_none.result w.is_none.ensures w.if-is_none.false w.least_power.ensures
-      | else-occurs-via-else-occurs w ↦ absurd (false≢true (sym w.if-occurs.false ∙ c.occurs.ensures ∙ stands))
+      | else-occurs-via-then-occurs+else-is_none w ↦ power-there c.args.relations.now
+          c.loop-letter.letter w.least_power.result w.is_none.result w.is_none.ensures
+          w.if-is_none.false w.least_power.ensures
+      | else-occurs-via-else-occurs w ↦ absurd
+          (false≢true (sym w.if-occurs.false ∙ c.occurs.ensures ∙ stands))
     ])

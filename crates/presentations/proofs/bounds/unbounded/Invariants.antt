@@ -5,4 +5,5 @@ use Rattle.presentations.specs.Powers.{HasLeastPower}
 use Rattle.presentations.proofs.bounds.unbounded.Given as goal
 
 abbrev pub invariant-loop-letter : goal.invariant-loop-letter
-invariant-loop-letter l = (k : ℕ) → k < l.letter → IsTrue (occurs l.relations k) → HasLeastPower l.relations k
+invariant-loop-letter l = (k : ℕ) → k < l.letter → IsTrue (occurs l.relations k)
+    → HasLeastPower l.relations k

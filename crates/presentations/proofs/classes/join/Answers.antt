@@ -12,5 +12,6 @@ link-requires-clause-related g c =
     move b d c.first_of-x.result c.first_of-y.result (sym two.kept.axes) (sym two.kept.relations)
     (chain b.axes b.relations c.first_of-x.result c.args.v c.first_of-y.result
     (move a b c.first_of-x.result c.args.v (sym one.kept.axes) (sym one.kept.relations)
-    (chain a.axes a.relations c.first_of-x.result c.args.u c.args.v (turn a.axes a.relations c.args.u c.first_of-x.result one.related) c.requires.related))
+    (chain a.axes a.relations c.first_of-x.result c.args.u c.args.v
+    (turn a.axes a.relations c.args.u c.first_of-x.result one.related) c.requires.related))
     two.related)

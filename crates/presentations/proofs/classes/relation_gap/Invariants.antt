@@ -8,5 +8,9 @@ use Rattle.presentations.proofs.classes.relation_gap.Given as goal
 
 abbrev pub invariant-loop-i : goal.invariant-loop-i
 invariant-loop-i g l = (k : ℕ) (d : Relation) → k < l.i
-    → slice_index l.merging.parents (place_of l.merging.axes (vector_on (letters_in l.merging.axes) (slice_index_or l.merging.relations k d).left))
-    ≡ slice_index l.merging.parents (place_of l.merging.axes (vector_on (letters_in l.merging.axes) (slice_index_or l.merging.relations k d).right))
+    → slice_index l.merging.parents
+    (place_of l.merging.axes
+    (vector_on (letters_in l.merging.axes) (slice_index_or l.merging.relations k d).left))
+    ≡ slice_index l.merging.parents
+    (place_of l.merging.axes
+    (vector_on (letters_in l.merging.axes) (slice_index_or l.merging.relations k d).right))

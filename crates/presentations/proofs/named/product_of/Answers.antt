@@ -5,35 +5,72 @@ use Rattle.presentations.proofs.RowLaws.{reads-fit}
 use Rattle.presentations.proofs.named.product_of.Goals as goal
 
 -- the place that is read
-place : (letters x order len key e : ℕ) (keys rows : List ℕ) → order ≡ len → key ≡ slice_index keys (e - 1)
-    → get_or rows (x * order + key / letters) 0 * letters + key % letters ≡ slice_index rows (x * len + slice_index keys (e - 1) / letters) * letters + slice_index keys (e - 1) % letters
-place letters x order len key e keys rows f h = ap₂ (λ q k. get_or rows (x * q + k / letters) 0 * letters + k % letters) f h
+place : (letters x order len key e : ℕ) (keys rows : List ℕ) → order ≡ len
+    → key ≡ slice_index keys (e - 1)
+    → get_or rows (x * order + key / letters) 0 * letters + key % letters
+    ≡ slice_index rows (x * len + slice_index keys (e - 1) / letters) * letters
+    + slice_index keys (e - 1) % letters
+place letters x order len key e keys rows f h =
+    ap₂ (λ q k. get_or rows (x * q + k / letters) 0 * letters + k % letters) f h
 
 pub overflow_add-parent-2 : goal.overflow_add-parent-2
 overflow_add-parent-2 g c =
-    let fit = reads-fit c.args.letters _ _ _ c.args.rows.now c.args.x c.args.e c.requires.keys c.requires.so_far c.requires.x_in (omega arith) c.requires.e_in in
-    omega (arith, fit.2, place c.args.letters c.args.x _ _ _ c.args.e c.args.numbering.now.numbers.keys c.args.rows.now c.order-order.ensures.value c.key-key.ensures)
+    let fit =
+    reads-fit c.args.letters _ _ _ c.args.rows.now c.args.x c.args.e c.requires.keys
+    c.requires.so_far c.requires.x_in (omega arith) c.requires.e_in in
+    omega (
+      arith,
+      fit.2,
+      place c.args.letters c.args.x _ _ _ c.args.e
+          c.args.numbering.now.numbers.keys c.args.rows.now c.order-order.ensures.value
+          c.key-key.ensures,
+    )
 
 pub overflow_mul-parent-2 : goal.overflow_mul-parent-2
 overflow_mul-parent-2 g c =
-    let fit = reads-fit c.args.letters _ _ _ c.args.rows.now c.args.x c.args.e c.requires.keys c.requires.so_far c.requires.x_in (omega arith) c.requires.e_in in
-    omega (arith, fit.2, place c.args.letters c.args.x _ _ _ c.args.e c.args.numbering.now.numbers.keys c.args.rows.now c.order-order.ensures.value c.key-key.ensures)
+    let fit =
+    reads-fit c.args.letters _ _ _ c.args.rows.now c.args.x c.args.e c.requires.keys
+    c.requires.so_far c.requires.x_in (omega arith) c.requires.e_in in
+    omega (
+      arith,
+      fit.2,
+      place c.args.letters c.args.x _ _ _ c.args.e
+          c.args.numbering.now.numbers.keys c.args.rows.now c.order-order.ensures.value
+          c.key-key.ensures,
+    )
 
 pub index-requires : goal.index-requires
 index-requires g c =
-    let fit = reads-fit c.args.letters _ _ _ c.args.rows.now c.args.x c.args.e c.requires.keys c.requires.so_far c.requires.x_in (omega arith) c.requires.e_in in
-    omega (arith, fit.2, place c.args.letters c.args.x _ _ _ c.args.e c.args.numbering.now.numbers.keys c.args.rows.now c.order-order.ensures.value c.key-key.ensures)
+    let fit =
+    reads-fit c.args.letters _ _ _ c.args.rows.now c.args.x c.args.e c.requires.keys
+    c.requires.so_far c.requires.x_in (omega arith) c.requires.e_in in
+    omega (
+      arith,
+      fit.2,
+      place c.args.letters c.args.x _ _ _ c.args.e
+          c.args.numbering.now.numbers.keys c.args.rows.now c.order-order.ensures.value
+          c.key-key.ensures,
+    )
 
 pub returns-clause-later : goal.returns-clause-later
 returns-clause-later g c = λ _.
-    let fit = reads-fit c.args.letters _ _ _ c.args.rows.now c.args.x c.args.e c.requires.keys c.requires.so_far c.requires.x_in (omega arith) c.requires.e_in in
-    let at = place c.args.letters c.args.x _ _ _ c.args.e c.args.numbering.now.numbers.keys c.args.rows.now c.order-order.ensures.value c.key-key.ensures in
+    let fit =
+    reads-fit c.args.letters _ _ _ c.args.rows.now c.args.x c.args.e c.requires.keys
+    c.requires.so_far c.requires.x_in (omega arith) c.requires.e_in in
+    let at =
+    place c.args.letters c.args.x _ _ _ c.args.e c.args.numbering.now.numbers.keys
+    c.args.rows.now c.order-order.ensures.value c.key-key.ensures in
     c.index.ensures
-    ∙ any-default c.args.numbering.now.products.items (get_or c.args.rows.now (c.args.x * c.order-order.result + c.key-key.result / c.args.letters) 0 * c.args.letters + c.key-key.result % c.args.letters) c.index.result.now 0 (omega (arith, fit.2, at))
+    ∙ any-default c.args.numbering.now.products.items
+    (get_or c.args.rows.now
+    (c.args.x * c.order-order.result + c.key-key.result / c.args.letters) 0 * c.args.letters
+    + c.key-key.result % c.args.letters) c.index.result.now 0 (omega (arith, fit.2, at))
     ∙ ap (slice_index c.args.numbering.now.products.items) at
 
 pub returns-clause-within : goal.returns-clause-within
 returns-clause-within g c =
-    let fit = reads-fit c.args.letters _ _ _ c.args.rows.now c.args.x c.args.e c.requires.keys c.requires.so_far c.requires.x_in (omega arith) c.requires.e_in in
+    let fit =
+    reads-fit c.args.letters _ _ _ c.args.rows.now c.args.x c.args.e c.requires.keys
+    c.requires.so_far c.requires.x_in (omega arith) c.requires.e_in in
     let value = returns-clause-later g c (omega arith) in
     omega (arith, fit.3, value)

@@ -10,7 +10,12 @@ use Rattle.presentations.proofs.NumberLaws.{progress-more, keys-of, many-classes
 use Rattle.presentations.proofs.numbering.numbering_of.Goals as goal
 
 pub new-requires-clause-some : goal.new-requires-clause-some
-new-requires-clause-some g c = omega (arith, size-positive 1 c.args.axes.now c.requires.roots.axes_are, c.requires.roots.length_is)
+new-requires-clause-some g c =
+    omega (
+      arith,
+      size-positive 1 c.args.axes.now c.requires.roots.axes_are,
+      c.requires.roots.length_is,
+    )
 
 pub loop-products-preserved : goal.loop-products-preserved
 loop-products-preserved g c =
@@ -22,13 +27,25 @@ loop-products-preserved g c =
     let place : c.len-place.result ≡ length products = omega (arith, c.len-place.ensures) in
     let rows = ap (λ q. q * n) c.order.ensures.value in
     let class = get_or classes c.next.result 0 in
-    let assigned = subst (λ k. IsAssigned c.loop-products.numbers c.number.new.self class k c.in_ok-number.number) place c.in_ok-number.ensures.assigned in
+    let assigned =
+    subst (λ k. IsAssigned c.loop-products.numbers c.number.new.self class k
+    c.in_ok-number.number) place c.in_ok-number.ensures.assigned in
     record {
-      progress = progress-more axes classes firsts c.loop-products.numbers.keys products c.number.new.self.firsts c.number.new.self.keys c.push.new.self.items class c.in_ok-number.number
+      progress =
+          progress-more axes classes firsts c.loop-products.numbers.keys products
+          c.number.new.self.firsts c.number.new.self.keys c.push.new.self.items class
+          c.in_ok-number.number
           c.loop-products.invariant.progress
           (omega (arith, rows, c.len.ensures, c.loop-products-test.true))
-          (ap (slice_index classes) (c.next.ensures.value ∙ ap (next_of axes (c.len-place.result % n)) c.first-first.ensures.value ∙ ap (λ l. next_of axes (l % n) (slice_index firsts (l / n))) place))
-          (omega (arith, c.requires.roots.down c.next.result c.next.ensures.within, c.next.ensures.within))
+          (ap (slice_index classes)
+          (c.next.ensures.value ∙ ap (next_of axes (c.len-place.result % n))
+          c.first-first.ensures.value
+          ∙ ap (λ l. next_of axes (l % n) (slice_index firsts (l / n))) place))
+          (omega (
+            arith,
+            c.requires.roots.down c.next.result c.next.ensures.within,
+            c.next.ensures.within,
+          ))
           (c.requires.roots.firsts c.next.result c.next.ensures.within)
           assigned.within assigned.there assigned.either c.in_ok-push.ensures.items;
       places = c.in_ok-number.ensures.places ∙ c.loop-products.invariant.places;
@@ -42,27 +59,49 @@ returns-clause-numbering g c =
       progress = p;
       most = omega (arith, c.order.ensures.value, c.order.ensures.range.1);
       whole = omega (arith, p.covers, n, c.len.ensures, c.loop-products-test.false);
-      apart = λ d e hd he. c.order.ensures.apart d e (omega (arith, c.order.ensures.value)) (omega (arith, c.order.ensures.value));
+      apart = λ d e hd he. c.order.ensures.apart d e (omega (arith, c.order.ensures.value))
+          (omega (arith, c.order.ensures.value));
     }
 
 pub overflow_mul-order : goal.overflow_mul-order
-overflow_mul-order g c = omega (arith, mul-le c.order.result (length c.args.axes.now) 256 26 c.order.ensures.range.1 c.requires.letters)
+overflow_mul-order g c =
+    omega (
+      arith,
+      mul-le c.order.result (length c.args.axes.now) 256 26 c.order.ensures.range.1
+          c.requires.letters,
+    )
 
 pub loop-products-smaller : goal.loop-products-smaller
 loop-products-smaller g c =
-    let all = mul-le c.order.result (length c.args.axes.now) 256 (length c.args.axes.now) c.order.ensures.range.1 (omega arith) in
-    let more : length c.push.new.self.items ≡ length c.loop-products.products.items + 1 = ap length c.in_ok-push.ensures.items ∙ length-append c.loop-products.products.items (c.in_ok-number.number ∷ []) in
+    let all =
+    mul-le c.order.result (length c.args.axes.now) 256 (length c.args.axes.now)
+    c.order.ensures.range.1 (omega arith) in
+    let more : length c.push.new.self.items ≡ length c.loop-products.products.items + 1 =
+    ap length c.in_ok-push.ensures.items ∙ length-append c.loop-products.products.items
+    (c.in_ok-number.number ∷ []) in
     let rows = ap (λ q. q * length c.args.axes.now) c.order.ensures.value in
     omega (arith, all, more, rows, c.len.ensures, c.loop-products-test.true)
 
 pub returns-clause-keys : goal.returns-clause-keys
-returns-clause-keys g c = keys-of c.args.axes.now c.args.classes.now c.loop-products.numbers.firsts c.loop-products.numbers.keys c.loop-products.products.items (returns-clause-numbering g c)
+returns-clause-keys g c =
+    keys-of c.args.axes.now c.args.classes.now c.loop-products.numbers.firsts
+    c.loop-products.numbers.keys c.loop-products.products.items (returns-clause-numbering g c)
 
 pub returns-in_err-number-clause-limit : goal.returns-in_err-number-clause-limit
 returns-in_err-number-clause-limit g c = λ limit.
-    let full = c.in_err-number.ensures.full (ap Err (same-fault c.from_residual-in_err-number.result _ _ c.from_residual-in_err-number.ensures.1 limit)) in
+    let full =
+    c.in_err-number.ensures.full
+    (ap Err
+    (same-fault c.from_residual-in_err-number.result _ _ c.from_residual-in_err-number.ensures.1
+    limit)) in
     let order : c.order.result ≡ 256 = c.order.ensures.value ∙ full.0 in
-    many-classes c.args.axes.now c.args.classes.now c.loop-products.numbers.firsts c.loop-products.numbers.keys c.loop-products.products.items
+    many-classes c.args.axes.now c.args.classes.now c.loop-products.numbers.firsts
+    c.loop-products.numbers.keys c.loop-products.products.items
     (get_or c.args.classes.now c.next.result 0) c.loop-products.invariant.progress full.0
     (λ d e hd he. c.order.ensures.apart d e (omega (arith, order)) (omega (arith, order)))
-    full.1 (omega (arith, c.requires.roots.down c.next.result c.next.ensures.within, c.next.ensures.within)) (c.requires.roots.firsts c.next.result c.next.ensures.within)
+    full.1
+    (omega (
+      arith,
+      c.requires.roots.down c.next.result c.next.ensures.within,
+      c.next.ensures.within,
+    )) (c.requires.roots.firsts c.next.result c.next.ensures.within)

@@ -5,11 +5,20 @@ use Rattle.presentations.proofs.Reading.{IsReadSoFar, read-none, read-more, read
 use Rattle.presentations.proofs.read.factors_at.Goals as goal
 
 pub loop-letter-init : goal.loop-letter-init
-loop-letter-init c = record { after = omega arith; within = c.requires; long = refl; few = all-zeros 26; so_far = read-none (drop c.args.at c.args.text.now) }
+loop-letter-init c =
+    record {
+      after = omega arith;
+      within = c.requires;
+      long = refl;
+      few = all-zeros 26;
+      so_far = read-none (drop c.args.at c.args.text.now);
+    }
 
 pub returns-then-whole-gt64-clause-none : goal.returns-then-whole-gt64-clause-none
 returns-then-whole-gt64-clause-none c =
-    read-much _ _ _ c.loop-letter.exponents c.in-Some.letter c.in-Some.power c.loop-letter.invariant.so_far c.in-Some.ensures.some c.loop-letter.invariant.long c.in-Some.ensures.within.0 c.if-whole-gt64.true
+    read-much _ _ _ c.loop-letter.exponents c.in-Some.letter c.in-Some.power
+    c.loop-letter.invariant.so_far c.in-Some.ensures.some c.loop-letter.invariant.long
+    c.in-Some.ensures.within.0 c.if-whole-gt64.true
 
 pub loop-letter-preserved : goal.loop-letter-preserved
 loop-letter-preserved c =
@@ -21,10 +30,13 @@ loop-letter-preserved c =
       long = length-set v c.in-Some.letter _ ∙ so.long;
       few = All-set (λ x. x ≤ 64) v c.in-Some.letter _ c.if-whole-gt64.false so.few;
       so_far =
-          subst (IsReadSoFar (drop c.args.at c.args.text.now) (drop c.in-Some.next c.args.text.now)) (sym (set-only v 26 c.in-Some.letter c.in-Some.power _ so.long c.in-Some.ensures.within.0 refl))
+          subst (IsReadSoFar (drop c.args.at c.args.text.now) (drop c.in-Some.next c.args.text.now))
+          (sym (set-only v 26 c.in-Some.letter c.in-Some.power _ so.long
+          c.in-Some.ensures.within.0 refl))
           (read-more _ _ _ v c.in-Some.letter c.in-Some.power so.so_far c.in-Some.ensures.some);
     }
 
 pub returns-clause-some : goal.returns-clause-some
 returns-clause-some c =
-    read-all _ _ c.loop-letter.exponents c.loop-letter.invariant.so_far c.in_default.ensures.none c.loop-letter.invariant.long c.loop-letter.invariant.few
+    read-all _ _ c.loop-letter.exponents c.loop-letter.invariant.so_far c.in_default.ensures.none
+    c.loop-letter.invariant.long c.loop-letter.invariant.few

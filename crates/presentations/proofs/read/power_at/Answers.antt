@@ -7,20 +7,29 @@ two-on : (n : ℕ) → n + 1 + 1 ≡ n + 2
 two-on n = omega arith
 
 pub returns-else-first-lt2-clause-some : goal.returns-else-first-lt2-clause-some
-returns-else-first-lt2-clause-some c = one-digit _ _ c.in_ok-first.first c.in_ok-first.ensures.some.2 c.if-first-lt2.false c.in_ok-first.ensures.some.0 c.in_default.ensures.none
+returns-else-first-lt2-clause-some c =
+    one-digit _ _ c.in_ok-first.first c.in_ok-first.ensures.some.2 c.if-first-lt2.false
+    c.in_ok-first.ensures.some.0 c.in_default.ensures.none
 
 pub returns-then-power-gt64-clause-none : goal.returns-then-power-gt64-clause-none
 returns-then-power-gt64-clause-none c =
     no-exponent _ (drop (c.args.at + 2) c.args.text.now) c.in_ok-first.first c.in-Some.second
-    (c.in_ok-first.ensures.some.2 ∙ ap (λ t. (48 + c.in_ok-first.first) ∷ t) (c.in-Some.ensures.some.2 ∙ ap (λ n. (48 + c.in-Some.second) ∷ drop n c.args.text.now) (two-on c.args.at)))
+    (c.in_ok-first.ensures.some.2 ∙ ap (λ t. (48 + c.in_ok-first.first) ∷ t)
+    (c.in-Some.ensures.some.2 ∙ ap (λ n. (48 + c.in-Some.second) ∷ drop n c.args.text.now)
+    (two-on c.args.at)))
     c.in-Some.ensures.some.0
     (λ few ends. elim c.then-power-gt64.branch [
       | then-power-gt64-via-then-power-gt64 w ↦ absurd (omega (arith, w.if-power-gt64.true))
-      | then-power-gt64-via-else-power-gt64+then-is_some w ↦ digit-goes-on _ w.digit_at-else-power-gt64.result w.is_some.result _ _ w.is_some.ensures w.if-is_some.true w.digit_at-else-power-gt64.ensures.some ends
+      | then-power-gt64-via-else-power-gt64+then-is_some w ↦ digit-goes-on _
+          w.digit_at-else-power-gt64.result w.is_some.result _ _ w.is_some.ensures w.if-is_some.true
+          w.digit_at-else-power-gt64.ensures.some ends
     ])
 
 pub returns-clause-some : goal.returns-clause-some
 returns-clause-some c =
     two-digits _ (drop (c.args.at + 2) c.args.text.now) c.in_ok-first.first c.in-Some.second
-    (c.in_ok-first.ensures.some.2 ∙ ap (λ t. (48 + c.in_ok-first.first) ∷ t) (c.in-Some.ensures.some.2 ∙ ap (λ n. (48 + c.in-Some.second) ∷ drop n c.args.text.now) (two-on c.args.at)))
-    (omega (arith, c.if-first-eq0.false)) c.in_ok-first.ensures.some.0 c.in-Some.ensures.some.0 c.if-power-gt64.false
+    (c.in_ok-first.ensures.some.2 ∙ ap (λ t. (48 + c.in_ok-first.first) ∷ t)
+    (c.in-Some.ensures.some.2 ∙ ap (λ n. (48 + c.in-Some.second) ∷ drop n c.args.text.now)
+    (two-on c.args.at)))
+    (omega (arith, c.if-first-eq0.false)) c.in_ok-first.ensures.some.0 c.in-Some.ensures.some.0
+    c.if-power-gt64.false

@@ -9,10 +9,18 @@ returns-then-is_byte-clause-some c = word-one _ _ (c.if-is_byte.ensures.behind r
 
 pub returns-then-end-at-clause-none : goal.returns-then-end-at-clause-none
 returns-then-end-at-clause-none c =
-    no-factors _ _ c.in_ok-exponents.exponents (λ one. false≢true (c.if-is_byte.ensures.value.1 one)) c.in_ok-exponents.ensures.some
+    no-factors _ _ c.in_ok-exponents.exponents
+    (λ one. false≢true (c.if-is_byte.ensures.value.1 one)) c.in_ok-exponents.ensures.some
     (ap (λ n. drop n c.args.text.now) c.if-end-at.true)
 
 pub returns-else-end-at-clause-some : goal.returns-else-end-at-clause-some
 returns-else-end-at-clause-some c =
-    word-product _ _ c.in_ok-exponents.exponents (λ one. false≢true (c.if-is_byte.ensures.value.1 one)) c.in_ok-exponents.ensures.some
-    (omega (arith, c.if-end-at.false, c.in_ok-exponents.ensures.within, length-drop c.in_ok-exponents.end c.args.text.now, length-drop c.args.at c.args.text.now))
+    word-product _ _ c.in_ok-exponents.exponents
+    (λ one. false≢true (c.if-is_byte.ensures.value.1 one)) c.in_ok-exponents.ensures.some
+    (omega (
+      arith,
+      c.if-end-at.false,
+      c.in_ok-exponents.ensures.within,
+      length-drop c.in_ok-exponents.end c.args.text.now,
+      length-drop c.args.at c.args.text.now,
+    ))

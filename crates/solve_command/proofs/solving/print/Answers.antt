@@ -6,6 +6,7 @@ use Rattle.solve_command.proofs.solving.print.Goals as goal
 pub returns-clause-printed : goal.returns-clause-printed
 returns-clause-printed g c = (
   refl,
-  spelling c.args.certified.now c.cert.result.now (text (lines c.cert.result.now)) _ _ c.cert.ensures.same c.in_ok-write.ensures.spelled
+  spelling c.args.certified.now c.cert.result.now (text (lines c.cert.result.now)) _ _
+      c.cert.ensures.same c.in_ok-write.ensures.spelled
       c.in_ok-write.ensures.puts,
 )

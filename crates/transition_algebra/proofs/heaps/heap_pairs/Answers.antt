@@ -8,21 +8,36 @@ use Rattle.transition_algebra.proofs.heaps.heap_pairs.Goals as goal
 
 pub returns-clause-exact : goal.returns-clause-exact
 returns-clause-exact g c =
-    let all = all_units c.args.code.now c.args.phi.now c.new-trial.result.spent c.work.new.self.spent c.last-last.ensures.code c.is_pretending.ensures c.in_ok-work.ensures.ok in
-    finished c.args.code.now c.args.table.now c.is_monoid.ensures.monoid c.args.phi.now c.is_pretending.ensures c.requires c.work.new.self c.work.new.pairs.items c.in_ok-work.ensures.trial all
+    let all =
+    all_units c.args.code.now c.args.phi.now c.new-trial.result.spent c.work.new.self.spent
+    c.last-last.ensures.code c.is_pretending.ensures c.in_ok-work.ensures.ok in
+    finished c.args.code.now c.args.table.now c.is_monoid.ensures.monoid c.args.phi.now
+    c.is_pretending.ensures c.requires c.work.new.self c.work.new.pairs.items
+    c.in_ok-work.ensures.trial all
 
 pub returns-clause-within : goal.returns-clause-within
 returns-clause-within g c =
-    let all = all_units c.args.code.now c.args.phi.now c.new-trial.result.spent c.work.new.self.spent c.last-last.ensures.code c.is_pretending.ensures c.in_ok-work.ensures.ok in
-    all_in c.args.table.now c.is_monoid.ensures.monoid c.args.phi.now c.requires c.args.code.now (bound_of c.args.code.now c.args.phi.now) c.work.new.pairs.items
-    (finished c.args.code.now c.args.table.now c.is_monoid.ensures.monoid c.args.phi.now c.is_pretending.ensures c.requires c.work.new.self c.work.new.pairs.items c.in_ok-work.ensures.trial all)
+    let all =
+    all_units c.args.code.now c.args.phi.now c.new-trial.result.spent c.work.new.self.spent
+    c.last-last.ensures.code c.is_pretending.ensures c.in_ok-work.ensures.ok in
+    all_in c.args.table.now c.is_monoid.ensures.monoid c.args.phi.now c.requires c.args.code.now
+    (bound_of c.args.code.now c.args.phi.now) c.work.new.pairs.items
+    (finished c.args.code.now c.args.table.now c.is_monoid.ensures.monoid c.args.phi.now
+    c.is_pretending.ensures c.requires c.work.new.self c.work.new.pairs.items
+    c.in_ok-work.ensures.trial all)
 
 pub work-requires-clause-trial : goal.work-requires-clause-trial
 work-requires-clause-trial g c =
-    subst (IsTrial c.args.code.now c.args.table.now c.args.phi.now c.new-trial.result) (sym c.new-pairs.ensures.items) (c.new-trial.ensures.trial c.args.table.now)
+    subst (IsTrial c.args.code.now c.args.table.now c.args.phi.now c.new-trial.result)
+    (sym c.new-pairs.ensures.items) (c.new-trial.ensures.trial c.args.table.now)
 
 pub returns-clause-made : goal.returns-clause-made
 returns-clause-made g c =
-    let all = all_units c.args.code.now c.args.phi.now c.new-trial.result.spent c.work.new.self.spent c.last-last.ensures.code c.is_pretending.ensures c.in_ok-work.ensures.ok in
-    all_pairs c.args.code.now c.args.table.now c.is_monoid.ensures.monoid c.args.phi.now c.is_pretending.ensures c.requires c.work.new.pairs.items
-    (finished c.args.code.now c.args.table.now c.is_monoid.ensures.monoid c.args.phi.now c.is_pretending.ensures c.requires c.work.new.self c.work.new.pairs.items c.in_ok-work.ensures.trial all)
+    let all =
+    all_units c.args.code.now c.args.phi.now c.new-trial.result.spent c.work.new.self.spent
+    c.last-last.ensures.code c.is_pretending.ensures c.in_ok-work.ensures.ok in
+    all_pairs c.args.code.now c.args.table.now c.is_monoid.ensures.monoid c.args.phi.now
+    c.is_pretending.ensures c.requires c.work.new.pairs.items
+    (finished c.args.code.now c.args.table.now c.is_monoid.ensures.monoid c.args.phi.now
+    c.is_pretending.ensures c.requires c.work.new.self c.work.new.pairs.items
+    c.in_ok-work.ensures.trial all)

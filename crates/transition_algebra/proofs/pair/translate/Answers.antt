@@ -17,4 +17,5 @@ translate-requires g c = λ x h.
 pub returns : goal.returns
 returns g c =
     c.translate.ensures
-    ∙ same_image (slice_index c.row.result.now) (times_in c.args.table.now c.args.value) c.args.elements.now (λ x h. c.row.ensures.products x (c.requires.elements_in x h))
+    ∙ same_image (slice_index c.row.result.now) (times_in c.args.table.now c.args.value)
+    c.args.elements.now (λ x h. c.row.ensures.products x (c.requires.elements_in x h))

@@ -15,12 +15,18 @@ loop-part-preserved g c =
     let b = c.loop-part.auto.part in
     let t = c.loop-part-test.true in
     let within = c.requires.within in
-    let x = ap (λ p. p.value) (get_or_default ps (n - 1) c.index-pairs-part.result one (omega arith)) ∙ c.requires.elements n (omega arith) (omega arith) in
-    let y = ap (λ p. p.value) (get_or_default ps (m - 1) c.index-pairs-whole.result one (omega arith)) ∙ c.requires.elements m (omega arith) (omega arith) in
+    let x =
+    ap (λ p. p.value) (get_or_default ps (n - 1) c.index-pairs-part.result one (omega arith))
+    ∙ c.requires.elements n (omega arith) (omega arith) in
+    let y =
+    ap (λ p. p.value) (get_or_default ps (m - 1) c.index-pairs-whole.result one (omega arith))
+    ∙ c.requires.elements m (omega arith) (omega arith) in
     let v : c.times.result ≡ f n = c.times.ensures.value ∙ ap₂ (times_in c.args.table.now) x y in
-    values_more f c.loop-part.all c.insert.new.self c.loop-part.part (c.min-last.result + 1) c.times.result c.loop-part-test.true v c.insert.ensures ∙ c.loop-part.invariant
+    values_more f c.loop-part.all c.insert.new.self c.loop-part.part (c.min-last.result + 1)
+    c.times.result c.loop-part-test.true v c.insert.ensures ∙ c.loop-part.invariant
 
 pub returns : goal.returns
 returns g c =
     let f = split_value c.args.table.now c.args.phi.now c.args.whole in
-    sym (values_none f c.loop-part.all c.loop-part.part (c.min-last.result + 1 - c.loop-part.part) (let b = c.loop-part-test.false in omega arith)) ∙ c.loop-part.invariant
+    sym (values_none f c.loop-part.all c.loop-part.part (c.min-last.result + 1 - c.loop-part.part)
+    (let b = c.loop-part-test.false in omega arith)) ∙ c.loop-part.invariant

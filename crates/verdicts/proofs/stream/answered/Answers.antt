@@ -8,7 +8,8 @@ use Rattle.checker.specs.declared.refusal.Refusal.TheVariants.{Text, Law, Word, 
 use Rattle.verdicts.specs.Lines.{IsTextOf, is_yes, lent_answer}
 use Rattle.verdicts.proofs.stream.answered.Goals as goal
 
-lent_is : (A : Type 0) (r : Result (Bor Certificate) (Bor (Refusal A))) (v : Result Certificate (Refusal A)) → result_copied r ≡ v
+lent_is : (A : Type 0) (r : Result (Bor Certificate) (Bor (Refusal A)))
+    (v : Result Certificate (Refusal A)) → result_copied r ≡ v
     → lent_answer r ≡ answer_of v
 lent_is A (Ok c) v e = rw (← e) refl
 lent_is A (Err r) v e = rw (← e) refl
@@ -31,7 +32,9 @@ returns g c = (
     answer = answer_of c.check-verdict.result;
     text = string_bytes c.in_ok-text.field-0;
     true_of = c.check-verdict.ensures.true_of;
-    told = subst (λ (a : Answer). IsTextOf a (string_bytes c.in_ok-text.field-0)) (lent_is _ _ _ c.as_ref.ensures.value) c.in_ok-text.ensures;
+    told =
+        subst (λ (a : Answer). IsTextOf a (string_bytes c.in_ok-text.field-0))
+        (lent_is _ _ _ c.as_ref.ensures.value) c.in_ok-text.ensures;
   },
   refl,
   c.is_ok-is_yes.ensures.value ∙ yes_is _ c.check-verdict.result,

@@ -7,12 +7,23 @@ pub returns-clause-ok : goal.returns-clause-ok
 returns-clause-ok g c =
     let a = c.in_ok-is_yes.ensures in
     let text = c.as_bytes.ensures.value ∙ a.1 in
-    let puts : Appends (g.W.Sink.taken c.args.sink.now) (g.W.Sink.taken c.write_text.new.sink) c.as_bytes.result.now = search rules in
-    (a.0, subst (λ (t : List ℕ). Appends (g.W.Sink.taken c.args.sink.now) (g.W.Sink.taken c.write_text.new.sink) t) text puts, a.2)
+    let puts : Appends (g.W.Sink.taken c.args.sink.now) (g.W.Sink.taken c.write_text.new.sink)
+    c.as_bytes.result.now = search rules in (
+      a.0,
+      subst
+          (λ (t : List ℕ). Appends (g.W.Sink.taken c.args.sink.now)
+          (g.W.Sink.taken c.write_text.new.sink) t) text puts,
+      a.2,
+    )
 
 pub returns-in_err-write_text-clause-write : goal.returns-in_err-write_text-clause-write
 returns-in_err-write_text-clause-write g c = λ is.
     let a = c.in_ok-is_yes.ensures in
     let text = c.as_bytes.ensures.value ∙ a.1 in
-    let puts : AppendsSome (g.W.Sink.taken c.args.sink.now) (g.W.Sink.taken c.write_text.new.sink) c.as_bytes.result.now = c.in_err-write_text.ensures.puts in
-    (a.0, subst (λ (t : List ℕ). AppendsSome (g.W.Sink.taken c.args.sink.now) (g.W.Sink.taken c.write_text.new.sink) t) text puts)
+    let puts : AppendsSome (g.W.Sink.taken c.args.sink.now) (g.W.Sink.taken c.write_text.new.sink)
+    c.as_bytes.result.now = c.in_err-write_text.ensures.puts in (
+      a.0,
+      subst
+          (λ (t : List ℕ). AppendsSome (g.W.Sink.taken c.args.sink.now)
+          (g.W.Sink.taken c.write_text.new.sink) t) text puts,
+    )

@@ -6,34 +6,54 @@ use Rattle.whole_runs.proofs.Outcomes.{known_as, no_request}
 use Rattle.whole_runs.proofs.whole_run.run_words.Goals as goal
 
 pub returns-in-Ok-clause-ends : goal.returns-in-Ok-clause-ends
-returns-in-Ok-clause-ends g c = Asked (request_of c.in-Ok.plan) c.in-Ok.ensures.asked c.run_plan.ensures.obeys
+returns-in-Ok-clause-ends g c =
+    Asked (request_of c.in-Ok.plan) c.in-Ok.ensures.asked c.run_plan.ensures.obeys
 
 pub returns-in-Err-Help-clause-ends : goal.returns-in-Err-Help-clause-ends
 returns-in-Err-Help-clause-ends g c =
-    Helped (known_as (map (λ (w : Bor (List ℕ)). w.now) c.args.words.now) c.in-Err-Help.field-0 (Help c.in-Err-Help.text) c.in-Err-Help.field-0-is c.in-Err-Help.ensures.fault)
-    (no_request (map (λ (w : Bor (List ℕ)). w.now) c.args.words.now) c.in-Err-Help.field-0 (Help c.in-Err-Help.text) c.in-Err-Help.field-0-is (λ e. omega (arith, e)) c.in-Err-Help.ensures.nothing)
+    Helped (known_as (map (λ (w : Bor (List ℕ)). w.now) c.args.words.now) c.in-Err-Help.field-0
+    (Help c.in-Err-Help.text) c.in-Err-Help.field-0-is c.in-Err-Help.ensures.fault)
+    (no_request (map (λ (w : Bor (List ℕ)). w.now) c.args.words.now) c.in-Err-Help.field-0
+    (Help c.in-Err-Help.text) c.in-Err-Help.field-0-is (λ e. omega (arith, e))
+    c.in-Err-Help.ensures.nothing)
     c.as_bytes.result.now refl c.print.ensures.printed
 
 pub returns-in-Err-Words-clause-ends : goal.returns-in-Err-Words-clause-ends
 returns-in-Err-Words-clause-ends g c =
-    Refused (Words c.in-Err-Words.text) refl (known_as (map (λ (w : Bor (List ℕ)). w.now) c.args.words.now) c.in-Err-Words.field-0 (Words c.in-Err-Words.text) c.in-Err-Words.field-0-is c.in-Err-Words.ensures.fault)
-    (no_request (map (λ (w : Bor (List ℕ)). w.now) c.args.words.now) c.in-Err-Words.field-0 (Words c.in-Err-Words.text) c.in-Err-Words.field-0-is (λ e. omega (arith, e)) c.in-Err-Words.ensures.nothing)
+    Refused (Words c.in-Err-Words.text) refl
+    (known_as (map (λ (w : Bor (List ℕ)). w.now) c.args.words.now) c.in-Err-Words.field-0
+    (Words c.in-Err-Words.text) c.in-Err-Words.field-0-is c.in-Err-Words.ensures.fault)
+    (no_request (map (λ (w : Bor (List ℕ)). w.now) c.args.words.now) c.in-Err-Words.field-0
+    (Words c.in-Err-Words.text) c.in-Err-Words.field-0-is (λ e. omega (arith, e))
+    c.in-Err-Words.ensures.nothing)
     refl (search rules, refl, search rules)
 
 pub returns-in-Err-Number-clause-ends : goal.returns-in-Err-Number-clause-ends
 returns-in-Err-Number-clause-ends g c =
-    Refused (Number c.in-Err-Number.quantity) refl (known_as (map (λ (w : Bor (List ℕ)). w.now) c.args.words.now) c.in-Err-Number.field-0 (Number c.in-Err-Number.quantity) c.in-Err-Number.field-0-is c.in-Err-Number.ensures.fault)
-    (no_request (map (λ (w : Bor (List ℕ)). w.now) c.args.words.now) c.in-Err-Number.field-0 (Number c.in-Err-Number.quantity) c.in-Err-Number.field-0-is (λ e. omega (arith, e)) c.in-Err-Number.ensures.nothing)
+    Refused (Number c.in-Err-Number.quantity) refl
+    (known_as (map (λ (w : Bor (List ℕ)). w.now) c.args.words.now) c.in-Err-Number.field-0
+    (Number c.in-Err-Number.quantity) c.in-Err-Number.field-0-is c.in-Err-Number.ensures.fault)
+    (no_request (map (λ (w : Bor (List ℕ)). w.now) c.args.words.now) c.in-Err-Number.field-0
+    (Number c.in-Err-Number.quantity) c.in-Err-Number.field-0-is (λ e. omega (arith, e))
+    c.in-Err-Number.ensures.nothing)
     refl (search rules, refl, search rules)
 
 pub returns-in-Err-Exclusive-clause-ends : goal.returns-in-Err-Exclusive-clause-ends
 returns-in-Err-Exclusive-clause-ends g c =
-    Refused Exclusive refl (known_as (map (λ (w : Bor (List ℕ)). w.now) c.args.words.now) c.in-Err-Exclusive.field-0 Exclusive c.in-Err-Exclusive.field-0-is c.in-Err-Exclusive.ensures.fault)
-    (no_request (map (λ (w : Bor (List ℕ)). w.now) c.args.words.now) c.in-Err-Exclusive.field-0 Exclusive c.in-Err-Exclusive.field-0-is (λ e. omega (arith, e)) c.in-Err-Exclusive.ensures.nothing)
+    Refused Exclusive refl
+    (known_as (map (λ (w : Bor (List ℕ)). w.now) c.args.words.now) c.in-Err-Exclusive.field-0
+    Exclusive c.in-Err-Exclusive.field-0-is c.in-Err-Exclusive.ensures.fault)
+    (no_request (map (λ (w : Bor (List ℕ)). w.now) c.args.words.now) c.in-Err-Exclusive.field-0
+    Exclusive c.in-Err-Exclusive.field-0-is (λ e. omega (arith, e))
+    c.in-Err-Exclusive.ensures.nothing)
     refl (search rules, refl, search rules)
 
 pub returns-in-Err-Incomplete-clause-ends : goal.returns-in-Err-Incomplete-clause-ends
 returns-in-Err-Incomplete-clause-ends g c =
-    Refused Incomplete refl (known_as (map (λ (w : Bor (List ℕ)). w.now) c.args.words.now) c.in-Err-Incomplete.field-0 Incomplete c.in-Err-Incomplete.field-0-is c.in-Err-Incomplete.ensures.fault)
-    (no_request (map (λ (w : Bor (List ℕ)). w.now) c.args.words.now) c.in-Err-Incomplete.field-0 Incomplete c.in-Err-Incomplete.field-0-is (λ e. omega (arith, e)) c.in-Err-Incomplete.ensures.nothing)
+    Refused Incomplete refl
+    (known_as (map (λ (w : Bor (List ℕ)). w.now) c.args.words.now) c.in-Err-Incomplete.field-0
+    Incomplete c.in-Err-Incomplete.field-0-is c.in-Err-Incomplete.ensures.fault)
+    (no_request (map (λ (w : Bor (List ℕ)). w.now) c.args.words.now) c.in-Err-Incomplete.field-0
+    Incomplete c.in-Err-Incomplete.field-0-is (λ e. omega (arith, e))
+    c.in-Err-Incomplete.ensures.nothing)
     refl (search rules, refl, search rules)

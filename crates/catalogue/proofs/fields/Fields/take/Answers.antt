@@ -14,28 +14,39 @@ returns-clause-taken c =
     let name = c.args.name.now in
     elim c.if-eq.branch [
       | then-eq+in_ok-self w ↦
-          let same : name ≡ certificate = (bytes_eq-Decides name certificate).0 (sym c.eq.ensures ∙ w.if-eq.true) in
+          let same : name ≡ certificate =
+          (bytes_eq-Decides name certificate).0 (sym c.eq.ensures ∙ w.if-eq.true) in
           let read = w.in_ok-self.ensures.read in
           let t = ap (λ s. s.certificate) w.self-is in (
             read.0,
-            subst (λ r. ReadsValue c.args.depth c.args.reader.now (Some (read.0, r))) (sym w.reader-is) read.1,
+            subst (λ r. ReadsValue c.args.depth c.args.reader.now (Some (read.0, r)))
+                (sym w.reader-is) read.1,
             (λ found h. subst (λ k. AreFields g (put k read.0 found)) (sym same)
-                (put_certificate f g read.0 found w.in_ok-self.field-0 t read.2 (ap (λ s. s.code) w.self-is) (ap (λ s. s.others) w.self-is) h)),
+                (put_certificate f g read.0 found w.in_ok-self.field-0 t read.2
+                (ap (λ s. s.code) w.self-is) (ap (λ s. s.others) w.self-is) h)),
           )
       | else-eq+then-eq-2+in_ok-self-2 w ↦
-          let same : name ≡ code = (bytes_eq-Decides name code).0 (sym w.eq-else-eq.ensures ∙ w.if-eq-2.true) in
+          let same : name ≡ code =
+          (bytes_eq-Decides name code).0 (sym w.eq-else-eq.ensures ∙ w.if-eq-2.true) in
           let read = w.in_ok-self-2.ensures.read in
           let t = ap (λ s. s.code) w.self-is in (
             read.0,
-            subst (λ r. ReadsValue c.args.depth c.args.reader.now (Some (read.0, r))) (sym w.reader-is) read.1,
+            subst (λ r. ReadsValue c.args.depth c.args.reader.now (Some (read.0, r)))
+                (sym w.reader-is) read.1,
             (λ found h. subst (λ k. AreFields g (put k read.0 found)) (sym same)
-                (put_code f g read.0 found w.in_ok-self-2.field-0 t read.2 (ap (λ s. s.certificate) w.self-is) (ap (λ s. s.others) w.self-is) h)),
+                (put_code f g read.0 found w.in_ok-self-2.field-0 t read.2
+                (ap (λ s. s.certificate) w.self-is) (ap (λ s. s.others) w.self-is) h)),
           )
       | else-eq+else-eq-2+in_ok-pass_value w ↦
           let read = w.in_ok-pass_value.ensures.passed in (
             read.0,
-            subst (λ r. ReadsValue c.args.depth c.args.reader.now (Some (read.0, r))) (sym w.reader-is) read.1,
-            (λ found h. put_other f g name read.0 found (is_not name certificate (sym c.eq.ensures ∙ w.if-eq.false)) (is_not name code (sym w.eq-else-eq.ensures ∙ w.if-eq-2.false))
-                (ap (λ s. s.certificate) w.self-is) (ap (λ s. s.code) w.self-is) (ap (λ s. s.others) w.self-is) h),
+            subst (λ r. ReadsValue c.args.depth c.args.reader.now (Some (read.0, r)))
+                (sym w.reader-is) read.1,
+            (λ found h.
+                put_other f g name read.0 found
+                (is_not name certificate (sym c.eq.ensures ∙ w.if-eq.false))
+                (is_not name code (sym w.eq-else-eq.ensures ∙ w.if-eq-2.false))
+                (ap (λ s. s.certificate) w.self-is) (ap (λ s. s.code) w.self-is)
+                (ap (λ s. s.others) w.self-is) h),
           )
     ]

@@ -14,37 +14,55 @@ returns-clause-taken c =
     let name = c.args.name.now in
     elim c.if-eq.branch [
       | then-eq+in_ok-self+in-Some-1 w ↦
-          let same : name ≡ entries = (bytes_eq-Decides name entries).0 (sym c.eq.ensures ∙ w.if-eq.true) in
+          let same : name ≡ entries =
+          (bytes_eq-Decides name entries).0 (sym c.eq.ensures ∙ w.if-eq.true) in
           let read = w.in_ok-self.ensures.read in
-          let t = subst (λ x. EntriesAre x (Some read.0)) (sym (ap (λ s. s.entries) w.self-is)) read.2 in (
+          let t =
+          subst (λ x. EntriesAre x (Some read.0)) (sym (ap (λ s. s.entries) w.self-is)) read.2
+          in (
             read.0,
-            subst (λ r. ReadsValue c.args.depth c.args.reader.now (Some (read.0, r))) (sym w.reader-is) read.1,
+            subst (λ r. ReadsValue c.args.depth c.args.reader.now (Some (read.0, r)))
+                (sym w.reader-is) read.1,
             (λ found h. subst (λ k. AreParts g (put k read.0 found)) (sym same)
-                (put_entries f g read.0 found t (ap (λ s. s.version) w.self-is) (ap (λ s. s.others) w.self-is) h)),
+                (put_entries f g read.0 found t (ap (λ s. s.version) w.self-is)
+                (ap (λ s. s.others) w.self-is) h)),
           )
       | then-eq+in_ok-self+in-None-1 w ↦
-          let same : name ≡ entries = (bytes_eq-Decides name entries).0 (sym c.eq.ensures ∙ w.if-eq.true) in
+          let same : name ≡ entries =
+          (bytes_eq-Decides name entries).0 (sym c.eq.ensures ∙ w.if-eq.true) in
           let read = w.in_ok-self.ensures.read in
-          let t = subst (λ x. EntriesAre x (Some read.0)) (sym (ap (λ s. s.entries) w.self-is)) read.2 in (
+          let t =
+          subst (λ x. EntriesAre x (Some read.0)) (sym (ap (λ s. s.entries) w.self-is)) read.2
+          in (
             read.0,
-            subst (λ r. ReadsValue c.args.depth c.args.reader.now (Some (read.0, r))) (sym w.reader-is) read.1,
+            subst (λ r. ReadsValue c.args.depth c.args.reader.now (Some (read.0, r)))
+                (sym w.reader-is) read.1,
             (λ found h. subst (λ k. AreParts g (put k read.0 found)) (sym same)
-                (put_entries f g read.0 found t (ap (λ s. s.version) w.self-is) (ap (λ s. s.others) w.self-is) h)),
+                (put_entries f g read.0 found t (ap (λ s. s.version) w.self-is)
+                (ap (λ s. s.others) w.self-is) h)),
           )
       | else-eq+then-eq-2+in_ok-self-2 w ↦
-          let same : name ≡ version = (bytes_eq-Decides name version).0 (sym w.eq-else-eq.ensures ∙ w.if-eq-2.true) in
+          let same : name ≡ version =
+          (bytes_eq-Decides name version).0 (sym w.eq-else-eq.ensures ∙ w.if-eq-2.true) in
           let read = w.in_ok-self-2.ensures.read in
           let t = ap (λ s. s.version) w.self-is ∙ read.2 in (
             read.0,
-            subst (λ r. ReadsValue c.args.depth c.args.reader.now (Some (read.0, r))) (sym w.reader-is) read.1,
+            subst (λ r. ReadsValue c.args.depth c.args.reader.now (Some (read.0, r)))
+                (sym w.reader-is) read.1,
             (λ found h. subst (λ k. AreParts g (put k read.0 found)) (sym same)
-                (put_version f g read.0 found t (ap (λ s. s.entries) w.self-is) (ap (λ s. s.others) w.self-is) h)),
+                (put_version f g read.0 found t (ap (λ s. s.entries) w.self-is)
+                (ap (λ s. s.others) w.self-is) h)),
           )
       | else-eq+else-eq-2+in_ok-pass_value w ↦
           let read = w.in_ok-pass_value.ensures.passed in (
             read.0,
-            subst (λ r. ReadsValue c.args.depth c.args.reader.now (Some (read.0, r))) (sym w.reader-is) read.1,
-            (λ found h. put_other f g name read.0 found (is_not name entries (sym c.eq.ensures ∙ w.if-eq.false)) (is_not name version (sym w.eq-else-eq.ensures ∙ w.if-eq-2.false))
-                (ap (λ s. s.entries) w.self-is) (ap (λ s. s.version) w.self-is) (ap (λ s. s.others) w.self-is) h),
+            subst (λ r. ReadsValue c.args.depth c.args.reader.now (Some (read.0, r)))
+                (sym w.reader-is) read.1,
+            (λ found h.
+                put_other f g name read.0 found
+                (is_not name entries (sym c.eq.ensures ∙ w.if-eq.false))
+                (is_not name version (sym w.eq-else-eq.ensures ∙ w.if-eq-2.false))
+                (ap (λ s. s.entries) w.self-is) (ap (λ s. s.version) w.self-is)
+                (ap (λ s. s.others) w.self-is) h),
           )
     ]

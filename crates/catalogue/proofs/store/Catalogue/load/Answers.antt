@@ -9,16 +9,25 @@ use Rattle.catalogue.proofs.store.Catalogue.load.Goals as goal
 pub returns-in_err-take : goal.returns-in_err-take
 returns-in_err-take c =
     let items = c.deref-entry-items.result.now in
-    let p = err_from_is_err_and c.from_residual-in_err-take.result c.from_residual-in_err-take.ensures.1 in
-    let holds : Holds c.args.bytes.now (map written items) = subst (λ ts. Holds c.args.bytes.now (map written ts)) (sym c.deref-entry-items.ensures.value) c.in_ok-entries.ensures.ok in
+    let p =
+    err_from_is_err_and c.from_residual-in_err-take.result c.from_residual-in_err-take.ensures.1
+    in
+    let holds : Holds c.args.bytes.now (map written items) =
+    subst (λ ts. Holds c.args.bytes.now (map written ts))
+    (sym c.deref-entry-items.ensures.value) c.in_ok-entries.ensures.ok in
     let t = get_or items c.loop-at.at blank in
     rw p.1 (loaded_fault c.args.bytes.now c.args.limit items c.loop-at.at t c.loop-at.catalogue p.0
-    holds c.loop-at-test.true (itself_at items c.loop-at.at blank t c.loop-at-test.true) c.loop-at.invariant
-    (subst (IsFaultOrMemory c.args.limit c.loop-at.catalogue (c.loop-at.at + 1) (written t)) (sym p.2) c.in_err-take.ensures.fault))
+    holds c.loop-at-test.true (itself_at items c.loop-at.at blank t c.loop-at-test.true)
+    c.loop-at.invariant
+    (subst (IsFaultOrMemory c.args.limit c.loop-at.catalogue (c.loop-at.at + 1) (written t))
+    (sym p.2) c.in_err-take.ensures.fault))
 
 pub loop-at-preserved : goal.loop-at-preserved
 loop-at-preserved c =
     let items = c.deref-entry-items.result.now in
     let t = get_or items c.loop-at.at blank in
-    subst (λ es. Stand es c.take.new.self) (sym (written_more items c.loop-at.at t c.loop-at-test.true (itself_at items c.loop-at.at blank t c.loop-at-test.true)))
-    (stand_push (take c.loop-at.at (map written items)) c.loop-at.catalogue (written t) c.take.new.self c.loop-at.invariant c.in_ok-take.ensures.taken)
+    subst (λ es. Stand es c.take.new.self)
+    (sym (written_more items c.loop-at.at t c.loop-at-test.true
+    (itself_at items c.loop-at.at blank t c.loop-at-test.true)))
+    (stand_push (take c.loop-at.at (map written items)) c.loop-at.catalogue (written t)
+    c.take.new.self c.loop-at.invariant c.in_ok-take.ensures.taken)

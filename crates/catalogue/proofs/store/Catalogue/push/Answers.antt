@@ -8,8 +8,10 @@ use Rattle.catalogue.proofs.store.Catalogue.push.Goals as goal
 
 pub append-requires : goal.append-requires
 append-requires c =
-    let code : c.code.result.now ≡ c.args.certified.code = c.code.ensures ∙ ap (λ x. x.code) c.cert.ensures.same in
-    not_found c.key_of-key.result c.args.certified.code c.self.inside.entries.entries (subst IsOctalCode code c.key_of-key.ensures.code)
+    let code : c.code.result.now ≡ c.args.certified.code =
+    c.code.ensures ∙ ap (λ x. x.code) c.cert.ensures.same in
+    not_found c.key_of-key.result c.args.certified.code c.self.inside.entries.entries
+    (subst IsOctalCode code c.key_of-key.ensures.code)
     (subst (IsKeyOf c.key_of-key.result) code c.key_of-key.ensures.key) c.self.invariant.keyed
     (subst (λ cs. HasCode cs c.args.certified.code → ⊥) (sym c.self.view_is) c.requires)
 
@@ -17,14 +19,21 @@ pub invariant_of-self : goal.invariant_of-self
 invariant_of-self c =
     let es = c.self.inside.entries.entries in
     let e : Held = (c.key_of-key.result, c.args.certified) in
-    let code : c.code.result.now ≡ c.args.certified.code = c.code.ensures ∙ ap (λ x. x.code) c.cert.ensures.same in
-    either c.append.result AreKeyed es (es ++ e ∷ []) c.append.new.entries.entries c.append.ensures.last c.append.ensures.unchanged c.self.invariant
-    (held_push es c.key_of-key.result c.args.certified c.self.invariant (subst (IsKeyOf c.key_of-key.result) code c.key_of-key.ensures.key)
-    (subst IsOctalCode code c.key_of-key.ensures.code) c.cert.ensures.accepted (subst (λ cs. HasCode cs c.args.certified.code → ⊥) (sym c.self.view_is) c.requires))
+    let code : c.code.result.now ≡ c.args.certified.code =
+    c.code.ensures ∙ ap (λ x. x.code) c.cert.ensures.same in
+    either c.append.result AreKeyed es (es ++ e ∷ []) c.append.new.entries.entries
+    c.append.ensures.last c.append.ensures.unchanged c.self.invariant
+    (held_push es c.key_of-key.result c.args.certified c.self.invariant
+    (subst (IsKeyOf c.key_of-key.result) code c.key_of-key.ensures.key)
+    (subst IsOctalCode code c.key_of-key.ensures.code) c.cert.ensures.accepted
+    (subst (λ cs. HasCode cs c.args.certified.code → ⊥) (sym c.self.view_is) c.requires))
 
 pub returns-clause-added : goal.returns-clause-added
 returns-clause-added c =
     let es = c.self.inside.entries.entries in
     let e : Held = (c.key_of-key.result, c.args.certified) in
-    within c.append.result (c.append.new.entries.entries ≡ es ++ e ∷ []) (values_of c.append.new.entries.entries ≡ c.args.self.now ++ c.args.certified ∷ []) c.append.ensures.last
-    (λ last. ap values_of last ∙ values_push es e ∙ ap (λ cs. cs ++ c.args.certified ∷ []) c.self.view_is)
+    within c.append.result (c.append.new.entries.entries ≡ es ++ e ∷ [])
+    (values_of c.append.new.entries.entries ≡ c.args.self.now ++ c.args.certified ∷ [])
+    c.append.ensures.last
+    (λ last. ap values_of last ∙ values_push es e
+    ∙ ap (λ cs. cs ++ c.args.certified ∷ []) c.self.view_is)

@@ -8,5 +8,6 @@ use Rattle.catalogue.proofs.store.Catalogue.salvage.Given as goal
 -- whatever becomes of the entries that are left becomes of all, behind what was kept and listed
 abbrev pub invariant-loop-at : goal.invariant-loop-at
 invariant-loop-at l =
-    (cs : List Certificate) (more : List LoadFault) → Salvages l.limit l.catalogue (l.at + 1) (drop l.at (map written l.entry-items)) cs more
+    (cs : List Certificate) (more : List LoadFault)
+    → Salvages l.limit l.catalogue (l.at + 1) (drop l.at (map written l.entry-items)) cs more
     → Salvages l.limit [] 1 (map written l.entry-items) cs (l.faults.items ++ more)

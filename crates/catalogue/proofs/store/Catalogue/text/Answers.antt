@@ -7,6 +7,9 @@ use Rattle.catalogue.proofs.store.Catalogue.text.Goals as goal
 pub returns : goal.returns
 unfolding lib.Utf8.encode
 returns c =
-    let plain : has_float (view c.in_ok-value.value) ≡ false = ap has_float c.in_ok-value.ensures ∙ no_float c.args.self.now in
-    let written : string_bytes c.in_ok-text.text ≡ compact_text (view c.in_ok-value.value) = c.in_ok-text.ensures.text plain in
-    c.in_ok-push.ensures.bytes ∙ ap (λ s. s ++ 10 ∷ []) (written ∙ ap compact_text c.in_ok-value.ensures)
+    let plain : has_float (view c.in_ok-value.value) ≡ false =
+    ap has_float c.in_ok-value.ensures ∙ no_float c.args.self.now in
+    let written : string_bytes c.in_ok-text.text ≡ compact_text (view c.in_ok-value.value) =
+    c.in_ok-text.ensures.text plain in
+    c.in_ok-push.ensures.bytes
+    ∙ ap (λ s. s ++ 10 ∷ []) (written ∙ ap compact_text c.in_ok-value.ensures)

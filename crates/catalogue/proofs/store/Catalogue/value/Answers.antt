@@ -10,13 +10,22 @@ loop-certified-preserved c =
     let items = c.entries-certified-items.result.now in
     let i = c.loop-certified.certified-index in
     let v = c.certified-item.result in
-    let more : take (i + 1) items ≡ take i items ++ v ∷ [] = take_more items i v c.loop-certified-test.true ∙ ap (λ x. take i items ++ x ∷ []) (sym c.certified-item.is) in
-    ap (map view) c.in_ok-push.ensures.items ∙ map-append view c.loop-certified.entries.items (c.in_ok-entry.entry ∷ [])
-    ∙ ap₂ (λ xs x. xs ++ x ∷ []) c.loop-certified.invariant (c.in_ok-entry.ensures ∙ ap entry_data c.cert.ensures.same)
+    let more : take (i + 1) items ≡ take i items ++ v ∷ [] =
+    take_more items i v c.loop-certified-test.true ∙ ap (λ x. take i items ++ x ∷ [])
+    (sym c.certified-item.is) in
+    ap (map view) c.in_ok-push.ensures.items ∙ map-append view c.loop-certified.entries.items
+    (c.in_ok-entry.entry ∷ [])
+    ∙ ap₂ (λ xs x. xs ++ x ∷ []) c.loop-certified.invariant
+    (c.in_ok-entry.ensures ∙ ap entry_data c.cert.ensures.same)
     ∙ sym (ap (map entry_data) more ∙ map-append entry_data (take i items) (v ∷ []))
 
 pub returns : goal.returns
 returns c =
     let items = c.entries-certified-items.result.now in
-    let same = c.loop-certified.invariant ∙ ap (map entry_data) (take_past items c.loop-certified.certified-index c.loop-certified-test.false ∙ c.entries-certified-items.ensures.all) in
-    subst (λ ds. IfOk c.file_value.result (λ v. view v ≡ file_data (items_of ds))) same c.file_value.ensures
+    let same =
+    c.loop-certified.invariant
+    ∙ ap (map entry_data)
+    (take_past items c.loop-certified.certified-index c.loop-certified-test.false
+    ∙ c.entries-certified-items.ensures.all) in
+    subst (λ ds. IfOk c.file_value.result (λ v. view v ≡ file_data (items_of ds))) same
+    c.file_value.ensures

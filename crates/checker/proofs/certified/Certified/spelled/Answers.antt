@@ -4,7 +4,9 @@ use Rattle.checker.proofs.SpellLemmas.{go_down, sizes_spelled}
 use Rattle.checker.proofs.certified.Certified.spelled.Goals as goal
 
 pub spelled-requires-clause-down : goal.spelled-requires-clause-down
-spelled-requires-clause-down g c = go_down c.self.inside.cert c.words.result.now c.words.ensures c.self.invariant.0.in_ranges c.self.invariant.0.canonical
+spelled-requires-clause-down g c =
+    go_down c.self.inside.cert c.words.result.now c.words.ensures c.self.invariant.0.in_ranges
+    c.self.invariant.0.canonical
 
 pub spelled-requires-clause-element_in : goal.spelled-requires-clause-element_in
 spelled-requires-clause-element_in g c =
@@ -14,18 +16,22 @@ spelled-requires-clause-element_in g c =
     omega arith
 
 pub returns-clause-keys : goal.returns-clause-keys
-returns-clause-keys g c = c.in_ok-position.ensures c.args.self.now (sym (c.words.ensures ∙ ap (λ d. d.words) c.self.view_is))
+returns-clause-keys g c =
+    c.in_ok-position.ensures c.args.self.now
+    (sym (c.words.ensures ∙ ap (λ d. d.words) c.self.view_is))
 
 pub returns-clause-position : goal.returns-clause-position
 returns-clause-position g c =
     let d = c.args.self.now in
     let yes_to = subst Accepted c.self.view_is c.self.invariant.0 in
     let s = c.in_ok-position.ensures d (sym (c.words.ensures ∙ ap (λ d. d.words) c.self.view_is)) in
-    (sizes_spelled d (record { in_ranges = yes_to.in_ranges; monoid = yes_to.represents.monoid }) yes_to.canonical c.args.element c.in_ok-position.position c.requires s).0
+    (sizes_spelled d (record { in_ranges = yes_to.in_ranges; monoid = yes_to.represents.monoid })
+    yes_to.canonical c.args.element c.in_ok-position.position c.requires s).0
 
 pub returns-clause-value : goal.returns-clause-value
 returns-clause-value g c =
     let d = c.args.self.now in
     let yes_to = subst Accepted c.self.view_is c.self.invariant.0 in
     let s = c.in_ok-position.ensures d (sym (c.words.ensures ∙ ap (λ d. d.words) c.self.view_is)) in
-    (sizes_spelled d (record { in_ranges = yes_to.in_ranges; monoid = yes_to.represents.monoid }) yes_to.canonical c.args.element c.in_ok-position.position c.requires s).1
+    (sizes_spelled d (record { in_ranges = yes_to.in_ranges; monoid = yes_to.represents.monoid })
+    yes_to.canonical c.args.element c.in_ok-position.position c.requires s).1

@@ -15,12 +15,18 @@ use Rattle.checker.proofs.closing.Closing.new.Goals as goal
 pub invariant_of-result : goal.invariant_of-result
 invariant_of-result g c =
     let s = c.sheet.inside in
-    subst (λ (p : Progress). IsClosing (pieces_of s.code p.state.table s.phi s.lines.portion.items s.lines.words.items s.lines.apart.items) s.lines.inside p.state.heaps × HeldObey s.lines.inside p.state.held × (has_ended p.state ≡ false) × (p.failed ≡ false)) (sym c.new.ensures) (
+    subst (λ (p : Progress).
+    IsClosing
+    (pieces_of s.code p.state.table s.phi s.lines.portion.items s.lines.words.items
+    s.lines.apart.items) s.lines.inside p.state.heaps × HeldObey s.lines.inside p.state.held
+    × (has_ended p.state ≡ false) × (p.failed ≡ false)) (sym c.new.ensures) (
       record {
         sheet = c.sheet.invariant;
         canonical = subst Canonical (sym c.sheet.view_is) c.requires.canonical;
         exact = subst (λ d. HavePairs d c.args.pairs.items) (sym c.sheet.view_is) c.requires.pairs;
-        elements = subst (λ d. ElementsObey d.code (claim_of d) (IsHeapUpTo (bound_of d))) (sym c.sheet.view_is) c.requires.elements;
+        elements =
+            subst (λ d. ElementsObey d.code (claim_of d) (IsHeapUpTo (bound_of d)))
+            (sym c.sheet.view_is) c.requires.elements;
       },
       λ i l. absurd (omega arith),
       begun_going s.table c.args.pairs.items c.args.limit,
@@ -30,8 +36,23 @@ invariant_of-result g c =
 pub returns : goal.returns
 returns g c =
     let s = c.sheet.inside in
-    let p : Pieces = pieces_of s.code s.table s.phi s.lines.portion.items s.lines.words.items s.lines.apart.items in
-    let with : Certificate → Grid → ClosingView = λ d t. record { certificate = d; closure = begun t c.args.pairs.items c.args.limit } in
-    let over : Progress → ClosingView = λ q. record { certificate = certificate_of (pieces_of s.code q.state.table s.phi s.lines.portion.items s.lines.words.items s.lines.apart.items); closure = q } in
-    let joined : grid_of (certificate_of p) ≡ s.table = ap (λ es. record { order = s.table.order; entries = es }) c.sheet.invariant.whole.rows_joined in
-    record { value = ap over c.new.ensures ∙ (ap (with (certificate_of p)) (sym joined) ∙ ap (λ d. with d (grid_of d)) c.sheet.view_is) }
+    let p : Pieces =
+    pieces_of s.code s.table s.phi s.lines.portion.items s.lines.words.items s.lines.apart.items
+    in
+    let with : Certificate → Grid → ClosingView =
+    λ d t. record { certificate = d; closure = begun t c.args.pairs.items c.args.limit } in
+    let over : Progress → ClosingView =
+    λ q. record {
+      certificate = certificate_of
+          (pieces_of s.code q.state.table s.phi s.lines.portion.items s.lines.words.items
+          s.lines.apart.items);
+      closure = q;
+    } in
+    let joined : grid_of (certificate_of p) ≡ s.table =
+    ap (λ es. record { order = s.table.order; entries = es })
+    c.sheet.invariant.whole.rows_joined in
+    record {
+      value = ap over c.new.ensures
+          ∙ (ap (with (certificate_of p)) (sym joined)
+          ∙ ap (λ d. with d (grid_of d)) c.sheet.view_is);
+    }

@@ -26,31 +26,59 @@ closed r f h e d = e ∙ ap Ok d
 pub returns-in-Ok-Over-clause-carries : goal.returns-in-Ok-Over-clause-carries
 returns-in-Ok-Over-clause-carries g c =
     let s = c.self.inside in
-    let p : Pieces = pieces_of s.code s.closure.state.table s.phi s.lines.portion.items s.lines.words.items s.lines.apart.items in
+    let p : Pieces =
+    pieces_of s.code s.closure.state.table s.phi s.lines.portion.items s.lines.words.items
+    s.lines.apart.items in
     let i = c.self.invariant.0 in
     let t = c.close-closed.new.closure.state in
     let kept_data = c.close-closed.ensures.«data» in
-    let more = over_reaches p s.lines.inside s.closure.state.heaps i t kept_data.table kept_data.heaps (c.close-closed.ensures.over (closed c.close-closed.result c.in-Ok-Over.field-0 Over c.in-Ok-Over.is (rw c.in-Ok-Over.is at c.in-Ok-Over.field-0-is))) in
-    subst (λ v. Fits v.certificate v.closure.state.limit Limit) c.self.view_is
-    (i.sheet.lawful.monoid, i.canonical, subst (ReachesMoreThan IsHeap p.code (claim_of (certificate_of p))) kept_data.limit more)
+    let more =
+    over_reaches p s.lines.inside s.closure.state.heaps i t kept_data.table kept_data.heaps
+    (c.close-closed.ensures.over
+    (closed c.close-closed.result c.in-Ok-Over.field-0 Over c.in-Ok-Over.is
+    (rw c.in-Ok-Over.is at c.in-Ok-Over.field-0-is))) in
+    subst (λ v. Fits v.certificate v.closure.state.limit Limit) c.self.view_is (
+      i.sheet.lawful.monoid,
+      i.canonical,
+      subst (ReachesMoreThan IsHeap p.code (claim_of (certificate_of p))) kept_data.limit more,
+    )
 
 pub returns-in-Ok-clause-carries : goal.returns-in-Ok-clause-carries
 returns-in-Ok-clause-carries g c =
     let s = c.self.inside in
-    let p : Pieces = pieces_of s.code s.closure.state.table s.phi s.lines.portion.items s.lines.words.items s.lines.apart.items in
+    let p : Pieces =
+    pieces_of s.code s.closure.state.table s.phi s.lines.portion.items s.lines.words.items
+    s.lines.apart.items in
     let i = c.self.invariant.0 in
     let t = c.close-closed.new.closure.state in
     let kept_data = c.close-closed.ensures.«data» in
     let n = c.in-Ok-Broken.i in
-    let broken : (n < length t.held) × Breaks s.lines.inside (slice_index_or t.held n blank_held).pair = c.close-closed.ensures.broken n (closed c.close-closed.result c.in-Ok-Broken.field-0 (Broken n) c.in-Ok-Broken.is (rw c.in-Ok-Broken.is at c.in-Ok-Broken.field-0-is)) in
-    let fails = member_fails p s.lines.inside s.closure.state.heaps i t kept_data.table kept_data.heaps _ c.in-Ok.position c.in-Ok.ensures broken.1 in
-    subst (λ v. Fits v.certificate v.closure.state.limit (Outcome s.code c.in-Ok.position)) c.self.view_is
-    (refl, (i.sheet.lawful.monoid, i.canonical, position_within _ c.in-Ok.position c.in-Ok.ensures.within, fails))
+    let broken : (n < length t.held)
+    × Breaks s.lines.inside (slice_index_or t.held n blank_held).pair =
+    c.close-closed.ensures.broken n
+    (closed c.close-closed.result c.in-Ok-Broken.field-0 (Broken n) c.in-Ok-Broken.is
+    (rw c.in-Ok-Broken.is at c.in-Ok-Broken.field-0-is)) in
+    let fails =
+    member_fails p s.lines.inside s.closure.state.heaps i t kept_data.table kept_data.heaps _
+    c.in-Ok.position c.in-Ok.ensures broken.1 in
+    subst (λ v. Fits v.certificate v.closure.state.limit (Outcome s.code c.in-Ok.position))
+    c.self.view_is (
+      refl,
+      (
+        i.sheet.lawful.monoid,
+        i.canonical,
+        position_within _ c.in-Ok.position c.in-Ok.ensures.within,
+        fails,
+      ),
+    )
 
 pub word-requires : goal.word-requires
 word-requires g c =
     let n = c.in-Ok-Broken.i in
-    let broken = c.close-closed.ensures.broken n (closed c.close-closed.result c.in-Ok-Broken.field-0 (Broken n) c.in-Ok-Broken.is (rw c.in-Ok-Broken.is at c.in-Ok-Broken.field-0-is)) in
+    let broken =
+    c.close-closed.ensures.broken n
+    (closed c.close-closed.result c.in-Ok-Broken.field-0 (Broken n) c.in-Ok-Broken.is
+    (rw c.in-Ok-Broken.is at c.in-Ok-Broken.field-0-is)) in
     broken.0
 
 pub invariant_of-result : goal.invariant_of-result
@@ -58,10 +86,23 @@ invariant_of-result g c =
     let s = c.self.inside in
     let t = c.close-closed.new.closure.state in
     let kept_data = c.close-closed.ensures.«data» in
-    let more = c.close-closed.ensures.more (closed c.close-closed.result c.in-Ok-More.field-0 More c.in-Ok-More.is (rw c.in-Ok-More.is at c.in-Ok-More.field-0-is)) in
-    let stays = c.close-closed.ensures.stays (closed c.close-closed.result c.in-Ok-More.field-0 More c.in-Ok-More.is (rw c.in-Ok-More.is at c.in-Ok-More.field-0-is)) in (
-      subst (λ g. IsClosing (pieces_of s.code g s.phi s.lines.portion.items s.lines.words.items s.lines.apart.items) s.lines.inside t.heaps) (sym kept_data.table)
-          (subst (λ h. IsClosing (pieces_of s.code s.closure.state.table s.phi s.lines.portion.items s.lines.words.items s.lines.apart.items) s.lines.inside h) (sym kept_data.heaps) c.self.invariant.0),
+    let more =
+    c.close-closed.ensures.more
+    (closed c.close-closed.result c.in-Ok-More.field-0 More c.in-Ok-More.is
+    (rw c.in-Ok-More.is at c.in-Ok-More.field-0-is)) in
+    let stays =
+    c.close-closed.ensures.stays
+    (closed c.close-closed.result c.in-Ok-More.field-0 More c.in-Ok-More.is
+    (rw c.in-Ok-More.is at c.in-Ok-More.field-0-is)) in (
+      subst (λ g.
+          IsClosing
+          (pieces_of s.code g s.phi s.lines.portion.items s.lines.words.items s.lines.apart.items)
+          s.lines.inside t.heaps) (sym kept_data.table)
+          (subst
+          (λ h. IsClosing
+          (pieces_of s.code s.closure.state.table s.phi s.lines.portion.items
+          s.lines.words.items s.lines.apart.items) s.lines.inside h) (sym kept_data.heaps)
+          c.self.invariant.0),
       more.1,
       stays.0,
       stays.1,
@@ -70,26 +111,44 @@ invariant_of-result g c =
 pub accepted-requires : goal.accepted-requires
 accepted-requires g c =
     let s = c.self.inside in
-    let p : Pieces = pieces_of s.code s.closure.state.table s.phi s.lines.portion.items s.lines.words.items s.lines.apart.items in
+    let p : Pieces =
+    pieces_of s.code s.closure.state.table s.phi s.lines.portion.items s.lines.words.items
+    s.lines.apart.items in
     let i = c.self.invariant.0 in
     let t = c.close-closed.new.closure.state in
     let kept_data = c.close-closed.ensures.«data» in
-    let (whole, obey) = c.close-closed.ensures.done (closed c.close-closed.result c.in-Ok-Done.field-0 Done c.in-Ok-Done.is (rw c.in-Ok-Done.is at c.in-Ok-Done.field-0-is)) in
-    let covered = members_cover p s.lines.inside s.closure.state.heaps i t kept_data.table kept_data.heaps whole obey in
-    let accepted = c.tested_certificates_are_accepted.ensures (certificate_of p) covered.kept i.sheet.lawful.in_ranges i.sheet.lawful.monoid i.canonical covered.closed covered.obey i.elements in
-    subst (λ g. Accepted (certificate_of (pieces_of s.code g s.phi s.lines.portion.items s.lines.words.items s.lines.apart.items))) (sym (c.finish-table.ensures.table ∙ kept_data.table)) accepted
+    let (whole, obey) =
+    c.close-closed.ensures.done
+    (closed c.close-closed.result c.in-Ok-Done.field-0 Done c.in-Ok-Done.is
+    (rw c.in-Ok-Done.is at c.in-Ok-Done.field-0-is)) in
+    let covered =
+    members_cover p s.lines.inside s.closure.state.heaps i t kept_data.table kept_data.heaps
+    whole obey in
+    let accepted =
+    c.tested_certificates_are_accepted.ensures (certificate_of p) covered.kept
+    i.sheet.lawful.in_ranges i.sheet.lawful.monoid i.canonical covered.closed covered.obey
+    i.elements in
+    subst (λ g.
+    Accepted
+    (certificate_of
+    (pieces_of s.code g s.phi s.lines.portion.items s.lines.words.items s.lines.apart.items)))
+    (sym (c.finish-table.ensures.table ∙ kept_data.table)) accepted
 
 pub returns-in-Err-clause-comes : goal.returns-in-Err-clause-comes
 returns-in-Err-clause-comes g c =
     let s = c.self.inside in
-    let p : Pieces = pieces_of s.code s.closure.state.table s.phi s.lines.portion.items s.lines.words.items s.lines.apart.items in
+    let p : Pieces =
+    pieces_of s.code s.closure.state.table s.phi s.lines.portion.items s.lines.words.items
+    s.lines.apart.items in
     let i = c.self.invariant.0 in
     let n = c.close-closed.new.closure in
     let a = c.close-closed.new.left in
     let r = c.in-Err.ensures.refused in
     λ bytes limit. record {
       to = r.0 (certificate_of p);
-      runs = subst (λ v. Runs bytes limit (Closing v) c.args.left.now a (r.0 (certificate_of p))) c.self.view_is (r.1 (certificate_of p) i.sheet.portion bytes limit);
+      runs =
+          subst (λ v. Runs bytes limit (Closing v) c.args.left.now a (r.0 (certificate_of p)))
+          c.self.view_is (r.1 (certificate_of p) i.sheet.portion bytes limit);
       shown = inr refl;
       exact = λ h. omega arith;
     }
@@ -97,16 +156,34 @@ returns-in-Err-clause-comes g c =
 pub returns-in-Ok-More-clause-comes : goal.returns-in-Ok-More-clause-comes
 returns-in-Ok-More-clause-comes g c =
     let s = c.self.inside in
-    let p : Pieces = pieces_of s.code s.closure.state.table s.phi s.lines.portion.items s.lines.words.items s.lines.apart.items in
+    let p : Pieces =
+    pieces_of s.code s.closure.state.table s.phi s.lines.portion.items s.lines.words.items
+    s.lines.apart.items in
     let i = c.self.invariant.0 in
     let n = c.close-closed.new.closure in
     let a = c.close-closed.new.left in
-    let r = c.close-closed.ensures.turns (closed c.close-closed.result c.in-Ok-More.field-0 More c.in-Ok-More.is (rw c.in-Ok-More.is at c.in-Ok-More.field-0-is)) in
-    let m = c.close-closed.ensures.more (closed c.close-closed.result c.in-Ok-More.field-0 More c.in-Ok-More.is (rw c.in-Ok-More.is at c.in-Ok-More.field-0-is)) in
-    let at : Grid → Phase = λ t. Closing (record { certificate = certificate_of (pieces_of s.code t s.phi s.lines.portion.items s.lines.words.items s.lines.apart.items); closure = n }) in
+    let r =
+    c.close-closed.ensures.turns
+    (closed c.close-closed.result c.in-Ok-More.field-0 More c.in-Ok-More.is
+    (rw c.in-Ok-More.is at c.in-Ok-More.field-0-is)) in
+    let m =
+    c.close-closed.ensures.more
+    (closed c.close-closed.result c.in-Ok-More.field-0 More c.in-Ok-More.is
+    (rw c.in-Ok-More.is at c.in-Ok-More.field-0-is)) in
+    let at : Grid → Phase =
+    λ t. Closing
+    (record {
+      certificate = certificate_of
+          (pieces_of s.code t s.phi s.lines.portion.items s.lines.words.items s.lines.apart.items);
+      closure = n;
+    }) in
     λ bytes limit. record {
       to = at n.state.table;
-      runs = subst (λ v. Runs bytes limit (Closing v) c.args.left.now a (at n.state.table)) c.self.view_is (runs-to bytes limit _ _ _ _ _ (r (certificate_of p) i.sheet.portion bytes limit) (ap at (sym c.close-closed.ensures.«data».table)));
+      runs =
+          subst (λ v. Runs bytes limit (Closing v) c.args.left.now a (at n.state.table))
+          c.self.view_is
+          (runs-to bytes limit _ _ _ _ _ (r (certificate_of p) i.sheet.portion bytes limit)
+          (ap at (sym c.close-closed.ensures.«data».table)));
       shown = inl refl;
       exact = λ h. absurd (omega (arith, m.0));
     }
@@ -114,14 +191,21 @@ returns-in-Ok-More-clause-comes g c =
 pub returns-in-Ok-Over-clause-comes : goal.returns-in-Ok-Over-clause-comes
 returns-in-Ok-Over-clause-comes g c =
     let s = c.self.inside in
-    let p : Pieces = pieces_of s.code s.closure.state.table s.phi s.lines.portion.items s.lines.words.items s.lines.apart.items in
+    let p : Pieces =
+    pieces_of s.code s.closure.state.table s.phi s.lines.portion.items s.lines.words.items
+    s.lines.apart.items in
     let i = c.self.invariant.0 in
     let n = c.close-closed.new.closure in
     let a = c.close-closed.new.left in
-    let r = c.close-closed.ensures.limit (closed c.close-closed.result c.in-Ok-Over.field-0 Over c.in-Ok-Over.is (rw c.in-Ok-Over.is at c.in-Ok-Over.field-0-is)) in
+    let r =
+    c.close-closed.ensures.limit
+    (closed c.close-closed.result c.in-Ok-Over.field-0 Over c.in-Ok-Over.is
+    (rw c.in-Ok-Over.is at c.in-Ok-Over.field-0-is)) in
     λ bytes limit. record {
       to = Ended Limit;
-      runs = subst (λ v. Runs bytes limit (Closing v) c.args.left.now a (Ended Limit)) c.self.view_is (r (certificate_of p) i.sheet.portion bytes limit);
+      runs =
+          subst (λ v. Runs bytes limit (Closing v) c.args.left.now a (Ended Limit)) c.self.view_is
+          (r (certificate_of p) i.sheet.portion bytes limit);
       shown = inl refl;
       exact = λ h. omega arith;
     }
@@ -129,16 +213,25 @@ returns-in-Ok-Over-clause-comes g c =
 pub returns-in-Ok-clause-comes : goal.returns-in-Ok-clause-comes
 returns-in-Ok-clause-comes g c =
     let s = c.self.inside in
-    let p : Pieces = pieces_of s.code s.closure.state.table s.phi s.lines.portion.items s.lines.words.items s.lines.apart.items in
+    let p : Pieces =
+    pieces_of s.code s.closure.state.table s.phi s.lines.portion.items s.lines.words.items
+    s.lines.apart.items in
     let i = c.self.invariant.0 in
     let n = c.close-closed.new.closure in
     let a = c.close-closed.new.left in
     let k = c.in-Ok-Broken.i in
-    let r = c.close-closed.ensures.outcome k (closed c.close-closed.result c.in-Ok-Broken.field-0 (Broken k) c.in-Ok-Broken.is (rw c.in-Ok-Broken.is at c.in-Ok-Broken.field-0-is)) in
+    let r =
+    c.close-closed.ensures.outcome k
+    (closed c.close-closed.result c.in-Ok-Broken.field-0 (Broken k) c.in-Ok-Broken.is
+    (rw c.in-Ok-Broken.is at c.in-Ok-Broken.field-0-is)) in
     let m = slice_index_or n.state.held k blank_held in
     λ bytes limit. record {
       to = Ended (Outcome s.code c.in-Ok.position);
-      runs = subst (λ v. Runs bytes limit (Closing v) c.args.left.now a (Ended (Outcome s.code c.in-Ok.position))) c.self.view_is (runs-to bytes limit _ _ _ _ _ (r (certificate_of p) i.sheet.portion bytes limit) (ap (λ X. Ended (Outcome s.code X)) (sym c.in-Ok.ensures.are)));
+      runs =
+          subst (λ v. Runs bytes limit (Closing v) c.args.left.now a
+          (Ended (Outcome s.code c.in-Ok.position))) c.self.view_is
+          (runs-to bytes limit _ _ _ _ _ (r (certificate_of p) i.sheet.portion bytes limit)
+          (ap (λ X. Ended (Outcome s.code X)) (sym c.in-Ok.ensures.are)));
       shown = inl refl;
       exact = λ h. omega arith;
     }
@@ -146,16 +239,24 @@ returns-in-Ok-clause-comes g c =
 pub returns-in-Ok-Broken-clause-comes : goal.returns-in-Ok-Broken-clause-comes
 returns-in-Ok-Broken-clause-comes g c =
     let s = c.self.inside in
-    let p : Pieces = pieces_of s.code s.closure.state.table s.phi s.lines.portion.items s.lines.words.items s.lines.apart.items in
+    let p : Pieces =
+    pieces_of s.code s.closure.state.table s.phi s.lines.portion.items s.lines.words.items
+    s.lines.apart.items in
     let i = c.self.invariant.0 in
     let n = c.close-closed.new.closure in
     let a = c.close-closed.new.left in
     let k = c.in-Ok-Broken.i in
-    let r = c.close-closed.ensures.outcome k (closed c.close-closed.result c.in-Ok-Broken.field-0 (Broken k) c.in-Ok-Broken.is (rw c.in-Ok-Broken.is at c.in-Ok-Broken.field-0-is)) in
+    let r =
+    c.close-closed.ensures.outcome k
+    (closed c.close-closed.result c.in-Ok-Broken.field-0 (Broken k) c.in-Ok-Broken.is
+    (rw c.in-Ok-Broken.is at c.in-Ok-Broken.field-0-is)) in
     let m = slice_index_or n.state.held k blank_held in
     λ bytes limit. record {
       to = Ended (Outcome s.code (rising (word n.state m.place)));
-      runs = subst (λ v. Runs bytes limit (Closing v) c.args.left.now a (Ended (Outcome s.code (rising (word n.state m.place))))) c.self.view_is (r (certificate_of p) i.sheet.portion bytes limit);
+      runs =
+          subst (λ v. Runs bytes limit (Closing v) c.args.left.now a
+          (Ended (Outcome s.code (rising (word n.state m.place))))) c.self.view_is
+          (r (certificate_of p) i.sheet.portion bytes limit);
       shown = inr refl;
       exact = λ h. omega arith;
     }
@@ -163,15 +264,27 @@ returns-in-Ok-Broken-clause-comes g c =
 pub returns-clause-comes : goal.returns-clause-comes
 returns-clause-comes g c =
     let s = c.self.inside in
-    let p : Pieces = pieces_of s.code s.closure.state.table s.phi s.lines.portion.items s.lines.words.items s.lines.apart.items in
+    let p : Pieces =
+    pieces_of s.code s.closure.state.table s.phi s.lines.portion.items s.lines.words.items
+    s.lines.apart.items in
     let i = c.self.invariant.0 in
     let n = c.close-closed.new.closure in
     let a = c.close-closed.new.left in
-    let r = c.close-closed.ensures.yes (closed c.close-closed.result c.in-Ok-Done.field-0 Done c.in-Ok-Done.is (rw c.in-Ok-Done.is at c.in-Ok-Done.field-0-is)) in
-    let e = ap (λ t. certificate_of (pieces_of s.code t s.phi s.lines.portion.items s.lines.words.items s.lines.apart.items)) (c.finish-table.ensures.table ∙ c.close-closed.ensures.«data».table) in
+    let r =
+    c.close-closed.ensures.yes
+    (closed c.close-closed.result c.in-Ok-Done.field-0 Done c.in-Ok-Done.is
+    (rw c.in-Ok-Done.is at c.in-Ok-Done.field-0-is)) in
+    let e =
+    ap (λ t.
+    certificate_of
+    (pieces_of s.code t s.phi s.lines.portion.items s.lines.words.items s.lines.apart.items))
+    (c.finish-table.ensures.table ∙ c.close-closed.ensures.«data».table) in
     λ bytes limit. record {
       to = Ended (Yes (certificate_of p));
-      runs = subst (λ v. Runs bytes limit (Closing v) c.args.left.now a (Ended (Yes (certificate_of p)))) c.self.view_is (r (certificate_of p) i.sheet.portion bytes limit);
+      runs =
+          subst (λ v. Runs bytes limit (Closing v) c.args.left.now a
+          (Ended (Yes (certificate_of p)))) c.self.view_is
+          (r (certificate_of p) i.sheet.portion bytes limit);
       shown = inl (sym (ap (λ d. Ended (Yes d)) (c.accepted.ensures ∙ e)));
       exact = λ h. omega arith;
     }

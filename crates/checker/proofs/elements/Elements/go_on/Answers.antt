@@ -22,7 +22,9 @@ heaps-init g c =
       lawful = c.order-order.ensures.lawful;
       so_far = c.self.invariant.0;
       within = c.self.invariant.1;
-      runs = λ bytes limit. runs-none bytes limit _ _ _ (elements_in limit _ _ _ _ c.self.invariant.1 ∙ ap Elements c.self.view_is);
+      runs =
+          λ bytes limit. runs-none bytes limit _ _ _ (elements_in limit _ _ _ _ c.self.invariant.1
+          ∙ ap Elements c.self.view_is);
     }
 
 pub heaps-preserved-then-self-order : goal.heaps-preserved-then-self-order
@@ -30,16 +32,25 @@ heaps-preserved-then-self-order g c =
     let i = c.heaps.invariant in
     let s = c.heaps.self-inside in
     let l = i.last in
-    let none = rw (c.deref.ensures.value, i.order) at (none_of c.breach.result c.if-is_some.ensures c.breach.ensures.none) in
-    let o = obeys_at s.sheet i.lawful.in_ranges s.pairs.items s.contexts.items _ _ c.index.result.now i.so_far i.within c.index.ensures none in
+    let none =
+    rw (c.deref.ensures.value, i.order) at
+    (none_of c.breach.result c.if-is_some.ensures c.breach.ensures.none) in
+    let o =
+    obeys_at s.sheet i.lawful.in_ranges s.pairs.items s.contexts.items _ _ c.index.result.now
+    i.so_far i.within c.index.ensures none in
     record {
       same = i.same;
       order = i.order;
       last = i.last;
       lawful = i.lawful;
-      so_far = heap_turn s.sheet i.lawful.in_ranges s.pairs.items s.contexts.items _ _ i.so_far o (c.if-self-order.true ∙ i.order) i.within;
+      so_far = heap_turn s.sheet i.lawful.in_ranges s.pairs.items s.contexts.items _ _ i.so_far o
+          (c.if-self-order.true ∙ i.order) i.within;
       within = omega arith;
-      runs = λ bytes limit. elements_heap bytes limit _ _ _ _ _ _ _ (i.runs bytes limit) i.within (omega arith) (λ x b. leads_nowhere s.sheet i.lawful.in_ranges s.pairs.items s.contexts.items _ _ i.so_far i.within c.index.result.now c.index.ensures x b (λ u. none u x b)) (c.if-self-order.true ∙ i.order);
+      runs = λ bytes limit. elements_heap bytes limit _ _ _ _ _ _ _ (i.runs bytes limit) i.within
+          (omega arith)
+          (λ x b. leads_nowhere s.sheet i.lawful.in_ranges s.pairs.items s.contexts.items _ _
+          i.so_far i.within c.index.result.now c.index.ensures x b (λ u. none u x b))
+          (c.if-self-order.true ∙ i.order);
     }
 
 pub heaps-preserved : goal.heaps-preserved
@@ -47,8 +58,12 @@ heaps-preserved g c =
     let i = c.heaps.invariant in
     let s = c.heaps.self-inside in
     let l = i.last in
-    let none = rw (c.deref.ensures.value, i.order) at (none_of c.breach.result c.if-is_some.ensures c.breach.ensures.none) in
-    let o = obeys_at s.sheet i.lawful.in_ranges s.pairs.items s.contexts.items _ _ c.index.result.now i.so_far i.within c.index.ensures none in
+    let none =
+    rw (c.deref.ensures.value, i.order) at
+    (none_of c.breach.result c.if-is_some.ensures c.breach.ensures.none) in
+    let o =
+    obeys_at s.sheet i.lawful.in_ranges s.pairs.items s.contexts.items _ _ c.index.result.now
+    i.so_far i.within c.index.ensures none in
     let v = i.so_far.value in
     let e = i.order in
     let b : s.option + 1 < s.sheet.order = omega arith in
@@ -57,16 +72,24 @@ heaps-preserved g c =
       order = i.order;
       last = i.last;
       lawful = i.lawful;
-      so_far = value_turn s.sheet i.lawful.in_ranges s.pairs.items s.contexts.items _ _ i.so_far o b;
+      so_far =
+          value_turn s.sheet i.lawful.in_ranges s.pairs.items s.contexts.items _ _ i.so_far o b;
       within = i.within;
-      runs = λ bytes limit. elements_option bytes limit _ _ _ _ _ _ _ (i.runs bytes limit) i.within (omega arith) (λ x b. leads_nowhere s.sheet i.lawful.in_ranges s.pairs.items s.contexts.items _ _ i.so_far i.within c.index.result.now c.index.ensures x b (λ u. none u x b)) (λ m. absurd (omega arith));
+      runs = λ bytes limit. elements_option bytes limit _ _ _ _ _ _ _ (i.runs bytes limit) i.within
+          (omega arith)
+          (λ x b. leads_nowhere s.sheet i.lawful.in_ranges s.pairs.items s.contexts.items _ _
+          i.so_far i.within c.index.result.now c.index.ensures x b (λ u. none u x b))
+          (λ m. absurd (omega arith));
     }
 
 pub returns-else-self-last-clause-runs : goal.returns-else-self-last-clause-runs
-returns-else-self-last-clause-runs g c = let i = c.heaps.invariant in λ bytes limit. elements_going bytes limit _ _ _ _ _ _ _ (i.runs bytes limit) i.within
+returns-else-self-last-clause-runs g c = let i = c.heaps.invariant in
+    λ bytes limit. elements_going bytes limit _ _ _ _ _ _ _ (i.runs bytes limit) i.within
 
 pub returns-after-heaps-clause-runs : goal.returns-after-heaps-clause-runs
-returns-after-heaps-clause-runs g c = let i = c.heaps.invariant in λ bytes limit. elements_going bytes limit _ _ _ _ _ _ _ (i.runs bytes limit) i.within
+returns-after-heaps-clause-runs g c = let i = c.heaps.invariant in
+    λ bytes limit. elements_going bytes limit _ _ _ _ _ _ _ (i.runs bytes limit) i.within
 
 pub returns-then-is_some-clause-runs : goal.returns-then-is_some-clause-runs
-returns-then-is_some-clause-runs g c = let i = c.heaps.invariant in λ bytes limit. elements_going bytes limit _ _ _ _ _ _ _ (i.runs bytes limit) i.within
+returns-then-is_some-clause-runs g c = let i = c.heaps.invariant in
+    λ bytes limit. elements_going bytes limit _ _ _ _ _ _ _ (i.runs bytes limit) i.within

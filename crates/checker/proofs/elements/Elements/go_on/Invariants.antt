@@ -15,7 +15,9 @@ invariant-heaps g l =
       lawful : IsLawful s.sheet;
       so_far : ElementsSoFar s.sheet s.pairs.items s.contexts.items s.heap s.option;
       within : s.heap < length s.pairs.items;
-      runs : (bytes : List ℕ) (limit : ℕ) → Runs bytes limit (AtElements l.fn.self) l.initial.left l.left (elements_at limit s.sheet s.pairs.items s.heap s.option);
+      runs : (bytes : List ℕ) (limit : ℕ)
+          → Runs bytes limit (AtElements l.fn.self) l.initial.left l.left
+          (elements_at limit s.sheet s.pairs.items s.heap s.option);
     }
 
 abbrev pub decreases-heaps : goal.decreases-heaps

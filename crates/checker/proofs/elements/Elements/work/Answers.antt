@@ -16,14 +16,22 @@ heaps-init g c =
       order = c.order-order.ensures.value;
       lawful = c.order-order.ensures.lawful;
       so_far = c.self.invariant.0;
-      runs = λ bytes. runs-none bytes c.args.limit _ _ _ (elements_in c.args.limit _ _ _ _ c.self.invariant.1 ∙ ap Elements c.self.view_is);
+      runs =
+          λ bytes. runs-none bytes c.args.limit _ _ _
+          (elements_in c.args.limit _ _ _ _ c.self.invariant.1 ∙ ap Elements c.self.view_is);
     }
 
 pub returns-then-left-eq0-clause-comes : goal.returns-then-left-eq0-clause-comes
 returns-then-left-eq0-clause-comes g c =
     let i = c.heaps.invariant in
     λ bytes. record {
-      to = Elements (record { certificate = c.heaps.sheet; pairs = c.self.inside.pairs.items; heap = c.heaps.heap; option = c.heaps.option });
+      to = Elements
+          (record {
+            certificate = c.heaps.sheet;
+            pairs = c.self.inside.pairs.items;
+            heap = c.heaps.heap;
+            option = c.heaps.option;
+          });
       runs = elements_going bytes c.args.limit _ _ _ _ _ _ _ (i.runs bytes) (search rules);
       shown = inl refl;
       exact = λ h. absurd (omega arith);
@@ -37,10 +45,19 @@ returns-in-Ok-clause-comes g c =
     let y = c.in-Some.y in
     let r = i.lawful.in_ranges in
     let b = c.in-Some.ensures.within in
-    let here = leads_here c.heaps.sheet r c.self.inside.pairs.items c.self.inside.contexts.items _ _ i.so_far l c.index.result.now c.index.ensures y c.in-Some.ensures.option (rw e at c.in-Some.ensures.heap) (rw e at c.in-Some.ensures.left) in
+    let here = leads_here c.heaps.sheet r c.self.inside.pairs.items c.self.inside.contexts.items _ _
+    i.so_far l c.index.result.now c.index.ensures y c.in-Some.ensures.option
+    (rw e at c.in-Some.ensures.heap) (rw e at c.in-Some.ensures.left) in
     λ bytes. record {
       to = Ended (Outcome c.heaps.sheet.code c.in-Ok.position);
-      runs = runs-to bytes c.args.limit _ _ _ _ _ (elements_broken bytes c.args.limit _ _ _ _ _ _ _ (i.runs bytes) l y (omega arith) (omega arith) here (λ x s. leads_nowhere c.heaps.sheet r c.self.inside.pairs.items c.self.inside.contexts.items _ _ i.so_far l c.index.result.now c.index.ensures x (omega arith) (λ o u. (rw e at c.in-Some.ensures.least) x s u))) (ap (λ X. Ended (Outcome c.heaps.sheet.code X)) (sym c.in-Ok.ensures.exact));
+      runs =
+          runs-to bytes c.args.limit _ _ _ _ _
+          (elements_broken bytes c.args.limit _ _ _ _ _ _ _ (i.runs bytes) l y (omega arith)
+          (omega arith) here
+          (λ x s. leads_nowhere c.heaps.sheet r c.self.inside.pairs.items
+          c.self.inside.contexts.items _ _ i.so_far l c.index.result.now c.index.ensures x
+          (omega arith) (λ o u. (rw e at c.in-Some.ensures.least) x s u)))
+          (ap (λ X. Ended (Outcome c.heaps.sheet.code X)) (sym c.in-Ok.ensures.exact));
       shown = inl (sym c.failed.ensures.shown);
       exact = (let f = c.failed.ensures.shown in λ h. rw f (omega arith));
     }
@@ -53,10 +70,18 @@ returns-in-Err-clause-comes g c =
     let y = c.in-Some.y in
     let r = i.lawful.in_ranges in
     let b = c.in-Some.ensures.within in
-    let here = leads_here c.heaps.sheet r c.self.inside.pairs.items c.self.inside.contexts.items _ _ i.so_far l c.index.result.now c.index.ensures y c.in-Some.ensures.option (rw e at c.in-Some.ensures.heap) (rw e at c.in-Some.ensures.left) in
+    let here = leads_here c.heaps.sheet r c.self.inside.pairs.items c.self.inside.contexts.items _ _
+    i.so_far l c.index.result.now c.index.ensures y c.in-Some.ensures.option
+    (rw e at c.in-Some.ensures.heap) (rw e at c.in-Some.ensures.left) in
     λ bytes. record {
-      to = Ended (Outcome c.heaps.sheet.code (rising ((c.heaps.heap + 1) ∷ keys_from c.heaps.sheet c.heaps.sheet.order y)));
-      runs = elements_broken bytes c.args.limit _ _ _ _ _ _ _ (i.runs bytes) l y (omega arith) (omega arith) here (λ x s. leads_nowhere c.heaps.sheet r c.self.inside.pairs.items c.self.inside.contexts.items _ _ i.so_far l c.index.result.now c.index.ensures x (omega arith) (λ o u. (rw e at c.in-Some.ensures.least) x s u));
+      to = Ended
+          (Outcome c.heaps.sheet.code
+          (rising ((c.heaps.heap + 1) ∷ keys_from c.heaps.sheet c.heaps.sheet.order y)));
+      runs = elements_broken bytes c.args.limit _ _ _ _ _ _ _ (i.runs bytes) l y (omega arith)
+          (omega arith) here
+          (λ x s. leads_nowhere c.heaps.sheet r c.self.inside.pairs.items
+          c.self.inside.contexts.items _ _ i.so_far l c.index.result.now c.index.ensures x
+          (omega arith) (λ o u. (rw e at c.in-Some.ensures.least) x s u));
       shown = inr refl;
       exact = λ h. omega arith;
     }
@@ -66,7 +91,10 @@ returns-clause-comes g c =
     let i = c.heaps.invariant in
     λ bytes. record {
       to = Closing c.new.result;
-      runs = runs-to bytes c.args.limit _ _ _ _ _ (elements_over bytes c.args.limit _ _ _ _ _ _ _ (i.runs bytes) (search rules)) (ap Closing (sym c.new.ensures.value));
+      runs =
+          runs-to bytes c.args.limit _ _ _ _ _
+          (elements_over bytes c.args.limit _ _ _ _ _ _ _ (i.runs bytes) (search rules))
+          (ap Closing (sym c.new.ensures.value));
       shown = inl refl;
       exact = λ h. omega arith;
     }
@@ -75,48 +103,74 @@ pub breach-requires-clause-value : goal.breach-requires-clause-value
 breach-requires-clause-value g c =
     let i = c.heaps.invariant in
     let l : c.heaps.heap < length c.self.inside.pairs.items = search rules in
-    rw c.deref.ensures.value (value_below c.heaps.sheet i.lawful.in_ranges c.self.inside.pairs.items c.self.inside.contexts.items _ _ c.index.result.now i.so_far l c.index.ensures)
+    rw c.deref.ensures.value
+    (value_below c.heaps.sheet i.lawful.in_ranges c.self.inside.pairs.items
+    c.self.inside.contexts.items _ _ c.index.result.now i.so_far l c.index.ensures)
 
 pub beside-requires-clause-breach : goal.beside-requires-clause-breach
 beside-requires-clause-breach g c =
     let i = c.heaps.invariant in
     let l : c.heaps.heap < length c.self.inside.pairs.items = search rules in
     let e = c.deref.ensures.value in
-    leads_in c.heaps.sheet i.lawful.in_ranges c.self.inside.pairs.items c.self.inside.contexts.items _ _ c.in-Some.y c.index.result.now i.so_far l c.index.ensures c.in-Some.ensures.option (rw e at c.in-Some.ensures.heap) (rw e at c.in-Some.ensures.left)
+    leads_in c.heaps.sheet i.lawful.in_ranges c.self.inside.pairs.items c.self.inside.contexts.items
+    _ _ c.in-Some.y c.index.result.now i.so_far l c.index.ensures c.in-Some.ensures.option
+    (rw e at c.in-Some.ensures.heap) (rw e at c.in-Some.ensures.left)
 
 pub returns-in-Ok-clause-carries : goal.returns-in-Ok-clause-carries
-returns-in-Ok-clause-carries g c = subst (λ d. Carries d c.args.limit c.failed.result) c.heaps.invariant.same (c.failed.ensures.carries c.args.limit)
+returns-in-Ok-clause-carries g c =
+    subst (λ d. Carries d c.args.limit c.failed.result) c.heaps.invariant.same
+    (c.failed.ensures.carries c.args.limit)
 
 pub heaps-preserved-then-option-order : goal.heaps-preserved-then-option-order
 heaps-preserved-then-option-order g c =
     let i = c.heaps.invariant in
     let l : c.heaps.heap < length c.self.inside.pairs.items = search rules in
-    let o = obeys_at c.heaps.sheet i.lawful.in_ranges c.self.inside.pairs.items c.self.inside.contexts.items _ _ c.index.result.now i.so_far l c.index.ensures (rw (c.deref.ensures.value, i.order) at c.in_default.ensures.none) in
+    let o =
+    obeys_at c.heaps.sheet i.lawful.in_ranges c.self.inside.pairs.items
+    c.self.inside.contexts.items _ _ c.index.result.now i.so_far l c.index.ensures
+    (rw (c.deref.ensures.value, i.order) at c.in_default.ensures.none) in
     record {
       same = i.same;
       order = i.order;
       lawful = i.lawful;
-      so_far = heap_turn c.heaps.sheet i.lawful.in_ranges c.self.inside.pairs.items c.self.inside.contexts.items _ _ i.so_far o (c.if-option-order.true ∙ i.order) l;
-      runs = λ bytes. elements_heap bytes c.args.limit _ _ _ _ _ _ _ (i.runs bytes) l (omega arith) (λ x s. leads_nowhere c.heaps.sheet i.lawful.in_ranges c.self.inside.pairs.items c.self.inside.contexts.items _ _ i.so_far l c.index.result.now c.index.ensures x s (λ u. (rw (c.deref.ensures.value, i.order) at c.in_default.ensures.none) u x s)) (c.if-option-order.true ∙ i.order);
+      so_far =
+          heap_turn c.heaps.sheet i.lawful.in_ranges c.self.inside.pairs.items
+          c.self.inside.contexts.items _ _ i.so_far o (c.if-option-order.true ∙ i.order) l;
+      runs = λ bytes. elements_heap bytes c.args.limit _ _ _ _ _ _ _ (i.runs bytes) l (omega arith)
+          (λ x s. leads_nowhere c.heaps.sheet i.lawful.in_ranges c.self.inside.pairs.items
+          c.self.inside.contexts.items _ _ i.so_far l c.index.result.now c.index.ensures x s
+          (λ u. (rw (c.deref.ensures.value, i.order) at c.in_default.ensures.none) u x s))
+          (c.if-option-order.true ∙ i.order);
     }
 
 pub heaps-preserved : goal.heaps-preserved
 heaps-preserved g c =
     let i = c.heaps.invariant in
     let l : c.heaps.heap < length c.self.inside.pairs.items = search rules in
-    let o = obeys_at c.heaps.sheet i.lawful.in_ranges c.self.inside.pairs.items c.self.inside.contexts.items _ _ c.index.result.now i.so_far l c.index.ensures (rw (c.deref.ensures.value, i.order) at c.in_default.ensures.none) in
+    let o =
+    obeys_at c.heaps.sheet i.lawful.in_ranges c.self.inside.pairs.items
+    c.self.inside.contexts.items _ _ c.index.result.now i.so_far l c.index.ensures
+    (rw (c.deref.ensures.value, i.order) at c.in_default.ensures.none) in
     let v = i.so_far.value in
     let b : c.heaps.option + 1 < c.heaps.sheet.order = omega arith in
     record {
       same = i.same;
       order = i.order;
       lawful = i.lawful;
-      so_far = value_turn c.heaps.sheet i.lawful.in_ranges c.self.inside.pairs.items c.self.inside.contexts.items _ _ i.so_far o b;
-      runs = λ bytes. elements_option bytes c.args.limit _ _ _ _ _ _ _ (i.runs bytes) l (omega arith) (λ x s. leads_nowhere c.heaps.sheet i.lawful.in_ranges c.self.inside.pairs.items c.self.inside.contexts.items _ _ i.so_far l c.index.result.now c.index.ensures x s (λ u. (rw (c.deref.ensures.value, i.order) at c.in_default.ensures.none) u x s)) (λ m. absurd (omega arith));
+      so_far =
+          value_turn c.heaps.sheet i.lawful.in_ranges c.self.inside.pairs.items
+          c.self.inside.contexts.items _ _ i.so_far o b;
+      runs = λ bytes. elements_option bytes c.args.limit _ _ _ _ _ _ _ (i.runs bytes) l
+          (omega arith)
+          (λ x s. leads_nowhere c.heaps.sheet i.lawful.in_ranges c.self.inside.pairs.items
+          c.self.inside.contexts.items _ _ i.so_far l c.index.result.now c.index.ensures x s
+          (λ u. (rw (c.deref.ensures.value, i.order) at c.in_default.ensures.none) u x s))
+          (λ m. absurd (omega arith));
     }
 
 pub new-requires-clause-elements : goal.new-requires-clause-elements
 new-requires-clause-elements g c =
     let i = c.heaps.invariant in
     let l : length c.self.inside.pairs.items ≤ c.heaps.heap = search rules in
-    elements_end c.heaps.sheet i.lawful.in_ranges c.self.inside.pairs.items c.self.inside.contexts.items _ _ i.so_far l
+    elements_end c.heaps.sheet i.lawful.in_ranges c.self.inside.pairs.items
+    c.self.inside.contexts.items _ _ i.so_far l

@@ -11,7 +11,9 @@ invariant-heaps g l = record {
   order : l.order ≡ l.sheet.order;
   lawful : IsLawful l.sheet;
   so_far : ElementsSoFar l.sheet l.pairs.items l.contexts.items l.heap l.option;
-  runs : (bytes : List ℕ) → Runs bytes l.limit (AtElements l.fn.self) l.initial.left l.left (elements_at l.limit l.sheet l.pairs.items l.heap l.option);
+  runs : (bytes : List ℕ)
+      → Runs bytes l.limit (AtElements l.fn.self) l.initial.left l.left
+      (elements_at l.limit l.sheet l.pairs.items l.heap l.option);
 }
 
 abbrev pub decreases-heaps : goal.decreases-heaps

@@ -13,7 +13,10 @@ use Rattle.checker.proofs.heaps.Heaps.go_on.Goals as goal
 pub returns-clause-runs : goal.returns-clause-runs
 returns-clause-runs g c = λ bytes limit.
     let s = c.self.inside in
-    let of : HeapWork → Certificate = λ j. certificate_of (pieces_of j.code j.table j.phi s.lines.portion.items s.lines.words.items s.lines.apart.items) in
+    let of : HeapWork → Certificate =
+    λ j. certificate_of
+    (pieces_of j.code j.table j.phi s.lines.portion.items s.lines.words.items
+    s.lines.apart.items) in
     let J = c.go_on.new.self in
     let U = c.args.left.now in
     let r = c.go_on.ensures.spent in
@@ -22,5 +25,13 @@ returns-clause-runs g c = λ bytes limit.
     let e = c.go_on.ensures.given in
     let w : J.spent < heap_cost s.job.code s.job.phi = c.go_on.ensures.going c.self.invariant.1 in
     let u : J.spent ≤ heap_cost s.job.code s.job.phi = omega arith in
-    let runs = heaps_runs bytes limit (of s.job) s.job.spent c.self.invariant.1 U (U - (J.spent - s.job.spent)) J.spent r.0 u (omega arith) in
-    runs-left bytes limit U (U - (J.spent - s.job.spent)) _ _ _ (subst (λ v. Runs bytes limit (Heaps v) U (U - (J.spent - s.job.spent)) (Heaps (record { certificate = of J; spent = J.spent }))) c.self.view_is (runs-to bytes limit _ _ _ _ _ runs (heaps_in limit (of s.job) J.spent w ∙ ap (λ q. Heaps (record { certificate = of q; spent = J.spent })) (sym e)))) (omega arith)
+    let runs =
+    heaps_runs bytes limit (of s.job) s.job.spent c.self.invariant.1 U
+    (U - (J.spent - s.job.spent)) J.spent r.0 u (omega arith) in
+    runs-left bytes limit U (U - (J.spent - s.job.spent)) _ _ _
+    (subst
+    (λ v. Runs bytes limit (Heaps v) U (U - (J.spent - s.job.spent))
+    (Heaps (record { certificate = of J; spent = J.spent }))) c.self.view_is
+    (runs-to bytes limit _ _ _ _ _ runs
+    (heaps_in limit (of s.job) J.spent w
+    ∙ ap (λ q. Heaps (record { certificate = of q; spent = J.spent })) (sym e)))) (omega arith)

@@ -10,5 +10,15 @@ pub invariant_of-result : goal.invariant_of-result
 invariant_of-result g c =
     let s = c.sheet.inside in
     let some = some_cost s.code s.phi c.sheet.invariant.whole.in_ranges.start.0 in
-    subst (λ (j : HeapWork). IsCanonicalSheet (pieces_of j.code j.table j.phi s.lines.portion.items s.lines.words.items s.lines.apart.items) s.lines.inside × (j.spent < heap_cost j.code j.phi)) (sym c.new.ensures)
-    (record { sheet = c.sheet.invariant; canonical = subst Canonical (sym c.sheet.view_is) c.requires }, some)
+    subst (λ (j : HeapWork).
+    IsCanonicalSheet
+    (pieces_of j.code j.table j.phi s.lines.portion.items s.lines.words.items
+    s.lines.apart.items) s.lines.inside × (j.spent < heap_cost j.code j.phi))
+    (sym c.new.ensures) (
+      record {
+        sheet = c.sheet.invariant;
+        canonical = subst Canonical (sym c.sheet.view_is)
+            c.requires;
+      },
+      some,
+    )

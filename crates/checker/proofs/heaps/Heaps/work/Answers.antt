@@ -27,24 +27,38 @@ either false = inr refl
 pub returns-in-Err-clause-comes : goal.returns-in-Err-clause-comes
 returns-in-Err-clause-comes g c = λ bytes limit.
     let s = c.self.inside in
-    let of : HeapWork → Certificate = λ j. certificate_of (pieces_of j.code j.table j.phi s.lines.portion.items s.lines.words.items s.lines.apart.items) in
+    let of : HeapWork → Certificate =
+    λ j. certificate_of
+    (pieces_of j.code j.table j.phi s.lines.portion.items s.lines.words.items
+    s.lines.apart.items) in
     let J = c.work-made.new.self in
     let U = c.args.left.now in
     let r = c.work-made.ensures.spent in
     let a = c.spent.ensures in
     let b = c.spent-before.ensures in
-    let k : heap_cost J.code J.phi ≡ heap_cost s.job.code s.job.phi = ap (λ (j : HeapWork). heap_cost j.code j.phi) c.in-Err.ensures.refused in
-    let spends : (J.spent ≡ s.job.spent) ⊎ ((J.spent < s.job.spent + U) × (J.spent < heap_cost J.code J.phi)) = elim (either s.job.refused) [
+    let k : heap_cost J.code J.phi ≡ heap_cost s.job.code s.job.phi =
+    ap (λ (j : HeapWork). heap_cost j.code j.phi) c.in-Err.ensures.refused in
+    let spends : (J.spent ≡ s.job.spent)
+    ⊎ ((J.spent < s.job.spent + U) × (J.spent < heap_cost J.code J.phi)) =
+    elim (either s.job.refused) [
       | inl t ↦ inl (ap (λ (j : HeapWork). j.spent) (c.work-made.ensures.stays t).1)
       | inr f ↦ inr (c.in-Err.ensures.short f)
     ] in
     let some = c.self.invariant.1 in
-    let w : J.spent < heap_cost s.job.code s.job.phi = elim spends [ inl d ↦ omega arith | inr h ↦ omega (arith, h) ] in
+    let w : J.spent < heap_cost s.job.code s.job.phi =
+    elim spends [ inl d ↦ omega arith | inr h ↦ omega (arith, h) ] in
     let u : J.spent ≤ heap_cost s.job.code s.job.phi = omega arith in
-    let runs = heaps_runs bytes limit (of s.job) s.job.spent c.self.invariant.1 U (U - (J.spent - s.job.spent)) J.spent r.0 u (omega arith) in
+    let runs =
+    heaps_runs bytes limit (of s.job) s.job.spent c.self.invariant.1 U
+    (U - (J.spent - s.job.spent)) J.spent r.0 u (omega arith) in
     record {
       to = Heaps (record { certificate = of s.job; spent = J.spent });
-      runs = runs-left bytes limit U (U - (J.spent - s.job.spent)) _ _ _ (subst (λ v. Runs bytes limit (Heaps v) U (U - (J.spent - s.job.spent)) (Heaps (record { certificate = of s.job; spent = J.spent }))) c.self.view_is (runs-to bytes limit _ _ _ _ _ runs (heaps_in limit (of s.job) J.spent w))) (omega arith);
+      runs =
+          runs-left bytes limit U (U - (J.spent - s.job.spent)) _ _ _
+          (subst
+          (λ v. Runs bytes limit (Heaps v) U (U - (J.spent - s.job.spent))
+          (Heaps (record { certificate = of s.job; spent = J.spent }))) c.self.view_is
+          (runs-to bytes limit _ _ _ _ _ runs (heaps_in limit (of s.job) J.spent w))) (omega arith);
       shown = inr refl;
       exact = λ _. omega arith;
     }
@@ -52,7 +66,10 @@ returns-in-Err-clause-comes g c = λ bytes limit.
 pub returns-in-Ok-false-clause-comes : goal.returns-in-Ok-false-clause-comes
 returns-in-Ok-false-clause-comes g c = λ bytes limit.
     let s = c.self.inside in
-    let of : HeapWork → Certificate = λ j. certificate_of (pieces_of j.code j.table j.phi s.lines.portion.items s.lines.words.items s.lines.apart.items) in
+    let of : HeapWork → Certificate =
+    λ j. certificate_of
+    (pieces_of j.code j.table j.phi s.lines.portion.items s.lines.words.items
+    s.lines.apart.items) in
     let J = c.work-made.new.self in
     let U = c.args.left.now in
     let r = c.work-made.ensures.spent in
@@ -60,14 +77,31 @@ returns-in-Ok-false-clause-comes g c = λ bytes limit.
     let b = c.spent-before.ensures in
     let e = c.in-Ok-false.ensures.worked.1 in
     let m = ap (λ (j : HeapWork). j.spent) e in
-    let k : heap_cost J.code J.phi ≡ heap_cost s.job.code s.job.phi = ap (λ (j : HeapWork). heap_cost j.code j.phi) e in
-    let not : IsDone J → ⊥ = λ d. (let t : c.in-Ok-false.field-0 ≡ true = c.in-Ok-false.ensures.done.1 d in cc) in
-    let w : J.spent < heap_cost s.job.code s.job.phi = elim (dec_lt J.spent (heap_cost s.job.code s.job.phi)) [ yes h ↦ h | no f ↦ absurd (not (let q : J.spent ≡ heap_cost J.code J.phi = omega arith in q)) ] in
+    let k : heap_cost J.code J.phi ≡ heap_cost s.job.code s.job.phi =
+    ap (λ (j : HeapWork). heap_cost j.code j.phi) e in
+    let not : IsDone J → ⊥ =
+    λ d. (let t : c.in-Ok-false.field-0 ≡ true = c.in-Ok-false.ensures.done.1 d in cc) in
+    let w : J.spent < heap_cost s.job.code s.job.phi =
+    elim (dec_lt J.spent (heap_cost s.job.code s.job.phi)) [
+      | yes h ↦ h
+      | no f ↦ absurd
+          (not (let q : J.spent ≡ heap_cost J.code J.phi = omega arith in q))
+    ] in
     let u : J.spent ≤ heap_cost s.job.code s.job.phi = omega arith in
-    let runs = heaps_runs bytes limit (of s.job) s.job.spent c.self.invariant.1 U (U - (J.spent - s.job.spent)) J.spent r.0 u (omega arith) in
+    let runs =
+    heaps_runs bytes limit (of s.job) s.job.spent c.self.invariant.1 U
+    (U - (J.spent - s.job.spent)) J.spent r.0 u (omega arith) in
     record {
       to = Heaps (record { certificate = of J; spent = J.spent });
-      runs = runs-left bytes limit U (U - (J.spent - s.job.spent)) _ _ _ (subst (λ v. Runs bytes limit (Heaps v) U (U - (J.spent - s.job.spent)) (Heaps (record { certificate = of J; spent = J.spent }))) c.self.view_is (runs-to bytes limit _ _ _ _ _ runs (heaps_in limit (of s.job) J.spent w ∙ ap (λ q. Heaps (record { certificate = of q; spent = J.spent })) (sym e)))) (omega arith);
+      runs =
+          runs-left bytes limit U (U - (J.spent - s.job.spent)) _ _ _
+          (subst
+          (λ v. Runs bytes limit (Heaps v) U (U - (J.spent - s.job.spent))
+          (Heaps (record { certificate = of J; spent = J.spent }))) c.self.view_is
+          (runs-to bytes limit _ _ _ _ _ runs
+          (heaps_in limit (of s.job) J.spent w
+          ∙ ap (λ q. Heaps (record { certificate = of q; spent = J.spent })) (sym e))))
+          (omega arith);
       shown = inl refl;
       exact = λ h. absurd (omega arith);
     }
@@ -75,21 +109,40 @@ returns-in-Ok-false-clause-comes g c = λ bytes limit.
 pub returns-in-Err-new-clause-comes : goal.returns-in-Err-new-clause-comes
 returns-in-Err-new-clause-comes g c = λ bytes limit.
     let s = c.self.inside in
-    let of : HeapWork → Certificate = λ j. certificate_of (pieces_of j.code j.table j.phi s.lines.portion.items s.lines.words.items s.lines.apart.items) in
+    let of : HeapWork → Certificate =
+    λ j. certificate_of
+    (pieces_of j.code j.table j.phi s.lines.portion.items s.lines.words.items
+    s.lines.apart.items) in
     let J = c.work-made.new.self in
     let U = c.args.left.now in
     let r = c.work-made.ensures.spent in
     let a = c.spent.ensures in
     let b = c.spent-before.ensures in
-    let k : heap_cost J.code J.phi ≡ heap_cost s.job.code s.job.phi = ap (λ (j : HeapWork). heap_cost j.code j.phi) c.in-Ok-true.ensures.worked.1 in
+    let k : heap_cost J.code J.phi ≡ heap_cost s.job.code s.job.phi =
+    ap (λ (j : HeapWork). heap_cost j.code j.phi) c.in-Ok-true.ensures.worked.1 in
     let d : IsDone J = c.in-Ok-true.ensures.done.0 c.in-Ok-true.field-0-test in
     let l : heap_cost s.job.code s.job.phi ≤ J.spent = omega (arith, d) in
     let u : J.spent ≤ heap_cost s.job.code s.job.phi = omega arith in
-    let runs = heaps_runs bytes limit (of s.job) s.job.spent c.self.invariant.1 U (U - (J.spent - s.job.spent)) J.spent r.0 u (omega arith) in
-    let to : Phase = Elements (record { certificate = of s.job; pairs = all_heap_pairs s.job.code (grid_of (of s.job)) (pretending_of (of s.job)); heap = 0; option = 0 }) in
+    let runs =
+    heaps_runs bytes limit (of s.job) s.job.spent c.self.invariant.1 U
+    (U - (J.spent - s.job.spent)) J.spent r.0 u (omega arith) in
+    let to : Phase =
+    Elements
+    (record {
+      certificate = of s.job;
+      pairs = all_heap_pairs s.job.code (grid_of (of s.job))
+          (pretending_of (of s.job));
+      heap = 0;
+      option = 0;
+    }) in
     record {
       to = to;
-      runs = runs-left bytes limit U (U - (J.spent - s.job.spent)) _ _ _ (subst (λ v. Runs bytes limit (Heaps v) U (U - (J.spent - s.job.spent)) to) c.self.view_is (runs-to bytes limit _ _ _ _ _ runs (heaps_end limit (of s.job) J.spent c.self.invariant.0.sheet.whole.in_ranges l))) (omega arith);
+      runs =
+          runs-left bytes limit U (U - (J.spent - s.job.spent)) _ _ _
+          (subst (λ v. Runs bytes limit (Heaps v) U (U - (J.spent - s.job.spent)) to) c.self.view_is
+          (runs-to bytes limit _ _ _ _ _ runs
+          (heaps_end limit (of s.job) J.spent c.self.invariant.0.sheet.whole.in_ranges l)))
+          (omega arith);
       shown = inr refl;
       exact = λ _. omega arith;
     }
@@ -97,23 +150,41 @@ returns-in-Err-new-clause-comes g c = λ bytes limit.
 pub returns-in-Ok-clause-comes : goal.returns-in-Ok-clause-comes
 returns-in-Ok-clause-comes g c = λ bytes limit.
     let s = c.self.inside in
-    let of : HeapWork → Certificate = λ j. certificate_of (pieces_of j.code j.table j.phi s.lines.portion.items s.lines.words.items s.lines.apart.items) in
+    let of : HeapWork → Certificate =
+    λ j. certificate_of
+    (pieces_of j.code j.table j.phi s.lines.portion.items s.lines.words.items
+    s.lines.apart.items) in
     let J = c.work-made.new.self in
     let U = c.args.left.now in
     let r = c.work-made.ensures.spent in
     let a = c.spent.ensures in
     let b = c.spent-before.ensures in
     let e = c.in-Ok-true.ensures.worked.1 in
-    let k : heap_cost J.code J.phi ≡ heap_cost s.job.code s.job.phi = ap (λ (j : HeapWork). heap_cost j.code j.phi) e in
+    let k : heap_cost J.code J.phi ≡ heap_cost s.job.code s.job.phi =
+    ap (λ (j : HeapWork). heap_cost j.code j.phi) e in
     let d : IsDone J = c.in-Ok-true.ensures.done.0 c.in-Ok-true.field-0-test in
     let l : heap_cost s.job.code s.job.phi ≤ J.spent = omega (arith, d) in
     let u : J.spent ≤ heap_cost s.job.code s.job.phi = omega arith in
-    let runs = heaps_runs bytes limit (of s.job) s.job.spent c.self.invariant.1 U (U - (J.spent - s.job.spent)) J.spent r.0 u (omega arith) in
+    let runs =
+    heaps_runs bytes limit (of s.job) s.job.spent c.self.invariant.1 U
+    (U - (J.spent - s.job.spent)) J.spent r.0 u (omega arith) in
     let f = c.finish-code.ensures in
-    let at : List ℕ → Grid → Pretending → List Pair → Phase = λ code table phi pairs. Elements (record { certificate = certificate_of (pieces_of code table phi s.lines.portion.items s.lines.words.items s.lines.apart.items); pairs = pairs; heap = 0; option = 0 }) in
-    let joined : grid_of (of s.job) ≡ s.job.table = ap (λ es. record { order = s.job.table.order; entries = es }) c.self.invariant.0.sheet.whole.rows_joined in
+    let at : List ℕ → Grid → Pretending → List Pair → Phase =
+    λ code table phi pairs.
+    Elements
+    (record {
+      certificate = certificate_of
+          (pieces_of code table phi s.lines.portion.items s.lines.words.items s.lines.apart.items);
+      pairs = pairs;
+      heap = 0;
+      option = 0;
+    }) in
+    let joined : grid_of (of s.job) ≡ s.job.table =
+    ap (λ es. record { order = s.job.table.order; entries = es })
+    c.self.invariant.0.sheet.whole.rows_joined in
     let x = c.finish-code.result in
-    let made : at s.job.code s.job.table s.job.phi (all_heap_pairs s.job.code s.job.table s.job.phi) ≡ Elements c.in-Ok.elements =
+    let made : at s.job.code s.job.table s.job.phi (all_heap_pairs s.job.code s.job.table s.job.phi)
+    ≡ Elements c.in-Ok.elements =
     ap (λ (j : HeapWork). at j.code j.table j.phi (all_heap_pairs j.code j.table j.phi)) (sym e)
     ∙ (ap (at J.code J.table J.phi) (sym f.made)
     ∙ (ap (λ code. at code J.table J.phi x.3.items) (sym f.code)
@@ -122,9 +193,15 @@ returns-in-Ok-clause-comes g c = λ bytes limit.
     ∙ ap Elements (sym c.in-Ok.ensures.value))))) in
     record {
       to = Elements c.in-Ok.elements;
-      runs = runs-left bytes limit U (U - (J.spent - s.job.spent)) _ _ _ (subst (λ v. Runs bytes limit (Heaps v) U (U - (J.spent - s.job.spent)) (Elements c.in-Ok.elements)) c.self.view_is
-          (runs-to bytes limit _ _ _ _ _ runs (heaps_end limit (of s.job) J.spent c.self.invariant.0.sheet.whole.in_ranges l
-          ∙ (ap (λ t. at s.job.code s.job.table s.job.phi (all_heap_pairs s.job.code t s.job.phi)) joined ∙ made)))) (omega arith);
+      runs =
+          runs-left bytes limit U (U - (J.spent - s.job.spent)) _ _ _
+          (subst
+          (λ v. Runs bytes limit (Heaps v) U (U - (J.spent - s.job.spent))
+          (Elements c.in-Ok.elements)) c.self.view_is
+          (runs-to bytes limit _ _ _ _ _ runs
+          (heaps_end limit (of s.job) J.spent c.self.invariant.0.sheet.whole.in_ranges l
+          ∙ (ap (λ t. at s.job.code s.job.table s.job.phi (all_heap_pairs s.job.code t s.job.phi))
+          joined ∙ made)))) (omega arith);
       shown = inl refl;
       exact = λ _. omega arith;
     }
@@ -139,4 +216,6 @@ new-requires-clause-pairs g c =
     let b = subst (λ k. AreAllHeapPairs r.0 k j.phi r.3.items) (sym e.table) a in
     let d = subst (λ k. AreAllHeapPairs r.0 r.1 k r.3.items) (sym e.phi) b in
     let n = subst (λ k. All (IsPair k.order) r.3.items) (sym e.table) e.within in
-    heaps_have_pairs (pieces_of r.0 r.1 r.2 s.lines.portion.items s.lines.words.items s.lines.apart.items) r.3.items d n
+    heaps_have_pairs
+    (pieces_of r.0 r.1 r.2 s.lines.portion.items s.lines.words.items s.lines.apart.items)
+    r.3.items d n

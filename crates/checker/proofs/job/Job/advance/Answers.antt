@@ -13,7 +13,8 @@ stages-init g c =
       bytes = refl;
       limit = refl;
       stands = c.self.invariant;
-      few = λ n p r. (let w = e.within j.bytes.items j.limit n p r in let b = e.few j.bytes.items j.limit (omega arith) in omega arith);
+      few = λ n p r. (let w = e.within j.bytes.items j.limit n p r in
+          let b = e.few j.bytes.items j.limit (omega arith) in omega arith);
       within = omega arith;
       spent = refl;
       idle = λ n. refl;
@@ -25,7 +26,9 @@ overflow_add-self g c =
     let i = c.stages.invariant in
     let j = c.stages.self-inside in
     let going : has_ended j.stage ≡ false = sym c.has_ended.ensures ∙ c.if-not-has_ended.true in
-    let w = within j.bytes.items j.limit j.spent c.stages.left c.advance.new.left (2 ^ 52) j.stage j.stage c.advance.new.self refl going i.stands.come (rw c.deref.ensures.value at c.advance.ensures.comes) i.few in
+    let w = within j.bytes.items j.limit j.spent c.stages.left c.advance.new.left (2 ^ 52) j.stage
+    j.stage c.advance.new.self refl going i.stands.come
+    (rw c.deref.ensures.value at c.advance.ensures.comes) i.few in
     let a = w.1 in
     omega arith
 
@@ -34,7 +37,9 @@ stages-smaller g c =
     let i = c.stages.invariant in
     let j = c.stages.self-inside in
     let going : has_ended j.stage ≡ false = sym c.has_ended.ensures ∙ c.if-not-has_ended.true in
-    let w = within j.bytes.items j.limit j.spent c.stages.left c.advance.new.left (2 ^ 52) j.stage j.stage c.advance.new.self refl going i.stands.come (rw c.deref.ensures.value at c.advance.ensures.comes) i.few in
+    let w = within j.bytes.items j.limit j.spent c.stages.left c.advance.new.left (2 ^ 52) j.stage
+    j.stage c.advance.new.self refl going i.stands.come
+    (rw c.deref.ensures.value at c.advance.ensures.comes) i.few in
     let a = w.0 in
     elim (dec_lt 0 c.advance.new.left) [
       | yes b ↦ (let k = w.2 in let later = w.3 b in omega arith)
@@ -47,14 +52,19 @@ stages-preserved g c =
     let j = c.stages.self-inside in
     let going : has_ended j.stage ≡ false = sym c.has_ended.ensures ∙ c.if-not-has_ended.true in
     let none = going-none j.stage going in
-    let w = within j.bytes.items j.limit j.spent c.stages.left c.advance.new.left (2 ^ 52) j.stage j.stage c.advance.new.self refl going i.stands.come (rw c.deref.ensures.value at c.advance.ensures.comes) i.few in
+    let w = within j.bytes.items j.limit j.spent c.stages.left c.advance.new.left (2 ^ 52) j.stage
+    j.stage c.advance.new.self refl going i.stands.come
+    (rw c.deref.ensures.value at c.advance.ensures.comes) i.few in
     let a = w.0 in
     record {
       bytes = i.bytes;
       limit = i.limit;
       stands = record {
         stands = rw c.deref.ensures.value at c.advance.ensures.stands;
-        come = come_next j.bytes.items j.limit j.spent c.stages.left c.advance.new.left j.stage j.stage c.advance.new.self refl going i.stands.come (rw c.deref.ensures.value at c.advance.ensures.comes);
+        come =
+            come_next j.bytes.items j.limit j.spent c.stages.left c.advance.new.left j.stage j.stage
+            c.advance.new.self refl going i.stands.come
+            (rw c.deref.ensures.value at c.advance.ensures.comes);
       };
       few = i.few;
       within = omega arith;

@@ -7,4 +7,6 @@ pub returns-clause-due : goal.returns-clause-due
 returns-clause-due g c =
     let j = c.self.inside in
     let e = c.checks_end.ensures in
-    subst IsDue c.self.view_is (come_due j.bytes.items j.limit (e.spent j.bytes.items j.limit) (e.before j.bytes.items j.limit) j.spent j.stage c.self.invariant.come)
+    subst IsDue c.self.view_is
+    (come_due j.bytes.items j.limit (e.spent j.bytes.items j.limit)
+    (e.before j.bytes.items j.limit) j.spent j.stage c.self.invariant.come)

@@ -14,7 +14,9 @@ invariant-keys g l =
       lawful : IsLawful s.sheet;
       so_far : KeysSoFar s.sheet s.next s.rising;
       within : s.next < s.sheet.order;
-      runs : (bytes : List ℕ) (limit : ℕ) → Runs bytes limit (AtKeys l.fn.self) l.initial.left l.left (keys_at s.sheet s.next s.rising);
+      runs : (bytes : List ℕ) (limit : ℕ)
+          → Runs bytes limit (AtKeys l.fn.self) l.initial.left l.left
+          (keys_at s.sheet s.next s.rising);
     }
 
 abbrev pub decreases-keys : goal.decreases-keys

@@ -14,7 +14,9 @@ keys-init g c = record {
   order = c.order-order.ensures.value;
   lawful = c.order-order.ensures.lawful;
   so_far = c.self.invariant.0;
-  runs = λ bytes limit. runs-none bytes limit _ _ _ (keys_in _ _ _ c.self.invariant.1 ∙ ap Keys c.self.view_is);
+  runs =
+      λ bytes limit.
+      runs-none bytes limit _ _ _ (keys_in _ _ _ c.self.invariant.1 ∙ ap Keys c.self.view_is);
 }
 
 pub returns-then-left-eq0-clause-works : goal.returns-then-left-eq0-clause-works
@@ -29,7 +31,8 @@ pub returns-then-not-is_keyed-clause-works : goal.returns-then-not-is_keyed-clau
 returns-then-not-is_keyed-clause-works g c =
     let i = c.keys.invariant in
     λ bytes limit. record {
-      runs = keys_missed bytes limit _ _ _ _ _ _ (i.runs bytes limit) (search rules) _ (omega arith) c.if-not-is_keyed.true c.is_keyed.ensures.same;
+      runs = keys_missed bytes limit _ _ _ _ _ _ (i.runs bytes limit) (search rules) _ (omega arith)
+          c.if-not-is_keyed.true c.is_keyed.ensures.same;
       exact = λ h. omega arith;
     }
 
@@ -37,7 +40,9 @@ pub returns-then-not-rising-clause-works : goal.returns-then-not-rising-clause-w
 returns-then-not-rising-clause-works g c =
     let i = c.keys.invariant in
     λ bytes limit. record {
-      runs = keys_fall_over bytes limit _ _ _ _ _ _ (i.runs bytes limit) (search rules) c.if-not-rising.true;
+      runs =
+          keys_fall_over bytes limit _ _ _ _ _ _ (i.runs bytes limit) (search rules)
+          c.if-not-rising.true;
       exact = λ h. omega arith;
     }
 
@@ -45,14 +50,19 @@ pub returns-clause-works : goal.returns-clause-works
 returns-clause-works g c =
     let i = c.keys.invariant in
     λ bytes limit. record {
-      runs = runs-to bytes limit _ _ _ _ _ (keys_over bytes limit _ _ _ _ _ _ (i.runs bytes limit) (search rules) c.if-not-rising.false) (ap Products (sym c.new.ensures.value));
+      runs =
+          runs-to bytes limit _ _ _ _ _
+          (keys_over bytes limit _ _ _ _ _ _ (i.runs bytes limit) (search rules)
+          c.if-not-rising.false) (ap Products (sym c.new.ensures.value));
       exact = λ h. omega arith;
     }
 
 pub returns-then-not-is_keyed-clause-carries : goal.returns-then-not-is_keyed-clause-carries
 returns-then-not-is_keyed-clause-carries g c =
     let i = c.keys.invariant in
-    λ _. subst (λ d. IsFirstFault d Word) i.same (elim c.is_keyed.ensures.fault [ inl t ↦ absurd (cc) | inr f ↦ (f, none_below_word c.keys.sheet i.lawful.monoid) ])
+    λ _. subst (λ d. IsFirstFault d Word) i.same
+    (elim c.is_keyed.ensures.fault
+    [ inl t ↦ absurd (cc) | inr f ↦ (f, none_below_word c.keys.sheet i.lawful.monoid) ])
 
 pub keys-preserved : goal.keys-preserved
 keys-preserved g c =
@@ -61,17 +71,26 @@ keys-preserved g c =
       same = i.same;
       order = i.order;
       lawful = i.lawful;
-      so_far = key_turn _ _ _ _ i.so_far (search rules) (c.is_keyed.ensures.keyed c.if-not-is_keyed.false) c.is_above_last-rising.ensures.above;
-      runs = λ bytes limit. keys_seen bytes limit _ _ _ _ _ _ (i.runs bytes limit) (search rules) _ _ (omega arith) c.if-not-is_keyed.false c.is_keyed.ensures.same c.is_above_last-rising.ensures.same;
+      so_far =
+          key_turn _ _ _ _ i.so_far (search rules)
+          (c.is_keyed.ensures.keyed c.if-not-is_keyed.false) c.is_above_last-rising.ensures.above;
+      runs = λ bytes limit. keys_seen bytes limit _ _ _ _ _ _ (i.runs bytes limit) (search rules) _
+          _ (omega arith) c.if-not-is_keyed.false c.is_keyed.ensures.same
+          c.is_above_last-rising.ensures.same;
     }
 
 pub returns-then-not-rising-clause-carries : goal.returns-then-not-rising-clause-carries
 returns-then-not-rising-clause-carries g c =
     let i = c.keys.invariant in
     let k = i.so_far in
-    λ _. subst (λ d. IsFirstFault d Order) i.same (keys_fall c.keys.sheet _ _ k c.if-not-rising.true, none_below_order c.keys.sheet (none_below_word c.keys.sheet i.lawful.monoid) (keys_word_free c.keys.sheet _ _ k (search rules)))
+    λ _. subst (λ d. IsFirstFault d Order) i.same (
+      keys_fall c.keys.sheet _ _ k c.if-not-rising.true,
+      none_below_order c.keys.sheet (none_below_word c.keys.sheet i.lawful.monoid)
+          (keys_word_free c.keys.sheet _ _ k (search rules)),
+    )
 
 pub new-requires : goal.new-requires
 new-requires g c =
     let i = c.keys.invariant in
-    keys_end c.keys.sheet _ (subst (KeysSoFar c.keys.sheet c.keys.next) c.if-not-rising.false i.so_far) (search rules)
+    keys_end c.keys.sheet _
+    (subst (KeysSoFar c.keys.sheet c.keys.next) c.if-not-rising.false i.so_far) (search rules)

@@ -11,7 +11,8 @@ invariant-keys g l = record {
   order : l.order ≡ l.sheet.order;
   lawful : IsLawful l.sheet;
   so_far : KeysSoFar l.sheet l.next l.rising;
-  runs : (bytes : List ℕ) (limit : ℕ) → Runs bytes limit (AtKeys l.fn.self) l.initial.left l.left (keys_at l.sheet l.next l.rising);
+  runs : (bytes : List ℕ) (limit : ℕ)
+      → Runs bytes limit (AtKeys l.fn.self) l.initial.left l.left (keys_at l.sheet l.next l.rising);
 }
 
 abbrev pub decreases-keys : goal.decreases-keys

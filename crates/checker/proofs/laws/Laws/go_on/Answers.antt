@@ -19,10 +19,15 @@ invariant_of-self g c =
     let e = ap (λ j. j.grid) c.go_on-looked.ensures.state ∙ turns-grid _ s.job in
     let r = turns-range n s.job c.self.invariant.0.within in (
       record {
-        read = subst (λ t. IsRead (pieces_of s.code t s.phi s.lines.portion.items s.lines.words.items s.lines.apart.items) s.lines.inside) (sym e) c.self.invariant.0.read;
+        read =
+            subst (λ t.
+            IsRead
+            (pieces_of s.code t s.phi s.lines.portion.items s.lines.words.items s.lines.apart.items)
+            s.lines.inside) (sym e) c.self.invariant.0.read;
         within =
             let o = ap (λ t. triples t.order) e in
-            let d : J.spent ≡ (turns n s.job).spent = ap (λ j. j.spent) c.go_on-looked.ensures.state in
+            let d : J.spent ≡ (turns n s.job).spent = ap (λ j. j.spent) c.go_on-looked.ensures.state
+            in
             omega arith;
       },
       c.go_on-looked.ensures.going,
@@ -32,7 +37,10 @@ pub returns-clause-same : goal.returns-clause-same
 returns-clause-same g c =
     let s = c.self.inside in
     let e = ap (λ j. j.grid) c.go_on-looked.ensures.state ∙ turns-grid _ s.job in
-    ap (λ t. certificate_of (pieces_of s.code t s.phi s.lines.portion.items s.lines.words.items s.lines.apart.items)) e ∙ ap (λ v. v.certificate) c.self.view_is
+    ap (λ t.
+    certificate_of
+    (pieces_of s.code t s.phi s.lines.portion.items s.lines.words.items s.lines.apart.items)) e
+    ∙ ap (λ v. v.certificate) c.self.view_is
 
 pub returns-clause-runs : goal.returns-clause-runs
 returns-clause-runs g c = λ bytes limit.
@@ -43,7 +51,23 @@ returns-clause-runs g c = λ bytes limit.
     let st = c.go_on-looked.ensures.state in
     let o : is_over (turns n s.job) ≡ false = ap is_over (sym st) ∙ c.go_on-looked.ensures.going in
     let p = c.turns_add_up.ensures.spends n s.job o in
-    let with : JobState → Phase = λ j. Laws (record { certificate = certificate_of (pieces_of s.code j.grid s.phi s.lines.portion.items s.lines.words.items s.lines.apart.items); job = j }) in
-    let over : Grid → Phase = λ t. Laws (record { certificate = certificate_of (pieces_of s.code t s.phi s.lines.portion.items s.lines.words.items s.lines.apart.items); job = turns n s.job }) in
+    let with : JobState → Phase =
+    λ j. Laws
+    (record {
+      certificate = certificate_of
+          (pieces_of s.code j.grid s.phi s.lines.portion.items s.lines.words.items
+          s.lines.apart.items);
+      job = j;
+    }) in
+    let over : Grid → Phase =
+    λ t. Laws
+    (record {
+      certificate = certificate_of
+          (pieces_of s.code t s.phi s.lines.portion.items s.lines.words.items s.lines.apart.items);
+      job = turns n s.job;
+    }) in
     subst (λ v. Runs bytes limit (Laws v) U (U - n) (with c.go_on-looked.new.self)) c.self.view_is
-    (runs-of bytes limit n 0 U (U - n) _ _ (laws_works bytes limit _ s.job c.self.invariant.1 n 0 _ (omega arith) (ap with st ∙ (ap over (turns-grid n s.job) ∙ sym (laws_in _ (turns n s.job) o))) (λ h. absurd (omega arith))).runs (omega arith) (omega arith))
+    (runs-of bytes limit n 0 U (U - n) _ _
+    (laws_works bytes limit _ s.job c.self.invariant.1 n 0 _ (omega arith)
+    (ap with st ∙ (ap over (turns-grid n s.job) ∙ sym (laws_in _ (turns n s.job) o)))
+    (λ h. absurd (omega arith))).runs (omega arith) (omega arith))

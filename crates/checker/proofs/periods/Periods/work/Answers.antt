@@ -35,7 +35,9 @@ pub returns-then-count-period-clause-works : goal.returns-then-count-period-clau
 returns-then-count-period-clause-works g c =
     let i = c.shifts.invariant in
     λ bytes limit. record {
-      runs = periods_served bytes limit _ _ _ _ _ _ (i.runs bytes limit) (omega arith) _ (search rules) (rw i.start at c.comes_again.ensures.same) c.if-not-comes_again.false (search rules);
+      runs = periods_served bytes limit _ _ _ _ _ _ (i.runs bytes limit) (omega arith) _
+          (search rules) (rw i.start at c.comes_again.ensures.same) c.if-not-comes_again.false
+          (search rules);
       exact = λ h. omega arith;
     }
 
@@ -50,7 +52,9 @@ returns-then-comes_again-clause-works g c =
     let i = c.shifts.invariant in
     let w = i.so_far.within in
     λ bytes limit. record {
-      runs = periods_early bytes limit _ _ _ _ _ _ (i.runs bytes limit) (omega arith) _ (omega arith) (rw (i.start, i.period) at c.comes_again-2.ensures.same) c.if-comes_again.true;
+      runs = periods_early bytes limit _ _ _ _ _ _ (i.runs bytes limit) (omega arith) _
+          (omega arith) (rw (i.start, i.period) at c.comes_again-2.ensures.same)
+          c.if-comes_again.true;
       exact = λ h. omega arith;
     }
 
@@ -59,15 +63,23 @@ returns-clause-works g c =
     let i = c.shifts.invariant in
     let w = i.so_far.within in
     λ bytes limit. record {
-      runs = runs-to bytes limit _ _ _ _ _ (periods_over bytes limit _ _ _ _ _ _ (i.runs bytes limit) (omega arith) _ (omega arith) (rw (i.start, i.period) at c.comes_again-2.ensures.same) c.if-comes_again.false (some_pairs _ i.lawful.in_ranges)) (ap Separating (sym c.new.ensures.value));
+      runs =
+          runs-to bytes limit _ _ _ _ _
+          (periods_over bytes limit _ _ _ _ _ _ (i.runs bytes limit) (omega arith) _ (omega arith)
+          (rw (i.start, i.period) at c.comes_again-2.ensures.same) c.if-comes_again.false
+          (some_pairs _ i.lawful.in_ranges)) (ap Separating (sym c.new.ensures.value));
       exact = λ h. omega arith;
     }
 
 pub shifts-preserved-then-not-comes_again : goal.shifts-preserved-then-not-comes_again
 shifts-preserved-then-not-comes_again g c =
     let i = c.shifts.invariant in
-    let not = λ (e : phi_at c.shifts.sheet (c.shifts.shift + (c.shifts.sheet.start + c.shifts.count)) ≡ phi_at c.shifts.sheet (c.shifts.sheet.start + c.shifts.count)).
-    let t : c.comes_again.result ≡ true = c.comes_again.ensures.again.1 (rw i.start (let o = i.lawful.in_ranges.start.0 in omega arith, e)) in
+    let not =
+    λ (e : phi_at c.shifts.sheet (c.shifts.shift + (c.shifts.sheet.start + c.shifts.count))
+    ≡ phi_at c.shifts.sheet (c.shifts.sheet.start + c.shifts.count)).
+    let t : c.comes_again.result ≡ true =
+    c.comes_again.ensures.again.1
+    (rw i.start (let o = i.lawful.in_ranges.start.0 in omega arith, e)) in
     let b : ⊥ = cc in b in
     record {
       same = i.same;
@@ -75,14 +87,20 @@ shifts-preserved-then-not-comes_again g c =
       period = i.period;
       lawful = i.lawful;
       so_far = shift_turn _ _ _ i.so_far not (search rules);
-      runs = λ bytes limit. periods_shifted bytes limit _ _ _ _ _ _ (i.runs bytes limit) (omega arith) _ (search rules) (rw i.start at c.comes_again.ensures.same) c.if-not-comes_again.true;
+      runs = λ bytes limit. periods_shifted bytes limit _ _ _ _ _ _ (i.runs bytes limit)
+          (omega arith) _ (search rules) (rw i.start at c.comes_again.ensures.same)
+          c.if-not-comes_again.true;
     }
 
 pub returns-then-count-period-clause-carries : goal.returns-then-count-period-clause-carries
 returns-then-count-period-clause-carries g c =
     let i = c.shifts.invariant in
     let e = rw i.start at (c.comes_again.ensures.again.0 c.if-not-comes_again.false).1 in
-    λ _. subst (λ d. IsFirstFault d Period) i.same (serves_round c.shifts.sheet i.lawful.in_ranges _ _ i.so_far e (search rules) (search rules), i.so_far.free)
+    λ _. subst (λ d. IsFirstFault d Period) i.same (
+      serves_round c.shifts.sheet i.lawful.in_ranges _ _ i.so_far e (search rules)
+          (search rules),
+      i.so_far.free,
+    )
 
 pub shifts-preserved : goal.shifts-preserved
 shifts-preserved g c =
@@ -96,7 +114,9 @@ shifts-preserved g c =
       period = i.period;
       lawful = i.lawful;
       so_far = again_turn _ _ _ i.so_far e l;
-      runs = λ bytes limit. periods_counted bytes limit _ _ _ _ _ _ (i.runs bytes limit) (omega arith) _ (search rules) (rw i.start at c.comes_again.ensures.same) c.if-not-comes_again.false l;
+      runs = λ bytes limit. periods_counted bytes limit _ _ _ _ _ _ (i.runs bytes limit)
+          (omega arith) _ (search rules) (rw i.start at c.comes_again.ensures.same)
+          c.if-not-comes_again.false l;
     }
 
 pub new-requires : goal.new-requires
@@ -104,7 +124,13 @@ new-requires g c =
     let i = c.shifts.invariant in
     let w = i.so_far.within in
     let whole : c.shifts.shift ≡ c.shifts.sheet.period = omega arith in
-    let not = λ (e : (1 < c.shifts.sheet.start) × (phi_at c.shifts.sheet (c.shifts.sheet.period + (c.shifts.sheet.start - 1)) ≡ phi_at c.shifts.sheet (c.shifts.sheet.start - 1))).
-    let t : c.comes_again-2.result ≡ true = c.comes_again-2.ensures.again.1 (rw (i.start, i.period) (let o = e.0 in omega arith, e.1)) in
+    let not =
+    λ (e : (1 < c.shifts.sheet.start)
+    × (phi_at c.shifts.sheet (c.shifts.sheet.period + (c.shifts.sheet.start - 1))
+    ≡ phi_at c.shifts.sheet (c.shifts.sheet.start - 1))).
+    let t : c.comes_again-2.result ≡ true =
+    c.comes_again-2.ensures.again.1 (rw (i.start, i.period) (let o = e.0 in omega arith, e.1))
+    in
     let b : ⊥ = cc in b in
-    none_below_apart c.shifts.sheet i.so_far.free (periods_end c.shifts.sheet _ _ i.so_far whole not)
+    none_below_apart c.shifts.sheet i.so_far.free
+    (periods_end c.shifts.sheet _ _ i.so_far whole not)

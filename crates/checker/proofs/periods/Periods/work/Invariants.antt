@@ -12,7 +12,9 @@ invariant-shifts g l = record {
   period : l.period ≡ l.sheet.period;
   lawful : IsLawful l.sheet;
   so_far : PeriodsSoFar l.sheet l.shift l.count;
-  runs : (bytes : List ℕ) (limit : ℕ) → Runs bytes limit (AtPeriods l.fn.self) l.initial.left l.left (AtPeriods (record { certificate = l.sheet; shift = l.shift; count = l.count }));
+  runs : (bytes : List ℕ) (limit : ℕ)
+      → Runs bytes limit (AtPeriods l.fn.self) l.initial.left l.left
+      (AtPeriods (record { certificate = l.sheet; shift = l.shift; count = l.count }));
 }
 
 abbrev pub decreases-shifts : goal.decreases-shifts

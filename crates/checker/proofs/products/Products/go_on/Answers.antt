@@ -16,7 +16,10 @@ products-init g c =
       lawful = c.order-last.ensures.lawful;
       so_far = c.self.invariant.0;
       within = c.self.invariant.1;
-      runs = λ bytes limit. runs-none bytes limit _ _ _ (products_in _ _ _ c.self.invariant.1 ∙ ap Products c.self.view_is);
+      runs =
+          λ bytes limit.
+          runs-none bytes limit _ _ _
+          (products_in _ _ _ c.self.invariant.1 ∙ ap Products c.self.view_is);
     }
 
 pub products-preserved-then-self-heaps : goal.products-preserved-then-self-heaps
@@ -29,9 +32,11 @@ products-preserved-then-self-heaps g c =
       last = i.last;
       heaps = i.heaps;
       lawful = i.lawful;
-      so_far = row_turn _ _ _ i.so_far (c.is_in_order.ensures.in_order c.if-is_in_order.true) d i.within;
+      so_far =
+          row_turn _ _ _ i.so_far (c.is_in_order.ensures.in_order c.if-is_in_order.true) d i.within;
       within = omega arith;
-      runs = λ bytes limit. products_row_seen bytes limit _ _ _ _ _ _ (i.runs bytes limit) i.within _ (omega arith) c.is_in_order.ensures.same c.if-is_in_order.true d;
+      runs = λ bytes limit. products_row_seen bytes limit _ _ _ _ _ _ (i.runs bytes limit) i.within
+          _ (omega arith) c.is_in_order.ensures.same c.if-is_in_order.true d;
     }
 
 pub products-preserved : goal.products-preserved
@@ -48,14 +53,18 @@ products-preserved g c =
       lawful = i.lawful;
       so_far = product_turn _ _ _ i.so_far (c.is_in_order.ensures.in_order c.if-is_in_order.true) l;
       within = i.within;
-      runs = λ bytes limit. products_seen bytes limit _ _ _ _ _ _ (i.runs bytes limit) i.within _ (omega arith) c.is_in_order.ensures.same c.if-is_in_order.true l;
+      runs = λ bytes limit. products_seen bytes limit _ _ _ _ _ _ (i.runs bytes limit) i.within _
+          (omega arith) c.is_in_order.ensures.same c.if-is_in_order.true l;
     }
 
 pub returns-else-is_in_order-clause-runs : goal.returns-else-is_in_order-clause-runs
-returns-else-is_in_order-clause-runs g c = let i = c.products.invariant in λ bytes limit. products_going bytes limit _ _ _ _ _ _ (i.runs bytes limit) i.within
+returns-else-is_in_order-clause-runs g c = let i = c.products.invariant in
+    λ bytes limit. products_going bytes limit _ _ _ _ _ _ (i.runs bytes limit) i.within
 
 pub returns-after-products-clause-runs : goal.returns-after-products-clause-runs
-returns-after-products-clause-runs g c = let i = c.products.invariant in λ bytes limit. products_going bytes limit _ _ _ _ _ _ (i.runs bytes limit) i.within
+returns-after-products-clause-runs g c = let i = c.products.invariant in
+    λ bytes limit. products_going bytes limit _ _ _ _ _ _ (i.runs bytes limit) i.within
 
 pub returns-else-self-last-clause-runs : goal.returns-else-self-last-clause-runs
-returns-else-self-last-clause-runs g c = let i = c.products.invariant in λ bytes limit. products_going bytes limit _ _ _ _ _ _ (i.runs bytes limit) i.within
+returns-else-self-last-clause-runs g c = let i = c.products.invariant in
+    λ bytes limit. products_going bytes limit _ _ _ _ _ _ (i.runs bytes limit) i.within

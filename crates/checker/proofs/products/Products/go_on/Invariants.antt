@@ -15,7 +15,9 @@ invariant-products g l =
       lawful : IsLawful s.sheet;
       so_far : ProductsSoFar s.sheet s.element s.heap;
       within : s.element < s.sheet.order;
-      runs : (bytes : List ℕ) (limit : ℕ) → Runs bytes limit (AtProducts l.fn.self) l.initial.left l.left (products_at s.sheet s.element s.heap);
+      runs : (bytes : List ℕ) (limit : ℕ)
+          → Runs bytes limit (AtProducts l.fn.self) l.initial.left l.left
+          (products_at s.sheet s.element s.heap);
     }
 
 abbrev pub decreases-products : goal.decreases-products

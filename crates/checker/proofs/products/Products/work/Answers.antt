@@ -17,7 +17,10 @@ products-init g c =
       heaps = search rules;
       lawful = c.order-order.ensures.lawful;
       so_far = c.self.invariant.0;
-      runs = λ bytes limit. runs-none bytes limit _ _ _ (products_in _ _ _ c.self.invariant.1 ∙ ap Products c.self.view_is);
+      runs =
+          λ bytes limit.
+          runs-none bytes limit _ _ _
+          (products_in _ _ _ c.self.invariant.1 ∙ ap Products c.self.view_is);
     }
 
 pub returns-then-left-eq0-clause-works : goal.returns-then-left-eq0-clause-works
@@ -32,29 +35,37 @@ pub returns-then-not-is_in_order-clause-works : goal.returns-then-not-is_in_orde
 returns-then-not-is_in_order-clause-works g c =
     let i = c.products.invariant in
     λ bytes limit. record {
-      runs = products_missed bytes limit _ _ _ _ _ _ (i.runs bytes limit) (search rules) _ (omega arith) c.is_in_order.ensures.same c.if-not-is_in_order.true;
+      runs = products_missed bytes limit _ _ _ _ _ _ (i.runs bytes limit) (search rules) _
+          (omega arith) c.is_in_order.ensures.same c.if-not-is_in_order.true;
       exact = λ h. omega arith;
     }
 
 pub new-requires : goal.new-requires
 new-requires g c =
     let i = c.products.invariant in
-    let free = none_below_order c.products.sheet (none_below_word c.products.sheet i.lawful.monoid) (keys_fault_free c.products.sheet i.so_far.keys.keyed) in
-    none_below_period c.products.sheet free (products_end c.products.sheet _ _ i.so_far (search rules))
+    let free = none_below_order c.products.sheet (none_below_word c.products.sheet i.lawful.monoid)
+    (keys_fault_free c.products.sheet i.so_far.keys.keyed) in
+    none_below_period c.products.sheet free
+    (products_end c.products.sheet _ _ i.so_far (search rules))
 
 pub returns-clause-works : goal.returns-clause-works
 returns-clause-works g c =
     let i = c.products.invariant in
     λ bytes limit. record {
-      runs = runs-to bytes limit _ _ _ _ _ (products_over bytes limit _ _ _ _ _ _ (i.runs bytes limit) (search rules)) (ap Periods (sym c.new.ensures.value));
+      runs =
+          runs-to bytes limit _ _ _ _ _
+          (products_over bytes limit _ _ _ _ _ _ (i.runs bytes limit) (search rules))
+          (ap Periods (sym c.new.ensures.value));
       exact = λ h. omega arith;
     }
 
 pub returns-then-not-is_in_order-clause-carries : goal.returns-then-not-is_in_order-clause-carries
 returns-then-not-is_in_order-clause-carries g c =
     let i = c.products.invariant in
-    let free = none_below_order c.products.sheet (none_below_word c.products.sheet i.lawful.monoid) (keys_fault_free c.products.sheet i.so_far.keys.keyed) in
-    λ _. subst (λ d. IsFirstFault d Order) i.same (elim c.is_in_order.ensures.fault [ inl t ↦ absurd (cc) | inr f ↦ (f, free) ])
+    let free = none_below_order c.products.sheet (none_below_word c.products.sheet i.lawful.monoid)
+    (keys_fault_free c.products.sheet i.so_far.keys.keyed) in
+    λ _. subst (λ d. IsFirstFault d Order) i.same
+    (elim c.is_in_order.ensures.fault [ inl t ↦ absurd (cc) | inr f ↦ (f, free) ])
 
 pub products-preserved-then-heap-heaps : goal.products-preserved-then-heap-heaps
 products-preserved-then-heap-heaps g c =
@@ -64,8 +75,11 @@ products-preserved-then-heap-heaps g c =
       order = i.order;
       heaps = i.heaps;
       lawful = i.lawful;
-      so_far = row_turn _ _ _ i.so_far (c.is_in_order.ensures.in_order c.if-not-is_in_order.false) (search rules) (search rules);
-      runs = λ bytes limit. products_row_seen bytes limit _ _ _ _ _ _ (i.runs bytes limit) (search rules) _ (omega arith) c.is_in_order.ensures.same c.if-not-is_in_order.false (search rules);
+      so_far = row_turn _ _ _ i.so_far (c.is_in_order.ensures.in_order c.if-not-is_in_order.false)
+          (search rules) (search rules);
+      runs = λ bytes limit. products_row_seen bytes limit _ _ _ _ _ _ (i.runs bytes limit)
+          (search rules) _ (omega arith) c.is_in_order.ensures.same c.if-not-is_in_order.false
+          (search rules);
     }
 
 pub products-preserved : goal.products-preserved
@@ -78,6 +92,9 @@ products-preserved g c =
       order = i.order;
       heaps = i.heaps;
       lawful = i.lawful;
-      so_far = product_turn _ _ _ i.so_far (c.is_in_order.ensures.in_order c.if-not-is_in_order.false) l;
-      runs = λ bytes limit. products_seen bytes limit _ _ _ _ _ _ (i.runs bytes limit) (search rules) _ (omega arith) c.is_in_order.ensures.same c.if-not-is_in_order.false l;
+      so_far =
+          product_turn _ _ _ i.so_far (c.is_in_order.ensures.in_order c.if-not-is_in_order.false) l;
+      runs =
+          λ bytes limit. products_seen bytes limit _ _ _ _ _ _ (i.runs bytes limit) (search rules) _
+          (omega arith) c.is_in_order.ensures.same c.if-not-is_in_order.false l;
     }

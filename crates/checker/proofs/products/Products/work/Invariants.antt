@@ -12,7 +12,9 @@ invariant-products g l = record {
   heaps : l.heaps ≡ l.sheet.start + l.sheet.period;
   lawful : IsLawful l.sheet;
   so_far : ProductsSoFar l.sheet l.element l.heap;
-  runs : (bytes : List ℕ) (limit : ℕ) → Runs bytes limit (AtProducts l.fn.self) l.initial.left l.left (products_at l.sheet l.element l.heap);
+  runs : (bytes : List ℕ) (limit : ℕ)
+      → Runs bytes limit (AtProducts l.fn.self) l.initial.left l.left
+      (products_at l.sheet l.element l.heap);
 }
 
 abbrev pub decreases-products : goal.decreases-products

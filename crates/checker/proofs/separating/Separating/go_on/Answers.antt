@@ -17,7 +17,10 @@ pairs-init g c =
       lawful = c.order-order.ensures.lawful;
       so_far = c.self.invariant.0;
       within = c.self.invariant.1;
-      runs = λ bytes limit. runs-none bytes limit _ _ _ (separating_in limit _ _ _ _ _ c.self.invariant.1 ∙ ap Separating c.self.view_is);
+      runs =
+          λ bytes limit.
+          runs-none bytes limit _ _ _ (separating_in limit _ _ _ _ _ c.self.invariant.1
+          ∙ ap Separating c.self.view_is);
     }
 
 pub tells_apart-requires-clause-y_in : goal.tells_apart-requires-clause-y_in
@@ -29,7 +32,8 @@ pub pairs-preserved-then-not-tells_apart : goal.pairs-preserved-then-not-tells_a
 pairs-preserved-then-not-tells_apart g c =
     let i = c.pairs.invariant in
     let s = c.pairs.self-inside in
-    let not = λ (t : TellsApart (claim_of s.sheet) (s.x, s.y) s.z). let r : c.tells_apart.result ≡ true = c.tells_apart.ensures.tells.1 t in let b : ⊥ = cc in b in
+    let not = λ (t : TellsApart (claim_of s.sheet) (s.x, s.y) s.z). let r : c.tells_apart.result
+    ≡ true = c.tells_apart.ensures.tells.1 t in let b : ⊥ = cc in b in
     record {
       same = i.same;
       order = i.order;
@@ -37,7 +41,10 @@ pairs-preserved-then-not-tells_apart g c =
       lawful = i.lawful;
       so_far = element_turn s.sheet i.lawful.in_ranges _ _ _ _ i.so_far i.within not (search rules);
       within = i.within;
-      runs = λ bytes limit. separating_further bytes limit _ _ _ _ _ _ _ _ (i.runs bytes limit) i.within _ (omega arith) c.tells_apart.ensures.same c.if-not-tells_apart.true (search rules);
+      runs =
+          λ bytes limit. separating_further bytes limit _ _ _ _ _ _ _ _ (i.runs bytes limit)
+          i.within _ (omega arith) c.tells_apart.ensures.same c.if-not-tells_apart.true
+          (search rules);
     }
 
 pub pairs-preserved-then-self-order : goal.pairs-preserved-then-self-order
@@ -46,7 +53,8 @@ pairs-preserved-then-self-order g c =
     let s = c.pairs.self-inside in
     let l = i.last in
     let v = c.apart-given.ensures.value in
-    let e : s.z ≡ slice_index s.sheet.apart s.number = (let h = i.so_far.element i.within in omega arith) in
+    let e : s.z ≡ slice_index s.sheet.apart s.number =
+    (let h = i.so_far.element i.within in omega arith) in
     let w = c.apart-given.ensures.within in
     let b : s.z < s.sheet.order = omega arith in
     let t = c.tells_apart.ensures.tells.0 c.if-not-tells_apart.false in
@@ -58,7 +66,8 @@ pairs-preserved-then-self-order g c =
       lawful = i.lawful;
       so_far = last_pair_turn s.sheet i.lawful.in_ranges _ _ _ _ i.so_far i.within b t e d;
       within = omega arith;
-      runs = λ bytes limit. separating_row bytes limit _ _ _ _ _ _ _ _ (i.runs bytes limit) i.within _ (omega arith) c.tells_apart.ensures.same c.if-not-tells_apart.false (omega arith) d;
+      runs = λ bytes limit. separating_row bytes limit _ _ _ _ _ _ _ _ (i.runs bytes limit) i.within
+          _ (omega arith) c.tells_apart.ensures.same c.if-not-tells_apart.false (omega arith) d;
     }
 
 pub pairs-preserved : goal.pairs-preserved
@@ -67,7 +76,8 @@ pairs-preserved g c =
     let s = c.pairs.self-inside in
     let l = i.last in
     let v = c.apart-given.ensures.value in
-    let e : s.z ≡ slice_index s.sheet.apart s.number = (let h = i.so_far.element i.within in omega arith) in
+    let e : s.z ≡ slice_index s.sheet.apart s.number =
+    (let h = i.so_far.element i.within in omega arith) in
     let w = c.apart-given.ensures.within in
     let b : s.z < s.sheet.order = omega arith in
     let t = c.tells_apart.ensures.tells.0 c.if-not-tells_apart.false in
@@ -76,19 +86,28 @@ pairs-preserved g c =
       order = i.order;
       last = i.last;
       lawful = i.lawful;
-      so_far = pair_turn s.sheet i.lawful.in_ranges _ _ _ _ i.so_far i.within b t e (λ m. c.if-self-order.false (m ∙ sym i.order));
+      so_far =
+          pair_turn s.sheet i.lawful.in_ranges _ _ _ _ i.so_far i.within b t e
+          (λ m. c.if-self-order.false (m ∙ sym i.order));
       within = omega arith;
-      runs = λ bytes limit. separating_pair bytes limit _ _ _ _ _ _ _ _ (i.runs bytes limit) i.within _ (omega arith) c.tells_apart.ensures.same c.if-not-tells_apart.false (omega arith) (λ m. c.if-self-order.false (m ∙ sym i.order));
+      runs =
+          λ bytes limit. separating_pair bytes limit _ _ _ _ _ _ _ _ (i.runs bytes limit) i.within _
+          (omega arith) c.tells_apart.ensures.same c.if-not-tells_apart.false (omega arith)
+          (λ m. c.if-self-order.false (m ∙ sym i.order));
     }
 
 pub returns-else-self-last-clause-runs : goal.returns-else-self-last-clause-runs
-returns-else-self-last-clause-runs g c = let i = c.pairs.invariant in λ bytes limit. separating_going bytes limit _ _ _ _ _ _ _ _ (i.runs bytes limit) i.within
+returns-else-self-last-clause-runs g c = let i = c.pairs.invariant in
+    λ bytes limit. separating_going bytes limit _ _ _ _ _ _ _ _ (i.runs bytes limit) i.within
 
 pub returns-after-pairs-clause-runs : goal.returns-after-pairs-clause-runs
-returns-after-pairs-clause-runs g c = let i = c.pairs.invariant in λ bytes limit. separating_going bytes limit _ _ _ _ _ _ _ _ (i.runs bytes limit) i.within
+returns-after-pairs-clause-runs g c = let i = c.pairs.invariant in
+    λ bytes limit. separating_going bytes limit _ _ _ _ _ _ _ _ (i.runs bytes limit) i.within
 
 pub returns-then-self-given-clause-runs : goal.returns-then-self-given-clause-runs
-returns-then-self-given-clause-runs g c = let i = c.pairs.invariant in λ bytes limit. separating_going bytes limit _ _ _ _ _ _ _ _ (i.runs bytes limit) i.within
+returns-then-self-given-clause-runs g c = let i = c.pairs.invariant in
+    λ bytes limit. separating_going bytes limit _ _ _ _ _ _ _ _ (i.runs bytes limit) i.within
 
 pub returns-then-self-given-2-clause-runs : goal.returns-then-self-given-2-clause-runs
-returns-then-self-given-2-clause-runs g c = let i = c.pairs.invariant in λ bytes limit. separating_going bytes limit _ _ _ _ _ _ _ _ (i.runs bytes limit) i.within
+returns-then-self-given-2-clause-runs g c = let i = c.pairs.invariant in
+    λ bytes limit. separating_going bytes limit _ _ _ _ _ _ _ _ (i.runs bytes limit) i.within

@@ -15,7 +15,9 @@ invariant-pairs g l =
       lawful : IsLawful s.sheet;
       so_far : ApartSoFar s.sheet s.x s.y s.z s.number;
       within : s.number < length s.sheet.apart;
-      runs : (bytes : List ℕ) (limit : ℕ) → Runs bytes limit (AtSeparating l.fn.self) l.initial.left l.left (separating_at limit s.sheet s.x s.y s.number s.z);
+      runs : (bytes : List ℕ) (limit : ℕ)
+          → Runs bytes limit (AtSeparating l.fn.self) l.initial.left l.left
+          (separating_at limit s.sheet s.x s.y s.number s.z);
     }
 
 abbrev pub decreases-pairs : goal.decreases-pairs

@@ -19,7 +19,10 @@ pairs-init g c =
       pairs = c.pairs-pairs.ensures.value;
       lawful = c.order-order.ensures.lawful;
       so_far = c.self.invariant.0;
-      runs = λ bytes limit. runs-none bytes limit _ _ _ (separating_in limit _ _ _ _ _ c.self.invariant.1 ∙ ap Separating c.self.view_is);
+      runs =
+          λ bytes limit.
+          runs-none bytes limit _ _ _ (separating_in limit _ _ _ _ _ c.self.invariant.1
+          ∙ ap Separating c.self.view_is);
     }
 
 pub returns-then-left-eq0-clause-works : goal.returns-then-left-eq0-clause-works
@@ -34,7 +37,8 @@ pub returns-then-z-given-clause-works : goal.returns-then-z-given-clause-works
 returns-then-z-given-clause-works g c =
     let i = c.pairs.invariant in
     λ bytes limit. record {
-      runs = separating_untold bytes limit _ _ _ _ _ _ _ _ (i.runs bytes limit) (search rules) _ (omega arith) c.tells_apart.ensures.same c.if-not-tells_apart.true (search rules);
+      runs = separating_untold bytes limit _ _ _ _ _ _ _ _ (i.runs bytes limit) (search rules) _
+          (omega arith) c.tells_apart.ensures.same c.if-not-tells_apart.true (search rules);
       exact = λ h. omega arith;
     }
 
@@ -42,7 +46,8 @@ pub returns-then-z-given-2-clause-works : goal.returns-then-z-given-2-clause-wor
 returns-then-z-given-2-clause-works g c =
     let i = c.pairs.invariant in
     λ bytes limit. record {
-      runs = separating_smaller bytes limit _ _ _ _ _ _ _ _ (i.runs bytes limit) (search rules) _ (omega arith) c.tells_apart.ensures.same c.if-not-tells_apart.false (search rules);
+      runs = separating_smaller bytes limit _ _ _ _ _ _ _ _ (i.runs bytes limit) (search rules) _
+          (omega arith) c.tells_apart.ensures.same c.if-not-tells_apart.false (search rules);
       exact = λ h. omega arith;
     }
 
@@ -50,7 +55,10 @@ pub returns-clause-works : goal.returns-clause-works
 returns-clause-works g c =
     let i = c.pairs.invariant in
     λ bytes limit. record {
-      runs = runs-to bytes limit _ _ _ _ _ (separating_over bytes limit _ _ _ _ _ _ _ _ (i.runs bytes limit) (search rules)) (heaps_begin limit _ i.lawful.in_ranges ∙ ap Heaps (sym c.new.ensures.value));
+      runs =
+          runs-to bytes limit _ _ _ _ _
+          (separating_over bytes limit _ _ _ _ _ _ _ _ (i.runs bytes limit) (search rules))
+          (heaps_begin limit _ i.lawful.in_ranges ∙ ap Heaps (sym c.new.ensures.value));
       exact = λ h. omega arith;
     }
 
@@ -63,34 +71,47 @@ pub returns-then-z-given-clause-carries : goal.returns-then-z-given-clause-carri
 returns-then-z-given-clause-carries g c =
     let i = c.pairs.invariant in
     let l : c.pairs.number < length c.pairs.sheet.apart = search rules in
-    let not = λ (t : TellsApart (claim_of c.pairs.sheet) (c.pairs.x, c.pairs.y) c.pairs.z). let r : c.tells_apart.result ≡ true = c.tells_apart.ensures.tells.1 t in let b : ⊥ = cc in b in
-    λ _. subst (λ d. IsFirstFault d Apart) i.same (apart_none c.pairs.sheet i.lawful.in_ranges _ _ _ _ i.so_far l not (search rules), i.so_far.free)
+    let not = λ (t : TellsApart (claim_of c.pairs.sheet) (c.pairs.x, c.pairs.y) c.pairs.z).
+    let r : c.tells_apart.result ≡ true = c.tells_apart.ensures.tells.1 t in let b : ⊥ = cc in b
+    in
+    λ _. subst (λ d. IsFirstFault d Apart) i.same (
+      apart_none c.pairs.sheet i.lawful.in_ranges _ _ _ _ i.so_far l not (search rules),
+      i.so_far.free,
+    )
 
 pub pairs-preserved-then-not-tells_apart : goal.pairs-preserved-then-not-tells_apart
 pairs-preserved-then-not-tells_apart g c =
     let i = c.pairs.invariant in
     let l : c.pairs.number < length c.pairs.sheet.apart = search rules in
-    let not = λ (t : TellsApart (claim_of c.pairs.sheet) (c.pairs.x, c.pairs.y) c.pairs.z). let r : c.tells_apart.result ≡ true = c.tells_apart.ensures.tells.1 t in let b : ⊥ = cc in b in
+    let not = λ (t : TellsApart (claim_of c.pairs.sheet) (c.pairs.x, c.pairs.y) c.pairs.z).
+    let r : c.tells_apart.result ≡ true = c.tells_apart.ensures.tells.1 t in let b : ⊥ = cc in b
+    in
     record {
       same = i.same;
       order = i.order;
       pairs = i.pairs;
       lawful = i.lawful;
       so_far = element_turn c.pairs.sheet i.lawful.in_ranges _ _ _ _ i.so_far l not (search rules);
-      runs = λ bytes limit. separating_further bytes limit _ _ _ _ _ _ _ _ (i.runs bytes limit) l _ (omega arith) c.tells_apart.ensures.same c.if-not-tells_apart.true (search rules);
+      runs = λ bytes limit. separating_further bytes limit _ _ _ _ _ _ _ _ (i.runs bytes limit) l _
+          (omega arith) c.tells_apart.ensures.same c.if-not-tells_apart.true (search rules);
     }
 
 pub returns-then-z-given-2-clause-carries : goal.returns-then-z-given-2-clause-carries
 returns-then-z-given-2-clause-carries g c =
     let i = c.pairs.invariant in
     let l : c.pairs.number < length c.pairs.sheet.apart = search rules in
-    λ _. subst (λ d. IsFirstFault d Apart) i.same (apart_smaller c.pairs.sheet i.lawful.in_ranges _ _ _ _ i.so_far l (c.tells_apart.ensures.tells.0 c.if-not-tells_apart.false) (search rules), i.so_far.free)
+    λ _. subst (λ d. IsFirstFault d Apart) i.same (
+      apart_smaller c.pairs.sheet i.lawful.in_ranges _ _ _ _ i.so_far l
+          (c.tells_apart.ensures.tells.0 c.if-not-tells_apart.false) (search rules),
+      i.so_far.free,
+    )
 
 pub pairs-preserved-then-y-order : goal.pairs-preserved-then-y-order
 pairs-preserved-then-y-order g c =
     let i = c.pairs.invariant in
     let l : c.pairs.number < length c.pairs.sheet.apart = search rules in
-    let e : c.pairs.z ≡ slice_index c.pairs.sheet.apart c.pairs.number = (let h = i.so_far.element l in omega arith) in
+    let e : c.pairs.z ≡ slice_index c.pairs.sheet.apart c.pairs.number =
+    (let h = i.so_far.element l in omega arith) in
     let b : c.pairs.z < c.pairs.sheet.order = search rules in
     let t = c.tells_apart.ensures.tells.0 c.if-not-tells_apart.false in
     record {
@@ -98,15 +119,19 @@ pairs-preserved-then-y-order g c =
       order = i.order;
       pairs = i.pairs;
       lawful = i.lawful;
-      so_far = last_pair_turn c.pairs.sheet i.lawful.in_ranges _ _ _ _ i.so_far l b t e (search rules);
-      runs = λ bytes limit. separating_row bytes limit _ _ _ _ _ _ _ _ (i.runs bytes limit) l _ (omega arith) c.tells_apart.ensures.same c.if-not-tells_apart.false (omega arith) (search rules);
+      so_far =
+          last_pair_turn c.pairs.sheet i.lawful.in_ranges _ _ _ _ i.so_far l b t e (search rules);
+      runs = λ bytes limit. separating_row bytes limit _ _ _ _ _ _ _ _ (i.runs bytes limit) l _
+          (omega arith) c.tells_apart.ensures.same c.if-not-tells_apart.false (omega arith)
+          (search rules);
     }
 
 pub pairs-preserved : goal.pairs-preserved
 pairs-preserved g c =
     let i = c.pairs.invariant in
     let l : c.pairs.number < length c.pairs.sheet.apart = search rules in
-    let e : c.pairs.z ≡ slice_index c.pairs.sheet.apart c.pairs.number = (let h = i.so_far.element l in omega arith) in
+    let e : c.pairs.z ≡ slice_index c.pairs.sheet.apart c.pairs.number =
+    (let h = i.so_far.element l in omega arith) in
     let b : c.pairs.z < c.pairs.sheet.order = search rules in
     let t = c.tells_apart.ensures.tells.0 c.if-not-tells_apart.false in
     record {
@@ -114,13 +139,19 @@ pairs-preserved g c =
       order = i.order;
       pairs = i.pairs;
       lawful = i.lawful;
-      so_far = pair_turn c.pairs.sheet i.lawful.in_ranges _ _ _ _ i.so_far l b t e (λ m. c.if-y-order.false (m ∙ sym i.order));
-      runs = λ bytes limit. separating_pair bytes limit _ _ _ _ _ _ _ _ (i.runs bytes limit) l _ (omega arith) c.tells_apart.ensures.same c.if-not-tells_apart.false (omega arith) (λ m. c.if-y-order.false (m ∙ sym i.order));
+      so_far =
+          pair_turn c.pairs.sheet i.lawful.in_ranges _ _ _ _ i.so_far l b t e
+          (λ m. c.if-y-order.false (m ∙ sym i.order));
+      runs = λ bytes limit. separating_pair bytes limit _ _ _ _ _ _ _ _ (i.runs bytes limit) l _
+          (omega arith) c.tells_apart.ensures.same c.if-not-tells_apart.false (omega arith)
+          (λ m. c.if-y-order.false (m ∙ sym i.order));
     }
 
 pub new-requires : goal.new-requires
 new-requires g c =
     let i = c.pairs.invariant in
     let l : length c.pairs.sheet.apart ≤ c.pairs.number = search rules in
-    let free = none_at_all c.pairs.sheet i.so_far.free (apart_end c.pairs.sheet i.lawful.in_ranges _ _ _ _ i.so_far l) in
+    let free =
+    none_at_all c.pairs.sheet i.so_far.free
+    (apart_end c.pairs.sheet i.lawful.in_ranges _ _ _ _ i.so_far l) in
     (faultless c.pairs.sheet i.lawful.in_ranges free).1

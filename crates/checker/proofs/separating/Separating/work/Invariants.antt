@@ -12,7 +12,9 @@ invariant-pairs g l = record {
   pairs : l.pairs ≡ length l.sheet.apart;
   lawful : IsLawful l.sheet;
   so_far : ApartSoFar l.sheet l.x l.y l.z l.number;
-  runs : (bytes : List ℕ) (limit : ℕ) → Runs bytes limit (AtSeparating l.fn.self) l.initial.left l.left (separating_at limit l.sheet l.x l.y l.number l.z);
+  runs : (bytes : List ℕ) (limit : ℕ)
+      → Runs bytes limit (AtSeparating l.fn.self) l.initial.left l.left
+      (separating_at limit l.sheet l.x l.y l.number l.z);
 }
 
 abbrev pub decreases-pairs : goal.decreases-pairs

@@ -8,4 +8,6 @@ returns-clause-value g c =
     let t = c.self.inside.table in
     let x_in : c.args.x < t.order = search rules in
     let y_in : c.args.y < t.order = search rules in
-    subst (λ d. c.times.result ≡ times_of d c.args.x c.args.y) c.self.view_is (c.times.ensures.value ∙ sym (rows_of-entry t.order t.order t.entries c.args.x c.args.y x_in y_in))
+    subst (λ d. c.times.result ≡ times_of d c.args.x c.args.y) c.self.view_is
+    (c.times.ensures.value
+    ∙ sym (rows_of-entry t.order t.order t.entries c.args.x c.args.y x_in y_in))

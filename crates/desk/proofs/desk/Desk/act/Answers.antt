@@ -4,7 +4,11 @@ use Rattle.desk.proofs.Steps.{same_step}
 use Rattle.desk.proofs.desk.Desk.act.Goals as goal
 
 pub returns-in-Ask : goal.returns-in-Ask
-returns-in-Ask g c = same_step c.args.self.now c.args.client (event_of c.args.event) _ _ (ap event_of c.in-Ask.is) c.ask.ensures
+returns-in-Ask g c =
+    same_step c.args.self.now c.args.client (event_of c.args.event) _ _ (ap event_of c.in-Ask.is)
+    c.ask.ensures
 
 pub returns-in-Play : goal.returns-in-Play
-returns-in-Play g c = same_step c.args.self.now c.args.client (event_of c.args.event) _ _ (ap event_of c.in-Play.is) c.play.ensures
+returns-in-Play g c =
+    same_step c.args.self.now c.args.client (event_of c.args.event) _ _ (ap event_of c.in-Play.is)
+    c.play.ensures

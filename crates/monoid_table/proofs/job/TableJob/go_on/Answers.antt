@@ -10,12 +10,22 @@ returns-then-most-eq0-clause-state g c = sym (turns-none 0 c.args.self.now refl)
 
 pub returns-clause-state : goal.returns-clause-state
 returns-clause-state g c =
-    let s : JobState = record { grid = record { order = c.self.inside.order; entries = c.self.inside.rows.items }; spent = c.self.inside.spent; refused = c.self.inside.refused } in
+    let s : JobState =
+    record {
+      grid = record { order = c.self.inside.order; entries = c.self.inside.rows.items };
+      spent = c.self.inside.spent;
+      refused = c.self.inside.refused;
+    } in
     let over : is_over s ≡ false = ap is_over c.self.view_is ∙ c.requires in
     let rows = sym c.deref-2.ensures.value in
     let run = c.next_run-run in
     let w = run.ensures.within in
-    let few : c.if-run.passed ≤ run.result.units = elim c.if-run.branch [ then-run w ↦ (let e = w.passed-is in omega arith) | else-run w ↦ (let e = w.passed-is in omega arith) ] in
+    let few : c.if-run.passed ≤ run.result.units =
+    elim c.if-run.branch [
+      | then-run w ↦ (let e = w.passed-is in omega arith)
+      | else-run w ↦
+          (let e = w.passed-is in omega arith)
+    ] in
     let all = c.all.ensures ∙ ap (λ v. triples v.grid.order) (sym c.self.view_is) in
     (passing-on c.if-run.passed s over (omega arith) (λ i low high.
     ap (λ r. triple_holds c.self.inside.order r i) rows
@@ -26,6 +36,7 @@ returns-clause-state g c =
           elim (dec_lt (i + 1) (c.self.inside.spent + run.result.units)) [
             | yes b ↦ run.ensures.passed i low b
             | no f ↦ (let d : c.self.inside.spent + run.result.units - 1 ≡ i = omega (arith, f) in
-                subst (λ k. triple_holds c.self.inside.order c.deref-2.result.now k ≡ true) d (run.ensures.last ∙ ap not w.if-run.false))
+                subst (λ k. triple_holds c.self.inside.order c.deref-2.result.now k ≡ true) d
+                (run.ensures.last ∙ ap not w.if-run.false))
           ])
     ])).0 ∙ ap (turns c.if-run.passed) c.self.view_is

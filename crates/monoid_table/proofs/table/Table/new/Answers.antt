@@ -11,9 +11,11 @@ pub finish-requires : goal.finish-requires
 finish-requires g c =
     let rows : Grid = record { order = c.args.order; entries = c.args.rows.items } in
     let shaped : IsShaped c.args.order c.args.rows.items = c.in_ok-job.ensures.ok.0 refl in
-    let room : triples c.args.order ≤ 0 + 18446744073709551615 = omega (arith, triples-most c.args.order shaped.small) in
+    let room : triples c.args.order ≤ 0 + 18446744073709551615 =
+    omega (arith, triples-most c.args.order shaped.small) in
     let none : 0 ≤ triples c.args.order = omega arith in
-    let reached : c.work.new.self ≡ turns 18446744073709551615 (state rows 0 false) = c.work.ensures.state ∙ ap (turns 18446744073709551615) c.in_ok-job.ensures.given in
+    let reached : c.work.new.self ≡ turns 18446744073709551615 (state rows 0 false) =
+    c.work.ensures.state ∙ ap (turns 18446744073709551615) c.in_ok-job.ensures.given in
     over-answers c.work.new.self c.in_ok-work.field-0
     (ap is_over reached ∙ turns-end 18446744073709551615 rows 0 none room)
     (sym c.work.ensures.answer ∙ c.in_ok-work.was)
@@ -30,10 +32,15 @@ pub returns-clause-ok : goal.returns-clause-ok
 returns-clause-ok g c = (λ _. table g c, λ _. refl)
 
 pub returns-clause-law : goal.returns-clause-law
-returns-clause-law g c = (λ e. absurd (cc), λ both. absurd (failure-refutes _ _ both.1 (table g c).monoid))
+returns-clause-law g c =
+    (λ e. absurd (cc), λ both. absurd (failure-refutes _ _ both.1 (table g c).monoid))
 
 pub returns-in_err-work-clause-law : goal.returns-in_err-work-clause-law
 returns-in_err-work-clause-law g c = (
-  λ _. (c.in_ok-job.ensures.ok.0 refl, subst (λ job. LawFails job.grid.order (entry job.grid.order job.grid.entries)) c.in_ok-job.ensures.given c.in_err-work.ensures.law),
+  λ _. (
+    c.in_ok-job.ensures.ok.0 refl,
+    subst (λ job. LawFails job.grid.order (entry job.grid.order job.grid.entries))
+        c.in_ok-job.ensures.given c.in_err-work.ensures.law,
+  ),
   λ _. search rules,
 )

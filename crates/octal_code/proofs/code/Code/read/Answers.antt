@@ -4,31 +4,68 @@ use Rattle.octal_code.proofs.Spelled.{code_read, long_read, read_code, read_long
 use Rattle.octal_code.proofs.code.Code.read.Goals as goal
 
 pub returns-then-not-is_spelling-clause-code : goal.returns-then-not-is_spelling-clause-code
-returns-then-not-is_spelling-clause-code c = λ ds. (λ e. absurd (cc), λ h. absurd (let t = c.is_spelling.ensures.1 (read_code c.args.text.now ds h).0 in cc))
+returns-then-not-is_spelling-clause-code c =
+    λ ds. (
+      λ e. absurd (cc),
+      λ h.
+          absurd (let t = c.is_spelling.ensures.1 (read_code c.args.text.now ds h).0 in cc),
+    )
 
 pub returns-then-not-is_spelling-clause-too_long : goal.returns-then-not-is_spelling-clause-too_long
-returns-then-not-is_spelling-clause-too_long c = (λ e. absurd (cc), λ h. absurd (let t = c.is_spelling.ensures.1 (read_long c.args.text.now h).0 in cc))
+returns-then-not-is_spelling-clause-too_long c = (
+  λ e. absurd (cc),
+  λ h. absurd (let t = c.is_spelling.ensures.1 (read_long c.args.text.now h).0
+      in cc),
+)
 
-pub returns-then-not-is_spelling-clause-not_a_code : goal.returns-then-not-is_spelling-clause-not_a_code
-returns-then-not-is_spelling-clause-not_a_code c = (λ e. no_code c.args.text.now (λ s. let t = c.is_spelling.ensures.1 s in cc), λ h. refl)
+pub returns-then-not-is_spelling-clause-not_a_code :
+    goal.returns-then-not-is_spelling-clause-not_a_code
+returns-then-not-is_spelling-clause-not_a_code c =
+    (λ e. no_code c.args.text.now (λ s. let t = c.is_spelling.ensures.1 s in cc), λ h. refl)
 
 pub returns-then-text-gt-LONGEST-clause-code : goal.returns-then-text-gt-LONGEST-clause-code
-returns-then-text-gt-LONGEST-clause-code c = λ ds. (λ e. absurd (cc), λ h. absurd (let l = (read_code c.args.text.now ds h).1 in omega arith))
+returns-then-text-gt-LONGEST-clause-code c =
+    λ ds. (
+      λ e. absurd (cc),
+      λ h. absurd (let l = (read_code c.args.text.now ds h).1 in
+          omega arith),
+    )
 
 pub returns-then-text-gt-LONGEST-clause-too_long : goal.returns-then-text-gt-LONGEST-clause-too_long
-returns-then-text-gt-LONGEST-clause-too_long c = (λ e. long_read c.args.text.now (c.is_spelling.ensures.0 c.if-not-is_spelling.false) (omega arith), λ h. refl)
+returns-then-text-gt-LONGEST-clause-too_long c = (
+  λ e. long_read c.args.text.now (c.is_spelling.ensures.0 c.if-not-is_spelling.false)
+      (omega arith),
+  λ h. refl,
+)
 
-pub returns-then-text-gt-LONGEST-clause-not_a_code : goal.returns-then-text-gt-LONGEST-clause-not_a_code
-returns-then-text-gt-LONGEST-clause-not_a_code c = (λ e. absurd (cc), λ h. absurd (h.not_long (long_read c.args.text.now (c.is_spelling.ensures.0 c.if-not-is_spelling.false) (omega arith))))
+pub returns-then-text-gt-LONGEST-clause-not_a_code :
+    goal.returns-then-text-gt-LONGEST-clause-not_a_code
+returns-then-text-gt-LONGEST-clause-not_a_code c = (
+  λ e. absurd (cc),
+  λ h.
+      absurd
+      (h.not_long (long_read c.args.text.now (c.is_spelling.ensures.0 c.if-not-is_spelling.false)
+      (omega arith))),
+)
 
 pub returns-clause-code : goal.returns-clause-code
 returns-clause-code c = λ ds. (
-  λ e. subst (IsCodeText c.args.text.now) (let s : c.spelled.result ≡ ds = cc in sym c.spelled.ensures ∙ s) (code_read c.args.text.now (c.is_spelling.ensures.0 c.if-not-is_spelling.false) (omega arith)),
+  λ e. subst (IsCodeText c.args.text.now) (let s : c.spelled.result ≡ ds = cc in
+      sym c.spelled.ensures ∙ s)
+      (code_read c.args.text.now (c.is_spelling.ensures.0 c.if-not-is_spelling.false)
+      (omega arith)),
   λ h. let s = (read_code c.args.text.now ds h).2 in ap Ok (c.spelled.ensures ∙ s),
 )
 
 pub returns-clause-too_long : goal.returns-clause-too_long
-returns-clause-too_long c = (λ e. absurd (cc), λ h. absurd (let l = (read_long c.args.text.now h).1 in omega arith))
+returns-clause-too_long c =
+    (λ e. absurd (cc), λ h. absurd (let l = (read_long c.args.text.now h).1 in omega arith))
 
 pub returns-clause-not_a_code : goal.returns-clause-not_a_code
-returns-clause-not_a_code c = (λ e. absurd (cc), λ h. absurd (h.no_code _ (code_read c.args.text.now (c.is_spelling.ensures.0 c.if-not-is_spelling.false) (omega arith))))
+returns-clause-not_a_code c = (
+  λ e. absurd (cc),
+  λ h.
+      absurd
+      (h.no_code _ (code_read c.args.text.now (c.is_spelling.ensures.0 c.if-not-is_spelling.false)
+      (omega arith))),
+)

@@ -5,4 +5,6 @@ use Rattle.outcome_search.proofs.reach.Reached.add_moves_of.Given as goal
 
 abbrev pub invariant-loop-left : goal.invariant-loop-left
 invariant-loop-left g l =
-    (l.yielded ++ l.left-iterator ≡ options_of l.code (slice_index (slice_index_or l.fn.self l.number []) l.place)) × AddsMoves l.code l.number l.fn.self l.self
+    (l.yielded ++ l.left-iterator
+    ≡ options_of l.code (slice_index (slice_index_or l.fn.self l.number []) l.place))
+    × AddsMoves l.code l.number l.fn.self l.self

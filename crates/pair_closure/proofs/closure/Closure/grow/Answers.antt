@@ -4,13 +4,21 @@ use Rattle.pair_closure.proofs.Taken.{went, went_data, went_few, went_spent, gro
 use Rattle.pair_closure.proofs.closure.Closure.grow.Goals as goal
 
 pub returns-clause-grows : goal.returns-clause-grows
-returns-clause-grows g c = grows_of ended c.args.units _ _ c.standing.result (sym (ap (λ z. z.failed) c.self.view_is) ∙ c.if-self.false) c.take_turns.ensures c.standing.ensures.refused
+returns-clause-grows g c =
+    grows_of ended c.args.units _ _ c.standing.result (sym (ap (λ z. z.failed) c.self.view_is)
+    ∙ c.if-self.false) c.take_turns.ensures c.standing.ensures.refused
 
 pub returns-clause-turns : goal.returns-clause-turns
-returns-clause-turns g c = steps_of c.args.units _ _ c.standing.result (grows_of ended c.args.units _ _ c.standing.result (sym (ap (λ z. z.failed) c.self.view_is) ∙ c.if-self.false) c.take_turns.ensures c.standing.ensures.refused)
+returns-clause-turns g c =
+    steps_of c.args.units _ _ c.standing.result
+    (grows_of ended c.args.units _ _ c.standing.result (sym (ap (λ z. z.failed) c.self.view_is)
+    ∙ c.if-self.false) c.take_turns.ensures c.standing.ensures.refused)
 
 pub returns-clause-refused : goal.returns-clause-refused
-returns-clause-refused g c = refused_of ended c.args.units _ _ c.standing.result (grows_of ended c.args.units _ _ c.standing.result (sym (ap (λ z. z.failed) c.self.view_is) ∙ c.if-self.false) c.take_turns.ensures c.standing.ensures.refused)
+returns-clause-refused g c =
+    refused_of ended c.args.units _ _ c.standing.result
+    (grows_of ended c.args.units _ _ c.standing.result (sym (ap (λ z. z.failed) c.self.view_is)
+    ∙ c.if-self.false) c.take_turns.ensures c.standing.ensures.refused)
 
 pub returns-clause-data : goal.returns-clause-data
 returns-clause-data g c = went_data _ _ _ _ (went ended c.args.units _ _ c.take_turns.ensures)
@@ -20,7 +28,11 @@ returns-clause-few g c = went_few _ _ _ _ (went ended c.args.units _ _ c.take_tu
 
 pub returns-clause-spent : goal.returns-clause-spent
 returns-clause-spent g c = λ e.
-    spent_by ended c.args.units _ _ c.standing.result _ (grows_of ended c.args.units _ _ c.standing.result (sym (ap (λ z. z.failed) c.self.view_is) ∙ c.if-self.false) c.take_turns.ensures c.standing.ensures.refused) e (c.standing.ensures.more e)
+    spent_by ended c.args.units _ _ c.standing.result _
+    (grows_of ended c.args.units _ _ c.standing.result (sym (ap (λ z. z.failed) c.self.view_is)
+    ∙ c.if-self.false) c.take_turns.ensures c.standing.ensures.refused) e
+    (c.standing.ensures.more e)
 
 pub returns-clause-spent_range : goal.returns-clause-spent_range
-returns-clause-spent_range g c = went_spent _ _ _ _ (went ended c.args.units _ _ c.take_turns.ensures)
+returns-clause-spent_range g c =
+    went_spent _ _ _ _ (went ended c.args.units _ _ c.take_turns.ensures)

@@ -11,5 +11,7 @@ overflow_add-self g c = let fits = spent_fits _ c.self.invariant.0 in omega arit
 pub invariant_of-self-2 : goal.invariant_of-self-2
 invariant_of-self-2 g c =
     let members : c.add.new.members ≡ members_with c.self.inside.members one 0 0 = search rules in
-    let held : c.hold.new.held.items ≡ held_with c.self.inside.held.items one 0 (length c.self.inside.heaps.items) = search rules in
-    empty_next _ _ _ _ c.self.invariant.0 (subst (λ z. KeepsEmpty z.state) (sym c.self.view_is) c.requires) members held
+    let held : c.hold.new.held.items ≡ held_with c.self.inside.held.items one 0
+    (length c.self.inside.heaps.items) = search rules in
+    empty_next _ _ _ _ c.self.invariant.0
+    (subst (λ z. KeepsEmpty z.state) (sym c.self.view_is) c.requires) members held

@@ -7,18 +7,26 @@ use Rattle.pair_closure.proofs.Turned.{read_by, read_held, read_generator, produ
 use Rattle.pair_closure.proofs.closure.Closure.multiply.Goals as goal
 
 pub index-requires-2 : goal.index-requires-2
-index-requires-2 g c = let l = read_by _ _ _ (subst (λ z. Multiplies z.state c.args.at) (sym c.self.view_is) c.requires) c.index.ensures in search rules
+index-requires-2 g c = let l =
+    read_by _ _ _ (subst (λ z. Multiplies z.state c.args.at) (sym c.self.view_is) c.requires)
+    c.index.ensures in search rules
 
 pub times-product-requires-clause-x_in : goal.times-product-requires-clause-x_in
-times-product-requires-clause-x_in g c = read_held _ _ _ (of_run _ c.self.invariant.0) (subst (λ z. Multiplies z.state c.args.at) (sym c.self.view_is) c.requires) c.index.ensures
+times-product-requires-clause-x_in g c =
+    read_held _ _ _ (of_run _ c.self.invariant.0)
+    (subst (λ z. Multiplies z.state c.args.at) (sym c.self.view_is) c.requires) c.index.ensures
 
 pub times-product-requires-clause-y_in : goal.times-product-requires-clause-y_in
 times-product-requires-clause-y_in g c =
-    read_generator _ _ _ (of_run _ c.self.invariant.0) (read_by _ _ _ (subst (λ z. Multiplies z.state c.args.at) (sym c.self.view_is) c.requires) c.index.ensures) c.index-2.ensures
+    read_generator _ _ _ (of_run _ c.self.invariant.0)
+    (read_by _ _ _ (subst (λ z. Multiplies z.state c.args.at) (sym c.self.view_is) c.requires)
+    c.index.ensures) c.index-2.ensures
 
 pub overflow_add-multiplied : goal.overflow_add-multiplied
 overflow_add-multiplied g c =
-    let l : c.index.result.now.by < length c.self.inside.generators.items = read_by _ _ _ (subst (λ z. Multiplies z.state c.args.at) (sym c.self.view_is) c.requires) c.index.ensures in
+    let l : c.index.result.now.by < length c.self.inside.generators.items =
+    read_by _ _ _ (subst (λ z. Multiplies z.state c.args.at) (sym c.self.view_is) c.requires)
+    c.index.ensures in
     search rules
 
 pub settle_product-requires-clause-tell : goal.settle_product-requires-clause-tell
@@ -29,7 +37,8 @@ overflow_add-self g c = let fits = spent_fits _ c.self.invariant.0 in omega arit
 
 pub invariant_of-self-2 : goal.invariant_of-self-2
 invariant_of-self-2 g c =
-    product_next _ _ _ c.args.at c.index.result.now c.index-2.result.now c.times-product.result c.in_ok-anew.anew _ c.self.invariant.0 (record {
+    product_next _ _ _ c.args.at c.index.result.now c.index-2.result.now c.times-product.result
+    c.in_ok-anew.anew _ c.self.invariant.0 (record {
       turns = subst (λ z. Multiplies z.state c.args.at) (sym c.self.view_is) c.requires;
       member = c.index.ensures;
       generator = c.index-2.ensures;
@@ -40,7 +49,10 @@ invariant_of-self-2 g c =
 
 pub returns-clause-ok : goal.returns-clause-ok
 returns-clause-ok g c =
-    ap (λ (t : State). record { state = t; spent = c.self.inside.spent + 1; failed = c.self.inside.failed }) (product_turned _ _ _ c.args.at c.index.result.now c.index-2.result.now c.times-product.result (record {
+    ap (λ (t : State).
+    record { state = t; spent = c.self.inside.spent + 1; failed = c.self.inside.failed })
+    (product_turned _ _ _ c.args.at c.index.result.now c.index-2.result.now
+    c.times-product.result (record {
       turns = subst (λ z. Multiplies z.state c.args.at) (sym c.self.view_is) c.requires;
       member = c.index.ensures;
       generator = c.index-2.ensures;

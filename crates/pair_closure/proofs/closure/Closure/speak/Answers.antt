@@ -8,16 +8,21 @@ use Rattle.pair_closure.proofs.Runs.{spent_le, limited}
 use Rattle.pair_closure.proofs.closure.Closure.speak.Goals as goal
 
 pub returns-clause-speaks : goal.returns-clause-speaks
-returns-clause-speaks g c = subst (λ z. Speaks z.state) c.self.view_is (speaks _ (of_run _ c.self.invariant.0))
+returns-clause-speaks g c =
+    subst (λ z. Speaks z.state) c.self.view_is (speaks _ (of_run _ c.self.invariant.0))
 
 pub returns-clause-minimal : goal.returns-clause-minimal
-returns-clause-minimal g c = subst (λ z. IsMinimal z.state) c.self.view_is (minimal _ (of_run _ c.self.invariant.0))
+returns-clause-minimal g c =
+    subst (λ z. IsMinimal z.state) c.self.view_is (minimal _ (of_run _ c.self.invariant.0))
 
 pub returns-clause-bound : goal.returns-clause-bound
-returns-clause-bound g c = subst (λ z. z.spent ≤ z.state.limit * length z.state.heaps + 2) c.self.view_is (spent_le _ c.self.invariant.0)
+returns-clause-bound g c =
+    subst (λ z. z.spent ≤ z.state.limit * length z.state.heaps + 2) c.self.view_is
+    (spent_le _ c.self.invariant.0)
 
 pub returns-clause-limit : goal.returns-clause-limit
-returns-clause-limit g c = subst (λ z. IsLimited z.state) c.self.view_is (limited _ c.self.invariant.0)
+returns-clause-limit g c =
+    subst (λ z. IsLimited z.state) c.self.view_is (limited _ c.self.invariant.0)
 
 pub returns-clause-run : goal.returns-clause-run
 returns-clause-run g c = subst (λ z. z ≡ retaken z) c.self.view_is c.self.invariant.0.run

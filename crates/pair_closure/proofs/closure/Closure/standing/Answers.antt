@@ -2,7 +2,11 @@ use Rattle.std.proofs.Common.{rules}
 use Rattle.pair_closure.proofs.closure.Closure.standing.Goals as goal
 
 pub returns-in-Done-clause-closed : goal.returns-in-Done-clause-closed
-returns-in-Done-clause-closed g c = λ _ code claim over. (c.speak.ensures.speaks code claim over).done (c.in-Done.ensures.done (search rules))
+returns-in-Done-clause-closed g c =
+    λ _ code claim over. (c.speak.ensures.speaks code claim over).done
+    (c.in-Done.ensures.done (search rules))
 
 pub returns-in-Over-clause-exceeded : goal.returns-in-Over-clause-exceeded
-returns-in-Over-clause-exceeded g c = λ _ code claim over. (c.speak.ensures.speaks code claim over).over (c.in-Over.ensures.over (search rules))
+returns-in-Over-clause-exceeded g c =
+    λ _ code claim over. (c.speak.ensures.speaks code claim over).over
+    (c.in-Over.ensures.over (search rules))

@@ -25,7 +25,9 @@ invariant_of-self-2 g c =
 
 pub returns-clause-ok : goal.returns-clause-ok
 returns-clause-ok g c =
-    ap (λ (t : State). record { state = t; spent = c.self.inside.spent + 1; failed = c.self.inside.failed }) (heap_turned _ _ _ _ _ c.index-pair.result.now (record {
+    ap (λ (t : State).
+    record { state = t; spent = c.self.inside.spent + 1; failed = c.self.inside.failed })
+    (heap_turned _ _ _ _ _ c.index-pair.result.now (record {
       turns = subst (λ z. TriesHeap z.state) (sym c.self.view_is) c.requires;
       heap = c.index-pair.ensures;
       number = refl;

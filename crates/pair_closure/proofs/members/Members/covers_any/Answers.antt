@@ -8,19 +8,26 @@ use Rattle.pair_closure.proofs.members.Members.covers_any.Goals as goal
 
 pub loop-at-init : goal.loop-at-init
 loop-at-init g c =
-    let e : c.newest_with-at.result ≡ last_with c.self.inside.list.items c.args.x.now.value (length c.self.inside.list.items) = search rules in
+    let e : c.newest_with-at.result ≡ last_with c.self.inside.list.items c.args.x.now.value
+    (length c.self.inside.list.items) = search rules in
     walk_from _ _ _ _ (covered_of _) e
 
 pub loop-at-smaller : goal.loop-at-smaller
-loop-at-smaller g c = walk_falls _ _ _ _ c.loop-at-test.true (read_older _ _ _ _ _ _ _ c.self.invariant c.loop-at.invariant c.loop-at-test.true c.index-at.ensures)
+loop-at-smaller g c =
+    walk_falls _ _ _ _ c.loop-at-test.true
+    (read_older _ _ _ _ _ _ _ c.self.invariant c.loop-at.invariant c.loop-at-test.true
+    c.index-at.ensures)
 
 pub loop-at-preserved : goal.loop-at-preserved
 loop-at-preserved g c =
     let e = read_member _ _ _ _ _ c.loop-at.invariant c.loop-at-test.true c.index.ensures in
     let off = sym c.covers.ensures ∙ c.if-covers.false in
-    walk_on _ _ _ _ _ (covered_of _) c.loop-at.invariant c.loop-at-test.true (subst (λ (m : Member). covers c.args.x.now m.pair ≡ false) e off)
-    (read_older _ _ _ _ _ _ _ c.self.invariant c.loop-at.invariant c.loop-at-test.true c.index-at.ensures)
+    walk_on _ _ _ _ _ (covered_of _) c.loop-at.invariant c.loop-at-test.true
+    (subst (λ (m : Member). covers c.args.x.now m.pair ≡ false) e off)
+    (read_older _ _ _ _ _ _ _ c.self.invariant c.loop-at.invariant c.loop-at-test.true
+    c.index-at.ensures)
 
 pub returns : goal.returns
 returns g c =
-    subst (λ ms. false ≡ list_any (λ m. covers c.args.x.now m.pair) ms) c.self.view_is (walk_ends _ _ _ _ c.loop-at.invariant (omega arith))
+    subst (λ ms. false ≡ list_any (λ m. covers c.args.x.now m.pair) ms) c.self.view_is
+    (walk_ends _ _ _ _ c.loop-at.invariant (omega arith))

@@ -8,7 +8,15 @@ use Rattle.positions.proofs.position.Position.add.Goals as goal
 pub invariant_of-result : goal.invariant_of-result
 invariant_of-result g c =
     let whole : c.extend_from_slice.new.self.items ≡ c.args.self.now ++ c.args.other.now =
-    c.in_ok-extend_from_slice.ensures.ok ∙ ap₂ (λ xs ys. xs ++ ys) (c.in_ok-heaps.ensures.ok ∙ c.heaps.ensures.value) c.heaps-2.ensures.value in
-    let same : IsPermutation (c.args.self.now ++ c.args.other.now) c.sort.new.heaps.items = subst (λ xs. IsPermutation xs c.sort.new.heaps.items) whole c.sort.ensures.same in
-    let sizes : All IsSize (c.args.self.now ++ c.args.other.now) = All-append IsSize c.args.self.now c.args.other.now c.heaps.ensures.sizes c.heaps-2.ensures.sizes in
-    (c.sort.ensures.rising, All-permutation IsSize (c.args.self.now ++ c.args.other.now) c.sort.new.heaps.items same sizes)
+    c.in_ok-extend_from_slice.ensures.ok
+    ∙ ap₂ (λ xs ys. xs ++ ys) (c.in_ok-heaps.ensures.ok ∙ c.heaps.ensures.value)
+    c.heaps-2.ensures.value in
+    let same : IsPermutation (c.args.self.now ++ c.args.other.now) c.sort.new.heaps.items =
+    subst (λ xs. IsPermutation xs c.sort.new.heaps.items) whole c.sort.ensures.same in
+    let sizes : All IsSize (c.args.self.now ++ c.args.other.now) =
+    All-append IsSize c.args.self.now c.args.other.now c.heaps.ensures.sizes
+    c.heaps-2.ensures.sizes in (
+      c.sort.ensures.rising,
+      All-permutation IsSize (c.args.self.now ++ c.args.other.now)
+          c.sort.new.heaps.items same sizes,
+    )

@@ -6,5 +6,10 @@ use Rattle.positions.proofs.position.Position.of.Goals as goal
 
 pub invariant_of-result : goal.invariant_of-result
 invariant_of-result g c =
-    let same : IsPermutation c.args.sizes.now c.sort.new.heaps.items = subst (λ xs. IsPermutation xs c.sort.new.heaps.items) c.in_ok-heaps.ensures.ok c.sort.ensures.same in
-    (c.sort.ensures.rising, All-permutation IsSize c.args.sizes.now c.sort.new.heaps.items same c.requires)
+    let same : IsPermutation c.args.sizes.now c.sort.new.heaps.items =
+    subst (λ xs. IsPermutation xs c.sort.new.heaps.items) c.in_ok-heaps.ensures.ok
+    c.sort.ensures.same in (
+      c.sort.ensures.rising,
+      All-permutation IsSize c.args.sizes.now c.sort.new.heaps.items same
+          c.requires,
+    )

@@ -11,4 +11,5 @@ invariant_of-self-2 g c = rw c.in_ok-insert.ensures.ok (
     )
 
 pub returns-clause-ok : goal.returns-clause-ok
-returns-clause-ok g c = rw (c.in_ok-insert.ensures.ok, ← c.self.view_is) (IsPermutation-insert _ _ _)
+returns-clause-ok g c =
+    rw (c.in_ok-insert.ensures.ok, ← c.self.view_is) (IsPermutation-insert _ _ _)

@@ -8,10 +8,15 @@ use Rattle.presentations.proofs.merging.Merging.places.Goals as goal
 
 pub returns-clause-related : goal.returns-clause-related
 returns-clause-related g c =
-    let same : length c.self.inside.relations.now ≡ length c.args.self.now.relations = ap (λ s. length s.relations) c.self.view_is in
+    let same : length c.self.inside.relations.now ≡ length c.args.self.now.relations =
+    ap (λ s. length s.relations) c.self.view_is in
     let axes = c.self.inside.axes.now in
     let relations = c.self.inside.relations.now in
     subst (λ s. AreRelated s.axes s.relations c.place.result c.place-2.result) c.self.view_is
     (subst (λ u. AreRelated axes relations u c.place-2.result) (sym c.place.ensures.value)
-    (subst (λ v. AreRelated axes relations (place_of axes (vector_on (letters_in axes) (slice_index_or relations c.args.i no_relation).left)) v) (sym c.place-2.ensures.value)
+    (subst
+    (λ v. AreRelated axes relations
+    (place_of axes
+    (vector_on (letters_in axes) (slice_index_or relations c.args.i no_relation).left)) v)
+    (sym c.place-2.ensures.value)
     (relation axes relations c.args.i no_relation c.self.invariant.box (omega (arith, same)))))

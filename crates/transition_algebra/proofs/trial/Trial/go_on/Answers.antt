@@ -8,7 +8,8 @@ loop-left-smaller g c =
     let code = c.args.code.now in
     let r = c.in_ok-left.ensures.ok in
     let two = two_digits code c.last-last.ensures.code in
-    measure_falls (length code) c.loop-left.left c.in_ok-left.field-0 _ (stages_left code c.loop-left.self) (stages_left code c.run.new.self)
+    measure_falls (length code) c.loop-left.left c.in_ok-left.field-0 _
+    (stages_left code c.loop-left.self) (stages_left code c.run.new.self)
     two.1 r.at_most (stages_few code c.loop-left.self) (stages_few code c.run.new.self) r.falls refl
 
 pub loop-left-preserved : goal.loop-left-preserved
@@ -21,5 +22,7 @@ loop-left-preserved g c =
     let smaller = c.if-self.true in
     let bound = r.trial.bound_is in
     let was = i.0.bound_is in
-    let all = room c.args.code.now c.args.table.now c.args.phi.now c.run.new.self c.run.new.pairs.items r.trial (omega arith) in
+    let all =
+    room c.args.code.now c.args.table.now c.args.phi.now c.run.new.self c.run.new.pairs.items
+    r.trial (omega arith) in
     (r.trial, omega arith, omega arith, c.run.ensures.kept, λ _. omega arith)

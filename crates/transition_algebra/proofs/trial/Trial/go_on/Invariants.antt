@@ -5,7 +5,9 @@ use Rattle.transition_algebra.proofs.trial.Trial.go_on.Given as goal
 
 abbrev pub invariant-loop-left : goal.invariant-loop-left
 invariant-loop-left g l =
-    IsTrial l.code l.table l.phi l.self l.pairs.items × (l.self.spent + l.left ≡ l.initial.self.spent + l.initial.left) × (l.left ≤ l.initial.left) × AreWholes l.table l.phi l.wholes.sets.items
+    IsTrial l.code l.table l.phi l.self l.pairs.items
+    × (l.self.spent + l.left ≡ l.initial.self.spent + l.initial.left)
+    × (l.left ≤ l.initial.left) × AreWholes l.table l.phi l.wholes.sets.items
     × (l.initial.self.spent < heap_cost l.code l.phi → l.self.spent < heap_cost l.code l.phi)
 
 abbrev pub decreases-loop-left : goal.decreases-loop-left

@@ -8,72 +8,110 @@ use Rattle.transition_algebra.proofs.trial.Trial.run.Goals as goal
 
 pub close-requires-clause-from_one : goal.close-requires-clause-from_one
 close-requires-clause-from_one g c =
-    (ready c.args.code.now c.args.table.now c.is_monoid.ensures.monoid c.args.phi.now c.is_pretending.ensures c.requires.into c.args.self.now c.args.pairs.now.items c.requires.trial c.last.ensures.code).from_one
+    (ready c.args.code.now c.args.table.now c.is_monoid.ensures.monoid c.args.phi.now
+    c.is_pretending.ensures c.requires.into c.args.self.now c.args.pairs.now.items
+    c.requires.trial c.last.ensures.code).from_one
 
 pub close-requires-clause-small : goal.close-requires-clause-small
 close-requires-clause-small g c =
-    let r = ready c.args.code.now c.args.table.now c.is_monoid.ensures.monoid c.args.phi.now c.is_pretending.ensures c.requires.into c.args.self.now c.args.pairs.now.items c.requires.trial c.last.ensures.code in
+    let r =
+    ready c.args.code.now c.args.table.now c.is_monoid.ensures.monoid c.args.phi.now
+    c.is_pretending.ensures c.requires.into c.args.self.now c.args.pairs.now.items
+    c.requires.trial c.last.ensures.code in
     let s = r.small in
     (omega arith, omega arith)
 
 pub returns-then-self-last-clause-ok : goal.returns-then-self-last-clause-ok
 returns-then-self-last-clause-ok g c =
-    let going : c.args.self.now.heap ≤ bound_of c.args.code.now c.args.phi.now = let a = c.requires.going in let b = c.requires.trial.bound_is in omega arith in
-    let past : length c.args.code.now ≤ c.args.self.now.away = let t = c.if-self-last.true in let v = c.last.ensures.value in omega arith in
-    run_close c.args.code.now c.args.table.now c.args.phi.now c.args.self.now c.close.new.self c.args.pairs.now.items c.close.new.pairs.items c.args.units 1 _
-    c.requires.trial going past c.requires.some refl c.in_ok-close.ensures.trial refl c.in_ok-close.ensures.pair
+    let going : c.args.self.now.heap ≤ bound_of c.args.code.now c.args.phi.now = let a =
+    c.requires.going in let b = c.requires.trial.bound_is in omega arith in
+    let past : length c.args.code.now ≤ c.args.self.now.away = let t = c.if-self-last.true in
+    let v = c.last.ensures.value in omega arith in
+    run_close c.args.code.now c.args.table.now c.args.phi.now c.args.self.now c.close.new.self
+    c.args.pairs.now.items c.close.new.pairs.items c.args.units 1 _
+    c.requires.trial going past c.requires.some refl c.in_ok-close.ensures.trial refl
+    c.in_ok-close.ensures.pair
 
 pub try_single-requires-clause-small : goal.try_single-requires-clause-small
 try_single-requires-clause-small g c =
-    let r = ready c.args.code.now c.args.table.now c.is_monoid.ensures.monoid c.args.phi.now c.is_pretending.ensures c.requires.into c.args.self.now c.args.pairs.now.items c.requires.trial c.last.ensures.code in
+    let r =
+    ready c.args.code.now c.args.table.now c.is_monoid.ensures.monoid c.args.phi.now
+    c.is_pretending.ensures c.requires.into c.args.self.now c.args.pairs.now.items
+    c.requires.trial c.last.ensures.code in
     let s = r.small in
     omega arith
 
 pub returns-in-Single-clause-ok : goal.returns-in-Single-clause-ok
 returns-in-Single-clause-ok g c =
-    let going : c.args.self.now.heap ≤ bound_of c.args.code.now c.args.phi.now = let a = c.requires.going in let b = c.requires.trial.bound_is in omega arith in
-    let inside : c.args.self.now.away < length c.args.code.now = let t = c.if-self-last.false in let v = c.last.ensures.value in let w = c.last.ensures.some in omega arith in
-    run_single c.args.code.now c.args.table.now c.args.phi.now c.args.self.now c.try_single.new.self c.args.pairs.now.items c.args.units c.try_single.result
-    c.requires.trial going inside c.in-Single.is c.requires.some (single_short c.args.code.now c.args.self.now.heap c.args.self.now.away) c.try_single.ensures.count c.try_single.ensures.trial
+    let going : c.args.self.now.heap ≤ bound_of c.args.code.now c.args.phi.now = let a =
+    c.requires.going in let b = c.requires.trial.bound_is in omega arith in
+    let inside : c.args.self.now.away < length c.args.code.now = let t = c.if-self-last.false in
+    let v = c.last.ensures.value in let w = c.last.ensures.some in omega arith in
+    run_single c.args.code.now c.args.table.now c.args.phi.now c.args.self.now c.try_single.new.self
+    c.args.pairs.now.items c.args.units c.try_single.result
+    c.requires.trial going inside c.in-Single.is c.requires.some
+    (single_short c.args.code.now c.args.self.now.heap c.args.self.now.away)
+    c.try_single.ensures.count c.try_single.ensures.trial
 
 pub spend_splits-spent-requires-clause-small : goal.spend_splits-spent-requires-clause-small
 spend_splits-spent-requires-clause-small g c =
-    let r = ready c.args.code.now c.args.table.now c.is_monoid.ensures.monoid c.args.phi.now c.is_pretending.ensures c.requires.into c.args.self.now c.args.pairs.now.items c.requires.trial c.last.ensures.code in
+    let r =
+    ready c.args.code.now c.args.table.now c.is_monoid.ensures.monoid c.args.phi.now
+    c.is_pretending.ensures c.requires.into c.args.self.now c.args.pairs.now.items
+    c.requires.trial c.last.ensures.code in
     r.small
 
 pub take_splits-requires-clause-elements : goal.take_splits-requires-clause-elements
 take_splits-requires-clause-elements g c =
     let phi = c.args.phi.now in
     subst (HaveElements phi) (sym c.deref.ensures.value)
-    (ready c.args.code.now c.args.table.now c.is_monoid.ensures.monoid c.args.phi.now c.is_pretending.ensures c.requires.into c.args.self.now c.args.pairs.now.items c.requires.trial c.last.ensures.code).values
+    (ready c.args.code.now c.args.table.now c.is_monoid.ensures.monoid c.args.phi.now
+    c.is_pretending.ensures c.requires.into c.args.self.now c.args.pairs.now.items
+    c.requires.trial c.last.ensures.code).values
 
 pub take_splits-requires-clause-inside : goal.take_splits-requires-clause-inside
 take_splits-requires-clause-inside g c =
     let order = c.args.table.now.order in
     subst (All (λ p. p.value < order)) (sym c.deref.ensures.value)
-    (ready c.args.code.now c.args.table.now c.is_monoid.ensures.monoid c.args.phi.now c.is_pretending.ensures c.requires.into c.args.self.now c.args.pairs.now.items c.requires.trial c.last.ensures.code).elements
+    (ready c.args.code.now c.args.table.now c.is_monoid.ensures.monoid c.args.phi.now
+    c.is_pretending.ensures c.requires.into c.args.self.now c.args.pairs.now.items
+    c.requires.trial c.last.ensures.code).elements
 
 pub take_splits-requires-clause-within : goal.take_splits-requires-clause-within
 take_splits-requires-clause-within g c =
-    let r = ready c.args.code.now c.args.table.now c.is_monoid.ensures.monoid c.args.phi.now c.is_pretending.ensures c.requires.into c.args.self.now c.args.pairs.now.items c.requires.trial c.last.ensures.code in
+    let r =
+    ready c.args.code.now c.args.table.now c.is_monoid.ensures.monoid c.args.phi.now
+    c.is_pretending.ensures c.requires.into c.args.self.now c.args.pairs.now.items
+    c.requires.trial c.last.ensures.code in
     let s = r.length_is in
     let e = ap length c.deref.ensures.value in
     let h = ap (λ t. t.heap) (c.spend_splits-spent.ensures.none c.if-spent-eq0.true).1 in
     omega arith
 
-pub returns-in_ok-take_splits-in-Splits-clause-ok : goal.returns-in_ok-take_splits-in-Splits-clause-ok
+pub returns-in_ok-take_splits-in-Splits-clause-ok :
+    goal.returns-in_ok-take_splits-in-Splits-clause-ok
 returns-in_ok-take_splits-in-Splits-clause-ok g c =
-    let going : c.args.self.now.heap ≤ bound_of c.args.code.now c.args.phi.now = let a = c.requires.going in let b = c.requires.trial.bound_is in omega arith in
-    let inside : c.args.self.now.away < length c.args.code.now = let t = c.if-self-last.false in let v = c.last.ensures.value in let w = c.last.ensures.some in omega arith in
+    let going : c.args.self.now.heap ≤ bound_of c.args.code.now c.args.phi.now = let a =
+    c.requires.going in let b = c.requires.trial.bound_is in omega arith in
+    let inside : c.args.self.now.away < length c.args.code.now = let t = c.if-self-last.false in
+    let v = c.last.ensures.value in let w = c.last.ensures.some in omega arith in
     let none = c.spend_splits-spent.ensures.none c.if-spent-eq0.true in
-    run_none c.args.code.now c.args.table.now c.args.phi.now c.args.self.now c.take_splits.new.self c.args.pairs.now.items c.args.units c.spend_splits-spent.result c.in-Splits.part
-    c.requires.trial going inside c.in-Splits.is c.if-spent-eq0.true none.0 (c.in_ok-take_splits-in-Splits.ensures.trial ∙ ap (after_all c.args.code.now c.args.table.now c.args.phi.now) none.1)
+    run_none c.args.code.now c.args.table.now c.args.phi.now c.args.self.now c.take_splits.new.self
+    c.args.pairs.now.items c.args.units c.spend_splits-spent.result c.in-Splits.part
+    c.requires.trial going inside c.in-Splits.is c.if-spent-eq0.true none.0
+    (c.in_ok-take_splits-in-Splits.ensures.trial
+    ∙ ap (after_all c.args.code.now c.args.table.now c.args.phi.now) none.1)
 
 pub returns-else-spent-eq0-clause-ok : goal.returns-else-spent-eq0-clause-ok
 returns-else-spent-eq0-clause-ok g c =
-    let going : c.args.self.now.heap ≤ bound_of c.args.code.now c.args.phi.now = let a = c.requires.going in let b = c.requires.trial.bound_is in omega arith in
-    let inside : c.args.self.now.away < length c.args.code.now = let t = c.if-self-last.false in let v = c.last.ensures.value in let w = c.last.ensures.some in omega arith in
+    let going : c.args.self.now.heap ≤ bound_of c.args.code.now c.args.phi.now = let a =
+    c.requires.going in let b = c.requires.trial.bound_is in omega arith in
+    let inside : c.args.self.now.away < length c.args.code.now = let t = c.if-self-last.false in
+    let v = c.last.ensures.value in let w = c.last.ensures.some in omega arith in
     let some : 1 ≤ c.spend_splits-spent.result = let f = c.if-spent-eq0.false in omega arith in
     let made = c.spend_splits-spent.ensures.some some in
-    run_splits c.args.code.now c.args.table.now c.args.phi.now c.args.self.now c.spend_splits-spent.new.self c.args.pairs.now.items c.args.units c.spend_splits-spent.result c.in-Splits.part
-    c.requires.trial going inside c.in-Splits.is some c.spend_splits-spent.ensures.within made.0 made.1 made.2
+    run_splits c.args.code.now c.args.table.now c.args.phi.now c.args.self.now
+    c.spend_splits-spent.new.self c.args.pairs.now.items c.args.units
+    c.spend_splits-spent.result c.in-Splits.part
+    c.requires.trial going inside c.in-Splits.is some c.spend_splits-spent.ensures.within made.0
+    made.1 made.2

@@ -9,7 +9,8 @@ loop-left-smaller g c =
     let code = c.args.code.now in
     let r = c.in_ok-left.ensures.ok in
     let two = two_digits code c.last-last.ensures.code in
-    measure_falls (length code) c.loop-left.left c.in_ok-left.field-0 _ (stages_left code c.loop-left.self) (stages_left code c.run.new.self)
+    measure_falls (length code) c.loop-left.left c.in_ok-left.field-0 _
+    (stages_left code c.loop-left.self) (stages_left code c.run.new.self)
     two.1 r.at_most (stages_few code c.loop-left.self) (stages_few code c.run.new.self) r.falls refl
 
 pub returns-in_err-left-clause-err : goal.returns-in_err-left-clause-err
@@ -18,13 +19,19 @@ returns-in_err-left-clause-err g c =
     let sum = c.loop-left.invariant.1 in
     let few = c.loop-left.invariant.2 in
     let some = c.loop-left-test.true in
-    let going : c.loop-left.self.heap ≤ bound_of c.args.code.now c.args.phi.now = let a = c.if-self.true in let b = c.loop-left.invariant.0.bound_is in omega arith in
-    let behind = room c.args.code.now c.args.table.now c.args.phi.now c.loop-left.self c.loop-left.pairs.items c.loop-left.invariant.0 going in
+    let going : c.loop-left.self.heap ≤ bound_of c.args.code.now c.args.phi.now = let a =
+    c.if-self.true in let b = c.loop-left.invariant.0.bound_is in omega arith in
+    let behind =
+    room c.args.code.now c.args.table.now c.args.phi.now c.loop-left.self
+    c.loop-left.pairs.items c.loop-left.invariant.0 going in
     on_err c.from_residual.result (omega arith, omega arith, omega arith)
 
 pub returns-else-self-clause-ok : goal.returns-else-self-clause-ok
 returns-else-self-clause-ok g c =
-    let over : bound_of c.args.code.now c.args.phi.now < c.loop-left.self.heap = let a = c.if-self.false in let b = c.loop-left.invariant.0.bound_is in omega arith in
-    let all = all_spent c.args.code.now c.args.table.now c.args.phi.now c.loop-left.self c.loop-left.pairs.items c.loop-left.invariant.0 over in
+    let over : bound_of c.args.code.now c.args.phi.now < c.loop-left.self.heap = let a =
+    c.if-self.false in let b = c.loop-left.invariant.0.bound_is in omega arith in
+    let all =
+    all_spent c.args.code.now c.args.table.now c.args.phi.now c.loop-left.self
+    c.loop-left.pairs.items c.loop-left.invariant.0 over in
     let sum = c.loop-left.invariant.1 in
     omega arith

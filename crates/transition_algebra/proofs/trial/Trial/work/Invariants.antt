@@ -3,7 +3,9 @@ use Rattle.transition_algebra.specs.Trials.{IsTrial, AreWholes, stages_left}
 use Rattle.transition_algebra.proofs.trial.Trial.work.Given as goal
 
 abbrev pub invariant-loop-left : goal.invariant-loop-left
-invariant-loop-left g l = IsTrial l.code l.table l.phi l.self l.pairs.items × (l.self.spent + l.left ≡ l.initial.self.spent + l.initial.left) × (l.left ≤ l.initial.left) × AreWholes l.table l.phi l.wholes.sets.items
+invariant-loop-left g l = IsTrial l.code l.table l.phi l.self l.pairs.items
+    × (l.self.spent + l.left ≡ l.initial.self.spent + l.initial.left) × (l.left ≤ l.initial.left)
+    × AreWholes l.table l.phi l.wholes.sets.items
 
 abbrev pub decreases-loop-left : goal.decreases-loop-left
 decreases-loop-left g l = 40 * l.left + stages_left l.code l.self
