@@ -4,6 +4,7 @@ ghost use Rattle.std.specs.Prelude.{option_map};
 ghost use Rattle.command_line.specs.Numbers.{IsWithin, bounds_of, name_of, number_in};
 ghost use Rattle.command_line.specs.Numbers.{number_within};
 
+use decimals::number_between;
 use requests::DEFAULT_LIMIT;
 
 /// A number that an option takes.
@@ -58,31 +59,13 @@ impl Quantity {
     }
 }
 
-/// The number that the text spells in decimal without leading zeros.
-fn spelled_number(text: &str) -> Option<u32>
-    ensures some { IfSome result (λ n. text.now ≡ decimal n) }
-    ensures none { IfNone result ((n : ℕ) → n < 2 ^ 32 → text.now ≢ decimal n) }
-{
-    if text.starts_with('+') {
-        return None;
-    }
-    if text.starts_with('0') && text.len() > 1 {
-        return None;
-    }
-    text.parse::<u32>().ok()
-}
-
 /// The number that the text spells, where it lies between the bounds.
-fn number_between(bounds: Bounds, text: &str) -> Option<u32>
+fn number_of(bounds: Bounds, text: &str) -> Option<u32>
     ensures number { result ≡ number_within bounds text.now }
     ensures between { IfSome result (λ n. (bounds.least ≤ n) × (n ≤ bounds.most)) }
 {
-    let number = spelled_number(text)?;
-    if bounds.least <= number && number <= bounds.most {
-        Some(number)
-    } else {
-        None
-    }
+    let number = number_between(bounds.least as u64, bounds.most as u64, text)?;
+    Some(number as u32)
 }
 
 /// The number that was given, or the default.
@@ -91,7 +74,7 @@ pub(crate) fn number_given(quantity: Quantity, text: Option<&str>) -> Option<u32
     ensures within { IfSome result (IsWithin quantity) }
 {
     match text {
-        Some(text) => number_between(quantity.bounds(), text),
+        Some(text) => number_of(quantity.bounds(), text),
         None => Some(quantity.bounds().default),
     }
 }

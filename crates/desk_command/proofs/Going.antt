@@ -8,7 +8,7 @@ use Rattle.desk_command.specs.Scripts.{HaveClients, Takes}
 use Rattle.desk_command.specs.Stops.{Breaks}
 use Rattle.command_results.specs.Printers.{Printer}
 use Rattle.desk_command.specs.declared.stop.DeskStop.TheVariants.{Write}
-use Rattle.desk_command.proofs.Prints.{appends_nothing, appends_then, some_then}
+use Rattle.streams.specs.StreamLaws.{appends_nothing, appends_then, some_then}
 use Rattle.desk_command.proofs.Runs.{Stands, has_run, stands_anew, stands_on}
 
 abbrev pub Files : Type 0

@@ -1,4 +1,3 @@
 pub mod Ended
 pub mod Going
-pub mod Prints
 pub mod Runs

@@ -3,7 +3,6 @@
 
 mod fault;
 mod line;
-mod number;
 mod script;
 mod step;
 mod tail;

@@ -4,10 +4,10 @@ ghost use Rattle.desk_script.specs.Steps.{«Step» as StepSpelled, IsClient, Lac
 ghost use Rattle.desk_script.specs.Views.{step_of};
 
 use crate::fault::LineFault;
-use crate::number::number_between;
 use crate::step::Step;
 use crate::tail::step_behind;
 use allocation::Room;
+use decimals::number_between;
 
 /// What stands in front of the first space, and behind it.
 pub fn cut(text: &str) -> Option<(&str, &str)>

@@ -5,9 +5,9 @@ ghost use Rattle.desk_script.specs.Views.{step_of};
 
 use crate::fault::LineFault;
 use crate::line::cut;
-use crate::number::number_between;
 use crate::step::Step;
 use allocation::Room;
+use decimals::number_between;
 use positions::{Position, PositionFault};
 
 /// The job of this number.

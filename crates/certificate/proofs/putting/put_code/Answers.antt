@@ -2,7 +2,8 @@ use Rattle.std.proofs.Common.{◌≡◌, ◌<◌, ◌+◌, ◌∷◌, [], ℕ, m
 use Rattle.std.proofs.lemmas.Result.{err_from_is_err_and}
 use Rattle.streams.specs.Stream.{AppendsSome, Puts}
 use Rattle.octal_code.specs.Text.{code_text, digit_byte}
-use Rattle.certificate.proofs.Out.{puts_then, some_more, code_is}
+use Rattle.streams.specs.StreamLaws.{puts_then, some_more}
+use Rattle.certificate.proofs.Out.{code_is}
 use Rattle.certificate.proofs.putting.put_code.Goals as goal
 
 pub returns-in_err-write_whole-clause-puts : goal.returns-in_err-write_whole-clause-puts

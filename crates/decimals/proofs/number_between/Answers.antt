@@ -1,6 +1,6 @@
 use Rattle.std.proofs.Common.{arith, ◌≡◌, ◌∙◌, sym}
 use Rattle.std.proofs.lemmas.Fmt.{decimal_injective}
-use Rattle.desk_script.proofs.number.number_between.Goals as goal
+use Rattle.decimals.proofs.number_between.Goals as goal
 
 pub returns-else-least-number-clause-none : goal.returns-else-least-number-clause-none
 returns-else-least-number-clause-none c = λ n low high is.

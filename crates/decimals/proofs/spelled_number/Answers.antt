@@ -6,12 +6,12 @@ use Rattle.std.specs.Result.{result_ok}
 use Rattle.std.proofs.lemmas.Bool.{ne_eqb}
 use Rattle.std.proofs.lemmas.Fmt.{first_decimal, decimal-digits_value, decimal_digit, parse-decimal}
 use Rattle.std.proofs.lemmas.Str.Parse.{numerals_by_value, tells_digits}
-use Rattle.command_line.proofs.numbers.spelled_number.Goals as goal
+use Rattle.decimals.proofs.spelled_number.Goals as goal
 
 -- a text with a leading plus, or a leading zero and more, is no decimal
 not_decimal : (text : List ℕ)
     → (slice_index text 0 ≡ 43) ⊎ ((slice_index text 0 ≡ 48) × (1 < length text))
-    → (n : ℕ) → n < 4294967296 → text ≡ decimal n → ⊥
+    → (n : ℕ) → n < 18446744073709551616 → text ≡ decimal n → ⊥
 not_decimal text bad zero small is =
     let first : slice_index text 0 ≡ 48 = rw (is, decimal_digit 0 (omega arith)) refl in
     let one : length text ≡ 1 =
@@ -31,7 +31,7 @@ without_plus text h = rw (ne_eqb _ _ h) refl
 
 read_decimal : (E : Type 0) (text : List ℕ) (r : Result ℕ E) → slice_index text 0 ≢ 43
     → (slice_index text 0 ≡ 48 → length text ≤ 1)
-    → ParsesUnsigned 32 10 text r → IfSome (result_ok r) (λ n. text ≡ decimal n)
+    → ParsesUnsigned 64 10 text r → IfSome (result_ok r) (λ n. text ≡ decimal n)
 read_decimal E text (Ok n) sign lead read =
     let bare = without_plus text sign in
     let numeral = read.0.0 in
@@ -43,11 +43,11 @@ read_decimal E text (Ok n) sign lead read =
     sym bare ∙ sym spelled ∙ ap decimal (sym read.1)
 read_decimal E text (Err e) sign lead read = tt
 
-no_decimal : (E : Type 0) (text : List ℕ) (r : Result ℕ E) → ParsesUnsigned 32 10 text r
-    → IfNone (result_ok r) ((n : ℕ) → n < 4294967296 → text ≢ decimal n)
+no_decimal : (E : Type 0) (text : List ℕ) (r : Result ℕ E) → ParsesUnsigned 64 10 text r
+    → IfNone (result_ok r) ((n : ℕ) → n < 18446744073709551616 → text ≢ decimal n)
 no_decimal E text (Ok n) read = tt
 no_decimal E text (Err e) read = λ n small is. let bad =
-    parse-decimal 32 n text (Err e) small (omega arith) is read in cc
+    parse-decimal 64 n text (Err e) small (omega arith) is read in cc
 
 pub returns-then-starts_with-clause-none : goal.returns-then-starts_with-clause-none
 returns-then-starts_with-clause-none c =

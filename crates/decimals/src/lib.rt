@@ -1,4 +1,6 @@
 //! Numbers in decimal.
+#![tactic(auto)]
+
 ghost use Rattle.std.specs.Prelude.{◌≡◌, ◌≢◌, ◌≤◌, ◌<◌, ◌^◌, ℕ, IfNone, IfSome, decimal};
 
 /// The number that the text spells in decimal without leading zeros.
@@ -15,7 +17,8 @@ fn spelled_number(text: &str) -> Option<u64>
     text.parse::<u64>().ok()
 }
 
-/// The number from `least` to `most` that the text spells in decimal without leading zeros.
+/// The number from `least` to `most`, the ends included, that the text spells in decimal without
+/// leading zeros, or `None` where it spells none of these. It takes no memory.
 pub fn number_between(least: u64, most: u64, text: &str) -> Option<u64>
     ensures some { IfSome result (λ n. (text.now ≡ decimal n) × (least ≤ n) × (n ≤ most)) }
     ensures none { IfNone result ((n : ℕ) → least ≤ n → n ≤ most → text.now ≢ decimal n) }
