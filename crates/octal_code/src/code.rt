@@ -103,7 +103,7 @@ impl Code {
     }
 
     /// Whether the digit dj has this bit, which is 1, 2 or 4.
-    #[tactic(auto, using(crate::proofs::Bits::set))]
+    #[tactic(auto, using(crate::specs::BitLaws::set))]
     pub fn has_bit(&self, j: u64, bit: u8) -> bool
         ensures value { result ≡ has_bit self.now j bit }
         ensures set { (k : ℕ) → bit ≡ 2 ^ k → (IsTrue result ↔ IsBitSet (digit self.now j) k) }
@@ -112,7 +112,7 @@ impl Code {
     }
 
     /// Whether the whole heap n may be taken as j.
-    #[tactic(auto, using(crate::proofs::Bits::takes))]
+    #[tactic(auto, using(crate::specs::BitLaws::takes))]
     pub fn takes_all(&self, n: u64, j: u64) -> bool
         ensures value { result ≡ takes_all self.now n j }
         ensures allowed { IsTrue result ↔ ((1 ≤ j) × (n ≡ j) × IsBitSet (digit self.now j) 0) }
@@ -121,7 +121,7 @@ impl Code {
     }
 
     /// Whether one heap may stay of the heap n where j is taken away.
-    #[tactic(auto, using(crate::proofs::Bits::leaves))]
+    #[tactic(auto, using(crate::specs::BitLaws::leaves))]
     pub fn leaves_one(&self, n: u64, j: u64) -> bool
         ensures value { result ≡ leaves_one self.now n j }
         ensures allowed { IsTrue result ↔ ((1 ≤ j) × (j < n) × IsBitSet (digit self.now j) 1) }

@@ -4,6 +4,8 @@
 
 mod code;
 mod fault;
+mod laws;
 
 pub use code::Code;
 pub use fault::CodeFault;
+pub use laws::digits_say_what_stays;

@@ -3,11 +3,11 @@ use Rattle.std.proofs.Common.{◌≡◌, ℕ, ◌+◌, ◌-◌, ◌≤◌, ◌�
 use Rattle.std.specs.List.{Contains}
 use Rattle.misere_theory.specs.Games.{digit}
 use Rattle.octal_code.specs.Bits.{has_bit, leaves_one, takes_all}
-use Rattle.octal_code.proofs.Bits.{bit_says, bit_is, all_says, all_is, one_says, one_is}
+use Rattle.octal_code.specs.BitLaws.{bit_says, bit_is, all_says, all_is, one_says, one_is}
 use Rattle.positions.specs.Options.{options_of}
 use Rattle.positions.specs.Exact.{IsLeftAt}
 use Rattle.positions.specs.declared.left.Left.TheVariants.{Nothing, One, Two}
-use Rattle.positions.proofs.Exact.{in_all, of_options}
+use Rattle.positions.specs.OptionLaws.{in_all, of_options}
 
 pub nothing_allowed : (code : List ℕ) (n : ℕ) → (takes_all code n n ≡ true)
     ↔ Contains (options_of code n) Nothing

@@ -8,8 +8,8 @@ use Rattle.positions.specs.Options.{options_up_to, options_at, nothing_left, one
 use Rattle.positions.specs.Exact.{heaps_of, IsLeftAt}
 use Rattle.positions.specs.declared.left.Left.{Left}
 use Rattle.positions.specs.declared.left.Left.TheVariants.{Nothing, One, Two}
-use Rattle.positions.proofs.Listed.{nothing_in, only_in, of_map, AllPairs-append, AllPairs-one, AllPairs-none, AllPairs-flat, AllPairs-range}
-use Rattle.positions.proofs.Exact.{of_at}
+use Rattle.positions.specs.ListLaws.{nothing_in, only_in, of_map, AllPairs-append, AllPairs-one, AllPairs-none, AllPairs-flat, AllPairs-range}
+use Rattle.positions.specs.OptionLaws.{of_at}
 
 -- what the one leaves comes before what the other leaves
 abbrev pub Before : Left → Left → Type 0

@@ -1,6 +1,8 @@
 pub mod Options
 pub mod Walks
 pub mod Exact
+pub mod ListLaws
+pub mod OptionLaws
 pub mod Positions
 pub mod Moves
 pub mod Hashes
