@@ -1,7 +1,8 @@
 //! What the tests of a digit's bits say.
 ghost use Rattle.std.specs.Prelude.{◌≡◌, ◌<◌, ◌≤◌, ◌↔◌, ℕ, List, IsBitSet, true};
 ghost use Rattle.misere_theory.specs.Games.{digit};
-ghost use Rattle.octal_code.specs.Bits.{has_bit, takes_all, leaves_one};
+ghost use Rattle.octal_code.specs.Bits.{allows, takes_all, leaves_one};
+ghost use Rattle.octal_code.specs.declared.leaving.Leaving.TheVariants.{TwoHeaps};
 
 /// The tests, of which the lists of options are made, say what the theory says of a digit's bits.
 pub fn digits_say_what_stays()
@@ -9,6 +10,6 @@ pub fn digits_say_what_stays()
         ↔ ((1 ≤ j) × (n ≡ j) × IsBitSet (digit code j) 0) }
     ensures one { (code : List ℕ) (n j : ℕ) → (leaves_one code n j ≡ true)
         ↔ ((1 ≤ j) × (j < n) × IsBitSet (digit code j) 1) }
-    ensures two { (code : List ℕ) (j : ℕ) → (has_bit code j 4 ≡ true)
+    ensures two { (code : List ℕ) (j : ℕ) → (allows code j TwoHeaps ≡ true)
         ↔ IsBitSet (digit code j) 2 }
 {}

@@ -5,7 +5,9 @@
 mod code;
 mod fault;
 mod laws;
+mod leaving;
 
 pub use code::Code;
 pub use fault::CodeFault;
 pub use laws::digits_say_what_stays;
+pub use leaving::Leaving;

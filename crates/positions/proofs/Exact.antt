@@ -9,7 +9,8 @@ use Rattle.std.specs.List.{Contains}
 use native.Mathlib.Decide.{dec_le}
 use Rattle.misere_theory.specs.Games.{HeapOption}
 use Rattle.misere_theory.specs.Games.HeapOption.{Nothing as TakesAll, One as LeavesOne, Two as LeavesTwo}
-use Rattle.octal_code.specs.Bits.{has_bit, takes_all, leaves_one}
+use Rattle.octal_code.specs.Bits.{allows, takes_all, leaves_one}
+use Rattle.octal_code.specs.declared.leaving.Leaving.TheVariants.{TwoHeaps}
 use Rattle.positions.specs.Options.{options_of, options_up_to, options_at, nothing_left, one_left, two_left, where_holds, splits}
 use Rattle.positions.specs.OptionLaws.{in_all, of_at, of_nothing, of_one, of_two}
 use Rattle.positions.specs.ListLaws.{only_in, itself_in, AllPairs-append, AllPairs-one, AllPairs-none, AllPairs-flat, AllPairs-range}
@@ -76,7 +77,7 @@ once_at code n most j =
     (AllPairs-where (takes_all code n j) (Nothing ∷ []) (AllPairs-one Apart Nothing))
     (AllPairs-append Apart (one_left code n j) (two_left code n most j)
     (AllPairs-where (leaves_one code n j) (One (n - j) ∷ []) (AllPairs-one Apart (One (n - j))))
-    (AllPairs-where (has_bit code j 4) (splits (n - j) 1 (min ((n - j) / 2) most))
+    (AllPairs-where (allows code j TwoHeaps) (splits (n - j) 1 (min ((n - j) / 2) most))
     (AllPairs-range Apart (λ b. Two b (n - j - b)) 1 (min ((n - j) / 2) most)
     (λ a b l m h. splits_apart (n - j) a b m (omega arith))))
     (λ L M c d.

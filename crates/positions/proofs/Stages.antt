@@ -1,7 +1,8 @@
 -- The stages of an iterator over a heap's options.
 use Rattle.std.proofs.Common.{◌≡◌, ℕ, suc, ◌+◌, ◌-◌, ◌/◌, ◌<◌, ◌≤◌, Bool, true, false, List, [], ◌∷◌, ◌++◌, length, min, map, refl, sym, ◌∙◌, ap, arith}
 use Rattle.std.specs.List.{flat_map, range_with_len}
-use Rattle.octal_code.specs.Bits.{has_bit, takes_all, leaves_one}
+use Rattle.octal_code.specs.Bits.{allows, takes_all, leaves_one}
+use Rattle.octal_code.specs.declared.leaving.Leaving.TheVariants.{TwoHeaps}
 use Rattle.positions.specs.Options.{options_at, one_left, two_left, where_holds, splits}
 use Rattle.positions.specs.Walks.{options_from}
 use Rattle.positions.specs.declared.left.Left.{Left}
@@ -57,11 +58,11 @@ split_more : (m h a : ℕ) → a ≤ h
 split_more m h a l =
     ap (map (λ b. Two b (m - b))) (range_more a (h + 1 - a) (h + 1 - (a + 1)) (omega arith))
 
-pub parts_there : (code : List ℕ) (n most j a : ℕ) (rest : List Left) → has_bit code j 4 ≡ true
+pub parts_there : (code : List ℕ) (n most j a : ℕ) (rest : List Left) → allows code j TwoHeaps ≡ true
     → a ≤ min ((n - j) / 2) most
-    → where_holds (has_bit code j 4) (splits (n - j) a (min ((n - j) / 2) most + 1 - a)) ++ rest
+    → where_holds (allows code j TwoHeaps) (splits (n - j) a (min ((n - j) / 2) most + 1 - a)) ++ rest
     ≡ Two a (n - j - a)
-    ∷ (where_holds (has_bit code j 4)
+    ∷ (where_holds (allows code j TwoHeaps)
     (splits (n - j) (a + 1) (min ((n - j) / 2) most + 1 - (a + 1))) ++ rest)
 parts_there code n most j a rest e l =
     ap (λ b. where_holds b (splits (n - j) a (min ((n - j) / 2) most + 1 - a)) ++ rest) e
@@ -71,8 +72,8 @@ parts_there code n most j a rest e l =
     ∷ (where_holds b (splits (n - j) (a + 1) (min ((n - j) / 2) most + 1 - (a + 1))) ++ rest))
     (sym e)
 
-pub parts_off : (code : List ℕ) (n most j a : ℕ) (rest : List Left) → has_bit code j 4 ≡ false
-    → where_holds (has_bit code j 4) (splits (n - j) a (min ((n - j) / 2) most + 1 - a)) ++ rest
+pub parts_off : (code : List ℕ) (n most j a : ℕ) (rest : List Left) → allows code j TwoHeaps ≡ false
+    → where_holds (allows code j TwoHeaps) (splits (n - j) a (min ((n - j) / 2) most + 1 - a)) ++ rest
     ≡ rest
 parts_off code n most j a rest e =
     ap (λ b. where_holds b (splits (n - j) a (min ((n - j) / 2) most + 1 - a)) ++ rest) e
@@ -85,9 +86,9 @@ none_at : (m a k : ℕ) → k ≡ 0 → splits m a k ≡ []
 none_at m a k e = rw e
 
 pub parts_over : (code : List ℕ) (n most j a : ℕ) (rest : List Left) → min ((n - j) / 2) most < a
-    → where_holds (has_bit code j 4) (splits (n - j) a (min ((n - j) / 2) most + 1 - a)) ++ rest
+    → where_holds (allows code j TwoHeaps) (splits (n - j) a (min ((n - j) / 2) most + 1 - a)) ++ rest
     ≡ rest
 parts_over code n most j a rest l =
-    ap (λ xs. where_holds (has_bit code j 4) xs ++ rest)
+    ap (λ xs. where_holds (allows code j TwoHeaps) xs ++ rest)
     (none_at (n - j) a (min ((n - j) / 2) most + 1 - a) (omega arith))
-    ∙ ap (λ xs. xs ++ rest) (none_where (has_bit code j 4))
+    ∙ ap (λ xs. xs ++ rest) (none_where (allows code j TwoHeaps))

@@ -6,7 +6,8 @@ use Rattle.std.proofs.lemmas.List.Elements.{Contains-append_left, Contains-appen
 use native.Mathlib.Decide.{dec_le}
 use Rattle.misere_theory.specs.Games.{digit, HeapOption}
 use Rattle.misere_theory.specs.Games.HeapOption.{Nothing as TakesAll, One as LeavesOne, Two as LeavesTwo}
-use Rattle.octal_code.specs.Bits.{has_bit, takes_all, leaves_one}
+use Rattle.octal_code.specs.Bits.{allows, takes_all, leaves_one}
+use Rattle.octal_code.specs.declared.leaving.Leaving.TheVariants.{NoHeap, OneHeap, TwoHeaps}
 use Rattle.octal_code.specs.BitLaws.{bit_says, bit_is, all_says, one_says, all_is, one_is}
 use Rattle.positions.specs.Options.{options_of, options_up_to, options_at, nothing_left, one_left, two_left, where_holds, splits}
 use Rattle.positions.specs.Exact.{heaps_of, IsInOrder, IsLeftAt, IsPartUpTo}
@@ -29,20 +30,20 @@ module _ (code : List ℕ) (n most j : ℕ) where
       → (L ≡ Nothing) × IsLeftAt code n j Nothing
   of_nothing L c =
       let (e, i) = of_where (takes_all code n j) (Nothing ∷ []) L c in
-      let (b, l, h) = all_says (has_bit code j 1) n j e in
+      let (b, l, h) = all_says (allows code j NoHeap) n j e in
       (sym (only_in Nothing L i), (l, h, bit_says (digit code j) 1 b))
 
   pub of_one : (L : Left) → Contains (one_left code n j) L
       → (L ≡ One (n - j)) × IsLeftAt code n j (One (n - j))
   of_one L c =
       let (e, i) = of_where (leaves_one code n j) (One (n - j) ∷ []) L c in
-      let (b, l, h) = one_says (has_bit code j 2) n j e in
+      let (b, l, h) = one_says (allows code j OneHeap) n j e in
       (sym (only_in (One (n - j)) L i), (l, omega arith, omega arith, bit_says (digit code j) 2 b))
 
   pub of_two : (L : Left) → Contains (two_left code n most j) L → (a : ℕ) × (L ≡ Two a (n - j - a))
       × (IsLeftAt code n j (Two a (n - j - a)) × (a ≤ most))
   of_two L c =
-      let (e, i) = of_where (has_bit code j 4) (splits (n - j) 1 (min ((n - j) / 2) most)) L c in
+      let (e, i) = of_where (allows code j TwoHeaps) (splits (n - j) 1 (min ((n - j) / 2) most)) L c in
       let (a, l, h, s) = of_map (λ b. Two b (n - j - b)) 1 (min ((n - j) / 2) most) L i in
       (a, sym s, ((l, omega arith, omega arith, bit_says (digit code j) 4 e), omega arith))
 
@@ -67,21 +68,21 @@ module _ (code : List ℕ) (n most j : ℕ) where
       Contains-append_left (nothing_left code n j) (one_left code n j ++ two_left code n most j)
       Nothing
       (in_where (takes_all code n j) (Nothing ∷ []) Nothing
-      (all_is (has_bit code j 1) n j (bit_is (digit code j) 1 b) l h) (itself_in Nothing))
+      (all_is (allows code j NoHeap) n j (bit_is (digit code j) 1 b) l h) (itself_in Nothing))
   in_at (One a) (l, p, h, b) u =
       let e : n - j ≡ a = omega arith in
       Contains-append_right (nothing_left code n j) (one_left code n j ++ two_left code n most j)
       (One a)
       (Contains-append_left (one_left code n j) (two_left code n most j) (One a)
       (in_where (leaves_one code n j) (One (n - j) ∷ []) (One a)
-      (one_is (has_bit code j 2) n j (bit_is (digit code j) 2 b) l (omega arith))
+      (one_is (allows code j OneHeap) n j (bit_is (digit code j) 2 b) l (omega arith))
       (subst (λ v. Contains (One v ∷ []) (One a)) (sym e) (itself_in (One a)))))
   in_at (Two a b) (p, o, h, s) u =
       let e : n - j - a ≡ b = omega arith in
       Contains-append_right (nothing_left code n j) (one_left code n j ++ two_left code n most j)
       (Two a b)
       (Contains-append_right (one_left code n j) (two_left code n most j) (Two a b)
-      (in_where (has_bit code j 4) (splits (n - j) 1 (min ((n - j) / 2) most)) (Two a b)
+      (in_where (allows code j TwoHeaps) (splits (n - j) 1 (min ((n - j) / 2) most)) (Two a b)
       (bit_is (digit code j) 4 s)
       (subst (λ v. Contains (splits (n - j) 1 (min ((n - j) / 2) most)) (Two a v)) e
       (in_map (λ v. Two v (n - j - v)) 1 (min ((n - j) / 2) most) a p (omega arith)))))

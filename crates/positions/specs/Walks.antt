@@ -2,7 +2,8 @@
 use Rattle.std.specs.Prelude.{◌≡◌, ℕ, ◌+◌, ◌-◌, ◌*◌, ◌/◌, ◌<◌, List, ◌∷◌, ◌++◌, length, min, Option}
 use Rattle.std.specs.Option.{MatchOption}
 use Rattle.std.specs.List.{flat_map, range_with_len}
-use Rattle.octal_code.specs.Bits.{has_bit}
+use Rattle.octal_code.specs.Bits.{allows}
+use Rattle.octal_code.specs.declared.leaving.Leaving.TheVariants.{TwoHeaps}
 use Rattle.positions.specs.Options.{options_at, one_left, two_left, where_holds, splits}
 use Rattle.positions.specs.declared.left.Left.{Left}
 use Rattle.positions.specs.declared.walk.Stage.{Stage}
@@ -19,7 +20,7 @@ left_at code n most j Whole = options_from code n most j
 left_at code n most j Part = (one_left code n j ++ two_left code n most j)
     ++ options_from code n most (j + 1)
 left_at code n most j (Parts a) =
-    where_holds (has_bit code j 4) (splits (n - j) a (min ((n - j) / 2) most + 1 - a))
+    where_holds (allows code j TwoHeaps) (splits (n - j) a (min ((n - j) / 2) most + 1 - a))
     ++ options_from code n most (j + 1)
 
 abbrev pub rest : Walk → List Left

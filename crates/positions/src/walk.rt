@@ -4,7 +4,7 @@ ghost use Rattle.std.specs.Prelude.{◌<◌, length};
 ghost use Rattle.positions.specs.Walks.{rest, IsTurn};
 
 use crate::left::Left;
-use octal_code::Code;
+use octal_code::{Code, Leaving};
 use std::marker::Model;
 
 /// What is tried next for one j: bit 1, bit 2, or bit 4 with this smaller part.
@@ -51,7 +51,7 @@ impl Walk {
             }
             Stage::Parts(part) => {
                 let whole = self.heap.saturating_sub(self.away);
-                if self.code.has_bit(self.away, 4) && part <= (whole / 2).min(self.most) {
+                if self.code.allows(self.away, Leaving::TwoHeaps) && part <= (whole / 2).min(self.most) {
                     self.stage = Stage::Parts(part + 1);
                     Some(Left::Two(part, whole - part))
                 } else {

@@ -6,7 +6,8 @@ use Rattle.std.specs.FinSet as set
 use Rattle.std.specs.Ordering.{nat_cmp}
 use Rattle.std.proofs.lemmas.Bool.Decides.{nat_tests}
 use native.Mathlib.Decide.{dec_le}
-use Rattle.octal_code.specs.Bits.{has_bit, takes_all, leaves_one}
+use Rattle.octal_code.specs.Bits.{allows, takes_all, leaves_one}
+use Rattle.octal_code.specs.declared.leaving.Leaving.TheVariants.{NoHeap, OneHeap, TwoHeaps}
 use Rattle.positions.specs.Options.{options_at, nothing_left, one_left, two_left, where_holds, splits}
 use Rattle.positions.specs.declared.left.Left.{Left}
 use Rattle.positions.specs.declared.left.Left.TheVariants.{Nothing, One, Two}
@@ -33,7 +34,7 @@ none_where false = refl
 two_from_one : (code : List ℕ) (n most j : ℕ) → two_left code n most j ≡ splits_from code n most j 1
 two_from_one code n most j =
     let e : min ((n - j) / 2) most ≡ min ((n - j) / 2) most + 1 - 1 = omega arith in
-    ap (λ k. where_holds (has_bit code j 4) (splits (n - j) 1 k)) e
+    ap (λ k. where_holds (allows code j TwoHeaps) (splits (n - j) 1 k)) e
 
 pub single_then_splits : (code : List ℕ) (n most j : ℕ) → j < length code
     → taking_from code n most j ≡ single_left code n j
@@ -61,7 +62,7 @@ single_nothing code n j e =
     ap (λ xs. xs ++ one_left code n j) (where_true (takes_all code n j) (Nothing ∷ []) e)
     ∙ ap (λ xs. Nothing ∷ xs)
     (where_false (leaves_one code n j) (One (n - j) ∷ [])
-    (not_both (has_bit code j 1) (has_bit code j 2) n j e))
+    (not_both (allows code j NoHeap) (allows code j OneHeap) n j e))
 
 pub single_one : (code : List ℕ) (n j : ℕ) → takes_all code n j ≡ false → leaves_one code n j ≡ true
     → single_left code n j ≡ One (n - j) ∷ []
@@ -76,10 +77,10 @@ single_none code n j e f =
     ∙ where_false (leaves_one code n j) (One (n - j) ∷ []) f
 
 -- no split is left
-pub splits_off : (code : List ℕ) (n most j a : ℕ) → has_bit code j 4 ≡ false
+pub splits_off : (code : List ℕ) (n most j a : ℕ) → allows code j TwoHeaps ≡ false
     → splits_from code n most j a ≡ []
 splits_off code n most j a e =
-    where_false (has_bit code j 4) (splits (n - j) a (min ((n - j) / 2) most + 1 - a)) e
+    where_false (allows code j TwoHeaps) (splits (n - j) a (min ((n - j) / 2) most + 1 - a)) e
 
 none_at : (m a k : ℕ) → k ≡ 0 → splits m a k ≡ []
 none_at m a k e = rw e
@@ -87,9 +88,9 @@ none_at m a k e = rw e
 pub splits_over : (code : List ℕ) (n most j a : ℕ) → min ((n - j) / 2) most < a
     → splits_from code n most j a ≡ []
 splits_over code n most j a l =
-    ap (where_holds (has_bit code j 4))
+    ap (where_holds (allows code j TwoHeaps))
     (none_at (n - j) a (min ((n - j) / 2) most + 1 - a) (omega arith))
-    ∙ none_where (has_bit code j 4)
+    ∙ none_where (allows code j TwoHeaps)
 
 splits_add : (m a c d : ℕ) → splits m a (c + d) ≡ splits m a c ++ splits m (a + c) d
 splits_add m a zero d =
@@ -102,16 +103,16 @@ splits_add m a (suc c) d =
     (splits_add m (a + 1) c d ∙ ap (λ b. splits m (a + 1) c ++ splits m b d) f)
 
 -- some splits, and the others
-pub splits_first : (code : List ℕ) (n most j a c : ℕ) → has_bit code j 4 ≡ true
+pub splits_first : (code : List ℕ) (n most j a c : ℕ) → allows code j TwoHeaps ≡ true
     → a + c ≤ min ((n - j) / 2) most + 1
     → splits_from code n most j a ≡ splits (n - j) a c ++ splits_from code n most j (a + c)
 splits_first code n most j a c e l =
     let h = min ((n - j) / 2) most in
     let f : h + 1 - a ≡ c + (h + 1 - (a + c)) = omega arith in
-    where_true (has_bit code j 4) (splits (n - j) a (h + 1 - a)) e
+    where_true (allows code j TwoHeaps) (splits (n - j) a (h + 1 - a)) e
     ∙ ap (splits (n - j) a) f ∙ splits_add (n - j) a c (h + 1 - (a + c))
     ∙ ap (λ xs. splits (n - j) a c ++ xs)
-    (sym (where_true (has_bit code j 4) (splits (n - j) (a + c) (h + 1 - (a + c))) e))
+    (sym (where_true (allows code j TwoHeaps) (splits (n - j) (a + c) (h + 1 - (a + c))) e))
 
 -- a value more
 pub values_more : (f : ℕ → ℕ) (s t : set.FinSet nat_cmp) (a b v : ℕ) → a < b → v ≡ f a

@@ -11,7 +11,8 @@ use native.Mathlib.Decide.{dec_le}
 use Rattle.misere_theory.specs.Games.{IsOctalCode}
 use Rattle.misere_theory.specs.Quotients.{Monoid}
 use Rattle.monoid_table.specs.Grids.{Grid, times_in}
-use Rattle.octal_code.specs.Bits.{has_bit}
+use Rattle.octal_code.specs.Bits.{allows}
+use Rattle.octal_code.specs.declared.leaving.Leaving.TheVariants.{TwoHeaps}
 use Rattle.positions.specs.Options.{options_at, splits}
 use Rattle.positions.specs.declared.left.Left.{Left}
 use Rattle.positions.specs.declared.left.Left.TheVariants.{Two}
@@ -89,14 +90,14 @@ module _ (code : List ℕ) (table : Grid) (monoid : Monoid table.order (times_in
               ∙ ap (phi_at phi) e;
         }
 
-no_bit : (code : List ℕ) (j : ℕ) → length code ≤ j → has_bit code j 4 ≡ false
+no_bit : (code : List ℕ) (j : ℕ) → length code ≤ j → allows code j TwoHeaps ≡ false
 no_bit code j l = ap (λ d. not (eqb (bit_and d 4) 0)) (get_or_past code j 0 l)
 
-no_splits : (code : List ℕ) (n most j a : ℕ) → (has_bit code j 4 ≡ true → last_part n most j < a)
+no_splits : (code : List ℕ) (n most j a : ℕ) → (allows code j TwoHeaps ≡ true → last_part n most j < a)
     → splits_from code n most j a ≡ []
-no_splits code n most j a over = by_bit (has_bit code j 4) refl
+no_splits code n most j a over = by_bit (allows code j TwoHeaps) refl
   where
-    by_bit : (b : Bool) → has_bit code j 4 ≡ b → splits_from code n most j a ≡ []
+    by_bit : (b : Bool) → allows code j TwoHeaps ≡ b → splits_from code n most j a ≡ []
     by_bit true e = splits_over code n most j a (over e)
     by_bit false e = splits_off code n most j a e
 
@@ -228,13 +229,13 @@ module _ (code : List ℕ) (table : Grid) (phi : Pretending) where
   pub run_none : (s t : Trial) (ps : List Pair) (units r a : ℕ) → IsTrial code table phi s ps
       → s.heap ≤ bound_of code phi → s.away < length code → s.stage ≡ Splits a
       → r ≡ 0
-      → (has_bit code s.away 4 ≡ true → last_part s.heap s.most s.away < a)
+      → (allows code s.away TwoHeaps ≡ true → last_part s.heap s.most s.away < a)
       → t ≡ after_all code table phi s
       → IsRun code table phi s t ps units r
   run_none s t ps units r a is going inside stage count over after =
       let most = largest_part phi in
       let rest = taking_from code s.heap most (s.away + 1) in
-      let past : has_bit code s.away 4 ≡ true → last_part s.heap most s.away < a =
+      let past : allows code s.away TwoHeaps ≡ true → last_part s.heap most s.away < a =
       λ e. subst (λ m. last_part s.heap m s.away < a) is.most_is (over e) in
       let coming : coming_at code s.heap most s.away s.stage ≡ rest =
       ap (coming_at code s.heap most s.away) stage
@@ -242,8 +243,8 @@ module _ (code : List ℕ) (table : Grid) (phi : Pretending) where
       let at = subst (IsStage code s.heap most s.away) stage is.stage_in in
       let u = after_all code table phi s in
       let seen : u.seen ≡ seen_at table phi (s.heap - s.away) s.seen s.stage =
-      taken (s.heap - s.away) (last_part s.heap most s.away) a s.seen (has_bit code s.away 4)
-      (has_bit code s.away 4) refl at.0 at.1 past
+      taken (s.heap - s.away) (last_part s.heap most s.away) a s.seen (allows code s.away TwoHeaps)
+      (allows code s.away TwoHeaps) refl at.0 at.1 past
       ∙ sym (ap (seen_at table phi (s.heap - s.away) s.seen) stage) in
       let same : trying_of code table phi u ps ≡ trying_of code table phi s ps =
       ap₂ (λ xs v. record { heap = s.heap; coming = xs; seen = v; pairs = ps }) (sym coming)
@@ -265,7 +266,7 @@ module _ (code : List ℕ) (table : Grid) (phi : Pretending) where
   pub run_splits : (s t : Trial) (ps : List Pair) (units r a : ℕ) → IsTrial code table phi s ps
       → s.heap ≤ bound_of code phi → s.away < length code → s.stage ≡ Splits a
       → 1 ≤ r → r ≤ units
-      → has_bit code s.away 4 ≡ true
+      → allows code s.away TwoHeaps ≡ true
       → a + r ≤ last_part s.heap s.most s.away + 1
       → t ≡ after_splits s a r
       → IsRun code table phi s t ps units r
@@ -321,7 +322,7 @@ module _ (code : List ℕ) (table : Grid) (phi : Pretending) where
       → coming_at code n most j stage ≡ []
   none_coming n most j Single l = none_past code n most j l
   none_coming n most j (Splits a) l =
-      let bit : has_bit code j 4 ≡ false = no_bit code j l in
+      let bit : allows code j TwoHeaps ≡ false = no_bit code j l in
       ap (λ xs. xs ++ taking_from code n most (j + 1)) (splits_off code n most j a bit)
       ∙ none_past code n most (j + 1) (omega arith)
 
@@ -330,7 +331,7 @@ module _ (code : List ℕ) (table : Grid) (phi : Pretending) where
       → IsStage code n most j stage → seen_at table phi (n - j) seen stage ≡ seen
   none_beside n most j seen Single l is = refl
   none_beside n most j seen (Splits a) l is =
-      let bit : has_bit code j 4 ≡ false = no_bit code j l in
+      let bit : allows code j TwoHeaps ≡ false = no_bit code j l in
       values_none (split_value table phi (n - j)) seen 1 (a - 1) (elim (dec_le 2 a) [
         | yes two ↦ absurd (let f = sym bit ∙ (is.1 two).0 in cc)
         | no few ↦ omega arith

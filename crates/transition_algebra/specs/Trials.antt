@@ -4,7 +4,8 @@ use Rattle.std.specs.List.{flat_map, range_with_len}
 use Rattle.std.specs.FinSet as set
 use Rattle.std.specs.Ordering.{nat_cmp}
 use Rattle.monoid_table.specs.Grids.{Grid}
-use Rattle.octal_code.specs.Bits.{has_bit}
+use Rattle.octal_code.specs.Bits.{allows}
+use Rattle.octal_code.specs.declared.leaving.Leaving.TheVariants.{TwoHeaps}
 use Rattle.positions.specs.Options.{nothing_left, one_left, options_at, splits, where_holds}
 use Rattle.positions.specs.declared.left.Left.{Left}
 use Rattle.positions.specs.declared.left.Left.TheVariants.{Two}
@@ -32,7 +33,7 @@ last_part n most j = min ((n - j) / 2) most
 -- the splits that take j away, the smaller part from a on
 abbrev pub splits_from : List ℕ → ℕ → ℕ → ℕ → ℕ → List Left
 splits_from code n most j a =
-    where_holds (has_bit code j 4) (splits (n - j) a (last_part n most j + 1 - a))
+    where_holds (allows code j TwoHeaps) (splits (n - j) a (last_part n most j + 1 - a))
 
 -- the options to come
 abbrev pub coming_at : List ℕ → ℕ → ℕ → ℕ → Stage → List Left
@@ -90,7 +91,7 @@ after_all code table phi t = record t {
   away = t.away + 1;
   stage = Single;
   seen =
-      if has_bit code t.away 4 then set.union t.seen (values_of_splits table phi (t.heap - t.away))
+      if allows code t.away TwoHeaps then set.union t.seen (values_of_splits table phi (t.heap - t.away))
       else t.seen;
 }
 
@@ -103,7 +104,7 @@ after_heap t =
 abbrev pub IsStage : List ℕ → ℕ → ℕ → ℕ → Stage → Type 0
 IsStage code n most j Single = Unit {0}
 IsStage code n most j (Splits a) =
-    (1 ≤ a) × (2 ≤ a → (has_bit code j 4 ≡ true) × (a ≤ last_part n most j + 1))
+    (1 ≤ a) × (2 ≤ a → (allows code j TwoHeaps ≡ true) × (a ≤ last_part n most j + 1))
 
 -- The values of the options tried: those of splits are taken over once all splits of a whole are
 -- tried.

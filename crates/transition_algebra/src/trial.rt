@@ -2,7 +2,8 @@
 ghost use Rattle.std.specs.Prelude.{◌≡◌, ◌+◌, ◌*◌, ◌^◌, ◌<◌, ◌≤◌, ◌↔◌, [], ◌∷◌, ◌++◌, length, min, true, IsTrue, IfOk, OnErr, OnOk, All};
 ghost use Rattle.std.specs.Option.{MatchOption};
 ghost use Rattle.monoid_table.specs.Grids.{Grid};
-ghost use Rattle.octal_code.specs.Bits.{has_bit};
+ghost use Rattle.octal_code.specs.Bits.{allows};
+ghost use Rattle.octal_code.specs.declared.leaving.Leaving.TheVariants.{TwoHeaps};
 ghost use Rattle.transition_algebra.specs.Pretending.{phi_at};
 ghost use Rattle.transition_algebra.specs.Heaps.{IsInto};
 ghost use Rattle.transition_algebra.specs.Work.{heap_cost};
@@ -15,7 +16,7 @@ use crate::wholes::Wholes;
 use allocation::Memory;
 use element_sets::ElementSet;
 use monoid_table::{Table, is_monoid};
-use octal_code::Code;
+use octal_code::{Code, Leaving};
 use positions::Left;
 use std::alloc::Allocator;
 
@@ -98,15 +99,15 @@ impl Trial {
         requires small { self.old.spent + self.old.heap < 2 ^ 32 }
         ensures within { result ≤ units }
         ensures none { result ≡ 0
-            → (has_bit code.now self.old.away 4 ≡ true
+            → (allows code.now self.old.away TwoHeaps ≡ true
             → last_part self.old.heap self.old.most self.old.away < part) × (self.new ≡ self.old) }
-        ensures some { 1 ≤ result → (has_bit code.now self.old.away 4 ≡ true)
+        ensures some { 1 ≤ result → (allows code.now self.old.away TwoHeaps ≡ true)
             × (part + result ≤ last_part self.old.heap self.old.most self.old.away + 1)
             × (self.new ≡ after_splits self.old part result) }
     {
         let whole = self.heap.saturating_sub(self.away);
         let last = (whole / 2).min(self.most);
-        if !code.has_bit(self.away, 4) || last < part {
+        if !code.allows(self.away, Leaving::TwoHeaps) || last < part {
             return 0;
         }
         let count = units.min(last + 1 - part);
@@ -134,7 +135,7 @@ impl Trial {
         ensures trial { OnOk result (self.new ≡ after_all code.now table.now phi.now self.old) }
         ensures err { OnErr result (self.new ≡ self.old) }
     {
-        if code.has_bit(self.away, 4) {
+        if code.allows(self.away, Leaving::TwoHeaps) {
             let whole = self.heap.saturating_sub(self.away);
             let values = wholes.values(table, phi, pairs, whole)?;
             self.seen.union_with(&values);

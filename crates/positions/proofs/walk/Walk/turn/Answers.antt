@@ -1,7 +1,8 @@
 use Rattle.std.proofs.Common.{min, ◌≡◌, ◌-◌, ◌+◌, ◌≤◌, ◌/◌, true, arith, ◌∷◌, ap, ◌∙◌}
 use Rattle.positions.specs.declared.left.Left.TheVariants.{Two}
 use Rattle.positions.specs.declared.walk.Stage.TheVariants.{Parts}
-use Rattle.octal_code.specs.Bits.{has_bit}
+use Rattle.octal_code.specs.Bits.{allows}
+use Rattle.octal_code.specs.declared.leaving.Leaving.TheVariants.{TwoHeaps}
 use Rattle.positions.specs.Walks.{left_at, options_from, stages}
 use Rattle.positions.proofs.Stages.{whole_there, whole_not, parts_there}
 use Rattle.positions.proofs.walk.Walk.turn.Goals as goal
@@ -23,7 +24,7 @@ returns-else-takes_all c =
 pub returns-then-part-min : goal.returns-then-part-min
 returns-then-part-min c =
     let w = c.args.self.now in
-    let e : has_bit w.code w.away 4 ≡ true = cc in
+    let e : allows w.code w.away TwoHeaps ≡ true = cc in
     let l : c.in-Parts.part ≤ min ((w.heap - w.away) / 2) w.most = omega arith in
     let m : w.heap - w.away ≡ c.saturating_sub-whole.result = omega arith in
     ap (left_at w.code w.heap w.most w.away) c.in-Parts.is
