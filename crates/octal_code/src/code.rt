@@ -161,3 +161,12 @@ fn digit_char(digit: u8) -> char
 {
     (b'0' + digit) as char
 }
+
+/// The digits of a code lie in their ranges, and they are 2 to 17.
+pub fn is_octal_code(code: &Code)
+    ensures code { IsOctalCode code.now }
+    ensures some { 2 ≤ length code.now }
+    ensures short { length code.now ≤ 17 }
+{
+    code.last();
+}

@@ -1,4 +1,4 @@
-pub mod Stages
+pub mod Turns
 pub mod Exact
 pub mod Allowed
 pub mod Permuted

@@ -16,4 +16,4 @@ pub use left::{Left, LeftHeaps};
 pub use listing::{options, options_are_exact, options_up_to};
 pub use moves::{Move, MoveFault, apply, is_option};
 pub use position::{INLINE, LARGEST, MOST, Position};
-pub use walk::Options;
+pub use walk::{Options, Untried, Walk};

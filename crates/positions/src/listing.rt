@@ -7,7 +7,7 @@ ghost use Rattle.positions.specs.Exact.{heaps_of, IsInOrder, IsLeftAt, IsPartUpT
 ghost use Rattle.positions.specs.Options.{options_of, options_up_to};
 ghost use Rattle.positions.specs.declared.left.Left.{Left};
 
-use crate::walk::{Options, Stage, Walk};
+use crate::walk::{Options, Walk};
 use octal_code::Code;
 
 /// The options of the heap n, in their order: first by what is taken away, rising, then by the bits
@@ -25,13 +25,8 @@ pub fn options_up_to(code: &Code, n: u64, most: u64) -> Options
     ensures { result ≡ options_up_to code.now n most }
 {
     Options {
-        walk: Walk {
-            code: *code,
-            heap: n,
-            most,
-            away: 0,
-            stage: Stage::Whole,
-        },
+        code: *code,
+        walk: Walk::new(n, most),
     }
 }
 
