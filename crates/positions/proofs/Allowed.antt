@@ -31,7 +31,8 @@ one_allowed code n a = (
       let (j, m) = of_options code n n (One a) c in
       let e : j ≡ n - a = let s = m.2 in omega arith in
       let (l, p, h, b) = subst (λ i. IsLeftAt code n i (One a)) e m in
-      one_is (allows code (n - a) OneHeap) n (n - a) (bit_is (digit code (n - a)) 2 b) l (omega arith),
+      one_is (allows code (n - a) OneHeap) n (n - a) (bit_is (digit code (n - a)) 2 b) l
+      (omega arith),
 )
 
 pub two_allowed : (code : List ℕ) (n a b : ℕ) → 1 ≤ a → a ≤ b → a + b ≤ n

@@ -43,7 +43,8 @@ module _ (code : List ℕ) (n most j : ℕ) where
   pub of_two : (L : Left) → Contains (two_left code n most j) L → (a : ℕ) × (L ≡ Two a (n - j - a))
       × (IsLeftAt code n j (Two a (n - j - a)) × (a ≤ most))
   of_two L c =
-      let (e, i) = of_where (allows code j TwoHeaps) (splits (n - j) 1 (min ((n - j) / 2) most)) L c in
+      let (e, i) = of_where (allows code j TwoHeaps) (splits (n - j) 1 (min ((n - j) / 2) most)) L c
+      in
       let (a, l, h, s) = of_map (λ b. Two b (n - j - b)) 1 (min ((n - j) / 2) most) L i in
       (a, sym s, ((l, omega arith, omega arith, bit_says (digit code j) 4 e), omega arith))
 

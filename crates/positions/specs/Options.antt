@@ -26,7 +26,8 @@ splits m a count = map (λ b. Two b (m - b)) (range_with_len a count)
 
 -- bit 4: two heaps stay, the smaller part from 1 to half of what stays, and at most `most`
 abbrev pub two_left : List ℕ → ℕ → ℕ → ℕ → List Left
-two_left code n most j = where_holds (allows code j TwoHeaps) (splits (n - j) 1 (min ((n - j) / 2) most))
+two_left code n most j =
+    where_holds (allows code j TwoHeaps) (splits (n - j) 1 (min ((n - j) / 2) most))
 
 -- the options that take j away
 abbrev pub options_at : List ℕ → ℕ → ℕ → ℕ → List Left

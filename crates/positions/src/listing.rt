@@ -31,8 +31,9 @@ pub fn options_up_to(code: &Code, n: u64, most: u64) -> Options
 }
 
 /// The lists are exact: each option of the heap is listed, up to the order of its parts, nothing
-/// else is, and nothing twice; what is listed is what a digit allows to stay. A list that is cut off at a smaller part of `most` has those of them
-/// whose smaller part, if there are two, is no larger. All are in the order of moves.
+/// else is, and nothing twice; what is listed is what a digit allows to stay. A list that is cut
+/// off at a smaller part of `most` has those of them whose smaller part, if there are two, is no
+/// larger. All are in the order of moves.
 pub fn options_are_exact()
     ensures each { (code : List ℕ) (n : ℕ) (H : List ℕ) → HeapOption code n H
         → (left : Left) × Contains (options_of code n) left × IsPermutation (heaps_of left) H }

@@ -93,7 +93,8 @@ module _ (code : List ℕ) (table : Grid) (monoid : Monoid table.order (times_in
               ∙ ap (phi_at phi) e;
         }
 
-no_splits : (code : List ℕ) (n most j a : ℕ) → (allows code j TwoHeaps ≡ true → last_part n most j < a)
+no_splits : (code : List ℕ) (n most j a : ℕ)
+    → (allows code j TwoHeaps ≡ true → last_part n most j < a)
     → splits_from code n most j a ≡ []
 no_splits code n most j a over = by_bit (allows code j TwoHeaps) refl
   where
@@ -112,7 +113,8 @@ module _ (code : List ℕ) (table : Grid) (phi : Pretending) where
   -- the turns that a trial may still make
   pub room : (t : Trial) (pairs : List Pair) → IsTrial code table phi t pairs
       → t.walk.heap ≤ bound_of code phi
-      → t.spent + length (left_at code t.walk.heap (largest_part phi) t.walk.away t.walk.untried) + 1
+      → t.spent + length (left_at code t.walk.heap (largest_part phi) t.walk.away t.walk.untried)
+      + 1
       ≤ heap_cost code phi
   room t pairs is l =
       let a = left_some code table phi (trying_of code table phi t pairs) l in
@@ -164,7 +166,8 @@ module _ (code : List ℕ) (table : Grid) (phi : Pretending) where
   single_turns n seen pairs (x ∷ y ∷ xs) coming rest l short e = absurd (omega arith)
 
   pub run_single : (s t : Trial) (ps : List Pair) (units r : ℕ) → IsTrial code table phi s ps
-      → s.walk.heap ≤ bound_of code phi → s.walk.away < length code → s.walk.untried ≡ Everything → 1 ≤ units
+      → s.walk.heap ≤ bound_of code phi → s.walk.away < length code → s.walk.untried ≡ Everything
+      → 1 ≤ units
       → length (single_left code s.walk.heap s.walk.away) ≤ 1
       → r ≡ length (single_left code s.walk.heap s.walk.away)
       → t ≡ after_single code table phi s
@@ -173,12 +176,15 @@ module _ (code : List ℕ) (table : Grid) (phi : Pretending) where
   run_single s t ps units r is going inside stage some short count after =
       let most = largest_part phi in
       let xs = single_left code s.walk.heap s.walk.away in
-      let rest = splits_from code s.walk.heap most s.walk.away 1 ++ options_from code s.walk.heap most (s.walk.away + 1)
+      let rest = splits_from code s.walk.heap most s.walk.away 1
+      ++ options_from code s.walk.heap most (s.walk.away + 1)
       in
       let coming : left_at code s.walk.heap most s.walk.away s.walk.untried ≡ xs ++ rest =
-      ap (left_at code s.walk.heap most s.walk.away) stage ∙ single_then_splits code s.walk.heap most s.walk.away
+      ap (left_at code s.walk.heap most s.walk.away) stage
+      ∙ single_then_splits code s.walk.heap most s.walk.away
       inside in
-      let few : length xs ≤ length (left_at code s.walk.heap most s.walk.away s.walk.untried) + 1 = let e =
+      let few : length xs ≤ length (left_at code s.walk.heap most s.walk.away s.walk.untried) + 1 =
+      let e =
       ap length coming ∙ length-append xs rest in omega arith in
       let from : record {
         heap = s.walk.heap;
@@ -195,7 +201,8 @@ module _ (code : List ℕ) (table : Grid) (phi : Pretending) where
       let u = after_single code table phi s in
       let moved : IsTrial code table phi u ps =
       moved_on s u ps ps (length xs) is going
-      (single_turns s.walk.heap s.seen ps xs (left_at code s.walk.heap most s.walk.away s.walk.untried) rest going
+      (single_turns s.walk.heap s.seen ps xs
+      (left_at code s.walk.heap most s.walk.away s.walk.untried) rest going
       short coming ∙ ap (turns code table phi (length xs)) from) refl few refl refl
       (omega arith) (omega arith, λ two. absurd (omega arith)) in
       subst (λ v. IsRun code table phi s v ps units r) (sym after)
@@ -236,13 +243,15 @@ module _ (code : List ℕ) (table : Grid) (phi : Pretending) where
   pub run_none : (s t : Trial) (ps : List Pair) (units r a : ℕ) → IsTrial code table phi s ps
       → s.walk.heap ≤ bound_of code phi → s.walk.away < length code → s.walk.untried ≡ Splits a
       → r ≡ 0
-      → (allows code s.walk.away TwoHeaps ≡ true → last_part s.walk.heap s.walk.most s.walk.away < a)
+      → (allows code s.walk.away TwoHeaps ≡ true → last_part s.walk.heap s.walk.most s.walk.away
+      < a)
       → t ≡ after_all code table phi s
       → IsRun code table phi s t ps units r
   run_none s t ps units r a is going inside stage count over after =
       let most = largest_part phi in
       let rest = options_from code s.walk.heap most (s.walk.away + 1) in
-      let past : allows code s.walk.away TwoHeaps ≡ true → last_part s.walk.heap most s.walk.away < a =
+      let past : allows code s.walk.away TwoHeaps ≡ true
+      → last_part s.walk.heap most s.walk.away < a =
       λ e. subst (λ m. last_part s.walk.heap m s.walk.away < a) is.most_is (over e) in
       let coming : left_at code s.walk.heap most s.walk.away s.walk.untried ≡ rest =
       ap (left_at code s.walk.heap most s.walk.away) stage
@@ -250,7 +259,8 @@ module _ (code : List ℕ) (table : Grid) (phi : Pretending) where
       let at = subst (IsUntried code s.walk.heap most s.walk.away) stage is.untried_in in
       let u = after_all code table phi s in
       let seen : u.seen ≡ seen_at table phi (s.walk.heap - s.walk.away) s.seen s.walk.untried =
-      taken (s.walk.heap - s.walk.away) (last_part s.walk.heap most s.walk.away) a s.seen (allows code s.walk.away TwoHeaps)
+      taken (s.walk.heap - s.walk.away) (last_part s.walk.heap most s.walk.away) a s.seen
+      (allows code s.walk.away TwoHeaps)
       (allows code s.walk.away TwoHeaps) refl at.0 at.1 past
       ∙ sym (ap (seen_at table phi (s.walk.heap - s.walk.away) s.seen) stage) in
       let same : trying_of code table phi u ps ≡ trying_of code table phi s ps =
@@ -281,12 +291,14 @@ module _ (code : List ℕ) (table : Grid) (phi : Pretending) where
       let most = largest_part phi in
       let whole = s.walk.heap - s.walk.away in
       let f = split_value table phi whole in
-      let one_up : 1 ≤ a = (subst (IsUntried code s.walk.heap most s.walk.away) stage is.untried_in).0 in
+      let one_up : 1 ≤ a =
+      (subst (IsUntried code s.walk.heap most s.walk.away) stage is.untried_in).0 in
       let fits : a + r ≤ last_part s.walk.heap most s.walk.away + 1 =
       subst (λ v. a + r ≤ last_part s.walk.heap v s.walk.away + 1) is.most_is room_for in
       let rest = splits_from code s.walk.heap most s.walk.away (a + r)
       ++ options_from code s.walk.heap most (s.walk.away + 1) in
-      let coming : left_at code s.walk.heap most s.walk.away s.walk.untried ≡ splits whole a r ++ rest =
+      let coming : left_at code s.walk.heap most s.walk.away s.walk.untried ≡ splits whole a r
+      ++ rest =
       ap (left_at code s.walk.heap most s.walk.away) stage
       ∙ ap (λ xs. xs ++ options_from code s.walk.heap most (s.walk.away + 1))
       (splits_first code s.walk.heap most s.walk.away a r bit fits)
@@ -301,8 +313,10 @@ module _ (code : List ℕ) (table : Grid) (phi : Pretending) where
       ≡ with_values f (with_values f s.seen 1 (a - 1)) a r = values_add f s.seen a r one_up in
       let from : seen_at table phi whole s.seen s.walk.untried ≡ with_values f s.seen 1 (a - 1) =
       ap (seen_at table phi whole s.seen) stage in
-      let turned = split_turns code table phi f whole r a s.walk.heap (with_values f s.seen 1 (a - 1)) ps
-      (left_at code s.walk.heap most s.walk.away s.walk.untried) rest going coming (λ b p q. refl) in
+      let turned =
+      split_turns code table phi f whole r a s.walk.heap (with_values f s.seen 1 (a - 1)) ps
+      (left_at code s.walk.heap most s.walk.away s.walk.untried) rest going coming (λ b p q. refl)
+      in
       let reached : trying_of code table phi u ps
       ≡ turns code table phi r (trying_of code table phi s ps) =
       ap (λ v. record { heap = s.walk.heap; coming = rest; seen = v; pairs = ps }) seen ∙ turned
@@ -389,7 +403,8 @@ pub finished : (code : List ℕ) (table : Grid) → Monoid table.order (times_in
 finished code table monoid phi pretending into t pairs is done =
     let s = stands_now code table monoid phi pretending into t pairs is in
     let over = (done_over code table phi t pairs is).1 done in
-    let e : t.walk.heap - 1 ≡ bound_of code phi = let a = s.at_most in let b = is.bound_is in omega arith
+    let e : t.walk.heap - 1 ≡ bound_of code phi = let a = s.at_most in let b = is.bound_is in
+    omega arith
     in
     subst (λ B. AreFirstHeapPairs code table phi B pairs) e s.made
 

@@ -52,7 +52,8 @@ impl Trial {
     fn try_single<A: Allocator>(&mut self, code: &Code, table: &Table<A>, phi: &Phi<A>) -> u64
         requires into { IsInto table.now phi.now }
         requires small { self.old.spent < 2 ^ 32 }
-        ensures count { result ≡ length (single_left code.now self.old.walk.heap self.old.walk.away) }
+        ensures count { result
+            ≡ length (single_left code.now self.old.walk.heap self.old.walk.away) }
         ensures trial { self.new ≡ after_single code.now table.now phi.now self.old }
     {
         match self.walk.take_single(code) {
@@ -73,9 +74,11 @@ impl Trial {
         ensures within { result ≤ units }
         ensures none { result ≡ 0
             → (allows code.now self.old.walk.away TwoHeaps ≡ true
-            → last_part self.old.walk.heap self.old.walk.most self.old.walk.away < part) × (self.new ≡ self.old) }
+            → last_part self.old.walk.heap self.old.walk.most self.old.walk.away < part)
+            × (self.new ≡ self.old) }
         ensures some { 1 ≤ result → (allows code.now self.old.walk.away TwoHeaps ≡ true)
-            × (part + result ≤ last_part self.old.walk.heap self.old.walk.most self.old.walk.away + 1)
+            × (part + result ≤ last_part self.old.walk.heap self.old.walk.most self.old.walk.away
+            + 1)
             × (self.new ≡ after_splits self.old part result) }
     {
         let count = units.min(self.walk.splits_to_try(code, part));
@@ -120,7 +123,8 @@ impl Trial {
         ensures trial { OnOk result (self.new ≡ after_heap self.old) }
         ensures pair { OnOk result
             (pairs.new.items ≡ pairs.old.items
-            ++ (record { value = phi_at phi.now self.old.walk.heap; options = self.old.seen } ∷ [])) }
+            ++ (record { value = phi_at phi.now self.old.walk.heap; options = self.old.seen }
+            ∷ [])) }
         ensures err { OnErr result (self.new ≡ self.old) }
         ensures err_pairs { OnErr result (pairs.new.items ≡ pairs.old.items) }
     {
