@@ -4,15 +4,29 @@
 -- theory does.
 use Rattle.std.specs.Prelude.{ℕ, Bool, not, ◌&&◌, eqb, ltb, bit_and, List}
 use Rattle.misere_theory.specs.Games.{digit}
+use Rattle.octal_code.specs.declared.leaving.Leaving.{Leaving}
+use Rattle.octal_code.specs.declared.leaving.Leaving.TheVariants.{NoHeap, OneHeap, TwoHeaps}
 
--- whether the digit dj has this bit: 1, 2 or 4
-abbrev pub has_bit : List ℕ → ℕ → ℕ → Bool
-has_bit code j bit = not (eqb (bit_and (digit code j) bit) 0)
+-- the bit that allows so much to stay
+abbrev pub bit_of : Leaving → ℕ
+bit_of NoHeap = 1
+bit_of OneHeap = 2
+bit_of TwoHeaps = 4
 
--- bit 1: the whole heap n may be taken as j
+-- which bit it is, counted from 0
+abbrev pub place_of : Leaving → ℕ
+place_of NoHeap = 0
+place_of OneHeap = 1
+place_of TwoHeaps = 2
+
+-- whether the digit dj allows so much to stay
+abbrev pub allows : List ℕ → ℕ → Leaving → Bool
+allows code j leaving = not (eqb (bit_and (digit code j) (bit_of leaving)) 0)
+
+-- the whole heap n may be taken as j
 abbrev pub takes_all : List ℕ → ℕ → ℕ → Bool
-takes_all code n j = has_bit code j 1 && not (eqb j 0) && eqb n j
+takes_all code n j = allows code j NoHeap && not (eqb j 0) && eqb n j
 
--- bit 2: one heap may stay where j is taken away
+-- one heap may stay where j is taken away
 abbrev pub leaves_one : List ℕ → ℕ → ℕ → Bool
-leaves_one code n j = has_bit code j 2 && not (eqb j 0) && ltb j n
+leaves_one code n j = allows code j OneHeap && not (eqb j 0) && ltb j n

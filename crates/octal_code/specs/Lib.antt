@@ -1,4 +1,5 @@
 pub mod Bits
+pub mod BitLaws
 pub mod Text
 pub mod Spelling
 pub mod Digits

@@ -1,11 +1,12 @@
 //! Octal codes and their text.
 ghost use Rattle.std.specs.Prelude.{◌≡◌, ◌-◌, ◌<◌, ◌≤◌, ◌^◌, ◌↔◌, ◌⊎◌, ℕ, List, IsBitSet, IsTrue, IfOk, All, length, string_bytes};
 ghost use Rattle.misere_theory.specs.Games.{digit, IsOctalCode};
-ghost use Rattle.octal_code.specs.Bits.{has_bit, leaves_one, takes_all};
+ghost use Rattle.octal_code.specs.Bits.{allows, leaves_one, place_of, takes_all};
 ghost use Rattle.octal_code.specs.Spelling.{IsOctalByte, IsSpelling, digits_in};
 ghost use Rattle.octal_code.specs.Text.{code_text, digit_byte, IsCodeText, IsLongCodeText, IsNoCodeText};
 
 use crate::fault::CodeFault;
+use crate::leaving::Leaving;
 use allocation::Memory;
 use std::alloc::Allocator;
 use std::marker::Model;
@@ -102,31 +103,31 @@ impl Code {
         self.count - 1
     }
 
-    /// Whether the digit dj has this bit, which is 1, 2 or 4.
-    #[tactic(auto, using(crate::proofs::Bits::set))]
-    pub fn has_bit(&self, j: u64, bit: u8) -> bool
-        ensures value { result ≡ has_bit self.now j bit }
-        ensures set { (k : ℕ) → bit ≡ 2 ^ k → (IsTrue result ↔ IsBitSet (digit self.now j) k) }
+    /// Whether the digit dj allows so much to stay.
+    #[tactic(auto, using(crate::specs::BitLaws::allowed))]
+    pub fn allows(&self, j: u64, leaving: Leaving) -> bool
+        ensures value { result ≡ allows self.now j leaving }
+        ensures set { IsTrue result ↔ IsBitSet (digit self.now j) (place_of leaving) }
     {
-        self.digit(j) & bit != 0
+        self.digit(j) & leaving.bit() != 0
     }
 
     /// Whether the whole heap n may be taken as j.
-    #[tactic(auto, using(crate::proofs::Bits::takes))]
+    #[tactic(auto, using(crate::specs::BitLaws::takes))]
     pub fn takes_all(&self, n: u64, j: u64) -> bool
         ensures value { result ≡ takes_all self.now n j }
         ensures allowed { IsTrue result ↔ ((1 ≤ j) × (n ≡ j) × IsBitSet (digit self.now j) 0) }
     {
-        self.has_bit(j, 1) && j != 0 && n == j
+        self.allows(j, Leaving::NoHeap) && j != 0 && n == j
     }
 
     /// Whether one heap may stay of the heap n where j is taken away.
-    #[tactic(auto, using(crate::proofs::Bits::leaves))]
+    #[tactic(auto, using(crate::specs::BitLaws::leaves))]
     pub fn leaves_one(&self, n: u64, j: u64) -> bool
         ensures value { result ≡ leaves_one self.now n j }
         ensures allowed { IsTrue result ↔ ((1 ≤ j) × (j < n) × IsBitSet (digit self.now j) 1) }
     {
-        self.has_bit(j, 2) && j != 0 && j < n
+        self.allows(j, Leaving::OneHeap) && j != 0 && j < n
     }
 }
 
@@ -159,4 +160,13 @@ fn digit_char(digit: u8) -> char
     ensures { result ≡ digit_byte digit }
 {
     (b'0' + digit) as char
+}
+
+/// The digits of a code lie in their ranges, and they are 2 to 17.
+pub fn is_octal_code(code: &Code)
+    ensures code { IsOctalCode code.now }
+    ensures some { 2 ≤ length code.now }
+    ensures short { length code.now ≤ 17 }
+{
+    code.last();
 }

@@ -4,6 +4,10 @@
 
 mod code;
 mod fault;
+mod laws;
+mod leaving;
 
-pub use code::Code;
+pub use code::{Code, is_octal_code};
 pub use fault::CodeFault;
+pub use laws::digits_say_what_stays;
+pub use leaving::Leaving;

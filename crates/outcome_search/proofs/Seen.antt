@@ -17,7 +17,7 @@ use Rattle.misere_theory.proofs.Shuffles.{move_from_multiset, from_permutation, 
 use Rattle.positions.specs.Exact.{heaps_of}
 use Rattle.positions.specs.Options.{options_of}
 use Rattle.positions.specs.declared.left.Left.{Left}
-use Rattle.positions.proofs.Listed.{nothing_in, only_in, itself_in}
+use Rattle.positions.specs.ListLaws.{nothing_in, only_in, itself_in}
 use Rattle.outcome_search.proofs.Heaps.{move_from_place}
 use Rattle.outcome_search.specs.Outcomes.{HasOutcome}
 use Rattle.outcome_search.specs.Settled.{Lists, Follows}

@@ -5,7 +5,8 @@ use Rattle.std.proofs.lemmas.List.{length-append}
 use Rattle.std.proofs.lemmas.List.Sums.{sum_by-cons}
 use Rattle.std.proofs.lemmas.List.Concat.{length-flat_map}
 use Rattle.std.proofs.lemmas.List.FromFn.{length-map-range_with_len}
-use Rattle.octal_code.specs.Bits.{has_bit, takes_all, leaves_one}
+use Rattle.octal_code.specs.Bits.{allows, takes_all, leaves_one}
+use Rattle.octal_code.specs.declared.leaving.Leaving.TheVariants.{TwoHeaps}
 use Rattle.positions.specs.Options.{options_at, nothing_left, one_left, two_left, where_holds, splits, options_up_to}
 use Rattle.positions.specs.declared.left.Left.{Left}
 use Rattle.positions.specs.declared.left.Left.TheVariants.{Nothing, One, Two}
@@ -27,7 +28,7 @@ few_at : (code : List ℕ) (n most j : ℕ) → length (options_at code n most j
 few_at code n most j =
     let a = where_short (takes_all code n j) (Nothing ∷ []) in
     let b = where_short (leaves_one code n j) (One (n - j) ∷ []) in
-    let c = where_short (has_bit code j 4) (splits (n - j) 1 (min ((n - j) / 2) most)) in
+    let c = where_short (allows code j TwoHeaps) (splits (n - j) 1 (min ((n - j) / 2) most)) in
     let d = length-map-range_with_len (λ x. Two x (n - j - x)) 1 (min ((n - j) / 2) most) in
     let e = length-append (nothing_left code n j) (one_left code n j ++ two_left code n most j) in
     let f = length-append (one_left code n j) (two_left code n most j) in

@@ -1,5 +1,4 @@
-pub mod Stages
-pub mod Listed
+pub mod Turns
 pub mod Exact
 pub mod Allowed
 pub mod Permuted

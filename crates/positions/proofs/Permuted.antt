@@ -10,7 +10,7 @@ use Rattle.positions.specs.Exact.{heaps_of}
 use Rattle.positions.specs.Options.{options_of}
 use Rattle.positions.specs.declared.left.Left.{Left}
 use Rattle.positions.specs.declared.left.Left.TheVariants.{Nothing, One, Two}
-use Rattle.positions.proofs.Exact.{of_options, only}
+use Rattle.positions.specs.OptionLaws.{of_options, only}
 
 pub two_pushed : (a b : ℕ) (xs ys zs : List ℕ) → IsPermutation (b ∷ xs) ys
     → IsPermutation (a ∷ ys) zs → IsPermutation (a ∷ b ∷ xs) zs

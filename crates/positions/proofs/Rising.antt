@@ -3,13 +3,14 @@ use Rattle.std.proofs.Common.{◌≡◌, ℕ, ◌+◌, ◌-◌, ◌/◌, ◌<◌
 use Rattle.std.specs.List.{Contains, AllPairs}
 use Rattle.std.proofs.lemmas.List.Elements.{Contains-append_left, Contains-append_right, Contains-append_cases}
 use Rattle.misere_theory.specs.Plays.{LeftBefore}
-use Rattle.octal_code.specs.Bits.{has_bit, takes_all, leaves_one}
+use Rattle.octal_code.specs.Bits.{allows, takes_all, leaves_one}
+use Rattle.octal_code.specs.declared.leaving.Leaving.TheVariants.{TwoHeaps}
 use Rattle.positions.specs.Options.{options_up_to, options_at, nothing_left, one_left, two_left, where_holds, splits}
 use Rattle.positions.specs.Exact.{heaps_of, IsLeftAt}
 use Rattle.positions.specs.declared.left.Left.{Left}
 use Rattle.positions.specs.declared.left.Left.TheVariants.{Nothing, One, Two}
-use Rattle.positions.proofs.Listed.{nothing_in, only_in, of_map, AllPairs-append, AllPairs-one, AllPairs-none, AllPairs-flat, AllPairs-range}
-use Rattle.positions.proofs.Exact.{of_at}
+use Rattle.positions.specs.ListLaws.{nothing_in, only_in, of_map, AllPairs-append, AllPairs-one, AllPairs-none, AllPairs-flat, AllPairs-range}
+use Rattle.positions.specs.OptionLaws.{of_at}
 
 -- what the one leaves comes before what the other leaves
 abbrev pub Before : Left → Left → Type 0
@@ -70,7 +71,7 @@ module _ (code : List ℕ) (n most j : ℕ) where
   is_two L c =
       let (a, l, h, s) =
       of_map (λ b. Two b (n - j - b)) 1 (min ((n - j) / 2) most) L
-      (of_where (has_bit code j 4) (splits (n - j) 1 (min ((n - j) / 2) most)) L c) in
+      (of_where (allows code j TwoHeaps) (splits (n - j) 1 (min ((n - j) / 2) most)) L c) in
       (a, sym s, l, omega arith)
 
   rising_at : AllPairs Before (options_at code n most j)
@@ -79,7 +80,7 @@ module _ (code : List ℕ) (n most j : ℕ) where
       (AllPairs-where (takes_all code n j) (Nothing ∷ []) (AllPairs-one Before Nothing))
       (AllPairs-append Before (one_left code n j) (two_left code n most j)
       (AllPairs-where (leaves_one code n j) (One (n - j) ∷ []) (AllPairs-one Before (One (n - j))))
-      (AllPairs-where (has_bit code j 4) (splits (n - j) 1 (min ((n - j) / 2) most))
+      (AllPairs-where (allows code j TwoHeaps) (splits (n - j) 1 (min ((n - j) / 2) most))
       (AllPairs-range Before (λ b. Two b (n - j - b)) 1 (min ((n - j) / 2) most)
       (λ a b l m h. splits_rise a b m (omega arith))))
       (λ L M c d.

@@ -1,6 +1,9 @@
 pub mod Options
 pub mod Walks
+pub mod WalkLaws
 pub mod Exact
+pub mod ListLaws
+pub mod OptionLaws
 pub mod Positions
 pub mod Moves
 pub mod Hashes

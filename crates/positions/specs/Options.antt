@@ -3,7 +3,8 @@
 -- is this project's own. The law options_are_exact ties the list to the theory.
 use Rattle.std.specs.Prelude.{ℕ, ◌-◌, ◌/◌, Bool, cond, List, [], ◌∷◌, ◌++◌, length, map, min}
 use Rattle.std.specs.List.{flat_map, range_with_len}
-use Rattle.octal_code.specs.Bits.{has_bit, takes_all, leaves_one}
+use Rattle.octal_code.specs.Bits.{allows, takes_all, leaves_one}
+use Rattle.octal_code.specs.declared.leaving.Leaving.TheVariants.{TwoHeaps}
 use Rattle.positions.specs.declared.left.Left.{Left}
 use Rattle.positions.specs.declared.left.Left.TheVariants.{Nothing, One, Two}
 
@@ -25,7 +26,8 @@ splits m a count = map (λ b. Two b (m - b)) (range_with_len a count)
 
 -- bit 4: two heaps stay, the smaller part from 1 to half of what stays, and at most `most`
 abbrev pub two_left : List ℕ → ℕ → ℕ → ℕ → List Left
-two_left code n most j = where_holds (has_bit code j 4) (splits (n - j) 1 (min ((n - j) / 2) most))
+two_left code n most j =
+    where_holds (allows code j TwoHeaps) (splits (n - j) 1 (min ((n - j) / 2) most))
 
 -- the options that take j away
 abbrev pub options_at : List ℕ → ℕ → ℕ → ℕ → List Left

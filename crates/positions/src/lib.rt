@@ -12,8 +12,8 @@ mod walk;
 mod writing;
 
 pub use fault::PositionFault;
-pub use left::Left;
+pub use left::{Left, LeftHeaps};
 pub use listing::{options, options_are_exact, options_up_to};
 pub use moves::{Move, MoveFault, apply, is_option};
 pub use position::{INLINE, LARGEST, MOST, Position};
-pub use walk::Options;
+pub use walk::{Options, Untried, Walk};

@@ -3,11 +3,11 @@ ghost use Rattle.std.specs.List.Sorted.{IsPermutation};
 ghost use Rattle.std.specs.Prelude.{◌≡◌, ◌↔◌, ℕ, List, Contains, AllPairs};
 ghost use Rattle.misere_theory.specs.Games.{HeapOption};
 ghost use Rattle.misere_theory.specs.Plays.{LeftBefore};
-ghost use Rattle.positions.specs.Exact.{heaps_of, IsInOrder, IsPartUpTo};
+ghost use Rattle.positions.specs.Exact.{heaps_of, IsInOrder, IsLeftAt, IsPartUpTo};
 ghost use Rattle.positions.specs.Options.{options_of, options_up_to};
 ghost use Rattle.positions.specs.declared.left.Left.{Left};
 
-use crate::walk::{Options, Stage, Walk};
+use crate::walk::{Options, Walk};
 use octal_code::Code;
 
 /// The options of the heap n, in their order: first by what is taken away, rising, then by the bits
@@ -25,25 +25,24 @@ pub fn options_up_to(code: &Code, n: u64, most: u64) -> Options
     ensures { result ≡ options_up_to code.now n most }
 {
     Options {
-        walk: Walk {
-            code: *code,
-            heap: n,
-            most,
-            away: 0,
-            stage: Stage::Whole,
-        },
+        code: *code,
+        walk: Walk::new(n, most),
     }
 }
 
 /// The lists are exact: each option of the heap is listed, up to the order of its parts, nothing
-/// else is, and nothing twice. A list that is cut off at a smaller part of `most` has those of them
-/// whose smaller part, if there are two, is no larger. All are in the order of moves.
+/// else is, and nothing twice; what is listed is what a digit allows to stay. A list that is cut
+/// off at a smaller part of `most` has those of them whose smaller part, if there are two, is no
+/// larger. All are in the order of moves.
 pub fn options_are_exact()
     ensures each { (code : List ℕ) (n : ℕ) (H : List ℕ) → HeapOption code n H
         → (left : Left) × Contains (options_of code n) left × IsPermutation (heaps_of left) H }
     ensures only { (code : List ℕ) (n most : ℕ) (left : Left)
         → Contains (options_up_to code n most) left → HeapOption code n (heaps_of left)
         × IsInOrder left }
+    ensures listed { (code : List ℕ) (n most : ℕ) (left : Left)
+        → Contains (options_up_to code n most) left
+        ↔ (((j : ℕ) × IsLeftAt code n j left) × IsPartUpTo most left) }
     ensures cut { (code : List ℕ) (n most : ℕ) (left : Left)
         → Contains (options_up_to code n most) left
         ↔ (Contains (options_of code n) left × IsPartUpTo most left) }

@@ -8,7 +8,7 @@ ghost use Rattle.positions.specs.Options.{options_of};
 use crate::left::Left;
 use crate::position::{INLINE, Position, place_of};
 use allocation::{Memory, Room};
-use octal_code::Code;
+use octal_code::{Code, Leaving};
 
 /// A heap's size, and what a move leaves of such a heap.
 #[derive(Clone, Copy, Debug, PartialEq, Eq)]
@@ -60,7 +60,7 @@ pub fn is_option(code: &Code, n: u64, left: Left) -> bool
         Left::One(a) => code.leaves_one(n, n.saturating_sub(a)),
         Left::Two(a, b) => {
             if are_parts(n, a, b) {
-                code.has_bit(n - b - a, 4)
+                code.allows(n - b - a, Leaving::TwoHeaps)
             } else {
                 false
             }

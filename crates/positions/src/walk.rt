@@ -1,73 +1,138 @@
 //! A walk over the options of a heap.
 ghost use Rattle.std.specs.Iterator.{YieldsFirst, item_count};
-ghost use Rattle.std.specs.Prelude.{◌<◌, length};
-ghost use Rattle.positions.specs.Walks.{rest, IsTurn};
+ghost use Rattle.std.specs.Prelude.{◌≡◌, ◌+◌, ◌-◌, ◌^◌, ◌<◌, ◌≤◌, ◌↔◌, [], ◌∷◌, length, IsTrue};
+ghost use Rattle.std.specs.Option.{MatchOption};
+ghost use Rattle.positions.specs.Walks.{rest, begun, single_left, splits_to_try, after_single, after_splits, after_all, IsTurn};
 
 use crate::left::Left;
-use octal_code::Code;
+use octal_code::{Code, Leaving, is_octal_code};
 use std::marker::Model;
 
-/// What is tried next for one j: bit 1, bit 2, or bit 4 with this smaller part.
+/// What is still to be tried of the options that take the same number away.
 #[derive(Clone, Copy)]
-pub(crate) enum Stage {
-    Whole,
-    Part,
-    Parts(u64),
+pub enum Untried {
+    /// Each of them: first the one that leaves at most one heap, if there is one.
+    Everything,
+    /// The splits from this smaller part on.
+    Splits(u64),
 }
 
-/// Where a walk over the options of a heap stands: it tries to take `away`, by what is tried next.
+/// Where a walk over the options of a heap stands: the heap, the largest smaller part of a split
+/// that it tries, what is taken away, and what is untried of that.
 #[derive(Clone, Copy)]
-pub(crate) struct Walk {
-    pub(crate) code: Code,
-    pub(crate) heap: u64,
-    pub(crate) most: u64,
-    pub(crate) away: u64,
-    pub(crate) stage: Stage,
+pub struct Walk {
+    pub heap: u64,
+    pub most: u64,
+    pub away: u64,
+    pub untried: Untried,
 }
 
 impl Walk {
-    #[tactic(auto, using(crate::proofs::Stages::part_there, crate::proofs::Stages::part_not, crate::proofs::Stages::parts_off, crate::proofs::Stages::parts_over))]
-    fn turn(&mut self) -> Option<Left>
-        requires inside { self.old.away < length self.old.code }
-        requires short { self.old.away < 17 }
-        ensures { IsTurn self.old result self.new }
+    /// A walk at the first option of a heap.
+    #[inline]
+    pub fn new(heap: u64, most: u64) -> Walk
+        ensures { result ≡ begun heap most }
     {
-        match self.stage {
-            Stage::Whole => {
-                self.stage = Stage::Part;
-                if self.code.takes_all(self.heap, self.away) {
-                    Some(Left::Nothing)
-                } else {
-                    None
+        Walk {
+            heap,
+            most,
+            away: 0,
+            untried: Untried::Everything,
+        }
+    }
+
+    /// Whether more is taken away than any digit stands for: no option is left.
+    #[inline]
+    pub fn is_over(&self, code: &Code) -> bool
+        ensures { IsTrue result ↔ (length code.now ≤ self.now.away) }
+    {
+        self.away > code.last() as u64
+    }
+
+    /// The option that leaves at most one heap, if there is one; then the splits are untried.
+    #[inline]
+    #[tactic(auto, using(crate::specs::WalkLaws::single_nothing, crate::specs::WalkLaws::single_one, crate::specs::WalkLaws::single_none))]
+    pub fn take_single(&mut self, code: &Code) -> Option<Left>
+        ensures left { MatchOption result (single_left code.now self.old.heap self.old.away ≡ [])
+            (λ left. single_left code.now self.old.heap self.old.away ≡ left ∷ []) }
+        ensures walk { self.new ≡ after_single self.old }
+    {
+        self.untried = Untried::Splits(1);
+        if code.takes_all(self.heap, self.away) {
+            Some(Left::Nothing)
+        } else if code.leaves_one(self.heap, self.away) {
+            Some(Left::One(self.heap - self.away))
+        } else {
+            None
+        }
+    }
+
+    /// What stays of the heap.
+    #[inline]
+    pub fn whole(&self) -> u64
+        ensures { result ≡ self.now.heap - self.now.away }
+    {
+        self.heap.saturating_sub(self.away)
+    }
+
+    /// How many splits there are, the smaller part from `part` on.
+    #[inline]
+    pub fn splits_to_try(&self, code: &Code, part: u64) -> u64
+        ensures { result
+            ≡ splits_to_try code.now self.now.heap self.now.most self.now.away part }
+    {
+        if code.allows(self.away, Leaving::TwoHeaps) {
+            let last = (self.whole() / 2).min(self.most);
+            (last + 1).saturating_sub(part)
+        } else {
+            0
+        }
+    }
+
+    /// Passes so many splits, the smaller part from `part` on.
+    #[inline]
+    pub fn pass_splits(&mut self, part: u64, count: u64)
+        requires { part + count < 2 ^ 64 }
+        ensures { self.new ≡ after_splits self.old part count }
+    {
+        self.untried = Untried::Splits(part + count);
+    }
+
+    /// Takes one more away.
+    #[inline]
+    pub fn take_more(&mut self)
+        requires { self.old.away + 1 < 2 ^ 64 }
+        ensures { self.new ≡ after_all self.old }
+    {
+        self.away += 1;
+        self.untried = Untried::Everything;
+    }
+
+    fn turn(&mut self, code: &Code) -> Option<Left>
+        requires inside { self.old.away < length code.now }
+        requires short { self.old.away < 17 }
+        ensures { IsTurn code.now self.old result self.new }
+    {
+        match self.untried {
+            Untried::Everything => self.take_single(code),
+            Untried::Splits(part) => {
+                if self.splits_to_try(code, part) == 0 {
+                    self.take_more();
+                    return None;
                 }
-            }
-            Stage::Part => {
-                self.stage = Stage::Parts(1);
-                if self.code.leaves_one(self.heap, self.away) {
-                    Some(Left::One(self.heap - self.away))
-                } else {
-                    None
-                }
-            }
-            Stage::Parts(part) => {
-                let whole = self.heap.saturating_sub(self.away);
-                if self.code.has_bit(self.away, 4) && part <= (whole / 2).min(self.most) {
-                    self.stage = Stage::Parts(part + 1);
-                    Some(Left::Two(part, whole - part))
-                } else {
-                    self.away += 1;
-                    self.stage = Stage::Whole;
-                    None
-                }
+                let left = Left::Two(part, self.whole() - part);
+                self.pass_splits(part, 1);
+                Some(left)
             }
         }
     }
 
-    fn next(&mut self) -> Option<Left>
-        ensures { YieldsFirst rest self.old result self.new }
+    fn next(&mut self, code: &Code) -> Option<Left>
+        ensures { YieldsFirst (rest code.now) self.old result self.new }
     {
-        while self.away <= self.code.last() as u64 {
-            if let Some(left) = self.turn() {
+        is_octal_code(code);
+        while !self.is_over(code) {
+            if let Some(left) = self.turn(code) {
                 return Some(left);
             }
         }
@@ -78,6 +143,7 @@ impl Walk {
 /// The options of a heap, seen as the list of those that are still to come.
 #[derive(Drop)]
 pub struct Options {
+    pub(crate) code: Code,
     pub(crate) walk: Walk,
 }
 
@@ -89,7 +155,7 @@ impl Model for Options {
 
     ghost use Rattle.positions.specs.Walks.{rest};
 
-    ghost view = { λ o. rest o.walk };
+    ghost view = { λ o. rest o.code o.walk };
 }
 
 impl Iterator for Options {
@@ -100,6 +166,6 @@ impl Iterator for Options {
     ghost remaining = { item_count (λ left. left) };
 
     fn next(&mut self) -> Option<Left> {
-        self.walk.next()
+        self.walk.next(&self.code)
     }
 }

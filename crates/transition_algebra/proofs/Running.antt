@@ -1,30 +1,34 @@
 -- A run of turns leaves a trial that the turns reached.
 use Rattle.std.proofs.Common.{◌≡◌, ℕ, ◌+◌, ◌-◌, ◌*◌, ◌^◌, ◌<◌, ◌≤◌, ◌↔◌, ◌⊎◌, inl, inr, min, Bool, true, false, List, [], ◌∷◌, ◌++◌, length, refl, sym, ◌∙◌, ap, ap₂, subst, arith, append_assoc}
-use Rattle.std.specs.Prelude.{if◌then◌else◌, not, eqb, bit_and, Result, Ok, Err, OnErr}
+use Rattle.std.specs.Prelude.{IsTrue, if◌then◌else◌, Result, Ok, Err, OnErr}
 use Rattle.std.specs.List.{All, flat_map, range_with_len}
 use Rattle.std.specs.FinSet as set
 use Rattle.std.specs.Ordering.{nat_cmp}
-use Rattle.std.proofs.lemmas.List.{length-append, get_or_past}
+use Rattle.std.proofs.lemmas.List.{length-append}
 use Rattle.std.proofs.lemmas.List.Elements.{All-get_or, All-from_get_or}
 use Rattle.std.proofs.lemmas.List.FromFn.{length-map-range_with_len}
 use native.Mathlib.Decide.{dec_le}
 use Rattle.misere_theory.specs.Games.{IsOctalCode}
 use Rattle.misere_theory.specs.Quotients.{Monoid}
 use Rattle.monoid_table.specs.Grids.{Grid, times_in}
-use Rattle.octal_code.specs.Bits.{has_bit}
+use Rattle.octal_code.specs.Bits.{allows}
+use Rattle.octal_code.specs.declared.leaving.Leaving.TheVariants.{TwoHeaps}
 use Rattle.positions.specs.Options.{options_at, splits}
+use Rattle.positions.specs.Walks.{single_left, options_from, last_part, splits_from, left_at, begun, stages, stages_left}
+use Rattle.positions.specs.WalkLaws.{single_then_splits, splits_off, splits_over, splits_first, no_bit, none_untried}
 use Rattle.positions.specs.declared.left.Left.{Left}
 use Rattle.positions.specs.declared.left.Left.TheVariants.{Two}
+use Rattle.positions.specs.declared.walk.Untried.{Untried}
+use Rattle.positions.specs.declared.walk.Untried.TheVariants.{Everything, Splits}
+use Rattle.positions.specs.declared.walk.Walk.{Walk}
 use Rattle.transition_algebra.specs.Pretending.{Pretending, IsPretending, phi_at}
 use Rattle.transition_algebra.specs.Pairs.{IsPair, one}
 use Rattle.transition_algebra.specs.Heaps.{IsInto, bound_of, largest_part, left_value}
 use Rattle.transition_algebra.specs.Work.{tries, opening, turns, heap_cost, HeapWork, IsDone, worked}
-use Rattle.transition_algebra.specs.Trials.{single_left, taking_from, last_part, splits_from, coming_at, HaveElements, split_value, with_values, seen_at, with_left, after_single, after_splits, after_all, after_heap, IsStage, trying_of, IsTrial, stages, stages_left, IsRun}
+use Rattle.transition_algebra.specs.Trials.{HaveElements, split_value, with_values, seen_at, with_left, after_single, after_splits, after_all, after_heap, IsUntried, trying_of, IsTrial, IsRun}
 use Rattle.transition_algebra.specs.declared.pair.Pair.{Pair}
-use Rattle.transition_algebra.specs.declared.trial.Stage.{Stage}
-use Rattle.transition_algebra.specs.declared.trial.Stage.TheVariants.{Single, Splits}
 use Rattle.transition_algebra.specs.declared.trial.Trial.{Trial}
-use Rattle.transition_algebra.proofs.Coming.{single_then_splits, none_past, splits_off, splits_over, splits_first, values_none, values_add, values_beside}
+use Rattle.transition_algebra.proofs.Coming.{values_none, values_add, values_beside}
 use Rattle.transition_algebra.proofs.Cost.{left_after, cost_short}
 use Rattle.transition_algebra.proofs.Steps.{AreFirstHeapPairs}
 use Rattle.transition_algebra.proofs.Turning.{Standing, stands, left, left_some, left_over, turns-add, no_turn, one_turn, closing_turn, split_turns}
@@ -37,11 +41,11 @@ two_digits (d ∷ ds) h = let a = h.1 in let b = h.2 in (omega arith, omega arit
 -- what the next turn needs
 pub record Ready (code : List ℕ) (table : Grid) (phi : Pretending) (t : Trial) (pairs : List Pair) :
     Type 0 where
-  pub from_one : 1 ≤ t.heap
-  pub at_most : t.heap ≤ bound_of code phi + 1
-  pub small : t.spent + t.heap < 2 ^ 32
+  pub from_one : 1 ≤ t.walk.heap
+  pub at_most : t.walk.heap ≤ bound_of code phi + 1
+  pub small : t.spent + t.walk.heap < 2 ^ 32
   pub elements : All (λ p. p.value < table.order) pairs
-  pub length_is : length pairs + 1 ≡ t.heap
+  pub length_is : length pairs + 1 ≡ t.walk.heap
   pub values : HaveElements phi pairs
 
 square_small : (L B : ℕ) → L ≤ 17 → B ≤ 2066 → L * (B * B) ≤ 72563492
@@ -65,7 +69,7 @@ module _ (code : List ℕ) (table : Grid) (monoid : Monoid table.order (times_in
         let made = s.made c (agrees_itself table phi) in
         let agrees = agrees_itself table phi in
         let k = two_digits code octal in
-        let len : length pairs ≡ t.heap - 1 = made.length_is in
+        let len : length pairs ≡ t.walk.heap - 1 = made.length_is in
         let one_up = s.from_one in
         record {
           from_one = s.from_one;
@@ -80,7 +84,7 @@ module _ (code : List ℕ) (table : Grid) (monoid : Monoid table.order (times_in
               All-from_get_or (λ p. p.value < table.order) pairs one
               (λ i l.
               (All-get_or (IsPair table.order) pairs i one l
-              (all_in table monoid phi into code (t.heap - 1) pairs s.made)).value);
+              (all_in table monoid phi into code (t.walk.heap - 1) pairs s.made)).value);
           length_is = omega arith;
           values = λ b f l.
               let i : b - 1 < length pairs = omega arith in
@@ -89,22 +93,28 @@ module _ (code : List ℕ) (table : Grid) (monoid : Monoid table.order (times_in
               ∙ ap (phi_at phi) e;
         }
 
-no_bit : (code : List ℕ) (j : ℕ) → length code ≤ j → has_bit code j 4 ≡ false
-no_bit code j l = ap (λ d. not (eqb (bit_and d 4) 0)) (get_or_past code j 0 l)
-
-no_splits : (code : List ℕ) (n most j a : ℕ) → (has_bit code j 4 ≡ true → last_part n most j < a)
+no_splits : (code : List ℕ) (n most j a : ℕ)
+    → (allows code j TwoHeaps ≡ true → last_part n most j < a)
     → splits_from code n most j a ≡ []
-no_splits code n most j a over = by_bit (has_bit code j 4) refl
+no_splits code n most j a over = by_bit (allows code j TwoHeaps) refl
   where
-    by_bit : (b : Bool) → has_bit code j 4 ≡ b → splits_from code n most j a ≡ []
+    by_bit : (b : Bool) → allows code j TwoHeaps ≡ b → splits_from code n most j a ≡ []
     by_bit true e = splits_over code n most j a (over e)
     by_bit false e = splits_off code n most j a e
+
+-- a walk that isn't over takes away what some digit stands for
+pub not_over : {n j : ℕ} (over : Bool) → (IsTrue over ↔ (n ≤ j)) → over ≡ false → j < n
+not_over {n} {j} over h e = elim (dec_le n j) [
+  | yes l ↦ absurd (let f = sym (h.1 l) ∙ e in cc)
+  | no l ↦ omega arith
+]
 
 module _ (code : List ℕ) (table : Grid) (phi : Pretending) where
   -- the turns that a trial may still make
   pub room : (t : Trial) (pairs : List Pair) → IsTrial code table phi t pairs
-      → t.heap ≤ bound_of code phi
-      → t.spent + length (coming_at code t.heap (largest_part phi) t.away t.stage) + 1
+      → t.walk.heap ≤ bound_of code phi
+      → t.spent + length (left_at code t.walk.heap (largest_part phi) t.walk.away t.walk.untried)
+      + 1
       ≤ heap_cost code phi
   room t pairs is l =
       let a = left_some code table phi (trying_of code table phi t pairs) l in
@@ -113,7 +123,7 @@ module _ (code : List ℕ) (table : Grid) (phi : Pretending) where
 
   -- past the bound all turns were made
   pub all_spent : (t : Trial) (pairs : List Pair) → IsTrial code table phi t pairs
-      → bound_of code phi < t.heap → t.spent ≡ heap_cost code phi
+      → bound_of code phi < t.walk.heap → t.spent ≡ heap_cost code phi
   all_spent t pairs is l =
       let a = left_over code table phi (trying_of code table phi t pairs) l in
       let b = ap (left code phi) is.reached ∙ left_after code table phi t.spent in
@@ -121,18 +131,18 @@ module _ (code : List ℕ) (table : Grid) (phi : Pretending) where
       omega arith
 
   moved_on : (s t : Trial) (ps qs : List Pair) (n : ℕ) → IsTrial code table phi s ps
-      → s.heap ≤ bound_of code phi
+      → s.walk.heap ≤ bound_of code phi
       → trying_of code table phi t qs ≡ turns code table phi n (trying_of code table phi s ps)
       → t.spent ≡ s.spent + n
-      → n ≤ length (coming_at code s.heap (largest_part phi) s.away s.stage) + 1
-      → t.bound ≡ s.bound → t.most ≡ s.most → t.away ≤ length code
-      → IsStage code t.heap (largest_part phi) t.away t.stage
+      → n ≤ length (left_at code s.walk.heap (largest_part phi) s.walk.away s.walk.untried) + 1
+      → t.bound ≡ s.bound → t.walk.most ≡ s.walk.most → t.walk.away ≤ length code
+      → IsUntried code t.walk.heap (largest_part phi) t.walk.away t.walk.untried
       → IsTrial code table phi t qs
   moved_on s t ps qs n is going e spent few bound most away stage = record {
     bound_is = bound ∙ is.bound_is;
     most_is = most ∙ is.most_is;
     away_in = away;
-    stage_in = stage;
+    untried_in = stage;
     within = let r = room s ps is going in omega arith;
     reached = e ∙ ap (turns code table phi n) is.reached
         ∙ sym (turns-add code table phi s.spent n (opening code phi))
@@ -156,38 +166,43 @@ module _ (code : List ℕ) (table : Grid) (phi : Pretending) where
   single_turns n seen pairs (x ∷ y ∷ xs) coming rest l short e = absurd (omega arith)
 
   pub run_single : (s t : Trial) (ps : List Pair) (units r : ℕ) → IsTrial code table phi s ps
-      → s.heap ≤ bound_of code phi → s.away < length code → s.stage ≡ Single → 1 ≤ units
-      → length (single_left code s.heap s.away) ≤ 1
-      → r ≡ length (single_left code s.heap s.away)
+      → s.walk.heap ≤ bound_of code phi → s.walk.away < length code → s.walk.untried ≡ Everything
+      → 1 ≤ units
+      → length (single_left code s.walk.heap s.walk.away) ≤ 1
+      → r ≡ length (single_left code s.walk.heap s.walk.away)
       → t ≡ after_single code table phi s
       → IsRun code table phi s t ps units r
   unfolding with_values with_left
   run_single s t ps units r is going inside stage some short count after =
       let most = largest_part phi in
-      let xs = single_left code s.heap s.away in
-      let rest = splits_from code s.heap most s.away 1 ++ taking_from code s.heap most (s.away + 1)
+      let xs = single_left code s.walk.heap s.walk.away in
+      let rest = splits_from code s.walk.heap most s.walk.away 1
+      ++ options_from code s.walk.heap most (s.walk.away + 1)
       in
-      let coming : coming_at code s.heap most s.away s.stage ≡ xs ++ rest =
-      ap (coming_at code s.heap most s.away) stage ∙ single_then_splits code s.heap most s.away
+      let coming : left_at code s.walk.heap most s.walk.away s.walk.untried ≡ xs ++ rest =
+      ap (left_at code s.walk.heap most s.walk.away) stage
+      ∙ single_then_splits code s.walk.heap most s.walk.away
       inside in
-      let few : length xs ≤ length (coming_at code s.heap most s.away s.stage) + 1 = let e =
+      let few : length xs ≤ length (left_at code s.walk.heap most s.walk.away s.walk.untried) + 1 =
+      let e =
       ap length coming ∙ length-append xs rest in omega arith in
       let from : record {
-        heap = s.heap;
-        coming = coming_at code s.heap most s.away s.stage;
+        heap = s.walk.heap;
+        coming = left_at code s.walk.heap most s.walk.away s.walk.untried;
         seen = s.seen;
         pairs = ps;
       } ≡ trying_of code table phi s ps =
       ap (λ v. record {
-        heap = s.heap;
-        coming = coming_at code s.heap most s.away s.stage;
+        heap = s.walk.heap;
+        coming = left_at code s.walk.heap most s.walk.away s.walk.untried;
         seen = v;
         pairs = ps;
-      }) (sym (ap (seen_at table phi (s.heap - s.away) s.seen) stage)) in
+      }) (sym (ap (seen_at table phi (s.walk.heap - s.walk.away) s.seen) stage)) in
       let u = after_single code table phi s in
       let moved : IsTrial code table phi u ps =
       moved_on s u ps ps (length xs) is going
-      (single_turns s.heap s.seen ps xs (coming_at code s.heap most s.away s.stage) rest going
+      (single_turns s.walk.heap s.seen ps xs
+      (left_at code s.walk.heap most s.walk.away s.walk.untried) rest going
       short coming ∙ ap (turns code table phi (length xs)) from) refl few refl refl
       (omega arith) (omega arith, λ two. absurd (omega arith)) in
       subst (λ v. IsRun code table phi s v ps units r) (sym after)
@@ -226,27 +241,30 @@ module _ (code : List ℕ) (table : Grid) (phi : Pretending) where
       ∙ sym (values_none (split_value table phi whole) seen 1 (a - 1) n)
 
   pub run_none : (s t : Trial) (ps : List Pair) (units r a : ℕ) → IsTrial code table phi s ps
-      → s.heap ≤ bound_of code phi → s.away < length code → s.stage ≡ Splits a
+      → s.walk.heap ≤ bound_of code phi → s.walk.away < length code → s.walk.untried ≡ Splits a
       → r ≡ 0
-      → (has_bit code s.away 4 ≡ true → last_part s.heap s.most s.away < a)
+      → (allows code s.walk.away TwoHeaps ≡ true → last_part s.walk.heap s.walk.most s.walk.away
+      < a)
       → t ≡ after_all code table phi s
       → IsRun code table phi s t ps units r
   run_none s t ps units r a is going inside stage count over after =
       let most = largest_part phi in
-      let rest = taking_from code s.heap most (s.away + 1) in
-      let past : has_bit code s.away 4 ≡ true → last_part s.heap most s.away < a =
-      λ e. subst (λ m. last_part s.heap m s.away < a) is.most_is (over e) in
-      let coming : coming_at code s.heap most s.away s.stage ≡ rest =
-      ap (coming_at code s.heap most s.away) stage
-      ∙ ap (λ xs. xs ++ rest) (no_splits code s.heap most s.away a past) in
-      let at = subst (IsStage code s.heap most s.away) stage is.stage_in in
+      let rest = options_from code s.walk.heap most (s.walk.away + 1) in
+      let past : allows code s.walk.away TwoHeaps ≡ true
+      → last_part s.walk.heap most s.walk.away < a =
+      λ e. subst (λ m. last_part s.walk.heap m s.walk.away < a) is.most_is (over e) in
+      let coming : left_at code s.walk.heap most s.walk.away s.walk.untried ≡ rest =
+      ap (left_at code s.walk.heap most s.walk.away) stage
+      ∙ ap (λ xs. xs ++ rest) (no_splits code s.walk.heap most s.walk.away a past) in
+      let at = subst (IsUntried code s.walk.heap most s.walk.away) stage is.untried_in in
       let u = after_all code table phi s in
-      let seen : u.seen ≡ seen_at table phi (s.heap - s.away) s.seen s.stage =
-      taken (s.heap - s.away) (last_part s.heap most s.away) a s.seen (has_bit code s.away 4)
-      (has_bit code s.away 4) refl at.0 at.1 past
-      ∙ sym (ap (seen_at table phi (s.heap - s.away) s.seen) stage) in
+      let seen : u.seen ≡ seen_at table phi (s.walk.heap - s.walk.away) s.seen s.walk.untried =
+      taken (s.walk.heap - s.walk.away) (last_part s.walk.heap most s.walk.away) a s.seen
+      (allows code s.walk.away TwoHeaps)
+      (allows code s.walk.away TwoHeaps) refl at.0 at.1 past
+      ∙ sym (ap (seen_at table phi (s.walk.heap - s.walk.away) s.seen) stage) in
       let same : trying_of code table phi u ps ≡ trying_of code table phi s ps =
-      ap₂ (λ xs v. record { heap = s.heap; coming = xs; seen = v; pairs = ps }) (sym coming)
+      ap₂ (λ xs v. record { heap = s.walk.heap; coming = xs; seen = v; pairs = ps }) (sym coming)
       seen in
       let here : s.spent ≡ s.spent + 0 = omega arith in
       let moved : IsTrial code table phi u ps =
@@ -263,46 +281,50 @@ module _ (code : List ℕ) (table : Grid) (phi : Pretending) where
       }))
 
   pub run_splits : (s t : Trial) (ps : List Pair) (units r a : ℕ) → IsTrial code table phi s ps
-      → s.heap ≤ bound_of code phi → s.away < length code → s.stage ≡ Splits a
+      → s.walk.heap ≤ bound_of code phi → s.walk.away < length code → s.walk.untried ≡ Splits a
       → 1 ≤ r → r ≤ units
-      → has_bit code s.away 4 ≡ true
-      → a + r ≤ last_part s.heap s.most s.away + 1
+      → allows code s.walk.away TwoHeaps ≡ true
+      → a + r ≤ last_part s.walk.heap s.walk.most s.walk.away + 1
       → t ≡ after_splits s a r
       → IsRun code table phi s t ps units r
   run_splits s t ps units r a is going inside stage some few bit room_for after =
       let most = largest_part phi in
-      let whole = s.heap - s.away in
+      let whole = s.walk.heap - s.walk.away in
       let f = split_value table phi whole in
-      let one_up : 1 ≤ a = (subst (IsStage code s.heap most s.away) stage is.stage_in).0 in
-      let fits : a + r ≤ last_part s.heap most s.away + 1 =
-      subst (λ v. a + r ≤ last_part s.heap v s.away + 1) is.most_is room_for in
-      let rest = splits_from code s.heap most s.away (a + r)
-      ++ taking_from code s.heap most (s.away + 1) in
-      let coming : coming_at code s.heap most s.away s.stage ≡ splits whole a r ++ rest =
-      ap (coming_at code s.heap most s.away) stage
-      ∙ ap (λ xs. xs ++ taking_from code s.heap most (s.away + 1))
-      (splits_first code s.heap most s.away a r bit fits)
-      ∙ append_assoc (splits whole a r) (splits_from code s.heap most s.away (a + r))
-      (taking_from code s.heap most (s.away + 1)) in
-      let long : r ≤ length (coming_at code s.heap most s.away s.stage) + 1 =
+      let one_up : 1 ≤ a =
+      (subst (IsUntried code s.walk.heap most s.walk.away) stage is.untried_in).0 in
+      let fits : a + r ≤ last_part s.walk.heap most s.walk.away + 1 =
+      subst (λ v. a + r ≤ last_part s.walk.heap v s.walk.away + 1) is.most_is room_for in
+      let rest = splits_from code s.walk.heap most s.walk.away (a + r)
+      ++ options_from code s.walk.heap most (s.walk.away + 1) in
+      let coming : left_at code s.walk.heap most s.walk.away s.walk.untried ≡ splits whole a r
+      ++ rest =
+      ap (left_at code s.walk.heap most s.walk.away) stage
+      ∙ ap (λ xs. xs ++ options_from code s.walk.heap most (s.walk.away + 1))
+      (splits_first code s.walk.heap most s.walk.away a r bit fits)
+      ∙ append_assoc (splits whole a r) (splits_from code s.walk.heap most s.walk.away (a + r))
+      (options_from code s.walk.heap most (s.walk.away + 1)) in
+      let long : r ≤ length (left_at code s.walk.heap most s.walk.away s.walk.untried) + 1 =
       let e = ap length coming ∙ length-append (splits whole a r) rest in
       let d = length-map-range_with_len (λ x. Two x (whole - x)) a r in
       omega arith in
       let u = after_splits s a r in
       let seen : seen_at table phi whole s.seen (Splits (a + r))
       ≡ with_values f (with_values f s.seen 1 (a - 1)) a r = values_add f s.seen a r one_up in
-      let from : seen_at table phi whole s.seen s.stage ≡ with_values f s.seen 1 (a - 1) =
+      let from : seen_at table phi whole s.seen s.walk.untried ≡ with_values f s.seen 1 (a - 1) =
       ap (seen_at table phi whole s.seen) stage in
-      let turned = split_turns code table phi f whole r a s.heap (with_values f s.seen 1 (a - 1)) ps
-      (coming_at code s.heap most s.away s.stage) rest going coming (λ b p q. refl) in
+      let turned =
+      split_turns code table phi f whole r a s.walk.heap (with_values f s.seen 1 (a - 1)) ps
+      (left_at code s.walk.heap most s.walk.away s.walk.untried) rest going coming (λ b p q. refl)
+      in
       let reached : trying_of code table phi u ps
       ≡ turns code table phi r (trying_of code table phi s ps) =
-      ap (λ v. record { heap = s.heap; coming = rest; seen = v; pairs = ps }) seen ∙ turned
+      ap (λ v. record { heap = s.walk.heap; coming = rest; seen = v; pairs = ps }) seen ∙ turned
       ∙ ap (λ v.
       turns code table phi r
       (record {
-        heap = s.heap;
-        coming = coming_at code s.heap most s.away s.stage;
+        heap = s.walk.heap;
+        coming = left_at code s.walk.heap most s.walk.away s.walk.untried;
         seen = v;
         pairs = ps;
       })) (sym from) in
@@ -317,34 +339,26 @@ module _ (code : List ℕ) (table : Grid) (phi : Pretending) where
         heap = omega arith;
       })
 
-  none_coming : (n most j : ℕ) (stage : Stage) → length code ≤ j
-      → coming_at code n most j stage ≡ []
-  none_coming n most j Single l = none_past code n most j l
-  none_coming n most j (Splits a) l =
-      let bit : has_bit code j 4 ≡ false = no_bit code j l in
-      ap (λ xs. xs ++ taking_from code n most (j + 1)) (splits_off code n most j a bit)
-      ∙ none_past code n most (j + 1) (omega arith)
-
   -- past the last digit no splits are in hand
-  none_beside : (n most j : ℕ) (seen : set.FinSet nat_cmp) (stage : Stage) → length code ≤ j
-      → IsStage code n most j stage → seen_at table phi (n - j) seen stage ≡ seen
-  none_beside n most j seen Single l is = refl
+  none_beside : (n most j : ℕ) (seen : set.FinSet nat_cmp) (stage : Untried) → length code ≤ j
+      → IsUntried code n most j stage → seen_at table phi (n - j) seen stage ≡ seen
+  none_beside n most j seen Everything l is = refl
   none_beside n most j seen (Splits a) l is =
-      let bit : has_bit code j 4 ≡ false = no_bit code j l in
+      let bit : allows code j TwoHeaps ≡ false = no_bit code j l in
       values_none (split_value table phi (n - j)) seen 1 (a - 1) (elim (dec_le 2 a) [
         | yes two ↦ absurd (let f = sym bit ∙ (is.1 two).0 in cc)
         | no few ↦ omega arith
       ])
 
-  pub all_to_come : (n : ℕ) → taking_from code n (largest_part phi) 0 ≡ tries code phi n
+  pub all_to_come : (n : ℕ) → options_from code n (largest_part phi) 0 ≡ tries code phi n
   all_to_come n = let e : length code - 0 ≡ length code = omega arith in
       ap (λ k. flat_map (options_at code n (largest_part phi)) (range_with_len 0 k)) e
 
   pub run_close : (s t : Trial) (ps qs : List Pair) (units r v : ℕ) → IsTrial code table phi s ps
-      → s.heap ≤ bound_of code phi → length code ≤ s.away → 1 ≤ units
+      → s.walk.heap ≤ bound_of code phi → length code ≤ s.walk.away → 1 ≤ units
       → r ≡ 1
       → t ≡ after_heap s
-      → v ≡ phi_at phi s.heap
+      → v ≡ phi_at phi s.walk.heap
       → qs ≡ ps ++ (record { value = v; options = s.seen } ∷ [])
       → IsRun code table phi s t qs units r
   run_close s t ps qs units r v is going past some count after value more =
@@ -352,12 +366,12 @@ module _ (code : List ℕ) (table : Grid) (phi : Pretending) where
       let u = after_heap s in
       let next : trying_of code table phi u qs
       ≡ turns code table phi 1 (trying_of code table phi s ps) =
-      ap (λ xs. record { heap = s.heap + 1; coming = xs; seen = set.empty; pairs = qs })
-      (all_to_come (s.heap + 1))
+      ap (λ xs. record { heap = s.walk.heap + 1; coming = xs; seen = set.empty; pairs = qs })
+      (all_to_come (s.walk.heap + 1))
       ∙ closing_turn code table phi (trying_of code table phi s ps) v qs going
-      (none_coming s.heap most s.away s.stage past) value
+      (none_untried code s.walk.heap most s.walk.away s.walk.untried past) value
       (more ∙ ap (λ w. ps ++ (record { value = v; options = w } ∷ []))
-      (sym (none_beside s.heap most s.away s.seen s.stage past is.stage_in))) in
+      (sym (none_beside s.walk.heap most s.walk.away s.seen s.walk.untried past is.untried_in))) in
       let moved : IsTrial code table phi u qs =
       moved_on s u ps qs 1 is going next refl (omega arith) refl refl (omega arith) tt in
       subst (λ w. IsRun code table phi s w qs units r) (sym after)
@@ -371,11 +385,11 @@ module _ (code : List ℕ) (table : Grid) (phi : Pretending) where
 
 -- all turns were made exactly where no heap is left
 pub done_over : (code : List ℕ) (table : Grid) (phi : Pretending) (t : Trial) (pairs : List Pair)
-    → IsTrial code table phi t pairs → (t.bound < t.heap) ↔ (t.spent ≡ heap_cost code phi)
+    → IsTrial code table phi t pairs → (t.bound < t.walk.heap) ↔ (t.spent ≡ heap_cost code phi)
 done_over code table phi t pairs is =
     let b = is.bound_is in (
       λ l. all_spent code table phi t pairs is (omega arith),
-      λ e. elim (dec_le t.heap (bound_of code phi)) [
+      λ e. elim (dec_le t.walk.heap (bound_of code phi)) [
         | no h ↦ omega arith
         | yes h ↦ absurd (let r = room code table phi t pairs is h in omega arith)
       ],
@@ -389,7 +403,8 @@ pub finished : (code : List ℕ) (table : Grid) → Monoid table.order (times_in
 finished code table monoid phi pretending into t pairs is done =
     let s = stands_now code table monoid phi pretending into t pairs is in
     let over = (done_over code table phi t pairs is).1 done in
-    let e : t.heap - 1 ≡ bound_of code phi = let a = s.at_most in let b = is.bound_is in omega arith
+    let e : t.walk.heap - 1 ≡ bound_of code phi = let a = s.at_most in let b = is.bound_is in
+    omega arith
     in
     subst (λ B. AreFirstHeapPairs code table phi B pairs) e s.made
 
@@ -405,22 +420,23 @@ all_units code phi a s octal pretending e =
     omega arith
 
 -- nothing tried yet
-pub new_trial : (code : List ℕ) (table : Grid) (phi : Pretending) (b m : ℕ)
-    (seen : set.FinSet nat_cmp) → b ≡ bound_of code phi → m ≡ largest_part phi → seen ≡ set.empty
-    → IsTrial code table phi
-    (record { bound = b; most = m; heap = 1; away = 0; stage = Single; seen = seen; spent = 0 })
-    []
-new_trial code table phi b m seen bound most none = record {
-  bound_is = bound;
-  most_is = most;
-  away_in = omega arith;
-  stage_in = tt;
-  within = omega arith;
-  reached =
-      ap₂ (λ xs s. record { heap = 1; coming = xs; seen = s; pairs = [] })
-      (all_to_come code table phi 1) none
-      ∙ no_turn code table phi (opening code phi);
-}
+pub new_trial : (code : List ℕ) (table : Grid) (phi : Pretending) (b m : ℕ) (w : Walk)
+    (seen : set.FinSet nat_cmp) → b ≡ bound_of code phi → m ≡ largest_part phi → w ≡ begun 1 m
+    → seen ≡ set.empty
+    → IsTrial code table phi (record { bound = b; walk = w; seen = seen; spent = 0 }) []
+new_trial code table phi b m w seen bound most at_first none =
+    subst (λ v. IsTrial code table phi (record { bound = b; walk = v; seen = seen; spent = 0 }) [])
+    (sym at_first) (record {
+      bound_is = bound;
+      most_is = most;
+      away_in = omega arith;
+      untried_in = tt;
+      within = omega arith;
+      reached =
+          ap₂ (λ xs s. record { heap = 1; coming = xs; seen = s; pairs = [] })
+          (all_to_come code table phi 1) none
+          ∙ no_turn code table phi (opening code phi);
+    })
 
 -- a turn costs at least what the measure of stages gains
 pub measure_falls : (L n r a s t : ℕ) → L ≤ 17 → r ≤ n → s ≤ 2 * L + 1 → t ≤ 2 * L + 1
@@ -430,11 +446,11 @@ measure_falls L n r a s t l few top top2 falls e = elim falls [
   | inr less ↦ omega arith
 ]
 
-pub stages_few : (code : List ℕ) (t : Trial) → stages_left code t ≤ 2 * length code + 1
-stages_few code t = few t.stage
+pub stages_few : (code : List ℕ) (t : Trial) → stages_left code t.walk ≤ 2 * length code + 1
+stages_few code t = few t.walk.untried
   where
-    few : (stage : Stage) → 2 * (length code - t.away) + stages stage ≤ 2 * length code + 1
-    few Single = omega arith
+    few : (stage : Untried) → 2 * (length code - t.walk.away) + stages stage ≤ 2 * length code + 1
+    few Everything = omega arith
     few (Splits a) = omega arith
 
 -- what holds anyway holds on an error

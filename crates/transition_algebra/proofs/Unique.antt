@@ -10,8 +10,8 @@ use Rattle.misere_theory.specs.Quotients.{Claim, Monoid, HeapOptionValue}
 use Rattle.positions.specs.Options.{options_of}
 use Rattle.positions.specs.Exact.{heaps_of}
 use Rattle.positions.specs.declared.left.Left.{Left}
-use Rattle.positions.proofs.Listed.{nothing_in, only_in, itself_in}
-use Rattle.positions.proofs.Exact.{of_options, only, cut}
+use Rattle.positions.specs.ListLaws.{nothing_in, only_in, itself_in}
+use Rattle.positions.specs.OptionLaws.{of_options, only, cut}
 use Rattle.monoid_table.specs.Grids.{Grid, times_in}
 use Rattle.transition_algebra.specs.Pretending.{Pretending, IsPretending}
 use Rattle.transition_algebra.specs.Heaps.{Agrees, IsInto, IsHeapPair, IsHeapPairs, AreAllHeapPairs, bound_of, largest_part, left_value, heap_pair, all_heap_pairs}

@@ -11,7 +11,7 @@ use crate::trial::Trial;
 use crate::wholes::Wholes;
 use allocation::Memory;
 use monoid_table::{Table, is_monoid};
-use octal_code::Code;
+use octal_code::{Code, is_octal_code};
 use positions::Left;
 use std::alloc::Allocator;
 
@@ -67,7 +67,7 @@ pub fn heap_pairs<A: Allocator + Copy>(
 {
     is_monoid(table);
     is_pretending(phi);
-    let _last = code.last();
+    is_octal_code(code);
     let mut trial = Trial::new(code, phi);
     let mut pairs = Vec::new(alloc);
     let mut wholes = Wholes::new(alloc);

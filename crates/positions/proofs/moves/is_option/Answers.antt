@@ -13,7 +13,7 @@ returns-in-One c =
 pub returns-then-are_parts : goal.returns-then-are_parts
 returns-then-are_parts c =
     let (p, o, l) = c.are_parts.ensures.0 c.if-are_parts.true in
-    rw (c.in-Two.is, c.has_bit.ensures.value)
+    rw (c.in-Two.is, c.allows.ensures.value)
     (two_allowed c.args.code.now c.args.n c.in-Two.a c.in-Two.b p o l)
 
 pub returns-else-are_parts : goal.returns-else-are_parts

@@ -1,5 +1,5 @@
 use Rattle.std.proofs.Common.{length, refl, arith}
-use Rattle.transition_algebra.specs.Trials.{stages_left}
+use Rattle.positions.specs.Walks.{stages_left}
 use Rattle.transition_algebra.proofs.Running.{two_digits, room, measure_falls, stages_few}
 use Rattle.transition_algebra.proofs.trial.Trial.go_on.Goals as goal
 
@@ -7,9 +7,9 @@ pub loop-left-smaller : goal.loop-left-smaller
 loop-left-smaller g c =
     let code = c.args.code.now in
     let r = c.in_ok-left.ensures.ok in
-    let two = two_digits code c.last-last.ensures.code in
+    let two = two_digits code c.is_octal_code.ensures.code in
     measure_falls (length code) c.loop-left.left c.in_ok-left.field-0 _
-    (stages_left code c.loop-left.self) (stages_left code c.run.new.self)
+    (stages_left code c.loop-left.self.walk) (stages_left code c.run.new.self.walk)
     two.1 r.at_most (stages_few code c.loop-left.self) (stages_few code c.run.new.self) r.falls refl
 
 pub loop-left-preserved : goal.loop-left-preserved

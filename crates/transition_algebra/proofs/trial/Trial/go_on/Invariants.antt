@@ -1,6 +1,7 @@
 use Rattle.std.proofs.Common.{◌≡◌, ◌+◌, ◌*◌, ◌<◌, ◌≤◌}
 use Rattle.transition_algebra.specs.Work.{heap_cost}
-use Rattle.transition_algebra.specs.Trials.{IsTrial, AreWholes, stages_left}
+use Rattle.positions.specs.Walks.{stages_left}
+use Rattle.transition_algebra.specs.Trials.{IsTrial, AreWholes}
 use Rattle.transition_algebra.proofs.trial.Trial.go_on.Given as goal
 
 abbrev pub invariant-loop-left : goal.invariant-loop-left
@@ -11,4 +12,4 @@ invariant-loop-left g l =
     × (l.initial.self.spent < heap_cost l.code l.phi → l.self.spent < heap_cost l.code l.phi)
 
 abbrev pub decreases-loop-left : goal.decreases-loop-left
-decreases-loop-left g l = 40 * l.left + stages_left l.code l.self
+decreases-loop-left g l = 40 * l.left + stages_left l.code l.self.walk

@@ -1,6 +1,6 @@
 use Rattle.std.proofs.Common.{◌<◌, ◌≤◌, length, refl, ap, arith}
 use Rattle.transition_algebra.specs.Heaps.{bound_of}
-use Rattle.transition_algebra.specs.Trials.{stages_left}
+use Rattle.positions.specs.Walks.{stages_left}
 use Rattle.transition_algebra.proofs.Running.{two_digits, room, all_spent, measure_falls, stages_few, on_err}
 use Rattle.transition_algebra.proofs.trial.Trial.work.Goals as goal
 
@@ -8,9 +8,9 @@ pub loop-left-smaller : goal.loop-left-smaller
 loop-left-smaller g c =
     let code = c.args.code.now in
     let r = c.in_ok-left.ensures.ok in
-    let two = two_digits code c.last-last.ensures.code in
+    let two = two_digits code c.is_octal_code.ensures.code in
     measure_falls (length code) c.loop-left.left c.in_ok-left.field-0 _
-    (stages_left code c.loop-left.self) (stages_left code c.run.new.self)
+    (stages_left code c.loop-left.self.walk) (stages_left code c.run.new.self.walk)
     two.1 r.at_most (stages_few code c.loop-left.self) (stages_few code c.run.new.self) r.falls refl
 
 pub returns-in_err-left-clause-err : goal.returns-in_err-left-clause-err
@@ -19,7 +19,7 @@ returns-in_err-left-clause-err g c =
     let sum = c.loop-left.invariant.1 in
     let few = c.loop-left.invariant.2 in
     let some = c.loop-left-test.true in
-    let going : c.loop-left.self.heap ≤ bound_of c.args.code.now c.args.phi.now = let a =
+    let going : c.loop-left.self.walk.heap ≤ bound_of c.args.code.now c.args.phi.now = let a =
     c.if-self.true in let b = c.loop-left.invariant.0.bound_is in omega arith in
     let behind =
     room c.args.code.now c.args.table.now c.args.phi.now c.loop-left.self
@@ -28,7 +28,7 @@ returns-in_err-left-clause-err g c =
 
 pub returns-else-self-clause-ok : goal.returns-else-self-clause-ok
 returns-else-self-clause-ok g c =
-    let over : bound_of c.args.code.now c.args.phi.now < c.loop-left.self.heap = let a =
+    let over : bound_of c.args.code.now c.args.phi.now < c.loop-left.self.walk.heap = let a =
     c.if-self.false in let b = c.loop-left.invariant.0.bound_is in omega arith in
     let all =
     all_spent c.args.code.now c.args.table.now c.args.phi.now c.loop-left.self

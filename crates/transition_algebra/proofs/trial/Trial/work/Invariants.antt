@@ -1,5 +1,6 @@
 use Rattle.std.proofs.Common.{◌≡◌, ◌+◌, ◌*◌, ◌≤◌}
-use Rattle.transition_algebra.specs.Trials.{IsTrial, AreWholes, stages_left}
+use Rattle.positions.specs.Walks.{stages_left}
+use Rattle.transition_algebra.specs.Trials.{IsTrial, AreWholes}
 use Rattle.transition_algebra.proofs.trial.Trial.work.Given as goal
 
 abbrev pub invariant-loop-left : goal.invariant-loop-left
@@ -8,4 +9,4 @@ invariant-loop-left g l = IsTrial l.code l.table l.phi l.self l.pairs.items
     × AreWholes l.table l.phi l.wholes.sets.items
 
 abbrev pub decreases-loop-left : goal.decreases-loop-left
-decreases-loop-left g l = 40 * l.left + stages_left l.code l.self
+decreases-loop-left g l = 40 * l.left + stages_left l.code l.self.walk

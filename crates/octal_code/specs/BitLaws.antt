@@ -1,9 +1,11 @@
 -- What the tests of bits say.
-use Rattle.std.proofs.Common.{◌≡◌, ◌≢◌, ℕ, ◌<◌, ◌≤◌, ◌↔◌, ◌^◌, Bool, true, not, eqb, ltb, List, arith, sym, IsBitSet, bit_and, subst}
+use Rattle.std.proofs.Common.{◌≡◌, ◌≢◌, ℕ, ◌<◌, ◌≤◌, ◌↔◌, Bool, true, not, eqb, ltb, List, arith, IsBitSet, bit_and}
 use Rattle.std.specs.Prelude.{◌&&◌}
 use Rattle.std.proofs.lemmas.Bool.Decides.{nat_tests}
 use Rattle.misere_theory.specs.Games.{digit}
-use Rattle.octal_code.specs.Bits.{has_bit, takes_all, leaves_one}
+use Rattle.octal_code.specs.Bits.{place_of, allows, takes_all, leaves_one}
+use Rattle.octal_code.specs.declared.leaving.Leaving.{Leaving}
+use Rattle.octal_code.specs.declared.leaving.Leaving.TheVariants.{NoHeap, OneHeap, TwoHeaps}
 
 pub bit_says : (d m : ℕ) → not (eqb (bit_and d m) 0) ≡ true → bit_and d m ≢ 0
 bit_says d m e = grind (arith, nat_tests)
@@ -27,24 +29,22 @@ pub one_is : (b : Bool) (n j : ℕ) → b ≡ true → 1 ≤ j → j < n
     → (b && not (eqb j 0) && ltb j n) ≡ true
 one_is b n j e l h = grind (arith, nat_tests)
 
-pub set : (code : List ℕ) (j bit k : ℕ) → bit ≡ 2 ^ k → (has_bit code j bit ≡ true)
-    ↔ IsBitSet (digit code j) k
-set code j bit k e = (
-  λ h. subst (λ m. bit_and (digit code j) m ≢ 0) e (bit_says (digit code j) bit h),
-  λ h. subst (λ m. not (eqb (bit_and (digit code j) m) 0) ≡ true) (sym e)
-      (bit_is (digit code j) (2 ^ k) h),
-)
+pub allowed : (code : List ℕ) (j : ℕ) (leaving : Leaving) → (allows code j leaving ≡ true)
+    ↔ IsBitSet (digit code j) (place_of leaving)
+allowed code j NoHeap = (bit_says (digit code j) 1, bit_is (digit code j) 1)
+allowed code j OneHeap = (bit_says (digit code j) 2, bit_is (digit code j) 2)
+allowed code j TwoHeaps = (bit_says (digit code j) 4, bit_is (digit code j) 4)
 
 pub takes : (code : List ℕ) (n j : ℕ) → (takes_all code n j ≡ true)
     ↔ ((1 ≤ j) × (n ≡ j) × IsBitSet (digit code j) 0)
 takes code n j = (
-  λ e. let (b, l, h) = all_says (has_bit code j 1) n j e in (l, h, bit_says (digit code j) 1 b),
-  λ h. all_is (has_bit code j 1) n j (bit_is (digit code j) 1 h.2) h.0 h.1,
+  λ e. let (b, l, h) = all_says (allows code j NoHeap) n j e in (l, h, bit_says (digit code j) 1 b),
+  λ h. all_is (allows code j NoHeap) n j (bit_is (digit code j) 1 h.2) h.0 h.1,
 )
 
 pub leaves : (code : List ℕ) (n j : ℕ) → (leaves_one code n j ≡ true)
     ↔ ((1 ≤ j) × (j < n) × IsBitSet (digit code j) 1)
 leaves code n j = (
-  λ e. let (b, l, h) = one_says (has_bit code j 2) n j e in (l, h, bit_says (digit code j) 2 b),
-  λ h. one_is (has_bit code j 2) n j (bit_is (digit code j) 2 h.2) h.0 h.1,
+  λ e. let (b, l, h) = one_says (allows code j OneHeap) n j e in (l, h, bit_says (digit code j) 2 b),
+  λ h. one_is (allows code j OneHeap) n j (bit_is (digit code j) 2 h.2) h.0 h.1,
 )

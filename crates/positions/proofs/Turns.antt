@@ -1,0 +1,43 @@
+-- The stages of a walk over a heap's options.
+use Rattle.std.proofs.Common.{◌≡◌, ℕ, ◌+◌, ◌-◌, ◌<◌, ◌≤◌, List, [], ◌∷◌, ◌++◌, length, Some, None, sym, subst, ◌∙◌, ap, arith}
+use Rattle.std.specs.Prelude.{Option}
+use Rattle.std.specs.Option.{MatchOption}
+use Rattle.positions.specs.Walks.{single_left, splits_to_try, options_from, left_at, rest, after_single, after_splits, stages, IsTurn}
+use Rattle.positions.specs.WalkLaws.{single_then_splits, splits_first, splits_stand}
+use Rattle.positions.specs.declared.left.Left.{Left}
+use Rattle.positions.specs.declared.left.Left.TheVariants.{Two}
+use Rattle.positions.specs.declared.walk.Untried.TheVariants.{Everything, Splits}
+use Rattle.positions.specs.declared.walk.Walk.{Walk}
+
+single_first : (code : List ℕ) (s : Walk) → s.away < length code → s.untried ≡ Everything
+    → rest code s ≡ single_left code s.heap s.away ++ rest code (after_single s)
+single_first code s inside is =
+    ap (left_at code s.heap s.most s.away) is
+    ∙ single_then_splits code s.heap s.most s.away inside
+
+-- the option that leaves at most one heap
+pub single_turn : (code : List ℕ) (s t : Walk) (r : Option Left) → s.away < length code
+    → s.untried ≡ Everything
+    → MatchOption r (single_left code s.heap s.away ≡ [])
+    (λ left. single_left code s.heap s.away ≡ left ∷ [])
+    → t ≡ after_single s → IsTurn code s r t
+single_turn code s t None inside is none after =
+    subst (IsTurn code s None) (sym after) (
+      single_first code s inside is ∙ ap (λ xs. xs ++ rest code (after_single s)) none,
+      let e = ap stages is in omega arith,
+    )
+single_turn code s t (Some left) inside is one after =
+    subst (IsTurn code s (Some left)) (sym after)
+    (single_first code s inside is ∙ ap (λ xs. xs ++ rest code (after_single s)) one)
+
+-- a split
+pub split_turn : (code : List ℕ) (s t : Walk) (a whole k : ℕ) → s.untried ≡ Splits a
+    → k ≡ splits_to_try code s.heap s.most s.away a → 1 ≤ k → whole ≡ s.heap - s.away
+    → t ≡ after_splits s a 1 → rest code s ≡ Two a (whole - a) ∷ rest code t
+split_turn code s t a whole k is count some stays after =
+    let stand = splits_stand code s.heap s.most s.away a k 1 count (omega arith) some in
+    let more = options_from code s.heap s.most (s.away + 1) in
+    ap (left_at code s.heap s.most s.away) is
+    ∙ ap (λ xs. xs ++ more) (splits_first code s.heap s.most s.away a 1 stand.0 stand.1)
+    ∙ ap (λ v. Two a (v - a) ∷ rest code (after_splits s a 1)) (sym stays)
+    ∙ ap (λ w. Two a (whole - a) ∷ rest code w) (sym after)
