@@ -83,7 +83,7 @@ impl Trial {
         self.stage = Stage::Splits(1);
         match single_option(code, self.heap, self.away) {
             Some(left) => {
-                self.seen.insert(left_value(table, phi, left) as u8);
+                self.seen.insert(left_value(table, phi, left));
                 self.spent += 1;
                 1
             }
