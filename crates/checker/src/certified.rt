@@ -90,7 +90,7 @@ impl<A: Allocator> Certified<A> {
         requires { x < self.now.order }
         ensures { result ≡ (claim_of self.now).portion x }
     {
-        self.inside.contains(x as u8)
+        self.inside.contains(x)
     }
 
     /// The position that the keys of the element spell, whose value is the element.

@@ -71,7 +71,7 @@ fn context<A: Room>(sheet: &Sheet<A>, x: u16) -> ElementSet
         if !sheet.holds(sheet.times(x, y)) {
             continue;
         }
-        all.insert(y as u8);
+        all.insert(y);
     }
     all
 }
@@ -89,7 +89,6 @@ fn contexts<A: Room + Copy>(alloc: A, sheet: &Sheet<A>) -> Result<Vec<ElementSet
 
 /// The first element below the order that is in both sets.
 fn common(a: &ElementSet, b: &ElementSet, order: u16) -> Option<u16>
-    requires { order < 257 }
     ensures within { IfSome result (λ y. y < order) }
     ensures first { IfSome result (λ y. set.contains a.now y ≡ true) }
     ensures second { IfSome result (λ y. set.contains b.now y ≡ true) }
@@ -102,7 +101,7 @@ fn common(a: &ElementSet, b: &ElementSet, order: u16) -> Option<u16>
         return None;
     }
     for y in 0..order {
-        if a.contains(y as u8) && b.contains(y as u8) {
+        if a.contains(y) && b.contains(y) {
             return Some(y);
         }
     }
@@ -147,7 +146,6 @@ fn failed<A: Room>(sheet: Sheet<A>, position: Position<A>) -> Stage<A>
 fn breach(pair: &Pair, contexts: &[ElementSet], option: u16, order: u16) -> Option<u16>
     requires value { pair.now.value < length contexts.now }
     requires option { option < length contexts.now }
-    requires small { order < 257 }
     requires below { option < order }
     ensures within { IfSome result (λ y. y < order) }
     ensures option { IfSome result (λ _. set.contains pair.now.options option ≡ true) }
@@ -162,7 +160,7 @@ fn breach(pair: &Pair, contexts: &[ElementSet], option: u16, order: u16) -> Opti
         → set.contains (slice_index_or contexts.now pair.now.value set.empty) y ≡ true
         → set.contains (slice_index_or contexts.now option set.empty) y ≡ false) }
 {
-    if !pair.options.contains(option as u8) {
+    if !pair.options.contains(option) {
         return None;
     }
     common(

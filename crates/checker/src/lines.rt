@@ -2,6 +2,7 @@
 ghost use Rattle.std.specs.Prelude.{◌≡◌, ◌==◌, ◌<◌, ℕ, All};
 ghost use Rattle.std.specs.List.{list_any};
 ghost use Rattle.std.specs.FinSet as set;
+ghost use Rattle.element_sets.specs.declared.TheConstants.{MOST_ELEMENTS};
 
 use certificate::Key;
 use element_sets::ElementSet;
@@ -18,12 +19,12 @@ pub struct Lines<A: Allocator = Global> {
 
 /// The set of the elements of a list.
 pub fn set_of(elements: &[u16]) -> ElementSet
-    requires { All (λ x. x < 256) elements.now }
+    requires { All (λ x. x < MOST_ELEMENTS) elements.now }
     ensures { (x : ℕ) → set.contains result x ≡ list_any (λ y. y == x) elements.now }
 {
     let mut all = ElementSet::new();
     for x in elements {
-        all.insert(*x as u8);
+        all.insert(*x);
     }
     all
 }

@@ -102,7 +102,7 @@ impl<A: Allocator> Sheet<A> {
         requires { x < self.now.order }
         ensures { result ≡ (claim_of self.now).portion x }
     {
-        self.lines.inside.contains(x as u8)
+        self.lines.inside.contains(x)
     }
 
     /// The keys of the elements from 1 on.

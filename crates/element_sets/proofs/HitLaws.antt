@@ -11,6 +11,7 @@ use Rattle.std.proofs.lemmas.Bool.{cases_lt, cases_eq}
 use Rattle.std.proofs.lemmas.Bool.Decides.{nat_tests}
 use Rattle.std.proofs.lemmas.Nat.{and_le_r}
 use Rattle.std.proofs.lemmas.Nat.Bits.{bit_at-trailing_zeros, bit_at_and, bit_at_lowest, bit_at-suc, bit_at-zero}
+use Rattle.element_sets.specs.declared.TheConstants.{MOST_ELEMENTS}
 use Rattle.element_sets.specs.Lanes.{has, set_of}
 use Rattle.element_sets.specs.LaneLaws.{contains-set_of, has_past}
 use Rattle.element_sets.specs.Hits.{Hits, CanTranslateLane}
@@ -155,7 +156,7 @@ taken all n base row some fits q = (forth, back)
 -- what the code reads at the lowest one
 pub lowest_can : (n base : ℕ) (row : List ℕ) → 0 < n → n < 2 ^ 64 → CanTranslateLane n base row
     → (trailing_zeros w64 n < 64) × (base + trailing_zeros w64 n < length row)
-    × (slice_index row (base + trailing_zeros w64 n) < 256)
+    × (slice_index row (base + trailing_zeros w64 n) < MOST_ELEMENTS)
 lowest_can n base row some fits can =
     let t = bit_at-trailing_zeros w64 n some fits in
     let here = can (trailing_zeros w64 n) t.0 t.1 in

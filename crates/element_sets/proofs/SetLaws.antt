@@ -1,5 +1,5 @@
 -- What calls do with lanes is done with their sets, however many lanes there are.
-use Rattle.std.proofs.Common.{◌≡◌, ℕ, zero, suc, ◌+◌, ◌-◌, ◌*◌, ◌/◌, ◌%◌, ◌^◌, ◌<◌, min, max, Bool, true, false, not, eqb, List, [], ◌∷◌, length, get_or, set, bit_and, bit_or, refl, sym, ap, ap₂, ◌∙◌, inl, inr, arith, w64}
+use Rattle.std.proofs.Common.{◌≡◌, ℕ, zero, suc, ◌+◌, ◌-◌, ◌*◌, ◌/◌, ◌%◌, ◌^◌, ◌<◌, ◌≤◌, min, max, ltb, Bool, true, false, not, eqb, List, [], ◌∷◌, length, get_or, set, bit_and, bit_or, refl, sym, ap, ap₂, ◌∙◌, inl, inr, arith, w64}
 use Rattle.std.specs.Prelude.{◌&&◌, ◌||◌, IsTrue}
 use Rattle.std.specs.Int.{bit_at, trailing_zeros}
 use Rattle.std.specs.Ordering.{nat_cmp}
@@ -9,7 +9,7 @@ use Rattle.std.specs.FinSet.{nat_cmp-IsAntisymmetric, contains-insert, contains-
 use Rattle.std.proofs.lemmas.Bool.Decides.{nat_tests}
 use Rattle.std.proofs.lemmas.Bool.{cases_lt, cases_eq}
 use Rattle.std.proofs.lemmas.List.{get_or_past, get_or-set_same, get_or-set_other}
-use Rattle.std.proofs.lemmas.Nat.Bits.{bit_at_and, bit_at_or, bit_at_not, bit_at-lt, bit_at-zero, bit_at_set_same, bit_at_set_other, bit_at-trailing_zeros}
+use Rattle.std.proofs.lemmas.Nat.Bits.{bit_at_and, bit_at_or, bit_at_not, bit_at-lt, bit_at-zero, bit_at_set_same, bit_at_set_other, bit_at-trailing_zeros, shr_and_one}
 use Rattle.std.proofs.lemmas.Nat.{le_or_l, le_or_r, and_le_l, or_lt}
 use Rattle.std.specs.Int.Bits.{or_zero_l}
 use Rattle.std.proofs.Common.{◌⊎◌}
@@ -22,7 +22,8 @@ use Rattle.std.proofs.lemmas.Slice.Eq.{bytes_eq-Decides}
 use Rattle.std.proofs.lemmas.Nat.Bits.{same_from_bits_below}
 use Rattle.element_sets.specs.Same.{same, same-is, same-itself}
 use Rattle.std.proofs.Common.{map}
-use Rattle.std.proofs.Math.Nat.{eq-zero-or-pos}
+use Rattle.std.specs.Prelude.{replicate}
+use Rattle.std.proofs.Math.Nat.{eq-zero-or-pos, mod-eq_of_lt}
 use Rattle.std.proofs.lemmas.List.{length-map, get_or-map}
 use Rattle.element_sets.specs.Lanes.{has, set_of}
 use Rattle.element_sets.specs.LaneLaws.{has_past, contains-set_of}
@@ -77,12 +78,28 @@ set_of-empty zs zeros = same_set nat_cmp_total nat_cmp-IsAntisymmetric _ _ (λ q
     ∙ ap (λ n. eqb n 1) (bit_at-zero (q % 64)) ∙ sym (contains-empty nat_cmp q))
 
 -- the first lanes that a set has
-pub four_zeros : (i : ℕ) → ◌≡◌ {A = ℕ} (get_or (0 ∷ 0 ∷ 0 ∷ 0 ∷ []) i 0) 0
-four_zeros zero = refl
-four_zeros (suc zero) = refl
-four_zeros (suc (suc zero)) = refl
-four_zeros (suc (suc (suc zero))) = refl
-four_zeros (suc (suc (suc (suc i)))) = refl
+pub zeros : (n i : ℕ) → ◌≡◌ {A = ℕ} (get_or (replicate n 0) i 0) 0
+zeros zero i = refl
+zeros (suc n) zero = refl
+zeros (suc n) (suc i) = zeros n i
+
+-- a number is looked up in some lane, and turned down where it is past the lanes
+pub looked_up : (xs : List ℕ) (n x : ℕ) → length xs ≡ n
+    → (ltb x (64 * n) && eqb (bit_and (get_or xs (x / 64 % n) 0 / 2 ^ (x % 64)) 1) 1)
+    ≡ fin.contains (set_of xs) x
+looked_up xs n x long = elim (cases_lt x (64 * n)) [
+  | inl low ↦
+      let same : x / 64 % n ≡ x / 64 = mod-eq_of_lt (omega arith) in
+      inside _ low ∙ ap (λ i. eqb (bit_and (get_or xs i 0 / 2 ^ (x % 64)) 1) 1) same
+      ∙ ap (λ m. eqb m 1) (shr_and_one _ _) ∙ sym (contains-set_of xs x)
+  | inr past ↦ outside _ past ∙ sym (contains-set_of xs x ∙ has_past xs x (omega arith))
+]
+  where
+    inside : (b : Bool) → x < 64 * n → (ltb x (64 * n) && b) ≡ b
+    inside b low = grind (arith, nat_tests)
+
+    outside : (b : Bool) → 64 * n ≤ x → (ltb x (64 * n) && b) ≡ false
+    outside b past = grind (arith, nat_tests)
 
 -- one bit more
 pub has-set : (xs : List ℕ) (x q : ℕ) → x / 64 < length xs

@@ -1,7 +1,7 @@
-//! Sets of numbers below 256, as four lanes of 64 bits. No call takes memory, and none fails.
+//! Sets of numbers below `MOST_ELEMENTS`, in lanes of 64 bits. No call takes memory; none fails.
 #![tactic(auto)]
 
-ghost use Rattle.std.specs.Prelude.{◌≡◌, ℕ, ◌<◌, ◌↔◌, IsTrue, List, slice_index};
+ghost use Rattle.std.specs.Prelude.{◌≡◌, ℕ, ◌<◌, ◌≤◌, ◌↔◌, IsTrue, List, slice_index};
 ghost use Rattle.std.specs.Ordering.{nat_cmp};
 ghost use Rattle.std.specs.FinSet as set;
 ghost use Rattle.element_sets.specs.Translation.{translated, CanTranslate};
@@ -12,10 +12,19 @@ use std::hash::{Hash, Hasher};
 use std::marker::Model;
 use std::simd::prelude::*;
 
-/// A set of numbers below 256.
+/// How many lanes a set has. All of this crate holds for other counts as well.
+const LANES: usize = 4;
+
+/// Elements are the numbers below this one.
+pub const MOST_ELEMENTS: u16 = 64 * LANES as u16;
+
+/// All lanes at once.
+type AllLanes = Simd<u64, LANES>;
+
+/// A set of numbers below `MOST_ELEMENTS`.
 #[derive(Clone, Copy)]
 pub struct ElementSet {
-    lanes: [u64; 4],
+    lanes: [u64; LANES],
 }
 
 impl Model for ElementSet {
@@ -23,6 +32,7 @@ impl Model for ElementSet {
     ghost use Rattle.std.specs.FinSet as set;
     ghost use Rattle.std.specs.Coded.{coded_ℕ};
     ghost use Rattle.element_sets.specs.Lanes.{set_of, AreLanes};
+    ghost use Rattle.element_sets.specs.declared.TheConstants.{LANES};
 
     ghost Value = { set.FinSet nat_cmp };
 
@@ -30,16 +40,16 @@ impl Model for ElementSet {
 
     ghost view = { λ s. set_of s.lanes };
 
-    ghost invariant = { λ s. AreLanes 4 s.lanes };
+    ghost invariant = { λ s. AreLanes LANES s.lanes };
 
     ghost use Rattle.element_sets.specs.Same.{lanes_of};
     ghost use Rattle.element_sets.specs.LaneLaws.{lanes_of-set_of};
     ghost use Rattle.std.proofs.Common.{ap};
 
-    ghost inverse = { λ s. record { lanes = lanes_of 4 s } };
+    ghost inverse = { λ s. record { lanes = lanes_of LANES s } };
 
     ghost inverse_ok = { λ a h. ap (λ ls. record { lanes = ls })
-        (lanes_of-set_of 4 a.lanes h.length_is h.fits) };
+        (lanes_of-set_of LANES a.lanes h.length_is h.fits) };
 }
 
 impl ElementSet {
@@ -47,18 +57,34 @@ impl ElementSet {
     pub fn new() -> Self
         ensures { result ≡ set.empty }
     {
-        ElementSet { lanes: [0; 4] }
+        ElementSet { lanes: [0; LANES] }
     }
 
     /// Whether `x` is a member.
-    pub fn contains(&self, x: u8) -> bool
+    pub fn contains(&self, x: u16) -> bool
         ensures { result ≡ set.contains self.now x }
     {
-        (self.lanes[(x / 64) as usize] >> (x % 64)) & 1 == 1
+        // No branch: a number out of the range looks into some lane, and is then turned down.
+        let lane = self.lanes[(x / 64) as usize % LANES];
+        (x < MOST_ELEMENTS) & ((lane >> (x % 64)) & 1 == 1)
     }
 
-    /// Adds `x`.
-    pub fn insert(&mut self, x: u8)
+    /// Adds `x`, if it is below `MOST_ELEMENTS`. The answer is whether it is.
+    pub fn insert(&mut self, x: u16) -> bool
+        ensures put { x < MOST_ELEMENTS → self.new ≡ set.insert self.old x }
+        ensures stays { MOST_ELEMENTS ≤ x → self.new ≡ self.old }
+        ensures answer { IsTrue result ↔ (x < MOST_ELEMENTS) }
+    {
+        if x >= MOST_ELEMENTS {
+            return false;
+        }
+        self.put(x);
+        true
+    }
+
+    /// Adds `x`, which is in the range.
+    pub(crate) fn put(&mut self, x: u16)
+        requires { x < MOST_ELEMENTS }
         ensures { self.new ≡ set.insert self.old x }
     {
         self.lanes[(x / 64) as usize] |= 1u64 << (x % 64);
@@ -68,7 +94,7 @@ impl ElementSet {
     pub fn union(&self, other: &ElementSet) -> ElementSet
         ensures { result ≡ set.union self.now other.now }
     {
-        let lanes = u64x4::from_array(self.lanes) | u64x4::from_array(other.lanes);
+        let lanes = AllLanes::from_array(self.lanes) | AllLanes::from_array(other.lanes);
         ElementSet {
             lanes: lanes.to_array(),
         }
@@ -79,7 +105,7 @@ impl ElementSet {
         ensures { IsTrue result
             ↔ ((x : ℕ) × IsTrue (set.contains self.now x) × IsTrue (set.contains other.now x)) }
     {
-        let both = u64x4::from_array(self.lanes) & u64x4::from_array(other.lanes);
+        let both = AllLanes::from_array(self.lanes) & AllLanes::from_array(other.lanes);
         both.reduce_or() != 0
     }
 
@@ -87,7 +113,7 @@ impl ElementSet {
     pub fn subset(&self, other: &ElementSet) -> bool
         ensures { result ≡ set.is_subset self.now other.now }
     {
-        let missing = u64x4::from_array(self.lanes) & !u64x4::from_array(other.lanes);
+        let missing = AllLanes::from_array(self.lanes) & !AllLanes::from_array(other.lanes);
         missing.reduce_or() == 0
     }
 }
@@ -113,7 +139,7 @@ impl ElementSet {
         ensures { result ≡ translated self.now row.now }
     {
         let mut all = ElementSet::new();
-        for i in 0..4usize {
+        for i in 0..LANES {
             translate::add_lane(&mut all, self.lanes[i], 64 * i, row);
         }
         all
@@ -141,11 +167,12 @@ impl Eq for ElementSet {
 
 impl Hash for ElementSet {
     ghost use Rattle.element_sets.specs.Same.{lanes_of, same_hashes};
+    ghost use Rattle.element_sets.specs.declared.TheConstants.{LANES};
     ghost use Rattle.std.specs.Hash as fed;
 
-    ghost hash_input = { λ s. fed.slice fed.u64 (lanes_of 4 s) };
+    ghost hash_input = { λ s. fed.slice fed.u64 (lanes_of LANES s) };
 
-    ghost respects_eq = { same_hashes 4 };
+    ghost respects_eq = { same_hashes LANES };
 
     fn hash<H: Hasher>(&self, state: &mut H) {
         self.lanes.hash(state);
@@ -159,9 +186,9 @@ pub fn equal(a: &ElementSet, b: &ElementSet) -> bool
     a == b
 }
 
-/// The members of a set are numbers below 256.
+/// The members of a set are numbers below `MOST_ELEMENTS`.
 pub fn members_are_small(members: &ElementSet)
-    ensures { (x : ℕ) → IsTrue (set.contains members.now x) → x < 256 }
+    ensures { (x : ℕ) → IsTrue (set.contains members.now x) → x < MOST_ELEMENTS }
 {
     let _ = &members.lanes;
 }

@@ -14,7 +14,7 @@ pub(crate) fn add_lane(all: &mut ElementSet, lane: u64, base: usize, row: &[u16]
     let mut word = lane;
     while word != 0 {
         let bit = word.trailing_zeros();
-        all.insert(row[base + bit as usize] as u8);
+        all.put(row[base + bit as usize]);
         word &= word - 1;
     }
 }

@@ -1,6 +1,7 @@
 //! The pairs of heaps.
 ghost use Rattle.std.specs.Prelude.{◌≡◌, ◌+◌, ◌-◌, ◌<◌, IfOk, All};
 ghost use Rattle.misere_theory.specs.Games.{IsHeap, IsPosition};
+ghost use Rattle.element_sets.specs.declared.TheConstants.{MOST_ELEMENTS};
 ghost use Rattle.positions.specs.Exact.{heaps_of};
 ghost use Rattle.transition_algebra.specs.Pairs.{IsPair};
 ghost use Rattle.transition_algebra.specs.Heaps.{IsInto, AreAllHeapPairs, all_heap_pairs, bound_of, left_value};
@@ -38,7 +39,7 @@ pub(crate) fn left_value<A: Allocator>(table: &Table<A>, phi: &Phi<A>, left: Lef
     requires parts { IsPosition IsHeap (heaps_of left) }
     ensures value { result ≡ left_value table.now phi.now left }
     ensures within { result < table.now.order }
-    ensures small { result < 256 }
+    ensures small { result < MOST_ELEMENTS }
 {
     is_monoid(table);
     match left {

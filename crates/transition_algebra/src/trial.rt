@@ -58,7 +58,7 @@ impl Trial {
     {
         match self.walk.take_single(code) {
             Some(left) => {
-                self.seen.insert(left_value(table, phi, left) as u8);
+                self.seen.insert(left_value(table, phi, left));
                 self.spent += 1;
                 1
             }

@@ -6,7 +6,7 @@ use Rattle.element_sets.proofs.members_are_small.Goals as goal
 
 pub returns : goal.returns
 returns c = λ x member.
-    let four = c.members.invariant.length_is in
+    let count = c.members.invariant.length_is in
     let low =
     small_members c.members.inside.lanes x
     (subst (λ s. IsTrue (fin.contains s x)) (sym c.members.view_is) member) in

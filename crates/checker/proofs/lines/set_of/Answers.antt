@@ -10,4 +10,5 @@ pub loop-x-preserved : goal.loop-x-preserved
 loop-x-preserved c = λ x.
     let h = c.loop-x.invariant x in
     let more = list_any_more (λ y. y == x) c.args.elements.now c.loop-x.x-index 0 (search rules) in
+    let put = c.insert.ensures.put (search rules) in
     grind (members, rules)

@@ -14,24 +14,24 @@ not_false : (b : Bool) → b ≡ false → not b ≡ true
 not_false true e = absurd (cc)
 not_false false e = refl
 
-pub returns-then-is_inside-clause-yes : goal.returns-then-is_inside-clause-yes
-returns-then-is_inside-clause-yes c = λ t.
-    inside_some c.args.inside.now c.args.pair.now (sym c.is_inside.ensures ∙ c.if-is_inside.true)
+pub returns-then-contains-clause-yes : goal.returns-then-contains-clause-yes
+returns-then-contains-clause-yes c = λ t.
+    inside_some c.args.inside.now c.args.pair.now (sym c.contains.ensures ∙ c.if-contains.true)
     (sym c.is_empty.ensures ∙ not_true _ t)
 
-pub returns-then-is_inside-clause-no : goal.returns-then-is_inside-clause-no
-returns-then-is_inside-clause-no c =
+pub returns-then-contains-clause-no : goal.returns-then-contains-clause-no
+returns-then-contains-clause-no c =
     elim (either c.is_empty.result) [
       | inl t ↦ inr
           (inside_none c.args.inside.now c.args.pair.now
-          (sym c.is_inside.ensures ∙ c.if-is_inside.true) (sym c.is_empty.ensures ∙ t))
+          (sym c.contains.ensures ∙ c.if-contains.true) (sym c.is_empty.ensures ∙ t))
       | inr f ↦ inl (not_false _ f)
     ]
 
 pub returns-then-is_empty-clause-yes : goal.returns-then-is_empty-clause-yes
 returns-then-is_empty-clause-yes c = λ _.
-    outside_none c.args.inside.now c.args.pair.now (sym c.is_inside.ensures ∙ c.if-is_inside.false)
-    (sym c.is_empty-else-is_inside.ensures ∙ c.if-is_empty.true)
+    outside_none c.args.inside.now c.args.pair.now (sym c.contains.ensures ∙ c.if-contains.false)
+    (sym c.is_empty-else-contains.ensures ∙ c.if-is_empty.true)
 
 pub returns-else-is_empty-clause-no : goal.returns-else-is_empty-clause-no
 returns-else-is_empty-clause-no c =
@@ -39,7 +39,7 @@ returns-else-is_empty-clause-no c =
       | inl t ↦ inl t
       | inr f ↦ inr
           (outside_stays c.args.inside.now c.args.pair.now
-          (sym c.is_inside.ensures ∙ c.if-is_inside.false)
-          (sym c.is_empty-else-is_inside.ensures ∙ c.if-is_empty.false)
+          (sym c.contains.ensures ∙ c.if-contains.false)
+          (sym c.is_empty-else-contains.ensures ∙ c.if-is_empty.false)
           (λ m. let t : c.meets.result ≡ true = c.meets.ensures.1 m in cc))
     ]

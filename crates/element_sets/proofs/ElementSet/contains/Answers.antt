@@ -1,10 +1,9 @@
-use Rattle.std.proofs.Common.{ap, sym, ◌∙◌, eqb}
+use Rattle.std.proofs.Common.{ap, ◌∙◌}
 use Rattle.std.specs.FinSet as set
-use Rattle.std.proofs.lemmas.Nat.Bits.{shr_and_one}
-use Rattle.element_sets.specs.LaneLaws.{contains-set_of}
+use Rattle.element_sets.specs.declared.TheConstants.{LANES}
+use Rattle.element_sets.proofs.SetLaws.{looked_up}
 use Rattle.element_sets.proofs.ElementSet.contains.Goals as goal
 
 pub returns : goal.returns
-returns c =
-    ap (λ n. eqb n 1) (shr_and_one _ _) ∙ sym (contains-set_of _ c.args.x)
+returns c = looked_up c.self.inside.lanes LANES c.args.x c.self.told
     ∙ ap (λ s. set.contains s c.args.x) c.self.view_is

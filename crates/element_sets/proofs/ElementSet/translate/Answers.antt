@@ -20,7 +20,7 @@ loop-i-preserved c =
 
 pub returns : goal.returns
 returns c =
-    let four = c.self.invariant.length_is in
+    let count = c.self.invariant.length_is in
     let end : c.loop-i.i ≡ length c.self.inside.lanes = omega arith in
     all_lanes c.loop-i.all c.self.inside.lanes c.args.row.now
     (subst (λ i. (q : ℕ) → IsTrue (fin.contains c.loop-i.all q)

@@ -1,5 +1,6 @@
 use Rattle.std.proofs.Common.{ap, sym, ◌∙◌, fold}
 use Rattle.std.specs.Hash as fed
+use Rattle.element_sets.specs.declared.TheConstants.{LANES}
 use Rattle.element_sets.specs.Same.{lanes_of}
 use Rattle.element_sets.specs.LaneLaws.{lanes_of-set_of}
 use Rattle.element_sets.proofs.ElementSetHash.hash.Goals as goal
@@ -7,4 +8,4 @@ use Rattle.element_sets.proofs.ElementSetHash.hash.Goals as goal
 pub returns : goal.returns
 returns g c =
     c.hash.ensures ∙ ap (λ ls. fold g.H.Hasher.write c.args.state.now (fed.slice fed.u64 ls))
-    (sym (lanes_of-set_of 4 _ c.self.told c.self.invariant.fits) ∙ ap (lanes_of 4) c.self.view_is)
+    (sym (lanes_of-set_of LANES _ c.self.told c.self.invariant.fits) ∙ ap (lanes_of LANES) c.self.view_is)

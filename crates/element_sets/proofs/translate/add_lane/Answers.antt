@@ -22,12 +22,10 @@ bounds-row-base c =
     (lowest_can c.loop-word.word c.args.base c.args.row.now (omega arith) (omega arith)
     c.loop-word.invariant.can).1
 
-pub overflow_cast-row : goal.overflow_cast-row
-overflow_cast-row c =
-    let here =
-    lowest_can c.loop-word.word c.args.base c.args.row.now (omega arith) (omega arith)
-    c.loop-word.invariant.can in
-    omega arith
+pub put-requires : goal.put-requires
+put-requires c =
+    (lowest_can c.loop-word.word c.args.base c.args.row.now (omega arith) (omega arith)
+    c.loop-word.invariant.can).2
 
 pub loop-word-smaller : goal.loop-word-smaller
 loop-word-smaller c = falls c.loop-word.word (omega arith)
@@ -39,7 +37,7 @@ loop-word-preserved c = record {
       (omega arith) q in
       let before = c.loop-word.invariant.same q in
       subst (λ s. Has s (without_lowest c.loop-word.word) c.args.base c.args.row.now q
-      ↔ Has c.args.all.now c.args.lane c.args.base c.args.row.now q) (sym c.insert.ensures)
+      ↔ Has c.args.all.now c.args.lane c.args.base c.args.row.now q) (sym c.put.ensures)
       (λ h. before.0 (one.0 h), λ h. one.1 (before.1 h));
   can = can_still c.loop-word.word c.args.base c.args.row.now (omega arith) (omega arith)
       c.loop-word.invariant.can;

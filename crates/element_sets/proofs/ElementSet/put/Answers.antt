@@ -1,11 +1,12 @@
 use Rattle.std.proofs.Common.{◌≡◌, ap, ◌∙◌, arith, length, length-set}
 use Rattle.std.specs.FinSet as set
+use Rattle.element_sets.specs.declared.TheConstants.{LANES}
 use Rattle.element_sets.proofs.SetLaws.{set_of-set, one_more_fits}
-use Rattle.element_sets.proofs.ElementSet.insert.Goals as goal
+use Rattle.element_sets.proofs.ElementSet.put.Goals as goal
 
 pub returns : goal.returns
 returns c =
-    let four : length c.self.inside.lanes ≡ 4 = c.self.told in
+    let count : length c.self.inside.lanes ≡ LANES = c.self.told in
     set_of-set _ c.args.x (omega arith) ∙ ap (λ s. set.insert s c.args.x) c.self.view_is
 
 pub invariant_of-self : goal.invariant_of-self
