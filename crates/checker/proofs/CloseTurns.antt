@@ -75,9 +75,6 @@ less_not a b e =
 not_less : (a b : ℕ) → b ≤ a → nat_lt a b ≡ false
 not_less a b l = grind (arith, tests)
 
-is_less : (a b : ℕ) → a < b → nat_lt a b ≡ true
-is_less a b l = grind (arith, tests)
-
 module _ (bytes : List ℕ) (limit : ℕ) (c : Certificate) (p : Progress) where
   abbrev at : Progress → Phase
   at q = Closing (record { certificate = c; closure = q })

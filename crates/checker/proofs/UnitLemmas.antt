@@ -1,13 +1,11 @@
 -- Units that are left.
-use Rattle.std.proofs.Common.{◌≡◌, Ok, Err, List, [], ◌∷◌, length, length-append, ◌≢◌, ◌==◌, ◌||◌, eq-eqb, ℕ, suc, zero, ◌+◌, ◌-◌, ◌*◌, ◌^◌, ◌<◌, ◌≤◌, Bool, true, false, not, refl, arith, if◌then◌else◌}
+use Rattle.std.proofs.Common.{◌≡◌, Ok, Err, List, [], ◌∷◌, length, length-append, ◌≢◌, ◌==◌, ◌||◌, eq-eqb, ℕ, suc, zero, ◌+◌, ◌-◌, ◌*◌, ◌<◌, ◌≤◌, Bool, true, false, not, refl, arith, if◌then◌else◌}
 use Rattle.std.proofs.lemmas.Nat.{mul-le}
 use Rattle.monoid_table.specs.Turns.{JobState, triples, turn, turns, is_over, triple_holds}
 use Rattle.monoid_table.specs.Faults.{answer_of}
 use Rattle.monoid_table.specs.declared.fault.LawFault.TheVariants.{Law}
 use Rattle.misere_theory.specs.Games.{IsOctalCode}
 use Rattle.misere_theory.specs.Certificates.{Certificate, InRanges, pairs_with, pairs_from}
-use Rattle.transition_algebra.specs.Pretending.{Pretending}
-use Rattle.transition_algebra.specs.Heaps.{bound_of as heaps_bound}
 use Rattle.checker.specs.Closings.{bound_of}
 use Rattle.checker.specs.Units.{rest}
 
@@ -85,18 +83,6 @@ with_length : (x y n : ℕ) → length (pairs_with x y n) ≡ n
 with_length x y zero = refl
 with_length x y (suc n) = let h = with_length x (y + 1) n in omega arith
 
-pairs_at_most : (x n : ℕ) → length (pairs_from x n) ≤ n * n
-pairs_at_most x zero = omega arith
-pairs_at_most x (suc n) =
-    let h = pairs_at_most (x + 1) n in
-    let a = length-append (pairs_with x (x + 1) n) (pairs_from (x + 1) n) in
-    let b = with_length x (x + 1) n in
-    let m : suc n * suc n ≡ n * n + n + n + 1 = grind arith in
-    omega arith
-
-pub pairs_few : (x n : ℕ) → n ≤ 256 → length (pairs_from x n) ≤ 65536
-pairs_few x n l = let h = pairs_at_most x n in let m = mul-le n n 256 256 l l in omega arith
-
 -- there are two elements at least, so there is a pair
 some_from : (x n : ℕ) → 2 ≤ n → 0 < length (pairs_from x n)
 some_from x zero l = absurd (omega arith)
@@ -114,14 +100,3 @@ code_short (d ∷ ds) h = let l = h.2 in omega arith
 
 pub bound_few : (c : Certificate) → InRanges c → bound_of c ≤ 2066
 bound_few c r = let l = code_short c.code r.code in let s = r.period.2 in omega arith
-
-pub cost_few : (code : List ℕ) (phi : Pretending) (cost : ℕ) → IsOctalCode code
-    → phi.start + phi.period ≤ 1025
-    → cost ≤ length code * (heaps_bound code phi * heaps_bound code phi) → cost < 2 ^ 48
-cost_few code phi cost o s l =
-    let n = code_short code o in
-    let b : heaps_bound code phi ≤ 2066 = omega arith in
-    let m = mul-le (heaps_bound code phi) (heaps_bound code phi) 2066 2066 b b in
-    let k = mul-le (length code) (heaps_bound code phi * heaps_bound code phi) 17 (2066 * 2066) n m
-    in
-    omega arith

@@ -100,7 +100,6 @@ impl<A: Allocator> Certified<A> {
         ensures position { IfOk result (IsPosition IsHeap) }
         ensures value { IfOk result (λ X. value (claim_of self.now) X ≡ element) }
     {
-        let position = spelled(alloc, self.cert.words(), element)?;
-        Ok(position)
+        spelled(alloc, self.cert.words(), element)
     }
 }

@@ -1,5 +1,5 @@
 //! The stage that reads the bytes.
-ghost use Rattle.std.specs.Prelude.{◌*◌};
+ghost use Rattle.std.specs.Prelude.{◌*◌, ℕ};
 ghost use Rattle.checker.specs.Turns.Phase.{Reading as AtReading};
 ghost use Rattle.checker.specs.Stages.{Stands, Comes};
 
@@ -10,11 +10,10 @@ use allocation::Room;
 use certificate::{TextFault, read};
 
 /// Reads the whole text, if there is a unit.
-pub fn work<A: Room + Copy>(alloc: A, bytes: &[u8], limit: u32, left: &mut u64) -> Stage<A>
-    ensures stands { Stands bytes.now limit result }
-    ensures comes { Comes bytes.now limit AtReading left.old left.new result }
+pub fn work<A: Room + Copy>(alloc: A, bytes: &[u8], left: &mut u64) -> Stage<A>
+    ensures stands { (limit : ℕ) → Stands bytes.now limit result }
+    ensures comes { (limit : ℕ) → Comes bytes.now limit AtReading left.old left.new result }
 {
-    let _limit = limit;
     certificate_text::reading_is_spelling();
     if *left == 0 {
         return Stage::Reading;

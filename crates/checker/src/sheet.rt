@@ -44,7 +44,7 @@ impl<A: Allocator> Sheet<A> {
         ensures value { result ≡ self.now.order }
         ensures lawful { IsLawful self.now }
     {
-        let _ = &self.lines;
+        sheets_are_lawful(self);
         self.table.order()
     }
 
@@ -53,7 +53,7 @@ impl<A: Allocator> Sheet<A> {
         ensures value { result ≡ self.now.start }
         ensures lawful { IsLawful self.now }
     {
-        let _ = &self.lines;
+        sheets_are_lawful(self);
         self.phi.start() as u16
     }
 
@@ -62,7 +62,7 @@ impl<A: Allocator> Sheet<A> {
         ensures value { result ≡ self.now.period }
         ensures lawful { IsLawful self.now }
     {
-        let _ = &self.lines;
+        sheets_are_lawful(self);
         self.phi.period() as u16
     }
 
@@ -134,5 +134,6 @@ impl<A: Allocator> Sheet<A> {
 pub fn sheets_are_lawful<A: Allocator>(sheet: &Sheet<A>)
     ensures { IsLawful sheet.now }
 {
+    // what every sheet holds is known where one of its fields is named
     let _ = &sheet.lines;
 }

@@ -82,7 +82,7 @@ impl<A: Room + Copy> Stage<A> {
             → Comes bytes.now limit (phase_of self) left.old left.new result }
     {
         match self {
-            Stage::Reading => reading::work(alloc, bytes, limit, left),
+            Stage::Reading => reading::work(alloc, bytes, left),
             Stage::Laws(laws) => laws.work(left),
             Stage::Keys(keys) => keys.work(left),
             Stage::Products(products) => products.work(left),

@@ -1,7 +1,13 @@
-use Rattle.std.proofs.Common.{length, sym, subst, ◌∙◌, ap, arith}
+use Rattle.std.proofs.Common.{Result, Ok, Err, length, sym, subst, ◌∙◌, ap, arith}
+use Rattle.std.specs.Prelude.{IfOk}
 use Rattle.misere_theory.specs.Certificates.{Accepted}
 use Rattle.checker.proofs.SpellLemmas.{go_down, sizes_spelled}
 use Rattle.checker.proofs.certified.Certified.spelled.Goals as goal
+
+if_ok : {X E : Type 0} {P Q : X → Type 0} (r : Result X E) → ((x : X) → P x → Q x) → IfOk r P
+    → IfOk r Q
+if_ok (Ok x) f h = f x h
+if_ok (Err e) f h = h
 
 pub spelled-requires-clause-down : goal.spelled-requires-clause-down
 spelled-requires-clause-down g c =
@@ -17,21 +23,26 @@ spelled-requires-clause-element_in g c =
 
 pub returns-clause-keys : goal.returns-clause-keys
 returns-clause-keys g c =
-    c.in_ok-position.ensures c.args.self.now
-    (sym (c.words.ensures ∙ ap (λ d. d.words) c.self.view_is))
+    let d = c.args.self.now in
+    let e = sym (c.words.ensures ∙ ap (λ d. d.words) c.self.view_is) in
+    if_ok c.spelled.result (λ X f. f d e) c.spelled.ensures
 
 pub returns-clause-position : goal.returns-clause-position
 returns-clause-position g c =
     let d = c.args.self.now in
     let yes_to = subst Accepted c.self.view_is c.self.invariant.0 in
-    let s = c.in_ok-position.ensures d (sym (c.words.ensures ∙ ap (λ d. d.words) c.self.view_is)) in
-    (sizes_spelled d (record { in_ranges = yes_to.in_ranges; monoid = yes_to.represents.monoid })
-    yes_to.canonical c.args.element c.in_ok-position.position c.requires s).0
+    let e = sym (c.words.ensures ∙ ap (λ d. d.words) c.self.view_is) in
+    if_ok c.spelled.result
+    (λ X f. (sizes_spelled d
+    (record { in_ranges = yes_to.in_ranges; monoid = yes_to.represents.monoid }) yes_to.canonical
+    c.args.element X c.requires (f d e)).0) c.spelled.ensures
 
 pub returns-clause-value : goal.returns-clause-value
 returns-clause-value g c =
     let d = c.args.self.now in
     let yes_to = subst Accepted c.self.view_is c.self.invariant.0 in
-    let s = c.in_ok-position.ensures d (sym (c.words.ensures ∙ ap (λ d. d.words) c.self.view_is)) in
-    (sizes_spelled d (record { in_ranges = yes_to.in_ranges; monoid = yes_to.represents.monoid })
-    yes_to.canonical c.args.element c.in_ok-position.position c.requires s).1
+    let e = sym (c.words.ensures ∙ ap (λ d. d.words) c.self.view_is) in
+    if_ok c.spelled.result
+    (λ X f. (sizes_spelled d
+    (record { in_ranges = yes_to.in_ranges; monoid = yes_to.represents.monoid }) yes_to.canonical
+    c.args.element X c.requires (f d e)).1) c.spelled.ensures

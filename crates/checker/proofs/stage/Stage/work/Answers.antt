@@ -82,3 +82,10 @@ returns-in-Closing-clause-comes g c =
 pub returns-in-Elements-clause-comes : goal.returns-in-Elements-clause-comes
 returns-in-Elements-clause-comes g c =
     λ _. rw c.in-Elements.is (c.work-in-Elements.ensures.comes c.args.bytes.now)
+
+pub returns-in-Reading-clause-stands : goal.returns-in-Reading-clause-stands
+returns-in-Reading-clause-stands g c = c.work.ensures.stands c.args.limit
+
+pub returns-in-Reading-clause-comes : goal.returns-in-Reading-clause-comes
+returns-in-Reading-clause-comes g c =
+    λ _. rw c.in-Reading.is (c.work.ensures.comes c.args.limit)
