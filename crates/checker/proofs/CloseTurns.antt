@@ -20,6 +20,8 @@ use Rattle.checker.specs.Answers.Answer.{Yes, Outcome, Limit}
 use Rattle.checker.specs.Turns.{Phase, stage_of, Runs, holds, obeys, newest, keeps_more, closing_at, closing_turn}
 use Rattle.checker.specs.Turns as check
 use Rattle.checker.specs.Turns.Phase.{Closing, Ended}
+use Rattle.checker.proofs.AnyLemmas.{any_of, any_in}
+use Rattle.checker.proofs.TrueTests.{opposite, is_not}
 use Rattle.checker.proofs.LawTurns.{no-or}
 use Rattle.checker.proofs.TurnLemmas.{runs-more, runs-to}
 
@@ -125,44 +127,6 @@ module _ (bytes : List ℕ) (limit : ℕ) (c : Certificate) (p : Progress) where
       ∙ ap (λ k. closing_at c (nat_lt k (length (steps (suc n) p).state.members)) (steps (suc n) p))
       same)
 
--- some element of a list has the property
-or_right : (a b : Bool) → b ≡ true → (a || b) ≡ true
-or_right true b e = refl
-or_right false b e = e
-
-any_step : (f : ℕ → Bool) (y : ℕ) (ys : List ℕ) (x : ℕ) (v : Bool) → (y == x) ≡ v
-    → (list_any (λ z. z == x) ys ≡ true → list_any f ys ≡ true)
-    → list_any (λ z. z == x) (y ∷ ys) ≡ true → f x ≡ true → list_any f (y ∷ ys) ≡ true
-any_step f y ys x true e more m t = let d : y ≡ x = grind (arith, tests) in let u : f y ≡ true =
-    subst (λ v. f v ≡ true) (sym d) t in rw u refl
-any_step f y ys x false e more m t = let n : list_any (λ z. z == x) ys ≡ true = rw e at m in
-    or_right (f y) (list_any f ys) (more n)
-
-pub any_of : (f : ℕ → Bool) (xs : List ℕ) (x : ℕ) → list_any (λ z. z == x) xs ≡ true → f x ≡ true
-    → list_any f xs ≡ true
-any_of f [] x m t = absurd (cc)
-any_of f (y ∷ ys) x m t = any_step f y ys x (y == x) refl (λ n. any_of f ys x n t) m t
-
-any_here : (f : ℕ → Bool) (y : ℕ) (ys : List ℕ) (v : Bool) → f y ≡ v
-    → (list_any f ys ≡ true → (x : ℕ) × (list_any (λ z. z == x) ys ≡ true) × (f x ≡ true))
-    → list_any f (y ∷ ys) ≡ true → (x : ℕ) × (list_any (λ z. z == x) (y ∷ ys) ≡ true) × (f x ≡ true)
-any_here f y ys true e more t = let d : (y == y) ≡ true = grind (arith, tests) in (y, rw d refl, e)
-any_here f y ys false e more t = let n : list_any f ys ≡ true = rw e at t in let (x, m, u) = more n
-    in (x, or_right (y == x) _ m, u)
-
-pub any_in : (f : ℕ → Bool) (xs : List ℕ) → list_any f xs ≡ true
-    → (x : ℕ) × (list_any (λ z. z == x) xs ≡ true) × (f x ≡ true)
-any_in f [] t = absurd (cc)
-any_in f (y ∷ ys) t = any_here f y ys (f y) refl (any_in f ys) t
-
-opposite : (b : Bool) → b ≡ true → b ≡ false → ⊥
-opposite true e f = cc
-opposite false e f = cc
-
-is_not : (b : Bool) → (b ≡ true → ⊥) → b ≡ false
-is_not true n = absurd (n refl)
-is_not false n = refl
-
 -- the rule as the turns ask for it
 module _ (c : Certificate) (inside : set.FinSet nat_cmp) (portion : IsPortion c inside) (p : Pair)
   where
@@ -197,7 +161,7 @@ module _ (c : Certificate) (inside : set.FinSet nat_cmp) (portion : IsPortion c 
           let a =
           is_not (list_any (λ z. set.contains p.options z) c.portion)
           (λ t. (let (y, m, u) = any_in (λ z. set.contains p.options z) c.portion t in
-          opposite (set.contains inside y) (portion y ∙ m) (all y u))) in
+          opposite (portion y ∙ m) (all y u))) in
           let n = s.0 in
           rw (e, n) a
     ]
@@ -221,7 +185,7 @@ module _ (c : Certificate) (inside : set.FinSet nat_cmp) (portion : IsPortion c 
   over_not_done : (s : State) → is_done s ≡ true → is_over s ≡ false
   over_not_done s e =
       is_not (is_over s)
-      (λ t. (let w : is_done s ≡ false = (rw t refl) in opposite (is_done s) e w))
+      (λ t. (let w : is_done s ≡ false = (rw t refl) in opposite e w))
 
   module _ (last : length p.state.members < length q.state.members
       → Obeys inside (newest q.state).pair) where
@@ -315,7 +279,7 @@ pub err_refused : {X E : Type 0} (r : Result X E) (x : E) (p q : Progress) (a : 
     → IsRefused (ended_or_kept p) a p q
 err_refused (Ok y) x p q a g f e = absurd (cc)
 err_refused (Err y) x p q a g f e =
-    elim g.1 [ inl s ↦ absurd (opposite p.failed s.0 f) | inr t ↦ t ]
+    elim g.1 [ inl s ↦ absurd (opposite s.0 f) | inr t ↦ t ]
 
 -- a member is kept by a turn that is taken
 pub kept_takes : {X E : Type 0} (r : Result X E) (p q : Progress) (a : ℕ)
@@ -323,7 +287,7 @@ pub kept_takes : {X E : Type 0} (r : Result X E) (p q : Progress) (a : ℕ)
     → length p.state.members < length q.state.members → Takes (ended_or_kept p) a p q
 kept_takes (Ok y) p q a g f l = g.0
 kept_takes (Err y) p q a g f l = elim g.1 [
-  | inl s ↦ absurd (opposite p.failed s.0 f)
+  | inl s ↦ absurd (opposite s.0 f)
   | inr t ↦
       let (a, b) =
       no-or (has_ended (steps t.turns p).state)
@@ -346,12 +310,12 @@ some_taken p q a t n = elim (dec_lt 0 t.turns) [
 
 pub done_other : (p q : Progress) → is_done q.state ≡ true → has_ended p.state ≡ false → q ≡ p → ⊥
 done_other p q t g e =
-    opposite (is_done p.state) (sym (ap (λ x. is_done x.state) e) ∙ t)
+    opposite (sym (ap (λ x. is_done x.state) e) ∙ t)
     (no-or (is_over p.state) (is_done p.state) g).1
 
 pub over_other : (p q : Progress) → is_over q.state ≡ true → has_ended p.state ≡ false → q ≡ p → ⊥
 over_other p q t g e =
-    opposite (is_over p.state) (sym (ap (λ x. is_over x.state) e) ∙ t)
+    opposite (sym (ap (λ x. is_over x.state) e) ∙ t)
     (no-or (is_over p.state) (is_done p.state) g).0
 
 pub more_other : (p q : Progress) → length p.state.members < length q.state.members → q ≡ p → ⊥

@@ -16,6 +16,7 @@ pub mod LoopTurns
 pub mod HeapTurns
 pub mod SortLemmas
 pub mod ElementTurns
+pub mod AnyLemmas
 pub mod CloseTurns
 pub mod LawTurns
 pub mod ReadTurns
@@ -32,6 +33,7 @@ pub mod HeldLemmas
 pub mod TrueTests
 pub mod TrueTables
 pub mod TruePhases
+pub mod TrueElements
 pub mod TrueEnds
 pub mod TrueLoops
 pub mod TrueLemmas

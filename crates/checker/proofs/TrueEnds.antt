@@ -1,18 +1,16 @@
 -- A turn of the last stages keeps what they hold true of the bytes, and answers what is.
-use Rattle.std.proofs.Common.{◌≡◌, ℕ, zero, suc, ◌+◌, ◌-◌, ◌<◌, ◌≤◌, Bool, true, false, not, ◌&&◌, ◌==◌, nat_lt, if◌then◌else◌, cond, List, [], ◌∷◌, length, slice_index_or, refl, sym, ◌∙◌, ap, subst, inl, inr, arith, tests}
+use Rattle.std.proofs.Common.{◌≡◌, ℕ, suc, ◌+◌, ◌-◌, ◌<◌, Bool, true, false, not, ◌&&◌, ◌==◌, nat_lt, if◌then◌else◌, List, ◌∷◌, length, slice_index_or, refl, sym, ◌∙◌, ap, subst, inl, inr, arith, tests}
 use Rattle.std.specs.List.{All, concat, list_any}
 use Rattle.std.specs.FinSet as set
 use Rattle.std.specs.Ordering.{nat_cmp}
-use Rattle.std.proofs.lemmas.List.Elements.{All-get_or, Contains-get_or}
-use native.Mathlib.Decide.{dec_lt}
-use Rattle.misere_theory.specs.Games.{IsHeap, IsHeapUpTo, IsPosition}
-use Rattle.misere_theory.specs.Quotients.{value, HeapOptionValue, ReachesMoreThan, Monoid}
-use Rattle.misere_theory.specs.Pairs.{IsClosed, KeptObey, ElementsObey, heap_bound}
+use Rattle.std.proofs.lemmas.List.Elements.{Contains-get_or}
+use Rattle.misere_theory.specs.Games.{IsHeap, IsHeapUpTo}
+use Rattle.misere_theory.specs.Quotients.{value, ReachesMoreThan, Monoid}
+use Rattle.misere_theory.specs.Pairs.{IsClosed, KeptObey, ElementsObey}
 use Rattle.misere_theory.specs.Pairs as theory
-use Rattle.misere_theory.specs.Certificates.{Certificate, InRanges, Canonical, Accepted, claim_of, times_of, phi_at, key_of}
+use Rattle.misere_theory.specs.Certificates.{Certificate, InRanges, Canonical, Accepted, claim_of, times_of}
 use Rattle.misere_theory.proofs.Written.{phi_in}
-use Rattle.misere_theory.proofs.Shuffles.{Shuffled, to_permutation, position_shuffled}
-use Rattle.misere_theory.proofs.Shuffles.Shuffled.{Same, Under, Flip, Then}
+use Rattle.misere_theory.proofs.Shuffles.{to_permutation, position_shuffled}
 use Rattle.monoid_table.specs.Grids.{Grid, IsShaped, entry}
 use Rattle.monoid_table.specs.Tables.{IsTableGrid}
 use Rattle.transition_algebra.specs.declared.pair.Pair.{Pair}
@@ -25,12 +23,12 @@ use Rattle.pair_closure.specs.Turns.{State}
 use Rattle.pair_closure.specs.Turns as turning
 use Rattle.pair_closure.specs.Progress as closing
 use Rattle.pair_closure.specs.Keeping.{KeepsOne}
-use Rattle.pair_closure.specs.Positions.{IsClaimOver, Speaks, as_pair, kept, put, rising, word}
+use Rattle.pair_closure.specs.Positions.{IsClaimOver, Speaks, as_pair, kept, rising, word}
 use Rattle.checker.specs.Answers.{Answer, Fits}
 use Rattle.checker.specs.Answers.Answer.{Yes, Outcome, Limit, Memory}
 use Rattle.checker.specs.Sheets.{IsPortion}
 use Rattle.checker.specs.Rules.{Obeys, Breaks}
-use Rattle.checker.specs.Closings.{HavePairs, ObeysAt, LeadsIn, bound_of}
+use Rattle.checker.specs.Closings.{HavePairs, bound_of}
 use Rattle.checker.specs.Views.{HeapsView, ElementsView, ClosingView}
 use Rattle.checker.specs.Turns.{holds, obeys, newest, keeps_more, first_from, leads_in, keys_from, closing_at, closing_turn, elements_at, elements_turn, heaps_at, heaps_turn}
 use Rattle.checker.specs.Turns.Phase.{Heaps, Elements, Closing, Ended}
@@ -40,10 +38,10 @@ use Rattle.checker.proofs.TableLemmas.{monoid_along}
 use Rattle.checker.proofs.RuleLemmas.{inside_some, inside_none, outside_none, outside_leads, outside_stays, breach_fails}
 use Rattle.checker.proofs.SpellLemmas.{fails_along, element_fails}
 use Rattle.checker.proofs.HeapLemmas.{obeying, position_within}
-use Rattle.checker.proofs.SortLemmas.{keys_none, keys_some}
-use Rattle.checker.proofs.CloseTurns.{any_of, any_in}
-use Rattle.checker.proofs.TrueTests.{opposite, both, is_not, less_is, not_less, same_is, not_same, not_true, not_false}
+use Rattle.checker.proofs.AnyLemmas.{any_of, any_in}
+use Rattle.checker.proofs.TrueTests.{opposite, both, less_is, not_less, same_is, not_same, not_true, not_false}
 use Rattle.checker.proofs.TruePhases.{LooksSoFar, IsSpelled, IsClosure, AreHeaps, AreElements, AreClosing, IsRight}
+use Rattle.checker.proofs.TrueElements.{shuffled_rising, first_has, first_none, keys_spell, here, leads, obeyed, value_turn, heap_turn}
 
 -- what the crates below tell of certificates, of the pairs of heaps and of closures
 pub record HeapsAreKnown : Type 0 where
@@ -65,20 +63,6 @@ pub record HeapsAreKnown : Type 0 where
       → IsClosed c.code (claim_of c) (IsHeapUpTo (bound_of c)) members
       → KeptObey (claim_of c) members
       → ElementsObey c.code (claim_of c) (IsHeapUpTo (bound_of c)) → Accepted c
-
--- the same heaps, rising
-put_by : (h x : ℕ) (xs : List ℕ) (b : Bool) → Shuffled (h ∷ xs) (put h xs)
-    → Shuffled (h ∷ x ∷ xs) (cond b (x ∷ put h xs) (h ∷ x ∷ xs))
-put_by h x xs true s = Then Flip (Under s)
-put_by h x xs false s = Same
-
-put_shuffled : (h : ℕ) (xs : List ℕ) → Shuffled (h ∷ xs) (put h xs)
-put_shuffled h [] = Same
-put_shuffled h (x ∷ xs) = put_by h x xs (nat_lt x h) (put_shuffled h xs)
-
-shuffled_rising : (xs : List ℕ) → Shuffled xs (rising xs)
-shuffled_rising [] = Same
-shuffled_rising (h ∷ xs) = Then (Under (shuffled_rising xs)) (put_shuffled h (rising xs))
 
 -- the rule at a pair, as a turn asks for it
 module _ (c : Certificate) (inside : set.FinSet nat_cmp) (portion : IsPortion c inside) (p : Pair)
@@ -113,138 +97,6 @@ module _ (c : Certificate) (inside : set.FinSet nat_cmp) (portion : IsPortion c 
 -- the portion as a set
 the_portion : (c : Certificate) → (inside : set.FinSet nat_cmp) × IsPortion c inside
 the_portion c = (set.from_list c.portion, λ x. set.contains-from_list_nat c.portion x)
-
--- what a search for the first says
-first_by : (has : ℕ → Bool) (a n : ℕ) (v : Bool) → has a ≡ v
-    → (first_from has (a + 1) n < a + 1 + n → has (first_from has (a + 1) n) ≡ true)
-    → first_from has a (suc n) < a + suc n → has (first_from has a (suc n)) ≡ true
-unfolding first_from
-first_by has a n true e more l = rw e e
-first_by has a n false e more l = let k : first_from has (a + 1) n < a + suc n = rw e at l in
-    rw e (more (omega arith))
-
-first_has : (has : ℕ → Bool) (a n : ℕ) → first_from has a n < a + n
-    → has (first_from has a n) ≡ true
-unfolding first_from
-first_has has a zero l = absurd (omega arith)
-first_has has a (suc n) l = first_by has a n (has a) refl (first_has has (a + 1) n) l
-
-none_by : (has : ℕ → Bool) (a n : ℕ) (v : Bool) → has a ≡ v
-    → (a + 1 + n ≤ first_from has (a + 1) n → (x : ℕ) → a + 1 ≤ x → x < a + 1 + n → has x ≡ false)
-    → a + suc n ≤ first_from has a (suc n) → (x : ℕ) → a ≤ x → x < a + suc n → has x ≡ false
-unfolding first_from
-none_by has a n true e more l x u w = absurd (let k : a + suc n ≤ a = rw e at l in omega arith)
-none_by has a n false e more l x u w =
-    let k : a + suc n ≤ first_from has (a + 1) n = rw e at l in
-    elim (dec_lt a x) [
-      | yes b ↦ more (omega arith) x (omega arith) (omega arith)
-      | no f ↦ (let d : a ≡ x = omega (arith, f) in subst (λ m. has m ≡ false) d e)
-    ]
-
-first_none : (has : ℕ → Bool) (a n : ℕ) → a + n ≤ first_from has a n → (x : ℕ) → a ≤ x → x < a + n
-    → has x ≡ false
-first_none has a zero l x u w = absurd (omega arith)
-first_none has a (suc n) l x u w = none_by has a n (has a) refl (first_none has (a + 1) n) l x u w
-
--- the keys of an element spell a position that has its value
-module _ (c : Certificate) (r : InRanges c) (m : Monoid c.order (times_of c)) (k : Canonical c)
-  where
-    spell_none : (n e : ℕ) → 0 ≡ e → IsPosition IsHeap (keys_from c n e)
-        × (value (claim_of c) (keys_from c n e) ≡ e)
-    spell_none n e d =
-        subst (λ v. IsPosition IsHeap (keys_from c n v)
-        × (value (claim_of c) (keys_from c n v) ≡ v))
-        d
-        (subst (λ X. IsPosition IsHeap X × (value (claim_of c) X ≡ 0)) (sym (keys_none c n))
-        (tt, refl))
-
-    keys_spell : (n e : ℕ) → e ≤ n → e < c.order → IsPosition IsHeap (keys_from c n e)
-        × (value (claim_of c) (keys_from c n e) ≡ e)
-    keys_spell zero e l b = spell_none zero e (omega arith)
-    keys_spell (suc n) e l b = elim (dec_lt 0 e) [
-      | no f ↦ spell_none (suc n) e (omega (arith, f))
-      | yes p ↦
-          let f = (key_of c e).0 in
-          let h = (key_of c e).1 in
-          let up = k.numbered.parent e p b in
-          let (x, v) = keys_spell n f (omega arith) (omega arith) in
-          let heap = (k.numbered.heap e p b).0 in
-          let is : value (claim_of c) (h ∷ keys_from c n f) ≡ e =
-          ap (times_of c (phi_at c h)) v
-          ∙ (m.commutes (phi_at c h) f (phi_in c r h) (omega arith) ∙ k.numbered.product e p b) in
-          subst (λ X. IsPosition IsHeap X × (value (claim_of c) X ≡ e)) (sym (keys_some c n e p))
-          ((heap, x), is)
-    ]
-
-abbrev blank : Pair
-blank = record { value = 0; options = set.empty }
-
--- one heap and value more
-module _ (c : Certificate) (r : InRanges c) (pairs : List Pair) (i h : ℕ)
-    (e : LooksSoFar c pairs i h) (l : i < length pairs) where
-  abbrev here : Pair
-  here = slice_index_or pairs i blank
-
-  leads : (y : ℕ) → leads_in c here h y ≡ true → LeadsIn c (i + 1) y
-  leads y t =
-      let q = e.exact.exact.each i blank l in
-      let (o, u) = both (set.contains here.options h) _ t in
-      let (a, b) = both (holds c (times_of c here.value y)) (holds c (times_of c h y)) u in (
-        h,
-        (q.options_are h).0 o,
-        subst (λ n. (claim_of c).portion (times_of c n y) ≡ true)
-            q.value_is a,
-        b,
-      )
-
-  obeyed : ((y : ℕ) → y < c.order → leads_in c here h y ≡ false) → ObeysAt c (i + 1) h
-  obeyed none o y b t =
-      let q = e.exact.exact.each i blank l in
-      let has : set.contains here.options h ≡ true = (q.options_are h).1 o in
-      let a : holds c (times_of c here.value y) ≡ true =
-      subst (λ n. (claim_of c).portion (times_of c n y) ≡ true) (sym q.value_is) t in
-      is_not (holds c (times_of c h y))
-      (λ u. let x : leads_in c here h y ≡ true = rw (has, a, u) refl in opposite x (none y b))
-
-  option_below : (x : ℕ) → HeapOptionValue c.code (claim_of c) (i + 1) x → x < c.order
-  option_below x o =
-      (All-get_or (IsPair c.order) pairs i blank l e.exact.within).options x
-      (((e.exact.exact.each i blank l).options_are x).1 o)
-
-  value_turn : ObeysAt c (i + 1) h → h + 1 < c.order → LooksSoFar c pairs i (h + 1)
-  value_turn o b = record {
-    exact = e.exact;
-    place = e.place;
-    value = b;
-    heaps = e.heaps;
-    heap =
-        λ g k.
-        elim (dec_lt g h) [
-          | yes s ↦ e.heap g s
-          | no f ↦ (let d : h ≡ g = omega (arith, f) in
-              subst (ObeysAt c (i + 1)) d o)
-        ];
-  }
-
-  heap_turn : ObeysAt c (i + 1) h → h + 1 ≡ c.order → LooksSoFar c pairs (i + 1) 0
-  heap_turn o w = record {
-    exact = e.exact;
-    place = omega arith;
-    value = omega arith;
-    heaps = λ n g p b. elim (dec_lt i n) [
-      | no f ↦ e.heaps n g p (omega (arith, f))
-      | yes s ↦
-          let d : i + 1 ≡ n = omega arith in
-          subst (λ m. ObeysAt c m g) d (λ x.
-          let below = option_below g x in
-          elim (dec_lt g h) [
-            | yes u ↦ e.heap g u x
-            | no f ↦ (let k : h ≡ g = omega (arith, f) in
-                subst (ObeysAt c (i + 1)) k o x)
-          ])
-    ];
-    heap = λ g b. absurd (omega arith);
-  }
 
 module _ (bytes : List ℕ) (limit : ℕ) where
   -- what is true of the certificate is of the bytes
