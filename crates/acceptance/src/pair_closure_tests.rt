@@ -30,7 +30,7 @@ fn three<A: Room + Copy>(alloc: A, limit: u32) -> Result<Option<Closure<A>>, Mem
 }
 
 /// Whether a member is of this value, with this one value of options, or none.
-fn is_pair(p: &Pair, value: u16, option: Option<u8>) -> bool {
+fn is_pair(p: &Pair, value: u16, option: Option<u16>) -> bool {
     p.value == value
         && p.options.is_empty() == option.is_none()
         && match option {

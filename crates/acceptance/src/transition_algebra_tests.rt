@@ -30,7 +30,7 @@ fn game<A: Allocator + Copy>(alloc: A) -> Option<(Code, Table<A>, Phi<A>)>
 }
 
 /// The pair of this value and these values of options.
-fn pair(value: u16, options: &[u8]) -> Pair {
+fn pair(value: u16, options: &[u16]) -> Pair {
     let mut all = ElementSet::new();
     for x in options {
         all.insert(*x);
