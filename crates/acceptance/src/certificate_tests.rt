@@ -2,7 +2,8 @@
 use certificate::{Cert, TextFault, WriteFault, read, write};
 use devices::{FailingSink, SlowSink};
 use ration::Ration;
-use std::alloc::AllocError;
+use std::alloc::{AllocError, Allocator, Global};
+use std::process::Abort;
 use std::test::Fail;
 use streams::MemorySink;
 
@@ -94,42 +95,72 @@ apart 0\nend\n",
 apart 0\nend\n",
 ];
 
-#[test]
-fn writes_what_it_reads(rt: HostRuntime) -> Result<(), Fail> {
-    for bytes in [OF_0_1, OF_0_3, OF_0_33, OF_0_75, REFUTED, UNREACHED] {
-        let cert = read(rt.alloc(), bytes)?;
-        let mut sink = MemorySink::new(rt.alloc());
-        write(&cert, &mut sink)?;
-        assert_eq!(rt; sink.bytes(), bytes);
+/// Whether the certificate is written as the bytes.
+fn is_written_as(alloc: Global, cert: &Cert, bytes: &[u8]) -> bool {
+    let mut sink = MemorySink::new(alloc);
+    write(cert, &mut sink).is_ok() && sink.bytes() == bytes
+}
+
+/// Whether a certificate is read of the bytes and written as the same bytes.
+fn comes_back(alloc: Global, bytes: &[u8]) -> bool {
+    match read(alloc, bytes) {
+        Ok(cert) => is_written_as(alloc, &cert, bytes),
+        Err(_) => false,
     }
-    Ok(())
+}
+
+/// Why no certificate is read of the bytes.
+fn fault_of<A: Allocator + Copy>(alloc: A, bytes: &[u8]) -> Option<TextFault> {
+    match read(alloc, bytes) {
+        Ok(_) => None,
+        Err(fault) => Some(fault),
+    }
+}
+
+#[test]
+fn writes_what_it_reads(rt: HostRuntime) {
+    for bytes in [OF_0_1, OF_0_3, OF_0_33, OF_0_75, REFUTED, UNREACHED] {
+        assert!(rt; comes_back(rt.alloc(), bytes));
+    }
+}
+
+/// Whether the certificate is of the code.
+fn is_of(alloc: Global, cert: &Cert, code: &str) -> bool {
+    match cert.code().text(alloc) {
+        Ok(text) => text.as_str() == code,
+        Err(_) => false,
+    }
+}
+
+/// Asserts what the lines of the certificate of `0.33` hold.
+fn holds_lines(rt: &impl Abort, alloc: Global, cert: &Cert) {
+    assert!(rt; is_of(alloc, cert, "0.33"));
+    assert!(rt; (cert.order(), cert.start(), cert.period()) == (6, 1, 3));
+    assert!(rt; cert.phi().entries() == [1u16, 2, 0].as_slice());
+    assert!(rt; cert.portion() == [1u16, 4].as_slice());
+    let words = cert.words();
+    assert!(rt; words.len() == 5);
+    let last = words[4];
+    assert!(rt; (last.element, last.heap) == (3, 2));
+    let rows = cert.rows();
+    assert!(rt; rows.len() == 36);
+    assert!(rt; &rows[6..12] == [1u16, 0, 3, 2, 5, 4].as_slice());
+    let apart = cert.apart();
+    assert!(rt; apart.len() == 15);
+    assert!(rt; &apart[..5] == [0u16, 1, 1, 0, 4].as_slice());
 }
 
 #[test]
 fn lends_what_the_lines_hold(rt: HostRuntime) -> Result<(), Fail> {
     let cert = Cert::from_parts(read(rt.alloc(), OF_0_33)?.into_parts());
-    assert_eq!(rt; cert.code().text(rt.alloc())?.as_str(), "0.33");
-    assert_eq!(rt; cert.order(), 6);
-    assert_eq!(rt; (cert.start(), cert.period()), (1, 3));
-    assert_eq!(rt; cert.phi().entries(), [1u16, 2, 0].as_slice());
-    assert_eq!(rt; cert.portion(), [1u16, 4].as_slice());
-    let words = cert.words();
-    assert_eq!(rt; words.len(), 5);
-    let last = words[4];
-    assert_eq!(rt; (last.element, last.heap), (3, 2));
-    let rows = cert.rows();
-    assert_eq!(rt; rows.len(), 36);
-    assert_eq!(rt; &rows[6..12], [1u16, 0, 3, 2, 5, 4].as_slice());
-    let apart = cert.apart();
-    assert_eq!(rt; apart.len(), 15);
-    assert_eq!(rt; &apart[..5], [0u16, 1, 1, 0, 4].as_slice());
+    holds_lines(&rt, rt.alloc(), &cert);
     Ok(())
 }
 
 #[test]
 fn refuses_other_texts(rt: HostRuntime) {
     for bytes in OTHERS {
-        assert!(rt; matches!(read(rt.alloc(), bytes), Err(TextFault::Text)));
+        assert!(rt; fault_of(rt.alloc(), bytes) == Some(TextFault::Text));
     }
 }
 
@@ -137,45 +168,74 @@ fn refuses_other_texts(rt: HostRuntime) {
 fn asks_no_memory_for_an_order(rt: HostRuntime) {
     let ration = Ration::new(rt.alloc(), 1);
     let front = b"mqc 1\ncode 0.3\norder 256\nstart 1\nperiod 1024\n";
-    let got = read(&ration, front).map(|_| ());
-    assert_eq!(rt; got, Err(TextFault::Text));
+    assert!(rt; fault_of(&ration, front) == Some(TextFault::Text));
     assert!(rt; !ration.has_refused());
+}
+
+/// How long the first beginning is that isn't refused as a text.
+fn first_beginning(alloc: Global, bytes: &[u8]) -> usize {
+    for n in 0..bytes.len() {
+        if fault_of(alloc, &bytes[..n]) != Some(TextFault::Text) {
+            return n;
+        }
+    }
+    bytes.len()
 }
 
 #[test]
 fn refuses_beginnings(rt: HostRuntime) {
     for bytes in [OF_0_3, OF_0_33, OF_0_75] {
-        for n in 0..bytes.len() {
-            assert!(rt; matches!(read(rt.alloc(), &bytes[..n]), Err(TextFault::Text)));
-        }
+        assert_eq!(rt; first_beginning(rt.alloc(), bytes), bytes.len());
+    }
+}
+
+/// Writes to a sink that fails at this write: whether that is a fault, and how many bytes of the
+/// text of `0.3` the sink has then.
+fn written_until(alloc: Global, cert: &Cert, until: u64) -> (bool, Option<u64>) {
+    let mut sink = FailingSink::new(SlowSink::new(alloc), until);
+    let fails = write(cert, &mut sink) == Err(WriteFault::Write);
+    let bytes = sink.within().bytes();
+    let count = if OF_0_3.starts_with(bytes) {
+        Some(bytes.len() as u64)
+    } else {
+        None
+    };
+    (fails, count)
+}
+
+/// Asserts what is written of the certificate of `0.3`, with a failure at each write in turn.
+fn writes_beginnings(rt: &impl Abort, alloc: Global, cert: &Cert) {
+    for until in 1..99u64 {
+        let written = written_until(alloc, cert, until);
+        assert!(rt;
+            written == (until < 97, Some(until.min(97) - 1)),
+            "at {until}"
+        );
     }
 }
 
 #[test]
 fn writes_a_beginning(rt: HostRuntime) -> Result<(), Fail> {
     let cert = read(rt.alloc(), OF_0_3)?;
-    for until in 1..99u64 {
-        let mut sink = FailingSink::new(SlowSink::new(rt.alloc()), until);
-        let written = write(&cert, &mut sink);
-        let bytes = sink.within().bytes();
-        assert_eq!(rt; written == Err(WriteFault::Write), until < 97, "at {until}");
-        assert!(rt; OF_0_3.starts_with(bytes), "at {until}");
-        assert_eq!(rt; bytes.len() as u64, until.min(97) - 1, "at {until}");
-    }
+    writes_beginnings(&rt, rt.alloc(), &cert);
     Ok(())
+}
+
+/// Why the certificate of `0.75` isn't read, and whether the growth of this number was refused.
+fn read_with(alloc: Global, refused: u64) -> (Option<TextFault>, bool) {
+    let ration = Ration::new(alloc, refused);
+    (fault_of(&ration, OF_0_75), ration.has_refused())
 }
 
 #[test]
 fn refused_memory(rt: HostRuntime) {
     for n in 1..40u64 {
-        let ration = Ration::new(rt.alloc(), n);
-        let got = read(&ration, OF_0_75).map(|_| ());
-        if !ration.has_refused() {
-            assert_eq!(rt; got, Ok(()));
-            assert!(rt; n > 5, "{n}");
+        let (fault, refused) = read_with(rt.alloc(), n);
+        if !refused {
+            assert!(rt; fault.is_none() && n > 5, "{n}");
             return;
         }
-        assert_eq!(rt; got, Err(TextFault::Memory), "at {n}");
+        assert!(rt; fault == Some(TextFault::Memory), "at {n}");
     }
     assert!(rt; false, "it never read to the end");
 }
@@ -189,26 +249,44 @@ fn repeat(text: &mut Vec<u8>, word: &[u8], count: usize) -> Result<(), AllocErro
     Ok(())
 }
 
+/// Writes 256 rows of 256 elements.
+fn put_rows(text: &mut Vec<u8>) -> Result<(), AllocError> {
+    for _ in 0..256usize {
+        text.extend_from_slice(b"\nrow")?;
+        repeat(text, b"255", 256)?;
+    }
+    Ok(())
+}
+
+/// Writes a text of the most entries and the largest order.
+fn put_largest(text: &mut Vec<u8>) -> Result<(), AllocError> {
+    text.extend_from_slice(b"mqc 1\ncode 0.3\norder 256\nstart 1\nperiod 1024\nphi")?;
+    repeat(text, b"255", 1024)?;
+    text.extend_from_slice(b"\nportion 255\nwords")?;
+    repeat(text, b"255:1024", 255)?;
+    put_rows(text)?;
+    text.extend_from_slice(b"\napart")?;
+    repeat(text, b"255", 32640)?;
+    text.extend_from_slice(b"\nend\n")
+}
+
+/// The order, and how many words, products and separations the certificate of the bytes has.
+fn sizes_of(alloc: Global, bytes: &[u8]) -> Option<(u16, usize, usize, usize)> {
+    let cert = read(alloc, bytes).ok()?;
+    Some((
+        cert.order(),
+        cert.words().len(),
+        cert.rows().len(),
+        cert.apart().len(),
+    ))
+}
+
 /// The most entries, the largest order, and more than 2^16 bytes.
 #[test]
 fn memory_suffices_for_the_largest_text(rt: HostRuntime) -> Result<(), Fail> {
     let mut text = Vec::new(rt.alloc());
-    text.extend_from_slice(b"mqc 1\ncode 0.3\norder 256\nstart 1\nperiod 1024\nphi")?;
-    repeat(&mut text, b"255", 1024)?;
-    text.extend_from_slice(b"\nportion 255\nwords")?;
-    repeat(&mut text, b"255:1024", 255)?;
-    for _ in 0..256usize {
-        text.extend_from_slice(b"\nrow")?;
-        repeat(&mut text, b"255", 256)?;
-    }
-    text.extend_from_slice(b"\napart")?;
-    repeat(&mut text, b"255", 32640)?;
-    text.extend_from_slice(b"\nend\n")?;
-    let cert = read(rt.alloc(), &text)?;
-    assert_eq!(rt; (cert.order(), cert.words().len()), (256, 255));
-    assert_eq!(rt; (cert.rows().len(), cert.apart().len()), (65536, 32640));
-    let mut sink = MemorySink::new(rt.alloc());
-    write(&cert, &mut sink)?;
-    assert!(rt; sink.bytes() == text.as_slice());
+    put_largest(&mut text)?;
+    assert!(rt; sizes_of(rt.alloc(), &text) == Some((256, 255, 65536, 32640)));
+    assert!(rt; comes_back(rt.alloc(), &text));
     Ok(())
 }

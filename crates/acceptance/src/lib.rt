@@ -7,6 +7,8 @@ mod certificate_tests;
 #[cfg(test)]
 mod element_sets_tests;
 #[cfg(test)]
+mod growths;
+#[cfg(test)]
 mod monoid_table_tests;
 #[cfg(test)]
 mod octal_code_tests;

@@ -1,32 +1,40 @@
 //! Outcomes of worked positions, the budget, and memory refused.
-use allocation::{Memory, Room};
+use crate::growths::is_fair;
+use allocation::Room;
 use octal_code::Code;
 use outcome_search::{Outcome, SearchFault, outcome};
 use positions::Position;
 use ration::Ration;
+use std::alloc::Global;
+use std::process::Abort;
 use std::test::Fail;
 
-fn position<A: Room + Copy>(alloc: A, heaps: &[u64]) -> Result<Position<A>, Memory> {
-    let mut position = Position::new(alloc);
-    for heap in heaps {
-        position.push((*heap).clamp(1, 1000))?;
+/// The outcome of the position.
+fn outcome_of<A: Room + Copy>(
+    alloc: A,
+    code: &Code,
+    text: &[u8],
+    budget: u32,
+) -> Result<Outcome, SearchFault> {
+    match Position::read(alloc, text) {
+        Ok(position) => outcome(alloc, code, &position, budget),
+        Err(_) => Err(SearchFault::Memory),
     }
-    Ok(position)
 }
 
 #[test]
 fn finds_outcomes(rt: HostRuntime) -> Result<(), Fail> {
     let code = Code::read(b"0.33")?;
-    let rows: [(&[u64], Outcome); 5] = [
-        (&[], Outcome::N),
-        (&[1], Outcome::P),
-        (&[1, 1], Outcome::N),
-        (&[2, 2], Outcome::P),
-        (&[1, 2, 2], Outcome::N),
+    let rows = [
+        ("0", Outcome::N),
+        ("1", Outcome::P),
+        ("1 1", Outcome::N),
+        ("2 2", Outcome::P),
+        ("1 2 2", Outcome::N),
     ];
-    for (heaps, wanted) in rows {
-        let position = position(rt.alloc(), heaps)?;
-        assert_eq!(rt; outcome(rt.alloc(), &code, &position, 65536)?, wanted);
+    for (text, wanted) in rows {
+        let found = outcome_of(rt.alloc(), &code, text.as_bytes(), 65536);
+        assert!(rt; found == Ok(wanted), "of {text}");
     }
     Ok(())
 }
@@ -35,9 +43,8 @@ fn finds_outcomes(rt: HostRuntime) -> Result<(), Fail> {
 fn keeps_to_the_budget(rt: HostRuntime) -> Result<(), Fail> {
     // From a heap of 2 the positions 2, 1 and none can be reached.
     let code = Code::read(b"0.33")?;
-    let two = position(rt.alloc(), &[2])?;
-    assert_eq!(rt; outcome(rt.alloc(), &code, &two, 3)?, Outcome::N);
-    assert!(rt; outcome(rt.alloc(), &code, &two, 0) == Err(SearchFault::Budget));
+    assert!(rt; outcome_of(rt.alloc(), &code, b"2", 3) == Ok(Outcome::N));
+    assert!(rt; outcome_of(rt.alloc(), &code, b"2", 0) == Err(SearchFault::Budget));
     Ok(())
 }
 
@@ -45,46 +52,53 @@ fn keeps_to_the_budget(rt: HostRuntime) -> Result<(), Fail> {
 fn plays_may_be_long(rt: HostRuntime) -> Result<(), Fail> {
     // In 0.3 each move takes 1, so heaps of even size are N-positions.
     let code = Code::read(b"0.3")?;
-    let long = Position::read(rt.alloc(), b"100000")?;
-    assert_eq!(rt; outcome(rt.alloc(), &code, &long, u32::MAX)?, Outcome::N);
+    assert!(rt; outcome_of(rt.alloc(), &code, b"100000", u32::MAX) == Ok(Outcome::N));
     Ok(())
 }
+
+/// Nine heaps of 10^18.
+const NINE: &[u8] =
+    b"1000000000000000000 1000000000000000000 1000000000000000000 1000000000000000000 \
+1000000000000000000 1000000000000000000 1000000000000000000 1000000000000000000 \
+1000000000000000000";
 
 /// Nine heaps, so that each position that waits takes memory of its own.
 #[test]
 fn says_memory_on_a_large_position(rt: HostRuntime) -> Result<(), Fail> {
     let code = Code::read(b"0.75")?;
     let ration = Ration::new(rt.alloc(), 10000);
-    let mut large = Position::new(&ration);
-    for _ in 0..9u64 {
-        large.push(1_000_000_000_000_000_000)?;
-    }
-    let answer = outcome(&ration, &code, &large, u32::MAX);
+    let answer = outcome_of(&ration, &code, NINE, u32::MAX);
     assert!(rt; answer == Err(SearchFault::Memory) && ration.has_refused());
     Ok(())
+}
+
+/// Whether the position is found to be N, and whether the growth of this number was refused.
+fn find_with(alloc: Global, code: &Code, text: &[u8], refused: u64) -> (Result<bool, u8>, bool) {
+    let ration = Ration::new(alloc, refused);
+    let answer = match outcome_of(&ration, code, text, 65536) {
+        Ok(outcome) => Ok(outcome == Outcome::N),
+        Err(fault) => Err(fault.number()),
+    };
+    (answer, ration.has_refused())
+}
+
+fn is_found_or_says_memory(rt: &impl Abort, alloc: Global, code: &Code, text: &[u8]) {
+    for n in 1..99u64 {
+        let (answer, has_refused) = find_with(alloc, code, text, n);
+        assert!(rt; is_fair(answer, has_refused), "at {n}");
+        if !has_refused {
+            return;
+        }
+    }
+    panic!(rt; "growths go on");
 }
 
 /// A position within itself, and one of more heaps than fit there.
 #[test]
 fn answers_or_says_memory(rt: HostRuntime) -> Result<(), Fail> {
-    for heaps in [[1u64, 2, 2].as_slice(), [1; 12].as_slice()] {
-        let mut is_whole = false;
-        for n in 1..99u64 {
-            let ration = Ration::new(rt.alloc(), n);
-            let asked = position(&ration, heaps);
-            if let Ok(position) = asked {
-                match outcome(&ration, &Code::read(b"0.33")?, &position, 65536) {
-                    Ok(outcome) => assert!(rt; outcome == Outcome::N),
-                    Err(fault) => assert!(rt; ration.has_refused() && fault.number() == 9),
-                }
-            }
-            is_whole = !ration.has_refused();
-            if is_whole {
-                break;
-            }
-        }
-        assert!(rt; is_whole, "growths go on");
-    }
+    let code = Code::read(b"0.33")?;
+    is_found_or_says_memory(&rt, rt.alloc(), &code, b"1 2 2");
+    is_found_or_says_memory(&rt, rt.alloc(), &code, b"1 1 1 1 1 1 1 1 1 1 1 1");
     Ok(())
 }
 
@@ -102,9 +116,8 @@ fn remembers_no_more_than_the_budget(rt: HostRuntime) -> Result<(), Fail> {
         (b"2000", 2001, Ok(Outcome::N)),
     ];
     for (heap, budget, wanted) in rows {
-        let long = Position::read(rt.alloc(), heap)?;
         assert!(rt;
-            outcome(rt.alloc(), &code, &long, budget) == wanted,
+            outcome_of(rt.alloc(), &code, heap, budget) == wanted,
             "{budget}"
         );
     }
@@ -116,8 +129,7 @@ fn remembers_no_more_than_the_budget(rt: HostRuntime) -> Result<(), Fail> {
 #[test]
 fn gives_up_soon(rt: HostRuntime) -> Result<(), Fail> {
     let code = Code::read(b"0.7777777777777777")?;
-    let large = position(rt.alloc(), &[94, 416])?;
-    assert!(rt; outcome(rt.alloc(), &code, &large, 65536) == Err(SearchFault::Budget));
+    assert!(rt; outcome_of(rt.alloc(), &code, b"94 416", 65536) == Err(SearchFault::Budget));
     Ok(())
 }
 

@@ -11,7 +11,7 @@ fn periods_are_least(rt: HostRuntime) {
         (&[7], None),
         (&[7, 7], Some((1, 1))),
     ];
-    for (row, (entries, found)) in rows.into_iter().enumerate() {
-        assert_eq!(rt; least_period(entries), found, "row {row}");
+    for (entries, found) in rows {
+        assert!(rt; least_period(entries) == found, "{entries:?}");
     }
 }

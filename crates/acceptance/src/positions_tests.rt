@@ -1,12 +1,21 @@
 //! Options, moves, and the texts of positions.
+use crate::growths::is_fair;
 use allocation::{Memory, Room};
 use octal_code::Code;
-use positions::{Left, Move, MoveFault, Position, PositionFault, apply, options};
+use positions::{Left, Move, MoveFault, Position, apply, options};
 use ration::Ration;
+use std::alloc::Global;
 use std::test::Fail;
 
+/// Whether a heap's options are listed so.
+fn are_listed(alloc: Global, text: &str, heap: u64, wanted: &[Left]) -> Option<bool> {
+    let code = Code::read(text.as_bytes()).ok()?;
+    let all: Vec<Left> = options(&code, heap).collect(alloc).ok()?;
+    Some(all.as_slice() == wanted)
+}
+
 #[test]
-fn lists_options(rt: HostRuntime) -> Result<(), Fail> {
+fn lists_options(rt: HostRuntime) {
     use Left::{Nothing, One, Two};
     let rows: [(&str, u64, &[Left]); 6] = [
         ("0.75", 5, &[One(4), Two(1, 3), Two(2, 2), Two(1, 2)]),
@@ -17,11 +26,11 @@ fn lists_options(rt: HostRuntime) -> Result<(), Fail> {
         ("4.1", 1, &[Nothing]),
     ];
     for (text, heap, wanted) in rows {
-        let code = Code::read(text.as_bytes())?;
-        let all: Vec<Left> = options(&code, heap).collect(rt.alloc())?;
-        assert_eq!(rt; all.as_slice(), wanted);
+        assert!(rt;
+            are_listed(rt.alloc(), text, heap, wanted) == Some(true),
+            "{text} {heap}"
+        );
     }
-    Ok(())
 }
 
 #[test]
@@ -41,23 +50,55 @@ const ONES: &[u8] =
 const ONE_MORE: &[u8] =
     b"1 1 1 1 1 1 1 1 1 1 1 1 1 1 1 1 1 1 1 1 1 1 1 1 1 1 1 1 1 1 1 1 1 1 1 1 1 1 1 1 1 1 1 1 1 1 1 1 1 1 1 1 1 1 1 1 1 1 1 1 1 1 1 1 1";
 
+/// Whether the position is written so.
+fn is_written_as<A: Room + Copy>(position: &Position<A>, wanted: &str) -> Result<bool, u8> {
+    match position.text() {
+        Ok(text) => Ok(text.as_str() == wanted),
+        Err(memory) => Err(memory.number()),
+    }
+}
+
+/// Whether the position of the bytes is written so.
+fn is_read_as<A: Room + Copy>(alloc: A, bytes: &[u8], wanted: &str) -> Result<bool, u8> {
+    match Position::read(alloc, bytes) {
+        Ok(position) => is_written_as(&position, wanted),
+        Err(fault) => Err(fault.number()),
+    }
+}
+
+/// How many heaps the position of the bytes has.
+fn count_of(alloc: Global, bytes: &[u8]) -> Result<usize, u8> {
+    match Position::read(alloc, bytes) {
+        Ok(position) => Ok(position.heaps().len()),
+        Err(fault) => Err(fault.number()),
+    }
+}
+
 #[test]
-fn reads_positions(rt: HostRuntime) -> Result<(), Fail> {
+fn reads_positions(rt: HostRuntime) {
     let rows = [
         ("2 1 2", "1 2 2"),
         ("0", "0"),
         ("1000000000000000000 7", "7 1000000000000000000"),
     ];
     for (text, wanted) in rows {
-        let position = Position::read(rt.alloc(), text.as_bytes())?;
-        assert_eq!(rt; position.text()?.as_str(), wanted);
+        assert!(rt;
+            is_read_as(rt.alloc(), text.as_bytes(), wanted) == Ok(true),
+            "of {text}"
+        );
     }
-    let faults: [(&[u8], u8); 7] = [
+    assert!(rt; count_of(rt.alloc(), ONES) == Ok(64));
+}
+
+#[test]
+fn tells_why_a_text_is_no_position(rt: HostRuntime) {
+    let faults: [(&[u8], u8); 8] = [
         (b"", 1),
         (b"1 0", 1),
         (b"01", 1),
         (b"1  2", 1),
         (b"1 ", 1),
+        (ONE_MORE, 2),
         (b"1000000000000000001", 3),
         (
             b"100000000000000000000000000000000000000000000000000000000000000000000 1",
@@ -65,30 +106,33 @@ fn reads_positions(rt: HostRuntime) -> Result<(), Fail> {
         ),
     ];
     for (text, number) in faults {
-        match Position::read(rt.alloc(), text) {
-            Ok(_) => return Err(Fail::new("a fault is missing")),
-            Err(fault) => assert_eq!(rt; fault.number(), number),
-        }
+        assert!(rt; count_of(rt.alloc(), text) == Err(number));
     }
-    let most = Position::read(rt.alloc(), ONES)?;
-    assert_eq!(rt; most.heaps().len(), 64);
-    let many = Position::read(rt.alloc(), ONE_MORE);
-    assert!(rt; matches!(many, Err(PositionFault::TooMany)));
-    Ok(())
+}
+
+/// Whether the move from the heaps 1 and 5 leaves these heaps.
+fn leaves(alloc: Global, step: Move, wanted: &[u64]) -> Result<bool, u8> {
+    let Ok(code) = Code::read(b"0.75") else {
+        return Err(0);
+    };
+    let Ok(position) = Position::read(alloc, b"1 5") else {
+        return Err(0);
+    };
+    match apply(alloc, &code, &position, step) {
+        Ok(next) => Ok(next.heaps() == wanted),
+        Err(fault) => Err(fault.number()),
+    }
 }
 
 #[test]
-fn makes_moves(rt: HostRuntime) -> Result<(), Fail> {
-    let code = Code::read(b"0.75")?;
-    let position = Position::read(rt.alloc(), b"1 5")?;
+fn makes_moves(rt: HostRuntime) {
     let step = |heap, left| Move { heap, left };
-    let next = apply(rt.alloc(), &code, &position, step(5, Left::Two(1, 3)))?;
-    assert_eq!(rt; next.heaps(), [1u64, 1, 3].as_slice());
-    let absent = apply(rt.alloc(), &code, &position, step(4, Left::One(3)));
-    assert!(rt; matches!(absent, Err(MoveFault::NoSuchHeap)));
-    let refused = apply(rt.alloc(), &code, &position, step(5, Left::One(3)));
-    assert!(rt; matches!(refused, Err(MoveFault::NotAllowed)));
-    Ok(())
+    let split = step(5, Left::Two(1, 3));
+    assert!(rt; leaves(rt.alloc(), split, &[1, 1, 3]) == Ok(true));
+    let absent = MoveFault::NoSuchHeap.number();
+    assert!(rt; leaves(rt.alloc(), step(4, Left::One(3)), &[]) == Err(absent));
+    let refused = MoveFault::NotAllowed.number();
+    assert!(rt; leaves(rt.alloc(), step(5, Left::One(3)), &[]) == Err(refused));
 }
 
 // Twelve heaps: more than a position holds without memory.
@@ -100,25 +144,29 @@ fn doubled<A: Room + Copy>(alloc: A) -> Result<Position<A>, Memory> {
     position.add(&position)
 }
 
+/// Whether the sum is right, and whether the growth of this number was refused.
+fn add_with(alloc: Global, refused: u64) -> (Result<bool, u8>, bool) {
+    let ration = Ration::new(alloc, refused);
+    let answer = match doubled(&ration) {
+        Ok(sum) => Ok(sum.heaps() == [3u64, 3, 4, 4, 5, 5, 6, 6, 7, 7, 8, 8].as_slice()),
+        Err(memory) => Err(memory.number()),
+    };
+    (answer, ration.has_refused())
+}
+
 #[test]
-fn adds_or_says_memory(rt: HostRuntime) -> Result<(), Fail> {
+fn adds_or_says_memory(rt: HostRuntime) {
     for n in 1..99u64 {
-        let ration = Ration::new(rt.alloc(), n);
-        match doubled(&ration) {
-            Ok(sum) => {
-                assert_eq!(rt;
-                    sum.heaps(),
-                    [3u64, 3, 4, 4, 5, 5, 6, 6, 7, 7, 8, 8].as_slice()
-                );
-                assert!(rt; n > 1);
-            }
-            Err(memory) => assert!(rt; ration.has_refused() && memory.number() == 9),
-        }
-        if !ration.has_refused() {
-            return Ok(());
+        let (answer, has_refused) = add_with(rt.alloc(), n);
+        assert!(rt;
+            is_fair(answer, has_refused) && (answer.is_err() || n > 1),
+            "at {n}"
+        );
+        if !has_refused {
+            return;
         }
     }
-    Err(Fail::new("growths go on"))
+    panic!(rt; "growths go on");
 }
 
 fn moved<A: Room + Copy>(alloc: A, code: &Code) -> Result<Position<A>, MoveFault> {
@@ -134,47 +182,57 @@ fn moved<A: Room + Copy>(alloc: A, code: &Code) -> Result<Position<A>, MoveFault
     apply(alloc, code, &position, step)
 }
 
+/// Whether the move is right, and whether the growth of this number was refused.
+fn move_with(alloc: Global, code: &Code, refused: u64) -> (Result<bool, u8>, bool) {
+    let ration = Ration::new(alloc, refused);
+    let answer = match moved(&ration, code) {
+        Ok(next) => Ok(next.heaps() == [1u64, 1, 1, 1, 1, 1, 1, 1, 1, 3].as_slice()),
+        Err(fault) => Err(fault.number()),
+    };
+    (answer, ration.has_refused())
+}
+
 #[test]
 fn moves_or_says_memory(rt: HostRuntime) -> Result<(), Fail> {
     let code = Code::read(b"0.75")?;
     for n in 1..99u64 {
-        let ration = Ration::new(rt.alloc(), n);
-        match moved(&ration, &code) {
-            Ok(next) => {
-                assert_eq!(rt; next.heaps(), [1u64, 1, 1, 1, 1, 1, 1, 1, 1, 3].as_slice());
-                assert!(rt; n > 1);
-            }
-            Err(fault) => assert!(rt; ration.has_refused() && fault.number() == 9),
-        }
-        if !ration.has_refused() {
+        let (answer, has_refused) = move_with(rt.alloc(), &code, n);
+        assert!(rt;
+            is_fair(answer, has_refused) && (answer.is_err() || n > 1),
+            "at {n}"
+        );
+        if !has_refused {
             return Ok(());
         }
     }
     Err(Fail::new("growths go on"))
+}
+
+/// Whether a text is read and written, and whether the growth of this number was refused.
+fn read_with(alloc: Global, refused: u64) -> (Result<bool, u8>, bool) {
+    let ration = Ration::new(alloc, refused);
+    let answer = is_read_as(&ration, b"30 4 200 1 2 3 5 6 7", "1 2 3 4 5 6 7 30 200");
+    (answer, ration.has_refused())
 }
 
 #[test]
-fn reads_and_writes_or_says_memory(rt: HostRuntime) -> Result<(), Fail> {
+fn reads_and_writes_or_says_memory(rt: HostRuntime) {
     for n in 1..99u64 {
-        let ration = Ration::new(rt.alloc(), n);
-        match Position::read(&ration, b"30 4 200 1 2 3 5 6 7") {
-            Ok(position) => match position.text() {
-                Ok(text) => assert_eq!(rt; text.as_str(), "1 2 3 4 5 6 7 30 200"),
-                Err(memory) => assert!(rt; ration.has_refused() && memory.number() == 9),
-            },
-            Err(fault) => assert!(rt; ration.has_refused() && fault.number() == 9),
-        }
-        if !ration.has_refused() {
-            return Ok(());
+        let (answer, has_refused) = read_with(rt.alloc(), n);
+        assert!(rt; is_fair(answer, has_refused), "at {n}");
+        if !has_refused {
+            return;
         }
     }
-    Err(Fail::new("growths go on"))
+    panic!(rt; "growths go on");
 }
 
 /// How long the text is.
-fn written<A: Room + Copy>(position: &Position<A>) -> Result<usize, Memory> {
-    let text = position.text()?;
-    Ok(text.as_bytes().len())
+fn written<A: Room + Copy>(position: &Position<A>) -> Option<usize> {
+    match position.text() {
+        Ok(text) => Some(text.as_bytes().len()),
+        Err(_) => None,
+    }
 }
 
 /// How many heaps a copy has with one more.
@@ -204,7 +262,7 @@ fn memory_suffices_for_many_heaps(rt: HostRuntime) -> Result<(), Fail> {
     for _ in 0..14usize {
         assert_eq!(rt;
             written(&position),
-            Ok(count.saturating_mul(2).saturating_sub(1))
+            Some(count.saturating_mul(2).saturating_sub(1))
         );
         assert_eq!(rt;
             one_more(rt.alloc(), &position),
@@ -224,25 +282,32 @@ fn eight<A: Room + Copy>(alloc: A) -> Option<Position<A>> {
     eight.copied(alloc).ok()
 }
 
+/// Whether one more heap than these eight is refused, and they stay.
+fn is_full<A: Room + Copy>(eight: &mut Position<A>) -> bool {
+    eight.push(4).is_err() && eight.heaps() == [1u64, 1, 2, 2, 3, 3, 7, 7].as_slice()
+}
+
 /// Up to eight heaps take no memory.
 #[test]
 fn few_heaps_take_no_memory(rt: HostRuntime) -> Result<(), Fail> {
     let ration = Ration::new(rt.alloc(), 1);
-    let Some(mut eight) = eight(&ration) else {
-        return Err(Fail::new("no position"));
-    };
-    assert!(rt; !ration.has_refused());
-    assert!(rt; eight.push(4).is_err() && ration.has_refused());
-    assert_eq!(rt; eight.heaps(), [1u64, 1, 2, 2, 3, 3, 7, 7].as_slice());
+    let mut eight = eight(&ration).ok_or("no position")?;
+    let before = ration.has_refused();
+    let is_full = is_full(&mut eight);
+    assert!(rt; !before && is_full && ration.has_refused());
     Ok(())
+}
+
+/// How many heaps stay after a heap of 7 beside six others became one of 6.
+fn seven_moved_on<A: Room + Copy>(alloc: A) -> Option<usize> {
+    let seven = Position::read(alloc, b"1 2 3 4 5 6 7").ok()?;
+    moved_on(alloc, &seven)
 }
 
 /// A move from seven heaps takes none either.
 #[test]
-fn moves_of_few_heaps_take_no_memory(rt: HostRuntime) -> Result<(), Fail> {
+fn moves_of_few_heaps_take_no_memory(rt: HostRuntime) {
     let ration = Ration::new(rt.alloc(), 1);
-    let seven = Position::read(&ration, b"1 2 3 4 5 6 7")?;
-    assert_eq!(rt; moved_on(&ration, &seven), Some(7));
+    assert!(rt; seven_moved_on(&ration) == Some(7));
     assert!(rt; !ration.has_refused());
-    Ok(())
 }

@@ -1,114 +1,67 @@
 //! Worked presentations, and want of memory.
 ghost use Rattle.std.specs.Prelude.{◌≡◌, length};
 
-use monoid_table::Table;
-use presentations::{Named, PresFault, Presentation, VectorRelation, related_is_least, table_of};
+use crate::growths::is_fair;
+use presentations::{
+    Generator, Named, PresFault, Presentation, Relation, VectorRelation, related_is_least, table_of,
+};
 use ration::Ration;
-use std::alloc::{Allocator, Global};
+use std::alloc::{AllocError, Allocator, Global};
+use std::process::Abort;
 use std::test::Fail;
 
-fn named(alloc: Global, text: &[u8], limit: u32) -> Result<Named, PresFault> {
-    let presentation = Presentation::read(alloc, text)?;
-    table_of(alloc, &presentation, limit)
+fn named<A: Allocator + Copy>(alloc: A, text: &str) -> Result<Named<A>, PresFault> {
+    let presentation = Presentation::read(alloc, text.as_bytes())?;
+    table_of(alloc, &presentation, 65536)
 }
 
-fn number_of(answer: Result<Named, PresFault>) -> u8 {
-    match answer {
+/// The number of the fault, or 0.
+fn fault_of(alloc: Global, text: &str) -> u8 {
+    match named(alloc, text) {
         Ok(_) => 0,
         Err(fault) => fault.number(),
     }
 }
 
 #[test]
-fn refusals(rt: HostRuntime) -> Result<(), Fail> {
-    let rows: [(&[u8], u8); 28] = [
-        (b"a=b", 2),
-        (b"a^2=a^2", 2),
-        (b"a^64=1 b^64=1 c^64=1", 3),
-        (b"a^17=1 b^16=1", 3),
-        (b"a^16=a b^16=b c^16=c d^16=d", 3),
-        (b"a^16=1 b^16=1", 0),
-        (b"a^1=1", 1),
-        (b"a^40a^30=1", 1),
-        (b"", 1),
-        (b"a^2=1  b^2=1", 1),
-        (b"a^2=1 ", 1),
-        (b"a^02=1", 1),
-        (b"a^65=1", 1),
-        (b"a1=1", 1),
-        (b"a^2=1 b^2=", 1),
-        (b"a^2=1 b^3=b bc=ab c^2=b^2", 2),
-        (b"a=b a^300=1", 1),
-        (b"a=b a^64b^2=b^64", 2),
-        (b"a^2=1\n", 1),
-        (b" a^2=1", 1),
-        (b"a^=1", 1),
-        (b"a^0=1", 1),
-        (b"A^2=1", 1),
-        (b"a^2", 1),
-        (b"a^2=1=1", 1),
-        (b"11=a^2", 1),
-        (b"=1", 1),
-        (b"a^2 =1", 1),
+fn refusals(rt: HostRuntime) {
+    let rows: [(&str, u8); 28] = [
+        ("a=b", 2),
+        ("a^2=a^2", 2),
+        ("a^64=1 b^64=1 c^64=1", 3),
+        ("a^17=1 b^16=1", 3),
+        ("a^16=a b^16=b c^16=c d^16=d", 3),
+        ("a^16=1 b^16=1", 0),
+        ("a^1=1", 1),
+        ("a^40a^30=1", 1),
+        ("", 1),
+        ("a^2=1  b^2=1", 1),
+        ("a^2=1 ", 1),
+        ("a^02=1", 1),
+        ("a^65=1", 1),
+        ("a1=1", 1),
+        ("a^2=1 b^2=", 1),
+        ("a^2=1 b^3=b bc=ab c^2=b^2", 2),
+        ("a=b a^300=1", 1),
+        ("a=b a^64b^2=b^64", 2),
+        ("a^2=1\n", 1),
+        (" a^2=1", 1),
+        ("a^=1", 1),
+        ("a^0=1", 1),
+        ("A^2=1", 1),
+        ("a^2", 1),
+        ("a^2=1=1", 1),
+        ("11=a^2", 1),
+        ("=1", 1),
+        ("a^2 =1", 1),
     ];
     for (text, number) in rows {
-        assert_eq!(rt; number_of(named(rt.alloc(), text, 65536)), number);
+        assert!(rt; fault_of(rt.alloc(), text) == number, "of {text}");
     }
-    Ok(())
 }
 
-#[test]
-fn tables(rt: HostRuntime) -> Result<(), Fail> {
-    let rows: [(&[u8], &[u16], &[u16]); 8] = [
-        (b"a^3=a", &[1], &[0, 1, 2, 1, 2, 1, 2, 1, 2]),
-        (
-            b"a^2=1 b^2=1",
-            &[1, 2],
-            &[0, 1, 2, 3, 1, 0, 3, 2, 2, 3, 0, 1, 3, 2, 1, 0],
-        ),
-        (b"aa=1", &[1], &[0, 1, 1, 0]),
-        (b"a^2=1 a^3=1", &[0], &[0]),
-        (b"a=1", &[0], &[0]),
-        (b"1=a", &[0], &[0]),
-        (b"b^2=1 a=1", &[0, 1], &[0, 1, 1, 0]),
-        (
-            b"a^2=1 b^3=b c^4=c^2 bc=ab c^2=b^2",
-            &[1, 2, 3],
-            &[
-                0, 1, 2, 3, 4, 5, 6, 7, 1, 0, 4, 5, 2, 3, 7, 6, 2, 4, 6, 4, 7, 2, 2, 4, 3, 5, 4, 6,
-                2, 7, 7, 6, 4, 2, 7, 2, 6, 4, 4, 2, 5, 3, 2, 7, 4, 6, 6, 7, 6, 7, 2, 7, 4, 6, 6, 7,
-                7, 6, 4, 6, 2, 7, 7, 6,
-            ],
-        ),
-    ];
-    for (text, elements, table) in rows {
-        let Named {
-            table: found,
-            generators,
-        } = named(rt.alloc(), text, 65536)?;
-        assert_eq!(rt; generators.len(), elements.len());
-        for (generator, element) in generators.iter().zip(elements) {
-            assert_eq!(rt; generator.element, *element);
-        }
-        let rows = found.into_rows();
-        assert_eq!(rt; rows.as_slice(), table);
-    }
-    Ok(())
-}
-
-#[test]
-fn whole_box(rt: HostRuntime) -> Result<(), Fail> {
-    let Named { table, generators } = named(
-        rt.alloc(),
-        b"a^16=a b^16=b c^16=c d^16=d a=b b=c c=d",
-        65536,
-    )?;
-    assert_eq!(rt; table.order(), 16);
-    for generator in &generators {
-        assert_eq!(rt; generator.element, 1);
-    }
-    Ok(())
-}
+/// A presentation of eight elements.
+const OF_EIGHT: &str = "a^2=1 b^3=b c^4=c^2 bc=ab c^2=b^2";
 
 /// The products of `a^2=1 b^3=b c^4=c^2 bc=ab c^2=b^2`, row after row.
 const EIGHT: &[u16] = &[
@@ -116,76 +69,164 @@ const EIGHT: &[u16] = &[
     4, 2, 7, 2, 6, 4, 4, 2, 5, 3, 2, 7, 4, 6, 6, 7, 6, 7, 2, 7, 4, 6, 6, 7, 7, 6, 4, 6, 2, 7, 7, 6,
 ];
 
-fn eight<A: Allocator + Copy>(alloc: A) -> Result<Table<A>, PresFault> {
-    let presentation = Presentation::read(alloc, b"a^2=1 b^3=b c^4=c^2 bc=ab c^2=b^2")?;
-    let Named {
-        table,
-        generators: _,
-    } = table_of(alloc, &presentation, 65536)?;
-    Ok(table)
+/// Whether the letters have these elements.
+fn are_elements(generators: &[Generator], elements: &[u16]) -> bool {
+    for (generator, element) in generators.iter().zip(elements) {
+        if generator.element != *element {
+            return false;
+        }
+    }
+    generators.len() == elements.len()
+}
+
+/// Whether the letters have these elements, and the elements these products.
+fn is_named<A: Allocator>(named: Named<A>, elements: &[u16], products: &[u16]) -> bool {
+    let Named { table, generators } = named;
+    let rows = table.into_rows();
+    are_elements(&generators, elements) && rows.as_slice() == products
+}
+
+/// Whether the text presents these elements of its letters, and these products.
+fn presents<A: Allocator + Copy>(
+    alloc: A,
+    text: &str,
+    elements: &[u16],
+    products: &[u16],
+) -> Result<bool, u8> {
+    match named(alloc, text) {
+        Ok(named) => Ok(is_named(named, elements, products)),
+        Err(fault) => Err(fault.number()),
+    }
 }
 
 #[test]
-fn makes_the_table_or_says_memory(rt: HostRuntime) -> Result<(), Fail> {
+fn tables(rt: HostRuntime) {
+    let rows: [(&str, &[u16], &[u16]); 8] = [
+        ("a^3=a", &[1], &[0, 1, 2, 1, 2, 1, 2, 1, 2]),
+        (
+            "a^2=1 b^2=1",
+            &[1, 2],
+            &[0, 1, 2, 3, 1, 0, 3, 2, 2, 3, 0, 1, 3, 2, 1, 0],
+        ),
+        ("aa=1", &[1], &[0, 1, 1, 0]),
+        ("a^2=1 a^3=1", &[0], &[0]),
+        ("a=1", &[0], &[0]),
+        ("1=a", &[0], &[0]),
+        ("b^2=1 a=1", &[0, 1], &[0, 1, 1, 0]),
+        (OF_EIGHT, &[1, 2, 3], EIGHT),
+    ];
+    for (text, elements, products) in rows {
+        assert!(rt;
+            presents(rt.alloc(), text, elements, products) == Ok(true),
+            "of {text}"
+        );
+    }
+}
+
+/// How many elements the text presents, and whether each of four letters is the element 1.
+fn order_of(alloc: Global, text: &str) -> Option<(u16, bool)> {
+    let named = named(alloc, text).ok()?;
+    Some((
+        named.table.order(),
+        are_elements(&named.generators, &[1, 1, 1, 1]),
+    ))
+}
+
+#[test]
+fn whole_box(rt: HostRuntime) {
+    let text = "a^16=a b^16=b c^16=c d^16=d a=b b=c c=d";
+    assert!(rt; order_of(rt.alloc(), text) == Some((16, true)));
+}
+
+/// Whether the table is right, and whether the growth of this number was refused.
+fn make_with(alloc: Global, refused: u64) -> (Result<bool, u8>, bool) {
+    let ration = Ration::new(alloc, refused);
+    let answer = presents(&ration, OF_EIGHT, &[1, 2, 3], EIGHT);
+    (answer, ration.has_refused())
+}
+
+#[test]
+fn makes_the_table_or_says_memory(rt: HostRuntime) {
     for n in 1..999u64 {
-        let ration = Ration::new(rt.alloc(), n);
-        match eight(&ration) {
-            Ok(table) => {
-                let rows = table.into_rows();
-                assert_eq!(rt; rows.as_slice(), EIGHT);
-            }
-            Err(fault) => assert!(rt; ration.has_refused() && fault == PresFault::Memory),
-        }
-        if !ration.has_refused() {
-            return Ok(());
+        let (answer, has_refused) = make_with(rt.alloc(), n);
+        assert!(rt; is_fair(answer, has_refused), "at {n}");
+        if !has_refused {
+            return;
         }
     }
-    Err(Fail::new("growths go on"))
+    panic!(rt; "growths go on");
+}
+
+/// How many relations the text has.
+fn count_of<A: Allocator>(alloc: A, text: &[u8]) -> Result<usize, u8> {
+    match Presentation::read(alloc, text) {
+        Ok(presentation) => Ok(presentation.relations().len()),
+        Err(fault) => Err(fault.number()),
+    }
+}
+
+/// Whether five relations are read, and whether the growth of this number was refused.
+fn read_with(alloc: Global, refused: u64) -> (Result<bool, u8>, bool) {
+    let ration = Ration::new(alloc, refused);
+    let answer = match count_of(&ration, OF_EIGHT.as_bytes()) {
+        Ok(count) => Ok(count == 5),
+        Err(number) => Err(number),
+    };
+    (answer, ration.has_refused())
 }
 
 #[test]
-fn reads_or_says_memory(rt: HostRuntime) -> Result<(), Fail> {
+fn reads_or_says_memory(rt: HostRuntime) {
     for n in 1..99u64 {
-        let ration = Ration::new(rt.alloc(), n);
-        match Presentation::read(&ration, b"a^2=1 b^3=b c^4=c^2 bc=ab c^2=b^2") {
-            Ok(presentation) => assert_eq!(rt; presentation.relations().len(), 5),
-            Err(fault) => assert!(rt; ration.has_refused() && fault == PresFault::Memory),
-        }
-        if !ration.has_refused() {
-            return Ok(());
+        let (answer, has_refused) = read_with(rt.alloc(), n);
+        assert!(rt; is_fair(answer, has_refused), "at {n}");
+        if !has_refused {
+            return;
         }
     }
-    Err(Fail::new("growths go on"))
+    panic!(rt; "growths go on");
+}
+
+fn have_exponents(rt: &impl Abort, relations: &[Relation]) {
+    assert!(rt; relations.len() == 2);
+    let mut left = [0u8; 26];
+    left[0] = 3;
+    left[25] = 10;
+    assert!(rt; relations[0].left == left);
+    assert!(rt; relations[0].right == [0u8; 26]);
+    assert!(rt; relations[1].left[1] == 64);
+    assert!(rt; relations[1].right[25] == 2);
 }
 
 #[test]
 fn reads_words(rt: HostRuntime) -> Result<(), Fail> {
     let presentation = Presentation::read(rt.alloc(), b"az^10a^2=1 b^32b^32=zz")?;
-    let relations = presentation.relations();
-    assert_eq!(rt; relations.len(), 2);
-    let mut left = [0u8; 26];
-    left[0] = 3;
-    left[25] = 10;
-    assert_eq!(rt; relations[0].left, left);
-    assert_eq!(rt; relations[0].right, [0; 26]);
-    assert_eq!(rt; relations[1].left[1], 64);
-    assert_eq!(rt; relations[1].right[25], 2);
+    have_exponents(&rt, presentation.relations());
     Ok(())
 }
 
-#[test]
-fn reads_at_most_64_relations(rt: HostRuntime) -> Result<(), Fail> {
-    let mut text = Vec::new(rt.alloc());
+/// Writes a relation, and so many more.
+fn put_relations(text: &mut Vec<u8>, more: u8) -> Result<(), AllocError> {
     text.extend_from_slice(b"a=1")?;
-    for _k in 1..64u8 {
+    for _k in 0..more {
         text.extend_from_slice(b" a=1")?;
     }
-    let most = Presentation::read(rt.alloc(), &text)?;
-    assert_eq!(rt; most.relations().len(), 64);
-    text.extend_from_slice(b" a=1")?;
-    let more = Presentation::read(rt.alloc(), &text);
-    assert!(rt; matches!(more, Err(PresFault::Text)));
     Ok(())
+}
+
+/// How many relations are read, of so many beside a first.
+fn count_beside(alloc: Global, more: u8) -> Result<usize, u8> {
+    let mut text = Vec::new(alloc);
+    match put_relations(&mut text, more) {
+        Ok(()) => count_of(alloc, &text),
+        Err(_) => Err(0),
+    }
+}
+
+#[test]
+fn reads_at_most_64_relations(rt: HostRuntime) {
+    assert!(rt; count_beside(rt.alloc(), 63) == Ok(64));
+    assert!(rt; count_beside(rt.alloc(), 64) == Err(PresFault::Text.number()));
 }
 
 struct SameLength;
@@ -200,30 +241,53 @@ fn states_the_law(_rt: HostRuntime) -> Result<(), Fail> {
     Ok(())
 }
 
-/// 64 relations between words of all letters, each 64 times: more than 2^16 bytes.
-#[test]
-fn memory_suffices_for_a_long_text(rt: HostRuntime) -> Result<(), Fail> {
-    let mut word = Vec::new(rt.alloc());
+/// Writes each letter 64 times.
+fn put_word(text: &mut Vec<u8>) -> Result<(), AllocError> {
     for letter in b"abcdefghijklmnopqrstuvwxyz" {
         for _k in 0..64u8 {
-            word.push(*letter)?;
+            text.push(*letter)?;
         }
     }
-    let mut text = Vec::new(rt.alloc());
+    Ok(())
+}
+
+/// Writes 64 relations between words of all letters, each 64 times.
+fn put_long(text: &mut Vec<u8>) -> Result<(), AllocError> {
     for k in 0..64u8 {
         if k > 0 {
             text.push(b' ')?;
         }
-        text.extend_from_slice(&word)?;
+        put_word(text)?;
         text.push(b'=')?;
-        text.extend_from_slice(&word)?;
+        put_word(text)?;
     }
+    Ok(())
+}
+
+/// Whether 64 relations have each letter 64 times on each side.
+fn are_full(relations: &[Relation]) -> bool {
+    for relation in relations {
+        if relation.left != [64u8; 26] || relation.right != [64u8; 26] {
+            return false;
+        }
+    }
+    relations.len() == 64
+}
+
+/// Whether the text is read as such relations.
+fn is_full(alloc: Global, text: &[u8]) -> bool {
+    match Presentation::read(alloc, text) {
+        Ok(presentation) => are_full(presentation.relations()),
+        Err(_) => false,
+    }
+}
+
+/// More than 2^16 bytes.
+#[test]
+fn memory_suffices_for_a_long_text(rt: HostRuntime) -> Result<(), Fail> {
+    let mut text = Vec::new(rt.alloc());
+    put_long(&mut text)?;
     assert!(rt; text.len() > 200_000);
-    let presentation = Presentation::read(rt.alloc(), &text)?;
-    assert_eq!(rt; presentation.relations().len(), 64);
-    for relation in presentation.relations() {
-        assert_eq!(rt; relation.left, [64u8; 26]);
-        assert_eq!(rt; relation.right, [64u8; 26]);
-    }
+    assert!(rt; is_full(rt.alloc(), &text));
     Ok(())
 }

@@ -26,9 +26,6 @@ stand_push es cs e new h t = subst (Stand (es ++ e ∷ [])) (sym t.last) (record
   other_codes = other_codes_push cs t.certificate h.other_codes t.absent;
 })
 
-pub nothing_stands : Stand [] []
-nothing_stands = record { certified = tt; other_codes = λ i j d l m. absurd (omega arith) }
-
 -- a text that stands for no entry
 abbrev pub blank : Texts
 blank =
@@ -99,12 +96,3 @@ loaded_fault bytes limit ts i t cs (fault.Code j) holds l is stand (inr h) =
 loaded_fault bytes limit ts i t cs (fault.Twice j) holds l is stand (inr h) =
     (map written ts, holds, first_fault limit ts i t cs (fault.Twice j) l is stand h)
 loaded_fault bytes limit ts i t cs fault.Memory holds l is stand (inr h) = absurd h
-
-pub loaded_no_file : (bytes : List ℕ) (limit : ℕ) (f : LoadFault) → IsNoFile bytes f
-    → IsLoaded bytes limit (Err f)
-loaded_no_file bytes limit fault.Json h = h
-loaded_no_file bytes limit fault.Shape h = h
-loaded_no_file bytes limit (fault.Entry j r) h = absurd h
-loaded_no_file bytes limit (fault.Code j) h = absurd h
-loaded_no_file bytes limit (fault.Twice j) h = absurd h
-loaded_no_file bytes limit fault.Memory h = tt

@@ -2,18 +2,14 @@
 mod tasks;
 
 use allocation::Memory;
-use catalogue_command::{CatalogueStop, Report, list, salvage};
+use catalogue_command::{list, salvage};
 use folders::MemoryFolder;
 use std::alloc::Global;
 use std::test::Fail;
 
 const LIMIT: u32 = 1000;
 
-/// The quotient of 0.3, and its text within JSON.
-const NIM: &str =
-    "mqc 1\ncode 0.3\norder 2\nstart 1\nperiod 2\nphi 1 0\nportion 1\nwords 0:1\nrow 0 1\nrow 1 0\n\
-apart 0\nend\n";
-
+/// A file of the quotient of 0.3.
 const ONE_ENTRY: &str =
     "{\"entries\":[{\"certificate\":\"mqc 1\\ncode 0.3\\norder 2\\nstart 1\\nperiod 2\\nphi 1 0\\n\
 portion 1\\nwords 0:1\\nrow 0 1\\nrow 1 0\\napart 0\\nend\\n\",\"code\":\"0.3\"}],\"version\":1}\n";
@@ -56,11 +52,24 @@ row 6 3 2 4 4 5 7 7\\nrow 7 4 2 4 4 5 7 7\\n\
 apart 0 1 1 3 1 1 0 0 0 0 0 0 4 2 1 2 2 0 1 3 3 0 1 1 0 5 0 0\\nend\\n\
 \",\"code\":\"0.75\"}],\"version\":1}";
 
-/// Lists a file.
-fn listed(alloc: Global, held: &str) -> Result<Result<Report, CatalogueStop<'static>>, Memory> {
+/// A folder of one file.
+fn folder_of(alloc: Global, held: &str) -> Result<MemoryFolder, Memory> {
     let mut folder = MemoryFolder::new(alloc);
     folder.put("x.json", held.as_bytes())?;
-    Ok(list(alloc, &mut folder, "x.json", LIMIT))
+    Ok(folder)
+}
+
+/// Whether the file is well, if this is what its list is.
+fn list_in(alloc: Global, folder: &mut MemoryFolder, printed: &str) -> Option<bool> {
+    match &list(alloc, folder, "x.json", LIMIT) {
+        Ok(report) if report.text.as_str() == printed => Some(report.well),
+        _ => None,
+    }
+}
+
+fn listed(alloc: Global, held: &str, printed: &str) -> Result<Option<bool>, Memory> {
+    let mut folder = folder_of(alloc, held)?;
+    Ok(list_in(alloc, &mut folder, printed))
 }
 
 #[test]
@@ -78,39 +87,57 @@ fn lists_a_file_or_says_why_not(rt: HostRuntime) -> Result<(), Fail> {
         (ONE_ENTRY, true, "0.3 order 2 start 1 period 2\n"),
     ];
     for (held, well, printed) in rows {
-        let report = listed(rt.alloc(), held)??;
-        assert_eq!(rt; report.well, well, "of {held}");
-        assert_eq!(rt; report.text.as_str(), printed, "of {held}");
+        assert!(rt;
+            listed(rt.alloc(), held, printed)? == Some(well),
+            "of {held}"
+        );
     }
     Ok(())
 }
 
+/// Whether salvaging ends well, if this is what it prints.
+fn salvage_in(alloc: Global, folder: &mut MemoryFolder, printed: &str) -> Option<bool> {
+    match &salvage(alloc, folder, "x.json", LIMIT) {
+        Ok(report) if report.text.as_str() == printed => Some(report.well),
+        _ => None,
+    }
+}
+
+/// Whether salvaging a file ends well, if this is what it prints, and the same of its list then.
+fn salvaged(
+    alloc: Global,
+    held: &str,
+    printed: &str,
+    lines: &str,
+) -> Result<(Option<bool>, Option<bool>), Memory> {
+    let mut folder = folder_of(alloc, held)?;
+    let ended = salvage_in(alloc, &mut folder, printed);
+    Ok((ended, list_in(alloc, &mut folder, lines)))
+}
+
 #[test]
 fn keeps_what_stands_of_a_damaged_file(rt: HostRuntime) -> Result<(), Fail> {
-    let mut folder = MemoryFolder::new(rt.alloc());
-    folder.put("x.json", DAMAGED.as_bytes())?;
-    let report = salvage(rt.alloc(), &mut folder, "x.json", LIMIT)?;
-    assert!(rt; report.well);
-    assert_eq!(rt;
-        report.text.as_str(),
-        "refused 3 Entry 2 no 2 Law\nkept 2\n"
-    );
-    let report = list(rt.alloc(), &mut folder, "x.json", LIMIT)?;
-    assert!(rt; report.well);
-    assert_eq!(rt;
-        report.text.as_str(),
-        "0.3 order 2 start 1 period 2\n0.75 order 8 start 8 period 2\n"
-    );
+    let (ended, listed) = salvaged(
+        rt.alloc(),
+        DAMAGED,
+        "refused 3 Entry 2 no 2 Law\nkept 2\n",
+        "0.3 order 2 start 1 period 2\n0.75 order 8 start 8 period 2\n",
+    )?;
+    assert!(rt; ended == Some(true));
+    assert!(rt; listed == Some(true));
     Ok(())
+}
+
+/// Whether salvaging a file ends well, if this is what it prints and the file stays.
+fn left(alloc: Global, held: &str, printed: &str) -> Result<Option<bool>, Memory> {
+    let mut folder = folder_of(alloc, held)?;
+    let ended = salvage_in(alloc, &mut folder, printed);
+    let stays = folder.bytes("x.json") == Some(held.as_bytes());
+    Ok(if stays { ended } else { None })
 }
 
 #[test]
 fn leaves_what_is_no_catalogue(rt: HostRuntime) -> Result<(), Fail> {
-    let mut folder = MemoryFolder::new(rt.alloc());
-    folder.put("x.json", b"[]".as_slice())?;
-    let report = salvage(rt.alloc(), &mut folder, "x.json", LIMIT)?;
-    assert!(rt; !report.well);
-    assert_eq!(rt; report.text.as_str(), "refused 2 Shape\n");
-    assert_eq!(rt; folder.bytes("x.json"), Some(b"[]".as_slice()));
+    assert!(rt; left(rt.alloc(), "[]", "refused 2 Shape\n")? == Some(false));
     Ok(())
 }

@@ -5,6 +5,8 @@
 #[cfg(test)]
 mod catalogue_command_tests;
 #[cfg(test)]
+mod certificates;
+#[cfg(test)]
 mod desk_command_tests;
 #[cfg(test)]
 mod present_command_tests;

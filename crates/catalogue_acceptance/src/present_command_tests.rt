@@ -1,6 +1,15 @@
 //! Worked presentations, and texts that present no finite monoid.
 use present_command::present;
+use std::alloc::Global;
 use std::test::Fail;
+
+/// Whether it is well, if this is what is said.
+fn is_well(alloc: Global, presentation: &str, text: &str) -> Option<bool> {
+    match &present(alloc, presentation) {
+        Ok(said) if said.text.as_slice() == text.as_bytes() => Some(said.well),
+        _ => None,
+    }
+}
 
 #[test]
 fn presents_monoids(rt: HostRuntime) -> Result<(), Fail> {
@@ -34,11 +43,9 @@ row 6 7 2 7 4 6 6 7\nrow 7 6 4 6 2 7 7 6\n",
         ("a^2=1  b^2=1", "refused 1 Text\n"),
     ];
     for (presentation, text) in rows {
-        let said = present(rt.alloc(), presentation)?;
-        assert_eq!(rt; said.text.as_slice(), text.as_bytes(), "of {presentation}");
-        assert_eq!(rt;
-            said.well,
-            !text.starts_with("refused"),
+        let well = !text.starts_with("refused");
+        assert!(rt;
+            is_well(rt.alloc(), presentation, text) == Some(well),
             "of {presentation}"
         );
     }

@@ -24,10 +24,6 @@ first_line (a ∷ u) (b ∷ v) x y p q e =
     let same : a ∷ u ≡ b ∷ v = (let h0 = h.0 in let r0 = r.0 in cc) in
     (same, r.1)
 
-pub no_lf_inside : (u x : List ℕ) → AllByRecursion IsNoLf (u ++ 10 ∷ x) → {A : Type 0} → A
-no_lf_inside [] x p = absurd (p.0 refl)
-no_lf_inside (a ∷ u) x p = no_lf_inside u x p.1
-
 pub cut : (xs : List ℕ) (i : ℕ) → i < length xs → get_or xs i 0 ≡ 10
     → ((k : ℕ) → k < i → (get_or xs k 0 == 10) ≡ false)
     → (xs ≡ take i xs ++ 10 ∷ drop (suc i) xs) × AllByRecursion IsNoLf (take i xs)

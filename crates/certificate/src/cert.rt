@@ -1,6 +1,7 @@
 //! Certificates whose lines fit one another.
 ghost use Rattle.std.specs.Prelude.{◌≡◌, ◌≤◌};
 ghost use Rattle.std.specs.List.{concat};
+ghost use Rattle.misere_theory.specs.declared.TheConstants.{LARGEST_ORDER, MOST_ENTRIES};
 ghost use Rattle.misere_theory.specs.Certificates.{InRanges};
 ghost use Rattle.certificate.specs.Pieces.{IsWhole, certificate_of, pretending_of};
 
@@ -56,7 +57,7 @@ impl<A: Allocator> Cert<A> {
     /// How many elements the monoid has.
     pub fn order(&self) -> u16
         ensures value { result ≡ self.now.order }
-        ensures range { (2 ≤ result) × (result ≤ 256) }
+        ensures range { (2 ≤ result) × (result ≤ LARGEST_ORDER) }
     {
         self.parts.order
     }
@@ -64,7 +65,7 @@ impl<A: Allocator> Cert<A> {
     /// The heap from which on the elements of heaps repeat.
     pub fn start(&self) -> u64
         ensures value { result ≡ self.now.start }
-        ensures range { (1 ≤ result) × (result ≤ 1024) }
+        ensures range { (1 ≤ result) × (result ≤ MOST_ENTRIES) }
     {
         self.parts.phi.start()
     }
@@ -72,7 +73,7 @@ impl<A: Allocator> Cert<A> {
     /// After how many heaps they repeat.
     pub fn period(&self) -> u64
         ensures value { result ≡ self.now.period }
-        ensures range { (1 ≤ result) × (result ≤ 1024) }
+        ensures range { (1 ≤ result) × (result ≤ MOST_ENTRIES) }
     {
         self.parts.phi.period()
     }

@@ -1,11 +1,13 @@
 //! The lines up to the period.
 ghost use Rattle.std.specs.Prelude.{◌≤◌, ◌+◌, IfOk};
+ghost use Rattle.misere_theory.specs.declared.TheConstants.{LARGEST_ORDER, MOST_ENTRIES};
 ghost use Rattle.certificate.specs.Given.{Gives};
 ghost use Rattle.certificate_text.specs.Reading.{code_line_at, front_at};
 
 use crate::fault::TextFault;
 use crate::lines::field;
 use crate::reader::Reader;
+use misere_theory::{LARGEST_ORDER, MOST_ENTRIES};
 use octal_code::Code;
 
 /// What the lines up to the period hold.
@@ -36,15 +38,15 @@ fn code_line(reader: &mut Reader<'_>) -> Result<Code, TextFault>
 pub fn front_lines(reader: &mut Reader<'_>) -> Result<Front, TextFault>
     ensures read { Gives (λ x. ((x.code, x.order, x.start, x.period), reader.new)) result
         (front_at reader.old) }
-    ensures order { IfOk result (λ x. (2 ≤ x.order) × (x.order ≤ 256)) }
+    ensures order { IfOk result (λ x. (2 ≤ x.order) × (x.order ≤ LARGEST_ORDER)) }
     ensures period { IfOk result (λ x. (1 ≤ x.start) × (1 ≤ x.period)
-        × (x.start + x.period ≤ 1025)) }
+        × (x.start + x.period ≤ MOST_ENTRIES + 1)) }
 {
     reader.fixed(b"mqc 1\ncode ")?;
     let code = code_line(reader)?;
-    let order = field(reader, b"order", 2, 257)?;
-    let start = field(reader, b"start", 1, 1025)?;
-    let period = field(reader, b"period", 1, 1026 - start)?;
+    let order = field(reader, b"order", 2, LARGEST_ORDER + 1)?;
+    let start = field(reader, b"start", 1, MOST_ENTRIES + 1)?;
+    let period = field(reader, b"period", 1, MOST_ENTRIES + 2 - start)?;
     Ok(Front {
         code,
         order,

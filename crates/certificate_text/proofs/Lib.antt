@@ -3,4 +3,8 @@ pub mod Same
 pub mod Numbers
 pub mod Words
 pub mod Fields
+pub mod Codes
+pub mod Rows
+pub mod Counts
+pub mod Front
 pub mod Whole

@@ -1,176 +1,20 @@
 -- The whole text: what is read is spelled so, and what is spelled so is read.
-use Rattle.std.proofs.Common.{◌≡◌, ℕ, zero, suc, ◌+◌, ◌-◌, ◌*◌, ◌/◌, ◌^◌, ◌<◌, ◌≤◌, List, [], ◌∷◌, ◌++◌, map, length, get_or, Option, Some, refl, sym, ap, subst, ◌∙◌, append_assoc, arith, codes, All, add-one}
+use Rattle.std.proofs.Common.{◌≡◌, ℕ, suc, ◌+◌, ◌-◌, ◌*◌, ◌/◌, ◌^◌, ◌<◌, ◌≤◌, List, [], ◌∷◌, ◌++◌, map, length, get_or, Option, Some, refl, sym, ap, subst, ◌∙◌, append_assoc, arith, codes, All, add-one}
 use Rattle.std.specs.Fmt.{decimal}
 use Rattle.std.specs.List.{AllByRecursion, concat}
-use Rattle.std.proofs.Math.Nat.{mul-suc, suc-mul}
-use Rattle.std.proofs.lemmas.List.{append-nil, length-append}
+use Rattle.std.proofs.lemmas.List.{append-nil}
 use Rattle.std.proofs.lemmas.List.Elements.{All-from_recursion, recursion_from_All}
 use Rattle.std.proofs.lemmas.Option.{some_pair_parts}
-use Rattle.misere_theory.specs.Certificates.{Certificate, InRanges, IsOctalCode, pairs_with, pairs_from}
+use Rattle.misere_theory.specs.Certificates.{Certificate, InRanges}
 use Rattle.octal_code.specs.Text.{code_text}
 use Rattle.certificate_text.specs.Spelling.{spaced, key_word, row_line, text, lines, Line, Spells}
-use Rattle.certificate_text.specs.Reading.{◌>>=◌, fixed_at, number_at, key_at, line_at, field_at, portion_at, code_line_at, rows_at, rows_of, front_at, certificate_at}
+use Rattle.certificate_text.specs.Reading.{◌>>=◌, fixed_at, number_at, key_at, line_at, portion_at, rows_at, rows_of, front_at, certificate_at}
 use Rattle.certificate_text.proofs.Numbers.{bind_some, fixed_takes, fixed_again}
 use Rattle.certificate_text.proofs.Words.{numbers_reader, keys_reader, KeyFits, line_takes, line_again}
-use Rattle.certificate_text.proofs.Fields.{field_takes, field_again, RisesFrom, portion_takes, portion_again, code_line_takes, code_line_again, rows_text, RowFits, rows_take, rows_again, rows_of_concat}
-
--- ---- how many pairs
-
-with_length : (x y n : ℕ) → length (pairs_with x y n) ≡ n
-with_length x y zero = refl
-with_length x y (suc n) = ap suc (with_length x (y + 1) n)
-
-square : (n : ℕ) → n * (n - 1) + n ≡ n * n
-square zero = refl
-square (suc n) =
-    let e : suc n - 1 ≡ n = omega arith in
-    ap (λ (k : ℕ). suc n * k + suc n) e ∙ sym (mul-suc (suc n) n)
-
-twice : (n a l : ℕ) → a + n ≡ n * n → 2 * l ≡ a → 2 * (n + l) ≡ n * n + n
-twice n a l p q = omega arith
-
-pairs_twice : (x n : ℕ) → 2 * length (pairs_from x n) ≡ n * (n - 1)
-pairs_twice x zero = refl
-pairs_twice x (suc n) =
-    let e : suc n - 1 ≡ n = omega arith in
-    ap (λ (k : ℕ). 2 * k) (length-append (pairs_with x (x + 1) n) (pairs_from (x + 1) n)
-    ∙ ap (λ (k : ℕ). k + length (pairs_from (x + 1) n)) (with_length x (x + 1) n))
-    ∙ twice n (n * (n - 1)) (length (pairs_from (x + 1) n)) (square n) (pairs_twice (x + 1) n)
-    ∙ sym (ap (λ (k : ℕ). suc n * k) e ∙ suc-mul n n)
-
-half : (l m : ℕ) → 2 * l ≡ m → m / 2 ≡ l
-half l m e = omega arith
-
-pairs_count : (q : ℕ) → q * (q - 1) / 2 ≡ length (pairs_from 0 q)
-pairs_count q = half _ _ (pairs_twice 0 q)
-
--- ---- rising numbers
-
-rises_below : (least limit : ℕ) (xs : List ℕ) → RisesFrom least limit xs
-    → AllByRecursion (λ x. x < limit) xs
-rises_below least limit [] r = tt
-rises_below least limit (x ∷ xs) r = (r.1, rises_below (x + 1) limit xs r.2)
-
-rises_increasing : (least limit : ℕ) (xs : List ℕ) → RisesFrom least limit xs → (k : ℕ)
-    → suc k < length xs → get_or xs k 0 < get_or xs (suc k) 0
-rises_increasing least limit [] r k h = absurd (omega arith)
-rises_increasing least limit (x ∷ []) r k h = absurd (omega arith)
-rises_increasing least limit (x ∷ y ∷ ys) r zero h = omega (arith, r.2.0)
-rises_increasing least limit (x ∷ y ∷ ys) r (suc k) h =
-    rises_increasing (x + 1) limit (y ∷ ys) r.2 k (omega arith)
-
-increasing_rises : (least limit : ℕ) (xs : List ℕ) → (1 ≤ length xs → least ≤ get_or xs 0 0)
-    → AllByRecursion (λ x. x < limit) xs
-    → ((k : ℕ) → suc k < length xs → get_or xs k 0 < get_or xs (suc k) 0) → RisesFrom least limit xs
-increasing_rises least limit [] from below up = tt
-increasing_rises least limit (x ∷ xs) from below up = (
-  from (omega arith),
-  below.0,
-  increasing_rises (x + 1) limit xs
-      (λ h. let s : x < get_or xs 0 0 = up 0 (omega arith) in omega arith) below.1
-      (λ k h. up (suc k) (omega arith)),
-)
-
--- ---- the lines up to the period
-
-abbrev field_text : List ℕ → ℕ → List ℕ → List ℕ
-field_text name x rest = name ++ (32 ∷ (decimal x ++ 10 ∷ rest))
-
-abbrev front_text : List ℕ → ℕ → ℕ → ℕ → List ℕ → List ℕ
-front_text code order start period rest =
-    codes "mqc 1\ncode "
-    ++ (code_text code
-    ++ (10 ∷ field_text (codes "order") order
-    (field_text (codes "start") start (field_text (codes "period") period rest))))
-
-record FrontFits (code : List ℕ) (order start period : ℕ) : Type 0 where
-  code_fits : IsOctalCode code
-  order_from : 2 ≤ order
-  order_below : order < 257
-  start_from : 1 ≤ start
-  start_below : start < 1025
-  period_from : 1 ≤ period
-  period_below : period < 1026 - start
-
-front_takes : (bytes : List ℕ) (f : List ℕ × ℕ × ℕ × ℕ) (rest : List ℕ)
-    → front_at bytes ≡ Some (f, rest) → (bytes ≡ front_text f.0 f.1 f.2 f.3 rest)
-    × FrontFits f.0 f.1 f.2 f.3
-unfolding front_at
-front_takes bytes f rest e =
-    let a =
-    bind_some (fixed_at (codes "mqc 1\ncode ") bytes) (λ named. code_line_at named >>= λ code.
-    field_at (codes "order") 2 257 code.1 >>= λ order. field_at (codes "start") 1 1025 order.1
-    >>= λ start. field_at (codes "period") 1 (1026 - start.0) start.1 >>= λ period.
-    Some ((code.0, order.0, start.0, period.0), period.1)) (f, rest) e in
-    let b =
-    bind_some (code_line_at a.0) (λ code. field_at (codes "order") 2 257 code.1 >>= λ order.
-    field_at (codes "start") 1 1025 order.1 >>= λ start.
-    field_at (codes "period") 1 (1026 - start.0) start.1 >>= λ period.
-    Some ((code.0, order.0, start.0, period.0), period.1)) (f, rest) a.2 in
-    let d =
-    bind_some (field_at (codes "order") 2 257 b.0.1)
-    (λ order. field_at (codes "start") 1 1025 order.1 >>= λ start.
-    field_at (codes "period") 1 (1026 - start.0) start.1 >>= λ period.
-    Some ((b.0.0, order.0, start.0, period.0), period.1)) (f, rest) b.2 in
-    let s =
-    bind_some (field_at (codes "start") 1 1025 d.0.1)
-    (λ start. field_at (codes "period") 1 (1026 - start.0) start.1 >>= λ period.
-    Some ((b.0.0, d.0.0, start.0, period.0), period.1)) (f, rest) d.2 in
-    let p =
-    bind_some (field_at (codes "period") 1 (1026 - s.0.0) s.0.1)
-    (λ period. Some ((b.0.0, d.0.0, s.0.0, period.0), period.1)) (f, rest) s.2 in
-    let bt = code_line_takes a.0 b.0.0 b.0.1 b.1 in
-    let dt = field_takes (codes "order") 2 257 b.0.1 d.0.0 d.0.1 (omega arith) (omega arith) d.1 in
-    let st = field_takes (codes "start") 1 1025 d.0.1 s.0.0 s.0.1 (omega arith) (omega arith) s.1 in
-    let below : s.0.0 < 1025 = st.2 in
-    let pt = field_takes (codes "period") 1 (1026 - s.0.0) s.0.1 p.0.0 p.0.1 (omega arith)
-    (omega arith) p.1 in
-    let q = some_pair_parts (b.0.0, d.0.0, s.0.0, p.0.0) f p.0.1 rest p.2 in
-    let fields : b.0.1 ≡ field_text (codes "order") d.0.0
-    (field_text (codes "start") s.0.0 (field_text (codes "period") p.0.0 rest)) =
-    dt.0 ∙ ap (field_text (codes "order") d.0.0)
-    (st.0 ∙ ap (field_text (codes "start") s.0.0)
-    (pt.0 ∙ ap (field_text (codes "period") p.0.0) q.1)) in
-    let whole : bytes ≡ front_text b.0.0 d.0.0 s.0.0 p.0.0 rest =
-    fixed_takes (codes "mqc 1\ncode ") bytes a.0 a.1
-    ∙ ap (λ (t : List ℕ). codes "mqc 1\ncode " ++ t)
-    (bt.0 ∙ ap (λ (t : List ℕ). code_text b.0.0 ++ t) (ap (λ (t : List ℕ). 10 ∷ t) fields)) in
-    subst (λ (g : List ℕ × ℕ × ℕ × ℕ). (bytes ≡ front_text g.0 g.1 g.2 g.3 rest)
-    × FrontFits g.0 g.1 g.2 g.3) q.0 (
-      whole,
-      record {
-        code_fits = bt.1;
-        order_from = dt.1;
-        order_below = dt.2;
-        start_from = st.1;
-        start_below = st.2;
-        period_from = pt.1;
-        period_below = pt.2;
-      },
-    )
-
-front_again : (code : List ℕ) (order start period : ℕ) (rest : List ℕ)
-    → FrontFits code order start period → front_at (front_text code order start period rest)
-    ≡ Some ((code, order, start, period), rest)
-unfolding front_at
-front_again code order start period rest fits =
-    rw (
-      fixed_again (codes "mqc 1\ncode ")
-          (code_text code
-          ++ (10 ∷ field_text (codes "order") order
-          (field_text (codes "start") start (field_text (codes "period") period rest)))),
-      code_line_again code
-          (field_text (codes "order") order
-          (field_text (codes "start") start (field_text (codes "period") period rest)))
-          fits.code_fits,
-      field_again (codes "order") 2 257 order
-          (field_text (codes "start") start (field_text (codes "period") period rest)) (omega arith)
-          fits.order_from fits.order_below,
-      field_again (codes "start") 1 1025 start (field_text (codes "period") period rest)
-          (omega arith) fits.start_from fits.start_below,
-      field_again (codes "period") 1 (1026 - start) period rest (omega arith) fits.period_from
-          fits.period_below,
-    ) refl
+use Rattle.certificate_text.proofs.Fields.{RisesFrom, portion_takes, portion_again}
+use Rattle.certificate_text.proofs.Rows.{rows_text, RowFits, rows_take, rows_again, rows_of_concat}
+use Rattle.certificate_text.proofs.Counts.{pairs_count, rises_below, rises_increasing, increasing_rises}
+use Rattle.certificate_text.proofs.Front.{front_text, FrontFits, front_takes, front_again}
 
 -- ---- the text, grouped as it is read
 

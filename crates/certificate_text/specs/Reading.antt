@@ -1,6 +1,7 @@
 -- Reading from left to right: a value and the bytes behind it, or nothing. It says what a reader
 -- does; that this is the spelling is the law `reading_is_spelling`. This project's own.
 use Rattle.std.specs.Prelude.{ℕ, zero, suc, ◌+◌, ◌-◌, ◌*◌, ◌/◌, List, [], ◌∷◌, ◌++◌, length, take, drop, slice_index, Option, Some, None, Bool, nat_lt, nat_le, ◌&&◌, ◌==◌, if◌then◌else◌, codes}
+use Rattle.misere_theory.specs.declared.TheConstants.{LARGEST_ORDER, MOST_ENTRIES}
 use Rattle.misere_theory.specs.Certificates.{Certificate}
 
 infixl 10 ◌>>=◌
@@ -144,9 +145,9 @@ unfoldable pub front_at : List ℕ → Option ((List ℕ × ℕ × ℕ × ℕ) �
 front_at bytes = do
   named ← fixed_at (codes "mqc 1\ncode ") bytes
   code ← code_line_at named
-  order ← field_at (codes "order") 2 257 code.1
-  start ← field_at (codes "start") 1 1025 order.1
-  period ← field_at (codes "period") 1 (1026 - start.0) start.1
+  order ← field_at (codes "order") 2 (LARGEST_ORDER + 1) code.1
+  start ← field_at (codes "start") 1 (MOST_ENTRIES + 1) order.1
+  period ← field_at (codes "period") 1 (MOST_ENTRIES + 2 - start.0) start.1
   Some ((code.0, order.0, start.0, period.0), period.1)
 
 -- all lines

@@ -140,33 +140,6 @@ module _ (bytes : List ℕ) (limit : ℕ) where
   unfolding turns
   reaches_first = record { reached = refl; going = λ m l. absurd (omega arith) }
 
-  -- turns behind turns at the same stage
-  pub runs-then : (before between after : ℕ) (p q r : Phase) → Runs bytes limit p before between q
-      → Runs bytes limit q between after r → stage_of q ≡ stage_of p
-      → Runs bytes limit p before after r
-  runs-then before between after p q r a b same =
-      let u = a.within in
-      let v = b.within in
-      let d : before - between + (between - after) ≡ before - after = omega arith in
-      record {
-        within = omega arith;
-        reached =
-            b.reached
-            ∙ (ap (turns bytes limit (between - after)) a.reached
-            ∙ (turns-add (between - after) (before - between) p
-            ∙ ap (λ k. turns bytes limit k p) d));
-        going = λ n l. elim (dec_lt n (before - between)) [
-          | yes h ↦ a.going n h
-          | no f ↦ (
-              let e : before - between + (n - (before - between)) ≡ n = omega (arith, f) in
-              let at =
-              ap stage_of (ap (turns bytes limit (n - (before - between))) a.reached
-              ∙ (turns-add (n - (before - between)) (before - between) p
-              ∙ ap (λ k. turns bytes limit k p) e)) in
-              sym at ∙ (b.going (n - (before - between)) (omega (arith, f)) ∙ same))
-        ];
-      }
-
   -- what a stage does more
   pub reaches-runs : (n : ℕ) (p q : Phase) (before after : ℕ) → Reaches bytes limit n p
       → stage_of p < 9 → Runs bytes limit p before after q

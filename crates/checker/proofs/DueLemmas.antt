@@ -1,16 +1,14 @@
 -- What a check has spent is due.
-use Rattle.std.proofs.Common.{◌≡◌, ◌⊎◌, Result, ℕ, ◌+◌, ◌-◌, ◌<◌, ◌≤◌, true, false, List, refl, ◌∙◌, ap, subst, inl, inr, arith}
-use Rattle.misere_theory.specs.Certificates.{Certificate}
-use Rattle.checker.specs.Answers.{answer_of}
+use Rattle.std.proofs.Common.{◌≡◌, ◌⊎◌, ℕ, ◌+◌, ◌-◌, ◌<◌, ◌≤◌, true, false, List, Some, refl, sym, ap, subst, inl, inr, arith}
+use Rattle.checker.specs.Answers.{Answer, answer_of}
 use Rattle.checker.specs.Answers.Answer.{Memory}
 use Rattle.checker.specs.Turns.{Phase, is_ended, answer_at, stage_of, cost, verdict, Runs, Works, Reaches, HasSpent}
 use Rattle.checker.specs.Turns.Phase.{Reading as AtReading, Laws as AtLaws, Keys as AtKeys, Products as AtProducts, Periods as AtPeriods, Separating as AtSeparating, Heaps as AtHeaps, Closing as AtClosing, Elements as AtElements, Ended as AtEnded}
 use Rattle.checker.specs.Stages.{phase_of, has_ended, ending, Comes, HasCome}
 use Rattle.checker.specs.JobViews.{IsDueAt}
-use Rattle.checker.specs.declared.refusal.Refusal.{Refusal}
 use Rattle.checker.specs.declared.stage.Stage.{Stage}
 use Rattle.checker.specs.declared.stage.Stage.TheVariants.{Reading, Laws, Keys, Products, Periods, Separating, Heaps, Elements, Closing, Ended}
-use Rattle.checker.proofs.CostLemmas.{reaches_first, runs-then, reaches-runs}
+use Rattle.checker.proofs.CostLemmas.{reaches_first, reaches-runs}
 
 module _ (bytes : List ℕ) (limit : ℕ) where
   pub works_comes : {A : Type 0} (p : Phase) (before after : ℕ) (s : Stage A)
@@ -34,46 +32,16 @@ module _ (bytes : List ℕ) (limit : ℕ) where
   early (Closing x) e = (omega arith, refl)
   early (Ended r) e = absurd (cc)
 
-  pub going_at : {A : Type 0} (s : Stage A) → stage_of (phase_of s) < 9 → has_ended s ≡ false
-  going_at Reading l = refl
-  going_at (Laws x) l = refl
-  going_at (Keys x) l = refl
-  going_at (Products x) l = refl
-  going_at (Periods x) l = refl
-  going_at (Separating x) l = refl
-  going_at (Heaps x) l = refl
-  going_at (Elements x) l = refl
-  going_at (Closing x) l = refl
-  going_at (Ended r) l = absurd (omega arith)
-
-  -- a stage goes on in place, and then works
-  pub goes_comes : {A : Type 0} (before between after : ℕ) (s q u t : Stage A) → has_ended s ≡ false
-      → Runs bytes limit (phase_of s) before between (phase_of q)
-      → stage_of (phase_of q) ≡ stage_of (phase_of s) → u ≡ q
-      → (has_ended u ≡ false → Comes bytes limit (phase_of u) between after t)
-      → Comes bytes limit (phase_of s) before after t
-  goes_comes before between after s q u t e r same is w =
-      let g = early s e in
-      let f : has_ended q ≡ false = going_at q (omega arith) in
-      let c =
-      subst (λ x. Comes bytes limit (phase_of x) between after t) is (w (ap has_ended is ∙ f))
-      in
-      record {
-        to = c.to;
-        runs =
-            runs-then bytes limit before between after (phase_of s) (phase_of q) c.to r c.runs same;
-        shown = c.shown;
-        exact = λ h. (let x = c.exact h in omega arith);
-      }
-
   not_memory : (p : Phase) → is_ended p ≡ false → p ≡ AtEnded Memory → ⊥
   not_memory p e d = let t : is_ended p ≡ true = ap is_ended d in let b : ⊥ = cc in b
 
-  -- a stage works on
-  pub come_on : {A : Type 0} (spent before after : ℕ) (s t : Stage A) → has_ended s ≡ false
-      → HasCome bytes limit spent s → Comes bytes limit (phase_of s) before after t
+  -- turns at a stage bring the check on
+  pub come_to : {A : Type 0} (spent before after : ℕ) (s t : Stage A) (to : Phase)
+      → has_ended s ≡ false → HasCome bytes limit spent s
+      → Runs bytes limit (phase_of s) before after to
+      → (to ≡ phase_of t) ⊎ (phase_of t ≡ AtEnded Memory)
       → HasCome bytes limit (spent + (before - after)) t
-  come_on spent before after s t e h w =
+  come_to spent before after s t to e h runs shown =
       let g = early s e in
       let r : Reaches bytes limit spent (phase_of s) =
       elim h.shown [
@@ -82,19 +50,40 @@ module _ (bytes : List ℕ) (limit : ℕ) where
             (not_memory (phase_of s) g.1 m)
       ] in
       record {
-        to = w.to;
-        reaches = reaches-runs bytes limit spent (phase_of s) w.to before after r
-            g.0 w.runs;
-        shown = w.shown;
+        to = to;
+        reaches = reaches-runs bytes limit spent (phase_of s) to before after r g.0 runs;
+        shown = shown;
       }
 
-  pub come_next : {A : Type 0} (spent before after : ℕ) (s u t : Stage A) → u ≡ s
+  -- a stage goes on in place, and then the check runs on
+  pub come_on : {A : Type 0} (spent before between after : ℕ) (s q u t : Stage A)
       → has_ended s ≡ false → HasCome bytes limit spent s
-      → (has_ended u ≡ false → Comes bytes limit (phase_of u) before after t)
+      → Runs bytes limit (phase_of s) before between (phase_of q) → u ≡ q
+      → after ≤ between
+      → ((n : ℕ) → HasCome bytes limit n u → HasCome bytes limit (n + (between - after)) t)
       → HasCome bytes limit (spent + (before - after)) t
-  come_next spent before after s u t same e h w =
-      come_on spent before after s t e h
-      (subst (λ x. Comes bytes limit (phase_of x) before after t) same (w (ap has_ended same ∙ e)))
+  come_on spent before between after s q u t e h runs same less on =
+      let w = runs.within in
+      let c = come_to spent before between s q (phase_of q) e h runs (inl refl) in
+      let d : spent + (before - between) + (between - after) ≡ spent + (before - after) =
+      omega arith in
+      subst (λ k. HasCome bytes limit k t) d
+      (on (spent + (before - between))
+      (subst (HasCome bytes limit (spent + (before - between))) (sym same) c))
+
+  pub come_next : {A : Type 0} (spent before after : ℕ) (s t : Stage A) → has_ended s ≡ false
+      → HasCome bytes limit spent s
+      → (has_ended s ≡ false → Comes bytes limit (phase_of s) before after t)
+      → HasCome bytes limit (spent + (before - after)) t
+  come_next spent before after s t e h w =
+      let c = w e in come_to spent before after s t c.to e h c.runs c.shown
+
+  -- the turns in which a stage works
+  pub within : {A : Type 0} (before after : ℕ) (s t : Stage A) → has_ended s ≡ false
+      → (has_ended s ≡ false → Comes bytes limit (phase_of s) before after t)
+      → (after ≤ before) × (stage_of (phase_of s) < 9)
+      × (0 < after → stage_of (phase_of s) < stage_of (phase_of t))
+  within before after s t e w = ((w e).runs.within, (early s e).0, (w e).exact)
 
   -- What checks_end says: what turns have reached tells what they cost.
   module _ (spends : (n : ℕ) (p : Phase) → Reaches bytes limit n p → HasSpent bytes limit n p)
@@ -142,36 +131,8 @@ module _ (bytes : List ℕ) (limit : ℕ) where
     ]
 
     -- it has ended
-    pub decided_at : {A : Type 0} (spent : ℕ) (s : Stage A) (r : Result Certificate (Refusal A))
-        → s ≡ Ended r → HasCome bytes limit spent s → (answer_of r ≡ verdict bytes limit)
-        ⊎ (answer_of r ≡ Memory)
-    decided_at spent s r d h =
-        elim (subst (λ x. IsDueAt bytes limit spent (ending x)) d (come_due spent s h))
+    pub decided_at : {A : Type 0} (spent : ℕ) (s : Stage A) (a : Answer) → ending s ≡ Some a
+        → HasCome bytes limit spent s → (a ≡ verdict bytes limit) ⊎ (a ≡ Memory)
+    decided_at spent s a d h =
+        elim (subst (IsDueAt bytes limit spent) d (come_due spent s h))
         [ inl x ↦ inl x.1 | inr x ↦ inr x.0 ]
-
-  -- the turns in which a stage works, among all
-  pub within : {A : Type 0} (spent before after most : ℕ) (s u t : Stage A) → u ≡ s
-      → has_ended s ≡ false → HasCome bytes limit spent s
-      → (has_ended u ≡ false → Comes bytes limit (phase_of u) before after t)
-      → ((n : ℕ) (p : Phase) → Reaches bytes limit n p → n < most)
-      → (after ≤ before) × (spent + (before - after) < most) × (stage_of (phase_of s) < 9)
-      × (0 < after → stage_of (phase_of s) < stage_of (phase_of t))
-  within spent before after most s u t same e h w few =
-      let c : Comes bytes limit (phase_of s) before after t =
-      subst (λ x. Comes bytes limit (phase_of x) before after t) same
-      (w (ap has_ended same ∙ e)) in
-      let x = come_on spent before after s t e h c in
-      (c.runs.within, few (spent + (before - after)) x.to x.reaches, (early s e).0, c.exact)
-
-pub not_ended : {A : Type 0} (s : Stage A)
-    → ((r : Result Certificate (Refusal A)) → s ≡ Ended r → ⊥) → has_ended s ≡ false
-not_ended Reading f = refl
-not_ended (Laws l) f = refl
-not_ended (Keys k) f = refl
-not_ended (Products p) f = refl
-not_ended (Periods p) f = refl
-not_ended (Separating p) f = refl
-not_ended (Heaps h) f = refl
-not_ended (Elements x) f = refl
-not_ended (Closing x) f = refl
-not_ended (Ended r) f = absurd (f r refl)

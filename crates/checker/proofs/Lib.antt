@@ -29,6 +29,7 @@ pub mod FallLemmas
 pub mod StageLemmas
 pub mod AnswerLemmas
 pub mod DueLemmas
+pub mod AdvanceLemmas
 pub mod HeldLemmas
 pub mod TrueTests
 pub mod TrueTables

@@ -1,5 +1,5 @@
 -- What a stage carries of the certificate that the bytes spell stands of the bytes.
-use Rattle.std.proofs.Common.{◌≡◌, ℕ, List, None, false, refl, sym, subst}
+use Rattle.std.proofs.Common.{◌≡◌, ℕ, List, Some, None, false, refl, sym, subst}
 use Rattle.misere_theory.specs.Certificates.{Certificate}
 use Rattle.certificate_text.specs.Spelling.{Spells}
 use Rattle.checker.specs.Answers.{Answer, Fits, Holds, answer_of}
@@ -45,3 +45,31 @@ going-none (Heaps l) e = refl
 going-none (Closing l) e = refl
 going-none (Elements l) e = refl
 going-none (Ended r) e = absurd (cc)
+
+-- the answer of a stage that has ended
+pub ended_holds : {A : Type 0} (bytes : List ℕ) (limit : ℕ) (s : Stage A) (a : Answer)
+    → ending s ≡ Some a → Stands bytes limit s → Holds bytes limit a
+ended_holds bytes limit Reading a e h = absurd (cc)
+ended_holds bytes limit (Laws l) a e h = absurd (cc)
+ended_holds bytes limit (Keys l) a e h = absurd (cc)
+ended_holds bytes limit (Products l) a e h = absurd (cc)
+ended_holds bytes limit (Periods l) a e h = absurd (cc)
+ended_holds bytes limit (Separating l) a e h = absurd (cc)
+ended_holds bytes limit (Heaps l) a e h = absurd (cc)
+ended_holds bytes limit (Closing l) a e h = absurd (cc)
+ended_holds bytes limit (Elements l) a e h = absurd (cc)
+ended_holds bytes limit (Ended r) a e h = let d : answer_of r ≡ a = cc in
+    subst (Holds bytes limit) d h
+
+-- a stage with no answer goes on
+pub none-going : {A : Type 0} (s : Stage A) → ending s ≡ None → has_ended s ≡ false
+none-going Reading e = refl
+none-going (Laws l) e = refl
+none-going (Keys l) e = refl
+none-going (Products l) e = refl
+none-going (Periods l) e = refl
+none-going (Separating l) e = refl
+none-going (Heaps l) e = refl
+none-going (Closing l) e = refl
+none-going (Elements l) e = refl
+none-going (Ended r) e = absurd (cc)

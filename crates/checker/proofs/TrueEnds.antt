@@ -23,7 +23,7 @@ use Rattle.pair_closure.specs.Turns.{State}
 use Rattle.pair_closure.specs.Turns as turning
 use Rattle.pair_closure.specs.Progress as closing
 use Rattle.pair_closure.specs.Keeping.{KeepsOne}
-use Rattle.pair_closure.specs.Positions.{IsClaimOver, Speaks, as_pair, kept, rising, word}
+use Rattle.pair_closure.specs.Positions.{IsClaimOver, ShowsPairs, as_pair, kept, rising, word}
 use Rattle.checker.specs.Answers.{Answer, Fits}
 use Rattle.checker.specs.Answers.Answer.{Yes, Outcome, Limit, Memory}
 use Rattle.checker.specs.Sheets.{IsPortion}
@@ -53,9 +53,9 @@ pub record HeapsAreKnown : Type 0 where
       → IsPretending phi → IsInto table phi
       → AreAllHeapPairs code table phi (all_heap_pairs code table phi)
       × All (IsPair table.order) (all_heap_pairs code table phi)
-  pub speaks : (table : Grid) (heaps : List Pair) (limit units : ℕ) → IsTableGrid table
+  pub shows : (table : Grid) (heaps : List Pair) (limit units : ℕ) → IsTableGrid table
       → All (IsPair table.order) heaps
-      → Speaks (closing.turns units (turning.start table heaps limit))
+      → ShowsPairs (closing.turns units (turning.start table heaps limit))
   pub keeps : (p : closing.Progress) → KeepsOne p.state (closing.moved p).state
   pub same : (p : closing.Progress) → closing.SameData p.state (closing.moved p).state
   pub accepted : (c : Certificate) (members : List theory.Pair) → InRanges c
@@ -249,10 +249,10 @@ module _ (bytes : List ℕ) (limit : ℕ) where
         subst (λ g. IsClaimOver c.code (claim_of c) g t.heaps) (sym same.table)
         (subst (λ hs. IsClaimOver c.code (claim_of c) (grid_of c) hs) (sym same.heaps) of)
 
-    speaks : Speaks t
-    speaks =
-        subst Speaks (sym reached)
-        (known.speaks (grid_of c) pairs limit (suc k.taken) (table_is known c is canonical)
+    shows : ShowsPairs t
+    shows =
+        subst ShowsPairs (sym reached)
+        (known.shows (grid_of c) pairs limit (suc k.taken) (table_is known c is canonical)
         exact.within)
 
     count : length t.heaps ≡ bound_of c
@@ -264,7 +264,7 @@ module _ (bytes : List ℕ) (limit : ℕ) where
     broken more f =
         let keeps = known.keeps p in
         let some = keeps.last more in
-        let says = speaks c.code (claim_of c) over in
+        let says = shows c.code (claim_of c) over in
         let at =
         says.held (newest t)
         (Contains-get_or t.held (length t.held - 1) closing.blank_held (omega arith)) in
@@ -301,7 +301,7 @@ module _ (bytes : List ℕ) (limit : ℕ) where
     pub closing_right-at : IsRight bytes limit (closing_at c (keeps_more p.state t) q)
     unfolding closing_at
     closing_right-at =
-        let says = speaks c.code (claim_of c) over in
+        let says = shows c.code (claim_of c) over in
         by_test (IsRight bytes limit) (keeps_more p.state t && not (obeys c (newest t).pair))
         (Ended (Outcome c.code (rising (word t (newest t).place))))
         (if closing.is_over t then Ended Limit else if closing.is_done t then Ended (Yes c) else

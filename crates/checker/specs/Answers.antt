@@ -1,8 +1,7 @@
 -- What is answered to bytes, and which answers are true of them. This project's own.
 use Rattle.std.specs.Prelude.{◌≡◌, ◌≢◌, ◌⊎◌, ℕ, ◌≤◌, ◌*◌, ◌^◌, List, Result, Ok, Err}
-use Rattle.misere_theory.specs.Games.{IsHeap}
 use Rattle.misere_theory.specs.Quotients.{Monoid, Represents}
-use Rattle.misere_theory.specs.Certificates.{Certificate, Accepted, Canonical, claim_of, times_of}
+use Rattle.misere_theory.specs.Certificates.{Certificate, IsHeapOf, Accepted, Canonical, claim_of, times_of}
 use Rattle.misere_theory.specs.Verdicts.{IsAllowed}
 use Rattle.misere_theory.specs.Verdicts.Fault.{Law as law, Word as word, Order as order, Period as period, Apart as apart}
 use Rattle.misere_theory.specs.Verdicts.Verdict.{Yes as Right, No as Faulty, Outcome as Fails, Limit as Over}
@@ -77,14 +76,16 @@ IsOnlyText bytes c = (other : List ℕ) (d : Certificate) → Spells other d →
 -- The answer is true of the bytes. It holds of them, and so
 --   a yes is to the one accepted text of its code,
 --   accepted bytes get yes, Limit or Memory,
---   those with the laws and canonical, but with another monoid than the quotient of their code, get Outcome, Limit or Memory,
---   and never Limit where the limit is no less than all the pairs of an element and a set of elements.
+--   those with the laws and canonical, but with another monoid than the quotient of their code, get
+--   Outcome, Limit or Memory,
+--   and never Limit where the limit is no less than all the pairs of an element and a set of
+--   elements.
 pub record IsTrueOf (bytes : List ℕ) (limit : ℕ) (answer : Answer) : Type 0 where
   pub holds : Holds bytes limit answer
   pub yes : (c : Certificate) → answer ≡ Yes c → Spells bytes c × Accepted c × IsOnlyText bytes c
   pub accepted : (c : Certificate) → Spells bytes c → Accepted c
       → (answer ≡ Yes c) ⊎ ((answer ≡ Limit) ⊎ (answer ≡ Memory))
   pub wrong : (c : Certificate) → Spells bytes c → Monoid c.order (times_of c) → Canonical c
-      → (Represents IsHeap c.code (claim_of c) → ⊥)
+      → (Represents (IsHeapOf c) c.code (claim_of c) → ⊥)
       → ((X : List ℕ) × (answer ≡ Outcome c.code X)) ⊎ ((answer ≡ Limit) ⊎ (answer ≡ Memory))
   pub within : (c : Certificate) → Spells bytes c → c.order * 2 ^ c.order ≤ limit → answer ≢ Limit

@@ -1,11 +1,12 @@
 -- What stages say of the certificate that they hold.
-use Rattle.std.specs.Prelude.{◌≡◌, ◌⊎◌, ℕ, ◌<◌, Bool, true, false, List, Option, Some, None}
+use Rattle.std.specs.Prelude.{◌≡◌, ◌⊎◌, ℕ, ◌<◌, Bool, true, false, List, Option, Some, None, Result, Ok, Err}
 use Rattle.misere_theory.specs.Certificates.{Certificate}
 use Rattle.certificate_text.specs.Spelling.{Spells}
 use Rattle.checker.specs.Answers.{Answer, answer_of, Fits, Holds}
 use Rattle.checker.specs.Answers.Answer.{Memory}
 use Rattle.checker.specs.Turns.{Phase, stage_of, Runs, Reaches}
 use Rattle.checker.specs.Turns.Phase.{Reading as AtReading, Laws as AtLaws, Keys as AtKeys, Products as AtProducts, Periods as AtPeriods, Separating as AtSeparating, Heaps as AtHeaps, Closing as AtClosing, Elements as AtElements, Ended as AtEnded}
+use Rattle.checker.specs.declared.refusal.Refusal.{Refusal}
 use Rattle.checker.specs.declared.stage.Stage.{Stage}
 use Rattle.checker.specs.declared.stage.Stage.TheVariants.{Reading, Laws, Keys, Products, Periods, Separating, Heaps, Elements, Closing, Ended}
 
@@ -72,6 +73,11 @@ ending (Heaps h) = None
 ending (Elements e) = None
 ending (Closing s) = None
 ending (Ended r) = Some (answer_of r)
+
+-- where a stage's work has come: what is refused ends the check
+abbrev pub reached : {A : Type 0} → Result (Stage A) (Refusal A) → Stage A
+reached (Ok s) = s
+reached (Err r) = Ended (Err r)
 
 -- So many turns have brought the check here, or to where memory was refused to it.
 pub record HasCome {A : Type 0} (bytes : List ℕ) (limit spent : ℕ) (s : Stage A) : Type 0 where

@@ -1,12 +1,12 @@
 //! Accepted certificates.
 ghost use Rattle.std.specs.Prelude.{◌≡◌, ◌<◌, ◌≤◌, IfOk};
-ghost use Rattle.misere_theory.specs.Certificates.{Accepted, claim_of, times_of, phi_at};
-ghost use Rattle.misere_theory.specs.Games.{IsHeap, IsPosition};
+ghost use Rattle.misere_theory.specs.Certificates.{Accepted, IsHeapOf, claim_of, times_of, phi_at};
+ghost use Rattle.misere_theory.specs.Games.{IsPosition};
 ghost use Rattle.misere_theory.specs.Quotients.{value};
 ghost use Rattle.checker.specs.Sheets.{IsPortion};
 ghost use Rattle.checker.specs.Spelled.{AreSpelled};
 
-use crate::spelling::spelled;
+use crate::spelling::position_of;
 use crate::values::{element, product, times};
 use allocation::{Memory, Room};
 use certificate::Cert;
@@ -77,7 +77,7 @@ impl<A: Allocator> Certified<A> {
 
     /// The value of the heaps: the product of their elements.
     pub fn value(&self, heaps: &[u64]) -> u16
-        requires { IsPosition IsHeap heaps.now }
+        requires { IsPosition (IsHeapOf self.now) heaps.now }
         ensures value { result ≡ value (claim_of self.now) heaps.now }
         ensures within { result < self.now.order }
         ensures accepted { Accepted self.now }
@@ -94,12 +94,12 @@ impl<A: Allocator> Certified<A> {
     }
 
     /// The position that the keys of the element spell, whose value is the element.
-    pub fn spelled<B: Room + Copy>(&self, alloc: B, element: u16) -> Result<Position<B>, Memory>
+    pub fn position_of<B: Room + Copy>(&self, alloc: B, element: u16) -> Result<Position<B>, Memory>
         requires { element < self.now.order }
         ensures keys { IfOk result (AreSpelled self.now element) }
-        ensures position { IfOk result (IsPosition IsHeap) }
+        ensures position { IfOk result (IsPosition (IsHeapOf self.now)) }
         ensures value { IfOk result (λ X. value (claim_of self.now) X ≡ element) }
     {
-        spelled(alloc, self.cert.words(), element)
+        position_of(alloc, self.cert.words(), element)
     }
 }

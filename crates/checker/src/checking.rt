@@ -17,16 +17,9 @@ pub fn check<A: Room + Copy>(alloc: A, bytes: &[u8], limit: u32) -> Result<Certi
     ensures true_of { IsTrueOf bytes.now limit (answer_of result) }
     ensures decided { (answer_of result ≡ verdict bytes.now limit) ⊎ (answer_of result ≡ Memory) }
 {
-    let mut stage = Stage::Reading;
-    'stages: loop {
-        checks_end();
-        let mut left = u64::MAX;
-        match stage.work(alloc, bytes, limit, &mut left) {
-            Stage::Ended(answer) => {
-                true_answers();
-                return answer;
-            }
-            next => stage = next,
-        }
-    }
+    checks_end();
+    let mut left = u64::MAX;
+    let ended = Stage::Reading.run(alloc, bytes, limit, &mut left);
+    true_answers();
+    ended.answer()
 }

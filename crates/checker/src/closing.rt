@@ -12,7 +12,7 @@ ghost use Rattle.checker.specs.Answers.Answer.{Yes, Outcome, Limit};
 ghost use Rattle.checker.specs.Turns.{Phase};
 ghost use Rattle.checker.specs.Turns.Phase.{Closing as AtClosing, Ended as AtEnded};
 ghost use Rattle.checker.specs.Closes.{Closes};
-ghost use Rattle.checker.specs.Stages.{Carries, Comes};
+ghost use Rattle.checker.specs.Stages.{Carries, Comes, reached};
 
 use crate::certified::Certified;
 use crate::lines::Lines;
@@ -200,10 +200,10 @@ impl<A: Room + Copy> Closing<A> {
     }
 
     /// Spends units until there are none or the stage ends.
-    pub fn work(self, left: &mut u64) -> Stage<A>
-        ensures carries { Carries self.certificate self.closure.state.limit result }
+    pub fn work(self, left: &mut u64) -> Result<Stage<A>, Refusal<A>>
+        ensures carries { Carries self.certificate self.closure.state.limit (reached result) }
         ensures comes { (bytes : List ℕ) (limit : ℕ)
-            → Comes bytes limit (AtClosing self) left.old left.new result }
+            → Comes bytes limit (AtClosing self) left.old left.new (reached result) }
     {
         let Closing {
             code,
@@ -212,29 +212,29 @@ impl<A: Room + Copy> Closing<A> {
             mut closure,
         } = self;
         let closed = close(&mut closure, &lines.inside, left);
-        closure.speak();
+        closure.shows_pairs();
         match closed {
-            Err(_) => Stage::Ended(Err(Refusal::Memory)),
-            Ok(Looked::More) => Stage::Closing(Closing {
+            Err(_) => Err(Refusal::Memory),
+            Ok(Looked::More) => Ok(Stage::Closing(Closing {
                 code,
                 phi,
                 lines,
                 closure,
-            }),
-            Ok(Looked::Over) => Stage::Ended(Err(Refusal::Limit)),
+            })),
+            Ok(Looked::Over) => Err(Refusal::Limit),
             Ok(Looked::Broken(i)) => match closure.word(i) {
-                Ok(position) => Stage::Ended(Err(Refusal::Outcome(code, position))),
-                Err(_) => Stage::Ended(Err(Refusal::Memory)),
+                Ok(position) => Err(Refusal::Outcome(code, position)),
+                Err(_) => Err(Refusal::Memory),
             },
             Ok(Looked::Done) => {
                 let (table, _) = closure.finish();
                 tested_certificates_are_accepted();
-                Stage::Ended(Ok(accepted(Sheet {
+                Ok(Stage::Ended(Ok(accepted(Sheet {
                     code,
                     table,
                     phi,
                     lines,
-                })))
+                }))))
             }
         }
     }

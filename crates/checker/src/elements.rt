@@ -9,12 +9,12 @@ ghost use Rattle.checker.specs.Answers.Answer.{Outcome};
 ghost use Rattle.pair_closure.specs.Positions.{rising};
 ghost use Rattle.checker.specs.Turns.{keys_from, Runs};
 ghost use Rattle.checker.specs.Turns.Phase.{Elements as AtElements, Ended as AtEnded};
-ghost use Rattle.checker.specs.Stages.{Carries, Comes, phase_of};
+ghost use Rattle.checker.specs.Stages.{Carries, Comes, phase_of, reached};
 
 use crate::closing::Closing;
 use crate::refusal::Refusal;
 use crate::sheet::{Sheet, sheets_are_lawful};
-use crate::spelling::spelled;
+use crate::spelling::position_of;
 use crate::stage::Stage;
 use allocation::{Memory, Room};
 use element_sets::ElementSet;
@@ -109,7 +109,7 @@ fn common(a: &ElementSet, b: &ElementSet, order: u16) -> Option<u16>
 }
 
 /// The heaps that the keys of y spell, and one heap more.
-fn beside<A: Room + Copy>(
+fn position_with<A: Room + Copy>(
     alloc: A,
     sheet: &Sheet<A>,
     heap: u64,
@@ -123,23 +123,23 @@ fn beside<A: Room + Copy>(
     ensures fails { IfOk result (RuleFails sheet.now.code (claim_of sheet.now)) }
     ensures exact { IfOk result (λ X. X ≡ rising (heap ∷ keys_from sheet.now sheet.now.order y)) }
 {
-    let mut position = spelled(alloc, sheet.words(), y)?;
+    let mut position = position_of(alloc, sheet.words(), y)?;
     position.push(heap)?;
     position.heaps();
     Ok(position)
 }
 
 /// The rule fails at a position.
-fn failed<A: Room>(sheet: Sheet<A>, position: Position<A>) -> Stage<A>
+fn rule_fails<A: Room>(sheet: Sheet<A>, position: Position<A>) -> Result<Stage<A>, Refusal<A>>
     requires canonical { Canonical sheet }
     requires position { IsPosition IsHeap position }
     requires fails { RuleFails sheet.code (claim_of sheet) position }
-    ensures carries { (limit : ℕ) → Carries sheet limit result }
-    ensures shown { phase_of result ≡ AtEnded (Outcome sheet.code position) }
+    ensures carries { (limit : ℕ) → Carries sheet limit (reached result) }
+    ensures shown { phase_of (reached result) ≡ AtEnded (Outcome sheet.code position) }
 {
     sheets_are_lawful(&sheet);
     let Sheet { code, .. } = sheet;
-    Stage::Ended(Err(Refusal::Outcome(code, position)))
+    Err(Refusal::Outcome(code, position))
 }
 
 /// The first element that is in the portion beside the heap of the pair and beside its option.
@@ -211,10 +211,10 @@ impl<A: Room + Copy> Elements<A> {
     }
 
     /// Spends units until there are none or the stage ends.
-    pub fn work(self, alloc: A, limit: u32, left: &mut u64) -> Stage<A>
-        ensures carries { Carries self.certificate limit result }
+    pub fn work(self, alloc: A, limit: u32, left: &mut u64) -> Result<Stage<A>, Refusal<A>>
+        ensures carries { Carries self.certificate limit (reached result) }
         ensures comes { (bytes : List ℕ)
-            → Comes bytes limit (AtElements self) left.old left.new result }
+            → Comes bytes limit (AtElements self) left.old left.new (reached result) }
     {
         let Elements {
             sheet,
@@ -226,19 +226,19 @@ impl<A: Room + Copy> Elements<A> {
         let order = sheet.order();
         'heaps: while heap < pairs.len() {
             if *left == 0 {
-                return Stage::Elements(Elements {
+                return Ok(Stage::Elements(Elements {
                     sheet,
                     pairs,
                     contexts,
                     heap,
                     option,
-                });
+                }));
             }
             *left -= 1;
             if let Some(y) = breach(&pairs[heap], &contexts, option, order) {
-                return match beside(alloc, &sheet, heap as u64 + 1, y) {
-                    Ok(position) => failed(sheet, position),
-                    Err(_) => Stage::Ended(Err(Refusal::Memory)),
+                return match position_with(alloc, &sheet, heap as u64 + 1, y) {
+                    Ok(position) => rule_fails(sheet, position),
+                    Err(_) => Err(Refusal::Memory),
                 };
             }
             option += 1;
@@ -247,6 +247,6 @@ impl<A: Room + Copy> Elements<A> {
                 heap += 1;
             }
         }
-        Stage::Closing(Closing::new(alloc, sheet, pairs, limit))
+        Ok(Stage::Closing(Closing::new(alloc, sheet, pairs, limit)))
     }
 }

@@ -3,7 +3,7 @@ ghost use Rattle.std.specs.Prelude.{◌≡◌, ◌<◌, ◌+◌, ◌*◌, ℕ, L
 ghost use Rattle.misere_theory.specs.Certificates.{Canonical};
 ghost use Rattle.checker.specs.Turns.{Runs};
 ghost use Rattle.checker.specs.Turns.Phase.{Heaps as AtHeaps};
-ghost use Rattle.checker.specs.Stages.{Carries, Comes};
+ghost use Rattle.checker.specs.Stages.{Carries, Comes, reached};
 
 use crate::elements::Elements;
 use crate::lines::Lines;
@@ -78,18 +78,18 @@ impl<A: Room + Copy> Heaps<A> {
     }
 
     /// Spends units until there are none or the stage ends.
-    pub fn work(self, alloc: A, left: &mut u64) -> Stage<A>
-        ensures carries { (limit : ℕ) → Carries self.certificate limit result }
+    pub fn work(self, alloc: A, left: &mut u64) -> Result<Stage<A>, Refusal<A>>
+        ensures carries { (limit : ℕ) → Carries self.certificate limit (reached result) }
         ensures comes { (bytes : List ℕ) (limit : ℕ)
-            → Comes bytes limit (AtHeaps self) left.old left.new result }
+            → Comes bytes limit (AtHeaps self) left.old left.new (reached result) }
     {
         let Heaps { lines, mut job } = self;
         let before = job.spent();
         let made = job.work(*left);
         *left -= job.spent() - before;
         match made {
-            Err(_) => Stage::Ended(Err(Refusal::Memory)),
-            Ok(false) => Stage::Heaps(Heaps { lines, job }),
+            Err(_) => Err(Refusal::Memory),
+            Ok(false) => Ok(Stage::Heaps(Heaps { lines, job })),
             Ok(true) => {
                 let (code, table, phi, pairs) = job.finish();
                 let sheet = Sheet {
@@ -99,8 +99,8 @@ impl<A: Room + Copy> Heaps<A> {
                     lines,
                 };
                 match Elements::new(alloc, sheet, pairs) {
-                    Ok(elements) => Stage::Elements(elements),
-                    Err(_) => Stage::Ended(Err(Refusal::Memory)),
+                    Ok(elements) => Ok(Stage::Elements(elements)),
+                    Err(_) => Err(Refusal::Memory),
                 }
             }
         }

@@ -120,12 +120,9 @@ impl<A: Room + Copy> Job<A> {
     {
         checks_end();
         let mut left = units;
-        'stages: while left > 0 && !self.stage.has_ended() {
-            let before = left;
-            self.stage
-                .advance(self.alloc, &self.bytes, self.limit, &mut left);
-            self.spent += before - left;
-        }
+        self.stage
+            .advance(self.alloc, &self.bytes, self.limit, &mut left);
+        self.spent += units - left;
     }
 
     /// Spends units until there are none or the job ends, and shows where it stands then. An ended

@@ -6,7 +6,7 @@ ghost use Rattle.misere_theory.specs.Faults.{WordFault};
 ghost use Rattle.checker.specs.Progress.{IsKeyOf};
 ghost use Rattle.checker.specs.Turns.{key_below, is_keyed, is_above_last, Runs, Works};
 ghost use Rattle.checker.specs.Turns.Phase.{Keys as AtKeys};
-ghost use Rattle.checker.specs.Stages.{Carries, phase_of};
+ghost use Rattle.checker.specs.Stages.{Carries, phase_of, reached};
 
 use crate::products::Products;
 use crate::refusal::Refusal;
@@ -99,10 +99,10 @@ impl<A: Room + Copy> Keys<A> {
     }
 
     /// Spends units until there are none or the stage ends.
-    pub fn work(self, left: &mut u64) -> Stage<A>
-        ensures carries { (limit : ℕ) → Carries self.certificate limit result }
+    pub fn work(self, left: &mut u64) -> Result<Stage<A>, Refusal<A>>
+        ensures carries { (limit : ℕ) → Carries self.certificate limit (reached result) }
         ensures works { (bytes : List ℕ) (limit : ℕ)
-            → Works bytes limit (AtKeys self) left.old left.new (phase_of result) }
+            → Works bytes limit (AtKeys self) left.old left.new (phase_of (reached result)) }
     {
         let Keys {
             sheet,
@@ -112,22 +112,22 @@ impl<A: Room + Copy> Keys<A> {
         let order = sheet.order();
         'keys: while next < order {
             if *left == 0 {
-                return Stage::Keys(Keys {
+                return Ok(Stage::Keys(Keys {
                     sheet,
                     next,
                     rising,
-                });
+                }));
             }
             *left -= 1;
             if !is_keyed(&sheet, next) {
-                return Stage::Ended(Err(Refusal::Word));
+                return Err(Refusal::Word);
             }
             rising &= is_above_last(&sheet, next);
             next += 1;
         }
         if !rising {
-            return Stage::Ended(Err(Refusal::Order));
+            return Err(Refusal::Order);
         }
-        Stage::Products(Products::new(sheet))
+        Ok(Stage::Products(Products::new(sheet)))
     }
 }

@@ -4,7 +4,7 @@ ghost use Rattle.monoid_table.specs.Turns.{fresh, triples};
 ghost use Rattle.certificate.specs.Pieces.{grid_of};
 ghost use Rattle.checker.specs.Turns.{Runs, Works};
 ghost use Rattle.checker.specs.Turns.Phase.{Laws as AtLaws};
-ghost use Rattle.checker.specs.Stages.{Carries, phase_of};
+ghost use Rattle.checker.specs.Stages.{Carries, phase_of, reached};
 
 use crate::keys::Keys;
 use crate::lines::{Lines, set_of};
@@ -98,10 +98,10 @@ impl<A: Room + Copy> Laws<A> {
     }
 
     /// Spends units until there are none or the stage ends.
-    pub fn work(self, left: &mut u64) -> Stage<A>
-        ensures carries { (limit : ℕ) → Carries self.certificate limit result }
+    pub fn work(self, left: &mut u64) -> Result<Stage<A>, Refusal<A>>
+        ensures carries { (limit : ℕ) → Carries self.certificate limit (reached result) }
         ensures works { (bytes : List ℕ) (limit : ℕ)
-            → Works bytes limit (AtLaws self) left.old left.new (phase_of result) }
+            → Works bytes limit (AtLaws self) left.old left.new (phase_of (reached result)) }
     {
         let Laws {
             code,
@@ -114,19 +114,19 @@ impl<A: Room + Copy> Laws<A> {
         let looked = job.work(*left);
         *left -= job.done() - before;
         match looked {
-            Err(_) => Stage::Ended(Err(Refusal::Law)),
-            Ok(false) => Stage::Laws(Laws {
+            Err(_) => Err(Refusal::Law),
+            Ok(false) => Ok(Stage::Laws(Laws {
                 code,
                 phi,
                 lines,
                 job,
-            }),
-            Ok(true) => Stage::Keys(Keys::new(Sheet {
+            })),
+            Ok(true) => Ok(Stage::Keys(Keys::new(Sheet {
                 code,
                 table: job.finish(),
                 phi,
                 lines,
-            })),
+            }))),
         }
     }
 }

@@ -2,7 +2,7 @@
 //!
 //! `check` answers at once, and a `Job` in pieces. A check is a row of stages, one file each:
 //! `reading`, `laws`, `keys`, `products`, `periods`, `separating`, `heaps`, `elements`, `closing`.
-//! A unit is one turn of one stage.
+//! A unit is one turn of one stage, and `Stage::run` drives both.
 #![tactic(auto)]
 
 mod answers;

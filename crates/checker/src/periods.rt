@@ -4,7 +4,7 @@ ghost use Rattle.misere_theory.specs.Certificates.{phi_at};
 ghost use Rattle.checker.specs.Progress.{HasNoFaultBelow};
 ghost use Rattle.checker.specs.Turns.{comes_again, Works};
 ghost use Rattle.checker.specs.Turns.Phase.{Periods as AtPeriods};
-ghost use Rattle.checker.specs.Stages.{Carries, phase_of};
+ghost use Rattle.checker.specs.Stages.{Carries, phase_of, reached};
 
 use crate::refusal::Refusal;
 use crate::separating::Separating;
@@ -61,10 +61,10 @@ impl<A: Room + Copy> Periods<A> {
     }
 
     /// Spends units until there are none or the stage ends.
-    pub fn work(self, left: &mut u64) -> Stage<A>
-        ensures carries { (limit : ℕ) → Carries self.certificate limit result }
+    pub fn work(self, left: &mut u64) -> Result<Stage<A>, Refusal<A>>
+        ensures carries { (limit : ℕ) → Carries self.certificate limit (reached result) }
         ensures works { (bytes : List ℕ) (limit : ℕ)
-            → Works bytes limit (AtPeriods self) left.old left.new (phase_of result) }
+            → Works bytes limit (AtPeriods self) left.old left.new (phase_of (reached result)) }
     {
         let Periods {
             sheet,
@@ -75,11 +75,11 @@ impl<A: Room + Copy> Periods<A> {
         let period = sheet.period();
         'shifts: while shift < period {
             if *left == 0 {
-                return Stage::Periods(Periods {
+                return Ok(Stage::Periods(Periods {
                     sheet,
                     shift,
                     count,
-                });
+                }));
             }
             *left -= 1;
             if !comes_again(&sheet, start + count, shift) {
@@ -89,20 +89,20 @@ impl<A: Room + Copy> Periods<A> {
             }
             count += 1;
             if count == period {
-                return Stage::Ended(Err(Refusal::Period));
+                return Err(Refusal::Period);
             }
         }
         if *left == 0 {
-            return Stage::Periods(Periods {
+            return Ok(Stage::Periods(Periods {
                 sheet,
                 shift,
                 count,
-            });
+            }));
         }
         *left -= 1;
         if comes_again(&sheet, start - 1, period) {
-            return Stage::Ended(Err(Refusal::Period));
+            return Err(Refusal::Period);
         }
-        Stage::Separating(Separating::new(sheet))
+        Ok(Stage::Separating(Separating::new(sheet)))
     }
 }

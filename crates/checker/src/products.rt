@@ -4,7 +4,7 @@ ghost use Rattle.misere_theory.specs.Faults.{OrderFault};
 ghost use Rattle.checker.specs.Progress.{IsInOrder, AreKeys};
 ghost use Rattle.checker.specs.Turns.{is_in_order, Runs, Works};
 ghost use Rattle.checker.specs.Turns.Phase.{Products as AtProducts};
-ghost use Rattle.checker.specs.Stages.{Carries, phase_of};
+ghost use Rattle.checker.specs.Stages.{Carries, phase_of, reached};
 
 use crate::keys::is_below;
 use crate::periods::Periods;
@@ -89,10 +89,10 @@ impl<A: Room + Copy> Products<A> {
     }
 
     /// Spends units until there are none or the stage ends.
-    pub fn work(self, left: &mut u64) -> Stage<A>
-        ensures carries { (limit : ℕ) → Carries self.certificate limit result }
+    pub fn work(self, left: &mut u64) -> Result<Stage<A>, Refusal<A>>
+        ensures carries { (limit : ℕ) → Carries self.certificate limit (reached result) }
         ensures works { (bytes : List ℕ) (limit : ℕ)
-            → Works bytes limit (AtProducts self) left.old left.new (phase_of result) }
+            → Works bytes limit (AtProducts self) left.old left.new (phase_of (reached result)) }
     {
         let Products {
             sheet,
@@ -103,15 +103,15 @@ impl<A: Room + Copy> Products<A> {
         let heaps = sheet.start() + sheet.period();
         'products: while element < order {
             if *left == 0 {
-                return Stage::Products(Products {
+                return Ok(Stage::Products(Products {
                     sheet,
                     element,
                     heap,
-                });
+                }));
             }
             *left -= 1;
             if !is_in_order(&sheet, element, heap) {
-                return Stage::Ended(Err(Refusal::Order));
+                return Err(Refusal::Order);
             }
             heap += 1;
             if heap == heaps {
@@ -119,6 +119,6 @@ impl<A: Room + Copy> Products<A> {
                 element += 1;
             }
         }
-        Stage::Periods(Periods::new(sheet))
+        Ok(Stage::Periods(Periods::new(sheet)))
     }
 }

@@ -1,7 +1,7 @@
 //! The stage that reads the bytes.
 ghost use Rattle.std.specs.Prelude.{◌*◌, ℕ};
 ghost use Rattle.checker.specs.Turns.Phase.{Reading as AtReading};
-ghost use Rattle.checker.specs.Stages.{Stands, Comes};
+ghost use Rattle.checker.specs.Stages.{Stands, Comes, reached};
 
 use crate::laws::Laws;
 use crate::refusal::Refusal;
@@ -10,18 +10,19 @@ use allocation::Room;
 use certificate::{TextFault, read};
 
 /// Reads the whole text, if there is a unit.
-pub fn work<A: Room + Copy>(alloc: A, bytes: &[u8], left: &mut u64) -> Stage<A>
-    ensures stands { (limit : ℕ) → Stands bytes.now limit result }
-    ensures comes { (limit : ℕ) → Comes bytes.now limit AtReading left.old left.new result }
+pub fn work<A: Room + Copy>(alloc: A, bytes: &[u8], left: &mut u64) -> Result<Stage<A>, Refusal<A>>
+    ensures stands { (limit : ℕ) → Stands bytes.now limit (reached result) }
+    ensures comes { (limit : ℕ)
+        → Comes bytes.now limit AtReading left.old left.new (reached result) }
 {
     certificate_text::reading_is_spelling();
     if *left == 0 {
-        return Stage::Reading;
+        return Ok(Stage::Reading);
     }
     *left -= 1;
     match read(alloc, bytes) {
-        Ok(cert) => Stage::Laws(Laws::new(cert)),
-        Err(TextFault::Text) => Stage::Ended(Err(Refusal::Text)),
-        Err(TextFault::Memory) => Stage::Ended(Err(Refusal::Memory)),
+        Ok(cert) => Ok(Stage::Laws(Laws::new(cert))),
+        Err(TextFault::Text) => Err(Refusal::Text),
+        Err(TextFault::Memory) => Err(Refusal::Memory),
     }
 }

@@ -4,7 +4,7 @@ ghost use Rattle.misere_theory.specs.Certificates.{claim_of, TellsApart};
 ghost use Rattle.checker.specs.Progress.{HasNoFaultBelow};
 ghost use Rattle.checker.specs.Turns.{tells_apart, Runs, Works};
 ghost use Rattle.checker.specs.Turns.Phase.{Separating as AtSeparating};
-ghost use Rattle.checker.specs.Stages.{Carries, phase_of};
+ghost use Rattle.checker.specs.Stages.{Carries, phase_of, reached};
 
 use crate::heaps::Heaps;
 use crate::refusal::Refusal;
@@ -102,10 +102,10 @@ impl<A: Room + Copy> Separating<A> {
     }
 
     /// Spends units until there are none or the stage ends.
-    pub fn work(self, alloc: A, left: &mut u64) -> Stage<A>
-        ensures carries { (limit : ℕ) → Carries self.certificate limit result }
+    pub fn work(self, alloc: A, left: &mut u64) -> Result<Stage<A>, Refusal<A>>
+        ensures carries { (limit : ℕ) → Carries self.certificate limit (reached result) }
         ensures works { (bytes : List ℕ) (limit : ℕ)
-            → Works bytes limit (AtSeparating self) left.old left.new (phase_of result) }
+            → Works bytes limit (AtSeparating self) left.old left.new (phase_of (reached result)) }
     {
         let Separating {
             sheet,
@@ -118,25 +118,25 @@ impl<A: Room + Copy> Separating<A> {
         let pairs = sheet.pairs();
         'pairs: while number < pairs {
             if *left == 0 {
-                return Stage::Separating(Separating {
+                return Ok(Stage::Separating(Separating {
                     sheet,
                     x,
                     y,
                     number,
                     z,
-                });
+                }));
             }
             *left -= 1;
             let given = sheet.apart(number);
             if !tells_apart(&sheet, x, y, z) {
                 if z == given {
-                    return Stage::Ended(Err(Refusal::Apart));
+                    return Err(Refusal::Apart);
                 }
                 z += 1;
                 continue;
             }
             if z < given {
-                return Stage::Ended(Err(Refusal::Apart));
+                return Err(Refusal::Apart);
             }
             z = 0;
             number += 1;
@@ -146,6 +146,6 @@ impl<A: Room + Copy> Separating<A> {
                 y = x + 1;
             }
         }
-        Stage::Heaps(Heaps::new(alloc, sheet))
+        Ok(Stage::Heaps(Heaps::new(alloc, sheet)))
     }
 }

@@ -9,7 +9,11 @@ use positions::Position;
 
 /// The position that the keys of an element spell: the heap of its key, that of this key's element,
 /// and so on.
-pub fn spelled<A: Room + Copy>(alloc: A, words: &[Key], element: u16) -> Result<Position<A>, Memory>
+pub fn position_of<A: Room + Copy>(
+    alloc: A,
+    words: &[Key],
+    element: u16,
+) -> Result<Position<A>, Memory>
     requires down { GoDown words.now }
     requires element_in { element ≤ length words.now }
     ensures { IfOk result (λ X. (c : Certificate) → c.words ≡ words.now → AreSpelled c element X) }

@@ -1,5 +1,6 @@
 //! The stages of a check, in a row.
-ghost use Rattle.std.specs.Prelude.{◌≡◌, ◌*◌, ℕ, List, false};
+ghost use Rattle.std.specs.Prelude.{◌≡◌, ◌*◌, ◌+◌, ◌-◌, ◌<◌, ◌≤◌, ℕ, List, Some, true, false};
+ghost use Rattle.checker.specs.Answers.{answer_of};
 ghost use Rattle.checker.specs.Turns.{Runs, stage_of};
 
 use crate::certified::Certified;
@@ -32,13 +33,24 @@ pub enum Stage<A: Room = Global> {
 }
 
 impl<A: Room + Copy> Stage<A> {
-    ghost use Rattle.checker.specs.Stages.{Stands, Comes, phase_of, has_ended};
+    ghost use Rattle.checker.specs.Stages.{Stands, HasCome, Comes, phase_of, has_ended, ending, reached};
 
     /// Whether the answer stands.
     pub fn has_ended(&self) -> bool
         ensures { result ≡ has_ended self.now }
     {
         matches!(self, Stage::Ended(_))
+    }
+
+    /// The answer, once it stands.
+    pub fn answer(self) -> Result<Certified<A>, Refusal<A>>
+        requires { has_ended self ≡ true }
+        ensures { ending self ≡ Some (answer_of result) }
+    {
+        match self {
+            Stage::Ended(answer) => answer,
+            _ => unreachable!(),
+        }
     }
 
     /// Takes turns in place, while the stage surely goes on and there are units.
@@ -60,26 +72,59 @@ impl<A: Room + Copy> Stage<A> {
         }
     }
 
-    /// Spends units until there are none or the stage ends. It is moved only for what may end it.
+    /// Spends units until there are none or the answer stands. A stage that has ended stays as it
+    /// is. It is moved only for what may end it.
     pub fn advance(&mut self, alloc: A, bytes: &[u8], limit: u32, left: &mut u64)
         requires { Stands bytes.now limit self.old }
         ensures stands { Stands bytes.now limit self.new }
-        ensures comes { has_ended self.old ≡ false
-            → Comes bytes.now limit (phase_of self.old) left.old left.new self.new }
+        ensures come { (spent : ℕ) → HasCome bytes.now limit spent self.old
+            → HasCome bytes.now limit (spent + (left.old - left.new)) self.new }
+        ensures spends { left.new ≤ left.old }
+        ensures whole { 0 < left.new → has_ended self.new ≡ true }
+        ensures ended { has_ended self.old ≡ true → (self.new ≡ self.old) × (left.new ≡ left.old) }
+        ensures idle { left.old ≡ 0 → self.new ≡ self.old }
     {
+        if *left == 0 || self.has_ended() {
+            return;
+        }
         self.go_on(left);
         if *left > 0 {
             let stage = std::mem::replace(self, Stage::Reading);
-            *self = stage.work(alloc, bytes, limit, left);
+            *self = stage.run(alloc, bytes, limit, left);
         }
     }
 
-    /// Spends units until there are none or the stage ends.
-    pub fn work(self, alloc: A, bytes: &[u8], limit: u32, left: &mut u64) -> Stage<A>
+    /// Spends units until there are none or the answer stands.
+    pub fn run(self, alloc: A, bytes: &[u8], limit: u32, left: &mut u64) -> Stage<A>
         requires { Stands bytes.now limit self }
         ensures stands { Stands bytes.now limit result }
+        ensures come { (spent : ℕ) → HasCome bytes.now limit spent self
+            → HasCome bytes.now limit (spent + (left.old - left.new)) result }
+        ensures spends { left.new ≤ left.old }
+        ensures whole { 0 < left.new → has_ended result ≡ true }
+    {
+        let mut stage = self;
+        'stages: while *left > 0 && !stage.has_ended() {
+            match stage.work(alloc, bytes, limit, left) {
+                Ok(next) => stage = next,
+                Err(refusal) => return Stage::Ended(Err(refusal)),
+            }
+        }
+        stage
+    }
+
+    /// Spends units until there are none or the stage ends.
+    fn work(
+        self,
+        alloc: A,
+        bytes: &[u8],
+        limit: u32,
+        left: &mut u64,
+    ) -> Result<Stage<A>, Refusal<A>>
+        requires { Stands bytes.now limit self }
+        ensures stands { Stands bytes.now limit (reached result) }
         ensures comes { has_ended self ≡ false
-            → Comes bytes.now limit (phase_of self) left.old left.new result }
+            → Comes bytes.now limit (phase_of self) left.old left.new (reached result) }
     {
         match self {
             Stage::Reading => reading::work(alloc, bytes, left),
@@ -91,7 +136,7 @@ impl<A: Room + Copy> Stage<A> {
             Stage::Heaps(heaps) => heaps.work(alloc, left),
             Stage::Elements(elements) => elements.work(alloc, limit, left),
             Stage::Closing(closing) => closing.work(left),
-            Stage::Ended(answer) => Stage::Ended(answer),
+            Stage::Ended(answer) => Ok(Stage::Ended(answer)),
         }
     }
 }

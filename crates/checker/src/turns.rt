@@ -53,7 +53,7 @@ pub fn verdicts_are_true()
     monoid_table::tables_cost();
     monoid_table::turns_are_paid();
     transition_algebra::heap_pairs_are_one_list();
-    pair_closure::closures_speak();
+    pair_closure::closures_show_pairs();
     pair_closure::closures_go_on();
     misere_theory::certificates::tested_certificates_are_accepted();
 }

@@ -1,7 +1,7 @@
 //! Values of positions, by the rows and entries of an accepted certificate.
 ghost use Rattle.std.specs.Prelude.{◌≡◌, ◌<◌, ◌≤◌};
-ghost use Rattle.misere_theory.specs.Games.{IsHeap, IsPosition};
-ghost use Rattle.misere_theory.specs.Certificates.{Accepted, claim_of, times_of, phi_at};
+ghost use Rattle.misere_theory.specs.Games.{IsPosition};
+ghost use Rattle.misere_theory.specs.Certificates.{Accepted, IsHeapOf, claim_of, times_of, phi_at};
 ghost use Rattle.misere_theory.specs.Quotients.{value};
 
 use certificate::{Cert, claims_agree};
@@ -32,7 +32,7 @@ pub fn times<A: Allocator>(cert: &Cert<A>, x: u16, y: u16) -> u16
 /// The product of the heaps' elements.
 pub fn product<A: Allocator>(cert: &Cert<A>, heaps: &[u64]) -> u16
     requires accepted { Accepted cert.now }
-    requires position { IsPosition IsHeap heaps.now }
+    requires position { IsPosition (IsHeapOf cert.now) heaps.now }
     ensures value { result ≡ value (claim_of cert.now) heaps.now }
     ensures within { result < cert.now.order }
 {

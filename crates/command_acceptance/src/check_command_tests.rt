@@ -1,43 +1,45 @@
 //! The sample certificates, out of files and from standard input.
-mod certificates;
 mod games;
 
-use self::certificates::CERTIFICATES;
+use crate::certificates::sample;
 use check_command::{certified, check_file, check_input};
 use command_results::{Said, Stop};
 use devices::FailingSource;
-use folders::{FileFault, MemoryFolder};
+use folders::MemoryFolder;
 use std::alloc::Global;
-use std::test::Fail;
 use streams::MemorySource;
 
 const LIMIT: u32 = 100000;
 
-/// The bytes of a sample certificate.
-fn sample(name: &str) -> Result<&'static [u8], &'static str> {
-    for (kept, text) in CERTIFICATES {
-        if kept == name {
-            return Ok(text.as_bytes());
-        }
-    }
-    Err("no such sample")
-}
-
 /// A folder of one sample, of which this call fails.
-fn folder_of(alloc: Global, name: &str, failing: u64) -> Result<MemoryFolder, Fail> {
+fn folder_of(alloc: Global, name: &str, failing: u64) -> Option<MemoryFolder> {
+    let bytes = sample(name)?;
     let mut folder = MemoryFolder::failing(alloc, failing);
-    folder.put(name, sample(name)?)?;
-    Ok(folder)
+    folder.put(name, bytes).ok()?;
+    Some(folder)
 }
 
 /// Checks a sample. A second reading of it would fail.
-fn checked(alloc: Global, name: &str, limit: u32) -> Result<Said, Fail> {
+fn checked(alloc: Global, name: &str, limit: u32) -> Option<Said> {
     let mut folder = folder_of(alloc, name, 2)?;
-    Ok(check_file(alloc, name, limit, &mut folder)?)
+    check_file(alloc, name, limit, &mut folder).ok()
+}
+
+/// Whether this is said, and well where it is a yes.
+fn is_said(said: &Said, text: &str) -> bool {
+    said.text.as_slice() == text.as_bytes() && said.well == text.starts_with("yes")
+}
+
+/// Whether this is said of the sample.
+fn says(alloc: Global, name: &str, limit: u32, text: &str) -> bool {
+    match checked(alloc, name, limit) {
+        Some(said) => is_said(&said, text),
+        None => false,
+    }
 }
 
 #[test]
-fn answers_of_certificates(rt: HostRuntime) -> Result<(), Fail> {
+fn answers_of_certificates(rt: HostRuntime) {
     let rows = [
         ("0.3.mqc", LIMIT, "yes 0.3 order 2 start 1 period 2\n"),
         ("0.33.mqc", LIMIT, "yes 0.33 order 6 start 1 period 3\n"),
@@ -59,57 +61,85 @@ fn answers_of_certificates(rt: HostRuntime) -> Result<(), Fail> {
         ("text_byte_behind.mqc", LIMIT, "no 1 Text\n"),
     ];
     for (name, limit, text) in rows {
-        let said = checked(rt.alloc(), name, limit)?;
-        assert_eq!(rt; said.text.as_slice(), text.as_bytes(), "of {name}, {limit}");
-        assert_eq!(rt; said.well, text.starts_with("yes"), "of {name}, {limit}");
+        assert!(rt; says(rt.alloc(), name, limit, text), "of {name}, {limit}");
     }
-    Ok(())
+}
+
+/// The order of the quotient that the file certifies, or whether `no 8 Limit` is said of it.
+fn order_of(alloc: Global, folder: &mut MemoryFolder, limit: u32) -> Option<Result<u16, bool>> {
+    match certified(alloc, "0.33.mqc", limit, folder).ok()? {
+        Ok(certified) => Some(Ok(certified.cert().order())),
+        Err(text) => Some(Err(text.as_slice() == b"no 8 Limit\n".as_slice())),
+    }
+}
+
+/// The order under each of two limits.
+fn orders_of(alloc: Global, folder: &mut MemoryFolder) -> [Option<Result<u16, bool>>; 2] {
+    [order_of(alloc, folder, LIMIT), order_of(alloc, folder, 1)]
 }
 
 #[test]
-fn certifies_or_says_no(rt: HostRuntime) -> Result<(), Fail> {
-    let alloc = rt.alloc();
-    let mut folder = folder_of(alloc, "0.33.mqc", 0)?;
-    let found = certified(alloc, "0.33.mqc", LIMIT, &mut folder)?;
-    assert_eq!(rt; found.map(|c| c.cert().order()).ok(), Some(6));
-    let found = certified(alloc, "0.33.mqc", 1, &mut folder)?;
-    assert_eq!(rt; found.err().as_deref(), Some(b"no 8 Limit\n".as_slice()));
-    Ok(())
+fn certifies_or_says_no(rt: HostRuntime) {
+    let Some(mut folder) = folder_of(rt.alloc(), "0.33.mqc", 0) else {
+        panic!(rt; "no folder");
+    };
+    let orders = orders_of(rt.alloc(), &mut folder);
+    assert!(rt; orders == [Some(Ok(6)), Some(Err(true))]);
+}
+
+/// Whether this is said of standard input.
+fn says_of_input(alloc: Global, bytes: &[u8], text: &str) -> bool {
+    match check_input(alloc, LIMIT, &mut MemorySource::new(bytes)) {
+        Ok(said) => is_said(&said, text),
+        Err(_) => false,
+    }
 }
 
 #[test]
-fn reads_standard_input(rt: HostRuntime) -> Result<(), Fail> {
-    let alloc = rt.alloc();
-    let bytes = sample("0.3.mqc")?;
+fn reads_standard_input(rt: HostRuntime) {
+    let Some(bytes) = sample("0.3.mqc") else {
+        panic!(rt; "no sample");
+    };
     for n in 0..bytes.len() {
-        let said = check_input(alloc, LIMIT, &mut MemorySource::new(&bytes[..n]))?;
-        assert_eq!(rt;
-            said.text.as_slice(),
-            b"no 1 Text\n".as_slice(),
+        assert!(rt;
+            says_of_input(rt.alloc(), &bytes[..n], "no 1 Text\n"),
             "of {n} bytes"
         );
-        assert!(rt; !said.well, "of {n} bytes");
     }
-    let said = check_input(alloc, LIMIT, &mut MemorySource::new(bytes))?;
-    assert_eq!(rt;
-        said.text.as_slice(),
-        b"yes 0.3 order 2 start 1 period 2\n".as_slice()
-    );
-    assert!(rt; said.well);
-    Ok(())
+    let text = "yes 0.3 order 2 start 1 period 2\n";
+    assert!(rt; says_of_input(rt.alloc(), bytes, text));
+}
+
+/// Whether a check stops at a file that can't be read.
+fn check_stops(alloc: Global) -> Option<bool> {
+    let mut folder = folder_of(alloc, "0.3.mqc", 1)?;
+    match check_file(alloc, "0.3.mqc", LIMIT, &mut folder) {
+        Ok(_) => Some(false),
+        Err(stop) => Some(stop == Stop::Read("0.3.mqc")),
+    }
+}
+
+/// Whether certifying stops at a file that can't be read.
+fn certifying_stops(alloc: Global) -> Option<bool> {
+    let mut folder = folder_of(alloc, "0.3.mqc", 1)?;
+    match certified(alloc, "0.3.mqc", LIMIT, &mut folder) {
+        Ok(_) => Some(false),
+        Err(stop) => Some(stop == Stop::Read("0.3.mqc")),
+    }
+}
+
+/// Whether a check stops at an input that can't be read.
+fn input_stops(alloc: Global) -> Option<bool> {
+    let mut input = FailingSource::new(MemorySource::new(sample("0.3.mqc")?), 1);
+    match check_input(alloc, LIMIT, &mut input) {
+        Ok(_) => Some(false),
+        Err(stop) => Some(stop == Stop::Read("standard input")),
+    }
 }
 
 #[test]
-fn stops_where_a_device_fails(rt: HostRuntime) -> Result<(), Fail> {
-    let alloc = rt.alloc();
-    let mut folder = folder_of(alloc, "0.3.mqc", 1)?;
-    let stop = check_file(alloc, "0.3.mqc", LIMIT, &mut folder).err();
-    assert_eq!(rt; stop, Some(Stop::Read("0.3.mqc")));
-    let mut folder = folder_of(alloc, "0.3.mqc", 1)?;
-    let stop = certified(alloc, "0.3.mqc", LIMIT, &mut folder).err();
-    assert_eq!(rt; stop, Some(Stop::Read("0.3.mqc")));
-    let mut input = FailingSource::new(MemorySource::new(sample("0.3.mqc")?), 1);
-    let stop = check_input(alloc, LIMIT, &mut input).err();
-    assert_eq!(rt; stop, Some(Stop::Read("standard input")));
-    Ok(())
+fn stops_where_a_device_fails(rt: HostRuntime) {
+    assert!(rt; check_stops(rt.alloc()) == Some(true));
+    assert!(rt; certifying_stops(rt.alloc()) == Some(true));
+    assert!(rt; input_stops(rt.alloc()) == Some(true));
 }

@@ -1,36 +1,17 @@
 //! Scripts of a few clients, sixteen clients on one certificate, and want of memory at each growth.
-use allocation::{Memory, Room};
+use crate::certificates::{OF_0_3, OF_0_33, OF_0_75, RIGHT_UP_TO_8};
+use allocation::Room;
 use desk::{Client, Desk, Event, Reply};
 use player::{Answer, Outcome};
 use positions::{Left, Move, Position};
 use ration::Ration;
-use std::test::Fail;
-
-/// The quotients of 0.3, 0.33 and 0.75, and a certificate for 0.75 that is right up to heap 8.
-static OF_0_3: &[u8] =
-    b"mqc 1\ncode 0.3\norder 2\nstart 1\nperiod 2\nphi 1 0\nportion 1\nwords 0:1\nrow 0 1\n\
-row 1 0\napart 0\nend\n";
-
-static OF_0_33: &[u8] = b"mqc 1\ncode 0.33\norder 6\nstart 1\nperiod 3\nphi 1 2 0\nportion 1 4\n\
-words 0:1 0:2 1:2 2:2 3:2\nrow 0 1 2 3 4 5\nrow 1 0 3 2 5 4\nrow 2 3 4 5 2 3\nrow 3 2 5 4 3 2\n\
-row 4 5 2 3 4 5\nrow 5 4 3 2 5 4\napart 0 1 1 0 4 0 0 4 0 2 0 1 0 1 0\nend\n";
-
-static OF_0_75: &[u8] =
-    b"mqc 1\ncode 0.75\norder 8\nstart 8\nperiod 2\nphi 1 2 1 2 3 2 3 2 4\nportion 1 7\n\
-words 0:1 0:2 0:5 0:9 1:2 1:5 1:9\nrow 0 1 2 3 4 5 6 7\nrow 1 0 5 6 7 2 3 4\nrow 2 5 7 5 5 4 2 2\n\
-row 3 6 5 7 7 2 4 4\nrow 4 7 5 7 7 2 4 4\nrow 5 2 4 2 2 7 5 5\nrow 6 3 2 4 4 5 7 7\n\
-row 7 4 2 4 4 5 7 7\napart 0 1 1 3 1 1 0 0 0 0 0 0 4 2 1 2 2 0 1 3 3 0 1 1 0 5 0 0\nend\n";
-
-static RIGHT_UP_TO_8: &[u8] =
-    b"mqc 1\ncode 0.75\norder 8\nstart 4\nperiod 2\nphi 1 2 1 2 3\nportion 1 6\n\
-words 0:1 0:2 0:5 1:2 1:5 2:2 4:2\nrow 0 1 2 3 4 5 6 7\nrow 1 0 4 5 2 3 7 6\nrow 2 4 6 4 7 2 2 4\n\
-row 3 5 4 6 2 7 7 6\nrow 4 2 7 2 6 4 4 2\nrow 5 3 2 7 4 6 6 7\nrow 6 7 2 7 4 6 6 7\n\
-row 7 6 4 6 2 7 7 6\napart 0 1 1 1 1 0 3 0 0 0 0 5 0 2 2 2 0 1 3 3 0 1 4 0 1 0 1 0\nend\n";
+use std::alloc::Global;
+use std::process::Abort;
 
 /// What a client asks.
 #[derive(Clone, Copy)]
 enum Step {
-    Open(&'static [u8], u32),
+    Open(&'static str, u32),
     Work(u8, u64),
     Drop(u8),
     Ask(u8, &'static [u8]),
@@ -64,64 +45,87 @@ fn told<A: Room>(reply: Reply<'_, A>) -> Said {
     }
 }
 
+fn position_of<A: Room + Copy>(alloc: A, text: &[u8]) -> Option<Position<A>> {
+    Position::read(alloc, text).ok()
+}
+
 /// The event of a step, made with memory of its own.
-fn event_of<A: Room + Copy>(alloc: A, step: Step) -> Result<Event<A>, Memory> {
-    let event = match step {
-        Step::Open(bytes, limit) => Event::Open(bytes.to_vec(alloc)?, limit),
-        Step::Work(number, units) => Event::Work(number, units),
-        Step::Drop(number) => Event::Drop(number),
-        Step::Ask(number, text) => match Position::read(alloc, text) {
-            Ok(position) => Event::Ask(number, position),
-            Err(_) => return Err(Memory),
-        },
-        Step::Play(number, text) => match Position::read(alloc, text) {
-            Ok(position) => Event::Play(number, position),
-            Err(_) => return Err(Memory),
-        },
-    };
-    Ok(event)
+fn event_of<A: Room + Copy>(alloc: A, step: Step) -> Option<Event<A>> {
+    match step {
+        Step::Open(text, limit) => Some(Event::Open(text.as_bytes().to_vec(alloc).ok()?, limit)),
+        Step::Work(number, units) => Some(Event::Work(number, units)),
+        Step::Drop(number) => Some(Event::Drop(number)),
+        Step::Ask(number, text) => Some(Event::Ask(number, position_of(alloc, text)?)),
+        Step::Play(number, text) => Some(Event::Play(number, position_of(alloc, text)?)),
+    }
 }
 
 /// The reply to a step.
 fn take<A: Room + Copy>(alloc: A, desk: &mut Desk<A>, client: u8, step: Step) -> Said {
-    match (Client::new(client), event_of(alloc, step)) {
-        (Some(client), Ok(event)) => told(desk.step(client, event)),
-        _ => Said::Nothing,
+    let Some(client) = Client::new(client) else {
+        return Said::Nothing;
+    };
+    match event_of(alloc, step) {
+        Some(event) => told(desk.step(client, event)),
+        None => Said::Nothing,
     }
 }
 
-/// The first jobs of the clients 1 and 2 work in turn, each by its units, to their ends: after how
-/// many steps, and what is said then.
-fn in_turn<A: Room + Copy>(alloc: A, desk: &mut Desk<A>, units: [u64; 2]) -> [(u64, Said); 2] {
-    let mut ends = [(0, Said::Going); 2];
-    for round in 1..50000u64 {
-        for i in 0..2usize {
-            if ends[i].1 == Said::Going {
-                let client = if i == 0 { 1 } else { 2 };
-                ends[i] = (round, take(alloc, desk, client, Step::Work(1, units[i])));
-            }
-        }
-        if ends[0].1 != Said::Going && ends[1].1 != Said::Going {
+/// After how many steps a job ended, and what was said then; or that it is going.
+type End = (u64, Said);
+
+/// The first job of the client works once more, unless it has ended.
+fn work_on<A: Room + Copy>(
+    alloc: A,
+    desk: &mut Desk<A>,
+    client: u8,
+    units: u64,
+    steps: u64,
+    end: End,
+) -> End {
+    if end.1 == Said::Going {
+        (steps, take(alloc, desk, client, Step::Work(1, units)))
+    } else {
+        end
+    }
+}
+
+/// The first jobs of the clients 1 and 2 work in turn, each by its units, to their ends.
+fn in_turn<A: Room + Copy>(alloc: A, desk: &mut Desk<A>, units: [u64; 2]) -> (End, End) {
+    let (mut one, mut two) = ((0, Said::Going), (0, Said::Going));
+    for steps in 1..50000u64 {
+        one = work_on(alloc, desk, 1, units[0], steps, one);
+        two = work_on(alloc, desk, 2, units[1], steps, two);
+        if one.1 != Said::Going && two.1 != Said::Going {
             break;
         }
     }
-    ends
+    (one, two)
 }
 
 #[test]
-fn has_sixteen_clients(rt: HostRuntime) -> Result<(), Fail> {
+fn has_sixteen_clients(rt: HostRuntime) {
     for number in 0..=255u8 {
-        assert_eq!(rt;
-            Client::new(number).is_some(),
-            number >= 1 && number <= 16,
-            "{number}"
-        );
+        let is_client = number >= 1 && number <= 16;
+        assert!(rt; Client::new(number).is_some() == is_client, "{number}");
     }
-    Ok(())
+}
+
+/// How many steps of the script have the replies that stand beside them, up to the first that has
+/// not.
+fn count_told(alloc: Global, desk: &mut Desk, script: &[(u8, Step, Said)]) -> usize {
+    let mut count = 0usize;
+    for (client, step, wanted) in script {
+        if take(alloc, desk, *client, *step) != *wanted {
+            return count;
+        }
+        count = count.saturating_add(1);
+    }
+    count
 }
 
 #[test]
-fn replies_to_scripts(rt: HostRuntime) -> Result<(), Fail> {
+fn replies_to_scripts(rt: HostRuntime) {
     let script: [(u8, Step, Said); 11] = [
         (1, Step::Open(OF_0_75, 2048), Said::Opened(1)),
         (2, Step::Open(RIGHT_UP_TO_8, 2048), Said::Opened(1)),
@@ -142,166 +146,205 @@ fn replies_to_scripts(rt: HostRuntime) -> Result<(), Fail> {
         (2, Step::Drop(1), Said::Dropped),
         (2, Step::Work(1, 5), Said::Refused(21)),
     ];
-    let mut desk = Desk::new(rt.alloc());
-    for (client, step, wanted) in script {
-        assert_eq!(rt; take(rt.alloc(), &mut desk, client, step), wanted);
-    }
-    let extreme: [(Step, Said); 14] = [
-        (Step::Open(OF_0_33, 100_000), Said::Opened(1)),
-        (Step::Work(1, 5), Said::Going),
-        (Step::Drop(1), Said::Dropped),
-        (Step::Open(OF_0_3, 8), Said::Opened(1)),
-        (Step::Work(1, 0), Said::Going),
-        (Step::Work(1, u64::MAX), Said::Yes),
-        (Step::Work(1, 0), Said::Yes),
-        (Step::Ask(1, b"1"), Said::Outcome(Outcome::P)),
-        (Step::Open(OF_0_3, 0), Said::Opened(2)),
-        (Step::Work(2, 1000), Said::No(8)),
-        (Step::Ask(1, b"1 1"), Said::Outcome(Outcome::N)),
-        (Step::Play(1, b"1"), Said::Answer(Answer::Lost)),
-        (Step::Play(2, b"1"), Said::Refused(22)),
-        (Step::Drop(0), Said::Refused(21)),
+    let extreme: [(u8, Step, Said); 14] = [
+        (3, Step::Open(OF_0_33, 100_000), Said::Opened(1)),
+        (3, Step::Work(1, 5), Said::Going),
+        (3, Step::Drop(1), Said::Dropped),
+        (3, Step::Open(OF_0_3, 8), Said::Opened(1)),
+        (3, Step::Work(1, 0), Said::Going),
+        (3, Step::Work(1, u64::MAX), Said::Yes),
+        (3, Step::Work(1, 0), Said::Yes),
+        (3, Step::Ask(1, b"1"), Said::Outcome(Outcome::P)),
+        (3, Step::Open(OF_0_3, 0), Said::Opened(2)),
+        (3, Step::Work(2, 1000), Said::No(8)),
+        (3, Step::Ask(1, b"1 1"), Said::Outcome(Outcome::N)),
+        (3, Step::Play(1, b"1"), Said::Answer(Answer::Lost)),
+        (3, Step::Play(2, b"1"), Said::Refused(22)),
+        (3, Step::Drop(0), Said::Refused(21)),
     ];
-    for (step, wanted) in extreme {
-        assert_eq!(rt; take(rt.alloc(), &mut desk, 3, step), wanted);
+    let mut desk = Desk::new(rt.alloc());
+    let told = count_told(rt.alloc(), &mut desk, &script);
+    let told_then = count_told(rt.alloc(), &mut desk, &extreme);
+    assert!(rt; (told, told_then) == (11, 14), "{told}, {told_then}");
+}
+
+const FIRST: Step = Step::Open(OF_0_75, 2048);
+
+const SECOND: Step = Step::Open(RIGHT_UP_TO_8, 2048);
+
+/// How a check that is alone ends, a unit at a time.
+fn end_alone(alloc: Global) -> End {
+    let mut desk = Desk::new(alloc);
+    match take(alloc, &mut desk, 1, FIRST) {
+        Said::Opened(1) => in_turn(alloc, &mut desk, [1, 1000]).0,
+        _ => (0, Said::Nothing),
     }
-    Ok(())
+}
+
+fn ends_as_alone(rt: &impl Abort, alloc: Global, desk: &mut Desk, alone: End) {
+    assert!(rt; take(alloc, desk, 1, FIRST) == Said::Opened(1));
+    assert!(rt; take(alloc, desk, 2, SECOND) == Said::Opened(1));
+    let (one, two) = in_turn(alloc, desk, [1, 1000]);
+    assert!(rt; one == alone);
+    assert!(rt; two.1 == Said::No(7));
+    assert!(rt; two.0 <= 32, "{} times 1000 units", two.0);
+}
+
+fn opens_no_fifth(rt: &impl Abort, alloc: Global, desk: &mut Desk) {
+    for number in 2..=4u8 {
+        assert!(rt; take(alloc, desk, 1, FIRST) == Said::Opened(number));
+    }
+    assert!(rt; take(alloc, desk, 1, FIRST) == Said::Refused(20));
+    assert!(rt; take(alloc, desk, 2, Step::Work(1, 1)) == Said::No(7));
+    assert!(rt; take(alloc, desk, 2, SECOND) == Said::Opened(2));
 }
 
 /// Each gets what it gets alone, within the bounds on what such checks cost.
 #[test]
-fn works_in_turn(rt: HostRuntime) -> Result<(), Fail> {
-    let (first, second) = (Step::Open(OF_0_75, 2048), Step::Open(RIGHT_UP_TO_8, 2048));
-    let mut alone = Desk::new(rt.alloc());
-    assert_eq!(rt; take(rt.alloc(), &mut alone, 1, first), Said::Opened(1));
-    let [ended, _] = in_turn(rt.alloc(), &mut alone, [1, 1000]);
-    assert_eq!(rt; ended.1, Said::Yes);
-    assert!(rt; ended.0 >= 592 && ended.0 <= 49104, "{} units", ended.0);
+fn works_in_turn(rt: HostRuntime) {
+    let alone = end_alone(rt.alloc());
+    assert!(rt; alone.1 == Said::Yes);
+    assert!(rt; alone.0 >= 592 && alone.0 <= 49104, "{} units", alone.0);
     let mut desk = Desk::new(rt.alloc());
-    assert_eq!(rt; take(rt.alloc(), &mut desk, 1, first), Said::Opened(1));
-    assert_eq!(rt; take(rt.alloc(), &mut desk, 2, second), Said::Opened(1));
-    let [one, two] = in_turn(rt.alloc(), &mut desk, [1, 1000]);
-    assert_eq!(rt; one, ended);
-    assert_eq!(rt; two.1, Said::No(7));
-    assert!(rt; two.0 <= 32, "{} times 1000 units", two.0);
-    for number in 2..=4 {
-        assert_eq!(rt; take(rt.alloc(), &mut desk, 1, first), Said::Opened(number));
+    ends_as_alone(&rt, rt.alloc(), &mut desk, alone);
+    opens_no_fifth(&rt, rt.alloc(), &mut desk);
+}
+
+const OPEN: Step = Step::Open(OF_0_33, 100_000);
+
+/// Whether the client opens four jobs, and no fifth.
+fn opens_four(alloc: Global, desk: &mut Desk, client: u8) -> bool {
+    for number in 1..=4u8 {
+        if take(alloc, desk, client, OPEN) != Said::Opened(number) {
+            return false;
+        }
     }
-    assert_eq!(rt; take(rt.alloc(), &mut desk, 1, first), Said::Refused(20));
-    assert_eq!(rt;
-        take(rt.alloc(), &mut desk, 2, Step::Work(1, 1)),
-        Said::No(7)
-    );
-    assert_eq!(rt; take(rt.alloc(), &mut desk, 2, second), Said::Opened(2));
-    Ok(())
+    take(alloc, desk, client, OPEN) == Said::Refused(20)
+}
+
+/// What each of the 64 jobs says to one more unit, if all say the same.
+fn work_all(alloc: Global, desk: &mut Desk) -> Option<Said> {
+    let first = take(alloc, desk, 1, Step::Work(1, 1));
+    for other in 1..64u8 {
+        if take(alloc, desk, other / 4 + 1, Step::Work(other % 4 + 1, 1)) != first {
+            return None;
+        }
+    }
+    Some(first)
+}
+
+/// After how many units all jobs have ended, and what all say then.
+fn end_of_all(alloc: Global, desk: &mut Desk) -> (u64, Option<Said>) {
+    for units in 1..100_000u64 {
+        let said = work_all(alloc, desk);
+        if said != Some(Said::Going) {
+            return (units, said);
+        }
+    }
+    (0, None)
 }
 
 /// All jobs of the same bytes and limit say the same after as many units.
 #[test]
-fn counts_each_jobs_units(rt: HostRuntime) -> Result<(), Fail> {
+fn counts_each_jobs_units(rt: HostRuntime) {
     let mut desk = Desk::new(rt.alloc());
-    for client in 1..=16 {
-        for number in 1..=4 {
-            assert_eq!(rt;
-                take(rt.alloc(), &mut desk, client, Step::Open(OF_0_33, 100_000)),
-                Said::Opened(number)
-            );
-        }
-        assert_eq!(rt;
-            take(rt.alloc(), &mut desk, client, Step::Open(OF_0_33, 100_000)),
-            Said::Refused(20)
-        );
+    for client in 1..=16u8 {
+        assert!(rt; opens_four(rt.alloc(), &mut desk, client), "{client}");
     }
-    for units in 1..100_000u64 {
-        let first = take(rt.alloc(), &mut desk, 1, Step::Work(1, 1));
-        for client in 1..=16 {
-            for number in 1..=4 {
-                if client > 1 || number > 1 {
-                    let next = take(rt.alloc(), &mut desk, client, Step::Work(number, 1));
-                    assert_eq!(rt; next, first, "{units} units");
-                }
-            }
-        }
-        if first != Said::Going {
-            assert_eq!(rt; first, Said::Yes);
-            assert!(rt; units >= 6 * 6 * 6 + 6 * 4, "{units}");
-            return Ok(());
+    let (units, said) = end_of_all(rt.alloc(), &mut desk);
+    assert!(rt; said == Some(Said::Yes), "{units}");
+    assert!(rt; units >= 6 * 6 * 6 + 6 * 4, "{units}");
+}
+
+const SMALL: Step = Step::Open(OF_0_33, 1000);
+
+/// What a first client is told, of its open and of its work.
+fn begin<A: Room + Copy>(alloc: A, desk: &mut Desk<A>) -> (Said, Said) {
+    let opened = take(alloc, desk, 1, SMALL);
+    (opened, take(alloc, desk, 1, Step::Work(1, u64::MAX)))
+}
+
+/// Whether the first client may be told so, where a growth was refused to it or none was.
+fn may_be_told(first: (Said, Said), has_refused: bool) -> bool {
+    match (has_refused, first.0) {
+        (false, _) => first.1 == Said::Yes,
+        (true, Said::Opened(_)) => first.1 == Said::No(9),
+        (true, _) => first == (Said::Refused(9), Said::Refused(21)),
+    }
+}
+
+/// Whether each other client is told yes.
+fn others_go_on<A: Room + Copy>(alloc: A, desk: &mut Desk<A>) -> bool {
+    for client in 2..=16u8 {
+        let opened = take(alloc, desk, client, SMALL);
+        let worked = take(alloc, desk, client, Step::Work(1, u64::MAX));
+        if (opened, worked) != (Said::Opened(1), Said::Yes) {
+            return false;
         }
     }
-    panic!(rt; "they never ended");
+    true
+}
+
+/// Whether all are told what they may be, and whether the growth of this number was refused, to the
+/// first and at all.
+fn share_with(alloc: Global, refused: u64) -> (bool, bool, bool) {
+    let (ample, ration) = (Ration::new(alloc, 0), Ration::new(alloc, refused));
+    let mut desk = Desk::new(&ration);
+    let first = begin(&ample, &mut desk);
+    let has_refused = ration.has_refused();
+    let others = others_go_on(&ample, &mut desk);
+    let again = take(&ample, &mut desk, 1, Step::Work(1, 0)) == first.1;
+    let is_fair = may_be_told(first, has_refused) && others && again;
+    (is_fair, has_refused, ration.has_refused())
 }
 
 /// After the yes of one client's job the others' equal jobs take no memory; and where a growth was
 /// refused to that one, they say yes.
 #[test]
-fn shares_a_check(rt: HostRuntime) -> Result<(), Fail> {
-    let ample = Ration::new(rt.alloc(), 0);
+fn shares_a_check(rt: HostRuntime) {
     for n in 1..400u64 {
-        let ration = Ration::new(rt.alloc(), n);
-        let mut desk = Desk::new(&ration);
-        let opened = take(&ample, &mut desk, 1, Step::Open(OF_0_33, 1000));
-        let worked = take(&ample, &mut desk, 1, Step::Work(1, u64::MAX));
-        let refused = ration.has_refused();
-        match (refused, opened) {
-            (false, _) => assert_eq!(rt; worked, Said::Yes),
-            (true, Said::Opened(_)) => assert_eq!(rt; worked, Said::No(9), "at {n}"),
-            (true, _) => assert_eq!(rt;
-                (opened, worked),
-                (Said::Refused(9), Said::Refused(21)),
-                "at {n}"
-            ),
-        }
-        for client in 2..=16 {
-            assert_eq!(rt;
-                take(&ample, &mut desk, client, Step::Open(OF_0_33, 1000)),
-                Said::Opened(1),
-                "at {n}"
-            );
-            assert_eq!(rt;
-                take(&ample, &mut desk, client, Step::Work(1, u64::MAX)),
-                Said::Yes,
-                "at {n}"
-            );
-        }
-        assert_eq!(rt;
-            take(&ample, &mut desk, 1, Step::Work(1, 0)),
-            worked,
-            "at {n}"
-        );
-        if !refused {
-            assert!(rt; !ration.has_refused() && n > 5, "at {n}");
-            return Ok(());
+        let (is_fair, at_first, at_all) = share_with(rt.alloc(), n);
+        assert!(rt; is_fair, "at {n}");
+        if !at_first {
+            assert!(rt; !at_all && n > 5, "at {n}");
+            return;
         }
     }
     panic!(rt; "growths go on");
 }
 
+/// What two clients are told that open equal jobs, how these end, and whether the growth of this
+/// number was refused.
+fn end_with(alloc: Global, refused: u64) -> ((Said, Said), (End, End), bool) {
+    let (ample, ration) = (Ration::new(alloc, 0), Ration::new(alloc, refused));
+    let mut desk = Desk::new(&ration);
+    let first = take(&ample, &mut desk, 1, SMALL);
+    let second = take(&ample, &mut desk, 2, SMALL);
+    let ends = in_turn(&ample, &mut desk, [50, 70]);
+    ((first, second), ends, ration.has_refused())
+}
+
+/// Whether one of the jobs ended for want of memory, and the other as it should.
+fn is_kept_to_one(ends: (End, End), wanted: (End, End)) -> bool {
+    let is_to_one = ends.0.1 == Said::No(9) && ends.1 == wanted.1;
+    is_to_one || ends.1.1 == Said::No(9) && ends.0 == wanted.0
+}
+
 /// Want of memory in one client's work leaves the other's job its units and its answer.
 #[test]
-fn keeps_want_of_memory_to_one_job(rt: HostRuntime) -> Result<(), Fail> {
-    let ample = Ration::new(rt.alloc(), 0);
-    let mut wanted = [(0, Said::Going); 2];
-    for n in 0..400u64 {
-        let ration = Ration::new(rt.alloc(), n);
-        let mut desk = Desk::new(&ration);
-        let first = take(&ample, &mut desk, 1, Step::Open(OF_0_33, 1000));
-        let second = take(&ample, &mut desk, 2, Step::Open(OF_0_33, 1000));
-        assert_eq!(rt; second, Said::Opened(1), "at {n}");
-        if first == Said::Refused(9) {
-            continue;
-        }
-        let ends = in_turn(&ample, &mut desk, [50, 70]);
-        if n == 0 {
-            assert_eq!(rt; (ends[0].1, ends[1].1), (Said::Yes, Said::Yes));
-            wanted = ends;
-        } else if !ration.has_refused() {
+fn keeps_want_of_memory_to_one_job(rt: HostRuntime) {
+    let (opened, wanted, _) = end_with(rt.alloc(), 0);
+    assert!(rt; opened == (Said::Opened(1), Said::Opened(1)));
+    assert!(rt; (wanted.0.1, wanted.1.1) == (Said::Yes, Said::Yes));
+    for n in 1..400u64 {
+        let (opened, ends, has_refused) = end_with(rt.alloc(), n);
+        assert!(rt; opened.1 == Said::Opened(1), "at {n}");
+        if !has_refused {
             assert!(rt; ends == wanted && n > 5, "at {n}");
-            return Ok(());
-        } else {
-            let to_one = ends[0].1 == Said::No(9) && ends[1] == wanted[1];
-            let to_other = ends[1].1 == Said::No(9) && ends[0] == wanted[0];
-            assert!(rt; to_one || to_other, "at {n}");
+            return;
         }
+        let is_unopened = opened.0 == Said::Refused(9);
+        assert!(rt; is_unopened || is_kept_to_one(ends, wanted), "at {n}");
     }
     panic!(rt; "growths go on");
 }

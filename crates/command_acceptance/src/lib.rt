@@ -3,6 +3,8 @@
 #![tactic(auto)]
 
 #[cfg(test)]
+mod certificates;
+#[cfg(test)]
 mod check_command_tests;
 #[cfg(test)]
 mod command_results_tests;

@@ -80,10 +80,10 @@ AsksForHelp words = FailBy IsHelp words
 -- what a fault says of the words: of want of memory nothing, of help that they ask for it, of
 -- refused words that the command line does not take them for another reason, of the rest what is
 -- wrong with the command that they name
-abbrev pub IsTrueOf : List Text → UsageFault → Type 0
-IsTrueOf words Memory = ⊤
-IsTrueOf words (Help text) = AsksForHelp words
-IsTrueOf words (Words text) = FailBy (λ kind. IsHelp kind → ⊥) words
-IsTrueOf words (Number quantity) = IsMistakeIn (subcommand_of program words) (Number quantity)
-IsTrueOf words Exclusive = IsMistakeIn (subcommand_of program words) Exclusive
-IsTrueOf words Incomplete = IsMistakeIn (subcommand_of program words) Incomplete
+abbrev pub IsFaultOf : List Text → UsageFault → Type 0
+IsFaultOf words Memory = ⊤
+IsFaultOf words (Help text) = AsksForHelp words
+IsFaultOf words (Words text) = FailBy (λ kind. IsHelp kind → ⊥) words
+IsFaultOf words (Number quantity) = IsMistakeIn (subcommand_of program words) (Number quantity)
+IsFaultOf words Exclusive = IsMistakeIn (subcommand_of program words) Exclusive
+IsFaultOf words Incomplete = IsMistakeIn (subcommand_of program words) Incomplete

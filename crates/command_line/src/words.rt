@@ -3,7 +3,7 @@ ghost use Rattle.std.specs.Prelude.{◌≡◌, ◌≢◌, [], Some, None, IfOk, 
 ghost use Rattle.clap.specs.Words.{fault_of, kind_of, subcommand_of, subcommand_rows_of};
 ghost use Rattle.command_line.specs.Plans.{HasNumbersWithin};
 ghost use Rattle.command_line.specs.Program.{program};
-ghost use Rattle.command_line.specs.Refusals.{IsOfKind, IsTrueOf};
+ghost use Rattle.command_line.specs.Refusals.{IsOfKind, IsFaultOf};
 ghost use Rattle.command_line.specs.Requests.{plan_of};
 ghost use Rattle.requests.specs.Requests.{request_of};
 
@@ -39,7 +39,7 @@ fn parsed<'a>(alloc: Global, words: &'a [&'a str]) -> Result<ArgMatches<'a>, Usa
         ≡ subcommand_of program (map (λ w. w.now) words.entry.now)) }
     ensures nothing { IfErr result (λ fault. fault ≢ UsageFault.Memory
         → plan_of (map (λ w. w.now) words.entry.now) ≡ None) }
-    ensures fault { IfErr result (IsTrueOf (map (λ w. w.now) words.entry.now)) }
+    ensures fault { IfErr result (IsFaultOf (map (λ w. w.now) words.entry.now)) }
 {
     let Ok(command) = program_command(alloc) else {
         return Err(UsageFault::Memory);
@@ -58,7 +58,7 @@ pub fn plan<'a>(alloc: Global, words: &'a [&'a str]) -> Result<Plan<'a>, UsageFa
     ensures numbers { IfOk result HasNumbersWithin }
     ensures nothing { IfErr result (λ fault. fault ≢ UsageFault.Memory
         → plan_of (map (λ w. w.now) words.entry.now) ≡ None) }
-    ensures fault { IfErr result (IsTrueOf (map (λ w. w.now) words.entry.now)) }
+    ensures fault { IfErr result (IsFaultOf (map (λ w. w.now) words.entry.now)) }
 {
     let matches = parsed(alloc, words)?;
     match matches.subcommand() {

@@ -82,41 +82,7 @@ certifies_going o job is e =
     subst (λ (q : Option JobView). Certifies q (Err fault.NotCertified)) (sym is)
     (subst (λ (a : Option Answer). CertifiesBy a (Err fault.NotCertified)) (sym e) refl)
 
--- a slot that goes on or memory was wanting to, beside its core
-pub certifies_not_ended : (places : List (Option Slot)) (cores : List (Option JobView)) (i : ℕ)
-    (s : Slot) → IsDesk places cores → get_or places i None ≡ Some s
-    → s.standing ≢ Ended → Certifies (job_in cores (slot_at places i)) (Err fault.NotCertified)
-certifies_not_ended places cores i s desk at not_ended =
-    let held = desk.held i s at in
-    let is : job_in cores (slot_at places i) ≡ Some (job_of held.0 s) =
-    ap (job_in cores) at ∙ ap (λ c. seen c s) held.1 in
-    subst (λ (q : Option JobView). Certifies q (Err fault.NotCertified)) (sym is)
-    (standing_case s.standing (verdict held.0.bytes held.0.limit) not_ended)
-  where
-    standing_case : (d : Standing) (v : Answer) → d ≢ Ended
-        → CertifiesBy (ending d v) (Err fault.NotCertified)
-    standing_case Going v apart = refl
-    standing_case Ended v apart = absurd (apart refl)
-    standing_case Starved v apart = refl
-
 module _ (found : Result (Bor Certificate) StepFault) where
-  yes_by : (e : Option Answer) (lent : Bor Certificate) → CertifiesBy e found → found ≡ Ok lent
-      → e ≡ Some (Yes lent.now)
-  yes_by (Some (Yes c)) lent f g =
-      let same : Ok f.0 ≡ Ok lent = sym f.1 ∙ g in
-      let is : f.0 ≡ lent = cc in
-      ap (λ (d : Certificate). Some (Yes d)) (sym f.2 ∙ ap (λ (b : Bor Certificate). b.now) is)
-  yes_by (Some Text) lent f g = absurd (cc)
-  yes_by (Some Law) lent f g = absurd (cc)
-  yes_by (Some Word) lent f g = absurd (cc)
-  yes_by (Some Order) lent f g = absurd (cc)
-  yes_by (Some Period) lent f g = absurd (cc)
-  yes_by (Some Apart) lent f g = absurd (cc)
-  yes_by (Some (Outcome code X)) lent f g = absurd (cc)
-  yes_by (Some Limit) lent f g = absurd (cc)
-  yes_by (Some Memory) lent f g = absurd (cc)
-  yes_by None lent f g = absurd (cc)
-
   says_no : StepFault → Option Answer → Type 0
   says_no f e = (refusal f ≡ NotCertified)
       × ((X : List ℕ) → Outcomes e X NotCertified × Advices e X NotCertified)
@@ -140,32 +106,12 @@ module _ (found : Result (Bor Certificate) StepFault) where
   no_by None f h g = (not_certified f h g, λ X. (refl, refl))
 
   module _ (jobs : Jobs) (X : List ℕ) where
-    pub asks_yes : (o : Option JobView) (lent : Bor Certificate) (out : Told) → Certifies o found
-        → found ≡ Ok lent → HasOutcome lent.now.code X out
-        → Asks jobs X o (Tells out) jobs
-    asks_yes None lent out h g has = absurd (cc)
-    asks_yes (Some job) lent out h g has = (
-      subst (λ (a : Option Answer). Outcomes a X (Tells out)) (sym (yes_by job.ended lent h g))
-          (out, refl, has),
-      refl,
-    )
-
     pub asks_no : (o : Option JobView) (f : StepFault) → Certifies o found → found ≡ Err f
         → Asks jobs X o (refusal f) jobs
     unfolding says_no
     asks_no None f h g = let is : fault.NoJob ≡ f = cc in (ap refusal (sym is), refl)
     asks_no (Some job) f h g = let no = no_by job.ended f h g in
         (subst (λ (r : Reply). Outcomes job.ended X r) (sym no.0) (no.1 X).0, refl)
-
-    pub plays_yes : (o : Option JobView) (lent : Bor Certificate) (advice : Advice)
-        → Certifies o found → found ≡ Ok lent → IsRightAnswer lent.now.code X advice
-        → Plays jobs X o (Advises advice) jobs
-    plays_yes None lent advice h g right = absurd (cc)
-    plays_yes (Some job) lent advice h g right = (
-      subst (λ (a : Option Answer). Advices a X (Advises advice))
-          (sym (yes_by job.ended lent h g)) (advice, refl, right),
-      refl,
-    )
 
     pub plays_no : (o : Option JobView) (f : StepFault) → Certifies o found → found ≡ Err f
         → Plays jobs X o (refusal f) jobs

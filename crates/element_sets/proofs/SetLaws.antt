@@ -213,18 +213,6 @@ and_fits xs ys same fits i = elim (cases_lt i (length xs)) [
       (arith, get_or_past (zip2 bit_and xs ys) i 0 (omega (arith, length-zip2 bit_and xs ys same)))
 ]
 
-pub or_fits : (xs ys : List ℕ) → length xs ≡ length ys → ((i : ℕ) → get_or xs i 0 < 2 ^ 64)
-    → ((i : ℕ) → get_or ys i 0 < 2 ^ 64) → (i : ℕ) → get_or (zip2 bit_or xs ys) i 0 < 2 ^ 64
-or_fits xs ys same fits fits2 i = elim (cases_lt i (length xs)) [
-  | inl lt ↦ omega (
-    arith,
-    get_or-zip2 bit_or xs ys i 0 0 0 lt (omega arith),
-    or_lt 64 (get_or xs i 0) (get_or ys i 0) (fits i) (fits2 i),
-  )
-  | inr past ↦ omega
-      (arith, get_or_past (zip2 bit_or xs ys) i 0 (omega (arith, length-zip2 bit_or xs ys same)))
-]
-
 pub meets_when : (xs ys : List ℕ) → length xs ≡ length ys → ((i : ℕ) → get_or xs i 0 < 2 ^ 64)
     → IsTrue (not (eqb (fold_l bit_or 0 (zip2 bit_and xs ys)) 0))
     → (q : ℕ) × (fin.contains (set_of xs) q ≡ true) × (fin.contains (set_of ys) q ≡ true)

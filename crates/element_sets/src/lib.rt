@@ -82,8 +82,8 @@ impl ElementSet {
         true
     }
 
-    /// Adds `x`, which is in the range.
-    pub(crate) fn put(&mut self, x: u16)
+    /// Adds `x`, which is in the range: nothing is tested.
+    pub fn put(&mut self, x: u16)
         requires { x < MOST_ELEMENTS }
         ensures { self.new ≡ set.insert self.old x }
     {

@@ -34,16 +34,16 @@ fn name_beside(alloc: Global, name: &str, number: u32) -> Result<String, AllocEr
 
 /// Takes away what is left of a file that isn't put in place. Where that fails too there is nothing
 /// left to do.
-fn give_up<D: Disk>(disk: &mut D, beside: &str) -> FileFault {
-    let _ = disk.remove(beside);
+fn give_up<D: Disk>(disk: &mut D, staged: &str) -> FileFault {
+    let _ = disk.remove(staged);
     FileFault::Device
 }
 
 /// Puts the file beside in place of the file, or takes it away again.
-fn settle<D: Disk>(disk: &mut D, beside: &str, name: &str) -> Result<(), FileFault> {
-    match disk.rename(beside, name) {
+fn settle<D: Disk>(disk: &mut D, staged: &str, name: &str) -> Result<(), FileFault> {
+    match disk.rename(staged, name) {
         Ok(()) => Ok(()),
-        Err(DeviceFault) => Err(give_up(disk, beside)),
+        Err(DeviceFault) => Err(give_up(disk, staged)),
     }
 }
 
@@ -57,11 +57,11 @@ pub fn replace<D: Disk>(
     bytes: &[u8],
 ) -> Result<(), FileFault> {
     for number in 1..=TRIES {
-        let beside = name_beside(alloc, name, number)?;
-        match disk.stage(beside.as_str(), bytes) {
-            Ok(()) => return settle(disk, beside.as_str(), name),
+        let staged = name_beside(alloc, name, number)?;
+        match disk.stage(staged.as_str(), bytes) {
+            Ok(()) => return settle(disk, staged.as_str(), name),
             Err(StageFault::Taken) => {}
-            Err(StageFault::Device) => return Err(give_up(disk, beside.as_str())),
+            Err(StageFault::Device) => return Err(give_up(disk, staged.as_str())),
         }
     }
     Err(FileFault::Device)

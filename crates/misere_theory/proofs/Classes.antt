@@ -9,7 +9,7 @@ use Rattle.misere_theory.proofs.Sums.{IsPosition-append, value_in, value-append}
 use Rattle.misere_theory.proofs.Shuffles.{Shuffled, p_shuffled, from_permutation}
 use Rattle.misere_theory.proofs.Shuffles.Shuffled.{Same, Under, Flip, Then}
 use Rattle.misere_theory.proofs.Rules.{same_bool}
-use Rattle.misere_theory.proofs.Unique.{value_of_heap}
+use Rattle.misere_theory.proofs.SameClaims.{value_of_heap}
 
 in_front : (X Y Z : List ℕ) → Shuffled X Y → Shuffled (X ++ Z) (Y ++ Z)
 in_front _ _ Z Same = Same

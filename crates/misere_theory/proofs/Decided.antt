@@ -13,7 +13,7 @@ use Rattle.misere_theory.proofs.Basics.{either_way}
 use Rattle.misere_theory.proofs.Sums.{first_or_rest, value-append, heaps_kept, IsPosition-append}
 use Rattle.misere_theory.proofs.Outcomes.{some_or_all_below}
 use Rattle.misere_theory.proofs.Bound.{heap_shown}
-use Rattle.misere_theory.proofs.Reach.{same_pair_dec, reach_bound}
+use Rattle.misere_theory.proofs.PairCounts.{same_pair_dec, reach_bound}
 use Rattle.misere_theory.proofs.Rules.{rule_decided}
 
 pub pair-refl : (code : List ℕ) (c : Claim) (X : List ℕ) → SamePair code c X X

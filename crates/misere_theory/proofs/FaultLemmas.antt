@@ -9,7 +9,7 @@ use Rattle.misere_theory.specs.Certificates.{Certificate, phi_at, times_of, clai
 use Rattle.misere_theory.specs.Faults.{WordFault, OrderFault, PeriodFault, ApartFault}
 use Rattle.misere_theory.proofs.Basics.{either_way}
 use Rattle.misere_theory.proofs.Outcomes.{some_or_all_below}
-use Rattle.misere_theory.proofs.Unique.{KeyBelow-trans}
+use Rattle.misere_theory.proofs.SameClaims.{KeyBelow-trans}
 use Rattle.misere_theory.proofs.Written.{periodic}
 
 key_below_dec : (a b : ℕ × ℕ) → Dec (KeyBelow a b)

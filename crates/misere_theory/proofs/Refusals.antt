@@ -50,17 +50,3 @@ module _
           u,
         ),
       )
-
-  -- so a rule that holds everywhere passes the test by elements
-  pub elements_pass : ((x : ℕ) → x < c.order → (X : List ℕ) × IsPosition heap X × (value c X ≡ x))
-      → ((X : List ℕ) → IsPosition heap X → RuleHolds code c X) → (n h y : ℕ) → heap n
-      → HeapOptionValue code c n h → y < c.order
-      → c.portion (c.times (c.phi n) y) ≡ true → c.portion (c.times h y) ≡ false
-  elements_pass reached rule n h y w o l t = elim (true_or_false (c.portion (c.times h y))) [
-    | inr f ↦ f
-    | inl u ↦
-        let (Y, p, e) = reached y l in
-        absurd (rule_not_both code c (n ∷ Y) (rule (n ∷ Y) (w, p))
-        (fails_by_element n h Y (w, p) o (ap (λ v. c.portion (c.times (c.phi n) v)) e ∙ t)
-        (ap (λ v. c.portion (c.times h v)) e ∙ u)))
-  ]

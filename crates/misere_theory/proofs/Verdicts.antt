@@ -13,7 +13,7 @@ use Rattle.misere_theory.proofs.Rules.{predicts_from_rule, rule_from_predicts, r
 use Rattle.misere_theory.proofs.Written.{phi_in, periodic, reached, all_apart}
 use Rattle.misere_theory.proofs.Monoids.{no_law_fails, monoid_in_ranges}
 use Rattle.misere_theory.proofs.FaultLemmas.{canonical_from_none, no_word_fault, no_order_fault, no_period_fault, no_apart_fault}
-use Rattle.misere_theory.proofs.Reach.{reach_bound}
+use Rattle.misere_theory.proofs.PairCounts.{reach_bound}
 use Rattle.misere_theory.proofs.Decided.{holds_or_fails}
 
 pub no_fault : (c : Certificate) → InRanges c → Monoid c.order (times_of c) → Canonical c

@@ -3,6 +3,7 @@
 use Rattle.std.specs.Prelude.{◌≡◌, ◌≢◌, ℕ, zero, suc, ◌+◌, ◌-◌, ◌%◌, ◌≤◌, ◌<◌, ◌==◌, nat_lt, if◌then◌else◌, List, [], ◌∷◌, ◌++◌, length, slice_index, slice_index_or, All}
 use Rattle.std.specs.List.{list_any, AllZip}
 use Rattle.std.specs.List.Sorted.{IsStrictlyIncreasing}
+use Rattle.misere_theory.specs.declared.TheConstants.{LARGEST_ORDER, MOST_ENTRIES}
 use Rattle.misere_theory.specs.Games.{IsHeap}
 pub use Rattle.misere_theory.specs.Games.{IsOctalCode}
 use Rattle.misere_theory.specs.Quotients.{Claim, Represents}
@@ -44,6 +45,10 @@ claim_of c =
       portion = λ x. list_any (λ y. y == x) c.portion;
     }
 
+-- The sizes of heaps of which the certificate speaks: all from 1 on.
+abbrev pub IsHeapOf : Certificate → ℕ → Type 0
+IsHeapOf c = IsHeap
+
 -- The key of the element e > 0.
 abbrev pub key_of : Certificate → ℕ → ℕ × ℕ
 key_of c e = slice_index_or c.words (e - 1) (0, 0)
@@ -68,9 +73,10 @@ pairs_from x (suc n) = pairs_with x (x + 1) n ++ pairs_from (x + 1) n
 -- Each line has its count of numbers, and each number is in its range.
 pub record InRanges (c : Certificate) : Type 0 where
   pub code : IsOctalCode c.code
-  pub order : (2 ≤ c.order) × (c.order ≤ 256)
-  pub start : (1 ≤ c.start) × (c.start ≤ 1024)
-  pub period : (1 ≤ c.period) × (c.period ≤ 1024) × (c.start + c.period ≤ 1025)
+  pub order : (2 ≤ c.order) × (c.order ≤ LARGEST_ORDER)
+  pub start : (1 ≤ c.start) × (c.start ≤ MOST_ENTRIES)
+  pub period : (1 ≤ c.period) × (c.period ≤ MOST_ENTRIES)
+      × (c.start + c.period ≤ MOST_ENTRIES + 1)
   pub phi : (length c.phi + 1 ≡ c.start + c.period) × All (λ x. x < c.order) c.phi
   pub portion : (1 ≤ length c.portion) × All (λ x. x < c.order) c.portion
       × IsStrictlyIncreasing c.portion
@@ -102,4 +108,4 @@ pub record Canonical (c : Certificate) : Type 0 where
 pub record Accepted (c : Certificate) : Type 0 where
   pub in_ranges : InRanges c
   pub canonical : Canonical c
-  pub represents : Represents IsHeap c.code (claim_of c)
+  pub represents : Represents (IsHeapOf c) c.code (claim_of c)

@@ -1,8 +1,8 @@
 -- What may be answered of a certificate. This project's own.
 use Rattle.std.specs.Prelude.{ℕ, ◌<◌, List}
-use Rattle.misere_theory.specs.Games.{IsHeap, IsPosition}
+use Rattle.misere_theory.specs.Games.{IsPosition}
 use Rattle.misere_theory.specs.Quotients.{Monoid, RuleFails, ReachesMoreThan}
-use Rattle.misere_theory.specs.Certificates.{Certificate, claim_of, times_of, Canonical, Accepted}
+use Rattle.misere_theory.specs.Certificates.{Certificate, IsHeapOf, claim_of, times_of, Canonical, Accepted}
 use Rattle.misere_theory.specs.Faults.{LawFault, WordFault, OrderFault, PeriodFault, ApartFault}
 
 -- The faults that are seen in a certificate's numbers alone.
@@ -49,7 +49,8 @@ abbrev pub IsAllowed : Certificate → ℕ → Verdict → Type 0
 IsAllowed c limit Yes = Accepted c
 IsAllowed c limit (No fault) = IsFirstFault c fault
 IsAllowed c limit (Outcome X) =
-    Monoid c.order (times_of c) × Canonical c × IsPosition IsHeap X
+    Monoid c.order (times_of c) × Canonical c × IsPosition (IsHeapOf c) X
     × RuleFails c.code (claim_of c) X
 IsAllowed c limit Limit =
-    Monoid c.order (times_of c) × Canonical c × ReachesMoreThan IsHeap c.code (claim_of c) limit
+    Monoid c.order (times_of c) × Canonical c
+    × ReachesMoreThan (IsHeapOf c) c.code (claim_of c) limit

@@ -2,9 +2,9 @@
 //! true of it.
 
 ghost use Rattle.std.specs.Prelude.{◌≡◌, ◌⊎◌, ◌<◌, ◌≤◌, ◌+◌, ◌-◌, ◌*◌, ◌^◌, List, ℕ, length};
-ghost use Rattle.misere_theory.specs.Certificates.{Certificate, phi_at, times_of, IsSpelled, claim_of, InRanges, Canonical, Accepted};
+ghost use Rattle.misere_theory.specs.Certificates.{Certificate, IsHeapOf, phi_at, times_of, IsSpelled, claim_of, InRanges, Canonical, Accepted};
 ghost use Rattle.misere_theory.specs.Faults.{WordFault, OrderFault, PeriodFault, ApartFault};
-ghost use Rattle.misere_theory.specs.Games.{IsHeap, IsHeapUpTo, IsPosition};
+ghost use Rattle.misere_theory.specs.Games.{IsHeapUpTo, IsPosition};
 ghost use Rattle.misere_theory.specs.Pairs.{Pair, IsClosed, KeptObey, ElementsObey, heap_bound};
 ghost use Rattle.misere_theory.specs.Quotients.{Monoid, Represents, RuleFails, value};
 ghost use Rattle.misere_theory.specs.Verdicts.{Fault, HasFault, Verdict, IsAllowed};
@@ -62,7 +62,7 @@ pub fn keys_spell_positions()
         → Canonical c
         → e < c.order
         → IsSpelled c e X
-        → IsPosition IsHeap X × (value (claim_of c) X ≡ e) }
+        → IsPosition (IsHeapOf c) X × (value (claim_of c) X ≡ e) }
 {}
 
 /// A number that serves as a period for as many heaps in a row as the period from start on serves
@@ -92,18 +92,19 @@ pub fn tested_certificates_are_accepted()
 /// it is accepted, or the rule fails at a position.
 pub fn accepted_certificates_obey_the_rule()
     ensures obeys { (c : Certificate) → Accepted c
-        → (X : List ℕ) → IsPosition IsHeap X → RuleFails c.code (claim_of c) X → ⊥ }
+        → (X : List ℕ) → IsPosition (IsHeapOf c) X → RuleFails c.code (claim_of c) X → ⊥ }
     ensures accepted { (c : Certificate)
         → InRanges c
         → Monoid c.order (times_of c)
         → Canonical c
-        → ((X : List ℕ) → IsPosition IsHeap X → RuleFails c.code (claim_of c) X → ⊥)
+        → ((X : List ℕ) → IsPosition (IsHeapOf c) X → RuleFails c.code (claim_of c) X → ⊥)
         → Accepted c }
     ensures either { (c : Certificate)
         → InRanges c
         → Monoid c.order (times_of c)
         → Canonical c
-        → Accepted c ⊎ ((X : List ℕ) × IsPosition IsHeap X × RuleFails c.code (claim_of c) X) }
+        → Accepted c
+        ⊎ ((X : List ℕ) × IsPosition (IsHeapOf c) X × RuleFails c.code (claim_of c) X) }
 {}
 
 /// Accepted certificates get yes or Limit; canonical ones of a monoid that isn't the quotient
@@ -118,7 +119,7 @@ pub fn true_answers_are_few()
         → InRanges c
         → Monoid c.order (times_of c)
         → Canonical c
-        → (Represents IsHeap c.code (claim_of c) → ⊥)
+        → (Represents (IsHeapOf c) c.code (claim_of c) → ⊥)
         → IsAllowed c limit answer
         → ((X : List ℕ) × (answer ≡ Outcome X)) ⊎ (answer ≡ Limit) }
     ensures faulty { (c : Certificate) (fault : Fault) (limit other : ℕ) (answer : Verdict)

@@ -24,3 +24,9 @@ pub mod games;
 pub mod pairs;
 pub mod plays;
 pub mod quotients;
+
+/// The largest order of a certificate: how many elements a monoid has at most.
+pub const LARGEST_ORDER: u16 = 256;
+
+/// How many entries of its pretending function a certificate has at most: heap sizes from 1 on.
+pub const MOST_ENTRIES: u16 = 1024;

@@ -1,6 +1,7 @@
 -- Products written down: the product of x and y stands in row x, at place y; the rows lie one after
 -- another.
 use Rattle.std.specs.Prelude.{◌≡◌, ℕ, ◌+◌, ◌*◌, ◌<◌, ◌≤◌, List, length, slice_index}
+use Rattle.misere_theory.specs.declared.TheConstants.{LARGEST_ORDER}
 use Rattle.misere_theory.specs.Quotients.{Monoid}
 
 -- An order, and the rows.
@@ -18,7 +19,7 @@ times_in g x y = entry g.order g.entries x y
 -- as many rows as the order says, each of so many numbers below the order
 pub record IsShaped (order : ℕ) (rows : List ℕ) : Type 0 where
   pub positive : 0 < order
-  pub small : order ≤ 256
+  pub small : order ≤ LARGEST_ORDER
   pub length_is : length rows ≡ order * order
   pub below : (i : ℕ) → i < order * order → slice_index rows i < order
 

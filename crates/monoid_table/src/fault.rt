@@ -5,7 +5,8 @@ ghost use Rattle.monoid_table.specs.Faults.{number_of};
 /// Why rows of numbers are no table.
 #[derive(Clone, Copy, Debug, PartialEq, Eq)]
 pub enum LawFault {
-    /// The order isn't 1 to 256, or there aren't order rows of order numbers below the order.
+    /// The order isn't 1 to `LARGEST_ORDER`, or there aren't order rows of order numbers below the
+    /// order.
     Shape,
     /// 0 isn't the identity, or the products aren't commutative, or not associative.
     Law,

@@ -5,6 +5,7 @@ ghost use Rattle.monoid_table.specs.Grids.{IsShaped, entry};
 ghost use Rattle.monoid_table.specs.Light.{AssociatesAt, HoldsAtPairs, GeneratorsAssociate, AreComposite};
 
 use crate::triples::{entry_at, first_breach, row_at};
+use misere_theory::LARGEST_ORDER;
 
 /// Whether the elements are a commutative monoid with identity 0.
 pub fn is_lawful(rows: &[u16], order: usize) -> bool
@@ -49,11 +50,11 @@ fn generators_associate(rows: &[u16], order: usize) -> bool
 }
 
 /// Marks products of two smaller elements.
-fn composites(rows: &[u16], order: usize) -> [bool; 256]
+fn composites(rows: &[u16], order: usize) -> [bool; LARGEST_ORDER as usize]
     requires { IsShaped order rows.now }
     ensures { AreComposite order rows.now result }
 {
-    let mut marks = [false; 256];
+    let mut marks = [false; LARGEST_ORDER as usize];
     for x in 0..order {
         let row = row_at(rows, order, x);
         for y in x..order {

@@ -1,6 +1,7 @@
 //! Tables of products whose laws were checked.
 ghost use Rattle.std.specs.Prelude.{◌≡◌, ◌<◌, ◌≤◌, ◌↔◌, ℕ, List, All, IfOk, IsOk, Err, length, slice_index};
 ghost use Rattle.std.specs.List.Sorted.{IsPermutation};
+ghost use Rattle.misere_theory.specs.declared.TheConstants.{LARGEST_ORDER};
 ghost use Rattle.misere_theory.specs.Quotients.{LawFails, Monoid};
 ghost use Rattle.monoid_table.specs.Grids.{IsShaped, IsTable, entry, times_in};
 ghost use Rattle.monoid_table.specs.Laws.{power_of, product_of};
@@ -55,10 +56,11 @@ impl<A: Allocator> Table<A> {
         Table { order, rows }
     }
 
-    /// How many elements there are: 1 to 256. They are the numbers below it, and 0 is the identity.
+    /// How many elements there are: 1 to `LARGEST_ORDER`. They are the numbers below it, and 0 is
+    /// the identity.
     pub fn order(&self) -> u16
         ensures value { result ≡ self.now.order }
-        ensures range { (1 ≤ result) × (result ≤ 256) }
+        ensures range { (1 ≤ result) × (result ≤ LARGEST_ORDER) }
     {
         self.order
     }

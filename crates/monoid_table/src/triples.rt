@@ -4,6 +4,8 @@ ghost use Rattle.misere_theory.specs.Quotients.{Monoid};
 ghost use Rattle.monoid_table.specs.Grids.{IsShaped, entry};
 ghost use Rattle.monoid_table.specs.Turns.{pair_holds, groups_alike, triple_holds, triples};
 
+use misere_theory::LARGEST_ORDER;
+
 /// Entry y of row x.
 pub fn entry_at(rows: &[u16], order: usize, x: usize, y: usize) -> usize
     requires shaped { IsShaped order rows.now }
@@ -28,11 +30,11 @@ pub fn row_at(rows: &[u16], order: usize, x: usize) -> &[u16]
 }
 
 /// Whether there are as many rows as the order says, each of so many numbers below it, and the
-/// order is 1 to 256.
+/// order is 1 to `LARGEST_ORDER`.
 pub fn is_shaped(rows: &[u16], order: usize) -> bool
     ensures { IsTrue result ↔ IsShaped order rows.now }
 {
-    if order == 0 || order > 256 || rows.len() != order * order {
+    if order == 0 || order > LARGEST_ORDER as usize || rows.len() != order * order {
         return false;
     }
     for x in rows {

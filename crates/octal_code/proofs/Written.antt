@@ -15,11 +15,6 @@ text_at (d ∷ ds) (suc j) l h =
     ap (λ k. get_or (code_text (d ∷ ds)) k 0) (let e : suc j + 1 ≡ suc (suc j) = omega arith in e)
     ∙ get_or-map digit_byte ds j 0 0 (omega arith)
 
-pub text_start : (code : List ℕ) → 1 ≤ length code
-    → digit_byte (get_or code 0 0) ∷ 46 ∷ [] ≡ take 2 (code_text code)
-text_start [] l = absurd (omega arith)
-text_start (d ∷ ds) l = refl
-
 pub text_more : (code : List ℕ) (j : ℕ) → 1 ≤ j → j < length code
     → take (j + 1) (code_text code) ++ digit_byte (get_or code j 0) ∷ []
     ≡ take (j + 1 + 1) (code_text code)

@@ -50,7 +50,7 @@ impl Code {
         if text.len() > LONGEST {
             return Err(CodeFault::TooLong);
         }
-        Ok(Code::spelled(text))
+        Ok(Code::from_text(text))
     }
 
     /// The one text of the code.
@@ -67,7 +67,7 @@ impl Code {
     }
 
     /// The code that these bytes spell.
-    fn spelled(text: &[u8]) -> Code
+    fn from_text(text: &[u8]) -> Code
         requires spelling { IsSpelling text.now }
         requires short { length text.now ≤ LONGEST }
         ensures { result ≡ digits_in text.now }

@@ -23,9 +23,6 @@ use Rattle.outcome_search.proofs.Heaps.{move_from_place}
 use Rattle.outcome_search.specs.Searching.{IsOnTheWay}
 use Rattle.outcome_search.proofs.Found.{rising_differ}
 
-pub adds_none : (code : List ℕ) (number : ℕ) (old : List (List ℕ)) → AddsMoves code number old old
-adds_none code number old = ([], sym (append-nil old), All-nil (IsNext code (get_or old number [])))
-
 -- the position with the number stays
 pub same_place : (code : List ℕ) (number : ℕ) (old new : List (List ℕ)) → number < length old
     → AddsMoves code number old new → get_or new number [] ≡ get_or old number []
@@ -108,9 +105,3 @@ moved_on code number place old mid from H next l p adds is h s up =
       rising = up;
     } in
     adds_one code number old mid next next' adds
-
--- what a few positions settle, more settle
-pub settled_within : (code X : List ℕ) (o : Outcome) (few n : ℕ) → few ≤ n
-    → IsSettledBy code X o few → IsSettledBy code X o n
-settled_within code X o few n l s =
-    record { list = s.list; few = let f = s.few in omega arith; here = s.here; follows = s.follows }

@@ -16,7 +16,7 @@ use Rattle.pair_closure.specs.Positions.{word, as_pair, IsWordOf}
 use Rattle.pair_closure.proofs.Lists.{In-at, In-Contains}
 use Rattle.pair_closure.proofs.Theorem as reached
 use Rattle.pair_closure.proofs.Machine.{Reached, kept_by_turns, place_in}
-use Rattle.pair_closure.proofs.Positions.{speaks}
+use Rattle.pair_closure.proofs.Positions.{shows}
 use Rattle.pair_closure.proofs.Rising.{one_rises}
 
 -- the heaps in any order have the same pair
@@ -145,7 +145,7 @@ walk_ends s r m i at heaps l e w last rise =
       within =
           position_shuffled (IsHeapUpTo (length s.heaps)) shuffled (word_within s r m.place inside);
       exact = λ code c g.
-          let says = speaks s r code c g in
+          let says = shows s r code c g in
           let held =
           says.held m
           (subst (Contains s.held) (sym e) (In-Contains _ _ (In-at s.held i blank_held l))) in

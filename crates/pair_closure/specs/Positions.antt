@@ -68,8 +68,8 @@ pub record IsWordOf (s : State) (m : Held) (heaps : List ℕ) : Type 0 where
       → theory.IsPairOf code c (as_pair m.pair) heaps
 
 -- Whatever claim the table and the pairs are those of.
-abbrev pub Speaks : State → Type 0
-Speaks s = (code : List ℕ) (c : Claim) → IsClaimOver code c s.table s.heaps → Says code c s
+abbrev pub ShowsPairs : State → Type 0
+ShowsPairs s = (code : List ℕ) (c : Claim) → IsClaimOver code c s.table s.heaps → Says code c s
 
 -- The pairs held are closed under products with the heaps, whatever claim the table and the pairs
 -- are those of.

@@ -5,7 +5,7 @@ ghost use Rattle.pair_closure.specs.Turns.{SameData, is_done, is_over, has_ended
 ghost use Rattle.pair_closure.specs.Progress.{begun, moved, retaken, step, steps, stopped};
 ghost use Rattle.pair_closure.specs.Calls.{Goes, Grows, IsLimited, ended, ended_or_kept};
 ghost use Rattle.pair_closure.specs.Keeping.{KeepsOne, GrowsToMember};
-ghost use Rattle.pair_closure.specs.Positions.{IsWordOf, Speaks, IsMinimal, IsClosedOver, IsExceeded};
+ghost use Rattle.pair_closure.specs.Positions.{IsWordOf, ShowsPairs, IsMinimal, IsClosedOver, IsExceeded};
 
 use crate::fits::is_short;
 use crate::members::{Member, Members};
@@ -242,10 +242,10 @@ impl<A: Room + Copy> Closure<A> {
     /// turns. For whatever claim the table and the pairs are those of, each member is exactly the
     /// pair of its word; the members ever kept differ, and none that is held covers another. They
     /// are as many as the limit at most, or one more, where it is over.
-    pub fn speak(&self)
+    pub fn shows_pairs(&self)
         ensures run { self.now ≡ retaken self.now }
         ensures limit { IsLimited self.now.state }
-        ensures speaks { Speaks self.now.state }
+        ensures shows { ShowsPairs self.now.state }
         ensures minimal { IsMinimal self.now.state }
         ensures bound { self.now.spent ≤ self.now.state.limit * length self.now.state.heaps + 2 }
     {
@@ -262,7 +262,7 @@ impl<A: Room + Copy> Closure<A> {
         ensures closed { result ≡ Ok Grown.Done → IsClosedOver self.now.state }
         ensures exceeded { result ≡ Ok Grown.Over → IsExceeded self.now.state }
     {
-        self.speak();
+        self.shows_pairs();
         if self.failed {
             return Err(Memory);
         }
@@ -348,7 +348,7 @@ impl<A: Room + Copy> Closure<A> {
             × (self.new.spent ≤ self.old.spent + units) }
     {
         if self.failed {
-            self.speak();
+            self.shows_pairs();
             return Err(Memory);
         }
         self.take_turns(units);
@@ -381,7 +381,7 @@ impl<A: Room + Copy> Closure<A> {
             × (self.new.spent ≤ self.old.spent + units) }
     {
         if self.failed {
-            self.speak();
+            self.shows_pairs();
             return Err(Memory);
         }
         self.turn_to_member(units);

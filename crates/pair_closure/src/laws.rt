@@ -9,15 +9,15 @@ ghost use Rattle.pair_closure.specs.Turns.{SameData, turns, has_ended};
 ghost use Rattle.pair_closure.specs.Progress.{Progress, begun, moved, retaken, steps};
 ghost use Rattle.pair_closure.specs.Calls.{Takes, cost};
 ghost use Rattle.pair_closure.specs.Keeping.{KeepsOne};
-ghost use Rattle.pair_closure.specs.Positions.{Speaks, IsMinimal};
+ghost use Rattle.pair_closure.specs.Positions.{ShowsPairs, IsMinimal};
 
 /// What turns from the start reach speaks of positions, whatever claim the table and the pairs are
 /// those of.
-pub fn closures_speak()
-    ensures speaks { (table : Grid) (heaps : List the_pair.Pair) (limit units : ℕ)
+pub fn closures_show_pairs()
+    ensures shows { (table : Grid) (heaps : List the_pair.Pair) (limit units : ℕ)
         → IsTableGrid table
         → All (IsPair table.order) heaps
-        → Speaks (turns units (turning.start table heaps limit)) }
+        → ShowsPairs (turns units (turning.start table heaps limit)) }
     ensures minimal { (table : Grid) (heaps : List the_pair.Pair) (limit units : ℕ)
         → IsTableGrid table
         → All (IsPair table.order) heaps

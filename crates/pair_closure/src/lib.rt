@@ -36,7 +36,7 @@ mod settle;
 pub use closure::{Closure, Grown};
 pub use covering_all::done_closures_cover;
 pub use laws::{
-    calls_decide, closures_cost, closures_end, closures_go_on, closures_speak, units_add,
+    calls_decide, closures_cost, closures_end, closures_go_on, closures_show_pairs, units_add,
 };
 pub use members::Member;
 pub use settle::{Generator, Held};

@@ -19,7 +19,7 @@ fn start_of(heaps: &[u16], period: usize) -> usize
 /// How many heaps must have elements before the period shows, for a code with `last` digits after
 /// the point: the pairs of an element and the options' elements repeat then too, since of two parts
 /// of a larger heap one is so large that a period can be taken off it.
-fn asked(start: usize, period: usize, last: usize) -> usize {
+fn heaps_needed(start: usize, period: usize, last: usize) -> usize {
     start
         .saturating_add(period)
         .saturating_mul(2)
@@ -29,7 +29,7 @@ fn asked(start: usize, period: usize, last: usize) -> usize {
 
 /// Whether there are as many heaps as show the period.
 pub fn is_shown(heaps: &[u16], start: usize, period: usize, last: usize) -> bool {
-    period > 0 && asked(start, period, last) <= heaps.len()
+    period > 0 && heaps_needed(start, period, last) <= heaps.len()
 }
 
 /// The period, and the heap from which on the elements repeat, as (start, period), that the fewest
@@ -42,10 +42,10 @@ pub fn likely_period(heaps: &[u16], last: usize) -> Option<(usize, usize)>
     for period in 1..heaps.len() / 2 + 1 {
         let start = start_of(heaps, period).saturating_add(1);
         let twice = start.saturating_add(period).saturating_add(period);
-        let asked = asked(start, period, last);
-        if twice <= heaps.len().saturating_add(1) && asked < fewest {
+        let needed = heaps_needed(start, period, last);
+        if twice <= heaps.len().saturating_add(1) && needed < fewest {
             best = Some((start, period));
-            fewest = asked;
+            fewest = needed;
         }
     }
     best

@@ -11,7 +11,7 @@ use Rattle.misere_theory.specs.Games.{IsHeap, IsPosition}
 use Rattle.misere_theory.specs.Plays.{IsWinningMove}
 use Rattle.misere_theory.specs.Quotients.{Claim, value}
 use Rattle.misere_theory.proofs.Sums.{IsPosition-append, value_in, value-append}
-use Rattle.player.specs.Wins.{NoneWinsBelow, heaps_beside}
+use Rattle.player.specs.Wins.{NoneWinsBelow, other_heaps}
 use Rattle.player.proofs.Rests.{dropped, taken}
 
 module _ (c : Certificate) (yes_to : Accepted c) where
@@ -35,30 +35,30 @@ module _ (c : Certificate) (yes_to : Accepted c) where
 
   module _ (X : List ℕ) (position : IsPosition IsHeap X) (from middle to y b r : ℕ)
       (a : from ≤ middle) (z : middle ≤ to)
-      (beside : y ≡ value C (heaps_beside X from to)) (times : r ≡ C.times y b) where
+      (others : y ≡ value C (other_heaps X from to)) (times : r ≡ C.times y b) where
     -- beside the first half stand the second half and those beside both
     pub beside_first : b ≡ value C (take (to - middle) (drop middle X))
-        → r ≡ value C (heaps_beside X from middle)
+        → r ≡ value C (other_heaps X from middle)
     beside_first is =
         let M = take (to - middle) (drop middle X) in
         let s : middle + (to - middle) ≡ to = omega arith in
         let joined : M ++ drop to X ≡ drop middle X =
         ap (λ Z. M ++ Z) (sym (drop-drop (to - middle) middle X ∙ ap (λ k. drop k X) s))
         ∙ take-append-drop (to - middle) (drop middle X) in
-        times ∙ (ap₂ C.times beside is
+        times ∙ (ap₂ C.times others is
         ∙ (between (take from X) M (drop to X) (taken X from position)
         (taken (drop middle X) (to - middle) (dropped X middle position))
         (dropped X to position)
         ∙ ap (λ Z. value C (take from X ++ Z)) joined))
 
     pub beside_second : b ≡ value C (take (middle - from) (drop from X))
-        → r ≡ value C (heaps_beside X middle to)
+        → r ≡ value C (other_heaps X middle to)
     beside_second is =
         let M = take (middle - from) (drop from X) in
         let s : from + (middle - from) ≡ middle = omega arith in
         let joined : take from X ++ M ≡ take middle X =
         sym (take-add from (middle - from) X) ∙ ap (λ k. take k X) s in
-        times ∙ (ap₂ C.times beside is
+        times ∙ (ap₂ C.times others is
         ∙ (between (take from X) M (drop to X) (taken X from position)
         (taken (drop from X) (middle - from) (dropped X from position)) (dropped X to position)
         ∙ ap (value C) (sym (append_assoc (take from X) M (drop to X))
@@ -66,7 +66,7 @@ module _ (c : Certificate) (yes_to : Accepted c) where
 
 -- beside all heaps stands none
 pub none_beside : (c : Claim) (X : List ℕ) (y : ℕ) → y ≡ value c []
-    → y ≡ value c (heaps_beside X 0 (length X))
+    → y ≡ value c (other_heaps X 0 (length X))
 none_beside c X y e = e ∙ ap (value c) (sym (drop-length X))
 
 -- where the last heap is as large as one that was tried, all between are

@@ -1,6 +1,6 @@
 mod Rests
 mod Order
-mod Beside
+mod Others
 mod Halves
 mod Answered
 mod Few

@@ -10,7 +10,7 @@ use Rattle.positions.specs.Options.{options_of, options_up_to}
 use Rattle.positions.specs.Exact.{heaps_of, IsInOrder, IsPartUpTo}
 use Rattle.positions.specs.declared.left.Left.{Left}
 use Rattle.positions.specs.declared.left.Left.TheVariants.{Nothing, One, Two}
-use Rattle.outcome_search.proofs.Sorted.{rising_same}
+use Rattle.positions.specs.RisingLists.{rising_same}
 
 pub before_trans : (H L M : List ℕ) → LeftBefore H L → LeftBefore L M → LeftBefore H M
 before_trans H L M a b = elim a [

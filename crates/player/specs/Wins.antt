@@ -8,5 +8,5 @@ NoneWinsBelow code X n = (k : ℕ) → k < n → (H : List ℕ) → IsWinningMov
     → ⊥
 
 -- all heaps but those from one place to before another
-abbrev pub heaps_beside : List ℕ → ℕ → ℕ → List ℕ
-heaps_beside X from to = take from X ++ drop to X
+abbrev pub other_heaps : List ℕ → ℕ → ℕ → List ℕ
+other_heaps X from to = take from X ++ drop to X

@@ -1,6 +1,7 @@
 //! What a player answers in a position.
 ghost use Rattle.std.specs.List.Sorted.{IsNonDecreasing};
-ghost use Rattle.misere_theory.specs.Games.{IsHeap, IsPosition};
+ghost use Rattle.misere_theory.specs.Certificates.{IsHeapOf};
+ghost use Rattle.misere_theory.specs.Games.{IsPosition};
 ghost use Rattle.player.specs.Answers.{IsRightAnswer};
 
 use crate::wins::first_win;
@@ -21,7 +22,7 @@ pub enum Answer {
 
 /// The answer in the position of these heaps, which stand rising.
 pub(crate) fn answer_at<A: Allocator>(certified: &Certified<A>, heaps: &[u64]) -> Answer
-    requires position { IsPosition IsHeap heaps.now }
+    requires position { IsPosition (IsHeapOf certified.now) heaps.now }
     requires rising { IsNonDecreasing heaps.now }
     ensures { IsRightAnswer certified.now.code heaps.now result }
 {

@@ -2,8 +2,8 @@
 ghost use Rattle.std.specs.Prelude.{◌≡◌, ◌<◌, ◌+◌, ◌-◌, ℕ, List, false};
 ghost use Rattle.std.specs.List.Sorted.{IsNonDecreasing};
 ghost use Rattle.std.specs.Option.{MatchOption};
-ghost use Rattle.misere_theory.specs.Certificates.{Accepted, claim_of};
-ghost use Rattle.misere_theory.specs.Games.{HeapOption, IsHeap, IsPosition};
+ghost use Rattle.misere_theory.specs.Certificates.{Accepted, IsHeapOf, claim_of};
+ghost use Rattle.misere_theory.specs.Games.{HeapOption, IsPosition};
 ghost use Rattle.misere_theory.specs.Quotients.{value};
 ghost use Rattle.positions.specs.Exact.{heaps_of};
 ghost use Rattle.positions.specs.Options.{options_up_to};
@@ -29,15 +29,11 @@ pub(crate) fn looks_at<A: Allocator>(certified: &Certified<A>, n: u64) -> Option
 
 /// The product of the heaps that are left.
 fn value_of_left<A: Allocator>(certified: &Certified<A>, left: Left) -> u16
-    requires { IsPosition IsHeap (heaps_of left) }
+    requires { IsPosition (IsHeapOf certified.now) (heaps_of left) }
     ensures value { result ≡ value (claim_of certified.now) (heaps_of left) }
     ensures within { result < certified.now.order }
 {
-    match left {
-        Left::Nothing => certified.value(&[]),
-        Left::One(a) => certified.value(&[a]),
-        Left::Two(a, b) => certified.value(&[a, b]),
-    }
+    certified.value(left.heaps().as_slice())
 }
 
 /// The first option of the heap n that makes a value in the P-portion beside a position of value y.

@@ -2,46 +2,46 @@
 ghost use Rattle.std.specs.Prelude.{◌≡◌, ◌<◌, ◌≤◌, ◌+◌, ℕ, List, length, remove};
 ghost use Rattle.std.specs.List.Sorted.{IsNonDecreasing};
 ghost use Rattle.std.specs.Option.{MatchOption};
-ghost use Rattle.misere_theory.specs.Certificates.{Accepted, claim_of};
-ghost use Rattle.misere_theory.specs.Games.{IsHeap, IsPosition};
+ghost use Rattle.misere_theory.specs.Certificates.{Accepted, IsHeapOf, claim_of};
+ghost use Rattle.misere_theory.specs.Games.{IsPosition};
 ghost use Rattle.misere_theory.specs.Plays.{IsWinningMove, IsFirstWin};
 ghost use Rattle.misere_theory.specs.Quotients.{value};
 ghost use Rattle.positions.specs.Exact.{heaps_of};
-ghost use Rattle.player.specs.Wins.{NoneWinsBelow, heaps_beside};
+ghost use Rattle.player.specs.Wins.{NoneWinsBelow, other_heaps};
 
 use crate::looking::first_into;
 use checker::Certified;
 use positions::Move;
 use std::alloc::Allocator;
 
-/// The first winning move of the heap at a place, where no heap before it has one. `beside` is the
+/// The first winning move of the heap at a place, where no heap before it has one. `others` is the
 /// value of all other heaps.
 fn first_win_at<A: Allocator>(
     certified: &Certified<A>,
     heaps: &[u64],
     at: usize,
-    beside: u16,
+    others: u16,
 ) -> Option<Move>
     requires accepted { Accepted certified.now }
-    requires position { IsPosition IsHeap heaps.now }
+    requires position { IsPosition (IsHeapOf certified.now) heaps.now }
     requires rising { IsNonDecreasing heaps.now }
     requires there { at < length heaps.now }
-    requires within { beside < certified.now.order }
-    requires beside { beside ≡ value (claim_of certified.now) (remove heaps.now at) }
+    requires within { others < certified.now.order }
+    requires others { others ≡ value (claim_of certified.now) (remove heaps.now at) }
     requires none { NoneWinsBelow certified.now.code heaps.now at }
     ensures { MatchOption result
         (NoneWinsBelow certified.now.code heaps.now (at + 1))
         (λ m. IsFirstWin certified.now.code heaps.now m.heap (heaps_of m.left)) }
 {
     let heap = heaps[at];
-    if let Some(left) = first_into(certified, heap, beside) {
+    if let Some(left) = first_into(certified, heap, others) {
         return Some(Move { heap, left });
     }
     None
 }
 
 /// The first winning move of the heaps at the places `from` to before `to`, where no heap before
-/// them has one. `beside` is the value of all other heaps.
+/// them has one. `others` is the value of all other heaps.
 ///
 /// The heaps are halved, so that n of them cost about n log n products, and no memory. Of equal
 /// heaps one is tried.
@@ -50,15 +50,15 @@ fn first_win_within<A: Allocator>(
     heaps: &[u64],
     from: usize,
     to: usize,
-    beside: u16,
+    others: u16,
 ) -> Option<Move>
     requires accepted { Accepted certified.now }
-    requires position { IsPosition IsHeap heaps.now }
+    requires position { IsPosition (IsHeapOf certified.now) heaps.now }
     requires rising { IsNonDecreasing heaps.now }
     requires some { from < to }
     requires to_in { to ≤ length heaps.now }
-    requires within { beside < certified.now.order }
-    requires beside { beside ≡ value (claim_of certified.now) (heaps_beside heaps.now from to) }
+    requires within { others < certified.now.order }
+    requires others { others ≡ value (claim_of certified.now) (other_heaps heaps.now from to) }
     requires none { NoneWinsBelow certified.now.code heaps.now from }
     ensures { MatchOption result
         (NoneWinsBelow certified.now.code heaps.now to)
@@ -68,20 +68,20 @@ fn first_win_within<A: Allocator>(
         return None;
     }
     if from + 1 == to {
-        return first_win_at(certified, heaps, from, beside);
+        return first_win_at(certified, heaps, from, others);
     }
     let middle = from + (to - from) / 2;
-    let behind = certified.times(beside, certified.value(&heaps[middle..to]));
+    let behind = certified.times(others, certified.value(&heaps[middle..to]));
     if let Some(made) = first_win_within(certified, heaps, from, middle, behind) {
         return Some(made);
     }
-    let before = certified.times(beside, certified.value(&heaps[from..middle]));
+    let before = certified.times(others, certified.value(&heaps[from..middle]));
     first_win_within(certified, heaps, middle, to, before)
 }
 
 /// The first winning move of the heaps, which stand rising.
 pub(crate) fn first_win<A: Allocator>(certified: &Certified<A>, heaps: &[u64]) -> Option<Move>
-    requires position { IsPosition IsHeap heaps.now }
+    requires position { IsPosition (IsHeapOf certified.now) heaps.now }
     requires rising { IsNonDecreasing heaps.now }
     ensures { MatchOption result
         ((n : ℕ) (H : List ℕ) → IsWinningMove certified.now.code heaps.now n H → ⊥)

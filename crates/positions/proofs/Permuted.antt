@@ -1,10 +1,11 @@
 -- What a move leaves, added to the other heaps.
-use Rattle.std.proofs.Common.{◌≡◌, ℕ, ◌<◌, ◌≤◌, List, [], ◌∷◌, ◌++◌, length, get_or, sym, ◌∙◌, arith, All}
+use Rattle.std.proofs.Common.{◌≡◌, ℕ, ◌<◌, ◌≤◌, List, [], ◌∷◌, ◌++◌, length, get_or, take, ◌+◌, sym, ◌∙◌, ap, subst, append_assoc, arith, All}
 use Rattle.std.specs.List.{Contains, remove}
 use Rattle.std.specs.List.Sorted.{IsPermutation}
-use Rattle.std.proofs.lemmas.List.{get_or_default}
+use Rattle.std.proofs.lemmas.Grind.{take_at_read}
+use Rattle.std.proofs.lemmas.List.{get_or_default, take_all}
 use Rattle.std.proofs.lemmas.List.Elements.{All-cons, All-nil}
-use Rattle.std.proofs.lemmas.List.Sorted.{IsPermutation-cons, IsPermutation-trans, IsPermutation-remove, IsPermutation-sym}
+use Rattle.std.proofs.lemmas.List.Sorted.{IsPermutation-cons, IsPermutation-trans, IsPermutation-middle, IsPermutation-remove, IsPermutation-sym}
 use Rattle.misere_theory.specs.Games.{HeapMove}
 use Rattle.positions.specs.Exact.{heaps_of}
 use Rattle.positions.specs.Options.{options_of}
@@ -12,10 +13,28 @@ use Rattle.positions.specs.declared.left.Left.{Left}
 use Rattle.positions.specs.declared.left.Left.TheVariants.{Nothing, One, Two}
 use Rattle.positions.specs.OptionLaws.{of_options, only}
 
-pub two_pushed : (a b : ℕ) (xs ys zs : List ℕ) → IsPermutation (b ∷ xs) ys
-    → IsPermutation (a ∷ ys) zs → IsPermutation (a ∷ b ∷ xs) zs
-two_pushed a b xs ys zs p q =
-    IsPermutation-trans (a ∷ b ∷ xs) (a ∷ ys) zs (IsPermutation-cons a (b ∷ xs) ys p) q
+-- one heap more of those that are left is added
+pub added_more : (H xs ys zs : List ℕ) (i : ℕ) → i < length H → IsPermutation (take i H ++ xs) ys
+    → IsPermutation (get_or H i 0 ∷ ys) zs → IsPermutation (take (i + 1) H ++ xs) zs
+added_more H xs ys zs i l p q =
+    let h = get_or H i 0 in
+    let more : take (i + 1) H ++ xs ≡ take i H ++ (h ∷ xs) =
+    ap (λ us. us ++ xs) (take_at_read H i 0 l).1 ∙ append_assoc (take i H) (h ∷ []) xs in
+    subst (λ us. IsPermutation us zs) (sym more)
+    (IsPermutation-trans (take i H ++ (h ∷ xs)) (h ∷ (take i H ++ xs)) zs
+    (IsPermutation-middle (take i H) h xs)
+    (IsPermutation-trans (h ∷ (take i H ++ xs)) (h ∷ ys) zs
+    (IsPermutation-cons h (take i H ++ xs) ys p) q))
+
+-- all heaps that are left are added
+pub added_all : (H xs ys : List ℕ) (i : ℕ) → length H ≤ i → IsPermutation (take i H ++ xs) ys
+    → IsPermutation (H ++ xs) ys
+added_all H xs ys i l p = subst (λ us. IsPermutation (us ++ xs) ys) (take_all i H l) p
+
+pub few_left : (L : Left) → length (heaps_of L) ≤ 2
+few_left Nothing = omega arith
+few_left (One a) = omega arith
+few_left (Two a b) = omega arith
 
 -- the parts of a heap up to M are heaps up to M
 pub parts_fit : (code : List ℕ) (n M : ℕ) (L : Left) → Contains (options_of code n) L → n ≤ M

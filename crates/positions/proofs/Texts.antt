@@ -50,10 +50,6 @@ text_of bytes all = by (words_of bytes) refl all
     by (w ∷ ws) e a =
         subst (λ v. AllZip IsNumeralOf v (map number_of (w ∷ ws))) (sym e) (numbers_of (w ∷ ws) a)
 
-pub zero_has : (ns : List ℕ) → IsPositionText (codes "0") ns → ns ≡ []
-zero_has [] t = refl
-zero_has (n ∷ ns) t = absurd (t.0.numeral.first refl)
-
 -- ---- numbers of numerals
 
 over : (b : ℕ) → 48 ≤ b → b ≢ 48 → 1 ≤ 0 * 10 + (b - 48)
@@ -206,9 +202,6 @@ module _ (bytes : List ℕ) (other : bytes ≢ codes "0") where
 pub more_than : (n : ℕ) (ns : List ℕ) (most : ℕ) → (length (take n ns) ≤ most → ⊥) → most < n
 more_than n ns most over =
     ⊎_elim (λ l. l) (λ l. absurd (over (let t = length-take n ns in omega arith))) (cases_lt most n)
-
-pub zero_read : IsTextOf (codes "0") []
-zero_read = record { sizes = []; text = refl; same = IsPermutation-refl [] }
 
 -- a fault that comes from want of memory is no other
 pub is_memory : {X : Type 0} (r : Result X PositionFault) (fault : PositionFault)

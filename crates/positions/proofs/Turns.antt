@@ -1,12 +1,11 @@
 -- The stages of a walk over a heap's options.
-use Rattle.std.proofs.Common.{◌≡◌, ℕ, ◌+◌, ◌-◌, ◌<◌, ◌≤◌, List, [], ◌∷◌, ◌++◌, length, Some, None, sym, subst, ◌∙◌, ap, arith}
+use Rattle.std.proofs.Common.{◌≡◌, ℕ, ◌<◌, List, [], ◌∷◌, ◌++◌, length, Some, None, sym, subst, ◌∙◌, ap, arith}
 use Rattle.std.specs.Prelude.{Option}
 use Rattle.std.specs.Option.{MatchOption}
-use Rattle.positions.specs.Walks.{single_left, splits_to_try, options_from, left_at, rest, after_single, after_splits, stages, IsTurn}
-use Rattle.positions.specs.WalkLaws.{single_then_splits, splits_first, splits_stand}
+use Rattle.positions.specs.Walks.{single_left, left_at, rest, after_single, stages, IsTurn}
+use Rattle.positions.specs.WalkLaws.{single_then_splits}
 use Rattle.positions.specs.declared.left.Left.{Left}
-use Rattle.positions.specs.declared.left.Left.TheVariants.{Two}
-use Rattle.positions.specs.declared.walk.Untried.TheVariants.{Everything, Splits}
+use Rattle.positions.specs.declared.walk.Untried.TheVariants.{Everything}
 use Rattle.positions.specs.declared.walk.Walk.{Walk}
 
 single_first : (code : List ℕ) (s : Walk) → s.away < length code → s.untried ≡ Everything
@@ -29,15 +28,3 @@ single_turn code s t None inside is none after =
 single_turn code s t (Some left) inside is one after =
     subst (IsTurn code s (Some left)) (sym after)
     (single_first code s inside is ∙ ap (λ xs. xs ++ rest code (after_single s)) one)
-
--- a split
-pub split_turn : (code : List ℕ) (s t : Walk) (a whole k : ℕ) → s.untried ≡ Splits a
-    → k ≡ splits_to_try code s.heap s.most s.away a → 1 ≤ k → whole ≡ s.heap - s.away
-    → t ≡ after_splits s a 1 → rest code s ≡ Two a (whole - a) ∷ rest code t
-split_turn code s t a whole k is count some stays after =
-    let stand = splits_stand code s.heap s.most s.away a k 1 count (omega arith) some in
-    let more = options_from code s.heap s.most (s.away + 1) in
-    ap (left_at code s.heap s.most s.away) is
-    ∙ ap (λ xs. xs ++ more) (splits_first code s.heap s.most s.away a 1 stand.0 stand.1)
-    ∙ ap (λ v. Two a (v - a) ∷ rest code (after_splits s a 1)) (sym stays)
-    ∙ ap (λ w. Two a (whole - a) ∷ rest code w) (sym after)

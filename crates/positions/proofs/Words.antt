@@ -24,12 +24,6 @@ capped_more : (a d s : ℕ) → s ≡ capped a
     → min (10 * s + d) 1000000000000000001 ≡ capped (a * 10 + d)
 capped_more a d s e = ⊎_elim (λ l. omega arith) (λ l. omega arith) (cases_lt a 1000000000000000001)
 
-pub read_none : (word : List ℕ) → IsRead word 0 0
-read_none word = record { digits = λ k l. absurd (omega arith); value = refl }
-
-pub read_small : (word : List ℕ) (i size : ℕ) → IsRead word i size → size ≤ 1000000000000000001
-read_small word i size r = let e = r.value in omega arith
-
 pub read_more : (word : List ℕ) (i size : ℕ) → i < length word → IsRead word i size
     → IsDigitByte (get_or word i 0)
     → IsRead word (i + 1) (min (10 * size + (get_or word i 0 - 48)) 1000000000000000001)
@@ -99,17 +93,6 @@ pub record IsSurveyed (text rest : List ℕ) (survey : Survey) : Type 0 where
   pub numerals : All IsNumeral done
   pub numbers : IsSurvey (map (λ word. capped (number_of word)) done) survey
   pub fits : survey.count + length rest ≤ length text
-
-pub surveyed_none : (text : List ℕ) (survey : Survey) → IsSurvey [] survey
-    → IsSurveyed text text survey
-surveyed_none text survey s =
-    record {
-      done = [];
-      whole = refl;
-      numerals = All-nil IsNumeral;
-      numbers = s;
-      fits = let e = s.count in omega arith;
-    }
 
 -- a word more, and what the survey then says
 abbrev pub Notes : Survey → ℕ → Survey → Type 0

@@ -3,6 +3,7 @@ pub mod Walks
 pub mod WalkLaws
 pub mod Exact
 pub mod ListLaws
+pub mod RisingLists
 pub mod OptionLaws
 pub mod Positions
 pub mod Moves

@@ -1,13 +1,13 @@
 -- What a walk has left, stage by stage.
 use Rattle.std.proofs.Common.{◌≡◌, ℕ, zero, suc, ◌+◌, ◌-◌, ◌/◌, ◌<◌, ◌≤◌, Bool, true, false, List, [], ◌∷◌, ◌++◌, length, min, refl, sym, ◌∙◌, ap, arith, append_assoc}
-use Rattle.std.specs.Prelude.{if◌then◌else◌, ◌&&◌, not, eqb, ltb, bit_and}
+use Rattle.std.specs.Prelude.{◌&&◌, not, eqb, ltb, bit_and}
 use Rattle.std.specs.List.{flat_map, range_with_len}
 use Rattle.std.proofs.lemmas.Bool.Decides.{nat_tests}
 use Rattle.std.proofs.lemmas.List.{get_or_past}
 use Rattle.octal_code.specs.Bits.{allows, takes_all, leaves_one}
 use Rattle.octal_code.specs.declared.leaving.Leaving.TheVariants.{NoHeap, OneHeap, TwoHeaps}
 use Rattle.positions.specs.Options.{options_at, nothing_left, one_left, two_left, where_holds, splits}
-use Rattle.positions.specs.Walks.{single_left, last_part, splits_from, splits_to_try, options_from, left_at}
+use Rattle.positions.specs.Walks.{single_left, splits_from, options_from, left_at}
 use Rattle.positions.specs.declared.left.Left.{Left}
 use Rattle.positions.specs.declared.left.Left.TheVariants.{Nothing, One, Two}
 use Rattle.positions.specs.declared.walk.Untried.{Untried}
@@ -121,25 +121,6 @@ single_short code n j = by_tests (takes_all code n j) (leaves_one code n j) refl
     by_tests true b e f = let l = ap length (single_nothing code n j e) in omega arith
     by_tests false true e f = let l = ap length (single_one code n j e f) in omega arith
     by_tests false false e f = let l = ap length (single_none code n j e f) in omega arith
-
--- so many splits as are counted stand there
-pub splits_stand : (code : List ℕ) (n most j a k c : ℕ) → k ≡ splits_to_try code n most j a → 1 ≤ c
-    → c ≤ k → (allows code j TwoHeaps ≡ true) × (a + c ≤ last_part n most j + 1)
-splits_stand code n most j a k c is some few = by_bit (allows code j TwoHeaps) refl
-  where
-    by_bit : (b : Bool) → allows code j TwoHeaps ≡ b
-        → (allows code j TwoHeaps ≡ true) × (a + c ≤ last_part n most j + 1)
-    by_bit true e =
-        let f = is ∙ ap (λ b. if b then last_part n most j + 1 - a else 0) e in (e, omega arith)
-    by_bit false e =
-        let f = is ∙ ap (λ b. if b then last_part n most j + 1 - a else 0) e in
-        absurd (omega arith)
-
--- where none is counted, none stands there
-pub splits_gone : (code : List ℕ) (n most j a k : ℕ) → k ≡ splits_to_try code n most j a → k ≡ 0
-    → allows code j TwoHeaps ≡ true → last_part n most j < a
-splits_gone code n most j a k is none e =
-    let f = is ∙ ap (λ b. if b then last_part n most j + 1 - a else 0) e in omega arith
 
 pub no_bit : (code : List ℕ) (j : ℕ) → length code ≤ j → allows code j TwoHeaps ≡ false
 no_bit code j l = ap (λ d. not (eqb (bit_and d 4) 0)) (get_or_past code j 0 l)

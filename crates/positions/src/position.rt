@@ -66,7 +66,7 @@ impl<A: Room + Copy> Position<A> {
         ensures err { OnErr result (self.new ≡ self.old) }
         ensures inline { length self.old < INLINE → IsOk result }
     {
-        let _room = self.heaps.capacity();
+        has_room(&self.heaps);
         let at = place_for(self.heaps.as_slice(), heap);
         self.heaps.insert(at, heap)?;
         Ok(())
@@ -84,7 +84,7 @@ impl<A: Room + Copy> Position<A> {
         ensures inline { length from.now < INLINE → IsOk result }
     {
         let others = from.heaps();
-        let _room = self.heaps.capacity();
+        has_room(&self.heaps);
         let more = (others.len() + 1).saturating_sub(self.heaps.len());
         self.heaps.reserve(more)?;
         set_same(&mut self.heaps, others);
@@ -171,6 +171,13 @@ fn sort<A: Room + Copy>(heaps: &mut SmallVec<u64, INLINE, A>)
     heaps.sort_unstable();
 }
 
+/// Heaps have room for `INLINE` of them at least.
+fn has_room<A: Room + Copy>(heaps: &SmallVec<u64, INLINE, A>)
+    ensures { INLINE ≤ heaps.now.capacity }
+{
+    heaps.capacity();
+}
+
 /// Makes these the heaps `from`, for which there is room.
 fn set_same<A: Room + Copy>(heaps: &mut SmallVec<u64, INLINE, A>, from: &[u64])
     requires { length from.now ≤ heaps.old.capacity }
@@ -188,13 +195,9 @@ fn add_left<A: Room + Copy>(heaps: &mut SmallVec<u64, INLINE, A>, left: Left)
     ensures same { IsPermutation (heaps_of left ++ heaps.old.items) heaps.new.items }
     ensures rising { IsNonDecreasing heaps.new.items }
 {
-    match left {
-        Left::Nothing => {}
-        Left::One(a) => add_heap(heaps, a),
-        Left::Two(a, b) => {
-            add_heap(heaps, b);
-            add_heap(heaps, a);
-        }
+    let added = left.heaps();
+    for heap in added.as_slice() {
+        add_heap(heaps, *heap);
     }
 }
 

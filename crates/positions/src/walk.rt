@@ -1,6 +1,6 @@
 //! A walk over the options of a heap.
 ghost use Rattle.std.specs.Iterator.{YieldsFirst, item_count};
-ghost use Rattle.std.specs.Prelude.{◌≡◌, ◌+◌, ◌-◌, ◌^◌, ◌<◌, ◌≤◌, ◌↔◌, [], ◌∷◌, length, IsTrue};
+ghost use Rattle.std.specs.Prelude.{◌≡◌, ◌-◌, ◌<◌, ◌≤◌, ◌↔◌, [], ◌∷◌, length, min, IsTrue};
 ghost use Rattle.std.specs.Option.{MatchOption};
 ghost use Rattle.positions.specs.Walks.{rest, begun, single_left, splits_to_try, after_single, after_splits, after_all, IsTurn};
 
@@ -77,7 +77,7 @@ impl Walk {
 
     /// How many splits there are, the smaller part from `part` on.
     #[inline]
-    pub fn splits_to_try(&self, code: &Code, part: u64) -> u64
+    fn splits_to_try(&self, code: &Code, part: u64) -> u64
         ensures { result
             ≡ splits_to_try code.now self.now.heap self.now.most self.now.away part }
     {
@@ -89,40 +89,47 @@ impl Walk {
         }
     }
 
-    /// Passes so many splits, the smaller part from `part` on.
+    /// Passes the splits, the smaller part from `part` on, at most `most` of them. The answer is
+    /// how many were passed.
     #[inline]
-    pub fn pass_splits(&mut self, part: u64, count: u64)
-        requires { part + count < 2 ^ 64 }
-        ensures { self.new ≡ after_splits self.old part count }
+    pub fn pass_splits(&mut self, code: &Code, part: u64, most: u64) -> u64
+        ensures count { result ≡ min most
+            (splits_to_try code.now self.old.heap self.old.most self.old.away part) }
+        ensures none { result ≡ 0 → self.new ≡ self.old }
+        ensures some { 1 ≤ result → self.new ≡ after_splits self.old part result }
     {
-        self.untried = Untried::Splits(part + count);
+        let count = most.min(self.splits_to_try(code, part));
+        if count > 0 {
+            self.untried = Untried::Splits(part + count);
+        }
+        count
     }
 
-    /// Takes one more away.
+    /// Takes one more away. A walk that is over stays as it is.
     #[inline]
-    pub fn take_more(&mut self)
-        requires { self.old.away + 1 < 2 ^ 64 }
-        ensures { self.new ≡ after_all self.old }
+    pub fn take_more(&mut self, code: &Code)
+        ensures more { self.old.away < length code.now → self.new ≡ after_all self.old }
+        ensures over { length code.now ≤ self.old.away → self.new ≡ self.old }
     {
-        self.away += 1;
-        self.untried = Untried::Everything;
+        is_octal_code(code);
+        if !self.is_over(code) {
+            self.away += 1;
+            self.untried = Untried::Everything;
+        }
     }
 
     fn turn(&mut self, code: &Code) -> Option<Left>
-        requires inside { self.old.away < length code.now }
-        requires short { self.old.away < 17 }
+        requires { self.old.away < length code.now }
         ensures { IsTurn code.now self.old result self.new }
     {
         match self.untried {
             Untried::Everything => self.take_single(code),
             Untried::Splits(part) => {
-                if self.splits_to_try(code, part) == 0 {
-                    self.take_more();
+                if self.pass_splits(code, part, 1) == 0 {
+                    self.take_more(code);
                     return None;
                 }
-                let left = Left::Two(part, self.whole() - part);
-                self.pass_splits(part, 1);
-                Some(left)
+                Some(Left::Two(part, self.whole() - part))
             }
         }
     }

@@ -13,7 +13,7 @@ use Rattle.presentations.specs.Congruences.Related.{Given, Turned}
 use Rattle.presentations.specs.Words.{occurs, letters_below, vector_on}
 use Rattle.presentations.specs.Powers.{IsPowerOf, HasPower, IsLeastLarger, IsBoxSize}
 use Rattle.presentations.specs.Boxes.{size_of, AreAxes}
-use Rattle.presentations.specs.Boxed.{letters_in, pairs_in, IsBox}
+use Rattle.presentations.specs.Merging.{letters_in, pairs_in, IsBox}
 use Rattle.presentations.proofs.VectorLaws.{length-only}
 use Rattle.presentations.proofs.PlaceLaws.{length-word, word-at}
 use Rattle.presentations.proofs.Quotient.{pair-of}

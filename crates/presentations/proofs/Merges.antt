@@ -9,7 +9,7 @@ use Rattle.presentations.specs.declared.read.Relation.{Relation}
 use Rattle.presentations.specs.Congruences.Related.{Given, Same, Turned, Chained}
 use Rattle.presentations.specs.Boxes.{size_of, vector_at, next_of, place_of}
 use Rattle.presentations.specs.Words.{vector_on}
-use Rattle.presentations.specs.Boxed.{AreRelated, IsBox, MergeState, IsMerging, IsPointed, IsGap, Shrinks, letters_in, pairs_in, AreFirsts, AreClasses}
+use Rattle.presentations.specs.Merging.{AreRelated, IsBox, MergeState, IsMerging, IsPointed, IsGap, Shrinks, letters_in, pairs_in, AreFirsts, AreClasses}
 use Rattle.presentations.specs.Numberings.{AreRoots}
 use Rattle.presentations.proofs.BoxLaws.{length-vector}
 use Rattle.presentations.proofs.PlaceLaws.{length-word}
@@ -23,17 +23,6 @@ sum-lowered (x ∷ xs) (suc i) v le =
     omega (
       arith,
       sum-lowered xs i v le,
-      sum_by-cons (λ y. y) x (set xs i v),
-      sum_by-cons (λ y. y) x xs,
-    )
-
-pub sum-less : (xs : List ℕ) (i v : ℕ) → v < get_or xs i 0 → sum (set xs i v) < sum xs
-sum-less [] i v lt = absurd (omega arith)
-sum-less (x ∷ xs) zero v lt = omega (arith, sum_by-cons (λ y. y) v xs, sum_by-cons (λ y. y) x xs)
-sum-less (x ∷ xs) (suc i) v lt =
-    omega (
-      arith,
-      sum-less xs i v lt,
       sum_by-cons (λ y. y) x (set xs i v),
       sum_by-cons (λ y. y) x xs,
     )
@@ -64,32 +53,6 @@ relation axes relations i d box lt =
     relation-related axes (pairs_in axes relations) box.axes_are box.powers _ _ (length-word axes _)
     (length-word axes _)
     (Given _ (pair-of (letters_in axes) relations i d lt))
-
-pub pointed : (axes : List Axis) (relations : List Relation) (parents : List ℕ)
-    (pending : List (ℕ × ℕ)) (at to : ℕ)
-    → IsMerging axes relations parents pending → at < size_of axes → to ≤ at
-    → AreRelated axes relations at to → IsMerging axes relations (set parents at to) pending
-pointed axes relations parents pending at to is lt le r = record {
-  box = is.box;
-  length_is = length-set parents at to ∙ is.length_is;
-  down = λ u h. elim (cases_eq u at) [
-    | inl same ↦
-        let here : get_or (set parents at to) at 0 ≡ to =
-        get_or-set_same parents at to 0 (omega (arith, is.length_is)) in
-        subst (λ w. get_or (set parents at to) w 0 ≤ w) (sym same) (omega (arith, here))
-    | inr other ↦ omega (arith, get_or-set_other parents at u to 0 other, is.down u h)
-  ];
-  related = λ u h. elim (cases_eq u at) [
-    | inl same ↦
-        let here : get_or (set parents at to) at 0 ≡ to =
-        get_or-set_same parents at to 0 (omega (arith, is.length_is)) in
-        subst (λ w. AreRelated axes relations w (get_or (set parents at to) w 0)) (sym same)
-        (subst (λ p. AreRelated axes relations at p) (sym here) r)
-    | inr other ↦ subst (λ p. AreRelated axes relations u p)
-        (sym (get_or-set_other parents at u to 0 other)) (is.related u h)
-  ];
-  waiting = is.waiting;
-}
 
 pub shrinks-trans : (a b c : MergeState) → Shrinks a b → Shrinks b c → Shrinks a c
 shrinks-trans a b c s t =
@@ -197,14 +160,3 @@ fresh-merging axes relations parents pending box len same none = record {
       subst (λ ps. All (λ p. (p.0 < size_of axes) × (p.1 < size_of axes)
       × AreRelated axes relations p.0 p.1) ps) (sym none) (λ k d lt. absurd (omega arith));
 }
-
-pub roots-of : (axes : List Axis) (relations : List Relation) (classes : List ℕ)
-    → AreClasses axes relations classes → AreRoots axes classes
-roots-of axes relations classes are =
-    record {
-      axes_are = are.box.axes_are;
-      small = are.box.small;
-      length_is = are.length_is;
-      down = are.down;
-      firsts = are.firsts;
-    }

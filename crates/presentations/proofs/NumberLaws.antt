@@ -14,10 +14,6 @@ record Grown (old new : List ℕ) : Type 0 where
   longer : length old ≤ length new
   same : (i : ℕ) → i < length old → get_or new i 0 ≡ get_or old i 0
 
-grown-same : (old new : List ℕ) → new ≡ old → Grown old new
-grown-same old new e =
-    record { longer = omega (arith, ap length e); same = λ i lt. ap (λ l. get_or l i 0) e }
-
 grown-push : (old new : List ℕ) (x : ℕ) → new ≡ old ++ x ∷ [] → Grown old new
 grown-push old new x e = record {
   longer = omega (arith, ap length e, length-append old (x ∷ []));
@@ -26,9 +22,6 @@ grown-push old new x e = record {
 
 len-push : (old new : List ℕ) (x : ℕ) → new ≡ old ++ x ∷ [] → length new ≡ length old + 1
 len-push old new x e = ap length e ∙ length-append old (x ∷ [])
-
-row-below : (p n q : ℕ) → p < q * n → 0 < n → p / n < q
-row-below p n q lt some = div_below p n q some lt
 
 pub progress-more : (axes : List Axis)
     (classes firsts keys products firsts2 keys2 products2 : List ℕ) (class p : ℕ)

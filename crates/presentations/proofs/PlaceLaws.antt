@@ -5,7 +5,7 @@ use Rattle.std.proofs.lemmas.List.{length-map}
 use Rattle.presentations.specs.declared.axes.Axis.{Axis}
 use Rattle.presentations.specs.Vectors.{zeros, bump}
 use Rattle.presentations.specs.Words.{vector_on}
-use Rattle.presentations.specs.Boxed.{letters_in}
+use Rattle.presentations.specs.Merging.{letters_in}
 use Rattle.presentations.proofs.VectorLaws.{length-zeros}
 
 -- the entries before i, then k, then zeros

@@ -8,7 +8,7 @@ use Rattle.presentations.specs.Congruences.{Related}
 use Rattle.presentations.specs.Congruences.Related.{Given, Same, Turned, Chained, Beside}
 use Rattle.presentations.specs.Words.{vector_on, pairs_on}
 use Rattle.presentations.specs.Boxes.{place_of, vector_at, next_of}
-use Rattle.presentations.specs.Boxed.{letters_in, pairs_in, AreClasses}
+use Rattle.presentations.specs.Merging.{letters_in, pairs_in, AreClasses}
 use Rattle.presentations.proofs.VectorLaws.{length-plus, plus-bump, plus-zeros, by_letters}
 use Rattle.presentations.proofs.BoxLaws.{place-bump, place-below}
 use Rattle.presentations.proofs.PlaceLaws.{length-word}

@@ -4,7 +4,7 @@ use Rattle.std.specs.Prelude.{slice_index, slice_index_or}
 use Rattle.std.proofs.lemmas.Bool.{cases_lt}
 use Rattle.std.proofs.lemmas.List.{length-append, take_more}
 use Rattle.presentations.specs.declared.axes.Axis.{Axis}
-use Rattle.presentations.specs.Boxed.{letters_in}
+use Rattle.presentations.specs.Merging.{letters_in}
 use Rattle.std.proofs.lemmas.Nat.{mul-add-lt, same_from_place, mod_below}
 use Rattle.std.proofs.Math.Nat.{mul_comm}
 use Rattle.presentations.specs.Numberings.{AreKeys, AreRows, AreRowsUpTo}

@@ -116,11 +116,6 @@ module _ (relations : List Relation) (limit : ℕ) (least : (letter : ℕ) → l
   above n s le b lt = let a = above-up n 26 le (omega arith) (s, b, lt) in
       record { size = a.0; is = a.1; above = a.2 }
 
-  -- no letter is without a power
-  pub no-unbounded : IsUnbounded relations → ⊥
-  no-unbounded u = let p = least u.letter u.within u.stands in
-      u.none (p.0.0, p.0.1, p.1.0.0, p.1.0.1)
-
 pub not-above : (relations : List Relation) (limit s : ℕ)
     → IsBoxSize relations (letters_of relations) s → s ≤ limit → IsAboveLimit relations limit → ⊥
 not-above relations limit s b le a =

@@ -16,7 +16,7 @@ use Rattle.presentations.specs.Vectors.{zeros, bump}
 use Rattle.presentations.specs.Congruences.{Related}
 use Rattle.presentations.specs.Words.{letters_of, pairs_on}
 use Rattle.presentations.specs.Boxes.{place_of, vector_at}
-use Rattle.presentations.specs.Boxed.{letters_in, pairs_in, AreClasses}
+use Rattle.presentations.specs.Merging.{letters_in, pairs_in, AreClasses}
 use Rattle.presentations.specs.Numberings.{IsNumbering, AreRows, HasManyClasses}
 use Rattle.presentations.specs.Tables.{product_at, IsTableOf, IsNumberedByLeastKeys, HasMoreElements}
 use Rattle.presentations.proofs.VectorLaws.{length-zeros, length-bump, plus-zeros, plus-bump, by_letters}

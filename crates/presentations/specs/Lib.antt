@@ -4,7 +4,7 @@ pub mod Congruences
 pub mod Words
 pub mod Powers
 pub mod Boxes
-pub mod Boxed
+pub mod Merging
 pub mod Numberings
 pub mod Tables
 pub mod Text

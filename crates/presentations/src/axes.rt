@@ -1,7 +1,7 @@
 //! The box of exponent vectors: below the power of each letter that comes back to a smaller one.
 ghost use Rattle.std.specs.Prelude.{◌≡◌, ◌+◌, ◌*◌, ◌^◌, ◌<◌, length, All};
 ghost use Rattle.presentations.specs.Boxes.{after, size_of, place_of, next_of, AreAxes};
-ghost use Rattle.presentations.specs.Boxed.{letters_in};
+ghost use Rattle.presentations.specs.Merging.{letters_in};
 ghost use Rattle.presentations.specs.Words.{vector_on};
 
 /// A letter in the box: its power `most` is its power `back`, which is smaller.

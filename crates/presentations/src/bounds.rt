@@ -3,7 +3,7 @@ ghost use Rattle.std.specs.Prelude.{◌≡◌, ◌≢◌, ◌<◌, ◌≤◌, �
 ghost use Rattle.presentations.specs.Words.{occurs, letters_of};
 ghost use Rattle.presentations.specs.Powers.{IsPowerOf, IsPowerRelation, IsLeastPower, IsUnbounded, IsAboveLimit, HasLeastPower, lower_of};
 ghost use Rattle.presentations.specs.Boxes.{size_of};
-ghost use Rattle.presentations.specs.Boxed.{letters_in, IsBox};
+ghost use Rattle.presentations.specs.Merging.{letters_in, IsBox};
 
 use crate::axes::Axis;
 use crate::fault::PresFault;
@@ -109,7 +109,7 @@ pub fn axes_of<A: Allocator>(
     relations: &[Relation],
     limit: u32,
 ) -> Result<(Vec<Axis, A>, usize), PresFault>
-    ensures boxed { IfOk result (λ r. IsBox r.0.items relations.now) }
+    ensures is_box { IfOk result (λ r. IsBox r.0.items relations.now) }
     ensures size { IfOk result (λ r. (r.1 ≡ size_of r.0.items) × (r.1 ≤ limit)) }
     ensures count { IfOk result (λ r. length r.0.items ≤ 26) }
     ensures letters { IfOk result (λ r. letters_in r.0.items ≡ letters_of relations.now) }

@@ -2,7 +2,7 @@
 //! relations.
 ghost use Rattle.std.specs.Prelude.{◌≡◌, ◌≢◌, ◌<◌, ◌^◌, ℕ, IfOk, IfSome, IfNone, OnErr, Err, length, slice_index, sum};
 ghost use Rattle.presentations.specs.Boxes.{size_of};
-ghost use Rattle.presentations.specs.Boxed.{AreRelated, IsBox, IsGap, Shrinks, AreFirsts, RelationsHold, StepsHold, StepsHoldAt, AreClosed, AreClasses};
+ghost use Rattle.presentations.specs.Merging.{AreRelated, IsBox, IsGap, Shrinks, AreFirsts, RelationsHold, StepsHold, StepsHoldAt, AreClosed, AreClasses};
 ghost use Rattle.presentations.specs.Numberings.{AreRoots};
 
 use crate::axes::Axis;
@@ -81,7 +81,7 @@ fn join_beside<A: Allocator>(
     for i in 0..merging.letters() {
         let x = merging.next(i, u);
         let y = merging.next(i, v);
-        merging.boxed();
+        merging.is_box();
         join(merging, x, y)?;
     }
     Ok(())
@@ -107,7 +107,7 @@ fn flatten<A: Allocator>(merging: &mut Merging<'_, A>)
     ensures firsts { AreFirsts merging.old.axes merging.new.parents }
 {
     for i in 0..merging.size() {
-        merging.boxed();
+        merging.is_box();
         let parent = merging.parent(i);
         let above = merging.parent(parent);
         merging.point(i, above);
@@ -169,7 +169,7 @@ fn gap_at<A: Allocator>(merging: &Merging<'_, A>, at: usize) -> Option<(usize, u
         (λ p. IsGap merging.now.axes merging.now.relations merging.now.parents p.0 p.1) }
     ensures none { IfNone result (StepsHoldAt merging.now.axes merging.now.parents at) }
 {
-    merging.boxed();
+    merging.is_box();
     let first = merging.parent(at);
     for i in 0..merging.letters() {
         let u = merging.next(i, at);
@@ -237,7 +237,7 @@ pub fn classes_of<A: Allocator + Copy>(
     relations: &[Relation],
     size: usize,
 ) -> Result<Vec<u32, A>, PresFault>
-    requires boxed { IsBox axes.now relations.now }
+    requires is_box { IsBox axes.now relations.now }
     requires size { size ≡ size_of axes.now }
     ensures classes { IfOk result (λ v. AreClasses axes.now relations.now v.items) }
     ensures roots { IfOk result (λ v. AreRoots axes.now v.items) }

@@ -4,7 +4,7 @@ ghost use Rattle.presentations.specs.declared.axes.Axis.{Axis};
 ghost use Rattle.presentations.specs.declared.read.Relation.{Relation};
 ghost use Rattle.presentations.specs.Congruences.{IsCongruence, Related};
 ghost use Rattle.presentations.specs.Boxes.{place_of};
-ghost use Rattle.presentations.specs.Boxed.{pairs_in, AreClasses};
+ghost use Rattle.presentations.specs.Merging.{pairs_in, AreClasses};
 ghost use Rattle.presentations.specs.Numberings.{IsNumbering, AreRows};
 ghost use Rattle.monoid_table.specs.Grids.{IsTable};
 

@@ -4,7 +4,7 @@ ghost use Rattle.std.specs.Prelude.{◌≡◌, ◌<◌, ◌≤◌, ◌∷◌, �
 ghost use Rattle.presentations.specs.declared.read.Relation.{Relation};
 ghost use Rattle.presentations.specs.Boxes.{size_of, next_of, place_of};
 ghost use Rattle.presentations.specs.Words.{vector_on};
-ghost use Rattle.presentations.specs.Boxed.{AreRelated, IsBox, IsMerging, IsPointed, letters_in};
+ghost use Rattle.presentations.specs.Merging.{AreRelated, IsBox, IsMerging, IsPointed, letters_in};
 
 use crate::axes::{Axis, next, place};
 use crate::fault::PresFault;
@@ -22,7 +22,7 @@ pub struct Merging<'a, A: Allocator> {
 }
 
 impl<'a, A: Allocator> Model for Merging<'a, A> {
-    ghost use Rattle.presentations.specs.Boxed.{MergeState, IsMerging};
+    ghost use Rattle.presentations.specs.Merging.{MergeState, IsMerging};
 
     ghost Value = { MergeState };
 
@@ -162,8 +162,8 @@ impl<'a, A: Allocator> Merging<'a, A> {
     }
 
     /// The axes are a box's, and the pointers lead to related vectors that don't come after.
-    pub fn boxed(&self)
-        ensures boxed { IsBox self.now.axes self.now.relations }
+    pub fn is_box(&self)
+        ensures is_box { IsBox self.now.axes self.now.relations }
         ensures merging { IsMerging self.now.axes self.now.relations self.now.parents
             self.now.pending }
     {

@@ -1,16 +1,35 @@
 //! Command lines, what they ask for and what is told of them.
+use allocation::Memory;
 use command_line::{Quantity, UsageFault, VERSION, plan};
 use requests::{CatalogueTask, Plan};
-use std::alloc::{AllocError, Global};
+use std::alloc::Global;
 use std::test::Fail;
 
-/// The words between the bars, behind the program's name.
-fn words_of<'a>(alloc: Global, line: &'a str) -> Result<Vec<&'a str>, AllocError> {
-    let mut words = vec![in alloc; "misere"]?;
+/// Adds the words between the bars.
+fn put_words<'a>(words: &mut Vec<&'a str>, line: &'a str) -> Result<(), Memory> {
     for word in line.split('|') {
         words.push(word)?;
     }
+    Ok(())
+}
+
+/// The words between the bars, behind the program's name.
+fn words_of<'a>(alloc: Global, line: &'a str) -> Result<Vec<&'a str>, Memory> {
+    let mut words = vec![in alloc; "misere"]?;
+    put_words(&mut words, line)?;
     Ok(words)
+}
+
+/// Whether a command line asks for this.
+fn asks_for(alloc: Global, line: &str, want: Plan<'_>) -> Result<bool, Memory> {
+    let words = words_of(alloc, line)?;
+    Ok(plan(alloc, words.as_slice()).ok() == Some(want))
+}
+
+/// Why a command line asks for nothing.
+fn fault_of(alloc: Global, line: &str) -> Result<Option<UsageFault>, Memory> {
+    let words = words_of(alloc, line)?;
+    Ok(plan(alloc, words.as_slice()).err())
 }
 
 #[test]
@@ -39,11 +58,7 @@ fn plans_of_checks_and_prints(rt: HostRuntime) -> Result<(), Fail> {
         ),
     ];
     for (line, want) in rows {
-        let words = words_of(rt.alloc(), line)?;
-        assert!(rt;
-            plan(rt.alloc(), words.as_slice()).ok() == Some(want),
-            "of {line}"
-        );
+        assert!(rt; asks_for(rt.alloc(), line, want)?, "of {line}");
     }
     Ok(())
 }
@@ -61,7 +76,6 @@ fn plans_of_searches(rt: HostRuntime) -> Result<(), Fail> {
         ("solve|0.3|--order|256|--heaps|9", (100000, 64, 9, 256)),
     ];
     for (line, (limit, rounds, heaps, order)) in rows {
-        let words = words_of(rt.alloc(), line)?;
         let want = Plan::Solve {
             code: "0.3",
             limit,
@@ -69,10 +83,7 @@ fn plans_of_searches(rt: HostRuntime) -> Result<(), Fail> {
             heaps,
             order,
         };
-        assert!(rt;
-            plan(rt.alloc(), words.as_slice()).ok() == Some(want),
-            "of {line}"
-        );
+        assert!(rt; asks_for(rt.alloc(), line, want)?, "of {line}");
     }
     Ok(())
 }
@@ -95,17 +106,21 @@ fn plans_of_catalogues(rt: HostRuntime) -> Result<(), Fail> {
         ("catalogue|x.json|--salvage", CatalogueTask::Salvage),
     ];
     for (line, task) in rows {
-        let words = words_of(rt.alloc(), line)?;
         let want = Plan::Catalogue {
             file: "x.json",
             task,
         };
-        assert!(rt;
-            plan(rt.alloc(), words.as_slice()).ok() == Some(want),
-            "of {line}"
-        );
+        assert!(rt; asks_for(rt.alloc(), line, want)?, "of {line}");
     }
     Ok(())
+}
+
+/// The quantity whose number a command line has wrong.
+fn wrong_number_of(alloc: Global, line: &str) -> Result<Option<Quantity>, Memory> {
+    match &fault_of(alloc, line)? {
+        Some(UsageFault::Number(quantity)) => Ok(Some(*quantity)),
+        _ => Ok(None),
+    }
 }
 
 #[test]
@@ -127,13 +142,17 @@ fn tells_wrong_numbers_apart(rt: HostRuntime) -> Result<(), Fail> {
         ("solve|0.3|--order|257", Quantity::Order),
     ];
     for (line, wrong) in rows {
-        let words = words_of(rt.alloc(), line)?;
-        match plan(rt.alloc(), words.as_slice()) {
-            Err(UsageFault::Number(quantity)) => assert!(rt; quantity == wrong, "of {line}"),
-            _ => assert!(rt; false, "of {line}"),
-        }
+        assert!(rt;
+            wrong_number_of(rt.alloc(), line)? == Some(wrong),
+            "of {line}"
+        );
     }
     Ok(())
+}
+
+/// Whether a command line has options that exclude each other.
+fn is_exclusive(alloc: Global, line: &str) -> Result<bool, Memory> {
+    Ok(matches!(&fault_of(alloc, line)?, Some(UsageFault::Exclusive)))
 }
 
 #[test]
@@ -146,11 +165,27 @@ fn tells_options_that_exclude_each_other(rt: HostRuntime) -> Result<(), Fail> {
         "catalogue|x.json|--salvage|--add|a.mqc",
         "catalogue|x.json|--salvage|--get|0.3",
     ] {
-        let words = words_of(rt.alloc(), line)?;
-        let planned = plan(rt.alloc(), words.as_slice());
-        assert!(rt; matches!(planned, Err(UsageFault::Exclusive)), "of {line}");
+        assert!(rt; is_exclusive(rt.alloc(), line)?, "of {line}");
     }
     Ok(())
+}
+
+/// Whether a fault is that the words are refused, with some text.
+fn is_of_words(fault: &UsageFault) -> bool {
+    matches!(fault, UsageFault::Words(_)) && fault.status() == 2 && fault.text().len() > 0
+}
+
+/// Whether the words of a command line are refused.
+fn are_refused(alloc: Global, line: &str) -> Result<bool, Memory> {
+    match &fault_of(alloc, line)? {
+        Some(fault) => Ok(is_of_words(fault)),
+        None => Ok(false),
+    }
+}
+
+/// Whether the program's name alone lacks a command.
+fn is_incomplete(alloc: Global) -> bool {
+    matches!(&plan(alloc, &["misere"]), Err(UsageFault::Incomplete))
 }
 
 #[test]
@@ -175,18 +210,23 @@ fn refuses_other_words(rt: HostRuntime) -> Result<(), Fail> {
         "check|--version",
         "help|bogus",
     ] {
-        let words = words_of(rt.alloc(), line)?;
-        match plan(rt.alloc(), words.as_slice()) {
-            Err(fault) => {
-                assert!(rt; matches!(fault, UsageFault::Words(_)), "of {line}");
-                assert!(rt; fault.status() == 2 && fault.text().len() > 0, "of {line}");
-            }
-            Ok(_) => assert!(rt; false, "of {line}"),
-        }
+        assert!(rt; are_refused(rt.alloc(), line)?, "of {line}");
     }
-    let planned = plan(rt.alloc(), &["misere"]);
-    assert!(rt; matches!(planned, Err(UsageFault::Incomplete)));
+    assert!(rt; is_incomplete(rt.alloc()));
     Ok(())
+}
+
+/// Whether a fault is a help with this part.
+fn has_part(fault: &UsageFault, part: &str) -> bool {
+    matches!(fault, UsageFault::Help(_)) && fault.status() == 0 && fault.text().contains(part)
+}
+
+/// Whether a command line is answered by a help with this part.
+fn is_helped(alloc: Global, line: &str, part: &str) -> Result<bool, Memory> {
+    match &fault_of(alloc, line)? {
+        Some(fault) => Ok(has_part(fault, part)),
+        None => Ok(false),
+    }
 }
 
 #[test]
@@ -225,36 +265,50 @@ fn helps(rt: HostRuntime) -> Result<(), Fail> {
         ("-V", VERSION),
     ];
     for (line, part) in rows {
-        let words = words_of(rt.alloc(), line)?;
-        match plan(rt.alloc(), words.as_slice()) {
-            Err(fault) => {
-                assert!(rt; matches!(fault, UsageFault::Help(_)), "of {line}");
-                assert!(rt; fault.text().contains(part), "of {line}: {part}");
-                assert_eq!(rt; fault.status(), 0, "of {line}");
-            }
-            Ok(_) => assert!(rt; false, "of {line}"),
-        }
+        assert!(rt; is_helped(rt.alloc(), line, part)?, "of {line}: {part}");
     }
     Ok(())
+}
+
+/// A word of so many times ten bytes.
+fn long_word(alloc: Global, tens: u32) -> Result<String, Memory> {
+    let mut word = String::new(alloc);
+    put_tens(&mut word, tens)?;
+    Ok(word)
+}
+
+fn put_tens(word: &mut String, tens: u32) -> Result<(), Memory> {
+    for _ in 0..tens {
+        word.push_str("1000000000")?;
+    }
+    Ok(())
+}
+
+/// Whether a file and a position of one long word are asked for.
+fn takes_long_words(alloc: Global) -> Result<bool, Memory> {
+    let word = long_word(alloc, 7000)?;
+    Ok(is_played(alloc, word.as_str()))
+}
+
+fn is_played(alloc: Global, word: &str) -> bool {
+    let words = ["misere", "play", word, word];
+    let want = Plan::Play {
+        file: word,
+        position: word,
+    };
+    plan(alloc, &words).ok() == Some(want)
+}
+
+/// Whether so many words are refused.
+fn refuses_many(alloc: Global, count: usize) -> Result<bool, Memory> {
+    let words = vec![in alloc; "misere"; count]?;
+    Ok(matches!(&plan(alloc, words.as_slice()), Err(UsageFault::Words(_))))
 }
 
 /// A word of more than 2^16 bytes, twice, and more words than any command takes.
 #[test]
 fn memory_suffices_for_long_words(rt: HostRuntime) -> Result<(), Fail> {
-    let mut long = String::new(rt.alloc());
-    for _ in 0..7000 {
-        long.push_str("1000000000")?;
-    }
-    let word = long.as_str();
-    let play = ["misere", "play", word, word];
-    let planned = plan(rt.alloc(), &play);
-    let want = Plan::Play {
-        file: word,
-        position: word,
-    };
-    assert!(rt; planned.ok() == Some(want));
-    let words = vec![in rt.alloc(); "misere"; 300]?;
-    let planned = plan(rt.alloc(), words.as_slice());
-    assert!(rt; matches!(planned, Err(UsageFault::Words(_))));
+    assert!(rt; takes_long_words(rt.alloc())?);
+    assert!(rt; refuses_many(rt.alloc(), 300)?);
     Ok(())
 }

@@ -4,9 +4,15 @@
 #[cfg(test)]
 mod catalogue_tests;
 #[cfg(test)]
+mod certificates;
+#[cfg(test)]
 mod checker_tests;
 #[cfg(test)]
 mod command_line_tests;
+#[cfg(test)]
+mod cyclic;
+#[cfg(test)]
+mod jobs;
 #[cfg(test)]
 mod player_tests;
 #[cfg(test)]

@@ -1,15 +1,10 @@
 //! What the quotient of 0.75 says of positions, also of those with heaps of any size.
+use crate::certificates::OF_0_75;
 use checker::{Certified, check};
-use player::{Answer, Looks, Outcome, answer, looks, outcome, value};
+use player::{Answer, Outcome, answer, looks, outcome, value};
 use positions::{Left, Move, Position};
 use std::alloc::Global;
 use std::test::Fail;
-
-const OF_0_75: &[u8] =
-    b"mqc 1\ncode 0.75\norder 8\nstart 8\nperiod 2\nphi 1 2 1 2 3 2 3 2 4\nportion 1 7\n\
-words 0:1 0:2 0:5 0:9 1:2 1:5 1:9\nrow 0 1 2 3 4 5 6 7\nrow 1 0 5 6 7 2 3 4\nrow 2 5 7 5 5 4 2 2\n\
-row 3 6 5 7 7 2 4 4\nrow 4 7 5 7 7 2 4 4\nrow 5 2 4 2 2 7 5 5\nrow 6 3 2 4 4 5 7 7\n\
-row 7 4 2 4 4 5 7 7\napart 0 1 1 3 1 1 0 0 0 0 0 0 4 2 1 2 2 0 1 3 3 0 1 1 0 5 0 0\nend\n";
 
 const LARGE: u64 = 1_000_000_000_000_000_000;
 
@@ -20,10 +15,19 @@ fn quotient(alloc: Global) -> Result<Certified, Fail> {
     }
 }
 
+fn answer_of(certified: &Certified, alloc: Global, text: &[u8]) -> Result<Answer, Fail> {
+    let position = Position::read(alloc, text)?;
+    Ok(answer(certified, &position))
+}
+
+fn answered(alloc: Global, text: &[u8]) -> Result<Answer, Fail> {
+    let certified = quotient(alloc)?;
+    answer_of(&certified, alloc, text)
+}
+
 /// A heap of any size is answered at once: only its looks are tried.
 #[test]
 fn answers(rt: HostRuntime) -> Result<(), Fail> {
-    let certified = quotient(rt.alloc())?;
     let wins = |heap, left| Answer::Wins(Move { heap, left });
     let rows: [(&[u8], Answer); 6] = [
         (b"0", Answer::Ended),
@@ -34,15 +38,23 @@ fn answers(rt: HostRuntime) -> Result<(), Fail> {
         (b"1 1000000000000000000", wins(LARGE, Left::One(LARGE - 1))),
     ];
     for (text, wanted) in rows {
-        let position = Position::read(rt.alloc(), text)?;
-        assert_eq!(rt; answer(&certified, &position), wanted);
+        assert_eq!(rt; answered(rt.alloc(), text)?, wanted);
     }
     Ok(())
 }
 
+fn standing_of(certified: &Certified, alloc: Global, text: &[u8]) -> Result<(u8, Outcome), Fail> {
+    let position = Position::read(alloc, text)?;
+    Ok((value(certified, &position), outcome(certified, &position)))
+}
+
+fn standing(alloc: Global, text: &[u8]) -> Result<(u8, Outcome), Fail> {
+    let certified = quotient(alloc)?;
+    standing_of(&certified, alloc, text)
+}
+
 #[test]
 fn has_values_and_outcomes(rt: HostRuntime) -> Result<(), Fail> {
-    let certified = quotient(rt.alloc())?;
     let rows: [(&[u8], u8, Outcome); 4] = [
         (b"0", 0, Outcome::N),
         (b"1", 1, Outcome::P),
@@ -50,22 +62,35 @@ fn has_values_and_outcomes(rt: HostRuntime) -> Result<(), Fail> {
         (b"1000000000000000000", 2, Outcome::N),
     ];
     for (text, element, wanted) in rows {
-        let position = Position::read(rt.alloc(), text)?;
-        assert_eq!(rt; value(&certified, &position), element);
-        assert_eq!(rt; outcome(&certified, &position), wanted);
+        let (of, outcome) = standing(rt.alloc(), text)?;
+        assert_eq!(rt; of, element);
+        assert_eq!(rt; outcome, wanted);
     }
     Ok(())
+}
+
+/// How many options are looked at of a heap, and the first and the last of them.
+fn looks_at(
+    certified: &Certified,
+    alloc: Global,
+    heap: u64,
+) -> Result<(usize, Option<Left>, Option<Left>), Fail> {
+    let all: Vec<Left> = looks(certified, heap).collect(alloc)?;
+    Ok((all.len(), all.first().copied(), all.last().copied()))
+}
+
+fn looked_at(alloc: Global) -> Result<(usize, Option<Left>, Option<Left>), Fail> {
+    let certified = quotient(alloc)?;
+    looks_at(&certified, alloc, LARGE)
 }
 
 /// With 1 taken away one heap or two may stay, with 2 two: of the splits those with a smaller part
 /// up to 9.
 #[test]
 fn looks_at_few_options(rt: HostRuntime) -> Result<(), Fail> {
-    let certified = quotient(rt.alloc())?;
-    let listed: Looks = looks(&certified, LARGE);
-    let all: Vec<Left> = listed.collect(rt.alloc())?;
-    assert_eq!(rt; all.len(), 19);
-    assert_eq!(rt; all.first(), Some(&Left::One(LARGE - 1)));
-    assert_eq!(rt; all.last(), Some(&Left::Two(9, LARGE - 11)));
+    let (count, first, last) = looked_at(rt.alloc())?;
+    assert_eq!(rt; count, 19);
+    assert_eq!(rt; first, Some(Left::One(LARGE - 1)));
+    assert_eq!(rt; last, Some(Left::Two(9, LARGE - 11)));
     Ok(())
 }

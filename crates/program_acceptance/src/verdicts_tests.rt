@@ -1,136 +1,215 @@
 //! Checks from stream to stream: byte by byte, with devices that fail at one call, with memory
 //! refused, and of damaged texts.
+use crate::certificates::{OF_0_3, OF_0_33, OF_0_75};
+use allocation::{Memory, Room};
 use devices::{FailingSink, FailingSource, SlowSink, SlowSource};
 use ration::Ration;
 use std::alloc::Global;
 use std::test::Fail;
-use streams::{MemorySink, MemorySource, Source, StreamFault};
+use streams::{DeviceFault, MemorySink, MemorySource, Source, StreamFault};
 use verdicts::{MOST_BYTES, check_stream};
 
-/// The certificates of the games 0.3, 0.33 and 0.75.
-static SMALLEST: &[u8] =
-    b"mqc 1\ncode 0.3\norder 2\nstart 1\nperiod 2\nphi 1 0\nportion 1\nwords 0:1\nrow 0 1\n\
-row 1 0\napart 0\nend\n";
-
-static SAMPLE: &[u8] = b"mqc 1\ncode 0.33\norder 6\nstart 1\nperiod 3\nphi 1 2 0\nportion 1 4\n\
-words 0:1 0:2 1:2 2:2 3:2\nrow 0 1 2 3 4 5\nrow 1 0 3 2 5 4\nrow 2 3 4 5 2 3\nrow 3 2 5 4 3 2\n\
-row 4 5 2 3 4 5\nrow 5 4 3 2 5 4\napart 0 1 1 0 4 0 0 4 0 2 0 1 0 1 0\nend\n";
-
-static LARGER: &[u8] =
-    b"mqc 1\ncode 0.75\norder 8\nstart 8\nperiod 2\nphi 1 2 1 2 3 2 3 2 4\nportion 1 7\n\
-words 0:1 0:2 0:5 0:9 1:2 1:5 1:9\nrow 0 1 2 3 4 5 6 7\nrow 1 0 5 6 7 2 3 4\nrow 2 5 7 5 5 4 2 2\n\
-row 3 6 5 7 7 2 4 4\nrow 4 7 5 7 7 2 4 4\nrow 5 2 4 2 2 7 5 5\nrow 6 3 2 4 4 5 7 7\n\
-row 7 4 2 4 4 5 7 7\napart 0 1 1 3 1 1 0 0 0 0 0 0 4 2 1 2 2 0 1 3 3 0 1 1 0 5 0 0\nend\n";
-
 static VERDICT: &[u8] = b"yes 0.33 order 6 start 1 period 3\n";
+
+static NO_TEXT: &[u8] = b"no 1 Text\n";
+
+/// What a check answers, and how many bytes of `VERDICT` were written, if nothing else was.
+type End = (Result<bool, StreamFault>, Option<usize>);
+
+/// The end of a check that says yes.
+const WHOLE: End = (Ok(true), Some(34));
+
+/// How many bytes these are of `VERDICT`, if they are a beginning.
+fn written(bytes: &[u8]) -> Option<usize> {
+    if VERDICT.starts_with(bytes) {
+        Some(bytes.len())
+    } else {
+        None
+    }
+}
+
+/// Checks what a source gives, with an allocator that the sink doesn't share.
+fn end_of<A: Room + Copy, S: Source>(alloc: A, of_sink: Global, source: &mut S) -> End {
+    let mut sink = MemorySink::new(of_sink);
+    let checked = check_stream(alloc, source, &mut sink, 1000);
+    (checked, written(sink.bytes()))
+}
 
 /// Each of the 225 bytes takes a read, and the end one more.
 #[test]
 fn fails_where_the_source_does(rt: HostRuntime) -> Result<(), Fail> {
-    let alloc = rt.alloc();
     for n in 0..240u64 {
-        let mut source = FailingSource::new(SlowSource::new(SAMPLE), n);
-        let mut sink = MemorySink::new(alloc);
-        let checked = check_stream(alloc, &mut source, &mut sink, 1000);
-        if n >= 1 && n <= 226 {
-            assert_eq!(rt; checked, Err(StreamFault::Read), "at {n}");
-            assert!(rt; sink.bytes().is_empty(), "at {n}");
+        let mut source = FailingSource::new(SlowSource::new(OF_0_33), n);
+        let end = end_of(rt.alloc(), rt.alloc(), &mut source);
+        let fails = n >= 1 && n <= 226;
+        let wanted = if fails {
+            (Err(StreamFault::Read), Some(0))
         } else {
-            assert_eq!(rt; checked, Ok(true), "at {n}");
-            assert_eq!(rt; sink.bytes(), VERDICT, "at {n}");
-        }
+            WHOLE
+        };
+        assert!(rt; end == wanted, "at {n}");
     }
     Ok(())
+}
+
+/// The end where the sink takes a byte at a time and fails at one of them.
+fn end_at_a_byte(alloc: Global, n: u64) -> End {
+    let mut sink = FailingSink::new(SlowSink::new(alloc), n);
+    let checked = check_stream(alloc, &mut MemorySource::new(OF_0_33), &mut sink, 1000);
+    (checked, written(sink.within().bytes()))
 }
 
 /// Each of the 34 bytes takes a write.
 #[test]
 fn fails_where_the_sink_does(rt: HostRuntime) -> Result<(), Fail> {
-    let alloc = rt.alloc();
-    for n in 0..40u64 {
-        let mut sink = FailingSink::new(SlowSink::new(alloc), n);
-        let checked = check_stream(alloc, &mut MemorySource::new(SAMPLE), &mut sink, 1000);
-        let written = sink.within().bytes();
-        if n >= 1 && n <= 34 {
-            assert_eq!(rt; checked, Err(StreamFault::Write), "at {n}");
-            assert!(rt; VERDICT.starts_with(written), "at {n}");
-            assert_eq!(rt; written.len() as u64, n - 1);
+    assert!(rt; end_at_a_byte(rt.alloc(), 0) == WHOLE);
+    for before in 0..39usize {
+        let fails = before < 34;
+        let wanted = if fails {
+            (Err(StreamFault::Write), Some(before))
         } else {
-            assert_eq!(rt; checked, Ok(true), "at {n}");
-            assert_eq!(rt; written, VERDICT, "at {n}");
-        }
+            WHOLE
+        };
+        assert!(rt;
+            end_at_a_byte(rt.alloc(), before as u64 + 1) == wanted,
+            "behind {before}"
+        );
     }
     Ok(())
+}
+
+/// The end with one growth refused, and whether that growth came.
+fn rationed(alloc: Global, n: u64) -> (End, bool) {
+    let ration = Ration::new(alloc, n);
+    let end = end_of(&ration, alloc, &mut MemorySource::new(OF_0_33));
+    (end, ration.has_refused())
 }
 
 #[test]
 fn answers_want_of_memory(rt: HostRuntime) -> Result<(), Fail> {
     let mut is_whole = false;
-    for refused in 1..2000u64 {
-        let ration = Ration::new(rt.alloc(), refused);
-        let mut sink = MemorySink::new(rt.alloc());
-        let checked = check_stream(&ration, &mut MemorySource::new(SAMPLE), &mut sink, 1000);
-        is_whole = !ration.has_refused();
+    for n in 1..2000u64 {
+        let (end, has_refused) = rationed(rt.alloc(), n);
+        is_whole = !has_refused;
+        let wanted = if is_whole {
+            WHOLE
+        } else {
+            (Err(StreamFault::Memory), Some(0))
+        };
+        assert!(rt; end == wanted, "at {n}");
         if is_whole {
-            assert_eq!(rt; checked, Ok(true), "at {refused}");
-            assert_eq!(rt; sink.bytes(), VERDICT, "at {refused}");
             break;
         }
-        assert_eq!(rt; checked, Err(StreamFault::Memory), "at {refused}");
-        assert!(rt; sink.bytes().is_empty(), "at {refused}");
     }
     assert!(rt; is_whole);
     Ok(())
 }
 
-/// The verdict's text on the bytes.
-fn verdict(alloc: Global, bytes: &[u8]) -> Result<MemorySink, Fail> {
+/// Whether the text of the verdict begins so.
+fn begins_so(alloc: Global, bytes: &[u8], beginning: &[u8]) -> Result<bool, StreamFault> {
     let mut sink = MemorySink::new(alloc);
     check_stream(alloc, &mut MemorySource::new(bytes), &mut sink, 1000)?;
-    Ok(sink)
+    Ok(sink.bytes().starts_with(beginning))
+}
+
+/// Whether bytes are refused as no text, and nothing more is said.
+fn is_no_text(alloc: Global, bytes: &[u8]) -> Result<bool, StreamFault> {
+    let mut sink = MemorySink::new(alloc);
+    check_stream(alloc, &mut MemorySource::new(bytes), &mut sink, 1000)?;
+    Ok(sink.bytes() == NO_TEXT)
+}
+
+/// How long the first beginning of a text is that is not refused as no text.
+fn first_read(alloc: Global, text: &[u8]) -> Result<usize, StreamFault> {
+    for n in 0..text.len() {
+        if !is_no_text(alloc, &text[..n])? {
+            return Ok(n);
+        }
+    }
+    Ok(text.len())
 }
 
 /// Each proper beginning of a certificate is no certificate.
 #[test]
 fn refuses_each_beginning(rt: HostRuntime) -> Result<(), Fail> {
-    for text in [SAMPLE, LARGER] {
-        for n in 0..text.len() {
-            let sink = verdict(rt.alloc(), &text[..n])?;
-            assert_eq!(rt; sink.bytes(), b"no 1 Text\n".as_slice(), "{n} bytes");
-        }
-        assert!(rt; verdict(rt.alloc(), text)?.bytes().starts_with(b"yes 0."));
+    for text in [OF_0_33, OF_0_75] {
+        assert_eq!(rt; first_read(rt.alloc(), text)?, text.len());
+        assert!(rt; begins_so(rt.alloc(), text, b"yes 0.")?);
     }
     Ok(())
+}
+
+/// Whether a text is refused that differs from this one in the given bits of one byte.
+fn is_refused(alloc: Global, text: &[u8], at: usize, bits: u8) -> Result<bool, Memory> {
+    let mut changed = text.to_vec(alloc)?;
+    if let Some(byte) = changed.get_mut(at) {
+        *byte ^= bits;
+    }
+    Ok(begins_so(alloc, &changed, b"no ") == Ok(true))
+}
+
+/// Whether a text is refused with each change of one byte.
+fn is_refused_at(alloc: Global, text: &[u8], at: usize) -> Result<bool, Memory> {
+    for bits in 1..=255u8 {
+        if !is_refused(alloc, text, at, bits)? {
+            return Ok(false);
+        }
+    }
+    Ok(true)
+}
+
+/// The first bytes of a text from `from` to before `until` at which a change is not refused.
+fn first_accepted(
+    alloc: Global,
+    text: &[u8],
+    from: usize,
+    until: usize,
+) -> Result<Option<usize>, Memory> {
+    for at in from..until {
+        if !is_refused_at(alloc, text, at)? {
+            return Ok(Some(at));
+        }
+    }
+    Ok(None)
 }
 
 /// The second line, from byte 6 on, has the code: only such a change could make the certificate of
 /// another game.
 #[test]
 fn refuses_each_change_of_a_byte(rt: HostRuntime) -> Result<(), Fail> {
-    let alloc = rt.alloc();
-    for text in [SMALLEST, SAMPLE] {
-        let behind = text.iter().skip(6).take_while(|b| **b != b'\n').count() + 6;
-        let mut changed = text.to_vec(alloc)?;
-        for at in 0..text.len() {
-            if at >= 6 && at <= behind {
-                continue;
-            }
-            for byte in 0..255u8 {
-                changed[at] = text[at] ^ (byte + 1);
-                let sink = verdict(alloc, &changed)?;
-                assert!(rt; sink.bytes().starts_with(b"no "), "byte {at}");
-            }
-            changed[at] = text[at];
-        }
+    for text in [OF_0_3, OF_0_33] {
+        let behind = text.iter().skip(6).take_while(|b| **b != b'\n').count() + 7;
+        assert_eq!(rt; first_accepted(rt.alloc(), text, 0, 6)?, None);
+        assert_eq!(rt; first_accepted(rt.alloc(), text, behind, text.len())?, None);
     }
     Ok(())
+}
+
+/// How many of the bytes are left once a check has answered, if it refuses them as no text.
+fn left_of(alloc: Global, bytes: &[u8]) -> Result<Option<usize>, DeviceFault> {
+    let mut source = MemorySource::new(bytes);
+    let is_refused = refuses_as_no_text(alloc, &mut source);
+    let left = source.read(&mut [0u8; 8])?;
+    Ok(if is_refused { Some(left) } else { None })
+}
+
+/// Whether what a source gives is refused as no text, and nothing more is said.
+fn refuses_as_no_text(alloc: Global, source: &mut MemorySource<'_>) -> bool {
+    let mut sink = MemorySink::new(alloc);
+    let checked = check_stream(alloc, source, &mut sink, 1000);
+    checked == Ok(false) && sink.bytes() == NO_TEXT
+}
+
+/// How many are left of so many bytes.
+fn left_of_long(alloc: Global, count: usize) -> Result<Option<usize>, Memory> {
+    let bytes = vec![in alloc; b'x'; count]?;
+    Ok(left_of(alloc, &bytes).ok().flatten())
 }
 
 /// More than 2^16 bytes; as many as are read, with none left then; and more, of which one more is
 /// read.
 #[test]
 fn long_streams_are_no_text(rt: HostRuntime) -> Result<(), Fail> {
-    let alloc = rt.alloc();
     assert_eq!(rt; MOST_BYTES, 4_194_304);
     for (count, left) in [
         (70000usize, 0usize),
@@ -138,13 +217,7 @@ fn long_streams_are_no_text(rt: HostRuntime) -> Result<(), Fail> {
         (4_194_305, 0),
         (4_194_307, 2),
     ] {
-        let bytes = vec![in alloc; b'x'; count]?;
-        let mut source = MemorySource::new(&bytes);
-        let mut sink = MemorySink::new(alloc);
-        let checked = check_stream(alloc, &mut source, &mut sink, 1000);
-        assert_eq!(rt; checked, Ok(false), "{count}");
-        assert_eq!(rt; sink.bytes(), b"no 1 Text\n".as_slice(), "{count}");
-        assert_eq!(rt; source.read(&mut [0u8; 8])?, left, "{count}");
+        assert_eq!(rt; left_of_long(rt.alloc(), count)?, Some(left), "{count}");
     }
     Ok(())
 }

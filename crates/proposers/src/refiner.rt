@@ -85,7 +85,7 @@ impl Proposer for Refiner {
     }
 
     fn learn(&mut self, refusal: &Refusal) -> Result<(), Memory> {
-        if let Some((_, position)) = refusal.failed() {
+        if let Some((_, position)) = refusal.counterexample() {
             self.solver.learn(position)?;
             self.is_stale = true;
         }

@@ -1,8 +1,8 @@
 -- What is found. This project's own.
 use Rattle.std.specs.Prelude.{◌≡◌, ℕ, List}
 use Rattle.misere_theory.specs.Certificates.{Certificate, Accepted}
-use Rattle.quotient_finder.specs.declared.asked.Asked.{Asked}
-use Rattle.quotient_finder.specs.declared.asked.Asked.TheVariants.{Found, Drafted, Nothing}
+use Rattle.quotient_finder.specs.declared.reply.Reply.{Reply}
+use Rattle.quotient_finder.specs.declared.reply.Reply.TheVariants.{Found, Drafted, Nothing}
 
 -- The certificate is accepted, and is one of this code.
 pub record IsFound (code : List ℕ) (c : Certificate) : Type 0 where
@@ -10,7 +10,7 @@ pub record IsFound (code : List ℕ) (c : Certificate) : Type 0 where
   pub accepted : Accepted c
 
 -- Where a certificate was found, it is one of this code.
-abbrev pub FindsOnly : List ℕ → Asked → Type 0
+abbrev pub FindsOnly : List ℕ → Reply → Type 0
 FindsOnly code (Found c) = IsFound code c
 FindsOnly code Drafted = Unit {0}
 FindsOnly code Nothing = Unit {0}

@@ -4,10 +4,10 @@
 //! asked, whatever the proposers do.
 #![tactic(auto)]
 
-mod asked;
 mod gave_up;
 mod limits;
 mod proposer;
+mod reply;
 mod rounds;
 mod same;
 

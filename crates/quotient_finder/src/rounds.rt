@@ -2,10 +2,10 @@
 ghost use Rattle.std.specs.Prelude.{◌≡◌, ◌<◌, ◌⊎◌, IfOk, IfErr, IsErrOf, vec_len};
 ghost use Rattle.quotient_finder.specs.Finding.{IsFound, FindsOnly};
 
-use crate::asked::Asked;
 use crate::gave_up::GaveUp;
 use crate::limits::Limits;
 use crate::proposer::Proposer;
+use crate::reply::Reply;
 use crate::same::is_same;
 use checker::{Certified, Refusal, check};
 use octal_code::Code;
@@ -17,23 +17,23 @@ fn ask(
     code: &Code,
     proposer: &mut Box<dyn Proposer>,
     members: u32,
-) -> Result<Asked, GaveUp>
+) -> Result<Reply, GaveUp>
     ensures found { IfOk result (FindsOnly code.now) }
     ensures memory { IfErr result (λ why. why ≡ GaveUp.Memory) }
 {
     let Some(draft) = proposer.propose(code)? else {
-        return Ok(Asked::Nothing);
+        return Ok(Reply::Nothing);
     };
     match check(alloc, &draft, members) {
         Ok(certified) => {
             if is_same(certified.cert().code(), code) {
-                return Ok(Asked::Found(certified));
+                return Ok(Reply::Found(certified));
             }
         }
         Err(Refusal::Memory) => return Err(GaveUp::Memory),
         Err(refusal) => proposer.learn(&refusal)?,
     }
-    Ok(Asked::Drafted)
+    Ok(Reply::Drafted)
 }
 
 /// Asks each proposer once, in order, until a certificate of the code is found.
@@ -42,7 +42,7 @@ fn round(
     code: &Code,
     proposers: &mut Vec<Box<dyn Proposer>>,
     members: u32,
-) -> Result<Asked, GaveUp>
+) -> Result<Reply, GaveUp>
     ensures found { IfOk result (FindsOnly code.now) }
     ensures stays { vec_len proposers.new ≡ vec_len proposers.old }
     ensures memory { IfErr result (λ why. why ≡ GaveUp.Memory) }
@@ -50,15 +50,15 @@ fn round(
     let mut has_drafted = false;
     for proposer in proposers.iter_mut() {
         match ask(alloc, code, proposer, members)? {
-            Asked::Found(certified) => return Ok(Asked::Found(certified)),
-            Asked::Drafted => has_drafted = true,
-            Asked::Nothing => {}
+            Reply::Found(certified) => return Ok(Reply::Found(certified)),
+            Reply::Drafted => has_drafted = true,
+            Reply::Nothing => {}
         }
     }
     if has_drafted {
-        Ok(Asked::Drafted)
+        Ok(Reply::Drafted)
     } else {
-        Ok(Asked::Nothing)
+        Ok(Reply::Nothing)
     }
 }
 
@@ -85,9 +85,9 @@ pub fn find(
     }
     for _ in 0..limits.rounds {
         match round(alloc, code, proposers, limits.members)? {
-            Asked::Found(certified) => return Ok(certified),
-            Asked::Drafted => {}
-            Asked::Nothing => return Err(GaveUp::Empty),
+            Reply::Found(certified) => return Ok(certified),
+            Reply::Drafted => {}
+            Reply::Nothing => return Err(GaveUp::Empty),
         }
     }
     Err(GaveUp::Rounds)

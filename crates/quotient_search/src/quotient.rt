@@ -4,7 +4,7 @@ use crate::lists::Lists;
 use crate::scene::Scene;
 use crate::work::Halt;
 use octal_code::Code;
-use positions::{Left, options};
+use positions::options;
 use std::alloc::Allocator;
 
 /// A commutative monoid with the elements of the heaps 1, 2, .. Each element is known by its
@@ -109,6 +109,15 @@ impl<A: Allocator> Quotient<A> {
         at(&self.heaps, n.wrapping_sub(1))
     }
 
+    /// The value of these heaps: the product of their elements. That of no heap is 0, the identity.
+    fn value(&self, heaps: &[u64]) -> usize {
+        let mut value = 0;
+        for heap in heaps {
+            value = self.times(value, self.heap(*heap as usize));
+        }
+        value
+    }
+
     /// The values of the options of the heap n.
     pub(crate) fn heap_moves(&self, n: usize) -> &[u16] {
         self.moves.list(n.wrapping_sub(1))
@@ -117,11 +126,7 @@ impl<A: Allocator> Quotient<A> {
     /// Adds the values of the options of the heap n, the next one.
     pub(crate) fn add_moves(&mut self, code: &Code, n: usize) -> Result<(), Halt> {
         for left in options(code, n as u64) {
-            let value = match left {
-                Left::Nothing => 0,
-                Left::One(a) => self.heap(a as usize),
-                Left::Two(a, b) => self.times(self.heap(a as usize), self.heap(b as usize)),
-            };
+            let value = self.value(left.heaps().as_slice());
             self.moves.push_new(value)?;
         }
         self.moves.close()

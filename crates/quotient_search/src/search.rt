@@ -6,12 +6,10 @@ use crate::scene::Scene;
 use crate::state::State;
 use crate::work::{Halt, Work};
 use allocation::Memory;
+use misere_theory::LARGEST_ORDER;
 use octal_code::Code;
 use periods::{is_shown, likely_period};
 use std::alloc::Allocator;
-
-/// The most elements that a certificate may have. With more heaps a right quotient has no fewer.
-const MOST_ELEMENTS: usize = 256;
 
 /// Adds the heap n, and makes the quotient right.
 fn advance<A: Allocator + Copy>(
@@ -30,7 +28,7 @@ fn advance<A: Allocator + Copy>(
     if state.closure.failed {
         repair(alloc, code, state, work)?;
     }
-    if state.quotient.order > MOST_ELEMENTS {
+    if state.quotient.order > LARGEST_ORDER as usize {
         return Err(Halt::GaveUp);
     }
     Ok(())

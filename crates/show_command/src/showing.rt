@@ -38,7 +38,7 @@ fn elements_text(alloc: Global, certified: &Certified) -> Result<String, Memory>
 {
     let mut text = String::new(alloc);
     for element in 0..certified.cert().order() {
-        let position = certified.spelled(alloc, element)?.text()?;
+        let position = certified.position_of(alloc, element)?.text()?;
         let letter = letter(certified, element);
         let line = element_text(alloc, element, letter, position.as_str())?;
         text.push_str(line.as_str())?;

@@ -7,5 +7,6 @@ mod Coming
 mod Turning
 mod Cost
 mod Running
+mod Finished
 mod Every
-mod Unique
+mod OneList

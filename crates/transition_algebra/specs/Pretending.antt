@@ -1,6 +1,7 @@
 -- Pretending functions: an element for each heap size.
 -- Plambeck and Siegel, "Misère quotients for impartial games"; the ranges are this project's own.
 use Rattle.std.specs.Prelude.{◌≡◌, ℕ, ◌+◌, ◌-◌, ◌%◌, ◌≤◌, nat_lt, if◌then◌else◌, List, ◌∷◌, length, slice_index}
+use Rattle.misere_theory.specs.declared.TheConstants.{MOST_ENTRIES}
 
 -- the elements of the heaps 1 to start + period - 1, which from start on repeat with the period
 pub record Pretending : Type 0 where
@@ -14,10 +15,10 @@ phi_at f n =
     slice_index (0 ∷ f.entries)
     (if nat_lt n (f.start + f.period) then n else f.start + (n - f.start) % f.period)
 
--- start and period are at least 1, their sum is at most 1025, and each heap below the sum has an
--- entry
+-- start and period are at least 1, their sum is at most `MOST_ENTRIES` and 1, and each heap below
+-- the sum has an entry
 pub record IsPretending (f : Pretending) : Type 0 where
   pub from_one : 1 ≤ f.start
   pub some : 1 ≤ f.period
-  pub short : f.start + f.period ≤ 1025
+  pub short : f.start + f.period ≤ MOST_ENTRIES + 1
   pub length_is : length f.entries + 1 ≡ f.start + f.period

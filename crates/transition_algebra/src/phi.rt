@@ -6,8 +6,8 @@ use std::alloc::{Allocator, Global};
 use std::marker::Model;
 
 /// An element for each heap size from 1 up: those of the heaps below start + period are written
-/// down, and from start on they repeat with the period. Start and period are at least 1, and their
-/// sum is at most 1025.
+/// down, and from start on they repeat with the period. Start and period are at least 1, and there
+/// are at most `MOST_ENTRIES` entries.
 ///
 /// The pretending function of Plambeck and Siegel, "Misère quotients for impartial games".
 #[derive(Drop)]

@@ -58,7 +58,7 @@ impl Trial {
     {
         match self.walk.take_single(code) {
             Some(left) => {
-                self.seen.insert(left_value(table, phi, left));
+                self.seen.put(left_value(table, phi, left));
                 self.spent += 1;
                 1
             }
@@ -81,11 +81,8 @@ impl Trial {
             + 1)
             × (self.new ≡ after_splits self.old part result) }
     {
-        let count = units.min(self.walk.splits_to_try(code, part));
-        if count > 0 {
-            self.walk.pass_splits(part, count);
-            self.spent += count;
-        }
+        let count = self.walk.pass_splits(code, part, units);
+        self.spent += count;
         count
     }
 
@@ -103,7 +100,7 @@ impl Trial {
         requires elements { HaveElements phi.now pairs.now }
         requires inside { All (λ p. p.value < table.now.order) pairs.now }
         requires within { self.old.walk.heap ≤ length pairs.now + 1 }
-        requires small { (self.old.walk.heap < 2 ^ 32) × (self.old.walk.away < 2 ^ 32) }
+        requires digit { self.old.walk.away < length code.now }
         ensures kept { AreWholes table.now phi.now wholes.new.sets.items }
         ensures trial { OnOk result (self.new ≡ after_all code.now table.now phi.now self.old) }
         ensures err { OnErr result (self.new ≡ self.old) }
@@ -112,7 +109,7 @@ impl Trial {
             let values = wholes.values(table, phi, pairs, self.walk.whole())?;
             self.seen.union_with(&values);
         }
-        self.walk.take_more();
+        self.walk.take_more(code);
         Ok(())
     }
 

@@ -38,7 +38,7 @@ fn values_of_splits<A: Allocator>(
     for part in 1..last + 1 {
         let x = pairs[(part - 1) as usize].value;
         let y = pairs[(whole - part - 1) as usize].value;
-        all.insert(table.times(x, y));
+        all.put(table.times(x, y));
     }
     all
 }

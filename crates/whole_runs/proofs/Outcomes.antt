@@ -1,15 +1,15 @@
 -- Faults of the words, by what they are.
 use Rattle.std.proofs.Common.{◌≡◌, ◌∙◌, sym, subst, ap, ℕ, List, None}
-use Rattle.command_line.specs.Refusals.{IsTrueOf}
+use Rattle.command_line.specs.Refusals.{IsFaultOf}
 use Rattle.command_line.specs.Requests.{plan_of}
 use Rattle.command_line.specs.Status.{status_of}
 use Rattle.command_line.specs.declared.faults.UsageFault.{UsageFault}
 use Rattle.command_line.specs.declared.faults.UsageFault.TheVariants.{Memory}
 
 -- what a fault says of the words, by what it is
-pub known_as : (words : List (List ℕ)) (f fault : UsageFault) → f ≡ fault → IsTrueOf words f
-    → IsTrueOf words fault
-known_as words f fault is h = subst (λ (x : UsageFault). IsTrueOf words x) is h
+pub known_as : (words : List (List ℕ)) (f fault : UsageFault) → f ≡ fault → IsFaultOf words f
+    → IsFaultOf words fault
+known_as words f fault is h = subst (λ (x : UsageFault). IsFaultOf words x) is h
 
 -- words with a fault that isn't want of memory are no request
 pub no_request : (words : List (List ℕ)) (f fault : UsageFault) → f ≡ fault

@@ -1,7 +1,7 @@
 -- How a run ends: what it has printed and told, and its status. This project's own.
 use Rattle.std.specs.Prelude.{◌≡◌, ℕ, List, Some, None}
 use Rattle.clap.specs.Words.{Text}
-use Rattle.command_line.specs.Refusals.{AsksForHelp, IsTrueOf}
+use Rattle.command_line.specs.Refusals.{AsksForHelp, IsFaultOf}
 use Rattle.command_line.specs.Requests.{plan_of}
 use Rattle.command_line.specs.Status.{status_of, text_of}
 use Rattle.command_line.specs.declared.faults.UsageFault.{UsageFault}
@@ -26,8 +26,8 @@ pub data Ends (words : List Text) (old new : Scene) (status : ℕ) : Type 0 wher
       → Ends words old new status
   Helped : AsksForHelp words → plan_of words ≡ None → (text : List ℕ) → new.files ≡ old.files
       → Printed old.out new.out old.err new.err text 0 status → Ends words old new status
-  Refused : (fault : UsageFault) → status_of fault ≡ 2 → IsTrueOf words fault → plan_of words ≡ None
-      → new.files ≡ old.files
+  Refused : (fault : UsageFault) → status_of fault ≡ 2 → IsFaultOf words fault
+      → plan_of words ≡ None → new.files ≡ old.files
       → IsTold fault old new status → Ends words old new status
   Wanting : new.failed ≡ old.failed → new.files ≡ old.files → new.out ≡ old.out
       → Tells old.err new.err (stop_line Memory)

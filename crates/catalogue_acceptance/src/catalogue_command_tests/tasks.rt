@@ -1,5 +1,6 @@
 //! Tasks one after the other, and with each call of the folder failing.
-use super::{LIMIT, NIM, ONE_ENTRY};
+use super::{LIMIT, ONE_ENTRY};
+use crate::certificates::{OF_0_1, OF_0_3, OF_0_33, OF_0_75};
 use allocation::Memory;
 use catalogue_command::{CatalogueStop, act};
 use folders::MemoryFolder;
@@ -9,35 +10,51 @@ use std::test::Fail;
 
 const EMPTY: &str = "{\"entries\":[],\"version\":1}\n";
 
-/// The quotients of 0.1, 0.33 and 0.75.
-const SMALLEST: &str =
-    "mqc 1\ncode 0.1\norder 2\nstart 2\nperiod 1\nphi 1 0\nportion 1\nwords 0:1\nrow 0 1\nrow 1 0\n\
-apart 0\nend\n";
+/// The certificates, of which one is none.
+static FILES: [(&str, &str); 5] = [
+    ("0.1.mqc", OF_0_1),
+    ("0.3.mqc", OF_0_3),
+    ("0.33.mqc", OF_0_33),
+    ("0.75.mqc", OF_0_75),
+    ("cut.mqc", "mqc 1\n"),
+];
 
-const SAMPLE: &str = "mqc 1\ncode 0.33\norder 6\nstart 1\nperiod 3\nphi 1 2 0\nportion 1 4\n\
-words 0:1 0:2 1:2 2:2 3:2\nrow 0 1 2 3 4 5\nrow 1 0 3 2 5 4\nrow 2 3 4 5 2 3\nrow 3 2 5 4 3 2\n\
-row 4 5 2 3 4 5\nrow 5 4 3 2 5 4\napart 0 1 1 0 4 0 0 4 0 2 0 1 0 1 0\nend\n";
-
-const LARGER: &str =
-    "mqc 1\ncode 0.75\norder 8\nstart 8\nperiod 2\nphi 1 2 1 2 3 2 3 2 4\nportion 1 7\n\
-words 0:1 0:2 0:5 0:9 1:2 1:5 1:9\nrow 0 1 2 3 4 5 6 7\nrow 1 0 5 6 7 2 3 4\nrow 2 5 7 5 5 4 2 2\n\
-row 3 6 5 7 7 2 4 4\nrow 4 7 5 7 7 2 4 4\nrow 5 2 4 2 2 7 5 5\nrow 6 3 2 4 4 5 7 7\n\
-row 7 4 2 4 4 5 7 7\napart 0 1 1 3 1 1 0 0 0 0 0 0 4 2 1 2 2 0 1 3 3 0 1 1 0 5 0 0\nend\n";
-
-/// The certificates, of which one is none, and of which this call fails.
-fn certificates(alloc: Global, failing: u64) -> Result<MemoryFolder, Memory> {
-    let mut folder = MemoryFolder::failing(alloc, failing);
-    let files = [
-        ("0.1.mqc", SMALLEST),
-        ("0.3.mqc", NIM),
-        ("0.33.mqc", SAMPLE),
-        ("0.75.mqc", LARGER),
-        ("cut.mqc", "mqc 1\n"),
-    ];
-    for (name, held) in files {
+fn put_files(folder: &mut MemoryFolder) -> Result<(), Memory> {
+    for (name, held) in &FILES {
         folder.put(name, held.as_bytes())?;
     }
+    Ok(())
+}
+
+/// The folder of the certificates, of which this call fails.
+fn certificates(alloc: Global, failing: u64) -> Result<MemoryFolder, Memory> {
+    let mut folder = MemoryFolder::failing(alloc, failing);
+    put_files(&mut folder)?;
     Ok(folder)
+}
+
+/// Whether a task ends well, if it prints this.
+fn is_well(
+    alloc: Global,
+    folder: &mut MemoryFolder,
+    file: &str,
+    task: CatalogueTask<'_>,
+    text: &str,
+) -> Option<bool> {
+    match &act(alloc, folder, file, task, LIMIT) {
+        Ok(report) if report.text.as_str() == text => Some(report.well),
+        _ => None,
+    }
+}
+
+/// Why a task stops.
+fn stop_of<'a>(
+    alloc: Global,
+    folder: &mut MemoryFolder,
+    file: &'a str,
+    task: CatalogueTask<'a>,
+) -> Option<CatalogueStop<'a>> {
+    act(alloc, folder, file, task, LIMIT).err()
 }
 
 /// A file and a task, and then whether it ends well and what is printed, or why it stops, and what
@@ -52,9 +69,9 @@ type Row = (
 /// Whether the task ends so.
 fn ends_so(alloc: Global, row: &Row, folder: &mut MemoryFolder) -> bool {
     let (file, task, end, held) = *row;
-    let is_so = match act(alloc, folder, file, task, LIMIT) {
-        Ok(report) => end == Ok((report.well, report.text.as_str())),
-        Err(stop) => end == Err(stop),
+    let is_so = match end {
+        Ok((well, text)) => is_well(alloc, folder, file, task, text) == Some(well),
+        Err(stop) => stop_of(alloc, folder, file, task) == Some(stop),
     };
     is_so && folder.bytes("x.json") == Some(held.as_bytes())
 }
@@ -89,7 +106,7 @@ static ROWS: [Row; 16] = [
     (
         "x.json",
         CatalogueTask::Get("0.3"),
-        Ok((true, NIM)),
+        Ok((true, OF_0_3)),
         ONE_ENTRY,
     ),
     (
@@ -148,45 +165,68 @@ static ROWS: [Row; 16] = [
     ),
 ];
 
+/// How many rows end so, up to the first that does not.
+fn act_in_turn(alloc: Global, folder: &mut MemoryFolder) -> usize {
+    for (at, row) in ROWS.iter().enumerate() {
+        if !ends_so(alloc, row, folder) {
+            return at;
+        }
+    }
+    ROWS.len()
+}
+
+/// How many rows end so, and whether no file was made that isn't to be.
+fn acted(alloc: Global) -> Result<(usize, bool), Memory> {
+    let mut folder = certificates(alloc, 0)?;
+    let count = act_in_turn(alloc, &mut folder);
+    Ok((count, folder.bytes("y.json").is_none()))
+}
+
 #[test]
 fn acts_on_a_catalogue(rt: HostRuntime) -> Result<(), Fail> {
-    let mut folder = certificates(rt.alloc(), 0)?;
-    for row in &ROWS {
-        assert!(rt;
-            ends_so(rt.alloc(), row, &mut folder),
-            "of {}, {:?}",
-            row.0,
-            row.1
-        );
-    }
-    assert_eq!(rt; folder.bytes("y.json"), None);
+    let (count, is_absent) = acted(rt.alloc())?;
+    assert_eq!(rt; count, 16);
+    assert!(rt; is_absent);
     Ok(())
+}
+
+/// A task that adds a certificate, its code, and the certificate.
+static ADDED: [(CatalogueTask<'static>, &str, &str); 4] = [
+    (CatalogueTask::NewWith("0.1.mqc"), "0.1", OF_0_1),
+    (CatalogueTask::Add("0.3.mqc"), "0.3", OF_0_3),
+    (CatalogueTask::Add("0.33.mqc"), "0.33", OF_0_33),
+    (CatalogueTask::Add("0.75.mqc"), "0.75", OF_0_75),
+];
+
+/// Whether a task ends well, whatever it prints.
+fn ends_well(alloc: Global, folder: &mut MemoryFolder, task: CatalogueTask<'_>) -> bool {
+    match &act(alloc, folder, "x.json", task, LIMIT) {
+        Ok(report) => report.well,
+        Err(_) => false,
+    }
+}
+
+/// How many certificates are added and given back, up to the first that is not.
+fn give_back(alloc: Global, folder: &mut MemoryFolder) -> usize {
+    for (at, (task, code, held)) in ADDED.iter().enumerate() {
+        let get = CatalogueTask::Get(code);
+        if !ends_well(alloc, folder, *task)
+            || is_well(alloc, folder, "x.json", get, held).is_none()
+        {
+            return at;
+        }
+    }
+    ADDED.len()
+}
+
+fn given_back(alloc: Global) -> Result<usize, Memory> {
+    let mut folder = certificates(alloc, 0)?;
+    Ok(give_back(alloc, &mut folder))
 }
 
 #[test]
 fn gives_back_what_was_added(rt: HostRuntime) -> Result<(), Fail> {
-    let alloc = rt.alloc();
-    let mut folder = certificates(alloc, 0)?;
-    let rows = [
-        (CatalogueTask::NewWith("0.1.mqc"), "0.1", SMALLEST),
-        (CatalogueTask::Add("0.3.mqc"), "0.3", NIM),
-        (CatalogueTask::Add("0.33.mqc"), "0.33", SAMPLE),
-        (CatalogueTask::Add("0.75.mqc"), "0.75", LARGER),
-    ];
-    for (task, code, held) in rows {
-        assert!(rt;
-            act(alloc, &mut folder, "x.json", task, LIMIT)?.well,
-            "of {code}"
-        );
-        let report = act(
-            alloc,
-            &mut folder,
-            "x.json",
-            CatalogueTask::Get(code),
-            LIMIT,
-        )?;
-        assert_eq!(rt; report.text.as_str(), held, "of {code}");
-    }
+    assert_eq!(rt; given_back(rt.alloc())?, 4);
     Ok(())
 }
 
@@ -216,14 +256,19 @@ static FAILURES: [(u64, CatalogueTask<'static>, CatalogueStop<'static>); 10] = [
     (2, CatalogueTask::Salvage, CatalogueStop::Write),
 ];
 
+/// Whether the task stops so and leaves the file as it was.
+fn keeps_the_file(alloc: Global, call: u64, row: &Row) -> Result<bool, Memory> {
+    let mut folder = certificates(alloc, call)?;
+    folder.put("x.json", ONE_ENTRY.as_bytes())?;
+    Ok(ends_so(alloc, row, &mut folder))
+}
+
 #[test]
 fn loses_nothing_where_a_call_fails(rt: HostRuntime) -> Result<(), Fail> {
     for (call, task, stop) in &FAILURES {
-        let mut folder = certificates(rt.alloc(), *call)?;
-        folder.put("x.json", ONE_ENTRY.as_bytes())?;
         let row = ("x.json", *task, Err(*stop), ONE_ENTRY);
         assert!(rt;
-            ends_so(rt.alloc(), &row, &mut folder),
+            keeps_the_file(rt.alloc(), *call, &row)?,
             "of {:?}, {}",
             task,
             call

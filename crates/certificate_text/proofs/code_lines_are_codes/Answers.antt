@@ -2,7 +2,7 @@ use Rattle.std.proofs.Common.{◌≢◌, ◌++◌, ◌∷◌, List, ℕ, refl, a
 use Rattle.std.proofs.lemmas.List.Elements.{All-from_recursion}
 use Rattle.octal_code.specs.Text.{code_text}
 use Rattle.certificate_text.specs.Reading.{code_line_at}
-use Rattle.certificate_text.proofs.Fields.{code_line_takes, code_line_again, code_has_no_lf}
+use Rattle.certificate_text.proofs.Codes.{code_line_takes, code_line_again, code_has_no_lf}
 use Rattle.certificate_text.proofs.code_lines_are_codes.Goals as goal
 
 pub returns-clause-taken : goal.returns-clause-taken

@@ -1,4 +1,4 @@
-use Rattle.certificate_text.proofs.Fields.{rows_are_all}
+use Rattle.certificate_text.proofs.Rows.{rows_are_all}
 use Rattle.certificate_text.proofs.rows_lie_flat.Goals as goal
 
 pub returns-clause-count : goal.returns-clause-count

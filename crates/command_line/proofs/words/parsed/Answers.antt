@@ -4,7 +4,7 @@ use Rattle.clap.specs.Words.{subcommand_of}
 use Rattle.clap.specs.declared.error.kind.ErrorKind.{ErrorKind}
 use Rattle.clap.proofs.OnLiterals.{clap_on_literals}
 use Rattle.command_line.specs.Program.{program}
-use Rattle.command_line.specs.Refusals.{IsOfKind, IsTrueOf}
+use Rattle.command_line.specs.Refusals.{IsOfKind, IsFaultOf}
 use Rattle.command_line.specs.declared.faults.UsageFault.{UsageFault}
 use Rattle.command_line.specs.declared.faults.UsageFault.TheVariants.{Memory, Help, Words, Number}
 use Rattle.command_line.specs.declared.faults.UsageFault.TheVariants.{Exclusive, Incomplete}
@@ -21,7 +21,7 @@ simple = refl
 
 -- a fault of reading the words tells the truth: they failed by an error of its kind
 tells : (words : List Text) (kind : ErrorKind) (fault : UsageFault)
-    → IsAmong kind (fault_of program words) → IsOfKind kind fault → IsTrueOf words fault
+    → IsAmong kind (fault_of program words) → IsOfKind kind fault → IsFaultOf words fault
 tells words kind Memory among own = tt
 tells words kind (Help text) among own = (kind, among, own)
 tells words kind (Words text) among own = (kind, among, own)
@@ -43,7 +43,7 @@ pub returns-in-Err-clause-fault : goal.returns-in-Err-clause-fault
 returns-in-Err-clause-fault c =
     let words = map (λ (w : Bor (List ℕ)). w.now) c.args.words.now in
     elim (c.in-Err.ensures.kinds (ap is_simple_and_free c.in-Ok.ensures ∙ free)) [
-      | inl memory ↦ subst (IsTrueOf words) (sym (c.refused.ensures.memory memory)) tt
+      | inl memory ↦ subst (IsFaultOf words) (sym (c.refused.ensures.memory memory)) tt
       | inr among ↦ tells words (kind_of c.in-Err.e) c.refused.result
           (subst (λ (a : App). IsAmong (kind_of c.in-Err.e) (fault_of a words)) c.in-Ok.ensures
           among)

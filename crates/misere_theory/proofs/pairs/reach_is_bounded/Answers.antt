@@ -1,6 +1,6 @@
 use Rattle.misere_theory.specs.Games.{IsHeap}
 use Rattle.misere_theory.proofs.Sums.{heaps_kept}
-use Rattle.misere_theory.proofs.Reach.{reach_bound}
+use Rattle.misere_theory.proofs.PairCounts.{reach_bound}
 use Rattle.misere_theory.proofs.pairs.reach_is_bounded.Goals as goal
 
 pub returns : goal.returns

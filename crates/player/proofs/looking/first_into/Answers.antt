@@ -2,7 +2,7 @@ use Rattle.std.proofs.Common.{◌≡◌, ◌∷◌, ◌++◌, [], sym, ◌∙◌
 use Rattle.positions.specs.Exact.{heaps_of}
 use Rattle.misere_theory.specs.Certificates.{claim_of, times_of}
 use Rattle.player.specs.Looks.{puts}
-use Rattle.player.proofs.Beside.{none_into, first_look, parts_are_heaps, seen_more}
+use Rattle.player.proofs.Others.{none_into, first_look, parts_are_heaps, seen_more}
 use Rattle.player.proofs.looking.first_into.Goals as goal
 
 pub value_of_left-requires : goal.value_of_left-requires

@@ -14,11 +14,11 @@ returns-then-heaps-from g t c =
     none_of_equal c.args.certified.now.code c.args.heaps.now q.rising c.args.from c.args.to
     c.if-from-gt0.true q.some q.to_in c.if-heaps-from.true q.none
 
-pub first_win_at-requires-clause-beside : goal.first_win_at-requires-clause-beside
-first_win_at-requires-clause-beside g t c =
+pub first_win_at-requires-clause-others : goal.first_win_at-requires-clause-others
+first_win_at-requires-clause-others g t c =
     let X = c.args.heaps.now in
     let s : c.args.to ≡ suc c.args.from = (let e = c.if-from-to.true in omega arith) in
-    c.requires.beside
+    c.requires.others
     ∙ ap (λ k. value (claim_of c.args.certified.now) (take c.args.from X ++ drop k X)) s
 
 pub returns-then-from-to : goal.returns-then-from-to
@@ -40,7 +40,7 @@ first_win_within-requires g t c κs within =
     let z : middle < to = omega arith in
     let r = c.times-behind.ensures.value in
     let b = beside_first c.args.certified.now q.accepted c.args.heaps.now q.position from middle to
-    c.args.beside c.value.result c.times-behind.result (omega arith) (omega arith) q.beside r
+    c.args.others c.value.result c.times-behind.result (omega arith) (omega arith) q.others r
     c.value.ensures.value in
     let l = q.to_in in (
       search rules,
@@ -68,7 +68,7 @@ first_win_within-requires-2 g t c κs within =
     let z : middle < to = omega arith in
     let r = c.times-before.ensures.value in
     let b = beside_second c.args.certified.now q.accepted c.args.heaps.now q.position from middle to
-    c.args.beside c.value-2.result c.times-before.result (omega arith) (omega arith) q.beside r
+    c.args.others c.value-2.result c.times-before.result (omega arith) (omega arith) q.others r
     c.value-2.ensures.value in (
       search rules,
       (

@@ -1,6 +1,49 @@
-use Rattle.std.proofs.Common.{rules}
-use Rattle.positions.proofs.Permuted.{two_pushed}
+use Rattle.std.proofs.Common.{rules, ◌∷◌, ◌∙◌, length, slice_index, ap, subst, arith}
+use Rattle.std.specs.List.Sorted.{IsPermutation}
+use Rattle.std.proofs.lemmas.List.Sorted.{IsPermutation-refl}
+use Rattle.positions.specs.Exact.{heaps_of}
+use Rattle.positions.proofs.Permuted.{added_more, added_all, few_left}
 use Rattle.positions.proofs.position.add_left.Goals as goal
 
-pub returns-in-Two-clause-same : goal.returns-in-Two-clause-same
-returns-in-Two-clause-same g c = rw c.in-Two.is (search (rules, two_pushed))
+pub loop-heap-init : goal.loop-heap-init
+loop-heap-init g c =
+    (IsPermutation-refl c.args.heaps.now.items, c.requires.rising, omega arith, omega arith)
+
+pub add_heap-requires : goal.add_heap-requires
+add_heap-requires g c =
+    let few = few_left c.args.left in
+    let same = ap length (c.as_slice-heap-items.ensures ∙ c.heaps-added.ensures) in
+    let inside = c.loop-heap-test.true in
+    let room = c.requires.room in
+    let count = c.loop-heap.invariant.2 in
+    let capacity = c.loop-heap.invariant.3 in
+    (search (rules, g.met.A.Room.small), (omega arith, c.loop-heap.invariant.1))
+
+pub loop-heap-preserved : goal.loop-heap-preserved
+loop-heap-preserved g c =
+    let same = c.as_slice-heap-items.ensures ∙ c.heaps-added.ensures in
+    let len = ap length same in
+    let inside = c.loop-heap-test.true in
+    let count = c.loop-heap.invariant.2 in
+    let capacity = c.loop-heap.invariant.3 in
+    let more = c.add_heap.ensures.len in
+    let kept = c.add_heap.ensures.capacity in (
+      added_more (heaps_of c.args.left) c.args.heaps.now.items c.loop-heap.heaps.items
+          c.add_heap.new.heaps.items c.loop-heap.heap-index (omega arith) c.loop-heap.invariant.0
+          (subst
+          (λ xs. IsPermutation (slice_index xs c.loop-heap.heap-index ∷ c.loop-heap.heaps.items)
+          c.add_heap.new.heaps.items) same c.add_heap.ensures.same),
+      c.add_heap.ensures.rising,
+      omega arith,
+      omega arith,
+    )
+
+pub returns-clause-same : goal.returns-clause-same
+returns-clause-same g c =
+    let len = ap length (c.as_slice-heap-items.ensures ∙ c.heaps-added.ensures) in
+    let over = c.loop-heap-test.false in
+    added_all (heaps_of c.args.left) c.args.heaps.now.items c.loop-heap.heaps.items
+    c.loop-heap.heap-index (omega arith) c.loop-heap.invariant.0
+
+pub returns-clause-rising : goal.returns-clause-rising
+returns-clause-rising g c = c.loop-heap.invariant.1

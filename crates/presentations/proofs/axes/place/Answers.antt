@@ -1,6 +1,6 @@
 use Rattle.std.proofs.Common.{◌≡◌, ◌<◌, ap, sym, ◌∙◌, arith, length, get_or}
 use Rattle.presentations.specs.Boxes.{place_of, next_of}
-use Rattle.presentations.specs.Boxed.{letters_in}
+use Rattle.presentations.specs.Merging.{letters_in}
 use Rattle.presentations.specs.Words.{vector_on}
 use Rattle.presentations.specs.Vectors.{zeros}
 use Rattle.presentations.proofs.BoxLaws.{place-zeros, place-bump, size-positive, no_axis}

@@ -83,8 +83,8 @@ returns-clause-within g c = not-above c.args.relations.now c.args.limit c.loop-l
     at_end : (n : ℕ) → n ≤ 26 → 26 ≤ n → n ≡ 26
     at_end n a b = omega arith
 
-pub returns-clause-boxed : goal.returns-clause-boxed
-returns-clause-boxed g c =
+pub returns-clause-is_box : goal.returns-clause-is_box
+returns-clause-is_box g c =
     built-box _ c.args.limit c.loop-letter.letter c.loop-letter.size c.loop-letter.axes.items
     c.loop-letter.invariant (omega arith) (omega arith)
 

@@ -1,5 +1,5 @@
 use Rattle.std.specs.Prelude.{sum}
-use Rattle.presentations.specs.Boxed.{Shrinks, AreFirsts}
+use Rattle.presentations.specs.Merging.{Shrinks, AreFirsts}
 use Rattle.presentations.proofs.classes.close.Given as goal
 
 abbrev pub invariant-loop-x : goal.invariant-loop-x

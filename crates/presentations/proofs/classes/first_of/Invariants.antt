@@ -1,7 +1,7 @@
 use Rattle.std.proofs.Common.{◌≡◌, ◌<◌, ◌≤◌}
 use Rattle.std.specs.Prelude.{slice_index}
 use Rattle.presentations.specs.Boxes.{size_of}
-use Rattle.presentations.specs.Boxed.{AreRelated, Shrinks}
+use Rattle.presentations.specs.Merging.{AreRelated, Shrinks}
 use Rattle.presentations.proofs.classes.first_of.Given as goal
 
 abbrev pub invariant-loop-parent : goal.invariant-loop-parent

@@ -12,7 +12,7 @@ pub loop-i-preserved : goal.loop-i-preserved
 loop-i-preserved g c =
     let m = c.loop-i.merging in
     let kept = c.loop-i.invariant.kept in
-    let is = c.boxed.ensures.merging in
+    let is = c.is_box.ensures.merging in
     let same : size_of m.axes ≡ size_of c.args.merging.now.axes = ap size_of kept.axes in
     let lt : c.loop-i.i < length m.parents = omega (arith, same, is.length_is) in
     let above : c.parent-above.result ≡ get_or m.parents (get_or m.parents c.loop-i.i 0) 0 =

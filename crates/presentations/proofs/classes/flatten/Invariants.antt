@@ -1,6 +1,6 @@
 use Rattle.std.proofs.Common.{◌≡◌, ◌<◌, ℕ}
 use Rattle.std.specs.Prelude.{slice_index}
-use Rattle.presentations.specs.Boxed.{Shrinks}
+use Rattle.presentations.specs.Merging.{Shrinks}
 use Rattle.presentations.proofs.classes.flatten.Given as goal
 
 abbrev pub invariant-loop-i : goal.invariant-loop-i

@@ -12,6 +12,6 @@ returns-then-x-y-clause-gap g c =
     c.parent-y.ensures.value c.parent-x.ensures.down c.parent-y.ensures.down
     c.parent-x.ensures.related c.parent-y.ensures.related
     (step-at axes relations c.args.at c.parent-first.result c.loop-i.i c.next-u.result
-    c.next-v.result c.boxed.ensures.boxed (omega arith) c.parent-first.ensures.related
+    c.next-v.result c.is_box.ensures.is_box (omega arith) c.parent-first.ensures.related
     c.next-u.ensures.value c.next-v.ensures.value)
     c.if-x-y.true

@@ -1,4 +1,4 @@
-use Rattle.presentations.specs.Boxed.{Shrinks}
+use Rattle.presentations.specs.Merging.{Shrinks}
 use Rattle.presentations.proofs.classes.join_relations.Given as goal
 
 abbrev pub invariant-loop-i : goal.invariant-loop-i

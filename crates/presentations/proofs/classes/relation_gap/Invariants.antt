@@ -3,7 +3,7 @@ use Rattle.std.specs.Prelude.{slice_index, slice_index_or}
 use Rattle.presentations.specs.declared.read.Relation.{Relation}
 use Rattle.presentations.specs.Boxes.{place_of}
 use Rattle.presentations.specs.Words.{vector_on}
-use Rattle.presentations.specs.Boxed.{letters_in}
+use Rattle.presentations.specs.Merging.{letters_in}
 use Rattle.presentations.proofs.classes.relation_gap.Given as goal
 
 abbrev pub invariant-loop-i : goal.invariant-loop-i

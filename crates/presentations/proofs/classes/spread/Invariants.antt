@@ -1,4 +1,4 @@
-use Rattle.presentations.specs.Boxed.{Shrinks}
+use Rattle.presentations.specs.Merging.{Shrinks}
 use Rattle.presentations.proofs.classes.spread.Given as goal
 
 abbrev pub invariant-loop-turn : goal.invariant-loop-turn

@@ -1,5 +1,5 @@
 use Rattle.std.proofs.Common.{◌<◌, ℕ}
-use Rattle.presentations.specs.Boxed.{StepsHoldAt}
+use Rattle.presentations.specs.Merging.{StepsHoldAt}
 use Rattle.presentations.proofs.classes.step_gap.Given as goal
 
 abbrev pub invariant-loop-at : goal.invariant-loop-at

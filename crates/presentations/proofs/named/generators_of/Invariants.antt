@@ -1,5 +1,5 @@
 use Rattle.std.proofs.Common.{◌≡◌, ◌+◌, map, take}
-use Rattle.presentations.specs.Boxed.{letters_in}
+use Rattle.presentations.specs.Merging.{letters_in}
 use Rattle.presentations.proofs.named.generators_of.Given as goal
 
 abbrev pub invariant-loop-i : goal.invariant-loop-i

@@ -15,7 +15,7 @@ loop-element-preserved c =
     subst (λ (t : List ℕ). AreElementLines c.args.certified.now (c.loop-element.element + 1) t)
     (sym (c.in_ok-push_str.ensures.bytes
     ∙ ap (λ (t : List ℕ). string_bytes c.loop-element.text ++ t) line))
-    (NextElement c.loop-element.element _ c.loop-element.invariant c.in_ok-spelled.ensures.keys)
+    (NextElement c.loop-element.element _ c.loop-element.invariant c.in_ok-position_of.ensures.keys)
 
 pub loop-element-init : goal.loop-element-init
 loop-element-init c =

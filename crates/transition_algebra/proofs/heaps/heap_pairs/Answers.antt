@@ -1,9 +1,9 @@
 use Rattle.std.proofs.Common.{sym, subst}
 use Rattle.transition_algebra.specs.Trials.{IsTrial}
 use Rattle.transition_algebra.specs.Heaps.{bound_of}
-use Rattle.transition_algebra.proofs.Running.{all_units, finished}
+use Rattle.transition_algebra.proofs.Finished.{all_units, finished}
 use Rattle.transition_algebra.proofs.Within.{all_in}
-use Rattle.transition_algebra.proofs.Unique.{all_pairs}
+use Rattle.transition_algebra.proofs.OneList.{all_pairs}
 use Rattle.transition_algebra.proofs.heaps.heap_pairs.Goals as goal
 
 pub returns-clause-exact : goal.returns-clause-exact

@@ -1,4 +1,4 @@
-use Rattle.transition_algebra.proofs.Running.{worked-add}
+use Rattle.transition_algebra.proofs.Finished.{worked-add}
 use Rattle.transition_algebra.proofs.Turning.{turns-add}
 use Rattle.transition_algebra.proofs.laws.cuts_do_not_matter.Goals as goal
 

@@ -1,4 +1,4 @@
-use Rattle.transition_algebra.proofs.Running.{cost_at_most, ends}
+use Rattle.transition_algebra.proofs.Finished.{cost_at_most, ends}
 use Rattle.transition_algebra.proofs.Cost.{cost_long, cost_turned}
 use Rattle.transition_algebra.proofs.laws.heap_jobs_end.Goals as goal
 

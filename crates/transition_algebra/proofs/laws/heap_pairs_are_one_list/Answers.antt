@@ -1,6 +1,6 @@
 use Rattle.transition_algebra.specs.Heaps.{bound_of, all_heap_pairs}
 use Rattle.transition_algebra.proofs.Within.{all_in}
-use Rattle.transition_algebra.proofs.Unique.{all_are_pairs, only_pairs, turned_pairs}
+use Rattle.transition_algebra.proofs.OneList.{all_are_pairs, only_pairs, turned_pairs}
 use Rattle.transition_algebra.proofs.laws.heap_pairs_are_one_list.Goals as goal
 
 pub returns-clause-exact : goal.returns-clause-exact

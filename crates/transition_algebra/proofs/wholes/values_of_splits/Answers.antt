@@ -1,4 +1,4 @@
-use Rattle.std.proofs.Common.{rules, ◌≡◌, ◌+◌, ◌-◌, ◌∙◌, ap, ap₂, sym, arith}
+use Rattle.std.proofs.Common.{◌≡◌, ◌+◌, ◌-◌, ◌∙◌, ap, ap₂, sym, arith}
 use Rattle.std.proofs.lemmas.List.{get_or_default}
 use Rattle.monoid_table.specs.Grids.{times_in}
 use Rattle.transition_algebra.specs.Trials.{split_value}
@@ -22,8 +22,8 @@ loop-part-preserved g c =
     ap (λ p. p.value) (get_or_default ps (m - 1) c.index-pairs-whole.result one (omega arith))
     ∙ c.requires.elements m (omega arith) (omega arith) in
     let v : c.times.result ≡ f n = c.times.ensures.value ∙ ap₂ (times_in c.args.table.now) x y in
-    values_more f c.loop-part.all c.insert.new.self c.loop-part.part (c.min-last.result + 1)
-    c.times.result c.loop-part-test.true v (c.insert.ensures.put (search rules))
+    values_more f c.loop-part.all c.put.new.self c.loop-part.part (c.min-last.result + 1)
+    c.times.result c.loop-part-test.true v c.put.ensures
     ∙ c.loop-part.invariant
 
 pub returns : goal.returns

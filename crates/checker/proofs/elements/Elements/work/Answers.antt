@@ -1,5 +1,5 @@
 use Rattle.std.proofs.Common.{rules, ◌<◌, ◌≤◌, ◌+◌, ◌∷◌, length, subst, sym, ap, refl, inl, inr, ◌∙◌, arith}
-use Rattle.checker.specs.Stages.{Carries}
+use Rattle.checker.specs.Stages.{Carries, reached}
 use Rattle.checker.proofs.ElementLemmas.{value_below, leads_in, obeys_at, value_turn, heap_turn, elements_end}
 use Rattle.checker.specs.Answers.Answer.{Outcome}
 use Rattle.pair_closure.specs.Positions.{rising}
@@ -58,8 +58,8 @@ returns-in-Ok-clause-comes g c =
           c.self.inside.contexts.items _ _ i.so_far l c.index.result.now c.index.ensures x
           (omega arith) (λ o u. (rw e at c.in-Some.ensures.least) x s u)))
           (ap (λ X. Ended (Outcome c.heaps.sheet.code X)) (sym c.in-Ok.ensures.exact));
-      shown = inl (sym c.failed.ensures.shown);
-      exact = (let f = c.failed.ensures.shown in λ h. rw f (omega arith));
+      shown = inl (sym c.rule_fails.ensures.shown);
+      exact = (let f = c.rule_fails.ensures.shown in λ h. rw f (omega arith));
     }
 
 pub returns-in-Err-clause-comes : goal.returns-in-Err-clause-comes
@@ -107,8 +107,8 @@ breach-requires-clause-value g c =
     (value_below c.heaps.sheet i.lawful.in_ranges c.self.inside.pairs.items
     c.self.inside.contexts.items _ _ c.index.result.now i.so_far l c.index.ensures)
 
-pub beside-requires-clause-breach : goal.beside-requires-clause-breach
-beside-requires-clause-breach g c =
+pub position_with-requires-clause-breach : goal.position_with-requires-clause-breach
+position_with-requires-clause-breach g c =
     let i = c.heaps.invariant in
     let l : c.heaps.heap < length c.self.inside.pairs.items = search rules in
     let e = c.deref.ensures.value in
@@ -118,8 +118,8 @@ beside-requires-clause-breach g c =
 
 pub returns-in-Ok-clause-carries : goal.returns-in-Ok-clause-carries
 returns-in-Ok-clause-carries g c =
-    subst (λ d. Carries d c.args.limit c.failed.result) c.heaps.invariant.same
-    (c.failed.ensures.carries c.args.limit)
+    subst (λ d. Carries d c.args.limit (reached c.rule_fails.result)) c.heaps.invariant.same
+    (c.rule_fails.ensures.carries c.args.limit)
 
 pub heaps-preserved-then-option-order : goal.heaps-preserved-then-option-order
 heaps-preserved-then-option-order g c =

@@ -1,27 +1,35 @@
-use Rattle.std.proofs.Common.{inl, refl, arith}
-use Rattle.checker.specs.Stages.{phase_of}
-use Rattle.checker.proofs.DueLemmas.{goes_comes}
+use Rattle.std.proofs.Common.{◌≡◌, false, inl, refl, sym, ◌∙◌, arith}
+use Rattle.checker.specs.Stages.{has_ended, phase_of}
+use Rattle.checker.proofs.DueLemmas.{come_on, come_to}
 use Rattle.checker.proofs.stage.Stage.advance.Goals as goal
 
-pub work-requires : goal.work-requires
-work-requires g c =
+pub run-requires : goal.run-requires
+run-requires g c =
     rw c.replace-stage.ensures.value
     (c.go_on.ensures.stands c.args.bytes.now c.args.limit c.requires)
 
-pub returns-then-left-gt0-clause-comes : goal.returns-then-left-gt0-clause-comes
-returns-then-left-gt0-clause-comes g c =
-    λ e. goes_comes c.args.bytes.now c.args.limit _ _ _ c.args.self.now c.go_on.new.self _
-    c.work.result e (c.go_on.ensures.runs c.args.bytes.now c.args.limit) c.go_on.ensures.same
-    c.replace-stage.ensures.value c.work.ensures.comes
+pub returns-then-left-gt0-clause-spends : goal.returns-then-left-gt0-clause-spends
+returns-then-left-gt0-clause-spends g c =
+    let w = (c.go_on.ensures.runs c.args.bytes.now c.args.limit).within in
+    let r = c.run.ensures.spends in
+    omega arith
+
+pub returns-then-left-gt0-clause-come : goal.returns-then-left-gt0-clause-come
+returns-then-left-gt0-clause-come g c =
+    let going : has_ended c.args.self.now ≡ false = sym c.has_ended.ensures ∙ c.if-has_ended.false
+    in
+    λ n h. come_on c.args.bytes.now c.args.limit n _ _ _ c.args.self.now c.go_on.new.self _
+    c.run.result going h (c.go_on.ensures.runs c.args.bytes.now c.args.limit)
+    c.replace-stage.ensures.value c.run.ensures.spends c.run.ensures.come
 
 pub returns-else-left-gt0-clause-stands : goal.returns-else-left-gt0-clause-stands
 returns-else-left-gt0-clause-stands g c =
     c.go_on.ensures.stands c.args.bytes.now c.args.limit c.requires
 
-pub returns-else-left-gt0-clause-comes : goal.returns-else-left-gt0-clause-comes
-returns-else-left-gt0-clause-comes g c = λ e. record {
-  to = phase_of c.go_on.new.self;
-  runs = c.go_on.ensures.runs c.args.bytes.now c.args.limit;
-  shown = inl refl;
-  exact = λ h. absurd (omega arith);
-}
+pub returns-else-left-gt0-clause-come : goal.returns-else-left-gt0-clause-come
+returns-else-left-gt0-clause-come g c =
+    let going : has_ended c.args.self.now ≡ false = sym c.has_ended.ensures ∙ c.if-has_ended.false
+    in
+    λ n h. come_to c.args.bytes.now c.args.limit n _ _ c.args.self.now c.go_on.new.self
+    (phase_of c.go_on.new.self) going h (c.go_on.ensures.runs c.args.bytes.now c.args.limit)
+    (inl refl)

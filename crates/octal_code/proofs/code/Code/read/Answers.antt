@@ -50,11 +50,11 @@ returns-then-text-gt-LONGEST-clause-not_a_code c = (
 
 pub returns-clause-code : goal.returns-clause-code
 returns-clause-code c = λ ds. (
-  λ e. subst (IsCodeText c.args.text.now) (let s : c.spelled.result ≡ ds = cc in
-      sym c.spelled.ensures ∙ s)
+  λ e. subst (IsCodeText c.args.text.now) (let s : c.from_text.result ≡ ds = cc in
+      sym c.from_text.ensures ∙ s)
       (code_read c.args.text.now (c.is_spelling.ensures.0 c.if-not-is_spelling.false)
       (omega arith)),
-  λ h. let s = (read_code c.args.text.now ds h).2 in ap Ok (c.spelled.ensures ∙ s),
+  λ h. let s = (read_code c.args.text.now ds h).2 in ap Ok (c.from_text.ensures ∙ s),
 )
 
 pub returns-clause-too_long : goal.returns-clause-too_long

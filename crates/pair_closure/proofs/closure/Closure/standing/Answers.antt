@@ -3,10 +3,10 @@ use Rattle.pair_closure.proofs.closure.Closure.standing.Goals as goal
 
 pub returns-in-Done-clause-closed : goal.returns-in-Done-clause-closed
 returns-in-Done-clause-closed g c =
-    λ _ code claim over. (c.speak.ensures.speaks code claim over).done
+    λ _ code claim over. (c.shows_pairs.ensures.shows code claim over).done
     (c.in-Done.ensures.done (search rules))
 
 pub returns-in-Over-clause-exceeded : goal.returns-in-Over-clause-exceeded
 returns-in-Over-clause-exceeded g c =
-    λ _ code claim over. (c.speak.ensures.speaks code claim over).over
+    λ _ code claim over. (c.shows_pairs.ensures.shows code claim over).over
     (c.in-Over.ensures.over (search rules))

@@ -2,7 +2,7 @@ use Rattle.std.proofs.Common.{◌≡◌, ap, sym, subst, arith, length}
 use Rattle.std.specs.Prelude.{slice_index_or}
 use Rattle.presentations.specs.Boxes.{place_of}
 use Rattle.presentations.specs.Words.{vector_on}
-use Rattle.presentations.specs.Boxed.{AreRelated, letters_in}
+use Rattle.presentations.specs.Merging.{AreRelated, letters_in}
 use Rattle.presentations.proofs.Merges.{relation, no_relation}
 use Rattle.presentations.proofs.merging.Merging.places.Goals as goal
 

@@ -3,9 +3,9 @@ use Rattle.std.specs.List.{All}
 use Rattle.transition_algebra.specs.Pairs.{IsPair}
 use Rattle.transition_algebra.specs.Heaps.{AreAllHeapPairs, all_heap_pairs, bound_of}
 use Rattle.transition_algebra.specs.Work.{IsDone}
-use Rattle.transition_algebra.proofs.Running.{finished}
+use Rattle.transition_algebra.proofs.Finished.{finished}
 use Rattle.transition_algebra.proofs.Within.{all_in}
-use Rattle.transition_algebra.proofs.Unique.{all_pairs}
+use Rattle.transition_algebra.proofs.OneList.{all_pairs}
 use Rattle.transition_algebra.proofs.heap_job.HeapJob.finish.Goals as goal
 
 pub returns-clause-exact : goal.returns-clause-exact

@@ -1,4 +1,4 @@
-use Rattle.transition_algebra.proofs.Running.{done_over}
+use Rattle.transition_algebra.proofs.Finished.{done_over}
 use Rattle.transition_algebra.proofs.heap_job.HeapJob.work.Goals as goal
 
 pub returns-clause-done : goal.returns-clause-done

@@ -1,4 +1,4 @@
-use Rattle.transition_algebra.proofs.Running.{new_trial}
+use Rattle.transition_algebra.proofs.Finished.{new_trial}
 use Rattle.transition_algebra.proofs.trial.Trial.new.Goals as goal
 
 pub returns-clause-trial : goal.returns-clause-trial

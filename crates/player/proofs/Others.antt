@@ -165,7 +165,7 @@ module _ (c : Certificate) (yes_to : Accepted c) (X : List ℕ) (position : IsPo
       (value_in IsHeap C m el (remove X i) (others_in i))
 
   module _ (i n y : ℕ) (there : i < length X) (is : n ≡ get_or X i n)
-      (beside : y ≡ value C (remove X i)) where
+      (others : y ≡ value C (remove X i)) where
     one_heap : 1 ≤ n
     one_heap = subst (λ v. 1 ≤ v) (sym is) (heap_at X i n there position)
 
@@ -180,7 +180,7 @@ module _ (c : Certificate) (yes_to : Accepted c) (X : List ℕ) (position : IsPo
 
     puts_is : (H : List ℕ) → HeapOption c.code n H
         → puts c y H ≡ C.portion (value C (H ++ remove X i))
-    puts_is H o = ap (λ v. C.portion (C.times v (value C H))) beside
+    puts_is H o = ap (λ v. C.portion (C.times v (value C H))) others
         ∙ ap C.portion (sym (made_value i n H one_heap o))
 
     made_in : (H : List ℕ) → HeapOption c.code n H → IsPosition IsHeap (H ++ remove X i)
@@ -219,13 +219,13 @@ heap_of code X m H Y move =
 -- heap has one
 pub first_of_all : (c : Certificate) (yes_to : Accepted c) (X : List ℕ)
     (position : IsPosition IsHeap X) (i n y : ℕ) (there : i < length X) (is : n ≡ get_or X i n)
-    (beside : y ≡ value (claim_of c) (remove X i))
+    (others : y ≡ value (claim_of c) (remove X i))
     → IsNonDecreasing X
     → ((k : ℕ) → k < i → (H : List ℕ) → IsWinningMove c.code X (get_or X k 0) H → ⊥)
     → (H : List ℕ) → IsFirstInto c n y H
     → IsFirstWin c.code X n H
-first_of_all c yes_to X position i n y there is beside rising_heaps none H into = (
-  puts_wins c yes_to X position i n y there is beside H into.option into.in_order into.here,
+first_of_all c yes_to X position i n y there is others rising_heaps none H into = (
+  puts_wins c yes_to X position i n y there is others H into.option into.in_order into.here,
   λ m L w before. elim before [
     | inl less ↦
         let inside = heap_of c.code X m L w.1.0 w.1.1 in
@@ -240,7 +240,7 @@ first_of_all c yes_to X position i n y there is beside rising_heaps none H into 
     | inr same ↦
         let w2 = subst (λ v. IsWinningMove c.code X v L) same.0 w in
         into.first L w2.1.1.allowed w2.0
-        (winning_puts c yes_to X position i n y there is beside L w2) same.1
+        (winning_puts c yes_to X position i n y there is others L w2) same.1
   ],
 )
 
@@ -258,13 +258,13 @@ pub none_more : (c : Certificate) (yes_to : Accepted c) (X : List ℕ)
     → ((H : List ℕ) → HeapOption c.code (get_or X i 0) H → IsNonDecreasing H → puts c y H ≡ false)
     → ((k : ℕ) → k < i → (H : List ℕ) → IsWinningMove c.code X (get_or X k 0) H → ⊥)
     → (k : ℕ) → k < i + 1 → (H : List ℕ) → IsWinningMove c.code X (get_or X k 0) H → ⊥
-none_more c yes_to X position i y there beside fails none k l H w = elim (dec_lt k i) [
+none_more c yes_to X position i y there others fails none k l H w = elim (dec_lt k i) [
   | yes a ↦ none k a H w
   | no a ↦
       let e : k ≡ i = omega arith in
       let n = get_or X i 0 in
       let w2 = subst (λ v. IsWinningMove c.code X (get_or X v 0) H) e w in
       let passes =
-      winning_puts c yes_to X position i n y there (get_or_default X i 0 n there) beside H w2 in
+      winning_puts c yes_to X position i n y there (get_or_default X i 0 n there) others H w2 in
       clash (puts c y H) passes (fails H w2.1.1.allowed w2.0)
 ]

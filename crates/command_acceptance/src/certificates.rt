@@ -1,30 +1,37 @@
 //! The sample certificates, and refused ones, by their names.
 
-/// A name and the bytes.
-pub static CERTIFICATES: [(&str, &str); 20] = [
-    (
-        "0.1.mqc",
-        "mqc 1\ncode 0.1\norder 2\nstart 2\nperiod 1\nphi 1 0\nportion 1\nwords 0:1\nrow 0 1\n\
-row 1 0\napart 0\nend\n",
-    ),
-    (
-        "0.3.mqc",
-        "mqc 1\ncode 0.3\norder 2\nstart 1\nperiod 2\nphi 1 0\nportion 1\nwords 0:1\nrow 0 1\n\
-row 1 0\napart 0\nend\n",
-    ),
-    (
-        "0.33.mqc",
-        "mqc 1\ncode 0.33\norder 6\nstart 1\nperiod 3\nphi 1 2 0\nportion 1 4\n\
+/// The quotients of 0.1, 0.3, 0.33 and 0.75.
+pub const OF_0_1: &str =
+    "mqc 1\ncode 0.1\norder 2\nstart 2\nperiod 1\nphi 1 0\nportion 1\nwords 0:1\nrow 0 1\n\
+row 1 0\napart 0\nend\n";
+
+pub const OF_0_3: &str =
+    "mqc 1\ncode 0.3\norder 2\nstart 1\nperiod 2\nphi 1 0\nportion 1\nwords 0:1\nrow 0 1\n\
+row 1 0\napart 0\nend\n";
+
+pub const OF_0_33: &str = "mqc 1\ncode 0.33\norder 6\nstart 1\nperiod 3\nphi 1 2 0\nportion 1 4\n\
 words 0:1 0:2 1:2 2:2 3:2\nrow 0 1 2 3 4 5\nrow 1 0 3 2 5 4\nrow 2 3 4 5 2 3\nrow 3 2 5 4 3 2\n\
-row 4 5 2 3 4 5\nrow 5 4 3 2 5 4\napart 0 1 1 0 4 0 0 4 0 2 0 1 0 1 0\nend\n",
-    ),
-    (
-        "0.75.mqc",
-        "mqc 1\ncode 0.75\norder 8\nstart 8\nperiod 2\nphi 1 2 1 2 3 2 3 2 4\nportion 1 7\n\
+row 4 5 2 3 4 5\nrow 5 4 3 2 5 4\napart 0 1 1 0 4 0 0 4 0 2 0 1 0 1 0\nend\n";
+
+pub const OF_0_75: &str =
+    "mqc 1\ncode 0.75\norder 8\nstart 8\nperiod 2\nphi 1 2 1 2 3 2 3 2 4\nportion 1 7\n\
 words 0:1 0:2 0:5 0:9 1:2 1:5 1:9\nrow 0 1 2 3 4 5 6 7\nrow 1 0 5 6 7 2 3 4\nrow 2 5 7 5 5 4 2 2\n\
 row 3 6 5 7 7 2 4 4\nrow 4 7 5 7 7 2 4 4\nrow 5 2 4 2 2 7 5 5\nrow 6 3 2 4 4 5 7 7\n\
-row 7 4 2 4 4 5 7 7\napart 0 1 1 3 1 1 0 0 0 0 0 0 4 2 1 2 2 0 1 3 3 0 1 1 0 5 0 0\nend\n",
-    ),
+row 7 4 2 4 4 5 7 7\napart 0 1 1 3 1 1 0 0 0 0 0 0 4 2 1 2 2 0 1 3 3 0 1 1 0 5 0 0\nend\n";
+
+/// A certificate for 0.75 that is right up to heap 8.
+pub const RIGHT_UP_TO_8: &str =
+    "mqc 1\ncode 0.75\norder 8\nstart 4\nperiod 2\nphi 1 2 1 2 3\nportion 1 6\n\
+words 0:1 0:2 0:5 1:2 1:5 2:2 4:2\nrow 0 1 2 3 4 5 6 7\nrow 1 0 4 5 2 3 7 6\nrow 2 4 6 4 7 2 2 4\n\
+row 3 5 4 6 2 7 7 6\nrow 4 2 7 2 6 4 4 2\nrow 5 3 2 7 4 6 6 7\nrow 6 7 2 7 4 6 6 7\n\
+row 7 6 4 6 2 7 7 6\napart 0 1 1 1 1 0 3 0 0 0 0 5 0 2 2 2 0 1 3 3 0 1 4 0 1 0 1 0\nend\n";
+
+/// A name and the bytes.
+static CERTIFICATES: [(&str, &str); 20] = [
+    ("0.1.mqc", OF_0_1),
+    ("0.3.mqc", OF_0_3),
+    ("0.33.mqc", OF_0_33),
+    ("0.75.mqc", OF_0_75),
     (
         "apart_none_separates.mqc",
         "mqc 1\ncode 0.3\norder 4\nstart 1\nperiod 2\nphi 1 2\nportion 1 3\nwords 0:1 0:2 1:2\n\
@@ -62,13 +69,7 @@ row 1 1\napart 0\nend\n",
         "mqc 1\ncode 0.33\norder 2\nstart 1\nperiod 3\nphi 1 1 0\nportion 1\nwords 0:1\nrow 0 1\n\
 row 1 0\napart 0\nend\n",
     ),
-    (
-        "outcome_right_up_to_heap_8.mqc",
-        "mqc 1\ncode 0.75\norder 8\nstart 4\nperiod 2\nphi 1 2 1 2 3\nportion 1 6\n\
-words 0:1 0:2 0:5 1:2 1:5 2:2 4:2\nrow 0 1 2 3 4 5 6 7\nrow 1 0 4 5 2 3 7 6\nrow 2 4 6 4 7 2 2 4\n\
-row 3 5 4 6 2 7 7 6\nrow 4 2 7 2 6 4 4 2\nrow 5 3 2 7 4 6 6 7\nrow 6 7 2 7 4 6 6 7\n\
-row 7 6 4 6 2 7 7 6\napart 0 1 1 1 1 0 3 0 0 0 0 5 0 2 2 2 0 1 3 3 0 1 4 0 1 0 1 0\nend\n",
-    ),
+    ("outcome_right_up_to_heap_8.mqc", RIGHT_UP_TO_8),
     (
         "outcome_without_moves.mqc",
         "mqc 1\ncode 0.31\norder 6\nstart 3\nperiod 2\nphi 1 2 0 1\nportion 1 4\n\
@@ -112,3 +113,13 @@ row 0 1 2 3\nrow 1 0 3 2\nrow 2 3 0 1\nrow 3 2 1 0\napart 0 0 0 0 0 0\nend\n",
 row 0 1 2 3\nrow 1 0 3 2\nrow 2 3 0 1\nrow 3 2 1 0\napart 0 1 1 0 0 2\nend\n",
     ),
 ];
+
+/// The bytes of the certificate of this name.
+pub fn sample(name: &str) -> Option<&'static [u8]> {
+    for (kept, text) in &CERTIFICATES {
+        if *kept == name {
+            return Some(text.as_bytes());
+        }
+    }
+    None
+}

@@ -1,15 +1,15 @@
 use Rattle.std.proofs.Common.{◌≡◌, ◌≤◌, ◌+◌, ◌*◌, length, subst}
-use Rattle.pair_closure.specs.Positions.{Speaks, IsMinimal}
+use Rattle.pair_closure.specs.Positions.{ShowsPairs, IsMinimal}
 use Rattle.pair_closure.proofs.Machine.{of_run}
-use Rattle.pair_closure.proofs.Positions.{speaks, minimal}
+use Rattle.pair_closure.proofs.Positions.{shows, minimal}
 use Rattle.pair_closure.specs.Progress.{retaken}
 use Rattle.pair_closure.specs.Calls.{IsLimited}
 use Rattle.pair_closure.proofs.Runs.{spent_le, limited}
-use Rattle.pair_closure.proofs.closure.Closure.speak.Goals as goal
+use Rattle.pair_closure.proofs.closure.Closure.shows_pairs.Goals as goal
 
-pub returns-clause-speaks : goal.returns-clause-speaks
-returns-clause-speaks g c =
-    subst (λ z. Speaks z.state) c.self.view_is (speaks _ (of_run _ c.self.invariant.0))
+pub returns-clause-shows : goal.returns-clause-shows
+returns-clause-shows g c =
+    subst (λ z. ShowsPairs z.state) c.self.view_is (shows _ (of_run _ c.self.invariant.0))
 
 pub returns-clause-minimal : goal.returns-clause-minimal
 returns-clause-minimal g c =

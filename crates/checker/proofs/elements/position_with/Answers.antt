@@ -2,15 +2,15 @@ use Rattle.std.proofs.Common.{◌∷◌, arith, length, ap, sym}
 use Rattle.checker.proofs.SpellLemmas.{element_fails, go_down, position_along, sizes_spelled}
 use Rattle.checker.specs.Turns.{keys_from}
 use Rattle.checker.proofs.SortLemmas.{rising_with}
-use Rattle.checker.proofs.elements.beside.Goals as goal
+use Rattle.checker.proofs.elements.position_with.Goals as goal
 
-pub spelled-requires-clause-down : goal.spelled-requires-clause-down
-spelled-requires-clause-down g c =
+pub position_of-requires-clause-down : goal.position_of-requires-clause-down
+position_of-requires-clause-down g c =
     go_down c.args.sheet.now c.words.result.now c.words.ensures.value
     c.words.ensures.lawful.in_ranges c.requires.canonical
 
-pub spelled-requires-clause-element_in : goal.spelled-requires-clause-element_in
-spelled-requires-clause-element_in g c =
+pub position_of-requires-clause-element_in : goal.position_of-requires-clause-element_in
+position_of-requires-clause-element_in g c =
     let e = ap length c.words.ensures.value in
     let n = c.words.ensures.lawful.in_ranges.words.0 in
     let b = c.requires.element in

@@ -4,7 +4,7 @@ use checker::Certified;
 
 /// What came of asking proposers.
 #[derive(Drop)]
-pub enum Asked {
+pub enum Reply {
     /// A certificate of the code.
     Found(Certified),
     /// A draft, but no certificate of the code.

@@ -1,6 +1,6 @@
 use Rattle.std.proofs.Common.{◌≡◌, ◌≤◌, ℕ, List, ◌++◌, length, IsPermutation}
 use Rattle.misere_theory.specs.Certificates.{Certificate, IsSpelled}
-use Rattle.checker.proofs.spelling.spelled.Given as goal
+use Rattle.checker.proofs.spelling.position_of.Given as goal
 
 abbrev pub invariant-loop-reached : goal.invariant-loop-reached
 invariant-loop-reached g l =

@@ -10,7 +10,7 @@ use native.Mathlib.Decide.{dec_lt}
 use Rattle.misere_theory.specs.Games.{IsHeap}
 use Rattle.misere_theory.specs.Quotients.{Represents}
 use Rattle.misere_theory.specs.Certificates.{Certificate, claim_of, key_of, InRanges, Accepted, pairs_with, pairs_from, TellsApart, LeastApart}
-use Rattle.misere_theory.proofs.Unique.{SameClaim, same_period, same_claim}
+use Rattle.misere_theory.proofs.SameClaims.{SameClaim, same_period, same_claim}
 use Rattle.misere_theory.proofs.Written.{entry_at}
 
 -- The numbers rise from low on and stay below q.

@@ -4,7 +4,7 @@ use Rattle.misere_theory.specs.Certificates.{IsSpelled}
 use Rattle.misere_theory.specs.Certificates.IsSpelled.{Zero}
 use Rattle.checker.specs.Spelled.{key_in}
 use Rattle.checker.proofs.SpellLemmas.{key_is, key_more}
-use Rattle.checker.proofs.spelling.spelled.Goals as goal
+use Rattle.checker.proofs.spelling.position_of.Goals as goal
 
 pub push-requires : goal.push-requires
 push-requires g c =

@@ -1,6 +1,6 @@
 use Rattle.std.proofs.Common.{◌≡◌, ◌-◌, length, subst, arith}
 use Rattle.octal_code.proofs.Spelled.{IsFilled, filled_more, filled_all, filled_code}
-use Rattle.octal_code.proofs.code.Code.spelled.Goals as goal
+use Rattle.octal_code.proofs.code.Code.from_text.Goals as goal
 
 pub loop-i-preserved : goal.loop-i-preserved
 loop-i-preserved c = let n = c.requires.short in

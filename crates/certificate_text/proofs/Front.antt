@@ -1,0 +1,116 @@
+-- The lines up to the period, read and written.
+use Rattle.std.proofs.Common.{◌≡◌, ℕ, ◌+◌, ◌-◌, ◌<◌, ◌≤◌, List, ◌∷◌, ◌++◌, Some, refl, ap, subst, ◌∙◌, arith, codes}
+use Rattle.std.specs.Fmt.{decimal}
+use Rattle.std.proofs.lemmas.Option.{some_pair_parts}
+use Rattle.misere_theory.specs.declared.TheConstants.{LARGEST_ORDER, MOST_ENTRIES}
+use Rattle.misere_theory.specs.Certificates.{IsOctalCode}
+use Rattle.octal_code.specs.Text.{code_text}
+use Rattle.certificate_text.specs.Reading.{◌>>=◌, fixed_at, field_at, code_line_at, front_at}
+use Rattle.certificate_text.proofs.Numbers.{bind_some, fixed_takes, fixed_again}
+use Rattle.certificate_text.proofs.Codes.{code_line_takes, code_line_again}
+use Rattle.certificate_text.proofs.Fields.{field_takes, field_again}
+
+-- ---- the lines up to the period
+
+abbrev field_text : List ℕ → ℕ → List ℕ → List ℕ
+field_text name x rest = name ++ (32 ∷ (decimal x ++ 10 ∷ rest))
+
+abbrev pub front_text : List ℕ → ℕ → ℕ → ℕ → List ℕ → List ℕ
+front_text code order start period rest =
+    codes "mqc 1\ncode "
+    ++ (code_text code
+    ++ (10 ∷ field_text (codes "order") order
+    (field_text (codes "start") start (field_text (codes "period") period rest))))
+
+pub record FrontFits (code : List ℕ) (order start period : ℕ) : Type 0 where
+  pub code_fits : IsOctalCode code
+  pub order_from : 2 ≤ order
+  pub order_below : order < LARGEST_ORDER + 1
+  pub start_from : 1 ≤ start
+  pub start_below : start < MOST_ENTRIES + 1
+  pub period_from : 1 ≤ period
+  pub period_below : period < MOST_ENTRIES + 2 - start
+
+pub front_takes : (bytes : List ℕ) (f : List ℕ × ℕ × ℕ × ℕ) (rest : List ℕ)
+    → front_at bytes ≡ Some (f, rest) → (bytes ≡ front_text f.0 f.1 f.2 f.3 rest)
+    × FrontFits f.0 f.1 f.2 f.3
+unfolding front_at
+front_takes bytes f rest e =
+    let a =
+    bind_some (fixed_at (codes "mqc 1\ncode ") bytes) (λ named. code_line_at named >>= λ code.
+    field_at (codes "order") 2 (LARGEST_ORDER + 1) code.1 >>= λ order.
+    field_at (codes "start") 1 (MOST_ENTRIES + 1) order.1 >>= λ start.
+    field_at (codes "period") 1 (MOST_ENTRIES + 2 - start.0) start.1 >>= λ period.
+    Some ((code.0, order.0, start.0, period.0), period.1)) (f, rest) e in
+    let b =
+    bind_some (code_line_at a.0) (λ code.
+    field_at (codes "order") 2 (LARGEST_ORDER + 1) code.1 >>= λ order.
+    field_at (codes "start") 1 (MOST_ENTRIES + 1) order.1 >>= λ start.
+    field_at (codes "period") 1 (MOST_ENTRIES + 2 - start.0) start.1 >>= λ period.
+    Some ((code.0, order.0, start.0, period.0), period.1)) (f, rest) a.2 in
+    let d =
+    bind_some (field_at (codes "order") 2 (LARGEST_ORDER + 1) b.0.1)
+    (λ order. field_at (codes "start") 1 (MOST_ENTRIES + 1) order.1 >>= λ start.
+    field_at (codes "period") 1 (MOST_ENTRIES + 2 - start.0) start.1 >>= λ period.
+    Some ((b.0.0, order.0, start.0, period.0), period.1)) (f, rest) b.2 in
+    let s =
+    bind_some (field_at (codes "start") 1 (MOST_ENTRIES + 1) d.0.1)
+    (λ start. field_at (codes "period") 1 (MOST_ENTRIES + 2 - start.0) start.1 >>= λ period.
+    Some ((b.0.0, d.0.0, start.0, period.0), period.1)) (f, rest) d.2 in
+    let p =
+    bind_some (field_at (codes "period") 1 (MOST_ENTRIES + 2 - s.0.0) s.0.1)
+    (λ period. Some ((b.0.0, d.0.0, s.0.0, period.0), period.1)) (f, rest) s.2 in
+    let bt = code_line_takes a.0 b.0.0 b.0.1 b.1 in
+    let dt = field_takes (codes "order") 2 (LARGEST_ORDER + 1) b.0.1 d.0.0 d.0.1 (omega arith)
+    (omega arith) d.1 in
+    let st = field_takes (codes "start") 1 (MOST_ENTRIES + 1) d.0.1 s.0.0 s.0.1 (omega arith)
+    (omega arith) s.1 in
+    let below : s.0.0 < MOST_ENTRIES + 1 = st.2 in
+    let pt = field_takes (codes "period") 1 (MOST_ENTRIES + 2 - s.0.0) s.0.1 p.0.0 p.0.1
+    (omega arith) (omega arith) p.1 in
+    let q = some_pair_parts (b.0.0, d.0.0, s.0.0, p.0.0) f p.0.1 rest p.2 in
+    let fields : b.0.1 ≡ field_text (codes "order") d.0.0
+    (field_text (codes "start") s.0.0 (field_text (codes "period") p.0.0 rest)) =
+    dt.0 ∙ ap (field_text (codes "order") d.0.0)
+    (st.0 ∙ ap (field_text (codes "start") s.0.0)
+    (pt.0 ∙ ap (field_text (codes "period") p.0.0) q.1)) in
+    let whole : bytes ≡ front_text b.0.0 d.0.0 s.0.0 p.0.0 rest =
+    fixed_takes (codes "mqc 1\ncode ") bytes a.0 a.1
+    ∙ ap (λ (t : List ℕ). codes "mqc 1\ncode " ++ t)
+    (bt.0 ∙ ap (λ (t : List ℕ). code_text b.0.0 ++ t) (ap (λ (t : List ℕ). 10 ∷ t) fields)) in
+    subst (λ (g : List ℕ × ℕ × ℕ × ℕ). (bytes ≡ front_text g.0 g.1 g.2 g.3 rest)
+    × FrontFits g.0 g.1 g.2 g.3) q.0 (
+      whole,
+      record {
+        code_fits = bt.1;
+        order_from = dt.1;
+        order_below = dt.2;
+        start_from = st.1;
+        start_below = st.2;
+        period_from = pt.1;
+        period_below = pt.2;
+      },
+    )
+
+pub front_again : (code : List ℕ) (order start period : ℕ) (rest : List ℕ)
+    → FrontFits code order start period → front_at (front_text code order start period rest)
+    ≡ Some ((code, order, start, period), rest)
+unfolding front_at
+front_again code order start period rest fits =
+    rw (
+      fixed_again (codes "mqc 1\ncode ")
+          (code_text code
+          ++ (10 ∷ field_text (codes "order") order
+          (field_text (codes "start") start (field_text (codes "period") period rest)))),
+      code_line_again code
+          (field_text (codes "order") order
+          (field_text (codes "start") start (field_text (codes "period") period rest)))
+          fits.code_fits,
+      field_again (codes "order") 2 (LARGEST_ORDER + 1) order
+          (field_text (codes "start") start (field_text (codes "period") period rest)) (omega arith)
+          fits.order_from fits.order_below,
+      field_again (codes "start") 1 (MOST_ENTRIES + 1) start
+          (field_text (codes "period") period rest) (omega arith) fits.start_from fits.start_below,
+      field_again (codes "period") 1 (MOST_ENTRIES + 2 - start) period rest (omega arith)
+          fits.period_from fits.period_below,
+    ) refl

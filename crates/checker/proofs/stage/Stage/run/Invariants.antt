@@ -1,0 +1,15 @@
+use Rattle.std.proofs.Common.{◌+◌, ◌-◌, ◌*◌, ◌≤◌, ℕ}
+use Rattle.checker.specs.Turns.{stage_of}
+use Rattle.checker.specs.Stages.{Stands, HasCome, phase_of}
+use Rattle.checker.proofs.stage.Stage.run.Given as goal
+
+abbrev pub invariant-stages : goal.invariant-stages
+invariant-stages g l = record {
+  stands : Stands l.fn.bytes l.fn.limit l.stage;
+  come : (spent : ℕ) → HasCome l.fn.bytes l.fn.limit spent l.fn.self
+      → HasCome l.fn.bytes l.fn.limit (spent + (l.initial.left - l.left)) l.stage;
+  spends : l.left ≤ l.initial.left;
+}
+
+abbrev pub decreases-stages : goal.decreases-stages
+decreases-stages g l = l.left * 10 + (9 - stage_of (phase_of l.stage))

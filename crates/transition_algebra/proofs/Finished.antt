@@ -1,0 +1,116 @@
+-- When all turns were made, how many they are, and however they are cut.
+use Rattle.std.proofs.Common.{◌≡◌, ℕ, ◌+◌, ◌-◌, ◌*◌, ◌<◌, ◌≤◌, ◌↔◌, ◌⊎◌, inl, inr, min, List, [], length, sym, ◌∙◌, ap, ap₂, subst, arith}
+use Rattle.std.specs.Prelude.{Result, Ok, Err, OnErr}
+use Rattle.std.specs.FinSet as set
+use Rattle.std.specs.Ordering.{nat_cmp}
+use native.Mathlib.Decide.{dec_le}
+use Rattle.misere_theory.specs.Games.{IsOctalCode}
+use Rattle.misere_theory.specs.Quotients.{Monoid}
+use Rattle.monoid_table.specs.Grids.{Grid, times_in}
+use Rattle.positions.specs.Walks.{begun, stages, stages_left}
+use Rattle.positions.specs.declared.walk.Untried.{Untried}
+use Rattle.positions.specs.declared.walk.Untried.TheVariants.{Everything, Splits}
+use Rattle.positions.specs.declared.walk.Walk.{Walk}
+use Rattle.transition_algebra.specs.Pretending.{Pretending, IsPretending}
+use Rattle.transition_algebra.specs.Heaps.{IsInto, bound_of, largest_part}
+use Rattle.transition_algebra.specs.Work.{opening, heap_cost, HeapWork, IsDone, worked}
+use Rattle.transition_algebra.specs.Trials.{IsTrial}
+use Rattle.transition_algebra.specs.declared.pair.Pair.{Pair}
+use Rattle.transition_algebra.specs.declared.trial.Trial.{Trial}
+use Rattle.transition_algebra.proofs.Cost.{cost_short}
+use Rattle.transition_algebra.proofs.Steps.{AreFirstHeapPairs}
+use Rattle.transition_algebra.proofs.Turning.{no_turn}
+use Rattle.transition_algebra.proofs.Running.{two_digits, square_small, stands_now, room, all_spent, all_to_come}
+
+-- all turns were made exactly where no heap is left
+pub done_over : (code : List ℕ) (table : Grid) (phi : Pretending) (t : Trial) (pairs : List Pair)
+    → IsTrial code table phi t pairs → (t.bound < t.walk.heap) ↔ (t.spent ≡ heap_cost code phi)
+done_over code table phi t pairs is =
+    let b = is.bound_is in (
+      λ l. all_spent code table phi t pairs is (omega arith),
+      λ e. elim (dec_le t.walk.heap (bound_of code phi)) [
+        | no h ↦ omega arith
+        | yes h ↦ absurd (let r = room code table phi t pairs is h in omega arith)
+      ],
+    )
+
+-- then the pairs are those of all heaps up to the bound
+pub finished : (code : List ℕ) (table : Grid) → Monoid table.order (times_in table)
+    → (phi : Pretending) → IsPretending phi → IsInto table phi → (t : Trial) (pairs : List Pair)
+    → IsTrial code table phi t pairs → t.spent ≡ heap_cost code phi
+    → AreFirstHeapPairs code table phi (bound_of code phi) pairs
+finished code table monoid phi pretending into t pairs is done =
+    let s = stands_now code table monoid phi pretending into t pairs is in
+    let over = (done_over code table phi t pairs is).1 done in
+    let e : t.walk.heap - 1 ≡ bound_of code phi = let a = s.at_most in let b = is.bound_is in
+    omega arith
+    in
+    subst (λ B. AreFirstHeapPairs code table phi B pairs) e s.made
+
+-- enough units for all turns
+pub all_units : (code : List ℕ) (phi : Pretending) (a s : ℕ) → IsOctalCode code → IsPretending phi
+    → s ≡ min (a + 18446744073709551615) (heap_cost code phi) → s ≡ heap_cost code phi
+all_units code phi a s octal pretending e =
+    let k = two_digits code octal in
+    let p = pretending.short in
+    let B : bound_of code phi ≤ 2066 = omega arith in
+    let r = cost_short code phi k.0 pretending in
+    let m = square_small (length code) (bound_of code phi) k.1 B in
+    omega arith
+
+-- nothing tried yet
+pub new_trial : (code : List ℕ) (table : Grid) (phi : Pretending) (b m : ℕ) (w : Walk)
+    (seen : set.FinSet nat_cmp) → b ≡ bound_of code phi → m ≡ largest_part phi → w ≡ begun 1 m
+    → seen ≡ set.empty
+    → IsTrial code table phi (record { bound = b; walk = w; seen = seen; spent = 0 }) []
+new_trial code table phi b m w seen bound most at_first none =
+    subst (λ v. IsTrial code table phi (record { bound = b; walk = v; seen = seen; spent = 0 }) [])
+    (sym at_first) (record {
+      bound_is = bound;
+      most_is = most;
+      away_in = omega arith;
+      untried_in = tt;
+      within = omega arith;
+      reached =
+          ap₂ (λ xs s. record { heap = 1; coming = xs; seen = s; pairs = [] })
+          (all_to_come code table phi 1) none
+          ∙ no_turn code table phi (opening code phi);
+    })
+
+-- a turn costs at least what the measure of stages gains
+pub measure_falls : (L n r a s t : ℕ) → L ≤ 17 → r ≤ n → s ≤ 2 * L + 1 → t ≤ 2 * L + 1
+    → (1 ≤ r) ⊎ (t < s) → a ≡ n - r → 40 * a + t < 40 * n + s
+measure_falls L n r a s t l few top top2 falls e = elim falls [
+  | inl some ↦ omega arith
+  | inr less ↦ omega arith
+]
+
+pub stages_few : (code : List ℕ) (t : Trial) → stages_left code t.walk ≤ 2 * length code + 1
+stages_few code t = few t.walk.untried
+  where
+    few : (stage : Untried) → 2 * (length code - t.walk.away) + stages stage ≤ 2 * length code + 1
+    few Everything = omega arith
+    few (Splits a) = omega arith
+
+-- what holds anyway holds on an error
+pub on_err : {T E P : Type 0} (r : Result T E) → P → OnErr r P
+on_err (Ok v) p = tt
+on_err (Err e) p = p
+
+worked_at : (job : HeapWork) (m n : ℕ) → m ≡ n
+    → ◌≡◌ {A = HeapWork} (record job { spent = m }) (record job { spent = n })
+worked_at job m n e = ap (λ k. record job { spent = k }) e
+
+-- however the units are cut
+pub worked-add : (job : HeapWork) (m n : ℕ) → worked job (m + n) ≡ worked (worked job m) n
+worked-add job m n = worked_at job _ _ (omega arith)
+
+pub ends : (job : HeapWork) (units : ℕ) → IsOctalCode job.code → IsPretending job.phi
+    → length job.code * (bound_of job.code job.phi * bound_of job.code job.phi) ≤ units
+    → IsDone (worked job units)
+ends job units octal pretending l = let r =
+    cost_short job.code job.phi (two_digits job.code octal).0 pretending in omega arith
+
+pub cost_at_most : (code : List ℕ) (phi : Pretending) → IsOctalCode code → IsPretending phi
+    → heap_cost code phi ≤ length code * (bound_of code phi * bound_of code phi)
+cost_at_most code phi octal pretending = cost_short code phi (two_digits code octal).0 pretending
