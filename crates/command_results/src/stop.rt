@@ -1,5 +1,5 @@
 //! What ends a run before anything is printed.
-ghost use Rattle.std.specs.Prelude.{◌≡◌, ◌≤◌};
+ghost use Rattle.std.specs.Prelude.{◌≡◌, ◌≤◌, ◌++◌};
 ghost use Rattle.command_results.specs.Stops.{stop_line, stop_status};
 ghost use Rattle.command_results.specs.Printers.{Tells, printer};
 ghost use Rattle.command_results.specs.declared.stop.Stop.TheVariants.{«Memory» as OutOfMemory};
@@ -43,13 +43,21 @@ impl Stop<'_> {
         ensures { Tells (printer (E.taken err.old) (E.failures err.old))
             (printer (E.taken err.new) (E.failures err.new)) (stop_line self.entry) }
     {
+        let (front, name, back) = self.pieces();
+        tell(err, front, name, back);
+    }
+
+    /// The line that is told, in three pieces.
+    fn pieces(&self) -> (&str, &str, &str)
+        ensures { stop_line self.now ≡ result.0.now ++ (result.1.now ++ result.2.now) }
+    {
         match self {
-            Stop::Read(name) => tell(err, "misere: cannot read ", name, "\n"),
-            Stop::Write => tell(err, "misere: cannot write\n", "", ""),
-            Stop::Memory => tell(err, "misere: out of memory\n", "", ""),
-            Stop::NotAPosition => tell(err, "misere: not a position\n", "", ""),
-            Stop::NotACode => tell(err, "misere: not a code\n", "", ""),
-            Stop::NotUtf8 => tell(err, "misere: a word isn't UTF-8\n", "", ""),
+            Stop::Read(name) => ("misere: cannot read ", name, "\n"),
+            Stop::Write => ("misere: cannot write\n", "", ""),
+            Stop::Memory => ("misere: out of memory\n", "", ""),
+            Stop::NotAPosition => ("misere: not a position\n", "", ""),
+            Stop::NotACode => ("misere: not a code\n", "", ""),
+            Stop::NotUtf8 => ("misere: a word isn't UTF-8\n", "", ""),
         }
     }
 }
