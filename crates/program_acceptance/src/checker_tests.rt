@@ -59,7 +59,7 @@ fn past_memory(alloc: Global, bytes: &[u8], limit: u32) -> (u64, u8, Option<usiz
 
 #[test]
 fn says_yes_or_memory(rt: HostRuntime) -> Result<(), Fail> {
-    let (n, number, order, has_refused) = past_memory(rt.alloc(), OF_0_33, 100);
+    let (n, number, order, has_refused) = past_memory(rt.alloc(), OF_0_33.as_bytes(), 100);
     assert!(rt; number == 0 && order == Some(6), "{number} at {n}");
     assert!(rt; !has_refused && n > 5 && n < 200, "{n}");
     Ok(())
@@ -88,7 +88,7 @@ fn past_memory_of_a_group(
 /// at.
 #[test]
 fn spends_a_unit_a_turn(rt: HostRuntime) -> Result<(), Fail> {
-    let run = ran(rt.alloc(), OF_0_33, 100, 1, 1)?;
+    let run = ran(rt.alloc(), OF_0_33.as_bytes(), 100, 1, 1)?;
     let (number, spent) = run.ended;
     assert_eq!(rt; number, 0);
     assert_eq!(rt; run.counted, spent);
@@ -99,7 +99,7 @@ fn spends_a_unit_a_turn(rt: HostRuntime) -> Result<(), Fail> {
 
 #[test]
 fn begins_again(rt: HostRuntime) -> Result<(), Fail> {
-    let run = ran(rt.alloc(), OF_0_33, 100, u64::MAX, 7)?;
+    let run = ran(rt.alloc(), OF_0_33.as_bytes(), 100, u64::MAX, 7)?;
     assert_eq!(rt; run.ended.0, 0);
     assert!(rt; run.begun == (GOING, 0));
     assert!(rt; run.ended_again == run.ended);

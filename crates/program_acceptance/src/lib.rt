@@ -1,4 +1,5 @@
-//! Tests of checks, verdicts, catalogues, playing and command lines, by public names alone.
+//! Tests of checks, verdicts, catalogues, playing, the desk, its script, devices, files, command
+//! lines, and the commands `check` and `play`, by public names alone.
 #![tactic(auto)]
 
 #[cfg(test)]
@@ -6,13 +7,27 @@ mod catalogue_tests;
 #[cfg(test)]
 mod certificates;
 #[cfg(test)]
+mod check_command_tests;
+#[cfg(test)]
 mod checker_tests;
 #[cfg(test)]
 mod command_line_tests;
 #[cfg(test)]
+mod command_results_tests;
+#[cfg(test)]
 mod cyclic;
 #[cfg(test)]
+mod desk_script_tests;
+#[cfg(test)]
+mod desk_tests;
+#[cfg(test)]
+mod devices_tests;
+#[cfg(test)]
+mod folders_tests;
+#[cfg(test)]
 mod jobs;
+#[cfg(test)]
+mod play_command_tests;
 #[cfg(test)]
 mod player_tests;
 #[cfg(test)]

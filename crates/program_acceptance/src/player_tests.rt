@@ -9,7 +9,7 @@ use std::test::Fail;
 const LARGE: u64 = 1_000_000_000_000_000_000;
 
 fn quotient(alloc: Global) -> Result<Certified, Fail> {
-    match check(alloc, OF_0_75, 1000) {
+    match check(alloc, OF_0_75.as_bytes(), 1000) {
         Ok(certified) => Ok(certified),
         Err(_) => Err(Fail::new("no certificate")),
     }

@@ -15,9 +15,9 @@ row 7 6 4 6 2 7 7 6\napart 0 1 1 1 1 0 3 0 0 0 0 5 0 2 2 2 0 1 3 3 0 1 4 0 1 0 1
 #[test]
 fn stays_within_the_bounds(rt: HostRuntime) -> Result<(), Fail> {
     for (bytes, limit, units, number, least, most) in [
-        (OF_0_3, 1u32, 1u64, 8u8, 1u64, 179u64),
-        (OF_0_3, 8, 1, 0, 14, 228),
-        (OF_0_75, 2048, 1, 0, 592, 49104),
+        (OF_0_3.as_bytes(), 1u32, 1u64, 8u8, 1u64, 179u64),
+        (OF_0_3.as_bytes(), 8, 1, 0, 14, 228),
+        (OF_0_75.as_bytes(), 2048, 1, 0, 592, 49104),
         (WRONG, 2048, 1000, 7, 1, 31312),
         (b"mqc 1\n", 2048, 1, 1, 1, 16),
     ] {
@@ -31,9 +31,9 @@ fn stays_within_the_bounds(rt: HostRuntime) -> Result<(), Fail> {
 #[test]
 fn costs_the_same_however_the_units_are_cut(rt: HostRuntime) -> Result<(), Fail> {
     for (bytes, units) in [
-        (OF_0_75, 1u64),
-        (OF_0_75, 7),
-        (OF_0_75, 1000),
+        (OF_0_75.as_bytes(), 1u64),
+        (OF_0_75.as_bytes(), 7),
+        (OF_0_75.as_bytes(), 1000),
         (WRONG, 1),
         (WRONG, 7),
         (WRONG, 1000),

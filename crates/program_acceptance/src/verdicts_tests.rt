@@ -39,7 +39,7 @@ fn end_of<A: Room + Copy, S: Source>(alloc: A, of_sink: Global, source: &mut S) 
 #[test]
 fn fails_where_the_source_does(rt: HostRuntime) -> Result<(), Fail> {
     for n in 0..240u64 {
-        let mut source = FailingSource::new(SlowSource::new(OF_0_33), n);
+        let mut source = FailingSource::new(SlowSource::new(OF_0_33.as_bytes()), n);
         let end = end_of(rt.alloc(), rt.alloc(), &mut source);
         let fails = n >= 1 && n <= 226;
         let wanted = if fails {
@@ -55,7 +55,12 @@ fn fails_where_the_source_does(rt: HostRuntime) -> Result<(), Fail> {
 /// The end where the sink takes a byte at a time and fails at one of them.
 fn end_at_a_byte(alloc: Global, n: u64) -> End {
     let mut sink = FailingSink::new(SlowSink::new(alloc), n);
-    let checked = check_stream(alloc, &mut MemorySource::new(OF_0_33), &mut sink, 1000);
+    let checked = check_stream(
+        alloc,
+        &mut MemorySource::new(OF_0_33.as_bytes()),
+        &mut sink,
+        1000,
+    );
     (checked, written(sink.within().bytes()))
 }
 
@@ -81,7 +86,7 @@ fn fails_where_the_sink_does(rt: HostRuntime) -> Result<(), Fail> {
 /// The end with one growth refused, and whether that growth came.
 fn rationed(alloc: Global, n: u64) -> (End, bool) {
     let ration = Ration::new(alloc, n);
-    let end = end_of(&ration, alloc, &mut MemorySource::new(OF_0_33));
+    let end = end_of(&ration, alloc, &mut MemorySource::new(OF_0_33.as_bytes()));
     (end, ration.has_refused())
 }
 
@@ -132,7 +137,7 @@ fn first_read(alloc: Global, text: &[u8]) -> Result<usize, StreamFault> {
 /// Each proper beginning of a certificate is no certificate.
 #[test]
 fn refuses_each_beginning(rt: HostRuntime) -> Result<(), Fail> {
-    for text in [OF_0_33, OF_0_75] {
+    for text in [OF_0_33.as_bytes(), OF_0_75.as_bytes()] {
         assert_eq!(rt; first_read(rt.alloc(), text)?, text.len());
         assert!(rt; begins_so(rt.alloc(), text, b"yes 0.")?);
     }
@@ -177,7 +182,7 @@ fn first_accepted(
 /// another game.
 #[test]
 fn refuses_each_change_of_a_byte(rt: HostRuntime) -> Result<(), Fail> {
-    for text in [OF_0_3, OF_0_33] {
+    for text in [OF_0_3.as_bytes(), OF_0_33.as_bytes()] {
         let behind = text.iter().skip(6).take_while(|b| **b != b'\n').count() + 7;
         assert_eq!(rt; first_accepted(rt.alloc(), text, 0, 6)?, None);
         assert_eq!(rt; first_accepted(rt.alloc(), text, behind, text.len())?, None);

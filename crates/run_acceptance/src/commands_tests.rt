@@ -1,14 +1,12 @@
 //! Each plan once: the status, and what is printed or told.
+use crate::certificates::OF_0_3;
+use allocation::Memory;
 use commands::run_plan;
 use folders::MemoryFolder;
 use requests::{CatalogueTask, Plan};
+use std::alloc::Global;
 use std::test::Fail;
 use streams::{MemorySink, MemorySource};
-
-/// The quotient of 0.3.
-const NIM: &str =
-    "mqc 1\ncode 0.3\norder 2\nstart 1\nperiod 2\nphi 1 0\nportion 1\nwords 0:1\nrow 0 1\nrow 1 0\n\
-apart 0\nend\n";
 
 /// A search of the least kind.
 const SEARCH: Plan<'static> = Plan::Solve {
@@ -71,7 +69,7 @@ static ROWS: [Row; 11] = [
         "order 2\ngenerators a=1\nrow 0 1\nrow 1 0\n",
         "",
     ),
-    (SEARCH, 0, NIM, ""),
+    (SEARCH, 0, OF_0_3, ""),
     (
         Plan::Desk { script: "steps" },
         0,
@@ -104,19 +102,37 @@ static ROWS: [Row; 11] = [
     ),
 ];
 
+/// A certificate, and a script that checks it.
+fn files(alloc: Global) -> Result<MemoryFolder, Memory> {
+    let mut folder = MemoryFolder::new(alloc);
+    folder.put("a.mqc", OF_0_3.as_bytes())?;
+    folder.put("steps", b"open 1 a.mqc 8\nwork 1 1 228\n".as_slice())?;
+    Ok(folder)
+}
+
+/// Whether the plan ends with this status, and this is printed and told.
+fn ends_so(
+    folder: &mut MemoryFolder,
+    alloc: Global,
+    plan: Plan<'static>,
+    status: u8,
+    printed: &str,
+    told: &str,
+) -> bool {
+    let (mut out, mut err) = (MemorySink::new(alloc), MemorySink::new(alloc));
+    let mut input = MemorySource::new(b"");
+    let ended = run_plan(alloc, plan, folder, &mut input, &mut out, &mut err);
+    ended == status && out.bytes() == printed.as_bytes() && err.bytes() == told.as_bytes()
+}
+
 #[test]
 fn does_what_is_planned(rt: HostRuntime) -> Result<(), Fail> {
-    let alloc = rt.alloc();
     for (plan, status, printed, told) in &ROWS {
-        let mut folder = MemoryFolder::new(alloc);
-        folder.put("a.mqc", NIM.as_bytes())?;
-        folder.put("steps", b"open 1 a.mqc 8\nwork 1 1 228\n".as_slice())?;
-        let (mut out, mut err) = (MemorySink::new(alloc), MemorySink::new(alloc));
-        let mut input = MemorySource::new(b"");
-        let ended = run_plan(alloc, *plan, &mut folder, &mut input, &mut out, &mut err);
-        assert_eq!(rt; out.bytes(), printed.as_bytes(), "of {plan:?}");
-        assert_eq!(rt; err.bytes(), told.as_bytes(), "of {plan:?}");
-        assert_eq!(rt; ended, *status, "of {plan:?}");
+        let mut folder = files(rt.alloc())?;
+        assert!(rt;
+            ends_so(&mut folder, rt.alloc(), *plan, *status, printed, told),
+            "of {plan:?}"
+        );
     }
     Ok(())
 }

@@ -1,7 +1,8 @@
 //! Whole runs: the words in, the exit status and what is printed out.
 mod fakes;
 
-use self::fakes::{EMPTY, ONE_ENTRY, SAMPLE, SMALLEST, Words, samples};
+use self::fakes::{EMPTY, ONE_ENTRY, Words, samples};
+use crate::certificates::{OF_0_3, OF_0_33};
 use command_results::{Stop, words_of};
 use devices::{FailingSink, FailingSource};
 use folders::{FileFault, MemoryFolder};
@@ -16,6 +17,15 @@ struct Ended {
     status: u8,
     out: MemorySink,
     err: MemorySink,
+}
+
+impl Ended {
+    /// Whether it ended with this status, and this was printed and told.
+    fn is(&self, status: u8, printed: &str, told: &str) -> bool {
+        self.status == status
+            && self.out.bytes() == printed.as_bytes()
+            && self.err.bytes() == told.as_bytes()
+    }
 }
 
 /// Runs the words between the bars, behind the program's name, in the folder.
@@ -70,18 +80,16 @@ repeat 2 from 1\n",
         ),
         ("present|a=b", 1, "refused 2 Unbounded\n"),
         ("present|", 1, "refused 1 Text\n"),
-        ("solve|0.3", 0, SMALLEST),
+        ("solve|0.3", 0, OF_0_3),
         ("solve|0.33|--heaps|2", 1, "gave up 2 Empty\n"),
         ("catalogue|x.json", 0, "0.3 order 2 start 1 period 2\n"),
-        ("catalogue|x.json|--get|0.3", 0, SMALLEST),
+        ("catalogue|x.json|--get|0.3", 0, OF_0_3),
         ("catalogue|x.json|--get|0.33", 1, "absent\n"),
         ("catalogue|x.json|--new", 0, ""),
     ];
     for (line, status, printed) in rows {
         let run = ran(rt.alloc(), line, &mut MemorySource::new(b""))?;
-        assert_eq!(rt; run.out.bytes(), printed.as_bytes(), "of {line}");
-        assert_eq!(rt; run.err.bytes(), b"".as_slice(), "of {line}");
-        assert_eq!(rt; run.status, status, "of {line}");
+        assert!(rt; run.is(status, printed, ""), "of {line}");
     }
     Ok(())
 }
@@ -122,9 +130,7 @@ fn refuses_words(rt: HostRuntime) -> Result<(), Fail> {
     ];
     for (line, status, told) in rows {
         let run = ran(rt.alloc(), line, &mut MemorySource::new(b""))?;
-        assert_eq!(rt; run.err.bytes(), told.as_bytes(), "of {line}");
-        assert_eq!(rt; run.out.bytes(), b"".as_slice(), "of {line}");
-        assert_eq!(rt; run.status, status, "of {line}");
+        assert!(rt; run.is(status, "", told), "of {line}");
     }
     Ok(())
 }
@@ -132,20 +138,11 @@ fn refuses_words(rt: HostRuntime) -> Result<(), Fail> {
 #[test]
 fn reads_standard_input(rt: HostRuntime) -> Result<(), Fail> {
     let alloc = rt.alloc();
-    let run = ran(alloc, "check", &mut MemorySource::new(SMALLEST.as_bytes()))?;
-    assert_eq!(rt;
-        run.out.bytes(),
-        b"yes 0.3 order 2 start 1 period 2\n".as_slice()
-    );
-    assert_eq!(rt; run.status, 0);
-    let mut input = FailingSource::new(MemorySource::new(SMALLEST.as_bytes()), 1);
+    let run = ran(alloc, "check", &mut MemorySource::new(OF_0_3.as_bytes()))?;
+    assert!(rt; run.is(0, "yes 0.3 order 2 start 1 period 2\n", ""));
+    let mut input = FailingSource::new(MemorySource::new(OF_0_3.as_bytes()), 1);
     let run = ran(alloc, "check", &mut input)?;
-    assert_eq!(rt;
-        run.err.bytes(),
-        b"misere: cannot read standard input\n".as_slice()
-    );
-    assert_eq!(rt; run.out.bytes(), b"".as_slice());
-    assert_eq!(rt; run.status, 3);
+    assert!(rt; run.is(3, "", "misere: cannot read standard input\n"));
     Ok(())
 }
 
@@ -170,8 +167,8 @@ fn tells_where_it_cannot_write(rt: HostRuntime) -> Result<(), Fail> {
             &mut out,
             &mut err,
         );
-        assert_eq!(rt; err.bytes(), b"misere: cannot write\n".as_slice());
-        assert_eq!(rt; status, 3);
+        let is_told = err.bytes() == b"misere: cannot write\n".as_slice();
+        assert!(rt; status == 3 && is_told, "of {} {}", words[1], words[2]);
     }
     Ok(())
 }
@@ -188,14 +185,8 @@ fn tells_files_that_fail(rt: HostRuntime) -> Result<(), Fail> {
     for (line, told) in rows {
         let mut folder = samples(rt.alloc(), 1)?;
         let run = ran_in(rt.alloc(), line, &mut folder, &mut MemorySource::new(b""))?;
-        assert_eq!(rt; run.err.bytes(), told.as_bytes(), "of {line}");
-        assert_eq!(rt; run.out.bytes(), b"".as_slice(), "of {line}");
-        assert_eq!(rt; run.status, 3, "of {line}");
-        assert_eq!(rt;
-            folder.bytes("x.json"),
-            Some(ONE_ENTRY.as_bytes()),
-            "of {line}"
-        );
+        let stays = folder.bytes("x.json") == Some(ONE_ENTRY.as_bytes());
+        assert!(rt; run.is(3, "", told) && stays, "of {line}");
     }
     Ok(())
 }
@@ -215,8 +206,8 @@ static CHANGES: [(&str, &str); 8] = [
 /// Whether the catalogue holds this, and the certificates are as they were.
 fn holds(folder: &MemoryFolder, held: &str) -> bool {
     folder.bytes("x.json") == Some(held.as_bytes())
-        && folder.bytes("0.3.mqc") == Some(SMALLEST.as_bytes())
-        && folder.bytes("0.33.mqc") == Some(SAMPLE.as_bytes())
+        && folder.bytes("0.3.mqc") == Some(OF_0_3.as_bytes())
+        && folder.bytes("0.33.mqc") == Some(OF_0_33.as_bytes())
 }
 
 #[test]
@@ -260,16 +251,14 @@ fn tells_usage(rt: HostRuntime) -> Result<(), Fail> {
         "show",
     ] {
         let run = ran(rt.alloc(), line, &mut MemorySource::new(b""))?;
-        assert!(rt; !run.err.bytes().is_empty(), "of {line}");
-        assert_eq!(rt; run.out.bytes(), b"".as_slice(), "of {line}");
-        assert_eq!(rt; run.status, 2, "of {line}");
+        let is_told = !run.err.bytes().is_empty() && run.out.bytes().is_empty();
+        assert!(rt; run.status == 2 && is_told, "of {line}");
     }
     for line in ["--help", "help", "check|--help"] {
         let run = ran(rt.alloc(), line, &mut MemorySource::new(b""))?;
         let text = str::from_utf8(run.out.bytes())?;
-        assert!(rt; text.contains("Usage: misere"), "of {line}");
-        assert_eq!(rt; run.err.bytes(), b"".as_slice(), "of {line}");
-        assert_eq!(rt; run.status, 0, "of {line}");
+        let is_help = text.contains("Usage: misere") && run.err.bytes().is_empty();
+        assert!(rt; run.status == 0 && is_help, "of {line}");
     }
     Ok(())
 }

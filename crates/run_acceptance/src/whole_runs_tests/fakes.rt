@@ -1,20 +1,12 @@
 //! Files in memory, and words that may be no text.
+use crate::certificates::{OF_0_3, OF_0_33};
 use allocation::Memory;
 use folders::MemoryFolder;
 use std::alloc::Global;
 use std::env::FillError;
 use std::rt::Env;
 
-/// The quotients of 0.3 and of 0.33.
-pub const SMALLEST: &str =
-    "mqc 1\ncode 0.3\norder 2\nstart 1\nperiod 2\nphi 1 0\nportion 1\nwords 0:1\nrow 0 1\nrow 1 0\n\
-apart 0\nend\n";
-
-pub const SAMPLE: &str = "mqc 1\ncode 0.33\norder 6\nstart 1\nperiod 3\nphi 1 2 0\nportion 1 4\n\
-words 0:1 0:2 1:2 2:2 3:2\nrow 0 1 2 3 4 5\nrow 1 0 3 2 5 4\nrow 2 3 4 5 2 3\nrow 3 2 5 4 3 2\n\
-row 4 5 2 3 4 5\nrow 5 4 3 2 5 4\napart 0 1 1 0 4 0 0 4 0 2 0 1 0 1 0\nend\n";
-
-/// The catalogue of the first.
+/// The catalogue of the quotient of 0.3.
 pub const ONE_ENTRY: &str =
     "{\"entries\":[{\"certificate\":\"mqc 1\\ncode 0.3\\norder 2\\nstart 1\\nperiod 2\\nphi 1 0\\n\
 portion 1\\nwords 0:1\\nrow 0 1\\nrow 1 0\\napart 0\\nend\\n\",\"code\":\"0.3\"}],\"version\":1}\n";
@@ -25,8 +17,8 @@ pub const EMPTY: &str = "{\"entries\":[],\"version\":1}\n";
 pub fn samples(alloc: Global, failing: u64) -> Result<MemoryFolder, Memory> {
     let mut folder = MemoryFolder::failing(alloc, failing);
     let files = [
-        ("0.3.mqc", SMALLEST),
-        ("0.33.mqc", SAMPLE),
+        ("0.3.mqc", OF_0_3),
+        ("0.33.mqc", OF_0_33),
         ("text_crlf.mqc", "mqc 1\r\n"),
         ("x.json", ONE_ENTRY),
     ];

@@ -1,27 +1,16 @@
 //! Proposers that lie, that learn nothing and that give nothing, and what a search tells them.
+use crate::certificates::{OF_0_3, OF_0_75};
 use allocation::Memory;
 use certificate::write;
-use checker::{Certified, Refusal};
+use checker::Refusal;
 use octal_code::Code;
 use quotient_finder::{GaveUp, Limits, Proposer, find};
 use std::alloc::Global;
 use std::test::Fail;
 use streams::MemorySink;
 
-/// The quotient of 0.3.
-const SMALL: &[u8] =
-    b"mqc 1\ncode 0.3\norder 2\nstart 1\nperiod 2\nphi 1 0\nportion 1\nwords 0:1\nrow 0 1\n\
-row 1 0\napart 0\nend\n";
-
-/// The quotient of 0.75.
-const RIGHT: &[u8] =
-    b"mqc 1\ncode 0.75\norder 8\nstart 8\nperiod 2\nphi 1 2 1 2 3 2 3 2 4\nportion 1 7\n\
-words 0:1 0:2 0:5 0:9 1:2 1:5 1:9\nrow 0 1 2 3 4 5 6 7\nrow 1 0 5 6 7 2 3 4\nrow 2 5 7 5 5 4 2 2\n\
-row 3 6 5 7 7 2 4 4\nrow 4 7 5 7 7 2 4 4\nrow 5 2 4 2 2 7 5 5\nrow 6 3 2 4 4 5 7 7\n\
-row 7 4 2 4 4 5 7 7\napart 0 1 1 3 1 1 0 0 0 0 0 0 4 2 1 2 2 0 1 3 3 0 1 1 0 5 0 0\nend\n";
-
 /// A claim about 0.75 that is right up to heap 8, and wrong from 9 on.
-const WRONG: &[u8] = b"mqc 1\ncode 0.75\norder 8\nstart 4\nperiod 2\nphi 1 2 1 2 3\nportion 1 6\n\
+const WRONG: &str = "mqc 1\ncode 0.75\norder 8\nstart 4\nperiod 2\nphi 1 2 1 2 3\nportion 1 6\n\
 words 0:1 0:2 0:5 1:2 1:5 2:2 4:2\nrow 0 1 2 3 4 5 6 7\nrow 1 0 4 5 2 3 7 6\nrow 2 4 6 4 7 2 2 4\n\
 row 3 5 4 6 2 7 7 6\nrow 4 2 7 2 6 4 4 2\nrow 5 3 2 7 4 6 6 7\nrow 6 7 2 7 4 6 6 7\n\
 row 7 6 4 6 2 7 7 6\napart 0 1 1 1 1 0 3 0 0 0 0 5 0 2 2 2 0 1 3 3 0 1 4 0 1 0 1 0\nend\n";
@@ -32,8 +21,8 @@ const ASKED: &[u8] = b"0.75";
 /// What a proposer answers when it is asked.
 #[derive(Clone, Copy)]
 enum Habit {
-    /// These bytes, each time.
-    Always(&'static [u8]),
+    /// This text, each time.
+    Always(&'static str),
     /// So many zeros, and one more each time.
     Longer(usize),
     /// No draft.
@@ -56,7 +45,7 @@ struct Counting {
 impl Counting {
     fn draft(&self) -> Result<Option<Vec<u8>>, Memory> {
         match self.habit {
-            Habit::Always(bytes) => Ok(Some(bytes.to_vec(self.alloc)?)),
+            Habit::Always(text) => Ok(Some(text.as_bytes().to_vec(self.alloc)?)),
             Habit::Longer(n) => Ok(Some(vec![in self.alloc; b'0'; n]?)),
             Habit::Never => Ok(None),
             Habit::Wanting => Err(Memory),
@@ -84,13 +73,8 @@ impl Proposer for Counting {
     }
 }
 
-/// A search through proposers of these habits, and their counts after it: how often each was asked
-/// and told, and the number that it was told last.
-fn searched(
-    alloc: Global,
-    habits: &[Habit],
-    rounds: u32,
-) -> Result<(Result<Certified, GaveUp>, Vec<u8>), Fail> {
+/// Proposers of these habits.
+fn proposers_of(alloc: Global, habits: &[Habit]) -> Result<Vec<Box<dyn Proposer>>, Memory> {
     let mut proposers: Vec<Box<dyn Proposer>> = Vec::new(alloc);
     for habit in habits {
         let counting = Counting {
@@ -102,19 +86,38 @@ fn searched(
         };
         proposers.push(Box::new(alloc, counting)?)?;
     }
+    Ok(proposers)
+}
+
+/// Whether these are the proposers' counts: how often each was asked and told, and the number that
+/// it was told last.
+fn have_counted(
+    alloc: Global,
+    proposers: &mut Vec<Box<dyn Proposer>>,
+    counts: &[u8],
+) -> Result<bool, Fail> {
+    let report = Code::read(b"0.1")?;
+    let mut counted = Vec::new(alloc);
+    for proposer in proposers.iter_mut() {
+        if let Some(told) = proposer.propose(&report)? {
+            counted.extend_from_slice(&told)?;
+        }
+    }
+    Ok(counted.as_slice() == counts)
+}
+
+/// Why a search through the proposers gives up, if it does.
+fn given_up(
+    alloc: Global,
+    proposers: &mut Vec<Box<dyn Proposer>>,
+    rounds: u32,
+) -> Result<Option<GaveUp>, Fail> {
+    let code = Code::read(ASKED)?;
     let limits = Limits {
         rounds,
         members: 100000,
     };
-    let found = find(alloc, &Code::read(ASKED)?, &mut proposers, limits);
-    let report = Code::read(b"0.1")?;
-    let mut counts = Vec::new(alloc);
-    for proposer in proposers.iter_mut() {
-        if let Some(told) = proposer.propose(&report)? {
-            counts.extend_from_slice(&told)?;
-        }
-    }
-    Ok((found, counts))
+    Ok(find(alloc, &code, proposers, limits).err())
 }
 
 #[test]
@@ -123,7 +126,7 @@ fn gives_up(rt: HostRuntime) -> Result<(), Fail> {
     let rows: [(&[Habit], u32, GaveUp, &[u8]); 10] = [
         (&none, 0, GaveUp::Empty, &[]),
         (&none, 3, GaveUp::Empty, &[]),
-        (&[Habit::Always(RIGHT)], 0, GaveUp::Rounds, &[0, 0, 0]),
+        (&[Habit::Always(OF_0_75)], 0, GaveUp::Rounds, &[0, 0, 0]),
         (&[Habit::Always(WRONG)], 3, GaveUp::Rounds, &[3, 3, 7]),
         (&[Habit::Never], 3, GaveUp::Empty, &[1, 0, 0]),
         (&[Habit::Never], 1, GaveUp::Empty, &[1, 0, 0]),
@@ -135,38 +138,48 @@ fn gives_up(rt: HostRuntime) -> Result<(), Fail> {
         ),
         (&[Habit::Wanting], 3, GaveUp::Memory, &[1, 0, 0]),
         (&[Habit::Longer(5_000_000)], 2, GaveUp::Rounds, &[2, 2, 1]),
-        (&[Habit::Always(SMALL)], 2, GaveUp::Rounds, &[2, 0, 0]),
+        (&[Habit::Always(OF_0_3)], 2, GaveUp::Rounds, &[2, 0, 0]),
     ];
     for (row, (habits, rounds, why, counts)) in rows.into_iter().enumerate() {
-        let (found, counted) = searched(rt.alloc(), habits, rounds)?;
-        match found {
-            Ok(_) => assert!(rt; false, "row {row} found"),
-            Err(gave_up) => assert_eq!(rt; gave_up, why, "row {row}"),
-        }
-        assert_eq!(rt; counted.as_slice(), counts, "row {row}");
+        let mut proposers = proposers_of(rt.alloc(), habits)?;
+        let gave_up = given_up(rt.alloc(), &mut proposers, rounds)?;
+        assert!(rt; gave_up == Some(why), "row {row}");
+        assert!(rt;
+            have_counted(rt.alloc(), &mut proposers, counts)?,
+            "row {row}"
+        );
     }
     Ok(())
+}
+
+/// Whether a search through the proposers finds the certificate of this text.
+fn finds(alloc: Global, proposers: &mut Vec<Box<dyn Proposer>>, text: &str) -> Result<bool, Fail> {
+    let code = Code::read(ASKED)?;
+    let limits = Limits {
+        rounds: 2,
+        members: 100000,
+    };
+    match find(alloc, &code, proposers, limits) {
+        Ok(certified) => {
+            let mut sink = MemorySink::new(alloc);
+            Ok(write(certified.cert(), &mut sink).is_ok() && sink.bytes() == text.as_bytes())
+        }
+        Err(_) => Ok(false),
+    }
 }
 
 #[test]
 fn finds_in_the_first_round(rt: HostRuntime) -> Result<(), Fail> {
     let habits = [
-        Habit::Always(b"x"),
-        Habit::Always(SMALL),
-        Habit::Always(RIGHT),
+        Habit::Always("x"),
+        Habit::Always(OF_0_3),
+        Habit::Always(OF_0_75),
         Habit::Always(WRONG),
     ];
-    let (found, counted) = searched(rt.alloc(), &habits, 2)?;
-    let mut sink = MemorySink::new(rt.alloc());
-    match found {
-        Ok(certified) => write(certified.cert(), &mut sink)?,
-        Err(_) => assert!(rt; false),
-    }
-    assert_eq!(rt; sink.bytes(), RIGHT);
-    assert_eq!(rt;
-        counted.as_slice(),
-        [1, 1, 1, 1, 0, 0, 1, 0, 0, 0, 0, 0].as_slice()
-    );
+    let counts: [u8; 12] = [1, 1, 1, 1, 0, 0, 1, 0, 0, 0, 0, 0];
+    let mut proposers = proposers_of(rt.alloc(), &habits)?;
+    assert!(rt; finds(rt.alloc(), &mut proposers, OF_0_75)?);
+    assert!(rt; have_counted(rt.alloc(), &mut proposers, &counts)?);
     Ok(())
 }
 
