@@ -89,7 +89,7 @@ impl<A: Room> Job<A> {
     pub fn again(&mut self)
         ensures { self.new ≡ record self.old { spent = 0; ended = None } }
     {
-        self.stage = Stage::Reading;
+        self.stage.set(Stage::Reading);
         self.spent = 0;
     }
 

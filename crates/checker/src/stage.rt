@@ -32,6 +32,15 @@ pub enum Stage<A: Room = Global> {
     Ended(Result<Certified<A>, Refusal<A>>),
 }
 
+impl<A: Room> Stage<A> {
+    /// Makes it this stage. What it was is dropped here, once for all callers.
+    pub fn set(&mut self, stage: Stage<A>)
+        ensures { self.new ≡ stage }
+    {
+        *self = stage;
+    }
+}
+
 impl<A: Room + Copy> Stage<A> {
     ghost use Rattle.checker.specs.Stages.{Stands, HasCome, Comes, phase_of, has_ended, ending, reached};
 
@@ -90,7 +99,7 @@ impl<A: Room + Copy> Stage<A> {
         self.go_on(left);
         if *left > 0 {
             let stage = std::mem::replace(self, Stage::Reading);
-            *self = stage.run(alloc, bytes, limit, left);
+            self.set(stage.run(alloc, bytes, limit, left));
         }
     }
 

@@ -4,7 +4,10 @@ use Rattle.std.proofs.lemmas.List.{length-map, length-drop, length-set, length-t
 use Rattle.std.proofs.lemmas.List.Edits.{fill_by_more}
 use Rattle.std.proofs.lemmas.Grind.{same_number_lists}
 use Rattle.std.proofs.lemmas.List.Elements.{All-map, All-head, All-tail}
+use Rattle.std.specs.Prelude.{Result, Ok, Err}
 use Rattle.misere_theory.specs.Games.{IsOctalCode}
+use Rattle.octal_code.specs.declared.fault.CodeFault.{CodeFault}
+use Rattle.octal_code.specs.declared.fault.CodeFault.TheVariants.{NotACode, TooLong}
 use Rattle.octal_code.specs.Digits.{IsCode}
 use Rattle.octal_code.specs.Text.{digit_byte, code_text, IsCodeText, IsLongCode, IsLongCodeText, IsNoCodeText}
 use Rattle.octal_code.specs.Spelling.{IsOctalByte, IsSpelling, digits_in}
@@ -211,3 +214,20 @@ filled_code bytes ds h l f = record {
 pub no_code : (bytes : List ℕ) → (IsSpelling bytes → ⊥) → IsNoCodeText bytes
 no_code bytes h =
     record { no_code = λ ds c. h (read_code bytes ds c).0; not_long = λ l. h (read_long bytes l).0 }
+
+-- a code is no fault, and faults differ
+pub code_is_no_fault : {X : Type 0} {x : X} {f : CodeFault} → Ok x ≡ Err f → ⊥
+code_is_no_fault e = absurd (cc)
+
+pub fault_is_no_code : {X : Type 0} {x : X} {f : CodeFault} → Err f ≡ Ok x → ⊥
+fault_is_no_code e = absurd (cc)
+
+pub same_code : {X : Type 0} {x y : X} → ◌≡◌ {A = Result X CodeFault} (Ok x) (Ok y) → x ≡ y
+same_code e = cc
+
+pub other_fault : {X : Type 0} {f g : CodeFault} → (f ≡ g → ⊥)
+    → ◌≡◌ {A = Result X CodeFault} (Err f) (Err g) → ⊥
+other_fault differ e = differ (cc)
+
+pub too_long_or_no_code : TooLong ≡ NotACode → ⊥
+too_long_or_no_code e = absurd (cc)

@@ -3,7 +3,7 @@ use Rattle.std.proofs.Common.{◌≡◌, ◌≢◌, ℕ, ◌+◌, ◌-◌, ◌*�
 use Rattle.std.proofs.lemmas.Bool.{cases_lt}
 use Rattle.std.specs.List.{AllZip, Contains, list_any}
 use Rattle.std.specs.List.Sorted.{IsPermutation}
-use Rattle.std.specs.Prelude.{Result, Err, IsErrAnd}
+use Rattle.std.specs.Prelude.{Result, Ok, Err, IsErrAnd}
 use Rattle.std.proofs.lemmas.Bool.Decides.{nat_tests}
 use Rattle.std.proofs.lemmas.Int.Digits.{number_after_ge}
 use Rattle.std.proofs.lemmas.List.{length-map, length-take}
@@ -216,3 +216,20 @@ not_too_many_fault e = absurd (cc)
 
 pub not_too_large_fault : TooLarge ≡ Memory → ⊥
 not_too_large_fault e = absurd (cc)
+
+-- a position is no fault, and faults differ
+pub ok_is_no_fault : {X : Type 0} {x : X} {fault : PositionFault} → Ok x ≡ Err fault → ⊥
+ok_is_no_fault e = absurd (cc)
+
+pub other_fault : {X : Type 0} {f g : PositionFault} → (f ≡ g → ⊥)
+    → ◌≡◌ {A = Result X PositionFault} (Err f) (Err g) → ⊥
+other_fault differ e = differ (cc)
+
+pub text_or_too_many : Text ≡ TooMany → ⊥
+text_or_too_many e = absurd (cc)
+
+pub text_or_too_large : Text ≡ TooLarge → ⊥
+text_or_too_large e = absurd (cc)
+
+pub too_many_or_too_large : TooMany ≡ TooLarge → ⊥
+too_many_or_too_large e = absurd (cc)

@@ -18,9 +18,10 @@ pub returns-then-left-gt0-clause-come : goal.returns-then-left-gt0-clause-come
 returns-then-left-gt0-clause-come g c =
     let going : has_ended c.args.self.now ≡ false = sym c.has_ended.ensures ∙ c.if-has_ended.false
     in
-    λ n h. come_on c.args.bytes.now c.args.limit n _ _ _ c.args.self.now c.go_on.new.self _
+    rw c.set.ensures
+    (λ n h. come_on c.args.bytes.now c.args.limit n _ _ _ c.args.self.now c.go_on.new.self _
     c.run.result going h (c.go_on.ensures.runs c.args.bytes.now c.args.limit)
-    c.replace-stage.ensures.value c.run.ensures.spends c.run.ensures.come
+    c.replace-stage.ensures.value c.run.ensures.spends c.run.ensures.come)
 
 pub returns-else-left-gt0-clause-stands : goal.returns-else-left-gt0-clause-stands
 returns-else-left-gt0-clause-stands g c =
