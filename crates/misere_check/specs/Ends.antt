@@ -1,34 +1,45 @@
--- How the check of one file ends: what was printed and told, and the status. This project's own.
-use Rattle.std.specs.Prelude.{◌≡◌, ℕ, Bool, List, [], ◌∷◌, Option, Some, None, codes}
-use Rattle.check_command.specs.Checks.{SaysOfFile}
-use Rattle.command_results.specs.Printers.{Printed, Printer, Tells, status_if}
-use Rattle.command_results.specs.Stops.{IsFileCause, stop_line, stop_status}
-use Rattle.command_results.specs.declared.stop.Stop.{Stop}
+-- How the check of standard input ends: what was printed and told, and the status. This project's
+-- own.
+use Rattle.std.specs.Prelude.{◌≡◌, ◌<◌, ◌⊎◌, ℕ, Bool, List, Option, codes, if◌then◌else◌}
+use Rattle.std.specs.Io.KnownBytes.{Appends}
+use Rattle.streams.specs.Stream.{AppendsSome}
+use Rattle.streams.specs.declared.fault.StreamFault.{StreamFault}
+use Rattle.streams.specs.declared.fault.StreamFault.TheVariants.{Read, Write, Memory}
+use Rattle.verdicts.specs.Streams.{WritesOfStream, WritesSomeOfStream}
 use Rattle.requests.specs.Requests.{default_limit}
 
--- the one file that the words name, behind the program's name
-unfoldable pub file_named : List (List ℕ) → Option (List ℕ)
-file_named (program ∷ file ∷ []) = Some file
-file_named _ = None
+-- Standard output or standard error: the bytes that it took, where they are known, and how often it
+-- failed.
+pub record Device : Type 0 where
+  pub taken : Option (List ℕ)
+  pub failures : ℕ
 
-abbrev pub usage : List ℕ
-usage = codes "usage: misere_check FILE\n"
+abbrev pub device : Option (List ℕ) → ℕ → Device
+device taken failures = record { taken = taken; failures = failures }
 
--- The verdict on the file was printed; or there is none, for a cause that is told.
-pub data Checks (file : List ℕ) (files : Option (List ℕ → Option (List ℕ))) (reads reads' : ℕ)
-    (out out' err err' : Printer) (status : ℕ) : Type 0 where
-  Done : (text : List ℕ) (well : Bool) → SaysOfFile files file default_limit text well
-      → Printed out out' err err' text (status_if well) status
-      → Checks file files reads reads' out out' err err' status
-  Stopped : (stop : Stop) → IsFileCause file reads reads' stop → out' ≡ out
-      → Tells err err' (stop_line stop) → status ≡ stop_status stop
-      → Checks file files reads reads' out out' err err' status
+-- the line that tells why there is no verdict
+abbrev pub cause : StreamFault → List ℕ
+cause Read = codes "misere: cannot read standard input\n"
+cause Write = codes "misere: cannot write\n"
+cause Memory = codes "misere: out of memory\n"
 
--- The file that the words name was checked; or they name none, or more, which is told.
-pub data Ends (words : List (List ℕ)) (files : Option (List ℕ → Option (List ℕ))) (reads reads' : ℕ)
-    (out out' err err' : Printer) (status : ℕ) : Type 0 where
-  Asked : (file : List ℕ) → file_named words ≡ Some file
-      → Checks file files reads reads' out out' err err' status
-      → Ends words files reads reads' out out' err err' status
-  Refused : file_named words ≡ None → out' ≡ out → Tells err err' usage → status ≡ 2
-      → Ends words files reads reads' out out' err err' status
+-- the line went out; or the device failed, and a beginning of the line did
+abbrev pub Tells : Device → Device → List ℕ → Type 0
+Tells before after line =
+    ((after.failures ≡ before.failures) × Appends before.taken after.taken line)
+    ⊎ ((before.failures < after.failures) × AppendsSome before.taken after.taken line)
+
+-- The verdict on all bytes that the input had left was printed, and the status is 0 for yes and 1
+-- for no; or a device failed or memory was wanting, which is told, with status 3.
+pub data Ends (left : Option (List ℕ)) (reads reads' : ℕ) (out out' err err' : Device)
+    (status : ℕ) : Type 0 where
+  Checked : (accepted : Bool)
+      → WritesOfStream left default_limit out.taken out'.taken accepted → err' ≡ err
+      → status ≡ (if accepted then 0 else 1) → Ends left reads reads' out out' err err' status
+  Unread : reads < reads' → out' ≡ out → Tells err err' (cause Read) → status ≡ 3
+      → Ends left reads reads' out out' err err' status
+  Unwritten : WritesSomeOfStream left default_limit out.taken out'.taken
+      → out.failures < out'.failures → Tells err err' (cause Write) → status ≡ 3
+      → Ends left reads reads' out out' err err' status
+  NoMemory : reads' ≡ reads → out' ≡ out → Tells err err' (cause Memory) → status ≡ 3
+      → Ends left reads reads' out out' err err' status

@@ -1,78 +1,45 @@
-//! The check of one file, from the words to the status.
-ghost use Rattle.std.specs.Prelude.{◌≡◌, Some, None, map};
-ghost use Rattle.std.specs.Option.{MatchOption};
-ghost use Rattle.command_results.specs.Printers.{printer};
-ghost use Rattle.misere_check.specs.Ends.{Checks, Ends, file_named};
+//! The check of standard input, from its bytes to the status.
+ghost use Rattle.std.specs.Prelude.{◌≡◌};
+ghost use Rattle.misere_check.specs.Ends.{Ends, cause, device};
 
-use check_command::check_file;
-use command_results::tell;
-use folders::Folder;
 use requests::DEFAULT_LIMIT;
 use std::alloc::Global;
-use std::convert::AsStr;
-use streams::Sink;
+use streams::{Sink, Source, StreamFault, write_whole};
+use verdicts::check_stream;
 
-/// The one file that the words name, the program's name first.
-fn file_of<T: AsStr>(words: &[T]) -> Option<&str>
-    ensures { MatchOption result (file_named (map T.text words.entry.now) ≡ None)
-        (λ file. file_named (map T.text words.entry.now) ≡ Some file.now) }
+/// The line that tells why there is no verdict.
+fn cause_of(fault: StreamFault) -> &'static str
+    ensures { result.now ≡ cause fault }
 {
-    if words.len() == 2 {
-        Some(words[1].as_str())
-    } else {
-        None
+    match fault {
+        StreamFault::Read => "misere: cannot read standard input\n",
+        StreamFault::Write => "misere: cannot write\n",
+        StreamFault::Memory => "misere: out of memory\n",
     }
 }
 
-/// Checks the file, prints the verdict or tells why there is none, and answers the status.
-fn check_named<F: Folder, W: Sink, E: Sink>(
+/// Checks standard input under the default limit, prints the verdict, and answers the exit status:
+/// 0 for yes, 1 for no, 3 where a device failed or memory was wanting, which is told on standard
+/// error. Where standard output fails, a beginning of the verdict was printed; after the other
+/// faults nothing was.
+pub fn run<R: Source, W: Sink, E: Sink>(
     alloc: Global,
-    name: &str,
-    folder: &mut F,
+    input: &mut R,
     out: &mut W,
     err: &mut E,
 ) -> u8
-    ensures checks { Checks name.now (F.files folder.old) (F.failed_reads folder.old)
-        (F.failed_reads folder.new)
-        (printer (W.taken out.old) (W.failures out.old))
-        (printer (W.taken out.new) (W.failures out.new))
-        (printer (E.taken err.old) (E.failures err.old))
-        (printer (E.taken err.new) (E.failures err.new)) result }
-    ensures kept { F.files folder.new ≡ F.files folder.old }
+    ensures { Ends (R.left input.old) (R.failures input.old) (R.failures input.new)
+        (device (W.taken out.old) (W.failures out.old))
+        (device (W.taken out.new) (W.failures out.new))
+        (device (E.taken err.old) (E.failures err.old))
+        (device (E.taken err.new) (E.failures err.new)) result }
 {
-    match check_file(alloc, name, DEFAULT_LIMIT, folder) {
-        Ok(said) => said.print(out, err),
-        Err(stop) => {
-            stop.tell(err);
-            stop.status()
-        }
-    }
-}
-
-/// Checks the one file that the words name, the program's name first, and answers the exit status:
-/// 0 for yes, 1 for no, 2 where they name none or more, 3 where a device failed or memory was
-/// wanting. The verdict is printed on standard output, or a beginning of it where that fails; why a
-/// run ended with 2 or 3 is told on standard error. No file is changed.
-pub fn run<F: Folder, W: Sink, E: Sink, T: AsStr>(
-    alloc: Global,
-    words: &[T],
-    folder: &mut F,
-    out: &mut W,
-    err: &mut E,
-) -> u8
-    ensures ends { Ends (map T.text words.now) (F.files folder.old) (F.failed_reads folder.old)
-        (F.failed_reads folder.new)
-        (printer (W.taken out.old) (W.failures out.old))
-        (printer (W.taken out.new) (W.failures out.new))
-        (printer (E.taken err.old) (E.failures err.old))
-        (printer (E.taken err.new) (E.failures err.new)) result }
-    ensures kept { F.files folder.new ≡ F.files folder.old }
-{
-    match file_of(words) {
-        Some(name) => check_named(alloc, name, folder, out, err),
-        None => {
-            tell(err, "usage: misere_check FILE\n", "", "");
-            2
+    match check_stream(alloc, input, out, DEFAULT_LIMIT) {
+        Ok(true) => 0,
+        Ok(false) => 1,
+        Err(fault) => {
+            let _ = write_whole(err, cause_of(fault).as_bytes());
+            3
         }
     }
 }

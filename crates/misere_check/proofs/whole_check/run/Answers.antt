@@ -1,10 +1,19 @@
-use Rattle.std.proofs.Common.{refl}
-use Rattle.misere_check.specs.Ends.Ends.{Asked, Refused}
+use Rattle.std.proofs.Common.{rules, ap, refl, subst, ◌∙◌}
+use Rattle.misere_check.specs.Ends.{Tells, device}
+use Rattle.misere_check.specs.Ends.Ends.{Checked}
+use Rattle.misere_check.proofs.Told.{stopped, tells}
 use Rattle.misere_check.proofs.whole_check.run.Goals as goal
 
-pub returns-in-Some-clause-ends : goal.returns-in-Some-clause-ends
-returns-in-Some-clause-ends g c =
-    Asked c.in-Some.name.now c.in-Some.ensures c.check_named.ensures.checks
+pub returns-in-Ok-true : goal.returns-in-Ok-true
+returns-in-Ok-true g c = Checked c.in-Ok-true.field-0 c.in-Ok-true.ensures.ok refl (search rules)
 
-pub returns-in-None-clause-ends : goal.returns-in-None-clause-ends
-returns-in-None-clause-ends g c = Refused c.in-None.ensures refl c.tell.ensures refl
+pub returns-in-Ok-false : goal.returns-in-Ok-false
+returns-in-Ok-false g c = Checked c.in-Ok-false.field-0 c.in-Ok-false.ensures.ok refl (search rules)
+
+pub returns-in-Err : goal.returns-in-Err
+returns-in-Err g c =
+    stopped _ _ _ _ _ _ _ c.in-Err.fault c.in-Err.ensures.write c.in-Err.ensures.write_cause
+    c.in-Err.ensures.read_cause
+    (λ u. ap (λ s. device (g.W.Sink.taken s) (g.W.Sink.failures s)) (c.in-Err.ensures.unwritten u))
+    (subst (Tells _ _) (c.as_bytes.ensures.value ∙ c.cause_of.ensures)
+    (tells _ _ _ _ c.write_whole.result _ c.write_whole.ensures.puts c.write_whole.ensures.cause))

@@ -1,0 +1,31 @@
+-- Why there is no verdict, and that it is told.
+use Rattle.std.proofs.Common.{◌≡◌, ◌<◌, ◌⊎◌, ℕ, Bool, List, Option, Result, Ok, Err, inl, inr, refl}
+use Rattle.std.specs.Prelude.{IsErrOf}
+use Rattle.streams.specs.Stream.{Counts, Puts}
+use Rattle.streams.specs.declared.fault.StreamFault.{StreamFault}
+use Rattle.streams.specs.declared.fault.StreamFault.TheVariants.{Read, Write, Memory}
+use Rattle.verdicts.specs.Streams.{CountsReads, WritesSomeOfStream}
+use Rattle.requests.specs.Requests.{default_limit}
+use Rattle.misere_check.specs.Ends.{Device, Ends, Tells, cause, device}
+use Rattle.misere_check.specs.Ends.Ends.{Unread, Unwritten, NoMemory}
+
+pub tells : {T E : Type 0} (a b : Option (List ℕ)) (m n : ℕ) (r : Result T E) (line : List ℕ)
+    → Puts a b r line → Counts m n r → Tells (device a m) (device b n) line
+tells a b m n (Ok t) line p q = inl (q, p)
+tells a b m n (Err e) line p q = inr (q, p)
+
+-- the call of the check ended with the fault
+abbrev pub EndsWith : StreamFault → StreamFault → Type 0
+EndsWith fault which = IsErrOf {T = Bool} (Err fault) which
+
+module _ (left : Option (List ℕ)) (reads reads' : ℕ) (out out' err err' : Device) where
+  pub stopped : (fault : StreamFault)
+      → (EndsWith fault Write → WritesSomeOfStream left default_limit out.taken out'.taken)
+      → (EndsWith fault Write → out.failures < out'.failures)
+      → CountsReads {T = Bool} reads reads' (Err fault)
+      → (EndsWith fault Read ⊎ EndsWith fault Memory → out' ≡ out) → Tells err err' (cause fault)
+      → Ends left reads reads' out out' err err' 3
+  stopped Read written failed counted same told = Unread counted (same (inl refl)) told refl
+  stopped Write written failed counted same told =
+      Unwritten (written refl) (failed refl) told refl
+  stopped Memory written failed counted same told = NoMemory counted (same (inr refl)) told refl
