@@ -31,6 +31,6 @@ pub use answers::{one_text_for_a_code, true_answers};
 pub use certified::Certified;
 pub use checking::check;
 pub use job::{Job, Progress};
-pub use outcome_search::Outcome;
+pub use positions::Outcome;
 pub use refusal::Refusal;
 pub use turns::{checks_end, turns_decide, verdicts_are_true};

@@ -4,8 +4,8 @@ use Rattle.checker.specs.Answers.{Answer, refused}
 use Rattle.checker.specs.Answers.Answer.{Yes, Text, Law, Word, Order, Period, Apart, Outcome, Limit, Memory}
 use Rattle.std.specs.Borrow.{Bor}
 use Rattle.misere_theory.specs.Certificates.{Certificate}
-use Rattle.outcome_search.specs.Outcomes.{HasOutcome}
-use Rattle.outcome_search.specs.declared.answer.Outcome.{Outcome as Told}
+use Rattle.positions.specs.Outcomes.{HasOutcome}
+use Rattle.positions.specs.declared.outcome.Outcome.{Outcome as Told}
 use Rattle.player.specs.Answers.{IsRightAnswer}
 use Rattle.player.specs.declared.answering.Answer.{Answer as Advice}
 use Rattle.checker.specs.declared.refusal.Refusal.{Refusal}

@@ -2,9 +2,9 @@
 use Rattle.std.proofs.Common.{◌≡◌, ◌≢◌, ℕ, ◌==◌, Bool, true, false, if◌then◌else◌, List, [], ◌∷◌, Option, Some, None, refl, sym, ◌∙◌, ap, subst, inl, inr, arith, suc}
 use Rattle.std.proofs.lemmas.Bool.{eqb-true, eq-eqb}
 use Rattle.misere_theory.proofs.Outcomes.{not_both}
-use Rattle.outcome_search.specs.Outcomes.{HasOutcome}
-use Rattle.outcome_search.specs.declared.answer.Outcome.{Outcome as Told}
-use Rattle.outcome_search.specs.declared.answer.Outcome.TheVariants.{P, N}
+use Rattle.positions.specs.Outcomes.{HasOutcome}
+use Rattle.positions.specs.declared.outcome.Outcome.{Outcome as Told}
+use Rattle.positions.specs.declared.outcome.Outcome.TheVariants.{P, N}
 use Rattle.checker.specs.Answers.{Answer}
 use Rattle.checker.specs.Answers.Answer.{Yes, Text, Law, Word, Order, Period, Apart, Outcome, Limit, Memory}
 use Rattle.checker.specs.JobViews.{JobView}

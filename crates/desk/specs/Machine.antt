@@ -2,8 +2,8 @@
 -- answered. This project's own. A check is known by two functions of its bytes and limit alone:
 -- what it costs, in units, and its verdict.
 use Rattle.std.specs.Prelude.{◌≡◌, ◌≢◌, ◌⊎◌, ℕ, ◌+◌, ◌≤◌, ◌==◌, nat_lt, Bool, true, false, if◌then◌else◌, List, Option, Some, None, min}
-use Rattle.outcome_search.specs.Outcomes.{HasOutcome}
-use Rattle.outcome_search.specs.declared.answer.Outcome.{Outcome}
+use Rattle.positions.specs.Outcomes.{HasOutcome}
+use Rattle.positions.specs.declared.outcome.Outcome.{Outcome}
 use Rattle.checker.specs.Answers.{Answer}
 use Rattle.checker.specs.Answers.Answer.{Yes, Memory}
 use Rattle.checker.specs.JobViews.{JobView}

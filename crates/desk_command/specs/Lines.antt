@@ -1,7 +1,7 @@
 -- The line of each reply. This project's own.
 use Rattle.std.specs.Prelude.{◌≡◌, ℕ, List, [], ◌∷◌, ◌++◌, codes, decimal}
-use Rattle.outcome_search.specs.declared.answer.Outcome.{Outcome}
-use Rattle.outcome_search.specs.declared.answer.Outcome.TheVariants.{P, N}
+use Rattle.positions.specs.declared.outcome.Outcome.{Outcome}
+use Rattle.positions.specs.declared.outcome.Outcome.TheVariants.{P, N}
 use Rattle.play_command.specs.Lines.{answer_line}
 use Rattle.verdicts.specs.Lines.{first_line}
 use Rattle.desk.specs.Machine.{Reply}

@@ -26,10 +26,10 @@ use Rattle.misere_theory.proofs.Sums.{move_smaller}
 use Rattle.misere_theory.proofs.Shuffles.{Shuffled, move_from_multiset, from_permutation}
 use Rattle.misere_theory.proofs.Shuffles.Shuffled.{Same, Under, Flip, Then}
 use Rattle.misere_theory.proofs.Reachables.{reached_on}
-use Rattle.outcome_search.specs.Outcomes.{HasOutcome}
+use Rattle.positions.specs.Outcomes.{HasOutcome}
 use Rattle.outcome_search.specs.Known.{known, IsUnknown}
 use Rattle.outcome_search.specs.Searching.{IsOnTheWay, IsSearch}
-use Rattle.outcome_search.specs.declared.answer.Outcome.{Outcome}
+use Rattle.positions.specs.declared.outcome.Outcome.{Outcome}
 use Rattle.outcome_search.specs.Settled.{Follows, IsSettledBy}
 use Rattle.outcome_search.proofs.Seen.{same_position, follows_right, follows_on}
 use Rattle.positions.specs.RisingLists.{rising_same}

@@ -18,7 +18,7 @@ use Rattle.misere_theory.specs.Plays.Reachable.{Already, After}
 use Rattle.misere_theory.proofs.Reachables.{reached_on}
 use Rattle.outcome_search.specs.Reached.{IsNext, AddsMoves}
 use Rattle.outcome_search.specs.Settled.{IsSettledBy}
-use Rattle.outcome_search.specs.declared.answer.Outcome.{Outcome}
+use Rattle.positions.specs.declared.outcome.Outcome.{Outcome}
 use Rattle.outcome_search.proofs.Heaps.{move_from_place}
 use Rattle.outcome_search.specs.Searching.{IsOnTheWay}
 use Rattle.outcome_search.proofs.Found.{rising_differ}

@@ -19,11 +19,11 @@ use Rattle.positions.specs.Options.{options_of}
 use Rattle.positions.specs.declared.left.Left.{Left}
 use Rattle.positions.specs.ListLaws.{nothing_in, only_in, itself_in}
 use Rattle.outcome_search.proofs.Heaps.{move_from_place}
-use Rattle.outcome_search.specs.Outcomes.{HasOutcome}
+use Rattle.positions.specs.Outcomes.{HasOutcome}
 use Rattle.outcome_search.specs.Settled.{Lists, Follows}
 use Rattle.outcome_search.specs.Known.{known, AreMistakes, HasSeen}
-use Rattle.outcome_search.specs.declared.answer.Outcome.{Outcome}
-use Rattle.outcome_search.specs.declared.answer.Outcome.TheVariants.{P, N}
+use Rattle.positions.specs.declared.outcome.Outcome.{Outcome}
+use Rattle.positions.specs.declared.outcome.Outcome.TheVariants.{P, N}
 use Rattle.outcome_search.specs.declared.look.Seen.{Seen}
 use Rattle.outcome_search.specs.declared.look.Seen.TheVariants.{Nothing, Loses, Wins, Unknown}
 

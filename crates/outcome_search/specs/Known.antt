@@ -6,8 +6,8 @@ use Rattle.std.specs.Map.{lookup}
 use Rattle.misere_theory.specs.Games.{Move, MultisetMove}
 use Rattle.positions.specs.Exact.{heaps_of}
 use Rattle.positions.specs.declared.left.Left.{Left}
-use Rattle.outcome_search.specs.declared.answer.Outcome.{Outcome}
-use Rattle.outcome_search.specs.declared.answer.Outcome.TheVariants.{P, N}
+use Rattle.positions.specs.declared.outcome.Outcome.{Outcome}
+use Rattle.positions.specs.declared.outcome.Outcome.TheVariants.{P, N}
 use Rattle.outcome_search.specs.declared.look.Seen.{Seen}
 use Rattle.outcome_search.specs.declared.look.Seen.TheVariants.{Nothing, Loses, Wins, Unknown}
 use Rattle.outcome_search.specs.Settled.{Lists}

@@ -1,4 +1,4 @@
-pub mod Outcomes
+pub mod Faults
 pub mod Settled
 pub mod Searching
 pub mod Known

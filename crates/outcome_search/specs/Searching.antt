@@ -5,9 +5,9 @@ use Rattle.std.specs.List.{AllPairs}
 use Rattle.std.specs.List.Sorted.{IsNonDecreasing}
 use Rattle.misere_theory.specs.Games.{measure}
 use Rattle.misere_theory.specs.Plays.{Reachable}
-use Rattle.outcome_search.specs.Outcomes.{HasOutcome}
+use Rattle.positions.specs.Outcomes.{HasOutcome}
 use Rattle.outcome_search.specs.Known.{known}
-use Rattle.outcome_search.specs.declared.answer.Outcome.{Outcome}
+use Rattle.positions.specs.declared.outcome.Outcome.{Outcome}
 use Rattle.outcome_search.specs.Settled.{Follows}
 
 -- a position on the way: it can be reached, and its heaps rise

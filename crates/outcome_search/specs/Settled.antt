@@ -2,8 +2,8 @@
 -- outcomes: Siegel, 'Combinatorial Game Theory', chapter V; such lists are this project's own.
 use Rattle.std.specs.Prelude.{ℕ, ◌≤◌, ◌⊎◌, List, length, Contains, IsPermutation}
 use Rattle.misere_theory.specs.Games.{Move}
-use Rattle.outcome_search.specs.declared.answer.Outcome.{Outcome}
-use Rattle.outcome_search.specs.declared.answer.Outcome.TheVariants.{P, N}
+use Rattle.positions.specs.declared.outcome.Outcome.{Outcome}
+use Rattle.positions.specs.declared.outcome.Outcome.TheVariants.{P, N}
 
 -- the list has Y with this outcome, whatever the order of its heaps
 abbrev pub Lists : List (List ℕ × Outcome) → List ℕ → Outcome → Type 0

@@ -1,12 +1,13 @@
 //! Outcomes of positions under misère play, found by search.
 #![tactic(auto)]
 
-mod answer;
+mod fault;
 mod look;
 mod memo;
 mod reach;
 mod search;
 mod settling;
 
-pub use answer::{Outcome, SearchFault};
+pub use fault::SearchFault;
+pub use positions::Outcome;
 pub use search::outcome;

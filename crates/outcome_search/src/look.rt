@@ -4,11 +4,10 @@ ghost use Rattle.outcome_search.specs.Known.{known, HasSeen, IsUnknown};
 ghost use Rattle.outcome_search.specs.Settled.{Follows};
 ghost use Rattle.positions.specs.Options.{options_of};
 
-use crate::answer::Outcome;
 use crate::memo::Memo;
 use allocation::{Memory, Room};
 use octal_code::Code;
-use positions::{Position, options, options_are_exact};
+use positions::{Outcome, Position, options, options_are_exact};
 
 /// What the options of a heap show.
 #[derive(Clone, Copy)]

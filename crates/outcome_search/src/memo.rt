@@ -5,10 +5,9 @@ ghost use Rattle.std.specs.Cmp.Lexicographic.{pointwise};
 ghost use Rattle.std.specs.Map.{keys_of};
 ghost use Rattle.outcome_search.specs.Known.{known};
 
-use crate::answer::Outcome;
 use allocation::{Memory, Room};
 use indexmap::IndexMap;
-use positions::Position;
+use positions::{Outcome, Position};
 use std::hash::{BuildHasherDefault, FoldHasher};
 use std::marker::Model;
 
@@ -21,7 +20,7 @@ pub(crate) struct Memo<A: Room> {
 
 impl<A: Room> Model for Memo<A> {
     ghost use Rattle.std.specs.Prelude.{ℕ, List};
-    ghost use Rattle.outcome_search.specs.declared.answer.Outcome.{Outcome};
+    ghost use Rattle.positions.specs.declared.outcome.Outcome.{Outcome};
 
     ghost Value = { List (List ℕ × Outcome) };
 

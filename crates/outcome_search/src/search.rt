@@ -1,15 +1,15 @@
 //! The search for an outcome.
 ghost use Rattle.std.specs.Prelude.{◌≡◌, IfOk};
 ghost use Rattle.misere_theory.specs.Plays.{MoreReachableThan};
-ghost use Rattle.outcome_search.specs.Outcomes.{HasOutcome};
+ghost use Rattle.positions.specs.Outcomes.{HasOutcome};
 ghost use Rattle.outcome_search.specs.Settled.{IsSettledBy};
 
-use crate::answer::{Outcome, SearchFault};
+use crate::fault::SearchFault;
 use crate::reach::reaches_more;
 use crate::settling::settle;
 use allocation::Room;
 use octal_code::Code;
-use positions::Position;
+use positions::{Outcome, Position};
 
 /// Through so many positions an outcome is searched before the positions are counted that can be
 /// reached.

@@ -2,16 +2,16 @@
 ghost use Rattle.std.specs.Prelude.{◌≡◌, [], ◌∷◌, ◌++◌, slice_index_or, IfOk, OnOk};
 ghost use Rattle.std.specs.List.Sorted.{IsNonDecreasing};
 ghost use Rattle.misere_theory.specs.Plays.{MoreReachableThan};
-ghost use Rattle.outcome_search.specs.Outcomes.{HasOutcome};
+ghost use Rattle.positions.specs.Outcomes.{HasOutcome};
 ghost use Rattle.outcome_search.specs.Searching.{IsSearch};
 ghost use Rattle.outcome_search.specs.Settled.{IsSettledBy};
 
-use crate::answer::{Outcome, SearchFault};
+use crate::fault::SearchFault;
 use crate::look::look;
 use crate::memo::Memo;
 use allocation::{Memory, Room};
 use octal_code::Code;
-use positions::Position;
+use positions::{Outcome, Position};
 
 /// What waits at the start: the position alone.
 fn begun<A: Room + Copy>(alloc: A, position: &Position<A>) -> Result<Vec<Position<A>, A>, Memory>

@@ -9,6 +9,6 @@ mod wins;
 
 pub use answering::Answer;
 pub use laws::right_answers_are_one;
-pub use outcome_search::Outcome;
 pub use play::{answer, looks, outcome, value};
 pub use positions::Options as Looks;
+pub use positions::Outcome;

@@ -4,7 +4,7 @@ ghost use Rattle.misere_theory.specs.Certificates.{claim_of};
 ghost use Rattle.misere_theory.specs.Games.{HeapOption};
 ghost use Rattle.misere_theory.specs.Plays.{LeftBefore};
 ghost use Rattle.misere_theory.specs.Quotients.{value};
-ghost use Rattle.outcome_search.specs.Outcomes.{HasOutcome};
+ghost use Rattle.positions.specs.Outcomes.{HasOutcome};
 ghost use Rattle.positions.specs.Exact.{heaps_of, IsInOrder};
 ghost use Rattle.positions.specs.Options.{options_up_to};
 ghost use Rattle.positions.specs.declared.left.Left.{Left};
@@ -15,8 +15,7 @@ use crate::answering::{Answer, answer_at};
 use crate::looking::looks_at;
 use allocation::Room;
 use checker::Certified;
-use outcome_search::Outcome;
-use positions::{Options, Position, options_are_exact};
+use positions::{Options, Outcome, Position, options_are_exact};
 use std::alloc::Allocator;
 
 /// The element of the quotient that is the position's: the product of its heaps' elements.

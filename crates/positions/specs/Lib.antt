@@ -7,6 +7,7 @@ pub mod RisingLists
 pub mod OptionLaws
 pub mod Positions
 pub mod Moves
+pub mod Outcomes
 pub mod Hashes
 pub mod Text
 pub mod Surveys

@@ -1,10 +1,11 @@
-//! Positions of octal games, the options of their heaps, and moves.
+//! Positions of octal games, the options of their heaps, moves, and what an outcome is.
 #![tactic(auto)]
 
 mod fault;
 mod left;
 mod listing;
 mod moves;
+mod outcome;
 mod position;
 mod reading;
 mod survey;
@@ -15,5 +16,6 @@ pub use fault::PositionFault;
 pub use left::{Left, LeftHeaps};
 pub use listing::{options, options_are_exact, options_up_to};
 pub use moves::{Move, MoveFault, apply, is_option};
+pub use outcome::Outcome;
 pub use position::{INLINE, LARGEST, MOST, Position};
 pub use walk::{Options, Untried, Walk};

@@ -1,7 +1,6 @@
 //! Groups of sampled positions.
 use allocation::Memory;
-use outcome_search::Outcome;
-use positions::Position;
+use positions::{Outcome, Position};
 use std::alloc::Global;
 
 /// The letters of the kinds of heaps.

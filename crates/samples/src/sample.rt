@@ -5,8 +5,8 @@ use allocation::Memory;
 use drafts::Guess;
 use indexmap::IndexMap;
 use octal_code::Code;
-use outcome_search::{Outcome, SearchFault, outcome};
-use positions::Position;
+use outcome_search::{SearchFault, outcome};
+use positions::{Outcome, Position};
 use std::alloc::Global;
 use std::hash::{BuildHasherDefault, FoldHasher};
 

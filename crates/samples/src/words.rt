@@ -3,7 +3,7 @@ use crate::groups::{Groups, LETTERS};
 use allocation::Memory;
 use drafts::Guess;
 use monoid_table::Table;
-use outcome_search::Outcome;
+use positions::Outcome;
 use presentations::{Generator, Named, PresFault, Presentation, table_of};
 use std::alloc::Global;
 

@@ -7,7 +7,7 @@ use Rattle.misere_theory.specs.Certificates.{Certificate}
 use Rattle.misere_theory.specs.Games.{IsP, IsN}
 use Rattle.misere_theory.specs.Plays.{MoreReachableThan}
 use Rattle.outcome_search.specs.Settled.{IsSettledBy}
-use Rattle.outcome_search.specs.declared.answer.Outcome.TheVariants.{P, N}
+use Rattle.positions.specs.declared.outcome.Outcome.TheVariants.{P, N}
 use Rattle.checker.specs.Answers.{Answer, refused}
 use Rattle.checker.specs.Answers.Answer.{Yes, Text, Law, Word, Order, Period, Apart, Outcome, Limit, Memory}
 use Rattle.checker.specs.declared.refusal.Refusal.{Refusal}

@@ -8,8 +8,8 @@ use allocation::{Memory, Room};
 use certificate::Cert;
 use checker::{Certified, Refusal};
 use octal_code::Code;
-use outcome_search::{Outcome, SearchFault, outcome};
-use positions::Position;
+use outcome_search::{SearchFault, outcome};
+use positions::{Outcome, Position};
 
 /// The most positions through which the outcome of a refused position is searched.
 const BUDGET: u32 = 65536;

@@ -4,7 +4,7 @@ use Rattle.positions.specs.Exact.{heaps_of}
 use Rattle.positions.specs.Options.{options_of}
 use Rattle.outcome_search.proofs.Heaps.{option_fits, move_from_place}
 use Rattle.outcome_search.specs.Known.{known}
-use Rattle.outcome_search.specs.declared.answer.Outcome.TheVariants.{P, N}
+use Rattle.positions.specs.declared.outcome.Outcome.TheVariants.{P, N}
 use Rattle.outcome_search.proofs.Seen.{walked, wins_by, one_more, seen_all}
 use Rattle.outcome_search.proofs.look.look_at.Goals as goal
 

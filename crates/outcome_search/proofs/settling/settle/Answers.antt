@@ -1,9 +1,9 @@
 use Rattle.std.proofs.Common.{◌≡◌, ℕ, [], List, ap, get_or, sym, subst, arith, IfOk, Err}
 use Rattle.misere_theory.specs.Plays.{MoreReachableThan}
-use Rattle.outcome_search.specs.Outcomes.{HasOutcome}
+use Rattle.positions.specs.Outcomes.{HasOutcome}
 use Rattle.outcome_search.specs.Searching.{IsSearch}
 use Rattle.outcome_search.specs.Settled.{IsSettledBy}
-use Rattle.outcome_search.specs.declared.answer.SearchFault.TheVariants.{Budget}
+use Rattle.outcome_search.specs.declared.fault.SearchFault.TheVariants.{Budget}
 use Rattle.outcome_search.proofs.Found.{started, itself_reached}
 use Rattle.outcome_search.proofs.settling.settle.Goals as goal
 

@@ -1,18 +1,9 @@
-//! What a search answers.
+//! Why a search gives no answer.
 ghost use Rattle.std.specs.Prelude.{◌≡◌};
-ghost use Rattle.outcome_search.specs.Outcomes.{search_fault_number};
+ghost use Rattle.outcome_search.specs.Faults.{search_fault_number};
 
 use allocation::Memory;
 use std::alloc::{AllocError, AllocFailed};
-
-/// Who wins under misère play, where the player who makes the last move loses.
-#[derive(Clone, Copy, Debug, PartialEq, Eq)]
-pub enum Outcome {
-    /// The previous player, who has just moved.
-    P,
-    /// The next player, whose turn it is.
-    N,
-}
 
 /// Why a search gave no answer.
 #[derive(Clone, Copy, Debug, PartialEq, Eq)]
@@ -36,7 +27,7 @@ impl SearchFault {
 }
 
 impl From<Memory> for SearchFault {
-    ghost use Rattle.outcome_search.specs.declared.answer.SearchFault.{SearchFault};
+    ghost use Rattle.outcome_search.specs.declared.fault.SearchFault.{SearchFault};
 
     ghost from_gives = { λ _ fault. fault ≡ SearchFault.Memory };
 
@@ -46,7 +37,7 @@ impl From<Memory> for SearchFault {
 }
 
 impl From<AllocError> for SearchFault {
-    ghost use Rattle.outcome_search.specs.declared.answer.SearchFault.{SearchFault};
+    ghost use Rattle.outcome_search.specs.declared.fault.SearchFault.{SearchFault};
 
     ghost from_gives = { λ _ fault. fault ≡ SearchFault.Memory };
 
@@ -56,7 +47,7 @@ impl From<AllocError> for SearchFault {
 }
 
 impl<T: Drop> From<AllocFailed<T>> for SearchFault {
-    ghost use Rattle.outcome_search.specs.declared.answer.SearchFault.{SearchFault};
+    ghost use Rattle.outcome_search.specs.declared.fault.SearchFault.{SearchFault};
 
     ghost from_gives = { λ _ fault. fault ≡ SearchFault.Memory };
 
