@@ -25,8 +25,10 @@ returns-then-not-is_spelling-clause-too_long c = (
 
 pub returns-then-not-is_spelling-clause-not_a_code :
     goal.returns-then-not-is_spelling-clause-not_a_code
-returns-then-not-is_spelling-clause-not_a_code c =
-    (λ e. no_code c.args.text.now (iff_false c.is_spelling.ensures c.if-not-is_spelling.true), λ h. refl)
+returns-then-not-is_spelling-clause-not_a_code c = (
+  λ e. no_code c.args.text.now (iff_false c.is_spelling.ensures c.if-not-is_spelling.true),
+  λ h. refl,
+)
 
 pub returns-then-text-gt-LONGEST-clause-code : goal.returns-then-text-gt-LONGEST-clause-code
 returns-then-text-gt-LONGEST-clause-code c =
@@ -62,8 +64,11 @@ returns-clause-code c = λ ds. (
 )
 
 pub returns-clause-too_long : goal.returns-clause-too_long
-returns-clause-too_long c =
-    (λ e. absurd (code_is_no_fault e), λ h. absurd (let l = (read_long c.args.text.now h).1 in omega arith))
+returns-clause-too_long c = (
+  λ e. absurd (code_is_no_fault e),
+  λ h. absurd (let l = (read_long c.args.text.now h).1 in
+      omega arith),
+)
 
 pub returns-clause-not_a_code : goal.returns-clause-not_a_code
 returns-clause-not_a_code c = (
