@@ -27,5 +27,5 @@ module _ (left : Option (List ℕ)) (reads reads' : ℕ) (out out' err err' : De
       → Ends left reads reads' out out' err err' 3
   stopped Read written failed counted same told = Unread counted (same (inl refl)) told refl
   stopped Write written failed counted same told =
-      Unwritten (written refl) (failed refl) told refl
+      Unwritten counted (written refl) (failed refl) told refl
   stopped Memory written failed counted same told = NoMemory counted (same (inr refl)) told refl

@@ -29,16 +29,16 @@ Tells before after line =
     ((after.failures ≡ before.failures) × Appends before.taken after.taken line)
     ⊎ ((before.failures < after.failures) × AppendsSome before.taken after.taken line)
 
--- The verdict on all bytes that the input had left was printed, and the status is 0 for yes and 1
--- for no; or a device failed or memory was wanting, which is told, with status 3.
+-- No read failed, the verdict on all bytes that the input had left was printed, and the status is 0
+-- for yes and 1 for no; or a device failed or memory was wanting, which is told, with status 3.
 pub data Ends (left : Option (List ℕ)) (reads reads' : ℕ) (out out' err err' : Device)
     (status : ℕ) : Type 0 where
-  Checked : (accepted : Bool)
+  Checked : (accepted : Bool) → reads' ≡ reads
       → WritesOfStream left default_limit out.taken out'.taken accepted → err' ≡ err
       → status ≡ (if accepted then 0 else 1) → Ends left reads reads' out out' err err' status
   Unread : reads < reads' → out' ≡ out → Tells err err' (cause Read) → status ≡ 3
       → Ends left reads reads' out out' err err' status
-  Unwritten : WritesSomeOfStream left default_limit out.taken out'.taken
+  Unwritten : reads' ≡ reads → WritesSomeOfStream left default_limit out.taken out'.taken
       → out.failures < out'.failures → Tells err err' (cause Write) → status ≡ 3
       → Ends left reads reads' out out' err err' status
   NoMemory : reads' ≡ reads → out' ≡ out → Tells err err' (cause Memory) → status ≡ 3

@@ -5,10 +5,12 @@ use Rattle.misere_check.proofs.Told.{stopped, tells}
 use Rattle.misere_check.proofs.whole_check.run.Goals as goal
 
 pub returns-in-Ok-true : goal.returns-in-Ok-true
-returns-in-Ok-true g c = Checked c.in-Ok-true.field-0 c.in-Ok-true.ensures.ok refl (search rules)
+returns-in-Ok-true g c =
+    Checked c.in-Ok-true.field-0 c.in-Ok-true.ensures.read_cause c.in-Ok-true.ensures.ok refl (search rules)
 
 pub returns-in-Ok-false : goal.returns-in-Ok-false
-returns-in-Ok-false g c = Checked c.in-Ok-false.field-0 c.in-Ok-false.ensures.ok refl (search rules)
+returns-in-Ok-false g c =
+    Checked c.in-Ok-false.field-0 c.in-Ok-false.ensures.read_cause c.in-Ok-false.ensures.ok refl (search rules)
 
 pub returns-in-Err : goal.returns-in-Err
 returns-in-Err g c =
