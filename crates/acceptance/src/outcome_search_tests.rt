@@ -12,68 +12,73 @@ use std::test::Fail;
 /// The outcome of the position.
 fn outcome_of<A: Room + Copy>(
     alloc: A,
-    code: &Code,
-    text: &[u8],
+    code: &str,
+    text: &str,
     budget: u32,
 ) -> Result<Outcome, SearchFault> {
-    match Position::read(alloc, text) {
-        Ok(position) => outcome(alloc, code, &position, budget),
+    let Ok(code) = Code::read(code.as_bytes()) else {
+        return Err(SearchFault::Memory);
+    };
+    match Position::read(alloc, text.as_bytes()) {
+        Ok(position) => outcome(alloc, &code, &position, budget),
         Err(_) => Err(SearchFault::Memory),
     }
 }
 
+/// A code, a position, a budget, and what is found. From a heap of 2 in 0.33 the positions 2, 1 and
+/// none can be reached. In 0.3 each move takes 1: heaps of even size are N-positions, and the plays
+/// from a heap of n reach n + 1 positions, one after another, and each is needed. Each of the last
+/// two heaps has hundreds of splits, so that their splits make more positions than the budget
+/// allows.
+static ROWS: [(&str, &str, u32, Result<Outcome, SearchFault>); 15] = [
+    ("0.33", "0", 65536, Ok(Outcome::N)),
+    ("0.33", "1", 65536, Ok(Outcome::P)),
+    ("0.33", "1 1", 65536, Ok(Outcome::N)),
+    ("0.33", "2 2", 65536, Ok(Outcome::P)),
+    ("0.33", "1 2 2", 65536, Ok(Outcome::N)),
+    ("0.33", "2", 3, Ok(Outcome::N)),
+    ("0.33", "2", 0, Err(SearchFault::Budget)),
+    ("0.3", "100000", u32::MAX, Ok(Outcome::N)),
+    ("0.3", "1000", 500, Err(SearchFault::Budget)),
+    ("0.3", "1000", 1000, Err(SearchFault::Budget)),
+    ("0.3", "1000", 1001, Ok(Outcome::N)),
+    ("0.3", "2000", 1500, Err(SearchFault::Budget)),
+    ("0.3", "2000", 2000, Err(SearchFault::Budget)),
+    ("0.3", "2000", 2001, Ok(Outcome::N)),
+    (
+        "0.7777777777777777",
+        "94 416",
+        65536,
+        Err(SearchFault::Budget),
+    ),
+];
+
 #[test]
-fn finds_outcomes(rt: HostRuntime) -> Result<(), Fail> {
-    let code = Code::read(b"0.33")?;
-    let rows = [
-        ("0", Outcome::N),
-        ("1", Outcome::P),
-        ("1 1", Outcome::N),
-        ("2 2", Outcome::P),
-        ("1 2 2", Outcome::N),
-    ];
-    for (text, wanted) in rows {
-        let found = outcome_of(rt.alloc(), &code, text.as_bytes(), 65536);
-        assert!(rt; found == Ok(wanted), "of {text}");
+fn finds_outcomes(rt: HostRuntime) {
+    for (code, text, budget, wanted) in ROWS {
+        assert!(rt;
+            outcome_of(rt.alloc(), code, text, budget) == wanted,
+            "of {text} in {code}, {budget}"
+        );
     }
-    Ok(())
-}
-
-#[test]
-fn keeps_to_the_budget(rt: HostRuntime) -> Result<(), Fail> {
-    // From a heap of 2 the positions 2, 1 and none can be reached.
-    let code = Code::read(b"0.33")?;
-    assert!(rt; outcome_of(rt.alloc(), &code, b"2", 3) == Ok(Outcome::N));
-    assert!(rt; outcome_of(rt.alloc(), &code, b"2", 0) == Err(SearchFault::Budget));
-    Ok(())
-}
-
-#[test]
-fn plays_may_be_long(rt: HostRuntime) -> Result<(), Fail> {
-    // In 0.3 each move takes 1, so heaps of even size are N-positions.
-    let code = Code::read(b"0.3")?;
-    assert!(rt; outcome_of(rt.alloc(), &code, b"100000", u32::MAX) == Ok(Outcome::N));
-    Ok(())
 }
 
 /// Nine heaps of 10^18.
-const NINE: &[u8] =
-    b"1000000000000000000 1000000000000000000 1000000000000000000 1000000000000000000 \
+const NINE: &str =
+    "1000000000000000000 1000000000000000000 1000000000000000000 1000000000000000000 \
 1000000000000000000 1000000000000000000 1000000000000000000 1000000000000000000 \
 1000000000000000000";
 
 /// Nine heaps, so that each position that waits takes memory of its own.
 #[test]
-fn says_memory_on_a_large_position(rt: HostRuntime) -> Result<(), Fail> {
-    let code = Code::read(b"0.75")?;
+fn says_memory_on_a_large_position(rt: HostRuntime) {
     let ration = Ration::new(rt.alloc(), 10000);
-    let answer = outcome_of(&ration, &code, NINE, u32::MAX);
+    let answer = outcome_of(&ration, "0.75", NINE, u32::MAX);
     assert!(rt; answer == Err(SearchFault::Memory) && ration.has_refused());
-    Ok(())
 }
 
 /// Whether the position is found to be N, and whether the growth of this number was refused.
-fn find_with(alloc: Global, code: &Code, text: &[u8], refused: u64) -> (Result<bool, u8>, bool) {
+fn find_with(alloc: Global, code: &str, text: &str, refused: u64) -> (Result<bool, u8>, bool) {
     let ration = Ration::new(alloc, refused);
     let answer = match outcome_of(&ration, code, text, 65536) {
         Ok(outcome) => Ok(outcome == Outcome::N),
@@ -82,7 +87,7 @@ fn find_with(alloc: Global, code: &Code, text: &[u8], refused: u64) -> (Result<b
     (answer, ration.has_refused())
 }
 
-fn is_found_or_says_memory(rt: &impl Abort, alloc: Global, code: &Code, text: &[u8]) {
+fn is_found_or_says_memory(rt: &impl Abort, alloc: Global, code: &str, text: &str) {
     for n in 1..99u64 {
         let (answer, has_refused) = find_with(alloc, code, text, n);
         assert!(rt; is_fair(answer, has_refused), "at {n}");
@@ -95,57 +100,34 @@ fn is_found_or_says_memory(rt: &impl Abort, alloc: Global, code: &Code, text: &[
 
 /// A position within itself, and one of more heaps than fit there.
 #[test]
-fn answers_or_says_memory(rt: HostRuntime) -> Result<(), Fail> {
-    let code = Code::read(b"0.33")?;
-    is_found_or_says_memory(&rt, rt.alloc(), &code, b"1 2 2");
-    is_found_or_says_memory(&rt, rt.alloc(), &code, b"1 1 1 1 1 1 1 1 1 1 1 1");
-    Ok(())
+fn answers_or_says_memory(rt: HostRuntime) {
+    is_found_or_says_memory(&rt, rt.alloc(), "0.33", "1 2 2");
+    is_found_or_says_memory(&rt, rt.alloc(), "0.33", "1 1 1 1 1 1 1 1 1 1 1 1");
 }
 
-/// In 0.3 the plays from a heap of n reach n + 1 positions, one after another, and each is needed.
-#[test]
-fn remembers_no_more_than_the_budget(rt: HostRuntime) -> Result<(), Fail> {
-    let code = Code::read(b"0.3")?;
-    let budget = Err(SearchFault::Budget);
-    let rows: [(&[u8], u32, Result<Outcome, SearchFault>); 6] = [
-        (b"1000", 500, budget),
-        (b"1000", 1000, budget),
-        (b"1000", 1001, Ok(Outcome::N)),
-        (b"2000", 1500, budget),
-        (b"2000", 2000, budget),
-        (b"2000", 2001, Ok(Outcome::N)),
-    ];
-    for (heap, budget, wanted) in rows {
-        assert!(rt;
-            outcome_of(rt.alloc(), &code, heap, budget) == wanted,
-            "{budget}"
-        );
+/// The outcome of so many heaps of 1.
+fn outcome_of_ones(alloc: Global, code: &Code, count: u64) -> Result<Outcome, SearchFault> {
+    let mut position = Position::new(alloc);
+    for _ in 0..count {
+        position.push(1)?;
     }
-    Ok(())
-}
-
-/// Each of the two heaps has hundreds of splits, so that their splits make more positions than the
-/// budget allows.
-#[test]
-fn gives_up_soon(rt: HostRuntime) -> Result<(), Fail> {
-    let code = Code::read(b"0.7777777777777777")?;
-    assert!(rt; outcome_of(rt.alloc(), &code, b"94 416", 65536) == Err(SearchFault::Budget));
-    Ok(())
+    outcome(alloc, code, &position, u32::MAX)
 }
 
 /// In 0.3 each move takes 1, so a position is P where the sum of its heaps is odd.
 #[test]
 fn memory_suffices_for_many_heaps(rt: HostRuntime) -> Result<(), Fail> {
     let code = Code::read(b"0.3")?;
-    let mut position = Position::new(rt.alloc());
-    let mut wanted = Outcome::N;
-    for _ in 0..70u64 {
-        assert!(rt; outcome(rt.alloc(), &code, &position, u32::MAX) == Ok(wanted));
-        position.push(1)?;
-        wanted = match wanted {
-            Outcome::P => Outcome::N,
-            Outcome::N => Outcome::P,
+    for count in 0..70u64 {
+        let wanted = if count % 2 == 1 {
+            Outcome::P
+        } else {
+            Outcome::N
         };
+        assert!(rt;
+            outcome_of_ones(rt.alloc(), &code, count) == Ok(wanted),
+            "of {count} heaps"
+        );
     }
     Ok(())
 }

@@ -154,21 +154,6 @@ fn add_with(alloc: Global, refused: u64) -> (Result<bool, u8>, bool) {
     (answer, ration.has_refused())
 }
 
-#[test]
-fn adds_or_says_memory(rt: HostRuntime) {
-    for n in 1..99u64 {
-        let (answer, has_refused) = add_with(rt.alloc(), n);
-        assert!(rt;
-            is_fair(answer, has_refused) && (answer.is_err() || n > 1),
-            "at {n}"
-        );
-        if !has_refused {
-            return;
-        }
-    }
-    panic!(rt; "growths go on");
-}
-
 fn moved<A: Room + Copy>(alloc: A, code: &Code) -> Result<Position<A>, MoveFault> {
     let mut position = Position::new(alloc);
     for _ in 0..8u64 {
@@ -192,22 +177,6 @@ fn move_with(alloc: Global, code: &Code, refused: u64) -> (Result<bool, u8>, boo
     (answer, ration.has_refused())
 }
 
-#[test]
-fn moves_or_says_memory(rt: HostRuntime) -> Result<(), Fail> {
-    let code = Code::read(b"0.75")?;
-    for n in 1..99u64 {
-        let (answer, has_refused) = move_with(rt.alloc(), &code, n);
-        assert!(rt;
-            is_fair(answer, has_refused) && (answer.is_err() || n > 1),
-            "at {n}"
-        );
-        if !has_refused {
-            return Ok(());
-        }
-    }
-    Err(Fail::new("growths go on"))
-}
-
 /// Whether a text is read and written, and whether the growth of this number was refused.
 fn read_with(alloc: Global, refused: u64) -> (Result<bool, u8>, bool) {
     let ration = Ration::new(alloc, refused);
@@ -216,15 +185,26 @@ fn read_with(alloc: Global, refused: u64) -> (Result<bool, u8>, bool) {
 }
 
 #[test]
-fn reads_and_writes_or_says_memory(rt: HostRuntime) {
+fn answers_or_says_memory(rt: HostRuntime) -> Result<(), Fail> {
+    let code = Code::read(b"0.75")?;
     for n in 1..99u64 {
-        let (answer, has_refused) = read_with(rt.alloc(), n);
-        assert!(rt; is_fair(answer, has_refused), "at {n}");
-        if !has_refused {
-            return;
+        let (sum, of_sum) = add_with(rt.alloc(), n);
+        let (next, of_move) = move_with(rt.alloc(), &code, n);
+        let (text, of_text) = read_with(rt.alloc(), n);
+        assert!(rt;
+            is_fair(sum, of_sum) && (sum.is_err() || n > 1),
+            "sum at {n}"
+        );
+        assert!(rt;
+            is_fair(next, of_move) && (next.is_err() || n > 1),
+            "move at {n}"
+        );
+        assert!(rt; is_fair(text, of_text), "text at {n}");
+        if !of_sum && !of_move && !of_text {
+            return Ok(());
         }
     }
-    panic!(rt; "growths go on");
+    Err(Fail::new("growths go on"))
 }
 
 /// How long the text is.
@@ -260,15 +240,14 @@ fn memory_suffices_for_many_heaps(rt: HostRuntime) -> Result<(), Fail> {
     let mut position = Position::read(rt.alloc(), b"7 7 7 7 7 7 7 7 7")?;
     let mut count = 9usize;
     for _ in 0..14usize {
+        let length = written(&position);
+        let more = one_more(rt.alloc(), &position);
+        let moved = moved_on(rt.alloc(), &position);
+        let wanted = count.saturating_mul(2).saturating_sub(1);
         assert_eq!(rt;
-            written(&position),
-            Some(count.saturating_mul(2).saturating_sub(1))
+            (length, more, moved),
+            (Some(wanted), Ok(count.saturating_add(1)), Some(count))
         );
-        assert_eq!(rt;
-            one_more(rt.alloc(), &position),
-            Ok(count.saturating_add(1))
-        );
-        assert_eq!(rt; moved_on(rt.alloc(), &position), Some(count));
         position = position.add(&position)?;
         count = count.saturating_mul(2);
     }

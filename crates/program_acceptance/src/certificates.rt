@@ -1,4 +1,7 @@
-//! The sample certificates, and refused ones, by their names.
+//! The sample certificates, and refused ones, by their names, in folders, and what is said of them.
+use command_results::Said;
+use folders::MemoryFolder;
+use std::alloc::Global;
 
 /// The quotients of 0.1, 0.3, 0.33 and 0.75.
 pub const OF_0_1: &str =
@@ -122,4 +125,16 @@ pub fn sample(name: &str) -> Option<&'static [u8]> {
         }
     }
     None
+}
+
+/// A folder of this file, of which this call fails, from 1.
+pub fn folder_of(alloc: Global, name: &str, bytes: &[u8], failing: u64) -> Option<MemoryFolder> {
+    let mut folder = MemoryFolder::failing(alloc, failing);
+    folder.put(name, bytes).ok()?;
+    Some(folder)
+}
+
+/// Whether this is said, and well unless it is a no.
+pub fn is_said(said: &Said, text: &str) -> bool {
+    said.text.as_slice() == text.as_bytes() && said.well != text.starts_with("no")
 }

@@ -1,33 +1,18 @@
 //! The sample certificates, out of files and from standard input.
 mod games;
 
-use crate::certificates::sample;
-use check_command::{certified, check_file, check_input};
-use command_results::{Said, Stop};
-use devices::FailingSource;
-use folders::MemoryFolder;
+use crate::certificates::{folder_of, is_said, sample};
+use check_command::{check_file, check_input};
+use command_results::Said;
 use std::alloc::Global;
 use streams::MemorySource;
 
 const LIMIT: u32 = 100000;
 
-/// A folder of one sample, of which this call fails.
-fn folder_of(alloc: Global, name: &str, failing: u64) -> Option<MemoryFolder> {
-    let bytes = sample(name)?;
-    let mut folder = MemoryFolder::failing(alloc, failing);
-    folder.put(name, bytes).ok()?;
-    Some(folder)
-}
-
 /// Checks a sample. A second reading of it would fail.
 fn checked(alloc: Global, name: &str, limit: u32) -> Option<Said> {
-    let mut folder = folder_of(alloc, name, 2)?;
+    let mut folder = folder_of(alloc, name, sample(name)?, 2)?;
     check_file(alloc, name, limit, &mut folder).ok()
-}
-
-/// Whether this is said, and well where it is a yes.
-fn is_said(said: &Said, text: &str) -> bool {
-    said.text.as_slice() == text.as_bytes() && said.well == text.starts_with("yes")
 }
 
 /// Whether this is said of the sample.
@@ -65,28 +50,6 @@ fn answers_of_certificates(rt: HostRuntime) {
     }
 }
 
-/// The order of the quotient that the file certifies, or whether `no 8 Limit` is said of it.
-fn order_of(alloc: Global, folder: &mut MemoryFolder, limit: u32) -> Option<Result<u16, bool>> {
-    match certified(alloc, "0.33.mqc", limit, folder).ok()? {
-        Ok(certified) => Some(Ok(certified.cert().order())),
-        Err(text) => Some(Err(text.as_slice() == b"no 8 Limit\n".as_slice())),
-    }
-}
-
-/// The order under each of two limits.
-fn orders_of(alloc: Global, folder: &mut MemoryFolder) -> [Option<Result<u16, bool>>; 2] {
-    [order_of(alloc, folder, LIMIT), order_of(alloc, folder, 1)]
-}
-
-#[test]
-fn certifies_or_says_no(rt: HostRuntime) {
-    let Some(mut folder) = folder_of(rt.alloc(), "0.33.mqc", 0) else {
-        panic!(rt; "no folder");
-    };
-    let orders = orders_of(rt.alloc(), &mut folder);
-    assert!(rt; orders == [Some(Ok(6)), Some(Err(true))]);
-}
-
 /// Whether this is said of standard input.
 fn says_of_input(alloc: Global, bytes: &[u8], text: &str) -> bool {
     match check_input(alloc, LIMIT, &mut MemorySource::new(bytes)) {
@@ -108,38 +71,4 @@ fn reads_standard_input(rt: HostRuntime) {
     }
     let text = "yes 0.3 order 2 start 1 period 2\n";
     assert!(rt; says_of_input(rt.alloc(), bytes, text));
-}
-
-/// Whether a check stops at a file that can't be read.
-fn check_stops(alloc: Global) -> Option<bool> {
-    let mut folder = folder_of(alloc, "0.3.mqc", 1)?;
-    match check_file(alloc, "0.3.mqc", LIMIT, &mut folder) {
-        Ok(_) => Some(false),
-        Err(stop) => Some(stop == Stop::Read("0.3.mqc")),
-    }
-}
-
-/// Whether certifying stops at a file that can't be read.
-fn certifying_stops(alloc: Global) -> Option<bool> {
-    let mut folder = folder_of(alloc, "0.3.mqc", 1)?;
-    match certified(alloc, "0.3.mqc", LIMIT, &mut folder) {
-        Ok(_) => Some(false),
-        Err(stop) => Some(stop == Stop::Read("0.3.mqc")),
-    }
-}
-
-/// Whether a check stops at an input that can't be read.
-fn input_stops(alloc: Global) -> Option<bool> {
-    let mut input = FailingSource::new(MemorySource::new(sample("0.3.mqc")?), 1);
-    match check_input(alloc, LIMIT, &mut input) {
-        Ok(_) => Some(false),
-        Err(stop) => Some(stop == Stop::Read("standard input")),
-    }
-}
-
-#[test]
-fn stops_where_a_device_fails(rt: HostRuntime) {
-    assert!(rt; check_stops(rt.alloc()) == Some(true));
-    assert!(rt; certifying_stops(rt.alloc()) == Some(true));
-    assert!(rt; input_stops(rt.alloc()) == Some(true));
 }

@@ -1,19 +1,12 @@
-//! A certificate under each refused growth, the units of a job, and positions at which the rule
-//! fails.
+//! Certificates under each refused growth, and the largest ones.
 use crate::certificates::OF_0_33;
 use crate::cyclic::{cyclic, longest};
-use crate::jobs::{GOING, ran};
 use allocation::{Memory, Room};
 use checker::{Certified, Refusal, check};
 use ration::Ration;
 use std::alloc::Global;
 use std::test::Fail;
 use verdicts::verdict_text;
-
-/// A table of 0.3 in which 1 times 1 is 1: the rule fails at two heaps of 1, among others.
-static IDEMPOTENT: &[u8] =
-    b"mqc 1\ncode 0.3\norder 2\nstart 1\nperiod 2\nphi 1 0\nportion 1\nwords 0:1\nrow 0 1\n\
-row 1 1\napart 0\nend\n";
 
 /// The number of a verdict, 0 for a yes, and the order of a yes, or how many heaps the position has
 /// that a refusal hands out.
@@ -82,45 +75,6 @@ fn past_memory_of_a_group(
 ) -> Result<(u64, u8, Option<usize>, bool), Memory> {
     let text = cyclic(alloc, 16, but_the_last)?;
     Ok(past_memory(alloc, &text, 1000))
-}
-
-/// The reading, every triple, every key and every product of an element with an entry are looked
-/// at.
-#[test]
-fn spends_a_unit_a_turn(rt: HostRuntime) -> Result<(), Fail> {
-    let run = ran(rt.alloc(), OF_0_33.as_bytes(), 100, 1, 1)?;
-    let (number, spent) = run.ended;
-    assert_eq!(rt; number, 0);
-    assert_eq!(rt; run.counted, spent);
-    assert!(rt; spent >= 6 * 6 * 6 + 6 * 4 && spent < 2000, "{spent}");
-    assert!(rt; run.past == run.ended);
-    Ok(())
-}
-
-#[test]
-fn begins_again(rt: HostRuntime) -> Result<(), Fail> {
-    let run = ran(rt.alloc(), OF_0_33.as_bytes(), 100, u64::MAX, 7)?;
-    assert_eq!(rt; run.ended.0, 0);
-    assert!(rt; run.begun == (GOING, 0));
-    assert!(rt; run.ended_again == run.ended);
-    Ok(())
-}
-
-/// The name of a refusal.
-fn name_of(alloc: Global, bytes: &[u8], limit: u32) -> &'static str {
-    match &check(alloc, bytes, limit) {
-        Ok(_) => "",
-        Err(refusal) => refusal.name(),
-    }
-}
-
-#[test]
-fn hands_out_a_position(rt: HostRuntime) -> Result<(), Fail> {
-    let (number, heaps) = checked(rt.alloc(), IDEMPOTENT, 100);
-    assert_eq!(rt; number, 7);
-    assert!(rt; heaps.is_some());
-    assert_eq!(rt; name_of(rt.alloc(), IDEMPOTENT, 100), "Outcome");
-    Ok(())
 }
 
 /// The length of a verdict's text.

@@ -23,8 +23,10 @@ fn tells_each_stop(rt: HostRuntime) {
         (Stop::NotUtf8, 2, "misere: a word isn't UTF-8\n"),
     ];
     for (stop, status, line) in rows {
-        assert!(rt; is_told(rt.alloc(), stop, line), "of {line}");
-        assert!(rt; stop.status() == status, "of {line}");
+        assert!(rt;
+            is_told(rt.alloc(), stop, line) && stop.status() == status,
+            "of {line}"
+        );
     }
 }
 

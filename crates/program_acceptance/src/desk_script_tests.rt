@@ -1,7 +1,6 @@
 //! Scripts that are read whole, and lines that aren't steps.
-use allocation::{Memory, Room};
+use allocation::Room;
 use desk_script::{ScriptFault, Step, read_script};
-use positions::Position;
 use ration::Ration;
 use std::alloc::Global;
 
@@ -10,80 +9,66 @@ const ALL_KINDS: &[u8] =
     b"open 16 a/b.mqc 4294967295\nopen 1 0 0\nwork 1 4 18446744073709551615\nwork 2 1 0\ndrop 2 3\n\
 ask 3 2 2 1 2\nplay 4 1 0\n";
 
-/// What is asked in a position, in words of another order.
-fn asked(
-    alloc: Global,
-    position: &Position,
-    mark: char,
-    job: u8,
-    client: u8,
-) -> Result<String, Memory> {
-    let position = position.text()?;
-    Ok(format!(in alloc; "{position}{mark} {job} {client}")?)
-}
+/// A step: its kind, its client and its job, its limit or its units, its file, and its heaps.
+type Row = (char, u8, u8, u64, &'static str, &'static [u64]);
 
-/// The step in words of another order.
-fn told(alloc: Global, step: &Step<'_>) -> Result<String, Memory> {
-    let text = match step {
+/// Whether the step is this one.
+fn is_row(step: &Step<'_>, row: &Row) -> bool {
+    let (kind, of, at, number, name, heaps) = *row;
+    match step {
         Step::Open {
             client,
             file,
             limit,
-        } => format!(in alloc; "{limit} {file} {client}")?,
-        Step::Work { client, job, units } => format!(in alloc; "{units} {job} {client}")?,
-        Step::Drop { client, job } => format!(in alloc; "no {job} {client}")?,
+        } => kind == 'o' && *client == of && *file == name && *limit as u64 == number,
+        Step::Work { client, job, units } => {
+            kind == 'w' && (*client, *job) == (of, at) && *units == number
+        }
+        Step::Drop { client, job } => kind == 'd' && (*client, *job) == (of, at),
         Step::Ask {
             client,
             job,
             position,
-        } => asked(alloc, position, '?', *job, *client)?,
+        } => kind == '?' && (*client, *job) == (of, at) && position.heaps() == heaps,
         Step::Play {
             client,
             job,
             position,
-        } => asked(alloc, position, '!', *job, *client)?,
-    };
-    Ok(text)
-}
-
-/// Whether the step is told so.
-fn is_told(alloc: Global, step: &Step<'_>, row: &str) -> bool {
-    match told(alloc, step) {
-        Ok(text) => text.as_str() == row,
-        Err(_) => false,
+        } => kind == '!' && (*client, *job) == (of, at) && position.heaps() == heaps,
     }
 }
 
-/// Whether the steps are told so.
-fn are_told(alloc: Global, steps: &[Step<'_>], rows: &[&str]) -> bool {
+/// Whether the steps are these.
+fn are_rows(steps: &[Step<'_>], rows: &[Row]) -> bool {
     for (step, row) in steps.iter().zip(rows) {
-        if !is_told(alloc, step, row) {
+        if !is_row(step, row) {
             return false;
         }
     }
     steps.len() == rows.len()
 }
 
-/// Whether the script is read as steps that are told so.
-fn is_read_as(alloc: Global, script: &[u8], rows: &[&str]) -> bool {
+/// Whether the script is read as these steps.
+fn is_read_as(alloc: Global, script: &[u8], rows: &[Row]) -> bool {
     match read_script(alloc, script) {
-        Ok(steps) => are_told(alloc, &steps, rows),
+        Ok(steps) => are_rows(&steps, rows),
         Err(_) => false,
     }
 }
 
 #[test]
 fn reads_each_kind_of_step(rt: HostRuntime) {
-    let rows = [
-        "4294967295 a/b.mqc 16",
-        "0 0 1",
-        "18446744073709551615 4 1",
-        "0 1 2",
-        "no 3 2",
-        "1 2 2? 2 3",
-        "0! 1 4",
+    let rows: [Row; 7] = [
+        ('o', 16, 0, 4294967295, "a/b.mqc", &[]),
+        ('o', 1, 0, 0, "0", &[]),
+        ('w', 1, 4, 18446744073709551615, "", &[]),
+        ('w', 2, 1, 0, "", &[]),
+        ('d', 2, 3, 0, "", &[]),
+        ('?', 3, 2, 0, "", &[1, 2, 2]),
+        ('!', 4, 1, 0, "", &[]),
     ];
     assert!(rt; is_read_as(rt.alloc(), ALL_KINDS, &rows));
+    assert!(rt; is_read_as(rt.alloc(), b"", &[]));
 }
 
 /// How many steps the script has, or why it isn't read.
@@ -92,11 +77,6 @@ fn count_of<A: Room + Copy>(alloc: A, script: &[u8]) -> Result<usize, ScriptFaul
         Ok(steps) => Ok(steps.len()),
         Err(fault) => Err(fault),
     }
-}
-
-#[test]
-fn reads_no_step_in_an_empty_script(rt: HostRuntime) {
-    assert!(rt; count_of(rt.alloc(), b"") == Ok(0));
 }
 
 #[test]
@@ -136,7 +116,7 @@ fn tells_the_first_line_that_is_no_step(rt: HostRuntime) {
     ];
     for (script, line) in rows {
         let read = count_of(rt.alloc(), script);
-        assert!(rt; read == Err(ScriptFault::NotAStep(line)), "{read:?}");
+        assert!(rt; read == Err(ScriptFault::NotAStep(line)), "{line}");
     }
 }
 

@@ -1,9 +1,7 @@
-//! Scripts of a few clients, sixteen clients on one certificate, and want of memory at each growth.
-use crate::certificates::{OF_0_3, OF_0_33, OF_0_75, RIGHT_UP_TO_8};
+//! Two clients in turn, sixteen clients on one certificate, and want of memory at each growth.
+use crate::certificates::{OF_0_33, OF_0_75, RIGHT_UP_TO_8};
 use allocation::Room;
 use desk::{Client, Desk, Event, Reply};
-use player::{Answer, Outcome};
-use positions::{Left, Move, Position};
 use ration::Ration;
 use std::alloc::Global;
 use std::process::Abort;
@@ -14,20 +12,15 @@ enum Step {
     Open(&'static str, u32),
     Work(u8, u64),
     Drop(u8),
-    Ask(u8, &'static [u8]),
-    Play(u8, &'static [u8]),
 }
 
 /// What it is told; of a refusal its number. Nothing, where the step couldn't be made.
-#[derive(Clone, Copy, Debug, PartialEq, Eq)]
+#[derive(Clone, Copy, PartialEq, Eq)]
 enum Said {
     Opened(u8),
     Going,
     Yes,
     No(u8),
-    Dropped,
-    Outcome(Outcome),
-    Answer(Answer),
     Refused(u8),
     Nothing,
 }
@@ -38,15 +31,9 @@ fn told<A: Room>(reply: Reply<'_, A>) -> Said {
         Reply::Going => Said::Going,
         Reply::Yes(_) => Said::Yes,
         Reply::No(refusal) => Said::No(refusal.number()),
-        Reply::Dropped => Said::Dropped,
-        Reply::Outcome(outcome) => Said::Outcome(outcome),
-        Reply::Answer(answer) => Said::Answer(answer),
         Reply::Refused(fault) => Said::Refused(fault.number()),
+        Reply::Dropped | Reply::Outcome(_) | Reply::Answer(_) => Said::Nothing,
     }
-}
-
-fn position_of<A: Room + Copy>(alloc: A, text: &[u8]) -> Option<Position<A>> {
-    Position::read(alloc, text).ok()
 }
 
 /// The event of a step, made with memory of its own.
@@ -55,8 +42,6 @@ fn event_of<A: Room + Copy>(alloc: A, step: Step) -> Option<Event<A>> {
         Step::Open(text, limit) => Some(Event::Open(text.as_bytes().to_vec(alloc).ok()?, limit)),
         Step::Work(number, units) => Some(Event::Work(number, units)),
         Step::Drop(number) => Some(Event::Drop(number)),
-        Step::Ask(number, text) => Some(Event::Ask(number, position_of(alloc, text)?)),
-        Step::Play(number, text) => Some(Event::Play(number, position_of(alloc, text)?)),
     }
 }
 
@@ -111,63 +96,6 @@ fn has_sixteen_clients(rt: HostRuntime) {
     }
 }
 
-/// How many steps of the script have the replies that stand beside them, up to the first that has
-/// not.
-fn count_told(alloc: Global, desk: &mut Desk, script: &[(u8, Step, Said)]) -> usize {
-    let mut count = 0usize;
-    for (client, step, wanted) in script {
-        if take(alloc, desk, *client, *step) != *wanted {
-            return count;
-        }
-        count = count.saturating_add(1);
-    }
-    count
-}
-
-#[test]
-fn replies_to_scripts(rt: HostRuntime) {
-    let script: [(u8, Step, Said); 11] = [
-        (1, Step::Open(OF_0_75, 2048), Said::Opened(1)),
-        (2, Step::Open(RIGHT_UP_TO_8, 2048), Said::Opened(1)),
-        (1, Step::Work(1, 0), Said::Going),
-        (2, Step::Work(1, 1_000_000), Said::No(7)),
-        (1, Step::Ask(1, b"1"), Said::Refused(22)),
-        (1, Step::Work(1, 1_000_000), Said::Yes),
-        (1, Step::Ask(1, b"1 9"), Said::Outcome(Outcome::P)),
-        (
-            1,
-            Step::Play(1, b"10"),
-            Said::Answer(Answer::Wins(Move {
-                heap: 10,
-                left: Left::Two(2, 6),
-            })),
-        ),
-        (2, Step::Ask(1, b"1"), Said::Refused(22)),
-        (2, Step::Drop(1), Said::Dropped),
-        (2, Step::Work(1, 5), Said::Refused(21)),
-    ];
-    let extreme: [(u8, Step, Said); 14] = [
-        (3, Step::Open(OF_0_33, 100_000), Said::Opened(1)),
-        (3, Step::Work(1, 5), Said::Going),
-        (3, Step::Drop(1), Said::Dropped),
-        (3, Step::Open(OF_0_3, 8), Said::Opened(1)),
-        (3, Step::Work(1, 0), Said::Going),
-        (3, Step::Work(1, u64::MAX), Said::Yes),
-        (3, Step::Work(1, 0), Said::Yes),
-        (3, Step::Ask(1, b"1"), Said::Outcome(Outcome::P)),
-        (3, Step::Open(OF_0_3, 0), Said::Opened(2)),
-        (3, Step::Work(2, 1000), Said::No(8)),
-        (3, Step::Ask(1, b"1 1"), Said::Outcome(Outcome::N)),
-        (3, Step::Play(1, b"1"), Said::Answer(Answer::Lost)),
-        (3, Step::Play(2, b"1"), Said::Refused(22)),
-        (3, Step::Drop(0), Said::Refused(21)),
-    ];
-    let mut desk = Desk::new(rt.alloc());
-    let told = count_told(rt.alloc(), &mut desk, &script);
-    let told_then = count_told(rt.alloc(), &mut desk, &extreme);
-    assert!(rt; (told, told_then) == (11, 14), "{told}, {told_then}");
-}
-
 const FIRST: Step = Step::Open(OF_0_75, 2048);
 
 const SECOND: Step = Step::Open(RIGHT_UP_TO_8, 2048);
@@ -197,6 +125,7 @@ fn opens_no_fifth(rt: &impl Abort, alloc: Global, desk: &mut Desk) {
     assert!(rt; take(alloc, desk, 1, FIRST) == Said::Refused(20));
     assert!(rt; take(alloc, desk, 2, Step::Work(1, 1)) == Said::No(7));
     assert!(rt; take(alloc, desk, 2, SECOND) == Said::Opened(2));
+    assert!(rt; take(alloc, desk, 2, Step::Drop(0)) == Said::Refused(21));
 }
 
 /// Each gets what it gets alone, within the bounds on what such checks cost.

@@ -8,25 +8,17 @@ use std::alloc::Global;
 use std::fs;
 use std::test::Fail;
 
-/// Why the file isn't read.
-fn fault_of<F: Folder>(folder: &mut F, name: &str) -> Option<FileFault> {
+/// Whether the file is read as the text, or why it isn't read.
+fn is_read_as<F: Folder>(folder: &mut F, name: &str, text: &str) -> Result<bool, FileFault> {
     match folder.read(name) {
-        Ok(_) => None,
-        Err(fault) => Some(fault),
-    }
-}
-
-/// Whether the file is read as the text.
-fn is_read_as<F: Folder>(folder: &mut F, name: &str, text: &str) -> bool {
-    match folder.read(name) {
-        Ok(bytes) => bytes.as_slice() == text.as_bytes(),
-        Err(_) => false,
+        Ok(bytes) => Ok(bytes.as_slice() == text.as_bytes()),
+        Err(fault) => Err(fault),
     }
 }
 
 /// Whether the file is read as the text, and lent so.
 fn holds(folder: &mut MemoryFolder, name: &str, text: &str) -> bool {
-    is_read_as(folder, name, text) && folder.bytes(name) == Some(text.as_bytes())
+    is_read_as(folder, name, text) == Ok(true) && folder.bytes(name) == Some(text.as_bytes())
 }
 
 fn fill(folder: &mut MemoryFolder) -> Result<(), FileFault> {
@@ -39,9 +31,9 @@ fn fill(folder: &mut MemoryFolder) -> Result<(), FileFault> {
 #[test]
 fn keeps_what_is_written(rt: HostRuntime) {
     let mut folder = MemoryFolder::new(rt.alloc());
-    let fault = fault_of(&mut folder, "a");
+    let absent = is_read_as(&mut folder, "a", "");
     let is_filled = fill(&mut folder).is_ok();
-    assert!(rt; fault == Some(FileFault::Device) && is_filled);
+    assert!(rt; absent == Err(FileFault::Device) && is_filled);
     for (name, held) in [("a", "three"), ("b", "two"), ("c", "")] {
         assert!(rt; holds(&mut folder, name, held), "of {name}");
     }
@@ -119,7 +111,7 @@ fn replaces_whole_or_not_at_all(rt: HostRuntime) {
 
 /// Whether the text is written, and read again.
 fn keeps<F: Folder>(folder: &mut F, name: &str, text: &str) -> bool {
-    folder.write(name, text.as_bytes()).is_ok() && is_read_as(folder, name, text)
+    folder.write(name, text.as_bytes()).is_ok() && is_read_as(folder, name, text) == Ok(true)
 }
 
 #[test]
@@ -131,7 +123,7 @@ fn replaces_on_the_machine(rt: HostRuntime) -> Result<(), Fail> {
         std::process::id(rt.process())
     )?;
     let mut folder = HostFolder::new(&rt);
-    assert!(rt; fault_of(&mut folder, name.as_str()) == Some(FileFault::Device));
+    assert!(rt; is_read_as(&mut folder, name.as_str(), "") == Err(FileFault::Device));
     for text in ["a longer text", "a text", ""] {
         assert!(rt; keeps(&mut folder, name.as_str(), text), "{text}");
     }

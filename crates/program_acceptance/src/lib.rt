@@ -1,17 +1,13 @@
-//! Tests of checks, verdicts, catalogues, playing, the desk, its script, devices, files, command
-//! lines, and the commands `check` and `play`, by public names alone.
+//! Tests of checks, verdicts, playing, the desk, its script, devices, files, and the commands `check`
+//! and `play`, by public names alone.
 #![tactic(auto)]
 
-#[cfg(test)]
-mod catalogue_tests;
 #[cfg(test)]
 mod certificates;
 #[cfg(test)]
 mod check_command_tests;
 #[cfg(test)]
 mod checker_tests;
-#[cfg(test)]
-mod command_line_tests;
 #[cfg(test)]
 mod command_results_tests;
 #[cfg(test)]

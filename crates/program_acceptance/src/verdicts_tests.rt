@@ -117,31 +117,30 @@ fn begins_so(alloc: Global, bytes: &[u8], beginning: &[u8]) -> Result<bool, Stre
     Ok(sink.bytes().starts_with(beginning))
 }
 
-/// Whether bytes are refused as no text, and nothing more is said.
-fn is_no_text(alloc: Global, bytes: &[u8]) -> Result<bool, StreamFault> {
+/// Whether what a source gives is refused as no text, and nothing more is said.
+fn refuses_as_no_text(alloc: Global, source: &mut MemorySource<'_>) -> bool {
     let mut sink = MemorySink::new(alloc);
-    check_stream(alloc, &mut MemorySource::new(bytes), &mut sink, 1000)?;
-    Ok(sink.bytes() == NO_TEXT)
+    let checked = check_stream(alloc, source, &mut sink, 1000);
+    checked == Ok(false) && sink.bytes() == NO_TEXT
 }
 
 /// How long the first beginning of a text is that is not refused as no text.
-fn first_read(alloc: Global, text: &[u8]) -> Result<usize, StreamFault> {
+fn first_read(alloc: Global, text: &[u8]) -> usize {
     for n in 0..text.len() {
-        if !is_no_text(alloc, &text[..n])? {
-            return Ok(n);
+        if !refuses_as_no_text(alloc, &mut MemorySource::new(&text[..n])) {
+            return n;
         }
     }
-    Ok(text.len())
+    text.len()
 }
 
 /// Each proper beginning of a certificate is no certificate.
 #[test]
-fn refuses_each_beginning(rt: HostRuntime) -> Result<(), Fail> {
+fn refuses_each_beginning(rt: HostRuntime) {
     for text in [OF_0_33.as_bytes(), OF_0_75.as_bytes()] {
-        assert_eq!(rt; first_read(rt.alloc(), text)?, text.len());
-        assert!(rt; begins_so(rt.alloc(), text, b"yes 0.")?);
+        assert_eq!(rt; first_read(rt.alloc(), text), text.len());
+        assert!(rt; begins_so(rt.alloc(), text, b"yes 0.") == Ok(true));
     }
-    Ok(())
 }
 
 /// Whether a text is refused that differs from this one in the given bits of one byte.
@@ -196,13 +195,6 @@ fn left_of(alloc: Global, bytes: &[u8]) -> Result<Option<usize>, DeviceFault> {
     let is_refused = refuses_as_no_text(alloc, &mut source);
     let left = source.read(&mut [0u8; 8])?;
     Ok(if is_refused { Some(left) } else { None })
-}
-
-/// Whether what a source gives is refused as no text, and nothing more is said.
-fn refuses_as_no_text(alloc: Global, source: &mut MemorySource<'_>) -> bool {
-    let mut sink = MemorySink::new(alloc);
-    let checked = check_stream(alloc, source, &mut sink, 1000);
-    checked == Ok(false) && sink.bytes() == NO_TEXT
 }
 
 /// How many are left of so many bytes.

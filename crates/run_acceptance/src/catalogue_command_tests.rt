@@ -1,18 +1,15 @@
 //! Catalogue files in memory: what is printed, and what the files hold then.
 mod tasks;
 
+use crate::files::{ONE_ENTRY, folder_of};
 use allocation::Memory;
-use catalogue_command::{list, salvage};
+use catalogue_command::act;
 use folders::MemoryFolder;
+use requests::CatalogueTask;
 use std::alloc::Global;
 use std::test::Fail;
 
 const LIMIT: u32 = 1000;
-
-/// A file of the quotient of 0.3.
-const ONE_ENTRY: &str =
-    "{\"entries\":[{\"certificate\":\"mqc 1\\ncode 0.3\\norder 2\\nstart 1\\nperiod 2\\nphi 1 0\\n\
-portion 1\\nwords 0:1\\nrow 0 1\\nrow 1 0\\napart 0\\nend\\n\",\"code\":\"0.3\"}],\"version\":1}\n";
 
 /// Another version; a portion that is wrong of the empty position; the code of another game; an
 /// entry twice; members in another order.
@@ -52,24 +49,24 @@ row 6 3 2 4 4 5 7 7\\nrow 7 4 2 4 4 5 7 7\\n\
 apart 0 1 1 3 1 1 0 0 0 0 0 0 4 2 1 2 2 0 1 3 3 0 1 1 0 5 0 0\\nend\\n\
 \",\"code\":\"0.75\"}],\"version\":1}";
 
-/// A folder of one file.
-fn folder_of(alloc: Global, held: &str) -> Result<MemoryFolder, Memory> {
-    let mut folder = MemoryFolder::new(alloc);
-    folder.put("x.json", held.as_bytes())?;
-    Ok(folder)
-}
-
-/// Whether the file is well, if this is what its list is.
-fn list_in(alloc: Global, folder: &mut MemoryFolder, printed: &str) -> Option<bool> {
-    match &list(alloc, folder, "x.json", LIMIT) {
-        Ok(report) if report.text.as_str() == printed => Some(report.well),
+/// Whether a task on a file ends well, if it prints this.
+fn is_well(
+    alloc: Global,
+    folder: &mut MemoryFolder,
+    file: &str,
+    task: CatalogueTask<'_>,
+    text: &str,
+) -> Option<bool> {
+    match &act(alloc, folder, file, task, LIMIT) {
+        Ok(report) if report.text.as_str() == text => Some(report.well),
         _ => None,
     }
 }
 
+/// Whether the file is well, if this is what its list is.
 fn listed(alloc: Global, held: &str, printed: &str) -> Result<Option<bool>, Memory> {
-    let mut folder = folder_of(alloc, held)?;
-    Ok(list_in(alloc, &mut folder, printed))
+    let mut folder = folder_of(alloc, &[("x.json", held)], 0)?;
+    Ok(is_well(alloc, &mut folder, "x.json", CatalogueTask::Print, printed))
 }
 
 #[test]
@@ -95,49 +92,34 @@ fn lists_a_file_or_says_why_not(rt: HostRuntime) -> Result<(), Fail> {
     Ok(())
 }
 
-/// Whether salvaging ends well, if this is what it prints.
-fn salvage_in(alloc: Global, folder: &mut MemoryFolder, printed: &str) -> Option<bool> {
-    match &salvage(alloc, folder, "x.json", LIMIT) {
-        Ok(report) if report.text.as_str() == printed => Some(report.well),
-        _ => None,
-    }
-}
-
-/// Whether salvaging a file ends well, if this is what it prints, and the same of its list then.
+/// Whether salvaging a file ends well, if this is what it prints; whether the file stays; and
+/// whether it is well then, if this is what its list is.
 fn salvaged(
     alloc: Global,
     held: &str,
     printed: &str,
     lines: &str,
-) -> Result<(Option<bool>, Option<bool>), Memory> {
-    let mut folder = folder_of(alloc, held)?;
-    let ended = salvage_in(alloc, &mut folder, printed);
-    Ok((ended, list_in(alloc, &mut folder, lines)))
+) -> Result<(Option<bool>, bool, Option<bool>), Memory> {
+    let mut folder = folder_of(alloc, &[("x.json", held)], 0)?;
+    let ended = is_well(
+        alloc,
+        &mut folder,
+        "x.json",
+        CatalogueTask::Salvage,
+        printed,
+    );
+    let stays = folder.bytes("x.json") == Some(held.as_bytes());
+    let listed = is_well(alloc, &mut folder, "x.json", CatalogueTask::Print, lines);
+    Ok((ended, stays, listed))
 }
 
 #[test]
 fn keeps_what_stands_of_a_damaged_file(rt: HostRuntime) -> Result<(), Fail> {
-    let (ended, listed) = salvaged(
-        rt.alloc(),
-        DAMAGED,
-        "refused 3 Entry 2 no 2 Law\nkept 2\n",
-        "0.3 order 2 start 1 period 2\n0.75 order 8 start 8 period 2\n",
-    )?;
-    assert!(rt; ended == Some(true));
-    assert!(rt; listed == Some(true));
-    Ok(())
-}
-
-/// Whether salvaging a file ends well, if this is what it prints and the file stays.
-fn left(alloc: Global, held: &str, printed: &str) -> Result<Option<bool>, Memory> {
-    let mut folder = folder_of(alloc, held)?;
-    let ended = salvage_in(alloc, &mut folder, printed);
-    let stays = folder.bytes("x.json") == Some(held.as_bytes());
-    Ok(if stays { ended } else { None })
-}
-
-#[test]
-fn leaves_what_is_no_catalogue(rt: HostRuntime) -> Result<(), Fail> {
-    assert!(rt; left(rt.alloc(), "[]", "refused 2 Shape\n")? == Some(false));
+    let kept = "refused 3 Entry 2 no 2 Law\nkept 2\n";
+    let lines = "0.3 order 2 start 1 period 2\n0.75 order 8 start 8 period 2\n";
+    let mended = salvaged(rt.alloc(), DAMAGED, kept, lines)?;
+    assert!(rt; mended == (Some(true), false, Some(true)));
+    let left = salvaged(rt.alloc(), "[]", "refused 2 Shape\n", "refused 2 Shape\n")?;
+    assert!(rt; left == (Some(false), true, Some(false)));
     Ok(())
 }

@@ -1,15 +1,19 @@
-//! Tests of finding, of the other commands, of plans that are run and of whole runs of the program,
+//! Tests of catalogues, command lines, finding, the other commands and whole runs of the program,
 //! by public names alone.
 #![tactic(auto)]
 
 #[cfg(test)]
 mod catalogue_command_tests;
 #[cfg(test)]
+mod catalogue_tests;
+#[cfg(test)]
 mod certificates;
 #[cfg(test)]
-mod commands_tests;
+mod command_line_tests;
 #[cfg(test)]
 mod desk_command_tests;
+#[cfg(test)]
+mod files;
 #[cfg(test)]
 mod present_command_tests;
 #[cfg(test)]

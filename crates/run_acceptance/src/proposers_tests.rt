@@ -1,18 +1,10 @@
 //! What the sampler finds.
-use crate::certificates::{OF_0_1, OF_0_3, OF_0_33, OF_0_75};
-use certificate::{Cert, write};
+use crate::certificates::{OF_0_1, OF_0_3, OF_0_33, OF_0_75, is_spelled};
 use octal_code::Code;
 use proposers::Sampler;
 use quotient_finder::{Limits, Proposer, find};
 use std::alloc::Global;
 use std::test::Fail;
-use streams::MemorySink;
-
-/// Whether the certificate is spelled so.
-fn is_spelled(alloc: Global, cert: &Cert, text: &str) -> bool {
-    let mut sink = MemorySink::new(alloc);
-    write(cert, &mut sink).is_ok() && sink.bytes() == text.as_bytes()
-}
 
 /// Whether the sampler alone finds the certificate of this text for a code.
 fn finds(alloc: Global, code: &Code, heaps: usize, text: &str) -> Result<bool, Fail> {

@@ -1,19 +1,11 @@
 //! Proposers that lie, that learn nothing and that give nothing, and what a search tells them.
-use crate::certificates::{OF_0_3, OF_0_75};
+use crate::certificates::{OF_0_3, OF_0_75, RIGHT_UP_TO_8, is_spelled};
 use allocation::Memory;
-use certificate::write;
 use checker::Refusal;
 use octal_code::Code;
 use quotient_finder::{GaveUp, Limits, Proposer, find};
 use std::alloc::Global;
 use std::test::Fail;
-use streams::MemorySink;
-
-/// A claim about 0.75 that is right up to heap 8, and wrong from 9 on.
-const WRONG: &str = "mqc 1\ncode 0.75\norder 8\nstart 4\nperiod 2\nphi 1 2 1 2 3\nportion 1 6\n\
-words 0:1 0:2 0:5 1:2 1:5 2:2 4:2\nrow 0 1 2 3 4 5 6 7\nrow 1 0 4 5 2 3 7 6\nrow 2 4 6 4 7 2 2 4\n\
-row 3 5 4 6 2 7 7 6\nrow 4 2 7 2 6 4 4 2\nrow 5 3 2 7 4 6 6 7\nrow 6 7 2 7 4 6 6 7\n\
-row 7 6 4 6 2 7 7 6\napart 0 1 1 1 1 0 3 0 0 0 0 5 0 2 2 2 0 1 3 3 0 1 4 0 1 0 1 0\nend\n";
 
 /// The code that the proposers are asked for.
 const ASKED: &[u8] = b"0.75";
@@ -30,6 +22,14 @@ enum Habit {
     /// Want of memory.
     Wanting,
 }
+
+const RIGHT: Habit = Habit::Always(OF_0_75);
+
+/// The quotient of another code.
+const OTHER: Habit = Habit::Always(OF_0_3);
+
+/// A claim about 0.75 that is wrong from heap 9 on.
+const WRONG: Habit = Habit::Always(RIGHT_UP_TO_8);
 
 /// A proposer of one habit, which counts what it is asked and told. Asked for another code, it
 /// drafts its counts.
@@ -106,86 +106,63 @@ fn have_counted(
     Ok(counted.as_slice() == counts)
 }
 
-/// Why a search through the proposers gives up, if it does.
-fn given_up(
+/// Whether a search through the proposers finds the quotient of 0.75, or why it gives up.
+fn search(
     alloc: Global,
     proposers: &mut Vec<Box<dyn Proposer>>,
     rounds: u32,
-) -> Result<Option<GaveUp>, Fail> {
+) -> Result<Result<bool, GaveUp>, Fail> {
     let code = Code::read(ASKED)?;
     let limits = Limits {
         rounds,
         members: 100000,
     };
-    Ok(find(alloc, &code, proposers, limits).err())
-}
-
-#[test]
-fn gives_up(rt: HostRuntime) -> Result<(), Fail> {
-    let none: [Habit; 0] = [];
-    let rows: [(&[Habit], u32, GaveUp, &[u8]); 10] = [
-        (&none, 0, GaveUp::Empty, &[]),
-        (&none, 3, GaveUp::Empty, &[]),
-        (&[Habit::Always(OF_0_75)], 0, GaveUp::Rounds, &[0, 0, 0]),
-        (&[Habit::Always(WRONG)], 3, GaveUp::Rounds, &[3, 3, 7]),
-        (&[Habit::Never], 3, GaveUp::Empty, &[1, 0, 0]),
-        (&[Habit::Never], 1, GaveUp::Empty, &[1, 0, 0]),
-        (
-            &[Habit::Always(WRONG), Habit::Never],
-            3,
-            GaveUp::Rounds,
-            &[3, 3, 7, 3, 0, 0],
-        ),
-        (&[Habit::Wanting], 3, GaveUp::Memory, &[1, 0, 0]),
-        (&[Habit::Longer(5_000_000)], 2, GaveUp::Rounds, &[2, 2, 1]),
-        (&[Habit::Always(OF_0_3)], 2, GaveUp::Rounds, &[2, 0, 0]),
-    ];
-    for (row, (habits, rounds, why, counts)) in rows.into_iter().enumerate() {
-        let mut proposers = proposers_of(rt.alloc(), habits)?;
-        let gave_up = given_up(rt.alloc(), &mut proposers, rounds)?;
-        assert!(rt; gave_up == Some(why), "row {row}");
-        assert!(rt;
-            have_counted(rt.alloc(), &mut proposers, counts)?,
-            "row {row}"
-        );
-    }
-    Ok(())
-}
-
-/// Whether a search through the proposers finds the certificate of this text.
-fn finds(alloc: Global, proposers: &mut Vec<Box<dyn Proposer>>, text: &str) -> Result<bool, Fail> {
-    let code = Code::read(ASKED)?;
-    let limits = Limits {
-        rounds: 2,
-        members: 100000,
-    };
     match find(alloc, &code, proposers, limits) {
-        Ok(certified) => {
-            let mut sink = MemorySink::new(alloc);
-            Ok(write(certified.cert(), &mut sink).is_ok() && sink.bytes() == text.as_bytes())
-        }
-        Err(_) => Ok(false),
+        Ok(certified) => Ok(Ok(is_spelled(alloc, certified.cert(), OF_0_75))),
+        Err(why) => Ok(Err(why)),
     }
 }
 
-#[test]
-fn finds_in_the_first_round(rt: HostRuntime) -> Result<(), Fail> {
-    let habits = [
-        Habit::Always("x"),
-        Habit::Always(OF_0_3),
-        Habit::Always(OF_0_75),
-        Habit::Always(WRONG),
-    ];
-    let counts: [u8; 12] = [1, 1, 1, 1, 0, 0, 1, 0, 0, 0, 0, 0];
-    let mut proposers = proposers_of(rt.alloc(), &habits)?;
-    assert!(rt; finds(rt.alloc(), &mut proposers, OF_0_75)?);
-    assert!(rt; have_counted(rt.alloc(), &mut proposers, &counts)?);
-    Ok(())
+/// What a search through proposers of these habits answers, and whether these are their counts.
+fn searched(
+    alloc: Global,
+    habits: &[Habit],
+    rounds: u32,
+    counts: &[u8],
+) -> Result<(Result<bool, GaveUp>, bool), Fail> {
+    let mut proposers = proposers_of(alloc, habits)?;
+    let answer = search(alloc, &mut proposers, rounds)?;
+    Ok((answer, have_counted(alloc, &mut proposers, counts)?))
 }
 
 #[test]
-fn has_its_numbers(rt: HostRuntime) {
-    assert_eq!(rt; GaveUp::Rounds.number(), 1);
-    assert_eq!(rt; GaveUp::Empty.number(), 2);
-    assert_eq!(rt; GaveUp::Memory.number(), 9);
+fn finds_or_gives_up(rt: HostRuntime) -> Result<(), Fail> {
+    let none: [Habit; 0] = [];
+    let four = [Habit::Always("x"), OTHER, RIGHT, WRONG];
+    let empty: Result<bool, GaveUp> = Err(GaveUp::Empty);
+    let spent: Result<bool, GaveUp> = Err(GaveUp::Rounds);
+    let rows: [(&[Habit], u32, Result<bool, GaveUp>, &[u8]); 11] = [
+        (&none, 0, empty, &[]),
+        (&none, 3, empty, &[]),
+        (&[RIGHT], 0, spent, &[0, 0, 0]),
+        (&[WRONG], 3, spent, &[3, 3, 7]),
+        (&[Habit::Never], 3, empty, &[1, 0, 0]),
+        (&[Habit::Never], 1, empty, &[1, 0, 0]),
+        (&[WRONG, Habit::Never], 3, spent, &[3, 3, 7, 3, 0, 0]),
+        (&[Habit::Wanting], 3, Err(GaveUp::Memory), &[1, 0, 0]),
+        (&[Habit::Longer(5_000_000)], 2, spent, &[2, 2, 1]),
+        (&[OTHER], 2, spent, &[2, 0, 0]),
+        (&four, 2, Ok(true), &[1, 1, 1, 1, 0, 0, 1, 0, 0, 0, 0, 0]),
+    ];
+    for (row, (habits, rounds, answer, counts)) in rows.into_iter().enumerate() {
+        let ended = searched(rt.alloc(), habits, rounds, counts)?;
+        assert!(rt; ended == (answer, true), "row {row}");
+    }
+    let numbers = (
+        GaveUp::Rounds.number(),
+        GaveUp::Empty.number(),
+        GaveUp::Memory.number(),
+    );
+    assert!(rt; numbers == (1, 2, 9));
+    Ok(())
 }

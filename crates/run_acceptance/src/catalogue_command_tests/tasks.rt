@@ -1,14 +1,13 @@
 //! Tasks one after the other, and with each call of the folder failing.
-use super::{LIMIT, ONE_ENTRY};
+use super::{LIMIT, is_well};
 use crate::certificates::{OF_0_1, OF_0_3, OF_0_33, OF_0_75};
+use crate::files::{EMPTY, ONE_ENTRY, folder_of};
 use allocation::Memory;
 use catalogue_command::{CatalogueStop, act};
 use folders::MemoryFolder;
 use requests::CatalogueTask;
 use std::alloc::Global;
 use std::test::Fail;
-
-const EMPTY: &str = "{\"entries\":[],\"version\":1}\n";
 
 /// The certificates, of which one is none.
 static FILES: [(&str, &str); 5] = [
@@ -18,34 +17,6 @@ static FILES: [(&str, &str); 5] = [
     ("0.75.mqc", OF_0_75),
     ("cut.mqc", "mqc 1\n"),
 ];
-
-fn put_files(folder: &mut MemoryFolder) -> Result<(), Memory> {
-    for (name, held) in &FILES {
-        folder.put(name, held.as_bytes())?;
-    }
-    Ok(())
-}
-
-/// The folder of the certificates, of which this call fails.
-fn certificates(alloc: Global, failing: u64) -> Result<MemoryFolder, Memory> {
-    let mut folder = MemoryFolder::failing(alloc, failing);
-    put_files(&mut folder)?;
-    Ok(folder)
-}
-
-/// Whether a task ends well, if it prints this.
-fn is_well(
-    alloc: Global,
-    folder: &mut MemoryFolder,
-    file: &str,
-    task: CatalogueTask<'_>,
-    text: &str,
-) -> Option<bool> {
-    match &act(alloc, folder, file, task, LIMIT) {
-        Ok(report) if report.text.as_str() == text => Some(report.well),
-        _ => None,
-    }
-}
 
 /// Why a task stops.
 fn stop_of<'a>(
@@ -177,41 +148,40 @@ fn act_in_turn(alloc: Global, folder: &mut MemoryFolder) -> usize {
 
 /// How many rows end so, and whether no file was made that isn't to be.
 fn acted(alloc: Global) -> Result<(usize, bool), Memory> {
-    let mut folder = certificates(alloc, 0)?;
+    let mut folder = folder_of(alloc, &FILES, 0)?;
     let count = act_in_turn(alloc, &mut folder);
     Ok((count, folder.bytes("y.json").is_none()))
 }
 
-#[test]
-fn acts_on_a_catalogue(rt: HostRuntime) -> Result<(), Fail> {
-    let (count, is_absent) = acted(rt.alloc())?;
-    assert_eq!(rt; count, 16);
-    assert!(rt; is_absent);
-    Ok(())
-}
-
-/// A task that adds a certificate, its code, and the certificate.
-static ADDED: [(CatalogueTask<'static>, &str, &str); 4] = [
-    (CatalogueTask::NewWith("0.1.mqc"), "0.1", OF_0_1),
-    (CatalogueTask::Add("0.3.mqc"), "0.3", OF_0_3),
-    (CatalogueTask::Add("0.33.mqc"), "0.33", OF_0_33),
-    (CatalogueTask::Add("0.75.mqc"), "0.75", OF_0_75),
+/// A task that adds a certificate, what it prints, the certificate's code, and the certificate.
+static ADDED: [(CatalogueTask<'static>, &str, &str, &str); 4] = [
+    (
+        CatalogueTask::NewWith("0.1.mqc"),
+        "added 0.1\n",
+        "0.1",
+        OF_0_1,
+    ),
+    (CatalogueTask::Add("0.3.mqc"), "added 0.3\n", "0.3", OF_0_3),
+    (
+        CatalogueTask::Add("0.33.mqc"),
+        "added 0.33\n",
+        "0.33",
+        OF_0_33,
+    ),
+    (
+        CatalogueTask::Add("0.75.mqc"),
+        "added 0.75\n",
+        "0.75",
+        OF_0_75,
+    ),
 ];
-
-/// Whether a task ends well, whatever it prints.
-fn ends_well(alloc: Global, folder: &mut MemoryFolder, task: CatalogueTask<'_>) -> bool {
-    match &act(alloc, folder, "x.json", task, LIMIT) {
-        Ok(report) => report.well,
-        Err(_) => false,
-    }
-}
 
 /// How many certificates are added and given back, up to the first that is not.
 fn give_back(alloc: Global, folder: &mut MemoryFolder) -> usize {
-    for (at, (task, code, held)) in ADDED.iter().enumerate() {
+    for (at, (task, added, code, held)) in ADDED.iter().enumerate() {
         let get = CatalogueTask::Get(code);
-        if !ends_well(alloc, folder, *task)
-            || is_well(alloc, folder, "x.json", get, held).is_none()
+        if is_well(alloc, folder, "x.json", *task, added) != Some(true)
+            || is_well(alloc, folder, "x.json", get, held) != Some(true)
         {
             return at;
         }
@@ -220,13 +190,14 @@ fn give_back(alloc: Global, folder: &mut MemoryFolder) -> usize {
 }
 
 fn given_back(alloc: Global) -> Result<usize, Memory> {
-    let mut folder = certificates(alloc, 0)?;
+    let mut folder = folder_of(alloc, &FILES, 0)?;
     Ok(give_back(alloc, &mut folder))
 }
 
 #[test]
-fn gives_back_what_was_added(rt: HostRuntime) -> Result<(), Fail> {
-    assert_eq!(rt; given_back(rt.alloc())?, 4);
+fn acts_on_a_catalogue(rt: HostRuntime) -> Result<(), Fail> {
+    assert!(rt; acted(rt.alloc())? == (16, true));
+    assert!(rt; given_back(rt.alloc())? == 4);
     Ok(())
 }
 
@@ -258,7 +229,7 @@ static FAILURES: [(u64, CatalogueTask<'static>, CatalogueStop<'static>); 10] = [
 
 /// Whether the task stops so and leaves the file as it was.
 fn keeps_the_file(alloc: Global, call: u64, row: &Row) -> Result<bool, Memory> {
-    let mut folder = certificates(alloc, call)?;
+    let mut folder = folder_of(alloc, &FILES, call)?;
     folder.put("x.json", ONE_ENTRY.as_bytes())?;
     Ok(ends_so(alloc, row, &mut folder))
 }
@@ -267,12 +238,7 @@ fn keeps_the_file(alloc: Global, call: u64, row: &Row) -> Result<bool, Memory> {
 fn loses_nothing_where_a_call_fails(rt: HostRuntime) -> Result<(), Fail> {
     for (call, task, stop) in &FAILURES {
         let row = ("x.json", *task, Err(*stop), ONE_ENTRY);
-        assert!(rt;
-            keeps_the_file(rt.alloc(), *call, &row)?,
-            "of {:?}, {}",
-            task,
-            call
-        );
+        assert!(rt; keeps_the_file(rt.alloc(), *call, &row)?, "call {call}");
     }
     Ok(())
 }

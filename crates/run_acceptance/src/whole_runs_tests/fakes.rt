@@ -1,32 +1,18 @@
-//! Files in memory, and words that may be no text.
+//! The files of the runs, and words that may be no text.
 use crate::certificates::{OF_0_3, OF_0_33};
-use allocation::Memory;
-use folders::MemoryFolder;
+use crate::files::ONE_ENTRY;
 use std::alloc::Global;
 use std::env::FillError;
 use std::rt::Env;
 
-/// The catalogue of the quotient of 0.3.
-pub const ONE_ENTRY: &str =
-    "{\"entries\":[{\"certificate\":\"mqc 1\\ncode 0.3\\norder 2\\nstart 1\\nperiod 2\\nphi 1 0\\n\
-portion 1\\nwords 0:1\\nrow 0 1\\nrow 1 0\\napart 0\\nend\\n\",\"code\":\"0.3\"}],\"version\":1}\n";
-
-pub const EMPTY: &str = "{\"entries\":[],\"version\":1}\n";
-
-/// A folder of two certificates, a text that is none, and a catalogue; this call of it fails.
-pub fn samples(alloc: Global, failing: u64) -> Result<MemoryFolder, Memory> {
-    let mut folder = MemoryFolder::failing(alloc, failing);
-    let files = [
-        ("0.3.mqc", OF_0_3),
-        ("0.33.mqc", OF_0_33),
-        ("text_crlf.mqc", "mqc 1\r\n"),
-        ("x.json", ONE_ENTRY),
-    ];
-    for (name, text) in files {
-        folder.put(name, text.as_bytes())?;
-    }
-    Ok(folder)
-}
+/// Two certificates, a text that is none, a catalogue, and a script that checks one of them.
+pub static SAMPLES: [(&str, &str); 5] = [
+    ("0.3.mqc", OF_0_3),
+    ("0.33.mqc", OF_0_33),
+    ("text_crlf.mqc", "mqc 1\r\n"),
+    ("x.json", ONE_ENTRY),
+    ("steps", "open 1 0.3.mqc 8\nwork 1 1 228\n"),
+];
 
 /// Words of a machine, which may be no text.
 #[derive(Drop)]
