@@ -10,5 +10,4 @@ mod wins;
 pub use answering::Answer;
 pub use laws::right_answers_are_one;
 pub use play::{answer, looks, outcome, value};
-pub use positions::Options as Looks;
-pub use positions::Outcome;
+pub use positions::{Options as Looks, Outcome};
