@@ -5,8 +5,8 @@ use Rattle.octal_code.specs.Text.{code_text}
 use Rattle.certificate_text.specs.Spelling.{Spells}
 use Rattle.misere_theory.specs.Certificates.{Certificate, Accepted}
 use Rattle.serde_json.specs.Data.{Data}
-use Rattle.checker.specs.Answers.{IsTrueOf, refused}
-use Rattle.checker.specs.Answers.Answer.{Memory as WantOfMemory}
+use Rattle.answers.specs.Answers.{IsTrueOf, refused}
+use Rattle.answers.specs.Answers.Answer.{Memory as WantOfMemory}
 use Rattle.catalogue.specs.Entries.{HasCode, HaveOtherCodes}
 use Rattle.catalogue.specs.Files.{IsJson, IsFile, Written}
 use Rattle.catalogue.specs.declared.fault.LoadFault.{LoadFault}

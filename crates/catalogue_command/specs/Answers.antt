@@ -12,9 +12,9 @@ use Rattle.catalogue.specs.Loads.{IsLoaded}
 use Rattle.catalogue.specs.Salvages.{IsSalvaged}
 use Rattle.catalogue.specs.declared.fault.LoadFault.{LoadFault}
 use Rattle.catalogue.specs.Texts.{catalogue_text}
-use Rattle.checker.specs.Answers.{Answer, IsTrueOf}
-use Rattle.checker.specs.Answers.Answer.{Yes, Text, Law, Word, Order, Period, Apart, Outcome, Limit, Memory}
-use Rattle.verdicts.specs.Lines.{IsTextOf}
+use Rattle.answers.specs.Answers.{Answer, IsTrueOf}
+use Rattle.answers.specs.Answers.Answer.{Yes, Text, Law, Word, Order, Period, Apart, Outcome, Limit, Memory}
+use Rattle.verdict_texts.specs.Lines.{IsTextOf}
 use Rattle.catalogue_command.specs.Lines.{added_line, entry_line, salvage_lines, IsFaultLine}
 
 -- the lines of all entries, well; or the line of the fault

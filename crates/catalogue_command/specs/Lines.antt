@@ -3,8 +3,8 @@ use Rattle.std.specs.Prelude.{◌≡◌, ◌≢◌, ℕ, List, [], ◌∷◌, �
 use Rattle.std.specs.List.{flat_map}
 use Rattle.octal_code.specs.Text.{code_text}
 use Rattle.misere_theory.specs.Certificates.{Certificate}
-use Rattle.checker.specs.Refusals.{refusal_number, refusal_name}
-use Rattle.verdicts.specs.Lines.{no_line}
+use Rattle.answers.specs.Refusals.{refusal_number, refusal_name}
+use Rattle.verdict_texts.specs.Lines.{no_line}
 use Rattle.catalogue.specs.declared.fault.LoadFault.{LoadFault}
 use Rattle.catalogue.specs.declared.fault.LoadFault.TheVariants.{Json, Shape, Entry, Code, Twice, Memory}
 

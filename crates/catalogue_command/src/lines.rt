@@ -1,7 +1,7 @@
 //! The lines of a catalogue.
 ghost use Rattle.std.specs.Prelude.{◌≡◌, IfOk, string_bytes};
 ghost use Rattle.std.specs.List.{flat_map};
-ghost use Rattle.verdicts.specs.Lines.{no_line};
+ghost use Rattle.verdict_texts.specs.Lines.{no_line};
 ghost use Rattle.catalogue_command.specs.Lines.{IsFaultLine, added_line, entry_line, fault_line, refused_entry, salvage_lines};
 
 use allocation::Memory;

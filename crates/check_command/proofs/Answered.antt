@@ -1,10 +1,10 @@
 -- What is said, from what was printed and what was found.
 use Rattle.std.proofs.Common.{◌≡◌, refl, subst, ℕ, Bool, false, List, [], Option, Some}
 use Rattle.std.specs.Io.KnownBytes.{Appends}
-use Rattle.checker.specs.Answers.{refused}
-use Rattle.checker.specs.declared.refusal.Refusal.{Refusal}
-use Rattle.checker.specs.declared.refusal.Refusal.TheVariants as no
-use Rattle.verdicts.specs.Lines.{is_yes}
+use Rattle.answers.specs.Answers.{refused}
+use Rattle.answers.specs.declared.refusal.Refusal.{Refusal}
+use Rattle.answers.specs.declared.refusal.Refusal.TheVariants as no
+use Rattle.verdict_texts.specs.Lines.{is_yes}
 
 pub refused_is_no : {A : Type 0} (r : Refusal A) → false ≡ is_yes (refused r)
 refused_is_no no.Text = refl

@@ -3,9 +3,9 @@
 use Rattle.std.specs.Prelude.{◌≡◌, ◌<◌, ℕ, Bool, false, List, Option, Result, Ok, Err, Vec, codes}
 use Rattle.misere_theory.specs.Certificates.{Certificate}
 use Rattle.folders.specs.Files.{Holds}
-use Rattle.checker.specs.Answers.{IsTrueOf}
-use Rattle.checker.specs.Answers.Answer.{Yes}
-use Rattle.verdicts.specs.Lines.{is_yes}
+use Rattle.answers.specs.Answers.{IsTrueOf}
+use Rattle.answers.specs.Answers.Answer.{Yes}
+use Rattle.verdict_texts.specs.Lines.{is_yes}
 use Rattle.verdicts.specs.Streams.{Answers, AnswersStream}
 use Rattle.command_results.specs.declared.stop.Stop.{Stop}
 use Rattle.command_results.specs.declared.stop.Stop.TheVariants.{Read, Memory}

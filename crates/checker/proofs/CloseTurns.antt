@@ -13,10 +13,10 @@ use Rattle.pair_closure.specs.Turns.{State, heap_turn, pending}
 use Rattle.pair_closure.specs.Progress.{Progress, begun, turn, moved, step, steps, has_ended, is_over, is_done, blank_held}
 use Rattle.pair_closure.specs.Positions.{rising, word}
 use Rattle.pair_closure.specs.Calls.{ended_or_kept, Grows, Takes, IsRefused}
-use Rattle.checker.specs.Sheets.{IsPortion}
+use Rattle.answers.specs.Portions.{IsPortion}
 use Rattle.checker.specs.Rules.{Obeys, Breaks}
 use Rattle.checker.specs.Views.{ClosingView}
-use Rattle.checker.specs.Answers.Answer.{Yes, Outcome, Limit}
+use Rattle.answers.specs.Answers.Answer.{Yes, Outcome, Limit}
 use Rattle.checker.specs.Turns.{Phase, stage_of, Runs, holds, obeys, newest, keeps_more, closing_at, closing_turn}
 use Rattle.checker.specs.Turns as check
 use Rattle.checker.specs.Turns.Phase.{Closing, Ended}

@@ -3,7 +3,7 @@ use Rattle.std.proofs.Common.{◌≡◌, ℕ, suc, zero, ◌+◌, ◌-◌, ◌<�
 use native.Mathlib.Decide.{dec_lt}
 use Rattle.misere_theory.specs.Certificates.{Certificate}
 use Rattle.certificate_text.specs.Reading.{certificate_at}
-use Rattle.checker.specs.Answers.{Answer}
+use Rattle.answers.specs.Answers.{Answer}
 use Rattle.checker.specs.Turns.{Phase, is_ended, stage_of, turn, turns, turns_left, bound_read, bound, cost, verdict, answer_at, Runs, Works, Reaches, HasSpent}
 use Rattle.checker.specs.Turns.Phase.{Reading, Laws, Keys, Products, Periods, Separating, Heaps, Closing, Elements, Ended}
 

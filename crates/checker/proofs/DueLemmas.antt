@@ -1,7 +1,7 @@
 -- What a check has spent is due.
 use Rattle.std.proofs.Common.{◌≡◌, ◌⊎◌, ℕ, ◌+◌, ◌-◌, ◌<◌, ◌≤◌, true, false, List, Some, refl, sym, ap, subst, inl, inr, arith}
-use Rattle.checker.specs.Answers.{Answer, answer_of}
-use Rattle.checker.specs.Answers.Answer.{Memory}
+use Rattle.answers.specs.Answers.{Answer, answer_of}
+use Rattle.answers.specs.Answers.Answer.{Memory}
 use Rattle.checker.specs.Turns.{Phase, is_ended, answer_at, stage_of, cost, verdict, Runs, Works, Reaches, HasSpent}
 use Rattle.checker.specs.Turns.Phase.{Reading as AtReading, Laws as AtLaws, Keys as AtKeys, Products as AtProducts, Periods as AtPeriods, Separating as AtSeparating, Heaps as AtHeaps, Closing as AtClosing, Elements as AtElements, Ended as AtEnded}
 use Rattle.checker.specs.Stages.{phase_of, has_ended, ending, Comes, HasCome}

@@ -6,7 +6,7 @@ use Rattle.misere_theory.specs.Certificates.{Certificate, InRanges, times_of}
 use Rattle.transition_algebra.specs.declared.pair.Pair.{Pair}
 use Rattle.certificate.specs.Pieces.{grid_of}
 use Rattle.pair_closure.specs.Progress.{begun}
-use Rattle.checker.specs.Answers.Answer.{Outcome}
+use Rattle.answers.specs.Answers.Answer.{Outcome}
 use Rattle.checker.specs.Closings.{AreContexts, ElementsSoFar}
 use Rattle.pair_closure.specs.Positions.{rising}
 use Rattle.checker.specs.Views.{ElementsView}

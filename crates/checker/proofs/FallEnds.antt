@@ -13,8 +13,8 @@ use Rattle.transition_algebra.specs.Heaps as heaps
 use Rattle.certificate.specs.Pieces.{grid_of, pretending_of}
 use Rattle.pair_closure.specs.Progress.{Progress, begun, moved, step, steps, has_ended, is_over, is_done}
 use Rattle.pair_closure.specs.Positions.{rising, word}
-use Rattle.checker.specs.Answers.{Answer}
-use Rattle.checker.specs.Answers.Answer.{Yes, Outcome, Limit}
+use Rattle.answers.specs.Answers.{Answer}
+use Rattle.answers.specs.Answers.Answer.{Yes, Outcome, Limit}
 use Rattle.checker.specs.Closings.{bound_of}
 use Rattle.checker.specs.Units.{rest}
 use Rattle.checker.specs.Views.{HeapsView, ElementsView, ClosingView}

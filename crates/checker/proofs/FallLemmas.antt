@@ -16,7 +16,7 @@ use Rattle.checker.specs.Measures.{measure, behind_laws}
 use Rattle.checker.specs.Sound.{IsSound}
 use Rattle.checker.proofs.CostLemmas.{has_spent, spent_most}
 use Rattle.checker.proofs.UnitLemmas.{code_short, bound_few}
-use Rattle.checker.specs.Answers.Answer.{Yes}
+use Rattle.answers.specs.Answers.Answer.{Yes}
 use Rattle.checker.proofs.LeastLemmas.{yes_least, IsPaid, paid_on}
 use Rattle.checker.proofs.FallEnds.{ClosuresEnd, HeapsEnd, Below, closing_falls, elements_falls, heaps_falls}
 use Rattle.checker.proofs.FallLoops.{laws_falls, keys_falls, products_falls, periods_falls, separating_falls}

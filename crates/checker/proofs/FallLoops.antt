@@ -6,7 +6,7 @@ use Rattle.misere_theory.specs.Certificates.{Certificate, InRanges, pairs_from}
 use Rattle.monoid_table.specs.Turns.{JobState, triples, is_over, turn as turn_job}
 use Rattle.transition_algebra.specs.Work.{heap_cost}
 use Rattle.certificate.specs.Pieces.{pretending_of}
-use Rattle.checker.specs.Answers.Answer.{Law, Word, Order, Period, Apart}
+use Rattle.answers.specs.Answers.Answer.{Law, Word, Order, Period, Apart}
 use Rattle.checker.specs.Closings.{bound_of}
 use Rattle.checker.specs.Units.{rest}
 use Rattle.checker.specs.Views.{LawsView, KeysView, ProductsView, PeriodsView, SeparatingView}

@@ -19,7 +19,7 @@ use Rattle.pair_closure.specs.declared.settle.Held.{Held}
 use Rattle.pair_closure.specs.Turns.{State}
 use Rattle.pair_closure.specs.OptionLaws.{items_have, has_items}
 use Rattle.certificate.specs.Pieces.{Pieces, certificate_of}
-use Rattle.checker.specs.Sheets.{IsPortion}
+use Rattle.answers.specs.Portions.{IsPortion}
 use Rattle.checker.specs.Rules.{Obeys, Breaks, HeldObey}
 use Rattle.checker.specs.Closings.{HavePairs, IsClosing, IsCovered, bound_of}
 use Rattle.checker.proofs.Rows.{rows_of-entry}

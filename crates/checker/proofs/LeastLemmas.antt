@@ -11,8 +11,8 @@ use Rattle.certificate_text.specs.Reading.{certificate_at}
 use Rattle.certificate.specs.Pieces.{grid_of, pretending_of}
 use Rattle.pair_closure.specs.Progress.{Progress, begun, moved, is_over as closure_over, is_done}
 use Rattle.pair_closure.specs.Positions.{rising, word}
-use Rattle.checker.specs.Answers.{Answer}
-use Rattle.checker.specs.Answers.Answer.{Yes, Text, Law, Word, Order, Period, Apart, Outcome, Limit, Memory}
+use Rattle.answers.specs.Answers.{Answer}
+use Rattle.answers.specs.Answers.Answer.{Yes, Text, Law, Word, Order, Period, Apart, Outcome, Limit, Memory}
 use Rattle.checker.specs.Views.{LawsView, KeysView, ProductsView, PeriodsView, SeparatingView, HeapsView, ElementsView, ClosingView}
 use Rattle.checker.specs.Turns.{Phase, turn, opened, laws_at, laws_turn, keys_at, keys_turn, is_keyed, is_above_last, products_at, products_turn, is_in_order, periods_turn, comes_again, separating_at, separating_turn, tells_apart, heaps_at, heaps_turn, elements_at, elements_turn, first_from, leads_in, keys_from, closing_at, closing_turn, keeps_more, obeys, newest}
 use Rattle.checker.specs.Turns.Phase.{Reading, Laws, Keys, Products, Periods, Separating, Heaps, Elements, Closing, Ended}

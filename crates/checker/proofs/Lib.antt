@@ -7,7 +7,6 @@ pub mod PeriodLemmas
 pub mod ApartLemmas
 pub mod RuleLemmas
 pub mod SpellLemmas
-pub mod ValueLemmas
 pub mod HeapLemmas
 pub mod ElementLemmas
 pub mod UnitLemmas
@@ -27,7 +26,6 @@ pub mod FallLoops
 pub mod LeastLemmas
 pub mod FallLemmas
 pub mod StageLemmas
-pub mod AnswerLemmas
 pub mod DueLemmas
 pub mod AdvanceLemmas
 pub mod HeldLemmas

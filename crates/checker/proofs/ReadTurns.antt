@@ -5,7 +5,7 @@ use Rattle.certificate_text.specs.Reading.{certificate_at}
 use Rattle.certificate_text.specs.Spelling.{Spells}
 use Rattle.certificate.specs.Pieces.{grid_of}
 use Rattle.monoid_table.specs.Turns.{fresh}
-use Rattle.checker.specs.Answers.Answer.{Text}
+use Rattle.answers.specs.Answers.Answer.{Text}
 use Rattle.checker.specs.Turns.{opened}
 use Rattle.checker.specs.Turns.Phase.{Laws, Ended}
 

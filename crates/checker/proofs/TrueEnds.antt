@@ -24,9 +24,9 @@ use Rattle.pair_closure.specs.Turns as turning
 use Rattle.pair_closure.specs.Progress as closing
 use Rattle.pair_closure.specs.Keeping.{KeepsOne}
 use Rattle.pair_closure.specs.Positions.{IsClaimOver, ShowsPairs, as_pair, kept, rising, word}
-use Rattle.checker.specs.Answers.{Answer, Fits}
-use Rattle.checker.specs.Answers.Answer.{Yes, Outcome, Limit, Memory}
-use Rattle.checker.specs.Sheets.{IsPortion}
+use Rattle.answers.specs.Answers.{Answer, Fits}
+use Rattle.answers.specs.Answers.Answer.{Yes, Outcome, Limit, Memory}
+use Rattle.answers.specs.Portions.{IsPortion}
 use Rattle.checker.specs.Rules.{Obeys, Breaks}
 use Rattle.checker.specs.Closings.{HavePairs, bound_of}
 use Rattle.checker.specs.Views.{HeapsView, ElementsView, ClosingView}

@@ -10,7 +10,7 @@ use Rattle.certificate.specs.Pieces.{grid_of, pretending_of}
 use Rattle.monoid_table.specs.Grids.{IsShaped}
 use Rattle.monoid_table.specs.Turns.{JobState, triples, turn, turns, fresh}
 use Rattle.transition_algebra.specs.Heaps.{Agrees}
-use Rattle.checker.specs.Answers.Answer.{Law, Word, Order, Period, Apart}
+use Rattle.answers.specs.Answers.Answer.{Law, Word, Order, Period, Apart}
 use Rattle.checker.specs.Progress.{IsKeyOf, KeysSoFar, ProductsSoFar, ApartSoFar, HasNoFaultBelow}
 use Rattle.checker.specs.Views.{LawsView, KeysView, ProductsView, PeriodsView, SeparatingView}
 use Rattle.checker.specs.Turns.{laws_at, laws_turn, keys_at, keys_turn, is_keyed, is_above_last, products_at, products_turn, is_in_order, periods_turn, comes_again, separating_at, separating_turn, tells_apart, heaps_at}

@@ -10,8 +10,8 @@ use Rattle.pair_closure.specs.Turns as turning
 use Rattle.misere_theory.specs.Games.{IsHeapUpTo}
 use Rattle.misere_theory.specs.Pairs.{ElementsObey}
 use Rattle.misere_theory.specs.Certificates.{claim_of}
-use Rattle.checker.specs.Answers.{Holds}
-use Rattle.checker.specs.Answers.Answer.{Memory}
+use Rattle.answers.specs.Answers.{Holds}
+use Rattle.answers.specs.Answers.Answer.{Memory}
 use Rattle.checker.specs.Sheets.{IsLawful}
 use Rattle.checker.specs.Closings.{HavePairs, ObeysAt, bound_of}
 use Rattle.checker.specs.Progress.{KeysSoFar, ProductsSoFar, PeriodsSoFar, ApartSoFar}

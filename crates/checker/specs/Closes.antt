@@ -4,7 +4,7 @@ use Rattle.std.specs.FinSet as set
 use Rattle.std.specs.Ordering.{nat_cmp}
 use Rattle.misere_theory.specs.Certificates.{Certificate}
 use Rattle.pair_closure.specs.Progress.{Progress}
-use Rattle.checker.specs.Sheets.{IsPortion}
+use Rattle.answers.specs.Portions.{IsPortion}
 use Rattle.checker.specs.Turns.{Phase, Runs}
 use Rattle.checker.specs.Turns.Phase.{Closing}
 

@@ -1,7 +1,7 @@
 -- Jobs as their callers see them.
 use Rattle.std.specs.Prelude.{◌≡◌, ◌≢◌, ◌⊎◌, ℕ, ◌+◌, ◌^◌, ◌<◌, ◌≤◌, List, Option, Some, None}
-use Rattle.checker.specs.Answers.{Answer, IsTrueOf}
-use Rattle.checker.specs.Answers.Answer.{Memory}
+use Rattle.answers.specs.Answers.{Answer, IsTrueOf}
+use Rattle.answers.specs.Answers.Answer.{Memory}
 use Rattle.checker.specs.Turns.{cost, verdict}
 
 -- The bytes and the limit that a job was opened with, the units spent so far, and the answer, once

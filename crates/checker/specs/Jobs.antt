@@ -1,7 +1,7 @@
 -- Jobs as their callers see them.
 use Rattle.std.specs.Prelude.{◌≡◌, Option, Some, None}
-use Rattle.checker.specs.Answers.{Answer, refused}
-use Rattle.checker.specs.Answers.Answer.{Yes as Accepts}
+use Rattle.answers.specs.Answers.{Answer, refused}
+use Rattle.answers.specs.Answers.Answer.{Yes as Accepts}
 use Rattle.checker.specs.declared.job.Progress.{Progress}
 use Rattle.checker.specs.declared.job.Progress.TheVariants.{Going, Yes, No}
 use Rattle.checker.specs.JobViews.{JobView, IsEnding}

@@ -1,11 +1,8 @@
 pub mod Units
 pub mod Sheets
-pub mod Spelled
 pub mod Progress
 pub mod Rules
 pub mod Closings
-pub mod Refusals
-pub mod Answers
 pub mod Views
 pub mod Turns
 pub mod Closes

@@ -1,13 +1,14 @@
 -- A certificate as the checker holds it.
-use Rattle.std.specs.Prelude.{◌≡◌, ℕ, ◌≤◌, List}
+use Rattle.std.specs.Prelude.{ℕ, ◌≤◌, List}
 use Rattle.std.specs.FinSet as set
 use Rattle.std.specs.Ordering.{nat_cmp}
-use Rattle.misere_theory.specs.Certificates.{Certificate, InRanges, times_of, claim_of}
+use Rattle.misere_theory.specs.Certificates.{Certificate, InRanges, times_of}
 use Rattle.misere_theory.specs.Quotients.{Monoid}
 use Rattle.monoid_table.specs.Grids.{Grid}
 use Rattle.monoid_table.specs.Turns.{triples}
 use Rattle.transition_algebra.specs.Pretending.{Pretending}
 use Rattle.certificate.specs.Pieces.{Pieces, certificate_of, IsWhole}
+use Rattle.answers.specs.Portions.{IsPortion}
 
 -- the parts of a certificate whose rows are a table's
 abbrev pub pieces_of : List ℕ → Grid → Pretending → List ℕ → List (ℕ × ℕ) → List ℕ → Pieces
@@ -26,10 +27,6 @@ pieces_of code table phi portion words apart =
 pub record IsLawful (c : Certificate) : Type 0 where
   pub in_ranges : InRanges c
   pub monoid : Monoid c.order (times_of c)
-
--- the set has the elements of the portion
-abbrev pub IsPortion : Certificate → set.FinSet nat_cmp → Type 0
-IsPortion c inside = (x : ℕ) → set.contains inside x ≡ (claim_of c).portion x
 
 -- the parts are whole, and the set is the portion
 pub record IsRead (p : Pieces) (inside : set.FinSet nat_cmp) : Type 0 where

@@ -1,15 +1,13 @@
 //! A check from its beginning to its end.
 ghost use Rattle.std.specs.Prelude.{◌≡◌, ◌⊎◌};
-ghost use Rattle.checker.specs.Answers.{answer_of, IsTrueOf};
-ghost use Rattle.checker.specs.Answers.Answer.{Memory};
+ghost use Rattle.answers.specs.Answers.{answer_of, IsTrueOf};
+ghost use Rattle.answers.specs.Answers.Answer.{Memory};
 ghost use Rattle.checker.specs.Turns.{verdict};
 
-use crate::answers::true_answers;
-use crate::certified::Certified;
-use crate::refusal::Refusal;
 use crate::stage::Stage;
 use crate::turns::checks_end;
 use allocation::Room;
+use answers::{Certified, Refusal, true_answers};
 
 /// Whether the bytes are an accepted certificate. The answer is the verdict of the bytes and the
 /// limit, which is always the same, unless memory was refused.

@@ -8,19 +8,18 @@ ghost use Rattle.pair_closure.specs.Progress.{SameData, begun, blank_held, has_e
 ghost use Rattle.certificate.specs.Pieces.{grid_of};
 ghost use Rattle.checker.specs.Rules.{Breaks, HeldObey};
 ghost use Rattle.checker.specs.Closings.{HavePairs, bound_of};
-ghost use Rattle.checker.specs.Answers.Answer.{Yes, Outcome, Limit};
+ghost use Rattle.answers.specs.Answers.Answer.{Yes, Outcome, Limit};
 ghost use Rattle.checker.specs.Turns.{Phase};
 ghost use Rattle.checker.specs.Turns.Phase.{Closing as AtClosing, Ended as AtEnded};
 ghost use Rattle.checker.specs.Closes.{Closes};
 ghost use Rattle.checker.specs.Stages.{Carries, Comes, reached};
 
-use crate::certified::Certified;
 use crate::lines::Lines;
-use crate::refusal::Refusal;
 use crate::rule::obeys;
 use crate::sheet::Sheet;
 use crate::stage::Stage;
 use allocation::{Memory, Room};
+use answers::{Certified, Refusal};
 use certificate::{Cert, Parts};
 use element_sets::ElementSet;
 use misere_theory::certificates::tested_certificates_are_accepted;

@@ -5,18 +5,17 @@ ghost use Rattle.misere_theory.specs.Games.{IsHeap, IsPosition};
 ghost use Rattle.misere_theory.specs.Quotients.{RuleFails};
 ghost use Rattle.misere_theory.specs.Certificates.{Canonical, claim_of, times_of};
 ghost use Rattle.checker.specs.Closings.{HavePairs, AreContexts, LeadsIn};
-ghost use Rattle.checker.specs.Answers.Answer.{Outcome};
+ghost use Rattle.answers.specs.Answers.Answer.{Outcome};
 ghost use Rattle.pair_closure.specs.Positions.{rising};
 ghost use Rattle.checker.specs.Turns.{keys_from, Runs};
 ghost use Rattle.checker.specs.Turns.Phase.{Elements as AtElements, Ended as AtEnded};
 ghost use Rattle.checker.specs.Stages.{Carries, Comes, phase_of, reached};
 
 use crate::closing::Closing;
-use crate::refusal::Refusal;
 use crate::sheet::{Sheet, sheets_are_lawful};
-use crate::spelling::position_of;
 use crate::stage::Stage;
 use allocation::{Memory, Room};
+use answers::{Refusal, keys_spell_positions, position_of};
 use element_sets::ElementSet;
 use positions::Position;
 use std::alloc::Global;
@@ -123,6 +122,7 @@ fn position_with<A: Room + Copy>(
     ensures fails { IfOk result (RuleFails sheet.now.code (claim_of sheet.now)) }
     ensures exact { IfOk result (λ X. X ≡ rising (heap ∷ keys_from sheet.now sheet.now.order y)) }
 {
+    keys_spell_positions();
     let mut position = position_of(alloc, sheet.words(), y)?;
     position.push(heap)?;
     position.heaps();

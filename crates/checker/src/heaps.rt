@@ -7,10 +7,10 @@ ghost use Rattle.checker.specs.Stages.{Carries, Comes, reached};
 
 use crate::elements::Elements;
 use crate::lines::Lines;
-use crate::refusal::Refusal;
 use crate::sheet::Sheet;
 use crate::stage::Stage;
 use allocation::Room;
+use answers::Refusal;
 use std::alloc::Global;
 use std::marker::Model;
 use transition_algebra::{HeapJob, heap_jobs_end};

@@ -1,12 +1,10 @@
 //! Checks in pieces.
 ghost use Rattle.std.specs.Prelude.{◌≡◌, ◌≢◌, None};
 
-use crate::answers::true_answers;
-use crate::certified::Certified;
-use crate::refusal::Refusal;
 use crate::stage::Stage;
 use crate::turns::checks_end;
 use allocation::Room;
+use answers::{Certified, Refusal, true_answers};
 use std::alloc::{Allocator, Global};
 use std::marker::Model;
 

@@ -9,10 +9,10 @@ ghost use Rattle.checker.specs.Turns.Phase.{Keys as AtKeys};
 ghost use Rattle.checker.specs.Stages.{Carries, phase_of, reached};
 
 use crate::products::Products;
-use crate::refusal::Refusal;
 use crate::sheet::{Sheet, sheets_are_lawful};
 use crate::stage::Stage;
 use allocation::Room;
+use answers::Refusal;
 use certificate::Key;
 use std::alloc::Global;
 use std::marker::Model;

@@ -8,10 +8,10 @@ ghost use Rattle.checker.specs.Stages.{Carries, phase_of, reached};
 
 use crate::keys::Keys;
 use crate::lines::{Lines, set_of};
-use crate::refusal::Refusal;
 use crate::sheet::Sheet;
 use crate::stage::Stage;
 use allocation::Room;
+use answers::Refusal;
 use certificate::{Cert, Parts};
 use monoid_table::{TableJob, turns_add_up};
 use octal_code::Code;

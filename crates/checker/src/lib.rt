@@ -5,8 +5,6 @@
 //! A unit is one turn of one stage, and `Stage::run` drives both.
 #![tactic(auto)]
 
-mod answers;
-mod certified;
 mod checking;
 mod closing;
 mod elements;
@@ -18,19 +16,14 @@ mod lines;
 mod periods;
 mod products;
 mod reading;
-mod refusal;
 mod rule;
 mod separating;
 mod sheet;
-mod spelling;
 mod stage;
 mod turns;
-mod values;
 
-pub use answers::{one_text_for_a_code, true_answers};
-pub use certified::Certified;
+pub use answers::{Certified, Refusal, one_text_for_a_code, true_answers};
 pub use checking::check;
 pub use job::{Job, Progress};
 pub use positions::Outcome;
-pub use refusal::Refusal;
 pub use turns::{checks_end, turns_decide, verdicts_are_true};

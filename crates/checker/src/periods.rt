@@ -6,11 +6,11 @@ ghost use Rattle.checker.specs.Turns.{comes_again, Works};
 ghost use Rattle.checker.specs.Turns.Phase.{Periods as AtPeriods};
 ghost use Rattle.checker.specs.Stages.{Carries, phase_of, reached};
 
-use crate::refusal::Refusal;
 use crate::separating::Separating;
 use crate::sheet::{Sheet, sheets_are_lawful};
 use crate::stage::Stage;
 use allocation::Room;
+use answers::Refusal;
 use std::alloc::Global;
 use std::marker::Model;
 

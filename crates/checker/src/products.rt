@@ -8,10 +8,10 @@ ghost use Rattle.checker.specs.Stages.{Carries, phase_of, reached};
 
 use crate::keys::is_below;
 use crate::periods::Periods;
-use crate::refusal::Refusal;
 use crate::sheet::{Sheet, sheets_are_lawful};
 use crate::stage::Stage;
 use allocation::Room;
+use answers::Refusal;
 use certificate::Key;
 use std::alloc::Global;
 use std::marker::Model;

@@ -4,9 +4,9 @@ ghost use Rattle.checker.specs.Turns.Phase.{Reading as AtReading};
 ghost use Rattle.checker.specs.Stages.{Stands, Comes, reached};
 
 use crate::laws::Laws;
-use crate::refusal::Refusal;
 use crate::stage::Stage;
 use allocation::Room;
+use answers::Refusal;
 use certificate::{TextFault, read};
 
 /// Reads the whole text, if there is a unit.

@@ -7,10 +7,10 @@ ghost use Rattle.checker.specs.Turns.Phase.{Separating as AtSeparating};
 ghost use Rattle.checker.specs.Stages.{Carries, phase_of, reached};
 
 use crate::heaps::Heaps;
-use crate::refusal::Refusal;
 use crate::sheet::{Sheet, sheets_are_lawful};
 use crate::stage::Stage;
 use allocation::Room;
+use answers::Refusal;
 use std::alloc::Global;
 use std::marker::Model;
 

@@ -1,9 +1,8 @@
 //! The stages of a check, in a row.
 ghost use Rattle.std.specs.Prelude.{◌≡◌, ◌*◌, ◌+◌, ◌-◌, ◌<◌, ◌≤◌, ℕ, List, Some, true, false};
-ghost use Rattle.checker.specs.Answers.{answer_of};
+ghost use Rattle.answers.specs.Answers.{answer_of};
 ghost use Rattle.checker.specs.Turns.{Runs, stage_of};
 
-use crate::certified::Certified;
 use crate::closing::Closing;
 use crate::elements::Elements;
 use crate::heaps::Heaps;
@@ -12,9 +11,9 @@ use crate::laws::Laws;
 use crate::periods::Periods;
 use crate::products::Products;
 use crate::reading;
-use crate::refusal::Refusal;
 use crate::separating::Separating;
 use allocation::Room;
+use answers::{Certified, Refusal};
 use std::alloc::Global;
 
 /// A stage of a check, with what it holds.

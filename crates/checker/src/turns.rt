@@ -2,14 +2,14 @@
 ghost use Rattle.std.specs.Prelude.{◌≡◌, ◌≢◌, ◌+◌, ◌-◌, ◌*◌, ◌^◌, ◌<◌, ◌≤◌, ℕ, List, false};
 ghost use Rattle.certificate_text.specs.Spelling.{Spells};
 ghost use Rattle.misere_theory.specs.Certificates.{Certificate};
-ghost use Rattle.checker.specs.Answers.{IsTrueOf};
-ghost use Rattle.checker.specs.Answers.Answer.{Yes, Memory};
+ghost use Rattle.answers.specs.Answers.{IsTrueOf};
+ghost use Rattle.answers.specs.Answers.Answer.{Yes, Memory};
 ghost use Rattle.checker.specs.Turns.{Phase, turn, turns, is_ended, stage_of, bound, cost, verdict, Works, Reaches, HasSpent};
 ghost use Rattle.checker.specs.Turns.Phase.{Reading, Ended};
 ghost use Rattle.checker.specs.Measures.{measure};
 ghost use Rattle.checker.specs.Sound.{IsSound};
 
-use crate::answers::true_answers;
+use answers::true_answers;
 
 /// Each turn keeps what its stage holds sound, and lowers what the check takes at most. So from its
 /// start a check comes to its end after at most as many turns as the bound, which are those that it

@@ -5,8 +5,8 @@ use Rattle.misere_theory.proofs.Outcomes.{not_both}
 use Rattle.positions.specs.Outcomes.{HasOutcome}
 use Rattle.positions.specs.declared.outcome.Outcome.{Outcome as Told}
 use Rattle.positions.specs.declared.outcome.Outcome.TheVariants.{P, N}
-use Rattle.checker.specs.Answers.{Answer}
-use Rattle.checker.specs.Answers.Answer.{Yes, Text, Law, Word, Order, Period, Apart, Outcome, Limit, Memory}
+use Rattle.answers.specs.Answers.{Answer}
+use Rattle.answers.specs.Answers.Answer.{Yes, Text, Law, Word, Order, Period, Apart, Outcome, Limit, Memory}
 use Rattle.checker.specs.JobViews.{JobView}
 use Rattle.player.specs.Answers.{IsRightAnswer}
 use Rattle.player.specs.declared.answering.Answer.{Answer as Advice}

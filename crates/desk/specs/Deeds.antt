@@ -2,8 +2,8 @@
 use Rattle.std.specs.Prelude.{◌≡◌, Option, Some, None, Result, Ok, Err}
 use Rattle.std.specs.Borrow.{Bor}
 use Rattle.misere_theory.specs.Certificates.{Certificate}
-use Rattle.checker.specs.Answers.{Answer}
-use Rattle.checker.specs.Answers.Answer.{Yes}
+use Rattle.answers.specs.Answers.{Answer}
+use Rattle.answers.specs.Answers.Answer.{Yes}
 use Rattle.checker.specs.JobViews.{JobView}
 use Rattle.desk.specs.declared.deed.Deed.{Deed}
 use Rattle.desk.specs.declared.deed.Deed.TheVariants as done

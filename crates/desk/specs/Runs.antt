@@ -1,7 +1,7 @@
 -- Runs of the desk's machine, and what one client sees of them. This project's own.
 use Rattle.std.specs.Prelude.{◌≡◌, ℕ, ◌==◌, Bool, true, false, if◌then◌else◌, List, [], ◌∷◌, All, None}
-use Rattle.checker.specs.Answers.{Answer}
-use Rattle.checker.specs.Answers.Answer.{Memory}
+use Rattle.answers.specs.Answers.{Answer}
+use Rattle.answers.specs.Answers.Answer.{Memory}
 use Rattle.desk.specs.Machine.{State, Call, Reply, AmpleStep}
 use Rattle.desk.specs.Machine.Reply.{Says, Full, NoJob, NotCertified, NoMemory}
 

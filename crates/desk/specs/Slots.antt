@@ -1,7 +1,7 @@
 -- What a slot says of a job, beside its core.
 use Rattle.std.specs.Prelude.{◌≡◌, ◌≢◌, ◌⊎◌, ℕ, ◌+◌, ◌<◌, ◌≤◌, List, Option, Some, None, slice_index_or, min}
-use Rattle.checker.specs.Answers.{Answer}
-use Rattle.checker.specs.Answers.Answer.{Memory}
+use Rattle.answers.specs.Answers.{Answer}
+use Rattle.answers.specs.Answers.Answer.{Memory}
 use Rattle.checker.specs.JobViews.{JobView}
 use Rattle.checker.specs.Turns.{cost, verdict}
 use Rattle.desk.specs.declared.slot.Slot.{Slot}

@@ -23,8 +23,8 @@ pub struct Desk<A: Room = Global> {
 
 impl<A: Room> Model for Desk<A> {
     ghost use Rattle.std.specs.Prelude.{◌≡◌, List, Option};
-    ghost use Rattle.checker.specs.Answers.{refused};
-    ghost use Rattle.checker.specs.Answers.Answer.{Memory};
+    ghost use Rattle.answers.specs.Answers.{refused};
+    ghost use Rattle.answers.specs.Answers.Answer.{Memory};
     ghost use Rattle.checker.specs.JobViews.{JobView};
     ghost use Rattle.desk.specs.Desks.{IsDesk, jobs_in};
 

@@ -1,7 +1,7 @@
 //! What is done with jobs, by their places.
 ghost use Rattle.std.specs.Prelude.{◌≡◌, ◌<◌, ℕ, None, Some, length, not, false, IsTrue, OnOk, OnErr};
-ghost use Rattle.checker.specs.Answers.{refused};
-ghost use Rattle.checker.specs.Answers.Answer.{Memory as no_memory};
+ghost use Rattle.answers.specs.Answers.{refused};
+ghost use Rattle.answers.specs.Answers.Answer.{Memory as no_memory};
 ghost use Rattle.desk.specs.Machine.{fresh, is_free, least_free};
 ghost use Rattle.desk.specs.Deeds.{told_of, Certifies};
 ghost use Rattle.desk.specs.Replies.{reply_of};

@@ -1,6 +1,6 @@
 //! What each client is told depends on its own calls alone.
 ghost use Rattle.std.specs.Prelude.{◌≡◌, ◌≢◌, ℕ, List, true, false};
-ghost use Rattle.checker.specs.Answers.{Answer};
+ghost use Rattle.answers.specs.Answers.{Answer};
 ghost use Rattle.desk.specs.Machine.{State, Call, Reply, Step};
 ghost use Rattle.desk.specs.Runs.{Run, AmpleRun, nothing_open, calls_of, replies_to, is_nine, is_refused, HasNoNine};
 

@@ -1,6 +1,6 @@
 //! Jobs on a desk, each with its core and its own count of units.
 ghost use Rattle.std.specs.Prelude.{◌≡◌, ◌≢◌, ◌<◌, ◌≤◌, None, Some, ℕ, IsTrue, false};
-ghost use Rattle.checker.specs.Answers.Answer.{Memory as no_memory};
+ghost use Rattle.answers.specs.Answers.Answer.{Memory as no_memory};
 ghost use Rattle.checker.specs.Turns.{cost};
 ghost use Rattle.desk.specs.Desks.{slot_at};
 ghost use Rattle.desk.specs.Slots.{HasGoneOn, IsFurthest, standing_of};

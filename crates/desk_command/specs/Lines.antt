@@ -3,7 +3,7 @@ use Rattle.std.specs.Prelude.{◌≡◌, ℕ, List, [], ◌∷◌, ◌++◌, cod
 use Rattle.positions.specs.declared.outcome.Outcome.{Outcome}
 use Rattle.positions.specs.declared.outcome.Outcome.TheVariants.{P, N}
 use Rattle.play_command.specs.Lines.{answer_line}
-use Rattle.verdicts.specs.Lines.{first_line}
+use Rattle.verdict_texts.specs.Lines.{first_line}
 use Rattle.desk.specs.Machine.{Reply}
 use Rattle.desk.specs.Machine.Reply.{Opened, Going, Says, Dropped, Tells, Advises, Full, NoJob, NotCertified, NoMemory}
 

@@ -14,10 +14,10 @@ use Rattle.misere_theory.specs.Games.Move.{Here, There}
 use Rattle.misere_theory.specs.Games.IsP.{AllLose}
 use Rattle.misere_theory.specs.Games.IsN.{Ended, Wins as ByMove}
 use Rattle.misere_theory.proofs.Shuffles.{move_from_multiset, from_permutation, p_shuffled, n_shuffled}
-use Rattle.positions.specs.Exact.{heaps_of}
-use Rattle.positions.specs.Options.{options_of}
-use Rattle.positions.specs.declared.left.Left.{Left}
-use Rattle.positions.specs.ListLaws.{nothing_in, only_in, itself_in}
+use Rattle.heap_options.specs.Exact.{heaps_of}
+use Rattle.heap_options.specs.Options.{options_of}
+use Rattle.heap_options.specs.declared.left.Left.{Left}
+use Rattle.heap_options.specs.ListLaws.{nothing_in, only_in, itself_in}
 use Rattle.outcome_search.proofs.Heaps.{move_from_place}
 use Rattle.positions.specs.Outcomes.{HasOutcome}
 use Rattle.outcome_search.specs.Settled.{Lists, Follows}

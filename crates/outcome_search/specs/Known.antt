@@ -4,8 +4,8 @@ use Rattle.std.specs.List.Sorted.{IsNonDecreasing}
 use Rattle.std.specs.Cmp.Lexicographic.{pointwise}
 use Rattle.std.specs.Map.{lookup}
 use Rattle.misere_theory.specs.Games.{Move, MultisetMove}
-use Rattle.positions.specs.Exact.{heaps_of}
-use Rattle.positions.specs.declared.left.Left.{Left}
+use Rattle.heap_options.specs.Exact.{heaps_of}
+use Rattle.heap_options.specs.declared.left.Left.{Left}
 use Rattle.positions.specs.declared.outcome.Outcome.{Outcome}
 use Rattle.positions.specs.declared.outcome.Outcome.TheVariants.{P, N}
 use Rattle.outcome_search.specs.declared.look.Seen.{Seen}

@@ -2,7 +2,7 @@
 ghost use Rattle.std.specs.Prelude.{◌<◌, length, slice_index, IfOk, MatchOption};
 ghost use Rattle.outcome_search.specs.Known.{known, HasSeen, IsUnknown};
 ghost use Rattle.outcome_search.specs.Settled.{Follows};
-ghost use Rattle.positions.specs.Options.{options_of};
+ghost use Rattle.heap_options.specs.Options.{options_of};
 
 use crate::memo::Memo;
 use allocation::{Memory, Room};

@@ -1,7 +1,7 @@
 -- What is printed for an answer of a player. This project's own.
 use Rattle.std.specs.Prelude.{ℕ, List, ◌++◌, codes, decimal}
-use Rattle.positions.specs.declared.left.Left.{Left}
-use Rattle.positions.specs.declared.left.Left.TheVariants.{Nothing, One, Two}
+use Rattle.heap_options.specs.declared.left.Left.{Left}
+use Rattle.heap_options.specs.declared.left.Left.TheVariants.{Nothing, One, Two}
 use Rattle.player.specs.declared.answering.Answer.{Answer}
 use Rattle.player.specs.declared.answering.Answer.TheVariants.{Ended, Lost, Wins}
 

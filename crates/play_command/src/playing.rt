@@ -4,8 +4,8 @@ ghost use Rattle.positions.specs.Text.{IsTextOf};
 ghost use Rattle.play_command.specs.Plays.{AnswersIn, IsPlayCause, IsPositionCause, Plays, PlaysFound};
 
 use crate::answers::answer_text;
+use answers::Certified;
 use check_command::certified;
-use checker::Certified;
 use command_results::{Said, Stop};
 use folders::Folder;
 use player::answer;

@@ -8,7 +8,7 @@ use Rattle.misere_theory.specs.Quotients.{value}
 use Rattle.misere_theory.proofs.Outcomes.{determined, not_both}
 use Rattle.misere_theory.proofs.Shuffles.{move_from_multiset}
 use Rattle.misere_theory.proofs.Wins.{winning_leads, first_win, wins_at_n, p_keeps}
-use Rattle.positions.specs.Exact.{heaps_of}
+use Rattle.heap_options.specs.Exact.{heaps_of}
 use Rattle.positions.specs.declared.moves.Move.{Move as MoveMade}
 use Rattle.player.specs.Answers.{WinsBy, IsRightAnswer}
 use Rattle.player.specs.declared.answering.Answer.{Answer}

@@ -7,9 +7,9 @@ use Rattle.std.proofs.lemmas.List.Concat.{length-flat_map}
 use Rattle.std.proofs.lemmas.List.FromFn.{length-map-range_with_len}
 use Rattle.octal_code.specs.Bits.{allows, takes_all, leaves_one}
 use Rattle.octal_code.specs.declared.leaving.Leaving.TheVariants.{TwoHeaps}
-use Rattle.positions.specs.Options.{options_at, nothing_left, one_left, two_left, where_holds, splits, options_up_to}
-use Rattle.positions.specs.declared.left.Left.{Left}
-use Rattle.positions.specs.declared.left.Left.TheVariants.{Nothing, One, Two}
+use Rattle.heap_options.specs.Options.{options_at, nothing_left, one_left, two_left, where_holds, splits, options_up_to}
+use Rattle.heap_options.specs.declared.left.Left.{Left}
+use Rattle.heap_options.specs.declared.left.Left.TheVariants.{Nothing, One, Two}
 
 sum_at_most : (f : ℕ → ℕ) (M a n : ℕ) → ((x : ℕ) → f x ≤ M) → sum_by f (range_with_len a n) ≤ n * M
 sum_at_most f M a zero h = let e : sum_by f (range_with_len a zero) ≡ 0 = refl in omega arith

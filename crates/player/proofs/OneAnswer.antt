@@ -1,9 +1,9 @@
 -- Two right answers in a position are one.
 use Rattle.std.proofs.Common.{◌≡◌, ℕ, List, refl, sym, ap, ap₂}
 use Rattle.misere_theory.proofs.Wins.{first_win_once}
-use Rattle.positions.specs.Exact.{heaps_of}
-use Rattle.positions.specs.declared.left.Left.{Left}
-use Rattle.positions.specs.declared.left.Left.TheVariants.{Nothing, One, Two}
+use Rattle.heap_options.specs.Exact.{heaps_of}
+use Rattle.heap_options.specs.declared.left.Left.{Left}
+use Rattle.heap_options.specs.declared.left.Left.TheVariants.{Nothing, One, Two}
 use Rattle.positions.specs.declared.moves.Move.{Move as MoveMade}
 use Rattle.player.specs.Answers.{IsRightAnswer}
 use Rattle.player.specs.declared.answering.Answer.{Answer}

@@ -6,10 +6,10 @@ use Rattle.misere_theory.specs.Games.{HeapOption, IsHeap, IsPosition}
 use Rattle.misere_theory.specs.Games.HeapOption.{Nothing as TakesAll, One as LeavesOne, Two as LeavesTwo}
 use Rattle.misere_theory.specs.Pairs.{IsSmallSplit}
 use Rattle.misere_theory.specs.Plays.{LeftBefore}
-use Rattle.positions.specs.Options.{options_of, options_up_to}
-use Rattle.positions.specs.Exact.{heaps_of, IsInOrder, IsPartUpTo}
-use Rattle.positions.specs.declared.left.Left.{Left}
-use Rattle.positions.specs.declared.left.Left.TheVariants.{Nothing, One, Two}
+use Rattle.heap_options.specs.Options.{options_of, options_up_to}
+use Rattle.heap_options.specs.Exact.{heaps_of, IsInOrder, IsPartUpTo}
+use Rattle.heap_options.specs.declared.left.Left.{Left}
+use Rattle.heap_options.specs.declared.left.Left.TheVariants.{Nothing, One, Two}
 use Rattle.positions.specs.RisingLists.{rising_same}
 
 pub before_trans : (H L M : List ℕ) → LeftBefore H L → LeftBefore L M → LeftBefore H M

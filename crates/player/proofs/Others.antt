@@ -16,10 +16,10 @@ use Rattle.misere_theory.proofs.SmallParts.{small_or_earlier}
 use Rattle.misere_theory.proofs.Sums.{IsPosition-append, value_in, value-append, heaps_kept}
 use Rattle.misere_theory.proofs.Wins.{winning_leads}
 use Rattle.misere_theory.proofs.Written.{periodic}
-use Rattle.positions.specs.Options.{options_up_to}
-use Rattle.positions.specs.Exact.{heaps_of}
-use Rattle.positions.specs.declared.left.Left.{Left}
-use Rattle.positions.specs.ListLaws.{only_in, itself_in}
+use Rattle.heap_options.specs.Options.{options_up_to}
+use Rattle.heap_options.specs.Exact.{heaps_of}
+use Rattle.heap_options.specs.declared.left.Left.{Left}
+use Rattle.heap_options.specs.ListLaws.{only_in, itself_in}
 use Rattle.player.specs.Looks.{puts, IsFirstInto}
 use Rattle.player.proofs.Order.{AreExact, Before, before_trans, not_before_itself, cut_before, small_in, in_order, option_heaps}
 use Rattle.player.proofs.Rests.{heap_at, dropped, taken}

@@ -2,7 +2,7 @@
 use Rattle.std.specs.Prelude.{◌≡◌, ◌↔◌, ℕ, List}
 use Rattle.misere_theory.specs.Games.{Move, HeapMove, IsP}
 use Rattle.misere_theory.specs.Plays.{IsFirstWin, Keeps}
-use Rattle.positions.specs.Exact.{heaps_of}
+use Rattle.heap_options.specs.Exact.{heaps_of}
 use Rattle.positions.specs.declared.moves.Move.{Move as MoveMade}
 use Rattle.player.specs.declared.answering.Answer.{Answer}
 use Rattle.player.specs.declared.answering.Answer.TheVariants.{Ended, Lost, Wins}

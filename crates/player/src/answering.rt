@@ -5,7 +5,7 @@ ghost use Rattle.misere_theory.specs.Games.{IsPosition};
 ghost use Rattle.player.specs.Answers.{IsRightAnswer};
 
 use crate::wins::first_win;
-use checker::Certified;
+use answers::Certified;
 use positions::Move;
 use std::alloc::Allocator;
 

@@ -5,13 +5,13 @@ ghost use Rattle.std.specs.Option.{MatchOption};
 ghost use Rattle.misere_theory.specs.Certificates.{Accepted, IsHeapOf, claim_of};
 ghost use Rattle.misere_theory.specs.Games.{HeapOption, IsPosition};
 ghost use Rattle.misere_theory.specs.Quotients.{value};
-ghost use Rattle.positions.specs.Exact.{heaps_of};
-ghost use Rattle.positions.specs.Options.{options_up_to};
-ghost use Rattle.positions.specs.declared.left.Left.{Left};
+ghost use Rattle.heap_options.specs.Exact.{heaps_of};
+ghost use Rattle.heap_options.specs.Options.{options_up_to};
+ghost use Rattle.heap_options.specs.declared.left.Left.{Left};
 ghost use Rattle.player.specs.Looks.{IsFirstInto, puts};
 
+use answers::Certified;
 use certificate::in_ranges;
-use checker::Certified;
 use positions::{Left, Options, options_are_exact, options_up_to};
 use std::alloc::Allocator;
 

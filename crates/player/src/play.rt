@@ -5,16 +5,16 @@ ghost use Rattle.misere_theory.specs.Games.{HeapOption};
 ghost use Rattle.misere_theory.specs.Plays.{LeftBefore};
 ghost use Rattle.misere_theory.specs.Quotients.{value};
 ghost use Rattle.positions.specs.Outcomes.{HasOutcome};
-ghost use Rattle.positions.specs.Exact.{heaps_of, IsInOrder};
-ghost use Rattle.positions.specs.Options.{options_up_to};
-ghost use Rattle.positions.specs.declared.left.Left.{Left};
+ghost use Rattle.heap_options.specs.Exact.{heaps_of, IsInOrder};
+ghost use Rattle.heap_options.specs.Options.{options_up_to};
+ghost use Rattle.heap_options.specs.declared.left.Left.{Left};
 ghost use Rattle.player.specs.Answers.{IsRightAnswer};
 ghost use Rattle.player.specs.Looks.{IsFirstInto};
 
 use crate::answering::{Answer, answer_at};
 use crate::looking::looks_at;
 use allocation::Room;
-use checker::Certified;
+use answers::Certified;
 use positions::{Options, Outcome, Position, options_are_exact};
 use std::alloc::Allocator;
 

@@ -6,11 +6,11 @@ ghost use Rattle.misere_theory.specs.Certificates.{Accepted, IsHeapOf, claim_of}
 ghost use Rattle.misere_theory.specs.Games.{IsPosition};
 ghost use Rattle.misere_theory.specs.Plays.{IsWinningMove, IsFirstWin};
 ghost use Rattle.misere_theory.specs.Quotients.{value};
-ghost use Rattle.positions.specs.Exact.{heaps_of};
+ghost use Rattle.heap_options.specs.Exact.{heaps_of};
 ghost use Rattle.player.specs.Wins.{NoneWinsBelow, other_heaps};
 
 use crate::looking::first_into;
-use checker::Certified;
+use answers::Certified;
 use positions::Move;
 use std::alloc::Allocator;
 

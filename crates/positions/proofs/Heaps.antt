@@ -7,9 +7,9 @@ use Rattle.std.proofs.lemmas.List.Edits.{length-remove, get_or-remove_below, get
 use Rattle.std.proofs.lemmas.List.Elements.{All-append, All-cons}
 use Rattle.std.proofs.lemmas.List.Sorted.{All-permutation, IsNonDecreasingBy-insert, IsPermutation-insert}
 use native.Mathlib.Decide.{dec_le}
-use Rattle.positions.specs.Exact.{heaps_of}
+use Rattle.heap_options.specs.Exact.{heaps_of}
 use Rattle.positions.specs.Positions.{IsSize}
-use Rattle.positions.specs.declared.left.Left.{Left}
+use Rattle.heap_options.specs.declared.left.Left.{Left}
 
 -- a heap that goes where no larger one stands before it and no smaller one after it
 pub placed : (xs : List ℕ) (i y : ℕ) → IsNonDecreasing xs → i ≤ length xs

@@ -1,9 +1,5 @@
-pub mod Turns
-pub mod Exact
-pub mod Allowed
 pub mod Permuted
 pub mod Heaps
 pub mod Words
 pub mod Texts
 pub mod Written
-pub mod Rising

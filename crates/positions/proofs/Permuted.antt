@@ -7,11 +7,11 @@ use Rattle.std.proofs.lemmas.List.{get_or_default, take_all}
 use Rattle.std.proofs.lemmas.List.Elements.{All-cons, All-nil}
 use Rattle.std.proofs.lemmas.List.Sorted.{IsPermutation-cons, IsPermutation-trans, IsPermutation-middle, IsPermutation-remove, IsPermutation-sym}
 use Rattle.misere_theory.specs.Games.{HeapMove}
-use Rattle.positions.specs.Exact.{heaps_of}
-use Rattle.positions.specs.Options.{options_of}
-use Rattle.positions.specs.declared.left.Left.{Left}
-use Rattle.positions.specs.declared.left.Left.TheVariants.{Nothing, One, Two}
-use Rattle.positions.specs.OptionLaws.{of_options, only}
+use Rattle.heap_options.specs.Exact.{heaps_of}
+use Rattle.heap_options.specs.Options.{options_of}
+use Rattle.heap_options.specs.declared.left.Left.{Left}
+use Rattle.heap_options.specs.declared.left.Left.TheVariants.{Nothing, One, Two}
+use Rattle.heap_options.specs.OptionLaws.{of_options, only}
 
 -- one heap more of those that are left is added
 pub added_more : (H xs ys zs : List ℕ) (i : ℕ) → i < length H → IsPermutation (take i H ++ xs) ys

@@ -1,10 +1,4 @@
-pub mod Options
-pub mod Walks
-pub mod WalkLaws
-pub mod Exact
-pub mod ListLaws
 pub mod RisingLists
-pub mod OptionLaws
 pub mod Positions
 pub mod Moves
 pub mod Outcomes

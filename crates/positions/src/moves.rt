@@ -1,14 +1,14 @@
 //! Moves.
-ghost use Rattle.std.specs.Prelude.{◌≡◌, ◌+◌, ◌<◌, ◌≤◌, ◌↔◌, Contains, IsTrue, IfOk, length};
+ghost use Rattle.std.specs.Prelude.{◌≡◌, ◌≤◌, ◌↔◌, Contains, IfOk, length};
 ghost use Rattle.misere_theory.specs.Games.{HeapMove};
-ghost use Rattle.positions.specs.Exact.{heaps_of};
+ghost use Rattle.heap_options.specs.Exact.{heaps_of};
 ghost use Rattle.positions.specs.Moves.{move_fault_number};
-ghost use Rattle.positions.specs.Options.{options_of};
+ghost use Rattle.heap_options.specs.Options.{options_of};
 
-use crate::left::Left;
 use crate::position::{INLINE, Position, place_of};
 use allocation::{Memory, Room};
-use octal_code::{Code, Leaving};
+use heap_options::{Left, is_option};
+use octal_code::Code;
 
 /// A heap's size, and what a move leaves of such a heap.
 #[derive(Clone, Copy, Debug, PartialEq, Eq)]
@@ -49,30 +49,6 @@ impl From<Memory> for MoveFault {
     fn from(_: Memory) -> MoveFault {
         MoveFault::Memory
     }
-}
-
-/// Whether a move may leave this of the heap n. No split is tried but the one in question.
-pub fn is_option(code: &Code, n: u64, left: Left) -> bool
-    ensures { IsTrue result ↔ Contains (options_of code.now n) left }
-{
-    match left {
-        Left::Nothing => code.takes_all(n, n),
-        Left::One(a) => code.leaves_one(n, n.saturating_sub(a)),
-        Left::Two(a, b) => {
-            if are_parts(n, a, b) {
-                code.allows(n - b - a, Leaving::TwoHeaps)
-            } else {
-                false
-            }
-        }
-    }
-}
-
-/// Whether a and b, the smaller first, are parts of what may stay of n.
-fn are_parts(n: u64, a: u64, b: u64) -> bool
-    ensures { IsTrue result ↔ ((1 ≤ a) × (a ≤ b) × (a + b ≤ n)) }
-{
-    a != 0 && a <= b && b <= n && a <= n - b
 }
 
 /// The position after a move. The heap is looked up, and the option is tested by itself, however

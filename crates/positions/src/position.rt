@@ -1,11 +1,11 @@
 //! Positions.
 ghost use Rattle.std.specs.List.Sorted.{IsNonDecreasing, IsPermutation};
 ghost use Rattle.std.specs.Prelude.{◌≡◌, ◌<◌, ◌≤◌, ◌∷◌, ◌++◌, ◌+◌, [], ℕ, length, slice_index, remove, All, IsOk, IfOk, OnOk, OnErr, MatchResult};
-ghost use Rattle.positions.specs.Exact.{heaps_of};
+ghost use Rattle.heap_options.specs.Exact.{heaps_of};
 ghost use Rattle.positions.specs.Positions.{IsSize};
 
-use crate::left::Left;
 use allocation::{Memory, Room};
+use heap_options::Left;
 use smallvec::SmallVec;
 use std::alloc::Global;
 use std::hash::{Hash, Hasher};

@@ -1,6 +1,6 @@
 //! The proposer that solves heap by heap, and learns from positions.
 use allocation::Memory;
-use checker::Refusal;
+use answers::Refusal;
 use drafts::{Drafts, Guess};
 use octal_code::Code;
 use quotient_finder::Proposer;

@@ -1,6 +1,6 @@
 //! The proposer that groups sampled positions by their outcomes.
 use allocation::Memory;
-use checker::Refusal;
+use answers::Refusal;
 use drafts::Drafts;
 use octal_code::Code;
 use quotient_finder::Proposer;

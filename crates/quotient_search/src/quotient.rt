@@ -3,8 +3,8 @@ use crate::cells::{at, index, part, small, word};
 use crate::lists::Lists;
 use crate::scene::Scene;
 use crate::work::Halt;
+use heap_options::options;
 use octal_code::Code;
-use positions::options;
 use std::alloc::Allocator;
 
 /// A commutative monoid with the elements of the heaps 1, 2, .. Each element is known by its

@@ -3,7 +3,7 @@ use Rattle.std.specs.Prelude.{◌≡◌, ℕ, ◌+◌, Bool, true, false, List, 
 use Rattle.misere_theory.specs.Certificates.{Certificate, claim_of, phi_at}
 use Rattle.octal_code.specs.Text.{code_text}
 use Rattle.positions.specs.Text.{position_text}
-use Rattle.checker.specs.Spelled.{AreSpelled}
+use Rattle.answers.specs.Spelled.{AreSpelled}
 use Rattle.check_command.specs.Checks.{Certifies, SaysOfFile}
 
 -- the first two lines

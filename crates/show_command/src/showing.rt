@@ -5,9 +5,9 @@ ghost use Rattle.command_results.specs.Stops.{IsFileCause};
 ghost use Rattle.show_command.specs.Shown.{AreElementLines, AreHeapLines, IsQuotientText, Shows, ShowsFound, element_line, head_lines, heap_line, letter_of, tail_line};
 
 use allocation::Memory;
+use answers::Certified;
 use certificate::Cert;
 use check_command::certified;
-use checker::Certified;
 use command_results::{Said, Stop};
 use folders::Folder;
 use std::alloc::{AllocError, Global};

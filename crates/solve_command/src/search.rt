@@ -3,7 +3,7 @@ ghost use Rattle.std.specs.Prelude.{◌≡◌, ◌≢◌, IfOk, IfErr};
 ghost use Rattle.quotient_finder.specs.Finding.{IsFound};
 
 use crate::bounds::SolveBounds;
-use checker::Certified;
+use answers::Certified;
 use octal_code::Code;
 use proposers::{Refiner, Sampler};
 use quotient_finder::{GaveUp, Limits, Proposer, find};

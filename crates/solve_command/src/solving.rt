@@ -7,8 +7,8 @@ ghost use Rattle.solve_command.specs.Solved.{Finds, IsNoCode, PrintsSpelling, So
 use crate::bounds::SolveBounds;
 use crate::search::search;
 use crate::stop::SolveStop;
+use answers::Certified;
 use certificate::write;
-use checker::Certified;
 use octal_code::Code;
 use quotient_finder::GaveUp;
 use std::alloc::Global;

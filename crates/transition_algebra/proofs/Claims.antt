@@ -7,10 +7,10 @@ use Rattle.misere_theory.specs.Games.HeapOption.{Nothing as TakesAll, One as Lea
 use Rattle.misere_theory.specs.Pairs.{IsPeriodic, IsSmallSplit}
 use Rattle.misere_theory.specs.Quotients.{Claim, Monoid, GivesElements, value, HeapOptionValue}
 use Rattle.misere_theory.proofs.SmallParts.{enough}
-use Rattle.positions.specs.Exact.{heaps_of, IsLeftAt}
-use Rattle.positions.specs.declared.left.Left.{Left}
-use Rattle.positions.specs.declared.left.Left.TheVariants.{Nothing, One, Two}
-use Rattle.positions.specs.OptionLaws.{in_options, of_options, only}
+use Rattle.heap_options.specs.Exact.{heaps_of, IsLeftAt}
+use Rattle.heap_options.specs.declared.left.Left.{Left}
+use Rattle.heap_options.specs.declared.left.Left.TheVariants.{Nothing, One, Two}
+use Rattle.heap_options.specs.OptionLaws.{in_options, of_options, only}
 use Rattle.monoid_table.specs.Grids.{Grid, times_in}
 use Rattle.transition_algebra.specs.Heaps.{Agrees, IsInto, largest_part, left_value}
 use Rattle.transition_algebra.specs.Pretending.{Pretending, phi_at, IsPretending}

@@ -9,9 +9,9 @@ use native.Mathlib.Decide.{dec_le}
 use Rattle.monoid_table.specs.Grids.{Grid}
 use Rattle.octal_code.specs.Bits.{allows, takes_all, leaves_one}
 use Rattle.octal_code.specs.declared.leaving.Leaving.TheVariants.{TwoHeaps}
-use Rattle.positions.specs.Options.{options_at, nothing_left, one_left, two_left, where_holds, splits}
-use Rattle.positions.specs.declared.left.Left.{Left}
-use Rattle.positions.specs.declared.left.Left.TheVariants.{Nothing, One, Two}
+use Rattle.heap_options.specs.Options.{options_at, nothing_left, one_left, two_left, where_holds, splits}
+use Rattle.heap_options.specs.declared.left.Left.{Left}
+use Rattle.heap_options.specs.declared.left.Left.TheVariants.{Nothing, One, Two}
 use Rattle.transition_algebra.specs.Pretending.{Pretending, IsPretending}
 use Rattle.transition_algebra.specs.Heaps.{bound_of, largest_part}
 use Rattle.transition_algebra.specs.Work.{Trying, tries, opening, tried, turn, turns, heap_cost}

@@ -7,10 +7,10 @@ use native.Mathlib.Decide.{dec_le}
 use Rattle.misere_theory.specs.Games.{IsOctalCode}
 use Rattle.misere_theory.specs.Quotients.{Monoid}
 use Rattle.monoid_table.specs.Grids.{Grid, times_in}
-use Rattle.positions.specs.Walks.{begun, stages, stages_left}
-use Rattle.positions.specs.declared.walk.Untried.{Untried}
-use Rattle.positions.specs.declared.walk.Untried.TheVariants.{Everything, Splits}
-use Rattle.positions.specs.declared.walk.Walk.{Walk}
+use Rattle.heap_options.specs.Walks.{begun, stages, stages_left}
+use Rattle.heap_options.specs.declared.walk.Untried.{Untried}
+use Rattle.heap_options.specs.declared.walk.Untried.TheVariants.{Everything, Splits}
+use Rattle.heap_options.specs.declared.walk.Walk.{Walk}
 use Rattle.transition_algebra.specs.Pretending.{Pretending, IsPretending}
 use Rattle.transition_algebra.specs.Heaps.{IsInto, bound_of, largest_part}
 use Rattle.transition_algebra.specs.Work.{opening, heap_cost, HeapWork, IsDone, worked}

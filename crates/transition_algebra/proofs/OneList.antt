@@ -7,11 +7,11 @@ use Rattle.std.proofs.lemmas.List.{same_lists}
 use Rattle.std.proofs.lemmas.List.Elements.{Contains-append_left, Contains-append_right, Contains-append_cases}
 use Rattle.std.proofs.lemmas.List.FromFn.{length-map-range_with_len, get_or-map-range_with_len}
 use Rattle.misere_theory.specs.Quotients.{Claim, Monoid, HeapOptionValue}
-use Rattle.positions.specs.Options.{options_of}
-use Rattle.positions.specs.Exact.{heaps_of}
-use Rattle.positions.specs.declared.left.Left.{Left}
-use Rattle.positions.specs.ListLaws.{nothing_in, only_in, itself_in}
-use Rattle.positions.specs.OptionLaws.{of_options, only, cut}
+use Rattle.heap_options.specs.Options.{options_of}
+use Rattle.heap_options.specs.Exact.{heaps_of}
+use Rattle.heap_options.specs.declared.left.Left.{Left}
+use Rattle.heap_options.specs.ListLaws.{nothing_in, only_in, itself_in}
+use Rattle.heap_options.specs.OptionLaws.{of_options, only, cut}
 use Rattle.monoid_table.specs.Grids.{Grid, times_in}
 use Rattle.transition_algebra.specs.Pretending.{Pretending, IsPretending}
 use Rattle.transition_algebra.specs.Heaps.{Agrees, IsInto, IsHeapPair, IsHeapPairs, AreAllHeapPairs, bound_of, largest_part, left_value, heap_pair, all_heap_pairs}

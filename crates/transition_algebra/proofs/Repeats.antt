@@ -8,8 +8,8 @@ use Rattle.std.proofs.lemmas.List.Elements.{All-get_or}
 use Rattle.std.proofs.Math.Nat.{add-mod_left, mod-eq_of_lt}
 use native.Mathlib.Decide.{dec_le, dec_lt}
 use Rattle.misere_theory.specs.Quotients.{Monoid}
-use Rattle.positions.specs.declared.left.Left.{Left}
-use Rattle.positions.specs.declared.left.Left.TheVariants.{Nothing, One, Two}
+use Rattle.heap_options.specs.declared.left.Left.{Left}
+use Rattle.heap_options.specs.declared.left.Left.TheVariants.{Nothing, One, Two}
 use Rattle.monoid_table.specs.Grids.{Grid, times_in}
 use Rattle.transition_algebra.specs.Pretending.{Pretending, phi_at}
 use Rattle.transition_algebra.specs.Heaps.{IsInto, left_value}

@@ -13,13 +13,13 @@ use Rattle.misere_theory.specs.Quotients.{Monoid}
 use Rattle.monoid_table.specs.Grids.{Grid, times_in}
 use Rattle.octal_code.specs.Bits.{allows}
 use Rattle.octal_code.specs.declared.leaving.Leaving.TheVariants.{TwoHeaps}
-use Rattle.positions.specs.Options.{options_at, splits}
-use Rattle.positions.specs.Walks.{single_left, options_from, last_part, splits_from, left_at, stages}
-use Rattle.positions.specs.WalkLaws.{single_then_splits, splits_off, splits_over, splits_first, no_bit, none_untried}
-use Rattle.positions.specs.declared.left.Left.{Left}
-use Rattle.positions.specs.declared.left.Left.TheVariants.{Two}
-use Rattle.positions.specs.declared.walk.Untried.{Untried}
-use Rattle.positions.specs.declared.walk.Untried.TheVariants.{Everything, Splits}
+use Rattle.heap_options.specs.Options.{options_at, splits}
+use Rattle.heap_options.specs.Walks.{single_left, options_from, last_part, splits_from, left_at, stages}
+use Rattle.heap_options.specs.WalkLaws.{single_then_splits, splits_off, splits_over, splits_first, no_bit, none_untried}
+use Rattle.heap_options.specs.declared.left.Left.{Left}
+use Rattle.heap_options.specs.declared.left.Left.TheVariants.{Two}
+use Rattle.heap_options.specs.declared.walk.Untried.{Untried}
+use Rattle.heap_options.specs.declared.walk.Untried.TheVariants.{Everything, Splits}
 use Rattle.transition_algebra.specs.Pretending.{Pretending, IsPretending, phi_at}
 use Rattle.transition_algebra.specs.Pairs.{IsPair, one}
 use Rattle.transition_algebra.specs.Heaps.{IsInto, bound_of, largest_part, left_value}

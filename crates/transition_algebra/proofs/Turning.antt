@@ -7,9 +7,9 @@ use Rattle.std.specs.FinSet as set
 use Rattle.std.specs.Ordering.{nat_cmp}
 use Rattle.misere_theory.specs.Quotients.{Monoid}
 use Rattle.monoid_table.specs.Grids.{Grid, times_in}
-use Rattle.positions.specs.Options.{splits}
-use Rattle.positions.specs.declared.left.Left.{Left}
-use Rattle.positions.specs.declared.left.Left.TheVariants.{Two}
+use Rattle.heap_options.specs.Options.{splits}
+use Rattle.heap_options.specs.declared.left.Left.{Left}
+use Rattle.heap_options.specs.declared.left.Left.TheVariants.{Two}
 use Rattle.transition_algebra.specs.Pretending.{Pretending, IsPretending, phi_at}
 use Rattle.transition_algebra.specs.Heaps.{IsInto, IsHeapPair, bound_of, left_value}
 use Rattle.transition_algebra.specs.Work.{Trying, tries, opening, tried, turn, turns}

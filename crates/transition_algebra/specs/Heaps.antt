@@ -5,9 +5,9 @@ use Rattle.std.specs.FinSet as set
 use Rattle.misere_theory.specs.Quotients.{Claim, HeapOptionValue}
 use Rattle.misere_theory.specs.Pairs.{heap_bound}
 use Rattle.monoid_table.specs.Grids.{Grid, times_in}
-use Rattle.positions.specs.Options.{options_of}
-use Rattle.positions.specs.declared.left.Left.{Left}
-use Rattle.positions.specs.declared.left.Left.TheVariants.{Nothing, One, Two}
+use Rattle.heap_options.specs.Options.{options_of}
+use Rattle.heap_options.specs.declared.left.Left.{Left}
+use Rattle.heap_options.specs.declared.left.Left.TheVariants.{Nothing, One, Two}
 use Rattle.transition_algebra.specs.Pretending.{Pretending, phi_at}
 use Rattle.transition_algebra.specs.declared.pair.Pair.{Pair}
 

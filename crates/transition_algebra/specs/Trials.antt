@@ -5,12 +5,12 @@ use Rattle.std.specs.Ordering.{nat_cmp}
 use Rattle.monoid_table.specs.Grids.{Grid}
 use Rattle.octal_code.specs.Bits.{allows}
 use Rattle.octal_code.specs.declared.leaving.Leaving.TheVariants.{TwoHeaps}
-use Rattle.positions.specs.Walks as walks
-use Rattle.positions.specs.Walks.{single_left, last_part, left_at, begun, stages_left}
-use Rattle.positions.specs.declared.left.Left.{Left}
-use Rattle.positions.specs.declared.left.Left.TheVariants.{Two}
-use Rattle.positions.specs.declared.walk.Untried.{Untried}
-use Rattle.positions.specs.declared.walk.Untried.TheVariants.{Everything, Splits}
+use Rattle.heap_options.specs.Walks as walks
+use Rattle.heap_options.specs.Walks.{single_left, last_part, left_at, begun, stages_left}
+use Rattle.heap_options.specs.declared.left.Left.{Left}
+use Rattle.heap_options.specs.declared.left.Left.TheVariants.{Two}
+use Rattle.heap_options.specs.declared.walk.Untried.{Untried}
+use Rattle.heap_options.specs.declared.walk.Untried.TheVariants.{Everything, Splits}
 use Rattle.transition_algebra.specs.Pretending.{Pretending, phi_at}
 use Rattle.transition_algebra.specs.Pairs.{one}
 use Rattle.transition_algebra.specs.Heaps.{bound_of, largest_part, left_value}

@@ -5,8 +5,8 @@ use Rattle.std.specs.List.{sum_by, range_with_len}
 use Rattle.std.specs.FinSet as set
 use Rattle.std.specs.Ordering.{nat_cmp}
 use Rattle.monoid_table.specs.Grids.{Grid}
-use Rattle.positions.specs.Options.{options_up_to}
-use Rattle.positions.specs.declared.left.Left.{Left}
+use Rattle.heap_options.specs.Options.{options_up_to}
+use Rattle.heap_options.specs.declared.left.Left.{Left}
 use Rattle.transition_algebra.specs.Pretending.{Pretending, phi_at}
 use Rattle.transition_algebra.specs.Heaps.{bound_of, largest_part, left_value}
 use Rattle.transition_algebra.specs.declared.pair.Pair.{Pair}

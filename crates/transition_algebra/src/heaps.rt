@@ -2,7 +2,7 @@
 ghost use Rattle.std.specs.Prelude.{◌≡◌, ◌+◌, ◌-◌, ◌<◌, IfOk, All};
 ghost use Rattle.misere_theory.specs.Games.{IsHeap, IsPosition};
 ghost use Rattle.element_sets.specs.declared.TheConstants.{MOST_ELEMENTS};
-ghost use Rattle.positions.specs.Exact.{heaps_of};
+ghost use Rattle.heap_options.specs.Exact.{heaps_of};
 ghost use Rattle.transition_algebra.specs.Pairs.{IsPair};
 ghost use Rattle.transition_algebra.specs.Heaps.{IsInto, AreAllHeapPairs, all_heap_pairs, bound_of, left_value};
 
@@ -11,9 +11,9 @@ use crate::phi::{Phi, is_pretending};
 use crate::trial::Trial;
 use crate::wholes::Wholes;
 use allocation::Memory;
+use heap_options::Left;
 use monoid_table::{Table, is_monoid};
 use octal_code::{Code, is_octal_code};
-use positions::Left;
 use std::alloc::Allocator;
 
 /// B: the heaps 1 to B show the pair of every heap.

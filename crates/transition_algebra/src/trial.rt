@@ -4,7 +4,7 @@ ghost use Rattle.std.specs.Option.{MatchOption};
 ghost use Rattle.monoid_table.specs.Grids.{Grid};
 ghost use Rattle.octal_code.specs.Bits.{allows};
 ghost use Rattle.octal_code.specs.declared.leaving.Leaving.TheVariants.{TwoHeaps};
-ghost use Rattle.positions.specs.Walks.{single_left, last_part};
+ghost use Rattle.heap_options.specs.Walks.{single_left, last_part};
 ghost use Rattle.transition_algebra.specs.Pretending.{phi_at};
 ghost use Rattle.transition_algebra.specs.Heaps.{IsInto};
 ghost use Rattle.transition_algebra.specs.Work.{heap_cost};
@@ -16,9 +16,9 @@ use crate::phi::{Phi, is_pretending};
 use crate::wholes::Wholes;
 use allocation::Memory;
 use element_sets::ElementSet;
+use heap_options::{Untried, Walk};
 use monoid_table::{Table, is_monoid};
 use octal_code::{Code, Leaving, is_octal_code};
-use positions::{Untried, Walk};
 use std::alloc::Allocator;
 
 /// How far the options of the heaps 1 to `bound` are tried: the walk over those of the heap in

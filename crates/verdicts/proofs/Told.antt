@@ -2,8 +2,8 @@
 use Rattle.std.proofs.Common.{◌≡◌, ◌≤◌, ◌<◌, ◌∙◌, ◌++◌, ap, refl, ℕ, List, Option, Some, None, length, length-append, arith, codes, append-nil, unwrap_or}
 use Rattle.std.proofs.lemmas.Fmt.{decimal_digit}
 use Rattle.std.specs.Io.KnownBytes.{Consumes, IsAtEnd}
-use Rattle.checker.specs.Answers.Answer.{Text}
-use Rattle.verdicts.specs.Lines.{no_line}
+use Rattle.answers.specs.Answers.Answer.{Text}
+use Rattle.verdict_texts.specs.Lines.{no_line}
 use Rattle.verdicts.specs.Streams.{AreKnownAs, Answers, AnswersStream}
 
 -- where the end was reached, what was read is all that was left

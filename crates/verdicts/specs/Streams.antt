@@ -4,9 +4,9 @@ use Rattle.std.specs.Io.KnownBytes.{Appends, Consumes}
 use Rattle.streams.specs.Stream.{AppendsSome}
 use Rattle.streams.specs.declared.fault.StreamFault.{StreamFault}
 use Rattle.streams.specs.declared.fault.StreamFault.TheVariants.{Read, Write, Memory}
-use Rattle.checker.specs.Answers.{Answer, IsTrueOf}
-use Rattle.checker.specs.Answers.Answer.{Text}
-use Rattle.verdicts.specs.Lines.{IsTextOf, is_yes}
+use Rattle.answers.specs.Answers.{Answer, IsTrueOf}
+use Rattle.answers.specs.Answers.Answer.{Text}
+use Rattle.verdict_texts.specs.Lines.{IsTextOf, is_yes}
 
 -- these are the bytes, where they are known
 abbrev pub AreKnownAs : Option (List ℕ) → List ℕ → Type 0

@@ -1,9 +1,8 @@
-//! The text of a verdict, and checks from stream to stream.
+//! Checks from stream to stream, and the text of a verdict.
 #![tactic(auto)]
 
-mod lines;
 mod stream;
 
-pub use lines::{verdict_line, verdict_text};
 pub use stream::{MOST_BYTES, check_bytes, check_stream};
 pub use streams::StreamFault;
+pub use verdict_texts::{verdict_line, verdict_text};

@@ -2,13 +2,13 @@
 ghost use Rattle.std.specs.Prelude.{◌≡◌, ◌<◌, ◌⊎◌, IfOk, IfErr, IsErrOf};
 ghost use Rattle.std.specs.String.{string_bytes};
 ghost use Rattle.streams.specs.Stream.{Puts};
-ghost use Rattle.verdicts.specs.Lines.{is_yes};
+ghost use Rattle.verdict_texts.specs.Lines.{is_yes};
 ghost use Rattle.verdicts.specs.Streams.{Answers, CountsReads, ReadsEnough, Writes, WritesSome, WritesOfStream, WritesSomeOfStream};
 
-use crate::lines::verdict_text;
 use allocation::{Memory, Room};
 use checker::check;
 use streams::{Sink, Source, StreamFault, read_whole, write_whole};
+use verdict_texts::told;
 
 /// The greatest length of a stream that is checked.
 pub const MOST_BYTES: usize = 4194304;
@@ -21,11 +21,7 @@ fn answered<A: Room + Copy>(alloc: A, bytes: &[u8], limit: u32) -> Result<(bool,
     ensures { IfOk result (λ r. (a : Answers bytes.now limit) × (string_bytes r.1 ≡ a.text)
         × (r.0 ≡ is_yes a.answer)) }
 {
-    let verdict = check(alloc, bytes, limit);
-    let is_yes = verdict.is_ok();
-    let text = verdict_text(alloc, verdict.as_ref());
-    drop(verdict);
-    Ok((is_yes, text?))
+    told(alloc, check(alloc, bytes, limit))
 }
 
 /// Writes the text, or a beginning of it where the sink fails.

@@ -2,7 +2,7 @@ use Rattle.std.proofs.Common.{◌≡◌, ℕ, List, Bool, true, false, not, byte
 use Rattle.std.proofs.lemmas.Slice.Eq.{bytes_eq-Decides}
 use Rattle.octal_code.specs.Text.{code_text}
 use Rattle.misere_theory.specs.Certificates.{Certificate}
-use Rattle.checker.specs.Answers.{answer_of}
+use Rattle.answers.specs.Answers.{answer_of}
 use Rattle.catalogue.specs.Loads.{IsAcceptedText}
 use Rattle.catalogue.specs.Files.{written}
 use Rattle.catalogue.proofs.entry.certified.Goals as goal

@@ -1,6 +1,6 @@
 use Rattle.std.proofs.Common.{rules, ◌≡◌}
 use Rattle.std.specs.String.{string_bytes}
-use Rattle.checker.specs.Answers.{refused}
+use Rattle.answers.specs.Answers.{refused}
 use Rattle.check_command.proofs.Answered.{refused_is_no}
 use Rattle.check_command.proofs.certifying.judged.Goals as goal
 

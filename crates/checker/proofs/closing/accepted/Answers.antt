@@ -1,5 +1,5 @@
 use Rattle.std.proofs.Common.{sym, subst}
-use Rattle.checker.specs.Sheets.{IsPortion}
+use Rattle.answers.specs.Portions.{IsPortion}
 use Rattle.checker.proofs.closing.accepted.Goals as goal
 
 pub new-requires-clause-portion : goal.new-requires-clause-portion

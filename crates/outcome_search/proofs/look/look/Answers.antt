@@ -1,6 +1,6 @@
 use Rattle.std.proofs.Common.{◌≡◌, ◌<◌, ◌+◌, ◌-◌, ℕ, List, Bool, length, get_or, true, false, ap, sym, subst, arith}
-use Rattle.positions.specs.Exact.{heaps_of}
-use Rattle.positions.specs.Options.{options_of}
+use Rattle.heap_options.specs.Exact.{heaps_of}
+use Rattle.heap_options.specs.Options.{options_of}
 use Rattle.outcome_search.specs.Known.{HasSeen}
 use Rattle.outcome_search.specs.declared.look.Seen.{Seen}
 use Rattle.outcome_search.proofs.Seen.{HasLooked, looked_none, looked_loses, looked_again, looked_all}

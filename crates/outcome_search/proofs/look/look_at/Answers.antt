@@ -1,7 +1,7 @@
 use Rattle.std.proofs.Common.{◌≡◌, ◌++◌, ◌∙◌, slice_index, Some, None, sym, ap}
 use Rattle.std.proofs.lemmas.List.{append-nil}
-use Rattle.positions.specs.Exact.{heaps_of}
-use Rattle.positions.specs.Options.{options_of}
+use Rattle.heap_options.specs.Exact.{heaps_of}
+use Rattle.heap_options.specs.Options.{options_of}
 use Rattle.outcome_search.proofs.Heaps.{option_fits, move_from_place}
 use Rattle.outcome_search.specs.Known.{known}
 use Rattle.positions.specs.declared.outcome.Outcome.TheVariants.{P, N}

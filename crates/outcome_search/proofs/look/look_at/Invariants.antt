@@ -1,5 +1,5 @@
 use Rattle.std.proofs.Common.{◌≡◌, ◌++◌, slice_index}
-use Rattle.positions.specs.Options.{options_of}
+use Rattle.heap_options.specs.Options.{options_of}
 use Rattle.outcome_search.proofs.Seen.{IsOn}
 use Rattle.outcome_search.proofs.look.look_at.Given as goal
 

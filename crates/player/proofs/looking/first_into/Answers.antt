@@ -1,5 +1,5 @@
 use Rattle.std.proofs.Common.{◌≡◌, ◌∷◌, ◌++◌, [], sym, ◌∙◌, ap, append_assoc}
-use Rattle.positions.specs.Exact.{heaps_of}
+use Rattle.heap_options.specs.Exact.{heaps_of}
 use Rattle.misere_theory.specs.Certificates.{claim_of, times_of}
 use Rattle.player.specs.Looks.{puts}
 use Rattle.player.proofs.Others.{none_into, first_look, parts_are_heaps, seen_more}

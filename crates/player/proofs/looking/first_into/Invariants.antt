@@ -1,8 +1,8 @@
 use Rattle.std.proofs.Common.{◌≡◌, ◌-◌, ◌+◌, ◌++◌, false}
 use Rattle.std.specs.List.{Contains}
-use Rattle.positions.specs.Options.{options_up_to}
-use Rattle.positions.specs.Exact.{heaps_of}
-use Rattle.positions.specs.declared.left.Left.{Left}
+use Rattle.heap_options.specs.Options.{options_up_to}
+use Rattle.heap_options.specs.Exact.{heaps_of}
+use Rattle.heap_options.specs.declared.left.Left.{Left}
 use Rattle.player.specs.Looks.{puts}
 use Rattle.player.proofs.looking.first_into.Given as goal
 

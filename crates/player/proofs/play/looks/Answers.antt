@@ -2,8 +2,8 @@ use Rattle.std.proofs.Common.{◌≡◌, ◌+◌, ◌-◌, ◌*◌, length, sym,
 use Rattle.std.specs.List.{Contains, AllPairs}
 use Rattle.std.specs.List.Sorted.{IsPermutation}
 use Rattle.misere_theory.specs.Plays.{LeftBefore}
-use Rattle.positions.specs.Exact.{heaps_of}
-use Rattle.positions.specs.Options.{options_up_to}
+use Rattle.heap_options.specs.Exact.{heaps_of}
+use Rattle.heap_options.specs.Options.{options_up_to}
 use Rattle.player.proofs.Others.{first_among}
 use Rattle.player.proofs.Few.{few}
 use Rattle.player.proofs.play.looks.Goals as goal

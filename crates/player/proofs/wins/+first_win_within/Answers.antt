@@ -3,7 +3,7 @@ use Rattle.std.specs.Option.{MatchOption}
 use Rattle.misere_theory.specs.Certificates.{claim_of}
 use Rattle.misere_theory.specs.Plays.{IsFirstWin}
 use Rattle.misere_theory.specs.Quotients.{value}
-use Rattle.positions.specs.Exact.{heaps_of}
+use Rattle.heap_options.specs.Exact.{heaps_of}
 use Rattle.player.specs.Wins.{NoneWinsBelow}
 use Rattle.player.proofs.Halves.{beside_first, beside_second, none_of_equal}
 use Rattle.player.proofs.wins.+first_win_within.Goals as goal

@@ -1,7 +1,7 @@
 use Rattle.std.proofs.Common.{rules, ◌∷◌, ◌∙◌, length, slice_index, ap, subst, arith}
 use Rattle.std.specs.List.Sorted.{IsPermutation}
 use Rattle.std.proofs.lemmas.List.Sorted.{IsPermutation-refl}
-use Rattle.positions.specs.Exact.{heaps_of}
+use Rattle.heap_options.specs.Exact.{heaps_of}
 use Rattle.positions.proofs.Permuted.{added_more, added_all, few_left}
 use Rattle.positions.proofs.position.add_left.Goals as goal
 

@@ -1,6 +1,6 @@
 use Rattle.std.proofs.Common.{◌≡◌, ◌≤◌, ◌++◌, ◌+◌, length, take}
 use Rattle.std.specs.List.Sorted.{IsNonDecreasing, IsPermutation}
-use Rattle.positions.specs.Exact.{heaps_of}
+use Rattle.heap_options.specs.Exact.{heaps_of}
 use Rattle.positions.proofs.position.add_left.Given as goal
 
 abbrev pub invariant-loop-heap : goal.invariant-loop-heap

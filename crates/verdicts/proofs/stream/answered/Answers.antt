@@ -1,41 +1,23 @@
-use Rattle.std.proofs.Common.{◌≡◌, ◌∙◌, subst, refl, Bor, Result, Ok, Err}
-use Rattle.std.specs.Result.{is_ok, result_copied}
+use Rattle.std.proofs.Common.{Result, Ok, Err, refl}
+use Rattle.std.specs.Prelude.{IfOk}
 use Rattle.std.specs.String.{string_bytes}
-use Rattle.misere_theory.specs.Certificates.{Certificate}
-use Rattle.checker.specs.Answers.{Answer, answer_of}
-use Rattle.checker.specs.declared.refusal.Refusal.{Refusal}
-use Rattle.checker.specs.declared.refusal.Refusal.TheVariants.{Text, Law, Word, Order, Period, Apart, Outcome, Limit, Memory}
-use Rattle.verdicts.specs.Lines.{IsTextOf, is_yes, lent_answer}
+use Rattle.answers.specs.Answers.{answer_of}
 use Rattle.verdicts.proofs.stream.answered.Goals as goal
 
-lent_is : (A : Type 0) (r : Result (Bor Certificate) (Bor (Refusal A)))
-    (v : Result Certificate (Refusal A)) → result_copied r ≡ v
-    → lent_answer r ≡ answer_of v
-lent_is A (Ok c) v e = rw (← e) refl
-lent_is A (Err r) v e = rw (← e) refl
-
-yes_is : (A : Type 0) (v : Result Certificate (Refusal A)) → is_ok v ≡ is_yes (answer_of v)
-yes_is A (Ok c) = refl
-yes_is A (Err Text) = refl
-yes_is A (Err Law) = refl
-yes_is A (Err Word) = refl
-yes_is A (Err Order) = refl
-yes_is A (Err Period) = refl
-yes_is A (Err Apart) = refl
-yes_is A (Err (Outcome code X)) = refl
-yes_is A (Err Limit) = refl
-yes_is A (Err Memory) = refl
+both : {X E : Type 0} {P Q R : X → Type 0} (r : Result X E) → IfOk r P → IfOk r Q
+    → ((x : X) → P x → Q x → R x) → IfOk r R
+both (Ok x) p q f = f x p q
+both (Err e) p q f = p
 
 pub returns : goal.returns
-returns g c = (
-  record {
-    answer = answer_of c.check-verdict.result;
-    text = string_bytes c.in_ok-text.field-0;
-    true_of = c.check-verdict.ensures.true_of;
-    told =
-        subst (λ (a : Answer). IsTextOf a (string_bytes c.in_ok-text.field-0))
-        (lent_is _ _ _ c.as_ref.ensures.value) c.in_ok-text.ensures;
-  },
-  refl,
-  c.is_ok-is_yes.ensures.value ∙ yes_is _ c.check-verdict.result,
-)
+returns g c =
+    both c.told.result c.told.ensures.yes c.told.ensures.text (λ r yes text. (
+      record {
+        answer = answer_of c.check.result;
+        text = string_bytes r.1;
+        true_of = c.check.ensures.true_of;
+        told = text;
+      },
+      refl,
+      yes,
+    ))

@@ -10,8 +10,8 @@ use Rattle.certificate.specs.Pieces.{Pieces, certificate_of}
 use Rattle.checker.specs.Sheets.{pieces_of}
 use Rattle.checker.specs.Rules.{Breaks}
 use Rattle.checker.specs.Closings.{IsClosing}
-use Rattle.checker.specs.Answers.{Fits}
-use Rattle.checker.specs.Answers.Answer.{Yes, Limit, Outcome}
+use Rattle.answers.specs.Answers.{Fits}
+use Rattle.answers.specs.Answers.Answer.{Yes, Limit, Outcome}
 use Rattle.monoid_table.specs.Grids.{Grid}
 use Rattle.pair_closure.specs.Positions.{rising, word}
 use Rattle.checker.specs.Turns.{Phase, Runs}

@@ -1,7 +1,7 @@
 use Rattle.std.proofs.Common.{rules, ◌<◌, ◌≤◌, ◌+◌, ◌∷◌, length, subst, sym, ap, refl, inl, inr, ◌∙◌, arith}
 use Rattle.checker.specs.Stages.{Carries, reached}
 use Rattle.checker.proofs.ElementLemmas.{value_below, leads_in, obeys_at, value_turn, heap_turn, elements_end}
-use Rattle.checker.specs.Answers.Answer.{Outcome}
+use Rattle.answers.specs.Answers.Answer.{Outcome}
 use Rattle.pair_closure.specs.Positions.{rising}
 use Rattle.checker.specs.Turns.{keys_from}
 use Rattle.checker.specs.Turns.Phase.{Elements, Closing, Ended}

@@ -8,7 +8,7 @@ use Rattle.checker.specs.Sheets.{pieces_of, IsRead}
 use Rattle.checker.proofs.FaultLemmas.{none_below_law}
 use Rattle.monoid_table.specs.Turns.{JobState}
 use Rattle.monoid_table.specs.Grids.{Grid}
-use Rattle.checker.specs.Answers.Answer.{Law as Broken}
+use Rattle.answers.specs.Answers.Answer.{Law as Broken}
 use Rattle.checker.specs.Views.{KeysView}
 use Rattle.checker.specs.Turns.{Phase, Works}
 use Rattle.checker.specs.Turns.Phase.{Laws, Keys, Ended}

@@ -1,6 +1,6 @@
 use Rattle.std.proofs.Common.{[], All, slice_index, slice_index_or, sym, subst}
-use Rattle.positions.specs.Exact.{heaps_of}
-use Rattle.positions.specs.Options.{options_of}
+use Rattle.heap_options.specs.Exact.{heaps_of}
+use Rattle.heap_options.specs.Options.{options_of}
 use Rattle.positions.specs.Positions.{IsSize}
 use Rattle.outcome_search.specs.Reached.{AddsMoves}
 use Rattle.outcome_search.proofs.Heaps.{option_fits}

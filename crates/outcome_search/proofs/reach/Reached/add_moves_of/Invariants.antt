@@ -1,5 +1,5 @@
 use Rattle.std.proofs.Common.{◌≡◌, ◌++◌, [], slice_index, slice_index_or}
-use Rattle.positions.specs.Options.{options_of}
+use Rattle.heap_options.specs.Options.{options_of}
 use Rattle.outcome_search.specs.Reached.{AddsMoves}
 use Rattle.outcome_search.proofs.reach.Reached.add_moves_of.Given as goal
 

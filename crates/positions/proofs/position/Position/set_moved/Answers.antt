@@ -1,7 +1,7 @@
 use Rattle.std.proofs.Common.{◌≡◌, ◌∙◌, ◌++◌, ap, sym, subst, rules}
 use Rattle.std.specs.List.{remove}
 use Rattle.std.specs.List.Sorted.{IsNonDecreasing, IsPermutation}
-use Rattle.positions.specs.Exact.{heaps_of}
+use Rattle.heap_options.specs.Exact.{heaps_of}
 use Rattle.positions.proofs.Heaps.{rest_rises, moved_fit}
 use Rattle.positions.proofs.position.Position.set_moved.Goals as goal
 

@@ -1,5 +1,5 @@
 use Rattle.std.proofs.Common.{length, refl, arith}
-use Rattle.positions.specs.Walks.{stages_left}
+use Rattle.heap_options.specs.Walks.{stages_left}
 use Rattle.transition_algebra.proofs.Running.{two_digits, room}
 use Rattle.transition_algebra.proofs.Finished.{measure_falls, stages_few}
 use Rattle.transition_algebra.proofs.trial.Trial.go_on.Goals as goal

@@ -1,6 +1,6 @@
 use Rattle.std.proofs.Common.{◌≡◌, ◌+◌, ◌*◌, ◌<◌, ◌≤◌}
 use Rattle.transition_algebra.specs.Work.{heap_cost}
-use Rattle.positions.specs.Walks.{stages_left}
+use Rattle.heap_options.specs.Walks.{stages_left}
 use Rattle.transition_algebra.specs.Trials.{IsTrial, AreWholes}
 use Rattle.transition_algebra.proofs.trial.Trial.go_on.Given as goal
 

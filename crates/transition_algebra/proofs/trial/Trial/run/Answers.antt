@@ -2,7 +2,7 @@ use Rattle.std.proofs.Common.{◌<◌, ◌≤◌, length, refl, sym, ◌∙◌, 
 use Rattle.std.specs.List.{All}
 use Rattle.transition_algebra.specs.Heaps.{bound_of}
 use Rattle.transition_algebra.specs.Trials.{HaveElements, after_all}
-use Rattle.positions.specs.WalkLaws.{single_short}
+use Rattle.heap_options.specs.WalkLaws.{single_short}
 use Rattle.transition_algebra.proofs.Running.{ready, not_over, run_single, run_none, run_splits, run_close}
 use Rattle.transition_algebra.proofs.trial.Trial.run.Goals as goal
 

@@ -1,6 +1,6 @@
 use Rattle.std.proofs.Common.{◌<◌, ◌≤◌, length, refl, ap, arith}
 use Rattle.transition_algebra.specs.Heaps.{bound_of}
-use Rattle.positions.specs.Walks.{stages_left}
+use Rattle.heap_options.specs.Walks.{stages_left}
 use Rattle.transition_algebra.proofs.Running.{two_digits, room, all_spent}
 use Rattle.transition_algebra.proofs.Finished.{measure_falls, stages_few, on_err}
 use Rattle.transition_algebra.proofs.trial.Trial.work.Goals as goal

@@ -1,5 +1,5 @@
 use Rattle.std.proofs.Common.{◌≡◌, ◌+◌, ◌*◌, ◌≤◌}
-use Rattle.positions.specs.Walks.{stages_left}
+use Rattle.heap_options.specs.Walks.{stages_left}
 use Rattle.transition_algebra.specs.Trials.{IsTrial, AreWholes}
 use Rattle.transition_algebra.proofs.trial.Trial.work.Given as goal
 

@@ -1,0 +1,85 @@
+-- Which answers are true of bytes that spell a certificate.
+use Rattle.std.proofs.Common.{◌≡◌, ℕ, ◌*◌, ◌^◌, ◌≤◌, ◌⊎◌, List, refl, sym, ap, subst, inl, inr}
+use Rattle.misere_theory.specs.Games.{IsHeap}
+use Rattle.misere_theory.specs.Quotients.{Monoid, Represents}
+use Rattle.misere_theory.specs.Certificates.{Certificate, Accepted, Canonical, claim_of, times_of}
+use Rattle.misere_theory.specs.Verdicts.{Verdict, IsAllowed}
+use Rattle.misere_theory.specs.Verdicts.Fault.{Law as law, Word as word, Order as order, Period as period, Apart as apart}
+use Rattle.misere_theory.specs.Verdicts.Verdict.{No as Faulty, Outcome as Fails, Limit as Over}
+use Rattle.misere_theory.proofs.Verdicts.{yes_or_limit, outcome_or_limit, never_past_all_pairs}
+use Rattle.certificate_text.specs.Spelling.{Spells}
+use Rattle.answers.specs.Answers.{Answer, Fits, Holds, IsTrueOf}
+use Rattle.answers.specs.Answers.Answer.{Yes, Text, Law, Word, Order, Period, Apart, Outcome, Limit, Memory}
+
+module _ (one : (b : List ℕ) (c d : Certificate) → Spells b c → Spells b d → c ≡ d) (bytes : List ℕ)
+    (limit : ℕ) (c : Certificate) (s : Spells bytes c) where
+  fits : (a : Answer) → (d : Certificate) × Spells bytes d × Fits d limit a → Fits c limit a
+  fits a (d, t, f) = subst (λ e. Fits e limit a) (one bytes d c t s) f
+
+  clash : {A : Type 0} {v w : Verdict} → (v ≡ w → ⊥) → v ≡ w → A
+  clash n e = absurd (n e)
+
+  pub accepted_answers : Accepted c → (a : Answer) → Holds bytes limit a
+      → (a ≡ Yes c) ⊎ ((a ≡ Limit) ⊎ (a ≡ Memory))
+  accepted_answers k (Yes d) t = inl (ap Yes (fits (Yes d) t).0)
+  accepted_answers k Text t = absurd (t c s)
+  accepted_answers k Law t =
+      elim (yes_or_limit c k limit (Faulty law) (fits Law t))
+      [ inl e ↦ absurd (cc) | inr e ↦ absurd (cc) ]
+  accepted_answers k Word t =
+      elim (yes_or_limit c k limit (Faulty word) (fits Word t))
+      [ inl e ↦ absurd (cc) | inr e ↦ absurd (cc) ]
+  accepted_answers k Order t =
+      elim (yes_or_limit c k limit (Faulty order) (fits Order t))
+      [ inl e ↦ absurd (cc) | inr e ↦ absurd (cc) ]
+  accepted_answers k Period t =
+      elim (yes_or_limit c k limit (Faulty period) (fits Period t))
+      [ inl e ↦ absurd (cc) | inr e ↦ absurd (cc) ]
+  accepted_answers k Apart t =
+      elim (yes_or_limit c k limit (Faulty apart) (fits Apart t))
+      [ inl e ↦ absurd (cc) | inr e ↦ absurd (cc) ]
+  accepted_answers k (Outcome code X) t =
+      elim (yes_or_limit c k limit (Fails X) (fits (Outcome code X) t).1)
+      [ inl e ↦ absurd (cc) | inr e ↦ absurd (cc) ]
+  accepted_answers k Limit t = inr (inl refl)
+  accepted_answers k Memory t = inr (inr refl)
+
+  module _ (m : Monoid c.order (times_of c)) (k : Canonical c)
+      (wrong : Represents IsHeap c.code (claim_of c) → ⊥) where
+    faulty_never : {A : Type 0} (v : Verdict) → ((X : List ℕ) → v ≡ Fails X → ⊥) → (v ≡ Over → ⊥)
+        → IsAllowed c limit v → A
+    faulty_never v n o h =
+        elim (outcome_or_limit c s.in_ranges m k wrong limit v h)
+        [ inl p ↦ absurd (n p.0 p.1) | inr e ↦ absurd (o e) ]
+
+    pub wrong_answers : (a : Answer) → Holds bytes limit a → ((X : List ℕ) × (a ≡ Outcome c.code X))
+        ⊎ ((a ≡ Limit) ⊎ (a ≡ Memory))
+    wrong_answers (Yes d) t = absurd (wrong (fits (Yes d) t).1.represents)
+    wrong_answers Text t = absurd (t c s)
+    wrong_answers Law t = faulty_never (Faulty law) (λ X e. cc) (λ e. cc) (fits Law t)
+    wrong_answers Word t = faulty_never (Faulty word) (λ X e. cc) (λ e. cc) (fits Word t)
+    wrong_answers Order t = faulty_never (Faulty order) (λ X e. cc) (λ e. cc) (fits Order t)
+    wrong_answers Period t = faulty_never (Faulty period) (λ X e. cc) (λ e. cc) (fits Period t)
+    wrong_answers Apart t = faulty_never (Faulty apart) (λ X e. cc) (λ e. cc) (fits Apart t)
+    wrong_answers (Outcome code X) t = inl (X, ap (λ d. Outcome d X) (fits (Outcome code X) t).0)
+    wrong_answers Limit t = inr (inl refl)
+    wrong_answers Memory t = inr (inr refl)
+
+  pub never_limit : c.order * 2 ^ c.order ≤ limit → Holds bytes limit Limit → ⊥
+  never_limit l t = never_past_all_pairs c s.in_ranges limit l (fits Limit t)
+
+pub true_answer : (one : (b : List ℕ) (c d : Certificate) → Spells b c → Spells b d → c ≡ d)
+    (text : (a b : List ℕ) (c d : Certificate) → Spells a c → Spells b d → Accepted c → Accepted d
+    → c.code ≡ d.code → a ≡ b)
+    (bytes : List ℕ) (limit : ℕ) (a : Answer) → Holds bytes limit a → IsTrueOf bytes limit a
+true_answer one text bytes limit a h = record {
+  holds = h;
+  yes = λ c e.
+      let (d, t, f) = subst (Holds bytes limit) e h in
+      let spelled = subst (Spells bytes) (sym f.0) t in
+      let accepted = subst Accepted (sym f.0) f.1 in
+      (spelled, accepted, λ other o s k same. text other bytes o c s spelled k accepted same);
+  accepted = λ c s k. accepted_answers one bytes limit c s k a h;
+  wrong = λ c s m k w. wrong_answers one bytes limit c s m k w a h;
+  within = λ c s l e. never_limit one bytes limit c s l (subst (Holds bytes limit) e h);
+}

@@ -1,0 +1,3 @@
+pub mod SpellLemmas
+pub mod ValueLemmas
+pub mod AnswerLemmas

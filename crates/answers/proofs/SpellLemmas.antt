@@ -1,0 +1,53 @@
+-- The positions that keys spell.
+use Rattle.std.proofs.Common.{◌≡◌, ℕ, ◌-◌, ◌<◌, ◌≤◌, List, [], ◌∷◌, ◌++◌, length, get_or, append_assoc, sym, ◌∙◌, ap, subst, arith}
+use Rattle.std.proofs.lemmas.List.{get_or_default}
+use Rattle.misere_theory.specs.Games.{IsHeap, IsPosition}
+use Rattle.misere_theory.specs.Quotients.{Monoid, value}
+use Rattle.misere_theory.specs.Certificates.{Certificate, Canonical, InRanges, IsSpelled, claim_of, times_of}
+use Rattle.misere_theory.specs.Certificates.IsSpelled.{Key}
+use Rattle.misere_theory.proofs.Written.{phi_in}
+use Rattle.misere_theory.proofs.Spelled.{spelled_value}
+use Rattle.misere_theory.proofs.Shuffles.{from_permutation, position_shuffled, value_shuffled}
+use Rattle.answers.specs.Spelled.{AreSpelled, GoDown, key_in}
+
+-- a position that the keys of an element spell, and its value
+pub sizes_spelled : (c : Certificate) (e : ℕ) (sizes : List ℕ) → InRanges c
+    → Monoid c.order (times_of c) → Canonical c → e < c.order → AreSpelled c e sizes
+    → IsPosition IsHeap sizes × (value (claim_of c) sizes ≡ e)
+sizes_spelled c e sizes ranges monoid k b a =
+    let (p, v) = spelled_value c e a.X ranges monoid k b a.spelled in
+    let s = from_permutation a.X sizes a.same in (
+      position_shuffled IsHeap s p,
+      sym (value_shuffled IsHeap (claim_of c) monoid (λ n _. phi_in c ranges n) s p) ∙ v,
+    )
+
+-- the keys of a canonical certificate go down
+pub go_down : (c : Certificate) (words : List (ℕ × ℕ)) → words ≡ c.words → InRanges c → Canonical c
+    → GoDown words
+go_down c words e r k =
+    let n = r.words.0 in
+    subst GoDown (sym e) (record {
+      parent = λ x p l. k.numbered.parent x p (omega arith);
+      heap = λ x p l. (k.numbered.heap x p (omega arith)).0;
+    })
+
+-- a key read out of the list
+pub key_is : (ws : List (ℕ × ℕ)) (r : ℕ) (k : ℕ × ℕ) → 0 < r → r ≤ length ws
+    → k ≡ get_or ws (r - 1) k → k ≡ key_in ws r
+key_is ws r k some within is =
+    let short : r - 1 < length ws = omega arith in
+    is ∙ get_or_default ws (r - 1) k (0, 0) short
+
+-- a key further
+pub key_more : (c : Certificate) (ws : List (ℕ × ℕ)) → c.words ≡ ws → (e r : ℕ) (path : List ℕ)
+    → 0 < r → ((Y : List ℕ) → IsSpelled c r Y → IsSpelled c e (path ++ Y))
+    → (Y : List ℕ) → IsSpelled c (key_in ws r).0 Y
+    → IsSpelled c e ((path ++ (key_in ws r).1 ∷ []) ++ Y)
+key_more c ws same e r path some h Y s =
+    let k : key_in c.words r ≡ key_in ws r = ap (λ (xs : List (ℕ × ℕ)). key_in xs r) same in
+    let t : IsSpelled c (key_in c.words r).0 Y =
+    subst (λ (x : ℕ). IsSpelled c x Y) (sym (ap (λ (p : ℕ × ℕ). p.0) k)) s in
+    subst (λ (x : ℕ). IsSpelled c e ((path ++ x ∷ []) ++ Y)) (ap (λ (p : ℕ × ℕ). p.1) k)
+    (subst (λ (xs : List ℕ). IsSpelled c e xs)
+    (sym (append_assoc path ((key_in c.words r).1 ∷ []) Y))
+    (h ((key_in c.words r).1 ∷ Y) (Key r some t)))

@@ -1,0 +1,36 @@
+//! Laws of answers: what follows for one that holds, the one accepted text of a code, and the
+//! positions that keys spell.
+ghost use Rattle.std.specs.Prelude.{◌≡◌, ◌<◌, ℕ, List};
+ghost use Rattle.misere_theory.specs.Games.{IsHeap, IsPosition};
+ghost use Rattle.misere_theory.specs.Quotients.{Monoid, value};
+ghost use Rattle.misere_theory.specs.Certificates.{Certificate, Accepted, Canonical, InRanges, claim_of, times_of};
+ghost use Rattle.certificate_text.specs.Spelling.{Spells};
+ghost use Rattle.answers.specs.Answers.{Answer, Holds, IsTrueOf};
+ghost use Rattle.answers.specs.Spelled.{AreSpelled, GoDown};
+
+/// An answer that holds of bytes is true of them.
+pub fn true_answers()
+    ensures { (bytes : List ℕ) (limit : ℕ) (answer : Answer) → Holds bytes limit answer
+        → IsTrueOf bytes limit answer }
+{
+    certificate_text::spellings_are_unique();
+    one_text_for_a_code();
+}
+
+/// A code has one accepted text at most.
+pub fn one_text_for_a_code()
+    ensures { (a b : List ℕ) (c d : Certificate) → Spells a c → Spells b d → Accepted c → Accepted d
+        → c.code ≡ d.code → a ≡ b }
+{
+    misere_theory::certificates::accepted_certificates_are_unique();
+    certificate_text::spellings_are_unique();
+}
+
+/// The keys of a canonical certificate go down to smaller elements, and the heaps that those of an
+/// element spell are a position whose value is that element.
+pub fn keys_spell_positions()
+    ensures down { (c : Certificate) → InRanges c → Canonical c → GoDown c.words }
+    ensures valued { (c : Certificate) (e : ℕ) (sizes : List ℕ) → InRanges c
+        → Monoid c.order (times_of c) → Canonical c → e < c.order → AreSpelled c e sizes
+        → IsPosition IsHeap sizes × (value (claim_of c) sizes ≡ e) }
+{}

@@ -1,0 +1,13 @@
+//! What a check answers: an accepted certificate, or why the bytes are refused.
+#![tactic(auto)]
+
+mod certified;
+mod laws;
+mod refusal;
+mod spelling;
+mod values;
+
+pub use certified::Certified;
+pub use laws::{keys_spell_positions, one_text_for_a_code, true_answers};
+pub use refusal::Refusal;
+pub use spelling::position_of;

@@ -1,0 +1,4 @@
+pub mod Turns
+pub mod Exact
+pub mod Allowed
+pub mod Rising

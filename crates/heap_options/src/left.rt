@@ -1,0 +1,61 @@
+//! What a move leaves of a heap.
+ghost use Rattle.std.specs.Prelude.{◌≡◌};
+ghost use Rattle.heap_options.specs.Exact.{heaps_of};
+
+use std::marker::Model;
+
+/// What a move leaves of a heap, the smaller part first.
+#[derive(Clone, Copy, Debug, PartialEq, Eq)]
+pub enum Left {
+    Nothing,
+    One(u64),
+    Two(u64, u64),
+}
+
+impl Left {
+    /// The heaps that are left.
+    pub fn heaps(self) -> LeftHeaps
+        ensures { result ≡ heaps_of self }
+    {
+        match self {
+            Left::Nothing => LeftHeaps {
+                sizes: [0, 0],
+                count: 0,
+            },
+            Left::One(a) => LeftHeaps {
+                sizes: [a, 0],
+                count: 1,
+            },
+            Left::Two(a, b) => LeftHeaps {
+                sizes: [a, b],
+                count: 2,
+            },
+        }
+    }
+}
+
+/// The sizes of the heaps that a move leaves, seen as their list.
+#[derive(Drop)]
+pub struct LeftHeaps {
+    sizes: [u64; 2],
+    count: usize,
+}
+
+impl Model for LeftHeaps {
+    ghost use Rattle.std.specs.Prelude.{◌≡◌, ◌≤◌, ℕ, List, length, take};
+
+    ghost Value = { List ℕ };
+
+    ghost view = { λ h. take h.count h.sizes };
+
+    ghost invariant = { λ h. (h.count ≤ 2) × (length h.sizes ≡ 2) };
+}
+
+impl LeftHeaps {
+    /// The sizes, the smaller first.
+    pub fn as_slice(&self) -> &[u64]
+        ensures { result.now ≡ self.now }
+    {
+        &self.sizes[..self.count]
+    }
+}

@@ -1,0 +1,128 @@
+//! The text of a verdict.
+ghost use Rattle.std.specs.Prelude.{◌≡◌, ◌++◌, IfOk, codes};
+ghost use Rattle.std.specs.String.{string_bytes};
+ghost use Rattle.answers.specs.Answers.{answer_of};
+ghost use Rattle.answers.specs.Answers.Answer.{Outcome as Refuted};
+ghost use Rattle.verdict_texts.specs.Lines.{yes_line, no_line, first_line, IsOutcomeLine, IsTextOf, is_yes, lent_answer};
+
+use allocation::{Memory, Room};
+use answers::{Certified, Refusal};
+use certificate::Cert;
+use octal_code::Code;
+use outcome_search::{SearchFault, outcome};
+use positions::{Outcome, Position};
+
+/// The most positions through which the outcome of a refused position is searched.
+const BUDGET: u32 = 65536;
+
+/// The line of a yes.
+fn yes_text<A: Room + Copy>(alloc: A, cert: &Cert<A>) -> Result<String<A>, Memory>
+    ensures { IfOk result
+        (λ t. string_bytes t ≡ yes_line cert.now.code cert.now.order cert.now.start
+        cert.now.period) }
+{
+    let code = cert.code().text(alloc)?;
+    let (order, start, period) = (cert.order(), cert.start(), cert.period());
+    let text = format!(in alloc; "yes {code} order {order} start {start} period {period}\n")?;
+    Ok(text)
+}
+
+/// The line of a no.
+fn no_text<A: Room + Copy>(alloc: A, number: u8, name: &str) -> Result<String<A>, Memory>
+    ensures { IfOk result (λ t. string_bytes t ≡ no_line number name.now) }
+{
+    let text = format!(in alloc; "no {number} {name}\n")?;
+    Ok(text)
+}
+
+/// The line of the outcome of the position.
+fn outcome_line<A: Room + Copy>(
+    alloc: A,
+    code: &Code,
+    position: &Position<A>,
+) -> Result<&'static str, Memory>
+    ensures { IfOk result (λ t. IsOutcomeLine code.now position.now t.now) }
+{
+    match outcome(alloc, code, position, BUDGET) {
+        Ok(Outcome::P) => Ok("outcome P\n"),
+        Ok(Outcome::N) => Ok("outcome N\n"),
+        Err(SearchFault::Budget) => Ok("outcome unknown\n"),
+        Err(SearchFault::Memory) => Err(Memory),
+    }
+}
+
+/// Three lines: the first, the place, and the last.
+fn three_lines<A: Room + Copy>(
+    alloc: A,
+    first: &str,
+    place: &str,
+    last: &str,
+) -> Result<String<A>, Memory>
+    ensures { IfOk result (λ t. string_bytes t ≡ first.now ++ codes "rule fails at " ++ place.now ++ codes "\n" ++ last.now) }
+{
+    let text = format!(in alloc; "{first}rule fails at {place}\n{last}")?;
+    Ok(text)
+}
+
+/// The lines of a refusal by a position.
+fn outcome_text<A: Room + Copy>(
+    alloc: A,
+    code: &Code,
+    position: &Position<A>,
+) -> Result<String<A>, Memory>
+    ensures { IfOk result (λ t. IsTextOf (Refuted code.now position.now) (string_bytes t)) }
+{
+    let first = no_text(alloc, 7, "Outcome")?;
+    let place = position.text()?;
+    let line = outcome_line(alloc, code, position)?;
+    three_lines(alloc, first.as_str(), place.as_str(), line)
+}
+
+/// The first line of the text of a verdict. Want of memory has one here, which stands in no text.
+pub fn verdict_line<A: Room + Copy>(
+    alloc: A,
+    verdict: Result<&Certified<A>, &Refusal<A>>,
+) -> Result<String<A>, Memory>
+    ensures { IfOk result (λ t. string_bytes t ≡ first_line (lent_answer verdict.entry)) }
+{
+    match verdict {
+        Ok(certified) => yes_text(alloc, certified.cert()),
+        Err(refusal) => no_text(alloc, refusal.number(), refusal.name()),
+    }
+}
+
+/// The text of a verdict: one line, and two more where a position refutes the certificate. Want of
+/// memory has no text, and is handed on.
+pub fn verdict_text<A: Room + Copy>(
+    alloc: A,
+    verdict: Result<&Certified<A>, &Refusal<A>>,
+) -> Result<String<A>, Memory>
+    ensures { IfOk result (λ t. IsTextOf (lent_answer verdict.entry) (string_bytes t)) }
+{
+    match verdict {
+        Ok(certified) => yes_text(alloc, certified.cert()),
+        Err(Refusal::Text) => no_text(alloc, 1, "Text"),
+        Err(Refusal::Law) => no_text(alloc, 2, "Law"),
+        Err(Refusal::Word) => no_text(alloc, 3, "Word"),
+        Err(Refusal::Order) => no_text(alloc, 4, "Order"),
+        Err(Refusal::Period) => no_text(alloc, 5, "Period"),
+        Err(Refusal::Apart) => no_text(alloc, 6, "Apart"),
+        Err(Refusal::Outcome(code, position)) => outcome_text(alloc, code, position),
+        Err(Refusal::Limit) => no_text(alloc, 8, "Limit"),
+        Err(Refusal::Memory) => Err(Memory),
+    }
+}
+
+/// Whether a verdict is yes, and its text. It is dropped here.
+pub fn told<A: Room + Copy>(
+    alloc: A,
+    verdict: Result<Certified<A>, Refusal<A>>,
+) -> Result<(bool, String<A>), Memory>
+    ensures yes { IfOk result (λ r. r.0 ≡ is_yes (answer_of verdict)) }
+    ensures text { IfOk result (λ r. IsTextOf (answer_of verdict) (string_bytes r.1)) }
+{
+    let is_yes = verdict.is_ok();
+    let text = verdict_text(alloc, verdict.as_ref());
+    drop(verdict);
+    Ok((is_yes, text?))
+}
