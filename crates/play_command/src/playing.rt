@@ -3,7 +3,7 @@ ghost use Rattle.std.specs.Prelude.{◌≡◌, true, IfOk, IfErr, IsErrOf};
 ghost use Rattle.positions.specs.Text.{IsTextOf};
 ghost use Rattle.play_command.specs.Plays.{AnswersIn, IsPlayCause, IsPositionCause, Plays, PlaysFound};
 
-use crate::answers::answer_text;
+use crate::lines::answer_text;
 use answers::Certified;
 use check_command::certified;
 use command_results::{Said, Stop};
