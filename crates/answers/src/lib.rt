@@ -2,12 +2,14 @@
 #![tactic(auto)]
 
 mod certified;
+mod checks;
 mod laws;
 mod refusal;
 mod spelling;
 mod values;
 
 pub use certified::Certified;
+pub use checks::Checks;
 pub use laws::{keys_spell_positions, one_text_for_a_code, true_answers};
 pub use refusal::Refusal;
 pub use spelling::position_of;

@@ -6,7 +6,7 @@ use Rattle.folders.specs.Files.{Holds}
 use Rattle.answers.specs.Answers.{IsTrueOf}
 use Rattle.answers.specs.Answers.Answer.{Yes}
 use Rattle.verdict_texts.specs.Lines.{is_yes}
-use Rattle.verdicts.specs.Streams.{Answers, AnswersStream}
+use Rattle.verdict_texts.specs.Streams.{Answers, AnswersStream}
 use Rattle.command_results.specs.declared.stop.Stop.{Stop}
 use Rattle.command_results.specs.declared.stop.Stop.TheVariants.{Read, Memory}
 

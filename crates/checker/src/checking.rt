@@ -7,7 +7,7 @@ ghost use Rattle.checker.specs.Turns.{verdict};
 use crate::stage::Stage;
 use crate::turns::checks_end;
 use allocation::Room;
-use answers::{Certified, Refusal, true_answers};
+use answers::{Certified, Checks, Refusal, true_answers};
 
 /// Whether the bytes are an accepted certificate. The answer is the verdict of the bytes and the
 /// limit, which is always the same, unless memory was refused.
@@ -20,4 +20,13 @@ pub fn check<A: Room + Copy>(alloc: A, bytes: &[u8], limit: u32) -> Result<Certi
     let ended = Stage::Reading.run(alloc, bytes, limit, &mut left);
     true_answers();
     ended.answer()
+}
+
+/// This check, for whatever takes one.
+pub struct Checker;
+
+impl<A: Room + Copy> Checks<A> for Checker {
+    fn check(&self, alloc: A, bytes: &[u8], limit: u32) -> Result<Certified<A>, Refusal<A>> {
+        check(alloc, bytes, limit)
+    }
 }

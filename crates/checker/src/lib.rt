@@ -23,7 +23,7 @@ mod stage;
 mod turns;
 
 pub use answers::{Certified, Refusal, one_text_for_a_code, true_answers};
-pub use checking::check;
+pub use checking::{Checker, check};
 pub use job::{Job, Progress};
 pub use positions::Outcome;
 pub use turns::{checks_end, turns_decide, verdicts_are_true};

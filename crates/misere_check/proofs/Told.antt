@@ -4,7 +4,7 @@ use Rattle.std.specs.Prelude.{IsErrOf}
 use Rattle.streams.specs.Stream.{Counts, Puts}
 use Rattle.streams.specs.declared.fault.StreamFault.{StreamFault}
 use Rattle.streams.specs.declared.fault.StreamFault.TheVariants.{Read, Write, Memory}
-use Rattle.verdicts.specs.Streams.{CountsReads, WritesSomeOfStream}
+use Rattle.verdict_texts.specs.Streams.{CountsReads, WritesSomeOfStream}
 use Rattle.requests.specs.Requests.{default_limit}
 use Rattle.misere_check.specs.Ends.{Device, Ends, Tells, cause, device}
 use Rattle.misere_check.specs.Ends.Ends.{Unread, Unwritten, NoMemory}

@@ -5,7 +5,7 @@ use Rattle.std.specs.Io.KnownBytes.{Appends}
 use Rattle.streams.specs.Stream.{AppendsSome}
 use Rattle.streams.specs.declared.fault.StreamFault.{StreamFault}
 use Rattle.streams.specs.declared.fault.StreamFault.TheVariants.{Read, Write, Memory}
-use Rattle.verdicts.specs.Streams.{WritesOfStream, WritesSomeOfStream}
+use Rattle.verdict_texts.specs.Streams.{WritesOfStream, WritesSomeOfStream}
 use Rattle.requests.specs.Requests.{default_limit}
 
 -- Standard output or standard error: the bytes that it took, where they are known, and how often it

@@ -3,6 +3,6 @@
 
 mod stream;
 
-pub use stream::{MOST_BYTES, check_bytes, check_stream};
+pub use stream::{check_bytes, check_stream};
 pub use streams::StreamFault;
-pub use verdict_texts::{verdict_line, verdict_text};
+pub use verdict_texts::{MOST_BYTES, verdict_line, verdict_text};

@@ -1,40 +1,11 @@
 //! Checks whose verdict goes to a sink.
-ghost use Rattle.std.specs.Prelude.{◌≡◌, ◌<◌, ◌⊎◌, IfOk, IfErr, IsErrOf};
-ghost use Rattle.std.specs.String.{string_bytes};
-ghost use Rattle.streams.specs.Stream.{Puts};
-ghost use Rattle.verdict_texts.specs.Lines.{is_yes};
-ghost use Rattle.verdicts.specs.Streams.{Answers, CountsReads, ReadsEnough, Writes, WritesSome, WritesOfStream, WritesSomeOfStream};
+ghost use Rattle.std.specs.Prelude.{◌≡◌, ◌<◌, ◌⊎◌, IfOk, IsErrOf};
+ghost use Rattle.verdict_texts.specs.Streams.{CountsReads, ReadsEnough, Writes, WritesSome, WritesOfStream, WritesSomeOfStream};
 
-use allocation::{Memory, Room};
-use checker::check;
-use streams::{Sink, Source, StreamFault, read_whole, write_whole};
-use verdict_texts::told;
-
-/// The greatest length of a stream that is checked.
-pub const MOST_BYTES: usize = 4194304;
-
-/// The text of the verdict on bytes that are no certificate.
-const NO_TEXT: &[u8] = b"no 1 Text\n";
-
-/// Checks the bytes: whether the answer is yes, and its text.
-fn answered<A: Room + Copy>(alloc: A, bytes: &[u8], limit: u32) -> Result<(bool, String<A>), Memory>
-    ensures { IfOk result (λ r. (a : Answers bytes.now limit) × (string_bytes r.1 ≡ a.text)
-        × (r.0 ≡ is_yes a.answer)) }
-{
-    told(alloc, check(alloc, bytes, limit))
-}
-
-/// Writes the text, or a beginning of it where the sink fails.
-fn write_text<W: Sink>(sink: &mut W, text: &[u8]) -> Result<(), StreamFault>
-    ensures puts { Puts (W.taken sink.old) (W.taken sink.new) result text.now }
-    ensures cause { IsErrOf result StreamFault.Write → W.failures sink.old < W.failures sink.new }
-    ensures only { IfErr result (λ fault. fault ≡ StreamFault.Write) }
-{
-    match write_whole(sink, text) {
-        Ok(()) => Ok(()),
-        Err(_) => Err(StreamFault::Write),
-    }
-}
+use allocation::Room;
+use checker::Checker;
+use streams::{Sink, Source, StreamFault};
+use verdict_texts::{check_bytes_by, check_stream_by};
 
 /// Checks the bytes, writes the text of the verdict, and answers whether it is yes.
 ///
@@ -53,9 +24,7 @@ pub fn check_bytes<W: Sink, A: Room + Copy>(
     ensures memory { IsErrOf result StreamFault.Memory → sink.new ≡ sink.old }
     ensures never { IsErrOf result StreamFault.Read → ⊥ }
 {
-    let (is_yes, text) = answered(alloc, bytes, limit)?;
-    write_text(sink, text.as_bytes())?;
-    Ok(is_yes)
+    check_bytes_by(&Checker, alloc, bytes, sink, limit)
 }
 
 /// Reads the source to its end, writes the text of the verdict on all bytes that it had left, and
@@ -81,10 +50,5 @@ pub fn check_stream<R: Source, W: Sink, A: Room + Copy>(
     ensures unwritten { IsErrOf result StreamFault.Read ⊎ IsErrOf result StreamFault.Memory
         → sink.new ≡ sink.old }
 {
-    let bytes = read_whole(alloc, source, MOST_BYTES)?;
-    if bytes.len() > MOST_BYTES {
-        write_text(sink, NO_TEXT)?;
-        return Ok(false);
-    }
-    check_bytes(alloc, &bytes, sink, limit)
+    check_stream_by(&Checker, alloc, source, sink, limit)
 }

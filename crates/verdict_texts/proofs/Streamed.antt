@@ -4,7 +4,7 @@ use Rattle.std.proofs.lemmas.Fmt.{decimal_digit}
 use Rattle.std.specs.Io.KnownBytes.{Consumes, IsAtEnd}
 use Rattle.answers.specs.Answers.Answer.{Text}
 use Rattle.verdict_texts.specs.Lines.{no_line}
-use Rattle.verdicts.specs.Streams.{AreKnownAs, Answers, AnswersStream}
+use Rattle.verdict_texts.specs.Streams.{AreKnownAs, Answers, AnswersStream}
 
 -- where the end was reached, what was read is all that was left
 pub all_read : (left after : Option (List ℕ)) (v : List ℕ) → Consumes left after v → IsAtEnd after

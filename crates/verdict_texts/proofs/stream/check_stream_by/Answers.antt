@@ -2,9 +2,9 @@ use Rattle.std.proofs.Common.{rules, ◌≡◌, ◌≤◌, sym, refl, subst, ℕ
 use Rattle.std.specs.Io.KnownBytes.{Appends, Consumes, IsAtEnd}
 use Rattle.streams.specs.Stream.{AppendsSome}
 use Rattle.std.proofs.lemmas.Result.{IfOk-weaker}
-use Rattle.verdicts.specs.Streams.{Writes, WritesSome, WritesOfStream, WritesSomeOfStream}
-use Rattle.verdicts.proofs.Told.{streamed, long_stream, no_text_line}
-use Rattle.verdicts.proofs.stream.check_stream.Goals as goal
+use Rattle.verdict_texts.specs.Streams.{Writes, WritesSome, WritesOfStream, WritesSomeOfStream}
+use Rattle.verdict_texts.proofs.Streamed.{streamed, long_stream, no_text_line}
+use Rattle.verdict_texts.proofs.stream.check_stream_by.Goals as goal
 
 -- what was written of the bytes is written of the stream
 writes : (left after before now : Option (List ℕ)) (v w : List ℕ) (limit : ℕ)
@@ -46,19 +46,19 @@ returns-in_err-write_text-clause-write g c = λ is.
 pub returns-clause-ok : goal.returns-clause-ok
 returns-clause-ok g c =
     let short : length c.in_ok-bytes.bytes.items ≤ 4194304 = search rules in
-    IfOk-weaker c.check_bytes.result _ _
+    IfOk-weaker c.check_bytes_by.result _ _
     (λ said h. writes (g.R.Source.left c.args.source.now)
     (g.R.Source.left c.read_whole.new.source)
-    (g.W.Sink.taken c.args.sink.now) (g.W.Sink.taken c.check_bytes.new.sink)
+    (g.W.Sink.taken c.args.sink.now) (g.W.Sink.taken c.check_bytes_by.new.sink)
     c.in_ok-bytes.bytes.items c.deref.result.now c.args.limit
     c.in_ok-bytes.ensures.bytes (c.in_ok-bytes.ensures.end (search rules)) short
-    c.deref.ensures.value said h) c.check_bytes.ensures.ok
+    c.deref.ensures.value said h) c.check_bytes_by.ensures.ok
 
 pub returns-clause-write : goal.returns-clause-write
 returns-clause-write g c = λ is.
     let short : length c.in_ok-bytes.bytes.items ≤ 4194304 = search rules in
     writes_some (g.R.Source.left c.args.source.now) (g.R.Source.left c.read_whole.new.source)
-    (g.W.Sink.taken c.args.sink.now) (g.W.Sink.taken c.check_bytes.new.sink)
+    (g.W.Sink.taken c.args.sink.now) (g.W.Sink.taken c.check_bytes_by.new.sink)
     c.in_ok-bytes.bytes.items c.deref.result.now c.args.limit
     c.in_ok-bytes.ensures.bytes (c.in_ok-bytes.ensures.end (search rules)) short
-    c.deref.ensures.value (c.check_bytes.ensures.write is)
+    c.deref.ensures.value (c.check_bytes_by.ensures.write is)

@@ -1,7 +1,7 @@
 use Rattle.std.proofs.Common.{rules, ◌∙◌, subst, ℕ, List}
 use Rattle.std.specs.Io.KnownBytes.{Appends}
 use Rattle.streams.specs.Stream.{AppendsSome}
-use Rattle.verdicts.proofs.stream.check_bytes.Goals as goal
+use Rattle.verdict_texts.proofs.stream.check_bytes_by.Goals as goal
 
 pub returns-clause-ok : goal.returns-clause-ok
 returns-clause-ok g c =
