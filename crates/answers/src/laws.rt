@@ -28,7 +28,7 @@ pub fn one_text_for_a_code()
 
 /// The keys of a canonical certificate go down to smaller elements, and the heaps that those of an
 /// element spell are a position whose value is that element.
-pub fn keys_spell_positions()
+pub fn spelled_sizes_are_positions()
     ensures down { (c : Certificate) → InRanges c → Canonical c → GoDown c.words }
     ensures valued { (c : Certificate) (e : ℕ) (sizes : List ℕ) → InRanges c
         → Monoid c.order (times_of c) → Canonical c → e < c.order → AreSpelled c e sizes

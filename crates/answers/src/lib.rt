@@ -10,6 +10,6 @@ mod values;
 
 pub use certified::Certified;
 pub use checks::Checks;
-pub use laws::{keys_spell_positions, one_text_for_a_code, true_answers};
+pub use laws::{one_text_for_a_code, spelled_sizes_are_positions, true_answers};
 pub use refusal::Refusal;
 pub use spelling::position_of;

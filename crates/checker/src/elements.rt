@@ -15,7 +15,7 @@ use crate::closing::Closing;
 use crate::sheet::{Sheet, sheets_are_lawful};
 use crate::stage::Stage;
 use allocation::{Memory, Room};
-use answers::{Refusal, keys_spell_positions, position_of};
+use answers::{Refusal, position_of, spelled_sizes_are_positions};
 use element_sets::ElementSet;
 use positions::Position;
 use std::alloc::Global;
@@ -122,7 +122,7 @@ fn position_with<A: Room + Copy>(
     ensures fails { IfOk result (RuleFails sheet.now.code (claim_of sheet.now)) }
     ensures exact { IfOk result (λ X. X ≡ rising (heap ∷ keys_from sheet.now sheet.now.order y)) }
 {
-    keys_spell_positions();
+    spelled_sizes_are_positions();
     let mut position = position_of(alloc, sheet.words(), y)?;
     position.push(heap)?;
     position.heaps();

@@ -8,7 +8,7 @@ use Rattle.checker.proofs.elements.position_with.Goals as goal
 pub position_of-requires-clause-down : goal.position_of-requires-clause-down
 position_of-requires-clause-down g c =
     subst GoDown (sym c.words.ensures.value)
-    (c.keys_spell_positions.ensures.down c.args.sheet.now c.words.ensures.lawful.in_ranges
+    (c.spelled_sizes_are_positions.ensures.down c.args.sheet.now c.words.ensures.lawful.in_ranges
     c.requires.canonical)
 
 pub position_of-requires-clause-element_in : goal.position_of-requires-clause-element_in
@@ -22,7 +22,7 @@ pub returns-clause-position : goal.returns-clause-position
 returns-clause-position g c =
     let s = c.args.sheet.now in
     let spelled =
-    c.keys_spell_positions.ensures.valued s c.args.y c.in_ok-position.position
+    c.spelled_sizes_are_positions.ensures.valued s c.args.y c.in_ok-position.position
     c.words.ensures.lawful.in_ranges c.words.ensures.lawful.monoid c.requires.canonical
     c.requires.element
     (c.in_ok-position.ensures s (sym c.words.ensures.value)) in
@@ -33,7 +33,7 @@ pub returns-clause-fails : goal.returns-clause-fails
 returns-clause-fails g c =
     let s = c.args.sheet.now in
     let spelled =
-    c.keys_spell_positions.ensures.valued s c.args.y c.in_ok-position.position
+    c.spelled_sizes_are_positions.ensures.valued s c.args.y c.in_ok-position.position
     c.words.ensures.lawful.in_ranges c.words.ensures.lawful.monoid c.requires.canonical
     c.requires.element
     (c.in_ok-position.ensures s (sym c.words.ensures.value)) in
