@@ -1,11 +1,17 @@
 -- Values of positions, a heap at a time.
 use Rattle.std.proofs.Common.{◌≡◌, ℕ, suc, ◌+◌, ◌-◌, ◌*◌, ◌<◌, ◌≤◌, List, length, get_or, sym, ◌∙◌, ap, arith}
 use Rattle.std.specs.Prelude.{drop}
+use Rattle.std.proofs.Math.Nat.{mul-le-mul}
 use Rattle.std.proofs.Math.Seq.{drop-cons}
 use Rattle.misere_theory.specs.Quotients.{Claim, value}
 
 pub place_below : (q x y : ℕ) → x < q → y < q → x * q + y < q * q
 place_below q x y hx hy = grind arith
+
+pub place_small : (q x y : ℕ) → q ≤ 256 → x < q → y < q → x * q + y < 65536
+place_small q x y small hx hy =
+    let p = place_below q x y hx hy in let m : q * q ≤ 256 * 256 = mul-le-mul small small in
+    omega arith
 
 -- one heap more in front
 pub value_more : (c : Claim) (X : List ℕ) (at v w : ℕ) → 0 < at → at ≤ length X

@@ -1,8 +1,9 @@
 -- One more heap and value are looked at.
-use Rattle.std.proofs.Common.{◌≡◌, ℕ, ◌+◌, ◌<◌, ◌≤◌, ◌⊎◌, Bool, true, false, List, length, get_or, refl, sym, ◌∙◌, ap, subst, arith, rules}
+use Rattle.std.proofs.Common.{◌≡◌, ℕ, ◌+◌, ◌<◌, ◌≤◌, ◌⊎◌, Bool, true, false, List, [], ◌∷◌, ◌++◌, length, get_or, refl, sym, ◌∙◌, ap, subst, arith, rules}
 use Rattle.std.specs.FinSet as set
 use Rattle.std.specs.FinSet.{members}
 use Rattle.std.specs.Ordering.{nat_cmp}
+use Rattle.std.proofs.lemmas.List.{get_or_append_left, get_or_push}
 use Rattle.std.proofs.lemmas.List.Elements.{All-get_or}
 use native.Mathlib.Decide.{dec_lt}
 use Rattle.misere_theory.specs.Games.{IsHeapUpTo}
@@ -27,6 +28,22 @@ insert_old s k q h = grind (members, rules)
 
 pub empty_has : (q : ℕ) → set.contains (set.empty {R = nat_cmp}) q ≡ true → ⊥
 empty_has q h = grind (members, rules)
+
+-- of sets put one behind another
+pub each-push : (P : ℕ → set.FinSet nat_cmp → Type 0) (xs ys : List (set.FinSet nat_cmp))
+    (s : set.FinSet nat_cmp) (n : ℕ) → length xs ≡ n → ys ≡ xs ++ s ∷ []
+    → ((x : ℕ) → x < n → P x (get_or xs x set.empty)) → P n s
+    → (x : ℕ) → x < n + 1 → P x (get_or ys x set.empty)
+each-push P xs ys s n count put old new x l =
+    subst (λ zs. P x (get_or zs x set.empty)) (sym put)
+    (elim (dec_lt x n) [
+      | yes b ↦
+          (let w : x < length xs = omega (arith, count) in
+          subst (P x) (sym (get_or_append_left xs (s ∷ []) set.empty x w)) (old x b))
+      | no f ↦ (let e : n ≡ x = omega (arith, f) in
+          subst (λ k. P k (get_or (xs ++ s ∷ []) k set.empty)) e
+          (subst (P n) (sym (get_or_push xs s set.empty n count)) new))
+    ])
 
 module _ (c : Certificate) (r : InRanges c) (pairs : List Pair) (ctx : List (set.FinSet nat_cmp))
   where

@@ -2,8 +2,9 @@
 use Rattle.std.proofs.Common.{◌≡◌, ℕ, List, Some, None, false, refl, sym, subst}
 use Rattle.misere_theory.specs.Certificates.{Certificate}
 use Rattle.certificate_text.specs.Spelling.{Spells}
-use Rattle.answers.specs.Answers.{Answer, Fits, Holds, answer_of}
+use Rattle.answers.specs.Answers.{Answer, Fits, Holds, IsTrueOf, answer_of}
 use Rattle.answers.specs.Answers.Answer.{Yes, Text, Law, Word, Order, Period, Apart, Outcome, Limit, Memory}
+use Rattle.checker.specs.JobViews.{IsEnding}
 use Rattle.checker.specs.Stages.{Carries, Stands, has_ended, ending}
 use Rattle.checker.specs.declared.stage.Stage.{Stage}
 use Rattle.checker.specs.declared.stage.Stage.TheVariants.{Reading, Laws, Keys, Products, Periods, Separating, Heaps, Closing, Elements, Ended}
@@ -73,3 +74,18 @@ none-going (Heaps l) e = refl
 none-going (Closing l) e = refl
 none-going (Elements l) e = refl
 none-going (Ended r) e = absurd (cc)
+
+-- the answer of a stage that stands is true
+pub stands-true : {A : Type 0} (bytes : List ℕ) (limit : ℕ)
+    → ((a : Answer) → Holds bytes limit a → IsTrueOf bytes limit a) → (s : Stage A)
+    → Stands bytes limit s → IsEnding bytes limit (ending s)
+stands-true bytes limit t Reading h = tt
+stands-true bytes limit t (Laws l) h = tt
+stands-true bytes limit t (Keys l) h = tt
+stands-true bytes limit t (Products l) h = tt
+stands-true bytes limit t (Periods l) h = tt
+stands-true bytes limit t (Separating l) h = tt
+stands-true bytes limit t (Heaps l) h = tt
+stands-true bytes limit t (Closing l) h = tt
+stands-true bytes limit t (Elements l) h = tt
+stands-true bytes limit t (Ended r) h = t (answer_of r) h

@@ -213,17 +213,29 @@ impl<A: Room + Copy> Closing<A> {
         let closed = close(&mut closure, &lines.inside, left);
         closure.shows_pairs();
         match closed {
-            Err(_) => Err(Refusal::Memory),
+            Err(_) => {
+                drop((phi, lines, closure));
+                Err(Refusal::Memory)
+            }
             Ok(Looked::More) => Ok(Stage::Closing(Closing {
                 code,
                 phi,
                 lines,
                 closure,
             })),
-            Ok(Looked::Over) => Err(Refusal::Limit),
+            Ok(Looked::Over) => {
+                drop((phi, lines, closure));
+                Err(Refusal::Limit)
+            }
             Ok(Looked::Broken(i)) => match closure.word(i) {
-                Ok(position) => Err(Refusal::Outcome(code, position)),
-                Err(_) => Err(Refusal::Memory),
+                Ok(position) => {
+                    drop((phi, lines, closure));
+                    Err(Refusal::Outcome(code, position))
+                }
+                Err(_) => {
+                    drop((phi, lines, closure));
+                    Err(Refusal::Memory)
+                }
             },
             Ok(Looked::Done) => {
                 let (table, _) = closure.finish();

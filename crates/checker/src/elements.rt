@@ -138,7 +138,8 @@ fn rule_fails<A: Room>(sheet: Sheet<A>, position: Position<A>) -> Result<Stage<A
     ensures shown { phase_of (reached result) ≡ AtEnded (Outcome sheet.code position) }
 {
     sheets_are_lawful(&sheet);
-    let Sheet { code, .. } = sheet;
+    let code = sheet.code;
+    drop(sheet);
     Err(Refusal::Outcome(code, position))
 }
 
@@ -236,9 +237,13 @@ impl<A: Room + Copy> Elements<A> {
             }
             *left -= 1;
             if let Some(y) = breach(&pairs[heap], &contexts, option, order) {
+                drop((pairs, contexts));
                 return match position_with(alloc, &sheet, heap as u64 + 1, y) {
                     Ok(position) => rule_fails(sheet, position),
-                    Err(_) => Err(Refusal::Memory),
+                    Err(_) => {
+                        drop(sheet);
+                        Err(Refusal::Memory)
+                    }
                 };
             }
             option += 1;

@@ -88,7 +88,10 @@ impl<A: Room + Copy> Heaps<A> {
         let made = job.work(*left);
         *left -= job.spent() - before;
         match made {
-            Err(_) => Err(Refusal::Memory),
+            Err(_) => {
+                drop((lines, job));
+                Err(Refusal::Memory)
+            }
             Ok(false) => Ok(Stage::Heaps(Heaps { lines, job })),
             Ok(true) => {
                 let (code, table, phi, pairs) = job.finish();

@@ -120,12 +120,14 @@ impl<A: Room + Copy> Keys<A> {
             }
             *left -= 1;
             if !is_keyed(&sheet, next) {
+                drop(sheet);
                 return Err(Refusal::Word);
             }
             rising &= is_above_last(&sheet, next);
             next += 1;
         }
         if !rising {
+            drop(sheet);
             return Err(Refusal::Order);
         }
         Ok(Stage::Products(Products::new(sheet)))

@@ -89,6 +89,7 @@ impl<A: Room + Copy> Periods<A> {
             }
             count += 1;
             if count == period {
+                drop(sheet);
                 return Err(Refusal::Period);
             }
         }
@@ -101,6 +102,7 @@ impl<A: Room + Copy> Periods<A> {
         }
         *left -= 1;
         if comes_again(&sheet, start - 1, period) {
+            drop(sheet);
             return Err(Refusal::Period);
         }
         Ok(Stage::Separating(Separating::new(sheet)))

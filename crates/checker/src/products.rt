@@ -111,6 +111,7 @@ impl<A: Room + Copy> Products<A> {
             }
             *left -= 1;
             if !is_in_order(&sheet, element, heap) {
+                drop(sheet);
                 return Err(Refusal::Order);
             }
             heap += 1;

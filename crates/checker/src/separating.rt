@@ -130,12 +130,14 @@ impl<A: Room + Copy> Separating<A> {
             let given = sheet.apart(number);
             if !tells_apart(&sheet, x, y, z) {
                 if z == given {
+                    drop(sheet);
                     return Err(Refusal::Apart);
                 }
                 z += 1;
                 continue;
             }
             if z < given {
+                drop(sheet);
                 return Err(Refusal::Apart);
             }
             z = 0;

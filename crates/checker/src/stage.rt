@@ -36,7 +36,7 @@ impl<A: Room> Stage<A> {
     pub fn set(&mut self, stage: Stage<A>)
         ensures { self.new ≡ stage }
     {
-        *self = stage;
+        drop(std::mem::replace(self, stage));
     }
 }
 

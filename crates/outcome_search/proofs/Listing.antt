@@ -17,8 +17,6 @@ use Rattle.misere_theory.specs.Plays.{MoreReachableThan}
 use Rattle.misere_theory.specs.Plays.Reachable.{Already, After}
 use Rattle.misere_theory.proofs.Reachables.{reached_on}
 use Rattle.outcome_search.specs.Reached.{IsNext, AddsMoves}
-use Rattle.outcome_search.specs.Settled.{IsSettledBy}
-use Rattle.positions.specs.declared.outcome.Outcome.{Outcome}
 use Rattle.outcome_search.proofs.Heaps.{move_from_place}
 use Rattle.outcome_search.specs.Searching.{IsOnTheWay}
 use Rattle.outcome_search.proofs.Found.{rising_differ}
@@ -29,10 +27,18 @@ pub same_place : (code : List ℕ) (number : ℕ) (old new : List (List ℕ)) �
 same_place code number old new l (more, e, all) =
     ap (λ ys. get_or ys number []) e ∙ get_or-append old more [] number l
 
+pub adds_none : (code : List ℕ) (number : ℕ) (old : List (List ℕ)) → AddsMoves code number old old
+adds_none code number old =
+    ([], sym (append-nil old), All-nil (IsNext code (get_or old number [])))
+
 pub no_shorter : (code : List ℕ) (number : ℕ) (old new : List (List ℕ))
     → AddsMoves code number old new → length old ≤ length new
 no_shorter code number old new (more, e, all) = let n = ap length e ∙ length-append old more in
     omega arith
+
+pub stays : (code : List ℕ) (number : ℕ) (old new : List (List ℕ)) → number < length old
+    → AddsMoves code number old new → number < length new
+stays code number old new l adds = let n = no_shorter code number old new adds in omega arith
 
 pub adds_one : (code : List ℕ) (number : ℕ) (old mid : List (List ℕ)) (Y : List ℕ)
     → IsNext code (get_or old number []) Y → AddsMoves code number old mid

@@ -9,7 +9,6 @@ use Rattle.std.proofs.lemmas.Int.Digits.{number_after_ge}
 use Rattle.std.proofs.lemmas.List.{length-map, length-take}
 use Rattle.std.proofs.lemmas.List.Elements.{All-nil, All-cons, All-head, All-tail, All-contains, Contains-append_left, Contains-append_right}
 use Rattle.std.proofs.lemmas.List.Splits.{length-slice_split}
-use Rattle.std.proofs.lemmas.List.Sorted.{IsPermutation-refl}
 use Rattle.positions.specs.Positions.{IsSize}
 use Rattle.positions.specs.Surveys.{capped, IsSurveyOf}
 use Rattle.positions.specs.Text.{number_of, IsNumeral, IsNumeralOf, words_of, IsPositionText, IsTextOf, IsNoPositionText, HasTooMany, HasTooLarge}

@@ -4,7 +4,7 @@
 pub const DEFAULT_LIMIT: u32 = 100000;
 
 /// What the program is asked to do.
-#[derive(Clone, Copy, Debug, PartialEq, Eq)]
+#[derive(Clone, Copy, PartialEq, Eq)]
 pub enum Plan<'a> {
     /// Check the certificate in the file, or on standard input where no file is named, and keep
     /// at most so many members of its closure.
@@ -46,7 +46,7 @@ pub enum Plan<'a> {
 }
 
 /// What is asked of a catalogue.
-#[derive(Clone, Copy, Debug, PartialEq, Eq)]
+#[derive(Clone, Copy, PartialEq, Eq)]
 pub enum CatalogueTask<'a> {
     /// Print a line for each entry.
     Print,

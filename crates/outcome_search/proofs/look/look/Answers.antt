@@ -1,4 +1,5 @@
-use Rattle.std.proofs.Common.{◌≡◌, ◌<◌, ◌+◌, ◌-◌, ℕ, List, Bool, length, get_or, true, false, ap, sym, subst, arith}
+use Rattle.std.proofs.Common.{◌≡◌, ◌<◌, ◌+◌, ◌-◌, ℕ, List, Bool, length, get_or, true, false, inr, ap, sym, subst, arith}
+use Rattle.std.proofs.lemmas.Result.{IfOk-from_err}
 use Rattle.heap_options.specs.Exact.{heaps_of}
 use Rattle.heap_options.specs.Options.{options_of}
 use Rattle.outcome_search.specs.Known.{HasSeen}
@@ -59,3 +60,15 @@ returns-else-can_move g c =
     (subst (λ b. HasLooked c.args.code.now X c.args.memo.now c.loop-at.at b) c.if-can_move.false
     c.loop-at.invariant) in
     looked_all c.args.code.now X c.args.memo.now c.options_are_exact.ensures.each false all
+
+pub look_at-requires : goal.look_at-requires
+look_at-requires g c = rw (← c.heaps-heaps.ensures.value) c.loop-at-test.true
+
+pub returns-in_err-look_at : goal.returns-in_err-look_at
+returns-in_err-look_at g c = IfOk-from_err _ _ c.from_residual.ensures.0
+
+pub returns-in-Wins : goal.returns-in-Wins
+returns-in-Wins g c = inr (rw c.in-Wins.is at c.in_ok-look_at.ensures)
+
+pub returns-in-Unknown : goal.returns-in-Unknown
+returns-in-Unknown g c = rw c.in-Unknown.is at c.in_ok-look_at.ensures

@@ -1,5 +1,6 @@
-use Rattle.std.proofs.Common.{◌≡◌, ◌++◌, ◌∙◌, slice_index, Some, None, sym, ap}
+use Rattle.std.proofs.Common.{◌≡◌, ◌++◌, ◌∙◌, slice_index, Some, None, refl, sym, ap}
 use Rattle.std.proofs.lemmas.List.{append-nil}
+use Rattle.std.proofs.lemmas.Result.{IfOk-from_err}
 use Rattle.heap_options.specs.Exact.{heaps_of}
 use Rattle.heap_options.specs.Options.{options_of}
 use Rattle.outcome_search.proofs.Heaps.{option_fits, move_from_place}
@@ -71,3 +72,16 @@ returns g c =
     seen_all c.args.code.now c.args.position.now c.args.memo.now c.args.at l.yielded
     (options_of c.args.code.now (slice_index c.args.position.now c.args.at)) l.seen l.next whole
     l.invariant.1
+
+pub bounds-heaps-at : goal.bounds-heaps-at
+bounds-heaps-at g c = rw c.heaps.ensures.value c.requires
+
+pub loop-left-init : goal.loop-left-init
+loop-left-init g c = (
+  c.into_iter-left-iterator.ensures.into_iter_gives ∙ c.options-left-items.ensures
+      ∙ ap (λ X. options_of c.args.code.now (slice_index X c.args.at)) c.heaps.ensures.value,
+  refl,
+)
+
+pub returns-in_err-set_moved : goal.returns-in_err-set_moved
+returns-in_err-set_moved g c = IfOk-from_err _ _ c.from_residual.ensures.0

@@ -1,5 +1,6 @@
 use Rattle.std.proofs.Common.{◌≡◌, ◌-◌, ◌++◌, [], ◌∷◌, ◌∙◌, ap, sym, subst, arith, get_or, remove}
 use Rattle.std.proofs.lemmas.List.{get_or_default}
+use Rattle.std.proofs.lemmas.Result.{IfOk-from_err}
 use Rattle.std.specs.Option.{MatchOption}
 use Rattle.outcome_search.specs.Known.{IsUnknown}
 use Rattle.outcome_search.specs.Settled.{Follows}
@@ -104,3 +105,40 @@ returns-then-last-eq0-clause-within g c =
     settled c.args.code.now first c.args.budget c.loop-memo.memo c.loop-memo.waiting.items
     c.loop-memo.invariant last c.index.result.now top c.in-Some.outcome
     (let z = c.if-last-eq0.true in omega arith) has
+
+pub loop-memo-init : goal.loop-memo-init
+loop-memo-init g c = c.requires
+
+pub overflow_sub-last : goal.overflow_sub-last
+overflow_sub-last g c = omega (arith, c.loop-memo.invariant.some)
+
+pub index-requires : goal.index-requires
+index-requires g c = omega (arith, c.loop-memo.invariant.some)
+
+pub returns-in_err-look-clause-answer : goal.returns-in_err-look-clause-answer
+returns-in_err-look-clause-answer g c = IfOk-from_err _ _ c.from_residual.ensures.0
+
+pub returns-in_err-look-clause-within : goal.returns-in_err-look-clause-within
+returns-in_err-look-clause-within g c = IfOk-from_err _ _ c.from_residual.ensures.0
+
+pub overflow_add-len : goal.overflow_add-len
+overflow_add-len g c = omega (arith, c.len.ensures.value, c.loop-memo.invariant.within)
+
+pub returns-in_err-add-in-None-clause-answer : goal.returns-in_err-add-in-None-clause-answer
+returns-in_err-add-in-None-clause-answer g c =
+    IfOk-from_err _ _ c.from_residual-in_err-add-in-None.ensures.0
+
+pub returns-in_err-add-in-None-clause-within : goal.returns-in_err-add-in-None-clause-within
+returns-in_err-add-in-None-clause-within g c =
+    IfOk-from_err _ _ c.from_residual-in_err-add-in-None.ensures.0
+
+pub remove-done-requires : goal.remove-done-requires
+remove-done-requires g c = omega (arith, c.loop-memo.invariant.some)
+
+pub returns-in_err-insert-in-Some-clause-answer : goal.returns-in_err-insert-in-Some-clause-answer
+returns-in_err-insert-in-Some-clause-answer g c =
+    IfOk-from_err _ _ c.from_residual-in_err-insert-in-Some.ensures.0
+
+pub returns-in_err-insert-in-Some-clause-within : goal.returns-in_err-insert-in-Some-clause-within
+returns-in_err-insert-in-Some-clause-within g c =
+    IfOk-from_err _ _ c.from_residual-in_err-insert-in-Some.ensures.0

@@ -1,8 +1,9 @@
-use Rattle.std.proofs.Common.{rules, ◌∷◌, ◌∙◌, length, slice_index, ap, subst, arith}
+use Rattle.std.proofs.Common.{◌∷◌, ◌∙◌, length, slice_index, ap, subst, arith}
 use Rattle.std.specs.List.Sorted.{IsPermutation}
 use Rattle.std.proofs.lemmas.List.Sorted.{IsPermutation-refl}
 use Rattle.heap_options.specs.Exact.{heaps_of}
 use Rattle.positions.proofs.Permuted.{added_more, added_all, few_left}
+use Rattle.positions.proofs.Room.{heaps_fit}
 use Rattle.positions.proofs.position.add_left.Goals as goal
 
 pub loop-heap-init : goal.loop-heap-init
@@ -17,7 +18,7 @@ add_heap-requires g c =
     let room = c.requires.room in
     let count = c.loop-heap.invariant.2 in
     let capacity = c.loop-heap.invariant.3 in
-    (search (rules, g.met.A.Room.small), (omega arith, c.loop-heap.invariant.1))
+    (heaps_fit g.row.A g.A.Allocator g.met.A.Room.small, (omega arith, c.loop-heap.invariant.1))
 
 pub loop-heap-preserved : goal.loop-heap-preserved
 loop-heap-preserved g c =

@@ -1,5 +1,5 @@
 use Rattle.std.proofs.Common.{◌≡◌, ◌∙◌, ◌++◌, ap₂, codes, List, ℕ}
-use Rattle.std.proofs.lemmas.Result.{IfOk-weaker}
+use Rattle.std.proofs.lemmas.Result.{IfOk-weaker, IfOk-from_err}
 use Rattle.positions.specs.Text.{position_text}
 use Rattle.verdict_texts.proofs.lines.outcome_text.Goals as goal
 
@@ -15,3 +15,12 @@ returns g c =
       h ∙ ap₂ (λ (f p : List ℕ). f ++ codes "rule fails at " ++ p ++ codes "\n" ++ line) first
           place,
     )) c.three_lines.ensures
+
+pub returns-in_err-first : goal.returns-in_err-first
+returns-in_err-first g c = IfOk-from_err _ _ c.from_residual.ensures.0
+
+pub returns-in_err-place : goal.returns-in_err-place
+returns-in_err-place g c = IfOk-from_err _ _ c.from_residual-in_err-place.ensures.0
+
+pub returns-in_err-line : goal.returns-in_err-line
+returns-in_err-line g c = IfOk-from_err _ _ c.from_residual-in_err-line.ensures.0

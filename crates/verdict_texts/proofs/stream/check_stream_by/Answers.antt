@@ -1,7 +1,7 @@
 use Rattle.std.proofs.Common.{rules, ◌≡◌, ◌≤◌, sym, refl, subst, ℕ, Bool, List, Option, length, codes}
 use Rattle.std.specs.Io.KnownBytes.{Appends, Consumes, IsAtEnd}
 use Rattle.streams.specs.Stream.{AppendsSome}
-use Rattle.std.proofs.lemmas.Result.{IfOk-weaker}
+use Rattle.std.proofs.lemmas.Result.{IfOk-weaker, IfOk-from_err}
 use Rattle.verdict_texts.specs.Streams.{Writes, WritesSome, WritesOfStream, WritesSomeOfStream}
 use Rattle.verdict_texts.proofs.Streamed.{streamed, long_stream, no_text_line}
 use Rattle.verdict_texts.proofs.stream.check_stream_by.Goals as goal
@@ -62,3 +62,39 @@ returns-clause-write g c = λ is.
     c.in_ok-bytes.bytes.items c.deref.result.now c.args.limit
     c.in_ok-bytes.ensures.bytes (c.in_ok-bytes.ensures.end (search rules)) short
     c.deref.ensures.value (c.check_bytes_by.ensures.write is)
+
+pub returns-in_err-bytes-clause-read : goal.returns-in_err-bytes-clause-read
+returns-in_err-bytes-clause-read g c = IfOk-from_err _ _ c.from_residual.ensures.0
+
+pub returns-in_err-bytes-clause-ok : goal.returns-in_err-bytes-clause-ok
+returns-in_err-bytes-clause-ok g c = IfOk-from_err _ _ c.from_residual.ensures.0
+
+pub returns-in_err-bytes-clause-unwritten : goal.returns-in_err-bytes-clause-unwritten
+returns-in_err-bytes-clause-unwritten g c = λ _. refl
+
+pub returns-in_err-write_text-clause-read : goal.returns-in_err-write_text-clause-read
+returns-in_err-write_text-clause-read g c =
+    IfOk-from_err _ _ c.from_residual-in_err-write_text.ensures.0
+
+pub returns-in_err-write_text-clause-ok : goal.returns-in_err-write_text-clause-ok
+returns-in_err-write_text-clause-ok g c =
+    IfOk-from_err _ _ c.from_residual-in_err-write_text.ensures.0
+
+pub returns-then-len-gt-MOST_BYTES-clause-read : goal.returns-then-len-gt-MOST_BYTES-clause-read
+returns-then-len-gt-MOST_BYTES-clause-read g c = (
+  c.in_ok-bytes.bytes.items,
+  c.in_ok-bytes.ensures.bytes,
+  search (rules, c.in_ok-bytes.ensures.bound),
+)
+
+pub returns-clause-read : goal.returns-clause-read
+returns-clause-read g c =
+    IfOk-weaker c.check_bytes_by.result _ _
+    (λ _ _. (
+      c.in_ok-bytes.bytes.items,
+      c.in_ok-bytes.ensures.bytes,
+      search (rules, c.in_ok-bytes.ensures.bound),
+    )) c.check_bytes_by.ensures.ok
+
+pub returns-clause-write_cause : goal.returns-clause-write_cause
+returns-clause-write_cause g c = c.check_bytes_by.ensures.cause

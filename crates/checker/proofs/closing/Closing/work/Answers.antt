@@ -236,8 +236,8 @@ returns-in-Ok-clause-comes g c =
       exact = λ h. omega arith;
     }
 
-pub returns-in-Ok-Broken-clause-comes : goal.returns-in-Ok-Broken-clause-comes
-returns-in-Ok-Broken-clause-comes g c =
+pub returns-in-Err-word-clause-comes : goal.returns-in-Err-word-clause-comes
+returns-in-Err-word-clause-comes g c =
     let s = c.self.inside in
     let p : Pieces =
     pieces_of s.code s.closure.state.table s.phi s.lines.portion.items s.lines.words.items
@@ -261,8 +261,8 @@ returns-in-Ok-Broken-clause-comes g c =
       exact = λ h. omega arith;
     }
 
-pub returns-clause-comes : goal.returns-clause-comes
-returns-clause-comes g c =
+pub returns-in-Ok-Done-clause-comes : goal.returns-in-Ok-Done-clause-comes
+returns-in-Ok-Done-clause-comes g c =
     let s = c.self.inside in
     let p : Pieces =
     pieces_of s.code s.closure.state.table s.phi s.lines.portion.items s.lines.words.items

@@ -1,4 +1,4 @@
-use Rattle.std.proofs.Common.{slice_index, ◌∙◌, ap, rules, arith, ◌<◌, ◌≡◌, true, sym}
+use Rattle.std.proofs.Common.{slice_index, ◌∙◌, ap, arith, ◌<◌, ◌≡◌, sym, true≢false}
 use Rattle.misere_theory.specs.Certificates.{claim_of, TellsApart}
 use Rattle.checker.proofs.ApartLemmas.{apart_in, element_turn, pair_turn, last_pair_turn}
 use Rattle.checker.specs.Turns.Phase.{Separating}
@@ -32,19 +32,20 @@ pub pairs-preserved-then-not-tells_apart : goal.pairs-preserved-then-not-tells_a
 pairs-preserved-then-not-tells_apart g c =
     let i = c.pairs.invariant in
     let s = c.pairs.self-inside in
-    let not = λ (t : TellsApart (claim_of s.sheet) (s.x, s.y) s.z). let r : c.tells_apart.result
-    ≡ true = c.tells_apart.ensures.tells.1 t in let b : ⊥ = cc in b in
+    let not = λ (t : TellsApart (claim_of s.sheet) (s.x, s.y) s.z).
+    true≢false (sym (c.tells_apart.ensures.tells.1 t) ∙ c.if-not-tells_apart.true) in
+    let other = λ (e : s.z ≡ slice_index s.sheet.apart s.number).
+    c.if-self-given.false (e ∙ sym c.apart-given.ensures.value) in
     record {
       same = i.same;
       order = i.order;
       last = i.last;
       lawful = i.lawful;
-      so_far = element_turn s.sheet i.lawful.in_ranges _ _ _ _ i.so_far i.within not (search rules);
+      so_far = element_turn s.sheet i.lawful.in_ranges _ _ _ _ i.so_far i.within not other;
       within = i.within;
       runs =
           λ bytes limit. separating_further bytes limit _ _ _ _ _ _ _ _ (i.runs bytes limit)
-          i.within _ (omega arith) c.tells_apart.ensures.same c.if-not-tells_apart.true
-          (search rules);
+          i.within _ (omega arith) c.tells_apart.ensures.same c.if-not-tells_apart.true other;
     }
 
 pub pairs-preserved-then-self-order : goal.pairs-preserved-then-self-order
@@ -111,3 +112,45 @@ returns-then-self-given-clause-runs g c = let i = c.pairs.invariant in
 pub returns-then-self-given-2-clause-runs : goal.returns-then-self-given-2-clause-runs
 returns-then-self-given-2-clause-runs g c = let i = c.pairs.invariant in
     λ bytes limit. separating_going bytes limit _ _ _ _ _ _ _ _ (i.runs bytes limit) i.within
+
+pub invariant_of-self : goal.invariant_of-self
+invariant_of-self g c = (c.pairs.invariant.so_far, c.pairs.invariant.within)
+
+pub invariant_of-self-in-pairs : goal.invariant_of-self-in-pairs
+invariant_of-self-in-pairs g c = (c.pairs.invariant.so_far, c.pairs.invariant.within)
+
+pub invariant_of-self-then-self-given : goal.invariant_of-self-then-self-given
+invariant_of-self-then-self-given g c = (c.pairs.invariant.so_far, c.pairs.invariant.within)
+
+pub invariant_of-self-then-self-given-2 : goal.invariant_of-self-then-self-given-2
+invariant_of-self-then-self-given-2 g c = (c.pairs.invariant.so_far, c.pairs.invariant.within)
+
+pub returns-then-self-given-clause-same : goal.returns-then-self-given-clause-same
+returns-then-self-given-clause-same g c = c.pairs.invariant.same
+
+pub returns-then-self-given-2-clause-same : goal.returns-then-self-given-2-clause-same
+returns-then-self-given-2-clause-same g c = c.pairs.invariant.same
+
+pub returns-else-self-last-clause-same : goal.returns-else-self-last-clause-same
+returns-else-self-last-clause-same g c = c.pairs.invariant.same
+
+pub returns-after-pairs-clause-same : goal.returns-after-pairs-clause-same
+returns-after-pairs-clause-same g c = c.pairs.invariant.same
+
+pub apart-given-requires : goal.apart-given-requires
+apart-given-requires g c = c.pairs.invariant.within
+
+pub tells_apart-requires-clause-x_in : goal.tells_apart-requires-clause-x_in
+tells_apart-requires-clause-x_in g c =
+    let i = c.pairs.invariant in
+    let r = i.so_far.rises in
+    let w = i.so_far.within in
+    omega arith
+
+pub tells_apart-requires-clause-z_in : goal.tells_apart-requires-clause-z_in
+tells_apart-requires-clause-z_in g c =
+    let i = c.pairs.invariant in
+    let e = i.so_far.element i.within in
+    let v = c.apart-given.ensures.value in
+    let w = c.apart-given.ensures.within in
+    omega arith
