@@ -1,10 +1,9 @@
-//! Certificates read and written, to sinks that fail too, and with memory refused.
+//! Certificates read and written, to sinks that fail too.
+use crate::octal_code_tests::is_written_as;
+use crate::texts::{Parts, text_of};
 use certificate::{Cert, TextFault, WriteFault, read, write};
 use devices::{FailingSink, SlowSink};
-use ration::Ration;
-use std::alloc::{AllocError, Allocator, Global};
-use std::process::Abort;
-use std::test::Fail;
+use std::alloc::{Allocator, Global};
 use streams::MemorySink;
 
 const OF_0_1: &[u8] =
@@ -41,7 +40,7 @@ const UNREACHED: &[u8] =
 row 0 1 2 3\nrow 1 0 3 2\nrow 2 3 0 1\nrow 3 2 1 0\napart 0 0 0 0 0 0\nend\n";
 
 /// The certificate of `0.3`, with one thing changed.
-const OTHERS: [&[u8]; 19] = [
+static OTHERS: [&[u8]; 19] = [
     // line ends of two bytes
     b"mqc 1\r\ncode 0.3\r\norder 2\r\nstart 1\r\nperiod 2\r\nphi 1 0\r\nportion 1\r\nwords 0:1\r\n\
 row 0 1\r\nrow 1 0\r\napart 0\r\nend\r\n",
@@ -95,40 +94,65 @@ apart 0\nend\n",
 apart 0\nend\n",
 ];
 
-/// Whether the certificate is written as the bytes.
-fn is_written_as(alloc: Global, cert: &Cert, bytes: &[u8]) -> bool {
-    let mut sink = MemorySink::new(alloc);
-    write(cert, &mut sink).is_ok() && sink.bytes() == bytes
-}
+/// Texts that are written as they are read.
+static OWN: [&[u8]; 6] = [OF_0_1, OF_0_3, OF_0_33, OF_0_75, REFUTED, UNREACHED];
 
 /// Whether a certificate is read of the bytes and written as the same bytes.
 fn comes_back(alloc: Global, bytes: &[u8]) -> bool {
     match read(alloc, bytes) {
-        Ok(cert) => is_written_as(alloc, &cert, bytes),
+        Ok(cert) => {
+            let mut sink = MemorySink::new(alloc);
+            write(&cert, &mut sink).is_ok() && sink.bytes() == bytes
+        }
         Err(_) => false,
     }
 }
 
-/// Why no certificate is read of the bytes.
-fn fault_of<A: Allocator + Copy>(alloc: A, bytes: &[u8]) -> Option<TextFault> {
+/// How many texts are written as they are read.
+fn count_back(alloc: Global, texts: &[&[u8]]) -> usize {
+    let mut count = 0usize;
+    for bytes in texts {
+        if comes_back(alloc, bytes) {
+            count = count.saturating_add(1);
+        }
+    }
+    count
+}
+
+/// Whether a certificate is read of the bytes, or why none is.
+fn fault_of<A: Allocator + Copy>(alloc: A, bytes: &[u8]) -> Result<bool, TextFault> {
     match read(alloc, bytes) {
-        Ok(_) => None,
-        Err(fault) => Some(fault),
+        Ok(_) => Ok(true),
+        Err(fault) => Err(fault),
     }
 }
 
-#[test]
-fn writes_what_it_reads(rt: HostRuntime) {
-    for bytes in [OF_0_1, OF_0_3, OF_0_33, OF_0_75, REFUTED, UNREACHED] {
-        assert!(rt; comes_back(rt.alloc(), bytes));
+/// How many texts are refused as no certificate.
+fn count_refused(alloc: Global, texts: &[&[u8]]) -> usize {
+    let mut count = 0usize;
+    for bytes in texts {
+        if matches!(fault_of(alloc, bytes), Err(TextFault::Text)) {
+            count = count.saturating_add(1);
+        }
+    }
+    count
+}
+
+/// Whether the certificate of 0.75 is read, or the number of the fault.
+pub fn is_read<A: Allocator + Copy>(alloc: A) -> Result<bool, u8> {
+    match fault_of(alloc, OF_0_75) {
+        Ok(is_read) => Ok(is_read),
+        Err(fault) => Err(fault.number()),
     }
 }
 
-/// Whether the certificate is of the code.
-fn is_of(alloc: Global, cert: &Cert, code: &str) -> bool {
-    match cert.code().text(alloc) {
-        Ok(text) => text.as_str() == code,
-        Err(_) => false,
+/// Whether an order with nothing behind it is refused as no certificate, or the number of another
+/// fault.
+pub fn is_refused<A: Allocator + Copy>(alloc: A) -> Result<bool, u8> {
+    match fault_of(alloc, b"mqc 1\ncode 0.3\norder 256\nstart 1\nperiod 1024\n") {
+        Ok(_) => Ok(false),
+        Err(TextFault::Text) => Ok(true),
+        Err(fault) => Err(fault.number()),
     }
 }
 
@@ -142,7 +166,7 @@ fn lines_held(alloc: Global, cert: &Cert) -> [bool; 8] {
         None => (0, 0),
     };
     [
-        is_of(alloc, cert, "0.33"),
+        matches!(is_written_as(alloc, cert.code(), b"0.33"), Ok(true)),
         (cert.order(), cert.start(), cert.period()) == (6, 1, 3),
         cert.phi().entries() == [1u16, 2, 0].as_slice(),
         cert.portion() == [1u16, 4].as_slice(),
@@ -153,126 +177,78 @@ fn lines_held(alloc: Global, cert: &Cert) -> [bool; 8] {
     ]
 }
 
-#[test]
-fn lends_what_the_lines_hold(rt: HostRuntime) -> Result<(), Fail> {
-    let cert = Cert::from_parts(read(rt.alloc(), OF_0_33)?.into_parts());
-    assert_eq!(rt; lines_held(rt.alloc(), &cert), [true; 8]);
-    Ok(())
-}
-
-#[test]
-fn refuses_other_texts(rt: HostRuntime) {
-    for bytes in OTHERS {
-        assert!(rt; fault_of(rt.alloc(), bytes) == Some(TextFault::Text));
+/// Which lines the certificate of `0.33` lends as it holds them.
+fn lines_lent(alloc: Global) -> [bool; 8] {
+    match read(alloc, OF_0_33) {
+        Ok(cert) => lines_held(alloc, &Cert::from_parts(cert.into_parts())),
+        Err(_) => [false; 8],
     }
 }
 
-#[test]
-fn asks_no_memory_for_an_order(rt: HostRuntime) {
-    let ration = Ration::new(rt.alloc(), 1);
-    let front = b"mqc 1\ncode 0.3\norder 256\nstart 1\nperiod 1024\n";
-    assert!(rt; fault_of(&ration, front) == Some(TextFault::Text));
-    assert!(rt; !ration.has_refused());
-}
-
-/// Writes to a sink that fails at this write: whether that is a fault, and how many bytes of the
-/// text of `0.3` the sink has then.
-fn written_until(alloc: Global, cert: &Cert, until: u64) -> (bool, Option<u64>) {
+/// Whether a sink that fails at this write has the bytes before it of the text of `0.3`.
+fn is_written_until(alloc: Global, cert: &Cert, until: u64) -> bool {
     let mut sink = FailingSink::new(SlowSink::new(alloc), until);
-    let fails = write(cert, &mut sink) == Err(WriteFault::Write);
+    let fails = matches!(write(cert, &mut sink), Err(WriteFault::Write));
     let bytes = sink.within().bytes();
-    let count = if OF_0_3.starts_with(bytes) {
-        Some(bytes.len() as u64)
-    } else {
-        None
+    OF_0_3.starts_with(bytes)
+        && fails == (until < 97)
+        && bytes.len() as u64 == until.min(97).saturating_sub(1)
+}
+
+/// The first write whose failure leaves something else, up to 99.
+fn first_wrong_write(alloc: Global) -> u64 {
+    let Ok(cert) = read(alloc, OF_0_3) else {
+        return 0;
     };
-    (fails, count)
-}
-
-/// Asserts what is written of the certificate of `0.3`, with a failure at each write in turn.
-fn writes_beginnings(rt: &impl Abort, alloc: Global, cert: &Cert) {
     for until in 1..99u64 {
-        let written = written_until(alloc, cert, until);
-        assert!(rt;
-            written == (until < 97, Some(until.min(97) - 1)),
-            "at {until}"
-        );
-    }
-}
-
-#[test]
-fn writes_a_beginning(rt: HostRuntime) -> Result<(), Fail> {
-    let cert = read(rt.alloc(), OF_0_3)?;
-    writes_beginnings(&rt, rt.alloc(), &cert);
-    Ok(())
-}
-
-/// Why the certificate of `0.75` isn't read, and whether the growth of this number was refused.
-fn read_with(alloc: Global, refused: u64) -> (Option<TextFault>, bool) {
-    let ration = Ration::new(alloc, refused);
-    (fault_of(&ration, OF_0_75), ration.has_refused())
-}
-
-#[test]
-fn refused_memory(rt: HostRuntime) {
-    for n in 1..40u64 {
-        let (fault, refused) = read_with(rt.alloc(), n);
-        if !refused {
-            assert!(rt; fault.is_none() && n > 5, "{n}");
-            return;
+        if !is_written_until(alloc, &cert, until) {
+            return until;
         }
-        assert!(rt; fault == Some(TextFault::Memory), "at {n}");
     }
-    assert!(rt; false, "it never read to the end");
+    99
 }
 
-/// Writes the word so many times, each behind a space.
-fn repeat(text: &mut Vec<u8>, word: &[u8], count: usize) -> Result<(), AllocError> {
-    for _ in 0..count {
-        text.push(b' ')?;
-        text.extend_from_slice(word)?;
+/// A text of the most entries and the largest order.
+static LARGEST: [(Parts, usize); 3] = [
+    (
+        &[
+            (b"mqc 1\ncode 0.3\norder 256\nstart 1\nperiod 1024\nphi", 1),
+            (b" 255", 1024),
+            (b"\nportion 255\nwords", 1),
+            (b" 255:1024", 255),
+        ],
+        1,
+    ),
+    (&[(b"\nrow", 1), (b" 255", 256)], 256),
+    (&[(b"\napart", 1), (b" 255", 32640), (b"\nend\n", 1)], 1),
+];
+
+/// Whether the certificate of the bytes has so many words, products and separations as the largest.
+fn is_largest(alloc: Global, bytes: &[u8]) -> bool {
+    match read(alloc, bytes) {
+        Ok(cert) => {
+            cert.order() == 256
+                && (cert.words().len(), cert.rows().len(), cert.apart().len())
+                    == (255, 65536, 32640)
+        }
+        Err(_) => false,
     }
-    Ok(())
 }
 
-/// Writes 256 rows of 256 elements.
-fn put_rows(text: &mut Vec<u8>) -> Result<(), AllocError> {
-    for _ in 0..256usize {
-        text.extend_from_slice(b"\nrow")?;
-        repeat(text, b"255", 256)?;
+/// Whether the largest text has its sizes and comes back.
+fn largest_comes_back(alloc: Global) -> bool {
+    match text_of(alloc, &LARGEST) {
+        Ok(text) => is_largest(alloc, &text) && comes_back(alloc, &text),
+        Err(_) => false,
     }
-    Ok(())
 }
 
-/// Writes a text of the most entries and the largest order.
-fn put_largest(text: &mut Vec<u8>) -> Result<(), AllocError> {
-    text.extend_from_slice(b"mqc 1\ncode 0.3\norder 256\nstart 1\nperiod 1024\nphi")?;
-    repeat(text, b"255", 1024)?;
-    text.extend_from_slice(b"\nportion 255\nwords")?;
-    repeat(text, b"255:1024", 255)?;
-    put_rows(text)?;
-    text.extend_from_slice(b"\napart")?;
-    repeat(text, b"255", 32640)?;
-    text.extend_from_slice(b"\nend\n")
-}
-
-/// The order, and how many words, products and separations the certificate of the bytes has.
-fn sizes_of(alloc: Global, bytes: &[u8]) -> Option<(u16, usize, usize, usize)> {
-    let cert = read(alloc, bytes).ok()?;
-    Some((
-        cert.order(),
-        cert.words().len(),
-        cert.rows().len(),
-        cert.apart().len(),
-    ))
-}
-
-/// The most entries, the largest order, and more than 2^16 bytes.
+/// The last has the most entries, the largest order, and more than 2^16 bytes.
 #[test]
-fn memory_suffices_for_the_largest_text(rt: HostRuntime) -> Result<(), Fail> {
-    let mut text = Vec::new(rt.alloc());
-    put_largest(&mut text)?;
-    assert!(rt; sizes_of(rt.alloc(), &text) == Some((256, 255, 65536, 32640)));
-    assert!(rt; comes_back(rt.alloc(), &text));
-    Ok(())
+fn texts_and_certificates(rt: HostRuntime) {
+    assert!(rt; count_back(rt.alloc(), &OWN) == 6);
+    assert!(rt; count_refused(rt.alloc(), &OTHERS) == 19);
+    assert!(rt; lines_lent(rt.alloc()) == [true; 8]);
+    assert!(rt; first_wrong_write(rt.alloc()) == 99);
+    assert!(rt; largest_comes_back(rt.alloc()));
 }

@@ -1,6 +1,6 @@
 //! Sets at the edges of their lanes.
 use element_sets::{ElementSet, MOST_ELEMENTS, members_are_small};
-use std::test::Fail;
+use std::alloc::{AllocError, Global};
 
 /// The largest element.
 const LAST: u16 = MOST_ELEMENTS - 1;
@@ -13,47 +13,61 @@ fn set_of(members: &[u16]) -> ElementSet {
     all
 }
 
-#[test]
-fn is_a_bit_for_each_element(rt: HostRuntime) -> Result<(), Fail> {
-    assert_eq!(rt; size_of::<ElementSet>(), MOST_ELEMENTS as usize / 8);
-    Ok(())
-}
-
-#[test]
-fn edges_of_lanes(rt: HostRuntime) -> Result<(), Fail> {
+/// What holds of sets at the edges of lanes.
+fn edges_hold() -> [bool; 8] {
     let none = ElementSet::new();
     let edges = set_of(&[0, 63, 64, LAST]);
-    assert!(rt; edges.meets(&set_of(&[LAST])));
-    assert!(rt; !set_of(&[0, LAST]).subset(&set_of(&[0, 63, 64])));
-    assert!(rt; !none.meets(&none) && none.subset(&none) && none.is_empty());
-    assert!(rt; edges.contains(63) && !edges.contains(62));
-    assert!(rt; edges == set_of(&[0, 63]).union(&set_of(&[LAST, 64])));
-    let mut grown = set_of(&[0, 63]);
-    grown.union_with(&set_of(&[64, LAST]));
-    assert!(rt; grown == edges && !grown.is_empty());
-    Ok(())
+    let high = set_of(&[64, LAST]);
+    let low = set_of(&[0, 63]);
+    let last = set_of(&[LAST]);
+    let mut grown = low;
+    grown.union_with(&high);
+    [
+        edges.meets(&last),
+        !set_of(&[0, LAST]).subset(&set_of(&[0, 63, 64])),
+        !none.meets(&none) && none.subset(&none) && none.is_empty(),
+        edges.contains(63),
+        !edges.contains(62),
+        edges == low.union(&set_of(&[LAST, 64])),
+        grown == edges,
+        !grown.is_empty(),
+    ]
 }
 
-#[test]
-fn numbers_out_of_the_range_stay_out(rt: HostRuntime) -> Result<(), Fail> {
-    let mut edges = set_of(&[0, 63, 64, LAST]);
+/// What holds of numbers out of the range, which stay out, and of the last two in it.
+fn range_holds() -> [bool; 5] {
+    let edges = set_of(&[0, 63, 64, LAST]);
+    let mut more = edges;
+    let mut out = true;
     for x in [MOST_ELEMENTS, MOST_ELEMENTS + 63, 32768, u16::MAX] {
-        assert!(rt; !edges.contains(x) && !edges.insert(x), "{x}");
+        out &= !more.contains(x) && !more.insert(x);
     }
-    assert!(rt; edges == set_of(&[0, 63, 64, LAST]));
-    assert!(rt; edges.insert(LAST) && edges.insert(LAST - 1) && edges.contains(LAST - 1));
-    Ok(())
+    [
+        out,
+        more == edges,
+        more.insert(LAST),
+        more.insert(LAST - 1),
+        more.contains(LAST - 1),
+    ]
 }
 
-#[test]
-fn translates_from_the_other_end(rt: HostRuntime) -> Result<(), Fail> {
-    let mut row = Vec::new(rt.alloc());
+/// Whether the translation from the other end is right.
+fn translates_from_the_other_end(alloc: Global) -> Result<bool, AllocError> {
+    let mut row = Vec::new(alloc);
     for x in 0..MOST_ELEMENTS {
         row.push(LAST - x)?;
     }
     let edges = set_of(&[0, 63, 64, LAST]);
     members_are_small(&edges);
     let moved = edges.translate(&row);
-    assert!(rt; moved == set_of(&[0, LAST - 64, LAST - 63, LAST]));
-    Ok(())
+    Ok(moved == set_of(&[0, LAST - 64, LAST - 63, LAST]))
+}
+
+/// A set is a bit for each element.
+#[test]
+fn sets(rt: HostRuntime) {
+    assert!(rt; size_of::<ElementSet>() == MOST_ELEMENTS as usize / 8);
+    assert!(rt; edges_hold() == [true; 8]);
+    assert!(rt; range_holds() == [true; 5]);
+    assert!(rt; matches!(translates_from_the_other_end(rt.alloc()), Ok(true)));
 }

@@ -1,10 +1,124 @@
-//! What may be answered where a growth is refused.
+//! Jobs with each growth of memory refused in turn.
+use crate::{
+    certificate_tests, octal_code_tests, outcome_search_tests, pair_closure_tests, positions_tests,
+    presentations_tests, quotient_solver_tests, streams_tests, transition_algebra_tests,
+};
+use allocation::Room;
+use positions::Left;
+use ration::Ration;
+use std::alloc::Global;
 
-/// Whether the answer is the one that is right, or want of memory once a growth was refused. Of a
-/// fault it has the number.
-pub fn is_fair(answer: Result<bool, u8>, has_refused: bool) -> bool {
-    match answer {
-        Ok(is_right) => is_right,
-        Err(number) => has_refused && number == 9,
+/// What may take memory.
+#[derive(Clone, Copy)]
+pub enum Job {
+    Code,
+    Outcome(&'static str),
+    LargeOutcome,
+    Sum,
+    Move,
+    Text,
+    FewHeaps,
+    MoveOfFew,
+    Table,
+    Quotient,
+    Certificate,
+    Order,
+    Stream,
+    Heaps,
+    Closure,
+}
+
+/// Whether the job ends right, or the number of its fault.
+fn answer<A: Room + Copy>(alloc: A, job: Job) -> Result<bool, u8> {
+    match job {
+        Job::Code => octal_code_tests::comes_back(alloc, b"0.75"),
+        Job::Outcome(text) => outcome_search_tests::is_n(alloc, text),
+        Job::LargeOutcome => outcome_search_tests::is_found(alloc),
+        Job::Sum => positions_tests::twice(
+            alloc,
+            b"3 4 5 6 7 8",
+            &[3, 3, 4, 4, 5, 5, 6, 6, 7, 7, 8, 8],
+        ),
+        Job::Move => positions_tests::leaves(
+            alloc,
+            b"0.75",
+            b"1 1 1 1 1 1 1 1 5",
+            (5, Left::Two(1, 3)),
+            &[1, 1, 1, 1, 1, 1, 1, 1, 1, 3],
+        ),
+        Job::Text => positions_tests::is_read_as(
+            alloc,
+            b"30 4 200 1 2 3 5 6 7",
+            "1 2 3 4 5 6 7 30 200",
+        ),
+        Job::FewHeaps => positions_tests::takes_a_ninth(alloc),
+        Job::MoveOfFew => positions_tests::leaves(
+            alloc,
+            b"0.3",
+            b"1 2 3 4 5 6 7",
+            (7, Left::One(6)),
+            &[1, 2, 3, 4, 5, 6, 6],
+        ),
+        Job::Table => presentations_tests::has_eight(alloc),
+        Job::Quotient => quotient_solver_tests::is_of_eight(alloc),
+        Job::Certificate => certificate_tests::is_read(alloc),
+        Job::Order => certificate_tests::is_refused(alloc),
+        Job::Stream => streams_tests::is_read(alloc, b"abc", 100, b"abc"),
+        Job::Heaps => transition_algebra_tests::in_pieces(alloc, 7),
+        Job::Closure => pair_closure_tests::ends(alloc),
     }
+}
+
+/// The answer with this growth refused, and whether that growth came.
+fn answer_with(alloc: Global, job: Job, refused: u64) -> (Result<bool, u8>, bool) {
+    let ration = Ration::new(alloc, refused);
+    let answer = answer(&ration, job);
+    (answer, ration.has_refused())
+}
+
+/// The first growth below `most` that doesn't come, if the job ends right then and is answered by
+/// want of memory at each before.
+fn first_not_needed(alloc: Global, job: Job, most: u64) -> Option<u64> {
+    for n in 1..most {
+        match answer_with(alloc, job, n) {
+            (Ok(true), false) => return Some(n),
+            (Err(9), true) => {}
+            _ => return None,
+        }
+    }
+    None
+}
+
+/// A job, the least growth that may not come, and the first that is too many. Up to eight heaps
+/// take no memory, nor do a move from seven and an order with nothing behind it: in `FewHeaps` just
+/// the ninth heap does.
+#[test]
+fn each_growth_may_be_refused(rt: HostRuntime) {
+    let rows = [
+        (Job::Code, 1, 9),
+        (Job::Outcome("1 2 2"), 1, 99),
+        (Job::Outcome("1 1 1 1 1 1 1 1 1 1 1 1"), 1, 99),
+        (Job::Sum, 2, 99),
+        (Job::Move, 2, 99),
+        (Job::Text, 1, 99),
+        (Job::FewHeaps, 2, 3),
+        (Job::MoveOfFew, 1, 2),
+        (Job::Table, 1, 999),
+        (Job::Quotient, 1, 100_000),
+        (Job::Certificate, 6, 40),
+        (Job::Order, 1, 2),
+        (Job::Stream, 2, 9),
+        (Job::Heaps, 1, 1000),
+        (Job::Closure, 7, 100),
+    ];
+    for (job, least, most) in rows {
+        let n = first_not_needed(rt.alloc(), job, most);
+        assert!(rt; n >= Some(least), "{least} to {most}");
+    }
+}
+
+/// Nine heaps, so that each position that waits takes memory of its own.
+#[test]
+fn says_memory_on_a_large_position(rt: HostRuntime) {
+    assert!(rt; answer_with(rt.alloc(), Job::LargeOutcome, 10000) == (Err(9), true));
 }

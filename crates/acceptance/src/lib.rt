@@ -29,4 +29,6 @@ mod ration_tests;
 #[cfg(test)]
 mod streams_tests;
 #[cfg(test)]
+mod texts;
+#[cfg(test)]
 mod transition_algebra_tests;

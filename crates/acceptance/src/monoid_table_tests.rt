@@ -1,43 +1,52 @@
 //! The monoid of a^3 = a, whose elements are 1, a and a^2, and rows that are no table.
+ghost use Rattle.std.specs.Prelude.{◌≡◌};
+
 use monoid_table::{LawFault, Table, TableJob, power, product};
 use std::alloc::Global;
-use std::test::Fail;
 
 /// The products of the monoid, row after row.
 const ROWS: [u16; 9] = [0, 1, 2, 1, 2, 1, 2, 1, 2];
 
-/// Products of two elements, of more and of none, and the powers of a and of a^2.
-fn worked(alloc: Global) -> Option<([u16; 5], [u16; 9])> {
-    let table = Table::new(3, ROWS.to_vec(alloc).ok()?).ok()?;
-    if table.order() == 3 {
-        let products = [
-            table.times(1, 1),
-            table.times(2, 1),
-            product(&table, &[1, 1, 2]),
-            table.product(&[1, 2, 1]),
-            table.product(&[]),
-        ];
-        let powers = [
-            power(&table, &1, 0),
-            power(&table, &1, 1),
-            power(&table, &1, 2),
-            power(&table, &1, 3),
-            power(&table, &1, 6),
-            power(&table, &1, 7),
-            power(&table, &1, u64::MAX),
-            table.power(1, 6),
-            table.power(2, 0),
-        ];
-        return Some((products, powers));
+/// The table of the rows.
+fn table_of(alloc: Global, order: u16, rows: &[u16]) -> Result<Table, LawFault> {
+    match rows.to_vec(alloc) {
+        Ok(rows) => Table::new(order, rows),
+        Err(_) => Err(LawFault::Shape),
     }
-    None
 }
 
-#[test]
-fn products_of_powers(rt: HostRuntime) {
-    let products = [2, 1, 2, 2, 0];
-    let powers = [0, 1, 2, 1, 2, 1, 1, 2, 0];
-    assert_eq!(rt; worked(rt.alloc()), Some((products, powers)));
+/// Products of two elements, of more and of none, and the powers of a and of a^2.
+fn worked(table: &Table) -> ([u16; 5], [u16; 9])
+    requires { table.now.order ≡ 3 }
+{
+    let products = [
+        table.times(1, 1),
+        table.times(2, 1),
+        product(table, &[1, 1, 2]),
+        table.product(&[1, 2, 1]),
+        table.product(&[]),
+    ];
+    let powers = [
+        power(table, &1, 0),
+        power(table, &1, 1),
+        power(table, &1, 2),
+        power(table, &1, 3),
+        power(table, &1, 6),
+        power(table, &1, 7),
+        power(table, &1, u64::MAX),
+        table.power(1, 6),
+        table.power(2, 0),
+    ];
+    (products, powers)
+}
+
+fn has_products(alloc: Global) -> bool {
+    match table_of(alloc, 3, &ROWS) {
+        Ok(table) => {
+            table.order() == 3 && worked(&table) == ([2, 1, 2, 2, 0], [0, 1, 2, 1, 2, 1, 1, 2, 0])
+        }
+        Err(_) => false,
+    }
 }
 
 /// What a job answers to so many units and then to so many more, and how many triples it looked at.
@@ -47,28 +56,51 @@ fn work_twice(
     first: u64,
     more: u64,
 ) -> Option<([Result<bool, LawFault>; 2], u64)> {
-    let mut job = TableJob::new(3, rows.to_vec(alloc).ok()?).ok()?;
-    let answers = [job.work(first), job.work(more)];
-    Some((answers, job.done()))
+    let Ok(rows) = rows.to_vec(alloc) else {
+        return None;
+    };
+    match TableJob::new(3, rows) {
+        Ok(mut job) => {
+            let answers = [job.work(first), job.work(more)];
+            Some((answers, job.done()))
+        }
+        Err(_) => None,
+    }
+}
+
+#[test]
+fn products_and_powers(rt: HostRuntime) {
+    assert!(rt; has_products(rt.alloc()));
 }
 
 /// The products of the second rows don't associate.
 #[test]
 fn triples_in_pieces(rt: HostRuntime) {
-    let lawful = work_twice(rt.alloc(), ROWS, 26, 1);
-    assert!(rt; lawful == Some(([Ok(false), Ok(true)], 27)));
-    let others = [0, 1, 2, 1, 2, 0, 2, 0, 2];
-    let lawless = work_twice(rt.alloc(), others, 14, u64::MAX);
-    assert!(rt; lawless == Some(([Ok(false), Err(LawFault::Law)], 15)));
+    for (rows, first, more, wanted) in [
+        (ROWS, 26, 1, ([Ok(false), Ok(true)], 27)),
+        (
+            [0, 1, 2, 1, 2, 0, 2, 0, 2],
+            14,
+            u64::MAX,
+            ([Ok(false), Err(LawFault::Law)], 15),
+        ),
+    ] {
+        assert!(rt; work_twice(rt.alloc(), rows, first, more) == Some(wanted));
+    }
 }
 
+/// Whether the rows of two elements are refused so.
+fn is_refused(alloc: Global, rows: &[u16], wanted: LawFault) -> bool {
+    match table_of(alloc, 2, rows) {
+        Ok(_) => false,
+        Err(fault) => fault == wanted,
+    }
+}
+
+/// Rows that are short, of no commutative product, and of another identity.
 #[test]
-fn rows_that_are_no_table(rt: HostRuntime) -> Result<(), Fail> {
-    let short = Table::new(2, [0u16, 1, 1].to_vec(rt.alloc())?);
-    assert!(rt; matches!(short, Err(LawFault::Shape)));
-    let one_sided = Table::new(2, [0u16, 1, 0, 1].to_vec(rt.alloc())?);
-    assert!(rt; matches!(one_sided, Err(LawFault::Law)));
-    let other_identity = Table::new(2, [1u16, 0, 0, 1].to_vec(rt.alloc())?);
-    assert!(rt; matches!(other_identity, Err(LawFault::Law)));
-    Ok(())
+fn rows_that_are_no_table(rt: HostRuntime) {
+    assert!(rt; is_refused(rt.alloc(), &[0, 1, 1], LawFault::Shape));
+    assert!(rt; is_refused(rt.alloc(), &[0, 1, 0, 1], LawFault::Law));
+    assert!(rt; is_refused(rt.alloc(), &[1, 0, 0, 1], LawFault::Law));
 }

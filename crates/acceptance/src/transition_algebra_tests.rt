@@ -1,15 +1,12 @@
 //! The pairs of the heaps of 0.75.
-ghost use Rattle.std.specs.Prelude.{◌≡◌, ◌≤◌, All, IfSome};
+ghost use Rattle.std.specs.Prelude.{◌≡◌, All, IfSome};
 ghost use Rattle.transition_algebra.specs.Heaps.{IsInto};
 ghost use Rattle.transition_algebra.specs.Pairs.{IsPair};
 
 use element_sets::ElementSet;
 use monoid_table::{CommMonoid, Table};
 use octal_code::Code;
-use ration::Ration;
 use std::alloc::{Allocator, Global};
-use std::process::Abort;
-use std::test::Fail;
 use transition_algebra::{HeapJob, Pair, Pairs, Phi, heap_pairs};
 
 /// The elements 1, a, b, c, ab², ab, ac, b², for a² = 1, b³ = b, bc = ab, c² = b².
@@ -21,30 +18,20 @@ const ROWS: [u16; 64] = [
 /// The elements of the heaps 1 to 9; they repeat with period 2 from 8 on.
 const ELEMENTS: [u16; 9] = [1, 2, 1, 2, 3, 2, 3, 2, 4];
 
-/// The quotient.
-fn quotient<A: Allocator + Copy>(alloc: A) -> Option<Table<A>>
-    ensures { IfSome result (λ table. table.order ≡ 8) }
+/// The quotient and the pretending function.
+fn quotient<A: Allocator + Copy>(alloc: A) -> Option<(Table<A>, Phi<A>)>
+    ensures { IfSome result (λ q. IsInto q.0 q.1) }
 {
-    Table::new(8, ROWS.to_vec(alloc).ok()?).ok()
-}
-
-/// The pretending function.
-fn phi_into<A: Allocator + Copy>(alloc: A, table: &Table<A>) -> Option<Phi<A>>
-    requires { table.now.order ≡ 8 }
-    ensures { IfSome result (λ phi. IsInto table.now phi) }
-{
-    let entries = ELEMENTS.to_vec(alloc).ok()?;
-    Some(Phi::new(8, 2, entries))
-}
-
-/// The pairs of the heaps in the quotient.
-fn pairs_in(alloc: Global, table: &Table) -> Option<Vec<Pair>>
-    requires { table.now.order ≡ 8 }
-    ensures { IfSome result (λ pairs. All (IsPair table.now.order) pairs.items) }
-{
-    let code = Code::read(b"0.75").ok()?;
-    let phi = phi_into(alloc, table)?;
-    heap_pairs(alloc, &code, table, &phi).ok()
+    let Ok(rows) = ROWS.to_vec(alloc) else {
+        return None;
+    };
+    let Ok(table) = Table::new(8, rows) else {
+        return None;
+    };
+    match ELEMENTS.to_vec(alloc) {
+        Ok(entries) => Some((table, Phi::new(8, 2, entries))),
+        Err(_) => None,
+    }
 }
 
 /// The pair of this value and these values of options.
@@ -90,95 +77,84 @@ fn are_worked(pairs: &[Pair]) -> bool {
 }
 
 /// Works the job in pieces of so many units, and says whether its pairs are those worked out by
-/// hand.
-fn ends_right<A: Allocator + Copy>(job: &mut HeapJob<A>, units: u64) -> Option<bool> {
+/// hand; 9 is want of memory.
+fn ends_right<A: Allocator + Copy>(job: &mut HeapJob<A>, units: u64) -> Result<bool, u8> {
     for _ in 0..1000usize {
-        if job.work(units).ok()? {
-            return Some(are_worked(job.pairs()));
+        match job.work(units) {
+            Ok(true) => return Ok(are_worked(job.pairs())),
+            Ok(false) => {}
+            Err(_) => return Err(9),
         }
     }
-    Some(false)
+    Ok(false)
 }
 
-/// A job in pieces of so many units, its pairs worked out by hand.
-fn in_pieces<A: Allocator + Copy>(alloc: A, units: u64) -> Option<bool> {
-    let code = Code::read(b"0.75").ok()?;
-    let table = quotient(alloc)?;
-    let phi = phi_into(alloc, &table)?;
-    let mut job = HeapJob::new(alloc, code, table, phi);
-    ends_right(&mut job, units)
+/// A job in pieces of so many units, its pairs worked out by hand; 9 is want of memory.
+pub fn in_pieces<A: Allocator + Copy>(alloc: A, units: u64) -> Result<bool, u8> {
+    let Ok(code) = Code::read(b"0.75") else {
+        return Err(0);
+    };
+    match quotient(alloc) {
+        Some((table, phi)) => ends_right(&mut HeapJob::new(alloc, code, table, phi), units),
+        None => Err(9),
+    }
 }
 
-/// Whether the pairs of the heaps are those worked out by hand.
-fn have_pairs(alloc: Global) -> Option<bool> {
-    let table = quotient(alloc)?;
-    let pairs = pairs_in(alloc, &table)?;
-    Some(are_worked(&pairs))
-}
-
-/// The element of the heap.
-fn element_of(alloc: Global, heap: u64) -> Option<u16>
-    requires { 1 ≤ heap }
-{
-    let table = quotient(alloc)?;
-    Some(phi_into(alloc, &table)?.at(heap))
-}
-
-#[test]
-fn heaps_have_their_pairs(rt: HostRuntime) {
-    assert!(rt; have_pairs(rt.alloc()) == Some(true));
-    assert!(rt; in_pieces(rt.alloc(), 1) == Some(true));
-    assert!(rt; element_of(rt.alloc(), 1_000_000_000_000_000_000) == Some(2));
-}
-
-/// Asserts the product of the heaps 1 and 9 beside each other, and the identity.
-fn multiply(rt: &impl Abort, table: &Table, pairs: &[Pair])
+/// Whether these are the pairs of the heaps, the product of the heaps 1 and 9 beside each other is
+/// right, and the identity.
+fn multiply(table: &Table, pairs: &[Pair]) -> bool
     requires { All (IsPair table.now.order) pairs.now }
 {
-    assert!(rt; pairs.len() == 22);
-    let monoid = Pairs { table };
-    assert!(rt; monoid.times(&pairs[0], &pairs[8]) == pair(7, &[2, 3, 4, 5]));
-    assert!(rt; monoid.one() == pair(0, &[]));
-}
-
-#[test]
-fn a_sum_has_the_product_of_its_pairs(rt: HostRuntime) -> Result<(), Fail> {
-    let table = quotient(rt.alloc()).ok_or("no table")?;
-    let pairs = pairs_in(rt.alloc(), &table).ok_or("no pairs")?;
-    multiply(&rt, &table, &pairs);
-    Ok(())
-}
-
-/// What is made, and whether the growth of this number was refused.
-fn make_with(alloc: Global, refused: u64) -> (Option<bool>, bool) {
-    let ration = Ration::new(alloc, refused);
-    let made = in_pieces(&ration, 7);
-    (made, ration.has_refused())
-}
-
-#[test]
-fn each_growth_may_be_refused(rt: HostRuntime) {
-    for n in 1..1000u64 {
-        let (made, has_refused) = make_with(rt.alloc(), n);
-        if !has_refused {
-            assert!(rt; made == Some(true));
-            return;
-        }
-        assert!(rt; made.is_none(), "at {n}");
+    if !are_worked(pairs) || pairs.len() != 22 {
+        return false;
     }
-    panic!(rt; "growths go on");
+    let monoid = Pairs { table };
+    monoid.times(&pairs[0], &pairs[8]) == pair(7, &[2, 3, 4, 5]) && monoid.one() == pair(0, &[])
+}
+
+/// Whether the pairs of the heaps are those worked out by hand, and multiply, and the heap 10^18
+/// has the element 2.
+fn have_pairs(alloc: Global, code: &Code) -> bool {
+    match quotient(alloc) {
+        Some((table, phi)) => match heap_pairs(alloc, code, &table, &phi) {
+            Ok(pairs) => multiply(&table, &pairs) && phi.at(1_000_000_000_000_000_000) == 2,
+            Err(_) => false,
+        },
+        None => false,
+    }
+}
+
+/// How many pairs there are for the most entries, over two elements.
+fn count_most(alloc: Global, code: &Code, table: &Table) -> usize
+    requires { table.now.order ≡ 2 }
+{
+    match vec![in alloc; 1u16; 1024] {
+        Ok(entries) => match heap_pairs(alloc, code, table, &Phi::new(1, 1024, entries)) {
+            Ok(pairs) => pairs.len(),
+            Err(_) => 0,
+        },
+        Err(_) => 0,
+    }
 }
 
 /// The most entries, whose heaps are the most: of 2051 heaps each has its pair, with the splits of
 /// each whole made once.
-#[test]
-fn memory_suffices_for_the_most_heaps(rt: HostRuntime) -> Result<(), Fail> {
-    let code = Code::read(b"0.7")?;
-    let Ok(table) = Table::new(2, [0u16, 1, 1, 0].to_vec(rt.alloc())?) else {
-        panic!(rt; "no table");
+fn most_have_pairs(alloc: Global, code: &Code) -> bool {
+    let Ok(rows) = [0u16, 1, 1, 0].to_vec(alloc) else {
+        return false;
     };
-    let phi = Phi::new(1, 1024, vec![in rt.alloc(); 1u16; 1024]?);
-    let pairs = heap_pairs(rt.alloc(), &code, &table, &phi)?;
-    assert_eq!(rt; pairs.len(), 2051);
-    Ok(())
+    match Table::new(2, rows) {
+        Ok(table) => count_most(alloc, code, &table) == 2051,
+        Err(_) => false,
+    }
+}
+
+#[test]
+fn heaps_have_their_pairs(rt: HostRuntime) {
+    assert!(rt; in_pieces(rt.alloc(), 1) == Ok(true));
+    let (Ok(of_75), Ok(of_7)) = (Code::read(b"0.75"), Code::read(b"0.7")) else {
+        panic!(rt; "no code");
+    };
+    assert!(rt; have_pairs(rt.alloc(), &of_75));
+    assert!(rt; most_have_pairs(rt.alloc(), &of_7));
 }

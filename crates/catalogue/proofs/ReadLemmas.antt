@@ -81,7 +81,7 @@ module _ (depth : ℕ) (ts : List Token) where
 
 -- ---- the first token of a value
 
-pub nothing_reads : (depth : ℕ) → ReadsValue depth [] None
+nothing_reads : (depth : ℕ) → ReadsValue depth [] None
 nothing_reads depth = ap (converted of_json) (value_is depth [])
 
 pub number_some : (o : Option Num) (x : Option ℕ) → Some x ≡ option_map as_u64 o
@@ -230,10 +230,5 @@ pub no_json : {T : Type 0} (Q : Type 0) (r : Result T LoadFault) → IsErrAnd r 
 no_json Q r e h = unread Q Q r fault.Json e (λ x. x) h
 
 -- no value begins
-pub no_start : {T : Type 0} (r : Result T LoadFault) (depth : ℕ) (ts : List Token) (f : LoadFault)
-    → ts ≡ [] → f ≡ fault.Json → IsErrAnd r (λ g. g ≡ f)
-    → IfErr r (IsUnread (ReadsValue depth ts None))
-no_start r depth ts f e j is =
-    unread (ReadsValue depth ts None) (ReadsValue depth ts None) r f is (λ h. h)
-    (subst (IsUnread (ReadsValue depth ts None)) (sym j)
-    (subst (λ us. ReadsValue depth us None) (sym e) (nothing_reads depth)))
+pub no_start : (depth : ℕ) (ts : List Token) → ts ≡ [] → ReadsValue depth ts None
+no_start depth ts e = subst (λ us. ReadsValue depth us None) (sym e) (nothing_reads depth)

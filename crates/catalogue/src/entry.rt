@@ -1,5 +1,7 @@
 //! One entry of a file: checked, and taken into the catalogue.
 ghost use Rattle.std.specs.Prelude.{◌≡◌, List, IfErr, IfOk, OnErr, OnOk};
+ghost use Rattle.std.specs.Str.{bytes_eq};
+ghost use Rattle.octal_code.specs.Text.{code_text};
 ghost use Rattle.misere_theory.specs.Certificates.{Certificate};
 ghost use Rattle.catalogue.specs.Files.{written};
 ghost use Rattle.catalogue.specs.Loads.{IsCertified};
@@ -8,8 +10,18 @@ ghost use Rattle.catalogue.specs.Parts.{IsFaultOrMemory, IsTaken};
 use crate::fault::{AddFault, LoadFault};
 use crate::file::Texts;
 use crate::store::Catalogue;
+use allocation::Memory;
 use checker::{Certified, Refusal, check};
+use octal_code::Code;
 use std::alloc::Global;
+
+/// Whether the text is that of the code.
+fn is_text_of(alloc: Global, text: &str, code: &Code) -> Result<bool, Memory>
+    ensures { IfOk result (λ same. same ≡ bytes_eq (code_text code.now) text.now) }
+{
+    let own = code.text(alloc)?;
+    Ok(own.as_str() == text)
+}
 
 /// Checks the entry at this place.
 fn certified(
@@ -24,11 +36,12 @@ fn certified(
 {
     match check(alloc, entry.certificate.as_bytes(), limit) {
         Ok(certified) => {
-            let code = certified.cert().code().text(alloc)?;
-            if code.as_str() != entry.code {
-                return Err(LoadFault::Code(place));
+            let same = is_text_of(alloc, entry.code, certified.cert().code())?;
+            if same {
+                Ok(certified)
+            } else {
+                Err(LoadFault::Code(place))
             }
-            Ok(certified)
         }
         Err(Refusal::Memory) => Err(LoadFault::Memory),
         Err(refusal) => Err(LoadFault::Entry(place, refusal)),

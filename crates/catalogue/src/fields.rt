@@ -24,7 +24,9 @@ fn text<'a>(reader: &mut Reader<'a>, depth: usize) -> Result<Option<&'a str>, Lo
     ensures shorter { OnOk result (length reader.new < length reader.old) }
     ensures err { IfErr result (IsUnread (ReadsValue depth reader.old None)) }
 {
-    let token = reader.next().ok_or(LoadFault::Json)?;
+    let Some(token) = reader.next() else {
+        return Err(LoadFault::Json);
+    };
     if let Token::String(text) = token {
         return Ok(Some(text));
     }
@@ -94,7 +96,9 @@ pub(crate) fn entry<'a>(
     ensures shorter { OnOk result (length reader.new < length reader.old) }
     ensures err { IfErr result (IsUnread (ReadsValue depth reader.old None)) }
 {
-    let token = reader.next().ok_or(LoadFault::Json)?;
+    let Some(token) = reader.next() else {
+        return Err(LoadFault::Json);
+    };
     if let Token::BeginObject = token {
         return members(reader, depth - 1);
     }

@@ -30,7 +30,9 @@ fn version(reader: &mut Reader<'_>, depth: usize) -> Result<Option<u64>, LoadFau
     ensures shorter { OnOk result (length reader.new < length reader.old) }
     ensures err { IfErr result (IsUnread (ReadsValue depth reader.old None)) }
 {
-    let token = reader.next().ok_or(LoadFault::Json)?;
+    let Some(token) = reader.next() else {
+        return Err(LoadFault::Json);
+    };
     if let Token::Number(text) = token {
         return whole(text).ok_or(LoadFault::Json);
     }
@@ -74,7 +76,9 @@ fn entries<'a>(
     ensures shorter { OnOk result (length reader.new < length reader.old) }
     ensures err { IfErr result (IsUnread (ReadsValue depth reader.old None)) }
 {
-    let token = reader.next().ok_or(LoadFault::Json)?;
+    let Some(token) = reader.next() else {
+        return Err(LoadFault::Json);
+    };
     if let Token::BeginArray = token {
         return items(alloc, reader, depth - 1);
     }
@@ -152,7 +156,9 @@ pub(crate) fn file<'a>(
     ensures read { IfOk result (λ es. Passes depth reader.old (FileIs es) reader.new) }
     ensures err { IfErr result (IsUnread (ReadsValue depth reader.old None)) }
 {
-    let token = reader.next().ok_or(LoadFault::Json)?;
+    let Some(token) = reader.next() else {
+        return Err(LoadFault::Json);
+    };
     if let Token::BeginObject = token {
         return members(alloc, reader, depth - 1);
     }

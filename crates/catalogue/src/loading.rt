@@ -1,11 +1,25 @@
 //! Catalogues from bytes.
-ghost use Rattle.catalogue.specs.Loads.{IsLoaded};
+ghost use Rattle.std.specs.Prelude.{List, ℕ, map};
+ghost use Rattle.catalogue.specs.Files.{written};
+ghost use Rattle.catalogue.specs.Loads.{Holds, IsLoaded};
 
 use crate::fault::LoadFault;
-use crate::file::entries_of;
+use crate::file::{Texts, entries_of};
 use crate::store::Catalogue;
 use json::Scratch;
 use std::alloc::Global;
+
+/// The catalogue of the entries of a file.
+fn catalogue_of(alloc: Global, entries: &[Texts<'_>], limit: u32) -> Result<Catalogue, LoadFault>
+    ensures { (bytes : List ℕ) → Holds bytes (map written entries.now)
+        → IsLoaded bytes limit result }
+{
+    let mut catalogue = Catalogue::new(alloc);
+    for (at, entry) in entries.iter().enumerate() {
+        catalogue.take(alloc, entry, at + 1, limit)?;
+    }
+    Ok(catalogue)
+}
 
 impl Catalogue {
     /// Loads a catalogue file. Every entry is checked anew, by `limit`, and none is believed.
@@ -17,11 +31,9 @@ impl Catalogue {
         ensures { IsLoaded bytes.now limit result }
     {
         let mut scratch = Scratch::new(alloc);
-        let entries = entries_of(alloc, bytes, &mut scratch)?;
-        let mut catalogue = Catalogue::new(alloc);
-        for (at, entry) in entries.iter().enumerate() {
-            catalogue.take(alloc, entry, at + 1, limit)?;
+        match entries_of(alloc, bytes, &mut scratch) {
+            Ok(entries) => catalogue_of(alloc, &entries, limit),
+            Err(fault) => Err(fault),
         }
-        Ok(catalogue)
     }
 }

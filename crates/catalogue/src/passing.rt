@@ -15,7 +15,9 @@ pub(crate) fn pass_value(reader: &mut Reader<'_>, depth: usize) -> Result<(), Lo
     ensures shorter { OnOk result (length reader.new < length reader.old) }
     ensures err { IfErr result (IsUnread (ReadsValue depth reader.old None)) }
 {
-    let token = reader.next().ok_or(LoadFault::Json)?;
+    let Some(token) = reader.next() else {
+        return Err(LoadFault::Json);
+    };
     pass_from(token, reader, depth)
 }
 

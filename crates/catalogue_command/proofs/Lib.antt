@@ -1,1 +1,1 @@
-pub mod AnswerLemmas
+pub mod LineLemmas

@@ -1,11 +1,11 @@
 //! A certificate added to a catalogue file.
-ghost use Rattle.std.specs.Prelude.{◌≡◌, [], IfErr, IfOk, OnErr, OnOk, false, string_bytes};
+ghost use Rattle.std.specs.Prelude.{◌≡◌, [], IfErr, IfOk, Ok, OnErr, OnOk, false, string_bytes};
 ghost use Rattle.folders.specs.Files.{Replaces};
 ghost use Rattle.catalogue.specs.Texts.{catalogue_text};
-ghost use Rattle.catalogue_command.specs.Answers.{Adds, Begins, Creates, IsAddition, Takes};
-ghost use Rattle.catalogue_command.specs.Stops.{StopsAdd, StopsCreate, StopsList, failed};
+ghost use Rattle.catalogue_command.specs.Answers.{Adds, AddsAnswer, Begins, Creates, IsAddition, Takes};
+ghost use Rattle.catalogue_command.specs.Stops.{StopsAdd, StopsCreate, StopsList, StopsSalvage, failed};
 
-use crate::lines::{added_line, fault_line};
+use crate::lines::{added_line, last_line, line};
 use crate::report::Report;
 use crate::stop::{CatalogueStop, put, read};
 use allocation::Memory;
@@ -35,8 +35,10 @@ fn begun<'a, F: Folder>(
     if fresh {
         return Ok(Ok(Catalogue::new(alloc)));
     }
-    let bytes = read(folder, file)?;
-    Ok(Catalogue::load(alloc, &bytes, limit))
+    match read(folder, file) {
+        Ok(bytes) => Ok(Catalogue::load(alloc, &bytes, limit)),
+        Err(stop) => Err(stop),
+    }
 }
 
 /// Adds a certificate that was accepted: whether it was added, and what is printed.
@@ -44,14 +46,17 @@ fn taken(alloc: Global, catalogue: &mut Catalogue, certified: Certified) -> Resu
     ensures { IfOk result
         (λ r. Takes catalogue.old certified r.well catalogue.new (string_bytes r.text)) }
 {
-    let text = added_line(alloc, certified.cert().code())?;
-    match catalogue.add(certified) {
-        Ok(()) => Ok(Report { well: true, text }),
-        Err(AddFault::Present) => {
-            let text = String::from_str(alloc, "refused 1 Present\n")?;
-            Ok(Report { well: false, text })
-        }
-        Err(AddFault::Memory) => Err(Memory),
+    match added_line(alloc, certified.cert().code()) {
+        Ok(text) => match catalogue.add(certified) {
+            Ok(()) => Ok(Report { well: true, text }),
+            Err(AddFault::Present) => {
+                drop(text);
+                let text = line(alloc, "refused 1 Present\n")?;
+                Ok(Report { well: false, text })
+            }
+            Err(AddFault::Memory) => Err(Memory),
+        },
+        Err(memory) => Err(memory),
     }
 }
 
@@ -68,8 +73,12 @@ fn addition(
     match check(alloc, bytes, limit) {
         Ok(certified) => taken(alloc, catalogue, certified),
         Err(refusal) => {
-            let text = verdict_text(alloc, Err(&refusal))?;
-            Ok(Report { well: false, text })
+            let text = verdict_text(alloc, Err(&refusal));
+            drop(refusal);
+            Ok(Report {
+                well: false,
+                text: text?,
+            })
         }
     }
 }
@@ -108,11 +117,39 @@ pub fn create<F: Folder>(
         (failed (F.failed_reads folder.new) (F.failed_writes folder.new))) }
 {
     let catalogue = Catalogue::new(alloc);
-    save(folder, file, &catalogue)?;
+    let saved = save(folder, file, &catalogue);
+    drop(catalogue);
+    saved?;
     Ok(Report {
         well: true,
         text: String::new(alloc),
     })
+}
+
+/// Adds the certificate of another file to a catalogue, and puts its text in place of the file's
+/// where it was added.
+fn extended<'a, F: Folder>(
+    alloc: Global,
+    folder: &mut F,
+    file: &str,
+    certificate: &'a str,
+    catalogue: &mut Catalogue,
+    limit: u32,
+) -> Result<Report, CatalogueStop<'a>>
+    ensures told { IfOk result
+        (λ r. AddsAnswer limit (F.files folder.old) (F.files folder.new) file.now
+        certificate.entry.now (Ok catalogue.old) r.well (string_bytes r.text)) }
+    ensures kept { OnErr result (F.files folder.new ≡ F.files folder.old) }
+    ensures stops { IfErr result (StopsSalvage certificate.entry.now
+        (failed (F.failed_reads folder.old) (F.failed_writes folder.old))
+        (failed (F.failed_reads folder.new) (F.failed_writes folder.new))) }
+{
+    let bytes = read(folder, certificate)?;
+    let report = addition(alloc, catalogue, &bytes, limit)?;
+    if report.well {
+        save(folder, file, catalogue)?;
+    }
+    Ok(report)
 }
 
 /// Adds the certificate of another file to the catalogue of the file, or to an empty one, and says
@@ -134,18 +171,12 @@ pub fn add<'a, F: Folder>(
         (failed (F.failed_reads folder.old) (F.failed_writes folder.old))
         (failed (F.failed_reads folder.new) (F.failed_writes folder.new))) }
 {
-    match begun(alloc, folder, file, fresh, limit)? {
-        Err(fault) => {
-            let text = fault_line(alloc, &fault)?;
+    match begun(alloc, folder, file, fresh, limit) {
+        Err(stop) => Err(stop),
+        Ok(Err(fault)) => {
+            let text = last_line(alloc, fault)?;
             Ok(Report { well: false, text })
         }
-        Ok(mut catalogue) => {
-            let bytes = read(folder, certificate)?;
-            let report = addition(alloc, &mut catalogue, &bytes, limit)?;
-            if report.well {
-                save(folder, file, &catalogue)?;
-            }
-            Ok(report)
-        }
+        Ok(Ok(mut catalogue)) => extended(alloc, folder, file, certificate, &mut catalogue, limit),
     }
 }

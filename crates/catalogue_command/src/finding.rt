@@ -1,9 +1,9 @@
 //! One entry of a catalogue file.
-ghost use Rattle.std.specs.Prelude.{◌≡◌, IfErr, IfOk, IsErrOf, string_bytes};
-ghost use Rattle.catalogue_command.specs.Answers.{Gets, IsGotten};
+ghost use Rattle.std.specs.Prelude.{◌≡◌, IfErr, IfOk, IsErrOf, Ok, string_bytes};
+ghost use Rattle.catalogue_command.specs.Answers.{Gets, GetsAnswer, IsGotten};
 ghost use Rattle.catalogue_command.specs.Stops.{StopsGet, failed};
 
-use crate::lines::fault_line;
+use crate::lines::{last_line, line};
 use crate::report::Report;
 use crate::stop::{CatalogueStop, read};
 use allocation::Memory;
@@ -12,23 +12,36 @@ use folders::Folder;
 use octal_code::Code;
 use std::alloc::Global;
 
+/// What is printed of a catalogue for a code.
+fn found(alloc: Global, catalogue: &Catalogue, code: &Code) -> Result<Report, Memory>
+    ensures { IfOk result
+        (λ r. GetsAnswer code.now (Ok catalogue.now) r.well (string_bytes r.text)) }
+{
+    match catalogue.get(code) {
+        Some(certified) => {
+            let text = certificate_text(alloc, certified.cert())?;
+            Ok(Report { well: true, text })
+        }
+        None => {
+            let text = line(alloc, "absent\n")?;
+            Ok(Report { well: false, text })
+        }
+    }
+}
+
 /// What is printed of the bytes for a code.
 fn entry_of(alloc: Global, bytes: &[u8], code: &Code, limit: u32) -> Result<Report, Memory>
     ensures { IfOk result (λ r. IsGotten bytes.now limit code.now r.well (string_bytes r.text)) }
 {
     match Catalogue::load(alloc, bytes, limit) {
-        Ok(catalogue) => match catalogue.get(code) {
-            Some(certified) => {
-                let text = certificate_text(alloc, certified.cert())?;
-                Ok(Report { well: true, text })
-            }
-            None => {
-                let text = String::from_str(alloc, "absent\n")?;
-                Ok(Report { well: false, text })
-            }
-        },
+        Ok(catalogue) => {
+            let found = found(alloc, &catalogue, code);
+            drop(catalogue);
+            let report = found?;
+            Ok(report)
+        }
         Err(fault) => {
-            let text = fault_line(alloc, &fault)?;
+            let text = last_line(alloc, fault)?;
             Ok(Report { well: false, text })
         }
     }

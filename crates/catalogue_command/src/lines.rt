@@ -1,5 +1,5 @@
 //! The lines of a catalogue.
-ghost use Rattle.std.specs.Prelude.{◌≡◌, IfOk, string_bytes};
+ghost use Rattle.std.specs.Prelude.{◌≡◌, ◌++◌, IfOk, codes, decimal, string_bytes};
 ghost use Rattle.std.specs.List.{flat_map};
 ghost use Rattle.verdict_texts.specs.Lines.{no_line};
 ghost use Rattle.catalogue_command.specs.Lines.{IsFaultLine, added_line, entry_line, fault_line, refused_entry, salvage_lines};
@@ -50,24 +50,47 @@ fn numbered_line(alloc: Global, place: usize, number: u8, name: &str) -> Result<
     Ok(text)
 }
 
+/// This line.
+pub(crate) fn line(alloc: Global, text: &str) -> Result<String, Memory>
+    ensures { IfOk result (λ t. string_bytes t ≡ text.now) }
+{
+    let line = String::from_str(alloc, text)?;
+    Ok(line)
+}
+
+/// The line of a fault of which only the place of the entry is told.
+fn placed_line(alloc: Global, fault: &str, place: usize) -> Result<String, Memory>
+    ensures { IfOk result (λ t. string_bytes t ≡ codes "refused " ++ fault.now ++ codes " "
+        ++ decimal place ++ codes "\n") }
+{
+    let text = format!(in alloc; "refused {fault} {place}\n")?;
+    Ok(text)
+}
+
 /// The line of a fault. Want of memory has none, and is handed on.
 pub(crate) fn fault_line(alloc: Global, fault: &LoadFault) -> Result<String, Memory>
     ensures { IfOk result (λ t. IsFaultLine fault.now (string_bytes t)) }
 {
-    let text = match fault {
-        LoadFault::Json => String::from_str(alloc, "refused 1 Json\n")?,
-        LoadFault::Shape => String::from_str(alloc, "refused 2 Shape\n")?,
+    match fault {
+        LoadFault::Json => line(alloc, "refused 1 Json\n"),
+        LoadFault::Shape => line(alloc, "refused 2 Shape\n"),
         LoadFault::Entry(place, refusal) => numbered_line(
             alloc,
             *place,
             refusal.number(),
             refusal.name(),
-        )?,
-        LoadFault::Code(place) => format!(in alloc; "refused 4 Code {place}\n")?,
-        LoadFault::Twice(place) => format!(in alloc; "refused 5 Twice {place}\n")?,
-        LoadFault::Memory => return Err(Memory),
-    };
-    Ok(text)
+        ),
+        LoadFault::Code(place) => placed_line(alloc, "4 Code", *place),
+        LoadFault::Twice(place) => placed_line(alloc, "5 Twice", *place),
+        LoadFault::Memory => Err(Memory),
+    }
+}
+
+/// The line of the fault that ends an action.
+pub(crate) fn last_line(alloc: Global, fault: LoadFault) -> Result<String, Memory>
+    ensures { IfOk result (λ t. IsFaultLine fault (string_bytes t)) }
+{
+    fault_line(alloc, &fault)
 }
 
 /// The lines of all faults.

@@ -3,7 +3,7 @@ ghost use Rattle.std.specs.Prelude.{◌≡◌, IfErr, IfOk, string_bytes};
 ghost use Rattle.catalogue_command.specs.Answers.{IsListing, Lists};
 ghost use Rattle.catalogue_command.specs.Stops.{StopsList, failed};
 
-use crate::lines::{entry_lines, fault_line};
+use crate::lines::{entry_lines, last_line};
 use crate::report::Report;
 use crate::stop::{CatalogueStop, read};
 use allocation::Memory;
@@ -17,11 +17,15 @@ fn listing_of(alloc: Global, bytes: &[u8], limit: u32) -> Result<Report, Memory>
 {
     match Catalogue::load(alloc, bytes, limit) {
         Ok(catalogue) => {
-            let text = entry_lines(alloc, catalogue.entries())?;
-            Ok(Report { well: true, text })
+            let text = entry_lines(alloc, catalogue.entries());
+            drop(catalogue);
+            Ok(Report {
+                well: true,
+                text: text?,
+            })
         }
         Err(fault) => {
-            let text = fault_line(alloc, &fault)?;
+            let text = last_line(alloc, fault)?;
             Ok(Report { well: false, text })
         }
     }

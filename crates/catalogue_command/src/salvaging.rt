@@ -1,15 +1,40 @@
 //! What can be kept of a damaged catalogue file.
-ghost use Rattle.std.specs.Prelude.{◌≡◌, IfErr, IfOk, OnErr, string_bytes};
+ghost use Rattle.std.specs.Prelude.{◌≡◌, IfErr, IfOk, OnErr, string_bytes, true};
+ghost use Rattle.folders.specs.Files.{Replaces};
+ghost use Rattle.catalogue.specs.Texts.{catalogue_text};
 ghost use Rattle.catalogue_command.specs.Answers.{Salvages};
-ghost use Rattle.catalogue_command.specs.Stops.{StopsSalvage, failed};
+ghost use Rattle.catalogue_command.specs.Lines.{salvage_lines};
+ghost use Rattle.catalogue_command.specs.Stops.{StopsCreate, StopsSalvage, failed};
 
 use crate::adding::save;
-use crate::lines::{fault_line, salvage_lines};
+use crate::lines::{last_line, salvage_lines};
 use crate::report::Report;
 use crate::stop::{CatalogueStop, read};
-use catalogue::Catalogue;
+use catalogue::{Catalogue, LoadFault};
 use folders::Folder;
 use std::alloc::Global;
+
+/// Puts the text of the entries that stand in place of the file's, and gives the faults of the
+/// others and how many are kept.
+fn replaced<F: Folder>(
+    alloc: Global,
+    folder: &mut F,
+    file: &str,
+    catalogue: &Catalogue,
+    faults: &[LoadFault],
+) -> Result<Report, CatalogueStop<'static>>
+    ensures told { IfOk result (λ r. (r.well ≡ true)
+        × Replaces (F.files folder.old) (F.files folder.new) file.now (catalogue_text catalogue.now)
+        × (string_bytes r.text ≡ salvage_lines catalogue.now faults.now)) }
+    ensures kept { OnErr result (F.files folder.new ≡ F.files folder.old) }
+    ensures stops { IfErr result (StopsCreate
+        (failed (F.failed_reads folder.old) (F.failed_writes folder.old))
+        (failed (F.failed_reads folder.new) (F.failed_writes folder.new))) }
+{
+    let text = salvage_lines(alloc, catalogue, faults)?;
+    save(folder, file, catalogue)?;
+    Ok(Report { well: true, text })
+}
 
 /// Puts the entries of the file that stand in its place, and gives the fault of each other entry
 /// and how many are kept; or says why the bytes are no catalogue file, and leaves it. Where it
@@ -31,19 +56,9 @@ pub fn salvage<'a, F: Folder>(
     let bytes = read(folder, file)?;
     match Catalogue::salvage(alloc, &bytes, limit) {
         Err(fault) => {
-            let text = fault_line(alloc, &fault);
-            drop(fault);
-            Ok(Report {
-                well: false,
-                text: text?,
-            })
+            let text = last_line(alloc, fault)?;
+            Ok(Report { well: false, text })
         }
-        Ok((catalogue, faults)) => {
-            let text = salvage_lines(alloc, &catalogue, &faults)?;
-            let saved = save(folder, file, &catalogue);
-            drop((catalogue, faults));
-            saved?;
-            Ok(Report { well: true, text })
-        }
+        Ok((catalogue, faults)) => replaced(alloc, folder, file, &catalogue, &faults),
     }
 }

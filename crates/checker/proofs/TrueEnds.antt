@@ -5,7 +5,7 @@ use Rattle.std.specs.FinSet as set
 use Rattle.std.specs.Ordering.{nat_cmp}
 use Rattle.std.proofs.lemmas.List.Elements.{Contains-get_or}
 use Rattle.misere_theory.specs.Games.{IsHeap, IsHeapUpTo}
-use Rattle.misere_theory.specs.Quotients.{value, ReachesMoreThan, Monoid}
+use Rattle.misere_theory.specs.Quotients.{ReachesMoreThan, Monoid}
 use Rattle.misere_theory.specs.Pairs.{IsClosed, KeptObey, ElementsObey}
 use Rattle.misere_theory.specs.Pairs as theory
 use Rattle.misere_theory.specs.Certificates.{Certificate, InRanges, Canonical, Accepted, claim_of, times_of}

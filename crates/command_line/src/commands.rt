@@ -1,8 +1,8 @@
 //! The commands and their arguments, as `clap` reads them.
-ghost use Rattle.std.specs.Prelude.{◌≡◌, IfOk, codes, false, true};
-ghost use Rattle.clap.specs.Words.{App, app_of, new_app, rule_of, with_subcommand};
-ghost use Rattle.command_line.specs.Program.{catalogue, check, desk, flag, misere, needed, option};
-ghost use Rattle.command_line.specs.Program.{optional, play, present, program, show, solve};
+ghost use Rattle.std.specs.Prelude.{◌≡◌, ◌++◌, ◌∷◌, [], List, IfOk, codes, false, true};
+ghost use Rattle.clap.specs.Words.{App, Rule, Text, app_of, new_app, rule_of, with_subcommand};
+ghost use Rattle.command_line.specs.Program.{catalogue, check, command, desk, flag, misere, needed};
+ghost use Rattle.command_line.specs.Program.{option, optional, play, present, program, show, solve};
 
 use clap::{Arg, ArgAction, Command};
 use std::alloc::{AllocError, Global};
@@ -71,14 +71,31 @@ fn command<'a>(alloc: Global, name: &'a str, about: &'a str) -> Command<'a>
     Command::new(alloc, name).about(about)
 }
 
+/// The command with one argument more, where it was made.
+fn with_arg<'a>(
+    made: Result<Command<'a>, AllocError>,
+    arg: Arg<'a>,
+) -> Result<Command<'a>, AllocError>
+    ensures { (name : Text) (rules : List Rule) (rule : Rule)
+        → IfOk made.entry (λ c. app_of c ≡ command name rules)
+        → rule_of arg.entry ≡ rule → arg.entry.global ≡ false
+        → IfOk result (λ new. app_of new ≡ command name (rules ++ rule ∷ [])) }
+{
+    let Ok(made) = made else {
+        drop(arg);
+        return Err(AllocError);
+    };
+    made.arg(arg)
+}
+
 fn check_command<'a>(alloc: Global) -> Result<Command<'a>, AllocError>
     ensures { IfOk result (λ c. app_of c ≡ check) }
 {
     let about = "Check a certificate, and print the verdict";
     let file = "The file of the certificate; by default standard input";
-    command(alloc, "check", about)
-        .arg(optional(alloc, "file", "FILE", file))?
-        .arg(limit(alloc))
+    let made = Ok(command(alloc, "check", about));
+    let made = with_arg(made, optional(alloc, "file", "FILE", file));
+    with_arg(made, limit(alloc))
 }
 
 fn solve_command<'a>(alloc: Global) -> Result<Command<'a>, AllocError>
@@ -88,12 +105,15 @@ fn solve_command<'a>(alloc: Global) -> Result<Command<'a>, AllocError>
     let rounds = "Give up after R rounds: 1 to 1000, by default 64";
     let heaps = "Look at the heaps up to M: 2 to 64, by default 24";
     let order = "Propose no quotient of more than Q elements: 2 to 256, by default 64";
-    command(alloc, "solve", about)
-        .arg(needed(alloc, "code", "CODE", "An octal code, as 0.77"))?
-        .arg(limit(alloc))?
-        .arg(option(alloc, "rounds", "R", rounds))?
-        .arg(option(alloc, "heaps", "M", heaps))?
-        .arg(option(alloc, "order", "Q", order))
+    let made = Ok(command(alloc, "solve", about));
+    let made = with_arg(
+        made,
+        needed(alloc, "code", "CODE", "An octal code, as 0.77"),
+    );
+    let made = with_arg(made, limit(alloc));
+    let made = with_arg(made, option(alloc, "rounds", "R", rounds));
+    let made = with_arg(made, option(alloc, "heaps", "M", heaps));
+    with_arg(made, option(alloc, "order", "Q", order))
 }
 
 fn show_command<'a>(alloc: Global) -> Result<Command<'a>, AllocError>
@@ -108,9 +128,12 @@ fn play_command<'a>(alloc: Global) -> Result<Command<'a>, AllocError>
 {
     let about = "Check a certificate, and print a winning move in a position";
     let position = "The sizes of the heaps in one word, as '1 2 2'; 0 for no heap";
-    command(alloc, "play", about)
-        .arg(needed(alloc, "file", "FILE", "The file of the certificate"))?
-        .arg(needed(alloc, "position", "POSITION", position))
+    let made = Ok(command(alloc, "play", about));
+    let made = with_arg(
+        made,
+        needed(alloc, "file", "FILE", "The file of the certificate"),
+    );
+    with_arg(made, needed(alloc, "position", "POSITION", position))
 }
 
 fn present_command<'a>(alloc: Global) -> Result<Command<'a>, AllocError>
@@ -129,12 +152,15 @@ fn catalogue_command<'a>(alloc: Global) -> Result<Command<'a>, AllocError>
     let add = "Add the certificate in the file CERT, and write FILE";
     let get = "Print the certificate of CODE; without --new and --add";
     let salvage = "Keep the entries without a fault, and write FILE; without another option";
-    command(alloc, "catalogue", about)
-        .arg(needed(alloc, "file", "FILE", "The file of the catalogue"))?
-        .arg(flag(alloc, "new", new))?
-        .arg(option(alloc, "add", "CERT", add))?
-        .arg(option(alloc, "get", "CODE", get))?
-        .arg(flag(alloc, "salvage", salvage))
+    let made = Ok(command(alloc, "catalogue", about));
+    let made = with_arg(
+        made,
+        needed(alloc, "file", "FILE", "The file of the catalogue"),
+    );
+    let made = with_arg(made, flag(alloc, "new", new));
+    let made = with_arg(made, option(alloc, "add", "CERT", add));
+    let made = with_arg(made, option(alloc, "get", "CODE", get));
+    with_arg(made, flag(alloc, "salvage", salvage))
 }
 
 fn desk_command<'a>(alloc: Global) -> Result<Command<'a>, AllocError>
@@ -164,7 +190,15 @@ fn with<'a>(
         → added.top.is_plain ≡ true
         → IfOk result (λ new. app_of new ≡ with_subcommand above added.top) }
 {
-    program?.subcommand(command?)
+    let Ok(program) = program else {
+        drop(command);
+        return Err(AllocError);
+    };
+    let Ok(command) = command else {
+        drop(program);
+        return Err(AllocError);
+    };
+    program.subcommand(command)
 }
 
 /// The program's command line.

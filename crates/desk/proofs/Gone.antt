@@ -11,7 +11,7 @@ use Rattle.desk.specs.declared.slot.Slot.{Slot}
 use Rattle.desk.specs.declared.slot.Standing.{Standing}
 use Rattle.desk.specs.declared.slot.Standing.TheVariants.{Going, Ended, Starved}
 use Rattle.desk.specs.Slots.{ending, job_of, StandsBeside, IsFurthest, HasGoneOn}
-use Rattle.desk.specs.Machine.{starved}
+use Rattle.desk.specs.Machine.{starved, worked, worked_on}
 use Rattle.desk.specs.Desks.{core_at, slot_at, seen, job_in, jobs_in, IsDesk, HasSlot, IsWith, NoneAsFarIn, HaveWorked}
 use Rattle.desk.proofs.Lists.{with_here, with_other, with_set}
 use Rattle.desk.proofs.Seen.{is_seen, job_at_place}
@@ -280,6 +280,50 @@ pub core_within : (places : List (Option Slot)) (cores : List (Option JobView)) 
     → IsDesk places cores → get_or places i None ≡ Some s → s.core < length cores
 core_within places cores i s desk at = let held = desk.held i s at in
     some_within cores s.core held.0 held.1
+
+-- a slot has a core
+pub no_core : (places : List (Option Slot)) (cores : List (Option JobView)) (i : ℕ) (s : Slot)
+    (d : Option JobView)
+    → IsDesk places cores → get_or places i None ≡ Some s → get_or cores s.core d ≡ None → ⊥
+no_core places cores i s d desk at none =
+    let held = desk.held i s at in
+    let there : core_at cores s.core ≡ Some held.0 = held.1 in
+    let empty : core_at cores s.core ≡ None =
+    get_or_default cores s.core None d (core_within places cores i s desk at) ∙ none in
+    absurd (cc)
+
+-- a job that has ended stays as it is
+still : (core : JobView) (s : Slot) (units : ℕ) (d : Standing) → s.standing ≡ d → (d ≡ Going → ⊥)
+    → worked cost verdict (job_of core s) units ≡ job_of core s
+still core s units Going is other = absurd (other refl)
+still core s units Ended is other =
+    ap (λ (d : Standing). worked_on cost verdict (ending d (verdict core.bytes core.limit))
+    (job_of core s) units) is
+still core s units Starved is other =
+    ap (λ (d : Standing). worked_on cost verdict (ending d (verdict core.bytes core.limit))
+    (job_of core s) units) is
+
+same_case : (jobs : List (Option JobView)) (i : ℕ) (o : Option JobView) → get_or jobs i None ≡ o
+    → (j : ℕ) (b : Bool) → (i == j) ≡ b
+    → get_or jobs j None ≡ (if b then o else get_or jobs j None)
+same_case jobs i o at j true e = ap (λ n. get_or jobs n None) (sym (eqb-true i j e)) ∙ at
+same_case jobs i o at j false e = refl
+
+pub idle : (places : List (Option Slot)) (cores : List (Option JobView)) (i : ℕ) (s : Slot)
+    (units : ℕ)
+    → IsDesk places cores → get_or places i None ≡ Some s → (s.standing ≡ Going → ⊥)
+    → HaveWorked (jobs_in places cores) i (job_in cores (slot_at places i)) units
+    (jobs_in places cores)
+idle places cores i s units desk at other =
+    let jobs = jobs_in places cores in
+    let held = desk.held i s at in
+    let here : job_in cores (slot_at places i) ≡ Some (job_of held.0 s) =
+    ap (job_in cores) at ∙ ap (λ c. seen c s) held.1 in
+    let is : get_or jobs i None ≡ Some (job_of held.0 s) = job_at_place places cores i ∙ here in
+    subst (λ (o : Option JobView). HaveWorked jobs i o units jobs) (sym here)
+    (inl (subst (λ (v : JobView). IsWith jobs i (Some v) jobs)
+    (sym (still held.0 s units s.standing refl other))
+    (λ j. same_case jobs i (Some (job_of held.0 s)) is j (i == j) refl)))
 
 module _ (places : List (Option Slot)) (cores : List (Option JobView)) (i : ℕ) (s : Slot)
     (core : JobView) (d : Option JobView)

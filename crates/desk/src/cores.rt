@@ -1,5 +1,6 @@
 //! The checks that jobs share: one for each bytes and limit.
-ghost use Rattle.std.specs.Prelude.{◌≡◌, ◌<◌, None, length, IfOk, OnErr, IfSome, IfNone};
+ghost use Rattle.std.specs.Prelude.{◌≡◌, ◌<◌, ◌↔◌, None, length, IsTrue};
+ghost use Rattle.std.specs.Prelude.{IfOk, OnErr, IfSome, IfNone};
 ghost use Rattle.desk.specs.Desks.{IsWith, IsCoreFor, IsCoreOf, HasNoCore, core_at};
 
 use allocation::{Memory, Room};
@@ -45,12 +46,19 @@ fn find<A: Room>(cores: &Vec<Option<Job<A>>, A>, bytes: &[u8], limit: u32) -> Op
 {
     for i in 0..cores.len() {
         if let Some(core) = &cores[i] {
-            if core.limit() == limit && core.bytes() == bytes {
+            if is_of(core, bytes, limit) {
                 return Some(i);
             }
         }
     }
     None
+}
+
+/// Whether the core is that of these bytes and this limit.
+fn is_of<A: Room>(core: &Job<A>, bytes: &[u8], limit: u32) -> bool
+    ensures { IsTrue result ↔ ((core.now.bytes ≡ bytes.now) × (core.now.limit ≡ limit)) }
+{
+    core.limit() == limit && core.bytes() == bytes
 }
 
 /// A place without a core.

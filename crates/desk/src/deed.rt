@@ -3,7 +3,7 @@ use crate::reply::StepFault;
 use player::{Answer, Outcome};
 
 /// What was done in a step, before the reply is lent.
-#[derive(Clone, Copy, Debug, PartialEq, Eq)]
+#[derive(Clone, Copy)]
 pub(crate) enum Deed {
     Opened(u8),
     /// The job of the number is shown as it stands.

@@ -9,7 +9,7 @@ use allocation::Room;
 use checker::{Job, Progress, Refusal, checks_end};
 
 /// Where a job stands.
-#[derive(Clone, Copy, Debug, PartialEq, Eq)]
+#[derive(Clone, Copy, PartialEq, Eq)]
 pub(crate) enum Standing {
     Going,
     /// It has its core's answer.
@@ -19,7 +19,7 @@ pub(crate) enum Standing {
 }
 
 /// A job: the place of its core, the units that it has spent, and where it stands.
-#[derive(Clone, Copy, Debug, PartialEq, Eq)]
+#[derive(Clone, Copy)]
 pub(crate) struct Slot {
     pub core: usize,
     pub spent: u64,

@@ -7,14 +7,21 @@ use allocation::Memory;
 use desk::{Reply, StepFault};
 use play_command::answer_text;
 use player::Outcome;
-use std::alloc::{AllocError, Global};
+use std::alloc::Global;
 use verdicts::verdict_line;
 
+/// The text as a line of its own.
+fn line(alloc: Global, text: &str) -> Result<String, Memory>
+    ensures { IfOk result (λ t. string_bytes t ≡ text.now) }
+{
+    Ok(String::from_str(alloc, text)?)
+}
+
 /// The line of a new job.
-fn opened_line(alloc: Global, number: u8) -> Result<String, AllocError>
+fn opened_line(alloc: Global, number: u8) -> Result<String, Memory>
     ensures { IfOk result (λ t. string_bytes t ≡ opened_line number) }
 {
-    format!(in alloc; "opened {number}\n")
+    Ok(format!(in alloc; "opened {number}\n")?)
 }
 
 /// The line of an outcome.
@@ -43,15 +50,14 @@ fn refused_line(fault: StepFault) -> Result<&'static str, Memory>
 pub(crate) fn reply_line(alloc: Global, reply: Reply<'_>) -> Result<String, Memory>
     ensures { IfOk result (λ t. IsLineOf (reply_of reply.entry) (string_bytes t)) }
 {
-    let text = match reply {
-        Reply::Opened(number) => opened_line(alloc, number)?,
-        Reply::Going => String::from_str(alloc, "going\n")?,
-        Reply::Yes(certified) => verdict_line(alloc, Ok(certified))?,
-        Reply::No(refusal) => verdict_line(alloc, Err(refusal))?,
-        Reply::Dropped => String::from_str(alloc, "dropped\n")?,
-        Reply::Outcome(outcome) => String::from_str(alloc, outcome_line(outcome))?,
-        Reply::Answer(answer) => answer_text(alloc, answer)?,
-        Reply::Refused(fault) => String::from_str(alloc, refused_line(fault)?)?,
-    };
-    Ok(text)
+    match reply {
+        Reply::Opened(number) => opened_line(alloc, number),
+        Reply::Going => line(alloc, "going\n"),
+        Reply::Yes(certified) => verdict_line(alloc, Ok(certified)),
+        Reply::No(refusal) => verdict_line(alloc, Err(refusal)),
+        Reply::Dropped => line(alloc, "dropped\n"),
+        Reply::Outcome(outcome) => line(alloc, outcome_line(outcome)),
+        Reply::Answer(answer) => Ok(answer_text(alloc, answer)?),
+        Reply::Refused(fault) => line(alloc, refused_line(fault)?),
+    }
 }

@@ -3,14 +3,13 @@ use Rattle.std.proofs.Common.{◌≡◌, ◌≢◌, ℕ, zero, suc, ◌+◌, ◌
 use Rattle.std.specs.Prelude.{slice_index, slice_index_or, sum, All}
 use Rattle.std.proofs.lemmas.Bool.{cases_eq}
 use Rattle.std.proofs.lemmas.List.Sums.{sum_by-cons}
-use Rattle.std.proofs.lemmas.List.{length-set, get_or-set_same, get_or-set_other}
+use Rattle.std.proofs.lemmas.List.{get_or-set_same, get_or-set_other}
 use Rattle.presentations.specs.declared.axes.Axis.{Axis}
 use Rattle.presentations.specs.declared.read.Relation.{Relation}
 use Rattle.presentations.specs.Congruences.Related.{Given, Same, Turned, Chained}
 use Rattle.presentations.specs.Boxes.{size_of, vector_at, next_of, place_of}
 use Rattle.presentations.specs.Words.{vector_on}
-use Rattle.presentations.specs.Merging.{AreRelated, IsBox, MergeState, IsMerging, IsPointed, IsGap, Shrinks, letters_in, pairs_in, AreFirsts, AreClasses}
-use Rattle.presentations.specs.Numberings.{AreRoots}
+use Rattle.presentations.specs.Merging.{AreRelated, IsBox, MergeState, IsMerging, IsPointed, IsGap, Shrinks, letters_in, pairs_in, AreFirsts}
 use Rattle.presentations.proofs.BoxLaws.{length-vector}
 use Rattle.presentations.proofs.PlaceLaws.{length-word}
 use Rattle.presentations.proofs.Folding.{step-related, relation-related}

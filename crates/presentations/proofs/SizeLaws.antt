@@ -5,7 +5,7 @@ use Rattle.std.proofs.lemmas.Bool.{cases_eq}
 use Rattle.std.proofs.lemmas.Nat.{mul-le}
 use Rattle.presentations.specs.declared.read.Relation.{Relation}
 use Rattle.presentations.specs.Words.{occurs, letters_of, letters_below}
-use Rattle.presentations.specs.Powers.{IsLeastPower, HasLeastPower, IsLeastLarger, IsBoxSize, IsAboveLimit, IsUnbounded}
+use Rattle.presentations.specs.Powers.{IsLeastPower, HasLeastPower, IsLeastLarger, IsBoxSize, IsAboveLimit}
 
 pub least-larger : (relations : List Relation) (letter : ℕ) (p : ℕ × ℕ)
     → IsLeastPower relations letter (length relations) (Some p) → IsLeastLarger relations letter p.0

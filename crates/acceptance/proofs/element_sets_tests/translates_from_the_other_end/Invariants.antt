@@ -3,7 +3,7 @@ use Rattle.element_sets.specs.declared.TheConstants.{MOST_ELEMENTS}
 use Rattle.acceptance.proofs.element_sets_tests.translates_from_the_other_end.Given as goal
 
 abbrev pub invariant-loop-x : goal.invariant-loop-x
-invariant-loop-x g l = record {
+invariant-loop-x l = record {
   length_is : length l.row.items ≡ l.x;
   small : (i : ℕ) → i < l.x → get_or l.row.items i 0 < MOST_ELEMENTS;
 }

@@ -6,14 +6,12 @@ use Rattle.catalogue.specs.Reading.{ReadsValue}
 use Rattle.catalogue.proofs.ReadLemmas.{told, string_reads, no_start}
 use Rattle.catalogue.proofs.fields.text.Goals as goal
 
-pub returns-in_err-token-clause-err : goal.returns-in_err-token-clause-err
-returns-in_err-token-clause-err c =
-    no_start c.from_residual.result c.args.depth c.args.reader.now c.in_err-token.field-0.0
-    (grind arith) (grind arith) c.from_residual.ensures.1
+pub returns-in_default-clause-err : goal.returns-in_default-clause-err
+returns-in_default-clause-err c = no_start c.args.depth c.args.reader.now (grind arith)
 
 pub returns-in-String-clause-read : goal.returns-in-String-clause-read
 returns-in-String-clause-read c =
-    let first : c.args.reader.now ≡ token_of c.in_ok-token.token ∷ c.next.new.self = grind arith in
+    let first : c.args.reader.now ≡ token_of c.in-Some.token ∷ c.next.new.self = grind arith in
     let is = first ∙ ap (λ k. token_of k ∷ c.next.new.self) c.in-String.is in
     let s = c.in-String.text.now in (
       string s,
@@ -24,12 +22,12 @@ returns-in-String-clause-read c =
 
 pub returns : goal.returns
 returns c =
-    let first : c.args.reader.now ≡ token_of c.in_ok-token.token ∷ c.next.new.self = grind arith in
+    let first : c.args.reader.now ≡ token_of c.in-Some.token ∷ c.next.new.self = grind arith in
     let passed = c.in_ok-pass_from.ensures.passed in
     let r = c.pass_from.new.reader in
     let none : None ≡ as_str passed.0
-    = told c.next.new.self (λ d. None ≡ as_str d) c.in_ok-token.token (λ e ms. refl) (λ e ds. refl)
-    (λ s e. absurd (c.in_default.not-String s e)) (λ s e n q. refl) (λ b. refl) refl
+    = told c.next.new.self (λ d. None ≡ as_str d) c.in-Some.token (λ e ms. refl) (λ e ds. refl)
+    (λ s e. absurd (c.in_default-token.not-String s e)) (λ s e n q. refl) (λ b. refl) refl
     c.args.depth passed.0 r passed.1 in
     record {
       read = (

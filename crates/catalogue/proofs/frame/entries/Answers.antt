@@ -7,16 +7,14 @@ use Rattle.catalogue.specs.Reading.{EntriesAre, Passes, ReadsItems, ReadsValue}
 use Rattle.catalogue.proofs.ReadLemmas.{told, array_begins, unread_then, no_start}
 use Rattle.catalogue.proofs.frame.entries.Goals as goal
 
-pub returns-in_err-token-clause-err : goal.returns-in_err-token-clause-err
-returns-in_err-token-clause-err c =
-    no_start c.from_residual.result c.args.depth c.args.reader.now c.in_err-token.field-0.0
-    (grind arith) (grind arith) c.from_residual.ensures.1
+pub returns-in_default-clause-err : goal.returns-in_default-clause-err
+returns-in_default-clause-err c = no_start c.args.depth c.args.reader.now (grind arith)
 
 pub returns-in-BeginArray-clause-read : goal.returns-in-BeginArray-clause-read
 returns-in-BeginArray-clause-read c =
     let old = c.next.new.self in
     let new = c.items.new.reader in
-    let first : c.args.reader.now ≡ token_of c.in_ok-token.token ∷ old = grind arith in
+    let first : c.args.reader.now ≡ token_of c.in-Some.token ∷ old = grind arith in
     let is : c.args.reader.now ≡ Token.begin_array ∷ old =
     first ∙ ap (λ k. token_of k ∷ old) c.in-BeginArray.is in
     IfOk-weaker c.items.result (λ e. (ds : Items)
@@ -33,7 +31,7 @@ returns-in-BeginArray-clause-read c =
 pub returns-in-BeginArray-clause-err : goal.returns-in-BeginArray-clause-err
 returns-in-BeginArray-clause-err c =
     let old = c.next.new.self in
-    let first : c.args.reader.now ≡ token_of c.in_ok-token.token ∷ old = grind arith in
+    let first : c.args.reader.now ≡ token_of c.in-Some.token ∷ old = grind arith in
     let is : c.args.reader.now ≡ Token.begin_array ∷ old =
     first ∙ ap (λ k. token_of k ∷ old) c.in-BeginArray.is in
     unread_then (ReadsItems (c.args.depth - 1) old None)
@@ -43,12 +41,12 @@ returns-in-BeginArray-clause-err c =
 
 pub returns : goal.returns
 returns c =
-    let first : c.args.reader.now ≡ token_of c.in_ok-token.token ∷ c.next.new.self = grind arith in
+    let first : c.args.reader.now ≡ token_of c.in-Some.token ∷ c.next.new.self = grind arith in
     let passed = c.in_ok-pass_from.ensures.passed in
     let r = c.pass_from.new.reader in
     let none : EntriesAre None (Some passed.0)
-    = told c.next.new.self (λ d. EntriesAre None (Some d)) c.in_ok-token.token
-    (λ e ms ds es w i. cc) (λ e ds. absurd (c.in_default.not-BeginArray e))
+    = told c.next.new.self (λ d. EntriesAre None (Some d)) c.in-Some.token
+    (λ e ms ds es w i. cc) (λ e ds. absurd (c.in_default-token.not-BeginArray e))
     (λ s e ds es w i. cc) (λ s e n q ds es w i. cc)
     (λ b ds es w i. cc) (λ ds es w i. cc) c.args.depth passed.0 r passed.1 in
     record {

@@ -7,16 +7,14 @@ use Rattle.catalogue.specs.Reading.{FileIs, Passes, ReadsMembers, ReadsValue}
 use Rattle.catalogue.proofs.ReadLemmas.{told, object_begins, unread_then, no_start}
 use Rattle.catalogue.proofs.frame.file.Goals as goal
 
-pub returns-in_err-token-clause-err : goal.returns-in_err-token-clause-err
-returns-in_err-token-clause-err c =
-    no_start c.from_residual.result c.args.depth c.args.reader.now c.in_err-token.field-0.0
-    (grind arith) (grind arith) c.from_residual.ensures.1
+pub returns-in_default-clause-err : goal.returns-in_default-clause-err
+returns-in_default-clause-err c = no_start c.args.depth c.args.reader.now (grind arith)
 
 pub returns-in-BeginObject-clause-read : goal.returns-in-BeginObject-clause-read
 returns-in-BeginObject-clause-read c =
     let old = c.next.new.self in
     let new = c.members.new.reader in
-    let first : c.args.reader.now ≡ token_of c.in_ok-token.token ∷ old = grind arith in
+    let first : c.args.reader.now ≡ token_of c.in-Some.token ∷ old = grind arith in
     let is : c.args.reader.now ≡ Token.begin_object ∷ old =
     first ∙ ap (λ k. token_of k ∷ old) c.in-BeginObject.is in
     IfOk-weaker c.members.result (λ e. (ms : Members)
@@ -33,7 +31,7 @@ returns-in-BeginObject-clause-read c =
 pub returns-in-BeginObject-clause-err : goal.returns-in-BeginObject-clause-err
 returns-in-BeginObject-clause-err c =
     let old = c.next.new.self in
-    let first : c.args.reader.now ≡ token_of c.in_ok-token.token ∷ old = grind arith in
+    let first : c.args.reader.now ≡ token_of c.in-Some.token ∷ old = grind arith in
     let is : c.args.reader.now ≡ Token.begin_object ∷ old =
     first ∙ ap (λ k. token_of k ∷ old) c.in-BeginObject.is in
     unread_then (ReadsMembers (c.args.depth - 1) no_members old None)
@@ -43,12 +41,12 @@ returns-in-BeginObject-clause-err c =
 
 pub returns : goal.returns
 returns c =
-    let first : c.args.reader.now ≡ token_of c.in_ok-token.token ∷ c.next.new.self = grind arith in
+    let first : c.args.reader.now ≡ token_of c.in-Some.token ∷ c.next.new.self = grind arith in
     let passed = c.in_ok-pass_from.ensures.passed in
     let r = c.pass_from.new.reader in
     let none : FileIs None passed.0
-    = told c.next.new.self (FileIs None) c.in_ok-token.token
-    (λ e ms. absurd (c.in_default.not-BeginObject e)) (λ e ds w i. never i.frame.count)
+    = told c.next.new.self (FileIs None) c.in-Some.token
+    (λ e ms. absurd (c.in_default-token.not-BeginObject e)) (λ e ds w i. never i.frame.count)
     (λ s e w i. never i.frame.count) (λ s e n q w i. never i.frame.count)
     (λ b w i. never i.frame.count) (λ w i. never i.frame.count) c.args.depth passed.0 r passed.1 in
     record {

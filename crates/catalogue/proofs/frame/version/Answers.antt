@@ -10,20 +10,18 @@ use Rattle.catalogue.specs.declared.fault.LoadFault.TheVariants.{Json}
 use Rattle.catalogue.proofs.ReadLemmas.{told, number_reads, number_refused, no_start}
 use Rattle.catalogue.proofs.frame.version.Goals as goal
 
-pub returns-in_err-token-clause-err : goal.returns-in_err-token-clause-err
-returns-in_err-token-clause-err c =
-    no_start c.from_residual.result c.args.depth c.args.reader.now c.in_err-token.field-0.0
-    (grind arith) (grind arith) c.from_residual.ensures.1
+pub returns-in_default-clause-err : goal.returns-in_default-clause-err
+returns-in_default-clause-err c = no_start c.args.depth c.args.reader.now (grind arith)
 
 pub returns-in-Number-clause-read : goal.returns-in-Number-clause-read
 returns-in-Number-clause-read c =
     let r = c.next.new.self in
     let s = c.in-Number.text.now in
-    let first : c.args.reader.now ≡ token_of c.in_ok-token.token ∷ r = grind arith in
+    let first : c.args.reader.now ≡ token_of c.in-Some.token ∷ r = grind arith in
     let is : c.args.reader.now ≡ Token.number s ∷ r =
     first ∙ ap (λ k. token_of k ∷ r) c.in-Number.is in
-    let result : c.ok_or-in-Number.result ≡ ok_or (option_map as_u64 (number_of s)) Json =
-    c.ok_or-in-Number.ensures.value ∙ ap (λ o. ok_or o Json) c.whole.ensures in
+    let result : c.ok_or.result ≡ ok_or (option_map as_u64 (number_of s)) Json =
+    c.ok_or.ensures.value ∙ ap (λ o. ok_or o Json) c.whole.ensures in
     subst (λ x.
     IfOk x
     (λ v. Passes c.args.depth c.args.reader.now (λ d. v ≡ option_and_then as_u64 (as_number d))
@@ -44,11 +42,11 @@ pub returns-in-Number-clause-err : goal.returns-in-Number-clause-err
 returns-in-Number-clause-err c =
     let r = c.next.new.self in
     let s = c.in-Number.text.now in
-    let first : c.args.reader.now ≡ token_of c.in_ok-token.token ∷ r = grind arith in
+    let first : c.args.reader.now ≡ token_of c.in-Some.token ∷ r = grind arith in
     let is : c.args.reader.now ≡ Token.number s ∷ r =
     first ∙ ap (λ k. token_of k ∷ r) c.in-Number.is in
-    let result : c.ok_or-in-Number.result ≡ ok_or (option_map as_u64 (number_of s)) Json =
-    c.ok_or-in-Number.ensures.value ∙ ap (λ o. ok_or o Json) c.whole.ensures in
+    let result : c.ok_or.result ≡ ok_or (option_map as_u64 (number_of s)) Json =
+    c.ok_or.ensures.value ∙ ap (λ o. ok_or o Json) c.whole.ensures in
     subst (λ x. IfErr x (IsUnread (ReadsValue c.args.depth c.args.reader.now None))) (sym result)
     (subst
     (λ ts. IfErr (ok_or (option_map as_u64 (number_of s)) Json)
@@ -62,13 +60,13 @@ returns-in-Number-clause-err c =
 
 pub returns : goal.returns
 returns c =
-    let first : c.args.reader.now ≡ token_of c.in_ok-token.token ∷ c.next.new.self = grind arith in
+    let first : c.args.reader.now ≡ token_of c.in-Some.token ∷ c.next.new.self = grind arith in
     let passed = c.in_ok-pass_from.ensures.passed in
     let r = c.pass_from.new.reader in
     let none : None ≡ option_and_then as_u64 (as_number passed.0)
-    = told c.next.new.self (λ d. None ≡ option_and_then as_u64 (as_number d)) c.in_ok-token.token
+    = told c.next.new.self (λ d. None ≡ option_and_then as_u64 (as_number d)) c.in-Some.token
     (λ e ms. refl) (λ e ds. refl) (λ s e. refl)
-    (λ s e n q. absurd (c.in_default.not-Number s e)) (λ b. refl) refl c.args.depth passed.0 r
+    (λ s e n q. absurd (c.in_default-token.not-Number s e)) (λ b. refl) refl c.args.depth passed.0 r
     passed.1 in
     record {
       read = (

@@ -110,11 +110,9 @@ pass_members-returns-clause-passed t c =
           (members_close c.args.depth l.reader r l.invariant.0 (grind arith)),
     )
 
-pub pass_value-returns-in_err-token-clause-err : goal.pass_value-returns-in_err-token-clause-err
-pass_value-returns-in_err-token-clause-err t c =
-    let empty : c.args.reader.now ≡ [] = grind arith in
-    no_start c.from_residual.result c.args.depth c.args.reader.now c.in_err-token.field-0.0 empty
-    (grind arith) c.from_residual.ensures.1
+pub pass_value-returns-in_default-clause-err : goal.pass_value-returns-in_default-clause-err
+pass_value-returns-in_default-clause-err t c =
+    no_start c.args.depth c.args.reader.now (grind arith)
 
 pub pass_from-returns-in-String-clause-passed : goal.pass_from-returns-in-String-clause-passed
 pass_from-returns-in-String-clause-passed t c =

@@ -1,52 +1,66 @@
-use Rattle.std.proofs.Common.{◌≡◌, ℕ, List, Option, Ok, Bool, true, false, string_bytes, sym, subst, ◌∙◌}
-use Rattle.folders.specs.Files.{Holds, Replaces}
-use Rattle.misere_theory.specs.Certificates.{Certificate}
-use Rattle.catalogue.specs.Texts.{catalogue_text}
-use Rattle.catalogue_command.specs.Answers.{Begins, IsAddition, Saves}
+use Rattle.std.proofs.Common.{◌≡◌, Ok, IfOk, IfErr, OnErr, inr, string_bytes, subst}
+use Rattle.std.proofs.lemmas.Result.{IfOk-weaker, IfErr-weaker}
+use Rattle.std.specs.Prelude.{Bool, List, ℕ}
+use Rattle.catalogue_command.specs.Answers.{Adds, AddsAnswer, Begins}
+use Rattle.catalogue_command.specs.Stops.{Failed, StopsAdd, StopsSalvage, failed}
+use Rattle.catalogue_command.specs.declared.stop.CatalogueStop.{CatalogueStop}
+use Rattle.catalogue_command.specs.declared.stop.CatalogueStop.TheVariants.{Read, Write, Memory, NotACode}
 use Rattle.catalogue_command.proofs.adding.add.Goals as goal
-use Rattle.catalogue_command.proofs.adding.add.Goals.{then-report+in_ok-save-in-Ok, else-report}
 
-saved : (before mid after : Option (List ℕ → Option (List ℕ))) (file : List ℕ) (well : Bool)
-    (new : List Certificate) → well ≡ true → mid ≡ before
-    → Replaces mid after file (catalogue_text new) → Saves before after file well new
-saved before mid after file well new is same h =
-    subst (λ w. Saves before after file w new) (sym is)
-    (subst (λ m. Replaces m after file (catalogue_text new)) same h)
+stops : (fresh : Bool) (file certificate : List ℕ) (before after : Failed) (stop : CatalogueStop)
+    → StopsSalvage certificate before after stop
+    → StopsAdd fresh file certificate before after stop
+stops fresh file certificate before after (Read name) h = (inr h.0, h.1)
+stops fresh file certificate before after Write h = h
+stops fresh file certificate before after Memory h = h
+stops fresh file certificate before after NotACode h = h
 
-unsaved : (before after : Option (List ℕ → Option (List ℕ))) (file : List ℕ) (well : Bool)
-    (new : List Certificate) → well ≡ false → after ≡ before
-    → Saves before after file well new
-unsaved before after file well new is same =
-    subst (λ w. Saves before after file w new) (sym is) same
-
-pub returns-after-report-clause-told : goal.returns-after-report-clause-told
-returns-after-report-clause-told g c =
+pub returns-in-Ok-Ok-clause-told : goal.returns-in-Ok-Ok-clause-told
+returns-in-Ok-Ok-clause-told g c =
     let before = g.F.Folder.files c.args.folder.now in
-    let kept = c.read.ensures.kept ∙ c.begun.ensures.kept in
-    let report = c.in_ok-report-in-Ok.report in
-    let new = c.addition.new.catalogue in (
-      Ok c.in-Ok.catalogue,
-      subst (Begins c.args.fresh c.args.limit before c.args.file.now) c.in-Ok.is
-          c.in_ok-fault.ensures.begins,
-      (
-        c.in_ok-bytes-in-Ok.bytes.items,
-        new,
-        subst (λ f. Holds f c.args.certificate.now c.in_ok-bytes-in-Ok.bytes.items)
-            c.begun.ensures.kept c.in_ok-bytes-in-Ok.ensures.bytes,
-        subst (λ b. IsAddition c.in-Ok.catalogue b c.args.limit report.well new
-            (string_bytes report.text)) c.deref.ensures.value c.in_ok-report-in-Ok.ensures,
-        elim c.if-report.branch [
-          | then-report+in_ok-save-in-Ok w ↦
-              subst (λ f. Saves before (g.F.Folder.files f) c.args.file.now report.well new)
-              (sym w.folder-is)
-              (saved before (g.F.Folder.files c.read.new.folder)
-              (g.F.Folder.files w.save.new.folder) c.args.file.now report.well new
-              w.if-report.true kept w.in_ok-save-in-Ok.ensures.saved)
-          | else-report w ↦
-              subst (λ f. Saves before (g.F.Folder.files f) c.args.file.now report.well new)
-              (sym w.folder-is)
-              (unsaved before (g.F.Folder.files c.read.new.folder) c.args.file.now report.well new
-              w.if-report.false kept)
-        ],
-      ),
-    )
+    let after = g.F.Folder.files c.extended.new.folder in
+    let file = c.args.file.now in
+    let certificate = c.args.certificate.now in
+    let cs = c.in-Ok-Ok.catalogue in
+    let inner : c.in-Ok-Ok.field-0 ≡ Ok cs = cc in
+    let begins : Begins c.args.fresh c.args.limit before file (Ok cs) =
+    subst (Begins c.args.fresh c.args.limit before file) inner
+    (subst (λ r. IfOk r (Begins c.args.fresh c.args.limit before file)) c.in-Ok-Ok.is
+    c.begun.ensures.begins) in
+    IfOk-weaker c.extended.result
+    (λ r. AddsAnswer c.args.limit before after file certificate (Ok cs) r.well
+    (string_bytes r.text))
+    (λ r. Adds c.args.fresh c.args.limit before after file certificate r.well
+    (string_bytes r.text))
+    (λ r h. (Ok cs, begins, h))
+    (subst (λ f. IfOk c.extended.result
+    (λ r. AddsAnswer c.args.limit f after file certificate (Ok cs) r.well
+    (string_bytes r.text))) c.begun.ensures.kept c.extended.ensures.told)
+
+pub returns-in-Ok-Ok-clause-kept : goal.returns-in-Ok-Ok-clause-kept
+returns-in-Ok-Ok-clause-kept g c =
+    subst (λ f. OnErr c.extended.result (g.F.Folder.files c.extended.new.folder ≡ f))
+    c.begun.ensures.kept c.extended.ensures.kept
+
+pub returns-in-Ok-Ok-clause-stops : goal.returns-in-Ok-Ok-clause-stops
+returns-in-Ok-Ok-clause-stops g c =
+    let old = c.args.folder.now in
+    let mid = c.begun.new.folder in
+    let new = c.extended.new.folder in
+    let after = failed (g.F.Folder.failed_reads new) (g.F.Folder.failed_writes new) in
+    let Stops = StopsAdd c.args.fresh c.args.file.now c.args.certificate.now in
+    let reads : g.F.Folder.failed_reads mid ≡ g.F.Folder.failed_reads old =
+    subst (λ r. IfOk r (λ _. g.F.Folder.failed_reads mid ≡ g.F.Folder.failed_reads old))
+    c.in-Ok-Ok.is c.begun.ensures.well in
+    subst (λ n. IfErr c.extended.result (Stops (failed n (g.F.Folder.failed_writes old)) after))
+    reads
+    (subst
+    (λ n. IfErr c.extended.result (Stops (failed (g.F.Folder.failed_reads mid) n) after))
+    c.begun.ensures.writes
+    (IfErr-weaker c.extended.result
+    (StopsSalvage c.args.certificate.now
+    (failed (g.F.Folder.failed_reads mid) (g.F.Folder.failed_writes mid)) after)
+    (Stops (failed (g.F.Folder.failed_reads mid) (g.F.Folder.failed_writes mid)) after)
+    (stops c.args.fresh c.args.file.now c.args.certificate.now
+    (failed (g.F.Folder.failed_reads mid) (g.F.Folder.failed_writes mid)) after)
+    c.extended.ensures.stops))

@@ -2,12 +2,19 @@ use Rattle.std.proofs.Common.{rules, ◌≡◌, ◌<◌, ◌-◌, length, get_or
 use Rattle.pair_closure.specs.Progress.{blank_held}
 use Rattle.checker.specs.Rules.{Obeys}
 use Rattle.checker.proofs.HeldLemmas.{held_obey, last_obeys, broken_at}
-use Rattle.pair_closure.specs.Progress.{steps}
+use Rattle.pair_closure.specs.Progress.{State, SameData, steps}
 use Rattle.checker.specs.Turns.Phase.{Closing}
 use Rattle.checker.proofs.TurnLemmas.{runs-none}
 use Rattle.checker.proofs.CloseTurns.{ok_takes, err_refused, kept_takes, takes_fresh, refused_runs, runs-left, broken_runs, over_runs, done_runs, more_runs}
 use Rattle.checker.proofs.closing.close.Goals.{then-ever+else-not-obeys, else-ever}
 use Rattle.checker.proofs.closing.close.Goals as goal
+
+same_data_on : (r s t : State) → SameData s t → SameData r s → SameData r t
+same_data_on r s t d e = record {
+  table = d.table ∙ e.table;
+  heaps = d.heaps ∙ e.heaps;
+  limit = d.limit ∙ e.limit;
+}
 
 pub overflow_sub-newest : goal.overflow_sub-newest
 overflow_sub-newest g c =
@@ -222,3 +229,76 @@ returns-then-ever-2-clause-turns g c = λ _.
     c.members.left _ (i.runs d portion bytes limit) k (let b = c.spent.ensures in
     let e = c.spent-before.ensures in let f = k.spent in let w = k.within in omega arith) last
     i.going (c.grow_to_member-grown.ensures.more (search rules))
+
+pub returns-then-not-obeys-clause-data : goal.returns-then-not-obeys-clause-data
+returns-then-not-obeys-clause-data g c =
+    same_data_on _ _ _ c.grow_to_member-grown.ensures.«data» c.members.invariant.same
+
+pub returns-then-not-obeys-clause-spends : goal.returns-then-not-obeys-clause-spends
+returns-then-not-obeys-clause-spends g c = let a = c.members.invariant.spends in omega arith
+
+pub returns-then-not-obeys-clause-spent : goal.returns-then-not-obeys-clause-spent
+returns-then-not-obeys-clause-spent g c =
+    let a = c.members.invariant.spent in let r = c.grow_to_member-grown.ensures.spent_range in
+    let b = c.spent.ensures in let e = c.spent-before.ensures in omega arith
+
+pub returns-in-Err-clause-data : goal.returns-in-Err-clause-data
+returns-in-Err-clause-data g c =
+    same_data_on _ _ _ c.grow_to_member-grown.ensures.«data» c.members.invariant.same
+
+pub returns-in-Err-clause-spends : goal.returns-in-Err-clause-spends
+returns-in-Err-clause-spends g c = let a = c.members.invariant.spends in omega arith
+
+pub returns-in-Err-clause-spent : goal.returns-in-Err-clause-spent
+returns-in-Err-clause-spent g c =
+    let a = c.members.invariant.spent in let r = c.grow_to_member-grown.ensures.spent_range in
+    let b = c.spent.ensures in let e = c.spent-before.ensures in omega arith
+
+pub returns-in-Ok-Done-clause-data : goal.returns-in-Ok-Done-clause-data
+returns-in-Ok-Done-clause-data g c =
+    same_data_on _ _ _ c.grow_to_member-grown.ensures.«data» c.members.invariant.same
+
+pub returns-in-Ok-Done-clause-spends : goal.returns-in-Ok-Done-clause-spends
+returns-in-Ok-Done-clause-spends g c = let a = c.members.invariant.spends in omega arith
+
+pub returns-in-Ok-Done-clause-spent : goal.returns-in-Ok-Done-clause-spent
+returns-in-Ok-Done-clause-spent g c =
+    let a = c.members.invariant.spent in let r = c.grow_to_member-grown.ensures.spent_range in
+    let b = c.spent.ensures in let e = c.spent-before.ensures in omega arith
+
+pub returns-in-Ok-Over-clause-data : goal.returns-in-Ok-Over-clause-data
+returns-in-Ok-Over-clause-data g c =
+    same_data_on _ _ _ c.grow_to_member-grown.ensures.«data» c.members.invariant.same
+
+pub returns-in-Ok-Over-clause-spends : goal.returns-in-Ok-Over-clause-spends
+returns-in-Ok-Over-clause-spends g c = let a = c.members.invariant.spends in omega arith
+
+pub returns-in-Ok-Over-clause-spent : goal.returns-in-Ok-Over-clause-spent
+returns-in-Ok-Over-clause-spent g c =
+    let a = c.members.invariant.spent in let r = c.grow_to_member-grown.ensures.spent_range in
+    let b = c.spent.ensures in let e = c.spent-before.ensures in omega arith
+
+pub returns-then-ever-2-clause-data : goal.returns-then-ever-2-clause-data
+returns-then-ever-2-clause-data g c =
+    same_data_on _ _ _ c.grow_to_member-grown.ensures.«data» c.members.invariant.same
+
+pub returns-then-ever-2-clause-spends : goal.returns-then-ever-2-clause-spends
+returns-then-ever-2-clause-spends g c = let a = c.members.invariant.spends in omega arith
+
+pub returns-then-ever-2-clause-spent : goal.returns-then-ever-2-clause-spent
+returns-then-ever-2-clause-spent g c =
+    let a = c.members.invariant.spent in let r = c.grow_to_member-grown.ensures.spent_range in
+    let b = c.spent.ensures in let e = c.spent-before.ensures in omega arith
+
+pub returns-then-ever-2-clause-more : goal.returns-then-ever-2-clause-more
+returns-then-ever-2-clause-more g c = λ _.
+    let p = c.members.closure in
+    let t = c.grow_to_member-grown.new.self.state in
+    let same : length t.members ≡ length p.state.members =
+    (let a = c.ever-in-Ok-More.ensures in let b = c.ever-ever.ensures in
+    let e = c.if-ever-2.true in omega arith) in
+    let f = c.grow_to_member-grown.ensures.spent (search rules) same in (
+      (let a = c.spent.ensures in let b = c.spent-before.ensures in omega arith),
+      held_obey c.args.inside.now p.state t c.grow_to_member-grown.ensures.kept
+          c.members.invariant.obey (λ l. absurd (omega arith)),
+    )

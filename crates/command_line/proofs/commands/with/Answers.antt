@@ -7,6 +7,6 @@ use Rattle.command_line.proofs.commands.with.Goals as goal
 
 pub returns : goal.returns
 returns c above added first second plain =
-    let old = subst (λ r. IfOk r (λ (p : Command). app_of p ≡ above)) c.in_ok-program.was first in
-    let sub = subst (λ r. IfOk r (λ (s : Command). app_of s ≡ added)) c.in_ok-command.was second in
+    let old = subst (λ r. IfOk r (λ (p : Command). app_of p ≡ above)) c.in-Ok.is first in
+    let sub = subst (λ r. IfOk r (λ (s : Command). app_of s ≡ added)) c.in-Ok-command.is second in
     IfOk-weaker _ _ _ (λ new h. with_command _ _ new _ _ old sub plain h) c.subcommand.ensures

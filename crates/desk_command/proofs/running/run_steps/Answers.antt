@@ -3,7 +3,7 @@ use Rattle.std.proofs.lemmas.Result.{err_from_is_err_and}
 use Rattle.desk.specs.Desks.{state_of}
 use Rattle.desk_script.specs.Views.{steps_of}
 use Rattle.command_results.specs.Printers.{printer}
-use Rattle.desk_command.proofs.Going.{breaks_in_writing, gone_nowhere, gone_on}
+use Rattle.desk_command.proofs.Going.{breaks_in_taking, breaks_in_writing, gone_nowhere, gone_on}
 use Rattle.desk_command.proofs.running.run_steps.Goals as goal
 
 pub loop-step-init : goal.loop-step-init
@@ -17,6 +17,17 @@ loop-step-preserved g c =
     c.as_bytes.ensures.value c.loop-step.invariant c.in_ok-line.ensures.line
     _ _ _ c.take_step.ensures.kept c.in_ok-line.ensures.well c.in_ok-write_whole.ensures.puts
     c.in_ok-write_whole.ensures.cause
+
+pub returns-in_err-line-clause-breaks : goal.returns-in_err-line-clause-breaks
+returns-in_err-line-clause-breaks g c =
+    let p = err_from_is_err_and c.from_residual.result c.from_residual.ensures.1 in
+    rw (p.1, p.2)
+    (breaks_in_taking (g.F.Folder.files c.args.folder.now) (g.F.Folder.files c.loop-step.folder)
+    (steps_of c.args.steps.items) _ _ _ _ _ (g.F.Folder.failed_reads c.loop-step.folder)
+    (g.F.Folder.failed_reads c.take_step.new.folder)
+    (printer (g.W.Sink.taken c.args.sink.now) (g.W.Sink.failures c.args.sink.now))
+    (printer (g.W.Sink.taken c.loop-step.sink) (g.W.Sink.failures c.loop-step.sink))
+    (ap steps_of c.in-Some.ensures.steps.0) c.loop-step.invariant _ c.in_err-line.ensures.stops)
 
 pub returns-in_err-write_whole-clause-breaks : goal.returns-in_err-write_whole-clause-breaks
 returns-in_err-write_whole-clause-breaks g c =

@@ -1,11 +1,42 @@
-use Rattle.std.proofs.Common.{◌≡◌, ◌≤◌, ℕ, refl, ◌+◌, ◌*◌, ◌++◌, ◌∷◌, [], ap, arith, subst, sym, ◌∙◌}
+use Rattle.std.proofs.Common.{List, Bool, true, false, ◌≡◌, ◌≤◌, ◌<◌, ℕ, refl, ◌+◌, ◌*◌, ◌++◌, ◌∷◌, [], ap, arith, subst, sym, ◌∙◌}
 use Rattle.presentations.proofs.AxisLaws.{Built, built-none, built-skip, built-push, built-box, few-letters}
 use Rattle.presentations.proofs.PowerLaws.{none-at-all, when-none}
 use Rattle.presentations.proofs.SizeLaws.{least-larger, not-above, above, box-more}
-use Rattle.presentations.specs.Powers.{IsBoxSize}
-use Rattle.presentations.specs.Words.{letters_below}
+use Rattle.std.specs.Prelude.{◌≢◌, IsTrue, Option, Some, None, IfSome, is_some}
+use Rattle.std.proofs.lemmas.Nat.{mul-le}
+use Rattle.presentations.specs.declared.read.Relation.{Relation}
+use Rattle.presentations.specs.declared.fault.PresFault.TheVariants.{Unbounded, Limit}
+use Rattle.presentations.specs.Powers.{IsBoxSize, IsUnbounded, IsLeastPower, HasSomePower, HasLeastPower}
+use Rattle.presentations.specs.Merging.{letters_in}
+use Rattle.presentations.proofs.Faults.{not-fault, on-err, ok-err, err-same, memory-unbounded, memory-limit, memory-text}
+use Rattle.presentations.specs.Words.{occurs, letters_below}
 use Rattle.presentations.proofs.bounds.axes_of.Goals as goal
 use Rattle.presentations.proofs.bounds.axes_of.Goals.{then-occurs+in-Some+else-size-most+in_ok-push, else-occurs}
+
+some-power : (relations : List Relation) (letter n : ℕ) (p : ℕ × ℕ)
+    → IsLeastPower relations letter n (Some p) → HasSomePower relations letter
+some-power relations letter n p least = (p.0, p.1, least.0.0, least.0.1)
+
+bounded : (relations : List Relation)
+    → ((n : ℕ) → n < 26 → IsTrue (occurs relations n) → HasLeastPower relations n)
+    → IsUnbounded relations → ⊥
+bounded relations h u =
+    let p = h u.letter u.within u.stands in
+    u.none (some-power relations u.letter _ p.0 p.1)
+
+when-some : {X : Type 0} (o : Option X) (P : Type 0) (b : Bool) → b ≡ is_some o → b ≡ true
+    → IfSome o (λ _. P) → P
+when-some None P b e f h = absurd (clash (sym e ∙ f))
+  where
+    clash : false ≡ true → ⊥
+    clash f = cc
+when-some (Some p) P b e f h = h
+
+limit_unbounded : Limit ≢ Unbounded
+limit_unbounded e = cc
+
+unbounded_limit : Unbounded ≢ Limit
+unbounded_limit e = cc
 
 pub loop-letter-init : goal.loop-letter-init
 loop-letter-init g c =
@@ -92,3 +123,77 @@ pub returns-clause-count : goal.returns-clause-count
 returns-clause-count g c =
     few-letters _ c.args.limit c.loop-letter.letter c.loop-letter.size c.loop-letter.axes.items
     c.loop-letter.invariant (omega arith)
+
+pub returns-clause-unbounded : goal.returns-clause-unbounded
+returns-clause-unbounded g c = (
+  λ e. absurd (ok-err _ _ e),
+  λ unbounded. absurd (bounded c.args.relations.now
+      (when-none c.unbounded.result _ c.is_some.result c.is_some.ensures c.if-is_some.false
+      c.unbounded.ensures.none) unbounded),
+)
+
+pub returns-then-limit-eq0-clause-unbounded : goal.returns-then-limit-eq0-clause-unbounded
+returns-then-limit-eq0-clause-unbounded g c = (
+  λ e. absurd (limit_unbounded (err-same _ _ e)),
+  λ unbounded. absurd (bounded c.args.relations.now
+      (when-none c.unbounded.result _ c.is_some.result c.is_some.ensures c.if-is_some.false
+      c.unbounded.ensures.none) unbounded),
+)
+
+pub returns-then-size-most-clause-unbounded : goal.returns-then-size-most-clause-unbounded
+returns-then-size-most-clause-unbounded g c = (
+  λ e. absurd (limit_unbounded (err-same _ _ e)),
+  λ unbounded. absurd (bounded c.args.relations.now
+      (when-none c.unbounded.result _ c.is_some.result c.is_some.ensures c.if-is_some.false
+      c.unbounded.ensures.none) unbounded),
+)
+
+pub returns-in_err-push-clause-unbounded : goal.returns-in_err-push-clause-unbounded
+returns-in_err-push-clause-unbounded g c = (
+  λ e. absurd (not-fault c.from_residual.result _ _ c.from_residual.ensures.1 memory-unbounded e),
+  λ unbounded. absurd (bounded c.args.relations.now
+      (when-none c.unbounded.result _ c.is_some.result c.is_some.ensures c.if-is_some.false
+      c.unbounded.ensures.none) unbounded),
+)
+
+pub returns-clause-limit : goal.returns-clause-limit
+returns-clause-limit g c = λ e. absurd (ok-err _ _ e)
+
+pub returns-then-is_some-clause-limit : goal.returns-then-is_some-clause-limit
+returns-then-is_some-clause-limit g c = λ e. absurd (unbounded_limit (err-same _ _ e))
+
+pub returns-in_default-clause-limit : goal.returns-in_default-clause-limit
+returns-in_default-clause-limit g c = λ e. absurd (unbounded_limit (err-same _ _ e))
+
+pub returns-in_err-push-clause-limit : goal.returns-in_err-push-clause-limit
+returns-in_err-push-clause-limit g c = λ e. absurd (not-fault c.from_residual.result _ _ c.from_residual.ensures.1 memory-limit e)
+
+pub returns-in_err-push-clause-not_text : goal.returns-in_err-push-clause-not_text
+returns-in_err-push-clause-not_text g c = on-err c.from_residual.result _
+    (λ e. not-fault c.from_residual.result _ _ c.from_residual.ensures.1 memory-text e)
+
+pub returns-then-is_some-clause-unbounded : goal.returns-then-is_some-clause-unbounded
+returns-then-is_some-clause-unbounded g c = (
+  λ _. when-some c.unbounded.result _ c.is_some.result c.is_some.ensures c.if-is_some.true
+      c.unbounded.ensures.some,
+  λ _. refl,
+)
+
+pub returns-clause-size : goal.returns-clause-size
+returns-clause-size g c = (c.loop-letter.invariant.size_is, c.loop-letter.invariant.within)
+
+pub returns-clause-letters : goal.returns-clause-letters
+returns-clause-letters g c =
+    subst
+    (λ n. letters_in c.loop-letter.axes.items ≡ letters_below c.args.relations.now n)
+    (at_end c.loop-letter.letter (omega arith) (omega arith)) c.loop-letter.invariant.letters
+  where
+    at_end : (n : ℕ) → n ≤ 26 → 26 ≤ n → n ≡ 26
+    at_end n a b = omega arith
+
+pub overflow_mul-size : goal.overflow_mul-size
+overflow_mul-size g c =
+    let more =
+    mul-le c.loop-letter.size c.in-Some.most 4294967295 255
+    (omega (arith, c.loop-letter.invariant.within)) (omega (arith, c.in-Some.ensures.1)) in
+    omega (arith, more)

@@ -1,33 +1,10 @@
-use Rattle.std.proofs.Common.{◌+◌, get_or, map, take, sym, subst}
-use Rattle.std.proofs.lemmas.Result.{err_from_is_err_and}
+use Rattle.std.proofs.Common.{map, sym, subst}
 use Rattle.catalogue.specs.Files.{written}
-use Rattle.catalogue.specs.Loads.{Stand, Holds}
-use Rattle.catalogue.specs.Parts.{IsFaultOrMemory}
-use Rattle.catalogue.proofs.LoadLemmas.{blank, itself_at, stand_push, written_more, loaded_fault}
+use Rattle.catalogue.specs.Loads.{Holds}
 use Rattle.catalogue.proofs.store.Catalogue.load.Goals as goal
 
-pub returns-in_err-take : goal.returns-in_err-take
-returns-in_err-take c =
-    let items = c.deref-entry-items.result.now in
-    let p =
-    err_from_is_err_and c.from_residual-in_err-take.result c.from_residual-in_err-take.ensures.1
-    in
-    let holds : Holds c.args.bytes.now (map written items) =
-    subst (λ ts. Holds c.args.bytes.now (map written ts))
-    (sym c.deref-entry-items.ensures.value) c.in_ok-entries.ensures.ok in
-    let t = get_or items c.loop-at.at blank in
-    rw p.1 (loaded_fault c.args.bytes.now c.args.limit items c.loop-at.at t c.loop-at.catalogue p.0
-    holds c.loop-at-test.true (itself_at items c.loop-at.at blank t c.loop-at-test.true)
-    c.loop-at.invariant
-    (subst (IsFaultOrMemory c.args.limit c.loop-at.catalogue (c.loop-at.at + 1) (written t))
-    (sym p.2) c.in_err-take.ensures.fault))
-
-pub loop-at-preserved : goal.loop-at-preserved
-loop-at-preserved c =
-    let items = c.deref-entry-items.result.now in
-    let t = get_or items c.loop-at.at blank in
-    subst (λ es. Stand es c.take.new.self)
-    (sym (written_more items c.loop-at.at t c.loop-at-test.true
-    (itself_at items c.loop-at.at blank t c.loop-at-test.true)))
-    (stand_push (take c.loop-at.at (map written items)) c.loop-at.catalogue (written t)
-    c.take.new.self c.loop-at.invariant c.in_ok-take.ensures.taken)
+pub returns-in-Ok : goal.returns-in-Ok
+returns-in-Ok c =
+    c.catalogue_of.ensures c.args.bytes.now
+    (subst (λ ts. Holds c.args.bytes.now (map written ts)) (sym c.deref.ensures.value)
+    c.in-Ok.ensures.ok)

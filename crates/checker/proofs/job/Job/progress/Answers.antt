@@ -1,4 +1,4 @@
-use Rattle.std.proofs.Common.{subst}
+use Rattle.std.proofs.Common.{rules, subst}
 use Rattle.checker.specs.JobViews.{IsTruthful}
 use Rattle.checker.proofs.StageLemmas.{stands-true}
 use Rattle.checker.proofs.job.Job.progress.Goals as goal
@@ -23,3 +23,6 @@ returns-in_default-clause-truthful g c =
     subst IsTruthful c.self.view_is
     (stands-true s.bytes.items s.limit (c.true_answers.ensures s.bytes.items s.limit) s.stage
     c.self.invariant.stands)
+
+pub returns-in-Ended-Ok-clause-shown : goal.returns-in-Ended-Ok-clause-shown
+returns-in-Ended-Ok-clause-shown g c = search rules

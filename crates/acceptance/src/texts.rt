@@ -1,0 +1,25 @@
+//! Long texts, put together of parts.
+use std::alloc::{AllocError, Global};
+
+/// Parts, each repeated so many times.
+pub type Parts = &'static [(&'static [u8], usize)];
+
+/// The text of blocks of parts, each block repeated so many times.
+pub fn text_of(alloc: Global, blocks: &[(Parts, usize)]) -> Result<Vec<u8>, AllocError> {
+    let mut text = Vec::new(alloc);
+    for (parts, times) in blocks {
+        for _ in 0..*times {
+            put(&mut text, parts)?;
+        }
+    }
+    Ok(text)
+}
+
+fn put(text: &mut Vec<u8>, parts: &[(&[u8], usize)]) -> Result<(), AllocError> {
+    for (part, count) in parts {
+        for _ in 0..*count {
+            text.extend_from_slice(part)?;
+        }
+    }
+    Ok(())
+}

@@ -1,0 +1,47 @@
+use Rattle.std.proofs.Common.{◌≡◌, ℕ, List, Option, Bool, true, false, string_bytes, sym, subst}
+use Rattle.folders.specs.Files.{Replaces}
+use Rattle.misere_theory.specs.Certificates.{Certificate}
+use Rattle.catalogue.specs.Texts.{catalogue_text}
+use Rattle.catalogue_command.specs.Answers.{IsAddition, Saves}
+use Rattle.catalogue_command.proofs.adding.extended.Goals as goal
+use Rattle.catalogue_command.proofs.adding.extended.Goals.{then-report+in_ok-save, else-report}
+
+saved : (before mid after : Option (List ℕ → Option (List ℕ))) (file : List ℕ) (well : Bool)
+    (new : List Certificate) → well ≡ true → mid ≡ before
+    → Replaces mid after file (catalogue_text new) → Saves before after file well new
+saved before mid after file well new is same h =
+    subst (λ w. Saves before after file w new) (sym is)
+    (subst (λ m. Replaces m after file (catalogue_text new)) same h)
+
+unsaved : (before after : Option (List ℕ → Option (List ℕ))) (file : List ℕ) (well : Bool)
+    (new : List Certificate) → well ≡ false → after ≡ before
+    → Saves before after file well new
+unsaved before after file well new is same =
+    subst (λ w. Saves before after file w new) (sym is) same
+
+pub returns-clause-told : goal.returns-clause-told
+returns-clause-told g c =
+    let before = g.F.Folder.files c.args.folder.now in
+    let kept = c.read.ensures.kept in
+    let report = c.in_ok-report.report in
+    let file = c.args.file.now in
+    let new = c.addition.new.catalogue in (
+      c.in_ok-bytes.bytes.items,
+      new,
+      c.in_ok-bytes.ensures.bytes,
+      subst (λ b. IsAddition c.args.catalogue.now b c.args.limit report.well new
+          (string_bytes report.text)) c.deref.ensures.value c.in_ok-report.ensures,
+      elim c.if-report.branch [
+        | then-report+in_ok-save w ↦
+            subst (λ f. Saves before (g.F.Folder.files f) file report.well new)
+            (sym w.folder-is)
+            (saved before (g.F.Folder.files c.read.new.folder)
+            (g.F.Folder.files w.save.new.folder) file report.well new
+            w.if-report.true kept w.in_ok-save.ensures.saved)
+        | else-report w ↦
+            subst (λ f. Saves before (g.F.Folder.files f) file report.well new)
+            (sym w.folder-is)
+            (unsaved before (g.F.Folder.files c.read.new.folder) file report.well new
+            w.if-report.false kept)
+      ],
+    )

@@ -1,0 +1,17 @@
+use Rattle.std.proofs.Common.{string_bytes, subst}
+use Rattle.octal_code.specs.Text.{IsCodeText}
+use Rattle.catalogue_command.specs.Answers.{IsGotten}
+use Rattle.catalogue_command.proofs.finding.get.Goals as goal
+
+pub returns-clause-told : goal.returns-clause-told
+returns-clause-told g c =
+    let code = c.in-Ok.code in
+    let report = c.in_ok-report.report in (
+      code,
+      c.in_ok-bytes.bytes.items,
+      subst (λ t. IsCodeText t code) c.as_bytes.ensures.value
+          ((c.read.ensures.code code).0 c.in-Ok.is),
+      c.in_ok-bytes.ensures.bytes,
+      subst (λ b. IsGotten b c.args.limit code report.well (string_bytes report.text))
+          c.deref.ensures.value c.in_ok-report.ensures,
+    )
