@@ -1,4 +1,4 @@
-//! The sample certificates, and refused ones, by their names, in folders, and what is said of them.
+//! The sample certificates, and refused ones, in folders, and what is said of them.
 use command_results::Said;
 use folders::MemoryFolder;
 use std::alloc::Global;
@@ -29,112 +29,175 @@ words 0:1 0:2 0:5 1:2 1:5 2:2 4:2\nrow 0 1 2 3 4 5 6 7\nrow 1 0 4 5 2 3 7 6\nrow
 row 3 5 4 6 2 7 7 6\nrow 4 2 7 2 6 4 4 2\nrow 5 3 2 7 4 6 6 7\nrow 6 7 2 7 4 6 6 7\n\
 row 7 6 4 6 2 7 7 6\napart 0 1 1 1 1 0 3 0 0 0 0 5 0 2 2 2 0 1 3 3 0 1 4 0 1 0 1 0\nend\n";
 
-/// A name and the bytes.
-static CERTIFICATES: [(&str, &str); 20] = [
-    ("0.1.mqc", OF_0_1),
-    ("0.3.mqc", OF_0_3),
-    ("0.33.mqc", OF_0_33),
-    ("0.75.mqc", OF_0_75),
-    (
-        "apart_none_separates.mqc",
-        "mqc 1\ncode 0.3\norder 4\nstart 1\nperiod 2\nphi 1 2\nportion 1 3\nwords 0:1 0:2 1:2\n\
-row 0 1 2 3\nrow 1 0 3 2\nrow 2 3 0 1\nrow 3 2 1 0\napart 0 0 0 0 0 0\nend\n",
-    ),
-    (
-        "apart_not_least.mqc",
-        "mqc 1\ncode 0.33\norder 6\nstart 1\nperiod 3\nphi 1 2 0\nportion 1 4\n\
+pub const APART_NONE_SEPARATES: &str =
+    "mqc 1\ncode 0.3\norder 4\nstart 1\nperiod 2\nphi 1 2\nportion 1 3\nwords 0:1 0:2 1:2\n\
+row 0 1 2 3\nrow 1 0 3 2\nrow 2 3 0 1\nrow 3 2 1 0\napart 0 0 0 0 0 0\nend\n";
+
+pub const APART_NOT_LEAST: &str =
+    "mqc 1\ncode 0.33\norder 6\nstart 1\nperiod 3\nphi 1 2 0\nportion 1 4\n\
 words 0:1 0:2 1:2 2:2 3:2\nrow 0 1 2 3 4 5\nrow 1 0 3 2 5 4\nrow 2 3 4 5 2 3\nrow 3 2 5 4 3 2\n\
-row 4 5 2 3 4 5\nrow 5 4 3 2 5 4\napart 0 1 1 0 5 0 0 4 0 2 0 1 0 1 0\nend\n",
-    ),
-    (
-        "law_rows_equal.mqc",
-        "mqc 1\ncode 0.3\norder 2\nstart 1\nperiod 2\nphi 1 0\nportion 1\nwords 0:1\nrow 0 1\n\
-row 0 1\napart 0\nend\n",
-    ),
-    (
-        "order_two_elements_exchanged.mqc",
-        "mqc 1\ncode 0.33\norder 6\nstart 1\nperiod 3\nphi 1 3 0\nportion 1 4\n\
+row 4 5 2 3 4 5\nrow 5 4 3 2 5 4\napart 0 1 1 0 5 0 0 4 0 2 0 1 0 1 0\nend\n";
+
+pub const LAW_ROWS_EQUAL: &str =
+    "mqc 1\ncode 0.3\norder 2\nstart 1\nperiod 2\nphi 1 0\nportion 1\nwords 0:1\nrow 0 1\n\
+row 0 1\napart 0\nend\n";
+
+pub const ORDER_TWO_ELEMENTS_EXCHANGED: &str =
+    "mqc 1\ncode 0.33\norder 6\nstart 1\nperiod 3\nphi 1 3 0\nportion 1 4\n\
 words 0:1 1:2 0:2 3:2 2:2\nrow 0 1 2 3 4 5\nrow 1 0 3 2 5 4\nrow 2 3 4 5 2 3\nrow 3 2 5 4 3 2\n\
-row 4 5 2 3 4 5\nrow 5 4 3 2 5 4\napart 0 1 1 0 4 0 0 4 0 2 0 1 0 1 0\nend\n",
-    ),
-    (
-        "outcome_at_the_empty_position.mqc",
-        "mqc 1\ncode 0.3\norder 2\nstart 1\nperiod 2\nphi 1 0\nportion 0\nwords 0:1\nrow 0 1\n\
-row 1 0\napart 0\nend\n",
-    ),
-    (
-        "outcome_at_two_ones.mqc",
-        "mqc 1\ncode 0.3\norder 2\nstart 1\nperiod 2\nphi 1 0\nportion 1\nwords 0:1\nrow 0 1\n\
-row 1 1\napart 0\nend\n",
-    ),
-    (
-        "outcome_option_in_portion.mqc",
-        "mqc 1\ncode 0.33\norder 2\nstart 1\nperiod 3\nphi 1 1 0\nportion 1\nwords 0:1\nrow 0 1\n\
-row 1 0\napart 0\nend\n",
-    ),
-    ("outcome_right_up_to_heap_8.mqc", RIGHT_UP_TO_8),
-    (
-        "outcome_without_moves.mqc",
-        "mqc 1\ncode 0.31\norder 6\nstart 3\nperiod 2\nphi 1 2 0 1\nportion 1 4\n\
+row 4 5 2 3 4 5\nrow 5 4 3 2 5 4\napart 0 1 1 0 4 0 0 4 0 2 0 1 0 1 0\nend\n";
+
+pub const OUTCOME_AT_THE_EMPTY_POSITION: &str =
+    "mqc 1\ncode 0.3\norder 2\nstart 1\nperiod 2\nphi 1 0\nportion 0\nwords 0:1\nrow 0 1\n\
+row 1 0\napart 0\nend\n";
+
+pub const OUTCOME_AT_TWO_ONES: &str =
+    "mqc 1\ncode 0.3\norder 2\nstart 1\nperiod 2\nphi 1 0\nportion 1\nwords 0:1\nrow 0 1\n\
+row 1 1\napart 0\nend\n";
+
+pub const OUTCOME_OPTION_IN_PORTION: &str =
+    "mqc 1\ncode 0.33\norder 2\nstart 1\nperiod 3\nphi 1 1 0\nportion 1\nwords 0:1\nrow 0 1\n\
+row 1 0\napart 0\nend\n";
+
+pub const OUTCOME_WITHOUT_MOVES: &str =
+    "mqc 1\ncode 0.31\norder 6\nstart 3\nperiod 2\nphi 1 2 0 1\nportion 1 4\n\
 words 0:1 0:2 1:2 2:2 3:2\nrow 0 1 2 3 4 5\nrow 1 0 3 2 5 4\nrow 2 3 4 5 2 3\nrow 3 2 5 4 3 2\n\
-row 4 5 2 3 4 5\nrow 5 4 3 2 5 4\napart 0 1 1 0 4 0 0 4 0 2 0 1 0 1 0\nend\n",
-    ),
-    (
-        "period_doubled.mqc",
-        "mqc 1\ncode 0.33\norder 6\nstart 1\nperiod 6\nphi 1 2 0 1 2 0\nportion 1 4\n\
+row 4 5 2 3 4 5\nrow 5 4 3 2 5 4\napart 0 1 1 0 4 0 0 4 0 2 0 1 0 1 0\nend\n";
+
+pub const PERIOD_DOUBLED: &str =
+    "mqc 1\ncode 0.33\norder 6\nstart 1\nperiod 6\nphi 1 2 0 1 2 0\nportion 1 4\n\
 words 0:1 0:2 1:2 2:2 3:2\nrow 0 1 2 3 4 5\nrow 1 0 3 2 5 4\nrow 2 3 4 5 2 3\nrow 3 2 5 4 3 2\n\
-row 4 5 2 3 4 5\nrow 5 4 3 2 5 4\napart 0 1 1 0 4 0 0 4 0 2 0 1 0 1 0\nend\n",
+row 4 5 2 3 4 5\nrow 5 4 3 2 5 4\napart 0 1 1 0 4 0 0 4 0 2 0 1 0 1 0\nend\n";
+
+pub const TEXT_BYTE_BEHIND: &str =
+    "mqc 1\ncode 0.3\norder 2\nstart 1\nperiod 2\nphi 1 0\nportion 1\nwords 0:1\nrow 0 1\n\
+row 1 0\napart 0\nend\n\n";
+
+pub const TEXT_CRLF: &str =
+    "mqc 1\r\ncode 0.3\r\norder 2\r\nstart 1\r\nperiod 2\r\nphi 1 0\r\nportion 1\r\n\
+words 0:1\r\nrow 0 1\r\nrow 1 0\r\napart 0\r\nend\r\n";
+
+pub const TEXT_CUT_SHORT: &str =
+    "mqc 1\ncode 0.3\norder 2\nstart 1\nperiod 2\nphi 1 0\nportion 1\nwords 0:1\nrow 0 1\n\
+row 1 0\napart 0\nend";
+
+pub const TEXT_LEADING_ZERO: &str =
+    "mqc 1\ncode 0.3\norder 02\nstart 1\nperiod 2\nphi 1 0\nportion 1\nwords 0:1\nrow 0 1\n\
+row 1 0\napart 0\nend\n";
+
+pub const WORD_OF_UNREACHED_ELEMENT: &str =
+    "mqc 1\ncode 0.3\norder 4\nstart 1\nperiod 2\nphi 1 0\nportion 1\nwords 0:1 0:1 2:1\n\
+row 0 1 2 3\nrow 1 0 3 2\nrow 2 3 0 1\nrow 3 2 1 0\napart 0 0 0 0 0 0\nend\n";
+
+pub const WORD_WITH_RIGHT_PREDICTIONS: &str =
+    "mqc 1\ncode 0.3\norder 4\nstart 1\nperiod 2\nphi 1 0\nportion 1\nwords 0:1 0:1 2:1\n\
+row 0 1 2 3\nrow 1 0 3 2\nrow 2 3 0 1\nrow 3 2 1 0\napart 0 1 1 0 0 2\nend\n";
+
+/// The limit of most checks.
+pub const LIMIT: u32 = 100000;
+
+/// A name, what the file holds, a limit, and what is said.
+pub type Answered = (&'static str, &'static str, u32, &'static str);
+
+pub static ANSWERS: [Answered; 19] = [
+    (
+        "0.3.mqc",
+        OF_0_3,
+        LIMIT,
+        "yes 0.3 order 2 start 1 period 2\n",
     ),
     (
-        "text_byte_behind.mqc",
-        "mqc 1\ncode 0.3\norder 2\nstart 1\nperiod 2\nphi 1 0\nportion 1\nwords 0:1\nrow 0 1\n\
-row 1 0\napart 0\nend\n\n",
+        "0.33.mqc",
+        OF_0_33,
+        LIMIT,
+        "yes 0.33 order 6 start 1 period 3\n",
     ),
     (
-        "text_crlf.mqc",
-        "mqc 1\r\ncode 0.3\r\norder 2\r\nstart 1\r\nperiod 2\r\nphi 1 0\r\nportion 1\r\n\
-words 0:1\r\nrow 0 1\r\nrow 1 0\r\napart 0\r\nend\r\n",
+        "0.75.mqc",
+        OF_0_75,
+        LIMIT,
+        "yes 0.75 order 8 start 8 period 2\n",
     ),
     (
-        "text_cut_short.mqc",
-        "mqc 1\ncode 0.3\norder 2\nstart 1\nperiod 2\nphi 1 0\nportion 1\nwords 0:1\nrow 0 1\n\
-row 1 0\napart 0\nend",
+        "0.1.mqc",
+        OF_0_1,
+        LIMIT,
+        "yes 0.1 order 2 start 2 period 1\n",
     ),
-    (
-        "text_leading_zero.mqc",
-        "mqc 1\ncode 0.3\norder 02\nstart 1\nperiod 2\nphi 1 0\nportion 1\nwords 0:1\nrow 0 1\n\
-row 1 0\napart 0\nend\n",
-    ),
+    ("0.3.mqc", OF_0_3, 8, "yes 0.3 order 2 start 1 period 2\n"),
+    ("0.3.mqc", OF_0_3, 3, "yes 0.3 order 2 start 1 period 2\n"),
+    ("0.3.mqc", OF_0_3, 2, "no 8 Limit\n"),
+    ("0.3.mqc", OF_0_3, 1, "no 8 Limit\n"),
+    ("law_rows_equal.mqc", LAW_ROWS_EQUAL, LIMIT, "no 2 Law\n"),
     (
         "word_of_unreached_element.mqc",
-        "mqc 1\ncode 0.3\norder 4\nstart 1\nperiod 2\nphi 1 0\nportion 1\nwords 0:1 0:1 2:1\n\
-row 0 1 2 3\nrow 1 0 3 2\nrow 2 3 0 1\nrow 3 2 1 0\napart 0 0 0 0 0 0\nend\n",
+        WORD_OF_UNREACHED_ELEMENT,
+        LIMIT,
+        "no 3 Word\n",
     ),
     (
         "word_with_right_predictions.mqc",
-        "mqc 1\ncode 0.3\norder 4\nstart 1\nperiod 2\nphi 1 0\nportion 1\nwords 0:1 0:1 2:1\n\
-row 0 1 2 3\nrow 1 0 3 2\nrow 2 3 0 1\nrow 3 2 1 0\napart 0 1 1 0 0 2\nend\n",
+        WORD_WITH_RIGHT_PREDICTIONS,
+        LIMIT,
+        "no 3 Word\n",
     ),
+    (
+        "order_two_elements_exchanged.mqc",
+        ORDER_TWO_ELEMENTS_EXCHANGED,
+        LIMIT,
+        "no 4 Order\n",
+    ),
+    ("period_doubled.mqc", PERIOD_DOUBLED, LIMIT, "no 5 Period\n"),
+    (
+        "apart_not_least.mqc",
+        APART_NOT_LEAST,
+        LIMIT,
+        "no 6 Apart\n",
+    ),
+    (
+        "apart_none_separates.mqc",
+        APART_NONE_SEPARATES,
+        LIMIT,
+        "no 6 Apart\n",
+    ),
+    ("text_crlf.mqc", TEXT_CRLF, LIMIT, "no 1 Text\n"),
+    (
+        "text_leading_zero.mqc",
+        TEXT_LEADING_ZERO,
+        LIMIT,
+        "no 1 Text\n",
+    ),
+    (
+        "text_byte_behind.mqc",
+        TEXT_BYTE_BEHIND,
+        LIMIT,
+        "no 1 Text\n",
+    ),
+    ("text_cut_short.mqc", TEXT_CUT_SHORT, LIMIT, "no 1 Text\n"),
 ];
 
-/// The bytes of the certificate of this name.
-pub fn sample(name: &str) -> Option<&'static [u8]> {
-    for (kept, text) in &CERTIFICATES {
-        if *kept == name {
-            return Some(text.as_bytes());
-        }
-    }
-    None
-}
+/// Certificates that are refuted at a position.
+pub static REFUTED: [(&str, &str); 5] = [
+    (
+        "outcome_at_the_empty_position.mqc",
+        OUTCOME_AT_THE_EMPTY_POSITION,
+    ),
+    ("outcome_at_two_ones.mqc", OUTCOME_AT_TWO_ONES),
+    ("outcome_option_in_portion.mqc", OUTCOME_OPTION_IN_PORTION),
+    ("outcome_right_up_to_heap_8.mqc", RIGHT_UP_TO_8),
+    ("outcome_without_moves.mqc", OUTCOME_WITHOUT_MOVES),
+];
 
 /// A folder of this file, of which this call fails, from 1.
-pub fn folder_of(alloc: Global, name: &str, bytes: &[u8], failing: u64) -> Option<MemoryFolder> {
+pub fn folder_of(alloc: Global, name: &str, held: &str, failing: u64) -> Option<MemoryFolder> {
     let mut folder = MemoryFolder::failing(alloc, failing);
-    folder.put(name, bytes).ok()?;
-    Some(folder)
+    match folder.put(name, held.as_bytes()) {
+        Ok(()) => Some(folder),
+        Err(_) => None,
+    }
 }
 
 /// Whether this is said, and well unless it is a no.
 pub fn is_said(said: &Said, text: &str) -> bool {
-    said.text.as_slice() == text.as_bytes() && said.well != text.starts_with("no")
+    (said.text.as_slice() == text.as_bytes()) & (said.well != text.starts_with("no"))
 }

@@ -1,123 +1,91 @@
-//! Certificates under each refused growth, and the largest ones.
-use crate::certificates::OF_0_33;
+//! Refusals at positions of many heaps, and the largest certificates.
 use crate::cyclic::{cyclic, longest};
-use allocation::{Memory, Room};
-use checker::{Certified, Refusal, check};
-use ration::Ration;
+use allocation::Room;
+use checker::{Refusal, check};
 use std::alloc::Global;
-use std::test::Fail;
 use verdicts::verdict_text;
 
-/// The number of a verdict, 0 for a yes, and the order of a yes, or how many heaps the position has
-/// that a refusal hands out.
-fn told<A: Room>(verdict: &Result<Certified<A>, Refusal<A>>) -> (u8, Option<usize>) {
-    match verdict {
-        Ok(certified) => (0, Some(certified.cert().order() as usize)),
-        Err(refusal) => (refusal.number(), heaps_of(refusal)),
-    }
-}
-
-/// How many heaps the position has that a refusal hands out.
-fn heaps_of<A: Room>(refusal: &Refusal<A>) -> Option<usize> {
+/// How many heaps the position has that a refusal hands out, or 0.
+fn heaps_of<A: Room>(refusal: &Refusal<A>) -> usize {
     match refusal.counterexample() {
-        Some((_, position)) => Some(position.heaps().len()),
-        None => None,
+        Some((_, position)) => position.heaps().len(),
+        None => 0,
     }
 }
 
-/// What a check tells.
-fn checked<A: Room + Copy>(alloc: A, bytes: &[u8], limit: u32) -> (u8, Option<usize>) {
-    let verdict = check(alloc, bytes, limit);
-    told(&verdict)
-}
-
-/// What a check tells with one growth refused, and whether that growth came.
-fn rationed(alloc: Global, bytes: &[u8], limit: u32, n: u64) -> (u8, Option<usize>, bool) {
-    let ration = Ration::new(alloc, n);
-    let (number, count) = checked(&ration, bytes, limit);
-    (number, count, ration.has_refused())
-}
-
-/// The first growth, up to 400, whose refusal isn't answered by want of memory, and what the check
-/// tells then.
-fn past_memory(alloc: Global, bytes: &[u8], limit: u32) -> (u64, u8, Option<usize>, bool) {
-    for n in 1..400u64 {
-        let (number, count, has_refused) = rationed(alloc, bytes, limit, n);
-        if number != 9 || !has_refused {
-            return (n, number, count, has_refused);
-        }
+/// The number of the verdict, 0 for a yes, and the order of a yes, or how many heaps the position
+/// has that a refusal hands out.
+fn checked<A: Room + Copy>(alloc: A, bytes: &[u8], limit: u32) -> (u8, usize) {
+    match check(alloc, bytes, limit) {
+        Ok(certified) => (0, certified.cert().order() as usize),
+        Err(refusal) => (refusal.number(), heaps_of(&refusal)),
     }
-    (400, 9, None, true)
 }
 
-#[test]
-fn says_yes_or_memory(rt: HostRuntime) -> Result<(), Fail> {
-    let (n, number, order, has_refused) = past_memory(rt.alloc(), OF_0_33.as_bytes(), 100);
-    assert!(rt; number == 0 && order == Some(6), "{number} at {n}");
-    assert!(rt; !has_refused && n > 5 && n < 200, "{n}");
-    Ok(())
-}
-
-/// The positions handed out have more heaps than lie in a position itself.
-#[test]
-fn hands_out_a_position_or_says_memory(rt: HostRuntime) -> Result<(), Fail> {
-    for but_the_last in [true, false] {
-        let (n, number, heaps, has_refused) = past_memory_of_a_group(rt.alloc(), but_the_last)?;
-        assert!(rt; number == 7 && heaps > Some(8), "{number} at {n}");
-        assert!(rt; !has_refused && n > 20 && n < 400, "{n}");
+/// Whether the check says yes with an order of 6, or the number of the refusal.
+pub fn has_order_6<A: Room + Copy>(alloc: A, bytes: &[u8]) -> Result<bool, u8> {
+    let (number, order) = checked(alloc, bytes, 100);
+    if number == 0 {
+        Ok(order == 6)
+    } else {
+        Err(number)
     }
-    Ok(())
 }
 
-fn past_memory_of_a_group(
-    alloc: Global,
-    but_the_last: bool,
-) -> Result<(u64, u8, Option<usize>, bool), Memory> {
-    let text = cyclic(alloc, 16, but_the_last)?;
-    Ok(past_memory(alloc, &text, 1000))
+/// Whether the check hands out a position of more heaps than lie in a position itself, or the
+/// number of another verdict.
+pub fn is_refuted<A: Room + Copy>(alloc: A, bytes: &[u8]) -> Result<bool, u8> {
+    let (number, heaps) = checked(alloc, bytes, 1000);
+    if number == 7 {
+        Ok(heaps > 8)
+    } else {
+        Err(number)
+    }
 }
 
-/// The length of a verdict's text.
-fn length_of_text(alloc: Global, verdict: &Result<Certified, Refusal>) -> Result<usize, Memory> {
-    Ok(verdict_text(alloc, verdict.as_ref())?.len())
+/// Whether the text of the refusal has more than 128 bytes.
+fn is_long(alloc: Global, refusal: &Refusal) -> bool {
+    match verdict_text(alloc, Err(refusal)) {
+        Ok(text) => text.len() > 128,
+        Err(_) => false,
+    }
 }
 
-/// What a check tells, and the length of its verdict's text.
-fn printed(alloc: Global, bytes: &[u8]) -> Result<(u8, Option<usize>, usize), Memory> {
-    let verdict = check(alloc, bytes, 100000);
-    let (number, heaps) = told(&verdict);
-    Ok((number, heaps, length_of_text(alloc, &verdict)?))
+/// Whether a refusal hands out a position of more than 64 heaps, with a long text.
+fn is_of_many_heaps(alloc: Global, refusal: &Refusal) -> bool {
+    (refusal.number() == 7) & (heaps_of(refusal) > 64) & is_long(alloc, refusal)
 }
 
-/// The length of the certificate over the largest group, and what `printed` says of it.
-fn largest(alloc: Global, but_the_last: bool) -> Result<(usize, u8, Option<usize>, usize), Memory> {
-    let text = cyclic(alloc, 256, but_the_last)?;
-    let (number, heaps, length) = printed(alloc, &text)?;
-    Ok((text.len(), number, heaps, length))
+/// Whether the check hands out a position of more than 64 heaps, with a long text.
+fn is_refuted_at_length(alloc: Global, bytes: &[u8]) -> bool {
+    match check(alloc, bytes, 100000) {
+        Ok(_) => false,
+        Err(refusal) => is_of_many_heaps(alloc, &refusal),
+    }
+}
+
+/// Whether the certificate over the largest group has more than 2^16 bytes and is refuted.
+fn refutes_largest(alloc: Global, but_the_last: bool) -> bool {
+    match cyclic(alloc, 256, but_the_last) {
+        Some(text) => (text.len() > 65536) & is_refuted_at_length(alloc, &text),
+        None => false,
+    }
+}
+
+/// The number of the verdict on the certificate with the most heaps, 0 for a yes.
+fn number_of_longest(alloc: Global) -> u8 {
+    match longest(alloc) {
+        Some(text) => checked(alloc, &text, 100000).0,
+        None => 0,
+    }
 }
 
 /// More than 2^16 bytes, the largest order, more than 256 members, and words of more than 64 heaps:
 /// those of a member where the rule fails outside the portion, and those of an element's keys where
-/// it fails inside.
+/// it fails inside. Then the longest pretending function, and so the most heaps, of the code with
+/// the most digits.
 #[test]
-fn memory_suffices_for_the_largest_order(rt: HostRuntime) -> Result<(), Fail> {
-    for but_the_last in [true, false] {
-        let (bytes, number, heaps, length) = largest(rt.alloc(), but_the_last)?;
-        assert!(rt; number == 7 && heaps > Some(64), "{number}");
-        assert!(rt; bytes > 65536 && length > 128, "{bytes} {length}");
-    }
-    Ok(())
-}
-
-/// The number of the verdict on the certificate with the most heaps.
-fn number_of_longest(alloc: Global) -> Result<u8, Memory> {
-    let text = longest(alloc)?;
-    Ok(checked(alloc, &text, 100000).0)
-}
-
-/// The longest pretending function, and so the most heaps, of the code with the most digits.
-#[test]
-fn memory_suffices_for_the_most_heaps(rt: HostRuntime) -> Result<(), Fail> {
-    assert_eq!(rt; number_of_longest(rt.alloc())?, 7);
-    Ok(())
+fn memory_suffices_for_the_largest(rt: HostRuntime) {
+    assert!(rt; refutes_largest(rt.alloc(), true) & refutes_largest(rt.alloc(), false));
+    assert!(rt; number_of_longest(rt.alloc()) == 7);
 }

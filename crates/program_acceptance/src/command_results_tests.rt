@@ -2,8 +2,16 @@
 use command_results::{Said, Stop, print, read_file};
 use folders::MemoryFolder;
 use std::alloc::Global;
-use std::test::Fail;
 use streams::MemorySink;
+
+static STOPS: [(Stop<'static>, u8, &str); 6] = [
+    (Stop::Read("a.mqc"), 3, "misere: cannot read a.mqc\n"),
+    (Stop::Write, 3, "misere: cannot write\n"),
+    (Stop::Memory, 3, "misere: out of memory\n"),
+    (Stop::NotAPosition, 2, "misere: not a position\n"),
+    (Stop::NotACode, 2, "misere: not a code\n"),
+    (Stop::NotUtf8, 2, "misere: a word isn't UTF-8\n"),
+];
 
 /// Whether the line tells the stop.
 fn is_told(alloc: Global, stop: Stop<'_>, line: &str) -> bool {
@@ -12,68 +20,71 @@ fn is_told(alloc: Global, stop: Stop<'_>, line: &str) -> bool {
     err.bytes() == line.as_bytes()
 }
 
-#[test]
-fn tells_each_stop(rt: HostRuntime) {
-    let rows: [(Stop<'static>, u8, &str); 6] = [
-        (Stop::Read("a.mqc"), 3, "misere: cannot read a.mqc\n"),
-        (Stop::Write, 3, "misere: cannot write\n"),
-        (Stop::Memory, 3, "misere: out of memory\n"),
-        (Stop::NotAPosition, 2, "misere: not a position\n"),
-        (Stop::NotACode, 2, "misere: not a code\n"),
-        (Stop::NotUtf8, 2, "misere: a word isn't UTF-8\n"),
-    ];
+/// How many stops have their status and their line.
+fn count_told(alloc: Global, rows: &[(Stop<'static>, u8, &str)]) -> usize {
+    let mut count = 0usize;
     for (stop, status, line) in rows {
-        assert!(rt;
-            is_told(rt.alloc(), stop, line) && stop.status() == status,
-            "of {line}"
-        );
+        if !is_told(alloc, *stop, line) || stop.status() != *status {
+            return count;
+        }
+        count = count.saturating_add(1);
     }
+    count
 }
 
 /// Whether just the text is printed, with the status.
 fn is_printed(alloc: Global, said: &Said, status: u8, text: &str) -> bool {
-    let (mut out, mut err) = (MemorySink::new(alloc), MemorySink::new(alloc));
-    let answer = print(&said.text, said.status(), &mut out, &mut err);
-    answer == status && out.bytes() == text.as_bytes() && err.bytes().is_empty()
+    let mut out = MemorySink::new(alloc);
+    let mut err = MemorySink::new(alloc);
+    (print(&said.text, said.status(), &mut out, &mut err) == status)
+        & (out.bytes() == text.as_bytes())
+        & err.bytes().is_empty()
 }
 
-fn done(alloc: Global, text: &str) -> Option<Said> {
-    Some(Said::done(String::from_str(alloc, text).ok()?))
-}
-
-fn no(alloc: Global, text: &str) -> Option<Said> {
-    Some(Said::no(text.as_bytes().to_vec(alloc).ok()?))
-}
-
-/// Whether something is said, and just the text is printed, with the status.
-fn prints(alloc: Global, said: Option<Said>, status: u8, text: &str) -> bool {
-    match said {
-        Some(said) => is_printed(alloc, &said, status, text),
-        None => false,
+/// Whether what is done is printed, with status 0.
+fn prints_done(alloc: Global, text: &str) -> bool {
+    match String::from_str(alloc, text) {
+        Ok(line) => is_printed(alloc, &Said::done(line), 0, text),
+        Err(_) => false,
     }
 }
 
-#[test]
-fn prints_what_is_said(rt: HostRuntime) {
-    assert!(rt; prints(rt.alloc(), done(rt.alloc(), "lost\n"), 0, "lost\n"));
-    assert!(rt; prints(rt.alloc(), no(rt.alloc(), "no 2 Law\n"), 1, "no 2 Law\n"));
+/// Whether a no is printed, with status 1.
+fn prints_no(alloc: Global, text: &str) -> bool {
+    match text.as_bytes().to_vec(alloc) {
+        Ok(line) => is_printed(alloc, &Said::no(line), 1, text),
+        Err(_) => false,
+    }
 }
 
-/// Whether the file is read as the bytes, or else whether it is what can't be read.
-fn reads(folder: &mut MemoryFolder, name: &str, bytes: &[u8]) -> Result<bool, bool> {
+/// Whether the file is read as the bytes.
+fn reads(folder: &mut MemoryFolder, name: &str, bytes: &[u8]) -> bool {
     match read_file(folder, name) {
-        Ok(held) => Ok(held.as_slice() == bytes),
-        Err(stop) => Err(stop == Stop::Read(name)),
+        Ok(held) => held.as_slice() == bytes,
+        Err(_) => false,
     }
 }
 
+/// Whether it is the file that can't be read.
+fn cannot_read(folder: &mut MemoryFolder, name: &str) -> bool {
+    match read_file(folder, name) {
+        Ok(_) => false,
+        Err(stop) => stop == Stop::Read(name),
+    }
+}
+
+/// Whether a file is read, one that isn't there can't be, and then the first can't be, as the third
+/// call fails.
+fn reads_or_says_which_it_cannot(alloc: Global) -> bool {
+    let mut folder = MemoryFolder::failing(alloc, 3);
+    folder.put("a.mqc", b"mqc 1\n").is_ok()
+        & reads(&mut folder, "a.mqc", b"mqc 1\n")
+        & cannot_read(&mut folder, "b.mqc")
+        & cannot_read(&mut folder, "a.mqc")
+}
+
 #[test]
-fn reads_files_or_says_which_it_cannot(rt: HostRuntime) -> Result<(), Fail> {
-    let mut folder = MemoryFolder::failing(rt.alloc(), 3);
-    folder.put("a.mqc", b"mqc 1\n".as_slice())?;
-    let first = reads(&mut folder, "a.mqc", b"mqc 1\n");
-    let absent = reads(&mut folder, "b.mqc", b"");
-    let failed = reads(&mut folder, "a.mqc", b"mqc 1\n");
-    assert!(rt; (first, absent, failed) == (Ok(true), Err(true), Err(true)));
-    Ok(())
+fn tells_prints_and_reads(rt: HostRuntime) {
+    assert!(rt; (count_told(rt.alloc(), &STOPS) == 6) & reads_or_says_which_it_cannot(rt.alloc()));
+    assert!(rt; prints_done(rt.alloc(), "lost\n") & prints_no(rt.alloc(), "no 2 Law\n"));
 }

@@ -1,5 +1,5 @@
 //! Certificates over cyclic groups.
-use std::alloc::{AllocError, Global};
+use std::alloc::Global;
 
 /// The product of two elements of a cyclic group.
 fn times(order: u16, x: u16, y: u16) -> u16 {
@@ -27,118 +27,103 @@ fn separating(order: u16, but_the_last: bool, x: u16, y: u16) -> u16 {
     0
 }
 
+/// Puts a text behind another. Whether memory suffices, as of each below.
+fn put_text(text: &mut Vec<u8>, more: &str) -> bool {
+    text.extend_from_slice(more.as_bytes()).is_ok()
+}
+
 /// A number of a line, behind a space.
-pub fn put(alloc: Global, text: &mut Vec<u8>, number: u16) -> Result<(), AllocError> {
-    text.extend_from_slice(format!(in alloc; " {number}")?.as_bytes())
+fn put(alloc: Global, text: &mut Vec<u8>, number: u16) -> bool {
+    match format!(in alloc; " {number}") {
+        Ok(word) => put_text(text, word.as_str()),
+        Err(_) => false,
+    }
 }
 
-/// The line of the portion.
-fn put_portion(
-    alloc: Global,
-    text: &mut Vec<u8>,
-    order: u16,
-    but_the_last: bool,
-) -> Result<(), AllocError> {
-    text.extend_from_slice(b"\nstart 1\nperiod 2\nphi 1 0\nportion")?;
+/// A line, or the part of one, that has an entry for each of some numbers.
+#[derive(Clone, Copy)]
+enum Line {
+    /// The portion: those in it, of the order, but the last or not.
+    Portion(u16, bool),
+    Words,
+    /// The row of an element, of the order.
+    Row(u16, u16),
+    /// The separating elements of an element and each greater one.
+    Apart(u16, bool, u16),
+    /// A pretending function.
+    Phi,
+}
+
+/// The entry for x.
+fn put_entry(alloc: Global, text: &mut Vec<u8>, line: Line, x: u16) -> bool {
+    match line {
+        Line::Portion(order, last) => !is_in(order, last, x) || put(alloc, text, x),
+        Line::Words => put(alloc, text, x.saturating_sub(1)) & put_text(text, ":1"),
+        Line::Row(order, y) => put(alloc, text, times(order, y, x)),
+        Line::Apart(order, last, y) => put(alloc, text, separating(order, last, y, x)),
+        Line::Phi => put(alloc, text, x % 2),
+    }
+}
+
+/// The entries for the numbers from `from` to before `until`.
+fn put_line(alloc: Global, text: &mut Vec<u8>, line: Line, from: u16, until: u16) -> bool {
+    let mut done = true;
+    for x in from..until {
+        done &= put_entry(alloc, text, line, x);
+    }
+    done
+}
+
+/// The rows of a cyclic group.
+fn put_rows(alloc: Global, text: &mut Vec<u8>, order: u16) -> bool {
+    let mut done = true;
     for x in 0..order {
-        if is_in(order, but_the_last, x) {
-            put(alloc, text, x)?;
-        }
+        done &= put_text(text, "\nrow") & put_line(alloc, text, Line::Row(order, x), 0, order);
     }
-    Ok(())
+    done
 }
 
-/// The line of the words.
-fn put_words(alloc: Global, text: &mut Vec<u8>, order: u16) -> Result<(), AllocError> {
-    text.extend_from_slice(b"\nwords")?;
-    for x in 1..order {
-        put(alloc, text, x - 1)?;
-        text.extend_from_slice(b":1")?;
-    }
-    Ok(())
-}
-
-/// The row of an element.
-fn put_row(alloc: Global, text: &mut Vec<u8>, order: u16, x: u16) -> Result<(), AllocError> {
-    text.extend_from_slice(b"\nrow")?;
-    for y in 0..order {
-        put(alloc, text, times(order, x, y))?;
-    }
-    Ok(())
-}
-
-/// The lines of the words and the rows of a cyclic group.
-fn put_table(alloc: Global, text: &mut Vec<u8>, order: u16) -> Result<(), AllocError> {
-    put_words(alloc, text, order)?;
+/// The separating elements.
+fn put_apart(alloc: Global, text: &mut Vec<u8>, order: u16, but_the_last: bool) -> bool {
+    let mut done = true;
     for x in 0..order {
-        put_row(alloc, text, order, x)?;
+        let line = Line::Apart(order, but_the_last, x);
+        done &= put_line(alloc, text, line, x.saturating_add(1), order);
     }
-    Ok(())
-}
-
-/// The separating elements of x and each greater one.
-fn put_separating(
-    alloc: Global,
-    text: &mut Vec<u8>,
-    order: u16,
-    but_the_last: bool,
-    x: u16,
-) -> Result<(), AllocError> {
-    for y in x.saturating_add(1)..order {
-        put(alloc, text, separating(order, but_the_last, x, y))?;
-    }
-    Ok(())
-}
-
-/// The last two lines.
-fn put_apart(
-    alloc: Global,
-    text: &mut Vec<u8>,
-    order: u16,
-    but_the_last: bool,
-) -> Result<(), AllocError> {
-    text.extend_from_slice(b"\napart")?;
-    for x in 0..order {
-        put_separating(alloc, text, order, but_the_last, x)?;
-    }
-    text.extend_from_slice(b"\nend\n")
-}
-
-/// The lines of a certificate.
-fn put_lines(
-    alloc: Global,
-    text: &mut Vec<u8>,
-    order: u16,
-    but_the_last: bool,
-) -> Result<(), AllocError> {
-    text.extend_from_slice(b"mqc 1\ncode 0.3\norder")?;
-    put(alloc, text, order)?;
-    put_portion(alloc, text, order, but_the_last)?;
-    put_table(alloc, text, order)?;
-    put_apart(alloc, text, order, but_the_last)
+    done
 }
 
 /// A certificate for 0.3 over a cyclic group of even order, in which a heap of odd size is 1 and
 /// one of even size 0. The rule fails first at positions of many heaps.
-pub fn cyclic(alloc: Global, order: u16, but_the_last: bool) -> Result<Vec<u8>, AllocError> {
+pub fn cyclic(alloc: Global, order: u16, but_the_last: bool) -> Option<Vec<u8>> {
     let mut text = Vec::new(alloc);
-    put_lines(alloc, &mut text, order, but_the_last)?;
-    Ok(text)
+    let done = put_text(&mut text, "mqc 1\ncode 0.3\norder")
+        & put(alloc, &mut text, order)
+        & put_text(&mut text, "\nstart 1\nperiod 2\nphi 1 0\nportion")
+        & put_line(
+            alloc,
+            &mut text,
+            Line::Portion(order, but_the_last),
+            0,
+            order,
+        )
+        & put_text(&mut text, "\nwords")
+        & put_line(alloc, &mut text, Line::Words, 1, order)
+        & put_rows(alloc, &mut text, order)
+        & put_text(&mut text, "\napart")
+        & put_apart(alloc, &mut text, order, but_the_last)
+        & put_text(&mut text, "\nend\n");
+    if done { Some(text) } else { None }
 }
 
 /// A certificate for the code with the most digits, with the longest pretending function, and so
 /// the most heaps.
-fn put_longest(alloc: Global, text: &mut Vec<u8>) -> Result<(), AllocError> {
-    text.extend_from_slice(b"mqc 1\ncode 0.3000000000000003\norder 2\nstart 1\nperiod 1024\nphi")?;
-    for n in 1..1024u16 {
-        put(alloc, text, n % 2)?;
-    }
-    text.extend_from_slice(b" 1\nportion 1\nwords 0:1\nrow 0 1\nrow 1 0\napart 0\nend\n")
-}
-
-/// The certificate that `put_longest` writes.
-pub fn longest(alloc: Global) -> Result<Vec<u8>, AllocError> {
+pub fn longest(alloc: Global) -> Option<Vec<u8>> {
     let mut text = Vec::new(alloc);
-    put_longest(alloc, &mut text)?;
-    Ok(text)
+    let front = "mqc 1\ncode 0.3000000000000003\norder 2\nstart 1\nperiod 1024\nphi";
+    let back = " 1\nportion 1\nwords 0:1\nrow 0 1\nrow 1 0\napart 0\nend\n";
+    let done = put_text(&mut text, front)
+        & put_line(alloc, &mut text, Line::Phi, 1, 1024)
+        & put_text(&mut text, back);
+    if done { Some(text) } else { None }
 }

@@ -1,7 +1,6 @@
 //! Scripts that are read whole, and lines that aren't steps.
 use allocation::Room;
 use desk_script::{ScriptFault, Step, read_script};
-use ration::Ration;
 use std::alloc::Global;
 
 /// Each kind of step, with the least and the greatest numbers.
@@ -12,30 +11,48 @@ ask 3 2 2 1 2\nplay 4 1 0\n";
 /// A step: its kind, its client and its job, its limit or its units, its file, and its heaps.
 type Row = (char, u8, u8, u64, &'static str, &'static [u64]);
 
-/// Whether the step is this one.
-fn is_row(step: &Step<'_>, row: &Row) -> bool {
-    let (kind, of, at, number, name, heaps) = *row;
+static ROWS: [Row; 7] = [
+    ('o', 16, 0, 4294967295, "a/b.mqc", &[]),
+    ('o', 1, 0, 0, "0", &[]),
+    ('w', 1, 4, 18446744073709551615, "", &[]),
+    ('w', 2, 1, 0, "", &[]),
+    ('d', 2, 3, 0, "", &[]),
+    ('?', 3, 2, 0, "", &[1, 2, 2]),
+    ('!', 4, 1, 0, "", &[]),
+];
+
+/// The kind, the client, the job, the numbers, the file and the heaps of a step.
+fn row_of<'a>(step: &'a Step<'a>) -> (char, u8, u8, u64, &'a str, &'a [u64]) {
     match step {
         Step::Open {
             client,
             file,
             limit,
-        } => kind == 'o' && *client == of && *file == name && *limit as u64 == number,
-        Step::Work { client, job, units } => {
-            kind == 'w' && (*client, *job) == (of, at) && *units == number
-        }
-        Step::Drop { client, job } => kind == 'd' && (*client, *job) == (of, at),
+        } => ('o', *client, 0, *limit as u64, file, &[]),
+        Step::Work { client, job, units } => ('w', *client, *job, *units, "", &[]),
+        Step::Drop { client, job } => ('d', *client, *job, 0, "", &[]),
         Step::Ask {
             client,
             job,
             position,
-        } => kind == '?' && (*client, *job) == (of, at) && position.heaps() == heaps,
+        } => ('?', *client, *job, 0, "", position.heaps()),
         Step::Play {
             client,
             job,
             position,
-        } => kind == '!' && (*client, *job) == (of, at) && position.heaps() == heaps,
+        } => ('!', *client, *job, 0, "", position.heaps()),
     }
+}
+
+/// Whether the step is this one.
+fn is_row(step: &Step<'_>, row: &Row) -> bool {
+    let (kind, client, job, number, file, heaps) = row_of(step);
+    (kind == row.0)
+        & (client == row.1)
+        & (job == row.2)
+        & (number == row.3)
+        & (file == row.4)
+        & (heaps == row.5)
 }
 
 /// Whether the steps are these.
@@ -56,88 +73,74 @@ fn is_read_as(alloc: Global, script: &[u8], rows: &[Row]) -> bool {
     }
 }
 
-#[test]
-fn reads_each_kind_of_step(rt: HostRuntime) {
-    let rows: [Row; 7] = [
-        ('o', 16, 0, 4294967295, "a/b.mqc", &[]),
-        ('o', 1, 0, 0, "0", &[]),
-        ('w', 1, 4, 18446744073709551615, "", &[]),
-        ('w', 2, 1, 0, "", &[]),
-        ('d', 2, 3, 0, "", &[]),
-        ('?', 3, 2, 0, "", &[1, 2, 2]),
-        ('!', 4, 1, 0, "", &[]),
-    ];
-    assert!(rt; is_read_as(rt.alloc(), ALL_KINDS, &rows));
-    assert!(rt; is_read_as(rt.alloc(), b"", &[]));
-}
+/// A script, and its first line that is no step.
+static FAULTS: [(&[u8], usize); 31] = [
+    (b"open 0 a.mqc 8\n", 1),
+    (b"open 17 a.mqc 8\n", 1),
+    (b"open 01 a.mqc 8\n", 1),
+    (b"open 1 a.mqc 4294967296\n", 1),
+    (b"open 1 a.mqc 08\n", 1),
+    (b"open 1 a.mqc +8\n", 1),
+    (b"open 1  8\n", 1),
+    (b"open 1 a b 8\n", 1),
+    (b"open 1 a.mqc\n", 1),
+    (b"open 1 \xff 8\n", 1),
+    (b"work 1 0 5\n", 1),
+    (b"work 1 5 5\n", 1),
+    (b"work 1 1 18446744073709551616\n", 1),
+    (b"work 1 1\n", 1),
+    (b"work 1 1 -1\n", 1),
+    (b"drop 1 1 \n", 1),
+    (b"drop  1 1\n", 1),
+    (b" drop 1 1\n", 1),
+    (b"drop 1 1\r\n", 1),
+    (b"drop 1 1", 1),
+    (b"Drop 1 1\n", 1),
+    (b"close 1 1\n", 1),
+    (b"ask 1 1 \n", 1),
+    (b"ask 1 1 01\n", 1),
+    (b"ask 1 1 1  2\n", 1),
+    (b"play 1 1 1000000000000000001\n", 1),
+    (b"play 1 1\n", 1),
+    (b"\n", 1),
+    (b"drop 1 1\n\n", 2),
+    (b"drop 1 1\ndrop 1 1", 2),
+    (b"drop 1 1\nask 1 1 0\ndrop 1 9\ndrop 1 0\n", 3),
+];
 
-/// How many steps the script has, or why it isn't read.
-fn count_of<A: Room + Copy>(alloc: A, script: &[u8]) -> Result<usize, ScriptFault> {
+/// The first line of the script that is no step, if there is one.
+fn faulty_line(alloc: Global, script: &[u8]) -> Option<usize> {
     match read_script(alloc, script) {
-        Ok(steps) => Ok(steps.len()),
-        Err(fault) => Err(fault),
+        Err(ScriptFault::NotAStep(line)) => Some(line),
+        _ => None,
     }
+}
+
+/// How many rows hold.
+fn count_held(alloc: Global, rows: &[(&[u8], usize)]) -> usize {
+    let mut count = 0usize;
+    for (script, line) in rows {
+        if faulty_line(alloc, script) != Some(*line) {
+            return count;
+        }
+        count = count.saturating_add(1);
+    }
+    count
 }
 
 #[test]
-fn tells_the_first_line_that_is_no_step(rt: HostRuntime) {
-    let rows: [(&[u8], usize); 31] = [
-        (b"open 0 a.mqc 8\n", 1),
-        (b"open 17 a.mqc 8\n", 1),
-        (b"open 01 a.mqc 8\n", 1),
-        (b"open 1 a.mqc 4294967296\n", 1),
-        (b"open 1 a.mqc 08\n", 1),
-        (b"open 1 a.mqc +8\n", 1),
-        (b"open 1  8\n", 1),
-        (b"open 1 a b 8\n", 1),
-        (b"open 1 a.mqc\n", 1),
-        (b"open 1 \xff 8\n", 1),
-        (b"work 1 0 5\n", 1),
-        (b"work 1 5 5\n", 1),
-        (b"work 1 1 18446744073709551616\n", 1),
-        (b"work 1 1\n", 1),
-        (b"work 1 1 -1\n", 1),
-        (b"drop 1 1 \n", 1),
-        (b"drop  1 1\n", 1),
-        (b" drop 1 1\n", 1),
-        (b"drop 1 1\r\n", 1),
-        (b"drop 1 1", 1),
-        (b"Drop 1 1\n", 1),
-        (b"close 1 1\n", 1),
-        (b"ask 1 1 \n", 1),
-        (b"ask 1 1 01\n", 1),
-        (b"ask 1 1 1  2\n", 1),
-        (b"play 1 1 1000000000000000001\n", 1),
-        (b"play 1 1\n", 1),
-        (b"\n", 1),
-        (b"drop 1 1\n\n", 2),
-        (b"drop 1 1\ndrop 1 1", 2),
-        (b"drop 1 1\nask 1 1 0\ndrop 1 9\ndrop 1 0\n", 3),
-    ];
-    for (script, line) in rows {
-        let read = count_of(rt.alloc(), script);
-        assert!(rt; read == Err(ScriptFault::NotAStep(line)), "{line}");
-    }
+fn reads_scripts(rt: HostRuntime) {
+    assert!(rt; is_read_as(rt.alloc(), ALL_KINDS, &ROWS) & is_read_as(rt.alloc(), b"", &[]));
+    assert!(rt; count_held(rt.alloc(), &FAULTS) == 31);
 }
 
-/// How many steps are read, and whether the growth of this number was refused.
-fn read_with(alloc: Global, refused: u64) -> (Result<usize, ScriptFault>, bool) {
+/// Whether a script is read as six steps, or 9 for want of memory.
+pub fn has_six_steps<A: Room + Copy>(alloc: A) -> Result<bool, u8> {
     let script =
         b"drop 1 1\nask 1 1 1 2 3 4 5 6 7 8 9 10\nplay 1 1 1 2 3\ndrop 1 1\ndrop 1 1\ndrop 1 1\n";
-    let ration = Ration::new(alloc, refused);
-    let answer = count_of(&ration, script);
-    (answer, ration.has_refused())
-}
-
-#[test]
-fn answers_want_of_memory(rt: HostRuntime) {
-    for n in 1..100 {
-        let (answer, has_refused) = read_with(rt.alloc(), n);
-        let is_memory = has_refused && answer == Err(ScriptFault::Memory);
-        assert!(rt; answer == Ok(6) || is_memory, "at {n}");
-        if !has_refused {
-            return;
-        }
+    match read_script(alloc, script) {
+        Ok(steps) => Ok(steps.len() == 6),
+        Err(ScriptFault::Memory) => Err(9),
+        Err(_) => Err(0),
     }
-    panic!(rt; "growths go on");
 }

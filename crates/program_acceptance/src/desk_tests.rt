@@ -4,214 +4,219 @@ use allocation::Room;
 use desk::{Client, Desk, Event, Reply};
 use ration::Ration;
 use std::alloc::Global;
-use std::process::Abort;
 
-/// What a client asks.
-#[derive(Clone, Copy)]
-enum Step {
-    Open(&'static str, u32),
-    Work(u8, u64),
-    Drop(u8),
-}
+/// What a client is told: one of the numbers below, with the number of a job, a refusal or a fault
+/// in its low byte.
+type Said = u16;
 
-/// What it is told; of a refusal its number. Nothing, where the step couldn't be made.
-#[derive(Clone, Copy, PartialEq, Eq)]
-enum Said {
-    Opened(u8),
-    Going,
-    Yes,
-    No(u8),
-    Refused(u8),
-    Nothing,
-}
+const GOING: Said = 0;
+
+const YES: Said = 0x100;
+
+const OPENED: Said = 0x200;
+
+const NO: Said = 0x300;
+
+const REFUSED: Said = 0x400;
+
+/// The step couldn't be made, or it is told something else.
+const NOTHING: Said = 0x500;
 
 fn told<A: Room>(reply: Reply<'_, A>) -> Said {
     match reply {
-        Reply::Opened(number) => Said::Opened(number),
-        Reply::Going => Said::Going,
-        Reply::Yes(_) => Said::Yes,
-        Reply::No(refusal) => Said::No(refusal.number()),
-        Reply::Refused(fault) => Said::Refused(fault.number()),
-        Reply::Dropped | Reply::Outcome(_) | Reply::Answer(_) => Said::Nothing,
+        Reply::Opened(number) => OPENED | number as u16,
+        Reply::Going => GOING,
+        Reply::Yes(_) => YES,
+        Reply::No(refusal) => NO | refusal.number() as u16,
+        Reply::Refused(fault) => REFUSED | fault.number() as u16,
+        Reply::Dropped | Reply::Outcome(_) | Reply::Answer(_) => NOTHING,
     }
 }
 
-/// The event of a step, made with memory of its own.
-fn event_of<A: Room + Copy>(alloc: A, step: Step) -> Option<Event<A>> {
-    match step {
-        Step::Open(text, limit) => Some(Event::Open(text.as_bytes().to_vec(alloc).ok()?, limit)),
-        Step::Work(number, units) => Some(Event::Work(number, units)),
-        Step::Drop(number) => Some(Event::Drop(number)),
+/// What the client is told at an event.
+fn take<A: Room + Copy>(desk: &mut Desk<A>, client: u8, event: Event<A>) -> Said {
+    match Client::new(client) {
+        Some(client) => told(desk.step(client, event)),
+        None => NOTHING,
     }
 }
 
-/// The reply to a step.
-fn take<A: Room + Copy>(alloc: A, desk: &mut Desk<A>, client: u8, step: Step) -> Said {
-    let Some(client) = Client::new(client) else {
-        return Said::Nothing;
-    };
-    match event_of(alloc, step) {
-        Some(event) => told(desk.step(client, event)),
-        None => Said::Nothing,
+/// A job of the client works.
+fn work<A: Room + Copy>(desk: &mut Desk<A>, client: u8, job: u8, units: u64) -> Said {
+    take(desk, client, Event::Work(job, units))
+}
+
+/// A certificate, and the limit of its check.
+type Claim = (&'static str, u32);
+
+/// The client opens a job, with memory of its own for the bytes.
+fn open<A: Room + Copy>(alloc: A, desk: &mut Desk<A>, client: u8, claim: Claim) -> Said {
+    match claim.0.as_bytes().to_vec(alloc) {
+        Ok(bytes) => take(desk, client, Event::Open(bytes, claim.1)),
+        Err(_) => NOTHING,
     }
+}
+
+/// Whether the client opens jobs from this number on up to four, and no fifth.
+fn fills(alloc: Global, desk: &mut Desk, client: u8, claim: Claim, from: u8) -> bool {
+    for number in from..5u8 {
+        if open(alloc, desk, client, claim) != OPENED | number as u16 {
+            return false;
+        }
+    }
+    open(alloc, desk, client, claim) == REFUSED | 20
 }
 
 /// After how many steps a job ended, and what was said then; or that it is going.
 type End = (u64, Said);
 
+fn are_equal(one: End, two: End) -> bool {
+    (one.0 == two.0) & (one.1 == two.1)
+}
+
 /// The first job of the client works once more, unless it has ended.
-fn work_on<A: Room + Copy>(
-    alloc: A,
-    desk: &mut Desk<A>,
-    client: u8,
-    units: u64,
-    steps: u64,
-    end: End,
-) -> End {
-    if end.1 == Said::Going {
-        (steps, take(alloc, desk, client, Step::Work(1, units)))
+fn work_on<A: Room + Copy>(desk: &mut Desk<A>, client: u8, units: u64, end: End) -> End {
+    if end.1 == GOING {
+        (end.0.saturating_add(1), work(desk, client, 1, units))
     } else {
         end
     }
 }
 
 /// The first jobs of the clients 1 and 2 work in turn, each by its units, to their ends.
-fn in_turn<A: Room + Copy>(alloc: A, desk: &mut Desk<A>, units: [u64; 2]) -> (End, End) {
-    let (mut one, mut two) = ((0, Said::Going), (0, Said::Going));
-    for steps in 1..50000u64 {
-        one = work_on(alloc, desk, 1, units[0], steps, one);
-        two = work_on(alloc, desk, 2, units[1], steps, two);
-        if one.1 != Said::Going && two.1 != Said::Going {
+fn in_turn<A: Room + Copy>(desk: &mut Desk<A>, units: u64, units_of_two: u64) -> (End, End) {
+    let mut one = (0, GOING);
+    let mut two = (0, GOING);
+    for _ in 1..50000u64 {
+        one = work_on(desk, 1, units, one);
+        two = work_on(desk, 2, units_of_two, two);
+        if one.1 != GOING && two.1 != GOING {
             break;
         }
     }
     (one, two)
 }
 
-#[test]
-fn has_sixteen_clients(rt: HostRuntime) {
+/// Whether just the numbers from 1 to 16 are of clients.
+fn are_sixteen() -> bool {
     for number in 0..=255u8 {
-        let is_client = number >= 1 && number <= 16;
-        assert!(rt; Client::new(number).is_some() == is_client, "{number}");
-    }
-}
-
-const FIRST: Step = Step::Open(OF_0_75, 2048);
-
-const SECOND: Step = Step::Open(RIGHT_UP_TO_8, 2048);
-
-/// How a check that is alone ends, a unit at a time.
-fn end_alone(alloc: Global) -> End {
-    let mut desk = Desk::new(alloc);
-    match take(alloc, &mut desk, 1, FIRST) {
-        Said::Opened(1) => in_turn(alloc, &mut desk, [1, 1000]).0,
-        _ => (0, Said::Nothing),
-    }
-}
-
-fn ends_as_alone(rt: &impl Abort, alloc: Global, desk: &mut Desk, alone: End) {
-    assert!(rt; take(alloc, desk, 1, FIRST) == Said::Opened(1));
-    assert!(rt; take(alloc, desk, 2, SECOND) == Said::Opened(1));
-    let (one, two) = in_turn(alloc, desk, [1, 1000]);
-    assert!(rt; one == alone);
-    assert!(rt; two.1 == Said::No(7));
-    assert!(rt; two.0 <= 32, "{} times 1000 units", two.0);
-}
-
-fn opens_no_fifth(rt: &impl Abort, alloc: Global, desk: &mut Desk) {
-    for number in 2..=4u8 {
-        assert!(rt; take(alloc, desk, 1, FIRST) == Said::Opened(number));
-    }
-    assert!(rt; take(alloc, desk, 1, FIRST) == Said::Refused(20));
-    assert!(rt; take(alloc, desk, 2, Step::Work(1, 1)) == Said::No(7));
-    assert!(rt; take(alloc, desk, 2, SECOND) == Said::Opened(2));
-    assert!(rt; take(alloc, desk, 2, Step::Drop(0)) == Said::Refused(21));
-}
-
-/// Each gets what it gets alone, within the bounds on what such checks cost.
-#[test]
-fn works_in_turn(rt: HostRuntime) {
-    let alone = end_alone(rt.alloc());
-    assert!(rt; alone.1 == Said::Yes);
-    assert!(rt; alone.0 >= 592 && alone.0 <= 49104, "{} units", alone.0);
-    let mut desk = Desk::new(rt.alloc());
-    ends_as_alone(&rt, rt.alloc(), &mut desk, alone);
-    opens_no_fifth(&rt, rt.alloc(), &mut desk);
-}
-
-const OPEN: Step = Step::Open(OF_0_33, 100_000);
-
-/// Whether the client opens four jobs, and no fifth.
-fn opens_four(alloc: Global, desk: &mut Desk, client: u8) -> bool {
-    for number in 1..=4u8 {
-        if take(alloc, desk, client, OPEN) != Said::Opened(number) {
+        if Client::new(number).is_some() != (number >= 1 && number <= 16) {
             return false;
         }
     }
-    take(alloc, desk, client, OPEN) == Said::Refused(20)
+    true
+}
+
+const FIRST: Claim = (OF_0_75, 2048);
+
+const SECOND: Claim = (RIGHT_UP_TO_8, 2048);
+
+/// What is said where a check is opened alone, and how it ends, a unit at a time.
+fn end_alone(alloc: Global) -> (Said, End) {
+    let mut desk = Desk::new(alloc);
+    let opened = open(alloc, &mut desk, 1, FIRST);
+    (opened, in_turn(&mut desk, 1, 1000).0)
+}
+
+/// Whether a check beside another ends as alone, and the other within 32 times 1000 units.
+fn ends_as_alone(alloc: Global, desk: &mut Desk, alone: End) -> bool {
+    if open(alloc, desk, 1, FIRST) != OPENED | 1 || open(alloc, desk, 2, SECOND) != OPENED | 1 {
+        return false;
+    }
+    let (one, two) = in_turn(desk, 1, 1000);
+    are_equal(one, alone) & (two.1 == NO | 7) & (two.0 <= 32)
+}
+
+/// Whether a fifth job is refused to the one client, while the other goes on.
+fn opens_no_fifth(alloc: Global, desk: &mut Desk) -> bool {
+    fills(alloc, desk, 1, FIRST, 2)
+        & (work(desk, 2, 1, 1) == NO | 7)
+        & (open(alloc, desk, 2, SECOND) == OPENED | 2)
+        & (take(desk, 2, Event::Drop(0)) == REFUSED | 21)
+}
+
+/// Whether two clients get what each gets alone, and no fifth job.
+fn work_in_turn(alloc: Global, alone: End) -> bool {
+    let mut desk = Desk::new(alloc);
+    ends_as_alone(alloc, &mut desk, alone) & opens_no_fifth(alloc, &mut desk)
+}
+
+/// Whether a job that is alone says yes, within the bounds on what such a check costs.
+fn is_within(alone: End) -> bool {
+    (alone.1 == YES) & (alone.0 >= 592) & (alone.0 <= 49104)
+}
+
+/// Each gets what it gets alone.
+#[test]
+fn works_in_turn(rt: HostRuntime) {
+    let (opened, alone) = end_alone(rt.alloc());
+    assert!(rt; are_sixteen() & (opened == OPENED | 1) & is_within(alone));
+    assert!(rt; work_in_turn(rt.alloc(), alone));
 }
 
 /// What each of the 64 jobs says to one more unit, if all say the same.
-fn work_all(alloc: Global, desk: &mut Desk) -> Option<Said> {
-    let first = take(alloc, desk, 1, Step::Work(1, 1));
+fn work_all(desk: &mut Desk) -> Said {
+    let first = work(desk, 1, 1, 1);
     for other in 1..64u8 {
-        if take(alloc, desk, other / 4 + 1, Step::Work(other % 4 + 1, 1)) != first {
-            return None;
+        if work(desk, other / 4 + 1, other % 4 + 1, 1) != first {
+            return NOTHING;
         }
     }
-    Some(first)
+    first
 }
 
-/// After how many units all jobs have ended, and what all say then.
-fn end_of_all(alloc: Global, desk: &mut Desk) -> (u64, Option<Said>) {
+/// After how many units all jobs end with yes, and 0 if they don't.
+fn units_of_all(desk: &mut Desk) -> u64 {
     for units in 1..100_000u64 {
-        let said = work_all(alloc, desk);
-        if said != Some(Said::Going) {
-            return (units, said);
+        let said = work_all(desk);
+        if said != GOING {
+            return if said == YES { units } else { 0 };
         }
     }
-    (0, None)
+    0
+}
+
+/// After how many units four jobs of each of 16 clients end with yes, and 0 if they don't.
+fn units_of_sixteen(alloc: Global) -> u64 {
+    let mut desk = Desk::new(alloc);
+    for client in 1..=16u8 {
+        if !fills(alloc, &mut desk, client, (OF_0_33, 100_000), 1) {
+            return 0;
+        }
+    }
+    units_of_all(&mut desk)
 }
 
 /// All jobs of the same bytes and limit say the same after as many units.
 #[test]
 fn counts_each_jobs_units(rt: HostRuntime) {
-    let mut desk = Desk::new(rt.alloc());
-    for client in 1..=16u8 {
-        assert!(rt; opens_four(rt.alloc(), &mut desk, client), "{client}");
-    }
-    let (units, said) = end_of_all(rt.alloc(), &mut desk);
-    assert!(rt; said == Some(Said::Yes), "{units}");
-    assert!(rt; units >= 6 * 6 * 6 + 6 * 4, "{units}");
+    assert!(rt; units_of_sixteen(rt.alloc()) >= 6 * 6 * 6 + 6 * 4);
 }
 
-const SMALL: Step = Step::Open(OF_0_33, 1000);
-
-/// What a first client is told, of its open and of its work.
-fn begin<A: Room + Copy>(alloc: A, desk: &mut Desk<A>) -> (Said, Said) {
-    let opened = take(alloc, desk, 1, SMALL);
-    (opened, take(alloc, desk, 1, Step::Work(1, u64::MAX)))
-}
-
-/// Whether the first client may be told so, where a growth was refused to it or none was.
-fn may_be_told(first: (Said, Said), has_refused: bool) -> bool {
-    match (has_refused, first.0) {
-        (false, _) => first.1 == Said::Yes,
-        (true, Said::Opened(_)) => first.1 == Said::No(9),
-        (true, _) => first == (Said::Refused(9), Said::Refused(21)),
-    }
-}
+const SMALL: Claim = (OF_0_33, 1000);
 
 /// Whether each other client is told yes.
 fn others_go_on<A: Room + Copy>(alloc: A, desk: &mut Desk<A>) -> bool {
     for client in 2..=16u8 {
-        let opened = take(alloc, desk, client, SMALL);
-        let worked = take(alloc, desk, client, Step::Work(1, u64::MAX));
-        if (opened, worked) != (Said::Opened(1), Said::Yes) {
+        if open(alloc, desk, client, SMALL) != OPENED | 1
+            || work(desk, client, 1, u64::MAX) != YES
+        {
             return false;
         }
     }
     true
+}
+
+/// Whether the first client may be told so, of its open and of its work, where a growth was refused
+/// to it or none was.
+fn may_be_told(opened: Said, worked: Said, has_refused: bool) -> bool {
+    if !has_refused {
+        worked == YES
+    } else if opened == OPENED | 1 {
+        worked == NO | 9
+    } else {
+        opened == REFUSED | 9 && worked == REFUSED | 21
+    }
 }
 
 /// Whether all are told what they may be, and whether the growth of this number was refused, to the
@@ -219,27 +224,33 @@ fn others_go_on<A: Room + Copy>(alloc: A, desk: &mut Desk<A>) -> bool {
 fn share_with(alloc: Global, refused: u64) -> (bool, bool, bool) {
     let (ample, ration) = (Ration::new(alloc, 0), Ration::new(alloc, refused));
     let mut desk = Desk::new(&ration);
-    let first = begin(&ample, &mut desk);
+    let opened = open(&ample, &mut desk, 1, SMALL);
+    let worked = work(&mut desk, 1, 1, u64::MAX);
     let has_refused = ration.has_refused();
-    let others = others_go_on(&ample, &mut desk);
-    let again = take(&ample, &mut desk, 1, Step::Work(1, 0)) == first.1;
-    let is_fair = may_be_told(first, has_refused) && others && again;
+    let is_fair = may_be_told(opened, worked, has_refused)
+        & others_go_on(&ample, &mut desk)
+        & (work(&mut desk, 1, 1, 0) == worked);
     (is_fair, has_refused, ration.has_refused())
+}
+
+/// The first growth that the first client doesn't need, if the others need none then, and all are
+/// told what they may be, and else 0.
+fn first_unshared(alloc: Global) -> u64 {
+    for n in 1..400u64 {
+        match share_with(alloc, n) {
+            (true, false, false) => return n,
+            (true, true, _) => {}
+            _ => return 0,
+        }
+    }
+    0
 }
 
 /// After the yes of one client's job the others' equal jobs take no memory; and where a growth was
 /// refused to that one, they say yes.
 #[test]
 fn shares_a_check(rt: HostRuntime) {
-    for n in 1..400u64 {
-        let (is_fair, at_first, at_all) = share_with(rt.alloc(), n);
-        assert!(rt; is_fair, "at {n}");
-        if !at_first {
-            assert!(rt; !at_all && n > 5, "at {n}");
-            return;
-        }
-    }
-    panic!(rt; "growths go on");
+    assert!(rt; first_unshared(rt.alloc()) > 5);
 }
 
 /// What two clients are told that open equal jobs, how these end, and whether the growth of this
@@ -247,33 +258,56 @@ fn shares_a_check(rt: HostRuntime) {
 fn end_with(alloc: Global, refused: u64) -> ((Said, Said), (End, End), bool) {
     let (ample, ration) = (Ration::new(alloc, 0), Ration::new(alloc, refused));
     let mut desk = Desk::new(&ration);
-    let first = take(&ample, &mut desk, 1, SMALL);
-    let second = take(&ample, &mut desk, 2, SMALL);
-    let ends = in_turn(&ample, &mut desk, [50, 70]);
+    let first = open(&ample, &mut desk, 1, SMALL);
+    let second = open(&ample, &mut desk, 2, SMALL);
+    let ends = in_turn(&mut desk, 50, 70);
     ((first, second), ends, ration.has_refused())
 }
 
 /// Whether one of the jobs ended for want of memory, and the other as it should.
 fn is_kept_to_one(ends: (End, End), wanted: (End, End)) -> bool {
-    let is_to_one = ends.0.1 == Said::No(9) && ends.1 == wanted.1;
-    is_to_one || ends.1.1 == Said::No(9) && ends.0 == wanted.0
+    let is_to_one = ends.0.1 == NO | 9 && are_equal(ends.1, wanted.1);
+    is_to_one || ends.1.1 == NO | 9 && are_equal(ends.0, wanted.0)
+}
+
+/// Whether the jobs end as they should where the growth of this number is refused, and whether it
+/// was.
+fn are_kept(alloc: Global, refused: u64, wanted: (End, End)) -> (bool, bool) {
+    let (opened, ends, has_refused) = end_with(alloc, refused);
+    let are_kept = if has_refused {
+        opened.0 == REFUSED | 9 || is_kept_to_one(ends, wanted)
+    } else {
+        are_equal(ends.0, wanted.0) & are_equal(ends.1, wanted.1)
+    };
+    (are_kept & (opened.1 == OPENED | 1), has_refused)
+}
+
+/// The first growth that two equal jobs don't need, if they are kept apart at each before, and
+/// else 0.
+fn first_kept(alloc: Global, wanted: (End, End)) -> u64 {
+    for n in 1..400u64 {
+        match are_kept(alloc, n, wanted) {
+            (true, false) => return n,
+            (true, true) => {}
+            _ => return 0,
+        }
+    }
+    0
+}
+
+/// The same, if they say yes where none is refused.
+fn first_not_needed(alloc: Global) -> u64 {
+    let (opened, wanted, _) = end_with(alloc, 0);
+    let are_opened = (opened.0 == OPENED | 1) & (opened.1 == OPENED | 1);
+    if are_opened & (wanted.0.1 == YES) & (wanted.1.1 == YES) {
+        first_kept(alloc, wanted)
+    } else {
+        0
+    }
 }
 
 /// Want of memory in one client's work leaves the other's job its units and its answer.
 #[test]
 fn keeps_want_of_memory_to_one_job(rt: HostRuntime) {
-    let (opened, wanted, _) = end_with(rt.alloc(), 0);
-    assert!(rt; opened == (Said::Opened(1), Said::Opened(1)));
-    assert!(rt; (wanted.0.1, wanted.1.1) == (Said::Yes, Said::Yes));
-    for n in 1..400u64 {
-        let (opened, ends, has_refused) = end_with(rt.alloc(), n);
-        assert!(rt; opened.1 == Said::Opened(1), "at {n}");
-        if !has_refused {
-            assert!(rt; ends == wanted && n > 5, "at {n}");
-            return;
-        }
-        let is_unopened = opened.0 == Said::Refused(9);
-        assert!(rt; is_unopened || is_kept_to_one(ends, wanted), "at {n}");
-    }
-    panic!(rt; "growths go on");
+    assert!(rt; first_not_needed(rt.alloc()) > 5);
 }

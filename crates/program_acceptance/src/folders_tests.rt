@@ -2,7 +2,6 @@
 mod ram;
 
 use self::ram::RamDisk;
-use allocation::Memory;
 use folders::{FileFault, Folder, HostFolder, MemoryFolder, replace};
 use std::alloc::Global;
 use std::fs;
@@ -16,102 +15,119 @@ fn is_read_as<F: Folder>(folder: &mut F, name: &str, text: &str) -> Result<bool,
     }
 }
 
+/// Whether there is no such file.
+fn is_absent<F: Folder>(folder: &mut F, name: &str) -> bool {
+    matches!(is_read_as(folder, name, ""), Err(FileFault::Device))
+}
+
 /// Whether the file is read as the text, and lent so.
 fn holds(folder: &mut MemoryFolder, name: &str, text: &str) -> bool {
-    is_read_as(folder, name, text) == Ok(true) && folder.bytes(name) == Some(text.as_bytes())
+    matches!(is_read_as(folder, name, text), Ok(true))
+        && folder.bytes(name) == Some(text.as_bytes())
 }
 
-fn fill(folder: &mut MemoryFolder) -> Result<(), FileFault> {
-    folder.put("a", b"one")?;
-    folder.put("b", b"two")?;
-    folder.write("a", b"three")?;
-    folder.write("c", b"")
+/// Whether three files are written, one of them again.
+fn fills(folder: &mut MemoryFolder) -> bool {
+    folder.put("a", b"one").is_ok()
+        & folder.put("b", b"two").is_ok()
+        & folder.write("a", b"three").is_ok()
+        & folder.write("c", b"").is_ok()
 }
 
-#[test]
-fn keeps_what_is_written(rt: HostRuntime) {
-    let mut folder = MemoryFolder::new(rt.alloc());
-    let absent = is_read_as(&mut folder, "a", "");
-    let is_filled = fill(&mut folder).is_ok();
-    assert!(rt; absent == Err(FileFault::Device) && is_filled);
-    for (name, held) in [("a", "three"), ("b", "two"), ("c", "")] {
-        assert!(rt; holds(&mut folder, name, held), "of {name}");
-    }
-    assert!(rt; folder.bytes("d").is_none());
+/// Whether what is written is kept, and nothing else.
+fn keeps_what_is_written(alloc: Global) -> bool {
+    let mut folder = MemoryFolder::new(alloc);
+    is_absent(&mut folder, "a")
+        & fills(&mut folder)
+        & holds(&mut folder, "a", "three")
+        & holds(&mut folder, "b", "two")
+        & holds(&mut folder, "c", "")
+        & folder.bytes("d").is_none()
 }
 
-/// Reads, writes and reads a file, and says which of the calls failed.
-fn three_calls(folder: &mut MemoryFolder) -> [bool; 3] {
-    let first = folder.read("a").is_err();
-    let second = folder.write("a", b"two").is_err();
-    let third = folder.read("a").is_err();
-    [first, second, third]
-}
+/// The call that fails, which of three calls fail then, and what the file holds behind them.
+static CALLS: [(u64, [bool; 3], &str); 4] = [
+    (1, [true, false, false], "two"),
+    (2, [false, true, false], "one"),
+    (3, [false, false, true], "two"),
+    (4, [false, false, false], "two"),
+];
 
-/// Which of the calls fail, and whether the file holds the text then.
-fn failed_calls(alloc: Global, number: u64, held: &str) -> Option<([bool; 3], bool)> {
+/// Whether just these fail of reading, writing and reading a file, and the text is held then.
+fn fails_so(alloc: Global, number: u64, failed: &[bool; 3], held: &str) -> bool {
     let mut folder = MemoryFolder::failing(alloc, number);
-    folder.put("a", b"one").ok()?;
-    let calls = three_calls(&mut folder);
-    Some((calls, folder.bytes("a") == Some(held.as_bytes())))
+    folder.put("a", b"one").is_ok()
+        & (folder.read("a").is_err() == failed[0])
+        & (folder.write("a", b"two").is_err() == failed[1])
+        & (folder.read("a").is_err() == failed[2])
+        & (folder.bytes("a") == Some(held.as_bytes()))
 }
 
-#[test]
-fn fails_at_one_call(rt: HostRuntime) {
-    let rows = [
-        (1, [true, false, false], "two"),
-        (2, [false, true, false], "one"),
-        (3, [false, false, true], "two"),
-        (4, [false, false, false], "two"),
-    ];
+/// How many rows hold.
+fn count_failed(alloc: Global, rows: &[(u64, [bool; 3], &str)]) -> usize {
+    let mut count = 0usize;
     for (number, failed, held) in rows {
-        let calls = failed_calls(rt.alloc(), number, held);
-        assert!(rt; calls == Some((failed, true)), "at {number}");
+        if fails_so(alloc, *number, failed, held) {
+            count = count.saturating_add(1);
+        }
     }
+    count
 }
 
-/// A file, and another's file under the first name that is tried beside it.
-fn put_both(disk: &mut RamDisk) -> Result<(), Memory> {
-    disk.keep("a", b"old text")?;
-    disk.keep("a.1.new", b"of another")
-}
+/// The step that fails, whether the file is replaced then, and what it holds.
+static STEPS: [(u64, bool, &str); 5] = [
+    (1, false, "old text"),
+    (2, false, "old text"),
+    (3, false, "old text"),
+    (4, false, "old text"),
+    (5, true, "new text"),
+];
 
-/// Whether the files hold these texts, and there is no other.
+/// Whether there is the file, another's file under the first name that is tried beside it, and no
+/// other.
 fn holds_both(disk: &RamDisk, held: &str) -> bool {
-    disk.bytes("a") == Some(held.as_bytes())
-        && disk.bytes("a.1.new") == Some(b"of another".as_slice())
-        && disk.len() == 2
+    disk.holds("a", held) & disk.holds("a.1.new", "of another") & (disk.len() == 2)
 }
 
-/// Replaces the file, and says whether that succeeds, and whether the text is held then beside the
-/// other file.
-fn replaced(alloc: Global, number: u64, held: &str) -> Option<(bool, bool)> {
+/// Whether the file is replaced or not, and the text is held then beside the other file.
+fn replaces(alloc: Global, number: u64, done: bool, held: &str) -> bool {
     let mut disk = RamDisk::failing(alloc, number);
-    put_both(&mut disk).ok()?;
-    let done = replace(alloc, &mut disk, "a", b"new text").is_ok();
-    Some((done, holds_both(&disk, held)))
+    disk.keep("a", b"old text")
+        & disk.keep("a.1.new", b"of another")
+        & (replace(alloc, &mut disk, "a", b"new text").is_ok() == done)
+        & holds_both(&disk, held)
+}
+
+/// How many rows hold.
+fn count_replaced(alloc: Global, rows: &[(u64, bool, &str)]) -> usize {
+    let mut count = 0usize;
+    for (number, done, held) in rows {
+        if replaces(alloc, *number, *done, held) {
+            count = count.saturating_add(1);
+        }
+    }
+    count
 }
 
 #[test]
-fn replaces_whole_or_not_at_all(rt: HostRuntime) {
-    let rows = [
-        (1, false, "old text"),
-        (2, false, "old text"),
-        (3, false, "old text"),
-        (4, false, "old text"),
-        (5, true, "new text"),
-    ];
-    for (number, done, held) in rows {
-        assert!(rt;
-            replaced(rt.alloc(), number, held) == Some((done, true)),
-            "at {number}"
-        );
-    }
+fn files_in_memory(rt: HostRuntime) {
+    assert!(rt; keeps_what_is_written(rt.alloc()) & (count_failed(rt.alloc(), &CALLS) == 4));
+    assert!(rt; count_replaced(rt.alloc(), &STEPS) == 5);
 }
 
 /// Whether the text is written, and read again.
 fn keeps<F: Folder>(folder: &mut F, name: &str, text: &str) -> bool {
-    folder.write(name, text.as_bytes()).is_ok() && is_read_as(folder, name, text) == Ok(true)
+    folder.write(name, text.as_bytes()).is_ok()
+        && matches!(is_read_as(folder, name, text), Ok(true))
+}
+
+/// Whether a file that isn't there is made, and replaced twice, and none is in no folder.
+fn is_replaced<F: Folder>(folder: &mut F, name: &str) -> bool {
+    is_absent(folder, name)
+        & keeps(folder, name, "a longer text")
+        & keeps(folder, name, "a text")
+        & keeps(folder, name, "")
+        & matches!(folder.write("/nowhere/a", b"x"), Err(FileFault::Device))
 }
 
 #[test]
@@ -122,12 +138,7 @@ fn replaces_on_the_machine(rt: HostRuntime) -> Result<(), Fail> {
         place.as_str(),
         std::process::id(rt.process())
     )?;
-    let mut folder = HostFolder::new(&rt);
-    assert!(rt; is_read_as(&mut folder, name.as_str(), "") == Err(FileFault::Device));
-    for text in ["a longer text", "a text", ""] {
-        assert!(rt; keeps(&mut folder, name.as_str(), text), "{text}");
-    }
+    assert!(rt; is_replaced(&mut HostFolder::new(&rt), name.as_str()));
     fs::remove_file(&rt, name.as_str())?;
-    assert!(rt; folder.write("/nowhere/a", b"x") == Err(FileFault::Device));
     Ok(())
 }

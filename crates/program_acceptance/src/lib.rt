@@ -21,7 +21,7 @@ mod devices_tests;
 #[cfg(test)]
 mod folders_tests;
 #[cfg(test)]
-mod jobs;
+mod growths;
 #[cfg(test)]
 mod play_command_tests;
 #[cfg(test)]

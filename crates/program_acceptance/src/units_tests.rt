@@ -1,49 +1,108 @@
 //! What checks cost, however their units are cut.
 use crate::certificates::{OF_0_3, OF_0_33, OF_0_75, RIGHT_UP_TO_8};
-use crate::jobs::{GOING, ran};
-use std::test::Fail;
+use checker::{Job, Progress};
+use std::alloc::Global;
+
+/// The number of a job that has not ended.
+const GOING: u8 = 255;
+
+/// The number of where a job stands, 0 for a yes.
+fn number_of(progress: Progress<'_>) -> u8 {
+    match progress {
+        Progress::Going => GOING,
+        Progress::Yes(_) => 0,
+        Progress::No(refusal) => refusal.number(),
+    }
+}
+
+/// Whether the job stands so.
+fn stands(job: &Job, number: u8, spent: u64) -> bool {
+    (number_of(job.progress()) == number) & (job.spent() == spent)
+}
+
+/// Gives a job so many units again and again until it ends, at most 100000 times. After how many
+/// turns the units spent were those given.
+fn work_to_the_end(job: &mut Job, units: u64) -> u64 {
+    let mut counted = 0u64;
+    for turn in 1..=100000u64 {
+        let number = number_of(job.work(units));
+        if job.spent() == turn.saturating_mul(units) {
+            counted = counted.saturating_add(1);
+        }
+        if number != GOING {
+            break;
+        }
+    }
+    counted
+}
+
+/// A certificate and the limit, how many units are given at a turn and how many when the job begins
+/// again, the number of the end, and the bounds on what is spent.
+type Row = (&'static str, u32, u64, u64, u8, u64, u64);
 
 /// With q the order, n0 the start, p the period, k + 1 the length of the code and B = 2·n0 + 2·p +
 /// k, a check costs at most 2q³ + q² + q(n0 + p) + p² + (k + 1)B² + Bq² + B·limit + 16, and for a
 /// yes at least q³ + q(n0 + p): what stands here was worked out by hand, and of 0.33 less than that
-/// most. A turn spends its unit, and behind the end none is spent.
-#[test]
-fn stays_within_the_bounds(rt: HostRuntime) -> Result<(), Fail> {
-    for (text, limit, units, number, least, most) in [
-        (OF_0_3, 1u32, 1u64, 8u8, 1u64, 179u64),
-        (OF_0_3, 8, 1, 0, 14, 228),
-        (OF_0_33, 100, 1, 0, 240, 1999),
-        (OF_0_75, 2048, 1, 0, 592, 49104),
-        (RIGHT_UP_TO_8, 2048, 1000, 7, 1, 31312),
-        ("mqc 1\n", 2048, 1, 1, 1, 16),
-    ] {
-        let run = ran(rt.alloc(), text.as_bytes(), limit, units, units)?;
-        let (said, spent) = run.ended;
-        assert!(rt; said == number && run.past == run.ended, "{said}");
-        assert!(rt; units > 1 || run.counted == spent, "{spent}");
-        assert!(rt; least <= spent && spent <= most, "{spent}");
-    }
-    Ok(())
+/// most.
+static ROWS: [Row; 13] = [
+    (OF_0_3, 1, 1, 1, 8, 1, 179),
+    (OF_0_3, 8, 1, 1, 0, 14, 228),
+    (OF_0_33, 100, 1, 1, 0, 240, 1999),
+    (OF_0_75, 2048, 1, 1, 0, 592, 49104),
+    (RIGHT_UP_TO_8, 2048, 1000, 1000, 7, 1, 31312),
+    ("mqc 1\n", 2048, 1, 1, 1, 1, 16),
+    (OF_0_33, 100, u64::MAX, 7, 0, 240, 1999),
+    (OF_0_75, 2048, u64::MAX, 1, 0, 592, 49104),
+    (OF_0_75, 2048, u64::MAX, 7, 0, 592, 49104),
+    (OF_0_75, 2048, u64::MAX, 1000, 0, 592, 49104),
+    (RIGHT_UP_TO_8, 2048, u64::MAX, 1, 7, 1, 31312),
+    (RIGHT_UP_TO_8, 2048, u64::MAX, 7, 7, 1, 31312),
+    (RIGHT_UP_TO_8, 2048, u64::MAX, 1000, 7, 1, 31312),
+];
+
+/// Whether the job ends so within the bounds. A turn spends its unit, and behind the end none is
+/// spent.
+fn ends(job: &mut Job, row: &Row) -> bool {
+    let (_, _, units, _, number, least, most) = *row;
+    let counted = work_to_the_end(job, units);
+    let spent = job.spent();
+    stands(job, number, spent)
+        & (number_of(job.work(1)) == number)
+        & (job.spent() == spent)
+        & ((units > 1) | (counted == spent))
+        & (least <= spent)
+        & (spent <= most)
 }
 
-/// A job that is to begin again has spent nothing, and it ends as it did.
-#[test]
-fn costs_the_same_however_the_units_are_cut(rt: HostRuntime) -> Result<(), Fail> {
-    for (text, limit, number, units) in [
-        (OF_0_33, 100u32, 0u8, 7u64),
-        (OF_0_75, 2048, 0, 1),
-        (OF_0_75, 2048, 0, 7),
-        (OF_0_75, 2048, 0, 1000),
-        (RIGHT_UP_TO_8, 2048, 7, 1),
-        (RIGHT_UP_TO_8, 2048, 7, 7),
-        (RIGHT_UP_TO_8, 2048, 7, 1000),
-    ] {
-        let run = ran(rt.alloc(), text.as_bytes(), limit, u64::MAX, units)?;
-        assert!(rt;
-            run.ended.0 == number && run.begun == (GOING, 0),
-            "by {units}"
-        );
-        assert!(rt; run.ended_again == run.ended, "by {units}");
+/// Whether the job, once it is to begin again, has spent nothing, and ends as it did.
+fn ends_again(job: &mut Job, units: u64, number: u8) -> bool {
+    let spent = job.spent();
+    job.again();
+    let begins = stands(job, GOING, 0);
+    work_to_the_end(job, units);
+    begins & stands(job, number, spent)
+}
+
+/// Whether the job runs as the row says.
+fn is_held(mut job: Job, row: &Row) -> bool {
+    ends(&mut job, row) & ends_again(&mut job, row.3, row.4)
+}
+
+/// How many rows hold.
+fn count_held(alloc: Global, rows: &[Row]) -> usize {
+    let mut count = 0usize;
+    for row in rows {
+        let Ok(bytes) = row.0.as_bytes().to_vec(alloc) else {
+            return count;
+        };
+        if is_held(Job::open(alloc, bytes, row.1), row) {
+            count = count.saturating_add(1);
+        }
     }
-    Ok(())
+    count
+}
+
+#[test]
+fn costs_the_same_within_the_bounds(rt: HostRuntime) {
+    assert!(rt; count_held(rt.alloc(), &ROWS) == 13);
 }

@@ -1,10 +1,11 @@
 //! Certificates against their games, by loops of their own.
-use super::{LIMIT, checked};
-use crate::certificates::sample;
+use super::checked;
+use crate::certificates::{LIMIT, OF_0_1, OF_0_3, OF_0_33, OF_0_75, REFUTED};
 use certificate::{Cert, read};
+use command_results::Said;
 use outcome_search::{Outcome, outcome};
 use positions::{LARGEST, Left, Position, options};
-use std::alloc::{AllocError, Global};
+use std::alloc::Global;
 
 fn times(cert: &Cert, x: u16, y: u16) -> u16 {
     let at = x as usize * cert.order() as usize + y as usize;
@@ -43,25 +44,32 @@ fn rule_fails(cert: &Cert, heaps: &[u64]) -> bool {
     cert.portion().contains(&value(cert, 0, heaps)) != (can_move && !can_win)
 }
 
-/// The next rising list of sizes whose sum is at most `most`.
-fn next(heaps: &mut Vec<u64>, most: u64) -> Result<bool, AllocError> {
-    let sum = |heaps: &[u64]| heaps.iter().fold(0u64, |sum, n| sum.saturating_add(*n));
+/// Adds a heap, and takes it from the room.
+fn add(heaps: &mut Vec<u64>, room: &mut u64, heap: u64) -> bool {
+    *room = room.saturating_sub(heap);
+    heaps.push(heap).is_ok()
+}
+
+/// Takes a heap away, and gives it to the room.
+fn take(heaps: &mut Vec<u64>, room: &mut u64) -> u64 {
+    let last = heaps.pop().unwrap_or(0);
+    *room = room.saturating_add(last);
+    last
+}
+
+/// The next rising list of sizes that has room.
+fn next(heaps: &mut Vec<u64>, room: &mut u64) -> bool {
     let last = heaps.last().copied().unwrap_or(1);
-    if sum(heaps).saturating_add(last) <= most {
-        heaps.push(last)?;
-        return Ok(true);
+    if last <= *room {
+        return add(heaps, room, last);
     }
     for _ in 0..heaps.len() {
-        let Some(last) = heaps.pop() else {
-            break;
-        };
-        let larger = last.saturating_add(1);
-        if sum(heaps).saturating_add(larger) <= most {
-            heaps.push(larger)?;
-            return Ok(true);
+        let last = take(heaps, room);
+        if last < *room {
+            return add(heaps, room, last.saturating_add(1));
         }
     }
-    Ok(false)
+    false
 }
 
 /// Adds the heaps to the position.
@@ -76,75 +84,98 @@ fn push_all(position: &mut Position, heaps: &[u64]) -> bool {
 
 /// Whether the search finds what the values say of the position.
 fn agrees(alloc: Global, cert: &Cert, heaps: &[u64]) -> bool {
-    let mut position = Position::new(alloc);
     let is_p = cert.portion().contains(&value(cert, 0, heaps));
     let wanted = if is_p { Outcome::P } else { Outcome::N };
+    let mut position = Position::new(alloc);
     push_all(&mut position, heaps) && outcome(alloc, cert.code(), &position, 65536) == Ok(wanted)
 }
 
-/// How many positions there are, from these heaps on, if the search agrees at each.
-fn count_from(alloc: Global, cert: &Cert, heaps: &mut Vec<u64>) -> Option<usize> {
+/// How many positions there are, from these heaps on with room for 20 more, if the search agrees at
+/// each, and else 0.
+fn count_from(alloc: Global, cert: &Cert, heaps: &mut Vec<u64>) -> usize {
+    let mut room = 20u64;
     for count in 1..10000usize {
         if !agrees(alloc, cert, heaps) {
-            return None;
+            return 0;
         }
-        if !next(heaps, 20).ok()? {
-            return Some(count);
+        if !next(heaps, &mut room) {
+            return count;
         }
     }
-    None
+    0
 }
 
-/// How many positions there are up to 20 in all, if the search agrees at each.
-fn count_of(alloc: Global, name: &str) -> Option<usize> {
-    let cert = read(alloc, sample(name)?).ok()?;
-    let mut heaps = Vec::new(alloc);
-    count_from(alloc, &cert, &mut heaps)
+/// How many positions there are up to 20 in all, if the search agrees at each, and else 0.
+fn count_of(alloc: Global, held: &str) -> usize {
+    match read(alloc, held.as_bytes()) {
+        Ok(cert) => count_from(alloc, &cert, &mut Vec::new(alloc)),
+        Err(_) => 0,
+    }
 }
+
+/// How many certificates the search agrees with at each of 2714 positions.
+fn count_agreed(alloc: Global, certificates: &[&str]) -> usize {
+    let mut count = 0usize;
+    for held in certificates {
+        if count_of(alloc, held) == 2714 {
+            count = count.saturating_add(1);
+        }
+    }
+    count
+}
+
+/// The place in the text of a refutation; nothing, if it is none.
+fn place_in(text: &[u8]) -> &[u8] {
+    let rest = text
+        .strip_prefix(b"no 7 Outcome\nrule fails at ")
+        .unwrap_or(b"");
+    let place = rest
+        .strip_suffix(b"\noutcome P\n")
+        .or(rest.strip_suffix(b"\noutcome N\n"));
+    place.unwrap_or(b"")
+}
+
+/// Whether the certificate's rule fails at the place.
+fn fails_at(alloc: Global, cert: &Cert, place: &[u8]) -> bool {
+    match Position::read(alloc, place) {
+        Ok(position) => rule_fails(cert, position.heaps()),
+        Err(_) => false,
+    }
+}
+
+/// Whether the file's rule fails at the place.
+fn file_fails_at(alloc: Global, held: &str, place: &[u8]) -> bool {
+    match read(alloc, held.as_bytes()) {
+        Ok(cert) => fails_at(alloc, &cert, place),
+        Err(_) => false,
+    }
+}
+
+/// Whether a no refutes the file at a place where its rule fails.
+fn is_refutation(alloc: Global, held: &str, said: &Said) -> bool {
+    !said.well && file_fails_at(alloc, held, place_in(&said.text))
+}
+
+/// How many certificates are refuted, each at a place where its rule fails.
+fn count_refuted(alloc: Global, rows: &[(&str, &str)]) -> usize {
+    let mut count = 0usize;
+    for (name, held) in rows {
+        match checked(alloc, name, held, LIMIT) {
+            Some(said) if is_refutation(alloc, held, &said) => count = count.saturating_add(1),
+            _ => return count,
+        }
+    }
+    count
+}
+
+static RIGHT: [&str; 4] = [OF_0_3, OF_0_33, OF_0_75, OF_0_1];
 
 #[test]
 fn searches_agree_with_values(rt: HostRuntime) {
-    for name in ["0.3.mqc", "0.33.mqc", "0.75.mqc", "0.1.mqc"] {
-        assert!(rt; count_of(rt.alloc(), name) == Some(2714), "{name}");
-    }
-}
-
-/// The place in the text of a refutation, if it is one.
-fn place_in(text: &str) -> Option<&str> {
-    let mut lines = text.lines();
-    if lines.next()? != "no 7 Outcome" {
-        return None;
-    }
-    let place = lines.next()?.strip_prefix("rule fails at ")?;
-    let last = lines.next()?;
-    let is_whole = (last == "outcome P" || last == "outcome N") && lines.next().is_none();
-    if is_whole { Some(place) } else { None }
-}
-
-/// Whether the sample's rule fails at the place.
-fn fails_at(alloc: Global, name: &str, place: &str) -> Option<bool> {
-    let position = Position::read(alloc, place.as_bytes()).ok()?;
-    let cert = read(alloc, sample(name)?).ok()?;
-    Some(rule_fails(&cert, position.heaps()))
-}
-
-/// Whether the sample is refuted at a place where its rule fails.
-fn is_refuted(alloc: Global, name: &str) -> Option<bool> {
-    let said = checked(alloc, name, LIMIT)?;
-    let fails = fails_at(alloc, name, place_in(str::from_utf8(&said.text).ok()?)?)?;
-    Some(fails && !said.well)
+    assert!(rt; count_agreed(rt.alloc(), &RIGHT) == 4);
 }
 
 #[test]
 fn refuting_positions_refute(rt: HostRuntime) {
-    let names = [
-        "outcome_at_the_empty_position.mqc",
-        "outcome_at_two_ones.mqc",
-        "outcome_option_in_portion.mqc",
-        "outcome_right_up_to_heap_8.mqc",
-        "outcome_without_moves.mqc",
-    ];
-    for name in names {
-        assert!(rt; is_refuted(rt.alloc(), name) == Some(true), "{name}");
-    }
+    assert!(rt; count_refuted(rt.alloc(), &REFUTED) == 5);
 }

@@ -1,6 +1,5 @@
 //! A disk in memory of which one step fails: making a file, writing it, waiting for it, or giving
 //! it its name.
-use allocation::Memory;
 use folders::{Disk, StageFault};
 use std::alloc::Global;
 use std::collections::BTreeMap;
@@ -23,59 +22,80 @@ impl RamDisk {
         }
     }
 
-    pub fn keep(&mut self, name: &str, bytes: &[u8]) -> Result<(), Memory> {
-        let key = String::from_str(self.alloc, name)?;
-        let bytes = bytes.to_vec(self.alloc)?;
-        self.files.insert(key, bytes)?;
-        Ok(())
+    /// Whether memory suffices to keep the file.
+    pub fn keep(&mut self, name: &str, bytes: &[u8]) -> bool {
+        match String::from_str(self.alloc, name) {
+            Ok(key) => self.keep_as(key, bytes),
+            Err(_) => false,
+        }
     }
 
-    pub fn bytes(&self, name: &str) -> Option<&[u8]> {
-        self.files.get(name).map(|bytes| bytes.as_slice())
+    fn keep_as(&mut self, key: String, bytes: &[u8]) -> bool {
+        match bytes.to_vec(self.alloc) {
+            Ok(bytes) => self.files.insert(key, bytes).is_ok(),
+            Err(_) => false,
+        }
+    }
+
+    /// Whether there is the file, with this text.
+    pub fn holds(&self, name: &str, text: &str) -> bool {
+        match self.files.get(name) {
+            Some(bytes) => bytes.as_slice() == text.as_bytes(),
+            None => false,
+        }
     }
 
     pub fn len(&self) -> usize {
         self.files.len()
     }
 
-    fn step(&mut self) -> Result<(), DeviceFault> {
+    /// Whether the next step is done.
+    fn steps(&mut self) -> bool {
         let fails = self.until == 1;
         self.until = self.until.saturating_sub(1);
-        if fails { Err(DeviceFault) } else { Ok(()) }
+        !fails
     }
 
     /// Makes the file, writes it, and waits for it.
-    fn fill(&mut self, name: &str, bytes: &[u8]) -> Result<(), DeviceFault> {
-        self.step()?;
-        self.keep(name, b"").or(Err(DeviceFault))?;
-        self.step()?;
-        self.keep(name, &bytes[..bytes.len() / 2])
-            .or(Err(DeviceFault))?;
-        self.step()?;
-        self.keep(name, bytes).or(Err(DeviceFault))
+    fn fill(&mut self, name: &str, bytes: &[u8]) -> bool {
+        self.steps()
+            && self.keep(name, b"")
+            && self.steps()
+            && self.keep(name, &bytes[..bytes.len() / 2])
+            && self.steps()
+            && self.keep(name, bytes)
     }
+
+    /// Gives the file the name.
+    fn give(&mut self, from: &str, to: &str) -> bool {
+        match self.files.remove(from) {
+            Some(bytes) => self.keep(to, &bytes),
+            None => false,
+        }
+    }
+}
+
+fn device(is_done: bool) -> Result<(), DeviceFault> {
+    if is_done { Ok(()) } else { Err(DeviceFault) }
 }
 
 impl Disk for RamDisk {
     fn stage(&mut self, name: &str, bytes: &[u8]) -> Result<(), StageFault> {
-        if self.bytes(name).is_some() {
+        if self.files.get(name).is_some() {
             return Err(StageFault::Taken);
         }
-        self.fill(name, bytes).or(Err(StageFault::Device))
+        if self.fill(name, bytes) {
+            Ok(())
+        } else {
+            Err(StageFault::Device)
+        }
     }
 
     fn rename(&mut self, from: &str, to: &str) -> Result<(), DeviceFault> {
-        self.step()?;
-        match self.files.remove(from) {
-            Some(bytes) => self.keep(to, bytes.as_slice()).or(Err(DeviceFault)),
-            None => Err(DeviceFault),
-        }
+        device(self.steps() && self.give(from, to))
     }
 
     fn remove(&mut self, name: &str) -> Result<(), DeviceFault> {
-        match self.files.remove(name) {
-            Some(_) => Ok(()),
-            None => Err(DeviceFault),
-        }
+        device(self.files.remove(name).is_some())
     }
 }
