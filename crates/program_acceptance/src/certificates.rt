@@ -199,5 +199,5 @@ pub fn folder_of(alloc: Global, name: &str, held: &str, failing: u64) -> Option<
 
 /// Whether this is said, and well unless it is a no.
 pub fn is_said(said: &Said, text: &str) -> bool {
-    (said.text.as_slice() == text.as_bytes()) & (said.well != text.starts_with("no"))
+    said.text.as_slice() == text.as_bytes() && said.well != text.starts_with("no")
 }

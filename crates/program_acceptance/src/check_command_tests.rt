@@ -47,7 +47,7 @@ fn first_read(alloc: Global, bytes: &[u8]) -> usize {
 
 /// Whether this is said of the bytes, and of each of their beginnings that they are no text.
 fn reads_input(alloc: Global, bytes: &[u8], text: &str) -> bool {
-    (first_read(alloc, bytes) == bytes.len()) & says_of_input(alloc, bytes, text)
+    first_read(alloc, bytes) == bytes.len() && says_of_input(alloc, bytes, text)
 }
 
 #[test]

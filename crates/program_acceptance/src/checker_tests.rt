@@ -53,7 +53,7 @@ fn is_long(alloc: Global, refusal: &Refusal) -> bool {
 
 /// Whether a refusal hands out a position of more than 64 heaps, with a long text.
 fn is_of_many_heaps(alloc: Global, refusal: &Refusal) -> bool {
-    (refusal.number() == 7) & (heaps_of(refusal) > 64) & is_long(alloc, refusal)
+    refusal.number() == 7 && heaps_of(refusal) > 64 && is_long(alloc, refusal)
 }
 
 /// Whether the check hands out a position of more than 64 heaps, with a long text.
@@ -67,7 +67,7 @@ fn is_refuted_at_length(alloc: Global, bytes: &[u8]) -> bool {
 /// Whether the certificate over the largest group has more than 2^16 bytes and is refuted.
 fn refutes_largest(alloc: Global, but_the_last: bool) -> bool {
     match cyclic(alloc, 256, but_the_last) {
-        Some(text) => (text.len() > 65536) & is_refuted_at_length(alloc, &text),
+        Some(text) => text.len() > 65536 && is_refuted_at_length(alloc, &text),
         None => false,
     }
 }
@@ -86,6 +86,6 @@ fn number_of_longest(alloc: Global) -> u8 {
 /// the most digits.
 #[test]
 fn memory_suffices_for_the_largest(rt: HostRuntime) {
-    assert!(rt; refutes_largest(rt.alloc(), true) & refutes_largest(rt.alloc(), false));
+    assert!(rt; refutes_largest(rt.alloc(), true) && refutes_largest(rt.alloc(), false));
     assert!(rt; number_of_longest(rt.alloc()) == 7);
 }

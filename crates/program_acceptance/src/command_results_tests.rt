@@ -37,8 +37,8 @@ fn is_printed(alloc: Global, said: &Said, status: u8, text: &str) -> bool {
     let mut out = MemorySink::new(alloc);
     let mut err = MemorySink::new(alloc);
     (print(&said.text, said.status(), &mut out, &mut err) == status)
-        & (out.bytes() == text.as_bytes())
-        & err.bytes().is_empty()
+        && out.bytes() == text.as_bytes()
+        && err.bytes().is_empty()
 }
 
 /// Whether what is done is printed, with status 0.
@@ -78,13 +78,13 @@ fn cannot_read(folder: &mut MemoryFolder, name: &str) -> bool {
 fn reads_or_says_which_it_cannot(alloc: Global) -> bool {
     let mut folder = MemoryFolder::failing(alloc, 3);
     folder.put("a.mqc", b"mqc 1\n").is_ok()
-        & reads(&mut folder, "a.mqc", b"mqc 1\n")
-        & cannot_read(&mut folder, "b.mqc")
-        & cannot_read(&mut folder, "a.mqc")
+        && reads(&mut folder, "a.mqc", b"mqc 1\n")
+        && cannot_read(&mut folder, "b.mqc")
+        && cannot_read(&mut folder, "a.mqc")
 }
 
 #[test]
 fn tells_prints_and_reads(rt: HostRuntime) {
-    assert!(rt; (count_told(rt.alloc(), &STOPS) == 6) & reads_or_says_which_it_cannot(rt.alloc()));
-    assert!(rt; prints_done(rt.alloc(), "lost\n") & prints_no(rt.alloc(), "no 2 Law\n"));
+    assert!(rt; count_told(rt.alloc(), &STOPS) == 6 && reads_or_says_which_it_cannot(rt.alloc()));
+    assert!(rt; prints_done(rt.alloc(), "lost\n") && prints_no(rt.alloc(), "no 2 Law\n"));
 }

@@ -58,7 +58,7 @@ enum Line {
 fn put_entry(alloc: Global, text: &mut Vec<u8>, line: Line, x: u16) -> bool {
     match line {
         Line::Portion(order, last) => !is_in(order, last, x) || put(alloc, text, x),
-        Line::Words => put(alloc, text, x.saturating_sub(1)) & put_text(text, ":1"),
+        Line::Words => put(alloc, text, x.saturating_sub(1)) && put_text(text, ":1"),
         Line::Row(order, y) => put(alloc, text, times(order, y, x)),
         Line::Apart(order, last, y) => put(alloc, text, separating(order, last, y, x)),
         Line::Phi => put(alloc, text, x % 2),
@@ -78,7 +78,7 @@ fn put_line(alloc: Global, text: &mut Vec<u8>, line: Line, from: u16, until: u16
 fn put_rows(alloc: Global, text: &mut Vec<u8>, order: u16) -> bool {
     let mut done = true;
     for x in 0..order {
-        done &= put_text(text, "\nrow") & put_line(alloc, text, Line::Row(order, x), 0, order);
+        done &= put_text(text, "\nrow") && put_line(alloc, text, Line::Row(order, x), 0, order);
     }
     done
 }
@@ -98,21 +98,21 @@ fn put_apart(alloc: Global, text: &mut Vec<u8>, order: u16, but_the_last: bool) 
 pub fn cyclic(alloc: Global, order: u16, but_the_last: bool) -> Option<Vec<u8>> {
     let mut text = Vec::new(alloc);
     let done = put_text(&mut text, "mqc 1\ncode 0.3\norder")
-        & put(alloc, &mut text, order)
-        & put_text(&mut text, "\nstart 1\nperiod 2\nphi 1 0\nportion")
-        & put_line(
+        && put(alloc, &mut text, order)
+        && put_text(&mut text, "\nstart 1\nperiod 2\nphi 1 0\nportion")
+        && put_line(
             alloc,
             &mut text,
             Line::Portion(order, but_the_last),
             0,
             order,
         )
-        & put_text(&mut text, "\nwords")
-        & put_line(alloc, &mut text, Line::Words, 1, order)
-        & put_rows(alloc, &mut text, order)
-        & put_text(&mut text, "\napart")
-        & put_apart(alloc, &mut text, order, but_the_last)
-        & put_text(&mut text, "\nend\n");
+        && put_text(&mut text, "\nwords")
+        && put_line(alloc, &mut text, Line::Words, 1, order)
+        && put_rows(alloc, &mut text, order)
+        && put_text(&mut text, "\napart")
+        && put_apart(alloc, &mut text, order, but_the_last)
+        && put_text(&mut text, "\nend\n");
     if done { Some(text) } else { None }
 }
 
@@ -123,7 +123,7 @@ pub fn longest(alloc: Global) -> Option<Vec<u8>> {
     let front = "mqc 1\ncode 0.3000000000000003\norder 2\nstart 1\nperiod 1024\nphi";
     let back = " 1\nportion 1\nwords 0:1\nrow 0 1\nrow 1 0\napart 0\nend\n";
     let done = put_text(&mut text, front)
-        & put_line(alloc, &mut text, Line::Phi, 1, 1024)
-        & put_text(&mut text, back);
+        && put_line(alloc, &mut text, Line::Phi, 1, 1024)
+        && put_text(&mut text, back);
     if done { Some(text) } else { None }
 }

@@ -48,11 +48,11 @@ fn row_of<'a>(step: &'a Step<'a>) -> (char, u8, u8, u64, &'a str, &'a [u64]) {
 fn is_row(step: &Step<'_>, row: &Row) -> bool {
     let (kind, client, job, number, file, heaps) = row_of(step);
     (kind == row.0)
-        & (client == row.1)
-        & (job == row.2)
-        & (number == row.3)
-        & (file == row.4)
-        & (heaps == row.5)
+        && client == row.1
+        && job == row.2
+        && number == row.3
+        && file == row.4
+        && heaps == row.5
 }
 
 /// Whether the steps are these.
@@ -130,7 +130,7 @@ fn count_held(alloc: Global, rows: &[(&[u8], usize)]) -> usize {
 
 #[test]
 fn reads_scripts(rt: HostRuntime) {
-    assert!(rt; is_read_as(rt.alloc(), ALL_KINDS, &ROWS) & is_read_as(rt.alloc(), b"", &[]));
+    assert!(rt; is_read_as(rt.alloc(), ALL_KINDS, &ROWS) && is_read_as(rt.alloc(), b"", &[]));
     assert!(rt; count_held(rt.alloc(), &FAULTS) == 31);
 }
 

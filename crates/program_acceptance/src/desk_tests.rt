@@ -5,31 +5,26 @@ use desk::{Client, Desk, Event, Reply};
 use ration::Ration;
 use std::alloc::Global;
 
-/// What a client is told: one of the numbers below, with the number of a job, a refusal or a fault
-/// in its low byte.
-type Said = u16;
-
-const GOING: Said = 0;
-
-const YES: Said = 0x100;
-
-const OPENED: Said = 0x200;
-
-const NO: Said = 0x300;
-
-const REFUSED: Said = 0x400;
-
-/// The step couldn't be made, or it is told something else.
-const NOTHING: Said = 0x500;
+/// What a client is told; of a refusal or a fault its number.
+#[derive(Clone, Copy, PartialEq, Eq)]
+enum Said {
+    Opened(u8),
+    Going,
+    Yes,
+    No(u8),
+    Refused(u8),
+    /// The step couldn't be made, or something else is told.
+    Nothing,
+}
 
 fn told<A: Room>(reply: Reply<'_, A>) -> Said {
     match reply {
-        Reply::Opened(number) => OPENED | number as u16,
-        Reply::Going => GOING,
-        Reply::Yes(_) => YES,
-        Reply::No(refusal) => NO | refusal.number() as u16,
-        Reply::Refused(fault) => REFUSED | fault.number() as u16,
-        Reply::Dropped | Reply::Outcome(_) | Reply::Answer(_) => NOTHING,
+        Reply::Opened(number) => Said::Opened(number),
+        Reply::Going => Said::Going,
+        Reply::Yes(_) => Said::Yes,
+        Reply::No(refusal) => Said::No(refusal.number()),
+        Reply::Refused(fault) => Said::Refused(fault.number()),
+        Reply::Dropped | Reply::Outcome(_) | Reply::Answer(_) => Said::Nothing,
     }
 }
 
@@ -37,7 +32,7 @@ fn told<A: Room>(reply: Reply<'_, A>) -> Said {
 fn take<A: Room + Copy>(desk: &mut Desk<A>, client: u8, event: Event<A>) -> Said {
     match Client::new(client) {
         Some(client) => told(desk.step(client, event)),
-        None => NOTHING,
+        None => Said::Nothing,
     }
 }
 
@@ -53,30 +48,26 @@ type Claim = (&'static str, u32);
 fn open<A: Room + Copy>(alloc: A, desk: &mut Desk<A>, client: u8, claim: Claim) -> Said {
     match claim.0.as_bytes().to_vec(alloc) {
         Ok(bytes) => take(desk, client, Event::Open(bytes, claim.1)),
-        Err(_) => NOTHING,
+        Err(_) => Said::Nothing,
     }
 }
 
 /// Whether the client opens jobs from this number on up to four, and no fifth.
 fn fills(alloc: Global, desk: &mut Desk, client: u8, claim: Claim, from: u8) -> bool {
     for number in from..5u8 {
-        if open(alloc, desk, client, claim) != OPENED | number as u16 {
+        if open(alloc, desk, client, claim) != Said::Opened(number) {
             return false;
         }
     }
-    open(alloc, desk, client, claim) == REFUSED | 20
+    open(alloc, desk, client, claim) == Said::Refused(20)
 }
 
 /// After how many steps a job ended, and what was said then; or that it is going.
 type End = (u64, Said);
 
-fn are_equal(one: End, two: End) -> bool {
-    (one.0 == two.0) & (one.1 == two.1)
-}
-
 /// The first job of the client works once more, unless it has ended.
 fn work_on<A: Room + Copy>(desk: &mut Desk<A>, client: u8, units: u64, end: End) -> End {
-    if end.1 == GOING {
+    if end.1 == Said::Going {
         (end.0.saturating_add(1), work(desk, client, 1, units))
     } else {
         end
@@ -85,12 +76,12 @@ fn work_on<A: Room + Copy>(desk: &mut Desk<A>, client: u8, units: u64, end: End)
 
 /// The first jobs of the clients 1 and 2 work in turn, each by its units, to their ends.
 fn in_turn<A: Room + Copy>(desk: &mut Desk<A>, units: u64, units_of_two: u64) -> (End, End) {
-    let mut one = (0, GOING);
-    let mut two = (0, GOING);
+    let mut one = (0, Said::Going);
+    let mut two = (0, Said::Going);
     for _ in 1..50000u64 {
         one = work_on(desk, 1, units, one);
         two = work_on(desk, 2, units_of_two, two);
-        if one.1 != GOING && two.1 != GOING {
+        if one.1 != Said::Going && two.1 != Said::Going {
             break;
         }
     }
@@ -120,37 +111,39 @@ fn end_alone(alloc: Global) -> (Said, End) {
 
 /// Whether a check beside another ends as alone, and the other within 32 times 1000 units.
 fn ends_as_alone(alloc: Global, desk: &mut Desk, alone: End) -> bool {
-    if open(alloc, desk, 1, FIRST) != OPENED | 1 || open(alloc, desk, 2, SECOND) != OPENED | 1 {
+    if open(alloc, desk, 1, FIRST) != Said::Opened(1)
+        || open(alloc, desk, 2, SECOND) != Said::Opened(1)
+    {
         return false;
     }
     let (one, two) = in_turn(desk, 1, 1000);
-    are_equal(one, alone) & (two.1 == NO | 7) & (two.0 <= 32)
+    one == alone && two.1 == Said::No(7) && two.0 <= 32
 }
 
 /// Whether a fifth job is refused to the one client, while the other goes on.
 fn opens_no_fifth(alloc: Global, desk: &mut Desk) -> bool {
     fills(alloc, desk, 1, FIRST, 2)
-        & (work(desk, 2, 1, 1) == NO | 7)
-        & (open(alloc, desk, 2, SECOND) == OPENED | 2)
-        & (take(desk, 2, Event::Drop(0)) == REFUSED | 21)
+        && work(desk, 2, 1, 1) == Said::No(7)
+        && open(alloc, desk, 2, SECOND) == Said::Opened(2)
+        && take(desk, 2, Event::Drop(0)) == Said::Refused(21)
 }
 
 /// Whether two clients get what each gets alone, and no fifth job.
 fn work_in_turn(alloc: Global, alone: End) -> bool {
     let mut desk = Desk::new(alloc);
-    ends_as_alone(alloc, &mut desk, alone) & opens_no_fifth(alloc, &mut desk)
+    ends_as_alone(alloc, &mut desk, alone) && opens_no_fifth(alloc, &mut desk)
 }
 
 /// Whether a job that is alone says yes, within the bounds on what such a check costs.
 fn is_within(alone: End) -> bool {
-    (alone.1 == YES) & (alone.0 >= 592) & (alone.0 <= 49104)
+    alone.1 == Said::Yes && alone.0 >= 592 && alone.0 <= 49104
 }
 
 /// Each gets what it gets alone.
 #[test]
 fn works_in_turn(rt: HostRuntime) {
     let (opened, alone) = end_alone(rt.alloc());
-    assert!(rt; are_sixteen() & (opened == OPENED | 1) & is_within(alone));
+    assert!(rt; are_sixteen() && opened == Said::Opened(1) && is_within(alone));
     assert!(rt; work_in_turn(rt.alloc(), alone));
 }
 
@@ -159,7 +152,7 @@ fn work_all(desk: &mut Desk) -> Said {
     let first = work(desk, 1, 1, 1);
     for other in 1..64u8 {
         if work(desk, other / 4 + 1, other % 4 + 1, 1) != first {
-            return NOTHING;
+            return Said::Nothing;
         }
     }
     first
@@ -169,8 +162,8 @@ fn work_all(desk: &mut Desk) -> Said {
 fn units_of_all(desk: &mut Desk) -> u64 {
     for units in 1..100_000u64 {
         let said = work_all(desk);
-        if said != GOING {
-            return if said == YES { units } else { 0 };
+        if said != Said::Going {
+            return if said == Said::Yes { units } else { 0 };
         }
     }
     0
@@ -198,8 +191,8 @@ const SMALL: Claim = (OF_0_33, 1000);
 /// Whether each other client is told yes.
 fn others_go_on<A: Room + Copy>(alloc: A, desk: &mut Desk<A>) -> bool {
     for client in 2..=16u8 {
-        if open(alloc, desk, client, SMALL) != OPENED | 1
-            || work(desk, client, 1, u64::MAX) != YES
+        if open(alloc, desk, client, SMALL) != Said::Opened(1)
+            || work(desk, client, 1, u64::MAX) != Said::Yes
         {
             return false;
         }
@@ -211,11 +204,11 @@ fn others_go_on<A: Room + Copy>(alloc: A, desk: &mut Desk<A>) -> bool {
 /// to it or none was.
 fn may_be_told(opened: Said, worked: Said, has_refused: bool) -> bool {
     if !has_refused {
-        worked == YES
-    } else if opened == OPENED | 1 {
-        worked == NO | 9
+        worked == Said::Yes
+    } else if opened == Said::Opened(1) {
+        worked == Said::No(9)
     } else {
-        opened == REFUSED | 9 && worked == REFUSED | 21
+        opened == Said::Refused(9) && worked == Said::Refused(21)
     }
 }
 
@@ -228,8 +221,8 @@ fn share_with(alloc: Global, refused: u64) -> (bool, bool, bool) {
     let worked = work(&mut desk, 1, 1, u64::MAX);
     let has_refused = ration.has_refused();
     let is_fair = may_be_told(opened, worked, has_refused)
-        & others_go_on(&ample, &mut desk)
-        & (work(&mut desk, 1, 1, 0) == worked);
+        && others_go_on(&ample, &mut desk)
+        && work(&mut desk, 1, 1, 0) == worked;
     (is_fair, has_refused, ration.has_refused())
 }
 
@@ -266,8 +259,8 @@ fn end_with(alloc: Global, refused: u64) -> ((Said, Said), (End, End), bool) {
 
 /// Whether one of the jobs ended for want of memory, and the other as it should.
 fn is_kept_to_one(ends: (End, End), wanted: (End, End)) -> bool {
-    let is_to_one = ends.0.1 == NO | 9 && are_equal(ends.1, wanted.1);
-    is_to_one || ends.1.1 == NO | 9 && are_equal(ends.0, wanted.0)
+    let is_to_one = ends.0.1 == Said::No(9) && ends.1 == wanted.1;
+    is_to_one || ends.1.1 == Said::No(9) && ends.0 == wanted.0
 }
 
 /// Whether the jobs end as they should where the growth of this number is refused, and whether it
@@ -275,11 +268,11 @@ fn is_kept_to_one(ends: (End, End), wanted: (End, End)) -> bool {
 fn are_kept(alloc: Global, refused: u64, wanted: (End, End)) -> (bool, bool) {
     let (opened, ends, has_refused) = end_with(alloc, refused);
     let are_kept = if has_refused {
-        opened.0 == REFUSED | 9 || is_kept_to_one(ends, wanted)
+        opened.0 == Said::Refused(9) || is_kept_to_one(ends, wanted)
     } else {
-        are_equal(ends.0, wanted.0) & are_equal(ends.1, wanted.1)
+        ends.0 == wanted.0 && ends.1 == wanted.1
     };
-    (are_kept & (opened.1 == OPENED | 1), has_refused)
+    (are_kept && opened.1 == Said::Opened(1), has_refused)
 }
 
 /// The first growth that two equal jobs don't need, if they are kept apart at each before, and
@@ -298,8 +291,8 @@ fn first_kept(alloc: Global, wanted: (End, End)) -> u64 {
 /// The same, if they say yes where none is refused.
 fn first_not_needed(alloc: Global) -> u64 {
     let (opened, wanted, _) = end_with(alloc, 0);
-    let are_opened = (opened.0 == OPENED | 1) & (opened.1 == OPENED | 1);
-    if are_opened & (wanted.0.1 == YES) & (wanted.1.1 == YES) {
+    let are_opened = opened.0 == Said::Opened(1) && opened.1 == Said::Opened(1);
+    if are_opened && wanted.0.1 == Said::Yes && wanted.1.1 == Said::Yes {
         first_kept(alloc, wanted)
     } else {
         0

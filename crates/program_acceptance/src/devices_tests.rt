@@ -34,7 +34,7 @@ fn is_written_until(alloc: Global, n: u64, count: usize) -> bool {
     let mut sink = FailingSink::new(SlowSink::new(alloc), n);
     let is_well = write_whole(&mut sink, b"hello").is_ok();
     let bytes = sink.within().bytes();
-    (is_well == ((n == 0) | (n > 5))) & b"hello".starts_with(bytes) & (bytes.len() == count)
+    is_well == (n == 0 || n > 5) && b"hello".starts_with(bytes) && bytes.len() == count
 }
 
 /// A write that fails, and how many bytes are written.
@@ -65,21 +65,21 @@ fn count_held(alloc: Global, rows: &[(u64, usize)]) -> usize {
 fn fails_without_memory(alloc: Global) -> bool {
     let ration = Ration::new(alloc, 1);
     let mut sink = SlowSink::new(&ration);
-    write_whole(&mut sink, b"abc").is_err() & ration.has_refused()
+    write_whole(&mut sink, b"abc").is_err() && ration.has_refused()
 }
 
 /// Whether the bytes are written.
 fn is_written(alloc: Global, bytes: &[u8]) -> bool {
     let mut sink = FailingSink::new(MemorySink::new(alloc), 0);
-    write_whole(&mut sink, bytes).is_ok() & (sink.within().bytes() == bytes)
+    write_whole(&mut sink, bytes).is_ok() && sink.within().bytes() == bytes
 }
 
 /// Whether the bytes are read whole and one by one, and written.
 fn pass(alloc: Global, bytes: &[u8]) -> bool {
     let mut source = FailingSource::new(MemorySource::new(bytes), 0);
     matches!(is_read(alloc, &mut source, bytes), Ok(true))
-        & matches!(is_read(alloc, &mut SlowSource::new(bytes), bytes), Ok(true))
-        & is_written(alloc, bytes)
+        && matches!(is_read(alloc, &mut SlowSource::new(bytes), bytes), Ok(true))
+        && is_written(alloc, bytes)
 }
 
 /// Whether more than 2^16 bytes pass.
@@ -92,7 +92,7 @@ fn many_pass(alloc: Global) -> bool {
 
 #[test]
 fn reads_and_writes_or_fails(rt: HostRuntime) {
-    assert!(rt; (count_of_reads(rt.alloc()) == 9) & (StreamFault::Read.number() == 1));
-    assert!(rt; (count_held(rt.alloc(), &WRITES) == 8) & fails_without_memory(rt.alloc()));
+    assert!(rt; count_of_reads(rt.alloc()) == 9 && StreamFault::Read.number() == 1);
+    assert!(rt; count_held(rt.alloc(), &WRITES) == 8 && fails_without_memory(rt.alloc()));
     assert!(rt; many_pass(rt.alloc()));
 }

@@ -29,20 +29,20 @@ fn holds(folder: &mut MemoryFolder, name: &str, text: &str) -> bool {
 /// Whether three files are written, one of them again.
 fn fills(folder: &mut MemoryFolder) -> bool {
     folder.put("a", b"one").is_ok()
-        & folder.put("b", b"two").is_ok()
-        & folder.write("a", b"three").is_ok()
-        & folder.write("c", b"").is_ok()
+        && folder.put("b", b"two").is_ok()
+        && folder.write("a", b"three").is_ok()
+        && folder.write("c", b"").is_ok()
 }
 
 /// Whether what is written is kept, and nothing else.
 fn keeps_what_is_written(alloc: Global) -> bool {
     let mut folder = MemoryFolder::new(alloc);
     is_absent(&mut folder, "a")
-        & fills(&mut folder)
-        & holds(&mut folder, "a", "three")
-        & holds(&mut folder, "b", "two")
-        & holds(&mut folder, "c", "")
-        & folder.bytes("d").is_none()
+        && fills(&mut folder)
+        && holds(&mut folder, "a", "three")
+        && holds(&mut folder, "b", "two")
+        && holds(&mut folder, "c", "")
+        && folder.bytes("d").is_none()
 }
 
 /// The call that fails, which of three calls fail then, and what the file holds behind them.
@@ -57,10 +57,10 @@ static CALLS: [(u64, [bool; 3], &str); 4] = [
 fn fails_so(alloc: Global, number: u64, failed: &[bool; 3], held: &str) -> bool {
     let mut folder = MemoryFolder::failing(alloc, number);
     folder.put("a", b"one").is_ok()
-        & (folder.read("a").is_err() == failed[0])
-        & (folder.write("a", b"two").is_err() == failed[1])
-        & (folder.read("a").is_err() == failed[2])
-        & (folder.bytes("a") == Some(held.as_bytes()))
+        && folder.read("a").is_err() == failed[0]
+        && folder.write("a", b"two").is_err() == failed[1]
+        && folder.read("a").is_err() == failed[2]
+        && folder.bytes("a") == Some(held.as_bytes())
 }
 
 /// How many rows hold.
@@ -86,16 +86,16 @@ static STEPS: [(u64, bool, &str); 5] = [
 /// Whether there is the file, another's file under the first name that is tried beside it, and no
 /// other.
 fn holds_both(disk: &RamDisk, held: &str) -> bool {
-    disk.holds("a", held) & disk.holds("a.1.new", "of another") & (disk.len() == 2)
+    disk.holds("a", held) && disk.holds("a.1.new", "of another") && disk.len() == 2
 }
 
 /// Whether the file is replaced or not, and the text is held then beside the other file.
 fn replaces(alloc: Global, number: u64, done: bool, held: &str) -> bool {
     let mut disk = RamDisk::failing(alloc, number);
     disk.keep("a", b"old text")
-        & disk.keep("a.1.new", b"of another")
-        & (replace(alloc, &mut disk, "a", b"new text").is_ok() == done)
-        & holds_both(&disk, held)
+        && disk.keep("a.1.new", b"of another")
+        && replace(alloc, &mut disk, "a", b"new text").is_ok() == done
+        && holds_both(&disk, held)
 }
 
 /// How many rows hold.
@@ -111,7 +111,7 @@ fn count_replaced(alloc: Global, rows: &[(u64, bool, &str)]) -> usize {
 
 #[test]
 fn files_in_memory(rt: HostRuntime) {
-    assert!(rt; keeps_what_is_written(rt.alloc()) & (count_failed(rt.alloc(), &CALLS) == 4));
+    assert!(rt; keeps_what_is_written(rt.alloc()) && count_failed(rt.alloc(), &CALLS) == 4);
     assert!(rt; count_replaced(rt.alloc(), &STEPS) == 5);
 }
 
@@ -124,10 +124,10 @@ fn keeps<F: Folder>(folder: &mut F, name: &str, text: &str) -> bool {
 /// Whether a file that isn't there is made, and replaced twice, and none is in no folder.
 fn is_replaced<F: Folder>(folder: &mut F, name: &str) -> bool {
     is_absent(folder, name)
-        & keeps(folder, name, "a longer text")
-        & keeps(folder, name, "a text")
-        & keeps(folder, name, "")
-        & matches!(folder.write("/nowhere/a", b"x"), Err(FileFault::Device))
+        && keeps(folder, name, "a longer text")
+        && keeps(folder, name, "a text")
+        && keeps(folder, name, "")
+        && matches!(folder.write("/nowhere/a", b"x"), Err(FileFault::Device))
 }
 
 #[test]

@@ -59,7 +59,7 @@ fn first_of_group(alloc: Global, but_the_last: bool) -> u64 {
 #[test]
 fn each_growth_may_be_refused(rt: HostRuntime) {
     assert!(rt; first_not_needed(rt.alloc(), Job::Yes, 200) > 5);
-    assert!(rt; (first_of_group(rt.alloc(), true) > 20) & (first_of_group(rt.alloc(), false) > 20));
+    assert!(rt; first_of_group(rt.alloc(), true) > 20 && first_of_group(rt.alloc(), false) > 20);
     assert!(rt; first_not_needed(rt.alloc(), Job::Script, 100) > 0);
     assert!(rt; first_not_needed(rt.alloc(), Job::Streams, 2000) > 0);
 }

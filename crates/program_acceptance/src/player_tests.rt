@@ -22,7 +22,7 @@ fn count_held(alloc: Global, certified: &Certified, rows: &[(&[u8], u8, Outcome)
         let Ok(position) = Position::read(alloc, text) else {
             return count;
         };
-        if (value(certified, &position) == *element) & (outcome(certified, &position) == *wanted) {
+        if value(certified, &position) == *element && outcome(certified, &position) == *wanted {
             count = count.saturating_add(1);
         }
     }
@@ -36,8 +36,8 @@ fn looks_at_few(alloc: Global, certified: &Certified) -> bool {
     match listed {
         Ok(all) => {
             (all.len() == 19)
-                & (all.first() == Some(&Left::One(LARGE - 1)))
-                & (all.last() == Some(&Left::Two(9, LARGE - 11)))
+                && all.first() == Some(&Left::One(LARGE - 1))
+                && all.last() == Some(&Left::Two(9, LARGE - 11))
         }
         Err(_) => false,
     }

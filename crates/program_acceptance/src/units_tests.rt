@@ -17,7 +17,7 @@ fn number_of(progress: Progress<'_>) -> u8 {
 
 /// Whether the job stands so.
 fn stands(job: &Job, number: u8, spent: u64) -> bool {
-    (number_of(job.progress()) == number) & (job.spent() == spent)
+    number_of(job.progress()) == number && job.spent() == spent
 }
 
 /// Gives a job so many units again and again until it ends, at most 100000 times. After how many
@@ -67,11 +67,11 @@ fn ends(job: &mut Job, row: &Row) -> bool {
     let counted = work_to_the_end(job, units);
     let spent = job.spent();
     stands(job, number, spent)
-        & (number_of(job.work(1)) == number)
-        & (job.spent() == spent)
-        & ((units > 1) | (counted == spent))
-        & (least <= spent)
-        & (spent <= most)
+        && number_of(job.work(1)) == number
+        && job.spent() == spent
+        && (units > 1 || counted == spent)
+        && least <= spent
+        && spent <= most
 }
 
 /// Whether the job, once it is to begin again, has spent nothing, and ends as it did.
@@ -80,12 +80,12 @@ fn ends_again(job: &mut Job, units: u64, number: u8) -> bool {
     job.again();
     let begins = stands(job, GOING, 0);
     work_to_the_end(job, units);
-    begins & stands(job, number, spent)
+    begins && stands(job, number, spent)
 }
 
 /// Whether the job runs as the row says.
 fn is_held(mut job: Job, row: &Row) -> bool {
-    ends(&mut job, row) & ends_again(&mut job, row.3, row.4)
+    ends(&mut job, row) && ends_again(&mut job, row.3, row.4)
 }
 
 /// How many rows hold.

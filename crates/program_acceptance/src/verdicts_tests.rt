@@ -11,26 +11,28 @@ static VERDICT: &[u8] = b"yes 0.33 order 6 start 1 period 3\n";
 
 static NO_TEXT: &[u8] = b"no 1 Text\n";
 
-/// What a check says, or the number of its fault, and how many bytes were written of a text.
-type End = (u8, usize);
+/// What a check says, or the number of its fault.
+#[derive(Clone, Copy, PartialEq, Eq)]
+enum Said {
+    Yes,
+    No,
+    Fault(u8),
+}
 
-const YES: u8 = 0;
-
-const NO: u8 = 10;
-
-/// In the place of a count where other bytes were written.
-const OTHERS: usize = 1000;
+/// What a check says, and how many bytes were written, if these are a beginning of a text.
+type End = (Said, Option<usize>);
 
 /// The end where these bytes were written.
 fn end_of(checked: Result<bool, StreamFault>, bytes: &[u8], text: &[u8]) -> End {
     let said = match checked {
-        Ok(is_yes) => if is_yes { YES } else { NO },
-        Err(fault) => fault.number(),
+        Ok(true) => Said::Yes,
+        Ok(false) => Said::No,
+        Err(fault) => Said::Fault(fault.number()),
     };
     if text.starts_with(bytes) {
-        (said, bytes.len())
+        (said, Some(bytes.len()))
     } else {
-        (said, OTHERS)
+        (said, None)
     }
 }
 
@@ -45,9 +47,9 @@ fn ended<A: Room + Copy, S: Source>(alloc: A, ample: Global, source: &mut S, tex
 /// Whether a check ends in the fault behind so many bytes, or says yes.
 fn is_end(end: End, fails: bool, fault: StreamFault, count: usize) -> bool {
     if fails {
-        (end.0 == fault.number()) & (end.1 == count)
+        end == (Said::Fault(fault.number()), Some(count))
     } else {
-        (end.0 == YES) & (end.1 == 34)
+        end == (Said::Yes, Some(34))
     }
 }
 
@@ -57,7 +59,7 @@ fn first_wrong_read(alloc: Global) -> u64 {
     for n in 0..240u64 {
         let mut source = FailingSource::new(SlowSource::new(OF_0_33.as_bytes()), n);
         let end = ended(alloc, alloc, &mut source, VERDICT);
-        if !is_end(end, (n >= 1) & (n <= 226), StreamFault::Read, 0) {
+        if !is_end(end, n >= 1 && n <= 226, StreamFault::Read, 0) {
             return n;
         }
     }
@@ -77,7 +79,7 @@ fn first_wrong_byte(alloc: Global) -> u64 {
     for n in 0..40u64 {
         let before = n.saturating_sub(1) as usize;
         let end = end_at_a_byte(alloc, n);
-        if !is_end(end, (n >= 1) & (n <= 34), StreamFault::Write, before) {
+        if !is_end(end, n >= 1 && n <= 34, StreamFault::Write, before) {
             return n;
         }
     }
@@ -86,20 +88,17 @@ fn first_wrong_byte(alloc: Global) -> u64 {
 
 #[test]
 fn fails_where_a_device_does(rt: HostRuntime) {
-    assert!(rt; (first_wrong_read(rt.alloc()) == 240) & (first_wrong_byte(rt.alloc()) == 40));
+    assert!(rt; first_wrong_read(rt.alloc()) == 240 && first_wrong_byte(rt.alloc()) == 40);
 }
 
 /// Whether a check says yes, or 9 where it wants memory and nothing was written. The sink takes from
 /// `ample`.
 pub fn is_checked<A: Room + Copy>(alloc: A, ample: Global) -> Result<bool, u8> {
     let mut source = MemorySource::new(OF_0_33.as_bytes());
-    let (said, count) = ended(alloc, ample, &mut source, VERDICT);
-    if said == YES {
-        Ok(count == 34)
-    } else if (said == StreamFault::Memory.number()) & (count == 0) {
-        Err(9)
-    } else {
-        Err(0)
+    match ended(alloc, ample, &mut source, VERDICT) {
+        (Said::Yes, count) => Ok(count == Some(34)),
+        (Said::Fault(9), Some(0)) => Err(9),
+        _ => Err(0),
     }
 }
 
@@ -107,13 +106,12 @@ pub fn is_checked<A: Room + Copy>(alloc: A, ample: Global) -> Result<bool, u8> {
 fn begins_so(alloc: Global, bytes: &[u8], beginning: &[u8]) -> bool {
     let mut sink = MemorySink::new(alloc);
     check_stream(alloc, &mut MemorySource::new(bytes), &mut sink, 1000).is_ok()
-        & sink.bytes().starts_with(beginning)
+        && sink.bytes().starts_with(beginning)
 }
 
 /// Whether what a source gives is refused as no text, and nothing more is said.
 fn refuses_as_no_text(alloc: Global, source: &mut MemorySource<'_>) -> bool {
-    let (said, count) = ended(alloc, alloc, source, NO_TEXT);
-    (said == NO) & (count == NO_TEXT.len())
+    ended(alloc, alloc, source, NO_TEXT) == (Said::No, Some(NO_TEXT.len()))
 }
 
 /// How long the first beginning of a text is that is not refused as no text.
@@ -128,7 +126,7 @@ fn first_read(alloc: Global, text: &[u8]) -> usize {
 
 /// Whether each proper beginning of a certificate is no certificate.
 fn refuses_beginnings(alloc: Global, text: &[u8]) -> bool {
-    (first_read(alloc, text) == text.len()) & begins_so(alloc, text, b"yes 0.")
+    first_read(alloc, text) == text.len() && begins_so(alloc, text, b"yes 0.")
 }
 
 /// Whether a text is refused with each change of one byte.
@@ -169,18 +167,18 @@ fn refuses_changes(alloc: Global, text: &[u8], behind: usize) -> bool {
         return false;
     };
     (first_accepted(alloc, &mut changed, 0, 6) == 6)
-        & (first_accepted(alloc, &mut changed, behind, text.len()) == text.len())
+        && first_accepted(alloc, &mut changed, behind, text.len()) == text.len()
 }
 
 #[test]
 fn refuses_beginnings_and_changes(rt: HostRuntime) {
     assert!(rt;
         refuses_beginnings(rt.alloc(), OF_0_33.as_bytes())
-            & refuses_beginnings(rt.alloc(), OF_0_75.as_bytes())
+            && refuses_beginnings(rt.alloc(), OF_0_75.as_bytes())
     );
     assert!(rt;
         refuses_changes(rt.alloc(), OF_0_3.as_bytes(), 15)
-            & refuses_changes(rt.alloc(), OF_0_33.as_bytes(), 16)
+            && refuses_changes(rt.alloc(), OF_0_33.as_bytes(), 16)
     );
 }
 
@@ -189,7 +187,7 @@ fn leaves(alloc: Global, bytes: &[u8], left: usize) -> bool {
     let mut source = MemorySource::new(bytes);
     let is_refused = refuses_as_no_text(alloc, &mut source);
     match source.read(&mut [0u8; 8]) {
-        Ok(count) => is_refused & (count == left),
+        Ok(count) => is_refused && count == left,
         Err(_) => false,
     }
 }
@@ -212,5 +210,5 @@ fn count_held(alloc: Global, rows: &[(usize, usize)]) -> usize {
 
 #[test]
 fn long_streams_are_no_text(rt: HostRuntime) {
-    assert!(rt; (MOST_BYTES == 4_194_304) & (count_held(rt.alloc(), &LONG) == 4));
+    assert!(rt; MOST_BYTES == 4_194_304 && count_held(rt.alloc(), &LONG) == 4);
 }
