@@ -1,13 +1,12 @@
 //! Catalogue files in memory: what is printed, and what the files hold then.
 mod tasks;
 
-use crate::files::{ONE_ENTRY, folder_of};
-use allocation::Memory;
-use catalogue_command::act;
+use crate::files::{ONE_ENTRY, folder_with, holds};
+use crate::rows::{Row, count_held};
+use catalogue_command::{Report, act};
 use folders::MemoryFolder;
 use requests::CatalogueTask;
 use std::alloc::Global;
-use std::test::Fail;
 
 const LIMIT: u32 = 1000;
 
@@ -49,77 +48,105 @@ row 6 3 2 4 4 5 7 7\\nrow 7 4 2 4 4 5 7 7\\n\
 apart 0 1 1 3 1 1 0 0 0 0 0 0 4 2 1 2 2 0 1 3 3 0 1 1 0 5 0 0\\nend\\n\
 \",\"code\":\"0.75\"}],\"version\":1}";
 
-/// Whether a task on a file ends well, if it prints this.
-fn is_well(
+/// Whether this is reported.
+fn is_reported(report: &Report, well: bool, text: &str) -> bool {
+    report.well == well && report.text.as_str() == text
+}
+
+/// Whether a task on a file ends so, well or not, and prints this.
+fn prints(
     alloc: Global,
     folder: &mut MemoryFolder,
     file: &str,
     task: CatalogueTask<'_>,
+    well: bool,
     text: &str,
-) -> Option<bool> {
-    match &act(alloc, folder, file, task, LIMIT) {
-        Ok(report) if report.text.as_str() == text => Some(report.well),
-        _ => None,
+) -> bool {
+    match act(alloc, folder, file, task, LIMIT) {
+        Ok(report) => is_reported(&report, well, text),
+        Err(_) => false,
     }
 }
 
-/// Whether the file is well, if this is what its list is.
-fn listed(alloc: Global, held: &str, printed: &str) -> Result<Option<bool>, Memory> {
-    let mut folder = folder_of(alloc, &[("x.json", held)], 0)?;
-    Ok(is_well(alloc, &mut folder, "x.json", CatalogueTask::Print, printed))
-}
+/// What a file holds, whether it is well, and what its list is.
+struct Listed(&'static str, bool, &'static str);
 
-#[test]
-fn lists_a_file_or_says_why_not(rt: HostRuntime) -> Result<(), Fail> {
-    let rows = [
-        ("", false, "refused 1 Json\n"),
-        ("\"\\ud800\"", false, "refused 1 Json\n"),
-        ("[]", false, "refused 2 Shape\n"),
-        (ANOTHER_VERSION, false, "refused 2 Shape\n"),
-        (A_FLOAT, false, "refused 2 Shape\n"),
-        (VERSION_TWICE, true, ""),
-        (WRONG_PORTION, false, "refused 3 Entry 1 no 7 Outcome\n"),
-        (ANOTHER_CODE, false, "refused 4 Code 1\n"),
-        (TWICE, false, "refused 5 Twice 2\n"),
-        (ONE_ENTRY, true, "0.3 order 2 start 1 period 2\n"),
-    ];
-    for (held, well, printed) in rows {
-        assert!(rt;
-            listed(rt.alloc(), held, printed)? == Some(well),
-            "of {held}"
-        );
+impl Row for Listed {
+    fn holds(&self, alloc: Global) -> bool {
+        let Listed(held, well, printed) = *self;
+        match folder_with(alloc, &[], "x.json", held, 0) {
+            Ok(mut folder) => lists(alloc, &mut folder, well, printed),
+            Err(_) => false,
+        }
     }
-    Ok(())
 }
 
-/// Whether salvaging a file ends well, if this is what it prints; whether the file stays; and
-/// whether it is well then, if this is what its list is.
-fn salvaged(
-    alloc: Global,
-    held: &str,
-    printed: &str,
-    lines: &str,
-) -> Result<(Option<bool>, bool, Option<bool>), Memory> {
-    let mut folder = folder_of(alloc, &[("x.json", held)], 0)?;
-    let ended = is_well(
+/// Whether the list of the folder's file is this.
+fn lists(alloc: Global, folder: &mut MemoryFolder, well: bool, printed: &str) -> bool {
+    prints(alloc, folder, "x.json", CatalogueTask::Print, well, printed)
+}
+
+static LISTS: [Listed; 10] = [
+    Listed("", false, "refused 1 Json\n"),
+    Listed("\"\\ud800\"", false, "refused 1 Json\n"),
+    Listed("[]", false, "refused 2 Shape\n"),
+    Listed(ANOTHER_VERSION, false, "refused 2 Shape\n"),
+    Listed(A_FLOAT, false, "refused 2 Shape\n"),
+    Listed(VERSION_TWICE, true, ""),
+    Listed(WRONG_PORTION, false, "refused 3 Entry 1 no 7 Outcome\n"),
+    Listed(ANOTHER_CODE, false, "refused 4 Code 1\n"),
+    Listed(TWICE, false, "refused 5 Twice 2\n"),
+    Listed(ONE_ENTRY, true, "0.3 order 2 start 1 period 2\n"),
+];
+
+/// What a file holds, whether salvaging it ends well, what that prints, whether the file stays, and
+/// whether it is well then and what its list is.
+struct Salvaged(&'static str, bool, &'static str, bool, bool, &'static str);
+
+impl Row for Salvaged {
+    fn holds(&self, alloc: Global) -> bool {
+        match folder_with(alloc, &[], "x.json", self.0, 0) {
+            Ok(mut folder) => salvages(alloc, &mut folder, self),
+            Err(_) => false,
+        }
+    }
+}
+
+static DAMAGES: [Salvaged; 2] = [
+    Salvaged(
+        DAMAGED,
+        true,
+        "refused 3 Entry 2 no 2 Law\nkept 2\n",
+        false,
+        true,
+        "0.3 order 2 start 1 period 2\n0.75 order 8 start 8 period 2\n",
+    ),
+    Salvaged(
+        "[]",
+        false,
+        "refused 2 Shape\n",
+        true,
+        false,
+        "refused 2 Shape\n",
+    ),
+];
+
+/// Whether the file of the folder is salvaged so.
+fn salvages(alloc: Global, folder: &mut MemoryFolder, row: &Salvaged) -> bool {
+    let Salvaged(held, well, printed, stays, is_well, lines) = *row;
+    prints(
         alloc,
-        &mut folder,
+        folder,
         "x.json",
         CatalogueTask::Salvage,
+        well,
         printed,
-    );
-    let stays = folder.bytes("x.json") == Some(held.as_bytes());
-    let listed = is_well(alloc, &mut folder, "x.json", CatalogueTask::Print, lines);
-    Ok((ended, stays, listed))
+    ) && holds(folder, "x.json", held) == stays
+        && lists(alloc, folder, is_well, lines)
 }
 
 #[test]
-fn keeps_what_stands_of_a_damaged_file(rt: HostRuntime) -> Result<(), Fail> {
-    let kept = "refused 3 Entry 2 no 2 Law\nkept 2\n";
-    let lines = "0.3 order 2 start 1 period 2\n0.75 order 8 start 8 period 2\n";
-    let mended = salvaged(rt.alloc(), DAMAGED, kept, lines)?;
-    assert!(rt; mended == (Some(true), false, Some(true)));
-    let left = salvaged(rt.alloc(), "[]", "refused 2 Shape\n", "refused 2 Shape\n")?;
-    assert!(rt; left == (Some(false), true, Some(false)));
-    Ok(())
+fn lists_or_keeps_what_stands_of_a_file(rt: HostRuntime) {
+    assert!(rt; count_held(rt.alloc(), &LISTS) == 10);
+    assert!(rt; count_held(rt.alloc(), &DAMAGES) == 2);
 }

@@ -1,46 +1,57 @@
 //! Worked scripts: the status, the lines that are printed, and what is told.
 use crate::certificates::{OF_0_3, OF_0_33, OF_0_75, RIGHT_UP_TO_8};
-use crate::files::folder_of;
-use allocation::Memory;
+use crate::files::folder_with;
+use crate::rows::{Row, count_held};
 use desk_command::run_file;
 use devices::FailingSink;
+use folders::MemoryFolder;
 use std::alloc::Global;
-use std::test::Fail;
 use streams::{MemorySink, Sink};
 
-/// The status of a script over the quotients of 0.3, 0.33 and 0.75 and a wrong one of 0.75, and
-/// whether this is told.
-fn ended<W: Sink>(
+/// The quotients of 0.3, 0.33 and 0.75, and a wrong one of 0.75.
+static FILES: [(&str, &str); 4] = [
+    ("a.mqc", OF_0_3),
+    ("b.mqc", OF_0_33),
+    ("c.mqc", OF_0_75),
+    ("d.mqc", RIGHT_UP_TO_8),
+];
+
+/// Whether the script of the folder has this status, and this is told.
+fn ends_in<W: Sink>(
     alloc: Global,
-    script: &str,
+    folder: &mut MemoryFolder,
     out: &mut W,
+    status: u8,
     told: &str,
-) -> Result<(u8, bool), Memory> {
-    let files = [
-        ("a.mqc", OF_0_3),
-        ("b.mqc", OF_0_33),
-        ("c.mqc", OF_0_75),
-        ("d.mqc", RIGHT_UP_TO_8),
-        ("steps", script),
-    ];
-    let mut folder = folder_of(alloc, &files, 0)?;
+) -> bool {
     let mut err = MemorySink::new(alloc);
-    let status = run_file(alloc, "steps", &mut folder, out, &mut err);
-    Ok((status, err.bytes() == told.as_bytes()))
+    run_file(alloc, "steps", folder, out, &mut err) == status && err.bytes() == told.as_bytes()
 }
 
-/// The status of a script, and whether this is printed and told.
-fn ran(alloc: Global, script: &str, lines: &str, told: &str) -> Result<(u8, bool), Memory> {
-    let mut out = MemorySink::new(alloc);
-    let (status, is_told) = ended(alloc, script, &mut out, told)?;
-    Ok((status, is_told && out.bytes() == lines.as_bytes()))
+/// Whether a script over these files has this status, and this is told.
+fn ends<W: Sink>(alloc: Global, script: &str, out: &mut W, status: u8, told: &str) -> bool {
+    match folder_with(alloc, &FILES, "steps", script, 0) {
+        Ok(mut folder) => ends_in(alloc, &mut folder, out, status, told),
+        Err(_) => false,
+    }
 }
 
-/// A script, its status, and what is printed and told. Two clients in turn, of whom one has a wrong
-/// certificate; one client with jobs that are dropped, idle, worked far, and over their limit; and
-/// scripts that end before their end. The file of a fifth job is read before the job is refused.
-static ROWS: [(&str, u8, &str, &str); 12] = [
-    (
+/// A script, its status, and what is printed and told.
+struct Script(&'static str, u8, &'static str, &'static str);
+
+impl Row for Script {
+    fn holds(&self, alloc: Global) -> bool {
+        let Script(steps, status, lines, told) = *self;
+        let mut out = MemorySink::new(alloc);
+        ends(alloc, steps, &mut out, status, told) && out.bytes() == lines.as_bytes()
+    }
+}
+
+/// Two clients in turn, of whom one has a wrong certificate; one client with jobs that are dropped,
+/// idle, worked far, and over their limit; and scripts that end before their end. The file of a
+/// fifth job is read before the job is refused.
+static ROWS: [Script; 12] = [
+    Script(
         "open 1 c.mqc 2048\nopen 2 d.mqc 2048\nwork 1 1 0\nwork 2 1 1000000\nask 1 1 1\n\
 work 1 1 1000000\nask 1 1 1 9\nplay 1 1 10\nask 2 1 1\ndrop 2 1\nwork 2 1 5\n",
         0,
@@ -49,7 +60,7 @@ yes 0.75 order 8 start 8 period 2\nP\nwins 10 -> 2 6\nrefused 22 NotCertified\nd
 refused 21 NoJob\n",
         "",
     ),
-    (
+    Script(
         "open 3 b.mqc 100000\nwork 3 1 5\ndrop 3 1\nopen 3 a.mqc 8\nwork 3 1 0\n\
 work 3 1 18446744073709551615\nwork 3 1 0\nask 3 1 1\nopen 3 a.mqc 0\nwork 3 2 1000\n\
 ask 3 1 1 1\nplay 3 1 1\nplay 3 2 1\n",
@@ -58,56 +69,47 @@ ask 3 1 1 1\nplay 3 1 1\nplay 3 2 1\n",
 yes 0.3 order 2 start 1 period 2\nP\nopened 2\nno 8 Limit\nN\nlost\nrefused 22 NotCertified\n",
         "",
     ),
-    ("", 0, "", ""),
-    (
+    Script("", 0, "", ""),
+    Script(
         "open 1 a.mqc 8\nopen 1 a.mqc 8\nopen 1 a.mqc 8\nopen 1 a.mqc 8\nopen 1 a.mqc 8\n",
         0,
         "opened 1\nopened 2\nopened 3\nopened 4\nrefused 20 Full\n",
         "",
     ),
-    (
+    Script(
         "open 1 a.mqc 8\nopen 17 a.mqc 8\n",
         2,
         "",
         "misere: line 2 isn't a step\n",
     ),
-    ("open 1 a.mqc 8", 2, "", "misere: line 1 isn't a step\n"),
-    (
+    Script("open 1 a.mqc 8", 2, "", "misere: line 1 isn't a step\n"),
+    Script(
         "open 1 a.mqc 8\nopen 1 e.mqc 8\nwork 1 1 0\n",
         3,
         "opened 1\n",
         "misere: cannot read e.mqc\n",
     ),
-    (
+    Script(
         "open 1 a.mqc 8\nopen 1 a.mqc 8\nopen 1 a.mqc 8\nopen 1 a.mqc 8\nopen 1 e.mqc 8\n",
         3,
         "opened 1\nopened 2\nopened 3\nopened 4\n",
         "misere: cannot read e.mqc\n",
     ),
-    ("open 1 a.mqc 8\n", 0, "opened 1\n", ""),
-    (
+    Script("open 1 a.mqc 8\n", 0, "opened 1\n", ""),
+    Script(
         "drop 1 1\ndrop 1 1 \n",
         2,
         "",
         "misere: line 2 isn't a step\n",
     ),
-    (
+    Script(
         "drop 1 1\nopen 1 e.mqc 8\n",
         3,
         "refused 21 NoJob\n",
         "misere: cannot read e.mqc\n",
     ),
-    ("\n", 2, "", "misere: line 1 isn't a step\n"),
+    Script("\n", 2, "", "misere: line 1 isn't a step\n"),
 ];
-
-#[test]
-fn ends_as_worked_out(rt: HostRuntime) -> Result<(), Fail> {
-    for (at, (script, status, lines, told)) in ROWS.iter().enumerate() {
-        let ended = ran(rt.alloc(), script, lines, told)?;
-        assert!(rt; ended == (*status, true), "row {at}");
-    }
-    Ok(())
-}
 
 /// Each of sixteen clients opens a job, four times over, and two of them open a fifth.
 const FILLING: &str = "\
@@ -140,27 +142,34 @@ opened 4\nopened 4\nopened 4\nopened 4\nopened 4\nopened 4\nopened 4\nopened 4\n
 opened 4\nopened 4\nopened 4\nopened 4\nopened 4\nopened 4\nopened 4\nopened 4\n\
 refused 20 Full\nrefused 20 Full\n";
 
+/// A script that opens one job too many, twice.
+static FULL: Script = Script(FILLING, 0, FILLED, "");
+
 #[test]
-fn refuses_the_sixty_fifth_job(rt: HostRuntime) -> Result<(), Fail> {
-    assert!(rt; ran(rt.alloc(), FILLING, FILLED, "")? == (0, true));
-    Ok(())
+fn ends_as_worked_out(rt: HostRuntime) {
+    assert!(rt; count_held(rt.alloc(), &ROWS) == 12 && FULL.holds(rt.alloc()));
 }
 
-/// The status of a script whose line of this number can't be written, and whether that is told and
-/// what stands is a beginning of its lines.
-fn cut_short(alloc: Global, script: &str, lines: &str, n: u64) -> Result<(u8, bool), Memory> {
+/// Whether a script stops where its line of this number can't be written, which is told, and what
+/// stands is a beginning of its lines.
+fn is_cut_short(alloc: Global, script: &Script, n: u64) -> bool {
+    let Script(steps, _, lines, _) = *script;
     let mut out = FailingSink::new(MemorySink::new(alloc), n);
-    let (status, is_told) = ended(alloc, script, &mut out, "misere: cannot write\n")?;
-    let is_beginning = lines.as_bytes().starts_with(out.within().bytes());
-    Ok((status, is_told && is_beginning))
+    ends(alloc, steps, &mut out, 3, "misere: cannot write\n")
+        && lines.as_bytes().starts_with(out.within().bytes())
+}
+
+/// The first line that can't be written and where the script doesn't stop so, up to 12.
+fn first_not_cut(alloc: Global, script: &Script) -> u64 {
+    for n in 1..12u64 {
+        if !is_cut_short(alloc, script, n) {
+            return n;
+        }
+    }
+    12
 }
 
 #[test]
-fn stops_where_a_line_can_not_be_written(rt: HostRuntime) -> Result<(), Fail> {
-    let (script, _, lines, _) = ROWS[0];
-    for n in 1..12 {
-        let ended = cut_short(rt.alloc(), script, lines, n)?;
-        assert!(rt; ended == (3, true), "at {n}");
-    }
-    Ok(())
+fn stops_where_a_line_can_not_be_written(rt: HostRuntime) {
+    assert!(rt; first_not_cut(rt.alloc(), &ROWS[0]) == 12);
 }

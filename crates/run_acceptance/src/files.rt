@@ -23,3 +23,24 @@ pub fn folder_of(
     }
     Ok(folder)
 }
+
+/// A folder of these files and one more, of which this call fails.
+pub fn folder_with(
+    alloc: Global,
+    files: &[(&str, &str)],
+    name: &str,
+    held: &str,
+    failing: u64,
+) -> Result<MemoryFolder, Memory> {
+    let mut folder = folder_of(alloc, files, failing)?;
+    folder.put(name, held.as_bytes())?;
+    Ok(folder)
+}
+
+/// Whether the file holds this.
+pub fn holds(folder: &MemoryFolder, name: &str, held: &str) -> bool {
+    match folder.bytes(name) {
+        Some(bytes) => bytes == held.as_bytes(),
+        None => false,
+    }
+}

@@ -3,6 +3,8 @@
 #![tactic(auto)]
 
 #[cfg(test)]
+mod by_rule;
+#[cfg(test)]
 mod catalogue_command_tests;
 #[cfg(test)]
 mod catalogue_tests;
@@ -21,8 +23,14 @@ mod proposers_tests;
 #[cfg(test)]
 mod quotient_finder_tests;
 #[cfg(test)]
+mod rows;
+#[cfg(test)]
+mod said;
+#[cfg(test)]
 mod show_command_tests;
 #[cfg(test)]
 mod solve_command_tests;
 #[cfg(test)]
 mod whole_runs_tests;
+#[cfg(test)]
+mod words;

@@ -1,36 +1,69 @@
 //! What the sampler finds.
 use crate::certificates::{OF_0_1, OF_0_3, OF_0_33, OF_0_75, is_spelled};
+use crate::rows::{Row, count_held};
+use allocation::Memory;
 use octal_code::Code;
 use proposers::Sampler;
 use quotient_finder::{Limits, Proposer, find};
 use std::alloc::Global;
-use std::test::Fail;
 
-/// Whether the sampler alone finds the certificate of this text for a code.
-fn finds(alloc: Global, code: &Code, heaps: usize, text: &str) -> Result<bool, Fail> {
-    let limits = Limits {
-        rounds: 64,
-        members: 100000,
-    };
-    let mut proposers: Vec<Box<dyn Proposer>> = Vec::new(alloc);
+const LIMITS: Limits = Limits {
+    rounds: 64,
+    members: 100000,
+};
+
+/// Adds the sampler.
+fn put_sampler(
+    alloc: Global,
+    proposers: &mut Vec<Box<dyn Proposer>>,
+    heaps: usize,
+) -> Result<(), Memory> {
     proposers.push(Box::new(alloc, Sampler::new(alloc, heaps, 64))?)?;
-    match find(alloc, code, &mut proposers, limits) {
-        Ok(certified) => Ok(is_spelled(alloc, certified.cert(), text)),
-        Err(_) => Ok(false),
+    Ok(())
+}
+
+/// Whether the proposers find the certificate of this text for a code.
+fn find_text(
+    alloc: Global,
+    code: &Code,
+    proposers: &mut Vec<Box<dyn Proposer>>,
+    text: &str,
+) -> bool {
+    match find(alloc, code, proposers, LIMITS) {
+        Ok(certified) => is_spelled(alloc, certified.cert(), text),
+        Err(_) => false,
     }
 }
 
-#[test]
-fn samples_small_games(rt: HostRuntime) -> Result<(), Fail> {
-    for (code, heaps, text) in [
-        ("0.1", 24, OF_0_1),
-        ("0.3", 24, OF_0_3),
-        ("0.33", 6, OF_0_33),
-        ("0.33", 24, OF_0_33),
-        ("0.75", 24, OF_0_75),
-    ] {
-        let read = Code::read(code.as_bytes())?;
-        assert!(rt; finds(rt.alloc(), &read, heaps, text)?, "code {code}");
+/// Whether the sampler alone finds the certificate of this text for a code.
+fn samples(alloc: Global, code: &Code, heaps: usize, text: &str) -> bool {
+    let mut proposers: Vec<Box<dyn Proposer>> = Vec::new(alloc);
+    put_sampler(alloc, &mut proposers, heaps).is_ok()
+        && find_text(alloc, code, &mut proposers, text)
+}
+
+/// A code, how many heaps are looked at, and the certificate.
+struct Sampled(&'static str, usize, &'static str);
+
+impl Row for Sampled {
+    fn holds(&self, alloc: Global) -> bool {
+        let Sampled(digits, heaps, text) = *self;
+        match Code::read(digits.as_bytes()) {
+            Ok(code) => samples(alloc, &code, heaps, text),
+            Err(_) => false,
+        }
     }
-    Ok(())
+}
+
+static ROWS: [Sampled; 5] = [
+    Sampled("0.1", 24, OF_0_1),
+    Sampled("0.3", 24, OF_0_3),
+    Sampled("0.33", 6, OF_0_33),
+    Sampled("0.33", 24, OF_0_33),
+    Sampled("0.75", 24, OF_0_75),
+];
+
+#[test]
+fn samples_small_games(rt: HostRuntime) {
+    assert!(rt; count_held(rt.alloc(), &ROWS) == 5);
 }

@@ -1,11 +1,11 @@
 //! Proposers that lie, that learn nothing and that give nothing, and what a search tells them.
 use crate::certificates::{OF_0_3, OF_0_75, RIGHT_UP_TO_8, is_spelled};
+use crate::rows::{Row, count_held};
 use allocation::Memory;
 use checker::Refusal;
 use octal_code::Code;
 use quotient_finder::{GaveUp, Limits, Proposer, find};
 use std::alloc::Global;
-use std::test::Fail;
 
 /// The code that the proposers are asked for.
 const ASKED: &[u8] = b"0.75";
@@ -73,96 +73,159 @@ impl Proposer for Counting {
     }
 }
 
-/// Proposers of these habits.
-fn proposers_of(alloc: Global, habits: &[Habit]) -> Result<Vec<Box<dyn Proposer>>, Memory> {
-    let mut proposers: Vec<Box<dyn Proposer>> = Vec::new(alloc);
-    for habit in habits {
-        let counting = Counting {
-            alloc,
-            habit: *habit,
-            asked: 0,
-            told: 0,
-            last: 0,
-        };
-        proposers.push(Box::new(alloc, counting)?)?;
-    }
-    Ok(proposers)
-}
-
-/// Whether these are the proposers' counts: how often each was asked and told, and the number that
-/// it was told last.
-fn have_counted(
+/// Adds a proposer of this habit.
+fn put_proposer(
     alloc: Global,
     proposers: &mut Vec<Box<dyn Proposer>>,
-    counts: &[u8],
-) -> Result<bool, Fail> {
-    let report = Code::read(b"0.1")?;
-    let mut counted = Vec::new(alloc);
-    for proposer in proposers.iter_mut() {
-        if let Some(told) = proposer.propose(&report)? {
-            counted.extend_from_slice(&told)?;
+    habit: Habit,
+) -> Result<(), Memory> {
+    let counting = Counting {
+        alloc,
+        habit,
+        asked: 0,
+        told: 0,
+        last: 0,
+    };
+    proposers.push(Box::new(alloc, counting)?)?;
+    Ok(())
+}
+
+/// Adds proposers of these habits.
+fn put_proposers(
+    alloc: Global,
+    proposers: &mut Vec<Box<dyn Proposer>>,
+    habits: &[Habit],
+) -> Result<(), Memory> {
+    for habit in habits {
+        put_proposer(alloc, proposers, *habit)?;
+    }
+    Ok(())
+}
+
+/// How often a proposer was asked and told, and the number that it was told last.
+type Counts = [u8; 3];
+
+/// Whether the counts are reported.
+fn are_reported(report: &Option<Vec<u8>>, counts: &Counts) -> bool {
+    match report {
+        Some(told) => told.as_slice() == counts.as_slice(),
+        None => false,
+    }
+}
+
+/// Whether these are a proposer's counts.
+fn has_counted(proposer: &mut Box<dyn Proposer>, report: &Code, counts: &Counts) -> bool {
+    match proposer.propose(report) {
+        Ok(told) => are_reported(&told, counts),
+        Err(_) => false,
+    }
+}
+
+/// Whether these are the counts of the proposers, one after the other.
+fn each_has_counted(
+    proposers: &mut Vec<Box<dyn Proposer>>,
+    report: &Code,
+    counts: &[Counts],
+) -> bool {
+    for (proposer, wanted) in proposers.iter_mut().zip(counts) {
+        if !has_counted(proposer, report, wanted) {
+            return false;
         }
     }
-    Ok(counted.as_slice() == counts)
+    true
 }
 
-/// Whether a search through the proposers finds the quotient of 0.75, or why it gives up.
-fn search(
+/// Whether these are the proposers' counts.
+fn have_counted(proposers: &mut Vec<Box<dyn Proposer>>, counts: &[Counts]) -> bool {
+    match Code::read(b"0.1") {
+        Ok(report) => {
+            proposers.len() == counts.len() && each_has_counted(proposers, &report, counts)
+        }
+        Err(_) => false,
+    }
+}
+
+/// Whether a search through the proposers ends so: that it finds the quotient of 0.75, or why it
+/// gives up.
+fn ends_so(
     alloc: Global,
+    code: &Code,
     proposers: &mut Vec<Box<dyn Proposer>>,
     rounds: u32,
-) -> Result<Result<bool, GaveUp>, Fail> {
-    let code = Code::read(ASKED)?;
+    end: Result<bool, GaveUp>,
+) -> bool {
     let limits = Limits {
         rounds,
         members: 100000,
     };
-    match find(alloc, &code, proposers, limits) {
-        Ok(certified) => Ok(Ok(is_spelled(alloc, certified.cert(), OF_0_75))),
-        Err(why) => Ok(Err(why)),
+    match find(alloc, code, proposers, limits) {
+        Ok(certified) => end == Ok(is_spelled(alloc, certified.cert(), OF_0_75)),
+        Err(why) => end == Err(why),
     }
 }
 
-/// What a search through proposers of these habits answers, and whether these are their counts.
-fn searched(
-    alloc: Global,
-    habits: &[Habit],
-    rounds: u32,
-    counts: &[u8],
-) -> Result<(Result<bool, GaveUp>, bool), Fail> {
-    let mut proposers = proposers_of(alloc, habits)?;
-    let answer = search(alloc, &mut proposers, rounds)?;
-    Ok((answer, have_counted(alloc, &mut proposers, counts)?))
+/// The habits of proposers, the rounds, how a search through them ends, and their counts.
+struct Searched(
+    &'static [Habit],
+    u32,
+    Result<bool, GaveUp>,
+    &'static [Counts],
+);
+
+/// Whether a search through these proposers ends as in the row, with the counts of the row.
+fn searches(alloc: Global, proposers: &mut Vec<Box<dyn Proposer>>, row: &Searched) -> bool {
+    let Searched(_, rounds, end, counts) = *row;
+    match Code::read(ASKED) {
+        Ok(code) => {
+            ends_so(alloc, &code, proposers, rounds, end) && have_counted(proposers, counts)
+        }
+        Err(_) => false,
+    }
+}
+
+impl Row for Searched {
+    fn holds(&self, alloc: Global) -> bool {
+        let mut proposers: Vec<Box<dyn Proposer>> = Vec::new(alloc);
+        put_proposers(alloc, &mut proposers, self.0).is_ok()
+            && searches(alloc, &mut proposers, self)
+    }
+}
+
+static ROWS: [Searched; 11] = [
+    Searched(&[], 0, Err(GaveUp::Empty), &[]),
+    Searched(&[], 3, Err(GaveUp::Empty), &[]),
+    Searched(&[RIGHT], 0, Err(GaveUp::Rounds), &[[0, 0, 0]]),
+    Searched(&[WRONG], 3, Err(GaveUp::Rounds), &[[3, 3, 7]]),
+    Searched(&[Habit::Never], 3, Err(GaveUp::Empty), &[[1, 0, 0]]),
+    Searched(&[Habit::Never], 1, Err(GaveUp::Empty), &[[1, 0, 0]]),
+    Searched(
+        &[WRONG, Habit::Never],
+        3,
+        Err(GaveUp::Rounds),
+        &[[3, 3, 7], [3, 0, 0]],
+    ),
+    Searched(&[Habit::Wanting], 3, Err(GaveUp::Memory), &[[1, 0, 0]]),
+    Searched(
+        &[Habit::Longer(5_000_000)],
+        2,
+        Err(GaveUp::Rounds),
+        &[[2, 2, 1]],
+    ),
+    Searched(&[OTHER], 2, Err(GaveUp::Rounds), &[[2, 0, 0]]),
+    Searched(
+        &[Habit::Always("x"), OTHER, RIGHT, WRONG],
+        2,
+        Ok(true),
+        &[[1, 1, 1], [1, 0, 0], [1, 0, 0], [0, 0, 0]],
+    ),
+];
+
+/// Whether the reasons have their numbers.
+fn are_numbered() -> bool {
+    GaveUp::Rounds.number() == 1 && GaveUp::Empty.number() == 2 && GaveUp::Memory.number() == 9
 }
 
 #[test]
-fn finds_or_gives_up(rt: HostRuntime) -> Result<(), Fail> {
-    let none: [Habit; 0] = [];
-    let four = [Habit::Always("x"), OTHER, RIGHT, WRONG];
-    let empty: Result<bool, GaveUp> = Err(GaveUp::Empty);
-    let spent: Result<bool, GaveUp> = Err(GaveUp::Rounds);
-    let rows: [(&[Habit], u32, Result<bool, GaveUp>, &[u8]); 11] = [
-        (&none, 0, empty, &[]),
-        (&none, 3, empty, &[]),
-        (&[RIGHT], 0, spent, &[0, 0, 0]),
-        (&[WRONG], 3, spent, &[3, 3, 7]),
-        (&[Habit::Never], 3, empty, &[1, 0, 0]),
-        (&[Habit::Never], 1, empty, &[1, 0, 0]),
-        (&[WRONG, Habit::Never], 3, spent, &[3, 3, 7, 3, 0, 0]),
-        (&[Habit::Wanting], 3, Err(GaveUp::Memory), &[1, 0, 0]),
-        (&[Habit::Longer(5_000_000)], 2, spent, &[2, 2, 1]),
-        (&[OTHER], 2, spent, &[2, 0, 0]),
-        (&four, 2, Ok(true), &[1, 1, 1, 1, 0, 0, 1, 0, 0, 0, 0, 0]),
-    ];
-    for (row, (habits, rounds, answer, counts)) in rows.into_iter().enumerate() {
-        let ended = searched(rt.alloc(), habits, rounds, counts)?;
-        assert!(rt; ended == (answer, true), "row {row}");
-    }
-    let numbers = (
-        GaveUp::Rounds.number(),
-        GaveUp::Empty.number(),
-        GaveUp::Memory.number(),
-    );
-    assert!(rt; numbers == (1, 2, 9));
-    Ok(())
+fn finds_or_gives_up(rt: HostRuntime) {
+    assert!(rt; count_held(rt.alloc(), &ROWS) == 11 && are_numbered());
 }

@@ -3,17 +3,18 @@ mod fakes;
 
 use self::fakes::{SAMPLES, Words};
 use crate::certificates::{OF_0_3, OF_0_33};
-use crate::files::{EMPTY, ONE_ENTRY, folder_of};
-use allocation::Memory;
+use crate::files::{EMPTY, ONE_ENTRY, folder_of, holds};
+use crate::rows::{Row, Step, count_held, count_steps};
+use crate::words::line_words;
 use command_results::{Stop, words_of};
 use devices::{FailingSink, FailingSource};
 use folders::MemoryFolder;
 use std::alloc::Global;
-use std::test::Fail;
 use streams::{MemorySink, MemorySource, Sink, Source};
 use whole_runs::run as run_whole;
 
-/// Runs the words between the bars, behind the program's name, in the folder: the status.
+/// Runs the words between the bars, behind the program's name, in the folder: the status, or 9
+/// where there is no memory for the words.
 fn run_line<S: Source, W: Sink>(
     alloc: Global,
     line: &str,
@@ -21,305 +22,391 @@ fn run_line<S: Source, W: Sink>(
     input: &mut S,
     out: &mut W,
     err: &mut MemorySink,
-) -> Result<u8, Memory> {
-    let mut words = vec![in alloc; "misere"]?;
-    for word in line.split('|') {
-        words.push(word)?;
+) -> u8 {
+    match line_words(alloc, line) {
+        Ok(words) => run_whole(alloc, words.as_slice(), folder, input, out, err),
+        Err(_) => 9,
     }
-    Ok(run_whole(alloc, words.as_slice(), folder, input, out, err))
 }
 
 /// The words, the call of the folder that fails, the status, and what is printed and told.
-type Row = (&'static str, u64, u8, &'static str, &'static str);
+struct Run(&'static str, u64, u8, &'static str, &'static str);
 
-/// Whether a run where the samples lie ends so, and whether the catalogue is as it was.
-fn end_of<S: Source>(alloc: Global, row: &Row, input: &mut S) -> Result<(bool, bool), Memory> {
-    let (line, failing, status, printed, told) = *row;
-    let mut folder = folder_of(alloc, &SAMPLES, failing)?;
-    let (mut out, mut err) = (MemorySink::new(alloc), MemorySink::new(alloc));
-    let ended = run_line(alloc, line, &mut folder, input, &mut out, &mut err)?;
-    let is_so = ended == status
-        && out.bytes() == printed.as_bytes()
-        && err.bytes() == told.as_bytes();
-    Ok((is_so, folder.bytes("x.json") == Some(ONE_ENTRY.as_bytes())))
+/// Whether a run in the folder has the status, and tells what is told.
+fn tells<S: Source, W: Sink>(
+    alloc: Global,
+    run: &Run,
+    folder: &mut MemoryFolder,
+    input: &mut S,
+    out: &mut W,
+) -> bool {
+    let Run(line, _, status, _, told) = *run;
+    let mut err = MemorySink::new(alloc);
+    run_line(alloc, line, folder, input, out, &mut err) == status && err.bytes() == told.as_bytes()
+}
+
+/// Whether a run in the folder ends so.
+fn ends_so<S: Source>(alloc: Global, run: &Run, folder: &mut MemoryFolder, input: &mut S) -> bool {
+    let mut out = MemorySink::new(alloc);
+    tells(alloc, run, folder, input, &mut out) && out.bytes() == run.3.as_bytes()
+}
+
+/// Whether a run where the samples lie ends so, and the catalogue holds this then.
+fn ends_with<S: Source>(alloc: Global, run: &Run, input: &mut S, held: &str) -> bool {
+    match folder_of(alloc, &SAMPLES, run.1) {
+        Ok(mut folder) => {
+            ends_so(alloc, run, &mut folder, input) && holds(&folder, "x.json", held)
+        }
+        Err(_) => false,
+    }
 }
 
 const YES: &str = "yes 0.3 order 2 start 1 period 2\n";
 
 /// Of most a second call of the folder would fail.
-static ROWS: [Row; 41] = [
-    (
+static ROWS: [Run; 41] = [
+    Run(
         "check|0.33.mqc",
         2,
         0,
         "yes 0.33 order 6 start 1 period 3\n",
         "",
     ),
-    ("check|0.3.mqc", 2, 0, YES, ""),
-    ("check|--limit=3|0.3.mqc", 2, 0, YES, ""),
-    ("check|0.3.mqc|--limit|2", 2, 1, "no 8 Limit\n", ""),
-    ("check|text_crlf.mqc", 2, 1, "no 1 Text\n", ""),
-    ("check", 2, 1, "no 1 Text\n", ""),
-    ("play|0.33.mqc|2 1000000000000", 2, 0, "wins 2 -> 0\n", ""),
-    ("play|0.3.mqc|1 1", 2, 0, "wins 1 -> 0\n", ""),
-    ("play|0.33.mqc|0", 2, 0, "ended\n", ""),
-    ("play|0.33.mqc|2 2", 2, 0, "lost\n", ""),
-    ("play|text_crlf.mqc|1", 2, 1, "no 1 Text\n", ""),
-    ("show|text_crlf.mqc", 2, 1, "no 1 Text\n", ""),
-    (
+    Run("check|0.3.mqc", 2, 0, YES, ""),
+    Run("check|--limit=3|0.3.mqc", 2, 0, YES, ""),
+    Run("check|0.3.mqc|--limit|2", 2, 1, "no 8 Limit\n", ""),
+    Run("check|text_crlf.mqc", 2, 1, "no 1 Text\n", ""),
+    Run("check", 2, 1, "no 1 Text\n", ""),
+    Run("play|0.33.mqc|2 1000000000000", 2, 0, "wins 2 -> 0\n", ""),
+    Run("play|0.3.mqc|1 1", 2, 0, "wins 1 -> 0\n", ""),
+    Run("play|0.33.mqc|0", 2, 0, "ended\n", ""),
+    Run("play|0.33.mqc|2 2", 2, 0, "lost\n", ""),
+    Run("play|text_crlf.mqc|1", 2, 1, "no 1 Text\n", ""),
+    Run("show|text_crlf.mqc", 2, 1, "no 1 Text\n", ""),
+    Run(
         "show|0.3.mqc",
         2,
         0,
         "code 0.3\norder 2\nelement 0 N 0\nelement 1 P 1\nheap 1 1\nheap 2 0\nrepeat 2 from 1\n",
         "",
     ),
-    (
+    Run(
         "present|a^2=1",
         2,
         0,
         "order 2\ngenerators a=1\nrow 0 1\nrow 1 0\n",
         "",
     ),
-    ("present|a=b", 2, 1, "refused 2 Unbounded\n", ""),
-    ("present|", 2, 1, "refused 1 Text\n", ""),
-    ("solve|0.3", 2, 0, OF_0_3, ""),
-    (
+    Run("present|a=b", 2, 1, "refused 2 Unbounded\n", ""),
+    Run("present|", 2, 1, "refused 1 Text\n", ""),
+    Run("solve|0.3", 2, 0, OF_0_3, ""),
+    Run(
         "solve|0.3|--rounds|1|--heaps|12|--order|4",
         2,
         0,
         OF_0_3,
         "",
     ),
-    ("solve|0.33|--heaps|2", 2, 1, "gave up 2 Empty\n", ""),
-    (
+    Run("solve|0.33|--heaps|2", 2, 1, "gave up 2 Empty\n", ""),
+    Run(
         "catalogue|x.json",
         2,
         0,
         "0.3 order 2 start 1 period 2\n",
         "",
     ),
-    ("catalogue|x.json|--get|0.3", 2, 0, OF_0_3, ""),
-    ("catalogue|x.json|--get|0.33", 2, 1, "absent\n", ""),
-    (
+    Run("catalogue|x.json|--get|0.3", 2, 0, OF_0_3, ""),
+    Run("catalogue|x.json|--get|0.33", 2, 1, "absent\n", ""),
+    Run(
         "catalogue|y.json|--new|--add|0.3.mqc",
         3,
         0,
         "added 0.3\n",
         "",
     ),
-    (
+    Run(
         "desk|steps",
         3,
         0,
         "opened 1\nyes 0.3 order 2 start 1 period 2\n",
         "",
     ),
-    ("desk|0.3.mqc", 2, 2, "", "misere: line 1 isn't a step\n"),
-    ("desk|nowhere", 2, 3, "", "misere: cannot read nowhere\n"),
-    ("play|nowhere.mqc|01", 2, 2, "", "misere: not a position\n"),
-    ("solve|0.8", 2, 2, "", "misere: not a code\n"),
-    (
+    Run("desk|0.3.mqc", 2, 2, "", "misere: line 1 isn't a step\n"),
+    Run("desk|nowhere", 2, 3, "", "misere: cannot read nowhere\n"),
+    Run("play|nowhere.mqc|01", 2, 2, "", "misere: not a position\n"),
+    Run("solve|0.8", 2, 2, "", "misere: not a code\n"),
+    Run(
         "catalogue|nowhere.json|--get|0.x",
         2,
         2,
         "",
         "misere: not a code\n",
     ),
-    (
+    Run(
         "play|nowhere.mqc|1",
         2,
         3,
         "",
         "misere: cannot read nowhere.mqc\n",
     ),
-    (
+    Run(
         "show|nowhere.mqc",
         2,
         3,
         "",
         "misere: cannot read nowhere.mqc\n",
     ),
-    (
+    Run(
         "check|nowhere.mqc",
         2,
         3,
         "",
         "misere: cannot read nowhere.mqc\n",
     ),
-    (
+    Run(
         "catalogue|nowhere.json",
         2,
         3,
         "",
         "misere: cannot read nowhere.json\n",
     ),
-    (
+    Run(
         "check|0.3.mqc|--limit|1000001",
         2,
         2,
         "",
         "misere: the limit is a number from 1 to 1000000\n",
     ),
-    (
+    Run(
         "check|nowhere.mqc|--limit|x",
         2,
         2,
         "",
         "misere: the limit is a number from 1 to 1000000\n",
     ),
-    (
+    Run(
         "catalogue|x.json|--new|--get|0.3",
         2,
         2,
         "",
         "misere: --get goes without --new and --add, --salvage without all three\n",
     ),
-    ("check|0.3.mqc", 1, 3, "", "misere: cannot read 0.3.mqc\n"),
-    ("show|0.3.mqc", 1, 3, "", "misere: cannot read 0.3.mqc\n"),
-    ("play|0.3.mqc|1", 1, 3, "", "misere: cannot read 0.3.mqc\n"),
-    ("catalogue|x.json", 1, 3, "", "misere: cannot read x.json\n"),
-    ("catalogue|x.json|--new", 1, 3, "", "misere: cannot write\n"),
+    Run("check|0.3.mqc", 1, 3, "", "misere: cannot read 0.3.mqc\n"),
+    Run("show|0.3.mqc", 1, 3, "", "misere: cannot read 0.3.mqc\n"),
+    Run("play|0.3.mqc|1", 1, 3, "", "misere: cannot read 0.3.mqc\n"),
+    Run("catalogue|x.json", 1, 3, "", "misere: cannot read x.json\n"),
+    Run("catalogue|x.json|--new", 1, 3, "", "misere: cannot write\n"),
 ];
 
-#[test]
-fn does_what_is_asked(rt: HostRuntime) -> Result<(), Fail> {
-    for row in &ROWS {
-        let ended = end_of(rt.alloc(), row, &mut MemorySource::new(b""))?;
-        assert!(rt; ended == (true, true), "of {}, call {}", row.0, row.1);
+/// The run ends so and leaves the catalogue as it was.
+impl Row for Run {
+    fn holds(&self, alloc: Global) -> bool {
+        ends_with(alloc, self, &mut MemorySource::new(b""), ONE_ENTRY)
     }
-    let made = ("catalogue|x.json|--new", 2, 0, "", "");
-    assert!(rt; end_of(rt.alloc(), &made, &mut MemorySource::new(b""))? == (true, false));
-    Ok(())
 }
 
-#[test]
-fn reads_standard_input(rt: HostRuntime) -> Result<(), Fail> {
-    let held = OF_0_3.as_bytes();
-    let row = ("check", 2, 0, YES, "");
-    assert!(rt; end_of(rt.alloc(), &row, &mut MemorySource::new(held))?.0);
-    let row = ("check", 2, 3, "", "misere: cannot read standard input\n");
-    let mut input = FailingSource::new(MemorySource::new(held), 1);
-    assert!(rt; end_of(rt.alloc(), &row, &mut input)?.0);
-    Ok(())
-}
+/// A run that makes the catalogue anew.
+static MADE: Run = Run("catalogue|x.json|--new", 2, 0, "", "");
 
-/// Whether a run tells that it can't write what it prints.
-fn tells_no_output(alloc: Global, line: &str) -> Result<bool, Memory> {
-    let mut folder = folder_of(alloc, &SAMPLES, 0)?;
-    let mut out = FailingSink::new(MemorySink::new(alloc), 1);
-    let mut err = MemorySink::new(alloc);
-    let mut input = MemorySource::new(b"");
-    let status = run_line(alloc, line, &mut folder, &mut input, &mut out, &mut err)?;
-    Ok(status == 3 && err.bytes() == b"misere: cannot write\n".as_slice())
-}
+/// Runs that read standard input, as it is and where it fails.
+static READ: Run = Run("check", 2, 0, YES, "");
 
-#[test]
-fn tells_where_it_cannot_write(rt: HostRuntime) -> Result<(), Fail> {
-    for line in [
-        "check|0.3.mqc",
-        "check|--help",
-        "show|0.33.mqc",
-        "present|a=1",
-    ] {
-        assert!(rt; tells_no_output(rt.alloc(), line)?, "of {line}");
-    }
-    Ok(())
-}
+static UNREAD: Run = Run("check", 2, 3, "", "misere: cannot read standard input\n");
 
-/// What is asked, one after another of the same files, and what the catalogue holds then.
-static CHANGES: [(&str, &str); 8] = [
-    ("check|0.3.mqc", ONE_ENTRY),
-    ("show|0.33.mqc", ONE_ENTRY),
-    ("play|0.33.mqc|1", ONE_ENTRY),
-    ("bogus", ONE_ENTRY),
-    ("catalogue|x.json|--new", EMPTY),
-    ("catalogue|x.json|--add|text_crlf.mqc", EMPTY),
-    ("catalogue|x.json|--add|0.3.mqc", ONE_ENTRY),
-    ("catalogue|x.json|--salvage", ONE_ENTRY),
-];
-
-/// Whether the catalogue holds this behind a run, and the certificates are as they were.
-fn holds_behind(
-    alloc: Global,
-    folder: &mut MemoryFolder,
-    line: &str,
-    held: &str,
-) -> Result<bool, Memory> {
-    let (mut out, mut err) = (MemorySink::new(alloc), MemorySink::new(alloc));
-    let mut input = MemorySource::new(b"");
-    let _ = run_line(alloc, line, folder, &mut input, &mut out, &mut err)?;
-    Ok(
-        folder.bytes("x.json") == Some(held.as_bytes())
-            && folder.bytes("0.3.mqc") == Some(OF_0_3.as_bytes())
-            && folder.bytes("0.33.mqc") == Some(OF_0_33.as_bytes()),
+/// Whether a run of a certificate on standard input ends so.
+fn reads_input(alloc: Global) -> bool {
+    ends_with(
+        alloc,
+        &READ,
+        &mut MemorySource::new(OF_0_3.as_bytes()),
+        ONE_ENTRY,
     )
 }
 
-#[test]
-fn changes_the_catalogue_alone(rt: HostRuntime) -> Result<(), Fail> {
-    let mut folder = folder_of(rt.alloc(), &SAMPLES, 0)?;
-    for (line, held) in &CHANGES {
-        assert!(rt;
-            holds_behind(rt.alloc(), &mut folder, line, held)?,
-            "of {line}"
-        );
-    }
-    Ok(())
+/// Whether a run with a standard input that fails ends so.
+fn tells_no_input(alloc: Global) -> bool {
+    let mut input = FailingSource::new(MemorySource::new(OF_0_3.as_bytes()), 1);
+    ends_with(alloc, &UNREAD, &mut input, ONE_ENTRY)
 }
 
-/// How many words are given, or why none are.
-fn count_of(alloc: Global, words: &[&[u8]]) -> Result<usize, Stop<'static>> {
-    match words_of(&Words { alloc, words }) {
-        Ok(given) => Ok(given.len()),
-        Err(stop) => Err(stop),
-    }
+/// Whether a run makes the catalogue anew.
+fn makes_anew(alloc: Global) -> bool {
+    ends_with(alloc, &MADE, &mut MemorySource::new(b""), EMPTY)
 }
 
 #[test]
-fn refuses_words_that_are_no_text(rt: HostRuntime) {
-    let words: [&[u8]; 3] = [b"misere", b"check", b"\xff"];
-    assert!(rt; count_of(rt.alloc(), &words) == Err(Stop::NotUtf8));
-    assert!(rt; count_of(rt.alloc(), &words[..2]) == Ok(2));
+fn does_what_is_asked(rt: HostRuntime) {
+    assert!(rt; count_held(rt.alloc(), &ROWS) == 41 && makes_anew(rt.alloc()));
+    assert!(rt; reads_input(rt.alloc()) && tells_no_input(rt.alloc()));
 }
 
-/// The status of a run, whether it prints nothing, whether it prints how it is used, and whether it
-/// tells nothing.
-fn usage_of(alloc: Global, line: &str) -> Result<(u8, bool, bool, bool), Memory> {
-    let mut folder = folder_of(alloc, &SAMPLES, 2)?;
+/// A run whose output can't be written, which is told.
+struct Unwritten(Run);
+
+impl Row for Unwritten {
+    fn holds(&self, alloc: Global) -> bool {
+        match folder_of(alloc, &SAMPLES, 0) {
+            Ok(mut folder) => tells_no_output(alloc, &self.0, &mut folder),
+            Err(_) => false,
+        }
+    }
+}
+
+static UNWRITTEN: [Unwritten; 4] = [
+    Unwritten(Run("check|0.3.mqc", 0, 3, "", "misere: cannot write\n")),
+    Unwritten(Run("check|--help", 0, 3, "", "misere: cannot write\n")),
+    Unwritten(Run("show|0.33.mqc", 0, 3, "", "misere: cannot write\n")),
+    Unwritten(Run("present|a=1", 0, 3, "", "misere: cannot write\n")),
+];
+
+/// Whether a run in the folder tells what is told where its first write fails.
+fn tells_no_output(alloc: Global, run: &Run, folder: &mut MemoryFolder) -> bool {
+    let mut out = FailingSink::new(MemorySink::new(alloc), 1);
+    tells(alloc, run, folder, &mut MemorySource::new(b""), &mut out)
+}
+
+/// What is asked, one after another of the same files, and what the catalogue holds then.
+struct Change(&'static str, &'static str);
+
+static CHANGES: [Change; 8] = [
+    Change("check|0.3.mqc", ONE_ENTRY),
+    Change("show|0.33.mqc", ONE_ENTRY),
+    Change("play|0.33.mqc|1", ONE_ENTRY),
+    Change("bogus", ONE_ENTRY),
+    Change("catalogue|x.json|--new", EMPTY),
+    Change("catalogue|x.json|--add|text_crlf.mqc", EMPTY),
+    Change("catalogue|x.json|--add|0.3.mqc", ONE_ENTRY),
+    Change("catalogue|x.json|--salvage", ONE_ENTRY),
+];
+
+/// Runs the words, whatever is printed and told: the status.
+fn status_of(alloc: Global, folder: &mut MemoryFolder, line: &str) -> u8 {
     let (mut out, mut err) = (MemorySink::new(alloc), MemorySink::new(alloc));
-    let mut input = MemorySource::new(b"");
-    let status = run_line(alloc, line, &mut folder, &mut input, &mut out, &mut err)?;
-    let is_help = match str::from_utf8(out.bytes()) {
+    run_line(
+        alloc,
+        line,
+        folder,
+        &mut MemorySource::new(b""),
+        &mut out,
+        &mut err,
+    )
+}
+
+/// The catalogue holds this behind the run, and the certificates are as they were.
+impl Step for Change {
+    fn holds(&self, alloc: Global, folder: &mut MemoryFolder) -> bool {
+        status_of(alloc, folder, self.0) != 9
+            && holds(folder, "x.json", self.1)
+            && holds(folder, "0.3.mqc", OF_0_3)
+            && holds(folder, "0.33.mqc", OF_0_33)
+    }
+}
+
+/// How many runs leave the samples so.
+fn count_changed(alloc: Global) -> usize {
+    match folder_of(alloc, &SAMPLES, 0) {
+        Ok(mut folder) => count_steps(alloc, &mut folder, &CHANGES),
+        Err(_) => 0,
+    }
+}
+
+#[test]
+fn writes_what_it_can_and_the_catalogue_alone(rt: HostRuntime) {
+    assert!(rt; count_held(rt.alloc(), &UNWRITTEN) == 4);
+    assert!(rt; count_changed(rt.alloc()) == 8);
+}
+
+/// Two words, and one that is no text behind them.
+static WORDS: [&[u8]; 2] = [b"misere", b"check"];
+
+static NO_TEXT: [&[u8]; 3] = [b"misere", b"check", b"\xff"];
+
+/// How many words are given, if they are texts.
+fn count_given(alloc: Global, words: &[&[u8]]) -> Option<usize> {
+    match words_of(&Words { alloc, words }) {
+        Ok(given) => Some(given.len()),
+        Err(_) => None,
+    }
+}
+
+/// Whether the words are refused, since one is no text.
+fn is_no_text(alloc: Global, words: &[&[u8]]) -> bool {
+    match words_of(&Words { alloc, words }) {
+        Ok(_) => false,
+        Err(stop) => matches!(stop, Stop::NotUtf8),
+    }
+}
+
+/// Whether the two texts are given, and the words with another are refused.
+fn takes_texts_alone(alloc: Global) -> bool {
+    is_no_text(alloc, &NO_TEXT) && matches!(count_given(alloc, &WORDS), Some(2))
+}
+
+/// Whether the text says how the program is used.
+fn is_usage(printed: &[u8]) -> bool {
+    match str::from_utf8(printed) {
         Ok(text) => text.contains("Usage: misere"),
         Err(_) => false,
-    };
-    Ok((
-        status,
-        out.bytes().is_empty(),
-        is_help,
-        err.bytes().is_empty(),
-    ))
+    }
 }
 
+/// What a run does with words that are a mistake or ask for help.
+enum Usage {
+    /// It tells the mistake, with status 2, and prints nothing.
+    Mistake,
+    /// It prints how the program is used, and tells nothing.
+    Help,
+}
+
+/// Whether a status, and what is printed and told, are of this usage.
+fn is_of(usage: &Usage, status: u8, printed: &[u8], told: &[u8]) -> bool {
+    match usage {
+        Usage::Mistake => {
+            status == 2 && printed.is_empty() && !is_usage(printed) && !told.is_empty()
+        }
+        Usage::Help => status == 0 && !printed.is_empty() && is_usage(printed) && told.is_empty(),
+    }
+}
+
+/// Whether a run in the folder is of this usage.
+fn uses(alloc: Global, folder: &mut MemoryFolder, line: &str, usage: &Usage) -> bool {
+    let (mut out, mut err) = (MemorySink::new(alloc), MemorySink::new(alloc));
+    let status = run_line(
+        alloc,
+        line,
+        folder,
+        &mut MemorySource::new(b""),
+        &mut out,
+        &mut err,
+    );
+    is_of(usage, status, out.bytes(), err.bytes())
+}
+
+/// Words that are a mistake or ask how the program is used.
+struct Used(&'static str, Usage);
+
+impl Row for Used {
+    fn holds(&self, alloc: Global) -> bool {
+        match folder_of(alloc, &SAMPLES, 2) {
+            Ok(mut folder) => uses(alloc, &mut folder, self.0, &self.1),
+            Err(_) => false,
+        }
+    }
+}
+
+static USAGES: [Used; 8] = [
+    Used("bogus", Usage::Mistake),
+    Used("check|a|b", Usage::Mistake),
+    Used("check|--bogus", Usage::Mistake),
+    Used("check|--limit", Usage::Mistake),
+    Used("show", Usage::Mistake),
+    Used("--help", Usage::Help),
+    Used("help", Usage::Help),
+    Used("check|--help", Usage::Help),
+];
+
 #[test]
-fn tells_usage(rt: HostRuntime) -> Result<(), Fail> {
-    for line in [
-        "bogus",
-        "check|a|b",
-        "check|--bogus",
-        "check|--limit",
-        "show",
-    ] {
-        assert!(rt;
-            usage_of(rt.alloc(), line)? == (2, true, false, false),
-            "of {line}"
-        );
-    }
-    for line in ["--help", "help", "check|--help"] {
-        assert!(rt;
-            usage_of(rt.alloc(), line)? == (0, false, true, true),
-            "of {line}"
-        );
-    }
-    Ok(())
+fn tells_usage_and_words_that_are_no_text(rt: HostRuntime) {
+    assert!(rt; count_held(rt.alloc(), &USAGES) == 8);
+    assert!(rt; takes_texts_alone(rt.alloc()));
 }
