@@ -83,9 +83,14 @@ fn ends_again(job: &mut Job, units: u64, number: u8) -> bool {
     begins && stands(job, number, spent)
 }
 
-/// Whether the job runs as the row says.
+/// Whether the job runs as the row says, and once more.
+fn ends_twice(job: &mut Job, row: &Row) -> bool {
+    ends(job, row) && ends_again(job, row.3, row.4)
+}
+
+/// Whether a job runs as the row says.
 fn is_held(mut job: Job, row: &Row) -> bool {
-    ends(&mut job, row) && ends_again(&mut job, row.3, row.4)
+    ends_twice(&mut job, row)
 }
 
 /// How many rows hold.

@@ -11,3 +11,6 @@ returns-in-Ok-clause-said g c =
           w.1,
       w.2,
     )
+
+pub returns-in-Err-Read-clause-stops : goal.returns-in-Err-Read-clause-stops
+returns-in-Err-Read-clause-stops g c = search rules

@@ -5,6 +5,7 @@ use Rattle.checker.proofs.HeldLemmas.{held_obey, last_obeys, broken_at}
 use Rattle.pair_closure.specs.Progress.{State, SameData, steps}
 use Rattle.checker.specs.Turns.Phase.{Closing}
 use Rattle.checker.proofs.TurnLemmas.{runs-none}
+use Rattle.checker.proofs.LookedLemmas.{broken_done, broken_more, broken_over, done_broken, done_more, done_over, err_ok, more_broken, more_done, more_over, over_broken, over_done, over_more}
 use Rattle.checker.proofs.CloseTurns.{ok_takes, err_refused, kept_takes, takes_fresh, refused_runs, runs-left, broken_runs, over_runs, done_runs, more_runs}
 use Rattle.checker.proofs.closing.close.Goals.{then-ever+else-not-obeys, else-ever}
 use Rattle.checker.proofs.closing.close.Goals as goal
@@ -302,3 +303,111 @@ returns-then-ever-2-clause-more g c = λ _.
       held_obey c.args.inside.now p.state t c.grow_to_member-grown.ensures.kept
           c.members.invariant.obey (λ l. absurd (omega arith)),
     )
+
+pub returns-then-not-obeys-clause-more : goal.returns-then-not-obeys-clause-more
+returns-then-not-obeys-clause-more g c = broken_more
+
+pub returns-then-not-obeys-clause-done : goal.returns-then-not-obeys-clause-done
+returns-then-not-obeys-clause-done g c = broken_done
+
+pub returns-then-not-obeys-clause-over : goal.returns-then-not-obeys-clause-over
+returns-then-not-obeys-clause-over g c = broken_over
+
+pub returns-then-not-obeys-clause-stays : goal.returns-then-not-obeys-clause-stays
+returns-then-not-obeys-clause-stays g c = broken_more
+
+pub returns-then-not-obeys-clause-turns : goal.returns-then-not-obeys-clause-turns
+returns-then-not-obeys-clause-turns g c = broken_more
+
+pub returns-then-not-obeys-clause-yes : goal.returns-then-not-obeys-clause-yes
+returns-then-not-obeys-clause-yes g c = broken_done
+
+pub returns-then-not-obeys-clause-limit : goal.returns-then-not-obeys-clause-limit
+returns-then-not-obeys-clause-limit g c = broken_over
+
+pub returns-in-Err-clause-more : goal.returns-in-Err-clause-more
+returns-in-Err-clause-more g c = err_ok
+
+pub returns-in-Err-clause-done : goal.returns-in-Err-clause-done
+returns-in-Err-clause-done g c = err_ok
+
+pub returns-in-Err-clause-over : goal.returns-in-Err-clause-over
+returns-in-Err-clause-over g c = err_ok
+
+pub returns-in-Err-clause-broken : goal.returns-in-Err-clause-broken
+returns-in-Err-clause-broken g c = λ i. err_ok
+
+pub returns-in-Err-clause-stays : goal.returns-in-Err-clause-stays
+returns-in-Err-clause-stays g c = err_ok
+
+pub returns-in-Err-clause-turns : goal.returns-in-Err-clause-turns
+returns-in-Err-clause-turns g c = err_ok
+
+pub returns-in-Err-clause-yes : goal.returns-in-Err-clause-yes
+returns-in-Err-clause-yes g c = err_ok
+
+pub returns-in-Err-clause-limit : goal.returns-in-Err-clause-limit
+returns-in-Err-clause-limit g c = err_ok
+
+pub returns-in-Err-clause-outcome : goal.returns-in-Err-clause-outcome
+returns-in-Err-clause-outcome g c = λ i. err_ok
+
+pub returns-in-Ok-Done-clause-more : goal.returns-in-Ok-Done-clause-more
+returns-in-Ok-Done-clause-more g c = done_more
+
+pub returns-in-Ok-Done-clause-over : goal.returns-in-Ok-Done-clause-over
+returns-in-Ok-Done-clause-over g c = done_over
+
+pub returns-in-Ok-Done-clause-broken : goal.returns-in-Ok-Done-clause-broken
+returns-in-Ok-Done-clause-broken g c = λ i. done_broken
+
+pub returns-in-Ok-Done-clause-stays : goal.returns-in-Ok-Done-clause-stays
+returns-in-Ok-Done-clause-stays g c = done_more
+
+pub returns-in-Ok-Done-clause-turns : goal.returns-in-Ok-Done-clause-turns
+returns-in-Ok-Done-clause-turns g c = done_more
+
+pub returns-in-Ok-Done-clause-limit : goal.returns-in-Ok-Done-clause-limit
+returns-in-Ok-Done-clause-limit g c = done_over
+
+pub returns-in-Ok-Done-clause-outcome : goal.returns-in-Ok-Done-clause-outcome
+returns-in-Ok-Done-clause-outcome g c = λ i. done_broken
+
+pub returns-in-Ok-Over-clause-more : goal.returns-in-Ok-Over-clause-more
+returns-in-Ok-Over-clause-more g c = over_more
+
+pub returns-in-Ok-Over-clause-done : goal.returns-in-Ok-Over-clause-done
+returns-in-Ok-Over-clause-done g c = over_done
+
+pub returns-in-Ok-Over-clause-broken : goal.returns-in-Ok-Over-clause-broken
+returns-in-Ok-Over-clause-broken g c = λ i. over_broken
+
+pub returns-in-Ok-Over-clause-stays : goal.returns-in-Ok-Over-clause-stays
+returns-in-Ok-Over-clause-stays g c = over_more
+
+pub returns-in-Ok-Over-clause-turns : goal.returns-in-Ok-Over-clause-turns
+returns-in-Ok-Over-clause-turns g c = over_more
+
+pub returns-in-Ok-Over-clause-yes : goal.returns-in-Ok-Over-clause-yes
+returns-in-Ok-Over-clause-yes g c = over_done
+
+pub returns-in-Ok-Over-clause-outcome : goal.returns-in-Ok-Over-clause-outcome
+returns-in-Ok-Over-clause-outcome g c = λ i. over_broken
+
+pub returns-then-ever-2-clause-done : goal.returns-then-ever-2-clause-done
+returns-then-ever-2-clause-done g c = more_done
+
+pub returns-then-ever-2-clause-over : goal.returns-then-ever-2-clause-over
+returns-then-ever-2-clause-over g c = more_over
+
+pub returns-then-ever-2-clause-broken : goal.returns-then-ever-2-clause-broken
+returns-then-ever-2-clause-broken g c = λ i. more_broken
+
+pub returns-then-ever-2-clause-yes : goal.returns-then-ever-2-clause-yes
+returns-then-ever-2-clause-yes g c = more_done
+
+pub returns-then-ever-2-clause-limit : goal.returns-then-ever-2-clause-limit
+returns-then-ever-2-clause-limit g c = more_over
+
+pub returns-then-ever-2-clause-outcome : goal.returns-then-ever-2-clause-outcome
+returns-then-ever-2-clause-outcome g c = λ i. more_broken

@@ -1,4 +1,4 @@
-use Rattle.std.proofs.Common.{arith}
+use Rattle.std.proofs.Common.{rules, arith}
 use Rattle.std.proofs.lemmas.Result.{IfOk-from_err}
 use Rattle.streams.proofs.whole.read_whole.Goals as goal
 
@@ -39,3 +39,6 @@ returns-clause-end g c = λ short. absurd (omega (arith, c.len.ensures, c.loop-c
 
 pub returns-clause-cause : goal.returns-clause-cause
 returns-clause-cause g c = c.loop-chunk.invariant.1
+
+pub returns-in_err-n-clause-cause : goal.returns-in_err-n-clause-cause
+returns-in_err-n-clause-cause g c = search rules

@@ -1,4 +1,4 @@
-use Rattle.std.proofs.Common.{subst}
+use Rattle.std.proofs.Common.{rules, subst}
 use Rattle.checker.specs.JobViews.{IsDue}
 use Rattle.checker.proofs.DueLemmas.{come_due}
 use Rattle.checker.proofs.job.Job.spent.Goals as goal
@@ -10,3 +10,6 @@ returns-clause-due g c =
     subst IsDue c.self.view_is
     (come_due j.bytes.items j.limit (e.spent j.bytes.items j.limit)
     (e.before j.bytes.items j.limit) j.spent j.stage c.self.invariant.come)
+
+pub returns-clause-value : goal.returns-clause-value
+returns-clause-value g c = search rules

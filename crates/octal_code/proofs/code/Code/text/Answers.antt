@@ -1,4 +1,4 @@
-use Rattle.std.proofs.Common.{◌≡◌, ◌+◌, ◌<◌, ◌++◌, [], ◌∷◌, ◌∙◌, ap, ap₂, arith, length}
+use Rattle.std.proofs.Common.{rules, ◌≡◌, ◌+◌, ◌<◌, ◌++◌, [], ◌∷◌, ◌∙◌, ap, ap₂, arith, length}
 use Rattle.octal_code.specs.Text.{digit_byte}
 use Rattle.octal_code.proofs.Written.{text_more, text_whole}
 use Rattle.octal_code.proofs.code.Code.text.Goals as goal
@@ -22,3 +22,6 @@ returns g c =
     let value = c.last-2.ensures.value in
     let over : c.loop-j.j ≡ length c.args.self.now = let end = c.loop-j.auto.j-end in omega arith in
     c.loop-j.invariant ∙ text_whole c.args.self.now (c.loop-j.j + 1) (omega arith) (omega arith)
+
+pub loop-j-init : goal.loop-j-init
+loop-j-init g c = search rules

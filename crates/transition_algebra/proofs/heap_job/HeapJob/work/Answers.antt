@@ -1,3 +1,4 @@
+use Rattle.std.proofs.Common.{rules}
 use Rattle.transition_algebra.proofs.Finished.{done_over}
 use Rattle.transition_algebra.proofs.heap_job.HeapJob.work.Goals as goal
 
@@ -8,3 +9,6 @@ returns-clause-done g c =
     done_over j.code j.table j.phi c.work-made.new.self c.work-made.new.pairs.items
     c.work-made.ensures.trial in
     (λ h. over.0 (c.is_over.ensures.0 h), λ e. c.is_over.ensures.1 (over.1 e))
+
+pub returns-in_err-made-clause-refused : goal.returns-in_err-made-clause-refused
+returns-in_err-made-clause-refused g c = search rules

@@ -1,0 +1,5 @@
+use Rattle.std.proofs.Common.{rules}
+use Rattle.command_results.proofs.said.Said.done.Goals as goal
+
+pub returns-clause-well : goal.returns-clause-well
+returns-clause-well c = search rules

@@ -1,0 +1,9 @@
+use Rattle.std.proofs.lemmas.Grind.{elements, common_steps}
+use Rattle.std.proofs.Common.{arith, rules}
+use Rattle.octal_code.proofs.code.Code.digit.Goals as goal
+
+pub returns-then-j-self-clause-value : goal.returns-then-j-self-clause-value
+returns-then-j-self-clause-value c = grind (arith, common_steps)
+
+pub returns-then-j-self-clause-octal : goal.returns-then-j-self-clause-octal
+returns-then-j-self-clause-octal c = grind (arith, elements)

@@ -1,0 +1,6 @@
+use Rattle.std.proofs.lemmas.Grind.{common_steps}
+use Rattle.std.proofs.Common.{arith}
+use Rattle.octal_code.proofs.code.is_spelling.Goals as goal
+
+pub returns-then-are_octal : goal.returns-then-are_octal
+returns-then-are_octal c = grind (arith, common_steps)
