@@ -1,6 +1,6 @@
 -- What a catalogue file is, over the JSON value that `serde_json` reads of it. This project's own.
-use Rattle.std.specs.Prelude.{◌≡◌, ℕ, List, [], ◌∷◌, Option, Some, None, codes, option_and_then, IsUtf8}
-use Rattle.serde_json.specs.Data.{Data, Items, Members, number, string, array, object, item, no_items, null, boolean}
+use Rattle.std.specs.Prelude.{◌≡◌, ℕ, List, [], ◌∷◌, Option, Some, codes, option_and_then, IsUtf8}
+use Rattle.serde_json.specs.Data.{Data, Items, number, string, array, object, item, no_items, null, boolean}
 use Rattle.serde_json.specs.Find.{get, as_str, as_array, as_number, as_u64}
 use Rattle.serde_json.specs.Events.{members_len}
 use Rattle.serde_json.specs.Read.{read}

@@ -1,5 +1,5 @@
 //! The members of an entry.
-ghost use Rattle.std.specs.Prelude.{◌≡◌, ◌<◌, length, map, option_map, None, Some, IfErr, IfOk, OnOk};
+ghost use Rattle.std.specs.Prelude.{◌≡◌, ◌<◌, length, option_map, None, Some, IfErr, IfOk, OnOk};
 ghost use Rattle.serde_json.specs.Data.{Members, no_members, object};
 ghost use Rattle.serde_json.specs.Find.{as_str};
 ghost use Rattle.catalogue.specs.Reading.{AreFields, EntryIs, IsUnread, Passes, Puts, ReadsMembers, ReadsValue};

@@ -1,5 +1,5 @@
 //! The members of a catalogue file.
-ghost use Rattle.std.specs.Prelude.{◌≡◌, ◌<◌, length, map, option_and_then, None, Some, IfErr, IfOk, OnOk};
+ghost use Rattle.std.specs.Prelude.{◌≡◌, ◌<◌, length, option_and_then, None, Some, IfErr, IfOk, OnOk};
 ghost use Rattle.serde_json.specs.Data.{Items, Members, array, no_members, object};
 ghost use Rattle.serde_json.specs.Find.{as_number, as_u64};
 ghost use Rattle.catalogue.specs.Reading.{AreParts, EntriesAre, FileIs, IsUnread, Passes, Puts, ReadsItems, ReadsMembers, ReadsValue};

@@ -1,5 +1,5 @@
 //! Passing over JSON of which nothing is kept.
-ghost use Rattle.std.specs.Prelude.{◌≡◌, ◌+◌, ◌<◌, ◌∷◌, length, Some, None, IfErr, OnOk, ⊤};
+ghost use Rattle.std.specs.Prelude.{◌+◌, ◌<◌, ◌∷◌, length, Some, None, IfErr, OnOk, ⊤};
 ghost use Rattle.json.specs.Reads.{token_of};
 ghost use Rattle.serde_json.specs.Data.{Items, Members, no_members};
 ghost use Rattle.catalogue.specs.Reading.{IsUnread, Passes, ReadsItems, ReadsMembers, ReadsValue};

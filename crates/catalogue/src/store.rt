@@ -1,5 +1,5 @@
 //! Catalogues in memory.
-ghost use Rattle.std.specs.Prelude.{◌≡◌, ◌↔◌, [], ◌∷◌, ◌++◌, All, AllPairs, Contains, IfErr, IfSome, OnErr, OnOk, None, nat_eq};
+ghost use Rattle.std.specs.Prelude.{◌≡◌, ◌↔◌, [], ◌∷◌, ◌++◌, All, Contains, IfErr, IfSome, OnErr, OnOk, None, nat_eq};
 ghost use Rattle.std.specs.Cmp.Lexicographic.{pointwise};
 ghost use Rattle.std.specs.Map.{lookup};
 ghost use Rattle.misere_theory.specs.Certificates.{Certificate, Accepted};

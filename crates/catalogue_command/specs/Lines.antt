@@ -1,5 +1,5 @@
 -- The lines of a catalogue. This project's own.
-use Rattle.std.specs.Prelude.{◌≡◌, ◌≢◌, ℕ, List, [], ◌∷◌, ◌++◌, codes, decimal, length}
+use Rattle.std.specs.Prelude.{◌≡◌, ◌≢◌, ℕ, List, [], ◌++◌, codes, decimal, length}
 use Rattle.std.specs.List.{flat_map}
 use Rattle.octal_code.specs.Text.{code_text}
 use Rattle.misere_theory.specs.Certificates.{Certificate}

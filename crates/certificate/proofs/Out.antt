@@ -1,6 +1,6 @@
 -- Bytes that go out one after another.
-use Rattle.std.proofs.Common.{◌≡◌, ◌≤◌, ◌<◌, ℕ, zero, suc, get_or, ◌+◌, ◌-◌, List, [], ◌∷◌, ◌++◌, take, drop, length, map, Option, None, Some, Result, Ok, Err, append_assoc, sym, ap, subst, ◌∙◌, arith, refl, codes}
-use Rattle.std.proofs.lemmas.List.{append-nil, take-append-le, length-append, length-drop}
+use Rattle.std.proofs.Common.{◌≡◌, ◌≤◌, ◌<◌, ℕ, zero, suc, get_or, ◌+◌, ◌-◌, List, [], ◌∷◌, ◌++◌, take, drop, length, map, Option, append_assoc, sym, ap, subst, ◌∙◌, arith, refl, codes}
+use Rattle.std.proofs.lemmas.List.{append-nil, length-drop}
 use Rattle.std.specs.Fmt.{decimal}
 use Rattle.std.specs.Io.KnownBytes.{Appends}
 use Rattle.std.specs.List.{flat_map}

@@ -1,5 +1,5 @@
 -- What is said, from what was printed and what was found.
-use Rattle.std.proofs.Common.{◌≡◌, refl, subst, ℕ, Bool, false, List, [], Option, Some}
+use Rattle.std.proofs.Common.{◌≡◌, refl, subst, ℕ, false, List, [], Option, Some}
 use Rattle.std.specs.Io.KnownBytes.{Appends}
 use Rattle.answers.specs.Answers.{refused}
 use Rattle.answers.specs.declared.refusal.Refusal.{Refusal}

@@ -7,10 +7,10 @@ use Rattle.checker.specs.declared.closing.Looked.TheVariants.{More, Done, Over, 
 abbrev whole : Looked → Result Looked Memory
 whole x = Ok x
 
-abbrev none : Memory → Result Looked Memory
-none m = Err m
+abbrev wanting : Memory → Result Looked Memory
+wanting m = Err m
 
-pub err_ok : {m : Memory} {x : Looked} {Y : Type 0} → none m ≡ whole x → Y
+pub err_ok : {m : Memory} {x : Looked} {Y : Type 0} → wanting m ≡ whole x → Y
 err_ok e = cc
 
 pub more_done : {Y : Type 0} → whole More ≡ whole Done → Y

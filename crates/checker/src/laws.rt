@@ -1,5 +1,5 @@
 //! The stage that checks the laws of the table.
-ghost use Rattle.std.specs.Prelude.{◌≡◌, ◌<◌, ◌≤◌, ℕ, List};
+ghost use Rattle.std.specs.Prelude.{◌≡◌, ◌<◌, ℕ, List};
 ghost use Rattle.monoid_table.specs.Turns.{fresh, triples};
 ghost use Rattle.certificate.specs.Pieces.{grid_of};
 ghost use Rattle.checker.specs.Turns.{Runs, Works};

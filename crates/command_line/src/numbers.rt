@@ -1,5 +1,5 @@
 //! The numbers that options take.
-ghost use Rattle.std.specs.Prelude.{◌≡◌, ◌≢◌, ◌≤◌, ◌<◌, ◌^◌, ℕ, IfSome, IfNone, decimal};
+ghost use Rattle.std.specs.Prelude.{◌≡◌, ◌≤◌, ◌<◌, IfSome};
 ghost use Rattle.std.specs.Prelude.{option_map};
 ghost use Rattle.command_line.specs.Numbers.{IsWithin, bounds_of, name_of, number_in};
 ghost use Rattle.command_line.specs.Numbers.{number_within};

@@ -1,26 +1,20 @@
 -- A job whose core has ended.
-use Rattle.std.proofs.Common.{◌≡◌, ◌≢◌, ℕ, List, Option, Some, None, refl, sym, ◌∙◌, ap, subst, get_or, Result, Ok, Err}
+use Rattle.std.proofs.Common.{◌≡◌, ℕ, List, Option, Some, None, refl, sym, ◌∙◌, ap, subst, get_or, Ok, Err}
 use Rattle.answers.specs.Answers.{Answer, refused}
 use Rattle.answers.specs.Answers.Answer.{Yes, Text, Law, Word, Order, Period, Apart, Outcome, Limit, Memory}
 use Rattle.std.specs.Borrow.{Bor}
 use Rattle.misere_theory.specs.Certificates.{Certificate}
-use Rattle.positions.specs.Outcomes.{HasOutcome}
-use Rattle.positions.specs.declared.outcome.Outcome.{Outcome as Told}
-use Rattle.player.specs.Answers.{IsRightAnswer}
-use Rattle.player.specs.declared.answering.Answer.{Answer as Advice}
 use Rattle.answers.specs.declared.refusal.Refusal.{Refusal}
 use Rattle.answers.specs.declared.refusal.Refusal.TheVariants as refusing
 use Rattle.checker.specs.Turns.{cost, verdict}
 use Rattle.checker.specs.JobViews.{JobView}
 use Rattle.desk.specs.declared.slot.Slot.{Slot}
 use Rattle.desk.specs.declared.slot.Standing.{Standing}
-use Rattle.desk.specs.declared.slot.Standing.TheVariants.{Going, Ended, Starved}
+use Rattle.desk.specs.declared.slot.Standing.TheVariants.{Ended}
 use Rattle.desk.specs.Slots.{ending, job_of, StandsBeside}
-use Rattle.desk.specs.Machine.{Jobs, Reply, Asks, Plays, Outcomes, Advices, told}
-use Rattle.desk.specs.Machine.Reply.{Tells, Advises, NotCertified}
+use Rattle.desk.specs.Machine.{told}
+use Rattle.desk.specs.Machine.Reply.{NotCertified}
 use Rattle.desk.specs.Deeds.{told_of, Certifies, CertifiesBy}
-use Rattle.desk.specs.Replies.{refusal}
-use Rattle.desk.specs.declared.reply.StepFault.{StepFault}
 use Rattle.desk.specs.declared.reply.StepFault.TheVariants as fault
 use Rattle.desk.specs.Desks.{core_at, slot_at, seen, job_in, IsDesk}
 use Rattle.desk.proofs.Gone.{core_found}
@@ -81,41 +75,3 @@ pub certifies_going : (o : Option JobView) (job : JobView) → o ≡ Some job �
 certifies_going o job is e =
     subst (λ (q : Option JobView). Certifies q (Err fault.NotCertified)) (sym is)
     (subst (λ (a : Option Answer). CertifiesBy a (Err fault.NotCertified)) (sym e) refl)
-
-module _ (found : Result (Bor Certificate) StepFault) where
-  says_no : StepFault → Option Answer → Type 0
-  says_no f e = (refusal f ≡ NotCertified)
-      × ((X : List ℕ) → Outcomes e X NotCertified × Advices e X NotCertified)
-
-  not_certified : (f : StepFault) → found ≡ Err fault.NotCertified → found ≡ Err f
-      → refusal f ≡ NotCertified
-  not_certified f e g = let is : fault.NotCertified ≡ f = cc in ap refusal (sym is)
-
-  no_by : (e : Option Answer) (f : StepFault) → CertifiesBy e found → found ≡ Err f → says_no f e
-  unfolding says_no
-  no_by (Some (Yes c)) f h g = absurd (cc)
-  no_by (Some Text) f h g = (not_certified f h g, λ X. (refl, refl))
-  no_by (Some Law) f h g = (not_certified f h g, λ X. (refl, refl))
-  no_by (Some Word) f h g = (not_certified f h g, λ X. (refl, refl))
-  no_by (Some Order) f h g = (not_certified f h g, λ X. (refl, refl))
-  no_by (Some Period) f h g = (not_certified f h g, λ X. (refl, refl))
-  no_by (Some Apart) f h g = (not_certified f h g, λ X. (refl, refl))
-  no_by (Some (Outcome code Y)) f h g = (not_certified f h g, λ X. (refl, refl))
-  no_by (Some Limit) f h g = (not_certified f h g, λ X. (refl, refl))
-  no_by (Some Memory) f h g = (not_certified f h g, λ X. (refl, refl))
-  no_by None f h g = (not_certified f h g, λ X. (refl, refl))
-
-  module _ (jobs : Jobs) (X : List ℕ) where
-    pub asks_no : (o : Option JobView) (f : StepFault) → Certifies o found → found ≡ Err f
-        → Asks jobs X o (refusal f) jobs
-    unfolding says_no
-    asks_no None f h g = let is : fault.NoJob ≡ f = cc in (ap refusal (sym is), refl)
-    asks_no (Some job) f h g = let no = no_by job.ended f h g in
-        (subst (λ (r : Reply). Outcomes job.ended X r) (sym no.0) (no.1 X).0, refl)
-
-    pub plays_no : (o : Option JobView) (f : StepFault) → Certifies o found → found ≡ Err f
-        → Plays jobs X o (refusal f) jobs
-    unfolding says_no
-    plays_no None f h g = let is : fault.NoJob ≡ f = cc in (ap refusal (sym is), refl)
-    plays_no (Some job) f h g = let no = no_by job.ended f h g in
-        (subst (λ (r : Reply). Advices job.ended X r) (sym no.0) (no.1 X).1, refl)

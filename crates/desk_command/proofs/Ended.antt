@@ -1,5 +1,5 @@
 -- How the run of a script ends, from how its steps do.
-use Rattle.std.proofs.Common.{◌≡◌, ◌∙◌, ℕ, List, Option, refl, subst, sym}
+use Rattle.std.proofs.Common.{◌≡◌, ℕ, List, Option, refl, subst}
 use Rattle.folders.specs.Files.{Holds}
 use Rattle.command_results.specs.Printers.{Printer, Tells}
 use Rattle.desk_command.specs.Ends.{EndsScript}

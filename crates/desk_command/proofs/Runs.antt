@@ -1,5 +1,5 @@
 -- Runs that go one step further.
-use Rattle.std.proofs.Common.{◌≡◌, ◌∙◌, ◌≤◌, ◌<◌, ◌+◌, ℕ, suc, List, [], ◌∷◌, ◌++◌, Option, Some, None, Result, Ok, Err, append_assoc, append-nil, ap, arith, length, refl, subst, sym, take}
+use Rattle.std.proofs.Common.{◌≡◌, ◌∙◌, ℕ, List, [], ◌∷◌, ◌++◌, Option, None, append_assoc, append-nil, ap, refl, subst, sym}
 use Rattle.std.proofs.Math.Path.{fun_ext}
 use Rattle.checker.specs.Turns.{cost, verdict}
 use Rattle.desk.specs.Machine.{Call, Reply, State, Step as MachineStep}

@@ -7,7 +7,7 @@ use Rattle.command_results.specs.Stops.{stop_line}
 use Rattle.command_results.specs.declared.stop.Stop.TheVariants as stop
 use Rattle.desk_script.specs.Scripts.{AreSteps, IsFirstOther}
 use Rattle.desk_script.specs.Steps.{Step}
-use Rattle.desk_script.specs.Steps.Step.{Open, Work, Drop, Ask, Play}
+use Rattle.desk_script.specs.Steps.Step.{Open}
 use Rattle.desk_script.specs.declared.fault.ScriptFault.{ScriptFault}
 use Rattle.desk_script.specs.declared.fault.ScriptFault.TheVariants as fault
 use Rattle.desk_command.specs.Scripts.{HasRunTo}

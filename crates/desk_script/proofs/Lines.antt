@@ -1,5 +1,5 @@
 -- What a line spells, and when it spells nothing.
-use Rattle.std.proofs.Common.{◌≡◌, ◌≢◌, ◌≤◌, ◌<◌, ◌∙◌, ℕ, List, [], ◌∷◌, Result, Ok, Err, ap, arith, codes, decimal, subst, sym}
+use Rattle.std.proofs.Common.{◌≡◌, ◌≢◌, ◌≤◌, ◌<◌, ◌∙◌, ℕ, List, Result, Err, ap, arith, codes, decimal, subst, sym}
 use Rattle.desk_script.specs.Steps.{IsFileName, IsJob, IsPosition, Lacks, Spells, SpellsPosition, SpellsTail, Step, client_of, spaced, word_of}
 use Rattle.desk_script.specs.Steps.Step.{Open, Work, Drop, Ask, Play}
 use Rattle.desk_script.proofs.Cuts.{cut_once, decimal_lacks, head_apart, three, four}

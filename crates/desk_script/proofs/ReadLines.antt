@@ -1,7 +1,7 @@
 -- Scripts that are read line by line.
-use Rattle.std.proofs.Common.{◌≡◌, ◌≢◌, ◌∙◌, ◌+◌, ◌==◌, ℕ, Bool, true, false, List, [], ◌∷◌, ◌++◌, append_assoc, ap, append-nil, arith, length, map, refl, subst, sym}
+use Rattle.std.proofs.Common.{◌≡◌, ◌≢◌, ◌∙◌, ◌+◌, ◌==◌, ℕ, Bool, true, false, List, [], ◌∷◌, ◌++◌, append_assoc, ap, append-nil, arith, length, refl, subst, sym}
 use Rattle.std.proofs.lemmas.Bool.{eqb-true}
-use Rattle.std.proofs.lemmas.List.{length-map, map-append}
+use Rattle.std.proofs.lemmas.List.{map-append}
 use Rattle.desk_script.specs.declared.step.Step.{Step as StepGiven}
 use Rattle.desk_script.specs.Views.{step_of, steps_of}
 use Rattle.desk_script.specs.Scripts.{AreSteps, BeginsOtherwise, BeginsWith, IsFirstOther}

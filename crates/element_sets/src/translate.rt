@@ -1,5 +1,5 @@
 //! Entries of a row at the members of a set, found member by member.
-ghost use Rattle.std.specs.Prelude.{◌+◌, ◌<◌, ◌↔◌, ◌⊎◌, ℕ, IsTrue};
+ghost use Rattle.std.specs.Prelude.{◌+◌, ◌↔◌, ◌⊎◌, ℕ, IsTrue};
 ghost use Rattle.std.specs.FinSet as set;
 ghost use Rattle.element_sets.specs.Hits.{Hits, CanTranslateLane};
 

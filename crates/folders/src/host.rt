@@ -1,5 +1,5 @@
 //! The files of the machine.
-ghost use Rattle.std.specs.Prelude.{◌≡◌, None};
+ghost use Rattle.std.specs.Prelude.{None};
 
 use crate::replacing::{Disk, StageFault, replace};
 use crate::{FileFault, Folder};

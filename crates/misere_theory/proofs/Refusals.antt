@@ -1,12 +1,11 @@
 -- Where a test of the checker fails, the rule fails at a position that can be handed out; where the
 -- rule holds everywhere, each test passes.
-use Rattle.std.proofs.Common.{◌≡◌, ℕ, ◌<◌, true, false, List, ◌∷◌, ◌++◌, refl, sym, ◌∙◌, ap, inl, inr, Contains}
+use Rattle.std.proofs.Common.{◌≡◌, ℕ, true, false, List, ◌∷◌, ◌++◌, refl, sym, ◌∙◌, ap, inl, inr, Contains}
 use Rattle.misere_theory.specs.Games.{IsPosition}
 use Rattle.misere_theory.specs.Games.Move.{Here}
-use Rattle.misere_theory.specs.Quotients.{Claim, Monoid, GivesElements, value, HeapOptionValue, RuleHolds, RuleFails}
+use Rattle.misere_theory.specs.Quotients.{Claim, Monoid, GivesElements, value, HeapOptionValue, RuleFails}
 use Rattle.misere_theory.specs.Pairs.{Pair, IsPairOf}
 use Rattle.misere_theory.proofs.Sums.{value-append, IsKept}
-use Rattle.misere_theory.proofs.Rules.{rule_not_both, true_or_false}
 
 module _ (code : List ℕ) (c : Claim) (p : Pair) (X : List ℕ) (is : IsPairOf code c p X) where
   -- a member outside the portion with options, none of them in it

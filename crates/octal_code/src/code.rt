@@ -1,5 +1,5 @@
 //! Octal codes and their text.
-ghost use Rattle.std.specs.Prelude.{◌≡◌, ◌-◌, ◌<◌, ◌≤◌, ◌^◌, ◌↔◌, ◌⊎◌, ℕ, List, IsBitSet, IsTrue, IfOk, All, length, string_bytes};
+ghost use Rattle.std.specs.Prelude.{◌≡◌, ◌-◌, ◌<◌, ◌≤◌, ◌↔◌, ◌⊎◌, ℕ, List, IsBitSet, IsTrue, IfOk, All, length, string_bytes};
 ghost use Rattle.misere_theory.specs.Games.{digit, IsOctalCode};
 ghost use Rattle.octal_code.specs.Bits.{allows, leaves_one, place_of, takes_all};
 ghost use Rattle.octal_code.specs.Spelling.{IsOctalByte, IsSpelling, digits_in};

@@ -1,7 +1,7 @@
 //! Periods of lists of elements.
 #![tactic(auto)]
 
-ghost use Rattle.std.specs.Prelude.{◌≡◌, ◌≤◌, ◌<◌, ◌+◌, ◌↔◌, ℕ, length, IfSome, IsNone};
+ghost use Rattle.std.specs.Prelude.{◌≤◌, ◌<◌, ◌+◌, ◌↔◌, ℕ, length, IfSome, IsNone};
 ghost use Rattle.periods.specs.Periods.{HasNoPeriod, IsLeastPeriod, RepeatsFrom};
 
 mod evidence;

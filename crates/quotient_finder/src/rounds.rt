@@ -1,5 +1,5 @@
 //! Rounds over proposers.
-ghost use Rattle.std.specs.Prelude.{◌≡◌, ◌<◌, ◌⊎◌, IfOk, IfErr, IsErrOf, vec_len};
+ghost use Rattle.std.specs.Prelude.{◌≡◌, ◌<◌, IfOk, IfErr, vec_len};
 ghost use Rattle.quotient_finder.specs.Finding.{IsFound, FindsOnly};
 
 use crate::gave_up::GaveUp;

@@ -1,5 +1,5 @@
 //! A guessed quotient.
-ghost use Rattle.std.specs.Prelude.{◌≡◌, ◌*◌, ◌<◌, ◌≤◌, length, All, IfOk, IfSome};
+ghost use Rattle.std.specs.Prelude.{◌≡◌, ◌<◌, ◌≤◌, length, All, IfOk, IfSome};
 ghost use Rattle.periods.specs.Evidence.{Repeats};
 ghost use Rattle.quotient_solver.specs.Guesses.{IsWellFormed};
 

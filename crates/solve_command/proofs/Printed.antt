@@ -1,5 +1,5 @@
 -- What follows for a whole answer from what was printed.
-use Rattle.std.proofs.Common.{◌≡◌, ◌≢◌, ◌⊎◌, ◌≤◌, inl, inr, refl, ap, subst, arith, ℕ, Bool, true, false, List, Option, Result, Ok, Err, IfOk, IfErr, codes}
+use Rattle.std.proofs.Common.{◌≡◌, ◌≢◌, ◌≤◌, inl, inr, refl, ap, subst, arith, ℕ, Bool, true, false, List, Option, Result, Ok, Err, IfOk, IfErr, codes}
 use Rattle.std.specs.Io.KnownBytes.{Appends}
 use Rattle.misere_theory.specs.Certificates.{Certificate, Accepted}
 use Rattle.octal_code.specs.Text.{IsCodeText}
@@ -8,7 +8,7 @@ use Rattle.quotient_finder.specs.declared.gave_up.GaveUp.{GaveUp}
 use Rattle.quotient_finder.specs.declared.gave_up.GaveUp.TheVariants.{Empty}
 use Rattle.solve_command.specs.declared.bounds.SolveBounds.{SolveBounds}
 use Rattle.solve_command.specs.declared.stop.SolveStop.{SolveStop}
-use Rattle.solve_command.specs.Solved.{Finds, PrintsCertificate, PrintsSpelling, Solves}
+use Rattle.solve_command.specs.Solved.{Finds, PrintsSpelling, Solves}
 
 pub solved : (text code : List ℕ) (bounds : SolveBounds) (before after : Option (List ℕ))
     (r : Result Bool SolveStop)

@@ -1,6 +1,5 @@
 //! The options of the heaps, tried one after another.
-ghost use Rattle.std.specs.Prelude.{◌≡◌, ◌+◌, ◌*◌, ◌^◌, ◌<◌, ◌≤◌, ◌↔◌, [], ◌∷◌, ◌++◌, length, min, true, IsTrue, IfOk, OnErr, OnOk, All};
-ghost use Rattle.std.specs.Option.{MatchOption};
+ghost use Rattle.std.specs.Prelude.{◌≡◌, ◌+◌, ◌^◌, ◌<◌, ◌≤◌, ◌↔◌, [], ◌∷◌, ◌++◌, length, min, true, IsTrue, IfOk, OnErr, OnOk, All};
 ghost use Rattle.monoid_table.specs.Grids.{Grid};
 ghost use Rattle.octal_code.specs.Bits.{allows};
 ghost use Rattle.octal_code.specs.declared.leaving.Leaving.TheVariants.{TwoHeaps};

@@ -1,5 +1,5 @@
 //! The values of the splits of each whole heap, made once.
-ghost use Rattle.std.specs.Prelude.{◌≡◌, ◌+◌, ◌<◌, ◌≤◌, [], length, IfOk, All};
+ghost use Rattle.std.specs.Prelude.{◌≡◌, ◌+◌, ◌<◌, ◌≤◌, length, IfOk, All};
 ghost use Rattle.monoid_table.specs.Grids.{Grid};
 ghost use Rattle.transition_algebra.specs.Pretending.{Pretending};
 ghost use Rattle.transition_algebra.specs.Trials.{AreWholes, HaveElements, values_of_splits};

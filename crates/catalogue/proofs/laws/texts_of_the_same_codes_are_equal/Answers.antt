@@ -1,4 +1,4 @@
-use Rattle.std.proofs.Common.{◌≡◌, ℕ, suc, List, [], ◌∷◌, All, map, refl, ap, ap₂, arith}
+use Rattle.std.proofs.Common.{◌≡◌, suc, List, [], ◌∷◌, All, map, refl, ap, ap₂, arith}
 use Rattle.misere_theory.specs.Certificates.{Certificate, Accepted}
 use Rattle.catalogue.specs.Texts.{catalogue_text}
 use Rattle.catalogue.proofs.laws.texts_of_the_same_codes_are_equal.Goals as goal

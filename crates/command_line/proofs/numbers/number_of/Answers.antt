@@ -1,4 +1,4 @@
-use Rattle.std.proofs.Common.{arith, ◌≡◌, ◌∙◌, sym}
+use Rattle.std.proofs.Common.{arith, ◌∙◌, sym}
 use Rattle.command_line.proofs.NumberLemmas.{number_within-none, number_within-spelled}
 use Rattle.command_line.proofs.numbers.number_of.Goals as goal
 

@@ -1,5 +1,4 @@
 use Rattle.std.proofs.Common.{ap, rules, refl}
-use Rattle.command_results.specs.Printers.{printer}
 use Rattle.commands.specs.Obeys.Obeys.{Done, Stepped, Stopped}
 use Rattle.requests.specs.Requests.{request_of}
 use Rattle.commands.proofs.running.run_plan.Goals as goal

@@ -1,6 +1,5 @@
-use Rattle.std.proofs.Common.{ap, sym, ◌∙◌}
+use Rattle.std.proofs.Common.{ap}
 use Rattle.std.proofs.lemmas.Result.{err_from_is_err_and}
-use Rattle.desk.specs.Desks.{state_of}
 use Rattle.desk_script.specs.Views.{steps_of}
 use Rattle.command_results.specs.Printers.{printer}
 use Rattle.desk_command.proofs.Going.{breaks_in_taking, breaks_in_writing, gone_nowhere, gone_on}

@@ -1,4 +1,4 @@
-use Rattle.std.proofs.Common.{Err, ap, arith, sym, ◌∙◌, ◌+◌, ℕ}
+use Rattle.std.proofs.Common.{Err, ap, arith, ◌+◌}
 use Rattle.std.proofs.lemmas.List.{length-map}
 use Rattle.desk_script.specs.Views.{step_of, steps_of}
 use Rattle.desk_script.proofs.ReadLines.{all_read, first_other, is_nothing, none_read, not_empty, one_more_read, steps_more}

@@ -1,4 +1,4 @@
-use Rattle.std.proofs.Common.{rules, ◌≡◌, ◌∷◌, ◌++◌, [], sym, ◌∙◌, ap, append_assoc}
+use Rattle.std.proofs.Common.{◌≡◌, ◌∷◌, ◌++◌, [], sym, ◌∙◌, ap, append_assoc}
 use Rattle.heap_options.specs.Exact.{heaps_of}
 use Rattle.misere_theory.specs.Certificates.{claim_of, times_of}
 use Rattle.player.specs.Looks.{puts}

@@ -1,6 +1,6 @@
 -- The relations that were read have a table or none, and where none were read the text is no
 -- presentation.
-use Rattle.std.proofs.Common.{◌≡◌, ℕ, List, Err, ap, codes, refl, subst}
+use Rattle.std.proofs.Common.{ℕ, List, Err, ap, refl, subst}
 use Rattle.std.proofs.lemmas.Result.{IfOk-weaker}
 use Rattle.presentations.specs.declared.read.Relation.{Relation}
 use Rattle.presentations.specs.Text.{SpellsPresentation}

@@ -1,5 +1,5 @@
 -- Each line is right, by what `table_of` ensures of its fault.
-use Rattle.std.proofs.Common.{Bool, false, ◌≡◌, ℕ, List, Err, ap, codes, subst, sym}
+use Rattle.std.proofs.Common.{Bool, false, ◌≡◌, Err, ap, codes, subst, sym}
 use Rattle.std.proofs.lemmas.Result.{IfOk-weaker}
 use Rattle.present_command.specs.Presented.{PresentsTable}
 use Rattle.command_results.specs.declared.said.Said.{Said}

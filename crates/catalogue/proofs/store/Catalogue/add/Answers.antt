@@ -1,6 +1,5 @@
 use Rattle.std.proofs.Common.{◌≡◌, IfErr, Contains, refl, sym, ap, subst, ◌∙◌}
 use Rattle.catalogue.specs.Entries.{HasCode}
-use Rattle.catalogue.specs.declared.fault.AddFault.{AddFault}
 use Rattle.catalogue.specs.declared.fault.AddFault.TheVariants.{Present, Memory}
 use Rattle.catalogue.proofs.StoreLemmas.{is_there, not_there, on_ok}
 use Rattle.catalogue.proofs.store.Catalogue.add.Goals as goal

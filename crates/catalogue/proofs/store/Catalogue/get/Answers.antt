@@ -1,4 +1,4 @@
-use Rattle.std.proofs.Common.{All, sym, subst, ◌≡◌}
+use Rattle.std.proofs.Common.{All, sym, subst}
 use Rattle.std.specs.Option.{option_copied}
 use Rattle.std.specs.Map.{values_of}
 use Rattle.misere_theory.specs.Certificates.{Accepted}

@@ -1,5 +1,5 @@
 use Rattle.std.proofs.lemmas.Grind.{elements, common_steps}
-use Rattle.std.proofs.Common.{arith, rules}
+use Rattle.std.proofs.Common.{arith}
 use Rattle.octal_code.proofs.code.Code.digit.Goals as goal
 
 pub returns-then-j-self-clause-value : goal.returns-then-j-self-clause-value

@@ -1,4 +1,4 @@
-use Rattle.std.proofs.Common.{rules, ◌∙◌, refl}
+use Rattle.std.proofs.Common.{◌∙◌, refl}
 use Rattle.std.proofs.lemmas.Result.{IfOk-from_err}
 use Rattle.positions.proofs.Room.{heaps_fit, not_failed}
 use Rattle.positions.proofs.position.Position.copied.Goals as goal
