@@ -1,4 +1,5 @@
 use Rattle.std.proofs.Common.{◌≡◌, ◌<◌, length, Some, None, sym, subst, arith}
+use Rattle.std.proofs.lemmas.Result.{IfOk-from_err}
 use Rattle.json.specs.Json.{parse_map, after_end_array}
 use Rattle.serde_json.specs.Data.{no_items, item}
 use Rattle.catalogue.specs.Files.{IsEntry, written}
@@ -93,3 +94,23 @@ returns-clause-read c =
           (items_close c.args.depth l.reader r (grind arith)),
       all_before l.invariant.0 l.entries l.invariant.1,
     )
+
+pub returns-in_err-texts-clause-read : goal.returns-in_err-texts-clause-read
+returns-in_err-texts-clause-read c = IfOk-from_err _ _ c.from_residual.ensures.0
+
+pub returns-in_err-texts-clause-shorter : goal.returns-in_err-texts-clause-shorter
+returns-in_err-texts-clause-shorter c = IfOk-from_err _ _ c.from_residual.ensures.0
+
+pub returns-in_err-pass_items-clause-read : goal.returns-in_err-pass_items-clause-read
+returns-in_err-pass_items-clause-read c =
+    IfOk-from_err _ _ c.from_residual-in_err-pass_items.ensures.0
+
+pub returns-in_err-pass_items-clause-shorter : goal.returns-in_err-pass_items-clause-shorter
+returns-in_err-pass_items-clause-shorter c =
+    IfOk-from_err _ _ c.from_residual-in_err-pass_items.ensures.0
+
+pub returns-in_err-push-clause-read : goal.returns-in_err-push-clause-read
+returns-in_err-push-clause-read c = IfOk-from_err _ _ c.from_residual-in_err-push.ensures.0
+
+pub returns-in_err-push-clause-shorter : goal.returns-in_err-push-clause-shorter
+returns-in_err-push-clause-shorter c = IfOk-from_err _ _ c.from_residual-in_err-push.ensures.0

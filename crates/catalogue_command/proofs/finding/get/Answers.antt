@@ -1,4 +1,5 @@
 use Rattle.std.proofs.Common.{string_bytes, subst}
+use Rattle.std.proofs.lemmas.Result.{IfOk-from_err}
 use Rattle.octal_code.specs.Text.{IsCodeText}
 use Rattle.catalogue_command.specs.Answers.{IsGotten}
 use Rattle.catalogue_command.proofs.finding.get.Goals as goal
@@ -15,3 +16,9 @@ returns-clause-told g c =
       subst (λ b. IsGotten b c.args.limit code report.well (string_bytes report.text))
           c.deref.ensures.value c.in_ok-report.ensures,
     )
+
+pub returns-in_err-bytes-clause-told : goal.returns-in_err-bytes-clause-told
+returns-in_err-bytes-clause-told g c = IfOk-from_err _ _ c.from_residual.ensures.0
+
+pub returns-in_err-report-clause-told : goal.returns-in_err-report-clause-told
+returns-in_err-report-clause-told g c = IfOk-from_err _ _ c.from_residual-in_err-report.ensures.0

@@ -1,4 +1,6 @@
-use Rattle.std.proofs.Common.{◌∙◌, ◌++◌, ap, ap₂, sym}
+use Rattle.std.proofs.Common.{◌∙◌, ◌++◌, ap, ap₂, sym, arith}
+use Rattle.std.proofs.lemmas.Result.{IfOk-from_err}
+use Rattle.std.proofs.lemmas.Grind.{common_steps}
 use Rattle.catalogue_command.specs.Lines.{entry_line}
 use Rattle.catalogue_command.proofs.LineLemmas.{one_more}
 use Rattle.catalogue_command.proofs.lines.entry_lines.Goals as goal
@@ -10,3 +12,12 @@ loop-certified-preserved c =
     c.in_ok-push_str.ensures.bytes ∙ ap₂ ◌++◌ c.loop-certified.invariant line
     ∙ sym (one_more entry_line c.args.entries.now c.loop-certified.certified-index
     c.certified-item.result c.loop-certified-test.true c.certified-item.is)
+
+pub returns-in_err-line : goal.returns-in_err-line
+returns-in_err-line c = IfOk-from_err _ _ c.from_residual.ensures.0
+
+pub returns-in_err-push_str : goal.returns-in_err-push_str
+returns-in_err-push_str c = IfOk-from_err _ _ c.from_residual-in_err-push_str.ensures.0
+
+pub returns : goal.returns
+returns c = grind (arith, common_steps)

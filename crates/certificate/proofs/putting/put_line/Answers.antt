@@ -1,6 +1,7 @@
-use Rattle.std.proofs.Common.{◌∷◌, [], map}
-use Rattle.std.specs.Fmt.{decimal}
+use Rattle.std.proofs.Common.{◌∷◌, [], map, arith}
+use Rattle.std.proofs.lemmas.Grind.{common_steps}
 use Rattle.std.proofs.lemmas.Result.{err_from_is_err_and}
+use Rattle.std.specs.Fmt.{decimal}
 use Rattle.certificate_text.specs.Spelling.{spaced}
 use Rattle.streams.specs.StreamLaws.{puts_three, some_of_three}
 use Rattle.certificate.proofs.putting.put_line.Goals as goal
@@ -21,3 +22,6 @@ returns-clause-puts g c =
     (g.W.Sink.taken c.put_words.new.sink) (g.W.Sink.taken c.write_whole-2.new.sink) c.args.name.now
     (spaced (map decimal c.args.numbers.now)) (10 ∷ []) c.write_whole-2.result
     c.in_ok-write_whole.ensures.puts c.in_ok-put_words.ensures.puts c.write_whole-2.ensures.puts
+
+pub returns-in_err-write_whole-clause-puts : goal.returns-in_err-write_whole-clause-puts
+returns-in_err-write_whole-clause-puts g c = grind (arith, common_steps)

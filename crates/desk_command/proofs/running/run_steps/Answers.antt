@@ -1,5 +1,6 @@
-use Rattle.std.proofs.Common.{ap}
-use Rattle.std.proofs.lemmas.Result.{err_from_is_err_and}
+use Rattle.std.proofs.Common.{ap, arith}
+use Rattle.std.proofs.lemmas.Grind.{common_steps}
+use Rattle.std.proofs.lemmas.Result.{err_from_is_err_and, IfOk-from_err}
 use Rattle.desk_script.specs.Views.{steps_of}
 use Rattle.command_results.specs.Printers.{printer}
 use Rattle.desk_command.proofs.Going.{breaks_in_taking, breaks_in_writing, gone_nowhere, gone_on}
@@ -43,3 +44,13 @@ returns-in_err-write_whole-clause-breaks g c =
     (g.F.Folder.failed_reads c.take_step.new.folder)
     (printer (g.W.Sink.taken c.write_whole.new.sink) (g.W.Sink.failures c.write_whole.new.sink))
     c.in_err-write_whole.ensures.puts c.in_err-write_whole.ensures.cause)
+
+pub returns-in_err-line-clause-ran : goal.returns-in_err-line-clause-ran
+returns-in_err-line-clause-ran g c = IfOk-from_err _ _ c.from_residual.ensures.0
+
+pub returns-in_err-write_whole-clause-ran : goal.returns-in_err-write_whole-clause-ran
+returns-in_err-write_whole-clause-ran g c =
+    IfOk-from_err _ _ c.from_residual-in_err-write_whole.ensures.0
+
+pub returns-clause-ran : goal.returns-clause-ran
+returns-clause-ran g c = grind (arith, common_steps)

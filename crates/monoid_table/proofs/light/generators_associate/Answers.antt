@@ -1,4 +1,5 @@
-use Rattle.std.proofs.Common.{◌<◌, below_more}
+use Rattle.std.proofs.Common.{◌<◌, below_more, arith}
+use Rattle.std.proofs.lemmas.Grind.{common_steps}
 use Rattle.monoid_table.specs.Grids.{entry}
 use Rattle.monoid_table.specs.Light.{AssociatesAt, IsGenerator}
 use Rattle.monoid_table.proofs.light.generators_associate.Goals as goal
@@ -17,3 +18,6 @@ loop-y-preserved c =
     ] in
     below_more (λ k. 0 < k → IsGenerator times k → AssociatesAt c.args.order times k) c.loop-y.y
     c.loop-y.invariant here
+
+pub returns-clause-enough : goal.returns-clause-enough
+returns-clause-enough c = grind (arith, common_steps)

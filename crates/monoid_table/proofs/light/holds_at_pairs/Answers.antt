@@ -1,4 +1,5 @@
 use Rattle.std.proofs.Common.{◌≡◌, ◌∙◌, sym, subst, refl, arith, true≢false}
+use Rattle.std.proofs.lemmas.Grind.{common_steps}
 use native.Mathlib.Decide.{dec_lt}
 use Rattle.monoid_table.specs.Grids.{entry}
 use Rattle.monoid_table.proofs.light.holds_at_pairs.Goals as goal
@@ -38,3 +39,6 @@ returns c =
       },
       λ _. refl,
     )
+
+pub loop-y-preserved : goal.loop-y-preserved
+loop-y-preserved c = grind (arith, common_steps)

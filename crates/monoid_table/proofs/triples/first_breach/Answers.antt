@@ -1,4 +1,5 @@
 use Rattle.std.proofs.Common.{◌∙◌, ap, sym, ◌<◌, get_or, arith, eq-eqb, ne_eqb}
+use Rattle.std.proofs.lemmas.Grind.{common_steps}
 use Rattle.monoid_table.specs.Grids.{entry}
 use Rattle.monoid_table.proofs.triples.first_breach.Goals as goal
 
@@ -46,3 +47,6 @@ returns-then-row_xy-z-clause-breach c = λ _.
     (c.row_at-row_xy.ensures.products z l ∙ ap (λ a. p a z) c.entry_at.ensures.value ∙ e
     ∙ ap (p c.args.x) (sym (c.row_at-row_y.ensures.products z l))
     ∙ sym (c.row_at-row_x.ensures.products yz w)))
+
+pub loop-z-preserved : goal.loop-z-preserved
+loop-z-preserved c = grind (arith, common_steps)

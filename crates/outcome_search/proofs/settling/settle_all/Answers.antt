@@ -1,4 +1,5 @@
 use Rattle.std.proofs.Common.{◌≡◌, ◌-◌, ◌++◌, [], ◌∷◌, ◌∙◌, ap, sym, subst, arith, get_or, remove}
+use Rattle.std.proofs.lemmas.Grind.{common_steps}
 use Rattle.std.proofs.lemmas.List.{get_or_default}
 use Rattle.std.proofs.lemmas.Result.{IfOk-from_err}
 use Rattle.std.specs.Option.{MatchOption}
@@ -142,3 +143,9 @@ returns-in_err-insert-in-Some-clause-answer g c =
 pub returns-in_err-insert-in-Some-clause-within : goal.returns-in_err-insert-in-Some-clause-within
 returns-in_err-insert-in-Some-clause-within g c =
     IfOk-from_err _ _ c.from_residual-in_err-insert-in-Some.ensures.0
+
+pub loop-memo-smaller-in-Continue-branch-3 : goal.loop-memo-smaller-in-Continue-branch-3
+loop-memo-smaller-in-Continue-branch-3 g c = grind (arith, common_steps)
+
+pub loop-memo-smaller : goal.loop-memo-smaller
+loop-memo-smaller g c = grind (arith, common_steps)

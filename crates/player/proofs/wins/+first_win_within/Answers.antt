@@ -1,4 +1,5 @@
 use Rattle.std.proofs.Common.{rules, ◌≡◌, ◌+◌, ◌-◌, ◌/◌, ◌<◌, suc, ◌++◌, ◌∙◌, ap, subst, arith, drop, take}
+use Rattle.std.proofs.lemmas.Grind.{common_steps}
 use Rattle.std.specs.Option.{MatchOption}
 use Rattle.misere_theory.specs.Certificates.{claim_of}
 use Rattle.misere_theory.specs.Plays.{IsFirstWin}
@@ -82,3 +83,12 @@ first_win_within-requires-2 g t c κs within =
         ),
       ),
     )
+
+pub value-requires : goal.value-requires
+value-requires c = grind (arith, common_steps)
+
+pub value-requires-2 : goal.value-requires-2
+value-requires-2 c = grind (arith, common_steps)
+
+pub times-before-requires-clause-x_in : goal.times-before-requires-clause-x_in
+times-before-requires-clause-x_in c = grind (arith, common_steps)

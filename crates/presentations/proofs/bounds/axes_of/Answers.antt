@@ -1,9 +1,10 @@
 use Rattle.std.proofs.Common.{List, Bool, true, false, ◌≡◌, ◌≤◌, ◌<◌, ℕ, refl, ◌+◌, ◌*◌, ◌++◌, ◌∷◌, [], ap, arith, subst, sym, ◌∙◌}
+use Rattle.std.proofs.lemmas.Result.{IfOk-from_err}
+use Rattle.std.proofs.lemmas.Nat.{mul-le}
 use Rattle.presentations.proofs.AxisLaws.{Built, built-none, built-skip, built-push, built-box, few-letters}
 use Rattle.presentations.proofs.PowerLaws.{none-at-all, when-none}
 use Rattle.presentations.proofs.SizeLaws.{least-larger, not-above, above, box-more}
 use Rattle.std.specs.Prelude.{◌≢◌, IsTrue, Option, Some, None, IfSome, is_some}
-use Rattle.std.proofs.lemmas.Nat.{mul-le}
 use Rattle.presentations.specs.declared.read.Relation.{Relation}
 use Rattle.presentations.specs.declared.fault.PresFault.TheVariants.{Unbounded, Limit}
 use Rattle.presentations.specs.Powers.{IsBoxSize, IsUnbounded, IsLeastPower, HasSomePower, HasLeastPower}
@@ -197,3 +198,18 @@ overflow_mul-size g c =
     mul-le c.loop-letter.size c.in-Some.most 4294967295 255
     (omega (arith, c.loop-letter.invariant.within)) (omega (arith, c.in-Some.ensures.1)) in
     omega (arith, more)
+
+pub returns-in_err-push-clause-is_box : goal.returns-in_err-push-clause-is_box
+returns-in_err-push-clause-is_box g c = IfOk-from_err _ _ c.from_residual.ensures.0
+
+pub returns-in_err-push-clause-size : goal.returns-in_err-push-clause-size
+returns-in_err-push-clause-size g c = IfOk-from_err _ _ c.from_residual.ensures.0
+
+pub returns-in_err-push-clause-count : goal.returns-in_err-push-clause-count
+returns-in_err-push-clause-count g c = IfOk-from_err _ _ c.from_residual.ensures.0
+
+pub returns-in_err-push-clause-letters : goal.returns-in_err-push-clause-letters
+returns-in_err-push-clause-letters g c = IfOk-from_err _ _ c.from_residual.ensures.0
+
+pub returns-in_err-push-clause-within : goal.returns-in_err-push-clause-within
+returns-in_err-push-clause-within g c = IfOk-from_err _ _ c.from_residual.ensures.0

@@ -1,4 +1,5 @@
 use Rattle.std.proofs.Common.{rules, arith}
+use Rattle.std.proofs.lemmas.Grind.{common_steps}
 use Rattle.std.proofs.lemmas.Result.{IfOk-from_err}
 use Rattle.streams.proofs.whole.read_whole.Goals as goal
 
@@ -42,3 +43,6 @@ returns-clause-cause g c = c.loop-chunk.invariant.1
 
 pub returns-in_err-n-clause-cause : goal.returns-in_err-n-clause-cause
 returns-in_err-n-clause-cause g c = search rules
+
+pub loop-chunk-preserved : goal.loop-chunk-preserved
+loop-chunk-preserved g c = grind (arith, common_steps)

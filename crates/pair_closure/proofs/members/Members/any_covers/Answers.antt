@@ -1,4 +1,5 @@
 use Rattle.std.proofs.Common.{◌≡◌, sym, ◌∙◌, subst, arith, rules, length, false}
+use Rattle.std.proofs.lemmas.Grind.{common_steps}
 use Rattle.std.specs.List.{list_any}
 use Rattle.transition_algebra.specs.Pairs.{covers}
 use Rattle.pair_closure.specs.Chains.{last_with}
@@ -31,3 +32,6 @@ pub returns : goal.returns
 returns g c =
     subst (λ ms. false ≡ list_any (λ m. covers m.pair c.args.x.now) ms) c.self.view_is
     (walk_ends _ _ _ _ c.loop-at.invariant (omega arith))
+
+pub returns-then-covers : goal.returns-then-covers
+returns-then-covers c = grind (arith, common_steps)

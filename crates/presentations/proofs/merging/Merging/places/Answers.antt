@@ -1,4 +1,5 @@
 use Rattle.std.proofs.Common.{◌≡◌, ap, sym, subst, arith, length}
+use Rattle.std.proofs.lemmas.Grind.{common_steps}
 use Rattle.std.specs.Prelude.{slice_index_or}
 use Rattle.presentations.specs.Boxes.{place_of}
 use Rattle.presentations.specs.Words.{vector_on}
@@ -20,3 +21,9 @@ returns-clause-related g c =
     (vector_on (letters_in axes) (slice_index_or relations c.args.i no_relation).left)) v)
     (sym c.place-2.ensures.value)
     (relation axes relations c.args.i no_relation c.self.invariant.box (omega (arith, same)))))
+
+pub returns-clause-left : goal.returns-clause-left
+returns-clause-left c = grind (arith, common_steps)
+
+pub returns-clause-right : goal.returns-clause-right
+returns-clause-right c = grind (arith, common_steps)
