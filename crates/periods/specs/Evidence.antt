@@ -1,8 +1,13 @@
--- Periods that the elements of heaps suggest. This project's own.
-use Rattle.std.specs.Prelude.{◌≡◌, ◌+◌, ◌<◌, ◌≤◌, ℕ, List, length, slice_index}
+-- How many heaps show a period. This project's own.
+use Rattle.std.specs.Prelude.{ℕ, ◌+◌, ◌*◌, ◌≤◌, List, length}
+use Rattle.periods.specs.Periods.{IsPeriodic}
 
--- From the heap `start` on, the elements of the heaps 1, 2, .. repeat after so many heaps, as far
--- as the list goes.
-abbrev pub Repeats : List ℕ → ℕ → ℕ → Type 0
-Repeats heaps start period = (i : ℕ) → start ≤ i + 1 → i + period < length heaps
-    → slice_index heaps i ≡ slice_index heaps (i + period)
+-- The heaps 1 to 2 · (start + period) + last - 1 have elements.
+abbrev pub IsShown : List ℕ → ℕ → ℕ → ℕ → Type 0
+IsShown heaps start period last =
+    (1 ≤ period) × (2 * (start + period) + last ≤ length heaps + 1)
+
+-- The list has the period p from s on, and no sum of a start and a period of it is less.
+pub record IsSoonestPeriod (es : List ℕ) (s p : ℕ) : Type 0 where
+  pub is : IsPeriodic es s p
+  pub soonest : (t q : ℕ) → IsPeriodic es t q → s + p ≤ t + q

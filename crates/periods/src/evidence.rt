@@ -1,51 +1,37 @@
-//! Periods of the heaps' elements.
-ghost use Rattle.std.specs.Prelude.{◌≡◌, ◌+◌, ◌<◌, ◌≤◌, ℕ, length, slice_index, IfSome};
-ghost use Rattle.periods.specs.Evidence.{Repeats};
+//! The period that the fewest heaps show.
+ghost use Rattle.std.specs.Prelude.{◌↔◌, IsNone, IsTrue, IfSome};
+ghost use Rattle.periods.specs.Evidence.{IsShown, IsSoonestPeriod};
+ghost use Rattle.periods.specs.Periods.{HasNoPeriod};
 
-/// The least place from which the elements repeat, up to the last one.
-fn start_of(heaps: &[u16], period: usize) -> usize
-    ensures { (i : ℕ) → result ≤ i → i + period < length heaps.now
-        → slice_index heaps.now i ≡ slice_index heaps.now (i + period) }
+use crate::repeats_from;
+
+/// Whether there are as many heaps as show the period, for a code with `last` digits after the
+/// point: 2 · (start + period) + `last` - 1. The pairs of an element and the options' elements
+/// repeat then too, since of two parts of a larger heap one is so large that a period can be taken
+/// off it.
+pub fn is_shown(heaps: &[u16], start: usize, period: usize, last: usize) -> bool
+    ensures { IsTrue result ↔ IsShown heaps.now start period last }
 {
-    let mut start = 0usize;
-    for place in 0..heaps.len().saturating_sub(period) {
-        if heaps[place] != heaps[place + period] {
-            start = place + 1;
-        }
-    }
-    start
-}
-
-/// How many heaps must have elements before the period shows, for a code with `last` digits after
-/// the point: the pairs of an element and the options' elements repeat then too, since of two parts
-/// of a larger heap one is so large that a period can be taken off it.
-fn heaps_needed(start: usize, period: usize, last: usize) -> usize {
-    start
+    let needed = start
         .saturating_add(period)
         .saturating_mul(2)
-        .saturating_add(last)
-        .saturating_sub(1)
-}
-
-/// Whether there are as many heaps as show the period.
-pub fn is_shown(heaps: &[u16], start: usize, period: usize, last: usize) -> bool {
-    period > 0 && heaps_needed(start, period, last) <= heaps.len()
+        .saturating_add(last);
+    period > 0 && needed <= heaps.len() + 1
 }
 
 /// The period, and the heap from which on the elements repeat, as (start, period), that the fewest
-/// heaps would show, of those that stand at least twice.
-pub fn likely_period(heaps: &[u16], last: usize) -> Option<(usize, usize)>
-    ensures { IfSome result (λ p. Repeats heaps.now p.0 p.1) }
+/// heaps show, of those that stand at least twice. `None` exactly where none does.
+pub fn soonest_period(heaps: &[u16]) -> Option<(usize, usize)>
+    ensures found { IfSome result (λ r. IsSoonestPeriod heaps.now r.0 r.1) }
+    ensures none { IsNone result ↔ HasNoPeriod heaps.now }
 {
     let mut best: Option<(usize, usize)> = None;
-    let mut fewest = usize::MAX;
+    let mut least = usize::MAX;
     for period in 1..heaps.len() / 2 + 1 {
-        let start = start_of(heaps, period).saturating_add(1);
-        let twice = start.saturating_add(period).saturating_add(period);
-        let needed = heaps_needed(start, period, last);
-        if twice <= heaps.len().saturating_add(1) && needed < fewest {
+        let start = repeats_from(heaps, period);
+        if start <= heaps.len() + 1 - 2 * period && start + period < least {
             best = Some((start, period));
-            fewest = needed;
+            least = start + period;
         }
     }
     best

@@ -6,7 +6,7 @@ ghost use Rattle.periods.specs.Periods.{HasNoPeriod, IsLeastPeriod, RepeatsFrom}
 
 mod evidence;
 
-pub use evidence::{is_shown, likely_period};
+pub use evidence::{is_shown, soonest_period};
 
 /// The least period of the entries e1, e2, .., and the least start from which on they have it: over
 /// the starts s and periods p from 1 on for which e(i + p) = e(i) from s to the end, and which show

@@ -8,7 +8,7 @@ use crate::work::{Halt, Work};
 use allocation::Memory;
 use misere_theory::LARGEST_ORDER;
 use octal_code::Code;
-use periods::{is_shown, likely_period};
+use periods::{is_shown, soonest_period};
 use std::alloc::Allocator;
 
 /// Adds the heap n, and makes the quotient right.
@@ -36,7 +36,7 @@ fn advance<A: Allocator + Copy>(
 
 /// Whether the heaps show a period.
 fn has_period(heaps: &[u16], last: usize) -> bool {
-    match likely_period(heaps, last) {
+    match soonest_period(heaps) {
         Some((start, period)) => is_shown(heaps, start, period, last),
         None => false,
     }

@@ -1,5 +1,7 @@
 -- The shape of a guessed quotient. This project's own.
-use Rattle.std.specs.Prelude.{◌≡◌, ◌*◌, ◌<◌, ◌≤◌, ℕ, List, length, All, Bool}
+use Rattle.std.specs.Prelude.{◌≡◌, ◌⊎◌, ◌↔◌, ◌*◌, ◌<◌, ◌≤◌, ℕ, List, length, All, Bool, true}
+use Rattle.periods.specs.Evidence.{IsShown, IsSoonestPeriod}
+use Rattle.periods.specs.Periods.{HasNoPeriod}
 
 -- Products in flat rows of an order, a mark for each element, and the elements of the heaps 1, 2,
 -- .., of which there are at most so many.
@@ -11,3 +13,10 @@ pub record IsWellFormed (order : ℕ) (products : List ℕ) (lost : List Bool) (
   pub marked : length lost ≡ order
   pub few : length heaps ≤ most
   pub heaps_below : All (λ x. x < order) heaps
+
+-- The period, and its start, that the fewest heaps would show, or twice 0 where the elements show
+-- none twice; and whether there are as many heaps as show it, for a code of this last digit.
+pub record IsPeriodGuess (heaps : List ℕ) (start period last : ℕ) (shown : Bool) : Type 0 where
+  pub soonest : IsSoonestPeriod heaps start period
+      ⊎ (HasNoPeriod heaps × (start ≡ 0) × (period ≡ 0))
+  pub as_shown : (shown ≡ true) ↔ IsShown heaps start period last

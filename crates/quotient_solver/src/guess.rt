@@ -1,10 +1,9 @@
 //! A guessed quotient.
 ghost use Rattle.std.specs.Prelude.{◌≡◌, ◌<◌, ◌≤◌, length, All, IfOk, IfSome};
-ghost use Rattle.periods.specs.Evidence.{Repeats};
-ghost use Rattle.quotient_solver.specs.Guesses.{IsWellFormed};
+ghost use Rattle.quotient_solver.specs.Guesses.{IsWellFormed, IsPeriodGuess};
 
 use allocation::Memory;
-use periods::{is_shown, likely_period};
+use periods::{is_shown, soonest_period};
 use quotient_search::Quotient;
 use std::alloc::{Allocator, Global};
 
@@ -20,9 +19,9 @@ pub struct Guess<A: Allocator = Global> {
     pub lost: Vec<bool, A>,
     /// The elements of the heaps 1, 2, ..
     pub heaps: Vec<u16, A>,
-    /// The heap from which on the elements repeat, by the likeliest guess, or 0.
+    /// The heap from which on the elements repeat, or 0 where the heaps show no period twice.
     pub start: usize,
-    /// After how many heaps they repeat, or 0 where nothing is guessed.
+    /// After how many heaps they repeat, by the period that the fewest heaps show, or 0 likewise.
     pub period: usize,
     /// Whether there are so many heaps that the period is right if the elements are.
     pub shown: bool,
@@ -84,8 +83,9 @@ pub fn guess_of<A: Allocator + Copy>(
     ensures formed { IfOk result
         (λ found.
         IfSome found (λ g. IsWellFormed g.order g.products.items g.lost.items g.heaps.items most)) }
-    ensures repeats { IfOk result
-        (λ found. IfSome found (λ g. Repeats g.heaps.items g.start g.period)) }
+    ensures period { IfOk result
+        (λ found.
+        IfSome found (λ g. IsPeriodGuess g.heaps.items g.start g.period last g.shown)) }
 {
     let order = quotient.order();
     let Some(size) = order.checked_mul(order) else {
@@ -96,7 +96,7 @@ pub fn guess_of<A: Allocator + Copy>(
         return Ok(None);
     }
     let heaps = numbers_below(alloc, quotient.heaps(), count, order)?;
-    let (start, period) = likely_period(&heaps, last).unwrap_or((0, 0));
+    let (start, period) = soonest_period(&heaps).unwrap_or((0, 0));
     let shown = is_shown(&heaps, start, period, last);
     Ok(Some(Guess {
         order,

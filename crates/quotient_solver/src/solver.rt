@@ -1,7 +1,6 @@
 //! The solver.
-ghost use Rattle.std.specs.Prelude.{◌≡◌, IfOk, IfSome, min, max};
-ghost use Rattle.periods.specs.Evidence.{Repeats};
-ghost use Rattle.quotient_solver.specs.Guesses.{IsWellFormed};
+ghost use Rattle.std.specs.Prelude.{◌≡◌, ◌-◌, IfOk, IfSome, length, min, max};
+ghost use Rattle.quotient_solver.specs.Guesses.{IsWellFormed, IsPeriodGuess};
 
 use crate::guess::{Guess, guess_of};
 use allocation::{Memory, Room};
@@ -46,8 +45,10 @@ fn guessed<A: Room + Copy>(alloc: A, code: &Code, most: usize) -> Result<Option<
     ensures formed { IfOk result
         (λ found.
         IfSome found (λ g. IsWellFormed g.order g.products.items g.lost.items g.heaps.items most)) }
-    ensures repeats { IfOk result
-        (λ found. IfSome found (λ g. Repeats g.heaps.items g.start g.period)) }
+    ensures period { IfOk result
+        (λ found.
+        IfSome found
+        (λ g. IsPeriodGuess g.heaps.items g.start g.period (length code.now - 1) g.shown)) }
 {
     match find_quotient(alloc, code, most)? {
         Some(quotient) => guess_of(alloc, &quotient, most, code.last() as usize),
@@ -84,8 +85,10 @@ impl<A: Room + Copy> Solver<A> {
             (λ found.
             IfSome found
             (λ g. IsWellFormed g.order g.products.items g.lost.items g.heaps.items self.old)) }
-        ensures repeats { IfOk result
-            (λ found. IfSome found (λ g. Repeats g.heaps.items g.start g.period)) }
+        ensures period { IfOk result
+            (λ found.
+            IfSome found
+            (λ g. IsPeriodGuess g.heaps.items g.start g.period (length code.now - 1) g.shown)) }
         ensures same { self.new ≡ self.old }
     {
         self.wrong = self.wrong && is_asked(&self.asked, code);
