@@ -1,5 +1,5 @@
-//! Tests of the crates below the checker and of catalogues, by their public names alone. There is
-//! nothing else here: a library's proof then waits for no test.
+//! Tests of the crates below the checker, by their public names alone. There is nothing else here: a
+//! library's proof then waits for no test.
 #![tactic(auto)]
 
 #[cfg(test)]
