@@ -15,8 +15,12 @@ pub record IsWellFormed (order : ℕ) (products : List ℕ) (lost : List Bool) (
   pub heaps_below : All (λ x. x < order) heaps
 
 -- The period, and its start, that the fewest heaps would show, or twice 0 where the elements show
--- none twice; and whether there are as many heaps as show it, for a code of this last digit.
+-- none twice.
+abbrev pub IsPeriodOrNone : List ℕ → ℕ → ℕ → Type 0
+IsPeriodOrNone heaps start period =
+    IsSoonestPeriod heaps start period ⊎ (HasNoPeriod heaps × (start ≡ 0) × (period ≡ 0))
+
+-- This period, and whether there are as many heaps as show it, for a code of this last digit.
 pub record IsPeriodGuess (heaps : List ℕ) (start period last : ℕ) (shown : Bool) : Type 0 where
-  pub soonest : IsSoonestPeriod heaps start period
-      ⊎ (HasNoPeriod heaps × (start ≡ 0) × (period ≡ 0))
+  pub soonest : IsPeriodOrNone heaps start period
   pub as_shown : (shown ≡ true) ↔ IsShown heaps start period last

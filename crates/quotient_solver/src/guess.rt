@@ -1,6 +1,6 @@
 //! A guessed quotient.
 ghost use Rattle.std.specs.Prelude.{◌≡◌, ◌<◌, ◌≤◌, length, All, IfOk, IfSome};
-ghost use Rattle.quotient_solver.specs.Guesses.{IsWellFormed, IsPeriodGuess};
+ghost use Rattle.quotient_solver.specs.Guesses.{IsWellFormed, IsPeriodOrNone, IsPeriodGuess};
 
 use allocation::Memory;
 use periods::{is_shown, soonest_period};
@@ -73,6 +73,17 @@ fn marks<A: Allocator + Copy>(
     Ok(lost)
 }
 
+/// The period that the fewest heaps would show, and its start before it, or twice 0 where none
+/// stands twice.
+fn period_of(heaps: &[u16]) -> (usize, usize)
+    ensures { IsPeriodOrNone heaps.now result.0 result.1 }
+{
+    match soonest_period(heaps) {
+        Some(found) => found,
+        None => (0, 0),
+    }
+}
+
 /// A quotient as a guess of at most so many heaps, for a code with `last` digits after the point.
 pub fn guess_of<A: Allocator + Copy>(
     alloc: A,
@@ -96,7 +107,7 @@ pub fn guess_of<A: Allocator + Copy>(
         return Ok(None);
     }
     let heaps = numbers_below(alloc, quotient.heaps(), count, order)?;
-    let (start, period) = soonest_period(&heaps).unwrap_or((0, 0));
+    let (start, period) = period_of(&heaps);
     let shown = is_shown(&heaps, start, period, last);
     Ok(Some(Guess {
         order,
