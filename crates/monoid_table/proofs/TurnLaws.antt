@@ -204,3 +204,33 @@ turns-spend (suc n) s =
         | inr still ↦ omega (arith, later.1 going, now.1 still)
       ],
     )
+
+over-where-refused : (b : Bool) (m n : ℕ) → b ≡ false → (not b || (m == n)) ≡ true
+over-where-refused true m n e = cc
+over-where-refused false m n e = refl
+
+over-where-last : (b : Bool) (m n : ℕ) → m ≡ n → (b || (m == n)) ≡ true
+over-where-last true m n e = refl
+over-where-last false m n e = grind (arith, nat_tests)
+
+-- the turn at a triple where a law fails, and that at the last one, end the job
+pub turn-ends : (s : JobState) → is_over s ≡ false
+    → (triple_holds s.grid.order s.grid.entries s.spent ≡ false)
+    ⊎ (s.spent + 1 ≡ triples s.grid.order)
+    → is_over (turns 1 s) ≡ true
+unfolding turns
+turn-ends s on (inl fails) = ap is_over (turn-going s on)
+    ∙ over-where-refused (triple_holds s.grid.order s.grid.entries s.spent) (s.spent + 1)
+    (triples s.grid.order) fails
+turn-ends s on (inr last) = ap is_over (turn-going s on)
+    ∙ over-where-last (not (triple_holds s.grid.order s.grid.entries s.spent)) (s.spent + 1)
+    (triples s.grid.order) last
+
+-- before the end some triple is left
+pub some-left : (s : JobState) → is_over s ≡ false → s.spent ≤ triples s.grid.order
+    → s.spent < triples s.grid.order
+some-left s on within = below s.refused s.spent (triples s.grid.order) on within
+  where
+    below : (r : Bool) (m n : ℕ) → (r || (m == n)) ≡ false → m ≤ n → m < n
+    below true m n e l = cc
+    below false m n e l = grind (arith, nat_tests)

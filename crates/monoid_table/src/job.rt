@@ -1,5 +1,5 @@
 //! A table checked in pieces.
-ghost use Rattle.std.specs.Prelude.{◌≡◌, ◌+◌, ◌-◌, ◌*◌, ◌<◌, ◌≤◌, ◌↔◌, true, false, IfOk, OnErr, Ok, Err, IsOk};
+ghost use Rattle.std.specs.Prelude.{◌≡◌, ◌⊎◌, ◌+◌, ◌-◌, ◌*◌, ◌<◌, ◌≤◌, ◌↔◌, true, false, IfOk, OnErr, Ok, Err, IsOk};
 ghost use Rattle.misere_theory.specs.Quotients.{LawFails};
 ghost use Rattle.monoid_table.specs.Grids.{IsShaped, IsTable, entry};
 ghost use Rattle.monoid_table.specs.Turns.{JobState, triples, is_over, turns, fresh};
@@ -101,10 +101,11 @@ impl<A: Allocator> TableJob<A> {
     }
 
     /// Looks at triples as `work` does, at most `units`, and answers at how many. The last one, and
-    /// one where a law fails, it leaves to `work`.
+    /// one where a law fails, it leaves to `work`: 0 comes only before one of these, or for 0 units.
     pub fn go_on(&mut self, units: u64) -> u64
         requires { is_over self.old ≡ false }
         ensures within { result ≤ units }
+        ensures some { result ≡ 0 → (units ≡ 0) ⊎ (is_over (turns 1 self.old) ≡ true) }
         ensures state { self.new ≡ turns result self.old }
         ensures going { is_over self.new ≡ false }
     {

@@ -1,7 +1,7 @@
 //! The pairs of the heaps, made in pieces.
-ghost use Rattle.std.specs.Prelude.{◌≡◌, ◌+◌, ◌<◌, ◌≤◌, ◌↔◌, All, IsTrue, IsErr, IfOk, OnOk, OnErr, true, false};
+ghost use Rattle.std.specs.Prelude.{◌≡◌, ◌⊎◌, ◌+◌, ◌<◌, ◌≤◌, ◌↔◌, All, IsTrue, IsErr, IfOk, OnOk, OnErr, true, false};
 ghost use Rattle.transition_algebra.specs.Pairs.{IsPair};
-ghost use Rattle.transition_algebra.specs.Heaps.{IsInto, AreAllHeapPairs, all_heap_pairs};
+ghost use Rattle.transition_algebra.specs.Heaps.{IsInto, AreAllHeapPairs, all_heap_pairs, bound_of};
 ghost use Rattle.transition_algebra.specs.Work.{IsDone, worked, heap_cost, turns, opening};
 
 use crate::pair::Pair;
@@ -119,7 +119,8 @@ impl<A: Allocator> HeapJob<A> {
     }
 
     /// Spends units as `work` does, at most so many, but none at the last heap, which is left to
-    /// `work`. Where a growth is refused it spends no more, and `work` tells so.
+    /// `work`: fewer only where the last heap is in hand. Where a growth is refused it spends no
+    /// more, and `work` tells so.
     #[inline(never)]
     pub fn go_on(&mut self, most: u64)
         ensures given { self.new
@@ -128,6 +129,10 @@ impl<A: Allocator> HeapJob<A> {
             × (self.new.spent ≤ self.old.spent + most) }
         ensures going { self.old.spent < heap_cost self.old.code self.old.phi
             → self.new.spent < heap_cost self.old.code self.old.phi }
+        ensures taken { self.new.refused ≡ false → (self.new.spent ≡ self.old.spent + most)
+            ⊎ (bound_of self.new.code self.new.phi
+            ≤ (turns self.new.code self.new.table self.new.phi self.new.spent
+            (opening self.new.code self.new.phi)).heap) }
         ensures stays { IsTrue self.old.refused → self.new ≡ self.old }
     {
         if self.refused {

@@ -1,11 +1,11 @@
 //! The options of the heaps, tried one after another.
-ghost use Rattle.std.specs.Prelude.{◌≡◌, ◌+◌, ◌^◌, ◌<◌, ◌≤◌, ◌↔◌, [], ◌∷◌, ◌++◌, length, min, true, IsTrue, IfOk, OnErr, OnOk, All};
+ghost use Rattle.std.specs.Prelude.{◌≡◌, ◌⊎◌, ◌+◌, ◌^◌, ◌<◌, ◌≤◌, ◌↔◌, [], ◌∷◌, ◌++◌, length, min, true, IsTrue, IfOk, OnErr, OnOk, All};
 ghost use Rattle.monoid_table.specs.Grids.{Grid};
 ghost use Rattle.octal_code.specs.Bits.{allows};
 ghost use Rattle.octal_code.specs.declared.leaving.Leaving.TheVariants.{TwoHeaps};
 ghost use Rattle.heap_options.specs.Walks.{single_left, last_part};
 ghost use Rattle.transition_algebra.specs.Pretending.{phi_at};
-ghost use Rattle.transition_algebra.specs.Heaps.{IsInto};
+ghost use Rattle.transition_algebra.specs.Heaps.{IsInto, bound_of};
 ghost use Rattle.transition_algebra.specs.Work.{heap_cost};
 ghost use Rattle.transition_algebra.specs.Trials.{IsTrial, IsRun, AreWholes, HaveElements, after_single, after_splits, after_all, after_heap};
 
@@ -224,6 +224,8 @@ impl Trial {
             × (self.new.spent ≤ self.old.spent + units) }
         ensures going { self.old.spent < heap_cost code.now phi.now
             → self.new.spent < heap_cost code.now phi.now }
+        ensures taken { OnOk result ((self.new.spent ≡ self.old.spent + units)
+            ⊎ (bound_of code.now phi.now ≤ self.new.walk.heap)) }
     {
         is_octal_code(code);
         let mut left = units;
