@@ -2,7 +2,8 @@
 use Rattle.std.proofs.Common.{◌≡◌, ℕ, zero, suc, ◌+◌, ◌-◌, ◌*◌, ◌/◌, ◌%◌, ◌<◌, ◌≤◌, List, [], ◌∷◌, length, get_or, take, map, refl, sym, ap, ◌∙◌, inl, inr, arith, subst}
 use Rattle.std.specs.Prelude.{slice_index, ◌↔◌}
 use Rattle.std.proofs.lemmas.Bool.{cases_lt}
-use Rattle.std.proofs.lemmas.List.{length-map}
+use Rattle.std.proofs.lemmas.List.{length-map, get_or-map}
+use Rattle.std.proofs.lemmas.List.Elements.{All-from_get_or}
 use Rattle.std.proofs.lemmas.Nat.{mul-add-lt, mul-le, mod_below, div-add-mod'}
 use Rattle.std.proofs.Math.Nat.{mul_comm}
 use Rattle.misere_theory.specs.Quotients.{Monoid}
@@ -288,7 +289,18 @@ module _ (axes : List Axis) (relations : List Relation) (classes firsts keys pro
       let len : length (letters_of relations) ≡ n =
       sym (ap length letters) ∙ length-map axes (λ a. a.letter) in
       record {
+        monoid = monoid;
         letters = named ∙ ap (map (λ a. 97 + a)) letters;
+        elements =
+            All-from_get_or (λ g. g.element < q) generators (record { letter = 0; element = 0 })
+            (λ i lt.
+            let few : i < n = subst (λ k. i < k)
+            (sym (length-map generators (λ g. g.element)) ∙ ap length elements
+            ∙ take-length n products enough) lt in
+            let same : get_or gens i 0 ≡ (get_or generators i (record { letter = 0; element = 0 })).element =
+            sym (ap (λ es. get_or es i 0) elements)
+            ∙ get_or-map (λ g. g.element) generators i (record { letter = 0; element = 0 }) 0 lt in
+            subst (λ e. e < q) same (letter-name i few).within);
         exact = λ u v eu ev. rw elements (
             subst (λ ls. (product_at times gens u ≡ product_at times gens v)
             ↔ Related (length ls) (pairs_on ls relations) u v) letters

@@ -1,6 +1,6 @@
 -- The table of a presentation's least congruence.
-use Rattle.std.specs.Prelude.{◌≡◌, ℕ, ◌+◌, ◌-◌, ◌<◌, ◌≤◌, ◌↔◌, List, [], ◌∷◌, length, map, false, slice_index}
-use Rattle.misere_theory.specs.Quotients.{Claim}
+use Rattle.std.specs.Prelude.{◌≡◌, ℕ, ◌+◌, ◌-◌, ◌<◌, ◌≤◌, ◌↔◌, List, [], ◌∷◌, length, map, All, false, slice_index}
+use Rattle.misere_theory.specs.Quotients.{Claim, Monoid}
 use Rattle.misere_theory.specs.Numbering.{IsNumbered}
 use Rattle.monoid_table.specs.Grids.{Grid, times_in}
 use Rattle.monoid_table.specs.Laws.{power_of}
@@ -31,12 +31,14 @@ abbrev pub IsNumberedByLeastKeys : Grid → List ℕ → Type 0
 IsNumberedByLeastKeys table elements =
     (key : ℕ → ℕ × ℕ) × IsNumbered (as_claim table elements) (length elements) key
 
--- Each letter that occurs has an element; products of powers are equal exactly where the least
--- congruence relates their exponents; each element is such a product; and the elements are numbered
--- by least keys.
+-- The table is a commutative monoid; each letter that occurs has an element of it; products of
+-- powers are equal exactly where the least congruence relates their exponents; each element is such
+-- a product; and the elements are numbered by least keys.
 pub record IsTableOf (relations : List Relation) (table : Grid) (generators : List Generator) : Type
     0 where
+  pub monoid : Monoid table.order (times_in table)
   pub letters : map (λ g. g.letter) generators ≡ map (λ a. 97 + a) (letters_of relations)
+  pub elements : All (λ g. g.element < table.order) generators
   pub exact : (u v : List ℕ) → length u ≡ length (letters_of relations)
       → length v ≡ length (letters_of relations)
       → (product_at (times_in table) (map (λ g. g.element) generators) u
