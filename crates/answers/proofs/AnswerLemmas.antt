@@ -1,8 +1,7 @@
 -- Which answers are true of bytes that spell a certificate.
 use Rattle.std.proofs.Common.{◌≡◌, ℕ, ◌*◌, ◌^◌, ◌≤◌, ◌⊎◌, List, refl, sym, ap, subst, inl, inr}
-use Rattle.misere_theory.specs.Games.{IsHeap}
 use Rattle.misere_theory.specs.Quotients.{Monoid, Represents}
-use Rattle.misere_theory.specs.Certificates.{Certificate, Accepted, Canonical, claim_of, times_of}
+use Rattle.misere_theory.specs.Certificates.{Certificate, kind_of, IsHeapOf, Accepted, Canonical, claim_of, times_of}
 use Rattle.misere_theory.specs.Verdicts.{Verdict, IsAllowed}
 use Rattle.misere_theory.specs.Verdicts.Fault.{Law as law, Word as word, Order as order, Period as period, Apart as apart}
 use Rattle.misere_theory.specs.Verdicts.Verdict.{No as Faulty, Outcome as Fails, Limit as Over}
@@ -45,7 +44,7 @@ module _ (one : (b : List ℕ) (c d : Certificate) → Spells b c → Spells b d
   accepted_answers k Memory t = inr (inr refl)
 
   module _ (m : Monoid c.order (times_of c)) (k : Canonical c)
-      (wrong : Represents IsHeap c.code (claim_of c) → ⊥) where
+      (wrong : Represents (IsHeapOf c) c.code (claim_of c) → ⊥) where
     faulty_never : {A : Type 0} (v : Verdict) → ((X : List ℕ) → v ≡ Fails X → ⊥) → (v ≡ Over → ⊥)
         → IsAllowed c limit v → A
     faulty_never v n o h =
@@ -70,7 +69,7 @@ module _ (one : (b : List ℕ) (c d : Certificate) → Spells b c → Spells b d
 
 pub true_answer : (one : (b : List ℕ) (c d : Certificate) → Spells b c → Spells b d → c ≡ d)
     (text : (a b : List ℕ) (c d : Certificate) → Spells a c → Spells b d → Accepted c → Accepted d
-    → c.code ≡ d.code → a ≡ b)
+    → c.code ≡ d.code → kind_of c ≡ kind_of d → a ≡ b)
     (bytes : List ℕ) (limit : ℕ) (a : Answer) → Holds bytes limit a → IsTrueOf bytes limit a
 true_answer one text bytes limit a h = record {
   holds = h;
@@ -78,7 +77,7 @@ true_answer one text bytes limit a h = record {
       let (d, t, f) = subst (Holds bytes limit) e h in
       let spelled = subst (Spells bytes) (sym f.0) t in
       let accepted = subst Accepted (sym f.0) f.1 in
-      (spelled, accepted, λ other o s k same. text other bytes o c s spelled k accepted same);
+      (spelled, accepted, λ other o s k same kind. text other bytes o c s spelled k accepted same kind);
   accepted = λ c s k. accepted_answers one bytes limit c s k a h;
   wrong = λ c s m k w. wrong_answers one bytes limit c s m k w a h;
   within = λ c s l e. never_limit one bytes limit c s l (subst (Holds bytes limit) e h);

@@ -1,9 +1,9 @@
 -- The positions that keys spell.
 use Rattle.std.proofs.Common.{◌≡◌, ℕ, ◌-◌, ◌<◌, ◌≤◌, List, [], ◌∷◌, ◌++◌, length, get_or, append_assoc, sym, ◌∙◌, ap, subst, arith}
 use Rattle.std.proofs.lemmas.List.{get_or_default}
-use Rattle.misere_theory.specs.Games.{IsHeap, IsPosition}
+use Rattle.misere_theory.specs.Games.{IsPosition}
 use Rattle.misere_theory.specs.Quotients.{Monoid, value}
-use Rattle.misere_theory.specs.Certificates.{Certificate, Canonical, InRanges, IsSpelled, claim_of, times_of}
+use Rattle.misere_theory.specs.Certificates.{Certificate, IsHeapOf, Canonical, InRanges, IsSpelled, claim_of, times_of}
 use Rattle.misere_theory.specs.Certificates.IsSpelled.{Key}
 use Rattle.misere_theory.proofs.Written.{phi_in}
 use Rattle.misere_theory.proofs.Spelled.{spelled_value}
@@ -13,12 +13,12 @@ use Rattle.answers.specs.Spelled.{AreSpelled, GoDown, key_in}
 -- a position that the keys of an element spell, and its value
 pub sizes_spelled : (c : Certificate) (e : ℕ) (sizes : List ℕ) → InRanges c
     → Monoid c.order (times_of c) → Canonical c → e < c.order → AreSpelled c e sizes
-    → IsPosition IsHeap sizes × (value (claim_of c) sizes ≡ e)
+    → IsPosition (IsHeapOf c) sizes × (value (claim_of c) sizes ≡ e)
 sizes_spelled c e sizes ranges monoid k b a =
     let (p, v) = spelled_value c e a.X ranges monoid k b a.spelled in
     let s = from_permutation a.X sizes a.same in (
-      position_shuffled IsHeap s p,
-      sym (value_shuffled IsHeap (claim_of c) monoid (λ n _. phi_in c ranges n) s p) ∙ v,
+      position_shuffled (IsHeapOf c) s p,
+      sym (value_shuffled (IsHeapOf c) (claim_of c) monoid (λ n _. phi_in c ranges n) s p) ∙ v,
     )
 
 -- the keys of a canonical certificate go down

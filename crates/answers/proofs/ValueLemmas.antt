@@ -8,9 +8,9 @@ use Rattle.misere_theory.specs.Quotients.{Claim, value}
 pub place_below : (q x y : ℕ) → x < q → y < q → x * q + y < q * q
 place_below q x y hx hy = grind arith
 
-pub place_small : (q x y : ℕ) → q ≤ 256 → x < q → y < q → x * q + y < 65536
+pub place_small : (q x y : ℕ) → q ≤ 512 → x < q → y < q → x * q + y < 262144
 place_small q x y small hx hy =
-    let p = place_below q x y hx hy in let m : q * q ≤ 256 * 256 = mul-le-mul small small in
+    let p = place_below q x y hx hy in let m : q * q ≤ 512 * 512 = mul-le-mul small small in
     omega arith
 
 -- one heap more in front

@@ -1,7 +1,7 @@
 -- What is answered to bytes, and which answers are true of them. This project's own.
 use Rattle.std.specs.Prelude.{◌≡◌, ◌≢◌, ◌⊎◌, ℕ, ◌≤◌, ◌*◌, ◌^◌, List, Result, Ok, Err}
 use Rattle.misere_theory.specs.Quotients.{Monoid, Represents}
-use Rattle.misere_theory.specs.Certificates.{Certificate, IsHeapOf, Accepted, Canonical, claim_of, times_of}
+use Rattle.misere_theory.specs.Certificates.{Certificate, kind_of, IsHeapOf, Accepted, Canonical, claim_of, times_of}
 use Rattle.misere_theory.specs.Verdicts.{IsAllowed}
 use Rattle.misere_theory.specs.Verdicts.Fault.{Law as law, Word as word, Order as order, Period as period, Apart as apart}
 use Rattle.misere_theory.specs.Verdicts.Verdict.{Yes as Right, No as Faulty, Outcome as Fails, Limit as Over}
@@ -68,16 +68,16 @@ Holds bytes limit Apart = SpellFitting bytes limit Apart
 Holds bytes limit (Outcome code X) = SpellFitting bytes limit (Outcome code X)
 Holds bytes limit Limit = SpellFitting bytes limit Limit
 
--- each accepted text of the certificate's code is these bytes
+-- each accepted text of the certificate's code and kind is these bytes
 abbrev pub IsOnlyText : List ℕ → Certificate → Type 0
 IsOnlyText bytes c = (other : List ℕ) (d : Certificate) → Spells other d → Accepted d
-    → d.code ≡ c.code → other ≡ bytes
+    → d.code ≡ c.code → kind_of d ≡ kind_of c → other ≡ bytes
 
 -- The answer is true of the bytes. It holds of them, and so
---   a yes is to the one accepted text of its code,
+--   a yes is to the one accepted text of its code and kind,
 --   accepted bytes get yes, Limit or Memory,
---   those with the laws and canonical, but with another monoid than the quotient of their code, get
---   Outcome, Limit or Memory,
+--   those with the laws and canonical, but with another monoid than the quotient of their code's
+--   game, of which the heaps count of which they speak, get Outcome, Limit or Memory,
 --   and never Limit where the limit is no less than all the pairs of an element and a set of
 --   elements.
 pub record IsTrueOf (bytes : List ℕ) (limit : ℕ) (answer : Answer) : Type 0 where

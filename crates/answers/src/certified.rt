@@ -1,5 +1,5 @@
 //! Accepted certificates.
-ghost use Rattle.std.specs.Prelude.{◌≡◌, ◌<◌, ◌≤◌, IfOk};
+ghost use Rattle.std.specs.Prelude.{◌≡◌, ◌<◌, IfOk};
 ghost use Rattle.misere_theory.specs.Certificates.{Accepted, IsHeapOf, claim_of, times_of, phi_at};
 ghost use Rattle.misere_theory.specs.Games.{IsPosition};
 ghost use Rattle.misere_theory.specs.Quotients.{value};
@@ -56,9 +56,9 @@ impl<A: Allocator> Certified<A> {
         &self.cert
     }
 
-    /// The element of the heap n.
+    /// The element of the heap n, of which the certificate speaks.
     pub fn element(&self, n: u64) -> u16
-        requires { 1 ≤ n }
+        requires { IsHeapOf self.now n }
         ensures value { result ≡ phi_at self.now n }
         ensures within { result < self.now.order }
     {

@@ -1,9 +1,9 @@
-//! Laws of answers: what follows for one that holds, the one accepted text of a code, and the
-//! positions that keys spell.
-ghost use Rattle.std.specs.Prelude.{◌≡◌, ◌<◌, ℕ, List};
-ghost use Rattle.misere_theory.specs.Games.{IsHeap, IsPosition};
+//! Laws of answers: what follows for one that holds, the one accepted text of a code and a kind, and
+//! the positions that keys spell.
+ghost use Rattle.std.specs.Prelude.{◌≡◌, ◌<◌, ◌≤◌, ℕ, List};
+ghost use Rattle.misere_theory.specs.Games.{IsPosition};
 ghost use Rattle.misere_theory.specs.Quotients.{Monoid, value};
-ghost use Rattle.misere_theory.specs.Certificates.{Certificate, Accepted, Canonical, InRanges, claim_of, times_of};
+ghost use Rattle.misere_theory.specs.Certificates.{Certificate, kind_of, IsHeapOf, Accepted, Canonical, InRanges, claim_of, times_of};
 ghost use Rattle.certificate_text.specs.Spelling.{Spells};
 ghost use Rattle.answers.specs.Answers.{Answer, Holds, IsTrueOf};
 ghost use Rattle.answers.specs.Spelled.{AreSpelled, GoDown};
@@ -17,10 +17,13 @@ pub fn true_answers()
     one_text_for_a_code();
 }
 
-/// A code has one accepted text at most.
+/// A code has one accepted text of each kind at most: a full one, and for each last heap a partial
+/// one.
 pub fn one_text_for_a_code()
-    ensures { (a b : List ℕ) (c d : Certificate) → Spells a c → Spells b d → Accepted c → Accepted d
-        → c.code ≡ d.code → a ≡ b }
+    ensures one { (a b : List ℕ) (c d : Certificate) → Spells a c → Spells b d → Accepted c
+        → Accepted d → c.code ≡ d.code → kind_of c ≡ kind_of d → a ≡ b }
+    ensures full { (a b : List ℕ) (c d : Certificate) → Spells a c → Spells b d → Accepted c
+        → Accepted d → c.code ≡ d.code → 1 ≤ c.period → 1 ≤ d.period → a ≡ b }
 {
     misere_theory::certificates::accepted_certificates_are_unique();
     certificate_text::spellings_are_unique();
@@ -32,5 +35,5 @@ pub fn spelled_sizes_are_positions()
     ensures down { (c : Certificate) → InRanges c → Canonical c → GoDown c.words }
     ensures valued { (c : Certificate) (e : ℕ) (sizes : List ℕ) → InRanges c
         → Monoid c.order (times_of c) → Canonical c → e < c.order → AreSpelled c e sizes
-        → IsPosition IsHeap sizes × (value (claim_of c) sizes ≡ e) }
+        → IsPosition (IsHeapOf c) sizes × (value (claim_of c) sizes ≡ e) }
 {}

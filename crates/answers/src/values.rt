@@ -1,5 +1,5 @@
 //! Values of positions, by the rows and entries of an accepted certificate.
-ghost use Rattle.std.specs.Prelude.{◌≡◌, ◌<◌, ◌≤◌};
+ghost use Rattle.std.specs.Prelude.{◌≡◌, ◌<◌};
 ghost use Rattle.misere_theory.specs.Games.{IsPosition};
 ghost use Rattle.misere_theory.specs.Certificates.{Accepted, IsHeapOf, claim_of, times_of, phi_at};
 ghost use Rattle.misere_theory.specs.Quotients.{value};
@@ -7,10 +7,10 @@ ghost use Rattle.misere_theory.specs.Quotients.{value};
 use certificate::{Cert, claims_agree};
 use std::alloc::Allocator;
 
-/// The element of the heap n.
+/// The element of the heap n, of which the certificate speaks.
 pub fn element<A: Allocator>(cert: &Cert<A>, n: u64) -> u16
     requires accepted { Accepted cert.now }
-    requires from_one { 1 ≤ n }
+    requires counts { IsHeapOf cert.now n }
     ensures value { result ≡ phi_at cert.now n }
     ensures within { result < cert.now.order }
 {

@@ -1,14 +1,15 @@
 -- The members of a catalogue file, and the items among them, as they are read.
-use Rattle.std.proofs.Common.{◌≡◌, ◌≢◌, ℕ, List, [], ◌∷◌, ◌++◌, get_or, map, codes, Some, None, option_and_then, true, Less, Greater, nat_cmp, Vec, Global, refl, sym, ap, subst, ◌∙◌, arith}
+use Rattle.std.proofs.Common.{◌≡◌, ◌≢◌, ℕ, zero, suc, ◌<◌, ◌==◌, ◌⊎◌, inl, inr, List, [], ◌∷◌, ◌++◌, get_or, map, codes, Option, Some, None, is_some, option_and_then, Bool, true, false, All, Vec, Global, refl, sym, ap, subst, ◌∙◌, arith}
 use Rattle.std.proofs.lemmas.List.{append_assoc, append-nil, map-append}
-use Rattle.std.specs.Cmp.Lexicographic.{slice_cmp}
 use Rattle.serde_json.specs.Data.{Data, Items, no_items, item, Members, array, object, put}
-use Rattle.serde_json.specs.Find.{as_array, as_number, as_u64}
-use Rattle.catalogue.specs.Files.{Written, written, IsEntry, AreEntries}
-use Rattle.catalogue.specs.Reading.{AreOf, AreParts, EntriesAre, EntryIs, FileIs}
+use Rattle.serde_json.specs.Events.{members_len}
+use Rattle.serde_json.specs.Find.{get_member, as_array, as_number, as_u64}
+use Rattle.serde_json.proofs.Views.{get_member-put, get_member-put_other}
+use Rattle.catalogue.specs.Files.{Written, written, IsEntry, AreEntries, AllName, NamesHeaps}
+use Rattle.catalogue.specs.Reading.{one_if, counted, file_names, whole_of, AreOf, AreParts, EntriesAre, EntryIs, FileIs}
 use Rattle.catalogue.specs.declared.file.Texts.{Texts}
 use Rattle.catalogue.specs.declared.frame.Frame.{Frame}
-use Rattle.catalogue.proofs.PairLemmas.{some_of, not_two, first_put, second_put, other_put}
+use Rattle.catalogue.proofs.NameLemmas.{some_of, put_named, put_outside}
 
 abbrev pub entries : List ℕ
 entries = codes "entries"
@@ -20,64 +21,156 @@ apart : entries ≢ version
 apart e = let h : get_or entries 0 0 ≡ get_or version 0 0 = ap (λ xs. get_or xs 0 0) e in
     omega (arith, h)
 
-below : slice_cmp nat_cmp entries version ≡ Less
-below = refl
+module _ (f g : Frame) (d : Data) (found : Members) (h : AreParts f found) where
+  version_stays : (k : List ℕ) → version ≢ k → option_and_then whole_of (get_member version found)
+      ≡ option_and_then whole_of (get_member version (put k d found))
+  version_stays k other =
+      sym (ap (option_and_then whole_of) (get_member-put_other version k d found other))
 
-above : slice_cmp nat_cmp version entries ≡ Greater
-above = refl
+  entries_stay : (k : List ℕ) → entries ≢ k → g.entries ≡ f.entries
+      → EntriesAre g.entries (get_member entries (put k d found))
+  entries_stay k other e =
+      subst (EntriesAre g.entries) (sym (get_member-put_other entries k d found other))
+      (subst (λ x. EntriesAre x (get_member entries found)) (sym e) h.entries)
 
-pub put_entries : (f g : Frame) (d : Data) (found : Members) → EntriesAre g.entries (Some d)
-    → g.version ≡ f.version → g.others ≡ f.others → AreParts f found
-    → AreParts g (put entries d found)
-put_entries f g d found e v o h = (
-  Some d,
-  h.1,
-  subst (AreOf entries version (put entries d found) (Some d) h.1) (sym o)
-      (first_put entries version apart below above found h.0 h.1 d f.others h.2),
-  e,
-  v ∙ h.4,
+  pub put_entries : EntriesAre g.entries (Some d) → g.version ≡ f.version → g.others ≡ f.others
+      → AreParts g (put entries d found)
+  put_entries e v o = record {
+    names = subst (AreOf file_names (put entries d found)) (sym o)
+        (put_named entries d found file_names f.others (inl (refl, (apart, tt))) h.names);
+    entries = subst (EntriesAre g.entries) (sym (get_member-put entries d found)) e;
+    version = v ∙ h.version ∙ version_stays entries (λ s. apart (sym s));
+  }
+
+  pub put_version : g.version ≡ whole_of d → g.entries ≡ f.entries → g.others ≡ f.others
+      → AreParts g (put version d found)
+  put_version v e o = record {
+    names = subst (AreOf file_names (put version d found)) (sym o)
+        (put_named version d found file_names f.others
+        (inr ((λ s. apart (sym s)), inl (refl, tt))) h.names);
+    entries = entries_stay version apart e;
+    version = v ∙ sym (ap (option_and_then whole_of) (get_member-put version d found));
+  }
+
+  pub put_other : (k : List ℕ) → k ≢ entries → k ≢ version → g.entries ≡ f.entries
+      → g.version ≡ f.version → g.others ≡ true → AreParts g (put k d found)
+  put_other k ka kb e v o = record {
+    names = subst (AreOf file_names (put k d found)) (sym o)
+        (put_outside k d found file_names f.others (ka, (kb, tt)) h.names);
+    entries = entries_stay k (λ s. ka (sym s)) e;
+    version = v ∙ h.version ∙ version_stays k (λ s. kb (sym s));
+  }
+
+as_whole : (o : Option Data)
+    → option_and_then whole_of o ≡ option_and_then as_u64 (option_and_then as_number o)
+as_whole None = refl
+as_whole (Some d) = refl
+
+same_named : (d : Data) (o p : Option ℕ) → NamesHeaps d o → NamesHeaps d p → is_some o ≡ is_some p
+same_named d None None h k = refl
+same_named d None (Some n) h k = let l = k.0 in absurd (omega arith)
+same_named d (Some m) None h k = let l = h.0 in absurd (omega arith)
+same_named d (Some m) (Some n) h k = refl
+
+-- entries of the same items name heaps alike
+same_form : (ds : Items) (es fs : List Written) (b : Bool) → AreEntries ds es → AreEntries ds fs
+    → AllName b es → AllName b fs
+same_form no_items [] [] b h k n = tt
+same_form no_items (e ∷ es) fs b h k n = absurd h
+same_form no_items [] (f ∷ fs) b h k n = absurd k
+same_form (item d ds) [] fs b h k n = absurd h
+same_form (item d ds) (e ∷ es) [] b h k n = absurd k
+same_form (item d ds) (e ∷ es) (f ∷ fs) b h k n = (
+  same_named d f.heaps e.heaps k.0.heaps h.0.heaps ∙ n.0,
+  same_form ds es fs b h.1 k.1 n.1,
 )
 
-pub put_version : (f g : Frame) (d : Data) (found : Members)
-    → g.version ≡ option_and_then as_u64 (as_number d) → g.entries ≡ f.entries → g.others ≡ f.others
-    → AreParts f found → AreParts g (put version d found)
-put_version f g d found v e o h = (
-  h.0,
-  Some d,
-  subst (AreOf entries version (put version d found) h.0 (Some d)) (sym o)
-      (second_put entries version apart below above found h.0 h.1 d f.others h.2),
-  subst (λ x. EntriesAre x h.0) (sym e) h.3,
-  v,
-)
+to_written : (ts : List Texts) (b : Bool) → All (λ t. is_some t.heaps ≡ b) ts
+    → AllName b (map written ts)
+to_written [] b h = tt
+to_written (t ∷ ts) b h =
+    (h 0 t (omega arith), to_written ts b (λ i d l. h (suc i) d (omega arith)))
 
-pub put_other : (f g : Frame) (k : List ℕ) (d : Data) (found : Members) → k ≢ entries → k ≢ version
-    → g.entries ≡ f.entries → g.version ≡ f.version → g.others ≡ true → AreParts f found
-    → AreParts g (put k d found)
-put_other f g k d found ka kb e v o h = (
-  h.0,
-  h.1,
-  subst (AreOf entries version (put k d found) h.0 h.1) (sym o)
-      (other_put entries version apart below above found h.0 h.1 d k f.others ka kb h.2),
-  subst (λ x. EntriesAre x h.0) (sym e) h.3,
-  v ∙ h.4,
-)
+of_written : (ts : List Texts) (b : Bool) → AllName b (map written ts)
+    → All (λ t. is_some t.heaps ≡ b) ts
+of_written [] b h i d l = absurd (omega arith)
+of_written (t ∷ ts) b h zero d l = h.0
+of_written (t ∷ ts) b h (suc i) d l = of_written ts b h.1 i d (omega arith)
 
--- an object with another member is no file
-pub other_no_file : (f : Frame) (ms : Members) → f.others ≡ true → AreParts f ms
-    → FileIs None (object ms)
-other_no_file f ms o h es is =
-    let x = some_of as_array _ is.items is.frame.entries in
-    let n = some_of as_u64 _ 1 is.frame.version in
-    let y = some_of as_number _ n.0 n.1 in
-    let rest = subst (λ b. AreOf entries version ms h.0 h.1 b) o h.2 in
-    not_two entries version apart ms x.0 y.0 rest.rest x.1 y.1 is.frame.count
+module _ (f : Frame) (ms : Members) (h : AreParts f ms) where
+  has : (k : List ℕ) (d : Data) → get_member k ms ≡ Some d → one_if (get_member k ms) ≡ 1
+  has k d e = ap one_if e
 
--- nor is one of another version
-pub version_no_file : (f : Frame) (ms : Members) → f.version ≢ Some 1 → AreParts f ms
-    → FileIs None (object ms)
-version_no_file f ms other h es is =
-    other (h.4 ∙ ap (λ y. option_and_then as_u64 (option_and_then as_number y)) (sym h.2.second)
-    ∙ is.frame.version)
+  has_version : (n : ℕ) → option_and_then as_u64 (option_and_then as_number (get_member version ms))
+      ≡ Some n → one_if (get_member version ms) ≡ 1
+  has_version n e =
+      let x = some_of as_u64 (option_and_then as_number (get_member version ms)) n e in
+      let y = some_of as_number (get_member version ms) x.0 x.1 in
+      has version y.0 y.1
+
+  has_entries : (ds : Items) → option_and_then as_array (get_member entries ms) ≡ Some ds
+      → one_if (get_member entries ms) ≡ 1
+  has_entries ds e = let x = some_of as_array (get_member entries ms) ds e in has entries x.0 x.1
+
+  -- an object with another member is no file
+  pub other_no_file : f.others ≡ true → FileIs None (object ms)
+  other_no_file o es is =
+      let a = has_entries is.items is.frame.entries in
+      let b = has_version is.version is.frame.version in
+      let m : counted file_names ms < members_len ms =
+      (subst (AreOf file_names ms) o h.names).rest in
+      let n = is.frame.count in
+      omega arith
+
+  -- nor is one of another version, or of none
+  pub version_no_file : ((v : ℕ) → f.version ≡ Some v → (v ≡ 1) ⊎ (v ≡ 2) → ⊥)
+      → FileIs None (object ms)
+  version_no_file other es is =
+      other is.version (h.version ∙ as_whole (get_member version ms) ∙ is.frame.version) is.known
+
+  -- nor one whose entries aren't any
+  pub entries_no_file : f.entries ≡ None → FileIs None (object ms)
+  entries_no_file e es is =
+      subst (λ x. EntriesAre x (get_member entries ms)) e h.entries is.items es is.frame.entries
+      is.entries
+
+  module _ (n : ℕ) (v : Vec Texts Global) (vs : f.version ≡ Some n) (are : f.entries ≡ Some v) where
+    are_entries : EntriesAre (Some v) (get_member entries ms)
+    are_entries = subst (λ x. EntriesAre x (get_member entries ms)) are h.entries
+
+    -- nor one whose entries name heaps otherwise than its version has it
+    pub names_no_file : (All (λ t. is_some t.heaps ≡ (n == 2)) v.items → ⊥)
+        → FileIs None (object ms)
+    names_no_file other es is =
+        let a = are_entries in
+        let e : Some is.items ≡ Some a.0 = sym is.frame.entries ∙ a.1 in
+        let items : is.items ≡ a.0 = cc in
+        let w : Some n ≡ Some is.version =
+        sym vs ∙ h.version ∙ as_whole (get_member version ms) ∙ is.frame.version in
+        let same : is.version ≡ n = cc in
+        other (of_written v.items (n == 2)
+        (same_form a.0 es (map written v.items) (n == 2)
+        (subst (λ x. AreEntries x es) items is.entries) a.2
+        (subst (λ x. AllName (x == 2) es) same is.name)))
+
+    pub file_of : f.others ≡ false → (n ≡ 1) ⊎ (n ≡ 2)
+        → All (λ t. is_some t.heaps ≡ (n == 2)) v.items → FileIs (Some v) (object ms)
+    file_of o known all =
+        let a = are_entries in
+        let is : option_and_then as_u64 (option_and_then as_number (get_member version ms)) ≡ Some n
+        = sym (as_whole (get_member version ms)) ∙ sym h.version ∙ vs in
+        let c = has_entries a.0 a.1 in
+        let b = has_version n is in
+        let m : members_len ms ≡ counted file_names ms =
+        (subst (AreOf file_names ms) o h.names).rest.0 in
+        record {
+          items = a.0;
+          version = n;
+          known = known;
+          frame = record { count = omega arith; version = is; entries = a.1; };
+          entries = a.2;
+          name = to_written v.items (n == 2) all;
+        }
 
 -- ---- items, one after the other
 

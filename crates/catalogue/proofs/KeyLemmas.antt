@@ -1,16 +1,16 @@
--- Codes and their keys.
+-- Codes and kinds, and their keys.
 use Rattle.std.proofs.Common.{◌≡◌, ◌≢◌, ℕ, suc, ◌-◌, ◌≤◌, ◌<◌, inl, inr, List, [], ◌∷◌, length, slice_index, sym, ap, ◌∙◌, arith}
 use Rattle.std.proofs.lemmas.Bool.{cases_lt}
 use Rattle.std.proofs.lemmas.List.{ext_get_or}
 use Rattle.std.proofs.Math.ListN.{get_or-eq_default}
-use Rattle.misere_theory.specs.Games.{IsOctalCode, digit}
+use Rattle.misere_theory.specs.Games.{IsCode, digit}
 use Rattle.catalogue.specs.Keys.{IsKeyOf}
 
-short_code : (b : List ℕ) → IsOctalCode b → (2 ≤ length b) × (length b ≤ 17)
+short_code : (b : List ℕ) → IsCode b → (2 ≤ length b) × (length b ≤ 17)
 short_code [] h = absurd h
 short_code (d ∷ ds) h = let l = h.1 in let m = h.2 in (omega arith, omega arith)
 
-last_digit : (b : List ℕ) → IsOctalCode b → digit b (length b - 1) ≢ 0
+last_digit : (b : List ℕ) → IsCode b → digit b (length b - 1) ≢ 0
 last_digit [] h = absurd h
 last_digit (d ∷ ds) h =
     let l = h.1 in
@@ -18,7 +18,7 @@ last_digit (d ∷ ds) h =
     λ z. h.4 (sym (ap (λ j. slice_index (d ∷ ds) j) one) ∙ z)
 
 -- a code whose digits are those of another is no longer
-no_longer : (a b : List ℕ) → IsOctalCode b → ((j : ℕ) → j < 17 → digit a j ≡ digit b j)
+no_longer : (a b : List ℕ) → IsCode b → ((j : ℕ) → j < 17 → digit a j ≡ digit b j)
     → length b ≤ length a
 no_longer a b h same = elim (cases_lt (length a) (length b)) [
   | inl l ↦ let s = short_code b h in
@@ -29,7 +29,7 @@ no_longer a b h same = elim (cases_lt (length a) (length b)) [
 ]
 
 -- codes with the same digits are the same
-code_from_digits : (a b : List ℕ) → IsOctalCode a → IsOctalCode b
+code_from_digits : (a b : List ℕ) → IsCode a → IsCode b
     → ((j : ℕ) → j < 17 → digit a j ≡ digit b j) → a ≡ b
 code_from_digits a b ha hb same =
     let ab = no_longer a b hb same in
@@ -37,15 +37,23 @@ code_from_digits a b ha hb same =
     let s = short_code a ha in
     ext_get_or 0 a b (omega arith) (λ i l. let m : i < length a = l in same i (omega arith))
 
--- codes with the same key are the same
-pub code_from_key : (k a b : List ℕ) → IsOctalCode a → IsOctalCode b → IsKeyOf k a → IsKeyOf k b
-    → a ≡ b
-code_from_key k a b ha hb ka kb =
-    code_from_digits a b ha hb (λ j l. sym (ka.digits j l) ∙ kb.digits j l)
+-- codes and kinds with the same key are the same
+pub code_from_key : (k a b : List ℕ) (g h : ℕ) → IsCode a → IsCode b → IsKeyOf k a g
+    → IsKeyOf k b h → (a ≡ b) × (g ≡ h)
+code_from_key k a b g h ha hb ka kb = (
+  code_from_digits a b ha hb (λ j l. sym (ka.digits j l) ∙ kb.digits j l),
+  sym ka.heaps ∙ kb.heaps,
+)
 
--- a code has one key
-pub one_key : (k l a : List ℕ) → IsKeyOf k a → IsKeyOf l a → k ≡ l
-one_key k l a kk kl =
-    ext_get_or 0 k l (kk.places ∙ sym kl.places) (λ i h. let p = kk.places in
-    let m : i < length k = h in let w : i < 17 = omega arith in
-    kk.digits i w ∙ sym (kl.digits i w))
+-- a code and a kind have one key
+pub one_key : (k l a : List ℕ) (g : ℕ) → IsKeyOf k a g → IsKeyOf l a g → k ≡ l
+one_key k l a g kk kl = ext_get_or 0 k l (kk.places ∙ sym kl.places) at
+  where
+    last : (i : ℕ) → i ≡ 17 → slice_index k i ≡ slice_index l i
+    last i e =
+        ap (slice_index k) e ∙ kk.heaps ∙ sym kl.heaps ∙ ap (slice_index l) (sym e)
+    at : (i : ℕ) → i < length k → slice_index k i ≡ slice_index l i
+    at i m = elim (cases_lt i 17) [
+      | inl w ↦ kk.digits i w ∙ sym (kl.digits i w)
+      | inr w ↦ let p = kk.places in last i (omega arith)
+    ]

@@ -1,6 +1,6 @@
 pub mod ConvertLemmas
 pub mod ReadLemmas
-pub mod PairLemmas
+pub mod NameLemmas
 pub mod FieldLemmas
 pub mod FrameLemmas
 pub mod KeyLemmas

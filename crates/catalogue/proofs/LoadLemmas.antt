@@ -1,5 +1,5 @@
 -- Entries that stand, one after the other, and the first that doesn't.
-use Rattle.std.proofs.Common.{◌≡◌, ℕ, zero, suc, ◌+◌, ◌<◌, inl, inr, List, [], ◌∷◌, ◌++◌, length, take, drop, map, get_or, Err, refl, sym, ap, subst, ◌∙◌, arith}
+use Rattle.std.proofs.Common.{◌≡◌, ℕ, zero, suc, ◌+◌, ◌<◌, inl, inr, List, [], ◌∷◌, ◌++◌, length, take, drop, map, get_or, None, Err, refl, sym, ap, subst, ◌∙◌, arith}
 use Rattle.std.specs.List.{AllZip}
 use Rattle.std.proofs.lemmas.List.{take-append-drop, take_more, length-take-le}
 use Rattle.std.proofs.Math.Seq.{drop-cons}
@@ -10,7 +10,7 @@ use Rattle.catalogue.specs.Parts.{IsFaultOrMemory, IsTaken}
 use Rattle.catalogue.specs.declared.file.Texts.{Texts}
 use Rattle.catalogue.specs.declared.fault.LoadFault.{LoadFault}
 use Rattle.catalogue.specs.declared.fault.LoadFault.TheVariants as fault
-use Rattle.catalogue.proofs.StoreLemmas.{other_codes_push}
+use Rattle.catalogue.proofs.StoreLemmas.{other_kinds_push}
 
 zip_push : (es : List Written) (cs : List Certificate) (e : Written) (c : Certificate)
     → AllZip IsCertified es cs → IsCertified e c → AllZip IsCertified (es ++ e ∷ []) (cs ++ c ∷ [])
@@ -23,7 +23,7 @@ pub stand_push : (es : List Written) (cs : List Certificate) (e : Written) (new 
     → Stand es cs → IsTaken cs e new → Stand (es ++ e ∷ []) new
 stand_push es cs e new h t = subst (Stand (es ++ e ∷ [])) (sym t.last) (record {
   certified = zip_push es cs e t.certificate h.certified t.certified;
-  other_codes = other_codes_push cs t.certificate h.other_codes t.absent;
+  other_kinds = other_kinds_push cs t.certificate h.other_kinds t.absent;
 })
 
 -- a text that stands for no entry
@@ -32,6 +32,7 @@ blank =
     record {
       code = record { ref_ptr = (0, 0); now = [] };
       certificate = record { ref_ptr = (0, 0); now = [] };
+      heaps = None;
     }
 
 pub itself_at : (ts : List Texts) (i : ℕ) (d e : Texts) → i < length ts
@@ -95,4 +96,6 @@ loaded_fault bytes limit ts i t cs (fault.Code j) holds l is stand (inr h) =
     (map written ts, holds, first_fault limit ts i t cs (fault.Code j) l is stand h)
 loaded_fault bytes limit ts i t cs (fault.Twice j) holds l is stand (inr h) =
     (map written ts, holds, first_fault limit ts i t cs (fault.Twice j) l is stand h)
+loaded_fault bytes limit ts i t cs (fault.Heaps j) holds l is stand (inr h) =
+    (map written ts, holds, first_fault limit ts i t cs (fault.Heaps j) l is stand h)
 loaded_fault bytes limit ts i t cs fault.Memory holds l is stand (inr h) = absurd h

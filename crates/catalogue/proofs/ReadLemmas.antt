@@ -213,6 +213,7 @@ unread_of P Q fault.Shape g h = absurd h
 unread_of P Q (fault.Entry i r) g h = absurd h
 unread_of P Q (fault.Code i) g h = absurd h
 unread_of P Q (fault.Twice i) g h = absurd h
+unread_of P Q (fault.Heaps i) g h = absurd h
 unread_of P Q fault.Memory g h = tt
 
 pub unread : {T : Type 0} (P Q : Type 0) (r : Result T LoadFault) (f : LoadFault)

@@ -1,5 +1,5 @@
 -- Certificates are ASCII, and the data of a catalogue has no float.
-use Rattle.std.proofs.Common.{◌≡◌, ℕ, zero, suc, ◌+◌, ◌<◌, ◌≤◌, ◌⊎◌, inl, inr, false, ◌||◌, List, [], ◌∷◌, ◌++◌, length, map, take, Option, Some, None, codes, decimal, All, refl, sym, ap, subst, ◌∙◌, arith}
+use Rattle.std.proofs.Common.{◌≡◌, ℕ, zero, suc, ◌+◌, ◌<◌, ◌≤◌, ◌⊎◌, inl, inr, Bool, true, false, if◌then◌else◌, ◌||◌, List, [], ◌∷◌, ◌++◌, length, map, take, Option, Some, None, codes, decimal, All, refl, sym, ap, subst, ◌∙◌, arith}
 use Rattle.std.specs.Str.{IsAscii, IsUtf8}
 use Rattle.std.specs.Io.KnownBytes.{Appends}
 use Rattle.std.specs.List.{AllByRecursion}
@@ -7,9 +7,10 @@ use Rattle.std.proofs.lemmas.Str.{IsAscii-append, IsUtf8-from_ascii}
 use Rattle.std.proofs.lemmas.Str.Ascii.{IsAscii-nil, IsAscii-cons}
 use Rattle.std.proofs.lemmas.Fmt.{IsAscii-decimal}
 use Rattle.octal_code.specs.Text.{code_text, digit_byte}
+use Rattle.octal_code.proofs.Spelled.{byte_is_ascii}
 use Rattle.certificate_text.specs.Spelling.{Line, spaced, text, key_word, row_line, lines}
-use Rattle.misere_theory.specs.Games.{IsOctalCode}
-use Rattle.misere_theory.specs.Certificates.{Certificate, InRanges}
+use Rattle.misere_theory.specs.Games.{IsCode, IsFirstDigit}
+use Rattle.misere_theory.specs.Certificates.{Certificate, InRanges, format_of}
 use Rattle.serde_json.specs.View.{items_of}
 use Rattle.serde_json.specs.Written.{has_float, items_have_float}
 use Rattle.catalogue.specs.Texts.{entry_data, catalogue_data}
@@ -37,7 +38,7 @@ text_ascii (line ∷ ls) h =
 small_decimal : (n : ℕ) → n ≤ 2048 → IsAscii (decimal n)
 small_decimal n h = IsAscii-decimal n (omega arith)
 
-decimals : (q : ℕ) (xs : List ℕ) → q ≤ 256 → All (λ x. x < q) xs
+decimals : (q : ℕ) (xs : List ℕ) → q ≤ 512 → All (λ x. x < q) xs
     → AllByRecursion IsAscii (map decimal xs)
 decimals q [] l h = tt
 decimals q (x ∷ xs) l h = (
@@ -50,7 +51,7 @@ key_ascii k a b =
     IsAscii-append (decimal k.0) (58 ∷ decimal k.1) (small_decimal k.0 a)
     (IsAscii-cons 58 (decimal k.1) (omega arith) (small_decimal k.1 b))
 
-keys : (q s : ℕ) (ks : List (ℕ × ℕ)) → q ≤ 256 → s ≤ 1025
+keys : (q s : ℕ) (ks : List (ℕ × ℕ)) → q ≤ 512 → s ≤ 1025
     → All (λ k. (k.0 < q) × (1 ≤ k.1) × (k.1 < s)) ks → AllByRecursion IsAscii (map key_word ks)
 keys q s [] l m h = tt
 keys q s (k ∷ ks) l m h =
@@ -59,7 +60,7 @@ keys q s (k ∷ ks) l m h =
     let b = w.2 in
     (key_ascii k (omega arith) (omega arith), keys q s ks l m (λ i d n. h (suc i) d (omega arith)))
 
-rows_plain : (q : ℕ) (rows : List (List ℕ)) (behind : List Line) → q ≤ 256
+rows_plain : (q : ℕ) (rows : List (List ℕ)) (behind : List Line) → q ≤ 512
     → All (λ row. (length row ≡ q) × All (λ x. x < q) row) rows → AllByRecursion IsPlain behind
     → AllByRecursion IsPlain (map row_line rows ++ behind)
 rows_plain q [] behind l h b = b
@@ -71,30 +72,38 @@ rows_plain q (row ∷ rows) behind l h b = (
   rows_plain q rows behind l (λ i d n. h (suc i) d (omega arith)) b,
 )
 
-digits_ascii : (ds : List ℕ) → All (λ x. x < 8) ds → IsAscii (map digit_byte ds)
+digits_ascii : (ds : List ℕ) → All (λ x. x < 16) ds → IsAscii (map digit_byte ds)
 digits_ascii [] h = IsAscii-nil
-digits_ascii (d ∷ ds) h = IsAscii-cons (48 + d) (map digit_byte ds) (let m = h 0 d (omega arith) in
-    omega arith) (digits_ascii ds (λ i x n. h (suc i) x (omega arith)))
+digits_ascii (d ∷ ds) h =
+    IsAscii-cons (digit_byte d) (map digit_byte ds) (byte_is_ascii d (h 0 d (omega arith)))
+    (digits_ascii ds (λ i x n. h (suc i) x (omega arith)))
 
-first_small : (d : ℕ) → (d ≡ 0) ⊎ (d ≡ 4) → 48 + d < 128
+first_small : (d : ℕ) → IsFirstDigit d → d < 16
 first_small d (inl e) = omega arith
-first_small d (inr e) = omega arith
+first_small d (inr (inl e)) = omega arith
+first_small d (inr (inr (inl e))) = omega arith
+first_small d (inr (inr (inr e))) = omega arith
 
-code_ascii : (code : List ℕ) → IsOctalCode code → IsAscii (code_text code)
+code_ascii : (code : List ℕ) → IsCode code → IsAscii (code_text code)
 code_ascii [] h = absurd h
 code_ascii (d ∷ ds) h =
-    IsAscii-cons (48 + d) (46 ∷ map digit_byte ds) (first_small d h.0)
+    IsAscii-cons (digit_byte d) (46 ∷ map digit_byte ds) (byte_is_ascii d (first_small d h.0))
     (IsAscii-cons 46 (map digit_byte ds) (omega arith) (digits_ascii ds h.3))
+
+one_or_two : (b : Bool) → (if b then 1 else 2) ≤ 2048
+one_or_two true = omega arith
+one_or_two false = omega arith
+
+format_small : (c : Certificate) → format_of c ≤ 2048
+format_small c = one_or_two _
 
 lines_plain : (c : Certificate) → InRanges c → AllByRecursion IsPlain (lines c)
 lines_plain c r =
     let q = r.order.1 in
-    let s = r.start.1 in
-    let p = r.period.1 in
-    let sp = r.period.2 in (
+    let sp = r.period.1 in (
       (
         ascii (codes "mqc") (omega arith, (omega arith, (omega arith, tt))),
-        (ascii (codes "1") (omega arith, tt), tt),
+        (small_decimal (format_of c) (format_small c), tt),
       ),
       (
         (

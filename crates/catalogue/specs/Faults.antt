@@ -13,6 +13,7 @@ load_fault_number load.Shape = 2
 load_fault_number (load.Entry i refusal) = 3
 load_fault_number (load.Code i) = 4
 load_fault_number (load.Twice i) = 5
+load_fault_number (load.Heaps i) = 6
 load_fault_number load.Memory = 9
 
 abbrev pub add_fault_number : AddFault → ℕ

@@ -1,5 +1,6 @@
 -- What a catalogue file is, over the JSON value that `serde_json` reads of it. This project's own.
-use Rattle.std.specs.Prelude.{◌≡◌, ℕ, List, [], ◌∷◌, Option, Some, codes, option_and_then, IsUtf8}
+use Rattle.std.specs.Prelude.{◌≡◌, ◌⊎◌, ℕ, ◌≤◌, ◌==◌, Bool, List, [], ◌∷◌, Option, Some, None, is_some, codes, option_and_then, IsUtf8}
+use Rattle.std.specs.List.{AllByRecursion}
 use Rattle.serde_json.specs.Data.{Data, Items, number, string, array, object, item, no_items, null, boolean}
 use Rattle.serde_json.specs.Find.{get, as_str, as_array, as_number, as_u64}
 use Rattle.serde_json.specs.Events.{members_len}
@@ -10,13 +11,24 @@ use Rattle.catalogue.specs.declared.file.Texts.{Texts}
 abbrev pub IsJson : List ℕ → Data → Type 0
 IsJson bytes d = IsUtf8 bytes × (read bytes ≡ Some d)
 
--- an entry as it is written: the text of a code and the text of a certificate
+-- an entry as it is written: the text of a code, the text of a certificate, and the heaps where
+-- they are named
 pub record Written : Type 0 where
   pub code : List ℕ
   pub certificate : List ℕ
+  pub heaps : Option ℕ
 
 abbrev pub written : Texts → Written
-written t = record { code = t.code.now; certificate = t.certificate.now }
+written t = record { code = t.code.now; certificate = t.certificate.now; heaps = t.heaps }
+
+-- where no heaps are named, they are 0
+abbrev pub named_or_0 : Option ℕ → ℕ
+named_or_0 None = 0
+named_or_0 (Some n) = n
+
+-- the heaps of which an entry's certificate is to speak
+abbrev pub heaps_of : Written → ℕ
+heaps_of e = named_or_0 e.heaps
 
 -- how many members an object has
 abbrev pub member_count : Data → ℕ
@@ -27,9 +39,18 @@ member_count (string s) = 0
 member_count (array ds) = 0
 member_count (object ms) = members_len ms
 
--- an object with exactly the members `code` and `certificate`, both texts
+-- the whole number that a member names, if the object has it
+abbrev pub whole_at : List ℕ → Data → Option ℕ
+whole_at k d = option_and_then as_u64 (option_and_then as_number (get k d))
+
+-- beside two others the object has no member, or the member `heaps` alone, a whole number to 1024
+abbrev pub NamesHeaps : Data → Option ℕ → Type 0
+NamesHeaps d None = member_count d ≡ 2
+NamesHeaps d (Some n) = (member_count d ≡ 3) × (whole_at (codes "heaps") d ≡ Some n) × (n ≤ 1024)
+
+-- an object with exactly the members `code` and `certificate`, both texts, and maybe `heaps`
 pub record IsEntry (d : Data) (e : Written) : Type 0 where
-  pub count : member_count d ≡ 2
+  pub heaps : NamesHeaps d e.heaps
   pub code : option_and_then as_str (get (codes "code") d) ≡ Some e.code
   pub certificate : option_and_then as_str (get (codes "certificate") d) ≡ Some e.certificate
 
@@ -40,19 +61,22 @@ AreEntries no_items (e ∷ es) = ⊥
 AreEntries (item d ds) [] = ⊥
 AreEntries (item d ds) (e ∷ es) = IsEntry d e × AreEntries ds es
 
--- the version that a value names
-abbrev pub version_of : Data → Option ℕ
-version_of d = option_and_then as_u64 (option_and_then as_number (get (codes "version") d))
-
--- an object with exactly the members `version`, the number 1, and `entries`, an array of these
--- items
-pub record IsFrame (d : Data) (items : Items) : Type 0 where
+-- an object with exactly the members `version`, this number, and `entries`, an array of these items
+pub record IsFrame (d : Data) (n : ℕ) (items : Items) : Type 0 where
   pub count : member_count d ≡ 2
-  pub version : version_of d ≡ Some 1
+  pub version : whole_at (codes "version") d ≡ Some n
   pub entries : option_and_then as_array (get (codes "entries") d) ≡ Some items
 
--- such an object with exactly these entries, in order
+-- all entries name heaps, or none does
+abbrev pub AllName : Bool → List Written → Type 0
+AllName b es = AllByRecursion (λ e. is_some e.heaps ≡ b) es
+
+-- such an object of version 1 or 2 with exactly these entries, in order: in version 1 no entry
+-- names heaps, in version 2 each does
 pub record IsFile (d : Data) (es : List Written) : Type 0 where
   pub items : Items
-  pub frame : IsFrame d items
+  pub version : ℕ
+  pub known : (version ≡ 1) ⊎ (version ≡ 2)
+  pub frame : IsFrame d version items
   pub entries : AreEntries items es
+  pub name : AllName (version == 2) es

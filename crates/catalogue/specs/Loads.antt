@@ -3,32 +3,33 @@ use Rattle.std.specs.Prelude.{◌≡◌, ◌≢◌, ℕ, suc, List, ◌∷◌, �
 use Rattle.std.specs.List.{AllZip}
 use Rattle.octal_code.specs.Text.{code_text}
 use Rattle.certificate_text.specs.Spelling.{Spells}
-use Rattle.misere_theory.specs.Certificates.{Certificate, Accepted}
+use Rattle.misere_theory.specs.Certificates.{Certificate, Accepted, kind_of}
 use Rattle.serde_json.specs.Data.{Data}
 use Rattle.answers.specs.Answers.{IsTrueOf, refused}
 use Rattle.answers.specs.Answers.Answer.{Memory as WantOfMemory}
-use Rattle.catalogue.specs.Entries.{HasCode, HaveOtherCodes}
-use Rattle.catalogue.specs.Files.{IsJson, IsFile, Written}
+use Rattle.catalogue.specs.Entries.{HasEntry, HaveOtherKinds}
+use Rattle.catalogue.specs.Files.{IsJson, IsFile, Written, heaps_of}
 use Rattle.catalogue.specs.declared.fault.LoadFault.{LoadFault}
-use Rattle.catalogue.specs.declared.fault.LoadFault.TheVariants.{Json, Shape, Entry, Code, Twice, Memory}
+use Rattle.catalogue.specs.declared.fault.LoadFault.TheVariants.{Json, Shape, Entry, Code, Twice, Heaps, Memory}
 
 -- the text is that of a certificate, which is accepted
 abbrev pub IsAcceptedText : List ℕ → Certificate → Type 0
 IsAcceptedText text c = Spells text c × Accepted c
 
--- the certificate text is accepted, and the code text is that of its code
+-- the certificate text is accepted, and the code text and the heaps are those of its certificate
 pub record IsCertified (e : Written) (c : Certificate) : Type 0 where
   pub certificate : IsAcceptedText e.certificate c
   pub code : e.code ≡ code_text c.code
+  pub heaps : kind_of c ≡ heaps_of e
 
--- the entries stand: each is certified, in order, and no two have one code
+-- the entries stand: each is certified, in order, and no two have one code and kind
 pub record Stand (es : List Written) (cs : List Certificate) : Type 0 where
   pub certified : AllZip IsCertified es cs
-  pub other_codes : HaveOtherCodes cs
+  pub other_kinds : HaveOtherKinds cs
 
 -- The first fault of the entry e, the i-th, where the entries before gave the certificates cs: its
--- certificate is refused; else the code isn't that of its certificate; else the code is there
--- already.
+-- certificate is refused; else the code isn't that of its certificate; else the heaps aren't; else
+-- its code and kind are there already.
 abbrev pub IsFaultOf : ℕ → List Certificate → ℕ → Written → LoadFault → Type 0
 IsFaultOf limit cs i e Json = ⊥
 IsFaultOf limit cs i e Shape = ⊥
@@ -37,7 +38,9 @@ IsFaultOf limit cs i e (Entry j refusal) = (j ≡ i) × IsTrueOf e.certificate l
 IsFaultOf limit cs i e (Code j) =
     (j ≡ i) × ((c : Certificate) × IsAcceptedText e.certificate c × (e.code ≢ code_text c.code))
 IsFaultOf limit cs i e (Twice j) =
-    (j ≡ i) × ((c : Certificate) × IsCertified e c × HasCode cs c.code)
+    (j ≡ i) × ((c : Certificate) × IsCertified e c × HasEntry cs c.code (kind_of c))
+IsFaultOf limit cs i e (Heaps j) = (j ≡ i) × ((c : Certificate) × IsAcceptedText e.certificate c
+    × (e.code ≡ code_text c.code) × (kind_of c ≢ heaps_of e))
 IsFaultOf limit cs i e Memory = ⊥
 
 -- the first entry at fault, the entries before it, which stand, and its fault; entries count from 1
@@ -71,4 +74,5 @@ IsLoaded bytes limit (Err Shape) = IsShapeless bytes
 IsLoaded bytes limit (Err (Entry i refusal)) = IsFaulty bytes limit (Entry i refusal)
 IsLoaded bytes limit (Err (Code i)) = IsFaulty bytes limit (Code i)
 IsLoaded bytes limit (Err (Twice i)) = IsFaulty bytes limit (Twice i)
+IsLoaded bytes limit (Err (Heaps i)) = IsFaulty bytes limit (Heaps i)
 IsLoaded bytes limit (Err Memory) = Unit {0}

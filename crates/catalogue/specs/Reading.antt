@@ -1,6 +1,11 @@
 -- What tokens of JSON begin with, as `serde_json` reads it. This project's own.
-use Rattle.std.specs.Prelude.{◌≡◌, ◌≢◌, ℕ, ◌≤◌, List, length, map, codes, Bool, Option, Some, None, option_map, option_and_then, Vec}
+use Rattle.std.specs.Prelude.{◌≡◌, ◌≢◌, ℕ, ◌+◌, ◌≤◌, ◌<◌, List, [], ◌∷◌, length, map, codes, All, Bool, is_some, Option, Some, None, option_map, option_and_then, Vec}
 use Rattle.std.specs.Bool.{MatchBool}
+use Rattle.std.specs.List.{AllByRecursion}
+use Rattle.std.specs.declared.cmp.Ordering.TheVariants.{Less}
+use Rattle.std.specs.Ordering.{nat_cmp}
+use Rattle.std.specs.Cmp.Lexicographic.{slice_cmp}
+use Rattle.serde_json.specs.Events.{members_len}
 use Rattle.std.specs.declared.alloc.Global.{Global}
 use Rattle.json.specs.Token.{Token}
 use Rattle.json.specs.Json.{value, items, members}
@@ -12,7 +17,7 @@ use Rattle.catalogue.specs.declared.file.Texts.{Texts}
 use Rattle.catalogue.specs.declared.fields.Fields.{Fields}
 use Rattle.catalogue.specs.declared.frame.Frame.{Frame}
 use Rattle.catalogue.specs.declared.fault.LoadFault.{LoadFault}
-use Rattle.catalogue.specs.declared.fault.LoadFault.TheVariants.{Json, Shape, Entry, Code, Twice, Memory}
+use Rattle.catalogue.specs.declared.fault.LoadFault.TheVariants.{Json, Shape, Entry, Code, Twice, Heaps, Memory}
 
 -- a value and the tokens behind it, or none
 abbrev pub ReadsValue : ℕ → List Token → Option (Data × List Token) → Type 0
@@ -38,26 +43,42 @@ IsUnread P Shape = ⊥
 IsUnread P (Entry i refusal) = ⊥
 IsUnread P (Code i) = ⊥
 IsUnread P (Twice i) = ⊥
+IsUnread P (Heaps i) = ⊥
 IsUnread P Memory = Unit {0}
 
--- ---- objects of two members
+-- ---- objects of some names
 
--- the members with these values, of those at two names
-abbrev pub pair_of : List ℕ → List ℕ → Option Data → Option Data → Members
-pair_of a b None None = no_members
-pair_of a b (Some x) None = member a x no_members
-pair_of a b None (Some y) = member b y no_members
-pair_of a b (Some x) (Some y) = member a x (member b y no_members)
+abbrev pub one_if : Option Data → ℕ
+one_if None = 0
+one_if (Some d) = 1
 
--- there is a member of another name
-abbrev pub HasOther : List ℕ → List ℕ → Members → Type 0
-HasOther a b found = (k : List ℕ) × (k ≢ a) × (k ≢ b) × (d : Data) × (get_member k found ≡ Some d)
+-- how many of the names have a value
+abbrev pub counted : List (List ℕ) → Members → ℕ
+counted [] found = 0
+counted (k ∷ ks) found = one_if (get_member k found) + counted ks found
 
--- the values at two names, and whether there is a member of another
-pub record AreOf (a b : List ℕ) (found : Members) (x y : Option Data) (others : Bool) : Type 0 where
-  pub first : get_member a found ≡ x
-  pub second : get_member b found ≡ y
-  pub rest : MatchBool others (HasOther a b found) (found ≡ pair_of a b x y)
+-- the names are in order, all above one
+abbrev pub IsBelow : List ℕ → Members → Type 0
+IsBelow k no_members = Unit {0}
+IsBelow k (member l d ms) = (slice_cmp nat_cmp k l ≡ Less) × IsBelow k ms
+
+abbrev pub AreSorted : Members → Type 0
+AreSorted no_members = Unit {0}
+AreSorted (member k d ms) = IsBelow k ms × AreSorted ms
+
+-- the name is none of these
+abbrev pub IsOutside : List ℕ → List (List ℕ) → Type 0
+IsOutside k names = AllByRecursion (λ n. k ≢ n) names
+
+-- there are members of these names alone
+abbrev pub AreOnly : List (List ℕ) → Members → Type 0
+AreOnly names found = (members_len found ≡ counted names found)
+    × ((k : List ℕ) → IsOutside k names → get_member k found ≡ None)
+
+-- whether there are members of other names than these
+pub record AreOf (names : List (List ℕ)) (found : Members) (others : Bool) : Type 0 where
+  pub sorted : AreSorted found
+  pub rest : MatchBool others (counted names found < members_len found) (AreOnly names found)
 
 -- a value was read, and put at the key it makes P into Q
 abbrev pub Puts : ℕ → List ℕ → List Token → List Token → (Members → Type 0) → (Members → Type 0)
@@ -72,12 +93,21 @@ abbrev pub EntryIs : Option Texts → Data → Type 0
 EntryIs None d = (e : Written) → IsEntry d e → ⊥
 EntryIs (Some t) d = IsEntry d (written t)
 
+abbrev pub entry_names : List (List ℕ)
+entry_names = codes "certificate" ∷ codes "code" ∷ codes "heaps" ∷ []
+
+abbrev pub text_at : List ℕ → Members → Option (List ℕ)
+text_at k found = option_and_then as_str (get_member k found)
+
+abbrev pub whole_of : Data → Option ℕ
+whole_of d = option_and_then as_u64 (as_number d)
+
 -- what was found of an entry's members
-abbrev pub AreFields : Fields → Members → Type 0
-AreFields f found =
-    (x y : Option Data) × AreOf (codes "certificate") (codes "code") found x y f.others
-    × (option_map (λ s. s.now) f.certificate ≡ option_and_then as_str x)
-    × (option_map (λ s. s.now) f.code ≡ option_and_then as_str y)
+pub record AreFields (f : Fields) (found : Members) : Type 0 where
+  pub names : AreOf entry_names found f.others
+  pub certificate : option_map (λ s. s.now) f.certificate ≡ text_at (codes "certificate") found
+  pub code : option_map (λ s. s.now) f.code ≡ text_at (codes "code") found
+  pub heaps : f.heaps ≡ option_map whole_of (get_member (codes "heaps") found)
 
 -- ---- files
 
@@ -88,13 +118,20 @@ EntriesAre None x = (ds : Items) → (es : List Written) → option_and_then as_
 EntriesAre (Some v) x = (ds : Items) × (option_and_then as_array x ≡ Some ds)
     × AreEntries ds (map written v.items)
 
+-- all entries name heaps, or none does
+abbrev pub Name : Bool → List Texts → Type 0
+Name b ts = All (λ t. is_some t.heaps ≡ b) ts
+
 -- the value is a file of these entries, or none
 abbrev pub FileIs : Option (Vec Texts Global) → Data → Type 0
 FileIs None d = (es : List Written) → IsFile d es → ⊥
 FileIs (Some v) d = IsFile d (map written v.items)
 
+abbrev pub file_names : List (List ℕ)
+file_names = codes "entries" ∷ codes "version" ∷ []
+
 -- what was found of a file's members
-abbrev pub AreParts : Frame → Members → Type 0
-AreParts f found =
-    (x y : Option Data) × AreOf (codes "entries") (codes "version") found x y f.others
-    × EntriesAre f.entries x × (f.version ≡ option_and_then as_u64 (option_and_then as_number y))
+pub record AreParts (f : Frame) (found : Members) : Type 0 where
+  pub names : AreOf file_names found f.others
+  pub entries : EntriesAre f.entries (get_member (codes "entries") found)
+  pub version : f.version ≡ option_and_then whole_of (get_member (codes "version") found)

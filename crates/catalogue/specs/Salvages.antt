@@ -1,22 +1,22 @@
 -- What salvage may answer. This project's own.
 use Rattle.std.specs.Prelude.{◌≡◌, ◌⊎◌, ℕ, suc, List, [], ◌∷◌, ◌++◌, Vec, Result, Ok, Err}
 use Rattle.std.specs.declared.alloc.Global.{Global}
-use Rattle.misere_theory.specs.Certificates.{Certificate}
+use Rattle.misere_theory.specs.Certificates.{Certificate, kind_of}
 use Rattle.serde_json.specs.Data.{Data}
-use Rattle.catalogue.specs.Entries.{HasCode}
+use Rattle.catalogue.specs.Entries.{HasEntry}
 use Rattle.catalogue.specs.Files.{IsJson, Written}
 use Rattle.catalogue.specs.Loads.{IsCertified, IsFaultOf, Holds, IsShapeless}
 use Rattle.catalogue.specs.declared.fault.LoadFault.{LoadFault}
-use Rattle.catalogue.specs.declared.fault.LoadFault.TheVariants.{Json, Shape, Entry, Code, Twice, Memory}
+use Rattle.catalogue.specs.declared.fault.LoadFault.TheVariants.{Json, Shape, Entry, Code, Twice, Heaps, Memory}
 
 -- What becomes of the entries from the i-th on, where the certificates `held` were kept before: in
--- their order, each is certified, has a code that none kept before has, and is kept; or its first
+-- their order, each is certified, has a code and kind that none kept before has, and is kept; or its first
 -- fault is listed. In the end cs are kept and the faults are listed.
 abbrev pub Salvages : ℕ → List Certificate → ℕ → List Written → List Certificate → List LoadFault
     → Type 0
 Salvages limit held i [] cs faults = (cs ≡ held) × (faults ≡ [])
 Salvages limit held i (e ∷ es) cs faults =
-    ((c : Certificate) × IsCertified e c × (HasCode held c.code → ⊥)
+    ((c : Certificate) × IsCertified e c × (HasEntry held c.code (kind_of c) → ⊥)
     × Salvages limit (held ++ c ∷ []) (suc i) es cs faults)
     ⊎ ((fault : LoadFault) × (more : List LoadFault) × (faults ≡ fault ∷ more)
     × IsFaultOf limit held i e fault × Salvages limit held (suc i) es cs more)
@@ -36,4 +36,5 @@ IsSalvaged bytes limit (Err Shape) = IsShapeless bytes
 IsSalvaged bytes limit (Err (Entry i refusal)) = ⊥
 IsSalvaged bytes limit (Err (Code i)) = ⊥
 IsSalvaged bytes limit (Err (Twice i)) = ⊥
+IsSalvaged bytes limit (Err (Heaps i)) = ⊥
 IsSalvaged bytes limit (Err Memory) = Unit {0}

@@ -37,10 +37,12 @@ fn certified(
     match check(alloc, entry.certificate.as_bytes(), limit) {
         Ok(certified) => {
             let same = is_text_of(alloc, entry.code, certified.cert().code())?;
-            if same {
+            if !same {
+                Err(LoadFault::Code(place))
+            } else if certified.cert().heaps() == entry.heaps() {
                 Ok(certified)
             } else {
-                Err(LoadFault::Code(place))
+                Err(LoadFault::Heaps(place))
             }
         }
         Err(Refusal::Memory) => Err(LoadFault::Memory),

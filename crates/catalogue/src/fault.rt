@@ -21,8 +21,11 @@ pub enum LoadFault {
     Entry(usize, Refusal),
     /// The certificate of this entry is accepted, and the text beside it isn't that of its code.
     Code(usize),
-    /// An earlier entry has the code of this one.
+    /// An earlier entry has the code and the kind of this one.
     Twice(usize),
+    /// The certificate of this entry is accepted and the code is its own, and the heaps beside it
+    /// aren't those of which it speaks.
+    Heaps(usize),
     /// A growth was refused.
     Memory,
 }
@@ -38,6 +41,7 @@ impl LoadFault {
             LoadFault::Entry(_, _) => 3,
             LoadFault::Code(_) => 4,
             LoadFault::Twice(_) => 5,
+            LoadFault::Heaps(_) => 6,
             LoadFault::Memory => 9,
         }
     }
@@ -78,7 +82,7 @@ impl From<Memory> for LoadFault {
 /// Why an entry isn't added.
 #[derive(Clone, Copy, Debug, PartialEq, Eq)]
 pub enum AddFault {
-    /// The catalogue has an entry for the code.
+    /// The catalogue has an entry for the code and the kind.
     Present,
     /// A growth was refused.
     Memory,

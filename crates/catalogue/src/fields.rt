@@ -2,18 +2,23 @@
 ghost use Rattle.std.specs.Prelude.{◌≡◌, ◌<◌, length, option_map, None, Some, IfErr, IfOk, OnOk};
 ghost use Rattle.serde_json.specs.Data.{Members, no_members, object};
 ghost use Rattle.serde_json.specs.Find.{as_str};
-ghost use Rattle.catalogue.specs.Reading.{AreFields, EntryIs, IsUnread, Passes, Puts, ReadsMembers, ReadsValue};
+ghost use Rattle.catalogue.specs.Reading.{AreFields, EntryIs, IsUnread, Passes, Puts, ReadsMembers, ReadsValue, whole_of};
 
 use crate::fault::LoadFault;
 use crate::file::Texts;
+use crate::number::whole;
 use crate::passing::{pass_from, pass_value};
 use json::{Reader, Token};
+
+/// The most heaps that an entry may name.
+const MOST_HEAPS: u64 = 1024;
 
 /// What was found of an entry's members so far. Of a member that stands twice the last counts.
 #[derive(Clone, Copy)]
 struct Fields<'a> {
     certificate: Option<&'a str>,
     code: Option<&'a str>,
+    heaps: Option<Option<u64>>,
     others: bool,
 }
 
@@ -34,6 +39,23 @@ fn text<'a>(reader: &mut Reader<'a>, depth: usize) -> Result<Option<&'a str>, Lo
     Ok(None)
 }
 
+/// The value, if it is a whole number. Any other is passed.
+pub(crate) fn whole_number(reader: &mut Reader<'_>, depth: usize) -> Result<Option<u64>, LoadFault>
+    ensures read { IfOk result
+        (λ v. Passes depth reader.old (λ d. v ≡ whole_of d) reader.new) }
+    ensures shorter { OnOk result (length reader.new < length reader.old) }
+    ensures err { IfErr result (IsUnread (ReadsValue depth reader.old None)) }
+{
+    let Some(token) = reader.next() else {
+        return Err(LoadFault::Json);
+    };
+    if let Token::Number(text) = token {
+        return whole(text).ok_or(LoadFault::Json);
+    }
+    pass_from(token, reader, depth)?;
+    Ok(None)
+}
+
 impl<'a> Fields<'a> {
     /// Takes the value of the member of this name.
     fn take(&mut self, reader: &mut Reader<'a>, depth: usize, name: &str) -> Result<(), LoadFault>
@@ -46,6 +68,8 @@ impl<'a> Fields<'a> {
             self.certificate = text(reader, depth)?;
         } else if name == "code" {
             self.code = text(reader, depth)?;
+        } else if name == "heaps" {
+            self.heaps = Some(whole_number(reader, depth)?);
         } else {
             pass_value(reader, depth)?;
             self.others = true;
@@ -62,7 +86,16 @@ impl<'a> Fields<'a> {
         }
         let certificate = self.certificate?;
         let code = self.code?;
-        Some(Texts { code, certificate })
+        let heaps = match self.heaps {
+            None => None,
+            Some(Some(n)) if n <= MOST_HEAPS => Some(n),
+            Some(_) => return None,
+        };
+        Some(Texts {
+            code,
+            certificate,
+            heaps,
+        })
     }
 }
 
@@ -77,6 +110,7 @@ fn members<'a>(reader: &mut Reader<'a>, depth: usize) -> Result<Option<Texts<'a>
     let mut fields = Fields {
         certificate: None,
         code: None,
+        heaps: None,
         others: false,
     };
     while let Some(name) = reader.next_key()? {
@@ -86,7 +120,7 @@ fn members<'a>(reader: &mut Reader<'a>, depth: usize) -> Result<Option<Texts<'a>
 }
 
 /// The value, if it is an entry: an object of exactly the members `code` and `certificate`, both
-/// texts. Any other is passed.
+/// texts, and maybe `heaps`, a whole number to 1024. Any other is passed.
 pub(crate) fn entry<'a>(
     reader: &mut Reader<'a>,
     depth: usize,

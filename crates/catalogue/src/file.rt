@@ -1,6 +1,6 @@
 //! What a catalogue file holds.
-ghost use Rattle.std.specs.Prelude.{map, IfErr, IfOk};
-ghost use Rattle.catalogue.specs.Files.{written};
+ghost use Rattle.std.specs.Prelude.{◌≡◌, map, IfErr, IfOk};
+ghost use Rattle.catalogue.specs.Files.{heaps_of, written};
 ghost use Rattle.catalogue.specs.Loads.{Holds};
 ghost use Rattle.catalogue.specs.Parts.{IsNoFile};
 
@@ -12,11 +12,24 @@ use std::alloc::Global;
 /// How deep arrays and objects may nest, as `serde_json` has it.
 const DEPTH: usize = 127;
 
-/// An entry of a file: the text of a code and of a certificate.
+/// An entry of a file: the text of a code and of a certificate, and the heaps where they are named.
 #[derive(Clone, Copy)]
 pub(crate) struct Texts<'a> {
     pub(crate) code: &'a str,
     pub(crate) certificate: &'a str,
+    pub(crate) heaps: Option<u64>,
+}
+
+impl Texts<'_> {
+    /// The heaps of which the certificate is to speak: 0 where none are named.
+    pub(crate) fn heaps(&self) -> u64
+        ensures { result ≡ heaps_of (written self.now) }
+    {
+        match self.heaps {
+            Some(n) => n,
+            None => 0,
+        }
+    }
 }
 
 /// The entries of a catalogue file, in order. Texts with escapes are written to `scratch`; nothing

@@ -1,19 +1,20 @@
 //! The members of a catalogue file.
-ghost use Rattle.std.specs.Prelude.{◌≡◌, ◌<◌, length, option_and_then, None, Some, IfErr, IfOk, OnOk};
+ghost use Rattle.std.specs.Prelude.{◌≡◌, ◌<◌, ◌↔◌, length, true, None, Some, IfErr, IfOk, OnOk};
 ghost use Rattle.serde_json.specs.Data.{Items, Members, array, no_members, object};
-ghost use Rattle.serde_json.specs.Find.{as_number, as_u64};
-ghost use Rattle.catalogue.specs.Reading.{AreParts, EntriesAre, FileIs, IsUnread, Passes, Puts, ReadsItems, ReadsMembers, ReadsValue};
+ghost use Rattle.catalogue.specs.Reading.{AreParts, EntriesAre, FileIs, IsUnread, Name, Passes, Puts, ReadsItems, ReadsMembers, ReadsValue};
 
 use crate::fault::LoadFault;
-use crate::fields::entry;
+use crate::fields::{entry, whole_number};
 use crate::file::Texts;
-use crate::number::whole;
 use crate::passing::{pass_from, pass_items, pass_value};
 use json::{Reader, Token};
 use std::alloc::Global;
 
-/// The version of the files.
-const VERSION: u64 = 1;
+/// The version of the files that are written.
+const VERSION: u64 = 2;
+
+/// The version of those before it, which are still read. Their entries name no heaps.
+const FIRST_VERSION: u64 = 1;
 
 /// What was found of a file's members so far. Of a member that stands twice the last counts.
 #[derive(Drop)]
@@ -21,23 +22,6 @@ struct Frame<'a> {
     entries: Option<Vec<Texts<'a>>>,
     version: Option<u64>,
     others: bool,
-}
-
-/// The value, if it is a whole number. Any other is passed.
-fn version(reader: &mut Reader<'_>, depth: usize) -> Result<Option<u64>, LoadFault>
-    ensures read { IfOk result
-        (λ v. Passes depth reader.old (λ d. v ≡ option_and_then as_u64 (as_number d)) reader.new) }
-    ensures shorter { OnOk result (length reader.new < length reader.old) }
-    ensures err { IfErr result (IsUnread (ReadsValue depth reader.old None)) }
-{
-    let Some(token) = reader.next() else {
-        return Err(LoadFault::Json);
-    };
-    if let Token::Number(text) = token {
-        return whole(text).ok_or(LoadFault::Json);
-    }
-    pass_from(token, reader, depth)?;
-    Ok(None)
 }
 
 /// The items up to the bracket that closes them, if all are entries.
@@ -104,7 +88,7 @@ impl<'a> Frame<'a> {
         if name == "entries" {
             self.entries = entries(alloc, reader, depth)?;
         } else if name == "version" {
-            self.version = version(reader, depth)?;
+            self.version = whole_number(reader, depth)?;
         } else {
             pass_value(reader, depth)?;
             self.others = true;
@@ -116,11 +100,31 @@ impl<'a> Frame<'a> {
     fn into_entries(self) -> Option<Vec<Texts<'a>>>
         ensures { (ms : Members) → AreParts self.entry ms → FileIs result (object ms) }
     {
-        if self.others || self.version != Some(VERSION) {
+        if self.others {
             return None;
         }
-        self.entries
+        let version = self.version?;
+        if version != FIRST_VERSION && version != VERSION {
+            return None;
+        }
+        let entries = self.entries?;
+        if !all_name(&entries, version == VERSION) {
+            return None;
+        }
+        Some(entries)
     }
+}
+
+/// Whether all entries name heaps, or none does.
+fn all_name(entries: &[Texts<'_>], named: bool) -> bool
+    ensures { (result ≡ true) ↔ Name named entries.now }
+{
+    for entry in entries {
+        if entry.heaps.is_some() != named {
+            return false;
+        }
+    }
+    true
 }
 
 /// The entries of the file whose members these are, up to the brace that closes it, if it is one.

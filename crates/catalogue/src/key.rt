@@ -1,24 +1,25 @@
-//! Codes as keys.
-ghost use Rattle.misere_theory.specs.Games.{IsOctalCode};
+//! Codes and kinds as keys.
+ghost use Rattle.misere_theory.specs.Games.{IsCode};
 ghost use Rattle.catalogue.specs.Keys.{IsKeyOf};
 
 use octal_code::Code;
 
 /// The most digits of a code.
-const PLACES: usize = 17;
+const DIGITS: usize = 17;
 
-/// The digits of a code with zeros behind them. Two codes are the same where these are.
-pub(crate) type Key = [u8; PLACES];
+/// The digits of a code with zeros behind them, and then the kind. Two codes and kinds are the same
+/// where these are.
+pub(crate) type Key = [u64; DIGITS + 1];
 
-/// The key of a code.
-pub(crate) fn key_of(code: &Code) -> Key
-    ensures key { IsKeyOf result code.now }
-    ensures code { IsOctalCode code.now }
+/// The key of a code and a kind.
+pub(crate) fn key_of(code: &Code, heaps: u64) -> Key
+    ensures key { IsKeyOf result code.now heaps }
+    ensures code { IsCode code.now }
 {
     let _last = code.last();
-    let mut digits = [0; PLACES];
-    for j in 0..PLACES {
-        digits[j] = code.digit(j as u64);
+    let mut digits = [heaps; DIGITS + 1];
+    for j in 0..DIGITS {
+        digits[j] = u64::from(code.digit(j as u64));
     }
     digits
 }

@@ -1,4 +1,4 @@
-//! Catalogues: certified quotients in a JSON file, one for a code, each checked anew when the file
+//! Catalogues: certified quotients in a JSON file, one for a code and a kind, each checked anew when the file
 //! is loaded.
 #![tactic(auto)]
 

@@ -2,8 +2,8 @@
 ghost use Rattle.std.specs.Prelude.{◌≡◌, ◌↔◌, [], ◌∷◌, ◌++◌, All, Contains, IfErr, IfSome, OnErr, OnOk, None, nat_eq};
 ghost use Rattle.std.specs.Cmp.Lexicographic.{pointwise};
 ghost use Rattle.std.specs.Map.{lookup};
-ghost use Rattle.misere_theory.specs.Certificates.{Certificate, Accepted};
-ghost use Rattle.catalogue.specs.Entries.{HasCode, HaveOtherCodes};
+ghost use Rattle.misere_theory.specs.Certificates.{Certificate, Accepted, kind_of};
+ghost use Rattle.catalogue.specs.Entries.{HasEntry, HaveOtherKinds};
 
 use crate::fault::AddFault;
 use crate::key::{Key, key_of};
@@ -14,7 +14,7 @@ use octal_code::Code;
 use std::alloc::Global;
 use std::marker::Model;
 
-/// Certified quotients in the order in which they were added, one for a code.
+/// Certified quotients in the order in which they were added, one for a code and a kind.
 #[derive(Drop)]
 pub struct Catalogue {
     entries: IndexMap<Key, Certified>,
@@ -66,47 +66,48 @@ impl Catalogue {
         *self.entries.allocator()
     }
 
-    /// Adds an entry behind the others. Where the code is there already, so is this very
-    /// certificate. After a refusal nothing changed.
+    /// Adds an entry behind the others. Where the code and the kind are there already, so is
+    /// this very certificate. After a refusal nothing changed.
     pub fn add(&mut self, certified: Certified) -> Result<(), AddFault>
         ensures added { OnOk result (self.new ≡ self.old ++ certified ∷ []) }
-        ensures present { (result ≡ Err AddFault.Present) ↔ HasCode self.old certified.code }
+        ensures present { (result ≡ Err AddFault.Present) ↔ HasEntry self.old certified.code (kind_of certified) }
         ensures same_certificate { result ≡ Err AddFault.Present → Contains self.old certified }
-        ensures absent { OnOk result (HasCode self.old certified.code → ⊥) }
+        ensures absent { OnOk result (HasEntry self.old certified.code (kind_of certified) → ⊥) }
         ensures unchanged { OnErr result (self.new ≡ self.old) }
     {
-        if self.get(certified.cert().code()).is_some() {
+        if self.get(certified.cert().code(), certified.cert().heaps()).is_some() {
             accepted_certificates_are_unique();
             return Err(AddFault::Present);
         }
         self.push(certified)
     }
 
-    /// Adds an entry of a code that isn't there.
+    /// Adds an entry of a code and a kind that aren't there.
     fn push(&mut self, certified: Certified) -> Result<(), AddFault>
-        requires { HasCode self.old certified.code → ⊥ }
+        requires { HasEntry self.old certified.code (kind_of certified) → ⊥ }
         ensures added { OnOk result (self.new ≡ self.old ++ certified ∷ []) }
         ensures unchanged { OnErr result (self.new ≡ self.old) }
         ensures memory { IfErr result (λ fault. fault ≡ AddFault.Memory) }
     {
-        let key = key_of(certified.cert().code());
+        let key = key_of(certified.cert().code(), certified.cert().heaps());
         append(&mut self.entries, key, certified)
     }
 
-    /// The entry of a code. It takes no memory.
-    pub fn get(&self, code: &Code) -> Option<&Certified>
+    /// The entry of a code and a kind: 0 for the full certificate, and M for the partial one of the
+    /// heaps up to M. It takes no memory.
+    pub fn get(&self, code: &Code, heaps: u64) -> Option<&Certified>
         ensures some { IfSome result (λ found. Contains self.now found.now
-            × (found.now.code ≡ code.now) × Accepted found.now) }
-        ensures none { (result ≡ None) ↔ (HasCode self.now code.now → ⊥) }
+            × (found.now.code ≡ code.now) × (kind_of found.now ≡ heaps) × Accepted found.now) }
+        ensures none { (result ≡ None) ↔ (HasEntry self.now code.now heaps → ⊥) }
     {
-        self.entries.get(&key_of(code))
+        self.entries.get(&key_of(code, heaps))
     }
 
     /// All entries, in the order in which they were added. It takes no memory.
     pub fn entries(&self) -> &[Certified]
         ensures all { result.now ≡ self.now }
         ensures accepted { All Accepted self.now }
-        ensures codes { HaveOtherCodes self.now }
+        ensures kinds { HaveOtherKinds self.now }
     {
         self.entries.values().as_slice()
     }

@@ -43,7 +43,8 @@ fn entry_value(alloc: Global, cert: &Cert) -> Result<Value, Memory>
 {
     let certificate = certificate_text(alloc, cert)?;
     let code = cert.code().text(alloc)?;
-    let value = json!(in alloc; {"certificate": certificate, "code": code})?;
+    let heaps = cert.heaps();
+    let value = json!(in alloc; {"certificate": certificate, "code": code, "heaps": heaps})?;
     Ok(value)
 }
 
@@ -51,7 +52,7 @@ fn entry_value(alloc: Global, cert: &Cert) -> Result<Value, Memory>
 fn file_value(alloc: Global, entries: Vec<Value>) -> Result<Value, Memory>
     ensures { IfOk result (λ value. view value ≡ file_data (items_view entries.items)) }
 {
-    let value = json!(in alloc; {"entries": entries, "version": 1u64})?;
+    let value = json!(in alloc; {"entries": entries, "version": 2u64})?;
     Ok(value)
 }
 

@@ -98,6 +98,6 @@ digit_place (d ∷ ds) j = let e : j + 1 ≡ suc j = omega arith in
     ap (λ (k : ℕ). get_or (d ∷ ds) k 0) e
 
 pub code_is : (code : List ℕ) → 0 < length code
-    → code_text code ≡ (48 + get_or code 0 0) ∷ 46 ∷ map digit_byte (drop 1 code)
+    → code_text code ≡ digit_byte (get_or code 0 0) ∷ 46 ∷ map digit_byte (drop 1 code)
 code_is [] some = absurd (omega arith)
 code_is (d ∷ ds) some = refl

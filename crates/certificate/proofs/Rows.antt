@@ -100,4 +100,4 @@ module _ (c : Certificate) (h : InRanges c) where
 
   pub pretending : IsPretending (pretending_of c)
   pretending =
-      record { from_one = h.start.0; some = h.period.0; short = h.period.2; length_is = h.phi.0 }
+      record { from_one = h.start; some = h.period.0; short = h.period.1; length_is = h.phi.0 }

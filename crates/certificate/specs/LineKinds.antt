@@ -1,14 +1,14 @@
 -- The lines of each kind, as a writer takes them one after another. This project's own.
 use Rattle.std.specs.Prelude.{List, [], ◌∷◌, map, codes}
 use Rattle.std.specs.Fmt.{decimal}
-use Rattle.misere_theory.specs.Certificates.{Certificate}
+use Rattle.misere_theory.specs.Certificates.{Certificate, format_of}
 use Rattle.octal_code.specs.Text.{code_text}
 use Rattle.certificate_text.specs.Spelling.{Line, key_word, row_line}
 use Rattle.certificate.specs.declared.writing.LineKind.{LineKind}
 use Rattle.certificate.specs.declared.writing.LineKind.TheVariants.{Version, Code, Order, Start, Period, Phi, Portion, Words, Rows, Apart, End}
 
 abbrev pub lines_of : Certificate → LineKind → List Line
-lines_of c Version = record { name = codes "mqc"; words = codes "1" ∷ [] } ∷ []
+lines_of c Version = record { name = codes "mqc"; words = decimal (format_of c) ∷ [] } ∷ []
 lines_of c Code = record { name = codes "code"; words = code_text c.code ∷ [] } ∷ []
 lines_of c Order = record { name = codes "order"; words = decimal c.order ∷ [] } ∷ []
 lines_of c Start = record { name = codes "start"; words = decimal c.start ∷ [] } ∷ []

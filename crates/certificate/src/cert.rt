@@ -1,8 +1,8 @@
 //! Certificates whose lines fit one another.
-ghost use Rattle.std.specs.Prelude.{◌≡◌, ◌≤◌};
+ghost use Rattle.std.specs.Prelude.{◌≡◌, ◌≤◌, ◌+◌};
 ghost use Rattle.std.specs.List.{concat};
 ghost use Rattle.misere_theory.specs.declared.TheConstants.{LARGEST_ORDER, MOST_ENTRIES};
-ghost use Rattle.misere_theory.specs.Certificates.{InRanges};
+ghost use Rattle.misere_theory.specs.Certificates.{InRanges, kind_of};
 ghost use Rattle.certificate.specs.Pieces.{IsWhole, certificate_of, pretending_of};
 
 use crate::key::Key;
@@ -65,17 +65,25 @@ impl<A: Allocator> Cert<A> {
     /// The heap from which on the elements of heaps repeat.
     pub fn start(&self) -> u64
         ensures value { result ≡ self.now.start }
-        ensures range { (1 ≤ result) × (result ≤ MOST_ENTRIES) }
+        ensures range { (1 ≤ result) × (result ≤ MOST_ENTRIES + 1) }
     {
         self.parts.phi.start()
     }
 
-    /// After how many heaps they repeat.
+    /// After how many heaps they repeat, or 0 where they don't.
     pub fn period(&self) -> u64
         ensures value { result ≡ self.now.period }
-        ensures range { (1 ≤ result) × (result ≤ MOST_ENTRIES) }
+        ensures range { result ≤ MOST_ENTRIES }
     {
         self.parts.phi.period()
+    }
+
+    /// The last heap of a partial certificate, or 0 of a full one.
+    pub fn heaps(&self) -> u64
+        ensures value { result ≡ kind_of self.now }
+        ensures range { result ≤ MOST_ENTRIES }
+    {
+        self.parts.phi.heaps()
     }
 
     /// The element of each heap.

@@ -2,9 +2,10 @@
 ghost use Rattle.std.specs.Prelude.{◌≤◌, ◌+◌, IfOk};
 ghost use Rattle.misere_theory.specs.declared.TheConstants.{LARGEST_ORDER, MOST_ENTRIES};
 ghost use Rattle.certificate.specs.Given.{Gives};
-ghost use Rattle.certificate_text.specs.Reading.{code_line_at, front_at};
+ghost use Rattle.certificate_text.specs.Reading.{code_line_at, numbers_at, front_at};
 
 use crate::fault::TextFault;
+use crate::format::format_by;
 use crate::lines::field;
 use crate::reader::Reader;
 use misere_theory::{LARGEST_ORDER, MOST_ENTRIES};
@@ -33,24 +34,43 @@ fn code_line(reader: &mut Reader<'_>) -> Result<Code, TextFault>
     }
 }
 
-/// The version, the code, the order, the start and the period.
-#[tactic(auto, unfolding(certificate_text::specs::Reading::front_at))]
-pub fn front_lines(reader: &mut Reader<'_>) -> Result<Front, TextFault>
+/// The code, the order, the start and the period.
+#[tactic(auto, unfolding(certificate_text::specs::Reading::numbers_at))]
+fn number_lines(reader: &mut Reader<'_>) -> Result<Front, TextFault>
     ensures read { Gives (λ x. ((x.code, x.order, x.start, x.period), reader.new)) result
-        (front_at reader.old) }
+        (numbers_at reader.old) }
     ensures order { IfOk result (λ x. (2 ≤ x.order) × (x.order ≤ LARGEST_ORDER)) }
-    ensures period { IfOk result (λ x. (1 ≤ x.start) × (1 ≤ x.period)
+    ensures period { IfOk result (λ x. (1 ≤ x.start) × (2 ≤ x.start + x.period)
         × (x.start + x.period ≤ MOST_ENTRIES + 1)) }
 {
-    reader.fixed(b"mqc 1\ncode ")?;
+    reader.fixed(b"code ")?;
     let code = code_line(reader)?;
     let order = field(reader, b"order", 2, LARGEST_ORDER + 1)?;
-    let start = field(reader, b"start", 1, MOST_ENTRIES + 1)?;
-    let period = field(reader, b"period", 1, MOST_ENTRIES + 2 - start)?;
+    let start = field(reader, b"start", 1, MOST_ENTRIES + 2)?;
+    let least = 2u16.saturating_sub(start);
+    let period = field(reader, b"period", least, MOST_ENTRIES + 2 - start)?;
     Ok(Front {
         code,
         order,
         start,
         period,
     })
+}
+
+/// The format, the code, the order, the start and the period.
+#[tactic(auto, unfolding(certificate_text::specs::Reading::front_at))]
+pub fn front_lines(reader: &mut Reader<'_>) -> Result<Front, TextFault>
+    ensures read { Gives (λ x. ((x.code, x.order, x.start, x.period), reader.new)) result
+        (front_at reader.old) }
+    ensures order { IfOk result (λ x. (2 ≤ x.order) × (x.order ≤ LARGEST_ORDER)) }
+    ensures period { IfOk result (λ x. (1 ≤ x.start) × (2 ≤ x.start + x.period)
+        × (x.start + x.period ≤ MOST_ENTRIES + 1)) }
+{
+    let format = field(reader, b"mqc", 1, 3)?;
+    let front = number_lines(reader)?;
+    if format == format_by(&front.code, front.order, front.period) {
+        Ok(front)
+    } else {
+        Err(TextFault::Text)
+    }
 }

@@ -5,6 +5,7 @@
 
 mod cert;
 mod fault;
+mod format;
 mod front;
 mod key;
 mod keys;

@@ -102,7 +102,7 @@ fn put_digits<W: Sink>(sink: &mut W, code: &Code) -> Result<(), DeviceFault>
     ensures cause { Counts (W.failures sink.old) (W.failures sink.new) result }
 {
     for j in 0..code.last() as u64 {
-        write_whole(sink, &[b'0' + code.digit(j + 1)])?;
+        write_whole(sink, &[code.digit_byte(j + 1)])?;
     }
     Ok(())
 }
@@ -114,7 +114,7 @@ fn put_code<W: Sink>(sink: &mut W, code: &Code) -> Result<(), DeviceFault>
 {
     // a code has a first digit
     let _ = code.last();
-    write_whole(sink, &[b'0' + code.digit(0), b'.'])?;
+    write_whole(sink, &[code.digit_byte(0), b'.'])?;
     put_digits(sink, code)
 }
 

@@ -5,6 +5,7 @@ ghost use Rattle.certificate.specs.LineKinds.{lines_of};
 
 use crate::cert::{Cert, in_ranges};
 use crate::fault::WriteFault;
+use crate::format::format_by;
 use crate::putting::{put_code_line, put_key_line, put_line, put_rows};
 use std::alloc::Allocator;
 use streams::{DeviceFault, Sink, write_whole};
@@ -51,7 +52,10 @@ fn put_lines<A: Allocator, W: Sink>(
     ensures cause { Counts (W.failures sink.old) (W.failures sink.new) result }
 {
     match kind {
-        LineKind::Version => write_whole(sink, b"mqc 1\n"),
+        LineKind::Version => {
+            let format = format_by(cert.code(), cert.order(), cert.period() as u16);
+            put_line(sink, b"mqc", &[format])
+        }
         LineKind::Code => put_code_line(sink, cert.code()),
         LineKind::Order => put_line(sink, b"order", &[cert.order()]),
         LineKind::Start => put_line(sink, b"start", &[cert.start() as u16]),

@@ -3,11 +3,12 @@ use Rattle.std.proofs.Common.{◌≡◌, ℕ, ◌+◌, ◌^◌, ◌<◌, ◌≤�
 use Rattle.std.specs.Fmt.{decimal}
 use Rattle.std.specs.List.{AllByRecursion}
 use Rattle.std.proofs.lemmas.List.Elements.{recursion_from_All}
-use Rattle.misere_theory.specs.Certificates.{Certificate, InRanges, IsOctalCode}
+use Rattle.misere_theory.specs.Certificates.{Certificate, InRanges, IsCode, format_of}
 use Rattle.octal_code.specs.Text.{code_text, IsCodeText}
 use Rattle.certificate_text.specs.Spelling.{Line, text, key_word, row_line, Spells}
 use Rattle.certificate_text.specs.Lines.{IsNumber}
 use Rattle.certificate_text.specs.Lines.{AreWords, IsKey, IsLine, AreRows, IsFixed, SpellsByLines}
+use Rattle.certificate_text.proofs.Front.{format_in}
 use Rattle.certificate_text.proofs.Digits.{is_decimal, decimal_is}
 
 module _ {X : Type 0} (IsWord : List ℕ → X → Type 0) (spell : X → List ℕ) (Fits : X → Type 0)
@@ -102,6 +103,7 @@ smaller_rows m le (r ∷ rs) h =
     (smaller m le r (recursion_from_All (λ x. x < m) r h.0.1), smaller_rows m le rs h.1)
 
 record AreSmall (c : Certificate) : Type 0 where
+  format : Small (format_of c)
   order : Small c.order
   start : Small c.start
   period : Small c.period
@@ -114,10 +116,11 @@ record AreSmall (c : Certificate) : Type 0 where
 are_small : (c : Certificate) → InRanges c → AreSmall c
 are_small c h =
     let q : c.order ≤ 2 ^ 64 = omega (arith, h.order.1) in
-    let p : c.start + c.period ≤ 2 ^ 64 = omega (arith, h.period.2) in
+    let p : c.start + c.period ≤ 2 ^ 64 = omega (arith, h.period.1) in
     record {
+      format = omega (arith, (format_in c.code c.order c.period).1);
       order = omega (arith, h.order.1);
-      start = omega (arith, h.start.1);
+      start = omega (arith, h.period.1);
       period = omega (arith, h.period.1);
       phi = smaller c.order q c.phi (recursion_from_All (λ x. x < c.order) c.phi h.phi.1);
       portion =
@@ -142,19 +145,18 @@ fixed_is x fits = refl
 same_word : List ℕ → List ℕ
 same_word w = w
 
-code_only : (w x : List ℕ) → IsOctalCode x → IsCodeText w x → w ≡ code_text x
+code_only : (w x : List ℕ) → IsCode x → IsCodeText w x → w ≡ code_text x
 code_only w x fits h = h.spelled
 
-code_is : (x : List ℕ) → IsOctalCode x → IsCodeText (code_text x) x
+code_is : (x : List ℕ) → IsCode x → IsCodeText (code_text x) x
 code_is x fits = record { code = fits; spelled = refl }
 
 pub from_lines : (b : List ℕ) (c : Certificate) → SpellsByLines b c → Spells b c
 from_lines b c s =
     let small = are_small c s.in_ranges in
     let number = line_only IsNumber decimal Small number_only decimal_is in
-    let e1 = line_only IsFixed (λ w. w) Any fixed_only fixed_is (codes "mqc") s.version
-    (codes "1" ∷ []) (tt, tt) s.is_version in
-    let e2 = line_only IsCodeText code_text IsOctalCode code_only code_is (codes "code") s.code
+    let e1 = number (codes "mqc") s.version (format_of c ∷ []) (small.format, tt) s.is_version in
+    let e2 = line_only IsCodeText code_text IsCode code_only code_is (codes "code") s.code
     (c.code ∷ []) (s.in_ranges.code, tt) s.is_code in
     let e3 = number (codes "order") s.order (c.order ∷ []) (small.order, tt) s.is_order in
     let e4 = number (codes "start") s.start (c.start ∷ []) (small.start, tt) s.is_start in
@@ -173,7 +175,8 @@ from_lines b c s =
       bytes = s.bytes ∙ ap text (
           ap (λ (l : Line). l ∷ s.code ∷ s.order ∷ s.start ∷ s.period ∷ s.phi ∷ s.portion ∷ s.words
           ∷ (s.rows ++ s.apart ∷ s.end ∷ [])) e1
-          ∙ ap (λ (ls : List Line). record { name = codes "mqc"; words = codes "1" ∷ [] } ∷ ls) (
+          ∙ ap (λ (ls : List Line). record { name = codes "mqc"; words = decimal (format_of c) ∷ [] }
+          ∷ ls) (
           ap₂ (λ (l : Line) (ls : List Line). l ∷ ls) e2
           (ap₂ (λ (l : Line) (ls : List Line). l ∷ ls) e3
           (ap₂ (λ (l : Line) (ls : List Line). l ∷ ls) e4
@@ -191,7 +194,7 @@ to_lines b c s =
     let number = line_is IsNumber decimal Small number_only decimal_is in
     record {
       in_ranges = s.in_ranges;
-      version = record { name = codes "mqc"; words = codes "1" ∷ [] };
+      version = record { name = codes "mqc"; words = decimal (format_of c) ∷ [] };
       code = record { name = codes "code"; words = code_text c.code ∷ [] };
       order = record { name = codes "order"; words = decimal c.order ∷ [] };
       start = record { name = codes "start"; words = decimal c.start ∷ [] };
@@ -203,9 +206,9 @@ to_lines b c s =
       apart = record { name = codes "apart"; words = map decimal c.apart };
       end = record { name = codes "end"; words = [] };
       bytes = s.bytes;
-      is_version = record { named = refl; worded = (refl, tt) };
+      is_version = number (codes "mqc") (format_of c ∷ []) (small.format, tt);
       is_code =
-          line_is IsCodeText code_text IsOctalCode code_only code_is (codes "code") (c.code ∷ [])
+          line_is IsCodeText code_text IsCode code_only code_is (codes "code") (c.code ∷ [])
           (s.in_ranges.code, tt);
       is_order = number (codes "order") (c.order ∷ []) (small.order, tt);
       is_start = number (codes "start") (c.start ∷ []) (small.start, tt);

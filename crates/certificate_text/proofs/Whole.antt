@@ -5,7 +5,8 @@ use Rattle.std.specs.List.{AllByRecursion, concat}
 use Rattle.std.proofs.lemmas.List.{append-nil}
 use Rattle.std.proofs.lemmas.List.Elements.{All-from_recursion, recursion_from_All}
 use Rattle.std.proofs.lemmas.Option.{some_pair_parts}
-use Rattle.misere_theory.specs.Certificates.{Certificate, InRanges}
+use Rattle.std.proofs.lemmas.Fmt.{decimal_digit}
+use Rattle.misere_theory.specs.Certificates.{Certificate, InRanges, format_of}
 use Rattle.octal_code.specs.Text.{code_text}
 use Rattle.certificate_text.specs.Spelling.{spaced, key_word, row_line, text, lines, Line, Spells}
 use Rattle.certificate_text.specs.Reading.{◌>>=◌, fixed_at, number_at, key_at, line_at, portion_at, rows_at, rows_of, front_at, certificate_at}
@@ -14,7 +15,7 @@ use Rattle.certificate_text.proofs.Words.{numbers_reader, keys_reader, KeyFits, 
 use Rattle.certificate_text.proofs.Fields.{RisesFrom, portion_takes, portion_again}
 use Rattle.certificate_text.proofs.Rows.{rows_text, RowFits, rows_take, rows_again, rows_of_concat}
 use Rattle.certificate_text.proofs.Counts.{pairs_count, rises_below, rises_increasing, increasing_rises}
-use Rattle.certificate_text.proofs.Front.{front_text, FrontFits, front_takes, front_again}
+use Rattle.certificate_text.proofs.Front.{numbers_text, front_text, FrontFits, front_takes, front_again}
 
 -- ---- the text, grouped as it is read
 
@@ -51,6 +52,7 @@ text_is : (c : Certificate) (rest : List ℕ)
 text_is c rest =
     text_then_is (lines c) rest
     ∙ rw (
+      append-nil (decimal (format_of c)),
       append-nil (code_text c.code),
       append-nil (decimal c.order),
       append-nil (decimal c.start),
@@ -87,8 +89,8 @@ ranges_of c f phi portion words rows apart =
     record {
       code = f.code_fits;
       order = (omega arith, omega arith);
-      start = (omega arith, omega arith);
-      period = (omega arith, omega arith, omega arith);
+      start = s1;
+      period = (omega arith, omega arith);
       phi = (omega (arith, phi.0), All-from_recursion (λ x. x < c.order) c.phi phi.1);
       portion = (
         portion.0,
@@ -318,8 +320,8 @@ unfolding tail_of
 tail_again c rest h =
     let low : 0 < c.order = omega (arith, h.order.0) in
     let small : c.order ≤ 2 ^ 16 = omega (arith, h.order.1) in
-    let some_heaps : 0 < c.start + c.period = omega (arith, h.start.0) in
-    let few_heaps : c.start + c.period ≤ 2 ^ 16 = omega (arith, h.period.2) in
+    let some_heaps : 0 < c.start + c.period = omega (arith, h.start) in
+    let few_heaps : c.start + c.period ≤ 2 ^ 16 = omega (arith, h.period.1) in
     let numbers = numbers_reader c.order low small in
     let keys = keys_reader c.order (c.start + c.period) low small some_heaps few_heaps in
     let rises : RisesFrom 0 c.order c.portion =
@@ -366,10 +368,10 @@ certificate_again c rest h =
       code_fits = h.code;
       order_from = h.order.0;
       order_below = omega (arith, h.order.1);
-      start_from = h.start.0;
-      start_below = omega (arith, h.start.1);
-      period_from = h.period.0;
-      period_below = omega (arith, h.period.2);
+      start_from = h.start;
+      start_below = omega (arith, h.period.1);
+      period_from = omega (arith, h.period.0);
+      period_below = omega (arith, h.start, h.period.1);
     } in
     ap certificate_at (text_is c rest)
     ∙ certificate_in_two (front_text c.code c.order c.start c.period (lists_text c rest))
@@ -405,3 +407,15 @@ spelled_takes b c e = let t = certificate_takes b c [] e in
 pub spelled_again : (b : List ℕ) (c : Certificate) → Spells b c → certificate_at b ≡ Some (c, [])
 spelled_again b c p = ap certificate_at (p.bytes ∙ sym (append-nil (text (lines c))))
     ∙ certificate_again c [] p.in_ranges
+
+pub begins_with_format : (b : List ℕ) (c : Certificate) (format : ℕ) → Spells b c
+    → format_of c ≡ format → format < 10
+    → (x : List ℕ) × (b ≡ codes "mqc" ++ (32 ∷ (48 + format) ∷ 10 ∷ x))
+begins_with_format b c format p e l =
+    let digit : decimal (format_of c) ≡ (48 + format) ∷ [] = ap decimal e ∙ decimal_digit format l
+    in (
+      numbers_text c.code c.order c.start c.period (lists_text c []),
+      p.bytes ∙ sym (append-nil (text (lines c))) ∙ text_is c []
+          ∙ ap (λ (ds : List ℕ). codes "mqc" ++ (32 ∷ (ds ++ (10 ∷ numbers_text c.code c.order
+          c.start c.period (lists_text c []))))) digit,
+    )

@@ -1,7 +1,7 @@
 -- The text of a certificate as a relation between bytes and the certificate's numbers, by cases on
 -- numbers, words and lines. The format is this project's own.
 use Rattle.std.specs.Prelude.{◌≡◌, ℕ, ◌+◌, ◌*◌, ◌<◌, List, [], ◌∷◌, ◌++◌, codes}
-use Rattle.misere_theory.specs.Certificates.{Certificate, InRanges}
+use Rattle.misere_theory.specs.Certificates.{Certificate, InRanges, format_of}
 use Rattle.octal_code.specs.Text.{IsCodeText}
 use Rattle.certificate_text.specs.Spelling.{Line, text}
 
@@ -61,7 +61,7 @@ pub record SpellsByLines (b : List ℕ) (c : Certificate) : Type 0 where
   pub bytes : b
       ≡ text (version ∷ code ∷ order ∷ start ∷ period ∷ phi ∷ portion ∷ words
       ∷ (rows ++ apart ∷ end ∷ []))
-  pub is_version : IsLine (codes "mqc") IsFixed version (codes "1" ∷ [])
+  pub is_version : IsLine (codes "mqc") IsNumber version (format_of c ∷ [])
   pub is_code : IsLine (codes "code") IsCodeText code (c.code ∷ [])
   pub is_order : IsLine (codes "order") IsNumber order (c.order ∷ [])
   pub is_start : IsLine (codes "start") IsNumber start (c.start ∷ [])

@@ -2,7 +2,7 @@
 -- does; that this is the spelling is the law `reading_is_spelling`. This project's own.
 use Rattle.std.specs.Prelude.{ℕ, zero, suc, ◌+◌, ◌-◌, ◌*◌, ◌/◌, List, [], ◌∷◌, ◌++◌, length, take, drop, slice_index, Option, Some, None, Bool, nat_lt, nat_le, ◌&&◌, ◌==◌, if◌then◌else◌, codes}
 use Rattle.misere_theory.specs.declared.TheConstants.{LARGEST_ORDER, MOST_ENTRIES}
-use Rattle.misere_theory.specs.Certificates.{Certificate}
+use Rattle.misere_theory.specs.Certificates.{Certificate, format_by}
 
 infixl 10 ◌>>=◌
 abbrev pub ◌>>=◌ : {A B : Type 0} → Option A → (A → Option B) → Option B
@@ -97,29 +97,34 @@ portion_at order bytes = do
   if length xs.0 == 0 then None else Some (xs.0, ended)
 
 -- a digit 0 to 7
-unfoldable pub octal_at : List ℕ → Option (ℕ × List ℕ)
-octal_at [] = None
-octal_at (b ∷ bytes) = if nat_le 48 b && nat_le b 55 then Some (b - 48, bytes) else None
+unfoldable pub code_digit_at : List ℕ → Option (ℕ × List ℕ)
+code_digit_at [] = None
+code_digit_at (b ∷ bytes) =
+    if nat_le 48 b && nat_le b 57 then Some (b - 48, bytes)
+    else if nat_le 97 b && nat_le b 102 then Some (b - 87, bytes) else None
 
 -- at most room of them
-unfoldable pub octals_at : ℕ → List ℕ → Option (List ℕ × List ℕ)
-octals_at zero bytes = Some ([], bytes)
-octals_at (suc room) bytes =
-    otherwise (octal_at bytes) (Some ([], bytes)) (λ d. with_front (d.0 ∷ []) (octals_at room d.1))
+unfoldable pub code_digits_at : ℕ → List ℕ → Option (List ℕ × List ℕ)
+code_digits_at zero bytes = Some ([], bytes)
+code_digits_at (suc room) bytes =
+    otherwise (code_digit_at bytes) (Some ([], bytes)) (λ d. with_front (d.0 ∷ []) (code_digits_at room d.1))
 
 -- a point and the digits, behind the first one
 unfoldable pub digits_behind : ℕ → List ℕ → Option (List ℕ × List ℕ)
 digits_behind d bytes = do
   point ← fixed_at (46 ∷ []) bytes
-  ds ← with_front (d ∷ []) (octals_at 16 point)
+  ds ← with_front (d ∷ []) (code_digits_at 16 point)
   if nat_lt (length ds.0) 2 then None else
       if slice_index ds.0 (length ds.0 - 1) == 0 then None else Some ds
 
--- 0. or 4. and one to sixteen digits, the last not 0
+-- 0., 4., 8. or c. and one to sixteen digits, the last not 0
 unfoldable pub code_at : List ℕ → Option (List ℕ × List ℕ)
 code_at [] = None
 code_at (d ∷ bytes) =
-    if d == 48 then digits_behind 0 bytes else if d == 52 then digits_behind 4 bytes else None
+    if d == 48 then digits_behind 0 bytes
+    else if d == 52 then digits_behind 4 bytes
+    else if d == 56 then digits_behind 8 bytes
+    else if d == 99 then digits_behind 12 bytes else None
 
 -- the code and the end of its line
 unfoldable pub code_line_at : List ℕ → Option (List ℕ × List ℕ)
@@ -140,15 +145,22 @@ abbrev pub rows_of : ℕ → ℕ → List ℕ → List (List ℕ)
 rows_of order zero xs = []
 rows_of order (suc n) xs = take order xs ∷ rows_of order n (drop order xs)
 
--- the lines up to the period
-unfoldable pub front_at : List ℕ → Option ((List ℕ × ℕ × ℕ × ℕ) × List ℕ)
-front_at bytes = do
-  named ← fixed_at (codes "mqc 1\ncode ") bytes
+-- the lines from the code's to the period's: a start of 1 leaves no period of 0
+unfoldable pub numbers_at : List ℕ → Option ((List ℕ × ℕ × ℕ × ℕ) × List ℕ)
+numbers_at bytes = do
+  named ← fixed_at (codes "code ") bytes
   code ← code_line_at named
   order ← field_at (codes "order") 2 (LARGEST_ORDER + 1) code.1
-  start ← field_at (codes "start") 1 (MOST_ENTRIES + 1) order.1
-  period ← field_at (codes "period") 1 (MOST_ENTRIES + 2 - start.0) start.1
+  start ← field_at (codes "start") 1 (MOST_ENTRIES + 2) order.1
+  period ← field_at (codes "period") (2 - start.0) (MOST_ENTRIES + 2 - start.0) start.1
   Some ((code.0, order.0, start.0, period.0), period.1)
+
+-- the lines up to the period's, of the format that the code, the order and the period have
+unfoldable pub front_at : List ℕ → Option ((List ℕ × ℕ × ℕ × ℕ) × List ℕ)
+front_at bytes = do
+  format ← field_at (codes "mqc") 1 3 bytes
+  front ← numbers_at format.1
+  if format.0 == format_by front.0.0 front.0.1 front.0.3 then Some front else None
 
 -- all lines
 unfoldable pub certificate_at : List ℕ → Option (Certificate × List ℕ)

@@ -1,9 +1,10 @@
--- The one text of each certificate, `mqc 1`: these lines in this order, each ended by one LF, with
--- single spaces, nothing before and nothing behind. The ranges of the numbers are the theory's
--- `InRanges`. The format is this project's own.
+-- The one text of each certificate, `mqc 1` or `mqc 2`: these lines in this order, each ended by one
+-- LF, with single spaces, nothing before and nothing behind. The ranges of the numbers are the
+-- theory's `InRanges`, and which of the two formats it is its `format_of`. Both are this project's
+-- own.
 use Rattle.std.specs.Prelude.{◌≡◌, ℕ, List, [], ◌∷◌, ◌++◌, map, codes}
 use Rattle.std.specs.Fmt.{decimal}
-use Rattle.misere_theory.specs.Certificates.{Certificate, InRanges}
+use Rattle.misere_theory.specs.Certificates.{Certificate, InRanges, format_of}
 use Rattle.octal_code.specs.Text.{code_text}
 
 -- a line is its name and its words
@@ -30,7 +31,7 @@ row_line row = record { name = codes "row"; words = map decimal row }
 
 abbrev pub lines : Certificate → List Line
 lines c =
-    record { name = codes "mqc"; words = codes "1" ∷ [] }
+    record { name = codes "mqc"; words = decimal (format_of c) ∷ [] }
     ∷ record { name = codes "code"; words = code_text c.code ∷ [] }
     ∷ record { name = codes "order"; words = decimal c.order ∷ [] }
     ∷ record { name = codes "start"; words = decimal c.start ∷ [] }

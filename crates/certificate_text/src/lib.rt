@@ -5,10 +5,10 @@
 //! (specs/Reading.antt) reads from left to right. Nothing here runs.
 #![tactic(auto)]
 
-ghost use Rattle.std.specs.Prelude.{◌≡◌, ◌≢◌, ◌++◌, ◌∷◌, ◌*◌, ◌<◌, ◌≤◌, ◌^◌, ℕ, List, [], Some, All, length};
+ghost use Rattle.std.specs.Prelude.{◌≡◌, ◌≢◌, ◌++◌, ◌∷◌, ◌*◌, ◌<◌, ◌≤◌, ◌^◌, ℕ, List, [], Some, All, length, codes};
 ghost use Rattle.std.specs.List.{concat};
 ghost use Rattle.std.specs.Fmt.{decimal};
-ghost use Rattle.misere_theory.specs.Certificates.{Certificate, InRanges};
+ghost use Rattle.misere_theory.specs.Certificates.{Certificate, InRanges, format_of};
 ghost use Rattle.octal_code.specs.Text.{IsCodeText};
 ghost use Rattle.certificate_text.specs.Spelling.{Spells};
 ghost use Rattle.certificate_text.specs.Lines.{IsNumber, SpellsByLines};
@@ -21,6 +21,14 @@ pub fn spellings_are_unique()
     ensures bytes { (a b : List ℕ) (c : Certificate) → Spells a c → Spells b c → a ≡ b }
     ensures beginning { (a x : List ℕ) (c d : Certificate) → Spells a c → Spells (a ++ x) d
         → x ≡ [] }
+{}
+
+/// The text of a certificate begins with the number of its format.
+pub fn texts_begin_with_their_format()
+    ensures first { (b : List ℕ) (c : Certificate) → Spells b c → format_of c ≡ 1
+        → (x : List ℕ) × (b ≡ codes "mqc 1\n" ++ x) }
+    ensures second { (b : List ℕ) (c : Certificate) → Spells b c → format_of c ≡ 2
+        → (x : List ℕ) × (b ≡ codes "mqc 2\n" ++ x) }
 {}
 
 /// The text of a certificate is its lines, each with its words: the two ways to say it agree.

@@ -3,13 +3,12 @@ use Rattle.std.proofs.Common.{◌≡◌, ℕ, suc, ◌+◌, ◌-◌, ◌*◌, �
 use Rattle.std.proofs.lemmas.List.FromFn.{length-map-range_with_len}
 use Rattle.std.specs.FinSet as set
 use Rattle.monoid_table.specs.Grids.{Grid}
-use Rattle.misere_theory.specs.Games.{IsOctalCode}
+use Rattle.misere_theory.specs.Games.{IsCode}
 use Rattle.misere_theory.specs.Certificates.{Certificate, InRanges}
 use Rattle.transition_algebra.specs.declared.pair.Pair.{Pair}
 use Rattle.transition_algebra.specs.Pretending.{Pretending, IsPretending}
-use Rattle.transition_algebra.specs.Work.{heap_cost}
+use Rattle.transition_algebra.specs.Work.{heap_cost, most_turns as heaps_turns}
 use Rattle.transition_algebra.specs.Heaps.{heap_pair, all_heap_pairs}
-use Rattle.transition_algebra.specs.Heaps as heaps
 use Rattle.certificate.specs.Pieces.{grid_of, pretending_of}
 use Rattle.pair_closure.specs.Progress.{Progress, begun, moved, step, steps, has_ended, is_over, is_done}
 use Rattle.pair_closure.specs.Positions.{rising, word}
@@ -34,8 +33,8 @@ ClosuresEnd = (table : Grid) (pairs : List Pair) (limit units : ℕ)
 
 -- what transition_algebra tells of turns
 abbrev pub HeapsEnd : Type 0
-HeapsEnd = (code : List ℕ) (phi : Pretending) → IsOctalCode code → IsPretending phi
-    → heap_cost code phi ≤ length code * (heaps.bound_of code phi * heaps.bound_of code phi)
+HeapsEnd = (code : List ℕ) (phi : Pretending) → IsCode code → IsPretending phi
+    → heap_cost code phi ≤ heaps_turns code phi
 
 stepped : (p : Progress) → has_ended p.state ≡ false → moved p ≡ step p
 stepped p e = rw e refl

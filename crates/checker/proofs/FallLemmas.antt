@@ -1,5 +1,5 @@
 -- Each turn lowers what a check takes at most, so that it ends.
-use Rattle.std.proofs.Common.{◌≡◌, ℕ, zero, suc, ◌+◌, ◌*◌, ◌^◌, ◌<◌, ◌≤◌, ◌↔◌, Bool, true, false, List, [], ◌∷◌, length, Option, Some, None, refl, sym, ◌∙◌, ap, subst, arith}
+use Rattle.std.proofs.Common.{◌≡◌, ℕ, zero, suc, ◌+◌, ◌-◌, ◌*◌, ◌^◌, ◌<◌, ◌≤◌, ◌↔◌, Bool, true, false, List, [], ◌∷◌, length, Option, Some, None, refl, sym, ◌∙◌, ap, subst, arith}
 use Rattle.std.proofs.lemmas.Nat.{mul-le}
 use native.Mathlib.Decide.{dec_lt}
 use Rattle.misere_theory.specs.Certificates.{Certificate, InRanges}
@@ -9,13 +9,13 @@ use Rattle.monoid_table.specs.Grids.{Grid}
 use Rattle.transition_algebra.specs.declared.pair.Pair.{Pair}
 use Rattle.pair_closure.specs.Progress.{begun, steps, has_ended}
 use Rattle.pair_closure.specs.Calls.{cost as closure_cost}
-use Rattle.checker.specs.Closings.{bound_of}
+use Rattle.checker.specs.Closings.{bound_of, heaps_most}
 use Rattle.checker.specs.Turns.{Phase, is_ended, turn, turns, turns_left, opened, bound_read, most_turns, bound, cost, verdict, answer_at, Reaches, HasSpent}
 use Rattle.checker.specs.Turns.Phase.{Reading, Laws, Keys, Products, Periods, Separating, Heaps, Elements, Closing, Ended}
 use Rattle.checker.specs.Measures.{measure, behind_laws}
 use Rattle.checker.specs.Sound.{IsSound}
 use Rattle.checker.proofs.CostLemmas.{has_spent, spent_most}
-use Rattle.checker.proofs.UnitLemmas.{code_short, bound_few}
+use Rattle.checker.proofs.UnitLemmas.{bound_few, heaps_few}
 use Rattle.answers.specs.Answers.Answer.{Yes}
 use Rattle.checker.proofs.LeastLemmas.{yes_least, IsPaid, paid_on}
 use Rattle.checker.proofs.FallEnds.{ClosuresEnd, HeapsEnd, Below, closing_falls, elements_falls, heaps_falls}
@@ -41,13 +41,13 @@ closures_fewer most ends table pairs limit units going =
     fewer_than (closure_cost table pairs limit) units (limit * length pairs + 2)
     (most table pairs limit) (λ l. let e = (ends table pairs limit units).1 l in absurd cc)
 
-sums : (q qqq qq qn pp kbb bq bqq bl : ℕ) → q ≤ qq → bq ≤ bqq
-    → qqq + (q + (qn + (pp + (qqq + (kbb + (bq + (bl + 2))))))) < 2 * qqq + qq + qn + pp + kbb + bqq
+sums : (q qqq qq qn pp z kbb bq bqq bl : ℕ) → q ≤ qq → bq ≤ bqq → z ≤ 1
+    → qqq + (q + (qn + (pp + z + (qqq + (kbb + (bq + (bl + 2))))))) < 2 * qqq + qq + qn + pp + kbb + bqq
     + bl + 16
-sums q qqq qq qn pp kbb bq bqq bl h l = omega arith
+sums q qqq qq qn pp z kbb bq bqq bl h l o = omega arith
 
-total : (a b c d e f g : ℕ) → a ≤ 256 * 256 * 256 → b ≤ 256 * 256 → c ≤ 256 * 1025 → d ≤ 1024 * 1024
-    → e ≤ 17 * (2066 * 2066) → f ≤ 2066 * (256 * 256) → g ≤ 2066 * 2 ^ 32
+total : (a b c d e f g : ℕ) → a ≤ 512 * 512 * 512 → b ≤ 512 * 512 → c ≤ 512 * 1025 → d ≤ 1024 * 1024
+    → e ≤ 502048803707 → f ≤ 3091 * (512 * 512) → g ≤ 3091 * 2 ^ 32
     → 2 * a + b + c + d + e + f + g + 16 < 2 ^ 52
 total a b c d e f g ha hb hc hd he hf hg = omega arith
 
@@ -63,27 +63,27 @@ module _ (bytes : List ℕ) (limit : ℕ) where
       mul-le (bound_of c) c.order (bound_of c) (c.order * c.order) (omega arith) (omega arith)
       in
       sums c.order (triples c.order) (c.order * c.order) (c.order * (c.start + c.period))
-      (c.period * c.period) (length c.code * (bound_of c * bound_of c)) (bound_of c * c.order)
-      (bound_of c * (c.order * c.order)) (bound_of c * limit) (omega arith) b
+      (c.period * c.period) (1 - c.period) (heaps_most c)
+      (bound_of c * c.order)
+      (bound_of c * (c.order * c.order)) (bound_of c * limit) (omega arith) b (omega arith)
 
   -- as few that a counter of 64 bits holds them
   few_of : (c : Certificate) → InRanges c → limit < 2 ^ 32 → most_turns bytes limit c < 2 ^ 52
   few_of c r l =
       let q = r.order.1 in
-      let p = r.period.1 in
-      let s = r.period.2 in
-      let k = code_short c.code r.code in
+      let s = r.period.1 in
+      let one = r.start in
+      let p : c.period ≤ 1024 = omega arith in
       let b = bound_few c r in
-      let q2 = mul-le c.order c.order 256 256 q q in
-      let q3 = mul-le (c.order * c.order) c.order (256 * 256) 256 q2 q in
-      let n = mul-le c.order (c.start + c.period) 256 1025 q s in
+      let q2 = mul-le c.order c.order 512 512 q q in
+      let q3 = mul-le (c.order * c.order) c.order (512 * 512) 512 q2 q in
+      let n = mul-le c.order (c.start + c.period) 512 1025 q s in
       let p2 = mul-le c.period c.period 1024 1024 p p in
-      let b2 = mul-le (bound_of c) (bound_of c) 2066 2066 b b in
-      let k2 = mul-le (length c.code) (bound_of c * bound_of c) 17 (2066 * 2066) k b2 in
-      let bq = mul-le (bound_of c) (c.order * c.order) 2066 (256 * 256) b q2 in
-      let bl = mul-le (bound_of c) limit 2066 (2 ^ 32) b (omega arith) in
+      let k2 = heaps_few c r in
+      let bq = mul-le (bound_of c) (c.order * c.order) 3091 (512 * 512) b q2 in
+      let bl = mul-le (bound_of c) limit 3091 (2 ^ 32) b (omega arith) in
       total (c.order * c.order * c.order) (c.order * c.order) (c.order * (c.start + c.period))
-      (c.period * c.period) (length c.code * (bound_of c * bound_of c))
+      (c.period * c.period) (heaps_most c)
       (bound_of c * (c.order * c.order)) (bound_of c * limit) q3 q2 n p2 k2 bq bl
 
   few_read : ReadsRanged → limit < 2 ^ 32 → (x : Option (Certificate × List ℕ))

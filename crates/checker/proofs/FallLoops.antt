@@ -7,7 +7,7 @@ use Rattle.monoid_table.specs.Turns.{JobState, triples, is_over, turn as turn_jo
 use Rattle.transition_algebra.specs.Work.{heap_cost}
 use Rattle.certificate.specs.Pieces.{pretending_of}
 use Rattle.answers.specs.Answers.Answer.{Law, Word, Order, Period, Apart}
-use Rattle.checker.specs.Closings.{bound_of}
+use Rattle.checker.specs.Closings.{heaps_most}
 use Rattle.checker.specs.Units.{rest}
 use Rattle.checker.specs.Views.{LawsView, KeysView, ProductsView, PeriodsView, SeparatingView}
 use Rattle.checker.specs.Turns.{laws_at, laws_turn, keys_at, keys_turn, is_keyed, is_above_last, products_at, products_turn, is_in_order, periods_turn, comes_again, separating_at, separating_turn, tells_apart, heaps_at}
@@ -26,13 +26,13 @@ given_below c r n l = All-get_or (λ x. x < c.order) c.apart n 0 l r.apart.1
 
 module _ (bytes : List ℕ) (limit : ℕ) where
   module _ (costs : HeapsEnd) (c : Certificate) (r : InRanges c) where
-    heaps_cost : heap_cost c.code (pretending_of c) ≤ length c.code * (bound_of c * bound_of c)
+    heaps_cost : heap_cost c.code (pretending_of c) ≤ heaps_most c
     heaps_cost =
         costs c.code (pretending_of c) r.code
         (record {
-          from_one = r.start.0;
+          from_one = r.start;
           some = r.period.0;
-          short = r.period.2;
+          short = r.period.1;
           length_is = r.phi.0;
         })
 
@@ -127,7 +127,7 @@ module _ (bytes : List ℕ) (limit : ℕ) where
       (λ f. (omega arith, tt))
       (λ f. (let x = rest-place c.period p.shift (c.period + 1) p.count l z in
       let k : p.count + 1 < c.period = grind (arith, tests) in
-      (omega arith, record { ranges = a.ranges; shift = omega arith; count = k }))))))
+      (omega arith, record { ranges = a.ranges; shift = omega arith; count = omega arith }))))))
       (λ e. by_test (Below bytes limit m) (comes_again c (c.start - 1) c.period) (Ended Period)
       (separating_at limit c 0 1 0 0)
       (λ d. (omega arith, tt))
@@ -144,7 +144,7 @@ module _ (bytes : List ℕ) (limit : ℕ) where
         (Periods (record { certificate = c; shift = 1; count = 0 }))
         (λ e. (let l : f < c.order = ltb-true _ _ e in
         (some l, record { ranges = r; element = l; heap = within })))
-        (λ e. (let p = r.period.0 in let x = period_rest c.period p in
+        (λ e. (let x = period_rest c.period in
         (omega arith, record { ranges = r; shift = omega arith; count = omega arith })))
 
     keys_at-below : (next most : ℕ) (rise : Bool)
@@ -160,7 +160,7 @@ module _ (bytes : List ℕ) (limit : ℕ) where
         (some l, record { ranges = r; more = l })))
         (λ e. by_test (Below bytes limit most) rise
         (Products (record { certificate = c; element = 0; heap = 1 })) (Ended Order)
-        (λ t. (let o = r.order.0 in let p = r.period.0 in let s = r.start.0 in
+        (λ t. (let o = r.order.0 in let p = r.period.0 in let s = r.start in
         let x = but_first c.order (c.start + c.period) in
         (omega arith, record { ranges = r; element = omega arith; heap = omega arith })))
         (λ t. (omega arith, tt)))
@@ -193,7 +193,7 @@ module _ (bytes : List ℕ) (limit : ℕ) where
       let m = measure bytes limit (Products p) in
       let l = a.element in
       let h = a.heap in
-      let s = a.ranges.start.0 in
+      let s = a.ranges.start in
       let t = a.ranges.period.0 in
       let k = some_rest c.order p.element (c.start + c.period) p.heap l h in
       by_test (Below bytes limit m) (not (is_in_order c p.element p.heap)) (Ended Order)

@@ -28,14 +28,14 @@ pub but_first : (rows places : ℕ) → rest rows 0 places 1 ≡ rows * places -
 unfolding rest
 but_first rows places = let d : rows - 0 ≡ rows = omega arith in ap (λ m. m * places - 1) d
 
--- (p - 1)(p + 1) + 1 is p²
-pub period_rest : (p : ℕ) → 1 ≤ p → rest p 1 (p + 1) 0 + 1 ≡ p * p
+-- (p - 1)(p + 1) + 1 is p², or 1 where p is 0
+pub period_rest : (p : ℕ) → rest p 1 (p + 1) 0 + 1 ≡ p * p + (1 - p)
 unfolding rest
-period_rest zero l = absurd (omega arith)
-period_rest (suc p) l =
+period_rest zero = omega arith
+period_rest (suc p) =
     let d : suc p - 1 ≡ p = omega arith in
     let e : p * (suc p + 1) + 1 ≡ suc p * suc p = grind arith in
-    subst (λ m. m * (suc p + 1) - 0 + 1 ≡ suc p * suc p) (sym d) (omega arith)
+    subst (λ m. m * (suc p + 1) - 0 + 1 ≡ suc p * suc p + (1 - suc p)) (sym d) (omega arith)
 
 -- twice the pairs of n elements are n² at most
 with_length : (x y n : ℕ) → length (pairs_with x y n) ≡ n

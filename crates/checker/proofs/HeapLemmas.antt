@@ -1,14 +1,15 @@
 -- The pairs of the heaps, and what a closure of them says of a certificate.
-use Rattle.std.proofs.Common.{◌≡◌, ℕ, ◌<◌, List, [], ◌∷◌, length, get_or, Contains, refl, sym, ◌∙◌, ap, subst, arith}
+use Rattle.std.proofs.Common.{◌≡◌, ℕ, ◌-◌, ◌<◌, List, length, get_or, Contains, refl, sym, ◌∙◌, ap, subst, arith}
 use Rattle.std.specs.List.{All}
 use Rattle.std.specs.FinSet as set
 use Rattle.std.specs.Ordering.{nat_cmp}
 use Rattle.std.proofs.lemmas.List.{get_or-map, length-map}
-use Rattle.misere_theory.specs.Games.{IsHeap, IsHeapUpTo, IsPosition}
+use Rattle.misere_theory.specs.Games.{IsHeapUpTo, IsPosition}
 use Rattle.misere_theory.specs.Quotients.{ReachesMoreThan, RuleFails}
 use Rattle.misere_theory.specs.Pairs.{KeptObey, IsClosed}
-use Rattle.misere_theory.specs.Certificates.{Certificate, claim_of}
+use Rattle.misere_theory.specs.Certificates.{Certificate, kind_of, IsHeapOf, claim_of}
 use Rattle.misere_theory.proofs.Written.{phi_in}
+use Rattle.misere_theory.proofs.Counting.{bound_counts, position_where, reaches_where}
 use Rattle.monoid_table.specs.Grids.{Grid}
 use Rattle.transition_algebra.specs.Heaps.{Agrees, AreAllHeapPairs, IsHeapPairs}
 use Rattle.transition_algebra.specs.Pairs.{IsPair}
@@ -24,6 +25,10 @@ use Rattle.checker.specs.Rules.{Obeys, Breaks, HeldObey}
 use Rattle.checker.specs.Closings.{HavePairs, IsClosing, IsCovered, bound_of}
 use Rattle.checker.proofs.Rows.{rows_of-entry}
 use Rattle.checker.proofs.RuleLemmas.{breach_fails}
+
+-- the heaps up to the bound count
+pub up_to_bound : (c : Certificate) (n : ℕ) → IsHeapUpTo (bound_of c) n → IsHeapOf c n
+up_to_bound c = bound_counts (kind_of c) c.code (length c.code - 1) c.start c.period
 
 grid : Pieces → Grid
 grid p = record { order = p.order; entries = p.rows }
@@ -100,10 +105,18 @@ module _ (p : Pieces) where
           (λ h. IsClaimOver p.code (claim_of (certificate_of p))
           (record { order = p.order; entries = p.rows }) h) (sym heaps_is) claim_over)
 
+      pub length_bound : length t.heaps ≡ bound_of (certificate_of p)
+      length_bound = ap length heaps_is ∙ is.exact.exact.length_is
+
       -- over the limit there are more pairs of positions than it
       pub over_reaches : IsExceeded t
-          → ReachesMoreThan IsHeap p.code (claim_of (certificate_of p)) t.limit
-      over_reaches more = more p.code (claim_of (certificate_of p)) over_state
+          → ReachesMoreThan (IsHeapOf (certificate_of p)) p.code (claim_of (certificate_of p)) t.limit
+      over_reaches more =
+          let c = certificate_of p in
+          reaches_where (IsHeapUpTo (bound_of c)) (IsHeapOf c) (up_to_bound c) p.code (claim_of c)
+          t.limit
+          (subst (λ b. ReachesMoreThan (IsHeapUpTo b) p.code (claim_of c) t.limit) length_bound
+          (more p.code (claim_of c) over_state))
 
       -- a member that breaks the rule shows a position
       pub member_fails : (m : Held) (X : List ℕ) → IsWordOf t m X → Breaks inside m.pair
@@ -111,9 +124,6 @@ module _ (p : Pieces) where
       member_fails m X w b =
           breach_fails inside m.pair p.code (claim_of (certificate_of p)) X is.sheet.portion
           (w.exact p.code (claim_of (certificate_of p)) over_state) b
-
-      length_bound : length t.heaps ≡ bound_of (certificate_of p)
-      length_bound = ap length heaps_is ∙ is.exact.exact.length_is
 
       -- members that all obey the rule cover every position
       pub members_cover : IsClosedOver t → HeldObey inside t.held → IsCovered (certificate_of p)
@@ -125,7 +135,7 @@ module _ (p : Pieces) where
         obey = obeying (certificate_of p) inside is.sheet.portion t all;
       }
 
--- positions of the heaps up to some size are positions
-pub position_within : (n : ℕ) (X : List ℕ) → IsPosition (IsHeapUpTo n) X → IsPosition IsHeap X
-position_within n [] p = tt
-position_within n (x ∷ X) p = (p.0.0, position_within n X p.1)
+-- positions of the heaps up to the bound are positions of the certificate's game
+pub position_within : (c : Certificate) (X : List ℕ) → IsPosition (IsHeapUpTo (bound_of c)) X
+    → IsPosition (IsHeapOf c) X
+position_within c = position_where (IsHeapUpTo (bound_of c)) (IsHeapOf c) (up_to_bound c)

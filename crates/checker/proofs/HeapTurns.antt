@@ -10,6 +10,7 @@ use Rattle.certificate.specs.Pieces.{grid_of, pretending_of}
 use Rattle.checker.specs.Turns.{stage_of, Runs, heaps_at, heaps_turn, elements_at}
 use Rattle.checker.specs.Turns as check
 use Rattle.checker.specs.Turns.Phase.{Heaps, Elements}
+use Rattle.checker.proofs.UnitLemmas.{bound_some}
 use Rattle.checker.proofs.ElementTurns.{elements_in}
 use Rattle.monoid_table.specs.Grids.{Grid}
 use Rattle.std.proofs.lemmas.List.FromFn.{length-map-range_with_len}
@@ -63,7 +64,7 @@ first_cost : (code : List ℕ) (phi : Pretending) (b : ℕ)
 first_cost code phi b = let e =
     sum_by-cons (λ n. length (tries code phi n) + 1) 1 (range_with_len 2 b) in omega arith
 
-pub some_cost : (code : List ℕ) (phi : Pretending) → 1 ≤ phi.start → 0 < heap_cost code phi
+pub some_cost : (code : List ℕ) (phi : Pretending) → 1 ≤ bound_of code phi → 0 < heap_cost code phi
 unfolding heap_cost
 some_cost code phi l =
     let d : suc (bound_of code phi - 1) ≡ bound_of code phi = omega arith in
@@ -72,9 +73,9 @@ some_cost code phi l =
 
 pub heaps_begin : (limit : ℕ) (c : Certificate) → InRanges c
     → heaps_at limit c 0 ≡ Heaps (record { certificate = c; spent = 0 })
-heaps_begin limit c r = heaps_in limit c 0 (some_cost c.code (pretending_of c) r.start.0)
+heaps_begin limit c r = heaps_in limit c 0 (some_cost c.code (pretending_of c) (bound_some c r))
 
-some_heaps : (code : List ℕ) (table : Grid) (phi : Pretending) → 1 ≤ phi.start
+some_heaps : (code : List ℕ) (table : Grid) (phi : Pretending) → 1 ≤ bound_of code phi
     → 0 < length (all_heap_pairs code table phi)
 some_heaps code table phi l = let e =
     length-map-range_with_len (heap_pair code table phi) 1 (bound_of code phi) in omega arith
@@ -93,4 +94,4 @@ pub heaps_end : (limit : ℕ) (c : Certificate) (n : ℕ) → InRanges c
 heaps_end limit c n r l =
     heaps_out limit c n l
     ∙ elements_in limit c (all_heap_pairs c.code (grid_of c) (pretending_of c)) 0 0
-    (some_heaps c.code (grid_of c) (pretending_of c) r.start.0)
+    (some_heaps c.code (grid_of c) (pretending_of c) (bound_some c r))

@@ -197,7 +197,7 @@ module _ (n : ℕ) (c : Certificate) (r : InRanges c) where
       by_test (IsPaid n) (nat_lt f c.order)
       (Products (record { certificate = c; element = f; heap = 1 }))
       (Periods (record { certificate = c; shift = 1; count = 0 })) (λ e. l)
-      (λ e. (let a = ltb-false _ _ e in let s = r.start.0 in
+      (λ e. (let a = ltb-false _ _ e in let s = r.start in
       rows_paid (triples c.order) c.order (c.start + c.period) f n (omega arith)
       (omega (arith, a)) l))
 

@@ -4,11 +4,11 @@ use native.Mathlib.Decide.{dec_lt}
 use Rattle.misere_theory.specs.Certificates.{Certificate, InRanges, phi_at}
 use Rattle.misere_theory.specs.Faults.{PeriodFault}
 use Rattle.checker.specs.Progress.{PeriodsSoFar}
-use Rattle.misere_theory.proofs.Written.{periodic}
+use Rattle.misere_theory.proofs.Written.{repeats}
 
 module _ (c : Certificate) where
   -- a period that serves for one round from the start on serves for ever
-  module _ (r : InRanges c) (s : ℕ) (once : (j : ℕ) → j < c.period
+  module _ (r : InRanges c) (p : 1 ≤ c.period) (s : ℕ) (once : (j : ℕ) → j < c.period
       → phi_at c (s + (c.start + j)) ≡ phi_at c (c.start + j)) where
     serves_within : (t n : ℕ) → n < t → c.start ≤ n → phi_at c (s + n) ≡ phi_at c n
     serves_within zero n h l = absurd (omega arith)
@@ -17,8 +17,7 @@ module _ (c : Certificate) where
           let d : c.start + (n - c.start) ≡ n = omega arith in
           subst (λ m. phi_at c (s + m) ≡ phi_at c m) d (once (n - c.start) (omega arith))
       | no f ↦
-          let again = (periodic c r).repeats in
-          let p = r.period.0 in
+          let again = repeats c r p in
           let d : c.period + (n - c.period) ≡ n = omega arith in
           let e : c.period + (s + (n - c.period)) ≡ s + n = omega arith in
           let i = serves_within t (n - c.period) (omega arith) (omega arith) in
@@ -46,7 +45,7 @@ module _ (c : Certificate) where
     from_one = p.from_one;
     within = p.within;
     shorter = p.shorter;
-    short = l;
+    short = omega arith;
     same = same_on r i p e;
   }
 
@@ -55,7 +54,7 @@ module _ (c : Certificate) where
       → phi_at c (r + (c.start + i)) ≡ phi_at c (c.start + i) → i + 1 ≡ c.period → r < c.period
       → PeriodFault c
   serves_round ranges r i p e l b =
-      inl (r, p.from_one, b, serves ranges r (λ j h. same_on r i p e j (omega arith)))
+      inl (r, p.from_one, b, serves ranges (omega arith) r (λ j h. same_on r i p e j (omega arith)))
 
   -- the entry doesn't come again
   pub shift_turn : (r i : ℕ) → PeriodsSoFar c r i
@@ -76,8 +75,9 @@ module _ (c : Certificate) where
   }
 
   -- all smaller periods were tried, and the start
-  pub periods_end : (r i : ℕ) → PeriodsSoFar c r i → r ≡ c.period
-      → ((1 < c.start) × (phi_at c (c.period + (c.start - 1)) ≡ phi_at c (c.start - 1)) → ⊥)
+  pub periods_end : (r i : ℕ) → PeriodsSoFar c r i → c.period ≤ r
+      → ((1 ≤ c.period) × (1 < c.start)
+      × (phi_at c (c.period + (c.start - 1)) ≡ phi_at c (c.start - 1)) → ⊥)
       → PeriodFault c → ⊥
   periods_end r i p e n (inl (s, o, b, all)) = let (m, l, d) = p.shorter s o (omega arith) in
       d (all m l)

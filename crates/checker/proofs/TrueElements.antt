@@ -3,10 +3,10 @@ use Rattle.std.proofs.Common.{◌≡◌, ℕ, zero, suc, ◌+◌, ◌<◌, ◌�
 use Rattle.std.specs.FinSet as set
 use Rattle.std.proofs.lemmas.List.Elements.{All-get_or}
 use native.Mathlib.Decide.{dec_lt}
-use Rattle.misere_theory.specs.Games.{IsHeap, IsPosition}
+use Rattle.misere_theory.specs.Games.{IsPosition}
 use Rattle.misere_theory.specs.Quotients.{value, HeapOptionValue, Monoid}
-use Rattle.misere_theory.specs.Certificates.{Certificate, InRanges, Canonical, claim_of, times_of, phi_at, key_of}
-use Rattle.misere_theory.proofs.Written.{phi_in}
+use Rattle.misere_theory.specs.Certificates.{IsHeapOf, Certificate, InRanges, Canonical, claim_of, times_of, phi_at, key_of}
+use Rattle.misere_theory.proofs.Written.{phi_in, key_counts}
 use Rattle.misere_theory.proofs.Shuffles.{Shuffled}
 use Rattle.misere_theory.proofs.Shuffles.Shuffled.{Same, Under, Flip, Then}
 use Rattle.transition_algebra.specs.declared.pair.Pair.{Pair}
@@ -67,16 +67,16 @@ first_none has a (suc n) l x u w = none_by has a n (has a) refl (first_none has 
 -- the keys of an element spell a position that has its value
 module _ (c : Certificate) (r : InRanges c) (m : Monoid c.order (times_of c)) (k : Canonical c)
   where
-    spell_none : (n e : ℕ) → 0 ≡ e → IsPosition IsHeap (keys_from c n e)
+    spell_none : (n e : ℕ) → 0 ≡ e → IsPosition (IsHeapOf c) (keys_from c n e)
         × (value (claim_of c) (keys_from c n e) ≡ e)
     spell_none n e d =
-        subst (λ v. IsPosition IsHeap (keys_from c n v)
+        subst (λ v. IsPosition (IsHeapOf c) (keys_from c n v)
         × (value (claim_of c) (keys_from c n v) ≡ v))
         d
-        (subst (λ X. IsPosition IsHeap X × (value (claim_of c) X ≡ 0)) (sym (keys_none c n))
+        (subst (λ X. IsPosition (IsHeapOf c) X × (value (claim_of c) X ≡ 0)) (sym (keys_none c n))
         (tt, refl))
 
-    pub keys_spell : (n e : ℕ) → e ≤ n → e < c.order → IsPosition IsHeap (keys_from c n e)
+    pub keys_spell : (n e : ℕ) → e ≤ n → e < c.order → IsPosition (IsHeapOf c) (keys_from c n e)
         × (value (claim_of c) (keys_from c n e) ≡ e)
     keys_spell zero e l b = spell_none zero e (omega arith)
     keys_spell (suc n) e l b = elim (dec_lt 0 e) [
@@ -86,11 +86,11 @@ module _ (c : Certificate) (r : InRanges c) (m : Monoid c.order (times_of c)) (k
           let h = (key_of c e).1 in
           let up = k.numbered.parent e p b in
           let (x, v) = keys_spell n f (omega arith) (omega arith) in
-          let heap = (k.numbered.heap e p b).0 in
+          let heap = key_counts c r e k.numbered p b in
           let is : value (claim_of c) (h ∷ keys_from c n f) ≡ e =
           ap (times_of c (phi_at c h)) v
           ∙ (m.commutes (phi_at c h) f (phi_in c r h) (omega arith) ∙ k.numbered.product e p b) in
-          subst (λ X. IsPosition IsHeap X × (value (claim_of c) X ≡ e)) (sym (keys_some c n e p))
+          subst (λ X. IsPosition (IsHeapOf c) X × (value (claim_of c) X ≡ e)) (sym (keys_some c n e p))
           ((heap, x), is)
     ]
 

@@ -4,12 +4,13 @@ use Rattle.std.specs.List.{All, concat, list_any}
 use Rattle.std.specs.FinSet as set
 use Rattle.std.specs.Ordering.{nat_cmp}
 use Rattle.std.proofs.lemmas.List.Elements.{Contains-get_or}
-use Rattle.misere_theory.specs.Games.{IsHeap, IsHeapUpTo}
+use Rattle.misere_theory.specs.Games.{IsHeapUpTo, IsPosition}
 use Rattle.misere_theory.specs.Quotients.{ReachesMoreThan, Monoid}
 use Rattle.misere_theory.specs.Pairs.{IsClosed, KeptObey, ElementsObey}
 use Rattle.misere_theory.specs.Pairs as theory
-use Rattle.misere_theory.specs.Certificates.{Certificate, InRanges, Canonical, Accepted, claim_of, times_of}
+use Rattle.misere_theory.specs.Certificates.{Certificate, IsHeapOf, InRanges, Canonical, Accepted, claim_of, times_of}
 use Rattle.misere_theory.proofs.Written.{phi_in}
+use Rattle.misere_theory.proofs.Counting.{reaches_where}
 use Rattle.misere_theory.proofs.Shuffles.{to_permutation, position_shuffled}
 use Rattle.monoid_table.specs.Grids.{Grid, IsShaped, entry}
 use Rattle.monoid_table.specs.Tables.{IsTableGrid}
@@ -37,7 +38,7 @@ use Rattle.checker.proofs.StageLemmas.{fitting_is_true}
 use Rattle.checker.proofs.TableLemmas.{monoid_along}
 use Rattle.checker.proofs.RuleLemmas.{inside_some, inside_none, outside_none, outside_leads, outside_stays, breach_fails}
 use Rattle.checker.proofs.SpellLemmas.{fails_along, element_fails}
-use Rattle.checker.proofs.HeapLemmas.{obeying, position_within}
+use Rattle.checker.proofs.HeapLemmas.{obeying, up_to_bound, position_within}
 use Rattle.checker.proofs.AnyLemmas.{any_of, any_in}
 use Rattle.checker.proofs.TrueTests.{opposite, both, less_is, not_less, same_is, not_same, not_true, not_false}
 use Rattle.checker.proofs.TruePhases.{LooksSoFar, IsSpelled, IsClosure, AreHeaps, AreElements, AreClosing, IsRight}
@@ -200,10 +201,13 @@ module _ (bytes : List ℕ) (limit : ℕ) where
       let f = leads c r v.pairs v.heap v.option e l y (first_has has 0 c.order (omega arith)) in
       let s = shuffled_rising ((v.heap + 1) ∷ K) in
       let X = rising ((v.heap + 1) ∷ K) in
+      let heap =
+      up_to_bound c (v.heap + 1)
+      (omega arith, (let n = e.exact.exact.length_is in omega arith)) in
       let fails =
-      element_fails c a.is.lawful (v.heap + 1) y K X (omega arith) f x is (to_permutation s) in
+      element_fails c a.is.lawful (v.heap + 1) y K X heap f x is (to_permutation s) in
       faulty c a.is (Outcome c.code X)
-      (refl, (m, a.canonical, position_shuffled IsHeap s (omega arith, x), fails)) (λ q. cc))
+      (refl, (m, a.canonical, position_shuffled (IsHeapOf c) s (heap, x), fails)) (λ q. cc))
       (λ t. let n = not_less y c.order t in
       let o =
       obeyed c r v.pairs v.heap v.option e l
@@ -277,13 +281,15 @@ module _ (bytes : List ℕ) (limit : ℕ) where
         let fails =
         breach_fails inside m.pair c.code (claim_of c) W portion pair
         (rule_breaks c inside portion m.pair f) in
-        let place = position_within _ W (says.positions m.place at.0) in
+        let place =
+        position_within c W
+        (subst (λ b. IsPosition (IsHeapUpTo b) W) count (says.positions m.place at.0)) in
         let s = shuffled_rising W in (
           refl,
           (
             is.lawful.monoid,
             canonical,
-            position_shuffled IsHeap s place,
+            position_shuffled (IsHeapOf c) s place,
             fails_along c is.lawful W (rising W) (to_permutation s) place fails,
           ),
         )
@@ -316,8 +322,11 @@ module _ (bytes : List ℕ) (limit : ℕ) where
         (λ o. faulty c is Limit (
           is.lawful.monoid,
           canonical,
-          subst (ReachesMoreThan IsHeap c.code (claim_of c))
-              same.limit (says.over o),
+          subst (ReachesMoreThan (IsHeapOf c) c.code (claim_of c)) same.limit
+              (reaches_where (IsHeapUpTo (bound_of c)) (IsHeapOf c) (up_to_bound c) c.code
+              (claim_of c) t.limit
+              (subst (λ b. ReachesMoreThan (IsHeapUpTo b) c.code (claim_of c) t.limit) count
+              (says.over o))),
         ) (λ d. cc))
         (λ _. by_test (IsRight bytes limit) (closing.is_done t) (Ended (Yes c))
         (Closing (record { certificate = c; closure = q }))

@@ -67,7 +67,7 @@ module _ (bytes : List ℕ) (limit : ℕ) where
         (Products (record { certificate = c; element = 0; heap = 1 })) (Ended Order)
         (λ t. let keys = keys_end c n (subst (KeysSoFar c n) t k) l in let o =
         is.lawful.in_ranges.order.0 in let p = is.lawful.in_ranges.period.0 in let s =
-        is.lawful.in_ranges.start.0 in record {
+        is.lawful.in_ranges.start in record {
           is = is;
           so_far = record {
             keys = keys;
@@ -203,7 +203,8 @@ module _ (bytes : List ℕ) (limit : ℕ) where
       let c = p.certificate in
       let s = a.so_far in
       let r = a.is.lawful.in_ranges in
-      let o = r.start.0 in
+      let o = r.start in
+      let one = s.from_one in
       let w = s.within in
       let b = s.short in
       by_test (IsRight bytes limit) (nat_lt p.shift c.period)
@@ -220,9 +221,9 @@ module _ (bytes : List ℕ) (limit : ℕ) where
       (λ d. record {
         is = a.is;
         so_far = shift_turn c p.shift p.count s
-            (not_again c (c.start + p.count) p.shift (not_true _ d) (omega arith)) l;
+            (not_again c (c.start + p.count) p.shift (not_true _ d) (omega arith) (omega arith)) l;
       })
-      (λ d. let k = (again_is c (c.start + p.count) p.shift (not_false _ d)).1 in
+      (λ d. let k = (again_is c (c.start + p.count) p.shift (not_false _ d)).2 in
       by_test (IsRight bytes limit) (p.count + 1 == c.period) (Ended Period)
       (Periods (record { certificate = c; shift = p.shift; count = p.count + 1 }))
       (λ f. faulty bytes limit c a.is Period
@@ -234,11 +235,11 @@ module _ (bytes : List ℕ) (limit : ℕ) where
       by_test (IsRight bytes limit) (comes_again c (c.start - 1) c.period) (Ended Period)
       (separating_at limit c 0 1 0 0)
       (λ d. let k = again_is c (c.start - 1) c.period d in let i = k.0 in
-      faulty bytes limit c a.is Period (inr (omega arith, k.1), s.free) (λ q. cc))
+      faulty bytes limit c a.is Period (inr (k.1, omega arith, k.2), s.free) (λ q. cc))
       (λ d. let free =
       none_below_apart c s.free
-      (periods_end c p.shift p.count s (omega arith) (λ k. let i = k.0 in
-      not_again c (c.start - 1) c.period d (omega arith) k.1)) in
+      (periods_end c p.shift p.count s (omega arith) (λ k. let i = k.1 in
+      not_again c (c.start - 1) c.period d (omega arith) k.0 k.2)) in
       separating_at-right c a.is known 0 1 0 0 (apart_start c r free)))
 
   laws_at-right : TablesCost → (c : Certificate) → Spells bytes c → InRanges c

@@ -106,17 +106,20 @@ module _ (c : Certificate) where
       ]
 
   pub again_is : (heap shift : ℕ) → comes_again c heap shift ≡ true
-      → (0 < heap) × (phi_at c (shift + heap) ≡ phi_at c heap)
+      → (0 < heap) × (0 < shift) × (phi_at c (shift + heap) ≡ phi_at c heap)
   again_is heap shift t =
-      let (a, b) = both (nat_lt 0 heap) (phi_at c (shift + heap) == phi_at c heap) t in
-      (less_is 0 heap a, same_is (phi_at c (shift + heap)) (phi_at c heap) b)
+      let (a, q) =
+      both (nat_lt 0 heap) (nat_lt 0 shift && (phi_at c (shift + heap) == phi_at c heap)) t in
+      let (d, b) = both (nat_lt 0 shift) (phi_at c (shift + heap) == phi_at c heap) q in
+      (less_is 0 heap a, less_is 0 shift d, same_is (phi_at c (shift + heap)) (phi_at c heap) b)
 
-  pub not_again : (heap shift : ℕ) → comes_again c heap shift ≡ false → 0 < heap
+  pub not_again : (heap shift : ℕ) → comes_again c heap shift ≡ false → 0 < heap → 0 < shift
       → phi_at c (shift + heap) ≡ phi_at c heap → ⊥
-  not_again heap shift f p d =
+  not_again heap shift f p q d =
       let a : nat_lt 0 heap ≡ true = grind (arith, tests) in
+      let g : nat_lt 0 shift ≡ true = grind (arith, tests) in
       let b : (phi_at c (shift + heap) == phi_at c heap) ≡ true = grind (arith, tests) in
-      let t : comes_again c heap shift ≡ true = rw (a, b) refl in
+      let t : comes_again c heap shift ≡ true = rw (a, g, b) refl in
       opposite t f
 
 differ : (a b : Bool) → (if a then not b else b) ≡ true → a ≢ b

@@ -1,12 +1,17 @@
 -- Units that are left.
-use Rattle.std.proofs.Common.{◌≡◌, Ok, Err, List, [], ◌∷◌, length, length-append, ◌≢◌, ◌==◌, ◌||◌, eq-eqb, ℕ, suc, zero, ◌+◌, ◌-◌, ◌*◌, ◌<◌, ◌≤◌, Bool, true, false, not, refl, arith, if◌then◌else◌}
+use Rattle.std.proofs.Common.{◌≡◌, Ok, Err, List, [], ◌∷◌, length, length-append, ◌≢◌, ◌==◌, ◌||◌, eq-eqb, ℕ, suc, zero, ◌+◌, ◌-◌, ◌*◌, ◌<◌, ◌≤◌, Bool, true, false, not, refl, arith, inl, inr, eq-zero-or-pos, if◌then◌else◌}
 use Rattle.std.proofs.lemmas.Nat.{mul-le}
 use Rattle.monoid_table.specs.Turns.{JobState, triples, turn, turns, is_over, triple_holds}
 use Rattle.monoid_table.specs.Faults.{answer_of}
 use Rattle.monoid_table.specs.declared.fault.LawFault.TheVariants.{Law}
-use Rattle.misere_theory.specs.Games.{IsOctalCode}
-use Rattle.misere_theory.specs.Certificates.{Certificate, InRanges, pairs_with, pairs_from}
-use Rattle.checker.specs.Closings.{bound_of}
+use Rattle.misere_theory.specs.Games.{leaves_three, IsCode}
+use Rattle.misere_theory.specs.Pairs.{heap_bound}
+use Rattle.misere_theory.proofs.Bound.{bound_with, bound_without}
+use Rattle.misere_theory.proofs.Rules.{true_or_false}
+use Rattle.misere_theory.specs.Certificates.{Certificate, kind_of, InRanges, pairs_with, pairs_from}
+use Rattle.misere_theory.proofs.Counting.{bound_whole, bound_part, kind_partial}
+use Rattle.misere_theory.proofs.Written.{is_partial}
+use Rattle.checker.specs.Closings.{bound_of, heaps_most}
 use Rattle.checker.specs.Units.{rest}
 
 -- places of some rows, at least one
@@ -94,9 +99,60 @@ some_from x (suc n) l =
 pub some_pairs : (c : Certificate) → InRanges c → 0 < length c.apart
 some_pairs c r = let h = some_from 0 c.order r.order.0 in let e = r.apart.0 in omega arith
 
-pub code_short : (code : List ℕ) → IsOctalCode code → length code ≤ 17
+pub code_short : (code : List ℕ) → IsCode code → length code ≤ 17
 code_short [] h = absurd h
 code_short (d ∷ ds) h = let l = h.2 in omega arith
 
-pub bound_few : (c : Certificate) → InRanges c → bound_of c ≤ 2066
-bound_few c r = let l = code_short c.code r.code in let s = r.period.2 in omega arith
+heap_bound_range : (code : List ℕ) (k start period : ℕ)
+    → (start ≤ heap_bound code k start period)
+    × (heap_bound code k start period ≤ 3 * (start + period) + k)
+heap_bound_range code k start period = elim (true_or_false (leaves_three code)) [
+  | inl e ↦ let b = bound_with code k start period e in (omega arith, omega arith)
+  | inr e ↦ let b = bound_without code k start period e in (omega arith, omega arith)
+]
+
+bound_range : (c : Certificate) → InRanges c → (1 ≤ bound_of c)
+    × (bound_of c ≤ 3 * (c.start + c.period) + (length c.code - 1))
+bound_range c r = elim (eq-zero-or-pos (kind_of c)) [
+  | inl z ↦
+      let e = bound_whole (kind_of c) c.code (length c.code - 1) c.start c.period z in
+      let s = r.start in
+      let w = heap_bound_range c.code (length c.code - 1) c.start c.period in
+      (let l = w.0 in omega arith, let l = w.1 in omega arith)
+  | inr some ↦
+      let e = bound_part (kind_of c) c.code (length c.code - 1) c.start c.period some in
+      let k = kind_partial c.start c.period (is_partial c r some) in
+      (omega arith, omega arith)
+]
+
+-- some heap is looked at
+pub bound_some : (c : Certificate) → InRanges c → 1 ≤ bound_of c
+bound_some c r = (bound_range c r).0
+
+pub bound_few : (c : Certificate) → InRanges c → bound_of c ≤ 3091
+bound_few c r = let l = code_short c.code r.code in let s = r.period.1 in
+    let b = (bound_range c r).1 in omega arith
+
+cube_few : (k b : ℕ) → k ≤ 17 → b ≤ 3091 → k * (b * (b * b)) ≤ 502048803707
+cube_few k b l m =
+    let b2 = mul-le b b 3091 3091 m m in
+    let b3 = mul-le b (b * b) 3091 9554281 m (omega arith) in
+    let k3 = mul-le k (b * (b * b)) 17 29532282571 l (omega arith) in
+    omega arith
+
+square_few : (k b : ℕ) → k ≤ 17 → b ≤ 3091 → k * (b * b) ≤ 502048803707
+square_few k b l m =
+    let b2 = mul-le b b 3091 3091 m m in
+    let k2 = mul-le k (b * b) 17 9554281 l (omega arith) in
+    omega arith
+
+either_few : (three : Bool) (k b : ℕ) → k ≤ 17 → b ≤ 3091
+    → (if three then k * (b * (b * b)) else k * (b * b)) ≤ 502048803707
+either_few true k b l m = cube_few k b l m
+either_few false k b l m = square_few k b l m
+
+-- the pairs of the heaps take few turns
+pub heaps_few : (c : Certificate) → InRanges c → heaps_most c ≤ 502048803707
+heaps_few c r =
+    either_few (leaves_three c.code) (length c.code) (bound_of c) (code_short c.code r.code)
+    (bound_few c r)

@@ -1,7 +1,7 @@
 -- How many turns a check takes at most from where it stands. This project's own.
-use Rattle.std.specs.Prelude.{ℕ, ◌+◌, ◌-◌, ◌*◌, List, length}
+use Rattle.std.specs.Prelude.{ℕ, ◌+◌, ◌-◌, ◌*◌, List}
 use Rattle.misere_theory.specs.Certificates.{Certificate}
-use Rattle.checker.specs.Closings.{bound_of}
+use Rattle.checker.specs.Closings.{bound_of, heaps_most}
 use Rattle.checker.specs.Views.{laws_units, keys_units, products_units, periods_units, separating_units, heaps_units, elements_units}
 use Rattle.checker.specs.Turns.{Phase, bound}
 use Rattle.checker.specs.Turns.Phase.{Reading, Laws, Keys, Products, Periods, Separating, Heaps, Elements, Closing, Ended}
@@ -15,13 +15,13 @@ module _ (limit : ℕ) (c : Certificate) where
   behind_heaps = bound_of c * c.order + closing_most
 
   abbrev pub behind_separating : ℕ
-  behind_separating = length c.code * (bound_of c * bound_of c) + behind_heaps
+  behind_separating = heaps_most c + behind_heaps
 
   abbrev pub behind_periods : ℕ
   behind_periods = c.order * c.order * c.order + behind_separating
 
   abbrev pub behind_products : ℕ
-  behind_products = c.period * c.period + behind_periods
+  behind_products = c.period * c.period + (1 - c.period) + behind_periods
 
   abbrev pub behind_keys : ℕ
   behind_keys = c.order * (c.start + c.period) + behind_products

@@ -1,5 +1,5 @@
 -- What each stage of a check holds while it goes on, in numbers alone.
-use Rattle.std.specs.Prelude.{◌≡◌, ℕ, ◌+◌, ◌<◌, ◌≤◌, false, List, length, slice_index}
+use Rattle.std.specs.Prelude.{◌-◌, ◌≡◌, ℕ, ◌+◌, ◌<◌, ◌≤◌, false, List, length, slice_index}
 use Rattle.misere_theory.specs.Certificates.{InRanges}
 use Rattle.monoid_table.specs.Grids.{Grid}
 use Rattle.monoid_table.specs.Turns.{triples}
@@ -28,8 +28,8 @@ pub record AreProducts (p : ProductsView) : Type 0 where
 
 pub record ArePeriods (p : PeriodsView) : Type 0 where
   pub ranges : InRanges p.certificate
-  pub shift : p.shift ≤ p.certificate.period
-  pub count : p.count < p.certificate.period
+  pub shift : p.shift ≤ p.certificate.period + (1 - p.certificate.period)
+  pub count : p.count < p.certificate.period + (1 - p.certificate.period)
 
 pub record AreSeparating (s : SeparatingView) : Type 0 where
   pub ranges : InRanges s.certificate

@@ -15,7 +15,7 @@ use Rattle.pair_closure.specs.Turns.{State}
 use Rattle.pair_closure.specs.declared.settle.Held.{Held}
 use Rattle.pair_closure.specs.Progress as closure
 use Rattle.pair_closure.specs.Positions.{rising, word}
-use Rattle.checker.specs.Closings.{bound_of}
+use Rattle.checker.specs.Closings.{heaps_most, bound_of}
 use Rattle.answers.specs.Answers.{Answer}
 use Rattle.answers.specs.Answers.Answer.{Yes, Text, Law, Word, Order, Period, Apart, Outcome, Limit, Memory}
 use Rattle.checker.specs.Views.{LawsView, KeysView, ProductsView, PeriodsView, SeparatingView, HeapsView, ElementsView, ClosingView}
@@ -147,8 +147,10 @@ separating_turn limit s =
     else if s.y + 1 == c.order then separating_at limit c (s.x + 1) (s.x + 2) (s.number + 1) 0
     else separating_at limit c s.x (s.y + 1) (s.number + 1) 0
 
+-- an entry comes again only after some heaps
 abbrev pub comes_again : Certificate → ℕ → ℕ → Bool
-comes_again c heap shift = nat_lt 0 heap && (phi_at c (shift + heap) == phi_at c heap)
+comes_again c heap shift =
+    nat_lt 0 heap && (nat_lt 0 shift && (phi_at c (shift + heap) == phi_at c heap))
 
 -- the last turn asks whether the period serves from an earlier start on
 unfoldable pub periods_turn : ℕ → PeriodsView → Phase
@@ -241,13 +243,13 @@ module _ (bytes : List ℕ) (limit : ℕ) where
   turns_left zero p = 0
   turns_left (suc most) p = if is_ended p then 0 else turns_left most (turn p) + 1
 
-  -- No check takes more turns: 2q³ + q² + q(n0 + p) + p² + (k + 1)B² + Bq² + B·limit + 16
+  -- No check takes more turns: 2q³ + q² + q(n0 + p) + p² + (k + 1)B² + Bq² + B·limit + 16, with
+  -- (k + 1)B³ for (k + 1)B² where some digit of the code has bit 8
   abbrev pub most_turns : Certificate → ℕ
   most_turns c =
       2 * (c.order * c.order * c.order) + c.order * c.order + c.order * (c.start + c.period)
       + c.period * c.period
-      + length c.code * (bound_of c * bound_of c) + bound_of c * (c.order * c.order) + bound_of c
-      * limit + 16
+      + heaps_most c + bound_of c * (c.order * c.order) + bound_of c * limit + 16
 
   abbrev pub bound_read : Option (Certificate × List ℕ) → ℕ
   bound_read None = 16

@@ -1,9 +1,9 @@
 //! The stage that looks at the options of values inside the portion.
 ghost use Rattle.std.specs.Prelude.{◌≡◌, ◌<◌, ◌≤◌, ◌^◌, ◌+◌, ◌*◌, ◌∷◌, ℕ, List, length, IfOk, IfSome, IfNone, true, false, slice_index_or};
 ghost use Rattle.std.specs.FinSet as set;
-ghost use Rattle.misere_theory.specs.Games.{IsHeap, IsPosition};
+ghost use Rattle.misere_theory.specs.Games.{IsPosition};
 ghost use Rattle.misere_theory.specs.Quotients.{RuleFails};
-ghost use Rattle.misere_theory.specs.Certificates.{Canonical, claim_of, times_of};
+ghost use Rattle.misere_theory.specs.Certificates.{IsHeapOf, Canonical, claim_of, times_of};
 ghost use Rattle.checker.specs.Closings.{HavePairs, AreContexts, LeadsIn};
 ghost use Rattle.answers.specs.Answers.Answer.{Outcome};
 ghost use Rattle.pair_closure.specs.Positions.{rising};
@@ -37,7 +37,7 @@ pub struct Elements<A: Room = Global> {
 }
 
 impl<A: Room> Model for Elements<A> {
-    ghost use Rattle.misere_theory.specs.Games.{IsHeap, IsPosition};
+    ghost use Rattle.misere_theory.specs.Games.{IsPosition};
     ghost use Rattle.misere_theory.specs.Quotients.{RuleFails};
     ghost use Rattle.std.specs.Prelude.{◌<◌, length};
     ghost use Rattle.checker.specs.Views.{ElementsView};
@@ -115,10 +115,10 @@ fn position_with<A: Room + Copy>(
     y: u16,
 ) -> Result<Position<A>, Memory>
     requires canonical { Canonical sheet.now }
-    requires heap { (1 ≤ heap) × (heap < 2 ^ 16) }
+    requires heap { IsHeapOf sheet.now heap × (heap < 2 ^ 16) }
     requires element { y < sheet.now.order }
     requires breach { LeadsIn sheet.now heap y }
-    ensures position { IfOk result (IsPosition IsHeap) }
+    ensures position { IfOk result (IsPosition (IsHeapOf sheet.now)) }
     ensures fails { IfOk result (RuleFails sheet.now.code (claim_of sheet.now)) }
     ensures exact { IfOk result (λ X. X ≡ rising (heap ∷ keys_from sheet.now sheet.now.order y)) }
 {
@@ -132,7 +132,7 @@ fn position_with<A: Room + Copy>(
 /// The rule fails at a position.
 fn rule_fails<A: Room>(sheet: Sheet<A>, position: Position<A>) -> Result<Stage<A>, Refusal<A>>
     requires canonical { Canonical sheet }
-    requires position { IsPosition IsHeap position }
+    requires position { IsPosition (IsHeapOf sheet) position }
     requires fails { RuleFails sheet.code (claim_of sheet) position }
     ensures carries { (limit : ℕ) → Carries sheet limit (reached result) }
     ensures shown { phase_of (reached result) ≡ AtEnded (Outcome sheet.code position) }

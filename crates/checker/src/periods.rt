@@ -38,12 +38,13 @@ impl<A: Room> Model for Periods<A> {
 
 /// Whether the entry comes again after the shift.
 fn comes_again<A: Room>(sheet: &Sheet<A>, heap: u16, shift: u16) -> bool
+    requires within { shift ≤ sheet.now.period }
     ensures again { IsTrue result
-        ↔ ((1 ≤ heap) × (phi_at sheet.now (shift + heap) ≡ phi_at sheet.now heap)) }
+        ↔ ((1 ≤ heap) × (1 ≤ shift) × (phi_at sheet.now (shift + heap) ≡ phi_at sheet.now heap)) }
     ensures same { result ≡ comes_again sheet.now heap shift }
 {
     let n = heap as u64;
-    n > 0 && sheet.phi(shift as u64 + n) == sheet.phi(n)
+    n > 0 && shift > 0 && sheet.phi(shift as u64 + n) == sheet.phi(n)
 }
 
 impl<A: Room + Copy> Periods<A> {

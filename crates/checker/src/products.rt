@@ -49,6 +49,7 @@ fn is_in_order<A: Room>(sheet: &Sheet<A>, element: u16, heap: u16) -> bool
     ensures fault { IsTrue result ⊎ OrderFault sheet.now }
     ensures same { result ≡ is_in_order sheet.now element heap }
 {
+    sheets_are_lawful(sheet);
     let product = sheet.times(element, sheet.phi(heap as u64));
     product == 0 || !is_below(Key { element, heap }, sheet.key(product))
 }

@@ -1,6 +1,6 @@
 //! A certificate under test.
 ghost use Rattle.std.specs.Prelude.{◌≡◌, ◌+◌, ◌-◌, ◌<◌, ◌≤◌, length, slice_index};
-ghost use Rattle.misere_theory.specs.Certificates.{times_of, phi_at, key_of, claim_of};
+ghost use Rattle.misere_theory.specs.Certificates.{IsHeapOf, times_of, phi_at, key_of, claim_of};
 ghost use Rattle.checker.specs.Sheets.{IsLawful};
 
 use crate::lines::Lines;
@@ -78,7 +78,7 @@ impl<A: Allocator> Sheet<A> {
 
     /// The element of a heap.
     pub fn phi(&self, n: u64) -> u16
-        requires { 1 ≤ n }
+        requires { IsHeapOf self.now n }
         ensures value { result ≡ phi_at self.now n }
         ensures within { result < self.now.order }
     {
@@ -93,6 +93,7 @@ impl<A: Allocator> Sheet<A> {
         ensures element_in { result.0 < self.now.order }
         ensures heap_in { result.1 < self.now.start + self.now.period }
         ensures from_one { 1 ≤ result.1 }
+        ensures counts { IsHeapOf self.now result.1 }
     {
         self.lines.words[e as usize - 1]
     }

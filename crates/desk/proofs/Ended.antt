@@ -1,7 +1,7 @@
 -- A job whose core has ended.
 use Rattle.std.proofs.Common.{◌≡◌, ℕ, List, Option, Some, None, refl, sym, ◌∙◌, ap, subst, get_or, Ok, Err}
 use Rattle.answers.specs.Answers.{Answer, refused}
-use Rattle.answers.specs.Answers.Answer.{Yes, Text, Law, Word, Order, Period, Apart, Outcome, Limit, Memory}
+use Rattle.answers.specs.Answers.Answer.{Yes}
 use Rattle.std.specs.Borrow.{Bor}
 use Rattle.misere_theory.specs.Certificates.{Certificate}
 use Rattle.answers.specs.declared.refusal.Refusal.{Refusal}
@@ -13,7 +13,6 @@ use Rattle.desk.specs.declared.slot.Standing.{Standing}
 use Rattle.desk.specs.declared.slot.Standing.TheVariants.{Ended}
 use Rattle.desk.specs.Slots.{ending, job_of, StandsBeside}
 use Rattle.desk.specs.Machine.{told}
-use Rattle.desk.specs.Machine.Reply.{NotCertified}
 use Rattle.desk.specs.Deeds.{told_of, Certifies, CertifiesBy}
 use Rattle.desk.specs.declared.reply.StepFault.TheVariants as fault
 use Rattle.desk.specs.Desks.{core_at, slot_at, seen, job_in, IsDesk}

@@ -8,3 +8,4 @@ pub mod Filled
 pub mod Free
 pub mod Steps
 pub mod RunLaws
+mod Reached

@@ -26,8 +26,11 @@ told_one code X N P f g = absurd (not_both g f)
 
 outcomes_one : (e : Option Answer) (X : List ℕ) (a b : Reply) → Outcomes e X a → Outcomes e X b
     → a ≡ b
-outcomes_one (Some (Yes c)) X a b f g =
+outcomes_one (Some (Yes c)) X a b (inl (p, f)) (inl (q, g)) =
     f.1 ∙ (ap Tells (told_one c.code X f.0 g.0 f.2 g.2) ∙ sym g.1)
+outcomes_one (Some (Yes c)) X a b (inl (p, f)) (inr g) = absurd (g.1 p)
+outcomes_one (Some (Yes c)) X a b (inr f) (inl (q, g)) = absurd (f.1 q)
+outcomes_one (Some (Yes c)) X a b (inr f) (inr g) = f.2 ∙ sym g.2
 outcomes_one (Some Text) X a b f g = f ∙ sym g
 outcomes_one (Some Law) X a b f g = f ∙ sym g
 outcomes_one (Some Word) X a b f g = f ∙ sym g
@@ -78,8 +81,11 @@ module _ (right_one : (code X : List ℕ) (a b : Advice) → IsRightAnswer code 
     (cost : List ℕ → ℕ → ℕ) (verdict : List ℕ → ℕ → Answer) where
   advices_one : (e : Option Answer) (X : List ℕ) (a b : Reply) → Advices e X a → Advices e X b
       → a ≡ b
-  advices_one (Some (Yes c)) X a b f g =
+  advices_one (Some (Yes c)) X a b (inl (p, f)) (inl (q, g)) =
       f.1 ∙ (ap Advises (right_one c.code X f.0 g.0 f.2 g.2) ∙ sym g.1)
+  advices_one (Some (Yes c)) X a b (inl (p, f)) (inr g) = absurd (g.1 p)
+  advices_one (Some (Yes c)) X a b (inr f) (inl (q, g)) = absurd (f.1 q)
+  advices_one (Some (Yes c)) X a b (inr f) (inr g) = f.2 ∙ sym g.2
   advices_one (Some Text) X a b f g = f ∙ sym g
   advices_one (Some Law) X a b f g = f ∙ sym g
   advices_one (Some Word) X a b f g = f ∙ sym g

@@ -2,6 +2,8 @@
 -- answered. This project's own. A check is known by two functions of its bytes and limit alone:
 -- what it costs, in units, and its verdict.
 use Rattle.std.specs.Prelude.{◌≡◌, ◌≢◌, ◌⊎◌, ℕ, ◌+◌, ◌≤◌, ◌==◌, nat_lt, Bool, true, false, if◌then◌else◌, List, Option, Some, None, min}
+use Rattle.misere_theory.specs.Certificates.{Certificate, IsHeapOf}
+use Rattle.misere_theory.specs.Games.{IsPosition}
 use Rattle.positions.specs.Outcomes.{HasOutcome}
 use Rattle.positions.specs.declared.outcome.Outcome.{Outcome}
 use Rattle.answers.specs.Answers.{Answer}
@@ -37,6 +39,7 @@ pub data Reply : Type 0 where
   Full : Reply
   NoJob : Reply
   NotCertified : Reply
+  Beyond : Reply
   NoMemory : Reply
 
 -- a client, and what it asks of the desk
@@ -80,14 +83,30 @@ abbrev pub Drops : Jobs → ℕ → Option JobView → Reply → Jobs → Type 0
 Drops old number (Some job) reply new = (reply ≡ Dropped) × (new ≡ with_job old number None)
 Drops old number None reply new = (reply ≡ NoJob) × (new ≡ old)
 
--- the outcome of a position by a job that has ended with yes
+-- The certificate speaks of each heap of the position.
+abbrev pub Fits : Certificate → List ℕ → Type 0
+Fits c X = IsPosition (IsHeapOf c) X
+
+-- It is partial, and speaks not of each heap, which is the reply.
+abbrev pub IsBeyond : Certificate → List ℕ → Reply → Type 0
+IsBeyond c X reply = (c.period ≡ 0) × (Fits c X → ⊥) × (reply ≡ Beyond)
+
+-- the outcome of a position that fits
+abbrev pub Told : Certificate → List ℕ → Reply → Type 0
+Told c X reply = Fits c X × ((o : Outcome) × (reply ≡ Tells o) × HasOutcome c.code X o)
+
+-- what to play in it
+abbrev pub Advised : Certificate → List ℕ → Reply → Type 0
+Advised c X reply = Fits c X × ((a : Advice) × (reply ≡ Advises a) × IsRightAnswer c.code X a)
+
+-- the outcome of a position by a job that has ended with yes, where the position fits
 abbrev pub Outcomes : Option Answer → List ℕ → Reply → Type 0
-Outcomes (Some (Yes c)) X reply = (o : Outcome) × (reply ≡ Tells o) × HasOutcome c.code X o
+Outcomes (Some (Yes c)) X reply = Told c X reply ⊎ IsBeyond c X reply
 Outcomes other X reply = reply ≡ NotCertified
 
 -- what to play there, by such a job
 abbrev pub Advices : Option Answer → List ℕ → Reply → Type 0
-Advices (Some (Yes c)) X reply = (a : Advice) × (reply ≡ Advises a) × IsRightAnswer c.code X a
+Advices (Some (Yes c)) X reply = Advised c X reply ⊎ IsBeyond c X reply
 Advices other X reply = reply ≡ NotCertified
 
 abbrev pub Asks : Jobs → List ℕ → Option JobView → Reply → Jobs → Type 0

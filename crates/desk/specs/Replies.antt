@@ -10,7 +10,7 @@ use Rattle.desk.specs.declared.reply.StepFault.{StepFault}
 use Rattle.desk.specs.declared.reply.StepFault.TheVariants as fault
 use Rattle.desk.specs.Machine.{Event, Reply}
 use Rattle.desk.specs.Machine.Event.{Open, Work, Drop, Ask, Play}
-use Rattle.desk.specs.Machine.Reply.{Opened, Going, Says, Dropped, Tells, Advises, Full, NoJob, NotCertified, NoMemory}
+use Rattle.desk.specs.Machine.Reply.{Opened, Going, Says, Dropped, Tells, Advises, Full, NoJob, NotCertified, Beyond, NoMemory}
 
 abbrev pub event_of : {A : Type 0} → EventGiven A → Event
 event_of (given.Open bytes limit) = Open bytes.items limit
@@ -23,6 +23,7 @@ abbrev pub refusal : StepFault → Reply
 refusal fault.Full = Full
 refusal fault.NoJob = NoJob
 refusal fault.NotCertified = NotCertified
+refusal fault.Beyond = Beyond
 refusal fault.Memory = NoMemory
 
 abbrev pub reply_of : {A : Type 0} → ReplyGiven A → Reply
@@ -40,10 +41,12 @@ abbrev pub step_fault_number : StepFault → ℕ
 step_fault_number fault.Full = 20
 step_fault_number fault.NoJob = 21
 step_fault_number fault.NotCertified = 22
+step_fault_number fault.Beyond = 23
 step_fault_number fault.Memory = 9
 
 abbrev pub step_fault_name : StepFault → List ℕ
 step_fault_name fault.Full = codes "Full"
 step_fault_name fault.NoJob = codes "NoJob"
 step_fault_name fault.NotCertified = codes "NotCertified"
+step_fault_name fault.Beyond = codes "Beyond"
 step_fault_name fault.Memory = codes "Memory"

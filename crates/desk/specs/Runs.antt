@@ -3,7 +3,7 @@ use Rattle.std.specs.Prelude.{◌≡◌, ℕ, ◌==◌, Bool, true, false, if◌
 use Rattle.answers.specs.Answers.{Answer}
 use Rattle.answers.specs.Answers.Answer.{Memory}
 use Rattle.desk.specs.Machine.{State, Call, Reply, AmpleStep}
-use Rattle.desk.specs.Machine.Reply.{Says, Full, NoJob, NotCertified, NoMemory}
+use Rattle.desk.specs.Machine.Reply.{Says, Full, NoJob, NotCertified, Beyond, NoMemory}
 
 -- a new desk
 abbrev pub nothing_open : State
@@ -52,5 +52,6 @@ abbrev pub is_refused : Reply → Bool
 is_refused Full = true
 is_refused NoJob = true
 is_refused NotCertified = true
+is_refused Beyond = true
 is_refused NoMemory = true
 is_refused other = false

@@ -4,6 +4,7 @@ use crate::deed::Deed;
 use crate::event::Event;
 use crate::jobs::{certified_at, free_number, give_up_at, nobody, open_at, show_at, work_at};
 use crate::reply::{Reply, StepFault};
+use crate::saying::{advised, told};
 use crate::slot::Slot;
 use allocation::Room;
 use checker::{Certified, Job, Refusal};
@@ -142,7 +143,7 @@ impl<A: Room + Copy> Desk<A> {
             (meant (state_of self.now client) result) }
     {
         match self.certified(client, number) {
-            Ok(certified) => Deed::Told(player::outcome(certified, position)),
+            Ok(certified) => told(certified, position),
             Err(fault) => Deed::Refused(fault),
         }
     }
@@ -153,7 +154,7 @@ impl<A: Room + Copy> Desk<A> {
             (meant (state_of self.now client) result) }
     {
         match self.certified(client, number) {
-            Ok(certified) => Deed::Advised(player::answer(certified, position)),
+            Ok(certified) => advised(certified, position),
             Err(fault) => Deed::Refused(fault),
         }
     }

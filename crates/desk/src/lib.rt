@@ -13,6 +13,7 @@ mod event;
 mod jobs;
 mod laws;
 mod reply;
+mod saying;
 mod slot;
 
 pub use client::Client;

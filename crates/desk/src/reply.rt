@@ -16,12 +16,14 @@ pub enum StepFault {
     NoJob,
     /// The job hasn't ended with yes.
     NotCertified,
+    /// The job's certificate is partial, and doesn't speak of the position.
+    Beyond,
     /// The growth that a new job needs was refused.
     Memory,
 }
 
 impl StepFault {
-    /// The number under which the fault is printed: 20, 21, 22, or 9 for want of memory.
+    /// The number under which the fault is printed: 20, 21, 22, 23, or 9 for want of memory.
     pub fn number(self) -> u8
         ensures { result ≡ step_fault_number self }
     {
@@ -29,6 +31,7 @@ impl StepFault {
             StepFault::Full => 20,
             StepFault::NoJob => 21,
             StepFault::NotCertified => 22,
+            StepFault::Beyond => 23,
             StepFault::Memory => 9,
         }
     }
@@ -41,6 +44,7 @@ impl StepFault {
             StepFault::Full => "Full",
             StepFault::NoJob => "NoJob",
             StepFault::NotCertified => "NotCertified",
+            StepFault::Beyond => "Beyond",
             StepFault::Memory => "Memory",
         }
     }

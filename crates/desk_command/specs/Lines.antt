@@ -5,7 +5,7 @@ use Rattle.positions.specs.declared.outcome.Outcome.TheVariants.{P, N}
 use Rattle.play_command.specs.Lines.{answer_line}
 use Rattle.verdict_texts.specs.Lines.{first_line}
 use Rattle.desk.specs.Machine.{Reply}
-use Rattle.desk.specs.Machine.Reply.{Opened, Going, Says, Dropped, Tells, Advises, Full, NoJob, NotCertified, NoMemory}
+use Rattle.desk.specs.Machine.Reply.{Opened, Going, Says, Dropped, Tells, Advises, Full, NoJob, NotCertified, Beyond, NoMemory}
 
 abbrev pub opened_line : ℕ → List ℕ
 opened_line number = codes "opened " ++ decimal number ++ codes "\n"
@@ -26,6 +26,7 @@ IsLineOf (Advises answer) text = text ≡ answer_line answer
 IsLineOf Full text = text ≡ codes "refused 20 Full\n"
 IsLineOf NoJob text = text ≡ codes "refused 21 NoJob\n"
 IsLineOf NotCertified text = text ≡ codes "refused 22 NotCertified\n"
+IsLineOf Beyond text = text ≡ codes "refused 23 Beyond\n"
 IsLineOf NoMemory text = ⊥
 
 -- the lines of the replies, one behind the other

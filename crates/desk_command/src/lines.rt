@@ -42,6 +42,7 @@ fn refused_line(fault: StepFault) -> Result<&'static str, Memory>
         StepFault::Full => Ok("refused 20 Full\n"),
         StepFault::NoJob => Ok("refused 21 NoJob\n"),
         StepFault::NotCertified => Ok("refused 22 NotCertified\n"),
+        StepFault::Beyond => Ok("refused 23 Beyond\n"),
         StepFault::Memory => Err(Memory),
     }
 }

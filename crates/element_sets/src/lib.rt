@@ -13,7 +13,7 @@ use std::marker::Model;
 use std::simd::prelude::*;
 
 /// How many lanes a set has. All of this crate holds for other counts as well.
-const LANES: usize = 4;
+const LANES: usize = 8;
 
 /// Elements are the numbers below this one.
 pub const MOST_ELEMENTS: u16 = 64 * LANES as u16;

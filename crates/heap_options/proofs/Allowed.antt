@@ -3,11 +3,11 @@ use Rattle.std.proofs.Common.{◌≡◌, ℕ, ◌+◌, ◌-◌, ◌≤◌, ◌�
 use Rattle.std.specs.List.{Contains}
 use Rattle.misere_theory.specs.Games.{digit}
 use Rattle.octal_code.specs.Bits.{allows, leaves_one, takes_all}
-use Rattle.octal_code.specs.declared.leaving.Leaving.TheVariants.{NoHeap, OneHeap, TwoHeaps}
+use Rattle.octal_code.specs.declared.leaving.Leaving.TheVariants.{NoHeap, OneHeap, TwoHeaps, ThreeHeaps}
 use Rattle.octal_code.specs.BitLaws.{bit_says, bit_is, all_says, all_is, one_says, one_is}
 use Rattle.heap_options.specs.Options.{options_of}
 use Rattle.heap_options.specs.Exact.{IsLeftAt}
-use Rattle.heap_options.specs.declared.left.Left.TheVariants.{Nothing, One, Two}
+use Rattle.heap_options.specs.declared.left.Left.TheVariants.{Nothing, One, Two, Three}
 use Rattle.heap_options.specs.OptionLaws.{in_all, of_options}
 
 pub nothing_allowed : (code : List ℕ) (n : ℕ) → (takes_all code n n ≡ true)
@@ -51,3 +51,22 @@ pub two_refused : (code : List ℕ) (n a b : ℕ) → Contains (options_of code 
     → (1 ≤ a) × (a ≤ b) × (a + b ≤ n)
 two_refused code n a b c = let (j, m) = of_options code n n (Two a b) c in let (q, r, h, s) = m in
     (q, r, omega arith)
+
+pub three_allowed : (code : List ℕ) (n a b c : ℕ) → 1 ≤ a → a ≤ b → b ≤ c → a + b + c ≤ n
+    → (allows code (n - c - b - a) ThreeHeaps ≡ true) ↔ Contains (options_of code n) (Three a b c)
+three_allowed code n a b c p o q l = (
+  λ e. in_all code n (n - c - b - a) (Three a b c)
+      (p, o, q, omega arith, bit_says (digit code (n - c - b - a)) 8 e),
+  λ i.
+      let (j, m) = of_options code n n (Three a b c) i in
+      let e : j ≡ n - c - b - a = let s = m.3 in omega arith in
+      let (_, _, _, _, s) = subst (λ v. IsLeftAt code n v (Three a b c)) e m in
+      bit_is (digit code (n - c - b - a)) 8 s,
+)
+
+pub three_refused : (code : List ℕ) (n a b c : ℕ) → Contains (options_of code n) (Three a b c)
+    → (1 ≤ a) × (a ≤ b) × (b ≤ c) × (a + b + c ≤ n)
+three_refused code n a b c i =
+    let (j, m) = of_options code n n (Three a b c) i in
+    let (p, o, q, h, s) = m in
+    (p, o, q, omega arith)

@@ -1,3 +1,4 @@
+pub mod RisingLists
 pub mod Options
 pub mod Walks
 pub mod WalkLaws

@@ -1,17 +1,18 @@
 -- What a walk has left, stage by stage.
-use Rattle.std.proofs.Common.{◌≡◌, ℕ, zero, suc, ◌+◌, ◌-◌, ◌/◌, ◌<◌, ◌≤◌, Bool, true, false, List, [], ◌∷◌, ◌++◌, length, min, refl, sym, ◌∙◌, ap, arith, append_assoc}
+use Rattle.std.proofs.Common.{◌≡◌, ℕ, zero, suc, ◌+◌, ◌-◌, ◌/◌, ◌<◌, ◌≤◌, if◌then◌else◌, Bool, true, false, List, [], ◌∷◌, ◌++◌, length, min, refl, sym, ◌∙◌, ap, arith, append_assoc}
 use Rattle.std.specs.Prelude.{◌&&◌, not, eqb, ltb, bit_and}
 use Rattle.std.specs.List.{flat_map, range_with_len}
 use Rattle.std.proofs.lemmas.Bool.Decides.{nat_tests}
 use Rattle.std.proofs.lemmas.List.{get_or_past}
+use native.Mathlib.Decide.{dec_le}
 use Rattle.octal_code.specs.Bits.{allows, takes_all, leaves_one}
-use Rattle.octal_code.specs.declared.leaving.Leaving.TheVariants.{NoHeap, OneHeap, TwoHeaps}
-use Rattle.heap_options.specs.Options.{options_at, nothing_left, one_left, two_left, where_holds, splits}
-use Rattle.heap_options.specs.Walks.{single_left, splits_from, options_from, left_at}
+use Rattle.octal_code.specs.declared.leaving.Leaving.TheVariants.{NoHeap, OneHeap, TwoHeaps, ThreeHeaps}
+use Rattle.heap_options.specs.Options.{options_at, nothing_left, one_left, two_left, three_left, where_holds, splits, row, last_first, last_second, triples_at, triples}
+use Rattle.heap_options.specs.Walks.{single_left, splits_from, triples_from, triples_to_try, options_from, left_at}
 use Rattle.heap_options.specs.declared.left.Left.{Left}
-use Rattle.heap_options.specs.declared.left.Left.TheVariants.{Nothing, One, Two}
+use Rattle.heap_options.specs.declared.left.Left.TheVariants.{Nothing, One, Two, Three}
 use Rattle.heap_options.specs.declared.walk.Untried.{Untried}
-use Rattle.heap_options.specs.declared.walk.Untried.TheVariants.{Everything, Splits}
+use Rattle.heap_options.specs.declared.walk.Untried.TheVariants.{Everything, Splits, Triples}
 
 range_more : (a n m : ℕ) → n ≡ suc m → range_with_len a n ≡ a ∷ range_with_len (a + 1) m
 range_more a n m e = ap (range_with_len a) e
@@ -29,7 +30,7 @@ none_where : (b : Bool) → where_holds b [] ≡ []
 none_where true = refl
 none_where false = refl
 
--- the options that take j away are those that leave one heap at most, and the splits
+-- the options that take j away are those that leave one heap at most, the splits, and the triples
 two_from_one : (code : List ℕ) (n most j : ℕ) → two_left code n most j ≡ splits_from code n most j 1
 two_from_one code n most j =
     let e : min ((n - j) / 2) most ≡ min ((n - j) / 2) most + 1 - 1 = omega arith in
@@ -37,15 +38,21 @@ two_from_one code n most j =
 
 pub single_then_splits : (code : List ℕ) (n most j : ℕ) → j < length code
     → options_from code n most j ≡ single_left code n j
-    ++ (splits_from code n most j 1 ++ options_from code n most (j + 1))
+    ++ (splits_from code n most j 1
+    ++ (three_left code n most j ++ options_from code n most (j + 1)))
 single_then_splits code n most j l =
+    let later = options_from code n most (j + 1) in
     ap (flat_map (options_at code n most))
     (range_more j (length code - j) (length code - (j + 1)) (omega arith))
-    ∙ ap (λ xs. xs ++ options_from code n most (j + 1))
-    (sym (append_assoc (nothing_left code n j) (one_left code n j) (two_left code n most j))
-    ∙ ap (λ xs. single_left code n j ++ xs) (two_from_one code n most j))
-    ∙ append_assoc (single_left code n j) (splits_from code n most j 1)
-    (options_from code n most (j + 1))
+    ∙ ap (λ xs. xs ++ later)
+    (sym (append_assoc (nothing_left code n j) (one_left code n j)
+    (two_left code n most j ++ three_left code n most j))
+    ∙ ap (λ xs. single_left code n j ++ (xs ++ three_left code n most j))
+    (two_from_one code n most j))
+    ∙ append_assoc (single_left code n j)
+    (splits_from code n most j 1 ++ three_left code n most j) later
+    ∙ ap (λ xs. single_left code n j ++ xs)
+    (append_assoc (splits_from code n most j 1) (three_left code n most j) later)
 
 pub none_past : (code : List ℕ) (n most j : ℕ) → length code ≤ j → options_from code n most j ≡ []
 none_past code n most j l =
@@ -81,7 +88,7 @@ pub splits_off : (code : List ℕ) (n most j a : ℕ) → allows code j TwoHeaps
 splits_off code n most j a e =
     where_false (allows code j TwoHeaps) (splits (n - j) a (min ((n - j) / 2) most + 1 - a)) e
 
-none_at : (m a k : ℕ) → k ≡ 0 → splits m a k ≡ []
+pub none_at : (m a k : ℕ) → k ≡ 0 → splits m a k ≡ []
 none_at m a k e = rw e
 
 pub splits_over : (code : List ℕ) (n most j a : ℕ) → min ((n - j) / 2) most < a
@@ -122,14 +129,112 @@ single_short code n j = by_tests (takes_all code n j) (leaves_one code n j) refl
     by_tests false true e f = let l = ap length (single_one code n j e f) in omega arith
     by_tests false false e f = let l = ap length (single_none code n j e f) in omega arith
 
+-- the triples with the first part a, and those with a larger one
+open_triples : (m most a : ℕ) → a ≤ last_first m most
+    → triples m most a ≡ triples_at m most a ++ triples m most (a + 1)
+open_triples m most a l =
+    ap (flat_map (triples_at m most))
+    (range_more a (last_first m most + 1 - a) (last_first m most + 1 - (a + 1)) (omega arith))
+
+no_triples : (m most a : ℕ) → last_first m most < a → triples m most a ≡ []
+no_triples m most a l =
+    ap (flat_map (triples_at m most)) (range_none a (last_first m most + 1 - a) (omega arith))
+
+pub no_row : (m a b k : ℕ) → k ≡ 0 → row m a b k ≡ []
+no_row m a b k e = rw e
+
+pub first_triples : (m most : ℕ) → triples m most 1
+    ≡ row m 1 1 (last_second m most 1 + 1 - 1) ++ triples m most 2
+first_triples m most = elim (dec_le 1 (last_first m most)) [
+  | yes l ↦ open_triples m most 1 l
+  | no f ↦
+      no_triples m most 1 (omega arith)
+      ∙ sym (ap (λ xs. xs ++ triples m most 2)
+      (no_row m 1 1 (last_second m most 1 + 1 - 1) (omega arith))
+      ∙ no_triples m most 2 (omega arith))
+]
+
+-- all triples that take j away
+pub triples_from_one : (code : List ℕ) (n most j : ℕ)
+    → three_left code n most j ≡ triples_from code n most j 1 1
+triples_from_one code n most j =
+    ap (where_holds (allows code j ThreeHeaps)) (first_triples (n - j) most)
+
+pub triples_off : (code : List ℕ) (n most j a b : ℕ) → allows code j ThreeHeaps ≡ false
+    → triples_from code n most j a b ≡ []
+triples_off code n most j a b e =
+    where_false (allows code j ThreeHeaps)
+    (row (n - j) a b (last_second (n - j) most a + 1 - b) ++ triples (n - j) most (a + 1)) e
+
+pub three_off : (code : List ℕ) (n most j : ℕ) → allows code j ThreeHeaps ≡ false
+    → three_left code n most j ≡ []
+three_off code n most j e =
+    where_false (allows code j ThreeHeaps) (triples (n - j) most 1) e
+
+pub row_add : (m a b c d : ℕ) → row m a b (c + d) ≡ row m a b c ++ row m a (b + c) d
+row_add m a b zero d =
+    let e : 0 + d ≡ d = omega arith in let f : b ≡ b + 0 = omega arith in
+    ap (row m a b) e ∙ ap (λ i. row m a i d) f
+row_add m a b (suc c) d =
+    let e : suc c + d ≡ suc (c + d) = omega arith in let f : b + 1 + c ≡ b + suc c = omega arith in
+    ap (row m a b) e
+    ∙ ap (λ xs. Three a b (m - a - b) ∷ xs)
+    (row_add m a (b + 1) c d ∙ ap (λ i. row m a (b + 1) c ++ row m a i d) f)
+
+-- some triples with the first part a, and the others
+pub triples_first : (code : List ℕ) (n most j a b c : ℕ) → allows code j ThreeHeaps ≡ true
+    → b + c ≤ last_second (n - j) most a + 1
+    → triples_from code n most j a b ≡ row (n - j) a b c ++ triples_from code n most j a (b + c)
+triples_first code n most j a b c e l =
+    let h = last_second (n - j) most a in
+    let later = triples (n - j) most (a + 1) in
+    let f : h + 1 - b ≡ c + (h + 1 - (b + c)) = omega arith in
+    where_true (allows code j ThreeHeaps) (row (n - j) a b (h + 1 - b) ++ later) e
+    ∙ ap (λ k. row (n - j) a b k ++ later) f
+    ∙ ap (λ xs. xs ++ later) (row_add (n - j) a b c (h + 1 - (b + c)))
+    ∙ append_assoc (row (n - j) a b c) (row (n - j) a (b + c) (h + 1 - (b + c))) later
+    ∙ ap (λ xs. row (n - j) a b c ++ xs)
+    (sym (where_true (allows code j ThreeHeaps)
+    (row (n - j) a (b + c) (h + 1 - (b + c)) ++ later) e))
+
+-- where none is to try, those with a larger first part are left
+row_over : (b : Bool) (m most a k : ℕ) (i : ℕ) → (if b then k else 0) ≡ 0
+    → where_holds b (row m a i k ++ triples m most (a + 1))
+    ≡ where_holds b (triples m most (a + 1))
+row_over true m most a k i e = ap (λ xs. xs ++ triples m most (a + 1)) (no_row m a i k e)
+row_over false m most a k i e = refl
+
+pub next_row : (code : List ℕ) (n most j a b : ℕ) → triples_to_try code n most j a b ≡ 0
+    → a < last_first (n - j) most
+    → triples_from code n most j a b ≡ triples_from code n most j (a + 1) (a + 1)
+next_row code n most j a b e l =
+    row_over (allows code j ThreeHeaps) (n - j) most a (last_second (n - j) most a + 1 - b) b e
+    ∙ ap (where_holds (allows code j ThreeHeaps)) (open_triples (n - j) most (a + 1) (omega arith))
+
+pub no_row_left : (code : List ℕ) (n most j a b : ℕ) → triples_to_try code n most j a b ≡ 0
+    → last_first (n - j) most ≤ a → triples_from code n most j a b ≡ []
+no_row_left code n most j a b e l =
+    row_over (allows code j ThreeHeaps) (n - j) most a (last_second (n - j) most a + 1 - b) b e
+    ∙ ap (where_holds (allows code j ThreeHeaps)) (no_triples (n - j) most (a + 1) (omega arith))
+    ∙ none_where (allows code j ThreeHeaps)
+
 pub no_bit : (code : List ℕ) (j : ℕ) → length code ≤ j → allows code j TwoHeaps ≡ false
 no_bit code j l = ap (λ d. not (eqb (bit_and d 4) 0)) (get_or_past code j 0 l)
+
+pub no_bit_three : (code : List ℕ) (j : ℕ) → length code ≤ j → allows code j ThreeHeaps ≡ false
+no_bit_three code j l = ap (λ d. not (eqb (bit_and d 8) 0)) (get_or_past code j 0 l)
 
 -- past the last digit nothing is untried
 pub none_untried : (code : List ℕ) (n most j : ℕ) (untried : Untried) → length code ≤ j
     → left_at code n most j untried ≡ []
 none_untried code n most j Everything l = none_past code n most j l
 none_untried code n most j (Splits a) l =
-    ap (λ xs. xs ++ options_from code n most (j + 1))
+    ap (λ xs. xs ++ (three_left code n most j ++ options_from code n most (j + 1)))
     (splits_off code n most j a (no_bit code j l))
+    ∙ ap (λ xs. xs ++ options_from code n most (j + 1))
+    (three_off code n most j (no_bit_three code j l))
+    ∙ none_past code n most (j + 1) (omega arith)
+none_untried code n most j (Triples a b) l =
+    ap (λ xs. xs ++ options_from code n most (j + 1))
+    (triples_off code n most j a b (no_bit_three code j l))
     ∙ none_past code n most (j + 1) (omega arith)

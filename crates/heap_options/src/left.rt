@@ -4,12 +4,13 @@ ghost use Rattle.heap_options.specs.Exact.{heaps_of};
 
 use std::marker::Model;
 
-/// What a move leaves of a heap, the smaller part first.
+/// What a move leaves of a heap, the parts rising.
 #[derive(Clone, Copy, Debug, PartialEq, Eq)]
 pub enum Left {
     Nothing,
     One(u64),
     Two(u64, u64),
+    Three(u64, u64, u64),
 }
 
 impl Left {
@@ -19,16 +20,20 @@ impl Left {
     {
         match self {
             Left::Nothing => LeftHeaps {
-                sizes: [0, 0],
+                sizes: [0, 0, 0],
                 count: 0,
             },
             Left::One(a) => LeftHeaps {
-                sizes: [a, 0],
+                sizes: [a, 0, 0],
                 count: 1,
             },
             Left::Two(a, b) => LeftHeaps {
-                sizes: [a, b],
+                sizes: [a, b, 0],
                 count: 2,
+            },
+            Left::Three(a, b, c) => LeftHeaps {
+                sizes: [a, b, c],
+                count: 3,
             },
         }
     }
@@ -37,7 +42,7 @@ impl Left {
 /// The sizes of the heaps that a move leaves, seen as their list.
 #[derive(Drop)]
 pub struct LeftHeaps {
-    sizes: [u64; 2],
+    sizes: [u64; 3],
     count: usize,
 }
 
@@ -48,11 +53,11 @@ impl Model for LeftHeaps {
 
     ghost view = { λ h. take h.count h.sizes };
 
-    ghost invariant = { λ h. (h.count ≤ 2) × (length h.sizes ≡ 2) };
+    ghost invariant = { λ h. (h.count ≤ 3) × (length h.sizes ≡ 3) };
 }
 
 impl LeftHeaps {
-    /// The sizes, the smaller first.
+    /// The sizes, in the order in which they are left: rising.
     pub fn as_slice(&self) -> &[u64]
         ensures { result.now ≡ self.now }
     {

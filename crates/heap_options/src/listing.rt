@@ -11,7 +11,7 @@ use crate::walk::{Options, Walk};
 use octal_code::Code;
 
 /// The options of the heap n, in their order: first by what is taken away, rising, then by the bits
-/// 1, 2 and 4, then by the smaller part, rising. It takes no memory, and makes an option only when
+/// 1, 2, 4 and 8, then by the first part, rising, and then by the second. It takes no memory, and makes an option only when
 /// it is asked for.
 pub fn options(code: &Code, n: u64) -> Options
     ensures { result ≡ options_of code.now n }
@@ -19,8 +19,7 @@ pub fn options(code: &Code, n: u64) -> Options
     options_up_to(code, n, n)
 }
 
-/// The options of the heap n whose smaller part, if there are two, is at most `most`, in their
-/// order.
+/// The options of the heap n whose parts but the largest are at most `most`, in their order.
 pub fn options_up_to(code: &Code, n: u64, most: u64) -> Options
     ensures { result ≡ options_up_to code.now n most }
 {
@@ -32,8 +31,8 @@ pub fn options_up_to(code: &Code, n: u64, most: u64) -> Options
 
 /// The lists are exact: each option of the heap is listed, up to the order of its parts, nothing
 /// else is, and nothing twice; what is listed is what a digit allows to stay. A list that is cut
-/// off at a smaller part of `most` has those of them whose smaller part, if there are two, is no
-/// larger. All are in the order of moves.
+/// off at `most` has those of them whose parts but the largest are at most that. All are in the
+/// order of moves.
 pub fn options_are_exact()
     ensures each { (code : List ℕ) (n : ℕ) (H : List ℕ) → HeapOption code n H
         → (left : Left) × Contains (options_of code n) left × IsPermutation (heaps_of left) H }

@@ -19,6 +19,13 @@ pub fn is_option(code: &Code, n: u64, left: Left) -> bool
                 false
             }
         }
+        Left::Three(a, b, c) => {
+            if are_three_parts(n, a, b, c) {
+                code.allows(n - c - b - a, Leaving::ThreeHeaps)
+            } else {
+                false
+            }
+        }
     }
 }
 
@@ -27,4 +34,11 @@ fn are_parts(n: u64, a: u64, b: u64) -> bool
     ensures { IsTrue result ↔ ((1 ≤ a) × (a ≤ b) × (a + b ≤ n)) }
 {
     a != 0 && a <= b && b <= n && a <= n - b
+}
+
+/// Whether a, b and c, which rise, are parts of what may stay of n.
+fn are_three_parts(n: u64, a: u64, b: u64, c: u64) -> bool
+    ensures { IsTrue result ↔ ((1 ≤ a) × (a ≤ b) × (b ≤ c) × (a + b + c ≤ n)) }
+{
+    a != 0 && a <= b && b <= c && c <= n && b <= n - c && a <= n - c - b
 }

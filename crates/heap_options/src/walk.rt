@@ -1,11 +1,14 @@
 //! A walk over the options of a heap.
 ghost use Rattle.std.specs.Iterator.{YieldsFirst, item_count};
-ghost use Rattle.std.specs.Prelude.{◌≡◌, ◌-◌, ◌<◌, ◌≤◌, ◌↔◌, [], ◌∷◌, length, min, IsTrue};
+ghost use Rattle.std.specs.Prelude.{◌≡◌, ◌+◌, ◌-◌, ◌<◌, ◌≤◌, ◌↔◌, [], ◌∷◌, length, min, true, false, IsTrue};
 ghost use Rattle.std.specs.Option.{MatchOption};
-ghost use Rattle.heap_options.specs.Walks.{rest, begun, single_left, splits_to_try, after_single, after_splits, after_all, IsTurn};
+ghost use Rattle.octal_code.specs.Bits.{allows};
+ghost use Rattle.octal_code.specs.declared.leaving.Leaving.TheVariants.{ThreeHeaps};
+ghost use Rattle.heap_options.specs.Options.{last_first};
+ghost use Rattle.heap_options.specs.Walks.{rest, begun, single_left, splits_to_try, triples_to_try, after_single, after_splits, at_triples, after_triples, after_row, after_all, IsTurn};
 
 use crate::left::Left;
-use octal_code::{Code, Leaving, is_octal_code};
+use octal_code::{Code, Leaving, is_code};
 use std::marker::Model;
 
 /// What is still to be tried of the options that take the same number away.
@@ -13,12 +16,15 @@ use std::marker::Model;
 pub enum Untried {
     /// Each of them: first the one that leaves at most one heap, if there is one.
     Everything,
-    /// The splits from this smaller part on.
+    /// The splits from this smaller part on, and the triples.
     Splits(u64),
+    /// The triples with this first part, the second from the other number on, and those with a
+    /// larger first part.
+    Triples(u64, u64),
 }
 
-/// Where a walk over the options of a heap stands: the heap, the largest smaller part of a split
-/// that it tries, what is taken away, and what is untried of that.
+/// Where a walk over the options of a heap stands: the heap, the largest part but the last of a
+/// split or a triple that it tries, what is taken away, and what is untried of that.
 #[derive(Clone, Copy)]
 pub struct Walk {
     pub heap: u64,
@@ -105,13 +111,87 @@ impl Walk {
         count
     }
 
+    /// The largest first part of a triple.
+    #[inline]
+    pub fn last_first(&self) -> u64
+        ensures { result ≡ last_first (self.now.heap - self.now.away) self.now.most }
+    {
+        (self.whole() / 3).min(self.most)
+    }
+
+    /// How many triples there are with this first part, the second from `part` on.
+    #[inline]
+    fn triples_to_try(&self, code: &Code, first: u64, part: u64) -> u64
+        ensures { result
+            ≡ triples_to_try code.now self.now.heap self.now.most self.now.away first part }
+    {
+        if code.allows(self.away, Leaving::ThreeHeaps) {
+            let last = (self.whole().saturating_sub(first) / 2).min(self.most);
+            (last + 1).saturating_sub(part)
+        } else {
+            0
+        }
+    }
+
+    /// Passes the triples with this first part, the second from `part` on, at most `most` of them.
+    /// The answer is how many were passed.
+    #[inline]
+    pub fn pass_triples(&mut self, code: &Code, first: u64, part: u64, most: u64) -> u64
+        ensures count { result ≡ min most
+            (triples_to_try code.now self.old.heap self.old.most self.old.away first part) }
+        ensures none { result ≡ 0 → self.new ≡ self.old }
+        ensures some { 1 ≤ result → self.new ≡ after_triples self.old first part result }
+    {
+        let count = most.min(self.triples_to_try(code, first, part));
+        if count > 0 {
+            self.untried = Untried::Triples(first, part + count);
+        }
+        count
+    }
+
+    /// Once the triples with this first part are passed, turns to those with the next one, or takes
+    /// one more away where there is none.
+    #[inline]
+    pub fn pass_row(&mut self, code: &Code, first: u64)
+        ensures row { first < last_first (self.old.heap - self.old.away) self.old.most
+            → self.new ≡ after_row self.old first }
+        ensures more { last_first (self.old.heap - self.old.away) self.old.most ≤ first
+            → self.old.away < length code.now → self.new ≡ after_all self.old }
+        ensures over { last_first (self.old.heap - self.old.away) self.old.most ≤ first
+            → length code.now ≤ self.old.away → self.new ≡ self.old }
+    {
+        if first < self.last_first() {
+            self.untried = Untried::Triples(first + 1, first + 1);
+        } else {
+            self.take_more(code);
+        }
+    }
+
+    /// Once the splits are passed, turns to the triples, or takes one more away where no triple may
+    /// be left.
+    #[inline]
+    pub fn pass_last_split(&mut self, code: &Code)
+        ensures triples { allows code.now self.old.away ThreeHeaps ≡ true
+            → self.new ≡ at_triples self.old }
+        ensures more { allows code.now self.old.away ThreeHeaps ≡ false
+            → self.old.away < length code.now → self.new ≡ after_all self.old }
+        ensures over { allows code.now self.old.away ThreeHeaps ≡ false
+            → length code.now ≤ self.old.away → self.new ≡ self.old }
+    {
+        if code.allows(self.away, Leaving::ThreeHeaps) {
+            self.untried = Untried::Triples(1, 1);
+        } else {
+            self.take_more(code);
+        }
+    }
+
     /// Takes one more away. A walk that is over stays as it is.
     #[inline]
     pub fn take_more(&mut self, code: &Code)
         ensures more { self.old.away < length code.now → self.new ≡ after_all self.old }
         ensures over { length code.now ≤ self.old.away → self.new ≡ self.old }
     {
-        is_octal_code(code);
+        is_code(code);
         if !self.is_over(code) {
             self.away += 1;
             self.untried = Untried::Everything;
@@ -126,10 +206,18 @@ impl Walk {
             Untried::Everything => self.take_single(code),
             Untried::Splits(part) => {
                 if self.pass_splits(code, part, 1) == 0 {
-                    self.take_more(code);
+                    self.pass_last_split(code);
                     return None;
                 }
                 Some(Left::Two(part, self.whole() - part))
+            }
+            Untried::Triples(first, second) => {
+                if self.pass_triples(code, first, second, 1) == 0 {
+                    self.pass_row(code, first);
+                    return None;
+                }
+                let rest = self.whole().saturating_sub(first);
+                Some(Left::Three(first, second, rest.saturating_sub(second)))
             }
         }
     }
@@ -137,7 +225,7 @@ impl Walk {
     fn next(&mut self, code: &Code) -> Option<Left>
         ensures { YieldsFirst (rest code.now) self.old result self.new }
     {
-        is_octal_code(code);
+        is_code(code);
         while !self.is_over(code) {
             if let Some(left) = self.turn(code) {
                 return Some(left);

@@ -10,7 +10,7 @@ use Rattle.misere_theory.specs.Faults.{WordFault, OrderFault, PeriodFault, Apart
 use Rattle.misere_theory.proofs.Basics.{either_way}
 use Rattle.misere_theory.proofs.Outcomes.{some_or_all_below}
 use Rattle.misere_theory.proofs.SameClaims.{KeyBelow-trans}
-use Rattle.misere_theory.proofs.Written.{periodic}
+use Rattle.misere_theory.proofs.Written.{repeats}
 
 key_below_dec : (a b : ℕ × ℕ) → Dec (KeyBelow a b)
 key_below_dec a b =
@@ -105,12 +105,12 @@ module _
           (later_key d (e - d - 1) p (omega arith));
       least = λ f h l o b p k. order (inr (f, h, l, o, (let q = r.period.0 in omega arith), p, k));
     };
-    period = record {
-      from_one = r.start.0;
-      some = r.period.0;
-      repeats = (periodic c r).repeats;
+    period = λ full. record {
+      from_one = r.start;
+      some = full;
+      repeats = repeats c r full;
       least = λ q o l h. period (inl (q, o, l, h));
-      earliest = λ h e. period (inr (h, e));
+      earliest = λ h e. period (inr (full, h, e));
     };
     apart =
         zip_from_places (LeastApart (claim_of c)) (0, 0) (pairs_from 0 c.order) c.apart r.apart.0
@@ -137,8 +137,8 @@ module _ (c : Certificate) (r : InRanges c) (k : Canonical c) where
 
   pub no_period_fault : PeriodFault c → ⊥
   no_period_fault f = elim f [
-    | inl (q, one, l, again) ↦ k.period.least q one l again
-    | inr (one, e) ↦ k.period.earliest one e
+    | inl (q, one, l, again) ↦ (k.period (omega arith)).least q one l again
+    | inr (full, one, e) ↦ (k.period full).earliest one e
   ]
 
   pub no_apart_fault : ApartFault c → ⊥

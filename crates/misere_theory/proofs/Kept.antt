@@ -1,11 +1,11 @@
--- A closed list of kept pairs speaks for every position: in the whole game over the heaps 1 to B,
--- and in that of the heaps up to M.
+-- A closed list of kept pairs over the heaps 1 to B speaks for every position.
 use Rattle.std.proofs.Common.{◌≡◌, ℕ, ◌<◌, true, false, List, refl, sym, ◌∙◌, ap, inl, inr, Contains}
-use Rattle.misere_theory.specs.Games.{IsHeap, IsHeapUpTo, IsPosition}
-use Rattle.misere_theory.proofs.Sums.{heaps_kept, heaps_up_to_kept, IsKept}
+use Rattle.misere_theory.specs.Games.{IsHeapUpTo, IsPosition}
+use Rattle.misere_theory.proofs.Sums.{heaps_up_to_kept, IsKept}
 use Rattle.misere_theory.specs.Quotients.{Claim, Monoid, HeapOptionValue, RuleHolds, GivesElements}
-use Rattle.misere_theory.specs.Pairs.{heap_bound, Pair, Covers, IsClosed, KeptObey, ElementsObey, SameHeapPair, IsPeriodic}
-use Rattle.misere_theory.proofs.Bound.{heap_shown}
+use Rattle.misere_theory.specs.Pairs.{Pair, Covers, IsClosed, KeptObey, ElementsObey, SameHeapPair}
+use Rattle.misere_theory.specs.Kinds.{IsHeapIn, IsPeriodicIn, bound_in}
+use Rattle.misere_theory.proofs.Counting.{kept_in, shown_in}
 use Rattle.misere_theory.proofs.Closures as closures
 
 -- each heap of the game has the pair of one of the heaps that the list is closed under
@@ -74,25 +74,25 @@ module _
       (λ i t. members.inside i.0 i.1 t)
       (every_heap elements)
 
--- in the whole game the heaps 1 to B show all
+-- in a game of any kind the heaps 1 to B show all
 module _
-    (code : List ℕ) (c : Claim) (m : Monoid c.order c.times) (phi_in : GivesElements IsHeap c)
-    (k start period : ℕ)
-    (ok : IsPeriodic code c k start period) (kept : List Pair)
-    (closed : IsClosed code c (IsHeapUpTo (heap_bound k start period)) kept) where
-  pub all_covered : (X : List ℕ) → IsPosition IsHeap X → (p : Pair) × Contains kept p
+    (M : ℕ) (code : List ℕ) (c : Claim) (m : Monoid c.order c.times)
+    (phi_in : GivesElements (IsHeapIn M) c) (k start period : ℕ)
+    (ok : IsPeriodicIn M code c k start period) (kept : List Pair)
+    (closed : IsClosed code c (IsHeapUpTo (bound_in M code k start period)) kept) where
+  pub all_covered : (X : List ℕ) → IsPosition (IsHeapIn M) X → (p : Pair) × Contains kept p
       × Covers code c p X
   all_covered =
-      covered_by_kept IsHeap (IsHeapUpTo (heap_bound k start period)) code (heaps_kept code) c m
-      phi_in (heap_shown code c k start period ok) kept closed
+      covered_by_kept (IsHeapIn M) (IsHeapUpTo (bound_in M code k start period)) code (kept_in M code) c m
+      phi_in (shown_in M code c k start period ok) kept closed
 
   pub rule_everywhere : KeptObey c kept
-      → ElementsObey code c (IsHeapUpTo (heap_bound k start period)) → (X : List ℕ)
-      → IsPosition IsHeap X
+      → ElementsObey code c (IsHeapUpTo (bound_in M code k start period)) → (X : List ℕ)
+      → IsPosition (IsHeapIn M) X
       → RuleHolds code c X
   rule_everywhere =
-      rule_by_kept IsHeap (IsHeapUpTo (heap_bound k start period)) code (heaps_kept code) c m phi_in
-      (heap_shown code c k start period ok) kept closed
+      rule_by_kept (IsHeapIn M) (IsHeapUpTo (bound_in M code k start period)) code (kept_in M code) c m
+      phi_in (shown_in M code c k start period ok) kept closed
 
 -- in the game of the heaps up to M each shows itself
 module _

@@ -1,5 +1,5 @@
--- A code has one accepted certificate at most.
-use Rattle.std.proofs.Common.{◌≡◌, ℕ, suc, zero, ◌+◌, ◌-◌, ◌<◌, ◌≤◌, Bool, false, ◌||◌, ◌==◌, List, [], ◌∷◌, ◌++◌, refl, sym, ◌∙◌, ap, ap₂, subst, arith, length, get_or, eq-eqb, ne_eqb, All}
+-- A code has one accepted certificate of a kind at most.
+use Rattle.std.proofs.Common.{◌≡◌, ℕ, suc, zero, ◌+◌, ◌-◌, ◌<◌, ◌≤◌, Bool, false, ◌||◌, ◌==◌, List, [], ◌∷◌, ◌++◌, refl, sym, ◌∙◌, ap, ap₂, subst, arith, length, get_or, eq-eqb, ne_eqb, All, inl, inr, eq-zero-or-pos}
 use Rattle.std.proofs.Math.Seq.{ext_get_or}
 use Rattle.std.proofs.lemmas.Grind.{same_number_lists}
 use Rattle.std.proofs.lemmas.List.Elements.{All-get_or, All-tail}
@@ -7,11 +7,13 @@ use Rattle.std.proofs.lemmas.Bool.{true≢false}
 use Rattle.std.specs.List.{list_any, AllZip, AllByRecursion}
 use Rattle.std.specs.List.Sorted.{IsStrictlyIncreasing}
 use native.Mathlib.Decide.{dec_lt}
-use Rattle.misere_theory.specs.Games.{IsHeap}
 use Rattle.misere_theory.specs.Quotients.{Represents}
-use Rattle.misere_theory.specs.Certificates.{Certificate, claim_of, key_of, InRanges, Accepted, pairs_with, pairs_from, TellsApart, LeastApart}
+use Rattle.misere_theory.specs.Kinds.{IsHeapIn}
+use Rattle.misere_theory.specs.Numbering.{IsNumbered}
+use Rattle.misere_theory.specs.Certificates.{Certificate, claim_of, key_of, kind_of, IsHeapOf, InRanges, Accepted, pairs_with, pairs_from, TellsApart, LeastApart}
 use Rattle.misere_theory.proofs.SameClaims.{SameClaim, same_period, same_claim}
-use Rattle.misere_theory.proofs.Written.{entry_at}
+use Rattle.misere_theory.proofs.Counting.{kind_full, kind_partial}
+use Rattle.misere_theory.proofs.Written.{entry_at, written_counts, is_full, is_partial}
 
 -- The numbers rise from low on and stay below q.
 Rises : ℕ → ℕ → List ℕ → Type 0
@@ -116,18 +118,41 @@ from_in q x (suc n) l =
     both_in q (pairs_with x (x + 1) n) (pairs_from (x + 1) n)
     (with_in q x (x + 1) n (omega arith) (omega arith)) (from_in q (x + 1) n (omega arith))
 
-module _ (c d : Certificate) (a : Accepted c) (b : Accepted d) (same_code : c.code ≡ d.code) where
-  of_d : Represents IsHeap c.code (claim_of d)
-  of_d = subst (λ k. Represents IsHeap k (claim_of d)) (sym same_code) b.represents
+module _
+    (c d : Certificate) (a : Accepted c) (b : Accepted d) (same_code : c.code ≡ d.code)
+    (same_kind : kind_of c ≡ kind_of d) where
+  of_d : Represents (IsHeapOf c) c.code (claim_of d)
+  of_d = subst (λ k. Represents (IsHeapOf c) k (claim_of d)) (sym same_code)
+      (subst (λ M. Represents (IsHeapIn M) d.code (claim_of d)) (sym same_kind) b.represents)
 
+  -- full ones have the same least period, and partial ones the same last heap
   periods : (c.start ≡ d.start) × (c.period ≡ d.period)
-  periods = same_period c.code (claim_of c) (claim_of d) a.represents of_d c.start c.period d.start
-      d.period a.canonical.period b.canonical.period
+  periods = elim (eq-zero-or-pos (kind_of c)) [
+    | inl z ↦
+        let of_c : 1 ≤ c.period = is_full c a.in_ranges z in
+        let full : 1 ≤ d.period = is_full d b.in_ranges (sym same_kind ∙ z) in
+        same_period (IsHeapOf c) (λ n h. (h, λ l. absurd (omega arith))) c.code (claim_of c)
+        (claim_of d) a.represents of_d c.start c.period d.start d.period
+        (a.canonical.period of_c) (b.canonical.period full)
+    | inr some ↦
+        let e = is_partial c a.in_ranges some in
+        let f = is_partial d b.in_ranges (omega arith) in
+        let k = kind_partial c.start c.period e in
+        let l = kind_partial d.start d.period f in
+        let s = a.in_ranges.start in
+        let t = b.in_ranges.start in
+        (omega arith, omega arith)
+  ]
 
-  numbers : SameClaim (claim_of c) (claim_of d) (key_of c) (key_of d)
-  numbers = same_claim c.code (claim_of c) (claim_of d) a.represents of_d c.start c.period d.start
-      d.period (key_of c) (key_of d) a.canonical.period b.canonical.period a.canonical.numbered
-      b.canonical.numbered
+  numbers : SameClaim (IsHeapOf c) (claim_of c) (claim_of d) (key_of c) (key_of d)
+  numbers =
+      let g : d.start + d.period - 1 ≡ c.start + c.period - 1 =
+      let e = periods.0 in let f = periods.1 in omega arith in
+      let s = a.in_ranges.start in
+      same_claim (IsHeapOf c) c.code (claim_of c) (claim_of d) a.represents of_d
+      (c.start + c.period - 1) (λ h one l. written_counts c a.in_ranges h one (omega arith))
+      (key_of c) (key_of d) a.canonical.numbered
+      (subst (λ n. IsNumbered (claim_of d) n (key_of d)) g b.canonical.numbered)
 
   same_order : c.order ≡ d.order
   same_order = numbers.order
@@ -139,8 +164,9 @@ module _ (c d : Certificate) (a : Accepted c) (b : Accepted d) (same_code : c.co
   same_phi_line : c.phi ≡ d.phi
   same_phi_line =
       same_number_lists c.phi d.phi phi_length (λ k h. sym (entry_at c a.in_ranges k h)
-      ∙ sym (numbers.phi (suc k) (omega arith)) ∙ entry_at d b.in_ranges k (let e = phi_length in
-      omega arith))
+      ∙ sym (numbers.phi (suc k) (written_counts c a.in_ranges (suc k) (omega arith)
+      (let e = a.in_ranges.phi.0 in omega arith))) ∙ entry_at d b.in_ranges k
+      (let e = phi_length in omega arith))
 
   same_portion_line : c.portion ≡ d.portion
   same_portion_line =
@@ -224,3 +250,9 @@ module _ (c d : Certificate) (a : Accepted c) (b : Accepted d) (same_code : c.co
     rows = same_rows i;
     apart = same_apart i;
   }
+
+-- two full ones are of one kind
+pub full_once : (c d : Certificate) → Accepted c → Accepted d → c.code ≡ d.code → 1 ≤ c.period
+    → 1 ≤ d.period → c ≡ d
+full_once c d a b e f g =
+    accepted_once c d a b e (kind_full c.start c.period f ∙ sym (kind_full d.start d.period g))

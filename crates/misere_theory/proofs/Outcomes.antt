@@ -2,7 +2,7 @@
 use Rattle.std.proofs.Common.{◌≡◌, ℕ, suc, zero, ◌+◌, ◌-◌, ◌<◌, ◌≤◌, ◌⊎◌, List, [], ◌∷◌, ◌++◌, refl, sym, subst, inl, inr, arith, bit_and, ◌^◌, IsBitSet, eq-zero-or-pos, eq-or-lt_of_le, le_of_suc-le-suc}
 use native.Mathlib.Decide.{dec_le}
 use Rattle.misere_theory.specs.Games.{digit, HeapOption, Move, measure, IsP, IsN}
-use Rattle.misere_theory.specs.Games.HeapOption.{Nothing, One, Two}
+use Rattle.misere_theory.specs.Games.HeapOption.{Nothing, One, Two, Three}
 use Rattle.misere_theory.specs.Games.Move.{Here, There}
 use Rattle.misere_theory.specs.Games.IsP.{AllLose}
 use Rattle.misere_theory.specs.Games.IsN.{Ended, Wins}
@@ -58,6 +58,12 @@ module _ (code : List ℕ) (n : ℕ) where
   two_says a b (Two j _ _ p q e s) = let f : j ≡ n - (a + b) = omega arith in
       (p, (q, (omega arith, subst (λ i. IsBitSet (digit code i) 2) f s)))
 
+  three_says : (a b c : ℕ) → HeapOption code n (a ∷ b ∷ c ∷ [])
+      → (1 ≤ a)
+      × ((1 ≤ b) × ((1 ≤ c) × ((a + b + c ≤ n) × IsBitSet (digit code (n - (a + b + c))) 3)))
+  three_says a b c (Three j _ _ _ p q r e s) = let f : j ≡ n - (a + b + c) = omega arith in
+      (p, (q, (r, (omega arith, subst (λ i. IsBitSet (digit code i) 3) f s))))
+
   option_dec : (H : List ℕ) → Dec (HeapOption code n H)
   option_dec [] =
       elim (both_dec (dec_le 1 n) (bit_dec (digit code n) 0))
@@ -74,7 +80,15 @@ module _ (code : List ℕ) (n : ℕ) where
         | yes (p, (q, (l, s))) ↦ yes (Two (n - (a + b)) a b p q (omega arith) s)
         | no f ↦ no (λ o. f (two_says a b o))
       ]
-  option_dec (a ∷ b ∷ d ∷ H) = no (λ o. elim o [ ])
+  option_dec (a ∷ b ∷ c ∷ []) =
+      elim (both_dec (dec_le 1 a)
+      (both_dec (dec_le 1 b)
+      (both_dec (dec_le 1 c)
+      (both_dec (dec_le (a + b + c) n) (bit_dec (digit code (n - (a + b + c))) 3))))) [
+        | yes (p, (q, (r, (l, s)))) ↦ yes (Three (n - (a + b + c)) a b c p q r (omega arith) s)
+        | no f ↦ no (λ o. f (three_says a b c o))
+      ]
+  option_dec (a ∷ b ∷ c ∷ d ∷ H) = no (λ o. elim o [ ])
 
   module _ (Q R : List ℕ → Type 0) (test : (H : List ℕ) → HeapOption code n H → Q H ⊎ R H) where
     option_test : (H : List ℕ) → (HeapOption code n H × Q H) ⊎ (HeapOption code n H → R H)
@@ -90,11 +104,16 @@ module _ (code : List ℕ) (n : ℕ) where
         → ((a : ℕ) → a < suc n → HeapOption code n (a ∷ []) → R (a ∷ []))
         → ((a : ℕ) → a < suc n → (b : ℕ) → b < suc n → HeapOption code n (a ∷ b ∷ [])
         → R (a ∷ b ∷ []))
+        → ((a : ℕ) → a < suc n → (b : ℕ) → b < suc n → (c : ℕ) → c < suc n
+        → HeapOption code n (a ∷ b ∷ c ∷ [])
+        → R (a ∷ b ∷ c ∷ []))
         → (H : List ℕ) → HeapOption code n H → R H
-    gathered none one two _ (Nothing j p e b) = none (Nothing j p e b)
-    gathered none one two _ (One j a p q e b) = one a (omega arith) (One j a p q e b)
-    gathered none one two _ (Two j a b p q e s) =
+    gathered none one two three _ (Nothing j p e b) = none (Nothing j p e b)
+    gathered none one two three _ (One j a p q e b) = one a (omega arith) (One j a p q e b)
+    gathered none one two three _ (Two j a b p q e s) =
         two a (omega arith) b (omega arith) (Two j a b p q e s)
+    gathered none one two three _ (Three j a b c p q r e s) =
+        three a (omega arith) b (omega arith) c (omega arith) (Three j a b c p q r e s)
 
     -- either one option of the heap has the one fact, or each has the other
     pub some_or_all_options : ((H : List ℕ) × HeapOption code n H × Q H)
@@ -108,7 +127,14 @@ module _ (code : List ℕ) (n : ℕ) where
                 (some_or_all_below _ _
                 (λ a. some_or_all_below _ _ (λ b. option_test (a ∷ b ∷ [])) (suc n)) (suc n)) [
                   | inl (a, _, (b, _, (o, q))) ↦ inl (a ∷ b ∷ [], o, q)
-                  | inr two ↦ inr (gathered none one two)
+                  | inr two ↦ elim
+                      (some_or_all_below _ _
+                      (λ a. some_or_all_below _ _
+                      (λ b. some_or_all_below _ _ (λ c. option_test (a ∷ b ∷ c ∷ [])) (suc n))
+                      (suc n)) (suc n)) [
+                        | inl (a, _, (b, _, (c, _, (o, q)))) ↦ inl (a ∷ b ∷ c ∷ [], o, q)
+                        | inr three ↦ inr (gathered none one two three)
+                      ]
                 ]
           ]
         ]

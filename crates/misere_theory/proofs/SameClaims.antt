@@ -8,9 +8,9 @@ use Rattle.misere_theory.proofs.Sums.{value_in, value-append, IsPosition-append}
 use Rattle.misere_theory.proofs.Rules.{same_bool}
 
 -- c and d are the same numbers
-pub record SameClaim (c d : Claim) (key_c key_d : ℕ → ℕ × ℕ) : Type 0 where
+pub record SameClaim (heap : ℕ → Type 0) (c d : Claim) (key_c key_d : ℕ → ℕ × ℕ) : Type 0 where
   pub order : c.order ≡ d.order
-  pub phi : (n : ℕ) → IsHeap n → d.phi n ≡ c.phi n
+  pub phi : (n : ℕ) → heap n → d.phi n ≡ c.phi n
   pub portion : (x : ℕ) → x < c.order → d.portion x ≡ c.portion x
   pub times : (x y : ℕ) → x < c.order → y < c.order → d.times x y ≡ c.times x y
   pub words : (e : ℕ) → 0 < e → e < c.order → ((key_c e).0 ≡ (key_d e).0)
@@ -77,25 +77,27 @@ same_keys a b f g =
     ]
 
 -- Numbers. What one claim's least keys say of the other's.
-module _ (code : List ℕ) (c d : Claim) (rc : Represents IsHeap code c)
-    (rd : Represents IsHeap code d) where
-  pub carries : (X Y : List ℕ) → IsPosition IsHeap X → IsPosition IsHeap Y → value c X ≡ value c Y
+module _ (heap : ℕ → Type 0) (code : List ℕ) (c d : Claim) (rc : Represents heap code c)
+    (rd : Represents heap code d) where
+  pub carries : (X Y : List ℕ) → IsPosition heap X → IsPosition heap Y → value c X ≡ value c Y
       → value d X ≡ value d Y
   carries X Y p q e = (rd.indistinguishable X Y p q).0 ((rc.indistinguishable X Y p q).1 e)
 
   abbrev pub Agree : ℕ → Type 0
-  Agree e = (X : List ℕ) × IsPosition IsHeap X × (value c X ≡ e) × (value d X ≡ e)
+  Agree e = (X : List ℕ) × IsPosition heap X × (value c X ≡ e) × (value d X ≡ e)
 
-  pub agree_at : (e : ℕ) → Agree e → (X : List ℕ) → IsPosition IsHeap X → value c X ≡ e
+  pub agree_at : (e : ℕ) → Agree e → (X : List ℕ) → IsPosition heap X → value c X ≡ e
       → value d X ≡ e
   agree_at e (Y, y, p, q) X x h = carries X Y x y (h ∙ sym p) ∙ q
 
-  module _ (heaps : ℕ) (key_c key_d : ℕ → ℕ × ℕ) (nc : IsNumbered c heaps key_c)
+  module _
+      (heaps : ℕ) (fits : (h : ℕ) → 1 ≤ h → h ≤ heaps → heap h)
+      (key_c key_d : ℕ → ℕ × ℕ) (nc : IsNumbered c heaps key_c)
       (nd : IsNumbered d heaps key_d) where
     -- the position that e's key names, with e's value on the one side and no less on the other
     pub record Side (e : ℕ) : Type 0 where
       pub position : List ℕ
-      pub counts : IsPosition IsHeap position
+      pub counts : IsPosition heap position
       pub here : value c position ≡ e
       pub there : value d position ≡ d.times (key_c e).0 (d.phi (key_c e).1)
       pub above : e ≤ value d position
@@ -106,12 +108,13 @@ module _ (code : List ℕ) (c d : Claim) (rc : Represents IsHeap code c)
         let f = (key_c e).0 in
         let h = (key_c e).1 in
         let (F, w, p, q) = agree f (nc.parent e pos l) in
-        let one : IsHeap h = (nc.heap e pos l).0 in
+        let range = nc.heap e pos l in
+        let one : heap h = fits h range.0 range.1 in
         let here : value c (h ∷ F) ≡ e =
-        rc.monoid.commutes _ _ (rc.elements h one) (value_in IsHeap c rc.monoid rc.elements F w)
+        rc.monoid.commutes _ _ (rc.elements h one) (value_in heap c rc.monoid rc.elements F w)
         ∙ ap (λ v. c.times v (c.phi h)) p ∙ nc.product e pos l in
         let there : value d (h ∷ F) ≡ d.times f (d.phi h) =
-        rd.monoid.commutes _ _ (rd.elements h one) (value_in IsHeap d rd.monoid rd.elements F w)
+        rd.monoid.commutes _ _ (rd.elements h one) (value_in heap d rd.monoid rd.elements F w)
         ∙ ap (λ v. d.times v (d.phi h)) q in
         record {
           position = h ∷ F;
@@ -127,7 +130,7 @@ module _ (code : List ℕ) (c d : Claim) (rc : Represents IsHeap code c)
                 ((rd.indistinguishable (h ∷ F) Y (one, w) y).1 (sym b)) in
                 absurd (omega arith)
           ];
-          parent = subst (λ v. v < d.order) q (value_in IsHeap d rd.monoid rd.elements F w);
+          parent = subst (λ v. v < d.order) q (value_in heap d rd.monoid rd.elements F w);
         }
 
     pub key_not_below : (e : ℕ) → 0 < e → e < c.order → Side e → KeyBelow (key_c e) (key_d e) → ⊥
@@ -136,9 +139,9 @@ module _ (code : List ℕ) (c d : Claim) (rc : Represents IsHeap code c)
         let h = (key_c e).1 in
         let v = d.times f (d.phi h) in
         let high : e ≤ v = subst (λ z. e ≤ z) w.there w.above in
-        let low : v < d.order =
-        rd.monoid.closed f (d.phi h) w.parent (rd.elements h (nc.heap e pos l).0) in
         let range = nc.heap e pos l in
+        let low : v < d.order =
+        rd.monoid.closed f (d.phi h) w.parent (rd.elements h (fits h range.0 range.1)) in
         let minimal : KeyBelow (f, h) (key_d v) → ⊥ =
         nd.least f h w.parent range.0 range.1 (omega arith) in
         elim (dec_lt e v) [
@@ -149,29 +152,30 @@ module _ (code : List ℕ) (c d : Claim) (rc : Represents IsHeap code c)
 
 -- Both at once.
 module _
-    (code : List ℕ) (c d : Claim) (rc : Represents IsHeap code c) (rd : Represents IsHeap code d)
-    (heaps : ℕ) (key_c key_d : ℕ → ℕ × ℕ)
+    (heap : ℕ → Type 0) (code : List ℕ) (c d : Claim) (rc : Represents heap code c)
+    (rd : Represents heap code d) (heaps : ℕ)
+    (fits : (h : ℕ) → 1 ≤ h → h ≤ heaps → heap h) (key_c key_d : ℕ → ℕ × ℕ)
     (nc : IsNumbered c heaps key_c) (nd : IsNumbered d heaps key_d) where
-  swap_sides : {e : ℕ} → Agree code c d rc rd e → Agree code d c rd rc e
+  swap_sides : {e : ℕ} → Agree heap code c d rc rd e → Agree heap code d c rd rc e
   swap_sides (X, w, p, q) = (X, w, q, p)
 
-  pub agree_within : (t e : ℕ) → e < t → e < c.order → Agree code c d rc rd e
+  pub agree_within : (t e : ℕ) → e < t → e < c.order → Agree heap code c d rc rd e
   agree_within zero e h l = absurd (omega arith)
   agree_within (suc t) e h l = elim (eq-zero-or-pos e) [
     | inl z ↦ ([], tt, sym z, sym z)
     | inr pos ↦
-        let smaller : (i : ℕ) → i < e → Agree code c d rc rd i =
+        let smaller : (i : ℕ) → i < e → Agree heap code c d rc rd i =
         λ i g. agree_within t i (omega arith) (omega arith) in
-        let a = one_side code c d rc rd heaps key_c key_d nc nd e pos l smaller in
+        let a = one_side heap code c d rc rd heaps fits key_c key_d nc nd e pos l smaller in
         let below : e < d.order = let v =
-        value_in IsHeap d rd.monoid rd.elements a.position a.counts in let u = a.above in
+        value_in heap d rd.monoid rd.elements a.position a.counts in let u = a.above in
         omega arith in
         let b =
-        one_side code d c rd rc heaps key_d key_c nd nc e pos below
+        one_side heap code d c rd rc heaps fits key_d key_c nd nc e pos below
         (λ i g. swap_sides (smaller i g)) in
         let keys = same_keys (key_c e) (key_d e)
-        (key_not_below code c d rc rd heaps key_c key_d nc nd e pos l a)
-        (key_not_below code d c rd rc heaps key_d key_c nd nc e pos below b) in (
+        (key_not_below heap code c d rc rd heaps fits key_c key_d nc nd e pos l a)
+        (key_not_below heap code d c rd rc heaps fits key_d key_c nd nc e pos below b) in (
           a.position,
           a.counts,
           a.here,
@@ -180,22 +184,22 @@ module _
         )
   ]
 
-  pub agree : (e : ℕ) → e < c.order → Agree code c d rc rd e
+  pub agree : (e : ℕ) → e < c.order → Agree heap code c d rc rd e
   agree e l = agree_within (suc e) e (omega arith) l
 
   pub order_le : c.order ≤ d.order
   order_le = elim (dec_le c.order d.order) [
     | yes i ↦ i
     | no f ↦ let (X, w, p, q) = agree d.order (omega arith) in let v =
-        value_in IsHeap d rd.monoid rd.elements X w in absurd (omega arith)
+        value_in heap d rd.monoid rd.elements X w in absurd (omega arith)
   ]
 
-  pub same_value : (X : List ℕ) → IsPosition IsHeap X → value d X ≡ value c X
+  pub same_value : (X : List ℕ) → IsPosition heap X → value d X ≡ value c X
   same_value X w =
-      agree_at code c d rc rd (value c X)
-      (agree (value c X) (value_in IsHeap c rc.monoid rc.elements X w)) X w refl
+      agree_at heap code c d rc rd (value c X)
+      (agree (value c X) (value_in heap c rc.monoid rc.elements X w)) X w refl
 
-  pub same_phi : (n : ℕ) → IsHeap n → d.phi n ≡ c.phi n
+  pub same_phi : (n : ℕ) → heap n → d.phi n ≡ c.phi n
   same_phi n h = sym (value_of_heap d rd.monoid n (rd.elements n h)) ∙ same_value (n ∷ []) (h, tt)
       ∙ value_of_heap c rc.monoid n (rc.elements n h)
 
@@ -210,30 +214,31 @@ module _
   same_times x y i j =
       let (X, w, p, q) = agree x i in
       let (Y, v, r, s) = agree y j in
-      ap₂ d.times (sym q) (sym s) ∙ sym (value-append IsHeap d rd.monoid rd.elements X Y w v)
-      ∙ same_value (X ++ Y) (IsPosition-append IsHeap X Y w v)
-      ∙ value-append IsHeap c rc.monoid rc.elements X Y w v ∙ ap₂ c.times p r
+      ap₂ d.times (sym q) (sym s) ∙ sym (value-append heap d rd.monoid rd.elements X Y w v)
+      ∙ same_value (X ++ Y) (IsPosition-append heap X Y w v)
+      ∙ value-append heap c rc.monoid rc.elements X Y w v ∙ ap₂ c.times p r
 
   pub same_word : (e : ℕ) → 0 < e → e < c.order
       → (e < d.order) × (((key_c e).0 ≡ (key_d e).0) × ((key_c e).1 ≡ (key_d e).1))
   same_word e pos l =
-      let smaller : (i : ℕ) → i < e → Agree code c d rc rd i = λ i g. agree i (omega arith) in
-      let a = one_side code c d rc rd heaps key_c key_d nc nd e pos l smaller in
+      let smaller : (i : ℕ) → i < e → Agree heap code c d rc rd i = λ i g. agree i (omega arith) in
+      let a = one_side heap code c d rc rd heaps fits key_c key_d nc nd e pos l smaller in
       let below : e < d.order = let o = order_le in omega arith in
       let b =
-      one_side code d c rd rc heaps key_d key_c nd nc e pos below
+      one_side heap code d c rd rc heaps fits key_d key_c nd nc e pos below
       (λ i g. swap_sides (smaller i g)) in (
         below,
         same_keys (key_c e) (key_d e)
-            (key_not_below code c d rc rd heaps key_c key_d nc nd e pos l a)
-            (key_not_below code d c rd rc heaps key_d key_c nd nc e pos below b),
+            (key_not_below heap code c d rc rd heaps fits key_c key_d nc nd e pos l a)
+            (key_not_below heap code d c rd rc heaps fits key_d key_c nd nc e pos below b),
       )
 
 -- heaps with one element in the one claim have one in the other
-pub same_heaps : (code : List ℕ) (c d : Claim) → Represents IsHeap code c → Represents IsHeap code d
-    → (n m : ℕ) → IsHeap n → IsHeap m
+pub same_heaps : (heap : ℕ → Type 0) (code : List ℕ) (c d : Claim) → Represents heap code c
+    → Represents heap code d
+    → (n m : ℕ) → heap n → heap m
     → d.phi n ≡ d.phi m → c.phi n ≡ c.phi m
-same_heaps code c d rc rd n m h k e =
+same_heaps heap code c d rc rd n m h k e =
     sym (value_of_heap c rc.monoid n (rc.elements n h))
     ∙ (rc.indistinguishable (n ∷ []) (m ∷ []) (h, tt) (k, tt)).0
     ((rd.indistinguishable (n ∷ []) (m ∷ []) (h, tt) (k, tt)).1
@@ -241,13 +246,16 @@ same_heaps code c d rc rd n m h k e =
     ∙ sym (value_of_heap d rd.monoid m (rd.elements m k))))
     ∙ value_of_heap c rc.monoid m (rc.elements m k)
 
--- start and period are the same
-pub same_period : (code : List ℕ) (c d : Claim) → Represents IsHeap code c
-    → Represents IsHeap code d → (s p t r : ℕ) → IsLeastPeriod c s p
+-- start and period are the same, where all heaps count
+pub same_period : (heap : ℕ → Type 0) → ((n : ℕ) → IsHeap n → heap n) → (code : List ℕ)
+    (c d : Claim) → Represents heap code c
+    → Represents heap code d → (s p t r : ℕ) → IsLeastPeriod c s p
     → IsLeastPeriod d t r → (s ≡ t) × (p ≡ r)
-same_period code c d rc rd s p t r k l =
-    let one = same_heaps code c d rc rd in
-    let two = same_heaps code d c rd rc in
+same_period heap all code c d rc rd s p t r k l =
+    let one : (n m : ℕ) → IsHeap n → IsHeap m → d.phi n ≡ d.phi m → c.phi n ≡ c.phi m =
+    λ n m h i. same_heaps heap code c d rc rd n m (all n h) (all m i) in
+    let two : (n m : ℕ) → IsHeap n → IsHeap m → c.phi n ≡ c.phi m → d.phi n ≡ d.phi m =
+    λ n m h i. same_heaps heap code d c rd rc n m (all n h) (all m i) in
     let a : p ≤ r = no_shorter c d one s p t r k l in
     let b : r ≤ p = no_shorter d c two t r s p l k in
     let e : p ≡ r = omega arith in
@@ -256,20 +264,17 @@ same_period code c d rc rd s p t r k l =
     (omega arith, e)
 
 -- the elements, phi, portion, product and keys are the same
-pub same_claim : (code : List ℕ) (c d : Claim) → Represents IsHeap code c → Represents IsHeap code d
-    → (s p t r : ℕ) (key_c key_d : ℕ → ℕ × ℕ) → IsLeastPeriod c s p → IsLeastPeriod d t r
-    → IsNumbered c (s + p - 1) key_c
-    → IsNumbered d (t + r - 1) key_d → SameClaim c d key_c key_d
-same_claim code c d rc rd s p t r key_c key_d k l nc nd =
-    let (e, f) = same_period code c d rc rd s p t r k l in
-    let g : t + r - 1 ≡ s + p - 1 = omega arith in
-    let nd' : IsNumbered d (s + p - 1) key_d = subst (λ h. IsNumbered d h key_d) g nd in
-    let a : c.order ≤ d.order = order_le code c d rc rd (s + p - 1) key_c key_d nc nd' in
-    let b : d.order ≤ c.order = order_le code d c rd rc (s + p - 1) key_d key_c nd' nc in
+pub same_claim : (heap : ℕ → Type 0) (code : List ℕ) (c d : Claim) → Represents heap code c
+    → Represents heap code d → (heaps : ℕ) → ((h : ℕ) → 1 ≤ h → h ≤ heaps → heap h)
+    → (key_c key_d : ℕ → ℕ × ℕ) → IsNumbered c heaps key_c → IsNumbered d heaps key_d
+    → SameClaim heap c d key_c key_d
+same_claim heap code c d rc rd heaps fits key_c key_d nc nd =
+    let a : c.order ≤ d.order = order_le heap code c d rc rd heaps fits key_c key_d nc nd in
+    let b : d.order ≤ c.order = order_le heap code d c rd rc heaps fits key_d key_c nd nc in
     record {
       order = omega arith;
-      phi = same_phi code c d rc rd (s + p - 1) key_c key_d nc nd';
-      portion = same_portion code c d rc rd (s + p - 1) key_c key_d nc nd';
-      times = same_times code c d rc rd (s + p - 1) key_c key_d nc nd';
-      words = λ e pos h. (same_word code c d rc rd (s + p - 1) key_c key_d nc nd' e pos h).1;
+      phi = same_phi heap code c d rc rd heaps fits key_c key_d nc nd;
+      portion = same_portion heap code c d rc rd heaps fits key_c key_d nc nd;
+      times = same_times heap code c d rc rd heaps fits key_c key_d nc nd;
+      words = λ e pos h. (same_word heap code c d rc rd heaps fits key_c key_d nc nd e pos h).1;
     }

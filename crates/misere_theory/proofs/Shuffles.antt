@@ -25,6 +25,12 @@ pub behind : (H X Y : List ℕ) → Shuffled X Y → Shuffled (H ++ X) (H ++ Y)
 behind [] X Y s = s
 behind (h ∷ H) X Y s = Under (behind H X Y s)
 
+pub beside : {H L : List ℕ} → Shuffled H L → (X : List ℕ) → Shuffled (H ++ X) (L ++ X)
+beside Same X = Same
+beside (Under s) X = Under (beside s X)
+beside Flip X = Flip
+beside (Then s t) X = Then (beside s X) (beside t X)
+
 pub to_front : (H : List ℕ) (n : ℕ) (X : List ℕ) → Shuffled (H ++ n ∷ X) (n ∷ (H ++ X))
 to_front [] n X = Same
 to_front (h ∷ H) n X = Then (Under (to_front H n X)) Flip

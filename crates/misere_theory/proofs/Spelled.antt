@@ -1,11 +1,11 @@
 -- Elements are the values of what their keys spell; a period shows within its own length.
 use Rattle.std.proofs.Common.{◌≡◌, ℕ, zero, suc, ◌+◌, ◌-◌, ◌<◌, ◌≤◌, List, [], ◌∷◌, refl, sym, ◌∙◌, ap, subst, inl, inr, arith, eq-zero-or-pos}
 use native.Mathlib.Decide.{dec_lt}
-use Rattle.misere_theory.specs.Games.{IsHeap, IsPosition}
+use Rattle.misere_theory.specs.Games.{IsPosition}
 use Rattle.misere_theory.specs.Quotients.{Monoid, value}
-use Rattle.misere_theory.specs.Certificates.{Certificate, phi_at, times_of, claim_of, key_of, InRanges, Canonical, IsSpelled}
+use Rattle.misere_theory.specs.Certificates.{Certificate, phi_at, times_of, claim_of, key_of, InRanges, Canonical, IsHeapOf, IsSpelled}
 use Rattle.misere_theory.specs.Certificates.IsSpelled.{Zero, Key}
-use Rattle.misere_theory.proofs.Written.{phi_in, repeats}
+use Rattle.misere_theory.proofs.Written.{phi_in, repeats, nothing_past, key_counts}
 
 spelled_within : (c : Certificate) → Canonical c → (t e : ℕ) → e < t → e < c.order
     → (X : List ℕ) × IsSpelled c e X
@@ -24,12 +24,12 @@ spelled c k e l = spelled_within c k (suc e) e (omega arith) l
 
 pub spelled_value : (c : Certificate) (e : ℕ) (X : List ℕ) → InRanges c
     → Monoid c.order (times_of c) → Canonical c → e < c.order
-    → IsSpelled c e X → IsPosition IsHeap X × (value (claim_of c) X ≡ e)
+    → IsSpelled c e X → IsPosition (IsHeapOf c) X × (value (claim_of c) X ≡ e)
 spelled_value c _ _ r m k l Zero = (tt, refl)
 spelled_value c _ _ r m k l (Key e pos w) =
     let up = k.numbered.parent e pos l in
     let (p, f) = spelled_value c (key_of c e).0 _ r m k (omega arith) w in (
-      ((k.numbered.heap e pos l).0, p),
+      (key_counts c r e k.numbered pos l, p),
       ap (times_of c (phi_at c (key_of c e).1)) f ∙ m.commutes _ _ (phi_in c r _) (omega arith)
           ∙ k.numbered.product e pos l,
     )
@@ -37,18 +37,20 @@ spelled_value c _ _ r m k l (Key e pos w) =
 module _
     (c : Certificate) (r : InRanges c) (q : ℕ) (once : (n : ℕ) → c.start ≤ n
     → n < c.start + c.period → phi_at c (q + n) ≡ phi_at c n) where
-  serves_within : (t n : ℕ) → n < t → c.start ≤ n → phi_at c (q + n) ≡ phi_at c n
-  serves_within zero n h l = absurd (omega arith)
-  serves_within (suc t) n h l = elim (dec_lt n (c.start + c.period)) [
+  serves_within : 1 ≤ c.period → (t n : ℕ) → n < t → c.start ≤ n → phi_at c (q + n) ≡ phi_at c n
+  serves_within one zero n h l = absurd (omega arith)
+  serves_within one (suc t) n h l = elim (dec_lt n (c.start + c.period)) [
     | yes i ↦ once n l i
     | no f ↦
-        let one = r.period.0 in
         let e : c.period + (q + (n - c.period)) ≡ q + n = omega arith in
         let g : c.period + (n - c.period) ≡ n = omega arith in
-        sym (ap (phi_at c) e) ∙ repeats c r (q + (n - c.period)) (omega arith)
-        ∙ serves_within t (n - c.period) (omega arith) (omega arith)
-        ∙ sym (repeats c r (n - c.period) (omega arith)) ∙ ap (phi_at c) g
+        sym (ap (phi_at c) e) ∙ repeats c r one (q + (n - c.period)) (omega arith)
+        ∙ serves_within one t (n - c.period) (omega arith) (omega arith)
+        ∙ sym (repeats c r one (n - c.period) (omega arith)) ∙ ap (phi_at c) g
   ]
 
   pub serves_always : (n : ℕ) → c.start ≤ n → phi_at c (q + n) ≡ phi_at c n
-  serves_always n l = serves_within (suc n) n (omega arith) l
+  serves_always n l = elim (eq-zero-or-pos c.period) [
+    | inl z ↦ nothing_past c r z (q + n) (omega arith) ∙ sym (nothing_past c r z n l)
+    | inr one ↦ serves_within one (suc n) n (omega arith) l
+  ]

@@ -1,7 +1,7 @@
 -- Moves, sizes and values of a sum of positions.
 use Rattle.std.proofs.Common.{◌≡◌, ℕ, ◌+◌, ◌-◌, ◌*◌, ◌<◌, ◌⊎◌, List, [], ◌∷◌, ◌++◌, refl, sym, ◌∙◌, ap, inl, inr, append_assoc, arith}
 use Rattle.misere_theory.specs.Games.{HeapOption, Move, measure, IsPosition, IsHeap, IsHeapUpTo}
-use Rattle.misere_theory.specs.Games.HeapOption.{Nothing, One, Two}
+use Rattle.misere_theory.specs.Games.HeapOption.{Nothing, One, Two, Three}
 use Rattle.misere_theory.specs.Games.Move.{Here, There}
 use Rattle.misere_theory.specs.Quotients.{Claim, Monoid, GivesElements, value}
 
@@ -46,6 +46,7 @@ pub option_smaller : {code : List ℕ} {n : ℕ} {H : List ℕ} → HeapOption c
 option_smaller (Nothing j p e b) = omega arith
 option_smaller (One j a p q e b) = omega arith
 option_smaller (Two j a b p q e c) = omega arith
+option_smaller (Three j a b c p q r e s) = omega arith
 
 -- moves lower the measure
 pub move_smaller : {code X Y : List ℕ} → Move code X Y → measure Y < measure X
@@ -66,12 +67,17 @@ pub heaps_kept : (code : List ℕ) → IsKept IsHeap code
 heaps_kept code n _ h (Nothing j p e b) = tt
 heaps_kept code n _ h (One j a p q e b) = (q, tt)
 heaps_kept code n _ h (Two j a b p q e c) = (p, (q, tt))
+heaps_kept code n _ h (Three j a b c p q r e s) = (p, (q, (r, tt)))
 
 pub heaps_up_to_kept : (M : ℕ) (code : List ℕ) → IsKept (IsHeapUpTo M) code
 heaps_up_to_kept M code n _ h (Nothing j p e b) = tt
 heaps_up_to_kept M code n _ h (One j a p q e b) = ((q, let k = h.1 in omega arith), tt)
 heaps_up_to_kept M code n _ h (Two j a b p q e c) =
     ((p, let k = h.1 in omega arith), ((q, let k = h.1 in omega arith), tt))
+heaps_up_to_kept M code n _ h (Three j a b c p q r e s) = (
+  (p, let k = h.1 in omega arith),
+  ((q, let k = h.1 in omega arith), ((r, let k = h.1 in omega arith), tt)),
+)
 
 -- a move leads from a position to a position
 pub move_kept : (heap : ℕ → Type 0) (code : List ℕ) → IsKept heap code → {X Y : List ℕ}

@@ -1,14 +1,14 @@
 -- What each answer to a certificate says of the others, and of a certificate that is accepted or
 -- isn't.
 use Rattle.std.proofs.Common.{◌≡◌, ℕ, ◌*◌, ◌^◌, ◌<◌, ◌≤◌, ◌⊎◌, List, length, ◌-◌, refl, ap, inl, inr, arith}
-use Rattle.misere_theory.specs.Games.{IsHeap, IsPosition}
+use Rattle.misere_theory.specs.Games.{IsPosition}
 use Rattle.misere_theory.specs.Quotients.{Monoid, Represents, RuleFails, GivesElements}
-use Rattle.misere_theory.specs.Certificates.{Certificate, claim_of, times_of, InRanges, Canonical, Accepted}
+use Rattle.misere_theory.specs.Certificates.{Certificate, claim_of, times_of, kind_of, IsHeapOf, InRanges, Canonical, Accepted}
 use Rattle.misere_theory.specs.Verdicts.{Fault, fault_number, HasFault, Verdict, IsAllowed}
 use Rattle.misere_theory.specs.Verdicts.Fault.{Law, Word, Order, Period, Apart}
 use Rattle.misere_theory.specs.Verdicts.Verdict.{Yes, No, Outcome, Limit}
 use Rattle.misere_theory.proofs.Basics.{neither_smaller}
-use Rattle.misere_theory.proofs.Sums.{heaps_kept}
+use Rattle.misere_theory.proofs.Counting.{kept_in}
 use Rattle.misere_theory.proofs.Rules.{predicts_from_rule, rule_from_predicts, rule_decided, rule_not_both, represents}
 use Rattle.misere_theory.proofs.Written.{phi_in, periodic, reached, all_apart}
 use Rattle.misere_theory.proofs.Monoids.{no_law_fails, monoid_in_ranges}
@@ -61,10 +61,10 @@ same_number Apart Apart e = refl
 
 module _ (c : Certificate) (a : Accepted c) where
   -- the rule fails at no position of an accepted certificate
-  pub never_fails : (X : List ℕ) → IsPosition IsHeap X → RuleFails c.code (claim_of c) X → ⊥
+  pub never_fails : (X : List ℕ) → IsPosition (IsHeapOf c) X → RuleFails c.code (claim_of c) X → ⊥
   never_fails X p f =
       rule_not_both c.code (claim_of c) X
-      (rule_from_predicts IsHeap c.code (claim_of c) (heaps_kept c.code) a.represents.predicts X p)
+      (rule_from_predicts (IsHeapOf c) c.code (claim_of c) (kept_in (kind_of c) c.code) a.represents.predicts X p)
       f
 
   pub yes_or_limit : (limit : ℕ) (v : Verdict) → IsAllowed c limit v → (v ≡ Yes) ⊎ (v ≡ Limit)
@@ -77,16 +77,16 @@ module _ (c : Certificate) (a : Accepted c) where
 module _ (c : Certificate) (r : InRanges c) (m : Monoid c.order (times_of c)) (k : Canonical c)
   where
     -- where the rule fails at no position the claim is the quotient
-    pub accepted_from_no_failure : ((X : List ℕ) → IsPosition IsHeap X
+    pub accepted_from_no_failure : ((X : List ℕ) → IsPosition (IsHeapOf c) X
         → RuleFails c.code (claim_of c) X → ⊥) → Accepted c
     accepted_from_no_failure none =
         let claim = claim_of c in
-        let inside : GivesElements IsHeap claim = λ n _. phi_in c r n in
+        let inside : GivesElements (IsHeapOf c) claim = λ n _. phi_in c r n in
         record {
           in_ranges = r;
           canonical = k;
-          represents = represents IsHeap c.code claim m inside
-              (predicts_from_rule IsHeap c.code claim (heaps_kept c.code)
+          represents = represents (IsHeapOf c) c.code claim m inside
+              (predicts_from_rule (IsHeapOf c) c.code claim (kept_in (kind_of c) c.code)
               (λ X p.
               elim (rule_decided c.code claim X) [ inl h ↦ h | inr f ↦ absurd (none X p f) ]))
               (reached c r m k.numbered)
@@ -95,9 +95,9 @@ module _ (c : Certificate) (r : InRanges c) (m : Monoid c.order (times_of c)) (k
 
     -- so it is accepted, or the rule fails at a position
     pub accepted_or_fails : Accepted c
-        ⊎ ((X : List ℕ) × IsPosition IsHeap X × RuleFails c.code (claim_of c) X)
+        ⊎ ((X : List ℕ) × IsPosition (IsHeapOf c) X × RuleFails c.code (claim_of c) X)
     accepted_or_fails =
-        elim (holds_or_fails c.code (claim_of c) m (λ n _. phi_in c r n) (length c.code - 1) c.start
+        elim (holds_or_fails (kind_of c) c.code (claim_of c) m (λ n _. phi_in c r n) (length c.code - 1) c.start
         c.period (periodic c r)) [
           | inl holds ↦ inl
               (accepted_from_no_failure
@@ -105,7 +105,7 @@ module _ (c : Certificate) (r : InRanges c) (m : Monoid c.order (times_of c)) (k
           | inr fails ↦ inr fails
         ]
 
-    pub outcome_or_limit : (Represents IsHeap c.code (claim_of c) → ⊥) → (limit : ℕ) (v : Verdict)
+    pub outcome_or_limit : (Represents (IsHeapOf c) c.code (claim_of c) → ⊥) → (limit : ℕ) (v : Verdict)
         → IsAllowed c limit v
         → ((X : List ℕ) × (v ≡ Outcome X)) ⊎ (v ≡ Limit)
     outcome_or_limit not limit Yes h = absurd (not h.represents)
@@ -117,7 +117,7 @@ pub never_past_all_pairs : (c : Certificate) → InRanges c → (limit : ℕ)
     → c.order * 2 ^ c.order ≤ limit → IsAllowed c limit Limit → ⊥
 never_past_all_pairs c r limit l h =
     let b =
-    reach_bound IsHeap c.code (heaps_kept c.code) (claim_of c) h.0 (λ n _. phi_in c r n) limit
+    reach_bound (IsHeapOf c) c.code (kept_in (kind_of c) c.code) (claim_of c) h.0 (λ n _. phi_in c r n) limit
     h.2 in
     omega arith
 

@@ -1,10 +1,9 @@
 -- The first winning move: there is one wherever some move wins, and whoever answers by it wins.
-use Rattle.std.proofs.Common.{◌≡◌, ℕ, zero, suc, ◌-◌, ◌<◌, ◌≤◌, ◌⊎◌, List, [], ◌∷◌, ◌++◌, length, get_or, sum, refl, sym, ◌∙◌, ap, ap₂, subst, inl, inr, arith}
+use Rattle.std.proofs.Common.{◌≡◌, ℕ, zero, suc, ◌-◌, ◌<◌, ◌≤◌, ◌⊎◌, List, [], ◌∷◌, ◌++◌, length, get_or, sum, refl, sym, ap, ap₂, subst, inl, inr, arith}
 use Rattle.std.proofs.lemmas.List.Sorted.{IsPermutation-refl}
-use Rattle.std.specs.List.Sorted.{IsNonDecreasing}
-use native.Mathlib.Decide.{dec_lt, dec_le, ℕ_discrete}
+use native.Mathlib.Decide.{dec_lt, ℕ_discrete}
 use Rattle.misere_theory.specs.Games.{HeapOption, Move, HeapMove, IsP, IsN}
-use Rattle.misere_theory.specs.Games.HeapOption.{Nothing, One, Two}
+use Rattle.misere_theory.specs.Games.HeapOption.{Nothing, One, Two, Three}
 use Rattle.misere_theory.specs.Games.Move.{Here}
 use Rattle.misere_theory.specs.Games.IsP.{AllLose}
 use Rattle.misere_theory.specs.Games.IsN.{Ended, Wins}
@@ -12,43 +11,10 @@ use Rattle.misere_theory.specs.Plays.{LeftBefore, IsWinningMove, IsFirstWin, IsH
 use Rattle.misere_theory.specs.Plays.IsHanded.{AtOnce, Later}
 use Rattle.misere_theory.proofs.Basics.{neither_smaller}
 use Rattle.misere_theory.proofs.Outcomes.{determined, not_both, some_or_all_below, some_or_all_options}
-use Rattle.misere_theory.proofs.Shuffles.{Shuffled, back, from_permutation, to_permutation, move_shuffled, p_shuffled, one_heap_moves}
-use Rattle.misere_theory.proofs.Shuffles.Shuffled.{Same, Flip, Then}
+use Rattle.misere_theory.proofs.Shuffles.{back, beside, from_permutation, to_permutation, move_shuffled, p_shuffled, one_heap_moves}
+use Rattle.misere_theory.proofs.Shuffles.Shuffled.{Then}
+use Rattle.misere_theory.proofs.InOrder.{put_in_order, order_dec}
 use Rattle.misere_theory.proofs.Lessened.{less_shuffled, less_in_order, less_or_none, moved_once}
-
-in_order_none : IsNonDecreasing []
-in_order_none i j d h l = absurd (omega arith)
-
-in_order_one : (a : ℕ) → IsNonDecreasing (a ∷ [])
-in_order_one a zero zero d h l = omega arith
-in_order_one a (suc i) zero d h l = absurd (omega arith)
-in_order_one a i (suc j) d h l = absurd (omega arith)
-
-in_order_two : (a b : ℕ) → a ≤ b → IsNonDecreasing (a ∷ b ∷ [])
-in_order_two a b h zero zero d k l = omega arith
-in_order_two a b h (suc i) zero d k l = absurd (omega arith)
-in_order_two a b h zero (suc zero) d k l = h
-in_order_two a b h (suc zero) (suc zero) d k l = omega arith
-in_order_two a b h (suc (suc i)) (suc zero) d k l = absurd (omega arith)
-in_order_two a b h i (suc (suc j)) d k l = absurd (omega arith)
-
--- of what an option leaves, in order or not, there is an order with the smaller part first
-pub put_in_order : {code : List ℕ} {n : ℕ} {H : List ℕ} → HeapOption code n H
-    → (L : List ℕ) × HeapOption code n L × IsNonDecreasing L
-    × ((X : List ℕ) → Shuffled (H ++ X) (L ++ X))
-put_in_order (Nothing j p e b) = ([], Nothing j p e b, in_order_none, λ X. Same)
-put_in_order (One j a p q e b) = (a ∷ [], One j a p q e b, in_order_one a, λ X. Same)
-put_in_order (Two j a b p q e s) = elim (dec_le a b) [
-  | yes l ↦ (a ∷ b ∷ [], Two j a b p q e s, in_order_two a b l, λ X. Same)
-  | no f ↦ (b ∷ a ∷ [], Two j b a q p (omega arith) s, in_order_two b a (omega arith), λ X. Flip)
-]
-
-order_dec : {code : List ℕ} {n : ℕ} {H : List ℕ} → HeapOption code n H → Dec (IsNonDecreasing H)
-order_dec (Nothing j p e b) = yes in_order_none
-order_dec (One j a p q e b) = yes (in_order_one a)
-order_dec (Two j a b p q e s) =
-    elim (dec_le a b)
-    [ yes l ↦ yes (in_order_two a b l) | no f ↦ no (λ h. f (h 0 1 0 (omega arith) (omega arith))) ]
 
 -- a move that leads to a P-position makes a winning move
 pub winning_from_move : {code X Y : List ℕ} → Move code X Y → IsP code Y → (n : ℕ) × (H : List ℕ)
@@ -66,7 +32,7 @@ winning_from_move {Y = Y} m p =
             others = R;
             before = to_permutation s;
             allowed = i;
-            after = to_permutation (Then t (u R));
+            after = to_permutation (Then t (beside u R));
           },
           p,
         ),
@@ -147,44 +113,76 @@ module _ (code X : List ℕ) where
   equal_test : (m n : ℕ) → (m ≡ n) ⊎ (m ≡ n → ⊥)
   equal_test m n = elim (ℕ_discrete m n) [ yes e ↦ inl e | no f ↦ inr f ]
 
+  option_sum : {n : ℕ} {K : List ℕ} → HeapOption code n K → sum K ≤ n
+  option_sum (Nothing j p e b) = omega arith
+  option_sum (One j a p q e b) = omega arith
+  option_sum (Two j a b p q e s) = omega arith
+  option_sum (Three j a b c p q r e s) = omega arith
+
+  -- with the least taken away A, of those the fewest heaps B, of those the least first part D, and
+  -- of those the least second part L: none comes before L
+  none_before : (n : ℕ) (A B D L : List ℕ)
+      → ((K : List ℕ) → IsWinningMove code X n K → Unit {0} → n - sum K < n - sum A → ⊥)
+      → sum B ≡ sum A
+      → ((K : List ℕ) → IsWinningMove code X n K → sum K ≡ sum A → length K < length B → ⊥)
+      → (sum D ≡ sum B) × (length D ≡ length B)
+      → ((K : List ℕ) → IsWinningMove code X n K → (sum K ≡ sum B) × (length K ≡ length B)
+      → get_or K 0 0 < get_or D 0 0 → ⊥)
+      → (sum L ≡ sum D) × (length L ≡ length D) × (get_or L 0 0 ≡ get_or D 0 0)
+      → ((K : List ℕ) → IsWinningMove code X n K
+      → (sum K ≡ sum D) × (length K ≡ length D) × (get_or K 0 0 ≡ get_or D 0 0)
+      → get_or K 1 0 < get_or L 1 0 → ⊥)
+      → (K : List ℕ) → IsWinningMove code X n K → LeftBefore K L → ⊥
+  none_before n A B D L least_a same_b least_b same_d least_d same_l least_l K k before =
+      let (p, q) = same_d in
+      let (e, f, g) = same_l in
+      elim before [
+        | inl more ↦ least_a K k tt (let s = option_sum (allowed_of k) in omega arith)
+        | inr (h, rest) ↦ elim rest [
+          | inl shorter ↦ least_b K k (omega arith) (omega arith)
+          | inr (i, part) ↦ elim part [
+            | inl smaller ↦ least_d K k (omega arith, omega arith) (omega arith)
+            | inr (j, smaller) ↦ least_l K k (omega arith, omega arith, omega arith) smaller
+          ]
+        ]
+      ]
+
+  both_equal : (B K : List ℕ) → ((sum K ≡ sum B) × (length K ≡ length B))
+      ⊎ ((sum K ≡ sum B) × (length K ≡ length B) → ⊥)
+  both_equal B K = elim (equal_test (sum K) (sum B)) [
+    | inr f ↦ inr (λ p. f p.0)
+    | inl e ↦ elim (equal_test (length K) (length B))
+        [ inl f ↦ inl (e, f) | inr g ↦ inr (λ p. g p.1) ]
+  ]
+
+  all_equal : (D K : List ℕ)
+      → ((sum K ≡ sum D) × (length K ≡ length D) × (get_or K 0 0 ≡ get_or D 0 0))
+      ⊎ ((sum K ≡ sum D) × (length K ≡ length D) × (get_or K 0 0 ≡ get_or D 0 0) → ⊥)
+  all_equal D K = elim (both_equal D K) [
+    | inr f ↦ inr (λ p. f (p.0, p.1))
+    | inl e ↦ elim (equal_test (get_or K 0 0) (get_or D 0 0))
+        [ inl f ↦ inl (e.0, e.1, f) | inr g ↦ inr (λ p. g p.2) ]
+  ]
+
   -- the first winning move of the heap n, where it has one
   pub first_of_heap : (n : ℕ) (H : List ℕ) → IsWinningMove code X n H
       → (L : List ℕ) × IsWinningMove code X n L
       × ((K : List ℕ) → IsWinningMove code X n K → LeftBefore K L → ⊥)
   first_of_heap n H w =
-      let taken : List ℕ → ℕ = λ K. n - sum K in
       let (A, a, _, least_a) =
-      least_number n (λ K. Unit {0}) (λ K. inl tt) taken (suc (taken H)) H (omega arith) w tt in
+      least_number n (λ K. Unit {0}) (λ K. inl tt) (λ K. n - sum K) (suc (n - sum H)) H (omega arith)
+      w tt in
       let (B, b, same_b, least_b) =
       least_number n (λ K. sum K ≡ sum A) (λ K. equal_test (sum K) (sum A)) (λ K. length K)
       (suc (length A)) A (omega arith) a refl in
-      let (L, v, same_l, least_l) =
+      let (D, d, same_d, least_d) =
       least_number n (λ K. (sum K ≡ sum B) × (length K ≡ length B)) (both_equal B)
-      (λ K. get_or K 0 0) (suc (get_or B 0 0)) B (omega arith) b (refl, refl) in (
-        L,
-        v,
-        λ K k before. elim before [
-          | inl more ↦ least_a K k tt (let s = option_sum (allowed_of k) in let e = same_l.0 in
-              omega arith)
-          | inr (e, rest) ↦ elim rest [
-            | inl shorter ↦ least_b K k (e ∙ same_l.0 ∙ same_b) (let f = same_l.1 in omega arith)
-            | inr (f, smaller) ↦ least_l K k (e ∙ same_l.0, f ∙ same_l.1) smaller
-          ]
-        ],
-      )
-    where
-      option_sum : {K : List ℕ} → HeapOption code n K → sum K ≤ n
-      option_sum (Nothing j p e b) = omega arith
-      option_sum (One j a p q e b) = omega arith
-      option_sum (Two j a b p q e s) = omega arith
-
-      both_equal : (B K : List ℕ) → ((sum K ≡ sum B) × (length K ≡ length B))
-          ⊎ ((sum K ≡ sum B) × (length K ≡ length B) → ⊥)
-      both_equal B K = elim (equal_test (sum K) (sum B)) [
-        | inr f ↦ inr (λ p. f p.0)
-        | inl e ↦ elim (equal_test (length K) (length B))
-            [ inl f ↦ inl (e, f) | inr g ↦ inr (λ p. g p.1) ]
-      ]
+      (λ K. get_or K 0 0) (suc (get_or B 0 0)) B (omega arith) b (refl, refl) in
+      let (L, v, same_l, least_l) =
+      least_number n
+      (λ K. (sum K ≡ sum D) × (length K ≡ length D) × (get_or K 0 0 ≡ get_or D 0 0)) (all_equal D)
+      (λ K. get_or K 1 0) (suc (get_or D 1 0)) D (omega arith) d (refl, refl, refl) in
+      (L, v, none_before n A B D L least_a same_b least_b same_d least_d same_l least_l)
 
   -- the smallest heap with a winning move, among those up to n
   smallest_heap : (t n : ℕ) (H : List ℕ) → n < t → IsWinningMove code X n H
@@ -226,23 +224,29 @@ module _ (code X : List ℕ) where
   first_win (Ended none) = inl none
   first_win (Wins m p) = let (n, H, w) = winning_from_move m p in inr (first_win_from n H w)
 
--- what is left of a heap is settled by its sum, its length and its first part
+no_four : {code : List ℕ} {n a b c d : ℕ} {H : List ℕ} → HeapOption code n (a ∷ b ∷ c ∷ d ∷ H) → ⊥
+no_four o = elim o [ ]
+
+-- what is left of a heap is settled by its sum, its length and its first two parts
 same_left : {code : List ℕ} {n : ℕ} (H L : List ℕ) → HeapOption code n H → HeapOption code n L
     → sum H ≡ sum L → length H ≡ length L
-    → get_or H 0 0 ≡ get_or L 0 0 → H ≡ L
-same_left [] [] o i e f g = refl
-same_left (a ∷ []) (b ∷ []) o i e f g = ap (λ x. x ∷ []) g
-same_left (a ∷ b ∷ []) (c ∷ d ∷ []) o i e f g = let h : b ≡ d = omega arith in
-    ap₂ (λ x y. x ∷ y ∷ []) g h
-same_left [] (b ∷ L) o i e f g = absurd (omega arith)
-same_left (a ∷ H) [] o i e f g = absurd (omega arith)
-same_left (a ∷ []) (b ∷ d ∷ L) o i e f g = absurd (omega arith)
-same_left (a ∷ b ∷ H) (c ∷ []) o i e f g = absurd (omega arith)
-same_left (a ∷ b ∷ c ∷ H) (d ∷ e ∷ L) o i p f g = absurd (no_three o)
-  where
-    no_three : {code : List ℕ} {n a b c : ℕ} {H : List ℕ} → HeapOption code n (a ∷ b ∷ c ∷ H) → ⊥
-    no_three o = elim o [ ]
-same_left (a ∷ b ∷ []) (d ∷ e ∷ c ∷ L) o i p f g = absurd (omega arith)
+    → get_or H 0 0 ≡ get_or L 0 0 → get_or H 1 0 ≡ get_or L 1 0 → H ≡ L
+same_left [] [] o i e f g h = refl
+same_left (a ∷ []) (b ∷ []) o i e f g h = ap (λ x. x ∷ []) g
+same_left (a ∷ b ∷ []) (c ∷ d ∷ []) o i e f g h = ap₂ (λ x y. x ∷ y ∷ []) g h
+same_left (a ∷ b ∷ c ∷ []) (x ∷ y ∷ z ∷ []) o i e f g h = let k : c ≡ z = omega arith in
+    ap₂ (λ v K. v ∷ K) g (ap₂ (λ v w. v ∷ w ∷ []) h k)
+same_left (a ∷ b ∷ c ∷ d ∷ H) L o i e f g h = absurd (no_four o)
+same_left [] (b ∷ L) o i e f g h = absurd (omega arith)
+same_left (a ∷ []) [] o i e f g h = absurd (omega arith)
+same_left (a ∷ []) (b ∷ d ∷ L) o i e f g h = absurd (omega arith)
+same_left (a ∷ b ∷ []) [] o i e f g h = absurd (omega arith)
+same_left (a ∷ b ∷ []) (c ∷ []) o i e f g h = absurd (omega arith)
+same_left (a ∷ b ∷ []) (d ∷ e ∷ c ∷ L) o i p f g h = absurd (omega arith)
+same_left (a ∷ b ∷ c ∷ []) [] o i e f g h = absurd (omega arith)
+same_left (a ∷ b ∷ c ∷ []) (x ∷ []) o i e f g h = absurd (omega arith)
+same_left (a ∷ b ∷ c ∷ []) (x ∷ y ∷ []) o i e f g h = absurd (omega arith)
+same_left (a ∷ b ∷ c ∷ []) (x ∷ y ∷ z ∷ v ∷ L) o i e f g h = absurd (omega arith)
 
 -- there is one first winning move
 pub first_win_once : (code X : List ℕ) (n m : ℕ) (H L : List ℕ) → IsFirstWin code X n H
@@ -257,11 +261,14 @@ first_win_once code X n m H L a b =
     neither_smaller (length H) (length L) (λ l. earlier (inr (s, inl l)))
     (λ l. later (inr (sym s, inl l))) in
     let f : get_or H 0 0 ≡ get_or L 0 0 =
-    neither_smaller (get_or H 0 0) (get_or L 0 0) (λ l. earlier (inr (s, inr (k, l))))
-    (λ l. later (inr (sym s, inr (sym k, l)))) in (
+    neither_smaller (get_or H 0 0) (get_or L 0 0) (λ l. earlier (inr (s, inr (k, inl l))))
+    (λ l. later (inr (sym s, inr (sym k, inl l)))) in
+    let g : get_or H 1 0 ≡ get_or L 1 0 =
+    neither_smaller (get_or H 1 0) (get_or L 1 0) (λ l. earlier (inr (s, inr (k, inr (f, l)))))
+    (λ l. later (inr (sym s, inr (sym k, inr (sym f, l))))) in (
       e,
       same_left H L a.0.1.1.allowed (subst (λ i. HeapOption code i L) (sym e) b.0.1.1.allowed) s k
-          f,
+          f g,
     )
 
 -- where a move wins the position is no P-position

@@ -1,15 +1,16 @@
 -- What the ranges and the canonical form of a certificate give its claim.
-use Rattle.std.proofs.Common.{◌≡◌, ℕ, suc, zero, ◌+◌, ◌-◌, ◌%◌, ◌<◌, ◌≤◌, List, [], ◌∷◌, ◌++◌, refl, sym, ◌∙◌, ap, ap₂, subst, inl, inr, arith, length, get_or, nat_lt, mod-lt, eq-zero-or-pos, lt-ltb, le-ltb, if◌then◌else◌}
+use Rattle.std.proofs.Common.{◌≡◌, ℕ, suc, zero, ◌+◌, ◌-◌, ◌%◌, ◌<◌, ◌≤◌, List, [], ◌∷◌, ◌++◌, refl, sym, ◌∙◌, ap, ap₂, subst, inl, inr, arith, length, get_or, nat_lt, eq-zero-or-pos, lt-ltb, le-ltb, if◌then◌else◌}
 use Rattle.std.proofs.Math.Nat.{add-mod_left, mod-eq_of_lt}
 use Rattle.std.proofs.lemmas.List.{get_or_past}
 use Rattle.std.proofs.lemmas.List.Elements.{All-get_or}
 use Rattle.std.specs.List.{AllZip}
 use native.Mathlib.Decide.{dec_lt, dec_le}
-use Rattle.misere_theory.specs.Games.{IsHeap, IsPosition}
+use Rattle.misere_theory.specs.Games.{IsPosition}
 use Rattle.misere_theory.specs.Quotients.{Monoid, value, AllApart}
-use Rattle.misere_theory.specs.Pairs.{IsPeriodic}
+use Rattle.misere_theory.specs.Kinds.{IsPeriodicIn}
 use Rattle.misere_theory.specs.Numbering.{IsNumbered}
-use Rattle.misere_theory.specs.Certificates.{Certificate, phi_at, times_of, claim_of, key_of, InRanges, pairs_with, pairs_from, LeastApart}
+use Rattle.misere_theory.specs.Certificates.{Certificate, phi_at, times_of, claim_of, key_of, kind_of, IsHeapOf, InRanges, pairs_with, pairs_from, LeastApart}
+use Rattle.misere_theory.proofs.Counting.{kind_full, kind_partial}
 
 place : ℕ → ℕ → ℕ → ℕ
 place s p n = if nat_lt n (s + p) then n else s + (n - s) % p
@@ -21,13 +22,6 @@ place-early s p n h = rw (lt-ltb n (s + p) h)
 place-late : (s p n : ℕ) → s + p ≤ n → place s p n ≡ s + (n - s) % p
 unfolding place
 place-late s p n h = rw (le-ltb n (s + p) h)
-
-place-below : (s p n : ℕ) → 1 ≤ p → place s p n < s + p
-place-below s p n o = elim (dec_lt n (s + p)) [
-  | yes l ↦ rw (place-early s p n l) l
-  | no f ↦ rw (place-late s p n (omega arith)) (let m : (n - s) % p < p = mod-lt (n - s) o in
-      omega arith)
-]
 
 place-repeats : (s p n : ℕ) → 1 ≤ p → s ≤ n → place s p (p + n) ≡ place s p n
 place-repeats s p n o h =
@@ -46,15 +40,17 @@ module _ (c : Certificate) (r : InRanges c) where
   unfolding place
   phi_by_place n = refl
 
-  entry_in : (i : ℕ) → i < length (0 ∷ c.phi) → get_or (0 ∷ c.phi) i 0 < c.order
-  entry_in zero l = let o = r.order in omega arith
-  entry_in (suc i) l = All-get_or (λ x. x < c.order) c.phi i 0 (omega arith) r.phi.1
+  -- an entry is an element, and so is the 0 past the last one
+  entry_in : (i : ℕ) → get_or (0 ∷ c.phi) i 0 < c.order
+  entry_in zero = let o = r.order in omega arith
+  entry_in (suc i) = elim (dec_lt i (length c.phi)) [
+    | yes l ↦ All-get_or (λ x. x < c.order) c.phi i 0 l r.phi.1
+    | no f ↦ let e = get_or_past c.phi i 0 (omega arith) in let o = r.order in omega arith
+  ]
 
   pub phi_in : (n : ℕ) → (claim_of c).phi n < (claim_of c).order
   phi_in n =
-      subst (λ v. v < c.order) (sym (phi_by_place n))
-      (entry_in _ (let o = place-below c.start c.period n r.period.0 in let e = r.phi.0 in
-      omega arith))
+      subst (λ v. v < c.order) (sym (phi_by_place n)) (entry_in (place c.start c.period n))
 
   -- an entry of the phi line is phi of its heap
   pub entry_at : (i : ℕ) → i < length c.phi → phi_at c (suc i) ≡ get_or c.phi i 0
@@ -62,23 +58,69 @@ module _ (c : Certificate) (r : InRanges c) where
       phi_by_place (suc i) ∙ ap (λ j. get_or (0 ∷ c.phi) j 0)
       (place-early c.start c.period (suc i) (let e = r.phi.0 in omega arith))
 
-  pub repeats : (n : ℕ) → c.start ≤ n → phi_at c (c.period + n) ≡ phi_at c n
-  repeats n h =
+  pub repeats : 1 ≤ c.period → (n : ℕ) → c.start ≤ n → phi_at c (c.period + n) ≡ phi_at c n
+  repeats full n h =
       phi_by_place (c.period + n) ∙ ap (λ i. get_or (0 ∷ c.phi) i 0)
-      (place-repeats c.start c.period n r.period.0 h) ∙ sym (phi_by_place n)
+      (place-repeats c.start c.period n full h) ∙ sym (phi_by_place n)
 
-  pub periodic : IsPeriodic c.code (claim_of c) (length c.code - 1) c.start c.period
-  periodic = record {
+  -- past the heaps of a partial certificate stand no entries
+  pub nothing_past : c.period ≡ 0 → (n : ℕ) → c.start ≤ n → phi_at c n ≡ 0
+  nothing_past part n h =
+      let late = place-late c.start c.period n (omega arith) in
+      let e = r.phi.0 in
+      phi_by_place n ∙ get_or_past (0 ∷ c.phi) (place c.start c.period n) 0 (omega arith)
+
+  -- the kinds: full without a last heap, and partial with one
+  pub is_full : kind_of c ≡ 0 → 1 ≤ c.period
+  is_full e = elim (eq-zero-or-pos c.period) [
+    | inl z ↦ let k = kind_partial c.start c.period z in let s = r.period.0 in absurd (omega arith)
+    | inr pos ↦ pos
+  ]
+
+  pub is_partial : 0 < kind_of c → c.period ≡ 0
+  is_partial l = elim (eq-zero-or-pos c.period) [
+    | inl z ↦ z
+    | inr pos ↦ let k = kind_full c.start c.period pos in absurd (omega arith)
+  ]
+
+  pub written_counts : (h : ℕ) → 1 ≤ h → h < c.start + c.period → IsHeapOf c h
+  written_counts h one l = (
+    one,
+    λ some.
+        let z = is_partial some in
+        let k = kind_partial c.start c.period z in
+        omega arith,
+  )
+
+  -- each heap of a partial certificate has an entry
+  pub counts_written : c.period ≡ 0 → (h : ℕ) → IsHeapOf c h → h < c.start
+  counts_written z h counts =
+      let k = kind_partial c.start c.period z in
+      let s = r.period.0 in
+      let l = counts.1 (omega arith) in
+      omega arith
+
+  pub periodic : IsPeriodicIn (kind_of c) c.code (claim_of c) (length c.code - 1) c.start c.period
+  periodic whole = record {
     last = λ j h. get_or_past c.code j 0 (omega arith);
-    from_one = r.start.0;
-    some = r.period.0;
-    repeats = repeats;
+    from_one = r.start;
+    some = is_full whole;
+    repeats = repeats (is_full whole);
   }
+
+  pub key_counts : (e : ℕ) → IsNumbered (claim_of c) (c.start + c.period - 1) (key_of c) → 0 < e
+      → e < c.order → IsHeapOf c (key_of c e).1
+  key_counts e k pos l =
+      let h = k.heap e pos l in
+      let a = h.0 in
+      let b = h.1 in
+      let s = r.start in
+      written_counts (key_of c e).1 a (omega arith)
 
   -- by their keys all elements are values
   pub reached_within : (m : Monoid c.order (times_of c))
       → IsNumbered (claim_of c) (c.start + c.period - 1) (key_of c) → (t x : ℕ) → x < t
-      → x < c.order → (X : List ℕ) × IsPosition IsHeap X × (value (claim_of c) X ≡ x)
+      → x < c.order → (X : List ℕ) × IsPosition (IsHeapOf c) X × (value (claim_of c) X ≡ x)
   reached_within m k zero x h l = absurd (omega arith)
   reached_within m k (suc t) x h l = elim (eq-zero-or-pos x) [
     | inl z ↦ ([], tt, sym z)
@@ -86,7 +128,7 @@ module _ (c : Certificate) (r : InRanges c) where
         let up = k.parent x pos l in
         let (F, w, e) = reached_within m k t (key_of c x).0 (omega arith) (omega arith) in (
           (key_of c x).1 ∷ F,
-          ((k.heap x pos l).0, w),
+          (key_counts x k pos l, w),
           ap (times_of c (phi_at c (key_of c x).1)) e ∙ m.commutes _ _ (phi_in _) (omega arith)
               ∙ k.product x pos l,
         )
@@ -94,7 +136,7 @@ module _ (c : Certificate) (r : InRanges c) where
 
   pub reached : (m : Monoid c.order (times_of c))
       → IsNumbered (claim_of c) (c.start + c.period - 1) (key_of c) → (x : ℕ) → x < c.order
-      → (X : List ℕ) × IsPosition IsHeap X × (value (claim_of c) X ≡ x)
+      → (X : List ℕ) × IsPosition (IsHeapOf c) X × (value (claim_of c) X ≡ x)
   reached m k x l = reached_within m k (suc x) x (omega arith) l
 
 -- the parts of a list of pairs that is joined

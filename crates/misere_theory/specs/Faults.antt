@@ -24,11 +24,12 @@ OrderFault c =
     × KeyBelow (f, h) (key_of c (times_of c f (phi_at c h))))
 
 -- Fault 5: a smaller period serves from start on, or the period serves from the heap before start
--- on.
+-- on. A partial certificate, which has no period, never has it.
 abbrev pub PeriodFault : Certificate → Type 0
 PeriodFault c =
     ((r : ℕ) × (1 ≤ r) × (r < c.period) × ((n : ℕ) → c.start ≤ n → phi_at c (r + n) ≡ phi_at c n))
-    ⊎ ((1 < c.start) × (phi_at c (c.period + (c.start - 1)) ≡ phi_at c (c.start - 1)))
+    ⊎ ((1 ≤ c.period) × (1 < c.start)
+    × (phi_at c (c.period + (c.start - 1)) ≡ phi_at c (c.start - 1)))
 
 -- Fault 6: beside some pair of elements stands another number than the least element that tells it
 -- apart.

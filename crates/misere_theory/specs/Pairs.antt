@@ -1,8 +1,8 @@
 -- Transition pairs, which are a value and some values of options: when a list of them speaks for
 -- every position. Transition pairs make up the transition algebra of the literature (Plambeck and
 -- Siegel; Siegel). Covers, closed lists and what is asked of them are this project's own.
-use Rattle.std.specs.Prelude.{◌≡◌, ℕ, ◌+◌, ◌*◌, ◌≤◌, ◌<◌, ◌⊎◌, ◌↔◌, true, false, List, [], ◌∷◌, Contains}
-use Rattle.misere_theory.specs.Games.{digit}
+use Rattle.std.specs.Prelude.{◌≡◌, ℕ, ◌+◌, ◌*◌, ◌≤◌, ◌<◌, ◌⊎◌, ◌↔◌, if◌then◌else◌, true, false, List, [], ◌∷◌, Contains}
+use Rattle.misere_theory.specs.Games.{digit, leaves_three}
 use Rattle.misere_theory.specs.Quotients.{Claim, value, OptionValue, HeapOptionValue}
 
 -- A value and some values of options. Of the list counts only which numbers are in it.
@@ -74,18 +74,21 @@ pub record IsPeriodic (code : List ℕ) (c : Claim) (k start period : ℕ) : Typ
   pub some : 1 ≤ period
   pub repeats : (n : ℕ) → start ≤ n → c.phi (period + n) ≡ c.phi n
 
--- B: each heap has the pair of one of the heaps 1 to B. Compare Plambeck and Siegel's periodicity
--- theorem for misère quotients, and Guy and Smith's for normal play.
-abbrev pub heap_bound : ℕ → ℕ → ℕ → ℕ
-heap_bound k start period = 2 * start + 2 * period + k
+-- B: each heap has the pair of one of the heaps 1 to B. As many times start + period as a move may
+-- leave heaps, and k. Compare Plambeck and Siegel's periodicity theorem for misère quotients, and
+-- Guy and Smith's for normal play.
+abbrev pub heap_bound : List ℕ → ℕ → ℕ → ℕ → ℕ
+heap_bound code k start period =
+    if leaves_three code then 3 * start + 3 * period + k else 2 * start + 2 * period + k
 
 -- The heaps n and m have the same pair: the same element and the same values of options.
 abbrev pub SameHeapPair : List ℕ → Claim → ℕ → ℕ → Type 0
 SameHeapPair code c n m =
     (c.phi n ≡ c.phi m) × ((x : ℕ) → HeapOptionValue code c n x ↔ HeapOptionValue code c m x)
 
--- Where two heaps are left, the smaller stands first, and it is below the bound.
+-- Where two or three heaps are left, they rise, and all but the largest are below the bound.
 abbrev pub IsSmallSplit : ℕ → List ℕ → Type 0
 IsSmallSplit bound [] = Unit {0}
 IsSmallSplit bound (a ∷ []) = Unit {0}
-IsSmallSplit bound (a ∷ b ∷ H) = (a ≤ b) × (a < bound)
+IsSmallSplit bound (a ∷ b ∷ []) = (a ≤ b) × (a < bound)
+IsSmallSplit bound (a ∷ b ∷ c ∷ H) = (a ≤ b) × (b ≤ c) × (a < bound) × (b < bound)

@@ -16,20 +16,27 @@ MoreReachableThan code X n =
     (Ys : List (List ℕ)) × (n < length Ys)
     × All (Reachable code X) Ys × AllPairs (λ Y Z. IsPermutation Y Z → ⊥) Ys
 
+-- The first part is smaller; or it is the same, and the second is smaller.
+abbrev pub PartsBefore : List ℕ → List ℕ → Type 0
+PartsBefore H L =
+    (slice_index H 0 < slice_index L 0)
+    ⊎ ((slice_index H 0 ≡ slice_index L 0) × (slice_index H 1 < slice_index L 1))
+
 -- Of what two moves leave of a heap, H comes before L: less is taken away; or as much is, and fewer
--- heaps are left; or as much is and as many are, and the first is smaller.
+-- heaps are left; or as much is and as many are, and the first is smaller, or it is the same and the
+-- second is smaller.
 abbrev pub LeftBefore : List ℕ → List ℕ → Type 0
 LeftBefore H L =
     (sum L < sum H)
     ⊎ ((sum H ≡ sum L)
-    × ((length H < length L) ⊎ ((length H ≡ length L) × (slice_index H 0 < slice_index L 0))))
+    × ((length H < length L) ⊎ ((length H ≡ length L) × PartsBefore H L)))
 
 -- The move of a heap n to H comes before that of a heap m to L: the smaller heap first, and for one
 -- heap what is left.
 abbrev pub MoveBefore : ℕ → List ℕ → ℕ → List ℕ → Type 0
 MoveBefore n H m L = (n < m) ⊎ ((n ≡ m) × LeftBefore H L)
 
--- In X some heap n may be moved to H, the smaller part first, and a P-position is made.
+-- In X some heap n may be moved to H, its parts rising, and a P-position is made.
 abbrev pub IsWinningMove : List ℕ → List ℕ → ℕ → List ℕ → Type 0
 IsWinningMove code X n H = IsNonDecreasing H × ((Y : List ℕ) × HeapMove code X n H Y × IsP code Y)
 

@@ -1,10 +1,11 @@
 //! Laws of certificates: what their faults exclude, what makes one accepted, and which answers are
 //! true of it.
 
-ghost use Rattle.std.specs.Prelude.{◌≡◌, ◌⊎◌, ◌<◌, ◌≤◌, ◌+◌, ◌-◌, ◌*◌, ◌^◌, List, ℕ, length};
-ghost use Rattle.misere_theory.specs.Certificates.{Certificate, IsHeapOf, phi_at, times_of, IsSpelled, claim_of, InRanges, Canonical, Accepted};
+ghost use Rattle.std.specs.Prelude.{◌≡◌, ◌⊎◌, ◌↔◌, ◌<◌, ◌≤◌, ◌+◌, ◌-◌, ◌*◌, ◌^◌, List, ℕ, true, false, length, All};
+ghost use Rattle.misere_theory.specs.declared.TheConstants.{LARGEST_FIRST_ORDER};
+ghost use Rattle.misere_theory.specs.Certificates.{Certificate, IsHeapOf, kind_of, certificate_bound, format_of, phi_at, times_of, IsSpelled, claim_of, InRanges, Canonical, Accepted};
 ghost use Rattle.misere_theory.specs.Faults.{WordFault, OrderFault, PeriodFault, ApartFault};
-ghost use Rattle.misere_theory.specs.Games.{IsHeapUpTo, IsPosition};
+ghost use Rattle.misere_theory.specs.Games.{is_octal, IsHeap, IsHeapUpTo, IsPosition};
 ghost use Rattle.misere_theory.specs.Pairs.{Pair, IsClosed, KeptObey, ElementsObey, heap_bound};
 ghost use Rattle.misere_theory.specs.Quotients.{Monoid, Represents, RuleFails, value};
 ghost use Rattle.misere_theory.specs.Verdicts.{Fault, HasFault, Verdict, IsAllowed};
@@ -80,11 +81,9 @@ pub fn tested_certificates_are_accepted()
         → InRanges c
         → Monoid c.order (times_of c)
         → Canonical c
-        → IsClosed c.code (claim_of c)
-        (IsHeapUpTo (heap_bound (length c.code - 1) c.start c.period)) kept
+        → IsClosed c.code (claim_of c) (IsHeapUpTo (certificate_bound c)) kept
         → KeptObey (claim_of c) kept
-        → ElementsObey c.code (claim_of c)
-        (IsHeapUpTo (heap_bound (length c.code - 1) c.start c.period))
+        → ElementsObey c.code (claim_of c) (IsHeapUpTo (certificate_bound c))
         → Accepted c }
 {}
 
@@ -133,7 +132,41 @@ pub fn true_answers_are_few()
         → IsAllowed c limit Limit → ⊥ }
 {}
 
-/// A code has one accepted certificate at most.
+/// A code has one accepted certificate of each kind at most: a full one, and for each last heap a
+/// partial one.
 pub fn accepted_certificates_are_unique()
-    ensures { (c d : Certificate) → Accepted c → Accepted d → c.code ≡ d.code → c ≡ d }
+    ensures one { (c d : Certificate) → Accepted c → Accepted d → c.code ≡ d.code
+        → kind_of c ≡ kind_of d → c ≡ d }
+    ensures full { (c d : Certificate) → Accepted c → Accepted d → c.code ≡ d.code
+        → 1 ≤ c.period → 1 ≤ d.period → c ≡ d }
+{}
+
+/// An accepted certificate is the misère quotient: a full one that of the whole game of its code, a
+/// partial one that of the heaps below its start.
+pub fn accepted_certificates_are_quotients()
+    ensures full { (c : Certificate) → Accepted c → 1 ≤ c.period
+        → Represents IsHeap c.code (claim_of c) }
+    ensures partial { (c : Certificate) → Accepted c → c.period ≡ 0
+        → Represents (IsHeapUpTo (c.start - 1)) c.code (claim_of c) }
+{}
+
+/// What the kind of a certificate says of its heaps and its bound.
+pub fn kinds_are_told_by_the_period()
+    ensures full { (c : Certificate) → 1 ≤ c.period → (kind_of c ≡ 0)
+        × (certificate_bound c ≡ heap_bound c.code (length c.code - 1) c.start c.period) }
+    ensures partial { (c : Certificate) → InRanges c → c.period ≡ 0 → (kind_of c ≡ c.start - 1)
+        × (0 < kind_of c) × (certificate_bound c ≡ c.start - 1) }
+    ensures written { (c : Certificate) → InRanges c → (h : ℕ) → 1 ≤ h
+        → h < c.start + c.period → IsHeapOf c h }
+    ensures bounded { (c : Certificate) → (h : ℕ) → IsHeapUpTo (certificate_bound c) h
+        → IsHeapOf c h }
+{}
+
+/// The first format is that of octal codes, of orders up to its largest and of full certificates
+/// alone, and the second that of all others.
+pub fn formats_are_told_by_the_numbers()
+    ensures first { (c : Certificate) → (format_of c ≡ 1)
+        ↔ ((is_octal c.code ≡ true) × (c.order ≤ LARGEST_FIRST_ORDER) × (1 ≤ c.period)) }
+    ensures second { (c : Certificate) → (format_of c ≡ 2)
+        ↔ ((is_octal c.code ≡ false) ⊎ ((LARGEST_FIRST_ORDER < c.order) ⊎ (c.period ≡ 0))) }
 {}

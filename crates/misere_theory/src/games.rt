@@ -1,8 +1,21 @@
 //! Laws of positions, moves and outcomes.
 
-ghost use Rattle.std.specs.Prelude.{◌≡◌, ◌⊎◌, ◌<◌, ◌++◌, List, ℕ, IsPermutation};
-ghost use Rattle.misere_theory.specs.Games.{Move, HeapMove, MultisetMove, IsP, IsN, IsHeap, IsPosition, Indistinguishable, measure};
+ghost use Rattle.std.specs.Prelude.{◌≡◌, ◌⊎◌, ◌↔◌, ◌<◌, ◌≤◌, ◌++◌, List, ℕ, true, false, length, All, IsBitSet, IsPermutation};
+ghost use Rattle.misere_theory.specs.Games.{digit, leaves_three, is_octal, HeapOption, Move, HeapMove, MultisetMove, IsP, IsN, IsHeap, IsPosition, Indistinguishable, measure};
 ghost use Rattle.misere_theory.specs.Quotients.{Claim, Monoid, GivesElements, value};
+
+/// Whether a code has bit 8 in some digit can be told. Octal codes don't, and by a code without it no
+/// move leaves three heaps.
+pub fn octal_codes_leave_two_heaps()
+    ensures seen { (code : List ℕ) → (leaves_three code ≡ true)
+        ↔ ((j : ℕ) × IsBitSet (digit code j) 3) }
+    ensures octal { (code : List ℕ) → is_octal code ≡ true → leaves_three code ≡ false }
+    ensures digits { (code : List ℕ) → (is_octal code ≡ true) ↔ All (λ d. d < 8) code }
+    ensures two { (code : List ℕ) (n : ℕ) (H : List ℕ)
+        → leaves_three code ≡ false
+        → HeapOption code n H
+        → length H ≤ 2 }
+{}
 
 /// Each position has one outcome, a move leads to a position, and it lowers the measure.
 pub fn outcomes_are_determined()

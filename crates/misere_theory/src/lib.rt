@@ -1,4 +1,4 @@
-//! The theory of misère quotients of octal games: its definitions, and its laws, each the contract
+//! The theory of misère quotients of octal and hexadecimal games: its definitions, and its laws, each the contract
 //! of a function that does nothing.
 //!
 //! Nothing runs here. A law is a function so that the check proves its statement; other crates cite
@@ -9,6 +9,7 @@
 //! | `specs/Games` | codes, what a move leaves of a heap, positions, moves, outcomes |
 //! | `specs/Quotients` | claims, monoids, values, the misère quotient, the local rule |
 //! | `specs/Pairs` | transition pairs, covers, closed lists, the bound on heaps |
+//! | `specs/Kinds` | whole games and their parts: which heaps count, and which show all pairs |
 //! | `specs/Numbering` | least periods, least keys |
 //! | `specs/Certificates` | the numbers of a certificate, their ranges, when it is canonical and
 //! accepted |
@@ -26,7 +27,10 @@ pub mod plays;
 pub mod quotients;
 
 /// The largest order of a certificate: how many elements a monoid has at most.
-pub const LARGEST_ORDER: u16 = 256;
+pub const LARGEST_ORDER: u16 = 512;
+
+/// The largest order of a certificate in the first format, and of what is searched for.
+pub const LARGEST_FIRST_ORDER: u16 = 256;
 
 /// How many entries of its pretending function a certificate has at most: heap sizes from 1 on.
 pub const MOST_ENTRIES: u16 = 1024;

@@ -2,6 +2,7 @@
 
 ghost use Rattle.std.specs.Prelude.{◌≡◌, ◌⊎◌, ◌↔◌, ◌<◌, List, ℕ, true};
 ghost use Rattle.misere_theory.specs.Games.{IsP, IsHeap, IsHeapUpTo, IsPosition, Move};
+ghost use Rattle.misere_theory.specs.Kinds.{IsHeapIn};
 ghost use Rattle.misere_theory.specs.Quotients.{Claim, Monoid, LawFails, AllApart, Represents, SameQuotient, RuleHolds, RuleFails, GivesElements, value};
 
 /// A product that stays below the order is a commutative monoid exactly where no law fails.
@@ -17,12 +18,12 @@ pub fn laws_fail_or_hold()
 
 /// The portion predicts every outcome exactly where it obeys the local rule at every position.
 pub fn rule_predicts()
-    ensures rule { (code : List ℕ) (c : Claim)
-        → ((X : List ℕ) → IsPosition IsHeap X → RuleHolds code c X)
-        → (X : List ℕ) → IsPosition IsHeap X → IsP code X ↔ (c.portion (value c X) ≡ true) }
-    ensures back { (code : List ℕ) (c : Claim)
-        → ((X : List ℕ) → IsPosition IsHeap X → IsP code X ↔ (c.portion (value c X) ≡ true))
-        → (X : List ℕ) → IsPosition IsHeap X → RuleHolds code c X }
+    ensures rule { (M : ℕ) (code : List ℕ) (c : Claim)
+        → ((X : List ℕ) → IsPosition (IsHeapIn M) X → RuleHolds code c X)
+        → (X : List ℕ) → IsPosition (IsHeapIn M) X → IsP code X ↔ (c.portion (value c X) ≡ true) }
+    ensures back { (M : ℕ) (code : List ℕ) (c : Claim)
+        → ((X : List ℕ) → IsPosition (IsHeapIn M) X → IsP code X ↔ (c.portion (value c X) ≡ true))
+        → (X : List ℕ) → IsPosition (IsHeapIn M) X → RuleHolds code c X }
     ensures decided { (code : List ℕ) (c : Claim) (X : List ℕ)
         → RuleHolds code c X ⊎ RuleFails code c X }
     ensures fails { (code : List ℕ) (c : Claim) (X : List ℕ) → RuleHolds code c X
@@ -50,10 +51,21 @@ pub fn rule_represents_partly()
         → Represents (IsHeapUpTo M) code c }
 {}
 
+/// Of the whole game all heaps count, of a part those up to its last, and the misère quotient is the
+/// one of these heaps.
+pub fn kinds_say_which_heaps_count()
+    ensures whole { (n : ℕ) → IsHeapIn 0 n ↔ IsHeap n }
+    ensures part { (M n : ℕ) → 0 < M → IsHeapIn M n ↔ IsHeapUpTo M n }
+    ensures whole_quotient { (code : List ℕ) (c : Claim) → Represents (IsHeapIn 0) code c
+        ↔ Represents IsHeap code c }
+    ensures partial_quotient { (M : ℕ) (code : List ℕ) (c : Claim) → 0 < M
+        → Represents (IsHeapIn M) code c ↔ Represents (IsHeapUpTo M) code c }
+{}
+
 /// A game has one misère quotient, up to the numbering of its elements.
 pub fn quotients_are_unique()
-    ensures { (code : List ℕ) (c d : Claim)
-        → Represents IsHeap code c
-        → Represents IsHeap code d
-        → (f : ℕ → ℕ) × (g : ℕ → ℕ) × SameQuotient IsHeap c d f g }
+    ensures { (M : ℕ) (code : List ℕ) (c d : Claim)
+        → Represents (IsHeapIn M) code c
+        → Represents (IsHeapIn M) code d
+        → (f : ℕ → ℕ) × (g : ℕ → ℕ) × SameQuotient (IsHeapIn M) c d f g }
 {}

@@ -209,8 +209,8 @@ looked-at-failure q rows spent refused h e =
     is-breach q rows spent (subst (λ b. HasLookedAt q rows spent b) e h)
 
 -- the triples of the greatest order are counted in 64 bits
-pub triples-most : (q : ℕ) → q ≤ 256 → triples q ≤ 16777216
-triples-most q small = mul-le (q * q) q (256 * 256) 256 (mul-le q q 256 256 small small) small
+pub triples-most : (q : ℕ) → q ≤ 512 → triples q ≤ 134217728
+triples-most q small = mul-le (q * q) q (512 * 512) 512 (mul-le q q 512 512 small small) small
 
 -- a monoid passes at every triple
 pub monoid-holds : (q : ℕ) (rows : List ℕ) → Monoid q (entry q rows) → (i : ℕ) → i < triples q

@@ -5,7 +5,7 @@ use Rattle.std.proofs.lemmas.Bool.Decides.{nat_tests}
 use Rattle.misere_theory.specs.Games.{digit}
 use Rattle.octal_code.specs.Bits.{place_of, allows, takes_all, leaves_one}
 use Rattle.octal_code.specs.declared.leaving.Leaving.{Leaving}
-use Rattle.octal_code.specs.declared.leaving.Leaving.TheVariants.{NoHeap, OneHeap, TwoHeaps}
+use Rattle.octal_code.specs.declared.leaving.Leaving.TheVariants.{NoHeap, OneHeap, TwoHeaps, ThreeHeaps}
 
 pub bit_says : (d m : ℕ) → not (eqb (bit_and d m) 0) ≡ true → bit_and d m ≢ 0
 bit_says d m e = grind (arith, nat_tests)
@@ -34,6 +34,7 @@ pub allowed : (code : List ℕ) (j : ℕ) (leaving : Leaving) → (allows code j
 allowed code j NoHeap = (bit_says (digit code j) 1, bit_is (digit code j) 1)
 allowed code j OneHeap = (bit_says (digit code j) 2, bit_is (digit code j) 2)
 allowed code j TwoHeaps = (bit_says (digit code j) 4, bit_is (digit code j) 4)
+allowed code j ThreeHeaps = (bit_says (digit code j) 8, bit_is (digit code j) 8)
 
 pub takes : (code : List ℕ) (n j : ℕ) → (takes_all code n j ≡ true)
     ↔ ((1 ≤ j) × (n ≡ j) × IsBitSet (digit code j) 0)

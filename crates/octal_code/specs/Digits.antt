@@ -2,7 +2,7 @@
 use Rattle.std.specs.Prelude.{◌≡◌, ℕ, zero, suc, ◌+◌, ◌-◌, ◌≤◌, List, [], ◌∷◌, ◌++◌, length, slice_index, take, drop, refl}
 use Rattle.std.proofs.Common.{sym, ap, ap₂, ◌∙◌, arith}
 use Rattle.std.proofs.lemmas.List.{take-append-drop, length-drop, length-take-le, get_or-drop}
-use Rattle.misere_theory.specs.Games.{IsOctalCode}
+use Rattle.misere_theory.specs.Games.{IsCode}
 use Rattle.octal_code.specs.declared.code.Code.TheInside.{Inside}
 
 -- n zeros
@@ -15,10 +15,10 @@ abbrev pub padded : List ℕ → List ℕ
 padded xs = xs ++ zeros (17 - length xs)
 
 -- the first `count` of 17 places hold a code, and the others zeros
-pub record IsCode (digits : List ℕ) (count : ℕ) : Type 0 where
+pub record HoldsCode (digits : List ℕ) (count : ℕ) : Type 0 where
   pub room : length digits ≡ 17
   pub short : count ≤ 17
-  pub octal : IsOctalCode (take count digits)
+  pub code : IsCode (take count digits)
   pub past : (j : ℕ) → count ≤ j → slice_index digits j ≡ 0
 
 all_zeros : (xs : List ℕ) → ((j : ℕ) → slice_index xs j ≡ 0) → xs ≡ zeros (length xs)
@@ -28,7 +28,7 @@ all_zeros (x ∷ xs) h = ap₂ (λ y ys. y ∷ ys) (h 0) (all_zeros xs (λ j. h 
 abbrev pub inside : List ℕ → ℕ → Inside
 inside ds n = record { digits = ds; count = n }
 
-pub padded-take : (ds : List ℕ) (n : ℕ) → IsCode ds n
+pub padded-take : (ds : List ℕ) (n : ℕ) → HoldsCode ds n
     → inside (padded (take n ds)) (length (take n ds)) ≡ inside ds n
 padded-take ds n h =
     let l : length (take n ds) ≡ n =

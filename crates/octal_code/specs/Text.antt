@@ -1,12 +1,12 @@
 -- The spelling of a code: d0, a point, and the digits d1 to dk, as Plambeck and Siegel, and Siegel,
 -- write it. That k is 1 to 16, that the last digit isn't 0, and the refusal of a longer code are
 -- this project's own.
-use Rattle.std.specs.Prelude.{◌≡◌, ◌≢◌, ℕ, ◌+◌, ◌-◌, ◌≤◌, ◌<◌, ◌⊎◌, List, [], ◌∷◌, length, slice_index, All, map}
-use Rattle.misere_theory.specs.Games.{IsOctalCode}
+use Rattle.std.specs.Prelude.{◌≡◌, ◌≢◌, ℕ, ◌+◌, ◌-◌, ◌≤◌, ◌<◌, nat_lt, if◌then◌else◌, List, [], ◌∷◌, length, slice_index, All, map}
+use Rattle.misere_theory.specs.Games.{IsCode, IsFirstDigit}
 
--- a digit is one character
+-- a digit is one character: 0 to 9, and a to f for 10 to 15
 abbrev pub digit_byte : ℕ → ℕ
-digit_byte d = 48 + d
+digit_byte d = if nat_lt d 10 then 48 + d else 87 + d
 
 abbrev pub code_text : List ℕ → List ℕ
 code_text [] = []
@@ -14,14 +14,14 @@ code_text (d ∷ ds) = digit_byte d ∷ 46 ∷ map digit_byte ds
 
 -- the bytes spell the code of these digits
 pub record IsCodeText (bytes digits : List ℕ) : Type 0 where
-  pub code : IsOctalCode digits
+  pub code : IsCode digits
   pub spelled : bytes ≡ code_text digits
 
--- as a code, but with 17 or more digits behind the point: d0 is 0 or 4, the others 0 to 7, the last
--- not 0
+-- as a code, but with 17 or more digits behind the point: d0 is 0, 4, 8 or 12, the others 0 to 15,
+-- the last not 0
 abbrev pub IsLongCode : List ℕ → Type 0
 IsLongCode [] = ⊥
-IsLongCode (d ∷ ds) = ((d ≡ 0) ⊎ (d ≡ 4)) × (17 ≤ length ds) × All (λ x. x < 8) ds
+IsLongCode (d ∷ ds) = IsFirstDigit d × (17 ≤ length ds) × All (λ x. x < 16) ds
     × (slice_index ds (length ds - 1) ≢ 0)
 
 -- the bytes would spell a code, if codes could be longer

@@ -1,8 +1,8 @@
-//! Octal codes and their text.
-ghost use Rattle.std.specs.Prelude.{◌≡◌, ◌-◌, ◌<◌, ◌≤◌, ◌↔◌, ◌⊎◌, ℕ, List, IsBitSet, IsTrue, IfOk, All, length, string_bytes};
-ghost use Rattle.misere_theory.specs.Games.{digit, IsOctalCode};
+//! Octal and hexadecimal codes and their text.
+ghost use Rattle.std.specs.Prelude.{◌≡◌, ◌-◌, ◌<◌, ◌≤◌, ◌↔◌, ◌⊎◌, ℕ, List, true, IsBitSet, IsTrue, IfOk, All, length, string_bytes};
+ghost use Rattle.misere_theory.specs.Games.{digit, leaves_three, is_octal, IsCode};
 ghost use Rattle.octal_code.specs.Bits.{allows, leaves_one, place_of, takes_all};
-ghost use Rattle.octal_code.specs.Spelling.{IsOctalByte, IsSpelling, digits_in};
+ghost use Rattle.octal_code.specs.Spelling.{IsDigitByte, IsFirstByte, IsSpelling, digit_of, digits_in};
 ghost use Rattle.octal_code.specs.Text.{code_text, digit_byte, IsCodeText, IsLongCodeText, IsNoCodeText};
 
 use crate::fault::CodeFault;
@@ -14,8 +14,8 @@ use std::marker::Model;
 /// The length of the longest text of a code: a digit, a point and 16 digits.
 const LONGEST: usize = 18;
 
-/// An octal code d0.d1d2..dk, seen as the list of its digits: d0 is 0 or 4, then come 1 to 16
-/// digits 0 to 7, of which the last is not 0.
+/// A hexadecimal code d0.d1d2..dk, seen as the list of its digits: d0 is 0, 4, 8 or 12, then come 1
+/// to 16 digits 0 to 15, of which the last is not 0. Where no digit is above 7 it is an octal code.
 #[derive(Clone, Copy)]
 pub struct Code {
     digits: [u8; 17],
@@ -24,13 +24,13 @@ pub struct Code {
 
 impl Model for Code {
     ghost use Rattle.std.specs.Prelude.{ℕ, List, take, length};
-    ghost use Rattle.octal_code.specs.Digits.{IsCode, padded, padded-take};
+    ghost use Rattle.octal_code.specs.Digits.{HoldsCode, padded, padded-take};
 
     ghost Value = { List ℕ };
 
     ghost view = { λ c. take c.count c.digits };
 
-    ghost invariant = { λ c. IsCode c.digits c.count };
+    ghost invariant = { λ c. HoldsCode c.digits c.count };
 
     ghost inverse = { λ xs. record { digits = padded xs; count = length xs } };
 
@@ -73,9 +73,9 @@ impl Code {
         ensures { result ≡ digits_in text.now }
     {
         let mut digits = [0; 17];
-        digits[0] = text[0] - b'0';
+        digits[0] = digit_of(text[0]);
         for i in 1..text.len() - 1 {
-            digits[i] = text[i + 1] - b'0';
+            digits[i] = digit_of(text[i + 1]);
         }
         let count = (text.len() - 1) as u8;
         Code { digits, count }
@@ -84,7 +84,8 @@ impl Code {
     /// The digit dj, which is 0 past the last one.
     pub fn digit(&self, j: u64) -> u8
         ensures value { result ≡ digit self.now j }
-        ensures octal { result < 8 }
+        ensures below { result < 16 }
+        ensures octal { is_octal self.now ≡ true → result < 8 }
     {
         if j < self.count as u64 {
             self.digits[j as usize]
@@ -93,14 +94,37 @@ impl Code {
         }
     }
 
+    /// The byte of the digit dj in the code's text.
+    pub fn digit_byte(&self, j: u64) -> u8
+        ensures { result ≡ digit_byte (digit self.now j) }
+    {
+        byte_of(self.digit(j))
+    }
+
     /// The place k of the last digit.
     pub fn last(&self) -> u8
         ensures value { result ≡ length self.now - 1 }
-        ensures code { IsOctalCode self.now }
+        ensures code { IsCode self.now }
         ensures some { 2 ≤ length self.now }
         ensures short { length self.now ≤ 17 }
     {
         self.count - 1
+    }
+
+    /// Whether it is an octal code: no digit is above 7.
+    pub fn is_octal(&self) -> bool
+        ensures { result ≡ is_octal self.now }
+    {
+        let count = self.count as usize;
+        self.digits[..count].iter().all(|digit| *digit < 8)
+    }
+
+    /// Whether a move may leave three heaps: some digit has bit 8.
+    pub fn leaves_three(&self) -> bool
+        ensures { result ≡ leaves_three self.now }
+    {
+        let count = self.count as usize;
+        self.digits[..count].iter().any(|digit| *digit & 8 != 0)
     }
 
     /// Whether the digit dj allows so much to stay.
@@ -131,40 +155,70 @@ impl Code {
     }
 }
 
-/// Whether the bytes are 0 or 4, a point, and digits 0 to 7, at least one, the last not 0.
+/// Whether the bytes are 0, 4, 8 or c, a point, and digits 0 to f, at least one, the last not 0.
 fn is_spelling(text: &[u8]) -> bool
     ensures { IsTrue result ↔ IsSpelling text.now }
 {
     if text.len() < 3 || !is_first(text[0]) || text[1] != b'.' {
         return false;
     }
-    are_octal(&text[2..]) && text[text.len() - 1] != b'0'
+    are_digits(&text[2..]) && text[text.len() - 1] != b'0'
 }
 
 /// Whether a code may begin with this byte.
 fn is_first(byte: u8) -> bool
-    ensures { IsTrue result ↔ (byte ≡ 48) ⊎ (byte ≡ 52) }
+    ensures { IsTrue result ↔ IsFirstByte byte }
 {
-    byte == b'0' || byte == b'4'
+    byte == b'0' || byte == b'4' || byte == b'8' || byte == b'c'
 }
 
-/// Whether the bytes are digits 0 to 7.
-fn are_octal(bytes: &[u8]) -> bool
-    ensures { IsTrue result ↔ All IsOctalByte bytes.now }
+/// Whether the bytes are digits 0 to 9 and a to f.
+fn are_digits(bytes: &[u8]) -> bool
+    ensures { IsTrue result ↔ All IsDigitByte bytes.now }
 {
-    bytes.iter().all(|byte| b'0' <= *byte && *byte < b'8')
+    bytes.iter().all(|byte| is_digit(*byte))
+}
+
+/// Whether the byte is a digit.
+fn is_digit(byte: u8) -> bool
+    ensures { IsTrue result ↔ IsDigitByte byte }
+{
+    b'0' <= byte && byte <= b'9' || b'a' <= byte && byte <= b'f'
+}
+
+/// The digit that a byte spells.
+fn digit_of(byte: u8) -> u8
+    ensures { result ≡ digit_of byte }
+{
+    if byte <= b'9' {
+        byte.saturating_sub(b'0')
+    } else {
+        byte.saturating_sub(b'a' - 10)
+    }
+}
+
+/// The byte that spells a digit.
+fn byte_of(digit: u8) -> u8
+    requires { digit < 16 }
+    ensures { result ≡ digit_byte digit }
+{
+    if digit < 10 {
+        b'0' + digit
+    } else {
+        b'a' - 10 + digit
+    }
 }
 
 fn digit_char(digit: u8) -> char
-    requires { digit < 8 }
+    requires { digit < 16 }
     ensures { result ≡ digit_byte digit }
 {
-    (b'0' + digit) as char
+    byte_of(digit) as char
 }
 
 /// The digits of a code lie in their ranges, and they are 2 to 17.
-pub fn is_octal_code(code: &Code)
-    ensures code { IsOctalCode code.now }
+pub fn is_code(code: &Code)
+    ensures code { IsCode code.now }
     ensures some { 2 ≤ length code.now }
     ensures short { length code.now ≤ 17 }
 {

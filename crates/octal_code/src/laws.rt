@@ -2,7 +2,7 @@
 ghost use Rattle.std.specs.Prelude.{◌≡◌, ◌<◌, ◌≤◌, ◌↔◌, ℕ, List, IsBitSet, true};
 ghost use Rattle.misere_theory.specs.Games.{digit};
 ghost use Rattle.octal_code.specs.Bits.{allows, takes_all, leaves_one};
-ghost use Rattle.octal_code.specs.declared.leaving.Leaving.TheVariants.{TwoHeaps};
+ghost use Rattle.octal_code.specs.declared.leaving.Leaving.TheVariants.{TwoHeaps, ThreeHeaps};
 
 /// The tests, of which the lists of options are made, say what the theory says of a digit's bits.
 pub fn digits_say_what_stays()
@@ -12,4 +12,6 @@ pub fn digits_say_what_stays()
         ↔ ((1 ≤ j) × (j < n) × IsBitSet (digit code j) 1) }
     ensures two { (code : List ℕ) (j : ℕ) → (allows code j TwoHeaps ≡ true)
         ↔ IsBitSet (digit code j) 2 }
+    ensures three { (code : List ℕ) (j : ℕ) → (allows code j ThreeHeaps ≡ true)
+        ↔ IsBitSet (digit code j) 3 }
 {}

@@ -11,6 +11,8 @@ pub enum Leaving {
     OneHeap,
     /// What isn't taken stays, split into two heaps.
     TwoHeaps,
+    /// What isn't taken stays, split into three heaps.
+    ThreeHeaps,
 }
 
 impl Leaving {
@@ -23,6 +25,7 @@ impl Leaving {
             Leaving::NoHeap => 1,
             Leaving::OneHeap => 2,
             Leaving::TwoHeaps => 4,
+            Leaving::ThreeHeaps => 8,
         }
     }
 }

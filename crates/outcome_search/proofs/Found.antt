@@ -32,7 +32,7 @@ use Rattle.outcome_search.specs.Searching.{IsOnTheWay, IsSearch}
 use Rattle.positions.specs.declared.outcome.Outcome.{Outcome}
 use Rattle.outcome_search.specs.Settled.{Follows, IsSettledBy}
 use Rattle.outcome_search.proofs.Seen.{same_position, follows_right, follows_on}
-use Rattle.positions.specs.RisingLists.{rising_same}
+use Rattle.heap_options.specs.RisingLists.{rising_same}
 
 measure_shuffled : {X Y : List ℕ} → Shuffled X Y → measure X ≡ measure Y
 measure_shuffled Same = refl

@@ -5,7 +5,7 @@ use Rattle.std.proofs.lemmas.List.{get_or_default}
 use Rattle.std.proofs.lemmas.List.Elements.{All-cons, All-nil}
 use Rattle.std.proofs.lemmas.List.Sorted.{IsPermutation-remove, IsPermutation-sym}
 use Rattle.misere_theory.specs.Games.{HeapOption, MultisetMove}
-use Rattle.misere_theory.specs.Games.HeapOption.{One, Two}
+use Rattle.misere_theory.specs.Games.HeapOption.{One, Two, Three}
 
 -- no part is larger than the heap
 pub option_fits : (code : List ℕ) (n M : ℕ) (H : List ℕ) → HeapOption code n H → n ≤ M
@@ -16,7 +16,11 @@ option_fits code n M (a ∷ []) (One j _ p q e b) l =
 option_fits code n M (a ∷ b ∷ []) (Two j _ _ p q e d) l =
     All-cons (λ m. (1 ≤ m) × (m ≤ M)) a (b ∷ []) (p, omega arith)
     (All-cons (λ m. (1 ≤ m) × (m ≤ M)) b [] (q, omega arith) (All-nil (λ m. (1 ≤ m) × (m ≤ M))))
-option_fits code n M (a ∷ (b ∷ (_ ∷ _))) h l = elim h [ ]
+option_fits code n M (a ∷ b ∷ c ∷ []) (Three j _ _ _ p q r e d) l =
+    All-cons (λ m. (1 ≤ m) × (m ≤ M)) a (b ∷ c ∷ []) (p, omega arith)
+    (All-cons (λ m. (1 ≤ m) × (m ≤ M)) b (c ∷ []) (q, omega arith)
+    (All-cons (λ m. (1 ≤ m) × (m ≤ M)) c [] (r, omega arith) (All-nil (λ m. (1 ≤ m) × (m ≤ M)))))
+option_fits code n M (a ∷ b ∷ c ∷ d ∷ H) h l = elim h [ ]
 
 -- the heap at a place goes, and what the move leaves of it comes
 pub move_from_place : (code X : List ℕ) (i : ℕ) (H Y : List ℕ) → i < length X

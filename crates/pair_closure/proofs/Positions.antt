@@ -4,11 +4,11 @@ use Rattle.std.specs.List.{AllByRecursion}
 use Rattle.std.proofs.lemmas.Bool.{cases_lt}
 use Rattle.std.proofs.lemmas.List.Sums.{fails_before_first}
 use Rattle.std.proofs.lemmas.List.{get_or_append_left, get_or_push}
-use Rattle.misere_theory.specs.Games.{IsHeap, IsHeapUpTo, IsPosition}
+use Rattle.misere_theory.specs.Games.{IsHeapUpTo, IsPosition}
 use Rattle.misere_theory.specs.Games.Move.{Here, There}
 use Rattle.misere_theory.specs.Quotients.{Claim, value, OptionValue, SamePair, ReachesMoreThan}
 use Rattle.misere_theory.specs.Pairs as theory
-use Rattle.misere_theory.proofs.Sums.{first_or_rest, no_move_of_none, value-append, heaps_kept}
+use Rattle.misere_theory.proofs.Sums.{first_or_rest, no_move_of_none, value-append, heaps_up_to_kept}
 use Rattle.monoid_table.specs.Grids.{Grid, times_in}
 use Rattle.transition_algebra.specs.declared.pair.Pair.{Pair}
 use Rattle.pair_closure.specs.declared.members.Member.{Member}
@@ -58,12 +58,11 @@ module _ (code : List ℕ) (c : Claim) (s : State) (v : Holds s)
   abbrev product : List ℕ → Pair
   product w = product_of_heaps s.table s.heaps w
 
+  abbrev IsGiven : ℕ → Type 0
+  IsGiven = IsHeapUpTo (length s.heaps)
+
   abbrev IsWord : List ℕ → Type 0
   IsWord w = AllByRecursion (λ h. (1 ≤ h) × (h ≤ length s.heaps)) w
-
-  position : (w : List ℕ) → IsWord w → IsPosition IsHeap w
-  position [] p = tt
-  position (h ∷ w) p = (p.0.0, position w p.1)
 
   pub word_exact : (w : List ℕ) → IsWord w → Exact (product w) w
   word_exact [] p =
@@ -77,7 +76,6 @@ module _ (code : List ℕ) (c : Claim) (s : State) (v : Holds s)
       let (a, b) = p.0 in
       let hn = heap_in n a b in
       let pw = reached.word_in s v w p.1 in
-      let pos = position w p.1 in
       record {
         value =
             sym (g.times_is _ _ hn.value pw.value) ∙ ap₂ c.times ((each n a b).value_is) e.value;
@@ -94,7 +92,8 @@ module _ (code : List ℕ) (c : Claim) (s : State) (v : Holds s)
               let xin = hn.options x k in (
                 H ++ w,
                 Here o refl,
-                value-append IsHeap c g.monoid g.elements H w (heaps_kept code n H a o) pos
+                value-append IsGiven c g.monoid g.elements H w
+                    (heaps_up_to_kept (length s.heaps) code n H (a, b) o) p.1
                     ∙ ap₂ c.times q (sym e.value) ∙ g.times_is _ _ xin pw.value
                     ∙ pair_commutes x (product w).value xin pw.value ∙ d,
               )
@@ -106,7 +105,8 @@ module _ (code : List ℕ) (c : Claim) (s : State) (v : Holds s)
               subst (has (times s.table (heap n) (product w)).options)
               (pair_commutes (product w).value (value c H) pw.value xin
               ∙ sym (g.times_is _ _ xin pw.value) ∙ ap (c.times (value c H)) e.value
-              ∙ sym (value-append IsHeap c g.monoid g.elements H w (heaps_kept code n H a i) pos)
+              ∙ sym (value-append IsGiven c g.monoid g.elements H w
+              (heaps_up_to_kept (length s.heaps) code n H (a, b) i) p.1)
               ∙ sym (ap (value c) q) ∙ o.2)
               (has_left s.table v.lawful (heap n) (product w) hn _ k)
           | inr (Y, i, q) ↦
@@ -243,14 +243,13 @@ module _ (code : List ℕ) (c : Claim) (s : State) (v : Holds s)
       (λ x h. b.from x ((same.1 x).0 (a.to x h)))
       (λ x h. a.from x ((same.1 x).1 (b.to x h)))
 
-  pub more_than : (limit : ℕ) → limit < length s.members → ReachesMoreThan IsHeap code c limit
+  pub more_than : (limit : ℕ) → limit < length s.members → ReachesMoreThan IsGiven code c limit
   more_than limit l =
       let n = length s.members in (
         words_below n,
         omega (arith, length_words n),
         λ k d h. let lt : k < n = omega (arith, length_words n) in
-            subst (IsPosition IsHeap) (sym (word_below n k d lt))
-            (position (word_at k) (table_words k lt).0),
+            subst (IsPosition IsGiven) (sym (word_below n k d lt)) (table_words k lt).0,
         λ i j d h k same.
             let lj : j < n = omega (arith, length_words n) in
             let li : i < n = omega arith in

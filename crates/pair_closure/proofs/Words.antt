@@ -2,10 +2,10 @@
 use Rattle.std.proofs.Common.{◌≡◌, ℕ, zero, suc, ◌^◌, ◌<◌, ◌≤◌, List, [], ◌∷◌, ◌++◌, length, get_or, refl, sym, ap, ◌∙◌, subst, inl, inr, arith, Contains}
 use Rattle.std.specs.List.Sorted.{IsNonDecreasing, IsPermutation}
 use Rattle.std.proofs.lemmas.List.Sorted.{IsPermutation-refl, IsPermutation-append_left, IsPermutation-middle, IsPermutation-trans}
-use Rattle.misere_theory.specs.Games.{IsHeap, IsHeapUpTo, IsPosition}
-use Rattle.misere_theory.specs.Quotients.{Claim, Monoid}
+use Rattle.misere_theory.specs.Games.{IsHeapUpTo, IsPosition}
+use Rattle.misere_theory.specs.Quotients.{Claim, Monoid, GivesElements}
 use Rattle.misere_theory.specs.Pairs as theory
-use Rattle.misere_theory.proofs.Sums.{heaps_kept, move_kept}
+use Rattle.misere_theory.proofs.Sums.{heaps_up_to_kept, move_kept}
 use Rattle.misere_theory.proofs.Shuffles.{Shuffled, back, from_permutation, move_shuffled, position_shuffled, value_shuffled}
 use Rattle.positions.specs.Positions.{IsSize}
 use Rattle.pair_closure.specs.Chains.{blank}
@@ -20,19 +20,19 @@ use Rattle.pair_closure.proofs.Positions.{shows}
 use Rattle.pair_closure.proofs.Rising.{one_rises}
 
 -- the heaps in any order have the same pair
-pair_shuffled : (code : List ℕ) (c : Claim) (m : Monoid c.order c.times) (phi_in : (n : ℕ)
-    → IsHeap n → c.phi n < c.order) (p : theory.Pair) (X Y : List ℕ) → IsPosition IsHeap X
+pair_shuffled : (B : ℕ) (code : List ℕ) (c : Claim) (m : Monoid c.order c.times)
+    (phi_in : GivesElements (IsHeapUpTo B) c) (p : theory.Pair) (X Y : List ℕ) → IsPosition (IsHeapUpTo B) X
     → Shuffled X Y → theory.IsPairOf code c p X → theory.IsPairOf code c p Y
-pair_shuffled code c m phi_in p X Y inside s e = record {
-  same_value = e.same_value ∙ value_shuffled IsHeap c m phi_in s inside;
+pair_shuffled B code c m phi_in p X Y inside s e = record {
+  same_value = e.same_value ∙ value_shuffled (IsHeapUpTo B) c m phi_in s inside;
   options = λ x. (
     λ h.
         let (Z, i, q) = (e.options x).0 h in
         let (W, j, t) = move_shuffled s i in (
           W,
           j,
-          sym (value_shuffled IsHeap c m phi_in t
-              (move_kept IsHeap code (heaps_kept code) i inside)) ∙ q,
+          sym (value_shuffled (IsHeapUpTo B) c m phi_in t
+              (move_kept (IsHeapUpTo B) code (heaps_up_to_kept B code) i inside)) ∙ q,
         ),
     λ o.
         let (W, j, q) = o in
@@ -40,15 +40,11 @@ pair_shuffled code c m phi_in p X Y inside s e = record {
         (e.options x).1 (
           Z,
           i,
-          sym (value_shuffled IsHeap c m phi_in t
-              (move_kept IsHeap code (heaps_kept code) j (position_shuffled IsHeap s inside))) ∙ q,
+          sym (value_shuffled (IsHeapUpTo B) c m phi_in t
+              (move_kept (IsHeapUpTo B) code (heaps_up_to_kept B code) j (position_shuffled (IsHeapUpTo B) s inside))) ∙ q,
         ),
   );
 }
-
-heaps_of : (B : ℕ) (X : List ℕ) → IsPosition (IsHeapUpTo B) X → IsPosition IsHeap X
-heaps_of B [] p = tt
-heaps_of B (n ∷ X) p = (p.0.0, heaps_of B X p.1)
 
 word_within : (s : State) → Reached s → (i : ℕ) → i < length s.members
     → IsPosition (IsHeapUpTo (length s.heaps)) (word s i)
@@ -149,8 +145,8 @@ walk_ends s r m i at heaps l e w last rise =
           let held =
           says.held m
           (subst (Contains s.held) (sym e) (In-Contains _ _ (In-at s.held i blank_held l))) in
-          pair_shuffled code c g.monoid g.elements (as_pair m.pair) (word s m.place) heaps
-          (heaps_of _ _ (says.positions m.place inside)) shuffled
+          pair_shuffled (length s.heaps) code c g.monoid g.elements (as_pair m.pair)
+          (word s m.place) heaps (says.positions m.place inside) shuffled
           (subst (λ p. theory.IsPairOf code c (as_pair p) (word s m.place)) held.1
           (says.words m.place inside));
     }

@@ -2,7 +2,7 @@
 use Rattle.std.specs.Prelude.{◌≡◌, ℕ, ◌<◌, true, cond, nat_lt, List, [], ◌∷◌, map, Contains, slice_index_or, length, AllPairs, IsPermutation}
 use Rattle.std.specs.FinSet as set
 use Rattle.misere_theory.specs.Quotients.{Claim, GivesElements, Monoid, ReachesMoreThan}
-use Rattle.misere_theory.specs.Games.{IsHeap, IsHeapUpTo, IsPosition}
+use Rattle.misere_theory.specs.Games.{IsHeapUpTo, IsPosition}
 use Rattle.misere_theory.specs.Pairs as theory
 use Rattle.monoid_table.specs.Grids.{Grid, times_in}
 use Rattle.transition_algebra.specs.declared.pair.Pair.{Pair}
@@ -16,10 +16,10 @@ abbrev pub as_pair : Pair → theory.Pair
 as_pair p = record { value = p.value; options = set.items p.options }
 
 -- The claim's products are the table's, and the list gives its pairs of the heaps 1 up to the
--- list's length.
+-- list's length, which have elements.
 pub record IsClaimOver (code : List ℕ) (c : Claim) (table : Grid) (heaps : List Pair) : Type 0 where
   pub monoid : Monoid c.order c.times
-  pub elements : GivesElements IsHeap c
+  pub elements : GivesElements (IsHeapUpTo (length heaps)) c
   pub order_is : c.order ≡ table.order
   pub times_is : (x y : ℕ) → x < table.order → y < table.order → c.times x y ≡ times_in table x y
   pub heaps_are : IsHeapPairs code c (length heaps) heaps
@@ -45,8 +45,8 @@ pub record Says (code : List ℕ) (c : Claim) (s : State) : Type 0 where
       → (m.place < length s.members) × ((slice_index_or s.members m.place blank).pair ≡ m.pair)
   -- once it is done, the pairs held are closed under products with the heaps
   pub done : is_done s ≡ true → theory.IsClosed code c (IsHeapUpTo (length s.heaps)) (kept s)
-  -- once it is over, there are more different pairs of positions than the limit
-  pub over : is_over s ≡ true → ReachesMoreThan IsHeap code c s.limit
+  -- once it is over, there are more different pairs of positions of the heaps given than the limit
+  pub over : is_over s ≡ true → ReachesMoreThan (IsHeapUpTo (length s.heaps)) code c s.limit
 
 -- a heap put among rising ones
 abbrev pub put : ℕ → List ℕ → List ℕ
@@ -78,12 +78,12 @@ IsClosedOver s =
     (code : List ℕ) (c : Claim) → IsClaimOver code c s.table s.heaps
     → theory.IsClosed code c (IsHeapUpTo (length s.heaps)) (kept s)
 
--- Positions have more different pairs than the limit, whatever claim the table and the pairs are
+-- Positions of the heaps given have more different pairs than the limit, whatever claim the table and the pairs are
 -- those of.
 abbrev pub IsExceeded : State → Type 0
 IsExceeded s =
     (code : List ℕ) (c : Claim) → IsClaimOver code c s.table s.heaps
-    → ReachesMoreThan IsHeap code c s.limit
+    → ReachesMoreThan (IsHeapUpTo (length s.heaps)) code c s.limit
 
 -- neither covers the other, in the words of the theory
 abbrev pub AreApart : Pair → Pair → Type 0

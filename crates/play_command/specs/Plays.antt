@@ -1,32 +1,53 @@
 -- What is said in a position, by the quotient that a file certifies, and why nothing is. This
 -- project's own.
 use Rattle.std.specs.Prelude.{◌≡◌, ◌<◌, ◌⊎◌, ⊤, ℕ, Bool, true, false, List, Option, Result, Ok, Err, Vec}
-use Rattle.misere_theory.specs.Certificates.{Certificate}
+use Rattle.misere_theory.specs.Certificates.{Certificate, IsHeapOf}
+use Rattle.misere_theory.specs.Games.{IsPosition}
 use Rattle.positions.specs.Text.{IsNoPositionText, IsTextOf, HasTooMany, HasTooLarge}
 use Rattle.player.specs.Answers.{IsRightAnswer}
 use Rattle.player.specs.declared.answering.Answer.{Answer}
 use Rattle.check_command.specs.Checks.{Certifies, SaysOfFile}
 use Rattle.command_results.specs.declared.stop.Stop.{Stop}
 use Rattle.command_results.specs.declared.stop.Stop.TheVariants.{Read, Memory, NotAPosition}
-use Rattle.play_command.specs.Lines.{answer_line}
+use Rattle.play_command.specs.Lines.{answer_line, beyond_line}
 
 -- the line of the right answer in the position, in the game of the quotient
 abbrev pub AnswersIn : Certificate → List ℕ → List ℕ → Type 0
 AnswersIn c X text = (answer : Answer) × IsRightAnswer c.code X answer × (text ≡ answer_line answer)
 
+-- The certificate speaks of each heap of the position.
+abbrev pub Fits : Certificate → List ℕ → Type 0
+Fits c X = IsPosition (IsHeapOf c) X
+
+-- It is partial, and speaks not of each heap of the position, which the text says.
+abbrev pub IsBeyond : Certificate → List ℕ → List ℕ → Type 0
+IsBeyond c X text = (c.period ≡ 0) × (Fits c X → ⊥) × (text ≡ beyond_line)
+
+-- the answer where the position fits, and else that it doesn't
+abbrev pub PlaysIn : Certificate → List ℕ → List ℕ → Bool → Type 0
+PlaysIn c X text true = Fits c X × AnswersIn c X text
+PlaysIn c X text false = IsBeyond c X text
+
 -- the same where a quotient was found, and the text of a no where none was
 abbrev pub PlaysFound : {A : Type 0} → Result Certificate (Vec ℕ A) → List ℕ → List ℕ → Bool
     → Type 0
-PlaysFound (Ok c) X text well = AnswersIn c X text × (well ≡ true)
+PlaysFound (Ok c) X text well = PlaysIn c X text well
 PlaysFound (Err said) X text well = (text ≡ said.items) × (well ≡ false)
 
--- the answer in the position is right in the game that the file certifies a quotient of under the
--- limit, or the text is that of a true no
+-- a quotient that the file certifies under the limit doesn't speak of the position
+abbrev pub PlaysBeyond : Option (List ℕ → Option (List ℕ)) → List ℕ → ℕ → List ℕ → List ℕ → Type 0
+PlaysBeyond files file limit position text =
+    (c : Certificate) × Certifies files file limit c
+    × ((X : List ℕ) × IsTextOf position X × IsBeyond c X text)
+
+-- The answer in the position, of which the quotient speaks that the file certifies under the limit,
+-- is right in its game; or the text says that it speaks not of it, or is that of a true no.
 abbrev pub Plays : Option (List ℕ → Option (List ℕ)) → List ℕ → ℕ → List ℕ → List ℕ → Bool → Type 0
 Plays files file limit position text true =
     (c : Certificate) × Certifies files file limit c
-    × ((X : List ℕ) × IsTextOf position X × AnswersIn c X text)
-Plays files file limit position text false = SaysOfFile files file limit text false
+    × ((X : List ℕ) × IsTextOf position X × Fits c X × AnswersIn c X text)
+Plays files file limit position text false =
+    SaysOfFile files file limit text false ⊎ PlaysBeyond files file limit position text
 
 -- the text is not that of at most 64 sizes up to 10^18
 abbrev pub IsNoPosition : List ℕ → Type 0

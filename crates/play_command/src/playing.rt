@@ -1,14 +1,15 @@
 //! The answer in a position, out of a file.
-ghost use Rattle.std.specs.Prelude.{◌≡◌, true, IfOk, IfErr, IsErrOf};
+ghost use Rattle.std.specs.Prelude.{◌≡◌, ◌≤◌, true, false, IfOk, IfErr, IsErrOf};
 ghost use Rattle.positions.specs.Text.{IsTextOf};
-ghost use Rattle.play_command.specs.Plays.{AnswersIn, IsPlayCause, IsPositionCause, Plays, PlaysFound};
+ghost use Rattle.play_command.specs.Lines.{beyond_line};
+ghost use Rattle.play_command.specs.Plays.{AnswersIn, Fits, IsPlayCause, IsPositionCause, Plays, PlaysFound, PlaysIn};
 
-use crate::lines::answer_text;
+use crate::lines::{answer_text, beyond_text};
 use answers::Certified;
 use check_command::certified;
 use command_results::{Said, Stop};
 use folders::Folder;
-use player::answer;
+use player::{answer, fits};
 use positions::{Position, PositionFault};
 use std::alloc::{AllocError, Global};
 
@@ -26,13 +27,34 @@ fn position_of(alloc: Global, text: &str) -> Result<Position, Stop<'static>>
     }
 }
 
-/// The line of the answer in the position.
+/// The line of the answer in the position, of which the certificate speaks.
 fn answered(alloc: Global, certified: &Certified, position: &Position) -> Result<Said, AllocError>
+    requires { Fits certified.now position.now }
     ensures answered { IfOk result (λ s. AnswersIn certified.now position.now s.text.items) }
     ensures well { IfOk result (λ s. s.well ≡ true) }
 {
     let text = answer_text(alloc, answer(certified, position))?;
     Ok(Said::done(text))
+}
+
+/// That the certificate doesn't speak of the position.
+fn beyond(alloc: Global) -> Result<Said, AllocError>
+    ensures text { IfOk result (λ s. s.text.items ≡ beyond_line) }
+    ensures well { IfOk result (λ s. s.well ≡ false) }
+{
+    Ok(Said::no(beyond_text(alloc)?.into_bytes()))
+}
+
+/// The line of the answer in the position, or that the certificate doesn't speak of it.
+fn played(alloc: Global, certified: &Certified, position: &Position) -> Result<Said, AllocError>
+    ensures plays { IfOk result (λ s. PlaysIn certified.now position.now s.text.items s.well) }
+    ensures full { 1 ≤ certified.now.period → IfOk result (λ s. s.well ≡ true) }
+{
+    if fits(certified, position) {
+        answered(alloc, certified, position)
+    } else {
+        beyond(alloc)
+    }
 }
 
 /// What is said in the position by what was found.
@@ -44,14 +66,14 @@ fn said_in(
     ensures { IfOk result (λ s. PlaysFound quotient position.now s.text.items s.well) }
 {
     match quotient {
-        Ok(certified) => answered(alloc, &certified, position),
+        Ok(certified) => played(alloc, &certified, position),
         Err(no) => Ok(Said::no(no)),
     }
 }
 
 /// Answers in the position by the quotient that the file certifies under the limit: with the first
-/// winning move, that each move loses, or that there is none; or says why the file certifies no
-/// quotient. The position is read first.
+/// winning move, that each move loses, or that there is none; or says that a partial quotient doesn't
+/// speak of the position, or why the file certifies none. The position is read first.
 pub fn play<'a, F: Folder>(
     alloc: Global,
     file: &'a str,

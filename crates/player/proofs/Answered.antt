@@ -1,7 +1,7 @@
 -- Each answer is right where it is given.
 use Rattle.std.proofs.Common.{◌≡◌, ℕ, inl, inr, Bool, true, false, List, refl, sym, ◌∙◌, ap, subst}
-use Rattle.misere_theory.specs.Certificates.{Certificate, Accepted, claim_of}
-use Rattle.misere_theory.specs.Games.{Move, IsP, IsN, IsHeap, IsPosition}
+use Rattle.misere_theory.specs.Certificates.{Certificate, IsHeapOf, Accepted, claim_of}
+use Rattle.misere_theory.specs.Games.{Move, IsP, IsN, IsPosition}
 use Rattle.misere_theory.specs.Games.IsP.{AllLose}
 use Rattle.misere_theory.specs.Plays.{IsWinningMove, IsFirstWin}
 use Rattle.misere_theory.specs.Quotients.{value}
@@ -66,13 +66,13 @@ ended_right code X not_p none = record {
     ]
 
 -- in the portion exactly at P-positions
-pub p_here : (c : Certificate) → Accepted c → (X : List ℕ) → IsPosition IsHeap X
+pub p_here : (c : Certificate) → Accepted c → (X : List ℕ) → IsPosition (IsHeapOf c) X
     → (v : ℕ) (b : Bool) → v ≡ value (claim_of c) X → b ≡ (claim_of c).portion v → b ≡ true
     → IsP c.code X
 p_here c yes_to X position v b e f here =
     (yes_to.represents.predicts X position).1 (ap (claim_of c).portion (sym e) ∙ sym f ∙ here)
 
-pub not_p_here : (c : Certificate) → Accepted c → (X : List ℕ) → IsPosition IsHeap X
+pub not_p_here : (c : Certificate) → Accepted c → (X : List ℕ) → IsPosition (IsHeapOf c) X
     → (v : ℕ) (b : Bool) → v ≡ value (claim_of c) X → b ≡ (claim_of c).portion v → b ≡ false
     → IsP c.code X → ⊥
 not_p_here c yes_to X position v b e f out p =
@@ -82,7 +82,7 @@ not_p_here c yes_to X position v b e f out p =
     clash true p q = cc
     clash false p q = cc
 
-pub n_here : (c : Certificate) → Accepted c → (X : List ℕ) → IsPosition IsHeap X
+pub n_here : (c : Certificate) → Accepted c → (X : List ℕ) → IsPosition (IsHeapOf c) X
     → (v : ℕ) (b : Bool) → v ≡ value (claim_of c) X → b ≡ (claim_of c).portion v → b ≡ false
     → IsN c.code X
 n_here c yes_to X position v b e f out =

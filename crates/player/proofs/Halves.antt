@@ -6,8 +6,8 @@ use Rattle.std.specs.List.Sorted.{IsNonDecreasing}
 use Rattle.std.proofs.Math.Seq.{drop-length, take-add}
 use Rattle.std.proofs.lemmas.List.{drop-drop, take-append-drop}
 use native.Mathlib.Decide.{dec_lt}
-use Rattle.misere_theory.specs.Certificates.{Certificate, Accepted, claim_of}
-use Rattle.misere_theory.specs.Games.{IsHeap, IsPosition}
+use Rattle.misere_theory.specs.Certificates.{Certificate, IsHeapOf, Accepted, claim_of}
+use Rattle.misere_theory.specs.Games.{IsPosition}
 use Rattle.misere_theory.specs.Plays.{IsWinningMove}
 use Rattle.misere_theory.specs.Quotients.{Claim, value}
 use Rattle.misere_theory.proofs.Sums.{IsPosition-append, value_in, value-append}
@@ -19,21 +19,21 @@ module _ (c : Certificate) (yes_to : Accepted c) where
   C = claim_of c
 
   -- heaps put between others
-  between : (P M S : List ℕ) → IsPosition IsHeap P → IsPosition IsHeap M → IsPosition IsHeap S
+  between : (P M S : List ℕ) → IsPosition (IsHeapOf c) P → IsPosition (IsHeapOf c) M → IsPosition (IsHeapOf c) S
       → C.times (value C (P ++ S)) (value C M) ≡ value C (P ++ (M ++ S))
   between P M S p m s =
       let k = yes_to.represents.monoid in
       let el = yes_to.represents.elements in
-      let vp = value_in IsHeap C k el P p in
-      let vm = value_in IsHeap C k el M m in
-      let vs = value_in IsHeap C k el S s in
-      ap (λ v. C.times v (value C M)) (value-append IsHeap C k el P S p s)
+      let vp = value_in (IsHeapOf c) C k el P p in
+      let vm = value_in (IsHeapOf c) C k el M m in
+      let vs = value_in (IsHeapOf c) C k el S s in
+      ap (λ v. C.times v (value C M)) (value-append (IsHeapOf c) C k el P S p s)
       ∙ (k.associates (value C P) (value C S) (value C M) vp vs vm
       ∙ (ap (C.times (value C P)) (k.commutes (value C S) (value C M) vs vm
-      ∙ sym (value-append IsHeap C k el M S m s))
-      ∙ sym (value-append IsHeap C k el P (M ++ S) p (IsPosition-append IsHeap M S m s))))
+      ∙ sym (value-append (IsHeapOf c) C k el M S m s))
+      ∙ sym (value-append (IsHeapOf c) C k el P (M ++ S) p (IsPosition-append (IsHeapOf c) M S m s))))
 
-  module _ (X : List ℕ) (position : IsPosition IsHeap X) (from middle to y b r : ℕ)
+  module _ (X : List ℕ) (position : IsPosition (IsHeapOf c) X) (from middle to y b r : ℕ)
       (a : from ≤ middle) (z : middle ≤ to)
       (others : y ≡ value C (other_heaps X from to)) (times : r ≡ C.times y b) where
     -- beside the first half stand the second half and those beside both
@@ -46,9 +46,9 @@ module _ (c : Certificate) (yes_to : Accepted c) where
         ap (λ Z. M ++ Z) (sym (drop-drop (to - middle) middle X ∙ ap (λ k. drop k X) s))
         ∙ take-append-drop (to - middle) (drop middle X) in
         times ∙ (ap₂ C.times others is
-        ∙ (between (take from X) M (drop to X) (taken X from position)
-        (taken (drop middle X) (to - middle) (dropped X middle position))
-        (dropped X to position)
+        ∙ (between (take from X) M (drop to X) (taken (IsHeapOf c) X from position)
+        (taken (IsHeapOf c) (drop middle X) (to - middle) (dropped (IsHeapOf c) X middle position))
+        (dropped (IsHeapOf c) X to position)
         ∙ ap (λ Z. value C (take from X ++ Z)) joined))
 
     pub beside_second : b ≡ value C (take (middle - from) (drop from X))
@@ -59,8 +59,8 @@ module _ (c : Certificate) (yes_to : Accepted c) where
         let joined : take from X ++ M ≡ take middle X =
         sym (take-add from (middle - from) X) ∙ ap (λ k. take k X) s in
         times ∙ (ap₂ C.times others is
-        ∙ (between (take from X) M (drop to X) (taken X from position)
-        (taken (drop from X) (middle - from) (dropped X from position)) (dropped X to position)
+        ∙ (between (take from X) M (drop to X) (taken (IsHeapOf c) X from position)
+        (taken (IsHeapOf c) (drop from X) (middle - from) (dropped (IsHeapOf c) X from position)) (dropped (IsHeapOf c) X to position)
         ∙ ap (value C) (sym (append_assoc (take from X) M (drop to X))
         ∙ ap (λ Z. Z ++ drop to X) joined)))
 

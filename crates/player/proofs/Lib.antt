@@ -4,4 +4,5 @@ mod Others
 mod Halves
 mod Answered
 mod Few
+mod Inside
 mod OneAnswer

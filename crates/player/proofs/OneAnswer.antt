@@ -3,7 +3,7 @@ use Rattle.std.proofs.Common.{◌≡◌, ℕ, List, refl, sym, ap, ap₂}
 use Rattle.misere_theory.proofs.Wins.{first_win_once}
 use Rattle.heap_options.specs.Exact.{heaps_of}
 use Rattle.heap_options.specs.declared.left.Left.{Left}
-use Rattle.heap_options.specs.declared.left.Left.TheVariants.{Nothing, One, Two}
+use Rattle.heap_options.specs.declared.left.Left.TheVariants.{Nothing, One, Two, Three}
 use Rattle.positions.specs.declared.moves.Move.{Move as MoveMade}
 use Rattle.player.specs.Answers.{IsRightAnswer}
 use Rattle.player.specs.declared.answering.Answer.{Answer}
@@ -19,6 +19,13 @@ lefts_one (One a) (Two b c) e = absurd (cc)
 lefts_one (Two a d) Nothing e = absurd (cc)
 lefts_one (Two a d) (One b) e = absurd (cc)
 lefts_one (Two a d) (Two b c) e = cc
+lefts_one Nothing (Three b c f) e = absurd (cc)
+lefts_one (One a) (Three b c f) e = absurd (cc)
+lefts_one (Two a d) (Three b c f) e = absurd (cc)
+lefts_one (Three a d g) Nothing e = absurd (cc)
+lefts_one (Three a d g) (One b) e = absurd (cc)
+lefts_one (Three a d g) (Two b c) e = absurd (cc)
+lefts_one (Three a d g) (Three b c f) e = cc
 
 moves_one : (m k : MoveMade) → m.heap ≡ k.heap → m.left ≡ k.left → m ≡ k
 moves_one m k e f = ap₂ (λ (n : ℕ) (l : Left). record { heap = n; left = l }) e f

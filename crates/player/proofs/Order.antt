@@ -1,16 +1,26 @@
 -- The order of what moves leave, and the options whose smaller part is small.
-use Rattle.std.proofs.Common.{◌≡◌, ◌↔◌, ℕ, zero, suc, ◌-◌, inl, inr, sym, List, [], ◌∷◌, ◌++◌, ◌∙◌, subst, arith}
+use Rattle.std.proofs.Common.{◌≡◌, ◌↔◌, ℕ, suc, ◌-◌, ◌≤◌, inl, inr, sym, List, [], ◌∷◌, ◌++◌, ◌∙◌, subst, arith}
 use Rattle.std.specs.List.{Contains, AllPairs}
 use Rattle.std.specs.List.Sorted.{IsNonDecreasing, IsPermutation}
-use Rattle.misere_theory.specs.Games.{HeapOption, IsHeap, IsPosition}
-use Rattle.misere_theory.specs.Games.HeapOption.{Nothing as TakesAll, One as LeavesOne, Two as LeavesTwo}
+use Rattle.misere_theory.specs.Games.{HeapOption}
+use Rattle.misere_theory.specs.Games.HeapOption.{Nothing as TakesAll, One as LeavesOne, Two as LeavesTwo, Three as LeavesThree}
 use Rattle.misere_theory.specs.Pairs.{IsSmallSplit}
-use Rattle.misere_theory.specs.Plays.{LeftBefore}
+use Rattle.misere_theory.specs.Plays.{PartsBefore, LeftBefore}
+use Rattle.misere_theory.proofs.InOrder.{in_order_none, in_order_one, in_order_two, in_order_three}
 use Rattle.heap_options.specs.Options.{options_of, options_up_to}
 use Rattle.heap_options.specs.Exact.{heaps_of, IsInOrder, IsPartUpTo}
 use Rattle.heap_options.specs.declared.left.Left.{Left}
-use Rattle.heap_options.specs.declared.left.Left.TheVariants.{Nothing, One, Two}
-use Rattle.positions.specs.RisingLists.{rising_same}
+use Rattle.heap_options.specs.declared.left.Left.TheVariants.{Nothing, One, Two, Three}
+use Rattle.heap_options.specs.RisingLists.{rising_same}
+
+parts_trans : (H L M : List ℕ) → PartsBefore H L → PartsBefore L M → PartsBefore H M
+parts_trans H L M a b = elim a [
+  | inl p ↦ elim b [ inl q ↦ inl (omega arith) | inr q ↦ inl (let s = q.0 in omega arith) ]
+  | inr p ↦ elim b [
+    | inl q ↦ inl (let s = p.0 in omega arith)
+    | inr q ↦ inr (p.0 ∙ q.0, (let s = p.1 in let t = q.1 in omega arith))
+  ]
+]
 
 pub before_trans : (H L M : List ℕ) → LeftBefore H L → LeftBefore L M → LeftBefore H M
 before_trans H L M a b = elim a [
@@ -23,8 +33,7 @@ before_trans H L M a b = elim a [
         | inl r ↦ elim q.1 [ inl s ↦ inl (omega arith) | inr s ↦ inl (let t = s.0 in omega arith) ]
         | inr r ↦ elim q.1 [
           | inl s ↦ inl (let t = r.0 in omega arith)
-          | inr s ↦ inr
-              (r.0 ∙ s.0, (let t = r.1 in let u = s.1 in omega arith))
+          | inr s ↦ inr (r.0 ∙ s.0, parts_trans H L M r.1 s.1)
         ]
       ],
     )
@@ -34,7 +43,10 @@ before_trans H L M a b = elim a [
 pub not_before_itself : (H : List ℕ) → LeftBefore H H → ⊥
 not_before_itself H a = elim a [
   | inl p ↦ omega arith
-  | inr p ↦ elim p.1 [ inl q ↦ omega arith | inr q ↦ let t = q.1 in omega arith ]
+  | inr p ↦ elim p.1 [
+    | inl q ↦ omega arith
+    | inr q ↦ elim q.1 [ inl r ↦ omega arith | inr r ↦ let t = r.1 in omega arith ]
+  ]
 ]
 
 -- an element before the cut comes before one behind it
@@ -46,16 +58,10 @@ cut_before R (w ∷ ys) zs x y p c =
     cut_before R ys zs x y (λ i j d l h. p (suc i) (suc j) d (omega arith) (omega arith)) c
 
 pub in_order : (L : Left) → IsInOrder L → IsNonDecreasing (heaps_of L)
-in_order Nothing h i j d a b = absurd (omega arith)
-in_order (One a) h zero zero d k l = omega arith
-in_order (One a) h (suc i) j d k l = absurd (omega arith)
-in_order (One a) h i (suc j) d k l = absurd (omega arith)
-in_order (Two a b) h zero zero d k l = omega arith
-in_order (Two a b) h zero (suc zero) d k l = h
-in_order (Two a b) h (suc zero) (suc zero) d k l = omega arith
-in_order (Two a b) h (suc i) zero d k l = absurd (omega arith)
-in_order (Two a b) h (suc (suc i)) (suc zero) d k l = absurd (omega arith)
-in_order (Two a b) h i (suc (suc j)) d k l = absurd (omega arith)
+in_order Nothing h = in_order_none
+in_order (One a) h = in_order_one a
+in_order (Two a b) h = in_order_two a b h
+in_order (Three a b c) h = in_order_three a b c h.0 h.1
 
 -- what the one leaves comes before what the other leaves
 abbrev pub Before : Left → Left → Type 0
@@ -77,11 +83,23 @@ small_rises : (code : List ℕ) (n bound : ℕ) (H : List ℕ) → HeapOption co
 small_rises code n bound H (TakesAll j l h b) s = in_order Nothing tt
 small_rises code n bound H (LeavesOne j a l p h b) s = in_order (One a) tt
 small_rises code n bound H (LeavesTwo j a b p q h s) w = in_order (Two a b) w.0
+small_rises code n bound H (LeavesThree j a b c p q r h s) w = in_order (Three a b c) (w.0, w.1)
 
 small_up_to : (bound : ℕ) (L : Left) → IsSmallSplit bound (heaps_of L) → IsPartUpTo (bound - 1) L
 small_up_to bound Nothing w = tt
 small_up_to bound (One a) w = tt
 small_up_to bound (Two a b) w = let l = w.1 in omega arith
+small_up_to bound (Three a b c) w =
+    ((let l = w.2 in omega arith), (let l = w.3 in omega arith))
+
+-- and the other way round, where the parts rise
+pub up_to_small : (bound : ℕ) → 1 ≤ bound → (L : Left) → IsInOrder L → IsPartUpTo (bound - 1) L
+    → IsSmallSplit bound (heaps_of L)
+up_to_small bound some Nothing o w = tt
+up_to_small bound some (One a) o w = tt
+up_to_small bound some (Two a b) o w = (o, omega arith)
+up_to_small bound some (Three a b c) o w =
+    (o.0, o.1, let l = w.0 in omega arith, let l = w.1 in omega arith)
 
 -- an option whose smaller part is small is listed
 pub small_in : AreExact → (code : List ℕ) (n bound : ℕ) (H : List ℕ) → HeapOption code n H
@@ -97,9 +115,3 @@ small_in exact code n bound H o w =
           (i, small_up_to bound L (subst (IsSmallSplit bound) (sym same) w)),
       same,
     )
-
--- what is left of a heap are heaps
-pub option_heaps : (code : List ℕ) (n : ℕ) (H : List ℕ) → HeapOption code n H → IsPosition IsHeap H
-option_heaps code n H (TakesAll j l h b) = tt
-option_heaps code n H (LeavesOne j a l p h b) = (p, tt)
-option_heaps code n H (LeavesTwo j a b p q h s) = (p, (q, tt))

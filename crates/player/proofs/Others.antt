@@ -1,5 +1,5 @@
 -- Looks and winning moves.
-use Rattle.std.proofs.Common.{◌≡◌, ℕ, suc, ◌+◌, ◌-◌, ◌<◌, ◌≤◌, ◌⊎◌, inl, inr, Bool, true, false, List, [], ◌∷◌, ◌++◌, length, get_or, sym, ◌∙◌, ap, subst, arith}
+use Rattle.std.proofs.Common.{◌≡◌, ℕ, suc, ◌+◌, ◌-◌, ◌<◌, ◌≤◌, ◌⊎◌, inl, inr, Bool, true, false, List, [], ◌∷◌, ◌++◌, length, get_or, sym, ◌∙◌, ap, subst, arith, eq-zero-or-pos}
 use Rattle.std.specs.Prelude.{take, drop}
 use Rattle.std.specs.List.{Contains, AllPairs, remove}
 use Rattle.std.specs.List.Sorted.{IsNonDecreasing}
@@ -7,13 +7,14 @@ use Rattle.std.proofs.lemmas.List.Elements.{Contains-append_left, Contains-appen
 use Rattle.std.proofs.lemmas.List.Sorted.{IsPermutation-refl, IsPermutation-sym, IsPermutation-remove, Contains-permutation}
 use Rattle.std.proofs.lemmas.List.{get_or_default}
 use native.Mathlib.Decide.{dec_lt}
-use Rattle.misere_theory.specs.Certificates.{Certificate, InRanges, Accepted, claim_of}
-use Rattle.misere_theory.specs.Games.{HeapOption, HeapMove, IsHeap, IsPosition}
-use Rattle.misere_theory.specs.Pairs.{IsPeriodic}
+use Rattle.misere_theory.specs.Certificates.{Certificate, InRanges, kind_of, IsHeapOf, Accepted, claim_of}
+use Rattle.misere_theory.specs.Games.{HeapOption, HeapMove, IsPosition}
+use Rattle.misere_theory.specs.Kinds.{IsPeriodicIn}
 use Rattle.misere_theory.specs.Plays.{LeftBefore, IsWinningMove, IsFirstWin}
 use Rattle.misere_theory.specs.Quotients.{Claim, value}
 use Rattle.misere_theory.proofs.SmallParts.{small_or_earlier}
-use Rattle.misere_theory.proofs.Sums.{IsPosition-append, value_in, value-append, heaps_kept}
+use Rattle.misere_theory.proofs.Sums.{IsPosition-append, value_in, value-append}
+use Rattle.misere_theory.proofs.Counting.{kept_in, kind_full, kind_partial}
 use Rattle.misere_theory.proofs.Wins.{winning_leads}
 use Rattle.misere_theory.proofs.Written.{periodic}
 use Rattle.heap_options.specs.Options.{options_up_to}
@@ -21,28 +22,38 @@ use Rattle.heap_options.specs.Exact.{heaps_of}
 use Rattle.heap_options.specs.declared.left.Left.{Left}
 use Rattle.heap_options.specs.ListLaws.{only_in, itself_in}
 use Rattle.player.specs.Looks.{puts, IsFirstInto}
-use Rattle.player.proofs.Order.{AreExact, Before, before_trans, not_before_itself, cut_before, small_in, in_order, option_heaps}
+use Rattle.player.proofs.Order.{AreExact, Before, before_trans, not_before_itself, cut_before, small_in, in_order}
 use Rattle.player.proofs.Rests.{heap_at, dropped, taken}
 
 clash : (b : Bool) → b ≡ true → b ≡ false → ⊥
 clash true p q = cc
 clash false p q = cc
 
-module _ (c : Certificate) (ranges : InRanges c) (exact : AreExact) where
-  repeats : IsPeriodic c.code (claim_of c) (length c.code - 1) c.start c.period
+module _ (c : Certificate) (yes_to : Accepted c) (exact : AreExact) where
+  ranges : InRanges c
+  ranges = yes_to.in_ranges
+
+  repeats : IsPeriodicIn (kind_of c) c.code (claim_of c) (length c.code - 1) c.start c.period
   repeats = periodic c ranges
+
+  past : kind_of c < c.start + c.period
+  past = elim (eq-zero-or-pos c.period) [
+    | inl z ↦ let k = kind_partial c.start c.period z in let s = ranges.start in omega arith
+    | inr some ↦ let k = kind_full c.start c.period some in let s = ranges.start in omega arith
+  ]
 
   abbrev pub looked : ℕ → List Left
   looked n = options_up_to c.code n (c.start + c.period - 1)
 
   -- each option has one of its value among the looks, which is it or comes before it
-  pub look_for : (n : ℕ) (H : List ℕ) → HeapOption c.code n H → IsNonDecreasing H
+  pub look_for : (n : ℕ) → (0 < kind_of c → n ≤ kind_of c) → (H : List ℕ) → HeapOption c.code n H → IsNonDecreasing H
       → (L : Left) × Contains (looked n) L
       × (value (claim_of c) (heaps_of L) ≡ value (claim_of c) H)
       × ((heaps_of L ≡ H) ⊎ LeftBefore (heaps_of L) H)
-  look_for n H o w =
+  look_for n counts H o w =
       let (S, i, small, e, before) =
-      small_or_earlier c.code (claim_of c) (length c.code - 1) c.start c.period repeats n H o w
+      small_or_earlier (kind_of c) c.code (claim_of c) (length c.code - 1) c.start c.period repeats
+      past n counts (λ _. (yes_to.represents.monoid, yes_to.represents.elements)) H o w
       in
       let (L, there, same) = small_in exact c.code n (c.start + c.period) S i small in (
         L,
@@ -57,11 +68,11 @@ module _ (c : Certificate) (ranges : InRanges c) (exact : AreExact) where
   same_puts y H L e = ap (λ v. (claim_of c).portion ((claim_of c).times y v)) e
 
   -- where no look passes, no option does
-  pub none_into : (n y : ℕ) (seen rest : List Left) → seen ++ rest ≡ looked n → rest ≡ []
+  pub none_into : (n y : ℕ) → (0 < kind_of c → n ≤ kind_of c) → (seen rest : List Left) → seen ++ rest ≡ looked n → rest ≡ []
       → ((L : Left) → Contains seen L → puts c y (heaps_of L) ≡ false)
       → (H : List ℕ) → HeapOption c.code n H → IsNonDecreasing H → puts c y H ≡ false
-  none_into n y seen rest e none fails H o w =
-      let (L, i, v, b) = look_for n H o w in
+  none_into n y counts seen rest e none fails H o w =
+      let (L, i, v, b) = look_for n counts H o w in
       let here : Contains (seen ++ rest) L = subst (λ xs. Contains xs L) (sym e) i in
       let in_seen : Contains seen L = elim (Contains-append_cases seen rest L here) [
         | inl k ↦ k
@@ -70,11 +81,11 @@ module _ (c : Certificate) (ranges : InRanges c) (exact : AreExact) where
       sym (same_puts y (heaps_of L) H v) ∙ fails L in_seen
 
   -- the first look that passes is the first option that does
-  pub first_look : (n y : ℕ) (seen rest : List Left) (L : Left) → seen ++ (L ∷ rest) ≡ looked n
+  pub first_look : (n y : ℕ) → (0 < kind_of c → n ≤ kind_of c) → (seen rest : List Left) (L : Left) → seen ++ (L ∷ rest) ≡ looked n
       → puts c y (heaps_of L) ≡ true
       → ((M : Left) → Contains seen M → puts c y (heaps_of M) ≡ false)
       → IsFirstInto c n y (heaps_of L)
-  first_look n y seen rest L e passes fails =
+  first_look n y counts seen rest L e passes fails =
       let there : Contains (looked n) L =
       subst (λ xs. Contains xs L) e
       (Contains-append_right seen (L ∷ rest) L
@@ -85,7 +96,7 @@ module _ (c : Certificate) (ranges : InRanges c) (exact : AreExact) where
         in_order = in_order L o.1;
         here = passes;
         first = λ M p w q before.
-            let (S, i, v, b) = look_for n M p w in
+            let (S, i, v, b) = look_for n counts M p w in
             let good : puts c y (heaps_of S) ≡ true = same_puts y (heaps_of S) M v ∙ q in
             let earlier : LeftBefore (heaps_of S) (heaps_of L) = elim b [
               | inl same ↦ subst (λ u. LeftBefore u (heaps_of L)) (sym same) before
@@ -109,10 +120,10 @@ module _ (c : Certificate) (ranges : InRanges c) (exact : AreExact) where
       }
 
   -- the first option that passes is among the looks
-  pub first_among : (n y : ℕ) (H : List ℕ) → IsFirstInto c n y H
+  pub first_among : (n y : ℕ) (H : List ℕ) → (0 < kind_of c → n ≤ kind_of c) → IsFirstInto c n y H
       → (L : Left) × Contains (looked n) L × (heaps_of L ≡ H)
-  first_among n y H into =
-      let (L, i, v, b) = look_for n H into.option into.in_order in
+  first_among n y H counts into =
+      let (L, i, v, b) = look_for n counts H into.option into.in_order in
       let o = exact.only c.code n (c.start + c.period - 1) L i in (
         L,
         i,
@@ -125,14 +136,15 @@ module _ (c : Certificate) (ranges : InRanges c) (exact : AreExact) where
       )
 
 -- the next look is an option, so its parts are heaps
-pub parts_are_heaps : AreExact → (c : Certificate) (n : ℕ) (seen rest : List Left) (L : Left)
+pub parts_are_heaps : AreExact → (c : Certificate) (n : ℕ) → IsHeapOf c n
+    → (seen rest : List Left) (L : Left)
     → seen ++ (L ∷ rest) ≡ options_up_to c.code n (c.start + c.period - 1)
-    → IsPosition IsHeap (heaps_of L)
-parts_are_heaps exact c n seen rest L e =
+    → IsPosition (IsHeapOf c) (heaps_of L)
+parts_are_heaps exact c n counts seen rest L e =
     let i : Contains (seen ++ (L ∷ rest)) L =
     Contains-append_right seen (L ∷ rest) L (Contains-append_left (L ∷ []) rest L (itself_in L))
     in
-    option_heaps c.code n (heaps_of L)
+    kept_in (kind_of c) c.code n (heaps_of L) counts
     (exact.only c.code n (c.start + c.period - 1) L (subst (λ xs. Contains xs L) e i)).0
 
 -- one look more that doesn't pass
@@ -145,29 +157,29 @@ seen_more c y seen L here before M i = elim (Contains-append_cases seen (L ∷ [
 ]
 
 -- Winning moves of a position, by the values of the other heaps.
-module _ (c : Certificate) (yes_to : Accepted c) (X : List ℕ) (position : IsPosition IsHeap X) where
+module _ (c : Certificate) (yes_to : Accepted c) (X : List ℕ) (position : IsPosition (IsHeapOf c) X) where
   abbrev C : Claim
   C = claim_of c
 
-  others_in : (i : ℕ) → IsPosition IsHeap (remove X i)
+  others_in : (i : ℕ) → IsPosition (IsHeapOf c) (remove X i)
   others_in i =
-      IsPosition-append IsHeap (take i X) (drop (suc i) X) (taken X i position)
-      (dropped X (suc i) position)
+      IsPosition-append (IsHeapOf c) (take i X) (drop (suc i) X) (taken (IsHeapOf c) X i position)
+      (dropped (IsHeapOf c) X (suc i) position)
 
-  made_value : (i : ℕ) (n : ℕ) (H : List ℕ) → 1 ≤ n → HeapOption c.code n H
+  made_value : (i : ℕ) (n : ℕ) (H : List ℕ) → IsHeapOf c n → HeapOption c.code n H
       → value C (H ++ remove X i) ≡ C.times (value C (remove X i)) (value C H)
   made_value i n H one o =
       let m = yes_to.represents.monoid in
       let el = yes_to.represents.elements in
-      let p = heaps_kept c.code n H one o in
-      value-append IsHeap C m el H (remove X i) p (others_in i)
-      ∙ m.commutes (value C H) (value C (remove X i)) (value_in IsHeap C m el H p)
-      (value_in IsHeap C m el (remove X i) (others_in i))
+      let p = kept_in (kind_of c) c.code n H one o in
+      value-append (IsHeapOf c) C m el H (remove X i) p (others_in i)
+      ∙ m.commutes (value C H) (value C (remove X i)) (value_in (IsHeapOf c) C m el H p)
+      (value_in (IsHeapOf c) C m el (remove X i) (others_in i))
 
   module _ (i n y : ℕ) (there : i < length X) (is : n ≡ get_or X i n)
       (others : y ≡ value C (remove X i)) where
-    one_heap : 1 ≤ n
-    one_heap = subst (λ v. 1 ≤ v) (sym is) (heap_at X i n there position)
+    one_heap : IsHeapOf c n
+    one_heap = subst (IsHeapOf c) (sym is) (heap_at (IsHeapOf c) X i n there position)
 
     move_to : (H : List ℕ) → HeapOption c.code n H → HeapMove c.code X n H (H ++ remove X i)
     move_to H o =
@@ -183,8 +195,8 @@ module _ (c : Certificate) (yes_to : Accepted c) (X : List ℕ) (position : IsPo
     puts_is H o = ap (λ v. C.portion (C.times v (value C H))) others
         ∙ ap C.portion (sym (made_value i n H one_heap o))
 
-    made_in : (H : List ℕ) → HeapOption c.code n H → IsPosition IsHeap (H ++ remove X i)
-    made_in H o = IsPosition-append IsHeap H (remove X i) (heaps_kept c.code n H one_heap o)
+    made_in : (H : List ℕ) → HeapOption c.code n H → IsPosition (IsHeapOf c) (H ++ remove X i)
+    made_in H o = IsPosition-append (IsHeapOf c) H (remove X i) (kept_in (kind_of c) c.code n H one_heap o)
         (others_in i)
 
     pub winning_puts : (H : List ℕ) → IsWinningMove c.code X n H → puts c y H ≡ true
@@ -218,7 +230,7 @@ heap_of code X m H Y move =
 -- the first option that passes beside the others makes the first winning move, where no smaller
 -- heap has one
 pub first_of_all : (c : Certificate) (yes_to : Accepted c) (X : List ℕ)
-    (position : IsPosition IsHeap X) (i n y : ℕ) (there : i < length X) (is : n ≡ get_or X i n)
+    (position : IsPosition (IsHeapOf c) X) (i n y : ℕ) (there : i < length X) (is : n ≡ get_or X i n)
     (others : y ≡ value (claim_of c) (remove X i))
     → IsNonDecreasing X
     → ((k : ℕ) → k < i → (H : List ℕ) → IsWinningMove c.code X (get_or X k 0) H → ⊥)
@@ -254,7 +266,7 @@ none_at_all c X i past none n H w =
 
 -- a heap more without a winning move
 pub none_more : (c : Certificate) (yes_to : Accepted c) (X : List ℕ)
-    (position : IsPosition IsHeap X) (i y : ℕ) → i < length X → y ≡ value (claim_of c) (remove X i)
+    (position : IsPosition (IsHeapOf c) X) (i y : ℕ) → i < length X → y ≡ value (claim_of c) (remove X i)
     → ((H : List ℕ) → HeapOption c.code (get_or X i 0) H → IsNonDecreasing H → puts c y H ≡ false)
     → ((k : ℕ) → k < i → (H : List ℕ) → IsWinningMove c.code X (get_or X k 0) H → ⊥)
     → (k : ℕ) → k < i + 1 → (H : List ℕ) → IsWinningMove c.code X (get_or X k 0) H → ⊥

@@ -8,6 +8,6 @@ mod play;
 mod wins;
 
 pub use answering::Answer;
-pub use laws::right_answers_are_one;
-pub use play::{answer, looks, outcome, value};
+pub use laws::{plays_stay_inside, right_answers_are_one};
+pub use play::{answer, fits, looks, outcome, value};
 pub use positions::{Options as Looks, Outcome};

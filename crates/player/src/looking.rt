@@ -15,8 +15,8 @@ use certificate::in_ranges;
 use positions::{Left, Options, options_are_exact, options_up_to};
 use std::alloc::Allocator;
 
-/// The options that a player looks at: of the splits only those whose smaller part is below start +
-/// period.
+/// The options that a player looks at: of the splits and the triples only those whose parts but the
+/// largest are below start + period.
 pub(crate) fn looks_at<A: Allocator>(certified: &Certified<A>, n: u64) -> Options
     ensures list { result ≡ options_up_to certified.now.code n
         (certified.now.start + certified.now.period - 1) }
@@ -38,7 +38,8 @@ fn value_of_left<A: Allocator>(certified: &Certified<A>, left: Left) -> u16
 
 /// The first option of the heap n that makes a value in the P-portion beside a position of value y.
 pub(crate) fn first_into<A: Allocator>(certified: &Certified<A>, n: u64, y: u16) -> Option<Left>
-    requires { y < certified.now.order }
+    requires heap { IsHeapOf certified.now n }
+    requires within { y < certified.now.order }
     ensures { MatchOption result
         ((H : List ℕ) → HeapOption certified.now.code n H → IsNonDecreasing H
         → puts certified.now y H ≡ false)

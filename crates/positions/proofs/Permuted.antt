@@ -10,8 +10,9 @@ use Rattle.misere_theory.specs.Games.{HeapMove}
 use Rattle.heap_options.specs.Exact.{heaps_of}
 use Rattle.heap_options.specs.Options.{options_of}
 use Rattle.heap_options.specs.declared.left.Left.{Left}
-use Rattle.heap_options.specs.declared.left.Left.TheVariants.{Nothing, One, Two}
+use Rattle.heap_options.specs.declared.left.Left.TheVariants.{Nothing, One, Two, Three}
 use Rattle.heap_options.specs.OptionLaws.{of_options, only}
+use Rattle.positions.specs.Positions.{room_for}
 
 -- one heap more of those that are left is added
 pub added_more : (H xs ys zs : List ℕ) (i : ℕ) → i < length H → IsPermutation (take i H ++ xs) ys
@@ -31,10 +32,17 @@ pub added_all : (H xs ys : List ℕ) (i : ℕ) → length H ≤ i → IsPermutat
     → IsPermutation (H ++ xs) ys
 added_all H xs ys i l p = subst (λ us. IsPermutation (us ++ xs) ys) (take_all i H l) p
 
-pub few_left : (L : Left) → length (heaps_of L) ≤ 2
+pub few_left : (L : Left) → length (heaps_of L) ≤ room_for L + 1
 few_left Nothing = omega arith
 few_left (One a) = omega arith
 few_left (Two a b) = omega arith
+few_left (Three a b c) = omega arith
+
+pub few_room : (L : Left) → room_for L ≤ 2
+few_room Nothing = omega arith
+few_room (One a) = omega arith
+few_room (Two a b) = omega arith
+few_room (Three a b c) = omega arith
 
 -- the parts of a heap up to M are heaps up to M
 pub parts_fit : (code : List ℕ) (n M : ℕ) (L : Left) → Contains (options_of code n) L → n ≤ M
@@ -50,6 +58,13 @@ parts_fit code n M (Two a b) c l =
     All-cons (λ m. (1 ≤ m) × (m ≤ M)) a (b ∷ []) (p, omega arith)
     (All-cons (λ m. (1 ≤ m) × (m ≤ M)) b [] (omega arith, omega arith)
     (All-nil (λ m. (1 ≤ m) × (m ≤ M))))
+parts_fit code n M (Three a b d) c l =
+    let (j, h) = of_options code n n (Three a b d) c in
+    let (p, q, r, s, e) = h in
+    All-cons (λ m. (1 ≤ m) × (m ≤ M)) a (b ∷ d ∷ []) (p, omega arith)
+    (All-cons (λ m. (1 ≤ m) × (m ≤ M)) b (d ∷ []) (omega arith, omega arith)
+    (All-cons (λ m. (1 ≤ m) × (m ≤ M)) d [] (omega arith, omega arith)
+    (All-nil (λ m. (1 ≤ m) × (m ≤ M)))))
 
 -- the heap at a place goes, and what the move leaves of it comes
 pub moved_to : (code X : List ℕ) (n i : ℕ) (L : Left) (Y : List ℕ) → i < length X → get_or X i 0 ≡ n

@@ -1,4 +1,3 @@
-pub mod RisingLists
 pub mod Positions
 pub mod Moves
 pub mod Outcomes

@@ -1,4 +1,4 @@
-//! Positions of octal games, moves, and what an outcome is.
+//! Positions of octal and hexadecimal games, moves, and what an outcome is.
 #![tactic(auto)]
 
 mod fault;

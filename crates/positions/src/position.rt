@@ -2,7 +2,7 @@
 ghost use Rattle.std.specs.List.Sorted.{IsNonDecreasing, IsPermutation};
 ghost use Rattle.std.specs.Prelude.{◌≡◌, ◌<◌, ◌≤◌, ◌∷◌, ◌++◌, ◌+◌, [], ℕ, length, slice_index, remove, All, IsOk, IfOk, OnOk, OnErr, MatchResult};
 ghost use Rattle.heap_options.specs.Exact.{heaps_of};
-ghost use Rattle.positions.specs.Positions.{IsSize};
+ghost use Rattle.positions.specs.Positions.{IsSize, room_for};
 
 use allocation::{Memory, Room};
 use heap_options::Left;
@@ -74,18 +74,19 @@ impl<A: Room + Copy> Position<A> {
 
     /// Makes this the position `from` after a move that leaves `left` of the heap at the place
     /// `at`. What this position was before doesn't matter, and its memory is used again. After a
-    /// fault it is as it was. Fewer than `INLINE` heaps take no memory.
+    /// fault it is as it was. Fewer than `INLINE` heaps take no memory, or one fewer where three are
+    /// left of a heap.
     pub fn set_moved(&mut self, from: &Position<A>, at: usize, left: Left) -> Result<(), Memory>
         requires there { at < length from.now }
         requires sizes { All IsSize (heaps_of left) }
         ensures moved { OnOk result (IsPermutation (heaps_of left ++ remove from.now at) self.new) }
         ensures rising { IsNonDecreasing self.new }
         ensures err { OnErr result (self.new ≡ self.old) }
-        ensures inline { length from.now < INLINE → IsOk result }
+        ensures inline { length from.now + room_for left ≤ INLINE → IsOk result }
     {
         let others = from.heaps();
         has_room(&self.heaps);
-        let more = (others.len() + 1).saturating_sub(self.heaps.len());
+        let more = (others.len() + room_for(left)).saturating_sub(self.heaps.len());
         self.heaps.reserve(more)?;
         set_same(&mut self.heaps, others);
         self.heaps.remove(at);
@@ -188,9 +189,20 @@ fn set_same<A: Room + Copy>(heaps: &mut SmallVec<u64, INLINE, A>, from: &[u64])
     let _ = heaps.extend_from_slice(from);
 }
 
+/// For how many heaps more than before a move asks room: for two where it leaves three, else for
+/// one.
+fn room_for(left: Left) -> usize
+    ensures { result ≡ room_for left }
+{
+    match left {
+        Left::Nothing | Left::One(_) | Left::Two(_, _) => 1,
+        Left::Three(_, _, _) => 2,
+    }
+}
+
 /// Adds what a move left of a heap, for which there is room.
 fn add_left<A: Room + Copy>(heaps: &mut SmallVec<u64, INLINE, A>, left: Left)
-    requires room { length heaps.old.items + 2 ≤ heaps.old.capacity }
+    requires room { length heaps.old.items + length (heaps_of left) ≤ heaps.old.capacity }
     requires rising { IsNonDecreasing heaps.old.items }
     ensures same { IsPermutation (heaps_of left ++ heaps.old.items) heaps.new.items }
     ensures rising { IsNonDecreasing heaps.new.items }

@@ -1,6 +1,6 @@
 -- The lines that `present` prints. This project's own.
 use Rattle.std.specs.Prelude.{◌≡◌, ◌⊎◌, ℕ, zero, suc, Bool, true, false, List, [], ◌∷◌, ◌++◌, codes, decimal, encode_utf8}
-use Rattle.misere_theory.specs.declared.TheConstants.{LARGEST_ORDER}
+use Rattle.misere_theory.specs.declared.TheConstants.{LARGEST_FIRST_ORDER}
 use Rattle.monoid_table.specs.Grids.{Grid, IsTable, times_in}
 use Rattle.presentations.specs.declared.named.Generator.{Generator}
 use Rattle.presentations.specs.declared.read.Relation.{Relation}
@@ -56,7 +56,7 @@ pub record IsTableText (relations : List Relation) (text : List ℕ) : Type 0 wh
 pub data RefusesTable (relations : List Relation) (text : List ℕ) : Type 0 where
   Unbounded : IsUnbounded relations → text ≡ codes "refused 2 Unbounded\n"
       → RefusesTable relations text
-  Limit : IsAboveLimit relations 65536 ⊎ HasMoreElements relations LARGEST_ORDER
+  Limit : IsAboveLimit relations 65536 ⊎ HasMoreElements relations LARGEST_FIRST_ORDER
       → text ≡ codes "refused 3 Limit\n" → RefusesTable relations text
 
 -- the text is the table, or says why there is none

@@ -199,7 +199,7 @@ module _ (axes : List Axis) (relations : List Relation) (classes firsts keys pro
     shaped =
         record {
           positive = num.progress.some;
-          small = num.most;
+          small = let m = num.most in omega arith;
           length_is = is.length_is;
           below = is.below;
         };

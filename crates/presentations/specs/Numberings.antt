@@ -1,6 +1,6 @@
 -- Numbers for the classes of a box, by least keys.
 use Rattle.std.specs.Prelude.{◌≡◌, ◌≢◌, ℕ, ◌+◌, ◌-◌, ◌*◌, ◌/◌, ◌%◌, ◌^◌, ◌<◌, ◌≤◌, ◌⊎◌, List, [], ◌∷◌, ◌++◌, length, slice_index}
-use Rattle.misere_theory.specs.declared.TheConstants.{LARGEST_ORDER}
+use Rattle.misere_theory.specs.declared.TheConstants.{LARGEST_FIRST_ORDER}
 use Rattle.presentations.specs.declared.axes.Axis.{Axis}
 use Rattle.presentations.specs.Boxes.{size_of, next_of, AreAxes}
 
@@ -12,9 +12,9 @@ pub record NumberState : Type 0 where
 -- each place has no number, or that of its class
 pub record AreNumbers (numbers firsts : List ℕ) : Type 0 where
   pub some : 0 < length firsts
-  pub most : length firsts ≤ LARGEST_ORDER
+  pub most : length firsts ≤ LARGEST_FIRST_ORDER
   pub back : (c : ℕ) → c < length numbers
-      → (slice_index numbers c ≡ LARGEST_ORDER)
+      → (slice_index numbers c ≡ LARGEST_FIRST_ORDER)
       ⊎ ((slice_index numbers c < length firsts)
       × (slice_index firsts (slice_index numbers c) ≡ c))
   pub there : (e : ℕ) → e < length firsts → (slice_index firsts e < length numbers)
@@ -53,7 +53,7 @@ pub record IsProgress (axes : List Axis) (classes firsts keys products : List �
 -- All products have numbers, and different elements are different classes.
 pub record IsNumbering (axes : List Axis) (classes firsts keys products : List ℕ) : Type 0 where
   pub progress : IsProgress axes classes firsts keys products
-  pub most : length firsts ≤ LARGEST_ORDER
+  pub most : length firsts ≤ LARGEST_FIRST_ORDER
   pub whole : length products ≡ length firsts * length axes
   pub apart : (d e : ℕ) → d < length firsts → e < length firsts
       → slice_index firsts d ≡ slice_index firsts e → d ≡ e
@@ -71,7 +71,7 @@ pub record AreRoots (axes : List Axis) (classes : List ℕ) : Type 0 where
 -- there.
 pub record AreKeys (letters order : ℕ) (keys products : List ℕ) : Type 0 where
   pub some : 0 < order
-  pub most : order ≤ LARGEST_ORDER
+  pub most : order ≤ LARGEST_FIRST_ORDER
   pub keys_are : length keys + 1 ≡ order
   pub whole : length products ≡ order * letters
   pub below : (k : ℕ) → k < length products → slice_index products k < order
@@ -102,9 +102,9 @@ pub record AreRowsUpTo (letters order : ℕ) (keys products rows : List ℕ) (x 
   pub are : (y f : ℕ) → y * order + f < length rows → f < order
       → IsProduct letters order keys products rows y f
 
--- there are more than LARGEST_ORDER classes
+-- there are more than LARGEST_FIRST_ORDER classes
 pub record HasManyClasses (axes : List Axis) (classes : List ℕ) : Type 0 where
   pub first : ℕ → ℕ
-  pub is : (i : ℕ) → i ≤ LARGEST_ORDER → (first i < size_of axes)
+  pub is : (i : ℕ) → i ≤ LARGEST_FIRST_ORDER → (first i < size_of axes)
       × (slice_index classes (first i) ≡ first i)
-  pub apart : (i j : ℕ) → i < j → j ≤ LARGEST_ORDER → first i ≢ first j
+  pub apart : (i j : ℕ) → i < j → j ≤ LARGEST_FIRST_ORDER → first i ≢ first j

@@ -12,7 +12,7 @@ pub enum PresFault {
     Text,
     /// Some letter has no relation between two different powers of it alone.
     Unbounded,
-    /// The powers' box is above the limit, or there are more than `LARGEST_ORDER` elements.
+    /// The powers' box is above the limit, or there are more than `LARGEST_FIRST_ORDER` elements.
     Limit,
     /// A growth was refused.
     Memory,

@@ -1,6 +1,6 @@
 //! The table of a presentation's least congruence, with names for its generators.
 ghost use Rattle.std.specs.Prelude.{◌≡◌, ◌↔◌, ◌⊎◌, ◌+◌, ◌-◌, ◌*◌, ◌/◌, ◌%◌, ◌<◌, ◌≤◌, ◌≢◌, All, IfOk, OnErr, Err, length, map, take, slice_index};
-ghost use Rattle.misere_theory.specs.declared.TheConstants.{LARGEST_ORDER};
+ghost use Rattle.misere_theory.specs.declared.TheConstants.{LARGEST_FIRST_ORDER};
 ghost use Rattle.presentations.specs.Words.{letters_of};
 ghost use Rattle.presentations.specs.Powers.{IsUnbounded, IsAboveLimit};
 ghost use Rattle.presentations.specs.Merging.{letters_in, AreClasses};
@@ -34,7 +34,7 @@ pub struct Named<A: Allocator = Global> {
 ///
 /// Answers `Unbounded` exactly where some letter that occurs has no relation between two different
 /// powers of it alone. Otherwise answers `Limit` where the product of the letters' least larger
-/// exponents of such relations is above `limit`, or there are more than `LARGEST_ORDER` elements.
+/// exponents of such relations is above `limit`, or there are more than `LARGEST_FIRST_ORDER` elements.
 /// Element 0 is the identity, and the others are numbered by least keys: a smaller element and a
 /// generator whose product they are.
 pub fn table_of<A: Allocator + Copy>(
@@ -46,7 +46,7 @@ pub fn table_of<A: Allocator + Copy>(
     ensures within { IfOk result (λ _. IsAboveLimit presentation.now limit → ⊥) }
     ensures unbounded { (result ≡ Err PresFault.Unbounded) ↔ IsUnbounded presentation.now }
     ensures limit { (result ≡ Err PresFault.Limit) → IsAboveLimit presentation.now limit
-        ⊎ HasMoreElements presentation.now LARGEST_ORDER }
+        ⊎ HasMoreElements presentation.now LARGEST_FIRST_ORDER }
     ensures not_text { OnErr result (result ≢ Err PresFault.Text) }
 {
     let relations = presentation.relations();
@@ -67,7 +67,7 @@ fn table_in<A: Allocator + Copy>(
     requires count { length axes.now ≤ 26 }
     requires letters { letters_in axes.now ≡ letters_of relations.now }
     ensures table { IfOk result (λ n. IsTableOf relations.now n.table n.generators.items) }
-    ensures limit { (result ≡ Err PresFault.Limit) → HasMoreElements relations.now LARGEST_ORDER }
+    ensures limit { (result ≡ Err PresFault.Limit) → HasMoreElements relations.now LARGEST_FIRST_ORDER }
     ensures only { OnErr result ((result ≢ Err PresFault.Text)
         × (result ≢ Err PresFault.Unbounded)) }
 {

@@ -1,15 +1,15 @@
 //! Numbers for classes, by least keys.
 ghost use Rattle.std.specs.Prelude.{◌≡◌, ◌≢◌, ◌+◌, ◌-◌, ◌*◌, ◌^◌, ◌<◌, ◌≤◌, ◌∷◌, [], ℕ, IfOk, OnErr, Err, length, slice_index};
-ghost use Rattle.misere_theory.specs.declared.TheConstants.{LARGEST_ORDER};
+ghost use Rattle.misere_theory.specs.declared.TheConstants.{LARGEST_FIRST_ORDER};
 ghost use Rattle.presentations.specs.Numberings.{NumberState, IsAssigned, IsNumbering, AreRoots, AreKeys, HasManyClasses};
 
 use crate::axes::{Axis, next};
 use crate::fault::PresFault;
-use misere_theory::LARGEST_ORDER;
+use misere_theory::LARGEST_FIRST_ORDER;
 use std::alloc::Allocator;
 use std::marker::Model;
 
-const NONE: u16 = LARGEST_ORDER;
+const NONE: u16 = LARGEST_FIRST_ORDER;
 
 /// Classes with their numbers: the first vector of each, and for each number above 0 its key, which
 /// is the place of a product of a smaller element with a generator, row after row.
@@ -58,7 +58,7 @@ impl<A: Allocator> Numbers<A> {
     /// How many classes have numbers.
     pub fn order(&self) -> usize
         ensures value { result ≡ length self.now.firsts }
-        ensures range { (0 < result) × (result ≤ LARGEST_ORDER) }
+        ensures range { (0 < result) × (result ≤ LARGEST_FIRST_ORDER) }
         ensures apart { (d e : ℕ) → d < result → e < result
             → slice_index self.now.firsts d ≡ slice_index self.now.firsts e → d ≡ e }
     {
@@ -88,8 +88,8 @@ impl<A: Allocator> Numbers<A> {
         requires { class < self.old.places }
         ensures assigned { IfOk result (λ n. IsAssigned self.old self.new class key n) }
         ensures places { self.new.places ≡ self.old.places }
-        ensures full { (result ≡ Err PresFault.Limit) → (length self.old.firsts ≡ LARGEST_ORDER)
-            × ((e : ℕ) → e < LARGEST_ORDER → slice_index self.old.firsts e ≢ class) }
+        ensures full { (result ≡ Err PresFault.Limit) → (length self.old.firsts ≡ LARGEST_FIRST_ORDER)
+            × ((e : ℕ) → e < LARGEST_FIRST_ORDER → slice_index self.old.firsts e ≢ class) }
         ensures only { OnErr result ((result ≢ Err PresFault.Text)
             × (result ≢ Err PresFault.Unbounded)) }
     {
@@ -98,7 +98,7 @@ impl<A: Allocator> Numbers<A> {
             return Ok(known);
         }
         let next = self.firsts.len();
-        if next == LARGEST_ORDER as usize {
+        if next == LARGEST_FIRST_ORDER as usize {
             return Err(PresFault::Limit);
         }
         self.keys.push(key)?;

@@ -26,7 +26,7 @@ fn ask(
     };
     match check(alloc, &draft, members) {
         Ok(certified) => {
-            if is_same(certified.cert().code(), code) {
+            if certified.cert().heaps() == 0 && is_same(certified.cert().code(), code) {
                 return Ok(Reply::Found(certified));
             }
         }
@@ -66,7 +66,7 @@ fn round(
 /// and what it drafts is checked.
 ///
 /// An accepted certificate of the code ends the search. A refused draft is told to its proposer,
-/// and an accepted certificate of another code is dropped. `Rounds` says that all rounds were
+/// and an accepted certificate of another code, or of a part of the game, is dropped. `Rounds` says that all rounds were
 /// spent, `Empty` that there is no proposer, whatever the rounds, or that none gave a draft in a
 /// round, and `Memory` that a proposer or a check answered it. The list stays as long as it is.
 pub fn find(

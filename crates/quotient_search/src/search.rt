@@ -6,7 +6,7 @@ use crate::scene::Scene;
 use crate::state::State;
 use crate::work::{Halt, Work};
 use allocation::Memory;
-use misere_theory::LARGEST_ORDER;
+use misere_theory::LARGEST_FIRST_ORDER;
 use octal_code::Code;
 use periods::{is_shown, soonest_period};
 use std::alloc::Allocator;
@@ -28,7 +28,7 @@ fn advance<A: Allocator + Copy>(
     if state.closure.failed {
         repair(alloc, code, state, work)?;
     }
-    if state.quotient.order > LARGEST_ORDER as usize {
+    if state.quotient.order > LARGEST_FIRST_ORDER as usize {
         return Err(Halt::GaveUp);
     }
     Ok(())

@@ -1,6 +1,6 @@
 -- The lines of a certified quotient. This project's own.
-use Rattle.std.specs.Prelude.{◌≡◌, ℕ, ◌+◌, Bool, true, false, List, [], ◌++◌, Option, Result, Ok, Err, Vec, if◌then◌else◌, codes, decimal}
-use Rattle.misere_theory.specs.Certificates.{Certificate, claim_of, phi_at}
+use Rattle.std.specs.Prelude.{◌≡◌, ℕ, ◌+◌, ◌==◌, Bool, true, false, List, [], ◌++◌, Option, Result, Ok, Err, Vec, if◌then◌else◌, codes, decimal}
+use Rattle.misere_theory.specs.Certificates.{Certificate, claim_of, kind_of, phi_at}
 use Rattle.octal_code.specs.Text.{code_text}
 use Rattle.positions.specs.Text.{position_text}
 use Rattle.answers.specs.Spelled.{AreSpelled}
@@ -11,9 +11,18 @@ abbrev pub head_lines : Certificate → List ℕ
 head_lines c = codes "code " ++ code_text c.code ++ codes "\norder " ++ decimal c.order
     ++ codes "\n"
 
--- the last line
+-- how the heaps repeat
+abbrev pub repeat_line : Certificate → List ℕ
+repeat_line c =
+    codes "repeat " ++ decimal c.period ++ codes " from " ++ decimal c.start ++ codes "\n"
+
+-- the last heap of which a partial certificate speaks
+abbrev pub part_line : Certificate → List ℕ
+part_line c = codes "heaps to " ++ decimal (kind_of c) ++ codes "\n"
+
+-- the last line: the one or the other, by the kind of the certificate
 abbrev pub tail_line : Certificate → List ℕ
-tail_line c = codes "repeat " ++ decimal c.period ++ codes " from " ++ decimal c.start ++ codes "\n"
+tail_line c = if kind_of c == 0 then repeat_line c else part_line c
 
 -- P for an element of the portion, and N for any other
 abbrev pub letter_of : Certificate → ℕ → List ℕ
@@ -42,7 +51,7 @@ pub data AreHeapLines (c : Certificate) : ℕ → List ℕ → Type 0 where
       → AreHeapLines c (heap + 1) (text ++ heap_line heap (phi_at c heap))
 
 -- The text is that of the quotient: its code and order, its elements, its heaps, and how they
--- repeat.
+-- repeat or which is the last.
 pub record IsQuotientText (c : Certificate) (text : List ℕ) : Type 0 where
   pub elements : List ℕ
   pub heaps : List ℕ

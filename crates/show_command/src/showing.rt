@@ -1,8 +1,8 @@
 //! `show`: a certified quotient, line by line.
-ghost use Rattle.std.specs.Prelude.{◌≡◌, ◌<◌, ◌+◌, IfOk, IfErr};
+ghost use Rattle.std.specs.Prelude.{◌≡◌, ◌<◌, ◌≤◌, ◌+◌, IfOk, IfErr};
 ghost use Rattle.std.specs.String.{string_bytes};
 ghost use Rattle.command_results.specs.Stops.{IsFileCause};
-ghost use Rattle.show_command.specs.Shown.{AreElementLines, AreHeapLines, IsQuotientText, Shows, ShowsFound, element_line, head_lines, heap_line, letter_of, tail_line};
+ghost use Rattle.show_command.specs.Shown.{AreElementLines, AreHeapLines, IsQuotientText, Shows, ShowsFound, element_line, head_lines, heap_line, letter_of, part_line, repeat_line, tail_line};
 
 use allocation::Memory;
 use answers::Certified;
@@ -53,7 +53,7 @@ fn heap_text(alloc: Global, heap: u64, element: u16) -> Result<String, AllocErro
     Ok(text)
 }
 
-/// One line for each heap before the elements repeat.
+/// One line for each heap before the elements repeat, or for each of a part.
 fn heaps_text(alloc: Global, certified: &Certified) -> Result<String, Memory>
     ensures { IfOk result
         (λ t. AreHeapLines certified.now (certified.now.start + certified.now.period)
@@ -76,12 +76,33 @@ fn head_text(alloc: Global, cert: &Cert) -> Result<String, Memory>
     Ok(text)
 }
 
-fn tail_text(alloc: Global, cert: &Cert) -> Result<String, Memory>
-    ensures { IfOk result (λ t. string_bytes t ≡ tail_line cert.now) }
+fn repeat_text(alloc: Global, cert: &Cert) -> Result<String, AllocError>
+    ensures { IfOk result (λ t. string_bytes t ≡ repeat_line cert.now) }
 {
     let (start, period) = (cert.start(), cert.period());
     let text = format!(in alloc; "repeat {period} from {start}\n")?;
     Ok(text)
+}
+
+fn part_text(alloc: Global, cert: &Cert) -> Result<String, AllocError>
+    ensures { IfOk result (λ t. string_bytes t ≡ part_line cert.now) }
+{
+    let last = cert.heaps();
+    let text = format!(in alloc; "heaps to {last}\n")?;
+    Ok(text)
+}
+
+/// How the heaps repeat, or the last one of which a partial certificate speaks.
+fn tail_text(alloc: Global, cert: &Cert) -> Result<String, AllocError>
+    ensures tail { IfOk result (λ t. string_bytes t ≡ tail_line cert.now) }
+    ensures full { 1 ≤ cert.now.period
+        → IfOk result (λ t. string_bytes t ≡ repeat_line cert.now) }
+{
+    if cert.heaps() == 0 {
+        repeat_text(alloc, cert)
+    } else {
+        part_text(alloc, cert)
+    }
 }
 
 /// The quotient of the certificate.
@@ -106,8 +127,8 @@ fn shown(alloc: Global, quotient: Result<Certified, Vec<u8>>) -> Result<Said, Me
 }
 
 /// The quotient that the file certifies under the limit: its code and order, each element with its
-/// outcome and a position of that value, each heap with its element, and how the heaps repeat; or
-/// else why it certifies none.
+/// outcome and a position of that value, each heap with its element, and how the heaps repeat or,
+/// of a partial quotient, which is the last; or else why it certifies none.
 pub fn show<'a, F: Folder>(
     alloc: Global,
     file: &'a str,

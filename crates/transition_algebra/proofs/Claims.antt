@@ -3,33 +3,35 @@ use Rattle.std.proofs.Common.{◌≡◌, ℕ, ◌+◌, ◌-◌, ◌<◌, ◌≤�
 use Rattle.std.specs.List.{Contains}
 use Rattle.std.proofs.lemmas.List.{get_or_past}
 use Rattle.misere_theory.specs.Games.{HeapOption, IsHeap, IsPosition}
-use Rattle.misere_theory.specs.Games.HeapOption.{Nothing as TakesAll, One as LeavesOne, Two as LeavesTwo}
-use Rattle.misere_theory.specs.Pairs.{IsPeriodic, IsSmallSplit}
+use Rattle.misere_theory.specs.Games.HeapOption.{Nothing as TakesAll, One as LeavesOne, Two as LeavesTwo, Three as LeavesThree}
+use Rattle.misere_theory.specs.Pairs.{IsSmallSplit}
+use Rattle.misere_theory.specs.Kinds.{IsPeriodicIn}
 use Rattle.misere_theory.specs.Quotients.{Claim, Monoid, GivesElements, value, HeapOptionValue}
 use Rattle.misere_theory.proofs.SmallParts.{enough}
 use Rattle.heap_options.specs.Exact.{heaps_of, IsLeftAt}
 use Rattle.heap_options.specs.declared.left.Left.{Left}
-use Rattle.heap_options.specs.declared.left.Left.TheVariants.{Nothing, One, Two}
+use Rattle.heap_options.specs.declared.left.Left.TheVariants.{Nothing, One, Two, Three}
 use Rattle.heap_options.specs.OptionLaws.{in_options, of_options, only}
 use Rattle.monoid_table.specs.Grids.{Grid, times_in}
 use Rattle.transition_algebra.specs.Heaps.{Agrees, IsInto, largest_part, left_value}
-use Rattle.transition_algebra.specs.Pretending.{Pretending, phi_at, IsPretending}
+use Rattle.transition_algebra.specs.Pretending.{Pretending, phi_at, IsPretending, kind_of, HasElement}
 use Rattle.transition_algebra.specs.Work.{tries}
+use Rattle.transition_algebra.proofs.Counted.{full_kind, kind_short}
 use Rattle.transition_algebra.proofs.Repeats.{phi_repeats, phi_in}
 
 pub periodic : (code : List ℕ) (c : Claim) (table : Grid) (phi : Pretending) → IsPretending phi
-    → Agrees c table phi → IsPeriodic code c (length code - 1) phi.start phi.period
-periodic code c table phi pretending agrees = record {
+    → Agrees c table phi → IsPeriodicIn (kind_of phi) code c (length code - 1) phi.start phi.period
+periodic code c table phi pretending agrees whole = record {
   last = λ j l. get_or_past code j 0 (omega arith);
   from_one = pretending.from_one;
-  some = pretending.some;
+  some = full_kind phi pretending whole;
   repeats = λ n l.
       let one : 1 ≤ n = let f = pretending.from_one in omega arith in
       agrees.phi_is (phi.period + n) (omega arith) ∙ phi_repeats phi n l
       ∙ sym (agrees.phi_is n one);
 }
 
--- an option whose smaller part stands first and is small is tried
+-- an option whose parts rise and are small but for the largest is tried
 small_tried : (code : List ℕ) (phi : Pretending) (n : ℕ) (H : List ℕ) → HeapOption code n H
     → IsSmallSplit (phi.start + phi.period) H → (left : Left) × Contains (tries code phi n) left
     × (heaps_of left ≡ H)
@@ -43,6 +45,12 @@ small_tried code phi n H (LeavesTwo j a b p q h s) w = (
       omega arith),
   refl,
 )
+small_tried code phi n H (LeavesThree j a b c p q r h s) w = (
+  Three a b c,
+  in_options code n (largest_part phi) j (Three a b c) (p, w.0, w.1, h, s)
+      (let u = w.2 in omega arith, let u = w.3 in omega arith),
+  refl,
+)
 
 -- the parts of what is tried are heaps
 pub tried_heaps : (code : List ℕ) (n j : ℕ) (left : Left) → IsLeftAt code n j left
@@ -50,6 +58,7 @@ pub tried_heaps : (code : List ℕ) (n j : ℕ) (left : Left) → IsLeftAt code 
 tried_heaps code n j Nothing h = tt
 tried_heaps code n j (One a) h = (h.1, tt)
 tried_heaps code n j (Two a b) h = (h.0, (let l = h.0 in let m = h.1 in omega arith, tt))
+tried_heaps code n j (Three a b c) (p, o, q, h, s) = (p, (omega arith, (omega arith, tt)))
 
 module _ (table : Grid) (monoid : Monoid table.order (times_in table)) (phi : Pretending)
     (into : IsInto table phi) (c : Claim) (agrees : Agrees c table phi) where
@@ -101,6 +110,13 @@ module _ (table : Grid) (monoid : Monoid table.order (times_in table)) (phi : Pr
   left_is (Two a b) p =
       sym (ap₂ c.times (agrees.phi_is a p.0) (one_value b p.1.0) ∙ agrees.times_is (phi_at phi a)
       (phi_at phi b) (phi_in table monoid phi into a) (phi_in table monoid phi into b))
+  left_is (Three a b d) p =
+      let here = phi_in table monoid phi into in
+      sym (ap₂ c.times (agrees.phi_is a p.0)
+      (ap₂ c.times (agrees.phi_is b p.1.0) (one_value d p.1.1.0)
+      ∙ agrees.times_is (phi_at phi b) (phi_at phi d) (here b) (here d))
+      ∙ agrees.times_is (phi_at phi a) (times_in table (phi_at phi b) (phi_at phi d)) (here a)
+      (monoid.closed (phi_at phi b) (phi_at phi d) (here b) (here d)))
 
   left_at : (code : List ℕ) (n : ℕ) (left : Left) → Contains (tries code phi n) left
       → left_value table phi left ≡ value c (heaps_of left)
@@ -108,17 +124,18 @@ module _ (table : Grid) (monoid : Monoid table.order (times_in table)) (phi : Pr
       left_is left (tried_heaps code n j left h)
 
   -- the values of the options that are tried are those of all
-  pub tried_values : (code : List ℕ) (n : ℕ) → IsPretending phi → (x : ℕ)
+  pub tried_values : (code : List ℕ) (n : ℕ) → HasElement phi n → IsPretending phi → (x : ℕ)
       → ((left : Left) × Contains (tries code phi n) left × (left_value table phi left ≡ x))
       ↔ HeapOptionValue code c n x
-  tried_values code n pretending x = (
+  tried_values code n counts pretending x = (
     λ h. let (left, i, e) = h in
         (heaps_of left, (only code n (largest_part phi) left i).0, sym (left_at code n left i) ∙ e),
     λ h.
         let (H, o, e) = h in
         let (L, p, small, v) =
-        enough code c (length code - 1) phi.start phi.period
-        (periodic code c table phi pretending agrees) claim_monoid claim_gives n H o in
+        enough (kind_of phi) code c (length code - 1) phi.start phi.period
+        (periodic code c table phi pretending agrees) (kind_short phi pretending) n counts.1
+        claim_monoid (λ a h. claim_gives a h.0) H o in
         let (left, i, same) = small_tried code phi n L p small in
         (left, i, left_at code n left i ∙ ap (value c) same ∙ v ∙ e),
   )

@@ -1,10 +1,10 @@
 -- Heaps of any size have their pairs among the first.
-use Rattle.std.proofs.Common.{◌≡◌, ℕ, ◌+◌, ◌-◌, ◌<◌, ◌≤◌, List, length, get_or, sym, ◌∙◌, subst, arith}
+use Rattle.std.proofs.Common.{◌≡◌, ℕ, ◌+◌, ◌-◌, ◌<◌, List, length, get_or, sym, ◌∙◌, subst, arith}
 use Rattle.misere_theory.specs.Pairs.{SameHeapPair}
 use Rattle.misere_theory.specs.Quotients.{Claim}
-use Rattle.misere_theory.proofs.Bound.{heap_shown}
+use Rattle.misere_theory.proofs.Counting.{shown_in}
 use Rattle.monoid_table.specs.Grids.{Grid}
-use Rattle.transition_algebra.specs.Pretending.{Pretending, IsPretending}
+use Rattle.transition_algebra.specs.Pretending.{Pretending, IsPretending, kind_of, HasElement}
 use Rattle.transition_algebra.specs.Heaps.{Agrees, IsHeapPair, IsHeapPairs, bound_of}
 use Rattle.transition_algebra.specs.declared.pair.Pair.{Pair}
 use Rattle.transition_algebra.proofs.Claims.{periodic}
@@ -21,12 +21,12 @@ pub every_heap : (code : List ℕ) (c : Claim) (table : Grid) (phi : Pretending)
     → IsPretending phi
     → Agrees c table phi
     → IsHeapPairs code c (bound_of code phi) pairs
-    → (n : ℕ) → 1 ≤ n → (i : ℕ) × (i < length pairs)
+    → (n : ℕ) → HasElement phi n → (i : ℕ) × (i < length pairs)
     × ((d : Pair) → IsHeapPair code c n (get_or pairs i d))
-every_heap code c table phi pairs pretending agrees are n one =
+every_heap code c table phi pairs pretending agrees are n counts =
     let (m, u, s) =
-    heap_shown code c (length code - 1) phi.start phi.period
-    (periodic code c table phi pretending agrees) n one in
+    shown_in (kind_of phi) code c (length code - 1) phi.start phi.period
+    (periodic code c table phi pretending agrees) n counts in
     let l : m - 1 < length pairs = let e = are.length_is in let a = u.0 in let b = u.1 in
     omega arith in
     let e : m - 1 + 1 ≡ m = let a = u.0 in omega arith in (

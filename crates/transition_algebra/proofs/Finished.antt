@@ -4,23 +4,24 @@ use Rattle.std.specs.Prelude.{Result, Ok, Err, OnErr}
 use Rattle.std.specs.FinSet as set
 use Rattle.std.specs.Ordering.{nat_cmp}
 use native.Mathlib.Decide.{dec_le}
-use Rattle.misere_theory.specs.Games.{IsOctalCode}
+use Rattle.misere_theory.specs.Games.{IsCode}
 use Rattle.misere_theory.specs.Quotients.{Monoid}
 use Rattle.monoid_table.specs.Grids.{Grid, times_in}
 use Rattle.heap_options.specs.Walks.{begun, stages, stages_left}
 use Rattle.heap_options.specs.declared.walk.Untried.{Untried}
-use Rattle.heap_options.specs.declared.walk.Untried.TheVariants.{Everything, Splits}
+use Rattle.heap_options.specs.declared.walk.Untried.TheVariants.{Everything, Splits, Triples}
 use Rattle.heap_options.specs.declared.walk.Walk.{Walk}
 use Rattle.transition_algebra.specs.Pretending.{Pretending, IsPretending}
 use Rattle.transition_algebra.specs.Heaps.{IsInto, bound_of, largest_part}
-use Rattle.transition_algebra.specs.Work.{opening, heap_cost, HeapWork, IsDone, worked}
+use Rattle.transition_algebra.specs.Work.{opening, heap_cost, most_turns, HeapWork, IsDone, worked}
 use Rattle.transition_algebra.specs.Trials.{IsTrial}
 use Rattle.transition_algebra.specs.declared.pair.Pair.{Pair}
 use Rattle.transition_algebra.specs.declared.trial.Trial.{Trial}
-use Rattle.transition_algebra.proofs.Cost.{cost_short}
+use Rattle.transition_algebra.proofs.Counted.{bound_small}
+use Rattle.transition_algebra.proofs.Cost.{cost_of_three, cost_short}
 use Rattle.transition_algebra.proofs.Steps.{AreFirstHeapPairs}
 use Rattle.transition_algebra.proofs.Turning.{no_turn}
-use Rattle.transition_algebra.proofs.Running.{two_digits, square_small, stands_now, room, all_spent, all_to_come}
+use Rattle.transition_algebra.proofs.Running.{two_digits, cube_small, stands_now, room, all_spent, all_to_come}
 
 -- all turns were made exactly where no heap is left
 pub done_over : (code : List ℕ) (table : Grid) (phi : Pretending) (t : Trial) (pairs : List Pair)
@@ -48,14 +49,13 @@ finished code table monoid phi pretending into t pairs is done =
     subst (λ B. AreFirstHeapPairs code table phi B pairs) e s.made
 
 -- enough units for all turns
-pub all_units : (code : List ℕ) (phi : Pretending) (a s : ℕ) → IsOctalCode code → IsPretending phi
+pub all_units : (code : List ℕ) (phi : Pretending) (a s : ℕ) → IsCode code → IsPretending phi
     → s ≡ min (a + 18446744073709551615) (heap_cost code phi) → s ≡ heap_cost code phi
 all_units code phi a s octal pretending e =
     let k = two_digits code octal in
-    let p = pretending.short in
-    let B : bound_of code phi ≤ 2066 = omega arith in
-    let r = cost_short code phi k.0 pretending in
-    let m = square_small (length code) (bound_of code phi) k.1 B in
+    let B = bound_small phi pretending code k.1 in
+    let r = cost_of_three code phi k.0 in
+    let m = cube_small (length code) (bound_of code phi) k.1 B in
     omega arith
 
 -- nothing tried yet
@@ -78,19 +78,24 @@ new_trial code table phi b m w seen bound most at_first none =
     })
 
 -- a turn costs at least what the measure of stages gains
-pub measure_falls : (L n r a s t : ℕ) → L ≤ 17 → r ≤ n → s ≤ 2 * L + 1 → t ≤ 2 * L + 1
-    → (1 ≤ r) ⊎ (t < s) → a ≡ n - r → 40 * a + t < 40 * n + s
-measure_falls L n r a s t l few top top2 falls e = elim falls [
+pub measure_falls : (n r a s t : ℕ) → r ≤ n → s ≤ 65536 → t ≤ 65536
+    → (1 ≤ r) ⊎ (t < s) → a ≡ n - r → 100000 * a + t < 100000 * n + s
+measure_falls n r a s t l few few_too falls e = elim falls [
   | inl some ↦ omega arith
   | inr less ↦ omega arith
 ]
 
-pub stages_few : (code : List ℕ) (t : Trial) → stages_left code t.walk ≤ 2 * length code + 1
-stages_few code t = few t.walk.untried
+pub stages_few : (code : List ℕ) (w : Walk) → length code ≤ 17 → w.heap ≤ 3092
+    → stages_left code w ≤ 65536
+stages_few code w short small =
+    let m : (w.heap + 3) * (length code - w.away) ≤ 3095 * 17 = grind arith in
+    let s = few w.heap w.untried in
+    omega arith
   where
-    few : (stage : Untried) → 2 * (length code - t.walk.away) + stages stage ≤ 2 * length code + 1
-    few Everything = omega arith
-    few (Splits a) = omega arith
+    few : (n : ℕ) (stage : Untried) → stages n stage ≤ n + 2
+    few n Everything = omega arith
+    few n (Splits a) = omega arith
+    few n (Triples a b) = omega arith
 
 -- what holds anyway holds on an error
 pub on_err : {T E P : Type 0} (r : Result T E) → P → OnErr r P
@@ -105,12 +110,12 @@ worked_at job m n e = ap (λ k. record job { spent = k }) e
 pub worked-add : (job : HeapWork) (m n : ℕ) → worked job (m + n) ≡ worked (worked job m) n
 worked-add job m n = worked_at job _ _ (omega arith)
 
-pub ends : (job : HeapWork) (units : ℕ) → IsOctalCode job.code → IsPretending job.phi
-    → length job.code * (bound_of job.code job.phi * bound_of job.code job.phi) ≤ units
+pub ends : (job : HeapWork) (units : ℕ) → IsCode job.code → IsPretending job.phi
+    → most_turns job.code job.phi ≤ units
     → IsDone (worked job units)
 ends job units octal pretending l = let r =
-    cost_short job.code job.phi (two_digits job.code octal).0 pretending in omega arith
+    cost_short job.code job.phi (two_digits job.code octal).0 in omega arith
 
-pub cost_at_most : (code : List ℕ) (phi : Pretending) → IsOctalCode code → IsPretending phi
-    → heap_cost code phi ≤ length code * (bound_of code phi * bound_of code phi)
-cost_at_most code phi octal pretending = cost_short code phi (two_digits code octal).0 pretending
+pub cost_at_most : (code : List ℕ) (phi : Pretending) → IsCode code → IsPretending phi
+    → heap_cost code phi ≤ most_turns code phi
+cost_at_most code phi octal pretending = cost_short code phi (two_digits code octal).0

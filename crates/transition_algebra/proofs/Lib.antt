@@ -1,9 +1,11 @@
 mod Images
 mod Repeats
+mod Counted
 mod Claims
 mod Steps
 mod Within
 mod Coming
+mod Triples
 mod Turning
 mod Cost
 mod Running

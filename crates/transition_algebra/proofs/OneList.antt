@@ -1,5 +1,5 @@
 -- The pairs of the heaps are one list.
-use Rattle.std.proofs.Common.{◌≡◌, ◌⊎◌, ℕ, ◌+◌, ◌-◌, ◌≤◌, Bool, true, false, ◌||◌, List, [], ◌∷◌, map, get_or, inl, inr, refl, sym, ◌∙◌, ap, subst, arith, nat_eq, eqb-true, eq-eqb}
+use Rattle.std.proofs.Common.{◌≡◌, ◌⊎◌, ℕ, ◌+◌, ◌-◌, Bool, true, false, ◌||◌, List, [], ◌∷◌, map, get_or, inl, inr, refl, sym, ◌∙◌, ap, subst, arith, nat_eq, eqb-true, eq-eqb}
 use Rattle.std.specs.List.{Contains, list_any}
 use Rattle.std.specs.FinSet as set
 use Rattle.std.specs.FinSet.{contains-from_list_nat}
@@ -13,10 +13,11 @@ use Rattle.heap_options.specs.declared.left.Left.{Left}
 use Rattle.heap_options.specs.ListLaws.{nothing_in, only_in, itself_in}
 use Rattle.heap_options.specs.OptionLaws.{of_options, only, cut}
 use Rattle.monoid_table.specs.Grids.{Grid, times_in}
-use Rattle.transition_algebra.specs.Pretending.{Pretending, IsPretending}
+use Rattle.transition_algebra.specs.Pretending.{Pretending, IsPretending, HasElement}
 use Rattle.transition_algebra.specs.Heaps.{Agrees, IsInto, IsHeapPair, IsHeapPairs, AreAllHeapPairs, bound_of, largest_part, left_value, heap_pair, all_heap_pairs}
 use Rattle.transition_algebra.specs.PairLaws.{has, same_pair}
 use Rattle.transition_algebra.specs.declared.pair.Pair.{Pair}
+use Rattle.transition_algebra.proofs.Counted.{counted}
 use Rattle.transition_algebra.proofs.Claims.{tried_values, left_is, tried_heaps}
 use Rattle.transition_algebra.specs.Work.{opening, turns, heap_cost}
 use Rattle.transition_algebra.proofs.Within.{claim_by, agrees_itself}
@@ -74,14 +75,14 @@ module _ (code : List ℕ) (table : Grid) (monoid : Monoid table.order (times_in
         )
 
     -- it has the values of all options of the heap
-    one_heap_pair : (n : ℕ) → 1 ≤ n → IsHeapPair code c n (heap_pair code table phi n)
-    one_heap_pair n one = record {
-      value_is = sym (agrees.phi_is n one);
+    one_heap_pair : (n : ℕ) → HasElement phi n → IsHeapPair code c n (heap_pair code table phi n)
+    one_heap_pair n counts = record {
+      value_is = sym (agrees.phi_is n counts.0);
       options_are = λ x. (
         λ h. let (left, i, e) = has_value (left_value table phi) (options_of code n) x h in
             subst (HeapOptionValue code c n) e (option_value n left i),
         λ h.
-            let (left, i, e) = (tried_values table monoid phi into c agrees code n pretending x).1 h
+            let (left, i, e) = (tried_values table monoid phi into c agrees code n counts pretending x).1 h
             in
             value_has (left_value table phi) (options_of code n) left x
             ((cut code n (largest_part phi) left).0 i).0 e,
@@ -98,7 +99,7 @@ module _ (code : List ℕ) (table : Grid) (monoid : Monoid table.order (times_in
         each =
             λ i d l. subst (IsHeapPair code c (i + 1))
             (sym (get_or-map-range_with_len f 1 B i (i + 1) d (omega arith) (omega arith)))
-            (one_heap_pair c agrees (i + 1) (omega arith));
+            (one_heap_pair c agrees (i + 1) (counted code phi (i + 1) (omega arith) (omega arith)));
       }
 
 same_heap_pair : (code : List ℕ) (c : Claim) (n : ℕ) (p q : Pair) → IsHeapPair code c n p

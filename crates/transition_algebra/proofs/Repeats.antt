@@ -9,7 +9,7 @@ use Rattle.std.proofs.Math.Nat.{add-mod_left, mod-eq_of_lt}
 use native.Mathlib.Decide.{dec_le, dec_lt}
 use Rattle.misere_theory.specs.Quotients.{Monoid}
 use Rattle.heap_options.specs.declared.left.Left.{Left}
-use Rattle.heap_options.specs.declared.left.Left.TheVariants.{Nothing, One, Two}
+use Rattle.heap_options.specs.declared.left.Left.TheVariants.{Nothing, One, Two, Three}
 use Rattle.monoid_table.specs.Grids.{Grid, times_in}
 use Rattle.transition_algebra.specs.Pretending.{Pretending, phi_at}
 use Rattle.transition_algebra.specs.Heaps.{IsInto, left_value}
@@ -67,3 +67,6 @@ module _ (table : Grid) (monoid : Monoid table.order (times_in table)) (phi : Pr
   left_in Nothing = monoid.some
   left_in (One a) = phi_in a
   left_in (Two a b) = monoid.closed (phi_at phi a) (phi_at phi b) (phi_in a) (phi_in b)
+  left_in (Three a b c) =
+      monoid.closed (phi_at phi a) (times_in table (phi_at phi b) (phi_at phi c)) (phi_in a)
+      (monoid.closed (phi_at phi b) (phi_at phi c) (phi_in b) (phi_in c))

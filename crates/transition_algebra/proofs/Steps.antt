@@ -1,5 +1,5 @@
 -- The options of a heap, one tried after another.
-use Rattle.std.proofs.Common.{◌≡◌, ℕ, ◌+◌, ◌<◌, ◌≤◌, ◌↔◌, inl, inr, List, [], ◌∷◌, ◌++◌, length, refl, sym, ◌∙◌, ap, subst, arith, append_assoc, get_or}
+use Rattle.std.proofs.Common.{◌≡◌, ℕ, ◌+◌, ◌<◌, ◌↔◌, inl, inr, List, [], ◌∷◌, ◌++◌, length, refl, sym, ◌∙◌, ap, subst, arith, append_assoc, get_or}
 use Rattle.std.specs.Prelude.{IsTrue}
 use Rattle.std.specs.List.{Contains}
 use Rattle.std.specs.Ordering.{nat_cmp}
@@ -11,7 +11,7 @@ use Rattle.misere_theory.specs.Quotients.{Claim, Monoid, HeapOptionValue}
 use Rattle.heap_options.specs.declared.left.Left.{Left}
 use Rattle.heap_options.specs.ListLaws.{nothing_in}
 use Rattle.monoid_table.specs.Grids.{Grid, times_in}
-use Rattle.transition_algebra.specs.Pretending.{Pretending, phi_at, IsPretending}
+use Rattle.transition_algebra.specs.Pretending.{Pretending, phi_at, IsPretending, HasElement}
 use Rattle.transition_algebra.specs.Heaps.{Agrees, IsInto, IsHeapPair, IsHeapPairs, left_value}
 use Rattle.transition_algebra.specs.PairLaws.{has, has_insert, insert_has, empty_has}
 use Rattle.transition_algebra.specs.Work.{tries}
@@ -64,12 +64,13 @@ pub all_seen : (table : Grid) → Monoid table.order (times_in table) → (phi :
     → (code : List ℕ) (n : ℕ) (yielded coming : List Left) (seen : set.FinSet nat_cmp)
     → SeenSo table phi (tries code phi n) yielded coming seen
     → coming ≡ []
+    → HasElement phi n
     → (c : Claim) → Agrees c table phi
     → (x : ℕ) → IsTrue (set.contains seen x) ↔ HeapOptionValue code c n x
-all_seen table monoid phi pretending into code n yielded coming seen so none c agrees x =
+all_seen table monoid phi pretending into code n yielded coming seen so none counts c agrees x =
     let whole : yielded ≡ tries code phi n =
     sym (append-nil yielded) ∙ ap (λ v. yielded ++ v) (sym none) ∙ so.so_far in
-    let all = tried_values table monoid phi into c agrees code n pretending x in (
+    let all = tried_values table monoid phi into c agrees code n counts pretending x in (
       λ h. let (l, i, e) = (so.values x).0 h in all.0 (l, subst (λ xs. Contains xs l) whole i, e),
       λ h. let (l, i, e) = all.1 h in
           (so.values x).1 (l, subst (λ xs. Contains xs l) (sym whole) i, e),
@@ -88,14 +89,16 @@ pub the_pair : (table : Grid) → Monoid table.order (times_in table) → (phi :
     → (code : List ℕ) (n : ℕ) (yielded coming : List Left) (p : Pair)
     → SeenSo table phi (tries code phi n) yielded coming p.options
     → coming ≡ []
-    → 1 ≤ n
+    → HasElement phi n
     → p.value ≡ phi_at phi n
     → IsTheHeapPair code table phi n p
-the_pair table monoid phi pretending into code n yielded coming p so none one e c agrees = record {
-  value_is = e ∙ sym (agrees.phi_is n one);
-  options_are =
-      all_seen table monoid phi pretending into code n yielded coming p.options so none c agrees;
-}
+the_pair table monoid phi pretending into code n yielded coming p so none counts e c agrees =
+    record {
+      value_is = e ∙ sym (agrees.phi_is n counts.0);
+      options_are =
+          all_seen table monoid phi pretending into code n yielded coming p.options so none counts c
+          agrees;
+    }
 
 -- one pair more
 more_pairs : (code : List ℕ) (c : Claim) (B : ℕ) (ps qs : List Pair) (p : Pair)

@@ -15,6 +15,7 @@ use Rattle.transition_algebra.specs.Heaps.{IsInto, IsHeapPair, bound_of, left_va
 use Rattle.transition_algebra.specs.Work.{Trying, tries, opening, tried, turn, turns}
 use Rattle.transition_algebra.specs.Trials.{with_values}
 use Rattle.transition_algebra.specs.declared.pair.Pair.{Pair}
+use Rattle.transition_algebra.proofs.Counted.{counted}
 use Rattle.transition_algebra.proofs.Steps.{SeenSo, none_seen, one_more, the_pair, AreFirstHeapPairs, pairs_more, no_pairs}
 
 pub turns-add : (code : List ℕ) (table : Grid) (phi : Pretending) (m n : ℕ) (s : Trying)
@@ -122,7 +123,8 @@ module _ (code : List ℕ) (table : Grid) (monoid : Monoid table.order (times_in
       let p : Pair = record { value = phi_at phi n; options = seen } in
       let e : n - 1 + 1 ≡ n = omega arith in
       let f : n ≡ n + 1 - 1 = omega arith in
-      let here = the_pair table monoid phi pretending into code n yielded [] p so refl from refl in
+      let here = the_pair table monoid phi pretending into code n yielded [] p so refl
+      (counted code phi n from below) refl in
       let more =
       pairs_more code table phi (n - 1) pairs (pairs ++ (p ∷ [])) p made
       (λ c a. subst (λ v. IsHeapPair code c v p) (sym e) (here c a)) refl in

@@ -3,12 +3,12 @@ use Rattle.std.specs.Prelude.{◌≡◌, ℕ, ◌+◌, ◌-◌, ◌<◌, ◌≤�
 use Rattle.std.specs.List.{range_with_len}
 use Rattle.std.specs.FinSet as set
 use Rattle.misere_theory.specs.Quotients.{Claim, HeapOptionValue}
-use Rattle.misere_theory.specs.Pairs.{heap_bound}
+use Rattle.misere_theory.specs.Kinds.{bound_in}
 use Rattle.monoid_table.specs.Grids.{Grid, times_in}
 use Rattle.heap_options.specs.Options.{options_of}
 use Rattle.heap_options.specs.declared.left.Left.{Left}
-use Rattle.heap_options.specs.declared.left.Left.TheVariants.{Nothing, One, Two}
-use Rattle.transition_algebra.specs.Pretending.{Pretending, phi_at}
+use Rattle.heap_options.specs.declared.left.Left.TheVariants.{Nothing, One, Two, Three}
+use Rattle.transition_algebra.specs.Pretending.{Pretending, phi_at, kind_of}
 use Rattle.transition_algebra.specs.declared.pair.Pair.{Pair}
 
 -- the claim's monoid is the table's, and its elements of heaps are those of phi
@@ -32,16 +32,18 @@ pub record IsHeapPairs (code : List ℕ) (c : Claim) (B : ℕ) (pairs : List Pai
   pub each : (i : ℕ) (d : Pair) → i < length pairs
       → IsHeapPair code c (i + 1) (slice_index_or pairs i d)
 
--- B = 2 start + 2 period + k, for the last digit dk of the code
+-- Where all heaps have elements, B = 2 start + 2 period + k, for the last digit dk of the code, or 3
+-- start + 3 period + k where some digit has bit 8; else it is the last heap that has an element.
 abbrev pub bound_of : List ℕ → Pretending → ℕ
-bound_of code phi = heap_bound (length code - 1) phi.start phi.period
+bound_of code phi = bound_in (kind_of phi) code (length code - 1) phi.start phi.period
 
 -- the pairs are those of the heaps 1 to B, whatever claim agrees with the table and phi
 abbrev pub AreAllHeapPairs : List ℕ → Grid → Pretending → List Pair → Type 0
 AreAllHeapPairs code table phi pairs = (c : Claim) → Agrees c table phi
     → IsHeapPairs code c (bound_of code phi) pairs
 
--- Of a split only smaller parts up to this one are tried: those below start + period.
+-- Of what is left only parts up to this one are tried but for the largest: those below start +
+-- period.
 abbrev pub largest_part : Pretending → ℕ
 largest_part phi = phi.start + phi.period - 1
 
@@ -50,6 +52,8 @@ abbrev pub left_value : Grid → Pretending → Left → ℕ
 left_value table phi Nothing = 0
 left_value table phi (One a) = phi_at phi a
 left_value table phi (Two a b) = times_in table (phi_at phi a) (phi_at phi b)
+left_value table phi (Three a b c) =
+    times_in table (phi_at phi a) (times_in table (phi_at phi b) (phi_at phi c))
 
 -- the pair of the heap n: its element, and the values of all its options
 abbrev pub heap_pair : List ℕ → Grid → Pretending → ℕ → Pair

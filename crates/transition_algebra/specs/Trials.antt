@@ -1,16 +1,18 @@
 -- How far the options of the heaps are tried.
-use Rattle.std.specs.Prelude.{◌≡◌, true, if◌then◌else◌, ℕ, zero, suc, ◌+◌, ◌-◌, ◌/◌, ◌<◌, ◌≤◌, ◌⊎◌, List, [], ◌∷◌, length, min, slice_index_or}
+use Rattle.std.specs.Prelude.{◌≡◌, true, if◌then◌else◌, ℕ, zero, suc, ◌+◌, ◌-◌, ◌/◌, ◌<◌, ◌≤◌, ◌⊎◌, List, [], ◌∷◌, ◌++◌, length, min, slice_index_or}
+use Rattle.std.specs.List.{flat_map, range_with_len}
 use Rattle.std.specs.FinSet as set
 use Rattle.std.specs.Ordering.{nat_cmp}
 use Rattle.monoid_table.specs.Grids.{Grid}
 use Rattle.octal_code.specs.Bits.{allows}
-use Rattle.octal_code.specs.declared.leaving.Leaving.TheVariants.{TwoHeaps}
+use Rattle.octal_code.specs.declared.leaving.Leaving.TheVariants.{TwoHeaps, ThreeHeaps}
+use Rattle.heap_options.specs.Options.{row, last_first, last_second, triples_at, triples}
 use Rattle.heap_options.specs.Walks as walks
 use Rattle.heap_options.specs.Walks.{single_left, last_part, left_at, begun, stages_left}
 use Rattle.heap_options.specs.declared.left.Left.{Left}
 use Rattle.heap_options.specs.declared.left.Left.TheVariants.{Two}
 use Rattle.heap_options.specs.declared.walk.Untried.{Untried}
-use Rattle.heap_options.specs.declared.walk.Untried.TheVariants.{Everything, Splits}
+use Rattle.heap_options.specs.declared.walk.Untried.TheVariants.{Everything, Splits, Triples}
 use Rattle.transition_algebra.specs.Pretending.{Pretending, phi_at}
 use Rattle.transition_algebra.specs.Pairs.{one}
 use Rattle.transition_algebra.specs.Heaps.{bound_of, largest_part, left_value}
@@ -40,15 +42,25 @@ abbrev pub values_of_splits : Grid → Pretending → ℕ → set.FinSet nat_cmp
 values_of_splits table phi whole =
     with_values (split_value table phi whole) set.empty 1 (min (whole / 2) (largest_part phi))
 
--- set number m has the values of the splits of the heap m
-abbrev pub AreWholes : Grid → Pretending → List (set.FinSet nat_cmp) → Type 0
-AreWholes table phi sets = (m : ℕ) → m < length sets
-    → slice_index_or sets m set.empty ≡ values_of_splits table phi m
-
 -- the set, with the values of what is left
 unfoldable pub with_left : Grid → Pretending → set.FinSet nat_cmp → List Left → set.FinSet nat_cmp
 with_left table phi s [] = s
 with_left table phi s (x ∷ xs) = with_left table phi (set.insert s (left_value table phi x)) xs
+
+-- the values of the triples of the whole heap that are tried
+abbrev pub values_of_triples : Grid → Pretending → ℕ → set.FinSet nat_cmp
+values_of_triples table phi whole =
+    with_left table phi set.empty (triples whole (largest_part phi) 1)
+
+-- set number m has the values of the triples of the heap m
+abbrev pub AreTriples : Grid → Pretending → List (set.FinSet nat_cmp) → Type 0
+AreTriples table phi sets = (m : ℕ) → m < length sets
+    → slice_index_or sets m set.empty ≡ values_of_triples table phi m
+
+-- set number m has the values of the splits of the heap m
+abbrev pub AreWholes : Grid → Pretending → List (set.FinSet nat_cmp) → Type 0
+AreWholes table phi sets = (m : ℕ) → m < length sets
+    → slice_index_or sets m set.empty ≡ values_of_splits table phi m
 
 -- the option that leaves one heap at most was tried
 abbrev pub after_single : List ℕ → Grid → Pretending → Trial → Trial
@@ -66,10 +78,31 @@ after_splits t a count = record t {
   spent = t.spent + count;
 }
 
--- the splits' values, if there are any, are taken over, and more is taken away
+-- so many triples were tried, with the first part a, the second from b on
+abbrev pub after_triples : Trial → ℕ → ℕ → ℕ → Trial
+after_triples t a b count = record t {
+  walk = walks.after_triples t.walk a b count;
+  spent = t.spent + count;
+}
+
+-- the triples with the first part a were tried
+abbrev pub after_row : Trial → ℕ → Trial
+after_row t a = record t { walk = walks.after_row t.walk a }
+
+-- the triples' values are taken over, and more is taken away
+abbrev pub after_all_triples : Grid → Pretending → Trial → Trial
+after_all_triples table phi t = record t {
+  walk = walks.after_all t.walk;
+  seen = set.union t.seen (values_of_triples table phi (t.walk.heap - t.walk.away));
+}
+
+-- the splits' values, if there are any, are taken over, and the triples begin, or more is taken away
+-- where no triple may be left
 abbrev pub after_all : List ℕ → Grid → Pretending → Trial → Trial
 after_all code table phi t = record t {
-  walk = walks.after_all t.walk;
+  walk =
+      if allows code t.walk.away ThreeHeaps then walks.at_triples t.walk
+      else walks.after_all t.walk;
   seen =
       if allows code t.walk.away TwoHeaps
       then set.union t.seen (values_of_splits table phi (t.walk.heap - t.walk.away))
@@ -89,12 +122,23 @@ abbrev pub IsUntried : List ℕ → ℕ → ℕ → ℕ → Untried → Type 0
 IsUntried code n most j Everything = Unit {0}
 IsUntried code n most j (Splits a) =
     (1 ≤ a) × (2 ≤ a → (allows code j TwoHeaps ≡ true) × (a ≤ last_part n most j + 1))
+IsUntried code n most j (Triples a b) =
+    (allows code j ThreeHeaps ≡ true) × (1 ≤ a) × (a ≤ b)
+    × (2 ≤ a → a ≤ last_first (n - j) most)
+    × (a < b → b ≤ last_second (n - j) most a + 1)
+
+-- the triples of m before the first part a and the second part b
+abbrev pub triples_before : ℕ → ℕ → ℕ → ℕ → List Left
+triples_before m most a b =
+    flat_map (triples_at m most) (range_with_len 1 (a - 1)) ++ row m a a (b - a)
 
 -- The values of the options tried: those of splits are taken over once all splits of a whole are
--- tried.
+-- tried, and those of triples once all of them are.
 abbrev pub seen_at : Grid → Pretending → ℕ → set.FinSet nat_cmp → Untried → set.FinSet nat_cmp
 seen_at table phi whole seen Everything = seen
 seen_at table phi whole seen (Splits a) = with_values (split_value table phi whole) seen 1 (a - 1)
+seen_at table phi whole seen (Triples a b) =
+    with_left table phi seen (triples_before whole (largest_part phi) a b)
 
 abbrev pub trying_of : List ℕ → Grid → Pretending → Trial → List Pair → Trying
 trying_of code table phi t pairs = record {

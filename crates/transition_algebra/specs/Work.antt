@@ -1,9 +1,10 @@
 -- The pairs of the heaps 1 to B, made a turn at a time. A turn tries one option, or sets down the
 -- pair of a heap whose options are tried.
-use Rattle.std.specs.Prelude.{◌≡◌, ℕ, zero, suc, ◌+◌, Bool, nat_lt, min, if◌then◌else◌, List, [], ◌∷◌, ◌++◌, length}
+use Rattle.std.specs.Prelude.{◌≡◌, ℕ, zero, suc, ◌+◌, ◌*◌, Bool, nat_lt, min, if◌then◌else◌, List, [], ◌∷◌, ◌++◌, length}
 use Rattle.std.specs.List.{sum_by, range_with_len}
 use Rattle.std.specs.FinSet as set
 use Rattle.std.specs.Ordering.{nat_cmp}
+use Rattle.misere_theory.specs.Games.{leaves_three}
 use Rattle.monoid_table.specs.Grids.{Grid}
 use Rattle.heap_options.specs.Options.{options_up_to}
 use Rattle.heap_options.specs.declared.left.Left.{Left}
@@ -55,6 +56,13 @@ turns code table phi (suc n) s = turns code table phi n (turn code table phi s)
 unfoldable pub heap_cost : List ℕ → Pretending → ℕ
 heap_cost code phi =
     sum_by (λ n. length (tries code phi n) + 1) (range_with_len 1 (bound_of code phi))
+
+-- So many turns they take at most: (k + 1) B², or (k + 1) B³ where some digit has bit 8.
+abbrev pub most_turns : List ℕ → Pretending → ℕ
+most_turns code phi =
+    if leaves_three code
+    then length code * (bound_of code phi * (bound_of code phi * bound_of code phi))
+    else length code * (bound_of code phi * bound_of code phi)
 
 -- What a job was opened with, the units it has spent, and whether a growth was refused to it.
 pub record HeapWork : Type 0 where

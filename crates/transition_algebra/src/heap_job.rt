@@ -41,11 +41,12 @@ impl<A: Allocator> Model for HeapJob<A> {
     } };
 
     ghost use Rattle.transition_algebra.specs.Heaps.{IsInto};
-    ghost use Rattle.transition_algebra.specs.Trials.{IsTrial, AreWholes};
+    ghost use Rattle.transition_algebra.specs.Trials.{IsTrial, AreWholes, AreTriples};
 
     ghost invariant = { λ j. IsInto j.table j.phi
         × IsTrial j.code j.table j.phi j.trial j.pairs.items
-        × AreWholes j.table j.phi j.wholes.sets.items };
+        × AreWholes j.table j.phi j.wholes.sets.items
+        × AreTriples j.table j.phi j.wholes.triples.items };
 }
 
 impl<A: Allocator + Copy> HeapJob<A> {

@@ -1,9 +1,10 @@
 //! The pairs of heaps.
 ghost use Rattle.std.specs.Prelude.{◌≡◌, ◌+◌, ◌-◌, ◌<◌, IfOk, All};
-ghost use Rattle.misere_theory.specs.Games.{IsHeap, IsPosition};
+ghost use Rattle.misere_theory.specs.Games.{IsPosition};
 ghost use Rattle.element_sets.specs.declared.TheConstants.{MOST_ELEMENTS};
 ghost use Rattle.heap_options.specs.Exact.{heaps_of};
 ghost use Rattle.transition_algebra.specs.Pairs.{IsPair};
+ghost use Rattle.transition_algebra.specs.Pretending.{HasElement};
 ghost use Rattle.transition_algebra.specs.Heaps.{IsInto, AreAllHeapPairs, all_heap_pairs, bound_of, left_value};
 
 use crate::pair::Pair;
@@ -13,19 +14,27 @@ use crate::wholes::Wholes;
 use allocation::Memory;
 use heap_options::Left;
 use monoid_table::{Table, is_monoid};
-use octal_code::{Code, is_octal_code};
+use octal_code::{Code, is_code};
 use std::alloc::Allocator;
 
-/// B: the heaps 1 to B show the pair of every heap.
+/// B: the heaps 1 to B show the pair of every heap that has an element.
 pub(crate) fn bound_of<A: Allocator>(code: &Code, phi: &Phi<A>) -> u64
     ensures value { result ≡ bound_of code.now phi.now }
     ensures small { result < 4096 }
 {
     is_pretending(phi);
-    2 * phi.start() + 2 * phi.period() + code.last() as u64
+    if phi.heaps() == 0 {
+        if code.leaves_three() {
+            3 * phi.start() + 3 * phi.period() + code.last() as u64
+        } else {
+            2 * phi.start() + 2 * phi.period() + code.last() as u64
+        }
+    } else {
+        phi.heaps()
+    }
 }
 
-/// The largest smaller part of a split that is tried.
+/// The largest part but the last of a split or a triple that is tried.
 pub(crate) fn largest_part<A: Allocator>(phi: &Phi<A>) -> u64
     ensures { result ≡ phi.now.start + phi.now.period - 1 }
 {
@@ -36,7 +45,7 @@ pub(crate) fn largest_part<A: Allocator>(phi: &Phi<A>) -> u64
 /// The product of the heaps that are left.
 pub(crate) fn left_value<A: Allocator>(table: &Table<A>, phi: &Phi<A>, left: Left) -> u16
     requires into { IsInto table.now phi.now }
-    requires parts { IsPosition IsHeap (heaps_of left) }
+    requires parts { IsPosition (HasElement phi.now) (heaps_of left) }
     ensures value { result ≡ left_value table.now phi.now left }
     ensures within { result < table.now.order }
     ensures small { result < MOST_ELEMENTS }
@@ -46,15 +55,21 @@ pub(crate) fn left_value<A: Allocator>(table: &Table<A>, phi: &Phi<A>, left: Lef
         Left::Nothing => 0,
         Left::One(a) => phi.at(a),
         Left::Two(a, b) => table.times(phi.at(a), phi.at(b)),
+        Left::Three(a, b, c) => {
+            let rest = table.times(phi.at(b), phi.at(c));
+            table.times(phi.at(a), rest)
+        }
     }
 }
 
-/// The pairs of the heaps 1 to B = 2 start + 2 period + k, for the last digit dk of the code.
+/// The pairs of the heaps 1 to B = 2 start + 2 period + k, for the last digit dk of the code, or 3
+/// start + 3 period + k where some digit has bit 8; where phi has no period those of the heaps 1 to
+/// B = start - 1, which have elements.
 ///
 /// Item n - 1 is exactly the pair of the heap n: its element, and the values of all its options.
-/// Every heap of any size has its pair among them. Of a split only smaller parts below start +
-/// period are tried: from two parts of at least that, the period moved from one to the other keeps
-/// the value. `Memory` where a growth was refused.
+/// Every heap that has an element has its pair among them. Of a split or a triple only parts below
+/// start + period are tried but for the largest: from two parts of at least that, the period moved
+/// from one to the other keeps the value. `Memory` where a growth was refused.
 pub fn heap_pairs<A: Allocator + Copy>(
     alloc: A,
     code: &Code,
@@ -68,7 +83,7 @@ pub fn heap_pairs<A: Allocator + Copy>(
 {
     is_monoid(table);
     is_pretending(phi);
-    is_octal_code(code);
+    is_code(code);
     let mut trial = Trial::new(code, phi);
     let mut pairs = Vec::new(alloc);
     let mut wholes = Wholes::new(alloc);

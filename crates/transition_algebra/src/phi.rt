@@ -1,13 +1,13 @@
 //! Pretending functions.
-ghost use Rattle.std.specs.Prelude.{◌≡◌, ◌≤◌};
-ghost use Rattle.transition_algebra.specs.Pretending.{phi_at, IsPretending};
+ghost use Rattle.std.specs.Prelude.{◌≡◌};
+ghost use Rattle.transition_algebra.specs.Pretending.{phi_at, kind_of, HasElement, IsPretending};
 
 use std::alloc::{Allocator, Global};
 use std::marker::Model;
 
 /// An element for each heap size from 1 up: those of the heaps below start + period are written
-/// down, and from start on they repeat with the period. Start and period are at least 1, and there
-/// are at most `MOST_ENTRIES` entries.
+/// down, and from start on they repeat with the period. A period of 0 stands for none: then only the
+/// heaps below start have elements. There are 1 to `MOST_ENTRIES` entries.
 ///
 /// The pretending function of Plambeck and Siegel, "Misère quotients for impartial games".
 #[derive(Drop)]
@@ -49,7 +49,7 @@ impl<A: Allocator> Phi<A> {
         self.start
     }
 
-    /// After how many heaps they repeat.
+    /// After how many heaps they repeat, or 0 where they don't.
     pub fn period(&self) -> u64
         ensures { result ≡ self.now.period }
     {
@@ -63,9 +63,17 @@ impl<A: Allocator> Phi<A> {
         &self.entries
     }
 
-    /// The element of the heap n, of any size from 1 up.
+    /// The last heap that has an element, or 0 where all have one.
+    pub fn heaps(&self) -> u64
+        ensures { result ≡ kind_of self.now }
+    {
+        if self.period == 0 { self.start - 1 } else { 0 }
+    }
+
+    /// The element of the heap n, of any size from 1 up, or where there is no period up to the last
+    /// that has one.
     pub fn at(&self, n: u64) -> u16
-        requires { 1 ≤ n }
+        requires { HasElement self.now n }
         ensures { result ≡ phi_at self.now n }
     {
         let place = if n < self.start + self.period {

@@ -1,13 +1,14 @@
 //! The options of the heaps, tried one after another.
-ghost use Rattle.std.specs.Prelude.{◌≡◌, ◌⊎◌, ◌+◌, ◌^◌, ◌<◌, ◌≤◌, ◌↔◌, [], ◌∷◌, ◌++◌, length, min, true, IsTrue, IfOk, OnErr, OnOk, All};
+ghost use Rattle.std.specs.Prelude.{◌≡◌, ◌⊎◌, ◌+◌, ◌-◌, ◌^◌, ◌<◌, ◌≤◌, ◌↔◌, [], ◌∷◌, ◌++◌, length, min, true, IsTrue, IfOk, OnErr, OnOk, All};
 ghost use Rattle.monoid_table.specs.Grids.{Grid};
 ghost use Rattle.octal_code.specs.Bits.{allows};
-ghost use Rattle.octal_code.specs.declared.leaving.Leaving.TheVariants.{TwoHeaps};
-ghost use Rattle.heap_options.specs.Walks.{single_left, last_part};
-ghost use Rattle.transition_algebra.specs.Pretending.{phi_at};
+ghost use Rattle.octal_code.specs.declared.leaving.Leaving.TheVariants.{TwoHeaps, ThreeHeaps};
+ghost use Rattle.heap_options.specs.Options.{last_first, last_second};
+ghost use Rattle.heap_options.specs.Walks.{single_left, last_part, triples_to_try};
+ghost use Rattle.transition_algebra.specs.Pretending.{phi_at, HasElement};
 ghost use Rattle.transition_algebra.specs.Heaps.{IsInto, bound_of};
 ghost use Rattle.transition_algebra.specs.Work.{heap_cost};
-ghost use Rattle.transition_algebra.specs.Trials.{IsTrial, IsRun, AreWholes, HaveElements, after_single, after_splits, after_all, after_heap};
+ghost use Rattle.transition_algebra.specs.Trials.{IsTrial, IsRun, AreWholes, AreTriples, HaveElements, after_single, after_splits, after_triples, after_row, after_all, after_all_triples, after_heap};
 
 use crate::heaps::{bound_of, largest_part, left_value};
 use crate::pair::Pair;
@@ -17,7 +18,7 @@ use allocation::Memory;
 use element_sets::ElementSet;
 use heap_options::{Untried, Walk};
 use monoid_table::{Table, is_monoid};
-use octal_code::{Code, Leaving, is_octal_code};
+use octal_code::{Code, Leaving, is_code};
 use std::alloc::Allocator;
 
 /// How far the options of the heaps 1 to `bound` are tried: the walk over those of the heap in
@@ -50,7 +51,8 @@ impl Trial {
     #[tactic(auto, unfolding(crate::specs::Trials::with_left))]
     fn try_single<A: Allocator>(&mut self, code: &Code, table: &Table<A>, phi: &Phi<A>) -> u64
         requires into { IsInto table.now phi.now }
-        requires small { self.old.spent < 2 ^ 32 }
+        requires counts { HasElement phi.now self.old.walk.heap }
+        requires small { self.old.spent < 2 ^ 40 }
         ensures count { result
             ≡ length (single_left code.now self.old.walk.heap self.old.walk.away) }
         ensures trial { self.new ≡ after_single code.now table.now phi.now self.old }
@@ -69,7 +71,7 @@ impl Trial {
     fn spend_splits(&mut self, code: &Code, part: u64, units: u64) -> u64
         requires some { 1 ≤ units }
         requires from_one { 1 ≤ part }
-        requires small { self.old.spent + self.old.walk.heap < 2 ^ 32 }
+        requires small { self.old.spent + self.old.walk.heap < 2 ^ 40 }
         ensures within { result ≤ units }
         ensures none { result ≡ 0
             → (allows code.now self.old.walk.away TwoHeaps ≡ true
@@ -96,11 +98,13 @@ impl Trial {
         wholes: &mut Wholes<A>,
     ) -> Result<(), Memory>
         requires kept { AreWholes table.now phi.now wholes.old.sets.items }
+        requires kept_triples { AreTriples table.now phi.now wholes.old.triples.items }
         requires elements { HaveElements phi.now pairs.now }
         requires inside { All (λ p. p.value < table.now.order) pairs.now }
         requires within { self.old.walk.heap ≤ length pairs.now + 1 }
         requires digit { self.old.walk.away < length code.now }
         ensures kept { AreWholes table.now phi.now wholes.new.sets.items }
+        ensures kept_triples { AreTriples table.now phi.now wholes.new.triples.items }
         ensures trial { OnOk result (self.new ≡ after_all code.now table.now phi.now self.old) }
         ensures err { OnErr result (self.new ≡ self.old) }
     {
@@ -108,14 +112,71 @@ impl Trial {
             let values = wholes.values(table, phi, pairs, self.walk.whole())?;
             self.seen.union_with(&values);
         }
+        self.walk.pass_last_split(code);
+        Ok(())
+    }
+
+    /// Spends a unit for each triple with this first part, the second from `second` on, at most
+    /// `units`.
+    fn spend_triples(&mut self, code: &Code, first: u64, second: u64, units: u64) -> u64
+        requires some { 1 ≤ units }
+        requires from_one { 1 ≤ second }
+        requires small { self.old.spent + self.old.walk.heap < 2 ^ 40 }
+        ensures within { result ≤ units }
+        ensures none { result ≡ 0
+            → (triples_to_try code.now self.old.walk.heap self.old.walk.most self.old.walk.away first
+            second
+            ≡ 0)
+            × (self.new ≡ self.old) }
+        ensures some { 1 ≤ result → (allows code.now self.old.walk.away ThreeHeaps ≡ true)
+            × (second + result
+            ≤ last_second (self.old.walk.heap - self.old.walk.away) self.old.walk.most first
+            + 1)
+            × (self.new ≡ after_triples self.old first second result) }
+    {
+        let count = self.walk.pass_triples(code, first, second, units);
+        self.spent += count;
+        count
+    }
+
+    /// Turns to the triples with the next first part.
+    fn next_row(&mut self, code: &Code, first: u64)
+        requires { first < last_first (self.old.walk.heap - self.old.walk.away) self.old.walk.most }
+        ensures { self.new ≡ after_row self.old first }
+    {
+        self.walk.pass_row(code, first);
+    }
+
+    /// Takes over the values of the triples, once their units are spent, and takes one more away.
+    fn take_triples<A: Allocator>(
+        &mut self,
+        code: &Code,
+        table: &Table<A>,
+        phi: &Phi<A>,
+        pairs: &[Pair],
+        wholes: &mut Wholes<A>,
+    ) -> Result<(), Memory>
+        requires kept { AreWholes table.now phi.now wholes.old.sets.items }
+        requires kept_triples { AreTriples table.now phi.now wholes.old.triples.items }
+        requires elements { HaveElements phi.now pairs.now }
+        requires inside { All (λ p. p.value < table.now.order) pairs.now }
+        requires within { self.old.walk.heap ≤ length pairs.now + 1 }
+        requires digit { self.old.walk.away < length code.now }
+        ensures kept { AreWholes table.now phi.now wholes.new.sets.items }
+        ensures kept_triples { AreTriples table.now phi.now wholes.new.triples.items }
+        ensures trial { OnOk result (self.new ≡ after_all_triples table.now phi.now self.old) }
+        ensures err { OnErr result (self.new ≡ self.old) }
+    {
+        let values = wholes.triple_values(table, phi, pairs, self.walk.whole())?;
+        self.seen.union_with(&values);
         self.walk.take_more(code);
         Ok(())
     }
 
     /// Sets the heap's pair down and begins the next heap.
     fn close<A: Allocator>(&mut self, phi: &Phi<A>, pairs: &mut Vec<Pair, A>) -> Result<(), Memory>
-        requires from_one { 1 ≤ self.old.walk.heap }
-        requires small { (self.old.walk.heap < 2 ^ 32) × (self.old.spent < 2 ^ 32) }
+        requires counts { HasElement phi.now self.old.walk.heap }
+        requires small { (self.old.walk.heap < 2 ^ 40) × (self.old.spent < 2 ^ 40) }
         ensures trial { OnOk result (self.new ≡ after_heap self.old) }
         ensures pair { OnOk result
             (pairs.new.items ≡ pairs.old.items
@@ -148,18 +209,20 @@ impl Trial {
         requires into { IsInto table.now phi.now }
         requires trial { IsTrial code.now table.now phi.now self.old pairs.old.items }
         requires kept { AreWholes table.now phi.now wholes.old.sets.items }
+        requires kept_triples { AreTriples table.now phi.now wholes.old.triples.items }
         requires going { self.old.walk.heap ≤ self.old.bound }
         requires some { 1 ≤ units }
         ensures ok { IfOk result
             (λ spent. IsRun code.now table.now phi.now self.old self.new pairs.new.items units
             spent) }
         ensures kept { AreWholes table.now phi.now wholes.new.sets.items }
+        ensures kept_triples { AreTriples table.now phi.now wholes.new.triples.items }
         ensures err { OnErr result (self.new ≡ self.old) }
         ensures err_pairs { OnErr result (pairs.new.items ≡ pairs.old.items) }
     {
         is_monoid(table);
         is_pretending(phi);
-        is_octal_code(code);
+        is_code(code);
         if self.walk.is_over(code) {
             self.close(phi, pairs)?;
             return Ok(1);
@@ -172,6 +235,18 @@ impl Trial {
                     self.take_splits(code, table, phi, pairs, wholes)?;
                 }
                 Ok(spent)
+            }
+            Untried::Triples(first, second) => {
+                let spent = self.spend_triples(code, first, second, units);
+                if spent > 0 {
+                    return Ok(spent);
+                }
+                if first < self.walk.last_first() {
+                    self.next_row(code, first);
+                } else {
+                    self.take_triples(code, table, phi, pairs, wholes)?;
+                }
+                Ok(0)
             }
         }
     }
@@ -189,15 +264,18 @@ impl Trial {
         requires into { IsInto table.now phi.now }
         requires trial { IsTrial code.now table.now phi.now self.old pairs.old.items }
         requires kept { AreWholes table.now phi.now wholes.old.sets.items }
+        requires kept_triples { AreTriples table.now phi.now wholes.old.triples.items }
         ensures trial { IsTrial code.now table.now phi.now self.new pairs.new.items }
         ensures kept { AreWholes table.now phi.now wholes.new.sets.items }
+        ensures kept_triples { AreTriples table.now phi.now wholes.new.triples.items }
         ensures ok { OnOk result
             (self.new.spent ≡ min (self.old.spent + units) (heap_cost code.now phi.now)) }
         ensures err { OnErr result ((self.old.spent ≤ self.new.spent)
             × (self.new.spent < self.old.spent + units)
             × (self.new.spent < heap_cost code.now phi.now)) }
     {
-        is_octal_code(code);
+        is_pretending(phi);
+        is_code(code);
         let mut left = units;
         while left > 0 && self.walk.heap <= self.bound {
             left -= self.run(code, table, phi, pairs, wholes, left)?;
@@ -218,8 +296,10 @@ impl Trial {
         requires into { IsInto table.now phi.now }
         requires trial { IsTrial code.now table.now phi.now self.old pairs.old.items }
         requires kept { AreWholes table.now phi.now wholes.old.sets.items }
+        requires kept_triples { AreTriples table.now phi.now wholes.old.triples.items }
         ensures trial { IsTrial code.now table.now phi.now self.new pairs.new.items }
         ensures kept { AreWholes table.now phi.now wholes.new.sets.items }
+        ensures kept_triples { AreTriples table.now phi.now wholes.new.triples.items }
         ensures spent { (self.old.spent ≤ self.new.spent)
             × (self.new.spent ≤ self.old.spent + units) }
         ensures going { self.old.spent < heap_cost code.now phi.now
@@ -227,7 +307,8 @@ impl Trial {
         ensures taken { OnOk result ((self.new.spent ≡ self.old.spent + units)
             ⊎ (bound_of code.now phi.now ≤ self.new.walk.heap)) }
     {
-        is_octal_code(code);
+        is_pretending(phi);
+        is_code(code);
         let mut left = units;
         while left > 0 && self.walk.heap < self.bound {
             left -= self.run(code, table, phi, pairs, wholes, left)?;

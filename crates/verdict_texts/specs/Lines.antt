@@ -1,9 +1,9 @@
 -- The lines of a verdict. This project's own.
-use Rattle.std.specs.Prelude.{◌≡◌, ℕ, Bool, true, false, List, ◌++◌, Result, Ok, Err, codes, decimal}
+use Rattle.std.specs.Prelude.{◌≡◌, ℕ, ◌==◌, Bool, true, false, if◌then◌else◌, List, ◌++◌, Result, Ok, Err, codes, decimal}
 use Rattle.std.specs.Borrow.{Bor}
 use Rattle.octal_code.specs.Text.{code_text}
 use Rattle.positions.specs.Text.{position_text}
-use Rattle.misere_theory.specs.Certificates.{Certificate}
+use Rattle.misere_theory.specs.Certificates.{Certificate, kind_of}
 use Rattle.misere_theory.specs.Games.{IsP, IsN}
 use Rattle.misere_theory.specs.Plays.{MoreReachableThan}
 use Rattle.outcome_search.specs.Settled.{IsSettledBy}
@@ -13,11 +13,22 @@ use Rattle.answers.specs.Answers.Answer.{Yes, Text, Law, Word, Order, Period, Ap
 use Rattle.answers.specs.declared.refusal.Refusal.{Refusal}
 
 -- yes, with the code, the order, the start and the period that were certified
-abbrev pub yes_line : List ℕ → ℕ → ℕ → ℕ → List ℕ
-yes_line code order start period =
-    codes "yes " ++ code_text code ++ codes " order " ++ decimal order ++ codes " start "
-    ++ decimal start
-    ++ codes " period " ++ decimal period ++ codes "\n"
+abbrev pub full_line : Certificate → List ℕ
+full_line c =
+    codes "yes " ++ code_text c.code ++ codes " order " ++ decimal c.order ++ codes " start "
+    ++ decimal c.start
+    ++ codes " period " ++ decimal c.period ++ codes "\n"
+
+-- yes, with the code, the order, and the last heap of which a partial certificate speaks
+abbrev pub partial_line : Certificate → List ℕ
+partial_line c =
+    codes "yes " ++ code_text c.code ++ codes " order " ++ decimal c.order ++ codes " heaps "
+    ++ decimal (kind_of c)
+    ++ codes "\n"
+
+-- the one or the other, by the kind of the certificate
+abbrev pub yes_line : Certificate → List ℕ
+yes_line c = if kind_of c == 0 then full_line c else partial_line c
 
 -- no, with the number and the name of the refusal
 abbrev pub no_line : ℕ → List ℕ → List ℕ
@@ -26,7 +37,7 @@ no_line number name = codes "no " ++ decimal number ++ codes " " ++ name ++ code
 -- The first line of an answer's text: yes with what was certified, or no with the number and the
 -- name.
 abbrev pub first_line : Answer → List ℕ
-first_line (Yes c) = yes_line c.code c.order c.start c.period
+first_line (Yes c) = yes_line c
 first_line Text = no_line 1 (codes "Text")
 first_line Law = no_line 2 (codes "Law")
 first_line Word = no_line 3 (codes "Word")
@@ -50,7 +61,7 @@ pub data IsOutcomeLine (code X : List ℕ) : List ℕ → Type 0 where
 
 -- The text of an answer. Want of memory has none.
 abbrev pub IsTextOf : Answer → List ℕ → Type 0
-IsTextOf (Yes c) text = text ≡ yes_line c.code c.order c.start c.period
+IsTextOf (Yes c) text = text ≡ yes_line c
 IsTextOf Text text = text ≡ no_line 1 (codes "Text")
 IsTextOf Law text = text ≡ no_line 2 (codes "Law")
 IsTextOf Word text = text ≡ no_line 3 (codes "Word")

@@ -1,9 +1,9 @@
 //! The text of a verdict.
-ghost use Rattle.std.specs.Prelude.{◌≡◌, ◌++◌, IfOk, codes};
+ghost use Rattle.std.specs.Prelude.{◌≡◌, ◌≤◌, ◌++◌, IfOk, codes};
 ghost use Rattle.std.specs.String.{string_bytes};
 ghost use Rattle.answers.specs.Answers.{answer_of};
 ghost use Rattle.answers.specs.Answers.Answer.{Outcome as Refuted};
-ghost use Rattle.verdict_texts.specs.Lines.{yes_line, no_line, first_line, IsOutcomeLine, IsTextOf, is_yes, lent_answer};
+ghost use Rattle.verdict_texts.specs.Lines.{full_line, partial_line, yes_line, no_line, first_line, IsOutcomeLine, IsTextOf, is_yes, lent_answer};
 
 use allocation::{Memory, Room};
 use answers::{Certified, Refusal};
@@ -15,16 +15,36 @@ use positions::{Outcome, Position};
 /// The most positions through which the outcome of a refused position is searched.
 const BUDGET: u32 = 65536;
 
-/// The line of a yes.
-fn yes_text<A: Room + Copy>(alloc: A, cert: &Cert<A>) -> Result<String<A>, Memory>
-    ensures { IfOk result
-        (λ t. string_bytes t ≡ yes_line cert.now.code cert.now.order cert.now.start
-        cert.now.period) }
+/// The line of a yes for the whole game.
+fn full_text<A: Room + Copy>(alloc: A, cert: &Cert<A>) -> Result<String<A>, Memory>
+    ensures { IfOk result (λ t. string_bytes t ≡ full_line cert.now) }
 {
     let code = cert.code().text(alloc)?;
     let (order, start, period) = (cert.order(), cert.start(), cert.period());
     let text = format!(in alloc; "yes {code} order {order} start {start} period {period}\n")?;
     Ok(text)
+}
+
+/// The line of a yes for a part of it.
+fn partial_text<A: Room + Copy>(alloc: A, cert: &Cert<A>) -> Result<String<A>, Memory>
+    ensures { IfOk result (λ t. string_bytes t ≡ partial_line cert.now) }
+{
+    let code = cert.code().text(alloc)?;
+    let (order, last) = (cert.order(), cert.heaps());
+    let text = format!(in alloc; "yes {code} order {order} heaps {last}\n")?;
+    Ok(text)
+}
+
+/// The line of a yes.
+fn yes_text<A: Room + Copy>(alloc: A, cert: &Cert<A>) -> Result<String<A>, Memory>
+    ensures line { IfOk result (λ t. string_bytes t ≡ yes_line cert.now) }
+    ensures full { 1 ≤ cert.now.period → IfOk result (λ t. string_bytes t ≡ full_line cert.now) }
+{
+    if cert.heaps() == 0 {
+        full_text(alloc, cert)
+    } else {
+        partial_text(alloc, cert)
+    }
 }
 
 /// The line of a no.

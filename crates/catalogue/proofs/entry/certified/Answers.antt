@@ -1,23 +1,27 @@
-use Rattle.std.proofs.Common.{◌≡◌, true, bytes_eq, inr, refl, sym, ap, subst, ◌∙◌}
+use Rattle.std.proofs.Common.{◌≡◌, true, bytes_eq, inr, refl, sym, ap, subst, ◌∙◌, arith}
 use Rattle.std.proofs.lemmas.Slice.Eq.{bytes_eq-Decides}
 use Rattle.octal_code.specs.Text.{code_text}
 use Rattle.answers.specs.Answers.{answer_of}
+use Rattle.misere_theory.specs.Certificates.{kind_of}
+use Rattle.catalogue.specs.Files.{heaps_of, written}
 use Rattle.catalogue.specs.Loads.{IsAcceptedText}
 use Rattle.catalogue.proofs.entry.certified.Goals as goal
 
-pub returns-then-same-clause-ok : goal.returns-then-same-clause-ok
-returns-then-same-clause-ok c =
+pub returns-then-heaps-clause-ok : goal.returns-then-heaps-clause-ok
+returns-then-heaps-clause-ok c =
     let yes = c.check.ensures.true_of.yes c.in-Ok.certified (ap answer_of c.in-Ok.is) in
     let same : code_text c.code.result.now ≡ c.args.entry.now.code.now =
-    (bytes_eq-Decides _ _).0 (sym c.in_ok-same-in-Ok.ensures ∙ c.if-same.true) in
+    (bytes_eq-Decides _ _).0 (sym c.in_ok-same-in-Ok.ensures ∙ c.if-not-same.false) in
     record {
       certificate =
           subst (λ b. IsAcceptedText b c.in-Ok.certified) c.as_bytes.ensures.value (yes.0, yes.1);
       code = sym same ∙ ap code_text (c.code.ensures ∙ ap (λ x. x.code) c.cert.ensures.same);
+      heaps = sym (c.heaps.ensures.value ∙ ap kind_of c.cert-else-not-same.ensures.same)
+          ∙ c.if-heaps.true ∙ c.heaps-else-not-same.ensures;
     }
 
-pub returns-else-same-clause-err : goal.returns-else-same-clause-err
-returns-else-same-clause-err c cs =
+pub returns-then-not-same-clause-err : goal.returns-then-not-same-clause-err
+returns-then-not-same-clause-err c cs =
     let yes = c.check.ensures.true_of.yes c.in-Ok.certified (ap answer_of c.in-Ok.is) in
     let code = c.code.ensures ∙ ap (λ x. x.code) c.cert.ensures.same in
     inr (
@@ -28,6 +32,23 @@ returns-else-same-clause-err c cs =
         λ e.
             let same : bytes_eq (code_text c.code.result.now) c.args.entry.now.code.now ≡ true =
             (bytes_eq-Decides _ _).1 (ap code_text code ∙ sym e) in
-            cc (c.in_ok-same-in-Ok.ensures, c.if-same.false),
+            cc (c.in_ok-same-in-Ok.ensures, c.if-not-same.true),
+      ),
+    )
+
+pub returns-else-heaps-clause-err : goal.returns-else-heaps-clause-err
+returns-else-heaps-clause-err c cs =
+    let yes = c.check.ensures.true_of.yes c.in-Ok.certified (ap answer_of c.in-Ok.is) in
+    let same : code_text c.code.result.now ≡ c.args.entry.now.code.now =
+    (bytes_eq-Decides _ _).0 (sym c.in_ok-same-in-Ok.ensures ∙ c.if-not-same.false) in
+    inr (
+      refl,
+      (
+        c.in-Ok.certified,
+        subst (λ b. IsAcceptedText b c.in-Ok.certified) c.as_bytes.ensures.value (yes.0, yes.1),
+        sym same ∙ ap code_text (c.code.ensures ∙ ap (λ x. x.code) c.cert.ensures.same),
+        λ e. c.if-heaps.false
+            (c.heaps.ensures.value ∙ ap kind_of c.cert-else-not-same.ensures.same ∙ e
+            ∙ sym c.heaps-else-not-same.ensures),
       ),
     )

@@ -1,8 +1,9 @@
-use Rattle.std.proofs.Common.{◌≡◌, ℕ, ◌-◌, ◌∷◌, length, Some, None, sym, subst, ap, ◌∙◌, arith}
+use Rattle.std.proofs.Common.{◌≡◌, ℕ, ◌-◌, ◌∷◌, length, Option, Some, None, refl, sym, subst, ap, ◌∙◌, arith}
 use Rattle.std.proofs.lemmas.Result.{IfOk-weaker}
 use Rattle.json.specs.Reads.{token_of}
 use Rattle.json.specs.Token.{Token}
-use Rattle.serde_json.specs.Data.{Members, no_members, object}
+use Rattle.serde_json.specs.Data.{Data, null, boolean, number, string, array, Members, no_members, object}
+use Rattle.catalogue.specs.Files.{member_count, NamesHeaps}
 use Rattle.catalogue.specs.Reading.{EntryIs, Passes, ReadsMembers, ReadsValue}
 use Rattle.catalogue.proofs.ReadLemmas.{told, object_begins, unread_then, no_start}
 use Rattle.catalogue.proofs.fields.entry.Goals as goal
@@ -46,9 +47,10 @@ returns c =
     let r = c.pass_from.new.reader in
     let none : EntryIs None passed.0
     = told c.next.new.self (EntryIs None) c.in-Some.token
-    (λ e ms. absurd (c.in_default-token.not-BeginObject e)) (λ e ds w i. never i.count)
-    (λ s e w i. never i.count) (λ s e n q w i. never i.count)
-    (λ b w i. never i.count) (λ w i. never i.count) c.args.depth passed.0 r passed.1 in
+    (λ e ms. absurd (c.in_default-token.not-BeginObject e)) (λ e ds w i. never (array ds) refl w.heaps i.heaps)
+    (λ s e w i. never (string s.now) refl w.heaps i.heaps) 
+    (λ s e n q w i. never (number n) refl w.heaps i.heaps)
+    (λ b w i. never (boolean b) refl w.heaps i.heaps) (λ w i. never null refl w.heaps i.heaps) c.args.depth passed.0 r passed.1 in
     record {
       read = (
         passed.0,
@@ -60,5 +62,6 @@ returns c =
       err = tt;
     }
   where
-    never : ◌≡◌ {A = ℕ} 0 2 → ⊥
-    never e = omega (arith, e)
+    never : (d : Data) → member_count d ≡ 0 → (o : Option ℕ) → NamesHeaps d o → ⊥
+    never d none None h = omega arith
+    never d none (Some n) h = let l = h.0 in omega arith

@@ -2,15 +2,24 @@ use Rattle.std.proofs.Common.{◌≡◌, ◌<◌, length, Some, None, refl, arit
 use Rattle.json.specs.Json.{read_key}
 use Rattle.json.proofs.Grammar.{read_key-shorter}
 use Rattle.serde_json.specs.Data.{no_members, put}
-use Rattle.catalogue.specs.Reading.{ReadsMembers, ReadsValue}
-use Rattle.catalogue.proofs.FieldLemmas.{certificate, code}
-use Rattle.catalogue.proofs.PairLemmas.{none_found}
+use Rattle.catalogue.specs.Reading.{ReadsMembers, ReadsValue, entry_names}
+use Rattle.catalogue.proofs.NameLemmas.{none_found}
 use Rattle.catalogue.proofs.ReadLemmas.{members_close, members_step, members_stop, members_no_key, unread, no_json}
 use Rattle.catalogue.proofs.fields.members.Goals as goal
 
 pub loop-name-init : goal.loop-name-init
 loop-name-init c =
-    (no_members, (None, None, none_found certificate code, refl, refl), (λ o h. h), omega arith)
+    (
+      no_members,
+      record {
+        names = none_found entry_names;
+        certificate = refl;
+        code = refl;
+        heaps = refl;
+      },
+      (λ o h. h),
+      omega arith,
+    )
 
 pub returns-in_err-name-clause-err : goal.returns-in_err-name-clause-err
 returns-in_err-name-clause-err c =

@@ -2,16 +2,15 @@ use Rattle.std.proofs.Common.{◌≡◌, ◌<◌, length, Some, None, refl, arit
 use Rattle.json.specs.Json.{read_key}
 use Rattle.json.proofs.Grammar.{read_key-shorter}
 use Rattle.serde_json.specs.Data.{no_members, put}
-use Rattle.catalogue.specs.Reading.{ReadsMembers, ReadsValue}
-use Rattle.catalogue.proofs.FrameLemmas.{entries, version}
-use Rattle.catalogue.proofs.PairLemmas.{none_found}
+use Rattle.catalogue.specs.Reading.{ReadsMembers, ReadsValue, file_names}
+use Rattle.catalogue.proofs.NameLemmas.{none_found}
 use Rattle.catalogue.proofs.ReadLemmas.{members_close, members_step, members_stop, members_no_key, unread, no_json}
 use Rattle.catalogue.proofs.frame.members.Goals as goal
 
 pub loop-frame-init : goal.loop-frame-init
 loop-frame-init c = (
   no_members,
-  (None, None, none_found entries version, (λ ds es e h. cc), refl),
+  record { names = none_found file_names; entries = λ ds es e h. cc; version = refl; },
   (λ o h. h),
   omega arith,
 )

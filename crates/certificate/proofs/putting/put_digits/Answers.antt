@@ -1,4 +1,4 @@
-use Rattle.std.proofs.Common.{rules, ◌≡◌, ◌<◌, ◌≤◌, ◌∷◌, [], ℕ, drop, length, get_or, subst, ◌∙◌, arith}
+use Rattle.std.proofs.Common.{rules, ◌≡◌, ◌<◌, ◌≤◌, ◌∷◌, [], ℕ, drop, length, get_or, ap, subst, ◌∙◌, arith}
 use Rattle.std.specs.Io.KnownBytes.{Appends}
 use Rattle.std.proofs.lemmas.Result.{err_from_is_err_and}
 use Rattle.streams.specs.Stream.{AppendsSome}
@@ -12,14 +12,14 @@ returns-in_err-write_whole-clause-puts g c =
     let p = err_from_is_err_and c.from_residual.result c.from_residual.ensures.1 in
     let lt : c.loop-j.j < length (drop 1 c.args.code.now) =
     omega (arith, digits_behind c.args.code.now, c.last-j-end.ensures.value) in
-    let is : c.digit.result ≡ get_or (drop 1 c.args.code.now) c.loop-j.j 0 =
-    c.digit.ensures.value ∙ digit_place c.args.code.now c.loop-j.j in
+    let is : c.digit_byte.result ≡ digit_byte (get_or (drop 1 c.args.code.now) c.loop-j.j 0) =
+    c.digit_byte.ensures ∙ ap digit_byte (digit_place c.args.code.now c.loop-j.j) in
     let some = pieces_stop (λ (d : ℕ). digit_byte d ∷ []) (g.W.Sink.taken c.args.sink.now)
     (g.W.Sink.taken c.loop-j.sink) (g.W.Sink.taken c.write_whole.new.sink)
     (drop 1 c.args.code.now) c.loop-j.j 0 lt c.loop-j.invariant.0
     (subst
-    (λ (d : ℕ). AppendsSome (g.W.Sink.taken c.loop-j.sink)
-    (g.W.Sink.taken c.write_whole.new.sink) (digit_byte d ∷ [])) is
+    (λ (b : ℕ). AppendsSome (g.W.Sink.taken c.loop-j.sink)
+    (g.W.Sink.taken c.write_whole.new.sink) (b ∷ [])) is
     c.in_err-write_whole.ensures.puts) in
     rw (p.1)
     (subst
@@ -30,14 +30,14 @@ pub loop-j-preserved : goal.loop-j-preserved
 loop-j-preserved g c =
     let lt : c.loop-j.j < length (drop 1 c.args.code.now) =
     omega (arith, digits_behind c.args.code.now, c.last-j-end.ensures.value) in
-    let is : c.digit.result ≡ get_or (drop 1 c.args.code.now) c.loop-j.j 0 =
-    c.digit.ensures.value ∙ digit_place c.args.code.now c.loop-j.j in (
+    let is : c.digit_byte.result ≡ digit_byte (get_or (drop 1 c.args.code.now) c.loop-j.j 0) =
+    c.digit_byte.ensures ∙ ap digit_byte (digit_place c.args.code.now c.loop-j.j) in (
       pieces_go_on (λ (d : ℕ). digit_byte d ∷ []) (g.W.Sink.taken c.args.sink.now)
           (g.W.Sink.taken c.loop-j.sink) (g.W.Sink.taken c.write_whole.new.sink)
           (drop 1 c.args.code.now) c.loop-j.j 0 lt c.loop-j.invariant.0
           (subst
-          (λ (d : ℕ). Appends (g.W.Sink.taken c.loop-j.sink)
-          (g.W.Sink.taken c.write_whole.new.sink) (digit_byte d ∷ [])) is
+          (λ (b : ℕ). Appends (g.W.Sink.taken c.loop-j.sink)
+          (g.W.Sink.taken c.write_whole.new.sink) (b ∷ [])) is
           c.in_ok-write_whole.ensures.puts),
       search rules,
     )

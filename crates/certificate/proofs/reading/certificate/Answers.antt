@@ -12,9 +12,9 @@ new-phi-requires g c =
     c.in_ok-entries.ensures c.in_ok-portion.ensures c.in_ok-words.ensures c.in_ok-rows.ensures
     c.in_ok-apart.ensures c.in_ok-fixed.ensures) in
     record {
-      from_one = r.start.0;
+      from_one = r.start;
       some = r.period.0;
-      short = r.period.2;
+      short = r.period.1;
       length_is = r.phi.0;
     }
 

@@ -1,5 +1,8 @@
-use Rattle.misere_theory.proofs.OneCertificate.{accepted_once}
+use Rattle.misere_theory.proofs.OneCertificate.{accepted_once, full_once}
 use Rattle.misere_theory.proofs.certificates.accepted_certificates_are_unique.Goals as goal
 
-pub returns : goal.returns
-returns g = accepted_once
+pub returns-clause-one : goal.returns-clause-one
+returns-clause-one g = accepted_once
+
+pub returns-clause-full : goal.returns-clause-full
+returns-clause-full g = full_once

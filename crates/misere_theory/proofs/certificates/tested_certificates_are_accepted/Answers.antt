@@ -1,8 +1,7 @@
 use Rattle.std.proofs.Common.{length, ◌-◌}
 use Rattle.misere_theory.specs.Quotients.{GivesElements}
-use Rattle.misere_theory.specs.Certificates.{claim_of}
-use Rattle.misere_theory.specs.Games.{IsHeap}
-use Rattle.misere_theory.proofs.Sums.{heaps_kept}
+use Rattle.misere_theory.specs.Certificates.{claim_of, kind_of, IsHeapOf}
+use Rattle.misere_theory.proofs.Counting.{kept_in}
 use Rattle.misere_theory.proofs.Kept.{rule_everywhere}
 use Rattle.misere_theory.proofs.Rules.{predicts_from_rule, represents}
 use Rattle.misere_theory.proofs.Written.{phi_in, periodic, reached, all_apart}
@@ -11,14 +10,14 @@ use Rattle.misere_theory.proofs.certificates.tested_certificates_are_accepted.Go
 pub returns : goal.returns
 returns g c kept ranges monoid canonical closed members elements =
     let claim = claim_of c in
-    let inside : GivesElements IsHeap claim = λ n _. phi_in c ranges n in
-    let rule = rule_everywhere c.code claim monoid inside (length c.code - 1) c.start c.period
-    (periodic c ranges) kept closed members elements in
+    let inside : GivesElements (IsHeapOf c) claim = λ n _. phi_in c ranges n in
+    let rule = rule_everywhere (kind_of c) c.code claim monoid inside (length c.code - 1) c.start
+    c.period (periodic c ranges) kept closed members elements in
     record {
       in_ranges = ranges;
       canonical = canonical;
       represents =
-          represents IsHeap c.code claim monoid inside
-          (predicts_from_rule IsHeap c.code claim (heaps_kept c.code) rule)
+          represents (IsHeapOf c) c.code claim monoid inside
+          (predicts_from_rule (IsHeapOf c) c.code claim (kept_in (kind_of c) c.code) rule)
           (reached c ranges monoid canonical.numbered) (all_apart c canonical.apart);
     }

@@ -1,6 +1,6 @@
-use Rattle.misere_theory.specs.Games.{IsHeap}
+use Rattle.misere_theory.specs.Kinds.{IsHeapIn}
 use Rattle.misere_theory.proofs.Different.{more_from_different}
 use Rattle.misere_theory.proofs.pairs.different_pairs_are_counted.Goals as goal
 
 pub returns : goal.returns
-returns g = more_from_different IsHeap
+returns g M = more_from_different (IsHeapIn M)

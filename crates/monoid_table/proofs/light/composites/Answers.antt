@@ -7,7 +7,7 @@ none-marked (suc n) zero e = absurd (cc)
 none-marked (suc n) (suc k) e = none-marked n k e
 
 pub loop-x-init : goal.loop-x-init
-loop-x-init c = λ k marked. absurd (none-marked 256 k marked)
+loop-x-init c = λ k marked. absurd (none-marked 512 k marked)
 
 pub loop-y-preserved : goal.loop-y-preserved
 loop-y-preserved c = search rules

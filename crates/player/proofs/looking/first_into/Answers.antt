@@ -14,7 +14,7 @@ value_of_left-requires g c =
       cut = c.options_are_exact.ensures.cut;
       order = c.options_are_exact.ensures.order;
     })
-    c.args.certified.now c.args.n c.loop-left.yielded c.next.new.self c.in-Some.left
+    c.args.certified.now c.args.n c.requires.heap c.loop-left.yielded c.next.new.self c.in-Some.left
     (ap (λ xs. c.loop-left.yielded ++ xs) (sym c.in-Some.ensures.steps) ∙ c.loop-left.invariant.0)
 
 pub returns-then-holds : goal.returns-then-holds
@@ -23,14 +23,14 @@ returns-then-holds g c =
     let e : puts C c.args.y (heaps_of c.in-Some.left) ≡ c.holds.result =
     ap (claim_of C).portion (ap (times_of C c.args.y) (sym c.value_of_left.ensures.value)
     ∙ sym c.times.ensures.value) ∙ sym c.holds.ensures in
-    first_look C c.looks_at-left-items.ensures.accepted.in_ranges
+    first_look C c.looks_at-left-items.ensures.accepted
     (record {
       each = c.options_are_exact.ensures.each;
       only = c.options_are_exact.ensures.only;
       cut = c.options_are_exact.ensures.cut;
       order = c.options_are_exact.ensures.order;
     }) c.args.n
-    c.args.y c.loop-left.yielded c.next.new.self c.in-Some.left
+    c.args.y c.requires.heap.1 c.loop-left.yielded c.next.new.self c.in-Some.left
     (ap (λ xs. c.loop-left.yielded ++ xs) (sym c.in-Some.ensures.steps) ∙ c.loop-left.invariant.0)
     (e ∙ c.if-holds.true) c.loop-left.invariant.1
 
@@ -49,12 +49,12 @@ loop-left-preserved g c =
 
 pub returns : goal.returns
 returns g c =
-    none_into c.args.certified.now c.looks_at-left-items.ensures.accepted.in_ranges
+    none_into c.args.certified.now c.looks_at-left-items.ensures.accepted
     (record {
       each = c.options_are_exact.ensures.each;
       only = c.options_are_exact.ensures.only;
       cut = c.options_are_exact.ensures.cut;
       order = c.options_are_exact.ensures.order;
     }) c.args.n
-    c.args.y c.loop-left.yielded c.loop-left.left-iterator c.loop-left.invariant.0
+    c.args.y c.requires.heap.1 c.loop-left.yielded c.loop-left.left-iterator c.loop-left.invariant.0
     c.in-None.ensures.steps.0 c.loop-left.invariant.1

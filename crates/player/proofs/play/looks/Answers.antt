@@ -1,11 +1,13 @@
-use Rattle.std.proofs.Common.{◌≡◌, ◌+◌, ◌-◌, ◌*◌, length, sym, ap, subst, arith}
+use Rattle.std.proofs.Common.{◌≡◌, ◌+◌, ◌-◌, ◌≤◌, length, sym, subst, arith}
 use Rattle.std.specs.List.{Contains, AllPairs}
 use Rattle.std.specs.List.Sorted.{IsPermutation}
 use Rattle.misere_theory.specs.Plays.{LeftBefore}
 use Rattle.heap_options.specs.Exact.{heaps_of}
 use Rattle.heap_options.specs.Options.{options_up_to}
 use Rattle.player.proofs.Others.{first_among}
-use Rattle.player.proofs.Few.{few}
+use Rattle.player.proofs.Few.{few_looks}
+use Rattle.player.proofs.Order.{up_to_small}
+use Rattle.player.specs.Looks.{most_looks}
 use Rattle.player.proofs.play.looks.Goals as goal
 
 pub returns-clause-few : goal.returns-clause-few
@@ -13,12 +15,19 @@ returns-clause-few g c =
     let C = c.args.certified.now in
     let e : c.looks_at.result ≡ options_up_to C.code c.args.n (C.start + C.period - 1) =
     c.looks_at.ensures.list in
-    let l = ap length e in
-    let f = few C.code c.args.n (C.start + C.period - 1) in
-    let s = c.looks_at.ensures.accepted.in_ranges.start.0 in
-    let m : C.start + C.period - 1 + 2 ≡ C.start + C.period + 1 = omega arith in
-    let k = ap (λ v. length C.code * v) m in
-    omega arith
+    subst (λ xs. length xs ≤ most_looks C) (sym e)
+    (few_looks C c.args.n c.looks_at.ensures.accepted.in_ranges.start)
+
+pub returns-clause-small : goal.returns-clause-small
+returns-clause-small g c = λ left i.
+    let C = c.args.certified.now in
+    let e : c.looks_at.result ≡ options_up_to C.code c.args.n (C.start + C.period - 1) =
+    c.looks_at.ensures.list in
+    let s = c.looks_at.ensures.accepted.in_ranges.start in
+    let there = subst (λ xs. Contains xs left) e i in
+    up_to_small (C.start + C.period) (omega arith) left
+    (c.options_are_exact.ensures.only C.code c.args.n (C.start + C.period - 1) left there).1
+    ((c.options_are_exact.ensures.cut C.code c.args.n (C.start + C.period - 1) left).0 there).1
 
 pub returns-clause-first : goal.returns-clause-first
 returns-clause-first g c = λ y H into.
@@ -26,14 +35,14 @@ returns-clause-first g c = λ y H into.
     let e : c.looks_at.result ≡ options_up_to C.code c.args.n (C.start + C.period - 1) =
     c.looks_at.ensures.list in
     let (L, i, h) =
-    first_among C c.looks_at.ensures.accepted.in_ranges
+    first_among C c.looks_at.ensures.accepted
     (record {
       each = c.options_are_exact.ensures.each;
       only = c.options_are_exact.ensures.only;
       cut = c.options_are_exact.ensures.cut;
       order = c.options_are_exact.ensures.order;
     }) c.args.n
-    y H into in
+    y H c.requires into in
     (L, subst (λ xs. Contains xs L) (sym e) i, h)
 
 pub returns-clause-only : goal.returns-clause-only

@@ -7,6 +7,7 @@ use Rattle.std.proofs.lemmas.Result.{IfOk-from_err}
 use native.Mathlib.Decide.{dec_le}
 use Rattle.positions.specs.declared.moves.MoveFault.{MoveFault}
 use Rattle.positions.specs.declared.moves.MoveFault.TheVariants.{NoSuchHeap, NotAllowed, Memory}
+use Rattle.positions.specs.Positions.{room_for}
 use Rattle.positions.proofs.Permuted.{parts_fit, moved_to}
 use Rattle.positions.proofs.Room.{not_failed}
 use Rattle.positions.proofs.moves.apply.Goals as goal
@@ -118,7 +119,7 @@ returns-in_err-set_moved-clause-no_such_heap g c =
 
 pub returns-in_err-set_moved-clause-memory : goal.returns-in_err-set_moved-clause-memory
 returns-in_err-set_moved-clause-memory g c = λ e.
-    let never : length c.args.position.now < 8 → ⊥ = λ few.
+    let never : length c.args.position.now + room_for c.args.step.left ≤ 8 → ⊥ = λ few.
     not_failed (c.in_err-set_moved.ensures.inline few) in omega arith
 
 pub returns-in_err-set_moved-clause-not_allowed :

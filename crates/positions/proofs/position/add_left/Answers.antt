@@ -2,7 +2,7 @@ use Rattle.std.proofs.Common.{◌∷◌, ◌∙◌, length, slice_index, ap, sub
 use Rattle.std.specs.List.Sorted.{IsPermutation}
 use Rattle.std.proofs.lemmas.List.Sorted.{IsPermutation-refl}
 use Rattle.heap_options.specs.Exact.{heaps_of}
-use Rattle.positions.proofs.Permuted.{added_more, added_all, few_left}
+use Rattle.positions.proofs.Permuted.{added_more, added_all}
 use Rattle.positions.proofs.Room.{heaps_fit}
 use Rattle.positions.proofs.position.add_left.Goals as goal
 
@@ -12,7 +12,6 @@ loop-heap-init g c =
 
 pub add_heap-requires : goal.add_heap-requires
 add_heap-requires g c =
-    let few = few_left c.args.left in
     let same = ap length (c.as_slice-heap-items.ensures ∙ c.heaps-added.ensures) in
     let inside = c.loop-heap-test.true in
     let room = c.requires.room in

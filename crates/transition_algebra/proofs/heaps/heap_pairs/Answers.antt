@@ -10,7 +10,7 @@ pub returns-clause-exact : goal.returns-clause-exact
 returns-clause-exact g c =
     let all =
     all_units c.args.code.now c.args.phi.now c.new-trial.result.spent c.work.new.self.spent
-    c.is_octal_code.ensures.code c.is_pretending.ensures c.in_ok-work.ensures.ok in
+    c.is_code.ensures.code c.is_pretending.ensures c.in_ok-work.ensures.ok in
     finished c.args.code.now c.args.table.now c.is_monoid.ensures.monoid c.args.phi.now
     c.is_pretending.ensures c.requires c.work.new.self c.work.new.pairs.items
     c.in_ok-work.ensures.trial all
@@ -19,7 +19,7 @@ pub returns-clause-within : goal.returns-clause-within
 returns-clause-within g c =
     let all =
     all_units c.args.code.now c.args.phi.now c.new-trial.result.spent c.work.new.self.spent
-    c.is_octal_code.ensures.code c.is_pretending.ensures c.in_ok-work.ensures.ok in
+    c.is_code.ensures.code c.is_pretending.ensures c.in_ok-work.ensures.ok in
     all_in c.args.table.now c.is_monoid.ensures.monoid c.args.phi.now c.requires c.args.code.now
     (bound_of c.args.code.now c.args.phi.now) c.work.new.pairs.items
     (finished c.args.code.now c.args.table.now c.is_monoid.ensures.monoid c.args.phi.now
@@ -35,7 +35,7 @@ pub returns-clause-made : goal.returns-clause-made
 returns-clause-made g c =
     let all =
     all_units c.args.code.now c.args.phi.now c.new-trial.result.spent c.work.new.self.spent
-    c.is_octal_code.ensures.code c.is_pretending.ensures c.in_ok-work.ensures.ok in
+    c.is_code.ensures.code c.is_pretending.ensures c.in_ok-work.ensures.ok in
     all_pairs c.args.code.now c.args.table.now c.is_monoid.ensures.monoid c.args.phi.now
     c.is_pretending.ensures c.requires c.work.new.pairs.items
     (finished c.args.code.now c.args.table.now c.is_monoid.ensures.monoid c.args.phi.now

@@ -9,27 +9,27 @@ pub returns-clause-some : goal.returns-clause-some
 returns-clause-some c =
     let k = c.key_of.result in
     let code = c.args.code.now in
-    let octal = c.key_of.ensures.code in
+    let right = c.key_of.ensures.code in
     let key = c.key_of.ensures.key in
-    let h : IsFound k code octal key (values_of c.self.inside.entries.entries)
+    let h : IsFound k code c.args.heaps right key (values_of c.self.inside.entries.entries)
     (option_copied c.get.result)
-    = subst (IsFound k code octal key (values_of c.self.inside.entries.entries))
+    = subst (IsFound k code c.args.heaps right key (values_of c.self.inside.entries.entries))
     (sym c.get.ensures.value)
-    (lookup_is k code octal key c.self.inside.entries.entries c.self.invariant.keyed) in
-    found_some k code octal key c.args.self.now c.get.result
+    (lookup_is k code c.args.heaps right key c.self.inside.entries.entries c.self.invariant.keyed) in
+    found_some k code c.args.heaps right key c.args.self.now c.get.result
     (subst (All Accepted) c.self.view_is c.self.invariant.accepted)
-    (subst (λ cs. IsFound k code octal key cs (option_copied c.get.result)) c.self.view_is h)
+    (subst (λ cs. IsFound k code c.args.heaps right key cs (option_copied c.get.result)) c.self.view_is h)
 
 pub returns-clause-none : goal.returns-clause-none
 returns-clause-none c =
     let k = c.key_of.result in
     let code = c.args.code.now in
-    let octal = c.key_of.ensures.code in
+    let right = c.key_of.ensures.code in
     let key = c.key_of.ensures.key in
-    let h : IsFound k code octal key (values_of c.self.inside.entries.entries)
+    let h : IsFound k code c.args.heaps right key (values_of c.self.inside.entries.entries)
     (option_copied c.get.result)
-    = subst (IsFound k code octal key (values_of c.self.inside.entries.entries))
+    = subst (IsFound k code c.args.heaps right key (values_of c.self.inside.entries.entries))
     (sym c.get.ensures.value)
-    (lookup_is k code octal key c.self.inside.entries.entries c.self.invariant.keyed) in
-    found_none k code octal key c.args.self.now c.get.result
-    (subst (λ cs. IsFound k code octal key cs (option_copied c.get.result)) c.self.view_is h)
+    (lookup_is k code c.args.heaps right key c.self.inside.entries.entries c.self.invariant.keyed) in
+    found_none k code c.args.heaps right key c.args.self.now c.get.result
+    (subst (λ cs. IsFound k code c.args.heaps right key cs (option_copied c.get.result)) c.self.view_is h)

@@ -1,7 +1,8 @@
 use Rattle.std.proofs.Common.{◌≡◌, [], ◌∷◌, ◌++◌, sym, ap, subst, ◌∙◌}
 use Rattle.std.specs.Map.{values_of}
-use Rattle.misere_theory.specs.Games.{IsOctalCode}
-use Rattle.catalogue.specs.Entries.{HasCode}
+use Rattle.misere_theory.specs.Games.{IsCode}
+use Rattle.misere_theory.specs.Certificates.{kind_of}
+use Rattle.catalogue.specs.Entries.{HasEntry}
 use Rattle.catalogue.specs.Keys.{IsKeyOf, AreKeyed}
 use Rattle.catalogue.proofs.StoreLemmas.{Held, either, held_push, not_found, values_push, within}
 use Rattle.catalogue.proofs.store.Catalogue.push.Goals as goal
@@ -10,10 +11,13 @@ pub append-requires : goal.append-requires
 append-requires c =
     let code : c.code.result.now ≡ c.args.certified.code =
     c.code.ensures ∙ ap (λ x. x.code) c.cert.ensures.same in
-    not_found c.key_of-key.result c.args.certified.code c.self.inside.entries.entries
-    (subst IsOctalCode code c.key_of-key.ensures.code)
-    (subst (IsKeyOf c.key_of-key.result) code c.key_of-key.ensures.key) c.self.invariant.keyed
-    (subst (λ cs. HasCode cs c.args.certified.code → ⊥) (sym c.self.view_is) c.requires)
+    let kind : c.heaps.result ≡ kind_of c.args.certified =
+    c.heaps.ensures.value ∙ ap kind_of c.cert-2.ensures.same in
+    not_found c.key_of-key.result c.args.certified.code (kind_of c.args.certified) c.self.inside.entries.entries
+    (subst IsCode code c.key_of-key.ensures.code)
+    (subst (IsKeyOf c.key_of-key.result c.args.certified.code) kind
+    (subst (λ x. IsKeyOf c.key_of-key.result x c.heaps.result) code c.key_of-key.ensures.key)) c.self.invariant.keyed
+    (subst (λ cs. HasEntry cs c.args.certified.code (kind_of c.args.certified) → ⊥) (sym c.self.view_is) c.requires)
 
 pub invariant_of-self : goal.invariant_of-self
 invariant_of-self c =
@@ -21,12 +25,15 @@ invariant_of-self c =
     let e : Held = (c.key_of-key.result, c.args.certified) in
     let code : c.code.result.now ≡ c.args.certified.code =
     c.code.ensures ∙ ap (λ x. x.code) c.cert.ensures.same in
+    let kind : c.heaps.result ≡ kind_of c.args.certified =
+    c.heaps.ensures.value ∙ ap kind_of c.cert-2.ensures.same in
     either c.append.result AreKeyed es (es ++ e ∷ []) c.append.new.entries.entries
     c.append.ensures.last c.append.ensures.unchanged c.self.invariant
     (held_push es c.key_of-key.result c.args.certified c.self.invariant
-    (subst (IsKeyOf c.key_of-key.result) code c.key_of-key.ensures.key)
-    (subst IsOctalCode code c.key_of-key.ensures.code) c.cert.ensures.accepted
-    (subst (λ cs. HasCode cs c.args.certified.code → ⊥) (sym c.self.view_is) c.requires))
+    (subst (IsKeyOf c.key_of-key.result c.args.certified.code) kind
+    (subst (λ x. IsKeyOf c.key_of-key.result x c.heaps.result) code c.key_of-key.ensures.key))
+    (subst IsCode code c.key_of-key.ensures.code) c.cert.ensures.accepted
+    (subst (λ cs. HasEntry cs c.args.certified.code (kind_of c.args.certified) → ⊥) (sym c.self.view_is) c.requires))
 
 pub returns-clause-added : goal.returns-clause-added
 returns-clause-added c =

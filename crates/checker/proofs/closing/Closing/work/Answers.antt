@@ -1,5 +1,6 @@
 use Rattle.std.proofs.Common.{◌≡◌, ◌<◌, arith, inl, inr, subst, sym, ◌∙◌, ap, Result, Ok, refl, length, slice_index_or}
-use Rattle.misere_theory.specs.Games.{IsHeap}
+use Rattle.misere_theory.specs.Games.{IsHeapUpTo, IsPosition}
+use Rattle.misere_theory.specs.Certificates.{IsHeapOf}
 use Rattle.misere_theory.specs.Quotients.{ReachesMoreThan}
 use Rattle.misere_theory.specs.Certificates.{Accepted, claim_of}
 use Rattle.pair_closure.specs.Progress.{blank_held}
@@ -17,7 +18,7 @@ use Rattle.pair_closure.specs.Positions.{rising, word}
 use Rattle.checker.specs.Turns.{Phase, Runs}
 use Rattle.checker.specs.Turns.Phase.{Closing, Ended}
 use Rattle.checker.proofs.TurnLemmas.{runs-to}
-use Rattle.checker.proofs.HeapLemmas.{over_reaches, member_fails, members_cover, position_within}
+use Rattle.checker.proofs.HeapLemmas.{length_bound, over_reaches, member_fails, members_cover, position_within}
 use Rattle.checker.proofs.closing.Closing.work.Goals as goal
 
 closed : (r : Result Looked Memory) (f h : Looked) → r ≡ Ok f → f ≡ h → r ≡ Ok h
@@ -40,7 +41,8 @@ returns-in-Ok-Over-clause-carries g c =
     subst (λ v. Fits v.certificate v.closure.state.limit Limit) c.self.view_is (
       i.sheet.lawful.monoid,
       i.canonical,
-      subst (ReachesMoreThan IsHeap p.code (claim_of (certificate_of p))) kept_data.limit more,
+      subst (ReachesMoreThan (IsHeapOf (certificate_of p)) p.code (claim_of (certificate_of p)))
+          kept_data.limit more,
     )
 
 pub returns-in-Ok-clause-carries : goal.returns-in-Ok-clause-carries
@@ -67,7 +69,10 @@ returns-in-Ok-clause-carries g c =
       (
         i.sheet.lawful.monoid,
         i.canonical,
-        position_within _ c.in-Ok.position c.in-Ok.ensures.within,
+        position_within (certificate_of p) c.in-Ok.position
+            (subst (λ n. IsPosition (IsHeapUpTo n) c.in-Ok.position)
+            (length_bound p s.lines.inside s.closure.state.heaps i t kept_data.table kept_data.heaps)
+            c.in-Ok.ensures.within),
         fails,
       ),
     )

@@ -1,7 +1,7 @@
 use Rattle.std.proofs.Common.{◌≡◌, ◌<◌, ◌+◌, Option, Some, None, false, ap, ◌∙◌, arith}
 use Rattle.std.specs.Prelude.{IfNone}
 use Rattle.std.specs.Option.{is_some}
-use Rattle.checker.proofs.ElementLemmas.{obeys_at, value_turn, heap_turn}
+use Rattle.checker.proofs.ElementLemmas.{value_below, obeys_at, value_turn, heap_turn}
 use Rattle.checker.specs.Turns.Phase.{Elements}
 use Rattle.checker.proofs.TurnLemmas.{runs-none}
 use Rattle.checker.proofs.ElementTurns.{elements_in, elements_going, elements_heap, elements_option, leads_nowhere}
@@ -93,3 +93,10 @@ returns-after-heaps-clause-runs g c = let i = c.heaps.invariant in
 pub returns-then-is_some-clause-runs : goal.returns-then-is_some-clause-runs
 returns-then-is_some-clause-runs g c = let i = c.heaps.invariant in
     λ bytes limit. elements_going bytes limit _ _ _ _ _ _ _ (i.runs bytes limit) i.within
+
+pub breach-requires-clause-value : goal.breach-requires-clause-value
+breach-requires-clause-value g c =
+    let i = c.heaps.invariant in
+    rw c.deref.ensures.value
+    (value_below c.heaps.self-inside.sheet i.lawful.in_ranges c.heaps.self-inside.pairs.items
+    c.heaps.self-inside.contexts.items _ _ c.index.result.now i.so_far i.within c.index.ensures)

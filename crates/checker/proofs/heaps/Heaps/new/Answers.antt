@@ -4,12 +4,13 @@ use Rattle.transition_algebra.specs.Work.{HeapWork, heap_cost}
 use Rattle.checker.specs.Sheets.{pieces_of}
 use Rattle.checker.specs.Closings.{IsCanonicalSheet}
 use Rattle.checker.proofs.HeapTurns.{some_cost}
+use Rattle.checker.proofs.UnitLemmas.{bound_some}
 use Rattle.checker.proofs.heaps.Heaps.new.Goals as goal
 
 pub invariant_of-result : goal.invariant_of-result
 invariant_of-result g c =
     let s = c.sheet.inside in
-    let some = some_cost s.code s.phi c.sheet.invariant.whole.in_ranges.start.0 in
+    let some = some_cost s.code s.phi (bound_some _ c.sheet.invariant.whole.in_ranges) in
     subst (λ (j : HeapWork).
     IsCanonicalSheet
     (pieces_of j.code j.table j.phi s.lines.portion.items s.lines.words.items

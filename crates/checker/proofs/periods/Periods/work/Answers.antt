@@ -1,4 +1,4 @@
-use Rattle.std.proofs.Common.{rules, arith, subst, sym, ap, inr, ◌+◌, ◌-◌, ◌<◌, ◌≡◌, true}
+use Rattle.std.proofs.Common.{rules, arith, subst, sym, ap, inr, ◌+◌, ◌-◌, ◌<◌, ◌≤◌, ◌≡◌, true}
 use Rattle.misere_theory.specs.Certificates.{phi_at}
 use Rattle.misere_theory.specs.Verdicts.{IsFirstFault}
 use Rattle.misere_theory.specs.Verdicts.Fault.{Period}
@@ -45,7 +45,8 @@ pub returns-then-comes_again-clause-carries : goal.returns-then-comes_again-clau
 returns-then-comes_again-clause-carries g c =
     let i = c.shifts.invariant in
     let e = rw (i.start, i.period) at (c.comes_again-2.ensures.again.0 c.if-comes_again.true) in
-    λ _. subst (λ d. IsFirstFault d Period) i.same (inr (omega (arith, e.0), e.1), i.so_far.free)
+    λ _. subst (λ d. IsFirstFault d Period) i.same
+    (inr (e.1, omega (arith, e.0), e.2), i.so_far.free)
 
 pub returns-then-comes_again-clause-works : goal.returns-then-comes_again-clause-works
 returns-then-comes_again-clause-works g c =
@@ -79,7 +80,11 @@ shifts-preserved-then-not-comes_again g c =
     ≡ phi_at c.self.inside.sheet (c.self.inside.sheet.start + c.shifts.count)).
     let t : c.comes_again.result ≡ true =
     c.comes_again.ensures.again.1
-    (rw i.start (let o = i.lawful.in_ranges.start.0 in omega arith, e)) in
+    (rw i.start (
+      (let o = i.lawful.in_ranges.start in omega arith),
+      (let o = i.so_far.from_one in omega arith),
+      e,
+    )) in
     let b : ⊥ = cc in b in
     record {
       same = i.same;
@@ -95,7 +100,7 @@ shifts-preserved-then-not-comes_again g c =
 pub returns-then-count-period-clause-carries : goal.returns-then-count-period-clause-carries
 returns-then-count-period-clause-carries g c =
     let i = c.shifts.invariant in
-    let e = rw i.start at (c.comes_again.ensures.again.0 c.if-not-comes_again.false).1 in
+    let e = rw i.start at (c.comes_again.ensures.again.0 c.if-not-comes_again.false).2 in
     λ _. subst (λ d. IsFirstFault d Period) i.same (
       serves_round c.self.inside.sheet i.lawful.in_ranges _ _ i.so_far e (search rules)
           (search rules),
@@ -105,7 +110,7 @@ returns-then-count-period-clause-carries g c =
 pub shifts-preserved : goal.shifts-preserved
 shifts-preserved g c =
     let i = c.shifts.invariant in
-    let e = rw i.start at (c.comes_again.ensures.again.0 c.if-not-comes_again.false).1 in
+    let e = rw i.start at (c.comes_again.ensures.again.0 c.if-not-comes_again.false).2 in
     let s = i.so_far.short in
     let l : c.shifts.count + 1 < c.self.inside.sheet.period = omega arith in
     record {
@@ -123,13 +128,14 @@ pub new-requires : goal.new-requires
 new-requires g c =
     let i = c.shifts.invariant in
     let w = i.so_far.within in
-    let whole : c.shifts.shift ≡ c.self.inside.sheet.period = omega arith in
+    let whole : c.self.inside.sheet.period ≤ c.shifts.shift = omega arith in
     let not =
-    λ (e : (1 < c.self.inside.sheet.start)
+    λ (e : (1 ≤ c.self.inside.sheet.period) × (1 < c.self.inside.sheet.start)
     × (phi_at c.self.inside.sheet (c.self.inside.sheet.period + (c.self.inside.sheet.start - 1))
     ≡ phi_at c.self.inside.sheet (c.self.inside.sheet.start - 1))).
     let t : c.comes_again-2.result ≡ true =
-    c.comes_again-2.ensures.again.1 (rw (i.start, i.period) (let o = e.0 in omega arith, e.1))
+    c.comes_again-2.ensures.again.1
+    (rw (i.start, i.period) ((let o = e.1 in omega arith), e.0, e.2))
     in
     let b : ⊥ = cc in b in
     none_below_apart c.self.inside.sheet i.so_far.free

@@ -4,7 +4,8 @@ use Rattle.octal_code.proofs.code.Code.from_text.Goals as goal
 
 pub loop-i-preserved : goal.loop-i-preserved
 loop-i-preserved c = let n = c.requires.short in
-    filled_more c.args.text.now c.loop-i.digits c.loop-i.i (omega arith) (omega arith) (omega arith)
+    filled_more c.args.text.now c.loop-i.digits c.loop-i.i c.digit_of-in-loop-i.result
+    c.digit_of-in-loop-i.ensures (omega arith) (omega arith) (omega arith)
     c.loop-i.invariant
 
 pub invariant_of-result : goal.invariant_of-result

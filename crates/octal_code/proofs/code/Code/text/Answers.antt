@@ -1,12 +1,14 @@
-use Rattle.std.proofs.Common.{rules, ◌≡◌, ◌+◌, ◌<◌, ◌++◌, [], ◌∷◌, ◌∙◌, ap, ap₂, arith, length}
+use Rattle.std.proofs.Common.{rules, ◌≡◌, ◌+◌, ◌<◌, ◌++◌, [], ◌∷◌, ◌∙◌, ap, ap₂, sym, subst, arith, length}
 use Rattle.octal_code.specs.Text.{digit_byte}
+use Rattle.octal_code.proofs.Spelled.{byte_is_ascii}
 use Rattle.octal_code.proofs.Written.{text_more, text_whole}
 use Rattle.octal_code.proofs.code.Code.text.Goals as goal
 
 pub loop-j-preserved : goal.loop-j-preserved
 loop-j-preserved g c =
-    let small : c.digit_char-in-loop-j.result < 128 = let e = c.digit_char-in-loop-j.ensures in
-    let d = c.digit-in-loop-j.ensures.octal in omega arith in
+    let small : c.digit_char-in-loop-j.result < 128 =
+    subst (λ b. b < 128) (sym c.digit_char-in-loop-j.ensures)
+    (byte_is_ascii c.digit-in-loop-j.result c.digit-in-loop-j.ensures.below) in
     let some = c.last-2.ensures.some in
     let value = c.last-2.ensures.value in
     c.in_ok-push-3.ensures.bytes

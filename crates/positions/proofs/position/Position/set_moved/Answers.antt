@@ -1,8 +1,10 @@
-use Rattle.std.proofs.Common.{◌≡◌, ◌∙◌, ◌++◌, length, refl, ap, sym, subst, rules, arith}
+use Rattle.std.proofs.Common.{◌≡◌, ◌∙◌, ◌++◌, length, refl, ap, sym, subst, arith}
 use Rattle.std.specs.List.{remove}
 use Rattle.std.specs.List.Sorted.{IsNonDecreasing, IsPermutation}
 use Rattle.std.proofs.lemmas.Result.{IfOk-from_err, MatchResult-from_err}
 use Rattle.heap_options.specs.Exact.{heaps_of}
+use Rattle.std.proofs.lemmas.List.Edits.{length-remove}
+use Rattle.positions.proofs.Permuted.{few_left, few_room}
 use Rattle.positions.proofs.Heaps.{rest_rises, moved_fit}
 use Rattle.positions.proofs.Room.{heaps_fit, not_failed}
 use Rattle.positions.proofs.position.Position.set_moved.Goals as goal
@@ -11,7 +13,11 @@ pub has_room-requires : goal.has_room-requires
 has_room-requires g c = heaps_fit g.row.A g.A.Allocator g.met.A.Room.small
 
 pub overflow_add-others : goal.overflow_add-others
-overflow_add-others g c = let small = c.heaps-others.type_inv.1 in omega arith
+overflow_add-others g c =
+    let small = c.heaps-others.type_inv.1 in
+    let more = few_room c.args.left in
+    let asked = c.room_for.ensures in
+    omega arith
 
 pub len-requires : goal.len-requires
 len-requires g c = heaps_fit g.row.A g.A.Allocator g.met.A.Room.small
@@ -41,6 +47,7 @@ returns-in_err-reserve-clause-inline g c = λ few.
     let len = c.len.ensures.value in
     let fits = c.len.ensures.fits in
     let more = c.saturating_sub-more.ensures in
+    let asked = c.room_for.ensures in
     absurd (not_failed (c.in_err-reserve.ensures.succeeds (omega arith)))
 
 pub set_same-requires : goal.set_same-requires
@@ -65,7 +72,18 @@ add_left-requires g c =
     (c.set_same.ensures.items ∙ c.heaps-others.ensures.value) in (
       heaps_fit g.row.A g.A.Allocator g.met.A.Room.small,
       (
-        search rules,
+        (let cut = length-remove c.args.from.now c.args.at c.requires.there in
+            let rest = ap length others in
+            let few = few_left c.args.left in
+            let before = c.set_same.ensures.capacity in
+            let after = c.remove.ensures.capacity in
+            let same = ap length c.reserve.ensures.items in
+            let len = c.len.ensures.value in
+            let more = c.saturating_sub-more.ensures in
+            let asked = c.room_for.ensures in
+            let room = c.in_ok-reserve.ensures.ok in
+            let all = ap length c.heaps-others.ensures.value in
+            omega arith),
         subst IsNonDecreasing (sym others)
             (rest_rises c.args.from.now c.args.at c.requires.there c.heaps-others.ensures.rising),
       ),

@@ -1,23 +1,37 @@
-use Rattle.std.proofs.Common.{◌<◌, ◌≤◌, length, refl, sym, ◌∙◌, ap, subst, arith}
+use Rattle.std.proofs.Common.{◌≡◌, ◌-◌, ◌<◌, ◌≤◌, length, refl, sym, ◌∙◌, ap, subst, arith}
 use Rattle.std.specs.List.{All}
 use Rattle.transition_algebra.specs.Heaps.{bound_of}
-use Rattle.transition_algebra.specs.Trials.{HaveElements, after_all}
+use Rattle.transition_algebra.specs.Trials.{HaveElements, after_all, after_row, after_all_triples}
+use Rattle.heap_options.specs.Options.{last_first}
 use Rattle.heap_options.specs.WalkLaws.{single_short}
-use Rattle.transition_algebra.proofs.Running.{ready, not_over, run_single, run_none, run_splits, run_close}
+use Rattle.transition_algebra.proofs.Counted.{counted}
+use Rattle.transition_algebra.proofs.Running.{ready, not_over, run_single, run_none, run_splits, run_triples, run_row, run_last_row, run_close}
 use Rattle.transition_algebra.proofs.trial.Trial.run.Goals as goal
 
-pub close-requires-clause-from_one : goal.close-requires-clause-from_one
-close-requires-clause-from_one g c =
-    (ready c.args.code.now c.args.table.now c.is_monoid.ensures.monoid c.args.phi.now
+pub close-requires-clause-counts : goal.close-requires-clause-counts
+close-requires-clause-counts g c =
+    let r =
+    ready c.args.code.now c.args.table.now c.is_monoid.ensures.monoid c.args.phi.now
     c.is_pretending.ensures c.requires.into c.args.self.now c.args.pairs.now.items
-    c.requires.trial c.is_octal_code.ensures.code).from_one
+    c.requires.trial c.is_code.ensures.code in
+    counted c.args.code.now c.args.phi.now c.args.self.now.walk.heap r.from_one
+    (let a = c.requires.going in let b = c.requires.trial.bound_is in omega arith)
+
+pub try_single-requires-clause-counts : goal.try_single-requires-clause-counts
+try_single-requires-clause-counts g c =
+    let r =
+    ready c.args.code.now c.args.table.now c.is_monoid.ensures.monoid c.args.phi.now
+    c.is_pretending.ensures c.requires.into c.args.self.now c.args.pairs.now.items
+    c.requires.trial c.is_code.ensures.code in
+    counted c.args.code.now c.args.phi.now c.args.self.now.walk.heap r.from_one
+    (let a = c.requires.going in let b = c.requires.trial.bound_is in omega arith)
 
 pub close-requires-clause-small : goal.close-requires-clause-small
 close-requires-clause-small g c =
     let r =
     ready c.args.code.now c.args.table.now c.is_monoid.ensures.monoid c.args.phi.now
     c.is_pretending.ensures c.requires.into c.args.self.now c.args.pairs.now.items
-    c.requires.trial c.is_octal_code.ensures.code in
+    c.requires.trial c.is_code.ensures.code in
     let s = r.small in
     (omega arith, omega arith)
 
@@ -37,7 +51,7 @@ try_single-requires-clause-small g c =
     let r =
     ready c.args.code.now c.args.table.now c.is_monoid.ensures.monoid c.args.phi.now
     c.is_pretending.ensures c.requires.into c.args.self.now c.args.pairs.now.items
-    c.requires.trial c.is_octal_code.ensures.code in
+    c.requires.trial c.is_code.ensures.code in
     let s = r.small in
     omega arith
 
@@ -58,7 +72,7 @@ spend_splits-spent-requires-clause-small g c =
     let r =
     ready c.args.code.now c.args.table.now c.is_monoid.ensures.monoid c.args.phi.now
     c.is_pretending.ensures c.requires.into c.args.self.now c.args.pairs.now.items
-    c.requires.trial c.is_octal_code.ensures.code in
+    c.requires.trial c.is_code.ensures.code in
     r.small
 
 pub take_splits-requires-clause-elements : goal.take_splits-requires-clause-elements
@@ -67,7 +81,7 @@ take_splits-requires-clause-elements g c =
     subst (HaveElements phi) (sym c.deref.ensures.value)
     (ready c.args.code.now c.args.table.now c.is_monoid.ensures.monoid c.args.phi.now
     c.is_pretending.ensures c.requires.into c.args.self.now c.args.pairs.now.items
-    c.requires.trial c.is_octal_code.ensures.code).values
+    c.requires.trial c.is_code.ensures.code).values
 
 pub take_splits-requires-clause-inside : goal.take_splits-requires-clause-inside
 take_splits-requires-clause-inside g c =
@@ -75,14 +89,14 @@ take_splits-requires-clause-inside g c =
     subst (All (λ p. p.value < order)) (sym c.deref.ensures.value)
     (ready c.args.code.now c.args.table.now c.is_monoid.ensures.monoid c.args.phi.now
     c.is_pretending.ensures c.requires.into c.args.self.now c.args.pairs.now.items
-    c.requires.trial c.is_octal_code.ensures.code).elements
+    c.requires.trial c.is_code.ensures.code).elements
 
 pub take_splits-requires-clause-within : goal.take_splits-requires-clause-within
 take_splits-requires-clause-within g c =
     let r =
     ready c.args.code.now c.args.table.now c.is_monoid.ensures.monoid c.args.phi.now
     c.is_pretending.ensures c.requires.into c.args.self.now c.args.pairs.now.items
-    c.requires.trial c.is_octal_code.ensures.code in
+    c.requires.trial c.is_code.ensures.code in
     let s = r.length_is in
     let e = ap length c.deref.ensures.value in
     let h = ap (λ t. t.walk.heap) (c.spend_splits-spent.ensures.none c.if-spent-eq0.true).1 in
@@ -115,3 +129,87 @@ returns-else-spent-eq0-clause-ok g c =
     c.spend_splits-spent.result c.in-Splits.part
     c.requires.trial going inside c.in-Splits.is some c.spend_splits-spent.ensures.within made.0
     made.1 made.2
+
+pub spend_triples-spent-requires-clause-small : goal.spend_triples-spent-requires-clause-small
+spend_triples-spent-requires-clause-small g c =
+    let r =
+    ready c.args.code.now c.args.table.now c.is_monoid.ensures.monoid c.args.phi.now
+    c.is_pretending.ensures c.requires.into c.args.self.now c.args.pairs.now.items
+    c.requires.trial c.is_code.ensures.code in
+    r.small
+
+pub returns-then-spent-gt0-clause-ok : goal.returns-then-spent-gt0-clause-ok
+returns-then-spent-gt0-clause-ok g c =
+    let going : c.args.self.now.walk.heap ≤ bound_of c.args.code.now c.args.phi.now = let a =
+    c.requires.going in let b = c.requires.trial.bound_is in omega arith in
+    let some : 1 ≤ c.spend_triples-spent.result = let f = c.if-spent-gt0.true in omega arith in
+    let made = c.spend_triples-spent.ensures.some some in
+    run_triples c.args.code.now c.args.table.now c.args.phi.now c.args.self.now
+    c.spend_triples-spent.new.self c.args.pairs.now.items c.args.units
+    c.spend_triples-spent.result c.in-Triples.first c.in-Triples.second
+    c.requires.trial going c.in-Triples.is some c.spend_triples-spent.ensures.within made.1
+    made.2
+
+pub take_triples-requires-clause-elements : goal.take_triples-requires-clause-elements
+take_triples-requires-clause-elements g c =
+    let phi = c.args.phi.now in
+    subst (HaveElements phi) (sym c.deref-else-first-last_first.ensures.value)
+    (ready c.args.code.now c.args.table.now c.is_monoid.ensures.monoid c.args.phi.now
+    c.is_pretending.ensures c.requires.into c.args.self.now c.args.pairs.now.items
+    c.requires.trial c.is_code.ensures.code).values
+
+pub take_triples-requires-clause-inside : goal.take_triples-requires-clause-inside
+take_triples-requires-clause-inside g c =
+    let order = c.args.table.now.order in
+    subst (All (λ p. p.value < order)) (sym c.deref-else-first-last_first.ensures.value)
+    (ready c.args.code.now c.args.table.now c.is_monoid.ensures.monoid c.args.phi.now
+    c.is_pretending.ensures c.requires.into c.args.self.now c.args.pairs.now.items
+    c.requires.trial c.is_code.ensures.code).elements
+
+pub take_triples-requires-clause-within : goal.take_triples-requires-clause-within
+take_triples-requires-clause-within g c =
+    let r =
+    ready c.args.code.now c.args.table.now c.is_monoid.ensures.monoid c.args.phi.now
+    c.is_pretending.ensures c.requires.into c.args.self.now c.args.pairs.now.items
+    c.requires.trial c.is_code.ensures.code in
+    let s = r.length_is in
+    let e = ap length c.deref-else-first-last_first.ensures.value in
+    let zero : c.spend_triples-spent.result ≡ 0 = let f = c.if-spent-gt0.false in omega arith in
+    let h = ap (λ t. t.walk.heap) (c.spend_triples-spent.ensures.none zero).1 in
+    omega arith
+
+pub returns-then-first-last_first-clause-ok : goal.returns-then-first-last_first-clause-ok
+returns-then-first-last_first-clause-ok g c =
+    let going : c.args.self.now.walk.heap ≤ bound_of c.args.code.now c.args.phi.now = let a =
+    c.requires.going in let b = c.requires.trial.bound_is in omega arith in
+    let zero : c.spend_triples-spent.result ≡ 0 = let f = c.if-spent-gt0.false in omega arith in
+    let none = c.spend_triples-spent.ensures.none zero in
+    let first = c.last_first.ensures in
+    let less : c.in-Triples.first
+    < last_first (c.args.self.now.walk.heap - c.args.self.now.walk.away) c.args.self.now.walk.most =
+    subst (λ t. c.in-Triples.first < last_first (t.walk.heap - t.walk.away) t.walk.most) none.1
+    (let f = c.if-first-last_first.true in omega arith) in
+    run_row c.args.code.now c.args.table.now c.args.phi.now c.args.self.now
+    c.next_row.new.self c.args.pairs.now.items c.args.units c.in-Triples.first
+    c.in-Triples.second c.requires.trial going c.in-Triples.is none.0 less
+    (c.next_row.ensures ∙ ap (λ t. after_row t c.in-Triples.first) none.1)
+
+pub returns-in_ok-take_triples-in-Triples-clause-ok :
+    goal.returns-in_ok-take_triples-in-Triples-clause-ok
+returns-in_ok-take_triples-in-Triples-clause-ok g c =
+    let going : c.args.self.now.walk.heap ≤ bound_of c.args.code.now c.args.phi.now = let a =
+    c.requires.going in let b = c.requires.trial.bound_is in omega arith in
+    let inside : c.args.self.now.walk.away < length c.args.code.now =
+    not_over c.is_over.result c.is_over.ensures c.if-is_over.false in
+    let zero : c.spend_triples-spent.result ≡ 0 = let f = c.if-spent-gt0.false in omega arith in
+    let none = c.spend_triples-spent.ensures.none zero in
+    let first = c.last_first.ensures in
+    let last : last_first (c.args.self.now.walk.heap - c.args.self.now.walk.away)
+    c.args.self.now.walk.most ≤ c.in-Triples.first =
+    subst (λ t. last_first (t.walk.heap - t.walk.away) t.walk.most ≤ c.in-Triples.first) none.1
+    (let f = c.if-first-last_first.false in omega arith) in
+    run_last_row c.args.code.now c.args.table.now c.args.phi.now c.args.self.now
+    c.take_triples.new.self c.args.pairs.now.items c.args.units c.in-Triples.first
+    c.in-Triples.second c.requires.trial going inside c.in-Triples.is none.0 last
+    (c.in_ok-take_triples-in-Triples.ensures.trial
+    ∙ ap (after_all_triples c.args.table.now c.args.phi.now) none.1)

@@ -1,6 +1,7 @@
-use Rattle.std.proofs.Common.{◌<◌, ◌≤◌, length, refl, ap, arith}
+use Rattle.std.proofs.Common.{◌<◌, ◌≤◌, refl, ap, arith}
 use Rattle.transition_algebra.specs.Heaps.{bound_of}
 use Rattle.heap_options.specs.Walks.{stages_left}
+use Rattle.transition_algebra.proofs.Counted.{bound_small}
 use Rattle.transition_algebra.proofs.Running.{two_digits, room, all_spent}
 use Rattle.transition_algebra.proofs.Finished.{measure_falls, stages_few, on_err}
 use Rattle.transition_algebra.proofs.trial.Trial.work.Goals as goal
@@ -9,10 +10,15 @@ pub loop-left-smaller : goal.loop-left-smaller
 loop-left-smaller g c =
     let code = c.args.code.now in
     let r = c.in_ok-left.ensures.ok in
-    let two = two_digits code c.is_octal_code.ensures.code in
-    measure_falls (length code) c.loop-left.left c.in_ok-left.field-0 _
+    let two = two_digits code c.is_code.ensures.code in
+    let bound = bound_small c.args.phi.now c.is_pretending.ensures code two.1 in
+    let was = c.loop-left.invariant.0.bound_is in
+    let going = c.if-self.true in
+    let next = r.heap in
+    measure_falls c.loop-left.left c.in_ok-left.field-0 _
     (stages_left code c.loop-left.self.walk) (stages_left code c.run.new.self.walk)
-    two.1 r.at_most (stages_few code c.loop-left.self) (stages_few code c.run.new.self) r.falls refl
+    r.at_most (stages_few code c.loop-left.self.walk two.1 (omega arith))
+    (stages_few code c.run.new.self.walk two.1 (omega arith)) r.falls refl
 
 pub returns-in_err-left-clause-err : goal.returns-in_err-left-clause-err
 returns-in_err-left-clause-err g c =

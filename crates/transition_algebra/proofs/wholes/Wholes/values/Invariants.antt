@@ -1,9 +1,10 @@
-use Rattle.std.proofs.Common.{◌+◌, ◌-◌, length}
+use Rattle.std.proofs.Common.{◌≡◌, ◌+◌, ◌-◌, length}
 use Rattle.transition_algebra.specs.Trials.{AreWholes}
 use Rattle.transition_algebra.proofs.wholes.Wholes.values.Given as goal
 
 abbrev pub invariant-loop-self : goal.invariant-loop-self
 invariant-loop-self g l = AreWholes l.table l.phi l.self.sets.items
+    × (l.self.triples.items ≡ l.initial.self.triples.items)
 
 abbrev pub decreases-loop-self : goal.decreases-loop-self
 decreases-loop-self g l = l.whole + 1 - length l.self.sets.items

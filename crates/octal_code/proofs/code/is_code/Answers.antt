@@ -1,5 +1,5 @@
 use Rattle.std.proofs.Common.{rules}
-use Rattle.octal_code.proofs.code.is_octal_code.Goals as goal
+use Rattle.octal_code.proofs.code.is_code.Goals as goal
 
 pub returns-clause-code : goal.returns-clause-code
 returns-clause-code c = search rules

@@ -5,10 +5,10 @@ use Rattle.json.specs.Token.{Token}
 use Rattle.serde_json.specs.Data.{Num, number}
 use Rattle.serde_json.specs.Find.{as_number, as_u64}
 use Rattle.serde_json.specs.Read.{number_of}
-use Rattle.catalogue.specs.Reading.{ReadsValue, Passes, IsUnread}
+use Rattle.catalogue.specs.Reading.{ReadsValue, Passes, IsUnread, whole_of}
 use Rattle.catalogue.specs.declared.fault.LoadFault.TheVariants.{Json}
 use Rattle.catalogue.proofs.ReadLemmas.{told, number_reads, number_refused, no_start}
-use Rattle.catalogue.proofs.frame.version.Goals as goal
+use Rattle.catalogue.proofs.fields.whole_number.Goals as goal
 
 pub returns-in_default-clause-err : goal.returns-in_default-clause-err
 returns-in_default-clause-err c = no_start c.args.depth c.args.reader.now (grind arith)
@@ -24,17 +24,17 @@ returns-in-Number-clause-read c =
     c.ok_or.ensures.value ∙ ap (λ o. ok_or o Json) c.whole.ensures in
     subst (λ x.
     IfOk x
-    (λ v. Passes c.args.depth c.args.reader.now (λ d. v ≡ option_and_then as_u64 (as_number d))
+    (λ v. Passes c.args.depth c.args.reader.now (λ d. v ≡ whole_of d)
     r)) (sym result)
     (subst
     (λ ts. IfOk (ok_or (option_map as_u64 (number_of s)) Json)
-    (λ v. Passes c.args.depth ts (λ d. v ≡ option_and_then as_u64 (as_number d)) r)) (sym is)
+    (λ v. Passes c.args.depth ts (λ d. v ≡ whole_of d) r)) (sym is)
     (go s r (number_of s) refl))
   where
     go : (s : List ℕ) (r : List Token) (o : Option Num) → number_of s ≡ o
         → IfOk (ok_or (option_map as_u64 o) Json)
         (λ v. Passes c.args.depth (Token.number s ∷ r)
-        (λ d. v ≡ option_and_then as_u64 (as_number d)) r)
+        (λ d. v ≡ whole_of d) r)
     go s r None e = tt
     go s r (Some n) e = (number n, number_reads c.args.depth r s n e, refl)
 
@@ -63,8 +63,8 @@ returns c =
     let first : c.args.reader.now ≡ token_of c.in-Some.token ∷ c.next.new.self = grind arith in
     let passed = c.in_ok-pass_from.ensures.passed in
     let r = c.pass_from.new.reader in
-    let none : None ≡ option_and_then as_u64 (as_number passed.0)
-    = told c.next.new.self (λ d. None ≡ option_and_then as_u64 (as_number d)) c.in-Some.token
+    let none : None ≡ whole_of passed.0
+    = told c.next.new.self (λ d. None ≡ whole_of d) c.in-Some.token
     (λ e ms. refl) (λ e ds. refl) (λ s e. refl)
     (λ s e n q. absurd (c.in_default-token.not-Number s e)) (λ b. refl) refl c.args.depth passed.0 r
     passed.1 in
