@@ -77,7 +77,7 @@ IsOnlyText bytes c = (other : List ℕ) (d : Certificate) → Spells other d →
 --   a yes is to the one accepted text of its code and kind,
 --   accepted bytes get yes, Limit or Memory,
 --   those with the laws and canonical, but with another monoid than the quotient of their code's
---   game, of which the heaps count of which they speak, get Outcome, Limit or Memory,
+--   game, or of the heaps of which they speak, get Outcome, Limit or Memory,
 --   and never Limit where the limit is no less than all the pairs of an element and a set of
 --   elements.
 pub record IsTrueOf (bytes : List ℕ) (limit : ℕ) (answer : Answer) : Type 0 where

@@ -16,7 +16,7 @@ use std::alloc::{Allocator, Global};
 use std::marker::Model;
 
 /// A certificate that a check has accepted: it is canonical, and its monoid with its portion is the
-/// misère quotient of its code.
+/// misère quotient of its code's game, or where it is partial of the heaps of which it speaks.
 ///
 /// It is made only of a certificate of which all that was proved. The misère quotient is that of
 /// Plambeck and Siegel, "Misère quotients for impartial games".

@@ -62,7 +62,8 @@ impl<A: Allocator> Cert<A> {
         self.parts.order
     }
 
-    /// The heap from which on the elements of heaps repeat.
+    /// The heap from which on the elements of heaps repeat, or, of a partial certificate, the first
+    /// heap of which it doesn't speak.
     pub fn start(&self) -> u64
         ensures value { result ≡ self.now.start }
         ensures range { (1 ≤ result) × (result ≤ MOST_ENTRIES + 1) }
@@ -86,7 +87,7 @@ impl<A: Allocator> Cert<A> {
         self.parts.phi.heaps()
     }
 
-    /// The element of each heap.
+    /// The element of each heap of which the certificate speaks.
     pub fn phi(&self) -> &Phi<A>
         ensures { result.now ≡ pretending_of self.now }
     {

@@ -96,7 +96,7 @@ portion_at order bytes = do
   ended ← fixed_at (10 ∷ []) xs.1
   if length xs.0 == 0 then None else Some (xs.0, ended)
 
--- a digit 0 to 7
+-- a digit of a code: 0 to 9, and a to f for 10 to 15
 unfoldable pub code_digit_at : List ℕ → Option (ℕ × List ℕ)
 code_digit_at [] = None
 code_digit_at (b ∷ bytes) =
@@ -107,7 +107,8 @@ code_digit_at (b ∷ bytes) =
 unfoldable pub code_digits_at : ℕ → List ℕ → Option (List ℕ × List ℕ)
 code_digits_at zero bytes = Some ([], bytes)
 code_digits_at (suc room) bytes =
-    otherwise (code_digit_at bytes) (Some ([], bytes)) (λ d. with_front (d.0 ∷ []) (code_digits_at room d.1))
+    otherwise (code_digit_at bytes) (Some ([], bytes))
+    (λ d. with_front (d.0 ∷ []) (code_digits_at room d.1))
 
 -- a point and the digits, behind the first one
 unfoldable pub digits_behind : ℕ → List ℕ → Option (List ℕ × List ℕ)

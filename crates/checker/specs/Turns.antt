@@ -147,7 +147,8 @@ separating_turn limit s =
     else if s.y + 1 == c.order then separating_at limit c (s.x + 1) (s.x + 2) (s.number + 1) 0
     else separating_at limit c s.x (s.y + 1) (s.number + 1) 0
 
--- an entry comes again only after some heaps
+-- Whether the heap has the same element again after the shift. The heap 0 and the shift 0 don't
+-- count.
 abbrev pub comes_again : Certificate → ℕ → ℕ → Bool
 comes_again c heap shift =
     nat_lt 0 heap && (nat_lt 0 shift && (phi_at c (shift + heap) == phi_at c heap))

@@ -83,6 +83,7 @@ module _ (old : JobView) (slot after : Slot) (units target : ℕ) where
               limit = refl;
               sound = sound;
               ended = λ _. refl;
+              turns = inl refl;
               core = core;
               stands = stands;
               gone = inl (is_job (slot.spent + units) Going (s ∙ t) a.1
@@ -100,6 +101,7 @@ module _ (old : JobView) (slot after : Slot) (units target : ℕ) where
               limit = refl;
               sound = sound;
               ended = λ _. refl;
+              turns = inl refl;
               core = core;
               stands = stands;
               gone = inl (is_job (cost old.bytes old.limit) Ended a.0 a.1

@@ -47,13 +47,15 @@ pub record IsFurthest (places : List (Option Slot)) (core most : ℕ) : Type 0 w
       ⊎ ((i : ℕ) × (s : Slot) × (slice_index_or places i None ≡ Some s) × (s.core ≡ core)
       × (s.standing ≢ Starved) × (s.spent ≡ most))
 
--- the core after a slot of it has gone on, and the slot
+-- The core after a slot of it has gone on, and the slot: the core goes no further than the slot's
+-- units reach.
 pub record HasGoneOn (old : JobView) (furthest : ℕ) (slot : Slot) (units : ℕ) (new : JobView)
     (after : Slot) : Type 0 where
   pub bytes : new.bytes ≡ old.bytes
   pub limit : new.limit ≡ old.limit
   pub sound : new.ended ≢ Some Memory
   pub ended : old.ended ≢ None → new ≡ old
+  pub turns : (new ≡ old) ⊎ (new.spent ≤ slot.spent + units)
   pub core : after.core ≡ slot.core
   pub stands : StandsBeside after.standing after.spent new
   pub gone : (job_of new after ≡ worked cost verdict (job_of old slot) units)

@@ -1,5 +1,5 @@
 //! The checks that jobs share: one for each bytes and limit.
-ghost use Rattle.std.specs.Prelude.{◌≡◌, ◌<◌, ◌↔◌, None, length, IsTrue};
+ghost use Rattle.std.specs.Prelude.{◌≡◌, ◌≢◌, ◌<◌, ◌↔◌, ◌⊎◌, ℕ, None, length, IsTrue};
 ghost use Rattle.std.specs.Prelude.{IfOk, OnErr, IfSome, IfNone};
 ghost use Rattle.desk.specs.Desks.{IsWith, IsCoreFor, IsCoreOf, HasNoCore, core_at};
 
@@ -7,8 +7,8 @@ use allocation::{Memory, Room};
 use checker::Job;
 use std::mem;
 
-/// The core of these bytes and this limit, a new one where there is none. A new one alone may take
-/// memory.
+/// The core of these bytes and this limit, a new one where there is none. A new one takes a place
+/// that has none, where there is such a place, and else a new place, which may take memory.
 pub(crate) fn core_for<A: Room + Copy>(
     cores: &mut Vec<Option<Job<A>>, A>,
     alloc: A,
@@ -16,6 +16,9 @@ pub(crate) fn core_for<A: Room + Copy>(
     limit: u32,
 ) -> Result<usize, Memory>
     ensures ok { IfOk result (λ k. IsCoreFor cores.old.items bytes.items limit k cores.new.items) }
+    ensures reuses { IfOk result (λ k. (cores.new.items ≡ cores.old.items)
+        ⊎ ((k < length cores.old.items)
+        ⊎ ((i : ℕ) → i < length cores.old.items → core_at cores.old.items i ≢ None))) }
     ensures err { OnErr result ((cores.new.items ≡ cores.old.items)
         × HasNoCore cores.old.items bytes.items limit) }
 {
@@ -61,10 +64,12 @@ fn is_of<A: Room>(core: &Job<A>, bytes: &[u8], limit: u32) -> bool
     core.limit() == limit && core.bytes() == bytes
 }
 
-/// A place without a core.
+/// A place without a core, if there is one.
 fn vacancy<A: Room>(cores: &Vec<Option<Job<A>>, A>) -> Option<usize>
-    ensures { IfSome result (λ k. (k < length cores.now.items)
+    ensures some { IfSome result (λ k. (k < length cores.now.items)
         × (core_at cores.now.items k ≡ None)) }
+    ensures none { IfNone result ((k : ℕ) → k < length cores.now.items
+        → core_at cores.now.items k ≢ None) }
 {
     for i in 0..cores.len() {
         if cores[i].is_none() {

@@ -57,7 +57,7 @@ impl Model for LeftHeaps {
 }
 
 impl LeftHeaps {
-    /// The sizes, in the order in which they are left: rising.
+    /// The sizes, in the order in which `Left` has them.
     pub fn as_slice(&self) -> &[u64]
         ensures { result.now ≡ self.now }
     {

@@ -11,8 +11,8 @@ use crate::walk::{Options, Walk};
 use octal_code::Code;
 
 /// The options of the heap n, in their order: first by what is taken away, rising, then by the bits
-/// 1, 2, 4 and 8, then by the first part, rising, and then by the second. It takes no memory, and makes an option only when
-/// it is asked for.
+/// 1, 2, 4 and 8, then by the first part, rising, and then by the second. It takes no memory, and
+/// makes an option only when it is asked for.
 pub fn options(code: &Code, n: u64) -> Options
     ensures { result ≡ options_of code.now n }
 {

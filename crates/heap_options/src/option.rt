@@ -5,7 +5,8 @@ ghost use Rattle.heap_options.specs.Options.{options_of};
 use crate::left::Left;
 use octal_code::{Code, Leaving};
 
-/// Whether a move may leave this of the heap n. No split is tried but the one in question.
+/// Whether a move may leave this of the heap n. No split or triple is tried but the one in
+/// question.
 pub fn is_option(code: &Code, n: u64, left: Left) -> bool
     ensures { IsTrue result ↔ Contains (options_of code.now n) left }
 {

@@ -23,8 +23,8 @@ pub enum Untried {
     Triples(u64, u64),
 }
 
-/// Where a walk over the options of a heap stands: the heap, the largest part but the last of a
-/// split or a triple that it tries, what is taken away, and what is untried of that.
+/// Where a walk over the options of a heap stands: the heap, how large a part of a split or a triple
+/// that it tries may be, the largest part aside, what is taken away, and what is untried of that.
 #[derive(Clone, Copy)]
 pub struct Walk {
     pub heap: u64,

@@ -123,8 +123,8 @@ pub record Canonical (c : Certificate) : Type 0 where
   pub period : 1 ≤ c.period → IsLeastPeriod (claim_of c) c.start c.period
   pub apart : AllZip (LeastApart (claim_of c)) (pairs_from 0 c.order) c.apart
 
--- In its ranges, canonical, and the misère quotient of its code's game, of which the heaps count of
--- which it speaks. This project's own.
+-- In its ranges, canonical, and the misère quotient of its code's game: of the whole game where it
+-- is full, of the heaps below its start where it is partial. This project's own.
 pub record Accepted (c : Certificate) : Type 0 where
   pub in_ranges : InRanges c
   pub canonical : Canonical c

@@ -74,9 +74,9 @@ pub record IsPeriodic (code : List ℕ) (c : Claim) (k start period : ℕ) : Typ
   pub some : 1 ≤ period
   pub repeats : (n : ℕ) → start ≤ n → c.phi (period + n) ≡ c.phi n
 
--- B: each heap has the pair of one of the heaps 1 to B. As many times start + period as a move may
--- leave heaps, and k. Compare Plambeck and Siegel's periodicity theorem for misère quotients, and
--- Guy and Smith's for normal play.
+-- B: each heap has the pair of one of the heaps 1 to B. Three times start + period, and k, where a
+-- move may leave three heaps, and else twice. Compare Plambeck and Siegel's periodicity theorem for
+-- misère quotients, and Guy and Smith's for normal play.
 abbrev pub heap_bound : List ℕ → ℕ → ℕ → ℕ → ℕ
 heap_bound code k start period =
     if leaves_three code then 3 * start + 3 * period + k else 2 * start + 2 * period + k

@@ -1,5 +1,5 @@
-//! The theory of misère quotients of octal and hexadecimal games: its definitions, and its laws, each the contract
-//! of a function that does nothing.
+//! The theory of misère quotients of octal and hexadecimal games: its definitions, and its laws,
+//! each the contract of a function that does nothing.
 //!
 //! Nothing runs here. A law is a function so that the check proves its statement; other crates cite
 //! the definitions in their contracts and the lemmas in their proofs.
@@ -29,7 +29,8 @@ pub mod quotients;
 /// The largest order of a certificate: how many elements a monoid has at most.
 pub const LARGEST_ORDER: u16 = 512;
 
-/// The largest order of a certificate in the first format, and of what is searched for.
+/// The largest order of a certificate in the first format, of a presentation's table, and of what is
+/// searched for.
 pub const LARGEST_FIRST_ORDER: u16 = 256;
 
 /// How many entries of its pretending function a certificate has at most: heap sizes from 1 on.

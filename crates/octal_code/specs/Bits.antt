@@ -1,7 +1,7 @@
--- The bits of a code's digits, and what they allow. The meaning of the bits 1, 2, 4 and 8 is that
--- of Plambeck and Siegel, and of Siegel, 'Combinatorial Game Theory'. These are tests, for the lists
--- of options; the contracts of the functions that answer them say the same by IsBitSet, as the
--- theory does.
+-- The bits of a code's digits, and what they allow. The meaning of the bits 1, 2 and 4 is that of
+-- Plambeck and Siegel, and of Siegel, 'Combinatorial Game Theory'; of the bit 8 that of Siegel. These
+-- are tests, for the lists of options; the contracts of the functions that answer them say the same
+-- by IsBitSet, as the theory does.
 use Rattle.std.specs.Prelude.{ℕ, Bool, not, ◌&&◌, eqb, ltb, bit_and, List}
 use Rattle.misere_theory.specs.Games.{digit}
 use Rattle.octal_code.specs.declared.leaving.Leaving.{Leaving}

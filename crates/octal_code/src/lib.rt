@@ -1,5 +1,5 @@
-//! Octal and hexadecimal codes, the rule books of heap games: what a player may take away from a heap, and what may
-//! stay of it.
+//! Octal and hexadecimal codes, the rule books of heap games: what a player may take away from a
+//! heap, and what may stay of it.
 #![tactic(auto)]
 
 mod code;

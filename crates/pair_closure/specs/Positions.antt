@@ -78,8 +78,8 @@ IsClosedOver s =
     (code : List ℕ) (c : Claim) → IsClaimOver code c s.table s.heaps
     → theory.IsClosed code c (IsHeapUpTo (length s.heaps)) (kept s)
 
--- Positions of the heaps given have more different pairs than the limit, whatever claim the table and the pairs are
--- those of.
+-- Positions of the heaps given have more different pairs than the limit, whatever claim the table
+-- and the pairs are those of.
 abbrev pub IsExceeded : State → Type 0
 IsExceeded s =
     (code : List ℕ) (c : Claim) → IsClaimOver code c s.table s.heaps

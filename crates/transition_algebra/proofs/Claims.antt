@@ -2,7 +2,7 @@
 use Rattle.std.proofs.Common.{◌≡◌, ℕ, ◌+◌, ◌-◌, ◌<◌, ◌≤◌, ◌↔◌, List, [], ◌∷◌, length, refl, sym, ◌∙◌, ap, ap₂, subst, arith}
 use Rattle.std.specs.List.{Contains}
 use Rattle.std.proofs.lemmas.List.{get_or_past}
-use Rattle.misere_theory.specs.Games.{HeapOption, IsHeap, IsPosition}
+use Rattle.misere_theory.specs.Games.{HeapOption, IsPosition}
 use Rattle.misere_theory.specs.Games.HeapOption.{Nothing as TakesAll, One as LeavesOne, Two as LeavesTwo, Three as LeavesThree}
 use Rattle.misere_theory.specs.Pairs.{IsSmallSplit}
 use Rattle.misere_theory.specs.Kinds.{IsPeriodicIn}
@@ -16,7 +16,7 @@ use Rattle.monoid_table.specs.Grids.{Grid, times_in}
 use Rattle.transition_algebra.specs.Heaps.{Agrees, IsInto, largest_part, left_value}
 use Rattle.transition_algebra.specs.Pretending.{Pretending, phi_at, IsPretending, kind_of, HasElement}
 use Rattle.transition_algebra.specs.Work.{tries}
-use Rattle.transition_algebra.proofs.Counted.{full_kind, kind_short}
+use Rattle.transition_algebra.proofs.Counted.{full_kind, kind_short, smaller}
 use Rattle.transition_algebra.proofs.Repeats.{phi_repeats, phi_in}
 
 pub periodic : (code : List ℕ) (c : Claim) (table : Grid) (phi : Pretending) → IsPretending phi
@@ -27,8 +27,8 @@ periodic code c table phi pretending agrees whole = record {
   some = full_kind phi pretending whole;
   repeats = λ n l.
       let one : 1 ≤ n = let f = pretending.from_one in omega arith in
-      agrees.phi_is (phi.period + n) (omega arith) ∙ phi_repeats phi n l
-      ∙ sym (agrees.phi_is n one);
+      agrees.phi_is (phi.period + n) (omega arith, λ some. omega arith) ∙ phi_repeats phi n l
+      ∙ sym (agrees.phi_is n (one, λ some. omega arith));
 }
 
 -- an option whose parts rise and are small but for the largest is tried
@@ -52,13 +52,20 @@ small_tried code phi n H (LeavesThree j a b c p q r h s) w = (
   refl,
 )
 
--- the parts of what is tried are heaps
-pub tried_heaps : (code : List ℕ) (n j : ℕ) (left : Left) → IsLeftAt code n j left
-    → IsPosition IsHeap (heaps_of left)
-tried_heaps code n j Nothing h = tt
-tried_heaps code n j (One a) h = (h.1, tt)
-tried_heaps code n j (Two a b) h = (h.0, (let l = h.0 in let m = h.1 in omega arith, tt))
-tried_heaps code n j (Three a b c) (p, o, q, h, s) = (p, (omega arith, (omega arith, tt)))
+-- the parts of what is tried of a heap that has an element have elements
+pub tried_heaps : (phi : Pretending) (code : List ℕ) (n j : ℕ) (left : Left) → HasElement phi n
+    → IsLeftAt code n j left → IsPosition (HasElement phi) (heaps_of left)
+tried_heaps phi code n j Nothing counts h = tt
+tried_heaps phi code n j (One a) counts (l, p, e, s) = (smaller phi n a counts p (omega arith), tt)
+tried_heaps phi code n j (Two a b) counts (p, o, e, s) =
+    (smaller phi n a counts p (omega arith), (smaller phi n b counts (omega arith) (omega arith), tt))
+tried_heaps phi code n j (Three a b c) counts (p, o, q, e, s) = (
+  smaller phi n a counts p (omega arith),
+  (
+    smaller phi n b counts (omega arith) (omega arith),
+    (smaller phi n c counts (omega arith) (omega arith), tt),
+  ),
+)
 
 module _ (table : Grid) (monoid : Monoid table.order (times_in table)) (phi : Pretending)
     (into : IsInto table phi) (c : Claim) (agrees : Agrees c table phi) where
@@ -92,18 +99,18 @@ module _ (table : Grid) (monoid : Monoid table.order (times_in table)) (phi : Pr
         ∙ sym (times_is x (c.times y z) i (times_closed y z j k));
   }
 
-  pub claim_gives : GivesElements IsHeap c
-  claim_gives n one =
+  pub claim_gives : GivesElements (HasElement phi) c
+  claim_gives n counts =
       in_claim (c.phi n)
-      (subst (λ v. v < table.order) (sym (agrees.phi_is n one)) (phi_in table monoid phi into n))
+      (subst (λ v. v < table.order) (sym (agrees.phi_is n counts)) (phi_in table monoid phi into n))
 
-  one_value : (a : ℕ) → 1 ≤ a → value c (a ∷ []) ≡ phi_at phi a
+  one_value : (a : ℕ) → HasElement phi a → value c (a ∷ []) ≡ phi_at phi a
   one_value a l =
       let i = claim_gives a l in
       claim_monoid.commutes (c.phi a) 0 i claim_monoid.some ∙ claim_monoid.identity (c.phi a) i
       ∙ agrees.phi_is a l
 
-  pub left_is : (left : Left) → IsPosition IsHeap (heaps_of left)
+  pub left_is : (left : Left) → IsPosition (HasElement phi) (heaps_of left)
       → left_value table phi left ≡ value c (heaps_of left)
   left_is Nothing p = refl
   left_is (One a) p = sym (one_value a p.0)
@@ -118,10 +125,11 @@ module _ (table : Grid) (monoid : Monoid table.order (times_in table)) (phi : Pr
       ∙ agrees.times_is (phi_at phi a) (times_in table (phi_at phi b) (phi_at phi d)) (here a)
       (monoid.closed (phi_at phi b) (phi_at phi d) (here b) (here d)))
 
-  left_at : (code : List ℕ) (n : ℕ) (left : Left) → Contains (tries code phi n) left
+  left_at : (code : List ℕ) (n : ℕ) (left : Left) → HasElement phi n
+      → Contains (tries code phi n) left
       → left_value table phi left ≡ value c (heaps_of left)
-  left_at code n left i = let (j, h) = of_options code n (largest_part phi) left i in
-      left_is left (tried_heaps code n j left h)
+  left_at code n left counts i = let (j, h) = of_options code n (largest_part phi) left i in
+      left_is left (tried_heaps phi code n j left counts h)
 
   -- the values of the options that are tried are those of all
   pub tried_values : (code : List ℕ) (n : ℕ) → HasElement phi n → IsPretending phi → (x : ℕ)
@@ -129,13 +137,13 @@ module _ (table : Grid) (monoid : Monoid table.order (times_in table)) (phi : Pr
       ↔ HeapOptionValue code c n x
   tried_values code n counts pretending x = (
     λ h. let (left, i, e) = h in
-        (heaps_of left, (only code n (largest_part phi) left i).0, sym (left_at code n left i) ∙ e),
+        (heaps_of left, (only code n (largest_part phi) left i).0, sym (left_at code n left counts i) ∙ e),
     λ h.
         let (H, o, e) = h in
         let (L, p, small, v) =
         enough (kind_of phi) code c (length code - 1) phi.start phi.period
         (periodic code c table phi pretending agrees) (kind_short phi pretending) n counts.1
-        claim_monoid (λ a h. claim_gives a h.0) H o in
+        claim_monoid claim_gives H o in
         let (left, i, same) = small_tried code phi n L p small in
-        (left, i, left_at code n left i ∙ ap (value c) same ∙ v ∙ e),
+        (left, i, left_at code n left counts i ∙ ap (value c) same ∙ v ∙ e),
   )

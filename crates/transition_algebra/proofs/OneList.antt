@@ -65,22 +65,22 @@ module _ (f : Left → ℕ) where
 module _ (code : List ℕ) (table : Grid) (monoid : Monoid table.order (times_in table))
     (phi : Pretending) (pretending : IsPretending phi) (into : IsInto table phi) where
   module _ (c : Claim) (agrees : Agrees c table phi) where
-    option_value : (n : ℕ) (left : Left) → Contains (options_of code n) left
+    option_value : (n : ℕ) (left : Left) → HasElement phi n → Contains (options_of code n) left
         → HeapOptionValue code c n (left_value table phi left)
-    option_value n left i =
+    option_value n left counts i =
         let (j, h) = of_options code n n left i in (
           heaps_of left,
           (only code n n left i).0,
-          sym (left_is table monoid phi into c agrees left (tried_heaps code n j left h)),
+          sym (left_is table monoid phi into c agrees left (tried_heaps phi code n j left counts h)),
         )
 
     -- it has the values of all options of the heap
     one_heap_pair : (n : ℕ) → HasElement phi n → IsHeapPair code c n (heap_pair code table phi n)
     one_heap_pair n counts = record {
-      value_is = sym (agrees.phi_is n counts.0);
+      value_is = sym (agrees.phi_is n counts);
       options_are = λ x. (
         λ h. let (left, i, e) = has_value (left_value table phi) (options_of code n) x h in
-            subst (HeapOptionValue code c n) e (option_value n left i),
+            subst (HeapOptionValue code c n) e (option_value n left counts i),
         λ h.
             let (left, i, e) = (tried_values table monoid phi into c agrees code n counts pretending x).1 h
             in

@@ -31,7 +31,7 @@ use Rattle.transition_algebra.specs.declared.pair.Pair.{Pair}
 use Rattle.transition_algebra.specs.declared.trial.Trial.{Trial}
 use Rattle.transition_algebra.proofs.Coming.{values_none, values_add, values_beside, left_add, left_beside}
 use Rattle.transition_algebra.proofs.Triples.{before_next_row, before_all, before_more, none_before}
-use Rattle.transition_algebra.proofs.Counted.{bound_small}
+use Rattle.transition_algebra.proofs.Counted.{bound_small, counted}
 use Rattle.transition_algebra.proofs.Cost.{left_after, cost_of_three}
 use Rattle.transition_algebra.proofs.Turning.{Standing, stands, left, left_some, left_over, turns-add, no_turn, one_turn, closing_turn, split_turns}
 use Rattle.transition_algebra.proofs.Within.{claim_by, agrees_itself, all_in}
@@ -78,6 +78,7 @@ module _ (code : List ℕ) (table : Grid) (monoid : Monoid table.order (times_in
         let k = two_digits code octal in
         let len : length pairs ≡ t.walk.heap - 1 = made.length_is in
         let one_up = s.from_one in
+        let most = s.at_most in
         record {
           from_one = s.from_one;
           at_most = s.at_most;
@@ -91,12 +92,13 @@ module _ (code : List ℕ) (table : Grid) (monoid : Monoid table.order (times_in
               All-from_get_or (λ p. p.value < table.order) pairs one
               (λ i l.
               (All-get_or (IsPair table.order) pairs i one l
-              (all_in table monoid phi into code (t.walk.heap - 1) pairs s.made)).value);
+              (all_in table monoid phi into code (t.walk.heap - 1) pairs (omega arith) s.made)).value);
           length_is = omega arith;
           values = λ b f l.
               let i : b - 1 < length pairs = omega arith in
               let e : b - 1 + 1 ≡ b = omega arith in
-              (made.each (b - 1) one i).value_is ∙ agrees.phi_is (b - 1 + 1) (omega arith)
+              (made.each (b - 1) one i).value_is
+              ∙ agrees.phi_is (b - 1 + 1) (counted code phi (b - 1 + 1) (omega arith) (omega arith))
               ∙ ap (phi_at phi) e;
         }
 

@@ -94,7 +94,7 @@ pub the_pair : (table : Grid) → Monoid table.order (times_in table) → (phi :
     → IsTheHeapPair code table phi n p
 the_pair table monoid phi pretending into code n yielded coming p so none counts e c agrees =
     record {
-      value_is = e ∙ sym (agrees.phi_is n counts.0);
+      value_is = e ∙ sym (agrees.phi_is n counts);
       options_are =
           all_seen table monoid phi pretending into code n yielded coming p.options so none counts c
           agrees;

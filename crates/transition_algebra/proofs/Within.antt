@@ -3,14 +3,15 @@ use Rattle.std.proofs.Common.{ℕ, ◌+◌, ◌<◌, ◌≤◌, false, List, ref
 use Rattle.std.specs.List.{All}
 use Rattle.std.specs.FinSet as set
 use Rattle.std.proofs.lemmas.List.Elements.{All-from_get_or}
-use Rattle.misere_theory.specs.Games.{IsHeap}
 use Rattle.misere_theory.specs.Quotients.{Claim, Monoid}
 use Rattle.monoid_table.specs.Grids.{Grid, times_in}
-use Rattle.transition_algebra.specs.Pretending.{Pretending, phi_at}
+use Rattle.transition_algebra.specs.Pretending.{Pretending, phi_at, kind_of, HasElement}
 use Rattle.transition_algebra.specs.Pairs.{IsPair}
-use Rattle.transition_algebra.specs.Heaps.{Agrees, IsInto}
+use Rattle.transition_algebra.specs.Heaps.{Agrees, IsInto, bound_of}
 use Rattle.transition_algebra.specs.declared.pair.Pair.{Pair}
-use Rattle.misere_theory.proofs.Sums.{heaps_kept, value_in}
+use Rattle.misere_theory.proofs.Counting.{kept_in}
+use Rattle.misere_theory.proofs.Sums.{value_in}
+use Rattle.transition_algebra.proofs.Counted.{counted}
 use Rattle.transition_algebra.proofs.Repeats.{phi_in}
 use Rattle.transition_algebra.proofs.Claims.{claim_gives}
 use Rattle.transition_algebra.proofs.Steps.{IsTheHeapPair, AreFirstHeapPairs}
@@ -26,28 +27,30 @@ agrees_itself table phi =
 
 module _ (table : Grid) (monoid : Monoid table.order (times_in table)) (phi : Pretending)
     (into : IsInto table phi) where
-  pair_in : (code : List ℕ) (n : ℕ) (p : Pair) → 1 ≤ n → IsTheHeapPair code table phi n p
+  pair_in : (code : List ℕ) (n : ℕ) (p : Pair) → HasElement phi n → IsTheHeapPair code table phi n p
       → IsPair table.order p
-  pair_in code n p one is =
+  pair_in code n p counts is =
       let c = claim_by table phi in
       let agrees = agrees_itself table phi in
       let here = is c agrees in
       record {
         value =
-            subst (λ v. v < table.order) (sym (here.value_is ∙ agrees.phi_is n one))
+            subst (λ v. v < table.order) (sym (here.value_is ∙ agrees.phi_is n counts))
             (phi_in table monoid phi into n);
         options = λ x h.
             let (H, o, e) = (here.options_are x).0 h in
             subst (λ v. v < table.order) e
-            (value_in IsHeap c monoid (claim_gives table monoid phi into c agrees) H
-            (heaps_kept code n H one o));
+            (value_in (HasElement phi) c monoid (claim_gives table monoid phi into c agrees) H
+            (kept_in (kind_of phi) code n H counts o));
       }
 
-  pub all_in : (code : List ℕ) (B : ℕ) (pairs : List Pair)
+  pub all_in : (code : List ℕ) (B : ℕ) (pairs : List Pair) → B ≤ bound_of code phi
       → AreFirstHeapPairs code table phi B pairs → All (IsPair table.order) pairs
-  all_in code B pairs are =
+  all_in code B pairs short are =
+      let len = (are (claim_by table phi) (agrees_itself table phi)).length_is in
       All-from_get_or (IsPair table.order) pairs blank
-      (λ i l. pair_in code (i + 1) _ (omega arith) (λ c a. (are c a).each i blank l))
+      (λ i l. pair_in code (i + 1) _ (counted code phi (i + 1) (omega arith) (omega arith))
+      (λ c a. (are c a).each i blank l))
     where
       blank : Pair
       blank = record { value = 0; options = set.empty }

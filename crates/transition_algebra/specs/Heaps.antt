@@ -8,14 +8,14 @@ use Rattle.monoid_table.specs.Grids.{Grid, times_in}
 use Rattle.heap_options.specs.Options.{options_of}
 use Rattle.heap_options.specs.declared.left.Left.{Left}
 use Rattle.heap_options.specs.declared.left.Left.TheVariants.{Nothing, One, Two, Three}
-use Rattle.transition_algebra.specs.Pretending.{Pretending, phi_at, kind_of}
+use Rattle.transition_algebra.specs.Pretending.{Pretending, phi_at, kind_of, HasElement}
 use Rattle.transition_algebra.specs.declared.pair.Pair.{Pair}
 
--- the claim's monoid is the table's, and its elements of heaps are those of phi
+-- the claim's monoid is the table's, and it gives each heap that has an element the element of phi
 pub record Agrees (c : Claim) (table : Grid) (phi : Pretending) : Type 0 where
   pub order_is : c.order ≡ table.order
   pub times_is : (x y : ℕ) → x < table.order → y < table.order → c.times x y ≡ times_in table x y
-  pub phi_is : (n : ℕ) → 1 ≤ n → c.phi n ≡ phi_at phi n
+  pub phi_is : (n : ℕ) → HasElement phi n → c.phi n ≡ phi_at phi n
 
 -- the entries are elements of the table
 abbrev pub IsInto : Grid → Pretending → Type 0

@@ -34,7 +34,7 @@ pub(crate) fn bound_of<A: Allocator>(code: &Code, phi: &Phi<A>) -> u64
     }
 }
 
-/// The largest part but the last of a split or a triple that is tried.
+/// How large a part of a split or a triple that is tried may be, the largest part aside.
 pub(crate) fn largest_part<A: Allocator>(phi: &Phi<A>) -> u64
     ensures { result ≡ phi.now.start + phi.now.period - 1 }
 {

@@ -42,7 +42,7 @@ impl<A: Allocator> Phi<A> {
         }
     }
 
-    /// The heap from which on the elements repeat.
+    /// The heap from which on the elements repeat, or, where they don't, the first heap that has none.
     pub fn start(&self) -> u64
         ensures { result ≡ self.now.start }
     {

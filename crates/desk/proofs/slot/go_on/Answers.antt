@@ -16,7 +16,7 @@ returns-then-not-matches g c =
     let done : old.ended ≢ None = elim c.match-matches.branch [
       | in-Going w ↦ (let y = w.matches-is in let n = c.if-not-matches.true in absurd (cc))
       | in_default w ↦ (λ e. shown_done c.progress.result w.in_default.not-Going
-            (sym c.progress.ensures.shown ∙ e))
+          (sym c.progress.ensures.shown ∙ e))
     ] in
     let all =
     spends_so old c.args.slot after c.args.units target old.ended c.requires.sound done

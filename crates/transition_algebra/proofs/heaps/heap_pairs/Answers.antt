@@ -1,4 +1,4 @@
-use Rattle.std.proofs.Common.{sym, subst}
+use Rattle.std.proofs.Common.{sym, subst, arith}
 use Rattle.transition_algebra.specs.Trials.{IsTrial}
 use Rattle.transition_algebra.specs.Heaps.{bound_of}
 use Rattle.transition_algebra.proofs.Finished.{all_units, finished}
@@ -21,7 +21,7 @@ returns-clause-within g c =
     all_units c.args.code.now c.args.phi.now c.new-trial.result.spent c.work.new.self.spent
     c.is_code.ensures.code c.is_pretending.ensures c.in_ok-work.ensures.ok in
     all_in c.args.table.now c.is_monoid.ensures.monoid c.args.phi.now c.requires c.args.code.now
-    (bound_of c.args.code.now c.args.phi.now) c.work.new.pairs.items
+    (bound_of c.args.code.now c.args.phi.now) c.work.new.pairs.items (omega arith)
     (finished c.args.code.now c.args.table.now c.is_monoid.ensures.monoid c.args.phi.now
     c.is_pretending.ensures c.requires c.work.new.self c.work.new.pairs.items
     c.in_ok-work.ensures.trial all)

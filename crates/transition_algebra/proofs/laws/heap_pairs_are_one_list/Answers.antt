@@ -1,3 +1,4 @@
+use Rattle.std.proofs.Common.{arith}
 use Rattle.transition_algebra.specs.Heaps.{bound_of, all_heap_pairs}
 use Rattle.transition_algebra.proofs.Within.{all_in}
 use Rattle.transition_algebra.proofs.OneList.{all_are_pairs, only_pairs, turned_pairs}
@@ -8,7 +9,7 @@ returns-clause-exact g = λ code table phi lawful pretending into.
     let are = all_are_pairs code table lawful.monoid phi pretending into in (
       are,
       all_in table lawful.monoid phi into code (bound_of code phi)
-          (all_heap_pairs code table phi) are,
+          (all_heap_pairs code table phi) (omega arith) are,
     )
 
 pub returns-clause-only : goal.returns-clause-only

@@ -1,4 +1,4 @@
-use Rattle.std.proofs.Common.{◌≡◌, sym, subst}
+use Rattle.std.proofs.Common.{◌≡◌, sym, subst, arith}
 use Rattle.std.specs.List.{All}
 use Rattle.transition_algebra.specs.Pairs.{IsPair}
 use Rattle.transition_algebra.specs.Heaps.{AreAllHeapPairs, all_heap_pairs, bound_of}
@@ -21,7 +21,7 @@ returns-clause-within g c =
     let j = c.self.inside in
     subst (λ v. All (IsPair v.table.order) j.pairs.items) c.self.view_is
     (all_in j.table c.is_monoid.ensures.monoid j.phi c.self.invariant.0 j.code
-    (bound_of j.code j.phi) j.pairs.items
+    (bound_of j.code j.phi) j.pairs.items (omega arith)
     (finished j.code j.table c.is_monoid.ensures.monoid j.phi c.is_pretending.ensures
     c.self.invariant.0 j.trial j.pairs.items c.self.invariant.1
     (subst IsDone (sym c.self.view_is) c.requires)))
