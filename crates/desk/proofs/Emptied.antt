@@ -1,5 +1,5 @@
 -- A slot is emptied.
-use Rattle.std.proofs.Common.{◌≡◌, ◌≢◌, ℕ, ◌==◌, Bool, true, false, if◌then◌else◌, List, Option, Some, None, refl, sym, ◌∙◌, ap, subst, get_or}
+use Rattle.std.proofs.Common.{◌≡◌, ◌≢◌, ℕ, ◌≤◌, ◌==◌, Bool, true, false, if◌then◌else◌, List, length, Option, Some, None, refl, sym, ◌∙◌, ap, subst, get_or}
 use Rattle.std.proofs.lemmas.Bool.{eqb-true}
 use Rattle.checker.specs.JobViews.{JobView}
 use Rattle.desk.specs.declared.slot.Slot.{Slot}
@@ -21,14 +21,15 @@ module _ (places places' : List (Option Slot)) (cores cores' : List (Option JobV
       absurd (cc)
   emptied_case j r at false e = sym (with_other places places' i j None emptied e) ∙ at
 
-  pub desk_emptied : IsDesk places' cores'
-  desk_emptied = record {
+  pub desk_emptied : length cores' ≤ length places' → IsDesk places' cores'
+  desk_emptied few = record {
     held = λ j r at.
         let held = desk.held j r (emptied_case j r at (i == j) refl) in
         (held.0, stay j r at ∙ held.1, held.2);
     used = used;
     sound = λ k a at. desk.sound k a (only k a at);
     apart = λ k l a b at bt. desk.apart k l a b (only k a at) (only l b bt);
+    few = few;
   }
 
   rest_case : (j : ℕ) (o : Option Slot) → slot_at places' j ≡ o → job_in cores' o ≡ job_in cores o

@@ -1,5 +1,5 @@
 -- A slot is filled.
-use Rattle.std.proofs.Common.{◌≡◌, ◌≢◌, ◌⊎◌, ℕ, ◌<◌, ◌==◌, Bool, true, false, if◌then◌else◌, List, length, Option, Some, None, refl, sym, ◌∙◌, ap, subst, inl, inr, arith, get_or, ◌++◌, ◌∷◌, []}
+use Rattle.std.proofs.Common.{◌≡◌, ◌≢◌, ◌⊎◌, ℕ, ◌<◌, ◌≤◌, ◌+◌, ◌==◌, Bool, true, false, if◌then◌else◌, List, length, Option, Some, None, refl, sym, ◌∙◌, ap, subst, inl, inr, arith, get_or, ◌++◌, ◌∷◌, []}
 use Rattle.std.proofs.lemmas.Bool.{eqb-true}
 use Rattle.std.proofs.lemmas.List.{get_or_past}
 use Rattle.answers.specs.Answers.Answer.{Memory}
@@ -10,7 +10,8 @@ use Rattle.desk.specs.declared.slot.Standing.TheVariants.{Going}
 use Rattle.desk.specs.Places.{place_of}
 use Rattle.desk.specs.Slots.{job_of, StandsBeside}
 use Rattle.desk.specs.Machine.{fresh}
-use Rattle.desk.specs.Desks.{core_at, slot_at, seen, job_in, jobs_in, job_at, state_of, IsDesk, HasSlot, IsWith, NoneAsFarIn, IsCoreOf, IsCoreFor, HasNoCore}
+use Rattle.desk.specs.Desks.{core_at, slot_at, seen, job_in, jobs_in, job_at, state_of, IsDesk, HasSlot, IsWith, NoneAsFarIn, IsCoreOf, IsCoreFor, HasNoCore, GrowsAtNeed}
+use Rattle.desk.proofs.Few.{few_used, all_taken}
 use Rattle.desk.proofs.Lists.{push_case, with_here, with_other}
 use Rattle.desk.proofs.Seen.{is_seen, job_at_place}
 
@@ -144,13 +145,23 @@ module _ (places places' : List (Option Slot)) (cores cores' : List (Option JobV
     )
     used_filled l (inr old) = kept_case l old.0 old.1 old.2 old.3 (i == old.0) refl
 
-    pub desk_filled : IsDesk places' cores'
-    desk_filled = record {
+    pub desk_filled : length cores' ≤ length places' → IsDesk places' cores'
+    desk_filled few = record {
       held = λ j r at. filled_case j r at (i == j) refl;
       used = λ l a at. used_filled l (found.used l a at);
       sound = found.sound;
       apart = found.apart;
+      few = few;
     }
+
+    -- where the cores took a new place, each of their places has a core, and so a slot
+    pub few_filled : IsCoreFor cores bytes limit k cores' → GrowsAtNeed cores cores'
+        → length cores ≤ length places → length places' ≡ length places
+        → length cores' ≤ length places'
+    few_filled is (inl same) few long = omega arith
+    few_filled is (inr more) few long =
+        few_used places' cores' (λ q l. let (a, at) = all_taken cores cores' bytes limit k more is q l in
+        used_filled q (found.used q a at))
 
     old_case : (j : ℕ) (o : Option Slot) → slot_at places j ≡ o → job_in cores' o ≡ job_in cores o
     old_case j None at = refl
@@ -218,6 +229,7 @@ empty_desk places cores empty none = record {
   sound = λ k core at. let e : core_at cores k ≡ None = nothing_in cores k none in absurd (cc);
   apart = λ k l a b at bt x y. let e : core_at cores k ≡ None = nothing_in cores k none in
       absurd (cc);
+  few = let e : length cores ≡ 0 = ap (λ (l : List (Option JobView)). length l) none in omega arith;
 }
 
 empty_at : (places : List (Option Slot)) (cores : List (Option JobView))

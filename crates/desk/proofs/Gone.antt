@@ -1,7 +1,7 @@
 -- A slot has gone on, and with it its core.
 use Rattle.std.proofs.Common.{◌≡◌, ◌≢◌, ℕ, ◌+◌, ◌<◌, ◌≤◌, ◌==◌, Bool, true, false, if◌then◌else◌, List, length, Option, Some, None, refl, sym, ◌∙◌, ap, subst, inl, inr, arith, get_or, set, nat_lt, min}
 use Rattle.std.proofs.lemmas.Bool.{eqb-true}
-use Rattle.std.proofs.lemmas.List.{get_or_past, get_or_default}
+use Rattle.std.proofs.lemmas.List.{get_or_past, get_or_default, length-set}
 use Rattle.std.proofs.lemmas.Grind.{common_steps}
 use Rattle.answers.specs.Answers.{Answer}
 use Rattle.answers.specs.Answers.Answer.{Memory}
@@ -13,7 +13,8 @@ use Rattle.desk.specs.declared.slot.Standing.TheVariants.{Going, Ended, Starved}
 use Rattle.desk.specs.Slots.{ending, job_of, StandsBeside, IsFurthest, HasGoneOn}
 use Rattle.desk.specs.Machine.{starved, worked, worked_on}
 use Rattle.desk.specs.Desks.{core_at, slot_at, seen, job_in, jobs_in, IsDesk, HasSlot, IsWith, NoneAsFarIn, HaveWorked}
-use Rattle.desk.proofs.Lists.{with_here, with_other, with_set}
+use Rattle.desk.proofs.Few.{few_still}
+use Rattle.desk.proofs.Lists.{with_here, with_other, with_set, some_within}
 use Rattle.desk.proofs.Seen.{is_seen, job_at_place}
 
 beside_same : (d : Standing) (spent : ℕ) (core new : JobView) → new.bytes ≡ core.bytes
@@ -53,6 +54,7 @@ pub record IsChange (places places' : List (Option Slot)) (cores cores' : List (
   pub core_is : core_at cores s.core ≡ Some core
   pub places_are : IsWith places i (Some t) places'
   pub cores_are : IsWith cores s.core (Some new) cores'
+  pub few : length cores' ≤ length places'
 
 module _ (places places' : List (Option Slot)) (cores cores' : List (Option JobView)) (i : ℕ)
     (s t : Slot) (core new : JobView)
@@ -145,6 +147,7 @@ module _ (places places' : List (Option Slot)) (cores cores' : List (Option JobV
         let y = key_case l b bt (s.core == l) refl in
         change.desk.apart k l x.0 y.0 x.1 y.1 (sym x.2 ∙ (same_bytes ∙ y.2))
         (sym x.3 ∙ (same_limit ∙ y.3));
+    few = change.few;
   }
 
   -- the jobs that are seen: that of the place is the new slot's, and no other's changes
@@ -250,17 +253,6 @@ module _ (places places' : List (Option Slot)) (cores cores' : List (Option JobV
 
 -- What a call that works a job knows before and after
 
-some_within_case : {X : Type 0} (xs : List (Option X)) (i : ℕ) (x : X) → get_or xs i None ≡ Some x
-    → (b : Bool) → nat_lt i (length xs) ≡ b → i < length xs
-some_within_case xs i x e true t = grind (arith, common_steps)
-some_within_case xs i x e false f =
-    let past : get_or xs i None ≡ None = get_or_past xs i None (grind (arith, common_steps)) in
-    absurd (cc)
-
-pub some_within : {X : Type 0} (xs : List (Option X)) (i : ℕ) (x : X) → get_or xs i None ≡ Some x
-    → i < length xs
-some_within xs i x e = some_within_case xs i x e (nat_lt i (length xs)) refl
-
 pub is_change : (places : List (Option Slot)) (cores : List (Option JobView)) (i : ℕ) (s t : Slot)
     (core new : JobView) (d : Option JobView)
     → IsDesk places cores → get_or places i None ≡ Some s → get_or cores s.core d ≡ Some core
@@ -274,6 +266,9 @@ is_change places cores i s t core new d desk at found =
       core_is = get_or_default cores s.core None d within ∙ found;
       places_are = with_set places i (Some t) (some_within places i s at);
       cores_are = with_set cores s.core (Some new) within;
+      few =
+          few_still places cores (set cores s.core (Some new)) i (Some t) desk.few
+          (length-set cores s.core (Some new));
     }
 
 pub core_within : (places : List (Option Slot)) (cores : List (Option JobView)) (i : ℕ) (s : Slot)

@@ -1,4 +1,5 @@
 pub mod Lists
+pub mod Few
 pub mod Places
 pub mod Seen
 pub mod Gone

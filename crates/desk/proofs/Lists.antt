@@ -1,5 +1,5 @@
 -- Lists with one item changed.
-use Rattle.std.proofs.Common.{◌≡◌, ◌≢◌, ℕ, ◌+◌, ◌<◌, ◌==◌, Bool, true, false, if◌then◌else◌, List, length, Option, None, refl, sym, ◌∙◌, ap, inl, inr, arith, get_or, set, nat_lt, ◌++◌, ◌∷◌, [], length-append, Result, Ok, Err, OnErr, zero, suc, replicate}
+use Rattle.std.proofs.Common.{◌≡◌, ◌≢◌, ℕ, ◌+◌, ◌<◌, ◌==◌, Bool, true, false, if◌then◌else◌, List, length, Option, Some, None, refl, sym, ◌∙◌, ap, inl, inr, arith, get_or, set, nat_lt, ◌++◌, ◌∷◌, [], length-append, Result, Ok, Err, OnErr, zero, suc, replicate}
 use Rattle.std.proofs.lemmas.Bool.{eqb-true, eq-eqb}
 use Rattle.std.proofs.lemmas.Bool.Decides.{eqb_tells}
 use Rattle.std.proofs.lemmas.List.{get_or-set_same, get_or-set_other, get_or_past, get_or_append_left}
@@ -67,3 +67,14 @@ none_at_all n i = none_at n i
 pub on_err : {X E : Type 0} (P : Type 0) (r : Result X E) → P → OnErr r P
 on_err P (Ok x) p = tt
 on_err P (Err e) p = p
+
+some_within_case : {X : Type 0} (xs : List (Option X)) (i : ℕ) (x : X) → get_or xs i None ≡ Some x
+    → (b : Bool) → nat_lt i (length xs) ≡ b → i < length xs
+some_within_case xs i x e true t = grind (arith, common_steps)
+some_within_case xs i x e false f =
+    let past : get_or xs i None ≡ None = get_or_past xs i None (grind (arith, common_steps)) in
+    absurd (cc)
+
+pub some_within : {X : Type 0} (xs : List (Option X)) (i : ℕ) (x : X) → get_or xs i None ≡ Some x
+    → i < length xs
+some_within xs i x e = some_within_case xs i x e (nat_lt i (length xs)) refl

@@ -1,5 +1,5 @@
 -- What a desk holds, and the machine's state that it stands for.
-use Rattle.std.specs.Prelude.{◌≡◌, ◌≢◌, ◌⊎◌, ℕ, ◌+◌, ◌≤◌, ◌==◌, if◌then◌else◌, List, Option, Some, None, slice_index_or, map, min}
+use Rattle.std.specs.Prelude.{◌≡◌, ◌≢◌, ◌⊎◌, ℕ, ◌+◌, ◌<◌, ◌≤◌, ◌==◌, if◌then◌else◌, List, length, Option, Some, None, slice_index_or, map, min}
 use Rattle.answers.specs.Answers.Answer.{Memory}
 use Rattle.checker.specs.JobViews.{JobView}
 use Rattle.checker.specs.Turns.{cost, verdict}
@@ -49,7 +49,8 @@ abbrev pub HasSlot : List (Option Slot) → ℕ → Type 0
 HasSlot places k = (i : ℕ) × (s : Slot) × (slot_at places i ≡ Some s) × (s.core ≡ k)
 
 -- Each job has a core, beside which it stands, and each core a job; no core has ended for want of
--- memory, and no two have the same bytes and limit.
+-- memory, no two have the same bytes and limit, and there are no more places for cores than for
+-- jobs.
 pub record IsDesk (places : List (Option Slot)) (cores : List (Option JobView)) : Type 0 where
   pub held : (i : ℕ) (s : Slot) → slot_at places i ≡ Some s
       → (core : JobView) × (core_at cores s.core ≡ Some core) × StandsBeside s.standing s.spent core
@@ -57,6 +58,7 @@ pub record IsDesk (places : List (Option Slot)) (cores : List (Option JobView)) 
   pub sound : (k : ℕ) (core : JobView) → core_at cores k ≡ Some core → core.ended ≢ Some Memory
   pub apart : (k l : ℕ) (a b : JobView) → core_at cores k ≡ Some a → core_at cores l ≡ Some b
       → a.bytes ≡ b.bytes → a.limit ≡ b.limit → k ≡ l
+  pub few : length cores ≤ length places
 
 -- the list with x at this place, and the others as they were
 abbrev pub IsWith : {X : Type 0} → List (Option X) → ℕ → Option X → List (Option X) → Type 0
@@ -102,6 +104,12 @@ IsCoreOf cores bytes limit k = (core : JobView) × (core_at cores k ≡ Some cor
 abbrev pub HasNoCore : List (Option JobView) → List ℕ → ℕ → Type 0
 HasNoCore cores bytes limit = (k : ℕ) (core : JobView) → core_at cores k ≡ Some core
     → core.bytes ≡ bytes → core.limit ≡ limit → ⊥
+
+-- There are as many places for cores as before, or one more where none of them was vacant.
+abbrev pub GrowsAtNeed : List (Option JobView) → List (Option JobView) → Type 0
+GrowsAtNeed old new =
+    (length new ≡ length old)
+    ⊎ ((length new ≡ length old + 1) × ((k : ℕ) → k < length old → core_at old k ≢ None))
 
 -- Core k is that of these bytes and this limit: the one that was there, or a new one where there
 -- was none.

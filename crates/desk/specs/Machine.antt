@@ -2,14 +2,13 @@
 -- answered. This project's own. A check is known by two functions of its bytes and limit alone:
 -- what it costs, in units, and its verdict.
 use Rattle.std.specs.Prelude.{◌≡◌, ◌≢◌, ◌⊎◌, ℕ, ◌+◌, ◌≤◌, ◌==◌, nat_lt, Bool, true, false, if◌then◌else◌, List, Option, Some, None, min}
-use Rattle.misere_theory.specs.Certificates.{Certificate, IsHeapOf}
-use Rattle.misere_theory.specs.Games.{IsPosition}
+use Rattle.misere_theory.specs.Certificates.{Certificate}
 use Rattle.positions.specs.Outcomes.{HasOutcome}
 use Rattle.positions.specs.declared.outcome.Outcome.{Outcome}
 use Rattle.answers.specs.Answers.{Answer}
 use Rattle.answers.specs.Answers.Answer.{Yes, Memory}
 use Rattle.checker.specs.JobViews.{JobView}
-use Rattle.player.specs.Answers.{IsRightAnswer}
+use Rattle.player.specs.Answers.{IsRightAnswer, SpeaksOf}
 use Rattle.player.specs.declared.answering.Answer.{Answer as Advice}
 
 -- a client's open jobs, by their numbers 1 to 4
@@ -83,23 +82,20 @@ abbrev pub Drops : Jobs → ℕ → Option JobView → Reply → Jobs → Type 0
 Drops old number (Some job) reply new = (reply ≡ Dropped) × (new ≡ with_job old number None)
 Drops old number None reply new = (reply ≡ NoJob) × (new ≡ old)
 
--- The certificate speaks of each heap of the position.
-abbrev pub Fits : Certificate → List ℕ → Type 0
-Fits c X = IsPosition (IsHeapOf c) X
-
--- It is partial, and speaks not of each heap, which is the reply.
+-- The certificate is partial, and some heap of the position is one of which it doesn't speak; the
+-- reply says so.
 abbrev pub IsBeyond : Certificate → List ℕ → Reply → Type 0
-IsBeyond c X reply = (c.period ≡ 0) × (Fits c X → ⊥) × (reply ≡ Beyond)
+IsBeyond c X reply = (c.period ≡ 0) × (SpeaksOf c X → ⊥) × (reply ≡ Beyond)
 
--- the outcome of a position that fits
+-- the outcome of a position of which it speaks
 abbrev pub Told : Certificate → List ℕ → Reply → Type 0
-Told c X reply = Fits c X × ((o : Outcome) × (reply ≡ Tells o) × HasOutcome c.code X o)
+Told c X reply = SpeaksOf c X × ((o : Outcome) × (reply ≡ Tells o) × HasOutcome c.code X o)
 
 -- what to play in it
 abbrev pub Advised : Certificate → List ℕ → Reply → Type 0
-Advised c X reply = Fits c X × ((a : Advice) × (reply ≡ Advises a) × IsRightAnswer c.code X a)
+Advised c X reply = SpeaksOf c X × ((a : Advice) × (reply ≡ Advises a) × IsRightAnswer c.code X a)
 
--- the outcome of a position by a job that has ended with yes, where the position fits
+-- the outcome of a position by a job that has ended with yes, of which the certificate speaks
 abbrev pub Outcomes : Option Answer → List ℕ → Reply → Type 0
 Outcomes (Some (Yes c)) X reply = Told c X reply ⊎ IsBeyond c X reply
 Outcomes other X reply = reply ≡ NotCertified

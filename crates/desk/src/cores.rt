@@ -1,7 +1,7 @@
 //! The checks that jobs share: one for each bytes and limit.
-ghost use Rattle.std.specs.Prelude.{◌≡◌, ◌≢◌, ◌<◌, ◌↔◌, ◌⊎◌, ℕ, None, length, IsTrue};
-ghost use Rattle.std.specs.Prelude.{IfOk, OnErr, IfSome, IfNone};
-ghost use Rattle.desk.specs.Desks.{IsWith, IsCoreFor, IsCoreOf, HasNoCore, core_at};
+ghost use Rattle.std.specs.Prelude.{◌≡◌, ◌≢◌, ◌<◌, ◌↔◌, ℕ, None, length, IsTrue};
+ghost use Rattle.std.specs.Prelude.{IfOk, OnOk, OnErr, IfSome, IfNone};
+ghost use Rattle.desk.specs.Desks.{IsWith, IsCoreFor, IsCoreOf, HasNoCore, GrowsAtNeed, core_at};
 
 use allocation::{Memory, Room};
 use checker::Job;
@@ -16,9 +16,7 @@ pub(crate) fn core_for<A: Room + Copy>(
     limit: u32,
 ) -> Result<usize, Memory>
     ensures ok { IfOk result (λ k. IsCoreFor cores.old.items bytes.items limit k cores.new.items) }
-    ensures reuses { IfOk result (λ k. (cores.new.items ≡ cores.old.items)
-        ⊎ ((k < length cores.old.items)
-        ⊎ ((i : ℕ) → i < length cores.old.items → core_at cores.old.items i ≢ None))) }
+    ensures grows { OnOk result (GrowsAtNeed cores.old.items cores.new.items) }
     ensures err { OnErr result ((cores.new.items ≡ cores.old.items)
         × HasNoCore cores.old.items bytes.items limit) }
 {
@@ -37,7 +35,8 @@ pub(crate) fn core_for<A: Room + Copy>(
 /// Puts a core at a place, or none. What stood there is given up.
 pub(crate) fn put<A: Room>(cores: &mut Vec<Option<Job<A>>, A>, place: usize, core: Option<Job<A>>)
     requires { place < length cores.old.items }
-    ensures { IsWith cores.old.items place core cores.new.items }
+    ensures placed { IsWith cores.old.items place core cores.new.items }
+    ensures length { length cores.new.items ≡ length cores.old.items }
 {
     drop(mem::replace(&mut cores[place], core));
 }

@@ -1,10 +1,9 @@
 -- What is said in a position, by the quotient that a file certifies, and why nothing is. This
 -- project's own.
 use Rattle.std.specs.Prelude.{◌≡◌, ◌<◌, ◌⊎◌, ⊤, ℕ, Bool, true, false, List, Option, Result, Ok, Err, Vec}
-use Rattle.misere_theory.specs.Certificates.{Certificate, IsHeapOf}
-use Rattle.misere_theory.specs.Games.{IsPosition}
+use Rattle.misere_theory.specs.Certificates.{Certificate}
 use Rattle.positions.specs.Text.{IsNoPositionText, IsTextOf, HasTooMany, HasTooLarge}
-use Rattle.player.specs.Answers.{IsRightAnswer}
+use Rattle.player.specs.Answers.{IsRightAnswer, SpeaksOf}
 use Rattle.player.specs.declared.answering.Answer.{Answer}
 use Rattle.check_command.specs.Checks.{Certifies, SaysOfFile}
 use Rattle.command_results.specs.declared.stop.Stop.{Stop}
@@ -15,17 +14,14 @@ use Rattle.play_command.specs.Lines.{answer_line, beyond_line}
 abbrev pub AnswersIn : Certificate → List ℕ → List ℕ → Type 0
 AnswersIn c X text = (answer : Answer) × IsRightAnswer c.code X answer × (text ≡ answer_line answer)
 
--- The certificate speaks of each heap of the position.
-abbrev pub Fits : Certificate → List ℕ → Type 0
-Fits c X = IsPosition (IsHeapOf c) X
-
--- It is partial, and speaks not of each heap of the position, which the text says.
+-- The certificate is partial, and some heap of the position is one of which it doesn't speak; the
+-- text says so.
 abbrev pub IsBeyond : Certificate → List ℕ → List ℕ → Type 0
-IsBeyond c X text = (c.period ≡ 0) × (Fits c X → ⊥) × (text ≡ beyond_line)
+IsBeyond c X text = (c.period ≡ 0) × (SpeaksOf c X → ⊥) × (text ≡ beyond_line)
 
--- the answer where the position fits, and else that it doesn't
+-- the answer where the certificate speaks of the position, and else that it doesn't
 abbrev pub PlaysIn : Certificate → List ℕ → List ℕ → Bool → Type 0
-PlaysIn c X text true = Fits c X × AnswersIn c X text
+PlaysIn c X text true = SpeaksOf c X × AnswersIn c X text
 PlaysIn c X text false = IsBeyond c X text
 
 -- the same where a quotient was found, and the text of a no where none was
@@ -45,7 +41,7 @@ PlaysBeyond files file limit position text =
 abbrev pub Plays : Option (List ℕ → Option (List ℕ)) → List ℕ → ℕ → List ℕ → List ℕ → Bool → Type 0
 Plays files file limit position text true =
     (c : Certificate) × Certifies files file limit c
-    × ((X : List ℕ) × IsTextOf position X × Fits c X × AnswersIn c X text)
+    × ((X : List ℕ) × IsTextOf position X × SpeaksOf c X × AnswersIn c X text)
 Plays files file limit position text false =
     SaysOfFile files file limit text false ⊎ PlaysBeyond files file limit position text
 

@@ -1,8 +1,9 @@
 //! The answer in a position, out of a file.
 ghost use Rattle.std.specs.Prelude.{◌≡◌, ◌≤◌, true, false, IfOk, IfErr, IsErrOf};
 ghost use Rattle.positions.specs.Text.{IsTextOf};
+ghost use Rattle.player.specs.Answers.{SpeaksOf};
 ghost use Rattle.play_command.specs.Lines.{beyond_line};
-ghost use Rattle.play_command.specs.Plays.{AnswersIn, Fits, IsPlayCause, IsPositionCause, Plays, PlaysFound, PlaysIn};
+ghost use Rattle.play_command.specs.Plays.{AnswersIn, IsPlayCause, IsPositionCause, Plays, PlaysFound, PlaysIn};
 
 use crate::lines::{answer_text, beyond_text};
 use answers::Certified;
@@ -29,7 +30,7 @@ fn position_of(alloc: Global, text: &str) -> Result<Position, Stop<'static>>
 
 /// The line of the answer in the position, of which the certificate speaks.
 fn answered(alloc: Global, certified: &Certified, position: &Position) -> Result<Said, AllocError>
-    requires { Fits certified.now position.now }
+    requires { SpeaksOf certified.now position.now }
     ensures answered { IfOk result (λ s. AnswersIn certified.now position.now s.text.items) }
     ensures well { IfOk result (λ s. s.well ≡ true) }
 {

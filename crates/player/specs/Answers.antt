@@ -1,11 +1,16 @@
 -- What a player answers in a position, and when the answer is right. This project's own.
 use Rattle.std.specs.Prelude.{◌≡◌, ◌↔◌, ℕ, List}
-use Rattle.misere_theory.specs.Games.{Move, HeapMove, IsP}
+use Rattle.misere_theory.specs.Certificates.{Certificate, IsHeapOf}
+use Rattle.misere_theory.specs.Games.{IsPosition, Move, HeapMove, IsP}
 use Rattle.misere_theory.specs.Plays.{IsFirstWin, Keeps}
 use Rattle.heap_options.specs.Exact.{heaps_of}
 use Rattle.positions.specs.declared.moves.Move.{Move as MoveMade}
 use Rattle.player.specs.declared.answering.Answer.{Answer}
 use Rattle.player.specs.declared.answering.Answer.TheVariants.{Ended, Lost, Wins}
+
+-- The certificate speaks of each heap of the position.
+abbrev pub SpeaksOf : Certificate → List ℕ → Type 0
+SpeaksOf c X = IsPosition (IsHeapOf c) X
 
 -- The move is the first winning one, and whoever makes it, and answers each move by the first
 -- winning one, wins.

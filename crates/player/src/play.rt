@@ -1,7 +1,7 @@
 //! What a certified quotient says of positions.
 ghost use Rattle.std.specs.Prelude.{◌≡◌, ◌↔◌, ◌<◌, ◌≤◌, ◌+◌, ◌-◌, ◌*◌, ℕ, List, All, IsTrue, Contains, AllPairs, IsPermutation, length};
-ghost use Rattle.misere_theory.specs.Certificates.{IsHeapOf, kind_of, claim_of};
-ghost use Rattle.misere_theory.specs.Games.{HeapOption, IsPosition};
+ghost use Rattle.misere_theory.specs.Certificates.{kind_of, claim_of};
+ghost use Rattle.misere_theory.specs.Games.{HeapOption};
 ghost use Rattle.misere_theory.specs.Pairs.{IsSmallSplit};
 ghost use Rattle.misere_theory.specs.Plays.{LeftBefore};
 ghost use Rattle.misere_theory.specs.Quotients.{value};
@@ -9,7 +9,7 @@ ghost use Rattle.positions.specs.Outcomes.{HasOutcome};
 ghost use Rattle.heap_options.specs.Exact.{heaps_of, IsInOrder};
 ghost use Rattle.heap_options.specs.Options.{options_up_to};
 ghost use Rattle.heap_options.specs.declared.left.Left.{Left};
-ghost use Rattle.player.specs.Answers.{IsRightAnswer};
+ghost use Rattle.player.specs.Answers.{IsRightAnswer, SpeaksOf};
 ghost use Rattle.player.specs.Looks.{IsFirstInto, most_looks};
 
 use crate::answering::{Answer, answer_at};
@@ -28,7 +28,7 @@ fn are_up_to(heaps: &[u64], last: u64) -> bool
 
 /// Whether the certificate speaks of each heap of the position. A full one speaks of all.
 pub fn fits<A: Allocator, B: Room>(certified: &Certified<A>, position: &Position<B>) -> bool
-    ensures fits { IsTrue result ↔ IsPosition (IsHeapOf certified.now) position.now }
+    ensures fits { IsTrue result ↔ SpeaksOf certified.now position.now }
     ensures full { 1 ≤ certified.now.period → IsTrue result }
 {
     let last = certified.cert().heaps();
@@ -40,18 +40,20 @@ pub fn fits<A: Allocator, B: Room>(certified: &Certified<A>, position: &Position
     }
 }
 
-/// The element of the quotient that is the position's: the product of its heaps' elements.
+/// The element of the quotient that is the position's: the product of its heaps' elements. Asks that
+/// the certificate speaks of the position, as `fits` tells.
 pub fn value<A: Allocator, B: Room>(certified: &Certified<A>, position: &Position<B>) -> u16
-    requires fits { IsPosition (IsHeapOf certified.now) position.now }
+    requires fits { SpeaksOf certified.now position.now }
     ensures value { result ≡ value (claim_of certified.now) position.now }
     ensures within { result < certified.now.order }
 {
     certified.value(position.heaps())
 }
 
-/// Who wins from the position under misère play.
+/// Who wins from the position under misère play. Asks that the certificate speaks of the position, as
+/// `fits` tells.
 pub fn outcome<A: Allocator, B: Room>(certified: &Certified<A>, position: &Position<B>) -> Outcome
-    requires fits { IsPosition (IsHeapOf certified.now) position.now }
+    requires fits { SpeaksOf certified.now position.now }
     ensures { HasOutcome certified.now.code position.now result }
 {
     if certified.holds(certified.value(position.heaps())) {
@@ -67,9 +69,9 @@ pub fn outcome<A: Allocator, B: Room>(certified: &Certified<A>, position: &Posit
 /// time and wins, whatever he moves.
 ///
 /// Of a heap only its `looks` are tried, so a heap of any size is answered at once. It takes no
-/// memory.
+/// memory. Asks that the certificate speaks of the position, as `fits` tells.
 pub fn answer<A: Allocator, B: Room>(certified: &Certified<A>, position: &Position<B>) -> Answer
-    requires position { IsPosition (IsHeapOf certified.now) position.now }
+    requires fits { SpeaksOf certified.now position.now }
     ensures { IsRightAnswer certified.now.code position.now result }
 {
     answer_at(certified, position.heaps())
@@ -78,10 +80,9 @@ pub fn answer<A: Allocator, B: Room>(certified: &Certified<A>, position: &Positi
 /// The options of the heap n that a player looks at, in their order: all but the splits and the
 /// triples of which a part but the largest is start + period or more. There are at most (k + 1)(start
 /// + period + 1) of them, for the last digit dk of the code, or (k + 1)(start + period + 1)² where
-/// some digit has bit 8, however large the heap is. Each is an option of the heap,
-/// none stands there twice, and they are in the order of moves. Whatever stands beside the heap,
-/// the first option that makes a P-position is among them. Under a partial certificate the heap is one
-/// of which it speaks.
+/// some digit has bit 8, however large the heap is. Each is an option of the heap, none stands there
+/// twice, and they are in the order of moves. Whatever stands beside the heap, the first option that
+/// makes a P-position is among them. Of a partial certificate it asks that it speaks of the heap.
 pub fn looks<A: Allocator>(certified: &Certified<A>, n: u64) -> Options
     requires { 0 < kind_of certified.now → n ≤ kind_of certified.now }
     ensures list { result ≡ options_up_to certified.now.code n

@@ -22,7 +22,7 @@ returns-in-Some-vacancy-clause-ok g c =
     subst (λ (b : List ℕ). HasNoCore cores b c.args.limit) c.deref.ensures.value
     c.in_default.ensures.none in
     let P : Option JobView → Type 0 = λ new. IsWith cores k new c.put.new.cores.items in
-    inr (none, c.in-Some-vacancy.ensures.some.1, subst P (ap Some c.open.ensures) c.put.ensures)
+    inr (none, c.in-Some-vacancy.ensures.some.1, subst P (ap Some c.open.ensures) c.put.ensures.placed)
 
 pub returns-clause-ok : goal.returns-clause-ok
 returns-clause-ok g c =

@@ -1,5 +1,6 @@
 use Rattle.std.proofs.Common.{refl, ◌<◌, length, arith, None}
 use Rattle.desk.proofs.Emptied.{desk_emptied, jobs_emptied, stay_without, only_without, used_without, used_held}
+use Rattle.desk.proofs.Few.{few_still}
 use Rattle.desk.proofs.Gone.{core_within}
 use Rattle.desk.proofs.Lists.{with_set}
 use Rattle.desk.proofs.jobs.give_up_at.Goals as goal
@@ -18,12 +19,13 @@ returns-then-not-is_held-clause-desk g c =
     let cores = c.args.cores.now.items in
     let k = c.in-Some.slot.core in
     let emptied = with_set places c.args.place None c.requires.place in
-    let gone = c.put.ensures in
+    let gone = c.put.ensures.placed in
     let free = c.if-not-is_held.ensures.none refl in
     desk_emptied places _ cores _ c.args.place c.requires.desk emptied
     (stay_without _ cores _ k gone free) (only_without _ cores _ k gone free)
     (used_without places _ cores c.args.place c.in-Some.slot c.requires.desk c.in-Some.is emptied _
     gone)
+    (few_still places cores _ c.args.place None c.requires.desk.few c.put.ensures.length)
 
 pub returns-then-not-is_held-clause-jobs : goal.returns-then-not-is_held-clause-jobs
 returns-then-not-is_held-clause-jobs g c =
@@ -31,7 +33,7 @@ returns-then-not-is_held-clause-jobs g c =
     let cores = c.args.cores.now.items in
     let k = c.in-Some.slot.core in
     let emptied = with_set places c.args.place None c.requires.place in
-    let gone = c.put.ensures in
+    let gone = c.put.ensures.placed in
     let free = c.if-not-is_held.ensures.none refl in
     λ yes. jobs_emptied places _ cores _ c.args.place c.requires.desk emptied
     (stay_without _ cores _ k gone free) (only_without _ cores _ k gone free)
@@ -47,6 +49,7 @@ returns-else-not-is_held-clause-desk g c =
     (λ k a at. at)
     (used_held places _ cores c.args.place c.in-Some.slot c.requires.desk c.in-Some.is emptied
     (c.if-not-is_held.ensures.some refl))
+    (few_still places cores cores c.args.place None c.requires.desk.few refl)
 
 pub returns-else-not-is_held-clause-jobs : goal.returns-else-not-is_held-clause-jobs
 returns-else-not-is_held-clause-jobs g c =

@@ -1,0 +1,78 @@
+-- There are no more places for cores than for jobs.
+use Rattle.std.proofs.Common.{◌≡◌, ◌≢◌, ◌⊎◌, ℕ, ◌+◌, ◌<◌, ◌≤◌, ◌==◌, Bool, true, false, List, length, map, Option, Some, None, refl, sym, ◌∙◌, ap, inl, inr, arith, get_or, set, eqb}
+use Rattle.std.proofs.lemmas.Bool.{eqb-true, eq-eqb}
+use Rattle.std.proofs.lemmas.List.{get_or-map, length-map, length-set}
+use Rattle.std.proofs.lemmas.List.Folds.{list_any_at}
+use Rattle.std.proofs.lemmas.Map.Steps.{le-length_from_below}
+use Rattle.checker.specs.JobViews.{JobView}
+use Rattle.desk.specs.declared.slot.Slot.{Slot}
+use Rattle.desk.specs.Machine.{fresh}
+use Rattle.desk.specs.Desks.{core_at, slot_at, HasSlot, HasNoCore, IsCoreFor, GrowsAtNeed, IsWith}
+use Rattle.desk.proofs.Lists.{some_within, with_here, with_other}
+use native.Mathlib.Decide.{dec_lt}
+
+core_of : Option Slot → ℕ
+core_of None = 0
+core_of (Some s) = s.core
+
+-- where each place of a core has a slot
+pub few_used : (places : List (Option Slot)) (cores : List (Option JobView))
+    → ((k : ℕ) → k < length cores → HasSlot places k) → length cores ≤ length places
+few_used places cores used =
+    let numbers = map core_of places in
+    let long : length numbers ≡ length places = length-map places core_of in
+    let few : length cores ≤ length numbers =
+    le-length_from_below numbers (length cores) (λ q l.
+    let (i, s, at, has) = used q l in
+    let within : i < length places = some_within places i s at in
+    let is : get_or numbers i 0 ≡ q =
+    get_or-map core_of places i None 0 within ∙ (ap core_of at ∙ has) in
+    list_any_at (eqb q) numbers i 0 (omega arith) (eq-eqb q (get_or numbers i 0) (sym is))) in
+    omega arith
+
+-- a slot is changed, and the cores have as many places as before
+pub few_still : (places : List (Option Slot)) (cores cores' : List (Option JobView)) (i : ℕ)
+    (t : Option Slot) → length cores ≤ length places → length cores' ≡ length cores
+    → length cores' ≤ length (set places i t)
+few_still places cores cores' i t few same = let long = length-set places i t in omega arith
+
+module _ (cores cores' : List (Option JobView)) (bytes : List ℕ) (limit k : ℕ)
+    (more : (length cores' ≡ length cores + 1)
+    × ((l : ℕ) → l < length cores → core_at cores l ≢ None)) where
+  -- a core that isn't none is some
+  some_core : (o : Option JobView) → o ≢ None → (a : JobView) × (o ≡ Some a)
+  some_core None some = absurd (some refl)
+  some_core (Some a) some = (a, refl)
+
+  taken_case : core_at cores k ≡ None → IsWith cores k (Some (fresh bytes limit)) cores'
+      → (q : ℕ) → q < length cores' → (b : Bool) → (k == q) ≡ b
+      → (a : JobView) × (core_at cores' q ≡ Some a)
+  taken_case free added q l true e = (
+    fresh bytes limit,
+    ap (λ n. core_at cores' n) (sym (eqb-true k q e))
+        ∙ with_here cores cores' k (Some (fresh bytes limit)) added,
+  )
+  taken_case free added q l false e =
+      let other = with_other cores cores' k q (Some (fresh bytes limit)) added e in
+      elim (dec_lt q (length cores)) [
+        | yes within ↦ let (a, at) = some_core (core_at cores q) (more.1 q within) in (a, other ∙ at)
+        | no past ↦
+            let here : core_at cores' k ≡ Some (fresh bytes limit) =
+            with_here cores cores' k (Some (fresh bytes limit)) added in
+            let below : k < length cores' = some_within cores' k (fresh bytes limit) here in
+            let grown = more.0 in
+            elim (dec_lt k (length cores)) [
+              | yes inside ↦ absurd (more.1 k inside free)
+              | no outside ↦ let same : k ≡ q = omega arith in
+                  let t : (k == q) ≡ true = eq-eqb k q same in absurd (cc)
+            ]
+      ]
+
+  -- each place has a core, where there is one more
+  pub all_taken : IsCoreFor cores bytes limit k cores' → (q : ℕ) → q < length cores'
+      → (a : JobView) × (core_at cores' q ≡ Some a)
+  all_taken (inl old) q l =
+      let same : length cores' ≡ length cores = ap (λ (x : List (Option JobView)). length x) old.1 in
+      let grown = more.0 in
+      absurd (omega arith)
+  all_taken (inr new) q l = taken_case new.1 new.2 q l (k == q) refl
