@@ -289,23 +289,6 @@ alike true false f g = sym (f refl)
 alike false true f g = g refl
 alike false false f g = refl
 
-pub all_lanes : (all : fin.FinSet nat_cmp) (lanes row : List ℕ)
-    → ((q : ℕ) → IsTrue (fin.contains all q) ↔ IsImageBelow lanes (length lanes) row q)
-    → all ≡ translated (set_of lanes) row
-all_lanes all lanes row image = same_set nat_cmp_total nat_cmp-IsAntisymmetric all _ (λ q. alike _ _
-    (λ member. let i = (image q).0 member in
-    translated_to (set_of lanes) row i.0 q (contains-set_of lanes i.0 ∙ i.2) i.3)
-    (λ member.
-    let i = translated_from (set_of lanes) row q member in
-    let one : has lanes i.0 ≡ true = sym (contains-set_of lanes i.0) ∙ i.1 in
-    elim (cases_lt i.0 (64 * length lanes)) [
-      | inl low ↦ (image q).1 (i.0, low, one, i.2)
-      | inr past ↦ absurd (differ (sym one ∙ has_past lanes i.0 past))
-    ]))
-  where
-    differ : true ≡ false → ⊥
-    differ e = cc
-
 pub small_members : (lanes : List ℕ) (x : ℕ) → IsTrue (fin.contains (set_of lanes) x)
     → x < 64 * length lanes
 small_members lanes x member = elim (cases_lt x (64 * length lanes)) [
@@ -316,3 +299,32 @@ small_members lanes x member = elim (cases_lt x (64 * length lanes)) [
   where
     differ : true ≡ false → ⊥
     differ e = cc
+
+-- where no member stands past the first lanes
+lanes_so_far : (all : fin.FinSet nat_cmp) (lanes row : List ℕ) (n : ℕ)
+    → ((q : ℕ) → IsTrue (fin.contains all q) ↔ IsImageBelow lanes n row q)
+    → ((x : ℕ) → has lanes x ≡ true → x < 64 * n)
+    → all ≡ translated (set_of lanes) row
+lanes_so_far all lanes row n image below = same_set nat_cmp_total nat_cmp-IsAntisymmetric all _ (λ q. alike _ _
+    (λ member. let i = (image q).0 member in
+    translated_to (set_of lanes) row i.0 q (contains-set_of lanes i.0 ∙ i.2) i.3)
+    (λ member.
+    let i = translated_from (set_of lanes) row q member in
+    let one : has lanes i.0 ≡ true = sym (contains-set_of lanes i.0) ∙ i.1 in
+    (image q).1 (i.0, below i.0 one, one, i.2)))
+
+pub all_lanes : (all : fin.FinSet nat_cmp) (lanes row : List ℕ)
+    → ((q : ℕ) → IsTrue (fin.contains all q) ↔ IsImageBelow lanes (length lanes) row q)
+    → all ≡ translated (set_of lanes) row
+all_lanes all lanes row image =
+    lanes_so_far all lanes row (length lanes) image
+    (λ x one. small_members lanes x (contains-set_of lanes x ∙ one))
+
+-- or a row that has no entry there
+pub short_row : (all : fin.FinSet nat_cmp) (lanes row : List ℕ) (n : ℕ)
+    → CanTranslate (set_of lanes) row
+    → ((q : ℕ) → IsTrue (fin.contains all q) ↔ IsImageBelow lanes n row q)
+    → length row ≤ 64 * n → all ≡ translated (set_of lanes) row
+short_row all lanes row n can image short =
+    lanes_so_far all lanes row n image
+    (λ x one. let here = (can x (contains-set_of lanes x ∙ one)).0 in omega arith)

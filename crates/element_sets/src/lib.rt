@@ -140,6 +140,10 @@ impl ElementSet {
     {
         let mut all = ElementSet::new();
         for i in 0..LANES {
+            // No member of the later lanes has an entry in a short row.
+            if i == LANES / 2 && row.len() <= 64 * i {
+                return all;
+            }
             translate::add_lane(&mut all, self.lanes[i], 64 * i, row);
         }
         all
