@@ -1,3 +1,4 @@
 pub mod SpellLemmas
 pub mod ValueLemmas
 pub mod AnswerLemmas
+pub mod Due

@@ -1,13 +1,21 @@
 //! What checks bytes.
-ghost use Rattle.answers.specs.Answers.{answer_of, IsTrueOf};
+ghost use Rattle.std.specs.Prelude.{◌≡◌, ◌⊎◌, ℕ, List};
+ghost use Rattle.answers.specs.Answers.{Answer, answer_of, IsTrueOf};
+ghost use Rattle.answers.specs.Answers.Answer.{Memory};
 
 use crate::certified::Certified;
 use crate::refusal::Refusal;
 use allocation::Room;
 
-/// What checks bytes: whatever it answers is true of them.
+/// What checks bytes: whatever it answers is true of them, and is always the same, unless memory
+/// was refused.
 pub trait Checks<A: Room> {
+    /// The answer to the bytes under the limit.
+    ghost due: { Self → List ℕ → ℕ → Answer };
+
     /// Whether the bytes are an accepted certificate.
     fn check(&self, alloc: A, bytes: &[u8], limit: u32) -> Result<Certified<A>, Refusal<A>>
-        ensures { IsTrueOf bytes.now limit (answer_of result) };
+        ensures true_of { IsTrueOf bytes.now limit (answer_of result) }
+        ensures decided { (answer_of result ≡ due self.now bytes.now limit)
+            ⊎ (answer_of result ≡ Memory) };
 }
