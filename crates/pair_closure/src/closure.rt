@@ -156,8 +156,8 @@ impl<A: Room + Copy> Closure<A> {
         ensures ok { OnOk result (self.new ≡ moved self.old) }
         ensures err { OnErr result (self.new ≡ self.old) }
     {
-        let member = self.held[at];
-        let generator = self.generators[member.by];
+        let member = &self.held[at];
+        let generator = &self.generators[member.by];
         let pairs = Pairs { table: &self.table };
         let product = pairs.times(&member.pair, &generator.pair);
         let multiplied = Held {
