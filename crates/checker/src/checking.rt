@@ -26,6 +26,8 @@ pub fn check<A: Room + Copy>(alloc: A, bytes: &[u8], limit: u32) -> Result<Certi
 pub struct Checker;
 
 impl<A: Room + Copy> Checks<A> for Checker {
+    ghost due = { λ _. verdict };
+
     fn check(&self, alloc: A, bytes: &[u8], limit: u32) -> Result<Certified<A>, Refusal<A>> {
         check(alloc, bytes, limit)
     }
