@@ -2,6 +2,7 @@
 use Rattle.std.proofs.Common.{◌≡◌, ◌≤◌, ◌<◌, ◌∙◌, ◌++◌, ap, refl, ℕ, List, Option, Some, None, length, length-append, arith, codes, append-nil, unwrap_or}
 use Rattle.std.proofs.lemmas.Fmt.{decimal_digit}
 use Rattle.std.specs.Io.KnownBytes.{Consumes, IsAtEnd}
+use Rattle.answers.specs.Answers.{Answer}
 use Rattle.answers.specs.Answers.Answer.{Text}
 use Rattle.verdict_texts.specs.Lines.{no_line}
 use Rattle.verdict_texts.specs.Streams.{AreKnownAs, Answers, AnswersStream}
@@ -13,15 +14,15 @@ all_read None after v took end = tt
 all_read (Some xs) None v took end = absurd took
 all_read (Some xs) (Some ys) v took end = took ∙ ap (λ zs. v ++ zs) end ∙ append-nil v
 
-abbrev pub streamed : (left after : Option (List ℕ)) (v : List ℕ) (limit : ℕ)
-    → Consumes left after v → IsAtEnd after
-    → length v ≤ 4194304 → Answers v limit → AnswersStream left limit
-streamed left after v limit took end short a = record {
+abbrev pub streamed : (due : List ℕ → ℕ → Answer) (left after : Option (List ℕ)) (v : List ℕ)
+    (limit : ℕ) → Consumes left after v → IsAtEnd after
+    → length v ≤ 4194304 → Answers due v limit → AnswersStream due left limit
+streamed due left after v limit took end short a = record {
   bytes = v;
   known = all_read left after v took end;
   answer = a.answer;
   text = a.text;
-  true_of = record { long = λ h. absurd (omega (arith, h, short)); short = λ _. a.true_of };
+  true_of = record { long = λ h. absurd (omega (arith, h, short)); short = λ _. (a.true_of, a.decided) };
   told = a.told;
 }
 
@@ -35,9 +36,9 @@ longer None after v took = omega arith
 longer (Some xs) None v took = absurd took
 longer (Some xs) (Some ys) v took = rw took (omega (arith, length-append v ys))
 
-abbrev pub long_stream : (left after : Option (List ℕ)) (v : List ℕ) (limit : ℕ)
-    → Consumes left after v → 4194304 < length v → AnswersStream left limit
-long_stream left after v limit took big = record {
+abbrev pub long_stream : (due : List ℕ → ℕ → Answer) (left after : Option (List ℕ)) (v : List ℕ)
+    (limit : ℕ) → Consumes left after v → 4194304 < length v → AnswersStream due left limit
+long_stream due left after v limit took big = record {
   bytes = unwrap_or left v;
   known = known_or left v;
   answer = Text;

@@ -24,40 +24,46 @@ CountsReads before now (Err Memory) = now ≡ before
 abbrev pub ReadsEnough : Option (List ℕ) → Option (List ℕ) → Type 0
 ReadsEnough before after = (bytes : List ℕ) × Consumes before after bytes × (length bytes ≤ 4194305)
 
--- The answer to a stream of these bytes: more than 4194304 are no certificate.
-pub record IsStreamed (bytes : List ℕ) (limit : ℕ) (answer : Answer) : Type 0 where
-  pub long : 4194304 < length bytes → answer ≡ Text
-  pub short : length bytes ≤ 4194304 → IsTrueOf bytes limit answer
+-- The due answer to bytes under a limit is that of what checks them.
+module _ (due : List ℕ → ℕ → Answer) where
+  -- The answer to a stream of these bytes: more than 4194304 are no certificate.
+  pub record IsStreamed (bytes : List ℕ) (limit : ℕ) (answer : Answer) : Type 0 where
+    pub long : 4194304 < length bytes → answer ≡ Text
+    pub short : length bytes ≤ 4194304 → IsTrueOf bytes limit answer × (answer ≡ due bytes limit)
 
--- An answer that is true of the bytes, and its text.
-pub record Answers (bytes : List ℕ) (limit : ℕ) : Type 0 where
-  pub answer : Answer
-  pub text : List ℕ
-  pub true_of : IsTrueOf bytes limit answer
-  pub told : IsTextOf answer text
+  -- The due answer to the bytes under this limit, which is true of them, and its text.
+  pub record Answers (bytes : List ℕ) (limit : ℕ) : Type 0 where
+    pub answer : Answer
+    pub text : List ℕ
+    pub true_of : IsTrueOf bytes limit answer
+    pub decided : answer ≡ due bytes limit
+    pub told : IsTextOf answer text
 
--- An answer to the stream that had these bytes left, and its text.
-pub record AnswersStream (left : Option (List ℕ)) (limit : ℕ) : Type 0 where
-  pub bytes : List ℕ
-  pub known : AreKnownAs left bytes
-  pub answer : Answer
-  pub text : List ℕ
-  pub true_of : IsStreamed bytes limit answer
-  pub told : IsTextOf answer text
+  -- An answer to the stream that had these bytes left, and its text.
+  pub record AnswersStream (left : Option (List ℕ)) (limit : ℕ) : Type 0 where
+    pub bytes : List ℕ
+    pub known : AreKnownAs left bytes
+    pub answer : Answer
+    pub text : List ℕ
+    pub true_of : IsStreamed bytes limit answer
+    pub told : IsTextOf answer text
 
--- The text of a true answer went out, all of it, and yes is said exactly where the answer is yes.
-abbrev pub Writes : List ℕ → ℕ → Option (List ℕ) → Option (List ℕ) → Bool → Type 0
-Writes bytes limit before after accepted =
-    (a : Answers bytes limit) × Appends before after a.text × (accepted ≡ is_yes a.answer)
+  -- The text of the due answer went out, all of it, and yes is said exactly where the answer is
+  -- yes.
+  abbrev pub Writes : List ℕ → ℕ → Option (List ℕ) → Option (List ℕ) → Bool → Type 0
+  Writes bytes limit before after accepted =
+      (a : Answers bytes limit) × Appends before after a.text × (accepted ≡ is_yes a.answer)
 
--- A beginning of the text of a true answer went out.
-abbrev pub WritesSome : List ℕ → ℕ → Option (List ℕ) → Option (List ℕ) → Type 0
-WritesSome bytes limit before after = (a : Answers bytes limit) × AppendsSome before after a.text
+  -- A beginning of the text of the due answer went out.
+  abbrev pub WritesSome : List ℕ → ℕ → Option (List ℕ) → Option (List ℕ) → Type 0
+  WritesSome bytes limit before after = (a : Answers bytes limit) × AppendsSome before after a.text
 
-abbrev pub WritesOfStream : Option (List ℕ) → ℕ → Option (List ℕ) → Option (List ℕ) → Bool → Type 0
-WritesOfStream left limit before after accepted =
-    (a : AnswersStream left limit) × Appends before after a.text × (accepted ≡ is_yes a.answer)
+  -- the same for a stream that had these bytes left
+  abbrev pub WritesOfStream : Option (List ℕ) → ℕ → Option (List ℕ) → Option (List ℕ) → Bool
+      → Type 0
+  WritesOfStream left limit before after accepted =
+      (a : AnswersStream left limit) × Appends before after a.text × (accepted ≡ is_yes a.answer)
 
-abbrev pub WritesSomeOfStream : Option (List ℕ) → ℕ → Option (List ℕ) → Option (List ℕ) → Type 0
-WritesSomeOfStream left limit before after = (a : AnswersStream left limit)
-    × AppendsSome before after a.text
+  abbrev pub WritesSomeOfStream : Option (List ℕ) → ℕ → Option (List ℕ) → Option (List ℕ) → Type 0
+  WritesSomeOfStream left limit before after = (a : AnswersStream left limit)
+      × AppendsSome before after a.text

@@ -23,7 +23,7 @@ fn answered<C: Checks<A>, A: Room + Copy>(
     bytes: &[u8],
     limit: u32,
 ) -> Result<(bool, String<A>), Memory>
-    ensures { IfOk result (λ r. (a : Answers bytes.now limit) × (string_bytes r.1 ≡ a.text)
+    ensures { IfOk result (λ r. (a : Answers (C.due checker.now) bytes.now limit) × (string_bytes r.1 ≡ a.text)
         × (r.0 ≡ is_yes a.answer)) }
 {
     told(alloc, checker.check(alloc, bytes, limit))
@@ -52,9 +52,10 @@ pub fn check_bytes_by<C: Checks<A>, W: Sink, A: Room + Copy>(
     sink: &mut W,
     limit: u32,
 ) -> Result<bool, StreamFault>
-    ensures ok { IfOk result (Writes bytes.now limit (W.taken sink.old) (W.taken sink.new)) }
+    ensures ok { IfOk result
+        (Writes (C.due checker.now) bytes.now limit (W.taken sink.old) (W.taken sink.new)) }
     ensures write { IsErrOf result StreamFault.Write
-        → WritesSome bytes.now limit (W.taken sink.old) (W.taken sink.new) }
+        → WritesSome (C.due checker.now) bytes.now limit (W.taken sink.old) (W.taken sink.new) }
     ensures cause { IsErrOf result StreamFault.Write → W.failures sink.old < W.failures sink.new }
     ensures memory { IsErrOf result StreamFault.Memory → sink.new ≡ sink.old }
     ensures never { IsErrOf result StreamFault.Read → ⊥ }
@@ -79,9 +80,11 @@ pub fn check_stream_by<C: Checks<A>, R: Source, W: Sink, A: Room + Copy>(
 ) -> Result<bool, StreamFault>
     ensures read { IfOk result (λ _. ReadsEnough (R.left source.old) (R.left source.new)) }
     ensures ok { IfOk result
-        (WritesOfStream (R.left source.old) limit (W.taken sink.old) (W.taken sink.new)) }
+        (WritesOfStream (C.due checker.now) (R.left source.old) limit (W.taken sink.old)
+        (W.taken sink.new)) }
     ensures write { IsErrOf result StreamFault.Write
-        → WritesSomeOfStream (R.left source.old) limit (W.taken sink.old) (W.taken sink.new) }
+        → WritesSomeOfStream (C.due checker.now) (R.left source.old) limit (W.taken sink.old)
+        (W.taken sink.new) }
     ensures write_cause { IsErrOf result StreamFault.Write
         → W.failures sink.old < W.failures sink.new }
     ensures read_cause { CountsReads (R.failures source.old) (R.failures source.new) result }

@@ -2,6 +2,7 @@ use Rattle.std.proofs.Common.{Result, Ok, Err, refl}
 use Rattle.std.specs.Prelude.{IfOk}
 use Rattle.std.specs.String.{string_bytes}
 use Rattle.answers.specs.Answers.{answer_of}
+use Rattle.verdict_texts.proofs.Due.{told_is_due}
 use Rattle.verdict_texts.proofs.stream.answered.Goals as goal
 
 both : {X E : Type 0} {P Q R : X → Type 0} (r : Result X E) → IfOk r P → IfOk r Q
@@ -15,7 +16,8 @@ returns g c =
       record {
         answer = answer_of c.check.result;
         text = string_bytes r.1;
-        true_of = c.check.ensures;
+        true_of = c.check.ensures.true_of;
+        decided = told_is_due _ _ _ c.check.ensures.decided text;
         told = text;
       },
       refl,
