@@ -39,8 +39,9 @@ def numbers(file):
     """The order and the bound of a certificate, where its lines give them."""
     lines = dict(line.split(" ", 1) for line in Path(file).read_text(errors="replace").splitlines() if " " in line)
     try:
-        last = len(lines["code"].split(".")[1])
-        return lines["order"], str(2 * int(lines["start"]) + 2 * int(lines["period"]) + last)
+        start, period, last = int(lines["start"]), int(lines["period"]), len(lines["code"].split(".")[1])
+        parts = 3 if max(lines["code"]) > "7" else 2
+        return lines["order"], str(parts * (start + period) + last if period else start - 1)
     except (KeyError, IndexError, ValueError):
         return "-", "-"
 
