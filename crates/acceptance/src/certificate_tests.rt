@@ -39,8 +39,25 @@ const UNREACHED: &[u8] =
     b"mqc 1\ncode 0.3\norder 4\nstart 1\nperiod 2\nphi 1 0\nportion 1\nwords 0:1 0:1 2:1\n\
 row 0 1 2 3\nrow 1 0 3 2\nrow 2 3 0 1\nrow 3 2 1 0\napart 0 0 0 0 0 0\nend\n";
 
-/// The certificate of `0.3`, with one thing changed.
-static OTHERS: [&[u8]; 19] = [
+/// The quotient of `0.b`.
+const OF_0_B: &[u8] =
+    b"mqc 2\ncode 0.b\norder 2\nstart 1\nperiod 2\nphi 1 0\nportion 1\nwords 0:1\n\
+row 0 1\nrow 1 0\napart 0\nend\n";
+
+/// The quotient of `0.3` for the heaps up to 2.
+const UP_TO_2: &[u8] =
+    b"mqc 2\ncode 0.3\norder 2\nstart 3\nperiod 0\nphi 1 0\nportion 1\nwords 0:1\n\
+row 0 1\nrow 1 0\napart 0\nend\n";
+
+/// The quotient of `0.75` for the heaps up to 8.
+const UP_TO_8: &[u8] = b"mqc 2\ncode 0.75\norder 8\nstart 9\nperiod 0\nphi 1 2 1 2 3 2 3 2\n\
+portion 1 6\nwords 0:1 0:2 0:5 1:2 1:5 2:2 4:2\n\
+row 0 1 2 3 4 5 6 7\nrow 1 0 4 5 2 3 7 6\nrow 2 4 6 4 7 2 2 4\nrow 3 5 4 6 2 7 7 6\n\
+row 4 2 7 2 6 4 4 2\nrow 5 3 2 7 4 6 6 7\nrow 6 7 2 7 4 6 6 7\nrow 7 6 4 6 2 7 7 6\n\
+apart 0 1 1 1 1 0 3 0 0 0 0 5 0 2 2 2 0 1 3 3 0 1 4 0 1 0 1 0\nend\n";
+
+/// The certificate of `0.3` and, behind it, that of `0.b`, with something changed.
+static OTHERS: [&[u8]; 30] = [
     // line ends of two bytes
     b"mqc 1\r\ncode 0.3\r\norder 2\r\nstart 1\r\nperiod 2\r\nphi 1 0\r\nportion 1\r\nwords 0:1\r\n\
 row 0 1\r\nrow 1 0\r\napart 0\r\nend\r\n",
@@ -59,7 +76,11 @@ row 1 0\napart 0\nend\n",
     // a space at the end of a line
     b"mqc 1\ncode 0.3\norder 2\nstart 1\nperiod 2\nphi 1 0 \nportion 1\nwords 0:1\nrow 0 1\n\
 row 1 0\napart 0\nend\n",
-    // another version
+    // the second format for an octal code, and versions that aren't
+    b"mqc 0\ncode 0.3\norder 2\nstart 1\nperiod 2\nphi 1 0\nportion 1\nwords 0:1\nrow 0 1\n\
+row 1 0\napart 0\nend\n",
+    b"mqc 3\ncode 0.3\norder 2\nstart 1\nperiod 2\nphi 1 0\nportion 1\nwords 0:1\nrow 0 1\n\
+row 1 0\napart 0\nend\n",
     b"mqc 2\ncode 0.3\norder 2\nstart 1\nperiod 2\nphi 1 0\nportion 1\nwords 0:1\nrow 0 1\n\
 row 1 0\napart 0\nend\n",
     // a code with its last digit 0
@@ -92,27 +113,60 @@ row 1 0\napart 0\nend\n",
 apart 0\nend\n",
     b"mqc 1\ncode 0.3\norder 2\nstart 1\nperiod 2\nphi 1 0\nportion 1\nwords 0:1\nrow 0 1\n\
 apart 0\nend\n",
+    // no period: in the first format, from the heap 1 on, and with 1026 or more entries
+    b"mqc 1\ncode 0.3\norder 2\nstart 1\nperiod 0\nphi 1 0\nportion 1\nwords 0:1\nrow 0 1\n\
+row 1 0\napart 0\nend\n",
+    b"mqc 1\ncode 0.3\norder 2\nstart 3\nperiod 0\nphi 1 0\nportion 1\nwords 0:1\nrow 0 1\n\
+row 1 0\napart 0\nend\n",
+    b"mqc 2\ncode 0.3\norder 2\nstart 1\nperiod 0\nphi 1 0\nportion 1\nwords 0:1\nrow 0 1\n\
+row 1 0\napart 0\nend\n",
+    b"mqc 2\ncode 0.3\norder 2\nstart 1026\nperiod 0\nphi 1 0\nportion 1\nwords 0:1\nrow 0 1\n\
+row 1 0\napart 0\nend\n",
+    // the code of three parts: in the first format, in capitals, with a last digit 0, of an order
+    // out of range, and with 1026 or more entries
+    b"mqc 1\ncode 0.b\norder 2\nstart 1\nperiod 2\nphi 1 0\nportion 1\nwords 0:1\nrow 0 1\n\
+row 1 0\napart 0\nend\n",
+    b"mqc 2\ncode 0.B\norder 2\nstart 1\nperiod 2\nphi 1 0\nportion 1\nwords 0:1\nrow 0 1\n\
+row 1 0\napart 0\nend\n",
+    b"mqc 2\ncode 0.b0\norder 2\nstart 1\nperiod 2\nphi 1 0\nportion 1\nwords 0:1\nrow 0 1\n\
+row 1 0\napart 0\nend\n",
+    b"mqc 2\ncode 0.b\norder 513\nstart 1\nperiod 2\nphi 1 0\nportion 1\nwords 0:1\nrow 0 1\n\
+row 1 0\napart 0\nend\n",
+    b"mqc 2\ncode 0.b\norder 2\nstart 1000\nperiod 26\nphi 1 0\nportion 1\nwords 0:1\nrow 0 1\n\
+row 1 0\napart 0\nend\n",
 ];
 
-/// Texts that are written as they are read.
-static OWN: [&[u8]; 6] = [OF_0_1, OF_0_3, OF_0_33, OF_0_75, REFUTED, UNREACHED];
+/// Texts that are written as they are read, and the last heap of which each speaks, or 0 where it
+/// speaks of all.
+static OWN: [(&[u8], u64); 9] = [
+    (OF_0_1, 0),
+    (OF_0_3, 0),
+    (OF_0_33, 0),
+    (OF_0_75, 0),
+    (REFUTED, 0),
+    (UNREACHED, 0),
+    (OF_0_B, 0),
+    (UP_TO_2, 2),
+    (UP_TO_8, 8),
+];
 
-/// Whether a certificate is read of the bytes and written as the same bytes.
-fn comes_back(alloc: Global, bytes: &[u8]) -> bool {
+/// Whether a certificate is read of the bytes that speaks of the heaps up to `heaps`, and written
+/// as the same bytes.
+fn comes_back(alloc: Global, bytes: &[u8], heaps: u64) -> bool {
     match read(alloc, bytes) {
         Ok(cert) => {
             let mut sink = MemorySink::new(alloc);
-            write(&cert, &mut sink).is_ok() && sink.bytes() == bytes
+            cert.heaps() == heaps && write(&cert, &mut sink).is_ok() && sink.bytes() == bytes
         }
         Err(_) => false,
     }
 }
 
 /// How many texts are written as they are read.
-fn count_back(alloc: Global, texts: &[&[u8]]) -> usize {
+fn count_back(alloc: Global, texts: &[(&[u8], u64)]) -> usize {
     let mut count = 0usize;
-    for bytes in texts {
-        if comes_back(alloc, bytes) {
+    for (bytes, heaps) in texts {
+        if comes_back(alloc, bytes, *heaps) {
             count = count.saturating_add(1);
         }
     }
@@ -208,47 +262,105 @@ fn first_wrong_write(alloc: Global) -> u64 {
     99
 }
 
-/// A text of the most entries and the largest order.
-static LARGEST: [(Parts, usize); 3] = [
+/// A text, its order, its number of separations, and the last heap of which it speaks.
+type Large = (&'static [(Parts, usize)], usize, usize, u64);
+
+/// The most entries and the first format's largest order; one element more, for an octal code; and
+/// the most entries without a period, and the largest order.
+static LARGE: [Large; 3] = [
     (
         &[
-            (b"mqc 1\ncode 0.3\norder 256\nstart 1\nperiod 1024\nphi", 1),
-            (b" 255", 1024),
-            (b"\nportion 255\nwords", 1),
-            (b" 255:1024", 255),
+            (
+                &[
+                    (b"mqc 1\ncode 0.3\norder 256\nstart 1\nperiod 1024\nphi", 1),
+                    (b" 255", 1024),
+                    (b"\nportion 255\nwords", 1),
+                    (b" 255:1024", 255),
+                ],
+                1,
+            ),
+            (&[(b"\nrow", 1), (b" 255", 256)], 256),
+            (&[(b"\napart", 1), (b" 255", 32640), (b"\nend\n", 1)], 1),
         ],
-        1,
+        256,
+        32640,
+        0,
     ),
-    (&[(b"\nrow", 1), (b" 255", 256)], 256),
-    (&[(b"\napart", 1), (b" 255", 32640), (b"\nend\n", 1)], 1),
+    (
+        &[
+            (
+                &[
+                    (
+                        b"mqc 2\ncode 0.3\norder 257\nstart 1\nperiod 2\nphi 1 256",
+                        1,
+                    ),
+                    (b"\nportion 256\nwords", 1),
+                    (b" 256:2", 256),
+                ],
+                1,
+            ),
+            (&[(b"\nrow", 1), (b" 256", 257)], 257),
+            (&[(b"\napart", 1), (b" 256", 32896), (b"\nend\n", 1)], 1),
+        ],
+        257,
+        32896,
+        0,
+    ),
+    (
+        &[
+            (
+                &[
+                    (b"mqc 2\ncode 0.3\norder 512\nstart 1025\nperiod 0\nphi", 1),
+                    (b" 511", 1024),
+                    (b"\nportion 511\nwords", 1),
+                    (b" 511:1024", 511),
+                ],
+                1,
+            ),
+            (&[(b"\nrow", 1), (b" 511", 512)], 512),
+            (&[(b"\napart", 1), (b" 511", 130816), (b"\nend\n", 1)], 1),
+        ],
+        512,
+        130816,
+        1024,
+    ),
 ];
 
-/// Whether the certificate of the bytes has so many words, products and separations as the largest.
-fn is_largest(alloc: Global, bytes: &[u8]) -> bool {
+/// Whether the certificate of the bytes has so many words, products and separations as the row
+/// says.
+fn is_large(alloc: Global, bytes: &[u8], row: &Large) -> bool {
+    let (_, order, separations, _) = *row;
     match read(alloc, bytes) {
         Ok(cert) => {
-            cert.order() == 256
-                && (cert.words().len(), cert.rows().len(), cert.apart().len())
-                    == (255, 65536, 32640)
+            cert.order() as usize == order
+                && cert.words().len() == order.saturating_sub(1)
+                && cert.rows().len() == order.saturating_mul(order)
+                && cert.apart().len() == separations
         }
         Err(_) => false,
     }
 }
 
-/// Whether the largest text has its sizes and comes back.
-fn largest_comes_back(alloc: Global) -> bool {
-    match text_of(alloc, &LARGEST) {
-        Ok(text) => is_largest(alloc, &text) && comes_back(alloc, &text),
-        Err(_) => false,
+/// How many large texts have their sizes and come back.
+fn count_large(alloc: Global, rows: &[Large]) -> usize {
+    let mut count = 0usize;
+    for row in rows {
+        match text_of(alloc, row.0) {
+            Ok(text) if is_large(alloc, &text, row) && comes_back(alloc, &text, row.3) => {
+                count = count.saturating_add(1);
+            }
+            _ => return count,
+        }
     }
+    count
 }
 
-/// The last has the most entries, the largest order, and more than 2^16 bytes.
+/// The last have the most entries, the largest orders, and more than 2^16 bytes.
 #[test]
 fn texts_and_certificates(rt: HostRuntime) {
-    assert!(rt; count_back(rt.alloc(), &OWN) == 6);
-    assert!(rt; count_refused(rt.alloc(), &OTHERS) == 19);
+    assert!(rt; count_back(rt.alloc(), &OWN) == 9);
+    assert!(rt; count_refused(rt.alloc(), &OTHERS) == 30);
     assert!(rt; lines_lent(rt.alloc()) == [true; 8]);
     assert!(rt; first_wrong_write(rt.alloc()) == 99);
-    assert!(rt; largest_comes_back(rt.alloc()));
+    assert!(rt; count_large(rt.alloc(), &LARGE) == 3);
 }

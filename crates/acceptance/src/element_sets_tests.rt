@@ -63,10 +63,11 @@ fn translates_from_the_other_end(alloc: Global) -> Result<bool, AllocError> {
     Ok(moved == set_of(&[0, LAST - 64, LAST - 63, LAST]))
 }
 
-/// A set is a bit for each element.
+/// A set is a bit for each of 512 elements.
 #[test]
 fn sets(rt: HostRuntime) {
-    assert!(rt; size_of::<ElementSet>() == MOST_ELEMENTS as usize / 8);
+    assert!(rt; MOST_ELEMENTS == 512 && size_of::<ElementSet>() == 64);
+    assert!(rt; set_of(&[0, 255, 511]).meets(&set_of(&[511])));
     assert!(rt; edges_hold() == [true; 8]);
     assert!(rt; range_holds() == [true; 5]);
     assert!(rt; matches!(translates_from_the_other_end(rt.alloc()), Ok(true)));

@@ -1,4 +1,5 @@
 //! Jobs with each growth of memory refused in turn.
+use crate::transition_algebra_tests::Heaps;
 use crate::{
     certificate_tests, octal_code_tests, outcome_search_tests, pair_closure_tests, positions_tests,
     presentations_tests, quotient_solver_tests, streams_tests, transition_algebra_tests,
@@ -19,12 +20,13 @@ pub enum Job {
     Text,
     FewHeaps,
     MoveOfFew,
+    MoveToThree,
     Table,
     Quotient,
     Certificate,
     Order,
     Stream,
-    Heaps,
+    Heaps(Heaps),
     Closure,
 }
 
@@ -59,12 +61,19 @@ fn answer<A: Room + Copy>(alloc: A, job: Job) -> Result<bool, u8> {
             (7, Left::One(6)),
             &[1, 2, 3, 4, 5, 6, 6],
         ),
+        Job::MoveToThree => positions_tests::leaves(
+            alloc,
+            b"0.b",
+            b"1 1 1 1 1 6",
+            (6, Left::Three(1, 2, 2)),
+            &[1, 1, 1, 1, 1, 1, 2, 2],
+        ),
         Job::Table => presentations_tests::has_eight(alloc),
         Job::Quotient => quotient_solver_tests::is_of_eight(alloc),
         Job::Certificate => certificate_tests::is_read(alloc),
         Job::Order => certificate_tests::is_refused(alloc),
         Job::Stream => streams_tests::is_read(alloc, b"abc", 100, b"abc"),
-        Job::Heaps => transition_algebra_tests::in_pieces(alloc, 7),
+        Job::Heaps(heaps) => transition_algebra_tests::in_pieces(alloc, heaps, 7),
         Job::Closure => pair_closure_tests::ends(alloc),
     }
 }
@@ -90,8 +99,8 @@ fn first_not_needed(alloc: Global, job: Job, most: u64) -> Option<u64> {
 }
 
 /// A job, the least growth that may not come, and the first that is too many. Up to eight heaps
-/// take no memory, nor do a move from seven and an order with nothing behind it: in `FewHeaps` just
-/// the ninth heap does.
+/// take no memory, nor do a move from seven, or from six to three more, and an order with nothing
+/// behind it: in `FewHeaps` just the ninth heap does.
 #[test]
 fn each_growth_may_be_refused(rt: HostRuntime) {
     let rows = [
@@ -103,12 +112,14 @@ fn each_growth_may_be_refused(rt: HostRuntime) {
         (Job::Text, 1, 99),
         (Job::FewHeaps, 2, 3),
         (Job::MoveOfFew, 1, 2),
+        (Job::MoveToThree, 1, 2),
         (Job::Table, 1, 999),
         (Job::Quotient, 1, 100_000),
         (Job::Certificate, 6, 40),
         (Job::Order, 1, 2),
         (Job::Stream, 2, 9),
-        (Job::Heaps, 1, 1000),
+        (Job::Heaps(Heaps::OfEight), 1, 1000),
+        (Job::Heaps(Heaps::OfThreeParts), 1, 1000),
         (Job::Closure, 7, 100),
     ];
     for (job, least, most) in rows {

@@ -2,7 +2,7 @@
 ghost use Rattle.std.specs.Prelude.{◌≡◌};
 
 use monoid_table::{LawFault, Table, TableJob, power, product};
-use std::alloc::Global;
+use std::alloc::{AllocError, Global};
 
 /// The products of the monoid, row after row.
 const ROWS: [u16; 9] = [0, 1, 2, 1, 2, 1, 2, 1, 2];
@@ -103,4 +103,46 @@ fn rows_that_are_no_table(rt: HostRuntime) {
     assert!(rt; is_refused(rt.alloc(), &[0, 1, 1], LawFault::Shape));
     assert!(rt; is_refused(rt.alloc(), &[0, 1, 0, 1], LawFault::Law));
     assert!(rt; is_refused(rt.alloc(), &[1, 0, 0, 1], LawFault::Law));
+}
+
+/// The rows of the cyclic group of so many elements.
+fn rows_of_group(alloc: Global, order: u16) -> Result<Vec<u16>, AllocError> {
+    let mut rows = Vec::new(alloc);
+    for x in 0..order {
+        put_row(&mut rows, order, x)?;
+    }
+    Ok(rows)
+}
+
+/// Adds the products of x.
+fn put_row(rows: &mut Vec<u16>, order: u16, x: u16) -> Result<(), AllocError> {
+    for y in 0..order {
+        rows.push(x.wrapping_add(y) % order.max(1))?;
+    }
+    Ok(())
+}
+
+/// The product of the last element with itself in the cyclic group of so many elements, or the
+/// number of the fault.
+fn last_squared(alloc: Global, order: u16) -> Result<u16, u8> {
+    let Ok(rows) = rows_of_group(alloc, order) else {
+        return Err(9);
+    };
+    match Table::new(order, rows) {
+        Ok(table) => Ok(table.times(table.order() - 1, table.order() - 1)),
+        Err(fault) => Err(fault.number()),
+    }
+}
+
+/// No table has more than 512 elements.
+#[test]
+fn tables_of_many_elements(rt: HostRuntime) {
+    for (order, product) in [
+        (256, Ok(254)),
+        (257, Ok(255)),
+        (512, Ok(510)),
+        (513, Err(1)),
+    ] {
+        assert!(rt; last_squared(rt.alloc(), order) == product);
+    }
 }

@@ -19,7 +19,7 @@ pub fn comes_back<A: Allocator>(alloc: A, bytes: &[u8]) -> Result<bool, u8> {
 }
 
 /// What comes of a text: 1 is no code, and 2 is too long a one. Codes of each length are written.
-static ROWS: [(&[u8], Result<bool, u8>); 27] = [
+static ROWS: [(&[u8], Result<bool, u8>); 43] = [
     (b"0.75", Ok(true)),
     (b"4.07", Ok(true)),
     (b"0.3", Ok(true)),
@@ -45,8 +45,24 @@ static ROWS: [(&[u8], Result<bool, u8>); 27] = [
     (b"0.30", Err(1)),
     (b"00.3", Err(1)),
     (b"1.3", Err(1)),
-    (b"0.8", Err(1)),
     (b".3", Err(1)),
+    (b"0.8", Ok(true)),
+    (b"0.b", Ok(true)),
+    (b"8.1", Ok(true)),
+    (b"c.0f", Ok(true)),
+    (b"0.9abcdef", Ok(true)),
+    (b"c.0123456789abcdef", Ok(true)),
+    (b"8.00000000000000008", Err(2)),
+    (b"c.123456789abcdef01", Err(2)),
+    (b"2.11111111111111111", Err(1)),
+    (b"0.123456789abcdef00", Err(1)),
+    (b"0.b0", Err(1)),
+    (b"0.B", Err(1)),
+    (b"C.1", Err(1)),
+    (b"0.g", Err(1)),
+    (b"f.1", Err(1)),
+    (b"9.1", Err(1)),
+    (b"8.", Err(1)),
 ];
 
 /// How many rows hold.
@@ -61,12 +77,12 @@ fn count_held(alloc: Global, rows: &[(&[u8], Result<bool, u8>)]) -> usize {
     held
 }
 
-/// Whether the digits of 4.07 are these.
-fn has_digits() -> bool {
-    match Code::read(b"4.07") {
+/// Whether the code has two digits after the point, these are its digits, and whether it is octal.
+fn has_digits(bytes: &[u8], digits: [u8; 4], is_octal: bool) -> bool {
+    match Code::read(bytes) {
         Ok(code) => {
-            let digits = [code.digit(0), code.digit(1), code.digit(2), code.digit(3)];
-            code.last() == 2 && digits == [4, 0, 7, 0]
+            let found = [code.digit(0), code.digit(1), code.digit(2), code.digit(3)];
+            code.last() == 2 && found == digits && code.is_octal() == is_octal
         }
         Err(_) => false,
     }
@@ -74,7 +90,15 @@ fn has_digits() -> bool {
 
 #[test]
 fn codes(rt: HostRuntime) {
-    assert!(rt; count_held(rt.alloc(), &ROWS) == 27);
+    assert!(rt; count_held(rt.alloc(), &ROWS) == 43);
     assert!(rt; CodeFault::NotACode.number() == 1 && CodeFault::TooLong.number() == 2);
-    assert!(rt; has_digits());
+    for (bytes, digits, is_octal) in [
+        (b"4.07", [4, 0, 7, 0], true),
+        (b"4.08", [4, 0, 8, 0], false),
+        (b"8.07", [8, 0, 7, 0], false),
+        (b"c.af", [12, 10, 15, 0], false),
+        (b"0.9b", [0, 9, 11, 0], false),
+    ] {
+        assert!(rt; has_digits(bytes, digits, is_octal));
+    }
 }

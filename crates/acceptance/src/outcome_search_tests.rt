@@ -25,8 +25,9 @@ fn outcome_of<A: Room + Copy>(
 /// none can be reached. In 0.3 each move takes 1: heaps of even size are N-positions, and the plays
 /// from a heap of n reach n + 1 positions, one after another, and each is needed. Each of the last
 /// two heaps has hundreds of splits, so that their splits make more positions than the budget
-/// allows.
-static ROWS: [(&str, &str, u32, Result<Outcome, SearchFault>); 15] = [
+/// allows. In 0.b each move changes whether the sum of
+/// the heaps is odd, and the last move takes the last heap, so a position is P where it is odd.
+static ROWS: [(&str, &str, u32, Result<Outcome, SearchFault>); 21] = [
     ("0.33", "0", 65536, Ok(Outcome::N)),
     ("0.33", "1", 65536, Ok(Outcome::P)),
     ("0.33", "1 1", 65536, Ok(Outcome::N)),
@@ -47,6 +48,12 @@ static ROWS: [(&str, &str, u32, Result<Outcome, SearchFault>); 15] = [
         65536,
         Err(SearchFault::Budget),
     ),
+    ("0.b", "0", 65536, Ok(Outcome::N)),
+    ("0.b", "4", 65536, Ok(Outcome::N)),
+    ("0.b", "7", 65536, Ok(Outcome::P)),
+    ("0.b", "1 1 1", 65536, Ok(Outcome::P)),
+    ("0.b", "2 5 6", 65536, Ok(Outcome::P)),
+    ("0.b", "3 9", 65536, Ok(Outcome::N)),
 ];
 
 /// How many rows hold.
@@ -115,7 +122,7 @@ fn count_ones(alloc: Global) -> u64 {
 
 #[test]
 fn finds_outcomes(rt: HostRuntime) {
-    assert!(rt; count_held(rt.alloc(), &ROWS) == 15);
+    assert!(rt; count_held(rt.alloc(), &ROWS) == 21);
 }
 
 #[test]

@@ -17,7 +17,7 @@ fn are_listed(alloc: Global, text: &str, heap: u64, wanted: &[Left]) -> bool {
 }
 
 /// A code, a heap and its options.
-static OPTIONS: [(&str, u64, &[Left]); 6] = [
+static OPTIONS: [(&str, u64, &[Left]); 13] = [
     (
         "0.75",
         5,
@@ -33,6 +33,29 @@ static OPTIONS: [(&str, u64, &[Left]); 6] = [
     ("4.1", 3, &[Left::Two(1, 2)]),
     ("4.1", 4, &[Left::Two(1, 3), Left::Two(2, 2)]),
     ("4.1", 1, &[Left::Nothing]),
+    (
+        "0.b",
+        6,
+        &[Left::One(5), Left::Three(1, 1, 3), Left::Three(1, 2, 2)],
+    ),
+    ("0.b", 4, &[Left::One(3), Left::Three(1, 1, 1)]),
+    ("0.b", 1, &[Left::Nothing]),
+    // after the splits of one digit, and before what the next digit leaves
+    (
+        "c.1c",
+        5,
+        &[
+            Left::Two(1, 4),
+            Left::Two(2, 3),
+            Left::Three(1, 1, 3),
+            Left::Three(1, 2, 2),
+            Left::Two(1, 2),
+            Left::Three(1, 1, 1),
+        ],
+    ),
+    ("c.1c", 2, &[Left::Two(1, 1)]),
+    ("8.1", 3, &[Left::Three(1, 1, 1)]),
+    ("8.1", 2, &[]),
 ];
 
 /// How many rows hold.
@@ -47,23 +70,31 @@ fn count_listed(alloc: Global, rows: &[(&str, u64, &[Left])]) -> usize {
     held
 }
 
-/// The first two options of a heap of 10^18 in 0.75.
-fn far_options() -> [Option<Left>; 2] {
-    match Code::read(b"0.75") {
+/// The first three options of a heap of 10^18.
+fn far_options(text: &[u8]) -> [Option<Left>; 3] {
+    match Code::read(text) {
         Ok(code) => {
             let mut far = options(&code, 1_000_000_000_000_000_000);
-            [far.next(), far.next()]
+            [far.next(), far.next(), far.next()]
         }
-        Err(_) => [None, None],
+        Err(_) => [None, None, None],
     }
 }
 
 #[test]
 fn lists_options(rt: HostRuntime) {
-    assert!(rt; count_listed(rt.alloc(), &OPTIONS) == 6);
+    assert!(rt; count_listed(rt.alloc(), &OPTIONS) == 13);
     let one = Left::One(999_999_999_999_999_999);
-    let two = Left::Two(1, 999_999_999_999_999_998);
-    assert!(rt; far_options() == [Some(one), Some(two)]);
+    let two = [
+        Left::Two(1, 999_999_999_999_999_998),
+        Left::Two(2, 999_999_999_999_999_997),
+    ];
+    let three = [
+        Left::Three(1, 1, 999_999_999_999_999_997),
+        Left::Three(1, 2, 999_999_999_999_999_996),
+    ];
+    assert!(rt; far_options(b"0.75") == [Some(one), Some(two[0]), Some(two[1])]);
+    assert!(rt; far_options(b"0.b") == [Some(one), Some(three[0]), Some(three[1])]);
 }
 
 /// 64 heaps of 1.
@@ -167,17 +198,48 @@ pub fn leaves<A: Room + Copy>(
     }
 }
 
+/// A code, a position, a move, and whether it leaves the heaps or the number of the fault.
+type Made = (
+    &'static [u8],
+    &'static [u8],
+    (u64, Left),
+    Result<bool, u8>,
+    &'static [u64],
+);
+
+/// 1 is no such heap, and 2 is a move that isn't allowed.
+static MOVES: [Made; 7] = [
+    (b"0.75", b"1 5", (5, Left::Two(1, 3)), Ok(true), &[1, 1, 3]),
+    (b"0.75", b"1 5", (4, Left::One(3)), Err(1), &[]),
+    (b"0.75", b"1 5", (5, Left::One(3)), Err(2), &[]),
+    (
+        b"0.b",
+        b"6",
+        (6, Left::Three(1, 2, 2)),
+        Ok(true),
+        &[1, 2, 2],
+    ),
+    (b"0.b", b"6", (6, Left::Three(1, 1, 4)), Err(2), &[]),
+    (b"0.b", b"6", (6, Left::Three(2, 2, 1)), Err(2), &[]),
+    (b"0.b", b"6", (6, Left::Two(2, 3)), Err(2), &[]),
+];
+
+/// How many rows hold.
+fn count_made(alloc: Global, rows: &[Made]) -> usize {
+    let mut held = 0usize;
+    for (code, text, step, wanted, heaps) in rows {
+        if leaves(alloc, code, text, *step, heaps) != *wanted {
+            return held;
+        }
+        held = held.saturating_add(1);
+    }
+    held
+}
+
 #[test]
 fn makes_moves(rt: HostRuntime) {
-    let absent = MoveFault::NoSuchHeap.number();
-    let refused = MoveFault::NotAllowed.number();
-    for (step, wanted) in [
-        ((5, Left::Two(1, 3)), Ok(true)),
-        ((4, Left::One(3)), Err(absent)),
-        ((5, Left::One(3)), Err(refused)),
-    ] {
-        assert!(rt; leaves(rt.alloc(), b"0.75", b"1 5", step, &[1, 1, 3]) == wanted);
-    }
+    assert!(rt; MoveFault::NoSuchHeap.number() == 1 && MoveFault::NotAllowed.number() == 2);
+    assert!(rt; count_made(rt.alloc(), &MOVES) == 7);
 }
 
 /// Whether the position added to itself has these heaps, or the number of the fault.

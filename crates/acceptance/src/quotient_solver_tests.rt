@@ -26,15 +26,17 @@ fn guessed(alloc: Global, text: &[u8], heaps: usize) -> Option<(usize, usize, us
 }
 
 /// Orders and periods of games from the literature: Plambeck and Siegel, 'Misère quotients for
-/// impartial games'. Kayles repeats from the heap 71 on, so its period can't be seen here.
+/// impartial games'. Kayles repeats from the heap 71 on, so its period can't be seen here. In
+/// 0.b each move changes whether the sum of the heaps is odd.
 #[test]
 fn finds_known_quotients(rt: HostRuntime) {
-    let rows: [(&[u8], usize, (usize, usize, usize)); 5] = [
+    let rows: [(&[u8], usize, (usize, usize, usize)); 6] = [
         (b"0.3", 64, (2, 1, 2)),
         (b"0.33", 64, (6, 1, 3)),
         (b"0.33", 9, (6, 1, 3)),
         (b"0.75", 64, (8, 8, 2)),
         (b"0.153", 64, (16, 32, 14)),
+        (b"0.b", 64, (2, 1, 2)),
     ];
     for (text, heaps, wanted) in rows {
         let numbers = match guessed(rt.alloc(), text, heaps) {

@@ -1,4 +1,4 @@
-//! The pairs of the heaps of 0.75.
+//! The pairs of the heaps of 0.75, of a game whose moves leave three heaps, and of a part of 0.3.
 ghost use Rattle.std.specs.Prelude.{◌≡◌, All, IfSome};
 ghost use Rattle.transition_algebra.specs.Heaps.{IsInto};
 ghost use Rattle.transition_algebra.specs.Pairs.{IsPair};
@@ -64,24 +64,99 @@ fn worked(n: usize) -> Pair {
     }
 }
 
-/// Whether these are the pairs of the heaps 1 to 22.
-fn are_worked(pairs: &[Pair]) -> bool {
+/// The group of two elements, in which the heaps have 1 and 0 by turns: those of a part up to the
+/// heap 2, or all.
+fn by_turns<A: Allocator + Copy>(alloc: A, is_part: bool) -> Option<(Table<A>, Phi<A>)>
+    ensures { IfSome result (λ q. IsInto q.0 q.1) }
+{
+    let Ok(rows) = [0u16, 1, 1, 0].to_vec(alloc) else {
+        return None;
+    };
+    let Ok(table) = Table::new(2, rows) else {
+        return None;
+    };
+    let Ok(entries) = [1u16, 0].to_vec(alloc) else {
+        return None;
+    };
+    if is_part {
+        Some((table, Phi::new(3, 0, entries)))
+    } else {
+        Some((table, Phi::new(1, 2, entries)))
+    }
+}
+
+/// Heaps whose pairs are known.
+#[derive(Clone, Copy)]
+pub enum Heaps {
+    /// Those of 0.75.
+    OfEight,
+    /// Those of 0.b, where each move changes whether the sum of the heaps is odd.
+    OfThreeParts,
+    /// Those of 0.3 up to 2.
+    OfPart,
+}
+
+impl Heaps {
+    fn code(self) -> &'static [u8] {
+        match self {
+            Heaps::OfEight => b"0.75",
+            Heaps::OfThreeParts => b"0.b",
+            Heaps::OfPart => b"0.3",
+        }
+    }
+
+    fn quotient<A: Allocator + Copy>(self, alloc: A) -> Option<(Table<A>, Phi<A>)>
+        ensures { IfSome result (λ q. IsInto q.0 q.1) }
+    {
+        match self {
+            Heaps::OfEight => quotient(alloc),
+            Heaps::OfThreeParts => by_turns(alloc, false),
+            Heaps::OfPart => by_turns(alloc, true),
+        }
+    }
+
+    /// How many heaps show the pair of each heap: 2 · 8 + 2 · 2 + 2 in 0.75, 3 · 1 + 3 · 2 + 1 in
+    /// 0.b, and both of a part up to 2.
+    fn count(self) -> usize {
+        match self {
+            Heaps::OfEight => 22,
+            Heaps::OfThreeParts => 10,
+            Heaps::OfPart => 2,
+        }
+    }
+
+    /// The pair of the heap n, worked out by hand.
+    fn pair(self, n: usize) -> Pair {
+        match self {
+            Heaps::OfEight => worked(n),
+            _ if n % 2 == 1 => pair(1, &[0]),
+            _ => pair(0, &[1]),
+        }
+    }
+}
+
+/// Whether these are the pairs of the heaps.
+fn are_worked(heaps: Heaps, pairs: &[Pair]) -> bool {
     let mut n = 0usize;
     for pair in pairs {
         n = n.saturating_add(1);
-        if *pair != worked(n) {
+        if *pair != heaps.pair(n) {
             return false;
         }
     }
-    n == 22
+    n == heaps.count()
 }
 
 /// Works the job in pieces of so many units, and says whether its pairs are those worked out by
 /// hand; 9 is want of memory.
-fn ends_right<A: Allocator + Copy>(job: &mut HeapJob<A>, units: u64) -> Result<bool, u8> {
+fn ends_right<A: Allocator + Copy>(
+    job: &mut HeapJob<A>,
+    heaps: Heaps,
+    units: u64,
+) -> Result<bool, u8> {
     for _ in 0..1000usize {
         match job.work(units) {
-            Ok(true) => return Ok(are_worked(job.pairs())),
+            Ok(true) => return Ok(are_worked(heaps, job.pairs())),
             Ok(false) => {}
             Err(_) => return Err(9),
         }
@@ -90,12 +165,12 @@ fn ends_right<A: Allocator + Copy>(job: &mut HeapJob<A>, units: u64) -> Result<b
 }
 
 /// A job in pieces of so many units, its pairs worked out by hand; 9 is want of memory.
-pub fn in_pieces<A: Allocator + Copy>(alloc: A, units: u64) -> Result<bool, u8> {
-    let Ok(code) = Code::read(b"0.75") else {
+pub fn in_pieces<A: Allocator + Copy>(alloc: A, heaps: Heaps, units: u64) -> Result<bool, u8> {
+    let Ok(code) = Code::read(heaps.code()) else {
         return Err(0);
     };
-    match quotient(alloc) {
-        Some((table, phi)) => ends_right(&mut HeapJob::new(alloc, code, table, phi), units),
+    match heaps.quotient(alloc) {
+        Some((table, phi)) => ends_right(&mut HeapJob::new(alloc, code, table, phi), heaps, units),
         None => Err(9),
     }
 }
@@ -105,7 +180,7 @@ pub fn in_pieces<A: Allocator + Copy>(alloc: A, units: u64) -> Result<bool, u8> 
 fn multiply(table: &Table, pairs: &[Pair]) -> bool
     requires { All (IsPair table.now.order) pairs.now }
 {
-    if !are_worked(pairs) || pairs.len() != 22 {
+    if !are_worked(Heaps::OfEight, pairs) || pairs.len() != 22 {
         return false;
     }
     let monoid = Pairs { table };
@@ -151,7 +226,9 @@ fn most_have_pairs(alloc: Global, code: &Code) -> bool {
 
 #[test]
 fn heaps_have_their_pairs(rt: HostRuntime) {
-    assert!(rt; in_pieces(rt.alloc(), 1) == Ok(true));
+    for heaps in [Heaps::OfEight, Heaps::OfThreeParts, Heaps::OfPart] {
+        assert!(rt; in_pieces(rt.alloc(), heaps, 1) == Ok(true));
+    }
     let (Ok(of_75), Ok(of_7)) = (Code::read(b"0.75"), Code::read(b"0.7")) else {
         panic!(rt; "no code");
     };

@@ -29,6 +29,28 @@ words 0:1 0:2 0:5 1:2 1:5 2:2 4:2\nrow 0 1 2 3 4 5 6 7\nrow 1 0 4 5 2 3 7 6\nrow
 row 3 5 4 6 2 7 7 6\nrow 4 2 7 2 6 4 4 2\nrow 5 3 2 7 4 6 6 7\nrow 6 7 2 7 4 6 6 7\n\
 row 7 6 4 6 2 7 7 6\napart 0 1 1 1 1 0 3 0 0 0 0 5 0 2 2 2 0 1 3 3 0 1 4 0 1 0 1 0\nend\n";
 
+/// The quotient of 0.b, in which a move may leave three heaps.
+pub const OF_0_B: &str =
+    "mqc 2\ncode 0.b\norder 2\nstart 1\nperiod 2\nphi 1 0\nportion 1\nwords 0:1\nrow 0 1\n\
+row 1 0\napart 0\nend\n";
+
+/// The quotient of 0.3 for the heaps up to 2.
+pub const PART_OF_0_3: &str =
+    "mqc 2\ncode 0.3\norder 2\nstart 3\nperiod 0\nphi 1 0\nportion 1\nwords 0:1\nrow 0 1\n\
+row 1 0\napart 0\nend\n";
+
+/// The quotient of 0.75 for the heaps up to 8.
+pub const PART_OF_0_75: &str =
+    "mqc 2\ncode 0.75\norder 8\nstart 9\nperiod 0\nphi 1 2 1 2 3 2 3 2\nportion 1 6\n\
+words 0:1 0:2 0:5 1:2 1:5 2:2 4:2\nrow 0 1 2 3 4 5 6 7\nrow 1 0 4 5 2 3 7 6\nrow 2 4 6 4 7 2 2 4\n\
+row 3 5 4 6 2 7 7 6\nrow 4 2 7 2 6 4 4 2\nrow 5 3 2 7 4 6 6 7\nrow 6 7 2 7 4 6 6 7\n\
+row 7 6 4 6 2 7 7 6\napart 0 1 1 1 1 0 3 0 0 0 0 5 0 2 2 2 0 1 3 3 0 1 4 0 1 0 1 0\nend\n";
+
+/// The quotient of 0.8 for the heaps up to 4, of which the last alone has a move, to three of 1.
+pub const PART_OF_0_8: &str =
+    "mqc 2\ncode 0.8\norder 2\nstart 5\nperiod 0\nphi 0 0 0 1\nportion 1\nwords 0:4\nrow 0 1\n\
+row 1 0\napart 0\nend\n";
+
 pub const APART_NONE_SEPARATES: &str =
     "mqc 1\ncode 0.3\norder 4\nstart 1\nperiod 2\nphi 1 2\nportion 1 3\nwords 0:1 0:2 1:2\n\
 row 0 1 2 3\nrow 1 0 3 2\nrow 2 3 0 1\nrow 3 2 1 0\napart 0 0 0 0 0 0\nend\n";
@@ -54,6 +76,13 @@ row 1 0\napart 0\nend\n";
 pub const OUTCOME_AT_TWO_ONES: &str =
     "mqc 1\ncode 0.3\norder 2\nstart 1\nperiod 2\nphi 1 0\nportion 1\nwords 0:1\nrow 0 1\n\
 row 1 1\napart 0\nend\n";
+
+/// The part of 0.75 up to 9, where the heap 9 is wrong.
+pub const OUTCOME_IN_A_PART: &str =
+    "mqc 2\ncode 0.75\norder 8\nstart 10\nperiod 0\nphi 1 2 1 2 3 2 3 2 3\nportion 1 6\n\
+words 0:1 0:2 0:5 1:2 1:5 2:2 4:2\nrow 0 1 2 3 4 5 6 7\nrow 1 0 4 5 2 3 7 6\nrow 2 4 6 4 7 2 2 4\n\
+row 3 5 4 6 2 7 7 6\nrow 4 2 7 2 6 4 4 2\nrow 5 3 2 7 4 6 6 7\nrow 6 7 2 7 4 6 6 7\n\
+row 7 6 4 6 2 7 7 6\napart 0 1 1 1 1 0 3 0 0 0 0 5 0 2 2 2 0 1 3 3 0 1 4 0 1 0 1 0\nend\n";
 
 pub const OUTCOME_OPTION_IN_PORTION: &str =
     "mqc 1\ncode 0.33\norder 2\nstart 1\nperiod 3\nphi 1 1 0\nportion 1\nwords 0:1\nrow 0 1\n\
@@ -85,6 +114,34 @@ pub const TEXT_LEADING_ZERO: &str =
     "mqc 1\ncode 0.3\norder 02\nstart 1\nperiod 2\nphi 1 0\nportion 1\nwords 0:1\nrow 0 1\n\
 row 1 0\napart 0\nend\n";
 
+pub const TEXT_SECOND_FORMAT_OF_0_3: &str =
+    "mqc 2\ncode 0.3\norder 2\nstart 1\nperiod 2\nphi 1 0\nportion 1\nwords 0:1\nrow 0 1\n\
+row 1 0\napart 0\nend\n";
+
+pub const TEXT_FIRST_FORMAT_OF_0_B: &str =
+    "mqc 1\ncode 0.b\norder 2\nstart 1\nperiod 2\nphi 1 0\nportion 1\nwords 0:1\nrow 0 1\n\
+row 1 0\napart 0\nend\n";
+
+pub const TEXT_CAPITAL_DIGIT: &str =
+    "mqc 2\ncode 0.B\norder 2\nstart 1\nperiod 2\nphi 1 0\nportion 1\nwords 0:1\nrow 0 1\n\
+row 1 0\napart 0\nend\n";
+
+pub const TEXT_ORDER_ABOVE_512: &str =
+    "mqc 2\ncode 0.b\norder 513\nstart 1\nperiod 2\nphi 1 0\nportion 1\nwords 0:1\nrow 0 1\n\
+row 1 0\napart 0\nend\n";
+
+pub const TEXT_FIRST_FORMAT_OF_A_PART: &str =
+    "mqc 1\ncode 0.3\norder 2\nstart 3\nperiod 0\nphi 1 0\nportion 1\nwords 0:1\nrow 0 1\n\
+row 1 0\napart 0\nend\n";
+
+pub const TEXT_PART_WITHOUT_HEAPS: &str =
+    "mqc 2\ncode 0.3\norder 2\nstart 1\nperiod 0\nphi 1 0\nportion 1\nwords 0:1\nrow 0 1\n\
+row 1 0\napart 0\nend\n";
+
+pub const TEXT_PERIOD_0: &str =
+    "mqc 1\ncode 0.3\norder 2\nstart 1\nperiod 0\nphi 1 0\nportion 1\nwords 0:1\nrow 0 1\n\
+row 1 0\napart 0\nend\n";
+
 pub const WORD_OF_UNREACHED_ELEMENT: &str =
     "mqc 1\ncode 0.3\norder 4\nstart 1\nperiod 2\nphi 1 0\nportion 1\nwords 0:1 0:1 2:1\n\
 row 0 1 2 3\nrow 1 0 3 2\nrow 2 3 0 1\nrow 3 2 1 0\napart 0 0 0 0 0 0\nend\n";
@@ -99,7 +156,7 @@ pub const LIMIT: u32 = 100000;
 /// A name, what the file holds, a limit, and what is said.
 pub type Answered = (&'static str, &'static str, u32, &'static str);
 
-pub static ANSWERS: [Answered; 19] = [
+pub static ANSWERS: [Answered; 31] = [
     (
         "0.3.mqc",
         OF_0_3,
@@ -174,15 +231,63 @@ pub static ANSWERS: [Answered; 19] = [
         "no 1 Text\n",
     ),
     ("text_cut_short.mqc", TEXT_CUT_SHORT, LIMIT, "no 1 Text\n"),
+    ("0.b.mqc", OF_0_B, 8, "yes 0.b order 2 start 1 period 2\n"),
+    ("part.mqc", PART_OF_0_3, 8, "yes 0.3 order 2 heaps 2\n"),
+    ("part.mqc", PART_OF_0_3, 1, "no 8 Limit\n"),
+    (
+        "part.mqc",
+        PART_OF_0_75,
+        LIMIT,
+        "yes 0.75 order 8 heaps 8\n",
+    ),
+    ("part.mqc", PART_OF_0_8, LIMIT, "yes 0.8 order 2 heaps 4\n"),
+    (
+        "text_second_format_of_0.3.mqc",
+        TEXT_SECOND_FORMAT_OF_0_3,
+        LIMIT,
+        "no 1 Text\n",
+    ),
+    (
+        "text_first_format_of_0.b.mqc",
+        TEXT_FIRST_FORMAT_OF_0_B,
+        LIMIT,
+        "no 1 Text\n",
+    ),
+    (
+        "text_capital_digit.mqc",
+        TEXT_CAPITAL_DIGIT,
+        LIMIT,
+        "no 1 Text\n",
+    ),
+    (
+        "text_order_above_512.mqc",
+        TEXT_ORDER_ABOVE_512,
+        LIMIT,
+        "no 1 Text\n",
+    ),
+    (
+        "text_first_format_of_a_part.mqc",
+        TEXT_FIRST_FORMAT_OF_A_PART,
+        LIMIT,
+        "no 1 Text\n",
+    ),
+    (
+        "text_part_without_heaps.mqc",
+        TEXT_PART_WITHOUT_HEAPS,
+        LIMIT,
+        "no 1 Text\n",
+    ),
+    ("text_period_0.mqc", TEXT_PERIOD_0, LIMIT, "no 1 Text\n"),
 ];
 
 /// Certificates that are refuted at a position.
-pub static REFUTED: [(&str, &str); 5] = [
+pub static REFUTED: [(&str, &str); 6] = [
     (
         "outcome_at_the_empty_position.mqc",
         OUTCOME_AT_THE_EMPTY_POSITION,
     ),
     ("outcome_at_two_ones.mqc", OUTCOME_AT_TWO_ONES),
+    ("outcome_in_a_part.mqc", OUTCOME_IN_A_PART),
     ("outcome_option_in_portion.mqc", OUTCOME_OPTION_IN_PORTION),
     ("outcome_right_up_to_heap_8.mqc", RIGHT_UP_TO_8),
     ("outcome_without_moves.mqc", OUTCOME_WITHOUT_MOVES),
@@ -197,7 +302,8 @@ pub fn folder_of(alloc: Global, name: &str, held: &str, failing: u64) -> Option<
     }
 }
 
-/// Whether this is said, and well unless it is a no.
+/// Whether this is said, and well unless it is a no or a refusal.
 pub fn is_said(said: &Said, text: &str) -> bool {
-    said.text.as_slice() == text.as_bytes() && said.well != text.starts_with("no")
+    let is_no = text.starts_with("no") || text.starts_with("refused");
+    said.text.as_slice() == text.as_bytes() && said.well != is_no
 }

@@ -2,8 +2,10 @@
 mod games;
 
 use crate::certificates::{ANSWERS, Answered, LIMIT, OF_0_3, folder_of, is_said};
+use crate::cyclic::cyclic;
 use check_command::{check_file, check_input};
 use command_results::Said;
+use folders::MemoryFolder;
 use std::alloc::Global;
 use streams::MemorySource;
 
@@ -27,9 +29,9 @@ fn count_held(alloc: Global, rows: &[Answered]) -> usize {
     count
 }
 
-/// Whether this is said of standard input.
-fn says_of_input(alloc: Global, bytes: &[u8], text: &str) -> bool {
-    match check_input(alloc, LIMIT, &mut MemorySource::new(bytes)) {
+/// Whether this is said of standard input under the limit.
+fn says_of_input(alloc: Global, bytes: &[u8], limit: u32, text: &str) -> bool {
+    match check_input(alloc, limit, &mut MemorySource::new(bytes)) {
         Ok(said) => is_said(&said, text),
         Err(_) => false,
     }
@@ -38,7 +40,7 @@ fn says_of_input(alloc: Global, bytes: &[u8], text: &str) -> bool {
 /// How many bytes the first beginning has that isn't refused as no text.
 fn first_read(alloc: Global, bytes: &[u8]) -> usize {
     for n in 0..bytes.len() {
-        if !says_of_input(alloc, &bytes[..n], "no 1 Text\n") {
+        if !says_of_input(alloc, &bytes[..n], LIMIT, "no 1 Text\n") {
             return n;
         }
     }
@@ -47,12 +49,32 @@ fn first_read(alloc: Global, bytes: &[u8]) -> usize {
 
 /// Whether this is said of the bytes, and of each of their beginnings that they are no text.
 fn reads_input(alloc: Global, bytes: &[u8], text: &str) -> bool {
-    first_read(alloc, bytes) == bytes.len() && says_of_input(alloc, bytes, text)
+    first_read(alloc, bytes) == bytes.len() && says_of_input(alloc, bytes, LIMIT, text)
+}
+
+/// Whether the check of a file of the bytes, which holds more than 2^16, begins so.
+fn begins_so(alloc: Global, bytes: &[u8], beginning: &[u8]) -> bool {
+    let mut folder = MemoryFolder::new(alloc);
+    if bytes.len() <= 65536 || folder.put("a.mqc", bytes).is_err() {
+        return false;
+    }
+    match check_file(alloc, "a.mqc", LIMIT, &mut folder) {
+        Ok(said) => said.text.as_slice().starts_with(beginning),
+        Err(_) => false,
+    }
+}
+
+/// Whether a file of the largest order of the first format is read whole.
+fn reads_long_file(alloc: Global) -> bool {
+    match cyclic(alloc, 256, true) {
+        Some(text) => begins_so(alloc, &text, b"no 7 Outcome\nrule fails at "),
+        None => false,
+    }
 }
 
 #[test]
 fn answers_of_certificates(rt: HostRuntime) {
-    assert!(rt; count_held(rt.alloc(), &ANSWERS) == 19);
+    assert!(rt; count_held(rt.alloc(), &ANSWERS) == 31);
     assert!(rt;
         reads_input(
             rt.alloc(),
@@ -60,4 +82,12 @@ fn answers_of_certificates(rt: HostRuntime) {
             "yes 0.3 order 2 start 1 period 2\n"
         )
     );
+    for (limit, text) in [
+        (3, "yes 0.3 order 2 start 1 period 2\n"),
+        (2, "no 8 Limit\n"),
+        (1, "no 8 Limit\n"),
+    ] {
+        assert!(rt; says_of_input(rt.alloc(), OF_0_3.as_bytes(), limit, text));
+    }
+    assert!(rt; reads_long_file(rt.alloc()));
 }

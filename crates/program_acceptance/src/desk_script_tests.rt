@@ -128,8 +128,20 @@ fn count_held(alloc: Global, rows: &[(&[u8], usize)]) -> usize {
     count
 }
 
+/// How many steps a script has of so many lines.
+fn count_of_lines(alloc: Global, lines: usize) -> Option<usize> {
+    let Ok(script) = "drop 1 1\n".repeat(alloc, lines) else {
+        return None;
+    };
+    match read_script(alloc, script.as_bytes()) {
+        Ok(steps) => Some(steps.len()),
+        Err(_) => None,
+    }
+}
+
 #[test]
 fn reads_scripts(rt: HostRuntime) {
+    assert!(rt; count_of_lines(rt.alloc(), 2000) == Some(2000));
     assert!(rt; is_read_as(rt.alloc(), ALL_KINDS, &ROWS) && is_read_as(rt.alloc(), b"", &[]));
     assert!(rt; count_held(rt.alloc(), &FAULTS) == 31);
 }

@@ -1,6 +1,7 @@
 //! Two clients in turn, sixteen clients on one certificate, and want of memory at each growth.
-use crate::certificates::{OF_0_33, OF_0_75, RIGHT_UP_TO_8};
+use crate::certificates::{OF_0_3, OF_0_33, OF_0_75, RIGHT_UP_TO_8};
 use allocation::Room;
+use checker::check;
 use desk::{Client, Desk, Event, Reply};
 use ration::Ration;
 use std::alloc::Global;
@@ -184,6 +185,88 @@ fn units_of_sixteen(alloc: Global) -> u64 {
 #[test]
 fn counts_each_jobs_units(rt: HostRuntime) {
     assert!(rt; units_of_sixteen(rt.alloc()) >= 6 * 6 * 6 + 6 * 4);
+}
+
+/// What a check alone says of the claim.
+fn checked(alloc: Global, claim: Claim) -> Said {
+    match check(alloc, claim.0.as_bytes(), claim.1) {
+        Ok(_) => Said::Yes,
+        Err(refusal) => Said::No(refusal.number()),
+    }
+}
+
+/// The claim of a job, from 0 to 63: of each of four certificates with each limit from 1 to 16.
+fn claim_of(job: u8) -> Claim {
+    let bytes = match job % 4 {
+        0 => OF_0_3,
+        1 => OF_0_33,
+        2 => OF_0_75,
+        _ => RIGHT_UP_TO_8,
+    };
+    (bytes, (job / 4) as u32 + 1)
+}
+
+/// The job from 0 to 63 works: its client and its number are of the quotient and the rest by 4.
+fn work_one(desk: &mut Desk, job: u8, units: u64) -> Said {
+    work(desk, job / 4 + 1, job % 4 + 1, units)
+}
+
+/// Whether each client opens four jobs, all 64 of different claims.
+fn opens_all(alloc: Global, desk: &mut Desk) -> bool {
+    for job in 0..64u8 {
+        if open(alloc, desk, job / 4 + 1, claim_of(job)) != Said::Opened(job % 4 + 1) {
+            return false;
+        }
+    }
+    true
+}
+
+/// How many of the jobs go on after so many units more.
+fn count_going(desk: &mut Desk, units: u64) -> u8 {
+    let mut count = 0u8;
+    for job in 0..64u8 {
+        if work_one(desk, job, units) == Said::Going {
+            count = count.saturating_add(1);
+        }
+    }
+    count
+}
+
+/// Whether all jobs end, worked in turn.
+fn all_end(desk: &mut Desk) -> bool {
+    for _ in 0..10000u16 {
+        if count_going(desk, 100) == 0 {
+            return true;
+        }
+    }
+    false
+}
+
+/// How many jobs are told what a check alone says.
+fn count_told(alloc: Global, desk: &mut Desk) -> u8 {
+    let mut count = 0u8;
+    for job in 0..64u8 {
+        if work_one(desk, job, 0) == checked(alloc, claim_of(job)) {
+            count = count.saturating_add(1);
+        }
+    }
+    count
+}
+
+/// How many jobs of 64 different claims, worked in turn, are told what a check alone says.
+fn count_of_different(alloc: Global) -> u8 {
+    let mut desk = Desk::new(alloc);
+    if opens_all(alloc, &mut desk) && all_end(&mut desk) {
+        count_told(alloc, &mut desk)
+    } else {
+        0
+    }
+}
+
+/// Checks of different bytes or limits stand beside each other.
+#[test]
+fn works_different_checks_to_their_verdicts(rt: HostRuntime) {
+    assert!(rt; count_of_different(rt.alloc()) == 64);
 }
 
 const SMALL: Claim = (OF_0_33, 1000);

@@ -121,13 +121,23 @@ fn keeps<F: Folder>(folder: &mut F, name: &str, text: &str) -> bool {
         && matches!(is_read_as(folder, name, text), Ok(true))
 }
 
-/// Whether a file that isn't there is made, and replaced twice, and none is in no folder.
-fn is_replaced<F: Folder>(folder: &mut F, name: &str) -> bool {
+/// Whether a file that isn't there is made, and replaced by a long text and twice more, and none is
+/// in no folder.
+fn is_replaced<F: Folder>(folder: &mut F, name: &str, long: &str) -> bool {
     is_absent(folder, name)
         && keeps(folder, name, "a longer text")
+        && keeps(folder, name, long)
         && keeps(folder, name, "a text")
         && keeps(folder, name, "")
         && matches!(folder.write("/nowhere/a", b"x"), Err(FileFault::Device))
+}
+
+/// Whether a file is replaced so while another has the first name that is tried beside it, and the
+/// other is as it was then.
+fn is_replaced_beside<F: Folder>(folder: &mut F, name: &str, other: &str, long: &str) -> bool {
+    keeps(folder, other, "of another")
+        && is_replaced(folder, name, long)
+        && matches!(is_read_as(folder, other, "of another"), Ok(true))
 }
 
 #[test]
@@ -138,7 +148,11 @@ fn replaces_on_the_machine(rt: HostRuntime) -> Result<(), Fail> {
         place.as_str(),
         std::process::id(rt.process())
     )?;
-    assert!(rt; is_replaced(&mut HostFolder::new(&rt), name.as_str()));
+    let other = format!(in rt.alloc(); "{}.1.new", name.as_str())?;
+    let long = "0123456789".repeat(rt.alloc(), 7000)?;
+    let mut folder = HostFolder::new(&rt);
+    assert!(rt; is_replaced_beside(&mut folder, name.as_str(), other.as_str(), long.as_str()));
     fs::remove_file(&rt, name.as_str())?;
+    fs::remove_file(&rt, other.as_str())?;
     Ok(())
 }

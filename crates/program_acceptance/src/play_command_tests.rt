@@ -1,5 +1,7 @@
 //! Worked answers.
-use crate::certificates::{OF_0_1, OF_0_33, OF_0_75, folder_of, is_said};
+use crate::certificates::{
+    OF_0_1, OF_0_33, OF_0_75, OF_0_B, PART_OF_0_8, PART_OF_0_75, folder_of, is_said,
+};
 use command_results::Stop;
 use play_command::play;
 use std::alloc::Global;
@@ -7,7 +9,7 @@ use std::alloc::Global;
 const LIMIT: u32 = 100000;
 
 /// A heap of any size is answered at once: only its looks are tried.
-static ROWS: [(&str, &str, &str); 13] = [
+static ROWS: [(&str, &str, &str); 21] = [
     (OF_0_33, "2 1000000000000", "wins 2 -> 0\n"),
     (OF_0_33, "1 1", "wins 1 -> 0\n"),
     (OF_0_33, "0", "ended\n"),
@@ -29,6 +31,18 @@ static ROWS: [(&str, &str, &str); 13] = [
         "wins 1000000000000000000 -> 999999999999999999\n",
     ),
     ("mqc 1\n", "1", "no 1 Text\n"),
+    (OF_0_B, "4", "wins 4 -> 3\n"),
+    (OF_0_B, "1 1 1", "lost\n"),
+    (
+        OF_0_B,
+        "1000000000000000000",
+        "wins 1000000000000000000 -> 999999999999999999\n",
+    ),
+    (PART_OF_0_75, "2 5", "wins 5 -> 4\n"),
+    (PART_OF_0_75, "8 8", "lost\n"),
+    (PART_OF_0_75, "9", "refused 23 Beyond\n"),
+    (PART_OF_0_75, "1 8 9", "refused 23 Beyond\n"),
+    (PART_OF_0_8, "4 4", "wins 4 -> 1 1 1\n"),
 ];
 
 /// Whether this is said in the position. A second reading would fail.
@@ -86,6 +100,6 @@ fn count_stopped(alloc: Global, rows: &[(&str, &str, Stop<'static>)]) -> usize {
 
 #[test]
 fn answers_in_positions_or_stops(rt: HostRuntime) {
-    assert!(rt; count_said(rt.alloc(), &ROWS) == 13);
+    assert!(rt; count_said(rt.alloc(), &ROWS) == 21);
     assert!(rt; count_stopped(rt.alloc(), &STOPS) == 5);
 }

@@ -1,5 +1,7 @@
 //! What checks cost, however their units are cut.
-use crate::certificates::{OF_0_3, OF_0_33, OF_0_75, RIGHT_UP_TO_8};
+use crate::certificates::{
+    OF_0_3, OF_0_33, OF_0_75, OF_0_B, PART_OF_0_3, PART_OF_0_75, RIGHT_UP_TO_8,
+};
 use checker::{Job, Progress};
 use std::alloc::Global;
 
@@ -43,8 +45,9 @@ type Row = (&'static str, u32, u64, u64, u8, u64, u64);
 /// With q the order, n0 the start, p the period, k + 1 the length of the code and B = 2·n0 + 2·p +
 /// k, a check costs at most 2q³ + q² + q(n0 + p) + p² + (k + 1)B² + Bq² + B·limit + 16, and for a
 /// yes at least q³ + q(n0 + p): what stands here was worked out by hand, and of 0.33 less than that
-/// most.
-static ROWS: [Row; 13] = [
+/// most. Of 0.b B is 3·n0 + 3·p + k, with (k + 1)B³ in place of (k + 1)B², and of a part its last
+/// heap.
+static ROWS: [Row; 16] = [
     (OF_0_3, 1, 1, 1, 8, 1, 179),
     (OF_0_3, 8, 1, 1, 0, 14, 228),
     (OF_0_33, 100, 1, 1, 0, 240, 1999),
@@ -58,6 +61,9 @@ static ROWS: [Row; 13] = [
     (RIGHT_UP_TO_8, 2048, u64::MAX, 1, 7, 1, 31312),
     (RIGHT_UP_TO_8, 2048, u64::MAX, 7, 7, 1, 31312),
     (RIGHT_UP_TO_8, 2048, u64::MAX, 1000, 7, 1, 31312),
+    (OF_0_B, 8, 1, 7, 0, 14, 2166),
+    (PART_OF_0_3, 8, 1, 7, 0, 14, 74),
+    (PART_OF_0_75, 2048, 1, 7, 0, 584, 18264),
 ];
 
 /// Whether the job ends so within the bounds. A turn spends its unit, and behind the end none is
@@ -109,5 +115,5 @@ fn count_held(alloc: Global, rows: &[Row]) -> usize {
 
 #[test]
 fn costs_the_same_within_the_bounds(rt: HostRuntime) {
-    assert!(rt; count_held(rt.alloc(), &ROWS) == 13);
+    assert!(rt; count_held(rt.alloc(), &ROWS) == 16);
 }

@@ -1,9 +1,13 @@
 //! Certificates against their games, by loops of their own.
 use super::checked;
-use crate::certificates::{LIMIT, OF_0_1, OF_0_3, OF_0_33, OF_0_75, REFUTED};
+use crate::certificates::{
+    LIMIT, OF_0_1, OF_0_3, OF_0_33, OF_0_75, OF_0_B, PART_OF_0_3, PART_OF_0_75, REFUTED,
+};
 use certificate::{Cert, read};
+use checker::{Certified, check};
 use command_results::Said;
 use outcome_search::{Outcome, outcome};
+use player::fits;
 use positions::{LARGEST, Left, Position, options};
 use std::alloc::Global;
 
@@ -12,13 +16,21 @@ fn times(cert: &Cert, x: u16, y: u16) -> u16 {
     cert.rows().get(at).copied().unwrap_or(0)
 }
 
+/// The element of the heap, or 0 where it has none.
+fn element(cert: &Cert, heap: u64) -> u16 {
+    let last = cert.phi().heaps();
+    if heap >= 1 && (last == 0 || heap <= last) {
+        cert.phi().at(heap)
+    } else {
+        0
+    }
+}
+
 /// The product of x and the elements of the heaps.
 fn value(cert: &Cert, x: u16, heaps: &[u64]) -> u16 {
     let mut product = x;
     for heap in heaps {
-        if *heap >= 1 {
-            product = times(cert, product, cert.phi().at(*heap));
-        }
+        product = times(cert, product, element(cert, *heap));
     }
     product
 }
@@ -28,6 +40,7 @@ fn value_with(cert: &Cert, others: u16, left: Left) -> u16 {
         Left::Nothing => others,
         Left::One(a) => value(cert, others, &[a]),
         Left::Two(a, b) => value(cert, others, &[a, b]),
+        Left::Three(a, b, c) => value(cert, others, &[a, b, c]),
     }
 }
 
@@ -57,15 +70,15 @@ fn take(heaps: &mut Vec<u64>, room: &mut u64) -> u64 {
     last
 }
 
-/// The next rising list of sizes that has room.
-fn next(heaps: &mut Vec<u64>, room: &mut u64) -> bool {
+/// The next rising list of sizes up to `most` that has room.
+fn next(heaps: &mut Vec<u64>, room: &mut u64, most: u64) -> bool {
     let last = heaps.last().copied().unwrap_or(1);
     if last <= *room {
         return add(heaps, room, last);
     }
     for _ in 0..heaps.len() {
         let last = take(heaps, room);
-        if last < *room {
+        if last < most.min(*room) {
             return add(heaps, room, last.saturating_add(1));
         }
     }
@@ -82,42 +95,60 @@ fn push_all(position: &mut Position, heaps: &[u64]) -> bool {
     true
 }
 
-/// Whether the search finds what the values say of the position.
-fn agrees(alloc: Global, cert: &Cert, heaps: &[u64]) -> bool {
+/// Whether the search and the player find this of the position.
+fn find(alloc: Global, certified: &Certified, position: &Position, wanted: Outcome) -> bool {
+    outcome(alloc, certified.cert().code(), position, 65536) == Ok(wanted)
+        && fits(certified, position)
+        && player::outcome(certified, position) == wanted
+}
+
+/// Whether the search and the player find what the values say of the position.
+fn agree(alloc: Global, certified: &Certified, heaps: &[u64]) -> bool {
+    let cert = certified.cert();
     let is_p = cert.portion().contains(&value(cert, 0, heaps));
     let wanted = if is_p { Outcome::P } else { Outcome::N };
     let mut position = Position::new(alloc);
-    push_all(&mut position, heaps) && outcome(alloc, cert.code(), &position, 65536) == Ok(wanted)
+    push_all(&mut position, heaps) && find(alloc, certified, &position, wanted)
 }
 
-/// How many positions there are, from these heaps on with room for 20 more, if the search agrees at
-/// each, and else 0.
-fn count_from(alloc: Global, cert: &Cert, heaps: &mut Vec<u64>) -> usize {
-    let mut room = 20u64;
+/// How many positions there are of heaps up to `most` and up to `room` in all, from the empty list
+/// on, if all agree at each, and else 0.
+fn count_from(
+    alloc: Global,
+    certified: &Certified,
+    heaps: &mut Vec<u64>,
+    most: u64,
+    room: u64,
+) -> usize {
+    let mut room = room;
     for count in 1..10000usize {
-        if !agrees(alloc, cert, heaps) {
+        if !agree(alloc, certified, heaps) {
             return 0;
         }
-        if !next(heaps, &mut room) {
+        if !next(heaps, &mut room, most) {
             return count;
         }
     }
     0
 }
 
-/// How many positions there are up to 20 in all, if the search agrees at each, and else 0.
-fn count_of(alloc: Global, held: &str) -> usize {
-    match read(alloc, held.as_bytes()) {
-        Ok(cert) => count_from(alloc, &cert, &mut Vec::new(alloc)),
+/// How many positions there are of heaps up to `most` and up to `room` in all, if all agree at each,
+/// and else 0.
+fn count_of(alloc: Global, held: &str, most: u64, room: u64) -> usize {
+    match check(alloc, held.as_bytes(), LIMIT) {
+        Ok(certified) => count_from(alloc, &certified, &mut Vec::new(alloc), most, room),
         Err(_) => 0,
     }
 }
 
-/// How many certificates the search agrees with at each of 2714 positions.
-fn count_agreed(alloc: Global, certificates: &[&str]) -> usize {
+/// A certificate, the last heap, the most heaps in all, and how many positions there are of them.
+type Right = (&'static str, u64, u64, usize);
+
+/// How many certificates the search and the player agree with at each position.
+fn count_agreed(alloc: Global, rows: &[Right]) -> usize {
     let mut count = 0usize;
-    for held in certificates {
-        if count_of(alloc, held) == 2714 {
+    for (held, most, room, positions) in rows {
+        if count_of(alloc, held, *most, *room) == *positions {
             count = count.saturating_add(1);
         }
     }
@@ -135,10 +166,16 @@ fn place_in(text: &[u8]) -> &[u8] {
     place.unwrap_or(b"")
 }
 
-/// Whether the certificate's rule fails at the place.
+/// Whether the certificate speaks of each of the heaps.
+fn speaks_of(cert: &Cert, heaps: &[u64]) -> bool {
+    let last = cert.heaps();
+    last == 0 || heaps.iter().all(|heap| *heap <= last)
+}
+
+/// Whether the certificate's rule fails at the place, of which it speaks.
 fn fails_at(alloc: Global, cert: &Cert, place: &[u8]) -> bool {
     match Position::read(alloc, place) {
-        Ok(position) => rule_fails(cert, position.heaps()),
+        Ok(position) => speaks_of(cert, position.heaps()) && rule_fails(cert, position.heaps()),
         Err(_) => false,
     }
 }
@@ -168,14 +205,22 @@ fn count_refuted(alloc: Global, rows: &[(&str, &str)]) -> usize {
     count
 }
 
-static RIGHT: [&str; 4] = [OF_0_3, OF_0_33, OF_0_75, OF_0_1];
+static RIGHT: [Right; 7] = [
+    (OF_0_3, 20, 20, 2714),
+    (OF_0_33, 20, 20, 2714),
+    (OF_0_75, 20, 20, 2714),
+    (OF_0_1, 20, 20, 2714),
+    (OF_0_B, 12, 12, 272),
+    (PART_OF_0_3, 2, 20, 121),
+    (PART_OF_0_75, 8, 12, 258),
+];
 
 #[test]
 fn searches_agree_with_values(rt: HostRuntime) {
-    assert!(rt; count_agreed(rt.alloc(), &RIGHT) == 4);
+    assert!(rt; count_agreed(rt.alloc(), &RIGHT) == 7);
 }
 
 #[test]
 fn refuting_positions_refute(rt: HostRuntime) {
-    assert!(rt; count_refuted(rt.alloc(), &REFUTED) == 5);
+    assert!(rt; count_refuted(rt.alloc(), &REFUTED) == 6);
 }
