@@ -6,8 +6,8 @@ use Rattle.std.specs.declared.alloc.Global.{Global}
 use Rattle.certificate_text.specs.Spelling.{lines, text}
 use Rattle.octal_code.specs.Text.{IsCodeText}
 use Rattle.folders.specs.Files.{Holds, Replaces}
-use Rattle.misere_theory.specs.Certificates.{Certificate}
-use Rattle.catalogue.specs.Entries.{HasCode}
+use Rattle.misere_theory.specs.Certificates.{Certificate, kind_of}
+use Rattle.catalogue.specs.Entries.{HasEntry}
 use Rattle.catalogue.specs.Loads.{IsLoaded}
 use Rattle.catalogue.specs.Salvages.{IsSalvaged}
 use Rattle.catalogue.specs.declared.fault.LoadFault.{LoadFault}
@@ -15,7 +15,7 @@ use Rattle.catalogue.specs.Texts.{catalogue_text}
 use Rattle.answers.specs.Answers.{Answer, IsTrueOf}
 use Rattle.answers.specs.Answers.Answer.{Yes, Text, Law, Word, Order, Period, Apart, Outcome, Limit, Memory}
 use Rattle.verdict_texts.specs.Lines.{IsTextOf}
-use Rattle.catalogue_command.specs.Lines.{added_line, entry_line, salvage_lines, IsFaultLine}
+use Rattle.catalogue_command.specs.Lines.{added_line, entry_line, migrated_line, salvage_lines, IsFaultLine}
 
 -- the lines of all entries, well; or the line of the fault
 abbrev pub ListsAnswer : Result (List Certificate) LoadFault → Bool → List ℕ → Type 0
@@ -27,17 +27,18 @@ abbrev pub IsListing : List ℕ → ℕ → Bool → List ℕ → Type 0
 IsListing bytes limit well printed = (answer : Result (List Certificate) LoadFault)
     × IsLoaded bytes limit answer × ListsAnswer answer well printed
 
--- The text of the certificate of the code, well; that there is none; or the line of the fault.
-abbrev pub GetsAnswer : List ℕ → Result (List Certificate) LoadFault → Bool → List ℕ → Type 0
-GetsAnswer code (Ok cs) well printed =
-    ((c : Certificate) × Contains cs c × (c.code ≡ code) × (well ≡ true)
+-- The text of the certificate of the code and kind, well; that there is none; or the line of the
+-- fault.
+abbrev pub GetsAnswer : List ℕ → ℕ → Result (List Certificate) LoadFault → Bool → List ℕ → Type 0
+GetsAnswer code heaps (Ok cs) well printed =
+    ((c : Certificate) × Contains cs c × (c.code ≡ code) × (kind_of c ≡ heaps) × (well ≡ true)
     × (printed ≡ text (lines c)))
-    ⊎ ((HasCode cs code → ⊥) × (well ≡ false) × (printed ≡ codes "absent\n"))
-GetsAnswer code (Err fault) well printed = (well ≡ false) × IsFaultLine fault printed
+    ⊎ ((HasEntry cs code heaps → ⊥) × (well ≡ false) × (printed ≡ codes "absent\n"))
+GetsAnswer code heaps (Err fault) well printed = (well ≡ false) × IsFaultLine fault printed
 
-abbrev pub IsGotten : List ℕ → ℕ → List ℕ → Bool → List ℕ → Type 0
-IsGotten bytes limit code well printed = (answer : Result (List Certificate) LoadFault)
-    × IsLoaded bytes limit answer × GetsAnswer code answer well printed
+abbrev pub IsGotten : List ℕ → ℕ → List ℕ → ℕ → Bool → List ℕ → Type 0
+IsGotten bytes limit code heaps well printed = (answer : Result (List Certificate) LoadFault)
+    × IsLoaded bytes limit answer × GetsAnswer code heaps answer well printed
 
 -- what is said of what the file holds
 abbrev pub Lists : ℕ → Option (List ℕ → Option (List ℕ)) → List ℕ → Bool → List ℕ → Type 0
@@ -45,10 +46,11 @@ Lists limit files file well printed = (bytes : List ℕ) × Holds files file byt
     × IsListing bytes limit well printed
 
 -- the text is a code's, and this is said of what the file holds
-abbrev pub Gets : ℕ → Option (List ℕ → Option (List ℕ)) → List ℕ → List ℕ → Bool → List ℕ → Type 0
-Gets limit files file text well printed =
+abbrev pub Gets : ℕ → Option (List ℕ → Option (List ℕ)) → List ℕ → List ℕ → ℕ → Bool → List ℕ
+    → Type 0
+Gets limit files file text heaps well printed =
     (code bytes : List ℕ) × IsCodeText text code × Holds files file bytes
-    × IsGotten bytes limit code well printed
+    × IsGotten bytes limit code heaps well printed
 
 -- the file holds the empty catalogue, and nothing is printed
 abbrev pub Creates : Option (List ℕ → Option (List ℕ)) → Option (List ℕ → Option (List ℕ)) → List ℕ
@@ -63,12 +65,13 @@ Begins true limit files file answer = answer ≡ Ok []
 Begins false limit files file answer = (bytes : List ℕ) × Holds files file bytes
     × IsLoaded bytes limit answer
 
--- The certificate c is added behind the entries cs, well, where its code isn't there; else it is
--- refused.
+-- The certificate c is added behind the entries cs, well, where its code and kind aren't there; else
+-- it is refused.
 abbrev pub Takes : List Certificate → Certificate → Bool → List Certificate → List ℕ → Type 0
-Takes cs c true new printed = (HasCode cs c.code → ⊥) × (new ≡ cs ++ c ∷ [])
+Takes cs c true new printed = (HasEntry cs c.code (kind_of c) → ⊥) × (new ≡ cs ++ c ∷ [])
     × (printed ≡ added_line c.code)
-Takes cs c false new printed = HasCode cs c.code × (printed ≡ codes "refused 1 Present\n")
+Takes cs c false new printed = HasEntry cs c.code (kind_of c)
+    × (printed ≡ codes "refused 1 Present\n")
 
 -- what comes of a verdict: a certificate that is accepted may be added, and the text of a no is
 -- printed
@@ -129,3 +132,19 @@ Salvages limit before after file well printed =
     (bytes : List ℕ) × (answer : Result (List Certificate × Vec LoadFault Global) LoadFault)
     × Holds before file bytes
     × IsSalvaged bytes limit answer × SalvagesAnswer before after file answer well printed
+
+-- The file holds the text of the entries that were loaded, each of them and in their order, and how
+-- many they are is printed; or no file changes, and the line of the fault is printed.
+abbrev pub MigratesAnswer : Option (List ℕ → Option (List ℕ)) → Option (List ℕ → Option (List ℕ))
+    → List ℕ → Result (List Certificate) LoadFault → Bool → List ℕ → Type 0
+MigratesAnswer before after file (Ok cs) well printed =
+    (well ≡ true) × Replaces before after file (catalogue_text cs) × (printed ≡ migrated_line cs)
+MigratesAnswer before after file (Err fault) well printed = (well ≡ false) × (after ≡ before)
+    × IsFaultLine fault printed
+
+-- the whole migration: from the files before to those after, and what is printed
+abbrev pub Migrates : ℕ → Option (List ℕ → Option (List ℕ)) → Option (List ℕ → Option (List ℕ))
+    → List ℕ → Bool → List ℕ → Type 0
+Migrates limit before after file well printed =
+    (bytes : List ℕ) × (answer : Result (List Certificate) LoadFault) × Holds before file bytes
+    × IsLoaded bytes limit answer × MigratesAnswer before after file answer well printed

@@ -44,6 +44,6 @@ abbrev pub StopsAdd : Bool → List ℕ → List ℕ → Failed → Failed → C
 StopsAdd fresh file certificate =
     IsStop (λ name. ((fresh ≡ false) × (name ≡ file)) ⊎ (name ≡ certificate)) ⊤ ⊥
 
--- a salvage reads the file and writes
+-- a salvage and a migration read the file and write it
 abbrev pub StopsSalvage : List ℕ → Failed → Failed → CatalogueStop → Type 0
 StopsSalvage file = IsStop (λ name. name ≡ file) ⊤ ⊥

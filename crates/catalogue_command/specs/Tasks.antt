@@ -3,8 +3,8 @@
 use Rattle.std.specs.Prelude.{◌≡◌, ℕ, Bool, true, false, List, Option, Some, None}
 use Rattle.folders.specs.Files.{Replaces}
 use Rattle.requests.specs.Requests.{CatalogueRequest}
-use Rattle.requests.specs.Requests.CatalogueRequest.{Print, New, Add, NewWith, Get, Salvage}
-use Rattle.catalogue_command.specs.Answers.{Adds, Creates, Gets, Lists, Salvages}
+use Rattle.requests.specs.Requests.CatalogueRequest.{Print, New, Add, NewWith, Get, Salvage, Migrate}
+use Rattle.catalogue_command.specs.Answers.{Adds, Creates, Gets, Lists, Migrates, Salvages}
 use Rattle.catalogue_command.specs.Stops.{Failed, StopsAdd, StopsCreate, StopsGet, StopsList, StopsSalvage}
 use Rattle.catalogue_command.specs.declared.stop.CatalogueStop.{CatalogueStop}
 
@@ -17,9 +17,12 @@ SaysOfCatalogue limit before after file (Add certificate) text well =
     Adds false limit before after file certificate well text
 SaysOfCatalogue limit before after file (NewWith certificate) text well =
     Adds true limit before after file certificate well text
-SaysOfCatalogue limit before after file (Get code) text well = Gets limit before file code well text
+SaysOfCatalogue limit before after file (Get code heaps) text well =
+    Gets limit before file code heaps well text
 SaysOfCatalogue limit before after file Salvage text well =
     Salvages limit before after file well text
+SaysOfCatalogue limit before after file Migrate text well =
+    Migrates limit before after file well text
 
 -- the file, where what writes it ends well
 abbrev pub file_if : List ℕ → Bool → Option (List ℕ)
@@ -32,8 +35,9 @@ catalogue_written file Print well = None
 catalogue_written file New well = file_if file well
 catalogue_written file (Add certificate) well = file_if file well
 catalogue_written file (NewWith certificate) well = file_if file well
-catalogue_written file (Get code) well = None
+catalogue_written file (Get code heaps) well = None
 catalogue_written file Salvage well = file_if file well
+catalogue_written file Migrate well = file_if file well
 
 -- every file is as it was, or every file but one, which holds a new text
 abbrev pub Leaves : Option (List ℕ) → Option (List ℕ → Option (List ℕ))
@@ -49,5 +53,6 @@ StopsTask file (Add certificate) before after stop =
     StopsAdd false file certificate before after stop
 StopsTask file (NewWith certificate) before after stop =
     StopsAdd true file certificate before after stop
-StopsTask file (Get code) before after stop = StopsGet file code before after stop
+StopsTask file (Get code heaps) before after stop = StopsGet file code before after stop
 StopsTask file Salvage before after stop = StopsSalvage file before after stop
+StopsTask file Migrate before after stop = StopsSalvage file before after stop

@@ -12,12 +12,12 @@ use folders::Folder;
 use octal_code::Code;
 use std::alloc::Global;
 
-/// What is printed of a catalogue for a code.
-fn found(alloc: Global, catalogue: &Catalogue, code: &Code) -> Result<Report, Memory>
+/// What is printed of a catalogue for a code and a kind.
+fn found(alloc: Global, catalogue: &Catalogue, code: &Code, heaps: u64) -> Result<Report, Memory>
     ensures { IfOk result
-        (λ r. GetsAnswer code.now (Ok catalogue.now) r.well (string_bytes r.text)) }
+        (λ r. GetsAnswer code.now heaps (Ok catalogue.now) r.well (string_bytes r.text)) }
 {
-    match catalogue.get(code) {
+    match catalogue.get(code, heaps) {
         Some(certified) => {
             let text = certificate_text(alloc, certified.cert())?;
             Ok(Report { well: true, text })
@@ -29,13 +29,20 @@ fn found(alloc: Global, catalogue: &Catalogue, code: &Code) -> Result<Report, Me
     }
 }
 
-/// What is printed of the bytes for a code.
-fn entry_of(alloc: Global, bytes: &[u8], code: &Code, limit: u32) -> Result<Report, Memory>
-    ensures { IfOk result (λ r. IsGotten bytes.now limit code.now r.well (string_bytes r.text)) }
+/// What is printed of the bytes for a code and a kind.
+fn entry_of(
+    alloc: Global,
+    bytes: &[u8],
+    code: &Code,
+    heaps: u64,
+    limit: u32,
+) -> Result<Report, Memory>
+    ensures { IfOk result
+        (λ r. IsGotten bytes.now limit code.now heaps r.well (string_bytes r.text)) }
 {
     match Catalogue::load(alloc, bytes, limit) {
         Ok(catalogue) => {
-            let found = found(alloc, &catalogue, code);
+            let found = found(alloc, &catalogue, code, heaps);
             drop(catalogue);
             let report = found?;
             Ok(report)
@@ -47,17 +54,19 @@ fn entry_of(alloc: Global, bytes: &[u8], code: &Code, limit: u32) -> Result<Repo
     }
 }
 
-/// The certificate of a code, that there is none, or why the file isn't loaded. A code that can't
-/// be read stops it before the file is read.
+/// The certificate of a code, for the whole game with 0 heaps and else for the heaps up to `heaps`;
+/// that there is none; or why the file isn't loaded. A code that can't be read stops it before the
+/// file is read.
 pub fn get<'a, F: Folder>(
     alloc: Global,
     folder: &mut F,
     file: &'a str,
     code: &str,
+    heaps: u64,
     limit: u32,
 ) -> Result<Report, CatalogueStop<'a>>
     ensures told { IfOk result
-        (λ r. Gets limit (F.files folder.old) file.entry.now code.now r.well
+        (λ r. Gets limit (F.files folder.old) file.entry.now code.now heaps r.well
         (string_bytes r.text)) }
     ensures kept { F.files folder.new ≡ F.files folder.old }
     ensures usage { IsErrOf result CatalogueStop.NotACode → folder.new ≡ folder.old }
@@ -69,6 +78,6 @@ pub fn get<'a, F: Folder>(
         return Err(CatalogueStop::NotACode);
     };
     let bytes = read(folder, file)?;
-    let report = entry_of(alloc, &bytes, &code, limit)?;
+    let report = entry_of(alloc, &bytes, &code, heaps, limit)?;
     Ok(report)
 }

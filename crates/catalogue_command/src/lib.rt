@@ -1,5 +1,5 @@
 //! What the program does with a catalogue file: its entries are listed, one is printed, one is
-//! added, and what stands of a damaged file is kept.
+//! added, what stands of a damaged file is kept, and a file of an older version is written anew.
 //!
 //! Each action reads all that it needs, makes the text that is to be printed, and then writes the
 //! file where it changes it. So the file has changed exactly where the action ends well, and what
@@ -10,6 +10,7 @@ mod adding;
 mod finding;
 mod lines;
 mod listing;
+mod migrating;
 mod report;
 mod salvaging;
 mod stop;
@@ -18,6 +19,7 @@ mod tasks;
 pub use adding::{add, create};
 pub use finding::get;
 pub use listing::list;
+pub use migrating::migrate;
 pub use report::Report;
 pub use salvaging::salvage;
 pub use stop::CatalogueStop;

@@ -2,7 +2,7 @@
 ghost use Rattle.std.specs.Prelude.{◌≡◌, ◌++◌, IfOk, codes, decimal, string_bytes};
 ghost use Rattle.std.specs.List.{flat_map};
 ghost use Rattle.verdict_texts.specs.Lines.{no_line};
-ghost use Rattle.catalogue_command.specs.Lines.{IsFaultLine, added_line, entry_line, fault_line, refused_entry, salvage_lines};
+ghost use Rattle.catalogue_command.specs.Lines.{IsFaultLine, added_line, entry_line, fault_line, full_line, migrated_line, partial_line, refused_entry, salvage_lines};
 
 use allocation::Memory;
 use catalogue::{Catalogue, LoadFault};
@@ -11,14 +11,35 @@ use checker::Certified;
 use octal_code::Code;
 use std::alloc::Global;
 
-/// The line of an entry.
-fn entry_line(alloc: Global, cert: &Cert) -> Result<String, Memory>
-    ensures { IfOk result (λ t. string_bytes t ≡ entry_line cert.now) }
+/// The line of an entry for a whole game.
+fn full_line(alloc: Global, cert: &Cert) -> Result<String, Memory>
+    ensures { IfOk result (λ t. string_bytes t ≡ full_line cert.now) }
 {
     let code = cert.code().text(alloc)?;
     let (order, start, period) = (cert.order(), cert.start(), cert.period());
     let text = format!(in alloc; "{code} order {order} start {start} period {period}\n")?;
     Ok(text)
+}
+
+/// The line of an entry for a part of one.
+fn partial_line(alloc: Global, cert: &Cert) -> Result<String, Memory>
+    ensures { IfOk result (λ t. string_bytes t ≡ partial_line cert.now) }
+{
+    let code = cert.code().text(alloc)?;
+    let (order, last) = (cert.order(), cert.heaps());
+    let text = format!(in alloc; "{code} order {order} heaps {last}\n")?;
+    Ok(text)
+}
+
+/// The line of an entry.
+fn entry_line(alloc: Global, cert: &Cert) -> Result<String, Memory>
+    ensures { IfOk result (λ t. string_bytes t ≡ entry_line cert.now) }
+{
+    if cert.heaps() == 0 {
+        full_line(alloc, cert)
+    } else {
+        partial_line(alloc, cert)
+    }
 }
 
 /// The lines of all entries.
@@ -82,6 +103,7 @@ pub(crate) fn fault_line(alloc: Global, fault: &LoadFault) -> Result<String, Mem
         ),
         LoadFault::Code(place) => placed_line(alloc, "4 Code", *place),
         LoadFault::Twice(place) => placed_line(alloc, "5 Twice", *place),
+        LoadFault::Heaps(place) => placed_line(alloc, "6 Heaps", *place),
         LoadFault::Memory => Err(Memory),
     }
 }
@@ -125,5 +147,14 @@ pub(crate) fn added_line(alloc: Global, code: &Code) -> Result<String, Memory>
 {
     let code = code.text(alloc)?;
     let text = format!(in alloc; "added {code}\n")?;
+    Ok(text)
+}
+
+/// The line of a migration: how many entries were written anew.
+pub(crate) fn migrated_line(alloc: Global, catalogue: &Catalogue) -> Result<String, Memory>
+    ensures { IfOk result (λ t. string_bytes t ≡ migrated_line catalogue.now) }
+{
+    let count = catalogue.entries().len();
+    let text = format!(in alloc; "migrated {count}\n")?;
     Ok(text)
 }

@@ -7,6 +7,7 @@ ghost use Rattle.requests.specs.Requests.{catalogue_request_of};
 use crate::adding::{add, create};
 use crate::finding::get;
 use crate::listing::list;
+use crate::migrating::migrate;
 use crate::report::Report;
 use crate::salvaging::salvage;
 use crate::stop::CatalogueStop;
@@ -41,7 +42,10 @@ pub fn act<'a, F: Folder>(
         CatalogueTask::New => create(alloc, folder, file),
         CatalogueTask::Add(certificate) => add(alloc, folder, file, certificate, false, limit),
         CatalogueTask::NewWith(certificate) => add(alloc, folder, file, certificate, true, limit),
-        CatalogueTask::Get(code) => get(alloc, folder, file, code, limit),
+        CatalogueTask::Get { code, heaps } => {
+            get(alloc, folder, file, code, u64::from(heaps), limit)
+        }
         CatalogueTask::Salvage => salvage(alloc, folder, file, limit),
+        CatalogueTask::Migrate => migrate(alloc, folder, file, limit),
     }
 }

@@ -45,11 +45,11 @@ play = command (codes "play") (needed (codes "file") ∷ needed (codes "position
 abbrev pub present : App
 present = command (codes "present") (needed (codes "text") ∷ [])
 
--- catalogue FILE [--new] [--add CERTIFICATE] [--get CODE] [--salvage]
+-- catalogue FILE [--new] [--add CERTIFICATE] [--get CODE] [--heaps M] [--salvage] [--migrate]
 abbrev pub catalogue : App
 catalogue = command (codes "catalogue")
     (needed (codes "file") ∷ flag (codes "new") ∷ option (codes "add") ∷ option (codes "get")
-    ∷ flag (codes "salvage") ∷ [])
+    ∷ option (codes "heaps") ∷ flag (codes "salvage") ∷ flag (codes "migrate") ∷ [])
 
 -- desk SCRIPT
 abbrev pub desk : App

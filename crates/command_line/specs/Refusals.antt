@@ -1,15 +1,16 @@
 -- When each fault of a command line is answered. This project's own.
-use Rattle.std.specs.Prelude.{◌≡◌, ◌⊎◌, ◌&&◌, ◌||◌, ⊤, Bool, true, not, List, Option, Some, None}
-use Rattle.std.specs.Prelude.{Result, Ok, Err, codes, is_some}
+use Rattle.std.specs.Prelude.{◌≡◌, ◌⊎◌, ◌&&◌, ⊤, Bool, true, false, not, List, Contains, Option, Some, None}
+use Rattle.std.specs.Prelude.{Result, Ok, Err}
 use Rattle.std.specs.List.{list_any}
-use Rattle.clap.specs.Words.{Row, Text, IsAmong, first_of, fault_of, subcommand_of}
+use Rattle.std.specs.Option.{option_map_or}
+use Rattle.clap.specs.Words.{Row, Text, IsAmong, fault_of, subcommand_of}
 use Rattle.clap.specs.declared.error.kind.ErrorKind.{ErrorKind}
 use Rattle.clap.specs.declared.error.kind.ErrorKind.TheVariants.{DisplayHelp, DisplayVersion}
 use Rattle.command_line.specs.Numbers.{number_of}
 use Rattle.command_line.specs.Plans.{HasNumbersWithin}
 use Rattle.requests.specs.Requests.{request_of}
 use Rattle.command_line.specs.Program.{program}
-use Rattle.command_line.specs.Requests.{Asking, command_named, is_set}
+use Rattle.command_line.specs.Requests.{Asking, command_named, is_given}
 use Rattle.requests.specs.declared.plans.Plan.{Plan}
 use Rattle.command_line.specs.declared.faults.UsageFault.{UsageFault}
 use Rattle.command_line.specs.declared.faults.UsageFault.TheVariants.{Memory, Help, Words, Number}
@@ -19,30 +20,24 @@ use Rattle.command_line.specs.declared.faults.UsageFault.TheVariants.{Exclusive,
 
 -- an argument that the command needs isn't there
 abbrev pub lacks : Asking → List Row → Bool
-lacks command rows = list_any (λ rule. rule.required && not (is_some (first_of rule.id rows)))
+lacks command rows = list_any (λ rule. rule.required && not (is_given rule.id rows))
     command.app.top.rules
-
--- --get stands with --new or --add, or --salvage with another of the four
-abbrev pub has_exclusive : List Row → Bool
-has_exclusive rows =
-    let new = is_set (codes "new") rows in
-    let add = is_some (first_of (codes "add") rows) in
-    let get = is_some (first_of (codes "get") rows) in
-    (get && (new || add)) || (is_set (codes "salvage") rows && (new || add || get))
 
 -- what a fault says of a command's arguments
 abbrev pub IsMistake : Asking → List Row → UsageFault → Type 0
 IsMistake command rows Memory = ⊥
 IsMistake command rows (Help text) = ⊥
 IsMistake command rows (Words text) = ⊥
-IsMistake command rows (Number quantity) = number_of quantity rows ≡ None
-IsMistake command rows Exclusive = has_exclusive rows ≡ true
+IsMistake command rows (Number quantity) =
+    Contains command.numbers quantity × (number_of quantity rows ≡ None)
+IsMistake command rows Exclusive = command.conflicts rows ≡ true
 IsMistake command rows Incomplete = lacks command rows ≡ true
 
 -- the arguments ask for this, or else for nothing, for such a mistake
 abbrev pub Answers : Asking → List Row → Result Plan UsageFault → Type 0
 Answers command rows (Ok plan) =
     (command.request rows ≡ Some (request_of plan)) × HasNumbersWithin plan
+    × (command.conflicts rows ≡ false)
 Answers command rows (Err fault) = (command.request rows ≡ None) × IsMistake command rows fault
 
 -- the fault is one of the command that was found; where none was, the words are incomplete
@@ -53,6 +48,12 @@ IsMistakeOf (Some command) rows fault = IsMistake command rows fault
 abbrev pub IsMistakeIn : Option (Text × List Row) → UsageFault → Type 0
 IsMistakeIn None fault = fault ≡ Incomplete
 IsMistakeIn (Some found) fault = IsMistakeOf (command_named found.0) found.1 fault
+
+-- options of the command that was found exclude each other
+abbrev pub conflicts_in : Option (Text × List Row) → Bool
+conflicts_in found = option_map_or
+    (λ f. option_map_or (λ c. c.conflicts f.1) (command_named f.0) false)
+    found false
 
 -- ---- faults of the words
 

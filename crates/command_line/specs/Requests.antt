@@ -1,18 +1,19 @@
 -- What the words of a command line ask for, as a function. This project's own, over the words of
 -- `clap`.
-use Rattle.std.specs.Prelude.{ℕ, Bool, true, false, List, [], ◌∷◌, Option, Some, None, codes, find}
+use Rattle.std.specs.Prelude.{ℕ, Bool, true, false, not, ◌&&◌, ◌||◌, List, [], ◌∷◌, Option, Some, None, codes, find, is_some}
 use Rattle.std.specs.Prelude.{option_map, option_and_then}
 use Rattle.std.specs.Option.{option_map_or}
 use Rattle.std.specs.Str.{bytes_eq}
 use Rattle.clap.specs.Words.{App, Kinds, Row, Text, first_of, fault_of, found_of, rows_of}
 use Rattle.clap.specs.Words.{subcommand_of}
 use Rattle.clap.specs.declared.parser.matches.ArgMatches.{ArgMatches}
-use Rattle.command_line.specs.Numbers.{number_of}
+use Rattle.command_line.specs.Numbers.{bounds_of, number_in, number_of}
 use Rattle.command_line.specs.Program
 use Rattle.command_line.specs.Program.{program}
-use Rattle.command_line.specs.declared.numbers.Quantity.TheVariants.{Limit, Rounds, Heaps, Order}
+use Rattle.command_line.specs.declared.numbers.Quantity.{Quantity}
+use Rattle.command_line.specs.declared.numbers.Quantity.TheVariants.{Limit, Rounds, Heaps, Order, Part}
 use Rattle.requests.specs.Requests.{CatalogueRequest, Request}
-use Rattle.requests.specs.Requests.CatalogueRequest.{Print, New, Add, NewWith, Get, Salvage}
+use Rattle.requests.specs.Requests.CatalogueRequest.{Print, New, Add, NewWith, Get, Salvage, Migrate}
 use Rattle.requests.specs.Requests.Request.{Check, Solve, Show, Play, Present, Catalogue, Desk}
 
 -- ---- what each command asks for with its arguments
@@ -52,19 +53,41 @@ present_request rows = option_map Present (first_of (codes "text") rows)
 abbrev pub is_set : Text → List Row → Bool
 is_set flag rows = option_map_or (λ text. bytes_eq text (codes "true")) (first_of flag rows) false
 
--- what the flags --new and --salvage and the options --add and --get ask for together
-abbrev pub task_of : Bool → Bool → Option Text → Option Text → Option CatalogueRequest
-task_of false false None None = Some Print
-task_of true false None None = Some New
-task_of false false (Some certificate) None = Some (Add certificate)
-task_of true false (Some certificate) None = Some (NewWith certificate)
-task_of false false None (Some code) = Some (Get code)
-task_of false true None None = Some Salvage
-task_of _ _ _ _ = None
+-- an option was given
+abbrev pub is_given : Text → List Row → Bool
+is_given name rows = is_some (first_of name rows)
+
+-- what the flags --new, --salvage and --migrate and the options --add, --get and --heaps ask for
+-- together
+abbrev pub task_of : (new salvage migrate : Bool) → (add get heaps : Option Text)
+    → Option CatalogueRequest
+task_of false false false None None None = Some Print
+task_of true false false None None None = Some New
+task_of false false false (Some certificate) None None = Some (Add certificate)
+task_of true false false (Some certificate) None None = Some (NewWith certificate)
+task_of false false false None (Some code) heaps =
+    option_map (λ n. Get code n) (number_in (bounds_of Part) heaps)
+task_of false true false None None None = Some Salvage
+task_of false false true None None None = Some Migrate
+task_of _ _ _ _ _ _ = None
 
 abbrev pub task_in : List Row → Option CatalogueRequest
 task_in rows = task_of (is_set (codes "new") rows) (is_set (codes "salvage") rows)
-    (first_of (codes "add") rows) (first_of (codes "get") rows)
+    (is_set (codes "migrate") rows) (first_of (codes "add") rows)
+    (first_of (codes "get") rows) (first_of (codes "heaps") rows)
+
+-- --get stands with --new or --add, --heaps without --get, or --salvage or --migrate with another
+-- option
+abbrev pub catalogue_conflicts : List Row → Bool
+catalogue_conflicts rows =
+    let new = is_set (codes "new") rows in
+    let add = is_given (codes "add") rows in
+    let get = is_given (codes "get") rows in
+    let heaps = is_given (codes "heaps") rows in
+    let salvage = is_set (codes "salvage") rows in
+    let migrate = is_set (codes "migrate") rows in
+    (get && (new || add)) || (heaps && not get)
+    || ((salvage || migrate) && (new || add || get || heaps)) || (salvage && migrate)
 
 abbrev pub catalogue_with : Option Text → Option CatalogueRequest → Option Request
 catalogue_with (Some file) (Some task) = Some (Catalogue file task)
@@ -78,31 +101,43 @@ desk_request rows = option_map Desk (first_of (codes "script") rows)
 
 -- ---- the commands
 
--- a command: what it is to `clap`, and what it asks for
+-- a command: what it is to `clap`, what it asks for, the numbers that it takes, and whether options
+-- that are given exclude each other
 pub record Asking : Type 0 where
   pub app : App
   pub request : List Row → Option Request
+  pub numbers : List Quantity
+  pub conflicts : List Row → Bool
+
+-- no options exclude each other
+abbrev pub never : List Row → Bool
+never rows = false
 
 abbrev pub check : Asking
-check = record { app = Program.check; request = check_request }
+check = record { app = Program.check; request = check_request; numbers = Limit ∷ []; conflicts = never }
 
 abbrev pub solve : Asking
-solve = record { app = Program.solve; request = solve_request }
+solve = record {
+  app = Program.solve;
+  request = solve_request;
+  numbers = Limit ∷ Rounds ∷ Heaps ∷ Order ∷ [];
+  conflicts = never;
+}
 
 abbrev pub show : Asking
-show = record { app = Program.show; request = show_request }
+show = record { app = Program.show; request = show_request; numbers = []; conflicts = never }
 
 abbrev pub play : Asking
-play = record { app = Program.play; request = play_request }
+play = record { app = Program.play; request = play_request; numbers = []; conflicts = never }
 
 abbrev pub present : Asking
-present = record { app = Program.present; request = present_request }
+present = record { app = Program.present; request = present_request; numbers = []; conflicts = never }
 
 abbrev pub catalogue : Asking
-catalogue = record { app = Program.catalogue; request = catalogue_request }
+catalogue = record { app = Program.catalogue; request = catalogue_request; numbers = Part ∷ []; conflicts = catalogue_conflicts }
 
 abbrev pub desk : Asking
-desk = record { app = Program.desk; request = desk_request }
+desk = record { app = Program.desk; request = desk_request; numbers = []; conflicts = never }
 
 abbrev pub commands : List Asking
 commands = check ∷ solve ∷ show ∷ play ∷ present ∷ catalogue ∷ desk ∷ []

@@ -5,7 +5,7 @@ use Rattle.command_line.specs.declared.faults.UsageFault.{UsageFault}
 use Rattle.command_line.specs.declared.faults.UsageFault.TheVariants.{Memory, Help, Words, Number}
 use Rattle.command_line.specs.declared.faults.UsageFault.TheVariants.{Exclusive, Incomplete}
 use Rattle.command_line.specs.declared.numbers.Quantity.{Quantity}
-use Rattle.command_line.specs.declared.numbers.Quantity.TheVariants.{Limit, Rounds, Heaps, Order}
+use Rattle.command_line.specs.declared.numbers.Quantity.TheVariants.{Limit, Rounds, Heaps, Order, Part}
 
 -- help ends well, refused words with 2, want of memory with 3
 abbrev pub status_of : UsageFault → ℕ
@@ -21,6 +21,7 @@ range_text Limit = codes "misere: the limit is a number from 1 to 1000000\n"
 range_text Rounds = codes "misere: the rounds are a number from 1 to 1000\n"
 range_text Heaps = codes "misere: the heaps are a number from 2 to 64\n"
 range_text Order = codes "misere: the order is a number from 2 to 256\n"
+range_text Part = codes "misere: the heaps are a number from 0 to 1024\n"
 
 -- what is told of the fault
 abbrev pub text_of : UsageFault → Text
@@ -29,5 +30,5 @@ text_of (Help text) = string_bytes text
 text_of (Words text) = string_bytes text
 text_of (Number quantity) = range_text quantity
 text_of Exclusive =
-    codes "misere: --get goes without --new and --add, --salvage without all three\n"
+    codes "misere: --heaps goes with --get, --get without --new and --add, --salvage and --migrate alone\n"
 text_of Incomplete = codes "misere: no command; see misere --help\n"

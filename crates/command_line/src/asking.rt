@@ -1,10 +1,10 @@
 //! What each command asks for with its arguments.
-ghost use Rattle.std.specs.Prelude.{◌≡◌, None, Some, true, IfOk, IfErr, option_map};
+ghost use Rattle.std.specs.Prelude.{◌≡◌, None, Some, false, true, IfOk, IfErr, option_map};
 ghost use Rattle.clap.specs.Words.{first_of};
 ghost use Rattle.command_line.specs.Numbers.{IsWithin, number_of};
-ghost use Rattle.command_line.specs.Plans.{HasNumbersWithin};
-ghost use Rattle.command_line.specs.Refusals.{Answers, IsMistakeIn, has_exclusive};
-ghost use Rattle.command_line.specs.Requests.{arguments_of, catalogue, check, desk, is_set, play};
+ghost use Rattle.command_line.specs.Plans.{HasNumbersWithin, TaskHasNumbersWithin};
+ghost use Rattle.command_line.specs.Refusals.{Answers, IsMistake, IsMistakeIn, conflicts_in};
+ghost use Rattle.command_line.specs.Requests.{arguments_of, catalogue, catalogue_conflicts, check, desk, is_set, play};
 ghost use Rattle.command_line.specs.Requests.{present, request_in, show, solve, task_in};
 ghost use Rattle.requests.specs.Requests.{catalogue_request_of, request_of};
 
@@ -101,19 +101,35 @@ fn present_plan<'a>(given: &ArgMatches<'a>) -> Result<Plan<'a>, UsageFault>
 fn catalogue_task<'a>(given: &ArgMatches<'a>) -> Result<CatalogueTask<'a>, UsageFault>
     ensures task { IfOk result (λ task. task_in (arguments_of given.now)
         ≡ Some (catalogue_request_of task)) }
-    ensures none { IfErr result (λ fault. (task_in (arguments_of given.now) ≡ None)
-        × (fault ≡ UsageFault.Exclusive)) }
-    ensures exclusive { IfErr result (λ _. has_exclusive (arguments_of given.now) ≡ true) }
+    ensures numbers { IfOk result TaskHasNumbersWithin }
+    ensures apart { IfOk result (λ _. catalogue_conflicts (arguments_of given.now) ≡ false) }
+    ensures none { IfErr result (λ _. task_in (arguments_of given.now) ≡ None) }
+    ensures mistake { IfErr result (IsMistake catalogue (arguments_of given.now)) }
 {
     let is_new = flag(given, "new");
     let salvages = flag(given, "salvage");
-    match (is_new, salvages, value(given, "add"), value(given, "get")) {
-        (false, false, None, None) => Ok(CatalogueTask::Print),
-        (true, false, None, None) => Ok(CatalogueTask::New),
-        (false, false, Some(certificate), None) => Ok(CatalogueTask::Add(certificate)),
-        (true, false, Some(certificate), None) => Ok(CatalogueTask::NewWith(certificate)),
-        (false, false, None, Some(code)) => Ok(CatalogueTask::Get(code)),
-        (false, true, None, None) => Ok(CatalogueTask::Salvage),
+    let migrates = flag(given, "migrate");
+    let heaps = value(given, "heaps");
+    match (
+        is_new,
+        salvages,
+        migrates,
+        value(given, "add"),
+        value(given, "get"),
+        heaps,
+    ) {
+        (false, false, false, None, None, None) => Ok(CatalogueTask::Print),
+        (true, false, false, None, None, None) => Ok(CatalogueTask::New),
+        (false, false, false, Some(certificate), None, None) => Ok(CatalogueTask::Add(certificate)),
+        (true, false, false, Some(certificate), None, None) => {
+            Ok(CatalogueTask::NewWith(certificate))
+        }
+        (false, false, false, None, Some(code), _) => {
+            let heaps = number(given, Quantity::Part)?;
+            Ok(CatalogueTask::Get { code, heaps })
+        }
+        (false, true, false, None, None, None) => Ok(CatalogueTask::Salvage),
+        (false, false, true, None, None, None) => Ok(CatalogueTask::Migrate),
         _ => Err(UsageFault::Exclusive),
     }
 }
@@ -138,6 +154,8 @@ pub(crate) fn command_plan<'a>(name: &str, given: &ArgMatches<'a>) -> Result<Pla
     ensures asked { IfOk result (λ plan. request_in (Some (name.now, arguments_of given.now))
         ≡ Some (request_of plan)) }
     ensures numbers { IfOk result HasNumbersWithin }
+    ensures apart { IfOk result (λ _. conflicts_in (Some (name.now, arguments_of given.now))
+        ≡ false) }
     ensures nothing { IfErr result (λ _. request_in (Some (name.now, arguments_of given.now))
         ≡ None) }
     ensures fault { IfErr result (IsMistakeIn (Some (name.now, arguments_of given.now))) }

@@ -108,7 +108,12 @@ fn solve_command<'a>(alloc: Global) -> Result<Command<'a>, AllocError>
     let made = Ok(command(alloc, "solve", about));
     let made = with_arg(
         made,
-        needed(alloc, "code", "CODE", "An octal code, as 0.77"),
+        needed(
+            alloc,
+            "code",
+            "CODE",
+            "The code of a game, octal or hexadecimal, as 0.77",
+        ),
     );
     let made = with_arg(made, limit(alloc));
     let made = with_arg(made, option(alloc, "rounds", "R", rounds));
@@ -151,7 +156,10 @@ fn catalogue_command<'a>(alloc: Global) -> Result<Command<'a>, AllocError>
     let new = "Begin with an empty catalogue; FILE isn't read";
     let add = "Add the certificate in the file CERT, and write FILE";
     let get = "Print the certificate of CODE; without --new and --add";
+    let heaps =
+        "With --get, that of the heaps up to M: 1 to 1024, by default 0, for the whole game";
     let salvage = "Keep the entries without a fault, and write FILE; without another option";
+    let migrate = "Write FILE in the newest form, with the same entries; without another option";
     let made = Ok(command(alloc, "catalogue", about));
     let made = with_arg(
         made,
@@ -160,7 +168,9 @@ fn catalogue_command<'a>(alloc: Global) -> Result<Command<'a>, AllocError>
     let made = with_arg(made, flag(alloc, "new", new));
     let made = with_arg(made, option(alloc, "add", "CERT", add));
     let made = with_arg(made, option(alloc, "get", "CODE", get));
-    with_arg(made, flag(alloc, "salvage", salvage))
+    let made = with_arg(made, option(alloc, "heaps", "M", heaps));
+    let made = with_arg(made, flag(alloc, "salvage", salvage));
+    with_arg(made, flag(alloc, "migrate", migrate))
 }
 
 fn desk_command<'a>(alloc: Global) -> Result<Command<'a>, AllocError>
@@ -176,7 +186,7 @@ fn desk_command<'a>(alloc: Global) -> Result<Command<'a>, AllocError>
 fn misere_command<'a>(alloc: Global) -> Command<'a>
     ensures { app_of result ≡ misere }
 {
-    let about = "Finds, checks and plays with misère quotients of octal games";
+    let about = "Finds, checks and plays with misère quotients of octal and hexadecimal games";
     Command::new(alloc, "misere").version(VERSION).about(about)
 }
 

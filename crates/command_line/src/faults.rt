@@ -15,7 +15,7 @@ pub enum UsageFault {
     Words(String),
     /// A number isn't one of its range, in decimal without leading zeros.
     Number(Quantity),
-    /// Options stand together that exclude each other.
+    /// Options stand together that exclude each other, or one without that which it needs.
     Exclusive,
     /// A command is missing, or an argument that it needs.
     Incomplete,
@@ -30,6 +30,7 @@ fn range_line(quantity: Quantity) -> &'static str
         Quantity::Rounds => "misere: the rounds are a number from 1 to 1000\n",
         Quantity::Heaps => "misere: the heaps are a number from 2 to 64\n",
         Quantity::Order => "misere: the order is a number from 2 to 256\n",
+        Quantity::Part => "misere: the heaps are a number from 0 to 1024\n",
     }
 }
 
@@ -57,7 +58,7 @@ impl UsageFault {
             UsageFault::Help(text) | UsageFault::Words(text) => text.as_str(),
             UsageFault::Number(quantity) => range_line(*quantity),
             UsageFault::Exclusive => {
-                "misere: --get goes without --new and --add, --salvage without all three\n"
+                "misere: --heaps goes with --get, --get without --new and --add, --salvage and --migrate alone\n"
             }
             UsageFault::Incomplete => "misere: no command; see misere --help\n",
         }

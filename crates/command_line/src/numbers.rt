@@ -18,6 +18,8 @@ pub enum Quantity {
     Heaps,
     /// The most elements of a quotient that the search proposes.
     Order,
+    /// The last heap of the part of a game of which a certificate speaks, and 0 for the whole game.
+    Part,
 }
 
 /// The range of a number, its ends included, and what the number is where none is given.
@@ -38,6 +40,7 @@ impl Quantity {
             Quantity::Rounds => (1, 1000, 64),
             Quantity::Heaps => (2, 64, 24),
             Quantity::Order => (2, 256, 64),
+            Quantity::Part => (0, 1024, 0),
         };
         Bounds {
             least,
@@ -46,14 +49,15 @@ impl Quantity {
         }
     }
 
-    /// The name of the option.
+    /// The name of the option. The heaps of a search and those of a part have one name, and no
+    /// command takes both.
     pub fn name(self) -> &'static str
         ensures { result.now ≡ name_of self }
     {
         match self {
             Quantity::Limit => "limit",
             Quantity::Rounds => "rounds",
-            Quantity::Heaps => "heaps",
+            Quantity::Heaps | Quantity::Part => "heaps",
             Quantity::Order => "order",
         }
     }

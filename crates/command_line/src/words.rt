@@ -1,9 +1,9 @@
 //! What the words of a command line ask for.
-ghost use Rattle.std.specs.Prelude.{◌≡◌, ◌≢◌, [], Some, None, IfOk, IfErr, map};
+ghost use Rattle.std.specs.Prelude.{◌≡◌, ◌≢◌, [], Some, None, false, IfOk, IfErr, map};
 ghost use Rattle.clap.specs.Words.{fault_of, kind_of, subcommand_of, subcommand_rows_of};
 ghost use Rattle.command_line.specs.Plans.{HasNumbersWithin};
 ghost use Rattle.command_line.specs.Program.{program};
-ghost use Rattle.command_line.specs.Refusals.{IsOfKind, IsFaultOf};
+ghost use Rattle.command_line.specs.Refusals.{IsOfKind, IsFaultOf, conflicts_in};
 ghost use Rattle.command_line.specs.Requests.{plan_of};
 ghost use Rattle.requests.specs.Requests.{request_of};
 
@@ -56,6 +56,8 @@ pub fn plan<'a>(alloc: Global, words: &'a [&'a str]) -> Result<Plan<'a>, UsageFa
     ensures asked { IfOk result (λ plan. plan_of (map (λ w. w.now) words.entry.now)
         ≡ Some (request_of plan)) }
     ensures numbers { IfOk result HasNumbersWithin }
+    ensures apart { IfOk result (λ _. conflicts_in (subcommand_of program
+        (map (λ w. w.now) words.entry.now)) ≡ false) }
     ensures nothing { IfErr result (λ fault. fault ≢ UsageFault.Memory
         → plan_of (map (λ w. w.now) words.entry.now) ≡ None) }
     ensures fault { IfErr result (IsFaultOf (map (λ w. w.now) words.entry.now)) }

@@ -15,8 +15,9 @@ pub data CatalogueRequest : Type 0 where
   New : CatalogueRequest
   Add : List ℕ → CatalogueRequest
   NewWith : List ℕ → CatalogueRequest
-  Get : List ℕ → CatalogueRequest
+  Get : List ℕ → ℕ → CatalogueRequest
   Salvage : CatalogueRequest
+  Migrate : CatalogueRequest
 
 -- what is asked of the program
 pub data Request : Type 0 where
@@ -34,8 +35,9 @@ catalogue_request_of task.Print = Print
 catalogue_request_of task.New = New
 catalogue_request_of (task.Add certificate) = Add certificate.now
 catalogue_request_of (task.NewWith certificate) = NewWith certificate.now
-catalogue_request_of (task.Get code) = Get code.now
+catalogue_request_of (task.Get code heaps) = Get code.now heaps
 catalogue_request_of task.Salvage = Salvage
+catalogue_request_of task.Migrate = Migrate
 
 -- what a plan asks for
 abbrev pub request_of : Plan → Request

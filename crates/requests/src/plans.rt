@@ -56,8 +56,11 @@ pub enum CatalogueTask<'a> {
     Add(&'a str),
     /// Write a catalogue of the certificate in this file alone, without reading the catalogue.
     NewWith(&'a str),
-    /// Print the certificate of this code.
-    Get(&'a str),
+    /// Print the certificate of this code: with 0 heaps that of the whole game, and else that of
+    /// the heaps up to `heaps`.
+    Get { code: &'a str, heaps: u32 },
     /// Keep the entries that are certified, and tell the others.
     Salvage,
+    /// Write the entries as a file of the newest version, and tell how many they are.
+    Migrate,
 }

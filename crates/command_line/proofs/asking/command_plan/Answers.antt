@@ -2,10 +2,11 @@ use Rattle.std.proofs.Common.{◌≡◌, ◌∙◌, ap, codes, false, refl, subs
 use Rattle.std.proofs.Common.{None, Some, if◌then◌else◌, option_and_then, List, IfErr, IfOk}
 use Rattle.std.proofs.Common.{Result, Ok, Err}
 use Rattle.std.proofs.lemmas.Slice.Eq.{bytes_eq-Decides}
+use Rattle.std.specs.Option.{option_map_or}
 use Rattle.std.specs.Str.{bytes_eq}
 use Rattle.clap.specs.Words.{Row, Text, found_of, rows_of}
 use Rattle.command_line.specs.Plans.{HasNumbersWithin}
-use Rattle.command_line.specs.Refusals.{Answers, IsMistakeIn, IsMistakeOf}
+use Rattle.command_line.specs.Refusals.{Answers, IsMistakeIn, IsMistakeOf, conflicts_in}
 use Rattle.command_line.specs.Requests.{Asking, arguments_of, command_named, request_in}
 use Rattle.command_line.specs.Requests.{check, solve, show, play, present, catalogue, desk}
 use Rattle.requests.specs.Requests.{request_of}
@@ -53,6 +54,13 @@ module _ (name : Text) (rows : List Row) (command : Asking) (is : command_named 
     numbers (Ok plan) h = h.1
     numbers (Err fault) h = tt
 
+    apart : (r : Result Plan UsageFault) → Answers command rows r
+        → IfOk r (λ (plan : Plan). conflicts_in (Some (name, rows)) ≡ false)
+    apart (Ok plan) h =
+        ap (λ (a : Option Asking). option_map_or (λ (c : Asking). c.conflicts rows) a false) is
+        ∙ h.2
+    apart (Err fault) h = tt
+
     nothing : (r : Result Plan UsageFault) → Answers command rows r
         → IfErr r (λ (f : UsageFault). request_in (Some (name, rows)) ≡ None)
     nothing (Ok plan) h = tt
@@ -72,6 +80,7 @@ returns-in-check c =
     let is : command_named name ≡ Some check = ap command_named c.in-check.is in record {
       asked = asked name rows check is plan c.check_plan.ensures;
       numbers = numbers name rows check is plan c.check_plan.ensures;
+      apart = apart name rows check is plan c.check_plan.ensures;
       nothing = nothing name rows check is plan c.check_plan.ensures;
       fault = mistake name rows check is plan c.check_plan.ensures;
     }
@@ -84,6 +93,7 @@ returns-in-solve c =
     let is : command_named name ≡ Some solve = ap command_named c.in-solve.is in record {
       asked = asked name rows solve is plan c.solve_plan.ensures;
       numbers = numbers name rows solve is plan c.solve_plan.ensures;
+      apart = apart name rows solve is plan c.solve_plan.ensures;
       nothing = nothing name rows solve is plan c.solve_plan.ensures;
       fault = mistake name rows solve is plan c.solve_plan.ensures;
     }
@@ -96,6 +106,7 @@ returns-in-show c =
     let is : command_named name ≡ Some show = ap command_named c.in-show.is in record {
       asked = asked name rows show is plan c.show_plan.ensures;
       numbers = numbers name rows show is plan c.show_plan.ensures;
+      apart = apart name rows show is plan c.show_plan.ensures;
       nothing = nothing name rows show is plan c.show_plan.ensures;
       fault = mistake name rows show is plan c.show_plan.ensures;
     }
@@ -108,6 +119,7 @@ returns-in-play c =
     let is : command_named name ≡ Some play = ap command_named c.in-play.is in record {
       asked = asked name rows play is plan c.play_plan.ensures;
       numbers = numbers name rows play is plan c.play_plan.ensures;
+      apart = apart name rows play is plan c.play_plan.ensures;
       nothing = nothing name rows play is plan c.play_plan.ensures;
       fault = mistake name rows play is plan c.play_plan.ensures;
     }
@@ -120,6 +132,7 @@ returns-in-present c =
     let is : command_named name ≡ Some present = ap command_named c.in-present.is in record {
       asked = asked name rows present is plan c.present_plan.ensures;
       numbers = numbers name rows present is plan c.present_plan.ensures;
+      apart = apart name rows present is plan c.present_plan.ensures;
       nothing = nothing name rows present is plan c.present_plan.ensures;
       fault = mistake name rows present is plan c.present_plan.ensures;
     }
@@ -132,6 +145,7 @@ returns-in-catalogue c =
     let is : command_named name ≡ Some catalogue = ap command_named c.in-catalogue.is in record {
       asked = asked name rows catalogue is plan c.catalogue_plan.ensures;
       numbers = numbers name rows catalogue is plan c.catalogue_plan.ensures;
+      apart = apart name rows catalogue is plan c.catalogue_plan.ensures;
       nothing = nothing name rows catalogue is plan c.catalogue_plan.ensures;
       fault = mistake name rows catalogue is plan c.catalogue_plan.ensures;
     }
@@ -144,6 +158,7 @@ returns-in-desk c =
     let is : command_named name ≡ Some desk = ap command_named c.in-desk.is in record {
       asked = asked name rows desk is plan c.desk_plan.ensures;
       numbers = numbers name rows desk is plan c.desk_plan.ensures;
+      apart = apart name rows desk is plan c.desk_plan.ensures;
       nothing = nothing name rows desk is plan c.desk_plan.ensures;
       fault = mistake name rows desk is plan c.desk_plan.ensures;
     }

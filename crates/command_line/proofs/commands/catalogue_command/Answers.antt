@@ -18,8 +18,14 @@ add = option (codes "add")
 abbrev get : Rule
 get = option (codes "get")
 
+abbrev heaps : Rule
+heaps = option (codes "heaps")
+
 abbrev salvage : Rule
 salvage = flag (codes "salvage")
+
+abbrev migrate : Rule
+migrate = flag (codes "migrate")
 
 pub returns : goal.returns
 returns c =
@@ -31,5 +37,9 @@ returns c =
     c.option.ensures.local in
     let four = c.with_arg-made-4.ensures name (file ∷ new ∷ add ∷ []) get three
     c.option-2.ensures.rule c.option-2.ensures.local in
-    c.with_arg.ensures name (file ∷ new ∷ add ∷ get ∷ []) salvage four c.flag-2.ensures.rule
-    c.flag-2.ensures.local
+    let five = c.with_arg-made-5.ensures name (file ∷ new ∷ add ∷ get ∷ []) heaps four
+    c.option-3.ensures.rule c.option-3.ensures.local in
+    let six = c.with_arg-made-6.ensures name (file ∷ new ∷ add ∷ get ∷ heaps ∷ []) salvage five
+    c.flag-2.ensures.rule c.flag-2.ensures.local in
+    c.with_arg.ensures name (file ∷ new ∷ add ∷ get ∷ heaps ∷ salvage ∷ []) migrate six
+    c.flag-3.ensures.rule c.flag-3.ensures.local

@@ -1,6 +1,7 @@
-use Rattle.std.proofs.Common.{◌≡◌, ◌≢◌, ◌∙◌, ap, sym, subst, Bor, ℕ, List, Option, Some, None}
+use Rattle.std.proofs.Common.{◌≡◌, ◌≢◌, ◌∙◌, ap, sym, subst, Bor, ℕ, List, Option, Some, None, false}
 use Rattle.std.proofs.Common.{IfErr, IfOk, Result, Ok, Err, map}
-use Rattle.clap.specs.Words.{found_of, rows_of}
+use Rattle.clap.specs.Words.{Row, found_of, rows_of}
+use Rattle.command_line.specs.Refusals.{conflicts_in}
 use Rattle.command_line.specs.Requests.{request_in}
 use Rattle.requests.specs.Requests.{Request, request_of}
 use Rattle.command_line.specs.declared.faults.UsageFault.{UsageFault}
@@ -23,6 +24,14 @@ returns-in-Some-clause-asked c =
     let asks = plan_of-taken words c.in_ok-matches.ensures.taken ∙ ap request_in found in
     subst (λ (r : Option Request). IfOk c.command_plan.result
     (λ (plan : Plan). r ≡ Some (request_of plan))) (sym asks) c.command_plan.ensures.asked
+
+pub returns-in-Some-clause-apart : goal.returns-in-Some-clause-apart
+returns-in-Some-clause-apart c =
+    let found = sym c.in_ok-matches.ensures.found
+    ∙ entered c.in_ok-matches.matches c.in-Some.name.now (rows_of (found_of c.in-Some.given.now))
+    c.in-Some.ensures.name c.in-Some.ensures.rows in
+    subst (λ (f : Option (List ℕ × List Row)). IfOk c.command_plan.result
+    (λ (plan : Plan). conflicts_in f ≡ false)) (sym found) c.command_plan.ensures.apart
 
 pub returns-in-Some-clause-nothing : goal.returns-in-Some-clause-nothing
 returns-in-Some-clause-nothing c =

@@ -1,7 +1,7 @@
 use Rattle.std.proofs.Common.{arith}
 use Rattle.std.proofs.lemmas.Grind.{common_steps}
 use Rattle.std.proofs.lemmas.Result.{IfOk-from_err}
-use Rattle.catalogue_command.proofs.lines.entry_line.Goals as goal
+use Rattle.catalogue_command.proofs.lines.full_line.Goals as goal
 
 pub returns-in_err-code : goal.returns-in_err-code
 returns-in_err-code c = IfOk-from_err _ _ c.from_residual.ensures.0

@@ -1,0 +1,62 @@
+//! A catalogue file written anew.
+ghost use Rattle.std.specs.Prelude.{◌≡◌, IfErr, IfOk, OnErr, string_bytes, true};
+ghost use Rattle.folders.specs.Files.{Replaces};
+ghost use Rattle.catalogue.specs.Texts.{catalogue_text};
+ghost use Rattle.catalogue_command.specs.Answers.{Migrates};
+ghost use Rattle.catalogue_command.specs.Lines.{migrated_line};
+ghost use Rattle.catalogue_command.specs.Stops.{StopsCreate, StopsSalvage, failed};
+
+use crate::adding::save;
+use crate::lines::{last_line, migrated_line};
+use crate::report::Report;
+use crate::stop::{CatalogueStop, read};
+use catalogue::Catalogue;
+use folders::Folder;
+use std::alloc::Global;
+
+/// Puts the text of the entries in place of the file's, and gives how many they are.
+fn rewritten<F: Folder>(
+    alloc: Global,
+    folder: &mut F,
+    file: &str,
+    catalogue: &Catalogue,
+) -> Result<Report, CatalogueStop<'static>>
+    ensures told { IfOk result (λ r. (r.well ≡ true)
+        × Replaces (F.files folder.old) (F.files folder.new) file.now (catalogue_text catalogue.now)
+        × (string_bytes r.text ≡ migrated_line catalogue.now)) }
+    ensures kept { OnErr result (F.files folder.new ≡ F.files folder.old) }
+    ensures stops { IfErr result (StopsCreate
+        (failed (F.failed_reads folder.old) (F.failed_writes folder.old))
+        (failed (F.failed_reads folder.new) (F.failed_writes folder.new))) }
+{
+    let text = migrated_line(alloc, catalogue)?;
+    save(folder, file, catalogue)?;
+    Ok(Report { well: true, text })
+}
+
+/// Puts the entries of the file, whichever version it has, in its place as a file of the newest
+/// version, and gives how many they are; or says why it isn't loaded, and leaves it. Where it
+/// stops, every file is as it was.
+pub fn migrate<'a, F: Folder>(
+    alloc: Global,
+    folder: &mut F,
+    file: &'a str,
+    limit: u32,
+) -> Result<Report, CatalogueStop<'a>>
+    ensures told { IfOk result
+        (λ r. Migrates limit (F.files folder.old) (F.files folder.new) file.entry.now r.well
+        (string_bytes r.text)) }
+    ensures kept { OnErr result (F.files folder.new ≡ F.files folder.old) }
+    ensures stops { IfErr result (StopsSalvage file.entry.now
+        (failed (F.failed_reads folder.old) (F.failed_writes folder.old))
+        (failed (F.failed_reads folder.new) (F.failed_writes folder.new))) }
+{
+    let bytes = read(folder, file)?;
+    match Catalogue::load(alloc, &bytes, limit) {
+        Err(fault) => {
+            let text = last_line(alloc, fault)?;
+            Ok(Report { well: false, text })
+        }
+        Ok(catalogue) => rewritten(alloc, folder, file, &catalogue),
+    }
+}
