@@ -11,7 +11,7 @@ use Rattle.desk.specs.Desks.{core_at, slot_at, HasSlot, HasNoCore, IsCoreFor, Gr
 use Rattle.desk.proofs.Lists.{some_within, with_here, with_other}
 use native.Mathlib.Decide.{dec_lt}
 
-core_of : Option Slot → ℕ
+abbrev core_of : Option Slot → ℕ
 core_of None = 0
 core_of (Some s) = s.core
 
