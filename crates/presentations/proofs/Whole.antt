@@ -9,7 +9,6 @@ use Rattle.std.proofs.Math.Nat.{mul_comm}
 use Rattle.misere_theory.specs.Quotients.{Monoid}
 use Rattle.misere_theory.specs.Numbering.{KeyBelow}
 use Rattle.monoid_table.specs.Grids.{entry}
-use Rattle.monoid_table.specs.Laws.{power_of}
 use Rattle.presentations.specs.declared.axes.Axis.{Axis}
 use Rattle.presentations.specs.declared.named.Generator.{Generator}
 use Rattle.presentations.specs.declared.read.Relation.{Relation}

@@ -73,12 +73,20 @@ pub fn least_words<A: Allocator + Copy>(
     found.push(0)?;
     for at in 0..order {
         if at >= found.len() {
-            return Ok(Least { words, listing: found, basis });
+            return Ok(Least {
+                words,
+                listing: found,
+                basis,
+            });
         }
         let from = words[found[at] as usize];
         for i in last_letter(elements.len(), &from)..elements.len() {
             let Some(word) = lengthened(elements.len(), &from, i) else {
-                return Ok(Least { words, listing: found, basis });
+                return Ok(Least {
+                    words,
+                    listing: found,
+                    basis,
+                });
             };
             if is_corner(table, elements, words.as_slice(), &word) {
                 let e = value(table, elements, &word);
@@ -95,5 +103,9 @@ pub fn least_words<A: Allocator + Copy>(
             }
         }
     }
-    Ok(Least { words, listing: found, basis })
+    Ok(Least {
+        words,
+        listing: found,
+        basis,
+    })
 }

@@ -44,11 +44,7 @@ fn is_bounded(relations: &[Relation], letter: usize) -> bool {
 }
 
 /// The least power of the letter that is a smaller one, which stands right: of at most 64.
-fn least_power<A: Allocator>(
-    table: &Table<A>,
-    elements: &[u16],
-    letter: usize,
-) -> Option<Relation>
+fn least_power<A: Allocator>(table: &Table<A>, elements: &[u16], letter: usize) -> Option<Relation>
     requires elements { All (λ e. e < table.now.order) elements.now }
     requires letters { length elements.now ≤ 26 }
     requires letter_in { letter < 26 }
