@@ -1,4 +1,3 @@
-pub mod VectorLaws
 pub mod BoxLaws
 pub mod PlaceLaws
 pub mod Folding

@@ -9,7 +9,7 @@ use Rattle.presentations.specs.Congruences.Related.{Given, Same, Turned, Chained
 use Rattle.presentations.specs.Words.{vector_on, pairs_on}
 use Rattle.presentations.specs.Boxes.{place_of, vector_at, next_of}
 use Rattle.presentations.specs.Merging.{letters_in, pairs_in, AreClasses}
-use Rattle.presentations.proofs.VectorLaws.{length-plus, plus-bump, plus-zeros, by_letters}
+use Rattle.presentations.specs.VectorLaws.{length-plus, plus-bump, plus-zeros, by_letters}
 use Rattle.presentations.proofs.BoxLaws.{place-bump, place-below}
 use Rattle.presentations.proofs.PlaceLaws.{length-word}
 use Rattle.presentations.proofs.Folding.{place-related}
@@ -29,18 +29,6 @@ pair-from letters (s ∷ relations) r zero lt e d = (omega arith, ap (λ p. p.0)
 pair-from letters (s ∷ relations) r (suc k) lt e d =
     let later = pair-from letters relations r k (omega arith) e d in
     (omega (arith, later.0), later.1, later.2)
-
-pub pair-of : (letters : List ℕ) (relations : List Relation) (k : ℕ) (d : Relation)
-    → k < length relations
-    → Contains (pairs_on letters relations) (
-      vector_on letters (slice_index_or relations k d).left,
-      vector_on letters (slice_index_or relations k d).right,
-    )
-pair-of letters [] k d lt = absurd (omega arith)
-pair-of letters (s ∷ relations) zero d lt = (0, omega arith, refl)
-pair-of letters (s ∷ relations) (suc k) d lt =
-    let later = pair-of letters relations k d (omega arith) in
-    (suc later.0, omega (arith, later.1), later.2)
 
 module _ (axes : List Axis) (relations : List Relation) (classes : List ℕ)
     (are : AreClasses axes relations classes) where

@@ -9,7 +9,6 @@ use Rattle.std.proofs.Math.Nat.{mul_comm}
 use Rattle.misere_theory.specs.Quotients.{Monoid}
 use Rattle.misere_theory.specs.Numbering.{KeyBelow}
 use Rattle.monoid_table.specs.Grids.{entry}
-use Rattle.monoid_table.specs.Laws.{power_of}
 use Rattle.presentations.specs.declared.axes.Axis.{Axis}
 use Rattle.presentations.specs.declared.named.Generator.{Generator}
 use Rattle.presentations.specs.declared.read.Relation.{Relation}
@@ -20,58 +19,11 @@ use Rattle.presentations.specs.Boxes.{place_of, vector_at}
 use Rattle.presentations.specs.Merging.{letters_in, pairs_in, AreClasses}
 use Rattle.presentations.specs.Numberings.{IsNumbering, AreRows, HasManyClasses}
 use Rattle.presentations.specs.Tables.{product_at, IsTableOf, IsNumberedByLeastKeys, HasMoreElements}
-use Rattle.presentations.proofs.VectorLaws.{length-zeros, length-bump, plus-zeros, plus-bump, by_letters}
+use Rattle.presentations.specs.VectorLaws.{length-zeros, length-bump, plus-zeros, plus-bump, by_letters}
 use Rattle.presentations.proofs.BoxLaws.{length-vector, place-vector}
 use Rattle.presentations.proofs.Quotient.{class-exact}
+use Rattle.presentations.specs.ProductLaws.{Below, product-none, product-bump}
 use Rattle.presentations.proofs.Elements.{Names, one-name, names-none, names-bump, names-plus, names-exact, first-vector, names-first, length-first, is-monoid}
-
-module _ (q : ℕ) (times : ℕ → ℕ → ℕ) (m : Monoid q times) where
-  -- each of the elements is below the order
-  abbrev pub Below : List ℕ → Type 0
-  Below [] = Unit {0}
-  Below (g ∷ gs) = (g < q) × Below gs
-
-  power-in : (g n : ℕ) → g < q → power_of 0 times g n < q
-  power-in g zero h = m.some
-  power-in g (suc n) h = m.closed g (power_of 0 times g n) h (power-in g n h)
-
-  product-in : (gs v : List ℕ) → Below gs → product_at times gs v < q
-  product-in [] v h = m.some
-  product-in (g ∷ gs) [] h = m.some
-  product-in (g ∷ gs) (x ∷ v) h =
-      m.closed (power_of 0 times g x) (product_at times gs v) (power-in g x h.0)
-      (product-in gs v h.1)
-
-  pub product-none : (gs : List ℕ) (n : ℕ) → n ≡ length gs → product_at times gs (zeros n) ≡ 0
-  product-none [] n e = refl
-  product-none (g ∷ gs) zero e = refl
-  product-none (g ∷ gs) (suc n) e = ap (times 0) (product-none gs n (omega arith))
-      ∙ m.identity 0 m.some
-
-  pub product-bump : (gs v : List ℕ) (i : ℕ) → Below gs → length v ≡ length gs → i < length gs
-      → product_at times gs (bump v i) ≡ times (product_at times gs v) (get_or gs i 0)
-  product-bump [] v i h e lt = absurd (omega arith)
-  product-bump (g ∷ gs) [] i h e lt = absurd (omega arith)
-  product-bump (g ∷ gs) (x ∷ v) zero h e lt =
-      let p = power_of 0 times g x in
-      let r = product_at times gs v in
-      let hp = power-in g x h.0 in
-      let hr = product-in gs v h.1 in
-      let next : x + 1 ≡ suc x = omega arith in
-      ap (λ n. times (power_of 0 times g n) r) next ∙ m.associates g p r h.0 hp hr
-      ∙ m.commutes g (times p r) h.0 (m.closed p r hp hr)
-  product-bump (g ∷ gs) (x ∷ v) (suc i) h e lt =
-      let p = power_of 0 times g x in
-      let r = product_at times gs v in
-      let hp = power-in g x h.0 in
-      let hr = product-in gs v h.1 in
-      ap (times p) (product-bump gs v i h.1 (omega arith) (omega arith))
-      ∙ sym (m.associates p r (get_or gs i 0) hp hr (get-in gs i h.1 (omega arith)))
-    where
-      get-in : (gs : List ℕ) (i : ℕ) → Below gs → i < length gs → get_or gs i 0 < q
-      get-in [] i h lt = absurd (omega arith)
-      get-in (g ∷ gs) zero h lt = h.0
-      get-in (g ∷ gs) (suc i) h lt = get-in gs i h.1 (omega arith)
 
 take-get : (n : ℕ) (xs : List ℕ) (i : ℕ) → i < n → get_or (take n xs) i 0 ≡ get_or xs i 0
 take-get zero xs i lt = absurd (omega arith)

@@ -9,3 +9,6 @@ pub mod Numberings
 pub mod Tables
 pub mod Text
 pub mod Fronts
+pub mod VectorLaws
+pub mod WordLaws
+pub mod ProductLaws

@@ -1,5 +1,5 @@
--- Sums of vectors, one exponent at a time.
-use Rattle.std.proofs.Common.{◌≡◌, ℕ, zero, suc, ◌+◌, ◌<◌, List, [], ◌∷◌, length, refl, ap, ap₂, arith, subst}
+-- Laws of vectors: sums, one exponent at a time, and vectors entered letter by letter.
+use Rattle.std.proofs.Common.{◌≡◌, ℕ, zero, suc, ◌+◌, ◌<◌, ◌≤◌, List, [], ◌∷◌, length, get_or, refl, sym, ap, ap₂, ◌∙◌, arith, subst}
 use Rattle.presentations.specs.Vectors.{plus, zeros, only, bump}
 
 pub length-zeros : (n : ℕ) → length (zeros n) ≡ n
@@ -96,3 +96,39 @@ by_letters (suc n) P none more (x ∷ v) e =
         let next : x + 1 ≡ suc x = omega arith in
         subst (λ y. P (y ∷ zeros n)) next
         (more (x ∷ zeros n) 0 (ap suc (length-zeros n)) (omega arith) (heads x))
+
+-- the entries before i, then k, then zeros
+abbrev pub partial : List ℕ → ℕ → ℕ → List ℕ
+partial [] i k = []
+partial (x ∷ v) zero k = k ∷ zeros (length v)
+partial (x ∷ v) (suc i) k = x ∷ partial v i k
+
+pub length-partial : (v : List ℕ) (i k : ℕ) → length (partial v i k) ≡ length v
+length-partial [] i k = refl
+length-partial (x ∷ v) zero k = ap suc (length-zeros (length v))
+length-partial (x ∷ v) (suc i) k = ap suc (length-partial v i k)
+
+pub partial-none : (v : List ℕ) → partial v 0 0 ≡ zeros (length v)
+partial-none [] = refl
+partial-none (x ∷ v) = refl
+
+pub partial-more : (v : List ℕ) (i k : ℕ) → i < length v
+    → bump (partial v i k) i ≡ partial v i (k + 1)
+partial-more [] i k lt = absurd (omega arith)
+partial-more (x ∷ v) zero k lt = refl
+partial-more (x ∷ v) (suc i) k lt = ap (λ w. x ∷ w) (partial-more v i k (omega arith))
+
+pub partial-next : (v : List ℕ) (i k : ℕ) → i < length v → k ≡ get_or v i 0
+    → partial v i k ≡ partial v (i + 1) 0
+partial-next [] i k lt e = absurd (omega arith)
+partial-next (x ∷ v) zero k lt e =
+    let one : 0 + 1 ≡ suc zero = omega arith in
+    ap₂ (λ y w. y ∷ w) e (sym (partial-none v)) ∙ ap (λ j. partial (x ∷ v) j 0) (sym one)
+partial-next (x ∷ v) (suc i) k lt e =
+    let one : suc i + 1 ≡ suc (i + 1) = omega arith in
+    ap (λ w. x ∷ w) (partial-next v i k (omega arith) e) ∙ ap (λ j. partial (x ∷ v) j 0) (sym one)
+
+pub partial-all : (v : List ℕ) (i : ℕ) → length v ≤ i → partial v i 0 ≡ v
+partial-all [] i le = refl
+partial-all (x ∷ v) zero le = absurd (omega arith)
+partial-all (x ∷ v) (suc i) le = ap (λ w. x ∷ w) (partial-all v i (omega arith))

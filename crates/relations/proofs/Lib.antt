@@ -1,0 +1,6 @@
+pub mod WordLaws
+pub mod Rewritings
+pub mod Letters
+pub mod Shown
+pub mod Spelling
+pub mod Among

@@ -1,0 +1,10 @@
+use Rattle.std.proofs.Common.{◌<◌, ℕ}
+use Rattle.std.specs.Prelude.{slice_index_or}
+use Rattle.presentations.specs.declared.read.Relation.{Relation}
+use Rattle.relations.specs.Printed.{IsPrintable}
+use Rattle.relations.proofs.listing.are_printable.Given as goal
+
+abbrev pub invariant-loop-relation : goal.invariant-loop-relation
+invariant-loop-relation l = (k : ℕ) (d : Relation) → k < l.relation-index
+    → IsPrintable l.letters (slice_index_or l.relations k d).left
+    × IsPrintable l.letters (slice_index_or l.relations k d).right

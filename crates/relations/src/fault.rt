@@ -1,0 +1,26 @@
+//! Why a table is not described.
+use allocation::Memory;
+
+/// Why a table is not described.
+#[derive(Clone, Copy, Debug, PartialEq, Eq)]
+pub enum Undescribed {
+    /// More than 26 generators were found.
+    Letters,
+    /// A relation that was found has an exponent above 64.
+    Exponents,
+    /// The relations that were found weren't shown to present the table within the bounds.
+    Unshown,
+    /// A growth was refused.
+    Memory,
+}
+
+impl From<Memory> for Undescribed {
+    ghost use Rattle.std.specs.Prelude.{◌≡◌};
+    ghost use Rattle.relations.specs.declared.fault.Undescribed.TheVariants.{Memory as OutOfMemory};
+
+    ghost from_gives = { λ _ fault. fault ≡ OutOfMemory };
+
+    fn from(_: Memory) -> Undescribed {
+        Undescribed::Memory
+    }
+}

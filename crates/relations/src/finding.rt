@@ -1,0 +1,116 @@
+//! Presentations of a table: generators, least words and relations, of which nothing is promised but
+//! what is checked in the end.
+ghost use Rattle.std.specs.Prelude.{◌≡◌, ◌<◌, ◌≤◌, IfOk, All, Contains, vec_len};
+ghost use Rattle.relations.specs.Presented.{AreNamed, ArePresentation, IsListing};
+ghost use Rattle.relations.specs.Printed.{ArePrintable};
+
+use crate::checking::is_shown;
+use crate::fault::Undescribed;
+use crate::generating::generators;
+use crate::least::{Least, least_words};
+use crate::listing::{are_printable, is_listing};
+use crate::shortening::{by_letter, independent, short};
+use allocation::Memory;
+use monoid_table::Table;
+use presentations::Relation;
+use std::alloc::{Allocator, Global};
+
+/// The most rewritings of one word.
+pub const STEPS: u32 = 1000;
+
+/// The most rules that are looked at for more, while relations are found and where they are checked.
+pub const MOST: usize = 512;
+
+/// The most rules that are looked at for more, where a relation is tried for whether the others give
+/// it.
+pub const FEW: usize = 64;
+
+/// Which relations are given.
+#[derive(Clone, Copy, Debug, PartialEq, Eq)]
+pub enum Form {
+    /// A short list, of which none is known to follow from the others.
+    Short,
+    /// The reduced Gröbner basis, by which words are multiplied by hand.
+    Basis,
+}
+
+/// A presentation of a table: the elements of the letters a, b, .., a word for each element of the
+/// table, the elements in the order of their words, and the relations.
+#[derive(Drop)]
+pub struct Description<A: Allocator = Global> {
+    pub elements: Vec<u16, A>,
+    pub words: Vec<[u8; 26], A>,
+    pub listing: Vec<u16, A>,
+    pub relations: Vec<Relation, A>,
+}
+
+/// The relations in this form, by the last letter of their left words.
+fn formed<A: Allocator + Copy>(
+    alloc: A,
+    letters: usize,
+    basis: Vec<Relation, A>,
+    form: Form,
+) -> Result<Vec<Relation, A>, Memory>
+    requires { letters ≤ 26 }
+{
+    let kept = match form {
+        Form::Basis => basis,
+        Form::Short => {
+            let few = independent(alloc, letters, basis.as_slice())?;
+            short(alloc, letters, few)?
+        }
+    };
+    by_letter(alloc, letters, kept.as_slice())
+}
+
+/// A presentation of the table with generators out of these elements, where one is found with at most
+/// 26 of them and no exponent above 64, and shown within the bounds.
+pub fn described<A: Allocator + Copy>(
+    alloc: A,
+    table: &Table<A>,
+    elements: &[u16],
+    form: Form,
+) -> Result<Description<A>, Undescribed>
+    requires { All (λ e. e < table.now.order) elements.now }
+    ensures presentation { IfOk result
+        (λ d. ArePresentation table.now d.elements.items d.relations.items) }
+    ensures words { IfOk result (λ d. AreNamed table.now d.elements.items d.words.items) }
+    ensures letters { IfOk result (λ d. vec_len d.elements ≤ 26) }
+    ensures among { IfOk result (λ d. All (Contains elements.now) d.elements.items) }
+    ensures listing { IfOk result (λ d. IsListing table.now.order d.listing.items) }
+    ensures printable { IfOk result
+        (λ d. ArePrintable (vec_len d.elements) d.relations.items) }
+{
+    let found = generators(alloc, table, elements)?;
+    let letters = found.len();
+    if letters > 26 {
+        return Err(Undescribed::Letters);
+    }
+    let Least {
+        words,
+        listing,
+        basis,
+    } = least_words(alloc, table, found.as_slice())?;
+    let relations = formed(alloc, letters, basis, form)?;
+    if !are_printable(letters, relations.as_slice()) {
+        return Err(Undescribed::Exponents);
+    }
+    let shown = is_shown(
+        alloc,
+        table,
+        found.as_slice(),
+        relations.as_slice(),
+        words.as_slice(),
+        MOST,
+        STEPS,
+    )?;
+    if !shown || !is_listing(table.order(), listing.as_slice()) {
+        return Err(Undescribed::Unshown);
+    }
+    Ok(Description {
+        elements: found,
+        words,
+        listing,
+        relations,
+    })
+}

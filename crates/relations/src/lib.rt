@@ -1,0 +1,22 @@
+//! Relations that present the monoid of a table: rewriting by them, and a check that they do.
+#![tactic(auto)]
+
+mod checking;
+mod fault;
+mod finding;
+mod generating;
+mod laws;
+mod least;
+mod listing;
+mod powers;
+mod rewriting;
+mod shortening;
+mod text;
+
+pub use checking::{is_shown, value};
+pub use fault::Undescribed;
+pub use finding::{Description, Form, described};
+pub use laws::{texts_spell, words_present};
+pub use powers::presentable;
+pub use rewriting::{completed, is_same, reduced};
+pub use text::{relation_text, relations_text, word_text, words_text};

@@ -1,0 +1,202 @@
+//! Words rewritten by rules: relations used from their left word to their right one.
+ghost use Rattle.std.specs.Prelude.{◌≡◌, ◌<◌, ◌≤◌, ◌↔◌, ◌⊎◌, ℕ, IsTrue, IfSome, IfOk, All, length, slice_index, vec_len};
+ghost use Rattle.relations.specs.Presented.{AreRelatedWords, IsRewritten};
+
+use allocation::Memory;
+use presentations::Relation;
+use std::alloc::Allocator;
+
+/// The word with the rule's right word in place of its left one, where the left one is in it and no
+/// exponent gets above 255.
+fn rewritten(letters: usize, rule: &Relation, word: &[u8; 26]) -> Option<[u8; 26]>
+    requires { letters ≤ 26 }
+    ensures { IfSome result (IsRewritten letters rule.now word.now) }
+{
+    let mut changed = *word;
+    for i in 0..letters {
+        let (have, left, right) = (word[i], rule.left[i], rule.right[i]);
+        if have < left || have - left > u8::MAX - right {
+            return None;
+        }
+        changed[i] = have - left + right;
+    }
+    Some(changed)
+}
+
+/// The word rewritten once, by the first rule that can.
+fn step(letters: usize, rules: &[Relation], word: &[u8; 26]) -> Option<[u8; 26]>
+    requires { letters ≤ 26 }
+    ensures { IfSome result (AreRelatedWords letters rules.now word.now) }
+{
+    for rule in rules {
+        if let Some(changed) = rewritten(letters, rule, word) {
+            return Some(changed);
+        }
+    }
+    None
+}
+
+/// The word rewritten until no rule can, or `steps` times.
+pub fn reduced(letters: usize, rules: &[Relation], word: &[u8; 26], steps: u32) -> [u8; 26]
+    requires { letters ≤ 26 }
+    ensures { AreRelatedWords letters rules.now word.now result }
+{
+    let mut reduced = *word;
+    for _step in 0..steps {
+        let Some(changed) = step(letters, rules, &reduced) else {
+            return reduced;
+        };
+        reduced = changed;
+    }
+    reduced
+}
+
+/// Whether the first letters have the same exponents.
+pub fn is_same(letters: usize, v: &[u8; 26], w: &[u8; 26]) -> bool
+    requires { letters ≤ 26 }
+    ensures { IsTrue result
+        ↔ ((i : ℕ) → i < letters → slice_index v.now i ≡ slice_index w.now i) }
+{
+    for i in 0..letters {
+        if v[i] != w[i] {
+            return false;
+        }
+    }
+    true
+}
+
+/// Whether the first word comes before the second one: by fewer letters in all, and of as many, by
+/// more of the first letter of which one has more.
+fn comes_before(letters: usize, v: &[u8; 26], w: &[u8; 26]) -> bool
+    requires { letters ≤ 26 }
+{
+    let mut less = 0u32;
+    let mut more = 0u32;
+    for i in 0..letters {
+        less += v[i] as u32;
+        more += w[i] as u32;
+    }
+    if less != more {
+        return less < more;
+    }
+    for i in 0..letters {
+        if v[i] != w[i] {
+            return v[i] > w[i];
+        }
+    }
+    false
+}
+
+/// The rule between two words, to the one that comes first.
+pub fn oriented(letters: usize, v: &[u8; 26], w: &[u8; 26]) -> Relation
+    requires { letters ≤ 26 }
+    ensures { ((result.left ≡ v.now) × (result.right ≡ w.now))
+        ⊎ ((result.left ≡ w.now) × (result.right ≡ v.now)) }
+{
+    if comes_before(letters, v, w) {
+        Relation {
+            left: *w,
+            right: *v,
+        }
+    } else {
+        Relation {
+            left: *v,
+            right: *w,
+        }
+    }
+}
+
+/// The least word that both words are in.
+fn join(letters: usize, v: &[u8; 26], w: &[u8; 26]) -> [u8; 26]
+    requires { letters ≤ 26 }
+{
+    let mut join = *v;
+    for i in 0..letters {
+        if v[i] < w[i] {
+            join[i] = w[i];
+        }
+    }
+    join
+}
+
+/// Whether no letter stands in both words.
+fn is_apart(letters: usize, v: &[u8; 26], w: &[u8; 26]) -> bool
+    requires { letters ≤ 26 }
+{
+    for i in 0..letters {
+        if v[i] > 0 && w[i] > 0 {
+            return false;
+        }
+    }
+    true
+}
+
+/// The rule that two rules give where both can rewrite one word: between what they make of the least
+/// such word, each rewritten as far as it goes.
+fn overlap(letters: usize, rules: &[Relation], i: usize, j: usize, steps: u32) -> Option<Relation>
+    requires letters { letters ≤ 26 }
+    requires i_in { i < length rules.now }
+    requires j_in { j < length rules.now }
+    ensures { IfSome result (λ r. AreRelatedWords letters rules.now r.left r.right) }
+{
+    let (one, other) = (&rules[i], &rules[j]);
+    if is_apart(letters, &one.left, &other.left) {
+        return None;
+    }
+    let both = join(letters, &one.left, &other.left);
+    let left = rewritten(letters, one, &both)?;
+    let right = rewritten(letters, other, &both)?;
+    let left = reduced(letters, rules, &left, steps);
+    let right = reduced(letters, rules, &right, steps);
+    if is_same(letters, &left, &right) {
+        return None;
+    }
+    Some(oriented(letters, &left, &right))
+}
+
+/// Adds the rules that rule `j` gives with those before it.
+pub fn learn<A: Allocator>(
+    letters: usize,
+    rules: &mut Vec<Relation, A>,
+    j: usize,
+    steps: u32,
+) -> Result<(), Memory>
+    requires letters { letters ≤ 26 }
+    requires j_in { j < vec_len rules.old }
+    ensures { IfOk result
+        (λ _. All (λ r. AreRelatedWords letters rules.old.items r.left r.right) rules.new.items) }
+{
+    for i in 0..j {
+        if let Some(rule) = overlap(letters, rules.as_slice(), i, j, steps) {
+            rules.push(rule)?;
+        }
+    }
+    Ok(())
+}
+
+/// The relations as rules, and the rules that these give by twos, until there is none left or `most`
+/// of them were looked at: Knuth and Bendix' completion, which for commutative monoids is
+/// Buchberger's algorithm. Each rule is one that the relations give.
+pub fn completed<A: Allocator>(
+    alloc: A,
+    letters: usize,
+    relations: &[Relation],
+    most: usize,
+    steps: u32,
+) -> Result<Vec<Relation, A>, Memory>
+    requires { letters ≤ 26 }
+    ensures { IfOk result
+        (λ rules. All (λ r. AreRelatedWords letters relations.now r.left r.right) rules.items) }
+{
+    let mut rules = Vec::new(alloc);
+    for relation in relations {
+        rules.push(oriented(letters, &relation.left, &relation.right))?;
+    }
+    for j in 0..most {
+        if j >= rules.len() {
+            return Ok(rules);
+        }
+        learn(letters, &mut rules, j, steps)?;
+    }
+    Ok(rules)
+}

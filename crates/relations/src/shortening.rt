@@ -1,0 +1,114 @@
+//! Relations of which none follows from the others.
+ghost use Rattle.std.specs.Prelude.{◌≤◌};
+
+use crate::finding::{FEW, MOST, STEPS};
+use crate::least::last_letter;
+use crate::rewriting::{completed, is_same, learn, oriented, reduced};
+use allocation::Memory;
+use presentations::Relation;
+use std::alloc::Allocator;
+
+/// Whether the rules lead both words of the relation to one.
+fn is_given(letters: usize, rules: &[Relation], relation: &Relation) -> bool
+    requires { letters ≤ 26 }
+{
+    let left = reduced(letters, rules, &relation.left, STEPS);
+    let right = reduced(letters, rules, &relation.right, STEPS);
+    is_same(letters, &left, &right)
+}
+
+/// Looks at the rules from number `from` on for more, and answers how many were looked at.
+fn close<A: Allocator>(
+    letters: usize,
+    rules: &mut Vec<Relation, A>,
+    from: usize,
+) -> Result<usize, Memory>
+    requires { letters ≤ 26 }
+{
+    for j in from..MOST {
+        if j >= rules.len() {
+            return Ok(j);
+        }
+        learn(letters, rules, j, STEPS)?;
+    }
+    Ok(MOST)
+}
+
+/// The relations that those before them don't give.
+pub fn independent<A: Allocator + Copy>(
+    alloc: A,
+    letters: usize,
+    relations: &[Relation],
+) -> Result<Vec<Relation, A>, Memory>
+    requires { letters ≤ 26 }
+{
+    let mut kept: Vec<Relation, A> = Vec::new(alloc);
+    let mut rules: Vec<Relation, A> = Vec::new(alloc);
+    let mut looked = 0;
+    for relation in relations {
+        if !is_given(letters, rules.as_slice(), relation) {
+            kept.push(*relation)?;
+            rules.push(oriented(letters, &relation.left, &relation.right))?;
+            looked = close(letters, &mut rules, looked)?;
+        }
+    }
+    Ok(kept)
+}
+
+/// The relations but number `skip`.
+fn relations_but<A: Allocator>(
+    alloc: A,
+    relations: &[Relation],
+    skip: usize,
+) -> Result<Vec<Relation, A>, Memory> {
+    let mut others: Vec<Relation, A> = Vec::new(alloc);
+    for i in 0..relations.len() {
+        if i != skip {
+            others.push(relations[i])?;
+        }
+    }
+    Ok(others)
+}
+
+/// The relations without those that the others give, the last ones first.
+pub fn short<A: Allocator + Copy>(
+    alloc: A,
+    letters: usize,
+    relations: Vec<Relation, A>,
+) -> Result<Vec<Relation, A>, Memory>
+    requires { letters ≤ 26 }
+{
+    let count = relations.len();
+    let mut kept = relations;
+    for k in 0..count {
+        let i = count - 1 - k;
+        if i < kept.len() {
+            let relation = kept[i];
+            let others = relations_but(alloc, kept.as_slice(), i)?;
+            let rules = completed(alloc, letters, others.as_slice(), FEW, STEPS)?;
+            if is_given(letters, rules.as_slice(), &relation) {
+                kept = others;
+            }
+        }
+    }
+    Ok(kept)
+}
+
+/// The relations by the last letter of their left words.
+pub fn by_letter<A: Allocator>(
+    alloc: A,
+    letters: usize,
+    relations: &[Relation],
+) -> Result<Vec<Relation, A>, Memory>
+    requires { letters ≤ 26 }
+{
+    let mut sorted: Vec<Relation, A> = Vec::new(alloc);
+    for letter in 0..letters {
+        for relation in relations {
+            if last_letter(letters, &relation.left) == letter {
+                sorted.push(*relation)?;
+            }
+        }
+    }
+    Ok(sorted)
+}

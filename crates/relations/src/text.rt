@@ -1,0 +1,161 @@
+//! The texts of words and relations.
+ghost use Rattle.std.specs.Prelude.{◌≡◌, ◌<◌, ◌≤◌, [], IfOk, All, length, slice_index_or};
+ghost use Rattle.std.specs.String.{string_bytes};
+ghost use Rattle.relations.specs.Printed.{factor_text, factors_text, word_text, relation_text, more_text, relations_text, more_words, words_text};
+
+use presentations::Relation;
+use std::alloc::{AllocError, Global};
+
+/// A letter with its exponent.
+fn factor_text(alloc: Global, letter: u8, exponent: u8) -> Result<String, AllocError>
+    requires { letter < 26 }
+    ensures { IfOk result (λ t. string_bytes t ≡ factor_text letter exponent) }
+{
+    let name = (b'a' + letter) as char;
+    if exponent == 0 {
+        return Ok(String::new(alloc));
+    }
+    if exponent == 1 {
+        let text = format!(in alloc; "{name}")?;
+        return Ok(text);
+    }
+    let text = format!(in alloc; "{name}^{exponent}")?;
+    Ok(text)
+}
+
+/// The factors of the first letters.
+fn factors_text(alloc: Global, letters: u8, word: &[u8; 26]) -> Result<String, AllocError>
+    requires { letters ≤ 26 }
+    ensures { IfOk result (λ t. string_bytes t ≡ factors_text letters word.now) }
+{
+    let mut text = String::new(alloc);
+    for letter in 0..letters {
+        let factor = factor_text(alloc, letter, word[letter as usize])?;
+        text.push_str(factor.as_str())?;
+    }
+    Ok(text)
+}
+
+/// A word in the first letters, as `present` reads it.
+pub fn word_text(alloc: Global, letters: u8, word: &[u8; 26]) -> Result<String, AllocError>
+    requires { letters ≤ 26 }
+    ensures { IfOk result (λ t. string_bytes t ≡ word_text letters word.now) }
+{
+    let text = factors_text(alloc, letters, word)?;
+    if text.len() == 0 {
+        let one = format!(in alloc; "1")?;
+        return Ok(one);
+    }
+    Ok(text)
+}
+
+/// A relation between words in the first letters, as `present` reads it.
+pub fn relation_text(alloc: Global, letters: u8, r: &Relation) -> Result<String, AllocError>
+    requires { letters ≤ 26 }
+    ensures { IfOk result (λ t. string_bytes t ≡ relation_text letters r.now) }
+{
+    let (left, right) = (
+        word_text(alloc, letters, &r.left)?,
+        word_text(alloc, letters, &r.right)?,
+    );
+    let text = format!(in alloc; "{left}={right}")?;
+    Ok(text)
+}
+
+/// A text before each relation.
+fn more_text(
+    alloc: Global,
+    letters: u8,
+    between: &str,
+    relations: &[Relation],
+) -> Result<String, AllocError>
+    requires { letters ≤ 26 }
+    ensures { IfOk result (λ t. string_bytes t ≡ more_text letters between.now relations.now) }
+{
+    let mut text = String::new(alloc);
+    for relation in relations {
+        let line = relation_text(alloc, letters, relation)?;
+        text.push_str(between)?;
+        text.push_str(line.as_str())?;
+    }
+    Ok(text)
+}
+
+/// Relations between words in the first letters, with a text between each two.
+pub fn relations_text(
+    alloc: Global,
+    letters: u8,
+    between: &str,
+    relations: &[Relation],
+) -> Result<String, AllocError>
+    requires { letters ≤ 26 }
+    ensures { IfOk result (λ t. string_bytes t ≡ relations_text letters between.now relations.now) }
+{
+    if relations.len() == 0 {
+        return Ok(String::new(alloc));
+    }
+    let mut text = relation_text(alloc, letters, &relations[0])?;
+    let more = more_text(alloc, letters, between, &relations[1..])?;
+    text.push_str(more.as_str())?;
+    Ok(text)
+}
+
+/// A text before the word of each element.
+fn more_words(
+    alloc: Global,
+    letters: u8,
+    between: &str,
+    words: &[[u8; 26]],
+    elements: &[u16],
+) -> Result<String, AllocError>
+    requires letters { letters ≤ 26 }
+    requires elements { All (λ e. e < length words.now) elements.now }
+    ensures { IfOk result
+        (λ t. string_bytes t ≡ more_words letters between.now words.now elements.now) }
+{
+    let mut text = String::new(alloc);
+    for element in elements {
+        let word = element_text(alloc, letters, words, *element)?;
+        text.push_str(between)?;
+        text.push_str(word.as_str())?;
+    }
+    Ok(text)
+}
+
+/// The word of an element.
+fn element_text(
+    alloc: Global,
+    letters: u8,
+    words: &[[u8; 26]],
+    element: u16,
+) -> Result<String, AllocError>
+    requires letters { letters ≤ 26 }
+    requires element_in { element < length words.now }
+    ensures { IfOk result
+        (λ t. string_bytes t ≡ word_text letters (slice_index_or words.now element [])) }
+{
+    let text = word_text(alloc, letters, &words[element as usize])?;
+    Ok(text)
+}
+
+/// The words of elements, with a text between each two.
+pub fn words_text(
+    alloc: Global,
+    letters: u8,
+    between: &str,
+    words: &[[u8; 26]],
+    elements: &[u16],
+) -> Result<String, AllocError>
+    requires letters { letters ≤ 26 }
+    requires elements { All (λ e. e < length words.now) elements.now }
+    ensures { IfOk result
+        (λ t. string_bytes t ≡ words_text letters between.now words.now elements.now) }
+{
+    if elements.len() == 0 {
+        return Ok(String::new(alloc));
+    }
+    let mut text = element_text(alloc, letters, words, elements[0])?;
+    let more = more_words(alloc, letters, between, words, &elements[1..])?;
+    text.push_str(more.as_str())?;
+    Ok(text)
+}
