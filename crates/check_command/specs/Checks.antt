@@ -5,19 +5,20 @@ use Rattle.misere_theory.specs.Certificates.{Certificate}
 use Rattle.folders.specs.Files.{Holds}
 use Rattle.answers.specs.Answers.{IsTrueOf}
 use Rattle.answers.specs.Answers.Answer.{Yes}
+use Rattle.checker.specs.Turns.{verdict}
 use Rattle.verdict_texts.specs.Lines.{is_yes}
 use Rattle.verdict_texts.specs.Streams.{Answers, AnswersStream}
 use Rattle.command_results.specs.declared.stop.Stop.{Stop}
 use Rattle.command_results.specs.declared.stop.Stop.TheVariants.{Read, Memory}
 
--- the text of a true answer to the bytes, and whether that is yes
+-- the text of the verdict of the bytes under the limit, and whether that is yes
 abbrev pub SaysVerdict : List ℕ → ℕ → List ℕ → Bool → Type 0
-SaysVerdict bytes limit text accepted = (a : Answers bytes limit) × (text ≡ a.text)
+SaysVerdict bytes limit text accepted = (a : Answers verdict bytes limit) × (text ≡ a.text)
     × (accepted ≡ is_yes a.answer)
 
 -- the same for a stream that had these bytes left
 abbrev pub SaysOfStream : Option (List ℕ) → ℕ → List ℕ → Bool → Type 0
-SaysOfStream left limit text accepted = (a : AnswersStream left limit) × (text ≡ a.text)
+SaysOfStream left limit text accepted = (a : AnswersStream verdict left limit) × (text ≡ a.text)
     × (accepted ≡ is_yes a.answer)
 
 -- the same for the bytes of a file
@@ -28,11 +29,11 @@ SaysOfFile files file limit text accepted = (bytes : List ℕ) × Holds files fi
 -- the file certifies c, under the limit
 abbrev pub Certifies : Option (List ℕ → Option (List ℕ)) → List ℕ → ℕ → Certificate → Type 0
 Certifies files file limit c = (bytes : List ℕ) × Holds files file bytes
-    × IsTrueOf bytes limit (Yes c)
+    × IsTrueOf bytes limit (Yes c) × (verdict bytes limit ≡ Yes c)
 
 -- the bytes certify a quotient under the limit, or else the text is that of a true no
 abbrev pub Judges : {A : Type 0} → List ℕ → ℕ → Result Certificate (Vec ℕ A) → Type 0
-Judges bytes limit (Ok c) = IsTrueOf bytes limit (Yes c)
+Judges bytes limit (Ok c) = IsTrueOf bytes limit (Yes c) × (verdict bytes limit ≡ Yes c)
 Judges bytes limit (Err text) = SaysVerdict bytes limit text.items false
 
 -- the same for the bytes of a file

@@ -1,5 +1,6 @@
 //! Checks whose verdict goes to a sink.
 ghost use Rattle.std.specs.Prelude.{◌≡◌, ◌<◌, ◌⊎◌, IfOk, IsErrOf};
+ghost use Rattle.checker.specs.Turns.{verdict};
 ghost use Rattle.verdict_texts.specs.Streams.{CountsReads, ReadsEnough, Writes, WritesSome, WritesOfStream, WritesSomeOfStream};
 
 use allocation::Room;
@@ -17,9 +18,10 @@ pub fn check_bytes<W: Sink, A: Room + Copy>(
     sink: &mut W,
     limit: u32,
 ) -> Result<bool, StreamFault>
-    ensures ok { IfOk result (Writes bytes.now limit (W.taken sink.old) (W.taken sink.new)) }
+    ensures ok { IfOk result
+        (Writes verdict bytes.now limit (W.taken sink.old) (W.taken sink.new)) }
     ensures write { IsErrOf result StreamFault.Write
-        → WritesSome bytes.now limit (W.taken sink.old) (W.taken sink.new) }
+        → WritesSome verdict bytes.now limit (W.taken sink.old) (W.taken sink.new) }
     ensures cause { IsErrOf result StreamFault.Write → W.failures sink.old < W.failures sink.new }
     ensures memory { IsErrOf result StreamFault.Memory → sink.new ≡ sink.old }
     ensures never { IsErrOf result StreamFault.Read → ⊥ }
@@ -41,9 +43,10 @@ pub fn check_stream<R: Source, W: Sink, A: Room + Copy>(
 ) -> Result<bool, StreamFault>
     ensures read { IfOk result (λ _. ReadsEnough (R.left source.old) (R.left source.new)) }
     ensures ok { IfOk result
-        (WritesOfStream (R.left source.old) limit (W.taken sink.old) (W.taken sink.new)) }
+        (WritesOfStream verdict (R.left source.old) limit (W.taken sink.old) (W.taken sink.new)) }
     ensures write { IsErrOf result StreamFault.Write
-        → WritesSomeOfStream (R.left source.old) limit (W.taken sink.old) (W.taken sink.new) }
+        → WritesSomeOfStream verdict (R.left source.old) limit (W.taken sink.old)
+        (W.taken sink.new) }
     ensures write_cause { IsErrOf result StreamFault.Write
         → W.failures sink.old < W.failures sink.new }
     ensures read_cause { CountsReads (R.failures source.old) (R.failures source.new) result }

@@ -1,8 +1,16 @@
-use Rattle.std.proofs.Common.{rules, ◌≡◌}
+use Rattle.std.proofs.Common.{rules, ◌≡◌, sym}
 use Rattle.std.specs.String.{string_bytes}
 use Rattle.answers.specs.Answers.{refused}
+use Rattle.answers.proofs.Due.{is_due}
+use Rattle.verdict_texts.proofs.Due.{told_is_due}
 use Rattle.check_command.proofs.Answered.{refused_is_no}
 use Rattle.check_command.proofs.certifying.judged.Goals as goal
+
+pub returns-in-Ok : goal.returns-in-Ok
+returns-in-Ok c = (
+  c.in-Ok.ensures.true_of,
+  sym (is_due _ _ c.in-Ok.ensures.decided (λ none. cc)),
+)
 
 pub returns : goal.returns
 returns c =
@@ -11,6 +19,7 @@ returns c =
         answer = refused c.in-Err.refusal;
         text = string_bytes c.in_ok-text.text;
         true_of = c.in-Err.ensures.true_of;
+        decided = told_is_due _ _ _ c.in-Err.ensures.decided c.in_ok-text.ensures;
         told = c.in_ok-text.ensures;
       },
       same,
