@@ -156,8 +156,7 @@ fn catalogue_command<'a>(alloc: Global) -> Result<Command<'a>, AllocError>
     let new = "Begin with an empty catalogue; FILE isn't read";
     let add = "Add the certificate in the file CERT, and write FILE";
     let get = "Print the certificate of CODE; without --new and --add";
-    let heaps =
-        "With --get, that of the heaps up to M: 1 to 1024, by default 0, for the whole game";
+    let heaps = "With --get, that of the heaps up to M: 0 to 1024, by default 0, for all heaps";
     let salvage = "Keep the entries without a fault, and write FILE; without another option";
     let migrate = "Write FILE in the newest form, with the same entries; without another option";
     let made = Ok(command(alloc, "catalogue", about));

@@ -51,7 +51,9 @@ fn parsed<'a>(alloc: Global, words: &'a [&'a str]) -> Result<ArgMatches<'a>, Usa
 }
 
 /// Reads the words of a command line, the program's name first: what they ask for, or why they ask
-/// for nothing. Words that ask for something meet no other fault than want of memory.
+/// for nothing. Words that ask for something meet no other fault than want of memory. Each number
+/// that is asked for lies in its range, and is the default where none is given; no options that
+/// exclude each other are given.
 pub fn plan<'a>(alloc: Global, words: &'a [&'a str]) -> Result<Plan<'a>, UsageFault>
     ensures asked { IfOk result (λ plan. plan_of (map (λ w. w.now) words.entry.now)
         ≡ Some (request_of plan)) }
