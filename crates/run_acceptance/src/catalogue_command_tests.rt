@@ -1,31 +1,25 @@
 //! Catalogue files in memory: what is printed, and what the files hold then.
 mod tasks;
 
-use crate::files::{ONE_ENTRY, folder_with, holds};
+use crate::certificates::{OF_0_3, OF_0_33, OF_0_75, OF_0_B, PART_OF_0_3};
+use crate::files::{Entry, FIRST_VERSION, ONE_ENTRY, catalogue_of, folder_with, holds};
 use crate::rows::{Row, count_held};
 use catalogue_command::{Report, act};
 use folders::MemoryFolder;
 use requests::CatalogueTask;
-use std::alloc::Global;
+use std::alloc::{AllocError, Global};
 
 const LIMIT: u32 = 1000;
 
-/// Another version; a portion that is wrong of the empty position; the code of another game; an
-/// entry twice; members in another order.
-const ANOTHER_VERSION: &str = "{\"entries\":[],\"version\":2}";
+/// A version that isn't; one that is no whole number; two versions, of which the last stands; the
+/// second version without entries; an entry twice, its members in another order.
+const ANOTHER_VERSION: &str = "{\"entries\":[],\"version\":3}";
 
 const A_FLOAT: &str = "{\"entries\":[],\"version\":1.0}";
 
-const VERSION_TWICE: &str = "{\"version\":2,\"entries\":[],\"version\":1}";
+const VERSION_TWICE: &str = "{\"version\":3,\"entries\":[],\"version\":1}";
 
-const WRONG_PORTION: &str =
-    "{\"entries\":[{\"certificate\":\"mqc 1\\ncode 0.3\\norder 2\\nstart 1\\nperiod 2\\nphi 1 0\\n\
-portion 0\\nwords 0:1\\nrow 0 1\\nrow 1 0\\napart 0\\nend\\n\",\"code\":\"0.3\"}],\"version\":1}";
-
-const ANOTHER_CODE: &str =
-    "{\"entries\":[{\"certificate\":\"mqc 1\\ncode 0.3\\norder 2\\nstart 1\\nperiod 2\\nphi 1 0\\n\
-portion 1\\nwords 0:1\\nrow 0 1\\nrow 1 0\\napart 0\\nend\\n\
-\",\"code\":\"0.33\"},{\"certificate\":\"\",\"code\":\"0.3\"}],\"version\":1}";
+const SECOND_VERSION: &str = "{\"version\":2,\"entries\":[]}";
 
 const TWICE: &str =
     "{\"version\":1,\"entries\":[{\"code\":\"0.3\",\"certificate\":\"mqc 1\\ncode 0.3\\norder 2\\n\
@@ -33,20 +27,38 @@ start 1\\nperiod 2\\nphi 1 0\\nportion 1\\nwords 0:1\\nrow 0 1\\nrow 1 0\\napart
 \"},{\"code\":\"\\u0030.3\",\"certificate\":\"mqc 1\\ncode 0.3\\norder 2\\nstart 1\\nperiod 2\\n\
 phi 1 0\\nportion 1\\nwords 0:1\\nrow 0 1\\nrow 1 0\\napart 0\\nend\\n\"}]}";
 
-/// The quotients of 0.3, 0.33 and 0.75; the last row of the second is wrong at its last product.
-const DAMAGED: &str =
-    "{\"entries\":[{\"certificate\":\"mqc 1\\ncode 0.3\\norder 2\\nstart 1\\nperiod 2\\nphi 1 0\\n\
-portion 1\\nwords 0:1\\nrow 0 1\\nrow 1 0\\napart 0\\nend\\n\
-\",\"code\":\"0.3\"},{\"certificate\":\"mqc 1\\ncode 0.33\\norder 6\\nstart 1\\nperiod 3\\n\
-phi 1 2 0\\nportion 1 4\\nwords 0:1 0:2 1:2 2:2 3:2\\nrow 0 1 2 3 4 5\\nrow 1 0 3 2 5 4\\n\
-row 2 3 4 5 2 3\\nrow 3 2 5 4 3 2\\nrow 4 5 2 3 4 5\\nrow 5 4 3 2 5 5\\n\
-apart 0 1 1 0 4 0 0 4 0 2 0 1 0 1 0\\nend\\n\",\"code\":\"0.33\"},{\"certificate\":\"mqc 1\\n\
-code 0.75\\norder 8\\nstart 8\\nperiod 2\\nphi 1 2 1 2 3 2 3 2 4\\nportion 1 7\\n\
-words 0:1 0:2 0:5 0:9 1:2 1:5 1:9\\nrow 0 1 2 3 4 5 6 7\\nrow 1 0 5 6 7 2 3 4\\n\
-row 2 5 7 5 5 4 2 2\\nrow 3 6 5 7 7 2 4 4\\nrow 4 7 5 7 7 2 4 4\\nrow 5 2 4 2 2 7 5 5\\n\
-row 6 3 2 4 4 5 7 7\\nrow 7 4 2 4 4 5 7 7\\n\
-apart 0 1 1 3 1 1 0 0 0 0 0 0 4 2 1 2 2 0 1 3 3 0 1 1 0 5 0 0\\nend\\n\
-\",\"code\":\"0.75\"}],\"version\":1}";
+/// A portion that is wrong of the empty position.
+const WRONG_PORTION: &str =
+    "mqc 1\ncode 0.3\norder 2\nstart 1\nperiod 2\nphi 1 0\nportion 0\nwords 0:1\nrow 0 1\nrow 1 0\n\
+apart 0\nend\n";
+
+/// The quotient of 0.33 with a last row that is wrong at its last product.
+const DAMAGED: &str = "mqc 1\ncode 0.33\norder 6\nstart 1\nperiod 3\nphi 1 2 0\nportion 1 4\n\
+words 0:1 0:2 1:2 2:2 3:2\nrow 0 1 2 3 4 5\nrow 1 0 3 2 5 4\nrow 2 3 4 5 2 3\nrow 3 2 5 4 3 2\n\
+row 4 5 2 3 4 5\nrow 5 4 3 2 5 5\napart 0 1 1 0 4 0 0 4 0 2 0 1 0 1 0\nend\n";
+
+/// What a file holds.
+enum Held {
+    Text(&'static str),
+    /// These entries, as a file of the first version.
+    First(&'static [Entry]),
+    /// These entries, as a file of the second version.
+    Second(&'static [Entry]),
+}
+
+/// The text of the file.
+fn text_of(alloc: Global, held: &Held) -> Result<String, AllocError> {
+    match held {
+        Held::Text(text) => String::from_str(alloc, text),
+        Held::First(entries) => catalogue_of(alloc, entries, 1),
+        Held::Second(entries) => catalogue_of(alloc, entries, 2),
+    }
+}
+
+/// A folder of this file alone.
+fn folder_of_file(alloc: Global, text: &str) -> Option<MemoryFolder> {
+    folder_with(alloc, &[], "x.json", text, 0).ok()
+}
 
 /// Whether this is reported.
 fn is_reported(report: &Report, well: bool, text: &str) -> bool {
@@ -62,20 +74,32 @@ fn prints(
     well: bool,
     text: &str,
 ) -> bool {
-    match act(alloc, folder, file, task, LIMIT) {
+    prints_under(alloc, LIMIT, folder, file, task, well, text)
+}
+
+/// The same where checks are made under this limit.
+fn prints_under(
+    alloc: Global,
+    limit: u32,
+    folder: &mut MemoryFolder,
+    file: &str,
+    task: CatalogueTask<'_>,
+    well: bool,
+    text: &str,
+) -> bool {
+    match act(alloc, folder, file, task, limit) {
         Ok(report) => is_reported(&report, well, text),
         Err(_) => false,
     }
 }
 
 /// What a file holds, whether it is well, and what its list is.
-struct Listed(&'static str, bool, &'static str);
+struct Listed(Held, bool, &'static str);
 
 impl Row for Listed {
     fn holds(&self, alloc: Global) -> bool {
-        let Listed(held, well, printed) = *self;
-        match folder_with(alloc, &[], "x.json", held, 0) {
-            Ok(mut folder) => lists(alloc, &mut folder, well, printed),
+        match text_of(alloc, &self.0) {
+            Ok(text) => is_listed(alloc, text.as_str(), self.1, self.2),
             Err(_) => false,
         }
     }
@@ -86,35 +110,148 @@ fn lists(alloc: Global, folder: &mut MemoryFolder, well: bool, printed: &str) ->
     prints(alloc, folder, "x.json", CatalogueTask::Print, well, printed)
 }
 
-static LISTS: [Listed; 10] = [
-    Listed("", false, "refused 1 Json\n"),
-    Listed("\"\\ud800\"", false, "refused 1 Json\n"),
-    Listed("[]", false, "refused 2 Shape\n"),
-    Listed(ANOTHER_VERSION, false, "refused 2 Shape\n"),
-    Listed(A_FLOAT, false, "refused 2 Shape\n"),
-    Listed(VERSION_TWICE, true, ""),
-    Listed(WRONG_PORTION, false, "refused 3 Entry 1 no 7 Outcome\n"),
-    Listed(ANOTHER_CODE, false, "refused 4 Code 1\n"),
-    Listed(TWICE, false, "refused 5 Twice 2\n"),
-    Listed(ONE_ENTRY, true, "0.3 order 2 start 1 period 2\n"),
+/// Whether the list of this text is this, and the file stays.
+fn is_listed(alloc: Global, text: &str, well: bool, printed: &str) -> bool {
+    match folder_of_file(alloc, text) {
+        Some(mut folder) => {
+            lists(alloc, &mut folder, well, printed) && holds(&folder, "x.json", text)
+        }
+        None => false,
+    }
+}
+
+const HEAPS_0: &str = ",\"heaps\":0";
+
+const HEAPS_2: &str = ",\"heaps\":2";
+
+/// Of an entry at fault the first fault is told: the certificate, the code, the heaps, and that an
+/// earlier entry has the code and the kind.
+static LISTS: [Listed; 27] = [
+    Listed(Held::Text(""), false, "refused 1 Json\n"),
+    Listed(Held::Text("\"\\ud800\""), false, "refused 1 Json\n"),
+    Listed(Held::Text("[]"), false, "refused 2 Shape\n"),
+    Listed(Held::Text(ANOTHER_VERSION), false, "refused 2 Shape\n"),
+    Listed(Held::Text(A_FLOAT), false, "refused 2 Shape\n"),
+    Listed(Held::Text(VERSION_TWICE), true, ""),
+    Listed(Held::Text(SECOND_VERSION), true, ""),
+    Listed(
+        Held::First(&[(WRONG_PORTION, "0.3", "")]),
+        false,
+        "refused 3 Entry 1 no 7 Outcome\n",
+    ),
+    Listed(
+        Held::First(&[(OF_0_33, "0.3", ""), ("", "0.3", "")]),
+        false,
+        "refused 4 Code 1\n",
+    ),
+    Listed(Held::Text(TWICE), false, "refused 5 Twice 2\n"),
+    Listed(
+        Held::Text(FIRST_VERSION),
+        true,
+        "0.3 order 2 start 1 period 2\n",
+    ),
+    Listed(
+        Held::Text(ONE_ENTRY),
+        true,
+        "0.3 order 2 start 1 period 2\n",
+    ),
+    Listed(
+        Held::First(&[(OF_0_3, "0.3", ""), (OF_0_33, "0.33", "")]),
+        true,
+        "0.3 order 2 start 1 period 2\n0.33 order 6 start 1 period 3\n",
+    ),
+    Listed(
+        Held::Second(&[(OF_0_3, "0.3", "")]),
+        false,
+        "refused 2 Shape\n",
+    ),
+    Listed(
+        Held::First(&[(OF_0_3, "0.3", HEAPS_0)]),
+        false,
+        "refused 2 Shape\n",
+    ),
+    Listed(
+        Held::Second(&[(OF_0_3, "0.3", HEAPS_0), (OF_0_33, "0.33", "")]),
+        false,
+        "refused 2 Shape\n",
+    ),
+    Listed(
+        Held::Second(&[(OF_0_3, "0.3", ",\"heaps\":1025")]),
+        false,
+        "refused 2 Shape\n",
+    ),
+    Listed(
+        Held::Second(&[(OF_0_3, "0.3", ",\"heaps\":0.0")]),
+        false,
+        "refused 2 Shape\n",
+    ),
+    Listed(
+        Held::Second(&[(OF_0_3, "0.3", HEAPS_2)]),
+        false,
+        "refused 6 Heaps 1\n",
+    ),
+    Listed(
+        Held::Second(&[(OF_0_3, "0.3", ",\"heaps\":1024")]),
+        false,
+        "refused 6 Heaps 1\n",
+    ),
+    Listed(
+        Held::Second(&[(PART_OF_0_3, "0.3", HEAPS_0)]),
+        false,
+        "refused 6 Heaps 1\n",
+    ),
+    Listed(
+        Held::First(&[(PART_OF_0_3, "0.3", "")]),
+        false,
+        "refused 6 Heaps 1\n",
+    ),
+    Listed(
+        Held::Second(&[(OF_0_3, "0.33", HEAPS_2)]),
+        false,
+        "refused 4 Code 1\n",
+    ),
+    Listed(
+        Held::Second(&[(OF_0_3, "0.3", HEAPS_0), (OF_0_3, "0.3", HEAPS_2)]),
+        false,
+        "refused 6 Heaps 2\n",
+    ),
+    Listed(
+        Held::Second(&[(PART_OF_0_3, "0.3", HEAPS_2), (PART_OF_0_3, "0.3", HEAPS_2)]),
+        false,
+        "refused 5 Twice 2\n",
+    ),
+    Listed(
+        Held::Second(&[(OF_0_3, "0.3", HEAPS_0), (PART_OF_0_3, "0.3", HEAPS_2)]),
+        true,
+        "0.3 order 2 start 1 period 2\n0.3 order 2 heaps 2\n",
+    ),
+    Listed(
+        Held::Second(&[(OF_0_B, "0.b", HEAPS_0)]),
+        true,
+        "0.b order 2 start 1 period 2\n",
+    ),
 ];
 
 /// What a file holds, whether salvaging it ends well, what that prints, whether the file stays, and
 /// whether it is well then and what its list is.
-struct Salvaged(&'static str, bool, &'static str, bool, bool, &'static str);
+struct Salvaged(Held, bool, &'static str, bool, bool, &'static str);
 
 impl Row for Salvaged {
     fn holds(&self, alloc: Global) -> bool {
-        match folder_with(alloc, &[], "x.json", self.0, 0) {
-            Ok(mut folder) => salvages(alloc, &mut folder, self),
+        match text_of(alloc, &self.0) {
+            Ok(text) => is_salvaged(alloc, text.as_str(), self),
             Err(_) => false,
         }
     }
 }
 
-static DAMAGES: [Salvaged; 2] = [
+static DAMAGES: [Salvaged; 3] = [
     Salvaged(
-        DAMAGED,
+        Held::First(&[
+            (OF_0_3, "0.3", ""),
+            (DAMAGED, "0.33", ""),
+            (OF_0_75, "0.75", ""),
+        ]),
         true,
         "refused 3 Entry 2 no 2 Law\nkept 2\n",
         false,
@@ -122,18 +259,32 @@ static DAMAGES: [Salvaged; 2] = [
         "0.3 order 2 start 1 period 2\n0.75 order 8 start 8 period 2\n",
     ),
     Salvaged(
-        "[]",
+        Held::Text("[]"),
         false,
         "refused 2 Shape\n",
         true,
         false,
         "refused 2 Shape\n",
     ),
+    Salvaged(
+        Held::Second(&[
+            (OF_0_3, "0.3", HEAPS_2),
+            (OF_0_3, "0.3", HEAPS_0),
+            (PART_OF_0_3, "0.3", HEAPS_2),
+            (PART_OF_0_3, "0.33", HEAPS_0),
+            (OF_0_3, "0.3", HEAPS_0),
+        ]),
+        true,
+        "refused 6 Heaps 1\nrefused 4 Code 4\nrefused 5 Twice 5\nkept 2\n",
+        false,
+        true,
+        "0.3 order 2 start 1 period 2\n0.3 order 2 heaps 2\n",
+    ),
 ];
 
 /// Whether the file of the folder is salvaged so.
-fn salvages(alloc: Global, folder: &mut MemoryFolder, row: &Salvaged) -> bool {
-    let Salvaged(held, well, printed, stays, is_well, lines) = *row;
+fn salvages(alloc: Global, folder: &mut MemoryFolder, text: &str, row: &Salvaged) -> bool {
+    let Salvaged(_, well, printed, stays, is_well, lines) = *row;
     prints(
         alloc,
         folder,
@@ -141,12 +292,20 @@ fn salvages(alloc: Global, folder: &mut MemoryFolder, row: &Salvaged) -> bool {
         CatalogueTask::Salvage,
         well,
         printed,
-    ) && holds(folder, "x.json", held) == stays
+    ) && holds(folder, "x.json", text) == stays
         && lists(alloc, folder, is_well, lines)
+}
+
+/// Whether the text is salvaged so.
+fn is_salvaged(alloc: Global, text: &str, row: &Salvaged) -> bool {
+    match folder_of_file(alloc, text) {
+        Some(mut folder) => salvages(alloc, &mut folder, text, row),
+        None => false,
+    }
 }
 
 #[test]
 fn lists_or_keeps_what_stands_of_a_file(rt: HostRuntime) {
-    assert!(rt; count_held(rt.alloc(), &LISTS) == 10);
-    assert!(rt; count_held(rt.alloc(), &DAMAGES) == 2);
+    assert!(rt; count_held(rt.alloc(), &LISTS) == 27);
+    assert!(rt; count_held(rt.alloc(), &DAMAGES) == 3);
 }

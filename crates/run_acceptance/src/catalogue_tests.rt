@@ -1,8 +1,8 @@
 //! Catalogues of no entry, of a few, and of many: past each size at which what holds them grows.
 use crate::by_rule::{by_rule, digits_of};
 use crate::rows::{Row, count_held};
-use catalogue::{Catalogue, LoadFault};
-use checker::check;
+use catalogue::{Catalogue, LoadFault, certificate_text};
+use checker::{Certified, check};
 use std::alloc::{AllocError, Global};
 
 const LIMIT: u32 = 1000;
@@ -13,32 +13,49 @@ fn escaped_of(alloc: Global, digits: &str) -> Result<String, AllocError> {
     certificate.as_str().replace(alloc, '\n', "\\n")
 }
 
-/// The entry of the code of this number, behind a comma.
-fn entry_of(alloc: Global, number: u16) -> Result<String, AllocError> {
-    let digits = digits_of(alloc, number)?;
-    let certificate = escaped_of(alloc, digits.as_str())?;
-    format!(in alloc; ",{{\"certificate\":\"{certificate}\",\"code\":\"0.{digits}\"}}")
+/// What stands behind the code in an entry of a file of this version.
+fn behind_code(version: u8) -> &'static str {
+    if version == 1 { "" } else { ",\"heaps\":0" }
 }
 
-fn put_entry(alloc: Global, text: &mut String, number: u16) -> Result<(), AllocError> {
-    let entry = entry_of(alloc, number)?;
+/// The entry of the code of this number in a file of this version, behind a comma.
+fn entry_of(alloc: Global, number: u16, version: u8) -> Result<String, AllocError> {
+    let digits = digits_of(alloc, number)?;
+    let certificate = escaped_of(alloc, digits.as_str())?;
+    let behind = behind_code(version);
+    format!(in alloc; ",{{\"certificate\":\"{certificate}\",\"code\":\"0.{digits}\"{behind}}}")
+}
+
+fn put_entry(alloc: Global, text: &mut String, number: u16, version: u8) -> Result<(), AllocError> {
+    let entry = entry_of(alloc, number, version)?;
     text.push_str(entry.as_str())
 }
 
 /// Adds the entries 1 to `count`, so many times, each behind a comma.
-fn put_entries(alloc: Global, text: &mut String, count: u16, times: u16) -> Result<(), AllocError> {
+fn put_entries(
+    alloc: Global,
+    text: &mut String,
+    count: u16,
+    times: u16,
+    version: u8,
+) -> Result<(), AllocError> {
     for n in 0..count.saturating_mul(times) {
-        put_entry(alloc, text, (n % count.max(1)).saturating_add(1))?;
+        put_entry(alloc, text, (n % count.max(1)).saturating_add(1), version)?;
     }
     Ok(())
 }
 
-/// A file that has the entries 1 to `count`, so many times.
-fn file_of(alloc: Global, count: u16, times: u16) -> Result<String, AllocError> {
+/// A file of this version that has the entries 1 to `count`, so many times.
+fn file_as(alloc: Global, count: u16, times: u16, version: u8) -> Result<String, AllocError> {
     let mut text = String::new(alloc);
-    put_entries(alloc, &mut text, count, times)?;
+    put_entries(alloc, &mut text, count, times, version)?;
     let entries = text.as_str().strip_prefix(',').unwrap_or("");
-    format!(in alloc; "{{\"entries\":[{entries}],\"version\":1}}\n")
+    format!(in alloc; "{{\"entries\":[{entries}],\"version\":{version}}}\n")
+}
+
+/// The same, of the version in which files are written.
+fn file_of(alloc: Global, count: u16, times: u16) -> Result<String, AllocError> {
+    file_as(alloc, count, times, 2)
 }
 
 /// Adds the entry of this certificate to a catalogue.
@@ -182,9 +199,70 @@ impl Row for Twice {
 
 static TWICE: [Twice; 4] = [Twice(1), Twice(9), Twice(65), Twice(300)];
 
+/// Whether two entries have one certificate.
+fn are_one(alloc: Global, a: &Certified, b: &Certified) -> bool {
+    match (
+        certificate_text(alloc, a.cert()),
+        certificate_text(alloc, b.cert()),
+    ) {
+        (Ok(one), Ok(other)) => one.as_str() == other.as_str(),
+        _ => false,
+    }
+}
+
+/// How many entries two catalogues have, if they are the same, and else 0.
+fn count_same(alloc: Global, a: &Catalogue, b: &Catalogue) -> usize {
+    let mut count = 0usize;
+    for (one, other) in a.entries().iter().zip(b.entries()) {
+        if are_one(alloc, one, other) {
+            count = count.saturating_add(1);
+        }
+    }
+    if a.entries().len() == count && b.entries().len() == count {
+        count
+    } else {
+        0
+    }
+}
+
+/// How many entries the catalogue has, if its text is loaded with the same, and else 0.
+fn count_written(alloc: Global, catalogue: &Catalogue) -> usize {
+    let Ok(text) = catalogue.text() else {
+        return 0;
+    };
+    match Catalogue::load(alloc, text.as_str().as_bytes(), LIMIT) {
+        Ok(loaded) => count_same(alloc, catalogue, &loaded),
+        Err(_) => 0,
+    }
+}
+
+/// How many entries a file of this text has, if the file that is written for it has the same.
+fn count_migrated(alloc: Global, text: &str) -> usize {
+    match Catalogue::load(alloc, text.as_bytes(), LIMIT) {
+        Ok(catalogue) => count_written(alloc, &catalogue),
+        Err(_) => 0,
+    }
+}
+
+/// How many entries a file of the first version has, if the file that is written for it has the
+/// same.
+struct Migrated(u16);
+
+impl Row for Migrated {
+    fn holds(&self, alloc: Global) -> bool {
+        match file_as(alloc, self.0, 1, 1) {
+            Ok(text) => count_migrated(alloc, text.as_str()) == self.0 as usize,
+            Err(_) => false,
+        }
+    }
+}
+
+static MIGRATED: [Migrated; 3] = [Migrated(1), Migrated(9), Migrated(65)];
+
 /// The last file that is read back has more than 2^16 bytes.
 #[test]
 fn reads_back_and_keeps_once(rt: HostRuntime) {
     assert!(rt; length_of_grown(rt.alloc()) > 65536);
     assert!(rt; count_held(rt.alloc(), &TWICE) == 4);
+    assert!(rt; count_held(rt.alloc(), &MIGRATED) == 3);
 }

@@ -32,6 +32,23 @@ words 0:1 0:2 0:5 1:2 1:5 2:2 4:2\nrow 0 1 2 3 4 5 6 7\nrow 1 0 4 5 2 3 7 6\nrow
 row 3 5 4 6 2 7 7 6\nrow 4 2 7 2 6 4 4 2\nrow 5 3 2 7 4 6 6 7\nrow 6 7 2 7 4 6 6 7\n\
 row 7 6 4 6 2 7 7 6\napart 0 1 1 1 1 0 3 0 0 0 0 5 0 2 2 2 0 1 3 3 0 1 4 0 1 0 1 0\nend\n";
 
+/// The quotient of 0.b, of order 2, in which a move may leave three heaps.
+pub const OF_0_B: &str =
+    "mqc 2\ncode 0.b\norder 2\nstart 1\nperiod 2\nphi 1 0\nportion 1\nwords 0:1\nrow 0 1\nrow 1 0\n\
+apart 0\nend\n";
+
+/// The quotient of 0.3 for the heaps up to 2.
+pub const PART_OF_0_3: &str =
+    "mqc 2\ncode 0.3\norder 2\nstart 3\nperiod 0\nphi 1 0\nportion 1\nwords 0:1\nrow 0 1\nrow 1 0\n\
+apart 0\nend\n";
+
+/// The quotient of 0.75 for the heaps up to 8.
+pub const PART_OF_0_75: &str =
+    "mqc 2\ncode 0.75\norder 8\nstart 9\nperiod 0\nphi 1 2 1 2 3 2 3 2\nportion 1 6\n\
+words 0:1 0:2 0:5 1:2 1:5 2:2 4:2\nrow 0 1 2 3 4 5 6 7\nrow 1 0 4 5 2 3 7 6\nrow 2 4 6 4 7 2 2 4\n\
+row 3 5 4 6 2 7 7 6\nrow 4 2 7 2 6 4 4 2\nrow 5 3 2 7 4 6 6 7\nrow 6 7 2 7 4 6 6 7\n\
+row 7 6 4 6 2 7 7 6\napart 0 1 1 1 1 0 3 0 0 0 0 5 0 2 2 2 0 1 3 3 0 1 4 0 1 0 1 0\nend\n";
+
 /// Whether the certificate is spelled so.
 pub fn is_spelled(alloc: Global, cert: &Cert, text: &str) -> bool {
     let mut sink = MemorySink::new(alloc);

@@ -61,7 +61,7 @@ impl Row for Asks {
     }
 }
 
-static ASKED: [Asks; 24] = [
+static ASKED: [Asks; 29] = [
     Asks(
         "check",
         Asked::Plan(Plan::Check {
@@ -142,7 +142,39 @@ static ASKED: [Asks; 24] = [
     ),
     Asks(
         "catalogue|x.json|--get|0.3",
-        Asked::Task(CatalogueTask::Get("0.3")),
+        Asked::Task(CatalogueTask::Get {
+            code: "0.3",
+            heaps: 0,
+        }),
+    ),
+    Asks(
+        "catalogue|x.json|--get|0.3|--heaps|0",
+        Asked::Task(CatalogueTask::Get {
+            code: "0.3",
+            heaps: 0,
+        }),
+    ),
+    Asks(
+        "catalogue|--heaps=2|x.json|--get|0.3",
+        Asked::Task(CatalogueTask::Get {
+            code: "0.3",
+            heaps: 2,
+        }),
+    ),
+    Asks(
+        "catalogue|x.json|--get|0.b|--heaps|1024",
+        Asked::Task(CatalogueTask::Get {
+            code: "0.b",
+            heaps: 1024,
+        }),
+    ),
+    Asks(
+        "catalogue|x.json|--migrate",
+        Asked::Task(CatalogueTask::Migrate),
+    ),
+    Asks(
+        "catalogue|--migrate|x.json",
+        Asked::Task(CatalogueTask::Migrate),
     ),
     Asks(
         "catalogue|x.json|--salvage",
@@ -152,7 +184,7 @@ static ASKED: [Asks; 24] = [
 
 #[test]
 fn asks_for_plans(rt: HostRuntime) {
-    assert!(rt; count_held(rt.alloc(), &ASKED) == 24);
+    assert!(rt; count_held(rt.alloc(), &ASKED) == 29);
 }
 
 /// Whether the fault has this status, and a text with this part.
@@ -192,7 +224,7 @@ impl Row for Refuses {
     }
 }
 
-static REFUSED: [Refuses; 69] = [
+static REFUSED: [Refuses; 86] = [
     Refuses("check|--limit|0", Why::Number(Quantity::Limit)),
     Refuses("check|--limit|1000001", Why::Number(Quantity::Limit)),
     Refuses("check|--limit|08", Why::Number(Quantity::Limit)),
@@ -216,7 +248,30 @@ static REFUSED: [Refuses; 69] = [
     Refuses("catalogue|x.json|--salvage|--new", Why::Exclusive),
     Refuses("catalogue|x.json|--salvage|--add|a.mqc", Why::Exclusive),
     Refuses("catalogue|x.json|--salvage|--get|0.3", Why::Exclusive),
+    Refuses(
+        "catalogue|x.json|--get|0.3|--heaps|1025",
+        Why::Number(Quantity::Part),
+    ),
+    Refuses(
+        "catalogue|x.json|--get|0.3|--heaps|01",
+        Why::Number(Quantity::Part),
+    ),
+    Refuses(
+        "catalogue|x.json|--get|0.3|--heaps|x",
+        Why::Number(Quantity::Part),
+    ),
+    Refuses("catalogue|x.json|--heaps|2", Why::Exclusive),
+    Refuses("catalogue|x.json|--new|--heaps|2", Why::Exclusive),
+    Refuses("catalogue|x.json|--add|a.mqc|--heaps|2", Why::Exclusive),
+    Refuses("catalogue|x.json|--salvage|--heaps|2", Why::Exclusive),
+    Refuses("catalogue|x.json|--migrate|--heaps|2", Why::Exclusive),
+    Refuses("catalogue|x.json|--migrate|--new", Why::Exclusive),
+    Refuses("catalogue|x.json|--migrate|--add|a.mqc", Why::Exclusive),
+    Refuses("catalogue|x.json|--migrate|--get|0.3", Why::Exclusive),
+    Refuses("catalogue|x.json|--migrate|--salvage", Why::Exclusive),
     Refuses("bogus", Why::Words),
+    Refuses("catalogue|x.json|--heaps", Why::Words),
+    Refuses("catalogue|x.json|--migrate=1", Why::Words),
     Refuses("desk", Why::Words),
     Refuses("check|a|b", Why::Words),
     Refuses("check|--bogus", Why::Words),
@@ -234,7 +289,10 @@ static REFUSED: [Refuses; 69] = [
     Refuses("catalogue|x.json|--get", Why::Words),
     Refuses("check|--version", Why::Words),
     Refuses("help|bogus", Why::Words),
-    Refuses("--help", Why::Help("misère quotients of octal games")),
+    Refuses(
+        "--help",
+        Why::Help("misère quotients of octal and hexadecimal games"),
+    ),
     Refuses("--help", Why::Help("  check ")),
     Refuses("--help", Why::Help("  solve ")),
     Refuses("--help", Why::Help("  show ")),
@@ -263,6 +321,9 @@ static REFUSED: [Refuses; 69] = [
     Refuses("catalogue|--help", Why::Help("--add <CERT>")),
     Refuses("catalogue|--help", Why::Help("--get <CODE>")),
     Refuses("catalogue|--help", Why::Help("--salvage")),
+    Refuses("catalogue|--help", Why::Help("--heaps <M>")),
+    Refuses("catalogue|--help", Why::Help("--migrate")),
+    Refuses("-V", Why::Help("misere 0.1.0")),
     Refuses("--version", Why::Help("misere ")),
     Refuses("-V", Why::Help(VERSION)),
 ];
@@ -274,7 +335,7 @@ fn is_incomplete(alloc: Global) -> bool {
 
 #[test]
 fn tells_why_words_ask_for_nothing(rt: HostRuntime) {
-    assert!(rt; count_held(rt.alloc(), &REFUSED) == 69);
+    assert!(rt; count_held(rt.alloc(), &REFUSED) == 86);
     assert!(rt; is_incomplete(rt.alloc()));
 }
 

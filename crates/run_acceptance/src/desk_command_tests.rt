@@ -1,5 +1,5 @@
 //! Worked scripts: the status, the lines that are printed, and what is told.
-use crate::certificates::{OF_0_3, OF_0_33, OF_0_75, RIGHT_UP_TO_8};
+use crate::certificates::{OF_0_3, OF_0_33, OF_0_75, OF_0_B, PART_OF_0_75, RIGHT_UP_TO_8};
 use crate::files::folder_with;
 use crate::rows::{Row, count_held};
 use desk_command::run_file;
@@ -8,12 +8,15 @@ use folders::MemoryFolder;
 use std::alloc::Global;
 use streams::{MemorySink, Sink};
 
-/// The quotients of 0.3, 0.33 and 0.75, and a wrong one of 0.75.
-static FILES: [(&str, &str); 4] = [
+/// The quotients of 0.3, 0.33 and 0.75, a wrong one of 0.75, the part of 0.75 up to 8, and the
+/// quotient of 0.b.
+static FILES: [(&str, &str); 6] = [
     ("a.mqc", OF_0_3),
     ("b.mqc", OF_0_33),
     ("c.mqc", OF_0_75),
     ("d.mqc", RIGHT_UP_TO_8),
+    ("part.mqc", PART_OF_0_75),
+    ("three.mqc", OF_0_B),
 ];
 
 /// Whether the script of the folder has this status, and this is told.
@@ -50,7 +53,7 @@ impl Row for Script {
 /// Two clients in turn, of whom one has a wrong certificate; one client with jobs that are dropped,
 /// idle, worked far, and over their limit; and scripts that end before their end. The file of a
 /// fifth job is read before the job is refused.
-static ROWS: [Script; 12] = [
+static ROWS: [Script; 14] = [
     Script(
         "open 1 c.mqc 2048\nopen 2 d.mqc 2048\nwork 1 1 0\nwork 2 1 1000000\nask 1 1 1\n\
 work 1 1 1000000\nask 1 1 1 9\nplay 1 1 10\nask 2 1 1\ndrop 2 1\nwork 2 1 5\n",
@@ -109,6 +112,20 @@ yes 0.3 order 2 start 1 period 2\nP\nopened 2\nno 8 Limit\nN\nlost\nrefused 22 N
         "misere: cannot read e.mqc\n",
     ),
     Script("\n", 2, "", "misere: line 1 isn't a step\n"),
+    Script(
+        "open 1 part.mqc 2048\nask 1 1 9\nwork 1 1 1000000\nask 1 1 8\nask 1 1 9\nplay 1 1 9\n\
+ask 1 1 1 8 9\nask 1 2 9\nplay 1 1 2 5\nask 1 1 8 8\n",
+        0,
+        "opened 1\nrefused 22 NotCertified\nyes 0.75 order 8 heaps 8\nN\nrefused 23 Beyond\n\
+refused 23 Beyond\nrefused 23 Beyond\nrefused 21 NoJob\nwins 5 -> 4\nP\n",
+        "",
+    ),
+    Script(
+        "open 1 three.mqc 8\nwork 1 1 2166\nask 1 1 1 1 1\nplay 1 1 4\nask 1 1 1000000000000000000\n",
+        0,
+        "opened 1\nyes 0.b order 2 start 1 period 2\nP\nwins 4 -> 3\nN\n",
+        "",
+    ),
 ];
 
 /// Each of sixteen clients opens a job, four times over, and two of them open a fifth.
@@ -147,7 +164,7 @@ static FULL: Script = Script(FILLING, 0, FILLED, "");
 
 #[test]
 fn ends_as_worked_out(rt: HostRuntime) {
-    assert!(rt; count_held(rt.alloc(), &ROWS) == 12 && FULL.holds(rt.alloc()));
+    assert!(rt; count_held(rt.alloc(), &ROWS) == 14 && FULL.holds(rt.alloc()));
 }
 
 /// Whether a script stops where its line of this number can't be written, which is told, and what

@@ -1,5 +1,5 @@
 //! Proposers that lie, that learn nothing and that give nothing, and what a search tells them.
-use crate::certificates::{OF_0_3, OF_0_75, RIGHT_UP_TO_8, is_spelled};
+use crate::certificates::{OF_0_3, OF_0_75, PART_OF_0_75, RIGHT_UP_TO_8, is_spelled};
 use crate::rows::{Row, count_held};
 use allocation::Memory;
 use checker::Refusal;
@@ -27,6 +27,9 @@ const RIGHT: Habit = Habit::Always(OF_0_75);
 
 /// The quotient of another code.
 const OTHER: Habit = Habit::Always(OF_0_3);
+
+/// The quotient of a part of 0.75.
+const PART: Habit = Habit::Always(PART_OF_0_75);
 
 /// A claim about 0.75 that is wrong from heap 9 on.
 const WRONG: Habit = Habit::Always(RIGHT_UP_TO_8);
@@ -151,33 +154,31 @@ fn ends_so(
     alloc: Global,
     code: &Code,
     proposers: &mut Vec<Box<dyn Proposer>>,
-    rounds: u32,
+    limits: Limits,
     end: Result<bool, GaveUp>,
 ) -> bool {
-    let limits = Limits {
-        rounds,
-        members: 100000,
-    };
     match find(alloc, code, proposers, limits) {
         Ok(certified) => end == Ok(is_spelled(alloc, certified.cert(), OF_0_75)),
         Err(why) => end == Err(why),
     }
 }
 
-/// The habits of proposers, the rounds, how a search through them ends, and their counts.
+/// The habits of proposers, the rounds and the members of a check, how a search through them ends,
+/// and their counts.
 struct Searched(
     &'static [Habit],
-    u32,
+    (u32, u32),
     Result<bool, GaveUp>,
     &'static [Counts],
 );
 
 /// Whether a search through these proposers ends as in the row, with the counts of the row.
 fn searches(alloc: Global, proposers: &mut Vec<Box<dyn Proposer>>, row: &Searched) -> bool {
-    let Searched(_, rounds, end, counts) = *row;
+    let Searched(_, (rounds, members), end, counts) = *row;
+    let limits = Limits { rounds, members };
     match Code::read(ASKED) {
         Ok(code) => {
-            ends_so(alloc, &code, proposers, rounds, end) && have_counted(proposers, counts)
+            ends_so(alloc, &code, proposers, limits, end) && have_counted(proposers, counts)
         }
         Err(_) => false,
     }
@@ -191,33 +192,55 @@ impl Row for Searched {
     }
 }
 
-static ROWS: [Searched; 11] = [
-    Searched(&[], 0, Err(GaveUp::Empty), &[]),
-    Searched(&[], 3, Err(GaveUp::Empty), &[]),
-    Searched(&[RIGHT], 0, Err(GaveUp::Rounds), &[[0, 0, 0]]),
-    Searched(&[WRONG], 3, Err(GaveUp::Rounds), &[[3, 3, 7]]),
-    Searched(&[Habit::Never], 3, Err(GaveUp::Empty), &[[1, 0, 0]]),
-    Searched(&[Habit::Never], 1, Err(GaveUp::Empty), &[[1, 0, 0]]),
+/// The members of most checks.
+const MEMBERS: u32 = 100000;
+
+static ROWS: [Searched; 15] = [
+    Searched(&[], (0, MEMBERS), Err(GaveUp::Empty), &[]),
+    Searched(&[], (3, MEMBERS), Err(GaveUp::Empty), &[]),
+    Searched(&[RIGHT], (0, MEMBERS), Err(GaveUp::Rounds), &[[0, 0, 0]]),
+    Searched(&[WRONG], (3, MEMBERS), Err(GaveUp::Rounds), &[[3, 3, 7]]),
+    Searched(
+        &[Habit::Never],
+        (3, MEMBERS),
+        Err(GaveUp::Empty),
+        &[[1, 0, 0]],
+    ),
+    Searched(
+        &[Habit::Never],
+        (1, MEMBERS),
+        Err(GaveUp::Empty),
+        &[[1, 0, 0]],
+    ),
     Searched(
         &[WRONG, Habit::Never],
-        3,
+        (3, MEMBERS),
         Err(GaveUp::Rounds),
         &[[3, 3, 7], [3, 0, 0]],
     ),
-    Searched(&[Habit::Wanting], 3, Err(GaveUp::Memory), &[[1, 0, 0]]),
+    Searched(
+        &[Habit::Wanting],
+        (3, MEMBERS),
+        Err(GaveUp::Memory),
+        &[[1, 0, 0]],
+    ),
     Searched(
         &[Habit::Longer(5_000_000)],
-        2,
+        (2, MEMBERS),
         Err(GaveUp::Rounds),
         &[[2, 2, 1]],
     ),
-    Searched(&[OTHER], 2, Err(GaveUp::Rounds), &[[2, 0, 0]]),
+    Searched(&[OTHER], (2, MEMBERS), Err(GaveUp::Rounds), &[[2, 0, 0]]),
     Searched(
         &[Habit::Always("x"), OTHER, RIGHT, WRONG],
-        2,
+        (2, MEMBERS),
         Ok(true),
         &[[1, 1, 1], [1, 0, 0], [1, 0, 0], [0, 0, 0]],
     ),
+    Searched(&[PART], (2, MEMBERS), Err(GaveUp::Rounds), &[[2, 0, 0]]),
+    Searched(&[RIGHT], (1, MEMBERS), Ok(true), &[[1, 0, 0]]),
+    Searched(&[RIGHT], (2, 8), Err(GaveUp::Rounds), &[[2, 2, 8]]),
+    Searched(&[OTHER], (2, 2), Err(GaveUp::Rounds), &[[2, 2, 8]]),
 ];
 
 /// Whether the reasons have their numbers.
@@ -227,5 +250,5 @@ fn are_numbered() -> bool {
 
 #[test]
 fn finds_or_gives_up(rt: HostRuntime) {
-    assert!(rt; count_held(rt.alloc(), &ROWS) == 11 && are_numbered());
+    assert!(rt; count_held(rt.alloc(), &ROWS) == 15 && are_numbered());
 }

@@ -1,5 +1,5 @@
 //! Worked quotients, shown line by line.
-use crate::certificates::{OF_0_1, OF_0_33};
+use crate::certificates::{OF_0_1, OF_0_33, OF_0_B, PART_OF_0_3};
 use crate::files::folder_with;
 use crate::rows::{Row, count_held};
 use crate::said::is_said;
@@ -31,7 +31,7 @@ impl Row for Shown {
     }
 }
 
-static ROWS: [Shown; 4] = [
+static ROWS: [Shown; 6] = [
     Shown(
         OF_0_1,
         LIMIT,
@@ -48,9 +48,21 @@ element 4 P 2 2\nelement 5 N 1 2 2\nheap 1 1\nheap 2 2\nheap 3 0\nrepeat 3 from 
     ),
     Shown(OF_0_33, 1, false, "no 8 Limit\n"),
     Shown("mqc 1\n", LIMIT, false, "no 1 Text\n"),
+    Shown(
+        OF_0_B,
+        LIMIT,
+        true,
+        "code 0.b\norder 2\nelement 0 N 0\nelement 1 P 1\nheap 1 1\nheap 2 0\nrepeat 2 from 1\n",
+    ),
+    Shown(
+        PART_OF_0_3,
+        LIMIT,
+        true,
+        "code 0.3\norder 2\nelement 0 N 0\nelement 1 P 1\nheap 1 1\nheap 2 0\nheaps to 2\n",
+    ),
 ];
 
 #[test]
 fn shows_quotients(rt: HostRuntime) {
-    assert!(rt; count_held(rt.alloc(), &ROWS) == 4);
+    assert!(rt; count_held(rt.alloc(), &ROWS) == 6);
 }

@@ -1,6 +1,6 @@
 //! Worked codes, codes whose certificates can be written by rule, and texts that are no codes.
 use crate::by_rule::{by_rule, digits_of};
-use crate::certificates::{OF_0_1, OF_0_3, OF_0_33, OF_0_75};
+use crate::certificates::{OF_0_1, OF_0_3, OF_0_33, OF_0_75, OF_0_B};
 use crate::rows::{Row, count_held};
 use solve_command::{SolveBounds, SolveStop, solve};
 use std::alloc::Global;
@@ -13,6 +13,17 @@ type Bounds = (u32, u32, u32);
 const USUAL: Bounds = (64, 24, 64);
 
 const FEW: Bounds = (64, 12, 64);
+
+/// The same with a limit of each check, in the command's form.
+fn bounds_of(limit: u32, bounds: Bounds) -> SolveBounds {
+    let (rounds, heaps, order) = bounds;
+    SolveBounds {
+        limit,
+        rounds,
+        heaps,
+        order,
+    }
+}
 
 /// Whether this is the answer.
 fn is_answer(found: Result<bool, SolveStop>, answer: Result<bool, SolveStop>) -> bool {
@@ -31,15 +42,8 @@ fn solves(
     answer: Result<bool, SolveStop>,
     printed: &str,
 ) -> bool {
-    let (rounds, heaps, order) = bounds;
-    let bounds = SolveBounds {
-        limit: 100000,
-        rounds,
-        heaps,
-        order,
-    };
     let mut sink = MemorySink::new(alloc);
-    let found = solve(alloc, code, bounds, &mut sink);
+    let found = solve(alloc, code, bounds_of(100000, bounds), &mut sink);
     is_answer(found, answer) && sink.bytes() == printed.as_bytes()
 }
 
@@ -53,11 +57,13 @@ impl Row for Solved {
     }
 }
 
-static ROWS: [Solved; 15] = [
+static ROWS: [Solved; 18] = [
     Solved("0.1", USUAL, Ok(true), OF_0_1),
     Solved("0.3", USUAL, Ok(true), OF_0_3),
     Solved("0.33", USUAL, Ok(true), OF_0_33),
     Solved("0.75", USUAL, Ok(true), OF_0_75),
+    Solved("0.b", USUAL, Ok(true), OF_0_B),
+    Solved("0.33", (64, 24, 6), Ok(true), OF_0_33),
     Solved(
         "0.03",
         FEW,
@@ -84,11 +90,19 @@ row 4 5 2 3 4 5\nrow 5 4 3 2 5 4\napart 0 1 1 0 4 0 0 4 0 2 0 1 0 1 0\nend\n",
     Solved("0.", USUAL, Err(SolveStop::NotACode), ""),
     Solved("0.30", USUAL, Err(SolveStop::NotACode), ""),
     Solved("", USUAL, Err(SolveStop::NotACode), ""),
+    Solved("0.B", USUAL, Err(SolveStop::NotACode), ""),
     Solved("0.11111111111111111", USUAL, Err(SolveStop::NotACode), ""),
     Solved("0.33", (0, 24, 64), Ok(false), "gave up 1 Rounds\n"),
     Solved("0.33", (64, 24, 5), Ok(false), "gave up 2 Empty\n"),
     Solved("0.33", (64, 2, 64), Ok(false), "gave up 2 Empty\n"),
 ];
+
+/// Whether a search for the code is given up where each check is made under this limit.
+fn gives_up(alloc: Global, code: &str, limit: u32) -> bool {
+    let mut sink = MemorySink::new(alloc);
+    let found = solve(alloc, code, bounds_of(limit, USUAL), &mut sink);
+    is_answer(found, Ok(false)) && sink.bytes().starts_with(b"gave up ")
+}
 
 /// Whether the code of these digits has the certificate of this text.
 fn has_certificate(alloc: Global, digits: &str, text: &str) -> bool {
@@ -126,6 +140,7 @@ fn first_not_solved(alloc: Global) -> u16 {
 
 #[test]
 fn prints_the_certificates_of_codes(rt: HostRuntime) {
-    assert!(rt; count_held(rt.alloc(), &ROWS) == 15);
+    assert!(rt; count_held(rt.alloc(), &ROWS) == 18);
+    assert!(rt; gives_up(rt.alloc(), "0.33", 2) && gives_up(rt.alloc(), "0.3", 1));
     assert!(rt; first_not_solved(rt.alloc()) == 256);
 }

@@ -2,7 +2,7 @@
 mod fakes;
 
 use self::fakes::{SAMPLES, Words};
-use crate::certificates::{OF_0_3, OF_0_33};
+use crate::certificates::{OF_0_3, OF_0_33, OF_0_B};
 use crate::files::{EMPTY, ONE_ENTRY, folder_of, holds};
 use crate::rows::{Row, Step, count_held, count_steps};
 use crate::words::line_words;
@@ -64,7 +64,7 @@ fn ends_with<S: Source>(alloc: Global, run: &Run, input: &mut S, held: &str) -> 
 const YES: &str = "yes 0.3 order 2 start 1 period 2\n";
 
 /// Of most a second call of the folder would fail.
-static ROWS: [Run; 41] = [
+static ROWS: [Run; 53] = [
     Run(
         "check|0.33.mqc",
         2,
@@ -125,6 +125,36 @@ static ROWS: [Run; 41] = [
         "",
     ),
     Run(
+        "check|0.b.mqc|--limit|8",
+        2,
+        0,
+        "yes 0.b order 2 start 1 period 2\n",
+        "",
+    ),
+    Run("check|part.mqc", 2, 0, "yes 0.75 order 8 heaps 8\n", ""),
+    Run("play|0.b.mqc|4", 2, 0, "wins 4 -> 3\n", ""),
+    Run("play|0.b.mqc|1 1 1", 2, 0, "lost\n", ""),
+    Run("play|part.mqc|2 5", 2, 0, "wins 5 -> 4\n", ""),
+    Run("play|part.mqc|9", 2, 1, "refused 23 Beyond\n", ""),
+    Run("solve|0.b", 2, 0, OF_0_B, ""),
+    Run(
+        "solve|0.33|--limit|2|--rounds|0",
+        2,
+        2,
+        "",
+        "misere: the rounds are a number from 1 to 1000\n",
+    ),
+    Run("catalogue|first.json|--migrate", 3, 0, "migrated 1\n", ""),
+    Run("catalogue|first.json|--get|0.3|--heaps|0", 2, 0, OF_0_3, ""),
+    Run("catalogue|x.json|--get|0.3|--heaps|2", 2, 1, "absent\n", ""),
+    Run(
+        "catalogue|x.json|--heaps|2",
+        2,
+        2,
+        "",
+        "misere: --heaps goes with --get, --get without --new and --add, --salvage and --migrate alone\n",
+    ),
+    Run(
         "desk|steps",
         3,
         0,
@@ -134,7 +164,7 @@ static ROWS: [Run; 41] = [
     Run("desk|0.3.mqc", 2, 2, "", "misere: line 1 isn't a step\n"),
     Run("desk|nowhere", 2, 3, "", "misere: cannot read nowhere\n"),
     Run("play|nowhere.mqc|01", 2, 2, "", "misere: not a position\n"),
-    Run("solve|0.8", 2, 2, "", "misere: not a code\n"),
+    Run("solve|0.x", 2, 2, "", "misere: not a code\n"),
     Run(
         "catalogue|nowhere.json|--get|0.x",
         2,
@@ -189,7 +219,7 @@ static ROWS: [Run; 41] = [
         2,
         2,
         "",
-        "misere: --get goes without --new and --add, --salvage without all three\n",
+        "misere: --heaps goes with --get, --get without --new and --add, --salvage and --migrate alone\n",
     ),
     Run("check|0.3.mqc", 1, 3, "", "misere: cannot read 0.3.mqc\n"),
     Run("show|0.3.mqc", 1, 3, "", "misere: cannot read 0.3.mqc\n"),
@@ -236,7 +266,7 @@ fn makes_anew(alloc: Global) -> bool {
 
 #[test]
 fn does_what_is_asked(rt: HostRuntime) {
-    assert!(rt; count_held(rt.alloc(), &ROWS) == 41 && makes_anew(rt.alloc()));
+    assert!(rt; count_held(rt.alloc(), &ROWS) == 53 && makes_anew(rt.alloc()));
     assert!(rt; reads_input(rt.alloc()) && tells_no_input(rt.alloc()));
 }
 
@@ -268,7 +298,7 @@ fn tells_no_output(alloc: Global, run: &Run, folder: &mut MemoryFolder) -> bool 
 /// What is asked, one after another of the same files, and what the catalogue holds then.
 struct Change(&'static str, &'static str);
 
-static CHANGES: [Change; 8] = [
+static CHANGES: [Change; 10] = [
     Change("check|0.3.mqc", ONE_ENTRY),
     Change("show|0.33.mqc", ONE_ENTRY),
     Change("play|0.33.mqc|1", ONE_ENTRY),
@@ -277,6 +307,8 @@ static CHANGES: [Change; 8] = [
     Change("catalogue|x.json|--add|text_crlf.mqc", EMPTY),
     Change("catalogue|x.json|--add|0.3.mqc", ONE_ENTRY),
     Change("catalogue|x.json|--salvage", ONE_ENTRY),
+    Change("catalogue|x.json|--migrate", ONE_ENTRY),
+    Change("catalogue|x.json|--migrate|--new", ONE_ENTRY),
 ];
 
 /// Runs the words, whatever is printed and told: the status.
@@ -313,19 +345,36 @@ fn count_changed(alloc: Global) -> usize {
 #[test]
 fn writes_what_it_can_and_the_catalogue_alone(rt: HostRuntime) {
     assert!(rt; count_held(rt.alloc(), &UNWRITTEN) == 4);
-    assert!(rt; count_changed(rt.alloc()) == 8);
+    assert!(rt; count_changed(rt.alloc()) == 10);
 }
 
-/// Two words, and one that is no text behind them.
-static WORDS: [&[u8]; 2] = [b"misere", b"check"];
+/// Six words, and one that is no text behind two.
+static WORDS: [&[u8]; 6] = [
+    b"misere",
+    b"check",
+    b"a b.mqc",
+    b"--limit",
+    b"",
+    b"\xc3\xa8",
+];
 
 static NO_TEXT: [&[u8]; 3] = [b"misere", b"check", b"\xff"];
 
-/// How many words are given, if they are texts.
-fn count_given(alloc: Global, words: &[&[u8]]) -> Option<usize> {
+/// Whether the words are these, one by one.
+fn are_words(given: &[String], words: &[&[u8]]) -> bool {
+    for (one, other) in given.iter().zip(words) {
+        if one.as_bytes() != *other {
+            return false;
+        }
+    }
+    given.len() == words.len()
+}
+
+/// Whether the words are given as they are.
+fn are_given(alloc: Global, words: &[&[u8]]) -> bool {
     match words_of(&Words { alloc, words }) {
-        Ok(given) => Some(given.len()),
-        Err(_) => None,
+        Ok(given) => are_words(&given, words),
+        Err(_) => false,
     }
 }
 
@@ -337,9 +386,9 @@ fn is_no_text(alloc: Global, words: &[&[u8]]) -> bool {
     }
 }
 
-/// Whether the two texts are given, and the words with another are refused.
+/// Whether the six texts are given, and the words with another are refused.
 fn takes_texts_alone(alloc: Global) -> bool {
-    is_no_text(alloc, &NO_TEXT) && matches!(count_given(alloc, &WORDS), Some(2))
+    is_no_text(alloc, &NO_TEXT) && are_given(alloc, &WORDS)
 }
 
 /// Whether the text says how the program is used.

@@ -1,14 +1,17 @@
 //! The files of the runs, and words that may be no text.
-use crate::certificates::{OF_0_3, OF_0_33};
-use crate::files::ONE_ENTRY;
+use crate::certificates::{OF_0_3, OF_0_33, OF_0_B, PART_OF_0_75};
+use crate::files::{FIRST_VERSION, ONE_ENTRY};
 use std::alloc::Global;
 use std::env::FillError;
 use std::rt::Env;
 
-/// Two certificates, a text that is none, a catalogue, and a script that checks one of them.
-pub static SAMPLES: [(&str, &str); 5] = [
+/// Certificates, a text that is none, catalogues, and a script that checks one of the certificates.
+pub static SAMPLES: [(&str, &str); 8] = [
     ("0.3.mqc", OF_0_3),
     ("0.33.mqc", OF_0_33),
+    ("0.b.mqc", OF_0_B),
+    ("part.mqc", PART_OF_0_75),
+    ("first.json", FIRST_VERSION),
     ("text_crlf.mqc", "mqc 1\r\n"),
     ("x.json", ONE_ENTRY),
     ("steps", "open 1 0.3.mqc 8\nwork 1 1 228\n"),
