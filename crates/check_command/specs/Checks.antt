@@ -26,14 +26,18 @@ abbrev pub SaysOfFile : Option (List ℕ → Option (List ℕ)) → List ℕ →
 SaysOfFile files file limit text accepted = (bytes : List ℕ) × Holds files file bytes
     × SaysVerdict bytes limit text accepted
 
+-- yes with c is true of the bytes, and is their verdict under the limit
+abbrev pub IsYes : List ℕ → ℕ → Certificate → Type 0
+IsYes bytes limit c = IsTrueOf bytes limit (Yes c) × (verdict bytes limit ≡ Yes c)
+
 -- the file certifies c, under the limit
 abbrev pub Certifies : Option (List ℕ → Option (List ℕ)) → List ℕ → ℕ → Certificate → Type 0
 Certifies files file limit c = (bytes : List ℕ) × Holds files file bytes
-    × IsTrueOf bytes limit (Yes c) × (verdict bytes limit ≡ Yes c)
+    × IsYes bytes limit c
 
 -- the bytes certify a quotient under the limit, or else the text is that of a true no
 abbrev pub Judges : {A : Type 0} → List ℕ → ℕ → Result Certificate (Vec ℕ A) → Type 0
-Judges bytes limit (Ok c) = IsTrueOf bytes limit (Yes c) × (verdict bytes limit ≡ Yes c)
+Judges bytes limit (Ok c) = IsYes bytes limit c
 Judges bytes limit (Err text) = SaysVerdict bytes limit text.items false
 
 -- the same for the bytes of a file

@@ -17,12 +17,12 @@ repeat_line c =
     codes "repeat " ++ decimal c.period ++ codes " from " ++ decimal c.start ++ codes "\n"
 
 -- the last heap of which a partial certificate speaks
-abbrev pub part_line : Certificate → List ℕ
-part_line c = codes "heaps to " ++ decimal (kind_of c) ++ codes "\n"
+abbrev pub partial_tail_line : Certificate → List ℕ
+partial_tail_line c = codes "heaps to " ++ decimal (kind_of c) ++ codes "\n"
 
 -- the last line: the one or the other, by the kind of the certificate
 abbrev pub tail_line : Certificate → List ℕ
-tail_line c = if kind_of c == 0 then repeat_line c else part_line c
+tail_line c = if kind_of c == 0 then repeat_line c else partial_tail_line c
 
 -- P for an element of the portion, and N for any other
 abbrev pub letter_of : Certificate → ℕ → List ℕ

@@ -1,8 +1,8 @@
 //! `show`: a certified quotient, line by line.
-ghost use Rattle.std.specs.Prelude.{◌≡◌, ◌<◌, ◌≤◌, ◌+◌, IfOk, IfErr};
+ghost use Rattle.std.specs.Prelude.{◌≡◌, ◌<◌, ◌+◌, IfOk, IfErr};
 ghost use Rattle.std.specs.String.{string_bytes};
 ghost use Rattle.command_results.specs.Stops.{IsFileCause};
-ghost use Rattle.show_command.specs.Shown.{AreElementLines, AreHeapLines, IsQuotientText, Shows, ShowsFound, element_line, head_lines, heap_line, letter_of, part_line, repeat_line, tail_line};
+ghost use Rattle.show_command.specs.Shown.{AreElementLines, AreHeapLines, IsQuotientText, Shows, ShowsFound, element_line, head_lines, heap_line, letter_of, partial_tail_line, repeat_line, tail_line};
 
 use allocation::Memory;
 use answers::Certified;
@@ -53,7 +53,7 @@ fn heap_text(alloc: Global, heap: u64, element: u16) -> Result<String, AllocErro
     Ok(text)
 }
 
-/// One line for each heap before the elements repeat, or for each of a part.
+/// One line for each heap before the elements repeat, or for each of a partial certificate.
 fn heaps_text(alloc: Global, certified: &Certified) -> Result<String, Memory>
     ensures { IfOk result
         (λ t. AreHeapLines certified.now (certified.now.start + certified.now.period)
@@ -84,8 +84,8 @@ fn repeat_text(alloc: Global, cert: &Cert) -> Result<String, AllocError>
     Ok(text)
 }
 
-fn part_text(alloc: Global, cert: &Cert) -> Result<String, AllocError>
-    ensures { IfOk result (λ t. string_bytes t ≡ part_line cert.now) }
+fn partial_tail_text(alloc: Global, cert: &Cert) -> Result<String, AllocError>
+    ensures { IfOk result (λ t. string_bytes t ≡ partial_tail_line cert.now) }
 {
     let last = cert.heaps();
     let text = format!(in alloc; "heaps to {last}\n")?;
@@ -94,14 +94,12 @@ fn part_text(alloc: Global, cert: &Cert) -> Result<String, AllocError>
 
 /// How the heaps repeat, or the last one of which a partial certificate speaks.
 fn tail_text(alloc: Global, cert: &Cert) -> Result<String, AllocError>
-    ensures tail { IfOk result (λ t. string_bytes t ≡ tail_line cert.now) }
-    ensures full { 1 ≤ cert.now.period
-        → IfOk result (λ t. string_bytes t ≡ repeat_line cert.now) }
+    ensures { IfOk result (λ t. string_bytes t ≡ tail_line cert.now) }
 {
     if cert.heaps() == 0 {
         repeat_text(alloc, cert)
     } else {
-        part_text(alloc, cert)
+        partial_tail_text(alloc, cert)
     }
 }
 
