@@ -167,7 +167,7 @@ module _ (f : Frame) (ms : Members) (h : AreParts f ms) where
           items = a.0;
           version = n;
           known = known;
-          frame = record { count = omega arith; version = is; entries = a.1; };
+          frame = record { count = omega arith; version = is; entries = a.1 };
           entries = a.2;
           name = to_written v.items (n == 2) all;
         }

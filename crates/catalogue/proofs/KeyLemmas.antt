@@ -52,6 +52,7 @@ one_key k l a g kk kl = ext_get_or 0 k l (kk.places ∙ sym kl.places) at
     last : (i : ℕ) → i ≡ 17 → slice_index k i ≡ slice_index l i
     last i e =
         ap (slice_index k) e ∙ kk.heaps ∙ sym kl.heaps ∙ ap (slice_index l) (sym e)
+
     at : (i : ℕ) → i < length k → slice_index k i ≡ slice_index l i
     at i m = elim (cases_lt i 17) [
       | inl w ↦ kk.digits i w ∙ sym (kl.digits i w)

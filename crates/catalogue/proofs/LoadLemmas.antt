@@ -12,17 +12,19 @@ use Rattle.catalogue.specs.declared.fault.LoadFault.{LoadFault}
 use Rattle.catalogue.specs.declared.fault.LoadFault.TheVariants as fault
 use Rattle.catalogue.proofs.StoreLemmas.{other_kinds_push}
 
-zip_push : (es : List Written) (cs : List Certificate) (e : Written) (c : Certificate)
-    → AllZip IsCertified es cs → IsCertified e c → AllZip IsCertified (es ++ e ∷ []) (cs ++ c ∷ [])
-zip_push [] [] e c h i = (i, tt)
-zip_push [] (d ∷ cs) e c h i = absurd h
-zip_push (x ∷ es) [] e c h i = absurd h
-zip_push (x ∷ es) (d ∷ cs) e c h i = (h.0, zip_push es cs e c h.1 i)
+zip_push : (limit : ℕ) (es : List Written) (cs : List Certificate) (e : Written) (c : Certificate)
+    → AllZip (IsCertified limit) es cs → IsCertified limit e c
+    → AllZip (IsCertified limit) (es ++ e ∷ []) (cs ++ c ∷ [])
+zip_push limit [] [] e c h i = (i, tt)
+zip_push limit [] (d ∷ cs) e c h i = absurd h
+zip_push limit (x ∷ es) [] e c h i = absurd h
+zip_push limit (x ∷ es) (d ∷ cs) e c h i = (h.0, zip_push limit es cs e c h.1 i)
 
-pub stand_push : (es : List Written) (cs : List Certificate) (e : Written) (new : List Certificate)
-    → Stand es cs → IsTaken cs e new → Stand (es ++ e ∷ []) new
-stand_push es cs e new h t = subst (Stand (es ++ e ∷ [])) (sym t.last) (record {
-  certified = zip_push es cs e t.certificate h.certified t.certified;
+pub stand_push : (limit : ℕ) (es : List Written) (cs : List Certificate) (e : Written)
+    (new : List Certificate)
+    → Stand limit es cs → IsTaken limit cs e new → Stand limit (es ++ e ∷ []) new
+stand_push limit es cs e new h t = subst (Stand limit (es ++ e ∷ [])) (sym t.last) (record {
+  certified = zip_push limit es cs e t.certificate h.certified t.certified;
   other_kinds = other_kinds_push cs t.certificate h.other_kinds t.absent;
 })
 
@@ -62,7 +64,7 @@ written_more ts i t l is =
 
 first_fault : (limit : ℕ) (ts : List Texts) (i : ℕ) (t : Texts) (cs : List Certificate)
     (f : LoadFault) → i < length ts → t ≡ get_or ts i t
-    → Stand (take i (map written ts)) cs → IsFaultOf limit cs (i + 1) (written t) f
+    → Stand limit (take i (map written ts)) cs → IsFaultOf limit cs (i + 1) (written t) f
     → IsFirstFault limit (map written ts) f
 first_fault limit ts i t cs f l is stand h =
     let es = map written ts in
@@ -84,7 +86,7 @@ first_fault limit ts i t cs f l is stand h =
 
 pub loaded_fault : (bytes : List ℕ) (limit : ℕ) (ts : List Texts) (i : ℕ) (t : Texts)
     (cs : List Certificate) (f : LoadFault) → Holds bytes (map written ts)
-    → i < length ts → t ≡ get_or ts i t → Stand (take i (map written ts)) cs
+    → i < length ts → t ≡ get_or ts i t → Stand limit (take i (map written ts)) cs
     → IsFaultOrMemory limit cs (i + 1) (written t) f → IsLoaded bytes limit (Err f)
 loaded_fault bytes limit ts i t cs f holds l is stand (inl m) =
     subst (λ g. IsLoaded bytes limit (Err g)) (sym m) tt

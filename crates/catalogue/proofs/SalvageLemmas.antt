@@ -33,7 +33,7 @@ module _ (limit : ℕ) (ts : List Texts) (i : ℕ) (t : Texts) (l : i < length t
   next_place : i + 1 + 1 ≡ suc (i + 1)
   next_place = omega arith
 
-  pub kept : (held new : List Certificate) (faults : List LoadFault) → IsTaken held (written t) new
+  pub kept : (held new : List Certificate) (faults : List LoadFault) → IsTaken limit held (written t) new
       → GoesOn limit held i all faults → GoesOn limit new (i + 1) all faults
   kept held new faults taken goes cs more h =
       goes cs more (subst (λ es. Salvages limit held (i + 1) es cs more) (sym here)

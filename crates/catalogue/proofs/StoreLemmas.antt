@@ -33,7 +33,7 @@ accepted_one cs c all h = subst Accepted h.2 (all h.0 c h.1)
 
 module _ (k code : List ℕ) (heaps : ℕ) (right : IsCode code) (key : IsKeyOf k code heaps) where
   abbrev pub IsFound : List Certificate → Option Certificate → Type 0
-  IsFound cs o = 
+  IsFound cs o =
       MatchOption o (HasEntry cs code heaps → ⊥)
       (λ c. Contains cs c × (c.code ≡ code) × (kind_of c ≡ heaps))
 

@@ -5,6 +5,7 @@ use Rattle.serde_json.specs.Data.{Data, Items, number, string, array, object, it
 use Rattle.serde_json.specs.Find.{get, as_str, as_array, as_number, as_u64}
 use Rattle.serde_json.specs.Events.{members_len}
 use Rattle.serde_json.specs.Read.{read}
+use Rattle.misere_theory.specs.declared.TheConstants.{MOST_ENTRIES}
 use Rattle.catalogue.specs.declared.file.Texts.{Texts}
 
 -- the bytes are JSON, and d is its value
@@ -27,8 +28,8 @@ named_or_0 None = 0
 named_or_0 (Some n) = n
 
 -- the heaps of which an entry's certificate is to speak
-abbrev pub heaps_of : Written → ℕ
-heaps_of e = named_or_0 e.heaps
+abbrev pub heaps_named : Written → ℕ
+heaps_named e = named_or_0 e.heaps
 
 -- how many members an object has
 abbrev pub member_count : Data → ℕ
@@ -43,10 +44,11 @@ member_count (object ms) = members_len ms
 abbrev pub whole_at : List ℕ → Data → Option ℕ
 whole_at k d = option_and_then as_u64 (option_and_then as_number (get k d))
 
--- beside two others the object has no member, or the member `heaps` alone, a whole number to 1024
+-- beside two others the object has no member, or the member `heaps` alone, a whole number to
+-- MOST_ENTRIES
 abbrev pub NamesHeaps : Data → Option ℕ → Type 0
 NamesHeaps d None = member_count d ≡ 2
-NamesHeaps d (Some n) = (member_count d ≡ 3) × (whole_at (codes "heaps") d ≡ Some n) × (n ≤ 1024)
+NamesHeaps d (Some n) = (member_count d ≡ 3) × (whole_at (codes "heaps") d ≡ Some n) × (n ≤ MOST_ENTRIES)
 
 -- an object with exactly the members `code` and `certificate`, both texts, and maybe `heaps`
 pub record IsEntry (d : Data) (e : Written) : Type 0 where

@@ -6,41 +6,43 @@ use Rattle.certificate_text.specs.Spelling.{Spells}
 use Rattle.misere_theory.specs.Certificates.{Certificate, Accepted, kind_of}
 use Rattle.serde_json.specs.Data.{Data}
 use Rattle.answers.specs.Answers.{IsTrueOf, refused}
-use Rattle.answers.specs.Answers.Answer.{Memory as WantOfMemory}
+use Rattle.answers.specs.Answers.Answer.{Yes, Memory as WantOfMemory}
+use Rattle.checker.specs.Turns.{verdict}
 use Rattle.catalogue.specs.Entries.{HasEntry, HaveOtherKinds}
-use Rattle.catalogue.specs.Files.{IsJson, IsFile, Written, heaps_of}
+use Rattle.catalogue.specs.Files.{IsJson, IsFile, Written, heaps_named}
 use Rattle.catalogue.specs.declared.fault.LoadFault.{LoadFault}
 use Rattle.catalogue.specs.declared.fault.LoadFault.TheVariants.{Json, Shape, Entry, Code, Twice, Heaps, Memory}
 
--- the text is that of a certificate, which is accepted
-abbrev pub IsAcceptedText : List ℕ → Certificate → Type 0
-IsAcceptedText text c = Spells text c × Accepted c
+-- the text is that of a certificate, which is accepted under the limit
+abbrev pub IsAcceptedText : ℕ → List ℕ → Certificate → Type 0
+IsAcceptedText limit text c = Spells text c × Accepted c × (verdict text limit ≡ Yes c)
 
--- the certificate text is accepted, and the code text and the heaps are those of its certificate
-pub record IsCertified (e : Written) (c : Certificate) : Type 0 where
-  pub certificate : IsAcceptedText e.certificate c
+-- the certificate text is accepted under the limit, and the code text and the heaps are those of
+-- its certificate
+pub record IsCertified (limit : ℕ) (e : Written) (c : Certificate) : Type 0 where
+  pub certificate : IsAcceptedText limit e.certificate c
   pub code : e.code ≡ code_text c.code
-  pub heaps : kind_of c ≡ heaps_of e
+  pub heaps : kind_of c ≡ heaps_named e
 
 -- the entries stand: each is certified, in order, and no two have one code and kind
-pub record Stand (es : List Written) (cs : List Certificate) : Type 0 where
-  pub certified : AllZip IsCertified es cs
+pub record Stand (limit : ℕ) (es : List Written) (cs : List Certificate) : Type 0 where
+  pub certified : AllZip (IsCertified limit) es cs
   pub other_kinds : HaveOtherKinds cs
 
 -- The first fault of the entry e, the i-th, where the entries before gave the certificates cs: its
--- certificate is refused; else the code isn't that of its certificate; else the heaps aren't; else
--- its code and kind are there already.
+-- certificate is refused, by the verdict of its text and the limit; else the code isn't that of
+-- its certificate; else the heaps aren't; else its code and kind are there already.
 abbrev pub IsFaultOf : ℕ → List Certificate → ℕ → Written → LoadFault → Type 0
 IsFaultOf limit cs i e Json = ⊥
 IsFaultOf limit cs i e Shape = ⊥
 IsFaultOf limit cs i e (Entry j refusal) = (j ≡ i) × IsTrueOf e.certificate limit (refused refusal)
-    × (refused refusal ≢ WantOfMemory)
+    × (refused refusal ≢ WantOfMemory) × (refused refusal ≡ verdict e.certificate limit)
 IsFaultOf limit cs i e (Code j) =
-    (j ≡ i) × ((c : Certificate) × IsAcceptedText e.certificate c × (e.code ≢ code_text c.code))
+    (j ≡ i) × ((c : Certificate) × IsAcceptedText limit e.certificate c × (e.code ≢ code_text c.code))
 IsFaultOf limit cs i e (Twice j) =
-    (j ≡ i) × ((c : Certificate) × IsCertified e c × HasEntry cs c.code (kind_of c))
-IsFaultOf limit cs i e (Heaps j) = (j ≡ i) × ((c : Certificate) × IsAcceptedText e.certificate c
-    × (e.code ≡ code_text c.code) × (kind_of c ≢ heaps_of e))
+    (j ≡ i) × ((c : Certificate) × IsCertified limit e c × HasEntry cs c.code (kind_of c))
+IsFaultOf limit cs i e (Heaps j) = (j ≡ i) × ((c : Certificate) × IsAcceptedText limit e.certificate c
+    × (e.code ≡ code_text c.code) × (kind_of c ≢ heaps_named e))
 IsFaultOf limit cs i e Memory = ⊥
 
 -- the first entry at fault, the entries before it, which stand, and its fault; entries count from 1
@@ -50,7 +52,7 @@ pub record IsFirstFault (limit : ℕ) (es : List Written) (fault : LoadFault) : 
   pub behind : List Written
   pub all : es ≡ before ++ entry ∷ behind
   pub certificates : List Certificate
-  pub stand : Stand before certificates
+  pub stand : Stand limit before certificates
   pub fault_is : IsFaultOf limit certificates (suc (length before)) entry fault
 
 -- the bytes are a catalogue file with these entries
@@ -68,7 +70,7 @@ IsFaulty bytes limit fault = (es : List Written) × Holds bytes es × IsFirstFau
 -- What may be answered to bytes: the certificates of all entries in order, or the fault. Want of
 -- memory may be answered at any time.
 abbrev pub IsLoaded : List ℕ → ℕ → Result (List Certificate) LoadFault → Type 0
-IsLoaded bytes limit (Ok cs) = (es : List Written) × Holds bytes es × Stand es cs
+IsLoaded bytes limit (Ok cs) = (es : List Written) × Holds bytes es × Stand limit es cs
 IsLoaded bytes limit (Err Json) = (d : Data) → IsJson bytes d → ⊥
 IsLoaded bytes limit (Err Shape) = IsShapeless bytes
 IsLoaded bytes limit (Err (Entry i refusal)) = IsFaulty bytes limit (Entry i refusal)

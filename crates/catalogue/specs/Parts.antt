@@ -22,9 +22,9 @@ IsNoFile bytes Memory = Unit {0}
 abbrev pub IsFaultOrMemory : ℕ → List Certificate → ℕ → Written → LoadFault → Type 0
 IsFaultOrMemory limit cs i e fault = (fault ≡ Memory) ⊎ IsFaultOf limit cs i e fault
 
--- the entry was certified, its code and kind weren't there, and now it is the last
-pub record IsTaken (old : List Certificate) (e : Written) (new : List Certificate) : Type 0 where
+-- the entry was certified under the limit, its code and kind weren't there, and now it is the last
+pub record IsTaken (limit : ℕ) (old : List Certificate) (e : Written) (new : List Certificate) : Type 0 where
   pub certificate : Certificate
-  pub certified : IsCertified e certificate
+  pub certified : IsCertified limit e certificate
   pub absent : HasEntry old certificate.code (kind_of certificate) → ⊥
   pub last : new ≡ old ++ certificate ∷ []

@@ -57,11 +57,12 @@ abbrev pub counted : List (List ℕ) → Members → ℕ
 counted [] found = 0
 counted (k ∷ ks) found = one_if (get_member k found) + counted ks found
 
--- the names are in order, all above one
+-- the name is below each of these
 abbrev pub IsBelow : List ℕ → Members → Type 0
 IsBelow k no_members = Unit {0}
 IsBelow k (member l d ms) = (slice_cmp nat_cmp k l ≡ Less) × IsBelow k ms
 
+-- the names rise, each there once
 abbrev pub AreSorted : Members → Type 0
 AreSorted no_members = Unit {0}
 AreSorted (member k d ms) = IsBelow k ms × AreSorted ms
@@ -118,7 +119,7 @@ EntriesAre None x = (ds : Items) → (es : List Written) → option_and_then as_
 EntriesAre (Some v) x = (ds : Items) × (option_and_then as_array x ≡ Some ds)
     × AreEntries ds (map written v.items)
 
--- all entries name heaps, or none does
+-- each entry names heaps, or none does, as b says
 abbrev pub Name : Bool → List Texts → Type 0
 Name b ts = All (λ t. is_some t.heaps ≡ b) ts
 

@@ -10,13 +10,13 @@ use Rattle.catalogue.specs.declared.fault.LoadFault.{LoadFault}
 use Rattle.catalogue.specs.declared.fault.LoadFault.TheVariants.{Json, Shape, Entry, Code, Twice, Heaps, Memory}
 
 -- What becomes of the entries from the i-th on, where the certificates `held` were kept before: in
--- their order, each is certified, has a code and kind that none kept before has, and is kept; or its first
--- fault is listed. In the end cs are kept and the faults are listed.
+-- their order, each is certified under the limit, has a code and kind that none kept before has,
+-- and is kept; or its first fault is listed. In the end cs are kept and the faults are listed.
 abbrev pub Salvages : ℕ → List Certificate → ℕ → List Written → List Certificate → List LoadFault
     → Type 0
 Salvages limit held i [] cs faults = (cs ≡ held) × (faults ≡ [])
 Salvages limit held i (e ∷ es) cs faults =
-    ((c : Certificate) × IsCertified e c × (HasEntry held c.code (kind_of c) → ⊥)
+    ((c : Certificate) × IsCertified limit e c × (HasEntry held c.code (kind_of c) → ⊥)
     × Salvages limit (held ++ c ∷ []) (suc i) es cs faults)
     ⊎ ((fault : LoadFault) × (more : List LoadFault) × (faults ≡ fault ∷ more)
     × IsFaultOf limit held i e fault × Salvages limit held (suc i) es cs more)

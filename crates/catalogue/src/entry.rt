@@ -30,7 +30,7 @@ fn certified(
     place: usize,
     limit: u32,
 ) -> Result<Certified, LoadFault>
-    ensures ok { IfOk result (IsCertified (written entry.now)) }
+    ensures ok { IfOk result (IsCertified limit (written entry.now)) }
     ensures err { IfErr result (λ fault. (cs : List Certificate)
         → IsFaultOrMemory limit cs place (written entry.now) fault) }
 {
@@ -59,7 +59,7 @@ impl Catalogue {
         place: usize,
         limit: u32,
     ) -> Result<(), LoadFault>
-        ensures taken { OnOk result (IsTaken self.old (written entry.now) self.new) }
+        ensures taken { OnOk result (IsTaken limit self.old (written entry.now) self.new) }
         ensures fault { IfErr result (IsFaultOrMemory limit self.old place (written entry.now)) }
         ensures unchanged { OnErr result (self.new ≡ self.old) }
     {

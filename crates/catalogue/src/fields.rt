@@ -9,15 +9,17 @@ use crate::file::Texts;
 use crate::number::whole;
 use crate::passing::{pass_from, pass_value};
 use json::{Reader, Token};
+use misere_theory::MOST_ENTRIES;
 
-/// The most heaps that an entry may name.
-const MOST_HEAPS: u64 = 1024;
+/// The most heaps that an entry may name: as many as a certificate has entries.
+const MOST_HEAPS: u64 = MOST_ENTRIES as u64;
 
 /// What was found of an entry's members so far. Of a member that stands twice the last counts.
 #[derive(Clone, Copy)]
 struct Fields<'a> {
     certificate: Option<&'a str>,
     code: Option<&'a str>,
+    /// Of the member `heaps`, if it stands: the whole number, if its value is one.
     heaps: Option<Option<u64>>,
     others: bool,
 }
@@ -120,7 +122,7 @@ fn members<'a>(reader: &mut Reader<'a>, depth: usize) -> Result<Option<Texts<'a>
 }
 
 /// The value, if it is an entry: an object of exactly the members `code` and `certificate`, both
-/// texts, and maybe `heaps`, a whole number to 1024. Any other is passed.
+/// texts, and maybe `heaps`, a whole number to [`MOST_HEAPS`]. Any other is passed.
 pub(crate) fn entry<'a>(
     reader: &mut Reader<'a>,
     depth: usize,

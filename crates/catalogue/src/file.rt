@@ -1,6 +1,6 @@
 //! What a catalogue file holds.
 ghost use Rattle.std.specs.Prelude.{◌≡◌, map, IfErr, IfOk};
-ghost use Rattle.catalogue.specs.Files.{heaps_of, written};
+ghost use Rattle.catalogue.specs.Files.{heaps_named, written};
 ghost use Rattle.catalogue.specs.Loads.{Holds};
 ghost use Rattle.catalogue.specs.Parts.{IsNoFile};
 
@@ -23,7 +23,7 @@ pub(crate) struct Texts<'a> {
 impl Texts<'_> {
     /// The heaps of which the certificate is to speak: 0 where none are named.
     pub(crate) fn heaps(&self) -> u64
-        ensures { result ≡ heaps_of (written self.now) }
+        ensures { result ≡ heaps_named (written self.now) }
     {
         match self.heaps {
             Some(n) => n,

@@ -115,7 +115,7 @@ impl<'a> Frame<'a> {
     }
 }
 
-/// Whether all entries name heaps, or none does.
+/// Whether each entry names heaps, or none does, as `named` says.
 fn all_name(entries: &[Texts<'_>], named: bool) -> bool
     ensures { (result ≡ true) ↔ Name named entries.now }
 {

@@ -1,5 +1,5 @@
-//! Catalogues: certified quotients in a JSON file, one for a code and a kind, each checked anew when the file
-//! is loaded.
+//! Catalogues: certified quotients in a JSON file, one for a code and a kind, each checked anew
+//! when the file is loaded.
 #![tactic(auto)]
 
 mod entry;

@@ -26,8 +26,8 @@ impl Catalogue {
     ///
     /// The faults in their order: the bytes are no JSON; the value is no catalogue file; then the
     /// first entry at fault, and its first fault: its certificate is refused, the code isn't that
-    /// of its certificate, the heaps aren't, an earlier entry has the code and the kind. An entry of
-    /// a file of version 1 names no heaps, and stands as if it named 0.
+    /// of its certificate, the heaps aren't, an earlier entry has the code and the kind. An entry
+    /// of a file of version 1 names no heaps, and stands as if it named 0.
     pub fn load(alloc: Global, bytes: &[u8], limit: u32) -> Result<Catalogue, LoadFault>
         ensures { IsLoaded bytes.now limit result }
     {

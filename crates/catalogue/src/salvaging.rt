@@ -24,9 +24,9 @@ fn list(faults: &mut Vec<LoadFault>, fault: LoadFault) -> Result<(), LoadFault>
 }
 
 impl Catalogue {
-    /// Keeps the entries of a catalogue file that are certified anew and whose code and kind no
-    /// entry kept before has, and lists the first fault of each other entry, both in the order of the entries.
-    /// No entry is believed.
+    /// Keeps the entries of a catalogue file that are certified anew, by `limit`, and whose code
+    /// and kind no entry kept before has, and lists the first fault of each other entry, both in
+    /// the order of the entries. No entry is believed.
     ///
     /// Refused as by `load` are bytes that are no JSON, values that are no catalogue file, and want
     /// of memory.

@@ -75,7 +75,10 @@ impl Catalogue {
         ensures absent { OnOk result (HasEntry self.old certified.code (kind_of certified) → ⊥) }
         ensures unchanged { OnErr result (self.new ≡ self.old) }
     {
-        if self.get(certified.cert().code(), certified.cert().heaps()).is_some() {
+        if self
+            .get(certified.cert().code(), certified.cert().heaps())
+            .is_some()
+        {
             accepted_certificates_are_unique();
             return Err(AddFault::Present);
         }

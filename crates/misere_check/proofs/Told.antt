@@ -4,6 +4,7 @@ use Rattle.std.specs.Prelude.{IsErrOf}
 use Rattle.streams.specs.Stream.{Counts, Puts}
 use Rattle.streams.specs.declared.fault.StreamFault.{StreamFault}
 use Rattle.streams.specs.declared.fault.StreamFault.TheVariants.{Read, Write, Memory}
+use Rattle.checker.specs.Turns.{verdict}
 use Rattle.verdict_texts.specs.Streams.{CountsReads, WritesSomeOfStream}
 use Rattle.requests.specs.Requests.{default_limit}
 use Rattle.misere_check.specs.Ends.{Device, Ends, Tells, cause, device}
@@ -20,7 +21,7 @@ EndsWith fault which = IsErrOf {T = Bool} (Err fault) which
 
 module _ (left : Option (List ℕ)) (reads reads' : ℕ) (out out' err err' : Device) where
   pub stopped : (fault : StreamFault)
-      → (EndsWith fault Write → WritesSomeOfStream left default_limit out.taken out'.taken)
+      → (EndsWith fault Write → WritesSomeOfStream verdict left default_limit out.taken out'.taken)
       → (EndsWith fault Write → out.failures < out'.failures)
       → CountsReads {T = Bool} reads reads' (Err fault)
       → (EndsWith fault Read ⊎ EndsWith fault Memory → out' ≡ out) → Tells err err' (cause fault)

@@ -5,6 +5,7 @@ use Rattle.std.specs.Io.KnownBytes.{Appends}
 use Rattle.streams.specs.Stream.{AppendsSome}
 use Rattle.streams.specs.declared.fault.StreamFault.{StreamFault}
 use Rattle.streams.specs.declared.fault.StreamFault.TheVariants.{Read, Write, Memory}
+use Rattle.checker.specs.Turns.{verdict}
 use Rattle.verdict_texts.specs.Streams.{WritesOfStream, WritesSomeOfStream}
 use Rattle.requests.specs.Requests.{default_limit}
 
@@ -34,11 +35,11 @@ Tells before after line =
 pub data Ends (left : Option (List ℕ)) (reads reads' : ℕ) (out out' err err' : Device)
     (status : ℕ) : Type 0 where
   Checked : (accepted : Bool) → reads' ≡ reads
-      → WritesOfStream left default_limit out.taken out'.taken accepted → err' ≡ err
+      → WritesOfStream verdict left default_limit out.taken out'.taken accepted → err' ≡ err
       → status ≡ (if accepted then 0 else 1) → Ends left reads reads' out out' err err' status
   Unread : reads < reads' → out' ≡ out → Tells err err' (cause Read) → status ≡ 3
       → Ends left reads reads' out out' err err' status
-  Unwritten : reads' ≡ reads → WritesSomeOfStream left default_limit out.taken out'.taken
+  Unwritten : reads' ≡ reads → WritesSomeOfStream verdict left default_limit out.taken out'.taken
       → out.failures < out'.failures → Tells err err' (cause Write) → status ≡ 3
       → Ends left reads reads' out out' err err' status
   NoMemory : reads' ≡ reads → out' ≡ out → Tells err err' (cause Memory) → status ≡ 3

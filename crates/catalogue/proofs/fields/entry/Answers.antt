@@ -48,7 +48,7 @@ returns c =
     let none : EntryIs None passed.0
     = told c.next.new.self (EntryIs None) c.in-Some.token
     (λ e ms. absurd (c.in_default-token.not-BeginObject e)) (λ e ds w i. never (array ds) refl w.heaps i.heaps)
-    (λ s e w i. never (string s.now) refl w.heaps i.heaps) 
+    (λ s e w i. never (string s.now) refl w.heaps i.heaps)
     (λ s e n q w i. never (number n) refl w.heaps i.heaps)
     (λ b w i. never (boolean b) refl w.heaps i.heaps) (λ w i. never null refl w.heaps i.heaps) c.args.depth passed.0 r passed.1 in
     record {

@@ -8,18 +8,17 @@ use Rattle.catalogue.proofs.ReadLemmas.{members_close, members_step, members_sto
 use Rattle.catalogue.proofs.fields.members.Goals as goal
 
 pub loop-name-init : goal.loop-name-init
-loop-name-init c =
-    (
-      no_members,
-      record {
-        names = none_found entry_names;
-        certificate = refl;
-        code = refl;
-        heaps = refl;
-      },
-      (λ o h. h),
-      omega arith,
-    )
+loop-name-init c = (
+  no_members,
+  record {
+    names = none_found entry_names;
+    certificate = refl;
+    code = refl;
+    heaps = refl;
+  },
+  (λ o h. h),
+  omega arith,
+)
 
 pub returns-in_err-name-clause-err : goal.returns-in_err-name-clause-err
 returns-in_err-name-clause-err c =

@@ -10,7 +10,7 @@ use Rattle.catalogue.proofs.frame.members.Goals as goal
 pub loop-frame-init : goal.loop-frame-init
 loop-frame-init c = (
   no_members,
-  record { names = none_found file_names; entries = λ ds es e h. cc; version = refl; },
+  record { names = none_found file_names; entries = λ ds es e h. cc; version = refl },
   (λ o h. h),
   omega arith,
 )

@@ -22,10 +22,10 @@ pub loop-at-preserved : goal.loop-at-preserved
 loop-at-preserved c =
     let items = c.args.entries.now in
     let t = get_or items c.loop-at.at blank in
-    subst (λ es. Stand es c.take.new.self)
+    subst (λ es. Stand c.args.limit es c.take.new.self)
     (sym (written_more items c.loop-at.at t c.loop-at-test.true
     (itself_at items c.loop-at.at blank t c.loop-at-test.true)))
-    (stand_push (take c.loop-at.at (map written items)) c.loop-at.catalogue (written t)
+    (stand_push c.args.limit (take c.loop-at.at (map written items)) c.loop-at.catalogue (written t)
     c.take.new.self c.loop-at.invariant c.in_ok-take.ensures.taken)
 
 pub returns : goal.returns
@@ -34,7 +34,7 @@ returns c bytes holds =
     let n = written_length c.args.entries.now in (
       all,
       holds,
-      subst (λ es. Stand es c.loop-at.catalogue)
+      subst (λ es. Stand c.args.limit es c.loop-at.catalogue)
           (take_past all c.loop-at.at (omega (arith, n, c.loop-at-test.false)))
           c.loop-at.invariant,
     )

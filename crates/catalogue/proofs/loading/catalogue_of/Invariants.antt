@@ -4,4 +4,4 @@ use Rattle.catalogue.specs.Loads.{Stand}
 use Rattle.catalogue.proofs.loading.catalogue_of.Given as goal
 
 abbrev pub invariant-loop-at : goal.invariant-loop-at
-invariant-loop-at l = Stand (take l.at (map written l.entries)) l.catalogue
+invariant-loop-at l = Stand l.limit (take l.at (map written l.entries)) l.catalogue

@@ -29,8 +29,12 @@ returns-then-is_some-clause-present c =
     let found =
     is_there c.args.self.now c.code.result.now c.heaps.result c.get.result c.get.ensures.some
     (sym c.is_some.ensures ∙ c.if-is_some.true) in (
-      λ e. (found.0, found.1, found.2 ∙ c.code.ensures ∙ ap (λ x. x.code) c.cert.ensures.same,
-          found.3 ∙ c.heaps.ensures.value ∙ ap kind_of c.cert-2.ensures.same),
+      λ e. (
+        found.0,
+        found.1,
+        found.2 ∙ c.code.ensures ∙ ap (λ x. x.code) c.cert.ensures.same,
+        found.3 ∙ c.heaps.ensures.value ∙ ap kind_of c.cert-2.ensures.same,
+      ),
       λ has. refl,
     )
 
