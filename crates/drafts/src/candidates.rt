@@ -1,6 +1,7 @@
 //! From where on, and after how many heaps, guessed elements may repeat.
 use allocation::Memory;
-use periods::{least_period, repeats_from};
+use octal_code::Code;
+use periods::{is_shown, least_period, repeats_from};
 use std::alloc::Global;
 
 /// A start and a period.
@@ -12,9 +13,9 @@ const MOST: usize = 6;
 /// The starts and periods that the elements of the heaps 1, 2, .. suggest, the likeliest first: the
 /// least period of which the heaps show so much that it must go on, where they are right, and the
 /// least ones by the ends of the list.
-pub(crate) fn candidates(alloc: Global, heaps: &[u16], last: usize) -> Result<Vec<Repeat>, Memory> {
+pub(crate) fn candidates(alloc: Global, code: &Code, heaps: &[u16]) -> Result<Vec<Repeat>, Memory> {
     let mut all: Vec<Repeat> = Vec::new(alloc);
-    if let Some(repeat) = evident(heaps, last) {
+    if let Some(repeat) = evident(code, heaps) {
         all.push(repeat)?;
     }
     for end in (0..heaps.len() + 1).rev() {
@@ -30,17 +31,12 @@ pub(crate) fn candidates(alloc: Global, heaps: &[u16], last: usize) -> Result<Ve
     Ok(all)
 }
 
-/// The least period, from its least start s, of which 2·s + 2·p + k heaps show that it goes on for
-/// ever, where k is the place of the code's last digit and the heaps' elements are right.
-fn evident(heaps: &[u16], last: usize) -> Option<Repeat> {
+/// The least period, from its least start, of which there are as many heaps as show that it goes on
+/// for ever, where their elements are right.
+fn evident(code: &Code, heaps: &[u16]) -> Option<Repeat> {
     for period in 1..heaps.len() / 2 + 1 {
         let start = repeats_from(heaps, period);
-        if start
-            .saturating_add(period)
-            .saturating_mul(2)
-            .saturating_add(last)
-            <= heaps.len()
-        {
+        if is_shown(code, heaps, start, period) {
             return Some((start, period));
         }
     }

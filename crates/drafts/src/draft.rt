@@ -1,5 +1,6 @@
 //! A draft out of a guess.
 use crate::candidates::Repeat;
+use crate::format::format_by;
 use crate::guess::Guess;
 use crate::lines::{push_keys, push_line, push_pair};
 use crate::sheet::Sheet;
@@ -44,16 +45,18 @@ fn text(
     sheet: &Sheet,
 ) -> Result<Option<Vec<u8>>, Memory> {
     let mut text = Vec::new(alloc);
-    push_head(alloc, code, &mut text)?;
+    let order = sheet.numbering.elements.len();
+    push_pair(&mut text, b"mqc", format_by(code, order, repeat.1))?;
+    push_code(alloc, code, &mut text)?;
     push_numbers(repeat, sheet, &mut text)?;
     push_rows(sheet, &mut text)?;
     Ok(Some(text))
 }
 
-/// Adds the lines that name the format and the code.
-fn push_head(alloc: Global, code: &Code, text: &mut Vec<u8>) -> Result<(), Memory> {
+/// Adds the line of the code.
+fn push_code(alloc: Global, code: &Code, text: &mut Vec<u8>) -> Result<(), Memory> {
     let name = code.text(alloc)?;
-    text.extend_from_slice(b"mqc 1\ncode ")?;
+    text.extend_from_slice(b"code ")?;
     text.extend_from_slice(name.as_str().as_bytes())?;
     text.push(b'\n')?;
     Ok(())

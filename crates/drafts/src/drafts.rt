@@ -17,7 +17,7 @@ pub struct Drafts {
 impl Drafts {
     /// Nothing is tried yet.
     pub fn new(alloc: Global, code: &Code, guess: Guess) -> Result<Drafts, Memory> {
-        let mut waiting = candidates(alloc, &guess.heaps, code.last() as usize)?;
+        let mut waiting = candidates(alloc, code, &guess.heaps)?;
         waiting.reverse();
         Ok(Drafts {
             alloc,

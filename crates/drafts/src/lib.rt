@@ -6,6 +6,7 @@
 mod candidates;
 mod draft;
 mod drafts;
+mod format;
 mod guess;
 mod lines;
 mod numbering;

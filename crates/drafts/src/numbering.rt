@@ -1,14 +1,14 @@
 //! Guessed elements, numbered by least keys.
 use crate::guess::Guess;
 use allocation::Memory;
-use misere_theory::LARGEST_FIRST_ORDER;
+use misere_theory::LARGEST_ORDER;
 use std::alloc::Global;
 
 /// The number of an element that has none yet.
 const NONE: u16 = 65535;
 
 /// The most elements that a certificate may have.
-const MOST: usize = LARGEST_FIRST_ORDER as usize;
+const MOST: usize = LARGEST_ORDER as usize;
 
 /// How an element is made: a smaller one, times a heap's.
 #[derive(Clone, Copy)]

@@ -1,11 +1,13 @@
 -- How many heaps show a period. This project's own.
-use Rattle.std.specs.Prelude.{ℕ, ◌+◌, ◌*◌, ◌≤◌, List, length}
+use Rattle.std.specs.Prelude.{ℕ, ◌+◌, ◌-◌, ◌≤◌, List, length}
+use Rattle.misere_theory.specs.Pairs.{heap_bound}
 use Rattle.periods.specs.Periods.{IsPeriodic}
 
--- The heaps 1 to 2 · (start + period) + last - 1 have elements.
-abbrev pub IsShown : List ℕ → ℕ → ℕ → ℕ → Type 0
-IsShown heaps start period last =
-    (1 ≤ period) × (2 * (start + period) + last ≤ length heaps + 1)
+-- The heaps 1 to B - 1 have elements, where the heaps 1 to B show the pair of every heap of the
+-- code's game.
+abbrev pub IsShown : List ℕ → List ℕ → ℕ → ℕ → Type 0
+IsShown code heaps start period =
+    (1 ≤ period) × (heap_bound code (length code - 1) start period ≤ length heaps + 1)
 
 -- The list has the period p from s on, and no sum of a start and a period of it is less.
 pub record IsSoonestPeriod (es : List ℕ) (s p : ℕ) : Type 0 where

@@ -4,18 +4,21 @@ ghost use Rattle.periods.specs.Evidence.{IsShown, IsSoonestPeriod};
 ghost use Rattle.periods.specs.Periods.{HasNoPeriod};
 
 use crate::repeats_from;
+use octal_code::Code;
 
-/// Whether there are as many heaps as show the period, for a code with `last` digits after the
-/// point: 2 · (start + period) + `last` - 1. The pairs of an element and the options' elements
-/// repeat then too, since of two parts of a larger heap one is so large that a period can be taken
-/// off it.
-pub fn is_shown(heaps: &[u16], start: usize, period: usize, last: usize) -> bool
-    ensures { IsTrue result ↔ IsShown heaps.now start period last }
+/// Whether there are as many heaps as show the period of the code's game: one fewer than the bound
+/// B up to which the heaps show the pair of every heap. That is 2 · (start + period) + k - 1 for
+/// the last digit dk, or 3 · (start + period) + k - 1 where some digit has bit 8. The pairs of an
+/// element and the options' elements repeat then too, since of two or three parts of a larger heap
+/// one is so large that a period can be taken off it.
+pub fn is_shown(code: &Code, heaps: &[u16], start: usize, period: usize) -> bool
+    ensures { IsTrue result ↔ IsShown code.now heaps.now start period }
 {
+    let parts = if code.leaves_three() { 3 } else { 2 };
     let needed = start
         .saturating_add(period)
-        .saturating_mul(2)
-        .saturating_add(last);
+        .saturating_mul(parts)
+        .saturating_add(code.last() as usize);
     period > 0 && needed <= heaps.len() + 1
 }
 

@@ -1,4 +1,4 @@
-//! A search for the misère quotients of octal games, heap by heap.
+//! A search for the misère quotients of octal and hexadecimal games, heap by heap.
 //!
 //! Nothing is promised of a quotient that is found: it may be wrong.
 #![tactic(auto)]

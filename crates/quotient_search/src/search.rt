@@ -35,9 +35,9 @@ fn advance<A: Allocator + Copy>(
 }
 
 /// Whether the heaps show a period.
-fn has_period(heaps: &[u16], last: usize) -> bool {
+fn has_period(code: &Code, heaps: &[u16]) -> bool {
     match soonest_period(heaps) {
-        Some((start, period)) => is_shown(heaps, start, period, last),
+        Some((start, period)) => is_shown(code, heaps, start, period),
         None => false,
     }
 }
@@ -67,7 +67,7 @@ fn search_beside<A: Allocator + Copy>(
     state.closure.begin(alloc, &state.quotient)?;
     for n in 1..most.saturating_add(1) {
         advance(alloc, code, scene, state, n, &mut work)?;
-        if has_period(&state.quotient.heaps, code.last() as usize) {
+        if has_period(code, &state.quotient.heaps) {
             break;
         }
     }

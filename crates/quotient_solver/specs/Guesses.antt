@@ -20,7 +20,7 @@ abbrev pub IsPeriodOrNone : List ℕ → ℕ → ℕ → Type 0
 IsPeriodOrNone heaps start period =
     IsSoonestPeriod heaps start period ⊎ (HasNoPeriod heaps × (start ≡ 0) × (period ≡ 0))
 
--- This period, and whether there are as many heaps as show it, for a code of this last digit.
-pub record IsPeriodGuess (heaps : List ℕ) (start period last : ℕ) (shown : Bool) : Type 0 where
+-- This period, and whether there are as many heaps as show it, for this code.
+pub record IsPeriodGuess (code heaps : List ℕ) (start period : ℕ) (shown : Bool) : Type 0 where
   pub soonest : IsPeriodOrNone heaps start period
-  pub as_shown : (shown ≡ true) ↔ IsShown heaps start period last
+  pub as_shown : (shown ≡ true) ↔ IsShown code heaps start period

@@ -3,6 +3,7 @@ ghost use Rattle.std.specs.Prelude.{◌≡◌, ◌<◌, ◌≤◌, length, All, 
 ghost use Rattle.quotient_solver.specs.Guesses.{IsWellFormed, IsPeriodOrNone, IsPeriodGuess};
 
 use allocation::Memory;
+use octal_code::Code;
 use periods::{is_shown, soonest_period};
 use quotient_search::Quotient;
 use std::alloc::{Allocator, Global};
@@ -84,19 +85,19 @@ fn period_of(heaps: &[u16]) -> (usize, usize)
     }
 }
 
-/// A quotient as a guess of at most so many heaps, for a code with `last` digits after the point.
+/// A quotient of the code's game as a guess of at most so many heaps.
 pub fn guess_of<A: Allocator + Copy>(
     alloc: A,
+    code: &Code,
     quotient: &Quotient<A>,
     most: usize,
-    last: usize,
 ) -> Result<Option<Guess<A>>, Memory>
     ensures formed { IfOk result
         (λ found.
         IfSome found (λ g. IsWellFormed g.order g.products.items g.lost.items g.heaps.items most)) }
     ensures period { IfOk result
         (λ found.
-        IfSome found (λ g. IsPeriodGuess g.heaps.items g.start g.period last g.shown)) }
+        IfSome found (λ g. IsPeriodGuess code.now g.heaps.items g.start g.period g.shown)) }
 {
     let order = quotient.order();
     let Some(size) = order.checked_mul(order) else {
@@ -108,7 +109,7 @@ pub fn guess_of<A: Allocator + Copy>(
     }
     let heaps = numbers_below(alloc, quotient.heaps(), count, order)?;
     let (start, period) = period_of(&heaps);
-    let shown = is_shown(&heaps, start, period, last);
+    let shown = is_shown(code, &heaps, start, period);
     Ok(Some(Guess {
         order,
         products: numbers_below(alloc, quotient.products(), size, order)?,

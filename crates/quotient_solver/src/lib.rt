@@ -1,4 +1,4 @@
-//! A solver that guesses the misère quotients of octal games, heap by heap.
+//! A solver that guesses the misère quotients of octal and hexadecimal games, heap by heap.
 #![tactic(auto)]
 
 mod guess;

@@ -1,5 +1,5 @@
 //! The solver.
-ghost use Rattle.std.specs.Prelude.{◌≡◌, ◌-◌, IfOk, IfSome, length, min, max};
+ghost use Rattle.std.specs.Prelude.{◌≡◌, IfOk, IfSome, min, max};
 ghost use Rattle.quotient_solver.specs.Guesses.{IsWellFormed, IsPeriodGuess};
 
 use crate::guess::{Guess, guess_of};
@@ -48,10 +48,10 @@ fn guessed<A: Room + Copy>(alloc: A, code: &Code, most: usize) -> Result<Option<
     ensures period { IfOk result
         (λ found.
         IfSome found
-        (λ g. IsPeriodGuess g.heaps.items g.start g.period (length code.now - 1) g.shown)) }
+        (λ g. IsPeriodGuess code.now g.heaps.items g.start g.period g.shown)) }
 {
     match find_quotient(alloc, code, most)? {
-        Some(quotient) => guess_of(alloc, &quotient, most, code.last() as usize),
+        Some(quotient) => guess_of(alloc, code, &quotient, most),
         None => Ok(None),
     }
 }
@@ -88,7 +88,7 @@ impl<A: Room + Copy> Solver<A> {
         ensures period { IfOk result
             (λ found.
             IfSome found
-            (λ g. IsPeriodGuess g.heaps.items g.start g.period (length code.now - 1) g.shown)) }
+            (λ g. IsPeriodGuess code.now g.heaps.items g.start g.period g.shown)) }
         ensures same { self.new ≡ self.old }
     {
         self.wrong = self.wrong && is_asked(&self.asked, code);

@@ -10,6 +10,6 @@ returns-clause-period g c =
       soonest = subst (λ h. IsPeriodOrNone h r.0 r.1) c.deref.ensures.value c.period_of-start.ensures;
       as_shown =
           subst
-          (λ h. (c.is_shown-shown.result ≡ true) ↔ IsShown h r.0 r.1 c.args.last)
+          (λ h. (c.is_shown-shown.result ≡ true) ↔ IsShown c.args.code.now h r.0 r.1)
           c.deref-2.ensures.value c.is_shown-shown.ensures;
     }
