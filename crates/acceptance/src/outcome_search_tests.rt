@@ -23,11 +23,13 @@ fn outcome_of<A: Room + Copy>(
 
 /// A code, a position, a budget, and what is found. From a heap of 2 in 0.33 the positions 2, 1 and
 /// none can be reached. In 0.3 each move takes 1: heaps of even size are N-positions, and the plays
-/// from a heap of n reach n + 1 positions, one after another, and each is needed. Each of the last
-/// two heaps has hundreds of splits, so that their splits make more positions than the budget
-/// allows. In 0.b each move changes whether the sum of
-/// the heaps is odd, and the last move takes the last heap, so a position is P where it is odd.
-static ROWS: [(&str, &str, u32, Result<Outcome, SearchFault>); 21] = [
+/// from a heap of n reach n + 1 positions, one after another, and each is needed. The heaps 94 and
+/// 416 have hundreds of splits, so that their splits make more positions than the budget allows.
+/// Where each digit is 1, a move takes a heap whole, and of n different heaps 2^n positions can be
+/// reached, of which a search needs fewer than 1024 to find whether n is odd. In 0.b each move
+/// changes whether the sum of the heaps is odd, and the last one takes the last heap, so a position
+/// is P where it is odd.
+static ROWS: [(&str, &str, u32, Result<Outcome, SearchFault>); 23] = [
     ("0.33", "0", 65536, Ok(Outcome::N)),
     ("0.33", "1", 65536, Ok(Outcome::P)),
     ("0.33", "1 1", 65536, Ok(Outcome::N)),
@@ -47,6 +49,18 @@ static ROWS: [(&str, &str, u32, Result<Outcome, SearchFault>); 21] = [
         "94 416",
         65536,
         Err(SearchFault::Budget),
+    ),
+    (
+        "0.1111111111111",
+        "1 2 3 4 5 6 7 8 9 10 11 12 13",
+        8191,
+        Ok(Outcome::P),
+    ),
+    (
+        "0.11111111111111",
+        "1 2 3 4 5 6 7 8 9 10 11 12 13 14",
+        16383,
+        Ok(Outcome::N),
     ),
     ("0.b", "0", 65536, Ok(Outcome::N)),
     ("0.b", "4", 65536, Ok(Outcome::N)),
@@ -122,7 +136,7 @@ fn count_ones(alloc: Global) -> u64 {
 
 #[test]
 fn finds_outcomes(rt: HostRuntime) {
-    assert!(rt; count_held(rt.alloc(), &ROWS) == 21);
+    assert!(rt; count_held(rt.alloc(), &ROWS) == 23);
 }
 
 #[test]
