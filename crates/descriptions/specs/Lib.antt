@@ -1,5 +1,0 @@
-pub mod Invariants
-pub mod Tame
-pub mod Lines
-pub mod Rows
-pub mod Described
