@@ -192,7 +192,11 @@ fn multiply(table: &Table, pairs: &[Pair]) -> bool
 fn have_pairs(alloc: Global, code: &Code) -> bool {
     match quotient(alloc) {
         Some((table, phi)) => match heap_pairs(alloc, code, &table, &phi) {
-            Ok(pairs) => multiply(&table, &pairs) && phi.at(1_000_000_000_000_000_000) == 2,
+            Ok(pairs) => {
+                multiply(&table, &pairs)
+                    && phi.heaps() == 0
+                    && phi.at(1_000_000_000_000_000_000) == 2
+            }
             Err(_) => false,
         },
         None => false,
