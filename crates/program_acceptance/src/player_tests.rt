@@ -47,16 +47,22 @@ fn is_told(
     }
 }
 
+/// Whether the row holds.
+fn is_held(alloc: Global, row: &Row) -> bool {
+    match check(alloc, row.0.as_bytes(), 1000) {
+        Ok(certified) => is_told(alloc, &certified, row.1, row.2),
+        Err(_) => false,
+    }
+}
+
 /// How many rows hold.
 fn count_held(alloc: Global, rows: &[Row]) -> usize {
     let mut count = 0usize;
-    for (held, text, wanted) in rows {
-        match check(alloc, held.as_bytes(), 1000) {
-            Ok(certified) if is_told(alloc, &certified, text, *wanted) => {
-                count = count.saturating_add(1);
-            }
-            _ => return count,
+    for row in rows {
+        if !is_held(alloc, row) {
+            return count;
         }
+        count = count.saturating_add(1);
     }
     count
 }
