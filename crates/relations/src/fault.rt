@@ -1,5 +1,6 @@
 //! Why a table is not described.
 use allocation::Memory;
+use std::alloc::{AllocError, AllocFailed};
 
 /// Why a table is not described.
 #[derive(Clone, Copy, Debug, PartialEq, Eq)]
@@ -21,6 +22,28 @@ impl From<Memory> for Undescribed {
     ghost from_gives = { λ _ fault. fault ≡ OutOfMemory };
 
     fn from(_: Memory) -> Undescribed {
+        Undescribed::Memory
+    }
+}
+
+impl From<AllocError> for Undescribed {
+    ghost use Rattle.std.specs.Prelude.{◌≡◌};
+    ghost use Rattle.relations.specs.declared.fault.Undescribed.TheVariants.{Memory as OutOfMemory};
+
+    ghost from_gives = { λ _ fault. fault ≡ OutOfMemory };
+
+    fn from(_: AllocError) -> Undescribed {
+        Undescribed::Memory
+    }
+}
+
+impl<T: Drop> From<AllocFailed<T>> for Undescribed {
+    ghost use Rattle.std.specs.Prelude.{◌≡◌};
+    ghost use Rattle.relations.specs.declared.fault.Undescribed.TheVariants.{Memory as OutOfMemory};
+
+    ghost from_gives = { λ _ fault. fault ≡ OutOfMemory };
+
+    fn from(_: AllocFailed<T>) -> Undescribed {
         Undescribed::Memory
     }
 }

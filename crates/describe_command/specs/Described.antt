@@ -1,0 +1,45 @@
+-- What `describe` prints. This project's own.
+use Rattle.std.specs.Prelude.{◌≡◌, ◌⊎◌, ℕ, Bool, true, false, List, ◌++◌, Option, Result, Ok, Err, Vec, codes}
+use Rattle.misere_theory.specs.Certificates.{Certificate}
+use Rattle.check_command.specs.Checks.{Certifies, SaysOfFile}
+use Rattle.descriptions.specs.Described.{IsDescription, IsPresentable}
+use Rattle.describe_command.specs.declared.describing.Output.{Output}
+use Rattle.describe_command.specs.declared.describing.Output.TheVariants.{Description, Relations}
+
+-- the line says by which bound a quotient is not described
+abbrev pub IsBoundLine : List ℕ → Type 0
+IsBoundLine text =
+    (text ≡ codes "not described: more than 26 generators\n")
+    ⊎ ((text ≡ codes "not described: an exponent above 64\n")
+    ⊎ (text ≡ codes "not described: not shown with 512 rules\n"))
+
+-- the line of relations that `present` takes
+abbrev pub IsRelationsText : Certificate → List ℕ → Type 0
+IsRelationsText c text = (line : List ℕ) × IsPresentable c line × (text ≡ line ++ codes "\n")
+
+-- the box or the list is above the bounds of `present`, or the quotient isn't described
+abbrev pub IsNoRelationsLine : List ℕ → Type 0
+IsNoRelationsLine text =
+    IsBoundLine text ⊎ (text ≡ codes "not described: above the bounds of present\n")
+
+-- The text describes the quotient, or is its relations as one word, or says that it isn't described.
+abbrev pub DescribesQuotient : Certificate → Output → List ℕ → Bool → Type 0
+DescribesQuotient c Description text well =
+    (IsDescription c text × (well ≡ true)) ⊎ (IsBoundLine text × (well ≡ false))
+DescribesQuotient c Relations text well =
+    (IsRelationsText c text × (well ≡ true)) ⊎ (IsNoRelationsLine text × (well ≡ false))
+
+-- the same of the quotient that was found, and the text of a no where none was
+abbrev pub DescribesFound : {A : Type 0} → Result Certificate (Vec ℕ A) → Output → List ℕ → Bool
+    → Type 0
+DescribesFound (Ok c) output text well = DescribesQuotient c output text well
+DescribesFound (Err said) output text well = (text ≡ said.items) × (well ≡ false)
+
+-- The text describes the quotient that the file certifies under the limit, or says that it isn't
+-- described; or it is that of a true no.
+pub data Describes (files : Option (List ℕ → Option (List ℕ))) (file : List ℕ) (limit : ℕ)
+    (output : Output) (text : List ℕ) (well : Bool) : Type 0 where
+  Quotient : (c : Certificate) → Certifies files file limit c → DescribesQuotient c output text well
+      → Describes files file limit output text well
+  NoQuotient : SaysOfFile files file limit text false → well ≡ false
+      → Describes files file limit output text well

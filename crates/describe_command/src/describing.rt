@@ -1,0 +1,110 @@
+//! `describe`: a certified quotient by generators and relations.
+ghost use Rattle.std.specs.Prelude.{◌≡◌, IfOk, IfErr, false};
+ghost use Rattle.command_results.specs.Stops.{IsFileCause};
+ghost use Rattle.describe_command.specs.Described.{Describes, DescribesFound, DescribesQuotient, IsBoundLine};
+
+use allocation::Memory;
+use answers::Certified;
+use check_command::certified;
+use command_results::{Said, Stop};
+use descriptions::{Form, Undescribed, description_text, presentable_text};
+use folders::Folder;
+use std::alloc::Global;
+
+/// What is printed.
+#[derive(Clone, Copy, Debug, PartialEq, Eq)]
+pub enum Output {
+    /// The whole description.
+    Description,
+    /// One word that `present` takes.
+    Relations,
+}
+
+/// The line of a no.
+fn refuse(alloc: Global, line: &str) -> Result<Said, Memory>
+    ensures { IfOk result (λ s. (s.text.items ≡ line.now) × (s.well ≡ false)) }
+{
+    let text = line.as_bytes().to_vec(alloc)?;
+    Ok(Said::no(text))
+}
+
+/// The line that says why a quotient is not described.
+fn undescribed(alloc: Global, fault: Undescribed) -> Result<Said, Memory>
+    ensures { IfOk result (λ s. IsBoundLine s.text.items × (s.well ≡ false)) }
+{
+    match fault {
+        Undescribed::Letters => refuse(alloc, "not described: more than 26 generators\n"),
+        Undescribed::Exponents => refuse(alloc, "not described: an exponent above 64\n"),
+        Undescribed::Unshown => refuse(alloc, "not described: not shown with 512 rules\n"),
+        Undescribed::Memory => Err(Memory),
+    }
+}
+
+/// The description of the quotient.
+fn described(alloc: Global, certified: &Certified, form: Form) -> Result<Said, Memory>
+    ensures { IfOk result
+        (λ s. DescribesQuotient certified.now Output.Description s.text.items s.well) }
+{
+    match description_text(alloc, certified, form) {
+        Ok(text) => Ok(Said::done(text)),
+        Err(fault) => undescribed(alloc, fault),
+    }
+}
+
+/// The relations of the quotient, as `present` takes them.
+fn presented(alloc: Global, certified: &Certified, form: Form) -> Result<Said, Memory>
+    ensures { IfOk result
+        (λ s. DescribesQuotient certified.now Output.Relations s.text.items s.well) }
+{
+    match presentable_text(alloc, certified, form) {
+        Ok(Some(line)) => {
+            let text = format!(in alloc; "{line}\n")?;
+            Ok(Said::done(text))
+        }
+        Ok(None) => refuse(alloc, "not described: above the bounds of present\n"),
+        Err(fault) => undescribed(alloc, fault),
+    }
+}
+
+/// What is said of what was found.
+fn said(
+    alloc: Global,
+    quotient: Result<Certified, Vec<u8>>,
+    form: Form,
+    output: Output,
+) -> Result<Said, Memory>
+    ensures { IfOk result (λ s. DescribesFound quotient output s.text.items s.well) }
+{
+    match quotient {
+        Ok(certified) => match output {
+            Output::Description => described(alloc, &certified, form),
+            Output::Relations => presented(alloc, &certified, form),
+        },
+        Err(no) => Ok(Said::no(no)),
+    }
+}
+
+/// The quotient that the file certifies under the limit, described: by relations that present its
+/// monoid in this form, with its portion, orders, generators, standard invariants and the pretending
+/// function in words; or by its relations alone, as one word that `present` takes. Or else why it
+/// certifies none, or why it is not described.
+pub fn describe<'a, F: Folder>(
+    alloc: Global,
+    file: &'a str,
+    limit: u32,
+    form: Form,
+    output: Output,
+    folder: &mut F,
+) -> Result<Said, Stop<'a>>
+    ensures describes { IfOk result
+        (λ s. Describes (F.files folder.old) file.entry.now limit output s.text.items s.well) }
+    ensures kept { F.files folder.new ≡ F.files folder.old }
+    ensures stops { IfErr result
+        (IsFileCause file.entry.now (F.failed_reads folder.old) (F.failed_reads folder.new)) }
+{
+    let quotient = certified(alloc, file, limit, folder)?;
+    match said(alloc, quotient, form, output) {
+        Ok(said) => Ok(said),
+        Err(Memory) => Err(Stop::Memory),
+    }
+}

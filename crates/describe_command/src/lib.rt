@@ -1,0 +1,7 @@
+//! `describe`: the quotient that a file certifies, as the literature prints it.
+#![tactic(auto)]
+
+mod describing;
+
+pub use describing::{Output, describe};
+pub use descriptions::Form;

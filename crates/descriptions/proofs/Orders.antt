@@ -1,0 +1,39 @@
+-- Orders that are two more than a power of two.
+use Rattle.std.proofs.Common.{◌≡◌, ◌≢◌, ℕ, suc, ◌+◌, ◌*◌, ◌^◌, ◌<◌, ◌≤◌, refl, sym, ap, ◌∙◌, inl, inr, arith, subst}
+use Rattle.std.proofs.lemmas.Bool.{cases_eq, cases_lt}
+use Rattle.std.proofs.Math.Nat.{pow-le-pow_right}
+
+large : (n : ℕ) → 9 ≤ n → 512 ≤ 2 ^ n
+large n le = let two : 0 < 2 = omega arith in pow-le-pow_right {n = 2} two {i = 9} {j = n} le
+
+pub small : (n : ℕ) → n < 9 → 2 ^ n ≤ 256
+small n lt =
+    let two : 0 < 2 = omega arith in
+    let le : n ≤ 8 = omega (arith, lt) in
+    pow-le-pow_right {n = 2} two {i = n} {j = 8} le
+
+-- the next power
+pub twice : (n p : ℕ) → p ≡ 2 ^ n → p * 2 ≡ 2 ^ (n + 1)
+twice n p is =
+    let next : n + 1 ≡ suc n = omega arith in
+    let power : 2 ^ suc n ≡ 2 ^ n * 2 = grind arith in
+    ap (λ x. x * 2) is ∙ sym power ∙ sym (ap (λ k. 2 ^ k) next)
+
+abbrev pub AreOther : ℕ → ℕ → Type 0
+AreOther order n = (k : ℕ) → 2 ≤ k → k < n → order ≢ 2 ^ k + 2
+
+pub one-more : (order n p : ℕ) → p ≡ 2 ^ n → order ≢ p + 2 → AreOther order n
+    → AreOther order (n + 1)
+one-more order n p is ne others k le lt e = elim (cases_eq k n) [
+  | inl same ↦ ne (subst (λ j. order ≡ 2 ^ j + 2) same e ∙ ap (λ x. x + 2) (sym is))
+  | inr other ↦ others k le (omega (arith, other)) e
+]
+
+pub all-other : (order n : ℕ) → order ≤ 512 → 9 ≤ n → AreOther order n
+    → (k : ℕ) → 2 ≤ k → order ≢ 2 ^ k + 2
+all-other order n most past others k le e = elim (cases_lt k n) [
+  | inl low ↦ others k le low e
+  | inr high ↦
+      let far : 9 ≤ k = omega (arith, high, past) in
+      omega (arith, large k far, e, most)
+]

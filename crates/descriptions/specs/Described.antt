@@ -1,0 +1,110 @@
+-- When a text describes the quotient of a certificate.
+use Rattle.std.specs.Prelude.{◌≡◌, ◌≢◌, ℕ, ◌+◌, ◌<◌, ◌≤◌, List, [], ◌∷◌, ◌++◌, Option, Some, None, All, length, vec_len, codes}
+use Rattle.std.specs.List.{AllZip}
+use Rattle.misere_theory.specs.Certificates.{Certificate, IsHeapOf, phi_at}
+use Rattle.certificate.specs.Pieces.{grid_of}
+use Rattle.presentations.specs.declared.read.Relation.{Relation}
+use Rattle.presentations.specs.declared.named.Generator.{Generator}
+use Rattle.presentations.specs.Powers.{IsAboveLimit}
+use Rattle.presentations.specs.Tables.{IsTableOf}
+use Rattle.monoid_table.specs.Grids.{Grid}
+use Rattle.presentations.specs.Text.{SpellsPresentation}
+use Rattle.relations.specs.Presented.{ArePresentation, AreNamed, IsListing}
+use Rattle.relations.specs.Printed.{relations_text}
+use Rattle.descriptions.specs.declared.choosing.Part.TheVariants.{Portion, Units, Idempotents, Kernel}
+use Rattle.descriptions.specs.declared.finding.Findings.{Findings}
+use Rattle.descriptions.specs.Invariants.{IsOf, AreThose}
+use Rattle.descriptions.specs.Tame.{IsTame}
+use Rattle.descriptions.specs.Lines.{head_line, portion_line, count_line, generators_line, list_line, tail_line}
+use Rattle.descriptions.specs.Rows.{IsRowsText}
+
+-- the first heap that has the element
+pub record IsFirstHeap (c : Certificate) (element heap : ℕ) : Type 0 where
+  pub counts : IsHeapOf c heap
+  pub is : phi_at c heap ≡ element
+  pub first : (k : ℕ) → 1 ≤ k → k < heap → phi_at c k ≢ element
+
+-- tame, with this number, or for no number
+abbrev pub TellsTame : Certificate → Option ℕ → Type 0
+TellsTame c (Some n) = IsTame c n
+TellsTame c None = (n : ℕ) → IsTame c n → ⊥
+
+-- The relations present the certificate's monoid, by the elements of the letters a, b, ..; each
+-- element is the value of its word; and each element stands in the list once.
+pub record Describes (c : Certificate) (elements : List ℕ) (relations : List Relation)
+    (words : List (List ℕ)) (listing : List ℕ) : Type 0 where
+  pub presentation : ArePresentation (grid_of c) elements relations
+  pub named : AreNamed (grid_of c) elements words
+  pub letters : length elements ≤ 26
+  pub listing_is : IsListing c.order listing
+
+-- The text describes the certificate's quotient: its monoid by relations, its portion by words, how
+-- many elements there are, the first heap of each generator, the standard invariants, the words of
+-- the heaps in rows, and how they go on.
+pub record IsDescription (c : Certificate) (text : List ℕ) : Type 0 where
+  pub elements : List ℕ
+  pub relations : List Relation
+  pub words : List (List ℕ)
+  pub listing : List ℕ
+  pub describes : Describes c elements relations words listing
+  pub heaps : List ℕ
+  pub are_first : AllZip (IsFirstHeap c) elements heaps
+  pub portion : List ℕ
+  pub are_portion : AreThose (IsOf c Portion) listing portion
+  pub units : List ℕ
+  pub are_units : AreThose (IsOf c Units) listing units
+  pub idempotents : List ℕ
+  pub are_idempotents : AreThose (IsOf c Idempotents) listing idempotents
+  pub kernel : List ℕ
+  pub are_kernel : AreThose (IsOf c Kernel) listing kernel
+  pub tame : Option ℕ
+  pub is_tame : TellsTame c tame
+  pub rows : List ℕ
+  pub are_rows : IsRowsText c (length elements) words rows
+  pub lines : text
+      ≡ head_line c (length elements) relations
+      ++ portion_line (length elements) words portion
+      ++ count_line c.order (length portion) tame
+      ++ generators_line heaps (length elements)
+      ++ list_line (codes "units") (length elements) words units
+      ++ list_line (codes "idempotents") (length elements) words idempotents
+      ++ list_line (codes "kernel") (length elements) words kernel
+      ++ rows
+      ++ tail_line c
+
+-- all that is said of what was found
+pub record AreFindings (c : Certificate) (f : Findings) : Type 0 where
+  pub describes : Describes c f.description.elements.items f.description.relations.items
+      f.description.words.items f.description.listing.items
+  pub words : vec_len f.description.words ≡ c.order
+  pub are_first : AllZip (IsFirstHeap c) f.description.elements.items f.heaps.items
+  pub long : vec_len f.heaps ≡ length f.description.elements.items
+  pub are_portion : AreThose (IsOf c Portion) f.description.listing.items f.portion.items
+  pub portion_in : All (λ e. e < c.order) f.portion.items
+  pub are_units : AreThose (IsOf c Units) f.description.listing.items f.units.items
+  pub units_in : All (λ e. e < c.order) f.units.items
+  pub are_idempotents : AreThose (IsOf c Idempotents) f.description.listing.items
+      f.idempotents.items
+  pub idempotents_in : All (λ e. e < c.order) f.idempotents.items
+  pub are_kernel : AreThose (IsOf c Kernel) f.description.listing.items f.kernel.items
+  pub kernel_in : All (λ e. e < c.order) f.kernel.items
+  pub is_tame : TellsTame c f.tame
+
+-- Relations have a table that `present` makes: their box is within its limit.
+pub record HasTable (relations : List Relation) : Type 0 where
+  pub table : Grid
+  pub generators : List Generator
+  pub is_table : IsTableOf relations table generators
+  pub within : IsAboveLimit relations 65536 → ⊥
+
+-- The text spells relations alone that have such a table.
+abbrev pub IsInBox : List ℕ → Type 0
+IsInBox text = (relations : List Relation) → SpellsPresentation text relations → HasTable relations
+
+-- The line spells relations that present the certificate's monoid, and `present` makes their table.
+pub record IsPresentable (c : Certificate) (line : List ℕ) : Type 0 where
+  pub elements : List ℕ
+  pub relations : List Relation
+  pub presentation : ArePresentation (grid_of c) elements relations
+  pub spelled : SpellsPresentation line relations
+  pub has_table : HasTable relations

@@ -1,0 +1,149 @@
+//! The text that describes a quotient.
+ghost use Rattle.std.specs.Prelude.{◌≡◌, ◌<◌, ◌≤◌, ◌++◌, IfOk, IfSome, IsTrue, All, codes, vec_len};
+ghost use Rattle.std.specs.String.{string_bytes};
+ghost use Rattle.descriptions.specs.Described.{AreFindings, HasTable, IsDescription, IsInBox, IsPresentable};
+ghost use Rattle.descriptions.specs.Lines.{count_line, generators_line, head_line, list_line, portion_line, tail_line};
+
+use crate::finding::{Findings, describe_table, find, table_of};
+use crate::lines::{count_text, generators_text, head_text, list_text, portion_text, tail_text};
+use crate::rows::rows_text;
+use allocation::Memory;
+use answers::Certified;
+use presentations::{PresFault, Presentation};
+use relations::{Form, Undescribed, presentable, relations_text, texts_spell};
+use std::alloc::Global;
+
+/// The most exponent vectors that `present` merges.
+const LIMIT: u32 = 65536;
+
+/// The lines of the units, the idempotents and the kernel.
+fn lists_text(alloc: Global, letters: u8, findings: &Findings) -> Result<String, Memory>
+    requires letters { letters ≤ 26 }
+    requires units { All (λ e. e < vec_len findings.now.description.words)
+        findings.now.units.items }
+    requires idempotents { All (λ e. e < vec_len findings.now.description.words)
+        findings.now.idempotents.items }
+    requires kernel { All (λ e. e < vec_len findings.now.description.words)
+        findings.now.kernel.items }
+    ensures { IfOk result (λ t. string_bytes t
+        ≡ list_line (codes "units") letters findings.now.description.words.items
+        findings.now.units.items
+        ++ list_line (codes "idempotents") letters findings.now.description.words.items
+        findings.now.idempotents.items
+        ++ list_line (codes "kernel") letters findings.now.description.words.items
+        findings.now.kernel.items) }
+{
+    let words = findings.description.words.as_slice();
+    let units = list_text(alloc, "units", letters, words, &findings.units)?;
+    let idempotents = list_text(alloc, "idempotents", letters, words, &findings.idempotents)?;
+    let kernel = list_text(alloc, "kernel", letters, words, &findings.kernel)?;
+    let text = format!(in alloc; "{units}{idempotents}{kernel}")?;
+    Ok(text)
+}
+
+/// The lines of the relations, the portion, the counts and the generators.
+fn front_text(
+    alloc: Global,
+    certified: &Certified,
+    letters: u8,
+    findings: &Findings,
+) -> Result<String, Memory>
+    requires letters { letters ≤ 26 }
+    requires heaps { vec_len findings.now.heaps ≡ letters }
+    requires portion { All (λ e. e < vec_len findings.now.description.words)
+        findings.now.portion.items }
+    ensures { IfOk result (λ t. string_bytes t
+        ≡ head_line certified.now letters findings.now.description.relations.items
+        ++ portion_line letters findings.now.description.words.items findings.now.portion.items
+        ++ count_line certified.now.order (vec_len findings.now.portion) findings.now.tame
+        ++ generators_line findings.now.heaps.items letters) }
+{
+    let (cert, words) = (certified.cert(), findings.description.words.as_slice());
+    let head = head_text(alloc, cert, letters, &findings.description.relations)?;
+    let portion = portion_text(alloc, letters, words, &findings.portion)?;
+    let count = count_text(alloc, cert.order(), findings.portion.len(), findings.tame)?;
+    let generators = generators_text(alloc, &findings.heaps, letters)?;
+    let text = format!(in alloc; "{head}{portion}{count}{generators}")?;
+    Ok(text)
+}
+
+/// The text of what was found.
+fn findings_text(
+    alloc: Global,
+    certified: &Certified,
+    findings: &Findings,
+) -> Result<String, Memory>
+    requires { AreFindings certified.now findings.now }
+    ensures { IfOk result (λ t. IsDescription certified.now (string_bytes t)) }
+{
+    let letters = findings.description.elements.len() as u8;
+    let words = findings.description.words.as_slice();
+    let front = front_text(alloc, certified, letters, findings)?;
+    let lists = lists_text(alloc, letters, findings)?;
+    let rows = rows_text(alloc, certified, letters, words)?;
+    let tail = tail_text(alloc, certified.cert())?;
+    let text = format!(in alloc; "{front}{lists}{rows}{tail}")?;
+    Ok(text)
+}
+
+/// The certified quotient as the literature prints it: its relations in this form, its portion,
+/// orders, generators, standard invariants, and the pretending function in words. Refuses `Letters`,
+/// `Exponents` and `Unshown` where it isn't described.
+pub fn description_text(
+    alloc: Global,
+    certified: &Certified,
+    form: Form,
+) -> Result<String, Undescribed>
+    ensures { IfOk result (λ t. IsDescription certified.now (string_bytes t)) }
+{
+    let findings = find(alloc, certified, form)?;
+    let text = findings_text(alloc, certified, &findings)?;
+    Ok(text)
+}
+
+/// Whether `present` makes the table of the relations, in the box that it takes.
+fn is_presented(alloc: Global, text: &str) -> Result<bool, Memory>
+    ensures { IfOk result (λ is. IsTrue is → IsInBox text.now) }
+{
+    match Presentation::read(alloc, text.as_bytes()) {
+        Ok(presentation) => has_table(alloc, &presentation),
+        Err(PresFault::Memory) => Err(Memory),
+        Err(_) => Ok(false),
+    }
+}
+
+/// Whether the relations have a table in the box that `present` takes.
+fn has_table(alloc: Global, presentation: &Presentation) -> Result<bool, Memory>
+    ensures { IfOk result (λ has. IsTrue has → HasTable presentation.now) }
+{
+    match presentations::table_of(alloc, presentation, LIMIT) {
+        Ok(_) => Ok(true),
+        Err(PresFault::Memory) => Err(Memory),
+        Err(_) => Ok(false),
+    }
+}
+
+/// The relations as one word that `present` takes, with one between two powers of each letter. None
+/// where there are more than 64, an exponent is above 64, or the box is too small.
+pub fn presentable_text(
+    alloc: Global,
+    certified: &Certified,
+    form: Form,
+) -> Result<Option<String>, Undescribed>
+    ensures { IfOk result
+        (λ found. IfSome found (λ t. IsPresentable certified.now (string_bytes t))) }
+{
+    let table = table_of(alloc, certified)?;
+    let description = describe_table(alloc, certified, &table, form)?;
+    let Some(relations) = presentable(alloc, &table, &description)? else {
+        return Ok(None);
+    };
+    texts_spell();
+    let letters = description.elements.len() as u8;
+    let text = relations_text(alloc, letters, " ", &relations)?;
+    if is_presented(alloc, text.as_str())? {
+        Ok(Some(text))
+    } else {
+        Ok(None)
+    }
+}

@@ -1,0 +1,117 @@
+//! What is printed of a quotient.
+ghost use Rattle.std.specs.Prelude.{◌≡◌, ◌<◌, IfOk, IfSome, All, length, vec_len};
+ghost use Rattle.std.specs.List.{AllZip};
+ghost use Rattle.certificate.specs.Pieces.{grid_of};
+ghost use Rattle.descriptions.specs.Described.{AreFindings, Describes, IsFirstHeap};
+
+use crate::choosing::{Part, those};
+use crate::invariants::lowest;
+use crate::tame::tame;
+use allocation::Memory;
+use answers::Certified;
+use certificate::{claims_agree, in_ranges};
+use monoid_table::Table;
+use relations::{Description, Form, Undescribed, described};
+use std::alloc::Global;
+
+/// What is printed of a quotient.
+#[derive(Drop)]
+pub struct Findings {
+    pub description: Description,
+    pub heaps: Vec<u64>,
+    pub portion: Vec<u16>,
+    pub units: Vec<u16>,
+    pub idempotents: Vec<u16>,
+    pub kernel: Vec<u16>,
+    pub tame: Option<u16>,
+}
+
+/// The table of the certificate.
+pub fn table_of(alloc: Global, certified: &Certified) -> Result<Table, Memory>
+    ensures { IfOk result (λ t. t ≡ grid_of certified.now) }
+{
+    claims_agree();
+    let cert = certified.cert();
+    in_ranges(cert);
+    let rows = cert.rows().to_vec(alloc)?;
+    match Table::new(cert.order(), rows) {
+        Ok(table) => Ok(table),
+        Err(_) => unreachable!(),
+    }
+}
+
+/// The first heap that has the element.
+fn first_heap(certified: &Certified, element: u16) -> Option<u64>
+    ensures { IfSome result (IsFirstHeap certified.now element) }
+{
+    let cert = certified.cert();
+    for heap in 1..cert.start() + cert.period() {
+        if certified.element(heap) == element {
+            return Some(heap);
+        }
+    }
+    None
+}
+
+/// The first heaps that have the elements.
+fn first_heaps(
+    alloc: Global,
+    certified: &Certified,
+    elements: &[u16],
+) -> Result<Vec<u64>, Undescribed>
+    ensures heaps { IfOk result (λ r. AllZip (IsFirstHeap certified.now) elements.now r.items) }
+    ensures long { IfOk result (λ r. vec_len r ≡ length elements.now) }
+{
+    let mut heaps = Vec::new(alloc);
+    for element in elements {
+        let Some(heap) = first_heap(certified, *element) else {
+            return Err(Undescribed::Unshown);
+        };
+        heaps.push(heap)?;
+    }
+    Ok(heaps)
+}
+
+/// Relations, words and a list of all elements, with generators out of those of the heaps.
+pub fn describe_table(
+    alloc: Global,
+    certified: &Certified,
+    table: &Table,
+    form: Form,
+) -> Result<Description, Undescribed>
+    requires { table.now ≡ grid_of certified.now }
+    ensures describes { IfOk result (λ d. Describes certified.now d.elements.items
+        d.relations.items d.words.items d.listing.items) }
+    ensures words { IfOk result (λ d. vec_len d.words ≡ certified.now.order) }
+    ensures elements { IfOk result
+        (λ d. All (λ e. e < certified.now.order) d.elements.items) }
+{
+    let cert = certified.cert();
+    in_ranges(cert);
+    described(alloc, table, cert.phi().entries(), form)
+}
+
+/// All that is printed.
+pub fn find(alloc: Global, certified: &Certified, form: Form) -> Result<Findings, Undescribed>
+    ensures { IfOk result (AreFindings certified.now) }
+{
+    let table = table_of(alloc, certified)?;
+    let description = describe_table(alloc, certified, &table, form)?;
+    let heaps = first_heaps(alloc, certified, &description.elements)?;
+    let low = lowest(&table);
+    let listing = description.listing.as_slice();
+    let portion = those(alloc, certified, &table, low, Part::Portion, listing)?;
+    let units = those(alloc, certified, &table, low, Part::Units, listing)?;
+    let idempotents = those(alloc, certified, &table, low, Part::Idempotents, listing)?;
+    let kernel = those(alloc, certified, &table, low, Part::Kernel, listing)?;
+    let tame = tame(certified, &table);
+    Ok(Findings {
+        description,
+        heaps,
+        portion,
+        units,
+        idempotents,
+        kernel,
+        tame,
+    })
+}

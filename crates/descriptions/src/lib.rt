@@ -1,0 +1,14 @@
+//! What a certified quotient is, as the literature prints it: generators and relations, the portion
+//! and the pretending function in words, and the standard invariants.
+#![tactic(auto)]
+
+mod choosing;
+mod describing;
+mod finding;
+mod invariants;
+mod lines;
+mod rows;
+mod tame;
+
+pub use describing::{description_text, presentable_text};
+pub use relations::{Form, Undescribed};
