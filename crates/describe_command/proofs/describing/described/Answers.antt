@@ -7,9 +7,10 @@ use Rattle.describe_command.proofs.describing.described.Goals as goal
 
 pub returns-in-Ok : goal.returns-in-Ok
 returns-in-Ok c =
-    inl
-    (subst (IsDescription c.args.certified.now) (sym c.done.ensures.text) c.in-Ok.ensures,
-    c.done.ensures.well)
+    inl (
+      subst (IsDescription c.args.certified.now) (sym c.done.ensures.text) c.in-Ok.ensures,
+      c.done.ensures.well,
+    )
 
 pub returns-in-Err : goal.returns-in-Err
 returns-in-Err c =
