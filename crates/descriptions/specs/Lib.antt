@@ -1,0 +1,5 @@
+pub mod Invariants
+pub mod Tame
+pub mod Lines
+pub mod Rows
+pub mod Described
