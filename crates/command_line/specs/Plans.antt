@@ -23,6 +23,7 @@ HasNumbersWithin (plan.Check file limit) = IsWithin Limit limit
 HasNumbersWithin (plan.Solve code limit rounds heaps order) =
     IsWithin Limit limit × IsWithin Rounds rounds × IsWithin Heaps heaps × IsWithin Order order
 HasNumbersWithin (plan.Show file) = ⊤
+HasNumbersWithin (plan.Describe file output basis) = ⊤
 HasNumbersWithin (plan.Play file position) = ⊤
 HasNumbersWithin (plan.Present text) = ⊤
 HasNumbersWithin (plan.Catalogue file asked) = TaskHasNumbersWithin asked

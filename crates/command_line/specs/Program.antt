@@ -37,6 +37,12 @@ solve = command (codes "solve")
 abbrev pub show : App
 show = command (codes "show") (needed (codes "file") ∷ [])
 
+-- describe FILE [--latex] [--basis] [--relations]
+abbrev pub describe : App
+describe = command (codes "describe")
+    (needed (codes "file") ∷ flag (codes "latex") ∷ flag (codes "basis")
+    ∷ flag (codes "relations") ∷ [])
+
 -- play FILE POSITION
 abbrev pub play : App
 play = command (codes "play") (needed (codes "file") ∷ needed (codes "position") ∷ [])
@@ -62,7 +68,7 @@ misere = record (new_app (codes "misere")) {
 }
 
 abbrev pub commands : List App
-commands = check ∷ solve ∷ show ∷ play ∷ present ∷ catalogue ∷ desk ∷ []
+commands = check ∷ solve ∷ show ∷ describe ∷ play ∷ present ∷ catalogue ∷ desk ∷ []
 
 -- the whole command line
 abbrev pub program : App

@@ -30,7 +30,8 @@ IsMistake command rows (Help text) = ⊥
 IsMistake command rows (Words text) = ⊥
 IsMistake command rows (Number quantity) =
     Contains command.numbers quantity × (number_of quantity rows ≡ None)
-IsMistake command rows Exclusive = command.conflicts rows ≡ true
+IsMistake command rows (Exclusive which) =
+    (command.conflicts rows ≡ true) × (command.exclusion ≡ Some which)
 IsMistake command rows Incomplete = lacks command rows ≡ true
 
 -- the arguments ask for this, or else for nothing, for such a mistake
@@ -67,7 +68,7 @@ IsOfKind kind Memory = ⊤
 IsOfKind kind (Help text) = IsHelp kind
 IsOfKind kind (Words text) = IsHelp kind → ⊥
 IsOfKind kind (Number quantity) = ⊥
-IsOfKind kind Exclusive = ⊥
+IsOfKind kind (Exclusive which) = ⊥
 IsOfKind kind Incomplete = ⊥
 
 -- the command line doesn't take the words, for an error of such a kind
@@ -86,5 +87,5 @@ IsFaultOf words Memory = ⊤
 IsFaultOf words (Help text) = AsksForHelp words
 IsFaultOf words (Words text) = FailBy (λ kind. IsHelp kind → ⊥) words
 IsFaultOf words (Number quantity) = IsMistakeIn (subcommand_of program words) (Number quantity)
-IsFaultOf words Exclusive = IsMistakeIn (subcommand_of program words) Exclusive
+IsFaultOf words (Exclusive which) = IsMistakeIn (subcommand_of program words) (Exclusive which)
 IsFaultOf words Incomplete = IsMistakeIn (subcommand_of program words) Incomplete

@@ -10,11 +10,15 @@ use Rattle.clap.specs.declared.parser.matches.ArgMatches.{ArgMatches}
 use Rattle.command_line.specs.Numbers.{bounds_of, number_in, number_of}
 use Rattle.command_line.specs.Program
 use Rattle.command_line.specs.Program.{program}
+use Rattle.command_line.specs.declared.faults.Exclusion.{Exclusion}
+use Rattle.command_line.specs.declared.faults.Exclusion.TheVariants as exclusion
 use Rattle.command_line.specs.declared.numbers.Quantity.{Quantity}
 use Rattle.command_line.specs.declared.numbers.Quantity.TheVariants.{Limit, Rounds, Heaps, Order, Part}
 use Rattle.requests.specs.Requests.{CatalogueRequest, Request}
 use Rattle.requests.specs.Requests.CatalogueRequest.{Print, New, Add, NewWith, Get, Salvage, Migrate}
-use Rattle.requests.specs.Requests.Request.{Check, Solve, Show, Play, Present, Catalogue, Desk}
+use Rattle.requests.specs.Requests.Request.{Check, Solve, Show, Describe, Play, Present, Catalogue, Desk}
+use Rattle.requests.specs.declared.plans.Output.{Output}
+use Rattle.requests.specs.declared.plans.Output.TheVariants.{Description, Latex, Relations}
 
 -- ---- what each command asks for with its arguments
 
@@ -39,6 +43,36 @@ solve_request rows =
 abbrev pub show_request : List Row → Option Request
 show_request rows = option_map Show (first_of (codes "file") rows)
 
+-- a flag was given
+abbrev pub is_set : Text → List Row → Bool
+is_set flag rows = option_map_or (λ text. bytes_eq text (codes "true")) (first_of flag rows) false
+
+-- an option was given
+abbrev pub is_given : Text → List Row → Bool
+is_given name rows = is_some (first_of name rows)
+
+-- what the flags --latex and --relations ask for together
+abbrev pub output_of : (latex relations : Bool) → Option Output
+output_of false false = Some Description
+output_of true false = Some Latex
+output_of false true = Some Relations
+output_of true true = None
+
+abbrev pub output_in : List Row → Option Output
+output_in rows = output_of (is_set (codes "latex") rows) (is_set (codes "relations") rows)
+
+-- --latex stands with --relations
+abbrev pub describe_conflicts : List Row → Bool
+describe_conflicts rows = is_set (codes "latex") rows && is_set (codes "relations") rows
+
+abbrev pub describe_with : Option Text → Option Output → Bool → Option Request
+describe_with (Some file) (Some output) basis = Some (Describe file output basis)
+describe_with _ _ _ = None
+
+abbrev pub describe_request : List Row → Option Request
+describe_request rows =
+    describe_with (first_of (codes "file") rows) (output_in rows) (is_set (codes "basis") rows)
+
 abbrev pub play_with : Option Text → Option Text → Option Request
 play_with (Some file) (Some position) = Some (Play file position)
 play_with _ _ = None
@@ -48,14 +82,6 @@ play_request rows = play_with (first_of (codes "file") rows) (first_of (codes "p
 
 abbrev pub present_request : List Row → Option Request
 present_request rows = option_map Present (first_of (codes "text") rows)
-
--- a flag was given
-abbrev pub is_set : Text → List Row → Bool
-is_set flag rows = option_map_or (λ text. bytes_eq text (codes "true")) (first_of flag rows) false
-
--- an option was given
-abbrev pub is_given : Text → List Row → Bool
-is_given name rows = is_some (first_of name rows)
 
 -- what the flags --new, --salvage and --migrate and the options --add, --get and --heaps ask for
 -- together
@@ -101,20 +127,21 @@ desk_request rows = option_map Desk (first_of (codes "script") rows)
 
 -- ---- the commands
 
--- a command: what it is to `clap`, what it asks for, the numbers that it takes, and whether options
--- that are given exclude each other
+-- a command: what it is to `clap`, what it asks for, the numbers that it takes, whether options that
+-- are given exclude each other, and by which fault that is told, where they may
 pub record Asking : Type 0 where
   pub app : App
   pub request : List Row → Option Request
   pub numbers : List Quantity
   pub conflicts : List Row → Bool
+  pub exclusion : Option Exclusion
 
 -- no options exclude each other
 abbrev pub never : List Row → Bool
 never rows = false
 
 abbrev pub check : Asking
-check = record { app = Program.check; request = check_request; numbers = Limit ∷ []; conflicts = never }
+check = record { app = Program.check; request = check_request; numbers = Limit ∷ []; conflicts = never; exclusion = None }
 
 abbrev pub solve : Asking
 solve = record {
@@ -122,25 +149,41 @@ solve = record {
   request = solve_request;
   numbers = Limit ∷ Rounds ∷ Heaps ∷ Order ∷ [];
   conflicts = never;
+  exclusion = None;
 }
 
 abbrev pub show : Asking
-show = record { app = Program.show; request = show_request; numbers = []; conflicts = never }
+show = record { app = Program.show; request = show_request; numbers = []; conflicts = never; exclusion = None }
+
+abbrev pub describe : Asking
+describe = record {
+  app = Program.describe;
+  request = describe_request;
+  numbers = [];
+  conflicts = describe_conflicts;
+  exclusion = Some exclusion.Description;
+}
 
 abbrev pub play : Asking
-play = record { app = Program.play; request = play_request; numbers = []; conflicts = never }
+play = record { app = Program.play; request = play_request; numbers = []; conflicts = never; exclusion = None }
 
 abbrev pub present : Asking
-present = record { app = Program.present; request = present_request; numbers = []; conflicts = never }
+present = record { app = Program.present; request = present_request; numbers = []; conflicts = never; exclusion = None }
 
 abbrev pub catalogue : Asking
-catalogue = record { app = Program.catalogue; request = catalogue_request; numbers = Part ∷ []; conflicts = catalogue_conflicts }
+catalogue = record {
+  app = Program.catalogue;
+  request = catalogue_request;
+  numbers = Part ∷ [];
+  conflicts = catalogue_conflicts;
+  exclusion = Some exclusion.Catalogue;
+}
 
 abbrev pub desk : Asking
-desk = record { app = Program.desk; request = desk_request; numbers = []; conflicts = never }
+desk = record { app = Program.desk; request = desk_request; numbers = []; conflicts = never; exclusion = None }
 
 abbrev pub commands : List Asking
-commands = check ∷ solve ∷ show ∷ play ∷ present ∷ catalogue ∷ desk ∷ []
+commands = check ∷ solve ∷ show ∷ describe ∷ play ∷ present ∷ catalogue ∷ desk ∷ []
 
 abbrev pub command_named : Text → Option Asking
 command_named name = find (λ c. bytes_eq c.app.top.name name) commands

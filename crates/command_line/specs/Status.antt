@@ -1,6 +1,8 @@
 -- The exit status for a command line that asks for nothing, and what is told. This project's own.
 use Rattle.std.specs.Prelude.{ℕ, codes, string_bytes}
 use Rattle.clap.specs.Words.{Text}
+use Rattle.command_line.specs.declared.faults.Exclusion.{Exclusion}
+use Rattle.command_line.specs.declared.faults.Exclusion.TheVariants as exclusion
 use Rattle.command_line.specs.declared.faults.UsageFault.{UsageFault}
 use Rattle.command_line.specs.declared.faults.UsageFault.TheVariants.{Memory, Help, Words, Number}
 use Rattle.command_line.specs.declared.faults.UsageFault.TheVariants.{Exclusive, Incomplete}
@@ -13,7 +15,7 @@ status_of Memory = 3
 status_of (Help text) = 0
 status_of (Words text) = 2
 status_of (Number quantity) = 2
-status_of Exclusive = 2
+status_of (Exclusive which) = 2
 status_of Incomplete = 2
 
 abbrev pub range_text : Quantity → Text
@@ -23,12 +25,16 @@ range_text Heaps = codes "misere: the heaps are a number from 2 to 64\n"
 range_text Order = codes "misere: the order is a number from 2 to 256\n"
 range_text Part = codes "misere: the heaps are a number from 0 to 1024\n"
 
+abbrev pub exclusion_text : Exclusion → Text
+exclusion_text exclusion.Catalogue =
+    codes "misere: --heaps goes with --get, --get without --new and --add, --salvage and --migrate alone\n"
+exclusion_text exclusion.Description = codes "misere: --latex goes without --relations\n"
+
 -- what is told of the fault
 abbrev pub text_of : UsageFault → Text
 text_of Memory = codes "misere: out of memory\n"
 text_of (Help text) = string_bytes text
 text_of (Words text) = string_bytes text
 text_of (Number quantity) = range_text quantity
-text_of Exclusive =
-    codes "misere: --heaps goes with --get, --get without --new and --add, --salvage and --migrate alone\n"
+text_of (Exclusive which) = exclusion_text which
 text_of Incomplete = codes "misere: no command; see misere --help\n"

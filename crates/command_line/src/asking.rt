@@ -4,14 +4,14 @@ ghost use Rattle.clap.specs.Words.{first_of};
 ghost use Rattle.command_line.specs.Numbers.{IsWithin, number_of};
 ghost use Rattle.command_line.specs.Plans.{HasNumbersWithin, TaskHasNumbersWithin};
 ghost use Rattle.command_line.specs.Refusals.{Answers, IsMistake, IsMistakeIn, conflicts_in};
-ghost use Rattle.command_line.specs.Requests.{arguments_of, catalogue, catalogue_conflicts, check, desk, is_set, play};
+ghost use Rattle.command_line.specs.Requests.{arguments_of, catalogue, catalogue_conflicts, check, describe, describe_conflicts, desk, is_set, output_in, play};
 ghost use Rattle.command_line.specs.Requests.{present, request_in, show, solve, task_in};
 ghost use Rattle.requests.specs.Requests.{catalogue_request_of, request_of};
 
-use crate::faults::UsageFault;
+use crate::faults::{Exclusion, UsageFault};
 use crate::numbers::{Quantity, number_given};
 use clap::ArgMatches;
-use requests::{CatalogueTask, Plan};
+use requests::{CatalogueTask, Output, Plan};
 
 /// The value that was given under this name.
 fn value<'a>(given: &ArgMatches<'a>, name: &str) -> Option<&'a str>
@@ -82,6 +82,34 @@ fn show_plan<'a>(given: &ArgMatches<'a>) -> Result<Plan<'a>, UsageFault>
     Ok(Plan::Show { file })
 }
 
+/// What is to be printed of a quotient.
+fn output(given: &ArgMatches<'_>) -> Result<Output, UsageFault>
+    ensures output { IfOk result (λ o. output_in (arguments_of given.now) ≡ Some o) }
+    ensures apart { IfOk result (λ _. describe_conflicts (arguments_of given.now) ≡ false) }
+    ensures none { IfErr result (λ _. output_in (arguments_of given.now) ≡ None) }
+    ensures mistake { IfErr result (IsMistake describe (arguments_of given.now)) }
+{
+    match (flag(given, "latex"), flag(given, "relations")) {
+        (false, false) => Ok(Output::Description),
+        (true, false) => Ok(Output::Latex),
+        (false, true) => Ok(Output::Relations),
+        (true, true) => Err(UsageFault::Exclusive(Exclusion::Description)),
+    }
+}
+
+fn describe_plan<'a>(given: &ArgMatches<'a>) -> Result<Plan<'a>, UsageFault>
+    ensures { Answers describe (arguments_of given.now) result }
+{
+    let file = needed(given, "file")?;
+    let output = output(given)?;
+    let basis = flag(given, "basis");
+    Ok(Plan::Describe {
+        file,
+        output,
+        basis,
+    })
+}
+
 fn play_plan<'a>(given: &ArgMatches<'a>) -> Result<Plan<'a>, UsageFault>
     ensures { Answers play (arguments_of given.now) result }
 {
@@ -130,7 +158,7 @@ fn catalogue_task<'a>(given: &ArgMatches<'a>) -> Result<CatalogueTask<'a>, Usage
         }
         (false, true, false, None, None, None) => Ok(CatalogueTask::Salvage),
         (false, false, true, None, None, None) => Ok(CatalogueTask::Migrate),
-        _ => Err(UsageFault::Exclusive),
+        _ => Err(UsageFault::Exclusive(Exclusion::Catalogue)),
     }
 }
 
@@ -164,6 +192,7 @@ pub(crate) fn command_plan<'a>(name: &str, given: &ArgMatches<'a>) -> Result<Pla
         "check" => check_plan(given),
         "solve" => solve_plan(given),
         "show" => show_plan(given),
+        "describe" => describe_plan(given),
         "play" => play_plan(given),
         "present" => present_plan(given),
         "catalogue" => catalogue_plan(given),

@@ -1,7 +1,7 @@
 //! The commands and their arguments, as `clap` reads them.
 ghost use Rattle.std.specs.Prelude.{◌≡◌, ◌++◌, ◌∷◌, [], List, IfOk, codes, false, true};
 ghost use Rattle.clap.specs.Words.{App, Rule, Text, app_of, new_app, rule_of, with_subcommand};
-ghost use Rattle.command_line.specs.Program.{catalogue, check, command, desk, flag, misere, needed};
+ghost use Rattle.command_line.specs.Program.{catalogue, check, command, describe, desk, flag, misere, needed};
 ghost use Rattle.command_line.specs.Program.{option, optional, play, present, program, show, solve};
 
 use clap::{Arg, ArgAction, Command};
@@ -128,6 +128,23 @@ fn show_command<'a>(alloc: Global) -> Result<Command<'a>, AllocError>
     command(alloc, "show", about).arg(needed(alloc, "file", "FILE", "The file of the certificate"))
 }
 
+fn describe_command<'a>(alloc: Global) -> Result<Command<'a>, AllocError>
+    ensures { IfOk result (λ c. app_of c ≡ describe) }
+{
+    let about = "Check a certificate, and print its quotient by generators and relations";
+    let latex = "Print it for LaTeX";
+    let basis = "Give the reduced basis of the relations, by which words are multiplied by hand";
+    let relations = "Print the relations alone, in one word for 'misere present'";
+    let made = Ok(command(alloc, "describe", about));
+    let made = with_arg(
+        made,
+        needed(alloc, "file", "FILE", "The file of the certificate"),
+    );
+    let made = with_arg(made, flag(alloc, "latex", latex));
+    let made = with_arg(made, flag(alloc, "basis", basis));
+    with_arg(made, flag(alloc, "relations", relations))
+}
+
 fn play_command<'a>(alloc: Global) -> Result<Command<'a>, AllocError>
     ensures { IfOk result (λ c. app_of c ≡ play) }
 {
@@ -218,6 +235,7 @@ pub fn program_command<'a>(alloc: Global) -> Result<Command<'a>, AllocError>
     let program = with(program, check_command(alloc));
     let program = with(program, solve_command(alloc));
     let program = with(program, show_command(alloc));
+    let program = with(program, describe_command(alloc));
     let program = with(program, play_command(alloc));
     let program = with(program, present_command(alloc));
     let program = with(program, catalogue_command(alloc));

@@ -1,8 +1,17 @@
 //! Why a command line asks for nothing.
 ghost use Rattle.std.specs.Prelude.{◌≡◌};
-ghost use Rattle.command_line.specs.Status.{range_text, status_of, text_of};
+ghost use Rattle.command_line.specs.Status.{exclusion_text, range_text, status_of, text_of};
 
 use crate::numbers::Quantity;
+
+/// Options that exclude each other, by the command that takes them.
+#[derive(Clone, Copy, Debug, PartialEq, Eq)]
+pub enum Exclusion {
+    /// Those of `catalogue`, or one without that which it needs.
+    Catalogue,
+    /// `--latex` and `--relations` of `describe`.
+    Description,
+}
 
 /// Why the words ask for nothing that the program does.
 #[derive(Debug, Drop)]
@@ -16,7 +25,7 @@ pub enum UsageFault {
     /// A number isn't one of its range, in decimal without leading zeros.
     Number(Quantity),
     /// Options stand together that exclude each other, or one without that which it needs.
-    Exclusive,
+    Exclusive(Exclusion),
     /// A command is missing, or an argument that it needs.
     Incomplete,
 }
@@ -34,6 +43,18 @@ fn range_line(quantity: Quantity) -> &'static str
     }
 }
 
+/// What is told of options that exclude each other.
+fn exclusion_line(exclusion: Exclusion) -> &'static str
+    ensures { result.now ≡ exclusion_text exclusion }
+{
+    match exclusion {
+        Exclusion::Catalogue => {
+            "misere: --heaps goes with --get, --get without --new and --add, --salvage and --migrate alone\n"
+        }
+        Exclusion::Description => "misere: --latex goes without --relations\n",
+    }
+}
+
 impl UsageFault {
     /// The exit status of a run that meets the fault.
     pub fn status(&self) -> u8
@@ -43,7 +64,7 @@ impl UsageFault {
             UsageFault::Help(_) => 0,
             UsageFault::Words(_)
             | UsageFault::Number(_)
-            | UsageFault::Exclusive
+            | UsageFault::Exclusive(_)
             | UsageFault::Incomplete => 2,
             UsageFault::Memory => 3,
         }
@@ -57,9 +78,7 @@ impl UsageFault {
             UsageFault::Memory => "misere: out of memory\n",
             UsageFault::Help(text) | UsageFault::Words(text) => text.as_str(),
             UsageFault::Number(quantity) => range_line(*quantity),
-            UsageFault::Exclusive => {
-                "misere: --heaps goes with --get, --get without --new and --add, --salvage and --migrate alone\n"
-            }
+            UsageFault::Exclusive(exclusion) => exclusion_line(*exclusion),
             UsageFault::Incomplete => "misere: no command; see misere --help\n",
         }
     }

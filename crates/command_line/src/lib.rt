@@ -8,6 +8,6 @@ pub mod numbers;
 mod words;
 
 pub use commands::VERSION;
-pub use faults::UsageFault;
+pub use faults::{Exclusion, UsageFault};
 pub use numbers::{Bounds, Quantity};
 pub use words::plan;

@@ -10,7 +10,7 @@ use Rattle.command_results.specs.declared.stop.Stop.{Stop}
 use Rattle.command_results.specs.declared.stop.Stop.TheVariants.{Read, Write, Memory, NotACode}
 use Rattle.play_command.specs.Plays.{IsPlayCause}
 use Rattle.requests.specs.Requests.{CatalogueRequest, Request}
-use Rattle.requests.specs.Requests.Request.{Check, Solve, Show, Play, Present, Catalogue, Desk}
+use Rattle.requests.specs.Requests.Request.{Check, Solve, Show, Describe, Play, Present, Catalogue, Desk}
 use Rattle.solve_command.specs.Solved.{IsNoCode}
 
 -- How often each device has failed that a command reads or changes.
@@ -47,6 +47,8 @@ IsCause (Check None limit) before after stop = IsInputCause before.input after.i
 IsCause (Check (Some file) limit) before after stop = IsFileCause file before.reads after.reads stop
 IsCause (Solve code limit rounds heaps order) before after stop = IsSolveCause code stop
 IsCause (Show file) before after stop = IsFileCause file before.reads after.reads stop
+IsCause (Describe file output basis) before after stop =
+    IsFileCause file before.reads after.reads stop
 IsCause (Play file position) before after stop =
     IsPlayCause file position before.reads after.reads stop
 IsCause (Present text) before after stop = IsMemory stop
@@ -64,6 +66,7 @@ reads_input _ = false
 abbrev pub takes_files : Option Request → Bool
 takes_files (Some (Check (Some file) limit)) = true
 takes_files (Some (Show file)) = true
+takes_files (Some (Describe file output basis)) = true
 takes_files (Some (Play file position)) = true
 takes_files (Some (Catalogue file task)) = true
 takes_files (Some (Desk script)) = true

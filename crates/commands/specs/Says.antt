@@ -3,10 +3,11 @@
 use Rattle.std.specs.Prelude.{ℕ, Bool, List, [], Option, Some, None}
 use Rattle.catalogue_command.specs.Tasks.{SaysOfCatalogue, catalogue_written}
 use Rattle.check_command.specs.Checks.{SaysOfFile, SaysOfStream}
+use Rattle.describe_command.specs.Described.{Describes}
 use Rattle.play_command.specs.Plays.{Plays}
 use Rattle.present_command.specs.Presented.{Presents}
 use Rattle.requests.specs.Requests.{Request, default_limit}
-use Rattle.requests.specs.Requests.Request.{Check, Solve, Show, Play, Present, Catalogue, Desk}
+use Rattle.requests.specs.Requests.Request.{Check, Solve, Show, Describe, Play, Present, Catalogue, Desk}
 use Rattle.show_command.specs.Shown.{Shows}
 use Rattle.solve_command.specs.Solved.{Solves}
 use Rattle.solve_command.specs.declared.bounds.SolveBounds.{SolveBounds}
@@ -27,6 +28,8 @@ Says input before after (Solve code limit rounds heaps order) text well =
     SaysSolved code (record { limit = limit; rounds = rounds; heaps = heaps; order = order }) text
     well
 Says input before after (Show file) text well = Shows before file default_limit text well
+Says input before after (Describe file output basis) text well =
+    Describes before file default_limit output text well
 Says input before after (Play file position) text well =
     Plays before file default_limit position text well
 Says input before after (Present presentation) text well = Presents presentation text well

@@ -10,6 +10,8 @@ use crate::cataloguing::catalogue_said;
 use crate::solving::solve_text;
 use check_command::{check_file, check_input};
 use command_results::{Said, Stop};
+use describe_command::describe;
+use descriptions::Form;
 use folders::Folder;
 use play_command::play;
 use present_command::present;
@@ -49,6 +51,14 @@ pub(crate) fn carry_out<'a, F: Folder, S: Source>(
             None => check_input(alloc, limit, input),
         },
         Plan::Show { file } => show(alloc, file, DEFAULT_LIMIT, folder),
+        Plan::Describe {
+            file,
+            output,
+            basis,
+        } => {
+            let form = if basis { Form::Basis } else { Form::Short };
+            describe(alloc, file, DEFAULT_LIMIT, form, output, folder)
+        }
         Plan::Play { file, position } => play(alloc, file, position, DEFAULT_LIMIT, folder),
         Plan::Present { text } => present(alloc, text),
         Plan::Solve {

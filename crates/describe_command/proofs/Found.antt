@@ -2,7 +2,7 @@
 use Rattle.std.proofs.Common.{◌≡◌, ℕ, Bool, false, List, Option, Result, Ok, Err, Vec, subst, sym}
 use Rattle.misere_theory.specs.Certificates.{Certificate}
 use Rattle.check_command.specs.Checks.{Finds, SaysOfFile}
-use Rattle.describe_command.specs.declared.describing.Output.{Output}
+use Rattle.requests.specs.declared.plans.Output.{Output}
 use Rattle.describe_command.specs.Described.{Describes, DescribesFound}
 use Rattle.describe_command.specs.Described.Describes.{Quotient, NoQuotient}
 

@@ -3,15 +3,17 @@ use Rattle.std.specs.Prelude.{◌≡◌, ◌⊎◌, ℕ, Bool, true, false, List
 use Rattle.misere_theory.specs.Certificates.{Certificate}
 use Rattle.check_command.specs.Checks.{Certifies, SaysOfFile}
 use Rattle.descriptions.specs.Described.{IsDescription, IsPresentable}
-use Rattle.describe_command.specs.declared.describing.Output.{Output}
-use Rattle.describe_command.specs.declared.describing.Output.TheVariants.{Description, Relations}
+use Rattle.relations.specs.declared.text.Notation.{Notation}
+use Rattle.relations.specs.declared.text.Notation.TheVariants as written
+use Rattle.requests.specs.declared.plans.Output.{Output}
+use Rattle.requests.specs.declared.plans.Output.TheVariants.{Description, Latex, Relations}
 
--- the line says by which bound a quotient is not described
+-- the line says within which bound a quotient is not described
 abbrev pub IsBoundLine : List ℕ → Type 0
 IsBoundLine text =
-    (text ≡ codes "not described: more than 26 generators\n")
-    ⊎ ((text ≡ codes "not described: an exponent above 64\n")
-    ⊎ (text ≡ codes "not described: not shown with 512 rules\n"))
+    (text ≡ codes "not described within 26 generators\n")
+    ⊎ ((text ≡ codes "not described within exponents of 64\n")
+    ⊎ (text ≡ codes "not described within 512 rules\n"))
 
 -- the line of relations that `present` takes
 abbrev pub IsRelationsText : Certificate → List ℕ → Type 0
@@ -20,12 +22,17 @@ IsRelationsText c text = (line : List ℕ) × IsPresentable c line × (text ≡ 
 -- the box or the list is above the bounds of `present`, or the quotient isn't described
 abbrev pub IsNoRelationsLine : List ℕ → Type 0
 IsNoRelationsLine text =
-    IsBoundLine text ⊎ (text ≡ codes "not described: above the bounds of present\n")
+    IsBoundLine text ⊎ (text ≡ codes "not described within the bounds of present\n")
+
+-- the text describes the quotient, plain or for LaTeX, or says that it isn't described
+abbrev pub DescribesIn : Notation → Certificate → List ℕ → Bool → Type 0
+DescribesIn notation c text well =
+    (IsDescription notation c text × (well ≡ true)) ⊎ (IsBoundLine text × (well ≡ false))
 
 -- The text describes the quotient, or is its relations as one word, or says that it isn't described.
 abbrev pub DescribesQuotient : Certificate → Output → List ℕ → Bool → Type 0
-DescribesQuotient c Description text well =
-    (IsDescription c text × (well ≡ true)) ⊎ (IsBoundLine text × (well ≡ false))
+DescribesQuotient c Description text well = DescribesIn written.Plain c text well
+DescribesQuotient c Latex text well = DescribesIn written.Latex c text well
 DescribesQuotient c Relations text well =
     (IsRelationsText c text × (well ≡ true)) ⊎ (IsNoRelationsLine text × (well ≡ false))
 

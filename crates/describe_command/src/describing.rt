@@ -1,24 +1,17 @@
 //! `describe`: a certified quotient by generators and relations.
 ghost use Rattle.std.specs.Prelude.{◌≡◌, IfOk, IfErr, false};
 ghost use Rattle.command_results.specs.Stops.{IsFileCause};
-ghost use Rattle.describe_command.specs.Described.{Describes, DescribesFound, DescribesQuotient, IsBoundLine};
+ghost use Rattle.describe_command.specs.Described.{Describes, DescribesFound, DescribesIn, DescribesQuotient, IsBoundLine};
+ghost use Rattle.requests.specs.declared.plans.Output.TheVariants.{Relations};
 
 use allocation::Memory;
 use answers::Certified;
 use check_command::certified;
 use command_results::{Said, Stop};
-use descriptions::{Form, Undescribed, description_text, presentable_text};
+use descriptions::{Form, Notation, Undescribed, description_text, presentable_text};
 use folders::Folder;
+use requests::Output;
 use std::alloc::Global;
-
-/// What is printed.
-#[derive(Clone, Copy, Debug, PartialEq, Eq)]
-pub enum Output {
-    /// The whole description.
-    Description,
-    /// One word that `present` takes.
-    Relations,
-}
 
 /// The line of a no.
 fn refuse(alloc: Global, line: &str) -> Result<Said, Memory>
@@ -28,24 +21,28 @@ fn refuse(alloc: Global, line: &str) -> Result<Said, Memory>
     Ok(Said::no(text))
 }
 
-/// The line that says why a quotient is not described.
+/// The line that says within which bound a quotient is not described.
 fn undescribed(alloc: Global, fault: Undescribed) -> Result<Said, Memory>
     ensures { IfOk result (λ s. IsBoundLine s.text.items × (s.well ≡ false)) }
 {
     match fault {
-        Undescribed::Letters => refuse(alloc, "not described: more than 26 generators\n"),
-        Undescribed::Exponents => refuse(alloc, "not described: an exponent above 64\n"),
-        Undescribed::Unshown => refuse(alloc, "not described: not shown with 512 rules\n"),
+        Undescribed::Letters => refuse(alloc, "not described within 26 generators\n"),
+        Undescribed::Exponents => refuse(alloc, "not described within exponents of 64\n"),
+        Undescribed::Unshown => refuse(alloc, "not described within 512 rules\n"),
         Undescribed::Memory => Err(Memory),
     }
 }
 
-/// The description of the quotient.
-fn described(alloc: Global, certified: &Certified, form: Form) -> Result<Said, Memory>
-    ensures { IfOk result
-        (λ s. DescribesQuotient certified.now Output.Description s.text.items s.well) }
+/// The description of the quotient, plain or for LaTeX.
+fn described(
+    alloc: Global,
+    certified: &Certified,
+    form: Form,
+    notation: Notation,
+) -> Result<Said, Memory>
+    ensures { IfOk result (λ s. DescribesIn notation certified.now s.text.items s.well) }
 {
-    match description_text(alloc, certified, form) {
+    match description_text(alloc, notation, certified, form) {
         Ok(text) => Ok(Said::done(text)),
         Err(fault) => undescribed(alloc, fault),
     }
@@ -54,14 +51,14 @@ fn described(alloc: Global, certified: &Certified, form: Form) -> Result<Said, M
 /// The relations of the quotient, as `present` takes them.
 fn presented(alloc: Global, certified: &Certified, form: Form) -> Result<Said, Memory>
     ensures { IfOk result
-        (λ s. DescribesQuotient certified.now Output.Relations s.text.items s.well) }
+        (λ s. DescribesQuotient certified.now Relations s.text.items s.well) }
 {
     match presentable_text(alloc, certified, form) {
         Ok(Some(line)) => {
             let text = format!(in alloc; "{line}\n")?;
             Ok(Said::done(text))
         }
-        Ok(None) => refuse(alloc, "not described: above the bounds of present\n"),
+        Ok(None) => refuse(alloc, "not described within the bounds of present\n"),
         Err(fault) => undescribed(alloc, fault),
     }
 }
@@ -77,7 +74,8 @@ fn said(
 {
     match quotient {
         Ok(certified) => match output {
-            Output::Description => described(alloc, &certified, form),
+            Output::Description => described(alloc, &certified, form, Notation::Plain),
+            Output::Latex => described(alloc, &certified, form, Notation::Latex),
             Output::Relations => presented(alloc, &certified, form),
         },
         Err(no) => Ok(Said::no(no)),
@@ -86,8 +84,8 @@ fn said(
 
 /// The quotient that the file certifies under the limit, described: by relations that present its
 /// monoid in this form, with its portion, orders, generators, standard invariants and the pretending
-/// function in words; or by its relations alone, as one word that `present` takes. Or else why it
-/// certifies none, or why it is not described.
+/// function in words, plain or for LaTeX; or by its relations alone, as one word that `present`
+/// takes. Or else why it certifies none, or within which bound it is not described.
 pub fn describe<'a, F: Folder>(
     alloc: Global,
     file: &'a str,

@@ -3,5 +3,5 @@
 
 mod describing;
 
-pub use describing::{Output, describe};
+pub use describing::describe;
 pub use descriptions::Form;

@@ -4,6 +4,7 @@ use Rattle.std.specs.Prelude.{min}
 use Rattle.std.proofs.lemmas.Nat.{mul-le, div-add-mod'}
 use Rattle.misere_theory.specs.Certificates.{Certificate}
 use Rattle.descriptions.specs.Rows.{row_line, row_lines}
+use Rattle.descriptions.specs.Arrays.{before_row, entry_line, entry_lines}
 
 -- the first heap of a row stands before the last heap
 pub row-starts : (k many last to : ℕ) → 0 < many → k < (last + many - 1) / many
@@ -26,3 +27,18 @@ row-next c n words width wide many last k to text line new are is to_is e =
     let next : k + 1 ≡ suc k = omega arith in
     e ∙ ap₂ ◌++◌ are (is ∙ ap (row_line c n words width wide (k * many)) to_is)
     ∙ sym (ap (row_lines c n words width wide many last) next)
+
+pub entry-next : (c : Certificate) (n : ℕ) (words : List (List ℕ)) (wide many last k to : ℕ)
+    (text front line new : List ℕ) → text ≡ entry_lines c n words many last k
+    → wide ≡ min many last
+    → front ≡ before_row wide k
+    → line ≡ entry_line c n words (k * many) to
+    → to ≡ min (k * many + many) last
+    → new ≡ (text ++ front) ++ line
+    → new ≡ entry_lines c n words many last (k + 1)
+entry-next c n words wide many last k to text front line new are wide_is front_is is to_is e =
+    let next : k + 1 ≡ suc k = omega arith in
+    e
+    ∙ ap₂ ◌++◌ (ap₂ ◌++◌ are (front_is ∙ ap (λ (w : ℕ). before_row w k) wide_is))
+    (is ∙ ap (entry_line c n words (k * many)) to_is)
+    ∙ sym (ap (entry_lines c n words many last) next)

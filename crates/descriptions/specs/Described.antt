@@ -1,5 +1,5 @@
 -- When a text describes the quotient of a certificate.
-use Rattle.std.specs.Prelude.{◌≡◌, ◌≢◌, ℕ, ◌+◌, ◌<◌, ◌≤◌, List, [], ◌∷◌, ◌++◌, Option, Some, None, All, length, vec_len, codes}
+use Rattle.std.specs.Prelude.{◌≡◌, ◌≢◌, ℕ, ◌+◌, ◌<◌, ◌≤◌, List, [], ◌∷◌, ◌++◌, Option, Some, None, All, length, vec_len}
 use Rattle.std.specs.List.{AllZip}
 use Rattle.misere_theory.specs.Certificates.{Certificate, IsHeapOf, phi_at}
 use Rattle.certificate.specs.Pieces.{grid_of}
@@ -10,13 +10,15 @@ use Rattle.presentations.specs.Tables.{IsTableOf}
 use Rattle.monoid_table.specs.Grids.{Grid}
 use Rattle.presentations.specs.Text.{SpellsPresentation}
 use Rattle.relations.specs.Presented.{ArePresentation, AreNamed, IsListing}
-use Rattle.relations.specs.Printed.{relations_text}
+use Rattle.relations.specs.declared.text.Notation.{Notation}
+use Rattle.relations.specs.declared.text.Notation.TheVariants.{Plain, Latex}
 use Rattle.descriptions.specs.declared.choosing.Part.TheVariants.{Portion, Units, Idempotents, Kernel}
 use Rattle.descriptions.specs.declared.finding.Findings.{Findings}
 use Rattle.descriptions.specs.Invariants.{IsOf, AreThose}
 use Rattle.descriptions.specs.Tame.{IsTame}
-use Rattle.descriptions.specs.Lines.{head_line, portion_line, count_line, generators_line, list_line, tail_line}
+use Rattle.descriptions.specs.Lines.{front_lines, list_lines, tail_line}
 use Rattle.descriptions.specs.Rows.{IsRowsText}
+use Rattle.descriptions.specs.Arrays.{arrays_text}
 
 -- the first heap that has the element
 pub record IsFirstHeap (c : Certificate) (element heap : ℕ) : Type 0 where
@@ -38,10 +40,15 @@ pub record Describes (c : Certificate) (elements : List ℕ) (relations : List R
   pub letters : length elements ≤ 26
   pub listing_is : IsListing c.order listing
 
+-- the text of the heaps' words in rows, plain or for LaTeX
+abbrev pub AreRows : Notation → Certificate → ℕ → List (List ℕ) → List ℕ → Type 0
+AreRows Plain c n words text = IsRowsText c n words text
+AreRows Latex c n words text = text ≡ arrays_text c n words
+
 -- The text describes the certificate's quotient: its monoid by relations, its portion by words, how
 -- many elements there are, the first heap of each generator, the standard invariants, the words of
 -- the heaps in rows, and how they go on.
-pub record IsDescription (c : Certificate) (text : List ℕ) : Type 0 where
+pub record IsDescription (notation : Notation) (c : Certificate) (text : List ℕ) : Type 0 where
   pub elements : List ℕ
   pub relations : List Relation
   pub words : List (List ℕ)
@@ -60,17 +67,11 @@ pub record IsDescription (c : Certificate) (text : List ℕ) : Type 0 where
   pub tame : Option ℕ
   pub is_tame : TellsTame c tame
   pub rows : List ℕ
-  pub are_rows : IsRowsText c (length elements) words rows
+  pub are_rows : AreRows notation c (length elements) words rows
   pub lines : text
-      ≡ head_line c (length elements) relations
-      ++ portion_line (length elements) words portion
-      ++ count_line c.order (length portion) tame
-      ++ generators_line heaps (length elements)
-      ++ list_line (codes "units") (length elements) words units
-      ++ list_line (codes "idempotents") (length elements) words idempotents
-      ++ list_line (codes "kernel") (length elements) words kernel
-      ++ rows
-      ++ tail_line c
+      ≡ front_lines notation c relations words portion tame heaps (length elements)
+      ++ list_lines notation words units idempotents kernel (length elements)
+      ++ rows ++ tail_line notation c
 
 -- all that is said of what was found
 pub record AreFindings (c : Certificate) (f : Findings) : Type 0 where

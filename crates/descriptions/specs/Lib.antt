@@ -2,4 +2,5 @@ pub mod Invariants
 pub mod Tame
 pub mod Lines
 pub mod Rows
+pub mod Arrays
 pub mod Described

@@ -1,10 +1,12 @@
--- The lines of a description but for those of the heaps. This project's own form, after the tables of
--- Plambeck and Siegel.
-use Rattle.std.specs.Prelude.{◌≡◌, ℕ, zero, suc, ◌+◌, ◌==◌, List, [], ◌∷◌, ◌++◌, Option, Some, None, slice_index, if◌then◌else◌, codes, decimal, encode_utf8}
+-- The lines of a description but for those of the heaps, plain and for LaTeX. This project's own form,
+-- after the tables of Plambeck and Siegel.
+use Rattle.std.specs.Prelude.{◌≡◌, ℕ, zero, suc, ◌+◌, ◌==◌, List, [], ◌∷◌, ◌++◌, Option, Some, None, length, slice_index, if◌then◌else◌, codes, decimal, encode_utf8}
 use Rattle.misere_theory.specs.Certificates.{Certificate, kind_of}
 use Rattle.octal_code.specs.Text.{code_text}
 use Rattle.presentations.specs.declared.read.Relation.{Relation}
 use Rattle.relations.specs.Printed.{relations_text, words_text}
+use Rattle.relations.specs.declared.text.Notation.{Notation}
+use Rattle.relations.specs.declared.text.Notation.TheVariants.{Plain, Latex}
 
 -- a letter, behind a comma where others stand before it
 abbrev pub letter_text : ℕ → List ℕ
@@ -17,44 +19,82 @@ letters_text zero = []
 letters_text (suc n) = letters_text n ++ letter_text n
 
 -- the code, the letters and the relations
-abbrev pub head_line : Certificate → ℕ → List Relation → List ℕ
-head_line c n relations = codes "Q(" ++ code_text c.code ++ codes ") = < " ++ letters_text n
-    ++ codes " | " ++ relations_text n (codes ", ") relations ++ codes " >\n"
+abbrev pub head_line : Notation → Certificate → ℕ → List Relation → List ℕ
+head_line Plain c n relations = codes "Q(" ++ code_text c.code ++ codes ") = < " ++ letters_text n
+    ++ codes " | " ++ relations_text Plain n (codes ", ") relations ++ codes " >\n"
+head_line Latex c n relations = codes "\\begin{flushleft}\n$\\mathcal{Q}(\\mathbf{"
+    ++ code_text c.code ++ codes "})=\\langle " ++ letters_text n ++ codes "\\mid "
+    ++ relations_text Latex n (codes "$, $") relations ++ codes "\\rangle$"
 
 -- the words of the portion
-abbrev pub portion_line : ℕ → List (List ℕ) → List ℕ → List ℕ
-portion_line n words elements = codes "P = { " ++ words_text n (codes ", ") words elements
-    ++ codes " }\n"
+abbrev pub portion_line : Notation → ℕ → List (List ℕ) → List ℕ → List ℕ
+portion_line Plain n words elements =
+    codes "P = { " ++ words_text Plain n (codes ", ") words elements ++ codes " }\n"
+portion_line Latex n words elements =
+    codes "\\\\\n$\\mathcal{P}=\\{" ++ words_text Latex n (codes "$, $") words elements
+    ++ codes "\\}$"
 
--- a letter and the first heap of its element, behind a space
-abbrev pub generator_text : List ℕ → ℕ → List ℕ
-generator_text heaps letter = codes " " ++ encode_utf8 (97 + letter) ++ codes "="
+-- a letter and the first heap of its element
+abbrev pub generator_text : Notation → List ℕ → ℕ → List ℕ
+generator_text Plain heaps letter = codes " " ++ encode_utf8 (97 + letter) ++ codes "="
     ++ decimal (slice_index heaps letter)
+generator_text Latex heaps letter = codes " $" ++ encode_utf8 (97 + letter) ++ codes "=\\Phi("
+    ++ decimal (slice_index heaps letter) ++ codes ")$"
 
-abbrev pub generators_text : List ℕ → ℕ → List ℕ
-generators_text heaps zero = []
-generators_text heaps (suc n) = generators_text heaps n ++ generator_text heaps n
+abbrev pub generators_text : Notation → List ℕ → ℕ → List ℕ
+generators_text notation heaps zero = []
+generators_text notation heaps (suc n) =
+    generators_text notation heaps n ++ generator_text notation heaps n
 
-abbrev pub generators_line : List ℕ → ℕ → List ℕ
-generators_line heaps n = (codes "generators" ++ generators_text heaps n) ++ codes "\n"
+abbrev pub generators_line : Notation → List ℕ → ℕ → List ℕ
+generators_line Plain heaps n = codes "generators" ++ generators_text Plain heaps n ++ codes "\n"
+generators_line Latex heaps n = codes "\\\\\ngenerators" ++ generators_text Latex heaps n
 
 -- tame with its number, or wild
-abbrev pub tame_text : Option ℕ → List ℕ
-tame_text (Some n) = codes "tame " ++ decimal n
-tame_text None = codes "wild"
+abbrev pub tame_text : Notation → Option ℕ → List ℕ
+tame_text Plain (Some n) = codes "tame " ++ decimal n
+tame_text Latex (Some n) = codes "tame $\\mathcal{T}_{" ++ decimal n ++ codes "}$"
+tame_text notation None = codes "wild"
 
 -- how many elements there are, and how many of them are in the portion; tame or wild
-abbrev pub count_line : ℕ → ℕ → Option ℕ → List ℕ
-count_line order portion tame = codes "order " ++ decimal order ++ codes " portion "
-    ++ decimal portion ++ codes " " ++ tame_text tame ++ codes "\n"
+abbrev pub count_line : Notation → ℕ → ℕ → Option ℕ → List ℕ
+count_line Plain order portion tame = codes "order " ++ decimal order ++ codes " portion "
+    ++ decimal portion ++ codes " " ++ tame_text Plain tame ++ codes "\n"
+count_line Latex order portion tame = codes "\\\\\n$|\\mathcal{Q}|=" ++ decimal order
+    ++ codes "$, $|\\mathcal{P}|=" ++ decimal portion ++ codes "$, " ++ tame_text Latex tame
 
 -- a name, and the words of elements
-abbrev pub list_line : List ℕ → ℕ → List (List ℕ) → List ℕ → List ℕ
-list_line name n words elements = name ++ codes " " ++ words_text n (codes " ") words elements
-    ++ codes "\n"
+abbrev pub list_line : Notation → List ℕ → ℕ → List (List ℕ) → List ℕ → List ℕ
+list_line Plain name n words elements = name ++ codes " "
+    ++ words_text Plain n (codes " ") words elements ++ codes "\n"
+list_line Latex name n words elements = codes "\\\\\n" ++ name ++ codes " $"
+    ++ words_text Latex n (codes "$, $") words elements ++ codes "$"
 
 -- how the heaps repeat, or which is the last one
-abbrev pub tail_line : Certificate → List ℕ
-tail_line c = if kind_of c == 0
+abbrev pub tail_line : Notation → Certificate → List ℕ
+tail_line Plain c = if kind_of c == 0
     then codes "repeat " ++ decimal c.period ++ codes " from " ++ decimal c.start ++ codes "\n"
     else codes "heaps to " ++ decimal (kind_of c) ++ codes "\n"
+tail_line Latex c = if kind_of c == 0
+    then codes "\\noindent $\\Phi(n+" ++ decimal c.period ++ codes ")=\\Phi(n)$ for $n\\ge"
+    ++ decimal c.start ++ codes "$\n"
+    else codes "\\noindent heaps to $" ++ decimal (kind_of c) ++ codes "$\n"
+
+-- the relations, the portion, the counts and the generators
+abbrev pub front_lines : Notation → Certificate → List Relation → List (List ℕ) → List ℕ → Option ℕ
+    → List ℕ → ℕ → List ℕ
+front_lines notation c relations words portion tame heaps n =
+    head_line notation c n relations ++ portion_line notation n words portion
+    ++ count_line notation c.order (length portion) tame ++ generators_line notation heaps n
+
+-- what ends the lists
+abbrev pub lists_end : Notation → List ℕ
+lists_end Plain = []
+lists_end Latex = codes "\n\\end{flushleft}\n"
+
+-- the units, the idempotents and the kernel
+abbrev pub list_lines : Notation → List (List ℕ) → List ℕ → List ℕ → List ℕ → ℕ → List ℕ
+list_lines notation words units idempotents kernel n =
+    list_line notation (codes "units") n words units
+    ++ list_line notation (codes "idempotents") n words idempotents
+    ++ list_line notation (codes "kernel") n words kernel ++ lists_end notation

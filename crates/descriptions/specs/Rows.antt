@@ -3,6 +3,7 @@
 use Rattle.std.specs.Prelude.{◌≡◌, ℕ, zero, suc, ◌+◌, ◌-◌, ◌*◌, ◌/◌, ◌==◌, nat_le, min, List, [], ◌++◌, length, slice_index_or, if◌then◌else◌, codes, decimal}
 use Rattle.misere_theory.specs.Certificates.{Certificate, phi_at}
 use Rattle.relations.specs.Printed.{word_text}
+use Rattle.relations.specs.declared.text.Notation.TheVariants.{Plain}
 
 -- How many heaps stand in a row: the period, or its least multiple from 8 on, where that is at most
 -- 16; else 12.
@@ -17,7 +18,7 @@ spaces (suc n) = spaces n ++ codes " "
 
 -- the word of a heap, in the first n letters
 abbrev pub heap_word : Certificate → ℕ → List (List ℕ) → ℕ → List ℕ
-heap_word c n words heap = word_text n (slice_index_or words (phi_at c heap) [])
+heap_word c n words heap = word_text Plain n (slice_index_or words (phi_at c heap) [])
 
 -- a text with spaces behind it, as wide as this
 abbrev pub padded : ℕ → List ℕ → List ℕ

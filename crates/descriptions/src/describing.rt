@@ -1,23 +1,39 @@
 //! The text that describes a quotient.
-ghost use Rattle.std.specs.Prelude.{◌≡◌, ◌<◌, ◌≤◌, ◌++◌, IfOk, IfSome, IsTrue, All, codes, vec_len};
+ghost use Rattle.std.specs.Prelude.{◌≡◌, ◌<◌, ◌≤◌, IfOk, IfSome, IsTrue, All, length, vec_len};
 ghost use Rattle.std.specs.String.{string_bytes};
-ghost use Rattle.descriptions.specs.Described.{AreFindings, HasTable, IsDescription, IsInBox, IsPresentable};
-ghost use Rattle.descriptions.specs.Lines.{count_line, generators_line, head_line, list_line, portion_line, tail_line};
+ghost use Rattle.descriptions.specs.Described.{AreFindings, AreRows, HasTable, IsDescription, IsInBox, IsPresentable};
+ghost use Rattle.descriptions.specs.Lines.{front_lines, list_lines, lists_end};
 
+use crate::arrays::arrays_text;
 use crate::finding::{Findings, describe_table, find, table_of};
 use crate::lines::{count_text, generators_text, head_text, list_text, portion_text, tail_text};
 use crate::rows::rows_text;
 use allocation::Memory;
 use answers::Certified;
 use presentations::{PresFault, Presentation};
-use relations::{Form, Undescribed, presentable, relations_text, texts_spell};
-use std::alloc::Global;
+use relations::{Form, Notation, Undescribed, presentable, relations_text, texts_spell};
+use std::alloc::{AllocError, Global};
 
 /// The most exponent vectors that `present` merges.
 const LIMIT: u32 = 65536;
 
+/// What ends the lists.
+fn lists_end(notation: Notation) -> &'static str
+    ensures { result.now ≡ lists_end notation }
+{
+    match notation {
+        Notation::Plain => "",
+        Notation::Latex => "\n\\end{flushleft}\n",
+    }
+}
+
 /// The lines of the units, the idempotents and the kernel.
-fn lists_text(alloc: Global, letters: u8, findings: &Findings) -> Result<String, Memory>
+fn lists_text(
+    alloc: Global,
+    notation: Notation,
+    letters: u8,
+    findings: &Findings,
+) -> Result<String, Memory>
     requires letters { letters ≤ 26 }
     requires units { All (λ e. e < vec_len findings.now.description.words)
         findings.now.units.items }
@@ -26,24 +42,29 @@ fn lists_text(alloc: Global, letters: u8, findings: &Findings) -> Result<String,
     requires kernel { All (λ e. e < vec_len findings.now.description.words)
         findings.now.kernel.items }
     ensures { IfOk result (λ t. string_bytes t
-        ≡ list_line (codes "units") letters findings.now.description.words.items
-        findings.now.units.items
-        ++ list_line (codes "idempotents") letters findings.now.description.words.items
-        findings.now.idempotents.items
-        ++ list_line (codes "kernel") letters findings.now.description.words.items
-        findings.now.kernel.items) }
+        ≡ list_lines notation findings.now.description.words.items findings.now.units.items
+        findings.now.idempotents.items findings.now.kernel.items letters) }
 {
     let words = findings.description.words.as_slice();
-    let units = list_text(alloc, "units", letters, words, &findings.units)?;
-    let idempotents = list_text(alloc, "idempotents", letters, words, &findings.idempotents)?;
-    let kernel = list_text(alloc, "kernel", letters, words, &findings.kernel)?;
-    let text = format!(in alloc; "{units}{idempotents}{kernel}")?;
+    let units = list_text(alloc, notation, "units", letters, words, &findings.units)?;
+    let idempotents = list_text(
+        alloc,
+        notation,
+        "idempotents",
+        letters,
+        words,
+        &findings.idempotents,
+    )?;
+    let kernel = list_text(alloc, notation, "kernel", letters, words, &findings.kernel)?;
+    let end = lists_end(notation);
+    let text = format!(in alloc; "{units}{idempotents}{kernel}{end}")?;
     Ok(text)
 }
 
 /// The lines of the relations, the portion, the counts and the generators.
 fn front_text(
     alloc: Global,
+    notation: Notation,
     certified: &Certified,
     letters: u8,
     findings: &Findings,
@@ -53,51 +74,83 @@ fn front_text(
     requires portion { All (λ e. e < vec_len findings.now.description.words)
         findings.now.portion.items }
     ensures { IfOk result (λ t. string_bytes t
-        ≡ head_line certified.now letters findings.now.description.relations.items
-        ++ portion_line letters findings.now.description.words.items findings.now.portion.items
-        ++ count_line certified.now.order (vec_len findings.now.portion) findings.now.tame
-        ++ generators_line findings.now.heaps.items letters) }
+        ≡ front_lines notation certified.now findings.now.description.relations.items
+        findings.now.description.words.items findings.now.portion.items findings.now.tame
+        findings.now.heaps.items letters) }
 {
     let (cert, words) = (certified.cert(), findings.description.words.as_slice());
-    let head = head_text(alloc, cert, letters, &findings.description.relations)?;
-    let portion = portion_text(alloc, letters, words, &findings.portion)?;
-    let count = count_text(alloc, cert.order(), findings.portion.len(), findings.tame)?;
-    let generators = generators_text(alloc, &findings.heaps, letters)?;
+    let head = head_text(
+        alloc,
+        notation,
+        cert,
+        letters,
+        &findings.description.relations,
+    )?;
+    let portion = portion_text(alloc, notation, letters, words, &findings.portion)?;
+    let count = count_text(
+        alloc,
+        notation,
+        cert.order(),
+        findings.portion.len(),
+        findings.tame,
+    )?;
+    let generators = generators_text(alloc, notation, &findings.heaps, letters)?;
     let text = format!(in alloc; "{head}{portion}{count}{generators}")?;
     Ok(text)
+}
+
+/// The heaps' words in rows.
+fn heaps_text(
+    alloc: Global,
+    notation: Notation,
+    certified: &Certified,
+    letters: u8,
+    words: &[[u8; 26]],
+) -> Result<String, AllocError>
+    requires letters { letters ≤ 26 }
+    requires words { length words.now ≡ certified.now.order }
+    ensures { IfOk result
+        (λ t. AreRows notation certified.now letters words.now (string_bytes t)) }
+{
+    match notation {
+        Notation::Plain => rows_text(alloc, certified, letters, words),
+        Notation::Latex => arrays_text(alloc, certified, letters, words),
+    }
 }
 
 /// The text of what was found.
 fn findings_text(
     alloc: Global,
+    notation: Notation,
     certified: &Certified,
     findings: &Findings,
 ) -> Result<String, Memory>
     requires { AreFindings certified.now findings.now }
-    ensures { IfOk result (λ t. IsDescription certified.now (string_bytes t)) }
+    ensures { IfOk result (λ t. IsDescription notation certified.now (string_bytes t)) }
 {
     let letters = findings.description.elements.len() as u8;
     let words = findings.description.words.as_slice();
-    let front = front_text(alloc, certified, letters, findings)?;
-    let lists = lists_text(alloc, letters, findings)?;
-    let rows = rows_text(alloc, certified, letters, words)?;
-    let tail = tail_text(alloc, certified.cert())?;
+    let front = front_text(alloc, notation, certified, letters, findings)?;
+    let lists = lists_text(alloc, notation, letters, findings)?;
+    let rows = heaps_text(alloc, notation, certified, letters, words)?;
+    let tail = tail_text(alloc, notation, certified.cert())?;
     let text = format!(in alloc; "{front}{lists}{rows}{tail}")?;
     Ok(text)
 }
 
-/// The certified quotient as the literature prints it: its relations in this form, its portion,
-/// orders, generators, standard invariants, and the pretending function in words. Refuses `Letters`,
-/// `Exponents` and `Unshown` where it isn't described.
+/// The certified quotient as the literature prints it, plain or for LaTeX: its relations in this
+/// form, its portion, orders, generators, standard invariants, and the pretending function in words.
+/// Refuses `Letters`, `Exponents` and `Unshown` where it isn't described.
 pub fn description_text(
     alloc: Global,
+    notation: Notation,
     certified: &Certified,
     form: Form,
 ) -> Result<String, Undescribed>
-    ensures { IfOk result (λ t. IsDescription certified.now (string_bytes t)) }
+    ensures { IfOk result (λ t. IsDescription notation certified.now (string_bytes t)) }
 {
     let findings = find(alloc, certified, form)?;
-    let text = findings_text(alloc, certified, &findings)?;
+    let text = findings_text(alloc, notation, certified, &findings)?;
     Ok(text)
 }
 
@@ -140,7 +193,7 @@ pub fn presentable_text(
     };
     texts_spell();
     let letters = description.elements.len() as u8;
-    let text = relations_text(alloc, letters, " ", &relations)?;
+    let text = relations_text(alloc, Notation::Plain, letters, " ", &relations)?;
     if is_presented(alloc, text.as_str())? {
         Ok(Some(text))
     } else {

@@ -2,6 +2,7 @@
 //! and the pretending function in words, and the standard invariants.
 #![tactic(auto)]
 
+mod arrays;
 mod choosing;
 mod describing;
 mod finding;
@@ -11,4 +12,4 @@ mod rows;
 mod tame;
 
 pub use describing::{description_text, presentable_text};
-pub use relations::{Form, Undescribed};
+pub use relations::{Form, Notation, Undescribed};

@@ -1,12 +1,13 @@
 //! The lines of a description but for those of the heaps.
 ghost use Rattle.std.specs.Prelude.{◌≡◌, ◌<◌, ◌≤◌, IfOk, All, length};
 ghost use Rattle.std.specs.String.{string_bytes};
-ghost use Rattle.descriptions.specs.Lines.{count_line, generator_text, generators_line, head_line, letter_text, letters_text, list_line, portion_line, tail_line, tame_text};
+ghost use Rattle.misere_theory.specs.Certificates.{kind_of};
+ghost use Rattle.descriptions.specs.Lines.{count_line, generator_text, generators_line, generators_text, head_line, letter_text, letters_text, list_line, portion_line, tail_line, tame_text};
 
 use allocation::Memory;
 use certificate::Cert;
 use presentations::Relation;
-use relations::{relations_text, words_text};
+use relations::{Notation, relations_text, words_text};
 use std::alloc::{AllocError, Global};
 
 fn letter_text(alloc: Global, letter: u8) -> Result<String, AllocError>
@@ -37,23 +38,37 @@ fn letters_text(alloc: Global, letters: u8) -> Result<String, AllocError>
 /// The line of the relations.
 pub fn head_text(
     alloc: Global,
+    notation: Notation,
     cert: &Cert,
     letters: u8,
     relations: &[Relation],
 ) -> Result<String, Memory>
     requires { letters ≤ 26 }
-    ensures { IfOk result (λ t. string_bytes t ≡ head_line cert.now letters relations.now) }
+    ensures { IfOk result
+        (λ t. string_bytes t ≡ head_line notation cert.now letters relations.now) }
 {
     let code = cert.code().text(alloc)?;
     let names = letters_text(alloc, letters)?;
-    let relations = relations_text(alloc, letters, ", ", relations)?;
-    let text = format!(in alloc; "Q({code}) = < {names} | {relations} >\n")?;
-    Ok(text)
+    match notation {
+        Notation::Plain => {
+            let list = relations_text(alloc, Notation::Plain, letters, ", ", relations)?;
+            let text = format!(in alloc; "Q({code}) = < {names} | {list} >\n")?;
+            Ok(text)
+        }
+        Notation::Latex => {
+            let list = relations_text(alloc, Notation::Latex, letters, "$, $", relations)?;
+            let text = format!(in alloc;
+                "\\begin{{flushleft}}\n$\\mathcal{{Q}}(\\mathbf{{{code}}})=\\langle {names}\\mid {list}\\rangle$"
+            )?;
+            Ok(text)
+        }
+    }
 }
 
 /// The line of the portion.
 pub fn portion_text(
     alloc: Global,
+    notation: Notation,
     letters: u8,
     words: &[[u8; 26]],
     elements: &[u16],
@@ -61,16 +76,26 @@ pub fn portion_text(
     requires letters { letters ≤ 26 }
     requires elements { All (λ e. e < length words.now) elements.now }
     ensures { IfOk result
-        (λ t. string_bytes t ≡ portion_line letters words.now elements.now) }
+        (λ t. string_bytes t ≡ portion_line notation letters words.now elements.now) }
 {
-    let list = words_text(alloc, letters, ", ", words, elements)?;
-    let text = format!(in alloc; "P = {{ {list} }}\n")?;
-    Ok(text)
+    match notation {
+        Notation::Plain => {
+            let list = words_text(alloc, Notation::Plain, letters, ", ", words, elements)?;
+            let text = format!(in alloc; "P = {{ {list} }}\n")?;
+            Ok(text)
+        }
+        Notation::Latex => {
+            let list = words_text(alloc, Notation::Latex, letters, "$, $", words, elements)?;
+            let text = format!(in alloc; "\\\\\n$\\mathcal{{P}}=\\{{{list}\\}}$")?;
+            Ok(text)
+        }
+    }
 }
 
 /// A line of elements under a name.
 pub fn list_text(
     alloc: Global,
+    notation: Notation,
     name: &str,
     letters: u8,
     words: &[[u8; 26]],
@@ -79,78 +104,144 @@ pub fn list_text(
     requires letters { letters ≤ 26 }
     requires elements { All (λ e. e < length words.now) elements.now }
     ensures { IfOk result
-        (λ t. string_bytes t ≡ list_line name.now letters words.now elements.now) }
+        (λ t. string_bytes t ≡ list_line notation name.now letters words.now elements.now) }
 {
-    let list = words_text(alloc, letters, " ", words, elements)?;
-    let text = format!(in alloc; "{name} {list}\n")?;
-    Ok(text)
-}
-
-fn tame_text(alloc: Global, tame: Option<u16>) -> Result<String, AllocError>
-    ensures { IfOk result (λ t. string_bytes t ≡ tame_text tame) }
-{
-    match tame {
-        Some(n) => {
-            let text = format!(in alloc; "tame {n}")?;
+    match notation {
+        Notation::Plain => {
+            let list = words_text(alloc, Notation::Plain, letters, " ", words, elements)?;
+            let text = format!(in alloc; "{name} {list}\n")?;
             Ok(text)
         }
-        None => {
-            let text = format!(in alloc; "wild")?;
+        Notation::Latex => {
+            let list = words_text(alloc, Notation::Latex, letters, "$, $", words, elements)?;
+            let text = format!(in alloc; "\\\\\n{name} ${list}$")?;
             Ok(text)
         }
     }
+}
+
+fn tame_text(alloc: Global, notation: Notation, tame: Option<u16>) -> Result<String, AllocError>
+    ensures { IfOk result (λ t. string_bytes t ≡ tame_text notation tame) }
+{
+    let text = match (notation, tame) {
+        (Notation::Plain, Some(n)) => format!(in alloc; "tame {n}")?,
+        (Notation::Latex, Some(n)) => format!(in alloc; "tame $\\mathcal{{T}}_{{{n}}}$")?,
+        (_, None) => format!(in alloc; "wild")?,
+    };
+    Ok(text)
 }
 
 /// How many elements there are, and in the portion; tame or wild.
 pub fn count_text(
     alloc: Global,
+    notation: Notation,
     order: u16,
     portion: usize,
     tame: Option<u16>,
 ) -> Result<String, AllocError>
-    ensures { IfOk result (λ t. string_bytes t ≡ count_line order portion tame) }
+    ensures { IfOk result (λ t. string_bytes t ≡ count_line notation order portion tame) }
 {
-    let tame = tame_text(alloc, tame)?;
-    let text = format!(in alloc; "order {order} portion {portion} {tame}\n")?;
-    Ok(text)
+    let tame = tame_text(alloc, notation, tame)?;
+    match notation {
+        Notation::Plain => {
+            let text = format!(in alloc; "order {order} portion {portion} {tame}\n")?;
+            Ok(text)
+        }
+        Notation::Latex => {
+            let text = format!(in alloc;
+                "\\\\\n$|\\mathcal{{Q}}|={order}$, $|\\mathcal{{P}}|={portion}$, {tame}"
+            )?;
+            Ok(text)
+        }
+    }
 }
 
-fn generator_text(alloc: Global, heaps: &[u64], letter: u8) -> Result<String, AllocError>
+fn generator_text(
+    alloc: Global,
+    notation: Notation,
+    heaps: &[u64],
+    letter: u8,
+) -> Result<String, AllocError>
     requires letter { letter < 26 }
     requires within { letter < length heaps.now }
-    ensures { IfOk result (λ t. string_bytes t ≡ generator_text heaps.now letter) }
+    ensures { IfOk result (λ t. string_bytes t ≡ generator_text notation heaps.now letter) }
 {
     let name = (b'a' + letter) as char;
     let heap = heaps[letter as usize];
-    let text = format!(in alloc; " {name}={heap}")?;
+    let text = match notation {
+        Notation::Plain => format!(in alloc; " {name}={heap}")?,
+        Notation::Latex => format!(in alloc; " ${name}=\\Phi({heap})$")?,
+    };
+    Ok(text)
+}
+
+fn generator_texts(
+    alloc: Global,
+    notation: Notation,
+    heaps: &[u64],
+    letters: u8,
+) -> Result<String, AllocError>
+    requires letters { letters ≤ 26 }
+    requires heaps { length heaps.now ≡ letters }
+    ensures { IfOk result (λ t. string_bytes t ≡ generators_text notation heaps.now letters) }
+{
+    let mut text = String::new(alloc);
+    for letter in 0..letters {
+        let more = generator_text(alloc, notation, heaps, letter)?;
+        text.push_str(more.as_str())?;
+    }
     Ok(text)
 }
 
 /// The generators with their first heaps.
-pub fn generators_text(alloc: Global, heaps: &[u64], letters: u8) -> Result<String, AllocError>
+pub fn generators_text(
+    alloc: Global,
+    notation: Notation,
+    heaps: &[u64],
+    letters: u8,
+) -> Result<String, AllocError>
     requires letters { letters ≤ 26 }
     requires heaps { length heaps.now ≡ letters }
-    ensures { IfOk result (λ t. string_bytes t ≡ generators_line heaps.now letters) }
+    ensures { IfOk result (λ t. string_bytes t ≡ generators_line notation heaps.now letters) }
 {
-    let mut text = format!(in alloc; "generators")?;
-    for letter in 0..letters {
-        let more = generator_text(alloc, heaps, letter)?;
-        text.push_str(more.as_str())?;
-    }
-    text.push_str("\n")?;
+    let list = generator_texts(alloc, notation, heaps, letters)?;
+    let text = match notation {
+        Notation::Plain => format!(in alloc; "generators{list}\n")?,
+        Notation::Latex => format!(in alloc; "\\\\\ngenerators{list}")?,
+    };
     Ok(text)
 }
 
 /// How the heaps repeat, or the last one of which a partial certificate speaks.
-pub fn tail_text(alloc: Global, cert: &Cert) -> Result<String, AllocError>
-    ensures { IfOk result (λ t. string_bytes t ≡ tail_line cert.now) }
+pub fn tail_text(alloc: Global, notation: Notation, cert: &Cert) -> Result<String, AllocError>
+    ensures { IfOk result (λ t. string_bytes t ≡ tail_line notation cert.now) }
 {
     let last = cert.heaps();
     if last == 0 {
-        let (start, period) = (cert.start(), cert.period());
-        let text = format!(in alloc; "repeat {period} from {start}\n")?;
-        return Ok(text);
+        return repeat_text(alloc, notation, cert);
     }
-    let text = format!(in alloc; "heaps to {last}\n")?;
+    let text = match notation {
+        Notation::Plain => format!(in alloc; "heaps to {last}\n")?,
+        Notation::Latex => format!(in alloc; "\\noindent heaps to ${last}$\n")?,
+    };
     Ok(text)
+}
+
+/// How the heaps of a full certificate repeat.
+fn repeat_text(alloc: Global, notation: Notation, cert: &Cert) -> Result<String, AllocError>
+    ensures { kind_of cert.now ≡ 0 → IfOk result (λ t. string_bytes t ≡ tail_line notation cert.now) }
+{
+    let (start, period) = (cert.start(), cert.period());
+    match notation {
+        Notation::Plain => {
+            let text = format!(in alloc; "repeat {period} from {start}\n")?;
+            Ok(text)
+        }
+        Notation::Latex => {
+            let text = format!(in alloc;
+                "\\noindent $\\Phi(n+{period})=\\Phi(n)$ for $n\\ge{start}$\n"
+            )?;
+            Ok(text)
+        }
+    }
 }

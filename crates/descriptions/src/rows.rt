@@ -5,11 +5,11 @@ ghost use Rattle.misere_theory.specs.Certificates.{IsHeapOf};
 ghost use Rattle.descriptions.specs.Rows.{cell, cells, heap_word, label, last_heap, padded, row_line, row_lines, row_width, rows_text, spaces, IsRowsText};
 
 use answers::Certified;
-use relations::word_text;
+use relations::{Notation, word_text};
 use std::alloc::{AllocError, Global};
 
 /// How many heaps stand in a row.
-fn row_width(period: u64) -> u64
+pub fn row_width(period: u64) -> u64
     requires { period ≤ 1024 }
     ensures value { result ≡ row_width period }
     ensures some { 0 < result }
@@ -55,7 +55,7 @@ pub fn heap_text(
         (λ t. string_bytes t ≡ heap_word certified.now letters words.now heap) }
 {
     let element = certified.element(heap);
-    let text = word_text(alloc, letters, &words[element as usize])?;
+    let text = word_text(alloc, Notation::Plain, letters, &words[element as usize])?;
     Ok(text)
 }
 

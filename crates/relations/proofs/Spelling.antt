@@ -16,6 +16,8 @@ use Rattle.presentations.specs.Text.IsWord.{Empty, Product}
 use Rattle.presentations.specs.Text.IsRelation.{Equal}
 use Rattle.presentations.specs.Text.AreRelations.{Last, Next}
 use Rattle.presentations.specs.VectorLaws.{length-zeros, length-only, length-plus, plus-zeros, zeros-plus, plus-assoc, partial, partial-none, partial-next}
+use Rattle.relations.specs.declared.text.Notation.{Notation}
+use Rattle.relations.specs.declared.text.Notation.TheVariants.{Plain}
 use Rattle.relations.specs.Printed.{factor_text, factors_text, or_one, word_text, relation_text, more_text, relations_text, more_words, IsPrintable, ArePrintable}
 
 append-nil : (xs : List ℕ) → xs ++ [] ≡ xs
@@ -56,7 +58,7 @@ one-factor bytes letter k is =
 
 -- a printed factor is read as its letter's exponent
 factor-read : (letter k : ℕ) → letter < 26 → k ≤ 64
-    → AreFactors (factor_text letter k) (only 26 letter k)
+    → AreFactors (factor_text Plain letter k) (only 26 letter k)
 factor-read letter k lt few = elim (eqb_tells k 0) [
   | inl none ↦
       subst
@@ -141,7 +143,7 @@ partial-rest (x ∷ v) (suc n) rest =
 
 -- the factors of the first n letters are read as their exponents
 factors-read : (n : ℕ) (word : List ℕ) → n ≤ 26 → length word ≡ 26 → All (λ x. x ≤ 64) word
-    → AreFactors (factors_text n word) (partial word n 0)
+    → AreFactors (factors_text Plain n word) (partial word n 0)
 factors-read zero word le long few =
     subst (λ v. AreFactors [] v) (sym (partial-none word ∙ ap zeros long)) None
 factors-read (suc n) word le long few =
@@ -149,10 +151,10 @@ factors-read (suc n) word le long few =
     let in_word : n < length word = omega (arith, long) in
     let next : partial word n k ≡ partial word (suc n) 0 =
     partial-next word n k in_word refl ∙ ap (λ j. partial word j 0) (one n) in
-    subst (λ v. AreFactors (factors_text n word ++ factor_text n k) v)
+    subst (λ v. AreFactors (factors_text Plain n word ++ factor_text Plain n k) v)
     (subst (λ j. plus (partial word n 0) (only j n k) ≡ partial word n k) long
     (partial-plus word n k in_word) ∙ next)
-    (read-append (factors_text n word) (factor_text n k) (partial word n 0) (only 26 n k)
+    (read-append (factors_text Plain n word) (factor_text Plain n k) (partial word n 0) (only 26 n k)
     (factors-read n word (omega arith) long few)
     (factor-read n k (omega arith) (few n 0 in_word)))
   where
@@ -176,31 +178,31 @@ word-from [] v are few = subst (λ w. IsWord (49 ∷ []) w) (sym (nothing-read v
 word-from (b ∷ bytes) v are few =
     Product (b ∷ bytes) v (omega arith) record { are = are; few = few }
 
-word-read : (n : ℕ) (word : List ℕ) → n ≤ 26 → IsPrintable n word → IsWord (word_text n word) word
+word-read : (n : ℕ) (word : List ℕ) → n ≤ 26 → IsPrintable n word → IsWord (word_text Plain n word) word
 word-read n word le is =
-    word-from (factors_text n word) word
-    (subst (λ v. AreFactors (factors_text n word) v) (partial-rest word n is.rest)
+    word-from (factors_text Plain n word) word
+    (subst (λ v. AreFactors (factors_text Plain n word) v) (partial-rest word n is.rest)
     (factors-read n word le is.long is.few)) is.few
 
 relation-read : (n : ℕ) (r : Relation) → n ≤ 26 → IsPrintable n r.left → IsPrintable n r.right
-    → IsRelation (relation_text n r) r
+    → IsRelation (relation_text Plain n r) r
 relation-read n r le left right =
-    subst (λ bs. IsRelation bs r) (sym (assoc (word_text n r.left) (codes "=") (word_text n r.right)))
-    (Equal (word_text n r.left) (word_text n r.right) r (word-read n r.left le left)
+    subst (λ bs. IsRelation bs r) (sym (assoc (word_text Plain n r.left) (codes "=") (word_text Plain n r.right)))
+    (Equal (word_text Plain n r.left) (word_text Plain n r.right) r (word-read n r.left le left)
     (word-read n r.right le right))
 
 relations-read : (n : ℕ) (r : Relation) (relations : List Relation) → n ≤ 26
     → ArePrintable n (r ∷ relations)
-    → AreRelations (relation_text n r ++ more_text n (codes " ") relations) (r ∷ relations)
+    → AreRelations (relation_text Plain n r ++ more_text Plain n (codes " ") relations) (r ∷ relations)
 relations-read n r [] le are =
     let here = All-head (λ r. IsPrintable n r.left × IsPrintable n r.right) r [] are in
-    subst (λ bs. AreRelations bs (r ∷ [])) (sym (append-nil (relation_text n r)))
-    (Last (relation_text n r) r (relation-read n r le here.0 here.1))
+    subst (λ bs. AreRelations bs (r ∷ [])) (sym (append-nil (relation_text Plain n r)))
+    (Last (relation_text Plain n r) r (relation-read n r le here.0 here.1))
 relations-read n r (s ∷ relations) le are =
     let here = All-head (λ r. IsPrintable n r.left × IsPrintable n r.right) r (s ∷ relations) are in
     subst (λ bs. AreRelations bs (r ∷ s ∷ relations))
-    (ap (λ t. relation_text n r ++ t) (sym (joined (relation_text n s) (more_text n (codes " ") relations))))
-    (Next (relation_text n r) (relation_text n s ++ more_text n (codes " ") relations) r
+    (ap (λ t. relation_text Plain n r ++ t) (sym (joined (relation_text Plain n s) (more_text Plain n (codes " ") relations))))
+    (Next (relation_text Plain n r) (relation_text Plain n s ++ more_text Plain n (codes " ") relations) r
     (s ∷ relations) (relation-read n r le here.0 here.1)
     (relations-read n s relations le
     (All-tail (λ r. IsPrintable n r.left × IsPrintable n r.right) r (s ∷ relations) are)))
@@ -209,43 +211,43 @@ relations-read n r (s ∷ relations) le are =
     joined xs ys = refl
 
 -- one relation more
-pub more-push : (n : ℕ) (between : List ℕ) (relations : List Relation) (i : ℕ) (d : Relation)
+pub more-push : (notation : Notation) (n : ℕ) (between : List ℕ) (relations : List Relation) (i : ℕ) (d : Relation)
     → i < length relations
-    → more_text n between (take (i + 1) relations)
-    ≡ (more_text n between (take i relations) ++ between)
-    ++ relation_text n (slice_index_or relations i d)
-more-push n between [] i d lt = absurd (omega arith)
-more-push n between (r ∷ relations) zero d lt = append-nil (between ++ relation_text n r)
-more-push n between (r ∷ relations) (suc i) d lt =
-    let p = between ++ relation_text n r in
-    let m = more_text n between (take i relations) in
-    let x = relation_text n (slice_index_or relations i d) in
+    → more_text notation n between (take (i + 1) relations)
+    ≡ (more_text notation n between (take i relations) ++ between)
+    ++ relation_text notation n (slice_index_or relations i d)
+more-push notation n between [] i d lt = absurd (omega arith)
+more-push notation n between (r ∷ relations) zero d lt = append-nil (between ++ relation_text notation n r)
+more-push notation n between (r ∷ relations) (suc i) d lt =
+    let p = between ++ relation_text notation n r in
+    let m = more_text notation n between (take i relations) in
+    let x = relation_text notation n (slice_index_or relations i d) in
     let next : suc i + 1 ≡ suc (i + 1) = omega arith in
-    ap (λ j. more_text n between (take j (r ∷ relations))) next
-    ∙ ap (λ t. p ++ t) (more-push n between relations i d (omega arith))
+    ap (λ j. more_text notation n between (take j (r ∷ relations))) next
+    ∙ ap (λ t. p ++ t) (more-push notation n between relations i d (omega arith))
     ∙ sym (assoc p (m ++ between) x) ∙ ap (λ t. t ++ x) (sym (assoc p m between))
 
 -- one word more
-pub more-word : (n : ℕ) (between : List ℕ) (words : List (List ℕ)) (elements : List ℕ) (i : ℕ)
+pub more-word : (notation : Notation) (n : ℕ) (between : List ℕ) (words : List (List ℕ)) (elements : List ℕ) (i : ℕ)
     → i < length elements
-    → more_words n between words (take (i + 1) elements)
-    ≡ (more_words n between words (take i elements) ++ between)
-    ++ word_text n (slice_index_or words (get_or elements i 0) [])
-more-word n between words [] i lt = absurd (omega arith)
-more-word n between words (e ∷ elements) zero lt =
-    append-nil (between ++ word_text n (slice_index_or words e []))
-more-word n between words (e ∷ elements) (suc i) lt =
-    let p = between ++ word_text n (slice_index_or words e []) in
-    let m = more_words n between words (take i elements) in
-    let x = word_text n (slice_index_or words (get_or elements i 0) []) in
+    → more_words notation n between words (take (i + 1) elements)
+    ≡ (more_words notation n between words (take i elements) ++ between)
+    ++ word_text notation n (slice_index_or words (get_or elements i 0) [])
+more-word notation n between words [] i lt = absurd (omega arith)
+more-word notation n between words (e ∷ elements) zero lt =
+    append-nil (between ++ word_text notation n (slice_index_or words e []))
+more-word notation n between words (e ∷ elements) (suc i) lt =
+    let p = between ++ word_text notation n (slice_index_or words e []) in
+    let m = more_words notation n between words (take i elements) in
+    let x = word_text notation n (slice_index_or words (get_or elements i 0) []) in
     let next : suc i + 1 ≡ suc (i + 1) = omega arith in
-    ap (λ j. more_words n between words (take j (e ∷ elements))) next
-    ∙ ap (λ t. p ++ t) (more-word n between words elements i (omega arith))
+    ap (λ j. more_words notation n between words (take j (e ∷ elements))) next
+    ∙ ap (λ t. p ++ t) (more-word notation n between words elements i (omega arith))
     ∙ sym (assoc p (m ++ between) x) ∙ ap (λ t. t ++ x) (sym (assoc p m between))
 
 pub spelled : (n : ℕ) (relations : List Relation) → n ≤ 26 → 0 < length relations
     → length relations ≤ 64 → ArePrintable n relations
-    → SpellsPresentation (relations_text n (codes " ") relations) relations
+    → SpellsPresentation (relations_text Plain n (codes " ") relations) relations
 spelled n [] le some most are = absurd (omega arith)
 spelled n (r ∷ relations) le some most are =
     record { are = relations-read n r relations le are; most = most }

@@ -5,6 +5,7 @@ ghost use Rattle.misere_theory.specs.Quotients.{Monoid};
 ghost use Rattle.presentations.specs.declared.read.Relation.{Relation};
 ghost use Rattle.presentations.specs.Text.{SpellsPresentation};
 ghost use Rattle.relations.specs.Presented.{AreWords, PairsHold, Present};
+ghost use Rattle.relations.specs.declared.text.Notation.TheVariants.{Plain};
 ghost use Rattle.relations.specs.Printed.{ArePrintable, relations_text};
 
 /// Relations that hold in a monoid present it, where each element has a word such that one
@@ -25,5 +26,5 @@ pub fn texts_spell()
     ensures { (n : ℕ) (relations : List Relation) → n ≤ 26
         → 0 < length relations → length relations ≤ 64
         → ArePrintable n relations
-        → SpellsPresentation (relations_text n (codes " ") relations) relations }
+        → SpellsPresentation (relations_text Plain n (codes " ") relations) relations }
 {}

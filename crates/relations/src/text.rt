@@ -6,10 +6,24 @@ ghost use Rattle.relations.specs.Printed.{factor_text, factors_text, word_text, 
 use presentations::Relation;
 use std::alloc::{AllocError, Global};
 
+/// How exponents are written.
+#[derive(Clone, Copy, Debug, PartialEq, Eq)]
+pub enum Notation {
+    /// `a^12`, as `present` reads it.
+    Plain,
+    /// `a^{12}`, as LaTeX sets it in formulas.
+    Latex,
+}
+
 /// A letter with its exponent.
-fn factor_text(alloc: Global, letter: u8, exponent: u8) -> Result<String, AllocError>
+fn factor_text(
+    alloc: Global,
+    notation: Notation,
+    letter: u8,
+    exponent: u8,
+) -> Result<String, AllocError>
     requires { letter < 26 }
-    ensures { IfOk result (λ t. string_bytes t ≡ factor_text letter exponent) }
+    ensures { IfOk result (λ t. string_bytes t ≡ factor_text notation letter exponent) }
 {
     let name = (b'a' + letter) as char;
     if exponent == 0 {
@@ -19,29 +33,42 @@ fn factor_text(alloc: Global, letter: u8, exponent: u8) -> Result<String, AllocE
         let text = format!(in alloc; "{name}")?;
         return Ok(text);
     }
-    let text = format!(in alloc; "{name}^{exponent}")?;
+    let text = match notation {
+        Notation::Plain => format!(in alloc; "{name}^{exponent}")?,
+        Notation::Latex => format!(in alloc; "{name}^{{{exponent}}}")?,
+    };
     Ok(text)
 }
 
 /// The factors of the first letters.
-fn factors_text(alloc: Global, letters: u8, word: &[u8; 26]) -> Result<String, AllocError>
+fn factors_text(
+    alloc: Global,
+    notation: Notation,
+    letters: u8,
+    word: &[u8; 26],
+) -> Result<String, AllocError>
     requires { letters ≤ 26 }
-    ensures { IfOk result (λ t. string_bytes t ≡ factors_text letters word.now) }
+    ensures { IfOk result (λ t. string_bytes t ≡ factors_text notation letters word.now) }
 {
     let mut text = String::new(alloc);
     for letter in 0..letters {
-        let factor = factor_text(alloc, letter, word[letter as usize])?;
+        let factor = factor_text(alloc, notation, letter, word[letter as usize])?;
         text.push_str(factor.as_str())?;
     }
     Ok(text)
 }
 
-/// A word in the first letters, as `present` reads it.
-pub fn word_text(alloc: Global, letters: u8, word: &[u8; 26]) -> Result<String, AllocError>
+/// A word in the first letters.
+pub fn word_text(
+    alloc: Global,
+    notation: Notation,
+    letters: u8,
+    word: &[u8; 26],
+) -> Result<String, AllocError>
     requires { letters ≤ 26 }
-    ensures { IfOk result (λ t. string_bytes t ≡ word_text letters word.now) }
+    ensures { IfOk result (λ t. string_bytes t ≡ word_text notation letters word.now) }
 {
-    let text = factors_text(alloc, letters, word)?;
+    let text = factors_text(alloc, notation, letters, word)?;
     if text.len() == 0 {
         let one = format!(in alloc; "1")?;
         return Ok(one);
@@ -49,14 +76,19 @@ pub fn word_text(alloc: Global, letters: u8, word: &[u8; 26]) -> Result<String, 
     Ok(text)
 }
 
-/// A relation between words in the first letters, as `present` reads it.
-pub fn relation_text(alloc: Global, letters: u8, r: &Relation) -> Result<String, AllocError>
+/// A relation between words in the first letters.
+pub fn relation_text(
+    alloc: Global,
+    notation: Notation,
+    letters: u8,
+    r: &Relation,
+) -> Result<String, AllocError>
     requires { letters ≤ 26 }
-    ensures { IfOk result (λ t. string_bytes t ≡ relation_text letters r.now) }
+    ensures { IfOk result (λ t. string_bytes t ≡ relation_text notation letters r.now) }
 {
     let (left, right) = (
-        word_text(alloc, letters, &r.left)?,
-        word_text(alloc, letters, &r.right)?,
+        word_text(alloc, notation, letters, &r.left)?,
+        word_text(alloc, notation, letters, &r.right)?,
     );
     let text = format!(in alloc; "{left}={right}")?;
     Ok(text)
@@ -65,16 +97,17 @@ pub fn relation_text(alloc: Global, letters: u8, r: &Relation) -> Result<String,
 /// A text before each relation.
 fn more_text(
     alloc: Global,
+    notation: Notation,
     letters: u8,
     between: &str,
     relations: &[Relation],
 ) -> Result<String, AllocError>
     requires { letters ≤ 26 }
-    ensures { IfOk result (λ t. string_bytes t ≡ more_text letters between.now relations.now) }
+    ensures { IfOk result (λ t. string_bytes t ≡ more_text notation letters between.now relations.now) }
 {
     let mut text = String::new(alloc);
     for relation in relations {
-        let line = relation_text(alloc, letters, relation)?;
+        let line = relation_text(alloc, notation, letters, relation)?;
         text.push_str(between)?;
         text.push_str(line.as_str())?;
     }
@@ -84,18 +117,19 @@ fn more_text(
 /// Relations between words in the first letters, with a text between each two.
 pub fn relations_text(
     alloc: Global,
+    notation: Notation,
     letters: u8,
     between: &str,
     relations: &[Relation],
 ) -> Result<String, AllocError>
     requires { letters ≤ 26 }
-    ensures { IfOk result (λ t. string_bytes t ≡ relations_text letters between.now relations.now) }
+    ensures { IfOk result (λ t. string_bytes t ≡ relations_text notation letters between.now relations.now) }
 {
     if relations.len() == 0 {
         return Ok(String::new(alloc));
     }
-    let mut text = relation_text(alloc, letters, &relations[0])?;
-    let more = more_text(alloc, letters, between, &relations[1..])?;
+    let mut text = relation_text(alloc, notation, letters, &relations[0])?;
+    let more = more_text(alloc, notation, letters, between, &relations[1..])?;
     text.push_str(more.as_str())?;
     Ok(text)
 }
@@ -103,6 +137,7 @@ pub fn relations_text(
 /// A text before the word of each element.
 fn more_words(
     alloc: Global,
+    notation: Notation,
     letters: u8,
     between: &str,
     words: &[[u8; 26]],
@@ -111,11 +146,11 @@ fn more_words(
     requires letters { letters ≤ 26 }
     requires elements { All (λ e. e < length words.now) elements.now }
     ensures { IfOk result
-        (λ t. string_bytes t ≡ more_words letters between.now words.now elements.now) }
+        (λ t. string_bytes t ≡ more_words notation letters between.now words.now elements.now) }
 {
     let mut text = String::new(alloc);
     for element in elements {
-        let word = element_text(alloc, letters, words, *element)?;
+        let word = element_text(alloc, notation, letters, words, *element)?;
         text.push_str(between)?;
         text.push_str(word.as_str())?;
     }
@@ -125,6 +160,7 @@ fn more_words(
 /// The word of an element.
 fn element_text(
     alloc: Global,
+    notation: Notation,
     letters: u8,
     words: &[[u8; 26]],
     element: u16,
@@ -132,15 +168,16 @@ fn element_text(
     requires letters { letters ≤ 26 }
     requires element_in { element < length words.now }
     ensures { IfOk result
-        (λ t. string_bytes t ≡ word_text letters (slice_index_or words.now element [])) }
+        (λ t. string_bytes t ≡ word_text notation letters (slice_index_or words.now element [])) }
 {
-    let text = word_text(alloc, letters, &words[element as usize])?;
+    let text = word_text(alloc, notation, letters, &words[element as usize])?;
     Ok(text)
 }
 
 /// The words of elements, with a text between each two.
 pub fn words_text(
     alloc: Global,
+    notation: Notation,
     letters: u8,
     between: &str,
     words: &[[u8; 26]],
@@ -149,13 +186,13 @@ pub fn words_text(
     requires letters { letters ≤ 26 }
     requires elements { All (λ e. e < length words.now) elements.now }
     ensures { IfOk result
-        (λ t. string_bytes t ≡ words_text letters between.now words.now elements.now) }
+        (λ t. string_bytes t ≡ words_text notation letters between.now words.now elements.now) }
 {
     if elements.len() == 0 {
         return Ok(String::new(alloc));
     }
-    let mut text = element_text(alloc, letters, words, elements[0])?;
-    let more = more_words(alloc, letters, between, words, &elements[1..])?;
+    let mut text = element_text(alloc, notation, letters, words, elements[0])?;
+    let more = more_words(alloc, notation, letters, between, words, &elements[1..])?;
     text.push_str(more.as_str())?;
     Ok(text)
 }

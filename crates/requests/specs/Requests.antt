@@ -1,7 +1,8 @@
 -- What can be asked of the program, with texts as lists of codes. This project's own.
-use Rattle.std.specs.Prelude.{ℕ, List, Option, option_map}
+use Rattle.std.specs.Prelude.{ℕ, Bool, List, Option, option_map}
 use Rattle.requests.specs.declared.plans.CatalogueTask.{CatalogueTask}
 use Rattle.requests.specs.declared.plans.CatalogueTask.TheVariants as task
+use Rattle.requests.specs.declared.plans.Output.{Output}
 use Rattle.requests.specs.declared.plans.Plan.{Plan}
 use Rattle.requests.specs.declared.plans.Plan.TheVariants as plan
 
@@ -24,6 +25,7 @@ pub data Request : Type 0 where
   Check : Option (List ℕ) → ℕ → Request
   Solve : List ℕ → ℕ → ℕ → ℕ → ℕ → Request
   Show : List ℕ → Request
+  Describe : List ℕ → Output → Bool → Request
   Play : List ℕ → List ℕ → Request
   Present : List ℕ → Request
   Catalogue : List ℕ → CatalogueRequest → Request
@@ -44,6 +46,7 @@ abbrev pub request_of : Plan → Request
 request_of (plan.Check file limit) = Check (option_map (λ f. f.now) file) limit
 request_of (plan.Solve code limit rounds heaps order) = Solve code.now limit rounds heaps order
 request_of (plan.Show file) = Show file.now
+request_of (plan.Describe file output basis) = Describe file.now output basis
 request_of (plan.Play file position) = Play file.now position.now
 request_of (plan.Present text) = Present text.now
 request_of (plan.Catalogue file asked) = Catalogue file.now (catalogue_request_of asked)

@@ -3,4 +3,4 @@
 
 mod plans;
 
-pub use plans::{CatalogueTask, DEFAULT_LIMIT, Plan};
+pub use plans::{CatalogueTask, DEFAULT_LIMIT, Output, Plan};

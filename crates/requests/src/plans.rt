@@ -25,6 +25,13 @@ pub enum Plan<'a> {
     Show {
         file: &'a str,
     },
+    /// Describe the quotient that the file certifies, by the reduced basis of its relations or else
+    /// by a short list.
+    Describe {
+        file: &'a str,
+        output: Output,
+        basis: bool,
+    },
     /// Answer in a position by the quotient that the file certifies.
     Play {
         file: &'a str,
@@ -43,6 +50,17 @@ pub enum Plan<'a> {
     Desk {
         script: &'a str,
     },
+}
+
+/// What is printed of a quotient that is described.
+#[derive(Clone, Copy, Debug, PartialEq, Eq)]
+pub enum Output {
+    /// The whole description.
+    Description,
+    /// The same for LaTeX.
+    Latex,
+    /// Its relations alone, as one word that `present` takes.
+    Relations,
 }
 
 /// What is asked of a catalogue.

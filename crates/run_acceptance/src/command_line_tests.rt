@@ -1,8 +1,8 @@
 //! Command lines, what they ask for and what is told of them.
 use crate::rows::{Row, count_held};
 use crate::words::line_words;
-use command_line::{Quantity, UsageFault, VERSION, plan};
-use requests::{CatalogueTask, Plan};
+use command_line::{Exclusion, Quantity, UsageFault, VERSION, plan};
+use requests::{CatalogueTask, Output, Plan};
 use std::alloc::Global;
 
 /// What words ask for.
@@ -12,12 +12,14 @@ enum Asked {
     Search(u32, u32, u32, u32),
     /// A task on the catalogue x.json.
     Task(CatalogueTask<'static>),
+    /// A description of the certificate in a.mqc, and whether by the reduced basis.
+    Description(Output, bool),
 }
 
 /// Why words ask for nothing; of a help a part of its text.
 enum Why {
     Number(Quantity),
-    Exclusive,
+    Exclusive(Exclusion),
     Incomplete,
     Words,
     Help(&'static str),
@@ -37,6 +39,11 @@ fn plan_of(asked: &Asked) -> Plan<'static> {
         Asked::Task(task) => Plan::Catalogue {
             file: "x.json",
             task: *task,
+        },
+        Asked::Description(output, basis) => Plan::Describe {
+            file: "a.mqc",
+            output: *output,
+            basis: *basis,
         },
     }
 }
@@ -61,7 +68,7 @@ impl Row for Asks {
     }
 }
 
-static ASKED: [Asks; 29] = [
+static ASKED: [Asks; 35] = [
     Asks(
         "check",
         Asked::Plan(Plan::Check {
@@ -98,6 +105,30 @@ static ASKED: [Asks; 29] = [
         }),
     ),
     Asks("show|a.mqc", Asked::Plan(Plan::Show { file: "a.mqc" })),
+    Asks(
+        "describe|a.mqc",
+        Asked::Description(Output::Description, false),
+    ),
+    Asks(
+        "describe|a.mqc|--latex",
+        Asked::Description(Output::Latex, false),
+    ),
+    Asks(
+        "describe|--relations|a.mqc",
+        Asked::Description(Output::Relations, false),
+    ),
+    Asks(
+        "describe|a.mqc|--basis",
+        Asked::Description(Output::Description, true),
+    ),
+    Asks(
+        "describe|a.mqc|--basis|--latex",
+        Asked::Description(Output::Latex, true),
+    ),
+    Asks(
+        "describe|--relations|--basis|a.mqc",
+        Asked::Description(Output::Relations, true),
+    ),
     Asks("desk|x.txt", Asked::Plan(Plan::Desk { script: "x.txt" })),
     Asks(
         "play|a.mqc|1 2 2",
@@ -184,7 +215,7 @@ static ASKED: [Asks; 29] = [
 
 #[test]
 fn asks_for_plans(rt: HostRuntime) {
-    assert!(rt; count_held(rt.alloc(), &ASKED) == 29);
+    assert!(rt; count_held(rt.alloc(), &ASKED) == 35);
 }
 
 /// Whether the fault has this status, and a text with this part.
@@ -196,7 +227,7 @@ fn has_text(fault: &UsageFault, status: u8, part: &str) -> bool {
 fn is_why(fault: &UsageFault, why: &Why) -> bool {
     match (why, fault) {
         (Why::Number(wanted), UsageFault::Number(quantity)) => quantity == wanted,
-        (Why::Exclusive, UsageFault::Exclusive) => true,
+        (Why::Exclusive(wanted), UsageFault::Exclusive(exclusion)) => exclusion == wanted,
         (Why::Incomplete, UsageFault::Incomplete) => true,
         (Why::Words, UsageFault::Words(_)) => fault.status() == 2 && fault.text().len() > 0,
         (Why::Help(part), UsageFault::Help(_)) => has_text(fault, 0, part),
@@ -224,7 +255,7 @@ impl Row for Refuses {
     }
 }
 
-static REFUSED: [Refuses; 86] = [
+static REFUSED: [Refuses; 106] = [
     Refuses("check|--limit|0", Why::Number(Quantity::Limit)),
     Refuses("check|--limit|1000001", Why::Number(Quantity::Limit)),
     Refuses("check|--limit|08", Why::Number(Quantity::Limit)),
@@ -239,15 +270,15 @@ static REFUSED: [Refuses; 86] = [
     Refuses("solve|0.3|--heaps|65", Why::Number(Quantity::Heaps)),
     Refuses("solve|0.3|--order|1", Why::Number(Quantity::Order)),
     Refuses("solve|0.3|--order|257", Why::Number(Quantity::Order)),
-    Refuses("catalogue|x.json|--get|0.3|--new", Why::Exclusive),
-    Refuses("catalogue|x.json|--get|0.3|--add|a.mqc", Why::Exclusive),
+    Refuses("catalogue|x.json|--get|0.3|--new", Why::Exclusive(Exclusion::Catalogue)),
+    Refuses("catalogue|x.json|--get|0.3|--add|a.mqc", Why::Exclusive(Exclusion::Catalogue)),
     Refuses(
         "catalogue|x.json|--new|--get|0.3|--add|a.mqc",
-        Why::Exclusive,
+        Why::Exclusive(Exclusion::Catalogue),
     ),
-    Refuses("catalogue|x.json|--salvage|--new", Why::Exclusive),
-    Refuses("catalogue|x.json|--salvage|--add|a.mqc", Why::Exclusive),
-    Refuses("catalogue|x.json|--salvage|--get|0.3", Why::Exclusive),
+    Refuses("catalogue|x.json|--salvage|--new", Why::Exclusive(Exclusion::Catalogue)),
+    Refuses("catalogue|x.json|--salvage|--add|a.mqc", Why::Exclusive(Exclusion::Catalogue)),
+    Refuses("catalogue|x.json|--salvage|--get|0.3", Why::Exclusive(Exclusion::Catalogue)),
     Refuses(
         "catalogue|x.json|--get|0.3|--heaps|1025",
         Why::Number(Quantity::Part),
@@ -260,15 +291,65 @@ static REFUSED: [Refuses; 86] = [
         "catalogue|x.json|--get|0.3|--heaps|x",
         Why::Number(Quantity::Part),
     ),
-    Refuses("catalogue|x.json|--heaps|2", Why::Exclusive),
-    Refuses("catalogue|x.json|--new|--heaps|2", Why::Exclusive),
-    Refuses("catalogue|x.json|--add|a.mqc|--heaps|2", Why::Exclusive),
-    Refuses("catalogue|x.json|--salvage|--heaps|2", Why::Exclusive),
-    Refuses("catalogue|x.json|--migrate|--heaps|2", Why::Exclusive),
-    Refuses("catalogue|x.json|--migrate|--new", Why::Exclusive),
-    Refuses("catalogue|x.json|--migrate|--add|a.mqc", Why::Exclusive),
-    Refuses("catalogue|x.json|--migrate|--get|0.3", Why::Exclusive),
-    Refuses("catalogue|x.json|--migrate|--salvage", Why::Exclusive),
+    Refuses("catalogue|x.json|--heaps|2", Why::Exclusive(Exclusion::Catalogue)),
+    Refuses("catalogue|x.json|--new|--heaps|2", Why::Exclusive(Exclusion::Catalogue)),
+    Refuses("catalogue|x.json|--add|a.mqc|--heaps|2", Why::Exclusive(Exclusion::Catalogue)),
+    Refuses("catalogue|x.json|--salvage|--heaps|2", Why::Exclusive(Exclusion::Catalogue)),
+    Refuses("catalogue|x.json|--migrate|--heaps|2", Why::Exclusive(Exclusion::Catalogue)),
+    Refuses("catalogue|x.json|--migrate|--new", Why::Exclusive(Exclusion::Catalogue)),
+    Refuses("catalogue|x.json|--migrate|--add|a.mqc", Why::Exclusive(Exclusion::Catalogue)),
+    Refuses("catalogue|x.json|--migrate|--get|0.3", Why::Exclusive(Exclusion::Catalogue)),
+    Refuses("catalogue|x.json|--migrate|--salvage", Why::Exclusive(Exclusion::Catalogue)),
+    Refuses(
+        "describe|a.mqc|--latex|--relations",
+        Why::Exclusive(Exclusion::Description),
+    ),
+    Refuses(
+        "describe|--relations|--basis|--latex|a.mqc",
+        Why::Exclusive(Exclusion::Description),
+    ),
+    Refuses("describe", Why::Words),
+    Refuses("describe|a.mqc|b.mqc", Why::Words),
+    Refuses("describe|a.mqc|--basis|--basis", Why::Words),
+    Refuses("describe|a.mqc|--latex=1", Why::Words),
+    Refuses("show|a.mqc|--latex", Why::Words),
+    Refuses("--help", Why::Help("  describe ")),
+    Refuses("describe|--help", Why::Help("<FILE>")),
+    Refuses("describe|--help", Why::Help("--latex")),
+    Refuses("describe|--help", Why::Help("--basis")),
+    Refuses("describe|--help", Why::Help("--relations")),
+    Refuses(
+        "check|--help",
+        Why::Help("Check a certificate, and print the verdict"),
+    ),
+    Refuses(
+        "solve|--help",
+        Why::Help("Look for the misère quotient of a code, and print its certificate"),
+    ),
+    Refuses(
+        "show|--help",
+        Why::Help("Check a certificate, and print the quotient that it certifies"),
+    ),
+    Refuses(
+        "describe|--help",
+        Why::Help("Check a certificate, and print its quotient by generators and relations"),
+    ),
+    Refuses(
+        "play|--help",
+        Why::Help("Check a certificate, and print a winning move in a position"),
+    ),
+    Refuses(
+        "present|--help",
+        Why::Help("Print the table of the commutative monoid that relations present"),
+    ),
+    Refuses(
+        "catalogue|--help",
+        Why::Help("List the certificates in a catalogue, print one, or add to them"),
+    ),
+    Refuses(
+        "desk|--help",
+        Why::Help("Take the steps of a script, many checks at one desk, and print a line for each"),
+    ),
     Refuses("bogus", Why::Words),
     Refuses("catalogue|x.json|--heaps", Why::Words),
     Refuses("catalogue|x.json|--migrate=1", Why::Words),
@@ -335,7 +416,7 @@ fn is_incomplete(alloc: Global) -> bool {
 
 #[test]
 fn tells_why_words_ask_for_nothing(rt: HostRuntime) {
-    assert!(rt; count_held(rt.alloc(), &REFUSED) == 86);
+    assert!(rt; count_held(rt.alloc(), &REFUSED) == 106);
     assert!(rt; is_incomplete(rt.alloc()));
 }
 

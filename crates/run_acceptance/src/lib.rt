@@ -13,6 +13,7 @@ mod certificates;
 #[cfg(test)]
 mod command_line_tests;
 #[cfg(test)]
+mod describe_command_tests;
 mod desk_command_tests;
 #[cfg(test)]
 mod files;

@@ -57,7 +57,7 @@ fn run_words<F: Folder, S: Source, W: Sink, E: Sink>(
         Err(UsageFault::Memory) => refuse(&UsageFault::Memory, err),
         Err(UsageFault::Words(text)) => refuse(&UsageFault::Words(text), err),
         Err(UsageFault::Number(quantity)) => refuse(&UsageFault::Number(quantity), err),
-        Err(UsageFault::Exclusive) => refuse(&UsageFault::Exclusive, err),
+        Err(UsageFault::Exclusive(exclusion)) => refuse(&UsageFault::Exclusive(exclusion), err),
         Err(UsageFault::Incomplete) => refuse(&UsageFault::Incomplete, err),
     }
 }

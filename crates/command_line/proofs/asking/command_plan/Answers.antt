@@ -8,7 +8,7 @@ use Rattle.clap.specs.Words.{Row, Text, found_of, rows_of}
 use Rattle.command_line.specs.Plans.{HasNumbersWithin}
 use Rattle.command_line.specs.Refusals.{Answers, IsMistakeIn, IsMistakeOf, conflicts_in}
 use Rattle.command_line.specs.Requests.{Asking, arguments_of, command_named, request_in}
-use Rattle.command_line.specs.Requests.{check, solve, show, play, present, catalogue, desk}
+use Rattle.command_line.specs.Requests.{check, solve, show, describe, play, present, catalogue, desk}
 use Rattle.requests.specs.Requests.{request_of}
 use Rattle.requests.specs.declared.plans.Plan.{Plan}
 use Rattle.command_line.specs.declared.faults.UsageFault.{UsageFault}
@@ -30,17 +30,18 @@ passed false x rest e r = r
 
 -- a name that is none of the commands' names no command
 unnamed : (name : Text) → (name ≡ codes "check" → ⊥) → (name ≡ codes "solve" → ⊥)
-    → (name ≡ codes "show" → ⊥) → (name ≡ codes "play" → ⊥)
+    → (name ≡ codes "show" → ⊥) → (name ≡ codes "describe" → ⊥) → (name ≡ codes "play" → ⊥)
     → (name ≡ codes "present" → ⊥) → (name ≡ codes "catalogue" → ⊥)
     → (name ≡ codes "desk" → ⊥) → command_named name ≡ None
-unnamed name check solve show play present catalogue desk =
+unnamed name check solve show describe play present catalogue desk =
     passed _ _ _ (other name (codes "check") check)
     (passed _ _ _ (other name (codes "solve") solve)
     (passed _ _ _ (other name (codes "show") show)
+    (passed _ _ _ (other name (codes "describe") describe)
     (passed _ _ _ (other name (codes "play") play)
     (passed _ _ _ (other name (codes "present") present)
     (passed _ _ _ (other name (codes "catalogue") catalogue)
-    (passed _ _ _ (other name (codes "desk") desk) refl))))))
+    (passed _ _ _ (other name (codes "desk") desk) refl)))))))
 
 -- what the command of the name answers
 module _ (name : Text) (rows : List Row) (command : Asking) (is : command_named name ≡ Some command)
@@ -111,6 +112,19 @@ returns-in-show c =
       fault = mistake name rows show is plan c.show_plan.ensures;
     }
 
+pub returns-in-describe : goal.returns-in-describe
+returns-in-describe c =
+    let name = c.args.name.now in
+    let rows = arguments_of c.args.given.now in
+    let plan = c.describe_plan.result in
+    let is : command_named name ≡ Some describe = ap command_named c.in-describe.is in record {
+      asked = asked name rows describe is plan c.describe_plan.ensures;
+      numbers = numbers name rows describe is plan c.describe_plan.ensures;
+      apart = apart name rows describe is plan c.describe_plan.ensures;
+      nothing = nothing name rows describe is plan c.describe_plan.ensures;
+      fault = mistake name rows describe is plan c.describe_plan.ensures;
+    }
+
 pub returns-in-play : goal.returns-in-play
 returns-in-play c =
     let name = c.args.name.now in
@@ -167,13 +181,13 @@ pub returns-in_default-clause-nothing : goal.returns-in_default-clause-nothing
 returns-in_default-clause-nothing c =
     ap (option_and_then (λ (a : Asking). a.request (rows_of (found_of c.args.given.now))))
     (unnamed c.args.name.now c.in_default.not-check c.in_default.not-solve c.in_default.not-show
-    c.in_default.not-play c.in_default.not-present
+    c.in_default.not-describe c.in_default.not-play c.in_default.not-present
     c.in_default.not-catalogue c.in_default.not-desk)
 
 pub returns-in_default-clause-fault : goal.returns-in_default-clause-fault
 returns-in_default-clause-fault c =
     subst (λ (a : Option Asking). IsMistakeOf a (rows_of (found_of c.args.given.now)) Incomplete)
     (sym (unnamed c.args.name.now c.in_default.not-check c.in_default.not-solve
-    c.in_default.not-show c.in_default.not-play
+    c.in_default.not-show c.in_default.not-describe c.in_default.not-play
     c.in_default.not-present c.in_default.not-catalogue
     c.in_default.not-desk)) refl

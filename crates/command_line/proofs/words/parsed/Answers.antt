@@ -26,7 +26,7 @@ tells words kind Memory among own = tt
 tells words kind (Help text) among own = (kind, among, own)
 tells words kind (Words text) among own = (kind, among, own)
 tells words kind (Number quantity) among own = absurd own
-tells words kind Exclusive among own = absurd own
+tells words kind (Exclusive which) among own = absurd own
 tells words kind Incomplete among own = absurd own
 
 pub returns-in-Err-clause-nothing : goal.returns-in-Err-clause-nothing

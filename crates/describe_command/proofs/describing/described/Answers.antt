@@ -8,7 +8,7 @@ use Rattle.describe_command.proofs.describing.described.Goals as goal
 pub returns-in-Ok : goal.returns-in-Ok
 returns-in-Ok c =
     inl (
-      subst (IsDescription c.args.certified.now) (sym c.done.ensures.text) c.in-Ok.ensures,
+      subst (IsDescription c.args.notation c.args.certified.now) (sym c.done.ensures.text) c.in-Ok.ensures,
       c.done.ensures.well,
     )
 

@@ -10,7 +10,7 @@ use Rattle.describe_command.proofs.describing.presented.Goals as goal
 pub returns-in-Ok-None : goal.returns-in-Ok-None
 returns-in-Ok-None c =
     IfOk-weaker _ _ _
-    (λ (s : Said) (h : (s.text.items ≡ codes "not described: above the bounds of present\n")
+    (λ (s : Said) (h : (s.text.items ≡ codes "not described within the bounds of present\n")
     × (s.well ≡ false)). inr (inr h.0, h.1)) c.refuse.ensures
 
 pub returns-in-Err : goal.returns-in-Err

@@ -7,6 +7,7 @@ use Rattle.presentations.specs.declared.read.Relation.{Relation}
 use Rattle.presentations.specs.Text.{SpellsPresentation}
 use Rattle.relations.specs.Presented.{ArePresentation}
 use Rattle.relations.specs.Printed.{ArePrintable, relations_text}
+use Rattle.relations.specs.declared.text.Notation.TheVariants.{Plain}
 use Rattle.descriptions.proofs.describing.presentable_text.Goals as goal
 
 pub returns-then-branch : goal.returns-then-branch
@@ -25,12 +26,12 @@ returns-then-branch c =
     in
     let some : 0 < vec_len r = rw c.in-Some.is at found.some in
     let few : vec_len r ≤ 64 = rw c.in-Some.is at found.few in
-    let text_is : string_bytes c.in_ok-text.text ≡ relations_text n (codes " ") r.items =
+    let text_is : string_bytes c.in_ok-text.text ≡ relations_text Plain n (codes " ") r.items =
     c.in_ok-text.ensures
-    ∙ ap₂ (λ (m : ℕ) (rs : List Relation). relations_text m (codes " ") rs) n_is
+    ∙ ap₂ (λ (m : ℕ) (rs : List Relation). relations_text Plain m (codes " ") rs) n_is
     c.deref.ensures.value
     in
-    let spelled : SpellsPresentation (relations_text n (codes " ") r.items) r.items =
+    let spelled : SpellsPresentation (relations_text Plain n (codes " ") r.items) r.items =
     c.texts_spell.ensures n r.items c.in_ok-description.ensures.describes.letters
     (omega (arith, some, r.ok.0)) (omega (arith, few, r.ok.0))
     (subst (λ (m : ℕ). ArePrintable m r.items) vec_is printable)

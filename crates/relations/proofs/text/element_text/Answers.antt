@@ -6,5 +6,5 @@ use Rattle.relations.proofs.text.element_text.Goals as goal
 pub returns : goal.returns
 returns c =
     c.in_ok-text.ensures
-    ∙ ap (word_text c.args.letters)
+    ∙ ap (word_text c.args.notation c.args.letters)
     (any-default c.args.words.now c.args.element _ [] c.requires.element_in)

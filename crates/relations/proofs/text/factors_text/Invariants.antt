@@ -4,4 +4,4 @@ use Rattle.relations.specs.Printed.{factors_text}
 use Rattle.relations.proofs.text.factors_text.Given as goal
 
 abbrev pub invariant-loop-letter : goal.invariant-loop-letter
-invariant-loop-letter l = string_bytes l.text ≡ factors_text l.letter l.word
+invariant-loop-letter l = string_bytes l.text ≡ factors_text l.notation l.letter l.word

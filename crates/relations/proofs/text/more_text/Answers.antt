@@ -8,5 +8,5 @@ loop-relation-preserved c =
     ∙ ap₂ (λ s t. s ++ t)
     (c.in_ok-push_str.ensures.bytes ∙ ap (λ s. s ++ c.args.between.now) c.loop-relation.invariant)
     (c.as_str.ensures.value ∙ c.in_ok-line.ensures)
-    ∙ sym (more-push c.args.letters c.args.between.now c.args.relations.now
+    ∙ sym (more-push c.args.notation c.args.letters c.args.between.now c.args.relations.now
     c.loop-relation.relation-index _ c.loop-relation-test.true)

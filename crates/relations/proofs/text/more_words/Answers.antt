@@ -8,5 +8,5 @@ loop-element-preserved c =
     ∙ ap₂ (λ s t. s ++ t)
     (c.in_ok-push_str.ensures.bytes ∙ ap (λ s. s ++ c.args.between.now) c.loop-element.invariant)
     (c.as_str.ensures.value ∙ c.in_ok-word.ensures)
-    ∙ sym (more-word c.args.letters c.args.between.now c.args.words.now c.args.elements.now
+    ∙ sym (more-word c.args.notation c.args.letters c.args.between.now c.args.words.now c.args.elements.now
     c.loop-element.element-index c.loop-element-test.true)

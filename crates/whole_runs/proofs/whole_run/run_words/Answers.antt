@@ -40,11 +40,12 @@ returns-in-Err-Number-clause-ends g c =
 
 pub returns-in-Err-Exclusive-clause-ends : goal.returns-in-Err-Exclusive-clause-ends
 returns-in-Err-Exclusive-clause-ends g c =
-    Refused Exclusive refl
+    Refused (Exclusive c.in-Err-Exclusive.exclusion) refl
     (known_as (map (λ (w : Bor (List ℕ)). w.now) c.args.words.now) c.in-Err-Exclusive.field-0
-    Exclusive c.in-Err-Exclusive.field-0-is c.in-Err-Exclusive.ensures.fault)
+    (Exclusive c.in-Err-Exclusive.exclusion) c.in-Err-Exclusive.field-0-is
+    c.in-Err-Exclusive.ensures.fault)
     (no_request (map (λ (w : Bor (List ℕ)). w.now) c.args.words.now) c.in-Err-Exclusive.field-0
-    Exclusive c.in-Err-Exclusive.field-0-is (λ e. omega (arith, e))
+    (Exclusive c.in-Err-Exclusive.exclusion) c.in-Err-Exclusive.field-0-is (λ e. omega (arith, e))
     c.in-Err-Exclusive.ensures.nothing)
     refl (search rules, refl, search rules)
 
