@@ -19,7 +19,7 @@ fn guessed(alloc: Global, text: &[u8], heaps: usize) -> Option<(usize, usize, us
     let Ok(code) = Code::read(text) else {
         return None;
     };
-    match Solver::new(alloc, heaps).solve(&code) {
+    match Solver::new(alloc, heaps, 256).solve(&code) {
         Ok(Some(guess)) => numbers_of(&guess),
         _ => None,
     }
@@ -70,7 +70,7 @@ fn learns(alloc: Global, solver: &mut Solver, text: &[u8]) -> bool {
 
 /// What holds of a solver that learns of a position where its guess is wrong.
 fn gives_up(alloc: Global) -> [bool; 4] {
-    let mut solver = Solver::new(alloc, 8);
+    let mut solver = Solver::new(alloc, 8, 256);
     [
         guesses(&mut solver, b"0.33") == Some(true),
         learns(alloc, &mut solver, b"1 2"),
@@ -89,7 +89,7 @@ pub fn is_of_eight<A: Room + Copy>(alloc: A) -> Result<bool, u8> {
     let Ok(code) = Code::read(b"0.75") else {
         return Err(0);
     };
-    match Solver::new(alloc, 64).solve(&code) {
+    match Solver::new(alloc, 64, 256).solve(&code) {
         Ok(Some(guess)) => Ok(guess.order == 8),
         Ok(None) => Ok(false),
         Err(memory) => Err(memory.number()),

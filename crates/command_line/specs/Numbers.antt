@@ -6,7 +6,7 @@ use Rattle.std.specs.Str.Parse.{digits_value}
 use Rattle.clap.specs.Words.{Row, Text, first_of}
 use Rattle.command_line.specs.declared.numbers.Bounds.{Bounds}
 use Rattle.command_line.specs.declared.numbers.Quantity.{Quantity}
-use Rattle.command_line.specs.declared.numbers.Quantity.TheVariants.{Limit, Rounds, Heaps, Order, Part}
+use Rattle.command_line.specs.declared.numbers.Quantity.TheVariants.{Limit, Rounds, Heaps, Order, Part, DeepOrder, Last, PartOrder, Furthest}
 use Rattle.requests.specs.Requests.{default_limit}
 
 -- the range of each number, and what it is where none is given
@@ -16,6 +16,10 @@ bounds_of Rounds = record { least = 1; most = 1000; default = 64 }
 bounds_of Heaps = record { least = 2; most = 64; default = 24 }
 bounds_of Order = record { least = 2; most = 256; default = 64 }
 bounds_of Part = record { least = 0; most = 1024; default = 0 }
+bounds_of DeepOrder = record { least = 2; most = 256; default = 256 }
+bounds_of Last = record { least = 1; most = 1024; default = 1024 }
+bounds_of PartOrder = record { least = 2; most = 512; default = 512 }
+bounds_of Furthest = record { least = 2; most = 512; default = 512 }
 
 -- the number lies in its range
 abbrev pub IsWithin : Quantity → ℕ → Type 0
@@ -28,6 +32,10 @@ name_of Rounds = codes "rounds"
 name_of Heaps = codes "heaps"
 name_of Order = codes "order"
 name_of Part = codes "heaps"
+name_of DeepOrder = codes "order"
+name_of Last = codes "partial"
+name_of PartOrder = codes "order"
+name_of Furthest = codes "furthest"
 
 -- the number that a text spells in decimal without leading zeros, where it lies between the bounds
 unfoldable pub number_within : Bounds → Text → Option ℕ

@@ -1,7 +1,10 @@
 -- Plans whose numbers lie in their ranges. This project's own.
-use Rattle.std.specs.Prelude.{⊤}
+use Rattle.std.specs.Prelude.{◌≡◌, ◌⊎◌, ⊤, ℕ}
 use Rattle.command_line.specs.Numbers.{IsWithin}
-use Rattle.command_line.specs.declared.numbers.Quantity.TheVariants.{Limit, Rounds, Heaps, Order, Part}
+use Rattle.command_line.specs.declared.numbers.Quantity.TheVariants.{Limit, Rounds, Heaps, Order, Part, DeepOrder, Last, PartOrder, Furthest}
+use Rattle.requests.specs.Requests.{deepest}
+use Rattle.requests.specs.declared.plans.Aim.{Aim}
+use Rattle.requests.specs.declared.plans.Aim.TheVariants as aim
 use Rattle.requests.specs.declared.plans.CatalogueTask.{CatalogueTask}
 use Rattle.requests.specs.declared.plans.CatalogueTask.TheVariants as task
 use Rattle.requests.specs.declared.plans.Plan.{Plan}
@@ -17,11 +20,19 @@ TaskHasNumbersWithin (task.Get code heaps) = IsWithin Part heaps
 TaskHasNumbersWithin task.Salvage = ⊤
 TaskHasNumbersWithin task.Migrate = ⊤
 
+-- the heaps that are aimed at lie in their range, or are as many as a certificate can need, and so
+-- does the order
+abbrev pub AimsWithin : Aim → ℕ → Type 0
+AimsWithin (aim.Whole heaps) order =
+    (IsWithin Heaps heaps × IsWithin Order order) ⊎ ((heaps ≡ deepest) × IsWithin DeepOrder order)
+AimsWithin (aim.Part last) order = IsWithin Last last × IsWithin PartOrder order
+AimsWithin aim.Furthest order = IsWithin Furthest order
+
 -- each number lies in its range
 abbrev pub HasNumbersWithin : Plan → Type 0
 HasNumbersWithin (plan.Check file limit) = IsWithin Limit limit
-HasNumbersWithin (plan.Solve code limit rounds heaps order) =
-    IsWithin Limit limit × IsWithin Rounds rounds × IsWithin Heaps heaps × IsWithin Order order
+HasNumbersWithin (plan.Solve code limit rounds order aimed why) =
+    IsWithin Limit limit × IsWithin Rounds rounds × AimsWithin aimed order
 HasNumbersWithin (plan.Show file) = ⊤
 HasNumbersWithin (plan.Describe file output basis) = ⊤
 HasNumbersWithin (plan.Play file position) = ⊤

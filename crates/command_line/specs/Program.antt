@@ -27,11 +27,13 @@ command name rules = record (new_app name) { top = record (new_app name).top { r
 abbrev pub check : App
 check = command (codes "check") (optional (codes "file") ∷ option (codes "limit") ∷ [])
 
--- solve CODE [--limit N] [--rounds R] [--heaps M] [--order Q]
+-- solve CODE [--limit N] [--rounds R] [--heaps M] [--deep] [--partial M] [--furthest Q] [--order Q]
+-- [--why]
 abbrev pub solve : App
 solve = command (codes "solve")
     (needed (codes "code") ∷ option (codes "limit") ∷ option (codes "rounds")
-    ∷ option (codes "heaps") ∷ option (codes "order") ∷ [])
+    ∷ option (codes "heaps") ∷ flag (codes "deep") ∷ option (codes "partial")
+    ∷ option (codes "furthest") ∷ option (codes "order") ∷ flag (codes "why") ∷ [])
 
 -- show FILE
 abbrev pub show : App

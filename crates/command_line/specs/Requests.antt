@@ -13,10 +13,12 @@ use Rattle.command_line.specs.Program.{program}
 use Rattle.command_line.specs.declared.faults.Exclusion.{Exclusion}
 use Rattle.command_line.specs.declared.faults.Exclusion.TheVariants as exclusion
 use Rattle.command_line.specs.declared.numbers.Quantity.{Quantity}
-use Rattle.command_line.specs.declared.numbers.Quantity.TheVariants.{Limit, Rounds, Heaps, Order, Part}
-use Rattle.requests.specs.Requests.{CatalogueRequest, Request}
+use Rattle.command_line.specs.declared.numbers.Quantity.TheVariants.{Limit, Rounds, Heaps, Order, Part, DeepOrder, Last, PartOrder, Furthest}
+use Rattle.requests.specs.Requests.{CatalogueRequest, Request, deepest}
 use Rattle.requests.specs.Requests.CatalogueRequest.{Print, New, Add, NewWith, Get, Salvage, Migrate}
 use Rattle.requests.specs.Requests.Request.{Check, Solve, Show, Describe, Play, Present, Catalogue, Desk}
+use Rattle.requests.specs.declared.plans.Aim.{Aim}
+use Rattle.requests.specs.declared.plans.Aim.TheVariants as aim
 use Rattle.requests.specs.declared.plans.Output.{Output}
 use Rattle.requests.specs.declared.plans.Output.TheVariants.{Description, Latex, Relations}
 
@@ -29,16 +31,6 @@ arguments_of given = rows_of (found_of given)
 abbrev pub check_request : List Row → Option Request
 check_request rows =
     option_map (λ limit. Check (first_of (codes "file") rows) limit) (number_of Limit rows)
-
-abbrev pub solve_with : Option Text → Option ℕ → Option ℕ → Option ℕ → Option ℕ → Option Request
-solve_with (Some code) (Some limit) (Some rounds) (Some heaps) (Some order) =
-    Some (Solve code limit rounds heaps order)
-solve_with _ _ _ _ _ = None
-
-abbrev pub solve_request : List Row → Option Request
-solve_request rows =
-    solve_with (first_of (codes "code") rows) (number_of Limit rows) (number_of Rounds rows)
-    (number_of Heaps rows) (number_of Order rows)
 
 abbrev pub show_request : List Row → Option Request
 show_request rows = option_map Show (first_of (codes "file") rows)
@@ -72,6 +64,57 @@ describe_with _ _ _ = None
 abbrev pub describe_request : List Row → Option Request
 describe_request rows =
     describe_with (first_of (codes "file") rows) (output_in rows) (is_set (codes "basis") rows)
+
+-- the heaps that --heaps, --deep, --partial and --furthest aim at together, where a furthest search
+-- has no --order
+abbrev pub aim_of : (heaps : Option Text) (deep : Bool) (partial furthest order : Option Text)
+    → Option Aim
+aim_of heaps false None None order =
+    option_map (λ n. aim.Whole n) (number_in (bounds_of Heaps) heaps)
+aim_of None true None None order = Some (aim.Whole deepest)
+aim_of None false (Some last) None order =
+    option_map (λ n. aim.Part n) (number_in (bounds_of Last) (Some last))
+aim_of None false None (Some most) None = Some aim.Furthest
+aim_of _ _ _ _ _ = None
+
+abbrev pub aim_in : List Row → Option Aim
+aim_in rows = aim_of (first_of (codes "heaps") rows) (is_set (codes "deep") rows)
+    (first_of (codes "partial") rows) (first_of (codes "furthest") rows)
+    (first_of (codes "order") rows)
+
+-- which number says how many elements are allowed
+abbrev pub order_by : (deep : Bool) (partial furthest : Option Text) → Quantity
+order_by deep partial (Some most) = Furthest
+order_by deep (Some last) None = PartOrder
+order_by true None None = DeepOrder
+order_by false None None = Order
+
+abbrev pub order_in : List Row → Option ℕ
+order_in rows = number_of
+    (order_by (is_set (codes "deep") rows) (first_of (codes "partial") rows)
+    (first_of (codes "furthest") rows))
+    rows
+
+-- two of --heaps, --deep, --partial and --furthest stand together, or --furthest and --order
+abbrev pub solve_conflicts : List Row → Bool
+solve_conflicts rows =
+    let heaps = is_given (codes "heaps") rows in
+    let deep = is_set (codes "deep") rows in
+    let partial = is_given (codes "partial") rows in
+    let furthest = is_given (codes "furthest") rows in
+    (heaps && (deep || partial || furthest)) || (deep && (partial || furthest))
+    || (partial && furthest) || (furthest && is_given (codes "order") rows)
+
+abbrev pub solve_with : Option Text → Option ℕ → Option ℕ → Option ℕ → Option Aim → Bool
+    → Option Request
+solve_with (Some code) (Some limit) (Some rounds) (Some order) (Some aimed) why =
+    Some (Solve code limit rounds order aimed why)
+solve_with _ _ _ _ _ _ = None
+
+abbrev pub solve_request : List Row → Option Request
+solve_request rows =
+    solve_with (first_of (codes "code") rows) (number_of Limit rows) (number_of Rounds rows)
+    (order_in rows) (aim_in rows) (is_set (codes "why") rows)
 
 abbrev pub play_with : Option Text → Option Text → Option Request
 play_with (Some file) (Some position) = Some (Play file position)
@@ -147,9 +190,10 @@ abbrev pub solve : Asking
 solve = record {
   app = Program.solve;
   request = solve_request;
-  numbers = Limit ∷ Rounds ∷ Heaps ∷ Order ∷ [];
-  conflicts = never;
-  exclusion = None;
+  numbers =
+      Limit ∷ Rounds ∷ Heaps ∷ Order ∷ DeepOrder ∷ Last ∷ PartOrder ∷ Furthest ∷ [];
+  conflicts = solve_conflicts;
+  exclusion = Some exclusion.Solve;
 }
 
 abbrev pub show : Asking

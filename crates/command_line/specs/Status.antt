@@ -7,7 +7,7 @@ use Rattle.command_line.specs.declared.faults.UsageFault.{UsageFault}
 use Rattle.command_line.specs.declared.faults.UsageFault.TheVariants.{Memory, Help, Words, Number}
 use Rattle.command_line.specs.declared.faults.UsageFault.TheVariants.{Exclusive, Incomplete}
 use Rattle.command_line.specs.declared.numbers.Quantity.{Quantity}
-use Rattle.command_line.specs.declared.numbers.Quantity.TheVariants.{Limit, Rounds, Heaps, Order, Part}
+use Rattle.command_line.specs.declared.numbers.Quantity.TheVariants.{Limit, Rounds, Heaps, Order, Part, DeepOrder, Last, PartOrder, Furthest}
 
 -- help ends well, refused words with 2, want of memory with 3
 abbrev pub status_of : UsageFault → ℕ
@@ -24,11 +24,17 @@ range_text Rounds = codes "misere: the rounds are a number from 1 to 1000\n"
 range_text Heaps = codes "misere: the heaps are a number from 2 to 64\n"
 range_text Order = codes "misere: the order is a number from 2 to 256\n"
 range_text Part = codes "misere: the heaps are a number from 0 to 1024\n"
+range_text DeepOrder = codes "misere: the order is a number from 2 to 256\n"
+range_text Last = codes "misere: the heaps are a number from 1 to 1024\n"
+range_text PartOrder = codes "misere: the order is a number from 2 to 512\n"
+range_text Furthest = codes "misere: the order is a number from 2 to 512\n"
 
 abbrev pub exclusion_text : Exclusion → Text
 exclusion_text exclusion.Catalogue =
     codes "misere: --heaps goes with --get, --get without --new and --add, --salvage and --migrate alone\n"
 exclusion_text exclusion.Description = codes "misere: --latex goes without --relations\n"
+exclusion_text exclusion.Solve =
+    codes "misere: one of --heaps, --deep, --partial and --furthest, and --furthest without --order\n"
 
 -- what is told of the fault
 abbrev pub text_of : UsageFault → Text

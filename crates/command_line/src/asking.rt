@@ -1,17 +1,17 @@
 //! What each command asks for with its arguments.
-ghost use Rattle.std.specs.Prelude.{◌≡◌, None, Some, false, true, IfOk, IfErr, option_map};
+ghost use Rattle.std.specs.Prelude.{◌≡◌, None, Some, false, true, IfOk, IfErr, ℕ, codes, option_map};
 ghost use Rattle.clap.specs.Words.{first_of};
 ghost use Rattle.command_line.specs.Numbers.{IsWithin, number_of};
-ghost use Rattle.command_line.specs.Plans.{HasNumbersWithin, TaskHasNumbersWithin};
+ghost use Rattle.command_line.specs.Plans.{AimsWithin, HasNumbersWithin, TaskHasNumbersWithin};
 ghost use Rattle.command_line.specs.Refusals.{Answers, IsMistake, IsMistakeIn, conflicts_in};
 ghost use Rattle.command_line.specs.Requests.{arguments_of, catalogue, catalogue_conflicts, check, describe, describe_conflicts, desk, is_set, output_in, play};
-ghost use Rattle.command_line.specs.Requests.{present, request_in, show, solve, task_in};
+ghost use Rattle.command_line.specs.Requests.{aim_in, order_by, order_in, present, request_in, show, solve, solve_conflicts, task_in};
 ghost use Rattle.requests.specs.Requests.{catalogue_request_of, request_of};
 
 use crate::faults::{Exclusion, UsageFault};
 use crate::numbers::{Quantity, number_given};
 use clap::ArgMatches;
-use requests::{CatalogueTask, Output, Plan};
+use requests::{Aim, CatalogueTask, DEEPEST, Output, Plan};
 
 /// The value that was given under this name.
 fn value<'a>(given: &ArgMatches<'a>, name: &str) -> Option<&'a str>
@@ -58,20 +58,73 @@ fn check_plan<'a>(given: &ArgMatches<'a>) -> Result<Plan<'a>, UsageFault>
     Ok(Plan::Check { file, limit })
 }
 
+/// The heaps that a search is to aim at.
+fn aim(given: &ArgMatches<'_>) -> Result<Aim, UsageFault>
+    ensures aim { IfOk result (λ a. aim_in (arguments_of given.now) ≡ Some a) }
+    ensures apart { IfOk result (λ _. solve_conflicts (arguments_of given.now) ≡ false) }
+    ensures within { (order : ℕ)
+        → IsWithin (order_by (is_set (codes "deep") (arguments_of given.now))
+        (first_of (codes "partial") (arguments_of given.now))
+        (first_of (codes "furthest") (arguments_of given.now))) order
+        → IfOk result (λ a. AimsWithin a order) }
+    ensures none { IfErr result (λ _. aim_in (arguments_of given.now) ≡ None) }
+    ensures mistake { IfErr result (IsMistake solve (arguments_of given.now)) }
+{
+    match (
+        value(given, "heaps"),
+        flag(given, "deep"),
+        value(given, "partial"),
+        value(given, "furthest"),
+        value(given, "order"),
+    ) {
+        (_, false, None, None, _) => {
+            let heaps = number(given, Quantity::Heaps)?;
+            Ok(Aim::Whole { heaps })
+        }
+        (None, true, None, None, _) => Ok(Aim::Whole { heaps: DEEPEST }),
+        (None, false, Some(_), None, _) => {
+            let last = number(given, Quantity::Last)?;
+            Ok(Aim::Part { last })
+        }
+        (None, false, None, Some(_), None) => Ok(Aim::Furthest),
+        _ => Err(UsageFault::Exclusive(Exclusion::Solve)),
+    }
+}
+
+/// Which number says how many elements are allowed.
+fn order_quantity(given: &ArgMatches<'_>) -> Quantity
+    ensures { result ≡ order_by (is_set (codes "deep") (arguments_of given.now))
+        (first_of (codes "partial") (arguments_of given.now))
+        (first_of (codes "furthest") (arguments_of given.now)) }
+{
+    match (
+        value(given, "furthest"),
+        value(given, "partial"),
+        flag(given, "deep"),
+    ) {
+        (Some(_), _, _) => Quantity::Furthest,
+        (None, Some(_), _) => Quantity::PartOrder,
+        (None, None, true) => Quantity::DeepOrder,
+        (None, None, false) => Quantity::Order,
+    }
+}
+
 fn solve_plan<'a>(given: &ArgMatches<'a>) -> Result<Plan<'a>, UsageFault>
     ensures { Answers solve (arguments_of given.now) result }
 {
     let code = needed(given, "code")?;
     let limit = number(given, Quantity::Limit)?;
     let rounds = number(given, Quantity::Rounds)?;
-    let heaps = number(given, Quantity::Heaps)?;
-    let order = number(given, Quantity::Order)?;
+    let aim = aim(given)?;
+    let order = number(given, order_quantity(given))?;
+    let tells_why = flag(given, "why");
     Ok(Plan::Solve {
         code,
         limit,
         rounds,
-        heaps,
         order,
+        aim,
+        tells_why,
     })
 }
 

@@ -11,6 +11,8 @@ pub enum Exclusion {
     Catalogue,
     /// `--latex` and `--relations` of `describe`.
     Description,
+    /// The options of `solve` that say how far a search goes.
+    Solve,
 }
 
 /// Why the words ask for nothing that the program does.
@@ -38,7 +40,11 @@ fn range_line(quantity: Quantity) -> &'static str
         Quantity::Limit => "misere: the limit is a number from 1 to 1000000\n",
         Quantity::Rounds => "misere: the rounds are a number from 1 to 1000\n",
         Quantity::Heaps => "misere: the heaps are a number from 2 to 64\n",
-        Quantity::Order => "misere: the order is a number from 2 to 256\n",
+        Quantity::Order | Quantity::DeepOrder => "misere: the order is a number from 2 to 256\n",
+        Quantity::PartOrder | Quantity::Furthest => {
+            "misere: the order is a number from 2 to 512\n"
+        }
+        Quantity::Last => "misere: the heaps are a number from 1 to 1024\n",
         Quantity::Part => "misere: the heaps are a number from 0 to 1024\n",
     }
 }
@@ -52,6 +58,9 @@ fn exclusion_line(exclusion: Exclusion) -> &'static str
             "misere: --heaps goes with --get, --get without --new and --add, --salvage and --migrate alone\n"
         }
         Exclusion::Description => "misere: --latex goes without --relations\n",
+        Exclusion::Solve => {
+            "misere: one of --heaps, --deep, --partial and --furthest, and --furthest without --order\n"
+        }
     }
 }
 

@@ -20,6 +20,15 @@ pub enum Quantity {
     Order,
     /// The last heap of the part of a game of which a certificate speaks, and 0 for the whole game.
     Part,
+    /// The most elements of a quotient that a search which goes as far as a certificate can
+    /// proposes.
+    DeepOrder,
+    /// The last heap of the part of a game that is searched for.
+    Last,
+    /// The most elements of a quotient of a part of a game.
+    PartOrder,
+    /// The most elements of the quotient of as many heaps as have so few.
+    Furthest,
 }
 
 /// The range of a number, its ends included, and what the number is where none is given.
@@ -41,6 +50,9 @@ impl Quantity {
             Quantity::Heaps => (2, 64, 24),
             Quantity::Order => (2, 256, 64),
             Quantity::Part => (0, 1024, 0),
+            Quantity::DeepOrder => (2, 256, 256),
+            Quantity::Last => (1, 1024, 1024),
+            Quantity::PartOrder | Quantity::Furthest => (2, 512, 512),
         };
         Bounds {
             least,
@@ -50,7 +62,7 @@ impl Quantity {
     }
 
     /// The name of the option. The heaps of a search and those of a part have one name, and no
-    /// command takes both.
+    /// command takes both; the orders have one name, and what else is given says which one is meant.
     pub fn name(self) -> &'static str
         ensures { result.now ≡ name_of self }
     {
@@ -58,7 +70,9 @@ impl Quantity {
             Quantity::Limit => "limit",
             Quantity::Rounds => "rounds",
             Quantity::Heaps | Quantity::Part => "heaps",
-            Quantity::Order => "order",
+            Quantity::Order | Quantity::DeepOrder | Quantity::PartOrder => "order",
+            Quantity::Last => "partial",
+            Quantity::Furthest => "furthest",
         }
     }
 }

@@ -45,7 +45,7 @@ IsCatalogueCause file task before after stop = (cause : CatalogueStop) × (stop 
 abbrev pub IsCause : Request → Failed → Failed → Stop → Type 0
 IsCause (Check None limit) before after stop = IsInputCause before.input after.input stop
 IsCause (Check (Some file) limit) before after stop = IsFileCause file before.reads after.reads stop
-IsCause (Solve code limit rounds heaps order) before after stop = IsSolveCause code stop
+IsCause (Solve code limit rounds order aim why) before after stop = IsSolveCause code stop
 IsCause (Show file) before after stop = IsFileCause file before.reads after.reads stop
 IsCause (Describe file output basis) before after stop =
     IsFileCause file before.reads after.reads stop

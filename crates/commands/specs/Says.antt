@@ -24,8 +24,9 @@ abbrev pub Says : Option (List ℕ) → Option (List ℕ → Option (List ℕ))
     → Option (List ℕ → Option (List ℕ)) → Request → List ℕ → Bool → Type 0
 Says input before after (Check None limit) text well = SaysOfStream input limit text well
 Says input before after (Check (Some file) limit) text well = SaysOfFile before file limit text well
-Says input before after (Solve code limit rounds heaps order) text well =
-    SaysSolved code (record { limit = limit; rounds = rounds; heaps = heaps; order = order }) text
+Says input before after (Solve code limit rounds order aim why) text well =
+    SaysSolved code
+    (record { limit = limit; rounds = rounds; order = order; aim = aim; tells_why = why }) text
     well
 Says input before after (Show file) text well = Shows before file default_limit text well
 Says input before after (Describe file output basis) text well =

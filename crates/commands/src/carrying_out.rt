@@ -65,14 +65,16 @@ pub(crate) fn carry_out<'a, F: Folder, S: Source>(
             code,
             limit,
             rounds,
-            heaps,
             order,
+            aim,
+            tells_why,
         } => {
             let bounds = SolveBounds {
                 limit,
                 rounds,
-                heaps,
                 order,
+                aim,
+                tells_why,
             };
             solve_text(alloc, code, bounds)
         }

@@ -10,6 +10,9 @@ pub(crate) type Repeat = (usize, usize);
 /// How many pairs are tried.
 const MOST: usize = 6;
 
+/// How many ends of the list are looked at.
+const ENDS: usize = 65;
+
 /// The starts and periods that the elements of the heaps 1, 2, .. suggest, the likeliest first: the
 /// least period of which the heaps show so much that it must go on, where they are right, and the
 /// least ones by the ends of the list.
@@ -19,7 +22,7 @@ pub(crate) fn candidates(alloc: Global, code: &Code, heaps: &[u16]) -> Result<Ve
         all.push(repeat)?;
     }
     for end in (0..heaps.len() + 1).rev() {
-        if all.len() >= MOST {
+        if all.len() >= MOST || heaps.len() - end >= ENDS {
             break;
         }
         if let Some(repeat) = least_period(&heaps[..end]) {

@@ -9,8 +9,8 @@ use octal_code::Code;
 use std::alloc::Global;
 
 /// The text of the certificate of the code that the guess makes, where its heaps repeat from a
-/// start on after a period: the elements that products of heaps reach, numbered by least keys, with
-/// least separating elements.
+/// start on after a period, or of the heaps below the start alone where the period is 0: the
+/// elements that products of heaps reach, numbered by least keys, with least separating elements.
 ///
 /// There is none where the guess has no such heaps or products, where more than `most` elements are
 /// reached, or only one, where none of them is in the portion, or where no element separates two of

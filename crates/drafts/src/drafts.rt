@@ -26,6 +26,17 @@ impl Drafts {
         })
     }
 
+    /// Nothing is tried yet but the guess's own heaps, without a period: a part of the game.
+    pub fn of_part(alloc: Global, guess: Guess) -> Result<Drafts, Memory> {
+        let mut waiting: Vec<Repeat> = Vec::new(alloc);
+        waiting.push((guess.heaps.len().saturating_add(1), 0))?;
+        Ok(Drafts {
+            alloc,
+            guess,
+            waiting,
+        })
+    }
+
     /// The next draft of at most so many elements, if there is one. Each start and period is tried
     /// once.
     pub fn next(&mut self, code: &Code, most: usize) -> Result<Option<Vec<u8>>, Memory> {

@@ -3,9 +3,12 @@
 //! Nothing is promised of a draft: the checker decides.
 #![tactic(auto)]
 
+mod reasons;
 mod refiner;
 mod sampler;
 
 pub use periods::least_period;
+pub use quotient_solver::furthest;
+pub use reasons::{Reason, Sought, reason};
 pub use refiner::Refiner;
 pub use sampler::Sampler;

@@ -1,4 +1,4 @@
-//! The proposer that solves heap by heap, and learns from positions.
+//! The proposer that solves heap by heap.
 use allocation::Memory;
 use answers::Refusal;
 use drafts::{Drafts, Guess};
@@ -7,53 +7,69 @@ use quotient_finder::Proposer;
 use quotient_solver::{Guess as Solved, Solver};
 use std::alloc::Global;
 
-/// How often it solves.
-const MOST: u32 = 3;
-
-/// Drafts what a solver guesses of the heaps up to some size. The positions at which the rule
-/// failed under a draft go to the solver.
+/// Drafts what a solver guesses of the heaps up to some size, for a whole game or for the part of
+/// just these heaps. It solves once: the guess would be the same again.
 #[derive(Drop)]
 pub struct Refiner {
     alloc: Global,
     order: usize,
     solver: Solver,
+    is_part: bool,
     drafts: Option<Drafts>,
-    solves: u32,
-    is_stale: bool,
+    has_solved: bool,
 }
 
 impl Refiner {
-    /// A refiner for the heaps 1 to `heaps`, and drafts of at most `order` elements.
+    /// A refiner that looks at the heaps 1 to `heaps`, and drafts whole games of at most `order`
+    /// elements.
     pub fn new(alloc: Global, heaps: usize, order: usize) -> Refiner {
         Refiner {
             alloc,
             order,
-            solver: Solver::new(alloc, heaps),
+            solver: Solver::new(alloc, heaps, order),
+            is_part: false,
             drafts: None,
-            solves: MOST,
-            is_stale: true,
+            has_solved: false,
         }
     }
 
-    /// A draft of the last guess, if one is left.
-    fn left(&mut self, code: &Code) -> Result<Option<Vec<u8>>, Memory> {
-        match &mut self.drafts {
-            Some(drafts) => drafts.next(code, self.order),
-            None => Ok(None),
+    /// A refiner that drafts the part of a game that has the heaps 1 to `last`, of at most `order`
+    /// elements.
+    pub fn of_part(alloc: Global, last: usize, order: usize) -> Refiner {
+        Refiner {
+            alloc,
+            order,
+            solver: Solver::of_part(alloc, last, order),
+            is_part: true,
+            drafts: None,
+            has_solved: false,
         }
     }
 
-    /// Guesses anew, unless nothing was learned since, or it has solved too often.
+    /// Guesses, unless it did.
     fn solve(&mut self, code: &Code) -> Result<(), Memory> {
-        self.drafts = None;
-        if self.is_stale && self.solves > 0 {
-            self.is_stale = false;
-            self.solves -= 1;
+        if !self.has_solved {
+            self.has_solved = true;
             if let Some(solved) = self.solver.solve(code)? {
-                self.drafts = Some(Drafts::new(self.alloc, code, guess_of(solved))?);
+                self.drafts = Some(drafts_of(self.alloc, code, solved, self.is_part)?);
             }
         }
         Ok(())
+    }
+}
+
+/// The drafts of a solver's guess.
+pub(crate) fn drafts_of(
+    alloc: Global,
+    code: &Code,
+    solved: Solved,
+    is_part: bool,
+) -> Result<Drafts, Memory> {
+    let guess = guess_of(solved);
+    if is_part {
+        Drafts::of_part(alloc, guess)
+    } else {
+        Drafts::new(alloc, code, guess)
     }
 }
 
@@ -76,19 +92,14 @@ fn guess_of(solved: Solved) -> Guess {
 
 impl Proposer for Refiner {
     fn propose(&mut self, code: &Code) -> Result<Option<Vec<u8>>, Memory> {
-        let draft = self.left(code)?;
-        if draft.is_some() {
-            return Ok(draft);
-        }
         self.solve(code)?;
-        self.left(code)
+        match &mut self.drafts {
+            Some(drafts) => drafts.next(code, self.order),
+            None => Ok(None),
+        }
     }
 
-    fn learn(&mut self, refusal: &Refusal) -> Result<(), Memory> {
-        if let Some((_, position)) = refusal.counterexample() {
-            self.solver.learn(position)?;
-            self.is_stale = true;
-        }
+    fn learn(&mut self, _refusal: &Refusal) -> Result<(), Memory> {
         Ok(())
     }
 }

@@ -98,6 +98,7 @@ impl<A: Allocator + Copy> Closure<A> {
         set: &[u64],
         work: &mut Work,
     ) -> Result<(), Halt> {
+        work.spend(self.generators.size())?;
         if is_empty(set) || self.has_generator(value, set) {
             return Ok(());
         }
@@ -126,7 +127,7 @@ impl<A: Allocator> Closure<A> {
             }
             self.multiply(quotient, member, sum, work)?;
         }
-        Err(Halt::GaveUp)
+        Err(Halt::Work)
     }
 
     fn has_generator(&self, value: usize, set: &[u64]) -> bool {
@@ -215,7 +216,7 @@ impl<A: Allocator> Closure<A> {
 
     fn push(&mut self, value: usize, set: &[u64]) -> Result<(), Halt> {
         if self.members.size() > MOST_WORDS {
-            return Err(Halt::GaveUp);
+            return Err(Halt::Work);
         }
         let member = self.members.len();
         self.chains.add()?;

@@ -1,5 +1,5 @@
 //! The next quotient: the pairs of a level and an element by their coarsest congruence.
-use crate::cells::{at, index, put, put_index, small, word};
+use crate::cells::{at, clear, index, put, put_index, set_bit, small, word};
 use crate::congruence::congruence;
 use crate::levels::Levels;
 use crate::lists::Lists;
@@ -176,45 +176,47 @@ fn write_products<A: Allocator>(
 }
 
 /// Adds the values of the options of a member's element.
-fn push_element_options<A: Allocator>(
+fn add_element_options<A: Allocator>(
     merging: &Merging<'_, A>,
     merged: &Merged<A>,
     first: First,
-    options: &mut Lists<A>,
-) -> Result<(), Halt> {
+    set: &mut Vec<u64, A>,
+) {
     for option in merging.quotient.options.list(first.2) {
-        options.push_new(merged.name(merging.levels, first.1, *option as usize))?;
+        set_bit(set, merged.name(merging.levels, first.1, *option as usize));
     }
-    Ok(())
 }
 
 /// Adds the values of the options of a member's heaps, where it has any.
-fn push_heap_options<A: Allocator>(
+fn add_heap_options<A: Allocator>(
     merging: &Merging<'_, A>,
     merged: &Merged<A>,
     first: First,
-    options: &mut Lists<A>,
-) -> Result<(), Halt> {
+    set: &mut Vec<u64, A>,
+) {
     let Some(below) = first.1.checked_sub(1) else {
-        return Ok(());
+        return;
     };
     for option in merging.quotient.heap_moves(merging.heap) {
         let y = merging.quotient.times(*option as usize, first.2);
-        options.push_new(merged.name(merging.levels, below, y))?;
+        set_bit(set, merged.name(merging.levels, below, y));
     }
-    Ok(())
 }
 
 /// Writes the option values of the classes' lightest members.
 fn write_options<A: Allocator>(
     merging: &Merging<'_, A>,
     merged: &Merged<A>,
+    set: &mut Vec<u64, A>,
     options: &mut Lists<A>,
+    work: &mut Work,
 ) -> Result<(), Halt> {
     for first in merged.firsts.iter() {
-        push_element_options(merging, merged, *first, options)?;
-        push_heap_options(merging, merged, *first, options)?;
-        options.close()?;
+        clear(set);
+        add_element_options(merging, merged, *first, set);
+        add_heap_options(merging, merged, *first, set);
+        options.push_set(set)?;
+        work.spend(merging.quotient.order.saturating_add(set.len()))?;
     }
     Ok(())
 }
@@ -269,14 +271,16 @@ fn write<A: Allocator + Copy>(
     merging: &Merging<'_, A>,
     merged: &Merged<A>,
     next: &mut Quotient<A>,
+    work: &mut Work,
 ) -> Result<(), Halt> {
     next.order = merged.firsts.len();
     next.words = merging.words;
     write_rows(merging, merged, next)?;
     write_products(merging, merged, &mut next.products)?;
-    write_options(merging, merged, &mut next.options)?;
+    let mut set: Vec<u64, A> = vec![in alloc; 0u64; next.order / 64 + 1]?;
+    write_options(merging, merged, &mut set, &mut next.options, work)?;
     write_heaps(merging, merged, &mut next.heaps)?;
-    next.renew_moves(alloc, merging.code)
+    next.renew_moves(alloc, merging.code, work)
 }
 
 /// Writes the quotient by a partition's classes into an empty one.
@@ -288,11 +292,11 @@ fn write_classes<A: Allocator + Copy>(
     work: &mut Work,
 ) -> Result<(), Halt> {
     if partition.count > MOST_ELEMENTS {
-        return Err(Halt::GaveUp);
+        return Err(Halt::Work);
     }
     work.spend(partition.count.saturating_mul(partition.count))?;
     let merged = merge(alloc, merging, partition)?;
-    write(alloc, merging, &merged, next)
+    write(alloc, merging, &merged, next, work)
 }
 
 /// Writes the quotient of the pairs by the coarsest congruence that keeps their rows into an empty

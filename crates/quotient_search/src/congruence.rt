@@ -1,5 +1,5 @@
 //! The coarsest congruence of pairs of a level and an element.
-use crate::cells::{index, put_word, word};
+use crate::cells::{bit, index, put_word, set_bit, word};
 use crate::levels::Levels;
 use crate::partition::Partition;
 use crate::quotient::Quotient;
@@ -10,11 +10,15 @@ use std::alloc::Allocator;
 pub fn generators<A: Allocator + Copy>(
     alloc: A,
     quotient: &Quotient<A>,
+    work: &mut Work,
 ) -> Result<Vec<usize, A>, Halt> {
     let mut found: Vec<usize, A> = Vec::new(alloc);
+    let mut seen: Vec<u64, A> = vec![in alloc; 0u64; quotient.order / 64 + 1]?;
+    work.spend(quotient.heaps.len())?;
     for heap in quotient.heaps.iter() {
         let x = *heap as usize;
-        if x != 0 && !found.contains(&x) {
+        if x != 0 && !bit(&seen, x) {
+            set_bit(&mut seen, x);
             found.push(x)?;
         }
     }
@@ -76,7 +80,7 @@ pub fn congruence<A: Allocator + Copy>(
     work: &mut Work,
 ) -> Result<Partition<A>, Halt> {
     let size = quotient.order.saturating_mul(levels.count);
-    let elements = generators(alloc, quotient)?;
+    let elements = generators(alloc, quotient, work)?;
     work.spend(size.saturating_mul(quotient.words).saturating_mul(4))?;
     let mut partition = Partition::new(alloc, size)?;
     part_by_rows(&mut partition, quotient.words, &levels.rows, kept);
@@ -117,5 +121,5 @@ fn loop_until_quiet<A: Allocator>(
             return Ok(());
         }
     }
-    Err(Halt::GaveUp)
+    Err(Halt::Work)
 }

@@ -4,7 +4,7 @@ use crate::cells::{clear, index, part, put_index, set_bit};
 use crate::dead::{is_empty, is_within};
 use crate::quotient::Quotient;
 use crate::scene::Scene;
-use crate::work::Halt;
+use crate::work::{Halt, Work};
 use std::alloc::Allocator;
 
 /// The most parts of a position that are looked at.
@@ -100,6 +100,16 @@ impl<A: Allocator> Part<A> {
         false
     }
 
+    /// About how many steps its options take.
+    fn cost(&self, quotient: &Quotient<A>) -> usize {
+        let mut heaps = 0usize;
+        for taken in self.taken.iter() {
+            heaps = heaps.saturating_add(*taken);
+        }
+        let one = heaps.saturating_add(quotient.order);
+        one.saturating_mul(self.sizes.len())
+    }
+
     fn is_whole(&self) -> bool {
         for (place, count) in self.counts.iter().enumerate() {
             if index(&self.taken, place) != *count {
@@ -163,7 +173,12 @@ fn scene_of_elements<A: Allocator + Copy>(
     quotient: &Quotient<A>,
     elements: usize,
     words: usize,
+    work: &mut Work,
 ) -> Result<Scene<A>, Halt> {
+    let steps = words
+        .saturating_mul(64)
+        .saturating_mul(words.saturating_add(1));
+    work.spend(steps)?;
     let mut kept: Vec<u64, A> = vec![in alloc; 0u64; words]?;
     set_bit(&mut kept, 0);
     let mut scene = Scene {
@@ -227,6 +242,7 @@ fn add_parts<A: Allocator + Copy>(
     part: &mut Part<A>,
     kept: Kept,
     scene: &mut Scene<A>,
+    work: &mut Work,
 ) -> Result<usize, Halt> {
     let elements = scene.count;
     let mut mask: Vec<u64, A> = vec![in alloc; 0u64; scene.words]?;
@@ -235,6 +251,7 @@ fn add_parts<A: Allocator + Copy>(
         if !part.advance() {
             break;
         }
+        work.spend(part.cost(quotient).saturating_add(scene.cost()))?;
         clear(&mut mask);
         if part.mask(quotient, elements, &mut mask) {
             added = add_part(&mask, kept, added, scene)?;
@@ -265,11 +282,12 @@ pub fn contexts<A: Allocator + Copy>(
     heaps: &[usize],
     elements: usize,
     kept: Kept,
+    work: &mut Work,
 ) -> Result<Option<Scene<A>>, Halt> {
     let mut part = Part::of(alloc, heaps)?;
     let words = elements.saturating_add(part.variety()) / 64 + 1;
-    let mut scene = scene_of_elements(alloc, quotient, elements, words)?;
-    let added = add_parts(alloc, quotient, &mut part, kept, &mut scene)?;
+    let mut scene = scene_of_elements(alloc, quotient, elements, words, work)?;
+    let added = add_parts(alloc, quotient, &mut part, kept, &mut scene, work)?;
     if keep(kept, added, &mut scene) {
         Ok(Some(scene))
     } else {

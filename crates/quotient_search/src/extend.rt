@@ -19,7 +19,8 @@ pub fn extend<A: Allocator + Copy>(
     n: usize,
     work: &mut Work,
 ) -> Result<bool, Halt> {
-    quotient.add_moves(code, n)?;
+    quotient.add_moves(code, n, work)?;
+    work.spend(quotient.rows.len())?;
     let mut levels = Levels::only(alloc, quotient)?;
     extend_by(alloc, code, scene, quotient, &mut levels, n, work)
 }

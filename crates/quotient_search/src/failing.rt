@@ -30,6 +30,12 @@ struct Beside {
     element: usize,
 }
 
+/// About how many steps it takes to look at the heap n beside each element.
+fn cost_of_heap<A: Allocator>(quotient: &Quotient<A>, n: usize) -> usize {
+    let options = quotient.heap_moves(n).len();
+    quotient.order.saturating_mul(options.saturating_add(1))
+}
+
 /// The lightest heap and element beside which the rule fails inside the portion.
 fn lightest_breaking<A: Allocator>(
     quotient: &Quotient<A>,
@@ -42,7 +48,7 @@ fn lightest_breaking<A: Allocator>(
         element: 0,
     };
     for n in 1..quotient.heaps.len().saturating_add(1) {
-        work.spend(quotient.order)?;
+        work.spend(cost_of_heap(quotient, n))?;
         lighten_breaking(quotient, weights, n, &mut best);
     }
     Ok(best)
@@ -152,8 +158,9 @@ impl<A: Allocator + Copy> Search<A> {
     }
 
     /// Adds the heaps that have options.
-    fn begin(&mut self, alloc: A, quotient: &Quotient<A>) -> Result<(), Halt> {
+    fn begin(&mut self, alloc: A, quotient: &Quotient<A>, work: &mut Work) -> Result<(), Halt> {
         for n in 1..quotient.heaps.len().saturating_add(1) {
+            work.spend(cost_of_heap(quotient, n).saturating_add(self.generators.size()))?;
             if !quotient.heap_moves(n).is_empty() {
                 let set = dead_of_heap(alloc, quotient, n)?;
                 self.add_heap(quotient, n, &set)?;
@@ -291,7 +298,7 @@ impl<A: Allocator> Search<A> {
             return Ok(());
         }
         if self.positions.len() > MOST_POSITIONS || self.positions.size() > MOST_WORDS {
-            return Err(Halt::GaveUp);
+            return Err(Halt::Work);
         }
         let position = self.positions.len();
         self.waiting.add()?;
@@ -390,7 +397,7 @@ fn found_by<A: Allocator + Copy>(
     search: &mut Search<A>,
     work: &mut Work,
 ) -> Result<Option<Failing<A>>, Halt> {
-    search.begin(alloc, quotient)?;
+    search.begin(alloc, quotient, work)?;
     match search.find(alloc, quotient, work)? {
         Some((weight, position)) => Ok(Some(Failing {
             weight,

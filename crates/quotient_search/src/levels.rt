@@ -128,26 +128,33 @@ fn raise_with<A: Allocator>(
     Ok(())
 }
 
-/// Whether two levels of so many words are the same.
-fn are_same(rows: &[u64], words: usize, j: usize, k: usize) -> bool {
+/// How many of the first words of two levels of so many words are the same.
+fn agreeing(rows: &[u64], words: usize, j: usize, k: usize) -> usize {
     let one = part(rows, j.wrapping_mul(words), words);
     let other = part(rows, k.wrapping_mul(words), words);
     for place in 0..words {
         if word(one, place) != word(other, place) {
-            return false;
+            return place;
         }
     }
-    true
+    words
 }
 
 /// The first level before k that is the same as level k.
-fn same_before(rows: &[u64], words: usize, k: usize) -> Option<usize> {
+fn same_before(
+    rows: &[u64],
+    words: usize,
+    k: usize,
+    work: &mut Work,
+) -> Result<Option<usize>, Halt> {
     for j in 0..k {
-        if are_same(rows, words, j, k) {
-            return Some(j);
+        let agreeing = agreeing(rows, words, j, k);
+        work.spend(agreeing.saturating_add(1))?;
+        if agreeing >= words {
+            return Ok(Some(j));
         }
     }
-    None
+    Ok(None)
 }
 
 /// Adds levels behind level 1 until they come round.
@@ -164,17 +171,16 @@ pub fn finish<A: Allocator + Copy>(
         if k > 1 {
             raise(alloc, scene, quotient, moves, levels, k, work)?;
         }
-        work.spend(k)?;
-        if let Some(lead) = same_before(&levels.rows, words, k) {
+        if let Some(lead) = same_before(&levels.rows, words, k, work)? {
             levels.count = k;
             levels.lead = lead;
             return Ok(());
         }
         if k.saturating_add(1).saturating_mul(quotient.order) > MOST_PAIRS {
-            return Err(Halt::GaveUp);
+            return Err(Halt::Work);
         }
     }
-    Err(Halt::GaveUp)
+    Err(Halt::Work)
 }
 
 /// Whether level 1 is what the element x does.
@@ -183,14 +189,16 @@ fn shows<A: Allocator>(
     quotient: &Quotient<A>,
     levels: &Levels<A>,
     x: usize,
-) -> bool {
+    work: &mut Work,
+) -> Result<bool, Halt> {
     for y in 0..quotient.order {
+        work.spend(quotient.words)?;
         let shown = part(&levels.rows, row_at(quotient, 1, y), quotient.words);
         if !scene.agree(shown, quotient.row(quotient.times(x, y))) {
-            return false;
+            return Ok(false);
         }
     }
-    true
+    Ok(true)
 }
 
 /// The element that level 1 shows.
@@ -201,8 +209,7 @@ pub fn identify<A: Allocator>(
     work: &mut Work,
 ) -> Result<Option<usize>, Halt> {
     for x in 0..quotient.order {
-        work.spend(8)?;
-        if shows(scene, quotient, levels, x) {
+        if shows(scene, quotient, levels, x, work)? {
             return Ok(Some(x));
         }
     }

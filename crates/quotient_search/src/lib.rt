@@ -3,6 +3,7 @@
 //! Nothing is promised of a quotient that is found: it may be wrong.
 #![tactic(auto)]
 
+mod aim;
 mod cells;
 mod chains;
 mod closure;
@@ -18,11 +19,13 @@ mod lists;
 mod partition;
 mod quotient;
 mod repair;
+mod rests;
 mod scene;
 mod search;
 mod sets;
 mod state;
 mod work;
 
+pub use aim::{Aim, Cause, DEEPEST, Found, LONGEST_PART};
 pub use quotient::Quotient;
 pub use search::find_quotient;

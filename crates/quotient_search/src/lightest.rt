@@ -1,5 +1,5 @@
 //! Lightest words of heaps for the elements of a quotient, and representatives found anew.
-use crate::cells::{at, index, put_index, put_word, small, word};
+use crate::cells::{clear, index, put_index, put_word, set_bit, small, word};
 use crate::congruence::generators;
 use crate::lists::Lists;
 use crate::quotient::{Quotient, heap_weight};
@@ -31,9 +31,11 @@ fn first_heap<A: Allocator>(quotient: &Quotient<A>, x: usize) -> usize {
 fn light_heaps<A: Allocator + Copy>(
     alloc: A,
     quotient: &Quotient<A>,
+    work: &mut Work,
 ) -> Result<Vec<usize, A>, Halt> {
-    let mut heaps = generators(alloc, quotient)?;
+    let mut heaps = generators(alloc, quotient, work)?;
     for place in 0..heaps.len() {
+        work.spend(quotient.heaps.len())?;
         let heap = first_heap(quotient, index(&heaps, place));
         put_index(&mut heaps, place, heap);
     }
@@ -118,7 +120,7 @@ pub fn lightest_words<A: Allocator + Copy>(
     quotient: &Quotient<A>,
     work: &mut Work,
 ) -> Result<Words<A>, Halt> {
-    let heaps = light_heaps(alloc, quotient)?;
+    let heaps = light_heaps(alloc, quotient, work)?;
     let mut words = Words::new(alloc, quotient.order)?;
     words.lighten(quotient, &heaps, work)?;
     Ok(words)
@@ -207,47 +209,37 @@ fn write_products<A: Allocator>(
     Ok(())
 }
 
-/// Adds the values of a word's options: those of the word without its last heap, beside that heap.
-fn push_before<A: Allocator>(
+/// Adds the products of an element with those of a list.
+fn add_products<A: Allocator>(
     quotient: &Quotient<A>,
-    before: usize,
-    heap: usize,
-    options: &mut Lists<A>,
-) -> Result<(), Halt> {
-    for place in 0..options.list(before).len() {
-        let option = at(options.list(before), place);
-        options.push_new(quotient.times(option, quotient.heap(heap)))?;
+    x: usize,
+    list: &[u16],
+    set: &mut Vec<u64, A>,
+) {
+    for y in list {
+        set_bit(set, quotient.times(x, *y as usize));
     }
-    Ok(())
 }
 
-/// Adds the values of a word's options: those of its last heap, beside the word without it.
-fn push_moves<A: Allocator>(
-    quotient: &Quotient<A>,
-    before: usize,
-    heap: usize,
-    options: &mut Lists<A>,
-) -> Result<(), Halt> {
-    for option in quotient.heap_moves(heap) {
-        options.push_new(quotient.times(before, *option as usize))?;
-    }
-    Ok(())
-}
-
-/// Writes the option values of the representatives.
+/// Writes the option values of the representatives: those of a word without its last heap, beside
+/// that heap, and those of that heap, beside the word without it.
 fn write_options<A: Allocator>(
     quotient: &Quotient<A>,
     numbers: &Renumbering<A>,
+    set: &mut Vec<u64, A>,
     options: &mut Lists<A>,
+    work: &mut Work,
 ) -> Result<(), Halt> {
     for (place, item) in numbers.list.iter().enumerate() {
+        clear(set);
         if place > 0 {
             let heap = index(&numbers.words.heaps, item.1);
             let before = index(&numbers.places, index(&numbers.words.before, item.1));
-            push_before(quotient, before, heap, options)?;
-            push_moves(quotient, before, heap, options)?;
+            add_products(quotient, quotient.heap(heap), options.list(before), set);
+            add_products(quotient, before, quotient.heap_moves(heap), set);
         }
-        options.close()?;
+        options.push_set(set)?;
+        work.spend(quotient.order)?;
     }
     Ok(())
 }
@@ -257,9 +249,11 @@ fn options_of<A: Allocator + Copy>(
     alloc: A,
     quotient: &Quotient<A>,
     numbers: &Renumbering<A>,
+    work: &mut Work,
 ) -> Result<Lists<A>, Halt> {
     let mut options: Lists<A> = Lists::new(alloc);
-    write_options(quotient, numbers, &mut options)?;
+    let mut set: Vec<u64, A> = vec![in alloc; 0u64; quotient.order / 64 + 1]?;
+    write_options(quotient, numbers, &mut set, &mut options, work)?;
     Ok(options)
 }
 
@@ -270,14 +264,15 @@ fn renew<A: Allocator + Copy>(
     old: &Quotient<A>,
     numbers: &Renumbering<A>,
     new: &mut Quotient<A>,
+    work: &mut Work,
 ) -> Result<(), Halt> {
     new.order = old.order;
     new.words = old.words;
     write_rows(old, numbers, new)?;
     write_heaps(old, numbers, &mut new.heaps)?;
     write_products(old, numbers, &mut new.products)?;
-    new.renew_moves(alloc, code)?;
-    new.options = options_of(alloc, new, numbers)?;
+    new.renew_moves(alloc, code, work)?;
+    new.options = options_of(alloc, new, numbers, work)?;
     Ok(())
 }
 
@@ -287,9 +282,10 @@ fn take_numbers<A: Allocator + Copy>(
     code: &Code,
     quotient: &mut Quotient<A>,
     numbers: &Renumbering<A>,
+    work: &mut Work,
 ) -> Result<(), Halt> {
     let mut new = Quotient::empty(alloc);
-    let renewed = renew(alloc, code, quotient, numbers, &mut new);
+    let renewed = renew(alloc, code, quotient, numbers, &mut new, work);
     if renewed.is_ok() {
         mem::swap(quotient, &mut new);
     }
@@ -306,7 +302,7 @@ pub fn lighten<A: Allocator + Copy>(
 ) -> Result<(), Halt> {
     work.spend(quotient.order.saturating_mul(quotient.order))?;
     let numbers = renumber(alloc, quotient, work)?;
-    let taken = take_numbers(alloc, code, quotient, &numbers);
+    let taken = take_numbers(alloc, code, quotient, &numbers, work);
     drop(numbers);
     taken
 }

@@ -3,7 +3,7 @@ use crate::cells::{index, small};
 use crate::work::Halt;
 use std::alloc::Allocator;
 
-/// Closed lists, which have numbers from 0 on, and an open one behind them.
+/// Lists, which have numbers from 0 on.
 #[derive(Drop)]
 pub struct Lists<A: Allocator> {
     ends: Vec<usize, A>,
@@ -41,20 +41,23 @@ impl<A: Allocator> Lists<A> {
         }
     }
 
-    /// Adds an element to the open list, where it isn't there yet.
-    pub fn push_new(&mut self, element: usize) -> Result<(), Halt> {
-        let element = small(element);
-        let from = self.start(self.ends.len());
-        for item in self.items.iter().skip(from) {
-            if *item == element {
-                return Ok(());
+    /// Adds the list of the elements of a set, rising.
+    pub fn push_set(&mut self, set: &[u64]) -> Result<(), Halt> {
+        for (place, bits) in set.iter().enumerate() {
+            if *bits != 0 {
+                self.push_bits(place.wrapping_mul(64), *bits)?;
             }
         }
-        self.items.push(element).map_err(Halt::from)
+        self.ends.push(self.items.len()).map_err(Halt::from)
     }
 
-    /// Closes the open list.
-    pub fn close(&mut self) -> Result<(), Halt> {
-        self.ends.push(self.items.len()).map_err(Halt::from)
+    /// Adds the elements of a word, of which the first one is given, to the open list.
+    fn push_bits(&mut self, first: usize, bits: u64) -> Result<(), Halt> {
+        for i in 0..64usize {
+            if (bits >> i) & 1 == 1 {
+                self.items.push(small(first.wrapping_add(i)))?;
+            }
+        }
+        Ok(())
     }
 }

@@ -1,9 +1,9 @@
 //! Quotients on the way: a finite commutative monoid for the heaps up to some size.
-use crate::cells::{at, index, part, small, word};
+use crate::cells::{at, part, word};
 use crate::lists::Lists;
+use crate::rests::{Rests, Values};
 use crate::scene::Scene;
-use crate::work::Halt;
-use heap_options::options;
+use crate::work::{Halt, Work};
 use octal_code::Code;
 use std::alloc::Allocator;
 
@@ -28,6 +28,8 @@ pub struct Quotient<A: Allocator> {
     pub(crate) heaps: Vec<u16, A>,
     /// The values of the heaps' options.
     pub(crate) moves: Lists<A>,
+    /// The values of the rests of heaps.
+    rests: Rests<A>,
 }
 
 /// The weight of the heap n.
@@ -47,14 +49,22 @@ impl<A: Allocator + Copy> Quotient<A> {
             options: Lists::new(alloc),
             heaps: Vec::new(alloc),
             moves: Lists::new(alloc),
+            rests: Rests::empty(alloc),
         }
     }
 
     /// Finds the values of all heaps' options anew.
-    pub(crate) fn renew_moves(&mut self, alloc: A, code: &Code) -> Result<(), Halt> {
+    pub(crate) fn renew_moves(
+        &mut self,
+        alloc: A,
+        code: &Code,
+        work: &mut Work,
+    ) -> Result<(), Halt> {
         self.moves = Lists::new(alloc);
+        self.rests = Rests::empty(alloc);
+        self.rests.begin(self.order)?;
         for n in 1..self.heaps.len().saturating_add(1) {
-            self.add_moves(code, n)?;
+            self.add_moves(code, n, work)?;
         }
         Ok(())
     }
@@ -69,7 +79,8 @@ impl<A: Allocator> Quotient<A> {
         scene.settle(&[], false, &mut self.rows);
         self.products.push(0)?;
         self.weights.push(0)?;
-        self.options.close()
+        self.rests.begin(1)?;
+        self.options.push_set(&[])
     }
 
     /// How many elements there are.
@@ -109,26 +120,19 @@ impl<A: Allocator> Quotient<A> {
         at(&self.heaps, n.wrapping_sub(1))
     }
 
-    /// The value of these heaps: the product of their elements. That of no heap is 0, the identity.
-    fn value(&self, heaps: &[u64]) -> usize {
-        let mut value = 0;
-        for heap in heaps {
-            value = self.times(value, self.heap(*heap as usize));
-        }
-        value
-    }
-
     /// The values of the options of the heap n.
     pub(crate) fn heap_moves(&self, n: usize) -> &[u16] {
         self.moves.list(n.wrapping_sub(1))
     }
 
     /// Adds the values of the options of the heap n, the next one.
-    pub(crate) fn add_moves(&mut self, code: &Code, n: usize) -> Result<(), Halt> {
-        for left in options(code, n as u64) {
-            let value = self.value(left.heaps().as_slice());
-            self.moves.push_new(value)?;
-        }
-        self.moves.close()
+    pub(crate) fn add_moves(&mut self, code: &Code, n: usize, work: &mut Work) -> Result<(), Halt> {
+        let values = Values {
+            heaps: &self.heaps,
+            products: &self.products,
+            order: self.order,
+        };
+        self.rests.add(values, code, n, work)?;
+        self.moves.push_set(self.rests.set())
     }
 }

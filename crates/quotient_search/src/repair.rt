@@ -89,6 +89,7 @@ fn contexts_of_try<A: Allocator + Copy>(
     quotient: &Quotient<A>,
     failing: &Failing<A>,
     number: usize,
+    work: &mut Work,
 ) -> Result<Option<Scene<A>>, Halt> {
     let lighter = lighter_elements(quotient, failing.weight);
     let (elements, kept) = match number {
@@ -98,7 +99,7 @@ fn contexts_of_try<A: Allocator + Copy>(
         3 => (quotient.order, Kept::Parts),
         more => (quotient.order, Kept::Part(more.wrapping_sub(4))),
     };
-    contexts(alloc, quotient, &failing.heaps, elements, kept)
+    contexts(alloc, quotient, &failing.heaps, elements, kept, work)
 }
 
 /// What a try came to.
@@ -170,7 +171,7 @@ fn attempt<A: Allocator + Copy>(
     number: usize,
     work: &mut Work,
 ) -> Result<Tried, Halt> {
-    match contexts_of_try(alloc, &state.quotient, &state.failing, number)? {
+    match contexts_of_try(alloc, &state.quotient, &state.failing, number, work)? {
         Some(scene) => improve(alloc, code, state, &scene, work),
         None => Ok(Tried::Nothing),
     }
@@ -188,7 +189,7 @@ fn within_share<A: Allocator + Copy>(
     let tried = attempt(alloc, code, state, number, &mut share);
     work.take_back(share);
     match tried {
-        Err(Halt::GaveUp) => Ok(Tried::Worse),
+        Err(Halt::Work) => Ok(Tried::Worse),
         other => other,
     }
 }
@@ -210,7 +211,7 @@ fn first_better<A: Allocator + Copy>(
     Ok(Tried::Nothing)
 }
 
-/// Makes a wrong quotient right, with the closure that shows it, or gives up.
+/// Makes a wrong quotient right, with the closure that shows it, where a repair does.
 pub fn repair<A: Allocator + Copy>(
     alloc: A,
     code: &Code,
@@ -218,15 +219,15 @@ pub fn repair<A: Allocator + Copy>(
     work: &mut Work,
 ) -> Result<(), Halt> {
     let Some(failing) = lightest_failing(alloc, &state.quotient, work)? else {
-        return Err(Halt::GaveUp);
+        return Err(Halt::Repairs);
     };
     state.failing = failing;
     for _ in 0..MOST_REPAIRS {
         match first_better(alloc, code, state, work)? {
             Tried::Right => return Ok(()),
             Tried::Better => {}
-            Tried::Worse | Tried::Nothing => return Err(Halt::GaveUp),
+            Tried::Worse | Tried::Nothing => return Err(Halt::Repairs),
         }
     }
-    Err(Halt::GaveUp)
+    Err(Halt::Repairs)
 }

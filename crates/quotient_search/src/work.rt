@@ -7,8 +7,12 @@ use std::alloc::{AllocError, AllocFailed};
 pub enum Halt {
     /// A growth was refused.
     Memory,
-    /// A bound was reached.
-    GaveUp,
+    /// The work that was allowed is done, or there is more to keep than is allowed.
+    Work,
+    /// No try of a repair comes to something better.
+    Repairs,
+    /// There are more elements than are allowed.
+    TooLarge,
 }
 
 impl From<Memory> for Halt {
@@ -44,13 +48,13 @@ impl Work {
         Work { left: WHOLE }
     }
 
-    /// Spends so many steps, or gives up.
+    /// Spends so many steps, or ends the search.
     #[inline]
     pub fn spend(&mut self, steps: usize) -> Result<(), Halt> {
         let steps = steps as u64;
         if steps > self.left {
             self.left = 0;
-            return Err(Halt::GaveUp);
+            return Err(Halt::Work);
         }
         self.left -= steps;
         Ok(())

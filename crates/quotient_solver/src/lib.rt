@@ -5,4 +5,5 @@ mod guess;
 mod solver;
 
 pub use guess::Guess;
-pub use solver::Solver;
+pub use quotient_search::Cause;
+pub use solver::{Solver, furthest};

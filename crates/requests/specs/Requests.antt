@@ -1,5 +1,6 @@
 -- What can be asked of the program, with texts as lists of codes. This project's own.
 use Rattle.std.specs.Prelude.{ℕ, Bool, List, Option, option_map}
+use Rattle.requests.specs.declared.plans.Aim.{Aim}
 use Rattle.requests.specs.declared.plans.CatalogueTask.{CatalogueTask}
 use Rattle.requests.specs.declared.plans.CatalogueTask.TheVariants as task
 use Rattle.requests.specs.declared.plans.Output.{Output}
@@ -9,6 +10,10 @@ use Rattle.requests.specs.declared.plans.Plan.TheVariants as plan
 -- the limit of a check for which none is given
 abbrev pub default_limit : ℕ
 default_limit = 100000
+
+-- the largest heap of a search that goes as far as a certificate can
+abbrev pub deepest : ℕ
+deepest = 3090
 
 -- what is asked of a catalogue
 pub data CatalogueRequest : Type 0 where
@@ -23,7 +28,7 @@ pub data CatalogueRequest : Type 0 where
 -- what is asked of the program
 pub data Request : Type 0 where
   Check : Option (List ℕ) → ℕ → Request
-  Solve : List ℕ → ℕ → ℕ → ℕ → ℕ → Request
+  Solve : List ℕ → ℕ → ℕ → ℕ → Aim → Bool → Request
   Show : List ℕ → Request
   Describe : List ℕ → Output → Bool → Request
   Play : List ℕ → List ℕ → Request
@@ -44,7 +49,8 @@ catalogue_request_of task.Migrate = Migrate
 -- what a plan asks for
 abbrev pub request_of : Plan → Request
 request_of (plan.Check file limit) = Check (option_map (λ f. f.now) file) limit
-request_of (plan.Solve code limit rounds heaps order) = Solve code.now limit rounds heaps order
+request_of (plan.Solve code limit rounds order aim why) =
+    Solve code.now limit rounds order aim why
 request_of (plan.Show file) = Show file.now
 request_of (plan.Describe file output basis) = Describe file.now output basis
 request_of (plan.Play file position) = Play file.now position.now

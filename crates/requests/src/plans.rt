@@ -3,6 +3,21 @@
 /// The limit of a check for which none is given.
 pub const DEFAULT_LIMIT: u32 = 100000;
 
+/// The largest heap of a search that goes as far as a certificate can: so many heaps show the
+/// period of each.
+pub const DEEPEST: u32 = 3090;
+
+/// Of which heaps a search is to find the quotient.
+#[derive(Clone, Copy, Debug, PartialEq, Eq)]
+pub enum Aim {
+    /// Of all heaps; those up to `heaps` are looked at.
+    Whole { heaps: u32 },
+    /// Of the heaps 1 to `last`.
+    Part { last: u32 },
+    /// Of the most first heaps that have so few elements as are allowed.
+    Furthest,
+}
+
 /// What the program is asked to do.
 #[derive(Clone, Copy, PartialEq, Eq)]
 pub enum Plan<'a> {
@@ -12,14 +27,16 @@ pub enum Plan<'a> {
         file: Option<&'a str>,
         limit: u32,
     },
-    /// Look for a quotient of the code, in at most so many rounds, among the heaps up to `heaps`
-    /// and the quotients of at most `order` elements; each proposal is checked under the limit.
+    /// Look for a quotient of the code, of the heaps that are aimed at and of at most `order`
+    /// elements, in at most so many rounds; each proposal is checked under the limit. Where the
+    /// search is given up, the cause may be told.
     Solve {
         code: &'a str,
         limit: u32,
         rounds: u32,
-        heaps: u32,
         order: u32,
+        aim: Aim,
+        tells_why: bool,
     },
     /// Print the quotient that the file certifies.
     Show {

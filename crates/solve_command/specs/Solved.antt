@@ -1,9 +1,13 @@
 -- What a search prints. This project's own.
-use Rattle.std.specs.Prelude.{◌≡◌, ◌≢◌, ◌⊎◌, ◌≤◌, ℕ, Bool, true, false, List, Option, codes}
+use Rattle.std.specs.Prelude.{◌≡◌, ◌≢◌, ◌⊎◌, ◌≤◌, ℕ, Bool, true, false, List, ◌++◌, Option, codes, decimal}
 use Rattle.std.specs.Io.KnownBytes.{Appends}
-use Rattle.misere_theory.specs.Certificates.{Certificate, Accepted}
+use Rattle.misere_theory.specs.Certificates.{Certificate, Accepted, kind_of}
 use Rattle.octal_code.specs.Text.{IsCodeText}
 use Rattle.certificate_text.specs.Spelling.{Spells}
+use Rattle.proposers.specs.declared.reasons.Reason.{Reason}
+use Rattle.proposers.specs.declared.reasons.Reason.TheVariants.{TooLarge, Repairs, Work, NoPeriod, OneElement, Members, Refused}
+use Rattle.requests.specs.declared.plans.Aim.{Aim}
+use Rattle.requests.specs.declared.plans.Aim.TheVariants.{Whole, Part, Furthest}
 use Rattle.solve_command.specs.declared.bounds.SolveBounds.{SolveBounds}
 
 -- the text isn't a code's
@@ -14,26 +18,67 @@ IsNoCode text = (digits : List ℕ) → IsCodeText text digits → ⊥
 abbrev pub PrintsSpelling : Certificate → Option (List ℕ) → Option (List ℕ) → Type 0
 PrintsSpelling c before after = (bytes : List ℕ) × Spells bytes c × Appends before after bytes
 
--- An accepted certificate of the code, of at most so many elements, was printed.
-pub record PrintsCertificate (code : List ℕ) (order : ℕ) (before after : Option (List ℕ)) : Type 0
-  where
-    pub c : Certificate
-    pub of_code : c.code ≡ code
-    pub accepted : Accepted c
-    pub small : c.order ≤ order
-    pub printed : PrintsSpelling c before after
+-- a certificate of this kind is aimed at: a full one, that of the heaps 1 to M, or that of some first
+-- heaps
+abbrev pub IsAimedAt : Aim → ℕ → Type 0
+IsAimedAt (Whole heaps) kind = kind ≡ 0
+IsAimedAt (Part last) kind = kind ≡ last
+IsAimedAt Furthest kind = (1 ≤ kind) × (kind ≤ 1024)
 
--- The line that says how the search was given up went out. Where no round was asked for, all rounds
--- were spent.
-abbrev pub PrintsGivingUp : ℕ → Option (List ℕ) → Option (List ℕ) → Type 0
-PrintsGivingUp rounds before after =
-    Appends before after (codes "gave up 1 Rounds\n")
-    ⊎ ((rounds ≢ 0) × Appends before after (codes "gave up 2 Empty\n"))
+-- The certificate is accepted, and is one of this code and of a kind that is aimed at.
+pub record IsAskedFor (code : List ℕ) (aim : Aim) (c : Certificate) : Type 0 where
+  pub of_code : c.code ≡ code
+  pub of_kind : IsAimedAt aim (kind_of c)
+  pub accepted : Accepted c
+
+-- An accepted certificate of the code, of a kind that is aimed at and of at most so many elements,
+-- was printed.
+pub record PrintsCertificate (code : List ℕ) (aim : Aim) (order : ℕ)
+    (before after : Option (List ℕ)) : Type 0 where
+  pub c : Certificate
+  pub asked_for : IsAskedFor code aim c
+  pub small : c.order ≤ order
+  pub printed : PrintsSpelling c before after
+
+-- the line that says why no proposer had a draft that was accepted, with numbers of heaps and of
+-- elements
+abbrev pub reason_line : Reason → List ℕ
+reason_line (TooLarge heap) = codes "too large " ++ decimal heap ++ codes "\n"
+reason_line (Repairs heap order) =
+    codes "repairs " ++ decimal heap ++ codes " " ++ decimal order ++ codes "\n"
+reason_line (Work heap order) =
+    codes "work " ++ decimal heap ++ codes " " ++ decimal order ++ codes "\n"
+reason_line (NoPeriod heaps order) =
+    codes "no period " ++ decimal heaps ++ codes " " ++ decimal order ++ codes "\n"
+reason_line OneElement = codes "one element\n"
+reason_line Members = codes "members\n"
+reason_line Refused = codes "refused\n"
+
+-- it is the line of some reason
+abbrev pub TellsReason : List ℕ → Type 0
+TellsReason line = (reason : Reason) × (line ≡ reason_line reason)
+
+-- what is told where no proposer has a draft left, with the reason or without
+abbrev pub Tells : Bool → List ℕ → Type 0
+Tells true text = (line : List ℕ) × TellsReason line × (text ≡ codes "gave up 2 Empty\n" ++ line)
+Tells false text = text ≡ codes "gave up 2 Empty\n"
+
+-- what is told where all rounds were spent
+abbrev pub rounds_lines : Bool → List ℕ
+rounds_lines true = codes "gave up 1 Rounds\nrounds\n"
+rounds_lines false = codes "gave up 1 Rounds\n"
+
+-- What says how the search was given up went out, with the reason where that is asked for. Where no
+-- round was asked for, all rounds were spent.
+abbrev pub PrintsGivingUp : ℕ → Bool → Option (List ℕ) → Option (List ℕ) → Type 0
+PrintsGivingUp rounds why before after =
+    Appends before after (rounds_lines why)
+    ⊎ ((rounds ≢ 0) × ((text : List ℕ) × Tells why text × Appends before after text))
 
 -- what is printed for a code, and whether a certificate was found
 abbrev pub Finds : List ℕ → SolveBounds → Option (List ℕ) → Option (List ℕ) → Bool → Type 0
-Finds code bounds before after true = PrintsCertificate code bounds.order before after
-Finds code bounds before after false = PrintsGivingUp bounds.rounds before after
+Finds code bounds before after true = PrintsCertificate code bounds.aim bounds.order before after
+Finds code bounds before after false = PrintsGivingUp bounds.rounds bounds.tells_why before after
 
 -- The text is a code's, and a certificate of it was printed, or how the search for one was given
 -- up.

@@ -5,6 +5,7 @@ mod bounds;
 mod search;
 mod solving;
 mod stop;
+mod told;
 
 pub use bounds::SolveBounds;
 pub use solving::solve;

@@ -2,11 +2,12 @@
 ghost use Rattle.std.specs.Prelude.{◌≡◌, ◌<◌, ◌↔◌, ◌⊎◌, true, false, IfOk, IfErr, IsErrOf};
 ghost use Rattle.std.specs.Io.KnownBytes.{Appends};
 ghost use Rattle.octal_code.specs.Text.{IsCodeText};
-ghost use Rattle.solve_command.specs.Solved.{Finds, IsNoCode, PrintsSpelling, Solves};
+ghost use Rattle.solve_command.specs.Solved.{Finds, IsNoCode, PrintsSpelling, Solves, rounds_lines};
 
 use crate::bounds::SolveBounds;
 use crate::search::search;
 use crate::stop::SolveStop;
+use crate::told::empty_text;
 use answers::Certified;
 use certificate::write;
 use octal_code::Code;
@@ -63,9 +64,23 @@ fn answer<W: Sink>(
             print(&certified, out)
         }
         Err(GaveUp::Memory) => Err(SolveStop::Memory),
-        Err(GaveUp::Empty) => give_up(b"gave up 2 Empty\n", out),
+        Err(GaveUp::Empty) => {
+            let text = empty_text(alloc, code, bounds)?;
+            give_up(text.as_str().as_bytes(), out)
+        }
         // no proposer drafts a larger order
-        Ok(_) | Err(GaveUp::Rounds) => give_up(b"gave up 1 Rounds\n", out),
+        Ok(_) | Err(GaveUp::Rounds) => give_up(rounds_text(bounds.tells_why).as_bytes(), out),
+    }
+}
+
+/// What is told where all rounds were spent.
+fn rounds_text(tells_why: bool) -> &'static str
+    ensures { result.now ≡ rounds_lines tells_why }
+{
+    if tells_why {
+        "gave up 1 Rounds\nrounds\n"
+    } else {
+        "gave up 1 Rounds\n"
     }
 }
 

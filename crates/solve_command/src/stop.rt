@@ -1,7 +1,8 @@
 //! What ends a search before it is done.
 ghost use Rattle.std.specs.Prelude.{◌≡◌};
-ghost use Rattle.solve_command.specs.declared.stop.SolveStop.TheVariants.{Write as NotWritten};
+ghost use Rattle.solve_command.specs.declared.stop.SolveStop.TheVariants.{Memory as OutOfMemory, Write as NotWritten};
 
+use allocation::Memory;
 use certificate::WriteFault;
 use streams::DeviceFault;
 
@@ -14,6 +15,14 @@ pub enum SolveStop {
     Write,
     /// A growth was refused.
     Memory,
+}
+
+impl From<Memory> for SolveStop {
+    ghost from_gives = { λ _ stop. stop ≡ OutOfMemory };
+
+    fn from(_: Memory) -> SolveStop {
+        SolveStop::Memory
+    }
 }
 
 impl From<DeviceFault> for SolveStop {

@@ -1,0 +1,69 @@
+//! What a search looks for, and what it comes to.
+use crate::quotient::Quotient;
+use std::alloc::Allocator;
+
+/// The most heaps whose pairs show those of every heap, for a code that leaves two heaps: a start
+/// and a period are 1025 together at most, and there are 16 digits after the point.
+const DEEPEST_OF_TWO: usize = 2065;
+
+/// The same for a code that leaves three.
+pub const DEEPEST: usize = 3090;
+
+/// The most heaps of a part of a game.
+pub const LONGEST_PART: usize = 1024;
+
+/// How far a search goes.
+#[derive(Clone, Copy, Debug, PartialEq, Eq)]
+pub enum Aim {
+    /// Up to the first heap by which a period shows, or up to this one.
+    Period(usize),
+    /// Up to this heap, whether a period shows or not.
+    Part(usize),
+}
+
+impl Aim {
+    /// The last heap that is looked at, where a move may leave three heaps or not.
+    pub(crate) fn last(self, leaves_three: bool) -> usize {
+        match self {
+            Aim::Period(most) => most.min(if leaves_three {
+                DEEPEST
+            } else {
+                DEEPEST_OF_TWO
+            }),
+            Aim::Part(last) => last.min(LONGEST_PART),
+        }
+    }
+}
+
+/// Why a search came to nothing.
+#[derive(Clone, Copy, Debug, PartialEq, Eq)]
+pub enum Cause {
+    /// The quotient of the heaps up to this one has more elements than are allowed.
+    TooLarge { heap: usize },
+    /// With this heap the rule fails, and no repair comes to something better. Before it there were
+    /// `order` elements.
+    Repairs { heap: usize, order: usize },
+    /// At this heap the work that is allowed was done, or there was more to keep than is allowed.
+    /// Before it there were `order` elements.
+    Work { heap: usize, order: usize },
+}
+
+impl Cause {
+    /// The heap at which the search ended.
+    pub fn heap(self) -> usize {
+        match self {
+            Cause::TooLarge { heap }
+            | Cause::Repairs { heap, .. }
+            | Cause::Work { heap, .. } => heap,
+        }
+    }
+}
+
+/// What a search comes to.
+#[derive(Drop)]
+pub enum Found<A: Allocator> {
+    /// A quotient, which may be wrong.
+    Quotient(Quotient<A>),
+    /// Nothing.
+    Nothing(Cause),
+}

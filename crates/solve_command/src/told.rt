@@ -1,0 +1,63 @@
+//! What is told of a search that was given up.
+ghost use Rattle.std.specs.Prelude.{◌≡◌, ◌++◌, [], IfOk, codes, string_bytes};
+ghost use Rattle.solve_command.specs.Solved.{Tells, TellsReason, reason_line};
+
+use crate::bounds::SolveBounds;
+use crate::search::last_of_furthest;
+use allocation::Memory;
+use octal_code::Code;
+use proposers::{Reason, Sought, reason};
+use requests::Aim;
+use std::alloc::Global;
+
+/// The line of a reason.
+fn reason_text(alloc: Global, reason: Reason) -> Result<String, Memory>
+    ensures { IfOk result (λ t. string_bytes t ≡ reason_line reason) }
+{
+    let text = match reason {
+        Reason::TooLarge { heap } => format!(in alloc; "too large {heap}\n")?,
+        Reason::Repairs { heap, order } => format!(in alloc; "repairs {heap} {order}\n")?,
+        Reason::Work { heap, order } => format!(in alloc; "work {heap} {order}\n")?,
+        Reason::NoPeriod { heaps, order } => format!(in alloc; "no period {heaps} {order}\n")?,
+        Reason::OneElement => format!(in alloc; "one element\n")?,
+        Reason::Members => format!(in alloc; "members\n")?,
+        Reason::Refused => format!(in alloc; "refused\n")?,
+    };
+    Ok(text)
+}
+
+/// What the refiner was to search for.
+fn sought_of(alloc: Global, code: &Code, bounds: SolveBounds) -> Result<Sought, Memory> {
+    let (heaps, is_part) = match bounds.aim {
+        Aim::Whole { heaps } => (heaps, false),
+        Aim::Part { last } => (last, true),
+        Aim::Furthest => (last_of_furthest(alloc, code, bounds.order)?, true),
+    };
+    Ok(Sought {
+        heaps: heaps as usize,
+        is_part,
+        order: bounds.order as usize,
+        members: bounds.limit,
+    })
+}
+
+/// The line that says why no proposer had a draft that was accepted.
+fn why_text(alloc: Global, code: &Code, bounds: SolveBounds) -> Result<String, Memory>
+    ensures { IfOk result (λ t. TellsReason (string_bytes t)) }
+{
+    let sought = sought_of(alloc, code, bounds)?;
+    let reason = reason(alloc, code, sought)?;
+    reason_text(alloc, reason)
+}
+
+/// What is told where no proposer has a draft left.
+pub(crate) fn empty_text(alloc: Global, code: &Code, bounds: SolveBounds) -> Result<String, Memory>
+    ensures { IfOk result (λ t. Tells bounds.tells_why (string_bytes t)) }
+{
+    let mut text = format!(in alloc; "gave up 2 Empty\n")?;
+    if bounds.tells_why {
+        let why = why_text(alloc, code, bounds)?;
+        text.push_str(why.as_str())?;
+    }
+    Ok(text)
+}
