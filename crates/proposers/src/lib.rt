@@ -9,6 +9,6 @@ mod sampler;
 
 pub use periods::least_period;
 pub use quotient_solver::furthest;
-pub use reasons::{Reason, Sought, reason};
+pub use reasons::{Reason, Sought, find_reason};
 pub use refiner::Refiner;
 pub use sampler::Sampler;

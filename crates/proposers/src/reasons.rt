@@ -42,7 +42,7 @@ pub struct Sought {
 }
 
 /// Why a refiner came to nothing: what it did is done again.
-pub fn reason(alloc: Global, code: &Code, sought: Sought) -> Result<Reason, Memory> {
+pub fn find_reason(alloc: Global, code: &Code, sought: Sought) -> Result<Reason, Memory> {
     let solver = if sought.is_part {
         Solver::of_part(alloc, sought.heaps, sought.order)
     } else {

@@ -6,7 +6,7 @@ use crate::bounds::SolveBounds;
 use crate::search::last_of_furthest;
 use allocation::Memory;
 use octal_code::Code;
-use proposers::{Reason, Sought, reason};
+use proposers::{Reason, Sought, find_reason};
 use requests::Aim;
 use std::alloc::Global;
 
@@ -46,7 +46,7 @@ fn why_text(alloc: Global, code: &Code, bounds: SolveBounds) -> Result<String, M
     ensures { IfOk result (λ t. TellsReason (string_bytes t)) }
 {
     let sought = sought_of(alloc, code, bounds)?;
-    let reason = reason(alloc, code, sought)?;
+    let reason = find_reason(alloc, code, sought)?;
     reason_text(alloc, reason)
 }
 
