@@ -91,21 +91,25 @@ fn aim(given: &ArgMatches<'_>) -> Result<Aim, UsageFault>
     }
 }
 
-/// Which number says how many elements are allowed.
-fn order_quantity(given: &ArgMatches<'_>) -> Quantity
-    ensures { result ≡ order_by (is_set (codes "deep") (arguments_of given.now))
+/// How many elements are allowed.
+fn order(given: &ArgMatches<'_>) -> Result<u32, UsageFault>
+    ensures order { IfOk result (λ n. order_in (arguments_of given.now) ≡ Some n) }
+    ensures within { IfOk result
+        (IsWithin (order_by (is_set (codes "deep") (arguments_of given.now))
         (first_of (codes "partial") (arguments_of given.now))
-        (first_of (codes "furthest") (arguments_of given.now)) }
+        (first_of (codes "furthest") (arguments_of given.now)))) }
+    ensures none { IfErr result (λ _. order_in (arguments_of given.now) ≡ None) }
+    ensures mistake { IfErr result (IsMistake solve (arguments_of given.now)) }
 {
     match (
         value(given, "furthest"),
         value(given, "partial"),
         flag(given, "deep"),
     ) {
-        (Some(_), _, _) => Quantity::Furthest,
-        (None, Some(_), _) => Quantity::PartOrder,
-        (None, None, true) => Quantity::DeepOrder,
-        (None, None, false) => Quantity::Order,
+        (Some(_), _, _) => number(given, Quantity::Furthest),
+        (None, Some(_), _) => number(given, Quantity::PartOrder),
+        (None, None, true) => number(given, Quantity::DeepOrder),
+        (None, None, false) => number(given, Quantity::Order),
     }
 }
 
@@ -116,7 +120,7 @@ fn solve_plan<'a>(given: &ArgMatches<'a>) -> Result<Plan<'a>, UsageFault>
     let limit = number(given, Quantity::Limit)?;
     let rounds = number(given, Quantity::Rounds)?;
     let aim = aim(given)?;
-    let order = number(given, order_quantity(given))?;
+    let order = order(given)?;
     let tells_why = flag(given, "why");
     Ok(Plan::Solve {
         code,

@@ -2,7 +2,7 @@
 use crate::rows::{Row, count_held};
 use crate::words::line_words;
 use command_line::{Exclusion, Quantity, UsageFault, VERSION, plan};
-use requests::{CatalogueTask, Output, Plan};
+use requests::{Aim, CatalogueTask, DEEPEST, Output, Plan};
 use std::alloc::Global;
 
 /// What words ask for.
@@ -10,6 +10,8 @@ enum Asked {
     Plan(Plan<'static>),
     /// A search for 0.3: the limit, the rounds, the heaps and the order.
     Search(u32, u32, u32, u32),
+    /// A search for 0.3: the order, the aim, and whether the cause is told.
+    Aimed(u32, Aim, bool),
     /// A task on the catalogue x.json.
     Task(CatalogueTask<'static>),
     /// A description of the certificate in a.mqc, and whether by the reduced basis.
@@ -33,8 +35,17 @@ fn plan_of(asked: &Asked) -> Plan<'static> {
             code: "0.3",
             limit: *limit,
             rounds: *rounds,
-            heaps: *heaps,
             order: *order,
+            aim: Aim::Whole { heaps: *heaps },
+            tells_why: false,
+        },
+        Asked::Aimed(order, aim, tells_why) => Plan::Solve {
+            code: "0.3",
+            limit: 100000,
+            rounds: 64,
+            order: *order,
+            aim: *aim,
+            tells_why: *tells_why,
         },
         Asked::Task(task) => Plan::Catalogue {
             file: "x.json",
@@ -56,6 +67,8 @@ fn is_asked(alloc: Global, words: &[&str], want: Plan<'_>) -> bool {
     }
 }
 
+const DEEP: Aim = Aim::Whole { heaps: DEEPEST };
+
 /// A command line, and what it asks for.
 struct Asks(&'static str, Asked);
 
@@ -68,7 +81,7 @@ impl Row for Asks {
     }
 }
 
-static ASKED: [Asks; 35] = [
+static ASKED: [Asks; 42] = [
     Asks(
         "check",
         Asked::Plan(Plan::Check {
@@ -157,6 +170,28 @@ static ASKED: [Asks; 35] = [
         "solve|0.3|--order|256|--heaps|9",
         Asked::Search(100000, 64, 9, 256),
     ),
+    Asks("solve|0.3|--deep", Asked::Aimed(256, DEEP, false)),
+    Asks("solve|--deep|--order|9|0.3", Asked::Aimed(9, DEEP, false)),
+    Asks(
+        "solve|0.3|--partial|1",
+        Asked::Aimed(512, Aim::Part { last: 1 }, false),
+    ),
+    Asks(
+        "solve|0.3|--partial|1024|--order|512",
+        Asked::Aimed(512, Aim::Part { last: 1024 }, false),
+    ),
+    Asks(
+        "solve|0.3|--furthest|2",
+        Asked::Aimed(2, Aim::Furthest, false),
+    ),
+    Asks(
+        "solve|0.3|--furthest=512|--why",
+        Asked::Aimed(512, Aim::Furthest, true),
+    ),
+    Asks(
+        "solve|--why|0.3",
+        Asked::Aimed(64, Aim::Whole { heaps: 24 }, true),
+    ),
     Asks("catalogue|x.json", Asked::Task(CatalogueTask::Print)),
     Asks("catalogue|x.json|--new", Asked::Task(CatalogueTask::New)),
     Asks(
@@ -215,7 +250,7 @@ static ASKED: [Asks; 35] = [
 
 #[test]
 fn asks_for_plans(rt: HostRuntime) {
-    assert!(rt; count_held(rt.alloc(), &ASKED) == 35);
+    assert!(rt; count_held(rt.alloc(), &ASKED) == 42);
 }
 
 /// Whether the fault has this status, and a text with this part.
@@ -255,7 +290,7 @@ impl Row for Refuses {
     }
 }
 
-static REFUSED: [Refuses; 106] = [
+static REFUSED: [Refuses; 125] = [
     Refuses("check|--limit|0", Why::Number(Quantity::Limit)),
     Refuses("check|--limit|1000001", Why::Number(Quantity::Limit)),
     Refuses("check|--limit|08", Why::Number(Quantity::Limit)),
@@ -270,15 +305,76 @@ static REFUSED: [Refuses; 106] = [
     Refuses("solve|0.3|--heaps|65", Why::Number(Quantity::Heaps)),
     Refuses("solve|0.3|--order|1", Why::Number(Quantity::Order)),
     Refuses("solve|0.3|--order|257", Why::Number(Quantity::Order)),
-    Refuses("catalogue|x.json|--get|0.3|--new", Why::Exclusive(Exclusion::Catalogue)),
-    Refuses("catalogue|x.json|--get|0.3|--add|a.mqc", Why::Exclusive(Exclusion::Catalogue)),
+    Refuses(
+        "solve|0.3|--deep|--order|257",
+        Why::Number(Quantity::DeepOrder),
+    ),
+    Refuses("solve|0.3|--partial|0", Why::Number(Quantity::Last)),
+    Refuses("solve|0.3|--partial|1025", Why::Number(Quantity::Last)),
+    Refuses(
+        "solve|0.3|--partial|9|--order|513",
+        Why::Number(Quantity::PartOrder),
+    ),
+    Refuses("solve|0.3|--furthest|1", Why::Number(Quantity::Furthest)),
+    Refuses("solve|0.3|--furthest|513", Why::Number(Quantity::Furthest)),
+    Refuses(
+        "solve|0.3|--deep|--heaps|9",
+        Why::Exclusive(Exclusion::Solve),
+    ),
+    Refuses(
+        "solve|0.3|--heaps|9|--partial|9",
+        Why::Exclusive(Exclusion::Solve),
+    ),
+    Refuses(
+        "solve|0.3|--heaps|9|--furthest|9",
+        Why::Exclusive(Exclusion::Solve),
+    ),
+    Refuses(
+        "solve|0.3|--deep|--partial|9",
+        Why::Exclusive(Exclusion::Solve),
+    ),
+    Refuses(
+        "solve|0.3|--deep|--furthest|9",
+        Why::Exclusive(Exclusion::Solve),
+    ),
+    Refuses(
+        "solve|0.3|--partial|9|--furthest|9",
+        Why::Exclusive(Exclusion::Solve),
+    ),
+    Refuses(
+        "solve|0.3|--furthest|9|--order|9",
+        Why::Exclusive(Exclusion::Solve),
+    ),
+    Refuses("solve|0.3|--deep|--deep", Why::Words),
+    Refuses("solve|0.3|--why=1", Why::Words),
+    Refuses("solve|--help", Why::Help("--deep")),
+    Refuses("solve|--help", Why::Help("--partial <M>")),
+    Refuses("solve|--help", Why::Help("--furthest <Q>")),
+    Refuses("solve|--help", Why::Help("--why")),
+    Refuses(
+        "catalogue|x.json|--get|0.3|--new",
+        Why::Exclusive(Exclusion::Catalogue),
+    ),
+    Refuses(
+        "catalogue|x.json|--get|0.3|--add|a.mqc",
+        Why::Exclusive(Exclusion::Catalogue),
+    ),
     Refuses(
         "catalogue|x.json|--new|--get|0.3|--add|a.mqc",
         Why::Exclusive(Exclusion::Catalogue),
     ),
-    Refuses("catalogue|x.json|--salvage|--new", Why::Exclusive(Exclusion::Catalogue)),
-    Refuses("catalogue|x.json|--salvage|--add|a.mqc", Why::Exclusive(Exclusion::Catalogue)),
-    Refuses("catalogue|x.json|--salvage|--get|0.3", Why::Exclusive(Exclusion::Catalogue)),
+    Refuses(
+        "catalogue|x.json|--salvage|--new",
+        Why::Exclusive(Exclusion::Catalogue),
+    ),
+    Refuses(
+        "catalogue|x.json|--salvage|--add|a.mqc",
+        Why::Exclusive(Exclusion::Catalogue),
+    ),
+    Refuses(
+        "catalogue|x.json|--salvage|--get|0.3",
+        Why::Exclusive(Exclusion::Catalogue),
+    ),
     Refuses(
         "catalogue|x.json|--get|0.3|--heaps|1025",
         Why::Number(Quantity::Part),
@@ -291,15 +387,42 @@ static REFUSED: [Refuses; 106] = [
         "catalogue|x.json|--get|0.3|--heaps|x",
         Why::Number(Quantity::Part),
     ),
-    Refuses("catalogue|x.json|--heaps|2", Why::Exclusive(Exclusion::Catalogue)),
-    Refuses("catalogue|x.json|--new|--heaps|2", Why::Exclusive(Exclusion::Catalogue)),
-    Refuses("catalogue|x.json|--add|a.mqc|--heaps|2", Why::Exclusive(Exclusion::Catalogue)),
-    Refuses("catalogue|x.json|--salvage|--heaps|2", Why::Exclusive(Exclusion::Catalogue)),
-    Refuses("catalogue|x.json|--migrate|--heaps|2", Why::Exclusive(Exclusion::Catalogue)),
-    Refuses("catalogue|x.json|--migrate|--new", Why::Exclusive(Exclusion::Catalogue)),
-    Refuses("catalogue|x.json|--migrate|--add|a.mqc", Why::Exclusive(Exclusion::Catalogue)),
-    Refuses("catalogue|x.json|--migrate|--get|0.3", Why::Exclusive(Exclusion::Catalogue)),
-    Refuses("catalogue|x.json|--migrate|--salvage", Why::Exclusive(Exclusion::Catalogue)),
+    Refuses(
+        "catalogue|x.json|--heaps|2",
+        Why::Exclusive(Exclusion::Catalogue),
+    ),
+    Refuses(
+        "catalogue|x.json|--new|--heaps|2",
+        Why::Exclusive(Exclusion::Catalogue),
+    ),
+    Refuses(
+        "catalogue|x.json|--add|a.mqc|--heaps|2",
+        Why::Exclusive(Exclusion::Catalogue),
+    ),
+    Refuses(
+        "catalogue|x.json|--salvage|--heaps|2",
+        Why::Exclusive(Exclusion::Catalogue),
+    ),
+    Refuses(
+        "catalogue|x.json|--migrate|--heaps|2",
+        Why::Exclusive(Exclusion::Catalogue),
+    ),
+    Refuses(
+        "catalogue|x.json|--migrate|--new",
+        Why::Exclusive(Exclusion::Catalogue),
+    ),
+    Refuses(
+        "catalogue|x.json|--migrate|--add|a.mqc",
+        Why::Exclusive(Exclusion::Catalogue),
+    ),
+    Refuses(
+        "catalogue|x.json|--migrate|--get|0.3",
+        Why::Exclusive(Exclusion::Catalogue),
+    ),
+    Refuses(
+        "catalogue|x.json|--migrate|--salvage",
+        Why::Exclusive(Exclusion::Catalogue),
+    ),
     Refuses(
         "describe|a.mqc|--latex|--relations",
         Why::Exclusive(Exclusion::Description),
@@ -416,7 +539,7 @@ fn is_incomplete(alloc: Global) -> bool {
 
 #[test]
 fn tells_why_words_ask_for_nothing(rt: HostRuntime) {
-    assert!(rt; count_held(rt.alloc(), &REFUSED) == 106);
+    assert!(rt; count_held(rt.alloc(), &REFUSED) == 125);
     assert!(rt; is_incomplete(rt.alloc()));
 }
 

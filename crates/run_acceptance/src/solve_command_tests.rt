@@ -2,6 +2,7 @@
 use crate::by_rule::{by_rule, digits_of};
 use crate::certificates::{OF_0_1, OF_0_3, OF_0_33, OF_0_75, OF_0_B};
 use crate::rows::{Row, count_held};
+use requests::{Aim, DEEPEST};
 use solve_command::{SolveBounds, SolveStop, solve};
 use std::alloc::Global;
 use streams::MemorySink;
@@ -20,8 +21,9 @@ fn bounds_of(limit: u32, bounds: Bounds) -> SolveBounds {
     SolveBounds {
         limit,
         rounds,
-        heaps,
         order,
+        aim: Aim::Whole { heaps },
+        tells_why: false,
     }
 }
 
@@ -97,6 +99,184 @@ row 4 5 2 3 4 5\nrow 5 4 3 2 5 4\napart 0 1 1 0 4 0 0 4 0 2 0 1 0 1 0\nend\n",
     Solved("0.33", (64, 2, 64), Ok(false), "gave up 2 Empty\n"),
 ];
 
+/// What a search for a code is to find, with the reason told where it is given up, and how what it
+/// prints begins.
+struct Aimed(&'static str, Aim, u32, bool, &'static str);
+
+impl Row for Aimed {
+    fn holds(&self, alloc: Global) -> bool {
+        let Aimed(code, aim, order, is_found, head) = *self;
+        let bounds = SolveBounds {
+            limit: 100000,
+            rounds: 64,
+            order,
+            aim,
+            tells_why: true,
+        };
+        begins(alloc, code, bounds, is_found, head)
+    }
+}
+
+/// Whether this is answered for a code, and what is printed begins so.
+fn begins(alloc: Global, code: &str, bounds: SolveBounds, is_found: bool, head: &str) -> bool {
+    let mut sink = MemorySink::new(alloc);
+    let found = solve(alloc, code, bounds, &mut sink);
+    is_answer(found, Ok(is_found)) && sink.bytes().starts_with(head.as_bytes())
+}
+
+const DEEP: Aim = Aim::Whole { heaps: DEEPEST };
+
+/// The quotients of Kayles, and those of Dawson's Kayles and of 0.4 to the heaps at which the
+/// literature stops, or one before.
+static AIMED: [Aimed; 20] = [
+    Aimed(
+        "0.77",
+        DEEP,
+        256,
+        true,
+        "mqc 1\ncode 0.77\norder 40\nstart 71\nperiod 12\n",
+    ),
+    Aimed("0.33", DEEP, 256, true, OF_0_33),
+    Aimed("0.b", DEEP, 256, true, OF_0_B),
+    Aimed(
+        "0.044",
+        DEEP,
+        256,
+        true,
+        "mqc 1\ncode 0.044\norder 40\nstart 214\nperiod 36\n",
+    ),
+    Aimed(
+        "0.77",
+        Aim::Part { last: 20 },
+        512,
+        true,
+        "mqc 2\ncode 0.77\norder 24\nstart 21\nperiod 0\n",
+    ),
+    Aimed(
+        "0.77",
+        Aim::Part { last: 64 },
+        512,
+        true,
+        "mqc 2\ncode 0.77\norder 40\nstart 65\nperiod 0\n",
+    ),
+    Aimed(
+        "0.07",
+        Aim::Part { last: 29 },
+        512,
+        true,
+        "mqc 2\ncode 0.07\norder 176\nstart 30\nperiod 0\n",
+    ),
+    Aimed(
+        "0.07",
+        Aim::Part { last: 30 },
+        512,
+        true,
+        "mqc 2\ncode 0.07\norder 360\nstart 31\nperiod 0\n",
+    ),
+    Aimed(
+        "0.4",
+        Aim::Part { last: 31 },
+        512,
+        true,
+        "mqc 2\ncode 0.4\norder 360\nstart 32\nperiod 0\n",
+    ),
+    Aimed(
+        "0.6",
+        Aim::Part { last: 16 },
+        512,
+        true,
+        "mqc 2\ncode 0.6\norder 304\nstart 17\nperiod 0\n",
+    ),
+    Aimed(
+        "0.07",
+        Aim::Furthest,
+        200,
+        true,
+        "mqc 2\ncode 0.07\norder 176\nstart 30\nperiod 0\n",
+    ),
+    Aimed(
+        "0.3",
+        Aim::Furthest,
+        2,
+        true,
+        "mqc 2\ncode 0.3\norder 2\nstart 1025\nperiod 0\n",
+    ),
+    Aimed(
+        "0.33",
+        Aim::Furthest,
+        4,
+        true,
+        "mqc 2\ncode 0.33\norder 2\nstart 2\nperiod 0\n",
+    ),
+    Aimed(
+        "0.33",
+        Aim::Whole { heaps: 24 },
+        5,
+        false,
+        "gave up 2 Empty\ntoo large 2\n",
+    ),
+    Aimed(
+        "0.77",
+        Aim::Whole { heaps: 64 },
+        64,
+        false,
+        "gave up 2 Empty\nno period 64 40\n",
+    ),
+    Aimed("0.07", DEEP, 256, false, "gave up 2 Empty\ntoo large 30\n"),
+    Aimed(
+        "0.07",
+        Aim::Part { last: 31 },
+        512,
+        false,
+        "gave up 2 Empty\ntoo large 31\n",
+    ),
+    Aimed(
+        "0.0001",
+        Aim::Part { last: 3 },
+        512,
+        false,
+        "gave up 2 Empty\none element\n",
+    ),
+    Aimed(
+        "0.54",
+        Aim::Part { last: 101 },
+        512,
+        false,
+        "gave up 2 Empty\nrepairs 101 510\n",
+    ),
+    Aimed(
+        "0.6",
+        Aim::Part { last: 17 },
+        512,
+        false,
+        "gave up 2 Empty\nwork 17 304\n",
+    ),
+];
+
+/// How the two ends that depend on other bounds are told.
+fn tells_members_and_rounds(alloc: Global) -> bool {
+    let of = |limit, rounds| SolveBounds {
+        limit,
+        rounds,
+        order: 64,
+        aim: DEEP,
+        tells_why: true,
+    };
+    begins(
+        alloc,
+        "0.33",
+        of(2, 64),
+        false,
+        "gave up 2 Empty\nmembers\n",
+    ) && begins(
+        alloc,
+        "0.33",
+        of(100000, 0),
+        false,
+        "gave up 1 Rounds\nrounds\n",
+    )
+}
+
 /// Whether a search for the code is given up where each check is made under this limit.
 fn gives_up(alloc: Global, code: &str, limit: u32) -> bool {
     let mut sink = MemorySink::new(alloc);
@@ -143,4 +323,6 @@ fn prints_the_certificates_of_codes(rt: HostRuntime) {
     assert!(rt; count_held(rt.alloc(), &ROWS) == 18);
     assert!(rt; gives_up(rt.alloc(), "0.33", 2) && gives_up(rt.alloc(), "0.3", 1));
     assert!(rt; first_not_solved(rt.alloc()) == 256);
+    assert!(rt; count_held(rt.alloc(), &AIMED) == 20);
+    assert!(rt; tells_members_and_rounds(rt.alloc()));
 }

@@ -1,8 +1,8 @@
 use Rattle.std.proofs.Common.{rules}
 use Rattle.quotient_solver.proofs.solver.Solver.solve.Goals as goal
 
-pub returns-in_err-guess-clause-same : goal.returns-in_err-guess-clause-same
-returns-in_err-guess-clause-same g c = search rules
+pub returns-in_err-search-clause-same : goal.returns-in_err-search-clause-same
+returns-in_err-search-clause-same g c = search rules
 
 pub returns-clause-formed : goal.returns-clause-formed
 returns-clause-formed g c = search rules
