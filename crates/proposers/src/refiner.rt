@@ -1,9 +1,11 @@
 //! The proposer that solves heap by heap.
+ghost use Rattle.std.specs.Prelude.{◌≡◌, []};
+
 use allocation::Memory;
 use answers::Refusal;
 use drafts::{Drafts, Guess};
 use octal_code::Code;
-use quotient_finder::Proposer;
+use quotient_finder::{History, Proposer};
 use quotient_solver::{Guess as Solved, Solver};
 use std::alloc::Global;
 
@@ -17,12 +19,15 @@ pub struct Refiner {
     is_part: bool,
     drafts: Option<Drafts>,
     has_solved: bool,
+    history: History,
 }
 
 impl Refiner {
     /// A refiner that looks at the heaps 1 to `heaps`, and drafts whole games of at most `order`
     /// elements.
-    pub fn new(alloc: Global, heaps: usize, order: usize) -> Refiner {
+    pub fn new(alloc: Global, heaps: usize, order: usize) -> Refiner
+        ensures { ⟦<Refiner as Proposer>⟧.history result ≡ [] }
+    {
         Refiner {
             alloc,
             order,
@@ -30,12 +35,15 @@ impl Refiner {
             is_part: false,
             drafts: None,
             has_solved: false,
+            history: History::new(),
         }
     }
 
     /// A refiner that drafts the part of a game that has the heaps 1 to `last`, of at most `order`
     /// elements.
-    pub fn of_part(alloc: Global, last: usize, order: usize) -> Refiner {
+    pub fn of_part(alloc: Global, last: usize, order: usize) -> Refiner
+        ensures { ⟦<Refiner as Proposer>⟧.history result ≡ [] }
+    {
         Refiner {
             alloc,
             order,
@@ -43,11 +51,14 @@ impl Refiner {
             is_part: true,
             drafts: None,
             has_solved: false,
+            history: History::new(),
         }
     }
 
     /// Guesses, unless it did.
-    fn solve(&mut self, code: &Code) -> Result<(), Memory> {
+    fn solve(&mut self, code: &Code) -> Result<(), Memory>
+        ensures { self.new.history ≡ self.old.history }
+    {
         if !self.has_solved {
             self.has_solved = true;
             if let Some(solved) = self.solver.solve(code)? {
@@ -55,6 +66,17 @@ impl Refiner {
             }
         }
         Ok(())
+    }
+
+    /// A draft of the guess, if one is left.
+    fn left(&mut self, code: &Code) -> Result<Option<Vec<u8>>, Memory>
+        ensures { self.new.history ≡ self.old.history }
+    {
+        self.solve(code)?;
+        match &mut self.drafts {
+            Some(drafts) => drafts.next(code, self.order),
+            None => Ok(None),
+        }
     }
 }
 
@@ -91,15 +113,16 @@ fn guess_of(solved: Solved) -> Guess {
 }
 
 impl Proposer for Refiner {
+    ghost history = { λ s. s.history.events };
+
     fn propose(&mut self, code: &Code) -> Result<Option<Vec<u8>>, Memory> {
-        self.solve(code)?;
-        match &mut self.drafts {
-            Some(drafts) => drafts.next(code, self.order),
-            None => Ok(None),
-        }
+        let reply = self.left(code);
+        self.history.asked(&reply);
+        reply
     }
 
-    fn learn(&mut self, _refusal: &Refusal) -> Result<(), Memory> {
+    fn learn(&mut self, refusal: &Refusal) -> Result<(), Memory> {
+        self.history.told(refusal);
         Ok(())
     }
 }
