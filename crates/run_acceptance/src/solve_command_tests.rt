@@ -238,11 +238,11 @@ static AIMED: [Aimed; 20] = [
         "gave up 2 Empty\none element\n",
     ),
     Aimed(
-        "0.54",
-        Aim::Part { last: 101 },
-        512,
+        "0.742",
+        Aim::Whole { heaps: 64 },
+        256,
         false,
-        "gave up 2 Empty\nrepairs 101 510\n",
+        "gave up 2 Empty\nrepairs 15 74\n",
     ),
     Aimed(
         "0.6",

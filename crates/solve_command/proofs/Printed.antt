@@ -8,7 +8,7 @@ use Rattle.quotient_finder.specs.declared.gave_up.GaveUp.{GaveUp}
 use Rattle.quotient_finder.specs.declared.gave_up.GaveUp.TheVariants.{Empty}
 use Rattle.solve_command.specs.declared.bounds.SolveBounds.{SolveBounds}
 use Rattle.solve_command.specs.declared.stop.SolveStop.{SolveStop}
-use Rattle.solve_command.specs.Solved.{Finds, PrintsSpelling, Solves}
+use Rattle.solve_command.specs.Solved.{Finds, IsAskedFor, PrintsSpelling, Solves, Tells, rounds_lines}
 
 pub solved : (text code : List ℕ) (bounds : SolveBounds) (before after : Option (List ℕ))
     (r : Result Bool SolveStop)
@@ -19,30 +19,30 @@ solved text code bounds before after (Err stop) is f = tt
 
 pub certificate : (c : Certificate) (code : List ℕ) (bounds : SolveBounds)
     (before after : Option (List ℕ)) (r : Result Bool SolveStop)
-    → c.code ≡ code → Accepted c → c.order ≤ bounds.order
+    → IsAskedFor code bounds.aim c → c.order ≤ bounds.order
     → IfOk r (λ found. (found ≡ true) × PrintsSpelling c before after)
     → IfOk r (Finds code bounds before after)
-certificate c code bounds before after (Ok true) is a small p =
-    record { c = c; of_code = is; accepted = a; small = small; printed = p.1 }
-certificate c code bounds before after (Ok false) is a small p = let no : false ≡ true = p.0 in cc
-certificate c code bounds before after (Err stop) is a small p = tt
+certificate c code bounds before after (Ok true) asked small p =
+    record { c = c; asked_for = asked; small = small; printed = p.1 }
+certificate c code bounds before after (Ok false) asked small p = let no : false ≡ true = p.0 in cc
+certificate c code bounds before after (Err stop) asked small p = tt
 
 pub rounds : (code : List ℕ) (bounds : SolveBounds) (before after : Option (List ℕ))
     (r : Result Bool SolveStop)
-    → IfOk r (λ found. (found ≡ false) × Appends before after (codes "gave up 1 Rounds\n"))
+    → IfOk r (λ found. (found ≡ false) × Appends before after (rounds_lines bounds.tells_why))
     → IfOk r (Finds code bounds before after)
 rounds code bounds before after (Ok false) p = inl p.1
 rounds code bounds before after (Ok true) p = let no : true ≡ false = p.0 in cc
 rounds code bounds before after (Err stop) p = tt
 
 pub empty : (code : List ℕ) (bounds : SolveBounds) (before after : Option (List ℕ))
-    (r : Result Bool SolveStop)
-    → bounds.rounds ≢ 0
-    → IfOk r (λ found. (found ≡ false) × Appends before after (codes "gave up 2 Empty\n"))
+    (r : Result Bool SolveStop) (text : List ℕ)
+    → bounds.rounds ≢ 0 → Tells bounds.tells_why text
+    → IfOk r (λ found. (found ≡ false) × Appends before after text)
     → IfOk r (Finds code bounds before after)
-empty code bounds before after (Ok false) some p = inr (some, p.1)
-empty code bounds before after (Ok true) some p = let no : true ≡ false = p.0 in cc
-empty code bounds before after (Err stop) some p = tt
+empty code bounds before after (Ok false) text some told p = inr (some, (text, told, p.1))
+empty code bounds before after (Ok true) text some told p = let no : true ≡ false = p.0 in cc
+empty code bounds before after (Err stop) text some told p = tt
 
 pub spelling : (c d : Certificate) (bytes : List ℕ) (before after : Option (List ℕ)) → d ≡ c
     → Spells bytes d → Appends before after bytes

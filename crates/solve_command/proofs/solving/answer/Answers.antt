@@ -6,7 +6,7 @@ use Rattle.solve_command.proofs.solving.answer.Goals as goal
 pub returns-in-Ok-clause-found : goal.returns-in-Ok-clause-found
 returns-in-Ok-clause-found g c =
     certificate c.in-Ok.certified c.args.code.now c.args.bounds _ _ c.print.result
-    c.in-Ok.ensures.found.of_code c.in-Ok.ensures.found.accepted
+    c.in-Ok.ensures.found
     (within c.in-Ok.certified c.cert.result.now c.order.result c.args.bounds.order
     c.cert.ensures.same c.order.ensures.value c.if-order-bounds.true)
     c.print.ensures.printed
