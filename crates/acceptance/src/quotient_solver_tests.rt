@@ -2,7 +2,7 @@
 use allocation::Room;
 use octal_code::Code;
 use positions::Position;
-use quotient_solver::{Guess, Solver};
+use quotient_solver::{Guess, Solver, furthest};
 use std::alloc::Global;
 
 /// The order, the start and the period of the guess, if it has products for so many elements, and
@@ -26,11 +26,12 @@ fn guessed(alloc: Global, text: &[u8], heaps: usize) -> Option<(usize, usize, us
 }
 
 /// Orders and periods of games from the literature: Plambeck and Siegel, 'Misère quotients for
-/// impartial games'. Kayles repeats from the heap 71 on, so its period can't be seen here. In
+/// impartial games'. Kayles repeats from the heap 71 on, so 64 heaps don't show its period. In
 /// 0.b each move changes whether the sum of the heaps is odd.
 #[test]
 fn finds_known_quotients(rt: HostRuntime) {
-    let rows: [(&[u8], usize, (usize, usize, usize)); 6] = [
+    let rows: [(&[u8], usize, (usize, usize, usize)); 7] = [
+        (b"0.77", 3090, (40, 71, 12)),
         (b"0.3", 64, (2, 1, 2)),
         (b"0.33", 64, (6, 1, 3)),
         (b"0.33", 9, (6, 1, 3)),
@@ -47,6 +48,34 @@ fn finds_known_quotients(rt: HostRuntime) {
     }
     let of_kayles = guessed(rt.alloc(), b"0.77", 64);
     assert!(rt; matches!(of_kayles, Some((40, _, _, false))));
+}
+
+/// How many elements the heaps 1 to `last` have, or where a search for them ends.
+fn of_part(alloc: Global, text: &[u8], last: usize, order: usize) -> Result<usize, usize> {
+    let Ok(code) = Code::read(text) else {
+        return Err(0);
+    };
+    match Solver::of_part(alloc, last, order).search(&code) {
+        Ok(Ok(guess)) => Ok(guess.order),
+        Ok(Err(cause)) => Err(cause.heap()),
+        Err(_) => Err(0),
+    }
+}
+
+/// How far Kayles has at most so many elements.
+fn furthest_of_kayles(alloc: Global, order: usize) -> Option<usize> {
+    let code = Code::read(b"0.77").ok()?;
+    furthest(alloc, &code, order).ok()
+}
+
+/// Kayles to the heap 20 has 24 elements; the heap 30 of Dawson's Kayles brings more than 256.
+#[test]
+fn finds_parts_of_games(rt: HostRuntime) {
+    assert!(rt; of_part(rt.alloc(), b"0.77", 20, 512) == Ok(24));
+    assert!(rt; of_part(rt.alloc(), b"0.77", 20, 23) == Err(12));
+    assert!(rt; of_part(rt.alloc(), b"0.07", 30, 256) == Err(30));
+    assert!(rt; furthest_of_kayles(rt.alloc(), 40) == Some(1024));
+    assert!(rt; furthest_of_kayles(rt.alloc(), 23) == Some(11));
 }
 
 /// Whether a guess is made.
@@ -89,7 +118,7 @@ pub fn is_of_eight<A: Room + Copy>(alloc: A) -> Result<bool, u8> {
     let Ok(code) = Code::read(b"0.75") else {
         return Err(0);
     };
-    match Solver::new(alloc, 64, 256).solve(&code) {
+    match Solver::new(alloc, 3090, 256).solve(&code) {
         Ok(Some(guess)) => Ok(guess.order == 8),
         Ok(None) => Ok(false),
         Err(memory) => Err(memory.number()),

@@ -52,9 +52,8 @@ impl Cause {
     /// The heap at which the search ended.
     pub fn heap(self) -> usize {
         match self {
-            Cause::TooLarge { heap }
-            | Cause::Repairs { heap, .. }
-            | Cause::Work { heap, .. } => heap,
+            Cause::TooLarge { heap } | Cause::Repairs { heap, .. } | Cause::Work { heap, .. } =>
+                heap,
         }
     }
 }

@@ -125,6 +125,7 @@ impl<A: Allocator> Closure<A> {
             if member >= self.members.len() || self.failed {
                 return Ok(());
             }
+            work.spend(1)?;
             self.multiply(quotient, member, sum, work)?;
         }
         Err(Halt::Work)

@@ -31,14 +31,16 @@ fn part_by_rows<A: Allocator>(
     words: usize,
     rows: &[u64],
     kept: &[u64],
-) {
+    work: &mut Work,
+) -> Result<(), Halt> {
     for place in 0..words {
         for z in 0..partition.keys.len() {
             let bits = word(rows, z.wrapping_mul(words).wrapping_add(place)) & word(kept, place);
             put_word(&mut partition.keys, z, bits);
         }
-        partition.split();
+        partition.split(work)?;
     }
+    Ok(())
 }
 
 /// Takes the classes of the products with an element for keys.
@@ -81,9 +83,8 @@ pub fn congruence<A: Allocator + Copy>(
 ) -> Result<Partition<A>, Halt> {
     let size = quotient.order.saturating_mul(levels.count);
     let elements = generators(alloc, quotient, work)?;
-    work.spend(size.saturating_mul(quotient.words).saturating_mul(4))?;
     let mut partition = Partition::new(alloc, size)?;
-    part_by_rows(&mut partition, quotient.words, &levels.rows, kept);
+    part_by_rows(&mut partition, quotient.words, &levels.rows, kept, work)?;
     loop_until_quiet(&mut partition, quotient, levels, &elements, work)?;
     Ok(partition)
 }
@@ -99,7 +100,6 @@ fn loop_until_quiet<A: Allocator>(
     let mut turn = 0usize;
     let mut quiet = 0usize;
     for _ in 0..u64::MAX {
-        work.spend(partition.keys.len().saturating_mul(4).saturating_add(1))?;
         let before = partition.count;
         match elements.get(turn) {
             Some(element) => {
@@ -111,7 +111,7 @@ fn loop_until_quiet<A: Allocator>(
                 turn = 0;
             }
         }
-        partition.split();
+        partition.split(work)?;
         quiet = if partition.count == before {
             quiet.wrapping_add(1)
         } else {

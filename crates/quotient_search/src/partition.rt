@@ -1,6 +1,6 @@
 //! Partitions that get finer.
 use crate::cells::{index, put_index, word};
-use crate::work::Halt;
+use crate::work::{Halt, Work};
 use std::alloc::Allocator;
 use std::mem;
 
@@ -51,12 +51,15 @@ impl<A: Allocator> Partition<A> {
         Ok(())
     }
 
-    /// Splits the classes by the keys.
-    pub fn split(&mut self) {
+    /// Splits the classes by the keys. That is about four steps a number, and one for each slot that
+    /// is passed over since another one has it.
+    pub fn split(&mut self, work: &mut Work) -> Result<(), Halt> {
+        work.spend(self.keys.len().saturating_mul(4).saturating_add(1))?;
         self.slots.fill(0);
         let mut count = 0usize;
         for z in 0..self.classes.len() {
-            let slot = self.slot_of(z);
+            let (slot, passed) = self.slot_of(z);
+            work.spend(passed)?;
             let first = index(&self.slots, slot);
             if first == 0 {
                 put_index(&mut self.slots, slot, z.wrapping_add(1));
@@ -69,22 +72,24 @@ impl<A: Allocator> Partition<A> {
         }
         mem::swap(&mut self.classes, &mut self.next);
         self.count = count;
+        Ok(())
     }
 
-    /// The slot that holds the first number with this class and key, or a free one.
-    fn slot_of(&self, z: usize) -> usize {
+    /// The slot that holds the first number with this class and key, or a free one, and how many
+    /// were passed over.
+    fn slot_of(&self, z: usize) -> (usize, usize) {
         let class = index(&self.classes, z);
         let key = word(&self.keys, z);
         let last = self.slots.len().wrapping_sub(1);
         let mut slot = mixed(class, key) & last;
-        for _ in 0..self.slots.len() {
+        for passed in 0..self.slots.len() {
             let first = index(&self.slots, slot);
             if first == 0 || self.is_as(first.wrapping_sub(1), class, key) {
-                return slot;
+                return (slot, passed);
             }
             slot = slot.wrapping_add(1) & last;
         }
-        slot
+        (slot, self.slots.len())
     }
 
     fn is_as(&self, z: usize, class: usize, key: u64) -> bool {
