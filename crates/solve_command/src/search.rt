@@ -1,5 +1,5 @@
 //! The search for a certificate of the kind that is asked.
-ghost use Rattle.std.specs.Prelude.{◌≡◌, ◌≢◌, ◌≤◌, IfOk, IfErr};
+ghost use Rattle.std.specs.Prelude.{◌≡◌, ◌≢◌, ◌≤◌, ◌<◌, IfOk, IfErr, vec_len};
 ghost use Rattle.quotient_finder.specs.Finding.{IsFound};
 ghost use Rattle.solve_command.specs.Solved.{IsAskedFor};
 
@@ -21,7 +21,9 @@ fn put_whole(
     heaps: usize,
     order: usize,
     proposers: &mut Vec<Box<dyn Proposer>>,
-) -> Result<(), Memory> {
+) -> Result<(), Memory>
+    ensures { IfOk result (λ _. 0 < vec_len proposers.new) }
+{
     proposers.push(Box::new(alloc, Refiner::new(alloc, heaps, order))?)?;
     proposers.push(Box::new(alloc, Sampler::new(alloc, heaps.min(SAMPLED), order))?)?;
     Ok(())
@@ -33,7 +35,9 @@ fn put_part(
     last: usize,
     order: usize,
     proposers: &mut Vec<Box<dyn Proposer>>,
-) -> Result<(), Memory> {
+) -> Result<(), Memory>
+    ensures { IfOk result (λ _. 0 < vec_len proposers.new) }
+{
     proposers.push(Box::new(alloc, Refiner::of_part(alloc, last, order))?)?;
     Ok(())
 }

@@ -1,5 +1,5 @@
 //! What is told of a search that was given up.
-ghost use Rattle.std.specs.Prelude.{◌≡◌, ◌++◌, [], IfOk, codes, string_bytes};
+ghost use Rattle.std.specs.Prelude.{◌≡◌, IfOk, false, string_bytes, true};
 ghost use Rattle.solve_command.specs.Solved.{Tells, TellsReason, reason_line};
 
 use crate::bounds::SolveBounds;
@@ -50,14 +50,37 @@ fn why_text(alloc: Global, code: &Code, bounds: SolveBounds) -> Result<String, M
     reason_text(alloc, reason)
 }
 
-/// What is told where no proposer has a draft left.
+/// What is told where no proposer has a draft left, with the line of a reason.
+fn text_with(alloc: Global, line: &str) -> Result<String, Memory>
+    ensures { TellsReason line.now → IfOk result (λ t. Tells true (string_bytes t)) }
+{
+    let text = format!(in alloc; "gave up 2 Empty\n{line}")?;
+    Ok(text)
+}
+
+/// The same with the reason.
+fn text_with_reason(alloc: Global, code: &Code, bounds: SolveBounds) -> Result<String, Memory>
+    ensures { IfOk result (λ t. Tells true (string_bytes t)) }
+{
+    let line = why_text(alloc, code, bounds)?;
+    text_with(alloc, line.as_str())
+}
+
+/// The same without one.
+fn text_alone(alloc: Global) -> Result<String, Memory>
+    ensures { IfOk result (λ t. Tells false (string_bytes t)) }
+{
+    let text = format!(in alloc; "gave up 2 Empty\n")?;
+    Ok(text)
+}
+
+/// What is told where no proposer has a draft left, with the reason where it is asked for.
 pub(crate) fn empty_text(alloc: Global, code: &Code, bounds: SolveBounds) -> Result<String, Memory>
     ensures { IfOk result (λ t. Tells bounds.tells_why (string_bytes t)) }
 {
-    let mut text = format!(in alloc; "gave up 2 Empty\n")?;
     if bounds.tells_why {
-        let why = why_text(alloc, code, bounds)?;
-        text.push_str(why.as_str())?;
+        text_with_reason(alloc, code, bounds)
+    } else {
+        text_alone(alloc)
     }
-    Ok(text)
 }
