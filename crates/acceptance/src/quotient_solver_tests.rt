@@ -62,20 +62,19 @@ fn of_part(alloc: Global, text: &[u8], last: usize, order: usize) -> Result<usiz
     }
 }
 
-/// How far Kayles has at most so many elements.
-fn furthest_of_kayles(alloc: Global, order: usize) -> Option<usize> {
-    let code = Code::read(b"0.77").ok()?;
+/// How many first heaps have at most so many elements.
+fn furthest_of(alloc: Global, text: &[u8], order: usize) -> Option<usize> {
+    let code = Code::read(text).ok()?;
     furthest(alloc, &code, order).ok()
 }
 
-/// Kayles to the heap 20 has 24 elements; the heap 30 of Dawson's Kayles brings more than 256.
+/// Kayles to the heap 11 has 18 elements, and to the heap 20 it has 24.
 #[test]
 fn finds_parts_of_games(rt: HostRuntime) {
     assert!(rt; of_part(rt.alloc(), b"0.77", 20, 512) == Ok(24));
     assert!(rt; of_part(rt.alloc(), b"0.77", 20, 23) == Err(12));
-    assert!(rt; of_part(rt.alloc(), b"0.07", 30, 256) == Err(30));
-    assert!(rt; furthest_of_kayles(rt.alloc(), 40) == Some(1024));
-    assert!(rt; furthest_of_kayles(rt.alloc(), 23) == Some(11));
+    assert!(rt; furthest_of(rt.alloc(), b"0.3", 2) == Some(1024));
+    assert!(rt; furthest_of(rt.alloc(), b"0.77", 23) == Some(11));
 }
 
 /// Whether a guess is made.

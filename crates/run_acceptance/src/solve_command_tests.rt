@@ -126,9 +126,8 @@ fn begins(alloc: Global, code: &str, bounds: SolveBounds, is_found: bool, head: 
 
 const DEEP: Aim = Aim::Whole { heaps: DEEPEST };
 
-/// The quotients of Kayles, and those of Dawson's Kayles and of 0.4 to the heaps at which the
-/// literature stops, or one before.
-static AIMED: [Aimed; 20] = [
+/// Codes whose certificates need more than 64 heaps, and parts of games.
+static AIMED: [Aimed; 15] = [
     Aimed(
         "0.77",
         DEEP,
@@ -160,27 +159,6 @@ static AIMED: [Aimed; 20] = [
         "mqc 2\ncode 0.77\norder 40\nstart 65\nperiod 0\n",
     ),
     Aimed(
-        "0.07",
-        Aim::Part { last: 29 },
-        512,
-        true,
-        "mqc 2\ncode 0.07\norder 176\nstart 30\nperiod 0\n",
-    ),
-    Aimed(
-        "0.07",
-        Aim::Part { last: 30 },
-        512,
-        true,
-        "mqc 2\ncode 0.07\norder 360\nstart 31\nperiod 0\n",
-    ),
-    Aimed(
-        "0.4",
-        Aim::Part { last: 31 },
-        512,
-        true,
-        "mqc 2\ncode 0.4\norder 360\nstart 32\nperiod 0\n",
-    ),
-    Aimed(
         "0.6",
         Aim::Part { last: 16 },
         512,
@@ -190,16 +168,9 @@ static AIMED: [Aimed; 20] = [
     Aimed(
         "0.07",
         Aim::Furthest,
-        200,
+        64,
         true,
-        "mqc 2\ncode 0.07\norder 176\nstart 30\nperiod 0\n",
-    ),
-    Aimed(
-        "0.3",
-        Aim::Furthest,
-        2,
-        true,
-        "mqc 2\ncode 0.3\norder 2\nstart 1025\nperiod 0\n",
+        "mqc 2\ncode 0.07\norder 24\nstart 25\nperiod 0\n",
     ),
     Aimed(
         "0.33",
@@ -222,14 +193,7 @@ static AIMED: [Aimed; 20] = [
         false,
         "gave up 2 Empty\nno period 64 40\n",
     ),
-    Aimed("0.07", DEEP, 256, false, "gave up 2 Empty\ntoo large 30\n"),
-    Aimed(
-        "0.07",
-        Aim::Part { last: 31 },
-        512,
-        false,
-        "gave up 2 Empty\ntoo large 31\n",
-    ),
+    Aimed("0.07", DEEP, 64, false, "gave up 2 Empty\ntoo large 25\n"),
     Aimed(
         "0.0001",
         Aim::Part { last: 3 },
@@ -250,6 +214,31 @@ static AIMED: [Aimed; 20] = [
         512,
         false,
         "gave up 2 Empty\nwork 17 304\n",
+    ),
+];
+
+/// The parts of Dawson's Kayles and of 0.4 with the most elements that a certificate can have.
+static LARGE: [Aimed; 3] = [
+    Aimed(
+        "0.07",
+        Aim::Part { last: 29 },
+        512,
+        true,
+        "mqc 2\ncode 0.07\norder 176\nstart 30\nperiod 0\n",
+    ),
+    Aimed(
+        "0.07",
+        Aim::Part { last: 30 },
+        512,
+        true,
+        "mqc 2\ncode 0.07\norder 360\nstart 31\nperiod 0\n",
+    ),
+    Aimed(
+        "0.4",
+        Aim::Part { last: 31 },
+        512,
+        true,
+        "mqc 2\ncode 0.4\norder 360\nstart 32\nperiod 0\n",
     ),
 ];
 
@@ -323,6 +312,15 @@ fn prints_the_certificates_of_codes(rt: HostRuntime) {
     assert!(rt; count_held(rt.alloc(), &ROWS) == 18);
     assert!(rt; gives_up(rt.alloc(), "0.33", 2) && gives_up(rt.alloc(), "0.3", 1));
     assert!(rt; first_not_solved(rt.alloc()) == 256);
-    assert!(rt; count_held(rt.alloc(), &AIMED) == 20);
+}
+
+#[test]
+fn aims_at_whole_games_and_at_parts(rt: HostRuntime) {
+    assert!(rt; count_held(rt.alloc(), &AIMED) == 15);
     assert!(rt; tells_members_and_rounds(rt.alloc()));
+}
+
+#[test]
+fn prints_certificates_of_large_parts(rt: HostRuntime) {
+    assert!(rt; count_held(rt.alloc(), &LARGE) == 3);
 }

@@ -28,21 +28,23 @@ certificate c code bounds before after (Ok false) asked small p = let no : false
 certificate c code bounds before after (Err stop) asked small p = tt
 
 pub rounds : (code : List ℕ) (bounds : SolveBounds) (before after : Option (List ℕ))
-    (r : Result Bool SolveStop)
-    → IfOk r (λ found. (found ≡ false) × Appends before after (rounds_lines bounds.tells_why))
+    (r : Result Bool SolveStop) (line : List ℕ)
+    → line ≡ rounds_lines bounds.tells_why
+    → IfOk r (λ found. (found ≡ false) × Appends before after line)
     → IfOk r (Finds code bounds before after)
-rounds code bounds before after (Ok false) p = inl p.1
-rounds code bounds before after (Ok true) p = let no : true ≡ false = p.0 in cc
-rounds code bounds before after (Err stop) p = tt
+rounds code bounds before after (Ok false) line e p = inl (subst (Appends before after) e p.1)
+rounds code bounds before after (Ok true) line e p = let no : true ≡ false = p.0 in cc
+rounds code bounds before after (Err stop) line e p = tt
 
 pub empty : (code : List ℕ) (bounds : SolveBounds) (before after : Option (List ℕ))
-    (r : Result Bool SolveStop) (text : List ℕ)
-    → bounds.rounds ≢ 0 → Tells bounds.tells_why text
-    → IfOk r (λ found. (found ≡ false) × Appends before after text)
+    (r : Result Bool SolveStop) (line text : List ℕ)
+    → line ≡ text → bounds.rounds ≢ 0 → Tells bounds.tells_why text
+    → IfOk r (λ found. (found ≡ false) × Appends before after line)
     → IfOk r (Finds code bounds before after)
-empty code bounds before after (Ok false) text some told p = inr (some, (text, told, p.1))
-empty code bounds before after (Ok true) text some told p = let no : true ≡ false = p.0 in cc
-empty code bounds before after (Err stop) text some told p = tt
+empty code bounds before after (Ok false) line text e some told p =
+    inr (some, (text, told, subst (Appends before after) e p.1))
+empty code bounds before after (Ok true) line text e some told p = let no : true ≡ false = p.0 in cc
+empty code bounds before after (Err stop) line text e some told p = tt
 
 pub spelling : (c d : Certificate) (bytes : List ℕ) (before after : Option (List ℕ)) → d ≡ c
     → Spells bytes d → Appends before after bytes
