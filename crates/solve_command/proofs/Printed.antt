@@ -1,7 +1,7 @@
 -- What follows for a whole answer from what was printed.
-use Rattle.std.proofs.Common.{◌≡◌, ◌≢◌, ◌≤◌, inl, inr, refl, ap, subst, arith, ℕ, Bool, true, false, List, Option, Result, Ok, Err, IfOk, IfErr, codes}
+use Rattle.std.proofs.Common.{◌≡◌, ◌≢◌, ◌≤◌, inl, inr, refl, ap, subst, arith, ℕ, Bool, true, false, List, Option, Result, Ok, Err, IfOk, IfErr}
 use Rattle.std.specs.Io.KnownBytes.{Appends}
-use Rattle.misere_theory.specs.Certificates.{Certificate, Accepted}
+use Rattle.misere_theory.specs.Certificates.{Certificate}
 use Rattle.octal_code.specs.Text.{IsCodeText}
 use Rattle.certificate_text.specs.Spelling.{Spells}
 use Rattle.quotient_finder.specs.declared.gave_up.GaveUp.{GaveUp}
