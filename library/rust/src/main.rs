@@ -1,0 +1,27 @@
+//! misere_positions CERTIFICATE: of each line of standard input, a position of heaps, it prints value, outcome and answer.
+use misere::{Answer, LIMIT, Quotient};
+use std::io::{Read, stdin};
+
+fn told(answer: &Answer) -> String {
+    match answer {
+        Answer::Ended => "ended".to_string(),
+        Answer::Lost => "lost".to_string(),
+        Answer::Wins { heap, left } if left.is_empty() => format!("wins {heap} -> 0"),
+        Answer::Wins { heap, left } => format!("wins {heap} -> {}", left.iter().map(u64::to_string).collect::<Vec<_>>().join(" ")),
+    }
+}
+
+fn main() -> Result<(), Box<dyn std::error::Error>> {
+    let bytes = std::fs::read(std::env::args().nth(1).ok_or("misere_positions CERTIFICATE")?)?;
+    let mut text = String::new();
+    stdin().read_to_string(&mut text)?;
+    let quotient = Quotient::check(bytes, LIMIT)?;
+    let positions = text.lines().map(|line| line.split_whitespace().map(str::parse).collect()).collect::<Result<Vec<Vec<u64>>, _>>()?;
+    let positions: Vec<&[u64]> = positions.iter().map(Vec::as_slice).collect();
+    let (values, outcomes, answers) = (quotient.values(&positions)?, quotient.outcomes(&positions)?, quotient.answers(&positions)?);
+    for (at, heaps) in positions.iter().enumerate() {
+        assert_eq!((quotient.value(heaps)?, quotient.outcome(heaps)?, quotient.answer(heaps)?), (values[at], outcomes[at], answers[at].clone()));
+        println!("{} {:?} {}", values[at], outcomes[at], told(&answers[at]));
+    }
+    Ok(())
+}
