@@ -108,7 +108,8 @@ def compare_refused(program, file):
     except misere.Refused as refused:
         assert text.startswith(f"no {refused.number} {refused.name}\n"), (file, text)
         if refused.position is not None:
-            assert f"rule fails at {" ".join(map(str, refused.position)) or "0"}\n" in text, (file, text, refused.position)
+            heaps = " ".join(map(str, refused.position)) or "0"
+            assert f"rule fails at {heaps}\n" in text, (file, text, heaps)
         return
     raise AssertionError(file)
 

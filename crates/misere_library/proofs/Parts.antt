@@ -1,10 +1,10 @@
 -- One position more.
-use Rattle.std.proofs.Common.{◌≡◌, ℕ, ◌+◌, ◌<◌, ⊎_elim, List, [], ◌∷◌, ◌++◌, length, get_or, sym, subst, arith}
+use Rattle.std.proofs.Common.{◌≡◌, ℕ, ◌+◌, ◌<◌, ◌≤◌, ⊎_elim, List, [], ◌∷◌, ◌++◌, length, get_or, sym, subst, arith}
 use Rattle.std.specs.Prelude.{slice_set}
 use Rattle.std.proofs.lemmas.Bool.{cases_lt}
 use Rattle.std.proofs.lemmas.List.{get_or-set_same, get_or-set_other, get_or_push, get_or_append_left}
 use Rattle.misere_theory.specs.Certificates.{Certificate}
-use Rattle.misere_library.specs.Many.{TellFirst, part}
+use Rattle.misere_library.specs.Many.{TellFirst, TellAll, part}
 
 module _ {A : Type 0} (Tells : List ℕ → A → Certificate → Type 0) (heaps ends : List ℕ) (told : List A)
     (c : Certificate) (at : ℕ) (n : A) where
@@ -32,3 +32,9 @@ module _ {A : Type 0} (Tells : List ℕ → A → Certificate → Type 0) (heaps
       subst (λ (k : ℕ). Tells (part heaps ends k) (get_or (told ++ n ∷ []) k d) c) e
       (subst (λ (v : A). Tells (part heaps ends at) v c) (sym (get_or_push told n d at full)) here))
       (cases_lt i at)
+
+-- those below a number that is none of theirs are all
+pub tell_all : {A : Type 0} (Tells : List ℕ → A → Certificate → Type 0) (heaps ends : List ℕ) (told : List A)
+    (c : Certificate) (at : ℕ) → length told ≡ length ends → length ends ≤ at
+    → TellFirst Tells at heaps ends told c → TellAll Tells heaps ends told c
+tell_all Tells heaps ends told c at same past first = (same, λ i d l. first i d (omega (arith, past, l)))

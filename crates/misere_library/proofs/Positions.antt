@@ -1,7 +1,7 @@
 -- Heaps of which a certificate speaks, and what the value of a position says of its outcome.
-use Rattle.std.proofs.Common.{◌≡◌, ℕ, zero, suc, ◌<◌, ◌≤◌, inl, inr, Bool, true, false, List, [], ◌∷◌, length, get_or, sym, ◌∙◌, ap, subst, arith}
+use Rattle.std.proofs.Common.{◌≡◌, ℕ, zero, suc, ◌<◌, ◌≤◌, inl, inr, Bool, true, false, List, [], ◌∷◌, sym, ◌∙◌, ap, arith}
 use Rattle.std.specs.List.{All}
-use Rattle.misere_theory.specs.Certificates.{Certificate, Accepted, IsHeapOf, kind_of, claim_of}
+use Rattle.misere_theory.specs.Certificates.{Certificate, Accepted, IsHeapOf, claim_of}
 use Rattle.misere_theory.specs.Games.{IsP, IsN, IsPosition}
 use Rattle.misere_theory.specs.Kinds.{IsHeapIn}
 use Rattle.misere_theory.specs.Quotients.{value}

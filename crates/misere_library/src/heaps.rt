@@ -28,7 +28,11 @@ pub(crate) fn speaks_of(certified: &Certified, heaps: &[u64]) -> bool
     ensures { IsTrue result ↔ All (IsHeapOf certified.now) heaps.now }
 {
     let last = certified.cert().heaps();
-    last == 0 || are_up_to(heaps, last)
+    if last == 0 {
+        true
+    } else {
+        are_up_to(heaps, last)
+    }
 }
 
 /// The position of the heaps.

@@ -97,7 +97,7 @@ fn all_answers(
     requires sizes { All IsSize heaps.now }
     requires speaks { All (IsHeapOf certified.now) heaps.now }
     requires ends { AreEnds (length heaps.now) ends.now }
-    ensures { IfOk result (λ made. TellAll TellsAnswer heaps.now ends.now made certified.now) }
+    ensures { IfOk result (λ made. TellAll TellsAnswer heaps.now ends.now made.items certified.now) }
 {
     let mut made = Vec::new(alloc);
     for at in 0..ends.len() {

@@ -72,7 +72,7 @@ fn moves_of_many_positions_are_told(rt: HostRuntime) {
     };
     let (alloc, mut told) = (rt.alloc(), [untold; 3]);
     assert_eq!(&rt;
-        misere_answers(alloc, BYTES, LIMIT, &[2, 1], &[0, 1, 3], &mut told),
+        misere_answers(alloc, BYTES, LIMIT, &[2, 2, 1], &[0, 1, 3], &mut told),
         0
     );
     assert_eq!(&rt; told[0].kind, 0);
