@@ -1,7 +1,7 @@
 //! The search for a certificate: proposers draft, the checker decides.
 //!
-//! Nothing is believed of a proposer. What `find` hands out is certified for the code that was
-//! asked, whatever the proposers do.
+//! Nothing is believed of a proposer. What `find` hands out is certified for the code and
+//! kind that were asked, whatever the proposers do.
 #![tactic(auto)]
 
 mod gave_up;

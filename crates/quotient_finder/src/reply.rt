@@ -5,9 +5,9 @@ use checker::Certified;
 /// What came of asking proposers.
 #[derive(Drop)]
 pub enum Reply {
-    /// A certificate of the code.
+    /// A certificate of the code and kind.
     Found(Certified),
-    /// A draft, but no certificate of the code.
+    /// A draft, but no certificate of the code and kind.
     Drafted,
     /// No draft.
     Nothing,

@@ -15,10 +15,11 @@ use std::alloc::Global;
 fn ask(
     alloc: Global,
     code: &Code,
+    heaps: u64,
     proposer: &mut Box<dyn Proposer>,
     members: u32,
 ) -> Result<Reply, GaveUp>
-    ensures found { IfOk result (FindsOnly code.now) }
+    ensures found { IfOk result (FindsOnly code.now heaps) }
     ensures memory { IfErr result (λ why. why ≡ GaveUp.Memory) }
 {
     let Some(draft) = proposer.propose(code)? else {
@@ -26,7 +27,7 @@ fn ask(
     };
     match check(alloc, &draft, members) {
         Ok(certified) => {
-            if certified.cert().heaps() == 0 && is_same(certified.cert().code(), code) {
+            if certified.cert().heaps() == heaps && is_same(certified.cert().code(), code) {
                 return Ok(Reply::Found(certified));
             }
         }
@@ -36,20 +37,21 @@ fn ask(
     Ok(Reply::Drafted)
 }
 
-/// Asks each proposer once, in order, until a certificate of the code is found.
+/// Asks each proposer once, in order, until a certificate of the code and kind is found.
 fn round(
     alloc: Global,
     code: &Code,
+    heaps: u64,
     proposers: &mut Vec<Box<dyn Proposer>>,
     members: u32,
 ) -> Result<Reply, GaveUp>
-    ensures found { IfOk result (FindsOnly code.now) }
+    ensures found { IfOk result (FindsOnly code.now heaps) }
     ensures stays { vec_len proposers.new ≡ vec_len proposers.old }
     ensures memory { IfErr result (λ why. why ≡ GaveUp.Memory) }
 {
     let mut has_drafted = false;
     for proposer in proposers.iter_mut() {
-        match ask(alloc, code, proposer, members)? {
+        match ask(alloc, code, heaps, proposer, members)? {
             Reply::Found(certified) => return Ok(Reply::Found(certified)),
             Reply::Drafted => has_drafted = true,
             Reply::Nothing => {}
@@ -62,20 +64,23 @@ fn round(
     }
 }
 
-/// Searches for a certificate of the code: in each round every proposer is asked once, in order,
-/// and what it drafts is checked.
+/// Searches for a certificate of the code and of the kind that `Cert::heaps` tells: 0 asks for a
+/// full one, and M from 1 on for the partial one of the heaps 1 to M. In each round every proposer
+/// is asked once, in order, and what it drafts is checked.
 ///
-/// An accepted certificate of the code ends the search. A refused draft is told to its proposer,
-/// and an accepted certificate of another code, or of a part of the game, is dropped. `Rounds` says that all rounds were
-/// spent, `Empty` that there is no proposer, whatever the rounds, or that none gave a draft in a
-/// round, and `Memory` that a proposer or a check answered it. The list stays as long as it is.
+/// An accepted certificate of the code and kind ends the search. A refused draft is told to its
+/// proposer, and an accepted certificate of another code or kind is dropped. `Rounds` says that all
+/// rounds were spent, `Empty` that there is no proposer, whatever the rounds, or that none gave a
+/// draft in a round, and `Memory` that a proposer or a check answered it. The list stays as long as
+/// it is.
 pub fn find(
     alloc: Global,
     code: &Code,
+    heaps: u64,
     proposers: &mut Vec<Box<dyn Proposer>>,
     limits: Limits,
 ) -> Result<Certified, GaveUp>
-    ensures found { IfOk result (IsFound code.now) }
+    ensures found { IfOk result (IsFound code.now heaps) }
     ensures stays { vec_len proposers.new ≡ vec_len proposers.old }
     ensures no_proposer { vec_len proposers.old ≡ 0 → result ≡ Err GaveUp.Empty }
     ensures no_round { 0 < vec_len proposers.old → limits.rounds ≡ 0 → result ≡ Err GaveUp.Rounds }
@@ -84,7 +89,7 @@ pub fn find(
         return Err(GaveUp::Empty);
     }
     for _ in 0..limits.rounds {
-        match round(alloc, code, proposers, limits.members)? {
+        match round(alloc, code, heaps, proposers, limits.members)? {
             Reply::Found(certified) => return Ok(certified),
             Reply::Drafted => {}
             Reply::Nothing => return Err(GaveUp::Empty),

@@ -29,7 +29,7 @@ fn find_text(
     proposers: &mut Vec<Box<dyn Proposer>>,
     text: &str,
 ) -> bool {
-    match find(alloc, code, proposers, LIMITS) {
+    match find(alloc, code, 0, proposers, LIMITS) {
         Ok(certified) => is_spelled(alloc, certified.cert(), text),
         Err(_) => false,
     }

@@ -157,7 +157,7 @@ fn ends_so(
     limits: Limits,
     end: Result<bool, GaveUp>,
 ) -> bool {
-    match find(alloc, code, proposers, limits) {
+    match find(alloc, code, 0, proposers, limits) {
         Ok(certified) => end == Ok(is_spelled(alloc, certified.cert(), OF_0_75)),
         Err(why) => end == Err(why),
     }

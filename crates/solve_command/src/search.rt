@@ -9,9 +9,9 @@ use proposers::{Refiner, Sampler};
 use quotient_finder::{GaveUp, Limits, Proposer, find};
 use std::alloc::Global;
 
-/// Searches for a certificate of the code: a sampler is asked first, and a refiner second.
+/// Searches for a full certificate of the code: a sampler is asked first, and a refiner second.
 pub(crate) fn search(alloc: Global, code: &Code, bounds: SolveBounds) -> Result<Certified, GaveUp>
-    ensures found { IfOk result (IsFound code.now) }
+    ensures found { IfOk result (IsFound code.now 0) }
     ensures no_round { bounds.rounds ≡ 0 → IfErr result (λ why. why ≢ GaveUp.Empty) }
 {
     let (heaps, order) = (bounds.heaps as usize, bounds.order as usize);
@@ -29,5 +29,5 @@ pub(crate) fn search(alloc: Global, code: &Code, bounds: SolveBounds) -> Result<
         rounds: bounds.rounds,
         members: bounds.limit,
     };
-    find(alloc, code, &mut proposers, limits)
+    find(alloc, code, 0, &mut proposers, limits)
 }
