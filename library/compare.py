@@ -151,7 +151,8 @@ def compare_threads(compared):
 
     def ask():
         for quotient, positions, lines in compared:
-            wrong.extend(it for it, line in zip(positions, lines) if line_of(quotient.value(it), quotient.outcome(it), quotient.answer(it)) != line)
+            again = [line_of(quotient.value(it), quotient.outcome(it), quotient.answer(it)) for it in positions]
+            wrong.extend(it for it, line, other in zip(positions, lines, again) if line != other)
 
     threads = [threading.Thread(target=ask) for _ in range(THREADS)]
     for thread in threads:
@@ -173,7 +174,8 @@ def main():
     arrays = compare_arrays(compared[2][0])
     compare_threads(compared)
     count = sum(len(positions) for _, positions, _ in compared)
-    print(f"{count} positions of {len(SIX)} quotients by C, Python, Rust and the program, {len(refused)} refused samples, {THREADS} threads: all agree ({arrays})")
+    asked = f"{count} positions of {len(SIX)} quotients by C, Python, Rust and the program, {len(refused)} refused samples, {THREADS} threads"
+    print(f"{asked}: all agree ({arrays})")
 
 
 main()

@@ -99,6 +99,30 @@ uint32_t misere_answers(const uint8_t *bytes, size_t length, uint32_t limit,
 uint32_t misere_failure(const uint8_t *bytes, size_t length, uint32_t limit,
                         uint64_t *told, size_t room, uint64_t *count);
 
+/* How far a search goes, where nobody asks for more or less. */
+#define MISERE_ROUNDS 64
+#define MISERE_HEAPS 24
+#define MISERE_ELEMENTS 64
+
+/* As many bytes are room for any certificate. */
+#define MISERE_MOST (1u << 21)
+
+/* Looks for the quotient of the game of a code, such as "0.33", among the heaps up to `heaps`, and
+ * tells the bytes of its certificate, which is accepted, and in *count how many they are. With
+ * MISERE_NO_ROOM it tells *count alone. The limit is 1 to 1000000, the rounds 1 to 1000, the heaps 2
+ * to 64, the order 2 to 256. */
+uint32_t misere_solve(const uint8_t *code, size_t length, uint32_t limit, uint32_t rounds,
+                      uint32_t heaps, uint32_t order, uint8_t *told, size_t room, uint64_t *count);
+
+/* What is told of a quotient, and by which relations. */
+enum { MISERE_DESCRIPTION = 0, MISERE_LATEX = 1, MISERE_RELATIONS = 2 };
+enum { MISERE_SHORT = 0, MISERE_BASIS = 1 };
+
+/* Tells the description of the quotient that the bytes certify, or its relations as one word, and in
+ * *count how many bytes it has. With MISERE_NO_ROOM it tells *count alone. */
+uint32_t misere_describe(const uint8_t *bytes, size_t length, uint32_t limit, uint32_t output,
+                         uint32_t form, uint8_t *told, size_t room, uint64_t *count);
+
 #ifdef __cplusplus
 }
 #endif

@@ -1,16 +1,17 @@
 """Certified misère quotients of octal and hexadecimal games, by the proved library libmisere.
 
     import misere
-    q = misere.check(open("0.33.mqc", "rb").read())
+    q = misere.solve("0.33")               # or misere.check(open("0.33.mqc", "rb").read())
     q.code, q.order, q.start, q.period     # '0.33', 6, 1, 3
     q.outcome([2, 10**12])                 # 'N': the next player wins under misère play
     q.value([2, 10**12])                   # the element of the quotient
     q.winning_move([2, 10**12])            # Move(heap=2, left=()): take the heap 2 whole; or None
     q.table[2][3], q.phi(10**18), q.portion
+    print(q.describe())                    # generators and relations, as the literature prints them
 
 What outcome, value, answer and winning_move give is proved of every position, of any number of heaps of 1 to 10^18 (of a partial
 certificate: of its heaps): each call has the library check the certificate anew. outcomes, values and answers check once for many
-positions. table, phi and portion are read off the certificate's text, which a yes makes the misère quotient.
+positions. describe's text is proved too. table, phi and portion are read off the certificate's text, which a yes makes the misère quotient.
 
 The library is looked for beside this file and then where the system has its libraries; MISERE_LIBRARY names another file. Nothing
 else is needed, neither a build nor a package. Any number of threads may ask at once.
@@ -26,18 +27,20 @@ from collections.abc import Iterable, Sequence
 from typing import Any, Literal, NamedTuple, Union
 
 __all__ = [
-    "LIMIT", "Answer", "Beyond", "MisereError", "Move", "NoMemory", "NotAHeap", "Quotient", "Refused", "check", "version",
+    "LIMIT", "Answer", "Beyond", "MisereError", "Move", "NoMemory", "NotAHeap",
+    "NotDescribed", "NotFound", "Quotient", "Refused", "check", "solve", "version",
 ]
 
 VERSION = 1
 #: What the closure of a check may keep, where nobody asks for more or less.
 LIMIT = 100_000
-MOST_HEAPS = 4096
+MOST_HEAPS, MOST_BYTES, USUAL_TEXT = 4096, 1 << 21, 1 << 16
 NAMES = {
     0: "Yes", 1: "Text", 2: "Law", 3: "Word", 4: "Order", 5: "Period", 6: "Apart", 7: "Outcome", 8: "Limit", 9: "Memory",
     10: "NotAHeap", 11: "NotEnds", 12: "NotACode", 13: "GaveUp", 14: "NoRoom", 15: "NotInRange", 16: "NotDescribed", 23: "Beyond",
 }
-OUTCOME = 7
+OUTCOME, NO_ROOM = 7, 14
+OUTPUTS = ("description", "latex", "relations")
 
 
 class MisereError(Exception):
@@ -65,7 +68,15 @@ class Beyond(MisereError, ValueError):
     """The certificate is partial, and doesn't speak of all the heaps (23)."""
 
 
-KINDS: dict[int, type[MisereError]] = {**dict.fromkeys(range(1, 9), Refused), 9: NoMemory, 10: NotAHeap, 23: Beyond}
+class NotFound(MisereError, LookupError):
+    """No certificate was found, by this search (13)."""
+
+
+class NotDescribed(MisereError, LookupError):
+    """The quotient is not described within the bounds (16)."""
+
+
+KINDS: dict[int, type[MisereError]] = {**dict.fromkeys(range(1, 9), Refused), 9: NoMemory, 10: NotAHeap, 13: NotFound, 16: NotDescribed, 23: Beyond}
 
 
 class Move(NamedTuple):
@@ -102,6 +113,8 @@ CALLS: dict[str, list[Any]] = {
     "misere_values": [*_bytes, _number, _slice, _size, _slice, _size, _slice, _size],
     "misere_answers": [*_bytes, _number, _slice, _size, _slice, _size, _slice, _size],
     "misere_failure": [*_bytes, _number, _slice, _size, _count],
+    "misere_solve": [*_bytes, _number, _number, _number, _number, _slice, _size, _count],
+    "misere_describe": [*_bytes, _number, _number, _number, _slice, _size, _count],
 }
 
 
@@ -172,6 +185,25 @@ def _cut(positions: Any) -> tuple[array.array, array.array]:
 def check(certificate: bytes | str, limit: int = LIMIT) -> Quotient:
     """The quotient that the certificate is of; or it raises Refused."""
     return Quotient(certificate, limit)
+
+
+def _text_of(room: int, call: Any, *words: Any) -> bytes:
+    """What a call tells, which takes a room for it and says how long it is. It is asked again where the room is too small."""
+    told, count = (ctypes.c_uint8 * room)(), ctypes.c_uint64()
+    status = call(*words, ctypes.addressof(told), room, ctypes.byref(count))
+    if status == NO_ROOM:
+        return _text_of(count.value, call, *words)
+    _stop(status)
+    return ctypes.string_at(told, count.value)
+
+
+def solve(code: str, limit: int = LIMIT, rounds: int = 64, heaps: int = 24, order: int = 64) -> Quotient:
+    """The quotient of the game of a code, such as "0.33"; or it raises NotFound, where the search is given up.
+
+    The limit is 1 to 1000000, the rounds 1 to 1000, the heaps 2 to 64, the order 2 to 256."""
+    bounds = [_in_range(it) for it in (limit, rounds, heaps, order)]
+    text = code.encode()
+    return Quotient(_text_of(MOST_BYTES, _library.misere_solve, text, len(text), *bounds), limit)
 
 
 class Quotient:
@@ -252,6 +284,14 @@ class Quotient:
     def answers(self, positions: Sequence[Iterable[int]] | Any) -> list[Answer]:
         """The answer in each position, by one check of the certificate."""
         return [it.answer() for it in self._ask_all(_library.misere_answers, positions, _Move)]
+
+    def describe(self, output: str = "description", basis: bool = False) -> str:
+        """The quotient by generators and relations, with its portion, invariants and heaps; or it raises NotDescribed.
+
+        `output` is "description", "latex" or "relations" (one word); with `basis` the relations are the reduced basis."""
+        if output not in OUTPUTS:
+            _stop(15)
+        return _text_of(USUAL_TEXT, _library.misere_describe, *self._given(), OUTPUTS.index(output), int(basis)).decode("utf-8")
 
     @property
     def last_heap(self) -> int | None:

@@ -31,10 +31,11 @@ static struct {
     uint32_t numbers[2];
     misere_move moves[2];
     uint64_t heaps[8], count;
+    uint8_t text[1 << 16];
 } told, untold;
 
 static const uint64_t heaps[12] = {2, 3, 1, 4, 2, 3, 1, 4, 2, 3, 1, 2}, ends[2] = {2, 12};
-static const char *names[] = {"check", "outcome", "value", "answer", "outcomes", "values", "answers", "failure"};
+static const char *names[] = {"check", "outcome", "value", "answer", "outcomes", "values", "answers", "failure", "solve", "describe"};
 #define CALLS (sizeof names / sizeof *names)
 
 static uint32_t ask(size_t call) {
@@ -46,7 +47,9 @@ static uint32_t ask(size_t call) {
     case 4: return misere_outcomes(bytes, length, MISERE_LIMIT, heaps, 12, ends, 2, told.numbers, 2);
     case 5: return misere_values(bytes, length, MISERE_LIMIT, heaps, 12, ends, 2, told.numbers, 2);
     case 6: return misere_answers(bytes, length, MISERE_LIMIT, heaps, 12, ends, 2, told.moves, 2);
-    default: return misere_failure(bytes, length, MISERE_LIMIT, told.heaps, 8, &told.count);
+    case 7: return misere_failure(bytes, length, MISERE_LIMIT, told.heaps, 8, &told.count);
+    case 8: return misere_solve((const uint8_t *)"0.3", 3, 1000, 4, 8, 8, told.text, sizeof told.text, &told.count);
+    default: return misere_describe(bytes, length, MISERE_LIMIT, MISERE_LATEX, MISERE_SHORT, told.text, sizeof told.text, &told.count);
     }
 }
 

@@ -14,6 +14,9 @@ mod raw;
 /// What the closure of a check may keep, where nobody asks for more or less.
 pub const LIMIT: u32 = 100_000;
 
+/// As many bytes are room for any certificate.
+const MOST: usize = 1 << 21;
+
 /// How many heaps of a position at which the rule fails are told.
 const MOST_HEAPS: usize = 4096;
 
@@ -74,6 +77,34 @@ pub enum Answer {
     Wins { heap: u64, left: Vec<u64> },
 }
 
+/// How far a search goes.
+#[derive(Clone, Copy, Debug)]
+pub struct Bounds {
+    /// What the closure of each check may keep.
+    pub limit: u32,
+    /// How often the proposers are asked at most.
+    pub rounds: u32,
+    /// The largest heap that they look at.
+    pub heaps: u32,
+    /// The most elements of a quotient.
+    pub order: u32,
+}
+
+impl Default for Bounds {
+    fn default() -> Bounds {
+        Bounds { limit: LIMIT, rounds: 64, heaps: 24, order: 64 }
+    }
+}
+
+/// What is told of a quotient.
+#[derive(Clone, Copy, Debug, PartialEq, Eq)]
+pub enum Output {
+    Description,
+    Latex,
+    /// The relations as one word.
+    Relations,
+}
+
 /// A certificate that was accepted.
 #[derive(Clone, Debug, PartialEq, Eq)]
 pub struct Quotient {
@@ -96,6 +127,21 @@ pub fn failure(bytes: &[u8], limit: u32) -> Option<Vec<u64>> {
     (status == 7 && count <= MOST_HEAPS as u64).then_some(told)
 }
 
+/// What a call tells, which takes a room for it and says how long it is. It is asked again where the room is too small.
+fn told_by(mut room: usize, call: impl Fn(&mut [u8], &mut u64) -> u32) -> Result<Vec<u8>, Refusal> {
+    loop {
+        let (mut told, mut count) = (vec![0; room], 0);
+        match call(&mut told, &mut count) {
+            0 => {
+                told.truncate(count as usize);
+                return Ok(told);
+            }
+            14 => room = count as usize,
+            status => return Err(Refusal(status)),
+        }
+    }
+}
+
 fn done<T>(status: u32, told: T) -> Result<T, Refusal> {
     if status == 0 { Ok(told) } else { Err(Refusal(status)) }
 }
@@ -108,17 +154,20 @@ fn answer_of(told: &raw::Told) -> Answer {
     match told.kind {
         0 => Answer::Ended,
         1 => Answer::Lost,
-        _ => Answer::Wins {
-            heap: told.heap,
-            left: [told.first, told.second, told.third].into_iter().filter(|part| *part > 0).collect(),
-        },
+        _ => Answer::Wins { heap: told.heap, left: [told.first, told.second, told.third].into_iter().filter(|part| *part > 0).collect() },
     }
 }
 
 /// Where each of the positions ends, when they stand one after another.
 fn ends_of(positions: &[&[u64]]) -> Vec<u64> {
     let mut end = 0;
-    positions.iter().map(|it| { end += it.len() as u64; end }).collect()
+    positions
+        .iter()
+        .map(|it| {
+            end += it.len() as u64;
+            end
+        })
+        .collect()
 }
 
 impl Quotient {
@@ -128,6 +177,26 @@ impl Quotient {
         // SAFETY: the pointer and the length are those of one slice.
         let status = unsafe { raw::misere_check(bytes.as_ptr(), bytes.len(), limit) };
         done(status, Quotient { bytes, limit })
+    }
+
+    /// The quotient of the game of a code, such as `0.33`.
+    pub fn solve(code: &str, bounds: Bounds) -> Result<Quotient, Refusal> {
+        let Bounds { limit, rounds, heaps, order } = bounds;
+        let bytes = told_by(MOST, |told, count| {
+            // SAFETY: each pointer stands with the length of its slice, and `count` is borrowed for the call.
+            unsafe { raw::misere_solve(code.as_ptr(), code.len(), limit, rounds, heaps, order, told.as_mut_ptr(), told.len(), count) }
+        })?;
+        Ok(Quotient { bytes, limit })
+    }
+
+    /// The description of the quotient, by a short list of relations or by their reduced basis.
+    pub fn describe(&self, output: Output, basis: bool) -> Result<String, Refusal> {
+        let text = told_by(1 << 16, |told, count| {
+            let (bytes, room) = (&self.bytes, told.len());
+            // SAFETY: as above.
+            unsafe { raw::misere_describe(bytes.as_ptr(), bytes.len(), self.limit, output as u32, basis as u32, told.as_mut_ptr(), room, count) }
+        })?;
+        Ok(String::from_utf8_lossy(&text).into_owned())
     }
 
     /// The certificate: the one accepted text of its code and kind.
@@ -176,9 +245,8 @@ impl Quotient {
         let mut told = vec![T::default(); ends.len()];
         let (bytes, room) = (&self.bytes, told.len());
         // SAFETY: each pointer stands with the length of its slice; that of an empty `Vec` isn't null.
-        let status = unsafe {
-            call(bytes.as_ptr(), bytes.len(), self.limit, heaps.as_ptr(), heaps.len(), ends.as_ptr(), ends.len(), told.as_mut_ptr(), room)
-        };
+        let status =
+            unsafe { call(bytes.as_ptr(), bytes.len(), self.limit, heaps.as_ptr(), heaps.len(), ends.as_ptr(), ends.len(), told.as_mut_ptr(), room) };
         done(status, told)
     }
 }
