@@ -17,6 +17,7 @@ here = pathlib.Path(__file__).resolve().parent
 samples = here.parent / "certificates"
 SIX = ("0.3", "0.33", "0.75", "0.b", "0.75_heaps_8", "0.8_heaps_4")
 POSITIONS, SMALL, THREADS = 1000, 300, 4
+FOUND = ("0.3", "0.33", "0.75")
 
 
 def options(code, heap):
@@ -133,6 +134,24 @@ def compare_errors(full, partial):
     assert refusal(misere.check, full.certificate, 1) == 8 and refusal(misere.check, b"") == 1 and refusal(misere.check, b"", -1) == 15
 
 
+def compare_finder(program):
+    """What is found and described, and what the program prints."""
+    printed = lambda *words: subprocess.run([program, *words], capture_output=True, text=True).stdout
+    for code in FOUND:
+        assert misere.solve(code).certificate.decode() == printed("solve", code), code
+        by_rust = subprocess.run([here / "rust/target/release/misere_positions", "--solve", code], capture_output=True, text=True, check=True).stdout
+        assert by_rust == misere.solve(code).describe(), code
+    for file in sorted(samples.glob("*.mqc")):
+        quotient = misere.check(file.read_bytes())
+        for flags in ((), ("--basis",)):
+            assert quotient.describe(basis=bool(flags)) == printed("describe", file, *flags), (file, flags)
+            assert quotient.describe("latex", bool(flags)) == printed("describe", file, "--latex", *flags), (file, flags)
+            assert quotient.describe("relations", bool(flags)) + "\n" == printed("describe", file, "--relations", *flags), (file, flags)
+    for code, words, number in (("0.8.", {}, 12), ("é", {}, 12), ("0.3", {"heaps": 1}, 15), ("0.77", {"rounds": 1, "heaps": 8}, 13)):
+        assert refusal(lambda: misere.solve(code, **words)) == number, (code, number)
+    assert refusal(quotient.describe, "verse") == 15
+
+
 def compare_arrays(quotient):
     """The rows of an array of numpy, where there is one."""
     try:
@@ -171,6 +190,7 @@ def main():
     for file in refused:
         compare_refused(program, file)
     compare_errors(compared[1][0], compared[4][0])
+    compare_finder(program)
     arrays = compare_arrays(compared[2][0])
     compare_threads(compared)
     count = sum(len(positions) for _, positions, _ in compared)

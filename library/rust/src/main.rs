@@ -1,5 +1,6 @@
 //! misere_positions CERTIFICATE: of each line of standard input, a position of heaps, it prints value, outcome and answer.
-use misere::{Answer, LIMIT, Quotient};
+//! misere_positions --solve CODE: it prints the description of the quotient that is found.
+use misere::{Answer, Bounds, LIMIT, Output, Quotient};
 use std::io::{Read, stdin};
 
 fn told(answer: &Answer) -> String {
@@ -11,8 +12,8 @@ fn told(answer: &Answer) -> String {
     }
 }
 
-fn main() -> Result<(), Box<dyn std::error::Error>> {
-    let bytes = std::fs::read(std::env::args().nth(1).ok_or("misere_positions CERTIFICATE")?)?;
+fn print_positions(file: &str) -> Result<(), Box<dyn std::error::Error>> {
+    let bytes = std::fs::read(file)?;
     let mut text = String::new();
     stdin().read_to_string(&mut text)?;
     let quotient = Quotient::check(bytes, LIMIT)?;
@@ -24,4 +25,16 @@ fn main() -> Result<(), Box<dyn std::error::Error>> {
         println!("{} {:?} {}", values[at], outcomes[at], told(&answers[at]));
     }
     Ok(())
+}
+
+fn main() -> Result<(), Box<dyn std::error::Error>> {
+    let words: Vec<String> = std::env::args().skip(1).collect();
+    match words.iter().map(String::as_str).collect::<Vec<_>>()[..] {
+        [file] => print_positions(file),
+        ["--solve", code] => {
+            print!("{}", Quotient::solve(code, Bounds::default())?.describe(Output::Description, false)?);
+            Ok(())
+        }
+        _ => Err("misere_positions CERTIFICATE, or --solve CODE".into()),
+    }
 }
