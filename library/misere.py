@@ -328,5 +328,5 @@ def _like(positions: Any, told: Any, letters: str | None) -> Any:
     """What is told as an array of numpy, which is there, since the positions are one of its arrays."""
     import numpy
 
-    numbers = numpy.frombuffer(bytes(told), dtype="u4") if len(told) else numpy.zeros(0, dtype="u4")
+    numbers = numpy.frombuffer(bytes(told), dtype="u4").copy() if len(told) else numpy.zeros(0, dtype="u4")
     return numpy.array(list(letters))[numbers] if letters else numbers
