@@ -1,9 +1,11 @@
 //! The proposer that solves heap by heap, and learns from positions.
+ghost use Rattle.std.specs.Prelude.{◌≡◌, []};
+
 use allocation::Memory;
 use answers::Refusal;
 use drafts::{Drafts, Guess};
 use octal_code::Code;
-use quotient_finder::Proposer;
+use quotient_finder::{History, Proposer};
 use quotient_solver::{Guess as Solved, Solver};
 use std::alloc::Global;
 
@@ -20,11 +22,14 @@ pub struct Refiner {
     drafts: Option<Drafts>,
     solves: u32,
     is_stale: bool,
+    history: History,
 }
 
 impl Refiner {
     /// A refiner for the heaps 1 to `heaps`, and drafts of at most `order` elements.
-    pub fn new(alloc: Global, heaps: usize, order: usize) -> Refiner {
+    pub fn new(alloc: Global, heaps: usize, order: usize) -> Refiner
+        ensures { ⟦<Refiner as Proposer>⟧.history result ≡ [] }
+    {
         Refiner {
             alloc,
             order,
@@ -32,11 +37,14 @@ impl Refiner {
             drafts: None,
             solves: MOST,
             is_stale: true,
+            history: History::new(),
         }
     }
 
     /// A draft of the last guess, if one is left.
-    fn left(&mut self, code: &Code) -> Result<Option<Vec<u8>>, Memory> {
+    fn left(&mut self, code: &Code) -> Result<Option<Vec<u8>>, Memory>
+        ensures { self.new.history ≡ self.old.history }
+    {
         match &mut self.drafts {
             Some(drafts) => drafts.next(code, self.order),
             None => Ok(None),
@@ -44,7 +52,9 @@ impl Refiner {
     }
 
     /// Guesses anew, unless nothing was learned since, or it has solved too often.
-    fn solve(&mut self, code: &Code) -> Result<(), Memory> {
+    fn solve(&mut self, code: &Code) -> Result<(), Memory>
+        ensures { self.new.history ≡ self.old.history }
+    {
         self.drafts = None;
         if self.is_stale && self.solves > 0 {
             self.is_stale = false;
@@ -54,6 +64,18 @@ impl Refiner {
             }
         }
         Ok(())
+    }
+
+    /// A draft that is left, or one of a new guess.
+    fn draft(&mut self, code: &Code) -> Result<Option<Vec<u8>>, Memory>
+        ensures { self.new.history ≡ self.old.history }
+    {
+        let draft = self.left(code)?;
+        if draft.is_some() {
+            return Ok(draft);
+        }
+        self.solve(code)?;
+        self.left(code)
     }
 }
 
@@ -75,16 +97,16 @@ fn guess_of(solved: Solved) -> Guess {
 }
 
 impl Proposer for Refiner {
+    ghost history = { λ r. r.history.events };
+
     fn propose(&mut self, code: &Code) -> Result<Option<Vec<u8>>, Memory> {
-        let draft = self.left(code)?;
-        if draft.is_some() {
-            return Ok(draft);
-        }
-        self.solve(code)?;
-        self.left(code)
+        let reply = self.draft(code);
+        self.history.asked(&reply);
+        reply
     }
 
     fn learn(&mut self, refusal: &Refusal) -> Result<(), Memory> {
+        self.history.told(refusal);
         if let Some((_, position)) = refusal.counterexample() {
             self.solver.learn(position)?;
             self.is_stale = true;

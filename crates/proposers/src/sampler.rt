@@ -1,9 +1,11 @@
 //! The proposer that groups sampled positions by their outcomes.
+ghost use Rattle.std.specs.Prelude.{◌≡◌, []};
+
 use allocation::Memory;
 use answers::Refusal;
 use drafts::Drafts;
 use octal_code::Code;
-use quotient_finder::Proposer;
+use quotient_finder::{History, Proposer};
 use samples::sampled;
 use std::alloc::Global;
 
@@ -15,23 +17,28 @@ pub struct Sampler {
     order: usize,
     drafts: Option<Drafts>,
     has_sampled: bool,
+    history: History,
 }
 
 impl Sampler {
     /// A sampler for the heaps 1 to `heaps`, and drafts of at most `order` elements.
-    pub fn new(alloc: Global, heaps: usize, order: usize) -> Sampler {
+    pub fn new(alloc: Global, heaps: usize, order: usize) -> Sampler
+        ensures { ⟦<Sampler as Proposer>⟧.history result ≡ [] }
+    {
         Sampler {
             alloc,
             heaps,
             order,
             drafts: None,
             has_sampled: false,
+            history: History::new(),
         }
     }
-}
 
-impl Proposer for Sampler {
-    fn propose(&mut self, code: &Code) -> Result<Option<Vec<u8>>, Memory> {
+    /// A draft of the sample, if one is left.
+    fn left(&mut self, code: &Code) -> Result<Option<Vec<u8>>, Memory>
+        ensures { self.new.history ≡ self.old.history }
+    {
         if !self.has_sampled {
             self.has_sampled = true;
             if let Some(guess) = sampled(self.alloc, code, self.heaps, self.order)? {
@@ -43,8 +50,19 @@ impl Proposer for Sampler {
             None => Ok(None),
         }
     }
+}
 
-    fn learn(&mut self, _refusal: &Refusal) -> Result<(), Memory> {
+impl Proposer for Sampler {
+    ghost history = { λ s. s.history.events };
+
+    fn propose(&mut self, code: &Code) -> Result<Option<Vec<u8>>, Memory> {
+        let reply = self.left(code);
+        self.history.asked(&reply);
+        reply
+    }
+
+    fn learn(&mut self, refusal: &Refusal) -> Result<(), Memory> {
+        self.history.told(refusal);
         Ok(())
     }
 }

@@ -1,2 +1,5 @@
 pub mod Numbers
 pub mod Finding
+pub mod Histories
+pub mod Turns
+pub mod Rounds

@@ -5,13 +5,16 @@
 #![tactic(auto)]
 
 mod gave_up;
+mod history;
 mod limits;
 mod proposer;
 mod reply;
 mod rounds;
 mod same;
+mod turn;
 
 pub use gave_up::GaveUp;
+pub use history::History;
 pub use limits::Limits;
 pub use proposer::Proposer;
 pub use rounds::find;

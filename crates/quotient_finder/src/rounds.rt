@@ -1,53 +1,30 @@
 //! Rounds over proposers.
-ghost use Rattle.std.specs.Prelude.{◌≡◌, ◌<◌, IfOk, IfErr, vec_len};
+ghost use Rattle.std.specs.Prelude.{◌≡◌, ◌<◌, IfOk, IfErr, map, vec_len};
 ghost use Rattle.quotient_finder.specs.Finding.{IsFound, FindsOnly};
+ghost use Rattle.quotient_finder.specs.Rounds.{IsRound, IsBroken, HasSearched};
 
 use crate::gave_up::GaveUp;
 use crate::limits::Limits;
 use crate::proposer::Proposer;
 use crate::reply::Reply;
-use crate::same::is_same;
-use checker::{Certified, Refusal, check};
+use crate::turn::ask;
+use checker::Certified;
 use octal_code::Code;
 use std::alloc::Global;
-
-/// Asks a proposer once, and tells it of a refusal.
-fn ask(
-    alloc: Global,
-    code: &Code,
-    heaps: u64,
-    proposer: &mut Box<dyn Proposer>,
-    members: u32,
-) -> Result<Reply, GaveUp>
-    ensures found { IfOk result (FindsOnly code.now heaps) }
-    ensures memory { IfErr result (λ why. why ≡ GaveUp.Memory) }
-{
-    let Some(draft) = proposer.propose(code)? else {
-        return Ok(Reply::Nothing);
-    };
-    match check(alloc, &draft, members) {
-        Ok(certified) => {
-            if certified.cert().heaps() == heaps && is_same(certified.cert().code(), code) {
-                return Ok(Reply::Found(certified));
-            }
-        }
-        Err(Refusal::Memory) => return Err(GaveUp::Memory),
-        Err(refusal) => proposer.learn(&refusal)?,
-    }
-    Ok(Reply::Drafted)
-}
 
 /// Asks each proposer once, in order, until a certificate of the code and kind is found.
 fn round(
     alloc: Global,
     code: &Code,
     heaps: u64,
-    proposers: &mut Vec<Box<dyn Proposer>>,
+    proposers: &mut [Box<dyn Proposer>],
     members: u32,
 ) -> Result<Reply, GaveUp>
     ensures found { IfOk result (FindsOnly code.now heaps) }
-    ensures stays { vec_len proposers.new ≡ vec_len proposers.old }
-    ensures memory { IfErr result (λ why. why ≡ GaveUp.Memory) }
+    ensures round { IfOk result (λ reply. IsRound code.now heaps members reply
+        (map history proposers.old) (map history proposers.new)) }
+    ensures memory { IfErr result (λ why. (why ≡ GaveUp.Memory) × IsBroken code.now heaps members
+        (map history proposers.old) (map history proposers.new)) }
 {
     let mut has_drafted = false;
     for proposer in proposers.iter_mut() {
@@ -62,6 +39,29 @@ fn round(
     } else {
         Ok(Reply::Nothing)
     }
+}
+
+/// Goes round after round, until a certificate of the code and kind is found, or a round gives no
+/// draft.
+fn search(
+    alloc: Global,
+    code: &Code,
+    heaps: u64,
+    proposers: &mut [Box<dyn Proposer>],
+    limits: Limits,
+) -> Result<Certified, GaveUp>
+    ensures found { IfOk result (IsFound code.now heaps) }
+    ensures searched { HasSearched code.now heaps limits.members limits.rounds
+        (map history proposers.old) (map history proposers.new) result }
+{
+    for _ in 0..limits.rounds {
+        match round(alloc, code, heaps, proposers, limits.members)? {
+            Reply::Found(certified) => return Ok(certified),
+            Reply::Drafted => {}
+            Reply::Nothing => return Err(GaveUp::Empty),
+        }
+    }
+    Err(GaveUp::Rounds)
 }
 
 /// Searches for a certificate of the code and of the kind that `Cert::heaps` tells: 0 asks for a
@@ -81,6 +81,8 @@ pub fn find(
     limits: Limits,
 ) -> Result<Certified, GaveUp>
     ensures found { IfOk result (IsFound code.now heaps) }
+    ensures searched { HasSearched code.now heaps limits.members limits.rounds
+        (map history proposers.old.items) (map history proposers.new.items) result }
     ensures stays { vec_len proposers.new ≡ vec_len proposers.old }
     ensures no_proposer { vec_len proposers.old ≡ 0 → result ≡ Err GaveUp.Empty }
     ensures no_round { 0 < vec_len proposers.old → limits.rounds ≡ 0 → result ≡ Err GaveUp.Rounds }
@@ -88,12 +90,5 @@ pub fn find(
     if proposers.is_empty() {
         return Err(GaveUp::Empty);
     }
-    for _ in 0..limits.rounds {
-        match round(alloc, code, heaps, proposers, limits.members)? {
-            Reply::Found(certified) => return Ok(certified),
-            Reply::Drafted => {}
-            Reply::Nothing => return Err(GaveUp::Empty),
-        }
-    }
-    Err(GaveUp::Rounds)
+    search(alloc, code, heaps, proposers, limits)
 }

@@ -270,15 +270,30 @@ static REFUSED: [Refuses; 106] = [
     Refuses("solve|0.3|--heaps|65", Why::Number(Quantity::Heaps)),
     Refuses("solve|0.3|--order|1", Why::Number(Quantity::Order)),
     Refuses("solve|0.3|--order|257", Why::Number(Quantity::Order)),
-    Refuses("catalogue|x.json|--get|0.3|--new", Why::Exclusive(Exclusion::Catalogue)),
-    Refuses("catalogue|x.json|--get|0.3|--add|a.mqc", Why::Exclusive(Exclusion::Catalogue)),
+    Refuses(
+        "catalogue|x.json|--get|0.3|--new",
+        Why::Exclusive(Exclusion::Catalogue),
+    ),
+    Refuses(
+        "catalogue|x.json|--get|0.3|--add|a.mqc",
+        Why::Exclusive(Exclusion::Catalogue),
+    ),
     Refuses(
         "catalogue|x.json|--new|--get|0.3|--add|a.mqc",
         Why::Exclusive(Exclusion::Catalogue),
     ),
-    Refuses("catalogue|x.json|--salvage|--new", Why::Exclusive(Exclusion::Catalogue)),
-    Refuses("catalogue|x.json|--salvage|--add|a.mqc", Why::Exclusive(Exclusion::Catalogue)),
-    Refuses("catalogue|x.json|--salvage|--get|0.3", Why::Exclusive(Exclusion::Catalogue)),
+    Refuses(
+        "catalogue|x.json|--salvage|--new",
+        Why::Exclusive(Exclusion::Catalogue),
+    ),
+    Refuses(
+        "catalogue|x.json|--salvage|--add|a.mqc",
+        Why::Exclusive(Exclusion::Catalogue),
+    ),
+    Refuses(
+        "catalogue|x.json|--salvage|--get|0.3",
+        Why::Exclusive(Exclusion::Catalogue),
+    ),
     Refuses(
         "catalogue|x.json|--get|0.3|--heaps|1025",
         Why::Number(Quantity::Part),
@@ -291,15 +306,42 @@ static REFUSED: [Refuses; 106] = [
         "catalogue|x.json|--get|0.3|--heaps|x",
         Why::Number(Quantity::Part),
     ),
-    Refuses("catalogue|x.json|--heaps|2", Why::Exclusive(Exclusion::Catalogue)),
-    Refuses("catalogue|x.json|--new|--heaps|2", Why::Exclusive(Exclusion::Catalogue)),
-    Refuses("catalogue|x.json|--add|a.mqc|--heaps|2", Why::Exclusive(Exclusion::Catalogue)),
-    Refuses("catalogue|x.json|--salvage|--heaps|2", Why::Exclusive(Exclusion::Catalogue)),
-    Refuses("catalogue|x.json|--migrate|--heaps|2", Why::Exclusive(Exclusion::Catalogue)),
-    Refuses("catalogue|x.json|--migrate|--new", Why::Exclusive(Exclusion::Catalogue)),
-    Refuses("catalogue|x.json|--migrate|--add|a.mqc", Why::Exclusive(Exclusion::Catalogue)),
-    Refuses("catalogue|x.json|--migrate|--get|0.3", Why::Exclusive(Exclusion::Catalogue)),
-    Refuses("catalogue|x.json|--migrate|--salvage", Why::Exclusive(Exclusion::Catalogue)),
+    Refuses(
+        "catalogue|x.json|--heaps|2",
+        Why::Exclusive(Exclusion::Catalogue),
+    ),
+    Refuses(
+        "catalogue|x.json|--new|--heaps|2",
+        Why::Exclusive(Exclusion::Catalogue),
+    ),
+    Refuses(
+        "catalogue|x.json|--add|a.mqc|--heaps|2",
+        Why::Exclusive(Exclusion::Catalogue),
+    ),
+    Refuses(
+        "catalogue|x.json|--salvage|--heaps|2",
+        Why::Exclusive(Exclusion::Catalogue),
+    ),
+    Refuses(
+        "catalogue|x.json|--migrate|--heaps|2",
+        Why::Exclusive(Exclusion::Catalogue),
+    ),
+    Refuses(
+        "catalogue|x.json|--migrate|--new",
+        Why::Exclusive(Exclusion::Catalogue),
+    ),
+    Refuses(
+        "catalogue|x.json|--migrate|--add|a.mqc",
+        Why::Exclusive(Exclusion::Catalogue),
+    ),
+    Refuses(
+        "catalogue|x.json|--migrate|--get|0.3",
+        Why::Exclusive(Exclusion::Catalogue),
+    ),
+    Refuses(
+        "catalogue|x.json|--migrate|--salvage",
+        Why::Exclusive(Exclusion::Catalogue),
+    ),
     Refuses(
         "describe|a.mqc|--latex|--relations",
         Why::Exclusive(Exclusion::Description),

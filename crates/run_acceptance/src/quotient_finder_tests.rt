@@ -1,10 +1,12 @@
 //! Proposers that lie, that learn nothing and that give nothing, and what a search tells them.
+ghost use Rattle.std.specs.Prelude.{◌≡◌};
+
 use crate::certificates::{OF_0_3, OF_0_75, PART_OF_0_75, RIGHT_UP_TO_8, is_spelled};
 use crate::rows::{Row, count_held};
 use allocation::Memory;
 use checker::Refusal;
 use octal_code::Code;
-use quotient_finder::{GaveUp, Limits, Proposer, find};
+use quotient_finder::{GaveUp, History, Limits, Proposer, find};
 use std::alloc::Global;
 
 /// The code that the proposers are asked for.
@@ -43,6 +45,7 @@ struct Counting {
     asked: u8,
     told: u8,
     last: u8,
+    history: History,
 }
 
 impl Counting {
@@ -54,10 +57,10 @@ impl Counting {
             Habit::Wanting => Err(Memory),
         }
     }
-}
 
-impl Proposer for Counting {
-    fn propose(&mut self, code: &Code) -> Result<Option<Vec<u8>>, Memory> {
+    fn reply(&mut self, code: &Code) -> Result<Option<Vec<u8>>, Memory>
+        ensures { self.new.history ≡ self.old.history }
+    {
         if code.digit(1) != 7 {
             return Ok(Some(vec![in self.alloc; self.asked, self.told, self.last]?));
         }
@@ -68,8 +71,19 @@ impl Proposer for Counting {
         }
         draft
     }
+}
+
+impl Proposer for Counting {
+    ghost history = { λ c. c.history.events };
+
+    fn propose(&mut self, code: &Code) -> Result<Option<Vec<u8>>, Memory> {
+        let reply = self.reply(code);
+        self.history.asked(&reply);
+        reply
+    }
 
     fn learn(&mut self, refusal: &Refusal) -> Result<(), Memory> {
+        self.history.told(refusal);
         self.told = self.told.saturating_add(1);
         self.last = refusal.number();
         Ok(())
@@ -88,6 +102,7 @@ fn put_proposer(
         asked: 0,
         told: 0,
         last: 0,
+        history: History::new(),
     };
     proposers.push(Box::new(alloc, counting)?)?;
     Ok(())

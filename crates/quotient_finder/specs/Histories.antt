@@ -1,0 +1,117 @@
+-- What was said between a search and a proposer. This project's own.
+use Rattle.std.specs.Prelude.{◌≡◌, ℕ, refl, List, [], ◌∷◌, ◌⊎◌, slice_index_or}
+use mathlib.Core.Logic.{inl, inr}
+use Rattle.std.specs.Coded.{Coded, code_by, coded×, coded⊎, coded_ℕ, coded_list}
+use Rattle.misere_theory.specs.Certificates.{Certificate}
+use Rattle.answers.specs.Answers.{Answer}
+use Rattle.answers.specs.Answers.Answer.{Yes, Text, Law, Word, Order, Period, Apart, Outcome, Limit, Memory}
+
+-- It was asked, and gave this draft, or none, or memory was wanting; or it was told this refusal.
+pub data Event : Type 0 where
+  Gave : List ℕ → Event
+  Silent : Event
+  Wanting : Event
+  Told : Answer → Event
+
+-- all that was said to a proposer, the latest first
+abbrev pub Events : Type 0
+Events = List Event
+
+abbrev Numbers : Type 0
+Numbers = List ℕ
+
+abbrev coded_numbers : Coded Numbers
+coded_numbers = coded_list coded_ℕ
+
+-- a certificate is stored as its fields
+abbrev Fields : Type 0
+Fields = Numbers × (ℕ × (ℕ × (ℕ × (Numbers × (Numbers × (List (ℕ × ℕ) × (List Numbers × Numbers)))))))
+
+abbrev coded_certificate : Coded Certificate
+coded_certificate =
+    code_by Fields
+    (coded× coded_numbers (coded× coded_ℕ (coded× coded_ℕ (coded× coded_ℕ (coded× coded_numbers
+    (coded× coded_numbers (coded× (coded_list (coded× coded_ℕ coded_ℕ))
+    (coded× (coded_list coded_numbers) coded_numbers))))))))
+    (λ c. (c.code, (c.order, (c.start, (c.period, (c.phi, (c.portion, (c.words, (c.rows, c.apart)))))))))
+    (λ f. record {
+      code = f.0;
+      order = f.1.0;
+      start = f.1.1.0;
+      period = f.1.1.1.0;
+      phi = f.1.1.1.1.0;
+      portion = f.1.1.1.1.1.0;
+      words = f.1.1.1.1.1.1.0;
+      rows = f.1.1.1.1.1.1.1.0;
+      apart = f.1.1.1.1.1.1.1.1;
+    }) (λ _. refl)
+
+abbrev Parts : Type 0
+Parts = (Certificate ⊎ (Numbers × Numbers)) ⊎ ℕ
+
+abbrev parts_of : Answer → Parts
+parts_of (Yes c) = inl (inl c)
+parts_of (Outcome code X) = inl (inr (code, X))
+parts_of Text = inr 0
+parts_of Law = inr 1
+parts_of Word = inr 2
+parts_of Order = inr 3
+parts_of Period = inr 4
+parts_of Apart = inr 5
+parts_of Limit = inr 6
+parts_of Memory = inr 7
+
+abbrev numbered : ℕ → Answer
+numbered n = slice_index_or (Text ∷ Law ∷ Word ∷ Order ∷ Period ∷ Apart ∷ Limit ∷ []) n Memory
+
+abbrev answer_of_parts : Parts → Answer
+answer_of_parts (inl (inl c)) = Yes c
+answer_of_parts (inl (inr o)) = Outcome o.0 o.1
+answer_of_parts (inr n) = numbered n
+
+pub answer_back : (a : Answer) → answer_of_parts (parts_of a) ≡ a
+answer_back (Yes c) = refl
+answer_back (Outcome code X) = refl
+answer_back Text = refl
+answer_back Law = refl
+answer_back Word = refl
+answer_back Order = refl
+answer_back Period = refl
+answer_back Apart = refl
+answer_back Limit = refl
+answer_back Memory = refl
+
+abbrev coded_answer : Coded Answer
+coded_answer =
+    code_by Parts (coded⊎ (coded⊎ coded_certificate (coded× coded_numbers coded_numbers)) coded_ℕ) parts_of
+    answer_of_parts answer_back
+
+abbrev Words : Type 0
+Words = (Numbers ⊎ Answer) ⊎ ℕ
+
+abbrev words_of : Event → Words
+words_of (Gave draft) = inl (inl draft)
+words_of (Told a) = inl (inr a)
+words_of Silent = inr 0
+words_of Wanting = inr 1
+
+abbrev event_at : ℕ → Event
+event_at n = slice_index_or (Silent ∷ []) n Wanting
+
+abbrev event_of : Words → Event
+event_of (inl (inl draft)) = Gave draft
+event_of (inl (inr a)) = Told a
+event_of (inr n) = event_at n
+
+pub event_back : (e : Event) → event_of (words_of e) ≡ e
+event_back (Gave draft) = refl
+event_back (Told a) = refl
+event_back Silent = refl
+event_back Wanting = refl
+
+abbrev coded_event : Coded Event
+coded_event = code_by Words (coded⊎ (coded⊎ coded_numbers coded_answer) coded_ℕ) words_of event_of event_back
+
+-- so are the events of a history
+abbrev pub coded_events : Coded Events
+coded_events = coded_list coded_event
