@@ -62,10 +62,11 @@ fn answer<W: Sink>(
         Ok(certified) if certified.cert().order() as u32 <= bounds.order => {
             print(&certified, out)
         }
-        Err(GaveUp::Memory) => Err(SolveStop::Memory),
-        Err(GaveUp::Empty) => give_up(b"gave up 2 Empty\n", out),
         // no proposer drafts a larger order
-        Ok(_) | Err(GaveUp::Rounds) => give_up(b"gave up 1 Rounds\n", out),
+        Ok(_) => give_up(b"gave up 1 Rounds\n", out),
+        Err(GaveUp::Rounds) => give_up(b"gave up 1 Rounds\n", out),
+        Err(GaveUp::Empty) => give_up(b"gave up 2 Empty\n", out),
+        Err(GaveUp::Memory) => Err(SolveStop::Memory),
     }
 }
 

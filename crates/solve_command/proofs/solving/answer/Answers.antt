@@ -1,6 +1,6 @@
-use Rattle.std.proofs.Common.{◌≡◌, Err}
-use Rattle.quotient_finder.specs.declared.gave_up.GaveUp.TheVariants.{Empty}
-use Rattle.solve_command.proofs.Printed.{certificate, empty, not_empty, rounds, within}
+use Rattle.std.proofs.Common.{◌≡◌, Ok, Err, inl, inr}
+use Rattle.quotient_finder.specs.declared.gave_up.GaveUp.TheVariants.{Rounds, Empty}
+use Rattle.solve_command.proofs.Printed.{certificate, empty, not_empty, rounds, came_to, came_to_none, empty_is_no_want, rounds_are_no_want, above, within}
 use Rattle.solve_command.proofs.solving.answer.Goals as goal
 
 pub returns-in-Ok-clause-found : goal.returns-in-Ok-clause-found
@@ -9,15 +9,31 @@ returns-in-Ok-clause-found g c =
     c.in-Ok.ensures.found.of_code c.in-Ok.ensures.found.accepted
     (within c.in-Ok.certified c.cert.result.now c.order.result c.args.bounds.order
     c.cert.ensures.same c.order.ensures.value c.if-order-bounds.true)
+    (came_to _ _ c.search.result c.in-Ok.certified c.search.ensures.searched c.in-Ok.is)
     c.print.ensures.printed
 
 pub returns-in-Err-Empty-clause-found : goal.returns-in-Err-Empty-clause-found
 returns-in-Err-Empty-clause-found g c =
     let is : c.search.result ≡ Err Empty = cc in
-    empty c.args.code.now c.args.bounds _ _ c.give_up.result
-    (λ z. not_empty c.search.result is (c.search.ensures.no_round z)) c.give_up.ensures.printed
+    empty c.args.code.now c.args.bounds _ _ c.give_up-in-Err-Empty.result
+    (λ z. not_empty c.search.result is (c.search.ensures.no_round z))
+    (came_to_none _ _ c.search.result Empty c.search.ensures.searched is empty_is_no_want)
+    c.give_up-in-Err-Empty.ensures.printed
+
+pub returns-in-Err-Rounds-clause-found : goal.returns-in-Err-Rounds-clause-found
+returns-in-Err-Rounds-clause-found g c =
+    let is : c.search.result ≡ Err Rounds = cc in
+    rounds c.args.code.now c.args.bounds _ _ c.give_up-in-Err-Rounds.result
+    (inl (came_to_none _ _ c.search.result Rounds c.search.ensures.searched is rounds_are_no_want))
+    c.give_up-in-Err-Rounds.ensures.printed
 
 pub returns-in-Ok-2-clause-found : goal.returns-in-Ok-2-clause-found
 returns-in-Ok-2-clause-found g c =
-    rounds c.args.code.now c.args.bounds _ _ c.give_up-in-Ok-2.result
-    c.give_up-in-Ok-2.ensures.printed
+    rounds c.args.code.now c.args.bounds _ _ c.give_up.result
+    (inr (
+      c.in-Ok.certified,
+      came_to _ _ c.search.result c.in-Ok.certified c.search.ensures.searched c.in-Ok.is,
+      above c.in-Ok.certified c.cert.result.now c.order.result c.args.bounds.order
+          c.cert.ensures.same c.order.ensures.value c.if-order-bounds.false,
+    ))
+    c.give_up.ensures.printed
