@@ -12,7 +12,8 @@ use Rattle.catalogue.specs.Loads.{IsLoaded}
 use Rattle.catalogue.specs.Salvages.{IsSalvaged}
 use Rattle.catalogue.specs.declared.fault.LoadFault.{LoadFault}
 use Rattle.catalogue.specs.Texts.{catalogue_text}
-use Rattle.answers.specs.Answers.{Answer, IsTrueOf}
+use Rattle.answers.specs.Answers.{Answer}
+use Rattle.checker.specs.Turns.{verdict}
 use Rattle.answers.specs.Answers.Answer.{Yes, Text, Law, Word, Order, Period, Apart, Outcome, Limit, Memory}
 use Rattle.verdict_texts.specs.Lines.{IsTextOf}
 use Rattle.catalogue_command.specs.Lines.{added_line, entry_line, migrated_line, salvage_lines, IsFaultLine}
@@ -87,10 +88,10 @@ AddsTo cs (Outcome code X) well new printed = (well ≡ false) × IsTextOf (Outc
 AddsTo cs Limit well new printed = (well ≡ false) × IsTextOf Limit printed
 AddsTo cs Memory well new printed = ⊥
 
--- what comes of the bytes of a certificate, by a verdict that is true of them
+-- what comes of the bytes of a certificate, by their verdict under this limit
 abbrev pub IsAddition : List Certificate → List ℕ → ℕ → Bool → List Certificate → List ℕ → Type 0
-IsAddition cs bytes limit well new printed = (verdict : Answer) × IsTrueOf bytes limit verdict
-    × AddsTo cs verdict well new printed
+IsAddition cs bytes limit well new printed =
+    AddsTo cs (verdict bytes limit) well new printed
 
 -- where it ends well the file holds the text of the new entries, else no file changes
 abbrev pub Saves : Option (List ℕ → Option (List ℕ)) → Option (List ℕ → Option (List ℕ)) → List ℕ

@@ -1,6 +1,6 @@
 -- The rows of the pretending function in words, as arrays of LaTeX. This project's own form, after the
 -- tables of Plambeck and Siegel.
-use Rattle.std.specs.Prelude.{◌≡◌, ℕ, zero, suc, ◌+◌, ◌-◌, ◌*◌, ◌/◌, ◌%◌, ◌==◌, min, List, [], ◌++◌, slice_index_or, if◌then◌else◌, codes, decimal}
+use Rattle.std.specs.Prelude.{ℕ, zero, suc, ◌+◌, ◌-◌, ◌*◌, ◌/◌, ◌%◌, ◌==◌, min, List, [], ◌++◌, slice_index_or, if◌then◌else◌, codes, decimal}
 use Rattle.misere_theory.specs.Certificates.{Certificate, phi_at}
 use Rattle.relations.specs.Printed.{word_text}
 use Rattle.relations.specs.declared.text.Notation.TheVariants.{Latex}

@@ -1,5 +1,5 @@
 -- When a text describes the quotient of a certificate.
-use Rattle.std.specs.Prelude.{◌≡◌, ◌≢◌, ℕ, ◌+◌, ◌<◌, ◌≤◌, List, [], ◌∷◌, ◌++◌, Option, Some, None, All, length, vec_len}
+use Rattle.std.specs.Prelude.{◌≡◌, ◌≢◌, ℕ, ◌<◌, ◌≤◌, List, ◌++◌, Option, Some, None, All, length, vec_len}
 use Rattle.std.specs.List.{AllZip}
 use Rattle.misere_theory.specs.Certificates.{Certificate, IsHeapOf, phi_at}
 use Rattle.certificate.specs.Pieces.{grid_of}

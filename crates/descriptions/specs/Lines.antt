@@ -1,6 +1,6 @@
 -- The lines of a description but for those of the heaps, plain and for LaTeX. This project's own form,
 -- after the tables of Plambeck and Siegel.
-use Rattle.std.specs.Prelude.{◌≡◌, ℕ, zero, suc, ◌+◌, ◌==◌, List, [], ◌∷◌, ◌++◌, Option, Some, None, length, slice_index, if◌then◌else◌, codes, decimal, encode_utf8}
+use Rattle.std.specs.Prelude.{ℕ, zero, suc, ◌+◌, ◌==◌, List, [], ◌++◌, Option, Some, None, length, slice_index, if◌then◌else◌, codes, decimal, encode_utf8}
 use Rattle.misere_theory.specs.Certificates.{Certificate, kind_of}
 use Rattle.octal_code.specs.Text.{code_text}
 use Rattle.presentations.specs.declared.read.Relation.{Relation}

@@ -29,11 +29,13 @@ fn fill<W: Write + OpenFile + Drop>(file: W, bytes: &[u8]) -> io::Result<()> {
 }
 
 impl<R: Files> Disk for HostDisk<'_, R> {
+    ghost files = { λ _. None };
+
     fn stage(&mut self, name: &str, bytes: &[u8]) -> Result<(), StageFault> {
         match File::create_new(self.rt, name) {
-            Ok(file) => fill(file, bytes).map_err(|_| StageFault::Device),
+            Ok(file) => fill(file, bytes).map_err(|_| StageFault::Unfilled),
             Err(e) if e.kind() == ErrorKind::AlreadyExists => Err(StageFault::Taken),
-            Err(_) => Err(StageFault::Device),
+            Err(_) => Err(StageFault::Unmade),
         }
     }
 

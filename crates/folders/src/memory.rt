@@ -1,15 +1,18 @@
 //! Files in memory.
-ghost use Rattle.std.specs.Prelude.{◌≡◌, Option, Some, None, IfOk, OnErr, option_map};
+ghost use Rattle.std.specs.Prelude.{◌≡◌, ◌≢◌, Option, Some, None, IfOk, OnErr, option_map, true, false};
 ghost use Rattle.std.specs.BTreeMap.{get_by_text};
 ghost use Rattle.folders.specs.Files.{Replaces, file_of};
+ghost use Rattle.folders.specs.Disks.{Loses, Moves, Spares};
 
+use crate::replacing::{Disk, StageFault};
 use crate::{FileFault, Folder};
 use allocation::Memory;
 use std::alloc::Global;
 use std::collections::BTreeMap;
-use streams::Failures;
+use streams::{DeviceFault, Failures};
 
-/// Files in memory, all of them known. One call may fail.
+/// Files in memory, all of them known. One call may fail. As a disk it may be the making of a new
+/// file that fails, the writing, the waiting for the device, or the renaming.
 #[derive(Drop)]
 pub struct MemoryFolder {
     alloc: Global,
@@ -77,6 +80,57 @@ impl MemoryFolder {
     {
         self.files.get(name).map(|bytes| bytes.as_slice())
     }
+
+    /// A call that may fail, which puts the bytes there or tells that it doesn't.
+    fn puts(&mut self, name: &str, bytes: &[u8]) -> bool
+        ensures put { let files = ⟦<MemoryFolder as Folder>⟧.files in
+            result ≡ true → Replaces (files self.old) (files self.new) name.now bytes.now }
+        ensures kept { let files = ⟦<MemoryFolder as Folder>⟧.files in
+            result ≡ false → files self.new ≡ files self.old }
+    {
+        if self.calls.fails() {
+            return false;
+        }
+        self.put(name, bytes).is_ok()
+    }
+
+    /// Takes the file away, if it is there.
+    fn forget(&mut self, name: &str)
+        ensures { let files = ⟦<MemoryFolder as Folder>⟧.files in
+            Loses (files self.old) (files self.new) name.now }
+    {
+        let _ = self.files.remove(name);
+    }
+
+    /// Gives the file another name.
+    fn give(&mut self, from: &str, to: &str) -> Result<(), Memory>
+        ensures moved { let files = ⟦<MemoryFolder as Folder>⟧.files in
+            from.now ≢ to.now
+            → IfOk result (λ _. Moves (files self.old) (files self.new) from.now to.now) }
+        ensures kept { let files = ⟦<MemoryFolder as Folder>⟧.files in
+            OnErr result (files self.new ≡ files self.old) }
+    {
+        if let Some(bytes) = self.files.get(from) {
+            let bytes = bytes.clone()?;
+            self.put(to, &bytes)?;
+            self.forget(from);
+            return Ok(());
+        }
+        Err(Memory)
+    }
+
+    /// Puts half of the bytes into the file, and then all of them.
+    fn fills(&mut self, name: &str, bytes: &[u8]) -> bool
+        ensures put { let files = ⟦<MemoryFolder as Folder>⟧.files in
+            result ≡ true → Replaces (files self.old) (files self.new) name.now bytes.now }
+        ensures spared { let files = ⟦<MemoryFolder as Folder>⟧.files in
+            Spares (files self.old) (files self.new) name.now }
+    {
+        if !self.puts(name, &bytes[..bytes.len() / 2]) {
+            return false;
+        }
+        self.puts(name, bytes)
+    }
 }
 
 impl Folder for MemoryFolder {
@@ -102,6 +156,41 @@ impl Folder for MemoryFolder {
             return Err(FileFault::Device);
         }
         self.put(name, bytes)?;
+        Ok(())
+    }
+}
+
+impl Disk for MemoryFolder {
+    ghost files = { λ s. ⟦<MemoryFolder as Folder>⟧.files s };
+
+    fn stage(&mut self, name: &str, bytes: &[u8]) -> Result<(), StageFault> {
+        if self.files.get(name).is_some() {
+            return Err(StageFault::Taken);
+        }
+        if !self.puts(name, b"") {
+            return Err(StageFault::Unmade);
+        }
+        if !self.fills(name, bytes) {
+            return Err(StageFault::Unfilled);
+        }
+        Ok(())
+    }
+
+    fn rename(&mut self, from: &str, to: &str) -> Result<(), DeviceFault> {
+        if self.calls.fails() {
+            return Err(DeviceFault);
+        }
+        if from == to {
+            return Ok(());
+        }
+        self.give(from, to).map_err(|_| DeviceFault)
+    }
+
+    fn remove(&mut self, name: &str) -> Result<(), DeviceFault> {
+        if self.files.get(name).is_none() {
+            return Err(DeviceFault);
+        }
+        self.forget(name);
         Ok(())
     }
 }

@@ -1,4 +1,8 @@
 //! A file replaced whole, or not at all.
+ghost use Rattle.std.specs.Prelude.{◌≡◌, ℕ, List, Option, IfOk, OnErr, string_bytes};
+ghost use Rattle.folders.specs.Files.{Replaces};
+ghost use Rattle.folders.specs.Disks.{Leaves, Moves, Removes, Renames, Spares, Stages, name_beside};
+
 use crate::FileFault;
 use std::alloc::{AllocError, Global};
 use streams::DeviceFault;
@@ -9,38 +13,54 @@ const TRIES: u32 = 1000;
 /// Why a new file was not made.
 #[derive(Clone, Copy, Debug, PartialEq, Eq)]
 pub enum StageFault {
-    /// There is a file of this name, which is as it was.
+    /// There is a file of this name. Every file is as it was.
     Taken,
-    /// The device failed. A part of the new file may be there.
-    Device,
+    /// The device made no file. Every file is as it was.
+    Unmade,
+    /// The device made the file and failed then. A part of the bytes may be there.
+    Unfilled,
 }
 
 /// The calls by which a file is replaced.
 pub trait Disk {
+    /// What the file of each name holds, and nothing where there is none, if the files are known.
+    ghost files: { Self → Option (List ℕ → Option (List ℕ)) };
+
     /// Makes a new file of the bytes, which lie on the device when it returns.
-    fn stage(&mut self, name: &str, bytes: &[u8]) -> Result<(), StageFault>;
+    fn stage(&mut self, name: &str, bytes: &[u8]) -> Result<(), StageFault>
+        ensures staged { Stages (files self.old) (files self.new) result name.now bytes.now };
 
     /// Gives the file another name, in place of the file that had it.
-    fn rename(&mut self, from: &str, to: &str) -> Result<(), DeviceFault>;
+    fn rename(&mut self, from: &str, to: &str) -> Result<(), DeviceFault>
+        ensures renamed { Renames (files self.old) (files self.new) result from.now to.now };
 
     /// Takes the file away.
-    fn remove(&mut self, name: &str) -> Result<(), DeviceFault>;
+    fn remove(&mut self, name: &str) -> Result<(), DeviceFault>
+        ensures removed { Removes (files self.old) (files self.new) result name.now };
 }
 
 /// A name for a file beside the file.
-fn name_beside(alloc: Global, name: &str, number: u32) -> Result<String, AllocError> {
-    format!(in alloc; "{name}.{number}.new")
+fn name_beside(alloc: Global, name: &str, number: u32) -> Result<String, AllocError>
+    ensures { IfOk result (λ t. string_bytes t ≡ name_beside name.now number) }
+{
+    let text = format!(in alloc; "{name}.{number}.new")?;
+    Ok(text)
 }
 
 /// Takes away what is left of a file that isn't put in place. Where that fails too there is nothing
 /// left to do.
-fn give_up<D: Disk>(disk: &mut D, staged: &str) -> FileFault {
+fn give_up<D: Disk>(disk: &mut D, staged: &str) -> FileFault
+    ensures { Spares (D.files disk.old) (D.files disk.new) staged.now }
+{
     let _ = disk.remove(staged);
     FileFault::Device
 }
 
 /// Puts the file beside in place of the file, or takes it away again.
-fn settle<D: Disk>(disk: &mut D, staged: &str, name: &str) -> Result<(), FileFault> {
+fn settle<D: Disk>(disk: &mut D, staged: &str, name: &str) -> Result<(), FileFault>
+    ensures put { IfOk result (λ _. Moves (D.files disk.old) (D.files disk.new) staged.now name.now) }
+    ensures spared { OnErr result (Spares (D.files disk.old) (D.files disk.new) staged.now) }
+{
     match disk.rename(staged, name) {
         Ok(()) => Ok(()),
         Err(DeviceFault) => Err(give_up(disk, staged)),
@@ -49,19 +69,25 @@ fn settle<D: Disk>(disk: &mut D, staged: &str, name: &str) -> Result<(), FileFau
 
 /// Puts the bytes in place of the file's, whole or not at all: they are written to a new file
 /// beside it, in the same folder, which then takes its name. So the file holds what it held until
-/// all of the bytes lie on the device.
+/// all of the bytes lie on the device. Every other file stays as it is.
 pub fn replace<D: Disk>(
     alloc: Global,
     disk: &mut D,
     name: &str,
     bytes: &[u8],
-) -> Result<(), FileFault> {
+) -> Result<(), FileFault>
+    ensures replaced { IfOk result
+        (λ _. Replaces (D.files disk.old) (D.files disk.new) name.now bytes.now) }
+    ensures left { OnErr result (Leaves (D.files disk.old) (D.files disk.new) name.now) }
+{
     for number in 1..=TRIES {
-        let staged = name_beside(alloc, name, number)?;
-        match disk.stage(staged.as_str(), bytes) {
-            Ok(()) => return settle(disk, staged.as_str(), name),
+        let beside = name_beside(alloc, name, number)?;
+        let staged = beside.as_str();
+        match disk.stage(staged, bytes) {
+            Ok(()) => return settle(disk, staged, name),
             Err(StageFault::Taken) => {}
-            Err(StageFault::Device) => return Err(give_up(disk, staged.as_str())),
+            Err(StageFault::Unmade) => return Err(FileFault::Device),
+            Err(StageFault::Unfilled) => return Err(give_up(disk, staged)),
         }
     }
     Err(FileFault::Device)

@@ -1,7 +1,4 @@
-//! Files in memory, and a disk of which one call fails.
-mod ram;
-
-use self::ram::RamDisk;
+//! Files in memory, of which one call fails, also as a disk, and those of the machine.
 use folders::{FileFault, Folder, HostFolder, MemoryFolder, replace};
 use std::alloc::Global;
 use std::fs;
@@ -83,17 +80,19 @@ static STEPS: [(u64, bool, &str); 5] = [
     (5, true, "new text"),
 ];
 
-/// Whether there is the file, another's file under the first name that is tried beside it, and no
-/// other.
-fn holds_both(disk: &RamDisk, held: &str) -> bool {
-    disk.holds("a", held) && disk.holds("a.1.new", "of another") && disk.len() == 2
+/// Whether there is the file, another's file under the first name that is tried beside it, and none
+/// under the second.
+fn holds_both(disk: &MemoryFolder, held: &str) -> bool {
+    disk.bytes("a") == Some(held.as_bytes())
+        && disk.bytes("a.1.new") == Some(b"of another")
+        && disk.bytes("a.2.new").is_none()
 }
 
 /// Whether the file is replaced or not, and the text is held then beside the other file.
 fn replaces(alloc: Global, number: u64, done: bool, held: &str) -> bool {
-    let mut disk = RamDisk::failing(alloc, number);
-    disk.keep("a", b"old text")
-        && disk.keep("a.1.new", b"of another")
+    let mut disk = MemoryFolder::failing(alloc, number);
+    disk.put("a", b"old text").is_ok()
+        && disk.put("a.1.new", b"of another").is_ok()
         && replace(alloc, &mut disk, "a", b"new text").is_ok() == done
         && holds_both(&disk, held)
 }
@@ -140,6 +139,11 @@ fn is_replaced_beside<F: Folder>(folder: &mut F, name: &str, other: &str, long: 
         && matches!(is_read_as(folder, other, "of another"), Ok(true))
 }
 
+/// Whether what bears the name of a folder is refused, and nothing is left beside it.
+fn is_no_file<F: Folder>(folder: &mut F, name: &str, beside: &str) -> bool {
+    matches!(folder.write(name, b"x"), Err(FileFault::Device)) && is_absent(folder, beside)
+}
+
 #[test]
 fn replaces_on_the_machine(rt: HostRuntime) -> Result<(), Fail> {
     let place = std::env::temp_dir(&rt)?;
@@ -154,5 +158,8 @@ fn replaces_on_the_machine(rt: HostRuntime) -> Result<(), Fail> {
     assert!(rt; is_replaced_beside(&mut folder, name.as_str(), other.as_str(), long.as_str()));
     fs::remove_file(&rt, name.as_str())?;
     fs::remove_file(&rt, other.as_str())?;
+    fs::create_dir(&rt, name.as_str())?;
+    assert!(rt; is_no_file(&mut folder, name.as_str(), other.as_str()));
+    fs::remove_dir(&rt, name.as_str())?;
     Ok(())
 }

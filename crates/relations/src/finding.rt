@@ -9,7 +9,7 @@ use crate::fault::Undescribed;
 use crate::generating::generators;
 use crate::least::{Least, least_words};
 use crate::listing::{are_printable, is_listing};
-use crate::shortening::{by_letter, independent, short};
+use crate::shortening::{independent, short, sort};
 use allocation::Memory;
 use monoid_table::Table;
 use presentations::Relation;
@@ -44,7 +44,7 @@ pub struct Description<A: Allocator = Global> {
     pub relations: Vec<Relation, A>,
 }
 
-/// The relations in this form, by the last letter of their left words.
+/// The relations in this form, in their order.
 fn formed<A: Allocator + Copy>(
     alloc: A,
     letters: usize,
@@ -53,14 +53,15 @@ fn formed<A: Allocator + Copy>(
 ) -> Result<Vec<Relation, A>, Memory>
     requires { letters ≤ 26 }
 {
-    let kept = match form {
+    let mut kept = match form {
         Form::Basis => basis,
         Form::Short => {
             let few = independent(alloc, letters, basis.as_slice())?;
             short(alloc, letters, few)?
         }
     };
-    by_letter(alloc, letters, kept.as_slice())
+    sort(&mut kept);
+    Ok(kept)
 }
 
 /// A presentation of the table with generators out of these elements, where one is found with at most

@@ -7,6 +7,7 @@ use crate::rewriting::{completed, is_same, learn, oriented, reduced};
 use allocation::Memory;
 use presentations::Relation;
 use std::alloc::Allocator;
+use std::cmp::Reverse;
 
 /// Whether the rules lead both words of the relation to one.
 fn is_given(letters: usize, rules: &[Relation], relation: &Relation) -> bool
@@ -94,21 +95,10 @@ pub fn short<A: Allocator + Copy>(
     Ok(kept)
 }
 
-/// The relations by the last letter of their left words.
-pub fn by_letter<A: Allocator>(
-    alloc: A,
-    letters: usize,
-    relations: &[Relation],
-) -> Result<Vec<Relation, A>, Memory>
-    requires { letters ≤ 26 }
-{
-    let mut sorted: Vec<Relation, A> = Vec::new(alloc);
-    for letter in 0..letters {
-        for relation in relations {
-            if last_letter(letters, &relation.left) == letter {
-                sorted.push(*relation)?;
-            }
-        }
-    }
-    Ok(sorted)
+/// Puts relations in the order of the last letters of their left words, and those of one letter in the
+/// order of the alphabet.
+pub fn sort<A: Allocator>(relations: &mut Vec<Relation, A>) {
+    relations.sort_unstable_by_key(|relation| {
+        (last_letter(26, &relation.left), Reverse(relation.left))
+    });
 }

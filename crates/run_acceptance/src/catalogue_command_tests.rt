@@ -1,6 +1,8 @@
 //! Catalogue files in memory: what is printed, and what the files hold then.
 mod tasks;
 
+use crate::by_rule::{by_rule, digits_of};
+use crate::catalogue_tests::file_of;
 use crate::certificates::{OF_0_3, OF_0_33, OF_0_75, OF_0_B, PART_OF_0_3};
 use crate::files::{Entry, FIRST_VERSION, ONE_ENTRY, catalogue_of, folder_with, holds};
 use crate::rows::{Row, count_held};
@@ -304,8 +306,38 @@ fn is_salvaged(alloc: Global, text: &str, row: &Salvaged) -> bool {
     }
 }
 
+/// Whether the entry of the code of this number is given out, or `absent` is said.
+fn gives(alloc: Global, text: &str, number: u16, there: bool) -> Result<bool, AllocError> {
+    let digits = digits_of(alloc, number)?;
+    let code = format!(in alloc; "0.{digits}")?;
+    let certificate = by_rule(alloc, digits.as_str())?;
+    let printed = if there {
+        certificate.as_str()
+    } else {
+        "absent\n"
+    };
+    let task = CatalogueTask::Get {
+        code: code.as_str(),
+        heaps: 0,
+    };
+    match folder_of_file(alloc, text) {
+        Some(mut folder) => Ok(prints(alloc, &mut folder, "x.json", task, there, printed)),
+        None => Err(AllocError),
+    }
+}
+
+/// Whether the first, the last and no further entry of 100 is given out.
+fn gives_of_many(alloc: Global) -> Result<bool, AllocError> {
+    let text = file_of(alloc, 100, 1)?;
+    Ok(
+        gives(alloc, text.as_str(), 1, true)?
+            && gives(alloc, text.as_str(), 100, true)?
+            && gives(alloc, text.as_str(), 101, false)?,
+    )
+}
+
 #[test]
 fn lists_or_keeps_what_stands_of_a_file(rt: HostRuntime) {
     assert!(rt; count_held(rt.alloc(), &LISTS) == 27);
-    assert!(rt; count_held(rt.alloc(), &DAMAGES) == 3);
+    assert!(rt; count_held(rt.alloc(), &DAMAGES) == 3 && gives_of_many(rt.alloc()) == Ok(true));
 }

@@ -54,7 +54,7 @@ fn file_as(alloc: Global, count: u16, times: u16, version: u8) -> Result<String,
 }
 
 /// The same, of the version in which files are written.
-fn file_of(alloc: Global, count: u16, times: u16) -> Result<String, AllocError> {
+pub fn file_of(alloc: Global, count: u16, times: u16) -> Result<String, AllocError> {
     file_as(alloc, count, times, 2)
 }
 

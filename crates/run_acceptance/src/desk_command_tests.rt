@@ -162,9 +162,23 @@ refused 20 Full\nrefused 20 Full\n";
 /// A script that opens one job too many, twice.
 static FULL: Script = Script(FILLING, 0, FILLED, "");
 
+/// Whether a script of 2,000 steps ends well, and each of them is answered.
+fn answers_each(alloc: Global) -> bool {
+    let steps = "drop 1 1\n".repeat(alloc, 2000);
+    let lines = "refused 21 NoJob\n".repeat(alloc, 2000);
+    match (steps, lines) {
+        (Ok(steps), Ok(lines)) => {
+            let mut out = MemorySink::new(alloc);
+            ends(alloc, steps.as_str(), &mut out, 0, "") && out.bytes() == lines.as_bytes()
+        }
+        _ => false,
+    }
+}
+
 #[test]
 fn ends_as_worked_out(rt: HostRuntime) {
     assert!(rt; count_held(rt.alloc(), &ROWS) == 14 && FULL.holds(rt.alloc()));
+    assert!(rt; answers_each(rt.alloc()));
 }
 
 /// Whether a script stops where its line of this number can't be written, which is told, and what

@@ -14,6 +14,7 @@ mod certificates;
 mod command_line_tests;
 #[cfg(test)]
 mod describe_command_tests;
+#[cfg(test)]
 mod desk_command_tests;
 #[cfg(test)]
 mod files;
@@ -31,6 +32,8 @@ mod said;
 mod show_command_tests;
 #[cfg(test)]
 mod solve_command_tests;
+#[cfg(test)]
+mod tame;
 #[cfg(test)]
 mod whole_runs_tests;
 #[cfg(test)]

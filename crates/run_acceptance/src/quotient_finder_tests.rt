@@ -267,3 +267,31 @@ fn are_numbered() -> bool {
 fn finds_or_gives_up(rt: HostRuntime) {
     assert!(rt; count_held(rt.alloc(), &ROWS) == 15 && are_numbered());
 }
+
+/// Whether one round of these proposers, asked for the heaps 1 to `heaps` of 0.75, finds the
+/// certificate of the text, or where it is empty all rounds are spent.
+fn finds_a_part(alloc: Global, heaps: u64, habits: &[Habit], text: &str) -> bool {
+    let mut proposers: Vec<Box<dyn Proposer>> = Vec::new(alloc);
+    let limits = Limits {
+        rounds: 1,
+        members: MEMBERS,
+    };
+    let Ok(code) = Code::read(ASKED) else {
+        return false;
+    };
+    if put_proposers(alloc, &mut proposers, habits).is_err() {
+        return false;
+    }
+    match find(alloc, &code, heaps, &mut proposers, limits) {
+        Ok(certified) => is_spelled(alloc, certified.cert(), text),
+        Err(why) => text.is_empty() && why == GaveUp::Rounds,
+    }
+}
+
+#[test]
+fn finds_the_kind_that_is_asked(rt: HostRuntime) {
+    let alloc = rt.alloc();
+    assert!(rt; finds_a_part(alloc, 8, &[RIGHT, PART], PART_OF_0_75));
+    assert!(rt; finds_a_part(alloc, 0, &[PART, RIGHT], OF_0_75));
+    assert!(rt; finds_a_part(alloc, 7, &[RIGHT, PART], "") && finds_a_part(alloc, 9, &[PART], ""));
+}

@@ -3,6 +3,7 @@ use crate::certificates::{OF_0_1, OF_0_33, OF_0_B, PART_OF_0_3};
 use crate::files::folder_with;
 use crate::rows::{Row, count_held};
 use crate::said::is_said;
+use crate::tame::tame;
 use folders::MemoryFolder;
 use show_command::show;
 use std::alloc::Global;
@@ -62,7 +63,38 @@ element 4 P 2 2\nelement 5 N 1 2 2\nheap 1 1\nheap 2 2\nheap 3 0\nrepeat 3 from 
     ),
 ];
 
+/// Whether what is shown of a file's quotient begins and ends so.
+fn shows_from_to(alloc: Global, held: &str, beginning: &str, end: &str) -> bool {
+    match folder_with(alloc, &[], "a.mqc", held, 2) {
+        Ok(mut folder) => match show(alloc, "a.mqc", LIMIT, &mut folder) {
+            Ok(said) => {
+                said.well
+                    && said.text.as_slice().starts_with(beginning.as_bytes())
+                    && said.text.as_slice().ends_with(end.as_bytes())
+            }
+            Err(_) => false,
+        },
+        Err(_) => false,
+    }
+}
+
+/// Whether a quotient of order 258 is shown, whose file has more than 2^16 bytes.
+fn shows_the_large(alloc: Global) -> bool {
+    match tame(alloc) {
+        Ok(held) => {
+            held.len() == 350680
+                && shows_from_to(
+                    alloc,
+                    held.as_str(),
+                    "code 0.e8\norder 258\nelement 0 N 0\nelement 1 P 2\nelement 2 N 3\n",
+                    "\nheap 255 254\nheap 256 255\nheaps to 256\n",
+                )
+        }
+        Err(_) => false,
+    }
+}
+
 #[test]
 fn shows_quotients(rt: HostRuntime) {
-    assert!(rt; count_held(rt.alloc(), &ROWS) == 6);
+    assert!(rt; count_held(rt.alloc(), &ROWS) == 6 && shows_the_large(rt.alloc()));
 }

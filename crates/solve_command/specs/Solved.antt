@@ -1,11 +1,15 @@
 -- What a search prints. This project's own.
-use Rattle.std.specs.Prelude.{◌≡◌, ◌≢◌, ◌⊎◌, ◌≤◌, ℕ, Bool, true, false, List, ◌++◌, Option, codes, decimal}
+use Rattle.std.specs.Prelude.{◌≡◌, ◌≢◌, ◌⊎◌, ◌≤◌, ◌<◌, ℕ, Bool, true, false, List, ◌++◌, length, Option, Result, Ok, Err, codes, decimal}
 use Rattle.std.specs.Io.KnownBytes.{Appends}
 use Rattle.misere_theory.specs.Certificates.{Certificate, Accepted, kind_of}
 use Rattle.octal_code.specs.Text.{IsCodeText}
 use Rattle.certificate_text.specs.Spelling.{Spells}
 use Rattle.proposers.specs.declared.reasons.Reason.{Reason}
 use Rattle.proposers.specs.declared.reasons.Reason.TheVariants.{TooLarge, Repairs, Work, NoPeriod, OneElement, Members, Refused}
+use Rattle.quotient_finder.specs.Histories.{Events}
+use Rattle.quotient_finder.specs.Rounds.{HasSearched}
+use Rattle.quotient_finder.specs.declared.gave_up.GaveUp.{GaveUp}
+use Rattle.quotient_finder.specs.declared.gave_up.GaveUp.TheVariants.{Rounds, Empty}
 use Rattle.requests.specs.declared.plans.Aim.{Aim}
 use Rattle.requests.specs.declared.plans.Aim.TheVariants.{Whole, Part, Furthest}
 use Rattle.solve_command.specs.declared.bounds.SolveBounds.{SolveBounds}
@@ -31,14 +35,40 @@ pub record IsAskedFor (code : List ℕ) (aim : Aim) (c : Certificate) : Type 0 w
   pub of_kind : IsAimedAt aim (kind_of c)
   pub accepted : Accepted c
 
--- An accepted certificate of the code, of a kind that is aimed at and of at most so many elements,
--- was printed.
-pub record PrintsCertificate (code : List ℕ) (aim : Aim) (order : ℕ)
+-- how many proposers a search asks: two for the whole game, one for a part
+abbrev pub asked_by : Aim → ℕ
+asked_by (Whole heaps) = 2
+asked_by (Part last) = 1
+asked_by Furthest = 1
+
+-- What a search for a certificate of the code and kind came to, over so many proposers, in at most so
+-- many rounds, with this limit of each check.
+pub record HasAsked (code : List ℕ) (kind many limit rounds : ℕ) (came : Result Certificate GaveUp)
+    : Type 0 where
+  pub olds : List Events
+  pub news : List Events
+  pub count : length olds ≡ many
+  pub searched : HasSearched code kind limit rounds olds news came
+
+-- what a search for a certificate of a kind that is aimed at came to, within these bounds
+abbrev pub IsSearched : List ℕ → SolveBounds → Result Certificate GaveUp → Type 0
+IsSearched code bounds came = (kind : ℕ) × IsAimedAt bounds.aim kind
+    × HasAsked code kind (asked_by bounds.aim) bounds.limit bounds.rounds came
+
+-- An accepted certificate of the code was printed, of a kind that is aimed at and of at most so many
+-- elements as are allowed, to which the search came.
+pub record PrintsCertificate (code : List ℕ) (bounds : SolveBounds)
     (before after : Option (List ℕ)) : Type 0 where
   pub c : Certificate
-  pub asked_for : IsAskedFor code aim c
-  pub small : c.order ≤ order
+  pub asked_for : IsAskedFor code bounds.aim c
+  pub small : c.order ≤ bounds.order
+  pub searched : IsSearched code bounds (Ok c)
   pub printed : PrintsSpelling c before after
+
+-- All rounds were spent, or the certificate that was found has more elements than are allowed.
+abbrev pub IsSpent : List ℕ → SolveBounds → Type 0
+IsSpent code bounds = IsSearched code bounds (Err Rounds)
+    ⊎ ((c : Certificate) × IsSearched code bounds (Ok c) × (bounds.order < c.order))
 
 -- the line that says why no proposer had a draft that was accepted, with numbers of heaps and of
 -- elements
@@ -70,15 +100,16 @@ rounds_lines false = codes "gave up 1 Rounds\n"
 
 -- What says how the search was given up went out, with the reason where that is asked for. Where no
 -- round was asked for, all rounds were spent.
-abbrev pub PrintsGivingUp : ℕ → Bool → Option (List ℕ) → Option (List ℕ) → Type 0
-PrintsGivingUp rounds why before after =
-    Appends before after (rounds_lines why)
-    ⊎ ((rounds ≢ 0) × ((text : List ℕ) × Tells why text × Appends before after text))
+abbrev pub PrintsGivingUp : List ℕ → SolveBounds → Option (List ℕ) → Option (List ℕ) → Type 0
+PrintsGivingUp code bounds before after =
+    (IsSpent code bounds × Appends before after (rounds_lines bounds.tells_why))
+    ⊎ ((bounds.rounds ≢ 0) × IsSearched code bounds (Err Empty)
+    × ((text : List ℕ) × Tells bounds.tells_why text × Appends before after text))
 
 -- what is printed for a code, and whether a certificate was found
 abbrev pub Finds : List ℕ → SolveBounds → Option (List ℕ) → Option (List ℕ) → Bool → Type 0
-Finds code bounds before after true = PrintsCertificate code bounds.aim bounds.order before after
-Finds code bounds before after false = PrintsGivingUp bounds.rounds bounds.tells_why before after
+Finds code bounds before after true = PrintsCertificate code bounds before after
+Finds code bounds before after false = PrintsGivingUp code bounds before after
 
 -- The text is a code's, and a certificate of it was printed, or how the search for one was given
 -- up.

@@ -1,7 +1,7 @@
 //! The search for a certificate of the kind that is asked.
-ghost use Rattle.std.specs.Prelude.{◌≡◌, ◌≢◌, ◌≤◌, ◌<◌, IfOk, IfErr, vec_len};
+ghost use Rattle.std.specs.Prelude.{◌≡◌, ◌≢◌, ◌⊎◌, ◌+◌, ◌≤◌, IfOk, IfErr, Err, vec_len};
 ghost use Rattle.quotient_finder.specs.Finding.{IsFound};
-ghost use Rattle.solve_command.specs.Solved.{IsAskedFor};
+ghost use Rattle.solve_command.specs.Solved.{HasAsked, IsAskedFor, IsSearched};
 
 use crate::bounds::SolveBounds;
 use allocation::Memory;
@@ -15,34 +15,16 @@ use std::alloc::Global;
 /// The largest heap of a sample.
 const SAMPLED: usize = 64;
 
-/// Adds the proposers of a whole game: a refiner, and a sampler, which takes longer.
-fn put_whole(
-    alloc: Global,
-    heaps: usize,
-    order: usize,
-    proposers: &mut Vec<Box<dyn Proposer>>,
-) -> Result<(), Memory>
-    ensures { IfOk result (λ _. 0 < vec_len proposers.new) }
+/// Adds a proposer behind the others.
+fn add(proposers: &mut Vec<Box<dyn Proposer>>, proposer: Box<dyn Proposer>) -> Result<(), Memory>
+    ensures { IfOk result (λ _. vec_len proposers.new ≡ vec_len proposers.old + 1) }
 {
-    proposers.push(Box::new(alloc, Refiner::new(alloc, heaps, order))?)?;
-    proposers.push(Box::new(alloc, Sampler::new(alloc, heaps.min(SAMPLED), order))?)?;
+    proposers.push(proposer)?;
     Ok(())
 }
 
-/// Adds the proposer of a part of a game.
-fn put_part(
-    alloc: Global,
-    last: usize,
-    order: usize,
-    proposers: &mut Vec<Box<dyn Proposer>>,
-) -> Result<(), Memory>
-    ensures { IfOk result (λ _. 0 < vec_len proposers.new) }
-{
-    proposers.push(Box::new(alloc, Refiner::of_part(alloc, last, order))?)?;
-    Ok(())
-}
-
-/// Searches for a full certificate of the code.
+/// Searches for a full certificate of the code: a refiner is asked first, and then a sampler, which
+/// takes longer.
 fn search_whole(
     alloc: Global,
     code: &Code,
@@ -50,10 +32,20 @@ fn search_whole(
     bounds: SolveBounds,
 ) -> Result<Certified, GaveUp>
     ensures found { IfOk result (IsFound code.now 0) }
+    ensures asked { (result ≡ Err GaveUp.Memory)
+        ⊎ HasAsked code.now 0 2 bounds.limit bounds.rounds result }
     ensures no_round { bounds.rounds ≡ 0 → IfErr result (λ why. why ≢ GaveUp.Empty) }
 {
     let mut proposers: Vec<Box<dyn Proposer>> = Vec::new(alloc);
-    put_whole(alloc, heaps as usize, bounds.order as usize, &mut proposers)?;
+    let (heaps, order) = (heaps as usize, bounds.order as usize);
+    let Ok(refiner) = Box::new(alloc, Refiner::new(alloc, heaps, order)) else {
+        return Err(GaveUp::Memory);
+    };
+    let Ok(sampler) = Box::new(alloc, Sampler::new(alloc, heaps.min(SAMPLED), order)) else {
+        return Err(GaveUp::Memory);
+    };
+    add(&mut proposers, refiner)?;
+    add(&mut proposers, sampler)?;
     find(alloc, code, 0, &mut proposers, limits_of(bounds))
 }
 
@@ -65,16 +57,23 @@ fn search_part(
     bounds: SolveBounds,
 ) -> Result<Certified, GaveUp>
     ensures found { IfOk result (IsFound code.now last) }
+    ensures asked { (result ≡ Err GaveUp.Memory)
+        ⊎ HasAsked code.now last 1 bounds.limit bounds.rounds result }
     ensures no_round { bounds.rounds ≡ 0 → IfErr result (λ why. why ≢ GaveUp.Empty) }
 {
     let mut proposers: Vec<Box<dyn Proposer>> = Vec::new(alloc);
-    put_part(alloc, last as usize, bounds.order as usize, &mut proposers)?;
+    let refiner = Refiner::of_part(alloc, last as usize, bounds.order as usize);
+    let Ok(refiner) = Box::new(alloc, refiner) else {
+        return Err(GaveUp::Memory);
+    };
+    add(&mut proposers, refiner)?;
     find(alloc, code, last as u64, &mut proposers, limits_of(bounds))
 }
 
 /// The limits of the rounds and of each check.
 fn limits_of(bounds: SolveBounds) -> Limits
-    ensures { result.rounds ≡ bounds.rounds }
+    ensures rounds { result.rounds ≡ bounds.rounds }
+    ensures members { result.members ≡ bounds.limit }
 {
     Limits {
         rounds: bounds.rounds,
@@ -93,6 +92,7 @@ pub(crate) fn last_of_furthest(alloc: Global, code: &Code, order: u32) -> Result
 /// Searches for a certificate of the code, of the kind that is aimed at.
 pub(crate) fn search(alloc: Global, code: &Code, bounds: SolveBounds) -> Result<Certified, GaveUp>
     ensures found { IfOk result (IsAskedFor code.now bounds.aim) }
+    ensures searched { (result ≡ Err GaveUp.Memory) ⊎ IsSearched code.now bounds result }
     ensures no_round { bounds.rounds ≡ 0 → IfErr result (λ why. why ≢ GaveUp.Empty) }
 {
     match bounds.aim {

@@ -69,7 +69,8 @@ fn answer<W: Sink>(
             give_up(text.as_str().as_bytes(), out)
         }
         // no proposer drafts a larger order
-        Ok(_) | Err(GaveUp::Rounds) => give_up(rounds_text(bounds.tells_why).as_bytes(), out),
+        Ok(_) => give_up(rounds_text(bounds.tells_why).as_bytes(), out),
+        Err(GaveUp::Rounds) => give_up(rounds_text(bounds.tells_why).as_bytes(), out),
     }
 }
 

@@ -1,4 +1,4 @@
-use Rattle.std.proofs.Common.{◌≡◌, sym, subst}
+use Rattle.std.proofs.Common.{sym, subst}
 use Rattle.std.specs.Prelude.{IsTrue}
 use Rattle.descriptions.specs.Invariants.{IsInKernel, IsOf}
 use Rattle.descriptions.proofs.choosing.is_of.Goals as goal

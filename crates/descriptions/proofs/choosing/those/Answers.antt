@@ -1,4 +1,4 @@
-use Rattle.std.proofs.Common.{◌≡◌, ◌<◌, ◌+◌, ◌≤◌, ℕ, List, [], length, take, refl, sym, subst, false, true}
+use Rattle.std.proofs.Common.{◌≡◌, ◌<◌, ◌+◌, [], take, refl, sym, subst, false, true}
 use Rattle.std.specs.Prelude.{All}
 use Rattle.std.proofs.lemmas.List.{take_all}
 use Rattle.std.proofs.lemmas.List.Elements.{All-nil, All-push, All-get_or}

@@ -1,8 +1,7 @@
 use Rattle.std.proofs.Common.{◌≡◌, ◌<◌, ◌≤◌, ◌∙◌, ℕ, List, length, codes, ap₂, sym, subst, arith}
-use Rattle.std.specs.Prelude.{IfSome, vec_len}
+use Rattle.std.specs.Prelude.{vec_len}
 use Rattle.std.specs.String.{string_bytes}
 use Rattle.monoid_table.specs.Grids.{Grid}
-use Rattle.certificate.specs.Pieces.{grid_of}
 use Rattle.presentations.specs.declared.read.Relation.{Relation}
 use Rattle.presentations.specs.Text.{SpellsPresentation}
 use Rattle.relations.specs.Presented.{ArePresentation}

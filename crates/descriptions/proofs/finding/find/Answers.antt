@@ -1,4 +1,4 @@
-use Rattle.std.proofs.Common.{◌≡◌, ◌∙◌, ap, sym, subst, length}
+use Rattle.std.proofs.Common.{◌≡◌, ◌∙◌, ap, subst, length}
 use Rattle.std.specs.List.{AllZip}
 use Rattle.descriptions.specs.declared.choosing.Part.TheVariants.{Portion, Units, Idempotents, Kernel}
 use Rattle.descriptions.specs.Described.{IsFirstHeap}

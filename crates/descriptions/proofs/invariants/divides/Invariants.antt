@@ -1,4 +1,4 @@
-use Rattle.std.proofs.Common.{◌≡◌, ◌≢◌, ◌<◌, ℕ}
+use Rattle.std.proofs.Common.{◌≢◌, ◌<◌, ℕ}
 use Rattle.monoid_table.specs.Grids.{times_in}
 use Rattle.descriptions.proofs.invariants.divides.Given as goal
 

@@ -1,4 +1,3 @@
-use Rattle.std.proofs.Common.{◌≡◌}
 use Rattle.descriptions.proofs.Tables.{kernel-from}
 use Rattle.descriptions.proofs.invariants.is_in_kernel.Goals as goal
 

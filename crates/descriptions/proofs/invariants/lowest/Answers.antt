@@ -1,4 +1,4 @@
-use Rattle.std.proofs.Common.{◌≡◌, ◌+◌, ◌<◌, ℕ, sym, subst, arith}
+use Rattle.std.proofs.Common.{◌+◌, ◌<◌, ℕ, sym, subst, arith}
 use Rattle.descriptions.specs.Invariants.{Divides}
 use Rattle.descriptions.proofs.Tables.{divides-next}
 use Rattle.descriptions.proofs.invariants.lowest.Goals as goal

@@ -1,4 +1,4 @@
-use Rattle.std.proofs.Common.{◌≡◌, ◌∙◌, ◌+◌, ◌-◌}
+use Rattle.std.proofs.Common.{◌∙◌, ◌+◌, ◌-◌}
 use Rattle.descriptions.proofs.RowLaws.{row-starts, row-next}
 use Rattle.descriptions.proofs.rows.rows.Goals as goal
 

@@ -1,4 +1,4 @@
-use Rattle.std.proofs.Common.{◌≡◌, ◌<◌, ◌≤◌, arith}
+use Rattle.std.proofs.Common.{arith}
 use Rattle.descriptions.proofs.Orders.{small, twice, one-more, all-other}
 use Rattle.descriptions.proofs.tame.exponent.Goals as goal
 

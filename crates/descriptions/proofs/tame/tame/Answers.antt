@@ -1,6 +1,5 @@
-use Rattle.std.proofs.Common.{◌≡◌, ◌≢◌, ◌∙◌, ℕ, ◌<◌, ◌≤◌, ◌+◌, ◌^◌, ap, sym, subst, refl, true, false}
-use Rattle.std.specs.Prelude.{IfSome, IfNone, IsTrue, ◌==◌}
-use Rattle.misere_theory.specs.Certificates.{claim_of}
+use Rattle.std.proofs.Common.{◌≡◌, ◌≢◌, ◌∙◌, ℕ, ◌≤◌, ◌+◌, ◌^◌, ap, sym, subst, refl, true, false}
+use Rattle.std.specs.Prelude.{IfSome, IfNone}
 use Rattle.monoid_table.specs.Grids.{times_in}
 use Rattle.descriptions.specs.Tame.IsTame.{First}
 use Rattle.descriptions.proofs.Tameness.{first-only, no-group, by-order}

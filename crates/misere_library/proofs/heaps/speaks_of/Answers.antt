@@ -1,0 +1,25 @@
+use Rattle.std.proofs.Common.{◌≡◌, ◌<◌, ◌≤◌, ℕ, refl, sym, subst, arith}
+use Rattle.std.specs.List.{All}
+use Rattle.misere_theory.specs.Certificates.{kind_of}
+use Rattle.misere_library.proofs.Positions.{full_speaks, small_speaks, speaks_small}
+use Rattle.misere_library.proofs.heaps.speaks_of.Goals as goal
+
+pub returns-then-last-eq0 : goal.returns-then-last-eq0
+returns-then-last-eq0 c = (
+  λ t. full_speaks (kind_of c.args.certified.now) c.args.heaps.now
+      (let e = c.heaps-last.ensures.value in let s = c.cert.ensures.same in let z = c.if-last-eq0.true in cc)
+      c.requires,
+  λ p. refl,
+)
+
+pub returns-else-last-eq0 : goal.returns-else-last-eq0
+returns-else-last-eq0 c =
+    let M = kind_of c.args.certified.now in
+    let X = c.args.heaps.now in
+    let is : c.heaps-last.result ≡ M =
+    (let e = c.heaps-last.ensures.value in let s = c.cert.ensures.same in cc) in
+    let some : 0 < M = (let f = c.if-last-eq0.false in omega arith) in
+    let up : ℕ → Type 0 = λ m. All (λ n. n ≤ m) X in (
+      λ t. small_speaks M X c.requires (subst up is (c.are_up_to.ensures.0 t)),
+      λ p. c.are_up_to.ensures.1 (subst up (sym is) (speaks_small M X some p)),
+    )

@@ -1,0 +1,22 @@
+use Rattle.std.proofs.Common.{inl, inr, refl, arith}
+use Rattle.misere_theory.specs.Certificates.{IsHeapOf}
+use Rattle.player.specs.Answers.{SpeaksOf}
+use Rattle.misere_library.proofs.Positions.{speaks_there}
+use Rattle.misere_library.proofs.queries.certified_of.Goals as goal
+
+pub speaks_of-requires : goal.speaks_of-requires
+speaks_of-requires c = c.are_sizes.ensures.0 c.if-not-are_sizes.false
+
+pub returns-then-not-speaks_of-clause-no : goal.returns-then-not-speaks_of-clause-no
+returns-then-not-speaks_of-clause-no c =
+    let C = c.in_ok-certified.certified in
+    let yes = c.in_ok-certified.ensures.yes in
+    let no : SpeaksOf C c.args.heaps.now → ⊥ = λ speaks. (let t = c.speaks_of.ensures.1
+    (speaks_there (IsHeapOf C) c.args.heaps.now speaks) in let f = c.if-not-speaks_of.true in cc) in
+    (λ e. absurd (omega (arith, e)), inr (inr (inl (refl, (C, yes.0, yes.1, c.in_ok-certified.ensures.verdict, no)))))
+
+pub returns-clause-sizes : goal.returns-clause-sizes
+returns-clause-sizes c = c.are_sizes.ensures.0 c.if-not-are_sizes.false
+
+pub returns-clause-speaks : goal.returns-clause-speaks
+returns-clause-speaks c = c.speaks_of.ensures.0 c.if-not-speaks_of.false

@@ -1,0 +1,72 @@
+-- What the calls of the library tell of bytes and of positions. This project's own.
+use Rattle.std.specs.Prelude.{◌≡◌, ◌≢◌, ◌⊎◌, ℕ, List, All, IsPermutation}
+use Rattle.std.specs.List.Sorted.{IsNonDecreasing}
+use Rattle.misere_theory.specs.Certificates.{Certificate, Accepted, claim_of}
+use Rattle.misere_theory.specs.Quotients.{value}
+use Rattle.certificate_text.specs.Spelling.{Spells}
+use Rattle.answers.specs.Answers.{Answer as Verdict, IsTrueOf}
+use Rattle.answers.specs.Answers.Answer.{Yes, Memory, Outcome as Fails}
+use Rattle.checker.specs.Turns.{verdict}
+use Rattle.positions.specs.Positions.{IsSize}
+use Rattle.positions.specs.Outcomes.{HasOutcome}
+use Rattle.positions.specs.declared.outcome.Outcome.{Outcome}
+use Rattle.player.specs.Answers.{IsRightAnswer, SpeaksOf}
+use Rattle.player.specs.declared.answering.Answer.{Answer}
+use Rattle.misere_library.specs.Numbers.{status_of, outcome_number, IsAnswerOf}
+use Rattle.misere_library.specs.declared.numbers.MisereAnswer.{MisereAnswer}
+
+-- The bytes are an accepted certificate, to which the verdict under the limit is yes, and of which
+-- the rest is true.
+abbrev pub Certify : List ℕ → ℕ → (Certificate → Type 0) → Type 0
+Certify bytes limit says =
+    (c : Certificate) × Spells bytes c × Accepted c × (verdict bytes limit ≡ Yes c) × says c
+
+-- The status is that of an answer of a check under the limit, which is true of the bytes. It is
+-- the verdict, unless memory was refused.
+pub record IsStatus (bytes : List ℕ) (limit status : ℕ) : Type 0 where
+  pub answer : Verdict
+  pub number : status ≡ status_of answer
+  pub true_of : IsTrueOf bytes limit answer
+  pub decided : (answer ≡ verdict bytes limit) ⊎ (answer ≡ Memory)
+
+-- The numbers aren't sizes of heaps.
+abbrev pub IsNoPosition : List ℕ → ℕ → Type 0
+IsNoPosition heaps status = (status ≡ 10) × (All IsSize heaps → ⊥)
+
+-- The bytes are refused.
+abbrev pub IsNoQuotient : List ℕ → ℕ → ℕ → Type 0
+IsNoQuotient bytes limit status = (status ≢ 0) × IsStatus bytes limit status
+
+-- The certificate doesn't speak of all these heaps.
+abbrev pub IsBeyond : List ℕ → ℕ → List ℕ → ℕ → Type 0
+IsBeyond bytes limit heaps status =
+    (status ≡ 23) × Certify bytes limit (λ c. SpeaksOf c heaps → ⊥)
+
+-- Why nothing is told of a position: one of these, or memory was refused.
+abbrev pub IsNo : List ℕ → ℕ → List ℕ → ℕ → Type 0
+IsNo bytes limit heaps status =
+    IsNoPosition heaps status
+    ⊎ (IsNoQuotient bytes limit status ⊎ (IsBeyond bytes limit heaps status ⊎ (status ≡ 9)))
+
+-- the number of the outcome of the position of these heaps, of which the certificate speaks
+abbrev pub TellsOutcome : List ℕ → ℕ → Certificate → Type 0
+TellsOutcome heaps n c =
+    SpeaksOf c heaps × ((o : Outcome) × (n ≡ outcome_number o) × HasOutcome c.code heaps o)
+
+-- the element of the position of these heaps, of which the certificate speaks
+abbrev pub TellsValue : List ℕ → ℕ → Certificate → Type 0
+TellsValue heaps n c = SpeaksOf c heaps × (n ≡ value (claim_of c) heaps)
+
+-- the numbers are those of the right answer in the position
+abbrev pub TellsRight : Certificate → MisereAnswer → List ℕ → Type 0
+TellsRight c n X = (a : Answer) × IsAnswerOf a n × IsRightAnswer c.code X a
+
+-- the right answer in the position of these heaps, rising, of which the certificate speaks
+abbrev pub TellsAnswer : List ℕ → MisereAnswer → Certificate → Type 0
+TellsAnswer heaps n c =
+    SpeaksOf c heaps
+    × ((X : List ℕ) × IsPermutation heaps X × IsNonDecreasing X × TellsRight c n X)
+
+-- the bytes are refused, truly, since the rule of their code's game fails at this position
+abbrev pub FailsAt : List ℕ → ℕ → List ℕ → Type 0
+FailsAt bytes limit X = (code : List ℕ) × IsTrueOf bytes limit (Fails code X)

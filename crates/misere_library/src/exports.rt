@@ -1,0 +1,182 @@
+//! The calls.
+ghost use Rattle.std.specs.Prelude.{◌≡◌, ◌≢◌, ◌≤◌, ◌<◌, length, take};
+ghost use Rattle.misere_library.specs.Queries.{Certify, FailsAt, IsNo, IsStatus, TellsOutcome, TellsValue, TellsAnswer};
+ghost use Rattle.misere_library.specs.Many.{IsNoToMany, TellAll};
+
+use crate::many::{answers, outcomes, values};
+use crate::numbers::{DONE, MisereAnswer};
+use crate::queries::{answer_by, certified, outcome, value};
+use crate::refusing::refused;
+use std::alloc::Global;
+
+/// The version of these calls.
+#[unsafe(no_mangle)]
+pub extern "C" fn misere_version() -> u32
+    ensures { result ≡ 1 }
+{
+    1
+}
+
+/// Whether the bytes are an accepted certificate: 0, or the number of the refusal.
+#[unsafe(no_mangle)]
+pub extern "C" fn misere_check(alloc: Global, bytes: &[u8], limit: u32) -> u32
+    ensures status { IsStatus bytes.now limit result }
+    ensures yes { result ≡ 0 → Certify bytes.now limit (λ c. Unit {0}) }
+{
+    match certified(alloc, bytes, limit) {
+        Ok(_) => DONE,
+        Err(status) => status,
+    }
+}
+
+/// Tells who wins the position of the heaps under misère play: 0 where the player who has just
+/// moved does, and 1 where the next one does.
+#[unsafe(no_mangle)]
+pub extern "C" fn misere_outcome(
+    alloc: Global,
+    bytes: &[u8],
+    limit: u32,
+    heaps: &[u64],
+    told: &mut u32,
+) -> u32
+    ensures yes { result ≡ 0 → Certify bytes.now limit (TellsOutcome heaps.now told.new) }
+    ensures no { result ≢ 0 → IsNo bytes.now limit heaps.now result }
+    ensures stays { result ≢ 0 → told.new ≡ told.old }
+{
+    match outcome(alloc, bytes, limit, heaps) {
+        Ok(number) => {
+            *told = number;
+            DONE
+        }
+        Err(status) => status,
+    }
+}
+
+/// Tells the element of the quotient that is the position's.
+#[unsafe(no_mangle)]
+pub extern "C" fn misere_value(
+    alloc: Global,
+    bytes: &[u8],
+    limit: u32,
+    heaps: &[u64],
+    told: &mut u32,
+) -> u32
+    ensures yes { result ≡ 0 → Certify bytes.now limit (TellsValue heaps.now told.new) }
+    ensures no { result ≢ 0 → IsNo bytes.now limit heaps.now result }
+    ensures stays { result ≢ 0 → told.new ≡ told.old }
+{
+    match value(alloc, bytes, limit, heaps) {
+        Ok(element) => {
+            *told = element;
+            DONE
+        }
+        Err(status) => status,
+    }
+}
+
+/// Tells what to do in the position of the heaps: the first winning move, where there is one.
+#[unsafe(no_mangle)]
+pub extern "C" fn misere_answer(
+    alloc: Global,
+    bytes: &[u8],
+    limit: u32,
+    heaps: &[u64],
+    told: &mut MisereAnswer,
+) -> u32
+    ensures yes { result ≡ 0 → Certify bytes.now limit (TellsAnswer heaps.now told.new) }
+    ensures no { result ≢ 0 → IsNo bytes.now limit heaps.now result }
+    ensures stays { result ≢ 0 → told.new ≡ told.old }
+{
+    match answer_by(alloc, bytes, limit, heaps) {
+        Ok(answer) => {
+            *told = answer;
+            DONE
+        }
+        Err(status) => status,
+    }
+}
+
+/// Tells the outcome of each of many positions: of the heaps before the first of the ends, of those
+/// from there to before the second, and so on.
+#[unsafe(no_mangle)]
+pub extern "C" fn misere_outcomes(
+    alloc: Global,
+    bytes: &[u8],
+    limit: u32,
+    heaps: &[u64],
+    ends: &[u64],
+    told: &mut [u32],
+) -> u32
+    ensures yes { result ≡ 0 → Certify bytes.now limit (TellAll TellsOutcome heaps.now ends.now told.new) }
+    ensures no { result ≢ 0
+        → IsNoToMany bytes.now limit heaps.now ends.now (length told.old) result }
+    ensures stays { result ≢ 0 → told.new ≡ told.old }
+{
+    match outcomes(alloc, bytes, limit, heaps, ends, told) {
+        Ok(()) => DONE,
+        Err(status) => status,
+    }
+}
+
+/// Tells the element of each of many positions, which stand as for `misere_outcomes`.
+#[unsafe(no_mangle)]
+pub extern "C" fn misere_values(
+    alloc: Global,
+    bytes: &[u8],
+    limit: u32,
+    heaps: &[u64],
+    ends: &[u64],
+    told: &mut [u32],
+) -> u32
+    ensures yes { result ≡ 0
+        → Certify bytes.now limit (TellAll TellsValue heaps.now ends.now told.new) }
+    ensures no { result ≢ 0
+        → IsNoToMany bytes.now limit heaps.now ends.now (length told.old) result }
+    ensures stays { result ≢ 0 → told.new ≡ told.old }
+{
+    match values(alloc, bytes, limit, heaps, ends, told) {
+        Ok(()) => DONE,
+        Err(status) => status,
+    }
+}
+
+/// Tells what to do in each of many positions, which stand as for `misere_outcomes`.
+#[unsafe(no_mangle)]
+pub extern "C" fn misere_answers(
+    alloc: Global,
+    bytes: &[u8],
+    limit: u32,
+    heaps: &[u64],
+    ends: &[u64],
+    told: &mut [MisereAnswer],
+) -> u32
+    ensures yes { result ≡ 0
+        → Certify bytes.now limit (TellAll TellsAnswer heaps.now ends.now told.new) }
+    ensures no { result ≢ 0
+        → IsNoToMany bytes.now limit heaps.now ends.now (length told.old) result }
+    ensures stays { result ≢ 0 → told.new ≡ told.old }
+{
+    match answers(alloc, bytes, limit, heaps, ends, told) {
+        Ok(()) => DONE,
+        Err(status) => status,
+    }
+}
+
+/// Checks the bytes, and where the rule of the code's game fails at a position tells how many heaps
+/// it has, and which, if there is room for them.
+#[unsafe(no_mangle)]
+pub extern "C" fn misere_failure(
+    alloc: Global,
+    bytes: &[u8],
+    limit: u32,
+    told: &mut [u64],
+    count: &mut u64,
+) -> u32
+    ensures status { IsStatus bytes.now limit result }
+    ensures fails { result ≡ 7 → count.new ≤ length told.old
+        → FailsAt bytes.now limit (take count.new told.new) }
+    ensures no_room { length told.old < count.new → told.new ≡ told.old }
+    ensures stays { result ≢ 7 → told.new ≡ told.old × count.new ≡ count.old }
+{
+    refused(alloc, bytes, limit, told, count)
+}

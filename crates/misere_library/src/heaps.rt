@@ -1,0 +1,48 @@
+//! Heaps as they come.
+ghost use Rattle.std.specs.Prelude.{◌↔◌, ◌≤◌, IsTrue, All, IfOk, IsPermutation};
+ghost use Rattle.misere_theory.specs.Certificates.{IsHeapOf};
+ghost use Rattle.positions.specs.Positions.{IsSize};
+
+use allocation::Memory;
+use answers::Certified;
+use positions::{LARGEST, Position};
+use std::alloc::Global;
+
+/// Whether each of the numbers is the size of a heap.
+pub(crate) fn are_sizes(heaps: &[u64]) -> bool
+    ensures { IsTrue result ↔ All IsSize heaps.now }
+{
+    heaps.iter().all(|heap| *heap >= 1 && *heap <= LARGEST)
+}
+
+/// Whether no heap is larger than `last`.
+fn are_up_to(heaps: &[u64], last: u64) -> bool
+    ensures { IsTrue result ↔ All (λ n. n ≤ last) heaps.now }
+{
+    heaps.iter().all(|heap| *heap <= last)
+}
+
+/// Whether the certificate speaks of each of the heaps. A full one speaks of all.
+pub(crate) fn speaks_of(certified: &Certified, heaps: &[u64]) -> bool
+    requires { All IsSize heaps.now }
+    ensures { IsTrue result ↔ All (IsHeapOf certified.now) heaps.now }
+{
+    let last = certified.cert().heaps();
+    if last == 0 {
+        true
+    } else {
+        are_up_to(heaps, last)
+    }
+}
+
+/// The position of the heaps.
+pub(crate) fn position_of(alloc: Global, heaps: &[u64]) -> Result<Position, Memory>
+    requires { All IsSize heaps.now }
+    ensures { IfOk result (IsPermutation heaps.now) }
+{
+    let mut position = Position::new(alloc);
+    for heap in heaps {
+        position.push(*heap)?;
+    }
+    Ok(position)
+}

@@ -1,0 +1,65 @@
+//! The calls.
+ghost use Rattle.std.specs.Prelude.{◌≡◌, ◌≢◌, ◌<◌, length, take};
+ghost use Rattle.solve_library.specs.Found.{IsCertificateFor, IsTextOf};
+
+use crate::describing::described;
+use crate::numbers::hand_over;
+use crate::solving::solved;
+use solve_command::SolveBounds;
+use std::alloc::Global;
+
+/// Looks for the quotient of the game of a code, and tells the bytes of its certificate, and how
+/// many they are. Where there is no room for them it tells how many they are alone.
+#[unsafe(no_mangle)]
+pub extern "C" fn misere_solve(
+    alloc: Global,
+    code: &[u8],
+    limit: u32,
+    rounds: u32,
+    heaps: u32,
+    order: u32,
+    told: &mut [u8],
+    count: &mut u64,
+) -> u32
+    ensures found { result ≡ 0 → IsCertificateFor code.now order (take count.new told.new) }
+    ensures stays { result ≢ 0 → told.new ≡ told.old }
+    ensures room { result ≡ 14 → length told.old < count.new }
+    ensures untold { result ≢ 0 → result ≢ 14 → count.new ≡ count.old }
+{
+    let bounds = SolveBounds {
+        limit,
+        rounds,
+        heaps,
+        order,
+    };
+    match solved(alloc, code, bounds) {
+        Ok(sink) => hand_over(sink.bytes(), told, count),
+        Err(status) => status,
+    }
+}
+
+/// Describes the quotient that the bytes certify: `output` is 0 for its description, 1 for that for
+/// LaTeX, 2 for its relations as one word; `form` is 0 for a short list of relations, 1 for the
+/// reduced basis. Tells the text, and how many bytes it has; where there is no room for them, how many
+/// they are alone.
+#[unsafe(no_mangle)]
+pub extern "C" fn misere_describe(
+    alloc: Global,
+    bytes: &[u8],
+    limit: u32,
+    output: u32,
+    form: u32,
+    told: &mut [u8],
+    count: &mut u64,
+) -> u32
+    ensures described { result ≡ 0
+        → IsTextOf bytes.now limit output (take count.new told.new) }
+    ensures stays { result ≢ 0 → told.new ≡ told.old }
+    ensures room { result ≡ 14 → length told.old < count.new }
+    ensures untold { result ≢ 0 → result ≢ 14 → count.new ≡ count.old }
+{
+    match described(alloc, bytes, limit, output, form) {
+        Ok(text) => hand_over(text.as_bytes(), told, count),
+        Err(status) => status,
+    }
+}

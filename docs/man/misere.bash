@@ -1,0 +1,27 @@
+# Completions of misere for bash: to be sourced, or put where bash-completion looks.
+_misere() {
+    local word=${COMP_WORDS[COMP_CWORD]} before=${COMP_WORDS[COMP_CWORD-1]} command= options= i
+    for ((i = 1; i < COMP_CWORD; i++)); do
+        case ${COMP_WORDS[i]} in -*) ;; *) command=${COMP_WORDS[i]}; break ;; esac
+    done
+    case $command in
+        '') options="check solve show describe play present catalogue desk help --help --version" ;;
+        help) options="check solve show describe play present catalogue desk help" ;;
+        check) options="--limit --help" ;;
+        solve) options="--limit --rounds --heaps --order --help" ;;
+        show) options="--help" ;;
+        describe) options="--latex --basis --relations --help" ;;
+        play) options="--help" ;;
+        present) options="--help" ;;
+        catalogue) options="--new --add --get --heaps --salvage --migrate --help" ;;
+        desk) options="--help" ;;
+    esac
+    COMPREPLY=()
+    case $before in --get | --heaps | --limit | --order | --rounds) return ;; esac
+    if [[ -z $command || $command == help || $word == -* ]]; then
+        COMPREPLY=($(compgen -W "$options" -- "$word"))
+        return
+    fi
+    case $command in check | show | describe | play | catalogue | desk) COMPREPLY=($(compgen -f -- "$word")) ;; esac
+}
+complete -o filenames -F _misere misere

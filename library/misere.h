@@ -1,0 +1,129 @@
+/* misere.h: certified misere quotients of octal and hexadecimal games.
+ *
+ * A certificate is a short text. Every call below that is given one checks it anew, so nothing has
+ * to be opened, kept or closed: whatever a call tells has the checker's theorem behind it.
+ *
+ * Memory. The caller owns all that he passes; the library keeps no pointer after a call, and frees
+ * all that it took (by malloc, realloc and free). A call that does not answer MISERE_YES leaves what
+ * it could have told as it was, but for the two that say otherwise.
+ * Threads. There is no state: any number of calls may run at once, in any threads. Not from a
+ * signal handler, nor in a child forked off a process with threads.
+ * Pointers. They are not null, also where the length is 0, and what is told into overlaps nothing
+ * that is given. Nothing checks that a length is that of the memory. */
+#ifndef MISERE_H
+#define MISERE_H
+
+#include <stddef.h>
+#include <stdint.h>
+
+#ifdef __cplusplus
+extern "C" {
+#endif
+
+/* The version of these calls, which misere_version answers. It rises where one of them changes. */
+#define MISERE_VERSION 1
+
+/* What the closure of a check may keep, where nobody asks for more or less. */
+#define MISERE_LIMIT 100000
+
+/* A status. 1 to 9 are the checker's refusals, each true of the bytes (LIMIT_MET: of the limit). */
+enum {
+    MISERE_YES = 0,
+    MISERE_TEXT = 1,          /* the bytes spell no certificate */
+    MISERE_LAW = 2,           /* the table is no commutative monoid with identity 0 */
+    MISERE_WORD = 3,          /* a key has no smaller element, or another product than its element */
+    MISERE_ORDER = 4,         /* the keys do not rise, or a product has a smaller key */
+    MISERE_PERIOD = 5,        /* a smaller period serves, or the period serves from an earlier start */
+    MISERE_APART = 6,         /* a separating element is not the least one */
+    MISERE_OUTCOME = 7,       /* the rule of the code's game fails at a position */
+    MISERE_LIMIT_MET = 8,     /* more different transition pairs than the limit */
+    MISERE_MEMORY = 9,        /* memory was refused */
+    MISERE_NOT_A_HEAP = 10,   /* a heap is not of 1 to 10^18 */
+    MISERE_NOT_ENDS = 11,     /* the ends do not cut the heaps into as many positions as there is room for */
+    MISERE_NOT_A_CODE = 12,   /* the text is no code */
+    MISERE_GAVE_UP = 13,      /* no certificate was found */
+    MISERE_NO_ROOM = 14,      /* what would be told is longer than the room for it */
+    MISERE_NOT_IN_RANGE = 15, /* a bound of the search, or a choice, is out of its range */
+    MISERE_NOT_DESCRIBED = 16, /* the quotient is not described within the bounds */
+    MISERE_BEYOND = 23        /* the certificate is partial, and does not speak of all the heaps */
+};
+
+enum { MISERE_P = 0, MISERE_N = 1 };
+enum { MISERE_ENDED = 0, MISERE_LOST = 1, MISERE_WINS = 2 };
+
+typedef struct {
+    uint64_t kind;   /* MISERE_ENDED, MISERE_LOST or MISERE_WINS */
+    uint64_t heap;   /* the heap that the first winning move takes, else 0 */
+    uint64_t first;  /* the heaps that it leaves, rising, and 0 for each that it does not */
+    uint64_t second;
+    uint64_t third;
+} misere_move;
+
+uint32_t misere_version(void);
+
+/* Whether the bytes are an accepted certificate. */
+uint32_t misere_check(const uint8_t *bytes, size_t length, uint32_t limit);
+
+/* Who wins the position of these heaps under misere play, in *told: MISERE_P where the player who
+ * has just moved does, MISERE_N where the next one does. */
+uint32_t misere_outcome(const uint8_t *bytes, size_t length, uint32_t limit,
+                        const uint64_t *heaps, size_t count, uint32_t *told);
+
+/* The element of the quotient that is the position's. */
+uint32_t misere_value(const uint8_t *bytes, size_t length, uint32_t limit,
+                      const uint64_t *heaps, size_t count, uint32_t *told);
+
+/* The first winning move in the position, if there is one. */
+uint32_t misere_answer(const uint8_t *bytes, size_t length, uint32_t limit,
+                       const uint64_t *heaps, size_t count, misere_move *told);
+
+/* The outcome of each of many positions, by one check: of the heaps before ends[0], of those from
+ * there to before ends[1], and so on. There is room for `room` outcomes, which is as many as ends.
+ * All the heaps are looked at, also those behind the last end. */
+uint32_t misere_outcomes(const uint8_t *bytes, size_t length, uint32_t limit,
+                         const uint64_t *heaps, size_t count, const uint64_t *ends, size_t positions,
+                         uint32_t *told, size_t room);
+
+/* The element of each of many positions, which stand in the same way. */
+uint32_t misere_values(const uint8_t *bytes, size_t length, uint32_t limit,
+                       const uint64_t *heaps, size_t count, const uint64_t *ends, size_t positions,
+                       uint32_t *told, size_t room);
+
+/* The first winning move in each of many positions, which stand in the same way. */
+uint32_t misere_answers(const uint8_t *bytes, size_t length, uint32_t limit,
+                        const uint64_t *heaps, size_t count, const uint64_t *ends, size_t positions,
+                        misere_move *told, size_t room);
+
+/* Checks the bytes as misere_check does. With MISERE_OUTCOME it tells in *count how many heaps the
+ * position has at which the rule fails, and, if there is room for them, which. */
+uint32_t misere_failure(const uint8_t *bytes, size_t length, uint32_t limit,
+                        uint64_t *told, size_t room, uint64_t *count);
+
+/* How far a search goes, where nobody asks for more or less. */
+#define MISERE_ROUNDS 64
+#define MISERE_HEAPS 24
+#define MISERE_ELEMENTS 64
+
+/* As many bytes are room for any certificate. */
+#define MISERE_MOST (1u << 21)
+
+/* Looks for the quotient of the game of a code, such as "0.33", among the heaps up to `heaps`, and
+ * tells the bytes of its certificate, which is accepted, and in *count how many they are. With
+ * MISERE_NO_ROOM it tells *count alone. The limit is 1 to 1000000, the rounds 1 to 1000, the heaps 2
+ * to 64, the order 2 to 256. */
+uint32_t misere_solve(const uint8_t *code, size_t length, uint32_t limit, uint32_t rounds,
+                      uint32_t heaps, uint32_t order, uint8_t *told, size_t room, uint64_t *count);
+
+/* What is told of a quotient, and by which relations. */
+enum { MISERE_DESCRIPTION = 0, MISERE_LATEX = 1, MISERE_RELATIONS = 2 };
+enum { MISERE_SHORT = 0, MISERE_BASIS = 1 };
+
+/* Tells the description of the quotient that the bytes certify, or its relations as one word, and in
+ * *count how many bytes it has. With MISERE_NO_ROOM it tells *count alone. */
+uint32_t misere_describe(const uint8_t *bytes, size_t length, uint32_t limit, uint32_t output,
+                         uint32_t form, uint8_t *told, size_t room, uint64_t *count);
+
+#ifdef __cplusplus
+}
+#endif
+#endif

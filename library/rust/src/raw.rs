@@ -1,0 +1,68 @@
+//! The calls of libmisere as they are. `scripts/calls_stand` compares them with the exports.
+
+#[repr(C)]
+#[derive(Clone, Default)]
+pub struct Told {
+    pub kind: u64,
+    pub heap: u64,
+    pub first: u64,
+    pub second: u64,
+    pub third: u64,
+}
+
+pub type One<T> = unsafe extern "C" fn(*const u8, usize, u32, *const u64, usize, &mut T) -> u32;
+pub type Many<T> = unsafe extern "C" fn(*const u8, usize, u32, *const u64, usize, *const u64, usize, *mut T, usize) -> u32;
+
+unsafe extern "C" {
+    pub fn misere_version() -> u32;
+    pub fn misere_check(bytes: *const u8, length: usize, limit: u32) -> u32;
+    pub fn misere_outcome(bytes: *const u8, length: usize, limit: u32, heaps: *const u64, count: usize, told: &mut u32) -> u32;
+    pub fn misere_value(bytes: *const u8, length: usize, limit: u32, heaps: *const u64, count: usize, told: &mut u32) -> u32;
+    pub fn misere_answer(bytes: *const u8, length: usize, limit: u32, heaps: *const u64, count: usize, told: &mut Told) -> u32;
+    pub fn misere_outcomes(
+        bytes: *const u8,
+        length: usize,
+        limit: u32,
+        heaps: *const u64,
+        count: usize,
+        ends: *const u64,
+        positions: usize,
+        told: *mut u32,
+        room: usize,
+    ) -> u32;
+    pub fn misere_values(
+        bytes: *const u8,
+        length: usize,
+        limit: u32,
+        heaps: *const u64,
+        count: usize,
+        ends: *const u64,
+        positions: usize,
+        told: *mut u32,
+        room: usize,
+    ) -> u32;
+    pub fn misere_answers(
+        bytes: *const u8,
+        length: usize,
+        limit: u32,
+        heaps: *const u64,
+        count: usize,
+        ends: *const u64,
+        positions: usize,
+        told: *mut Told,
+        room: usize,
+    ) -> u32;
+    pub fn misere_failure(bytes: *const u8, length: usize, limit: u32, told: *mut u64, room: usize, count: &mut u64) -> u32;
+    pub fn misere_solve(
+        code: *const u8,
+        length: usize,
+        limit: u32,
+        rounds: u32,
+        heaps: u32,
+        order: u32,
+        told: *mut u8,
+        room: usize,
+        count: &mut u64,
+    ) -> u32;
+    pub fn misere_describe(bytes: *const u8, length: usize, limit: u32, output: u32, form: u32, told: *mut u8, room: usize, count: &mut u64) -> u32;
+}
