@@ -22,6 +22,15 @@ pub enum Aim {
 }
 
 impl Aim {
+    /// The work that is allowed. What has a certificate needs a tenth of it, and a part of a game
+    /// may need more.
+    pub(crate) fn work(self) -> u64 {
+        match self {
+            Aim::Period(_) => 600_000_000,
+            Aim::Part(_) => 1_000_000_000,
+        }
+    }
+
     /// The last heap that is looked at, where a move may leave three heaps or not.
     pub(crate) fn last(self, leaves_three: bool) -> usize {
         match self {

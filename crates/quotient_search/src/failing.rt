@@ -1,15 +1,15 @@
 //! The lightest position at which the rule fails.
-use crate::cells::{bit, index, word};
+use crate::cells::bit;
 use crate::chains::{Chains, NONE};
-use crate::dead::{Dead, breaks_portion, dead_of_heap, dead_of_sum, is_empty, is_within, words_of};
-use crate::lightest::{Words, lightest_words};
+use crate::dead::{Dead, dead_of_heap, dead_of_sum, is_empty, is_within, words_of};
+use crate::inside::{cost_of_heap, lightest_inside};
 use crate::quotient::{Quotient, heap_weight};
 use crate::sets::Sets;
 use crate::work::{Halt, Work};
 use std::alloc::Allocator;
 
 /// The most weight that is looked at, the most positions and the most words of their sets.
-const MOST_WEIGHT: usize = 2000;
+pub const MOST_WEIGHT: usize = 2000;
 
 const MOST_POSITIONS: usize = 300_000;
 
@@ -20,105 +20,6 @@ const MOST_WORDS: usize = 4_000_000;
 pub struct Failing<A: Allocator> {
     pub weight: usize,
     pub heaps: Vec<usize, A>,
-}
-
-/// A heap beside an element, and its weight. No heap is 0.
-#[derive(Clone, Copy)]
-struct Beside {
-    weight: u64,
-    heap: usize,
-    element: usize,
-}
-
-/// About how many steps it takes to look at the heap n beside each element.
-fn cost_of_heap<A: Allocator>(quotient: &Quotient<A>, n: usize) -> usize {
-    let options = quotient.heap_moves(n).len();
-    quotient.order.saturating_mul(options.saturating_add(1))
-}
-
-/// The lightest heap and element beside which the rule fails inside the portion.
-fn lightest_breaking<A: Allocator>(
-    quotient: &Quotient<A>,
-    weights: &[u64],
-    work: &mut Work,
-) -> Result<Beside, Halt> {
-    let mut best = Beside {
-        weight: u64::MAX,
-        heap: 0,
-        element: 0,
-    };
-    for n in 1..quotient.heaps.len().saturating_add(1) {
-        work.spend(cost_of_heap(quotient, n))?;
-        lighten_breaking(quotient, weights, n, &mut best);
-    }
-    Ok(best)
-}
-
-/// Takes the heap n beside the lightest element by which the rule fails, where it is lighter.
-fn lighten_breaking<A: Allocator>(
-    quotient: &Quotient<A>,
-    weights: &[u64],
-    n: usize,
-    best: &mut Beside,
-) {
-    for element in 0..quotient.order {
-        let weight = word(weights, element).saturating_add(heap_weight(n));
-        if weight < best.weight && breaks_portion(quotient, n, element) {
-            *best = Beside {
-                weight,
-                heap: n,
-                element,
-            };
-        }
-    }
-}
-
-/// Adds the heaps of an element's lightest word.
-fn push_word<A: Allocator>(
-    words: &Words<A>,
-    element: usize,
-    order: usize,
-    heaps: &mut Vec<usize, A>,
-) -> Result<(), Halt> {
-    let mut element = element;
-    for _ in 0..order {
-        if element == 0 {
-            break;
-        }
-        heaps.push(index(&words.heaps, element))?;
-        element = index(&words.before, element);
-    }
-    Ok(())
-}
-
-/// The lightest position in the portion with an option in the portion.
-fn lightest_inside<A: Allocator + Copy>(
-    alloc: A,
-    quotient: &Quotient<A>,
-    work: &mut Work,
-) -> Result<Option<Failing<A>>, Halt> {
-    let words = lightest_words(alloc, quotient, work)?;
-    let best = lightest_breaking(quotient, &words.weights, work)?;
-    if best.heap == 0 || best.weight > MOST_WEIGHT as u64 {
-        return Ok(None);
-    }
-    failing_beside(alloc, &words, best, quotient.order)
-}
-
-/// A heap and an element's lightest word as a position.
-fn failing_beside<A: Allocator + Copy>(
-    alloc: A,
-    words: &Words<A>,
-    best: Beside,
-    order: usize,
-) -> Result<Option<Failing<A>>, Halt> {
-    let mut heaps: Vec<usize, A> = Vec::new(alloc);
-    heaps.push(best.heap)?;
-    push_word(words, best.element, order, &mut heaps)?;
-    Ok(Some(Failing {
-        weight: best.weight as usize,
-        heaps,
-    }))
 }
 
 /// Positions by weight, each with its value, its dead contexts and how it was made.

@@ -13,6 +13,7 @@ mod contexts;
 mod dead;
 mod extend;
 mod failing;
+mod inside;
 mod levels;
 mod lightest;
 mod lists;

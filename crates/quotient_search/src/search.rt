@@ -121,7 +121,7 @@ pub fn find_quotient<A: Allocator + Copy>(
         order,
         heap: 0,
         before: 1,
-        work: Work::new(),
+        work: Work::new(aim.work()),
     };
     let mut state = State::empty(alloc);
     match search.run(alloc, &mut state) {

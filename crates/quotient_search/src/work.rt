@@ -33,9 +33,6 @@ impl<T: Drop> From<AllocFailed<T>> for Halt {
     }
 }
 
-/// The work of a whole search, in steps of about a nanosecond.
-const WHOLE: u64 = 1_000_000_000;
-
 /// The work that is left.
 #[derive(Clone, Copy)]
 pub struct Work {
@@ -43,9 +40,9 @@ pub struct Work {
 }
 
 impl Work {
-    /// The work of a whole search.
-    pub fn new() -> Work {
-        Work { left: WHOLE }
+    /// So many steps, of about a nanosecond each.
+    pub fn new(steps: u64) -> Work {
+        Work { left: steps }
     }
 
     /// Spends so many steps, or ends the search.
