@@ -28,7 +28,7 @@ from typing import Any, Literal, NamedTuple, Union
 
 __all__ = [
     "LIMIT", "Answer", "Beyond", "MisereError", "Move", "NoMemory", "NotAHeap",
-    "NotDescribed", "NotFound", "Quotient", "Refused", "check", "solve", "version",
+    "NotDescribed", "NotFound", "Quotient", "Refused", "check", "solve", "solve_furthest", "solve_part", "version",
 ]
 
 VERSION = 1
@@ -41,6 +41,8 @@ NAMES = {
 }
 OUTCOME, NO_ROOM = 7, 14
 OUTPUTS = ("description", "latex", "relations")
+# Of which heaps a search is to find the quotient
+WHOLE, PART, FURTHEST = 0, 1, 2
 
 
 class MisereError(Exception):
@@ -113,7 +115,7 @@ CALLS: dict[str, list[Any]] = {
     "misere_values": [*_bytes, _number, _slice, _size, _slice, _size, _slice, _size],
     "misere_answers": [*_bytes, _number, _slice, _size, _slice, _size, _slice, _size],
     "misere_failure": [*_bytes, _number, _slice, _size, _count],
-    "misere_solve": [*_bytes, _number, _number, _number, _number, _slice, _size, _count],
+    "misere_solve": [*_bytes, _number, _number, _number, _number, _number, _slice, _size, _count],
     "misere_describe": [*_bytes, _number, _number, _number, _slice, _size, _count],
 }
 
@@ -197,13 +199,28 @@ def _text_of(room: int, call: Any, *words: Any) -> bytes:
     return ctypes.string_at(told, count.value)
 
 
+def _found(code: str, limit: int, rounds: int, aim: int, heaps: int, order: int) -> Quotient:
+    bounds = [_in_range(it) for it in (limit, rounds, aim, heaps, order)]
+    text = code.encode()
+    return Quotient(_text_of(MOST_BYTES, _library.misere_solve, text, len(text), *bounds), limit)
+
+
 def solve(code: str, limit: int = LIMIT, rounds: int = 64, heaps: int = 24, order: int = 64) -> Quotient:
     """The quotient of the game of a code, such as "0.33"; or it raises NotFound, where the search is given up.
 
-    The limit is 1 to 1000000, the rounds 1 to 1000, the heaps 2 to 64, the order 2 to 256."""
-    bounds = [_in_range(it) for it in (limit, rounds, heaps, order)]
-    text = code.encode()
-    return Quotient(_text_of(MOST_BYTES, _library.misere_solve, text, len(text), *bounds), limit)
+    The heaps up to `heaps` are looked at, 2 to 3090; with 3090 the search goes as far as a certificate can. The limit is 1 to 1000000, the rounds 1 to
+    1000, the order 2 to 256."""
+    return _found(code, limit, rounds, WHOLE, heaps, order)
+
+
+def solve_part(code: str, last: int, limit: int = LIMIT, rounds: int = 64, order: int = 512) -> Quotient:
+    """The quotient of the positions of a game whose heaps are at most `last`, 1 to 1024; or it raises NotFound. The order is 2 to 512."""
+    return _found(code, limit, rounds, PART, last, order)
+
+
+def solve_furthest(code: str, order: int, limit: int = LIMIT, rounds: int = 64) -> Quotient:
+    """The quotient of the most first heaps of a game of which a search finds one of at most so many elements, 2 to 512; or it raises NotFound."""
+    return _found(code, limit, rounds, FURTHEST, 0, order)
 
 
 class Quotient:

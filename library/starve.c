@@ -48,7 +48,7 @@ static uint32_t ask(size_t call) {
     case 5: return misere_values(bytes, length, MISERE_LIMIT, heaps, 12, ends, 2, told.numbers, 2);
     case 6: return misere_answers(bytes, length, MISERE_LIMIT, heaps, 12, ends, 2, told.moves, 2);
     case 7: return misere_failure(bytes, length, MISERE_LIMIT, told.heaps, 8, &told.count);
-    case 8: return misere_solve((const uint8_t *)"0.3", 3, 1000, 4, 8, 8, told.text, sizeof told.text, &told.count);
+    case 8: return misere_solve((const uint8_t *)"0.3", 3, 1000, 4, MISERE_WHOLE, 8, 8, told.text, sizeof told.text, &told.count);
     default: return misere_describe(bytes, length, MISERE_LIMIT, MISERE_LATEX, MISERE_SHORT, told.text, sizeof told.text, &told.count);
     }
 }

@@ -1,6 +1,6 @@
 -- What the search and the description of the library tell. This project's own.
 use Rattle.std.specs.Prelude.{◌≡◌, ℕ, ◌≤◌, List}
-use Rattle.misere_theory.specs.Certificates.{Certificate, Accepted}
+use Rattle.misere_theory.specs.Certificates.{Certificate, Accepted, kind_of}
 use Rattle.octal_code.specs.Text.{IsCodeText}
 use Rattle.certificate_text.specs.Spelling.{Spells}
 use Rattle.answers.specs.Answers.Answer.{Yes}
@@ -8,11 +8,17 @@ use Rattle.checker.specs.Turns.{verdict}
 use Rattle.descriptions.specs.Described.{IsDescription, IsPresentable}
 use Rattle.relations.specs.declared.text.Notation.TheVariants.{Plain, Latex}
 
--- the bytes are an accepted certificate, of at most so many elements, of the code that the text
--- spells
-pub record IsCertificateFor (text : List ℕ) (order : ℕ) (bytes : List ℕ) : Type 0 where
+-- 0 aims at a full certificate, 1 at that of the heaps 1 to `heaps`, and 2 at that of some first heaps
+abbrev pub IsOfKind : ℕ → ℕ → ℕ → Type 0
+IsOfKind aim heaps kind = (aim ≡ 0 → kind ≡ 0) × (aim ≡ 1 → kind ≡ heaps)
+    × (aim ≡ 2 → (1 ≤ kind) × (kind ≤ 1024))
+
+-- the bytes are an accepted certificate, of at most so many elements and of a kind that is aimed at,
+-- of the code that the text spells
+pub record IsCertificateFor (text : List ℕ) (aim heaps order : ℕ) (bytes : List ℕ) : Type 0 where
   pub certificate : Certificate
   pub of_code : IsCodeText text certificate.code
+  pub of_kind : IsOfKind aim heaps (kind_of certificate)
   pub spelled : Spells bytes certificate
   pub accepted : Accepted certificate
   pub small : certificate.order ≤ order

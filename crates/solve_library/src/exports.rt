@@ -4,35 +4,40 @@ ghost use Rattle.solve_library.specs.Found.{IsCertificateFor, IsTextOf};
 
 use crate::describing::described;
 use crate::numbers::hand_over;
-use crate::solving::solved;
-use solve_command::SolveBounds;
+use crate::solving::{Asked, solved};
 use std::alloc::Global;
 
-/// Looks for the quotient of the game of a code, and tells the bytes of its certificate, and how
-/// many they are. Where there is no room for them it tells how many they are alone.
+/// Looks for a quotient of the game of a code, and tells the bytes of its certificate, and how many
+/// they are. Where there is no room for them it tells how many they are alone.
+///
+/// `aim` is 0 for the whole game, of which the heaps 1 to `heaps` are looked at, from 2 to 3090; 1 for
+/// the part of the heaps 1 to `heaps`, from 1 to 1024; 2 for the part of the most first heaps, whatever
+/// `heaps`. The order is from 2 to 256, or to 512 for a part.
 #[unsafe(no_mangle)]
 pub extern "C" fn misere_solve(
     alloc: Global,
     code: &[u8],
     limit: u32,
     rounds: u32,
+    aim: u32,
     heaps: u32,
     order: u32,
     told: &mut [u8],
     count: &mut u64,
 ) -> u32
-    ensures found { result ≡ 0 → IsCertificateFor code.now order (take count.new told.new) }
+    ensures found { result ≡ 0 → IsCertificateFor code.now aim heaps order (take count.new told.new) }
     ensures stays { result ≢ 0 → told.new ≡ told.old }
     ensures room { result ≡ 14 → length told.old < count.new }
     ensures untold { result ≢ 0 → result ≢ 14 → count.new ≡ count.old }
 {
-    let bounds = SolveBounds {
+    let asked = Asked {
         limit,
         rounds,
+        aim,
         heaps,
         order,
     };
-    match solved(alloc, code, bounds) {
+    match solved(alloc, code, asked) {
         Ok(sink) => hand_over(sink.bytes(), told, count),
         Err(status) => status,
     }

@@ -1,38 +1,79 @@
 //! The search for a certificate.
-ghost use Rattle.std.specs.Prelude.{◌≡◌, ◌≢◌, ℕ, List, Some, IfOk, IfErr};
-ghost use Rattle.solve_library.specs.Found.{IsCertificateFor};
+ghost use Rattle.std.specs.Prelude.{◌≡◌, ◌≢◌, ℕ, List, Some, IfSome, IfOk, IfErr};
+ghost use Rattle.solve_command.specs.Solved.{IsAimedAt};
+ghost use Rattle.solve_library.specs.Found.{IsCertificateFor, IsOfKind};
 
 use crate::numbers::{GAVE_UP, MEMORY, NOT_A_CODE, NOT_IN_RANGE};
+use requests::{Aim, DEEPEST};
 use solve_command::{SolveBounds, SolveStop, solve};
 use std::alloc::Global;
 use streams::{MemorySink, Sink};
 
-/// Whether each bound of a search is in the range that it has on a command line.
-fn are_in_range(bounds: SolveBounds) -> bool {
-    let is_limit = 1 <= bounds.limit && bounds.limit <= 1_000_000;
-    let are_rounds = 1 <= bounds.rounds && bounds.rounds <= 1000;
-    let are_heaps = 2 <= bounds.heaps && bounds.heaps <= 64;
-    let is_order = 2 <= bounds.order && bounds.order <= 256;
-    is_limit && are_rounds && are_heaps && is_order
+/// What is asked of a search. Each number has the range that it has on a command line; of a whole
+/// game as many heaps may be looked at as a certificate can need.
+#[derive(Clone, Copy)]
+pub(crate) struct Asked {
+    pub limit: u32,
+    pub rounds: u32,
+    pub aim: u32,
+    pub heaps: u32,
+    pub order: u32,
+}
+
+/// What the search aims at, where the numbers of it are in their ranges.
+fn aim_of(asked: Asked) -> Option<Aim>
+    ensures { IfSome result (λ aim. (kind : ℕ) → IsAimedAt aim kind
+        → IsOfKind asked.aim asked.heaps kind) }
+{
+    let heaps = asked.heaps;
+    match asked.aim {
+        0 if 2 <= heaps && heaps <= DEEPEST && asked.order <= 256 => Some(Aim::Whole { heaps }),
+        1 if 1 <= heaps && heaps <= 1024 => Some(Aim::Part { last: heaps }),
+        2 => Some(Aim::Furthest),
+        _ => None,
+    }
+}
+
+/// Whether the other numbers are in their ranges.
+fn are_in_range(asked: Asked) -> bool {
+    let is_limit = 1 <= asked.limit && asked.limit <= 1_000_000;
+    let are_rounds = 1 <= asked.rounds && asked.rounds <= 1000;
+    let is_order = 2 <= asked.order && asked.order <= 512;
+    is_limit && are_rounds && is_order
+}
+
+/// The bounds of the search, where all that is asked is in its range.
+fn bounds_of(asked: Asked) -> Option<SolveBounds>
+    ensures aim { IfSome result (λ bounds. (kind : ℕ) → IsAimedAt bounds.aim kind
+        → IsOfKind asked.aim asked.heaps kind) }
+    ensures order { IfSome result (λ bounds. bounds.order ≡ asked.order) }
+{
+    let aim = aim_of(asked)?;
+    if !are_in_range(asked) {
+        return None;
+    }
+    Some(SolveBounds {
+        limit: asked.limit,
+        rounds: asked.rounds,
+        order: asked.order,
+        aim,
+        tells_why: false,
+    })
 }
 
 /// The certificate that is found for the code that the bytes spell, in a sink; or the status.
-pub(crate) fn solved(
-    alloc: Global,
-    code: &[u8],
-    bounds: SolveBounds,
-) -> Result<MemorySink<Global>, u32>
+pub(crate) fn solved(alloc: Global, code: &[u8], asked: Asked) -> Result<MemorySink<Global>, u32>
     ensures found { IfOk result (λ s. (bytes : List ℕ)
         × (⟦<MemorySink<Global> as Sink>⟧.taken s ≡ Some bytes)
-        × IsCertificateFor code.now bounds.order bytes) }
+        × IsCertificateFor code.now asked.aim asked.heaps asked.order bytes) }
     ensures no { IfErr result (λ s. s ≢ 0 × s ≢ 14) }
 {
     let Ok(text) = str::from_utf8(code) else {
         return Err(NOT_A_CODE);
     };
-    if !are_in_range(bounds) {
+    let Some(bounds) = bounds_of(asked) else {
         return Err(NOT_IN_RANGE);
-    }
+    };
     let mut sink = MemorySink::new(alloc);
     match solve(alloc, text, bounds, &mut sink) {
         Ok(true) => Ok(sink),

@@ -11,30 +11,48 @@ fn quotients_are_found(rt: HostRuntime) {
     let (alloc, mut told, mut count) = (rt.alloc(), [7; 96], 0);
     let mut short = [7; 95];
     assert_eq!(&rt;
-        misere_solve(alloc, b"0.3", 100, 4, 8, 8, &mut told, &mut count),
+        misere_solve(alloc, b"0.3", 100, 4, 0, 8, 8, &mut told, &mut count),
         0
     );
     assert_eq!(&rt; count, 96);
     assert_eq!(&rt; told[0], b'm');
     assert_eq!(&rt; told[95], b'\n');
     assert_eq!(&rt;
-        misere_solve(alloc, b"0.3", 100, 0, 8, 8, &mut told, &mut count),
+        misere_solve(alloc, b"0.3", 100, 0, 0, 8, 8, &mut told, &mut count),
         15
     );
     assert_eq!(&rt;
-        misere_solve(alloc, b"0.77", 100, 1, 8, 8, &mut told, &mut count),
+        misere_solve(alloc, b"0.77", 100, 1, 0, 8, 8, &mut told, &mut count),
         13
     );
     assert_eq!(&rt;
-        misere_solve(alloc, b"0.8.", 100, 4, 8, 8, &mut told, &mut count),
+        misere_solve(alloc, b"0.8.", 100, 4, 0, 8, 8, &mut told, &mut count),
         12
     );
     assert_eq!(&rt;
-        misere_solve(alloc, b"0.3", 100, 4, 8, 8, &mut short, &mut count),
+        misere_solve(alloc, b"0.3", 100, 4, 0, 8, 8, &mut short, &mut count),
         14
     );
     assert_eq!(&rt; count, 96);
     assert_eq!(&rt; short[0], 7);
+}
+
+#[test]
+fn parts_of_games_are_found(rt: HostRuntime) {
+    let (alloc, mut told, mut count) = (rt.alloc(), [7; 120], 0);
+    assert_eq!(&rt;
+        misere_solve(alloc, b"0.3", 100, 4, 1, 2, 8, &mut told, &mut count),
+        0
+    );
+    assert_eq!(&rt; told[4], b'2');
+    assert_eq!(&rt;
+        misere_solve(alloc, b"0.3", 100, 4, 1, 1025, 8, &mut told, &mut count),
+        15
+    );
+    assert_eq!(&rt;
+        misere_solve(alloc, b"0.3", 100, 4, 3, 8, 8, &mut told, &mut count),
+        15
+    );
 }
 
 #[test]

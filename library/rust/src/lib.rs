@@ -77,6 +77,17 @@ pub enum Answer {
     Wins { heap: u64, left: Vec<u64> },
 }
 
+/// Of which heaps a search is to find the quotient.
+#[derive(Clone, Copy, Debug, PartialEq, Eq)]
+pub enum Aim {
+    /// Of all heaps; those up to this one are looked at, 2 to 3090.
+    Whole(u32),
+    /// Of the heaps 1 to this one, 1 to 1024.
+    Part(u32),
+    /// Of the most first heaps that have so few elements as are allowed.
+    Furthest,
+}
+
 /// How far a search goes.
 #[derive(Clone, Copy, Debug)]
 pub struct Bounds {
@@ -84,15 +95,14 @@ pub struct Bounds {
     pub limit: u32,
     /// How often the proposers are asked at most.
     pub rounds: u32,
-    /// The largest heap that they look at.
-    pub heaps: u32,
+    pub aim: Aim,
     /// The most elements of a quotient.
     pub order: u32,
 }
 
 impl Default for Bounds {
     fn default() -> Bounds {
-        Bounds { limit: LIMIT, rounds: 64, heaps: 24, order: 64 }
+        Bounds { limit: LIMIT, rounds: 64, aim: Aim::Whole(24), order: 64 }
     }
 }
 
@@ -179,12 +189,17 @@ impl Quotient {
         done(status, Quotient { bytes, limit })
     }
 
-    /// The quotient of the game of a code, such as `0.33`.
+    /// The quotient of the game of a code, such as `0.33`, or of a part of it.
     pub fn solve(code: &str, bounds: Bounds) -> Result<Quotient, Refusal> {
-        let Bounds { limit, rounds, heaps, order } = bounds;
+        let Bounds { limit, rounds, aim, order } = bounds;
+        let (aim, heaps) = match aim {
+            Aim::Whole(heaps) => (0, heaps),
+            Aim::Part(last) => (1, last),
+            Aim::Furthest => (2, 0),
+        };
         let bytes = told_by(MOST, |told, count| {
             // SAFETY: each pointer stands with the length of its slice, and `count` is borrowed for the call.
-            unsafe { raw::misere_solve(code.as_ptr(), code.len(), limit, rounds, heaps, order, told.as_mut_ptr(), told.len(), count) }
+            unsafe { raw::misere_solve(code.as_ptr(), code.len(), limit, rounds, aim, heaps, order, told.as_mut_ptr(), told.len(), count) }
         })?;
         Ok(Quotient { bytes, limit })
     }

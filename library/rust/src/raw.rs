@@ -58,6 +58,7 @@ unsafe extern "C" {
         length: usize,
         limit: u32,
         rounds: u32,
+        aim: u32,
         heaps: u32,
         order: u32,
         told: *mut u8,
