@@ -8,7 +8,7 @@ _misere() {
         '') options="check solve show describe play present catalogue desk help --help --version" ;;
         help) options="check solve show describe play present catalogue desk help" ;;
         check) options="--limit --help" ;;
-        solve) options="--limit --rounds --heaps --order --help" ;;
+        solve) options="--limit --rounds --heaps --deep --partial --furthest --order --why --help" ;;
         show) options="--help" ;;
         describe) options="--latex --basis --relations --help" ;;
         play) options="--help" ;;
@@ -17,7 +17,7 @@ _misere() {
         desk) options="--help" ;;
     esac
     COMPREPLY=()
-    case $before in --get | --heaps | --limit | --order | --rounds) return ;; esac
+    case $before in --furthest | --get | --heaps | --limit | --order | --partial | --rounds) return ;; esac
     if [[ -z $command || $command == help || $word == -* ]]; then
         COMPREPLY=($(compgen -W "$options" -- "$word"))
         return

@@ -17,7 +17,11 @@ complete -c misere -n '__fish_seen_subcommand_from check' -l help -d 'Print help
 complete -c misere -n '__fish_seen_subcommand_from solve' -l limit -x -d 'Keep at most N members of a closure: 1 to 1000000, by default 100000'
 complete -c misere -n '__fish_seen_subcommand_from solve' -l rounds -x -d 'Give up after R rounds: 1 to 1000, by default 64'
 complete -c misere -n '__fish_seen_subcommand_from solve' -l heaps -x -d 'Look at the heaps up to M: 2 to 64, by default 24'
-complete -c misere -n '__fish_seen_subcommand_from solve' -l order -x -d 'Propose no quotient of more than Q elements: 2 to 256, by default 64'
+complete -c misere -n '__fish_seen_subcommand_from solve' -l deep -d 'Look at as many heaps as a certificate can need, and orders to 256'
+complete -c misere -n '__fish_seen_subcommand_from solve' -l partial -x -d 'Look for the quotient of the heaps 1 to M alone: 1 to 1024'
+complete -c misere -n '__fish_seen_subcommand_from solve' -l furthest -x -d 'Look for the most heaps 1 to M whose quotient has at most Q elements: 2 to 512'
+complete -c misere -n '__fish_seen_subcommand_from solve' -l order -x -d 'Propose no quotient of more than Q elements: 2 to 256, by default 64, with --partial 2 to 512'
+complete -c misere -n '__fish_seen_subcommand_from solve' -l why -d 'Tell why the search is given up'
 complete -c misere -n '__fish_seen_subcommand_from solve' -l help -d 'Print help'
 complete -c misere -n '__fish_seen_subcommand_from show' -F
 complete -c misere -n '__fish_seen_subcommand_from show' -l help -d 'Print help'
