@@ -5,6 +5,7 @@ ghost use Rattle.command_line.specs.Numbers.{IsWithin, bounds_of, name_of, numbe
 ghost use Rattle.command_line.specs.Numbers.{number_within};
 
 use decimals::number_between;
+use misere_theory::{LARGEST_FIRST_ORDER, LARGEST_ORDER, MOST_ENTRIES};
 use requests::DEFAULT_LIMIT;
 
 /// A number that an option takes.
@@ -44,15 +45,17 @@ impl Quantity {
     pub fn bounds(self) -> Bounds
         ensures { result ≡ bounds_of self }
     {
+        let (first_order, order) = (LARGEST_FIRST_ORDER as u32, LARGEST_ORDER as u32);
+        let heaps = MOST_ENTRIES as u32;
         let (least, most, default) = match self {
             Quantity::Limit => (1, 1000000, DEFAULT_LIMIT),
             Quantity::Rounds => (1, 1000, 64),
             Quantity::Heaps => (2, 64, 24),
-            Quantity::Order => (2, 256, 64),
-            Quantity::Part => (0, 1024, 0),
-            Quantity::DeepOrder => (2, 256, 256),
-            Quantity::Last => (1, 1024, 1024),
-            Quantity::PartOrder | Quantity::Furthest => (2, 512, 512),
+            Quantity::Order => (2, first_order, 64),
+            Quantity::Part => (0, heaps, 0),
+            Quantity::DeepOrder => (2, first_order, first_order),
+            Quantity::Last => (1, heaps, heaps),
+            Quantity::PartOrder | Quantity::Furthest => (2, order, order),
         };
         Bounds {
             least,

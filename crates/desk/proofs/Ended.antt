@@ -12,8 +12,8 @@ use Rattle.desk.specs.declared.slot.Slot.{Slot}
 use Rattle.desk.specs.declared.slot.Standing.{Standing}
 use Rattle.desk.specs.declared.slot.Standing.TheVariants.{Ended}
 use Rattle.desk.specs.Slots.{ending, job_of, StandsBeside}
-use Rattle.desk.specs.Machine.{told}
-use Rattle.desk.specs.Deeds.{told_of, Certifies, CertifiesBy}
+use Rattle.desk.specs.Machine.{work_reply}
+use Rattle.desk.specs.Deeds.{shown_reply, Certifies, CertifiesBy}
 use Rattle.desk.specs.declared.reply.StepFault.TheVariants as fault
 use Rattle.desk.specs.Desks.{core_at, slot_at, seen, job_in, IsDesk}
 use Rattle.desk.proofs.Gone.{core_found}
@@ -38,9 +38,9 @@ ended_job places cores i s core d desk at ends found =
       ap (λ x. ending x (verdict core.bytes core.limit)) ends ∙ sym e,
     )
 
-pub told_ended : (o : Option JobView) (job : JobView) (a : Option Answer) → o ≡ Some job
-    → job.ended ≡ a → told a ≡ told_of o
-told_ended o job a is e = sym (ap told_of is ∙ ap told e)
+pub reply_ended : (o : Option JobView) (job : JobView) (a : Option Answer) → o ≡ Some job
+    → job.ended ≡ a → work_reply a ≡ shown_reply o
+reply_ended o job a is e = sym (ap shown_reply is ∙ ap work_reply e)
 
 -- The certificate of such a job, and what it says of a position
 

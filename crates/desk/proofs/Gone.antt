@@ -9,9 +9,9 @@ use Rattle.checker.specs.Turns.{cost, verdict}
 use Rattle.checker.specs.JobViews.{JobView}
 use Rattle.desk.specs.declared.slot.Slot.{Slot}
 use Rattle.desk.specs.declared.slot.Standing.{Standing}
-use Rattle.desk.specs.declared.slot.Standing.TheVariants.{Going, Ended, Starved}
+use Rattle.desk.specs.declared.slot.Standing.TheVariants.{Going, Ended, OutOfMemory}
 use Rattle.desk.specs.Slots.{ending, job_of, StandsBeside, IsFurthest, HasGoneOn}
-use Rattle.desk.specs.Machine.{starved, worked, worked_on}
+use Rattle.desk.specs.Machine.{out_of_memory, worked, worked_on}
 use Rattle.desk.specs.Desks.{core_at, slot_at, seen, job_in, jobs_in, IsDesk, HasSlot, IsWith, NoneAsFarIn, HaveWorked}
 use Rattle.desk.proofs.Few.{few_still}
 use Rattle.desk.proofs.Lists.{with_here, with_other, with_set, some_within}
@@ -28,7 +28,7 @@ beside_same Ended spent core new b l ended h =
     absurd (cc)) in
     subst (λ (c : JobView). (spent ≡ cost c.bytes c.limit)
     × (c.ended ≡ Some (verdict c.bytes c.limit))) (sym same) h
-beside_same Starved spent core new b l ended h =
+beside_same OutOfMemory spent core new b l ended h =
     let e : cost new.bytes new.limit ≡ cost core.bytes core.limit = cc in omega arith
 
 job_same : (core new : JobView) (s : Slot) → new.bytes ≡ core.bytes → new.limit ≡ core.limit
@@ -41,10 +41,10 @@ job_same core new s b l =
     job_of (record { bytes = core.bytes; limit = limit; spent = new.spent; ended = new.ended })
     s) l
 
-not_starved : (d : Standing) (v : Answer) → ending d v ≢ Some Memory → d ≢ Starved
-not_starved Going v h = λ e. absurd (cc)
-not_starved Ended v h = λ e. absurd (cc)
-not_starved Starved v h = λ e. h refl
+not_out_of_memory : (d : Standing) (v : Answer) → ending d v ≢ Some Memory → d ≢ OutOfMemory
+not_out_of_memory Going v h = λ e. absurd (cc)
+not_out_of_memory Ended v h = λ e. absurd (cc)
+not_out_of_memory OutOfMemory v h = λ e. h refl
 
 -- what is changed: the slot of a place, and its core
 pub record IsChange (places places' : List (Option Slot)) (cores cores' : List (Option JobView))
@@ -195,8 +195,8 @@ module _ (places places' : List (Option Slot)) (cores cores' : List (Option JobV
       limit in
       let ends : job.ended ≡ ending r.standing (verdict seen-so.core.bytes seen-so.core.limit) =
       ap (λ (v : JobView). v.ended) seen-so.job_is in
-      let fed_slot : r.standing ≢ Starved =
-      not_starved r.standing (verdict seen-so.core.bytes seen-so.core.limit)
+      let fed_slot : r.standing ≢ OutOfMemory =
+      not_out_of_memory r.standing (verdict seen-so.core.bytes seen-so.core.limit)
       (λ h. fed (ends ∙ h)) in
       let spent_is : job.spent ≡ r.spent = ap (λ (v : JobView). v.spent) seen-so.job_is in
       let within : r.spent ≤ most = far.above j r seen-so.slot_is one fed_slot in
@@ -212,8 +212,8 @@ module _ (places places' : List (Option Slot)) (cores cores' : List (Option JobV
       ap (λ (c : JobView). cost c.bytes c.limit) is in
       omega arith
 
-  starved_job : t.standing ≡ Starved → t.spent ≡ s.spent → job_of new t ≡ starved (job_of core s)
-  starved_job ends spent =
+  out_of_memory_job : t.standing ≡ OutOfMemory → t.spent ≡ s.spent → job_of new t ≡ out_of_memory (job_of core s)
+  out_of_memory_job ends spent =
       job_same core new t gone.bytes gone.limit
       ∙ (ap (λ n.
       record {
@@ -247,7 +247,7 @@ module _ (places places' : List (Option Slot)) (cores cores' : List (Option JobV
           within = within_cost going;
           jobs_are =
               subst (λ (v : JobView). IsWith (jobs_in places cores) i (Some v)
-              (jobs_in places' cores')) (starved_job wanting.0 wanting.1) jobs_gone;
+              (jobs_in places' cores')) (out_of_memory_job wanting.0 wanting.1) jobs_gone;
         })
       ])
 
@@ -294,7 +294,7 @@ still core s units Going is other = absurd (other refl)
 still core s units Ended is other =
     ap (λ (d : Standing). worked_on cost verdict (ending d (verdict core.bytes core.limit))
     (job_of core s) units) is
-still core s units Starved is other =
+still core s units OutOfMemory is other =
     ap (λ (d : Standing). worked_on cost verdict (ending d (verdict core.bytes core.limit))
     (job_of core s) units) is
 
@@ -341,12 +341,12 @@ module _ (places : List (Option Slot)) (cores : List (Option JobView)) (i : ℕ)
   pub is_sound : core.ended ≢ Some Memory
   is_sound = desk.sound s.core core core_found
 
-  spent_below : (d : Standing) (spent : ℕ) (c : JobView) → c.ended ≡ None → d ≢ Starved
+  spent_below : (d : Standing) (spent : ℕ) (c : JobView) → c.ended ≡ None → d ≢ OutOfMemory
       → StandsBeside d spent c → spent < cost c.bytes c.limit
   spent_below Going spent c none fed h = h
   spent_below Ended spent c none fed h = let ended : c.ended ≡ Some (verdict c.bytes c.limit) = h.1
       in absurd (cc)
-  spent_below Starved spent c none fed h = absurd (fed refl)
+  spent_below OutOfMemory spent c none fed h = absurd (fed refl)
 
   pub furthest_below : (most : ℕ) → s.standing ≡ Going → IsFurthest places s.core most
       → core.ended ≡ None → most < cost core.bytes core.limit

@@ -3,44 +3,44 @@ use Rattle.std.proofs.Common.{◌≡◌, ◌≢◌, ℕ, ◌==◌, Bool, true, f
 use Rattle.std.proofs.lemmas.Bool.{eqb-true, eq-eqb}
 use Rattle.misere_theory.proofs.Outcomes.{not_both}
 use Rattle.positions.specs.Outcomes.{HasOutcome}
-use Rattle.positions.specs.declared.outcome.Outcome.{Outcome as Told}
+use Rattle.positions.specs.declared.outcome.Outcome.{Outcome as PositionOutcome}
 use Rattle.positions.specs.declared.outcome.Outcome.TheVariants.{P, N}
 use Rattle.answers.specs.Answers.{Answer}
 use Rattle.answers.specs.Answers.Answer.{Yes, Text, Law, Word, Order, Period, Apart, Outcome, Limit, Memory}
 use Rattle.checker.specs.JobViews.{JobView}
 use Rattle.player.specs.Answers.{IsRightAnswer}
-use Rattle.player.specs.declared.answering.Answer.{Answer as Advice}
-use Rattle.desk.specs.Machine.{Jobs, State, Event, Call, Reply, Step, AmpleStep, Serves, Refuses, Starves, Opens, Works, Drops, Asks, Plays, Outcomes, Advices, told, worked, with_jobs, least_free}
+use Rattle.player.specs.declared.answering.Answer.{Answer as PlayAnswer}
+use Rattle.desk.specs.Machine.{Jobs, State, Event, Call, Reply, Step, AmpleStep, Serves, Refuses, RunsOut, Opens, Works, Drops, Asks, Plays, OutcomeReplies, AnswerReplies, work_reply, worked, with_jobs, least_free}
 use Rattle.desk.specs.Machine.Event.{Open, Work, Drop, Ask, Play}
-use Rattle.desk.specs.Machine.Reply.{Tells, Advises}
+use Rattle.desk.specs.Machine.Reply.{OutcomeIs, AnswerIs}
 use Rattle.desk.specs.Runs.{Run, AmpleRun, calls_of, replies_to, is_nine, is_refused, HasNoNine}
 use Rattle.desk.proofs.Lists.{eqb_no}
 use Rattle.desk.proofs.Steps.{with_same}
 
 -- a position has one outcome
-told_one : (code X : List ℕ) (p q : Told) → HasOutcome code X p → HasOutcome code X q → p ≡ q
-told_one code X P P f g = refl
-told_one code X N N f g = refl
-told_one code X P N f g = absurd (not_both f g)
-told_one code X N P f g = absurd (not_both g f)
+outcome_one : (code X : List ℕ) (p q : PositionOutcome) → HasOutcome code X p → HasOutcome code X q → p ≡ q
+outcome_one code X P P f g = refl
+outcome_one code X N N f g = refl
+outcome_one code X P N f g = absurd (not_both f g)
+outcome_one code X N P f g = absurd (not_both g f)
 
-outcomes_one : (e : Option Answer) (X : List ℕ) (a b : Reply) → Outcomes e X a → Outcomes e X b
+outcome_replies_one : (e : Option Answer) (X : List ℕ) (a b : Reply) → OutcomeReplies e X a → OutcomeReplies e X b
     → a ≡ b
-outcomes_one (Some (Yes c)) X a b (inl (p, f)) (inl (q, g)) =
-    f.1 ∙ (ap Tells (told_one c.code X f.0 g.0 f.2 g.2) ∙ sym g.1)
-outcomes_one (Some (Yes c)) X a b (inl (p, f)) (inr g) = absurd (g.1 p)
-outcomes_one (Some (Yes c)) X a b (inr f) (inl (q, g)) = absurd (f.1 q)
-outcomes_one (Some (Yes c)) X a b (inr f) (inr g) = f.2 ∙ sym g.2
-outcomes_one (Some Text) X a b f g = f ∙ sym g
-outcomes_one (Some Law) X a b f g = f ∙ sym g
-outcomes_one (Some Word) X a b f g = f ∙ sym g
-outcomes_one (Some Order) X a b f g = f ∙ sym g
-outcomes_one (Some Period) X a b f g = f ∙ sym g
-outcomes_one (Some Apart) X a b f g = f ∙ sym g
-outcomes_one (Some (Outcome code Y)) X a b f g = f ∙ sym g
-outcomes_one (Some Limit) X a b f g = f ∙ sym g
-outcomes_one (Some Memory) X a b f g = f ∙ sym g
-outcomes_one None X a b f g = f ∙ sym g
+outcome_replies_one (Some (Yes c)) X a b (inl (p, f)) (inl (q, g)) =
+    f.1 ∙ (ap OutcomeIs (outcome_one c.code X f.0 g.0 f.2 g.2) ∙ sym g.1)
+outcome_replies_one (Some (Yes c)) X a b (inl (p, f)) (inr g) = absurd (g.1 p)
+outcome_replies_one (Some (Yes c)) X a b (inr f) (inl (q, g)) = absurd (f.1 q)
+outcome_replies_one (Some (Yes c)) X a b (inr f) (inr g) = f.2 ∙ sym g.2
+outcome_replies_one (Some Text) X a b f g = f ∙ sym g
+outcome_replies_one (Some Law) X a b f g = f ∙ sym g
+outcome_replies_one (Some Word) X a b f g = f ∙ sym g
+outcome_replies_one (Some Order) X a b f g = f ∙ sym g
+outcome_replies_one (Some Period) X a b f g = f ∙ sym g
+outcome_replies_one (Some Apart) X a b f g = f ∙ sym g
+outcome_replies_one (Some (Outcome code Y)) X a b f g = f ∙ sym g
+outcome_replies_one (Some Limit) X a b f g = f ∙ sym g
+outcome_replies_one (Some Memory) X a b f g = f ∙ sym g
+outcome_replies_one None X a b f g = f ∙ sym g
 
 opens_one : (old : Jobs) (bytes : List ℕ) (limit : ℕ) (o : Option ℕ) (a b : Reply) (m n : Jobs)
     → Opens old bytes limit o a m → Opens old bytes limit o b n → (a ≡ b) × (m ≡ n)
@@ -54,7 +54,7 @@ drops_one old j None a b m n f g = (f.0 ∙ sym g.0, f.1 ∙ sym g.1)
 
 asks_one : (old : Jobs) (X : List ℕ) (o : Option JobView) (a b : Reply) (m n : Jobs)
     → Asks old X o a m → Asks old X o b n → (a ≡ b) × (m ≡ n)
-asks_one old X (Some job) a b m n f g = (outcomes_one job.ended X a b f.0 g.0, f.1 ∙ sym g.1)
+asks_one old X (Some job) a b m n f g = (outcome_replies_one job.ended X a b f.0 g.0, f.1 ∙ sym g.1)
 asks_one old X None a b m n f g = (f.0 ∙ sym g.0, f.1 ∙ sym g.1)
 
 none_head : (reply : Reply) (replies : List Reply) → HasNoNine (reply ∷ replies)
@@ -64,9 +64,9 @@ none_head reply replies free = free 0 reply (omega arith)
 none_tail : (reply : Reply) (replies : List Reply) → HasNoNine (reply ∷ replies) → HasNoNine replies
 none_tail reply replies free = λ k d below. free (suc k) d (omega arith)
 
-told_done : (e : Option Answer) → is_refused (told e) ≡ false
-told_done None = refl
-told_done (Some a) = refl
+reply_done : (e : Option Answer) → is_refused (work_reply e) ≡ false
+reply_done None = refl
+reply_done (Some a) = refl
 
 here_now : (s : State) (client : ℕ) (jobs : Jobs) → with_jobs s client jobs client ≡ jobs
 here_now s client jobs = ap (λ b. if b then jobs else s client) (eq-eqb client client refl)
@@ -76,30 +76,30 @@ others_stay : (s : State) (client other : ℕ) (jobs : Jobs) → (client == othe
 others_stay s client other jobs e = ap (λ b. if b then jobs else s other) e
 
 -- right answers are one
-module _ (right_one : (code X : List ℕ) (a b : Advice) → IsRightAnswer code X a
+module _ (right_one : (code X : List ℕ) (a b : PlayAnswer) → IsRightAnswer code X a
     → IsRightAnswer code X b → a ≡ b)
     (cost : List ℕ → ℕ → ℕ) (verdict : List ℕ → ℕ → Answer) where
-  advices_one : (e : Option Answer) (X : List ℕ) (a b : Reply) → Advices e X a → Advices e X b
+  answer_replies_one : (e : Option Answer) (X : List ℕ) (a b : Reply) → AnswerReplies e X a → AnswerReplies e X b
       → a ≡ b
-  advices_one (Some (Yes c)) X a b (inl (p, f)) (inl (q, g)) =
-      f.1 ∙ (ap Advises (right_one c.code X f.0 g.0 f.2 g.2) ∙ sym g.1)
-  advices_one (Some (Yes c)) X a b (inl (p, f)) (inr g) = absurd (g.1 p)
-  advices_one (Some (Yes c)) X a b (inr f) (inl (q, g)) = absurd (f.1 q)
-  advices_one (Some (Yes c)) X a b (inr f) (inr g) = f.2 ∙ sym g.2
-  advices_one (Some Text) X a b f g = f ∙ sym g
-  advices_one (Some Law) X a b f g = f ∙ sym g
-  advices_one (Some Word) X a b f g = f ∙ sym g
-  advices_one (Some Order) X a b f g = f ∙ sym g
-  advices_one (Some Period) X a b f g = f ∙ sym g
-  advices_one (Some Apart) X a b f g = f ∙ sym g
-  advices_one (Some (Outcome code Y)) X a b f g = f ∙ sym g
-  advices_one (Some Limit) X a b f g = f ∙ sym g
-  advices_one (Some Memory) X a b f g = f ∙ sym g
-  advices_one None X a b f g = f ∙ sym g
+  answer_replies_one (Some (Yes c)) X a b (inl (p, f)) (inl (q, g)) =
+      f.1 ∙ (ap AnswerIs (right_one c.code X f.0 g.0 f.2 g.2) ∙ sym g.1)
+  answer_replies_one (Some (Yes c)) X a b (inl (p, f)) (inr g) = absurd (g.1 p)
+  answer_replies_one (Some (Yes c)) X a b (inr f) (inl (q, g)) = absurd (f.1 q)
+  answer_replies_one (Some (Yes c)) X a b (inr f) (inr g) = f.2 ∙ sym g.2
+  answer_replies_one (Some Text) X a b f g = f ∙ sym g
+  answer_replies_one (Some Law) X a b f g = f ∙ sym g
+  answer_replies_one (Some Word) X a b f g = f ∙ sym g
+  answer_replies_one (Some Order) X a b f g = f ∙ sym g
+  answer_replies_one (Some Period) X a b f g = f ∙ sym g
+  answer_replies_one (Some Apart) X a b f g = f ∙ sym g
+  answer_replies_one (Some (Outcome code Y)) X a b f g = f ∙ sym g
+  answer_replies_one (Some Limit) X a b f g = f ∙ sym g
+  answer_replies_one (Some Memory) X a b f g = f ∙ sym g
+  answer_replies_one None X a b f g = f ∙ sym g
 
   plays_one : (old : Jobs) (X : List ℕ) (o : Option JobView) (a b : Reply) (m n : Jobs)
       → Plays old X o a m → Plays old X o b n → (a ≡ b) × (m ≡ n)
-  plays_one old X (Some job) a b m n f g = (advices_one job.ended X a b f.0 g.0, f.1 ∙ sym g.1)
+  plays_one old X (Some job) a b m n f g = (answer_replies_one job.ended X a b f.0 g.0, f.1 ∙ sym g.1)
   plays_one old X None a b m n f g = (f.0 ∙ sym g.0, f.1 ∙ sym g.1)
 
   works_one : (old : Jobs) (j u : ℕ) (o : Option JobView) (a b : Reply) (m n : Jobs)
@@ -116,15 +116,15 @@ module _ (right_one : (code X : List ℕ) (a b : Advice) → IsRightAnswer code 
   serves_one old (Ask j X) a b m n f g = asks_one old X (old j) a b m n f g
   serves_one old (Play j X) a b m n f g = plays_one old X (old j) a b m n f g
 
-  starves_nine : (state : State) (old : Jobs) (j u : ℕ) (o : Option JobView) (a : Reply) (m : Jobs)
-      → Starves cost verdict state old j u o a m → is_nine a ≡ true
-  starves_nine state old j u (Some job) a m f = ap is_nine f.3
-  starves_nine state old j u None a m f = absurd f
+  runs_out_nine : (state : State) (old : Jobs) (j u : ℕ) (o : Option JobView) (a : Reply) (m : Jobs)
+      → RunsOut cost verdict state old j u o a m → is_nine a ≡ true
+  runs_out_nine state old j u (Some job) a m f = ap is_nine f.3
+  runs_out_nine state old j u None a m f = absurd f
 
   refuses_nine : (state : State) (old : Jobs) (e : Event) (a : Reply) (m : Jobs)
       → Refuses cost verdict state old e a m → is_nine a ≡ true
   refuses_nine state old (Open bytes limit) a m f = ap is_nine f.2
-  refuses_nine state old (Work j u) a m f = starves_nine state old j u (old j) a m f
+  refuses_nine state old (Work j u) a m f = runs_out_nine state old j u (old j) a m f
   refuses_nine state old (Drop j) a m f = absurd f
   refuses_nine state old (Ask j X) a m f = absurd f
   refuses_nine state old (Play j X) a m f = absurd f
@@ -182,7 +182,7 @@ module _ (right_one : (code X : List ℕ) (a b : Advice) → IsRightAnswer code 
       → Works cost verdict old j u o a m → is_refused a ≡ true → m ≡ old
   works_kept old j u (Some job) a m f undone =
       let done : is_refused a ≡ false =
-      ap is_refused f.0 ∙ told_done (worked cost verdict job u).ended in
+      ap is_refused f.0 ∙ reply_done (worked cost verdict job u).ended in
       absurd (cc)
   works_kept old j u None a m f undone = f.1
 
@@ -205,16 +205,16 @@ module _ (right_one : (code X : List ℕ) (a b : Advice) → IsRightAnswer code 
   serves_kept old (Ask j X) a m f undone = asks_kept old X (old j) a m f
   serves_kept old (Play j X) a m f undone = plays_kept old X (old j) a m f
 
-  starves_kept : (state : State) (old : Jobs) (j u : ℕ) (o : Option JobView) (a : Reply) (m : Jobs)
-      → Starves cost verdict state old j u o a m → is_refused a ≡ true → m ≡ old
-  starves_kept state old j u (Some job) a m f undone = let done : is_refused a ≡ false =
+  runs_out_kept : (state : State) (old : Jobs) (j u : ℕ) (o : Option JobView) (a : Reply) (m : Jobs)
+      → RunsOut cost verdict state old j u o a m → is_refused a ≡ true → m ≡ old
+  runs_out_kept state old j u (Some job) a m f undone = let done : is_refused a ≡ false =
       ap is_refused f.3 in absurd (cc)
-  starves_kept state old j u None a m f undone = absurd f
+  runs_out_kept state old j u None a m f undone = absurd f
 
   refuses_kept : (state : State) (old : Jobs) (e : Event) (a : Reply) (m : Jobs)
       → Refuses cost verdict state old e a m → is_refused a ≡ true → m ≡ old
   refuses_kept state old (Open bytes limit) a m f undone = f.3
-  refuses_kept state old (Work j u) a m f undone = starves_kept state old j u (old j) a m f undone
+  refuses_kept state old (Work j u) a m f undone = runs_out_kept state old j u (old j) a m f undone
   refuses_kept state old (Drop j) a m f undone = absurd f
   refuses_kept state old (Ask j X) a m f undone = absurd f
   refuses_kept state old (Play j X) a m f undone = absurd f

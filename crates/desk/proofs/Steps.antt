@@ -6,10 +6,10 @@ use Rattle.answers.specs.Answers.Answer.{Memory}
 use Rattle.checker.specs.Turns.{cost, verdict}
 use Rattle.checker.specs.JobViews.{JobView}
 use Rattle.desk.specs.Places.{place_of}
-use Rattle.desk.specs.Machine.{Jobs, State, Event, Reply, Serves, Step, Starves, Works, Opens, Drops, NoneAsFar, is_free, least_free, with_job, with_jobs, fresh, worked, starved}
+use Rattle.desk.specs.Machine.{Jobs, State, Event, Reply, Serves, Step, RunsOut, Works, Opens, Drops, NoneAsFar, is_free, least_free, with_job, with_jobs, fresh, worked, out_of_memory}
 use Rattle.desk.specs.Machine.Event.{Work, Open, Drop}
 use Rattle.desk.specs.Machine.Reply.{Opened, Dropped, Full, NoJob, NoMemory}
-use Rattle.desk.specs.Deeds.{told_of}
+use Rattle.desk.specs.Deeds.{shown_reply}
 use Rattle.desk.specs.Desks.{job_at, state_of, IsWith, NoneAsFarIn, HaveWorked}
 use Rattle.desk.proofs.Lists.{with_here}
 use Rattle.desk.proofs.Places.{state_with}
@@ -41,12 +41,12 @@ first_at jobs bytes limit spent first =
 module _ (old new : List (Option JobView)) (c n units : ℕ) where
   pub work_nowhere : place_of c n ≡ None
       → Step cost verdict (state_of old) (record { client = c; event = Work n units })
-      (told_of (state_of old c n)) (state_of old)
+      (shown_reply (state_of old c n)) (state_of old)
   work_nowhere at =
       let none : state_of old c n ≡ None = ap (job_at old) at in (
         state_of old c,
         inl (subst
-            (λ (q : Option JobView). Works cost verdict (state_of old c) n units q (told_of q)
+            (λ (q : Option JobView). Works cost verdict (state_of old c) n units q (shown_reply q)
             (state_of old c)) (sym none) (refl, refl)),
         with_same (state_of old) c,
       )
@@ -54,15 +54,15 @@ module _ (old new : List (Option JobView)) (c n units : ℕ) where
   work_case : (place : ℕ) → place_of c n ≡ Some place → (o : Option JobView)
       → get_or old place None ≡ o → HaveWorked old place o units new
       → Step cost verdict (state_of old) (record { client = c; event = Work n units })
-      (told_of (state_of new c n)) (state_of new)
+      (shown_reply (state_of new c n)) (state_of new)
   work_case place at None is same =
       let none : state_of old c n ≡ None = state_at old c n place at ∙ is in
       subst (λ (jobs : List (Option JobView)). Step cost verdict (state_of old)
-      (record { client = c; event = Work n units }) (told_of (state_of jobs c n))
+      (record { client = c; event = Work n units }) (shown_reply (state_of jobs c n))
       (state_of jobs)) (sym same) (
         state_of old c,
         inl (subst
-            (λ (q : Option JobView). Works cost verdict (state_of old c) n units q (told_of q)
+            (λ (q : Option JobView). Works cost verdict (state_of old c) n units q (shown_reply q)
             (state_of old c)) (sym none) (refl, refl)),
         with_same (state_of old) c,
       )
@@ -75,33 +75,33 @@ module _ (old new : List (Option JobView)) (c n units : ℕ) where
         jobs,
         inl (subst
             (λ (q : Option JobView). Works cost verdict (state_of old c) n units q
-            (told_of (state_of new c n)) jobs) (sym here) (ap told_of now, refl)),
+            (shown_reply (state_of new c n)) jobs) (sym here) (ap shown_reply now, refl)),
         state_with old new c n place (Some (worked cost verdict job units)) at with,
       )
   work_case place at (Some job) is (inr wanting) =
       let here : state_of old c n ≡ Some job = state_at old c n place at ∙ is in
-      let now : state_of new c n ≡ Some (starved job) =
-      state_at new c n place at ∙ with_here old new place (Some (starved job)) wanting.jobs_are
+      let now : state_of new c n ≡ Some (out_of_memory job) =
+      state_at new c n place at ∙ with_here old new place (Some (out_of_memory job)) wanting.jobs_are
       in
-      let jobs : Jobs = with_job (state_of old c) n (Some (starved job)) in (
+      let jobs : Jobs = with_job (state_of old c) n (Some (out_of_memory job)) in (
         jobs,
         inr (subst
-            (λ (q : Option JobView). Starves cost verdict (state_of old) (state_of old c) n units q
-            (told_of (state_of new c n)) jobs) (sym here) (
+            (λ (q : Option JobView). RunsOut cost verdict (state_of old) (state_of old c) n units q
+            (shown_reply (state_of new c n)) jobs) (sym here) (
               wanting.going,
               wanting.within,
               first_at old job.bytes job.limit (min (job.spent + units) (cost job.bytes job.limit))
                   wanting.first,
-              ap told_of now,
+              ap shown_reply now,
               refl,
             )),
-        state_with old new c n place (Some (starved job)) at wanting.jobs_are,
+        state_with old new c n place (Some (out_of_memory job)) at wanting.jobs_are,
       )
 
   pub work_step : (place : ℕ) → place_of c n ≡ Some place
       → HaveWorked old place (get_or old place None) units new
       → Step cost verdict (state_of old) (record { client = c; event = Work n units })
-      (told_of (state_of new c n)) (state_of new)
+      (shown_reply (state_of new c n)) (state_of new)
   work_step place at h = work_case place at (get_or old place None) refl h
 
 module _ (old new : List (Option JobView)) (c : ℕ) (bytes : List ℕ) (limit : ℕ) where

@@ -9,21 +9,21 @@ use Rattle.desk.specs.declared.deed.Deed.{Deed}
 use Rattle.desk.specs.declared.deed.Deed.TheVariants as done
 use Rattle.desk.specs.declared.reply.StepFault.{StepFault}
 use Rattle.desk.specs.declared.reply.StepFault.TheVariants as fault
-use Rattle.desk.specs.Machine.{Jobs, Reply, told}
-use Rattle.desk.specs.Machine.Reply.{Opened, Dropped, Tells, Advises, NoJob}
+use Rattle.desk.specs.Machine.{Jobs, Reply, work_reply}
+use Rattle.desk.specs.Machine.Reply.{Opened, Dropped, OutcomeIs, AnswerIs, NoJob}
 use Rattle.desk.specs.Replies.{refusal}
 
 -- what is said of a job, if there is one
-abbrev pub told_of : Option JobView → Reply
-told_of (Some job) = told job.ended
-told_of None = NoJob
+abbrev pub shown_reply : Option JobView → Reply
+shown_reply (Some job) = work_reply job.ended
+shown_reply None = NoJob
 
 abbrev pub meant : Jobs → Deed → Reply
 meant jobs (done.Opened number) = Opened number
-meant jobs (done.Shown number) = told_of (jobs number)
+meant jobs (done.Shown number) = shown_reply (jobs number)
 meant jobs done.Dropped = Dropped
-meant jobs (done.Told outcome) = Tells outcome
-meant jobs (done.Advised advice) = Advises advice
+meant jobs (done.Outcome outcome) = OutcomeIs outcome
+meant jobs (done.Answer answer) = AnswerIs answer
 meant jobs (done.Refused fault) = refusal fault
 
 -- the certificate of a job with this ending

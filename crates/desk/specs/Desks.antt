@@ -4,7 +4,7 @@ use Rattle.answers.specs.Answers.Answer.{Memory}
 use Rattle.checker.specs.JobViews.{JobView}
 use Rattle.checker.specs.Turns.{cost, verdict}
 use Rattle.desk.specs.declared.slot.Slot.{Slot}
-use Rattle.desk.specs.Machine.{Jobs, State, Event, Reply, Serves, Step, fresh, starved, worked}
+use Rattle.desk.specs.Machine.{Jobs, State, Event, Reply, Serves, Step, fresh, out_of_memory, worked}
 use Rattle.desk.specs.Places.{place_of}
 use Rattle.desk.specs.Slots.{job_of, StandsBeside}
 
@@ -78,7 +78,7 @@ pub record IsStarvedAt (old : List (Option JobView)) (place : ℕ) (job : JobVie
   pub within : job.spent ≤ cost job.bytes job.limit
   pub first : NoneAsFarIn old job.bytes job.limit
       (min (job.spent + units) (cost job.bytes job.limit))
-  pub jobs_are : IsWith old place (Some (starved job)) new
+  pub jobs_are : IsWith old place (Some (out_of_memory job)) new
 
 -- the jobs after that of this place worked
 abbrev pub HaveWorked : List (Option JobView) → ℕ → Option JobView → ℕ → List (Option JobView)

@@ -9,7 +9,7 @@ use Rattle.answers.specs.Answers.{Answer}
 use Rattle.answers.specs.Answers.Answer.{Yes, Memory}
 use Rattle.checker.specs.JobViews.{JobView}
 use Rattle.player.specs.Answers.{IsRightAnswer, SpeaksOf}
-use Rattle.player.specs.declared.answering.Answer.{Answer as Advice}
+use Rattle.player.specs.declared.answering.Answer.{Answer as PlayAnswer}
 
 -- a client's open jobs, by their numbers 1 to 4
 abbrev pub Jobs : Type 0
@@ -31,10 +31,10 @@ pub data Event : Type 0 where
 pub data Reply : Type 0 where
   Opened : ℕ → Reply
   Going : Reply
-  Says : Answer → Reply
+  VerdictIs : Answer → Reply
   Dropped : Reply
-  Tells : Outcome → Reply
-  Advises : Advice → Reply
+  OutcomeIs : Outcome → Reply
+  AnswerIs : PlayAnswer → Reply
   Full : Reply
   NoJob : Reply
   NotCertified : Reply
@@ -65,13 +65,13 @@ abbrev pub fresh : List ℕ → ℕ → JobView
 fresh bytes limit = record { bytes = bytes; limit = limit; spent = 0; ended = None }
 
 -- the job ended for want of memory
-abbrev pub starved : JobView → JobView
-starved job = record job { ended = Some Memory }
+abbrev pub out_of_memory : JobView → JobView
+out_of_memory job = record job { ended = Some Memory }
 
 -- what is said of a job with this ending
-abbrev pub told : Option Answer → Reply
-told None = Going
-told (Some a) = Says a
+abbrev pub work_reply : Option Answer → Reply
+work_reply None = Going
+work_reply (Some a) = VerdictIs a
 
 abbrev pub Opens : Jobs → List ℕ → ℕ → Option ℕ → Reply → Jobs → Type 0
 Opens old bytes limit (Some number) reply new = (reply ≡ Opened number)
@@ -88,29 +88,29 @@ abbrev pub IsBeyond : Certificate → List ℕ → Reply → Type 0
 IsBeyond c X reply = (c.period ≡ 0) × (SpeaksOf c X → ⊥) × (reply ≡ Beyond)
 
 -- the outcome of a position of which it speaks
-abbrev pub Told : Certificate → List ℕ → Reply → Type 0
-Told c X reply = SpeaksOf c X × ((o : Outcome) × (reply ≡ Tells o) × HasOutcome c.code X o)
+abbrev pub IsOutcomeReply : Certificate → List ℕ → Reply → Type 0
+IsOutcomeReply c X reply = SpeaksOf c X × ((o : Outcome) × (reply ≡ OutcomeIs o) × HasOutcome c.code X o)
 
 -- what to play in it
-abbrev pub Advised : Certificate → List ℕ → Reply → Type 0
-Advised c X reply = SpeaksOf c X × ((a : Advice) × (reply ≡ Advises a) × IsRightAnswer c.code X a)
+abbrev pub IsAnswerReply : Certificate → List ℕ → Reply → Type 0
+IsAnswerReply c X reply = SpeaksOf c X × ((a : PlayAnswer) × (reply ≡ AnswerIs a) × IsRightAnswer c.code X a)
 
 -- the outcome of a position by a job that has ended with yes, of which the certificate speaks
-abbrev pub Outcomes : Option Answer → List ℕ → Reply → Type 0
-Outcomes (Some (Yes c)) X reply = Told c X reply ⊎ IsBeyond c X reply
-Outcomes other X reply = reply ≡ NotCertified
+abbrev pub OutcomeReplies : Option Answer → List ℕ → Reply → Type 0
+OutcomeReplies (Some (Yes c)) X reply = IsOutcomeReply c X reply ⊎ IsBeyond c X reply
+OutcomeReplies other X reply = reply ≡ NotCertified
 
 -- what to play there, by such a job
-abbrev pub Advices : Option Answer → List ℕ → Reply → Type 0
-Advices (Some (Yes c)) X reply = Advised c X reply ⊎ IsBeyond c X reply
-Advices other X reply = reply ≡ NotCertified
+abbrev pub AnswerReplies : Option Answer → List ℕ → Reply → Type 0
+AnswerReplies (Some (Yes c)) X reply = IsAnswerReply c X reply ⊎ IsBeyond c X reply
+AnswerReplies other X reply = reply ≡ NotCertified
 
 abbrev pub Asks : Jobs → List ℕ → Option JobView → Reply → Jobs → Type 0
-Asks old X (Some job) reply new = Outcomes job.ended X reply × (new ≡ old)
+Asks old X (Some job) reply new = OutcomeReplies job.ended X reply × (new ≡ old)
 Asks old X None reply new = (reply ≡ NoJob) × (new ≡ old)
 
 abbrev pub Plays : Jobs → List ℕ → Option JobView → Reply → Jobs → Type 0
-Plays old X (Some job) reply new = Advices job.ended X reply × (new ≡ old)
+Plays old X (Some job) reply new = AnswerReplies job.ended X reply × (new ≡ old)
 Plays old X None reply new = (reply ≡ NoJob) × (new ≡ old)
 
 -- No open job that hasn't ended for want of memory has these bytes and this limit and has spent so
@@ -136,7 +136,7 @@ module _ (cost : List ℕ → ℕ → ℕ) (verdict : List ℕ → ℕ → Answe
   worked job units = worked_on job.ended job units
 
   abbrev pub Works : Jobs → ℕ → ℕ → Option JobView → Reply → Jobs → Type 0
-  Works old number units (Some job) reply new = (reply ≡ told (worked job units).ended)
+  Works old number units (Some job) reply new = (reply ≡ work_reply (worked job units).ended)
       × (new ≡ with_job old number (Some (worked job units)))
   Works old number units None reply new = (reply ≡ NoJob) × (new ≡ old)
 
@@ -151,12 +151,12 @@ module _ (cost : List ℕ → ℕ → ℕ) (verdict : List ℕ → ℕ → Answe
 
   -- The job that was to work ends for want of memory. It goes on until then, and no equal job is as
   -- far as it was to come.
-  abbrev pub Starves : State → Jobs → ℕ → ℕ → Option JobView → Reply → Jobs → Type 0
-  Starves state old number units (Some job) reply new =
+  abbrev pub RunsOut : State → Jobs → ℕ → ℕ → Option JobView → Reply → Jobs → Type 0
+  RunsOut state old number units (Some job) reply new =
       (job.ended ≡ None) × (job.spent ≤ cost job.bytes job.limit)
       × NoneAsFar state job.bytes job.limit (min (job.spent + units) (cost job.bytes job.limit))
-      × (reply ≡ Says Memory) × (new ≡ with_job old number (Some (starved job)))
-  Starves state old number units None reply new = ⊥
+      × (reply ≡ VerdictIs Memory) × (new ≡ with_job old number (Some (out_of_memory job)))
+  RunsOut state old number units None reply new = ⊥
 
   -- The same where memory is refused, to a client with those jobs in the state. Only Open and Work
   -- take any.
@@ -164,7 +164,7 @@ module _ (cost : List ℕ → ℕ → ℕ) (verdict : List ℕ → ℕ → Answe
   Refuses state old (Open bytes limit) reply new = (least_free old ≢ None)
       × NoneAsFar state bytes limit 0 × (reply ≡ NoMemory) × (new ≡ old)
   Refuses state old (Work number units) reply new =
-      Starves state old number units (old number) reply new
+      RunsOut state old number units (old number) reply new
   Refuses state old other reply new = ⊥
 
   -- A step where memory is refused to nobody: the client's jobs and its event decide it, and no

@@ -10,7 +10,7 @@ use Rattle.desk.specs.declared.reply.StepFault.{StepFault}
 use Rattle.desk.specs.declared.reply.StepFault.TheVariants as fault
 use Rattle.desk.specs.Machine.{Event, Reply}
 use Rattle.desk.specs.Machine.Event.{Open, Work, Drop, Ask, Play}
-use Rattle.desk.specs.Machine.Reply.{Opened, Going, Says, Dropped, Tells, Advises, Full, NoJob, NotCertified, Beyond, NoMemory}
+use Rattle.desk.specs.Machine.Reply.{Opened, Going, VerdictIs, Dropped, OutcomeIs, AnswerIs, Full, NoJob, NotCertified, Beyond, NoMemory}
 
 abbrev pub event_of : {A : Type 0} → EventGiven A → Event
 event_of (given.Open bytes limit) = Open bytes.items limit
@@ -29,11 +29,11 @@ refusal fault.Memory = NoMemory
 abbrev pub reply_of : {A : Type 0} → ReplyGiven A → Reply
 reply_of (answered.Opened number) = Opened number
 reply_of answered.Going = Going
-reply_of (answered.Yes c) = Says (Accepts c.now)
-reply_of (answered.No r) = Says (refused r.now)
+reply_of (answered.Yes c) = VerdictIs (Accepts c.now)
+reply_of (answered.No r) = VerdictIs (refused r.now)
 reply_of answered.Dropped = Dropped
-reply_of (answered.Outcome outcome) = Tells outcome
-reply_of (answered.Answer advice) = Advises advice
+reply_of (answered.Outcome outcome) = OutcomeIs outcome
+reply_of (answered.Answer answer) = AnswerIs answer
 reply_of (answered.Refused f) = refusal f
 
 -- the numbers and names under which faults are printed

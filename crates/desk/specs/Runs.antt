@@ -3,7 +3,7 @@ use Rattle.std.specs.Prelude.{◌≡◌, ℕ, ◌==◌, Bool, true, false, if◌
 use Rattle.answers.specs.Answers.{Answer}
 use Rattle.answers.specs.Answers.Answer.{Memory}
 use Rattle.desk.specs.Machine.{State, Call, Reply, AmpleStep}
-use Rattle.desk.specs.Machine.Reply.{Says, Full, NoJob, NotCertified, Beyond, NoMemory}
+use Rattle.desk.specs.Machine.Reply.{VerdictIs, Full, NoJob, NotCertified, Beyond, NoMemory}
 
 -- a new desk
 abbrev pub nothing_open : State
@@ -34,7 +34,7 @@ replies_to client (call ∷ calls) (reply ∷ replies) =
 
 -- whether it says that memory was wanting
 abbrev pub is_nine : Reply → Bool
-is_nine (Says Memory) = true
+is_nine (VerdictIs Memory) = true
 is_nine NoMemory = true
 is_nine other = false
 

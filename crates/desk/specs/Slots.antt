@@ -6,18 +6,18 @@ use Rattle.checker.specs.JobViews.{JobView}
 use Rattle.checker.specs.Turns.{cost, verdict}
 use Rattle.desk.specs.declared.slot.Slot.{Slot}
 use Rattle.desk.specs.declared.slot.Standing.{Standing}
-use Rattle.desk.specs.declared.slot.Standing.TheVariants.{Going, Ended, Starved}
+use Rattle.desk.specs.declared.slot.Standing.TheVariants.{Going, Ended, OutOfMemory}
 use Rattle.desk.specs.Machine.{worked}
 
 abbrev pub ending : Standing → Answer → Option Answer
 ending Going answer = None
 ending Ended answer = Some answer
-ending Starved answer = Some Memory
+ending OutOfMemory answer = Some Memory
 
 -- where a job stands that has come as far as its core, which has this ending
 abbrev pub standing_of : Option Answer → Standing
 standing_of None = Going
-standing_of (Some Memory) = Starved
+standing_of (Some Memory) = OutOfMemory
 standing_of (Some other) = Ended
 
 -- the job of a slot whose core was opened with these bytes and this limit
@@ -36,16 +36,16 @@ abbrev pub StandsBeside : Standing → ℕ → JobView → Type 0
 StandsBeside Going spent core = spent < cost core.bytes core.limit
 StandsBeside Ended spent core = (spent ≡ cost core.bytes core.limit)
     × (core.ended ≡ Some (verdict core.bytes core.limit))
-StandsBeside Starved spent core = spent ≤ cost core.bytes core.limit
+StandsBeside OutOfMemory spent core = spent ≤ cost core.bytes core.limit
 
 -- no job of the core that memory wasn't wanting to has spent more, and one has spent so many, if
 -- any
 pub record IsFurthest (places : List (Option Slot)) (core most : ℕ) : Type 0 where
   pub above : (i : ℕ) (s : Slot) → slice_index_or places i None ≡ Some s → s.core ≡ core
-      → s.standing ≢ Starved → s.spent ≤ most
+      → s.standing ≢ OutOfMemory → s.spent ≤ most
   pub reached : (most ≡ 0)
       ⊎ ((i : ℕ) × (s : Slot) × (slice_index_or places i None ≡ Some s) × (s.core ≡ core)
-      × (s.standing ≢ Starved) × (s.spent ≡ most))
+      × (s.standing ≢ OutOfMemory) × (s.spent ≡ most))
 
 -- The core after a slot of it has gone on, and the slot: the core goes no further than the slot's
 -- units reach.
@@ -59,5 +59,5 @@ pub record HasGoneOn (old : JobView) (furthest : ℕ) (slot : Slot) (units : ℕ
   pub core : after.core ≡ slot.core
   pub stands : StandsBeside after.standing after.spent new
   pub gone : (job_of new after ≡ worked cost verdict (job_of old slot) units)
-      ⊎ ((after.standing ≡ Starved) × (after.spent ≡ slot.spent)
+      ⊎ ((after.standing ≡ OutOfMemory) × (after.spent ≡ slot.spent)
       × (furthest < min (slot.spent + units) (cost old.bytes old.limit)))

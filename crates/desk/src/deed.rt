@@ -9,7 +9,7 @@ pub(crate) enum Deed {
     /// The job of the number is shown as it stands.
     Shown(u8),
     Dropped,
-    Told(Outcome),
-    Advised(Answer),
+    Outcome(Outcome),
+    Answer(Answer),
     Refused(StepFault),
 }

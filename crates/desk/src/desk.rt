@@ -4,7 +4,7 @@ use crate::deed::Deed;
 use crate::event::Event;
 use crate::jobs::{certified_at, free_number, give_up_at, nobody, open_at, show_at, work_at};
 use crate::reply::{Reply, StepFault};
-use crate::saying::{advised, told};
+use crate::saying::{answer_deed, outcome_deed};
 use crate::slot::Slot;
 use allocation::Room;
 use checker::{Certified, Job, Refusal};
@@ -143,7 +143,7 @@ impl<A: Room + Copy> Desk<A> {
             (meant (state_of self.now client) result) }
     {
         match self.certified(client, number) {
-            Ok(certified) => told(certified, position),
+            Ok(certified) => outcome_deed(certified, position),
             Err(fault) => Deed::Refused(fault),
         }
     }
@@ -154,7 +154,7 @@ impl<A: Room + Copy> Desk<A> {
             (meant (state_of self.now client) result) }
     {
         match self.certified(client, number) {
-            Ok(certified) => advised(certified, position),
+            Ok(certified) => answer_deed(certified, position),
             Err(fault) => Deed::Refused(fault),
         }
     }
@@ -184,8 +184,8 @@ impl<A: Room> Desk<A> {
             Deed::Opened(number) => Reply::Opened(number),
             Deed::Shown(number) => self.show(client, number),
             Deed::Dropped => Reply::Dropped,
-            Deed::Told(outcome) => Reply::Outcome(outcome),
-            Deed::Advised(answer) => Reply::Answer(answer),
+            Deed::Outcome(outcome) => Reply::Outcome(outcome),
+            Deed::Answer(answer) => Reply::Answer(answer),
             Deed::Refused(fault) => Reply::Refused(fault),
         }
     }

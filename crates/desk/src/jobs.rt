@@ -3,7 +3,7 @@ ghost use Rattle.std.specs.Prelude.{◌≡◌, ◌<◌, ℕ, None, Some, length,
 ghost use Rattle.answers.specs.Answers.{refused};
 ghost use Rattle.answers.specs.Answers.Answer.{Memory as no_memory};
 ghost use Rattle.desk.specs.Machine.{fresh, is_free, least_free};
-ghost use Rattle.desk.specs.Deeds.{told_of, Certifies};
+ghost use Rattle.desk.specs.Deeds.{shown_reply, Certifies};
 ghost use Rattle.desk.specs.Replies.{reply_of};
 ghost use Rattle.desk.specs.Desks.{IsDesk, IsWith, NoneAsFarIn, HaveWorked, jobs_in, job_in, slot_at, slots_of};
 
@@ -170,14 +170,14 @@ pub(crate) fn show_at<'a, A: Room>(
     requires desk { IsDesk places.now cores.now.items }
     requires memory { refused memory.now ≡ no_memory }
     requires place { place < length places.now }
-    ensures { reply_of result ≡ told_of (job_in cores.now.items (slot_at places.now place)) }
+    ensures { reply_of result ≡ shown_reply (job_in cores.now.items (slot_at places.now place)) }
 {
     let Some(slot) = places[place] else {
         return Reply::Refused(StepFault::NoJob);
     };
     match slot.standing {
         Standing::Going => Reply::Going,
-        Standing::Starved => Reply::No(memory),
+        Standing::OutOfMemory => Reply::No(memory),
         Standing::Ended => match &cores[slot.core] {
             Some(core) => match core.progress() {
                 Progress::Yes(certified) => Reply::Yes(certified),

@@ -2,7 +2,7 @@
 ghost use Rattle.std.specs.Prelude.{Some};
 ghost use Rattle.answers.specs.Answers.Answer.{Yes};
 ghost use Rattle.desk.specs.Deeds.{meant};
-ghost use Rattle.desk.specs.Machine.{Jobs, Advices, Outcomes};
+ghost use Rattle.desk.specs.Machine.{Jobs, AnswerReplies, OutcomeReplies};
 
 use crate::deed::Deed;
 use crate::reply::StepFault;
@@ -12,22 +12,22 @@ use player::{answer, fits, outcome};
 use positions::Position;
 
 /// The outcome of the position, where the certificate speaks of it.
-pub(crate) fn told<A: Room>(certified: &Certified<A>, position: &Position<A>) -> Deed
-    ensures { (jobs : Jobs) → Outcomes (Some (Yes certified.now)) position.now (meant jobs result) }
+pub(crate) fn outcome_deed<A: Room>(certified: &Certified<A>, position: &Position<A>) -> Deed
+    ensures { (jobs : Jobs) → OutcomeReplies (Some (Yes certified.now)) position.now (meant jobs result) }
 {
     if fits(certified, position) {
-        Deed::Told(outcome(certified, position))
+        Deed::Outcome(outcome(certified, position))
     } else {
         Deed::Refused(StepFault::Beyond)
     }
 }
 
 /// What to play in the position, where the certificate speaks of it.
-pub(crate) fn advised<A: Room>(certified: &Certified<A>, position: &Position<A>) -> Deed
-    ensures { (jobs : Jobs) → Advices (Some (Yes certified.now)) position.now (meant jobs result) }
+pub(crate) fn answer_deed<A: Room>(certified: &Certified<A>, position: &Position<A>) -> Deed
+    ensures { (jobs : Jobs) → AnswerReplies (Some (Yes certified.now)) position.now (meant jobs result) }
 {
     if !fits(certified, position) {
         return Deed::Refused(StepFault::Beyond);
     }
-    Deed::Advised(answer(certified, position))
+    Deed::Answer(answer(certified, position))
 }

@@ -15,7 +15,7 @@ pub(crate) enum Standing {
     /// It has its core's answer.
     Ended,
     /// Memory was wanting.
-    Starved,
+    OutOfMemory,
 }
 
 /// A job: the place of its core, the units that it has spent, and where it stands.
@@ -55,7 +55,7 @@ pub(crate) fn go_on<A: Room + Copy>(
     }
     core.work(target - done);
     let standing = standing_of(core);
-    if standing == Standing::Starved {
+    if standing == Standing::OutOfMemory {
         core.again();
         return Slot { standing, ..slot };
     }
@@ -72,7 +72,7 @@ fn standing_of<A: Room>(core: &Job<A>) -> Standing
 {
     match core.progress() {
         Progress::Going => Standing::Going,
-        Progress::No(Refusal::Memory) => Standing::Starved,
+        Progress::No(Refusal::Memory) => Standing::OutOfMemory,
         _ => Standing::Ended,
     }
 }
@@ -104,7 +104,7 @@ pub(crate) fn furthest(places: &[Option<Slot>], core: usize) -> u64
     let mut most = 0;
     for place in places {
         if let Some(slot) = place {
-            if slot.core == core && slot.standing != Standing::Starved && slot.spent > most {
+            if slot.core == core && slot.standing != Standing::OutOfMemory && slot.spent > most {
                 most = slot.spent;
             }
         }

@@ -5,7 +5,7 @@ use Rattle.positions.specs.declared.outcome.Outcome.TheVariants.{P, N}
 use Rattle.play_command.specs.Lines.{answer_line}
 use Rattle.verdict_texts.specs.Lines.{first_line}
 use Rattle.desk.specs.Machine.{Reply}
-use Rattle.desk.specs.Machine.Reply.{Opened, Going, Says, Dropped, Tells, Advises, Full, NoJob, NotCertified, Beyond, NoMemory}
+use Rattle.desk.specs.Machine.Reply.{Opened, Going, VerdictIs, Dropped, OutcomeIs, AnswerIs, Full, NoJob, NotCertified, Beyond, NoMemory}
 
 abbrev pub opened_line : ℕ → List ℕ
 opened_line number = codes "opened " ++ decimal number ++ codes "\n"
@@ -19,10 +19,10 @@ outcome_line N = codes "N\n"
 abbrev pub IsLineOf : Reply → List ℕ → Type 0
 IsLineOf (Opened number) text = text ≡ opened_line number
 IsLineOf Going text = text ≡ codes "going\n"
-IsLineOf (Says answer) text = text ≡ first_line answer
+IsLineOf (VerdictIs answer) text = text ≡ first_line answer
 IsLineOf Dropped text = text ≡ codes "dropped\n"
-IsLineOf (Tells outcome) text = text ≡ outcome_line outcome
-IsLineOf (Advises answer) text = text ≡ answer_line answer
+IsLineOf (OutcomeIs outcome) text = text ≡ outcome_line outcome
+IsLineOf (AnswerIs answer) text = text ≡ answer_line answer
 IsLineOf Full text = text ≡ codes "refused 20 Full\n"
 IsLineOf NoJob text = text ≡ codes "refused 21 NoJob\n"
 IsLineOf NotCertified text = text ≡ codes "refused 22 NotCertified\n"

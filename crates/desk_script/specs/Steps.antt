@@ -1,5 +1,6 @@
 -- The steps of a desk's script, and the lines that spell them. This project's own.
 use Rattle.std.specs.Prelude.{◌≡◌, ◌≢◌, ◌⊎◌, ◌≤◌, ◌<◌, ◌^◌, ℕ, List, [], ◌∷◌, ◌++◌, All, IsUtf8, codes, decimal}
+use Rattle.positions.specs.declared.position.TheConstants.{MOST_SIZES, LARGEST_HEAP}
 use Rattle.positions.specs.Text.{IsTextOf, IsNoPositionText, HasTooMany, HasTooLarge}
 
 -- Open client file limit, Work client job units, Drop client job, Ask client job position, Play
@@ -43,8 +44,8 @@ IsFileName file = (file ≢ []) × Lacks 32 file
 
 -- the text isn't that of at most 64 sizes up to 10^18
 abbrev pub IsNoPosition : List ℕ → Type 0
-IsNoPosition text = IsNoPositionText text ⊎ HasTooMany 64 text
-    ⊎ HasTooLarge 64 1000000000000000000 text
+IsNoPosition text = IsNoPositionText text ⊎ HasTooMany MOST_SIZES text
+    ⊎ HasTooLarge MOST_SIZES LARGEST_HEAP text
 
 -- the text is that of the position
 abbrev pub IsPosition : List ℕ → List ℕ → Type 0

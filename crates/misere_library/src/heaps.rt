@@ -5,14 +5,14 @@ ghost use Rattle.positions.specs.Positions.{IsSize};
 
 use allocation::Memory;
 use answers::Certified;
-use positions::{LARGEST, Position};
+use positions::{LARGEST_HEAP, Position};
 use std::alloc::Global;
 
 /// Whether each of the numbers is the size of a heap.
 pub(crate) fn are_sizes(heaps: &[u64]) -> bool
     ensures { IsTrue result ↔ All IsSize heaps.now }
 {
-    heaps.iter().all(|heap| *heap >= 1 && *heap <= LARGEST)
+    heaps.iter().all(|heap| *heap >= 1 && *heap <= LARGEST_HEAP)
 }
 
 /// Whether no heap is larger than `last`.

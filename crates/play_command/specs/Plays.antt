@@ -2,6 +2,7 @@
 -- project's own.
 use Rattle.std.specs.Prelude.{◌≡◌, ◌<◌, ◌⊎◌, ⊤, ℕ, Bool, true, false, List, Option, Result, Ok, Err, Vec}
 use Rattle.misere_theory.specs.Certificates.{Certificate}
+use Rattle.positions.specs.declared.position.TheConstants.{MOST_SIZES, LARGEST_HEAP}
 use Rattle.positions.specs.Text.{IsNoPositionText, IsTextOf, HasTooMany, HasTooLarge}
 use Rattle.player.specs.Answers.{IsRightAnswer, SpeaksOf}
 use Rattle.player.specs.declared.answering.Answer.{Answer}
@@ -47,8 +48,8 @@ Plays files file limit position text false =
 
 -- the text is not that of at most 64 sizes up to 10^18
 abbrev pub IsNoPosition : List ℕ → Type 0
-IsNoPosition text = IsNoPositionText text ⊎ HasTooMany 64 text
-    ⊎ HasTooLarge 64 1000000000000000000 text
+IsNoPosition text = IsNoPositionText text ⊎ HasTooMany MOST_SIZES text
+    ⊎ HasTooLarge MOST_SIZES LARGEST_HEAP text
 
 -- the text isn't that of a position, or memory was wanting
 abbrev pub IsPositionCause : List ℕ → Stop → Type 0

@@ -15,4 +15,4 @@ pub use heap_options::{
 };
 pub use moves::{Move, MoveFault, apply};
 pub use outcome::Outcome;
-pub use position::{INLINE, LARGEST, MOST, Position};
+pub use position::{INLINE, LARGEST_HEAP, MOST_SIZES, Position};

@@ -12,10 +12,10 @@ use std::hash::{Hash, Hasher};
 use std::marker::Model;
 
 /// The largest heap: 10^18.
-pub const LARGEST: u64 = 1_000_000_000_000_000_000;
+pub const LARGEST_HEAP: u64 = 1_000_000_000_000_000_000;
 
 /// The most sizes in the text of a position. A position itself may have more heaps.
-pub const MOST: usize = 64;
+pub const MOST_SIZES: usize = 64;
 
 /// How many heaps lie in the position itself. More of them lie in an allocation.
 pub const INLINE: usize = 8;

@@ -3,7 +3,7 @@ ghost use Rattle.std.specs.Prelude.{◌≡◌, ◌↔◌, IfOk, IsTrue, codes};
 ghost use Rattle.positions.specs.Text.{HasTooLarge, HasTooMany, IsNoPositionText, IsTextOf};
 
 use crate::fault::PositionFault;
-use crate::position::{INLINE, LARGEST, MOST, Position};
+use crate::position::{INLINE, LARGEST_HEAP, MOST_SIZES, Position};
 use crate::survey::survey_of;
 use allocation::Room;
 
@@ -15,9 +15,9 @@ impl<A: Room + Copy> Position<A> {
     pub fn read(alloc: A, text: &[u8]) -> Result<Position<A>, PositionFault>
         ensures ok { IfOk result (IsTextOf text.now) }
         ensures text { (result ≡ Err PositionFault.Text) ↔ IsNoPositionText text.now }
-        ensures too_many { (result ≡ Err PositionFault.TooMany) ↔ HasTooMany MOST text.now }
+        ensures too_many { (result ≡ Err PositionFault.TooMany) ↔ HasTooMany MOST_SIZES text.now }
         ensures too_large { (result ≡ Err PositionFault.TooLarge)
-            ↔ HasTooLarge MOST LARGEST text.now }
+            ↔ HasTooLarge MOST_SIZES LARGEST_HEAP text.now }
         ensures memory { result ≡ Err PositionFault.Memory → HasTooMany INLINE text.now }
     {
         if is_zero(text) {
@@ -26,7 +26,7 @@ impl<A: Room + Copy> Position<A> {
         let Some(survey) = survey_of(text) else {
             return Err(PositionFault::Text);
         };
-        if survey.count > MOST {
+        if survey.count > MOST_SIZES {
             return Err(PositionFault::TooMany);
         }
         if survey.large {

@@ -3,7 +3,7 @@ ghost use Rattle.std.specs.Prelude.{◌≡◌, ◌≢◌, ◌<◌, ◌≤◌, �
 ghost use Rattle.positions.specs.Surveys.{capped, IsSurvey, IsSurveyOf};
 ghost use Rattle.positions.specs.Text.{number_of, words_of, IsNumeral};
 
-use crate::position::{LARGEST, MOST};
+use crate::position::{LARGEST_HEAP, MOST_SIZES};
 
 /// What is kept of the sizes of a text: how many they are, the first 64, and whether one is too
 /// large.
@@ -32,11 +32,11 @@ impl Survey {
         ensures { (sizes : List ℕ) → IsSurvey sizes self.old
             → IsSurvey (sizes ++ size ∷ []) self.new }
     {
-        if self.count < MOST {
+        if self.count < MOST_SIZES {
             self.sizes[self.count] = size;
         }
         self.count += 1;
-        self.large = self.large || size > LARGEST;
+        self.large = self.large || size > LARGEST_HEAP;
     }
 }
 
@@ -87,7 +87,7 @@ fn size_of(word: &[u8]) -> Option<u64>
         if *byte < b'0' || *byte > b'9' {
             return None;
         }
-        size = (10 * size + (*byte - b'0') as u64).min(LARGEST + 1);
+        size = (10 * size + (*byte - b'0') as u64).min(LARGEST_HEAP + 1);
     }
     Some(size)
 }

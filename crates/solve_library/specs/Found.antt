@@ -1,5 +1,6 @@
 -- What the search and the description of the library tell. This project's own.
 use Rattle.std.specs.Prelude.{◌≡◌, ℕ, ◌≤◌, List}
+use Rattle.misere_theory.specs.declared.TheConstants.{MOST_ENTRIES}
 use Rattle.misere_theory.specs.Certificates.{Certificate, Accepted, kind_of}
 use Rattle.octal_code.specs.Text.{IsCodeText}
 use Rattle.certificate_text.specs.Spelling.{Spells}
@@ -11,7 +12,7 @@ use Rattle.relations.specs.declared.text.Notation.TheVariants.{Plain, Latex}
 -- 0 aims at a full certificate, 1 at that of the heaps 1 to `heaps`, and 2 at that of some first heaps
 abbrev pub IsOfKind : ℕ → ℕ → ℕ → Type 0
 IsOfKind aim heaps kind = (aim ≡ 0 → kind ≡ 0) × (aim ≡ 1 → kind ≡ heaps)
-    × (aim ≡ 2 → (1 ≤ kind) × (kind ≤ 1024))
+    × (aim ≡ 2 → (1 ≤ kind) × (kind ≤ MOST_ENTRIES))
 
 -- the bytes are an accepted certificate, of at most so many elements and of a kind that is aimed at,
 -- of the code that the text spells

@@ -4,6 +4,7 @@ ghost use Rattle.solve_command.specs.Solved.{IsAimedAt};
 ghost use Rattle.solve_library.specs.Found.{IsCertificateFor, IsOfKind};
 
 use crate::numbers::{GAVE_UP, MEMORY, NOT_A_CODE, NOT_IN_RANGE};
+use misere_theory::{LARGEST_FIRST_ORDER, LARGEST_ORDER, MOST_ENTRIES};
 use requests::{Aim, DEEPEST};
 use solve_command::{SolveBounds, SolveStop, solve};
 use std::alloc::Global;
@@ -26,9 +27,10 @@ fn aim_of(asked: Asked) -> Option<Aim>
         → IsOfKind asked.aim asked.heaps kind) }
 {
     let heaps = asked.heaps;
+    let is_order = asked.order <= LARGEST_FIRST_ORDER as u32;
     match asked.aim {
-        0 if 2 <= heaps && heaps <= DEEPEST && asked.order <= 256 => Some(Aim::Whole { heaps }),
-        1 if 1 <= heaps && heaps <= 1024 => Some(Aim::Part { last: heaps }),
+        0 if 2 <= heaps && heaps <= DEEPEST && is_order => Some(Aim::Whole { heaps }),
+        1 if 1 <= heaps && heaps <= MOST_ENTRIES as u32 => Some(Aim::Part { last: heaps }),
         2 => Some(Aim::Furthest),
         _ => None,
     }
@@ -38,7 +40,7 @@ fn aim_of(asked: Asked) -> Option<Aim>
 fn are_in_range(asked: Asked) -> bool {
     let is_limit = 1 <= asked.limit && asked.limit <= 1_000_000;
     let are_rounds = 1 <= asked.rounds && asked.rounds <= 1000;
-    let is_order = 2 <= asked.order && asked.order <= 512;
+    let is_order = 2 <= asked.order && asked.order <= LARGEST_ORDER as u32;
     is_limit && are_rounds && is_order
 }
 

@@ -8,7 +8,7 @@ use checker::{Certified, check};
 use command_results::Said;
 use outcome_search::{Outcome, outcome};
 use player::fits;
-use positions::{LARGEST, Left, Position, options};
+use positions::{LARGEST_HEAP, Left, Position, options};
 use std::alloc::Global;
 
 fn times(cert: &Cert, x: u16, y: u16) -> u16 {
@@ -88,7 +88,7 @@ fn next(heaps: &mut Vec<u64>, room: &mut u64, most: u64) -> bool {
 /// Adds the heaps to the position.
 fn push_all(position: &mut Position, heaps: &[u64]) -> bool {
     for heap in heaps {
-        if *heap >= 1 && *heap <= LARGEST && position.push(*heap).is_err() {
+        if *heap >= 1 && *heap <= LARGEST_HEAP && position.push(*heap).is_err() {
             return false;
         }
     }

@@ -1,5 +1,5 @@
 use Rattle.std.proofs.Common.{sym, ◌∙◌, ◌<◌, length, arith}
-use Rattle.desk.proofs.Ended.{ended_job, told_ended}
+use Rattle.desk.proofs.Ended.{ended_job, reply_ended}
 use Rattle.desk.proofs.Gone.{core_within}
 use Rattle.desk.proofs.jobs.show_at.Goals as goal
 
@@ -17,7 +17,7 @@ returns-in-Yes g c =
     ended_job c.args.places.now c.args.cores.now.items c.args.place c.in-Some.slot
     c.in-Some-index.core c.index.result.now c.requires.desk c.in-Some.is c.in-Ended.is
     (sym c.index.ensures ∙ c.in-Some-index.is) in
-    told_ended _ job.0 _ job.1 (job.2 ∙ c.in-Yes.ensures.shown)
+    reply_ended _ job.0 _ job.1 (job.2 ∙ c.in-Yes.ensures.shown)
 
 pub returns-in-No : goal.returns-in-No
 returns-in-No g c =
@@ -25,7 +25,7 @@ returns-in-No g c =
     ended_job c.args.places.now c.args.cores.now.items c.args.place c.in-Some.slot
     c.in-Some-index.core c.index.result.now c.requires.desk c.in-Some.is c.in-Ended.is
     (sym c.index.ensures ∙ c.in-Some-index.is) in
-    told_ended _ job.0 _ job.1 (job.2 ∙ c.in-No.ensures.shown)
+    reply_ended _ job.0 _ job.1 (job.2 ∙ c.in-No.ensures.shown)
 
 pub returns-in-Going-progress : goal.returns-in-Going-progress
 returns-in-Going-progress g c =
@@ -33,4 +33,4 @@ returns-in-Going-progress g c =
     ended_job c.args.places.now c.args.cores.now.items c.args.place c.in-Some.slot
     c.in-Some-index.core c.index.result.now c.requires.desk c.in-Some.is c.in-Ended.is
     (sym c.index.ensures ∙ c.in-Some-index.is) in
-    told_ended _ job.0 _ job.1 (job.2 ∙ c.in-Going-progress.ensures.shown)
+    reply_ended _ job.0 _ job.1 (job.2 ∙ c.in-Going-progress.ensures.shown)

@@ -1,5 +1,5 @@
 use Rattle.std.proofs.Common.{rules}
 use Rattle.desk.proofs.desk.Desk.reply.Goals as goal
 
-pub returns-in-Told : goal.returns-in-Told
-returns-in-Told g c = search rules
+pub returns-in-Outcome : goal.returns-in-Outcome
+returns-in-Outcome g c = search rules

@@ -29,24 +29,24 @@ returns-in_default-clause-too_large g c =
           absurd (no_text c.args.text.now other c.in_default.ensures h.sizes h.text),
     )
 
-pub returns-then-survey-gt-MOST-clause-text : goal.returns-then-survey-gt-MOST-clause-text
-returns-then-survey-gt-MOST-clause-text g c =
+pub returns-then-survey-gt-MOST_SIZES-clause-text : goal.returns-then-survey-gt-MOST_SIZES-clause-text
+returns-then-survey-gt-MOST_SIZES-clause-text g c =
     let other : c.args.text.now ≢ codes "0" = iff_false c.is_zero.ensures c.if-is_zero.false in (
       λ e. absurd (other_fault (λ d. text_or_too_many (sym d)) e),
       λ h.
           absurd (is_text c.args.text.now other c.in-Some.survey c.in-Some.ensures h),
     )
 
-pub returns-then-survey-gt-MOST-clause-too_many : goal.returns-then-survey-gt-MOST-clause-too_many
-returns-then-survey-gt-MOST-clause-too_many g c =
+pub returns-then-survey-gt-MOST_SIZES-clause-too_many : goal.returns-then-survey-gt-MOST_SIZES-clause-too_many
+returns-then-survey-gt-MOST_SIZES-clause-too_many g c =
     let other : c.args.text.now ≢ codes "0" = iff_false c.is_zero.ensures c.if-is_zero.false in (
       λ e. too_many c.args.text.now other c.in-Some.survey c.in-Some.ensures 64 (omega arith),
       λ h.
           refl,
     )
 
-pub returns-then-survey-gt-MOST-clause-too_large : goal.returns-then-survey-gt-MOST-clause-too_large
-returns-then-survey-gt-MOST-clause-too_large g c =
+pub returns-then-survey-gt-MOST_SIZES-clause-too_large : goal.returns-then-survey-gt-MOST_SIZES-clause-too_large
+returns-then-survey-gt-MOST_SIZES-clause-too_large g c =
     let other : c.args.text.now ≢ codes "0" = iff_false c.is_zero.ensures c.if-is_zero.false in (
       λ e. absurd (other_fault too_many_or_too_large e),
       λ h.
