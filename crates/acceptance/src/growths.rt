@@ -57,9 +57,9 @@ fn answer<A: Room + Copy>(alloc: A, job: Job) -> Result<bool, u8> {
         Job::MoveOfFew => positions_tests::leaves(
             alloc,
             b"0.3",
-            b"1 2 3 4 5 6 7",
-            (7, Left::One(6)),
-            &[1, 2, 3, 4, 5, 6, 6],
+            b"1 2 3 4 5 6 7 8",
+            (8, Left::One(7)),
+            &[1, 2, 3, 4, 5, 6, 7, 7],
         ),
         Job::MoveToThree => positions_tests::leaves(
             alloc,
@@ -99,8 +99,8 @@ fn first_not_needed(alloc: Global, job: Job, most: u64) -> Option<u64> {
 }
 
 /// A job, the least growth that may not come, and the first that is too many. Up to eight heaps
-/// take no memory, nor do a move from seven, or from six to three more, and an order with nothing
-/// behind it: in `FewHeaps` just the ninth heap does.
+/// take no memory, nor does a move after which there are eight, nor an order with nothing behind
+/// it: in `FewHeaps` just the ninth heap does.
 #[test]
 fn each_growth_may_be_refused(rt: HostRuntime) {
     let rows = [

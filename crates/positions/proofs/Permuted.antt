@@ -12,7 +12,6 @@ use Rattle.heap_options.specs.Options.{options_of}
 use Rattle.heap_options.specs.declared.left.Left.{Left}
 use Rattle.heap_options.specs.declared.left.Left.TheVariants.{Nothing, One, Two, Three}
 use Rattle.heap_options.specs.OptionLaws.{of_options, only}
-use Rattle.positions.specs.Positions.{room_for}
 
 -- one heap more of those that are left is added
 pub added_more : (H xs ys zs : List ℕ) (i : ℕ) → i < length H → IsPermutation (take i H ++ xs) ys
@@ -31,18 +30,6 @@ added_more H xs ys zs i l p q =
 pub added_all : (H xs ys : List ℕ) (i : ℕ) → length H ≤ i → IsPermutation (take i H ++ xs) ys
     → IsPermutation (H ++ xs) ys
 added_all H xs ys i l p = subst (λ us. IsPermutation (us ++ xs) ys) (take_all i H l) p
-
-pub few_left : (L : Left) → length (heaps_of L) ≤ room_for L + 1
-few_left Nothing = omega arith
-few_left (One a) = omega arith
-few_left (Two a b) = omega arith
-few_left (Three a b c) = omega arith
-
-pub few_room : (L : Left) → room_for L ≤ 2
-few_room Nothing = omega arith
-few_room (One a) = omega arith
-few_room (Two a b) = omega arith
-few_room (Three a b c) = omega arith
 
 -- the parts of a heap up to M are heaps up to M
 pub parts_fit : (code : List ℕ) (n M : ℕ) (L : Left) → Contains (options_of code n) L → n ≤ M

@@ -1,8 +1,7 @@
 //! Moves.
-ghost use Rattle.std.specs.Prelude.{◌≡◌, ◌+◌, ◌<◌, ◌↔◌, Contains, IfOk, length};
+ghost use Rattle.std.specs.Prelude.{◌≡◌, ◌+◌, ◌-◌, ◌<◌, ◌↔◌, Contains, IfOk, length};
 ghost use Rattle.misere_theory.specs.Games.{HeapMove};
 ghost use Rattle.heap_options.specs.Exact.{heaps_of};
-ghost use Rattle.positions.specs.Positions.{room_for};
 ghost use Rattle.positions.specs.Moves.{move_fault_number};
 ghost use Rattle.heap_options.specs.Options.{options_of};
 
@@ -53,8 +52,7 @@ impl From<Memory> for MoveFault {
 }
 
 /// The position after a move. The heap is looked up, and the option is tested by itself, however
-/// many the heap has. In a position of fewer than `INLINE` heaps a move takes no memory; one that
-/// leaves three heaps takes none in a position of one heap fewer.
+/// many the heap has. Up to `INLINE` heaps after the move take no memory.
 pub fn apply<A: Room + Copy>(
     alloc: A,
     code: &Code,
@@ -64,7 +62,7 @@ pub fn apply<A: Room + Copy>(
     ensures ok { IfOk result (HeapMove code.now position.now step.heap (heaps_of step.left)) }
     ensures no_such_heap { (result ≡ Err MoveFault.NoSuchHeap) ↔ ¬ Contains position.now step.heap }
     ensures memory { result ≡ Err MoveFault.Memory
-        → INLINE < length position.now + room_for step.left }
+        → INLINE < length (heaps_of step.left) + (length position.now - 1) }
     ensures not_allowed { (result ≡ Err MoveFault.NotAllowed)
         ↔ (Contains position.now step.heap × ¬ Contains (options_of code.now step.heap) step.left) }
 {

@@ -2,7 +2,7 @@
 ghost use Rattle.std.specs.List.Sorted.{IsNonDecreasing, IsPermutation};
 ghost use Rattle.std.specs.Prelude.{◌≡◌, ◌<◌, ◌≤◌, ◌∷◌, ◌++◌, ◌+◌, [], ℕ, length, slice_index, remove, All, IsOk, IfOk, OnOk, OnErr, MatchResult};
 ghost use Rattle.heap_options.specs.Exact.{heaps_of};
-ghost use Rattle.positions.specs.Positions.{IsSize, room_for};
+ghost use Rattle.positions.specs.Positions.{IsSize};
 
 use allocation::{Memory, Room};
 use heap_options::Left;
@@ -74,22 +74,21 @@ impl<A: Room + Copy> Position<A> {
 
     /// Makes this the position `from` after a move that leaves `left` of the heap at the place
     /// `at`. What this position was before doesn't matter, and its memory is used again. After a
-    /// fault it is as it was. Fewer than `INLINE` heaps take no memory, or one fewer where three are
-    /// left of a heap.
+    /// fault it is as it was. Up to `INLINE` heaps after the move take no memory.
     pub fn set_moved(&mut self, from: &Position<A>, at: usize, left: Left) -> Result<(), Memory>
         requires there { at < length from.now }
         requires sizes { All IsSize (heaps_of left) }
         ensures moved { OnOk result (IsPermutation (heaps_of left ++ remove from.now at) self.new) }
         ensures rising { IsNonDecreasing self.new }
         ensures err { OnErr result (self.new ≡ self.old) }
-        ensures inline { length from.now + room_for left ≤ INLINE → IsOk result }
+        ensures inline { length (heaps_of left) + length (remove from.now at) ≤ INLINE
+            → IsOk result }
     {
-        let others = from.heaps();
+        let heaps = from.heaps();
         has_room(&self.heaps);
-        let more = (others.len() + room_for(left)).saturating_sub(self.heaps.len());
+        let more = (heaps.len() - 1 + count(left)).saturating_sub(self.heaps.len());
         self.heaps.reserve(more)?;
-        set_same(&mut self.heaps, others);
-        self.heaps.remove(at);
+        set_others(&mut self.heaps, heaps, at);
         add_left(&mut self.heaps, left);
         Ok(())
     }
@@ -179,24 +178,27 @@ fn has_room<A: Room + Copy>(heaps: &SmallVec<u64, INLINE, A>)
     heaps.capacity();
 }
 
-/// Makes these the heaps `from`, for which there is room.
-fn set_same<A: Room + Copy>(heaps: &mut SmallVec<u64, INLINE, A>, from: &[u64])
-    requires { length from.now ≤ heaps.old.capacity }
-    ensures items { heaps.new.items ≡ from.now }
+/// Makes these the heaps `from` but the one at the place `at`. There is room for these.
+fn set_others<A: Room + Copy>(heaps: &mut SmallVec<u64, INLINE, A>, from: &[u64], at: usize)
+    requires there { at < length from.now }
+    requires room { length (remove from.now at) ≤ heaps.old.capacity }
+    ensures items { heaps.new.items ≡ remove from.now at }
     ensures capacity { heaps.old.capacity ≤ heaps.new.capacity }
 {
     heaps.clear();
-    let _ = heaps.extend_from_slice(from);
+    let _ = heaps.extend_from_slice(&from[..at]);
+    let _ = heaps.extend_from_slice(&from[at + 1..]);
 }
 
-/// For how many heaps more than before a move asks room: for two where it leaves three, else for
-/// one.
-fn room_for(left: Left) -> usize
-    ensures { result ≡ room_for left }
+/// How many heaps a move leaves of one.
+fn count(left: Left) -> usize
+    ensures { result ≡ length (heaps_of left) }
 {
     match left {
-        Left::Nothing | Left::One(_) | Left::Two(_, _) => 1,
-        Left::Three(_, _, _) => 2,
+        Left::Nothing => 0,
+        Left::One(_) => 1,
+        Left::Two(_, _) => 2,
+        Left::Three(_, _, _) => 3,
     }
 }
 

@@ -1,13 +1,14 @@
 use Rattle.std.proofs.Common.{◌≡◌, ◌+◌, ◌<◌, ◌≤◌, ◌∙◌, ℕ, List, length, get_or, refl, sym, subst, arith}
-use Rattle.std.specs.List.{Contains}
+use Rattle.std.specs.List.{Contains, remove}
 use Rattle.std.specs.Prelude.{Result, Ok, Err, IsErrAnd}
 use Rattle.std.proofs.lemmas.Bool.{iff_false}
 use Rattle.std.proofs.lemmas.List.{get_or_default}
+use Rattle.std.proofs.lemmas.List.Edits.{length-remove}
 use Rattle.std.proofs.lemmas.Result.{IfOk-from_err}
 use native.Mathlib.Decide.{dec_le}
 use Rattle.positions.specs.declared.moves.MoveFault.{MoveFault}
 use Rattle.positions.specs.declared.moves.MoveFault.TheVariants.{NoSuchHeap, NotAllowed, Memory}
-use Rattle.positions.specs.Positions.{room_for}
+use Rattle.heap_options.specs.Exact.{heaps_of}
 use Rattle.positions.proofs.Permuted.{parts_fit, moved_to}
 use Rattle.positions.proofs.Room.{not_failed}
 use Rattle.positions.proofs.moves.apply.Goals as goal
@@ -119,8 +120,11 @@ returns-in_err-set_moved-clause-no_such_heap g c =
 
 pub returns-in_err-set_moved-clause-memory : goal.returns-in_err-set_moved-clause-memory
 returns-in_err-set_moved-clause-memory g c = λ e.
-    let never : length c.args.position.now + room_for c.args.step.left ≤ 8 → ⊥ = λ few.
-    not_failed (c.in_err-set_moved.ensures.inline few) in omega arith
+    let there : c.in-Ok.at < length c.args.position.now =
+    rw (← c.heaps.ensures.value) c.in-Ok.ensures.0 in
+    let cut = length-remove c.args.position.now c.in-Ok.at there in
+    let never : length (heaps_of c.args.step.left) + length (remove c.args.position.now c.in-Ok.at)
+    ≤ 8 → ⊥ = λ few. not_failed (c.in_err-set_moved.ensures.inline few) in omega arith
 
 pub returns-in_err-set_moved-clause-not_allowed :
     goal.returns-in_err-set_moved-clause-not_allowed
