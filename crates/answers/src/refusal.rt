@@ -67,7 +67,7 @@ impl<A: Room> Refusal<A> {
 
     /// The certificate's code and the position at which the rule fails, for `Outcome` alone. It
     /// takes no memory.
-    pub fn counterexample(&self) -> Option<(&Code, &Position<A>)>
+    pub fn failed(&self) -> Option<(&Code, &Position<A>)>
         ensures { IsFailure self.now result }
     {
         match self {

@@ -7,7 +7,7 @@ use verdicts::verdict_text;
 
 /// How many heaps the position has that a refusal hands out, or 0.
 fn heaps_of<A: Room>(refusal: &Refusal<A>) -> usize {
-    match refusal.counterexample() {
+    match refusal.failed() {
         Some((_, position)) => position.heaps().len(),
         None => 0,
     }
