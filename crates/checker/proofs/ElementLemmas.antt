@@ -13,7 +13,8 @@ use Rattle.misere_theory.specs.Certificates.{Certificate, InRanges, claim_of, ti
 use Rattle.misere_theory.proofs.Written.{phi_in}
 use Rattle.transition_algebra.specs.declared.pair.Pair.{Pair}
 use Rattle.transition_algebra.specs.Pairs.{IsPair, one}
-use Rattle.checker.specs.Closings.{ObeysAt, LeadsIn, ElementsSoFar, bound_of}
+use Rattle.checker.specs.Closings.{ObeysAt, LeadsIn, ElementsSoFar}
+use Rattle.checker.specs.Bounds.{bound_of}
 
 pub insert_has : (s : set.FinSet nat_cmp) (k q : ℕ) → set.contains (set.insert s k) q ≡ true
     → (q ≡ k) ⊎ (set.contains s q ≡ true)

@@ -14,7 +14,7 @@ use Rattle.pair_closure.specs.Progress.{Progress, begun, moved, step, steps, has
 use Rattle.pair_closure.specs.Positions.{rising, word}
 use Rattle.answers.specs.Answers.{Answer}
 use Rattle.answers.specs.Answers.Answer.{Yes, Outcome, Limit}
-use Rattle.checker.specs.Closings.{bound_of}
+use Rattle.checker.specs.Bounds.{bound_of}
 use Rattle.checker.specs.Units.{rest}
 use Rattle.checker.specs.Views.{HeapsView, ElementsView, ClosingView}
 use Rattle.checker.specs.Turns.{Phase, closing_at, closing_turn, keeps_more, obeys, newest, elements_at, elements_turn, first_from, leads_in, keys_from, heaps_at, heaps_turn}

@@ -9,8 +9,8 @@ use Rattle.monoid_table.specs.Grids.{Grid}
 use Rattle.transition_algebra.specs.declared.pair.Pair.{Pair}
 use Rattle.pair_closure.specs.Progress.{begun, steps, has_ended}
 use Rattle.pair_closure.specs.Calls.{cost as closure_cost}
-use Rattle.checker.specs.Closings.{bound_of, heaps_most}
-use Rattle.checker.specs.Turns.{Phase, is_ended, turn, turns, turns_left, opened, bound_read, most_turns, bound, cost, verdict, answer_at, Reaches, HasSpent}
+use Rattle.checker.specs.Bounds.{bound_of, heaps_most, most_turns}
+use Rattle.checker.specs.Turns.{Phase, is_ended, turn, turns, turns_left, opened, bound_read, bound, cost, verdict, answer_at, Reaches, HasSpent}
 use Rattle.checker.specs.Turns.Phase.{Reading, Laws, Keys, Products, Periods, Separating, Heaps, Elements, Closing, Ended}
 use Rattle.checker.specs.Measures.{measure, behind_laws}
 use Rattle.checker.specs.Sound.{IsSound}
@@ -51,10 +51,10 @@ total : (a b c d e f g : ℕ) → a ≤ 512 * 512 * 512 → b ≤ 512 * 512 → 
     → 2 * a + b + c + d + e + f + g + 16 < 2 ^ 52
 total a b c d e f g ha hb hc hd he hf hg = omega arith
 
-module _ (bytes : List ℕ) (limit : ℕ) where
+module _ (limit : ℕ) where
   -- the bound of all
   whole : (c : Certificate) → InRanges c
-      → triples c.order + behind_laws limit c < most_turns bytes limit c
+      → triples c.order + behind_laws limit c < most_turns limit c
   whole c r =
       let o = r.order.0 in
       let q : 1 * c.order ≤ c.order * c.order =
@@ -68,7 +68,7 @@ module _ (bytes : List ℕ) (limit : ℕ) where
       (bound_of c * (c.order * c.order)) (bound_of c * limit) (omega arith) b (omega arith)
 
   -- as few that a counter of 64 bits holds them
-  few_of : (c : Certificate) → InRanges c → limit < 2 ^ 32 → most_turns bytes limit c < 2 ^ 52
+  pub few_of : (c : Certificate) → InRanges c → limit < 2 ^ 32 → most_turns limit c < 2 ^ 52
   few_of c r l =
       let q = r.order.1 in
       let s = r.period.1 in
@@ -86,10 +86,11 @@ module _ (bytes : List ℕ) (limit : ℕ) where
       (c.period * c.period) (heaps_most c)
       (bound_of c * (c.order * c.order)) (bound_of c * limit) q3 q2 n p2 k2 bq bl
 
+module _ (bytes : List ℕ) (limit : ℕ) where
   few_read : ReadsRanged → limit < 2 ^ 32 → (x : Option (Certificate × List ℕ))
       → certificate_at bytes ≡ x → bound_read bytes limit x < 2 ^ 52
   few_read ranged l None e = omega arith
-  few_read ranged l (Some (c, [])) e = few_of c (ranged bytes c [] e) l
+  few_read ranged l (Some (c, [])) e = few_of limit c (ranged bytes c [] e) l
   few_read ranged l (Some (c, b ∷ more)) e = omega arith
 
   pub bound_is_few : ReadsRanged → limit < 2 ^ 32 → bound bytes limit < 2 ^ 52
@@ -107,7 +108,7 @@ module _ (bytes : List ℕ) (limit : ℕ) where
       → Below bytes limit (bound_read bytes limit x) (opened x)
   opens ranged None e = (omega arith, tt)
   opens ranged (Some (c, [])) e =
-      (let r = ranged bytes c [] e in let w = whole c r in
+      (let r = ranged bytes c [] e in let w = whole limit c r in
       (omega arith, record { ranges = r; order = refl; more = some_triples c r }))
   opens ranged (Some (c, b ∷ more)) e = (omega arith, tt)
 

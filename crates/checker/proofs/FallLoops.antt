@@ -7,7 +7,7 @@ use Rattle.monoid_table.specs.Turns.{JobState, triples, is_over, turn as turn_jo
 use Rattle.transition_algebra.specs.Work.{heap_cost}
 use Rattle.certificate.specs.Pieces.{pretending_of}
 use Rattle.answers.specs.Answers.Answer.{Law, Word, Order, Period, Apart}
-use Rattle.checker.specs.Closings.{heaps_most}
+use Rattle.checker.specs.Bounds.{heaps_most}
 use Rattle.checker.specs.Units.{rest}
 use Rattle.checker.specs.Views.{LawsView, KeysView, ProductsView, PeriodsView, SeparatingView}
 use Rattle.checker.specs.Turns.{laws_at, laws_turn, keys_at, keys_turn, is_keyed, is_above_last, products_at, products_turn, is_in_order, periods_turn, comes_again, separating_at, separating_turn, tells_apart, heaps_at}

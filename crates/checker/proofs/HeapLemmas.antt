@@ -22,7 +22,8 @@ use Rattle.pair_closure.specs.OptionLaws.{items_have, has_items}
 use Rattle.certificate.specs.Pieces.{Pieces, certificate_of}
 use Rattle.answers.specs.Portions.{IsPortion}
 use Rattle.checker.specs.Rules.{Obeys, Breaks, HeldObey}
-use Rattle.checker.specs.Closings.{HavePairs, IsClosing, IsCovered, bound_of}
+use Rattle.checker.specs.Closings.{HavePairs, IsClosing, IsCovered}
+use Rattle.checker.specs.Bounds.{bound_of}
 use Rattle.checker.proofs.Rows.{rows_of-entry}
 use Rattle.checker.proofs.RuleLemmas.{breach_fails}
 

@@ -25,6 +25,7 @@ pub mod FallEnds
 pub mod FallLoops
 pub mod LeastLemmas
 pub mod FallLemmas
+pub mod BoundLemmas
 pub mod StageLemmas
 pub mod DueLemmas
 pub mod AdvanceLemmas

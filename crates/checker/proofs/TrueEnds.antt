@@ -29,7 +29,8 @@ use Rattle.answers.specs.Answers.{Answer, Fits}
 use Rattle.answers.specs.Answers.Answer.{Yes, Outcome, Limit, Memory}
 use Rattle.answers.specs.Portions.{IsPortion}
 use Rattle.checker.specs.Rules.{Obeys, Breaks}
-use Rattle.checker.specs.Closings.{HavePairs, bound_of}
+use Rattle.checker.specs.Closings.{HavePairs}
+use Rattle.checker.specs.Bounds.{bound_of}
 use Rattle.checker.specs.Views.{HeapsView, ElementsView, ClosingView}
 use Rattle.checker.specs.Turns.{holds, obeys, newest, keeps_more, first_from, leads_in, keys_from, closing_at, closing_turn, elements_at, elements_turn, heaps_at, heaps_turn}
 use Rattle.checker.specs.Turns.Phase.{Heaps, Elements, Closing, Ended}

@@ -13,7 +13,8 @@ use Rattle.misere_theory.specs.Certificates.{claim_of}
 use Rattle.answers.specs.Answers.{Holds}
 use Rattle.answers.specs.Answers.Answer.{Memory}
 use Rattle.checker.specs.Sheets.{IsLawful}
-use Rattle.checker.specs.Closings.{HavePairs, ObeysAt, bound_of}
+use Rattle.checker.specs.Closings.{HavePairs, ObeysAt}
+use Rattle.checker.specs.Bounds.{bound_of}
 use Rattle.checker.specs.Progress.{KeysSoFar, ProductsSoFar, PeriodsSoFar, ApartSoFar}
 use Rattle.checker.specs.Views.{LawsView, KeysView, ProductsView, PeriodsView, SeparatingView, HeapsView, ElementsView, ClosingView}
 use Rattle.checker.specs.Turns.{Phase, obeys}

@@ -11,7 +11,7 @@ use Rattle.misere_theory.proofs.Rules.{true_or_false}
 use Rattle.misere_theory.specs.Certificates.{Certificate, kind_of, InRanges, pairs_with, pairs_from}
 use Rattle.misere_theory.proofs.Counting.{bound_whole, bound_part, kind_partial}
 use Rattle.misere_theory.proofs.Written.{is_partial}
-use Rattle.checker.specs.Closings.{bound_of, heaps_most}
+use Rattle.checker.specs.Bounds.{bound_of, heaps_most}
 use Rattle.checker.specs.Units.{rest}
 
 -- places of some rows, at least one

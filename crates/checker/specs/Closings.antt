@@ -1,28 +1,18 @@
 -- What the last stages hold of the pairs of heaps.
-use Rattle.std.specs.Prelude.{◌≡◌, ℕ, ◌*◌, if◌then◌else◌, ◌+◌, ◌<◌, ◌≤◌, true, false, List, length, All, slice_index_or}
+use Rattle.std.specs.Prelude.{◌≡◌, ℕ, ◌+◌, ◌<◌, ◌≤◌, true, false, List, length, All, slice_index_or}
 use Rattle.std.specs.FinSet as set
 use Rattle.std.specs.Ordering.{nat_cmp}
-use Rattle.misere_theory.specs.Games.{leaves_three, IsHeapUpTo}
+use Rattle.misere_theory.specs.Games.{IsHeapUpTo}
 use Rattle.misere_theory.specs.Quotients.{HeapOptionValue}
 use Rattle.misere_theory.specs.Pairs.{IsClosed, KeptObey, ElementsObey}
 use Rattle.misere_theory.specs.Pairs as theory
-use Rattle.misere_theory.specs.Certificates.{Certificate, certificate_bound, Canonical, claim_of, times_of, phi_at}
+use Rattle.misere_theory.specs.Certificates.{Certificate, Canonical, claim_of, times_of, phi_at}
 use Rattle.transition_algebra.specs.declared.pair.Pair.{Pair}
 use Rattle.transition_algebra.specs.Pairs.{IsPair}
 use Rattle.transition_algebra.specs.Heaps.{IsHeapPairs}
 use Rattle.certificate.specs.Pieces.{Pieces, certificate_of}
 use Rattle.checker.specs.Sheets.{IsSheet}
-
--- the heaps 1 to B of a certificate
-abbrev pub bound_of : Certificate → ℕ
-bound_of c = certificate_bound c
-
--- so many turns the pairs of these heaps take at most: (k + 1)B², or (k + 1)B³ where some digit has
--- bit 8
-abbrev pub heaps_most : Certificate → ℕ
-heaps_most c =
-    if leaves_three c.code then length c.code * (bound_of c * (bound_of c * bound_of c))
-    else length c.code * (bound_of c * bound_of c)
+use Rattle.checker.specs.Bounds.{bound_of}
 
 -- the pairs are those of the heaps 1 to B
 pub record HavePairs (c : Certificate) (pairs : List Pair) : Type 0 where

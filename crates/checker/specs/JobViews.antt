@@ -2,6 +2,7 @@
 use Rattle.std.specs.Prelude.{◌≡◌, ◌≢◌, ◌⊎◌, ℕ, ◌+◌, ◌^◌, ◌<◌, ◌≤◌, List, Option, Some, None}
 use Rattle.answers.specs.Answers.{Answer, IsTrueOf}
 use Rattle.answers.specs.Answers.Answer.{Memory}
+use Rattle.checker.specs.Bounds.{AreWithinBound}
 use Rattle.checker.specs.Turns.{cost, verdict}
 
 -- The bytes and the limit that a job was opened with, the units spent so far, and the answer, once
@@ -31,6 +32,11 @@ IsDueAt bytes limit spent (Some a) = ((spent ≡ cost bytes limit) × (a ≡ ver
 -- that it was given.
 abbrev pub IsDue : JobView → Type 0
 IsDue j = IsDueAt j.bytes j.limit j.spent j.ended
+
+-- A job has spent no more units than the bound, and while it goes on fewer.
+pub record IsBounded (j : JobView) : Type 0 where
+  pub spent : AreWithinBound j.bytes j.limit j.spent
+  pub going : j.ended ≡ None → AreWithinBound j.bytes j.limit (j.spent + 1)
 
 -- A job after some units more. It has the same bytes and limit. Where it had ended, or there was no
 -- unit, it is unchanged; and while it goes on it has spent each of them, and fewer than 2 ^ 52 in

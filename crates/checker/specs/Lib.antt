@@ -2,6 +2,7 @@ pub mod Units
 pub mod Sheets
 pub mod Progress
 pub mod Rules
+pub mod Bounds
 pub mod Closings
 pub mod Views
 pub mod Turns

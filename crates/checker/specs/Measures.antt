@@ -1,7 +1,7 @@
 -- How many turns a check takes at most from where it stands. This project's own.
 use Rattle.std.specs.Prelude.{ℕ, ◌+◌, ◌-◌, ◌*◌, List}
 use Rattle.misere_theory.specs.Certificates.{Certificate}
-use Rattle.checker.specs.Closings.{bound_of, heaps_most}
+use Rattle.checker.specs.Bounds.{bound_of, heaps_most}
 use Rattle.checker.specs.Views.{laws_units, keys_units, products_units, periods_units, separating_units, heaps_units, elements_units}
 use Rattle.checker.specs.Turns.{Phase, bound}
 use Rattle.checker.specs.Turns.Phase.{Reading, Laws, Keys, Products, Periods, Separating, Heaps, Elements, Closing, Ended}

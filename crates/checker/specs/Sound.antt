@@ -7,7 +7,7 @@ use Rattle.transition_algebra.specs.declared.pair.Pair.{Pair}
 use Rattle.transition_algebra.specs.Work.{heap_cost}
 use Rattle.certificate.specs.Pieces.{pretending_of}
 use Rattle.pair_closure.specs.Progress as closing
-use Rattle.checker.specs.Closings.{bound_of}
+use Rattle.checker.specs.Bounds.{bound_of}
 use Rattle.checker.specs.Views.{LawsView, KeysView, ProductsView, PeriodsView, SeparatingView, HeapsView, ElementsView, ClosingView}
 use Rattle.checker.specs.Turns.{Phase}
 use Rattle.checker.specs.Turns.Phase.{Reading, Laws, Keys, Products, Periods, Separating, Heaps, Elements, Closing, Ended}

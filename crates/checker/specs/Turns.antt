@@ -1,6 +1,6 @@
 -- A check as turns on plain data: what it costs and what it answers are functions of the bytes and
 -- the limit. This project's own.
-use Rattle.std.specs.Prelude.{◌≡◌, ℕ, zero, suc, ◌+◌, ◌-◌, ◌*◌, ◌<◌, ◌≤◌, Bool, true, false, not, ◌&&◌, ◌||◌, ◌==◌, nat_lt, if◌then◌else◌, List, [], ◌∷◌, length, slice_index, slice_index_or, Option, Some, None}
+use Rattle.std.specs.Prelude.{◌≡◌, ℕ, zero, suc, ◌+◌, ◌-◌, ◌<◌, ◌≤◌, Bool, true, false, not, ◌&&◌, ◌||◌, ◌==◌, nat_lt, if◌then◌else◌, List, [], ◌∷◌, length, slice_index, slice_index_or, Option, Some, None}
 use Rattle.std.specs.List.{list_any}
 use Rattle.std.specs.FinSet as set
 use Rattle.misere_theory.specs.Certificates.{Certificate, claim_of, times_of, phi_at, key_of}
@@ -15,7 +15,7 @@ use Rattle.pair_closure.specs.Turns.{State}
 use Rattle.pair_closure.specs.declared.settle.Held.{Held}
 use Rattle.pair_closure.specs.Progress as closure
 use Rattle.pair_closure.specs.Positions.{rising, word}
-use Rattle.checker.specs.Closings.{heaps_most, bound_of}
+use Rattle.checker.specs.Bounds.{most_turns}
 use Rattle.answers.specs.Answers.{Answer}
 use Rattle.answers.specs.Answers.Answer.{Yes, Text, Law, Word, Order, Period, Apart, Outcome, Limit, Memory}
 use Rattle.checker.specs.Views.{LawsView, KeysView, ProductsView, PeriodsView, SeparatingView, HeapsView, ElementsView, ClosingView}
@@ -244,23 +244,16 @@ module _ (bytes : List ℕ) (limit : ℕ) where
   turns_left zero p = 0
   turns_left (suc most) p = if is_ended p then 0 else turns_left most (turn p) + 1
 
-  -- No check takes more turns: 2q³ + q² + q(n0 + p) + p² + (k + 1)B² + Bq² + B·limit + 16, with
-  -- (k + 1)B³ for (k + 1)B² where some digit of the code has bit 8
-  abbrev pub most_turns : Certificate → ℕ
-  most_turns c =
-      2 * (c.order * c.order * c.order) + c.order * c.order + c.order * (c.start + c.period)
-      + c.period * c.period
-      + heaps_most c + bound_of c * (c.order * c.order) + bound_of c * limit + 16
-
   abbrev pub bound_read : Option (Certificate × List ℕ) → ℕ
   bound_read None = 16
-  bound_read (Some (c, [])) = most_turns c
+  bound_read (Some (c, [])) = most_turns limit c
   bound_read (Some (c, b ∷ rest)) = 16
 
+  -- so many turns are enough to come to the end
   abbrev pub bound : ℕ
   bound = bound_read (certificate_at bytes)
 
-  -- What the check costs: the turns until it has ended, which are no more than the bound.
+  -- What the check costs: the turns until it has ended.
   unfoldable pub cost : ℕ
   cost = turns_left bound Reading
 

@@ -7,7 +7,8 @@ ghost use Rattle.pair_closure.specs.Positions.{IsClosedOver, IsExceeded, rising,
 ghost use Rattle.pair_closure.specs.Progress.{SameData, begun, blank_held, has_ended};
 ghost use Rattle.certificate.specs.Pieces.{grid_of};
 ghost use Rattle.checker.specs.Rules.{Breaks, HeldObey};
-ghost use Rattle.checker.specs.Closings.{HavePairs, bound_of};
+ghost use Rattle.checker.specs.Closings.{HavePairs};
+ghost use Rattle.checker.specs.Bounds.{bound_of};
 ghost use Rattle.answers.specs.Answers.Answer.{Yes, Outcome, Limit};
 ghost use Rattle.checker.specs.Turns.{Phase};
 ghost use Rattle.checker.specs.Turns.Phase.{Closing as AtClosing, Ended as AtEnded};

@@ -56,7 +56,7 @@ impl<A: Room + Copy> Job<A> {
 
 impl<A: Room> Job<A> {
     ghost use Rattle.checker.specs.Jobs.{Shows};
-    ghost use Rattle.checker.specs.JobViews.{IsTruthful, IsDue};
+    ghost use Rattle.checker.specs.JobViews.{IsTruthful, IsDue, IsBounded};
 
     /// The bytes that it was opened with.
     pub fn bytes(&self) -> &[u8]
@@ -74,10 +74,11 @@ impl<A: Room> Job<A> {
 
     /// The units spent so far. While it goes on they are fewer than the check costs. Once it has
     /// ended they are all that the check costs, and its answer is the verdict of its bytes and
-    /// limit, unless memory was refused.
+    /// limit, unless memory was refused. By the certificate that the bytes spell they are bounded.
     pub fn spent(&self) -> u64
         ensures value { result ≡ self.now.spent }
         ensures due { IsDue self.now }
+        ensures bounded { IsBounded self.now }
     {
         checks_end();
         self.spent

@@ -1,11 +1,12 @@
 //! Laws of turns.
 ghost use Rattle.std.specs.Prelude.{◌≡◌, ◌≢◌, ◌+◌, ◌-◌, ◌*◌, ◌^◌, ◌<◌, ◌≤◌, ℕ, List, false};
 ghost use Rattle.certificate_text.specs.Spelling.{Spells};
-ghost use Rattle.misere_theory.specs.Certificates.{Certificate};
+ghost use Rattle.misere_theory.specs.Certificates.{Certificate, InRanges};
 ghost use Rattle.answers.specs.Answers.{IsTrueOf};
 ghost use Rattle.answers.specs.Answers.Answer.{Yes, Memory};
-ghost use Rattle.checker.specs.Turns.{Phase, turn, turns, is_ended, stage_of, bound, cost, verdict, Works, Reaches, HasSpent};
+ghost use Rattle.checker.specs.Turns.{Phase, turn, turns, is_ended, stage_of, cost, verdict, Works, Reaches, HasSpent};
 ghost use Rattle.checker.specs.Turns.Phase.{Reading, Ended};
+ghost use Rattle.checker.specs.Bounds.{most_turns, AreWithinBound};
 ghost use Rattle.checker.specs.Measures.{measure};
 ghost use Rattle.checker.specs.Sound.{IsSound};
 
@@ -20,12 +21,14 @@ pub fn checks_end()
         → IsSound limit (turn bytes limit p)
         × (measure bytes limit (turn bytes limit p) < measure bytes limit p) }
     ensures within { (bytes : List ℕ) (limit n : ℕ) (p : Phase) → Reaches bytes limit n p
-        → n + measure bytes limit p ≤ bound bytes limit }
+        → AreWithinBound bytes limit (n + measure bytes limit p) }
     ensures least { (bytes : List ℕ) (limit : ℕ) (c : Certificate) → verdict bytes limit ≡ Yes c
         → c.order * c.order * c.order + c.order * (c.start + c.period) ≤ cost bytes limit }
     ensures some { (bytes : List ℕ) (limit : ℕ) → 0 < cost bytes limit }
-    ensures most { (bytes : List ℕ) (limit : ℕ) → cost bytes limit ≤ bound bytes limit }
-    ensures few { (bytes : List ℕ) (limit : ℕ) → limit < 2 ^ 32 → bound bytes limit < 2 ^ 52 }
+    ensures most { (bytes : List ℕ) (limit : ℕ) → AreWithinBound bytes limit (cost bytes limit) }
+    ensures small { (limit : ℕ) (c : Certificate) → limit < 2 ^ 32 → InRanges c
+        → most_turns limit c < 2 ^ 52 }
+    ensures few { (bytes : List ℕ) (limit : ℕ) → limit < 2 ^ 32 → cost bytes limit < 2 ^ 52 }
     ensures ends { (bytes : List ℕ) (limit : ℕ) → turns bytes limit (cost bytes limit) Reading
         ≡ Ended (verdict bytes limit) }
     ensures spent { (bytes : List ℕ) (limit n : ℕ) (p : Phase) → Reaches bytes limit n p

@@ -8,7 +8,7 @@ pub answer-requires : goal.answer-requires
 answer-requires g c =
     let e = c.checks_end.ensures in
     let h = c.run-ended.ensures.come 0 (come_first c.args.bytes.now c.args.limit) in
-    let w = e.within c.args.bytes.now c.args.limit _ h.to h.reaches in
+    let w = e.before c.args.bytes.now c.args.limit _ h.to h.reaches in
     let b = e.few c.args.bytes.now c.args.limit (omega arith) in
     c.run-ended.ensures.whole (omega arith)
 

@@ -1,4 +1,6 @@
-use Rattle.checker.proofs.FallLemmas.{falls, bound_is_few, cost_most, cost_ends, spent_is, within_bound, spent_before, yes_costs, closures_fewer}
+use Rattle.std.proofs.Common.{arith}
+use Rattle.checker.proofs.BoundLemmas.{bound_within, fewer_within}
+use Rattle.checker.proofs.FallLemmas.{falls, few_of, bound_is_few, cost_most, cost_ends, spent_is, within_bound, spent_before, yes_costs, closures_fewer}
 use Rattle.checker.proofs.CostLemmas.{some_cost}
 use Rattle.checker.proofs.turns.checks_end.Goals as goal
 
@@ -10,9 +12,11 @@ returns-clause-falls c = λ bytes limit p s e.
 
 pub returns-clause-most : goal.returns-clause-most
 returns-clause-most c =
-    λ bytes limit. cost_most bytes limit c.reading_is_spelling.ensures.ranges
-    c.heap_jobs_end.ensures.cost
-    (closures_fewer c.closures_cost.ensures.bound c.closures_cost.ensures.ends)
+    λ bytes limit. fewer_within bytes limit _ _
+    (cost_most bytes limit c.reading_is_spelling.ensures.ranges c.heap_jobs_end.ensures.cost
+    (closures_fewer c.closures_cost.ensures.bound c.closures_cost.ensures.ends))
+    (bound_within bytes limit c.reading_is_spelling.ensures.takes
+    c.reading_is_spelling.ensures.again)
 
 pub returns-clause-ends : goal.returns-clause-ends
 returns-clause-ends c =
@@ -28,13 +32,23 @@ returns-clause-spent c =
 
 pub returns-clause-few : goal.returns-clause-few
 returns-clause-few c =
-    λ bytes limit l. bound_is_few bytes limit c.reading_is_spelling.ensures.ranges l
+    λ bytes limit l.
+    let few = bound_is_few bytes limit c.reading_is_spelling.ensures.ranges l in
+    let most =
+    cost_most bytes limit c.reading_is_spelling.ensures.ranges c.heap_jobs_end.ensures.cost
+    (closures_fewer c.closures_cost.ensures.bound c.closures_cost.ensures.ends) in
+    omega arith
+
+pub returns-clause-small : goal.returns-clause-small
+returns-clause-small c = λ limit d l r. few_of limit d r l
 
 pub returns-clause-within : goal.returns-clause-within
 returns-clause-within c =
-    λ bytes limit n p. within_bound bytes limit c.reading_is_spelling.ensures.ranges
-    c.heap_jobs_end.ensures.cost
-    (closures_fewer c.closures_cost.ensures.bound c.closures_cost.ensures.ends) n p
+    λ bytes limit n p r. fewer_within bytes limit _ _
+    (within_bound bytes limit c.reading_is_spelling.ensures.ranges c.heap_jobs_end.ensures.cost
+    (closures_fewer c.closures_cost.ensures.bound c.closures_cost.ensures.ends) n p r)
+    (bound_within bytes limit c.reading_is_spelling.ensures.takes
+    c.reading_is_spelling.ensures.again)
 
 pub returns-clause-least : goal.returns-clause-least
 returns-clause-least c =

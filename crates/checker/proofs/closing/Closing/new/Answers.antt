@@ -8,7 +8,8 @@ use Rattle.checker.specs.Rules.{HeldObey}
 use Rattle.pair_closure.specs.Progress.{Progress, begun, has_ended}
 use Rattle.checker.specs.Views.{ClosingView}
 use Rattle.checker.specs.Sheets.{pieces_of}
-use Rattle.checker.specs.Closings.{HavePairs, IsClosing, bound_of}
+use Rattle.checker.specs.Closings.{HavePairs, IsClosing}
+use Rattle.checker.specs.Bounds.{bound_of}
 use Rattle.checker.proofs.CloseTurns.{begun_going}
 use Rattle.checker.proofs.closing.Closing.new.Goals as goal
 

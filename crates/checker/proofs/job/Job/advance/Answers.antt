@@ -8,7 +8,7 @@ overflow_add-self g c =
     let j = c.self.inside in
     let e = c.checks_end.ensures in
     let h = rw c.deref.ensures.value at c.advance.ensures.come j.spent c.self.invariant.come in
-    let w = e.within j.bytes.items j.limit _ h.to h.reaches in
+    let w = e.before j.bytes.items j.limit _ h.to h.reaches in
     let b = e.few j.bytes.items j.limit (omega arith) in
     let s = c.advance.ensures.spends in
     omega arith
@@ -19,7 +19,7 @@ returns g c =
     let r = c.advance.ensures in
     let e = c.checks_end.ensures in
     let h = rw c.deref.ensures.value at r.come j.spent c.self.invariant.come in
-    let w = e.within j.bytes.items j.limit _ h.to h.reaches in
+    let w = e.before j.bytes.items j.limit _ h.to h.reaches in
     let b = e.few j.bytes.items j.limit (omega arith) in
     let f : j.spent + (c.args.units - c.advance.new.left) < 2 ^ 52 = omega arith in
     subst

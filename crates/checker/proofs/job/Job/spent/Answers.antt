@@ -1,5 +1,6 @@
 use Rattle.std.proofs.Common.{rules, subst}
-use Rattle.checker.specs.JobViews.{IsDue}
+use Rattle.checker.specs.JobViews.{IsDue, IsBounded}
+use Rattle.checker.proofs.BoundLemmas.{due_bounded}
 use Rattle.checker.proofs.DueLemmas.{come_due}
 use Rattle.checker.proofs.job.Job.spent.Goals as goal
 
@@ -10,6 +11,15 @@ returns-clause-due g c =
     subst IsDue c.self.view_is
     (come_due j.bytes.items j.limit (e.spent j.bytes.items j.limit)
     (e.before j.bytes.items j.limit) j.spent j.stage c.self.invariant.come)
+
+pub returns-clause-bounded : goal.returns-clause-bounded
+returns-clause-bounded g c =
+    let j = c.self.inside in
+    let e = c.checks_end.ensures in
+    let due =
+    come_due j.bytes.items j.limit (e.spent j.bytes.items j.limit)
+    (e.before j.bytes.items j.limit) j.spent j.stage c.self.invariant.come in
+    subst IsBounded c.self.view_is (due_bounded _ (e.most j.bytes.items j.limit) due)
 
 pub returns-clause-value : goal.returns-clause-value
 returns-clause-value g c = search rules
