@@ -3,7 +3,7 @@ use Rattle.std.proofs.Common.{◌≡◌, ℕ, zero, suc, ◌+◌, ◌*◌, ◌<�
 use native.Mathlib.Decide.{dec_lt}
 use Rattle.monoid_table.specs.Grids.{Grid}
 use Rattle.transition_algebra.specs.declared.pair.Pair.{Pair}
-use Rattle.pair_closure.specs.Turns.{has_ended, turn}
+use Rattle.pair_closure.specs.Turns.{KeepsNext, has_ended, turn}
 use Rattle.pair_closure.specs.Progress.{Progress, begun, steps, step, stopped, moved, retaken}
 use Rattle.pair_closure.specs.Calls.{Takes, IsRefused, ended, ended_or_kept, cost}
 use Rattle.pair_closure.proofs.Lists.{by_cond, either, not_both, true_or}
@@ -115,14 +115,15 @@ module _ (ends : Progress → Bool) (implies : Ends ends) (p : Progress) where
           last = λ _. h;
         }
 
-    pub refused : (t : Progress) → n < units → t ≡ stopped q → ends q ≡ false
+    pub refused : (t : Progress) → n < units → t ≡ stopped q → ends q ≡ false → KeepsNext q.state
         → IsRefused ends units p t
-    refused t l e f = record {
+    refused t l e f k = record {
       turns = n;
       within = l;
       reached = e ∙ ap stopped reached;
       spent = ap (λ z. z.spent) (e ∙ ap stopped reached) ∙ all_spent n going;
       going = λ m k. one_more n q reached going f m (omega arith);
+      keeps = subst (λ z. KeepsNext z.state) (sym e) k;
     }
 
 -- ---- how many turns there are

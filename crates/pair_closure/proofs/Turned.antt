@@ -1,13 +1,15 @@
 -- What each kind of turn reads, and what it leaves.
-use Rattle.std.proofs.Common.{◌≡◌, ℕ, ◌+◌, ◌<◌, ◌≤◌, Bool, true, false, cond, List, [], length, get_or, set, refl, sym, ap, ap₂, ◌∙◌, subst, inl, inr, arith}
+use Rattle.std.proofs.Common.{◌≡◌, ℕ, ◌+◌, ◌<◌, ◌≤◌, Bool, true, false, cond, List, [], ◌∷◌, length, get_or, set, refl, sym, ap, ap₂, ◌∙◌, subst, inl, inr, arith}
+use Rattle.std.proofs.lemmas.List.{length-append}
 use Rattle.transition_algebra.specs.declared.pair.Pair.{Pair}
 use Rattle.transition_algebra.specs.Pairs.{IsPair, one, times}
 use Rattle.pair_closure.specs.declared.members.Member.{Member}
 use Rattle.pair_closure.specs.declared.settle.Held.{Held}
 use Rattle.pair_closure.specs.declared.settle.Generator.{Generator}
-use Rattle.pair_closure.specs.Turns.{State, turn, covered, members_with, held_with, members_after, held_after, generators_with, multiplied, blank_held, blank_generator, NoneBefore, KeepsEmpty, Multiplies, TriesHeap}
+use Rattle.pair_closure.specs.Turns.{State, KeepsNext, turn, covered, members_with, held_with, members_after, held_after, generators_with, multiplied, blank_held, blank_generator, NoneBefore, KeepsEmpty, Multiplies, TriesHeap}
 use Rattle.pair_closure.specs.Progress.{Progress, IsRun}
 use Rattle.pair_closure.proofs.ChainLaws.{same_default}
+use Rattle.pair_closure.proofs.Lists.{if_false}
 use Rattle.pair_closure.proofs.WhichTurn.{turn_empty, turn_product, turn_heap, goes_empty, goes_product, goes_heap}
 use Rattle.pair_closure.proofs.Machine.{Reached, of_run, held_in, generator_in, kept_by_turns, has_turns, none_before}
 use Rattle.pair_closure.proofs.Runs.{next_run}
@@ -64,6 +66,21 @@ empty_next p members held from r k a b =
           omega arith,
     )
 
+-- the first turn keeps a member
+pub empty_keeps : (s : State) → KeepsEmpty s → KeepsNext s
+empty_keeps s k =
+    let kept = ap (λ z. length z.members) (turn_empty s k) in
+    let more = length-append s.members (record { pair = one; parent = 0; heap = 0 } ∷ []) in
+    omega arith
+
+-- x is a member more where none that is held covers it
+more_members : (members : List Member) (held : List Held) (x : Pair) (parent heap : ℕ)
+    → covered held x ≡ false
+    → length (members_after members held x parent heap) ≡ length members + 1
+more_members members held x parent heap e =
+    ap length (if_false (covered held x) members (members_with members x parent heap) e)
+    ∙ length-append members (record { pair = x; parent = parent; heap = heap } ∷ [])
+
 -- what a product's turn was given and what it wrote
 pub record Product (s : State) (members : List Member) (held : List Held) (at : ℕ) (m : Held)
     (g : Generator) (x : Pair) : Type 0 where
@@ -95,6 +112,26 @@ product_turned s members held at m g x w =
     state_of m g x =
         with s (members_after s.members s.held x m.place g.heap)
         (held_after s.held (set s.held at (multiplied m)) x (length s.members)) s.generators s.next
+
+-- a product that none held covers is kept
+pub product_keeps : (s : State) (at : ℕ) (m : Held) (g : Generator) (x : Pair) → Multiplies s at
+    → m ≡ get_or s.held at m → g ≡ get_or s.generators m.by g → x ≡ times s.table m.pair g.pair
+    → covered s.held x ≡ false → KeepsNext s
+product_keeps s at m g x k a b p e =
+    let same =
+    product_turned s (members_after s.members s.held x m.place g.heap)
+    (held_after s.held (set s.held at (multiplied m)) x (length s.members)) at m g x
+    (record {
+      turns = k;
+      member = a;
+      generator = b;
+      product = p;
+      members_are = refl;
+      held_are = refl;
+    }) in
+    let kept = ap (λ z. length z.members) same in
+    let more = more_members s.members s.held x m.place g.heap e in
+    omega arith
 
 pub product_next : (p : Progress) (members : List Member) (held : List Held) (at : ℕ) (m : Held)
     (g : Generator) (x : Pair) (anew : Bool) (from : ℕ) → IsRun p
@@ -141,6 +178,27 @@ heap_turned s members held gens n x w =
     (held_after s.held s.held z (length s.members))
     (cond (covered s.held z) s.generators (generators_with s.generators z k)) k) same w.number
     ∙ sym (turn_heap s k)
+
+-- a heap's pair that none held covers is kept
+pub heap_keeps : (s : State) (x : Pair) → TriesHeap s → x ≡ get_or s.heaps s.next x
+    → covered s.held x ≡ false → KeepsNext s
+heap_keeps s x k a e =
+    let same =
+    heap_turned s (members_after s.members s.held x 0 (s.next + 1))
+    (held_after s.held s.held x (length s.members))
+    (cond (covered s.held x) s.generators (generators_with s.generators x (s.next + 1)))
+    (s.next + 1) x
+    (record {
+      turns = k;
+      heap = a;
+      number = refl;
+      members_are = refl;
+      held_are = refl;
+      generators_are = refl;
+    }) in
+    let kept = ap (λ z. length z.members) same in
+    let more = more_members s.members s.held x 0 (s.next + 1) e in
+    omega arith
 
 pub heap_next : (p : Progress) (members : List Member) (held : List Held) (gens : List Generator)
     (n : ℕ) (x : Pair) (anew : Bool) (from : ℕ) → IsRun p → Tried p.state members held gens n x

@@ -1,7 +1,8 @@
 -- Words of members, as positions.
 use Rattle.std.proofs.Common.{◌≡◌, ℕ, zero, suc, ◌^◌, ◌<◌, ◌≤◌, List, [], ◌∷◌, ◌++◌, length, get_or, refl, sym, ap, ◌∙◌, subst, inl, inr, arith, Contains}
 use Rattle.std.specs.List.Sorted.{IsNonDecreasing, IsPermutation}
-use Rattle.std.proofs.lemmas.List.Sorted.{IsPermutation-refl, IsPermutation-append_left, IsPermutation-middle, IsPermutation-trans}
+use Rattle.std.proofs.lemmas.List.Sorted.{length_permutation, IsPermutation-refl, IsPermutation-append_left, IsPermutation-middle, IsPermutation-trans}
+use Rattle.std.proofs.lemmas.List.{length-append}
 use Rattle.misere_theory.specs.Games.{IsHeapUpTo, IsPosition}
 use Rattle.misere_theory.specs.Quotients.{Claim, Monoid, GivesElements}
 use Rattle.misere_theory.specs.Pairs as theory
@@ -119,6 +120,15 @@ pub walk_sizes : (s : State) → Reached s → length s.heaps < 2 ^ 58
 walk_sizes s r short place at heaps m w some e =
     subst (λ z. IsSize z.heap) (sym e) (let (a, b) = (unfolds s r at some w.within).heap in
     (a, omega arith))
+
+-- while a heap is left to read, fewer are read than the word has
+pub walk_room : (s : State) → Reached s → (place at : ℕ) (heaps : List ℕ)
+    → Walking s place at heaps → 0 < at → length heaps < length (word s place)
+walk_room s r place at heaps w some =
+    let more = ap length (unfolds s r at some w.within).is in
+    let both = length-append heaps (word s at) in
+    let same = length_permutation _ _ w.rest in
+    omega arith
 
 no_more : (heaps : List ℕ) → heaps ++ [] ≡ heaps
 no_more [] = refl

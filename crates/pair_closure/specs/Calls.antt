@@ -2,7 +2,7 @@
 use Rattle.std.specs.Prelude.{◌≡◌, ◌⊎◌, ℕ, ◌+◌, ◌*◌, ◌<◌, ◌≤◌, Bool, true, false, ◌||◌, nat_lt, List, length, Result, OnOk, OnErr}
 use Rattle.monoid_table.specs.Grids.{Grid}
 use Rattle.transition_algebra.specs.declared.pair.Pair.{Pair}
-use Rattle.pair_closure.specs.Turns.{State, has_ended, is_over}
+use Rattle.pair_closure.specs.Turns.{State, KeepsNext, has_ended, is_over}
 use Rattle.pair_closure.specs.Progress.{Progress, begun, steps, stopped}
 
 -- no turn is left
@@ -24,13 +24,15 @@ pub record Takes (ends : Progress → Bool) (units : ℕ) (old new : Progress) :
   pub going : (n : ℕ) → n < turns → ends (steps n old) ≡ false
   pub last : turns < units → ends new ≡ true
 
--- The same turns up to one that memory was refused to, which isn't taken and costs nothing.
+-- The same turns up to one that memory was refused to, which isn't taken and costs nothing. It would
+-- have kept a member: no other turn asks for memory.
 pub record IsRefused (ends : Progress → Bool) (units : ℕ) (old new : Progress) : Type 0 where
   pub turns : ℕ
   pub within : turns < units
   pub reached : new ≡ stopped (steps turns old)
   pub spent : new.spent ≡ old.spent + turns
   pub going : (n : ℕ) → n ≤ turns → ends (steps n old) ≡ false
+  pub keeps : KeepsNext new.state
 
 -- The turns of a call: all that it takes, or those up to one that memory was refused to.
 abbrev pub Goes : (Progress → Bool) → ℕ → Progress → Progress → Type 0

@@ -183,6 +183,10 @@ turn s =
     (cond (nat_lt s.next (length s.heaps)) (heap_turn s) s))
     (empty_turn s))
 
+-- the next turn keeps a member
+abbrev pub KeepsNext : State → Type 0
+KeepsNext s = length s.members < length (turn s).members
+
 abbrev pub turns : ℕ → State → State
 turns zero s = s
 turns (suc n) s = turn (turns n s)

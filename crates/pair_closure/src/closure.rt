@@ -1,11 +1,11 @@
 //! The closure: members ever kept, those held, and one product a turn.
-ghost use Rattle.std.specs.Prelude.{◌≡◌, ◌↔◌, ◌<◌, ◌≤◌, ◌+◌, ◌*◌, true, false, ℕ, length, All, Ok, IfOk, OnOk, OnErr, IsErr, slice_index_or};
+ghost use Rattle.std.specs.Prelude.{◌≡◌, ◌↔◌, ◌<◌, ◌≤◌, ◌+◌, ◌*◌, true, false, ℕ, length, All, Ok, IfOk, OnOk, OnErr, IsOk, IsErr, slice_index_or};
 ghost use Rattle.transition_algebra.specs.Pairs.{IsPair, one};
-ghost use Rattle.pair_closure.specs.Turns.{SameData, is_done, is_over, has_ended, blank_held, KeepsEmpty, Multiplies, TriesHeap};
+ghost use Rattle.pair_closure.specs.Turns.{SameData, KeepsNext, is_done, is_over, has_ended, blank_held, KeepsEmpty, Multiplies, TriesHeap};
 ghost use Rattle.pair_closure.specs.Progress.{begun, moved, retaken, step, steps, stopped};
 ghost use Rattle.pair_closure.specs.Calls.{Goes, Grows, IsLimited, ended, ended_or_kept};
 ghost use Rattle.pair_closure.specs.Keeping.{KeepsOne, GrowsToMember};
-ghost use Rattle.pair_closure.specs.Positions.{IsWordOf, ShowsPairs, IsMinimal, IsClosedOver, IsExceeded};
+ghost use Rattle.pair_closure.specs.Positions.{word, IsWordOf, ShowsPairs, IsMinimal, IsClosedOver, IsExceeded};
 
 use crate::fits::is_short;
 use crate::members::{Member, Members};
@@ -13,7 +13,7 @@ use crate::settle::{Generator, Held, add, begin, hold, pending, settle_heap, set
 use allocation::{Memory, Room};
 use element_sets::ElementSet;
 use monoid_table::{CommMonoid, Table};
-use positions::Position;
+use positions::{INLINE, Position};
 use std::alloc::{AllocError, Allocator, Global};
 use std::marker::Model;
 use transition_algebra::{Pair, Pairs};
@@ -137,6 +137,7 @@ impl<A: Room + Copy> Closure<A> {
         requires { KeepsEmpty self.old.state }
         ensures ok { OnOk result (self.new ≡ moved self.old) }
         ensures err { OnErr result (self.new ≡ self.old) }
+        ensures keeps { IsErr result → KeepsNext self.old.state }
     {
         let by = self.heaps.len();
         let first = Member {
@@ -155,6 +156,7 @@ impl<A: Room + Copy> Closure<A> {
         requires { Multiplies self.old.state at }
         ensures ok { OnOk result (self.new ≡ moved self.old) }
         ensures err { OnErr result (self.new ≡ self.old) }
+        ensures keeps { IsErr result → KeepsNext self.old.state }
     {
         let member = &self.held[at];
         let generator = &self.generators[member.by];
@@ -183,6 +185,7 @@ impl<A: Room + Copy> Closure<A> {
         requires { TriesHeap self.old.state }
         ensures ok { OnOk result (self.new ≡ moved self.old) }
         ensures err { OnErr result (self.new ≡ self.old) }
+        ensures keeps { IsErr result → KeepsNext self.old.state }
     {
         let pair = self.heaps[self.next];
         let heap = self.next + 1;
@@ -206,6 +209,7 @@ impl<A: Room + Copy> Closure<A> {
         ensures last { result ≡ Ok false → has_ended self.old.state ≡ true }
         ensures err { OnErr result (self.new ≡ self.old) }
         ensures refused { IsErr result → has_ended self.old.state ≡ false }
+        ensures keeps { IsErr result → KeepsNext self.old.state }
     {
         match self.task() {
             Task::KeepEmpty => {
@@ -319,10 +323,11 @@ impl<A: Room + Copy> Closure<A> {
     ///
     /// The answer and what is held depend on the turns taken in all, however they were cut; past
     /// the end nothing changes. After `Memory`, for a refused growth, what is held is that of the
-    /// turns before, and every later call answers `Memory`.
+    /// turns before, and every later call answers `Memory`. It comes first at a turn that keeps a
+    /// member, since no other turn asks for memory.
     pub fn grow(&mut self, units: u64) -> Result<Grown, Memory>
         // A turn for a unit until it has ended, and no turn after that; a turn that memory is
-        // refused to isn't taken.
+        // refused to isn't taken, and would have kept a member.
         ensures grows { Grows ended units result self.old self.new }
         ensures limit { IsLimited self.new.state }
         ensures turns { OnOk result (self.new ≡ steps units self.old) }
@@ -418,11 +423,14 @@ impl<A: Room + Copy> Closure<A> {
     }
 
     /// The position that a member held stands for, counted from 0: the heaps whose product it is,
-    /// rising. Its pair is exactly the member's. `Memory` where its growth was refused.
+    /// rising. Its pair is exactly the member's. `Memory` where its growth was refused: up to
+    /// `INLINE` heaps take no memory.
     pub fn word(&self, i: usize) -> Result<Position<A>, Memory>
         requires { i < length self.now.state.held }
-        ensures { IfOk result
+        ensures is { IfOk result
             (IsWordOf self.now.state (slice_index_or self.now.state.held i blank_held)) }
+        ensures inline { length (word self.now.state
+            (slice_index_or self.now.state.held i blank_held).place) ≤ INLINE → IsOk result }
     {
         let mut word = Position::new(*self.held.allocator());
         let mut at = self.held[i].place;

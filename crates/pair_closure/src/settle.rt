@@ -1,5 +1,5 @@
 //! What a turn writes: members kept and given up, and the generators.
-ghost use Rattle.std.specs.Prelude.{◌≡◌, ◌<◌, ◌≤◌, false, true, ℕ, length, filter, not, cond, Ok, OnOk, OnErr, slice_index_or, slice_set, vec_len};
+ghost use Rattle.std.specs.Prelude.{◌≡◌, ◌<◌, ◌≤◌, false, true, ℕ, length, filter, not, cond, Ok, OnOk, OnErr, IsErr, slice_index_or, slice_set, vec_len};
 ghost use Rattle.std.specs.Vec.{vec_capacity};
 ghost use Rattle.transition_algebra.specs.Pairs as covering;
 ghost use Rattle.pair_closure.specs.Turns.{Tell, covers_any, covers_held, members_with, members_after, held_with, held_after, generators_with, covered, blank_held, first_pending, NoneBefore};
@@ -108,6 +108,7 @@ pub(crate) fn settle_product<A: Allocator + Copy>(
         (length members.old)) }
     ensures before { result ≡ Ok false → (k : ℕ) → k < at
         → slice_index_or held.new.items k blank_held ≡ slice_index_or held.old.items k blank_held }
+    ensures keeps { IsErr result → covered held.old.items product ≡ false }
     ensures err_members { OnErr result (members.new ≡ members.old) }
     ensures err_held { OnErr result (held.new.items ≡ held.old.items) }
 {
@@ -144,6 +145,7 @@ pub(crate) fn settle_heap<A: Allocator + Copy>(
         ≡ cond (covered held.old.items pair) generators.old.items
         (generators_with generators.old.items pair heap)) }
     ensures kept { result ≡ Ok false → covered held.old.items pair ≡ true }
+    ensures keeps { IsErr result → covered held.old.items pair ≡ false }
     ensures err_members { OnErr result (members.new ≡ members.old) }
     ensures err_held { OnErr result (held.new.items ≡ held.old.items) }
     ensures err_generators { OnErr result (generators.new.items ≡ generators.old.items) }

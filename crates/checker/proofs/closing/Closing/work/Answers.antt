@@ -62,7 +62,7 @@ returns-in-Ok-clause-carries g c =
     (rw c.in-Ok-Broken.is at c.in-Ok-Broken.field-0-is)) in
     let fails =
     member_fails p s.lines.inside s.closure.state.heaps i t kept_data.table kept_data.heaps _
-    c.in-Ok.position c.in-Ok.ensures broken.1 in
+    c.in-Ok.position c.in-Ok.ensures.is broken.1 in
     subst (λ v. Fits v.certificate v.closure.state.limit (Outcome s.code c.in-Ok.position))
     c.self.view_is (
       refl,
@@ -72,7 +72,7 @@ returns-in-Ok-clause-carries g c =
         position_within (certificate_of p) c.in-Ok.position
             (subst (λ n. IsPosition (IsHeapUpTo n) c.in-Ok.position)
             (length_bound p s.lines.inside s.closure.state.heaps i t kept_data.table kept_data.heaps)
-            c.in-Ok.ensures.within),
+            c.in-Ok.ensures.is.within),
         fails,
       ),
     )
@@ -236,7 +236,7 @@ returns-in-Ok-clause-comes g c =
           subst (λ v. Runs bytes limit (Closing v) c.args.left.now a
           (Ended (Outcome s.code c.in-Ok.position))) c.self.view_is
           (runs-to bytes limit _ _ _ _ _ (r (certificate_of p) i.sheet.portion bytes limit)
-          (ap (λ X. Ended (Outcome s.code X)) (sym c.in-Ok.ensures.are)));
+          (ap (λ X. Ended (Outcome s.code X)) (sym c.in-Ok.ensures.is.are)));
       shown = inl refl;
       exact = λ h. omega arith;
     }

@@ -2,8 +2,11 @@ use Rattle.std.proofs.Common.{◌≡◌, sym, subst, arith, rules, length}
 use Rattle.transition_algebra.specs.Pairs.{one}
 use Rattle.pair_closure.specs.Turns.{KeepsEmpty, members_with, held_with}
 use Rattle.pair_closure.proofs.Runs.{spent_fits}
-use Rattle.pair_closure.proofs.Turned.{empty_next}
+use Rattle.pair_closure.proofs.Turned.{empty_keeps, empty_next}
 use Rattle.pair_closure.proofs.closure.Closure.keep_empty.Goals as goal
+
+pub returns-in_err-add-clause-keeps : goal.returns-in_err-add-clause-keeps
+returns-in_err-add-clause-keeps g c = λ _. empty_keeps c.args.self.now.state c.requires
 
 pub overflow_add-self : goal.overflow_add-self
 overflow_add-self g c = let fits = spent_fits _ c.self.invariant.0 in omega arith

@@ -1,9 +1,9 @@
-use Rattle.std.proofs.Common.{◌+◌, ◌<◌, ◌∙◌, sym, ap, subst, arith, rules, length}
-use Rattle.pair_closure.specs.Turns.{State, Multiplies}
+use Rattle.std.proofs.Common.{◌+◌, ◌<◌, ◌∙◌, sym, ap, subst, arith, rules, length, refl}
+use Rattle.pair_closure.specs.Turns.{State, KeepsNext, Multiplies}
 use Rattle.pair_closure.specs.Progress.{moved}
 use Rattle.pair_closure.proofs.Machine.{of_run, members_tell}
 use Rattle.pair_closure.proofs.Runs.{spent_fits}
-use Rattle.pair_closure.proofs.Turned.{read_by, read_held, read_generator, product_next, product_turned}
+use Rattle.pair_closure.proofs.Turned.{read_by, read_held, read_generator, product_keeps, product_next, product_turned}
 use Rattle.pair_closure.proofs.closure.Closure.multiply.Goals as goal
 
 pub index-generator-requires : goal.index-generator-requires
@@ -31,6 +31,15 @@ overflow_add-multiplied g c =
 
 pub settle_product-requires-clause-tell : goal.settle_product-requires-clause-tell
 settle_product-requires-clause-tell g c = members_tell _ (of_run _ c.self.invariant.0) _
+
+pub returns-in_err-anew-clause-keeps : goal.returns-in_err-anew-clause-keeps
+returns-in_err-anew-clause-keeps g c = λ _.
+    subst (λ z. KeepsNext z.state) c.self.view_is
+    (product_keeps _ c.args.at c.index-member.result.now c.index-generator.result.now
+    c.times-product.result
+    (subst (λ z. Multiplies z.state c.args.at) (sym c.self.view_is) c.requires)
+    c.index-member.ensures c.index-generator.ensures c.times-product.ensures
+    (c.in_err-anew.ensures.keeps refl))
 
 pub overflow_add-self : goal.overflow_add-self
 overflow_add-self g c = let fits = spent_fits _ c.self.invariant.0 in omega arith

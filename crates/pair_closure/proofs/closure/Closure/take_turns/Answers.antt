@@ -28,7 +28,7 @@ returns-in-Err g c =
     let h : has_ended c.loop-unit.self.state ≡ false = c.in-Err.ensures.refused (search rules) in
     inr (refused ended ended_ends c.args.self.now c.args.units c.loop-unit._unit c.loop-unit.self
     i.reached i.going c.stop.new.self c.loop-unit-test.true
-    (c.stop.ensures ∙ ap stopped c.in-Err.ensures.err) h)
+    (c.stop.ensures ∙ ap stopped c.in-Err.ensures.err) h (c.in-Err.ensures.keeps (search rules)))
 
 pub returns : goal.returns
 returns g c =

@@ -1,13 +1,20 @@
 use Rattle.std.proofs.Common.{◌+◌, ◌∙◌, sym, ap, subst, arith, rules, refl}
-use Rattle.pair_closure.specs.Turns.{State, TriesHeap}
+use Rattle.pair_closure.specs.Turns.{State, KeepsNext, TriesHeap}
 use Rattle.pair_closure.specs.Progress.{moved}
 use Rattle.pair_closure.proofs.Machine.{of_run, members_tell}
 use Rattle.pair_closure.proofs.Runs.{spent_fits}
-use Rattle.pair_closure.proofs.Turned.{heap_next, heap_turned}
+use Rattle.pair_closure.proofs.Turned.{heap_keeps, heap_next, heap_turned}
 use Rattle.pair_closure.proofs.closure.Closure.try_heap.Goals as goal
 
 pub settle_heap-requires : goal.settle_heap-requires
 settle_heap-requires g c = record { tell = members_tell _ (of_run _ c.self.invariant.0) _ }
+
+pub returns-in_err-anew-clause-keeps : goal.returns-in_err-anew-clause-keeps
+returns-in_err-anew-clause-keeps g c = λ _.
+    subst (λ z. KeepsNext z.state) c.self.view_is
+    (heap_keeps _ c.index-pair.result.now
+    (subst (λ z. TriesHeap z.state) (sym c.self.view_is) c.requires) c.index-pair.ensures
+    (c.in_err-anew.ensures.keeps refl))
 
 pub overflow_add-self : goal.overflow_add-self
 overflow_add-self g c = let fits = spent_fits _ c.self.invariant.0 in omega arith

@@ -57,7 +57,7 @@ returns-in-Err g c =
     inr (refused (ended_or_kept p) (kept_ends p) p c.args.units c.loop-turn._turn c.loop-turn.self
     i.reached i.going c.stop.new.self c.loop-turn-test.true
     (c.stop.ensures ∙ ap stopped c.in-Err.ensures.err)
-    (goes_on p c.loop-turn.self h (omega arith)))
+    (goes_on p c.loop-turn.self h (omega arith)) (c.in-Err.ensures.keeps (search rules)))
 
 pub returns : goal.returns
 returns g c =

@@ -1,10 +1,10 @@
-use Rattle.std.proofs.Common.{◌≡◌, ◌<◌, ◌∙◌, sym, ap, subst, length, get_or, refl}
+use Rattle.std.proofs.Common.{◌≡◌, ◌<◌, ◌∙◌, true≢false, sym, ap, subst, length, get_or, refl, arith}
 use Rattle.pair_closure.specs.Chains.{blank}
 use Rattle.pair_closure.specs.Turns.{blank_held}
 use Rattle.pair_closure.specs.Progress.{IsRun}
 use Rattle.pair_closure.proofs.ChainLaws.{same_default}
 use Rattle.pair_closure.proofs.Machine.{of_run, place_in}
-use Rattle.pair_closure.proofs.Words.{Walking, walk_begins, walk_goes, walk_falls, walk_sizes, walk_ends}
+use Rattle.pair_closure.proofs.Words.{Walking, walk_begins, walk_goes, walk_falls, walk_sizes, walk_room, walk_ends}
 use Rattle.pair_closure.proofs.closure.Closure.word.Goals as goal
 
 pub loop-at-init : goal.loop-at-init
@@ -43,8 +43,19 @@ loop-at-preserved g c =
     (c.get-member.ensures ∙ ap (λ z. get_or z.state.members c.loop-at.at blank) c.self.view_is)
     c.in_ok-push.ensures.ok
 
-pub returns : goal.returns
-returns g c =
+pub returns-in_err-push-clause-inline : goal.returns-in_err-push-clause-inline
+returns-in_err-push-clause-inline g c = λ few.
+    let run : IsRun c.args.self.now = subst IsRun c.self.view_is c.self.invariant.0 in
+    let less =
+    walk_room c.args.self.now.state (of_run _ run) _ c.loop-at.at c.loop-at.word
+    c.loop-at.invariant c.loop-at-test.true in
+    absurd (true≢false (sym (c.in_err-push.ensures.inline (omega arith))))
+
+pub returns-clause-inline : goal.returns-clause-inline
+returns-clause-inline g c = λ few. refl
+
+pub returns-clause-is : goal.returns-clause-is
+returns-clause-is g c =
     let run : IsRun c.args.self.now = subst IsRun c.self.view_is c.self.invariant.0 in
     walk_ends c.args.self.now.state (of_run _ run)
     (get_or c.args.self.now.state.held c.args.i blank_held) c.args.i c.loop-at.at c.loop-at.word
