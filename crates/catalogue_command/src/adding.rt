@@ -13,7 +13,7 @@ use catalogue::{AddFault, Catalogue, LoadFault};
 use checker::{Certified, check};
 use folders::Folder;
 use std::alloc::Global;
-use verdicts::verdict_text;
+use verdict_texts::verdict_text;
 
 /// The catalogue of the file, or an empty one.
 fn begun<'a, F: Folder>(

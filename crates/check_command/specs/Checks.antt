@@ -6,20 +6,17 @@ use Rattle.folders.specs.Files.{Holds}
 use Rattle.answers.specs.Answers.{IsTrueOf}
 use Rattle.answers.specs.Answers.Answer.{Yes}
 use Rattle.checker.specs.Turns.{verdict}
-use Rattle.verdict_texts.specs.Lines.{is_yes}
-use Rattle.verdict_texts.specs.Streams.{Answers, AnswersStream}
+use Rattle.verdict_texts.specs.Streams.{IsDueText, IsDueTextOfStream}
 use Rattle.command_results.specs.declared.stop.Stop.{Stop}
 use Rattle.command_results.specs.declared.stop.Stop.TheVariants.{Read, Memory}
 
 -- the text of the verdict of the bytes under the limit, and whether that is yes
 abbrev pub SaysVerdict : List ℕ → ℕ → List ℕ → Bool → Type 0
-SaysVerdict bytes limit text accepted = (a : Answers verdict bytes limit) × (text ≡ a.text)
-    × (accepted ≡ is_yes a.answer)
+SaysVerdict = IsDueText verdict
 
 -- the same for a stream that had these bytes left
 abbrev pub SaysOfStream : Option (List ℕ) → ℕ → List ℕ → Bool → Type 0
-SaysOfStream left limit text accepted = (a : AnswersStream verdict left limit) × (text ≡ a.text)
-    × (accepted ≡ is_yes a.answer)
+SaysOfStream = IsDueTextOfStream verdict
 
 -- the same for the bytes of a file
 abbrev pub SaysOfFile : Option (List ℕ → Option (List ℕ)) → List ℕ → ℕ → List ℕ → Bool → Type 0

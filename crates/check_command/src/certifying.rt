@@ -8,7 +8,7 @@ use checker::{Certified, check};
 use command_results::{Stop, read_file};
 use folders::Folder;
 use std::alloc::Global;
-use verdicts::verdict_text;
+use verdict_texts::verdict_text;
 
 /// Checks the bytes under the limit: their quotient, or else the text of a no.
 fn judged(alloc: Global, bytes: &[u8], limit: u32) -> Result<Result<Certified, Vec<u8>>, Memory>

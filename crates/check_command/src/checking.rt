@@ -1,25 +1,25 @@
 //! `check`: the verdict on a certificate.
 ghost use Rattle.std.specs.Prelude.{◌≡◌, IfOk, IfErr};
-ghost use Rattle.check_command.specs.Checks.{IsInputCause, SaysOfFile, SaysOfStream, SaysVerdict};
-ghost use Rattle.command_results.specs.Stops.{IsFileCause, IsMemory};
+ghost use Rattle.std.specs.String.{string_bytes};
+ghost use Rattle.check_command.specs.Checks.{IsInputCause, SaysOfFile, SaysOfStream};
+ghost use Rattle.command_results.specs.Stops.{IsFileCause};
 
+use checker::Checker;
 use command_results::{Said, Stop, read_file};
 use folders::Folder;
 use std::alloc::Global;
-use streams::{MemorySink, Source, StreamFault};
-use verdicts::{check_bytes, check_stream};
+use streams::{Source, StreamFault};
+use verdict_texts::{VerdictText, checked_bytes, checked_stream};
 
-/// What is said of the bytes.
-fn check_text(alloc: Global, bytes: &[u8], limit: u32) -> Result<Said, Stop<'static>>
-    ensures said { IfOk result (λ s. SaysVerdict bytes.now limit s.text.items s.well) }
-    ensures stops { IfErr result IsMemory }
+/// What is said of a verdict.
+fn said(verdict: VerdictText) -> Said
+    ensures text { result.text.items ≡ string_bytes verdict.text }
+    ensures well { result.well ≡ verdict.accepted }
 {
-    let mut sink = MemorySink::new(alloc);
-    let Ok(well) = check_bytes(alloc, bytes, &mut sink, limit) else {
-        return Err(Stop::Memory);
-    };
-    let text = sink.bytes().to_vec(alloc)?;
-    Ok(Said { text, well })
+    Said {
+        text: verdict.text.into_bytes(),
+        well: verdict.accepted,
+    }
 }
 
 /// Checks the file.
@@ -36,10 +36,8 @@ pub fn check_file<'a, F: Folder>(
         (IsFileCause name.entry.now (F.failed_reads folder.old) (F.failed_reads folder.new)) }
 {
     let bytes = read_file(folder, name)?;
-    match check_text(alloc, &bytes, limit) {
-        Ok(said) => Ok(said),
-        Err(_) => Err(Stop::Memory),
-    }
+    let verdict = checked_bytes(&Checker, alloc, &bytes, limit)?;
+    Ok(said(verdict))
 }
 
 /// Checks standard input.
@@ -51,12 +49,8 @@ pub fn check_input<S: Source>(
     ensures said { IfOk result (λ s. SaysOfStream (S.left input.old) limit s.text.items s.well) }
     ensures stops { IfErr result (IsInputCause (S.failures input.old) (S.failures input.new)) }
 {
-    let mut sink = MemorySink::new(alloc);
-    match check_stream(alloc, input, &mut sink, limit) {
-        Ok(well) => {
-            let text = sink.bytes().to_vec(alloc)?;
-            Ok(Said { text, well })
-        }
+    match checked_stream(&Checker, alloc, input, limit) {
+        Ok(verdict) => Ok(said(verdict)),
         Err(StreamFault::Read) => Err(Stop::Read("standard input")),
         Err(StreamFault::Write | StreamFault::Memory) => Err(Stop::Memory),
     }

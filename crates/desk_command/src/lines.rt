@@ -8,7 +8,7 @@ use desk::{Reply, StepFault};
 use play_command::answer_text;
 use player::Outcome;
 use std::alloc::Global;
-use verdicts::verdict_line;
+use verdict_texts::verdict_line;
 
 /// The text as a line of its own.
 fn line(alloc: Global, text: &str) -> Result<String, Memory>

@@ -6,7 +6,7 @@ use checker::Checker;
 use requests::DEFAULT_LIMIT;
 use std::alloc::Global;
 use streams::{Sink, Source, StreamFault, write_whole};
-use verdict_texts::check_stream_by;
+use verdict_texts::check_stream;
 
 /// The line that tells why there is no verdict.
 fn cause_of(fault: StreamFault) -> &'static str
@@ -35,7 +35,7 @@ pub fn run<R: Source, W: Sink, E: Sink>(
         (device (E.taken err.old) (E.failures err.old))
         (device (E.taken err.new) (E.failures err.new)) result }
 {
-    match check_stream_by(&Checker, alloc, input, out, DEFAULT_LIMIT) {
+    match check_stream(&Checker, alloc, input, out, DEFAULT_LIMIT) {
         Ok(true) => 0,
         Ok(false) => 1,
         Err(fault) => {

@@ -3,7 +3,7 @@ use crate::cyclic::{cyclic, longest};
 use allocation::Room;
 use checker::{Refusal, check};
 use std::alloc::Global;
-use verdicts::verdict_text;
+use verdict_texts::verdict_text;
 
 /// How many heaps the position has that a refusal hands out, or 0.
 fn heaps_of<A: Room>(refusal: &Refusal<A>) -> usize {

@@ -2,10 +2,11 @@
 //! texts.
 use crate::certificates::{OF_0_3, OF_0_33, OF_0_75};
 use allocation::Room;
+use checker::Checker;
 use devices::{FailingSink, FailingSource, SlowSink, SlowSource};
 use std::alloc::Global;
 use streams::{MemorySink, MemorySource, Source, StreamFault};
-use verdicts::{MOST_BYTES, check_stream};
+use verdict_texts::{MOST_BYTES, check_stream};
 
 static VERDICT: &[u8] = b"yes 0.33 order 6 start 1 period 3\n";
 
@@ -40,7 +41,7 @@ fn end_of(checked: Result<bool, StreamFault>, bytes: &[u8], text: &[u8]) -> End 
 /// `ample`.
 fn ended<A: Room + Copy, S: Source>(alloc: A, ample: Global, source: &mut S, text: &[u8]) -> End {
     let mut sink = MemorySink::new(ample);
-    let checked = check_stream(alloc, source, &mut sink, 1000);
+    let checked = check_stream(&Checker, alloc, source, &mut sink, 1000);
     end_of(checked, sink.bytes(), text)
 }
 
@@ -70,7 +71,7 @@ fn first_wrong_read(alloc: Global) -> u64 {
 fn end_at_a_byte(alloc: Global, n: u64) -> End {
     let mut source = MemorySource::new(OF_0_33.as_bytes());
     let mut sink = FailingSink::new(SlowSink::new(alloc), n);
-    let checked = check_stream(alloc, &mut source, &mut sink, 1000);
+    let checked = check_stream(&Checker, alloc, &mut source, &mut sink, 1000);
     end_of(checked, sink.within().bytes(), VERDICT)
 }
 
@@ -105,7 +106,7 @@ pub fn is_checked<A: Room + Copy>(alloc: A, ample: Global) -> Result<bool, u8> {
 /// Whether the text of the verdict begins so.
 fn begins_so(alloc: Global, bytes: &[u8], beginning: &[u8]) -> bool {
     let mut sink = MemorySink::new(alloc);
-    check_stream(alloc, &mut MemorySource::new(bytes), &mut sink, 1000).is_ok()
+    check_stream(&Checker, alloc, &mut MemorySource::new(bytes), &mut sink, 1000).is_ok()
         && sink.bytes().starts_with(beginning)
 }
 

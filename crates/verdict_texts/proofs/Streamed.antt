@@ -1,10 +1,9 @@
 -- Answers to streams, from answers to the bytes that were read of them.
-use Rattle.std.proofs.Common.{◌≡◌, ◌≤◌, ◌<◌, ◌∙◌, ◌++◌, ap, refl, ℕ, List, Option, Some, None, length, length-append, arith, codes, append-nil, unwrap_or}
-use Rattle.std.proofs.lemmas.Fmt.{decimal_digit}
+use Rattle.std.proofs.Common.{◌≡◌, ◌≤◌, ◌<◌, ◌∙◌, ◌++◌, ap, refl, ℕ, List, Option, Some, None, length, length-append, arith, append-nil, unwrap_or}
 use Rattle.std.specs.Io.KnownBytes.{Consumes, IsAtEnd}
 use Rattle.answers.specs.Answers.{Answer}
 use Rattle.answers.specs.Answers.Answer.{Text}
-use Rattle.verdict_texts.specs.Lines.{no_line}
+use Rattle.verdict_texts.specs.Lines.{IsTextOf}
 use Rattle.verdict_texts.specs.Streams.{AreKnownAs, Answers, AnswersStream}
 
 -- where the end was reached, what was read is all that was left
@@ -37,19 +36,17 @@ longer (Some xs) None v took = absurd took
 longer (Some xs) (Some ys) v took = rw took (omega (arith, length-append v ys))
 
 abbrev pub long_stream : (due : List ℕ → ℕ → Answer) (left after : Option (List ℕ)) (v : List ℕ)
-    (limit : ℕ) → Consumes left after v → 4194304 < length v → AnswersStream due left limit
-long_stream due left after v limit took big = record {
+    (limit : ℕ) (text : List ℕ) → Consumes left after v → 4194304 < length v → IsTextOf Text text
+    → AnswersStream due left limit
+long_stream due left after v limit text took big told = record {
   bytes = unwrap_or left v;
   known = known_or left v;
   answer = Text;
-  text = no_line 1 (codes "Text");
+  text = text;
   true_of =
       record {
         long = λ _. refl;
         short = λ h. absurd (omega (arith, h, big, longer left after v took));
       };
-  told = refl;
+  told = told;
 }
-
-pub no_text_line : no_line 1 (codes "Text") ≡ codes "no 1 Text\n"
-no_text_line = rw (decimal_digit 1 (omega arith)) refl

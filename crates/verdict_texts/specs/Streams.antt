@@ -48,22 +48,24 @@ module _ (due : List ℕ → ℕ → Answer) where
     pub true_of : IsStreamed bytes limit answer
     pub told : IsTextOf answer text
 
-  -- The text of the due answer went out, all of it, and yes is said exactly where the answer is
-  -- yes.
-  abbrev pub Writes : List ℕ → ℕ → Option (List ℕ) → Option (List ℕ) → Bool → Type 0
-  Writes bytes limit before after accepted =
-      (a : Answers bytes limit) × Appends before after a.text × (accepted ≡ is_yes a.answer)
-
-  -- A beginning of the text of the due answer went out.
-  abbrev pub WritesSome : List ℕ → ℕ → Option (List ℕ) → Option (List ℕ) → Type 0
-  WritesSome bytes limit before after = (a : Answers bytes limit) × AppendsSome before after a.text
+  -- this is the text of the due answer, and yes is said exactly where the answer is yes
+  abbrev pub IsDueText : List ℕ → ℕ → List ℕ → Bool → Type 0
+  IsDueText bytes limit text accepted = (a : Answers bytes limit) × (text ≡ a.text)
+      × (accepted ≡ is_yes a.answer)
 
   -- the same for a stream that had these bytes left
+  abbrev pub IsDueTextOfStream : Option (List ℕ) → ℕ → List ℕ → Bool → Type 0
+  IsDueTextOfStream left limit text accepted = (a : AnswersStream left limit) × (text ≡ a.text)
+      × (accepted ≡ is_yes a.answer)
+
+  -- The text of an answer to the stream that had these bytes left went out, all of it, and yes is
+  -- said exactly where the answer is yes.
   abbrev pub WritesOfStream : Option (List ℕ) → ℕ → Option (List ℕ) → Option (List ℕ) → Bool
       → Type 0
   WritesOfStream left limit before after accepted =
       (a : AnswersStream left limit) × Appends before after a.text × (accepted ≡ is_yes a.answer)
 
+  -- A beginning of such a text went out.
   abbrev pub WritesSomeOfStream : Option (List ℕ) → ℕ → Option (List ℕ) → Option (List ℕ) → Type 0
   WritesSomeOfStream left limit before after = (a : AnswersStream left limit)
       × AppendsSome before after a.text

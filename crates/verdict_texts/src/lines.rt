@@ -11,6 +11,7 @@ use certificate::Cert;
 use octal_code::Code;
 use outcome_search::{SearchFault, outcome};
 use positions::{Outcome, Position};
+use std::alloc::{Allocator, Global};
 
 /// The most positions through which the outcome of a refused position is searched.
 const BUDGET: u32 = 65536;
@@ -132,16 +133,26 @@ pub fn verdict_text<A: Room + Copy>(
     }
 }
 
-/// Whether a verdict is yes, and its text. It is dropped here.
-pub fn told<A: Room + Copy>(
+/// The text of a verdict, and whether it is yes.
+#[derive(Drop)]
+pub struct VerdictText<A: Allocator = Global> {
+    pub accepted: bool,
+    pub text: String<A>,
+}
+
+/// The text of a verdict, which is dropped here.
+pub(crate) fn told<A: Room + Copy>(
     alloc: A,
     verdict: Result<Certified<A>, Refusal<A>>,
-) -> Result<(bool, String<A>), Memory>
-    ensures yes { IfOk result (λ r. r.0 ≡ is_yes (answer_of verdict)) }
-    ensures text { IfOk result (λ r. IsTextOf (answer_of verdict) (string_bytes r.1)) }
+) -> Result<VerdictText<A>, Memory>
+    ensures yes { IfOk result (λ v. v.accepted ≡ is_yes (answer_of verdict)) }
+    ensures text { IfOk result (λ v. IsTextOf (answer_of verdict) (string_bytes v.text)) }
 {
-    let is_yes = verdict.is_ok();
+    let accepted = verdict.is_ok();
     let text = verdict_text(alloc, verdict.as_ref());
     drop(verdict);
-    Ok((is_yes, text?))
+    Ok(VerdictText {
+        accepted,
+        text: text?,
+    })
 }

@@ -27,7 +27,7 @@ yes_is A (Err Limit) = refl
 yes_is A (Err Memory) = refl
 
 pub returns-clause-yes : goal.returns-clause-yes
-returns-clause-yes g c = c.is_ok-is_yes.ensures.value ∙ yes_is _ c.args.verdict
+returns-clause-yes g c = c.is_ok-accepted.ensures.value ∙ yes_is _ c.args.verdict
 
 pub returns-clause-text : goal.returns-clause-text
 returns-clause-text g c =

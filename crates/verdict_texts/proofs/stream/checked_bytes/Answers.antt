@@ -3,7 +3,7 @@ use Rattle.std.specs.Prelude.{IfOk}
 use Rattle.std.specs.String.{string_bytes}
 use Rattle.answers.specs.Answers.{answer_of}
 use Rattle.verdict_texts.proofs.Due.{told_is_due}
-use Rattle.verdict_texts.proofs.stream.answered.Goals as goal
+use Rattle.verdict_texts.proofs.stream.checked_bytes.Goals as goal
 
 both : {X E : Type 0} {P Q R : X → Type 0} (r : Result X E) → IfOk r P → IfOk r Q
     → ((x : X) → P x → Q x → R x) → IfOk r R
@@ -12,10 +12,10 @@ both (Err e) p q f = p
 
 pub returns : goal.returns
 returns g c =
-    both c.told.result c.told.ensures.yes c.told.ensures.text (λ r yes text. (
+    both c.told.result c.told.ensures.yes c.told.ensures.text (λ v yes text. (
       record {
         answer = answer_of c.check.result;
-        text = string_bytes r.1;
+        text = string_bytes v.text;
         true_of = c.check.ensures.true_of;
         decided = told_is_due _ _ _ c.check.ensures.decided text;
         told = text;
