@@ -106,7 +106,14 @@ pub fn is_checked<A: Room + Copy>(alloc: A, ample: Global) -> Result<bool, u8> {
 /// Whether the text of the verdict begins so.
 fn begins_so(alloc: Global, bytes: &[u8], beginning: &[u8]) -> bool {
     let mut sink = MemorySink::new(alloc);
-    check_stream(&Checker, alloc, &mut MemorySource::new(bytes), &mut sink, 1000).is_ok()
+    check_stream(
+        &Checker,
+        alloc,
+        &mut MemorySource::new(bytes),
+        &mut sink,
+        1000,
+    )
+    .is_ok()
         && sink.bytes().starts_with(beginning)
 }
 
