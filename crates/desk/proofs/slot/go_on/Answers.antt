@@ -9,7 +9,6 @@ returns-then-not-matches g c =
     let after = c.reached.result in
     let target = c.saturating_add-target.result in
     let few = c.checks_end.ensures.few old.bytes old.limit (omega arith) in
-    let most = c.checks_end.ensures.most old.bytes old.limit in
     let t = c.saturating_add-target.ensures in
     let d = c.spent-done.ensures.value in
     let r = c.reached.ensures in
