@@ -9,6 +9,8 @@ mod element_sets_tests;
 #[cfg(test)]
 mod growths;
 #[cfg(test)]
+mod large_closure_tests;
+#[cfg(test)]
 mod monoid_table_tests;
 #[cfg(test)]
 mod octal_code_tests;

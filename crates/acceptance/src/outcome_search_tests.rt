@@ -28,8 +28,9 @@ fn outcome_of<A: Room + Copy>(
 /// Where each digit is 1, a move takes a heap whole, and of n different heaps 2^n positions can be
 /// reached, of which a search needs fewer than 1024 to find whether n is odd. In 0.b each move
 /// changes whether the sum of the heaps is odd, and the last one takes the last heap, so a position
-/// is P where it is odd.
-static ROWS: [(&str, &str, u32, Result<Outcome, SearchFault>); 23] = [
+/// is P where it is odd. No 65,536 positions settle nine heaps of 10^18 in 0.75: each option of them
+/// leaves eight, and so has more options than that, each of which would have to be settled as N.
+static ROWS: [(&str, &str, u32, Result<Outcome, SearchFault>); 24] = [
     ("0.33", "0", 65536, Ok(Outcome::N)),
     ("0.33", "1", 65536, Ok(Outcome::P)),
     ("0.33", "1 1", 65536, Ok(Outcome::N)),
@@ -68,6 +69,7 @@ static ROWS: [(&str, &str, u32, Result<Outcome, SearchFault>); 23] = [
     ("0.b", "1 1 1", 65536, Ok(Outcome::P)),
     ("0.b", "2 5 6", 65536, Ok(Outcome::P)),
     ("0.b", "3 9", 65536, Ok(Outcome::N)),
+    ("0.75", NINE, 65536, Err(SearchFault::Budget)),
 ];
 
 /// How many rows hold.
@@ -136,7 +138,7 @@ fn count_ones(alloc: Global) -> u64 {
 
 #[test]
 fn finds_outcomes(rt: HostRuntime) {
-    assert!(rt; count_held(rt.alloc(), &ROWS) == 23);
+    assert!(rt; count_held(rt.alloc(), &ROWS) == 24);
 }
 
 #[test]

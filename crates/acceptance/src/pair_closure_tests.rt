@@ -38,7 +38,7 @@ fn is_pair(p: &Pair, value: u16, option: Option<u16>) -> bool {
 }
 
 /// How many heaps the position has that a member held stands for.
-fn length_of(closure: &Closure, i: usize) -> Option<usize> {
+pub fn length_of(closure: &Closure, i: usize) -> Option<usize> {
     if i >= closure.kept() {
         return None;
     }
