@@ -1,0 +1,163 @@
+"""The page of the atlas: what atlas/page.md says, with the tables and descriptions that its lines in braces name, out of the catalogues and of `misere describe`."""
+import collections
+import json
+import os
+import re
+import subprocess
+import sys
+import tempfile
+from concurrent.futures import ThreadPoolExecutor
+
+sys.dont_write_bytecode = True
+from survey_lines import place_of, words_of
+
+CATALOGUES = ("octal", "hexadecimal")
+HEADS = ("Code", "Order", "Portion", "Period", "Generators", "Kind", "The same quotient")
+
+
+class Entry:
+    """An entry of a catalogue, and what describes it once that is asked for."""
+
+    def __init__(self, entry):
+        self.code, self.heaps, self.certificate = entry["code"], entry["heaps"], entry["certificate"]
+        # what follows the lines of the format and the code
+        self.quotient = self.certificate.split("\n", 2)[2]
+        self.words = words_of(self.certificate)
+        self.order, self.portion = int(self.words["order"]), len(self.words["portion"].split())
+        self.description = None
+
+    @property
+    def period(self):
+        """The period and its start, or the last heap."""
+        return f"heaps to {self.heaps}" if self.heaps else f"{self.words['period']} from {self.words['start']}"
+
+    @property
+    def family(self):
+        """The shape of the code, such as `0.dd`, where d stands for an octal digit and h for a hexadecimal one."""
+        first, digits = self.code.split(".")
+        return f"{first}.{('h' if max(self.code) > '7' else 'd') * len(digits)}"
+
+    def described(self, name):
+        """The words of a line of the description, or None where the quotient isn't described."""
+        line = next((line for line in self.description.splitlines() if line.split(" ")[0] == name), None)
+        return line and line.split(" ")[1:]
+
+    @property
+    def kind(self):
+        """Tame with its number, or wild."""
+        words = self.described("order")
+        return " ".join(words[3:]) if words else ""
+
+    @property
+    def generators(self):
+        """The first heap of each generator."""
+        words = self.described("generators")
+        return " ".join(word.split("=")[1] for word in words) if words else ""
+
+
+def entries_of(root, name):
+    return [Entry(entry) for entry in json.loads((root / f"atlas/{name}.json").read_text())["entries"]]
+
+
+def describe(program, entries):
+    """Asks the program for the description of each entry, of as many side by side as there are processors."""
+
+    def described(entry):
+        with tempfile.NamedTemporaryFile("w", suffix=".mqc") as file:
+            file.write(entry.certificate)
+            file.flush()
+            run = subprocess.run([program, "describe", file.name], capture_output=True, text=True, check=False)
+        if run.returncode not in (0, 1) or (run.returncode == 1 and not run.stdout.startswith("not described")):
+            sys.exit(f"describe of {entry.code} ends with status {run.returncode}: {run.stdout}{run.stderr}")
+        entry.description = run.stdout
+
+    with ThreadPoolExecutor(len(os.sched_getaffinity(0))) as pool:
+        list(pool.map(described, entries))
+
+
+def groups_of(entries):
+    """The entries by quotient, each group and all of them in the literature's order."""
+    groups = collections.defaultdict(list)
+    for entry in sorted(entries, key=lambda entry: (place_of(entry.code), entry.heaps)):
+        groups[entry.quotient].append(entry)
+    return list(groups.values())
+
+
+def row(cells):
+    return f"| {' | '.join(str(cell) for cell in cells)} |"
+
+
+def quotient_row(group):
+    """The row of a quotient: its first code, what it is, and the other codes that have it."""
+    first, *others = group
+    same = " ".join(f"`{it.code}`" for it in others)
+    return row([f"`{first.code}`", first.order, first.portion, first.period, first.generators, first.kind, same])
+
+
+class Page:
+    """What the lines in braces stand for, over all entries of the atlas."""
+
+    def __init__(self, root, program):
+        self.root = root
+        self.entries = [entry for name in CATALOGUES for entry in entries_of(root, name)]
+        self.groups = groups_of(self.entries)
+        describe(program, [group[0] for group in self.groups])
+        for group in self.groups:
+            for entry in group:
+                entry.description = entry.description or group[0].description
+
+    def families(self):
+        """A row for each family: its codes, how many have a full quotient, tame or wild, and a partial one, and how many quotients these are."""
+        yield row(["Codes", "In all", "Full", "of these tame", "wild", "Partial", "Different quotients"])
+        yield "|---|---|---|---|---|---|---|"
+        members = collections.defaultdict(list)
+        for entry in self.entries:
+            members[entry.family].append(entry)
+        for family, entries in [*members.items(), ("all", self.entries)]:
+            full = [entry for entry in entries if entry.heaps == 0]
+            tame = sum(entry.kind.startswith("tame") for entry in full)
+            wild = sum(entry.kind == "wild" for entry in full)
+            name = family if family == "all" else f"`{family}`"
+            yield row([name, len(entries), len(full), tame, wild, len(entries) - len(full), len({entry.quotient for entry in entries})])
+
+    def table(self, family):
+        """The quotients whose first code is of this family: the full ones, and then the partial ones."""
+        groups = [group for group in self.groups if group[0].family == family]
+        yield row(HEADS)
+        yield "|---" * len(HEADS) + "|"
+        yield from (quotient_row(group) for group in groups if group[0].heaps == 0)
+        yield from (quotient_row(group) for group in groups if group[0].heaps > 0)
+
+    def described(self, code):
+        """The description of a code's entry, as the program prints it of the first code with the same quotient, under its own code."""
+        entry = next(entry for entry in self.entries if entry.code == code)
+        yield "```text"
+        yield re.sub(r"\AQ\(\S+\)", f"Q({code})", entry.description).rstrip("\n")
+        yield "```"
+
+    def file(self, name):
+        """What a file of the atlas says."""
+        yield (self.root / "atlas" / name).read_text().rstrip("\n")
+
+    def rest(self):
+        """How far the partial quotients go."""
+        bounds = [(1, 9), (10, 19), (20, 29), (30, 49), (50, 99), (100, 1023), (1024, 1024)]
+        partial = [entry for entry in self.entries if entry.heaps]
+        yield row(["Last heap", "Codes", "The first"])
+        yield "|---|---|---|"
+        for least, most in bounds:
+            codes = [entry.code for entry in partial if least <= entry.heaps <= most]
+            if codes:
+                yield row([f"{least} to {most}" if least < most else least, len(codes), f"`{min(codes, key=place_of)}`"])
+
+    def lines(self):
+        """The lines of the page."""
+        for line in (self.root / "atlas/page.md").read_text().splitlines():
+            named = re.fullmatch(r"\{(families|table|described|file|rest)(?: (\S+))?\}", line)
+            if named:
+                yield from getattr(self, named[1])(*([named[2]] if named[2] else []))
+            else:
+                yield line
+
+    def text(self):
+        return "\n".join(self.lines()) + "\n"
