@@ -30,7 +30,6 @@ pub mod StageLemmas
 pub mod DueLemmas
 pub mod AdvanceLemmas
 pub mod HeldLemmas
-pub mod LookedLemmas
 pub mod TrueTests
 pub mod TrueTables
 pub mod TruePhases

@@ -41,14 +41,18 @@ pub record ProductsSoFar (c : Certificate) (f h : ℕ) : Type 0 where
   pub rows : (g k : ℕ) → g < f → 1 ≤ k → k < c.start + c.period → IsInOrder c g k
   pub row : (k : ℕ) → 1 ≤ k → k < h → IsInOrder c f k
 
+-- the period, or 1 where there is none
+abbrev pub period_or_one : Certificate → ℕ
+period_or_one c = c.period + (1 - c.period)
+
 -- The periods below r don't serve, and r serves for i heaps from the start on. Where there is no
 -- period, r is 1 and i is 0.
 pub record PeriodsSoFar (c : Certificate) (r i : ℕ) : Type 0 where
   pub free : HasNoFaultBelow 5 c
   pub from_one : 1 ≤ r
-  pub within : r ≤ c.period + (1 - c.period)
+  pub within : r ≤ period_or_one c
   pub shorter : (s : ℕ) → 1 ≤ s → s < r → (n : ℕ) × (c.start ≤ n) × (phi_at c (s + n) ≢ phi_at c n)
-  pub short : i < c.period + (1 - c.period)
+  pub short : i < period_or_one c
   pub same : (j : ℕ) → j < i → phi_at c (r + (c.start + j)) ≡ phi_at c (c.start + j)
 
 -- the pairs of elements before the number were looked at, and for (x, y), which has this number,

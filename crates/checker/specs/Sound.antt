@@ -1,5 +1,5 @@
 -- What each stage of a check holds while it goes on, in numbers alone.
-use Rattle.std.specs.Prelude.{◌-◌, ◌≡◌, ℕ, ◌+◌, ◌<◌, ◌≤◌, false, List, length, slice_index}
+use Rattle.std.specs.Prelude.{◌≡◌, ℕ, ◌+◌, ◌<◌, ◌≤◌, false, List, length, slice_index}
 use Rattle.misere_theory.specs.Certificates.{InRanges}
 use Rattle.monoid_table.specs.Grids.{Grid}
 use Rattle.monoid_table.specs.Turns.{triples}
@@ -8,6 +8,7 @@ use Rattle.transition_algebra.specs.Work.{heap_cost}
 use Rattle.certificate.specs.Pieces.{pretending_of}
 use Rattle.pair_closure.specs.Progress as closing
 use Rattle.checker.specs.Bounds.{bound_of}
+use Rattle.checker.specs.Progress.{period_or_one}
 use Rattle.checker.specs.Views.{LawsView, KeysView, ProductsView, PeriodsView, SeparatingView, HeapsView, ElementsView, ClosingView}
 use Rattle.checker.specs.Turns.{Phase}
 use Rattle.checker.specs.Turns.Phase.{Reading, Laws, Keys, Products, Periods, Separating, Heaps, Elements, Closing, Ended}
@@ -28,8 +29,8 @@ pub record AreProducts (p : ProductsView) : Type 0 where
 
 pub record ArePeriods (p : PeriodsView) : Type 0 where
   pub ranges : InRanges p.certificate
-  pub shift : p.shift ≤ p.certificate.period + (1 - p.certificate.period)
-  pub count : p.count < p.certificate.period + (1 - p.certificate.period)
+  pub shift : p.shift ≤ period_or_one p.certificate
+  pub count : p.count < period_or_one p.certificate
 
 pub record AreSeparating (s : SeparatingView) : Type 0 where
   pub ranges : InRanges s.certificate

@@ -12,7 +12,7 @@ ghost use Rattle.checker.specs.Bounds.{bound_of};
 ghost use Rattle.answers.specs.Answers.Answer.{Yes, Outcome, Limit};
 ghost use Rattle.checker.specs.Turns.{Phase};
 ghost use Rattle.checker.specs.Turns.Phase.{Closing as AtClosing, Ended as AtEnded};
-ghost use Rattle.checker.specs.Closes.{Closes};
+ghost use Rattle.checker.specs.Closes.{HasClosed, GoesOn};
 ghost use Rattle.checker.specs.Stages.{Carries, Comes, reached};
 
 use crate::lines::Lines;
@@ -94,34 +94,8 @@ fn close<A: Room + Copy>(
     requires obey { HeldObey inside.now closure.old.state.held }
     requires going { has_ended closure.old.state ≡ false }
     requires fresh { closure.old.failed ≡ false }
-    ensures more { result ≡ Ok Looked.More
-        → (left.new ≡ 0) × HeldObey inside.now closure.new.state.held }
-    ensures done { result ≡ Ok Looked.Done → IsClosedOver closure.new.state
-        × HeldObey inside.now closure.new.state.held }
-    ensures over { result ≡ Ok Looked.Over → IsExceeded closure.new.state }
-    ensures broken { (i : ℕ) → result ≡ Ok (Looked.Broken i)
-        → (i < length closure.new.state.held)
-        × Breaks inside.now (slice_index_or closure.new.state.held i blank_held).pair }
-    ensures stays { result ≡ Ok Looked.More → (has_ended closure.new.state ≡ false)
-        × (closure.new.failed ≡ false) }
-    ensures turns { result ≡ Ok Looked.More
-        → Closes inside.now closure.old left.old left.new
-        (λ c. AtClosing (record { certificate = c; closure = closure.new })) }
-    ensures yes { result ≡ Ok Looked.Done
-        → Closes inside.now closure.old left.old left.new (λ c. AtEnded (Yes c)) }
-    ensures limit { result ≡ Ok Looked.Over
-        → Closes inside.now closure.old left.old left.new (λ c. AtEnded Limit) }
-    ensures outcome { (i : ℕ) → result ≡ Ok (Looked.Broken i)
-        → Closes inside.now closure.old left.old left.new
-        (λ c. AtEnded
-        (Outcome c.code
-        (rising
-        (word closure.new.state (slice_index_or closure.new.state.held i blank_held).place)))) }
-    ensures refused { OnErr result ((to : Certificate → Phase)
-        × Closes inside.now closure.old left.old left.new to) }
-    ensures data { SameData closure.old.state closure.new.state }
-    ensures spends { left.new ≤ left.old }
-    ensures spent { left.new + closure.new.spent ≡ left.old + closure.old.spent }
+    ensures closed { HasClosed inside.now closure.old left.old left.new closure.new result }
+    ensures goes_on { GoesOn closure.old left.old left.new closure.new }
 {
     'members: loop {
         let before = closure.spent();

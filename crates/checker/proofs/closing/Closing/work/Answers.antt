@@ -1,4 +1,4 @@
-use Rattle.std.proofs.Common.{◌≡◌, ◌<◌, arith, inl, inr, subst, sym, ◌∙◌, ap, Result, Ok, refl, length, slice_index_or}
+use Rattle.std.proofs.Common.{◌≡◌, ℕ, arith, inl, inr, subst, sym, ◌∙◌, ap, Result, Ok, refl, slice_index_or}
 use Rattle.misere_theory.specs.Games.{IsHeapUpTo, IsPosition}
 use Rattle.misere_theory.specs.Certificates.{IsHeapOf}
 use Rattle.misere_theory.specs.Quotients.{ReachesMoreThan}
@@ -9,7 +9,10 @@ use Rattle.checker.specs.declared.closing.Looked.TheVariants.{More, Done, Over, 
 use Rattle.allocation.specs.declared.Memory.{Memory}
 use Rattle.certificate.specs.Pieces.{Pieces, certificate_of}
 use Rattle.checker.specs.Sheets.{pieces_of}
-use Rattle.checker.specs.Rules.{Breaks}
+use Rattle.checker.specs.Closes.{HasClosed}
+use Rattle.pair_closure.specs.Progress.{Progress}
+use Rattle.std.specs.FinSet as set
+use Rattle.std.specs.Ordering.{nat_cmp}
 use Rattle.checker.specs.Closings.{IsClosing}
 use Rattle.answers.specs.Answers.{Fits}
 use Rattle.answers.specs.Answers.Answer.{Yes, Limit, Outcome}
@@ -21,8 +24,12 @@ use Rattle.checker.proofs.TurnLemmas.{runs-to}
 use Rattle.checker.proofs.HeapLemmas.{length_bound, over_reaches, member_fails, members_cover, position_within}
 use Rattle.checker.proofs.closing.Closing.work.Goals as goal
 
-closed : (r : Result Looked Memory) (f h : Looked) → r ≡ Ok f → f ≡ h → r ≡ Ok h
-closed r f h e d = e ∙ ap Ok d
+-- what the closing came to
+come : (inside : set.FinSet nat_cmp) (p q : Progress) (before after : ℕ)
+    (r : Result Looked Memory) (f h : Looked) → HasClosed inside p before after q r → r ≡ Ok f
+    → f ≡ h → HasClosed inside p before after q (Ok h)
+come inside p q before after r f h k e d =
+    subst (HasClosed inside p before after q) (e ∙ ap Ok d) k
 
 pub returns-in-Ok-Over-clause-carries : goal.returns-in-Ok-Over-clause-carries
 returns-in-Ok-Over-clause-carries g c =
@@ -32,12 +39,12 @@ returns-in-Ok-Over-clause-carries g c =
     s.lines.apart.items in
     let i = c.self.invariant.0 in
     let t = c.close-closed.new.closure.state in
-    let kept_data = c.close-closed.ensures.«data» in
+    let kept_data = c.close-closed.ensures.goes_on.same in
     let more =
     over_reaches p s.lines.inside s.closure.state.heaps i t kept_data.table kept_data.heaps
-    (c.close-closed.ensures.over
-    (closed c.close-closed.result c.in-Ok-Over.field-0 Over c.in-Ok-Over.is
-    (rw c.in-Ok-Over.is at c.in-Ok-Over.field-0-is))) in
+    ((come c.self.inside.lines.inside c.self.inside.closure c.close-closed.new.closure c.args.left.now
+    c.close-closed.new.left _ _ Over c.close-closed.ensures.closed c.in-Ok-Over.is
+    (rw c.in-Ok-Over.is at c.in-Ok-Over.field-0-is)).0) in
     subst (λ v. Fits v.certificate v.closure.state.limit Limit) c.self.view_is (
       i.sheet.lawful.monoid,
       i.canonical,
@@ -53,12 +60,11 @@ returns-in-Ok-clause-carries g c =
     s.lines.apart.items in
     let i = c.self.invariant.0 in
     let t = c.close-closed.new.closure.state in
-    let kept_data = c.close-closed.ensures.«data» in
+    let kept_data = c.close-closed.ensures.goes_on.same in
     let n = c.in-Ok-Broken.i in
-    let broken : (n < length t.held)
-    × Breaks s.lines.inside (slice_index_or t.held n blank_held).pair =
-    c.close-closed.ensures.broken n
-    (closed c.close-closed.result c.in-Ok-Broken.field-0 (Broken n) c.in-Ok-Broken.is
+    let broken =
+    (come c.self.inside.lines.inside c.self.inside.closure c.close-closed.new.closure c.args.left.now
+    c.close-closed.new.left _ _ (Broken n) c.close-closed.ensures.closed c.in-Ok-Broken.is
     (rw c.in-Ok-Broken.is at c.in-Ok-Broken.field-0-is)) in
     let fails =
     member_fails p s.lines.inside s.closure.state.heaps i t kept_data.table kept_data.heaps _
@@ -81,8 +87,8 @@ pub word-requires : goal.word-requires
 word-requires g c =
     let n = c.in-Ok-Broken.i in
     let broken =
-    c.close-closed.ensures.broken n
-    (closed c.close-closed.result c.in-Ok-Broken.field-0 (Broken n) c.in-Ok-Broken.is
+    (come c.self.inside.lines.inside c.self.inside.closure c.close-closed.new.closure c.args.left.now
+    c.close-closed.new.left _ _ (Broken n) c.close-closed.ensures.closed c.in-Ok-Broken.is
     (rw c.in-Ok-Broken.is at c.in-Ok-Broken.field-0-is)) in
     broken.0
 
@@ -90,15 +96,11 @@ pub invariant_of-result : goal.invariant_of-result
 invariant_of-result g c =
     let s = c.self.inside in
     let t = c.close-closed.new.closure.state in
-    let kept_data = c.close-closed.ensures.«data» in
+    let kept_data = c.close-closed.ensures.goes_on.same in
     let more =
-    c.close-closed.ensures.more
-    (closed c.close-closed.result c.in-Ok-More.field-0 More c.in-Ok-More.is
-    (rw c.in-Ok-More.is at c.in-Ok-More.field-0-is)) in
-    let stays =
-    c.close-closed.ensures.stays
-    (closed c.close-closed.result c.in-Ok-More.field-0 More c.in-Ok-More.is
-    (rw c.in-Ok-More.is at c.in-Ok-More.field-0-is)) in (
+    come c.self.inside.lines.inside c.self.inside.closure c.close-closed.new.closure c.args.left.now
+    c.close-closed.new.left _ _ More c.close-closed.ensures.closed c.in-Ok-More.is
+    (rw c.in-Ok-More.is at c.in-Ok-More.field-0-is) in (
       subst (λ g.
           IsClosing
           (pieces_of s.code g s.phi s.lines.portion.items s.lines.words.items s.lines.apart.items)
@@ -109,8 +111,8 @@ invariant_of-result g c =
           s.lines.words.items s.lines.apart.items) s.lines.inside h) (sym kept_data.heaps)
           c.self.invariant.0),
       more.1,
-      stays.0,
-      stays.1,
+      more.2,
+      more.3,
     )
 
 pub accepted-requires : goal.accepted-requires
@@ -121,14 +123,14 @@ accepted-requires g c =
     s.lines.apart.items in
     let i = c.self.invariant.0 in
     let t = c.close-closed.new.closure.state in
-    let kept_data = c.close-closed.ensures.«data» in
-    let (whole, obey) =
-    c.close-closed.ensures.done
-    (closed c.close-closed.result c.in-Ok-Done.field-0 Done c.in-Ok-Done.is
+    let kept_data = c.close-closed.ensures.goes_on.same in
+    let done =
+    (come c.self.inside.lines.inside c.self.inside.closure c.close-closed.new.closure c.args.left.now
+    c.close-closed.new.left _ _ Done c.close-closed.ensures.closed c.in-Ok-Done.is
     (rw c.in-Ok-Done.is at c.in-Ok-Done.field-0-is)) in
     let covered =
     members_cover p s.lines.inside s.closure.state.heaps i t kept_data.table kept_data.heaps
-    whole obey in
+    done.0 done.1 in
     let accepted =
     c.tested_certificates_are_accepted.ensures (certificate_of p) covered.kept
     i.sheet.lawful.in_ranges i.sheet.lawful.monoid i.canonical covered.closed covered.obey
@@ -148,7 +150,7 @@ returns-in-Err-clause-comes g c =
     let i = c.self.invariant.0 in
     let n = c.close-closed.new.closure in
     let a = c.close-closed.new.left in
-    let r = c.in-Err.ensures.refused in
+    let r = c.in-Err.ensures.closed in
     λ bytes limit. record {
       to = r.0 (certificate_of p);
       runs =
@@ -168,12 +170,12 @@ returns-in-Ok-More-clause-comes g c =
     let n = c.close-closed.new.closure in
     let a = c.close-closed.new.left in
     let r =
-    c.close-closed.ensures.turns
-    (closed c.close-closed.result c.in-Ok-More.field-0 More c.in-Ok-More.is
-    (rw c.in-Ok-More.is at c.in-Ok-More.field-0-is)) in
+    (come c.self.inside.lines.inside c.self.inside.closure c.close-closed.new.closure c.args.left.now
+    c.close-closed.new.left _ _ More c.close-closed.ensures.closed c.in-Ok-More.is
+    (rw c.in-Ok-More.is at c.in-Ok-More.field-0-is)).4 in
     let m =
-    c.close-closed.ensures.more
-    (closed c.close-closed.result c.in-Ok-More.field-0 More c.in-Ok-More.is
+    (come c.self.inside.lines.inside c.self.inside.closure c.close-closed.new.closure c.args.left.now
+    c.close-closed.new.left _ _ More c.close-closed.ensures.closed c.in-Ok-More.is
     (rw c.in-Ok-More.is at c.in-Ok-More.field-0-is)) in
     let at : Grid → Phase =
     λ t. Closing
@@ -188,7 +190,7 @@ returns-in-Ok-More-clause-comes g c =
           subst (λ v. Runs bytes limit (Closing v) c.args.left.now a (at n.state.table))
           c.self.view_is
           (runs-to bytes limit _ _ _ _ _ (r (certificate_of p) i.sheet.portion bytes limit)
-          (ap at (sym c.close-closed.ensures.«data».table)));
+          (ap at (sym c.close-closed.ensures.goes_on.same.table)));
       shown = inl refl;
       exact = λ h. absurd (omega (arith, m.0));
     }
@@ -203,9 +205,9 @@ returns-in-Ok-Over-clause-comes g c =
     let n = c.close-closed.new.closure in
     let a = c.close-closed.new.left in
     let r =
-    c.close-closed.ensures.limit
-    (closed c.close-closed.result c.in-Ok-Over.field-0 Over c.in-Ok-Over.is
-    (rw c.in-Ok-Over.is at c.in-Ok-Over.field-0-is)) in
+    (come c.self.inside.lines.inside c.self.inside.closure c.close-closed.new.closure c.args.left.now
+    c.close-closed.new.left _ _ Over c.close-closed.ensures.closed c.in-Ok-Over.is
+    (rw c.in-Ok-Over.is at c.in-Ok-Over.field-0-is)).1 in
     λ bytes limit. record {
       to = Ended Limit;
       runs =
@@ -226,9 +228,9 @@ returns-in-Ok-clause-comes g c =
     let a = c.close-closed.new.left in
     let k = c.in-Ok-Broken.i in
     let r =
-    c.close-closed.ensures.outcome k
-    (closed c.close-closed.result c.in-Ok-Broken.field-0 (Broken k) c.in-Ok-Broken.is
-    (rw c.in-Ok-Broken.is at c.in-Ok-Broken.field-0-is)) in
+    (come c.self.inside.lines.inside c.self.inside.closure c.close-closed.new.closure c.args.left.now
+    c.close-closed.new.left _ _ (Broken k) c.close-closed.ensures.closed c.in-Ok-Broken.is
+    (rw c.in-Ok-Broken.is at c.in-Ok-Broken.field-0-is)).2 in
     let m = slice_index_or n.state.held k blank_held in
     λ bytes limit. record {
       to = Ended (Outcome s.code c.in-Ok.position);
@@ -252,9 +254,9 @@ returns-in-Err-word-clause-comes g c =
     let a = c.close-closed.new.left in
     let k = c.in-Ok-Broken.i in
     let r =
-    c.close-closed.ensures.outcome k
-    (closed c.close-closed.result c.in-Ok-Broken.field-0 (Broken k) c.in-Ok-Broken.is
-    (rw c.in-Ok-Broken.is at c.in-Ok-Broken.field-0-is)) in
+    (come c.self.inside.lines.inside c.self.inside.closure c.close-closed.new.closure c.args.left.now
+    c.close-closed.new.left _ _ (Broken k) c.close-closed.ensures.closed c.in-Ok-Broken.is
+    (rw c.in-Ok-Broken.is at c.in-Ok-Broken.field-0-is)).2 in
     let m = slice_index_or n.state.held k blank_held in
     λ bytes limit. record {
       to = Ended (Outcome s.code (rising (word n.state m.place)));
@@ -276,14 +278,14 @@ returns-in-Ok-Done-clause-comes g c =
     let n = c.close-closed.new.closure in
     let a = c.close-closed.new.left in
     let r =
-    c.close-closed.ensures.yes
-    (closed c.close-closed.result c.in-Ok-Done.field-0 Done c.in-Ok-Done.is
-    (rw c.in-Ok-Done.is at c.in-Ok-Done.field-0-is)) in
+    (come c.self.inside.lines.inside c.self.inside.closure c.close-closed.new.closure c.args.left.now
+    c.close-closed.new.left _ _ Done c.close-closed.ensures.closed c.in-Ok-Done.is
+    (rw c.in-Ok-Done.is at c.in-Ok-Done.field-0-is)).2 in
     let e =
     ap (λ t.
     certificate_of
     (pieces_of s.code t s.phi s.lines.portion.items s.lines.words.items s.lines.apart.items))
-    (c.finish-table.ensures.table ∙ c.close-closed.ensures.«data».table) in
+    (c.finish-table.ensures.table ∙ c.close-closed.ensures.goes_on.same.table) in
     λ bytes limit. record {
       to = Ended (Yes (certificate_of p));
       runs =
