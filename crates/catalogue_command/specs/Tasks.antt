@@ -6,7 +6,7 @@ use Rattle.requests.specs.Requests.{CatalogueRequest}
 use Rattle.requests.specs.Requests.CatalogueRequest.{Print, New, Add, NewWith, Get, Salvage, Migrate}
 use Rattle.catalogue_command.specs.Answers.{Adds, Creates, Gets, Lists, Migrates, Salvages}
 use Rattle.catalogue_command.specs.Stops.{Failed, StopsAdd, StopsCreate, StopsGet, StopsList, StopsSalvage}
-use Rattle.catalogue_command.specs.declared.stop.CatalogueStop.{CatalogueStop}
+use Rattle.command_results.specs.declared.stop.Stop.{Stop}
 
 -- what is said of a catalogue file, and what it holds then, by the files before and after
 abbrev pub SaysOfCatalogue : ℕ → Option (List ℕ → Option (List ℕ))
@@ -46,7 +46,7 @@ Leaves None before after = after ≡ before
 Leaves (Some file) before after = (bytes : List ℕ) × Replaces before after file bytes
 
 -- why a task upon a catalogue file stops
-abbrev pub StopsTask : List ℕ → CatalogueRequest → Failed → Failed → CatalogueStop → Type 0
+abbrev pub StopsTask : List ℕ → CatalogueRequest → Failed → Failed → Stop → Type 0
 StopsTask file Print before after stop = StopsList file before after stop
 StopsTask file New before after stop = StopsCreate before after stop
 StopsTask file (Add certificate) before after stop =

@@ -1,16 +1,16 @@
 //! A certificate added to a catalogue file.
-ghost use Rattle.std.specs.Prelude.{◌≡◌, IfErr, IfOk, Ok, OnErr, OnOk, false, string_bytes};
+ghost use Rattle.std.specs.Prelude.{◌≡◌, IfErr, IfOk, Ok, OnErr, OnOk, false};
 ghost use Rattle.folders.specs.Files.{Replaces};
 ghost use Rattle.catalogue.specs.Texts.{catalogue_text};
 ghost use Rattle.catalogue_command.specs.Answers.{Adds, AddsAnswer, Begins, Creates, IsAddition, Takes};
 ghost use Rattle.catalogue_command.specs.Stops.{StopsAdd, StopsCreate, StopsList, StopsSalvage, failed};
 
+use crate::files::{put, read};
 use crate::lines::{added_line, last_line, line};
-use crate::report::Report;
-use crate::stop::{CatalogueStop, put, read};
 use allocation::Memory;
 use catalogue::{AddFault, Catalogue, LoadFault};
 use checker::{Certified, check};
+use command_results::{Said, Stop};
 use folders::Folder;
 use std::alloc::Global;
 use verdict_texts::verdict_text;
@@ -22,7 +22,7 @@ fn begun<'a, F: Folder>(
     file: &'a str,
     fresh: bool,
     limit: u32,
-) -> Result<Result<Catalogue, LoadFault>, CatalogueStop<'a>>
+) -> Result<Result<Catalogue, LoadFault>, Stop<'a>>
     ensures begins { IfOk result (Begins fresh limit (F.files folder.old) file.entry.now) }
     ensures kept { F.files folder.new ≡ F.files folder.old }
     ensures well { IfOk result (λ _. F.failed_reads folder.new ≡ F.failed_reads folder.old) }
@@ -42,17 +42,17 @@ fn begun<'a, F: Folder>(
 }
 
 /// Adds a certificate that was accepted: whether it was added, and what is printed.
-fn taken(alloc: Global, catalogue: &mut Catalogue, certified: Certified) -> Result<Report, Memory>
+fn taken(alloc: Global, catalogue: &mut Catalogue, certified: Certified) -> Result<Said, Memory>
     ensures { IfOk result
-        (λ r. Takes catalogue.old certified r.well catalogue.new (string_bytes r.text)) }
+        (λ r. Takes catalogue.old certified r.well catalogue.new r.text.items) }
 {
     match added_line(alloc, certified.cert().code()) {
         Ok(text) => match catalogue.add(certified) {
-            Ok(()) => Ok(Report { well: true, text }),
+            Ok(()) => Ok(Said::done(text)),
             Err(AddFault::Present) => {
                 drop(text);
                 let text = line(alloc, "refused 1 Present\n")?;
-                Ok(Report { well: false, text })
+                Ok(Said::no(text.into_bytes()))
             }
             Err(AddFault::Memory) => Err(Memory),
         },
@@ -66,19 +66,16 @@ fn addition(
     catalogue: &mut Catalogue,
     bytes: &[u8],
     limit: u32,
-) -> Result<Report, Memory>
+) -> Result<Said, Memory>
     ensures { IfOk result
-        (λ r. IsAddition catalogue.old bytes.now limit r.well catalogue.new (string_bytes r.text)) }
+        (λ r. IsAddition catalogue.old bytes.now limit r.well catalogue.new r.text.items) }
 {
     match check(alloc, bytes, limit) {
         Ok(certified) => taken(alloc, catalogue, certified),
         Err(refusal) => {
             let text = verdict_text(alloc, Err(&refusal));
             drop(refusal);
-            Ok(Report {
-                well: false,
-                text: text?,
-            })
+            Ok(Said::no(text?.into_bytes()))
         }
     }
 }
@@ -88,7 +85,7 @@ pub(crate) fn save<F: Folder>(
     folder: &mut F,
     file: &str,
     catalogue: &Catalogue,
-) -> Result<(), CatalogueStop<'static>>
+) -> Result<(), Stop<'static>>
     ensures saved { OnOk result
         (Replaces (F.files folder.old) (F.files folder.new) file.now
         (catalogue_text catalogue.now)) }
@@ -103,14 +100,10 @@ pub(crate) fn save<F: Folder>(
 
 /// Makes a file of the empty catalogue, or puts it in place of what was there. Nothing is printed.
 /// Where it stops, every file is as it was.
-pub fn create<F: Folder>(
-    alloc: Global,
-    folder: &mut F,
-    file: &str,
-) -> Result<Report, CatalogueStop<'static>>
+pub fn create<F: Folder>(alloc: Global, folder: &mut F, file: &str) -> Result<Said, Stop<'static>>
     ensures told { IfOk result
         (λ r. Creates (F.files folder.old) (F.files folder.new) file.now r.well
-        (string_bytes r.text)) }
+        r.text.items) }
     ensures kept { OnErr result (F.files folder.new ≡ F.files folder.old) }
     ensures stops { IfErr result (StopsCreate
         (failed (F.failed_reads folder.old) (F.failed_writes folder.old))
@@ -120,10 +113,7 @@ pub fn create<F: Folder>(
     let saved = save(folder, file, &catalogue);
     drop(catalogue);
     saved?;
-    Ok(Report {
-        well: true,
-        text: String::new(alloc),
-    })
+    Ok(Said::done(String::new(alloc)))
 }
 
 /// Adds the certificate of another file to a catalogue, and puts its text in place of the file's
@@ -135,10 +125,10 @@ fn extended<'a, F: Folder>(
     certificate: &'a str,
     catalogue: &mut Catalogue,
     limit: u32,
-) -> Result<Report, CatalogueStop<'a>>
+) -> Result<Said, Stop<'a>>
     ensures told { IfOk result
         (λ r. AddsAnswer limit (F.files folder.old) (F.files folder.new) file.now
-        certificate.entry.now (Ok catalogue.old) r.well (string_bytes r.text)) }
+        certificate.entry.now (Ok catalogue.old) r.well r.text.items) }
     ensures kept { OnErr result (F.files folder.new ≡ F.files folder.old) }
     ensures stops { IfErr result (StopsSalvage certificate.entry.now
         (failed (F.failed_reads folder.old) (F.failed_writes folder.old))
@@ -162,10 +152,10 @@ pub fn add<'a, F: Folder>(
     certificate: &'a str,
     fresh: bool,
     limit: u32,
-) -> Result<Report, CatalogueStop<'a>>
+) -> Result<Said, Stop<'a>>
     ensures told { IfOk result
         (λ r. Adds fresh limit (F.files folder.old) (F.files folder.new) file.entry.now
-        certificate.entry.now r.well (string_bytes r.text)) }
+        certificate.entry.now r.well r.text.items) }
     ensures kept { OnErr result (F.files folder.new ≡ F.files folder.old) }
     ensures stops { IfErr result (StopsAdd fresh file.entry.now certificate.entry.now
         (failed (F.failed_reads folder.old) (F.failed_writes folder.old))
@@ -175,7 +165,7 @@ pub fn add<'a, F: Folder>(
         Err(stop) => Err(stop),
         Ok(Err(fault)) => {
             let text = last_line(alloc, fault)?;
-            Ok(Report { well: false, text })
+            Ok(Said::no(text.into_bytes()))
         }
         Ok(Ok(mut catalogue)) => extended(alloc, folder, file, certificate, &mut catalogue, limit),
     }

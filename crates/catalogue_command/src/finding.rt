@@ -1,30 +1,30 @@
 //! One entry of a catalogue file.
-ghost use Rattle.std.specs.Prelude.{◌≡◌, IfErr, IfOk, IsErrOf, Ok, string_bytes};
+ghost use Rattle.std.specs.Prelude.{◌≡◌, IfErr, IfOk, IsErrOf, Ok};
 ghost use Rattle.catalogue_command.specs.Answers.{Gets, GetsAnswer, IsGotten};
 ghost use Rattle.catalogue_command.specs.Stops.{StopsGet, failed};
 
+use crate::files::read;
 use crate::lines::{last_line, line};
-use crate::report::Report;
-use crate::stop::{CatalogueStop, read};
 use allocation::Memory;
 use catalogue::{Catalogue, certificate_text};
+use command_results::{Said, Stop};
 use folders::Folder;
 use octal_code::Code;
 use std::alloc::Global;
 
 /// What is printed of a catalogue for a code and a kind.
-fn found(alloc: Global, catalogue: &Catalogue, code: &Code, heaps: u64) -> Result<Report, Memory>
+fn found(alloc: Global, catalogue: &Catalogue, code: &Code, heaps: u64) -> Result<Said, Memory>
     ensures { IfOk result
-        (λ r. GetsAnswer code.now heaps (Ok catalogue.now) r.well (string_bytes r.text)) }
+        (λ r. GetsAnswer code.now heaps (Ok catalogue.now) r.well r.text.items) }
 {
     match catalogue.get(code, heaps) {
         Some(certified) => {
             let text = certificate_text(alloc, certified.cert())?;
-            Ok(Report { well: true, text })
+            Ok(Said::done(text))
         }
         None => {
             let text = line(alloc, "absent\n")?;
-            Ok(Report { well: false, text })
+            Ok(Said::no(text.into_bytes()))
         }
     }
 }
@@ -36,9 +36,9 @@ fn entry_of(
     code: &Code,
     heaps: u64,
     limit: u32,
-) -> Result<Report, Memory>
+) -> Result<Said, Memory>
     ensures { IfOk result
-        (λ r. IsGotten bytes.now limit code.now heaps r.well (string_bytes r.text)) }
+        (λ r. IsGotten bytes.now limit code.now heaps r.well r.text.items) }
 {
     match Catalogue::load(alloc, bytes, limit) {
         Ok(catalogue) => {
@@ -49,7 +49,7 @@ fn entry_of(
         }
         Err(fault) => {
             let text = last_line(alloc, fault)?;
-            Ok(Report { well: false, text })
+            Ok(Said::no(text.into_bytes()))
         }
     }
 }
@@ -64,18 +64,18 @@ pub fn get<'a, F: Folder>(
     code: &str,
     heaps: u64,
     limit: u32,
-) -> Result<Report, CatalogueStop<'a>>
+) -> Result<Said, Stop<'a>>
     ensures told { IfOk result
         (λ r. Gets limit (F.files folder.old) file.entry.now code.now heaps r.well
-        (string_bytes r.text)) }
+        r.text.items) }
     ensures kept { F.files folder.new ≡ F.files folder.old }
-    ensures usage { IsErrOf result CatalogueStop.NotACode → folder.new ≡ folder.old }
+    ensures usage { IsErrOf result Stop.NotACode → folder.new ≡ folder.old }
     ensures stops { IfErr result (StopsGet file.entry.now code.now
         (failed (F.failed_reads folder.old) (F.failed_writes folder.old))
         (failed (F.failed_reads folder.new) (F.failed_writes folder.new))) }
 {
     let Ok(code) = Code::read(code.as_bytes()) else {
-        return Err(CatalogueStop::NotACode);
+        return Err(Stop::NotACode);
     };
     let bytes = read(folder, file)?;
     let report = entry_of(alloc, &bytes, &code, heaps, limit)?;

@@ -7,20 +7,17 @@
 #![tactic(auto)]
 
 mod adding;
+mod files;
 mod finding;
 mod lines;
 mod listing;
 mod migrating;
-mod report;
 mod salvaging;
-mod stop;
 mod tasks;
 
 pub use adding::{add, create};
 pub use finding::get;
 pub use listing::list;
 pub use migrating::migrate;
-pub use report::Report;
 pub use salvaging::salvage;
-pub use stop::CatalogueStop;
 pub use tasks::act;

@@ -1,32 +1,29 @@
 //! A catalogue file listed.
-ghost use Rattle.std.specs.Prelude.{◌≡◌, IfErr, IfOk, string_bytes};
+ghost use Rattle.std.specs.Prelude.{◌≡◌, IfErr, IfOk};
 ghost use Rattle.catalogue_command.specs.Answers.{IsListing, Lists};
 ghost use Rattle.catalogue_command.specs.Stops.{StopsList, failed};
 
+use crate::files::read;
 use crate::lines::{entry_lines, last_line};
-use crate::report::Report;
-use crate::stop::{CatalogueStop, read};
 use allocation::Memory;
 use catalogue::Catalogue;
+use command_results::{Said, Stop};
 use folders::Folder;
 use std::alloc::Global;
 
 /// What is printed of the bytes.
-fn listing_of(alloc: Global, bytes: &[u8], limit: u32) -> Result<Report, Memory>
-    ensures { IfOk result (λ r. IsListing bytes.now limit r.well (string_bytes r.text)) }
+fn listing_of(alloc: Global, bytes: &[u8], limit: u32) -> Result<Said, Memory>
+    ensures { IfOk result (λ r. IsListing bytes.now limit r.well r.text.items) }
 {
     match Catalogue::load(alloc, bytes, limit) {
         Ok(catalogue) => {
             let text = entry_lines(alloc, catalogue.entries());
             drop(catalogue);
-            Ok(Report {
-                well: true,
-                text: text?,
-            })
+            Ok(Said::done(text?))
         }
         Err(fault) => {
             let text = last_line(alloc, fault)?;
-            Ok(Report { well: false, text })
+            Ok(Said::no(text.into_bytes()))
         }
     }
 }
@@ -37,9 +34,9 @@ pub fn list<'a, F: Folder>(
     folder: &mut F,
     file: &'a str,
     limit: u32,
-) -> Result<Report, CatalogueStop<'a>>
+) -> Result<Said, Stop<'a>>
     ensures told { IfOk result
-        (λ r. Lists limit (F.files folder.old) file.entry.now r.well (string_bytes r.text)) }
+        (λ r. Lists limit (F.files folder.old) file.entry.now r.well r.text.items) }
     ensures kept { F.files folder.new ≡ F.files folder.old }
     ensures stops { IfErr result (StopsList file.entry.now
         (failed (F.failed_reads folder.old) (F.failed_writes folder.old))

@@ -1,5 +1,5 @@
 //! A catalogue file written anew.
-ghost use Rattle.std.specs.Prelude.{◌≡◌, IfErr, IfOk, OnErr, string_bytes, true};
+ghost use Rattle.std.specs.Prelude.{◌≡◌, IfErr, IfOk, OnErr, true};
 ghost use Rattle.folders.specs.Files.{Replaces};
 ghost use Rattle.catalogue.specs.Texts.{catalogue_text};
 ghost use Rattle.catalogue_command.specs.Answers.{Migrates};
@@ -7,10 +7,10 @@ ghost use Rattle.catalogue_command.specs.Lines.{migrated_line};
 ghost use Rattle.catalogue_command.specs.Stops.{StopsCreate, StopsSalvage, failed};
 
 use crate::adding::save;
+use crate::files::read;
 use crate::lines::{last_line, migrated_line};
-use crate::report::Report;
-use crate::stop::{CatalogueStop, read};
 use catalogue::Catalogue;
+use command_results::{Said, Stop};
 use folders::Folder;
 use std::alloc::Global;
 
@@ -20,10 +20,10 @@ fn rewritten<F: Folder>(
     folder: &mut F,
     file: &str,
     catalogue: &Catalogue,
-) -> Result<Report, CatalogueStop<'static>>
+) -> Result<Said, Stop<'static>>
     ensures told { IfOk result (λ r. (r.well ≡ true)
         × Replaces (F.files folder.old) (F.files folder.new) file.now (catalogue_text catalogue.now)
-        × (string_bytes r.text ≡ migrated_line catalogue.now)) }
+        × (r.text.items ≡ migrated_line catalogue.now)) }
     ensures kept { OnErr result (F.files folder.new ≡ F.files folder.old) }
     ensures stops { IfErr result (StopsCreate
         (failed (F.failed_reads folder.old) (F.failed_writes folder.old))
@@ -31,7 +31,7 @@ fn rewritten<F: Folder>(
 {
     let text = migrated_line(alloc, catalogue)?;
     save(folder, file, catalogue)?;
-    Ok(Report { well: true, text })
+    Ok(Said::done(text))
 }
 
 /// Puts the entries of the file, whichever version it has, in its place as a file of the newest
@@ -42,10 +42,10 @@ pub fn migrate<'a, F: Folder>(
     folder: &mut F,
     file: &'a str,
     limit: u32,
-) -> Result<Report, CatalogueStop<'a>>
+) -> Result<Said, Stop<'a>>
     ensures told { IfOk result
         (λ r. Migrates limit (F.files folder.old) (F.files folder.new) file.entry.now r.well
-        (string_bytes r.text)) }
+        r.text.items) }
     ensures kept { OnErr result (F.files folder.new ≡ F.files folder.old) }
     ensures stops { IfErr result (StopsSalvage file.entry.now
         (failed (F.failed_reads folder.old) (F.failed_writes folder.old))
@@ -55,7 +55,7 @@ pub fn migrate<'a, F: Folder>(
     match Catalogue::load(alloc, &bytes, limit) {
         Err(fault) => {
             let text = last_line(alloc, fault)?;
-            Ok(Report { well: false, text })
+            Ok(Said::no(text.into_bytes()))
         }
         Ok(catalogue) => rewritten(alloc, folder, file, &catalogue),
     }

@@ -1,5 +1,5 @@
 //! What can be kept of a damaged catalogue file.
-ghost use Rattle.std.specs.Prelude.{◌≡◌, IfErr, IfOk, OnErr, string_bytes, true};
+ghost use Rattle.std.specs.Prelude.{◌≡◌, IfErr, IfOk, OnErr, true};
 ghost use Rattle.folders.specs.Files.{Replaces};
 ghost use Rattle.catalogue.specs.Texts.{catalogue_text};
 ghost use Rattle.catalogue_command.specs.Answers.{Salvages};
@@ -7,10 +7,10 @@ ghost use Rattle.catalogue_command.specs.Lines.{salvage_lines};
 ghost use Rattle.catalogue_command.specs.Stops.{StopsCreate, StopsSalvage, failed};
 
 use crate::adding::save;
+use crate::files::read;
 use crate::lines::{last_line, salvage_lines};
-use crate::report::Report;
-use crate::stop::{CatalogueStop, read};
 use catalogue::{Catalogue, LoadFault};
+use command_results::{Said, Stop};
 use folders::Folder;
 use std::alloc::Global;
 
@@ -22,10 +22,10 @@ fn replaced<F: Folder>(
     file: &str,
     catalogue: &Catalogue,
     faults: &[LoadFault],
-) -> Result<Report, CatalogueStop<'static>>
+) -> Result<Said, Stop<'static>>
     ensures told { IfOk result (λ r. (r.well ≡ true)
         × Replaces (F.files folder.old) (F.files folder.new) file.now (catalogue_text catalogue.now)
-        × (string_bytes r.text ≡ salvage_lines catalogue.now faults.now)) }
+        × (r.text.items ≡ salvage_lines catalogue.now faults.now)) }
     ensures kept { OnErr result (F.files folder.new ≡ F.files folder.old) }
     ensures stops { IfErr result (StopsCreate
         (failed (F.failed_reads folder.old) (F.failed_writes folder.old))
@@ -33,7 +33,7 @@ fn replaced<F: Folder>(
 {
     let text = salvage_lines(alloc, catalogue, faults)?;
     save(folder, file, catalogue)?;
-    Ok(Report { well: true, text })
+    Ok(Said::done(text))
 }
 
 /// Puts the entries of the file that stand in its place, and gives the fault of each other entry
@@ -44,10 +44,10 @@ pub fn salvage<'a, F: Folder>(
     folder: &mut F,
     file: &'a str,
     limit: u32,
-) -> Result<Report, CatalogueStop<'a>>
+) -> Result<Said, Stop<'a>>
     ensures told { IfOk result
         (λ r. Salvages limit (F.files folder.old) (F.files folder.new) file.entry.now r.well
-        (string_bytes r.text)) }
+        r.text.items) }
     ensures kept { OnErr result (F.files folder.new ≡ F.files folder.old) }
     ensures stops { IfErr result (StopsSalvage file.entry.now
         (failed (F.failed_reads folder.old) (F.failed_writes folder.old))
@@ -57,7 +57,7 @@ pub fn salvage<'a, F: Folder>(
     match Catalogue::salvage(alloc, &bytes, limit) {
         Err(fault) => {
             let text = last_line(alloc, fault)?;
-            Ok(Report { well: false, text })
+            Ok(Said::no(text.into_bytes()))
         }
         Ok((catalogue, faults)) => replaced(alloc, folder, file, &catalogue, &faults),
     }

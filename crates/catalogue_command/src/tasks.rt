@@ -1,5 +1,5 @@
 //! What can be asked of a catalogue file, each by its action.
-ghost use Rattle.std.specs.Prelude.{◌≡◌, IfErr, IfOk, IsErrOf, OnErr, string_bytes};
+ghost use Rattle.std.specs.Prelude.{◌≡◌, IfErr, IfOk, IsErrOf, OnErr};
 ghost use Rattle.catalogue_command.specs.Stops.{failed};
 ghost use Rattle.catalogue_command.specs.Tasks.{Leaves, SaysOfCatalogue, StopsTask, catalogue_written};
 ghost use Rattle.requests.specs.Requests.{catalogue_request_of};
@@ -8,9 +8,8 @@ use crate::adding::{add, create};
 use crate::finding::get;
 use crate::listing::list;
 use crate::migrating::migrate;
-use crate::report::Report;
 use crate::salvaging::salvage;
-use crate::stop::CatalogueStop;
+use command_results::{Said, Stop};
 use folders::Folder;
 use requests::CatalogueTask;
 use std::alloc::Global;
@@ -24,15 +23,15 @@ pub fn act<'a, F: Folder>(
     file: &'a str,
     task: CatalogueTask<'a>,
     limit: u32,
-) -> Result<Report, CatalogueStop<'a>>
+) -> Result<Said, Stop<'a>>
     ensures says { IfOk result
         (λ r. SaysOfCatalogue limit (F.files folder.old) (F.files folder.new) file.entry.now
-        (catalogue_request_of task.entry) (string_bytes r.text) r.well) }
+        (catalogue_request_of task.entry) r.text.items r.well) }
     ensures leaves { IfOk result
         (λ r. Leaves (catalogue_written file.entry.now (catalogue_request_of task.entry) r.well)
         (F.files folder.old) (F.files folder.new)) }
     ensures kept { OnErr result (F.files folder.new ≡ F.files folder.old) }
-    ensures usage { IsErrOf result CatalogueStop.NotACode → folder.new ≡ folder.old }
+    ensures usage { IsErrOf result Stop.NotACode → folder.new ≡ folder.old }
     ensures stops { IfErr result (StopsTask file.entry.now (catalogue_request_of task.entry)
         (failed (F.failed_reads folder.old) (F.failed_writes folder.old))
         (failed (F.failed_reads folder.new) (F.failed_writes folder.new))) }

@@ -2,14 +2,12 @@
 use Rattle.std.specs.Prelude.{◌≡◌, ⊤, ℕ, Bool, true, false, List, Option, Some, None}
 use Rattle.catalogue_command.specs.Stops as catalogue
 use Rattle.catalogue_command.specs.Tasks.{StopsTask}
-use Rattle.catalogue_command.specs.declared.stop.CatalogueStop.{CatalogueStop}
-use Rattle.catalogue_command.specs.declared.stop.CatalogueStop.TheVariants as stopped
 use Rattle.check_command.specs.Checks.{IsInputCause}
 use Rattle.command_results.specs.Stops.{IsFileCause, IsMemory}
 use Rattle.command_results.specs.declared.stop.Stop.{Stop}
-use Rattle.command_results.specs.declared.stop.Stop.TheVariants.{Read, Write, Memory, NotACode}
+use Rattle.command_results.specs.declared.stop.Stop.TheVariants.{Memory, NotACode}
 use Rattle.play_command.specs.Plays.{IsPlayCause}
-use Rattle.requests.specs.Requests.{CatalogueRequest, Request}
+use Rattle.requests.specs.Requests.{Request}
 use Rattle.requests.specs.Requests.Request.{Check, Solve, Show, Describe, Play, Present, Catalogue, Desk}
 use Rattle.solve_command.specs.Solved.{IsNoCode}
 
@@ -28,18 +26,6 @@ IsSolveCause code Memory = ⊤
 IsSolveCause code NotACode = IsNoCode code
 IsSolveCause code _ = ⊥
 
--- the stop of a catalogue, as one of the program
-abbrev pub stop_of : CatalogueStop → Stop
-stop_of (stopped.Read name) = Read name
-stop_of stopped.Write = Write
-stop_of stopped.Memory = Memory
-stop_of stopped.NotACode = NotACode
-
-abbrev pub IsCatalogueCause : List ℕ → CatalogueRequest → catalogue.Failed → catalogue.Failed → Stop
-    → Type 0
-IsCatalogueCause file task before after stop = (cause : CatalogueStop) × (stop ≡ stop_of cause)
-    × StopsTask file task before after cause
-
 -- Why each request may stop before anything is printed, by the failures before and after. A script
 -- has an end of its own.
 abbrev pub IsCause : Request → Failed → Failed → Stop → Type 0
@@ -53,7 +39,7 @@ IsCause (Play file position) before after stop =
     IsPlayCause file position before.reads after.reads stop
 IsCause (Present text) before after stop = IsMemory stop
 IsCause (Catalogue file task) before after stop =
-    IsCatalogueCause file task (catalogue.failed before.reads before.writes)
+    StopsTask file task (catalogue.failed before.reads before.writes)
     (catalogue.failed after.reads after.writes) stop
 IsCause (Desk script) before after stop = ⊥
 

@@ -6,8 +6,8 @@ ghost use Rattle.commands.specs.Causes.{IsCause, failed, reads_input, runs_scrip
 ghost use Rattle.commands.specs.Says.{Says, file_written};
 ghost use Rattle.requests.specs.Requests.{request_of};
 
-use crate::cataloguing::catalogue_said;
 use crate::solving::solve_text;
+use catalogue_command::act;
 use check_command::{check_file, check_input};
 use command_results::{Said, Stop};
 use describe_command::describe;
@@ -78,7 +78,7 @@ pub(crate) fn carry_out<'a, F: Folder, S: Source>(
             };
             solve_text(alloc, code, bounds)
         }
-        Plan::Catalogue { file, task } => catalogue_said(alloc, file, task, folder),
+        Plan::Catalogue { file, task } => act(alloc, folder, file, task, DEFAULT_LIMIT),
         Plan::Desk { .. } => unreachable!(),
     }
 }

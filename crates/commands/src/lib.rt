@@ -2,7 +2,6 @@
 #![tactic(auto)]
 
 mod carrying_out;
-mod cataloguing;
 mod running;
 mod solving;
 

@@ -6,7 +6,8 @@ use crate::catalogue_tests::file_of;
 use crate::certificates::{OF_0_3, OF_0_33, OF_0_75, OF_0_B, PART_OF_0_3};
 use crate::files::{Entry, FIRST_VERSION, ONE_ENTRY, catalogue_of, folder_with, holds};
 use crate::rows::{Row, count_held};
-use catalogue_command::{Report, act};
+use crate::said::is_said;
+use catalogue_command::act;
 use folders::MemoryFolder;
 use requests::CatalogueTask;
 use std::alloc::{AllocError, Global};
@@ -62,11 +63,6 @@ fn folder_of_file(alloc: Global, text: &str) -> Option<MemoryFolder> {
     folder_with(alloc, &[], "x.json", text, 0).ok()
 }
 
-/// Whether this is reported.
-fn is_reported(report: &Report, well: bool, text: &str) -> bool {
-    report.well == well && report.text.as_str() == text
-}
-
 /// Whether a task on a file ends so, well or not, and prints this.
 fn prints(
     alloc: Global,
@@ -90,7 +86,7 @@ fn prints_under(
     text: &str,
 ) -> bool {
     match act(alloc, folder, file, task, limit) {
-        Ok(report) => is_reported(&report, well, text),
+        Ok(said) => is_said(&said, well, text),
         Err(_) => false,
     }
 }

@@ -5,7 +5,8 @@ use crate::files::{
     EMPTY, Entry, FIRST_VERSION, ONE_ENTRY, TWO_KINDS, catalogue_of, folder_of, folder_with, holds,
 };
 use crate::rows::{Row, Step, count_held, count_steps};
-use catalogue_command::{CatalogueStop, act};
+use catalogue_command::act;
+use command_results::Stop;
 use folders::MemoryFolder;
 use requests::CatalogueTask;
 use std::alloc::Global;
@@ -26,7 +27,7 @@ fn stops(
     folder: &mut MemoryFolder,
     file: &str,
     task: CatalogueTask<'_>,
-    wanted: CatalogueStop<'_>,
+    wanted: Stop<'_>,
 ) -> bool {
     match act(alloc, folder, file, task, LIMIT) {
         Ok(_) => false,
@@ -39,7 +40,7 @@ fn stops(
 struct Acted(
     &'static str,
     CatalogueTask<'static>,
-    Result<(bool, &'static str), CatalogueStop<'static>>,
+    Result<(bool, &'static str), Stop<'static>>,
     &'static str,
 );
 
@@ -105,7 +106,7 @@ static ROWS: [Acted; 19] = [
             code: "0.x",
             heaps: 0,
         },
-        Err(CatalogueStop::NotACode),
+        Err(Stop::NotACode),
         ONE_ENTRY,
     ),
     Acted(
@@ -114,25 +115,25 @@ static ROWS: [Acted; 19] = [
             code: "0.x",
             heaps: 0,
         },
-        Err(CatalogueStop::NotACode),
+        Err(Stop::NotACode),
         ONE_ENTRY,
     ),
     Acted(
         "y.json",
         CatalogueTask::Print,
-        Err(CatalogueStop::Read("y.json")),
+        Err(Stop::Read("y.json")),
         ONE_ENTRY,
     ),
     Acted(
         "y.json",
         CatalogueTask::Add("0.3.mqc"),
-        Err(CatalogueStop::Read("y.json")),
+        Err(Stop::Read("y.json")),
         ONE_ENTRY,
     ),
     Acted(
         "x.json",
         CatalogueTask::Add("y.mqc"),
-        Err(CatalogueStop::Read("y.mqc")),
+        Err(Stop::Read("y.mqc")),
         ONE_ENTRY,
     ),
     Acted(
@@ -168,7 +169,7 @@ static ROWS: [Acted; 19] = [
     Acted(
         "y.json",
         CatalogueTask::Migrate,
-        Err(CatalogueStop::Read("y.json")),
+        Err(Stop::Read("y.json")),
         ONE_ENTRY,
     ),
 ];
@@ -425,7 +426,7 @@ fn count_given_back(alloc: Global) -> usize {
 }
 
 /// The call of the folder that fails, and why the task stops.
-struct Failure(u64, CatalogueTask<'static>, CatalogueStop<'static>);
+struct Failure(u64, CatalogueTask<'static>, Stop<'static>);
 
 impl Row for Failure {
     fn holds(&self, alloc: Global) -> bool {
@@ -438,37 +439,29 @@ impl Row for Failure {
 }
 
 static FAILURES: [Failure; 12] = [
-    Failure(1, CatalogueTask::Print, CatalogueStop::Read("x.json")),
+    Failure(1, CatalogueTask::Print, Stop::Read("x.json")),
     Failure(
         1,
         CatalogueTask::Get {
             code: "0.3",
             heaps: 0,
         },
-        CatalogueStop::Read("x.json"),
+        Stop::Read("x.json"),
     ),
-    Failure(1, CatalogueTask::New, CatalogueStop::Write),
-    Failure(
-        1,
-        CatalogueTask::Add("0.33.mqc"),
-        CatalogueStop::Read("x.json"),
-    ),
-    Failure(
-        2,
-        CatalogueTask::Add("0.33.mqc"),
-        CatalogueStop::Read("0.33.mqc"),
-    ),
-    Failure(3, CatalogueTask::Add("0.33.mqc"), CatalogueStop::Write),
+    Failure(1, CatalogueTask::New, Stop::Write),
+    Failure(1, CatalogueTask::Add("0.33.mqc"), Stop::Read("x.json")),
+    Failure(2, CatalogueTask::Add("0.33.mqc"), Stop::Read("0.33.mqc")),
+    Failure(3, CatalogueTask::Add("0.33.mqc"), Stop::Write),
     Failure(
         1,
         CatalogueTask::NewWith("0.33.mqc"),
-        CatalogueStop::Read("0.33.mqc"),
+        Stop::Read("0.33.mqc"),
     ),
-    Failure(2, CatalogueTask::NewWith("0.33.mqc"), CatalogueStop::Write),
-    Failure(1, CatalogueTask::Salvage, CatalogueStop::Read("x.json")),
-    Failure(2, CatalogueTask::Salvage, CatalogueStop::Write),
-    Failure(1, CatalogueTask::Migrate, CatalogueStop::Read("x.json")),
-    Failure(2, CatalogueTask::Migrate, CatalogueStop::Write),
+    Failure(2, CatalogueTask::NewWith("0.33.mqc"), Stop::Write),
+    Failure(1, CatalogueTask::Salvage, Stop::Read("x.json")),
+    Failure(2, CatalogueTask::Salvage, Stop::Write),
+    Failure(1, CatalogueTask::Migrate, Stop::Read("x.json")),
+    Failure(2, CatalogueTask::Migrate, Stop::Write),
 ];
 
 /// Whether the task stops so and leaves the file as it was.
@@ -476,7 +469,7 @@ fn keeps_the_file(
     alloc: Global,
     folder: &mut MemoryFolder,
     task: CatalogueTask<'_>,
-    stop: CatalogueStop<'_>,
+    stop: Stop<'_>,
 ) -> bool {
     stops(alloc, folder, "x.json", task, stop) && holds(folder, "x.json", ONE_ENTRY)
 }

@@ -1,19 +1,21 @@
-use Rattle.std.proofs.Common.{◌≡◌, Ok, IfOk, IfErr, OnErr, inr, string_bytes, subst}
+use Rattle.std.proofs.Common.{◌≡◌, Ok, IfOk, IfErr, OnErr, inr, subst}
 use Rattle.std.proofs.lemmas.Result.{IfOk-weaker, IfErr-weaker}
 use Rattle.std.specs.Prelude.{Bool, List, ℕ}
 use Rattle.catalogue_command.specs.Answers.{Adds, AddsAnswer, Begins}
 use Rattle.catalogue_command.specs.Stops.{Failed, StopsAdd, StopsSalvage, failed}
-use Rattle.catalogue_command.specs.declared.stop.CatalogueStop.{CatalogueStop}
-use Rattle.catalogue_command.specs.declared.stop.CatalogueStop.TheVariants.{Read, Write, Memory, NotACode}
+use Rattle.command_results.specs.declared.stop.Stop.{Stop}
+use Rattle.command_results.specs.declared.stop.Stop.TheVariants.{Read, Write, Memory, NotAPosition, NotACode, NotUtf8}
 use Rattle.catalogue_command.proofs.adding.add.Goals as goal
 
-stops : (fresh : Bool) (file certificate : List ℕ) (before after : Failed) (stop : CatalogueStop)
+stops : (fresh : Bool) (file certificate : List ℕ) (before after : Failed) (stop : Stop)
     → StopsSalvage certificate before after stop
     → StopsAdd fresh file certificate before after stop
 stops fresh file certificate before after (Read name) h = (inr h.0, h.1)
 stops fresh file certificate before after Write h = h
 stops fresh file certificate before after Memory h = h
 stops fresh file certificate before after NotACode h = h
+stops fresh file certificate before after NotAPosition h = h
+stops fresh file certificate before after NotUtf8 h = h
 
 pub returns-in-Ok-Ok-clause-told : goal.returns-in-Ok-Ok-clause-told
 returns-in-Ok-Ok-clause-told g c =
@@ -29,13 +31,13 @@ returns-in-Ok-Ok-clause-told g c =
     c.begun.ensures.begins) in
     IfOk-weaker c.extended.result
     (λ r. AddsAnswer c.args.limit before after file certificate (Ok cs) r.well
-    (string_bytes r.text))
+    r.text.items)
     (λ r. Adds c.args.fresh c.args.limit before after file certificate r.well
-    (string_bytes r.text))
+    r.text.items)
     (λ r h. (Ok cs, begins, h))
     (subst (λ f. IfOk c.extended.result
     (λ r. AddsAnswer c.args.limit f after file certificate (Ok cs) r.well
-    (string_bytes r.text))) c.begun.ensures.kept c.extended.ensures.told)
+    r.text.items)) c.begun.ensures.kept c.extended.ensures.told)
 
 pub returns-in-Ok-Ok-clause-kept : goal.returns-in-Ok-Ok-clause-kept
 returns-in-Ok-Ok-clause-kept g c =

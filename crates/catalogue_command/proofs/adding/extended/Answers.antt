@@ -1,4 +1,4 @@
-use Rattle.std.proofs.Common.{◌≡◌, ℕ, List, Option, Bool, true, false, string_bytes, sym, subst}
+use Rattle.std.proofs.Common.{◌≡◌, ℕ, List, Option, Bool, true, false, sym, subst}
 use Rattle.std.proofs.lemmas.Result.{IfOk-from_err}
 use Rattle.folders.specs.Files.{Replaces}
 use Rattle.misere_theory.specs.Certificates.{Certificate}
@@ -31,7 +31,7 @@ returns-clause-told g c =
       new,
       c.in_ok-bytes.ensures.bytes,
       subst (λ b. IsAddition c.args.catalogue.now b c.args.limit report.well new
-          (string_bytes report.text)) c.deref.ensures.value c.in_ok-report.ensures,
+          report.text.items) c.deref.ensures.value c.in_ok-report.ensures,
       elim c.if-report.branch [
         | then-report+in_ok-save w ↦
             subst (λ f. Saves before (g.F.Folder.files f) file report.well new)

@@ -1,4 +1,4 @@
-use Rattle.std.proofs.Common.{string_bytes, subst}
+use Rattle.std.proofs.Common.{subst}
 use Rattle.std.proofs.lemmas.Result.{IfOk-from_err}
 use Rattle.octal_code.specs.Text.{IsCodeText}
 use Rattle.catalogue_command.specs.Answers.{IsGotten}
@@ -13,7 +13,7 @@ returns-clause-told g c =
       subst (λ t. IsCodeText t code) c.as_bytes.ensures.value
           ((c.read.ensures.code code).0 c.in-Ok.is),
       c.in_ok-bytes.ensures.bytes,
-      subst (λ b. IsGotten b c.args.limit code c.args.heaps report.well (string_bytes report.text))
+      subst (λ b. IsGotten b c.args.limit code c.args.heaps report.well report.text.items)
           c.deref.ensures.value c.in_ok-report.ensures,
     )
 
