@@ -1,5 +1,4 @@
-//! The closure of the heaps' dead contexts, by which a quotient is seen to be right for every
-//! position.
+//! The dead contexts of positions, by which a quotient is seen to be right for every position.
 use crate::cells::{index, put_index, word};
 use crate::chains::{Chains, NONE};
 use crate::dead::{Dead, dead_of_heap, dead_of_sum, is_empty, is_within, leaves_portion, words_of};
@@ -19,7 +18,7 @@ const MOST_WORDS: usize = 4_000_000;
 /// For each value the largest sets of dead contexts that positions have. Those within others aren't
 /// needed, nor are empty ones: with more heaps they stay within, or empty.
 #[derive(Drop)]
-pub struct Closure<A: Allocator> {
+pub struct DeadContexts<A: Allocator> {
     members: Sets<A>,
     /// How many generators a member was multiplied with.
     done: Vec<usize, A>,
@@ -30,10 +29,10 @@ pub struct Closure<A: Allocator> {
     pub failed: bool,
 }
 
-impl<A: Allocator + Copy> Closure<A> {
+impl<A: Allocator + Copy> DeadContexts<A> {
     /// Nothing, and no memory.
-    pub fn empty(alloc: A) -> Closure<A> {
-        Closure {
+    pub fn empty(alloc: A) -> DeadContexts<A> {
+        DeadContexts {
             members: Sets::new(alloc, 0),
             done: Vec::new(alloc),
             chains: Chains::empty(alloc),
@@ -46,7 +45,7 @@ impl<A: Allocator + Copy> Closure<A> {
     pub fn begin(&mut self, alloc: A, quotient: &Quotient<A>) -> Result<(), Halt> {
         let chains = Chains::new(alloc, quotient.order)?;
         let words = words_of(quotient);
-        *self = Closure {
+        *self = DeadContexts {
             members: Sets::new(alloc, words),
             done: Vec::new(alloc),
             chains,
@@ -114,7 +113,7 @@ impl<A: Allocator + Copy> Closure<A> {
     }
 }
 
-impl<A: Allocator> Closure<A> {
+impl<A: Allocator> DeadContexts<A> {
     fn close_with(
         &mut self,
         quotient: &Quotient<A>,
