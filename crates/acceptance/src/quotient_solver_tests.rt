@@ -1,8 +1,8 @@
 //! The sizes of known quotients.
 use allocation::Room;
+use guesses::{Guess, Solver, furthest};
 use octal_code::Code;
 use positions::Position;
-use quotient_solver::{Guess, Solver, furthest};
 use std::alloc::Global;
 
 /// The order, the start and the period of the guess, if it has products for so many elements, and

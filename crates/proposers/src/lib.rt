@@ -7,8 +7,8 @@ mod reasons;
 mod refiner;
 mod sampler;
 
+pub use guesses::furthest;
 pub use periods::least_period;
-pub use quotient_solver::furthest;
 pub use reasons::{Reason, Sought, find_reason};
 pub use refiner::Refiner;
 pub use sampler::Sampler;

@@ -3,8 +3,8 @@ use crate::refiner::drafts_of;
 use allocation::Memory;
 use answers::Refusal;
 use checker::check;
+use guesses::{Cause, Guess, Solver};
 use octal_code::Code;
-use quotient_solver::{Cause, Guess, Solver};
 use std::alloc::Global;
 
 /// Why a search came to no certificate. Nothing is claimed of the game.
@@ -77,7 +77,7 @@ fn reason_of_guess(
     if !sought.is_part && !guess.shown {
         return Ok(Reason::NoPeriod { heaps, order });
     }
-    let mut drafts = drafts_of(alloc, code, guess, sought.is_part)?;
+    let mut drafts = drafts_of(alloc, guess, sought.is_part)?;
     match drafts.next(code, sought.order)? {
         Some(draft) => reason_of_draft(alloc, &draft, sought.members),
         None => Ok(Reason::Refused),

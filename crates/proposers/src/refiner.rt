@@ -3,10 +3,9 @@ ghost use Rattle.std.specs.Prelude.{◌≡◌, []};
 
 use allocation::Memory;
 use answers::Refusal;
-use drafts::{Drafts, Guess};
+use guesses::{Drafts, Guess, Solver};
 use octal_code::Code;
 use quotient_finder::{History, Proposer};
-use quotient_solver::{Guess as Solved, Solver};
 use std::alloc::Global;
 
 /// Drafts what a solver guesses of the heaps up to some size, for a whole game or for the part of
@@ -61,8 +60,8 @@ impl Refiner {
     {
         if !self.has_solved {
             self.has_solved = true;
-            if let Some(solved) = self.solver.solve(code)? {
-                self.drafts = Some(drafts_of(self.alloc, code, solved, self.is_part)?);
+            if let Some(guess) = self.solver.solve(code)? {
+                self.drafts = Some(drafts_of(self.alloc, guess, self.is_part)?);
             }
         }
         Ok(())
@@ -80,35 +79,12 @@ impl Refiner {
     }
 }
 
-/// The drafts of a solver's guess.
-pub(crate) fn drafts_of(
-    alloc: Global,
-    code: &Code,
-    solved: Solved,
-    is_part: bool,
-) -> Result<Drafts, Memory> {
-    let guess = guess_of(solved);
+/// The drafts of a guess, of a whole game or of a part.
+pub(crate) fn drafts_of(alloc: Global, guess: Guess, is_part: bool) -> Result<Drafts, Memory> {
     if is_part {
         Drafts::of_part(alloc, guess)
     } else {
-        Drafts::new(alloc, code, guess)
-    }
-}
-
-/// What of a solver's guess drafts are written from.
-fn guess_of(solved: Solved) -> Guess {
-    let Solved {
-        order,
-        products,
-        lost,
-        heaps,
-        ..
-    } = solved;
-    Guess {
-        order,
-        products,
-        lost,
-        heaps,
+        Drafts::new(alloc, guess)
     }
 }
 

@@ -3,10 +3,9 @@ ghost use Rattle.std.specs.Prelude.{◌≡◌, []};
 
 use allocation::Memory;
 use answers::Refusal;
-use drafts::Drafts;
+use guesses::{Drafts, sampled};
 use octal_code::Code;
 use quotient_finder::{History, Proposer};
-use samples::sampled;
 use std::alloc::Global;
 
 /// Drafts what a small sample of positions suggests.
@@ -42,7 +41,7 @@ impl Sampler {
         if !self.has_sampled {
             self.has_sampled = true;
             if let Some(guess) = sampled(self.alloc, code, self.heaps, self.order)? {
-                self.drafts = Some(Drafts::new(self.alloc, code, guess)?);
+                self.drafts = Some(Drafts::new(self.alloc, guess)?);
             }
         }
         match &mut self.drafts {

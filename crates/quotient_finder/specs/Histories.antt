@@ -46,30 +46,30 @@ coded_certificate =
       apart = f.1.1.1.1.1.1.1.1;
     }) (λ _. refl)
 
-abbrev Parts : Type 0
-Parts = (Certificate ⊎ (Numbers × Numbers)) ⊎ ℕ
+abbrev AnswerSum : Type 0
+AnswerSum = (Certificate ⊎ (Numbers × Numbers)) ⊎ ℕ
 
-abbrev parts_of : Answer → Parts
-parts_of (Yes c) = inl (inl c)
-parts_of (Outcome code X) = inl (inr (code, X))
-parts_of Text = inr 0
-parts_of Law = inr 1
-parts_of Word = inr 2
-parts_of Order = inr 3
-parts_of Period = inr 4
-parts_of Apart = inr 5
-parts_of Limit = inr 6
-parts_of Memory = inr 7
+abbrev sum_of_answer : Answer → AnswerSum
+sum_of_answer (Yes c) = inl (inl c)
+sum_of_answer (Outcome code X) = inl (inr (code, X))
+sum_of_answer Text = inr 0
+sum_of_answer Law = inr 1
+sum_of_answer Word = inr 2
+sum_of_answer Order = inr 3
+sum_of_answer Period = inr 4
+sum_of_answer Apart = inr 5
+sum_of_answer Limit = inr 6
+sum_of_answer Memory = inr 7
 
 abbrev numbered : ℕ → Answer
 numbered n = slice_index_or (Text ∷ Law ∷ Word ∷ Order ∷ Period ∷ Apart ∷ Limit ∷ []) n Memory
 
-abbrev answer_of_parts : Parts → Answer
-answer_of_parts (inl (inl c)) = Yes c
-answer_of_parts (inl (inr o)) = Outcome o.0 o.1
-answer_of_parts (inr n) = numbered n
+abbrev answer_of_sum : AnswerSum → Answer
+answer_of_sum (inl (inl c)) = Yes c
+answer_of_sum (inl (inr o)) = Outcome o.0 o.1
+answer_of_sum (inr n) = numbered n
 
-pub answer_back : (a : Answer) → answer_of_parts (parts_of a) ≡ a
+pub answer_back : (a : Answer) → answer_of_sum (sum_of_answer a) ≡ a
 answer_back (Yes c) = refl
 answer_back (Outcome code X) = refl
 answer_back Text = refl
@@ -83,34 +83,34 @@ answer_back Memory = refl
 
 abbrev coded_answer : Coded Answer
 coded_answer =
-    code_by Parts (coded⊎ (coded⊎ coded_certificate (coded× coded_numbers coded_numbers)) coded_ℕ) parts_of
-    answer_of_parts answer_back
+    code_by AnswerSum (coded⊎ (coded⊎ coded_certificate (coded× coded_numbers coded_numbers)) coded_ℕ) sum_of_answer
+    answer_of_sum answer_back
 
-abbrev Words : Type 0
-Words = (Numbers ⊎ Answer) ⊎ ℕ
+abbrev EventSum : Type 0
+EventSum = (Numbers ⊎ Answer) ⊎ ℕ
 
-abbrev words_of : Event → Words
-words_of (Gave draft) = inl (inl draft)
-words_of (Told a) = inl (inr a)
-words_of Silent = inr 0
-words_of Wanting = inr 1
+abbrev sum_of_event : Event → EventSum
+sum_of_event (Gave draft) = inl (inl draft)
+sum_of_event (Told a) = inl (inr a)
+sum_of_event Silent = inr 0
+sum_of_event Wanting = inr 1
 
 abbrev event_at : ℕ → Event
 event_at n = slice_index_or (Silent ∷ []) n Wanting
 
-abbrev event_of : Words → Event
-event_of (inl (inl draft)) = Gave draft
-event_of (inl (inr a)) = Told a
-event_of (inr n) = event_at n
+abbrev event_of_sum : EventSum → Event
+event_of_sum (inl (inl draft)) = Gave draft
+event_of_sum (inl (inr a)) = Told a
+event_of_sum (inr n) = event_at n
 
-pub event_back : (e : Event) → event_of (words_of e) ≡ e
+pub event_back : (e : Event) → event_of_sum (sum_of_event e) ≡ e
 event_back (Gave draft) = refl
 event_back (Told a) = refl
 event_back Silent = refl
 event_back Wanting = refl
 
 abbrev coded_event : Coded Event
-coded_event = code_by Words (coded⊎ (coded⊎ coded_numbers coded_answer) coded_ℕ) words_of event_of event_back
+coded_event = code_by EventSum (coded⊎ (coded⊎ coded_numbers coded_answer) coded_ℕ) sum_of_event event_of_sum event_back
 
 -- so are the events of a history
 abbrev pub coded_events : Coded Events

@@ -1,5 +1,6 @@
 //! What a search looks for, and what it comes to.
 use crate::quotient::Quotient;
+use misere_theory::MOST_ENTRIES;
 use std::alloc::Allocator;
 
 /// The most heaps whose pairs show those of every heap, for a code that leaves two heaps: a start
@@ -10,7 +11,7 @@ const DEEPEST_OF_TWO: usize = 2065;
 pub const DEEPEST: usize = 3090;
 
 /// The most heaps of a part of a game.
-pub const LONGEST_PART: usize = 1024;
+pub const LONGEST_PART: usize = MOST_ENTRIES as usize;
 
 /// How far a search goes.
 #[derive(Clone, Copy, Debug, PartialEq, Eq)]

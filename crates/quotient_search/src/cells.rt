@@ -1,6 +1,15 @@
 //! Reading and writing at places that may lie outside: there 0 is read, and nothing is written.
 use std::alloc::Allocator;
 
+/// How many bits a word has.
+pub const WORD_BITS: usize = 64;
+
+/// So many words have room for so many bits and one more.
+#[inline]
+pub fn words_for(bits: usize) -> usize {
+    bits / WORD_BITS + 1
+}
+
 /// The number at a place.
 #[inline]
 pub fn at(cells: &[u16], place: usize) -> usize {
@@ -21,7 +30,11 @@ pub fn put<A: Allocator>(cells: &mut Vec<u16, A>, place: usize, number: usize) {
 /// The number itself, where it is small, and 0 otherwise.
 #[inline]
 pub fn small(number: usize) -> u16 {
-    if number < 65536 { number as u16 } else { 0 }
+    if number <= u16::MAX as usize {
+        number as u16
+    } else {
+        0
+    }
 }
 
 /// The number at a place.
@@ -58,18 +71,18 @@ pub fn put_word<A: Allocator>(words: &mut Vec<u64, A>, place: usize, number: u64
     }
 }
 
-/// Whether a bit is set, 64 of them in a word.
+/// Whether a bit is set.
 #[inline]
 pub fn bit(words: &[u64], place: usize) -> bool {
-    (word(words, place / 64) >> (place % 64)) & 1 == 1
+    (word(words, place / WORD_BITS) >> (place % WORD_BITS)) & 1 == 1
 }
 
 /// Sets a bit.
 #[inline]
 pub fn set_bit<A: Allocator>(words: &mut Vec<u64, A>, place: usize) {
-    let at = place / 64;
+    let at = place / WORD_BITS;
     if at < words.len() {
-        words[at] |= 1u64 << (place % 64);
+        words[at] |= 1u64 << (place % WORD_BITS);
     }
 }
 

@@ -1,5 +1,5 @@
 //! The next quotient: the pairs of a level and an element by their coarsest congruence.
-use crate::cells::{at, clear, index, put, put_index, set_bit, small, word};
+use crate::cells::{at, clear, index, put, put_index, set_bit, small, word, words_for};
 use crate::congruence::congruence;
 use crate::levels::Levels;
 use crate::lists::Lists;
@@ -277,7 +277,7 @@ fn write<A: Allocator + Copy>(
     next.words = merging.words;
     write_rows(merging, merged, next)?;
     write_products(merging, merged, &mut next.products)?;
-    let mut set: Vec<u64, A> = vec![in alloc; 0u64; next.order / 64 + 1]?;
+    let mut set: Vec<u64, A> = vec![in alloc; 0u64; words_for(next.order)]?;
     write_options(merging, merged, &mut set, &mut next.options, work)?;
     write_heaps(merging, merged, &mut next.heaps)?;
     next.renew_moves(alloc, merging.code, work)

@@ -1,5 +1,5 @@
 //! The coarsest congruence of pairs of a level and an element.
-use crate::cells::{bit, index, put_word, set_bit, word};
+use crate::cells::{bit, index, put_word, set_bit, word, words_for};
 use crate::levels::Levels;
 use crate::partition::Partition;
 use crate::quotient::Quotient;
@@ -13,7 +13,7 @@ pub fn generators<A: Allocator + Copy>(
     work: &mut Work,
 ) -> Result<Vec<usize, A>, Halt> {
     let mut found: Vec<usize, A> = Vec::new(alloc);
-    let mut seen: Vec<u64, A> = vec![in alloc; 0u64; quotient.order / 64 + 1]?;
+    let mut seen: Vec<u64, A> = vec![in alloc; 0u64; words_for(quotient.order)]?;
     work.spend(quotient.heaps.len())?;
     for heap in quotient.heaps.iter() {
         let x = *heap as usize;

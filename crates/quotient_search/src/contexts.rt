@@ -1,29 +1,29 @@
 //! The contexts that a failing position asks for: the elements of the wrong guess, and the proper
-//! parts of the position.
-use crate::cells::{clear, index, part, put_index, set_bit};
+//! summands of the position.
+use crate::cells::{WORD_BITS, clear, index, part, put_index, set_bit, words_for};
 use crate::dead::{is_empty, is_within};
 use crate::quotient::Quotient;
 use crate::scene::Scene;
 use crate::work::{Halt, Work};
 use std::alloc::Allocator;
 
-/// The most parts of a position that are looked at.
-const MOST_PARTS: usize = 1000;
+/// The most summands of a position that are looked at.
+const MOST_SUMMANDS: usize = 1000;
 
 /// Which contexts tell elements apart.
 #[derive(Clone, Copy, PartialEq, Eq)]
 pub enum Kept {
     /// All of them.
     All,
-    /// The empty one and the parts.
-    Parts,
-    /// The empty one and one of the parts that no element stands for.
-    Part(usize),
+    /// The empty one and the summands.
+    Summands,
+    /// The empty one and one of the summands that no element stands for.
+    Summand(usize),
 }
 
-/// A part of a position: how many heaps of each size it has of those that the position has.
+/// A summand of a position: how many heaps of each size it has of those that the position has.
 #[derive(Drop)]
-struct Part<A: Allocator> {
+struct Summand<A: Allocator> {
     sizes: Vec<usize, A>,
     counts: Vec<usize, A>,
     taken: Vec<usize, A>,
@@ -37,21 +37,21 @@ fn sorted<A: Allocator + Copy>(alloc: A, heaps: &[usize]) -> Result<Vec<usize, A
     Ok(sorted)
 }
 
-impl<A: Allocator + Copy> Part<A> {
-    /// The empty part.
-    fn of(alloc: A, heaps: &[usize]) -> Result<Part<A>, Halt> {
+impl<A: Allocator + Copy> Summand<A> {
+    /// The empty summand.
+    fn of(alloc: A, heaps: &[usize]) -> Result<Summand<A>, Halt> {
         let sorted = sorted(alloc, heaps)?;
-        let mut part = Part {
+        let mut summand = Summand {
             sizes: Vec::new(alloc),
             counts: Vec::new(alloc),
             taken: Vec::new(alloc),
         };
-        part.count_all(&sorted)?;
-        Ok(part)
+        summand.count_all(&sorted)?;
+        Ok(summand)
     }
 }
 
-impl<A: Allocator> Part<A> {
+impl<A: Allocator> Summand<A> {
     /// Adds heaps to the position, by their sizes.
     fn count_all(&mut self, sorted: &[usize]) -> Result<(), Halt> {
         for size in sorted {
@@ -74,20 +74,20 @@ impl<A: Allocator> Part<A> {
         Ok(())
     }
 
-    /// About how many parts there are.
+    /// About how many summands there are.
     fn variety(&self) -> usize {
-        let mut parts = 1usize;
+        let mut summands = 1usize;
         for count in self.counts.iter() {
-            parts = parts.saturating_mul(count.saturating_add(1));
+            summands = summands.saturating_mul(count.saturating_add(1));
         }
-        if parts < MOST_PARTS {
-            parts
+        if summands < MOST_SUMMANDS {
+            summands
         } else {
-            MOST_PARTS
+            MOST_SUMMANDS
         }
     }
 
-    /// Goes to the next proper part. Answers whether there is one.
+    /// Goes to the next proper summand. Answers whether there is one.
     fn advance(&mut self) -> bool {
         for place in 0..self.counts.len() {
             let have = index(&self.taken, place);
@@ -136,7 +136,7 @@ impl<A: Allocator> Part<A> {
         value
     }
 
-    /// Sets the bits of the values of the part's options. Answers whether there is one and all are
+    /// Sets the bits of the values of the summand's options. Answers whether there is one and all are
     /// below `elements`.
     fn mask(&self, quotient: &Quotient<A>, elements: usize, mask: &mut Vec<u64, A>) -> bool {
         for (place, size) in self.sizes.iter().enumerate() {
@@ -176,7 +176,7 @@ fn scene_of_elements<A: Allocator + Copy>(
     work: &mut Work,
 ) -> Result<Scene<A>, Halt> {
     let steps = words
-        .saturating_mul(64)
+        .saturating_mul(WORD_BITS)
         .saturating_mul(words.saturating_add(1));
     work.spend(steps)?;
     let mut kept: Vec<u64, A> = vec![in alloc; 0u64; words]?;
@@ -213,21 +213,21 @@ fn write_options<A: Allocator>(quotient: &Quotient<A>, element: usize, mask: &mu
     }
 }
 
-/// Adds a part with a row of options, unless it is there, and notes whether it is kept. Answers how
+/// Adds a summand with a row of options, unless it is there, and notes whether it is kept. Answers how
 /// many no element stands for, where it was so many.
-fn add_part<A: Allocator>(
+fn add_summand<A: Allocator>(
     mask: &[u64],
     kept: Kept,
     added: usize,
     scene: &mut Scene<A>,
 ) -> Result<usize, Halt> {
     if let Some(context) = context_with(scene, mask) {
-        if kept == Kept::Parts {
+        if kept == Kept::Summands {
             set_bit(&mut scene.kept, context);
         }
         return Ok(added);
     }
-    if kept == Kept::Parts || kept == Kept::Part(added) {
+    if kept == Kept::Summands || kept == Kept::Summand(added) {
         set_bit(&mut scene.kept, scene.count);
     }
     scene.masks.extend_from_slice(mask)?;
@@ -235,11 +235,11 @@ fn add_part<A: Allocator>(
     Ok(added.wrapping_add(1))
 }
 
-/// Adds the parts, and notes those that are kept. Answers how many no element stands for.
-fn add_parts<A: Allocator + Copy>(
+/// Adds the summands, and notes those that are kept. Answers how many no element stands for.
+fn add_summands<A: Allocator + Copy>(
     alloc: A,
     quotient: &Quotient<A>,
-    part: &mut Part<A>,
+    summand: &mut Summand<A>,
     kept: Kept,
     scene: &mut Scene<A>,
     work: &mut Work,
@@ -247,21 +247,21 @@ fn add_parts<A: Allocator + Copy>(
     let elements = scene.count;
     let mut mask: Vec<u64, A> = vec![in alloc; 0u64; scene.words]?;
     let mut added = 0usize;
-    for _ in 0..MOST_PARTS {
-        if !part.advance() {
+    for _ in 0..MOST_SUMMANDS {
+        if !summand.advance() {
             break;
         }
-        work.spend(part.cost(quotient).saturating_add(scene.cost()))?;
+        work.spend(summand.cost(quotient).saturating_add(scene.cost()))?;
         clear(&mut mask);
-        if part.mask(quotient, elements, &mut mask) {
-            added = add_part(&mask, kept, added, scene)?;
+        if summand.mask(quotient, elements, &mut mask) {
+            added = add_summand(&mask, kept, added, scene)?;
         }
     }
     Ok(added)
 }
 
-/// Keeps all contexts where all are to be kept. Answers whether there is such a part as is to be
-/// kept, with so many that no element stands for.
+/// Keeps all contexts where all are to be kept. Answers whether there is such a summand as is to
+/// be kept, with so many that no element stands for.
 fn keep<A: Allocator>(kept: Kept, added: usize, scene: &mut Scene<A>) -> bool {
     if kept == Kept::All {
         for context in 0..scene.count {
@@ -269,13 +269,13 @@ fn keep<A: Allocator>(kept: Kept, added: usize, scene: &mut Scene<A>) -> bool {
         }
     }
     match kept {
-        Kept::Part(number) => number < added,
+        Kept::Summand(number) => number < added,
         _ => true,
     }
 }
 
 /// The contexts for a failing position, with the first elements of the wrong guess. `None` where
-/// there is no such part as is to be kept.
+/// there is no such summand as is to be kept.
 pub fn contexts<A: Allocator + Copy>(
     alloc: A,
     quotient: &Quotient<A>,
@@ -284,10 +284,10 @@ pub fn contexts<A: Allocator + Copy>(
     kept: Kept,
     work: &mut Work,
 ) -> Result<Option<Scene<A>>, Halt> {
-    let mut part = Part::of(alloc, heaps)?;
-    let words = elements.saturating_add(part.variety()) / 64 + 1;
+    let mut summand = Summand::of(alloc, heaps)?;
+    let words = words_for(elements.saturating_add(summand.variety()));
     let mut scene = scene_of_elements(alloc, quotient, elements, words, work)?;
-    let added = add_parts(alloc, quotient, &mut part, kept, &mut scene, work)?;
+    let added = add_summands(alloc, quotient, &mut summand, kept, &mut scene, work)?;
     if keep(kept, added, &mut scene) {
         Ok(Some(scene))
     } else {

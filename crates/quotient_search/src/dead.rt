@@ -1,14 +1,14 @@
 //! Dead contexts: the elements beside which a position's value is outside the portion, and so is
 //! that of each of its options. There the rule that a position without a P-option is a P-position
 //! would fail.
-use crate::cells::{at, bit, put_word, set_bit, word};
+use crate::cells::{WORD_BITS, at, bit, put_word, set_bit, word, words_for};
 use crate::quotient::Quotient;
 use crate::work::Halt;
 use std::alloc::Allocator;
 
 /// How many words a set of elements has.
 pub fn words_of<A: Allocator>(quotient: &Quotient<A>) -> usize {
-    quotient.order / 64 + 1
+    words_for(quotient.order)
 }
 
 /// Whether the heap n beside an element is dead: it and its options are outside the portion.
@@ -52,8 +52,8 @@ fn word_of_sum(products: &[u16], order: usize, x: Dead<'_>, y: Dead<'_>, place: 
     let by_x = x.value.wrapping_mul(order);
     let by_y = y.value.wrapping_mul(order);
     let mut bits = 0u64;
-    for i in 0..64usize {
-        let z = place.wrapping_mul(64).wrapping_add(i);
+    for i in 0..WORD_BITS {
+        let z = place.wrapping_mul(WORD_BITS).wrapping_add(i);
         if z >= order {
             break;
         }

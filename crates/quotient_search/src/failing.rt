@@ -24,7 +24,7 @@ pub struct Failing<A: Allocator> {
 
 /// Positions by weight, each with its value, its dead contexts and how it was made.
 #[derive(Drop)]
-struct Search<A: Allocator> {
+struct SearchByWeight<A: Allocator> {
     positions: Sets<A>,
     /// The position that one was made from by adding a heap, and that heap.
     made: Vec<(usize, usize), A>,
@@ -43,13 +43,13 @@ struct Scratch<A: Allocator> {
     sum: Vec<u64, A>,
 }
 
-impl<A: Allocator + Copy> Search<A> {
+impl<A: Allocator + Copy> SearchByWeight<A> {
     /// The single heaps, for weights below `most`.
-    fn new(alloc: A, quotient: &Quotient<A>, most: usize) -> Result<Search<A>, Halt> {
+    fn new(alloc: A, quotient: &Quotient<A>, most: usize) -> Result<SearchByWeight<A>, Halt> {
         let waiting = Chains::new(alloc, most)?;
         let seen = Chains::new(alloc, quotient.order)?;
         let words = words_of(quotient);
-        Ok(Search {
+        Ok(SearchByWeight {
             positions: Sets::new(alloc, words),
             made: Vec::new(alloc),
             waiting,
@@ -93,7 +93,7 @@ impl<A: Allocator + Copy> Search<A> {
     }
 }
 
-impl<A: Allocator> Search<A> {
+impl<A: Allocator> SearchByWeight<A> {
     fn find_with(
         &mut self,
         quotient: &Quotient<A>,
@@ -285,7 +285,7 @@ fn lightest_dead<A: Allocator + Copy>(
     most: usize,
     work: &mut Work,
 ) -> Result<Option<Failing<A>>, Halt> {
-    let mut search = Search::new(alloc, quotient, most)?;
+    let mut search = SearchByWeight::new(alloc, quotient, most)?;
     let found = found_by(alloc, quotient, &mut search, work);
     drop(search);
     found
@@ -295,7 +295,7 @@ fn lightest_dead<A: Allocator + Copy>(
 fn found_by<A: Allocator + Copy>(
     alloc: A,
     quotient: &Quotient<A>,
-    search: &mut Search<A>,
+    search: &mut SearchByWeight<A>,
     work: &mut Work,
 ) -> Result<Option<Failing<A>>, Halt> {
     search.begin(alloc, quotient, work)?;

@@ -6,11 +6,11 @@
 mod aim;
 mod cells;
 mod chains;
-mod closure;
 mod collapse;
 mod congruence;
 mod contexts;
 mod dead;
+mod dead_contexts;
 mod extend;
 mod failing;
 mod inside;

@@ -1,5 +1,5 @@
 //! Lightest words of heaps for the elements of a quotient, and representatives found anew.
-use crate::cells::{clear, index, put_index, put_word, set_bit, small, word};
+use crate::cells::{clear, index, put_index, put_word, set_bit, small, word, words_for};
 use crate::congruence::generators;
 use crate::lists::Lists;
 use crate::quotient::{Quotient, heap_weight};
@@ -252,7 +252,7 @@ fn options_of<A: Allocator + Copy>(
     work: &mut Work,
 ) -> Result<Lists<A>, Halt> {
     let mut options: Lists<A> = Lists::new(alloc);
-    let mut set: Vec<u64, A> = vec![in alloc; 0u64; quotient.order / 64 + 1]?;
+    let mut set: Vec<u64, A> = vec![in alloc; 0u64; words_for(quotient.order)]?;
     write_options(quotient, numbers, &mut set, &mut options, work)?;
     Ok(options)
 }

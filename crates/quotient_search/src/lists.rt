@@ -1,5 +1,5 @@
 //! Lists of elements, one after another in one memory.
-use crate::cells::{index, small};
+use crate::cells::{WORD_BITS, index, small};
 use crate::work::Halt;
 use std::alloc::Allocator;
 
@@ -45,7 +45,7 @@ impl<A: Allocator> Lists<A> {
     pub fn push_set(&mut self, set: &[u64]) -> Result<(), Halt> {
         for (place, bits) in set.iter().enumerate() {
             if *bits != 0 {
-                self.push_bits(place.wrapping_mul(64), *bits)?;
+                self.push_bits(place.wrapping_mul(WORD_BITS), *bits)?;
             }
         }
         self.ends.push(self.items.len()).map_err(Halt::from)
@@ -53,7 +53,7 @@ impl<A: Allocator> Lists<A> {
 
     /// Adds the elements of a word, of which the first one is given, to the open list.
     fn push_bits(&mut self, first: usize, bits: u64) -> Result<(), Halt> {
-        for i in 0..64usize {
+        for i in 0..WORD_BITS {
             if (bits >> i) & 1 == 1 {
                 self.items.push(small(first.wrapping_add(i)))?;
             }

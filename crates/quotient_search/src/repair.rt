@@ -95,9 +95,9 @@ fn contexts_of_try<A: Allocator + Copy>(
     let (elements, kept) = match number {
         0 => (lighter, Kept::All),
         1 => (quotient.order, Kept::All),
-        2 => (lighter, Kept::Parts),
-        3 => (quotient.order, Kept::Parts),
-        more => (quotient.order, Kept::Part(more.wrapping_sub(4))),
+        2 => (lighter, Kept::Summands),
+        3 => (quotient.order, Kept::Summands),
+        more => (quotient.order, Kept::Summand(more.wrapping_sub(4))),
     };
     contexts(alloc, quotient, &failing.heaps, elements, kept, work)
 }
@@ -133,8 +133,8 @@ fn judge<A: Allocator + Copy>(
         &mut next.quotient,
         work,
     )?;
-    next.closure.renew(alloc, &next.quotient, work)?;
-    if !next.closure.failed {
+    next.dead_contexts.renew(alloc, &next.quotient, work)?;
+    if !next.dead_contexts.failed {
         return Ok(Tried::Right);
     }
     if let Some(failing) = lightest_failing(alloc, &next.quotient, work)? {
@@ -211,7 +211,7 @@ fn first_better<A: Allocator + Copy>(
     Ok(Tried::Nothing)
 }
 
-/// Makes a wrong quotient right, with the closure that shows it, where a repair does.
+/// Makes a wrong quotient right, with the dead contexts that show it, where a repair does.
 pub fn repair<A: Allocator + Copy>(
     alloc: A,
     code: &Code,

@@ -1,8 +1,11 @@
 //! The values of what moves leave of a heap, as sets of elements.
-use crate::cells::{at, bit, clear, put_word, set_bit, word};
+use crate::cells::{WORD_BITS, at, bit, clear, put_word, set_bit, word, words_for};
 use crate::work::{Halt, Work};
 use octal_code::{Code, Leaving};
 use std::alloc::Allocator;
+
+/// How many digits a code has at most, the one before the point too.
+const MOST_DIGITS: usize = 17;
 
 /// The elements of the heaps 1, 2, .. and the products, row after row.
 #[derive(Clone, Copy)]
@@ -48,7 +51,7 @@ impl<A: Allocator + Copy> Rests<A> {
 
 /// Whether some digit of the code allows so much to stay.
 fn leaves(code: &Code, leaving: Leaving) -> bool {
-    (0..17u64).any(|j| code.allows(j, leaving))
+    (0..MOST_DIGITS as u64).any(|j| code.allows(j, leaving))
 }
 
 /// Adds the values of the two heaps that make up a rest.
@@ -68,7 +71,7 @@ fn add_products<A: Allocator>(
     set: &mut Vec<u64, A>,
 ) {
     for y in 0..values.order {
-        if bit(sets, from.wrapping_mul(64).wrapping_add(y)) {
+        if bit(sets, from.wrapping_mul(WORD_BITS).wrapping_add(y)) {
             set_bit(set, values.times(x, y));
         }
     }
@@ -85,7 +88,7 @@ fn unite<A: Allocator>(sets: &[u64], from: usize, set: &mut Vec<u64, A>) {
 impl<A: Allocator> Rests<A> {
     /// Makes an empty one ready for so many elements.
     pub fn begin(&mut self, order: usize) -> Result<(), Halt> {
-        self.words = order / 64 + 1;
+        self.words = words_for(order);
         self.set.resize(self.words, 0).map_err(Halt::from)
     }
 
@@ -138,7 +141,7 @@ impl<A: Allocator> Rests<A> {
     /// Writes the values of the options of the heap n.
     fn write(&mut self, values: Values<'_>, code: &Code, n: usize) {
         clear(&mut self.set);
-        for j in 0..17usize {
+        for j in 0..MOST_DIGITS {
             if j <= n {
                 self.write_digit(values, code, n, j);
             }

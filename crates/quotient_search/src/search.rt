@@ -21,11 +21,11 @@ fn advance<A: Allocator + Copy>(
     work: &mut Work,
 ) -> Result<(), Halt> {
     if extend(alloc, code, scene, &mut state.quotient, n, work)? {
-        state.closure.renew(alloc, &state.quotient, work)?;
+        state.dead_contexts.renew(alloc, &state.quotient, work)?;
     } else {
-        state.closure.add(alloc, &state.quotient, n, work)?;
+        state.dead_contexts.add(alloc, &state.quotient, n, work)?;
     }
-    if state.closure.failed {
+    if state.dead_contexts.failed {
         repair(alloc, code, state, work)?;
     }
     if state.quotient.order > order {
@@ -75,7 +75,7 @@ impl Search<'_> {
     ) -> Result<(), Halt> {
         let code = self.code;
         state.quotient.begin(scene)?;
-        state.closure.begin(alloc, &state.quotient)?;
+        state.dead_contexts.begin(alloc, &state.quotient)?;
         for n in 1..self.aim.last(code.leaves_three()).saturating_add(1) {
             self.heap = n;
             self.before = state.quotient.order;

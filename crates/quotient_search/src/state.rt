@@ -1,15 +1,15 @@
 //! What a search has come to.
-use crate::closure::Closure;
+use crate::dead_contexts::DeadContexts;
 use crate::failing::Failing;
 use crate::quotient::Quotient;
 use std::alloc::Allocator;
 
-/// A quotient on the way, the closure that shows whether it is right, and the lightest position at
+/// A quotient on the way, the dead contexts that show whether it is right, and the lightest position at
 /// which the rule was found to fail.
 #[derive(Drop)]
 pub struct State<A: Allocator> {
     pub quotient: Quotient<A>,
-    pub closure: Closure<A>,
+    pub dead_contexts: DeadContexts<A>,
     pub failing: Failing<A>,
 }
 
@@ -18,7 +18,7 @@ impl<A: Allocator + Copy> State<A> {
     pub fn empty(alloc: A) -> State<A> {
         State {
             quotient: Quotient::empty(alloc),
-            closure: Closure::empty(alloc),
+            dead_contexts: DeadContexts::empty(alloc),
             failing: Failing {
                 weight: 0,
                 heaps: Vec::new(alloc),

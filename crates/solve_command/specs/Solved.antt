@@ -2,6 +2,7 @@
 use Rattle.std.specs.Prelude.{◌≡◌, ◌≢◌, ◌⊎◌, ◌≤◌, ◌<◌, ℕ, Bool, true, false, List, ◌++◌, length, Option, Result, Ok, Err, codes, decimal}
 use Rattle.std.specs.Io.KnownBytes.{Appends}
 use Rattle.misere_theory.specs.Certificates.{Certificate, Accepted, kind_of}
+use Rattle.misere_theory.specs.declared.TheConstants.{MOST_ENTRIES}
 use Rattle.octal_code.specs.Text.{IsCodeText}
 use Rattle.certificate_text.specs.Spelling.{Spells}
 use Rattle.proposers.specs.declared.reasons.Reason.{Reason}
@@ -27,7 +28,7 @@ PrintsSpelling c before after = (bytes : List ℕ) × Spells bytes c × Appends 
 abbrev pub IsAimedAt : Aim → ℕ → Type 0
 IsAimedAt (Whole heaps) kind = kind ≡ 0
 IsAimedAt (Part last) kind = kind ≡ last
-IsAimedAt Furthest kind = (1 ≤ kind) × (kind ≤ 1024)
+IsAimedAt Furthest kind = (1 ≤ kind) × (kind ≤ MOST_ENTRIES)
 
 -- The certificate is accepted, and is one of this code and of a kind that is aimed at.
 pub record IsAskedFor (code : List ℕ) (aim : Aim) (c : Certificate) : Type 0 where

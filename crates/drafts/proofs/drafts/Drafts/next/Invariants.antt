@@ -1,5 +1,0 @@
-use Rattle.std.proofs.Common.{vec_len}
-use Rattle.drafts.proofs.drafts.Drafts.next.Given as goal
-
-abbrev pub decreases-loop-repeat : goal.decreases-loop-repeat
-decreases-loop-repeat l = vec_len l.self.waiting

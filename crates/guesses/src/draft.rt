@@ -1,0 +1,87 @@
+//! A draft out of a guess.
+use crate::candidates::Repeat;
+use crate::canonical_form::CanonicalForm;
+use crate::format::format_by;
+use crate::guess::Guess;
+use crate::lines::{push_keys, push_line, push_pair};
+use allocation::Memory;
+use octal_code::Code;
+use std::alloc::Global;
+
+/// The text of the certificate of the code that the guess makes, where its heaps repeat from a
+/// start on after a period, or of the heaps below the start alone where the period is 0: the
+/// elements that products of heaps reach, numbered by least keys, with least separating elements.
+///
+/// There is none where the guess has no such heaps or products, where more than `most` elements are
+/// reached, or only one, where none of them is in the portion, or where no element separates two of
+/// them. Whatever numbers the guess holds, the call ends.
+pub(crate) fn draft(
+    alloc: Global,
+    code: &Code,
+    guess: &Guess,
+    repeat: Repeat,
+    most: usize,
+) -> Result<Option<Vec<u8>>, Memory> {
+    let (start, period) = repeat;
+    let Some(length) = start.saturating_add(period).checked_sub(1) else {
+        return Ok(None);
+    };
+    let Some(heaps) = guess.heaps.get(..length) else {
+        return Ok(None);
+    };
+    let mut form = CanonicalForm::empty(alloc);
+    if form.fill(alloc, guess, heaps, most)? {
+        text(alloc, code, repeat, &form)
+    } else {
+        Ok(None)
+    }
+}
+
+/// The lines.
+fn text(
+    alloc: Global,
+    code: &Code,
+    repeat: Repeat,
+    form: &CanonicalForm,
+) -> Result<Option<Vec<u8>>, Memory> {
+    let mut text = Vec::new(alloc);
+    let order = form.numbering.elements.len();
+    push_pair(&mut text, b"mqc", format_by(code, order, repeat.1))?;
+    push_code(alloc, code, &mut text)?;
+    push_numbers(repeat, form, &mut text)?;
+    push_rows(form, &mut text)?;
+    Ok(Some(text))
+}
+
+/// Adds the line of the code.
+fn push_code(alloc: Global, code: &Code, text: &mut Vec<u8>) -> Result<(), Memory> {
+    let name = code.text(alloc)?;
+    text.extend_from_slice(b"code ")?;
+    text.extend_from_slice(name.as_str().as_bytes())?;
+    text.push(b'\n')?;
+    Ok(())
+}
+
+/// Adds the lines between the code and the table.
+fn push_numbers(repeat: Repeat, form: &CanonicalForm, text: &mut Vec<u8>) -> Result<(), Memory> {
+    push_pair(text, b"order", form.numbering.elements.len())?;
+    push_pair(text, b"start", repeat.0)?;
+    push_pair(text, b"period", repeat.1)?;
+    push_line(text, b"phi", &form.phi)?;
+    push_line(text, b"portion", &form.portion)?;
+    push_keys(text, &form.numbering.keys)
+}
+
+/// Adds the table and the lines behind it.
+fn push_rows(form: &CanonicalForm, text: &mut Vec<u8>) -> Result<(), Memory> {
+    let order = form.numbering.elements.len();
+    for x in 0..order {
+        let from = x.saturating_mul(order);
+        if let Some(row) = form.rows.get(from..from.saturating_add(order)) {
+            push_line(text, b"row", row)?;
+        }
+    }
+    push_line(text, b"apart", &form.apart)?;
+    text.extend_from_slice(b"end\n")?;
+    Ok(())
+}
