@@ -1,17 +1,14 @@
 //! The stage that closes the pairs under products with the heaps.
-ghost use Rattle.std.specs.Prelude.{◌≡◌, ◌<◌, ◌≤◌, ◌+◌, ◌*◌, ℕ, List, length, false, Ok, OnErr, slice_index_or};
+ghost use Rattle.std.specs.Prelude.{◌≡◌, ◌≤◌, ◌+◌, ◌*◌, ℕ, List, false};
 ghost use Rattle.misere_theory.specs.Games.{IsHeapUpTo};
 ghost use Rattle.misere_theory.specs.Pairs.{ElementsObey};
-ghost use Rattle.misere_theory.specs.Certificates.{Certificate, Accepted, Canonical, claim_of};
-ghost use Rattle.pair_closure.specs.Positions.{IsClosedOver, IsExceeded, rising, word};
-ghost use Rattle.pair_closure.specs.Progress.{SameData, begun, blank_held, has_ended};
+ghost use Rattle.misere_theory.specs.Certificates.{Accepted, Canonical, claim_of};
+ghost use Rattle.pair_closure.specs.Progress.{begun, has_ended};
 ghost use Rattle.certificate.specs.Pieces.{grid_of};
-ghost use Rattle.checker.specs.Rules.{Breaks, HeldObey};
+ghost use Rattle.checker.specs.Rules.{HeldObey};
 ghost use Rattle.checker.specs.Closings.{HavePairs};
 ghost use Rattle.checker.specs.Bounds.{bound_of};
-ghost use Rattle.answers.specs.Answers.Answer.{Yes, Outcome, Limit};
-ghost use Rattle.checker.specs.Turns.{Phase};
-ghost use Rattle.checker.specs.Turns.Phase.{Closing as AtClosing, Ended as AtEnded};
+ghost use Rattle.checker.specs.Turns.Phase.{Closing as AtClosing};
 ghost use Rattle.checker.specs.Closes.{HasClosed, GoesOn};
 ghost use Rattle.checker.specs.Stages.{Carries, Comes, reached};
 
