@@ -11,8 +11,9 @@ from concurrent.futures import ThreadPoolExecutor
 sys.dont_write_bytecode = True
 from survey_lines import place_of, words_of
 
+MOST_ORDER = 512
 CATALOGUES = ("octal", "hexadecimal")
-HEADS = ("Code", "Order", "Portion", "Period", "Generators", "Kind", "The same quotient")
+HEADS = ("Code", "Order", "Portion", "Period", "Generators", "Tame or wild", "The same quotient")
 
 
 class Entry:
@@ -76,9 +77,9 @@ def describe(program, entries):
 
 
 def groups_of(entries):
-    """The entries by quotient, each group and all of them in the literature's order."""
+    """The entries by quotient, in their order: octal codes first."""
     groups = collections.defaultdict(list)
-    for entry in sorted(entries, key=lambda entry: (place_of(entry.code), entry.heaps)):
+    for entry in entries:
         groups[entry.quotient].append(entry)
     return list(groups.values())
 
@@ -98,7 +99,7 @@ class Page:
     """What the lines in braces stand for, over all entries of the atlas."""
 
     def __init__(self, root, program):
-        self.root = root
+        self.root, self.program = root, program
         self.entries = [entry for name in CATALOGUES for entry in entries_of(root, name)]
         self.groups = groups_of(self.entries)
         describe(program, [group[0] for group in self.groups])
@@ -135,6 +136,12 @@ class Page:
         yield re.sub(r"\AQ\(\S+\)", f"Q({code})", entry.description).rstrip("\n")
         yield "```"
 
+    def furthest(self, code):
+        """How far a code goes with as many elements as a certificate can have, in the words with which a catalogue lists it."""
+        words = ["solve", code, "--furthest", str(MOST_ORDER)]
+        found = words_of(subprocess.run([self.program, *words], capture_output=True, text=True, check=True).stdout)
+        yield f"`misere {' '.join(words)}` finds `{code} order {found['order']} heaps {int(found['start']) - 1}`, with a portion of {len(found['portion'].split())}."
+
     def file(self, name):
         """What a file of the atlas says."""
         yield (self.root / "atlas" / name).read_text().rstrip("\n")
@@ -153,7 +160,7 @@ class Page:
     def lines(self):
         """The lines of the page."""
         for line in (self.root / "atlas/page.md").read_text().splitlines():
-            named = re.fullmatch(r"\{(families|table|described|file|rest)(?: (\S+))?\}", line)
+            named = re.fullmatch(r"\{(families|table|described|furthest|file|rest)(?: (\S+))?\}", line)
             if named:
                 yield from getattr(self, named[1])(*([named[2]] if named[2] else []))
             else:
