@@ -1,10 +1,10 @@
 -- The positions that keys spell.
-use Rattle.std.proofs.Common.{◌≡◌, ℕ, ◌-◌, ◌<◌, ◌≤◌, List, [], ◌∷◌, ◌++◌, length, get_or, append_assoc, sym, ◌∙◌, ap, subst, arith}
+use Rattle.std.proofs.Common.{◌≡◌, ℕ, ◌+◌, ◌-◌, ◌<◌, ◌≤◌, List, [], ◌∷◌, ◌++◌, length, get_or, append_assoc, sym, ◌∙◌, ap, subst, arith}
 use Rattle.std.proofs.lemmas.List.{get_or_default}
 use Rattle.misere_theory.specs.Games.{IsPosition}
 use Rattle.misere_theory.specs.Quotients.{Monoid, value}
 use Rattle.misere_theory.specs.Certificates.{Certificate, IsHeapOf, Canonical, InRanges, IsSpelled, claim_of, times_of}
-use Rattle.misere_theory.specs.Certificates.IsSpelled.{Key}
+use Rattle.misere_theory.specs.Certificates.IsSpelled.{Zero, Key}
 use Rattle.misere_theory.proofs.Written.{phi_in}
 use Rattle.misere_theory.proofs.Spelled.{spelled_value}
 use Rattle.misere_theory.proofs.Shuffles.{from_permutation, position_shuffled, value_shuffled}
@@ -51,3 +51,12 @@ key_more c ws same e r path some h Y s =
     (subst (λ (xs : List ℕ). IsSpelled c e xs)
     (sym (append_assoc path ((key_in c.words r).1 ∷ []) Y))
     (h ((key_in c.words r).1 ∷ Y) (Key r some t)))
+
+-- what an element's key spells is one heap more than what is spelled of the key's element
+pub key_less : (c : Certificate) (ws : List (ℕ × ℕ)) → c.words ≡ ws → (r : ℕ) (Y : List ℕ) → 0 < r
+    → IsSpelled c r Y
+    → (Z : List ℕ) × IsSpelled c (key_in ws r).0 Z × (length Y ≡ length Z + 1)
+key_less c ws same _ _ some Zero = absurd (omega arith)
+key_less c ws same _ _ some (Key {X} e pos w) =
+    let k : key_in c.words e ≡ key_in ws e = ap (λ (xs : List (ℕ × ℕ)). key_in xs e) same in
+    (X, subst (λ (x : ℕ). IsSpelled c x X) (ap (λ (p : ℕ × ℕ). p.0) k) w, omega arith)

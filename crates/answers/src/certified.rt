@@ -1,6 +1,6 @@
 //! Accepted certificates.
-ghost use Rattle.std.specs.Prelude.{◌≡◌, ◌<◌, IfOk};
-ghost use Rattle.misere_theory.specs.Certificates.{Accepted, IsHeapOf, claim_of, times_of, phi_at};
+ghost use Rattle.std.specs.Prelude.{◌≡◌, ◌<◌, ◌≤◌, IfOk, IsOk, ℕ, List, length};
+ghost use Rattle.misere_theory.specs.Certificates.{Accepted, IsHeapOf, IsSpelled, claim_of, times_of, phi_at};
 ghost use Rattle.misere_theory.specs.Games.{IsPosition};
 ghost use Rattle.misere_theory.specs.Quotients.{value};
 ghost use Rattle.answers.specs.Portions.{IsPortion};
@@ -11,7 +11,7 @@ use crate::values::{element, product, times};
 use allocation::{Memory, Room};
 use certificate::Cert;
 use element_sets::ElementSet;
-use positions::Position;
+use positions::{INLINE, Position};
 use std::alloc::{Allocator, Global};
 use std::marker::Model;
 
@@ -93,12 +93,14 @@ impl<A: Allocator> Certified<A> {
         self.inside.contains(x)
     }
 
-    /// The position that the keys of the element spell, whose value is the element.
+    /// The position that the keys of the element spell, whose value is the element. Up to `INLINE`
+    /// heaps take no memory.
     pub fn position_of<B: Room + Copy>(&self, alloc: B, element: u16) -> Result<Position<B>, Memory>
         requires { element < self.now.order }
         ensures keys { IfOk result (AreSpelled self.now element) }
         ensures position { IfOk result (IsPosition (IsHeapOf self.now)) }
         ensures value { IfOk result (λ X. value (claim_of self.now) X ≡ element) }
+        ensures inline { (X : List ℕ) → IsSpelled self.now element X → length X ≤ INLINE → IsOk result }
     {
         position_of(alloc, self.cert.words(), element)
     }

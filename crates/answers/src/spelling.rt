@@ -1,14 +1,14 @@
 //! The position that an element's keys spell.
-ghost use Rattle.std.specs.Prelude.{◌≡◌, ◌≤◌, IfOk, length};
-ghost use Rattle.misere_theory.specs.Certificates.{Certificate};
+ghost use Rattle.std.specs.Prelude.{◌≡◌, ◌≤◌, IfOk, IsOk, ℕ, List, length};
+ghost use Rattle.misere_theory.specs.Certificates.{Certificate, IsSpelled};
 ghost use Rattle.answers.specs.Spelled.{AreSpelled, GoDown};
 
 use allocation::{Memory, Room};
 use certificate::Key;
-use positions::Position;
+use positions::{INLINE, Position};
 
 /// The position that the keys of an element spell: the heap of its key, that of this key's element,
-/// and so on.
+/// and so on. Up to `INLINE` heaps take no memory.
 pub fn position_of<A: Room + Copy>(
     alloc: A,
     words: &[Key],
@@ -16,7 +16,10 @@ pub fn position_of<A: Room + Copy>(
 ) -> Result<Position<A>, Memory>
     requires down { GoDown words.now }
     requires element_in { element ≤ length words.now }
-    ensures { IfOk result (λ X. (c : Certificate) → c.words ≡ words.now → AreSpelled c element X) }
+    ensures spelled { IfOk result
+        (λ X. (c : Certificate) → c.words ≡ words.now → AreSpelled c element X) }
+    ensures inline { (c : Certificate) → c.words ≡ words.now → (X : List ℕ)
+        → IsSpelled c element X → length X ≤ INLINE → IsOk result }
 {
     let mut position = Position::new(alloc);
     let mut reached = element;

@@ -25,7 +25,7 @@ returns-clause-position g c =
     c.spelled_sizes_are_positions.ensures.valued s c.args.y c.in_ok-position.position
     c.words.ensures.lawful.in_ranges c.words.ensures.lawful.monoid c.requires.canonical
     c.requires.element
-    (c.in_ok-position.ensures s (sym c.words.ensures.value)) in
+    (c.in_ok-position.ensures.spelled s (sym c.words.ensures.value)) in
     position_along s c.words.ensures.lawful (c.args.heap ∷ c.in_ok-position.position)
     c.push.new.self c.in_ok-push.ensures.ok (c.requires.heap.0, spelled.0)
 
@@ -36,7 +36,7 @@ returns-clause-fails g c =
     c.spelled_sizes_are_positions.ensures.valued s c.args.y c.in_ok-position.position
     c.words.ensures.lawful.in_ranges c.words.ensures.lawful.monoid c.requires.canonical
     c.requires.element
-    (c.in_ok-position.ensures s (sym c.words.ensures.value)) in
+    (c.in_ok-position.ensures.spelled s (sym c.words.ensures.value)) in
     element_fails s c.words.ensures.lawful c.args.heap c.args.y _ c.push.new.self c.requires.heap.0
     c.requires.breach spelled.0 spelled.1 c.in_ok-push.ensures.ok
 
@@ -46,6 +46,6 @@ returns-clause-exact g c =
     let rises =
     sizes_rise s c.words.ensures.lawful c.requires.canonical c.args.y c.in_ok-position.position
     c.requires.element
-    (c.in_ok-position.ensures s (sym c.words.ensures.value)) in
+    (c.in_ok-position.ensures.spelled s (sym c.words.ensures.value)) in
     rising_with c.args.heap c.in_ok-position.position c.push.new.self (keys_from s s.order c.args.y)
     c.in_ok-push.ensures.ok c.heaps.ensures.rising rises

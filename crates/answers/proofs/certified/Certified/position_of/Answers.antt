@@ -25,7 +25,7 @@ pub returns-clause-keys : goal.returns-clause-keys
 returns-clause-keys g c =
     let d = c.args.self.now in
     let e = sym (c.words.ensures ∙ ap (λ d. d.words) c.self.view_is) in
-    if_ok c.position_of.result (λ X f. f d e) c.position_of.ensures
+    if_ok c.position_of.result (λ X f. f d e) c.position_of.ensures.spelled
 
 pub returns-clause-position : goal.returns-clause-position
 returns-clause-position g c =
@@ -34,7 +34,7 @@ returns-clause-position g c =
     let e = sym (c.words.ensures ∙ ap (λ d. d.words) c.self.view_is) in
     if_ok c.position_of.result
     (λ X f. (sizes_spelled d c.args.element X yes_to.in_ranges yes_to.represents.monoid
-    yes_to.canonical c.requires (f d e)).0) c.position_of.ensures
+    yes_to.canonical c.requires (f d e)).0) c.position_of.ensures.spelled
 
 pub returns-clause-value : goal.returns-clause-value
 returns-clause-value g c =
@@ -43,4 +43,9 @@ returns-clause-value g c =
     let e = sym (c.words.ensures ∙ ap (λ d. d.words) c.self.view_is) in
     if_ok c.position_of.result
     (λ X f. (sizes_spelled d c.args.element X yes_to.in_ranges yes_to.represents.monoid
-    yes_to.canonical c.requires (f d e)).1) c.position_of.ensures
+    yes_to.canonical c.requires (f d e)).1) c.position_of.ensures.spelled
+
+pub returns-clause-inline : goal.returns-clause-inline
+returns-clause-inline g c = λ X s few.
+    let e = sym (c.words.ensures ∙ ap (λ d. d.words) c.self.view_is) in
+    c.position_of.ensures.inline c.args.self.now e X s few
