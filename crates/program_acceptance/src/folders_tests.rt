@@ -5,7 +5,7 @@ use std::fs;
 use std::test::Fail;
 
 /// Whether the file is read as the text, or why it isn't read.
-fn is_read_as<F: Folder>(folder: &mut F, name: &str, text: &str) -> Result<bool, FileFault> {
+pub fn is_read_as<F: Folder>(folder: &mut F, name: &str, text: &str) -> Result<bool, FileFault> {
     match folder.read(name) {
         Ok(bytes) => Ok(bytes.as_slice() == text.as_bytes()),
         Err(fault) => Err(fault),
@@ -13,7 +13,7 @@ fn is_read_as<F: Folder>(folder: &mut F, name: &str, text: &str) -> Result<bool,
 }
 
 /// Whether there is no such file.
-fn is_absent<F: Folder>(folder: &mut F, name: &str) -> bool {
+pub fn is_absent<F: Folder>(folder: &mut F, name: &str) -> bool {
     matches!(is_read_as(folder, name, ""), Err(FileFault::Device))
 }
 

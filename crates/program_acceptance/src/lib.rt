@@ -13,11 +13,15 @@ mod command_results_tests;
 #[cfg(test)]
 mod cyclic;
 #[cfg(test)]
+mod desk_growths_tests;
+#[cfg(test)]
 mod desk_script_tests;
 #[cfg(test)]
 mod desk_tests;
 #[cfg(test)]
 mod devices_tests;
+#[cfg(test)]
+mod failing_files_tests;
 #[cfg(test)]
 mod folders_tests;
 #[cfg(test)]

@@ -1,10 +1,10 @@
-//! What the sampler finds.
+//! What the sampler finds, and each proposer alone where memory may be wanting.
 use crate::certificates::{OF_0_1, OF_0_3, OF_0_33, OF_0_75, is_spelled};
 use crate::rows::{Row, count_held};
 use allocation::Memory;
 use octal_code::Code;
-use proposers::Sampler;
-use quotient_finder::{Limits, Proposer, find};
+use proposers::{Refiner, Sampler};
+use quotient_finder::{GaveUp, Limits, Proposer, find};
 use std::alloc::Global;
 
 const LIMITS: Limits = Limits {
@@ -66,4 +66,46 @@ static ROWS: [Sampled; 5] = [
 #[test]
 fn samples_small_games(rt: HostRuntime) {
     assert!(rt; count_held(rt.alloc(), &ROWS) == 5);
+}
+
+/// Whether a search for the quotient of 0.33 comes to one of its order and its portion, or to want
+/// of memory. It takes no memory but for the search.
+fn finds_or_wants(alloc: Global, proposers: &mut Vec<Box<dyn Proposer>>) -> bool {
+    let Ok(code) = Code::read(b"0.33") else {
+        return false;
+    };
+    match find(alloc, &code, 0, proposers, LIMITS) {
+        Ok(found) => found.cert().order() == 6 && found.cert().portion() == [1, 4].as_slice(),
+        Err(why) => why == GaveUp::Memory,
+    }
+}
+
+/// The same for the sampler alone, of the heaps up to 6.
+fn samples_or_wants(alloc: Global) -> bool {
+    let mut proposers: Vec<Box<dyn Proposer>> = Vec::new(alloc);
+    put_sampler(alloc, &mut proposers, 6).is_err() || finds_or_wants(alloc, &mut proposers)
+}
+
+/// Adds the refiner.
+fn put_refiner(alloc: Global, proposers: &mut Vec<Box<dyn Proposer>>) -> Result<(), Memory> {
+    proposers.push(Box::new(alloc, Refiner::new(alloc, 6, 64))?)?;
+    Ok(())
+}
+
+/// The same for the refiner.
+fn refines_or_wants(alloc: Global) -> bool {
+    let mut proposers: Vec<Box<dyn Proposer>> = Vec::new(alloc);
+    put_refiner(alloc, &mut proposers).is_err() || finds_or_wants(alloc, &mut proposers)
+}
+
+/// `scripts/hostile` runs this with each growth refused in turn.
+#[test]
+fn samples_or_wants_memory(rt: HostRuntime) {
+    assert!(rt; samples_or_wants(rt.alloc()));
+}
+
+/// And this.
+#[test]
+fn refines_or_wants_memory(rt: HostRuntime) {
+    assert!(rt; refines_or_wants(rt.alloc()));
 }
