@@ -36,7 +36,7 @@ pub(crate) struct Groups {
 pub(crate) fn position_of(alloc: Global, heaps: &[u64]) -> Result<Position, Memory> {
     let mut position = Position::new(alloc);
     for heap in heaps {
-        if 0 < *heap && *heap <= positions::LARGEST {
+        if 0 < *heap && *heap <= positions::LARGEST_HEAP {
             position.push(*heap)?;
         }
     }
