@@ -32,7 +32,8 @@ pub keeps_where_taken : {T : Type 0} (before after : Option (List ℕ → Option
     (r : Result T StageFault) (fault : StageFault) (name bytes : List ℕ)
     → Stages before after r name bytes → r ≡ Err fault → fault ≡ Taken → after ≡ before
 keeps_where_taken before after r fault name bytes stages is taken =
-    subst (λ x. Stages before after x name bytes) (is ∙ ap Err taken) stages
+    let told = subst (λ x. Stages before after x name bytes) (is ∙ ap Err taken) stages in
+    told.1
 
 pub keeps_where_unmade : {T : Type 0} (before after : Option (List ℕ → Option (List ℕ)))
     (r : Result T StageFault) (fault : StageFault) (name bytes : List ℕ)

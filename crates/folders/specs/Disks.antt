@@ -20,6 +20,11 @@ abbrev pub IsFree : Option (List ℕ → Option (List ℕ)) → List ℕ → Typ
 IsFree None name = ⊤
 IsFree (Some files) name = files name ≡ None
 
+-- there was a file of this name
+abbrev pub IsTaken : Option (List ℕ → Option (List ℕ)) → List ℕ → Type 0
+IsTaken None name = ⊤
+IsTaken (Some files) name = files name ≢ None
+
 -- there was no file of this name, now there is one of these bytes, and each other is as it was
 abbrev pub Makes : Option (List ℕ → Option (List ℕ)) → Option (List ℕ → Option (List ℕ)) → List ℕ
     → List ℕ → Type 0
@@ -44,12 +49,13 @@ Leaves (Some before) None name = ⊥
 Leaves (Some before) (Some after) name = (after name ≡ before name)
     × ((other : List ℕ) → before other ≢ None → after other ≡ before other)
 
--- a new file is made of the bytes; or all are as they were; or a part of a new file may be there
+-- a new file is made of the bytes; or all are as they were, one of the name among them or not; or a part
+-- of a new file may be there
 abbrev pub Stages : {T : Type 0} → Option (List ℕ → Option (List ℕ))
     → Option (List ℕ → Option (List ℕ)) → Result T StageFault
     → List ℕ → List ℕ → Type 0
 Stages before after (Ok x) name bytes = Makes before after name bytes
-Stages before after (Err Taken) name bytes = after ≡ before
+Stages before after (Err Taken) name bytes = IsTaken before name × (after ≡ before)
 Stages before after (Err Unmade) name bytes = after ≡ before
 Stages before after (Err Unfilled) name bytes = IsFree before name × Spares before after name
 
