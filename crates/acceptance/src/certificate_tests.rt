@@ -1,6 +1,6 @@
 //! Certificates read and written, to sinks that fail too.
 use crate::octal_code_tests::is_written_as;
-use crate::texts::{Parts, text_of};
+use crate::texts::{Repeats, text_of};
 use certificate::{Cert, TextFault, WriteFault, read, write};
 use devices::{FailingSink, SlowSink};
 use std::alloc::{Allocator, Global};
@@ -234,7 +234,7 @@ fn lines_held(alloc: Global, cert: &Cert) -> [bool; 8] {
 /// Which lines the certificate of `0.33` lends as it holds them.
 fn lines_lent(alloc: Global) -> [bool; 8] {
     match read(alloc, OF_0_33) {
-        Ok(cert) => lines_held(alloc, &Cert::from_parts(cert.into_parts())),
+        Ok(cert) => lines_held(alloc, &Cert::from_fields(cert.into_fields())),
         Err(_) => [false; 8],
     }
 }
@@ -263,7 +263,7 @@ fn first_wrong_write(alloc: Global) -> u64 {
 }
 
 /// A text, its order, its number of separations, and the last heap of which it speaks.
-type Large = (&'static [(Parts, usize)], usize, usize, u64);
+type Large = (&'static [(Repeats, usize)], usize, usize, u64);
 
 /// The most entries and the first format's largest order; one element more, for an octal code; and
 /// the most entries without a period, and the largest order.

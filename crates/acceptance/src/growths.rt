@@ -4,7 +4,7 @@ use crate::{
     certificate_tests, octal_code_tests, outcome_search_tests, pair_closure_tests, positions_tests,
     presentations_tests, quotient_solver_tests, streams_tests, transition_algebra_tests,
 };
-use allocation::Room;
+use allocation::SmallAllocator;
 use positions::Left;
 use ration::Ration;
 use std::alloc::Global;
@@ -31,7 +31,7 @@ pub enum Job {
 }
 
 /// Whether the job ends right, or the number of its fault.
-fn answer<A: Room + Copy>(alloc: A, job: Job) -> Result<bool, u8> {
+fn answer<A: SmallAllocator + Copy>(alloc: A, job: Job) -> Result<bool, u8> {
     match job {
         Job::Code => octal_code_tests::comes_back(alloc, b"0.75"),
         Job::Outcome(text) => outcome_search_tests::is_n(alloc, text),

@@ -1,12 +1,12 @@
 //! Outcomes of worked positions, and the budget.
-use allocation::Room;
+use allocation::SmallAllocator;
 use octal_code::Code;
 use outcome_search::{Outcome, SearchFault, outcome};
 use positions::Position;
 use std::alloc::Global;
 
 /// The outcome of the position.
-fn outcome_of<A: Room + Copy>(
+fn outcome_of<A: SmallAllocator + Copy>(
     alloc: A,
     code: &str,
     text: &str,
@@ -99,12 +99,12 @@ fn n_or_fault(answer: Result<Outcome, SearchFault>) -> Result<bool, u8> {
 }
 
 /// Whether the position is found to be N in 0.33, or the number of the fault.
-pub fn is_n<A: Room + Copy>(alloc: A, text: &str) -> Result<bool, u8> {
+pub fn is_n<A: SmallAllocator + Copy>(alloc: A, text: &str) -> Result<bool, u8> {
     n_or_fault(outcome_of(alloc, "0.33", text, 65536))
 }
 
 /// Whether the large position is found to be N in 0.75, or the number of the fault.
-pub fn is_found<A: Room + Copy>(alloc: A) -> Result<bool, u8> {
+pub fn is_found<A: SmallAllocator + Copy>(alloc: A) -> Result<bool, u8> {
     n_or_fault(outcome_of(alloc, "0.75", NINE, u32::MAX))
 }
 

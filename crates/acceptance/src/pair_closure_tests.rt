@@ -1,5 +1,5 @@
 //! The closure of the game 0.3, whole and with growths refused.
-use allocation::Room;
+use allocation::SmallAllocator;
 use monoid_table::Table;
 use octal_code::Code;
 use pair_closure::{Closure, Grown};
@@ -7,7 +7,7 @@ use std::alloc::Global;
 use transition_algebra::{Pair, Phi, heap_pairs};
 
 /// The closure of 0.3 over its quotient of two elements.
-fn three<A: Room + Copy>(alloc: A, limit: u32) -> Option<Closure<A>> {
+fn three<A: SmallAllocator + Copy>(alloc: A, limit: u32) -> Option<Closure<A>> {
     let Ok(code) = Code::read(b"0.3") else {
         return None;
     };
@@ -146,7 +146,7 @@ fn members_and_turns(rt: HostRuntime) {
 
 /// Whether the closure ends, or 9 where it isn't made or a refused growth stops it for good, before
 /// its end.
-pub fn ends<A: Room + Copy>(alloc: A) -> Result<bool, u8> {
+pub fn ends<A: SmallAllocator + Copy>(alloc: A) -> Result<bool, u8> {
     match three(alloc, 3) {
         Some(mut closure) => {
             if closure.grow(1000).is_ok() {

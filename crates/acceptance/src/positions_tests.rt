@@ -1,5 +1,5 @@
 //! Options, moves, and the texts of positions.
-use allocation::Room;
+use allocation::SmallAllocator;
 use octal_code::Code;
 use positions::{Left, Move, MoveFault, Position, apply, options};
 use std::alloc::Global;
@@ -106,7 +106,11 @@ const ONE_MORE: &[u8] =
     b"1 1 1 1 1 1 1 1 1 1 1 1 1 1 1 1 1 1 1 1 1 1 1 1 1 1 1 1 1 1 1 1 1 1 1 1 1 1 1 1 1 1 1 1 1 1 1 1 1 1 1 1 1 1 1 1 1 1 1 1 1 1 1 1 1";
 
 /// Whether the position of the bytes is written so, or the number of the fault.
-pub fn is_read_as<A: Room + Copy>(alloc: A, bytes: &[u8], wanted: &str) -> Result<bool, u8> {
+pub fn is_read_as<A: SmallAllocator + Copy>(
+    alloc: A,
+    bytes: &[u8],
+    wanted: &str,
+) -> Result<bool, u8> {
     match Position::read(alloc, bytes) {
         Ok(position) => match position.text() {
             Ok(text) => Ok(text.as_str() == wanted),
@@ -165,7 +169,7 @@ fn reads_positions(rt: HostRuntime) {
 }
 
 /// What the move from a heap leaves of the position.
-fn moved<A: Room + Copy>(
+fn moved<A: SmallAllocator + Copy>(
     alloc: A,
     code: &[u8],
     position: &Position<A>,
@@ -182,7 +186,7 @@ fn moved<A: Room + Copy>(
 }
 
 /// Whether the move from a heap of the position leaves these heaps, or the number of the fault.
-pub fn leaves<A: Room + Copy>(
+pub fn leaves<A: SmallAllocator + Copy>(
     alloc: A,
     code: &[u8],
     text: &[u8],
@@ -243,7 +247,7 @@ fn makes_moves(rt: HostRuntime) {
 }
 
 /// Whether the position added to itself has these heaps, or the number of the fault.
-pub fn twice<A: Room + Copy>(alloc: A, text: &[u8], wanted: &[u64]) -> Result<bool, u8> {
+pub fn twice<A: SmallAllocator + Copy>(alloc: A, text: &[u8], wanted: &[u64]) -> Result<bool, u8> {
     match Position::read(alloc, text) {
         Ok(position) => match position.add(&position) {
             Ok(sum) => Ok(sum.heaps() == wanted),
@@ -314,7 +318,7 @@ fn memory_suffices_for_many_heaps(rt: HostRuntime) {
 }
 
 /// Four heaps read, added to themselves, and copied.
-fn eight<A: Room + Copy>(alloc: A) -> Option<Position<A>> {
+fn eight<A: SmallAllocator + Copy>(alloc: A) -> Option<Position<A>> {
     match Position::read(alloc, b"1 2 3 7") {
         Ok(four) => match four.add(&four) {
             Ok(eight) => eight.copied(alloc).ok(),
@@ -326,7 +330,7 @@ fn eight<A: Room + Copy>(alloc: A) -> Option<Position<A>> {
 
 /// Whether these eight take one more heap, or the number of the fault, if they stay then; it is 0
 /// where they aren't made.
-pub fn takes_a_ninth<A: Room + Copy>(alloc: A) -> Result<bool, u8> {
+pub fn takes_a_ninth<A: SmallAllocator + Copy>(alloc: A) -> Result<bool, u8> {
     match eight(alloc) {
         Some(mut eight) => match eight.push(4) {
             Ok(()) => Ok(eight.heaps().len() == 9),

@@ -1,7 +1,7 @@
 //! Worked presentations.
 ghost use Rattle.std.specs.Prelude.{◌≡◌, length};
 
-use crate::texts::{Parts, text_of};
+use crate::texts::{Repeats, text_of};
 use presentations::{
     Generator, Named, PresFault, Presentation, Relation, VectorRelation, related_is_least, table_of,
 };
@@ -176,12 +176,12 @@ fn reads_words(alloc: Global) -> bool {
 }
 
 /// A relation and 63 more, and one more than these.
-static MOST: [(Parts, usize); 1] = [(&[(b"a=1", 1), (b" a=1", 63)], 1)];
+static MOST: [(Repeats, usize); 1] = [(&[(b"a=1", 1), (b" a=1", 63)], 1)];
 
-static TOO_MANY: [(Parts, usize); 1] = [(&[(b"a=1", 1), (b" a=1", 64)], 1)];
+static TOO_MANY: [(Repeats, usize); 1] = [(&[(b"a=1", 1), (b" a=1", 64)], 1)];
 
 /// How many relations are read of the text of the blocks.
-fn count_in(alloc: Global, blocks: &[(Parts, usize)]) -> Result<usize, u8> {
+fn count_in(alloc: Global, blocks: &[(Repeats, usize)]) -> Result<usize, u8> {
     match text_of(alloc, blocks) {
         Ok(text) => count_of(alloc, &text),
         Err(_) => Err(0),
@@ -195,7 +195,7 @@ impl VectorRelation for SameLength {
 }
 
 /// The letters, each 64 times.
-const WORD: Parts = &[
+const WORD: Repeats = &[
     (b"a", 64),
     (b"b", 64),
     (b"c", 64),
@@ -225,7 +225,7 @@ const WORD: Parts = &[
 ];
 
 /// A relation between words of all letters.
-static LONG: [(Parts, usize); 3] = [(WORD, 1), (&[(b"=", 1)], 1), (WORD, 1)];
+static LONG: [(Repeats, usize); 3] = [(WORD, 1), (&[(b"=", 1)], 1), (WORD, 1)];
 
 /// Whether 64 relations have each letter 64 times on each side.
 fn are_full(relations: &[Relation]) -> bool {

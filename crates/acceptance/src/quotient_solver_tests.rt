@@ -1,5 +1,5 @@
 //! The sizes of known quotients.
-use allocation::Room;
+use allocation::SmallAllocator;
 use guesses::{Guess, Solver, furthest};
 use octal_code::Code;
 use positions::Position;
@@ -113,7 +113,7 @@ fn a_wrong_guess_whose_period_does_not_show_is_not_made_again(rt: HostRuntime) {
 }
 
 /// Whether the quotient of 0.75 is found to have eight elements.
-pub fn is_of_eight<A: Room + Copy>(alloc: A) -> Result<bool, u8> {
+pub fn is_of_eight<A: SmallAllocator + Copy>(alloc: A) -> Result<bool, u8> {
     let Ok(code) = Code::read(b"0.75") else {
         return Err(0);
     };

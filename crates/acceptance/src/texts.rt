@@ -1,11 +1,11 @@
 //! Long texts, put together of parts.
 use std::alloc::{AllocError, Global};
 
-/// Parts, each repeated so many times.
-pub type Parts = &'static [(&'static [u8], usize)];
+/// Repeats, each repeated so many times.
+pub type Repeats = &'static [(&'static [u8], usize)];
 
 /// The text of blocks of parts, each block repeated so many times.
-pub fn text_of(alloc: Global, blocks: &[(Parts, usize)]) -> Result<Vec<u8>, AllocError> {
+pub fn text_of(alloc: Global, blocks: &[(Repeats, usize)]) -> Result<Vec<u8>, AllocError> {
     let mut text = Vec::new(alloc);
     for (parts, times) in blocks {
         for _ in 0..*times {

@@ -7,18 +7,18 @@ use Rattle.misere_theory.specs.Verdicts.Fault.{Law as law, Word as word, Order a
 use Rattle.misere_theory.specs.Verdicts.Verdict.{No as Faulty, Outcome as Fails, Limit as Over}
 use Rattle.misere_theory.proofs.Verdicts.{yes_or_limit, outcome_or_limit, never_past_all_pairs}
 use Rattle.certificate_text.specs.Spelling.{Spells}
-use Rattle.answers.specs.Answers.{Answer, Fits, Holds, IsTrueOf}
-use Rattle.answers.specs.Answers.Answer.{Yes, Text, Law, Word, Order, Period, Apart, Outcome, Limit, Memory}
+use Rattle.answers.specs.ByteVerdicts.{ByteVerdict, Fits, Holds, IsTrueOf}
+use Rattle.answers.specs.ByteVerdicts.ByteVerdict.{Yes, Text, Law, Word, Order, Period, Apart, Outcome, Limit, Memory}
 
 module _ (one : (b : List ℕ) (c d : Certificate) → Spells b c → Spells b d → c ≡ d) (bytes : List ℕ)
     (limit : ℕ) (c : Certificate) (s : Spells bytes c) where
-  fits : (a : Answer) → (d : Certificate) × Spells bytes d × Fits d limit a → Fits c limit a
+  fits : (a : ByteVerdict) → (d : Certificate) × Spells bytes d × Fits d limit a → Fits c limit a
   fits a (d, t, f) = subst (λ e. Fits e limit a) (one bytes d c t s) f
 
   clash : {A : Type 0} {v w : Verdict} → (v ≡ w → ⊥) → v ≡ w → A
   clash n e = absurd (n e)
 
-  pub accepted_answers : Accepted c → (a : Answer) → Holds bytes limit a
+  pub accepted_answers : Accepted c → (a : ByteVerdict) → Holds bytes limit a
       → (a ≡ Yes c) ⊎ ((a ≡ Limit) ⊎ (a ≡ Memory))
   accepted_answers k (Yes d) t = inl (ap Yes (fits (Yes d) t).0)
   accepted_answers k Text t = absurd (t c s)
@@ -51,7 +51,7 @@ module _ (one : (b : List ℕ) (c d : Certificate) → Spells b c → Spells b d
         elim (outcome_or_limit c s.in_ranges m k wrong limit v h)
         [ inl p ↦ absurd (n p.0 p.1) | inr e ↦ absurd (o e) ]
 
-    pub wrong_answers : (a : Answer) → Holds bytes limit a → ((X : List ℕ) × (a ≡ Outcome c.code X))
+    pub wrong_answers : (a : ByteVerdict) → Holds bytes limit a → ((X : List ℕ) × (a ≡ Outcome c.code X))
         ⊎ ((a ≡ Limit) ⊎ (a ≡ Memory))
     wrong_answers (Yes d) t = absurd (wrong (fits (Yes d) t).1.represents)
     wrong_answers Text t = absurd (t c s)
@@ -70,7 +70,7 @@ module _ (one : (b : List ℕ) (c d : Certificate) → Spells b c → Spells b d
 pub true_answer : (one : (b : List ℕ) (c d : Certificate) → Spells b c → Spells b d → c ≡ d)
     (text : (a b : List ℕ) (c d : Certificate) → Spells a c → Spells b d → Accepted c → Accepted d
     → c.code ≡ d.code → kind_of c ≡ kind_of d → a ≡ b)
-    (bytes : List ℕ) (limit : ℕ) (a : Answer) → Holds bytes limit a → IsTrueOf bytes limit a
+    (bytes : List ℕ) (limit : ℕ) (a : ByteVerdict) → Holds bytes limit a → IsTrueOf bytes limit a
 true_answer one text bytes limit a h = record {
   holds = h;
   yes = λ c e.

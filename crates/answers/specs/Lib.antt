@@ -1,4 +1,4 @@
 pub mod Portions
 pub mod Spelled
 pub mod Refusals
-pub mod Answers
+pub mod ByteVerdicts

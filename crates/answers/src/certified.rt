@@ -8,7 +8,7 @@ ghost use Rattle.answers.specs.Spelled.{AreSpelled};
 
 use crate::spelling::position_of;
 use crate::values::{element, product, times};
-use allocation::{Memory, Room};
+use allocation::{Memory, SmallAllocator};
 use certificate::Cert;
 use element_sets::ElementSet;
 use positions::{INLINE, Position};
@@ -95,7 +95,11 @@ impl<A: Allocator> Certified<A> {
 
     /// The position that the keys of the element spell, whose value is the element. Up to `INLINE`
     /// heaps take no memory.
-    pub fn position_of<B: Room + Copy>(&self, alloc: B, element: u16) -> Result<Position<B>, Memory>
+    pub fn position_of<B: SmallAllocator + Copy>(
+        &self,
+        alloc: B,
+        element: u16,
+    ) -> Result<Position<B>, Memory>
         requires { element < self.now.order }
         ensures keys { IfOk result (AreSpelled self.now element) }
         ensures position { IfOk result (IsPosition (IsHeapOf self.now)) }

@@ -1,17 +1,17 @@
 //! What checks bytes.
 ghost use Rattle.std.specs.Prelude.{◌≡◌, ◌⊎◌, ℕ, List};
-ghost use Rattle.answers.specs.Answers.{Answer, answer_of, IsTrueOf};
-ghost use Rattle.answers.specs.Answers.Answer.{Memory};
+ghost use Rattle.answers.specs.ByteVerdicts.{ByteVerdict, answer_of, IsTrueOf};
+ghost use Rattle.answers.specs.ByteVerdicts.ByteVerdict.{Memory};
 
 use crate::certified::Certified;
 use crate::refusal::Refusal;
-use allocation::Room;
+use allocation::SmallAllocator;
 
 /// What checks bytes: whatever it answers is true of them, and is always the same, unless memory
 /// was refused.
-pub trait Checks<A: Room> {
+pub trait Checks<A: SmallAllocator> {
     /// The answer to the bytes under the limit.
-    ghost due: { Self → List ℕ → ℕ → Answer };
+    ghost due: { Self → List ℕ → ℕ → ByteVerdict };
 
     /// Whether the bytes are an accepted certificate.
     fn check(&self, alloc: A, bytes: &[u8], limit: u32) -> Result<Certified<A>, Refusal<A>>

@@ -5,12 +5,12 @@ ghost use Rattle.misere_theory.specs.Games.{IsPosition};
 ghost use Rattle.misere_theory.specs.Quotients.{Monoid, value};
 ghost use Rattle.misere_theory.specs.Certificates.{Certificate, kind_of, IsHeapOf, Accepted, Canonical, InRanges, claim_of, times_of};
 ghost use Rattle.certificate_text.specs.Spelling.{Spells};
-ghost use Rattle.answers.specs.Answers.{Answer, Holds, IsTrueOf};
+ghost use Rattle.answers.specs.ByteVerdicts.{ByteVerdict, Holds, IsTrueOf};
 ghost use Rattle.answers.specs.Spelled.{AreSpelled, GoDown};
 
 /// An answer that holds of bytes is true of them.
 pub fn true_answers()
-    ensures { (bytes : List ℕ) (limit : ℕ) (answer : Answer) → Holds bytes limit answer
+    ensures { (bytes : List ℕ) (limit : ℕ) (answer : ByteVerdict) → Holds bytes limit answer
         → IsTrueOf bytes limit answer }
 {
     certificate_text::spellings_are_unique();

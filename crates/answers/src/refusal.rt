@@ -2,14 +2,14 @@
 ghost use Rattle.std.specs.Prelude.{◌≡◌};
 ghost use Rattle.answers.specs.Refusals.{refusal_number, refusal_name, IsFailure};
 
-use allocation::Room;
+use allocation::SmallAllocator;
 use octal_code::Code;
 use positions::Position;
 use std::alloc::Global;
 
 /// Why bytes are not accepted. Each but the last is answered only where it is true of the bytes.
 #[derive(Drop)]
-pub enum Refusal<A: Room = Global> {
+pub enum Refusal<A: SmallAllocator = Global> {
     /// The bytes spell no certificate.
     Text,
     /// The table isn't a commutative monoid with identity 0.
@@ -30,7 +30,7 @@ pub enum Refusal<A: Room = Global> {
     Memory,
 }
 
-impl<A: Room> Refusal<A> {
+impl<A: SmallAllocator> Refusal<A> {
     /// The number under which the refusal is printed: 1 to 9. It takes no memory.
     pub fn number(&self) -> u8
         ensures { result ≡ refusal_number self.now }

@@ -3,13 +3,13 @@ ghost use Rattle.std.specs.Prelude.{◌≡◌, ◌≤◌, IfOk, IsOk, ℕ, List,
 ghost use Rattle.misere_theory.specs.Certificates.{Certificate, IsSpelled};
 ghost use Rattle.answers.specs.Spelled.{AreSpelled, GoDown};
 
-use allocation::{Memory, Room};
+use allocation::{Memory, SmallAllocator};
 use certificate::Key;
 use positions::{INLINE, Position};
 
 /// The position that the keys of an element spell: the heap of its key, that of this key's element,
 /// and so on. Up to `INLINE` heaps take no memory.
-pub fn position_of<A: Room + Copy>(
+pub fn position_of<A: SmallAllocator + Copy>(
     alloc: A,
     words: &[Key],
     element: u16,

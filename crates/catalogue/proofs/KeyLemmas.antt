@@ -4,7 +4,7 @@ use Rattle.std.proofs.lemmas.Bool.{cases_lt}
 use Rattle.std.proofs.lemmas.List.{ext_get_or}
 use Rattle.std.proofs.Math.ListN.{get_or-eq_default}
 use Rattle.misere_theory.specs.Games.{IsCode, digit}
-use Rattle.catalogue.specs.Keys.{IsKeyOf}
+use Rattle.catalogue.specs.Keys.{IsCodeAndKind}
 
 short_code : (b : List ℕ) → IsCode b → (2 ≤ length b) × (length b ≤ 17)
 short_code [] h = absurd h
@@ -38,15 +38,15 @@ code_from_digits a b ha hb same =
     ext_get_or 0 a b (omega arith) (λ i l. let m : i < length a = l in same i (omega arith))
 
 -- codes and kinds with the same key are the same
-pub code_from_key : (k a b : List ℕ) (g h : ℕ) → IsCode a → IsCode b → IsKeyOf k a g
-    → IsKeyOf k b h → (a ≡ b) × (g ≡ h)
+pub code_from_key : (k a b : List ℕ) (g h : ℕ) → IsCode a → IsCode b → IsCodeAndKind k a g
+    → IsCodeAndKind k b h → (a ≡ b) × (g ≡ h)
 code_from_key k a b g h ha hb ka kb = (
   code_from_digits a b ha hb (λ j l. sym (ka.digits j l) ∙ kb.digits j l),
   sym ka.heaps ∙ kb.heaps,
 )
 
 -- a code and a kind have one key
-pub one_key : (k l a : List ℕ) (g : ℕ) → IsKeyOf k a g → IsKeyOf l a g → k ≡ l
+pub one_key : (k l a : List ℕ) (g : ℕ) → IsCodeAndKind k a g → IsCodeAndKind l a g → k ≡ l
 one_key k l a g kk kl = ext_get_or 0 k l (kk.places ∙ sym kl.places) at
   where
     last : (i : ℕ) → i ≡ 17 → slice_index k i ≡ slice_index l i

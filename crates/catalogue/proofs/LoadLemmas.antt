@@ -6,7 +6,7 @@ use Rattle.std.proofs.Math.Seq.{drop-cons}
 use Rattle.misere_theory.specs.Certificates.{Certificate}
 use Rattle.catalogue.specs.Files.{Written, written}
 use Rattle.catalogue.specs.Loads.{IsCertified, Stand, IsFaultOf, IsFirstFault, Holds, IsLoaded}
-use Rattle.catalogue.specs.Parts.{IsFaultOrMemory, IsTaken}
+use Rattle.catalogue.specs.LoadSteps.{IsFaultOrMemory, IsTaken}
 use Rattle.catalogue.specs.declared.file.Texts.{Texts}
 use Rattle.catalogue.specs.declared.fault.LoadFault.{LoadFault}
 use Rattle.catalogue.specs.declared.fault.LoadFault.TheVariants as fault

@@ -6,7 +6,7 @@ use Rattle.std.proofs.Math.Seq.{drop-cons}
 use Rattle.misere_theory.specs.Certificates.{Certificate}
 use Rattle.catalogue.specs.Files.{Written, written}
 use Rattle.catalogue.specs.Loads.{IsFaultOf}
-use Rattle.catalogue.specs.Parts.{IsTaken}
+use Rattle.catalogue.specs.LoadSteps.{IsTaken}
 use Rattle.catalogue.specs.Salvages.{Salvages}
 use Rattle.catalogue.specs.declared.file.Texts.{Texts}
 use Rattle.catalogue.specs.declared.fault.LoadFault.{LoadFault}

@@ -15,7 +15,7 @@ use Rattle.indexmap.proofs.CallerLemmas.{insert_entry-new}
 use Rattle.misere_theory.specs.Games.{IsCode}
 use Rattle.misere_theory.specs.Certificates.{Certificate, Accepted, kind_of}
 use Rattle.catalogue.specs.Entries.{HasEntry, HaveOtherKinds}
-use Rattle.catalogue.specs.Keys.{IsKeyOf, IsKeyed, AreKeyed}
+use Rattle.catalogue.specs.Keys.{IsCodeAndKind, IsKeyed, AreKeyed}
 use Rattle.catalogue.proofs.KeyLemmas.{code_from_key, one_key}
 
 abbrev pub Held : Type 0
@@ -31,7 +31,7 @@ accepted_one : (cs : List Certificate) (c : Certificate) → All Accepted cs →
     → Accepted c
 accepted_one cs c all h = subst Accepted h.2 (all h.0 c h.1)
 
-module _ (k code : List ℕ) (heaps : ℕ) (right : IsCode code) (key : IsKeyOf k code heaps) where
+module _ (k code : List ℕ) (heaps : ℕ) (right : IsCode code) (key : IsCodeAndKind k code heaps) where
   abbrev pub IsFound : List Certificate → Option Certificate → Type 0
   IsFound cs o =
       MatchOption o (HasEntry cs code heaps → ⊥)
@@ -57,12 +57,12 @@ module _ (k code : List ℕ) (heaps : ℕ) (right : IsCode code) (key : IsKeyOf 
       in
       let both =
       code_from_key k e.1.code code (kind_of e.1) heaps keyed.1 right
-      (subst (λ l. IsKeyOf l e.1.code (kind_of e.1)) (sym same) keyed.0) key in
+      (subst (λ l. IsCodeAndKind l e.1.code (kind_of e.1)) (sym same) keyed.0) key in
       (contains_first e.1 cs, both.0, both.1)
   here_or_later false e cs o keyed is h =
       later e.1 cs o
       (λ eq kinds. differs is (one_key k e.0 code heaps key
-      (subst (IsKeyOf e.0 code) kinds (subst (λ x. IsKeyOf e.0 x (kind_of e.1)) eq keyed.0))))
+      (subst (IsCodeAndKind e.0 code) kinds (subst (λ x. IsCodeAndKind e.0 x (kind_of e.1)) eq keyed.0))))
       h
     where
       differs : pointwise nat_eq k e.0 ≡ false → k ≡ e.0 → ⊥
@@ -109,7 +109,7 @@ values_push es e = map-append (λ x. x.1) es (e ∷ [])
 
 -- an entry under its key, behind the others
 pub held_push : (es : List Held) (k : List ℕ) (c : Certificate) → AreKeyed es
-    → IsKeyOf k c.code (kind_of c)
+    → IsCodeAndKind k c.code (kind_of c)
     → IsCode c.code → Accepted c → (HasEntry (values_of es) c.code (kind_of c) → ⊥)
     → AreKeyed (es ++ (k, c) ∷ [])
 held_push es k c h key right accepted none =
@@ -124,7 +124,7 @@ held_push es k c h key right accepted none =
 
 -- a code and kind that no entry has are under no key
 pub not_found : (k code : List ℕ) (heaps : ℕ) (es : List Held) → IsCode code
-    → IsKeyOf k code heaps
+    → IsCodeAndKind k code heaps
     → AllByRecursion IsKeyed es → (HasEntry (values_of es) code heaps → ⊥)
     → lookup (pointwise nat_eq k) es ≡ None
 not_found k code heaps es right key keyed none =

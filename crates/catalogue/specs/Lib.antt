@@ -4,6 +4,6 @@ pub mod Files
 pub mod Reading
 pub mod Faults
 pub mod Loads
-pub mod Parts
+pub mod LoadSteps
 pub mod Salvages
 pub mod Texts

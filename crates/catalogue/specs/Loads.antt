@@ -5,8 +5,8 @@ use Rattle.octal_code.specs.Text.{code_text}
 use Rattle.certificate_text.specs.Spelling.{Spells}
 use Rattle.misere_theory.specs.Certificates.{Certificate, Accepted, kind_of}
 use Rattle.serde_json.specs.Data.{Data}
-use Rattle.answers.specs.Answers.{IsTrueOf, refused}
-use Rattle.answers.specs.Answers.Answer.{Yes, Memory as WantOfMemory}
+use Rattle.answers.specs.ByteVerdicts.{IsTrueOf, refused}
+use Rattle.answers.specs.ByteVerdicts.ByteVerdict.{Yes, Memory as WantOfMemory}
 use Rattle.checker.specs.Turns.{verdict}
 use Rattle.catalogue.specs.Entries.{HasEntry, HaveOtherKinds}
 use Rattle.catalogue.specs.Files.{IsJson, IsFile, Written, heaps_named}

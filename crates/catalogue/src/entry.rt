@@ -5,7 +5,7 @@ ghost use Rattle.octal_code.specs.Text.{code_text};
 ghost use Rattle.misere_theory.specs.Certificates.{Certificate};
 ghost use Rattle.catalogue.specs.Files.{written};
 ghost use Rattle.catalogue.specs.Loads.{IsCertified};
-ghost use Rattle.catalogue.specs.Parts.{IsFaultOrMemory, IsTaken};
+ghost use Rattle.catalogue.specs.LoadSteps.{IsFaultOrMemory, IsTaken};
 
 use crate::fault::{AddFault, LoadFault};
 use crate::file::Texts;

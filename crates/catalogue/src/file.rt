@@ -2,7 +2,7 @@
 ghost use Rattle.std.specs.Prelude.{◌≡◌, map, IfErr, IfOk};
 ghost use Rattle.catalogue.specs.Files.{heaps_named, written};
 ghost use Rattle.catalogue.specs.Loads.{Holds};
-ghost use Rattle.catalogue.specs.Parts.{IsNoFile};
+ghost use Rattle.catalogue.specs.LoadSteps.{IsNoFile};
 
 use crate::fault::LoadFault;
 use crate::frame::file;

@@ -1,6 +1,6 @@
 //! Codes and kinds as keys.
 ghost use Rattle.misere_theory.specs.Games.{IsCode};
-ghost use Rattle.catalogue.specs.Keys.{IsKeyOf};
+ghost use Rattle.catalogue.specs.Keys.{IsCodeAndKind};
 
 use octal_code::Code;
 
@@ -9,11 +9,11 @@ const DIGITS: usize = 17;
 
 /// The digits of a code with zeros behind them, and then the kind. Two codes and kinds are the same
 /// where these are.
-pub(crate) type Key = [u64; DIGITS + 1];
+pub(crate) type CodeAndKind = [u64; DIGITS + 1];
 
 /// The key of a code and a kind.
-pub(crate) fn key_of(code: &Code, heaps: u64) -> Key
-    ensures key { IsKeyOf result code.now heaps }
+pub(crate) fn code_and_kind(code: &Code, heaps: u64) -> CodeAndKind
+    ensures key { IsCodeAndKind result code.now heaps }
     ensures code { IsCode code.now }
 {
     let _last = code.last();

@@ -6,7 +6,7 @@ ghost use Rattle.misere_theory.specs.Certificates.{Certificate, Accepted, kind_o
 ghost use Rattle.catalogue.specs.Entries.{HasEntry, HaveOtherKinds};
 
 use crate::fault::AddFault;
-use crate::key::{Key, key_of};
+use crate::key::{CodeAndKind, code_and_kind};
 use checker::Certified;
 use indexmap::IndexMap;
 use misere_theory::certificates::accepted_certificates_are_unique;
@@ -17,7 +17,7 @@ use std::marker::Model;
 /// Certified quotients in the order in which they were added, one for a code and a kind.
 #[derive(Drop)]
 pub struct Catalogue {
-    entries: IndexMap<Key, Certified>,
+    entries: IndexMap<CodeAndKind, Certified>,
 }
 
 impl Model for Catalogue {
@@ -35,8 +35,8 @@ impl Model for Catalogue {
 
 /// Puts an entry behind the others, under a key that none of them has.
 fn append(
-    entries: &mut IndexMap<Key, Certified>,
-    key: Key,
+    entries: &mut IndexMap<CodeAndKind, Certified>,
+    key: CodeAndKind,
     certified: Certified,
 ) -> Result<(), AddFault>
     requires { lookup (pointwise nat_eq key) entries.old.entries ≡ None }
@@ -92,7 +92,7 @@ impl Catalogue {
         ensures unchanged { OnErr result (self.new ≡ self.old) }
         ensures memory { IfErr result (λ fault. fault ≡ AddFault.Memory) }
     {
-        let key = key_of(certified.cert().code(), certified.cert().heaps());
+        let key = code_and_kind(certified.cert().code(), certified.cert().heaps());
         append(&mut self.entries, key, certified)
     }
 
@@ -103,7 +103,7 @@ impl Catalogue {
             × (found.now.code ≡ code.now) × (kind_of found.now ≡ heaps) × Accepted found.now) }
         ensures none { (result ≡ None) ↔ (HasEntry self.now code.now heaps → ⊥) }
     {
-        self.entries.get(&key_of(code, heaps))
+        self.entries.get(&code_and_kind(code, heaps))
     }
 
     /// All entries, in the order in which they were added. It takes no memory.

@@ -9,20 +9,20 @@ use Rattle.catalogue_command.specs.Stops.{Failed, StopsAdd, StopsCreate, StopsGe
 use Rattle.command_results.specs.declared.stop.Stop.{Stop}
 
 -- what is said of a catalogue file, and what it holds then, by the files before and after
-abbrev pub SaysOfCatalogue : ℕ → Option (List ℕ → Option (List ℕ))
+abbrev pub KeepsCatalogue : ℕ → Option (List ℕ → Option (List ℕ))
     → Option (List ℕ → Option (List ℕ)) → List ℕ → CatalogueRequest → List ℕ → Bool → Type 0
-SaysOfCatalogue limit before after file Print text well = Lists limit before file well text
-SaysOfCatalogue limit before after file New text well = Creates before after file well text
-SaysOfCatalogue limit before after file (Add certificate) text well =
-    Adds false limit before after file certificate well text
-SaysOfCatalogue limit before after file (NewWith certificate) text well =
-    Adds true limit before after file certificate well text
-SaysOfCatalogue limit before after file (Get code heaps) text well =
-    Gets limit before file code heaps well text
-SaysOfCatalogue limit before after file Salvage text well =
-    Salvages limit before after file well text
-SaysOfCatalogue limit before after file Migrate text well =
-    Migrates limit before after file well text
+KeepsCatalogue limit before after file Print text succeeds = Lists limit before file succeeds text
+KeepsCatalogue limit before after file New text succeeds = Creates before after file succeeds text
+KeepsCatalogue limit before after file (Add certificate) text succeeds =
+    Adds false limit before after file certificate succeeds text
+KeepsCatalogue limit before after file (NewWith certificate) text succeeds =
+    Adds true limit before after file certificate succeeds text
+KeepsCatalogue limit before after file (Get code heaps) text succeeds =
+    Gets limit before file code heaps succeeds text
+KeepsCatalogue limit before after file Salvage text succeeds =
+    Salvages limit before after file succeeds text
+KeepsCatalogue limit before after file Migrate text succeeds =
+    Migrates limit before after file succeeds text
 
 -- the file, where what writes it ends well
 abbrev pub file_if : List ℕ → Bool → Option (List ℕ)
@@ -31,13 +31,13 @@ file_if file false = None
 
 -- the catalogue file, where the task writes it
 abbrev pub catalogue_written : List ℕ → CatalogueRequest → Bool → Option (List ℕ)
-catalogue_written file Print well = None
-catalogue_written file New well = file_if file well
-catalogue_written file (Add certificate) well = file_if file well
-catalogue_written file (NewWith certificate) well = file_if file well
-catalogue_written file (Get code heaps) well = None
-catalogue_written file Salvage well = file_if file well
-catalogue_written file Migrate well = file_if file well
+catalogue_written file Print succeeds = None
+catalogue_written file New succeeds = file_if file succeeds
+catalogue_written file (Add certificate) succeeds = file_if file succeeds
+catalogue_written file (NewWith certificate) succeeds = file_if file succeeds
+catalogue_written file (Get code heaps) succeeds = None
+catalogue_written file Salvage succeeds = file_if file succeeds
+catalogue_written file Migrate succeeds = file_if file succeeds
 
 -- every file is as it was, or every file but one, which holds a new text
 abbrev pub Leaves : Option (List ℕ) → Option (List ℕ → Option (List ℕ))

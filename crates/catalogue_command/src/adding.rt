@@ -25,7 +25,7 @@ fn begun<'a, F: Folder>(
 ) -> Result<Result<Catalogue, LoadFault>, Stop<'a>>
     ensures begins { IfOk result (Begins fresh limit (F.files folder.old) file.entry.now) }
     ensures kept { F.files folder.new ≡ F.files folder.old }
-    ensures well { IfOk result (λ _. F.failed_reads folder.new ≡ F.failed_reads folder.old) }
+    ensures succeeds { IfOk result (λ _. F.failed_reads folder.new ≡ F.failed_reads folder.old) }
     ensures writes { F.failed_writes folder.new ≡ F.failed_writes folder.old }
     ensures read { OnErr result (fresh ≡ false) }
     ensures stops { IfErr result (StopsList file.entry.now
@@ -44,7 +44,7 @@ fn begun<'a, F: Folder>(
 /// Adds a certificate that was accepted: whether it was added, and what is printed.
 fn taken(alloc: Global, catalogue: &mut Catalogue, certified: Certified) -> Result<Said, Memory>
     ensures { IfOk result
-        (λ r. Takes catalogue.old certified r.well catalogue.new r.text.items) }
+        (λ r. Takes catalogue.old certified r.succeeds catalogue.new r.text.items) }
 {
     match added_line(alloc, certified.cert().code()) {
         Ok(text) => match catalogue.add(certified) {
@@ -68,7 +68,7 @@ fn addition(
     limit: u32,
 ) -> Result<Said, Memory>
     ensures { IfOk result
-        (λ r. IsAddition catalogue.old bytes.now limit r.well catalogue.new r.text.items) }
+        (λ r. IsAddition catalogue.old bytes.now limit r.succeeds catalogue.new r.text.items) }
 {
     match check(alloc, bytes, limit) {
         Ok(certified) => taken(alloc, catalogue, certified),
@@ -102,7 +102,7 @@ pub(crate) fn save<F: Folder>(
 /// Where it stops, every file is as it was.
 pub fn create<F: Folder>(alloc: Global, folder: &mut F, file: &str) -> Result<Said, Stop<'static>>
     ensures told { IfOk result
-        (λ r. Creates (F.files folder.old) (F.files folder.new) file.now r.well
+        (λ r. Creates (F.files folder.old) (F.files folder.new) file.now r.succeeds
         r.text.items) }
     ensures kept { OnErr result (F.files folder.new ≡ F.files folder.old) }
     ensures stops { IfErr result (StopsCreate
@@ -128,7 +128,7 @@ fn extended<'a, F: Folder>(
 ) -> Result<Said, Stop<'a>>
     ensures told { IfOk result
         (λ r. AddsAnswer limit (F.files folder.old) (F.files folder.new) file.now
-        certificate.entry.now (Ok catalogue.old) r.well r.text.items) }
+        certificate.entry.now (Ok catalogue.old) r.succeeds r.text.items) }
     ensures kept { OnErr result (F.files folder.new ≡ F.files folder.old) }
     ensures stops { IfErr result (StopsSalvage certificate.entry.now
         (failed (F.failed_reads folder.old) (F.failed_writes folder.old))
@@ -136,7 +136,7 @@ fn extended<'a, F: Folder>(
 {
     let bytes = read(folder, certificate)?;
     let report = addition(alloc, catalogue, &bytes, limit)?;
-    if report.well {
+    if report.succeeds {
         save(folder, file, catalogue)?;
     }
     Ok(report)
@@ -155,7 +155,7 @@ pub fn add<'a, F: Folder>(
 ) -> Result<Said, Stop<'a>>
     ensures told { IfOk result
         (λ r. Adds fresh limit (F.files folder.old) (F.files folder.new) file.entry.now
-        certificate.entry.now r.well r.text.items) }
+        certificate.entry.now r.succeeds r.text.items) }
     ensures kept { OnErr result (F.files folder.new ≡ F.files folder.old) }
     ensures stops { IfErr result (StopsAdd fresh file.entry.now certificate.entry.now
         (failed (F.failed_reads folder.old) (F.failed_writes folder.old))

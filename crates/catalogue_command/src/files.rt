@@ -10,7 +10,7 @@ use folders::{FileFault, Folder};
 pub(crate) fn read<'a, F: Folder>(folder: &mut F, name: &'a str) -> Result<Vec<u8>, Stop<'a>>
     ensures bytes { IfOk result (λ v. Holds (F.files folder.old) name.entry.now v.items) }
     ensures kept { F.files folder.new ≡ F.files folder.old }
-    ensures well { IfOk result (λ _. F.failed_reads folder.new ≡ F.failed_reads folder.old) }
+    ensures succeeds { IfOk result (λ _. F.failed_reads folder.new ≡ F.failed_reads folder.old) }
     ensures writes { F.failed_writes folder.new ≡ F.failed_writes folder.old }
     ensures stops { IfErr result (StopsList name.entry.now
         (failed (F.failed_reads folder.old) (F.failed_writes folder.old))

@@ -15,7 +15,7 @@ use std::alloc::Global;
 /// What is printed of a catalogue for a code and a kind.
 fn found(alloc: Global, catalogue: &Catalogue, code: &Code, heaps: u64) -> Result<Said, Memory>
     ensures { IfOk result
-        (λ r. GetsAnswer code.now heaps (Ok catalogue.now) r.well r.text.items) }
+        (λ r. GetsAnswer code.now heaps (Ok catalogue.now) r.succeeds r.text.items) }
 {
     match catalogue.get(code, heaps) {
         Some(certified) => {
@@ -38,7 +38,7 @@ fn entry_of(
     limit: u32,
 ) -> Result<Said, Memory>
     ensures { IfOk result
-        (λ r. IsGotten bytes.now limit code.now heaps r.well r.text.items) }
+        (λ r. IsGotten bytes.now limit code.now heaps r.succeeds r.text.items) }
 {
     match Catalogue::load(alloc, bytes, limit) {
         Ok(catalogue) => {
@@ -66,7 +66,7 @@ pub fn get<'a, F: Folder>(
     limit: u32,
 ) -> Result<Said, Stop<'a>>
     ensures told { IfOk result
-        (λ r. Gets limit (F.files folder.old) file.entry.now code.now heaps r.well
+        (λ r. Gets limit (F.files folder.old) file.entry.now code.now heaps r.succeeds
         r.text.items) }
     ensures kept { F.files folder.new ≡ F.files folder.old }
     ensures usage { IsErrOf result Stop.NotACode → folder.new ≡ folder.old }

@@ -13,7 +13,7 @@ use std::alloc::Global;
 
 /// What is printed of the bytes.
 fn listing_of(alloc: Global, bytes: &[u8], limit: u32) -> Result<Said, Memory>
-    ensures { IfOk result (λ r. IsListing bytes.now limit r.well r.text.items) }
+    ensures { IfOk result (λ r. IsListing bytes.now limit r.succeeds r.text.items) }
 {
     match Catalogue::load(alloc, bytes, limit) {
         Ok(catalogue) => {
@@ -36,7 +36,7 @@ pub fn list<'a, F: Folder>(
     limit: u32,
 ) -> Result<Said, Stop<'a>>
     ensures told { IfOk result
-        (λ r. Lists limit (F.files folder.old) file.entry.now r.well r.text.items) }
+        (λ r. Lists limit (F.files folder.old) file.entry.now r.succeeds r.text.items) }
     ensures kept { F.files folder.new ≡ F.files folder.old }
     ensures stops { IfErr result (StopsList file.entry.now
         (failed (F.failed_reads folder.old) (F.failed_writes folder.old))

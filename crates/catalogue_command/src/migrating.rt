@@ -21,7 +21,7 @@ fn rewritten<F: Folder>(
     file: &str,
     catalogue: &Catalogue,
 ) -> Result<Said, Stop<'static>>
-    ensures told { IfOk result (λ r. (r.well ≡ true)
+    ensures told { IfOk result (λ r. (r.succeeds ≡ true)
         × Replaces (F.files folder.old) (F.files folder.new) file.now (catalogue_text catalogue.now)
         × (r.text.items ≡ migrated_line catalogue.now)) }
     ensures kept { OnErr result (F.files folder.new ≡ F.files folder.old) }
@@ -44,7 +44,7 @@ pub fn migrate<'a, F: Folder>(
     limit: u32,
 ) -> Result<Said, Stop<'a>>
     ensures told { IfOk result
-        (λ r. Migrates limit (F.files folder.old) (F.files folder.new) file.entry.now r.well
+        (λ r. Migrates limit (F.files folder.old) (F.files folder.new) file.entry.now r.succeeds
         r.text.items) }
     ensures kept { OnErr result (F.files folder.new ≡ F.files folder.old) }
     ensures stops { IfErr result (StopsSalvage file.entry.now

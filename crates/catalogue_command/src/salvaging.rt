@@ -23,7 +23,7 @@ fn replaced<F: Folder>(
     catalogue: &Catalogue,
     faults: &[LoadFault],
 ) -> Result<Said, Stop<'static>>
-    ensures told { IfOk result (λ r. (r.well ≡ true)
+    ensures told { IfOk result (λ r. (r.succeeds ≡ true)
         × Replaces (F.files folder.old) (F.files folder.new) file.now (catalogue_text catalogue.now)
         × (r.text.items ≡ salvage_lines catalogue.now faults.now)) }
     ensures kept { OnErr result (F.files folder.new ≡ F.files folder.old) }
@@ -46,7 +46,7 @@ pub fn salvage<'a, F: Folder>(
     limit: u32,
 ) -> Result<Said, Stop<'a>>
     ensures told { IfOk result
-        (λ r. Salvages limit (F.files folder.old) (F.files folder.new) file.entry.now r.well
+        (λ r. Salvages limit (F.files folder.old) (F.files folder.new) file.entry.now r.succeeds
         r.text.items) }
     ensures kept { OnErr result (F.files folder.new ≡ F.files folder.old) }
     ensures stops { IfErr result (StopsSalvage file.entry.now

@@ -1,7 +1,7 @@
 //! What can be asked of a catalogue file, each by its action.
 ghost use Rattle.std.specs.Prelude.{◌≡◌, IfErr, IfOk, IsErrOf, OnErr};
 ghost use Rattle.catalogue_command.specs.Stops.{failed};
-ghost use Rattle.catalogue_command.specs.Tasks.{Leaves, SaysOfCatalogue, StopsTask, catalogue_written};
+ghost use Rattle.catalogue_command.specs.Tasks.{Leaves, KeepsCatalogue, StopsTask, catalogue_written};
 ghost use Rattle.requests.specs.Requests.{catalogue_request_of};
 
 use crate::adding::{add, create};
@@ -25,10 +25,10 @@ pub fn act<'a, F: Folder>(
     limit: u32,
 ) -> Result<Said, Stop<'a>>
     ensures says { IfOk result
-        (λ r. SaysOfCatalogue limit (F.files folder.old) (F.files folder.new) file.entry.now
-        (catalogue_request_of task.entry) r.text.items r.well) }
+        (λ r. KeepsCatalogue limit (F.files folder.old) (F.files folder.new) file.entry.now
+        (catalogue_request_of task.entry) r.text.items r.succeeds) }
     ensures leaves { IfOk result
-        (λ r. Leaves (catalogue_written file.entry.now (catalogue_request_of task.entry) r.well)
+        (λ r. Leaves (catalogue_written file.entry.now (catalogue_request_of task.entry) r.succeeds)
         (F.files folder.old) (F.files folder.new)) }
     ensures kept { OnErr result (F.files folder.new ≡ F.files folder.old) }
     ensures usage { IsErrOf result Stop.NotACode → folder.new ≡ folder.old }

@@ -1,9 +1,9 @@
 -- The lines read one after another are the certificate.
 use Rattle.std.proofs.Common.{◌≡◌, ℕ, ◌+◌, ◌-◌, ◌*◌, ◌/◌, List, Some, refl, codes}
 use Rattle.certificate_text.specs.Reading.{number_at, key_at, fixed_at, line_at, portion_at, rows_at, front_at, certificate_at}
-use Rattle.certificate.specs.Pieces.{Pieces, certificate_of}
+use Rattle.certificate.specs.Fields.{Fields, certificate_of}
 
-abbrev pub pieces : List ℕ → ℕ → ℕ → ℕ → List ℕ → List ℕ → List (ℕ × ℕ) → List ℕ → List ℕ → Pieces
+abbrev pub pieces : List ℕ → ℕ → ℕ → ℕ → List ℕ → List ℕ → List (ℕ × ℕ) → List ℕ → List ℕ → Fields
 pieces code order start period entries portion words rows apart = record {
   code = code;
   order = order;

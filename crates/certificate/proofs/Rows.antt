@@ -8,7 +8,7 @@ use Rattle.misere_theory.specs.Certificates.{Certificate, InRanges, claim_of}
 use Rattle.monoid_table.specs.Grids.{IsShaped}
 use Rattle.transition_algebra.specs.Heaps.{Agrees}
 use Rattle.transition_algebra.specs.Pretending.{IsPretending}
-use Rattle.certificate.specs.Pieces.{grid_of, pretending_of}
+use Rattle.certificate.specs.Fields.{grid_of, pretending_of}
 
 abbrev pub IsRow : ℕ → List ℕ → Type 0
 IsRow order row = (length row ≡ order) × All (λ x. x < order) row

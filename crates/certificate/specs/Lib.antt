@@ -1,4 +1,4 @@
 pub mod Faults
-pub mod Pieces
+pub mod Fields
 pub mod Given
 pub mod LineKinds

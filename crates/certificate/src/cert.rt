@@ -3,10 +3,10 @@ ghost use Rattle.std.specs.Prelude.{◌≡◌, ◌≤◌, ◌+◌};
 ghost use Rattle.std.specs.List.{concat};
 ghost use Rattle.misere_theory.specs.declared.TheConstants.{LARGEST_ORDER, MOST_ENTRIES};
 ghost use Rattle.misere_theory.specs.Certificates.{InRanges, kind_of};
-ghost use Rattle.certificate.specs.Pieces.{IsWhole, certificate_of, pretending_of};
+ghost use Rattle.certificate.specs.Fields.{IsWhole, certificate_of, pretending_of};
 
+use crate::fields::Fields;
 use crate::key::Key;
-use crate::parts::Parts;
 use octal_code::Code;
 use std::alloc::{Allocator, Global};
 use std::marker::Model;
@@ -15,43 +15,43 @@ use transition_algebra::Phi;
 /// A certificate: each number lies in its range, and each line has as many as it should.
 #[derive(Drop)]
 pub struct Cert<A: Allocator = Global> {
-    parts: Parts<A>,
+    fields: Fields<A>,
 }
 
 impl<A: Allocator> Model for Cert<A> {
     ghost use Rattle.misere_theory.specs.Certificates.{Certificate};
-    ghost use Rattle.certificate.specs.Pieces.{certificate_of, IsWhole};
+    ghost use Rattle.certificate.specs.Fields.{certificate_of, IsWhole};
 
     ghost Value = { Certificate };
 
-    ghost view = { λ c. certificate_of c.parts };
+    ghost view = { λ c. certificate_of c.fields };
 
-    ghost invariant = { λ c. IsWhole c.parts };
+    ghost invariant = { λ c. IsWhole c.fields };
 }
 
 impl<A: Allocator> Cert<A> {
-    /// The certificate with these parts.
-    pub fn from_parts(parts: Parts<A>) -> Cert<A>
-        requires { IsWhole parts }
-        ensures { result ≡ certificate_of parts }
+    /// The certificate with these fields.
+    pub fn from_fields(fields: Fields<A>) -> Cert<A>
+        requires { IsWhole fields }
+        ensures { result ≡ certificate_of fields }
     {
-        Cert { parts }
+        Cert { fields }
     }
 
-    /// The parts, without copying.
-    pub fn into_parts(self) -> Parts<A>
+    /// The fields, without copying.
+    pub fn into_fields(self) -> Fields<A>
         ensures whole { IsWhole result }
         ensures same { certificate_of result ≡ self }
     {
-        let Cert { parts } = self;
-        parts
+        let Cert { fields } = self;
+        fields
     }
 
     /// The code of the game.
     pub fn code(&self) -> &Code
         ensures { result.now ≡ self.now.code }
     {
-        &self.parts.code
+        &self.fields.code
     }
 
     /// How many elements the monoid has.
@@ -59,7 +59,7 @@ impl<A: Allocator> Cert<A> {
         ensures value { result ≡ self.now.order }
         ensures range { (2 ≤ result) × (result ≤ LARGEST_ORDER) }
     {
-        self.parts.order
+        self.fields.order
     }
 
     /// The heap from which on the elements of heaps repeat, or, of a partial certificate, the first
@@ -68,7 +68,7 @@ impl<A: Allocator> Cert<A> {
         ensures value { result ≡ self.now.start }
         ensures range { (1 ≤ result) × (result ≤ MOST_ENTRIES + 1) }
     {
-        self.parts.phi.start()
+        self.fields.phi.start()
     }
 
     /// After how many heaps they repeat, or 0 where they don't.
@@ -76,7 +76,7 @@ impl<A: Allocator> Cert<A> {
         ensures value { result ≡ self.now.period }
         ensures range { result ≤ MOST_ENTRIES }
     {
-        self.parts.phi.period()
+        self.fields.phi.period()
     }
 
     /// The last heap of a partial certificate, or 0 of a full one.
@@ -84,28 +84,28 @@ impl<A: Allocator> Cert<A> {
         ensures value { result ≡ kind_of self.now }
         ensures range { result ≤ MOST_ENTRIES }
     {
-        self.parts.phi.heaps()
+        self.fields.phi.heaps()
     }
 
     /// The element of each heap of which the certificate speaks.
     pub fn phi(&self) -> &Phi<A>
         ensures { result.now ≡ pretending_of self.now }
     {
-        &self.parts.phi
+        &self.fields.phi
     }
 
     /// The elements of the P-portion, rising.
     pub fn portion(&self) -> &[u16]
         ensures { result.now ≡ self.now.portion }
     {
-        &self.parts.portion
+        &self.fields.portion
     }
 
     /// The keys of the elements from 1 on.
     pub fn words(&self) -> &[Key]
         ensures { result.now ≡ self.now.words }
     {
-        &self.parts.words
+        &self.fields.words
     }
 
     /// The rows of the table, one behind the other: row x has the products of x with 0, 1, and so
@@ -113,7 +113,7 @@ impl<A: Allocator> Cert<A> {
     pub fn rows(&self) -> &[u16]
         ensures { result.now ≡ concat self.now.rows }
     {
-        &self.parts.rows
+        &self.fields.rows
     }
 
     /// For the pairs (0,1), (0,2), .., (1,2), .. the least element that takes just one of the two
@@ -121,7 +121,7 @@ impl<A: Allocator> Cert<A> {
     pub fn apart(&self) -> &[u16]
         ensures { result.now ≡ self.now.apart }
     {
-        &self.parts.apart
+        &self.fields.apart
     }
 }
 
@@ -129,5 +129,5 @@ impl<A: Allocator> Cert<A> {
 pub fn in_ranges<A: Allocator>(cert: &Cert<A>)
     ensures { InRanges cert.now }
 {
-    let _ = &cert.parts;
+    let _ = &cert.fields;
 }

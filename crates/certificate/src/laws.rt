@@ -1,9 +1,9 @@
-//! What a certificate claims, by its lines and by its parts.
+//! What a certificate claims, by its lines and by its fields.
 ghost use Rattle.misere_theory.specs.Certificates.{Certificate, InRanges, claim_of};
 ghost use Rattle.monoid_table.specs.Grids.{IsShaped};
 ghost use Rattle.transition_algebra.specs.Heaps.{Agrees, IsInto};
 ghost use Rattle.transition_algebra.specs.Pretending.{IsPretending};
-ghost use Rattle.certificate.specs.Pieces.{grid_of, pretending_of};
+ghost use Rattle.certificate.specs.Fields.{grid_of, pretending_of};
 ghost use Rattle.std.specs.List.{concat};
 
 /// What a certificate claims is what its rows say as a table and its entries as a pretending

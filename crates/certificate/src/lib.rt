@@ -5,6 +5,7 @@
 
 mod cert;
 mod fault;
+mod fields;
 mod format;
 mod front;
 mod key;
@@ -12,7 +13,6 @@ mod keys;
 mod laws;
 mod lines;
 mod numbers;
-mod parts;
 mod portion;
 mod putting;
 mod reader;
@@ -21,9 +21,9 @@ mod writing;
 
 pub use cert::{Cert, in_ranges};
 pub use fault::{TextFault, WriteFault};
+pub use fields::Fields;
 pub use key::Key;
 pub use laws::claims_agree;
-pub use parts::Parts;
 pub use reading::read;
 pub use streams::{Sink, Source};
 pub use writing::write;

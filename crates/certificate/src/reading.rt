@@ -7,10 +7,10 @@ ghost use Rattle.certificate_text.specs.Spelling.{Spells};
 
 use crate::cert::Cert;
 use crate::fault::TextFault;
+use crate::fields::Fields;
 use crate::front::{Front, front_lines};
 use crate::keys::key_line;
 use crate::lines::{line, rows};
-use crate::parts::Parts;
 use crate::portion::portion;
 use crate::reader::Reader;
 use std::alloc::Allocator;
@@ -38,7 +38,7 @@ fn certificate<A: Allocator + Copy>(alloc: A, reader: &mut Reader<'_>) -> Result
     let apart = line(alloc, reader, b"apart", pairs, order)?;
     reader.fixed(b"end\n")?;
     let phi = Phi::new(start as u64, period as u64, entries);
-    Ok(Cert::from_parts(Parts {
+    Ok(Cert::from_fields(Fields {
         code,
         order,
         phi,

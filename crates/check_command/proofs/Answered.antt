@@ -1,6 +1,6 @@
 -- Whether a refusal is yes.
 use Rattle.std.proofs.Common.{◌≡◌, refl, false}
-use Rattle.answers.specs.Answers.{refused}
+use Rattle.answers.specs.ByteVerdicts.{refused}
 use Rattle.answers.specs.declared.refusal.Refusal.{Refusal}
 use Rattle.answers.specs.declared.refusal.Refusal.TheVariants as no
 use Rattle.verdict_texts.specs.Lines.{is_yes}

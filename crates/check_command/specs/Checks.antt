@@ -3,8 +3,8 @@
 use Rattle.std.specs.Prelude.{◌≡◌, ◌<◌, ℕ, Bool, false, List, Option, Result, Ok, Err, Vec, codes}
 use Rattle.misere_theory.specs.Certificates.{Certificate}
 use Rattle.folders.specs.Files.{Holds}
-use Rattle.answers.specs.Answers.{IsTrueOf}
-use Rattle.answers.specs.Answers.Answer.{Yes}
+use Rattle.answers.specs.ByteVerdicts.{IsTrueOf}
+use Rattle.answers.specs.ByteVerdicts.ByteVerdict.{Yes}
 use Rattle.checker.specs.Turns.{verdict}
 use Rattle.verdict_texts.specs.Streams.{IsDueText, IsDueTextOfStream}
 use Rattle.command_results.specs.declared.stop.Stop.{Stop}
@@ -15,12 +15,12 @@ abbrev pub SaysVerdict : List ℕ → ℕ → List ℕ → Bool → Type 0
 SaysVerdict = IsDueText verdict
 
 -- the same for a stream that had these bytes left
-abbrev pub SaysOfStream : Option (List ℕ) → ℕ → List ℕ → Bool → Type 0
-SaysOfStream = IsDueTextOfStream verdict
+abbrev pub ChecksStream : Option (List ℕ) → ℕ → List ℕ → Bool → Type 0
+ChecksStream = IsDueTextOfStream verdict
 
 -- the same for the bytes of a file
-abbrev pub SaysOfFile : Option (List ℕ → Option (List ℕ)) → List ℕ → ℕ → List ℕ → Bool → Type 0
-SaysOfFile files file limit text accepted = (bytes : List ℕ) × Holds files file bytes
+abbrev pub ChecksFile : Option (List ℕ → Option (List ℕ)) → List ℕ → ℕ → List ℕ → Bool → Type 0
+ChecksFile files file limit text accepted = (bytes : List ℕ) × Holds files file bytes
     × SaysVerdict bytes limit text accepted
 
 -- yes with c is true of the bytes, and is their verdict under the limit

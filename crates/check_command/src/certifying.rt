@@ -31,7 +31,7 @@ pub fn certified<'a, F: Folder>(
 ) -> Result<Result<Certified, Vec<u8>>, Stop<'a>>
     ensures found { IfOk result (Finds (F.files folder.old) file.entry.now limit) }
     ensures kept { F.files folder.new ≡ F.files folder.old }
-    ensures well { IfOk result (λ _. F.failed_reads folder.new ≡ F.failed_reads folder.old) }
+    ensures succeeds { IfOk result (λ _. F.failed_reads folder.new ≡ F.failed_reads folder.old) }
     ensures writes { F.failed_writes folder.new ≡ F.failed_writes folder.old }
     ensures stops { IfErr result
         (IsFileCause file.entry.now (F.failed_reads folder.old) (F.failed_reads folder.new)) }

@@ -1,7 +1,7 @@
 //! `check`: the verdict on a certificate.
 ghost use Rattle.std.specs.Prelude.{◌≡◌, IfOk, IfErr};
 ghost use Rattle.std.specs.String.{string_bytes};
-ghost use Rattle.check_command.specs.Checks.{IsInputCause, SaysOfFile, SaysOfStream};
+ghost use Rattle.check_command.specs.Checks.{IsInputCause, ChecksFile, ChecksStream};
 ghost use Rattle.command_results.specs.Stops.{IsFileCause};
 
 use checker::Checker;
@@ -14,11 +14,11 @@ use verdict_texts::{VerdictText, checked_bytes, checked_stream};
 /// What is said of a verdict.
 fn said(verdict: VerdictText) -> Said
     ensures text { result.text.items ≡ string_bytes verdict.text }
-    ensures well { result.well ≡ verdict.accepted }
+    ensures succeeds { result.succeeds ≡ verdict.accepted }
 {
     Said {
         text: verdict.text.into_bytes(),
-        well: verdict.accepted,
+        succeeds: verdict.accepted,
     }
 }
 
@@ -30,7 +30,7 @@ pub fn check_file<'a, F: Folder>(
     folder: &mut F,
 ) -> Result<Said, Stop<'a>>
     ensures said { IfOk result
-        (λ s. SaysOfFile (F.files folder.old) name.entry.now limit s.text.items s.well) }
+        (λ s. ChecksFile (F.files folder.old) name.entry.now limit s.text.items s.succeeds) }
     ensures kept { F.files folder.new ≡ F.files folder.old }
     ensures stops { IfErr result
         (IsFileCause name.entry.now (F.failed_reads folder.old) (F.failed_reads folder.new)) }
@@ -46,7 +46,7 @@ pub fn check_input<S: Source>(
     limit: u32,
     input: &mut S,
 ) -> Result<Said, Stop<'static>>
-    ensures said { IfOk result (λ s. SaysOfStream (S.left input.old) limit s.text.items s.well) }
+    ensures said { IfOk result (λ s. ChecksStream (S.left input.old) limit s.text.items s.succeeds) }
     ensures stops { IfErr result (IsInputCause (S.failures input.old) (S.failures input.new)) }
 {
     match checked_stream(&Checker, alloc, input, limit) {

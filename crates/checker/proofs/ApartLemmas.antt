@@ -3,9 +3,9 @@ use Rattle.std.proofs.Common.{◌≡◌, ℕ, suc, zero, ◌+◌, ◌-◌, ◌<�
 use native.Mathlib.Decide.{dec_lt}
 use Rattle.misere_theory.specs.Certificates.{Certificate, InRanges, claim_of, pairs_with, pairs_from, TellsApart, LeastApart}
 use Rattle.misere_theory.specs.Faults.{ApartFault}
-use Rattle.checker.specs.Progress.{ApartSoFar}
+use Rattle.checker.specs.SoFar.{ApartSoFar}
 use Rattle.std.proofs.lemmas.List.{drop-drop}
-use Rattle.checker.specs.Progress.{HasNoFaultBelow}
+use Rattle.checker.specs.SoFar.{HasNoFaultBelow}
 
 -- the pairs of elements
 drop-one : {A : Type 0} (n : ℕ) (xs : List A) → drop (n + 1) xs ≡ drop 1 (drop n xs)

@@ -3,7 +3,7 @@ use Rattle.std.proofs.Common.{◌≡◌, ℕ, ◌+◌, ◌≤◌, List, [], ◌�
 use Rattle.misere_theory.specs.Certificates.{Certificate}
 use Rattle.certificate_text.specs.Spelling.{Spells}
 use Rattle.certificate_text.specs.Reading.{certificate_at}
-use Rattle.answers.specs.Answers.{Answer}
+use Rattle.answers.specs.ByteVerdicts.{ByteVerdict}
 use Rattle.checker.specs.Bounds.{most_turns, AreWithinBound}
 use Rattle.checker.specs.Turns.{bound_read, bound, cost}
 use Rattle.checker.specs.JobViews.{JobView, IsDue, IsDueAt, IsBounded}
@@ -47,7 +47,7 @@ due_bounded j w due = record {
   going = λ e. fewer_within j.bytes j.limit _ _ (fewer j.ended due e) w;
 }
   where
-    no_more : (a : Option Answer) → IsDueAt j.bytes j.limit j.spent a
+    no_more : (a : Option ByteVerdict) → IsDueAt j.bytes j.limit j.spent a
         → j.spent ≤ cost j.bytes j.limit
     no_more None d = omega arith
     no_more (Some a) d = elim d [
@@ -55,7 +55,7 @@ due_bounded j w due = record {
       | inr x ↦ x.1
     ]
 
-    fewer : (a : Option Answer) → IsDueAt j.bytes j.limit j.spent a → a ≡ None
+    fewer : (a : Option ByteVerdict) → IsDueAt j.bytes j.limit j.spent a → a ≡ None
         → j.spent + 1 ≤ cost j.bytes j.limit
     fewer None d e = omega arith
     fewer (Some a) d e = absurd (cc)

@@ -10,13 +10,13 @@ use Rattle.transition_algebra.specs.declared.pair.Pair.{Pair}
 use Rattle.pair_closure.specs.declared.members.Member.{Member}
 use Rattle.pair_closure.specs.OptionLaws.{some_or_empty}
 use Rattle.pair_closure.specs.Turns.{State, heap_turn, pending}
-use Rattle.pair_closure.specs.Progress.{Progress, begun, turn, moved, step, steps, has_ended, is_over, is_done, blank_held}
+use Rattle.pair_closure.specs.ClosureViews.{ClosureView, begun, turn, moved, step, steps, has_ended, is_over, is_done, blank_held}
 use Rattle.pair_closure.specs.Positions.{rising, word}
 use Rattle.pair_closure.specs.Calls.{ended_or_kept, Grows, Takes, IsRefused}
 use Rattle.answers.specs.Portions.{IsPortion}
 use Rattle.checker.specs.Rules.{Obeys, Breaks}
 use Rattle.checker.specs.Views.{ClosingView}
-use Rattle.answers.specs.Answers.Answer.{Yes, Outcome, Limit}
+use Rattle.answers.specs.ByteVerdicts.ByteVerdict.{Yes, Outcome, Limit}
 use Rattle.checker.specs.Turns.{Phase, stage_of, Runs, holds, obeys, newest, keeps_more, closing_at, closing_turn}
 use Rattle.checker.specs.Turns as check
 use Rattle.checker.specs.Turns.Phase.{Closing, Ended}
@@ -49,19 +49,19 @@ members_grow s =
     (omega arith)))
     (grows_after s false _))
 
-step_moves : (p : Progress) → has_ended p.state ≡ false → step p ≡ moved p
+step_moves : (p : ClosureView) → has_ended p.state ≡ false → step p ≡ moved p
 step_moves p e = rw e
 
-step_stays : (p : Progress) → has_ended p.state ≡ true → step p ≡ p
+step_stays : (p : ClosureView) → has_ended p.state ≡ true → step p ≡ p
 step_stays p e = rw e
 
-step_grows : (p : Progress) (b : Bool) → has_ended p.state ≡ b
+step_grows : (p : ClosureView) (b : Bool) → has_ended p.state ≡ b
     → length p.state.members ≤ length (step p).state.members
 step_grows p true e = let d = ap (λ q. length q.state.members) (step_stays p e) in omega arith
 step_grows p false e = let d = ap (λ q. length q.state.members) (step_moves p e) in let g =
     members_grow p.state in omega arith
 
-steps_grow : (n : ℕ) (p : Progress) → length p.state.members ≤ length (steps n p).state.members
+steps_grow : (n : ℕ) (p : ClosureView) → length p.state.members ≤ length (steps n p).state.members
 steps_grow zero p = omega arith
 steps_grow (suc n) p = let h = steps_grow n p in let g =
     step_grows (steps n p) (has_ended (steps n p).state) refl in omega arith
@@ -77,11 +77,11 @@ less_not a b e =
 not_less : (a b : ℕ) → b ≤ a → nat_lt a b ≡ false
 not_less a b l = grind (arith, tests)
 
-module _ (bytes : List ℕ) (limit : ℕ) (c : Certificate) (p : Progress) where
-  abbrev at : Progress → Phase
+module _ (bytes : List ℕ) (limit : ℕ) (c : Certificate) (p : ClosureView) where
+  abbrev at : ClosureView → Phase
   at q = Closing (record { certificate = c; closure = q })
 
-  quiet : (kept : Bool) (q : Progress) → kept ≡ false → has_ended q.state ≡ false
+  quiet : (kept : Bool) (q : ClosureView) → kept ≡ false → has_ended q.state ≡ false
       → closing_at c kept q ≡ at q
   unfolding closing_at
   quiet kept q k e = let (a, b) = no-or (is_over q.state) (is_done q.state) e in rw (k, b, a)
@@ -168,7 +168,7 @@ module _ (c : Certificate) (inside : set.FinSet nat_cmp) (portion : IsPortion c 
 
 -- what a turn comes to
 module _ (c : Certificate) (inside : set.FinSet nat_cmp) (portion : IsPortion c inside)
-    (p q : Progress) where
+    (p q : ClosureView) where
   unheard_at : (v : Bool) → keeps_more p.state q.state ≡ v
       → (length p.state.members < length q.state.members → Obeys inside (newest q.state).pair)
       → (keeps_more p.state q.state && not (obeys c (newest q.state).pair)) ≡ false
@@ -227,7 +227,7 @@ module _ (bytes : List ℕ) (limit : ℕ) where
       Runs bytes limit from B k (check.turn bytes limit (check.turns bytes limit n mid))) d
       (runs-more bytes limit B (a - n) from _ h (omega arith) (going n (omega arith)))
 
-  module _ (c : Certificate) (v : ClosingView) (p q : Progress) (B a : ℕ)
+  module _ (c : Certificate) (v : ClosingView) (p q : ClosureView) (B a : ℕ)
       (r : Runs bytes limit (Closing v) B a (Closing (record { certificate = c; closure = p })))
     where
       -- turns up to the one that keeps a member, or ends
@@ -257,24 +257,24 @@ module _ (bytes : List ℕ) (limit : ℕ) where
           (along bytes limit c p t.turns (λ k h. t.going k (omega arith)))
 
 -- what a call tells
-steps_fresh : (n : ℕ) (p : Progress) → (steps n p).failed ≡ p.failed
+steps_fresh : (n : ℕ) (p : ClosureView) → (steps n p).failed ≡ p.failed
 steps_fresh zero p = refl
 steps_fresh (suc n) p = step_fresh (steps n p) (has_ended (steps n p).state) refl ∙ steps_fresh n p
   where
-    step_fresh : (q : Progress) (b : Bool) → has_ended q.state ≡ b → (step q).failed ≡ q.failed
+    step_fresh : (q : ClosureView) (b : Bool) → has_ended q.state ≡ b → (step q).failed ≡ q.failed
     step_fresh q true e = ap (λ x. x.failed) (step_stays q e)
     step_fresh q false e = ap (λ x. x.failed) (step_moves q e)
 
-pub takes_fresh : (p q : Progress) (a : ℕ) → Takes (ended_or_kept p) a p q → p.failed ≡ false
+pub takes_fresh : (p q : ClosureView) (a : ℕ) → Takes (ended_or_kept p) a p q → p.failed ≡ false
     → q.failed ≡ false
 takes_fresh p q a t f = ap (λ x. x.failed) t.reached ∙ (steps_fresh t.turns p ∙ f)
 
-pub ok_takes : {X E : Type 0} (r : Result X E) (x : X) (p q : Progress) (a : ℕ)
+pub ok_takes : {X E : Type 0} (r : Result X E) (x : X) (p q : ClosureView) (a : ℕ)
     → Grows (ended_or_kept p) a r p q → r ≡ Ok x → Takes (ended_or_kept p) a p q
 ok_takes (Ok y) x p q a g e = g.0
 ok_takes (Err y) x p q a g e = absurd (cc)
 
-pub err_refused : {X E : Type 0} (r : Result X E) (x : E) (p q : Progress) (a : ℕ)
+pub err_refused : {X E : Type 0} (r : Result X E) (x : E) (p q : ClosureView) (a : ℕ)
     → Grows (ended_or_kept p) a r p q → p.failed ≡ false → r ≡ Err x
     → IsRefused (ended_or_kept p) a p q
 err_refused (Ok y) x p q a g f e = absurd (cc)
@@ -282,7 +282,7 @@ err_refused (Err y) x p q a g f e =
     elim g.1 [ inl s ↦ absurd (opposite s.0 f) | inr t ↦ t ]
 
 -- a member is kept by a turn that is taken
-pub kept_takes : {X E : Type 0} (r : Result X E) (p q : Progress) (a : ℕ)
+pub kept_takes : {X E : Type 0} (r : Result X E) (p q : ClosureView) (a : ℕ)
     → Grows (ended_or_kept p) a r p q → p.failed ≡ false
     → length p.state.members < length q.state.members → Takes (ended_or_kept p) a p q
 kept_takes (Ok y) p q a g f l = g.0
@@ -300,7 +300,7 @@ kept_takes (Err y) p q a g f l = elim g.1 [
 ]
 
 -- where nothing was taken, nothing changed
-pub some_taken : (p q : Progress) (a : ℕ) (t : Takes (ended_or_kept p) a p q) → (q ≡ p → ⊥)
+pub some_taken : (p q : ClosureView) (a : ℕ) (t : Takes (ended_or_kept p) a p q) → (q ≡ p → ⊥)
     → 0 < t.turns
 some_taken p q a t n = elim (dec_lt 0 t.turns) [
   | yes l ↦ l
@@ -308,17 +308,17 @@ some_taken p q a t n = elim (dec_lt 0 t.turns) [
       absurd (n (t.reached ∙ ap (λ k. steps k p) d)))
 ]
 
-pub done_other : (p q : Progress) → is_done q.state ≡ true → has_ended p.state ≡ false → q ≡ p → ⊥
+pub done_other : (p q : ClosureView) → is_done q.state ≡ true → has_ended p.state ≡ false → q ≡ p → ⊥
 done_other p q t g e =
     opposite (sym (ap (λ x. is_done x.state) e) ∙ t)
     (no-or (is_over p.state) (is_done p.state) g).1
 
-pub over_other : (p q : Progress) → is_over q.state ≡ true → has_ended p.state ≡ false → q ≡ p → ⊥
+pub over_other : (p q : ClosureView) → is_over q.state ≡ true → has_ended p.state ≡ false → q ≡ p → ⊥
 over_other p q t g e =
     opposite (sym (ap (λ x. is_over x.state) e) ∙ t)
     (no-or (is_over p.state) (is_done p.state) g).0
 
-pub more_other : (p q : Progress) → length p.state.members < length q.state.members → q ≡ p → ⊥
+pub more_other : (p q : ClosureView) → length p.state.members < length q.state.members → q ≡ p → ⊥
 more_other p q l e = let d : length q.state.members ≡ length p.state.members =
     ap (λ x. length x.state.members) e in omega arith
 
@@ -327,7 +327,7 @@ pub runs-left : (bytes : List ℕ) (limit B a b : ℕ) (from to : Phase) → Run
 runs-left bytes limit B a b from to r e = subst (λ k. Runs bytes limit from B k to) e r
 
 module _ (c : Certificate) (inside : set.FinSet nat_cmp) (portion : IsPortion c inside)
-    (bytes : List ℕ) (limit : ℕ) (v : ClosingView) (p q : Progress) (B a b : ℕ)
+    (bytes : List ℕ) (limit : ℕ) (v : ClosingView) (p q : ClosureView) (B a b : ℕ)
     (r : Runs bytes limit (Closing v) B a (Closing (record { certificate = c; closure = p })))
     (t : Takes (ended_or_kept p) a p q) (e : a - t.turns ≡ b) where
   pub broken_runs : (i : ℕ) → length p.state.members < length q.state.members

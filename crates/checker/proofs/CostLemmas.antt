@@ -3,7 +3,7 @@ use Rattle.std.proofs.Common.{◌≡◌, ℕ, suc, zero, ◌+◌, ◌-◌, ◌<�
 use native.Mathlib.Decide.{dec_lt}
 use Rattle.misere_theory.specs.Certificates.{Certificate}
 use Rattle.certificate_text.specs.Reading.{certificate_at}
-use Rattle.answers.specs.Answers.{Answer}
+use Rattle.answers.specs.ByteVerdicts.{ByteVerdict}
 use Rattle.checker.specs.Turns.{Phase, is_ended, stage_of, turn, turns, turns_left, bound_read, bound, cost, verdict, answer_at, Runs, Works, Reaches, HasSpent}
 use Rattle.checker.specs.Turns.Phase.{Reading, Laws, Keys, Products, Periods, Separating, Heaps, Closing, Elements, Ended}
 
@@ -87,13 +87,13 @@ module _ (bytes : List ℕ) (limit : ℕ) where
   unfolding cost
   going_spent n p r l e = left-going (bound bytes limit) n Reading l (reaches-all n p r e)
 
-  ended_spent : (n : ℕ) (a : Answer) → Reaches bytes limit n (Ended a) → n ≤ (bound bytes limit)
+  ended_spent : (n : ℕ) (a : ByteVerdict) → Reaches bytes limit n (Ended a) → n ≤ (bound bytes limit)
       → n ≡ cost bytes limit
   unfolding cost
   ended_spent n a r l =
       sym (left-ended (bound bytes limit) n Reading l (ap is_ended (sym r.reached)) r.going)
 
-  ended_answer : (n : ℕ) (a : Answer) → Reaches bytes limit n (Ended a) → n ≡ cost bytes limit
+  ended_answer : (n : ℕ) (a : ByteVerdict) → Reaches bytes limit n (Ended a) → n ≡ cost bytes limit
       → a ≡ verdict bytes limit
   unfolding verdict
   ended_answer n a r e =

@@ -1,7 +1,7 @@
 -- What a check has spent is due.
 use Rattle.std.proofs.Common.{◌≡◌, ◌⊎◌, ℕ, ◌+◌, ◌-◌, ◌<◌, ◌≤◌, true, false, List, Some, refl, sym, ap, subst, inl, inr, arith}
-use Rattle.answers.specs.Answers.{Answer, answer_of}
-use Rattle.answers.specs.Answers.Answer.{Memory}
+use Rattle.answers.specs.ByteVerdicts.{ByteVerdict, answer_of}
+use Rattle.answers.specs.ByteVerdicts.ByteVerdict.{Memory}
 use Rattle.checker.specs.Turns.{Phase, is_ended, answer_at, stage_of, cost, verdict, Runs, Works, Reaches, HasSpent}
 use Rattle.checker.specs.Turns.Phase.{Reading as AtReading, Laws as AtLaws, Keys as AtKeys, Products as AtProducts, Periods as AtPeriods, Separating as AtSeparating, Heaps as AtHeaps, Closing as AtClosing, Elements as AtElements, Ended as AtEnded}
 use Rattle.checker.specs.Stages.{phase_of, has_ended, ending, Comes, HasCome}
@@ -131,7 +131,7 @@ module _ (bytes : List ℕ) (limit : ℕ) where
     ]
 
     -- it has ended
-    pub decided_at : {A : Type 0} (spent : ℕ) (s : Stage A) (a : Answer) → ending s ≡ Some a
+    pub decided_at : {A : Type 0} (spent : ℕ) (s : Stage A) (a : ByteVerdict) → ending s ≡ Some a
         → HasCome bytes limit spent s → (a ≡ verdict bytes limit) ⊎ (a ≡ Memory)
     decided_at spent s a d h =
         elim (subst (IsDueAt bytes limit spent) d (come_due spent s h))

@@ -4,9 +4,9 @@ use Rattle.std.specs.FinSet as set
 use Rattle.std.specs.Ordering.{nat_cmp}
 use Rattle.misere_theory.specs.Certificates.{Certificate, InRanges, times_of}
 use Rattle.transition_algebra.specs.declared.pair.Pair.{Pair}
-use Rattle.certificate.specs.Pieces.{grid_of}
-use Rattle.pair_closure.specs.Progress.{begun}
-use Rattle.answers.specs.Answers.Answer.{Outcome}
+use Rattle.certificate.specs.Fields.{grid_of}
+use Rattle.pair_closure.specs.ClosureViews.{begun}
+use Rattle.answers.specs.ByteVerdicts.ByteVerdict.{Outcome}
 use Rattle.checker.specs.Closings.{AreContexts, ElementsSoFar}
 use Rattle.pair_closure.specs.Positions.{rising}
 use Rattle.checker.specs.Views.{ElementsView}

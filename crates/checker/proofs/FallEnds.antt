@@ -9,11 +9,11 @@ use Rattle.transition_algebra.specs.declared.pair.Pair.{Pair}
 use Rattle.transition_algebra.specs.Pretending.{Pretending, IsPretending}
 use Rattle.transition_algebra.specs.Work.{heap_cost, most_turns as heaps_turns}
 use Rattle.transition_algebra.specs.Heaps.{heap_pair, all_heap_pairs}
-use Rattle.certificate.specs.Pieces.{grid_of, pretending_of}
-use Rattle.pair_closure.specs.Progress.{Progress, begun, moved, step, steps, has_ended, is_over, is_done}
+use Rattle.certificate.specs.Fields.{grid_of, pretending_of}
+use Rattle.pair_closure.specs.ClosureViews.{ClosureView, begun, moved, step, steps, has_ended, is_over, is_done}
 use Rattle.pair_closure.specs.Positions.{rising, word}
-use Rattle.answers.specs.Answers.{Answer}
-use Rattle.answers.specs.Answers.Answer.{Yes, Outcome, Limit}
+use Rattle.answers.specs.ByteVerdicts.{ByteVerdict}
+use Rattle.answers.specs.ByteVerdicts.ByteVerdict.{Yes, Outcome, Limit}
 use Rattle.checker.specs.Bounds.{bound_of}
 use Rattle.checker.specs.Units.{rest}
 use Rattle.checker.specs.Views.{HeapsView, ElementsView, ClosingView}
@@ -36,10 +36,10 @@ abbrev pub HeapsEnd : Type 0
 HeapsEnd = (code : List ℕ) (phi : Pretending) → IsCode code → IsPretending phi
     → heap_cost code phi ≤ heaps_turns code phi
 
-stepped : (p : Progress) → has_ended p.state ≡ false → moved p ≡ step p
+stepped : (p : ClosureView) → has_ended p.state ≡ false → moved p ≡ step p
 stepped p e = rw e refl
 
-moved_on : (table : Grid) (pairs : List Pair) (limit : ℕ) (p : Progress)
+moved_on : (table : Grid) (pairs : List Pair) (limit : ℕ) (p : ClosureView)
     → p ≡ steps p.spent (begun table pairs limit) → has_ended p.state ≡ false
     → moved p ≡ steps (suc p.spent) (begun table pairs limit)
 moved_on table pairs limit p r e = stepped p e ∙ ap step r
@@ -58,7 +58,7 @@ module _ (bytes : List ℕ) (limit : ℕ) where
 
   module _ (c : Certificate) (table : Grid) (pairs : List Pair) (count : length pairs ≡ bound_of c)
     where
-      closing_at-below : (kept : Bool) (p : Progress) (most : ℕ)
+      closing_at-below : (kept : Bool) (p : ClosureView) (most : ℕ)
           → p ≡ steps p.spent (begun table pairs limit) → closing_most limit c - p.spent < most
           → Below most (closing_at c kept p)
       unfolding closing_at
@@ -91,7 +91,7 @@ module _ (bytes : List ℕ) (limit : ℕ) where
   closing_left ends s o =
       let h =
       ends o.table o.heaps limit s.closure.spent
-      (ap (λ (p : Progress). has_ended p.state) (sym o.reached) ∙ o.going) in
+      (ap (λ (p : ClosureView). has_ended p.state) (sym o.reached) ∙ o.going) in
       let e : limit * length o.heaps ≡ bound_of s.certificate * limit =
       ap (λ n. limit * n) o.count ∙ grind arith in
       omega arith
@@ -155,7 +155,7 @@ module _ (bytes : List ℕ) (limit : ℕ) where
         elements_at-below (all_heap_pairs c.code (grid_of c) (pretending_of c)) 0 0 most pairs_count
         (omega arith) (λ l. omega arith) (omega arith)))
 
-  elements_after : (e : ElementsView) → AreElements e → (y : ℕ) (x : Answer)
+  elements_after : (e : ElementsView) → AreElements e → (y : ℕ) (x : ByteVerdict)
       → Below (measure bytes limit (Elements e))
       (if nat_lt y e.certificate.order then Ended x else if e.option + 1 == e.certificate.order then
       elements_at limit e.certificate e.pairs (e.heap + 1) 0 else elements_at limit

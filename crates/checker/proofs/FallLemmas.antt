@@ -7,7 +7,7 @@ use Rattle.certificate_text.specs.Reading.{certificate_at}
 use Rattle.monoid_table.specs.Turns.{triples}
 use Rattle.monoid_table.specs.Grids.{Grid}
 use Rattle.transition_algebra.specs.declared.pair.Pair.{Pair}
-use Rattle.pair_closure.specs.Progress.{begun, steps, has_ended}
+use Rattle.pair_closure.specs.ClosureViews.{begun, steps, has_ended}
 use Rattle.pair_closure.specs.Calls.{cost as closure_cost}
 use Rattle.checker.specs.Bounds.{bound_of, heaps_most, most_turns}
 use Rattle.checker.specs.Turns.{Phase, is_ended, turn, turns, turns_left, opened, bound_read, bound, cost, verdict, answer_at, Reaches, HasSpent}
@@ -16,7 +16,7 @@ use Rattle.checker.specs.Measures.{measure, behind_laws}
 use Rattle.checker.specs.Sound.{IsSound}
 use Rattle.checker.proofs.CostLemmas.{has_spent, spent_most}
 use Rattle.checker.proofs.UnitLemmas.{bound_few, heaps_few}
-use Rattle.answers.specs.Answers.Answer.{Yes}
+use Rattle.answers.specs.ByteVerdicts.ByteVerdict.{Yes}
 use Rattle.checker.proofs.LeastLemmas.{yes_least, IsPaid, paid_on}
 use Rattle.checker.proofs.FallEnds.{ClosuresEnd, HeapsEnd, Below, closing_falls, elements_falls, heaps_falls}
 use Rattle.checker.proofs.FallLoops.{laws_falls, keys_falls, products_falls, periods_falls, separating_falls}

@@ -5,8 +5,8 @@ use Rattle.std.proofs.lemmas.List.Elements.{All-get_or}
 use Rattle.misere_theory.specs.Certificates.{Certificate, InRanges, pairs_from}
 use Rattle.monoid_table.specs.Turns.{JobState, triples, is_over, turn as turn_job}
 use Rattle.transition_algebra.specs.Work.{heap_cost}
-use Rattle.certificate.specs.Pieces.{pretending_of}
-use Rattle.answers.specs.Answers.Answer.{Law, Word, Order, Period, Apart}
+use Rattle.certificate.specs.Fields.{pretending_of}
+use Rattle.answers.specs.ByteVerdicts.ByteVerdict.{Law, Word, Order, Period, Apart}
 use Rattle.checker.specs.Bounds.{heaps_most}
 use Rattle.checker.specs.Units.{rest}
 use Rattle.checker.specs.Views.{LawsView, KeysView, ProductsView, PeriodsView, SeparatingView}

@@ -6,7 +6,7 @@ use Rattle.misere_theory.specs.Faults.{WordFault, OrderFault, PeriodFault, Apart
 use Rattle.misere_theory.specs.Verdicts.{Fault, HasFault}
 use Rattle.misere_theory.specs.Verdicts.Fault.{Law, Word, Order, Period, Apart}
 use Rattle.misere_theory.proofs.Monoids.{no_law_fails}
-use Rattle.checker.specs.Progress.{HasNoFaultBelow}
+use Rattle.checker.specs.SoFar.{HasNoFaultBelow}
 
 module _ (c : Certificate) where
   pub none_below_law : HasNoFaultBelow 2 c

@@ -15,11 +15,11 @@ use Rattle.transition_algebra.specs.Heaps.{Agrees, AreAllHeapPairs, IsHeapPairs}
 use Rattle.transition_algebra.specs.Pairs.{IsPair}
 use Rattle.transition_algebra.specs.declared.pair.Pair.{Pair}
 use Rattle.pair_closure.specs.Positions.{as_pair, kept, IsClaimOver, IsClosedOver, IsExceeded, IsWordOf}
-use Rattle.pair_closure.specs.Progress.{blank_held}
+use Rattle.pair_closure.specs.ClosureViews.{blank_held}
 use Rattle.pair_closure.specs.declared.settle.Held.{Held}
 use Rattle.pair_closure.specs.Turns.{State}
 use Rattle.pair_closure.specs.OptionLaws.{items_have, has_items}
-use Rattle.certificate.specs.Pieces.{Pieces, certificate_of}
+use Rattle.certificate.specs.Fields.{Fields, certificate_of}
 use Rattle.answers.specs.Portions.{IsPortion}
 use Rattle.checker.specs.Rules.{Obeys, Breaks, HeldObey}
 use Rattle.checker.specs.Closings.{HavePairs, IsClosing, IsCovered}
@@ -31,7 +31,7 @@ use Rattle.checker.proofs.RuleLemmas.{breach_fails}
 pub up_to_bound : (c : Certificate) (n : ℕ) → IsHeapUpTo (bound_of c) n → IsHeapOf c n
 up_to_bound c = bound_counts (kind_of c) c.code (length c.code - 1) c.start c.period
 
-grid : Pieces → Grid
+grid : Fields → Grid
 grid p = record { order = p.order; entries = p.rows }
 
 module _ (c : Certificate) (inside : set.FinSet nat_cmp) (portion : IsPortion c inside) (t : State)
@@ -68,7 +68,7 @@ module _ (c : Certificate) (inside : set.FinSet nat_cmp) (portion : IsPortion c 
           (x, subst (λ r. Contains r.options x) e (has_items m.options x has));
     }
 
-module _ (p : Pieces) where
+module _ (p : Fields) where
   agrees : (t : Grid) → t ≡ grid p → Agrees (claim_of (certificate_of p)) t p.phi
   unfolding grid
   agrees t e = subst (λ g. Agrees (claim_of (certificate_of p)) g p.phi) (sym e) (record {
@@ -88,8 +88,8 @@ module _ (p : Pieces) where
     claim_over : IsClaimOver p.code (claim_of (certificate_of p))
         (record { order = p.order; entries = p.rows }) heaps
     claim_over = record {
-      monoid = is.sheet.lawful.monoid;
-      elements = λ n _. phi_in (certificate_of p) is.sheet.lawful.in_ranges n;
+      monoid = is.certificate.lawful.monoid;
+      elements = λ n _. phi_in (certificate_of p) is.certificate.lawful.in_ranges n;
       order_is = refl;
       times_is = λ x y a b. rows_of-entry p.order p.order p.rows x y a b;
       heaps_are =
@@ -123,7 +123,7 @@ module _ (p : Pieces) where
       pub member_fails : (m : Held) (X : List ℕ) → IsWordOf t m X → Breaks inside m.pair
           → RuleFails p.code (claim_of (certificate_of p)) X
       member_fails m X w b =
-          breach_fails inside m.pair p.code (claim_of (certificate_of p)) X is.sheet.portion
+          breach_fails inside m.pair p.code (claim_of (certificate_of p)) X is.certificate.portion
           (w.exact p.code (claim_of (certificate_of p)) over_state) b
 
       -- members that all obey the rule cover every position
@@ -133,7 +133,7 @@ module _ (p : Pieces) where
         closed =
             subst (λ n. IsClosed p.code (claim_of (certificate_of p)) (IsHeapUpTo n) (kept t))
             length_bound (closed p.code (claim_of (certificate_of p)) over_state);
-        obey = obeying (certificate_of p) inside is.sheet.portion t all;
+        obey = obeying (certificate_of p) inside is.certificate.portion t all;
       }
 
 -- positions of the heaps up to the bound are positions of the certificate's game

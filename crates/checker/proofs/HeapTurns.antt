@@ -6,7 +6,7 @@ use Rattle.misere_theory.specs.Certificates.{Certificate, InRanges}
 use Rattle.transition_algebra.specs.Pretending.{Pretending}
 use Rattle.transition_algebra.specs.Work.{heap_cost, tries}
 use Rattle.transition_algebra.specs.Heaps.{bound_of, heap_pair, all_heap_pairs}
-use Rattle.certificate.specs.Pieces.{grid_of, pretending_of}
+use Rattle.certificate.specs.Fields.{grid_of, pretending_of}
 use Rattle.checker.specs.Turns.{stage_of, Runs, heaps_at, heaps_turn, elements_at}
 use Rattle.checker.specs.Turns as check
 use Rattle.checker.specs.Turns.Phase.{Heaps, Elements}

@@ -5,7 +5,7 @@ use Rattle.std.specs.Ordering.{nat_cmp}
 use Rattle.allocation.specs.declared.Memory.{Memory}
 use Rattle.transition_algebra.specs.declared.pair.Pair.{Pair}
 use Rattle.pair_closure.specs.declared.settle.Held.{Held}
-use Rattle.pair_closure.specs.Progress.{blank_held}
+use Rattle.pair_closure.specs.ClosureViews.{blank_held}
 use Rattle.pair_closure.specs.Turns.{State}
 use Rattle.pair_closure.specs.Keeping.{KeepsOne}
 use Rattle.checker.specs.Rules.{Obeys, Breaks, HeldObey}

@@ -4,7 +4,7 @@ use native.Mathlib.Decide.{dec_lt}
 use Rattle.misere_theory.specs.Numbering.{KeyBelow}
 use Rattle.misere_theory.specs.Certificates.{Certificate, key_of}
 use Rattle.misere_theory.specs.Faults.{WordFault, OrderFault}
-use Rattle.checker.specs.Progress.{IsKeyOf, KeysSoFar, AreKeys}
+use Rattle.checker.specs.SoFar.{IsKeyOf, KeysSoFar, AreKeys}
 
 split_and : (a b : Bool) → (a && b) ≡ true → (a ≡ true) × (b ≡ true)
 split_and true true e = (refl, refl)

@@ -6,7 +6,7 @@ use Rattle.monoid_table.specs.Turns.{JobState, triples, turn, turns, is_over}
 use Rattle.monoid_table.specs.Faults.{answer_of}
 use Rattle.monoid_table.specs.declared.fault.LawFault.{LawFault}
 use Rattle.monoid_table.specs.declared.fault.LawFault.TheVariants.{Law as Broken}
-use Rattle.answers.specs.Answers.Answer.{Law}
+use Rattle.answers.specs.ByteVerdicts.ByteVerdict.{Law}
 use Rattle.checker.specs.Turns.{Phase, stage_of, Works, laws_at, laws_turn}
 use Rattle.checker.specs.Turns as check
 use Rattle.checker.specs.Turns.Phase.{Laws, Keys, Ended}

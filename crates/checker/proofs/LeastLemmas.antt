@@ -8,11 +8,11 @@ use Rattle.transition_algebra.specs.Work.{heap_cost}
 use Rattle.transition_algebra.specs.Heaps.{all_heap_pairs}
 use Rattle.transition_algebra.specs.declared.pair.Pair.{Pair}
 use Rattle.certificate_text.specs.Reading.{certificate_at}
-use Rattle.certificate.specs.Pieces.{grid_of, pretending_of}
-use Rattle.pair_closure.specs.Progress.{Progress, begun, moved, is_over as closure_over, is_done}
+use Rattle.certificate.specs.Fields.{grid_of, pretending_of}
+use Rattle.pair_closure.specs.ClosureViews.{ClosureView, begun, moved, is_over as closure_over, is_done}
 use Rattle.pair_closure.specs.Positions.{rising, word}
-use Rattle.answers.specs.Answers.{Answer}
-use Rattle.answers.specs.Answers.Answer.{Yes, Text, Law, Word, Order, Period, Apart, Outcome, Limit, Memory}
+use Rattle.answers.specs.ByteVerdicts.{ByteVerdict}
+use Rattle.answers.specs.ByteVerdicts.ByteVerdict.{Yes, Text, Law, Word, Order, Period, Apart, Outcome, Limit, Memory}
 use Rattle.checker.specs.Views.{LawsView, KeysView, ProductsView, PeriodsView, SeparatingView, HeapsView, ElementsView, ClosingView}
 use Rattle.checker.specs.Turns.{Phase, turn, opened, laws_at, laws_turn, keys_at, keys_turn, is_keyed, is_above_last, products_at, products_turn, is_in_order, periods_turn, comes_again, separating_at, separating_turn, tells_apart, heaps_at, heaps_turn, elements_at, elements_turn, first_from, leads_in, keys_from, closing_at, closing_turn, keeps_more, obeys, newest}
 use Rattle.checker.specs.Turns.Phase.{Reading, Laws, Keys, Products, Periods, Separating, Heaps, Elements, Closing, Ended}
@@ -50,7 +50,7 @@ IsPaid n (Ended Limit) = Unit {0}
 IsPaid n (Ended Memory) = Unit {0}
 
 module _ (n : ℕ) (c : Certificate) (l : yes_least c ≤ n) where
-  closing_paid : (kept : Bool) (p : Progress) → IsPaid n (closing_at c kept p)
+  closing_paid : (kept : Bool) (p : ClosureView) → IsPaid n (closing_at c kept p)
   unfolding closing_at
   closing_paid kept p =
       by_test (IsPaid n) (kept && not (obeys c (newest p.state).pair))
@@ -269,7 +269,7 @@ opened_paid n None = tt
 opened_paid n (Some (c, [])) = omega arith
 opened_paid n (Some (c, b ∷ rest)) = tt
 
-paid_more : (n : ℕ) (a : Answer) → IsPaid n (Ended a) → IsPaid (n + 1) (Ended a)
+paid_more : (n : ℕ) (a : ByteVerdict) → IsPaid n (Ended a) → IsPaid (n + 1) (Ended a)
 paid_more n (Yes c) l = omega arith
 paid_more n Text l = tt
 paid_more n Law l = tt

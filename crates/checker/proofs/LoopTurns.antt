@@ -1,7 +1,7 @@
 -- Turns of the stages that look at products, at periods and at separating elements.
 use Rattle.std.proofs.Common.{◌≡◌, ℕ, ◌+◌, ◌-◌, ◌<◌, ◌≤◌, Bool, true, false, ◌==◌, nat_lt, List, length, slice_index, refl, sym, ◌∙◌, subst, arith, tests}
 use Rattle.misere_theory.specs.Certificates.{Certificate}
-use Rattle.answers.specs.Answers.Answer.{Order, Period, Apart}
+use Rattle.answers.specs.ByteVerdicts.ByteVerdict.{Order, Period, Apart}
 use Rattle.checker.specs.Views.{ProductsView, PeriodsView, SeparatingView}
 use Rattle.checker.specs.Turns.{Runs, products_at, products_turn, is_in_order, periods_turn, comes_again, separating_at, separating_turn, tells_apart, heaps_at}
 use Rattle.checker.specs.Turns.Phase.{Products, Periods, Separating, Ended}

@@ -3,7 +3,7 @@ use Rattle.std.proofs.Common.{◌≡◌, ◌≢◌, ℕ, suc, zero, ◌+◌, ◌
 use native.Mathlib.Decide.{dec_lt}
 use Rattle.misere_theory.specs.Certificates.{Certificate, InRanges, phi_at}
 use Rattle.misere_theory.specs.Faults.{PeriodFault}
-use Rattle.checker.specs.Progress.{PeriodsSoFar}
+use Rattle.checker.specs.SoFar.{PeriodsSoFar}
 use Rattle.misere_theory.proofs.Written.{repeats}
 
 module _ (c : Certificate) where

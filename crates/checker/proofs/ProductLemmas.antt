@@ -4,7 +4,7 @@ use native.Mathlib.Decide.{dec_lt, ℕ_discrete}
 use Rattle.misere_theory.specs.Numbering.{KeyBelow}
 use Rattle.misere_theory.specs.Certificates.{Certificate, phi_at, times_of, key_of}
 use Rattle.misere_theory.specs.Faults.{OrderFault}
-use Rattle.checker.specs.Progress.{IsInOrder, ProductsSoFar}
+use Rattle.checker.specs.SoFar.{IsInOrder, ProductsSoFar}
 
 module _ (c : Certificate) where
   -- a product was looked at, and is not the row's last

@@ -3,9 +3,9 @@ use Rattle.std.proofs.Common.{◌≡◌, ℕ, List, [], ◌∷◌, Option, Some,
 use Rattle.misere_theory.specs.Certificates.{Certificate}
 use Rattle.certificate_text.specs.Reading.{certificate_at}
 use Rattle.certificate_text.specs.Spelling.{Spells}
-use Rattle.certificate.specs.Pieces.{grid_of}
+use Rattle.certificate.specs.Fields.{grid_of}
 use Rattle.monoid_table.specs.Turns.{fresh}
-use Rattle.answers.specs.Answers.Answer.{Text}
+use Rattle.answers.specs.ByteVerdicts.ByteVerdict.{Text}
 use Rattle.checker.specs.Turns.{opened}
 use Rattle.checker.specs.Turns.Phase.{Laws, Ended}
 

@@ -8,7 +8,7 @@ use Rattle.misere_theory.proofs.Sums.{move_kept}
 use Rattle.misere_theory.proofs.Counting.{kept_in}
 use Rattle.misere_theory.proofs.Shuffles.{Shuffled, from_permutation, back, position_shuffled, value_shuffled, move_shuffled}
 use Rattle.misere_theory.proofs.Refusals.{fails_by_element}
-use Rattle.checker.specs.Sheets.{IsLawful}
+use Rattle.checker.specs.LawfulCertificates.{IsLawful}
 use Rattle.pair_closure.specs.Positions.{rising}
 use Rattle.checker.specs.Closings.{LeadsIn}
 use Rattle.answers.specs.Spelled.{AreSpelled}

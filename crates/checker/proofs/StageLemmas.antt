@@ -2,15 +2,15 @@
 use Rattle.std.proofs.Common.{◌≡◌, ℕ, List, Some, None, false, refl, sym, subst}
 use Rattle.misere_theory.specs.Certificates.{Certificate}
 use Rattle.certificate_text.specs.Spelling.{Spells}
-use Rattle.answers.specs.Answers.{Answer, Fits, Holds, IsTrueOf, answer_of}
-use Rattle.answers.specs.Answers.Answer.{Yes, Text, Law, Word, Order, Period, Apart, Outcome, Limit, Memory}
+use Rattle.answers.specs.ByteVerdicts.{ByteVerdict, Fits, Holds, IsTrueOf, answer_of}
+use Rattle.answers.specs.ByteVerdicts.ByteVerdict.{Yes, Text, Law, Word, Order, Period, Apart, Outcome, Limit, Memory}
 use Rattle.checker.specs.JobViews.{IsEnding}
 use Rattle.checker.specs.Stages.{Carries, Stands, has_ended, ending}
 use Rattle.checker.specs.declared.stage.Stage.{Stage}
 use Rattle.checker.specs.declared.stage.Stage.TheVariants.{Reading, Laws, Keys, Products, Periods, Separating, Heaps, Closing, Elements, Ended}
 
 module _ (bytes : List ℕ) (c : Certificate) (spelled : Spells bytes c) (limit : ℕ) where
-  pub fitting_is_true : (a : Answer) → Fits c limit a → Holds bytes limit a
+  pub fitting_is_true : (a : ByteVerdict) → Fits c limit a → Holds bytes limit a
   fitting_is_true (Yes d) f = (c, spelled, f)
   fitting_is_true Text f = absurd f
   fitting_is_true Law f = (c, spelled, f)
@@ -48,7 +48,7 @@ going-none (Elements l) e = refl
 going-none (Ended r) e = absurd (cc)
 
 -- the answer of a stage that has ended
-pub ended_holds : {A : Type 0} (bytes : List ℕ) (limit : ℕ) (s : Stage A) (a : Answer)
+pub ended_holds : {A : Type 0} (bytes : List ℕ) (limit : ℕ) (s : Stage A) (a : ByteVerdict)
     → ending s ≡ Some a → Stands bytes limit s → Holds bytes limit a
 ended_holds bytes limit Reading a e h = absurd (cc)
 ended_holds bytes limit (Laws l) a e h = absurd (cc)
@@ -77,7 +77,7 @@ none-going (Ended r) e = absurd (cc)
 
 -- the answer of a stage that stands is true
 pub stands-true : {A : Type 0} (bytes : List ℕ) (limit : ℕ)
-    → ((a : Answer) → Holds bytes limit a → IsTrueOf bytes limit a) → (s : Stage A)
+    → ((a : ByteVerdict) → Holds bytes limit a → IsTrueOf bytes limit a) → (s : Stage A)
     → Stands bytes limit s → IsEnding bytes limit (ending s)
 stands-true bytes limit t Reading h = tt
 stands-true bytes limit t (Laws l) h = tt

@@ -7,8 +7,8 @@ use Rattle.misere_theory.specs.Faults.{LawFault}
 use Rattle.misere_theory.proofs.Monoids.{products_in}
 use Rattle.monoid_table.specs.Grids.{entry, IsTable}
 use Rattle.monoid_table.specs.Turns.{JobState, turn, turns, is_over}
-use Rattle.certificate.specs.Pieces.{Pieces, certificate_of, IsWhole}
-use Rattle.checker.specs.Sheets.{IsLawful}
+use Rattle.certificate.specs.Fields.{Fields, certificate_of, IsWhole}
+use Rattle.checker.specs.LawfulCertificates.{IsLawful}
 use Rattle.checker.proofs.Rows.{rows_of-entry}
 
 choice_grid : (b : Bool) (s t : JobState) → t.grid ≡ s.grid → (if b then s else t).grid ≡ s.grid
@@ -51,7 +51,7 @@ fails_along q f g p e closed (Associativity x y z a b d n) =
     n (sym (e (g x y) z k d)
     ∙ (sym (ap (λ v. f v z) (e x y a b)) ∙ (h ∙ (ap (f x) (e y z b d) ∙ e x (g y z) a l)))))
 
-module _ (p : Pieces) (w : IsWhole p) where
+module _ (p : Fields) (w : IsWhole p) where
   products : (x y : ℕ) → x < p.order → y < p.order
       → times_of (certificate_of p) x y ≡ entry p.order p.rows x y
   products x y a b = rows_of-entry p.order p.order p.rows x y a b

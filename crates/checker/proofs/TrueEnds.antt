@@ -19,14 +19,14 @@ use Rattle.transition_algebra.specs.Pairs.{IsPair, is_empty}
 use Rattle.transition_algebra.specs.Pretending.{Pretending, IsPretending}
 use Rattle.transition_algebra.specs.Heaps.{Agrees, IsInto, IsHeapPairs, AreAllHeapPairs, all_heap_pairs}
 use Rattle.transition_algebra.specs.Work.{heap_cost}
-use Rattle.certificate.specs.Pieces.{grid_of, pretending_of}
+use Rattle.certificate.specs.Fields.{grid_of, pretending_of}
 use Rattle.pair_closure.specs.Turns.{State}
 use Rattle.pair_closure.specs.Turns as turning
-use Rattle.pair_closure.specs.Progress as closing
+use Rattle.pair_closure.specs.ClosureViews as closing
 use Rattle.pair_closure.specs.Keeping.{KeepsOne}
 use Rattle.pair_closure.specs.Positions.{IsClaimOver, ShowsPairs, as_pair, kept, rising, word}
-use Rattle.answers.specs.Answers.{Answer, Fits}
-use Rattle.answers.specs.Answers.Answer.{Yes, Outcome, Limit, Memory}
+use Rattle.answers.specs.ByteVerdicts.{ByteVerdict, Fits}
+use Rattle.answers.specs.ByteVerdicts.ByteVerdict.{Yes, Outcome, Limit, Memory}
 use Rattle.answers.specs.Portions.{IsPortion}
 use Rattle.checker.specs.Rules.{Obeys, Breaks}
 use Rattle.checker.specs.Closings.{HavePairs}
@@ -58,8 +58,8 @@ pub record HeapsAreKnown : Type 0 where
   pub shows : (table : Grid) (heaps : List Pair) (limit units : ℕ) → IsTableGrid table
       → All (IsPair table.order) heaps
       → ShowsPairs (closing.turns units (turning.start table heaps limit))
-  pub keeps : (p : closing.Progress) → KeepsOne p.state (closing.moved p).state
-  pub same : (p : closing.Progress) → closing.SameData p.state (closing.moved p).state
+  pub keeps : (p : closing.ClosureView) → KeepsOne p.state (closing.moved p).state
+  pub same : (p : closing.ClosureView) → closing.SameData p.state (closing.moved p).state
   pub accepted : (c : Certificate) (members : List theory.Pair) → InRanges c
       → Monoid c.order (times_of c) → Canonical c
       → IsClosed c.code (claim_of c) (IsHeapUpTo (bound_of c)) members
@@ -102,7 +102,7 @@ the_portion c = (set.from_list c.portion, λ x. set.contains-from_list_nat c.por
 
 module _ (bytes : List ℕ) (limit : ℕ) where
   -- what is true of the certificate is of the bytes
-  pub faulty : (c : Certificate) → IsSpelled bytes limit c → (a : Answer) → Fits c limit a
+  pub faulty : (c : Certificate) → IsSpelled bytes limit c → (a : ByteVerdict) → Fits c limit a
       → (a ≡ Memory → ⊥) → IsRight bytes limit (Ended a)
   faulty c s a f n = (fitting_is_true bytes c s.spelled limit a f, n)
 
@@ -225,9 +225,9 @@ module _ (bytes : List ℕ) (limit : ℕ) where
   -- the closure, a turn later
   module _ (known : HeapsAreKnown) (c : Certificate) (is : IsSpelled bytes limit c)
       (canonical : Canonical c) (pairs : List Pair) (exact : HavePairs c pairs)
-      (elements : ElementsObey c.code (claim_of c) (IsHeapUpTo (bound_of c))) (p : closing.Progress)
+      (elements : ElementsObey c.code (claim_of c) (IsHeapUpTo (bound_of c))) (p : closing.ClosureView)
       (k : IsClosure bytes limit c pairs p) where
-    abbrev q : closing.Progress
+    abbrev q : closing.ClosureView
     q = closing.moved p
 
     abbrev t : State

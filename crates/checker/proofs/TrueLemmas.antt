@@ -4,8 +4,8 @@ use Rattle.misere_theory.specs.Certificates.{Certificate, InRanges}
 use Rattle.certificate_text.specs.Spelling.{Spells}
 use Rattle.certificate_text.specs.Reading.{certificate_at}
 use Rattle.monoid_table.specs.Turns.{JobState, turn as table_turn, turns as table_turns}
-use Rattle.answers.specs.Answers.{Holds}
-use Rattle.answers.specs.Answers.Answer.{Memory}
+use Rattle.answers.specs.ByteVerdicts.{Holds}
+use Rattle.answers.specs.ByteVerdicts.ByteVerdict.{Memory}
 use Rattle.checker.specs.Turns.{Phase, turn, turns, opened, cost, verdict}
 use Rattle.checker.specs.Turns.Phase.{Reading, Laws, Keys, Products, Periods, Separating, Heaps, Elements, Closing, Ended}
 use Rattle.checker.proofs.TrueTables.{TablesCost}

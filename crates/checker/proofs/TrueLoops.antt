@@ -6,12 +6,12 @@ use Rattle.std.proofs.lemmas.List.Elements.{All-get_or}
 use Rattle.misere_theory.specs.Certificates.{Certificate, InRanges, claim_of}
 use Rattle.misere_theory.proofs.Verdicts.{faultless}
 use Rattle.certificate_text.specs.Spelling.{Spells}
-use Rattle.certificate.specs.Pieces.{grid_of, pretending_of}
+use Rattle.certificate.specs.Fields.{grid_of, pretending_of}
 use Rattle.monoid_table.specs.Grids.{IsShaped}
 use Rattle.monoid_table.specs.Turns.{JobState, triples, turn, turns, fresh}
 use Rattle.transition_algebra.specs.Heaps.{Agrees}
-use Rattle.answers.specs.Answers.Answer.{Law, Word, Order, Period, Apart}
-use Rattle.checker.specs.Progress.{IsKeyOf, KeysSoFar, ProductsSoFar, ApartSoFar, HasNoFaultBelow}
+use Rattle.answers.specs.ByteVerdicts.ByteVerdict.{Law, Word, Order, Period, Apart}
+use Rattle.checker.specs.SoFar.{IsKeyOf, KeysSoFar, ProductsSoFar, ApartSoFar, HasNoFaultBelow}
 use Rattle.checker.specs.Views.{LawsView, KeysView, ProductsView, PeriodsView, SeparatingView}
 use Rattle.checker.specs.Turns.{laws_at, laws_turn, keys_at, keys_turn, is_keyed, is_above_last, products_at, products_turn, is_in_order, periods_turn, comes_again, separating_at, separating_turn, tells_apart, heaps_at}
 use Rattle.checker.specs.Turns.Phase.{Laws, Keys, Products, Periods, Separating, Ended}

@@ -2,20 +2,20 @@
 use Rattle.std.proofs.Common.{◌≡◌, ◌≢◌, ℕ, ◌<◌, ◌≤◌, ◌+◌, List, length, true}
 use Rattle.misere_theory.specs.Certificates.{Certificate, InRanges, Canonical}
 use Rattle.certificate_text.specs.Spelling.{Spells}
-use Rattle.certificate.specs.Pieces.{grid_of}
+use Rattle.certificate.specs.Fields.{grid_of}
 use Rattle.monoid_table.specs.Turns.{turns, fresh}
 use Rattle.transition_algebra.specs.declared.pair.Pair.{Pair}
-use Rattle.pair_closure.specs.Progress as closing
+use Rattle.pair_closure.specs.ClosureViews as closing
 use Rattle.pair_closure.specs.Turns as turning
 use Rattle.misere_theory.specs.Games.{IsHeapUpTo}
 use Rattle.misere_theory.specs.Pairs.{ElementsObey}
 use Rattle.misere_theory.specs.Certificates.{claim_of}
-use Rattle.answers.specs.Answers.{Holds}
-use Rattle.answers.specs.Answers.Answer.{Memory}
-use Rattle.checker.specs.Sheets.{IsLawful}
+use Rattle.answers.specs.ByteVerdicts.{Holds}
+use Rattle.answers.specs.ByteVerdicts.ByteVerdict.{Memory}
+use Rattle.checker.specs.LawfulCertificates.{IsLawful}
 use Rattle.checker.specs.Closings.{HavePairs, ObeysAt}
 use Rattle.checker.specs.Bounds.{bound_of}
-use Rattle.checker.specs.Progress.{KeysSoFar, ProductsSoFar, PeriodsSoFar, ApartSoFar}
+use Rattle.checker.specs.SoFar.{KeysSoFar, ProductsSoFar, PeriodsSoFar, ApartSoFar}
 use Rattle.checker.specs.Views.{LawsView, KeysView, ProductsView, PeriodsView, SeparatingView, HeapsView, ElementsView, ClosingView}
 use Rattle.checker.specs.Turns.{Phase, obeys}
 use Rattle.checker.specs.Turns.Phase.{Reading, Laws, Keys, Products, Periods, Separating, Heaps, Elements, Closing, Ended}
@@ -71,7 +71,7 @@ module _ (bytes : List ℕ) (limit : ℕ) where
     pub more : e.heap < length e.pairs
 
   -- the closure of these pairs, after some turns, and each member held obeys the rule
-  pub record IsClosure (c : Certificate) (pairs : List Pair) (p : closing.Progress) : Type 0 where
+  pub record IsClosure (c : Certificate) (pairs : List Pair) (p : closing.ClosureView) : Type 0 where
     pub taken : ℕ
     pub reached : p.state ≡ closing.turns taken (turning.start (grid_of c) pairs limit)
     pub same : closing.SameData (turning.start (grid_of c) pairs limit) p.state

@@ -10,8 +10,8 @@ use Rattle.misere_theory.proofs.Monoids.{products_in}
 use Rattle.monoid_table.specs.Grids.{Grid, IsShaped, IsTable, entry}
 use Rattle.monoid_table.specs.Turns.{triples, triple_holds, turns, fresh, first_failing, passing, table_cost}
 use Rattle.transition_algebra.specs.Heaps.{Agrees}
-use Rattle.certificate.specs.Pieces.{grid_of, pretending_of}
-use Rattle.checker.specs.Sheets.{IsLawful}
+use Rattle.certificate.specs.Fields.{grid_of, pretending_of}
+use Rattle.checker.specs.LawfulCertificates.{IsLawful}
 use Rattle.checker.proofs.TableLemmas.{monoid_along, fails_along}
 
 -- what monoid_table tells of jobs

@@ -3,7 +3,7 @@ use Rattle.std.proofs.Common.{◌≡◌, ◌≢◌, ◌↔◌, ℕ, ◌+◌, ◌
 use native.Mathlib.Decide.{dec_lt}
 use Rattle.misere_theory.specs.Numbering.{KeyBelow}
 use Rattle.misere_theory.specs.Certificates.{Certificate, claim_of, times_of, phi_at, key_of, TellsApart}
-use Rattle.checker.specs.Progress.{IsKeyOf, IsInOrder}
+use Rattle.checker.specs.SoFar.{IsKeyOf, IsInOrder}
 use Rattle.checker.specs.Turns.{is_keyed, is_above_last, key_below, is_in_order, comes_again, tells_apart}
 
 pub opposite : {b : Bool} → b ≡ true → b ≡ false → ⊥

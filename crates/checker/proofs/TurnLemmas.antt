@@ -2,7 +2,7 @@
 use Rattle.std.proofs.Common.{◌≡◌, ℕ, suc, ◌+◌, ◌-◌, ◌<◌, ◌≤◌, Bool, true, false, ◌&&◌, nat_lt, List, refl, sym, ◌∙◌, ap, subst, arith, tests}
 use native.Mathlib.Decide.{dec_lt}
 use Rattle.misere_theory.specs.Certificates.{Certificate}
-use Rattle.answers.specs.Answers.Answer.{Word, Order}
+use Rattle.answers.specs.ByteVerdicts.ByteVerdict.{Word, Order}
 use Rattle.checker.specs.Views.{KeysView}
 use Rattle.checker.specs.Turns.{Phase, stage_of, turn, turns, Runs, keys_at, keys_turn, is_keyed, is_above_last}
 use Rattle.checker.specs.Turns.Phase.{Keys, Products, Ended}

@@ -4,10 +4,10 @@ use Rattle.std.specs.FinSet as set
 use Rattle.std.specs.Ordering.{nat_cmp}
 use Rattle.misere_theory.specs.Certificates.{Certificate}
 use Rattle.allocation.specs.declared.Memory.{Memory}
-use Rattle.pair_closure.specs.Progress.{Progress, SameData, blank_held, has_ended}
+use Rattle.pair_closure.specs.ClosureViews.{ClosureView, SameData, blank_held, has_ended}
 use Rattle.pair_closure.specs.Positions.{IsClosedOver, IsExceeded, rising, word}
 use Rattle.answers.specs.Portions.{IsPortion}
-use Rattle.answers.specs.Answers.Answer.{Yes, Outcome, Limit}
+use Rattle.answers.specs.ByteVerdicts.ByteVerdict.{Yes, Outcome, Limit}
 use Rattle.checker.specs.Rules.{Breaks, HeldObey}
 use Rattle.checker.specs.Turns.{Phase, Runs}
 use Rattle.checker.specs.Turns.Phase.{Closing, Ended}
@@ -16,7 +16,7 @@ use Rattle.checker.specs.declared.closing.Looked.TheVariants.{More, Done, Over, 
 
 -- Of `before` units `after` are left, and the others were turns, from this closure on, to this
 -- phase, whatever certificate of this portion is under test.
-abbrev pub Closes : set.FinSet nat_cmp → Progress → ℕ → ℕ → (Certificate → Phase) → Type 0
+abbrev pub Closes : set.FinSet nat_cmp → ClosureView → ℕ → ℕ → (Certificate → Phase) → Type 0
 Closes inside p before after to =
     (c : Certificate) → IsPortion c inside → (bytes : List ℕ) (limit : ℕ)
     → Runs bytes limit (Closing (record { certificate = c; closure = p })) before after (to c)
@@ -27,7 +27,7 @@ Closes inside p before after to =
 --   over: positions have more pairs than the limit, which is the answer;
 --   broken: the member held at this place breaks the rule, and its position is the answer;
 --   want of memory: the turns have come somewhere.
-abbrev pub HasClosed : set.FinSet nat_cmp → Progress → ℕ → ℕ → Progress → Result Looked Memory
+abbrev pub HasClosed : set.FinSet nat_cmp → ClosureView → ℕ → ℕ → ClosureView → Result Looked Memory
     → Type 0
 HasClosed inside p before after q (Ok More) =
     (after ≡ 0) × HeldObey inside q.state.held × (has_ended q.state ≡ false) × (q.failed ≡ false)
@@ -46,7 +46,7 @@ HasClosed inside p before after q (Err m) =
     (to : Certificate → Phase) × Closes inside p before after to
 
 -- What the closing of a closure keeps: its data, and the units with those that are left.
-pub record GoesOn (p : Progress) (before after : ℕ) (q : Progress) : Type 0 where
+pub record GoesOn (p : ClosureView) (before after : ℕ) (q : ClosureView) : Type 0 where
   pub same : SameData p.state q.state
   pub spends : after ≤ before
   pub spent : after + q.spent ≡ before + p.spent

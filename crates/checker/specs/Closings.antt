@@ -10,8 +10,8 @@ use Rattle.misere_theory.specs.Certificates.{Certificate, Canonical, claim_of, t
 use Rattle.transition_algebra.specs.declared.pair.Pair.{Pair}
 use Rattle.transition_algebra.specs.Pairs.{IsPair}
 use Rattle.transition_algebra.specs.Heaps.{IsHeapPairs}
-use Rattle.certificate.specs.Pieces.{Pieces, certificate_of}
-use Rattle.checker.specs.Sheets.{IsSheet}
+use Rattle.certificate.specs.Fields.{Fields, certificate_of}
+use Rattle.checker.specs.LawfulCertificates.{IsLawfulCertificate}
 use Rattle.checker.specs.Bounds.{bound_of}
 
 -- the pairs are those of the heaps 1 to B
@@ -19,13 +19,13 @@ pub record HavePairs (c : Certificate) (pairs : List Pair) : Type 0 where
   pub exact : IsHeapPairs c.code (claim_of c) (bound_of c) pairs
   pub within : All (IsPair c.order) pairs
 
--- a sheet without faults
-pub record IsCanonicalSheet (p : Pieces) (inside : set.FinSet nat_cmp) : Type 0 where
-  pub sheet : IsSheet p inside
+-- a certificate without faults
+pub record IsCanonicalCertificate (p : Fields) (inside : set.FinSet nat_cmp) : Type 0 where
+  pub certificate : IsLawfulCertificate p inside
   pub canonical : Canonical (certificate_of p)
 
-pub record IsClosing (p : Pieces) (inside : set.FinSet nat_cmp) (pairs : List Pair) : Type 0 where
-  pub sheet : IsSheet p inside
+pub record IsClosing (p : Fields) (inside : set.FinSet nat_cmp) (pairs : List Pair) : Type 0 where
+  pub certificate : IsLawfulCertificate p inside
   pub canonical : Canonical (certificate_of p)
   pub exact : HavePairs (certificate_of p) pairs
   pub elements : ElementsObey (certificate_of p).code (claim_of (certificate_of p))

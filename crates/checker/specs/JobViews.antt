@@ -1,7 +1,7 @@
 -- Jobs as their callers see them.
 use Rattle.std.specs.Prelude.{◌≡◌, ◌≢◌, ◌⊎◌, ℕ, ◌+◌, ◌^◌, ◌<◌, ◌≤◌, List, Option, Some, None}
-use Rattle.answers.specs.Answers.{Answer, IsTrueOf}
-use Rattle.answers.specs.Answers.Answer.{Memory}
+use Rattle.answers.specs.ByteVerdicts.{ByteVerdict, IsTrueOf}
+use Rattle.answers.specs.ByteVerdicts.ByteVerdict.{Memory}
 use Rattle.checker.specs.Bounds.{AreWithinBound}
 use Rattle.checker.specs.Turns.{cost, verdict}
 
@@ -11,10 +11,10 @@ pub record JobView : Type 0 where
   pub bytes : List ℕ
   pub limit : ℕ
   pub spent : ℕ
-  pub ended : Option Answer
+  pub ended : Option ByteVerdict
 
 -- the answer is true of the bytes
-abbrev pub IsEnding : List ℕ → ℕ → Option Answer → Type 0
+abbrev pub IsEnding : List ℕ → ℕ → Option ByteVerdict → Type 0
 IsEnding bytes limit None = Unit {0}
 IsEnding bytes limit (Some a) = IsTrueOf bytes limit a
 
@@ -23,7 +23,7 @@ IsTruthful j = IsEnding j.bytes j.limit j.ended
 
 -- While a check goes on, less is spent than it costs. Once it has ended, all that it costs was
 -- spent, and the answer is its verdict, unless memory was refused: then no more was spent.
-abbrev pub IsDueAt : List ℕ → ℕ → ℕ → Option Answer → Type 0
+abbrev pub IsDueAt : List ℕ → ℕ → ℕ → Option ByteVerdict → Type 0
 IsDueAt bytes limit spent None = spent < cost bytes limit
 IsDueAt bytes limit spent (Some a) = ((spent ≡ cost bytes limit) × (a ≡ verdict bytes limit))
     ⊎ ((a ≡ Memory) × (spent ≤ cost bytes limit))

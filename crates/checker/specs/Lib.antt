@@ -1,6 +1,6 @@
 pub mod Units
-pub mod Sheets
-pub mod Progress
+pub mod LawfulCertificates
+pub mod SoFar
 pub mod Rules
 pub mod Bounds
 pub mod Closings

@@ -4,7 +4,7 @@ use Rattle.std.specs.FinSet as set
 use Rattle.std.specs.Ordering.{nat_cmp}
 use Rattle.transition_algebra.specs.declared.pair.Pair.{Pair}
 use Rattle.pair_closure.specs.declared.settle.Held.{Held}
-use Rattle.pair_closure.specs.Progress.{blank_held}
+use Rattle.pair_closure.specs.ClosureViews.{blank_held}
 
 -- inside the portion there is an option; outside, where there is one, there is one in the portion
 pub record Obeys (inside : set.FinSet nat_cmp) (p : Pair) : Type 0 where

@@ -5,10 +5,10 @@ use Rattle.monoid_table.specs.Grids.{Grid}
 use Rattle.monoid_table.specs.Turns.{triples}
 use Rattle.transition_algebra.specs.declared.pair.Pair.{Pair}
 use Rattle.transition_algebra.specs.Work.{heap_cost}
-use Rattle.certificate.specs.Pieces.{pretending_of}
-use Rattle.pair_closure.specs.Progress as closing
+use Rattle.certificate.specs.Fields.{pretending_of}
+use Rattle.pair_closure.specs.ClosureViews as closing
 use Rattle.checker.specs.Bounds.{bound_of}
-use Rattle.checker.specs.Progress.{period_or_one}
+use Rattle.checker.specs.SoFar.{period_or_one}
 use Rattle.checker.specs.Views.{LawsView, KeysView, ProductsView, PeriodsView, SeparatingView, HeapsView, ElementsView, ClosingView}
 use Rattle.checker.specs.Turns.{Phase}
 use Rattle.checker.specs.Turns.Phase.{Reading, Laws, Keys, Products, Periods, Separating, Heaps, Elements, Closing, Ended}

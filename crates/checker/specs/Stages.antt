@@ -2,8 +2,8 @@
 use Rattle.std.specs.Prelude.{◌≡◌, ◌⊎◌, ℕ, ◌<◌, Bool, true, false, List, Option, Some, None, Result, Ok, Err}
 use Rattle.misere_theory.specs.Certificates.{Certificate}
 use Rattle.certificate_text.specs.Spelling.{Spells}
-use Rattle.answers.specs.Answers.{Answer, answer_of, Fits, Holds}
-use Rattle.answers.specs.Answers.Answer.{Memory}
+use Rattle.answers.specs.ByteVerdicts.{ByteVerdict, answer_of, Fits, Holds}
+use Rattle.answers.specs.ByteVerdicts.ByteVerdict.{Memory}
 use Rattle.checker.specs.Turns.{Phase, stage_of, Runs, Reaches}
 use Rattle.checker.specs.Turns.Phase.{Reading as AtReading, Laws as AtLaws, Keys as AtKeys, Products as AtProducts, Periods as AtPeriods, Separating as AtSeparating, Heaps as AtHeaps, Closing as AtClosing, Elements as AtElements, Ended as AtEnded}
 use Rattle.answers.specs.declared.refusal.Refusal.{Refusal}
@@ -62,7 +62,7 @@ has_ended (Closing s) = false
 has_ended (Ended r) = true
 
 -- the answer, once it stands
-abbrev pub ending : {A : Type 0} → Stage A → Option Answer
+abbrev pub ending : {A : Type 0} → Stage A → Option ByteVerdict
 ending Reading = None
 ending (Laws l) = None
 ending (Keys k) = None

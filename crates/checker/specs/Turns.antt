@@ -5,7 +5,7 @@ use Rattle.std.specs.List.{list_any}
 use Rattle.std.specs.FinSet as set
 use Rattle.misere_theory.specs.Certificates.{Certificate, claim_of, times_of, phi_at, key_of}
 use Rattle.certificate_text.specs.Reading.{certificate_at}
-use Rattle.certificate.specs.Pieces.{grid_of, pretending_of}
+use Rattle.certificate.specs.Fields.{grid_of, pretending_of}
 use Rattle.monoid_table.specs.Turns as table
 use Rattle.transition_algebra.specs.declared.pair.Pair.{Pair}
 use Rattle.transition_algebra.specs.Pairs.{is_empty}
@@ -13,11 +13,11 @@ use Rattle.transition_algebra.specs.Work.{heap_cost}
 use Rattle.transition_algebra.specs.Heaps.{all_heap_pairs}
 use Rattle.pair_closure.specs.Turns.{State}
 use Rattle.pair_closure.specs.declared.settle.Held.{Held}
-use Rattle.pair_closure.specs.Progress as closure
+use Rattle.pair_closure.specs.ClosureViews as closure
 use Rattle.pair_closure.specs.Positions.{rising, word}
 use Rattle.checker.specs.Bounds.{most_turns}
-use Rattle.answers.specs.Answers.{Answer}
-use Rattle.answers.specs.Answers.Answer.{Yes, Text, Law, Word, Order, Period, Apart, Outcome, Limit, Memory}
+use Rattle.answers.specs.ByteVerdicts.{ByteVerdict}
+use Rattle.answers.specs.ByteVerdicts.ByteVerdict.{Yes, Text, Law, Word, Order, Period, Apart, Outcome, Limit, Memory}
 use Rattle.checker.specs.Views.{LawsView, KeysView, ProductsView, PeriodsView, SeparatingView, HeapsView, ElementsView, ClosingView}
 
 -- Where a check stands: at a stage with what it holds, or at its answer.
@@ -31,7 +31,7 @@ pub data Phase : Type 0 where
   Heaps : HeapsView → Phase
   Elements : ElementsView → Phase
   Closing : ClosingView → Phase
-  Ended : Answer → Phase
+  Ended : ByteVerdict → Phase
 
 abbrev pub is_ended : Phase → Bool
 is_ended (Ended a) = true
@@ -81,7 +81,7 @@ abbrev pub keeps_more : State → State → Bool
 keeps_more s t = nat_lt (length s.members) (length t.members)
 
 -- The rule is looked at for a member in the turn that keeps it.
-unfoldable pub closing_at : Certificate → Bool → closure.Progress → Phase
+unfoldable pub closing_at : Certificate → Bool → closure.ClosureView → Phase
 closing_at c kept p =
     if kept && not (obeys c (newest p.state).pair) then Ended
     (Outcome c.code (rising (word p.state (newest p.state).place)))
@@ -257,12 +257,12 @@ module _ (bytes : List ℕ) (limit : ℕ) where
   unfoldable pub cost : ℕ
   cost = turns_left bound Reading
 
-  abbrev pub answer_at : Phase → Answer
+  abbrev pub answer_at : Phase → ByteVerdict
   answer_at (Ended a) = a
   answer_at p = Memory
 
   -- What it answers.
-  unfoldable pub verdict : Answer
+  unfoldable pub verdict : ByteVerdict
   verdict = answer_at (turns cost Reading)
 
   -- Of `before` units `after` are left, and each of the others was a turn, at the stage at which

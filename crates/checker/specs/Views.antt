@@ -4,8 +4,8 @@ use Rattle.misere_theory.specs.Certificates.{Certificate}
 use Rattle.monoid_table.specs.Turns.{JobState, triples}
 use Rattle.transition_algebra.specs.declared.pair.Pair.{Pair}
 use Rattle.transition_algebra.specs.Work.{heap_cost}
-use Rattle.certificate.specs.Pieces.{pretending_of}
-use Rattle.pair_closure.specs.Progress as closing
+use Rattle.certificate.specs.Fields.{pretending_of}
+use Rattle.pair_closure.specs.ClosureViews as closing
 use Rattle.checker.specs.Units.{rest}
 
 -- the triples of the table that were looked at
@@ -47,7 +47,7 @@ pub record HeapsView : Type 0 where
 -- the closure
 pub record ClosingView : Type 0 where
   pub certificate : Certificate
-  pub closure : closing.Progress
+  pub closure : closing.ClosureView
 
 -- the pairs of the heaps, the next heap, less one, and the next value
 pub record ElementsView : Type 0 where

@@ -3,8 +3,8 @@ ghost use Rattle.std.specs.Prelude.{◌≡◌, ◌≤◌, ◌+◌, ◌*◌, ℕ,
 ghost use Rattle.misere_theory.specs.Games.{IsHeapUpTo};
 ghost use Rattle.misere_theory.specs.Pairs.{ElementsObey};
 ghost use Rattle.misere_theory.specs.Certificates.{Accepted, Canonical, claim_of};
-ghost use Rattle.pair_closure.specs.Progress.{begun, has_ended};
-ghost use Rattle.certificate.specs.Pieces.{grid_of};
+ghost use Rattle.pair_closure.specs.ClosureViews.{begun, has_ended};
+ghost use Rattle.certificate.specs.Fields.{grid_of};
 ghost use Rattle.checker.specs.Rules.{HeldObey};
 ghost use Rattle.checker.specs.Closings.{HavePairs};
 ghost use Rattle.checker.specs.Bounds.{bound_of};
@@ -12,13 +12,13 @@ ghost use Rattle.checker.specs.Turns.Phase.{Closing as AtClosing};
 ghost use Rattle.checker.specs.Closes.{HasClosed, GoesOn};
 ghost use Rattle.checker.specs.Stages.{Carries, Comes, reached};
 
+use crate::lawful_certificate::LawfulCertificate;
 use crate::lines::Lines;
 use crate::rule::obeys;
-use crate::sheet::Sheet;
 use crate::stage::Stage;
-use allocation::{Memory, Room};
+use allocation::{Memory, SmallAllocator};
 use answers::{Certified, Refusal};
-use certificate::{Cert, Parts};
+use certificate::{Cert, Fields};
 use element_sets::ElementSet;
 use misere_theory::certificates::tested_certificates_are_accepted;
 use octal_code::Code;
@@ -29,18 +29,18 @@ use transition_algebra::{Pair, Phi};
 
 /// The pairs are closed, a product a turn, and each obeys the rule as it is kept.
 #[derive(Drop)]
-pub struct Closing<A: Room = Global> {
+pub struct Closing<A: SmallAllocator = Global> {
     code: Code,
     phi: Phi<A>,
     lines: Lines<A>,
     closure: Closure<A>,
 }
 
-impl<A: Room> Model for Closing<A> {
-    ghost use Rattle.certificate.specs.Pieces.{certificate_of};
-    ghost use Rattle.checker.specs.Sheets.{pieces_of};
+impl<A: SmallAllocator> Model for Closing<A> {
+    ghost use Rattle.certificate.specs.Fields.{certificate_of};
+    ghost use Rattle.checker.specs.LawfulCertificates.{fields_of};
     ghost use Rattle.std.specs.Prelude.{◌≡◌, false};
-    ghost use Rattle.pair_closure.specs.Progress.{has_ended};
+    ghost use Rattle.pair_closure.specs.ClosureViews.{has_ended};
     ghost use Rattle.checker.specs.Views.{ClosingView};
     ghost use Rattle.checker.specs.Closings.{IsClosing};
     ghost use Rattle.checker.specs.Rules.{HeldObey};
@@ -54,7 +54,7 @@ impl<A: Room> Model for Closing<A> {
     ghost view = { λ s.
         record {
           certificate = certificate_of
-              (pieces_of s.code s.closure.state.table s.phi s.lines.portion.items
+              (fields_of s.code s.closure.state.table s.phi s.lines.portion.items
               s.lines.words.items
               s.lines.apart.items);
           closure = s.closure;
@@ -62,7 +62,7 @@ impl<A: Room> Model for Closing<A> {
 
     ghost invariant = { λ s.
         IsClosing
-        (pieces_of s.code s.closure.state.table s.phi s.lines.portion.items s.lines.words.items
+        (fields_of s.code s.closure.state.table s.phi s.lines.portion.items s.lines.words.items
         s.lines.apart.items) s.lines.inside s.closure.state.heaps
         × HeldObey s.lines.inside s.closure.state.held
         × (has_ended s.closure.state ≡ false)
@@ -83,7 +83,7 @@ enum Looked {
 }
 
 /// Closes the pairs, and looks at the rule at each member in the turn that keeps it.
-fn close<A: Room + Copy>(
+fn close<A: SmallAllocator + Copy>(
     closure: &mut Closure<A>,
     inside: &ElementSet,
     left: &mut u64,
@@ -119,23 +119,23 @@ fn close<A: Room + Copy>(
 }
 
 /// The certificate, put together again.
-fn accepted<A: Room>(sheet: Sheet<A>) -> Certified<A>
-    requires { Accepted sheet }
-    ensures { result ≡ sheet }
+fn accepted<A: SmallAllocator>(certificate: LawfulCertificate<A>) -> Certified<A>
+    requires { Accepted certificate }
+    ensures { result ≡ certificate }
 {
-    let Sheet {
+    let LawfulCertificate {
         code,
         table,
         phi,
         lines,
-    } = sheet;
+    } = certificate;
     let Lines {
         portion,
         inside,
         words,
         apart,
     } = lines;
-    let cert = Cert::from_parts(Parts {
+    let cert = Cert::from_fields(Fields {
         code,
         order: table.order(),
         phi,
@@ -147,21 +147,26 @@ fn accepted<A: Room>(sheet: Sheet<A>) -> Certified<A>
     Certified::new(cert, inside)
 }
 
-impl<A: Room + Copy> Closing<A> {
+impl<A: SmallAllocator + Copy> Closing<A> {
     /// No member is held.
-    pub fn new(alloc: A, sheet: Sheet<A>, pairs: Vec<Pair, A>, limit: u32) -> Closing<A>
-        requires canonical { Canonical sheet }
-        requires pairs { HavePairs sheet pairs.items }
-        requires elements { ElementsObey sheet.code (claim_of sheet) (IsHeapUpTo (bound_of sheet)) }
+    pub fn new(
+        alloc: A,
+        certificate: LawfulCertificate<A>,
+        pairs: Vec<Pair, A>,
+        limit: u32,
+    ) -> Closing<A>
+        requires canonical { Canonical certificate }
+        requires pairs { HavePairs certificate pairs.items }
+        requires elements { ElementsObey certificate.code (claim_of certificate) (IsHeapUpTo (bound_of certificate)) }
         ensures value { result
-            ≡ record { certificate = sheet; closure = begun (grid_of sheet) pairs.items limit } }
+            ≡ record { certificate = certificate; closure = begun (grid_of certificate) pairs.items limit } }
     {
-        let Sheet {
+        let LawfulCertificate {
             code,
             table,
             phi,
             lines,
-        } = sheet;
+        } = certificate;
         Closing {
             code,
             phi,
@@ -212,7 +217,7 @@ impl<A: Room + Copy> Closing<A> {
             Ok(Looked::Done) => {
                 let (table, _) = closure.finish();
                 tested_certificates_are_accepted();
-                Ok(Stage::Ended(Ok(accepted(Sheet {
+                Ok(Stage::Ended(Ok(accepted(LawfulCertificate {
                     code,
                     table,
                     phi,

@@ -5,16 +5,16 @@ ghost use Rattle.misere_theory.specs.Games.{IsPosition};
 ghost use Rattle.misere_theory.specs.Quotients.{RuleFails};
 ghost use Rattle.misere_theory.specs.Certificates.{IsHeapOf, Canonical, claim_of, times_of};
 ghost use Rattle.checker.specs.Closings.{HavePairs, AreContexts, LeadsIn};
-ghost use Rattle.answers.specs.Answers.Answer.{Outcome};
+ghost use Rattle.answers.specs.ByteVerdicts.ByteVerdict.{Outcome};
 ghost use Rattle.pair_closure.specs.Positions.{rising};
 ghost use Rattle.checker.specs.Turns.{keys_from, Runs};
 ghost use Rattle.checker.specs.Turns.Phase.{Elements as AtElements, Ended as AtEnded};
 ghost use Rattle.checker.specs.Stages.{Carries, Comes, phase_of, reached};
 
 use crate::closing::Closing;
-use crate::sheet::{Sheet, sheets_are_lawful};
+use crate::lawful_certificate::{LawfulCertificate, is_lawful};
 use crate::stage::Stage;
-use allocation::{Memory, Room};
+use allocation::{Memory, SmallAllocator};
 use answers::{Refusal, position_of, spelled_sizes_are_positions};
 use element_sets::ElementSet;
 use positions::Position;
@@ -25,8 +25,8 @@ use transition_algebra::Pair;
 /// The heaps and the values of options are looked at, one of each a turn: no element beside both is
 /// in the portion with the heap and with its option.
 #[derive(Drop)]
-pub struct Elements<A: Room = Global> {
-    sheet: Sheet<A>,
+pub struct Elements<A: SmallAllocator = Global> {
+    certificate: LawfulCertificate<A>,
     pairs: Vec<Pair, A>,
     /// For each element those that take it into the portion.
     contexts: Vec<ElementSet, A>,
@@ -36,7 +36,7 @@ pub struct Elements<A: Room = Global> {
     option: u16,
 }
 
-impl<A: Room> Model for Elements<A> {
+impl<A: SmallAllocator> Model for Elements<A> {
     ghost use Rattle.misere_theory.specs.Games.{IsPosition};
     ghost use Rattle.misere_theory.specs.Quotients.{RuleFails};
     ghost use Rattle.std.specs.Prelude.{◌<◌, length};
@@ -50,24 +50,24 @@ impl<A: Room> Model for Elements<A> {
     ghost coded = { Prim.hlevel (codes, e.the_row.coded) };
 
     ghost view = { λ s.
-        record { certificate = s.sheet; pairs = s.pairs.items; heap = s.heap; option = s.option } };
+        record { certificate = s.certificate; pairs = s.pairs.items; heap = s.heap; option = s.option } };
 
-    ghost invariant = { λ s. ElementsSoFar s.sheet s.pairs.items s.contexts.items s.heap s.option
+    ghost invariant = { λ s. ElementsSoFar s.certificate s.pairs.items s.contexts.items s.heap s.option
         × (s.heap < length s.pairs.items) };
 }
 
 /// The elements that take x into the portion.
-fn context<A: Room>(sheet: &Sheet<A>, x: u16) -> ElementSet
-    requires { x < sheet.now.order }
-    ensures each { (y : ℕ) → set.contains result y ≡ true → (y < sheet.now.order)
-        × ((claim_of sheet.now).portion (times_of sheet.now x y) ≡ true) }
-    ensures all { (y : ℕ) → y < sheet.now.order
-        → (claim_of sheet.now).portion (times_of sheet.now x y) ≡ true
+fn context<A: SmallAllocator>(certificate: &LawfulCertificate<A>, x: u16) -> ElementSet
+    requires { x < certificate.now.order }
+    ensures each { (y : ℕ) → set.contains result y ≡ true → (y < certificate.now.order)
+        × ((claim_of certificate.now).portion (times_of certificate.now x y) ≡ true) }
+    ensures all { (y : ℕ) → y < certificate.now.order
+        → (claim_of certificate.now).portion (times_of certificate.now x y) ≡ true
         → set.contains result y ≡ true }
 {
     let mut all = ElementSet::new();
-    for y in 0..sheet.order() {
-        if !sheet.holds(sheet.times(x, y)) {
+    for y in 0..certificate.order() {
+        if !certificate.holds(certificate.times(x, y)) {
             continue;
         }
         all.insert(y);
@@ -76,12 +76,15 @@ fn context<A: Room>(sheet: &Sheet<A>, x: u16) -> ElementSet
 }
 
 /// For each element those that take it into the portion.
-fn contexts<A: Room + Copy>(alloc: A, sheet: &Sheet<A>) -> Result<Vec<ElementSet, A>, Memory>
-    ensures { IfOk result (λ all. AreContexts sheet.now all.items) }
+fn contexts<A: SmallAllocator + Copy>(
+    alloc: A,
+    certificate: &LawfulCertificate<A>,
+) -> Result<Vec<ElementSet, A>, Memory>
+    ensures { IfOk result (λ all. AreContexts certificate.now all.items) }
 {
     let mut all = Vec::new(alloc);
-    for x in 0..sheet.order() {
-        all.push(context(sheet, x))?;
+    for x in 0..certificate.order() {
+        all.push(context(certificate, x))?;
     }
     Ok(all)
 }
@@ -108,38 +111,41 @@ fn common(a: &ElementSet, b: &ElementSet, order: u16) -> Option<u16>
 }
 
 /// The heaps that the keys of y spell, and one heap more.
-fn position_with<A: Room + Copy>(
+fn position_with<A: SmallAllocator + Copy>(
     alloc: A,
-    sheet: &Sheet<A>,
+    certificate: &LawfulCertificate<A>,
     heap: u64,
     y: u16,
 ) -> Result<Position<A>, Memory>
-    requires canonical { Canonical sheet.now }
-    requires heap { IsHeapOf sheet.now heap × (heap < 2 ^ 16) }
-    requires element { y < sheet.now.order }
-    requires breach { LeadsIn sheet.now heap y }
-    ensures position { IfOk result (IsPosition (IsHeapOf sheet.now)) }
-    ensures fails { IfOk result (RuleFails sheet.now.code (claim_of sheet.now)) }
-    ensures exact { IfOk result (λ X. X ≡ rising (heap ∷ keys_from sheet.now sheet.now.order y)) }
+    requires canonical { Canonical certificate.now }
+    requires heap { IsHeapOf certificate.now heap × (heap < 2 ^ 16) }
+    requires element { y < certificate.now.order }
+    requires breach { LeadsIn certificate.now heap y }
+    ensures position { IfOk result (IsPosition (IsHeapOf certificate.now)) }
+    ensures fails { IfOk result (RuleFails certificate.now.code (claim_of certificate.now)) }
+    ensures exact { IfOk result (λ X. X ≡ rising (heap ∷ keys_from certificate.now certificate.now.order y)) }
 {
     spelled_sizes_are_positions();
-    let mut position = position_of(alloc, sheet.words(), y)?;
+    let mut position = position_of(alloc, certificate.words(), y)?;
     position.push(heap)?;
     position.heaps();
     Ok(position)
 }
 
 /// The rule fails at a position.
-fn rule_fails<A: Room>(sheet: Sheet<A>, position: Position<A>) -> Result<Stage<A>, Refusal<A>>
-    requires canonical { Canonical sheet }
-    requires position { IsPosition (IsHeapOf sheet) position }
-    requires fails { RuleFails sheet.code (claim_of sheet) position }
-    ensures carries { (limit : ℕ) → Carries sheet limit (reached result) }
-    ensures shown { phase_of (reached result) ≡ AtEnded (Outcome sheet.code position) }
+fn rule_fails<A: SmallAllocator>(
+    certificate: LawfulCertificate<A>,
+    position: Position<A>,
+) -> Result<Stage<A>, Refusal<A>>
+    requires canonical { Canonical certificate }
+    requires position { IsPosition (IsHeapOf certificate) position }
+    requires fails { RuleFails certificate.code (claim_of certificate) position }
+    ensures carries { (limit : ℕ) → Carries certificate limit (reached result) }
+    ensures shown { phase_of (reached result) ≡ AtEnded (Outcome certificate.code position) }
 {
-    sheets_are_lawful(&sheet);
-    let code = sheet.code;
-    drop(sheet);
+    is_lawful(&certificate);
+    let code = certificate.code;
+    drop(certificate);
     Err(Refusal::Outcome(code, position))
 }
 
@@ -171,18 +177,22 @@ fn breach(pair: &Pair, contexts: &[ElementSet], option: u16, order: u16) -> Opti
     )
 }
 
-impl<A: Room + Copy> Elements<A> {
+impl<A: SmallAllocator + Copy> Elements<A> {
     /// Nothing was looked at.
-    pub fn new(alloc: A, sheet: Sheet<A>, pairs: Vec<Pair, A>) -> Result<Elements<A>, Memory>
-        requires canonical { Canonical sheet }
-        requires pairs { HavePairs sheet pairs.items }
+    pub fn new(
+        alloc: A,
+        certificate: LawfulCertificate<A>,
+        pairs: Vec<Pair, A>,
+    ) -> Result<Elements<A>, Memory>
+        requires canonical { Canonical certificate }
+        requires pairs { HavePairs certificate pairs.items }
         ensures value { IfOk result
-            (λ s. s ≡ record { certificate = sheet; pairs = pairs.items; heap = 0; option = 0 }) }
+            (λ s. s ≡ record { certificate = certificate; pairs = pairs.items; heap = 0; option = 0 }) }
     {
-        let contexts = contexts(alloc, &sheet)?;
-        sheets_are_lawful(&sheet);
+        let contexts = contexts(alloc, &certificate)?;
+        is_lawful(&certificate);
         Ok(Elements {
-            sheet,
+            certificate,
             pairs,
             contexts,
             heap: 0,
@@ -196,7 +206,7 @@ impl<A: Room + Copy> Elements<A> {
         ensures runs { (bytes : List ℕ) (limit : ℕ)
             → Runs bytes limit (AtElements self.old) left.old left.new (AtElements self.new) }
     {
-        let order = self.sheet.order();
+        let order = self.certificate.order();
         let last = self.pairs.len() - 1;
         'heaps: while *left > 0 && self.heap < last {
             if breach(&self.pairs[self.heap], &self.contexts, self.option, order).is_some() {
@@ -218,17 +228,17 @@ impl<A: Room + Copy> Elements<A> {
             → Comes bytes limit (AtElements self) left.old left.new (reached result) }
     {
         let Elements {
-            sheet,
+            certificate,
             pairs,
             contexts,
             mut heap,
             mut option,
         } = self;
-        let order = sheet.order();
+        let order = certificate.order();
         'heaps: while heap < pairs.len() {
             if *left == 0 {
                 return Ok(Stage::Elements(Elements {
-                    sheet,
+                    certificate,
                     pairs,
                     contexts,
                     heap,
@@ -238,10 +248,10 @@ impl<A: Room + Copy> Elements<A> {
             *left -= 1;
             if let Some(y) = breach(&pairs[heap], &contexts, option, order) {
                 drop((pairs, contexts));
-                return match position_with(alloc, &sheet, heap as u64 + 1, y) {
-                    Ok(position) => rule_fails(sheet, position),
+                return match position_with(alloc, &certificate, heap as u64 + 1, y) {
+                    Ok(position) => rule_fails(certificate, position),
                     Err(_) => {
-                        drop(sheet);
+                        drop(certificate);
                         Err(Refusal::Memory)
                     }
                 };
@@ -252,6 +262,6 @@ impl<A: Room + Copy> Elements<A> {
                 heap += 1;
             }
         }
-        Ok(Stage::Closing(Closing::new(alloc, sheet, pairs, limit)))
+        Ok(Stage::Closing(Closing::new(alloc, certificate, pairs, limit)))
     }
 }

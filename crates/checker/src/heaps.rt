@@ -6,10 +6,10 @@ ghost use Rattle.checker.specs.Turns.Phase.{Heaps as AtHeaps};
 ghost use Rattle.checker.specs.Stages.{Carries, Comes, reached};
 
 use crate::elements::Elements;
+use crate::lawful_certificate::LawfulCertificate;
 use crate::lines::Lines;
-use crate::sheet::Sheet;
 use crate::stage::Stage;
-use allocation::Room;
+use allocation::SmallAllocator;
 use answers::Refusal;
 use std::alloc::Global;
 use std::marker::Model;
@@ -17,48 +17,48 @@ use transition_algebra::{HeapJob, heap_jobs_end};
 
 /// The pairs of the heaps 1 to B are made, an option a turn.
 #[derive(Drop)]
-pub struct Heaps<A: Room = Global> {
+pub struct Heaps<A: SmallAllocator = Global> {
     lines: Lines<A>,
     job: HeapJob<A>,
 }
 
-impl<A: Room> Model for Heaps<A> {
+impl<A: SmallAllocator> Model for Heaps<A> {
     ghost use Rattle.std.specs.Prelude.{◌<◌};
     ghost use Rattle.transition_algebra.specs.Work.{heap_cost};
     ghost use Rattle.checker.specs.Views.{HeapsView};
-    ghost use Rattle.certificate.specs.Pieces.{certificate_of};
-    ghost use Rattle.checker.specs.Sheets.{pieces_of};
-    ghost use Rattle.checker.specs.Closings.{IsCanonicalSheet};
+    ghost use Rattle.certificate.specs.Fields.{certificate_of};
+    ghost use Rattle.checker.specs.LawfulCertificates.{fields_of};
+    ghost use Rattle.checker.specs.Closings.{IsCanonicalCertificate};
 
     ghost Value = { HeapsView };
 
     ghost view = { λ s.
         record {
           certificate = certificate_of
-              (pieces_of s.job.code s.job.table s.job.phi s.lines.portion.items s.lines.words.items
+              (fields_of s.job.code s.job.table s.job.phi s.lines.portion.items s.lines.words.items
               s.lines.apart.items);
           spent = s.job.spent;
         } };
 
     ghost invariant = { λ s.
-        IsCanonicalSheet
-        (pieces_of s.job.code s.job.table s.job.phi s.lines.portion.items s.lines.words.items
+        IsCanonicalCertificate
+        (fields_of s.job.code s.job.table s.job.phi s.lines.portion.items s.lines.words.items
         s.lines.apart.items) s.lines.inside
         × (s.job.spent < heap_cost s.job.code s.job.phi) };
 }
 
-impl<A: Room + Copy> Heaps<A> {
+impl<A: SmallAllocator + Copy> Heaps<A> {
     /// No option was tried.
-    pub fn new(alloc: A, sheet: Sheet<A>) -> Heaps<A>
-        requires { Canonical sheet }
-        ensures value { result ≡ record { certificate = sheet; spent = 0 } }
+    pub fn new(alloc: A, certificate: LawfulCertificate<A>) -> Heaps<A>
+        requires { Canonical certificate }
+        ensures value { result ≡ record { certificate = certificate; spent = 0 } }
     {
-        let Sheet {
+        let LawfulCertificate {
             code,
             table,
             phi,
             lines,
-        } = sheet;
+        } = certificate;
         heap_jobs_end();
         Heaps {
             lines,
@@ -95,13 +95,13 @@ impl<A: Room + Copy> Heaps<A> {
             Ok(false) => Ok(Stage::Heaps(Heaps { lines, job })),
             Ok(true) => {
                 let (code, table, phi, pairs) = job.finish();
-                let sheet = Sheet {
+                let certificate = LawfulCertificate {
                     code,
                     table,
                     phi,
                     lines,
                 };
-                match Elements::new(alloc, sheet, pairs) {
+                match Elements::new(alloc, certificate, pairs) {
                     Ok(elements) => Ok(Stage::Elements(elements)),
                     Err(_) => Err(Refusal::Memory),
                 }

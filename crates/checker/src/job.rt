@@ -3,14 +3,14 @@ ghost use Rattle.std.specs.Prelude.{◌≡◌, ◌≢◌, None};
 
 use crate::stage::Stage;
 use crate::turns::checks_end;
-use allocation::Room;
+use allocation::SmallAllocator;
 use answers::{Certified, Refusal, true_answers};
 use std::alloc::{Allocator, Global};
 use std::marker::Model;
 
 /// How far a job has come: it goes on, or its answer.
 #[derive(Drop)]
-pub enum Progress<'a, A: Room = Global> {
+pub enum Progress<'a, A: SmallAllocator = Global> {
     Going,
     Yes(&'a Certified<A>),
     No(&'a Refusal<A>),
@@ -18,7 +18,7 @@ pub enum Progress<'a, A: Room = Global> {
 
 /// A check in pieces, a unit a turn.
 #[derive(Drop)]
-pub struct Job<A: Room = Global> {
+pub struct Job<A: SmallAllocator = Global> {
     alloc: A,
     bytes: Vec<u8, A>,
     limit: u32,
@@ -26,7 +26,7 @@ pub struct Job<A: Room = Global> {
     stage: Stage<A>,
 }
 
-impl<A: Room> Model for Job<A> {
+impl<A: SmallAllocator> Model for Job<A> {
     ghost use Rattle.checker.specs.JobViews.{JobView};
 
     ghost Value = { JobView };
@@ -39,7 +39,7 @@ impl<A: Room> Model for Job<A> {
     ghost invariant = { λ j. StandsAfter j.bytes.items j.limit j.spent j.stage };
 }
 
-impl<A: Room + Copy> Job<A> {
+impl<A: SmallAllocator + Copy> Job<A> {
     /// A job that has spent nothing. It takes no memory.
     pub fn open(alloc: A, bytes: Vec<u8, A>, limit: u32) -> Job<A>
         ensures { result ≡ record { bytes = bytes.items; limit = limit; spent = 0; ended = None } }
@@ -54,7 +54,7 @@ impl<A: Room + Copy> Job<A> {
     }
 }
 
-impl<A: Room> Job<A> {
+impl<A: SmallAllocator> Job<A> {
     ghost use Rattle.checker.specs.Jobs.{Shows};
     ghost use Rattle.checker.specs.JobViews.{IsTruthful, IsDue, IsBounded};
 
@@ -106,7 +106,7 @@ impl<A: Room> Job<A> {
     }
 }
 
-impl<A: Room + Copy> Job<A> {
+impl<A: SmallAllocator + Copy> Job<A> {
     ghost use Rattle.std.specs.Borrow.{sem};
     ghost use Rattle.std.specs.Io.BufRead.{Rests};
     ghost use Rattle.checker.specs.contracts.job.Job.{the_row};

@@ -1,18 +1,18 @@
 //! The stage that checks the laws of the table.
 ghost use Rattle.std.specs.Prelude.{◌≡◌, ◌<◌, ℕ, List};
 ghost use Rattle.monoid_table.specs.Turns.{fresh, triples};
-ghost use Rattle.certificate.specs.Pieces.{grid_of};
+ghost use Rattle.certificate.specs.Fields.{grid_of};
 ghost use Rattle.checker.specs.Turns.{Runs, Works};
 ghost use Rattle.checker.specs.Turns.Phase.{Laws as AtLaws};
 ghost use Rattle.checker.specs.Stages.{Carries, phase_of, reached};
 
 use crate::keys::Keys;
+use crate::lawful_certificate::LawfulCertificate;
 use crate::lines::{Lines, set_of};
-use crate::sheet::Sheet;
 use crate::stage::Stage;
-use allocation::Room;
+use allocation::SmallAllocator;
 use answers::Refusal;
-use certificate::{Cert, Parts};
+use certificate::{Cert, Fields};
 use monoid_table::{TableJob, turns_add_up};
 use octal_code::Code;
 use std::alloc::Global;
@@ -21,46 +21,46 @@ use transition_algebra::Phi;
 
 /// The laws are looked at, a triple of elements a turn.
 #[derive(Drop)]
-pub struct Laws<A: Room = Global> {
+pub struct Laws<A: SmallAllocator = Global> {
     code: Code,
     phi: Phi<A>,
     lines: Lines<A>,
     job: TableJob<A>,
 }
 
-impl<A: Room> Model for Laws<A> {
+impl<A: SmallAllocator> Model for Laws<A> {
     ghost use Rattle.std.specs.Prelude.{◌-◌};
     ghost use Rattle.monoid_table.specs.Turns.{fresh, triples};
-    ghost use Rattle.certificate.specs.Pieces.{grid_of};
+    ghost use Rattle.certificate.specs.Fields.{grid_of};
     ghost use Rattle.std.specs.Prelude.{◌≡◌, false};
     ghost use Rattle.monoid_table.specs.Turns.{is_over};
     ghost use Rattle.checker.specs.Views.{LawsView};
-    ghost use Rattle.certificate.specs.Pieces.{certificate_of};
-    ghost use Rattle.checker.specs.Sheets.{pieces_of, IsUnderLaws};
+    ghost use Rattle.certificate.specs.Fields.{certificate_of};
+    ghost use Rattle.checker.specs.LawfulCertificates.{fields_of, IsUnderLaws};
 
     ghost Value = { LawsView };
 
     ghost view = { λ s.
         record {
           certificate = certificate_of
-              (pieces_of s.code s.job.grid s.phi s.lines.portion.items s.lines.words.items
+              (fields_of s.code s.job.grid s.phi s.lines.portion.items s.lines.words.items
               s.lines.apart.items);
           job = s.job;
         } };
 
     ghost invariant = { λ s.
         IsUnderLaws
-        (pieces_of s.code s.job.grid s.phi s.lines.portion.items s.lines.words.items
+        (fields_of s.code s.job.grid s.phi s.lines.portion.items s.lines.words.items
         s.lines.apart.items) s.lines.inside s.job.spent × (is_over s.job ≡ false) };
 }
 
-impl<A: Room + Copy> Laws<A> {
+impl<A: SmallAllocator + Copy> Laws<A> {
     /// No triple was looked at.
     pub fn new(cert: Cert<A>) -> Laws<A>
         ensures value { result ≡ record { certificate = cert; job = fresh (grid_of cert) } }
     {
         certificate::claims_agree();
-        let Parts {
+        let Fields {
             code,
             order,
             phi,
@@ -68,7 +68,7 @@ impl<A: Room + Copy> Laws<A> {
             words,
             rows,
             apart,
-        } = cert.into_parts();
+        } = cert.into_fields();
         let inside = set_of(&portion);
         let Ok(job) = TableJob::new(order, rows) else {
             unreachable!()
@@ -121,7 +121,7 @@ impl<A: Room + Copy> Laws<A> {
                 lines,
                 job,
             })),
-            Ok(true) => Ok(Stage::Keys(Keys::new(Sheet {
+            Ok(true) => Ok(Stage::Keys(Keys::new(LawfulCertificate {
                 code,
                 table: job.finish(),
                 phi,

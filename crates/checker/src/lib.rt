@@ -11,6 +11,7 @@ mod elements;
 mod heaps;
 mod job;
 mod keys;
+mod lawful_certificate;
 mod laws;
 mod lines;
 mod periods;
@@ -18,7 +19,6 @@ mod products;
 mod reading;
 mod rule;
 mod separating;
-mod sheet;
 mod stage;
 mod turns;
 

@@ -1,16 +1,16 @@
 //! The stage that looks at the products of elements and heaps.
 ghost use Rattle.std.specs.Prelude.{◌≡◌, ◌<◌, ◌+◌, ◌*◌, ◌≤◌, ◌⊎◌, ℕ, List, IsTrue};
 ghost use Rattle.misere_theory.specs.Faults.{OrderFault};
-ghost use Rattle.checker.specs.Progress.{IsInOrder, AreKeys};
+ghost use Rattle.checker.specs.SoFar.{IsInOrder, AreKeys};
 ghost use Rattle.checker.specs.Turns.{is_in_order, Runs, Works};
 ghost use Rattle.checker.specs.Turns.Phase.{Products as AtProducts};
 ghost use Rattle.checker.specs.Stages.{Carries, phase_of, reached};
 
 use crate::keys::is_below;
+use crate::lawful_certificate::{LawfulCertificate, is_lawful};
 use crate::periods::Periods;
-use crate::sheet::{Sheet, sheets_are_lawful};
 use crate::stage::Stage;
-use allocation::Room;
+use allocation::SmallAllocator;
 use answers::Refusal;
 use certificate::Key;
 use std::alloc::Global;
@@ -19,50 +19,54 @@ use std::marker::Model;
 /// The products of elements and heaps are looked at, one a turn: none has a smaller key than its
 /// own.
 #[derive(Drop)]
-pub struct Products<A: Room = Global> {
-    sheet: Sheet<A>,
+pub struct Products<A: SmallAllocator = Global> {
+    certificate: LawfulCertificate<A>,
     /// The next product is of this element
     element: u16,
     /// and this heap.
     heap: u16,
 }
 
-impl<A: Room> Model for Products<A> {
+impl<A: SmallAllocator> Model for Products<A> {
     ghost use Rattle.misere_theory.specs.Faults.{OrderFault};
     ghost use Rattle.std.specs.Prelude.{◌<◌};
     ghost use Rattle.checker.specs.Views.{ProductsView};
-    ghost use Rattle.checker.specs.Progress.{ProductsSoFar};
+    ghost use Rattle.checker.specs.SoFar.{ProductsSoFar};
 
     ghost Value = { ProductsView };
 
-    ghost view = { λ s. record { certificate = s.sheet; element = s.element; heap = s.heap } };
+    ghost view = { λ s. record { certificate = s.certificate; element = s.element; heap = s.heap } };
 
-    ghost invariant = { λ s. ProductsSoFar s.sheet s.element s.heap × (s.element < s.sheet.order) };
+    ghost invariant = { λ s. ProductsSoFar s.certificate s.element s.heap × (s.element < s.certificate.order) };
 }
 
 /// Whether the product of an element and a heap has no smaller key than its own.
-fn is_in_order<A: Room>(sheet: &Sheet<A>, element: u16, heap: u16) -> bool
-    requires element { element < sheet.now.order }
+fn is_in_order<A: SmallAllocator>(
+    certificate: &LawfulCertificate<A>,
+    element: u16,
+    heap: u16,
+) -> bool
+    requires element { element < certificate.now.order }
     requires from_one { 1 ≤ heap }
-    requires heap { heap < sheet.now.start + sheet.now.period }
-    ensures in_order { IsTrue result → IsInOrder sheet.now element heap }
-    ensures fault { IsTrue result ⊎ OrderFault sheet.now }
-    ensures same { result ≡ is_in_order sheet.now element heap }
+    requires heap { heap < certificate.now.start + certificate.now.period }
+    ensures in_order { IsTrue result → IsInOrder certificate.now element heap }
+    ensures fault { IsTrue result ⊎ OrderFault certificate.now }
+    ensures same { result ≡ is_in_order certificate.now element heap }
 {
-    sheets_are_lawful(sheet);
-    let product = sheet.times(element, sheet.phi(heap as u64));
-    product == 0 || !is_below(Key { element, heap }, sheet.key(product))
+    is_lawful(certificate);
+    let product = certificate.times(element, certificate.phi(heap as u64));
+    product == 0 || !is_below(Key { element, heap }, certificate.key(product))
 }
 
-impl<A: Room + Copy> Products<A> {
+impl<A: SmallAllocator + Copy> Products<A> {
     /// No product was looked at.
-    pub fn new(sheet: Sheet<A>) -> Products<A>
-        requires { AreKeys sheet }
-        ensures value { result ≡ record { certificate = sheet; element = 0; heap = 1 } }
+    pub fn new(certificate: LawfulCertificate<A>) -> Products<A>
+        requires { AreKeys certificate }
+        ensures value { result ≡ record { certificate = certificate; element = 0; heap = 1 } }
     {
-        sheets_are_lawful(&sheet);
+        is_lawful(&certificate);
         Products {
-            sheet,
+            certificate,
             element: 0,
             heap: 1,
         }
@@ -74,11 +78,11 @@ impl<A: Room + Copy> Products<A> {
         ensures runs { (bytes : List ℕ) (limit : ℕ)
             → Runs bytes limit (AtProducts self.old) left.old left.new (AtProducts self.new) }
     {
-        let last = self.sheet.order() - 1;
-        let heaps = self.sheet.start() + self.sheet.period();
+        let last = self.certificate.order() - 1;
+        let heaps = self.certificate.start() + self.certificate.period();
         'products: while *left > 0
             && self.element < last
-            && is_in_order(&self.sheet, self.element, self.heap)
+            && is_in_order(&self.certificate, self.element, self.heap)
         {
             *left -= 1;
             self.heap += 1;
@@ -96,23 +100,23 @@ impl<A: Room + Copy> Products<A> {
             → Works bytes limit (AtProducts self) left.old left.new (phase_of (reached result)) }
     {
         let Products {
-            sheet,
+            certificate,
             mut element,
             mut heap,
         } = self;
-        let order = sheet.order();
-        let heaps = sheet.start() + sheet.period();
+        let order = certificate.order();
+        let heaps = certificate.start() + certificate.period();
         'products: while element < order {
             if *left == 0 {
                 return Ok(Stage::Products(Products {
-                    sheet,
+                    certificate,
                     element,
                     heap,
                 }));
             }
             *left -= 1;
-            if !is_in_order(&sheet, element, heap) {
-                drop(sheet);
+            if !is_in_order(&certificate, element, heap) {
+                drop(certificate);
                 return Err(Refusal::Order);
             }
             heap += 1;
@@ -121,6 +125,6 @@ impl<A: Room + Copy> Products<A> {
                 element += 1;
             }
         }
-        Ok(Stage::Periods(Periods::new(sheet)))
+        Ok(Stage::Periods(Periods::new(certificate)))
     }
 }

@@ -5,12 +5,16 @@ ghost use Rattle.checker.specs.Stages.{Stands, Comes, reached};
 
 use crate::laws::Laws;
 use crate::stage::Stage;
-use allocation::Room;
+use allocation::SmallAllocator;
 use answers::Refusal;
 use certificate::{TextFault, read};
 
 /// Reads the whole text, if there is a unit.
-pub fn work<A: Room + Copy>(alloc: A, bytes: &[u8], left: &mut u64) -> Result<Stage<A>, Refusal<A>>
+pub fn work<A: SmallAllocator + Copy>(
+    alloc: A,
+    bytes: &[u8],
+    left: &mut u64,
+) -> Result<Stage<A>, Refusal<A>>
     ensures stands { (limit : ℕ) → Stands bytes.now limit (reached result) }
     ensures comes { (limit : ℕ)
         → Comes bytes.now limit AtReading left.old left.new (reached result) }

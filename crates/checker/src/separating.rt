@@ -1,23 +1,23 @@
 //! The stage that tries the elements that tell two apart.
 ghost use Rattle.std.specs.Prelude.{◌≡◌, ◌<◌, ◌+◌, ◌*◌, ◌↔◌, ℕ, List, IsTrue};
 ghost use Rattle.misere_theory.specs.Certificates.{claim_of, TellsApart};
-ghost use Rattle.checker.specs.Progress.{HasNoFaultBelow};
+ghost use Rattle.checker.specs.SoFar.{HasNoFaultBelow};
 ghost use Rattle.checker.specs.Turns.{tells_apart, Runs, Works};
 ghost use Rattle.checker.specs.Turns.Phase.{Separating as AtSeparating};
 ghost use Rattle.checker.specs.Stages.{Carries, phase_of, reached};
 
 use crate::heaps::Heaps;
-use crate::sheet::{Sheet, sheets_are_lawful};
+use crate::lawful_certificate::{LawfulCertificate, is_lawful};
 use crate::stage::Stage;
-use allocation::Room;
+use allocation::SmallAllocator;
 use answers::Refusal;
 use std::alloc::Global;
 use std::marker::Model;
 
 /// The elements that tell two apart are tried, one a turn: the one given is the least.
 #[derive(Drop)]
-pub struct Separating<A: Room = Global> {
-    sheet: Sheet<A>,
+pub struct Separating<A: SmallAllocator = Global> {
+    certificate: LawfulCertificate<A>,
     /// The pair that is looked at has the elements x
     x: u16,
     /// and y,
@@ -28,40 +28,45 @@ pub struct Separating<A: Room = Global> {
     z: u16,
 }
 
-impl<A: Room> Model for Separating<A> {
+impl<A: SmallAllocator> Model for Separating<A> {
     ghost use Rattle.std.specs.Prelude.{◌<◌, length};
     ghost use Rattle.checker.specs.Views.{SeparatingView};
-    ghost use Rattle.checker.specs.Progress.{ApartSoFar};
+    ghost use Rattle.checker.specs.SoFar.{ApartSoFar};
 
     ghost Value = { SeparatingView };
 
     ghost view = { λ s.
-        record { certificate = s.sheet; x = s.x; y = s.y; number = s.number; z = s.z } };
+        record { certificate = s.certificate; x = s.x; y = s.y; number = s.number; z = s.z } };
 
-    ghost invariant = { λ s. ApartSoFar s.sheet s.x s.y s.z s.number
-        × (s.number < length s.sheet.apart) };
+    ghost invariant = { λ s. ApartSoFar s.certificate s.x s.y s.z s.number
+        × (s.number < length s.certificate.apart) };
 }
 
 /// Whether z takes exactly one of x and y into the portion.
-fn tells_apart<A: Room>(sheet: &Sheet<A>, x: u16, y: u16, z: u16) -> bool
-    requires x_in { x < sheet.now.order }
-    requires y_in { y < sheet.now.order }
-    requires z_in { z < sheet.now.order }
-    ensures tells { IsTrue result ↔ TellsApart (claim_of sheet.now) (x, y) z }
-    ensures same { result ≡ tells_apart sheet.now x y z }
+fn tells_apart<A: SmallAllocator>(
+    certificate: &LawfulCertificate<A>,
+    x: u16,
+    y: u16,
+    z: u16,
+) -> bool
+    requires x_in { x < certificate.now.order }
+    requires y_in { y < certificate.now.order }
+    requires z_in { z < certificate.now.order }
+    ensures tells { IsTrue result ↔ TellsApart (claim_of certificate.now) (x, y) z }
+    ensures same { result ≡ tells_apart certificate.now x y z }
 {
-    sheet.holds(sheet.times(x, z)) != sheet.holds(sheet.times(y, z))
+    certificate.holds(certificate.times(x, z)) != certificate.holds(certificate.times(y, z))
 }
 
-impl<A: Room + Copy> Separating<A> {
+impl<A: SmallAllocator + Copy> Separating<A> {
     /// No pair was looked at.
-    pub fn new(sheet: Sheet<A>) -> Separating<A>
-        requires { HasNoFaultBelow 6 sheet }
-        ensures value { result ≡ record { certificate = sheet; x = 0; y = 1; number = 0; z = 0 } }
+    pub fn new(certificate: LawfulCertificate<A>) -> Separating<A>
+        requires { HasNoFaultBelow 6 certificate }
+        ensures value { result ≡ record { certificate = certificate; x = 0; y = 1; number = 0; z = 0 } }
     {
-        sheets_are_lawful(&sheet);
+        is_lawful(&certificate);
         Separating {
-            sheet,
+            certificate,
             x: 0,
             y: 1,
             number: 0,
@@ -75,11 +80,11 @@ impl<A: Room + Copy> Separating<A> {
         ensures runs { (bytes : List ℕ) (limit : ℕ)
             → Runs bytes limit (AtSeparating self.old) left.old left.new (AtSeparating self.new) }
     {
-        let order = self.sheet.order();
-        let last = self.sheet.pairs() - 1;
+        let order = self.certificate.order();
+        let last = self.certificate.pairs() - 1;
         'pairs: while *left > 0 && self.number < last {
-            let given = self.sheet.apart(self.number);
-            if !tells_apart(&self.sheet, self.x, self.y, self.z) {
+            let given = self.certificate.apart(self.number);
+            if !tells_apart(&self.certificate, self.x, self.y, self.z) {
                 if self.z == given {
                     return;
                 }
@@ -108,18 +113,18 @@ impl<A: Room + Copy> Separating<A> {
             → Works bytes limit (AtSeparating self) left.old left.new (phase_of (reached result)) }
     {
         let Separating {
-            sheet,
+            certificate,
             mut x,
             mut y,
             mut number,
             mut z,
         } = self;
-        let order = sheet.order();
-        let pairs = sheet.pairs();
+        let order = certificate.order();
+        let pairs = certificate.pairs();
         'pairs: while number < pairs {
             if *left == 0 {
                 return Ok(Stage::Separating(Separating {
-                    sheet,
+                    certificate,
                     x,
                     y,
                     number,
@@ -127,17 +132,17 @@ impl<A: Room + Copy> Separating<A> {
                 }));
             }
             *left -= 1;
-            let given = sheet.apart(number);
-            if !tells_apart(&sheet, x, y, z) {
+            let given = certificate.apart(number);
+            if !tells_apart(&certificate, x, y, z) {
                 if z == given {
-                    drop(sheet);
+                    drop(certificate);
                     return Err(Refusal::Apart);
                 }
                 z += 1;
                 continue;
             }
             if z < given {
-                drop(sheet);
+                drop(certificate);
                 return Err(Refusal::Apart);
             }
             z = 0;
@@ -148,6 +153,6 @@ impl<A: Room + Copy> Separating<A> {
                 y = x + 1;
             }
         }
-        Ok(Stage::Heaps(Heaps::new(alloc, sheet)))
+        Ok(Stage::Heaps(Heaps::new(alloc, certificate)))
     }
 }

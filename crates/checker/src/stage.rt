@@ -1,6 +1,6 @@
 //! The stages of a check, in a row.
 ghost use Rattle.std.specs.Prelude.{◌≡◌, ◌*◌, ◌+◌, ◌-◌, ◌<◌, ◌≤◌, ℕ, List, Some, true, false};
-ghost use Rattle.answers.specs.Answers.{answer_of};
+ghost use Rattle.answers.specs.ByteVerdicts.{answer_of};
 ghost use Rattle.checker.specs.Turns.{Runs, stage_of};
 
 use crate::closing::Closing;
@@ -12,13 +12,13 @@ use crate::periods::Periods;
 use crate::products::Products;
 use crate::reading;
 use crate::separating::Separating;
-use allocation::Room;
+use allocation::SmallAllocator;
 use answers::{Certified, Refusal};
 use std::alloc::Global;
 
 /// A stage of a check, with what it holds.
 #[derive(Drop)]
-pub enum Stage<A: Room = Global> {
+pub enum Stage<A: SmallAllocator = Global> {
     Reading,
     Laws(Laws<A>),
     Keys(Keys<A>),
@@ -31,7 +31,7 @@ pub enum Stage<A: Room = Global> {
     Ended(Result<Certified<A>, Refusal<A>>),
 }
 
-impl<A: Room> Stage<A> {
+impl<A: SmallAllocator> Stage<A> {
     /// Makes it this stage. What it was is dropped here, once for all callers.
     pub fn set(&mut self, stage: Stage<A>)
         ensures { self.new ≡ stage }
@@ -40,7 +40,7 @@ impl<A: Room> Stage<A> {
     }
 }
 
-impl<A: Room + Copy> Stage<A> {
+impl<A: SmallAllocator + Copy> Stage<A> {
     ghost use Rattle.checker.specs.Stages.{Stands, HasCome, Comes, phase_of, has_ended, ending, reached};
 
     /// Whether the answer stands.

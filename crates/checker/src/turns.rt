@@ -2,8 +2,8 @@
 ghost use Rattle.std.specs.Prelude.{◌≡◌, ◌≢◌, ◌+◌, ◌-◌, ◌*◌, ◌^◌, ◌<◌, ◌≤◌, ℕ, List, false};
 ghost use Rattle.certificate_text.specs.Spelling.{Spells};
 ghost use Rattle.misere_theory.specs.Certificates.{Certificate, InRanges};
-ghost use Rattle.answers.specs.Answers.{IsTrueOf};
-ghost use Rattle.answers.specs.Answers.Answer.{Yes, Memory};
+ghost use Rattle.answers.specs.ByteVerdicts.{IsTrueOf};
+ghost use Rattle.answers.specs.ByteVerdicts.ByteVerdict.{Yes, Memory};
 ghost use Rattle.checker.specs.Turns.{Phase, turn, turns, is_ended, stage_of, cost, verdict, Works, Reaches, HasSpent};
 ghost use Rattle.checker.specs.Turns.Phase.{Reading, Ended};
 ghost use Rattle.checker.specs.Bounds.{most_turns, AreWithinBound};

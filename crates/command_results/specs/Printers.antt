@@ -24,19 +24,19 @@ PrintsSome before after text = AppendsSome before.taken after.taken text
     × (before.failures < after.failures)
 
 -- the line went out, all of it unless the printer failed, and then a beginning
-abbrev pub Tells : Printer → Printer → List ℕ → Type 0
-Tells before after line =
+abbrev pub PrintsLine : Printer → Printer → List ℕ → Type 0
+PrintsLine before after line =
     AppendsSome before.taken after.taken line
     × (after.failures ≡ before.failures → Appends before.taken after.taken line)
 
 -- A text was printed, and the status is that of its run; or standard output failed, which is told,
 -- with status 3.
-pub data Printed (out out' err err' : Printer) (text : List ℕ) (well status : ℕ) : Type 0 where
-  Whole : Prints out out' text → err' ≡ err → status ≡ well
-      → Printed out out' err err' text well status
-  Part : PrintsSome out out' text → Tells err err' (stop_line Write) → status ≡ 3
-      → Printed out out' err err' text well status
+pub data Printed (out out' err err' : Printer) (text : List ℕ) (succeeds status : ℕ) : Type 0 where
+  Whole : Prints out out' text → err' ≡ err → status ≡ succeeds
+      → Printed out out' err err' text succeeds status
+  Part : PrintsSome out out' text → PrintsLine err err' (stop_line Write) → status ≡ 3
+      → Printed out out' err err' text succeeds status
 
 -- 0 for what ends well, 1 for a no or a refusal
 abbrev pub status_if : Bool → ℕ
-status_if well = if well then 0 else 1
+status_if succeeds = if succeeds then 0 else 1

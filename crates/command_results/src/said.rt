@@ -10,34 +10,37 @@ use streams::Sink;
 #[derive(Drop)]
 pub struct Said {
     pub text: Vec<u8>,
-    pub well: bool,
+    pub succeeds: bool,
 }
 
 impl Said {
     /// The text of what is done.
     pub fn done(text: String) -> Said
         ensures text { result.text.items ≡ string_bytes text }
-        ensures well { result.well ≡ true }
+        ensures succeeds { result.succeeds ≡ true }
     {
         Said {
             text: text.into_bytes(),
-            well: true,
+            succeeds: true,
         }
     }
 
     /// The text of a no.
     pub fn no(text: Vec<u8>) -> Said
         ensures text { result.text ≡ text }
-        ensures well { result.well ≡ false }
+        ensures succeeds { result.succeeds ≡ false }
     {
-        Said { text, well: false }
+        Said {
+            text,
+            succeeds: false,
+        }
     }
 
     /// The exit status.
     pub fn status(&self) -> u8
-        ensures { result ≡ status_if self.now.well }
+        ensures { result ≡ status_if self.now.succeeds }
     {
-        if self.well { 0 } else { 1 }
+        if self.succeeds { 0 } else { 1 }
     }
 
     /// Prints it, and answers the exit status; where standard output fails, tells so.
@@ -46,7 +49,7 @@ impl Said {
             (printer (W.taken out.new) (W.failures out.new))
             (printer (E.taken err.old) (E.failures err.old))
             (printer (E.taken err.new) (E.failures err.new))
-            self.now.text.items (status_if self.now.well) result }
+            self.now.text.items (status_if self.now.succeeds) result }
         ensures quiet { result ≤ 1 → err.new ≡ err.old }
     {
         print(&self.text, self.status(), out, err)

@@ -1,7 +1,7 @@
 //! The words that a program is given, and its end where there are none.
 ghost use Rattle.std.specs.Prelude.{◌≡◌, ◌≢◌};
 ghost use Rattle.std.specs.Process.{exit_status};
-ghost use Rattle.command_results.specs.Printers.{Tells, printer};
+ghost use Rattle.command_results.specs.Printers.{PrintsLine, printer};
 ghost use Rattle.command_results.specs.Stops.{stop_line, stop_status};
 
 use crate::stop::Stop;
@@ -31,10 +31,10 @@ pub fn words_of<R: Env + AllocGlobal>(rt: &R) -> Result<Vec<String>, Stop<'stati
     }
 }
 
-/// Tells why the program ends before it runs.
+/// PrintsLine why the program ends before it runs.
 pub fn stopped<E: Sink>(stop: Stop<'_>, err: &mut E) -> ExitCode
     ensures status { exit_status result ≡ stop_status stop.entry }
-    ensures told { Tells (printer (E.taken err.old) (E.failures err.old))
+    ensures told { PrintsLine (printer (E.taken err.old) (E.failures err.old))
         (printer (E.taken err.new) (E.failures err.new)) (stop_line stop.entry) }
 {
     stop.tell(err);

@@ -1,7 +1,7 @@
 //! What ends a run before anything is printed.
 ghost use Rattle.std.specs.Prelude.{◌≡◌, ◌≤◌, ◌++◌};
 ghost use Rattle.command_results.specs.Stops.{stop_line, stop_status};
-ghost use Rattle.command_results.specs.Printers.{Tells, printer};
+ghost use Rattle.command_results.specs.Printers.{PrintsLine, printer};
 ghost use Rattle.command_results.specs.declared.stop.Stop.TheVariants.{«Memory» as OutOfMemory};
 
 use crate::telling::tell;
@@ -38,9 +38,9 @@ impl Stop<'_> {
         }
     }
 
-    /// Tells the reason on standard error.
+    /// PrintsLine the reason on standard error.
     pub fn tell<E: Sink>(self, err: &mut E)
-        ensures { Tells (printer (E.taken err.old) (E.failures err.old))
+        ensures { PrintsLine (printer (E.taken err.old) (E.failures err.old))
             (printer (E.taken err.new) (E.failures err.new)) (stop_line self.entry) }
     {
         let (front, name, back) = self.pieces();

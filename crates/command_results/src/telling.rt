@@ -1,7 +1,7 @@
 //! Lines on standard error. They take no memory.
 ghost use Rattle.std.specs.Prelude.{◌++◌};
 ghost use Rattle.streams.specs.Stream.{Counts, Puts};
-ghost use Rattle.command_results.specs.Printers.{Tells, printer};
+ghost use Rattle.command_results.specs.Printers.{PrintsLine, printer};
 
 use streams::{DeviceFault, Sink, write_whole};
 
@@ -16,9 +16,9 @@ fn put_pieces<E: Sink>(err: &mut E, front: &str, name: &str, back: &str) -> Resu
     write_whole(err, back.as_bytes())
 }
 
-/// Tells three pieces, one behind the other. Where the sink fails there is nobody left to tell.
+/// PrintsLine three pieces, one behind the other. Where the sink fails there is nobody left to tell.
 pub fn tell<E: Sink>(err: &mut E, front: &str, name: &str, back: &str)
-    ensures { Tells (printer (E.taken err.old) (E.failures err.old))
+    ensures { PrintsLine (printer (E.taken err.old) (E.failures err.old))
         (printer (E.taken err.new) (E.failures err.new)) (front.now ++ (name.now ++ back.now)) }
 {
     let _ = put_pieces(err, front, name, back);

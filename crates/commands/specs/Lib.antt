@@ -1,3 +1,3 @@
 pub mod Causes
 pub mod Obeys
-pub mod Says
+pub mod Responses

@@ -1,11 +1,11 @@
 -- What a run did for a request, seen at its devices. This project's own.
 use Rattle.std.specs.Prelude.{◌≡◌, ℕ, Bool, List, Option}
 use Rattle.catalogue_command.specs.Tasks.{Leaves}
-use Rattle.command_results.specs.Printers.{Printed, Printer, Tells, status_if}
+use Rattle.command_results.specs.Printers.{Printed, Printer, PrintsLine, status_if}
 use Rattle.command_results.specs.Stops.{stop_line, stop_status}
 use Rattle.command_results.specs.declared.stop.Stop.{Stop}
 use Rattle.commands.specs.Causes.{Failed, IsCause}
-use Rattle.commands.specs.Says.{Says, file_written}
+use Rattle.commands.specs.Responses.{RespondsWith, file_written}
 use Rattle.desk_command.specs.Ends.{EndsScript}
 use Rattle.requests.specs.Requests.{Request}
 use Rattle.requests.specs.Requests.Request.{Desk}
@@ -29,13 +29,13 @@ scene input files failed out err =
 -- printed, for a cause of this request, and every file is as it was; or it took the steps of a
 -- script, to its end or not, and every file is as it was.
 pub data Obeys (request : Request) (old new : Scene) (status : ℕ) : Type 0 where
-  Done : (text : List ℕ) (well : Bool) → Says old.input old.files new.files request text well
-      → Leaves (file_written request well) old.files new.files
-      → Printed old.out new.out old.err new.err text (status_if well) status
+  Done : (text : List ℕ) (succeeds : Bool) → RespondsWith old.input old.files new.files request text succeeds
+      → Leaves (file_written request succeeds) old.files new.files
+      → Printed old.out new.out old.err new.err text (status_if succeeds) status
       → Obeys request old new status
   Stopped : (stop : Stop) → IsCause request old.failed new.failed stop → new.files ≡ old.files
       → new.out ≡ old.out
-      → Tells old.err new.err (stop_line stop) → status ≡ stop_status stop
+      → PrintsLine old.err new.err (stop_line stop) → status ≡ stop_status stop
       → Obeys request old new status
   Stepped : (script : List ℕ) → request ≡ Desk script
       → EndsScript old.files script old.failed.reads new.failed.reads old.out new.out old.err

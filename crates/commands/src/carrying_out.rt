@@ -3,7 +3,7 @@ ghost use Rattle.std.specs.Prelude.{◌≡◌, Some, false, IfOk, IfErr, OnErr};
 ghost use Rattle.catalogue_command.specs.Tasks.{Leaves};
 ghost use Rattle.command_results.specs.Stops.{stop_status};
 ghost use Rattle.commands.specs.Causes.{IsCause, failed, reads_input, runs_script, takes_files};
-ghost use Rattle.commands.specs.Says.{Says, file_written};
+ghost use Rattle.commands.specs.Responses.{RespondsWith, file_written};
 ghost use Rattle.requests.specs.Requests.{request_of};
 
 use crate::solving::solve_text;
@@ -32,10 +32,10 @@ pub(crate) fn carry_out<'a, F: Folder, S: Source>(
 ) -> Result<Said, Stop<'a>>
     requires no_script { runs_script (Some (request_of plan)) ≡ false }
     ensures says { IfOk result
-        (λ s. Says (S.left input.old) (F.files folder.old) (F.files folder.new)
-        (request_of plan.entry) s.text.items s.well) }
+        (λ s. RespondsWith (S.left input.old) (F.files folder.old) (F.files folder.new)
+        (request_of plan.entry) s.text.items s.succeeds) }
     ensures leaves { IfOk result
-        (λ s. Leaves (file_written (request_of plan.entry) s.well) (F.files folder.old)
+        (λ s. Leaves (file_written (request_of plan.entry) s.succeeds) (F.files folder.old)
         (F.files folder.new)) }
     ensures kept { OnErr result (F.files folder.new ≡ F.files folder.old) }
     ensures stops { IfErr result (IsCause (request_of plan.entry)

@@ -1,7 +1,7 @@
 -- What `describe` prints. This project's own.
 use Rattle.std.specs.Prelude.{◌≡◌, ◌⊎◌, ℕ, Bool, true, false, List, ◌++◌, Option, Result, Ok, Err, Vec, codes}
 use Rattle.misere_theory.specs.Certificates.{Certificate}
-use Rattle.check_command.specs.Checks.{Certifies, SaysOfFile}
+use Rattle.check_command.specs.Checks.{Certifies, ChecksFile}
 use Rattle.descriptions.specs.Described.{IsDescription, IsPresentable}
 use Rattle.relations.specs.declared.text.Notation.{Notation}
 use Rattle.relations.specs.declared.text.Notation.TheVariants as written
@@ -26,27 +26,27 @@ IsNoRelationsLine text =
 
 -- the text describes the quotient, plain or for LaTeX, or says that it isn't described
 abbrev pub DescribesIn : Notation → Certificate → List ℕ → Bool → Type 0
-DescribesIn notation c text well =
-    (IsDescription notation c text × (well ≡ true)) ⊎ (IsBoundLine text × (well ≡ false))
+DescribesIn notation c text succeeds =
+    (IsDescription notation c text × (succeeds ≡ true)) ⊎ (IsBoundLine text × (succeeds ≡ false))
 
 -- The text describes the quotient, or is its relations as one word, or says that it isn't described.
 abbrev pub DescribesQuotient : Certificate → Output → List ℕ → Bool → Type 0
-DescribesQuotient c Description text well = DescribesIn written.Plain c text well
-DescribesQuotient c Latex text well = DescribesIn written.Latex c text well
-DescribesQuotient c Relations text well =
-    (IsRelationsText c text × (well ≡ true)) ⊎ (IsNoRelationsLine text × (well ≡ false))
+DescribesQuotient c Description text succeeds = DescribesIn written.Plain c text succeeds
+DescribesQuotient c Latex text succeeds = DescribesIn written.Latex c text succeeds
+DescribesQuotient c Relations text succeeds =
+    (IsRelationsText c text × (succeeds ≡ true)) ⊎ (IsNoRelationsLine text × (succeeds ≡ false))
 
 -- the same of the quotient that was found, and the text of a no where none was
 abbrev pub DescribesFound : {A : Type 0} → Result Certificate (Vec ℕ A) → Output → List ℕ → Bool
     → Type 0
-DescribesFound (Ok c) output text well = DescribesQuotient c output text well
-DescribesFound (Err said) output text well = (text ≡ said.items) × (well ≡ false)
+DescribesFound (Ok c) output text succeeds = DescribesQuotient c output text succeeds
+DescribesFound (Err said) output text succeeds = (text ≡ said.items) × (succeeds ≡ false)
 
 -- The text describes the quotient that the file certifies under the limit, or says that it isn't
 -- described; or it is that of a true no.
 pub data Describes (files : Option (List ℕ → Option (List ℕ))) (file : List ℕ) (limit : ℕ)
-    (output : Output) (text : List ℕ) (well : Bool) : Type 0 where
-  Quotient : (c : Certificate) → Certifies files file limit c → DescribesQuotient c output text well
-      → Describes files file limit output text well
-  NoQuotient : SaysOfFile files file limit text false → well ≡ false
-      → Describes files file limit output text well
+    (output : Output) (text : List ℕ) (succeeds : Bool) : Type 0 where
+  Quotient : (c : Certificate) → Certifies files file limit c → DescribesQuotient c output text succeeds
+      → Describes files file limit output text succeeds
+  NoQuotient : ChecksFile files file limit text false → succeeds ≡ false
+      → Describes files file limit output text succeeds

@@ -15,7 +15,7 @@ use std::alloc::Global;
 
 /// The line of a no.
 fn refuse(alloc: Global, line: &str) -> Result<Said, Memory>
-    ensures { IfOk result (λ s. (s.text.items ≡ line.now) × (s.well ≡ false)) }
+    ensures { IfOk result (λ s. (s.text.items ≡ line.now) × (s.succeeds ≡ false)) }
 {
     let text = line.as_bytes().to_vec(alloc)?;
     Ok(Said::no(text))
@@ -23,7 +23,7 @@ fn refuse(alloc: Global, line: &str) -> Result<Said, Memory>
 
 /// The line that says within which bound a quotient is not described.
 fn undescribed(alloc: Global, fault: Undescribed) -> Result<Said, Memory>
-    ensures { IfOk result (λ s. IsBoundLine s.text.items × (s.well ≡ false)) }
+    ensures { IfOk result (λ s. IsBoundLine s.text.items × (s.succeeds ≡ false)) }
 {
     match fault {
         Undescribed::Letters => refuse(alloc, "not described within 26 generators\n"),
@@ -40,7 +40,7 @@ fn described(
     form: Form,
     notation: Notation,
 ) -> Result<Said, Memory>
-    ensures { IfOk result (λ s. DescribesIn notation certified.now s.text.items s.well) }
+    ensures { IfOk result (λ s. DescribesIn notation certified.now s.text.items s.succeeds) }
 {
     match description_text(alloc, notation, certified, form) {
         Ok(text) => Ok(Said::done(text)),
@@ -51,7 +51,7 @@ fn described(
 /// The relations of the quotient, as `present` takes them.
 fn presented(alloc: Global, certified: &Certified, form: Form) -> Result<Said, Memory>
     ensures { IfOk result
-        (λ s. DescribesQuotient certified.now Relations s.text.items s.well) }
+        (λ s. DescribesQuotient certified.now Relations s.text.items s.succeeds) }
 {
     match presentable_text(alloc, certified, form) {
         Ok(Some(line)) => {
@@ -70,7 +70,7 @@ fn said(
     form: Form,
     output: Output,
 ) -> Result<Said, Memory>
-    ensures { IfOk result (λ s. DescribesFound quotient output s.text.items s.well) }
+    ensures { IfOk result (λ s. DescribesFound quotient output s.text.items s.succeeds) }
 {
     match quotient {
         Ok(certified) => match output {
@@ -95,7 +95,7 @@ pub fn describe<'a, F: Folder>(
     folder: &mut F,
 ) -> Result<Said, Stop<'a>>
     ensures describes { IfOk result
-        (λ s. Describes (F.files folder.old) file.entry.now limit output s.text.items s.well) }
+        (λ s. Describes (F.files folder.old) file.entry.now limit output s.text.items s.succeeds) }
     ensures kept { F.files folder.new ≡ F.files folder.old }
     ensures stops { IfErr result
         (IsFileCause file.entry.now (F.failed_reads folder.old) (F.failed_reads folder.new)) }

@@ -6,7 +6,7 @@ use Rattle.misere_theory.specs.Certificates.{Certificate, claim_of, times_of}
 use Rattle.misere_theory.specs.Quotients.{Monoid}
 use Rattle.monoid_table.specs.Grids.{Grid, IsShaped, IsTable, entry, times_in}
 use Rattle.transition_algebra.specs.Heaps.{Agrees}
-use Rattle.certificate.specs.Pieces.{grid_of, pretending_of}
+use Rattle.certificate.specs.Fields.{grid_of, pretending_of}
 use Rattle.descriptions.specs.Invariants.{Divides, IsInKernel}
 
 -- two products that are the same at all elements

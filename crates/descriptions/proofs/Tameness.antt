@@ -4,7 +4,7 @@ use Rattle.std.specs.Prelude.{◌==◌, IfSome, IfNone}
 use Rattle.std.proofs.Math.Nat.{pow-le-pow_right}
 use Rattle.misere_theory.specs.Certificates.{Certificate, claim_of}
 use Rattle.monoid_table.specs.Grids.{times_in}
-use Rattle.certificate.specs.Pieces.{grid_of}
+use Rattle.certificate.specs.Fields.{grid_of}
 use Rattle.descriptions.specs.Described.{TellsTame}
 use Rattle.descriptions.specs.Tame.{IsTame, IsTameBy}
 use Rattle.descriptions.specs.Tame.IsTame.{First, Next}

@@ -2,7 +2,7 @@
 use Rattle.std.specs.Prelude.{◌≡◌, ◌≢◌, ℕ, ◌<◌, ◌≤◌, List, ◌++◌, Option, Some, None, All, length, vec_len}
 use Rattle.std.specs.List.{AllZip}
 use Rattle.misere_theory.specs.Certificates.{Certificate, IsHeapOf, phi_at}
-use Rattle.certificate.specs.Pieces.{grid_of}
+use Rattle.certificate.specs.Fields.{grid_of}
 use Rattle.presentations.specs.declared.read.Relation.{Relation}
 use Rattle.presentations.specs.declared.named.Generator.{Generator}
 use Rattle.presentations.specs.Powers.{IsAboveLimit}

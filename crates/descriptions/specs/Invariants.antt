@@ -4,7 +4,7 @@
 use Rattle.std.specs.Prelude.{◌≡◌, ℕ, ◌<◌, true, List, [], ◌∷◌, ◌++◌}
 use Rattle.misere_theory.specs.Certificates.{Certificate, claim_of}
 use Rattle.monoid_table.specs.Grids.{Grid, times_in}
-use Rattle.certificate.specs.Pieces.{grid_of}
+use Rattle.certificate.specs.Fields.{grid_of}
 use Rattle.descriptions.specs.declared.choosing.Part.{Part}
 use Rattle.descriptions.specs.declared.choosing.Part.TheVariants.{Portion, Units, Idempotents, Kernel}
 

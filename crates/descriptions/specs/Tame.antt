@@ -2,7 +2,7 @@
 use Rattle.std.specs.Prelude.{◌≡◌, ◌≢◌, ℕ, ◌+◌, ◌^◌, ◌<◌, ◌≤◌, ◌==◌, ◌&&◌, ◌||◌, Bool, true}
 use Rattle.misere_theory.specs.Certificates.{Certificate, claim_of}
 use Rattle.monoid_table.specs.Grids.{Grid, times_in}
-use Rattle.certificate.specs.Pieces.{grid_of}
+use Rattle.certificate.specs.Fields.{grid_of}
 
 -- x is the identity, or a, or its square is e and its product with e is x itself
 abbrev pub is_in_group : Grid → ℕ → ℕ → ℕ → Bool

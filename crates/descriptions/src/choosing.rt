@@ -1,6 +1,6 @@
 //! The elements of a part: the portion, the units, the idempotents, the kernel.
 ghost use Rattle.std.specs.Prelude.{◌≡◌, ◌<◌, ◌↔◌, IsTrue, IfOk, All};
-ghost use Rattle.certificate.specs.Pieces.{grid_of};
+ghost use Rattle.certificate.specs.Fields.{grid_of};
 ghost use Rattle.descriptions.specs.Invariants.{AreThose, IsInKernel, IsOf};
 
 use crate::invariants::{divides, is_idempotent, is_in_kernel};

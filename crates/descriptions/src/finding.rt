@@ -1,7 +1,7 @@
 //! What is printed of a quotient.
 ghost use Rattle.std.specs.Prelude.{◌≡◌, ◌<◌, IfOk, IfSome, All, length, vec_len};
 ghost use Rattle.std.specs.List.{AllZip};
-ghost use Rattle.certificate.specs.Pieces.{grid_of};
+ghost use Rattle.certificate.specs.Fields.{grid_of};
 ghost use Rattle.descriptions.specs.Described.{AreFindings, Describes, IsFirstHeap};
 
 use crate::choosing::{Part, those};

@@ -2,7 +2,7 @@
 ghost use Rattle.std.specs.Prelude.{◌≡◌, ◌≢◌, ◌<◌, ◌≤◌, ◌+◌, ◌^◌, ◌↔◌, ◌||◌, ◌==◌, ℕ, true, IsTrue, IfSome, IfNone};
 ghost use Rattle.misere_theory.specs.Certificates.{claim_of};
 ghost use Rattle.monoid_table.specs.Grids.{times_in};
-ghost use Rattle.certificate.specs.Pieces.{grid_of};
+ghost use Rattle.certificate.specs.Fields.{grid_of};
 ghost use Rattle.descriptions.specs.Described.{TellsTame};
 ghost use Rattle.descriptions.specs.Tame.{IsTameBy, is_in_group};
 

@@ -1,7 +1,7 @@
 -- A job whose core has ended.
 use Rattle.std.proofs.Common.{◌≡◌, ℕ, List, Option, Some, None, refl, sym, ◌∙◌, ap, subst, get_or, Ok, Err}
-use Rattle.answers.specs.Answers.{Answer, refused}
-use Rattle.answers.specs.Answers.Answer.{Yes}
+use Rattle.answers.specs.ByteVerdicts.{ByteVerdict, refused}
+use Rattle.answers.specs.ByteVerdicts.ByteVerdict.{Yes}
 use Rattle.std.specs.Borrow.{Bor}
 use Rattle.misere_theory.specs.Certificates.{Certificate}
 use Rattle.answers.specs.declared.refusal.Refusal.{Refusal}
@@ -38,7 +38,7 @@ ended_job places cores i s core d desk at ends found =
       ap (λ x. ending x (verdict core.bytes core.limit)) ends ∙ sym e,
     )
 
-pub reply_ended : (o : Option JobView) (job : JobView) (a : Option Answer) → o ≡ Some job
+pub reply_ended : (o : Option JobView) (job : JobView) (a : Option ByteVerdict) → o ≡ Some job
     → job.ended ≡ a → work_reply a ≡ shown_reply o
 reply_ended o job a is e = sym (ap shown_reply is ∙ ap work_reply e)
 
@@ -48,7 +48,7 @@ pub certifies_yes : (o : Option JobView) (job : JobView) (lent : Bor Certificate
     → job.ended ≡ Some (Yes lent.now) → Certifies o (Ok lent)
 certifies_yes o job lent is e =
     subst (λ (q : Option JobView). Certifies q (Ok lent)) (sym is)
-    (subst (λ (a : Option Answer). CertifiesBy a (Ok lent)) (sym e) (lent, refl, refl))
+    (subst (λ (a : Option ByteVerdict). CertifiesBy a (Ok lent)) (sym e) (lent, refl, refl))
 
 no_certificate : {A : Type 0} (r : Refusal A)
     → CertifiesBy (Some (refused r)) (Err fault.NotCertified)
@@ -66,11 +66,11 @@ pub certifies_no : {A : Type 0} (o : Option JobView) (job : JobView) (r : Refusa
     → job.ended ≡ Some (refused r) → Certifies o (Err fault.NotCertified)
 certifies_no o job r is e =
     subst (λ (q : Option JobView). Certifies q (Err fault.NotCertified)) (sym is)
-    (subst (λ (a : Option Answer). CertifiesBy a (Err fault.NotCertified)) (sym e)
+    (subst (λ (a : Option ByteVerdict). CertifiesBy a (Err fault.NotCertified)) (sym e)
     (no_certificate r))
 
 pub certifies_going : (o : Option JobView) (job : JobView) → o ≡ Some job → job.ended ≡ None
     → Certifies o (Err fault.NotCertified)
 certifies_going o job is e =
     subst (λ (q : Option JobView). Certifies q (Err fault.NotCertified)) (sym is)
-    (subst (λ (a : Option Answer). CertifiesBy a (Err fault.NotCertified)) (sym e) refl)
+    (subst (λ (a : Option ByteVerdict). CertifiesBy a (Err fault.NotCertified)) (sym e) refl)

@@ -2,7 +2,7 @@
 use Rattle.std.proofs.Common.{◌≡◌, ◌≢◌, ◌⊎◌, ℕ, ◌<◌, ◌≤◌, ◌+◌, ◌==◌, Bool, true, false, if◌then◌else◌, List, length, Option, Some, None, refl, sym, ◌∙◌, ap, subst, inl, inr, arith, get_or, ◌++◌, ◌∷◌, []}
 use Rattle.std.proofs.lemmas.Bool.{eqb-true}
 use Rattle.std.proofs.lemmas.List.{get_or_past}
-use Rattle.answers.specs.Answers.Answer.{Memory}
+use Rattle.answers.specs.ByteVerdicts.ByteVerdict.{Memory}
 use Rattle.checker.specs.Turns.{cost}
 use Rattle.checker.specs.JobViews.{JobView}
 use Rattle.desk.specs.declared.slot.Slot.{Slot}

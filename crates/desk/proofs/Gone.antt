@@ -3,8 +3,8 @@ use Rattle.std.proofs.Common.{◌≡◌, ◌≢◌, ℕ, ◌+◌, ◌<◌, ◌�
 use Rattle.std.proofs.lemmas.Bool.{eqb-true}
 use Rattle.std.proofs.lemmas.List.{get_or_past, get_or_default, length-set}
 use Rattle.std.proofs.lemmas.Grind.{common_steps}
-use Rattle.answers.specs.Answers.{Answer}
-use Rattle.answers.specs.Answers.Answer.{Memory}
+use Rattle.answers.specs.ByteVerdicts.{ByteVerdict}
+use Rattle.answers.specs.ByteVerdicts.ByteVerdict.{Memory}
 use Rattle.checker.specs.Turns.{cost, verdict}
 use Rattle.checker.specs.JobViews.{JobView}
 use Rattle.desk.specs.declared.slot.Slot.{Slot}
@@ -41,7 +41,7 @@ job_same core new s b l =
     job_of (record { bytes = core.bytes; limit = limit; spent = new.spent; ended = new.ended })
     s) l
 
-not_out_of_memory : (d : Standing) (v : Answer) → ending d v ≢ Some Memory → d ≢ OutOfMemory
+not_out_of_memory : (d : Standing) (v : ByteVerdict) → ending d v ≢ Some Memory → d ≢ OutOfMemory
 not_out_of_memory Going v h = λ e. absurd (cc)
 not_out_of_memory Ended v h = λ e. absurd (cc)
 not_out_of_memory OutOfMemory v h = λ e. h refl

@@ -1,8 +1,8 @@
 -- A job goes on as far as its core has come, or less far.
 use Rattle.std.proofs.Common.{◌≡◌, ◌≢◌, ℕ, ◌+◌, ◌<◌, ◌≤◌, Bool, true, false, if◌then◌else◌, nat_lt, Option, Some, None, refl, sym, ◌∙◌, ap, ap₂, subst, inl, inr, arith, lt-ltb, le-ltb}
 use native.Mathlib.Decide.{dec_lt}
-use Rattle.answers.specs.Answers.{Answer}
-use Rattle.answers.specs.Answers.Answer.{Memory}
+use Rattle.answers.specs.ByteVerdicts.{ByteVerdict}
+use Rattle.answers.specs.ByteVerdicts.ByteVerdict.{Memory}
 use Rattle.checker.specs.declared.job.Progress.{Progress}
 use Rattle.checker.specs.declared.job.Progress.TheVariants as shows
 use Rattle.checker.specs.Jobs.{shown}
@@ -21,7 +21,7 @@ shown_done (shows.Yes c) done = λ e. absurd (cc)
 shown_done (shows.No r) done = λ e. absurd (cc)
 
 module _ (old : JobView) (slot after : Slot) (units target : ℕ) where
-  job : ℕ → Option Answer → JobView
+  job : ℕ → Option ByteVerdict → JobView
   job spent ended = record {
     bytes = old.bytes;
     limit = old.limit;
@@ -30,14 +30,14 @@ module _ (old : JobView) (slot after : Slot) (units target : ℕ) where
   }
 
   -- a core that has ended has its verdict
-  ends_so : (o : Option Answer) → o ≢ Some Memory → o ≢ None
+  ends_so : (o : Option ByteVerdict) → o ≢ Some Memory → o ≢ None
       → IsDueAt old.bytes old.limit old.spent o → o ≡ Some (verdict old.bytes old.limit)
   ends_so None sound done due = absurd (done refl)
   ends_so (Some a) sound done (inl e) = ap Some e.1
   ends_so (Some a) sound done (inr e) = absurd (sound (ap Some e.0))
 
   -- and all that it costs was spent
-  pub spends_so : (o : Option Answer) → o ≢ Some Memory → o ≢ None
+  pub spends_so : (o : Option ByteVerdict) → o ≢ Some Memory → o ≢ None
       → IsDueAt old.bytes old.limit old.spent o → old.spent ≡ cost old.bytes old.limit
   spends_so None sound done due = absurd (done refl)
   spends_so (Some a) sound done (inl e) = e.0

@@ -5,8 +5,8 @@ use Rattle.misere_theory.proofs.Outcomes.{not_both}
 use Rattle.positions.specs.Outcomes.{HasOutcome}
 use Rattle.positions.specs.declared.outcome.Outcome.{Outcome as PositionOutcome}
 use Rattle.positions.specs.declared.outcome.Outcome.TheVariants.{P, N}
-use Rattle.answers.specs.Answers.{Answer}
-use Rattle.answers.specs.Answers.Answer.{Yes, Text, Law, Word, Order, Period, Apart, Outcome, Limit, Memory}
+use Rattle.answers.specs.ByteVerdicts.{ByteVerdict}
+use Rattle.answers.specs.ByteVerdicts.ByteVerdict.{Yes, Text, Law, Word, Order, Period, Apart, Outcome, Limit, Memory}
 use Rattle.checker.specs.JobViews.{JobView}
 use Rattle.player.specs.Answers.{IsRightAnswer}
 use Rattle.player.specs.declared.answering.Answer.{Answer as PlayAnswer}
@@ -24,7 +24,7 @@ outcome_one code X N N f g = refl
 outcome_one code X P N f g = absurd (not_both f g)
 outcome_one code X N P f g = absurd (not_both g f)
 
-outcome_replies_one : (e : Option Answer) (X : List ℕ) (a b : Reply) → OutcomeReplies e X a → OutcomeReplies e X b
+outcome_replies_one : (e : Option ByteVerdict) (X : List ℕ) (a b : Reply) → OutcomeReplies e X a → OutcomeReplies e X b
     → a ≡ b
 outcome_replies_one (Some (Yes c)) X a b (inl (p, f)) (inl (q, g)) =
     f.1 ∙ (ap OutcomeIs (outcome_one c.code X f.0 g.0 f.2 g.2) ∙ sym g.1)
@@ -64,7 +64,7 @@ none_head reply replies free = free 0 reply (omega arith)
 none_tail : (reply : Reply) (replies : List Reply) → HasNoNine (reply ∷ replies) → HasNoNine replies
 none_tail reply replies free = λ k d below. free (suc k) d (omega arith)
 
-reply_done : (e : Option Answer) → is_refused (work_reply e) ≡ false
+reply_done : (e : Option ByteVerdict) → is_refused (work_reply e) ≡ false
 reply_done None = refl
 reply_done (Some a) = refl
 
@@ -78,8 +78,8 @@ others_stay s client other jobs e = ap (λ b. if b then jobs else s other) e
 -- right answers are one
 module _ (right_one : (code X : List ℕ) (a b : PlayAnswer) → IsRightAnswer code X a
     → IsRightAnswer code X b → a ≡ b)
-    (cost : List ℕ → ℕ → ℕ) (verdict : List ℕ → ℕ → Answer) where
-  answer_replies_one : (e : Option Answer) (X : List ℕ) (a b : Reply) → AnswerReplies e X a → AnswerReplies e X b
+    (cost : List ℕ → ℕ → ℕ) (verdict : List ℕ → ℕ → ByteVerdict) where
+  answer_replies_one : (e : Option ByteVerdict) (X : List ℕ) (a b : Reply) → AnswerReplies e X a → AnswerReplies e X b
       → a ≡ b
   answer_replies_one (Some (Yes c)) X a b (inl (p, f)) (inl (q, g)) =
       f.1 ∙ (ap AnswerIs (right_one c.code X f.0 g.0 f.2 g.2) ∙ sym g.1)

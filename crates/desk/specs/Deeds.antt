@@ -2,8 +2,8 @@
 use Rattle.std.specs.Prelude.{◌≡◌, Option, Some, None, Result, Ok, Err}
 use Rattle.std.specs.Borrow.{Bor}
 use Rattle.misere_theory.specs.Certificates.{Certificate}
-use Rattle.answers.specs.Answers.{Answer}
-use Rattle.answers.specs.Answers.Answer.{Yes}
+use Rattle.answers.specs.ByteVerdicts.{ByteVerdict}
+use Rattle.answers.specs.ByteVerdicts.ByteVerdict.{Yes}
 use Rattle.checker.specs.JobViews.{JobView}
 use Rattle.desk.specs.declared.deed.Deed.{Deed}
 use Rattle.desk.specs.declared.deed.Deed.TheVariants as done
@@ -27,7 +27,7 @@ meant jobs (done.Answer answer) = AnswerIs answer
 meant jobs (done.Refused fault) = refusal fault
 
 -- the certificate of a job with this ending
-abbrev pub CertifiesBy : Option Answer → Result (Bor Certificate) StepFault → Type 0
+abbrev pub CertifiesBy : Option ByteVerdict → Result (Bor Certificate) StepFault → Type 0
 CertifiesBy (Some (Yes c)) found = (lent : Bor Certificate) × (found ≡ Ok lent) × (lent.now ≡ c)
 CertifiesBy other found = found ≡ Err fault.NotCertified
 

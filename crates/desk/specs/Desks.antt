@@ -1,6 +1,6 @@
 -- What a desk holds, and the machine's state that it stands for.
 use Rattle.std.specs.Prelude.{◌≡◌, ◌≢◌, ◌⊎◌, ℕ, ◌+◌, ◌<◌, ◌≤◌, ◌==◌, if◌then◌else◌, List, length, Option, Some, None, slice_index_or, map, min}
-use Rattle.answers.specs.Answers.Answer.{Memory}
+use Rattle.answers.specs.ByteVerdicts.ByteVerdict.{Memory}
 use Rattle.checker.specs.JobViews.{JobView}
 use Rattle.checker.specs.Turns.{cost, verdict}
 use Rattle.desk.specs.declared.slot.Slot.{Slot}

@@ -5,8 +5,8 @@ use Rattle.std.specs.Prelude.{◌≡◌, ◌≢◌, ◌⊎◌, ℕ, ◌+◌, ◌
 use Rattle.misere_theory.specs.Certificates.{Certificate}
 use Rattle.positions.specs.Outcomes.{HasOutcome}
 use Rattle.positions.specs.declared.outcome.Outcome.{Outcome}
-use Rattle.answers.specs.Answers.{Answer}
-use Rattle.answers.specs.Answers.Answer.{Yes, Memory}
+use Rattle.answers.specs.ByteVerdicts.{ByteVerdict}
+use Rattle.answers.specs.ByteVerdicts.ByteVerdict.{Yes, Memory}
 use Rattle.checker.specs.JobViews.{JobView}
 use Rattle.player.specs.Answers.{IsRightAnswer, SpeaksOf}
 use Rattle.player.specs.declared.answering.Answer.{Answer as PlayAnswer}
@@ -31,7 +31,7 @@ pub data Event : Type 0 where
 pub data Reply : Type 0 where
   Opened : ℕ → Reply
   Going : Reply
-  VerdictIs : Answer → Reply
+  VerdictIs : ByteVerdict → Reply
   Dropped : Reply
   OutcomeIs : Outcome → Reply
   AnswerIs : PlayAnswer → Reply
@@ -69,7 +69,7 @@ abbrev pub out_of_memory : JobView → JobView
 out_of_memory job = record job { ended = Some Memory }
 
 -- what is said of a job with this ending
-abbrev pub work_reply : Option Answer → Reply
+abbrev pub work_reply : Option ByteVerdict → Reply
 work_reply None = Going
 work_reply (Some a) = VerdictIs a
 
@@ -96,12 +96,12 @@ abbrev pub IsAnswerReply : Certificate → List ℕ → Reply → Type 0
 IsAnswerReply c X reply = SpeaksOf c X × ((a : PlayAnswer) × (reply ≡ AnswerIs a) × IsRightAnswer c.code X a)
 
 -- the outcome of a position by a job that has ended with yes, of which the certificate speaks
-abbrev pub OutcomeReplies : Option Answer → List ℕ → Reply → Type 0
+abbrev pub OutcomeReplies : Option ByteVerdict → List ℕ → Reply → Type 0
 OutcomeReplies (Some (Yes c)) X reply = IsOutcomeReply c X reply ⊎ IsBeyond c X reply
 OutcomeReplies other X reply = reply ≡ NotCertified
 
 -- what to play there, by such a job
-abbrev pub AnswerReplies : Option Answer → List ℕ → Reply → Type 0
+abbrev pub AnswerReplies : Option ByteVerdict → List ℕ → Reply → Type 0
 AnswerReplies (Some (Yes c)) X reply = IsAnswerReply c X reply ⊎ IsBeyond c X reply
 AnswerReplies other X reply = reply ≡ NotCertified
 
@@ -120,9 +120,9 @@ NoneAsFar state bytes limit spent =
     (client number : ℕ) (job : JobView) → state client number ≡ Some job → job.ended ≢ Some Memory
     → job.bytes ≡ bytes → job.limit ≡ limit → spent ≤ job.spent → ⊥
 
-module _ (cost : List ℕ → ℕ → ℕ) (verdict : List ℕ → ℕ → Answer) where
+module _ (cost : List ℕ → ℕ → ℕ) (verdict : List ℕ → ℕ → ByteVerdict) where
   -- A job after so many units more, where memory isn't refused. An ended job stays as it is.
-  abbrev pub worked_on : Option Answer → JobView → ℕ → JobView
+  abbrev pub worked_on : Option ByteVerdict → JobView → ℕ → JobView
   worked_on None job units =
       if nat_lt (job.spent + units) (cost job.bytes job.limit)
       then record job { spent = job.spent + units; ended = None }

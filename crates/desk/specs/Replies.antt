@@ -1,7 +1,7 @@
 -- The machine's events and replies that the desk's stand for, and the numbers of faults.
 use Rattle.std.specs.Prelude.{ℕ, List, codes}
-use Rattle.answers.specs.Answers.{refused}
-use Rattle.answers.specs.Answers.Answer.{Yes as Accepts}
+use Rattle.answers.specs.ByteVerdicts.{refused}
+use Rattle.answers.specs.ByteVerdicts.ByteVerdict.{Yes as Accepts}
 use Rattle.desk.specs.declared.event.Event.{Event as EventGiven}
 use Rattle.desk.specs.declared.event.Event.TheVariants as given
 use Rattle.desk.specs.declared.reply.Reply.{Reply as ReplyGiven}

@@ -1,7 +1,7 @@
 -- Runs of the desk's machine, and what one client sees of them. This project's own.
 use Rattle.std.specs.Prelude.{◌≡◌, ℕ, ◌==◌, Bool, true, false, if◌then◌else◌, List, [], ◌∷◌, All, None}
-use Rattle.answers.specs.Answers.{Answer}
-use Rattle.answers.specs.Answers.Answer.{Memory}
+use Rattle.answers.specs.ByteVerdicts.{ByteVerdict}
+use Rattle.answers.specs.ByteVerdicts.ByteVerdict.{Memory}
 use Rattle.desk.specs.Machine.{State, Call, Reply, AmpleStep}
 use Rattle.desk.specs.Machine.Reply.{VerdictIs, Full, NoJob, NotCertified, Beyond, NoMemory}
 
@@ -42,7 +42,7 @@ abbrev pub HasNoNine : List Reply → Type 0
 HasNoNine replies = All (λ reply. is_nine reply ≡ false) replies
 
 -- where memory is refused to nobody, the calls may be answered so, from this state on
-abbrev pub AmpleRun : (List ℕ → ℕ → ℕ) → (List ℕ → ℕ → Answer) → State → List Call → List Reply
+abbrev pub AmpleRun : (List ℕ → ℕ → ℕ) → (List ℕ → ℕ → ByteVerdict) → State → List Call → List Reply
     → Type 0
 AmpleRun cost verdict old calls replies =
     (new : State) × Run (AmpleStep cost verdict) old calls replies new

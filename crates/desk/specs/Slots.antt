@@ -1,7 +1,7 @@
 -- What a slot says of a job, beside its core.
 use Rattle.std.specs.Prelude.{◌≡◌, ◌≢◌, ◌⊎◌, ℕ, ◌+◌, ◌<◌, ◌≤◌, List, Option, Some, None, slice_index_or, min}
-use Rattle.answers.specs.Answers.{Answer}
-use Rattle.answers.specs.Answers.Answer.{Memory}
+use Rattle.answers.specs.ByteVerdicts.{ByteVerdict}
+use Rattle.answers.specs.ByteVerdicts.ByteVerdict.{Memory}
 use Rattle.checker.specs.JobViews.{JobView}
 use Rattle.checker.specs.Turns.{cost, verdict}
 use Rattle.desk.specs.declared.slot.Slot.{Slot}
@@ -9,13 +9,13 @@ use Rattle.desk.specs.declared.slot.Standing.{Standing}
 use Rattle.desk.specs.declared.slot.Standing.TheVariants.{Going, Ended, OutOfMemory}
 use Rattle.desk.specs.Machine.{worked}
 
-abbrev pub ending : Standing → Answer → Option Answer
+abbrev pub ending : Standing → ByteVerdict → Option ByteVerdict
 ending Going answer = None
 ending Ended answer = Some answer
 ending OutOfMemory answer = Some Memory
 
 -- where a job stands that has come as far as its core, which has this ending
-abbrev pub standing_of : Option Answer → Standing
+abbrev pub standing_of : Option ByteVerdict → Standing
 standing_of None = Going
 standing_of (Some Memory) = OutOfMemory
 standing_of (Some other) = Ended

@@ -3,13 +3,13 @@ ghost use Rattle.std.specs.Prelude.{◌≡◌, ◌≢◌, ◌<◌, ◌↔◌, �
 ghost use Rattle.std.specs.Prelude.{IfOk, OnOk, OnErr, IfSome, IfNone};
 ghost use Rattle.desk.specs.Desks.{IsWith, IsCoreFor, IsCoreOf, HasNoCore, GrowsAtNeed, core_at};
 
-use allocation::{Memory, Room};
+use allocation::{Memory, SmallAllocator};
 use checker::Job;
 use std::mem;
 
 /// The core of these bytes and this limit, a new one where there is none. A new one takes a place
 /// that has none, where there is such a place, and else a new place, which may take memory.
-pub(crate) fn core_for<A: Room + Copy>(
+pub(crate) fn core_for<A: SmallAllocator + Copy>(
     cores: &mut Vec<Option<Job<A>>, A>,
     alloc: A,
     bytes: Vec<u8, A>,
@@ -33,7 +33,11 @@ pub(crate) fn core_for<A: Room + Copy>(
 }
 
 /// Puts a core at a place, or none. What stood there is given up.
-pub(crate) fn put<A: Room>(cores: &mut Vec<Option<Job<A>>, A>, place: usize, core: Option<Job<A>>)
+pub(crate) fn put<A: SmallAllocator>(
+    cores: &mut Vec<Option<Job<A>>, A>,
+    place: usize,
+    core: Option<Job<A>>,
+)
     requires { place < length cores.old.items }
     ensures placed { IsWith cores.old.items place core cores.new.items }
     ensures length { length cores.new.items ≡ length cores.old.items }
@@ -42,7 +46,11 @@ pub(crate) fn put<A: Room>(cores: &mut Vec<Option<Job<A>>, A>, place: usize, cor
 }
 
 /// The place of the core of these bytes and this limit.
-fn find<A: Room>(cores: &Vec<Option<Job<A>>, A>, bytes: &[u8], limit: u32) -> Option<usize>
+fn find<A: SmallAllocator>(
+    cores: &Vec<Option<Job<A>>, A>,
+    bytes: &[u8],
+    limit: u32,
+) -> Option<usize>
     ensures some { IfSome result (λ k. IsCoreOf cores.now.items bytes.now limit k) }
     ensures none { IfNone result (HasNoCore cores.now.items bytes.now limit) }
 {
@@ -57,14 +65,14 @@ fn find<A: Room>(cores: &Vec<Option<Job<A>>, A>, bytes: &[u8], limit: u32) -> Op
 }
 
 /// Whether the core is that of these bytes and this limit.
-fn is_of<A: Room>(core: &Job<A>, bytes: &[u8], limit: u32) -> bool
+fn is_of<A: SmallAllocator>(core: &Job<A>, bytes: &[u8], limit: u32) -> bool
     ensures { IsTrue result ↔ ((core.now.bytes ≡ bytes.now) × (core.now.limit ≡ limit)) }
 {
     core.limit() == limit && core.bytes() == bytes
 }
 
 /// A place without a core, if there is one.
-fn vacancy<A: Room>(cores: &Vec<Option<Job<A>>, A>) -> Option<usize>
+fn vacancy<A: SmallAllocator>(cores: &Vec<Option<Job<A>>, A>) -> Option<usize>
     ensures some { IfSome result (λ k. (k < length cores.now.items)
         × (core_at cores.now.items k ≡ None)) }
     ensures none { IfNone result ((k : ℕ) → k < length cores.now.items

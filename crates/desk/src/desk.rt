@@ -6,7 +6,7 @@ use crate::jobs::{certified_at, free_number, give_up_at, nobody, open_at, show_a
 use crate::reply::{Reply, StepFault};
 use crate::saying::{answer_deed, outcome_deed};
 use crate::slot::Slot;
-use allocation::Room;
+use allocation::SmallAllocator;
 use checker::{Certified, Job, Refusal};
 use positions::Position;
 use std::alloc::Global;
@@ -15,17 +15,17 @@ use std::marker::Model;
 /// Jobs of sixteen clients, four each, seen as the machine's state. Open jobs of the same bytes and
 /// limit share one check, so the desk takes the memory of its different checks.
 #[derive(Drop)]
-pub struct Desk<A: Room = Global> {
+pub struct Desk<A: SmallAllocator = Global> {
     alloc: A,
     places: [Option<Slot>; 64],
     cores: Vec<Option<Job<A>>, A>,
     memory: Refusal<A>,
 }
 
-impl<A: Room> Model for Desk<A> {
+impl<A: SmallAllocator> Model for Desk<A> {
     ghost use Rattle.std.specs.Prelude.{◌≡◌, List, Option};
-    ghost use Rattle.answers.specs.Answers.{refused};
-    ghost use Rattle.answers.specs.Answers.Answer.{Memory};
+    ghost use Rattle.answers.specs.ByteVerdicts.{refused};
+    ghost use Rattle.answers.specs.ByteVerdicts.ByteVerdict.{Memory};
     ghost use Rattle.checker.specs.JobViews.{JobView};
     ghost use Rattle.desk.specs.Desks.{IsDesk, jobs_in};
 
@@ -36,7 +36,7 @@ impl<A: Room> Model for Desk<A> {
     ghost invariant = { λ d. IsDesk d.places d.cores.items × (refused d.memory ≡ Memory) };
 }
 
-impl<A: Room + Copy> Desk<A> {
+impl<A: SmallAllocator + Copy> Desk<A> {
     ghost use Rattle.std.specs.Prelude.{◌≡◌, ℕ, None};
     ghost use Rattle.std.specs.Borrow.{sem};
     ghost use Rattle.std.specs.Io.BufRead.{Rests};
@@ -160,7 +160,7 @@ impl<A: Room + Copy> Desk<A> {
     }
 }
 
-impl<A: Room> Desk<A> {
+impl<A: SmallAllocator> Desk<A> {
     ghost use Rattle.std.specs.Prelude.{◌≡◌};
     ghost use Rattle.desk.specs.Desks.{state_of};
     ghost use Rattle.desk.specs.Deeds.{meant, Certifies};

@@ -1,11 +1,11 @@
 //! What a client asks of a desk.
-use allocation::Room;
+use allocation::SmallAllocator;
 use positions::Position;
 use std::alloc::Global;
 
 /// What a client asks of a desk. Jobs are named by their numbers, 1 to 4.
 #[derive(Drop)]
-pub enum Event<A: Room = Global> {
+pub enum Event<A: SmallAllocator = Global> {
     /// Opens a job: the check of these bytes under this limit.
     Open(Vec<u8, A>, u32),
     /// Works a job by so many units.

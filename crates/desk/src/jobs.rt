@@ -1,7 +1,7 @@
 //! What is done with jobs, by their places.
 ghost use Rattle.std.specs.Prelude.{◌≡◌, ◌<◌, ℕ, None, Some, length, not, false, IsTrue, OnOk, OnErr};
-ghost use Rattle.answers.specs.Answers.{refused};
-ghost use Rattle.answers.specs.Answers.Answer.{Memory as no_memory};
+ghost use Rattle.answers.specs.ByteVerdicts.{refused};
+ghost use Rattle.answers.specs.ByteVerdicts.ByteVerdict.{Memory as no_memory};
 ghost use Rattle.desk.specs.Machine.{fresh, is_free, least_free};
 ghost use Rattle.desk.specs.Deeds.{shown_reply, Certifies};
 ghost use Rattle.desk.specs.Replies.{reply_of};
@@ -11,7 +11,7 @@ use crate::client::Client;
 use crate::cores::{core_for, put};
 use crate::reply::{Reply, StepFault};
 use crate::slot::{Slot, Standing, furthest, go_on, is_held};
-use allocation::{Memory, Room};
+use allocation::{Memory, SmallAllocator};
 use checker::{Certified, Job, Progress, Refusal, checks_end};
 
 /// Places without a job.
@@ -51,7 +51,7 @@ fn is_free(places: &[Option<Slot>; 64], client: Client, number: u8) -> bool
 }
 
 /// Opens a job at the place, which is free.
-pub(crate) fn open_at<A: Room + Copy>(
+pub(crate) fn open_at<A: SmallAllocator + Copy>(
     places: &mut [Option<Slot>],
     cores: &mut Vec<Option<Job<A>>, A>,
     alloc: A,
@@ -82,7 +82,7 @@ pub(crate) fn open_at<A: Room + Copy>(
 }
 
 /// Works the job of the place, if there is one.
-pub(crate) fn work_at<A: Room + Copy>(
+pub(crate) fn work_at<A: SmallAllocator + Copy>(
     places: &mut [Option<Slot>],
     cores: &mut Vec<Option<Job<A>>, A>,
     place: usize,
@@ -109,7 +109,7 @@ pub(crate) fn work_at<A: Room + Copy>(
 
 /// Gives up the job of the place, and its core with the last job of it. Answers whether there was a
 /// job.
-pub(crate) fn give_up_at<A: Room>(
+pub(crate) fn give_up_at<A: SmallAllocator>(
     places: &mut [Option<Slot>],
     cores: &mut Vec<Option<Job<A>>, A>,
     place: usize,
@@ -135,7 +135,7 @@ pub(crate) fn give_up_at<A: Room>(
 }
 
 /// The certificate of the job of the place, which has ended with yes.
-pub(crate) fn certified_at<'a, A: Room>(
+pub(crate) fn certified_at<'a, A: SmallAllocator>(
     places: &[Option<Slot>],
     cores: &'a Vec<Option<Job<A>>, A>,
     place: usize,
@@ -161,7 +161,7 @@ pub(crate) fn certified_at<'a, A: Room>(
 }
 
 /// How the job of the place stands.
-pub(crate) fn show_at<'a, A: Room>(
+pub(crate) fn show_at<'a, A: SmallAllocator>(
     places: &[Option<Slot>],
     cores: &'a Vec<Option<Job<A>>, A>,
     memory: &'a Refusal<A>,

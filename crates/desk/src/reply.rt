@@ -2,7 +2,7 @@
 ghost use Rattle.std.specs.Prelude.{◌≡◌};
 ghost use Rattle.desk.specs.Replies.{step_fault_number, step_fault_name};
 
-use allocation::Room;
+use allocation::SmallAllocator;
 use checker::{Certified, Refusal};
 use player::{Answer, Outcome};
 use std::alloc::Global;
@@ -52,7 +52,7 @@ impl StepFault {
 
 /// What a client is told.
 #[derive(Drop)]
-pub enum Reply<'a, A: Room = Global> {
+pub enum Reply<'a, A: SmallAllocator = Global> {
     /// The number of the new job.
     Opened(u8),
     /// The job goes on.

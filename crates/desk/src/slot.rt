@@ -1,11 +1,11 @@
 //! Jobs on a desk, each with its core and its own count of units.
 ghost use Rattle.std.specs.Prelude.{◌≡◌, ◌≢◌, ◌<◌, ◌≤◌, None, Some, ℕ, IsTrue, false};
-ghost use Rattle.answers.specs.Answers.Answer.{Memory as no_memory};
+ghost use Rattle.answers.specs.ByteVerdicts.ByteVerdict.{Memory as no_memory};
 ghost use Rattle.checker.specs.Turns.{cost};
 ghost use Rattle.desk.specs.Desks.{slot_at};
 ghost use Rattle.desk.specs.Slots.{HasGoneOn, IsFurthest, standing_of};
 
-use allocation::Room;
+use allocation::SmallAllocator;
 use checker::{Job, Progress, Refusal, checks_end};
 
 /// Where a job stands.
@@ -28,7 +28,7 @@ pub(crate) struct Slot {
 
 /// A core, worked further where the slot's job must go further than it and than every other job of
 /// it; and the slot after these units. Where memory is refused the core begins again.
-pub(crate) fn go_on<A: Room + Copy>(
+pub(crate) fn go_on<A: SmallAllocator + Copy>(
     core: &mut Job<A>,
     furthest: u64,
     slot: Slot,
@@ -67,7 +67,7 @@ pub(crate) fn go_on<A: Room + Copy>(
 }
 
 /// Where a job stands that has come as far as its core.
-fn standing_of<A: Room>(core: &Job<A>) -> Standing
+fn standing_of<A: SmallAllocator>(core: &Job<A>) -> Standing
     ensures { result ≡ standing_of core.now.ended }
 {
     match core.progress() {

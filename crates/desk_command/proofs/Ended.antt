@@ -1,7 +1,7 @@
 -- How the run of a script ends, from how its steps do.
 use Rattle.std.proofs.Common.{◌≡◌, ℕ, List, Option, refl, subst}
 use Rattle.folders.specs.Files.{Holds}
-use Rattle.command_results.specs.Printers.{Printer, Tells}
+use Rattle.command_results.specs.Printers.{Printer, PrintsLine}
 use Rattle.desk_command.specs.Ends.{EndsScript}
 use Rattle.desk_command.specs.Ends.EndsScript.{Whole, Broken}
 use Rattle.desk_command.specs.Scripts.{Runs}
@@ -20,7 +20,7 @@ module _ (files now : Option (List ℕ → Option (List ℕ))) (file held script
       (subst (λ (s : List ℕ). Runs now s out.taken out'.taken) script_is r)) e refl
 
   pub broken : (stop : DeskStop) (status : ℕ) → IsStop now script mid reads' out out' stop
-      → Tells err err' (desk_stop_line stop) → status ≡ desk_stop_status stop
+      → PrintsLine err err' (desk_stop_line stop) → status ≡ desk_stop_status stop
       → EndsScript files file reads reads' out out' err err' status
   broken stop status b t s =
       Broken held stop holds

@@ -1,7 +1,7 @@
 -- How the run of a script ends: what was printed and told, and the status. This project's own.
 use Rattle.std.specs.Prelude.{◌≡◌, ℕ, List, Option}
 use Rattle.folders.specs.Files.{Holds}
-use Rattle.command_results.specs.Printers.{Printer, Tells}
+use Rattle.command_results.specs.Printers.{Printer, PrintsLine}
 use Rattle.command_results.specs.Stops.{IsFileCause, stop_line}
 use Rattle.command_results.specs.declared.stop.Stop.{Stop}
 use Rattle.desk_command.specs.Scripts.{Runs}
@@ -19,8 +19,8 @@ pub data EndsScript (files : Option (List ℕ → Option (List ℕ))) (file : Li
       → EndsScript files file reads reads' out out' err err' status
   Broken : (script : List ℕ) (stop : DeskStop) → Holds files file script
       → IsStop files script reads reads' out out' stop
-      → Tells err err' (desk_stop_line stop) → status ≡ desk_stop_status stop
+      → PrintsLine err err' (desk_stop_line stop) → status ≡ desk_stop_status stop
       → EndsScript files file reads reads' out out' err err' status
   Unread : (stop : Stop) → IsFileCause file reads reads' stop → out' ≡ out
-      → Tells err err' (stop_line stop) → status ≡ 3
+      → PrintsLine err err' (stop_line stop) → status ≡ 3
       → EndsScript files file reads reads' out out' err err' status

@@ -33,7 +33,7 @@ fn asked_by<'a, F: Folder>(folder: &mut F, step: Step<'a>) -> Result<(Client, Ev
         (λ asked. IsCall (F.files folder.old) (step_of step.entry)
         (call asked.0 (event_of asked.1))) }
     ensures kept { F.files folder.new ≡ F.files folder.old }
-    ensures well { IfOk result (λ _. F.failed_reads folder.new ≡ F.failed_reads folder.old) }
+    ensures succeeds { IfOk result (λ _. F.failed_reads folder.new ≡ F.failed_reads folder.old) }
     ensures stops { IfErr result
         (IsStepCause (step_of step.entry) (F.failed_reads folder.old) (F.failed_reads folder.new)) }
 {
@@ -73,7 +73,7 @@ pub(crate) fn take_step<'a, F: Folder>(
         (λ t. Takes (F.files folder.old) (step_of step.entry) (state_of desk.old)
         (state_of desk.new) (string_bytes t)) }
     ensures kept { F.files folder.new ≡ F.files folder.old }
-    ensures well { IfOk result (λ _. F.failed_reads folder.new ≡ F.failed_reads folder.old) }
+    ensures succeeds { IfOk result (λ _. F.failed_reads folder.new ≡ F.failed_reads folder.old) }
     ensures stops { IfErr result
         (IsStepCause (step_of step.entry) (F.failed_reads folder.old) (F.failed_reads folder.new)) }
 {

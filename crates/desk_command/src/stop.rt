@@ -1,6 +1,6 @@
 //! Why a script ends before its end, and the reading of files.
 ghost use Rattle.std.specs.Prelude.{◌≡◌, ◌≤◌, ◌++◌, IfErr, IfOk, codes, decimal};
-ghost use Rattle.command_results.specs.Printers.{Tells, printer};
+ghost use Rattle.command_results.specs.Printers.{PrintsLine, printer};
 ghost use Rattle.folders.specs.Files.{Holds};
 ghost use Rattle.desk_command.specs.Stops.{IsReadCause, desk_stop_line, desk_stop_status, stop_of};
 ghost use Rattle.desk_command.specs.declared.stop.DeskStop.TheVariants.{«Memory» as OutOfMemory, Write as NotWritten};
@@ -64,9 +64,9 @@ impl DeskStop<'_> {
         }
     }
 
-    /// Tells the reason on standard error.
+    /// PrintsLine the reason on standard error.
     pub fn tell<E: Sink>(self, err: &mut E)
-        ensures { Tells (printer (E.taken err.old) (E.failures err.old))
+        ensures { PrintsLine (printer (E.taken err.old) (E.failures err.old))
             (printer (E.taken err.new) (E.failures err.new)) (desk_stop_line self.entry) }
     {
         match self {
@@ -78,9 +78,9 @@ impl DeskStop<'_> {
     }
 }
 
-/// Tells that the line of this number isn't a step.
+/// PrintsLine that the line of this number isn't a step.
 fn tell_line<E: Sink>(number: usize, err: &mut E)
-    ensures { Tells (printer (E.taken err.old) (E.failures err.old))
+    ensures { PrintsLine (printer (E.taken err.old) (E.failures err.old))
         (printer (E.taken err.new) (E.failures err.new))
         (codes "misere: line " ++ (decimal number ++ codes " isn't a step\n")) }
 {
@@ -97,7 +97,7 @@ fn tell_line<E: Sink>(number: usize, err: &mut E)
 pub(crate) fn read<'a, F: Folder>(folder: &mut F, name: &'a str) -> Result<Vec<u8>, DeskStop<'a>>
     ensures bytes { IfOk result (λ v. Holds (F.files folder.old) name.entry.now v.items) }
     ensures kept { F.files folder.new ≡ F.files folder.old }
-    ensures well { IfOk result (λ _. F.failed_reads folder.new ≡ F.failed_reads folder.old) }
+    ensures succeeds { IfOk result (λ _. F.failed_reads folder.new ≡ F.failed_reads folder.old) }
     ensures stops { IfErr result
         (IsReadCause name.entry.now (F.failed_reads folder.old) (F.failed_reads folder.new)) }
 {

@@ -6,7 +6,7 @@ ghost use Rattle.desk_script.specs.Views.{step_of};
 use crate::fault::LineFault;
 use crate::step::Step;
 use crate::tail::step_behind;
-use allocation::Room;
+use allocation::SmallAllocator;
 use decimals::number_between;
 
 /// What stands in front of the first space, and behind it.
@@ -29,7 +29,10 @@ fn client_of(text: &str) -> Option<u8>
 }
 
 /// The step that the line spells, without its LF.
-pub fn line_step<'a, A: Room + Copy>(alloc: A, line: &'a [u8]) -> Result<Step<'a, A>, LineFault>
+pub fn line_step<'a, A: SmallAllocator + Copy>(
+    alloc: A,
+    line: &'a [u8],
+) -> Result<Step<'a, A>, LineFault>
     ensures spelled { IfOk result (λ step. Spells line.now (step_of step)) }
     ensures other { result ≡ Err LineFault.NotAStep → (step : StepSpelled) → Spells line.now step
         → ⊥ }

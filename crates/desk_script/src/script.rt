@@ -7,7 +7,7 @@ ghost use Rattle.desk_script.specs.Views.{step_of, steps_of};
 use crate::fault::{LineFault, ScriptFault};
 use crate::line::line_step;
 use crate::step::Step;
-use allocation::Room;
+use allocation::SmallAllocator;
 
 /// The bytes up to the first LF, and those behind it.
 fn first_line(bytes: &[u8]) -> Option<(&[u8], &[u8])>
@@ -19,7 +19,7 @@ fn first_line(bytes: &[u8]) -> Option<(&[u8], &[u8])>
 }
 
 /// The step of the first line, and the bytes behind it.
-fn first_step<'a, A: Room + Copy>(
+fn first_step<'a, A: SmallAllocator + Copy>(
     alloc: A,
     bytes: &'a [u8],
 ) -> Result<(Step<'a, A>, &'a [u8]), LineFault>
@@ -35,7 +35,7 @@ fn first_step<'a, A: Room + Copy>(
 
 /// Reads a script: the steps that its lines spell, or the number of the first line that isn't a
 /// step. Nothing is done.
-pub fn read_script<'a, A: Room + Copy>(
+pub fn read_script<'a, A: SmallAllocator + Copy>(
     alloc: A,
     script: &'a [u8],
 ) -> Result<Vec<Step<'a, A>, A>, ScriptFault>

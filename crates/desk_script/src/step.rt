@@ -1,12 +1,12 @@
 //! A step of a script.
 
-use allocation::Room;
+use allocation::SmallAllocator;
 use positions::Position;
 use std::alloc::Global;
 
 /// A step of a client at the desk.
 #[derive(Drop)]
-pub enum Step<'a, A: Room = Global> {
+pub enum Step<'a, A: SmallAllocator = Global> {
     /// Opens a job on the bytes of the file, under the limit.
     Open {
         client: u8,

@@ -6,7 +6,7 @@ ghost use Rattle.desk_script.specs.Views.{step_of};
 use crate::fault::LineFault;
 use crate::line::cut;
 use crate::step::Step;
-use allocation::Room;
+use allocation::SmallAllocator;
 use decimals::number_between;
 use positions::{Position, PositionFault};
 
@@ -48,7 +48,7 @@ fn job_and_units(tail: &str) -> Option<(u8, u64)>
 }
 
 /// The position of the text.
-fn position_of<A: Room + Copy>(alloc: A, text: &str) -> Result<Position<A>, LineFault>
+fn position_of<A: SmallAllocator + Copy>(alloc: A, text: &str) -> Result<Position<A>, LineFault>
     ensures position { IfOk result (IsPosition text.now) }
     ensures other { result ≡ Err LineFault.NotAStep → (position : List ℕ)
         → IsPosition text.now position → ⊥ }
@@ -63,7 +63,10 @@ fn position_of<A: Room + Copy>(alloc: A, text: &str) -> Result<Position<A>, Line
 }
 
 /// A job and a position.
-fn job_and_position<A: Room + Copy>(alloc: A, tail: &str) -> Result<(u8, Position<A>), LineFault>
+fn job_and_position<A: SmallAllocator + Copy>(
+    alloc: A,
+    tail: &str,
+) -> Result<(u8, Position<A>), LineFault>
     ensures spelled { IfOk result (λ parts. SpellsPosition tail.now parts.0 parts.1) }
     ensures other { result ≡ Err LineFault.NotAStep → (job : ℕ) (position : List ℕ)
         → SpellsPosition tail.now job position → ⊥ }
@@ -79,7 +82,7 @@ fn job_and_position<A: Room + Copy>(alloc: A, tail: &str) -> Result<(u8, Positio
 }
 
 /// The step of the client that this word and what stands behind it spell.
-pub fn step_behind<'a, A: Room + Copy>(
+pub fn step_behind<'a, A: SmallAllocator + Copy>(
     alloc: A,
     word: &str,
     client: u8,

@@ -20,20 +20,20 @@ pub(crate) struct CanonicalForm {
 
 /// The marks of the elements in the portion.
 fn marks(alloc: Global, portion: &[u16], order: usize) -> Result<Vec<bool>, Memory> {
-    let mut lost = vec![in alloc; false; order]?;
+    let mut in_portion = vec![in alloc; false; order]?;
     for x in portion {
-        if let Some(is_lost) = lost.get_mut(*x as usize) {
-            *is_lost = true;
+        if let Some(is_marked) = in_portion.get_mut(*x as usize) {
+            *is_marked = true;
         }
     }
-    Ok(lost)
+    Ok(in_portion)
 }
 
 /// For each entry of the rows whether it is marked.
-fn signs(alloc: Global, rows: &[u16], lost: &[bool]) -> Result<Vec<bool>, Memory> {
+fn signs(alloc: Global, rows: &[u16], in_portion: &[bool]) -> Result<Vec<bool>, Memory> {
     let mut signs = Vec::new(alloc);
     for x in rows {
-        signs.push(lost.get(*x as usize).copied() == Some(true))?;
+        signs.push(in_portion.get(*x as usize).copied() == Some(true))?;
     }
     Ok(signs)
 }
@@ -83,7 +83,7 @@ fn push_portion(
     portion: &mut Vec<u16>,
 ) -> Result<(), Memory> {
     for element in &numbering.elements {
-        if guess.lost.get(*element as usize).copied() == Some(true) {
+        if guess.in_portion.get(*element as usize).copied() == Some(true) {
             if let Some(number) = numbering.number(*element) {
                 portion.push(number)?;
             }
@@ -136,8 +136,8 @@ impl CanonicalForm {
 
     fn fill_apart(&mut self, alloc: Global) -> Result<bool, Memory> {
         let order = self.numbering.elements.len();
-        let lost = marks(alloc, &self.portion, order)?;
-        let signs = signs(alloc, &self.rows, &lost)?;
+        let in_portion = marks(alloc, &self.portion, order)?;
+        let signs = signs(alloc, &self.rows, &in_portion)?;
         self.separate_all(&signs, order)
     }
 

@@ -17,7 +17,7 @@ pub struct Guess<A: Allocator = Global> {
     /// The products: x·y stands at x·order + y.
     pub products: Vec<u16, A>,
     /// Whether an element is in the portion, so that its positions are P-positions.
-    pub lost: Vec<bool, A>,
+    pub in_portion: Vec<bool, A>,
     /// The elements of the heaps 1, 2, ..
     pub heaps: Vec<u16, A>,
     /// The heap from which on the elements repeat, or 0 where the heaps show no period twice.
@@ -34,12 +34,12 @@ impl<A: Allocator> Guess<A> {
         code: &Code,
         order: usize,
         products: Vec<u16, A>,
-        lost: Vec<bool, A>,
+        in_portion: Vec<bool, A>,
         heaps: Vec<u16, A>,
     ) -> Guess<A>
         ensures order { result.order ≡ order }
         ensures products { result.products ≡ products }
-        ensures lost { result.lost ≡ lost }
+        ensures in_portion { result.in_portion ≡ in_portion }
         ensures heaps { result.heaps ≡ heaps }
         ensures period { IsPeriodGuess code.now result.heaps.items result.start result.period
             result.shown }
@@ -49,7 +49,7 @@ impl<A: Allocator> Guess<A> {
         Guess {
             order,
             products,
-            lost,
+            in_portion,
             heaps,
             start,
             period,
@@ -97,11 +97,11 @@ fn marks<A: Allocator + Copy>(
 ) -> Result<Vec<bool, A>, Memory>
     ensures { IfOk result (λ v. length v.items ≡ order) }
 {
-    let mut lost: Vec<bool, A> = Vec::new(alloc);
+    let mut in_portion: Vec<bool, A> = Vec::new(alloc);
     for element in 0..order {
-        lost.push(quotient.is_lost(element))?;
+        in_portion.push(quotient.is_in_portion(element))?;
     }
-    Ok(lost)
+    Ok(in_portion)
 }
 
 /// The period that the fewest heaps would show, and its start before it, or twice 0 where none
@@ -124,7 +124,7 @@ pub fn guess_of<A: Allocator + Copy>(
 ) -> Result<Option<Guess<A>>, Memory>
     ensures formed { IfOk result
         (λ found.
-        IfSome found (λ g. IsWellFormed g.order g.products.items g.lost.items g.heaps.items most)) }
+        IfSome found (λ g. IsWellFormed g.order g.products.items g.in_portion.items g.heaps.items most)) }
     ensures period { IfOk result
         (λ found.
         IfSome found (λ g. IsPeriodGuess code.now g.heaps.items g.start g.period g.shown)) }
@@ -139,6 +139,6 @@ pub fn guess_of<A: Allocator + Copy>(
     }
     let heaps = numbers_below(alloc, quotient.heaps(), count, order)?;
     let products = numbers_below(alloc, quotient.products(), size, order)?;
-    let lost = marks(alloc, quotient, order)?;
-    Ok(Some(Guess::new(code, order, products, lost, heaps)))
+    let in_portion = marks(alloc, quotient, order)?;
+    Ok(Some(Guess::new(code, order, products, in_portion, heaps)))
 }

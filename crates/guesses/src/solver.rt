@@ -5,7 +5,7 @@ ghost use Rattle.quotient_search.specs.declared.aim.TheConstants.{DEEPEST};
 ghost use Rattle.guesses.specs.Guesses.{IsWellFormed, IsPeriodGuess};
 
 use crate::guess::{Guess, guess_of};
-use allocation::{Memory, Room};
+use allocation::{Memory, SmallAllocator};
 use octal_code::Code;
 use positions::Position;
 use quotient_search::{Aim, Cause, DEEPEST, Found, LONGEST_PART, find_quotient};
@@ -20,7 +20,7 @@ use std::marker::Model;
 /// the rule of misère play then fails at some position, the elements are made anew with the parts
 /// of the lightest such position compared too.
 #[derive(Drop)]
-pub struct Solver<A: Room = Global> {
+pub struct Solver<A: SmallAllocator = Global> {
     alloc: A,
     most: usize,
     /// Whether the quotient of just these heaps is wanted, with a period or without.
@@ -30,7 +30,7 @@ pub struct Solver<A: Room = Global> {
     wrong: bool,
 }
 
-impl<A: Room> Model for Solver<A> {
+impl<A: SmallAllocator> Model for Solver<A> {
     ghost use Rattle.std.specs.Prelude.{ℕ};
 
     ghost Value = { ℕ };
@@ -52,7 +52,7 @@ fn is_asked(asked: &Option<Code>, code: &Code) -> bool {
 }
 
 /// The guess that a search comes to, or why it comes to none.
-fn guessed<A: Room + Copy>(
+fn guessed<A: SmallAllocator + Copy>(
     alloc: A,
     code: &Code,
     aim: Aim,
@@ -61,7 +61,7 @@ fn guessed<A: Room + Copy>(
 ) -> Result<Result<Guess<A>, Cause>, Memory>
     ensures formed { IfOk result
         (λ found.
-        IfOk found (λ g. IsWellFormed g.order g.products.items g.lost.items g.heaps.items most)) }
+        IfOk found (λ g. IsWellFormed g.order g.products.items g.in_portion.items g.heaps.items most)) }
     ensures period { IfOk result
         (λ found.
         IfOk found (λ g. IsPeriodGuess code.now g.heaps.items g.start g.period g.shown)) }
@@ -78,7 +78,11 @@ fn guessed<A: Room + Copy>(
 
 /// The most heaps, up to `LONGEST_PART`, of which a search comes to a quotient of at most `order`
 /// elements.
-pub fn furthest<A: Room + Copy>(alloc: A, code: &Code, order: usize) -> Result<usize, Memory>
+pub fn furthest<A: SmallAllocator + Copy>(
+    alloc: A,
+    code: &Code,
+    order: usize,
+) -> Result<usize, Memory>
     ensures { IfOk result (λ last. last ≤ MOST_ENTRIES) }
 {
     match find_quotient(alloc, code, Aim::Part(LONGEST_PART), order)? {
@@ -87,7 +91,7 @@ pub fn furthest<A: Room + Copy>(alloc: A, code: &Code, order: usize) -> Result<u
     }
 }
 
-impl<A: Room + Copy> Solver<A> {
+impl<A: SmallAllocator + Copy> Solver<A> {
     /// A solver that looks at the heaps up to `heaps`, until a period shows, for a quotient of at
     /// most `order` elements. The number is taken as 2 where it is less, and as `DEEPEST` where it
     /// is more: so many heaps show the period of each certificate.
@@ -126,7 +130,7 @@ impl<A: Room + Copy> Solver<A> {
         ensures formed { IfOk result
             (λ found.
             IfOk found
-            (λ g. IsWellFormed g.order g.products.items g.lost.items g.heaps.items self.now)) }
+            (λ g. IsWellFormed g.order g.products.items g.in_portion.items g.heaps.items self.now)) }
         ensures period { IfOk result
             (λ found.
             IfOk found
@@ -146,7 +150,7 @@ impl<A: Room + Copy> Solver<A> {
         ensures formed { IfOk result
             (λ found.
             IfSome found
-            (λ g. IsWellFormed g.order g.products.items g.lost.items g.heaps.items self.old)) }
+            (λ g. IsWellFormed g.order g.products.items g.in_portion.items g.heaps.items self.old)) }
         ensures period { IfOk result
             (λ found.
             IfSome found

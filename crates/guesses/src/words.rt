@@ -154,10 +154,10 @@ fn guess_by_table(
 ) -> Result<Guess, Memory> {
     let elements = elements_of(alloc, groups, &named)?;
     let order = named.table.order() as usize;
-    let lost = lost_of(alloc, groups, &elements, order)?;
+    let in_portion = portion_of(alloc, groups, &elements, order)?;
     let heaps = heaps_of(alloc, groups, &elements)?;
     let Named { table, .. } = named;
-    Ok(Guess::new(code, order, table.into_rows(), lost, heaps))
+    Ok(Guess::new(code, order, table.into_rows(), in_portion, heaps))
 }
 
 /// The elements of the groups' words.
@@ -170,19 +170,19 @@ fn elements_of(alloc: Global, groups: &Groups, named: &Named) -> Result<Vec<u16>
 }
 
 /// Whether an element's positions are P-positions, as those of the groups say.
-fn lost_of(
+fn portion_of(
     alloc: Global,
     groups: &Groups,
     elements: &[u16],
     order: usize,
 ) -> Result<Vec<bool>, Memory> {
-    let mut lost = vec![in alloc; false; order]?;
+    let mut in_portion = vec![in alloc; false; order]?;
     for (member, element) in groups.members.iter().zip(elements) {
-        if let Some(is_lost) = lost.get_mut(*element as usize) {
-            *is_lost = member.row.first().copied() == Some(Some(Outcome::P));
+        if let Some(is_marked) = in_portion.get_mut(*element as usize) {
+            *is_marked = member.row.first().copied() == Some(Some(Outcome::P));
         }
     }
-    Ok(lost)
+    Ok(in_portion)
 }
 
 /// The elements of the heaps.

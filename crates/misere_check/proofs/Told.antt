@@ -7,11 +7,11 @@ use Rattle.streams.specs.declared.fault.StreamFault.TheVariants.{Read, Write, Me
 use Rattle.checker.specs.Turns.{verdict}
 use Rattle.verdict_texts.specs.Streams.{CountsReads, WritesSomeOfStream}
 use Rattle.requests.specs.Requests.{default_limit}
-use Rattle.misere_check.specs.Ends.{Device, Ends, Tells, cause, device}
+use Rattle.misere_check.specs.Ends.{Device, Ends, PrintsLine, cause, device}
 use Rattle.misere_check.specs.Ends.Ends.{Unread, Unwritten, NoMemory}
 
 pub tells : {T E : Type 0} (a b : Option (List ℕ)) (m n : ℕ) (r : Result T E) (line : List ℕ)
-    → Puts a b r line → Counts m n r → Tells (device a m) (device b n) line
+    → Puts a b r line → Counts m n r → PrintsLine (device a m) (device b n) line
 tells a b m n (Ok t) line p q = inl (q, p)
 tells a b m n (Err e) line p q = inr (q, p)
 
@@ -24,7 +24,7 @@ module _ (left : Option (List ℕ)) (reads reads' : ℕ) (out out' err err' : De
       → (EndsWith fault Write → WritesSomeOfStream verdict left default_limit out.taken out'.taken)
       → (EndsWith fault Write → out.failures < out'.failures)
       → CountsReads {T = Bool} reads reads' (Err fault)
-      → (EndsWith fault Read ⊎ EndsWith fault Memory → out' ≡ out) → Tells err err' (cause fault)
+      → (EndsWith fault Read ⊎ EndsWith fault Memory → out' ≡ out) → PrintsLine err err' (cause fault)
       → Ends left reads reads' out out' err err' 3
   stopped Read written failed counted same told = Unread counted (same (inl refl)) told refl
   stopped Write written failed counted same told =

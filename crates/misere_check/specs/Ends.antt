@@ -25,8 +25,8 @@ cause Write = codes "misere: cannot write\n"
 cause Memory = codes "misere: out of memory\n"
 
 -- the line went out; or the device failed, and a beginning of the line did
-abbrev pub Tells : Device → Device → List ℕ → Type 0
-Tells before after line =
+abbrev pub PrintsLine : Device → Device → List ℕ → Type 0
+PrintsLine before after line =
     ((after.failures ≡ before.failures) × Appends before.taken after.taken line)
     ⊎ ((before.failures < after.failures) × AppendsSome before.taken after.taken line)
 
@@ -37,10 +37,10 @@ pub data Ends (left : Option (List ℕ)) (reads reads' : ℕ) (out out' err err'
   Checked : (accepted : Bool) → reads' ≡ reads
       → WritesOfStream verdict left default_limit out.taken out'.taken accepted → err' ≡ err
       → status ≡ (if accepted then 0 else 1) → Ends left reads reads' out out' err err' status
-  Unread : reads < reads' → out' ≡ out → Tells err err' (cause Read) → status ≡ 3
+  Unread : reads < reads' → out' ≡ out → PrintsLine err err' (cause Read) → status ≡ 3
       → Ends left reads reads' out out' err err' status
   Unwritten : reads' ≡ reads → WritesSomeOfStream verdict left default_limit out.taken out'.taken
-      → out.failures < out'.failures → Tells err err' (cause Write) → status ≡ 3
+      → out.failures < out'.failures → PrintsLine err err' (cause Write) → status ≡ 3
       → Ends left reads reads' out out' err err' status
-  NoMemory : reads' ≡ reads → out' ≡ out → Tells err err' (cause Memory) → status ≡ 3
+  NoMemory : reads' ≡ reads → out' ≡ out → PrintsLine err err' (cause Memory) → status ≡ 3
       → Ends left reads reads' out out' err err' status

@@ -1,2 +1,2 @@
-mod Parts
+mod Told
 mod Positions

@@ -1,7 +1,7 @@
 -- The numbers in which the calls of the library answer. This project's own.
 use Rattle.std.specs.Prelude.{◌≡◌, ℕ}
-use Rattle.answers.specs.Answers.{Answer as Verdict}
-use Rattle.answers.specs.Answers.Answer.{Yes, Text, Law, Word, Order, Period, Apart, Outcome, Limit, Memory}
+use Rattle.answers.specs.ByteVerdicts.{ByteVerdict as Verdict}
+use Rattle.answers.specs.ByteVerdicts.ByteVerdict.{Yes, Text, Law, Word, Order, Period, Apart, Outcome, Limit, Memory}
 use Rattle.heap_options.specs.declared.left.Left.{Left}
 use Rattle.heap_options.specs.declared.left.Left.TheVariants.{Nothing, One, Two, Three}
 use Rattle.positions.specs.declared.outcome.Outcome.{Outcome as Winner}
@@ -51,7 +51,7 @@ abbrev pub without_move : ℕ → MisereAnswer
 without_move kind = record { kind = kind; heap = 0; first = 0; second = 0; third = 0 }
 
 -- the numbers tell the answer
-abbrev pub IsAnswerOf : Answer → MisereAnswer → Type 0
+abbrev pub IsAnswerOf : ByteVerdict → MisereAnswer → Type 0
 IsAnswerOf Ended n = n ≡ without_move 0
 IsAnswerOf Lost n = n ≡ without_move 1
 IsAnswerOf (Wins m) n =

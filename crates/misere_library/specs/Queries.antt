@@ -4,8 +4,8 @@ use Rattle.std.specs.List.Sorted.{IsNonDecreasing}
 use Rattle.misere_theory.specs.Certificates.{Certificate, Accepted, claim_of}
 use Rattle.misere_theory.specs.Quotients.{value}
 use Rattle.certificate_text.specs.Spelling.{Spells}
-use Rattle.answers.specs.Answers.{Answer as Verdict, IsTrueOf}
-use Rattle.answers.specs.Answers.Answer.{Yes, Memory, Outcome as Fails}
+use Rattle.answers.specs.ByteVerdicts.{ByteVerdict as Verdict, IsTrueOf}
+use Rattle.answers.specs.ByteVerdicts.ByteVerdict.{Yes, Memory, Outcome as Fails}
 use Rattle.checker.specs.Turns.{verdict}
 use Rattle.positions.specs.Positions.{IsSize}
 use Rattle.positions.specs.Outcomes.{HasOutcome}

@@ -2,7 +2,7 @@
 ghost use Rattle.std.specs.Prelude.{◌≡◌, ◌≢◌, ◌↔◌, ◌<◌, All, IsTrue, IfOk, IfErr, OnOk, OnErr, length};
 ghost use Rattle.misere_theory.specs.Certificates.{Accepted, IsHeapOf};
 ghost use Rattle.certificate_text.specs.Spelling.{Spells};
-ghost use Rattle.answers.specs.Answers.Answer.{Yes};
+ghost use Rattle.answers.specs.ByteVerdicts.ByteVerdict.{Yes};
 ghost use Rattle.checker.specs.Turns.{verdict};
 ghost use Rattle.positions.specs.Positions.{IsSize};
 ghost use Rattle.misere_library.specs.Queries.{Certify, TellsOutcome, TellsValue, TellsAnswer};

@@ -1,6 +1,6 @@
 //! What the calls tell in numbers.
 ghost use Rattle.std.specs.Prelude.{◌≡◌, ◌≤◌};
-ghost use Rattle.answers.specs.Answers.{refused};
+ghost use Rattle.answers.specs.ByteVerdicts.{refused};
 ghost use Rattle.player.specs.declared.answering.Answer.TheVariants.{Wins};
 ghost use Rattle.misere_library.specs.Numbers.{status_of, outcome_number, first_of, second_of, third_of, without_move, IsAnswerOf};
 

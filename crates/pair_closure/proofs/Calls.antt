@@ -4,7 +4,7 @@ use native.Mathlib.Decide.{dec_lt}
 use Rattle.monoid_table.specs.Grids.{Grid}
 use Rattle.transition_algebra.specs.declared.pair.Pair.{Pair}
 use Rattle.pair_closure.specs.Turns.{KeepsNext, has_ended, turn}
-use Rattle.pair_closure.specs.Progress.{Progress, begun, steps, step, stopped, moved, retaken}
+use Rattle.pair_closure.specs.ClosureViews.{ClosureView, begun, steps, step, stopped, moved, retaken}
 use Rattle.pair_closure.specs.Calls.{Takes, IsRefused, ended, ended_or_kept, cost}
 use Rattle.pair_closure.proofs.Lists.{by_cond, either, not_both, true_or}
 use Rattle.pair_closure.proofs.Bound.{ends_within}
@@ -21,45 +21,45 @@ neither true b e f = absurd (cc)
 neither false b e f = f
 
 -- a turn is left wherever a call goes on
-abbrev pub Ends : (Progress → Bool) → Type 0
-Ends ends = (q : Progress) → ends q ≡ false → has_ended q.state ≡ false
+abbrev pub Ends : (ClosureView → Bool) → Type 0
+Ends ends = (q : ClosureView) → ends q ≡ false → has_ended q.state ≡ false
 
 pub ended_ends : Ends ended
 ended_ends q e = e
 
-pub kept_ends : (since : Progress) → Ends (ended_or_kept since)
+pub kept_ends : (since : ClosureView) → Ends (ended_or_kept since)
 kept_ends since q e =
     (or_false (has_ended q.state) (nat_lt (length since.state.members) (length q.state.members))
     e).0
 
 -- where a turn is left and nothing was kept
-pub goes_on : (since q : Progress) → has_ended q.state ≡ false
+pub goes_on : (since q : ClosureView) → has_ended q.state ≡ false
     → length q.state.members ≤ length since.state.members → ended_or_kept since q ≡ false
 goes_on since q e l =
     neither (has_ended q.state) (nat_lt (length since.state.members) (length q.state.members)) e
     (le-ltb _ _ l)
 
-pub kept_since : (since q : Progress) → length since.state.members < length q.state.members
+pub kept_since : (since q : ClosureView) → length since.state.members < length q.state.members
     → ended_or_kept since q ≡ true
 kept_since since q l =
     true_or (has_ended q.state) (nat_lt (length since.state.members) (length q.state.members))
     (inr (lt-ltb _ _ l))
 
-pub ended_since : (since q : Progress) → has_ended q.state ≡ true → ended_or_kept since q ≡ true
+pub ended_since : (since q : ClosureView) → has_ended q.state ≡ true → ended_or_kept since q ≡ true
 ended_since since q e =
     true_or (has_ended q.state) (nat_lt (length since.state.members) (length q.state.members))
     (inl e)
 
 -- ---- turns that were all taken
 
-pub same_failed : (n : ℕ) (p : Progress) → (steps n p).failed ≡ p.failed
+pub same_failed : (n : ℕ) (p : ClosureView) → (steps n p).failed ≡ p.failed
 same_failed zero p = refl
 same_failed (suc n) p =
     let q = steps n p in
     by_cond (λ z. z.failed ≡ p.failed) (has_ended q.state) q (moved q) (λ _. same_failed n p)
     (λ _. same_failed n p)
 
-module _ (ends : Progress → Bool) (implies : Ends ends) (p : Progress) where
+module _ (ends : ClosureView → Bool) (implies : Ends ends) (p : ClosureView) where
   abbrev pub Going : ℕ → Type 0
   Going n = (m : ℕ) → m < n → ends (steps m p) ≡ false
 
@@ -72,14 +72,14 @@ module _ (ends : Progress → Bool) (implies : Ends ends) (p : Progress) where
       ap (λ z. z.spent) (sym (step_moves q (implies q (h n (omega arith))))) in
       omega arith
 
-  pub one_more : (n : ℕ) (q : Progress) → q ≡ steps n p → Going n → ends q ≡ false → Going (n + 1)
+  pub one_more : (n : ℕ) (q : ClosureView) → q ≡ steps n p → Going n → ends q ≡ false → Going (n + 1)
   one_more n q e h f m l = elim (dec_lt m n) [
     | yes b ↦ h m b
     | no b ↦ let d : n ≡ m = omega arith in
         subst (λ j. ends (steps j p) ≡ false) d (subst (λ z. ends z ≡ false) e f)
   ]
 
-  module _ (units : ℕ) (n : ℕ) (q : Progress) (reached : q ≡ steps n p) (going : Going n) where
+  module _ (units : ℕ) (n : ℕ) (q : ClosureView) (reached : q ≡ steps n p) (going : Going n) where
     pub takes : n ≤ units → (n < units → ends q ≡ true) → Takes ends units p q
     takes l h =
         record {
@@ -93,13 +93,13 @@ module _ (ends : Progress → Bool) (implies : Ends ends) (p : Progress) where
         }
 
     -- no turn was left
-    pub takes_here : (t : Progress) → n < units → t ≡ step q → has_ended q.state ≡ true
+    pub takes_here : (t : ClosureView) → n < units → t ≡ step q → has_ended q.state ≡ true
         → ends q ≡ true → Takes ends units p t
     takes_here t l e h f =
         subst (Takes ends units p) (sym (e ∙ step_stays q h)) (takes (omega arith) (λ _. f))
 
     -- the turn that was left is the last
-    pub takes_one : (t : Progress) → n < units → t ≡ step q → ends q ≡ false → ends t ≡ true
+    pub takes_one : (t : ClosureView) → n < units → t ≡ step q → ends q ≡ false → ends t ≡ true
         → Takes ends units p t
     takes_one t l e f h =
         let g = one_more n q reached going f in
@@ -115,7 +115,7 @@ module _ (ends : Progress → Bool) (implies : Ends ends) (p : Progress) where
           last = λ _. h;
         }
 
-    pub refused : (t : Progress) → n < units → t ≡ stopped q → ends q ≡ false → KeepsNext q.state
+    pub refused : (t : ClosureView) → n < units → t ≡ stopped q → ends q ≡ false → KeepsNext q.state
         → IsRefused ends units p t
     refused t l e f k = record {
       turns = n;
@@ -129,7 +129,7 @@ module _ (ends : Progress → Bool) (implies : Ends ends) (p : Progress) where
 -- ---- how many turns there are
 
 -- a call without a member to stop at takes all units, or ends
-pub units_taken : (units : ℕ) (p : Progress) → Takes ended units p (steps units p)
+pub units_taken : (units : ℕ) (p : ClosureView) → Takes ended units p (steps units p)
 units_taken zero p =
     takes ended ended_ends p zero zero p refl (λ m l. absurd (omega arith)) (omega arith)
     (λ l. absurd (omega arith))
@@ -154,7 +154,7 @@ units_taken (suc n) p =
     ]
 
 -- turns that two calls took after one another from the same are the same
-pub taken_alike : (ends : Progress → Bool) (units : ℕ) (p q r : Progress) → Takes ends units p q
+pub taken_alike : (ends : ClosureView → Bool) (units : ℕ) (p q r : ClosureView) → Takes ends units p q
     → Takes ends units p r → q ≡ r
 taken_alike ends units p q r a b =
     let v = a.within in
@@ -171,7 +171,7 @@ taken_alike ends units p q r a b =
     ]
 
 module _ (table : Grid) (heaps : List Pair) (limit : ℕ) where
-  abbrev after : ℕ → Progress
+  abbrev after : ℕ → ClosureView
   after n = steps n (begun table heaps limit)
 
   at_last : has_ended (after (limit * length heaps + 2)).state ≡ true
@@ -237,7 +237,7 @@ module _ (table : Grid) (heaps : List Pair) (limit : ℕ) where
 
 -- ---- a turn further
 
-pub retaken_on : (p : Progress) → p ≡ retaken p → has_ended p.state ≡ false
+pub retaken_on : (p : ClosureView) → p ≡ retaken p → has_ended p.state ≡ false
     → moved p ≡ retaken (moved p)
 retaken_on p e h =
     let first = begun p.state.table p.state.heaps p.state.limit in
@@ -258,7 +258,7 @@ retaken_on p e h =
     ∙ ap (λ j. record { state = turn q.state; spent = j + 1; failed = p.failed }) c
     ∙ sym (ap (λ z. record { state = z.state; spent = z.spent; failed = p.failed }) r)
 
-pub left_of : (p : Progress) → p ≡ retaken p → has_ended p.state ≡ false
+pub left_of : (p : ClosureView) → p ≡ retaken p → has_ended p.state ≡ false
     → p.spent < cost p.state.table p.state.heaps p.state.limit
 left_of p e h =
     let s = ap (λ z. z.state) e in

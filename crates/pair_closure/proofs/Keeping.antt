@@ -7,7 +7,7 @@ use Rattle.transition_algebra.specs.Pairs.{one, covers}
 use Rattle.pair_closure.specs.declared.members.Member.{Member}
 use Rattle.pair_closure.specs.declared.settle.Held.{Held}
 use Rattle.pair_closure.specs.Turns.{State, blank_held, covered, multiplied, pending, is_over, has_ended, turn}
-use Rattle.pair_closure.specs.Progress.{Progress, moved, steps}
+use Rattle.pair_closure.specs.ClosureViews.{ClosureView, moved, steps}
 use Rattle.pair_closure.specs.Keeping.{HasPair, KeepsOne}
 use Rattle.pair_closure.proofs.WhichTurn.{product_at, product_if, heap_if}
 use Rattle.pair_closure.proofs.Lists.{by_case, by_cond, In-at, In-filter, place_of, same_after_set}
@@ -111,7 +111,7 @@ keeps_then s t u a e b =
       ];
     }
 
-pub keeps_one : (p : Progress) (n : ℕ)
+pub keeps_one : (p : ClosureView) (n : ℕ)
     → ((m : ℕ) → m < n → length (steps m p).state.members ≡ length p.state.members)
     → KeepsOne p.state (steps n p).state
 keeps_one p zero h = keeps_none p.state

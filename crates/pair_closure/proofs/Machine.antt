@@ -8,7 +8,7 @@ use Rattle.pair_closure.specs.declared.settle.Held.{Held}
 use Rattle.pair_closure.specs.declared.settle.Generator.{Generator}
 use Rattle.pair_closure.specs.Chains.{blank}
 use Rattle.pair_closure.specs.Turns.{State, Tell, start, turns, covered, any_covers, covers_any, covers_held, first_pending}
-use Rattle.pair_closure.specs.Progress.{IsRun, Progress, begun}
+use Rattle.pair_closure.specs.ClosureViews.{IsRun, ClosureView, begun}
 use Rattle.pair_closure.proofs.Lists.{In, In-at, place_of, find_any, any_from, either, not_both}
 use Rattle.pair_closure.proofs.PairLaws.{covers_trans}
 use Rattle.pair_closure.proofs.Invariant.{Holds}
@@ -23,7 +23,7 @@ pub record Reached (s : State) : Type 0 where
   pub units : ℕ
   pub reached : s ≡ turns units (start s.table s.heaps s.limit)
 
-pub of_run : (p : Progress) → IsRun p → Reached p.state
+pub of_run : (p : ClosureView) → IsRun p → Reached p.state
 of_run p r = record {
   lawful = r.lawful;
   heaps_in = r.heaps_in;

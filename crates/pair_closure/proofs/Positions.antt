@@ -19,7 +19,7 @@ use Rattle.transition_algebra.specs.PairLaws.{has, empty_has, same_pair, times_h
 use Rattle.pair_closure.specs.Chains.{blank}
 use Rattle.pair_closure.specs.OptionLaws.{items_have, has_items}
 use Rattle.pair_closure.specs.Turns.{State, start, blank_held, pending, is_done, product_of_heaps, word_of}
-use Rattle.pair_closure.specs.Positions.{as_pair, kept, IsClaimOver, Says, ShowsPairs, IsMinimal}
+use Rattle.pair_closure.specs.Positions.{as_pair, kept, IsClaimOver, DescribesPositions, ShowsPairs, IsMinimal}
 use Rattle.pair_closure.proofs.Invariant.{Holds}
 use Rattle.pair_closure.proofs.WhichTurn.{done_parts}
 use Rattle.pair_closure.proofs.Lists.{In, In-at, In-map, from_map, find_any, In-Contains, Contains-In, place_of, not_both}
@@ -265,7 +265,7 @@ module _ (code : List ℕ) (c : Claim) (s : State) (v : Holds s)
 
 -- the start says all this of nothing
 start_says : (code : List ℕ) (c : Claim) (t : Grid) (heaps : List Pair) (limit : ℕ)
-    → Says code c (start t heaps limit)
+    → DescribesPositions code c (start t heaps limit)
 start_says code c t heaps limit = record {
   words = λ i l. absurd (omega arith);
   positions = λ i l. absurd (omega arith);
@@ -280,7 +280,7 @@ start_says code c t heaps limit = record {
 
 pub shows : (s : State) → Reached s → ShowsPairs s
 shows s r code c g = elim (kept_by_turns s r) [
-  | inl e ↦ subst (Says code c) (sym e) (start_says code c s.table s.heaps s.limit)
+  | inl e ↦ subst (DescribesPositions code c) (sym e) (start_says code c s.table s.heaps s.limit)
   | inr v ↦ record {
     words = λ i l. pair_of code c s v g _ _ (member_exact code c s v g i l);
     positions = λ i l. (table_words code c s v g i l).0;

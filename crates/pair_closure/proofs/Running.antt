@@ -3,7 +3,7 @@ use Rattle.std.proofs.Common.{◌≡◌, ℕ, zero, suc, ◌+◌, ◌-◌, ◌�
 use Rattle.transition_algebra.specs.Pairs.{one}
 use Rattle.pair_closure.specs.declared.members.Member.{Member}
 use Rattle.pair_closure.specs.Turns.{State, SameData, covered, is_over, has_ended, pending, turn, turns}
-use Rattle.pair_closure.specs.Progress.{Progress, moved, step, steps, stopped}
+use Rattle.pair_closure.specs.ClosureViews.{ClosureView, moved, step, steps, stopped}
 use Rattle.pair_closure.proofs.Lists.{by_cond, if_true, if_false}
 use Rattle.pair_closure.proofs.WhichTurn.{product_at, stays_put}
 
@@ -25,30 +25,30 @@ same_turns (suc n) s =
     let b = same_after (turns n s) in
     record { table = b.table ∙ a.table; heaps = b.heaps ∙ a.heaps; limit = b.limit ∙ a.limit }
 
-pub steps_add : (m n : ℕ) (p : Progress) → steps (m + n) p ≡ steps n (steps m p)
+pub steps_add : (m n : ℕ) (p : ClosureView) → steps (m + n) p ≡ steps n (steps m p)
 steps_add m zero p = let q : m + 0 ≡ m = omega arith in ap (λ k. steps k p) q
 steps_add m (suc n) p = let q : m + suc n ≡ suc (m + n) = omega arith in
     ap (λ k. steps k p) q ∙ ap step (steps_add m n p)
 
-pub step_stays : (p : Progress) → has_ended p.state ≡ true → step p ≡ p
+pub step_stays : (p : ClosureView) → has_ended p.state ≡ true → step p ≡ p
 step_stays p e = if_true (has_ended p.state) p (moved p) e
 
-pub step_moves : (p : Progress) → has_ended p.state ≡ false → moved p ≡ step p
+pub step_moves : (p : ClosureView) → has_ended p.state ≡ false → moved p ≡ step p
 step_moves p e = sym (if_false (has_ended p.state) p (moved p) e)
 
-steps_stay : (n : ℕ) (p : Progress) → has_ended p.state ≡ true → steps n p ≡ p
+steps_stay : (n : ℕ) (p : ClosureView) → has_ended p.state ≡ true → steps n p ≡ p
 steps_stay zero p e = refl
 steps_stay (suc n) p e = ap step (steps_stay n p e) ∙ step_stays p e
 
 -- turns past the end change nothing
-pub ended_steps : (m n : ℕ) (p q : Progress) → q ≡ steps m p → m ≤ n → has_ended q.state ≡ true
+pub ended_steps : (m n : ℕ) (p q : ClosureView) → q ≡ steps m p → m ≤ n → has_ended q.state ≡ true
     → q ≡ steps n p
 ended_steps m n p q e l d =
     let k : m + (n - m) ≡ n = omega arith in
     sym (steps_stay (n - m) q d) ∙ ap (steps (n - m)) e ∙ sym (steps_add m (n - m) p)
     ∙ ap (λ j. steps j p) k
 
-pub same_steps : (n : ℕ) (p : Progress) → SameData p.state (steps n p).state
+pub same_steps : (n : ℕ) (p : ClosureView) → SameData p.state (steps n p).state
 same_steps zero p = record { table = refl; heaps = refl; limit = refl }
 same_steps (suc n) p =
     let a = same_steps n p in
@@ -58,7 +58,7 @@ same_steps (suc n) p =
     record { table = b.table ∙ a.table; heaps = b.heaps ∙ a.heaps; limit = b.limit ∙ a.limit })
 
 -- the same turns, of the state alone
-pub state_steps : (n : ℕ) (p : Progress) → (steps n p).state ≡ turns n p.state
+pub state_steps : (n : ℕ) (p : ClosureView) → (steps n p).state ≡ turns n p.state
 state_steps zero p = refl
 state_steps (suc n) p =
     let q = steps n p in
@@ -85,7 +85,7 @@ few_after s =
     at_most true m = omega arith
     at_most false m = omega (arith, length-append s.members (m ∷ []))
 
-pub few_steps : (n : ℕ) (p : Progress)
+pub few_steps : (n : ℕ) (p : ClosureView)
     → length (steps n p).state.members ≤ length p.state.members + n
 few_steps zero p = omega arith
 few_steps (suc n) p =
@@ -94,9 +94,9 @@ few_steps (suc n) p =
     by_cond (λ z. length z.state.members ≤ length p.state.members + suc n) (has_ended q.state) q
     (moved q) (λ _. omega arith) (λ _. let b = few_after q.state in omega arith)
 
-pub stopped_is : (p : Progress) → p.failed ≡ true → p ≡ stopped p
+pub stopped_is : (p : ClosureView) → p.failed ≡ true → p ≡ stopped p
 stopped_is p e = ap (λ b. record { state = p.state; spent = p.spent; failed = b }) e
 
-pub next_steps : (n : ℕ) (p q t : Progress) → q ≡ steps n p → t ≡ step q → t ≡ steps (n + 1) p
+pub next_steps : (n : ℕ) (p q t : ClosureView) → q ≡ steps n p → t ≡ step q → t ≡ steps (n + 1) p
 next_steps n p q t e f = let k : suc n ≡ n + 1 = omega arith in
     f ∙ ap step e ∙ ap (λ j. steps j p) k

@@ -7,7 +7,7 @@ use Rattle.monoid_table.specs.Tables.{IsTableGrid}
 use Rattle.transition_algebra.specs.declared.pair.Pair.{Pair}
 use Rattle.transition_algebra.specs.Pairs.{IsPair, one}
 use Rattle.pair_closure.specs.Turns.{State, SameData, start, has_ended, turn, turns}
-use Rattle.pair_closure.specs.Progress.{Progress, IsRun, moved}
+use Rattle.pair_closure.specs.ClosureViews.{ClosureView, IsRun, moved}
 use Rattle.pair_closure.specs.Calls.{IsLimited}
 use Rattle.pair_closure.proofs.Machine.{Reached, of_run, kept_by_turns}
 use Rattle.pair_closure.proofs.Running.{same_after, same_turns}
@@ -46,13 +46,13 @@ kept_within s h = record {
       omega arith;
 }
 
-pub limited : (p : Progress) → IsRun p → IsLimited p.state
+pub limited : (p : ClosureView) → IsRun p → IsLimited p.state
 limited p r = elim (kept_by_turns p.state (of_run p r)) [
   | inl e ↦ (let none = ap (λ z. length z.members) e in kept_within p.state (omega arith))
   | inr v ↦ kept_within p.state v.within
 ]
 
-pub spent_le : (p : Progress) → IsRun p → p.spent ≤ p.state.limit * length p.state.heaps + 2
+pub spent_le : (p : ClosureView) → IsRun p → p.spent ≤ p.state.limit * length p.state.heaps + 2
 spent_le p r =
     let s = p.state in
     let e = ap (λ z. z.spent) r.run in
@@ -66,7 +66,7 @@ spent_le p r =
 product_le : (a b c d : ℕ) → a ≤ c → b ≤ d → a * b ≤ c * d
 product_le a b c d h k = mul-le-mul h k
 
-pub spent_fits : (p : Progress) → IsRun p → p.spent + 1 < 2 ^ 128
+pub spent_fits : (p : ClosureView) → IsRun p → p.spent + 1 < 2 ^ 128
 spent_fits p r =
     let h = spent_le p r in
     let short = r.short in
@@ -75,7 +75,7 @@ spent_fits p r =
     (omega arith) in
     omega arith
 
-moved_run : (p : Progress) → IsRun p → has_ended p.state ≡ false → IsRun (moved p)
+moved_run : (p : ClosureView) → IsRun p → has_ended p.state ≡ false → IsRun (moved p)
 moved_run p r going =
     let d = same_after p.state in
     record {
@@ -87,7 +87,7 @@ moved_run p r going =
     }
 
 -- one turn more
-pub next_run : (p : Progress) (t : State) → IsRun p → has_ended p.state ≡ false → t ≡ turn p.state
+pub next_run : (p : ClosureView) (t : State) → IsRun p → has_ended p.state ≡ false → t ≡ turn p.state
     → IsRun (record { state = t; spent = p.spent + 1; failed = p.failed })
 next_run p t r going e =
     subst (λ z. IsRun (record { state = z; spent = p.spent + 1; failed = p.failed })) (sym e)

@@ -2,7 +2,7 @@
 use Rattle.std.proofs.Common.{◌≡◌, ℕ, zero, suc, ◌+◌, ◌<◌, ◌≤◌, ◌↔◌, Bool, true, false, length, refl, sym, ap, ◌∙◌, subst, inl, inr, arith, nat_lt, ltb-false, Result, Ok, Err, OnOk, OnErr, IsErr}
 use native.Mathlib.Decide.{dec_lt}
 use Rattle.pair_closure.specs.Turns.{SameData, has_ended}
-use Rattle.pair_closure.specs.Progress.{Progress, moved, step, steps, stopped}
+use Rattle.pair_closure.specs.ClosureViews.{ClosureView, moved, step, steps, stopped}
 use Rattle.pair_closure.specs.Calls.{Takes, Goes, Grows, ended, ended_or_kept}
 use Rattle.pair_closure.specs.Keeping.{KeepsOne, GrowsToMember}
 use Rattle.pair_closure.proofs.Lists.{by_cond, not_both}
@@ -11,14 +11,14 @@ use Rattle.pair_closure.proofs.Calls.{or_false, goes_on, same_failed}
 use Rattle.pair_closure.proofs.Keeping.{keeps_after, keeps_one}
 
 -- the turns of a call, whether the next was refused or not
-pub record Went (ends : Progress → Bool) (units : ℕ) (p q : Progress) : Type 0 where
+pub record Went (ends : ClosureView → Bool) (units : ℕ) (p q : ClosureView) : Type 0 where
   pub turns : ℕ
   pub within : turns ≤ units
   pub state : q.state ≡ (steps turns p).state
   pub spent : q.spent ≡ p.spent + turns
   pub going : (n : ℕ) → n < turns → ends (steps n p) ≡ false
 
-pub went : (ends : Progress → Bool) (units : ℕ) (p q : Progress) → Goes ends units p q
+pub went : (ends : ClosureView → Bool) (units : ℕ) (p q : ClosureView) → Goes ends units p q
     → Went ends units p q
 went ends units p q (inl t) = record {
   turns = t.turns;
@@ -35,7 +35,7 @@ went ends units p q (inr t) = record {
   going = λ n l. t.going n (omega arith);
 }
 
-module _ (ends : Progress → Bool) (units : ℕ) (p q : Progress) (w : Went ends units p q) where
+module _ (ends : ClosureView → Bool) (units : ℕ) (p q : ClosureView) (w : Went ends units p q) where
   pub went_data : SameData p.state q.state
   went_data = subst (SameData p.state) (sym w.state) (same_steps w.turns p)
 
@@ -62,7 +62,7 @@ module _ (ends : Progress → Bool) (units : ℕ) (p q : Progress) (w : Went end
 
 -- ---- answers
 
-module _ {X E : Type 0} (ends : Progress → Bool) (units : ℕ) (p q : Progress) where
+module _ {X E : Type 0} (ends : ClosureView → Bool) (units : ℕ) (p q : ClosureView) where
   pub grows_of : (r : Result X E) → p.failed ≡ false → Goes ends units p q
       → (IsErr r ↔ (q.failed ≡ true)) → Grows ends units r p q
   grows_of (Ok x) f (inl t) h = (t, tt)
@@ -80,19 +80,19 @@ module _ {X E : Type 0} (ends : Progress → Bool) (units : ℕ) (p q : Progress
   ]
 
 -- all units were taken where a turn is left
-spent_of : (ends : Progress → Bool) (units : ℕ) (p q : Progress) → Takes ends units p q
+spent_of : (ends : ClosureView → Bool) (units : ℕ) (p q : ClosureView) → Takes ends units p q
     → ends q ≡ false → q.spent ≡ p.spent + units
 spent_of ends units p q t h =
     let l = t.within in
     let e = t.spent in
     elim (dec_lt t.turns units) [ yes b ↦ absurd (not_both (t.last b) h) | no b ↦ omega arith ]
 
-pub spent_by : {X E : Type 0} (ends : Progress → Bool) (units : ℕ) (p q : Progress) (r : Result X E)
+pub spent_by : {X E : Type 0} (ends : ClosureView → Bool) (units : ℕ) (p q : ClosureView) (r : Result X E)
     (x : X) → Grows ends units r p q → r ≡ Ok x → ends q ≡ false → q.spent ≡ p.spent + units
 spent_by ends units p q r x g e h =
     spent_of ends units p q (subst (λ z. Grows ends units z p q) e g).0 h
 
-all_steps : (units : ℕ) (p q : Progress) → Takes ended units p q → q ≡ steps units p
+all_steps : (units : ℕ) (p q : ClosureView) → Takes ended units p q → q ≡ steps units p
 all_steps units p q t =
     let l = t.within in
     elim (dec_lt t.turns units) [
@@ -100,28 +100,28 @@ all_steps units p q t =
       | no b ↦ let e : t.turns ≡ units = omega arith in t.reached ∙ ap (λ n. steps n p) e
     ]
 
-pub steps_of : {X E : Type 0} (units : ℕ) (p q : Progress) (r : Result X E)
+pub steps_of : {X E : Type 0} (units : ℕ) (p q : ClosureView) (r : Result X E)
     → Grows ended units r p q → OnOk r (q ≡ steps units p)
 steps_of units p q (Ok x) g = all_steps units p q g.0
 steps_of units p q (Err e) g = tt
 
 -- ---- up to a member
 
-more_after : (p : Progress) → length p.state.members ≤ length (step p).state.members
+more_after : (p : ClosureView) → length p.state.members ≤ length (step p).state.members
 more_after p =
     by_cond (λ z. length p.state.members ≤ length z.state.members) (has_ended p.state) p (moved p)
     (λ _. omega arith) (λ _. (keeps_after p.state).few.0)
 
-pub more_after_step : (p q : Progress) → q ≡ step p
+pub more_after_step : (p q : ClosureView) → q ≡ step p
     → length p.state.members ≤ length q.state.members
 more_after_step p q e =
     subst (λ z. length p.state.members ≤ length z.state.members) (sym e) (more_after p)
 
-more_steps : (n : ℕ) (p : Progress) → length p.state.members ≤ length (steps n p).state.members
+more_steps : (n : ℕ) (p : ClosureView) → length p.state.members ≤ length (steps n p).state.members
 more_steps zero p = omega arith
 more_steps (suc n) p = let a = more_steps n p in let b = more_after (steps n p) in omega arith
 
-none_kept : (p : Progress) (n : ℕ) → ended_or_kept p (steps n p) ≡ false
+none_kept : (p : ClosureView) (n : ℕ) → ended_or_kept p (steps n p) ≡ false
     → length (steps n p).state.members ≡ length p.state.members
 none_kept p n e =
     let a = more_steps n p in
@@ -131,13 +131,13 @@ none_kept p n e =
     (nat_lt (length p.state.members) (length (steps n p).state.members)) e).1 in
     omega arith
 
-pub went_keeps : (units : ℕ) (p q : Progress) → Went (ended_or_kept p) units p q
+pub went_keeps : (units : ℕ) (p q : ClosureView) → Went (ended_or_kept p) units p q
     → KeepsOne p.state q.state
 went_keeps units p q w =
     subst (KeepsOne p.state) (sym w.state)
     (keeps_one p w.turns (λ n l. none_kept p n (w.going n l)))
 
-pub to_member_of : {X E : Type 0} (units : ℕ) (p q : Progress) (r : Result X E)
+pub to_member_of : {X E : Type 0} (units : ℕ) (p q : ClosureView) (r : Result X E)
     → Grows (ended_or_kept p) units r p q → OnOk r (GrowsToMember units p q)
 to_member_of units p q (Ok x) g =
     let t = g.0 in
@@ -149,7 +149,7 @@ to_member_of units p q (Ok x) g =
     }
 to_member_of units p q (Err e) g = tt
 
-pub spent_to_member : {X E : Type 0} (units : ℕ) (p q : Progress) (r : Result X E) (x : X)
+pub spent_to_member : {X E : Type 0} (units : ℕ) (p q : ClosureView) (r : Result X E) (x : X)
     → Grows (ended_or_kept p) units r p q → r ≡ Ok x → has_ended q.state ≡ false
     → length q.state.members ≡ length p.state.members → q.spent ≡ p.spent + units
 spent_to_member units p q r x g e h same =

@@ -7,7 +7,7 @@ use Rattle.pair_closure.specs.declared.members.Member.{Member}
 use Rattle.pair_closure.specs.declared.settle.Held.{Held}
 use Rattle.pair_closure.specs.declared.settle.Generator.{Generator}
 use Rattle.pair_closure.specs.Turns.{State, KeepsNext, turn, covered, members_with, held_with, members_after, held_after, generators_with, multiplied, blank_held, blank_generator, NoneBefore, KeepsEmpty, Multiplies, TriesHeap}
-use Rattle.pair_closure.specs.Progress.{Progress, IsRun}
+use Rattle.pair_closure.specs.ClosureViews.{ClosureView, IsRun}
 use Rattle.pair_closure.proofs.ChainLaws.{same_default}
 use Rattle.pair_closure.proofs.Lists.{if_false}
 use Rattle.pair_closure.proofs.WhichTurn.{turn_empty, turn_product, turn_heap, goes_empty, goes_product, goes_heap}
@@ -20,7 +20,7 @@ with s members held gens next =
     record s { members = members; held = held; generators = gens; next = next }
 
 -- what a turn leaves: a run, and where to look next
-abbrev pub Next : Progress → List Member → List Held → List Generator → ℕ → ℕ → ℕ → Type 0
+abbrev pub Next : ClosureView → List Member → List Held → List Generator → ℕ → ℕ → ℕ → Type 0
 Next p members held gens next spent from =
     IsRun (record { state = with p.state members held gens next; spent = spent; failed = p.failed })
     × NoneBefore held (length gens) from
@@ -48,14 +48,14 @@ nothing s r k = elim (kept_by_turns s r) [
   | inr v ↦ let none = k.none in let some = v.first.0 in absurd (omega arith)
 ]
 
-pub empty_turned : (p : Progress) (members : List Member) (held : List Held) → KeepsEmpty p.state
+pub empty_turned : (p : ClosureView) (members : List Member) (held : List Held) → KeepsEmpty p.state
     → members ≡ members_with p.state.members one 0 0
     → held ≡ held_with p.state.held one 0 (length p.state.heaps)
     → with p.state members held p.state.generators p.state.next ≡ turn p.state
 empty_turned p members held k a b =
     ap₂ (λ e h. with p.state e h p.state.generators p.state.next) a b ∙ sym (turn_empty p.state k)
 
-pub empty_next : (p : Progress) (members : List Member) (held : List Held) (from : ℕ) → IsRun p
+pub empty_next : (p : ClosureView) (members : List Member) (held : List Held) (from : ℕ) → IsRun p
     → KeepsEmpty p.state → members ≡ members_with p.state.members one 0 0
     → held ≡ held_with p.state.held one 0 (length p.state.heaps)
     → Next p members held p.state.generators p.state.next (p.spent + 1) from
@@ -133,7 +133,7 @@ product_keeps s at m g x k a b p e =
     let more = more_members s.members s.held x m.place g.heap e in
     omega arith
 
-pub product_next : (p : Progress) (members : List Member) (held : List Held) (at : ℕ) (m : Held)
+pub product_next : (p : ClosureView) (members : List Member) (held : List Held) (at : ℕ) (m : Held)
     (g : Generator) (x : Pair) (anew : Bool) (from : ℕ) → IsRun p
     → Product p.state members held at m g x
     → (anew ≡ false → (k : ℕ) → k < at
@@ -200,7 +200,7 @@ heap_keeps s x k a e =
     let more = more_members s.members s.held x 0 (s.next + 1) e in
     omega arith
 
-pub heap_next : (p : Progress) (members : List Member) (held : List Held) (gens : List Generator)
+pub heap_next : (p : ClosureView) (members : List Member) (held : List Held) (gens : List Generator)
     (n : ℕ) (x : Pair) (anew : Bool) (from : ℕ) → IsRun p → Tried p.state members held gens n x
     → (anew ≡ false → covered p.state.held x ≡ true) → from ≡ cond anew 0 (length held)
     → Next p members held gens n (p.spent + 1) from

@@ -3,20 +3,20 @@ use Rattle.std.specs.Prelude.{◌≡◌, ◌⊎◌, ℕ, ◌+◌, ◌*◌, ◌<�
 use Rattle.monoid_table.specs.Grids.{Grid}
 use Rattle.transition_algebra.specs.declared.pair.Pair.{Pair}
 use Rattle.pair_closure.specs.Turns.{State, KeepsNext, has_ended, is_over}
-use Rattle.pair_closure.specs.Progress.{Progress, begun, steps, stopped}
+use Rattle.pair_closure.specs.ClosureViews.{ClosureView, begun, steps, stopped}
 
 -- no turn is left
-abbrev pub ended : Progress → Bool
+abbrev pub ended : ClosureView → Bool
 ended p = has_ended p.state
 
 -- no turn is left, or a member was kept since
-abbrev pub ended_or_kept : Progress → Progress → Bool
+abbrev pub ended_or_kept : ClosureView → ClosureView → Bool
 ended_or_kept since p =
     has_ended p.state || nat_lt (length since.state.members) (length p.state.members)
 
 -- Turns one after another, each for one unit: the first that comes to such an end is the last, and
 -- without one all units are turns.
-pub record Takes (ends : Progress → Bool) (units : ℕ) (old new : Progress) : Type 0 where
+pub record Takes (ends : ClosureView → Bool) (units : ℕ) (old new : ClosureView) : Type 0 where
   pub turns : ℕ
   pub within : turns ≤ units
   pub reached : new ≡ steps turns old
@@ -26,7 +26,7 @@ pub record Takes (ends : Progress → Bool) (units : ℕ) (old new : Progress) :
 
 -- The same turns up to one that memory was refused to, which isn't taken and costs nothing. It would
 -- have kept a member: no other turn asks for memory.
-pub record IsRefused (ends : Progress → Bool) (units : ℕ) (old new : Progress) : Type 0 where
+pub record IsRefused (ends : ClosureView → Bool) (units : ℕ) (old new : ClosureView) : Type 0 where
   pub turns : ℕ
   pub within : turns < units
   pub reached : new ≡ stopped (steps turns old)
@@ -35,12 +35,12 @@ pub record IsRefused (ends : Progress → Bool) (units : ℕ) (old new : Progres
   pub keeps : KeepsNext new.state
 
 -- The turns of a call: all that it takes, or those up to one that memory was refused to.
-abbrev pub Goes : (Progress → Bool) → ℕ → Progress → Progress → Type 0
+abbrev pub Goes : (ClosureView → Bool) → ℕ → ClosureView → ClosureView → Type 0
 Goes ends units old new = Takes ends units old new ⊎ IsRefused ends units old new
 
 -- What a call of so many units answers and comes to. Where memory had been refused before, nothing
 -- changes.
-abbrev pub Grows : {X E : Type 0} → (Progress → Bool) → ℕ → Result X E → Progress → Progress
+abbrev pub Grows : {X E : Type 0} → (ClosureView → Bool) → ℕ → Result X E → ClosureView → ClosureView
     → Type 0
 Grows ends units result old new =
     OnOk result (Takes ends units old new)

@@ -3,7 +3,7 @@ use Rattle.std.specs.Prelude.{◌≡◌, ◌⊎◌, ℕ, ◌+◌, ◌-◌, ◌<�
 use Rattle.transition_algebra.specs.declared.pair.Pair.{Pair}
 use Rattle.pair_closure.specs.declared.settle.Held.{Held}
 use Rattle.pair_closure.specs.Turns.{State, blank_held}
-use Rattle.pair_closure.specs.Progress.{Progress, steps}
+use Rattle.pair_closure.specs.ClosureViews.{ClosureView, steps}
 
 -- one of those held has this pair
 abbrev pub HasPair : List Held → Pair → Type 0
@@ -21,7 +21,7 @@ pub record KeepsOne (s t : State) : Type 0 where
       ≡ (slice_index_or t.held (length t.held - 1) blank_held).pair))
 
 -- So many turns at most, of which none but the last keeps a member.
-pub record GrowsToMember (units : ℕ) (old new : Progress) : Type 0 where
+pub record GrowsToMember (units : ℕ) (old new : ClosureView) : Type 0 where
   pub turns : ℕ
   pub within : turns ≤ units
   pub reached : new ≡ steps turns old

@@ -33,7 +33,7 @@ abbrev pub word : State → ℕ → List ℕ
 word s place = word_of s.members place place
 
 -- What a state says of the positions of a code under a claim.
-pub record Says (code : List ℕ) (c : Claim) (s : State) : Type 0 where
+pub record DescribesPositions (code : List ℕ) (c : Claim) (s : State) : Type 0 where
   -- each member ever kept is exactly the pair of its word
   pub words : (i : ℕ) → i < length s.members
       → theory.IsPairOf code c (as_pair (slice_index_or s.members i blank).pair) (word s i)
@@ -69,7 +69,7 @@ pub record IsWordOf (s : State) (m : Held) (heaps : List ℕ) : Type 0 where
 
 -- Whatever claim the table and the pairs are those of.
 abbrev pub ShowsPairs : State → Type 0
-ShowsPairs s = (code : List ℕ) (c : Claim) → IsClaimOver code c s.table s.heaps → Says code c s
+ShowsPairs s = (code : List ℕ) (c : Claim) → IsClaimOver code c s.table s.heaps → DescribesPositions code c s
 
 -- The pairs held are closed under products with the heaps, whatever claim the table and the pairs
 -- are those of.

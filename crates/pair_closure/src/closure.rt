@@ -2,7 +2,7 @@
 ghost use Rattle.std.specs.Prelude.{◌≡◌, ◌↔◌, ◌<◌, ◌≤◌, ◌+◌, ◌*◌, true, false, ℕ, length, All, Ok, IfOk, OnOk, OnErr, IsOk, IsErr, slice_index_or};
 ghost use Rattle.transition_algebra.specs.Pairs.{IsPair, one};
 ghost use Rattle.pair_closure.specs.Turns.{SameData, KeepsNext, is_done, is_over, has_ended, blank_held, KeepsEmpty, Multiplies, TriesHeap};
-ghost use Rattle.pair_closure.specs.Progress.{begun, moved, retaken, step, steps, stopped};
+ghost use Rattle.pair_closure.specs.ClosureViews.{begun, moved, retaken, step, steps, stopped};
 ghost use Rattle.pair_closure.specs.Calls.{Goes, Grows, IsLimited, ended, ended_or_kept};
 ghost use Rattle.pair_closure.specs.Keeping.{KeepsOne, GrowsToMember};
 ghost use Rattle.pair_closure.specs.Positions.{word, IsWordOf, ShowsPairs, IsMinimal, IsClosedOver, IsExceeded};
@@ -10,7 +10,7 @@ ghost use Rattle.pair_closure.specs.Positions.{word, IsWordOf, ShowsPairs, IsMin
 use crate::fits::is_short;
 use crate::members::{Member, Members};
 use crate::settle::{Generator, Held, add, begin, hold, pending, settle_heap, settle_product};
-use allocation::{Memory, Room};
+use allocation::{Memory, SmallAllocator};
 use element_sets::ElementSet;
 use monoid_table::{CommMonoid, Table};
 use positions::{INLINE, Position};
@@ -57,20 +57,20 @@ pub struct Closure<A: Allocator = Global> {
 
 impl<A: Allocator> Model for Closure<A> {
     ghost use Rattle.std.specs.Prelude.{length};
-    ghost use Rattle.pair_closure.specs.Progress.{Progress, progress_of, IsRun};
+    ghost use Rattle.pair_closure.specs.ClosureViews.{ClosureView, closure_view, IsRun};
     ghost use Rattle.pair_closure.specs.Turns.{NoneBefore};
     ghost use Rattle.element_sets.specs.contracts.ElementSet as e;
     ghost use Rattle.std.specs.Coded.{codes};
 
-    ghost Value = { Progress };
+    ghost Value = { ClosureView };
 
     ghost coded = { Prim.hlevel (codes, e.the_row.coded) };
 
-    ghost view = { λ c. progress_of c.table c.heaps.items c.limit c.members c.held.items
+    ghost view = { λ c. closure_view c.table c.heaps.items c.limit c.members c.held.items
         c.generators.items c.next c.spent c.failed };
 
     ghost invariant = { λ c.
-        IsRun (progress_of c.table c.heaps.items c.limit c.members c.held.items c.generators.items
+        IsRun (closure_view c.table c.heaps.items c.limit c.members c.held.items c.generators.items
         c.next c.spent c.failed)
         × NoneBefore c.held.items (length c.generators.items) c.from };
 }
@@ -85,7 +85,7 @@ fn empty() -> Pair
     }
 }
 
-impl<A: Room + Copy> Closure<A> {
+impl<A: SmallAllocator + Copy> Closure<A> {
     /// No member is held yet, and no memory is taken. Item h of the pairs, counted from 1, stands
     /// for a heap of size h. It ends within limit times their number, plus 2, turns.
     pub fn new(alloc: A, table: Table<A>, heaps: Vec<Pair, A>, limit: u32) -> Closure<A>

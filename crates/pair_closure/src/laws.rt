@@ -6,7 +6,7 @@ ghost use Rattle.transition_algebra.specs.declared.pair.Pair as the_pair;
 ghost use Rattle.transition_algebra.specs.Pairs.{IsPair};
 ghost use Rattle.pair_closure.specs.Turns as turning;
 ghost use Rattle.pair_closure.specs.Turns.{SameData, turns, has_ended};
-ghost use Rattle.pair_closure.specs.Progress.{Progress, begun, moved, retaken, steps};
+ghost use Rattle.pair_closure.specs.ClosureViews.{ClosureView, begun, moved, retaken, steps};
 ghost use Rattle.pair_closure.specs.Calls.{Takes, cost};
 ghost use Rattle.pair_closure.specs.Keeping.{KeepsOne};
 ghost use Rattle.pair_closure.specs.Positions.{ShowsPairs, IsMinimal};
@@ -32,12 +32,12 @@ pub fn closures_end()
 
 /// However units are cut, the turns are the same.
 pub fn units_add()
-    ensures { (m n : ℕ) (p : Progress) → steps (m + n) p ≡ steps n (steps m p) }
+    ensures { (m n : ℕ) (p : ClosureView) → steps (m + n) p ≡ steps n (steps m p) }
 {}
 
 /// What a call of so many units comes to, no memory being refused, is one.
 pub fn calls_decide()
-    ensures { (ends : Progress → Bool) (units : ℕ) (p q r : Progress)
+    ensures { (ends : ClosureView → Bool) (units : ℕ) (p q r : ClosureView)
         → Takes ends units p q
         → Takes ends units p r
         → q ≡ r }
@@ -63,10 +63,10 @@ pub fn closures_cost()
 /// the same table, pairs and limit. The turns before it are fewer than all. A turn keeps one member
 /// at most, and holds no other pair that wasn't held.
 pub fn closures_go_on()
-    ensures on { (p : Progress) → p ≡ retaken p → has_ended p.state ≡ false
+    ensures on { (p : ClosureView) → p ≡ retaken p → has_ended p.state ≡ false
         → moved p ≡ retaken (moved p) }
-    ensures data { (p : Progress) → SameData p.state (moved p).state }
-    ensures kept { (p : Progress) → KeepsOne p.state (moved p).state }
-    ensures left { (p : Progress) → p ≡ retaken p → has_ended p.state ≡ false
+    ensures data { (p : ClosureView) → SameData p.state (moved p).state }
+    ensures kept { (p : ClosureView) → KeepsOne p.state (moved p).state }
+    ensures left { (p : ClosureView) → p ≡ retaken p → has_ended p.state ≡ false
         → p.spent < cost p.state.table p.state.heaps p.state.limit }
 {}

@@ -6,7 +6,7 @@ use Rattle.positions.specs.declared.position.TheConstants.{MOST_SIZES, LARGEST_H
 use Rattle.positions.specs.Text.{IsNoPositionText, IsTextOf, HasTooMany, HasTooLarge}
 use Rattle.player.specs.Answers.{IsRightAnswer, SpeaksOf}
 use Rattle.player.specs.declared.answering.Answer.{Answer}
-use Rattle.check_command.specs.Checks.{Certifies, SaysOfFile}
+use Rattle.check_command.specs.Checks.{Certifies, ChecksFile}
 use Rattle.command_results.specs.declared.stop.Stop.{Stop}
 use Rattle.command_results.specs.declared.stop.Stop.TheVariants.{Read, Memory, NotAPosition}
 use Rattle.play_command.specs.Lines.{answer_line, beyond_line}
@@ -28,8 +28,8 @@ PlaysIn c X text false = IsBeyond c X text
 -- the same where a quotient was found, and the text of a no where none was
 abbrev pub PlaysFound : {A : Type 0} → Result Certificate (Vec ℕ A) → List ℕ → List ℕ → Bool
     → Type 0
-PlaysFound (Ok c) X text well = PlaysIn c X text well
-PlaysFound (Err said) X text well = (text ≡ said.items) × (well ≡ false)
+PlaysFound (Ok c) X text succeeds = PlaysIn c X text succeeds
+PlaysFound (Err said) X text succeeds = (text ≡ said.items) × (succeeds ≡ false)
 
 -- a quotient that the file certifies under the limit doesn't speak of the position
 abbrev pub PlaysBeyond : Option (List ℕ → Option (List ℕ)) → List ℕ → ℕ → List ℕ → List ℕ → Type 0
@@ -44,7 +44,7 @@ Plays files file limit position text true =
     (c : Certificate) × Certifies files file limit c
     × ((X : List ℕ) × IsTextOf position X × SpeaksOf c X × AnswersIn c X text)
 Plays files file limit position text false =
-    SaysOfFile files file limit text false ⊎ PlaysBeyond files file limit position text
+    ChecksFile files file limit text false ⊎ PlaysBeyond files file limit position text
 
 -- the text is not that of at most 64 sizes up to 10^18
 abbrev pub IsNoPosition : List ℕ → Type 0

@@ -32,7 +32,7 @@ fn position_of(alloc: Global, text: &str) -> Result<Position, Stop<'static>>
 fn answered(alloc: Global, certified: &Certified, position: &Position) -> Result<Said, AllocError>
     requires { SpeaksOf certified.now position.now }
     ensures answered { IfOk result (λ s. AnswersIn certified.now position.now s.text.items) }
-    ensures well { IfOk result (λ s. s.well ≡ true) }
+    ensures succeeds { IfOk result (λ s. s.succeeds ≡ true) }
 {
     let text = answer_text(alloc, answer(certified, position))?;
     Ok(Said::done(text))
@@ -41,15 +41,15 @@ fn answered(alloc: Global, certified: &Certified, position: &Position) -> Result
 /// That the certificate doesn't speak of the position.
 fn beyond(alloc: Global) -> Result<Said, AllocError>
     ensures text { IfOk result (λ s. s.text.items ≡ beyond_line) }
-    ensures well { IfOk result (λ s. s.well ≡ false) }
+    ensures succeeds { IfOk result (λ s. s.succeeds ≡ false) }
 {
     Ok(Said::no(beyond_text(alloc)?.into_bytes()))
 }
 
 /// The line of the answer in the position, or that the certificate doesn't speak of it.
 fn played(alloc: Global, certified: &Certified, position: &Position) -> Result<Said, AllocError>
-    ensures plays { IfOk result (λ s. PlaysIn certified.now position.now s.text.items s.well) }
-    ensures full { 1 ≤ certified.now.period → IfOk result (λ s. s.well ≡ true) }
+    ensures plays { IfOk result (λ s. PlaysIn certified.now position.now s.text.items s.succeeds) }
+    ensures full { 1 ≤ certified.now.period → IfOk result (λ s. s.succeeds ≡ true) }
 {
     if fits(certified, position) {
         answered(alloc, certified, position)
@@ -64,7 +64,7 @@ fn said_in(
     quotient: Result<Certified, Vec<u8>>,
     position: &Position,
 ) -> Result<Said, AllocError>
-    ensures { IfOk result (λ s. PlaysFound quotient position.now s.text.items s.well) }
+    ensures { IfOk result (λ s. PlaysFound quotient position.now s.text.items s.succeeds) }
 {
     match quotient {
         Ok(certified) => played(alloc, &certified, position),
@@ -83,7 +83,7 @@ pub fn play<'a, F: Folder>(
     folder: &mut F,
 ) -> Result<Said, Stop<'a>>
     ensures plays { IfOk result
-        (λ s. Plays (F.files folder.old) file.entry.now limit position.now s.text.items s.well) }
+        (λ s. Plays (F.files folder.old) file.entry.now limit position.now s.text.items s.succeeds) }
     ensures kept { F.files folder.new ≡ F.files folder.old }
     ensures usage { IsErrOf result Stop.NotAPosition → folder.new ≡ folder.old }
     ensures stops { IfErr result

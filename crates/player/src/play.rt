@@ -14,7 +14,7 @@ ghost use Rattle.player.specs.Looks.{IsFirstInto, most_looks};
 
 use crate::answering::{Answer, answer_at};
 use crate::looking::looks_at;
-use allocation::Room;
+use allocation::SmallAllocator;
 use answers::Certified;
 use positions::{Options, Outcome, Position, options_are_exact};
 use std::alloc::Allocator;
@@ -27,7 +27,10 @@ fn are_up_to(heaps: &[u64], last: u64) -> bool
 }
 
 /// Whether the certificate speaks of each heap of the position. A full one speaks of all.
-pub fn fits<A: Allocator, B: Room>(certified: &Certified<A>, position: &Position<B>) -> bool
+pub fn fits<A: Allocator, B: SmallAllocator>(
+    certified: &Certified<A>,
+    position: &Position<B>,
+) -> bool
     ensures fits { IsTrue result ↔ SpeaksOf certified.now position.now }
     ensures full { 1 ≤ certified.now.period → IsTrue result }
 {
@@ -42,7 +45,10 @@ pub fn fits<A: Allocator, B: Room>(certified: &Certified<A>, position: &Position
 
 /// The element of the quotient that is the position's: the product of its heaps' elements. Asks that
 /// the certificate speaks of the position, as `fits` tells.
-pub fn value<A: Allocator, B: Room>(certified: &Certified<A>, position: &Position<B>) -> u16
+pub fn value<A: Allocator, B: SmallAllocator>(
+    certified: &Certified<A>,
+    position: &Position<B>,
+) -> u16
     requires fits { SpeaksOf certified.now position.now }
     ensures value { result ≡ value (claim_of certified.now) position.now }
     ensures within { result < certified.now.order }
@@ -52,7 +58,10 @@ pub fn value<A: Allocator, B: Room>(certified: &Certified<A>, position: &Positio
 
 /// Who wins from the position under misère play. Asks that the certificate speaks of the position, as
 /// `fits` tells.
-pub fn outcome<A: Allocator, B: Room>(certified: &Certified<A>, position: &Position<B>) -> Outcome
+pub fn outcome<A: Allocator, B: SmallAllocator>(
+    certified: &Certified<A>,
+    position: &Position<B>,
+) -> Outcome
     requires fits { SpeaksOf certified.now position.now }
     ensures { HasOutcome certified.now.code position.now result }
 {
@@ -70,7 +79,10 @@ pub fn outcome<A: Allocator, B: Room>(certified: &Certified<A>, position: &Posit
 ///
 /// Of a heap only its `looks` are tried, so a heap of any size is answered at once. It takes no
 /// memory. Asks that the certificate speaks of the position, as `fits` tells.
-pub fn answer<A: Allocator, B: Room>(certified: &Certified<A>, position: &Position<B>) -> Answer
+pub fn answer<A: Allocator, B: SmallAllocator>(
+    certified: &Certified<A>,
+    position: &Position<B>,
+) -> Answer
     requires fits { SpeaksOf certified.now position.now }
     ensures { IsRightAnswer certified.now.code position.now result }
 {

@@ -3,4 +3,4 @@ pub mod Heaps
 pub mod Words
 pub mod Texts
 pub mod Written
-pub mod Room
+pub mod HeapsFit

@@ -6,7 +6,7 @@ ghost use Rattle.positions.specs.Moves.{move_fault_number};
 ghost use Rattle.heap_options.specs.Options.{options_of};
 
 use crate::position::{INLINE, Position, place_of};
-use allocation::{Memory, Room};
+use allocation::{Memory, SmallAllocator};
 use heap_options::{Left, is_option};
 use octal_code::Code;
 
@@ -53,7 +53,7 @@ impl From<Memory> for MoveFault {
 
 /// The position after a move. The heap is looked up, and the option is tested by itself, however
 /// many the heap has. Up to `INLINE` heaps after the move take no memory.
-pub fn apply<A: Room + Copy>(
+pub fn apply<A: SmallAllocator + Copy>(
     alloc: A,
     code: &Code,
     position: &Position<A>,

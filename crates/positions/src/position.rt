@@ -4,7 +4,7 @@ ghost use Rattle.std.specs.Prelude.{◌≡◌, ◌<◌, ◌≤◌, ◌∷◌, �
 ghost use Rattle.heap_options.specs.Exact.{heaps_of};
 ghost use Rattle.positions.specs.Positions.{IsSize};
 
-use allocation::{Memory, Room};
+use allocation::{Memory, SmallAllocator};
 use heap_options::Left;
 use smallvec::SmallVec;
 use std::alloc::Global;
@@ -22,11 +22,11 @@ pub const INLINE: usize = 8;
 
 /// A position: any number of heaps, each of 1 to 10^18, seen as the list of their sizes, rising.
 #[derive(Drop)]
-pub struct Position<A: Room = Global> {
+pub struct Position<A: SmallAllocator = Global> {
     heaps: SmallVec<u64, INLINE, A>,
 }
 
-impl<A: Room> Model for Position<A> {
+impl<A: SmallAllocator> Model for Position<A> {
     ghost use Rattle.std.specs.List.Sorted.{IsNonDecreasing};
     ghost use Rattle.std.specs.Prelude.{ℕ, List, All};
     ghost use Rattle.positions.specs.Positions.{IsSize};
@@ -38,7 +38,7 @@ impl<A: Room> Model for Position<A> {
     ghost invariant = { λ p. IsNonDecreasing p.heaps.items × All IsSize p.heaps.items };
 }
 
-impl<A: Room> Position<A> {
+impl<A: SmallAllocator> Position<A> {
     /// The sizes of the heaps, rising.
     pub fn heaps(&self) -> &[u64]
         ensures value { result.now ≡ self.now }
@@ -49,7 +49,7 @@ impl<A: Room> Position<A> {
     }
 }
 
-impl<A: Room + Copy> Position<A> {
+impl<A: SmallAllocator + Copy> Position<A> {
     /// The position without heaps. It takes no memory.
     pub fn new(alloc: A) -> Position<A>
         ensures { result ≡ [] }
@@ -131,7 +131,7 @@ impl<A: Room + Copy> Position<A> {
     }
 }
 
-impl<A: Room> PartialEq for Position<A> {
+impl<A: SmallAllocator> PartialEq for Position<A> {
     ghost use Rattle.std.specs.Cmp.Lexicographic.{nat_list_eq_equiv, pointwise};
     ghost use Rattle.std.specs.Cmp.{partial_equiv_from_equiv};
     ghost use Rattle.std.specs.Prelude.{nat_eq};
@@ -145,13 +145,13 @@ impl<A: Room> PartialEq for Position<A> {
     }
 }
 
-impl<A: Room> Eq for Position<A> {
+impl<A: SmallAllocator> Eq for Position<A> {
     ghost use Rattle.std.specs.Cmp.Lexicographic.{nat_list_eq_equiv};
 
     ghost laws = { nat_list_eq_equiv };
 }
 
-impl<A: Room> Hash for Position<A> {
+impl<A: SmallAllocator> Hash for Position<A> {
     ghost use Rattle.positions.specs.Hashes.{same_hashes};
     ghost use Rattle.std.specs.Hash as fed;
 
@@ -164,7 +164,7 @@ impl<A: Room> Hash for Position<A> {
     }
 }
 
-fn sort<A: Room + Copy>(heaps: &mut SmallVec<u64, INLINE, A>)
+fn sort<A: SmallAllocator + Copy>(heaps: &mut SmallVec<u64, INLINE, A>)
     ensures same { IsPermutation heaps.old.items heaps.new.items }
     ensures rising { IsNonDecreasing heaps.new.items }
 {
@@ -172,14 +172,18 @@ fn sort<A: Room + Copy>(heaps: &mut SmallVec<u64, INLINE, A>)
 }
 
 /// Heaps have room for `INLINE` of them at least.
-fn has_room<A: Room + Copy>(heaps: &SmallVec<u64, INLINE, A>)
+fn has_room<A: SmallAllocator + Copy>(heaps: &SmallVec<u64, INLINE, A>)
     ensures { INLINE ≤ heaps.now.capacity }
 {
     heaps.capacity();
 }
 
 /// Makes these the heaps `from` but the one at the place `at`. There is room for these.
-fn set_others<A: Room + Copy>(heaps: &mut SmallVec<u64, INLINE, A>, from: &[u64], at: usize)
+fn set_others<A: SmallAllocator + Copy>(
+    heaps: &mut SmallVec<u64, INLINE, A>,
+    from: &[u64],
+    at: usize,
+)
     requires there { at < length from.now }
     requires room { length (remove from.now at) ≤ heaps.old.capacity }
     ensures items { heaps.new.items ≡ remove from.now at }
@@ -203,7 +207,7 @@ fn count(left: Left) -> usize
 }
 
 /// Adds what a move left of a heap, for which there is room.
-fn add_left<A: Room + Copy>(heaps: &mut SmallVec<u64, INLINE, A>, left: Left)
+fn add_left<A: SmallAllocator + Copy>(heaps: &mut SmallVec<u64, INLINE, A>, left: Left)
     requires room { length heaps.old.items + length (heaps_of left) ≤ heaps.old.capacity }
     requires rising { IsNonDecreasing heaps.old.items }
     ensures same { IsPermutation (heaps_of left ++ heaps.old.items) heaps.new.items }
@@ -216,7 +220,7 @@ fn add_left<A: Room + Copy>(heaps: &mut SmallVec<u64, INLINE, A>, left: Left)
 }
 
 /// Adds a heap, for which there is room.
-fn add_heap<A: Room + Copy>(heaps: &mut SmallVec<u64, INLINE, A>, heap: u64)
+fn add_heap<A: SmallAllocator + Copy>(heaps: &mut SmallVec<u64, INLINE, A>, heap: u64)
     requires room { length heaps.old.items < heaps.old.capacity }
     requires rising { IsNonDecreasing heaps.old.items }
     ensures same { IsPermutation (heap ∷ heaps.old.items) heaps.new.items }

@@ -5,9 +5,9 @@ ghost use Rattle.positions.specs.Text.{HasTooLarge, HasTooMany, IsNoPositionText
 use crate::fault::PositionFault;
 use crate::position::{INLINE, LARGEST_HEAP, MOST_SIZES, Position};
 use crate::survey::survey_of;
-use allocation::Room;
+use allocation::SmallAllocator;
 
-impl<A: Room + Copy> Position<A> {
+impl<A: SmallAllocator + Copy> Position<A> {
     /// Reads a position: `0` alone for the one without heaps, or at most 64 sizes in any order,
     /// joined by single spaces, each from 1 to 10^18, decimal and without leading zeros. It takes
     /// no memory before it knows that the text is one of a position, and none for up to `INLINE`

@@ -3,12 +3,12 @@ ghost use Rattle.std.specs.Prelude.{◌≡◌, ◌++◌, IfOk, OnOk, decimal, st
 ghost use Rattle.positions.specs.Text.{position_text, IsPositionText};
 
 use crate::position::Position;
-use allocation::{Memory, Room};
+use allocation::{Memory, SmallAllocator};
 use itoa::Buffer;
 use std::alloc::Allocator;
 use std::string::String;
 
-impl<A: Room + Copy> Position<A> {
+impl<A: SmallAllocator + Copy> Position<A> {
     /// The text of the position: its sizes, rising, joined by single spaces, or `0` where it has no
     /// heap.
     pub fn text(&self) -> Result<String<A>, Memory>

@@ -66,10 +66,10 @@ PresentsTable relations text false = RefusesTable relations text
 
 -- The presentation is no list of relations, which the text says, or the text is their table, or
 -- says why there is none.
-pub data Presents (presentation text : List ℕ) (well : Bool) : Type 0 where
+pub data Presents (presentation text : List ℕ) (succeeds : Bool) : Type 0 where
   NoText : ((q : List Relation) → SpellsPresentation presentation q → ⊥)
-      → text ≡ codes "refused 1 Text\n" → well ≡ false
-      → Presents presentation text well
+      → text ≡ codes "refused 1 Text\n" → succeeds ≡ false
+      → Presents presentation text succeeds
   OfRelations : (relations : List Relation) → SpellsPresentation presentation relations
-      → PresentsTable relations text well
-      → Presents presentation text well
+      → PresentsTable relations text succeeds
+      → Presents presentation text succeeds

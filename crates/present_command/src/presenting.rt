@@ -13,7 +13,7 @@ const LIMIT: u32 = 65536;
 
 /// The line that says why there is no table.
 fn refuse(alloc: Global, line: &str) -> Result<Said, Stop<'static>>
-    ensures no { IfOk result (λ s. (s.text.items ≡ line.now) × (s.well ≡ false)) }
+    ensures no { IfOk result (λ s. (s.text.items ≡ line.now) × (s.succeeds ≡ false)) }
     ensures stops { IfErr result IsMemory }
 {
     let text = line.as_bytes().to_vec(alloc)?;
@@ -22,7 +22,7 @@ fn refuse(alloc: Global, line: &str) -> Result<Said, Stop<'static>>
 
 /// The monoid of the presentation.
 fn present_table(alloc: Global, presentation: &Presentation) -> Result<Said, Stop<'static>>
-    ensures presents { IfOk result (λ s. PresentsTable presentation.now s.text.items s.well) }
+    ensures presents { IfOk result (λ s. PresentsTable presentation.now s.text.items s.succeeds) }
     ensures stops { IfErr result IsMemory }
 {
     match table_of(alloc, presentation, LIMIT) {
@@ -36,7 +36,7 @@ fn present_table(alloc: Global, presentation: &Presentation) -> Result<Said, Sto
 
 /// The monoid that the text presents, or why there is none.
 pub fn present(alloc: Global, text: &str) -> Result<Said, Stop<'static>>
-    ensures presents { IfOk result (λ s. Presents text.now s.text.items s.well) }
+    ensures presents { IfOk result (λ s. Presents text.now s.text.items s.succeeds) }
     ensures stops { IfErr result IsMemory }
 {
     match Presentation::read(alloc, text.as_bytes()) {

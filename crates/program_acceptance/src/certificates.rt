@@ -305,5 +305,5 @@ pub fn folder_of(alloc: Global, name: &str, held: &str, failing: u64) -> Option<
 /// Whether this is said, and well unless it is a no or a refusal.
 pub fn is_said(said: &Said, text: &str) -> bool {
     let is_no = text.starts_with("no") || text.starts_with("refused");
-    said.text.as_slice() == text.as_bytes() && said.well != is_no
+    said.text.as_slice() == text.as_bytes() && said.succeeds != is_no
 }

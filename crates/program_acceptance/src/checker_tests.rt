@@ -1,12 +1,12 @@
 //! Refusals at positions of many heaps, and the largest certificates.
 use crate::cyclic::{cyclic, longest};
-use allocation::Room;
+use allocation::SmallAllocator;
 use checker::{Refusal, check};
 use std::alloc::Global;
 use verdict_texts::verdict_text;
 
 /// How many heaps the position has that a refusal hands out, or 0.
-fn heaps_of<A: Room>(refusal: &Refusal<A>) -> usize {
+fn heaps_of<A: SmallAllocator>(refusal: &Refusal<A>) -> usize {
     match refusal.failed() {
         Some((_, position)) => position.heaps().len(),
         None => 0,
@@ -15,7 +15,7 @@ fn heaps_of<A: Room>(refusal: &Refusal<A>) -> usize {
 
 /// The number of the verdict, 0 for a yes, and the order of a yes, or how many heaps the position
 /// has that a refusal hands out.
-fn checked<A: Room + Copy>(alloc: A, bytes: &[u8], limit: u32) -> (u8, usize) {
+fn checked<A: SmallAllocator + Copy>(alloc: A, bytes: &[u8], limit: u32) -> (u8, usize) {
     match check(alloc, bytes, limit) {
         Ok(certified) => (0, certified.cert().order() as usize),
         Err(refusal) => (refusal.number(), heaps_of(&refusal)),
@@ -23,7 +23,7 @@ fn checked<A: Room + Copy>(alloc: A, bytes: &[u8], limit: u32) -> (u8, usize) {
 }
 
 /// Whether the check says yes with an order of 6, or the number of the refusal.
-pub fn has_order_6<A: Room + Copy>(alloc: A, bytes: &[u8]) -> Result<bool, u8> {
+pub fn has_order_6<A: SmallAllocator + Copy>(alloc: A, bytes: &[u8]) -> Result<bool, u8> {
     let (number, order) = checked(alloc, bytes, 100);
     if number == 0 {
         Ok(order == 6)
@@ -34,7 +34,7 @@ pub fn has_order_6<A: Room + Copy>(alloc: A, bytes: &[u8]) -> Result<bool, u8> {
 
 /// Whether the check hands out a position of more heaps than lie in a position itself, or the
 /// number of another verdict.
-pub fn is_refuted<A: Room + Copy>(alloc: A, bytes: &[u8]) -> Result<bool, u8> {
+pub fn is_refuted<A: SmallAllocator + Copy>(alloc: A, bytes: &[u8]) -> Result<bool, u8> {
     let (number, heaps) = checked(alloc, bytes, 1000);
     if number == 7 {
         Ok(heaps > 8)

@@ -1,6 +1,6 @@
 //! A worked script of two clients at a desk, with each growth refused in turn.
 use crate::certificates::{OF_0_75, RIGHT_UP_TO_8};
-use allocation::Room;
+use allocation::SmallAllocator;
 use desk::{Client, Desk, Event, Reply};
 use desk_script::{Step, read_script};
 use player::{Answer, Outcome};
@@ -42,7 +42,7 @@ static REPLIES: [Said; 11] = [
     Said::Refused(21),
 ];
 
-fn told<A: Room>(reply: Reply<'_, A>) -> Said {
+fn told<A: SmallAllocator>(reply: Reply<'_, A>) -> Said {
     match reply {
         Reply::Opened(number) => Said::Opened(number),
         Reply::Going => Said::Going,
@@ -66,7 +66,7 @@ enum Kind {
 }
 
 /// The client of a step, and what it asks for.
-fn kind_of<A: Room>(step: &Step<'_, A>) -> (u8, Kind) {
+fn kind_of<A: SmallAllocator>(step: &Step<'_, A>) -> (u8, Kind) {
     match step {
         Step::Open { client, .. } => (*client, Kind::Open),
         Step::Work { client, .. } => (*client, Kind::Work),
@@ -77,7 +77,7 @@ fn kind_of<A: Room>(step: &Step<'_, A>) -> (u8, Kind) {
 }
 
 /// What the step asks of the desk, if there is memory for the bytes of the file.
-fn event_of<A: Room + Copy>(alloc: A, step: Step<'_, A>) -> Option<Event<A>> {
+fn event_of<A: SmallAllocator + Copy>(alloc: A, step: Step<'_, A>) -> Option<Event<A>> {
     match step {
         Step::Open { file, limit, .. } => {
             let text = if file == "c.mqc" {
@@ -96,7 +96,12 @@ fn event_of<A: Room + Copy>(alloc: A, step: Step<'_, A>) -> Option<Event<A>> {
 }
 
 /// What the client is told of the step.
-fn take<A: Room + Copy>(alloc: A, desk: &mut Desk<A>, client: u8, step: Step<'_, A>) -> Said {
+fn take<A: SmallAllocator + Copy>(
+    alloc: A,
+    desk: &mut Desk<A>,
+    client: u8,
+    step: Step<'_, A>,
+) -> Said {
     match (Client::new(client), event_of(alloc, step)) {
         (Some(client), Some(event)) => told(desk.step(client, event)),
         _ => Said::Other,

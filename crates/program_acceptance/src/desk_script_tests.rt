@@ -1,5 +1,5 @@
 //! Scripts that are read whole, and lines that aren't steps.
-use allocation::Room;
+use allocation::SmallAllocator;
 use desk_script::{ScriptFault, Step, read_script};
 use std::alloc::Global;
 
@@ -147,7 +147,7 @@ fn reads_scripts(rt: HostRuntime) {
 }
 
 /// Whether a script is read as six steps, or 9 for want of memory.
-pub fn has_six_steps<A: Room + Copy>(alloc: A) -> Result<bool, u8> {
+pub fn has_six_steps<A: SmallAllocator + Copy>(alloc: A) -> Result<bool, u8> {
     let script =
         b"drop 1 1\nask 1 1 1 2 3 4 5 6 7 8 9 10\nplay 1 1 1 2 3\ndrop 1 1\ndrop 1 1\ndrop 1 1\n";
     match read_script(alloc, script) {

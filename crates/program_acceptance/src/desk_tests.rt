@@ -1,6 +1,6 @@
 //! Two clients in turn, sixteen clients on one certificate, and want of memory at each growth.
 use crate::certificates::{OF_0_3, OF_0_33, OF_0_75, RIGHT_UP_TO_8};
-use allocation::Room;
+use allocation::SmallAllocator;
 use checker::check;
 use desk::{Client, Desk, Event, Reply};
 use ration::Ration;
@@ -18,7 +18,7 @@ enum Said {
     Nothing,
 }
 
-fn told<A: Room>(reply: Reply<'_, A>) -> Said {
+fn told<A: SmallAllocator>(reply: Reply<'_, A>) -> Said {
     match reply {
         Reply::Opened(number) => Said::Opened(number),
         Reply::Going => Said::Going,
@@ -30,7 +30,7 @@ fn told<A: Room>(reply: Reply<'_, A>) -> Said {
 }
 
 /// What the client is told at an event.
-fn take<A: Room + Copy>(desk: &mut Desk<A>, client: u8, event: Event<A>) -> Said {
+fn take<A: SmallAllocator + Copy>(desk: &mut Desk<A>, client: u8, event: Event<A>) -> Said {
     match Client::new(client) {
         Some(client) => told(desk.step(client, event)),
         None => Said::Nothing,
@@ -38,7 +38,7 @@ fn take<A: Room + Copy>(desk: &mut Desk<A>, client: u8, event: Event<A>) -> Said
 }
 
 /// A job of the client works.
-fn work<A: Room + Copy>(desk: &mut Desk<A>, client: u8, job: u8, units: u64) -> Said {
+fn work<A: SmallAllocator + Copy>(desk: &mut Desk<A>, client: u8, job: u8, units: u64) -> Said {
     take(desk, client, Event::Work(job, units))
 }
 
@@ -46,7 +46,7 @@ fn work<A: Room + Copy>(desk: &mut Desk<A>, client: u8, job: u8, units: u64) -> 
 type Claim = (&'static str, u32);
 
 /// The client opens a job, with memory of its own for the bytes.
-fn open<A: Room + Copy>(alloc: A, desk: &mut Desk<A>, client: u8, claim: Claim) -> Said {
+fn open<A: SmallAllocator + Copy>(alloc: A, desk: &mut Desk<A>, client: u8, claim: Claim) -> Said {
     match claim.0.as_bytes().to_vec(alloc) {
         Ok(bytes) => take(desk, client, Event::Open(bytes, claim.1)),
         Err(_) => Said::Nothing,
@@ -67,7 +67,7 @@ fn fills(alloc: Global, desk: &mut Desk, client: u8, claim: Claim, from: u8) -> 
 type End = (u64, Said);
 
 /// The first job of the client works once more, unless it has ended.
-fn work_on<A: Room + Copy>(desk: &mut Desk<A>, client: u8, units: u64, end: End) -> End {
+fn work_on<A: SmallAllocator + Copy>(desk: &mut Desk<A>, client: u8, units: u64, end: End) -> End {
     if end.1 == Said::Going {
         (end.0.saturating_add(1), work(desk, client, 1, units))
     } else {
@@ -76,7 +76,11 @@ fn work_on<A: Room + Copy>(desk: &mut Desk<A>, client: u8, units: u64, end: End)
 }
 
 /// The first jobs of the clients 1 and 2 work in turn, each by its units, to their ends.
-fn in_turn<A: Room + Copy>(desk: &mut Desk<A>, units: u64, units_of_two: u64) -> (End, End) {
+fn in_turn<A: SmallAllocator + Copy>(
+    desk: &mut Desk<A>,
+    units: u64,
+    units_of_two: u64,
+) -> (End, End) {
     let mut one = (0, Said::Going);
     let mut two = (0, Said::Going);
     for _ in 1..50000u64 {
@@ -272,7 +276,7 @@ fn works_different_checks_to_their_verdicts(rt: HostRuntime) {
 const SMALL: Claim = (OF_0_33, 1000);
 
 /// Whether each other client is told yes.
-fn others_go_on<A: Room + Copy>(alloc: A, desk: &mut Desk<A>) -> bool {
+fn others_go_on<A: SmallAllocator + Copy>(alloc: A, desk: &mut Desk<A>) -> bool {
     for client in 2..=16u8 {
         if open(alloc, desk, client, SMALL) != Said::Opened(1)
             || work(desk, client, 1, u64::MAX) != Said::Yes

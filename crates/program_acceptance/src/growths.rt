@@ -2,7 +2,7 @@
 use crate::certificates::OF_0_33;
 use crate::cyclic::cyclic;
 use crate::{checker_tests, desk_script_tests, verdicts_tests};
-use allocation::Room;
+use allocation::SmallAllocator;
 use ration::Ration;
 use std::alloc::Global;
 
@@ -19,7 +19,7 @@ enum Job<'a> {
 }
 
 /// Whether the job ends right, or the number of its fault. A sink takes from `ample`.
-fn answer<A: Room + Copy>(alloc: A, ample: Global, job: Job<'_>) -> Result<bool, u8> {
+fn answer<A: SmallAllocator + Copy>(alloc: A, ample: Global, job: Job<'_>) -> Result<bool, u8> {
     match job {
         Job::Yes => checker_tests::has_order_6(alloc, OF_0_33.as_bytes()),
         Job::Refuted(bytes) => checker_tests::is_refuted(alloc, bytes),

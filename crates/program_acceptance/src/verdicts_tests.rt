@@ -1,7 +1,7 @@
 //! Checks from stream to stream: byte by byte, with devices that fail at one call, and of damaged
 //! texts.
 use crate::certificates::{OF_0_3, OF_0_33, OF_0_75};
-use allocation::Room;
+use allocation::SmallAllocator;
 use checker::Checker;
 use devices::{FailingSink, FailingSource, SlowSink, SlowSource};
 use std::alloc::Global;
@@ -39,7 +39,12 @@ fn end_of(checked: Result<bool, StreamFault>, bytes: &[u8], text: &[u8]) -> End 
 
 /// The end of the check of what a source gives, where the text is to be written. The sink takes from
 /// `ample`.
-fn ended<A: Room + Copy, S: Source>(alloc: A, ample: Global, source: &mut S, text: &[u8]) -> End {
+fn ended<A: SmallAllocator + Copy, S: Source>(
+    alloc: A,
+    ample: Global,
+    source: &mut S,
+    text: &[u8],
+) -> End {
     let mut sink = MemorySink::new(ample);
     let checked = check_stream(&Checker, alloc, source, &mut sink, 1000);
     end_of(checked, sink.bytes(), text)
@@ -94,7 +99,7 @@ fn fails_where_a_device_does(rt: HostRuntime) {
 
 /// Whether a check says yes, or 9 where it wants memory and nothing was written. The sink takes from
 /// `ample`.
-pub fn is_checked<A: Room + Copy>(alloc: A, ample: Global) -> Result<bool, u8> {
+pub fn is_checked<A: SmallAllocator + Copy>(alloc: A, ample: Global) -> Result<bool, u8> {
     let mut source = MemorySource::new(OF_0_33.as_bytes());
     match ended(alloc, ample, &mut source, VERDICT) {
         (Said::Yes, count) => Ok(count == Some(34)),

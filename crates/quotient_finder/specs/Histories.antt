@@ -3,15 +3,15 @@ use Rattle.std.specs.Prelude.{◌≡◌, ℕ, refl, List, [], ◌∷◌, ◌⊎�
 use mathlib.Core.Logic.{inl, inr}
 use Rattle.std.specs.Coded.{Coded, code_by, coded×, coded⊎, coded_ℕ, coded_list}
 use Rattle.misere_theory.specs.Certificates.{Certificate}
-use Rattle.answers.specs.Answers.{Answer}
-use Rattle.answers.specs.Answers.Answer.{Yes, Text, Law, Word, Order, Period, Apart, Outcome, Limit, Memory}
+use Rattle.answers.specs.ByteVerdicts.{ByteVerdict}
+use Rattle.answers.specs.ByteVerdicts.ByteVerdict.{Yes, Text, Law, Word, Order, Period, Apart, Outcome, Limit, Memory}
 
 -- It was asked, and gave this draft, or none, or memory was wanting; or it was told this refusal.
 pub data Event : Type 0 where
   Gave : List ℕ → Event
   Silent : Event
   Wanting : Event
-  Told : Answer → Event
+  Told : ByteVerdict → Event
 
 -- all that was said to a proposer, the latest first
 abbrev pub Events : Type 0
@@ -49,7 +49,7 @@ coded_certificate =
 abbrev AnswerSum : Type 0
 AnswerSum = (Certificate ⊎ (Numbers × Numbers)) ⊎ ℕ
 
-abbrev sum_of_answer : Answer → AnswerSum
+abbrev sum_of_answer : ByteVerdict → AnswerSum
 sum_of_answer (Yes c) = inl (inl c)
 sum_of_answer (Outcome code X) = inl (inr (code, X))
 sum_of_answer Text = inr 0
@@ -61,15 +61,15 @@ sum_of_answer Apart = inr 5
 sum_of_answer Limit = inr 6
 sum_of_answer Memory = inr 7
 
-abbrev numbered : ℕ → Answer
+abbrev numbered : ℕ → ByteVerdict
 numbered n = slice_index_or (Text ∷ Law ∷ Word ∷ Order ∷ Period ∷ Apart ∷ Limit ∷ []) n Memory
 
-abbrev answer_of_sum : AnswerSum → Answer
+abbrev answer_of_sum : AnswerSum → ByteVerdict
 answer_of_sum (inl (inl c)) = Yes c
 answer_of_sum (inl (inr o)) = Outcome o.0 o.1
 answer_of_sum (inr n) = numbered n
 
-pub answer_back : (a : Answer) → answer_of_sum (sum_of_answer a) ≡ a
+pub answer_back : (a : ByteVerdict) → answer_of_sum (sum_of_answer a) ≡ a
 answer_back (Yes c) = refl
 answer_back (Outcome code X) = refl
 answer_back Text = refl
@@ -81,13 +81,13 @@ answer_back Apart = refl
 answer_back Limit = refl
 answer_back Memory = refl
 
-abbrev coded_answer : Coded Answer
+abbrev coded_answer : Coded ByteVerdict
 coded_answer =
     code_by AnswerSum (coded⊎ (coded⊎ coded_certificate (coded× coded_numbers coded_numbers)) coded_ℕ) sum_of_answer
     answer_of_sum answer_back
 
 abbrev EventSum : Type 0
-EventSum = (Numbers ⊎ Answer) ⊎ ℕ
+EventSum = (Numbers ⊎ ByteVerdict) ⊎ ℕ
 
 abbrev sum_of_event : Event → EventSum
 sum_of_event (Gave draft) = inl (inl draft)

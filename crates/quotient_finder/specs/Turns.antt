@@ -1,7 +1,7 @@
 -- What a search says to its proposers, and when. This project's own.
 use Rattle.std.specs.Prelude.{◌≡◌, ◌≢◌, ◌⊎◌, ℕ, List, ◌∷◌, Option, Some, None, Result, Ok, Err}
 use Rattle.misere_theory.specs.Certificates.{Certificate, kind_of}
-use Rattle.answers.specs.Answers.Answer.{Yes}
+use Rattle.answers.specs.ByteVerdicts.ByteVerdict.{Yes}
 use Rattle.checker.specs.Turns.{verdict}
 use Rattle.quotient_finder.specs.Histories.{Event, Events}
 use Rattle.quotient_finder.specs.Histories.Event.{Gave, Silent, Wanting, Told}

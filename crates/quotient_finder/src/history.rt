@@ -1,7 +1,7 @@
 //! What was said between a search and a proposer.
 ghost use Rattle.std.specs.Prelude.{◌≡◌, [], ◌∷◌};
 ghost use Rattle.std.specs.Borrow.{ftrue};
-ghost use Rattle.answers.specs.Answers.{refused};
+ghost use Rattle.answers.specs.ByteVerdicts.{refused};
 ghost use Rattle.quotient_finder.specs.Histories.{Events, coded_events};
 ghost use Rattle.quotient_finder.specs.Histories.Event.{Gave, Silent, Wanting, Told};
 ghost use Rattle.quotient_finder.specs.Turns.{given};

@@ -1,6 +1,6 @@
 //! Where drafts come from.
 ghost use Rattle.std.specs.Prelude.{◌≡◌, ◌∷◌};
-ghost use Rattle.answers.specs.Answers.{refused};
+ghost use Rattle.answers.specs.ByteVerdicts.{refused};
 ghost use Rattle.quotient_finder.specs.Histories.{Events};
 ghost use Rattle.quotient_finder.specs.Histories.Event.{Told};
 ghost use Rattle.quotient_finder.specs.Turns.{given};

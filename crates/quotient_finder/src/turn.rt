@@ -1,6 +1,6 @@
 //! One turn of one proposer.
 ghost use Rattle.std.specs.Prelude.{◌≡◌, ◌∷◌, IfOk, IfErr};
-ghost use Rattle.answers.specs.Answers.{refused};
+ghost use Rattle.answers.specs.ByteVerdicts.{refused};
 ghost use Rattle.quotient_finder.specs.Finding.{FindsOnly};
 ghost use Rattle.quotient_finder.specs.Histories.Event.{Told};
 ghost use Rattle.quotient_finder.specs.Turns.{HasReplied, HasWanted, IsJudged, IsLost, Sifts};

@@ -111,7 +111,7 @@ impl<A: Allocator> Quotient<A> {
 
     /// Whether an element is in the portion.
     #[inline]
-    pub fn is_lost(&self, x: usize) -> bool {
+    pub fn is_in_portion(&self, x: usize) -> bool {
         word(&self.rows, x.wrapping_mul(self.words)) & 1 == 1
     }
 

@@ -69,10 +69,10 @@ fn prints(
     folder: &mut MemoryFolder,
     file: &str,
     task: CatalogueTask<'_>,
-    well: bool,
+    succeeds: bool,
     text: &str,
 ) -> bool {
-    prints_under(alloc, LIMIT, folder, file, task, well, text)
+    prints_under(alloc, LIMIT, folder, file, task, succeeds, text)
 }
 
 /// The same where checks are made under this limit.
@@ -82,11 +82,11 @@ fn prints_under(
     folder: &mut MemoryFolder,
     file: &str,
     task: CatalogueTask<'_>,
-    well: bool,
+    succeeds: bool,
     text: &str,
 ) -> bool {
     match act(alloc, folder, file, task, limit) {
-        Ok(said) => is_said(&said, well, text),
+        Ok(said) => is_said(&said, succeeds, text),
         Err(_) => false,
     }
 }
@@ -104,15 +104,22 @@ impl Row for Listed {
 }
 
 /// Whether the list of the folder's file is this.
-fn lists(alloc: Global, folder: &mut MemoryFolder, well: bool, printed: &str) -> bool {
-    prints(alloc, folder, "x.json", CatalogueTask::Print, well, printed)
+fn lists(alloc: Global, folder: &mut MemoryFolder, succeeds: bool, printed: &str) -> bool {
+    prints(
+        alloc,
+        folder,
+        "x.json",
+        CatalogueTask::Print,
+        succeeds,
+        printed,
+    )
 }
 
 /// Whether the list of this text is this, and the file stays.
-fn is_listed(alloc: Global, text: &str, well: bool, printed: &str) -> bool {
+fn is_listed(alloc: Global, text: &str, succeeds: bool, printed: &str) -> bool {
     match folder_of_file(alloc, text) {
         Some(mut folder) => {
-            lists(alloc, &mut folder, well, printed) && holds(&folder, "x.json", text)
+            lists(alloc, &mut folder, succeeds, printed) && holds(&folder, "x.json", text)
         }
         None => false,
     }
@@ -282,13 +289,13 @@ static DAMAGES: [Salvaged; 3] = [
 
 /// Whether the file of the folder is salvaged so.
 fn salvages(alloc: Global, folder: &mut MemoryFolder, text: &str, row: &Salvaged) -> bool {
-    let Salvaged(_, well, printed, stays, is_well, lines) = *row;
+    let Salvaged(_, succeeds, printed, stays, is_well, lines) = *row;
     prints(
         alloc,
         folder,
         "x.json",
         CatalogueTask::Salvage,
-        well,
+        succeeds,
         printed,
     ) && holds(folder, "x.json", text) == stays
         && lists(alloc, folder, is_well, lines)

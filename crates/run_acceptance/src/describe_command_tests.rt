@@ -18,12 +18,12 @@ fn describes(
     alloc: Global,
     folder: &mut MemoryFolder,
     asked: &Asked,
-    well: bool,
+    succeeds: bool,
     text: &str,
 ) -> bool {
     let Asked(_, limit, form, output) = *asked;
     match describe(alloc, "a.mqc", limit, form, output, folder) {
-        Ok(said) => is_said(&said, well, text),
+        Ok(said) => is_said(&said, succeeds, text),
         Err(_) => false,
     }
 }
@@ -34,9 +34,9 @@ struct Described(Asked, bool, &'static str);
 
 impl Row for Described {
     fn holds(&self, alloc: Global) -> bool {
-        let Described(asked, well, text) = self;
+        let Described(asked, succeeds, text) = self;
         match folder_with(alloc, &[], "a.mqc", asked.0, 2) {
-            Ok(mut folder) => describes(alloc, &mut folder, asked, *well, text),
+            Ok(mut folder) => describes(alloc, &mut folder, asked, *succeeds, text),
             Err(_) => false,
         }
     }

@@ -5,9 +5,9 @@ use present_command::present;
 use std::alloc::Global;
 
 /// Whether this is said of a presentation.
-fn is_presented(alloc: Global, presentation: &str, well: bool, text: &str) -> bool {
+fn is_presented(alloc: Global, presentation: &str, succeeds: bool, text: &str) -> bool {
     match present(alloc, presentation) {
-        Ok(said) => is_said(&said, well, text),
+        Ok(said) => is_said(&said, succeeds, text),
         Err(_) => false,
     }
 }

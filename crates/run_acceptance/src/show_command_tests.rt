@@ -11,9 +11,9 @@ use std::alloc::Global;
 const LIMIT: u32 = 100000;
 
 /// Whether this is said of the file a.mqc.
-fn shows(alloc: Global, folder: &mut MemoryFolder, limit: u32, well: bool, text: &str) -> bool {
+fn shows(alloc: Global, folder: &mut MemoryFolder, limit: u32, succeeds: bool, text: &str) -> bool {
     match show(alloc, "a.mqc", limit, folder) {
-        Ok(said) => is_said(&said, well, text),
+        Ok(said) => is_said(&said, succeeds, text),
         Err(_) => false,
     }
 }
@@ -24,9 +24,9 @@ struct Shown(&'static str, u32, bool, &'static str);
 
 impl Row for Shown {
     fn holds(&self, alloc: Global) -> bool {
-        let Shown(held, limit, well, text) = *self;
+        let Shown(held, limit, succeeds, text) = *self;
         match folder_with(alloc, &[], "a.mqc", held, 2) {
-            Ok(mut folder) => shows(alloc, &mut folder, limit, well, text),
+            Ok(mut folder) => shows(alloc, &mut folder, limit, succeeds, text),
             Err(_) => false,
         }
     }
@@ -68,7 +68,7 @@ fn shows_from_to(alloc: Global, held: &str, beginning: &str, end: &str) -> bool 
     match folder_with(alloc, &[], "a.mqc", held, 2) {
         Ok(mut folder) => match show(alloc, "a.mqc", LIMIT, &mut folder) {
             Ok(said) => {
-                said.well
+                said.succeeds
                     && said.text.as_slice().starts_with(beginning.as_bytes())
                     && said.text.as_slice().ends_with(end.as_bytes())
             }

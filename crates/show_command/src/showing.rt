@@ -116,7 +116,7 @@ fn quotient_text(alloc: Global, certified: &Certified) -> Result<String, Memory>
 
 /// What is said of what was found.
 fn shown(alloc: Global, quotient: Result<Certified, Vec<u8>>) -> Result<Said, Memory>
-    ensures { IfOk result (λ s. ShowsFound quotient s.text.items s.well) }
+    ensures { IfOk result (λ s. ShowsFound quotient s.text.items s.succeeds) }
 {
     match quotient {
         Ok(certified) => Ok(Said::done(quotient_text(alloc, &certified)?)),
@@ -134,7 +134,7 @@ pub fn show<'a, F: Folder>(
     folder: &mut F,
 ) -> Result<Said, Stop<'a>>
     ensures shows { IfOk result
-        (λ s. Shows (F.files folder.old) file.entry.now limit s.text.items s.well) }
+        (λ s. Shows (F.files folder.old) file.entry.now limit s.text.items s.succeeds) }
     ensures kept { F.files folder.new ≡ F.files folder.old }
     ensures stops { IfErr result
         (IsFileCause file.entry.now (F.failed_reads folder.old) (F.failed_reads folder.new)) }

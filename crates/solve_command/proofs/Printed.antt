@@ -11,7 +11,7 @@ use Rattle.quotient_finder.specs.declared.gave_up.GaveUp.{GaveUp}
 use Rattle.quotient_finder.specs.declared.gave_up.GaveUp.TheVariants.{Rounds, Empty, Memory}
 use Rattle.solve_command.specs.declared.bounds.SolveBounds.{SolveBounds}
 use Rattle.solve_command.specs.declared.stop.SolveStop.{SolveStop}
-use Rattle.solve_command.specs.Solved.{Finds, HasAsked, IsAskedFor, IsSearched, IsSpent, PrintsSpelling, Solves, Tells, rounds_lines}
+use Rattle.solve_command.specs.Solved.{Finds, HasAsked, IsAskedFor, IsSearched, IsSpent, PrintsSpelling, Solves, IsGivingUpText, rounds_lines}
 
 pub solved : (text code : List ℕ) (bounds : SolveBounds) (before after : Option (List ℕ))
     (r : Result Bool SolveStop)
@@ -44,7 +44,7 @@ rounds code bounds before after (Err stop) line e s p = tt
 pub empty : (code : List ℕ) (bounds : SolveBounds) (before after : Option (List ℕ))
     (r : Result Bool SolveStop) (line text : List ℕ)
     → line ≡ text → bounds.rounds ≢ 0 → IsSearched code bounds (Err Empty)
-    → Tells bounds.tells_why text
+    → IsGivingUpText bounds.tells_why text
     → IfOk r (λ found. (found ≡ false) × Appends before after line)
     → IfOk r (Finds code bounds before after)
 empty code bounds before after (Ok false) line text e some s told p =

@@ -86,13 +86,13 @@ reason_line Members = codes "members\n"
 reason_line Refused = codes "refused\n"
 
 -- it is the line of some reason
-abbrev pub TellsReason : List ℕ → Type 0
-TellsReason line = (reason : Reason) × (line ≡ reason_line reason)
+abbrev pub IsReasonLine : List ℕ → Type 0
+IsReasonLine line = (reason : Reason) × (line ≡ reason_line reason)
 
 -- what is told where no proposer has a draft left, with the reason or without
-abbrev pub Tells : Bool → List ℕ → Type 0
-Tells true text = (line : List ℕ) × TellsReason line × (text ≡ codes "gave up 2 Empty\n" ++ line)
-Tells false text = text ≡ codes "gave up 2 Empty\n"
+abbrev pub IsGivingUpText : Bool → List ℕ → Type 0
+IsGivingUpText true text = (line : List ℕ) × IsReasonLine line × (text ≡ codes "gave up 2 Empty\n" ++ line)
+IsGivingUpText false text = text ≡ codes "gave up 2 Empty\n"
 
 -- what is told where all rounds were spent
 abbrev pub rounds_lines : Bool → List ℕ
@@ -105,7 +105,7 @@ abbrev pub PrintsGivingUp : List ℕ → SolveBounds → Option (List ℕ) → O
 PrintsGivingUp code bounds before after =
     (IsSpent code bounds × Appends before after (rounds_lines bounds.tells_why))
     ⊎ ((bounds.rounds ≢ 0) × IsSearched code bounds (Err Empty)
-    × ((text : List ℕ) × Tells bounds.tells_why text × Appends before after text))
+    × ((text : List ℕ) × IsGivingUpText bounds.tells_why text × Appends before after text))
 
 -- what is printed for a code, and whether a certificate was found
 abbrev pub Finds : List ℕ → SolveBounds → Option (List ℕ) → Option (List ℕ) → Bool → Type 0

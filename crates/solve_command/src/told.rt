@@ -1,6 +1,6 @@
 //! What is told of a search that was given up.
 ghost use Rattle.std.specs.Prelude.{◌≡◌, IfOk, false, string_bytes, true};
-ghost use Rattle.solve_command.specs.Solved.{Tells, TellsReason, reason_line};
+ghost use Rattle.solve_command.specs.Solved.{IsGivingUpText, IsReasonLine, reason_line};
 
 use crate::bounds::SolveBounds;
 use crate::search::last_of_furthest;
@@ -43,7 +43,7 @@ fn sought_of(alloc: Global, code: &Code, bounds: SolveBounds) -> Result<Sought, 
 
 /// The line that says why no proposer had a draft that was accepted.
 fn why_text(alloc: Global, code: &Code, bounds: SolveBounds) -> Result<String, Memory>
-    ensures { IfOk result (λ t. TellsReason (string_bytes t)) }
+    ensures { IfOk result (λ t. IsReasonLine (string_bytes t)) }
 {
     let sought = sought_of(alloc, code, bounds)?;
     let reason = find_reason(alloc, code, sought)?;
@@ -52,7 +52,7 @@ fn why_text(alloc: Global, code: &Code, bounds: SolveBounds) -> Result<String, M
 
 /// What is told where no proposer has a draft left, with the line of a reason.
 fn text_with(alloc: Global, line: &str) -> Result<String, Memory>
-    ensures { TellsReason line.now → IfOk result (λ t. Tells true (string_bytes t)) }
+    ensures { IsReasonLine line.now → IfOk result (λ t. IsGivingUpText true (string_bytes t)) }
 {
     let text = format!(in alloc; "gave up 2 Empty\n{line}")?;
     Ok(text)
@@ -60,7 +60,7 @@ fn text_with(alloc: Global, line: &str) -> Result<String, Memory>
 
 /// The same with the reason.
 fn text_with_reason(alloc: Global, code: &Code, bounds: SolveBounds) -> Result<String, Memory>
-    ensures { IfOk result (λ t. Tells true (string_bytes t)) }
+    ensures { IfOk result (λ t. IsGivingUpText true (string_bytes t)) }
 {
     let line = why_text(alloc, code, bounds)?;
     text_with(alloc, line.as_str())
@@ -68,7 +68,7 @@ fn text_with_reason(alloc: Global, code: &Code, bounds: SolveBounds) -> Result<S
 
 /// The same without one.
 fn text_alone(alloc: Global) -> Result<String, Memory>
-    ensures { IfOk result (λ t. Tells false (string_bytes t)) }
+    ensures { IfOk result (λ t. IsGivingUpText false (string_bytes t)) }
 {
     let text = format!(in alloc; "gave up 2 Empty\n")?;
     Ok(text)
@@ -76,7 +76,7 @@ fn text_alone(alloc: Global) -> Result<String, Memory>
 
 /// What is told where no proposer has a draft left, with the reason where it is asked for.
 pub(crate) fn empty_text(alloc: Global, code: &Code, bounds: SolveBounds) -> Result<String, Memory>
-    ensures { IfOk result (λ t. Tells bounds.tells_why (string_bytes t)) }
+    ensures { IfOk result (λ t. IsGivingUpText bounds.tells_why (string_bytes t)) }
 {
     if bounds.tells_why {
         text_with_reason(alloc, code, bounds)

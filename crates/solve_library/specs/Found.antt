@@ -4,7 +4,7 @@ use Rattle.misere_theory.specs.declared.TheConstants.{MOST_ENTRIES}
 use Rattle.misere_theory.specs.Certificates.{Certificate, Accepted, kind_of}
 use Rattle.octal_code.specs.Text.{IsCodeText}
 use Rattle.certificate_text.specs.Spelling.{Spells}
-use Rattle.answers.specs.Answers.Answer.{Yes}
+use Rattle.answers.specs.ByteVerdicts.ByteVerdict.{Yes}
 use Rattle.checker.specs.Turns.{verdict}
 use Rattle.descriptions.specs.Described.{IsDescription, IsPresentable}
 use Rattle.relations.specs.declared.text.Notation.TheVariants.{Plain, Latex}

@@ -53,13 +53,13 @@ values_of_triples table phi whole =
     with_left table phi set.empty (triples whole (largest_part phi) 1)
 
 -- set number m has the values of the triples of the heap m
-abbrev pub AreTriples : Grid → Pretending → List (set.FinSet nat_cmp) → Type 0
-AreTriples table phi sets = (m : ℕ) → m < length sets
+abbrev pub AreTripleValues : Grid → Pretending → List (set.FinSet nat_cmp) → Type 0
+AreTripleValues table phi sets = (m : ℕ) → m < length sets
     → slice_index_or sets m set.empty ≡ values_of_triples table phi m
 
 -- set number m has the values of the splits of the heap m
-abbrev pub AreWholes : Grid → Pretending → List (set.FinSet nat_cmp) → Type 0
-AreWholes table phi sets = (m : ℕ) → m < length sets
+abbrev pub AreSplitValues : Grid → Pretending → List (set.FinSet nat_cmp) → Type 0
+AreSplitValues table phi sets = (m : ℕ) → m < length sets
     → slice_index_or sets m set.empty ≡ values_of_splits table phi m
 
 -- the option that leaves one heap at most was tried

@@ -6,8 +6,8 @@ ghost use Rattle.transition_algebra.specs.Work.{IsDone, worked, heap_cost, turns
 
 use crate::pair::Pair;
 use crate::phi::{Phi, is_pretending};
+use crate::split_values::SplitValues;
 use crate::trial::Trial;
-use crate::wholes::Wholes;
 use allocation::Memory;
 use monoid_table::{Table, is_monoid};
 use octal_code::Code;
@@ -23,7 +23,7 @@ pub struct HeapJob<A: Allocator = Global> {
     phi: Phi<A>,
     trial: Trial,
     pairs: Vec<Pair, A>,
-    wholes: Wholes<A>,
+    split_values: SplitValues<A>,
     refused: bool,
 }
 
@@ -41,12 +41,12 @@ impl<A: Allocator> Model for HeapJob<A> {
     } };
 
     ghost use Rattle.transition_algebra.specs.Heaps.{IsInto};
-    ghost use Rattle.transition_algebra.specs.Trials.{IsTrial, AreWholes, AreTriples};
+    ghost use Rattle.transition_algebra.specs.Trials.{IsTrial, AreSplitValues, AreTripleValues};
 
     ghost invariant = { λ j. IsInto j.table j.phi
         × IsTrial j.code j.table j.phi j.trial j.pairs.items
-        × AreWholes j.table j.phi j.wholes.sets.items
-        × AreTriples j.table j.phi j.wholes.triples.items };
+        × AreSplitValues j.table j.phi j.split_values.splits.items
+        × AreTripleValues j.table j.phi j.split_values.triples.items };
 }
 
 impl<A: Allocator + Copy> HeapJob<A> {
@@ -63,7 +63,7 @@ impl<A: Allocator + Copy> HeapJob<A> {
             phi,
             trial,
             pairs: Vec::new(alloc),
-            wholes: Wholes::new(alloc),
+            split_values: SplitValues::new(alloc),
             refused: false,
         }
     }
@@ -111,7 +111,7 @@ impl<A: Allocator> HeapJob<A> {
             &self.table,
             &self.phi,
             &mut self.pairs,
-            &mut self.wholes,
+            &mut self.split_values,
             units,
         );
         self.refused = made.is_err();
@@ -144,7 +144,7 @@ impl<A: Allocator> HeapJob<A> {
             &self.table,
             &self.phi,
             &mut self.pairs,
-            &mut self.wholes,
+            &mut self.split_values,
             most,
         );
         self.refused = tried.is_err();

@@ -9,8 +9,8 @@ ghost use Rattle.transition_algebra.specs.Heaps.{IsInto, AreAllHeapPairs, all_he
 
 use crate::pair::Pair;
 use crate::phi::{Phi, is_pretending};
+use crate::split_values::SplitValues;
 use crate::trial::Trial;
-use crate::wholes::Wholes;
 use allocation::Memory;
 use heap_options::Left;
 use monoid_table::{Table, is_monoid};
@@ -86,7 +86,7 @@ pub fn heap_pairs<A: Allocator + Copy>(
     is_code(code);
     let mut trial = Trial::new(code, phi);
     let mut pairs = Vec::new(alloc);
-    let mut wholes = Wholes::new(alloc);
-    trial.work(code, table, phi, &mut pairs, &mut wholes, u64::MAX)?;
+    let mut split_values = SplitValues::new(alloc);
+    trial.work(code, table, phi, &mut pairs, &mut split_values, u64::MAX)?;
     Ok(pairs)
 }

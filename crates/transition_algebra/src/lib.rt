@@ -9,8 +9,8 @@ mod heaps;
 mod laws;
 mod pair;
 mod phi;
+mod split_values;
 mod trial;
-mod wholes;
 
 pub use heap_job::HeapJob;
 pub use heaps::heap_pairs;

@@ -8,12 +8,12 @@ ghost use Rattle.heap_options.specs.Walks.{single_left, last_part, triples_to_tr
 ghost use Rattle.transition_algebra.specs.Pretending.{phi_at, HasElement};
 ghost use Rattle.transition_algebra.specs.Heaps.{IsInto, bound_of};
 ghost use Rattle.transition_algebra.specs.Work.{heap_cost};
-ghost use Rattle.transition_algebra.specs.Trials.{IsTrial, IsRun, AreWholes, AreTriples, HaveElements, after_single, after_splits, after_triples, after_row, after_all, after_all_triples, after_heap};
+ghost use Rattle.transition_algebra.specs.Trials.{IsTrial, IsRun, AreSplitValues, AreTripleValues, HaveElements, after_single, after_splits, after_triples, after_row, after_all, after_all_triples, after_heap};
 
 use crate::heaps::{bound_of, largest_part, left_value};
 use crate::pair::Pair;
 use crate::phi::{Phi, is_pretending};
-use crate::wholes::Wholes;
+use crate::split_values::SplitValues;
 use allocation::Memory;
 use element_sets::ElementSet;
 use heap_options::{Untried, Walk};
@@ -95,21 +95,21 @@ impl Trial {
         table: &Table<A>,
         phi: &Phi<A>,
         pairs: &[Pair],
-        wholes: &mut Wholes<A>,
+        split_values: &mut SplitValues<A>,
     ) -> Result<(), Memory>
-        requires kept { AreWholes table.now phi.now wholes.old.sets.items }
-        requires kept_triples { AreTriples table.now phi.now wholes.old.triples.items }
+        requires kept { AreSplitValues table.now phi.now split_values.old.splits.items }
+        requires kept_triples { AreTripleValues table.now phi.now split_values.old.triples.items }
         requires elements { HaveElements phi.now pairs.now }
         requires inside { All (λ p. p.value < table.now.order) pairs.now }
         requires within { self.old.walk.heap ≤ length pairs.now + 1 }
         requires digit { self.old.walk.away < length code.now }
-        ensures kept { AreWholes table.now phi.now wholes.new.sets.items }
-        ensures kept_triples { AreTriples table.now phi.now wholes.new.triples.items }
+        ensures kept { AreSplitValues table.now phi.now split_values.new.splits.items }
+        ensures kept_triples { AreTripleValues table.now phi.now split_values.new.triples.items }
         ensures trial { OnOk result (self.new ≡ after_all code.now table.now phi.now self.old) }
         ensures err { OnErr result (self.new ≡ self.old) }
     {
         if code.allows(self.walk.away, Leaving::TwoHeaps) {
-            let values = wholes.values(table, phi, pairs, self.walk.whole())?;
+            let values = split_values.values(table, phi, pairs, self.walk.whole())?;
             self.seen.union_with(&values);
         }
         self.walk.pass_last_split(code);
@@ -154,20 +154,20 @@ impl Trial {
         table: &Table<A>,
         phi: &Phi<A>,
         pairs: &[Pair],
-        wholes: &mut Wholes<A>,
+        split_values: &mut SplitValues<A>,
     ) -> Result<(), Memory>
-        requires kept { AreWholes table.now phi.now wholes.old.sets.items }
-        requires kept_triples { AreTriples table.now phi.now wholes.old.triples.items }
+        requires kept { AreSplitValues table.now phi.now split_values.old.splits.items }
+        requires kept_triples { AreTripleValues table.now phi.now split_values.old.triples.items }
         requires elements { HaveElements phi.now pairs.now }
         requires inside { All (λ p. p.value < table.now.order) pairs.now }
         requires within { self.old.walk.heap ≤ length pairs.now + 1 }
         requires digit { self.old.walk.away < length code.now }
-        ensures kept { AreWholes table.now phi.now wholes.new.sets.items }
-        ensures kept_triples { AreTriples table.now phi.now wholes.new.triples.items }
+        ensures kept { AreSplitValues table.now phi.now split_values.new.splits.items }
+        ensures kept_triples { AreTripleValues table.now phi.now split_values.new.triples.items }
         ensures trial { OnOk result (self.new ≡ after_all_triples table.now phi.now self.old) }
         ensures err { OnErr result (self.new ≡ self.old) }
     {
-        let values = wholes.triple_values(table, phi, pairs, self.walk.whole())?;
+        let values = split_values.triple_values(table, phi, pairs, self.walk.whole())?;
         self.seen.union_with(&values);
         self.walk.take_more(code);
         Ok(())
@@ -203,20 +203,20 @@ impl Trial {
         table: &Table<A>,
         phi: &Phi<A>,
         pairs: &mut Vec<Pair, A>,
-        wholes: &mut Wholes<A>,
+        split_values: &mut SplitValues<A>,
         units: u64,
     ) -> Result<u64, Memory>
         requires into { IsInto table.now phi.now }
         requires trial { IsTrial code.now table.now phi.now self.old pairs.old.items }
-        requires kept { AreWholes table.now phi.now wholes.old.sets.items }
-        requires kept_triples { AreTriples table.now phi.now wholes.old.triples.items }
+        requires kept { AreSplitValues table.now phi.now split_values.old.splits.items }
+        requires kept_triples { AreTripleValues table.now phi.now split_values.old.triples.items }
         requires going { self.old.walk.heap ≤ self.old.bound }
         requires some { 1 ≤ units }
         ensures ok { IfOk result
             (λ spent. IsRun code.now table.now phi.now self.old self.new pairs.new.items units
             spent) }
-        ensures kept { AreWholes table.now phi.now wholes.new.sets.items }
-        ensures kept_triples { AreTriples table.now phi.now wholes.new.triples.items }
+        ensures kept { AreSplitValues table.now phi.now split_values.new.splits.items }
+        ensures kept_triples { AreTripleValues table.now phi.now split_values.new.triples.items }
         ensures err { OnErr result (self.new ≡ self.old) }
         ensures err_pairs { OnErr result (pairs.new.items ≡ pairs.old.items) }
     {
@@ -232,7 +232,7 @@ impl Trial {
             Untried::Splits(part) => {
                 let spent = self.spend_splits(code, part, units);
                 if spent == 0 {
-                    self.take_splits(code, table, phi, pairs, wholes)?;
+                    self.take_splits(code, table, phi, pairs, split_values)?;
                 }
                 Ok(spent)
             }
@@ -244,7 +244,7 @@ impl Trial {
                 if first < self.walk.last_first() {
                     self.next_row(code, first);
                 } else {
-                    self.take_triples(code, table, phi, pairs, wholes)?;
+                    self.take_triples(code, table, phi, pairs, split_values)?;
                 }
                 Ok(0)
             }
@@ -258,16 +258,16 @@ impl Trial {
         table: &Table<A>,
         phi: &Phi<A>,
         pairs: &mut Vec<Pair, A>,
-        wholes: &mut Wholes<A>,
+        split_values: &mut SplitValues<A>,
         units: u64,
     ) -> Result<(), Memory>
         requires into { IsInto table.now phi.now }
         requires trial { IsTrial code.now table.now phi.now self.old pairs.old.items }
-        requires kept { AreWholes table.now phi.now wholes.old.sets.items }
-        requires kept_triples { AreTriples table.now phi.now wholes.old.triples.items }
+        requires kept { AreSplitValues table.now phi.now split_values.old.splits.items }
+        requires kept_triples { AreTripleValues table.now phi.now split_values.old.triples.items }
         ensures trial { IsTrial code.now table.now phi.now self.new pairs.new.items }
-        ensures kept { AreWholes table.now phi.now wholes.new.sets.items }
-        ensures kept_triples { AreTriples table.now phi.now wholes.new.triples.items }
+        ensures kept { AreSplitValues table.now phi.now split_values.new.splits.items }
+        ensures kept_triples { AreTripleValues table.now phi.now split_values.new.triples.items }
         ensures ok { OnOk result
             (self.new.spent ≡ min (self.old.spent + units) (heap_cost code.now phi.now)) }
         ensures err { OnErr result ((self.old.spent ≤ self.new.spent)
@@ -278,7 +278,7 @@ impl Trial {
         is_code(code);
         let mut left = units;
         while left > 0 && self.walk.heap <= self.bound {
-            left -= self.run(code, table, phi, pairs, wholes, left)?;
+            left -= self.run(code, table, phi, pairs, split_values, left)?;
         }
         Ok(())
     }
@@ -290,16 +290,16 @@ impl Trial {
         table: &Table<A>,
         phi: &Phi<A>,
         pairs: &mut Vec<Pair, A>,
-        wholes: &mut Wholes<A>,
+        split_values: &mut SplitValues<A>,
         units: u64,
     ) -> Result<(), Memory>
         requires into { IsInto table.now phi.now }
         requires trial { IsTrial code.now table.now phi.now self.old pairs.old.items }
-        requires kept { AreWholes table.now phi.now wholes.old.sets.items }
-        requires kept_triples { AreTriples table.now phi.now wholes.old.triples.items }
+        requires kept { AreSplitValues table.now phi.now split_values.old.splits.items }
+        requires kept_triples { AreTripleValues table.now phi.now split_values.old.triples.items }
         ensures trial { IsTrial code.now table.now phi.now self.new pairs.new.items }
-        ensures kept { AreWholes table.now phi.now wholes.new.sets.items }
-        ensures kept_triples { AreTriples table.now phi.now wholes.new.triples.items }
+        ensures kept { AreSplitValues table.now phi.now split_values.new.splits.items }
+        ensures kept_triples { AreTripleValues table.now phi.now split_values.new.triples.items }
         ensures spent { (self.old.spent ≤ self.new.spent)
             × (self.new.spent ≤ self.old.spent + units) }
         ensures going { self.old.spent < heap_cost code.now phi.now
@@ -311,7 +311,7 @@ impl Trial {
         is_code(code);
         let mut left = units;
         while left > 0 && self.walk.heap < self.bound {
-            left -= self.run(code, table, phi, pairs, wholes, left)?;
+            left -= self.run(code, table, phi, pairs, split_values, left)?;
         }
         Ok(())
     }

@@ -8,8 +8,8 @@ use Rattle.misere_theory.specs.Games.{IsP, IsN}
 use Rattle.misere_theory.specs.Plays.{MoreReachableThan}
 use Rattle.outcome_search.specs.Settled.{IsSettledBy}
 use Rattle.positions.specs.declared.outcome.Outcome.TheVariants.{P, N}
-use Rattle.answers.specs.Answers.{Answer, refused}
-use Rattle.answers.specs.Answers.Answer.{Yes, Text, Law, Word, Order, Period, Apart, Outcome, Limit, Memory}
+use Rattle.answers.specs.ByteVerdicts.{ByteVerdict, refused}
+use Rattle.answers.specs.ByteVerdicts.ByteVerdict.{Yes, Text, Law, Word, Order, Period, Apart, Outcome, Limit, Memory}
 use Rattle.answers.specs.declared.refusal.Refusal.{Refusal}
 
 -- yes, with the code, the order, the start and the period that were certified
@@ -36,7 +36,7 @@ no_line number name = codes "no " ++ decimal number ++ codes " " ++ name ++ code
 
 -- The first line of an answer's text: yes with what was certified, or no with the number and the
 -- name.
-abbrev pub first_line : Answer → List ℕ
+abbrev pub first_line : ByteVerdict → List ℕ
 first_line (Yes c) = yes_line c
 first_line Text = no_line 1 (codes "Text")
 first_line Law = no_line 2 (codes "Law")
@@ -60,7 +60,7 @@ pub data IsOutcomeLine (code X : List ℕ) : List ℕ → Type 0 where
       → IsOutcomeLine code X line
 
 -- The text of an answer. Want of memory has none.
-abbrev pub IsTextOf : Answer → List ℕ → Type 0
+abbrev pub IsTextOf : ByteVerdict → List ℕ → Type 0
 IsTextOf (Yes c) text = text ≡ yes_line c
 IsTextOf Text text = text ≡ no_line 1 (codes "Text")
 IsTextOf Law text = text ≡ no_line 2 (codes "Law")
@@ -75,7 +75,7 @@ IsTextOf (Outcome code X) text =
 IsTextOf Limit text = text ≡ no_line 8 (codes "Limit")
 IsTextOf Memory text = ⊥
 
-abbrev pub is_yes : Answer → Bool
+abbrev pub is_yes : ByteVerdict → Bool
 is_yes (Yes c) = true
 is_yes Text = false
 is_yes Law = false
@@ -88,6 +88,6 @@ is_yes Limit = false
 is_yes Memory = false
 
 -- the answer that a result is
-abbrev pub lent_answer : {A : Type 0} → Result (Bor Certificate) (Bor (Refusal A)) → Answer
+abbrev pub lent_answer : {A : Type 0} → Result (Bor Certificate) (Bor (Refusal A)) → ByteVerdict
 lent_answer (Ok c) = Yes c.now
 lent_answer (Err r) = refused r.now

@@ -4,8 +4,8 @@ use Rattle.std.specs.Io.KnownBytes.{Appends, Consumes}
 use Rattle.streams.specs.Stream.{AppendsSome}
 use Rattle.streams.specs.declared.fault.StreamFault.{StreamFault}
 use Rattle.streams.specs.declared.fault.StreamFault.TheVariants.{Read, Write, Memory}
-use Rattle.answers.specs.Answers.{Answer, IsTrueOf}
-use Rattle.answers.specs.Answers.Answer.{Text}
+use Rattle.answers.specs.ByteVerdicts.{ByteVerdict, IsTrueOf}
+use Rattle.answers.specs.ByteVerdicts.ByteVerdict.{Text}
 use Rattle.verdict_texts.specs.Lines.{IsTextOf, is_yes}
 
 -- these are the bytes, where they are known
@@ -25,15 +25,15 @@ abbrev pub ReadsEnough : Option (List ℕ) → Option (List ℕ) → Type 0
 ReadsEnough before after = (bytes : List ℕ) × Consumes before after bytes × (length bytes ≤ 4194305)
 
 -- The due answer to bytes under a limit is that of what checks them.
-module _ (due : List ℕ → ℕ → Answer) where
+module _ (due : List ℕ → ℕ → ByteVerdict) where
   -- The answer to a stream of these bytes: more than 4194304 are no certificate.
-  pub record IsStreamed (bytes : List ℕ) (limit : ℕ) (answer : Answer) : Type 0 where
+  pub record IsStreamed (bytes : List ℕ) (limit : ℕ) (answer : ByteVerdict) : Type 0 where
     pub long : 4194304 < length bytes → answer ≡ Text
     pub short : length bytes ≤ 4194304 → IsTrueOf bytes limit answer × (answer ≡ due bytes limit)
 
   -- The due answer to the bytes under this limit, which is true of them, and its text.
   pub record Answers (bytes : List ℕ) (limit : ℕ) : Type 0 where
-    pub answer : Answer
+    pub answer : ByteVerdict
     pub text : List ℕ
     pub true_of : IsTrueOf bytes limit answer
     pub decided : answer ≡ due bytes limit
@@ -43,7 +43,7 @@ module _ (due : List ℕ → ℕ → Answer) where
   pub record AnswersStream (left : Option (List ℕ)) (limit : ℕ) : Type 0 where
     pub bytes : List ℕ
     pub known : AreKnownAs left bytes
-    pub answer : Answer
+    pub answer : ByteVerdict
     pub text : List ℕ
     pub true_of : IsStreamed bytes limit answer
     pub told : IsTextOf answer text

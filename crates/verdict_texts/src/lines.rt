@@ -1,11 +1,11 @@
 //! The text of a verdict.
 ghost use Rattle.std.specs.Prelude.{◌≡◌, ◌++◌, IfOk, codes};
 ghost use Rattle.std.specs.String.{string_bytes};
-ghost use Rattle.answers.specs.Answers.{answer_of};
-ghost use Rattle.answers.specs.Answers.Answer.{Outcome as Refuted};
+ghost use Rattle.answers.specs.ByteVerdicts.{answer_of};
+ghost use Rattle.answers.specs.ByteVerdicts.ByteVerdict.{Outcome as Refuted};
 ghost use Rattle.verdict_texts.specs.Lines.{full_line, partial_line, yes_line, no_line, first_line, IsOutcomeLine, IsTextOf, is_yes, lent_answer};
 
-use allocation::{Memory, Room};
+use allocation::{Memory, SmallAllocator};
 use answers::{Certified, Refusal};
 use certificate::Cert;
 use octal_code::Code;
@@ -17,7 +17,7 @@ use std::alloc::{Allocator, Global};
 const BUDGET: u32 = 65536;
 
 /// The line of a yes for the whole game.
-fn full_text<A: Room + Copy>(alloc: A, cert: &Cert<A>) -> Result<String<A>, Memory>
+fn full_text<A: SmallAllocator + Copy>(alloc: A, cert: &Cert<A>) -> Result<String<A>, Memory>
     ensures { IfOk result (λ t. string_bytes t ≡ full_line cert.now) }
 {
     let code = cert.code().text(alloc)?;
@@ -27,7 +27,7 @@ fn full_text<A: Room + Copy>(alloc: A, cert: &Cert<A>) -> Result<String<A>, Memo
 }
 
 /// The line of a yes for the heaps of a partial certificate.
-fn partial_text<A: Room + Copy>(alloc: A, cert: &Cert<A>) -> Result<String<A>, Memory>
+fn partial_text<A: SmallAllocator + Copy>(alloc: A, cert: &Cert<A>) -> Result<String<A>, Memory>
     ensures { IfOk result (λ t. string_bytes t ≡ partial_line cert.now) }
 {
     let code = cert.code().text(alloc)?;
@@ -37,7 +37,7 @@ fn partial_text<A: Room + Copy>(alloc: A, cert: &Cert<A>) -> Result<String<A>, M
 }
 
 /// The line of a yes.
-fn yes_text<A: Room + Copy>(alloc: A, cert: &Cert<A>) -> Result<String<A>, Memory>
+fn yes_text<A: SmallAllocator + Copy>(alloc: A, cert: &Cert<A>) -> Result<String<A>, Memory>
     ensures { IfOk result (λ t. string_bytes t ≡ yes_line cert.now) }
 {
     if cert.heaps() == 0 {
@@ -48,7 +48,7 @@ fn yes_text<A: Room + Copy>(alloc: A, cert: &Cert<A>) -> Result<String<A>, Memor
 }
 
 /// The line of a no.
-fn no_text<A: Room + Copy>(alloc: A, number: u8, name: &str) -> Result<String<A>, Memory>
+fn no_text<A: SmallAllocator + Copy>(alloc: A, number: u8, name: &str) -> Result<String<A>, Memory>
     ensures { IfOk result (λ t. string_bytes t ≡ no_line number name.now) }
 {
     let text = format!(in alloc; "no {number} {name}\n")?;
@@ -56,7 +56,7 @@ fn no_text<A: Room + Copy>(alloc: A, number: u8, name: &str) -> Result<String<A>
 }
 
 /// The line of the outcome of the position.
-fn outcome_line<A: Room + Copy>(
+fn outcome_line<A: SmallAllocator + Copy>(
     alloc: A,
     code: &Code,
     position: &Position<A>,
@@ -72,7 +72,7 @@ fn outcome_line<A: Room + Copy>(
 }
 
 /// Three lines: the first, the place, and the last.
-fn three_lines<A: Room + Copy>(
+fn three_lines<A: SmallAllocator + Copy>(
     alloc: A,
     first: &str,
     place: &str,
@@ -85,7 +85,7 @@ fn three_lines<A: Room + Copy>(
 }
 
 /// The lines of a refusal by a position.
-fn outcome_text<A: Room + Copy>(
+fn outcome_text<A: SmallAllocator + Copy>(
     alloc: A,
     code: &Code,
     position: &Position<A>,
@@ -99,7 +99,7 @@ fn outcome_text<A: Room + Copy>(
 }
 
 /// The first line of the text of a verdict. Want of memory has one here, which stands in no text.
-pub fn verdict_line<A: Room + Copy>(
+pub fn verdict_line<A: SmallAllocator + Copy>(
     alloc: A,
     verdict: Result<&Certified<A>, &Refusal<A>>,
 ) -> Result<String<A>, Memory>
@@ -113,7 +113,7 @@ pub fn verdict_line<A: Room + Copy>(
 
 /// The text of a verdict: one line, and two more where a position refutes the certificate. Want of
 /// memory has no text, and is handed on.
-pub fn verdict_text<A: Room + Copy>(
+pub fn verdict_text<A: SmallAllocator + Copy>(
     alloc: A,
     verdict: Result<&Certified<A>, &Refusal<A>>,
 ) -> Result<String<A>, Memory>
@@ -141,7 +141,7 @@ pub struct VerdictText<A: Allocator = Global> {
 }
 
 /// The text of a verdict, which is dropped here.
-pub(crate) fn told<A: Room + Copy>(
+pub(crate) fn told<A: SmallAllocator + Copy>(
     alloc: A,
     verdict: Result<Certified<A>, Refusal<A>>,
 ) -> Result<VerdictText<A>, Memory>

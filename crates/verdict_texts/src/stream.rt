@@ -5,7 +5,7 @@ ghost use Rattle.streams.specs.Stream.{«CountsReads» as CountsSourceReads};
 ghost use Rattle.verdict_texts.specs.Streams.{CountsReads, ReadsEnough, IsDueText, IsDueTextOfStream, WritesOfStream, WritesSomeOfStream};
 
 use crate::lines::{VerdictText, told};
-use allocation::{Memory, Room};
+use allocation::{Memory, SmallAllocator};
 use answers::{Checks, Refusal};
 use streams::{Sink, Source, StreamFault, read_whole, write_whole};
 
@@ -13,7 +13,7 @@ use streams::{Sink, Source, StreamFault, read_whole, write_whole};
 pub const MOST_BYTES: usize = 4194304;
 
 /// Checks the bytes: the text of the verdict, and whether it is yes.
-pub fn checked_bytes<C: Checks<A>, A: Room + Copy>(
+pub fn checked_bytes<C: Checks<A>, A: SmallAllocator + Copy>(
     checker: &C,
     alloc: A,
     bytes: &[u8],
@@ -29,7 +29,7 @@ pub fn checked_bytes<C: Checks<A>, A: Room + Copy>(
 /// whether it is yes.
 ///
 /// Of a source with more than [`MOST_BYTES`] bytes one more is read, and it is no certificate.
-pub fn checked_stream<C: Checks<A>, R: Source, A: Room + Copy>(
+pub fn checked_stream<C: Checks<A>, R: Source, A: SmallAllocator + Copy>(
     checker: &C,
     alloc: A,
     source: &mut R,
@@ -54,7 +54,7 @@ pub fn checked_stream<C: Checks<A>, R: Source, A: Room + Copy>(
 /// Of a source with more than [`MOST_BYTES`] bytes one more is read, and it is no certificate.
 /// Nothing is written before the end was reached: not after a failure of the source or want of
 /// memory. After a failure of the sink a beginning of the text was written.
-pub fn check_stream<C: Checks<A>, R: Source, W: Sink, A: Room + Copy>(
+pub fn check_stream<C: Checks<A>, R: Source, W: Sink, A: SmallAllocator + Copy>(
     checker: &C,
     alloc: A,
     source: &mut R,

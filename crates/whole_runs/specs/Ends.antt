@@ -5,7 +5,7 @@ use Rattle.command_line.specs.Refusals.{AsksForHelp, IsFaultOf}
 use Rattle.command_line.specs.Requests.{plan_of}
 use Rattle.command_line.specs.Status.{status_of, text_of}
 use Rattle.command_line.specs.declared.faults.UsageFault.{UsageFault}
-use Rattle.command_results.specs.Printers.{Printed, Tells}
+use Rattle.command_results.specs.Printers.{Printed, PrintsLine}
 use Rattle.command_results.specs.Stops.{stop_line}
 use Rattle.command_results.specs.declared.stop.Stop.TheVariants.{Memory}
 use Rattle.commands.specs.Obeys.{Obeys, Scene}
@@ -14,7 +14,7 @@ use Rattle.requests.specs.Requests.{Request}
 -- the status is that of the fault, which is told, and nothing is printed
 abbrev pub IsTold : UsageFault → Scene → Scene → ℕ → Type 0
 IsTold fault old new status = (status ≡ status_of fault) × (new.out ≡ old.out)
-    × Tells old.err new.err (text_of fault)
+    × PrintsLine old.err new.err (text_of fault)
 
 -- What a run did that ends with this status.
 --   Asked: the words ask for something, and it obeyed.
@@ -30,5 +30,5 @@ pub data Ends (words : List Text) (old new : Scene) (status : ℕ) : Type 0 wher
       → plan_of words ≡ None → new.files ≡ old.files
       → IsTold fault old new status → Ends words old new status
   Wanting : new.failed ≡ old.failed → new.files ≡ old.files → new.out ≡ old.out
-      → Tells old.err new.err (stop_line Memory)
+      → PrintsLine old.err new.err (stop_line Memory)
       → status ≡ 3 → Ends words old new status

@@ -2,7 +2,7 @@
 ghost use Rattle.std.specs.Prelude.{◌≡◌, ◌≤◌, false, IfOk, map};
 ghost use Rattle.command_line.specs.Requests.{plan_of};
 ghost use Rattle.command_line.specs.Status.{status_of, text_of};
-ghost use Rattle.command_results.specs.Printers.{Tells, printer};
+ghost use Rattle.command_results.specs.Printers.{PrintsLine, printer};
 ghost use Rattle.commands.specs.Causes.{failed, reads_input, runs_script, takes_files};
 ghost use Rattle.commands.specs.Obeys.{scene};
 ghost use Rattle.whole_runs.specs.Ends.{Ends};
@@ -18,7 +18,7 @@ use streams::{Sink, Source};
 /// Answers words that are no request, nor ask for help.
 fn refuse<E: Sink>(fault: &UsageFault, err: &mut E) -> u8
     ensures status { result ≡ status_of fault.now }
-    ensures told { Tells (printer (E.taken err.old) (E.failures err.old))
+    ensures told { PrintsLine (printer (E.taken err.old) (E.failures err.old))
         (printer (E.taken err.new) (E.failures err.new)) (text_of fault.now) }
 {
     tell(err, fault.text(), "", "");

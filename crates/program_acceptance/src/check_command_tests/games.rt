@@ -190,7 +190,7 @@ fn file_fails_at(alloc: Global, held: &str, place: &[u8]) -> bool {
 
 /// Whether a no refutes the file at a place where its rule fails.
 fn is_refutation(alloc: Global, held: &str, said: &Said) -> bool {
-    !said.well && file_fails_at(alloc, held, place_in(&said.text))
+    !said.succeeds && file_fails_at(alloc, held, place_in(&said.text))
 }
 
 /// How many certificates are refuted, each at a place where its rule fails.

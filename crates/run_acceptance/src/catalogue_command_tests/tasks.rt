@@ -48,7 +48,7 @@ impl Step for Acted {
     fn holds(&self, alloc: Global, folder: &mut MemoryFolder) -> bool {
         let Acted(file, task, end, held) = *self;
         let is_so = match end {
-            Ok((well, text)) => prints(alloc, folder, file, task, well, text),
+            Ok((succeeds, text)) => prints(alloc, folder, file, task, succeeds, text),
             Err(stop) => stops(alloc, folder, file, task, stop),
         };
         is_so && holds(folder, "x.json", held)
@@ -301,10 +301,10 @@ struct Limited(
 
 impl Row for Limited {
     fn holds(&self, alloc: Global) -> bool {
-        let Limited(held, limit, task, well, text) = *self;
+        let Limited(held, limit, task, succeeds, text) = *self;
         match folder_with(alloc, &FILES, "x.json", held, 0) {
             Ok(mut folder) => {
-                prints_under(alloc, limit, &mut folder, "x.json", task, well, text)
+                prints_under(alloc, limit, &mut folder, "x.json", task, succeeds, text)
             }
             Err(_) => false,
         }

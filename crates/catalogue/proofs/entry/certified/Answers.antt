@@ -1,7 +1,7 @@
 use Rattle.std.proofs.Common.{◌≡◌, true, bytes_eq, inr, refl, sym, ap, subst, ◌∙◌, arith}
 use Rattle.std.proofs.lemmas.Slice.Eq.{bytes_eq-Decides}
 use Rattle.octal_code.specs.Text.{code_text}
-use Rattle.answers.specs.Answers.{answer_of}
+use Rattle.answers.specs.ByteVerdicts.{answer_of}
 use Rattle.answers.proofs.Due.{is_due}
 use Rattle.misere_theory.specs.Certificates.{kind_of}
 use Rattle.catalogue.specs.Files.{heaps_named, written}

@@ -2,7 +2,7 @@ use Rattle.std.proofs.Common.{◌+◌, get_or, map, take, sym, subst, arith}
 use Rattle.std.proofs.lemmas.Result.{err_from_is_err_and}
 use Rattle.catalogue.specs.Files.{written}
 use Rattle.catalogue.specs.Loads.{Stand}
-use Rattle.catalogue.specs.Parts.{IsFaultOrMemory}
+use Rattle.catalogue.specs.LoadSteps.{IsFaultOrMemory}
 use Rattle.catalogue.proofs.LoadLemmas.{blank, itself_at, stand_push, written_length, written_more, loaded_fault}
 use Rattle.catalogue.proofs.TextLemmas.{take_past}
 use Rattle.catalogue.proofs.loading.catalogue_of.Goals as goal

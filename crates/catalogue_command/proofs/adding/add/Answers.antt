@@ -30,13 +30,13 @@ returns-in-Ok-Ok-clause-told g c =
     (subst (λ r. IfOk r (Begins c.args.fresh c.args.limit before file)) c.in-Ok-Ok.is
     c.begun.ensures.begins) in
     IfOk-weaker c.extended.result
-    (λ r. AddsAnswer c.args.limit before after file certificate (Ok cs) r.well
+    (λ r. AddsAnswer c.args.limit before after file certificate (Ok cs) r.succeeds
     r.text.items)
-    (λ r. Adds c.args.fresh c.args.limit before after file certificate r.well
+    (λ r. Adds c.args.fresh c.args.limit before after file certificate r.succeeds
     r.text.items)
     (λ r h. (Ok cs, begins, h))
     (subst (λ f. IfOk c.extended.result
-    (λ r. AddsAnswer c.args.limit f after file certificate (Ok cs) r.well
+    (λ r. AddsAnswer c.args.limit f after file certificate (Ok cs) r.succeeds
     r.text.items)) c.begun.ensures.kept c.extended.ensures.told)
 
 pub returns-in-Ok-Ok-clause-kept : goal.returns-in-Ok-Ok-clause-kept
@@ -53,7 +53,7 @@ returns-in-Ok-Ok-clause-stops g c =
     let Stops = StopsAdd c.args.fresh c.args.file.now c.args.certificate.now in
     let reads : g.F.Folder.failed_reads mid ≡ g.F.Folder.failed_reads old =
     subst (λ r. IfOk r (λ _. g.F.Folder.failed_reads mid ≡ g.F.Folder.failed_reads old))
-    c.in-Ok-Ok.is c.begun.ensures.well in
+    c.in-Ok-Ok.is c.begun.ensures.succeeds in
     subst (λ n. IfErr c.extended.result (Stops (failed n (g.F.Folder.failed_writes old)) after))
     reads
     (subst

@@ -7,17 +7,17 @@ use Rattle.catalogue_command.specs.Answers.{IsAddition, Saves}
 use Rattle.catalogue_command.proofs.adding.extended.Goals as goal
 use Rattle.catalogue_command.proofs.adding.extended.Goals.{then-report+in_ok-save, else-report}
 
-saved : (before mid after : Option (List ℕ → Option (List ℕ))) (file : List ℕ) (well : Bool)
-    (new : List Certificate) → well ≡ true → mid ≡ before
-    → Replaces mid after file (catalogue_text new) → Saves before after file well new
-saved before mid after file well new is same h =
+saved : (before mid after : Option (List ℕ → Option (List ℕ))) (file : List ℕ) (succeeds : Bool)
+    (new : List Certificate) → succeeds ≡ true → mid ≡ before
+    → Replaces mid after file (catalogue_text new) → Saves before after file succeeds new
+saved before mid after file succeeds new is same h =
     subst (λ w. Saves before after file w new) (sym is)
     (subst (λ m. Replaces m after file (catalogue_text new)) same h)
 
-unsaved : (before after : Option (List ℕ → Option (List ℕ))) (file : List ℕ) (well : Bool)
-    (new : List Certificate) → well ≡ false → after ≡ before
-    → Saves before after file well new
-unsaved before after file well new is same =
+unsaved : (before after : Option (List ℕ → Option (List ℕ))) (file : List ℕ) (succeeds : Bool)
+    (new : List Certificate) → succeeds ≡ false → after ≡ before
+    → Saves before after file succeeds new
+unsaved before after file succeeds new is same =
     subst (λ w. Saves before after file w new) (sym is) same
 
 pub returns-clause-told : goal.returns-clause-told
@@ -30,19 +30,19 @@ returns-clause-told g c =
       c.in_ok-bytes.bytes.items,
       new,
       c.in_ok-bytes.ensures.bytes,
-      subst (λ b. IsAddition c.args.catalogue.now b c.args.limit report.well new
+      subst (λ b. IsAddition c.args.catalogue.now b c.args.limit report.succeeds new
           report.text.items) c.deref.ensures.value c.in_ok-report.ensures,
       elim c.if-report.branch [
         | then-report+in_ok-save w ↦
-            subst (λ f. Saves before (g.F.Folder.files f) file report.well new)
+            subst (λ f. Saves before (g.F.Folder.files f) file report.succeeds new)
             (sym w.folder-is)
             (saved before (g.F.Folder.files c.read.new.folder)
-            (g.F.Folder.files w.save.new.folder) file report.well new
+            (g.F.Folder.files w.save.new.folder) file report.succeeds new
             w.if-report.true kept w.in_ok-save.ensures.saved)
         | else-report w ↦
-            subst (λ f. Saves before (g.F.Folder.files f) file report.well new)
+            subst (λ f. Saves before (g.F.Folder.files f) file report.succeeds new)
             (sym w.folder-is)
-            (unsaved before (g.F.Folder.files c.read.new.folder) file report.well new
+            (unsaved before (g.F.Folder.files c.read.new.folder) file report.succeeds new
             w.if-report.false kept)
       ],
     )

@@ -13,7 +13,7 @@ returns-clause-told g c =
       subst (λ t. IsCodeText t code) c.as_bytes.ensures.value
           ((c.read.ensures.code code).0 c.in-Ok.is),
       c.in_ok-bytes.ensures.bytes,
-      subst (λ b. IsGotten b c.args.limit code c.args.heaps report.well report.text.items)
+      subst (λ b. IsGotten b c.args.limit code c.args.heaps report.succeeds report.text.items)
           c.deref.ensures.value c.in_ok-report.ensures,
     )
 

@@ -1,7 +1,7 @@
 use Rattle.std.proofs.Common.{◌≤◌, ◌<◌, ◌^◌, sym, subst, arith}
 use Rattle.misere_theory.specs.Certificates.{InRanges}
 use Rattle.transition_algebra.specs.Pretending.{Pretending}
-use Rattle.certificate.specs.Pieces.{certificate_of}
+use Rattle.certificate.specs.Fields.{certificate_of}
 use Rattle.certificate.proofs.Assembled.{lines_are_read}
 use Rattle.certificate.proofs.reading.certificate.Goals as goal
 

@@ -1,6 +1,6 @@
 use Rattle.std.proofs.Common.{rules, ◌≡◌, sym}
 use Rattle.std.specs.String.{string_bytes}
-use Rattle.answers.specs.Answers.{refused}
+use Rattle.answers.specs.ByteVerdicts.{refused}
 use Rattle.answers.proofs.Due.{is_due}
 use Rattle.verdict_texts.proofs.Due.{told_is_due}
 use Rattle.check_command.proofs.Answered.{refused_is_no}

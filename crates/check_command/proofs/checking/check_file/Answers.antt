@@ -12,7 +12,7 @@ returns-clause-said g c =
     c.deref.ensures.value c.in_ok-verdict.ensures in (
       c.in_ok-bytes.bytes.items,
       c.in_ok-bytes.ensures.bytes,
-      (w.0, c.said.ensures.text ∙ w.1, c.said.ensures.well ∙ w.2),
+      (w.0, c.said.ensures.text ∙ w.1, c.said.ensures.succeeds ∙ w.2),
     )
 
 pub returns-clause-kept : goal.returns-clause-kept

@@ -4,5 +4,5 @@ use Rattle.checker.proofs.closing.accepted.Goals as goal
 
 pub new-requires-clause-portion : goal.new-requires-clause-portion
 new-requires-clause-portion g c =
-    subst (λ d. IsPortion d c.sheet.inside.lines.inside) (sym c.from_parts-cert.ensures)
-    c.sheet.invariant.portion
+    subst (λ d. IsPortion d c.certificate.inside.lines.inside) (sym c.from_fields-cert.ensures)
+    c.certificate.invariant.portion

@@ -1,8 +1,8 @@
 use Rattle.std.proofs.Common.{rules, ◌≡◌, ◌<◌, ◌-◌, length, get_or, refl, arith, ◌∙◌}
-use Rattle.pair_closure.specs.Progress.{blank_held}
+use Rattle.pair_closure.specs.ClosureViews.{blank_held}
 use Rattle.checker.specs.Rules.{Obeys}
 use Rattle.checker.proofs.HeldLemmas.{held_obey, last_obeys, broken_at}
-use Rattle.pair_closure.specs.Progress.{State, SameData, steps}
+use Rattle.pair_closure.specs.ClosureViews.{State, SameData, steps}
 use Rattle.checker.specs.Turns.Phase.{Closing}
 use Rattle.checker.proofs.TurnLemmas.{runs-none}
 use Rattle.checker.proofs.CloseTurns.{ok_takes, err_refused, kept_takes, takes_fresh, refused_runs, runs-left, broken_runs, over_runs, done_runs, more_runs}

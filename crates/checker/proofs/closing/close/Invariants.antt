@@ -1,5 +1,5 @@
 use Rattle.std.proofs.Common.{◌≡◌, ◌≤◌, ◌+◌, false}
-use Rattle.pair_closure.specs.Progress.{SameData, has_ended}
+use Rattle.pair_closure.specs.ClosureViews.{SameData, has_ended}
 use Rattle.checker.specs.Rules.{HeldObey}
 use Rattle.checker.specs.Turns.Phase.{Closing}
 use Rattle.checker.specs.Closes.{Closes}

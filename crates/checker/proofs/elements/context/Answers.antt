@@ -14,7 +14,7 @@ loop-y-init g c = record {
 pub loop-y-preserved : goal.loop-y-preserved
 loop-y-preserved g c =
     let i = c.loop-y.invariant in
-    let s = c.args.sheet.now in
+    let s = c.args.certificate.now in
     let put = c.insert.ensures.put (search rules) in
     let here : (claim_of s).portion (times_of s c.args.x c.loop-y.y) ≡ true =
     ap (claim_of s).portion (sym c.times.ensures.value)

@@ -6,7 +6,7 @@ use Rattle.checker.proofs.elements.context.Given as goal
 abbrev pub invariant-loop-y : goal.invariant-loop-y
 invariant-loop-y g l = record {
   each : (y : ℕ) → set.contains l.all y ≡ true
-      → (y < l.y) × ((claim_of l.sheet).portion (times_of l.sheet l.x y) ≡ true);
-  every : (y : ℕ) → y < l.y → (claim_of l.sheet).portion (times_of l.sheet l.x y) ≡ true
+      → (y < l.y) × ((claim_of l.certificate).portion (times_of l.certificate l.x y) ≡ true);
+  every : (y : ℕ) → y < l.y → (claim_of l.certificate).portion (times_of l.certificate l.x y) ≡ true
       → set.contains l.all y ≡ true;
 }

@@ -8,18 +8,18 @@ use Rattle.checker.proofs.elements.contexts.Goals as goal
 pub loop-x-preserved : goal.loop-x-preserved
 loop-x-preserved g c =
     let i = c.loop-x.invariant in
-    let sheet = c.args.sheet.now in
+    let certificate = c.args.certificate.now in
     let xs = c.loop-x.all.items in
     let put = c.in_ok-push.ensures.items in
     let s = c.context.result in
     record {
       count = ap length put ∙ length_push xs s ∙ ap (λ n. n + 1) i.count;
       each = λ x y l h. each-push (λ x s. (y : ℕ) → set.contains s y ≡ true
-          → (y < sheet.order) × ((claim_of sheet).portion (times_of sheet x y) ≡ true)) xs
+          → (y < certificate.order) × ((claim_of certificate).portion (times_of certificate x y) ≡ true)) xs
           c.push.new.self.items s c.loop-x.x i.count put (λ k b y. i.each k y b)
           c.context.ensures.each x l y h;
-      every = λ x y l. each-push (λ x s. (y : ℕ) → y < sheet.order
-          → (claim_of sheet).portion (times_of sheet x y) ≡ true → set.contains s y ≡ true) xs
+      every = λ x y l. each-push (λ x s. (y : ℕ) → y < certificate.order
+          → (claim_of certificate).portion (times_of certificate x y) ≡ true → set.contains s y ≡ true) xs
           c.push.new.self.items s c.loop-x.x i.count put (λ k b y. i.every k y b)
           c.context.ensures.all x l y;
     }
@@ -30,7 +30,7 @@ returns g c =
     let v = c.order-x-end.ensures.value in
     let e = c.loop-x.auto.x-end in
     let f = c.loop-x-test.false in
-    let n : c.loop-x.x ≡ c.args.sheet.now.order = omega arith in
+    let n : c.loop-x.x ≡ c.args.certificate.now.order = omega arith in
     record {
       length_is = i.count ∙ n;
       each = λ x y l. i.each x y (omega arith);

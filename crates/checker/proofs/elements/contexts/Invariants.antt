@@ -8,8 +8,8 @@ abbrev pub invariant-loop-x : goal.invariant-loop-x
 invariant-loop-x g l = record {
   count : length l.all.items ≡ l.x;
   each : (x y : ℕ) → x < l.x → set.contains (slice_index_or l.all.items x set.empty) y ≡ true
-      → (y < l.sheet.order) × ((claim_of l.sheet).portion (times_of l.sheet x y) ≡ true);
-  every : (x y : ℕ) → x < l.x → y < l.sheet.order
-      → (claim_of l.sheet).portion (times_of l.sheet x y) ≡ true
+      → (y < l.certificate.order) × ((claim_of l.certificate).portion (times_of l.certificate x y) ≡ true);
+  every : (x y : ℕ) → x < l.x → y < l.certificate.order
+      → (claim_of l.certificate).portion (times_of l.certificate x y) ≡ true
       → set.contains (slice_index_or l.all.items x set.empty) y ≡ true;
 }

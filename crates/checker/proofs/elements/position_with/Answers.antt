@@ -8,7 +8,7 @@ use Rattle.checker.proofs.elements.position_with.Goals as goal
 pub position_of-requires-clause-down : goal.position_of-requires-clause-down
 position_of-requires-clause-down g c =
     subst GoDown (sym c.words.ensures.value)
-    (c.spelled_sizes_are_positions.ensures.down c.args.sheet.now c.words.ensures.lawful.in_ranges
+    (c.spelled_sizes_are_positions.ensures.down c.args.certificate.now c.words.ensures.lawful.in_ranges
     c.requires.canonical)
 
 pub position_of-requires-clause-element_in : goal.position_of-requires-clause-element_in
@@ -20,7 +20,7 @@ position_of-requires-clause-element_in g c =
 
 pub returns-clause-position : goal.returns-clause-position
 returns-clause-position g c =
-    let s = c.args.sheet.now in
+    let s = c.args.certificate.now in
     let spelled =
     c.spelled_sizes_are_positions.ensures.valued s c.args.y c.in_ok-position.position
     c.words.ensures.lawful.in_ranges c.words.ensures.lawful.monoid c.requires.canonical
@@ -31,7 +31,7 @@ returns-clause-position g c =
 
 pub returns-clause-fails : goal.returns-clause-fails
 returns-clause-fails g c =
-    let s = c.args.sheet.now in
+    let s = c.args.certificate.now in
     let spelled =
     c.spelled_sizes_are_positions.ensures.valued s c.args.y c.in_ok-position.position
     c.words.ensures.lawful.in_ranges c.words.ensures.lawful.monoid c.requires.canonical
@@ -42,7 +42,7 @@ returns-clause-fails g c =
 
 pub returns-clause-exact : goal.returns-clause-exact
 returns-clause-exact g c =
-    let s = c.args.sheet.now in
+    let s = c.args.certificate.now in
     let rises =
     sizes_rise s c.words.ensures.lawful c.requires.canonical c.args.y c.in_ok-position.position
     c.requires.element

@@ -1,6 +1,6 @@
 use Rattle.std.proofs.Common.{refl, ap, ◌∙◌, inl, inr, arith, Err}
 use Rattle.certificate_text.specs.Reading.{certificate_at}
-use Rattle.answers.specs.Answers.Answer.{Text}
+use Rattle.answers.specs.ByteVerdicts.ByteVerdict.{Text}
 use Rattle.checker.specs.Turns.{opened}
 use Rattle.checker.specs.Turns.Phase.{Reading, Laws, Ended}
 use Rattle.checker.proofs.TurnLemmas.{runs-none, runs-one}

@@ -5,7 +5,7 @@ use Rattle.commands.proofs.running.run_plan.Goals as goal
 
 pub returns-in-Ok-clause-obeys : goal.returns-in-Ok-clause-obeys
 returns-in-Ok-clause-obeys g c =
-    Done c.in-Ok.said.text.items c.in-Ok.said.well c.in-Ok.ensures.says c.in-Ok.ensures.leaves
+    Done c.in-Ok.said.text.items c.in-Ok.said.succeeds c.in-Ok.ensures.says c.in-Ok.ensures.leaves
     c.print.ensures.printed
 
 pub returns-in-Err-clause-obeys : goal.returns-in-Err-clause-obeys

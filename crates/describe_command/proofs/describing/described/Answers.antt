@@ -9,10 +9,10 @@ pub returns-in-Ok : goal.returns-in-Ok
 returns-in-Ok c =
     inl (
       subst (IsDescription c.args.notation c.args.certified.now) (sym c.done.ensures.text) c.in-Ok.ensures,
-      c.done.ensures.well,
+      c.done.ensures.succeeds,
     )
 
 pub returns-in-Err : goal.returns-in-Err
 returns-in-Err c =
-    IfOk-weaker _ _ _ (λ (s : Said) (h : IsBoundLine s.text.items × (s.well ≡ false)). inr h)
+    IfOk-weaker _ _ _ (λ (s : Said) (h : IsBoundLine s.text.items × (s.succeeds ≡ false)). inr h)
     c.undescribed.ensures

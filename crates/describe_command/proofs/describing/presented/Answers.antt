@@ -11,12 +11,12 @@ pub returns-in-Ok-None : goal.returns-in-Ok-None
 returns-in-Ok-None c =
     IfOk-weaker _ _ _
     (λ (s : Said) (h : (s.text.items ≡ codes "not described within the bounds of present\n")
-    × (s.well ≡ false)). inr (inr h.0, h.1)) c.refuse.ensures
+    × (s.succeeds ≡ false)). inr (inr h.0, h.1)) c.refuse.ensures
 
 pub returns-in-Err : goal.returns-in-Err
 returns-in-Err c =
     IfOk-weaker _ _ _
-    (λ (s : Said) (h : IsBoundLine s.text.items × (s.well ≡ false)). inr (inl h.0, h.1))
+    (λ (s : Said) (h : IsBoundLine s.text.items × (s.succeeds ≡ false)). inr (inl h.0, h.1))
     c.undescribed.ensures
 
 pub returns-in_ok-text-in-Ok-Some : goal.returns-in_ok-text-in-Ok-Some
@@ -28,4 +28,4 @@ returns-in_ok-text-in-Ok-Some c =
     let text_is : string_bytes c.in_ok-text-in-Ok-Some.text ≡ string_bytes line ++ codes "\n" =
     grind (arith, common_steps, c.in_ok-text-in-Ok-Some.ensures.ok)
     in
-    inl ((string_bytes line, presentable, c.done.ensures.text ∙ text_is), c.done.ensures.well)
+    inl ((string_bytes line, presentable, c.done.ensures.text ∙ text_is), c.done.ensures.succeeds)

@@ -15,7 +15,7 @@ pub loop-step-preserved : goal.loop-step-preserved
 loop-step-preserved g c =
     gone_on _ _ _ _ _ _ _ _ _ _ _ _ _ _ (ap steps_of c.in-Some.ensures.steps.0)
     c.as_bytes.ensures.value c.loop-step.invariant c.in_ok-line.ensures.line
-    _ _ _ c.take_step.ensures.kept c.in_ok-line.ensures.well c.in_ok-write_whole.ensures.puts
+    _ _ _ c.take_step.ensures.kept c.in_ok-line.ensures.succeeds c.in_ok-write_whole.ensures.puts
     c.in_ok-write_whole.ensures.cause
 
 pub returns-in_err-line-clause-breaks : goal.returns-in_err-line-clause-breaks

@@ -18,7 +18,7 @@ returns-in-Ok-run_script-clause-ends g c =
     (printer (g.W.Sink.taken c.run_script.new.sink) (g.W.Sink.failures c.run_script.new.sink))
     (printer (g.E.Sink.taken c.args.err.now) (g.E.Sink.failures c.args.err.now))
     (printer (g.E.Sink.taken c.args.err.now) (g.E.Sink.failures c.args.err.now))
-    c.read_file.ensures.kept c.in-Ok.ensures.well c.deref.ensures.value c.in-Ok.ensures.bytes
+    c.read_file.ensures.kept c.in-Ok.ensures.succeeds c.deref.ensures.value c.in-Ok.ensures.bytes
     c.in-Ok-run_script.ensures.ran refl
 
 pub returns-clause-ends : goal.returns-clause-ends
@@ -32,6 +32,6 @@ returns-clause-ends g c =
     (printer (g.E.Sink.taken c.args.err.now) (g.E.Sink.failures c.args.err.now))
     (printer (g.E.Sink.taken c.tell-in-Err-run_script.new.err)
     (g.E.Sink.failures c.tell-in-Err-run_script.new.err))
-    c.read_file.ensures.kept c.in-Ok.ensures.well c.deref.ensures.value c.in-Ok.ensures.bytes
+    c.read_file.ensures.kept c.in-Ok.ensures.succeeds c.deref.ensures.value c.in-Ok.ensures.bytes
     c.in-Err-run_script.stop c.status.result
     c.in-Err-run_script.ensures.stops c.tell-in-Err-run_script.ensures c.status.ensures.status

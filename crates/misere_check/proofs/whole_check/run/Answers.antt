@@ -1,5 +1,5 @@
 use Rattle.std.proofs.Common.{rules, ap, refl, subst, ◌∙◌}
-use Rattle.misere_check.specs.Ends.{Tells, device}
+use Rattle.misere_check.specs.Ends.{PrintsLine, device}
 use Rattle.misere_check.specs.Ends.Ends.{Checked}
 use Rattle.misere_check.proofs.Told.{stopped, tells}
 use Rattle.misere_check.proofs.whole_check.run.Goals as goal
@@ -17,5 +17,5 @@ returns-in-Err g c =
     stopped _ _ _ _ _ _ _ c.in-Err.fault c.in-Err.ensures.write c.in-Err.ensures.write_cause
     c.in-Err.ensures.read_cause
     (λ u. ap (λ s. device (g.W.Sink.taken s) (g.W.Sink.failures s)) (c.in-Err.ensures.unwritten u))
-    (subst (Tells _ _) (c.as_bytes.ensures.value ∙ c.cause_of.ensures)
+    (subst (PrintsLine _ _) (c.as_bytes.ensures.value ∙ c.cause_of.ensures)
     (tells _ _ _ _ c.write_whole.result _ c.write_whole.ensures.puts c.write_whole.ensures.cause))

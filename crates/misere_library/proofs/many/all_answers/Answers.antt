@@ -4,7 +4,7 @@ use Rattle.std.proofs.lemmas.List.{length-append}
 use Rattle.misere_library.specs.Queries.{TellsAnswer}
 use Rattle.misere_library.specs.Many.{TellFirst}
 use Rattle.misere_library.specs.declared.numbers.MisereAnswer.{MisereAnswer}
-use Rattle.misere_library.proofs.Parts.{tell_next, tell_all}
+use Rattle.misere_library.proofs.Told.{tell_next, tell_all}
 use Rattle.misere_library.proofs.many.all_answers.Goals as goal
 
 pub loop-at-preserved : goal.loop-at-preserved

@@ -2,7 +2,7 @@ use Rattle.std.proofs.Common.{ℕ, ◌-◌, get_or, ◌∙◌, subst, arith}
 use Rattle.std.specs.Prelude.{take, drop}
 use Rattle.std.proofs.lemmas.List.{length-set}
 use Rattle.misere_library.specs.Queries.{TellsOutcome}
-use Rattle.misere_library.proofs.Parts.{tell_more, tell_all}
+use Rattle.misere_library.proofs.Told.{tell_more, tell_all}
 use Rattle.misere_library.proofs.many.fill_outcomes.Goals as goal
 
 pub loop-at-preserved : goal.loop-at-preserved

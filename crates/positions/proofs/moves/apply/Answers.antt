@@ -10,7 +10,7 @@ use Rattle.positions.specs.declared.moves.MoveFault.{MoveFault}
 use Rattle.positions.specs.declared.moves.MoveFault.TheVariants.{NoSuchHeap, NotAllowed, Memory}
 use Rattle.heap_options.specs.Exact.{heaps_of}
 use Rattle.positions.proofs.Permuted.{parts_fit, moved_to}
-use Rattle.positions.proofs.Room.{not_failed}
+use Rattle.positions.proofs.HeapsFit.{not_failed}
 use Rattle.positions.proofs.moves.apply.Goals as goal
 
 -- a heap of size n stands at the place i

@@ -1,18 +1,18 @@
 use Rattle.std.proofs.Common.{arith}
 use Rattle.std.proofs.lemmas.List.Sorted.{IsPermutation-insert}
 use Rattle.positions.proofs.Heaps.{placed}
-use Rattle.positions.proofs.Room.{heaps_fit, on_success}
+use Rattle.positions.proofs.HeapsFit.{heaps_fit, on_success}
 use Rattle.positions.proofs.position.add_heap.Goals as goal
 
 pub as_slice-requires : goal.as_slice-requires
-as_slice-requires g c = heaps_fit g.row.A g.A.Allocator g.met.A.Room.small
+as_slice-requires g c = heaps_fit g.row.A g.A.Allocator g.met.A.SmallAllocator.small
 
 pub place_for-at-requires : goal.place_for-at-requires
 place_for-at-requires g c = rw c.as_slice.ensures c.requires.rising
 
 pub insert-requires : goal.insert-requires
 insert-requires g c = (
-  heaps_fit g.row.A g.A.Allocator g.met.A.Room.small,
+  heaps_fit g.row.A g.A.Allocator g.met.A.SmallAllocator.small,
   rw (← c.as_slice.ensures) c.place_for-at.ensures.within,
 )
 

@@ -3,7 +3,7 @@ use Rattle.std.specs.List.Sorted.{IsPermutation}
 use Rattle.std.proofs.lemmas.List.Sorted.{IsPermutation-refl}
 use Rattle.heap_options.specs.Exact.{heaps_of}
 use Rattle.positions.proofs.Permuted.{added_more, added_all}
-use Rattle.positions.proofs.Room.{heaps_fit}
+use Rattle.positions.proofs.HeapsFit.{heaps_fit}
 use Rattle.positions.proofs.position.add_left.Goals as goal
 
 pub loop-heap-init : goal.loop-heap-init
@@ -17,7 +17,7 @@ add_heap-requires g c =
     let room = c.requires.room in
     let count = c.loop-heap.invariant.2 in
     let capacity = c.loop-heap.invariant.3 in
-    (heaps_fit g.row.A g.A.Allocator g.met.A.Room.small, (omega arith, c.loop-heap.invariant.1))
+    (heaps_fit g.row.A g.A.Allocator g.met.A.SmallAllocator.small, (omega arith, c.loop-heap.invariant.1))
 
 pub loop-heap-preserved : goal.loop-heap-preserved
 loop-heap-preserved g c =

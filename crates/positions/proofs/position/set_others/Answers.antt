@@ -1,14 +1,14 @@
 use Rattle.std.proofs.Common.{◌≡◌, ◌+◌, ◌++◌, ◌∙◌, suc, length, take, drop, ap, ap₂, arith}
 use Rattle.std.proofs.lemmas.List.{length-take, length-drop, take_rest}
 use Rattle.std.proofs.lemmas.List.Edits.{length-remove}
-use Rattle.positions.proofs.Room.{heaps_fit, on_success}
+use Rattle.positions.proofs.HeapsFit.{heaps_fit, on_success}
 use Rattle.positions.proofs.position.set_others.Goals as goal
 
 pub clear-requires : goal.clear-requires
-clear-requires g c = heaps_fit g.row.A g.A.Allocator g.met.A.Room.small
+clear-requires g c = heaps_fit g.row.A g.A.Allocator g.met.A.SmallAllocator.small
 
 pub extend_from_slice-requires : goal.extend_from_slice-requires
-extend_from_slice-requires g c = heaps_fit g.row.A g.A.Allocator g.met.A.Room.small
+extend_from_slice-requires g c = heaps_fit g.row.A g.A.Allocator g.met.A.SmallAllocator.small
 
 pub returns-clause-items : goal.returns-clause-items
 returns-clause-items g c =

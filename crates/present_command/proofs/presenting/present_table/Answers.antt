@@ -10,7 +10,7 @@ pub returns-in-Err-Unbounded-clause-presents : goal.returns-in-Err-Unbounded-cla
 returns-in-Err-Unbounded-clause-presents c =
     let unbounded = c.in-Err-Unbounded.ensures.unbounded.0 (ap Err c.in-Err-Unbounded.field-0-is) in
     IfOk-weaker _ _ _
-    (λ (s : Said) (h : (s.text.items ≡ codes "refused 2 Unbounded\n") × (s.well ≡ false)).
+    (λ (s : Said) (h : (s.text.items ≡ codes "refused 2 Unbounded\n") × (s.succeeds ≡ false)).
     subst (λ (b : Bool). PresentsTable c.args.presentation.now s.text.items b) (sym h.1)
     (Unbounded unbounded h.0)) c.refuse.ensures.no
 
@@ -18,6 +18,6 @@ pub returns-in-Err-Limit-clause-presents : goal.returns-in-Err-Limit-clause-pres
 returns-in-Err-Limit-clause-presents c =
     let above = c.in-Err-Limit.ensures.limit (ap Err c.in-Err-Limit.field-0-is) in
     IfOk-weaker _ _ _
-    (λ (s : Said) (h : (s.text.items ≡ codes "refused 3 Limit\n") × (s.well ≡ false)).
+    (λ (s : Said) (h : (s.text.items ≡ codes "refused 3 Limit\n") × (s.succeeds ≡ false)).
     subst (λ (b : Bool). PresentsTable c.args.presentation.now s.text.items b) (sym h.1)
     (Limit above h.0)) c.refuse-in-Err-Limit.ensures.no

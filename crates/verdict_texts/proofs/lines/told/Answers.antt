@@ -2,7 +2,7 @@ use Rattle.std.proofs.Common.{◌≡◌, ◌∙◌, subst, refl, Bor, Result, Ok
 use Rattle.std.specs.Result.{is_ok, result_copied}
 use Rattle.std.specs.String.{string_bytes}
 use Rattle.misere_theory.specs.Certificates.{Certificate}
-use Rattle.answers.specs.Answers.{Answer, answer_of}
+use Rattle.answers.specs.ByteVerdicts.{ByteVerdict, answer_of}
 use Rattle.answers.specs.declared.refusal.Refusal.{Refusal}
 use Rattle.answers.specs.declared.refusal.Refusal.TheVariants.{Text, Law, Word, Order, Period, Apart, Outcome, Limit, Memory}
 use Rattle.verdict_texts.specs.Lines.{IsTextOf, is_yes, lent_answer}
@@ -31,5 +31,5 @@ returns-clause-yes g c = c.is_ok-accepted.ensures.value ∙ yes_is _ c.args.verd
 
 pub returns-clause-text : goal.returns-clause-text
 returns-clause-text g c =
-    subst (λ (a : Answer). IsTextOf a (string_bytes c.in_ok-text.field-0))
+    subst (λ (a : ByteVerdict). IsTextOf a (string_bytes c.in_ok-text.field-0))
     (lent_is _ _ _ c.as_ref.ensures.value) c.in_ok-text.ensures

@@ -1,7 +1,7 @@
 use Rattle.std.proofs.Common.{Result, Ok, Err, refl}
 use Rattle.std.specs.Prelude.{IfOk}
 use Rattle.std.specs.String.{string_bytes}
-use Rattle.answers.specs.Answers.{answer_of}
+use Rattle.answers.specs.ByteVerdicts.{answer_of}
 use Rattle.verdict_texts.proofs.Due.{told_is_due}
 use Rattle.verdict_texts.proofs.stream.checked_bytes.Goals as goal
 

@@ -2,13 +2,13 @@ use Rattle.std.proofs.Common.{rules, ◌≡◌, ◌≤◌, refl, subst, ℕ, Boo
 use Rattle.std.specs.Io.KnownBytes.{Consumes, IsAtEnd}
 use Rattle.std.specs.String.{string_bytes}
 use Rattle.std.proofs.lemmas.Result.{IfOk-from_err}
-use Rattle.answers.specs.Answers.{Answer}
+use Rattle.answers.specs.ByteVerdicts.{ByteVerdict}
 use Rattle.verdict_texts.specs.Streams.{IsDueText, IsDueTextOfStream}
 use Rattle.verdict_texts.proofs.Streamed.{streamed, long_stream}
 use Rattle.verdict_texts.proofs.stream.checked_stream.Goals as goal
 
 -- what is due of the bytes that were read is due of the stream
-of_stream : (due : List ℕ → ℕ → Answer) (left after : Option (List ℕ)) (v w : List ℕ) (limit : ℕ)
+of_stream : (due : List ℕ → ℕ → ByteVerdict) (left after : Option (List ℕ)) (v w : List ℕ) (limit : ℕ)
     → Consumes left after v → IsAtEnd after → length v ≤ 4194304
     → w ≡ v → (text : List ℕ) (said : Bool) → IsDueText due w limit text said
     → IsDueTextOfStream due left limit text said

@@ -7,10 +7,10 @@ use Rattle.catalogue.proofs.store.Catalogue.get.Goals as goal
 
 pub returns-clause-some : goal.returns-clause-some
 returns-clause-some c =
-    let k = c.key_of.result in
+    let k = c.code_and_kind.result in
     let code = c.args.code.now in
-    let right = c.key_of.ensures.code in
-    let key = c.key_of.ensures.key in
+    let right = c.code_and_kind.ensures.code in
+    let key = c.code_and_kind.ensures.key in
     let h : IsFound k code c.args.heaps right key (values_of c.self.inside.entries.entries)
     (option_copied c.get.result)
     = subst (IsFound k code c.args.heaps right key (values_of c.self.inside.entries.entries))
@@ -22,10 +22,10 @@ returns-clause-some c =
 
 pub returns-clause-none : goal.returns-clause-none
 returns-clause-none c =
-    let k = c.key_of.result in
+    let k = c.code_and_kind.result in
     let code = c.args.code.now in
-    let right = c.key_of.ensures.code in
-    let key = c.key_of.ensures.key in
+    let right = c.code_and_kind.ensures.code in
+    let key = c.code_and_kind.ensures.key in
     let h : IsFound k code c.args.heaps right key (values_of c.self.inside.entries.entries)
     (option_copied c.get.result)
     = subst (IsFound k code c.args.heaps right key (values_of c.self.inside.entries.entries))

@@ -3,7 +3,7 @@ use Rattle.std.specs.Map.{values_of}
 use Rattle.misere_theory.specs.Games.{IsCode}
 use Rattle.misere_theory.specs.Certificates.{kind_of}
 use Rattle.catalogue.specs.Entries.{HasEntry}
-use Rattle.catalogue.specs.Keys.{IsKeyOf, AreKeyed}
+use Rattle.catalogue.specs.Keys.{IsCodeAndKind, AreKeyed}
 use Rattle.catalogue.proofs.StoreLemmas.{Held, either, held_push, not_found, values_push, within}
 use Rattle.catalogue.proofs.store.Catalogue.push.Goals as goal
 
@@ -15,8 +15,8 @@ append-requires c =
     c.heaps.ensures.value ∙ ap kind_of c.cert-2.ensures.same in
     not_found c.key_of-key.result c.args.certified.code (kind_of c.args.certified) c.self.inside.entries.entries
     (subst IsCode code c.key_of-key.ensures.code)
-    (subst (IsKeyOf c.key_of-key.result c.args.certified.code) kind
-    (subst (λ x. IsKeyOf c.key_of-key.result x c.heaps.result) code c.key_of-key.ensures.key)) c.self.invariant.keyed
+    (subst (IsCodeAndKind c.key_of-key.result c.args.certified.code) kind
+    (subst (λ x. IsCodeAndKind c.key_of-key.result x c.heaps.result) code c.key_of-key.ensures.key)) c.self.invariant.keyed
     (subst (λ cs. HasEntry cs c.args.certified.code (kind_of c.args.certified) → ⊥) (sym c.self.view_is) c.requires)
 
 pub invariant_of-self : goal.invariant_of-self
@@ -30,8 +30,8 @@ invariant_of-self c =
     either c.append.result AreKeyed es (es ++ e ∷ []) c.append.new.entries.entries
     c.append.ensures.last c.append.ensures.unchanged c.self.invariant
     (held_push es c.key_of-key.result c.args.certified c.self.invariant
-    (subst (IsKeyOf c.key_of-key.result c.args.certified.code) kind
-    (subst (λ x. IsKeyOf c.key_of-key.result x c.heaps.result) code c.key_of-key.ensures.key))
+    (subst (IsCodeAndKind c.key_of-key.result c.args.certified.code) kind
+    (subst (λ x. IsCodeAndKind c.key_of-key.result x c.heaps.result) code c.key_of-key.ensures.key))
     (subst IsCode code c.key_of-key.ensures.code) c.cert.ensures.accepted
     (subst (λ cs. HasEntry cs c.args.certified.code (kind_of c.args.certified) → ⊥) (sym c.self.view_is) c.requires))
 

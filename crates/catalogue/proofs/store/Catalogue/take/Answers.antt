@@ -1,7 +1,7 @@
 use Rattle.std.proofs.Common.{sym, subst}
 use Rattle.std.proofs.lemmas.Result.{err_from_is_err_and}
 use Rattle.catalogue.specs.Files.{written}
-use Rattle.catalogue.specs.Parts.{IsFaultOrMemory}
+use Rattle.catalogue.specs.LoadSteps.{IsFaultOrMemory}
 use Rattle.catalogue.proofs.store.Catalogue.take.Goals as goal
 
 pub returns-in_err-certified-clause-fault : goal.returns-in_err-certified-clause-fault

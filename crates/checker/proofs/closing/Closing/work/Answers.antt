@@ -3,19 +3,19 @@ use Rattle.misere_theory.specs.Games.{IsHeapUpTo, IsPosition}
 use Rattle.misere_theory.specs.Certificates.{IsHeapOf}
 use Rattle.misere_theory.specs.Quotients.{ReachesMoreThan}
 use Rattle.misere_theory.specs.Certificates.{Accepted, claim_of}
-use Rattle.pair_closure.specs.Progress.{blank_held}
+use Rattle.pair_closure.specs.ClosureViews.{blank_held}
 use Rattle.checker.specs.declared.closing.Looked.{Looked}
 use Rattle.checker.specs.declared.closing.Looked.TheVariants.{More, Done, Over, Broken}
 use Rattle.allocation.specs.declared.Memory.{Memory}
-use Rattle.certificate.specs.Pieces.{Pieces, certificate_of}
-use Rattle.checker.specs.Sheets.{pieces_of}
+use Rattle.certificate.specs.Fields.{Fields, certificate_of}
+use Rattle.checker.specs.LawfulCertificates.{fields_of}
 use Rattle.checker.specs.Closes.{HasClosed}
-use Rattle.pair_closure.specs.Progress.{Progress}
+use Rattle.pair_closure.specs.ClosureViews.{ClosureView}
 use Rattle.std.specs.FinSet as set
 use Rattle.std.specs.Ordering.{nat_cmp}
 use Rattle.checker.specs.Closings.{IsClosing}
-use Rattle.answers.specs.Answers.{Fits}
-use Rattle.answers.specs.Answers.Answer.{Yes, Limit, Outcome}
+use Rattle.answers.specs.ByteVerdicts.{Fits}
+use Rattle.answers.specs.ByteVerdicts.ByteVerdict.{Yes, Limit, Outcome}
 use Rattle.monoid_table.specs.Grids.{Grid}
 use Rattle.pair_closure.specs.Positions.{rising, word}
 use Rattle.checker.specs.Turns.{Phase, Runs}
@@ -25,7 +25,7 @@ use Rattle.checker.proofs.HeapLemmas.{length_bound, over_reaches, member_fails, 
 use Rattle.checker.proofs.closing.Closing.work.Goals as goal
 
 -- what the closing came to
-come : (inside : set.FinSet nat_cmp) (p q : Progress) (before after : ℕ)
+come : (inside : set.FinSet nat_cmp) (p q : ClosureView) (before after : ℕ)
     (r : Result Looked Memory) (f h : Looked) → HasClosed inside p before after q r → r ≡ Ok f
     → f ≡ h → HasClosed inside p before after q (Ok h)
 come inside p q before after r f h k e d =
@@ -34,8 +34,8 @@ come inside p q before after r f h k e d =
 pub returns-in-Ok-Over-clause-carries : goal.returns-in-Ok-Over-clause-carries
 returns-in-Ok-Over-clause-carries g c =
     let s = c.self.inside in
-    let p : Pieces =
-    pieces_of s.code s.closure.state.table s.phi s.lines.portion.items s.lines.words.items
+    let p : Fields =
+    fields_of s.code s.closure.state.table s.phi s.lines.portion.items s.lines.words.items
     s.lines.apart.items in
     let i = c.self.invariant.0 in
     let t = c.close-closed.new.closure.state in
@@ -46,7 +46,7 @@ returns-in-Ok-Over-clause-carries g c =
     c.close-closed.new.left _ _ Over c.close-closed.ensures.closed c.in-Ok-Over.is
     (rw c.in-Ok-Over.is at c.in-Ok-Over.field-0-is)).0) in
     subst (λ v. Fits v.certificate v.closure.state.limit Limit) c.self.view_is (
-      i.sheet.lawful.monoid,
+      i.certificate.lawful.monoid,
       i.canonical,
       subst (ReachesMoreThan (IsHeapOf (certificate_of p)) p.code (claim_of (certificate_of p)))
           kept_data.limit more,
@@ -55,8 +55,8 @@ returns-in-Ok-Over-clause-carries g c =
 pub returns-in-Ok-clause-carries : goal.returns-in-Ok-clause-carries
 returns-in-Ok-clause-carries g c =
     let s = c.self.inside in
-    let p : Pieces =
-    pieces_of s.code s.closure.state.table s.phi s.lines.portion.items s.lines.words.items
+    let p : Fields =
+    fields_of s.code s.closure.state.table s.phi s.lines.portion.items s.lines.words.items
     s.lines.apart.items in
     let i = c.self.invariant.0 in
     let t = c.close-closed.new.closure.state in
@@ -73,7 +73,7 @@ returns-in-Ok-clause-carries g c =
     c.self.view_is (
       refl,
       (
-        i.sheet.lawful.monoid,
+        i.certificate.lawful.monoid,
         i.canonical,
         position_within (certificate_of p) c.in-Ok.position
             (subst (λ n. IsPosition (IsHeapUpTo n) c.in-Ok.position)
@@ -103,11 +103,11 @@ invariant_of-result g c =
     (rw c.in-Ok-More.is at c.in-Ok-More.field-0-is) in (
       subst (λ g.
           IsClosing
-          (pieces_of s.code g s.phi s.lines.portion.items s.lines.words.items s.lines.apart.items)
+          (fields_of s.code g s.phi s.lines.portion.items s.lines.words.items s.lines.apart.items)
           s.lines.inside t.heaps) (sym kept_data.table)
           (subst
           (λ h. IsClosing
-          (pieces_of s.code s.closure.state.table s.phi s.lines.portion.items
+          (fields_of s.code s.closure.state.table s.phi s.lines.portion.items
           s.lines.words.items s.lines.apart.items) s.lines.inside h) (sym kept_data.heaps)
           c.self.invariant.0),
       more.1,
@@ -118,8 +118,8 @@ invariant_of-result g c =
 pub accepted-requires : goal.accepted-requires
 accepted-requires g c =
     let s = c.self.inside in
-    let p : Pieces =
-    pieces_of s.code s.closure.state.table s.phi s.lines.portion.items s.lines.words.items
+    let p : Fields =
+    fields_of s.code s.closure.state.table s.phi s.lines.portion.items s.lines.words.items
     s.lines.apart.items in
     let i = c.self.invariant.0 in
     let t = c.close-closed.new.closure.state in
@@ -133,19 +133,19 @@ accepted-requires g c =
     done.0 done.1 in
     let accepted =
     c.tested_certificates_are_accepted.ensures (certificate_of p) covered.kept
-    i.sheet.lawful.in_ranges i.sheet.lawful.monoid i.canonical covered.closed covered.obey
+    i.certificate.lawful.in_ranges i.certificate.lawful.monoid i.canonical covered.closed covered.obey
     i.elements in
     subst (λ g.
     Accepted
     (certificate_of
-    (pieces_of s.code g s.phi s.lines.portion.items s.lines.words.items s.lines.apart.items)))
+    (fields_of s.code g s.phi s.lines.portion.items s.lines.words.items s.lines.apart.items)))
     (sym (c.finish-table.ensures.table ∙ kept_data.table)) accepted
 
 pub returns-in-Err-clause-comes : goal.returns-in-Err-clause-comes
 returns-in-Err-clause-comes g c =
     let s = c.self.inside in
-    let p : Pieces =
-    pieces_of s.code s.closure.state.table s.phi s.lines.portion.items s.lines.words.items
+    let p : Fields =
+    fields_of s.code s.closure.state.table s.phi s.lines.portion.items s.lines.words.items
     s.lines.apart.items in
     let i = c.self.invariant.0 in
     let n = c.close-closed.new.closure in
@@ -155,7 +155,7 @@ returns-in-Err-clause-comes g c =
       to = r.0 (certificate_of p);
       runs =
           subst (λ v. Runs bytes limit (Closing v) c.args.left.now a (r.0 (certificate_of p)))
-          c.self.view_is (r.1 (certificate_of p) i.sheet.portion bytes limit);
+          c.self.view_is (r.1 (certificate_of p) i.certificate.portion bytes limit);
       shown = inr refl;
       exact = λ h. omega arith;
     }
@@ -163,8 +163,8 @@ returns-in-Err-clause-comes g c =
 pub returns-in-Ok-More-clause-comes : goal.returns-in-Ok-More-clause-comes
 returns-in-Ok-More-clause-comes g c =
     let s = c.self.inside in
-    let p : Pieces =
-    pieces_of s.code s.closure.state.table s.phi s.lines.portion.items s.lines.words.items
+    let p : Fields =
+    fields_of s.code s.closure.state.table s.phi s.lines.portion.items s.lines.words.items
     s.lines.apart.items in
     let i = c.self.invariant.0 in
     let n = c.close-closed.new.closure in
@@ -181,7 +181,7 @@ returns-in-Ok-More-clause-comes g c =
     λ t. Closing
     (record {
       certificate = certificate_of
-          (pieces_of s.code t s.phi s.lines.portion.items s.lines.words.items s.lines.apart.items);
+          (fields_of s.code t s.phi s.lines.portion.items s.lines.words.items s.lines.apart.items);
       closure = n;
     }) in
     λ bytes limit. record {
@@ -189,7 +189,7 @@ returns-in-Ok-More-clause-comes g c =
       runs =
           subst (λ v. Runs bytes limit (Closing v) c.args.left.now a (at n.state.table))
           c.self.view_is
-          (runs-to bytes limit _ _ _ _ _ (r (certificate_of p) i.sheet.portion bytes limit)
+          (runs-to bytes limit _ _ _ _ _ (r (certificate_of p) i.certificate.portion bytes limit)
           (ap at (sym c.close-closed.ensures.goes_on.same.table)));
       shown = inl refl;
       exact = λ h. absurd (omega (arith, m.0));
@@ -198,8 +198,8 @@ returns-in-Ok-More-clause-comes g c =
 pub returns-in-Ok-Over-clause-comes : goal.returns-in-Ok-Over-clause-comes
 returns-in-Ok-Over-clause-comes g c =
     let s = c.self.inside in
-    let p : Pieces =
-    pieces_of s.code s.closure.state.table s.phi s.lines.portion.items s.lines.words.items
+    let p : Fields =
+    fields_of s.code s.closure.state.table s.phi s.lines.portion.items s.lines.words.items
     s.lines.apart.items in
     let i = c.self.invariant.0 in
     let n = c.close-closed.new.closure in
@@ -212,7 +212,7 @@ returns-in-Ok-Over-clause-comes g c =
       to = Ended Limit;
       runs =
           subst (λ v. Runs bytes limit (Closing v) c.args.left.now a (Ended Limit)) c.self.view_is
-          (r (certificate_of p) i.sheet.portion bytes limit);
+          (r (certificate_of p) i.certificate.portion bytes limit);
       shown = inl refl;
       exact = λ h. omega arith;
     }
@@ -220,8 +220,8 @@ returns-in-Ok-Over-clause-comes g c =
 pub returns-in-Ok-clause-comes : goal.returns-in-Ok-clause-comes
 returns-in-Ok-clause-comes g c =
     let s = c.self.inside in
-    let p : Pieces =
-    pieces_of s.code s.closure.state.table s.phi s.lines.portion.items s.lines.words.items
+    let p : Fields =
+    fields_of s.code s.closure.state.table s.phi s.lines.portion.items s.lines.words.items
     s.lines.apart.items in
     let i = c.self.invariant.0 in
     let n = c.close-closed.new.closure in
@@ -237,7 +237,7 @@ returns-in-Ok-clause-comes g c =
       runs =
           subst (λ v. Runs bytes limit (Closing v) c.args.left.now a
           (Ended (Outcome s.code c.in-Ok.position))) c.self.view_is
-          (runs-to bytes limit _ _ _ _ _ (r (certificate_of p) i.sheet.portion bytes limit)
+          (runs-to bytes limit _ _ _ _ _ (r (certificate_of p) i.certificate.portion bytes limit)
           (ap (λ X. Ended (Outcome s.code X)) (sym c.in-Ok.ensures.is.are)));
       shown = inl refl;
       exact = λ h. omega arith;
@@ -246,8 +246,8 @@ returns-in-Ok-clause-comes g c =
 pub returns-in-Err-word-clause-comes : goal.returns-in-Err-word-clause-comes
 returns-in-Err-word-clause-comes g c =
     let s = c.self.inside in
-    let p : Pieces =
-    pieces_of s.code s.closure.state.table s.phi s.lines.portion.items s.lines.words.items
+    let p : Fields =
+    fields_of s.code s.closure.state.table s.phi s.lines.portion.items s.lines.words.items
     s.lines.apart.items in
     let i = c.self.invariant.0 in
     let n = c.close-closed.new.closure in
@@ -263,7 +263,7 @@ returns-in-Err-word-clause-comes g c =
       runs =
           subst (λ v. Runs bytes limit (Closing v) c.args.left.now a
           (Ended (Outcome s.code (rising (word n.state m.place))))) c.self.view_is
-          (r (certificate_of p) i.sheet.portion bytes limit);
+          (r (certificate_of p) i.certificate.portion bytes limit);
       shown = inr refl;
       exact = λ h. omega arith;
     }
@@ -271,8 +271,8 @@ returns-in-Err-word-clause-comes g c =
 pub returns-in-Ok-Done-clause-comes : goal.returns-in-Ok-Done-clause-comes
 returns-in-Ok-Done-clause-comes g c =
     let s = c.self.inside in
-    let p : Pieces =
-    pieces_of s.code s.closure.state.table s.phi s.lines.portion.items s.lines.words.items
+    let p : Fields =
+    fields_of s.code s.closure.state.table s.phi s.lines.portion.items s.lines.words.items
     s.lines.apart.items in
     let i = c.self.invariant.0 in
     let n = c.close-closed.new.closure in
@@ -284,14 +284,14 @@ returns-in-Ok-Done-clause-comes g c =
     let e =
     ap (λ t.
     certificate_of
-    (pieces_of s.code t s.phi s.lines.portion.items s.lines.words.items s.lines.apart.items))
+    (fields_of s.code t s.phi s.lines.portion.items s.lines.words.items s.lines.apart.items))
     (c.finish-table.ensures.table ∙ c.close-closed.ensures.goes_on.same.table) in
     λ bytes limit. record {
       to = Ended (Yes (certificate_of p));
       runs =
           subst (λ v. Runs bytes limit (Closing v) c.args.left.now a
           (Ended (Yes (certificate_of p)))) c.self.view_is
-          (r (certificate_of p) i.sheet.portion bytes limit);
+          (r (certificate_of p) i.certificate.portion bytes limit);
       shown = inl (sym (ap (λ d. Ended (Yes d)) (c.accepted.ensures ∙ e)));
       exact = λ h. omega arith;
     }

@@ -36,19 +36,19 @@ heaps-preserved-then-self-order g c =
     rw (c.deref.ensures.value, i.order) at
     (none_of c.breach.result c.if-is_some.ensures c.breach.ensures.none) in
     let o =
-    obeys_at s.sheet i.lawful.in_ranges s.pairs.items s.contexts.items _ _ c.index.result.now
+    obeys_at s.certificate i.lawful.in_ranges s.pairs.items s.contexts.items _ _ c.index.result.now
     i.so_far i.within c.index.ensures none in
     record {
       same = i.same;
       order = i.order;
       last = i.last;
       lawful = i.lawful;
-      so_far = heap_turn s.sheet i.lawful.in_ranges s.pairs.items s.contexts.items _ _ i.so_far o
+      so_far = heap_turn s.certificate i.lawful.in_ranges s.pairs.items s.contexts.items _ _ i.so_far o
           (c.if-self-order.true ∙ i.order) i.within;
       within = omega arith;
       runs = λ bytes limit. elements_heap bytes limit _ _ _ _ _ _ _ (i.runs bytes limit) i.within
           (omega arith)
-          (λ x b. leads_nowhere s.sheet i.lawful.in_ranges s.pairs.items s.contexts.items _ _
+          (λ x b. leads_nowhere s.certificate i.lawful.in_ranges s.pairs.items s.contexts.items _ _
           i.so_far i.within c.index.result.now c.index.ensures x b (λ u. none u x b))
           (c.if-self-order.true ∙ i.order);
     }
@@ -62,22 +62,22 @@ heaps-preserved g c =
     rw (c.deref.ensures.value, i.order) at
     (none_of c.breach.result c.if-is_some.ensures c.breach.ensures.none) in
     let o =
-    obeys_at s.sheet i.lawful.in_ranges s.pairs.items s.contexts.items _ _ c.index.result.now
+    obeys_at s.certificate i.lawful.in_ranges s.pairs.items s.contexts.items _ _ c.index.result.now
     i.so_far i.within c.index.ensures none in
     let v = i.so_far.value in
     let e = i.order in
-    let b : s.option + 1 < s.sheet.order = omega arith in
+    let b : s.option + 1 < s.certificate.order = omega arith in
     record {
       same = i.same;
       order = i.order;
       last = i.last;
       lawful = i.lawful;
       so_far =
-          value_turn s.sheet i.lawful.in_ranges s.pairs.items s.contexts.items _ _ i.so_far o b;
+          value_turn s.certificate i.lawful.in_ranges s.pairs.items s.contexts.items _ _ i.so_far o b;
       within = i.within;
       runs = λ bytes limit. elements_option bytes limit _ _ _ _ _ _ _ (i.runs bytes limit) i.within
           (omega arith)
-          (λ x b. leads_nowhere s.sheet i.lawful.in_ranges s.pairs.items s.contexts.items _ _
+          (λ x b. leads_nowhere s.certificate i.lawful.in_ranges s.pairs.items s.contexts.items _ _
           i.so_far i.within c.index.result.now c.index.ensures x b (λ u. none u x b))
           (λ m. absurd (omega arith));
     }
@@ -98,5 +98,5 @@ pub breach-requires-clause-value : goal.breach-requires-clause-value
 breach-requires-clause-value g c =
     let i = c.heaps.invariant in
     rw c.deref.ensures.value
-    (value_below c.heaps.self-inside.sheet i.lawful.in_ranges c.heaps.self-inside.pairs.items
+    (value_below c.heaps.self-inside.certificate i.lawful.in_ranges c.heaps.self-inside.pairs.items
     c.heaps.self-inside.contexts.items _ _ c.index.result.now i.so_far i.within c.index.ensures)

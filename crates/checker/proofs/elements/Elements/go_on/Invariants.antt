@@ -1,5 +1,5 @@
 use Rattle.std.proofs.Common.{◌≡◌, ℕ, List, ◌+◌, ◌<◌, length}
-use Rattle.checker.specs.Sheets.{IsLawful}
+use Rattle.checker.specs.LawfulCertificates.{IsLawful}
 use Rattle.checker.specs.Closings.{ElementsSoFar}
 use Rattle.checker.specs.Turns.{Runs, elements_at}
 use Rattle.checker.specs.Turns.Phase.{Elements as AtElements}
@@ -9,15 +9,15 @@ abbrev pub invariant-heaps : goal.invariant-heaps
 invariant-heaps g l =
     let s = l.self-inside in
     record {
-      same : s.sheet ≡ l.fn.self.certificate;
-      order : l.order ≡ s.sheet.order;
+      same : s.certificate ≡ l.fn.self.certificate;
+      order : l.order ≡ s.certificate.order;
       last : l.last + 1 ≡ length s.pairs.items;
-      lawful : IsLawful s.sheet;
-      so_far : ElementsSoFar s.sheet s.pairs.items s.contexts.items s.heap s.option;
+      lawful : IsLawful s.certificate;
+      so_far : ElementsSoFar s.certificate s.pairs.items s.contexts.items s.heap s.option;
       within : s.heap < length s.pairs.items;
       runs : (bytes : List ℕ) (limit : ℕ)
           → Runs bytes limit (AtElements l.fn.self) l.initial.left l.left
-          (elements_at limit s.sheet s.pairs.items s.heap s.option);
+          (elements_at limit s.certificate s.pairs.items s.heap s.option);
     }
 
 abbrev pub decreases-heaps : goal.decreases-heaps

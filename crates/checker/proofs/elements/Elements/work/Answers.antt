@@ -1,7 +1,7 @@
 use Rattle.std.proofs.Common.{rules, ◌<◌, ◌≤◌, ◌+◌, ◌∷◌, length, subst, sym, ap, refl, inl, inr, ◌∙◌, arith}
 use Rattle.checker.specs.Stages.{Carries, reached}
 use Rattle.checker.proofs.ElementLemmas.{value_below, leads_in, obeys_at, value_turn, heap_turn, elements_end}
-use Rattle.answers.specs.Answers.Answer.{Outcome}
+use Rattle.answers.specs.ByteVerdicts.ByteVerdict.{Outcome}
 use Rattle.pair_closure.specs.Positions.{rising}
 use Rattle.checker.specs.Turns.{keys_from}
 use Rattle.checker.specs.Turns.Phase.{Elements, Closing, Ended}
@@ -27,7 +27,7 @@ returns-then-left-eq0-clause-comes g c =
     λ bytes. record {
       to = Elements
           (record {
-            certificate = c.self.inside.sheet;
+            certificate = c.self.inside.certificate;
             pairs = c.self.inside.pairs.items;
             heap = c.heaps.heap;
             option = c.heaps.option;
@@ -45,19 +45,19 @@ returns-in-Ok-clause-comes g c =
     let y = c.in-Some.y in
     let r = i.lawful.in_ranges in
     let b = c.in-Some.ensures.within in
-    let here = leads_here c.self.inside.sheet r c.self.inside.pairs.items c.self.inside.contexts.items _ _
+    let here = leads_here c.self.inside.certificate r c.self.inside.pairs.items c.self.inside.contexts.items _ _
     i.so_far l c.index.result.now c.index.ensures y c.in-Some.ensures.option
     (rw e at c.in-Some.ensures.heap) (rw e at c.in-Some.ensures.left) in
     λ bytes. record {
-      to = Ended (Outcome c.self.inside.sheet.code c.in-Ok.position);
+      to = Ended (Outcome c.self.inside.certificate.code c.in-Ok.position);
       runs =
           runs-to bytes c.args.limit _ _ _ _ _
           (elements_broken bytes c.args.limit _ _ _ _ _ _ _ (i.runs bytes) l y (omega arith)
           (omega arith) here
-          (λ x s. leads_nowhere c.self.inside.sheet r c.self.inside.pairs.items
+          (λ x s. leads_nowhere c.self.inside.certificate r c.self.inside.pairs.items
           c.self.inside.contexts.items _ _ i.so_far l c.index.result.now c.index.ensures x
           (omega arith) (λ o u. (rw e at c.in-Some.ensures.least) x s u)))
-          (ap (λ X. Ended (Outcome c.self.inside.sheet.code X)) (sym c.in-Ok.ensures.exact));
+          (ap (λ X. Ended (Outcome c.self.inside.certificate.code X)) (sym c.in-Ok.ensures.exact));
       shown = inl (sym c.rule_fails.ensures.shown);
       exact = (let f = c.rule_fails.ensures.shown in λ h. rw f (omega arith));
     }
@@ -70,16 +70,16 @@ returns-in-Err-clause-comes g c =
     let y = c.in-Some.y in
     let r = i.lawful.in_ranges in
     let b = c.in-Some.ensures.within in
-    let here = leads_here c.self.inside.sheet r c.self.inside.pairs.items c.self.inside.contexts.items _ _
+    let here = leads_here c.self.inside.certificate r c.self.inside.pairs.items c.self.inside.contexts.items _ _
     i.so_far l c.index.result.now c.index.ensures y c.in-Some.ensures.option
     (rw e at c.in-Some.ensures.heap) (rw e at c.in-Some.ensures.left) in
     λ bytes. record {
       to = Ended
-          (Outcome c.self.inside.sheet.code
-          (rising ((c.heaps.heap + 1) ∷ keys_from c.self.inside.sheet c.self.inside.sheet.order y)));
+          (Outcome c.self.inside.certificate.code
+          (rising ((c.heaps.heap + 1) ∷ keys_from c.self.inside.certificate c.self.inside.certificate.order y)));
       runs = elements_broken bytes c.args.limit _ _ _ _ _ _ _ (i.runs bytes) l y (omega arith)
           (omega arith) here
-          (λ x s. leads_nowhere c.self.inside.sheet r c.self.inside.pairs.items
+          (λ x s. leads_nowhere c.self.inside.certificate r c.self.inside.pairs.items
           c.self.inside.contexts.items _ _ i.so_far l c.index.result.now c.index.ensures x
           (omega arith) (λ o u. (rw e at c.in-Some.ensures.least) x s u));
       shown = inr refl;
@@ -104,7 +104,7 @@ breach-requires-clause-value g c =
     let i = c.heaps.invariant in
     let l : c.heaps.heap < length c.self.inside.pairs.items = search rules in
     rw c.deref.ensures.value
-    (value_below c.self.inside.sheet i.lawful.in_ranges c.self.inside.pairs.items
+    (value_below c.self.inside.certificate i.lawful.in_ranges c.self.inside.pairs.items
     c.self.inside.contexts.items _ _ c.index.result.now i.so_far l c.index.ensures)
 
 pub position_with-requires-clause-breach : goal.position_with-requires-clause-breach
@@ -112,7 +112,7 @@ position_with-requires-clause-breach g c =
     let i = c.heaps.invariant in
     let l : c.heaps.heap < length c.self.inside.pairs.items = search rules in
     let e = c.deref.ensures.value in
-    leads_in c.self.inside.sheet i.lawful.in_ranges c.self.inside.pairs.items c.self.inside.contexts.items
+    leads_in c.self.inside.certificate i.lawful.in_ranges c.self.inside.pairs.items c.self.inside.contexts.items
     _ _ c.in-Some.y c.index.result.now i.so_far l c.index.ensures c.in-Some.ensures.option
     (rw e at c.in-Some.ensures.heap) (rw e at c.in-Some.ensures.left)
 
@@ -126,7 +126,7 @@ heaps-preserved-then-option-order g c =
     let i = c.heaps.invariant in
     let l : c.heaps.heap < length c.self.inside.pairs.items = search rules in
     let o =
-    obeys_at c.self.inside.sheet i.lawful.in_ranges c.self.inside.pairs.items
+    obeys_at c.self.inside.certificate i.lawful.in_ranges c.self.inside.pairs.items
     c.self.inside.contexts.items _ _ c.index.result.now i.so_far l c.index.ensures
     (rw (c.deref.ensures.value, i.order) at c.in_default.ensures.none) in
     record {
@@ -134,10 +134,10 @@ heaps-preserved-then-option-order g c =
       order = i.order;
       lawful = i.lawful;
       so_far =
-          heap_turn c.self.inside.sheet i.lawful.in_ranges c.self.inside.pairs.items
+          heap_turn c.self.inside.certificate i.lawful.in_ranges c.self.inside.pairs.items
           c.self.inside.contexts.items _ _ i.so_far o (c.if-option-order.true ∙ i.order) l;
       runs = λ bytes. elements_heap bytes c.args.limit _ _ _ _ _ _ _ (i.runs bytes) l (omega arith)
-          (λ x s. leads_nowhere c.self.inside.sheet i.lawful.in_ranges c.self.inside.pairs.items
+          (λ x s. leads_nowhere c.self.inside.certificate i.lawful.in_ranges c.self.inside.pairs.items
           c.self.inside.contexts.items _ _ i.so_far l c.index.result.now c.index.ensures x s
           (λ u. (rw (c.deref.ensures.value, i.order) at c.in_default.ensures.none) u x s))
           (c.if-option-order.true ∙ i.order);
@@ -148,21 +148,21 @@ heaps-preserved g c =
     let i = c.heaps.invariant in
     let l : c.heaps.heap < length c.self.inside.pairs.items = search rules in
     let o =
-    obeys_at c.self.inside.sheet i.lawful.in_ranges c.self.inside.pairs.items
+    obeys_at c.self.inside.certificate i.lawful.in_ranges c.self.inside.pairs.items
     c.self.inside.contexts.items _ _ c.index.result.now i.so_far l c.index.ensures
     (rw (c.deref.ensures.value, i.order) at c.in_default.ensures.none) in
     let v = i.so_far.value in
-    let b : c.heaps.option + 1 < c.self.inside.sheet.order = omega arith in
+    let b : c.heaps.option + 1 < c.self.inside.certificate.order = omega arith in
     record {
       same = i.same;
       order = i.order;
       lawful = i.lawful;
       so_far =
-          value_turn c.self.inside.sheet i.lawful.in_ranges c.self.inside.pairs.items
+          value_turn c.self.inside.certificate i.lawful.in_ranges c.self.inside.pairs.items
           c.self.inside.contexts.items _ _ i.so_far o b;
       runs = λ bytes. elements_option bytes c.args.limit _ _ _ _ _ _ _ (i.runs bytes) l
           (omega arith)
-          (λ x s. leads_nowhere c.self.inside.sheet i.lawful.in_ranges c.self.inside.pairs.items
+          (λ x s. leads_nowhere c.self.inside.certificate i.lawful.in_ranges c.self.inside.pairs.items
           c.self.inside.contexts.items _ _ i.so_far l c.index.result.now c.index.ensures x s
           (λ u. (rw (c.deref.ensures.value, i.order) at c.in_default.ensures.none) u x s))
           (λ m. absurd (omega arith));
@@ -172,5 +172,5 @@ pub new-requires-clause-elements : goal.new-requires-clause-elements
 new-requires-clause-elements g c =
     let i = c.heaps.invariant in
     let l : length c.self.inside.pairs.items ≤ c.heaps.heap = search rules in
-    elements_end c.self.inside.sheet i.lawful.in_ranges c.self.inside.pairs.items
+    elements_end c.self.inside.certificate i.lawful.in_ranges c.self.inside.pairs.items
     c.self.inside.contexts.items _ _ i.so_far l

@@ -1,8 +1,8 @@
 use Rattle.std.proofs.Common.{◌-◌, ◌<◌, ◌≤◌, sym, ◌∙◌, ap, subst, arith}
 use Rattle.misere_theory.specs.Certificates.{Certificate}
 use Rattle.transition_algebra.specs.Work.{HeapWork, heap_cost}
-use Rattle.certificate.specs.Pieces.{certificate_of}
-use Rattle.checker.specs.Sheets.{pieces_of}
+use Rattle.certificate.specs.Fields.{certificate_of}
+use Rattle.checker.specs.LawfulCertificates.{fields_of}
 use Rattle.checker.specs.Turns.{Runs}
 use Rattle.checker.specs.Turns.Phase.{Heaps}
 use Rattle.checker.proofs.TurnLemmas.{runs-to}
@@ -15,7 +15,7 @@ returns-clause-runs g c = λ bytes limit.
     let s = c.self.inside in
     let of : HeapWork → Certificate =
     λ j. certificate_of
-    (pieces_of j.code j.table j.phi s.lines.portion.items s.lines.words.items
+    (fields_of j.code j.table j.phi s.lines.portion.items s.lines.words.items
     s.lines.apart.items) in
     let J = c.go_on.new.self in
     let U = c.args.left.now in

@@ -1,24 +1,24 @@
 use Rattle.std.proofs.Common.{◌<◌, sym, subst}
 use Rattle.misere_theory.specs.Certificates.{Canonical}
 use Rattle.transition_algebra.specs.Work.{HeapWork, heap_cost}
-use Rattle.checker.specs.Sheets.{pieces_of}
-use Rattle.checker.specs.Closings.{IsCanonicalSheet}
+use Rattle.checker.specs.LawfulCertificates.{fields_of}
+use Rattle.checker.specs.Closings.{IsCanonicalCertificate}
 use Rattle.checker.proofs.HeapTurns.{some_cost}
 use Rattle.checker.proofs.UnitLemmas.{bound_some}
 use Rattle.checker.proofs.heaps.Heaps.new.Goals as goal
 
 pub invariant_of-result : goal.invariant_of-result
 invariant_of-result g c =
-    let s = c.sheet.inside in
-    let some = some_cost s.code s.phi (bound_some _ c.sheet.invariant.whole.in_ranges) in
+    let s = c.certificate.inside in
+    let some = some_cost s.code s.phi (bound_some _ c.certificate.invariant.whole.in_ranges) in
     subst (λ (j : HeapWork).
-    IsCanonicalSheet
-    (pieces_of j.code j.table j.phi s.lines.portion.items s.lines.words.items
+    IsCanonicalCertificate
+    (fields_of j.code j.table j.phi s.lines.portion.items s.lines.words.items
     s.lines.apart.items) s.lines.inside × (j.spent < heap_cost j.code j.phi))
     (sym c.new.ensures) (
       record {
-        sheet = c.sheet.invariant;
-        canonical = subst Canonical (sym c.sheet.view_is)
+        certificate = c.certificate.invariant;
+        canonical = subst Canonical (sym c.certificate.view_is)
             c.requires;
       },
       some,

@@ -2,7 +2,7 @@ use Rattle.std.proofs.Common.{◌≡◌, ◌⊎◌, ℕ, List, ◌+◌, ◌-◌,
 use Rattle.std.specs.List.{All}
 use Rattle.transition_algebra.specs.Heaps.{AreAllHeapPairs}
 use Rattle.transition_algebra.specs.Pairs.{IsPair}
-use Rattle.checker.specs.Sheets.{pieces_of}
+use Rattle.checker.specs.LawfulCertificates.{fields_of}
 use Rattle.checker.proofs.HeapLemmas.{heaps_have_pairs}
 use native.Mathlib.Decide.{dec_lt}
 use Rattle.misere_theory.specs.Certificates.{Certificate}
@@ -11,7 +11,7 @@ use Rattle.transition_algebra.specs.Pretending.{Pretending}
 use Rattle.transition_algebra.specs.declared.pair.Pair.{Pair}
 use Rattle.transition_algebra.specs.Heaps.{all_heap_pairs}
 use Rattle.transition_algebra.specs.Work.{HeapWork, IsDone, heap_cost}
-use Rattle.certificate.specs.Pieces.{certificate_of, grid_of, pretending_of}
+use Rattle.certificate.specs.Fields.{certificate_of, grid_of, pretending_of}
 use Rattle.checker.specs.Turns.{Phase, Runs}
 use Rattle.checker.specs.Turns.Phase.{Heaps, Elements}
 use Rattle.checker.proofs.TurnLemmas.{runs-to}
@@ -29,7 +29,7 @@ returns-in-Err-clause-comes g c = λ bytes limit.
     let s = c.self.inside in
     let of : HeapWork → Certificate =
     λ j. certificate_of
-    (pieces_of j.code j.table j.phi s.lines.portion.items s.lines.words.items
+    (fields_of j.code j.table j.phi s.lines.portion.items s.lines.words.items
     s.lines.apart.items) in
     let J = c.work-made.new.self in
     let U = c.args.left.now in
@@ -68,7 +68,7 @@ returns-in-Ok-false-clause-comes g c = λ bytes limit.
     let s = c.self.inside in
     let of : HeapWork → Certificate =
     λ j. certificate_of
-    (pieces_of j.code j.table j.phi s.lines.portion.items s.lines.words.items
+    (fields_of j.code j.table j.phi s.lines.portion.items s.lines.words.items
     s.lines.apart.items) in
     let J = c.work-made.new.self in
     let U = c.args.left.now in
@@ -111,7 +111,7 @@ returns-in-Err-new-clause-comes g c = λ bytes limit.
     let s = c.self.inside in
     let of : HeapWork → Certificate =
     λ j. certificate_of
-    (pieces_of j.code j.table j.phi s.lines.portion.items s.lines.words.items
+    (fields_of j.code j.table j.phi s.lines.portion.items s.lines.words.items
     s.lines.apart.items) in
     let J = c.work-made.new.self in
     let U = c.args.left.now in
@@ -141,7 +141,7 @@ returns-in-Err-new-clause-comes g c = λ bytes limit.
           runs-left bytes limit U (U - (J.spent - s.job.spent)) _ _ _
           (subst (λ v. Runs bytes limit (Heaps v) U (U - (J.spent - s.job.spent)) to) c.self.view_is
           (runs-to bytes limit _ _ _ _ _ runs
-          (heaps_end limit (of s.job) J.spent c.self.invariant.0.sheet.whole.in_ranges l)))
+          (heaps_end limit (of s.job) J.spent c.self.invariant.0.certificate.whole.in_ranges l)))
           (omega arith);
       shown = inr refl;
       exact = λ _. omega arith;
@@ -152,7 +152,7 @@ returns-in-Ok-clause-comes g c = λ bytes limit.
     let s = c.self.inside in
     let of : HeapWork → Certificate =
     λ j. certificate_of
-    (pieces_of j.code j.table j.phi s.lines.portion.items s.lines.words.items
+    (fields_of j.code j.table j.phi s.lines.portion.items s.lines.words.items
     s.lines.apart.items) in
     let J = c.work-made.new.self in
     let U = c.args.left.now in
@@ -174,14 +174,14 @@ returns-in-Ok-clause-comes g c = λ bytes limit.
     Elements
     (record {
       certificate = certificate_of
-          (pieces_of code table phi s.lines.portion.items s.lines.words.items s.lines.apart.items);
+          (fields_of code table phi s.lines.portion.items s.lines.words.items s.lines.apart.items);
       pairs = pairs;
       heap = 0;
       option = 0;
     }) in
     let joined : grid_of (of s.job) ≡ s.job.table =
     ap (λ es. record { order = s.job.table.order; entries = es })
-    c.self.invariant.0.sheet.whole.rows_joined in
+    c.self.invariant.0.certificate.whole.rows_joined in
     let x = c.finish-code.result in
     let made : at s.job.code s.job.table s.job.phi (all_heap_pairs s.job.code s.job.table s.job.phi)
     ≡ Elements c.in-Ok.elements =
@@ -199,7 +199,7 @@ returns-in-Ok-clause-comes g c = λ bytes limit.
           (λ v. Runs bytes limit (Heaps v) U (U - (J.spent - s.job.spent))
           (Elements c.in-Ok.elements)) c.self.view_is
           (runs-to bytes limit _ _ _ _ _ runs
-          (heaps_end limit (of s.job) J.spent c.self.invariant.0.sheet.whole.in_ranges l
+          (heaps_end limit (of s.job) J.spent c.self.invariant.0.certificate.whole.in_ranges l
           ∙ (ap (λ t. at s.job.code s.job.table s.job.phi (all_heap_pairs s.job.code t s.job.phi))
           joined ∙ made)))) (omega arith);
       shown = inl refl;
@@ -217,5 +217,5 @@ new-requires-clause-pairs g c =
     let d = subst (λ k. AreAllHeapPairs r.0 r.1 k r.3.items) (sym e.phi) b in
     let n = subst (λ k. All (IsPair k.order) r.3.items) (sym e.table) e.within in
     heaps_have_pairs
-    (pieces_of r.0 r.1 r.2 s.lines.portion.items s.lines.words.items s.lines.apart.items)
+    (fields_of r.0 r.1 r.2 s.lines.portion.items s.lines.words.items s.lines.apart.items)
     r.3.items d n

@@ -1,7 +1,7 @@
 use Rattle.std.proofs.Common.{rules, arith, sym, ap, ◌∙◌, subst, inl, inr}
 use Rattle.misere_theory.specs.Verdicts.{IsFirstFault}
 use Rattle.misere_theory.specs.Verdicts.Fault.{Word, Order}
-use Rattle.checker.specs.Progress.{KeysSoFar}
+use Rattle.checker.specs.SoFar.{KeysSoFar}
 use Rattle.checker.specs.Turns.Phase.{Keys, Products}
 use Rattle.checker.proofs.FaultLemmas.{none_below_word, none_below_order}
 use Rattle.checker.proofs.KeyLemmas.{key_turn, keys_end, keys_word_free, keys_fall}
@@ -62,7 +62,7 @@ returns-then-not-is_keyed-clause-carries g c =
     let i = c.keys.invariant in
     λ _. subst (λ d. IsFirstFault d Word) i.same
     (elim c.is_keyed.ensures.fault
-    [ inl t ↦ absurd (cc) | inr f ↦ (f, none_below_word c.self.inside.sheet i.lawful.monoid) ])
+    [ inl t ↦ absurd (cc) | inr f ↦ (f, none_below_word c.self.inside.certificate i.lawful.monoid) ])
 
 pub keys-preserved : goal.keys-preserved
 keys-preserved g c =
@@ -84,13 +84,13 @@ returns-then-not-rising-clause-carries g c =
     let i = c.keys.invariant in
     let k = i.so_far in
     λ _. subst (λ d. IsFirstFault d Order) i.same (
-      keys_fall c.self.inside.sheet _ _ k c.if-not-rising.true,
-      none_below_order c.self.inside.sheet (none_below_word c.self.inside.sheet i.lawful.monoid)
-          (keys_word_free c.self.inside.sheet _ _ k (search rules)),
+      keys_fall c.self.inside.certificate _ _ k c.if-not-rising.true,
+      none_below_order c.self.inside.certificate (none_below_word c.self.inside.certificate i.lawful.monoid)
+          (keys_word_free c.self.inside.certificate _ _ k (search rules)),
     )
 
 pub new-requires : goal.new-requires
 new-requires g c =
     let i = c.keys.invariant in
-    keys_end c.self.inside.sheet _
-    (subst (KeysSoFar c.self.inside.sheet c.keys.next) c.if-not-rising.false i.so_far) (search rules)
+    keys_end c.self.inside.certificate _
+    (subst (KeysSoFar c.self.inside.certificate c.keys.next) c.if-not-rising.false i.so_far) (search rules)

@@ -1,8 +1,8 @@
 use Rattle.std.proofs.Common.{◌≡◌, ◌-◌, subst, sym, ap, ◌∙◌, false, arith}
 use Rattle.monoid_table.specs.Turns.{JobState, turns, triples, is_over}
 use Rattle.monoid_table.specs.Grids.{Grid}
-use Rattle.certificate.specs.Pieces.{certificate_of}
-use Rattle.checker.specs.Sheets.{pieces_of, IsRead}
+use Rattle.certificate.specs.Fields.{certificate_of}
+use Rattle.checker.specs.LawfulCertificates.{fields_of, IsRead}
 use Rattle.checker.specs.Turns.{Phase, Runs}
 use Rattle.checker.specs.Turns.Phase.{Laws}
 use Rattle.checker.proofs.TurnLemmas.{runs-of}
@@ -22,7 +22,7 @@ invariant_of-self g c =
         read =
             subst (λ t.
             IsRead
-            (pieces_of s.code t s.phi s.lines.portion.items s.lines.words.items s.lines.apart.items)
+            (fields_of s.code t s.phi s.lines.portion.items s.lines.words.items s.lines.apart.items)
             s.lines.inside) (sym e) c.self.invariant.0.read;
         within =
             let o = ap (λ t. triples t.order) e in
@@ -39,7 +39,7 @@ returns-clause-same g c =
     let e = ap (λ j. j.grid) c.go_on-looked.ensures.state ∙ turns-grid _ s.job in
     ap (λ t.
     certificate_of
-    (pieces_of s.code t s.phi s.lines.portion.items s.lines.words.items s.lines.apart.items)) e
+    (fields_of s.code t s.phi s.lines.portion.items s.lines.words.items s.lines.apart.items)) e
     ∙ ap (λ v. v.certificate) c.self.view_is
 
 pub returns-clause-runs : goal.returns-clause-runs
@@ -55,7 +55,7 @@ returns-clause-runs g c = λ bytes limit.
     λ j. Laws
     (record {
       certificate = certificate_of
-          (pieces_of s.code j.grid s.phi s.lines.portion.items s.lines.words.items
+          (fields_of s.code j.grid s.phi s.lines.portion.items s.lines.words.items
           s.lines.apart.items);
       job = j;
     }) in
@@ -63,7 +63,7 @@ returns-clause-runs g c = λ bytes limit.
     λ t. Laws
     (record {
       certificate = certificate_of
-          (pieces_of s.code t s.phi s.lines.portion.items s.lines.words.items s.lines.apart.items);
+          (fields_of s.code t s.phi s.lines.portion.items s.lines.words.items s.lines.apart.items);
       job = turns n s.job;
     }) in
     subst (λ v. Runs bytes limit (Laws v) U (U - n) (with c.go_on-looked.new.self)) c.self.view_is

@@ -1,14 +1,14 @@
 use Rattle.std.proofs.Common.{subst, sym, ap, ◌∙◌, ◌≡◌, ◌-◌, Ok, true, arith}
 use Rattle.monoid_table.specs.Turns.{turns, triples}
 use Rattle.monoid_table.specs.Faults.{answer_of}
-use Rattle.certificate.specs.Pieces.{Pieces, certificate_of}
+use Rattle.certificate.specs.Fields.{Fields, certificate_of}
 use Rattle.misere_theory.specs.Verdicts.{IsFirstFault}
 use Rattle.misere_theory.specs.Verdicts.Fault.{Law}
-use Rattle.checker.specs.Sheets.{pieces_of, IsRead}
+use Rattle.checker.specs.LawfulCertificates.{fields_of, IsRead}
 use Rattle.checker.proofs.FaultLemmas.{none_below_law}
 use Rattle.monoid_table.specs.Turns.{JobState}
 use Rattle.monoid_table.specs.Grids.{Grid}
-use Rattle.answers.specs.Answers.Answer.{Law as Broken}
+use Rattle.answers.specs.ByteVerdicts.ByteVerdict.{Law as Broken}
 use Rattle.checker.specs.Views.{KeysView}
 use Rattle.checker.specs.Turns.{Phase, Works}
 use Rattle.checker.specs.Turns.Phase.{Laws, Keys, Ended}
@@ -42,7 +42,7 @@ invariant_of-result g c =
         read =
             subst (λ t.
             IsRead
-            (pieces_of s.code t s.phi s.lines.portion.items s.lines.words.items s.lines.apart.items)
+            (fields_of s.code t s.phi s.lines.portion.items s.lines.words.items s.lines.apart.items)
             s.lines.inside) (sym e) c.self.invariant.0.read;
         within =
             let o = ap (λ t. triples t.order) e in
@@ -64,7 +64,7 @@ invariant_of-new g c =
     let r =
     subst (λ t.
     IsRead
-    (pieces_of s.code t s.phi s.lines.portion.items s.lines.words.items s.lines.apart.items)
+    (fields_of s.code t s.phi s.lines.portion.items s.lines.words.items s.lines.apart.items)
     s.lines.inside) (sym e) c.self.invariant.0.read in
     record {
       whole = r.whole;
@@ -78,7 +78,7 @@ returns-in-Ok-false-clause-carries g c =
     let e = ap (λ j. j.grid) c.work-looked.ensures.state ∙ turns-grid _ s.job in
     λ _. ap
     (λ t. certificate_of
-    (pieces_of s.code t s.phi s.lines.portion.items s.lines.words.items s.lines.apart.items)) e
+    (fields_of s.code t s.phi s.lines.portion.items s.lines.words.items s.lines.apart.items)) e
     ∙ ap (λ v. v.certificate) c.self.view_is
 
 pub returns-in-Ok-true-clause-carries : goal.returns-in-Ok-true-clause-carries
@@ -90,14 +90,14 @@ returns-in-Ok-true-clause-carries g c =
     λ _. ap (λ v. v.certificate) c.new.ensures.value
     ∙ (ap (λ t.
     certificate_of
-    (pieces_of s.code t s.phi s.lines.portion.items s.lines.words.items s.lines.apart.items)) e
+    (fields_of s.code t s.phi s.lines.portion.items s.lines.words.items s.lines.apart.items)) e
     ∙ ap (λ v. v.certificate) c.self.view_is)
 
 pub returns-in-Err-clause-carries : goal.returns-in-Err-clause-carries
 returns-in-Err-clause-carries g c =
     let s = c.self.inside in
-    let p : Pieces =
-    pieces_of s.code s.job.grid s.phi s.lines.portion.items s.lines.words.items
+    let p : Fields =
+    fields_of s.code s.job.grid s.phi s.lines.portion.items s.lines.words.items
     s.lines.apart.items in
     let f = law_fault p c.self.invariant.0.read.whole c.in-Err.ensures.law in
     λ _. subst (λ d. IsFirstFault d.certificate Law) c.self.view_is
@@ -120,7 +120,7 @@ returns-in-Ok-false-clause-works g c = λ bytes limit.
     λ j. Laws
     (record {
       certificate = certificate_of
-          (pieces_of s.code j.grid s.phi s.lines.portion.items s.lines.words.items
+          (fields_of s.code j.grid s.phi s.lines.portion.items s.lines.words.items
           s.lines.apart.items);
       job = j;
     }) in
@@ -128,7 +128,7 @@ returns-in-Ok-false-clause-works g c = λ bytes limit.
     λ t. Laws
     (record {
       certificate = certificate_of
-          (pieces_of s.code t s.phi s.lines.portion.items s.lines.words.items s.lines.apart.items);
+          (fields_of s.code t s.phi s.lines.portion.items s.lines.words.items s.lines.apart.items);
       job = turns U s.job;
     }) in
     subst (λ v. Works bytes limit (Laws v) U (U - (c.done.result - c.done-before.result))
@@ -152,7 +152,7 @@ returns-in-Ok-true-clause-works g c = λ bytes limit.
     let over : Grid → KeysView =
     λ t. record {
       certificate = certificate_of
-          (pieces_of s.code t s.phi s.lines.portion.items s.lines.words.items s.lines.apart.items);
+          (fields_of s.code t s.phi s.lines.portion.items s.lines.words.items s.lines.apart.items);
       next = 1;
       rising = true;
     } in

@@ -76,8 +76,8 @@ pub shifts-preserved-then-not-comes_again : goal.shifts-preserved-then-not-comes
 shifts-preserved-then-not-comes_again g c =
     let i = c.shifts.invariant in
     let not =
-    λ (e : phi_at c.self.inside.sheet (c.shifts.shift + (c.self.inside.sheet.start + c.shifts.count))
-    ≡ phi_at c.self.inside.sheet (c.self.inside.sheet.start + c.shifts.count)).
+    λ (e : phi_at c.self.inside.certificate (c.shifts.shift + (c.self.inside.certificate.start + c.shifts.count))
+    ≡ phi_at c.self.inside.certificate (c.self.inside.certificate.start + c.shifts.count)).
     let t : c.comes_again.result ≡ true =
     c.comes_again.ensures.again.1
     (rw i.start (
@@ -102,7 +102,7 @@ returns-then-count-period-clause-carries g c =
     let i = c.shifts.invariant in
     let e = rw i.start at (c.comes_again.ensures.again.0 c.if-not-comes_again.false).2 in
     λ _. subst (λ d. IsFirstFault d Period) i.same (
-      serves_round c.self.inside.sheet i.lawful.in_ranges _ _ i.so_far e (search rules)
+      serves_round c.self.inside.certificate i.lawful.in_ranges _ _ i.so_far e (search rules)
           (search rules),
       i.so_far.free,
     )
@@ -112,7 +112,7 @@ shifts-preserved g c =
     let i = c.shifts.invariant in
     let e = rw i.start at (c.comes_again.ensures.again.0 c.if-not-comes_again.false).2 in
     let s = i.so_far.short in
-    let l : c.shifts.count + 1 < c.self.inside.sheet.period = omega arith in
+    let l : c.shifts.count + 1 < c.self.inside.certificate.period = omega arith in
     record {
       same = i.same;
       start = i.start;
@@ -128,15 +128,15 @@ pub new-requires : goal.new-requires
 new-requires g c =
     let i = c.shifts.invariant in
     let w = i.so_far.within in
-    let whole : c.self.inside.sheet.period ≤ c.shifts.shift = omega arith in
+    let whole : c.self.inside.certificate.period ≤ c.shifts.shift = omega arith in
     let not =
-    λ (e : (1 ≤ c.self.inside.sheet.period) × (1 < c.self.inside.sheet.start)
-    × (phi_at c.self.inside.sheet (c.self.inside.sheet.period + (c.self.inside.sheet.start - 1))
-    ≡ phi_at c.self.inside.sheet (c.self.inside.sheet.start - 1))).
+    λ (e : (1 ≤ c.self.inside.certificate.period) × (1 < c.self.inside.certificate.start)
+    × (phi_at c.self.inside.certificate (c.self.inside.certificate.period + (c.self.inside.certificate.start - 1))
+    ≡ phi_at c.self.inside.certificate (c.self.inside.certificate.start - 1))).
     let t : c.comes_again-2.result ≡ true =
     c.comes_again-2.ensures.again.1
     (rw (i.start, i.period) ((let o = e.1 in omega arith), e.0, e.2))
     in
     let b : ⊥ = cc in b in
-    none_below_apart c.self.inside.sheet i.so_far.free
-    (periods_end c.self.inside.sheet _ _ i.so_far whole not)
+    none_below_apart c.self.inside.certificate i.so_far.free
+    (periods_end c.self.inside.certificate _ _ i.so_far whole not)

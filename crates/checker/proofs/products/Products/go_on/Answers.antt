@@ -45,7 +45,7 @@ products-preserved g c =
     let b = i.so_far.heap in
     let e = i.heaps in
     let s = c.products.self-inside in
-    let l : s.heap + 1 < s.sheet.start + s.sheet.period = omega arith in
+    let l : s.heap + 1 < s.certificate.start + s.certificate.period = omega arith in
     record {
       same = i.same;
       last = i.last;

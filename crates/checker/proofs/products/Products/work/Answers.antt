@@ -43,10 +43,10 @@ returns-then-not-is_in_order-clause-works g c =
 pub new-requires : goal.new-requires
 new-requires g c =
     let i = c.products.invariant in
-    let free = none_below_order c.self.inside.sheet (none_below_word c.self.inside.sheet i.lawful.monoid)
-    (keys_fault_free c.self.inside.sheet i.so_far.keys.keyed) in
-    none_below_period c.self.inside.sheet free
-    (products_end c.self.inside.sheet _ _ i.so_far (search rules))
+    let free = none_below_order c.self.inside.certificate (none_below_word c.self.inside.certificate i.lawful.monoid)
+    (keys_fault_free c.self.inside.certificate i.so_far.keys.keyed) in
+    none_below_period c.self.inside.certificate free
+    (products_end c.self.inside.certificate _ _ i.so_far (search rules))
 
 pub returns-clause-works : goal.returns-clause-works
 returns-clause-works g c =
@@ -62,8 +62,8 @@ returns-clause-works g c =
 pub returns-then-not-is_in_order-clause-carries : goal.returns-then-not-is_in_order-clause-carries
 returns-then-not-is_in_order-clause-carries g c =
     let i = c.products.invariant in
-    let free = none_below_order c.self.inside.sheet (none_below_word c.self.inside.sheet i.lawful.monoid)
-    (keys_fault_free c.self.inside.sheet i.so_far.keys.keyed) in
+    let free = none_below_order c.self.inside.certificate (none_below_word c.self.inside.certificate i.lawful.monoid)
+    (keys_fault_free c.self.inside.certificate i.so_far.keys.keyed) in
     λ _. subst (λ d. IsFirstFault d Order) i.same
     (elim c.is_in_order.ensures.fault [ inl t ↦ absurd (cc) | inr f ↦ (f, free) ])
 
@@ -86,7 +86,7 @@ pub products-preserved : goal.products-preserved
 products-preserved g c =
     let i = c.products.invariant in
     let b = i.so_far.heap in
-    let l : c.products.heap + 1 < c.self.inside.sheet.start + c.self.inside.sheet.period = omega arith in
+    let l : c.products.heap + 1 < c.self.inside.certificate.start + c.self.inside.certificate.period = omega arith in
     record {
       same = i.same;
       order = i.order;

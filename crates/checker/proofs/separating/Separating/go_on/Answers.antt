@@ -26,22 +26,22 @@ pairs-init g c =
 pub tells_apart-requires-clause-y_in : goal.tells_apart-requires-clause-y_in
 tells_apart-requires-clause-y_in g c =
     let i = c.pairs.invariant in
-    apart_in c.pairs.self-inside.sheet i.lawful.in_ranges _ _ _ _ i.so_far i.within
+    apart_in c.pairs.self-inside.certificate i.lawful.in_ranges _ _ _ _ i.so_far i.within
 
 pub pairs-preserved-then-not-tells_apart : goal.pairs-preserved-then-not-tells_apart
 pairs-preserved-then-not-tells_apart g c =
     let i = c.pairs.invariant in
     let s = c.pairs.self-inside in
-    let not = λ (t : TellsApart (claim_of s.sheet) (s.x, s.y) s.z).
+    let not = λ (t : TellsApart (claim_of s.certificate) (s.x, s.y) s.z).
     true≢false (sym (c.tells_apart.ensures.tells.1 t) ∙ c.if-not-tells_apart.true) in
-    let other = λ (e : s.z ≡ slice_index s.sheet.apart s.number).
+    let other = λ (e : s.z ≡ slice_index s.certificate.apart s.number).
     c.if-self-given.false (e ∙ sym c.apart-given.ensures.value) in
     record {
       same = i.same;
       order = i.order;
       last = i.last;
       lawful = i.lawful;
-      so_far = element_turn s.sheet i.lawful.in_ranges _ _ _ _ i.so_far i.within not other;
+      so_far = element_turn s.certificate i.lawful.in_ranges _ _ _ _ i.so_far i.within not other;
       within = i.within;
       runs =
           λ bytes limit. separating_further bytes limit _ _ _ _ _ _ _ _ (i.runs bytes limit)
@@ -54,10 +54,10 @@ pairs-preserved-then-self-order g c =
     let s = c.pairs.self-inside in
     let l = i.last in
     let v = c.apart-given.ensures.value in
-    let e : s.z ≡ slice_index s.sheet.apart s.number =
+    let e : s.z ≡ slice_index s.certificate.apart s.number =
     (let h = i.so_far.element i.within in omega arith) in
     let w = c.apart-given.ensures.within in
-    let b : s.z < s.sheet.order = omega arith in
+    let b : s.z < s.certificate.order = omega arith in
     let t = c.tells_apart.ensures.tells.0 c.if-not-tells_apart.false in
     let d = c.if-self-order.true ∙ i.order in
     record {
@@ -65,7 +65,7 @@ pairs-preserved-then-self-order g c =
       order = i.order;
       last = i.last;
       lawful = i.lawful;
-      so_far = last_pair_turn s.sheet i.lawful.in_ranges _ _ _ _ i.so_far i.within b t e d;
+      so_far = last_pair_turn s.certificate i.lawful.in_ranges _ _ _ _ i.so_far i.within b t e d;
       within = omega arith;
       runs = λ bytes limit. separating_row bytes limit _ _ _ _ _ _ _ _ (i.runs bytes limit) i.within
           _ (omega arith) c.tells_apart.ensures.same c.if-not-tells_apart.false (omega arith) d;
@@ -77,10 +77,10 @@ pairs-preserved g c =
     let s = c.pairs.self-inside in
     let l = i.last in
     let v = c.apart-given.ensures.value in
-    let e : s.z ≡ slice_index s.sheet.apart s.number =
+    let e : s.z ≡ slice_index s.certificate.apart s.number =
     (let h = i.so_far.element i.within in omega arith) in
     let w = c.apart-given.ensures.within in
-    let b : s.z < s.sheet.order = omega arith in
+    let b : s.z < s.certificate.order = omega arith in
     let t = c.tells_apart.ensures.tells.0 c.if-not-tells_apart.false in
     record {
       same = i.same;
@@ -88,7 +88,7 @@ pairs-preserved g c =
       last = i.last;
       lawful = i.lawful;
       so_far =
-          pair_turn s.sheet i.lawful.in_ranges _ _ _ _ i.so_far i.within b t e
+          pair_turn s.certificate i.lawful.in_ranges _ _ _ _ i.so_far i.within b t e
           (λ m. c.if-self-order.false (m ∙ sym i.order));
       within = omega arith;
       runs =

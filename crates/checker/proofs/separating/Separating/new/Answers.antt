@@ -3,5 +3,5 @@ use Rattle.checker.proofs.ApartLemmas.{apart_start}
 use Rattle.checker.proofs.separating.Separating.new.Goals as goal
 
 pub invariant_of-result : goal.invariant_of-result
-invariant_of-result g c = let r = c.sheets_are_lawful.ensures.in_ranges in
+invariant_of-result g c = let r = c.is_lawful.ensures.in_ranges in
     (apart_start _ r c.requires, some_pairs _ r)

@@ -65,35 +65,35 @@ returns-clause-works g c =
 pub tells_apart-requires-clause-y_in : goal.tells_apart-requires-clause-y_in
 tells_apart-requires-clause-y_in g c =
     let i = c.pairs.invariant in
-    apart_in c.self.inside.sheet i.lawful.in_ranges _ _ _ _ i.so_far (search rules)
+    apart_in c.self.inside.certificate i.lawful.in_ranges _ _ _ _ i.so_far (search rules)
 
 pub returns-then-z-given-clause-carries : goal.returns-then-z-given-clause-carries
 returns-then-z-given-clause-carries g c =
     let i = c.pairs.invariant in
-    let l : c.pairs.number < length c.self.inside.sheet.apart = subst (λ n. c.pairs.number < n) i.pairs
+    let l : c.pairs.number < length c.self.inside.certificate.apart = subst (λ n. c.pairs.number < n) i.pairs
     c.pairs-test.true in
-    let not = λ (t : TellsApart (claim_of c.self.inside.sheet) (c.pairs.x, c.pairs.y) c.pairs.z).
+    let not = λ (t : TellsApart (claim_of c.self.inside.certificate) (c.pairs.x, c.pairs.y) c.pairs.z).
     true≢false (sym (c.tells_apart.ensures.tells.1 t) ∙ c.if-not-tells_apart.true) in
     λ _. subst (λ d. IsFirstFault d Apart) i.same (
-      apart_none c.self.inside.sheet i.lawful.in_ranges _ _ _ _ i.so_far l not (search rules),
+      apart_none c.self.inside.certificate i.lawful.in_ranges _ _ _ _ i.so_far l not (search rules),
       i.so_far.free,
     )
 
 pub pairs-preserved-then-not-tells_apart : goal.pairs-preserved-then-not-tells_apart
 pairs-preserved-then-not-tells_apart g c =
     let i = c.pairs.invariant in
-    let l : c.pairs.number < length c.self.inside.sheet.apart = subst (λ n. c.pairs.number < n) i.pairs
+    let l : c.pairs.number < length c.self.inside.certificate.apart = subst (λ n. c.pairs.number < n) i.pairs
     c.pairs-test.true in
-    let not = λ (t : TellsApart (claim_of c.self.inside.sheet) (c.pairs.x, c.pairs.y) c.pairs.z).
+    let not = λ (t : TellsApart (claim_of c.self.inside.certificate) (c.pairs.x, c.pairs.y) c.pairs.z).
     true≢false (sym (c.tells_apart.ensures.tells.1 t) ∙ c.if-not-tells_apart.true) in
-    let other = λ (e : c.pairs.z ≡ slice_index c.self.inside.sheet.apart c.pairs.number).
+    let other = λ (e : c.pairs.z ≡ slice_index c.self.inside.certificate.apart c.pairs.number).
     c.if-z-given.false (e ∙ sym c.apart-given.ensures.value) in
     record {
       same = i.same;
       order = i.order;
       pairs = i.pairs;
       lawful = i.lawful;
-      so_far = element_turn c.self.inside.sheet i.lawful.in_ranges _ _ _ _ i.so_far l not other;
+      so_far = element_turn c.self.inside.certificate i.lawful.in_ranges _ _ _ _ i.so_far l not other;
       runs = λ bytes limit. separating_further bytes limit _ _ _ _ _ _ _ _ (i.runs bytes limit) l _
           (omega arith) c.tells_apart.ensures.same c.if-not-tells_apart.true other;
     }
@@ -101,10 +101,10 @@ pairs-preserved-then-not-tells_apart g c =
 pub returns-then-z-given-2-clause-carries : goal.returns-then-z-given-2-clause-carries
 returns-then-z-given-2-clause-carries g c =
     let i = c.pairs.invariant in
-    let l : c.pairs.number < length c.self.inside.sheet.apart = subst (λ n. c.pairs.number < n) i.pairs
+    let l : c.pairs.number < length c.self.inside.certificate.apart = subst (λ n. c.pairs.number < n) i.pairs
     c.pairs-test.true in
     λ _. subst (λ d. IsFirstFault d Apart) i.same (
-      apart_smaller c.self.inside.sheet i.lawful.in_ranges _ _ _ _ i.so_far l
+      apart_smaller c.self.inside.certificate i.lawful.in_ranges _ _ _ _ i.so_far l
           (c.tells_apart.ensures.tells.0 c.if-not-tells_apart.false) (search rules),
       i.so_far.free,
     )
@@ -112,13 +112,13 @@ returns-then-z-given-2-clause-carries g c =
 pub pairs-preserved-then-y-order : goal.pairs-preserved-then-y-order
 pairs-preserved-then-y-order g c =
     let i = c.pairs.invariant in
-    let l : c.pairs.number < length c.self.inside.sheet.apart = subst (λ n. c.pairs.number < n) i.pairs
+    let l : c.pairs.number < length c.self.inside.certificate.apart = subst (λ n. c.pairs.number < n) i.pairs
     c.pairs-test.true in
-    let e : c.pairs.z ≡ slice_index c.self.inside.sheet.apart c.pairs.number =
+    let e : c.pairs.z ≡ slice_index c.self.inside.certificate.apart c.pairs.number =
     (let h = i.so_far.element l in omega arith) in
     let v = c.apart-given.ensures.value in
     let w = c.apart-given.ensures.within in
-    let b : c.pairs.z < c.self.inside.sheet.order = omega arith in
+    let b : c.pairs.z < c.self.inside.certificate.order = omega arith in
     let t = c.tells_apart.ensures.tells.0 c.if-not-tells_apart.false in
     let d = c.if-y-order.true ∙ i.order in
     record {
@@ -127,7 +127,7 @@ pairs-preserved-then-y-order g c =
       pairs = i.pairs;
       lawful = i.lawful;
       so_far =
-          last_pair_turn c.self.inside.sheet i.lawful.in_ranges _ _ _ _ i.so_far l b t e d;
+          last_pair_turn c.self.inside.certificate i.lawful.in_ranges _ _ _ _ i.so_far l b t e d;
       runs = λ bytes limit. separating_row bytes limit _ _ _ _ _ _ _ _ (i.runs bytes limit) l _
           (omega arith) c.tells_apart.ensures.same c.if-not-tells_apart.false (omega arith) d;
     }
@@ -135,13 +135,13 @@ pairs-preserved-then-y-order g c =
 pub pairs-preserved : goal.pairs-preserved
 pairs-preserved g c =
     let i = c.pairs.invariant in
-    let l : c.pairs.number < length c.self.inside.sheet.apart = subst (λ n. c.pairs.number < n) i.pairs
+    let l : c.pairs.number < length c.self.inside.certificate.apart = subst (λ n. c.pairs.number < n) i.pairs
     c.pairs-test.true in
-    let e : c.pairs.z ≡ slice_index c.self.inside.sheet.apart c.pairs.number =
+    let e : c.pairs.z ≡ slice_index c.self.inside.certificate.apart c.pairs.number =
     (let h = i.so_far.element l in omega arith) in
     let v = c.apart-given.ensures.value in
     let w = c.apart-given.ensures.within in
-    let b : c.pairs.z < c.self.inside.sheet.order = omega arith in
+    let b : c.pairs.z < c.self.inside.certificate.order = omega arith in
     let t = c.tells_apart.ensures.tells.0 c.if-not-tells_apart.false in
     record {
       same = i.same;
@@ -149,7 +149,7 @@ pairs-preserved g c =
       pairs = i.pairs;
       lawful = i.lawful;
       so_far =
-          pair_turn c.self.inside.sheet i.lawful.in_ranges _ _ _ _ i.so_far l b t e
+          pair_turn c.self.inside.certificate i.lawful.in_ranges _ _ _ _ i.so_far l b t e
           (λ m. c.if-y-order.false (m ∙ sym i.order));
       runs = λ bytes limit. separating_pair bytes limit _ _ _ _ _ _ _ _ (i.runs bytes limit) l _
           (omega arith) c.tells_apart.ensures.same c.if-not-tells_apart.false (omega arith)
@@ -159,17 +159,17 @@ pairs-preserved g c =
 pub new-requires : goal.new-requires
 new-requires g c =
     let i = c.pairs.invariant in
-    let l : length c.self.inside.sheet.apart ≤ c.pairs.number = search rules in
+    let l : length c.self.inside.certificate.apart ≤ c.pairs.number = search rules in
     let free =
-    none_at_all c.self.inside.sheet i.so_far.free
-    (apart_end c.self.inside.sheet i.lawful.in_ranges _ _ _ _ i.so_far l) in
-    (faultless c.self.inside.sheet i.lawful.in_ranges free).1
+    none_at_all c.self.inside.certificate i.so_far.free
+    (apart_end c.self.inside.certificate i.lawful.in_ranges _ _ _ _ i.so_far l) in
+    (faultless c.self.inside.certificate i.lawful.in_ranges free).1
 
 pub tells_apart-requires-clause-x_in : goal.tells_apart-requires-clause-x_in
 tells_apart-requires-clause-x_in g c =
     let i = c.pairs.invariant in
     let r = i.so_far.rises in
-    let y = apart_in c.self.inside.sheet i.lawful.in_ranges _ _ _ _ i.so_far
+    let y = apart_in c.self.inside.certificate i.lawful.in_ranges _ _ _ _ i.so_far
     (subst (λ n. c.pairs.number < n) i.pairs c.pairs-test.true) in
     omega arith
 

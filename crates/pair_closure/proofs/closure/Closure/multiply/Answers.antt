@@ -1,6 +1,6 @@
 use Rattle.std.proofs.Common.{◌+◌, ◌<◌, ◌∙◌, sym, ap, subst, arith, rules, length, refl}
 use Rattle.pair_closure.specs.Turns.{State, KeepsNext, Multiplies}
-use Rattle.pair_closure.specs.Progress.{moved}
+use Rattle.pair_closure.specs.ClosureViews.{moved}
 use Rattle.pair_closure.proofs.Machine.{of_run, members_tell}
 use Rattle.pair_closure.proofs.Runs.{spent_fits}
 use Rattle.pair_closure.proofs.Turned.{read_by, read_held, read_generator, product_keeps, product_next, product_turned}

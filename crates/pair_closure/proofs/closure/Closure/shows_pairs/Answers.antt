@@ -2,7 +2,7 @@ use Rattle.std.proofs.Common.{◌≡◌, ◌≤◌, ◌+◌, ◌*◌, length, su
 use Rattle.pair_closure.specs.Positions.{ShowsPairs, IsMinimal}
 use Rattle.pair_closure.proofs.Machine.{of_run}
 use Rattle.pair_closure.proofs.Positions.{shows, minimal}
-use Rattle.pair_closure.specs.Progress.{retaken}
+use Rattle.pair_closure.specs.ClosureViews.{retaken}
 use Rattle.pair_closure.specs.Calls.{IsLimited}
 use Rattle.pair_closure.proofs.Runs.{spent_le, limited}
 use Rattle.pair_closure.proofs.closure.Closure.shows_pairs.Goals as goal

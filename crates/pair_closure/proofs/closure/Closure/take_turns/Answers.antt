@@ -1,6 +1,6 @@
 use Rattle.std.proofs.Common.{◌≡◌, ◌≤◌, ◌∙◌, ap, arith, rules, true, false, inl, inr}
 use Rattle.pair_closure.specs.Turns.{has_ended}
-use Rattle.pair_closure.specs.Progress.{stopped}
+use Rattle.pair_closure.specs.ClosureViews.{stopped}
 use Rattle.pair_closure.specs.Calls.{ended}
 use Rattle.pair_closure.proofs.Running.{next_steps}
 use Rattle.pair_closure.proofs.Calls.{ended_ends, one_more, takes, takes_here, refused}

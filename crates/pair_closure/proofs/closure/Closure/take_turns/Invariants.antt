@@ -1,5 +1,5 @@
 use Rattle.std.proofs.Common.{◌≡◌, ℕ, ◌<◌, false}
-use Rattle.pair_closure.specs.Progress.{steps}
+use Rattle.pair_closure.specs.ClosureViews.{steps}
 use Rattle.pair_closure.specs.Calls.{ended}
 use Rattle.pair_closure.proofs.closure.Closure.take_turns.Given as goal
 

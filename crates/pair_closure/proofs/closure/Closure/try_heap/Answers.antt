@@ -1,6 +1,6 @@
 use Rattle.std.proofs.Common.{◌+◌, ◌∙◌, sym, ap, subst, arith, rules, refl}
 use Rattle.pair_closure.specs.Turns.{State, KeepsNext, TriesHeap}
-use Rattle.pair_closure.specs.Progress.{moved}
+use Rattle.pair_closure.specs.ClosureViews.{moved}
 use Rattle.pair_closure.proofs.Machine.{of_run, members_tell}
 use Rattle.pair_closure.proofs.Runs.{spent_fits}
 use Rattle.pair_closure.proofs.Turned.{heap_keeps, heap_next, heap_turned}

@@ -1,5 +1,5 @@
 use Rattle.std.proofs.Common.{◌≡◌, ℕ, ◌<◌, length, false}
-use Rattle.pair_closure.specs.Progress.{steps}
+use Rattle.pair_closure.specs.ClosureViews.{steps}
 use Rattle.pair_closure.specs.Calls.{ended_or_kept}
 use Rattle.pair_closure.proofs.closure.Closure.turn_to_member.Given as goal
 

@@ -1,7 +1,7 @@
 use Rattle.std.proofs.Common.{◌≡◌, ◌<◌, ◌∙◌, true≢false, sym, ap, subst, length, get_or, refl, arith}
 use Rattle.pair_closure.specs.Chains.{blank}
 use Rattle.pair_closure.specs.Turns.{blank_held}
-use Rattle.pair_closure.specs.Progress.{IsRun}
+use Rattle.pair_closure.specs.ClosureViews.{IsRun}
 use Rattle.pair_closure.proofs.ChainLaws.{same_default}
 use Rattle.pair_closure.proofs.Machine.{of_run, place_in}
 use Rattle.pair_closure.proofs.Words.{Walking, walk_begins, walk_goes, walk_falls, walk_sizes, walk_room, walk_ends}

@@ -4,11 +4,11 @@ use Rattle.std.proofs.lemmas.List.Elements.{All-append}
 use Rattle.std.proofs.lemmas.List.Sorted.{All-permutation}
 use Rattle.std.proofs.lemmas.Result.{IfOk-from_err}
 use Rattle.positions.specs.Positions.{IsSize}
-use Rattle.positions.proofs.Room.{heaps_fit, not_failed}
+use Rattle.positions.proofs.HeapsFit.{heaps_fit, not_failed}
 use Rattle.positions.proofs.position.Position.add.Goals as goal
 
 pub from_slice-requires : goal.from_slice-requires
-from_slice-requires g c = heaps_fit g.row.A g.A.Allocator g.met.A.Room.small
+from_slice-requires g c = heaps_fit g.row.A g.A.Allocator g.met.A.SmallAllocator.small
 
 pub returns-in_err-heaps-clause-sum : goal.returns-in_err-heaps-clause-sum
 returns-in_err-heaps-clause-sum g c =
@@ -20,7 +20,7 @@ returns-in_err-heaps-clause-inline g c = λ few.
     absurd (not_failed (c.in_err-heaps.ensures.succeeds (omega arith)))
 
 pub extend_from_slice-requires : goal.extend_from_slice-requires
-extend_from_slice-requires g c = heaps_fit g.row.A g.A.Allocator g.met.A.Room.small
+extend_from_slice-requires g c = heaps_fit g.row.A g.A.Allocator g.met.A.SmallAllocator.small
 
 pub returns-in_err-extend_from_slice-clause-sum : goal.returns-in_err-extend_from_slice-clause-sum
 returns-in_err-extend_from_slice-clause-sum g c =
@@ -37,7 +37,7 @@ returns-in_err-extend_from_slice-clause-inline g c = λ few.
     absurd (not_failed (c.in_err-extend_from_slice.ensures.succeeds (omega arith)))
 
 pub sort-requires : goal.sort-requires
-sort-requires g c = heaps_fit g.row.A g.A.Allocator g.met.A.Room.small
+sort-requires g c = heaps_fit g.row.A g.A.Allocator g.met.A.SmallAllocator.small
 
 pub invariant_of-result : goal.invariant_of-result
 invariant_of-result g c =

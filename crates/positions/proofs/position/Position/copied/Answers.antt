@@ -1,13 +1,13 @@
 use Rattle.std.proofs.Common.{◌∙◌, refl}
 use Rattle.std.proofs.lemmas.Result.{IfOk-from_err}
-use Rattle.positions.proofs.Room.{heaps_fit, not_failed}
+use Rattle.positions.proofs.HeapsFit.{heaps_fit, not_failed}
 use Rattle.positions.proofs.position.Position.copied.Goals as goal
 
 pub as_slice-requires : goal.as_slice-requires
-as_slice-requires g c = heaps_fit g.row.A g.A.Allocator g.met.A.Room.small
+as_slice-requires g c = heaps_fit g.row.A g.A.Allocator g.met.A.SmallAllocator.small
 
 pub from_slice-requires : goal.from_slice-requires
-from_slice-requires g c = heaps_fit g.row.A g.A.Allocator g.met.A.Room.small
+from_slice-requires g c = heaps_fit g.row.A g.A.Allocator g.met.A.SmallAllocator.small
 
 pub returns-in_err-heaps-clause-same : goal.returns-in_err-heaps-clause-same
 returns-in_err-heaps-clause-same g c =

@@ -1,9 +1,9 @@
 use Rattle.std.proofs.Common.{◌∙◌}
-use Rattle.positions.proofs.Room.{heaps_fit}
+use Rattle.positions.proofs.HeapsFit.{heaps_fit}
 use Rattle.positions.proofs.position.Position.heaps.Goals as goal
 
 pub as_slice-requires : goal.as_slice-requires
-as_slice-requires g c = heaps_fit g.row.A g.A.Allocator g.met.A.Room.small
+as_slice-requires g c = heaps_fit g.row.A g.A.Allocator g.met.A.SmallAllocator.small
 
 pub returns-clause-value : goal.returns-clause-value
 returns-clause-value g c = c.as_slice.ensures ∙ c.self.view_is

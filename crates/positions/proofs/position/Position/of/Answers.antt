@@ -3,11 +3,11 @@ use Rattle.std.specs.List.Sorted.{IsPermutation}
 use Rattle.std.proofs.lemmas.List.Sorted.{All-permutation}
 use Rattle.std.proofs.lemmas.Result.{IfOk-from_err}
 use Rattle.positions.specs.Positions.{IsSize}
-use Rattle.positions.proofs.Room.{heaps_fit, not_failed}
+use Rattle.positions.proofs.HeapsFit.{heaps_fit, not_failed}
 use Rattle.positions.proofs.position.Position.of.Goals as goal
 
 pub from_slice-requires : goal.from_slice-requires
-from_slice-requires g c = heaps_fit g.row.A g.A.Allocator g.met.A.Room.small
+from_slice-requires g c = heaps_fit g.row.A g.A.Allocator g.met.A.SmallAllocator.small
 
 pub returns-in_err-heaps-clause-same : goal.returns-in_err-heaps-clause-same
 returns-in_err-heaps-clause-same g c =
@@ -18,7 +18,7 @@ returns-in_err-heaps-clause-inline g c = λ few.
     absurd (not_failed (c.in_err-heaps.ensures.succeeds few))
 
 pub sort-requires : goal.sort-requires
-sort-requires g c = heaps_fit g.row.A g.A.Allocator g.met.A.Room.small
+sort-requires g c = heaps_fit g.row.A g.A.Allocator g.met.A.SmallAllocator.small
 
 pub invariant_of-result : goal.invariant_of-result
 invariant_of-result g c =

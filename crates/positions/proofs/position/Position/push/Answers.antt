@@ -2,21 +2,21 @@ use Rattle.std.proofs.Common.{length, refl, ap, arith}
 use Rattle.std.proofs.lemmas.List.Sorted.{IsPermutation-insert}
 use Rattle.std.proofs.lemmas.Result.{IfOk-from_err, MatchResult-from_err}
 use Rattle.positions.proofs.Heaps.{inserted}
-use Rattle.positions.proofs.Room.{heaps_fit, not_failed}
+use Rattle.positions.proofs.HeapsFit.{heaps_fit, not_failed}
 use Rattle.positions.proofs.position.Position.push.Goals as goal
 
 pub has_room-requires : goal.has_room-requires
-has_room-requires g c = heaps_fit g.row.A g.A.Allocator g.met.A.Room.small
+has_room-requires g c = heaps_fit g.row.A g.A.Allocator g.met.A.SmallAllocator.small
 
 pub as_slice-requires : goal.as_slice-requires
-as_slice-requires g c = heaps_fit g.row.A g.A.Allocator g.met.A.Room.small
+as_slice-requires g c = heaps_fit g.row.A g.A.Allocator g.met.A.SmallAllocator.small
 
 pub place_for-at-requires : goal.place_for-at-requires
 place_for-at-requires g c = rw c.as_slice.ensures c.self.invariant.0
 
 pub insert-requires : goal.insert-requires
 insert-requires g c = (
-  heaps_fit g.row.A g.A.Allocator g.met.A.Room.small,
+  heaps_fit g.row.A g.A.Allocator g.met.A.SmallAllocator.small,
   rw (← c.as_slice.ensures) c.place_for-at.ensures.within,
 )
 

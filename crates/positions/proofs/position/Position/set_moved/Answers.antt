@@ -5,17 +5,17 @@ use Rattle.std.proofs.lemmas.Result.{IfOk-from_err, MatchResult-from_err}
 use Rattle.heap_options.specs.Exact.{heaps_of}
 use Rattle.std.proofs.lemmas.List.Edits.{length-remove}
 use Rattle.positions.proofs.Heaps.{rest_rises, moved_fit}
-use Rattle.positions.proofs.Room.{heaps_fit, not_failed}
+use Rattle.positions.proofs.HeapsFit.{heaps_fit, not_failed}
 use Rattle.positions.proofs.position.Position.set_moved.Goals as goal
 
 pub has_room-requires : goal.has_room-requires
-has_room-requires g c = heaps_fit g.row.A g.A.Allocator g.met.A.Room.small
+has_room-requires g c = heaps_fit g.row.A g.A.Allocator g.met.A.SmallAllocator.small
 
 pub len-requires : goal.len-requires
-len-requires g c = heaps_fit g.row.A g.A.Allocator g.met.A.Room.small
+len-requires g c = heaps_fit g.row.A g.A.Allocator g.met.A.SmallAllocator.small
 
 pub reserve-requires : goal.reserve-requires
-reserve-requires g c = heaps_fit g.row.A g.A.Allocator g.met.A.Room.small
+reserve-requires g c = heaps_fit g.row.A g.A.Allocator g.met.A.SmallAllocator.small
 
 pub invariant_of-self : goal.invariant_of-self
 invariant_of-self g c = rw c.reserve.ensures.items c.self.invariant
@@ -45,7 +45,7 @@ returns-in_err-reserve-clause-inline g c = λ few.
 
 pub set_others-requires : goal.set_others-requires
 set_others-requires g c = (
-  heaps_fit g.row.A g.A.Allocator g.met.A.Room.small,
+  heaps_fit g.row.A g.A.Allocator g.met.A.SmallAllocator.small,
   (
     rw c.heaps-heaps.ensures.value c.requires.there,
     (let others = ap (λ xs. length (remove xs c.args.at)) c.heaps-heaps.ensures.value in
@@ -64,7 +64,7 @@ pub add_left-requires : goal.add_left-requires
 add_left-requires g c =
     let others : c.set_others.new.heaps.items ≡ remove c.args.from.now c.args.at =
     c.set_others.ensures.items ∙ ap (λ xs. remove xs c.args.at) c.heaps-heaps.ensures.value in (
-      heaps_fit g.row.A g.A.Allocator g.met.A.Room.small,
+      heaps_fit g.row.A g.A.Allocator g.met.A.SmallAllocator.small,
       (
         (let cut = length-remove c.args.from.now c.args.at c.requires.there in
             let rest = ap length others in

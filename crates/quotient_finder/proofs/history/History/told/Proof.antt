@@ -38,7 +38,7 @@ use denote.Triple.Walked.{stay_none_ref, Goes-none_ref}
 use denote.RattleType.{RattleType}
 use Rattle.std.specs.contracts.alloc.Global as global
 use Rattle.std.specs.contracts.impls.GlobalAllocator.TheImpl as impl
-use Rattle.answers.specs.Answers.{refused}
+use Rattle.answers.specs.ByteVerdicts.{refused}
 use Rattle.answers.specs.contracts.refusal.Refusal as of
 
 abbrev R : RattleType
