@@ -6,7 +6,7 @@ use Rattle.std.specs.Io.KnownBytes.{Appends}
 use Rattle.std.specs.List.{flat_map}
 use Rattle.octal_code.specs.Text.{code_text, digit_byte}
 use Rattle.streams.specs.Stream.{AppendsSome}
-use Rattle.streams.specs.StreamLaws.{appends_then, some_then, some_more}
+use Rattle.streams.proofs.StreamLaws.{appends_then, some_then, some_more}
 use Rattle.certificate_text.specs.Spelling.{Line, spaced, row_line, text}
 
 -- ---- a piece for each element of a list

@@ -18,7 +18,7 @@ use Rattle.pair_closure.specs.Positions.{as_pair, kept, IsClaimOver, IsClosedOve
 use Rattle.pair_closure.specs.ClosureViews.{blank_held}
 use Rattle.pair_closure.specs.declared.settle.Held.{Held}
 use Rattle.pair_closure.specs.Turns.{State}
-use Rattle.pair_closure.specs.OptionLaws.{items_have, has_items}
+use Rattle.pair_closure.proofs.OptionLaws.{items_have, has_items}
 use Rattle.certificate.specs.Fields.{Fields, certificate_of}
 use Rattle.answers.specs.Portions.{IsPortion}
 use Rattle.checker.specs.Rules.{Obeys, Breaks, HeldObey}

@@ -8,7 +8,7 @@ use Rattle.misere_theory.proofs.Refusals.{fails_outside, fails_inside}
 use Rattle.transition_algebra.specs.declared.pair.Pair.{Pair}
 use Rattle.transition_algebra.specs.Pairs.{is_empty}
 use Rattle.pair_closure.specs.Positions.{as_pair}
-use Rattle.pair_closure.specs.OptionLaws.{items_have, has_items, some_or_empty}
+use Rattle.pair_closure.proofs.OptionLaws.{items_have, has_items, some_or_empty}
 use Rattle.checker.specs.Rules.{Obeys, Breaks}
 
 apart : (b : Bool) → b ≡ true → b ≡ false → ⊥

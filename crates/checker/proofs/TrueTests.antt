@@ -128,11 +128,11 @@ differ true false e d = absurd cc
 differ false true e d = absurd cc
 differ false false e d = absurd cc
 
-alike : (a b : Bool) → (if a then not b else b) ≡ false → a ≢ b → ⊥
-alike true true e d = d refl
-alike true false e d = absurd cc
-alike false true e d = absurd cc
-alike false false e d = d refl
+same_sides : (a b : Bool) → (if a then not b else b) ≡ false → a ≢ b → ⊥
+same_sides true true e d = d refl
+same_sides true false e d = absurd cc
+same_sides false true e d = absurd cc
+same_sides false false e d = d refl
 
 module _ (c : Certificate) (x y z : ℕ) where
   pub apart_is : tells_apart c x y z ≡ true → TellsApart (claim_of c) (x, y) z
@@ -141,7 +141,7 @@ module _ (c : Certificate) (x y z : ℕ) where
 
   pub not_apart : tells_apart c x y z ≡ false → TellsApart (claim_of c) (x, y) z → ⊥
   not_apart f =
-      alike ((claim_of c).portion (times_of c x z)) ((claim_of c).portion (times_of c y z)) f
+      same_sides ((claim_of c).portion (times_of c x z)) ((claim_of c).portion (times_of c y z)) f
 
 pub not_false : (b : Bool) → not b ≡ false → b ≡ true
 not_false true e = refl

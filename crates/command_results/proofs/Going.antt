@@ -2,7 +2,7 @@
 use Rattle.std.proofs.Common.{◌≡◌, ℕ, List, [], ◌∷◌, ◌++◌, Option, Result, Ok, Err, ap, arith, length, refl, subst, sym, take}
 use Rattle.std.specs.Io.KnownBytes.{Appends}
 use Rattle.streams.specs.Stream.{AppendsSome, Counts, Puts}
-use Rattle.streams.specs.StreamLaws as laws
+use Rattle.streams.proofs.StreamLaws as laws
 use Rattle.command_results.specs.Printers.{PrintsLine, printer}
 
 -- three pieces, of which each is given in another form

@@ -11,7 +11,7 @@ use Rattle.desk_command.specs.Stops.{Breaks, IsOpenOf, IsStepCause}
 use Rattle.command_results.specs.Printers.{Printer}
 use Rattle.desk_command.specs.declared.stop.DeskStop.{DeskStop}
 use Rattle.desk_command.specs.declared.stop.DeskStop.TheVariants.{NotAStep, Read, Write, Memory}
-use Rattle.streams.specs.StreamLaws.{appends_nothing, appends_then, some_then}
+use Rattle.streams.proofs.StreamLaws.{appends_nothing, appends_then, some_then}
 use Rattle.desk_command.proofs.Runs.{Stands, has_run, stands_anew, stands_on}
 
 abbrev pub Files : Type 0

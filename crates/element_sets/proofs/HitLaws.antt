@@ -4,7 +4,7 @@ use Rattle.std.specs.Prelude.{◌↔◌, ◌||◌, ◌==◌, IsTrue, slice_index
 use Rattle.std.specs.List.{list_any}
 use Rattle.std.specs.Int.{bit_at, trailing_zeros}
 use Rattle.std.specs.Ordering.{nat_cmp, eq_by_cmp}
-use Rattle.std.specs.Cmp.{nat_cmp_total, unsigned_tied}
+use Rattle.std.specs.Cmp.{both_ways, nat_cmp_total, unsigned_tied}
 use Rattle.std.specs.FinSet as fin
 use Rattle.std.specs.FinSet.{contains-from_list_nat, nat_cmp-IsAntisymmetric, contains-insert, contains-empty, contains-items, same_set}
 use Rattle.std.proofs.lemmas.Bool.{cases_lt, cases_eq}
@@ -283,12 +283,6 @@ translated_to s row x q member same =
     contains-from_list_nat (map (λ x. slice_index row x) (fin.items s)) q
     ∙ any_to (λ x. slice_index row x) (fin.items s) x q (sym (contains-items s x) ∙ member) same
 
-alike : (a b : Bool) → (a ≡ true → b ≡ true) → (b ≡ true → a ≡ true) → a ≡ b
-alike true true f g = refl
-alike true false f g = sym (f refl)
-alike false true f g = g refl
-alike false false f g = refl
-
 pub small_members : (lanes : List ℕ) (x : ℕ) → IsTrue (fin.contains (set_of lanes) x)
     → x < 64 * length lanes
 small_members lanes x member = elim (cases_lt x (64 * length lanes)) [
@@ -305,7 +299,7 @@ lanes_so_far : (all : fin.FinSet nat_cmp) (lanes row : List ℕ) (n : ℕ)
     → ((q : ℕ) → IsTrue (fin.contains all q) ↔ IsImageBelow lanes n row q)
     → ((x : ℕ) → has lanes x ≡ true → x < 64 * n)
     → all ≡ translated (set_of lanes) row
-lanes_so_far all lanes row n image below = same_set nat_cmp_total nat_cmp-IsAntisymmetric all _ (λ q. alike _ _
+lanes_so_far all lanes row n image below = same_set nat_cmp_total nat_cmp-IsAntisymmetric all _ (λ q. both_ways _ _
     (λ member. let i = (image q).0 member in
     translated_to (set_of lanes) row i.0 q (contains-set_of lanes i.0 ∙ i.2) i.3)
     (λ member.

@@ -3,7 +3,7 @@ use Rattle.std.proofs.Common.{◌≡◌, ℕ, zero, suc, ◌+◌, ◌-◌, ◌*�
 use Rattle.std.specs.Prelude.{◌&&◌, ◌||◌, IsTrue}
 use Rattle.std.specs.Int.{bit_at, trailing_zeros}
 use Rattle.std.specs.Ordering.{nat_cmp}
-use Rattle.std.specs.Cmp.{nat_cmp_total, unsigned_tied}
+use Rattle.std.specs.Cmp.{both_ways, nat_cmp_total, unsigned_tied}
 use Rattle.std.specs.FinSet as fin
 use Rattle.std.specs.FinSet.{nat_cmp-IsAntisymmetric, contains-insert, contains-union, contains-empty, same_set, is_subset-contains, contains-is_subset}
 use Rattle.std.proofs.lemmas.Bool.Decides.{nat_tests}
@@ -330,14 +330,8 @@ set_of-injective xs ys same_length fits fits2 e =
 
 pub eq_is : (xs ys : List ℕ) → length xs ≡ length ys → ((i : ℕ) → get_or xs i 0 < 2 ^ 64)
     → ((i : ℕ) → get_or ys i 0 < 2 ^ 64) → bytes_eq xs ys ≡ same (set_of xs) (set_of ys)
-eq_is xs ys same_length fits fits2 = alike _ _
+eq_is xs ys same_length fits fits2 = both_ways _ _
     (λ e. subst (λ l. same (set_of xs) (set_of l) ≡ true) ((bytes_eq-Decides xs ys).0 e)
     (same-itself (set_of xs)))
     (λ e. (bytes_eq-Decides xs ys).1
     (set_of-injective xs ys same_length fits fits2 (same-is _ _ e)))
-  where
-    alike : (a b : Bool) → (a ≡ true → b ≡ true) → (b ≡ true → a ≡ true) → a ≡ b
-    alike true true f g = refl
-    alike true false f g = sym (f refl)
-    alike false true f g = g refl
-    alike false false f g = refl

@@ -4,11 +4,11 @@ use Rattle.std.specs.List.{Contains}
 use Rattle.misere_theory.specs.Games.{digit}
 use Rattle.octal_code.specs.Bits.{allows, leaves_one, takes_all}
 use Rattle.octal_code.specs.declared.leaving.Leaving.TheVariants.{NoHeap, OneHeap, TwoHeaps, ThreeHeaps}
-use Rattle.octal_code.specs.BitLaws.{bit_says, bit_is, all_says, all_is, one_says, one_is}
+use Rattle.octal_code.proofs.BitLaws.{bit_says, bit_is, all_says, all_is, one_says, one_is}
 use Rattle.heap_options.specs.Options.{options_of}
 use Rattle.heap_options.specs.Exact.{IsLeftAt}
 use Rattle.heap_options.specs.declared.left.Left.TheVariants.{Nothing, One, Two, Three}
-use Rattle.heap_options.specs.OptionLaws.{in_all, of_options}
+use Rattle.heap_options.proofs.OptionLaws.{in_all, of_options}
 
 pub nothing_allowed : (code : List ℕ) (n : ℕ) → (takes_all code n n ≡ true)
     ↔ Contains (options_of code n) Nothing

@@ -9,8 +9,8 @@ use Rattle.misere_theory.specs.Plays.{LeftBefore}
 use Rattle.misere_theory.proofs.InOrder.{put_in_order, in_order_none, in_order_one, in_order_two, in_order_three}
 use Rattle.misere_theory.proofs.Shuffles.{back, to_permutation}
 use Rattle.heap_options.specs.Options.{options_of, options_up_to}
-use Rattle.heap_options.specs.OptionLaws.{in_all, only}
-use Rattle.heap_options.specs.RisingLists.{rising_same}
+use Rattle.heap_options.proofs.OptionLaws.{in_all, only}
+use Rattle.misere_theory.proofs.RisingLists.{rising_same}
 use Rattle.heap_options.specs.Exact.{heaps_of, IsInOrder}
 use Rattle.heap_options.specs.declared.left.Left.{Left}
 use Rattle.heap_options.specs.declared.left.Left.TheVariants.{Nothing, One, Two, Three}

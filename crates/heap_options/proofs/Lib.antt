@@ -2,3 +2,5 @@ pub mod Turns
 pub mod Exact
 pub mod Allowed
 pub mod Rising
+pub mod OptionLaws
+pub mod WalkLaws

@@ -9,8 +9,8 @@ use Rattle.heap_options.specs.Options.{options_up_to, options_at, nothing_left, 
 use Rattle.heap_options.specs.Exact.{heaps_of, IsLeftAt}
 use Rattle.heap_options.specs.declared.left.Left.{Left}
 use Rattle.heap_options.specs.declared.left.Left.TheVariants.{Nothing, One, Two, Three}
-use Rattle.heap_options.specs.ListLaws.{of_map, AllPairs-append, AllPairs-one, AllPairs-none, AllPairs-flat, AllPairs-range}
-use Rattle.heap_options.specs.OptionLaws.{of_at, of_nothing, of_one, of_two, of_three}
+use Rattle.misere_theory.proofs.ListLaws.{of_map, AllPairs-append, AllPairs-one, AllPairs-none, AllPairs-flat, AllPairs-range}
+use Rattle.heap_options.proofs.OptionLaws.{of_at, of_nothing, of_one, of_two, of_three}
 
 -- what the one leaves comes before what the other leaves
 abbrev pub Before : Left → Left → Type 0

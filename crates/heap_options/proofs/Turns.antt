@@ -7,7 +7,7 @@ use Rattle.octal_code.specs.Bits.{allows}
 use Rattle.octal_code.specs.declared.leaving.Leaving.TheVariants.{TwoHeaps, ThreeHeaps}
 use Rattle.heap_options.specs.Options.{three_left, where_holds, splits, last_first}
 use Rattle.heap_options.specs.Walks.{single_left, splits_to_try, triples_to_try, last_part, options_from, left_at, rest, after_single, at_triples, after_row, after_all, stages, stages_left, IsTurn}
-use Rattle.heap_options.specs.WalkLaws.{single_then_splits, none_at, three_off, triples_from_one, next_row, no_row_left}
+use Rattle.heap_options.proofs.WalkLaws.{single_then_splits, none_at, three_off, triples_from_one, next_row, no_row_left}
 use Rattle.heap_options.specs.declared.left.Left.{Left}
 use Rattle.heap_options.specs.declared.walk.Untried.TheVariants.{Everything, Splits, Triples}
 use Rattle.heap_options.specs.declared.walk.Walk.{Walk}

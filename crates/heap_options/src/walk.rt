@@ -57,7 +57,7 @@ impl Walk {
 
     /// The option that leaves at most one heap, if there is one; then the splits are untried.
     #[inline]
-    #[tactic(auto, using(crate::specs::WalkLaws::single_nothing, crate::specs::WalkLaws::single_one, crate::specs::WalkLaws::single_none))]
+    #[tactic(auto, using(crate::proofs::WalkLaws::single_nothing, crate::proofs::WalkLaws::single_one, crate::proofs::WalkLaws::single_none))]
     pub fn take_single(&mut self, code: &Code) -> Option<Left>
         ensures left { MatchOption result (single_left code.now self.old.heap self.old.away ≡ [])
             (λ left. single_left code.now self.old.heap self.old.away ≡ left ∷ []) }

@@ -8,7 +8,7 @@ use Rattle.misere_theory.specs.Quotients.{Claim, value, Represents, SameQuotient
 use Rattle.misere_theory.proofs.Sums.{IsPosition-append, value_in, value-append}
 use Rattle.misere_theory.proofs.Shuffles.{Shuffled, p_shuffled, from_permutation}
 use Rattle.misere_theory.proofs.Shuffles.Shuffled.{Same, Under, Flip, Then}
-use Rattle.misere_theory.proofs.Rules.{same_bool}
+use Rattle.std.specs.Cmp.{both_ways}
 use Rattle.misere_theory.proofs.SameClaims.{value_of_heap}
 
 in_front : (X Y Z : List ℕ) → Shuffled X Y → Shuffled (X ++ Z) (Y ++ Z)
@@ -109,7 +109,7 @@ same_quotient heap code c d rc rd = record {
       ∙ value_of_heap d rd.monoid n (rd.elements n h);
   portion = λ x l.
       let (X, p, e, f) = at x l in
-      same_bool _ _
+      both_ways _ _
       (λ t. ap c.portion (sym e)
       ∙ (rc.predicts X p).0 ((rd.predicts X p).1 (ap d.portion (sym f) ∙ t)))
       (λ t. ap d.portion f ∙ (rd.predicts X p).0 ((rc.predicts X p).1 (ap c.portion e ∙ t)));

@@ -18,6 +18,13 @@ mutual
   never_both (Ended none) (AllLose m all) = none _ m
   never_both (Wins k p) (AllLose m all) = not_both p (all _ k)
 
+-- what a P-position has
+pub p_moves : {code X : List ℕ} → IsP code X → (Y : List ℕ) × Move code X Y
+p_moves (AllLose m all) = (_, m)
+
+pub p_leads_to_n : {code X : List ℕ} → IsP code X → (Z : List ℕ) → Move code X Z → IsN code Z
+p_leads_to_n (AllLose m all) = all
+
 -- Below a bound either one number has a fact, or each has the other.
 pub some_or_all_below : (Q R : ℕ → Type 0) → ((k : ℕ) → Q k ⊎ R k) → (n : ℕ)
     → ((k : ℕ) × (k < n) × Q k) ⊎ ((k : ℕ) → k < n → R k)

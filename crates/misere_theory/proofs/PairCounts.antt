@@ -9,7 +9,7 @@ use Rattle.misere_theory.specs.Games.{IsPosition}
 use Rattle.misere_theory.specs.Quotients.{Claim, Monoid, GivesElements, value, OptionValue, SamePair, ReachesMoreThan}
 use Rattle.misere_theory.proofs.Sums.{value_in, IsKept, move_kept}
 use Rattle.misere_theory.proofs.Outcomes.{some_or_all_moves}
-use Rattle.misere_theory.proofs.Rules.{same_bool}
+use Rattle.std.specs.Cmp.{both_ways}
 
 -- the numbers below n that pass, as bits
 mask : (ℕ → Bool) → ℕ → ℕ
@@ -113,7 +113,7 @@ module _
   unfolding number_of
   number_from_pair X Y s =
       ap₂ (λ v w. v * 2 ^ c.order + w) s.0
-      (mask-agrees (λ x. (tested X x).0) (λ x. (tested Y x).0) c.order (λ x. same_bool _ _
+      (mask-agrees (λ x. (tested X x).0) (λ x. (tested Y x).0) c.order (λ x. both_ways _ _
       (λ t. (tested Y x).1.1 ((s.1 x).0 ((tested X x).1.0 t)))
       (λ t. (tested X x).1.1 ((s.1 x).1 ((tested Y x).1.0 t)))))
 

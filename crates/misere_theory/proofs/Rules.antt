@@ -1,29 +1,17 @@
 -- The local rule at every position, and what the portion predicts.
 use Rattle.std.proofs.Common.{◌≡◌, ℕ, suc, zero, ◌<◌, ◌⊎◌, ◌↔◌, Bool, true, false, List, ◌++◌, refl, sym, ◌∙◌, ap, subst, inl, inr, arith}
+use Rattle.std.specs.Cmp.{both_ways}
 use Rattle.std.proofs.lemmas.Bool.{false_from_ne_true, true≢false}
 use Rattle.misere_theory.specs.Games.{Move, measure, Indistinguishable, IsP, IsN, IsPosition}
 use Rattle.misere_theory.specs.Games.IsP.{AllLose}
 use Rattle.misere_theory.specs.Quotients.{Claim, Monoid, GivesElements, value, OptionValue, RuleHolds, RuleFails, Represents, AllApart}
 use native.Mathlib.Decide.{dec_lt}
 use Rattle.misere_theory.proofs.Sums.{move_smaller, value_in, value-append, IsPosition-append, IsKept, move_kept}
-use Rattle.misere_theory.proofs.Outcomes.{not_both, determined, some_or_all_moves, movable}
-
--- what a P-position has
-p_moves : {code X : List ℕ} → IsP code X → (Y : List ℕ) × Move code X Y
-p_moves (AllLose m all) = (_, m)
-
-p_leads_to_n : {code X : List ℕ} → IsP code X → (Z : List ℕ) → Move code X Z → IsN code Z
-p_leads_to_n (AllLose m all) = all
+use Rattle.misere_theory.proofs.Outcomes.{not_both, determined, some_or_all_moves, movable, p_moves, p_leads_to_n}
 
 pub true_or_false : (b : Bool) → (b ≡ true) ⊎ (b ≡ false)
 true_or_false true = inl refl
 true_or_false false = inr refl
-
--- two tests that pass for the same reason are equal
-pub same_bool : (a b : Bool) → (a ≡ true → b ≡ true) → (b ≡ true → a ≡ true) → a ≡ b
-same_bool true b f g = sym (f refl)
-same_bool false true f g = g refl
-same_bool false false f g = refl
 
 module _ (code : List ℕ) (c : Claim) where
   -- a portion that predicts the outcomes of a position and of its options obeys the local rule
@@ -152,7 +140,7 @@ module _
         → IsPosition heap Z → c.portion (c.times (value c X) (value c Z))
         ≡ c.portion (c.times (value c Y) (value c Z))
     alike_same_portion X Y p q a Z r =
-        same_bool _ _
+        both_ways _ _
         (λ t. (predicts_sum Y Z q r).0 ((a Z r).0 ((predicts_sum X Z p r).1 t)))
         (λ t. (predicts_sum X Z p r).0 ((a Z r).1 ((predicts_sum Y Z q r).1 t)))
 

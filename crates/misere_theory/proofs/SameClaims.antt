@@ -5,7 +5,7 @@ use Rattle.misere_theory.specs.Games.{IsHeap, IsPosition}
 use Rattle.misere_theory.specs.Quotients.{Claim, Monoid, value, Represents}
 use Rattle.misere_theory.specs.Numbering.{IsLeastPeriod, KeyBelow, IsNumbered}
 use Rattle.misere_theory.proofs.Sums.{value_in, value-append, IsPosition-append}
-use Rattle.misere_theory.proofs.Rules.{same_bool}
+use Rattle.std.specs.Cmp.{both_ways}
 
 -- c and d are the same numbers
 pub record SameClaim (heap : ℕ → Type 0) (c d : Claim) (key_c key_d : ℕ → ℕ × ℕ) : Type 0 where
@@ -206,7 +206,7 @@ module _
   pub same_portion : (e : ℕ) → e < c.order → d.portion e ≡ c.portion e
   same_portion e l =
       let (X, w, p, q) = agree e l in
-      same_bool _ _
+      both_ways _ _
       (λ t. ap c.portion (sym p) ∙ (rc.predicts X w).0 ((rd.predicts X w).1 (ap d.portion q ∙ t)))
       (λ t. ap d.portion (sym q) ∙ (rd.predicts X w).0 ((rc.predicts X w).1 (ap c.portion p ∙ t)))
 

@@ -10,7 +10,7 @@ use Rattle.misere_theory.specs.Games.IsN.{Ended, Wins}
 use Rattle.misere_theory.specs.Plays.{LeftBefore, IsWinningMove, IsFirstWin, IsHanded, Keeps}
 use Rattle.misere_theory.specs.Plays.IsHanded.{AtOnce, Later}
 use Rattle.misere_theory.proofs.Basics.{neither_smaller}
-use Rattle.misere_theory.proofs.Outcomes.{determined, not_both, some_or_all_below, some_or_all_options}
+use Rattle.misere_theory.proofs.Outcomes.{determined, not_both, p_moves, p_leads_to_n, some_or_all_below, some_or_all_options}
 use Rattle.misere_theory.proofs.Shuffles.{back, beside, from_permutation, to_permutation, move_shuffled, p_shuffled, one_heap_moves}
 use Rattle.misere_theory.proofs.Shuffles.Shuffled.{Then}
 use Rattle.misere_theory.proofs.InOrder.{put_in_order, order_dec}
@@ -284,17 +284,11 @@ pub handed_p : {code X Z : List ℕ} → IsHanded code X Z → IsP code X → Is
 handed_p AtOnce p = p
 handed_p (Later h m a) p = winning_leads a.2.0 a.3
 
-p_moves : {code Z : List ℕ} → IsP code Z → (Y : List ℕ) × Move code Z Y
-p_moves (AllLose m all) = (_, m)
-
-p_to_n : {code Z Y : List ℕ} → IsP code Z → Move code Z Y → IsN code Y
-p_to_n (AllLose m all) k = all _ k
-
 pub p_keeps : (code X : List ℕ) → IsP code X → Keeps code X
 p_keeps code X p = record {
   handed = λ Z h. handed_p h p;
   goes_on = λ Z h. p_moves (handed_p h p);
-  answered = λ Z Y h m. elim (first_win code Y (p_to_n (handed_p h p) m)) [
+  answered = λ Z Y h m. elim (first_win code Y (p_leads_to_n (handed_p h p) Y m)) [
     | inl none ↦ inl none
     | inr (n, H, w) ↦ inr (w.0.1.0, (n, H, w, w.0.1.1))
   ];

@@ -76,14 +76,14 @@ turns-run (suc (suc n)) g spent broken some within passed last =
     (ap (λ k. triple_holds g.order g.entries (k - 1)) at ∙ last)
     ∙ ap (λ k. state g k broken) at
 
-alike : (m n : ℕ) → m ≡ n → (m == n) ≡ true
-alike m n e = grind (arith, nat_tests)
+eqb_is : (m n : ℕ) → m ≡ n → (m == n) ≡ true
+eqb_is m n e = grind (arith, nat_tests)
 
 -- enough turns come to an end
 pub turns-end : (n : ℕ) (g : Grid) (spent : ℕ) → spent ≤ triples g.order
     → triples g.order ≤ spent + n → is_over (turns n (state g spent false)) ≡ true
 unfolding turns
-turns-end zero g spent within enough = alike spent (triples g.order) (omega arith)
+turns-end zero g spent within enough = eqb_is spent (triples g.order) (omega arith)
 turns-end (suc n) g spent within enough = elim (cases_lt spent (triples g.order)) [
   | inl less ↦
       ap (λ s. is_over (turns n s)) (turn-going (state g spent false) (going g spent less))
@@ -93,7 +93,7 @@ turns-end (suc n) g spent within enough = elim (cases_lt spent (triples g.order)
         | false ↦ ap is_over (turns-over n (state g (spent + 1) true) refl)
       ]
   | inr past ↦
-      let over : is_over (state g spent false) ≡ true = alike spent (triples g.order) (omega arith)
+      let over : is_over (state g spent false) ≡ true = eqb_is spent (triples g.order) (omega arith)
       in
       ap (λ s. is_over (turns n s)) (turn-over (state g spent false) over)
       ∙ ap is_over (turns-over n (state g spent false) over) ∙ over

@@ -1,5 +1,4 @@
 pub mod Bits
-pub mod BitLaws
 pub mod Text
 pub mod Spelling
 pub mod Digits

@@ -128,7 +128,7 @@ impl Code {
     }
 
     /// Whether the digit dj allows so much to stay.
-    #[tactic(auto, using(crate::specs::BitLaws::allowed))]
+    #[tactic(auto, using(crate::proofs::BitLaws::allowed))]
     pub fn allows(&self, j: u64, leaving: Leaving) -> bool
         ensures value { result ≡ allows self.now j leaving }
         ensures set { IsTrue result ↔ IsBitSet (digit self.now j) (place_of leaving) }
@@ -137,7 +137,7 @@ impl Code {
     }
 
     /// Whether the whole heap n may be taken as j.
-    #[tactic(auto, using(crate::specs::BitLaws::takes))]
+    #[tactic(auto, using(crate::proofs::BitLaws::takes))]
     pub fn takes_all(&self, n: u64, j: u64) -> bool
         ensures value { result ≡ takes_all self.now n j }
         ensures allowed { IsTrue result ↔ ((1 ≤ j) × (n ≡ j) × IsBitSet (digit self.now j) 0) }
@@ -146,7 +146,7 @@ impl Code {
     }
 
     /// Whether one heap may stay of the heap n where j is taken away.
-    #[tactic(auto, using(crate::specs::BitLaws::leaves))]
+    #[tactic(auto, using(crate::proofs::BitLaws::leaves))]
     pub fn leaves_one(&self, n: u64, j: u64) -> bool
         ensures value { result ≡ leaves_one self.now n j }
         ensures allowed { IsTrue result ↔ ((1 ≤ j) × (j < n) × IsBitSet (digit self.now j) 1) }

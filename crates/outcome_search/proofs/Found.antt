@@ -12,7 +12,7 @@ use Rattle.std.proofs.lemmas.List.Kept.{AllPairs-cons}
 use Rattle.std.proofs.lemmas.Map.Entries.{length-keys_of}
 use Rattle.std.proofs.lemmas.Map.Made.{AllPairs-from_IsDistinct}
 use Rattle.std.proofs.lemmas.List.Quantifiers.{all_pairs_push, all_pairs_remove}
-use Rattle.heap_options.specs.ListLaws.{AllPairs-one, AllPairs-append, nothing_in, only_in, itself_in}
+use Rattle.misere_theory.proofs.ListLaws.{AllPairs-one, AllPairs-append, nothing_in, only_in, itself_in}
 use Rattle.std.specs.List.{AllPairs, Contains, IsDistinct}
 use Rattle.std.specs.List.Sorted.{IsNonDecreasing, IsPermutation}
 use Rattle.std.specs.Cmp.Lexicographic.{pointwise, nat_list_eq_equiv}
@@ -32,7 +32,7 @@ use Rattle.outcome_search.specs.Searching.{IsOnTheWay, IsSearch}
 use Rattle.positions.specs.declared.outcome.Outcome.{Outcome}
 use Rattle.outcome_search.specs.Settled.{Follows, IsSettledBy}
 use Rattle.outcome_search.proofs.Seen.{same_position, follows_right, follows_on}
-use Rattle.heap_options.specs.RisingLists.{rising_same}
+use Rattle.misere_theory.proofs.RisingLists.{rising_same}
 
 measure_shuffled : {X Y : List ℕ} → Shuffled X Y → measure X ≡ measure Y
 measure_shuffled Same = refl

@@ -17,7 +17,7 @@ use Rattle.misere_theory.proofs.Shuffles.{move_from_multiset, from_permutation, 
 use Rattle.heap_options.specs.Exact.{heaps_of}
 use Rattle.heap_options.specs.Options.{options_of}
 use Rattle.heap_options.specs.declared.left.Left.{Left}
-use Rattle.heap_options.specs.ListLaws.{nothing_in, only_in, itself_in}
+use Rattle.misere_theory.proofs.ListLaws.{nothing_in, only_in, itself_in}
 use Rattle.outcome_search.proofs.Heaps.{move_from_place}
 use Rattle.positions.specs.Outcomes.{HasOutcome}
 use Rattle.outcome_search.specs.Settled.{Lists, Follows}

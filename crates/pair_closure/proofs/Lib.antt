@@ -18,3 +18,4 @@ pub mod Words
 mod Keeping
 mod Taken
 mod Rising
+pub mod OptionLaws

@@ -1,4 +1,5 @@
 -- The states that turns reach.
+use Rattle.std.specs.Cmp.{both_ways}
 use Rattle.std.proofs.Common.{◌≡◌, ℕ, ◌<◌, ◌≤◌, Bool, true, false, List, length, get_or, refl, sym, ap, ◌∙◌, subst, inl, inr, ◌⊎◌, arith, nat_lt, ltb-true, ltb-false}
 use Rattle.std.proofs.lemmas.List.Sums.{passes_at_first, fails_before_first}
 use Rattle.monoid_table.specs.Tables.{IsTableGrid}
@@ -67,7 +68,7 @@ place_in s r i d l = elim (kept_by_turns s r) [
 covers_alike : (s : State) → Reached s → (x : Pair) → any_covers s.members x ≡ covered s.held x
 covers_alike s r x = elim (kept_by_turns s r) [
   | inl e ↦ subst (λ z. any_covers z.members x ≡ covered z.held x) (sym e) refl
-  | inr v ↦ alike (any_covers s.members x) (covered s.held x)
+  | inr v ↦ both_ways (any_covers s.members x) (covered s.held x)
       (λ t.
       let (m, i, c) = find_any (λ m. covers m.pair x) s.members t in
       let (n, j, d) = find_any (λ n. covers n.pair m.pair) s.held (v.members_held m i) in
@@ -78,11 +79,6 @@ covers_alike s r x = elim (kept_by_turns s r) [
       any_from (λ m. covers m.pair x) s.members _ (In-at s.members n.place blank l)
       (subst (λ z. covers z x ≡ true) (sym q) d))
 ]
-  where
-    alike : (a b : Bool) → (a ≡ true → b ≡ true) → (b ≡ true → a ≡ true) → a ≡ b
-    alike true b f g = sym (f refl)
-    alike false true f g = g refl
-    alike false false f g = refl
 
 -- where x covers no member ever kept, it covers none that is held
 covered_none : (s : State) → Reached s → (x : Pair) → covers_any x s.members ≡ false

@@ -8,7 +8,7 @@ use Rattle.monoid_table.specs.Tables.{IsTableGrid}
 use Rattle.transition_algebra.specs.declared.pair.Pair.{Pair}
 use Rattle.transition_algebra.specs.Pairs.{IsPair, times, covers}
 use Rattle.transition_algebra.specs.PairLaws.{has, empty_has, times_has, has_left, has_right}
-use Rattle.pair_closure.specs.OptionLaws.{some_or_empty}
+use Rattle.pair_closure.proofs.OptionLaws.{some_or_empty}
 use Rattle.pair_closure.proofs.Lists.{or_true, true_or, not_both}
 
 both : (a b : Bool) → (a && b) ≡ true → (a ≡ true) × (b ≡ true)

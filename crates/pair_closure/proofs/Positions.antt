@@ -17,7 +17,7 @@ use Rattle.transition_algebra.specs.Pairs.{one, times, IsPair, covers}
 use Rattle.transition_algebra.specs.Heaps.{IsHeapPair}
 use Rattle.transition_algebra.specs.PairLaws.{has, empty_has, same_pair, times_has, has_left, has_right}
 use Rattle.pair_closure.specs.Chains.{blank}
-use Rattle.pair_closure.specs.OptionLaws.{items_have, has_items}
+use Rattle.pair_closure.proofs.OptionLaws.{items_have, has_items}
 use Rattle.pair_closure.specs.Turns.{State, start, blank_held, pending, is_done, product_of_heaps, word_of}
 use Rattle.pair_closure.specs.Positions.{as_pair, kept, IsClaimOver, DescribesPositions, ShowsPairs, IsMinimal}
 use Rattle.pair_closure.proofs.Invariant.{Holds}

@@ -1,7 +1,6 @@
 pub mod Chains
 pub mod Turns
 pub mod ClosureViews
-pub mod OptionLaws
 pub mod Positions
 pub mod Keeping
 pub mod Calls

@@ -8,23 +8,15 @@ use Rattle.std.proofs.lemmas.List.FromFn.{length-map-range_with_len}
 use Rattle.misere_theory.specs.Certificates.{Certificate}
 use Rattle.misere_theory.specs.Games.{leaves_three}
 use Rattle.misere_theory.proofs.Codes.{no_three}
-use Rattle.octal_code.specs.BitLaws.{allowed}
+use Rattle.misere_theory.proofs.Ranges.{sum_at_most}
+use Rattle.octal_code.proofs.BitLaws.{allowed}
 use Rattle.octal_code.specs.Bits.{allows, takes_all, leaves_one}
 use Rattle.octal_code.specs.declared.leaving.Leaving.TheVariants.{TwoHeaps, ThreeHeaps}
-use Rattle.heap_options.specs.WalkLaws.{three_off}
+use Rattle.heap_options.proofs.WalkLaws.{three_off}
 use Rattle.player.specs.Looks.{most_looks}
 use Rattle.heap_options.specs.Options.{options_at, nothing_left, one_left, two_left, three_left, where_holds, splits, last_first, last_second, triples_at, triples, options_up_to}
 use Rattle.heap_options.specs.declared.left.Left.{Left}
 use Rattle.heap_options.specs.declared.left.Left.TheVariants.{Nothing, One, Two, Three}
-
-sum_at_most : (f : ℕ → ℕ) (M a n : ℕ) → ((x : ℕ) → f x ≤ M) → sum_by f (range_with_len a n) ≤ n * M
-sum_at_most f M a zero h = let e : sum_by f (range_with_len a zero) ≡ 0 = refl in omega arith
-sum_at_most f M a (suc n) h =
-    let e = sum_by-cons f a (range_with_len (a + 1) n) in
-    let here = h a in
-    let rest = sum_at_most f M (a + 1) n h in
-    let m : suc n * M ≡ n * M + M = grind arith in
-    omega arith
 
 where_short : (b : Bool) (xs : List Left) → length (where_holds b xs) ≤ length xs
 where_short true xs = omega arith
@@ -60,7 +52,7 @@ triples_few m most =
     let rows = last_first m most + 1 - 1 in
     let e = length-flat_map (triples_at m most) (range_with_len 1 rows) in
     let s = sum_at_most (λ a. length (triples_at m most a)) (most + 1) 1 rows
-    (λ a. let d = length-map-range_with_len (λ c. Three a c (m - a - c)) a
+    (λ a p q. let d = length-map-range_with_len (λ c. Three a c (m - a - c)) a
     (last_second m most a + 1 - a) in omega arith) in
     let g = product_less rows (most + 1) most (most + 1) (omega arith) (omega arith) in
     omega arith
@@ -77,7 +69,7 @@ few_by : (code : List ℕ) (n most t : ℕ) → ((j : ℕ) → length (three_lef
 few_by code n most t h =
     let e = length-flat_map (options_at code n most) (range_with_len 0 (length code)) in
     let s = sum_at_most (λ j. length (options_at code n most j)) (most + 2 + t) 0 (length code)
-    (λ j. let a = few_at code n most j in let b = h j in omega arith) in
+    (λ j p q. let a = few_at code n most j in let b = h j in omega arith) in
     omega arith
 
 square : (m : ℕ) → m + 2 + m * (m + 1) ≤ (m + 2) * (m + 2)

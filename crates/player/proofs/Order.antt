@@ -11,7 +11,7 @@ use Rattle.heap_options.specs.Options.{options_of, options_up_to}
 use Rattle.heap_options.specs.Exact.{heaps_of, IsInOrder, IsPartUpTo}
 use Rattle.heap_options.specs.declared.left.Left.{Left}
 use Rattle.heap_options.specs.declared.left.Left.TheVariants.{Nothing, One, Two, Three}
-use Rattle.heap_options.specs.RisingLists.{rising_same}
+use Rattle.misere_theory.proofs.RisingLists.{rising_same}
 
 parts_trans : (H L M : List ℕ) → PartsBefore H L → PartsBefore L M → PartsBefore H M
 parts_trans H L M a b = elim a [

@@ -20,7 +20,7 @@ use Rattle.misere_theory.proofs.Written.{periodic}
 use Rattle.heap_options.specs.Options.{options_up_to}
 use Rattle.heap_options.specs.Exact.{heaps_of}
 use Rattle.heap_options.specs.declared.left.Left.{Left}
-use Rattle.heap_options.specs.ListLaws.{only_in, itself_in}
+use Rattle.misere_theory.proofs.ListLaws.{only_in, itself_in}
 use Rattle.player.specs.Looks.{puts, IsFirstInto}
 use Rattle.player.proofs.Order.{AreExact, Before, before_trans, not_before_itself, cut_before, small_in, in_order}
 use Rattle.player.proofs.Rests.{heap_at, dropped, taken}

@@ -11,7 +11,7 @@ use Rattle.heap_options.specs.Exact.{heaps_of}
 use Rattle.heap_options.specs.Options.{options_of}
 use Rattle.heap_options.specs.declared.left.Left.{Left}
 use Rattle.heap_options.specs.declared.left.Left.TheVariants.{Nothing, One, Two, Three}
-use Rattle.heap_options.specs.OptionLaws.{of_options, only}
+use Rattle.heap_options.proofs.OptionLaws.{of_options, only}
 
 -- one heap more of those that are left is added
 pub added_more : (H xs ys zs : List ℕ) (i : ℕ) → i < length H → IsPermutation (take i H ++ xs) ys

@@ -15,7 +15,7 @@ use Rattle.positions.specs.Text.{number_of, IsNumeral, IsNumeralOf, words_of, Is
 use Rattle.positions.specs.declared.fault.PositionFault.{PositionFault}
 use Rattle.positions.specs.declared.fault.PositionFault.TheVariants.{Text, TooMany, TooLarge, Memory}
 use Rattle.positions.specs.declared.survey.Survey.{Survey}
-use Rattle.heap_options.specs.ListLaws.{itself_in}
+use Rattle.misere_theory.proofs.ListLaws.{itself_in}
 
 numerals_of : (ws : List (List ℕ)) (ns : List ℕ) → AllZip IsNumeralOf ws ns
     → All IsNumeral ws × (ns ≡ map number_of ws)

@@ -14,9 +14,9 @@ use Rattle.presentations.specs.Words.{occurs, letters_below, vector_on}
 use Rattle.presentations.specs.Powers.{IsPowerOf, HasPower, IsLeastLarger, IsBoxSize}
 use Rattle.presentations.specs.Boxes.{size_of, AreAxes}
 use Rattle.presentations.specs.Merging.{letters_in, pairs_in, IsBox}
-use Rattle.presentations.specs.VectorLaws.{length-only}
+use Rattle.presentations.proofs.VectorLaws.{length-only}
 use Rattle.presentations.proofs.PlaceLaws.{length-word, word-at}
-use Rattle.presentations.specs.WordLaws.{pair-of}
+use Rattle.presentations.proofs.WordLaws.{pair-of}
 use Rattle.presentations.proofs.SizeLaws.{box-more, box-skip}
 
 -- each axis has its relation

@@ -13,7 +13,7 @@ use Rattle.presentations.specs.Congruences.{Related}
 use Rattle.presentations.specs.Boxes.{vector_at, next_of}
 use Rattle.presentations.specs.Merging.{pairs_in, AreClasses}
 use Rattle.presentations.specs.Numberings.{IsNumbering, AreRows}
-use Rattle.presentations.specs.VectorLaws.{length-zeros, length-bump, length-plus, plus-comm, plus-assoc, plus-zeros, zeros-plus, plus-bump, by_letters}
+use Rattle.presentations.proofs.VectorLaws.{length-zeros, length-bump, length-plus, plus-comm, plus-assoc, plus-zeros, zeros-plus, plus-bump, by_letters}
 use Rattle.presentations.proofs.BoxLaws.{place-zeros, place-vector, length-vector, size-positive}
 use Rattle.presentations.proofs.Quotient.{class_of, class-bump, class-plus, class-exact}
 

@@ -7,7 +7,7 @@ use Rattle.presentations.specs.Vectors.{plus, zeros, only, bump}
 use Rattle.presentations.specs.Congruences.{Related}
 use Rattle.presentations.specs.Congruences.Related.{Same, Turned, Chained, Beside}
 use Rattle.presentations.specs.Boxes.{place_of, vector_at, next_of, AreAxes}
-use Rattle.presentations.specs.VectorLaws.{length-zeros, length-only, plus-zeros, zeros-plus, bump-plus, by_letters}
+use Rattle.presentations.proofs.VectorLaws.{length-zeros, length-only, plus-zeros, zeros-plus, bump-plus, by_letters}
 use Rattle.presentations.proofs.BoxLaws.{after-inside, after-edge, stepped, InBox, vector-next, vector-in, length-vector, place-bump, place-zeros, vector-zero}
 
 -- a relation on vectors of n exponents that adding keeps

@@ -13,3 +13,6 @@ pub mod Faults
 pub mod SizeLaws
 pub mod Reading
 pub mod Spelled
+pub mod VectorLaws
+pub mod WordLaws
+pub mod ProductLaws

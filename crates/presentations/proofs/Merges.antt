@@ -13,7 +13,7 @@ use Rattle.presentations.specs.Merging.{AreRelated, IsBox, MergeState, IsMerging
 use Rattle.presentations.proofs.BoxLaws.{length-vector}
 use Rattle.presentations.proofs.PlaceLaws.{length-word}
 use Rattle.presentations.proofs.Folding.{step-related, relation-related}
-use Rattle.presentations.specs.WordLaws.{pair-of}
+use Rattle.presentations.proofs.WordLaws.{pair-of}
 
 pub sum-lowered : (xs : List ℕ) (i v : ℕ) → v ≤ get_or xs i 0 → sum (set xs i v) ≤ sum xs
 sum-lowered [] i v le = omega arith

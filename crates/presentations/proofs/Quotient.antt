@@ -9,7 +9,7 @@ use Rattle.presentations.specs.Congruences.Related.{Given, Same, Turned, Chained
 use Rattle.presentations.specs.Words.{vector_on, pairs_on}
 use Rattle.presentations.specs.Boxes.{place_of, vector_at, next_of}
 use Rattle.presentations.specs.Merging.{letters_in, pairs_in, AreClasses}
-use Rattle.presentations.specs.VectorLaws.{length-plus, plus-bump, plus-zeros, by_letters}
+use Rattle.presentations.proofs.VectorLaws.{length-plus, plus-bump, plus-zeros, by_letters}
 use Rattle.presentations.proofs.BoxLaws.{place-bump, place-below}
 use Rattle.presentations.proofs.PlaceLaws.{length-word}
 use Rattle.presentations.proofs.Folding.{place-related}

@@ -9,7 +9,7 @@ use Rattle.presentations.specs.Text.IsFactor.{Alone, Raised}
 use Rattle.presentations.specs.Text.AreFactors.{None, More}
 use Rattle.presentations.specs.Text.IsWord.{Empty, Product}
 use Rattle.presentations.specs.Fronts.{EndsFactor, EndsWord, EndsDigits, StartsWith, IsFront, IsNoFront}
-use Rattle.presentations.specs.VectorLaws.{length-only, length-plus, plus-zeros, zeros-plus, plus-assoc}
+use Rattle.presentations.proofs.VectorLaws.{length-only, length-plus, plus-zeros, zeros-plus, plus-assoc}
 
 pub head-same : {b c : ℕ} {bs cs : List ℕ} → ◌≡◌ {A = List ℕ} (b ∷ bs) (c ∷ cs) → b ≡ c
 head-same e = cc

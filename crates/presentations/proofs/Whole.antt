@@ -19,10 +19,10 @@ use Rattle.presentations.specs.Boxes.{place_of, vector_at}
 use Rattle.presentations.specs.Merging.{letters_in, pairs_in, AreClasses}
 use Rattle.presentations.specs.Numberings.{IsNumbering, AreRows, HasManyClasses}
 use Rattle.presentations.specs.Tables.{product_at, IsTableOf, IsNumberedByLeastKeys, HasMoreElements}
-use Rattle.presentations.specs.VectorLaws.{length-zeros, length-bump, plus-zeros, plus-bump, by_letters}
+use Rattle.presentations.proofs.VectorLaws.{length-zeros, length-bump, plus-zeros, plus-bump, by_letters}
 use Rattle.presentations.proofs.BoxLaws.{length-vector, place-vector}
 use Rattle.presentations.proofs.Quotient.{class-exact}
-use Rattle.presentations.specs.ProductLaws.{Below, product-none, product-bump}
+use Rattle.presentations.proofs.ProductLaws.{Below, product-none, product-bump}
 use Rattle.presentations.proofs.Elements.{Names, one-name, names-none, names-bump, names-plus, names-exact, first-vector, names-first, length-first, is-monoid}
 
 take-get : (n : ℕ) (xs : List ℕ) (i : ℕ) → i < n → get_or (take n xs) i 0 ≡ get_or xs i 0

@@ -9,6 +9,3 @@ pub mod Numberings
 pub mod Tables
 pub mod Text
 pub mod Fronts
-pub mod VectorLaws
-pub mod WordLaws
-pub mod ProductLaws

@@ -10,7 +10,7 @@ use Rattle.presentations.specs.declared.read.Relation.{Relation}
 use Rattle.presentations.specs.Vectors.{zeros, bump}
 use Rattle.presentations.specs.Words.{vector_on, occurs, letters_below, letters_of}
 use Rattle.presentations.specs.Tables.{product_at}
-use Rattle.presentations.specs.VectorLaws.{length-bump}
+use Rattle.presentations.proofs.VectorLaws.{length-bump}
 use Rattle.relations.specs.Presented.{first_letters, vector_of}
 use Rattle.relations.proofs.Rewritings.{length-letters, length-vector, letters-below}
 

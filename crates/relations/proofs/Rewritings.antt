@@ -8,7 +8,7 @@ use Rattle.presentations.specs.Vectors.{plus}
 use Rattle.presentations.specs.Congruences.{Related}
 use Rattle.presentations.specs.Congruences.Related.{Given, Same, Turned, Chained, Beside}
 use Rattle.presentations.specs.Words.{vector_on}
-use Rattle.presentations.specs.WordLaws.{pair-of}
+use Rattle.presentations.proofs.WordLaws.{pair-of}
 use Rattle.relations.specs.Presented.{first_letters, vector_of, pairs_of, AreRelatedWords, IsRewritten}
 
 length-push : (xs : List ℕ) (x : ℕ) → length (xs ++ x ∷ []) ≡ suc (length xs)

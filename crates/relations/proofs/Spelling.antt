@@ -15,7 +15,7 @@ use Rattle.presentations.specs.Text.AreFactors.{None, More}
 use Rattle.presentations.specs.Text.IsWord.{Empty, Product}
 use Rattle.presentations.specs.Text.IsRelation.{Equal}
 use Rattle.presentations.specs.Text.AreRelations.{Last, Next}
-use Rattle.presentations.specs.VectorLaws.{length-zeros, length-only, length-plus, plus-zeros, zeros-plus, plus-assoc, partial, partial-none, partial-next}
+use Rattle.presentations.proofs.VectorLaws.{length-zeros, length-only, length-plus, plus-zeros, zeros-plus, plus-assoc, partial, partial-none, partial-next}
 use Rattle.relations.specs.declared.text.Notation.{Notation}
 use Rattle.relations.specs.declared.text.Notation.TheVariants.{Plain}
 use Rattle.relations.specs.Printed.{factor_text, factors_text, or_one, word_text, relation_text, more_text, relations_text, more_words, IsPrintable, ArePrintable}

@@ -8,8 +8,8 @@ use Rattle.presentations.specs.Vectors.{plus, zeros, only, bump}
 use Rattle.presentations.specs.Congruences.{Related}
 use Rattle.presentations.specs.Congruences.Related.{Given, Same, Turned, Chained, Beside}
 use Rattle.presentations.specs.Tables.{product_at}
-use Rattle.presentations.specs.VectorLaws.{length-zeros, length-only, length-plus, plus-zeros, plus-bump, bump-plus, by_letters}
-use Rattle.presentations.specs.ProductLaws.{Below, product-none, product-bump}
+use Rattle.presentations.proofs.VectorLaws.{length-zeros, length-only, length-plus, plus-zeros, plus-bump, bump-plus, by_letters}
+use Rattle.presentations.proofs.ProductLaws.{Below, product-none, product-bump}
 use Rattle.relations.specs.Presented.{AreWords, PairsHold, Present}
 
 module _ (table : Grid) (elements : List ℕ) (pairs : List (List ℕ × List ℕ))

@@ -11,7 +11,7 @@ use Rattle.misere_theory.proofs.SmallParts.{enough}
 use Rattle.heap_options.specs.Exact.{heaps_of, IsLeftAt}
 use Rattle.heap_options.specs.declared.left.Left.{Left}
 use Rattle.heap_options.specs.declared.left.Left.TheVariants.{Nothing, One, Two, Three}
-use Rattle.heap_options.specs.OptionLaws.{in_options, of_options, only}
+use Rattle.heap_options.proofs.OptionLaws.{in_options, of_options, only}
 use Rattle.monoid_table.specs.Grids.{Grid, times_in}
 use Rattle.transition_algebra.specs.Heaps.{Agrees, IsInto, largest_part, left_value}
 use Rattle.transition_algebra.specs.Pretending.{Pretending, phi_at, IsPretending, kind_of, HasElement}

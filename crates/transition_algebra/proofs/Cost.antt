@@ -9,10 +9,11 @@ use Rattle.std.proofs.lemmas.List.FromFn.{length-map-range_with_len}
 use native.Mathlib.Decide.{dec_le, dec_lt}
 use Rattle.misere_theory.specs.Games.{leaves_three}
 use Rattle.misere_theory.proofs.Codes.{no_three}
+use Rattle.misere_theory.proofs.Ranges.{sum_more, sum_none, sum_at_most, sum_at_least}
 use Rattle.misere_theory.proofs.Rules.{true_or_false}
 use Rattle.monoid_table.specs.Grids.{Grid}
-use Rattle.octal_code.specs.BitLaws.{allowed}
-use Rattle.heap_options.specs.WalkLaws.{three_off}
+use Rattle.octal_code.proofs.BitLaws.{allowed}
+use Rattle.heap_options.proofs.WalkLaws.{three_off}
 use Rattle.octal_code.specs.Bits.{allows, takes_all, leaves_one}
 use Rattle.octal_code.specs.declared.leaving.Leaving.TheVariants.{NoHeap, OneHeap, TwoHeaps, ThreeHeaps}
 use Rattle.heap_options.specs.Options.{options_at, nothing_left, one_left, two_left, three_left, where_holds, splits, last_first, last_second, triples_at, triples}
@@ -23,35 +24,6 @@ use Rattle.transition_algebra.specs.Heaps.{bound_of, largest_part}
 use Rattle.transition_algebra.specs.Work.{Trying, tries, opening, tried, turn, turns, heap_cost, most_turns}
 use Rattle.transition_algebra.specs.declared.pair.Pair.{Pair}
 use Rattle.transition_algebra.proofs.Turning.{cost_of, left, left_some, left_going, left_over, turn_going, turn_over}
-
-range_more : (a n m : ℕ) → n ≡ suc m → range_with_len a n ≡ a ∷ range_with_len (a + 1) m
-range_more a n m e = ap (range_with_len a) e
-
-sum_more : (f : ℕ → ℕ) (a n m : ℕ) → n ≡ suc m
-    → sum_by f (range_with_len a n) ≡ f a + sum_by f (range_with_len (a + 1) m)
-sum_more f a n m e = ap (sum_by f) (range_more a n m e) ∙ sum_by-cons f a (range_with_len (a + 1) m)
-
-sum_none : (f : ℕ → ℕ) (a n : ℕ) → n ≡ 0 → sum_by f (range_with_len a n) ≡ 0
-sum_none f a n e = ap (λ k. sum_by f (range_with_len a k)) e
-
-sum_at_most : (f : ℕ → ℕ) (M a n : ℕ) → ((x : ℕ) → a ≤ x → x < a + n → f x ≤ M)
-    → sum_by f (range_with_len a n) ≤ n * M
-sum_at_most f M a zero h = let e = sum_none f a 0 refl in omega arith
-sum_at_most f M a (suc n) h =
-    let e = sum_more f a (suc n) n refl in
-    let here : f a ≤ M = h a (omega arith) (omega arith) in
-    let rest : sum_by f (range_with_len (a + 1) n) ≤ n * M =
-    sum_at_most f M (a + 1) n (λ x p q. h x (omega arith) (omega arith)) in
-    let m : suc n * M ≡ n * M + M = grind arith in
-    omega arith
-
-sum_at_least : (f : ℕ → ℕ) (a n : ℕ) → ((x : ℕ) → 1 ≤ f x) → n ≤ sum_by f (range_with_len a n)
-sum_at_least f a zero h = omega arith
-sum_at_least f a (suc n) h =
-    let e = sum_more f a (suc n) n refl in
-    let here = h a in
-    let rest = sum_at_least f (a + 1) n h in
-    omega arith
 
 -- a turn for each heap at least
 pub cost_long : (code : List ℕ) (phi : Pretending) → bound_of code phi ≤ heap_cost code phi

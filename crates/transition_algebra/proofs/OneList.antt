@@ -10,8 +10,8 @@ use Rattle.misere_theory.specs.Quotients.{Claim, Monoid, HeapOptionValue}
 use Rattle.heap_options.specs.Options.{options_of}
 use Rattle.heap_options.specs.Exact.{heaps_of}
 use Rattle.heap_options.specs.declared.left.Left.{Left}
-use Rattle.heap_options.specs.ListLaws.{nothing_in, only_in, itself_in}
-use Rattle.heap_options.specs.OptionLaws.{of_options, only, cut}
+use Rattle.misere_theory.proofs.ListLaws.{nothing_in, only_in, itself_in}
+use Rattle.heap_options.proofs.OptionLaws.{of_options, only, cut}
 use Rattle.monoid_table.specs.Grids.{Grid, times_in}
 use Rattle.transition_algebra.specs.Pretending.{Pretending, IsPretending, HasElement}
 use Rattle.transition_algebra.specs.Heaps.{Agrees, IsInto, IsHeapPair, IsHeapPairs, AreAllHeapPairs, bound_of, largest_part, left_value, heap_pair, all_heap_pairs}

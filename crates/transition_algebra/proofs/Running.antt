@@ -16,7 +16,7 @@ use Rattle.octal_code.specs.declared.leaving.Leaving.TheVariants.{TwoHeaps, Thre
 use Rattle.heap_options.specs.Options.{options_at, splits, three_left, row, last_first, last_second, triples}
 use Rattle.heap_options.specs.Walks as walks
 use Rattle.heap_options.specs.Walks.{single_left, options_from, last_part, splits_from, triples_from, triples_to_try, left_at, stages, stages_left}
-use Rattle.heap_options.specs.WalkLaws.{single_then_splits, splits_off, splits_over, splits_first, three_off, triples_from_one, triples_first, next_row, no_row_left, no_bit, no_bit_three, none_untried}
+use Rattle.heap_options.proofs.WalkLaws.{single_then_splits, splits_off, splits_over, splits_first, three_off, triples_from_one, triples_first, next_row, no_row_left, no_bit, no_bit_three, none_untried}
 use Rattle.heap_options.proofs.Turns.{stage_falls, after_all_falls}
 use Rattle.heap_options.specs.declared.left.Left.{Left}
 use Rattle.heap_options.specs.declared.left.Left.TheVariants.{Two, Three}

@@ -9,7 +9,7 @@ use native.Mathlib.Decide.{dec_le}
 use Rattle.std.proofs.lemmas.List.Elements.{Contains-append_left, Contains-push, Contains-push_cases}
 use Rattle.misere_theory.specs.Quotients.{Claim, Monoid, HeapOptionValue}
 use Rattle.heap_options.specs.declared.left.Left.{Left}
-use Rattle.heap_options.specs.ListLaws.{nothing_in}
+use Rattle.misere_theory.proofs.ListLaws.{nothing_in}
 use Rattle.monoid_table.specs.Grids.{Grid, times_in}
 use Rattle.transition_algebra.specs.Pretending.{Pretending, phi_at, IsPretending, HasElement}
 use Rattle.transition_algebra.specs.Heaps.{Agrees, IsInto, IsHeapPair, IsHeapPairs, left_value}

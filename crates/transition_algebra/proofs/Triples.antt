@@ -4,7 +4,7 @@ use Rattle.std.specs.List.{flat_map, range_with_len}
 use Rattle.std.proofs.lemmas.List.{append-nil}
 use native.Mathlib.Decide.{dec_lt}
 use Rattle.heap_options.specs.Options.{row, last_first, last_second, triples_at, triples}
-use Rattle.heap_options.specs.WalkLaws.{row_add, no_row}
+use Rattle.heap_options.proofs.WalkLaws.{row_add, no_row}
 use Rattle.heap_options.specs.declared.left.Left.{Left}
 use Rattle.transition_algebra.specs.Trials.{triples_before}
 

@@ -2,7 +2,7 @@
 use Rattle.std.proofs.Common.{◌≡◌, ℕ, ◌<◌, Bool, true, false, List, [], ◌∷◌, map, refl, sym, ap, ap₂, ◌∙◌, subst, inl, inr, ◌⊎◌, ◌||◌, nat_eq, eqb-true, eq-eqb}
 use Rattle.std.specs.List.{list_any}
 use Rattle.std.specs.Ordering.{nat_cmp}
-use Rattle.std.specs.Cmp.{nat_cmp_total, unsigned_tied}
+use Rattle.std.specs.Cmp.{both_ways, nat_cmp_total, unsigned_tied}
 use Rattle.std.specs.FinSet as set
 use Rattle.std.specs.FinSet.{contains-insert, contains-union, contains-empty, same_set, contains-items, contains-from_list, contains-from_list_nat, nat_cmp-IsAntisymmetric}
 use Rattle.monoid_table.specs.Laws.{CommMonoidLaws}
@@ -80,17 +80,11 @@ pub image_has : (f : ℕ → ℕ) (s : set.FinSet nat_cmp) (x : ℕ) → has s x
 image_has f s x h = contains-from_list_nat (map f (set.items s)) (f x)
     ∙ map_any f (set.items s) x (items_have s x ∙ h)
 
-alike : (a b : Bool) → (a ≡ true → b ≡ true) → (b ≡ true → a ≡ true) → a ≡ b
-alike true true f g = refl
-alike true false f g = sym (f refl)
-alike false true f g = g refl
-alike false false f g = refl
-
 -- sets with the same members are the same
 pub same_members : (s t : set.FinSet nat_cmp) → ((q : ℕ) → has s q → has t q)
     → ((q : ℕ) → has t q → has s q) → s ≡ t
 same_members s t to from =
-    same_set nat_cmp_total nat_cmp-IsAntisymmetric s t (λ q. alike _ _ (to q) (from q))
+    same_set nat_cmp_total nat_cmp-IsAntisymmetric s t (λ q. both_ways _ _ (to q) (from q))
 
 pub same_pair : (p r : Pair) → p.value ≡ r.value → ((q : ℕ) → has p.options q → has r.options q)
     → ((q : ℕ) → has r.options q → has p.options q) → p ≡ r

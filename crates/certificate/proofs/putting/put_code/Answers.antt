@@ -2,7 +2,7 @@ use Rattle.std.proofs.Common.{◌≡◌, ◌<◌, ◌∷◌, [], ℕ, map, drop,
 use Rattle.std.proofs.lemmas.Result.{err_from_is_err_and}
 use Rattle.streams.specs.Stream.{AppendsSome, Puts}
 use Rattle.octal_code.specs.Text.{code_text, digit_byte}
-use Rattle.streams.specs.StreamLaws.{puts_then, some_more}
+use Rattle.streams.proofs.StreamLaws.{puts_then, some_more}
 use Rattle.certificate.proofs.Out.{code_is}
 use Rattle.certificate.proofs.putting.put_code.Goals as goal
 

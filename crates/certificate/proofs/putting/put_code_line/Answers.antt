@@ -1,7 +1,7 @@
 use Rattle.std.proofs.Common.{◌++◌, ◌∷◌, [], codes}
 use Rattle.std.proofs.lemmas.Result.{err_from_is_err_and}
 use Rattle.octal_code.specs.Text.{code_text}
-use Rattle.streams.specs.StreamLaws.{puts_three, some_of_three, some_more}
+use Rattle.streams.proofs.StreamLaws.{puts_three, some_of_three, some_more}
 use Rattle.certificate.proofs.putting.put_code_line.Goals as goal
 
 pub returns-in_err-put_code-clause-puts : goal.returns-in_err-put_code-clause-puts

@@ -3,7 +3,7 @@ use Rattle.std.specs.Fmt.{decimal}
 use Rattle.std.proofs.lemmas.Result.{err_from_is_err_and}
 use Rattle.streams.specs.Stream.{AppendsSome, Puts}
 use Rattle.certificate_text.specs.Spelling.{key_word}
-use Rattle.streams.specs.StreamLaws.{puts_then, some_more}
+use Rattle.streams.proofs.StreamLaws.{puts_then, some_more}
 use Rattle.certificate.proofs.putting.put_key.Goals as goal
 
 pub returns-clause-puts : goal.returns-clause-puts

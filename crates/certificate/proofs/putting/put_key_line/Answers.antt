@@ -1,7 +1,7 @@
 use Rattle.std.proofs.Common.{◌++◌, ◌∷◌, [], map, codes}
 use Rattle.std.proofs.lemmas.Result.{err_from_is_err_and}
 use Rattle.certificate_text.specs.Spelling.{spaced, key_word}
-use Rattle.streams.specs.StreamLaws.{puts_three, some_of_three, some_more}
+use Rattle.streams.proofs.StreamLaws.{puts_three, some_of_three, some_more}
 use Rattle.certificate.proofs.putting.put_key_line.Goals as goal
 
 pub returns-in_err-write_whole-clause-puts : goal.returns-in_err-write_whole-clause-puts

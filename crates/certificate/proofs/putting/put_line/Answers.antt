@@ -3,7 +3,7 @@ use Rattle.std.proofs.lemmas.Grind.{common_steps}
 use Rattle.std.proofs.lemmas.Result.{err_from_is_err_and}
 use Rattle.std.specs.Fmt.{decimal}
 use Rattle.certificate_text.specs.Spelling.{spaced}
-use Rattle.streams.specs.StreamLaws.{puts_three, some_of_three}
+use Rattle.streams.proofs.StreamLaws.{puts_three, some_of_three}
 use Rattle.certificate.proofs.putting.put_line.Goals as goal
 
 pub returns-in_err-put_words-clause-puts : goal.returns-in_err-put_words-clause-puts

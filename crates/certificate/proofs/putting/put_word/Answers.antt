@@ -1,6 +1,6 @@
 use Rattle.std.proofs.Common.{◌∷◌, []}
 use Rattle.std.specs.Fmt.{decimal}
-use Rattle.streams.specs.StreamLaws.{puts_then}
+use Rattle.streams.proofs.StreamLaws.{puts_then}
 use Rattle.certificate.proofs.putting.put_word.Goals as goal
 
 pub returns-clause-puts : goal.returns-clause-puts

@@ -1,4 +1,4 @@
-use Rattle.heap_options.specs.OptionLaws.{listed_as, only, cut}
+use Rattle.heap_options.proofs.OptionLaws.{listed_as, only, cut}
 use Rattle.heap_options.proofs.Exact.{each, once}
 use Rattle.heap_options.proofs.Rising.{rising}
 use Rattle.heap_options.proofs.listing.options_are_exact.Goals as goal

@@ -1,4 +1,4 @@
-use Rattle.octal_code.specs.BitLaws.{takes, leaves, allowed}
+use Rattle.octal_code.proofs.BitLaws.{takes, leaves, allowed}
 use Rattle.octal_code.specs.declared.leaving.Leaving.TheVariants.{TwoHeaps, ThreeHeaps}
 use Rattle.octal_code.proofs.laws.digits_say_what_stays.Goals as goal
 

@@ -4,7 +4,7 @@ use Rattle.presentations.specs.Merging.{letters_in}
 use Rattle.presentations.specs.Words.{vector_on}
 use Rattle.presentations.specs.Vectors.{zeros}
 use Rattle.presentations.proofs.BoxLaws.{place-zeros, place-bump, size-positive, no_axis}
-use Rattle.presentations.specs.VectorLaws.{partial, partial-none, partial-more, partial-next, partial-all, length-partial}
+use Rattle.presentations.proofs.VectorLaws.{partial, partial-none, partial-more, partial-next, partial-all, length-partial}
 use Rattle.presentations.proofs.PlaceLaws.{length-word, word-at}
 use Rattle.presentations.proofs.axes.place.Goals as goal
 

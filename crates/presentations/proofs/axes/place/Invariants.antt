@@ -2,7 +2,7 @@ use Rattle.std.proofs.Common.{◌≡◌, ◌<◌}
 use Rattle.presentations.specs.Boxes.{place_of, size_of}
 use Rattle.presentations.specs.Merging.{letters_in}
 use Rattle.presentations.specs.Words.{vector_on}
-use Rattle.presentations.specs.VectorLaws.{partial}
+use Rattle.presentations.proofs.VectorLaws.{partial}
 use Rattle.presentations.proofs.axes.place.Given as goal
 
 abbrev pub invariant-loop-i : goal.invariant-loop-i

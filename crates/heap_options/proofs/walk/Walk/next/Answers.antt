@@ -1,6 +1,6 @@
 use Rattle.std.proofs.Common.{◌≡◌, [], sym, ◌∙◌}
 use Rattle.heap_options.specs.Walks.{rest}
-use Rattle.heap_options.specs.WalkLaws.{none_untried}
+use Rattle.heap_options.proofs.WalkLaws.{none_untried}
 use Rattle.heap_options.proofs.walk.Walk.next.Goals as goal
 
 pub returns : goal.returns

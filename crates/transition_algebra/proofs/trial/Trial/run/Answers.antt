@@ -3,7 +3,7 @@ use Rattle.std.specs.List.{All}
 use Rattle.transition_algebra.specs.Heaps.{bound_of}
 use Rattle.transition_algebra.specs.Trials.{HaveElements, after_all, after_row, after_all_triples}
 use Rattle.heap_options.specs.Options.{last_first}
-use Rattle.heap_options.specs.WalkLaws.{single_short}
+use Rattle.heap_options.proofs.WalkLaws.{single_short}
 use Rattle.transition_algebra.proofs.Counted.{counted}
 use Rattle.transition_algebra.proofs.Running.{ready, not_over, run_single, run_none, run_splits, run_triples, run_row, run_last_row, run_close}
 use Rattle.transition_algebra.proofs.trial.Trial.run.Goals as goal

@@ -8,10 +8,10 @@ use Rattle.misere_theory.specs.Games.{digit, HeapOption}
 use Rattle.misere_theory.specs.Games.HeapOption.{Nothing as TakesAll, One as LeavesOne, Two as LeavesTwo, Three as LeavesThree}
 use Rattle.octal_code.specs.Bits.{allows, takes_all, leaves_one}
 use Rattle.octal_code.specs.declared.leaving.Leaving.TheVariants.{NoHeap, OneHeap, TwoHeaps, ThreeHeaps}
-use Rattle.octal_code.specs.BitLaws.{bit_says, bit_is, all_says, one_says, all_is, one_is}
+use Rattle.octal_code.proofs.BitLaws.{bit_says, bit_is, all_says, one_says, all_is, one_is}
 use Rattle.heap_options.specs.Options.{options_of, options_up_to, options_at, nothing_left, one_left, two_left, three_left, where_holds, splits, last_first, last_second, triples_at, triples}
 use Rattle.heap_options.specs.Exact.{heaps_of, IsInOrder, IsLeftAt, IsPartUpTo}
-use Rattle.heap_options.specs.ListLaws.{nothing_in, only_in, itself_in, in_flat, of_flat, in_map, of_map}
+use Rattle.misere_theory.proofs.ListLaws.{nothing_in, only_in, itself_in, in_flat, of_flat, in_map, of_map}
 use Rattle.heap_options.specs.declared.left.Left.{Left}
 use Rattle.heap_options.specs.declared.left.Left.TheVariants.{Nothing, One, Two, Three}
 

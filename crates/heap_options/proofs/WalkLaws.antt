@@ -5,6 +5,7 @@ use Rattle.std.specs.List.{flat_map, range_with_len}
 use Rattle.std.proofs.lemmas.Bool.Decides.{nat_tests}
 use Rattle.std.proofs.lemmas.List.{get_or_past}
 use native.Mathlib.Decide.{dec_le}
+use Rattle.misere_theory.proofs.Ranges.{range_more, range_none}
 use Rattle.octal_code.specs.Bits.{allows, takes_all, leaves_one}
 use Rattle.octal_code.specs.declared.leaving.Leaving.TheVariants.{NoHeap, OneHeap, TwoHeaps, ThreeHeaps}
 use Rattle.heap_options.specs.Options.{options_at, nothing_left, one_left, two_left, three_left, where_holds, splits, row, last_first, last_second, triples_at, triples}
@@ -13,12 +14,6 @@ use Rattle.heap_options.specs.declared.left.Left.{Left}
 use Rattle.heap_options.specs.declared.left.Left.TheVariants.{Nothing, One, Two, Three}
 use Rattle.heap_options.specs.declared.walk.Untried.{Untried}
 use Rattle.heap_options.specs.declared.walk.Untried.TheVariants.{Everything, Splits, Triples}
-
-range_more : (a n m : ℕ) → n ≡ suc m → range_with_len a n ≡ a ∷ range_with_len (a + 1) m
-range_more a n m e = ap (range_with_len a) e
-
-range_none : (a n : ℕ) → n ≡ 0 → range_with_len a n ≡ []
-range_none a n e = ap (range_with_len a) e
 
 where_true : (b : Bool) (xs : List Left) → b ≡ true → where_holds b xs ≡ xs
 where_true b xs e = rw e
