@@ -1,7 +1,7 @@
 //! Long texts, put together of parts.
 use std::alloc::{AllocError, Global};
 
-/// Repeats, each repeated so many times.
+/// Texts, each repeated so many times.
 pub type Repeats = &'static [(&'static [u8], usize)];
 
 /// The text of blocks of parts, each block repeated so many times.

@@ -31,7 +31,7 @@ pub fn words_of<R: Env + AllocGlobal>(rt: &R) -> Result<Vec<String>, Stop<'stati
     }
 }
 
-/// PrintsLine why the program ends before it runs.
+/// Tells why the program ends before it runs.
 pub fn stopped<E: Sink>(stop: Stop<'_>, err: &mut E) -> ExitCode
     ensures status { exit_status result ≡ stop_status stop.entry }
     ensures told { PrintsLine (printer (E.taken err.old) (E.failures err.old))

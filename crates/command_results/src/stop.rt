@@ -38,7 +38,7 @@ impl Stop<'_> {
         }
     }
 
-    /// PrintsLine the reason on standard error.
+    /// Tells the reason on standard error.
     pub fn tell<E: Sink>(self, err: &mut E)
         ensures { PrintsLine (printer (E.taken err.old) (E.failures err.old))
             (printer (E.taken err.new) (E.failures err.new)) (stop_line self.entry) }

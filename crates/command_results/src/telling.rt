@@ -16,7 +16,7 @@ fn put_pieces<E: Sink>(err: &mut E, front: &str, name: &str, back: &str) -> Resu
     write_whole(err, back.as_bytes())
 }
 
-/// PrintsLine three pieces, one behind the other. Where the sink fails there is nobody left to tell.
+/// Tells three pieces, one behind the other. Where the sink fails there is nobody left to tell.
 pub fn tell<E: Sink>(err: &mut E, front: &str, name: &str, back: &str)
     ensures { PrintsLine (printer (E.taken err.old) (E.failures err.old))
         (printer (E.taken err.new) (E.failures err.new)) (front.now ++ (name.now ++ back.now)) }

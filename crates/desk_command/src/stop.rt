@@ -64,7 +64,7 @@ impl DeskStop<'_> {
         }
     }
 
-    /// PrintsLine the reason on standard error.
+    /// Tells the reason on standard error.
     pub fn tell<E: Sink>(self, err: &mut E)
         ensures { PrintsLine (printer (E.taken err.old) (E.failures err.old))
             (printer (E.taken err.new) (E.failures err.new)) (desk_stop_line self.entry) }
@@ -78,7 +78,7 @@ impl DeskStop<'_> {
     }
 }
 
-/// PrintsLine that the line of this number isn't a step.
+/// Tells that the line of this number isn't a step.
 fn tell_line<E: Sink>(number: usize, err: &mut E)
     ensures { PrintsLine (printer (E.taken err.old) (E.failures err.old))
         (printer (E.taken err.new) (E.failures err.new))

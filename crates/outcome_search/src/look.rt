@@ -5,7 +5,7 @@ ghost use Rattle.outcome_search.specs.Settled.{Follows};
 ghost use Rattle.heap_options.specs.Options.{options_of};
 
 use crate::memo::Memo;
-use allocation::{Memory, Room};
+use allocation::{Memory, SmallAllocator};
 use octal_code::Code;
 use positions::{Outcome, Position, options, options_are_exact};
 
@@ -24,7 +24,7 @@ pub(crate) enum Seen {
 
 /// The outcome of a position by what is known, or, where that isn't enough, `None`: then `next` is
 /// a position that a move leads to and of which nothing is known.
-pub(crate) fn look<A: Room + Copy>(
+pub(crate) fn look<A: SmallAllocator + Copy>(
     code: &Code,
     position: &Position<A>,
     memo: &Memo<A>,
@@ -53,7 +53,7 @@ pub(crate) fn look<A: Room + Copy>(
 
 /// What the options of the heap at the place `at` show. Where one leads to a position of which
 /// nothing is known, `next` is that position.
-fn look_at<A: Room + Copy>(
+fn look_at<A: SmallAllocator + Copy>(
     code: &Code,
     position: &Position<A>,
     at: usize,

@@ -5,7 +5,7 @@ ghost use Rattle.std.specs.Cmp.Lexicographic.{pointwise};
 ghost use Rattle.std.specs.Map.{keys_of};
 ghost use Rattle.outcome_search.specs.Known.{known};
 
-use allocation::{Memory, Room};
+use allocation::{Memory, SmallAllocator};
 use indexmap::IndexMap;
 use positions::{Outcome, Position};
 use std::hash::{BuildHasherDefault, FoldHasher};
@@ -14,11 +14,11 @@ use std::marker::Model;
 /// The outcomes that a search has found, seen as the list of positions with their outcomes, in the
 /// order in which they were found.
 #[derive(Drop)]
-pub(crate) struct Memo<A: Room> {
+pub(crate) struct Memo<A: SmallAllocator> {
     outcomes: IndexMap<Position<A>, Outcome, BuildHasherDefault<FoldHasher>, A>,
 }
 
-impl<A: Room> Model for Memo<A> {
+impl<A: SmallAllocator> Model for Memo<A> {
     ghost use Rattle.std.specs.Prelude.{ℕ, List};
     ghost use Rattle.positions.specs.declared.outcome.Outcome.{Outcome};
 
@@ -27,7 +27,7 @@ impl<A: Room> Model for Memo<A> {
     ghost view = { λ m. m.outcomes.entries };
 }
 
-impl<A: Room + Copy> Memo<A> {
+impl<A: SmallAllocator + Copy> Memo<A> {
     /// Nothing is known yet.
     pub(crate) fn new(alloc: A) -> Memo<A>
         ensures { result ≡ [] }

@@ -7,7 +7,7 @@ ghost use Rattle.indexmap.specs.IndexSet.{insert_key};
 ghost use Rattle.misere_theory.specs.Plays.{MoreReachableThan};
 ghost use Rattle.outcome_search.specs.Reached.{AddsMoves};
 
-use allocation::{Memory, Room};
+use allocation::{Memory, SmallAllocator};
 use indexmap::IndexSet;
 use octal_code::Code;
 use positions::{Position, options, options_are_exact};
@@ -16,11 +16,11 @@ use std::marker::Model;
 
 /// Positions that moves reach, each once, in the order in which they were found.
 #[derive(Drop)]
-struct Reached<A: Room> {
+struct Reached<A: SmallAllocator> {
     positions: IndexSet<Position<A>, BuildHasherDefault<FoldHasher>, A>,
 }
 
-impl<A: Room> Model for Reached<A> {
+impl<A: SmallAllocator> Model for Reached<A> {
     ghost use Rattle.std.specs.Prelude.{ℕ, List};
 
     ghost Value = { List (List ℕ) };
@@ -28,7 +28,7 @@ impl<A: Room> Model for Reached<A> {
     ghost view = { λ r. r.positions.keys };
 }
 
-impl<A: Room + Copy> Reached<A> {
+impl<A: SmallAllocator + Copy> Reached<A> {
     /// The position alone.
     fn new(alloc: A, position: &Position<A>) -> Result<Reached<A>, Memory>
         ensures alone { IfOk result (λ reached. reached ≡ position.now ∷ []) }
@@ -137,7 +137,7 @@ impl<A: Room + Copy> Reached<A> {
 }
 
 /// Whether more than `most` positions can be reached from the one, itself counted.
-pub(crate) fn reaches_more<A: Room + Copy>(
+pub(crate) fn reaches_more<A: SmallAllocator + Copy>(
     alloc: A,
     code: &Code,
     position: &Position<A>,

@@ -7,7 +7,7 @@ ghost use Rattle.outcome_search.specs.Settled.{IsSettledBy};
 use crate::fault::SearchFault;
 use crate::reach::reaches_more;
 use crate::settling::settle;
-use allocation::Room;
+use allocation::SmallAllocator;
 use octal_code::Code;
 use positions::{Outcome, Position};
 
@@ -23,7 +23,7 @@ const FEW: u32 = 1024;
 ///
 /// Where a short search doesn't settle it, the positions are counted first: to give up costs no
 /// more than to list `budget` of them.
-pub fn outcome<A: Room + Copy>(
+pub fn outcome<A: SmallAllocator + Copy>(
     alloc: A,
     code: &Code,
     position: &Position<A>,

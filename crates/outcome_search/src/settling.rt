@@ -9,12 +9,15 @@ ghost use Rattle.outcome_search.specs.Settled.{IsSettledBy};
 use crate::fault::SearchFault;
 use crate::look::look;
 use crate::memo::Memo;
-use allocation::{Memory, Room};
+use allocation::{Memory, SmallAllocator};
 use octal_code::Code;
 use positions::{Outcome, Position};
 
 /// What waits at the start: the position alone.
-fn begun<A: Room + Copy>(alloc: A, position: &Position<A>) -> Result<Vec<Position<A>, A>, Memory>
+fn begun<A: SmallAllocator + Copy>(
+    alloc: A,
+    position: &Position<A>,
+) -> Result<Vec<Position<A>, A>, Memory>
     ensures alone { IfOk result (λ w. w.items ≡ position.now ∷ []) }
     ensures rising { IsNonDecreasing position.now }
 {
@@ -25,7 +28,7 @@ fn begun<A: Room + Copy>(alloc: A, position: &Position<A>) -> Result<Vec<Positio
 }
 
 /// A copy of the position waits behind the others.
-fn add<A: Room + Copy>(
+fn add<A: SmallAllocator + Copy>(
     alloc: A,
     waiting: &mut Vec<Position<A>, A>,
     next: &Position<A>,
@@ -38,7 +41,7 @@ fn add<A: Room + Copy>(
 
 /// The outcome of the first position that waits, once all behind it are settled. `next` is written
 /// anew at each look.
-fn settle_all<A: Room + Copy>(
+fn settle_all<A: SmallAllocator + Copy>(
     alloc: A,
     code: &Code,
     budget: u32,
@@ -77,7 +80,7 @@ fn settle_all<A: Room + Copy>(
 /// The outcome of a position, found by a search that goes depth first and remembers the outcomes
 /// that it finds. It gives up where it would have to remember more than `budget` of them. The stack
 /// doesn't grow with the length of the plays.
-pub(crate) fn settle<A: Room + Copy>(
+pub(crate) fn settle<A: SmallAllocator + Copy>(
     alloc: A,
     code: &Code,
     position: &Position<A>,

@@ -24,16 +24,16 @@ loop-at-preserved g c =
     let at = c.loop-at.at in
     let l = ap length c.heaps-heaps.ensures.value in
     let inside : at < length X = omega arith in
-    let Says : Seen → Type 0 =
+    let Holds : Seen → Type 0 =
     λ s. HasSeen c.args.code.now X c.args.memo.now at
     (options_of c.args.code.now (get_or X at 0)) s c.look_at.new.next in
     let Looked : Bool → Type 0 = λ b. HasLooked c.args.code.now X c.args.memo.now (at + 1) b in
     elim c.match-branch-2.branch [
       | in-Nothing w ↦ subst Looked (sym w.can_move-is)
           (looked_none c.args.code.now X c.args.memo.now at c.loop-at.can_move c.loop-at.invariant
-          (subst Says w.in-Nothing.is c.in_ok-look_at.ensures))
+          (subst Holds w.in-Nothing.is c.in_ok-look_at.ensures))
       | in-Loses w ↦
-          let says = subst Says w.in-Loses.is c.in_ok-look_at.ensures in
+          let says = subst Holds w.in-Loses.is c.in_ok-look_at.ensures in
           subst Looked (sym w.can_move-is)
           (looked_loses c.args.code.now X c.args.memo.now at c.loop-at.can_move inside
           c.loop-at.invariant says.0 (heaps_of says.1.0)
