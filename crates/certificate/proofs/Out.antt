@@ -4,6 +4,7 @@ use Rattle.std.proofs.lemmas.List.{append-nil, length-drop}
 use Rattle.std.specs.Fmt.{decimal}
 use Rattle.std.specs.Io.KnownBytes.{Appends}
 use Rattle.std.specs.List.{flat_map}
+use Rattle.misere_theory.specs.Games.{IsCode}
 use Rattle.octal_code.specs.Text.{code_text, digit_byte}
 use Rattle.streams.specs.Stream.{AppendsSome}
 use Rattle.streams.proofs.StreamLaws.{appends_then, some_then, some_more}
@@ -97,7 +98,7 @@ digit_place [] j = refl
 digit_place (d ∷ ds) j = let e : j + 1 ≡ suc j = omega arith in
     ap (λ (k : ℕ). get_or (d ∷ ds) k 0) e
 
-pub code_is : (code : List ℕ) → 0 < length code
+pub code_is : (code : List ℕ) → IsCode code
     → code_text code ≡ digit_byte (get_or code 0 0) ∷ 46 ∷ map digit_byte (drop 1 code)
-code_is [] some = absurd (omega arith)
-code_is (d ∷ ds) some = refl
+code_is [] is = absurd is
+code_is (d ∷ ds) is = refl

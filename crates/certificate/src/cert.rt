@@ -58,6 +58,7 @@ impl<A: Allocator> Cert<A> {
     pub fn order(&self) -> u16
         ensures value { result ≡ self.now.order }
         ensures range { (2 ≤ result) × (result ≤ LARGEST_ORDER) }
+        ensures ranges { InRanges self.now }
     {
         self.fields.order
     }

@@ -5,7 +5,7 @@ ghost use Rattle.octal_code.specs.Text.{code_text, digit_byte};
 ghost use Rattle.streams.specs.Stream.{Counts, Puts};
 ghost use Rattle.certificate_text.specs.Spelling.{spaced, key_word, row_line, text};
 
-use crate::cert::{Cert, in_ranges};
+use crate::cert::Cert;
 use crate::key::Key;
 use crate::laws::claims_agree;
 use itoa::Buffer;
@@ -112,8 +112,6 @@ fn put_code<W: Sink>(sink: &mut W, code: &Code) -> Result<(), DeviceFault>
     ensures puts { Puts (W.taken sink.old) (W.taken sink.new) result (code_text code.now) }
     ensures cause { Counts (W.failures sink.old) (W.failures sink.new) result }
 {
-    // a code has a first digit
-    let _ = code.last();
     write_whole(sink, &[code.digit_byte(0), b'.'])?;
     put_digits(sink, code)
 }
@@ -135,7 +133,6 @@ pub fn put_rows<A: Allocator, W: Sink>(sink: &mut W, cert: &Cert<A>) -> Result<(
         (text (map row_line cert.now.rows)) }
     ensures cause { Counts (W.failures sink.old) (W.failures sink.new) result }
 {
-    in_ranges(cert);
     claims_agree();
     let order = cert.order() as usize;
     let rows = cert.rows();

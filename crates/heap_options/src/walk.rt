@@ -2,13 +2,14 @@
 ghost use Rattle.std.specs.Iterator.{YieldsFirst, item_count};
 ghost use Rattle.std.specs.Prelude.{◌≡◌, ◌+◌, ◌-◌, ◌<◌, ◌≤◌, ◌↔◌, [], ◌∷◌, length, min, true, false, IsTrue};
 ghost use Rattle.std.specs.Option.{MatchOption};
+ghost use Rattle.misere_theory.specs.Games.{IsCode};
 ghost use Rattle.octal_code.specs.Bits.{allows};
 ghost use Rattle.octal_code.specs.declared.leaving.Leaving.TheVariants.{ThreeHeaps};
 ghost use Rattle.heap_options.specs.Options.{last_first};
 ghost use Rattle.heap_options.specs.Walks.{rest, begun, single_left, splits_to_try, triples_to_try, after_single, after_splits, at_triples, after_triples, after_row, after_all, IsTurn};
 
 use crate::left::Left;
-use octal_code::{Code, Leaving, is_code};
+use octal_code::{Code, Leaving};
 use std::marker::Model;
 
 /// What is still to be tried of the options that take the same number away.
@@ -50,7 +51,8 @@ impl Walk {
     /// Whether more is taken away than any digit stands for: no option is left.
     #[inline]
     pub fn is_over(&self, code: &Code) -> bool
-        ensures { IsTrue result ↔ (length code.now ≤ self.now.away) }
+        ensures over { IsTrue result ↔ (length code.now ≤ self.now.away) }
+        ensures code { IsCode code.now }
     {
         self.away > code.last() as u64
     }
@@ -191,7 +193,6 @@ impl Walk {
         ensures more { self.old.away < length code.now → self.new ≡ after_all self.old }
         ensures over { length code.now ≤ self.old.away → self.new ≡ self.old }
     {
-        is_code(code);
         if !self.is_over(code) {
             self.away += 1;
             self.untried = Untried::Everything;
@@ -225,7 +226,6 @@ impl Walk {
     fn next(&mut self, code: &Code) -> Option<Left>
         ensures { YieldsFirst (rest code.now) self.old result self.new }
     {
-        is_code(code);
         while !self.is_over(code) {
             if let Some(left) = self.turn(code) {
                 return Some(left);

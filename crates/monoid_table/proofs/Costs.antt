@@ -296,14 +296,3 @@ module _ (g : Grid) where
 
     pub cost-no-table : passing g < triples g.order → LawFails g.order (entry g.order g.entries)
     cost-no-table l = is-breach g.order g.entries (passing g + 1) (failure-looked l)
-
--- a job that has looked so far is so many turns from the start
-pub looked-turns : (g : Grid) (spent : ℕ) (refused : Bool)
-    → HasLookedAt g.order g.entries spent refused → state g spent refused ≡ turns spent (fresh g)
-unfolding turns
-looked-turns g zero true h = absurd (let b = h.broken refl in omega arith)
-looked-turns g zero false h = refl
-looked-turns g (suc n) false h =
-    sym (run-first (suc n) g false (omega arith) h.within h.passed (h.last refl (omega arith)))
-looked-turns g (suc n) true h =
-    sym (run-first (suc n) g true (omega arith) h.within h.passed (h.broken refl).1)

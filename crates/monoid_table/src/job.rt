@@ -164,11 +164,3 @@ impl<A: Allocator> TableJob<A> {
         Table::from_checked(order, rows)
     }
 }
-
-/// A job stands where its turns have brought it from the start.
-pub fn has_looked<A: Allocator>(job: &TableJob<A>)
-    ensures shaped { IsShaped job.now.grid.order job.now.grid.entries }
-    ensures state { job.now ≡ turns job.now.spent (fresh job.now.grid) }
-{
-    let _ = &job.order;
-}

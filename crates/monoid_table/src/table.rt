@@ -61,6 +61,8 @@ impl<A: Allocator> Table<A> {
     pub fn order(&self) -> u16
         ensures value { result ≡ self.now.order }
         ensures range { (1 ≤ result) × (result ≤ LARGEST_ORDER) }
+        ensures shaped { IsShaped self.now.order self.now.entries }
+        ensures monoid { Monoid self.now.order (times_in self.now) }
     {
         self.order
     }
@@ -71,6 +73,8 @@ impl<A: Allocator> Table<A> {
         requires y_in { y < self.now.order }
         ensures value { result ≡ times_in self.now x y }
         ensures within { result < self.now.order }
+        ensures shaped { IsShaped self.now.order self.now.entries }
+        ensures monoid { Monoid self.now.order (times_in self.now) }
     {
         entry_at(&self.rows, self.order as usize, x as usize, y as usize) as u16
     }
@@ -82,6 +86,8 @@ impl<A: Allocator> Table<A> {
         ensures products { (y : ℕ) → y < self.now.order
             → slice_index result.now y ≡ times_in self.now x y }
         ensures within { All (λ e. e < self.now.order) result.now }
+        ensures shaped { IsShaped self.now.order self.now.entries }
+        ensures monoid { Monoid self.now.order (times_in self.now) }
     {
         row_at(&self.rows, self.order as usize, x as usize)
     }

@@ -86,6 +86,7 @@ impl Code {
         ensures value { result ≡ digit self.now j }
         ensures below { result < 16 }
         ensures octal { is_octal self.now ≡ true → result < 8 }
+        ensures code { IsCode self.now }
     {
         if j < self.count as u64 {
             self.digits[j as usize]
@@ -96,7 +97,8 @@ impl Code {
 
     /// The byte of the digit dj in the code's text.
     pub fn digit_byte(&self, j: u64) -> u8
-        ensures { result ≡ digit_byte (digit self.now j) }
+        ensures value { result ≡ digit_byte (digit self.now j) }
+        ensures code { IsCode self.now }
     {
         byte_of(self.digit(j))
     }

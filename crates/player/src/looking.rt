@@ -11,7 +11,6 @@ ghost use Rattle.heap_options.specs.declared.left.Left.{Left};
 ghost use Rattle.player.specs.Looks.{IsFirstInto, puts};
 
 use answers::Certified;
-use certificate::in_ranges;
 use positions::{Left, Options, options_are_exact, options_up_to};
 use std::alloc::Allocator;
 
@@ -23,7 +22,6 @@ pub(crate) fn looks_at<A: Allocator>(certified: &Certified<A>, n: u64) -> Option
     ensures accepted { Accepted certified.now }
 {
     let cert = certified.cert();
-    in_ranges(cert);
     options_up_to(cert.code(), n, cert.start() + cert.period() - 1)
 }
 

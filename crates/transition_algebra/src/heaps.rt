@@ -22,7 +22,6 @@ pub(crate) fn bound_of<A: Allocator>(code: &Code, phi: &Phi<A>) -> u64
     ensures value { result ≡ bound_of code.now phi.now }
     ensures small { result < 4096 }
 {
-    is_pretending(phi);
     if phi.heaps() == 0 {
         if code.leaves_three() {
             3 * phi.start() + 3 * phi.period() + code.last() as u64
@@ -38,7 +37,6 @@ pub(crate) fn bound_of<A: Allocator>(code: &Code, phi: &Phi<A>) -> u64
 pub(crate) fn largest_part<A: Allocator>(phi: &Phi<A>) -> u64
     ensures { result ≡ phi.now.start + phi.now.period - 1 }
 {
-    is_pretending(phi);
     phi.start() + phi.period() - 1
 }
 

@@ -27,7 +27,6 @@ fn translate<A: Allocator>(table: &Table<A>, value: u16, elements: &ElementSet) 
     requires elements_in { (x : ℕ) → set.contains elements.now x ≡ true → x < table.now.order }
     ensures { result ≡ translated table.now value elements.now }
 {
-    is_monoid(table);
     elements.translate(table.row(value))
 }
 

@@ -44,7 +44,8 @@ impl<A: Allocator> Phi<A> {
 
     /// The heap from which on the elements repeat, or, where they don't, the first heap that has none.
     pub fn start(&self) -> u64
-        ensures { result ≡ self.now.start }
+        ensures value { result ≡ self.now.start }
+        ensures pretending { IsPretending self.now }
     {
         self.start
     }
@@ -65,7 +66,8 @@ impl<A: Allocator> Phi<A> {
 
     /// The last heap that has an element, or 0 where all have one.
     pub fn heaps(&self) -> u64
-        ensures { result ≡ kind_of self.now }
+        ensures value { result ≡ kind_of self.now }
+        ensures pretending { IsPretending self.now }
     {
         if self.period == 0 { self.start - 1 } else { 0 }
     }

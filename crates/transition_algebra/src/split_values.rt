@@ -11,7 +11,7 @@ use crate::pair::Pair;
 use crate::phi::Phi;
 use allocation::Memory;
 use element_sets::ElementSet;
-use monoid_table::{Table, is_monoid};
+use monoid_table::Table;
 use std::alloc::Allocator;
 
 /// The values of the splits of the heaps 0, 1, and so on, and those of the triples. They don't depend
@@ -35,7 +35,6 @@ fn values_of_splits<A: Allocator>(
     requires within { whole ≤ length pairs.now + 1 }
     ensures { result ≡ values_of_splits table.now phi.now whole }
 {
-    is_monoid(table);
     let last = (whole / 2).min(largest_part(phi));
     let mut all = ElementSet::new();
     for part in 1..last + 1 {
@@ -63,7 +62,6 @@ fn put_row<A: Allocator>(
     ensures { all.new ≡ with_left table.now phi.now all.old
         (triples_at whole (largest_part phi.now) first) }
 {
-    is_monoid(table);
     let x = pairs[(first - 1) as usize].value;
     let last = ((whole - first) / 2).min(largest_part(phi));
     for second in first..last + 1 {

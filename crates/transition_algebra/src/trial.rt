@@ -222,7 +222,6 @@ impl Trial {
     {
         is_monoid(table);
         is_pretending(phi);
-        is_code(code);
         if self.walk.is_over(code) {
             self.close(phi, pairs)?;
             return Ok(1);

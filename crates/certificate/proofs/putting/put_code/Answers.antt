@@ -1,4 +1,4 @@
-use Rattle.std.proofs.Common.{◌≡◌, ◌<◌, ◌∷◌, [], ℕ, map, drop, length, subst, sym, ap, ◌∙◌, arith}
+use Rattle.std.proofs.Common.{◌≡◌, ◌∷◌, [], ℕ, map, drop, subst, sym, ap, ◌∙◌}
 use Rattle.std.proofs.lemmas.Result.{err_from_is_err_and}
 use Rattle.streams.specs.Stream.{AppendsSome, Puts}
 use Rattle.octal_code.specs.Text.{code_text, digit_byte}
@@ -9,11 +9,9 @@ use Rattle.certificate.proofs.putting.put_code.Goals as goal
 pub returns-in_err-write_whole-clause-puts : goal.returns-in_err-write_whole-clause-puts
 returns-in_err-write_whole-clause-puts g c =
     let p = err_from_is_err_and c.from_residual.result c.from_residual.ensures.1 in
-    let some : 0 < length c.args.code.now = omega (arith, c.last.ensures.value, c.last.ensures.some)
-    in
     let is : c.digit_byte.result ∷ 46 ∷ map digit_byte (drop 1 c.args.code.now)
     ≡ code_text c.args.code.now =
-    ap (λ (b : ℕ). b ∷ 46 ∷ map digit_byte (drop 1 c.args.code.now)) c.digit_byte.ensures ∙ sym (code_is c.args.code.now some) in
+    ap (λ (b : ℕ). b ∷ 46 ∷ map digit_byte (drop 1 c.args.code.now)) c.digit_byte.ensures.value ∙ sym (code_is c.args.code.now c.digit_byte.ensures.code) in
     rw (p.1)
     (subst
     (AppendsSome (g.W.Sink.taken c.args.sink.now) (g.W.Sink.taken c.write_whole.new.sink)) is
@@ -23,11 +21,9 @@ returns-in_err-write_whole-clause-puts g c =
 
 pub returns-clause-puts : goal.returns-clause-puts
 returns-clause-puts g c =
-    let some : 0 < length c.args.code.now = omega (arith, c.last.ensures.value, c.last.ensures.some)
-    in
     let is : c.digit_byte.result ∷ 46 ∷ map digit_byte (drop 1 c.args.code.now)
     ≡ code_text c.args.code.now =
-    ap (λ (b : ℕ). b ∷ 46 ∷ map digit_byte (drop 1 c.args.code.now)) c.digit_byte.ensures ∙ sym (code_is c.args.code.now some) in
+    ap (λ (b : ℕ). b ∷ 46 ∷ map digit_byte (drop 1 c.args.code.now)) c.digit_byte.ensures.value ∙ sym (code_is c.args.code.now c.digit_byte.ensures.code) in
     subst (Puts (g.W.Sink.taken c.args.sink.now) (g.W.Sink.taken c.put_digits.new.sink)
     c.put_digits.result) is
     (puts_then (g.W.Sink.taken c.args.sink.now) (g.W.Sink.taken c.write_whole.new.sink)

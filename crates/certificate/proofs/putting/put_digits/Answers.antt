@@ -13,7 +13,7 @@ returns-in_err-write_whole-clause-puts g c =
     let lt : c.loop-j.j < length (drop 1 c.args.code.now) =
     omega (arith, digits_behind c.args.code.now, c.last-j-end.ensures.value) in
     let is : c.digit_byte.result ≡ digit_byte (get_or (drop 1 c.args.code.now) c.loop-j.j 0) =
-    c.digit_byte.ensures ∙ ap digit_byte (digit_place c.args.code.now c.loop-j.j) in
+    c.digit_byte.ensures.value ∙ ap digit_byte (digit_place c.args.code.now c.loop-j.j) in
     let some = pieces_stop (λ (d : ℕ). digit_byte d ∷ []) (g.W.Sink.taken c.args.sink.now)
     (g.W.Sink.taken c.loop-j.sink) (g.W.Sink.taken c.write_whole.new.sink)
     (drop 1 c.args.code.now) c.loop-j.j 0 lt c.loop-j.invariant.0
@@ -31,7 +31,7 @@ loop-j-preserved g c =
     let lt : c.loop-j.j < length (drop 1 c.args.code.now) =
     omega (arith, digits_behind c.args.code.now, c.last-j-end.ensures.value) in
     let is : c.digit_byte.result ≡ digit_byte (get_or (drop 1 c.args.code.now) c.loop-j.j 0) =
-    c.digit_byte.ensures ∙ ap digit_byte (digit_place c.args.code.now c.loop-j.j) in (
+    c.digit_byte.ensures.value ∙ ap digit_byte (digit_place c.args.code.now c.loop-j.j) in (
       pieces_go_on (λ (d : ℕ). digit_byte d ∷ []) (g.W.Sink.taken c.args.sink.now)
           (g.W.Sink.taken c.loop-j.sink) (g.W.Sink.taken c.write_whole.new.sink)
           (drop 1 c.args.code.now) c.loop-j.j 0 lt c.loop-j.invariant.0

@@ -10,11 +10,11 @@ pub returns-in_err-put_line-clause-puts : goal.returns-in_err-put_line-clause-pu
 returns-in_err-put_line-clause-puts g c =
     let p = err_from_is_err_and c.from_residual.result c.from_residual.ensures.1 in
     let lt : c.loop-x.x < length c.args.cert.now.rows =
-    omega (arith, c.in_ranges.ensures.rows.0, c.order-order.ensures.value) in
+    omega (arith, c.order-order.ensures.ranges.rows.0, c.order-order.ensures.value) in
     let is =
     row_read c.args.cert.now.order c.order-order.result c.args.cert.now.rows
     c.rows-rows.result.now c.loop-x.x c.order-order.ensures.value c.rows-rows.ensures
-    (rows_fit c.args.cert.now c.in_ranges.ensures) lt in
+    (rows_fit c.args.cert.now c.order-order.ensures.ranges) lt in
     let some = pieces_stop row_text (g.W.Sink.taken c.args.sink.now) (g.W.Sink.taken c.loop-x.sink)
     (g.W.Sink.taken c.put_line.new.sink) c.args.cert.now.rows c.loop-x.x [] lt
     c.loop-x.invariant.0
@@ -28,11 +28,11 @@ returns-in_err-put_line-clause-puts g c =
 pub loop-x-preserved : goal.loop-x-preserved
 loop-x-preserved g c =
     let lt : c.loop-x.x < length c.args.cert.now.rows =
-    omega (arith, c.in_ranges.ensures.rows.0, c.order-order.ensures.value) in
+    omega (arith, c.order-order.ensures.ranges.rows.0, c.order-order.ensures.value) in
     let is =
     row_read c.args.cert.now.order c.order-order.result c.args.cert.now.rows
     c.rows-rows.result.now c.loop-x.x c.order-order.ensures.value c.rows-rows.ensures
-    (rows_fit c.args.cert.now c.in_ranges.ensures) lt in (
+    (rows_fit c.args.cert.now c.order-order.ensures.ranges) lt in (
       pieces_go_on row_text (g.W.Sink.taken c.args.sink.now) (g.W.Sink.taken c.loop-x.sink)
           (g.W.Sink.taken c.put_line.new.sink) c.args.cert.now.rows c.loop-x.x [] lt
           c.loop-x.invariant.0
@@ -46,7 +46,7 @@ loop-x-preserved g c =
 pub returns-clause-puts : goal.returns-clause-puts
 returns-clause-puts g c =
     let le : length c.args.cert.now.rows ≤ c.loop-x.x =
-    omega (arith, c.in_ranges.ensures.rows.0, c.order-order.ensures.value) in
+    omega (arith, c.order-order.ensures.ranges.rows.0, c.order-order.ensures.value) in
     subst (Appends (g.W.Sink.taken c.args.sink.now) (g.W.Sink.taken c.loop-x.sink))
     (rows_text c.args.cert.now.rows)
     (pieces_are_all row_text (g.W.Sink.taken c.args.sink.now) (g.W.Sink.taken c.loop-x.sink)

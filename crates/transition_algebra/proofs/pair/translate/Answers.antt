@@ -10,8 +10,8 @@ translate-requires g c = λ x h.
     let l = c.requires.elements_in x h in
     let n = c.row.ensures.length_is in
     let e = c.row.ensures.products x l in
-    let w = c.is_monoid.ensures.monoid.closed c.args.value x c.requires.value_in l in
-    let s = c.is_monoid.ensures.shaped.small in
+    let w = c.row.ensures.monoid.closed c.args.value x c.requires.value_in l in
+    let s = c.row.ensures.shaped.small in
     (omega arith, omega arith)
 
 pub returns : goal.returns

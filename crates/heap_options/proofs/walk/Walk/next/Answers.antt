@@ -8,5 +8,5 @@ returns c =
     let w = c.loop-self.self in
     let none : rest c.args.code.now w ≡ [] =
     none_untried c.args.code.now w.heap w.most w.away w.untried
-    (c.is_over.ensures.0 c.loop-self-test.false) in
+    (c.is_over.ensures.over.0 c.loop-self-test.false) in
     (sym c.loop-self.invariant ∙ none, none)

@@ -13,7 +13,7 @@ close-requires-clause-counts g c =
     let r =
     ready c.args.code.now c.args.table.now c.is_monoid.ensures.monoid c.args.phi.now
     c.is_pretending.ensures c.requires.into c.args.self.now c.args.pairs.now.items
-    c.requires.trial c.is_code.ensures.code in
+    c.requires.trial c.is_over.ensures.code in
     counted c.args.code.now c.args.phi.now c.args.self.now.walk.heap r.from_one
     (let a = c.requires.going in let b = c.requires.trial.bound_is in omega arith)
 
@@ -22,7 +22,7 @@ try_single-requires-clause-counts g c =
     let r =
     ready c.args.code.now c.args.table.now c.is_monoid.ensures.monoid c.args.phi.now
     c.is_pretending.ensures c.requires.into c.args.self.now c.args.pairs.now.items
-    c.requires.trial c.is_code.ensures.code in
+    c.requires.trial c.is_over.ensures.code in
     counted c.args.code.now c.args.phi.now c.args.self.now.walk.heap r.from_one
     (let a = c.requires.going in let b = c.requires.trial.bound_is in omega arith)
 
@@ -31,7 +31,7 @@ close-requires-clause-small g c =
     let r =
     ready c.args.code.now c.args.table.now c.is_monoid.ensures.monoid c.args.phi.now
     c.is_pretending.ensures c.requires.into c.args.self.now c.args.pairs.now.items
-    c.requires.trial c.is_code.ensures.code in
+    c.requires.trial c.is_over.ensures.code in
     let s = r.small in
     (omega arith, omega arith)
 
@@ -40,7 +40,7 @@ returns-then-is_over-clause-ok g c =
     let going : c.args.self.now.walk.heap ≤ bound_of c.args.code.now c.args.phi.now = let a =
     c.requires.going in let b = c.requires.trial.bound_is in omega arith in
     let past : length c.args.code.now ≤ c.args.self.now.walk.away =
-    c.is_over.ensures.0 c.if-is_over.true in
+    c.is_over.ensures.over.0 c.if-is_over.true in
     run_close c.args.code.now c.args.table.now c.args.phi.now c.args.self.now c.close.new.self
     c.args.pairs.now.items c.close.new.pairs.items c.args.units 1 _
     c.requires.trial going past c.requires.some refl c.in_ok-close.ensures.trial refl
@@ -51,7 +51,7 @@ try_single-requires-clause-small g c =
     let r =
     ready c.args.code.now c.args.table.now c.is_monoid.ensures.monoid c.args.phi.now
     c.is_pretending.ensures c.requires.into c.args.self.now c.args.pairs.now.items
-    c.requires.trial c.is_code.ensures.code in
+    c.requires.trial c.is_over.ensures.code in
     let s = r.small in
     omega arith
 
@@ -60,7 +60,7 @@ returns-in-Everything-clause-ok g c =
     let going : c.args.self.now.walk.heap ≤ bound_of c.args.code.now c.args.phi.now = let a =
     c.requires.going in let b = c.requires.trial.bound_is in omega arith in
     let inside : c.args.self.now.walk.away < length c.args.code.now =
-    not_over c.is_over.result c.is_over.ensures c.if-is_over.false in
+    not_over c.is_over.result c.is_over.ensures.over c.if-is_over.false in
     run_single c.args.code.now c.args.table.now c.args.phi.now c.args.self.now c.try_single.new.self
     c.args.pairs.now.items c.args.units c.try_single.result
     c.requires.trial going inside c.in-Everything.is c.requires.some
@@ -72,7 +72,7 @@ spend_splits-spent-requires-clause-small g c =
     let r =
     ready c.args.code.now c.args.table.now c.is_monoid.ensures.monoid c.args.phi.now
     c.is_pretending.ensures c.requires.into c.args.self.now c.args.pairs.now.items
-    c.requires.trial c.is_code.ensures.code in
+    c.requires.trial c.is_over.ensures.code in
     r.small
 
 pub take_splits-requires-clause-elements : goal.take_splits-requires-clause-elements
@@ -81,7 +81,7 @@ take_splits-requires-clause-elements g c =
     subst (HaveElements phi) (sym c.deref.ensures.value)
     (ready c.args.code.now c.args.table.now c.is_monoid.ensures.monoid c.args.phi.now
     c.is_pretending.ensures c.requires.into c.args.self.now c.args.pairs.now.items
-    c.requires.trial c.is_code.ensures.code).values
+    c.requires.trial c.is_over.ensures.code).values
 
 pub take_splits-requires-clause-inside : goal.take_splits-requires-clause-inside
 take_splits-requires-clause-inside g c =
@@ -89,14 +89,14 @@ take_splits-requires-clause-inside g c =
     subst (All (λ p. p.value < order)) (sym c.deref.ensures.value)
     (ready c.args.code.now c.args.table.now c.is_monoid.ensures.monoid c.args.phi.now
     c.is_pretending.ensures c.requires.into c.args.self.now c.args.pairs.now.items
-    c.requires.trial c.is_code.ensures.code).elements
+    c.requires.trial c.is_over.ensures.code).elements
 
 pub take_splits-requires-clause-within : goal.take_splits-requires-clause-within
 take_splits-requires-clause-within g c =
     let r =
     ready c.args.code.now c.args.table.now c.is_monoid.ensures.monoid c.args.phi.now
     c.is_pretending.ensures c.requires.into c.args.self.now c.args.pairs.now.items
-    c.requires.trial c.is_code.ensures.code in
+    c.requires.trial c.is_over.ensures.code in
     let s = r.length_is in
     let e = ap length c.deref.ensures.value in
     let h = ap (λ t. t.walk.heap) (c.spend_splits-spent.ensures.none c.if-spent-eq0.true).1 in
@@ -108,7 +108,7 @@ returns-in_ok-take_splits-in-Splits-clause-ok g c =
     let going : c.args.self.now.walk.heap ≤ bound_of c.args.code.now c.args.phi.now = let a =
     c.requires.going in let b = c.requires.trial.bound_is in omega arith in
     let inside : c.args.self.now.walk.away < length c.args.code.now =
-    not_over c.is_over.result c.is_over.ensures c.if-is_over.false in
+    not_over c.is_over.result c.is_over.ensures.over c.if-is_over.false in
     let none = c.spend_splits-spent.ensures.none c.if-spent-eq0.true in
     run_none c.args.code.now c.args.table.now c.args.phi.now c.args.self.now c.take_splits.new.self
     c.args.pairs.now.items c.args.units c.spend_splits-spent.result c.in-Splits.part
@@ -121,7 +121,7 @@ returns-else-spent-eq0-clause-ok g c =
     let going : c.args.self.now.walk.heap ≤ bound_of c.args.code.now c.args.phi.now = let a =
     c.requires.going in let b = c.requires.trial.bound_is in omega arith in
     let inside : c.args.self.now.walk.away < length c.args.code.now =
-    not_over c.is_over.result c.is_over.ensures c.if-is_over.false in
+    not_over c.is_over.result c.is_over.ensures.over c.if-is_over.false in
     let some : 1 ≤ c.spend_splits-spent.result = let f = c.if-spent-eq0.false in omega arith in
     let made = c.spend_splits-spent.ensures.some some in
     run_splits c.args.code.now c.args.table.now c.args.phi.now c.args.self.now
@@ -135,7 +135,7 @@ spend_triples-spent-requires-clause-small g c =
     let r =
     ready c.args.code.now c.args.table.now c.is_monoid.ensures.monoid c.args.phi.now
     c.is_pretending.ensures c.requires.into c.args.self.now c.args.pairs.now.items
-    c.requires.trial c.is_code.ensures.code in
+    c.requires.trial c.is_over.ensures.code in
     r.small
 
 pub returns-then-spent-gt0-clause-ok : goal.returns-then-spent-gt0-clause-ok
@@ -156,7 +156,7 @@ take_triples-requires-clause-elements g c =
     subst (HaveElements phi) (sym c.deref-else-first-last_first.ensures.value)
     (ready c.args.code.now c.args.table.now c.is_monoid.ensures.monoid c.args.phi.now
     c.is_pretending.ensures c.requires.into c.args.self.now c.args.pairs.now.items
-    c.requires.trial c.is_code.ensures.code).values
+    c.requires.trial c.is_over.ensures.code).values
 
 pub take_triples-requires-clause-inside : goal.take_triples-requires-clause-inside
 take_triples-requires-clause-inside g c =
@@ -164,14 +164,14 @@ take_triples-requires-clause-inside g c =
     subst (All (λ p. p.value < order)) (sym c.deref-else-first-last_first.ensures.value)
     (ready c.args.code.now c.args.table.now c.is_monoid.ensures.monoid c.args.phi.now
     c.is_pretending.ensures c.requires.into c.args.self.now c.args.pairs.now.items
-    c.requires.trial c.is_code.ensures.code).elements
+    c.requires.trial c.is_over.ensures.code).elements
 
 pub take_triples-requires-clause-within : goal.take_triples-requires-clause-within
 take_triples-requires-clause-within g c =
     let r =
     ready c.args.code.now c.args.table.now c.is_monoid.ensures.monoid c.args.phi.now
     c.is_pretending.ensures c.requires.into c.args.self.now c.args.pairs.now.items
-    c.requires.trial c.is_code.ensures.code in
+    c.requires.trial c.is_over.ensures.code in
     let s = r.length_is in
     let e = ap length c.deref-else-first-last_first.ensures.value in
     let zero : c.spend_triples-spent.result ≡ 0 = let f = c.if-spent-gt0.false in omega arith in
@@ -200,7 +200,7 @@ returns-in_ok-take_triples-in-Triples-clause-ok g c =
     let going : c.args.self.now.walk.heap ≤ bound_of c.args.code.now c.args.phi.now = let a =
     c.requires.going in let b = c.requires.trial.bound_is in omega arith in
     let inside : c.args.self.now.walk.away < length c.args.code.now =
-    not_over c.is_over.result c.is_over.ensures c.if-is_over.false in
+    not_over c.is_over.result c.is_over.ensures.over c.if-is_over.false in
     let zero : c.spend_triples-spent.result ≡ 0 = let f = c.if-spent-gt0.false in omega arith in
     let none = c.spend_triples-spent.ensures.none zero in
     let first = c.last_first.ensures in
