@@ -2,6 +2,7 @@
 use Rattle.std.specs.Prelude.{◌≡◌, ◌⊎◌, ℕ, zero, suc, Bool, true, false, List, [], ◌∷◌, ◌++◌, codes, decimal, encode_utf8}
 use Rattle.misere_theory.specs.declared.TheConstants.{LARGEST_FIRST_ORDER}
 use Rattle.monoid_table.specs.Grids.{Grid, IsTable, times_in}
+use Rattle.presentations.specs.declared.TheConstants.{LARGEST_BOX}
 use Rattle.presentations.specs.declared.named.Generator.{Generator}
 use Rattle.presentations.specs.declared.read.Relation.{Relation}
 use Rattle.presentations.specs.Powers.{IsAboveLimit, IsUnbounded}
@@ -42,6 +43,14 @@ monoid_lines table generators =
     (codes "order " ++ decimal table.order ++ codes "\n" ++ generators_line generators)
     ++ row_lines table table.order
 
+-- The bytes spell relations that have this table, and their box is within the limit.
+pub record PresentsMonoid (presentation : List ℕ) (table : Grid) (generators : List Generator) : Type
+    0 where
+  pub relations : List Relation
+  pub spelled : SpellsPresentation presentation relations
+  pub is_table : IsTableOf relations table generators
+  pub within : IsAboveLimit relations LARGEST_BOX → ⊥
+
 -- The text is the table of the least congruence that holds the relations; it is a commutative
 -- monoid, and the box is within the limit.
 pub record IsTableText (relations : List Relation) (text : List ℕ) : Type 0 where
@@ -49,14 +58,14 @@ pub record IsTableText (relations : List Relation) (text : List ℕ) : Type 0 wh
   pub generators : List Generator
   pub monoid : IsTable table.order table.entries
   pub is_table : IsTableOf relations table generators
-  pub within : IsAboveLimit relations 65536 → ⊥
+  pub within : IsAboveLimit relations LARGEST_BOX → ⊥
   pub lines : text ≡ monoid_lines table generators
 
 -- The text is the line that says why the relations have no table, and it is right.
 pub data RefusesTable (relations : List Relation) (text : List ℕ) : Type 0 where
   Unbounded : IsUnbounded relations → text ≡ codes "refused 2 Unbounded\n"
       → RefusesTable relations text
-  Limit : IsAboveLimit relations 65536 ⊎ HasMoreElements relations LARGEST_FIRST_ORDER
+  Limit : IsAboveLimit relations LARGEST_BOX ⊎ HasMoreElements relations LARGEST_FIRST_ORDER
       → text ≡ codes "refused 3 Limit\n" → RefusesTable relations text
 
 -- the text is the table, or says why there is none

@@ -1,15 +1,18 @@
 //! The table of a presentation, or why there is none.
-ghost use Rattle.std.specs.Prelude.{◌≡◌, IfOk, IfErr, false};
+ghost use Rattle.std.specs.Prelude.{◌≡◌, ◌⊎◌, List, IfOk, IfErr, Err, false};
+ghost use Rattle.misere_theory.specs.declared.TheConstants.{LARGEST_FIRST_ORDER};
+ghost use Rattle.presentations.specs.declared.TheConstants.{LARGEST_BOX};
+ghost use Rattle.presentations.specs.declared.read.Relation.{Relation};
+ghost use Rattle.presentations.specs.Powers.{IsAboveLimit, IsUnbounded};
+ghost use Rattle.presentations.specs.Tables.{HasMoreElements};
+ghost use Rattle.presentations.specs.Text.{SpellsPresentation};
 ghost use Rattle.command_results.specs.Stops.{IsMemory};
-ghost use Rattle.present_command.specs.Presented.{Presents, PresentsTable};
+ghost use Rattle.present_command.specs.Presented.{Presents, PresentsMonoid};
 
 use crate::lines::monoid_text;
 use command_results::{Said, Stop};
-use presentations::{PresFault, Presentation, table_of};
+use presentations::{LARGEST_BOX, Named, PresFault, Presentation, table_of};
 use std::alloc::Global;
-
-/// The most exponent vectors that are merged.
-const LIMIT: u32 = 65536;
 
 /// The line that says why there is no table.
 fn refuse(alloc: Global, line: &str) -> Result<Said, Stop<'static>>
@@ -20,18 +23,19 @@ fn refuse(alloc: Global, line: &str) -> Result<Said, Stop<'static>>
     Ok(Said::no(text))
 }
 
-/// The monoid of the presentation.
-fn present_table(alloc: Global, presentation: &Presentation) -> Result<Said, Stop<'static>>
-    ensures presents { IfOk result (λ s. PresentsTable presentation.now s.text.items s.succeeds) }
-    ensures stops { IfErr result IsMemory }
+/// The table of the relations that the text spells.
+fn monoid_of(alloc: Global, text: &str) -> Result<Named, PresFault>
+    ensures table { IfOk result (λ n. PresentsMonoid text.now n.table n.generators.items) }
+    ensures text { (result ≡ Err PresFault.Text) → (q : List Relation)
+        → SpellsPresentation text.now q → ⊥ }
+    ensures unbounded { (result ≡ Err PresFault.Unbounded) → (relations : List Relation)
+        × SpellsPresentation text.now relations × IsUnbounded relations }
+    ensures limit { (result ≡ Err PresFault.Limit) → (relations : List Relation)
+        × SpellsPresentation text.now relations × (IsAboveLimit relations LARGEST_BOX
+        ⊎ HasMoreElements relations LARGEST_FIRST_ORDER) }
 {
-    match table_of(alloc, presentation, LIMIT) {
-        Ok(named) => Ok(Said::done(monoid_text(alloc, &named)?)),
-        Err(PresFault::Memory) => Err(Stop::Memory),
-        Err(PresFault::Unbounded) => refuse(alloc, "refused 2 Unbounded\n"),
-        Err(PresFault::Limit) => refuse(alloc, "refused 3 Limit\n"),
-        Err(PresFault::Text) => unreachable!(),
-    }
+    let presentation = Presentation::read(alloc, text.as_bytes())?;
+    table_of(alloc, &presentation, LARGEST_BOX)
 }
 
 /// The monoid that the text presents, or why there is none.
@@ -39,10 +43,11 @@ pub fn present(alloc: Global, text: &str) -> Result<Said, Stop<'static>>
     ensures presents { IfOk result (λ s. Presents text.now s.text.items s.succeeds) }
     ensures stops { IfErr result IsMemory }
 {
-    match Presentation::read(alloc, text.as_bytes()) {
-        Ok(presentation) => present_table(alloc, &presentation),
-        Err(PresFault::Memory) => Err(Stop::Memory),
+    match monoid_of(alloc, text) {
+        Ok(named) => Ok(Said::done(monoid_text(alloc, &named)?)),
         Err(PresFault::Text) => refuse(alloc, "refused 1 Text\n"),
-        Err(PresFault::Unbounded | PresFault::Limit) => unreachable!(),
+        Err(PresFault::Unbounded) => refuse(alloc, "refused 2 Unbounded\n"),
+        Err(PresFault::Limit) => refuse(alloc, "refused 3 Limit\n"),
+        Err(PresFault::Memory) => Err(Stop::Memory),
     }
 }

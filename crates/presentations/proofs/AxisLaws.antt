@@ -5,6 +5,7 @@ use Rattle.std.proofs.lemmas.Bool.{cases_lt}
 use Rattle.std.proofs.lemmas.List.{length-map, ext_get_or, length-append}
 use Rattle.std.proofs.lemmas.List.Elements.{All-from_recursion}
 use Rattle.std.specs.List.{AllByRecursion}
+use Rattle.presentations.specs.declared.TheConstants.{LETTERS}
 use Rattle.presentations.specs.declared.axes.Axis.{Axis}
 use Rattle.presentations.specs.declared.read.Relation.{Relation}
 use Rattle.presentations.specs.Vectors.{only, zeros}
@@ -131,7 +132,7 @@ only-at (suc n) (suc i) (suc k) x lt = elim (only-at n i k x (omega arith)) [
 
 -- a power of one letter as a vector
 power-vector : (axes : List Axis) (word : List ℕ) (i x : ℕ) (d : Axis) → i < length axes
-    → Rising 26 (letters_in axes)
+    → Rising LETTERS (letters_in axes)
     → IsPowerOf word (slice_index_or axes i d).letter
     → slice_index word (slice_index_or axes i d).letter ≡ x
     → vector_on (letters_in axes) word ≡ only (length axes) i x
@@ -143,7 +144,7 @@ power-vector axes word i x d lt rise power is =
       | inl here ↦ word-at axes word k d inside
           ∙ ap (λ j. slice_index word (slice_index_or axes j d).letter) here.0 ∙ is ∙ sym here.1
       | inr apart ↦ word-at axes word k d inside ∙ power (slice_index_or axes k d).letter
-          (in26 k inside) (differ k inside apart.0) ∙ sym apart.1
+          (in-letters k inside) (differ k inside apart.0) ∙ sym apart.1
     ])
   where
     letter-at : (axes : List Axis) (k : ℕ) (d : Axis) → k < length axes
@@ -152,8 +153,8 @@ power-vector axes word i x d lt rise power is =
     letter-at (a ∷ axes) zero d lt = refl
     letter-at (a ∷ axes) (suc k) d lt = letter-at axes k d (omega arith)
 
-    in26 : (k : ℕ) → k < length axes → (slice_index_or axes k d).letter < 26
-    in26 k h =
+    in-letters : (k : ℕ) → k < length axes → (slice_index_or axes k d).letter < LETTERS
+    in-letters k h =
         omega (
           arith,
           letter-at axes k d h,
@@ -194,7 +195,7 @@ none : Relation
 none = record { left = []; right = [] }
 
 axis-related : (relations : List Relation) (axes : List Axis) (i : ℕ) (d : Axis)
-    → HavePowers relations axes → Rising 26 (letters_in axes) → i < length axes
+    → HavePowers relations axes → Rising LETTERS (letters_in axes) → i < length axes
     → Related (length axes) (pairs_in axes relations)
     (only (length axes) i (slice_index_or axes i d).most)
     (only (length axes) i (slice_index_or axes i d).back)
@@ -227,20 +228,20 @@ axis-related relations axes i d h rise lt =
     ]
 
 all-below : (axes : List Axis)
-    → ((i : ℕ) → i < length (letters_in axes) → get_or (letters_in axes) i 0 < 26)
-    → AllByRecursion (λ a. a.letter < 26) axes
+    → ((i : ℕ) → i < length (letters_in axes) → get_or (letters_in axes) i 0 < LETTERS)
+    → AllByRecursion (λ a. a.letter < LETTERS) axes
 all-below [] h = tt
 all-below (a ∷ axes) h = (h 0 (omega arith), all-below axes (λ i lt. h (suc i) (omega arith)))
 
 pub is-box : (relations : List Relation) (axes : List Axis) → AreAxes 1 axes
-    → size_of axes < 4294967296 → letters_in axes ≡ letters_below relations 26
+    → size_of axes < 4294967296 → letters_in axes ≡ letters_below relations LETTERS
     → HavePowers relations axes → IsBox axes relations
 is-box relations axes are small letters powers =
-    let rise = subst (Rising 26) (sym letters) (letters-rise relations 26) in
+    let rise = subst (Rising LETTERS) (sym letters) (letters-rise relations LETTERS) in
     record {
       axes_are = are;
       small = small;
-      letters = All-from_recursion (λ a. a.letter < 26) axes (all-below axes rise.below);
+      letters = All-from_recursion (λ a. a.letter < LETTERS) axes (all-below axes rise.below);
       powers = λ i d lt. axis-related relations axes i d powers rise lt;
     }
 
@@ -305,7 +306,7 @@ built-push relations limit n size most back k axes b e p least le =
     one s = omega arith
 
 pub built-box : (relations : List Relation) (limit n size : ℕ) (axes : List Axis)
-    → Built relations limit n size axes → n ≡ 26 → limit < 4294967296 → IsBox axes relations
+    → Built relations limit n size axes → n ≡ LETTERS → limit < 4294967296 → IsBox axes relations
 built-box relations limit n size axes b e small =
     is-box relations axes b.axes_are (omega (arith, b.size_is, b.within))
     (b.letters ∙ ap (letters_below relations) e) b.powers
@@ -316,10 +317,10 @@ rising-floor n letters zero h lt = omega arith
 rising-floor n letters (suc i) h lt =
     omega (arith, rising-floor n letters i h (omega arith), h.rising i (suc i) (omega arith) lt)
 
--- there are no more letters than 26
+-- there are no more axes than letters
 pub few-letters : (relations : List Relation) (limit n size : ℕ) (axes : List Axis)
-    → Built relations limit n size axes → n ≤ 26 → length axes ≤ 26
-few-letters relations limit n size axes b le = elim (cases_lt 26 (length axes)) [
+    → Built relations limit n size axes → n ≤ LETTERS → length axes ≤ LETTERS
+few-letters relations limit n size axes b le = elim (cases_lt LETTERS (length axes)) [
   | inl more ↦
       let len : length (letters_below relations n) ≡ length axes =
       sym (ap length b.letters) ∙ length-map axes (λ a. a.letter) in
@@ -327,8 +328,8 @@ few-letters relations limit n size axes b le = elim (cases_lt 26 (length axes)) 
       absurd
       (omega (
         arith,
-        rising-floor n (letters_below relations n) 26 rise (omega (arith, len)),
-        rise.below 26 (omega (arith, len)),
+        rising-floor n (letters_below relations n) LETTERS rise (omega (arith, len)),
+        rise.below LETTERS (omega (arith, len)),
       ))
   | inr few ↦ few
 ]

@@ -2,6 +2,7 @@
 use Rattle.std.proofs.Common.{◌≡◌, ℕ, zero, suc, ◌+◌, ◌*◌, ◌<◌, ◌≤◌, List, [], ◌∷◌, ◌++◌, length, get_or, set, refl, sym, ap, ap₂, ◌∙◌, inl, inr, arith, subst, append_assoc, length-append, All}
 use Rattle.std.specs.Prelude.{Option, Some, None as Nothing, Bool, true, is_some, IfSome}
 use Rattle.std.proofs.lemmas.Bool.{false≢true}
+use Rattle.presentations.specs.declared.TheConstants.{LETTERS, LARGEST_EXPONENT}
 use Rattle.presentations.specs.Vectors.{plus, zeros, only}
 use Rattle.presentations.specs.Text.{IsPower, IsFactor, AreFactors, AreFewFactors, IsWord}
 use Rattle.presentations.specs.Text.IsPower.{One, Two}
@@ -49,7 +50,7 @@ one-digit bytes rest d e two ten ends = record {
 
 -- two digits, the first not 0
 pub two-digits : (bytes rest : List ℕ) (d e : ℕ) → bytes ≡ (48 + d) ∷ (48 + e) ∷ rest → 1 ≤ d
-    → d < 10 → e < 10 → 10 * d + e ≤ 64 → IsFront IsPower EndsFactor bytes (10 * d + e) rest
+    → d < 10 → e < 10 → 10 * d + e ≤ LARGEST_EXPONENT → IsFront IsPower EndsFactor bytes (10 * d + e) rest
 two-digits bytes rest d e is one ten nine few = record {
   word = (48 + d) ∷ (48 + e) ∷ [];
   is = Two d e one ten nine few;
@@ -77,7 +78,7 @@ two-digits bytes rest d e is one ten nine few = record {
 
 -- two digits that don't make an exponent, or three
 pub no-exponent : (bytes rest : List ℕ) (d e : ℕ) → bytes ≡ (48 + d) ∷ (48 + e) ∷ rest → e < 10
-    → ((10 * d + e ≤ 64) → (EndsFactor rest → ⊥)) → IsNoFront IsPower EndsFactor bytes
+    → ((10 * d + e ≤ LARGEST_EXPONENT) → (EndsFactor rest → ⊥)) → IsNoFront IsPower EndsFactor bytes
 no-exponent bytes rest d e is nine bad other y tail (One c c2 c10) ok f =
     digit tail ok (tail-same (sym f ∙ is))
   where
@@ -95,7 +96,7 @@ no-exponent bytes rest d e is nine bad other y tail (Two b c b1 b10 c10 few) ok 
     (subst EndsFactor (tail-same (tail-same g)) ok)
 
 -- a letter alone
-pub letter-alone : (bytes rest : List ℕ) (letter : ℕ) → bytes ≡ (97 + letter) ∷ rest → letter < 26
+pub letter-alone : (bytes rest : List ℕ) (letter : ℕ) → bytes ≡ (97 + letter) ∷ rest → letter < LETTERS
     → (StartsWith 94 rest → ⊥) → IsFront IsFactor EndsFactor bytes (letter, 1) rest
 letter-alone bytes rest letter is low bare = record {
   word = (97 + letter) ∷ [];
@@ -115,7 +116,7 @@ letter-alone bytes rest letter is low bare = record {
 
 -- a letter with an exponent
 pub letter-raised : (bytes rest behind : List ℕ) (letter n : ℕ) → bytes ≡ (97 + letter) ∷ 94 ∷ rest
-    → letter < 26 → IsFront IsPower EndsFactor rest n behind
+    → letter < LETTERS → IsFront IsPower EndsFactor rest n behind
     → IsFront IsFactor EndsFactor bytes (letter, n) behind
 letter-raised bytes rest behind letter n is low p = record {
   word = (97 + letter) ∷ 94 ∷ p.word;
@@ -182,33 +183,33 @@ pub record IsReadSoFar (front rest v : List ℕ) : Type 0 where
       → (later : List ℕ) × (u : List ℕ) × AreFactors later u × (rest ≡ later ++ tail)
       × (w ≡ plus v u)
 
-length-factors : (bytes v : List ℕ) → AreFactors bytes v → length v ≡ 26
+length-factors : (bytes v : List ℕ) → AreFactors bytes v → length v ≡ LETTERS
 length-factors bytes v None = refl
 length-factors bytes v (More first rest factor w is are) =
-    length-plus (only 26 factor.0 factor.1) w
-    (length-only 26 factor.0 factor.1 ∙ sym (length-factors rest w are)) ∙ length-factors rest w are
+    length-plus (only LETTERS factor.0 factor.1) w
+    (length-only LETTERS factor.0 factor.1 ∙ sym (length-factors rest w are)) ∙ length-factors rest w are
 
-pub read-none : (front : List ℕ) → IsReadSoFar front front (zeros 26)
+pub read-none : (front : List ℕ) → IsReadSoFar front front (zeros LETTERS)
 read-none front = record {
   read = [];
   joined = refl;
-  sound = λ word w are. subst (AreFactors word) (sym (zeros-plus w 26 (length-factors word w are)))
+  sound = λ word w are. subst (AreFactors word) (sym (zeros-plus w LETTERS (length-factors word w are)))
       are;
   whole =
-      λ word w tail are ok e. (word, w, are, e, sym (zeros-plus w 26 (length-factors word w are)));
+      λ word w tail are ok e. (word, w, are, e, sym (zeros-plus w LETTERS (length-factors word w are)));
 }
 
 pub read-more : (front rest behind v : List ℕ) (letter n : ℕ) → IsReadSoFar front rest v
     → IsFront IsFactor EndsFactor rest (letter, n) behind
-    → IsReadSoFar front behind (plus v (only 26 letter n))
+    → IsReadSoFar front behind (plus v (only LETTERS letter n))
 read-more front rest behind v letter n so f = record {
   read = so.read ++ f.word;
   joined = so.joined ∙ ap (λ t. so.read ++ t) f.joined ∙ sym (append_assoc so.read f.word behind);
   sound = λ word w are.
-      subst (λ b. AreFactors b (plus (plus v (only 26 letter n)) w))
+      subst (λ b. AreFactors b (plus (plus v (only LETTERS letter n)) w))
       (sym (append_assoc so.read f.word word))
-      (subst (AreFactors (so.read ++ (f.word ++ word))) (sym (plus-assoc v (only 26 letter n) w))
-      (so.sound (f.word ++ word) (plus (only 26 letter n) w)
+      (subst (AreFactors (so.read ++ (f.word ++ word))) (sym (plus-assoc v (only LETTERS letter n) w))
+      (so.sound (f.word ++ word) (plus (only LETTERS letter n) w)
       (More f.word word (letter, n) w f.is are)));
   whole = λ word w tail are ok e. let l = so.whole word w tail are ok e in
       later l.0 l.1 tail w l.2 ok l.3 l.4;
@@ -217,7 +218,7 @@ read-more front rest behind v letter n so f = record {
     later : (bytes u tail w : List ℕ) → AreFactors bytes u → EndsWord tail → rest ≡ bytes ++ tail
         → w ≡ plus v u
         → (more : List ℕ) × (x : List ℕ) × AreFactors more x × (behind ≡ more ++ tail)
-        × (w ≡ plus (plus v (only 26 letter n)) x)
+        × (w ≡ plus (plus v (only LETTERS letter n)) x)
     later bytes u tail w None ok e is =
         let l = factor-letter f.word (letter, n) f.is in
         absurd
@@ -231,19 +232,19 @@ read-more front rest behind v letter n so f = record {
           x,
           are,
           sym same.1,
-          is ∙ ap (λ p. plus v (plus (only 26 p.0 p.1) x)) same.0
-              ∙ sym (plus-assoc v (only 26 letter n) x),
+          is ∙ ap (λ p. plus v (plus (only LETTERS p.0 p.1) x)) same.0
+              ∙ sym (plus-assoc v (only LETTERS letter n) x),
         )
 
 -- no further factor
 pub read-all : (front rest v : List ℕ) → IsReadSoFar front rest v
-    → IsNoFront IsFactor EndsFactor rest → length v ≡ 26 → All (λ x. x ≤ 64) v
+    → IsNoFront IsFactor EndsFactor rest → length v ≡ LETTERS → All (λ x. x ≤ LARGEST_EXPONENT) v
     → IsFront AreFewFactors EndsWord front v rest
 read-all front rest v so none long few = record {
   word = so.read;
   is = record {
     are = subst (λ b. AreFactors b v) (append-none so.read)
-        (subst (AreFactors (so.read ++ [])) (plus-zeros v 26 long) (so.sound [] (zeros 26) None));
+        (subst (AreFactors (so.read ++ [])) (plus-zeros v LETTERS long) (so.sound [] (zeros LETTERS) None));
     few = few;
   };
   joined = so.joined;
@@ -253,7 +254,7 @@ read-all front rest v so none long few = record {
   where
     last : (bytes u tail w : List ℕ) → AreFactors bytes u → EndsWord tail → rest ≡ bytes ++ tail
         → w ≡ plus v u → (w ≡ v) × (tail ≡ rest)
-    last bytes u tail w None ok e is = (is ∙ plus-zeros v 26 long, sym e)
+    last bytes u tail w None ok e is = (is ∙ plus-zeros v LETTERS long, sym e)
     last bytes u tail w (More first after factor x one are) ok e is =
         absurd
         (none first factor (after ++ tail) one (ends-more after x tail are ok)
@@ -262,18 +263,18 @@ read-all front rest v so none long few = record {
 -- an exponent that is too large stays too large
 pub read-much : (front rest behind v : List ℕ) (letter n : ℕ) → IsReadSoFar front rest v
     → IsFront IsFactor EndsFactor rest (letter, n) behind
-    → length v ≡ 26 → letter < 26 → 64 < get_or v letter 0 + n
+    → length v ≡ LETTERS → letter < LETTERS → LARGEST_EXPONENT < get_or v letter 0 + n
     → IsNoFront AreFewFactors EndsWord front
 read-much front rest behind v letter n so f long low much other y tail is ok e =
     let l = (read-more front rest behind v letter n so f).whole other y tail is.are ok e in
-    let at : get_or (plus (plus v (only 26 letter n)) l.1) letter 0 ≡ get_or v letter 0 + n
+    let at : get_or (plus (plus v (only LETTERS letter n)) l.1) letter 0 ≡ get_or v letter 0 + n
     + get_or l.1 letter 0 =
-    plus-at (plus v (only 26 letter n)) l.1 letter
-    (length-plus v (only 26 letter n) (long ∙ sym (length-only 26 letter n))
-    ∙ length-only 26 letter n ∙ sym (length-factors l.0 l.1 l.2))
+    plus-at (plus v (only LETTERS letter n)) l.1 letter
+    (length-plus v (only LETTERS letter n) (long ∙ sym (length-only LETTERS letter n))
+    ∙ length-only LETTERS letter n ∙ sym (length-factors l.0 l.1 l.2))
     ∙ ap (λ k. k + get_or l.1 letter 0)
-    (plus-at v (only 26 letter n) letter (long ∙ sym (length-only 26 letter n))
-    ∙ ap (λ k. get_or v letter 0 + k) (only-here 26 letter n low)) in
+    (plus-at v (only LETTERS letter n) letter (long ∙ sym (length-only LETTERS letter n))
+    ∙ ap (λ k. get_or v letter 0 + k) (only-here LETTERS letter n low)) in
     let y_at : get_or y letter 0 ≡ get_or v letter 0 + n + get_or l.1 letter 0 =
     ap (λ w. get_or w letter 0) l.4 ∙ at in
     absurd (omega (arith, y_at, is.few letter 0 (omega (arith, length-factors other y is.are))))
@@ -306,7 +307,7 @@ set-only (x ∷ v) (suc m) (suc letter) n whole len lt e =
 
 -- the word 1
 pub word-one : (bytes rest : List ℕ) → bytes ≡ 49 ∷ rest
-    → IsFront IsWord EndsWord bytes (zeros 26) rest
+    → IsFront IsWord EndsWord bytes (zeros LETTERS) rest
 word-one bytes rest is = record {
   word = 49 ∷ [];
   is = Empty;
@@ -315,7 +316,7 @@ word-one bytes rest is = record {
 }
   where
     same : (other y tail : List ℕ) → IsWord other y → EndsWord tail → bytes ≡ other ++ tail
-        → (y ≡ zeros 26) × (tail ≡ rest)
+        → (y ≡ zeros LETTERS) × (tail ≡ rest)
     same other y tail Empty ok e = (refl, tail-same (sym e ∙ is))
     same other y tail (Product b v some f) ok e =
         let l = factors-letter b v f.are some in
@@ -361,7 +362,7 @@ digit-goes-on At (Some d) b rest behind e t h ok = digit rest ok h.2
               (omega (arith, head-same g, h.0))
         ]
 
-pub all-zeros : (n : ℕ) → All (λ x. x ≤ 64) (zeros n)
+pub all-zeros : (n : ℕ) → All (λ x. x ≤ LARGEST_EXPONENT) (zeros n)
 all-zeros zero k d lt = absurd (omega arith)
 all-zeros (suc n) zero d lt = omega arith
 all-zeros (suc n) (suc k) d lt = all-zeros n k d (omega arith)

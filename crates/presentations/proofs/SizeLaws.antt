@@ -3,6 +3,7 @@ use Rattle.std.proofs.Common.{◌≡◌, ℕ, zero, suc, ◌+◌, ◌*◌, ◌<�
 use Rattle.std.specs.Prelude.{Some, IsTrue, if◌then◌else◌}
 use Rattle.std.proofs.lemmas.Bool.{cases_eq}
 use Rattle.std.proofs.lemmas.Nat.{mul-le}
+use Rattle.presentations.specs.declared.TheConstants.{LETTERS}
 use Rattle.presentations.specs.declared.read.Relation.{Relation}
 use Rattle.presentations.specs.Words.{occurs, letters_of, letters_below}
 use Rattle.presentations.specs.Powers.{IsLeastPower, HasLeastPower, IsLeastLarger, IsBoxSize, IsAboveLimit}
@@ -74,13 +75,13 @@ box-skip relations n s b e =
     subst (λ k. IsBoxSize relations (letters_below relations k) s) one
     (subst (λ ls. IsBoxSize relations ls s) (sym (next relations n false e)) b)
 
-module _ (relations : List Relation) (limit : ℕ) (least : (letter : ℕ) → letter < 26
+module _ (relations : List Relation) (limit : ℕ) (least : (letter : ℕ) → letter < LETTERS
     → IsTrue (occurs relations letter) → HasLeastPower relations letter) where
   -- the box of the letters below n is above the limit
   abbrev Above : ℕ → Type 0
   Above n = (s : ℕ) × IsBoxSize relations (letters_below relations n) s × (limit < s)
 
-  above-next : (n : ℕ) → n < 26 → Above n → Above (n + 1)
+  above-next : (n : ℕ) → n < LETTERS → Above n → Above (n + 1)
   above-next n lt a = with (occurs relations n) refl
     where
       with : (b : Bool) → occurs relations n ≡ b → Above (n + 1)
@@ -98,7 +99,7 @@ module _ (relations : List Relation) (limit : ℕ) (least : (letter : ℕ) → l
           )
       with false e = (a.0, box-skip relations n a.0 a.1 e, a.2)
 
-  above-up : (n t : ℕ) → n ≤ t → t ≤ 26 → Above n → Above t
+  above-up : (n t : ℕ) → n ≤ t → t ≤ LETTERS → Above n → Above t
   above-up n zero le low a = subst Above (none_below n le) a
     where
       none_below : (n : ℕ) → n ≤ 0 → n ≡ 0
@@ -111,9 +112,9 @@ module _ (relations : List Relation) (limit : ℕ) (least : (letter : ℕ) → l
         (above-next t (omega arith) (above-up n t (omega (arith, other)) (omega arith) a))
   ]
 
-  pub above : (n s : ℕ) → n ≤ 26 → IsBoxSize relations (letters_below relations n) s → limit < s
+  pub above : (n s : ℕ) → n ≤ LETTERS → IsBoxSize relations (letters_below relations n) s → limit < s
       → IsAboveLimit relations limit
-  above n s le b lt = let a = above-up n 26 le (omega arith) (s, b, lt) in
+  above n s le b lt = let a = above-up n LETTERS le (omega arith) (s, b, lt) in
       record { size = a.0; is = a.1; above = a.2 }
 
 pub not-above : (relations : List Relation) (limit s : ℕ)

@@ -1,6 +1,7 @@
 -- Relations at the front of bytes, and all of them.
 use Rattle.std.proofs.Common.{◌≡◌, ◌⊎◌, ℕ, ◌<◌, List, [], ◌∷◌, ◌++◌, length, refl, sym, ap, ap₂, ◌∙◌, inl, inr, arith, subst, append_assoc, length-append}
 use Rattle.std.specs.Prelude.{◌↔◌}
+use Rattle.presentations.specs.declared.TheConstants.{MOST_RELATIONS}
 use Rattle.presentations.specs.declared.read.Relation.{Relation}
 use Rattle.presentations.specs.Text.{IsWord, IsRelation, AreRelations, SpellsPresentation}
 use Rattle.presentations.specs.Text.IsRelation.{Equal}
@@ -109,7 +110,7 @@ one-more text rest behind later relations r so f space = record {
 -- all relations were read
 pub all-read : (text rest behind : List ℕ) (relations all : List Relation) (r : Relation)
     → AreReadSoFar text rest relations → IsFront IsRelation EndsRelation rest r behind
-    → behind ≡ [] → length relations < 64 → all ≡ relations ++ r ∷ [] → (q : List Relation)
+    → behind ≡ [] → length relations < MOST_RELATIONS → all ≡ relations ++ r ∷ [] → (q : List Relation)
     → SpellsPresentation text q ↔ (all ≡ q)
 all-read text rest behind relations all r so f end few is q = (
   λ spells.
@@ -149,7 +150,7 @@ no-space text rest behind relations r so f some bare q spells =
     ]
 
 pub too-many : (text rest : List ℕ) (relations : List Relation) → AreReadSoFar text rest relations
-    → length relations ≡ 64 → (q : List Relation) → SpellsPresentation text q → ⊥
+    → length relations ≡ MOST_RELATIONS → (q : List Relation) → SpellsPresentation text q → ⊥
 too-many text rest relations so full q spells =
     let w = so.whole q spells.are in
     absurd

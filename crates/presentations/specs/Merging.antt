@@ -1,6 +1,7 @@
 -- A box whose axes are the letters of relations, and pointers from its vectors to related ones
 -- before them.
 use Rattle.std.specs.Prelude.{◌≡◌, ◌≢◌, ℕ, ◌^◌, ◌<◌, ◌≤◌, List, length, slice_index, slice_index_or, slice_set, sum, map, All}
+use Rattle.presentations.specs.declared.TheConstants.{LETTERS}
 use Rattle.presentations.specs.declared.axes.Axis.{Axis}
 use Rattle.presentations.specs.declared.read.Relation.{Relation}
 use Rattle.presentations.specs.Vectors.{only}
@@ -20,11 +21,11 @@ abbrev pub AreRelated : List Axis → List Relation → ℕ → ℕ → Type 0
 AreRelated axes relations u v =
     Related (length axes) (pairs_in axes relations) (vector_at axes u) (vector_at axes v)
 
--- The axes are those of a box, each letter is below 26, and each axis has its relation.
+-- The axes are those of a box, each letter is below LETTERS, and each axis has its relation.
 pub record IsBox (axes : List Axis) (relations : List Relation) : Type 0 where
   pub axes_are : AreAxes 1 axes
   pub small : size_of axes < 2 ^ 32
-  pub letters : All (λ a. a.letter < 26) axes
+  pub letters : All (λ a. a.letter < LETTERS) axes
   pub powers : (i : ℕ) (d : Axis) → i < length axes
       → Related (length axes) (pairs_in axes relations)
       (only (length axes) i (slice_index_or axes i d).most)

@@ -1,11 +1,12 @@
 -- Relations between powers of one letter, and the box of exponents below them.
 use Rattle.std.specs.Prelude.{◌≡◌, ◌≢◌, ℕ, ◌*◌, ◌<◌, ◌⊎◌, ◌≤◌, List, [], ◌∷◌, length, slice_index, slice_index_or, Option, Some, None, nat_le, if◌then◌else◌, IsTrue}
+use Rattle.presentations.specs.declared.TheConstants.{LETTERS}
 use Rattle.presentations.specs.declared.read.Relation.{Relation}
 use Rattle.presentations.specs.Words.{occurs, letters_of}
 
 -- no other letter stands in the word
 abbrev pub IsPowerOf : List ℕ → ℕ → Type 0
-IsPowerOf word letter = (i : ℕ) → i < 26 → i ≢ letter → slice_index word i ≡ 0
+IsPowerOf word letter = (i : ℕ) → i < LETTERS → i ≢ letter → slice_index word i ≡ 0
 
 -- The relation is one between two different powers of the letter, `most` the larger one.
 pub record IsPowerRelation (r : Relation) (letter most back : ℕ) : Type 0 where
@@ -42,7 +43,7 @@ IsLeastPower relations letter n (Some p) =
 -- some letter that occurs has no relation between two different powers of it alone
 pub record IsUnbounded (relations : List Relation) : Type 0 where
   pub letter : ℕ
-  pub within : letter < 26
+  pub within : letter < LETTERS
   pub stands : IsTrue (occurs relations letter)
   pub none : HasSomePower relations letter → ⊥
 

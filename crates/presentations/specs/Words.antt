@@ -1,6 +1,7 @@
 -- The letters that occur in relations between words, and the words as exponent vectors.
 use Rattle.std.specs.Prelude.{ℕ, zero, suc, List, [], ◌∷◌, ◌++◌, slice_index, map, Bool, nat_lt, ◌||◌, if◌then◌else◌}
 use Rattle.std.specs.List.{list_any}
+use Rattle.presentations.specs.declared.TheConstants.{LETTERS}
 use Rattle.presentations.specs.declared.read.Relation.{Relation}
 
 -- the letter stands in some relation; the letters are 0 for a to 25 for z
@@ -17,7 +18,7 @@ letters_below relations (suc n) = if occurs relations n then letters_below relat
 
 -- the generators
 abbrev pub letters_of : List Relation → List ℕ
-letters_of relations = letters_below relations 26
+letters_of relations = letters_below relations LETTERS
 
 -- the exponents of the generators in a word
 abbrev pub vector_on : List ℕ → List ℕ → List ℕ

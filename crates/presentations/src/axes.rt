@@ -1,8 +1,11 @@
 //! The box of exponent vectors: below the power of each letter that comes back to a smaller one.
 ghost use Rattle.std.specs.Prelude.{◌≡◌, ◌+◌, ◌*◌, ◌^◌, ◌<◌, length, All};
+ghost use Rattle.presentations.specs.declared.TheConstants.{LETTERS};
 ghost use Rattle.presentations.specs.Boxes.{after, size_of, place_of, next_of, AreAxes};
 ghost use Rattle.presentations.specs.Merging.{letters_in};
 ghost use Rattle.presentations.specs.Words.{vector_on};
+
+use crate::Word;
 
 /// A letter in the box: its power `most` is its power `back`, which is smaller.
 #[derive(Clone, Copy)]
@@ -42,10 +45,10 @@ pub fn next(axes: &[Axis], i: usize, at: usize) -> usize
 }
 
 /// The place of the word's vector.
-pub fn place(axes: &[Axis], word: &[u8; 26]) -> usize
+pub fn place(axes: &[Axis], word: &Word) -> usize
     requires axes { AreAxes 1 axes.now }
     requires small { size_of axes.now < 2 ^ 32 }
-    requires letters { All (λ a. a.letter < 26) axes.now }
+    requires letters { All (λ a. a.letter < LETTERS) axes.now }
     ensures value { result ≡ place_of axes.now (vector_on (letters_in axes.now) word.now) }
     ensures within { result < size_of axes.now }
 {

@@ -1,5 +1,6 @@
 //! Letters that occur, and their least powers that come back.
 ghost use Rattle.std.specs.Prelude.{◌≡◌, ◌≢◌, ◌<◌, ◌≤◌, ◌↔◌, ℕ, IfOk, IfSome, IfNone, OnErr, Err, IsTrue, length};
+ghost use Rattle.presentations.specs.declared.TheConstants.{LETTERS};
 ghost use Rattle.presentations.specs.Words.{occurs, letters_of};
 ghost use Rattle.presentations.specs.Powers.{IsPowerOf, IsPowerRelation, IsLeastPower, IsUnbounded, IsAboveLimit, HasLeastPower, lower_of};
 ghost use Rattle.presentations.specs.Boxes.{size_of};
@@ -8,11 +9,12 @@ ghost use Rattle.presentations.specs.Merging.{letters_in, IsBox};
 use crate::axes::Axis;
 use crate::fault::PresFault;
 use crate::read::Relation;
+use crate::{LETTERS, Word};
 use std::alloc::Allocator;
 
 /// Whether the letter stands in some relation.
 fn occurs(relations: &[Relation], letter: u8) -> bool
-    requires { letter < 26 }
+    requires { letter < LETTERS }
     ensures { result ≡ occurs relations.now letter }
 {
     for relation in relations {
@@ -24,11 +26,11 @@ fn occurs(relations: &[Relation], letter: u8) -> bool
 }
 
 /// Whether no other letter stands in the word.
-fn is_power(word: &[u8; 26], letter: u8) -> bool
-    requires { letter < 26 }
+fn is_power(word: &Word, letter: u8) -> bool
+    requires { letter < LETTERS }
     ensures { IsTrue result ↔ IsPowerOf word.now letter }
 {
-    for i in 0..26usize {
+    for i in 0..LETTERS {
         if i != letter as usize && word[i] > 0 {
             return false;
         }
@@ -39,7 +41,7 @@ fn is_power(word: &[u8; 26], letter: u8) -> bool
 /// The larger and the smaller exponent, where the relation is one between two different powers of
 /// the letter.
 fn power_of(relation: &Relation, letter: u8) -> Option<(usize, usize)>
-    requires { letter < 26 }
+    requires { letter < LETTERS }
     ensures some { IfSome result (λ p. IsPowerRelation relation.now letter p.0 p.1 × (p.0 < 256)) }
     ensures none { IfNone result ((most back : ℕ) → IsPowerRelation relation.now letter most back
         → ⊥) }
@@ -78,7 +80,7 @@ fn lower(least: Option<(usize, usize)>, found: Option<(usize, usize)>) -> Option
 /// The least larger exponent of a relation between two different powers of the letter, and the
 /// smaller exponent.
 fn least_power(relations: &[Relation], letter: u8) -> Option<(usize, usize)>
-    requires { letter < 26 }
+    requires { letter < LETTERS }
     ensures { IsLeastPower relations.now letter (length relations.now) result }
 {
     let mut least: Option<(usize, usize)> = None;
@@ -91,10 +93,10 @@ fn least_power(relations: &[Relation], letter: u8) -> Option<(usize, usize)>
 /// A letter that occurs and has no relation between two different powers of it.
 fn unbounded(relations: &[Relation]) -> Option<u8>
     ensures some { IfSome result (λ letter. IsUnbounded relations.now) }
-    ensures none { IfNone result ((letter : ℕ) → letter < 26 → IsTrue (occurs relations.now letter)
+    ensures none { IfNone result ((letter : ℕ) → letter < LETTERS → IsTrue (occurs relations.now letter)
         → HasLeastPower relations.now letter) }
 {
-    for letter in 0..26u8 {
+    for letter in 0..LETTERS as u8 {
         if occurs(relations, letter) && least_power(relations, letter).is_none() {
             return Some(letter);
         }
@@ -111,7 +113,7 @@ pub fn axes_of<A: Allocator>(
 ) -> Result<(Vec<Axis, A>, usize), PresFault>
     ensures is_box { IfOk result (λ r. IsBox r.0.items relations.now) }
     ensures size { IfOk result (λ r. (r.1 ≡ size_of r.0.items) × (r.1 ≤ limit)) }
-    ensures count { IfOk result (λ r. length r.0.items ≤ 26) }
+    ensures count { IfOk result (λ r. length r.0.items ≤ LETTERS) }
     ensures letters { IfOk result (λ r. letters_in r.0.items ≡ letters_of relations.now) }
     ensures within { IfOk result (λ r. IsAboveLimit relations.now limit → ⊥) }
     ensures unbounded { (result ≡ Err PresFault.Unbounded) ↔ IsUnbounded relations.now }
@@ -126,7 +128,7 @@ pub fn axes_of<A: Allocator>(
     }
     let mut axes = Vec::new(alloc);
     let mut size = 1usize;
-    for letter in 0..26u8 {
+    for letter in 0..LETTERS as u8 {
         if occurs(relations, letter) {
             let Some((most, back)) = least_power(relations, letter) else {
                 return Err(PresFault::Unbounded);

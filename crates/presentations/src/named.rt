@@ -1,6 +1,7 @@
 //! The table of a presentation's least congruence, with names for its generators.
 ghost use Rattle.std.specs.Prelude.{◌≡◌, ◌↔◌, ◌⊎◌, ◌+◌, ◌-◌, ◌*◌, ◌/◌, ◌%◌, ◌<◌, ◌≤◌, ◌≢◌, All, IfOk, OnErr, Err, length, map, take, slice_index};
 ghost use Rattle.misere_theory.specs.declared.TheConstants.{LARGEST_FIRST_ORDER};
+ghost use Rattle.presentations.specs.declared.TheConstants.{LETTERS};
 ghost use Rattle.presentations.specs.Words.{letters_of};
 ghost use Rattle.presentations.specs.Powers.{IsUnbounded, IsAboveLimit};
 ghost use Rattle.presentations.specs.Merging.{letters_in, AreClasses};
@@ -64,7 +65,7 @@ fn table_in<A: Allocator + Copy>(
 ) -> Result<Named<A>, PresFault>
     requires classes { AreClasses axes.now relations.now classes.now }
     requires roots { AreRoots axes.now classes.now }
-    requires count { length axes.now ≤ 26 }
+    requires count { length axes.now ≤ LETTERS }
     requires letters { letters_in axes.now ≡ letters_of relations.now }
     ensures table { IfOk result (λ n. IsTableOf relations.now n.table n.generators.items) }
     ensures limit { (result ≡ Err PresFault.Limit) → HasMoreElements relations.now LARGEST_FIRST_ORDER }
@@ -87,7 +88,7 @@ fn generators_of<A: Allocator + Copy>(
     axes: &[Axis],
     products: &[u16],
 ) -> Result<Vec<Generator, A>, PresFault>
-    requires letters { All (λ a. a.letter < 26) axes.now }
+    requires letters { All (λ a. a.letter < LETTERS) axes.now }
     requires products { length axes.now ≤ length products.now }
     ensures letters { IfOk result
         (λ gs. map (λ g. g.letter) gs.items ≡ map (λ a. 97 + a) (letters_in axes.now)) }

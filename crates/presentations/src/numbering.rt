@@ -1,6 +1,7 @@
 //! Numbers for classes, by least keys.
 ghost use Rattle.std.specs.Prelude.{◌≡◌, ◌≢◌, ◌+◌, ◌-◌, ◌*◌, ◌^◌, ◌<◌, ◌≤◌, ◌∷◌, [], ℕ, IfOk, OnErr, Err, length, slice_index};
 ghost use Rattle.misere_theory.specs.declared.TheConstants.{LARGEST_FIRST_ORDER};
+ghost use Rattle.presentations.specs.declared.TheConstants.{LETTERS};
 ghost use Rattle.presentations.specs.Numberings.{NumberState, IsAssigned, IsNumbering, AreRoots, AreKeys, HasManyClasses};
 
 use crate::axes::{Axis, next};
@@ -122,7 +123,7 @@ pub fn numbering_of<A: Allocator + Copy>(
     classes: &[u32],
 ) -> Result<Numbering<A>, PresFault>
     requires roots { AreRoots axes.now classes.now }
-    requires letters { length axes.now ≤ 26 }
+    requires letters { length axes.now ≤ LETTERS }
     ensures numbering { IfOk result
         (λ n. IsNumbering axes.now classes.now n.numbers.firsts n.numbers.keys n.products.items) }
     ensures keys { IfOk result

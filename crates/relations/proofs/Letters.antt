@@ -6,6 +6,7 @@ use Rattle.std.proofs.lemmas.List.{ext_get_or}
 use Rattle.std.proofs.lemmas.List.Elements.{All-head, All-tail}
 use Rattle.std.proofs.Math.Seq.{drop-cons}
 use Rattle.monoid_table.specs.Laws.{power_of}
+use Rattle.presentations.specs.declared.TheConstants.{LETTERS}
 use Rattle.presentations.specs.declared.read.Relation.{Relation}
 use Rattle.presentations.specs.Vectors.{zeros, bump}
 use Rattle.presentations.specs.Words.{vector_on, occurs, letters_below, letters_of}
@@ -44,13 +45,13 @@ above-first relations n (suc m) is =
     (n + m)) ≡ first_letters n) (sym e)
     (above-first relations n m (λ k h. is k (omega arith))))
 
-pub letters-exact : (relations : List Relation) (n : ℕ) → n ≤ 26
-    → ((k : ℕ) → k < 26 → occurs relations k ≡ nat_lt k n)
+pub letters-exact : (relations : List Relation) (n : ℕ) → n ≤ LETTERS
+    → ((k : ℕ) → k < LETTERS → occurs relations k ≡ nat_lt k n)
     → letters_of relations ≡ first_letters n
 letters-exact relations n le is =
-    let e : n + (26 - n) ≡ 26 = omega arith in
+    let e : n + (LETTERS - n) ≡ LETTERS = omega arith in
     subst (λ j. letters_below relations j ≡ first_letters n) e
-    (above-first relations n (26 - n) (λ k h. is k (omega arith)))
+    (above-first relations n (LETTERS - n) (λ k h. is k (omega arith)))
 
 push-before : (xs : List ℕ) (x i : ℕ) → i < length xs → get_or (xs ++ x ∷ []) i 0 ≡ get_or xs i 0
 push-before [] x i lt = absurd (omega arith)

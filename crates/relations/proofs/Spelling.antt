@@ -6,6 +6,7 @@ use Rattle.std.proofs.lemmas.Bool.Decides.{eqb_tells}
 use Rattle.std.proofs.lemmas.Fmt.{decimal_digit, decimal_step}
 use Rattle.std.proofs.lemmas.Str.{encode_ascii}
 use Rattle.std.proofs.lemmas.List.Elements.{All-head, All-tail}
+use Rattle.presentations.specs.declared.TheConstants.{LETTERS, LARGEST_EXPONENT, MOST_RELATIONS}
 use Rattle.presentations.specs.declared.read.Relation.{Relation}
 use Rattle.presentations.specs.Vectors.{plus, zeros, only}
 use Rattle.presentations.specs.Text.{IsPower, IsFactor, AreFactors, IsWord, IsRelation, AreRelations, SpellsPresentation}
@@ -29,7 +30,7 @@ assoc [] ys zs = refl
 assoc (x ∷ xs) ys zs = ap (λ t. x ∷ t) (assoc xs ys zs)
 
 -- the digits of an exponent
-is-power : (k : ℕ) → 2 ≤ k → k ≤ 64 → IsPower (decimal k) k
+is-power : (k : ℕ) → 2 ≤ k → k ≤ LARGEST_EXPONENT → IsPower (decimal k) k
 is-power k low high = elim (cases_lt k 10) [
   | inl small ↦ subst (λ ds. IsPower ds k) (sym (decimal_digit k small)) (One k low small)
   | inr large ↦
@@ -50,48 +51,48 @@ only-none (suc n) zero = refl
 only-none (suc n) (suc i) = ap (λ v. 0 ∷ v) (only-none n i)
 
 one-factor : (bytes : List ℕ) (letter k : ℕ) → IsFactor bytes (letter, k)
-    → AreFactors bytes (only 26 letter k)
+    → AreFactors bytes (only LETTERS letter k)
 one-factor bytes letter k is =
-    subst (λ v. AreFactors bytes v) (plus-zeros (only 26 letter k) 26 (length-only 26 letter k))
-    (subst (λ bs. AreFactors bs (plus (only 26 letter k) (zeros 26))) (append-nil bytes)
-    (More bytes [] (letter, k) (zeros 26) is None))
+    subst (λ v. AreFactors bytes v) (plus-zeros (only LETTERS letter k) LETTERS (length-only LETTERS letter k))
+    (subst (λ bs. AreFactors bs (plus (only LETTERS letter k) (zeros LETTERS))) (append-nil bytes)
+    (More bytes [] (letter, k) (zeros LETTERS) is None))
 
 -- a printed factor is read as its letter's exponent
-factor-read : (letter k : ℕ) → letter < 26 → k ≤ 64
-    → AreFactors (factor_text Plain letter k) (only 26 letter k)
+factor-read : (letter k : ℕ) → letter < LETTERS → k ≤ LARGEST_EXPONENT
+    → AreFactors (factor_text Plain letter k) (only LETTERS letter k)
 factor-read letter k lt few = elim (eqb_tells k 0) [
   | inl none ↦
       subst
       (λ b. AreFactors
       (if b then [] else (if k == 1 then encode_utf8 (97 + letter)
-      else encode_utf8 (97 + letter) ++ codes "^" ++ decimal k)) (only 26 letter k))
+      else encode_utf8 (97 + letter) ++ codes "^" ++ decimal k)) (only LETTERS letter k))
       (sym none.0)
-      (subst (λ j. AreFactors [] (only 26 letter j)) (sym none.1)
-      (subst (λ v. AreFactors [] v) (sym (only-none 26 letter)) None))
+      (subst (λ j. AreFactors [] (only LETTERS letter j)) (sym none.1)
+      (subst (λ v. AreFactors [] v) (sym (only-none LETTERS letter)) None))
   | inr some ↦
       subst
       (λ b. AreFactors
       (if b then [] else (if k == 1 then encode_utf8 (97 + letter)
-      else encode_utf8 (97 + letter) ++ codes "^" ++ decimal k)) (only 26 letter k))
+      else encode_utf8 (97 + letter) ++ codes "^" ++ decimal k)) (only LETTERS letter k))
       (sym some.0)
       (elim (eqb_tells k 1) [
         | inl one ↦
             subst
             (λ b. AreFactors
             (if b then encode_utf8 (97 + letter)
-            else encode_utf8 (97 + letter) ++ codes "^" ++ decimal k) (only 26 letter k))
+            else encode_utf8 (97 + letter) ++ codes "^" ++ decimal k) (only LETTERS letter k))
             (sym one.0)
-            (subst (λ j. AreFactors (encode_utf8 (97 + letter)) (only 26 letter j)) (sym one.1)
-            (subst (λ bs. AreFactors bs (only 26 letter 1))
+            (subst (λ j. AreFactors (encode_utf8 (97 + letter)) (only LETTERS letter j)) (sym one.1)
+            (subst (λ bs. AreFactors bs (only LETTERS letter 1))
             (sym (encode_ascii (97 + letter) (omega arith)))
             (one-factor ((97 + letter) ∷ []) letter 1 (Alone letter lt))))
         | inr more ↦
             subst
             (λ b. AreFactors
             (if b then encode_utf8 (97 + letter)
-            else encode_utf8 (97 + letter) ++ codes "^" ++ decimal k) (only 26 letter k))
+            else encode_utf8 (97 + letter) ++ codes "^" ++ decimal k) (only LETTERS letter k))
             (sym more.0)
-            (subst (λ bs. AreFactors (bs ++ codes "^" ++ decimal k) (only 26 letter k))
+            (subst (λ bs. AreFactors (bs ++ codes "^" ++ decimal k) (only LETTERS letter k))
             (sym (encode_ascii (97 + letter) (omega arith)))
             (one-factor ((97 + letter) ∷ 94 ∷ decimal k) letter k
             (Raised letter k (decimal k) lt
@@ -99,23 +100,23 @@ factor-read letter k lt few = elim (eqb_tells k 0) [
       ])
 ]
 
-length-read : (bytes v : List ℕ) → AreFactors bytes v → length v ≡ 26
-length-read bytes v None = length-zeros 26
+length-read : (bytes v : List ℕ) → AreFactors bytes v → length v ≡ LETTERS
+length-read bytes v None = length-zeros LETTERS
 length-read bytes v (More first rest factor w is are) =
     let inner = length-read rest w are in
-    length-plus (only 26 factor.0 factor.1) w
-    (length-only 26 factor.0 factor.1 ∙ sym inner) ∙ inner
+    length-plus (only LETTERS factor.0 factor.1) w
+    (length-only LETTERS factor.0 factor.1 ∙ sym inner) ∙ inner
 
 -- factors one after another
 read-append : (xs ys u v : List ℕ) → AreFactors xs u → AreFactors ys v
     → AreFactors (xs ++ ys) (plus u v)
 read-append xs ys u v None right =
-    subst (λ w. AreFactors ys w) (sym (zeros-plus v 26 (length-read ys v right))) right
+    subst (λ w. AreFactors ys w) (sym (zeros-plus v LETTERS (length-read ys v right))) right
 read-append xs ys u v (More first rest factor w is are) right =
-    subst (λ bs. AreFactors bs (plus (plus (only 26 factor.0 factor.1) w) v))
+    subst (λ bs. AreFactors bs (plus (plus (only LETTERS factor.0 factor.1) w) v))
     (sym (assoc first rest ys))
     (subst (λ z. AreFactors (first ++ (rest ++ ys)) z)
-    (sym (plus-assoc (only 26 factor.0 factor.1) w v))
+    (sym (plus-assoc (only LETTERS factor.0 factor.1) w v))
     (More first (rest ++ ys) factor (plus w v) is (read-append rest ys w v are right)))
 
 -- one exponent more of a vector
@@ -142,7 +143,7 @@ partial-rest (x ∷ v) (suc n) rest =
     ap (λ w. x ∷ w) (partial-rest v n (λ i h. rest (suc i) (omega arith)))
 
 -- the factors of the first n letters are read as their exponents
-factors-read : (n : ℕ) (word : List ℕ) → n ≤ 26 → length word ≡ 26 → All (λ x. x ≤ 64) word
+factors-read : (n : ℕ) (word : List ℕ) → n ≤ LETTERS → length word ≡ LETTERS → All (λ x. x ≤ LARGEST_EXPONENT) word
     → AreFactors (factors_text Plain n word) (partial word n 0)
 factors-read zero word le long few =
     subst (λ v. AreFactors [] v) (sym (partial-none word ∙ ap zeros long)) None
@@ -154,44 +155,44 @@ factors-read (suc n) word le long few =
     subst (λ v. AreFactors (factors_text Plain n word ++ factor_text Plain n k) v)
     (subst (λ j. plus (partial word n 0) (only j n k) ≡ partial word n k) long
     (partial-plus word n k in_word) ∙ next)
-    (read-append (factors_text Plain n word) (factor_text Plain n k) (partial word n 0) (only 26 n k)
+    (read-append (factors_text Plain n word) (factor_text Plain n k) (partial word n 0) (only LETTERS n k)
     (factors-read n word (omega arith) long few)
     (factor-read n k (omega arith) (few n 0 in_word)))
   where
     one : (n : ℕ) → n + 1 ≡ suc n
     one n = omega arith
 
-nothing-read : (v : List ℕ) → AreFactors [] v → v ≡ zeros 26
+nothing-read : (v : List ℕ) → AreFactors [] v → v ≡ zeros LETTERS
 nothing-read v are = none [] v are refl
   where
     some : (bytes : List ℕ) (factor : ℕ × ℕ) → IsFactor bytes factor → 0 < length bytes
     some bytes factor (Alone letter lt) = omega arith
     some bytes factor (Raised letter n digits lt is) = omega arith
 
-    none : (bytes v : List ℕ) → AreFactors bytes v → bytes ≡ [] → v ≡ zeros 26
+    none : (bytes v : List ℕ) → AreFactors bytes v → bytes ≡ [] → v ≡ zeros LETTERS
     none bytes v None e = refl
     none bytes v (More first rest factor w is are) e =
         absurd (omega (arith, some first factor is, length-append first rest, ap length e))
 
-word-from : (bytes v : List ℕ) → AreFactors bytes v → All (λ x. x ≤ 64) v → IsWord (or_one bytes) v
+word-from : (bytes v : List ℕ) → AreFactors bytes v → All (λ x. x ≤ LARGEST_EXPONENT) v → IsWord (or_one bytes) v
 word-from [] v are few = subst (λ w. IsWord (49 ∷ []) w) (sym (nothing-read v are)) Empty
 word-from (b ∷ bytes) v are few =
     Product (b ∷ bytes) v (omega arith) record { are = are; few = few }
 
-word-read : (n : ℕ) (word : List ℕ) → n ≤ 26 → IsPrintable n word → IsWord (word_text Plain n word) word
+word-read : (n : ℕ) (word : List ℕ) → n ≤ LETTERS → IsPrintable n word → IsWord (word_text Plain n word) word
 word-read n word le is =
     word-from (factors_text Plain n word) word
     (subst (λ v. AreFactors (factors_text Plain n word) v) (partial-rest word n is.rest)
     (factors-read n word le is.long is.few)) is.few
 
-relation-read : (n : ℕ) (r : Relation) → n ≤ 26 → IsPrintable n r.left → IsPrintable n r.right
+relation-read : (n : ℕ) (r : Relation) → n ≤ LETTERS → IsPrintable n r.left → IsPrintable n r.right
     → IsRelation (relation_text Plain n r) r
 relation-read n r le left right =
     subst (λ bs. IsRelation bs r) (sym (assoc (word_text Plain n r.left) (codes "=") (word_text Plain n r.right)))
     (Equal (word_text Plain n r.left) (word_text Plain n r.right) r (word-read n r.left le left)
     (word-read n r.right le right))
 
-relations-read : (n : ℕ) (r : Relation) (relations : List Relation) → n ≤ 26
+relations-read : (n : ℕ) (r : Relation) (relations : List Relation) → n ≤ LETTERS
     → ArePrintable n (r ∷ relations)
     → AreRelations (relation_text Plain n r ++ more_text Plain n (codes " ") relations) (r ∷ relations)
 relations-read n r [] le are =
@@ -245,8 +246,8 @@ more-word notation n between words (e ∷ elements) (suc i) lt =
     ∙ ap (λ t. p ++ t) (more-word notation n between words elements i (omega arith))
     ∙ sym (assoc p (m ++ between) x) ∙ ap (λ t. t ++ x) (sym (assoc p m between))
 
-pub spelled : (n : ℕ) (relations : List Relation) → n ≤ 26 → 0 < length relations
-    → length relations ≤ 64 → ArePrintable n relations
+pub spelled : (n : ℕ) (relations : List Relation) → n ≤ LETTERS → 0 < length relations
+    → length relations ≤ MOST_RELATIONS → ArePrintable n relations
     → SpellsPresentation (relations_text Plain n (codes " ") relations) relations
 spelled n [] le some most are = absurd (omega arith)
 spelled n (r ∷ relations) le some most are =

@@ -1,5 +1,6 @@
 -- The texts of words and relations, as `present` reads them and for LaTeX. This project's own.
 use Rattle.std.specs.Prelude.{◌≡◌, ℕ, zero, suc, ◌+◌, ◌≤◌, ◌==◌, List, [], ◌∷◌, ◌++◌, length, slice_index, slice_index_or, All, if◌then◌else◌, codes, decimal, encode_utf8}
+use Rattle.presentations.specs.declared.TheConstants.{LETTERS, LARGEST_EXPONENT}
 use Rattle.presentations.specs.declared.read.Relation.{Relation}
 use Rattle.relations.specs.declared.text.Notation.{Notation}
 use Rattle.relations.specs.declared.text.Notation.TheVariants.{Plain, Latex}
@@ -40,10 +41,10 @@ abbrev pub relations_text : Notation → ℕ → List ℕ → List Relation → 
 relations_text notation n between [] = []
 relations_text notation n between (r ∷ relations) = relation_text notation n r ++ more_text notation n between relations
 
--- Exponents are at most 64, and the letters after the first n don't stand in the word.
+-- Exponents are at most LARGEST_EXPONENT, and the letters after the first n don't stand in the word.
 pub record IsPrintable (n : ℕ) (word : List ℕ) : Type 0 where
-  pub long : length word ≡ 26
-  pub few : All (λ x. x ≤ 64) word
+  pub long : length word ≡ LETTERS
+  pub few : All (λ x. x ≤ LARGEST_EXPONENT) word
   pub rest : (i : ℕ) → n ≤ i → slice_index word i ≡ 0
 
 -- the same for both words of each relation

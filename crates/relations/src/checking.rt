@@ -1,6 +1,7 @@
 //! Whether relations present the monoid of a table, as words for its elements show.
 ghost use Rattle.std.specs.Prelude.{◌≡◌, ◌<◌, ◌≤◌, ◌↔◌, ℕ, IsTrue, IfOk, IfSome, All, length, slice_index};
 ghost use Rattle.monoid_table.specs.Grids.{times_in};
+ghost use Rattle.presentations.specs.declared.TheConstants.{LETTERS};
 ghost use Rattle.presentations.specs.Vectors.{bump};
 ghost use Rattle.presentations.specs.Words.{occurs, letters_of};
 ghost use Rattle.presentations.specs.Tables.{product_at};
@@ -9,12 +10,12 @@ ghost use Rattle.relations.specs.Presented.{first_letters, vector_of, HoldsIn, A
 use crate::rewriting::{completed, is_same, reduced};
 use allocation::Memory;
 use monoid_table::{Table, is_monoid};
-use presentations::Relation;
+use presentations::{LETTERS, Relation, Word};
 use std::alloc::Allocator;
 
 /// Whether the letter stands in some relation.
 fn occurs(relations: &[Relation], letter: u8) -> bool
-    requires { letter < 26 }
+    requires { letter < LETTERS }
     ensures { result ≡ occurs relations.now letter }
 {
     for relation in relations {
@@ -27,10 +28,10 @@ fn occurs(relations: &[Relation], letter: u8) -> bool
 
 /// Whether the letters that occur are the first ones, so many of them.
 fn uses_first(letters: usize, relations: &[Relation]) -> bool
-    requires { letters ≤ 26 }
+    requires { letters ≤ LETTERS }
     ensures { IsTrue result → letters_of relations.now ≡ first_letters letters }
 {
-    for letter in 0..26u8 {
+    for letter in 0..LETTERS as u8 {
         if occurs(relations, letter) != ((letter as usize) < letters) {
             return false;
         }
@@ -39,9 +40,9 @@ fn uses_first(letters: usize, relations: &[Relation]) -> bool
 }
 
 /// The element of a word.
-pub fn value<A: Allocator>(table: &Table<A>, elements: &[u16], word: &[u8; 26]) -> u16
+pub fn value<A: Allocator>(table: &Table<A>, elements: &[u16], word: &Word) -> u16
     requires elements { All (λ e. e < table.now.order) elements.now }
-    requires letters { length elements.now ≤ 26 }
+    requires letters { length elements.now ≤ LETTERS }
     ensures value { result
         ≡ product_at (times_in table.now) elements.now (vector_of (length elements.now) word.now) }
     ensures within { result < table.now.order }
@@ -60,7 +61,7 @@ pub fn value<A: Allocator>(table: &Table<A>, elements: &[u16], word: &[u8; 26]) 
 /// Whether both words of each relation are one element.
 fn hold<A: Allocator>(table: &Table<A>, elements: &[u16], relations: &[Relation]) -> bool
     requires elements { All (λ e. e < table.now.order) elements.now }
-    requires letters { length elements.now ≤ 26 }
+    requires letters { length elements.now ≤ LETTERS }
     ensures { IsTrue result → All (HoldsIn table.now elements.now) relations.now }
 {
     for relation in relations {
@@ -74,9 +75,9 @@ fn hold<A: Allocator>(table: &Table<A>, elements: &[u16], relations: &[Relation]
 }
 
 /// Whether each word is that of its element.
-fn are_named<A: Allocator>(table: &Table<A>, elements: &[u16], words: &[[u8; 26]]) -> bool
+fn are_named<A: Allocator>(table: &Table<A>, elements: &[u16], words: &[Word]) -> bool
     requires elements { All (λ e. e < table.now.order) elements.now }
-    requires letters { length elements.now ≤ 26 }
+    requires letters { length elements.now ≤ LETTERS }
     requires words { length words.now ≡ table.now.order }
     ensures { IsTrue result → AreNamed table.now elements.now words.now }
 {
@@ -90,8 +91,8 @@ fn are_named<A: Allocator>(table: &Table<A>, elements: &[u16], words: &[[u8; 26]
 }
 
 /// Whether no letter stands in the word.
-fn is_empty(letters: usize, word: &[u8; 26]) -> bool
-    requires { letters ≤ 26 }
+fn is_empty(letters: usize, word: &Word) -> bool
+    requires { letters ≤ LETTERS }
     ensures { IsTrue result ↔ ((i : ℕ) → i < letters → slice_index word.now i ≡ 0) }
 {
     for i in 0..letters {
@@ -102,9 +103,9 @@ fn is_empty(letters: usize, word: &[u8; 26]) -> bool
     true
 }
 
-/// The word with letter `i` once more, where its exponent gets no larger than 255.
-pub fn lengthened(letters: usize, word: &[u8; 26], i: usize) -> Option<[u8; 26]>
-    requires letters { letters ≤ 26 }
+/// The word with letter `i` once more, where its exponent gets no larger than `u8::MAX`.
+pub fn lengthened(letters: usize, word: &Word, i: usize) -> Option<Word>
+    requires letters { letters ≤ LETTERS }
     requires i_in { i < letters }
     ensures { IfSome result
         (λ more. vector_of letters more ≡ bump (vector_of letters word.now) i) }
@@ -123,13 +124,13 @@ fn step_holds<A: Allocator>(
     table: &Table<A>,
     elements: &[u16],
     rules: &[Relation],
-    words: &[[u8; 26]],
+    words: &[Word],
     x: u16,
     i: usize,
     steps: u32,
 ) -> bool
     requires elements { All (λ e. e < table.now.order) elements.now }
-    requires letters { length elements.now ≤ 26 }
+    requires letters { length elements.now ≤ LETTERS }
     requires words { length words.now ≡ table.now.order }
     requires x_in { x < table.now.order }
     requires i_in { i < length elements.now }
@@ -150,12 +151,12 @@ fn steps_hold_at<A: Allocator>(
     table: &Table<A>,
     elements: &[u16],
     rules: &[Relation],
-    words: &[[u8; 26]],
+    words: &[Word],
     x: u16,
     steps: u32,
 ) -> bool
     requires elements { All (λ e. e < table.now.order) elements.now }
-    requires letters { length elements.now ≤ 26 }
+    requires letters { length elements.now ≤ LETTERS }
     requires words { length words.now ≡ table.now.order }
     requires x_in { x < table.now.order }
     ensures { IsTrue result → (i : ℕ) → i < length elements.now
@@ -174,11 +175,11 @@ fn steps_hold<A: Allocator>(
     table: &Table<A>,
     elements: &[u16],
     rules: &[Relation],
-    words: &[[u8; 26]],
+    words: &[Word],
     steps: u32,
 ) -> bool
     requires elements { All (λ e. e < table.now.order) elements.now }
-    requires letters { length elements.now ≤ 26 }
+    requires letters { length elements.now ≤ LETTERS }
     requires words { length words.now ≡ table.now.order }
     ensures { IsTrue result → (x i : ℕ) → x < table.now.order → i < length elements.now
         → StepHolds table.now elements.now rules.now words.now x i }
@@ -202,12 +203,12 @@ pub fn is_shown<A: Allocator>(
     table: &Table<A>,
     elements: &[u16],
     relations: &[Relation],
-    words: &[[u8; 26]],
+    words: &[Word],
     most: usize,
     steps: u32,
 ) -> Result<bool, Memory>
     requires elements { All (λ e. e < table.now.order) elements.now }
-    requires letters { length elements.now ≤ 26 }
+    requires letters { length elements.now ≤ LETTERS }
     ensures presentation { IfOk result (λ shown. IsTrue shown
         → ArePresentation table.now elements.now relations.now) }
     ensures words { IfOk result (λ shown. IsTrue shown

@@ -5,9 +5,9 @@ use std::alloc::{AllocError, AllocFailed};
 /// Why a table is not described.
 #[derive(Clone, Copy, Debug, PartialEq, Eq)]
 pub enum Undescribed {
-    /// More than 26 generators were found.
+    /// More than `LETTERS` generators were found.
     Letters,
-    /// A relation that was found has an exponent above 64.
+    /// A relation that was found has an exponent above `LARGEST_EXPONENT`.
     Exponents,
     /// The relations that were found weren't shown to present the table within the bounds.
     Unshown,

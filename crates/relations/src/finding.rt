@@ -1,6 +1,7 @@
 //! Presentations of a table: generators, least words and relations, of which nothing is promised but
 //! what is checked in the end.
 ghost use Rattle.std.specs.Prelude.{◌≡◌, ◌<◌, ◌≤◌, IfOk, All, Contains, vec_len};
+ghost use Rattle.presentations.specs.declared.TheConstants.{LETTERS};
 ghost use Rattle.relations.specs.Presented.{AreNamed, ArePresentation, IsListing};
 ghost use Rattle.relations.specs.Printed.{ArePrintable};
 
@@ -12,7 +13,7 @@ use crate::listing::{are_printable, is_listing};
 use crate::shortening::{independent, short, sort};
 use allocation::Memory;
 use monoid_table::Table;
-use presentations::Relation;
+use presentations::{LETTERS, Relation, Word};
 use std::alloc::{Allocator, Global};
 
 /// The most rewritings of one word.
@@ -39,7 +40,7 @@ pub enum Form {
 #[derive(Drop)]
 pub struct Description<A: Allocator = Global> {
     pub elements: Vec<u16, A>,
-    pub words: Vec<[u8; 26], A>,
+    pub words: Vec<Word, A>,
     pub listing: Vec<u16, A>,
     pub relations: Vec<Relation, A>,
 }
@@ -51,7 +52,7 @@ fn formed<A: Allocator + Copy>(
     basis: Vec<Relation, A>,
     form: Form,
 ) -> Result<Vec<Relation, A>, Memory>
-    requires { letters ≤ 26 }
+    requires { letters ≤ LETTERS }
 {
     let mut kept = match form {
         Form::Basis => basis,
@@ -65,7 +66,7 @@ fn formed<A: Allocator + Copy>(
 }
 
 /// A presentation of the table with generators out of these elements, where one is found with at most
-/// 26 of them and no exponent above 64, and shown within the bounds.
+/// `LETTERS` of them and no exponent above `LARGEST_EXPONENT`, and shown within the bounds.
 pub fn described<A: Allocator + Copy>(
     alloc: A,
     table: &Table<A>,
@@ -76,7 +77,7 @@ pub fn described<A: Allocator + Copy>(
     ensures presentation { IfOk result
         (λ d. ArePresentation table.now d.elements.items d.relations.items) }
     ensures words { IfOk result (λ d. AreNamed table.now d.elements.items d.words.items) }
-    ensures letters { IfOk result (λ d. vec_len d.elements ≤ 26) }
+    ensures letters { IfOk result (λ d. vec_len d.elements ≤ LETTERS) }
     ensures among { IfOk result (λ d. All (Contains elements.now) d.elements.items) }
     ensures listing { IfOk result (λ d. IsListing table.now.order d.listing.items) }
     ensures printable { IfOk result
@@ -84,7 +85,7 @@ pub fn described<A: Allocator + Copy>(
 {
     let found = generators(alloc, table, elements)?;
     let letters = found.len();
-    if letters > 26 {
+    if letters > LETTERS {
         return Err(Undescribed::Letters);
     }
     let Least {

@@ -2,6 +2,7 @@
 ghost use Rattle.std.specs.Prelude.{◌≡◌, ◌<◌, ◌≤◌, ℕ, List, All, length, codes};
 ghost use Rattle.monoid_table.specs.Grids.{Grid, times_in};
 ghost use Rattle.misere_theory.specs.Quotients.{Monoid};
+ghost use Rattle.presentations.specs.declared.TheConstants.{LETTERS, MOST_RELATIONS};
 ghost use Rattle.presentations.specs.declared.read.Relation.{Relation};
 ghost use Rattle.presentations.specs.Text.{SpellsPresentation};
 ghost use Rattle.relations.specs.Presented.{AreWords, PairsHold, Present};
@@ -23,8 +24,8 @@ pub fn words_present()
 /// Relations between words in the first letters, printed with one space between each two, spell the
 /// presentation that they are.
 pub fn texts_spell()
-    ensures { (n : ℕ) (relations : List Relation) → n ≤ 26
-        → 0 < length relations → length relations ≤ 64
+    ensures { (n : ℕ) (relations : List Relation) → n ≤ LETTERS
+        → 0 < length relations → length relations ≤ MOST_RELATIONS
         → ArePrintable n relations
         → SpellsPresentation (relations_text Plain n (codes " ") relations) relations }
 {}

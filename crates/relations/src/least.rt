@@ -1,16 +1,17 @@
 //! The least words of a table's elements.
 ghost use Rattle.std.specs.Prelude.{◌≡◌, ◌<◌, ◌≤◌, IfOk, All, length};
+ghost use Rattle.presentations.specs.declared.TheConstants.{LETTERS};
 
 use crate::checking::{lengthened, value};
 use crate::rewriting::is_same;
 use allocation::Memory;
 use monoid_table::Table;
-use presentations::Relation;
+use presentations::{LETTERS, Relation, Word};
 use std::alloc::Allocator;
 
 /// The last of the first letters that stands in the word, or 0.
-pub fn last_letter(letters: usize, word: &[u8; 26]) -> usize
-    requires { letters ≤ 26 }
+pub fn last_letter(letters: usize, word: &Word) -> usize
+    requires { letters ≤ LETTERS }
 {
     let mut last = 0;
     for i in 0..letters {
@@ -22,14 +23,9 @@ pub fn last_letter(letters: usize, word: &[u8; 26]) -> usize
 }
 
 /// Whether the word without any one of its letters is the word of its element.
-fn is_corner<A: Allocator>(
-    table: &Table<A>,
-    elements: &[u16],
-    words: &[[u8; 26]],
-    word: &[u8; 26],
-) -> bool
+fn is_corner<A: Allocator>(table: &Table<A>, elements: &[u16], words: &[Word], word: &Word) -> bool
     requires elements { All (λ e. e < table.now.order) elements.now }
-    requires letters { length elements.now ≤ 26 }
+    requires letters { length elements.now ≤ LETTERS }
     requires words { length words.now ≡ table.now.order }
 {
     for i in 0..elements.len() {
@@ -49,7 +45,7 @@ fn is_corner<A: Allocator>(
 /// other word to one of these.
 #[derive(Drop)]
 pub struct Least<A: Allocator> {
-    pub words: Vec<[u8; 26], A>,
+    pub words: Vec<Word, A>,
     pub listing: Vec<u16, A>,
     pub basis: Vec<Relation, A>,
 }
@@ -62,10 +58,10 @@ pub fn least_words<A: Allocator + Copy>(
     elements: &[u16],
 ) -> Result<Least<A>, Memory>
     requires elements { All (λ e. e < table.now.order) elements.now }
-    requires letters { length elements.now ≤ 26 }
+    requires letters { length elements.now ≤ LETTERS }
 {
     let order = table.order() as usize;
-    let mut words = vec![in alloc; [0u8; 26]; order]?;
+    let mut words = vec![in alloc; [0u8; LETTERS]; order]?;
     let mut marks = vec![in alloc; false; order]?;
     let mut found: Vec<u16, A> = Vec::new(alloc);
     let mut basis: Vec<Relation, A> = Vec::new(alloc);

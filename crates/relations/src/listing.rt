@@ -3,7 +3,7 @@ ghost use Rattle.std.specs.Prelude.{◌≡◌, ◌<◌, ◌≤◌, ℕ, IsTrue, 
 ghost use Rattle.relations.specs.Presented.{IsListing};
 ghost use Rattle.relations.specs.Printed.{ArePrintable, IsPrintable};
 
-use presentations::Relation;
+use presentations::{LARGEST_EXPONENT, LETTERS, Relation, Word};
 
 /// Whether the element is in the list.
 fn has(listing: &[u16], x: u16) -> bool
@@ -48,12 +48,12 @@ pub fn is_listing(order: u16, listing: &[u16]) -> bool
     listing.len() == order as usize && are_below(order, listing) && has_all(order, listing)
 }
 
-/// Whether the exponents are at most 64, and those after the first letters 0.
-fn is_printable(letters: usize, word: &[u8; 26]) -> bool
+/// Whether the exponents are at most `LARGEST_EXPONENT`, and those after the first letters 0.
+fn is_printable(letters: usize, word: &Word) -> bool
     ensures { IsTrue result → IsPrintable letters word.now }
 {
-    for i in 0..26usize {
-        if word[i] > 64 || i >= letters && word[i] > 0 {
+    for i in 0..LETTERS {
+        if word[i] > LARGEST_EXPONENT || i >= letters && word[i] > 0 {
             return false;
         }
     }

@@ -1,5 +1,6 @@
 //! Relations with one between two powers of each letter, which `present` wants.
 ghost use Rattle.std.specs.Prelude.{◌≡◌, ◌<◌, ◌≤◌, IfOk, IfSome, All, length, vec_len};
+ghost use Rattle.presentations.specs.declared.TheConstants.{LETTERS, MOST_RELATIONS};
 ghost use Rattle.relations.specs.Presented.{ArePresentation};
 ghost use Rattle.relations.specs.Printed.{ArePrintable};
 
@@ -8,24 +9,21 @@ use crate::finding::{Description, MOST, STEPS};
 use crate::listing::are_printable;
 use allocation::Memory;
 use monoid_table::Table;
-use presentations::Relation;
+use presentations::{LARGEST_EXPONENT, LETTERS, MOST_RELATIONS, Relation, Word};
 use std::alloc::Allocator;
 
-/// The most relations that `present` reads, and the largest exponent.
-const MOST_RELATIONS: usize = 64;
-
 /// A power of one letter.
-fn power(letter: usize, exponent: u8) -> [u8; 26]
-    requires { letter < 26 }
+fn power(letter: usize, exponent: u8) -> Word
+    requires { letter < LETTERS }
 {
-    let mut word = [0u8; 26];
+    let mut word = [0u8; LETTERS];
     word[letter] = exponent;
     word
 }
 
 /// Whether no other letter stands in the word.
-fn is_power(word: &[u8; 26], letter: usize) -> bool {
-    for i in 0..26usize {
+fn is_power(word: &Word, letter: usize) -> bool {
+    for i in 0..LETTERS {
         if i != letter && word[i] > 0 {
             return false;
         }
@@ -43,13 +41,14 @@ fn is_bounded(relations: &[Relation], letter: usize) -> bool {
     false
 }
 
-/// The least power of the letter that is a smaller one, which stands right: of at most 64.
+/// The least power of the letter that is a smaller one, which stands right: of at most
+/// `LARGEST_EXPONENT`.
 fn least_power<A: Allocator>(table: &Table<A>, elements: &[u16], letter: usize) -> Option<Relation>
     requires elements { All (λ e. e < table.now.order) elements.now }
-    requires letters { length elements.now ≤ 26 }
-    requires letter_in { letter < 26 }
+    requires letters { length elements.now ≤ LETTERS }
+    requires letter_in { letter < LETTERS }
 {
-    for most in 1..=64u8 {
+    for most in 1..=LARGEST_EXPONENT {
         let left = power(letter, most);
         let element = value(table, elements, &left);
         if let Some(right) = smaller_power(table, elements, letter, most, element) {
@@ -66,10 +65,10 @@ fn smaller_power<A: Allocator>(
     letter: usize,
     most: u8,
     element: u16,
-) -> Option<[u8; 26]>
+) -> Option<Word>
     requires elements { All (λ e. e < table.now.order) elements.now }
-    requires letters { length elements.now ≤ 26 }
-    requires letter_in { letter < 26 }
+    requires letters { length elements.now ≤ LETTERS }
+    requires letter_in { letter < LETTERS }
 {
     for less in 0..most {
         let word = power(letter, less);
@@ -88,7 +87,7 @@ fn with_powers<A: Allocator>(
     relations: &[Relation],
 ) -> Result<Vec<Relation, A>, Memory>
     requires elements { All (λ e. e < table.now.order) elements.now }
-    requires letters { length elements.now ≤ 26 }
+    requires letters { length elements.now ≤ LETTERS }
 {
     let mut all: Vec<Relation, A> = Vec::new(alloc);
     for relation in relations {
@@ -105,20 +104,21 @@ fn with_powers<A: Allocator>(
 }
 
 /// Relations as `present` takes them: those of the description, and one between two powers of each
-/// letter that has none. None where there are more than 64, or an exponent is above 64.
+/// letter that has none. None where there are more than `MOST_RELATIONS`, or an exponent is above
+/// `LARGEST_EXPONENT`.
 pub fn presentable<A: Allocator + Copy>(
     alloc: A,
     table: &Table<A>,
     description: &Description<A>,
 ) -> Result<Option<Vec<Relation, A>>, Memory>
     requires elements { All (λ e. e < table.now.order) description.now.elements.items }
-    requires letters { vec_len description.now.elements ≤ 26 }
+    requires letters { vec_len description.now.elements ≤ LETTERS }
     ensures presentation { IfOk result (λ found. IfSome found
         (λ r. ArePresentation table.now description.now.elements.items r.items)) }
     ensures printable { IfOk result (λ found. IfSome found
         (λ r. ArePrintable (vec_len description.now.elements) r.items)) }
     ensures some { IfOk result (λ found. IfSome found (λ r. 0 < vec_len r)) }
-    ensures few { IfOk result (λ found. IfSome found (λ r. vec_len r ≤ 64)) }
+    ensures few { IfOk result (λ found. IfSome found (λ r. vec_len r ≤ MOST_RELATIONS)) }
 {
     let elements = description.elements.as_slice();
     let relations = description.relations.as_slice();

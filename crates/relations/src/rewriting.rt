@@ -1,15 +1,16 @@
 //! Words rewritten by rules: relations used from their left word to their right one.
 ghost use Rattle.std.specs.Prelude.{◌≡◌, ◌<◌, ◌≤◌, ◌↔◌, ◌⊎◌, ℕ, IsTrue, IfSome, IfOk, All, length, slice_index, vec_len};
+ghost use Rattle.presentations.specs.declared.TheConstants.{LETTERS};
 ghost use Rattle.relations.specs.Presented.{AreRelatedWords, IsRewritten};
 
 use allocation::Memory;
-use presentations::Relation;
+use presentations::{Relation, Word};
 use std::alloc::Allocator;
 
 /// The word with the rule's right word in place of its left one, where the left one is in it and no
-/// exponent gets above 255.
-fn rewritten(letters: usize, rule: &Relation, word: &[u8; 26]) -> Option<[u8; 26]>
-    requires { letters ≤ 26 }
+/// exponent gets above `u8::MAX`.
+fn rewritten(letters: usize, rule: &Relation, word: &Word) -> Option<Word>
+    requires { letters ≤ LETTERS }
     ensures { IfSome result (IsRewritten letters rule.now word.now) }
 {
     let mut changed = *word;
@@ -24,8 +25,8 @@ fn rewritten(letters: usize, rule: &Relation, word: &[u8; 26]) -> Option<[u8; 26
 }
 
 /// The word rewritten once, by the first rule that can.
-fn step(letters: usize, rules: &[Relation], word: &[u8; 26]) -> Option<[u8; 26]>
-    requires { letters ≤ 26 }
+fn step(letters: usize, rules: &[Relation], word: &Word) -> Option<Word>
+    requires { letters ≤ LETTERS }
     ensures { IfSome result (AreRelatedWords letters rules.now word.now) }
 {
     for rule in rules {
@@ -37,8 +38,8 @@ fn step(letters: usize, rules: &[Relation], word: &[u8; 26]) -> Option<[u8; 26]>
 }
 
 /// The word rewritten until no rule can, or `steps` times.
-pub fn reduced(letters: usize, rules: &[Relation], word: &[u8; 26], steps: u32) -> [u8; 26]
-    requires { letters ≤ 26 }
+pub fn reduced(letters: usize, rules: &[Relation], word: &Word, steps: u32) -> Word
+    requires { letters ≤ LETTERS }
     ensures { AreRelatedWords letters rules.now word.now result }
 {
     let mut reduced = *word;
@@ -52,8 +53,8 @@ pub fn reduced(letters: usize, rules: &[Relation], word: &[u8; 26], steps: u32) 
 }
 
 /// Whether the first letters have the same exponents.
-pub fn is_same(letters: usize, v: &[u8; 26], w: &[u8; 26]) -> bool
-    requires { letters ≤ 26 }
+pub fn is_same(letters: usize, v: &Word, w: &Word) -> bool
+    requires { letters ≤ LETTERS }
     ensures { IsTrue result
         ↔ ((i : ℕ) → i < letters → slice_index v.now i ≡ slice_index w.now i) }
 {
@@ -67,8 +68,8 @@ pub fn is_same(letters: usize, v: &[u8; 26], w: &[u8; 26]) -> bool
 
 /// Whether the first word comes before the second one: by fewer letters in all, and of as many, by
 /// more of the first letter of which one has more.
-fn comes_before(letters: usize, v: &[u8; 26], w: &[u8; 26]) -> bool
-    requires { letters ≤ 26 }
+fn comes_before(letters: usize, v: &Word, w: &Word) -> bool
+    requires { letters ≤ LETTERS }
 {
     let mut less = 0u32;
     let mut more = 0u32;
@@ -88,8 +89,8 @@ fn comes_before(letters: usize, v: &[u8; 26], w: &[u8; 26]) -> bool
 }
 
 /// The rule between two words, to the one that comes first.
-pub fn oriented(letters: usize, v: &[u8; 26], w: &[u8; 26]) -> Relation
-    requires { letters ≤ 26 }
+pub fn oriented(letters: usize, v: &Word, w: &Word) -> Relation
+    requires { letters ≤ LETTERS }
     ensures { ((result.left ≡ v.now) × (result.right ≡ w.now))
         ⊎ ((result.left ≡ w.now) × (result.right ≡ v.now)) }
 {
@@ -107,8 +108,8 @@ pub fn oriented(letters: usize, v: &[u8; 26], w: &[u8; 26]) -> Relation
 }
 
 /// The least word that both words are in.
-fn join(letters: usize, v: &[u8; 26], w: &[u8; 26]) -> [u8; 26]
-    requires { letters ≤ 26 }
+fn join(letters: usize, v: &Word, w: &Word) -> Word
+    requires { letters ≤ LETTERS }
 {
     let mut join = *v;
     for i in 0..letters {
@@ -120,8 +121,8 @@ fn join(letters: usize, v: &[u8; 26], w: &[u8; 26]) -> [u8; 26]
 }
 
 /// Whether no letter stands in both words.
-fn is_apart(letters: usize, v: &[u8; 26], w: &[u8; 26]) -> bool
-    requires { letters ≤ 26 }
+fn is_apart(letters: usize, v: &Word, w: &Word) -> bool
+    requires { letters ≤ LETTERS }
 {
     for i in 0..letters {
         if v[i] > 0 && w[i] > 0 {
@@ -134,7 +135,7 @@ fn is_apart(letters: usize, v: &[u8; 26], w: &[u8; 26]) -> bool
 /// The rule that two rules give where both can rewrite one word: between what they make of the least
 /// such word, each rewritten as far as it goes.
 fn overlap(letters: usize, rules: &[Relation], i: usize, j: usize, steps: u32) -> Option<Relation>
-    requires letters { letters ≤ 26 }
+    requires letters { letters ≤ LETTERS }
     requires i_in { i < length rules.now }
     requires j_in { j < length rules.now }
     ensures { IfSome result (λ r. AreRelatedWords letters rules.now r.left r.right) }
@@ -161,7 +162,7 @@ pub fn learn<A: Allocator>(
     j: usize,
     steps: u32,
 ) -> Result<(), Memory>
-    requires letters { letters ≤ 26 }
+    requires letters { letters ≤ LETTERS }
     requires j_in { j < vec_len rules.old }
     ensures { IfOk result
         (λ _. All (λ r. AreRelatedWords letters rules.old.items r.left r.right) rules.new.items) }
@@ -184,7 +185,7 @@ pub fn completed<A: Allocator>(
     most: usize,
     steps: u32,
 ) -> Result<Vec<Relation, A>, Memory>
-    requires { letters ≤ 26 }
+    requires { letters ≤ LETTERS }
     ensures { IfOk result
         (λ rules. All (λ r. AreRelatedWords letters relations.now r.left r.right) rules.items) }
 {

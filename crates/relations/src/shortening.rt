@@ -1,17 +1,18 @@
 //! Relations of which none follows from the others.
 ghost use Rattle.std.specs.Prelude.{◌≤◌};
+ghost use Rattle.presentations.specs.declared.TheConstants.{LETTERS};
 
 use crate::finding::{FEW, MOST, STEPS};
 use crate::least::last_letter;
 use crate::rewriting::{completed, is_same, learn, oriented, reduced};
 use allocation::Memory;
-use presentations::Relation;
+use presentations::{LETTERS, Relation};
 use std::alloc::Allocator;
 use std::cmp::Reverse;
 
 /// Whether the rules lead both words of the relation to one.
 fn is_given(letters: usize, rules: &[Relation], relation: &Relation) -> bool
-    requires { letters ≤ 26 }
+    requires { letters ≤ LETTERS }
 {
     let left = reduced(letters, rules, &relation.left, STEPS);
     let right = reduced(letters, rules, &relation.right, STEPS);
@@ -24,7 +25,7 @@ fn close<A: Allocator>(
     rules: &mut Vec<Relation, A>,
     from: usize,
 ) -> Result<usize, Memory>
-    requires { letters ≤ 26 }
+    requires { letters ≤ LETTERS }
 {
     for j in from..MOST {
         if j >= rules.len() {
@@ -41,7 +42,7 @@ pub fn independent<A: Allocator + Copy>(
     letters: usize,
     relations: &[Relation],
 ) -> Result<Vec<Relation, A>, Memory>
-    requires { letters ≤ 26 }
+    requires { letters ≤ LETTERS }
 {
     let mut kept: Vec<Relation, A> = Vec::new(alloc);
     let mut rules: Vec<Relation, A> = Vec::new(alloc);
@@ -77,7 +78,7 @@ pub fn short<A: Allocator + Copy>(
     letters: usize,
     relations: Vec<Relation, A>,
 ) -> Result<Vec<Relation, A>, Memory>
-    requires { letters ≤ 26 }
+    requires { letters ≤ LETTERS }
 {
     let count = relations.len();
     let mut kept = relations;
@@ -99,6 +100,6 @@ pub fn short<A: Allocator + Copy>(
 /// order of the alphabet.
 pub fn sort<A: Allocator>(relations: &mut Vec<Relation, A>) {
     relations.sort_unstable_by_key(|relation| {
-        (last_letter(26, &relation.left), Reverse(relation.left))
+        (last_letter(LETTERS, &relation.left), Reverse(relation.left))
     });
 }

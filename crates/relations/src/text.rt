@@ -1,9 +1,10 @@
 //! The texts of words and relations.
 ghost use Rattle.std.specs.Prelude.{◌≡◌, ◌<◌, ◌≤◌, [], IfOk, All, length, slice_index_or};
 ghost use Rattle.std.specs.String.{string_bytes};
+ghost use Rattle.presentations.specs.declared.TheConstants.{LETTERS};
 ghost use Rattle.relations.specs.Printed.{factor_text, factors_text, word_text, relation_text, more_text, relations_text, more_words, words_text};
 
-use presentations::Relation;
+use presentations::{Relation, Word};
 use std::alloc::{AllocError, Global};
 
 /// How exponents are written.
@@ -22,7 +23,7 @@ fn factor_text(
     letter: u8,
     exponent: u8,
 ) -> Result<String, AllocError>
-    requires { letter < 26 }
+    requires { letter < LETTERS }
     ensures { IfOk result (λ t. string_bytes t ≡ factor_text notation letter exponent) }
 {
     let name = (b'a' + letter) as char;
@@ -45,9 +46,9 @@ fn factors_text(
     alloc: Global,
     notation: Notation,
     letters: u8,
-    word: &[u8; 26],
+    word: &Word,
 ) -> Result<String, AllocError>
-    requires { letters ≤ 26 }
+    requires { letters ≤ LETTERS }
     ensures { IfOk result (λ t. string_bytes t ≡ factors_text notation letters word.now) }
 {
     let mut text = String::new(alloc);
@@ -63,9 +64,9 @@ pub fn word_text(
     alloc: Global,
     notation: Notation,
     letters: u8,
-    word: &[u8; 26],
+    word: &Word,
 ) -> Result<String, AllocError>
-    requires { letters ≤ 26 }
+    requires { letters ≤ LETTERS }
     ensures { IfOk result (λ t. string_bytes t ≡ word_text notation letters word.now) }
 {
     let text = factors_text(alloc, notation, letters, word)?;
@@ -83,7 +84,7 @@ pub fn relation_text(
     letters: u8,
     r: &Relation,
 ) -> Result<String, AllocError>
-    requires { letters ≤ 26 }
+    requires { letters ≤ LETTERS }
     ensures { IfOk result (λ t. string_bytes t ≡ relation_text notation letters r.now) }
 {
     let (left, right) = (
@@ -102,7 +103,7 @@ fn more_text(
     between: &str,
     relations: &[Relation],
 ) -> Result<String, AllocError>
-    requires { letters ≤ 26 }
+    requires { letters ≤ LETTERS }
     ensures { IfOk result (λ t. string_bytes t ≡ more_text notation letters between.now relations.now) }
 {
     let mut text = String::new(alloc);
@@ -122,7 +123,7 @@ pub fn relations_text(
     between: &str,
     relations: &[Relation],
 ) -> Result<String, AllocError>
-    requires { letters ≤ 26 }
+    requires { letters ≤ LETTERS }
     ensures { IfOk result (λ t. string_bytes t ≡ relations_text notation letters between.now relations.now) }
 {
     if relations.len() == 0 {
@@ -140,10 +141,10 @@ fn more_words(
     notation: Notation,
     letters: u8,
     between: &str,
-    words: &[[u8; 26]],
+    words: &[Word],
     elements: &[u16],
 ) -> Result<String, AllocError>
-    requires letters { letters ≤ 26 }
+    requires letters { letters ≤ LETTERS }
     requires elements { All (λ e. e < length words.now) elements.now }
     ensures { IfOk result
         (λ t. string_bytes t ≡ more_words notation letters between.now words.now elements.now) }
@@ -162,10 +163,10 @@ fn element_text(
     alloc: Global,
     notation: Notation,
     letters: u8,
-    words: &[[u8; 26]],
+    words: &[Word],
     element: u16,
 ) -> Result<String, AllocError>
-    requires letters { letters ≤ 26 }
+    requires letters { letters ≤ LETTERS }
     requires element_in { element < length words.now }
     ensures { IfOk result
         (λ t. string_bytes t ≡ word_text notation letters (slice_index_or words.now element [])) }
@@ -180,10 +181,10 @@ pub fn words_text(
     notation: Notation,
     letters: u8,
     between: &str,
-    words: &[[u8; 26]],
+    words: &[Word],
     elements: &[u16],
 ) -> Result<String, AllocError>
-    requires letters { letters ≤ 26 }
+    requires letters { letters ≤ LETTERS }
     requires elements { All (λ e. e < length words.now) elements.now }
     ensures { IfOk result
         (λ t. string_bytes t ≡ words_text notation letters between.now words.now elements.now) }

@@ -1,6 +1,7 @@
 use Rattle.std.proofs.Common.{List, Bool, true, false, ◌≡◌, ◌≤◌, ◌<◌, ℕ, refl, ◌+◌, ◌*◌, ◌++◌, ◌∷◌, [], ap, arith, subst, sym, ◌∙◌}
 use Rattle.std.proofs.lemmas.Result.{IfOk-from_err}
 use Rattle.std.proofs.lemmas.Nat.{mul-le}
+use Rattle.presentations.specs.declared.TheConstants.{LETTERS}
 use Rattle.presentations.proofs.AxisLaws.{Built, built-none, built-skip, built-push, built-box, few-letters}
 use Rattle.presentations.proofs.PowerLaws.{none-at-all, when-none}
 use Rattle.presentations.proofs.SizeLaws.{least-larger, not-above, above, box-more}
@@ -19,7 +20,7 @@ some-power : (relations : List Relation) (letter n : ℕ) (p : ℕ × ℕ)
 some-power relations letter n p least = (p.0, p.1, least.0.0, least.0.1)
 
 bounded : (relations : List Relation)
-    → ((n : ℕ) → n < 26 → IsTrue (occurs relations n) → HasLeastPower relations n)
+    → ((n : ℕ) → n < LETTERS → IsTrue (occurs relations n) → HasLeastPower relations n)
     → IsUnbounded relations → ⊥
 bounded relations h u =
     let p = h u.letter u.within u.stands in
@@ -112,7 +113,7 @@ returns-clause-within g c = not-above c.args.relations.now c.args.limit c.loop-l
     c.loop-letter.invariant.box)
     c.loop-letter.invariant.within
   where
-    at_end : (n : ℕ) → n ≤ 26 → 26 ≤ n → n ≡ 26
+    at_end : (n : ℕ) → n ≤ LETTERS → LETTERS ≤ n → n ≡ LETTERS
     at_end n a b = omega arith
 
 pub returns-clause-is_box : goal.returns-clause-is_box
@@ -189,7 +190,7 @@ returns-clause-letters g c =
     (λ n. letters_in c.loop-letter.axes.items ≡ letters_below c.args.relations.now n)
     (at_end c.loop-letter.letter (omega arith) (omega arith)) c.loop-letter.invariant.letters
   where
-    at_end : (n : ℕ) → n ≤ 26 → 26 ≤ n → n ≡ 26
+    at_end : (n : ℕ) → n ≤ LETTERS → LETTERS ≤ n → n ≡ LETTERS
     at_end n a b = omega arith
 
 pub overflow_mul-size : goal.overflow_mul-size

@@ -1,6 +1,7 @@
 use Rattle.std.proofs.Common.{◌≡◌, ◌≤◌, length, ap, ◌∙◌, sym, inl, inr, subst}
 use Rattle.std.specs.Prelude.{Err, IsErrAnd, IfOk}
 use Rattle.std.proofs.lemmas.Result.{IfOk-from_err, on_err_weaker}
+use Rattle.presentations.specs.declared.TheConstants.{LETTERS}
 use Rattle.presentations.specs.declared.fault.PresFault.TheVariants.{Text, Unbounded, Limit, Memory}
 use Rattle.presentations.specs.Boxes.{size_of}
 use Rattle.presentations.specs.Merging.{IsBox, AreClasses, letters_in}
@@ -139,7 +140,7 @@ table_in-requires-clause-roots g c =
 
 pub table_in-requires-clause-count : goal.table_in-requires-clause-count
 table_in-requires-clause-count g c =
-    subst (λ axes. length axes ≤ 26) (sym c.deref-2.ensures.value) c.in_ok-axes.ensures.count
+    subst (λ axes. length axes ≤ LETTERS) (sym c.deref-2.ensures.value) c.in_ok-axes.ensures.count
 
 pub table_in-requires-clause-letters : goal.table_in-requires-clause-letters
 table_in-requires-clause-letters g c =

@@ -2,6 +2,7 @@ use Rattle.std.proofs.Common.{◌≡◌, ◌<◌, ℕ, zero, suc, ◌+◌, ◌*�
 use Rattle.std.specs.Prelude.{slice_index, Err}
 use Rattle.std.proofs.lemmas.Result.{IfOk-from_err}
 use Rattle.std.proofs.lemmas.Nat.{mul-le, div_below}
+use Rattle.presentations.specs.declared.TheConstants.{LETTERS}
 use Rattle.presentations.specs.declared.fault.PresFault.TheVariants.{Limit, Memory}
 use Rattle.std.proofs.lemmas.List.{length-append}
 use Rattle.presentations.specs.Numberings.{IsAssigned}
@@ -73,7 +74,7 @@ pub overflow_mul-order : goal.overflow_mul-order
 overflow_mul-order g c =
     omega (
       arith,
-      mul-le c.order.result (length c.args.axes.now) 256 26 c.order.ensures.range.1
+      mul-le c.order.result (length c.args.axes.now) 256 LETTERS c.order.ensures.range.1
           c.requires.letters,
     )
 

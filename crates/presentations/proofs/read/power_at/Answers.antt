@@ -1,7 +1,7 @@
 use Rattle.std.proofs.Common.{◌≡◌, ◌+◌, ◌∷◌, ℕ, ap, ◌∙◌, arith, drop}
 use Rattle.presentations.proofs.Reading.{one-digit, two-digits, no-exponent, digit-goes-on}
 use Rattle.presentations.proofs.read.power_at.Goals as goal
-use Rattle.presentations.proofs.read.power_at.Goals.{then-power-gt64-via-then-power-gt64, then-power-gt64-via-else-power-gt64+then-is_some}
+use Rattle.presentations.proofs.read.power_at.Goals.{then-power-gt-LARGEST_EXPONENT-via-then-power-gt-LARGEST_EXPONENT, then-power-gt-LARGEST_EXPONENT-via-else-power-gt-LARGEST_EXPONENT+then-is_some}
 
 two-on : (n : ℕ) → n + 1 + 1 ≡ n + 2
 two-on n = omega arith
@@ -11,18 +11,18 @@ returns-else-first-lt2-clause-some c =
     one-digit _ _ c.in_ok-first.first c.in_ok-first.ensures.some.2 c.if-first-lt2.false
     c.in_ok-first.ensures.some.0 c.in_default.ensures.none
 
-pub returns-then-power-gt64-clause-none : goal.returns-then-power-gt64-clause-none
-returns-then-power-gt64-clause-none c =
+pub returns-then-power-gt-LARGEST_EXPONENT-clause-none : goal.returns-then-power-gt-LARGEST_EXPONENT-clause-none
+returns-then-power-gt-LARGEST_EXPONENT-clause-none c =
     no-exponent _ (drop (c.args.at + 2) c.args.text.now) c.in_ok-first.first c.in-Some.second
     (c.in_ok-first.ensures.some.2 ∙ ap (λ t. (48 + c.in_ok-first.first) ∷ t)
     (c.in-Some.ensures.some.2 ∙ ap (λ n. (48 + c.in-Some.second) ∷ drop n c.args.text.now)
     (two-on c.args.at)))
     c.in-Some.ensures.some.0
-    (λ few ends. elim c.then-power-gt64.branch [
-      | then-power-gt64-via-then-power-gt64 w ↦ absurd (omega (arith, w.if-power-gt64.true))
-      | then-power-gt64-via-else-power-gt64+then-is_some w ↦ digit-goes-on _
-          w.digit_at-else-power-gt64.result w.is_some.result _ _ w.is_some.ensures w.if-is_some.true
-          w.digit_at-else-power-gt64.ensures.some ends
+    (λ few ends. elim c.then-power-gt-LARGEST_EXPONENT.branch [
+      | then-power-gt-LARGEST_EXPONENT-via-then-power-gt-LARGEST_EXPONENT w ↦ absurd (omega (arith, w.if-power-gt-LARGEST_EXPONENT.true))
+      | then-power-gt-LARGEST_EXPONENT-via-else-power-gt-LARGEST_EXPONENT+then-is_some w ↦ digit-goes-on _
+          w.digit_at-else-power-gt-LARGEST_EXPONENT.result w.is_some.result _ _ w.is_some.ensures w.if-is_some.true
+          w.digit_at-else-power-gt-LARGEST_EXPONENT.ensures.some ends
     ])
 
 pub returns-clause-some : goal.returns-clause-some
@@ -32,4 +32,4 @@ returns-clause-some c =
     (c.in-Some.ensures.some.2 ∙ ap (λ n. (48 + c.in-Some.second) ∷ drop n c.args.text.now)
     (two-on c.args.at)))
     (omega (arith, c.if-first-eq0.false)) c.in_ok-first.ensures.some.0 c.in-Some.ensures.some.0
-    c.if-power-gt64.false
+    c.if-power-gt-LARGEST_EXPONENT.false
