@@ -1,14 +1,14 @@
 -- Codes and their lines, read and written.
 use Rattle.std.proofs.Common.{◌≡◌, ◌≢◌, ℕ, zero, suc, ◌+◌, ◌-◌, ◌<◌, ◌≤◌, true, false, cond, eqb, nat_lt, nat_le, ◌&&◌, ◌==◌, List, [], ◌∷◌, ◌++◌, map, length, get_or, Some, None, refl, sym, ap, ap₂, subst, ◌∙◌, arith, inl, inr}
 use Rattle.std.specs.List.{AllByRecursion}
-use Rattle.std.proofs.lemmas.Bool.{eqb-true, ltb-false, lt-ltb, le-ltb, eq-eqb}
+use Rattle.std.proofs.lemmas.Bool.{eqb-true, eqb-false, ltb-false, lt-ltb, le-ltb}
 use Rattle.std.proofs.lemmas.Option.{some_pair_parts}
 use Rattle.std.proofs.lemmas.Bool.Decides.{nat_tests}
 use Rattle.std.proofs.lemmas.List.Elements.{All-from_recursion, recursion_from_All}
 use native.Mathlib.Decide.{dec_lt}
 use Rattle.misere_theory.specs.Games.{IsCode, IsFirstDigit}
 use Rattle.octal_code.specs.Text.{code_text, digit_byte}
-use Rattle.certificate_text.specs.Reading.{◌>>=◌, with_front, fixed_at, code_digit_at, code_digits_at, code_at, digits_behind, code_line_at}
+use Rattle.certificate_text.specs.Reading.{with_front, code_digit_at, code_digits_at, code_at, digits_behind, code_line_at}
 use Rattle.certificate_text.proofs.Numbers.{bind_some, test_some, test_none, chosen, fixed_takes, fixed_again}
 use Rattle.certificate_text.proofs.Fields.{otherwise_some}
 
@@ -32,15 +32,15 @@ digit_takes (b ∷ bytes) d rest e =
     (cond (nat_le 97 b && nat_le b 102) (Some (b - 87, bytes)) None) (Some (d, rest)) e) [
       | inl c ↦
           let h : (48 ≤ b) × (b ≤ 57) = let u = c.0 in grind (arith, nat_tests) in
-          let p = some_pair_parts (b - 48) d bytes rest c.1 in
+          let p = some_pair_parts _ _ _ _ c.1 in
           let is : 48 + (b - 48) ≡ b = omega arith in (
             spelled (b - 48) (sym is ∙ sym (digit_low (b - 48) (omega arith))) p.0 p.1,
             omega (arith, p.0),
           )
       | inr c ↦
-          let t = test_some (nat_le 97 b && nat_le b 102) (Some (b - 87, bytes)) (d, rest) c.1 in
+          let t = test_some {b = nat_le 97 b && nat_le b 102} c.1 in
           let h : (97 ≤ b) × (b ≤ 102) = let u = t.0 in grind (arith, nat_tests) in
-          let p = some_pair_parts (b - 87) d bytes rest t.1 in
+          let p = some_pair_parts _ _ _ _ t.1 in
           let is : 87 + (b - 87) ≡ b = omega arith in (
             spelled (b - 87) (sym is ∙ sym (digit_high (b - 87) (omega arith))) p.0 p.1,
             omega (arith, p.0),
@@ -92,23 +92,21 @@ digits_take : (room : ℕ) (bytes ds rest : List ℕ) → code_digits_at room by
     → (bytes ≡ map digit_byte ds ++ rest) × (length ds ≤ room) × AllByRecursion IsDigit ds
 unfolding code_digits_at
 digits_take zero bytes ds rest e =
-    let p = some_pair_parts [] ds bytes rest e in
+    let p = some_pair_parts _ _ _ _ e in
     subst (λ (ys : List ℕ). (bytes ≡ map digit_byte ys ++ rest) × (length ys ≤ 0)
     × AllByRecursion IsDigit ys) p.0 (p.1, omega arith, tt)
 digits_take (suc room) bytes ds rest e =
     elim (otherwise_some (code_digit_at bytes) (Some ([], bytes))
     (λ d. with_front (d.0 ∷ []) (code_digits_at room d.1)) (ds, rest) e) [
       | inl c ↦
-          let p = some_pair_parts [] ds bytes rest c.1 in
+          let p = some_pair_parts _ _ _ _ c.1 in
           subst (λ (ys : List ℕ). (bytes ≡ map digit_byte ys ++ rest) × (length ys ≤ suc room)
           × AllByRecursion IsDigit ys) p.0 (p.1, omega arith, tt)
       | inr c ↦
-          let ys =
-          bind_some (code_digits_at room c.0.1) (λ y. Some ((c.0.0 ∷ []) ++ y.0, y.1)) (ds, rest) c.2
-          in
-          let dt = digit_takes bytes c.0.0 c.0.1 c.1 in
-          let yt = digits_take room c.0.1 ys.0.0 ys.0.1 ys.1 in
-          let p = some_pair_parts (c.0.0 ∷ ys.0.0) ds ys.0.1 rest ys.2 in
+          let ys = bind_some c.2 in
+          let dt = digit_takes _ _ _ c.1 in
+          let yt = digits_take room _ _ _ ys.1 in
+          let p = some_pair_parts _ _ _ _ ys.2 in
           let whole : bytes ≡ map digit_byte (c.0.0 ∷ ys.0.0) ++ rest =
           dt.0 ∙ ap (λ (t : List ℕ). digit_byte c.0.0 ∷ t)
           (yt.0 ∙ ap (λ (t : List ℕ). map digit_byte ys.0.0 ++ t) p.1) in
@@ -155,43 +153,32 @@ behind_takes : (d : ℕ) (bytes ds rest : List ℕ) → IsFirstDigit d
     × IsCode ds
 unfolding digits_behind
 behind_takes d bytes ds rest first e =
-    let a =
-    bind_some (fixed_at (46 ∷ []) bytes) (λ point. with_front (d ∷ []) (code_digits_at 16 point)
-    >>= λ ds. cond (nat_lt (length ds.0) 2) None
-    (cond (eqb (get_or ds.0 (length ds.0 - 1) 0) 0) None (Some ds))) (ds, rest) e in
-    let b =
-    bind_some (with_front (d ∷ []) (code_digits_at 16 a.0))
-    (λ ds. cond (nat_lt (length ds.0) 2) None
-    (cond (eqb (get_or ds.0 (length ds.0 - 1) 0) 0) None (Some ds))) (ds, rest) a.2 in
-    let y = bind_some (code_digits_at 16 a.0) (λ y. Some ((d ∷ []) ++ y.0, y.1)) b.0 b.1 in
-    let t =
-    test_none (nat_lt (length b.0.0) 2)
-    (cond (eqb (get_or b.0.0 (length b.0.0 - 1) 0) 0) None (Some b.0)) (ds, rest) b.2 in
-    let u = test_none (eqb (get_or b.0.0 (length b.0.0 - 1) 0) 0) (Some b.0) (ds, rest) t.1 in
-    let at_ = fixed_takes (46 ∷ []) bytes a.0 a.1 in
-    let yt = digits_take 16 a.0 y.0.0 y.0.1 y.1 in
-    let p = some_pair_parts (d ∷ y.0.0) b.0.0 y.0.1 b.0.1 y.2 in
-    let q = some_pair_parts b.0.0 ds b.0.1 rest u.1 in
-    let is : d ∷ y.0.0 ≡ ds = p.0 ∙ q.0 in
-    let long : 2 ≤ length (d ∷ y.0.0) =
-    subst (λ (xs : List ℕ). 2 ≤ length xs) (sym p.0) (ltb-false _ _ t.0) in
-    let last : get_or (d ∷ y.0.0) (length (d ∷ y.0.0) - 1) 0 ≢ 0 =
+    let point = bind_some e in
+    let all = bind_some point.2 in
+    let digits = bind_some all.1 in
+    let long = test_none all.2 in
+    let last = test_none long.1 in
+    let dt = digits_take _ _ _ _ digits.1 in
+    let p = some_pair_parts _ _ _ _ digits.2 in
+    let q = some_pair_parts _ _ _ _ last.1 in
+    let is : d ∷ digits.0.0 ≡ ds = p.0 ∙ q.0 in
+    let two : 2 ≤ length (d ∷ digits.0.0) =
+    subst (λ (xs : List ℕ). 2 ≤ length xs) (sym p.0) (ltb-false _ _ long.0) in
+    let not_0 : get_or (d ∷ digits.0.0) (length (d ∷ digits.0.0) - 1) 0 ≢ 0 =
     subst (λ (xs : List ℕ). get_or xs (length xs - 1) 0 ≢ 0) (sym p.0)
-    (λ same.
-    absurd (let clash : eqb (get_or b.0.0 (length b.0.0 - 1) 0) 0 ≡ true = eq-eqb _ _ same in
-    cc)) in
-    let whole : digit_byte d ∷ bytes ≡ code_text (d ∷ y.0.0) ++ rest =
+    (eqb-false _ _ last.0) in
+    let whole : digit_byte d ∷ bytes ≡ code_text (d ∷ digits.0.0) ++ rest =
     ap (λ (t : List ℕ). digit_byte d ∷ t)
-    (at_ ∙ ap (λ (t : List ℕ). 46 ∷ t)
-    (yt.0 ∙ ap (λ (t : List ℕ). map digit_byte y.0.0 ++ t) (p.1 ∙ q.1))) in
+    (fixed_takes _ _ _ point.1 ∙ ap (λ (t : List ℕ). 46 ∷ t)
+    (dt.0 ∙ ap (λ (t : List ℕ). map digit_byte digits.0.0 ++ t) (p.1 ∙ q.1))) in
     subst (λ (xs : List ℕ). (digit_byte d ∷ bytes ≡ code_text xs ++ rest) × IsCode xs) is (
       whole,
       (
         first,
         omega arith,
-        yt.1,
-        All-from_recursion (λ x. x < 16) y.0.0 yt.2,
-        last_of d y.0.0 (omega arith) last,
+        dt.1,
+        All-from_recursion (λ x. x < 16) digits.0.0 dt.2,
+        last_of d digits.0.0 (omega arith) not_0,
       ),
     )
 
@@ -219,7 +206,7 @@ code_takes (b ∷ bytes) ds rest e =
                   | inl v ↦
                       first_takes b 8 bytes ds rest (inr (inr (inl refl))) (eqb-true b 56 v.0) v.1
                   | inr v ↦
-                      let w = test_some (b == 99) (digits_behind 12 bytes) (ds, rest) v.1 in
+                      let w = test_some v.1 in
                       first_takes b 12 bytes ds rest (inr (inr (inr refl))) (eqb-true b 99 w.0) w.1
                 ]
           ]
@@ -280,16 +267,14 @@ pub code_line_takes : (bytes ds rest : List ℕ) → code_line_at bytes ≡ Some
     → (bytes ≡ code_text ds ++ 10 ∷ rest) × IsCode ds
 unfolding code_line_at
 code_line_takes bytes ds rest e =
-    let a =
-    bind_some (code_at bytes) (λ code. fixed_at (10 ∷ []) code.1 >>= λ ended.
-    Some (code.0, ended)) (ds, rest) e in
-    let b = bind_some (fixed_at (10 ∷ []) a.0.1) (λ ended. Some (a.0.0, ended)) (ds, rest) a.2 in
-    let at_ = code_takes bytes a.0.0 a.0.1 a.1 in
-    let p = some_pair_parts a.0.0 ds b.0 rest b.2 in
-    let whole : bytes ≡ code_text a.0.0 ++ 10 ∷ rest =
-    at_.0 ∙ ap (λ (t : List ℕ). code_text a.0.0 ++ t)
-    (fixed_takes (10 ∷ []) a.0.1 b.0 b.1 ∙ ap (λ (t : List ℕ). 10 ∷ t) p.1) in
-    subst (λ (xs : List ℕ). (bytes ≡ code_text xs ++ 10 ∷ rest) × IsCode xs) p.0 (whole, at_.1)
+    let code = bind_some e in
+    let ended = bind_some code.2 in
+    let ct = code_takes _ _ _ code.1 in
+    let p = some_pair_parts _ _ _ _ ended.2 in
+    let whole : bytes ≡ code_text code.0.0 ++ 10 ∷ rest =
+    ct.0 ∙ ap (λ (t : List ℕ). code_text code.0.0 ++ t)
+    (fixed_takes _ _ _ ended.1 ∙ ap (λ (t : List ℕ). 10 ∷ t) p.1) in
+    subst (λ (xs : List ℕ). (bytes ≡ code_text xs ++ 10 ∷ rest) × IsCode xs) p.0 (whole, ct.1)
 
 pub code_line_again : (ds rest : List ℕ) → IsCode ds → code_line_at (code_text ds ++ 10 ∷ rest)
     ≡ Some (ds, rest)

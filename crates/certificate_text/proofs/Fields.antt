@@ -15,33 +15,21 @@ pub field_takes : (name : List ℕ) (least limit : ℕ) (bytes : List ℕ) (x : 
     → (bytes ≡ name ++ (32 ∷ (decimal x ++ 10 ∷ rest))) × (least ≤ x) × (x < limit)
 unfolding field_at
 field_takes name least limit bytes x rest low small e =
-    let a =
-    bind_some (fixed_at name bytes) (λ named. fixed_at (32 ∷ []) named >>= λ space.
-    number_at limit space >>= λ x. fixed_at (10 ∷ []) x.1 >>= λ ended.
-    cond (nat_lt x.0 least) None (Some (x.0, ended))) (x, rest) e in
-    let b =
-    bind_some (fixed_at (32 ∷ []) a.0) (λ space. number_at limit space >>= λ x.
-    fixed_at (10 ∷ []) x.1 >>= λ ended. cond (nat_lt x.0 least) None (Some (x.0, ended)))
-    (x, rest) a.2 in
-    let c =
-    bind_some (number_at limit b.0) (λ x. fixed_at (10 ∷ []) x.1 >>= λ ended.
-    cond (nat_lt x.0 least) None (Some (x.0, ended))) (x, rest) b.2 in
-    let d =
-    bind_some (fixed_at (10 ∷ []) c.0.1)
-    (λ ended. cond (nat_lt c.0.0 least) None (Some (c.0.0, ended))) (x, rest) c.2 in
-    let t = test_none (nat_lt c.0.0 least) (Some (c.0.0, d.0)) (x, rest) d.2 in
-    let at_ = fixed_takes name bytes a.0 a.1 in
-    let bt = fixed_takes (32 ∷ []) a.0 b.0 b.1 in
-    let ct = number_takes limit b.0 c.0.0 c.0.1 low small c.1 in
-    let dt = fixed_takes (10 ∷ []) c.0.1 d.0 d.1 in
-    let p = some_pair_parts c.0.0 x d.0 rest t.1 in
-    let le : least ≤ c.0.0 = ltb-false _ _ t.0 in
-    let whole : bytes ≡ name ++ (32 ∷ (decimal c.0.0 ++ 10 ∷ rest)) =
-    at_ ∙ ap (λ (t : List ℕ). name ++ t)
-    (bt ∙ ap (λ (t : List ℕ). 32 ∷ t)
-    (ct.0 ∙ ap (λ (t : List ℕ). decimal c.0.0 ++ t) (dt ∙ ap (λ (t : List ℕ). 10 ∷ t) p.1))) in
+    let named = bind_some e in
+    let space = bind_some named.2 in
+    let number = bind_some space.2 in
+    let ended = bind_some number.2 in
+    let t = test_none ended.2 in
+    let nt = number_takes _ _ _ _ low small number.1 in
+    let p = some_pair_parts _ _ _ _ t.1 in
+    let le : least ≤ number.0.0 = ltb-false _ _ t.0 in
+    let whole : bytes ≡ name ++ (32 ∷ (decimal number.0.0 ++ 10 ∷ rest)) =
+    fixed_takes _ _ _ named.1 ∙ ap (λ (t : List ℕ). name ++ t)
+    (fixed_takes _ _ _ space.1 ∙ ap (λ (t : List ℕ). 32 ∷ t)
+    (nt.0 ∙ ap (λ (t : List ℕ). decimal number.0.0 ++ t)
+    (fixed_takes _ _ _ ended.1 ∙ ap (λ (t : List ℕ). 10 ∷ t) p.1))) in
     subst (λ (y : ℕ). (bytes ≡ name ++ (32 ∷ (decimal y ++ 10 ∷ rest))) × (least ≤ y) × (y < limit))
-    p.0 (whole, le, ct.1)
+    p.0 (whole, le, nt.1)
 
 pub field_again : (name : List ℕ) (least limit x : ℕ) (rest : List ℕ) → limit ≤ 2 ^ 16 → least ≤ x
     → x < limit → field_at name least limit (name ++ (32 ∷ (decimal x ++ 10 ∷ rest)))
@@ -76,7 +64,7 @@ rising_takes : (limit room least : ℕ) (bytes xs rest : List ℕ) → 0 < limit
     × RisesFrom least limit xs
 unfolding rising_at
 rising_takes limit zero least bytes xs rest low small e =
-    let p = some_pair_parts [] xs bytes rest e in
+    let p = some_pair_parts _ _ _ _ e in
     subst (λ (ys : List ℕ). (bytes ≡ spaced (map decimal ys) ++ rest) × RisesFrom least limit ys)
     p.0 (p.1, tt)
 rising_takes limit (suc room) least bytes xs rest low small e =
@@ -85,27 +73,19 @@ rising_takes limit (suc room) least bytes xs rest low small e =
     cond (nat_lt x.0 least) None (with_front (x.0 ∷ []) (rising_at limit room (x.0 + 1) x.1)))
     (xs, rest) e) [
       | inl c ↦
-          let p = some_pair_parts [] xs bytes rest c.1 in
+          let p = some_pair_parts _ _ _ _ c.1 in
           subst (λ (ys : List ℕ). (bytes ≡ spaced (map decimal ys) ++ rest)
           × RisesFrom least limit ys) p.0 (p.1, tt)
       | inr c ↦
-          let x =
-          bind_some (number_at limit c.0)
-          (λ x. cond (nat_lt x.0 least) None
-          (with_front (x.0 ∷ []) (rising_at limit room (x.0 + 1) x.1))) (xs, rest) c.2 in
-          let t =
-          test_none (nat_lt x.0.0 least)
-          (with_front (x.0.0 ∷ []) (rising_at limit room (x.0.0 + 1) x.0.1)) (xs, rest) x.2 in
-          let ys =
-          bind_some (rising_at limit room (x.0.0 + 1) x.0.1)
-          (λ y. Some ((x.0.0 ∷ []) ++ y.0, y.1)) (xs, rest) t.1 in
-          let st = fixed_takes (32 ∷ []) bytes c.0 c.1 in
-          let xt = number_takes limit c.0 x.0.0 x.0.1 low small x.1 in
-          let yt = rising_takes limit room (x.0.0 + 1) x.0.1 ys.0.0 ys.0.1 low small ys.1 in
+          let x = bind_some c.2 in
+          let t = test_none x.2 in
+          let ys = bind_some t.1 in
+          let xt = number_takes _ _ _ _ low small x.1 in
+          let yt = rising_takes limit room _ _ _ _ low small ys.1 in
           let le : least ≤ x.0.0 = ltb-false _ _ t.0 in
-          let p = some_pair_parts (x.0.0 ∷ ys.0.0) xs ys.0.1 rest ys.2 in
+          let p = some_pair_parts _ _ _ _ ys.2 in
           let whole : bytes ≡ spaced (map decimal (x.0.0 ∷ ys.0.0)) ++ ys.0.1 =
-          st ∙ ap (λ (t : List ℕ). 32 ∷ t) (xt.0 ∙ ap (λ (t : List ℕ). decimal x.0.0 ++ t) yt.0
+          fixed_takes _ _ _ c.1 ∙ ap (λ (t : List ℕ). 32 ∷ t) (xt.0 ∙ ap (λ (t : List ℕ). decimal x.0.0 ++ t) yt.0
           ∙ sym (append_assoc (decimal x.0.0) (spaced (map decimal ys.0.0)) ys.0.1)) in
           subst (λ (zs : List ℕ). (bytes ≡ spaced (map decimal zs) ++ rest)
           × RisesFrom least limit zs) p.0 (
@@ -152,27 +132,18 @@ pub portion_takes : (order : ℕ) (bytes xs rest : List ℕ) → 0 < order → o
     × RisesFrom 0 order xs
 unfolding portion_at
 portion_takes order bytes xs rest low small e =
-    let a =
-    bind_some (fixed_at (codes "portion") bytes) (λ named. rising_at order order 0 named
-    >>= λ xs. fixed_at (10 ∷ []) xs.1 >>= λ ended.
-    cond (eqb (length xs.0) 0) None (Some (xs.0, ended))) (xs, rest) e in
-    let b =
-    bind_some (rising_at order order 0 a.0) (λ xs. fixed_at (10 ∷ []) xs.1 >>= λ ended.
-    cond (eqb (length xs.0) 0) None (Some (xs.0, ended))) (xs, rest) a.2 in
-    let c =
-    bind_some (fixed_at (10 ∷ []) b.0.1)
-    (λ ended. cond (eqb (length b.0.0) 0) None (Some (b.0.0, ended))) (xs, rest) b.2 in
-    let t = test_none (eqb (length b.0.0) 0) (Some (b.0.0, c.0)) (xs, rest) c.2 in
-    let at_ = fixed_takes (codes "portion") bytes a.0 a.1 in
-    let bt = rising_takes order order 0 a.0 b.0.0 b.0.1 low small b.1 in
-    let ct = fixed_takes (10 ∷ []) b.0.1 c.0 c.1 in
-    let p = some_pair_parts b.0.0 xs c.0 rest t.1 in
-    let whole : bytes ≡ codes "portion" ++ (spaced (map decimal b.0.0) ++ 10 ∷ rest) =
-    at_ ∙ ap (λ (t : List ℕ). codes "portion" ++ t)
-    (bt.0 ∙ ap (λ (t : List ℕ). spaced (map decimal b.0.0) ++ t)
-    (ct ∙ ap (λ (t : List ℕ). 10 ∷ t) p.1)) in
+    let named = bind_some e in
+    let ys = bind_some named.2 in
+    let ended = bind_some ys.2 in
+    let t = test_none ended.2 in
+    let yt = rising_takes _ _ _ _ _ _ low small ys.1 in
+    let p = some_pair_parts _ _ _ _ t.1 in
+    let whole : bytes ≡ codes "portion" ++ (spaced (map decimal ys.0.0) ++ 10 ∷ rest) =
+    fixed_takes _ _ _ named.1 ∙ ap (λ (t : List ℕ). codes "portion" ++ t)
+    (yt.0 ∙ ap (λ (t : List ℕ). spaced (map decimal ys.0.0) ++ t)
+    (fixed_takes _ _ _ ended.1 ∙ ap (λ (t : List ℕ). 10 ∷ t) p.1)) in
     subst (λ (zs : List ℕ). (bytes ≡ codes "portion" ++ (spaced (map decimal zs) ++ 10 ∷ rest))
-    × (1 ≤ length zs) × RisesFrom 0 order zs) p.0 (whole, not_empty b.0.0 t.0, bt.1)
+    × (1 ≤ length zs) × RisesFrom 0 order zs) p.0 (whole, not_empty ys.0.0 t.0, yt.1)
 
 pub portion_again : (order : ℕ) (xs rest : List ℕ) → order ≤ 2 ^ 16 → 1 ≤ length xs
     → RisesFrom 0 order xs

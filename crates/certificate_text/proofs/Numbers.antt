@@ -2,29 +2,29 @@
 use Rattle.std.proofs.Common.{◌≡◌, ◌≢◌, ℕ, zero, suc, ◌+◌, ◌-◌, ◌*◌, ◌/◌, ◌%◌, ◌^◌, ◌<◌, ◌≤◌, Bool, true, false, cond, nat_lt, ◌==◌, ◌⊎◌, List, [], ◌∷◌, ◌++◌, Option, Some, None, refl, sym, ap, subst, ◌∙◌, append_assoc, arith, inl, inr}
 use Rattle.std.specs.Fmt.{decimal}
 use Rattle.std.proofs.lemmas.Fmt.{decimal_digit, decimal_step, decimal_by_steps}
-use Rattle.std.proofs.lemmas.Bool.{eqb-true, ltb-true, lt-ltb, eq-eqb}
+use Rattle.std.proofs.lemmas.Bool.{eqb-true, eqb-false, ltb-true, lt-ltb}
 use Rattle.std.proofs.lemmas.Option.{some_pair_parts}
 use Rattle.std.proofs.lemmas.Bool.Decides.{nat_tests}
 use Rattle.certificate_text.specs.Reading.{◌>>=◌, fixed_at, is_digit, more_at, number_at}
 
 -- the value of a step that did not fail
-pub bind_some : {A B : Type 0} (r : Option A) (f : A → Option B) (y : B) → (r >>= f) ≡ Some y
+pub bind_some : {A B : Type 0} {r : Option A} {f : A → Option B} {y : B} → (r >>= f) ≡ Some y
     → (x : A) × (r ≡ Some x) × (f x ≡ Some y)
-bind_some (Some x) f y e = (x, refl, e)
-bind_some None f y e = absurd cc
+bind_some {r = Some x} e = (x, refl, e)
+bind_some {r = None} e = absurd cc
 
-pub some_is : {A : Type 0} (x y : A) → Some x ≡ Some y → x ≡ y
-some_is x y e = cc
+pub some_is : {A : Type 0} {x y : A} → Some x ≡ Some y → x ≡ y
+some_is e = cc
 
-pub test_some : {A : Type 0} (b : Bool) (r : Option A) (y : A) → cond b r None ≡ Some y
+pub test_some : {A : Type 0} {b : Bool} {r : Option A} {y : A} → cond b r None ≡ Some y
     → (b ≡ true) × (r ≡ Some y)
-test_some true r y e = (refl, e)
-test_some false r y e = absurd cc
+test_some {b = true} e = (refl, e)
+test_some {b = false} e = absurd cc
 
-pub test_none : {A : Type 0} (b : Bool) (r : Option A) (y : A) → cond b None r ≡ Some y
+pub test_none : {A : Type 0} {b : Bool} {r : Option A} {y : A} → cond b None r ≡ Some y
     → (b ≡ false) × (r ≡ Some y)
-test_none true r y e = absurd cc
-test_none false r y e = (refl, e)
+test_none {b = true} e = absurd cc
+test_none {b = false} e = (refl, e)
 
 pub chosen : {A : Type 0} (b : Bool) (x y z : A) → cond b x y ≡ z → ((b ≡ true) × (x ≡ z))
     ⊎ ((b ≡ false) × (y ≡ z))
@@ -35,10 +35,10 @@ chosen false x y z e = inr (refl, e)
 
 pub fixed_takes : (w bytes rest : List ℕ) → fixed_at w bytes ≡ Some rest → bytes ≡ w ++ rest
 unfolding fixed_at
-fixed_takes [] bytes rest e = some_is bytes rest e
+fixed_takes [] bytes rest e = some_is e
 fixed_takes (w ∷ ws) [] rest e = absurd cc
 fixed_takes (w ∷ ws) (b ∷ bytes) rest e =
-    let t = test_some (w == b) (fixed_at ws bytes) rest e in
+    let t = test_some e in
     let same : w ≡ b = eqb-true w b t.0 in
     rw same (ap (λ (x : List ℕ). b ∷ x) (fixed_takes ws bytes rest t.1))
 
@@ -78,7 +78,7 @@ more_takes : (limit n : ℕ) (bytes : List ℕ) (m : ℕ) (rest : List ℕ) → 
     → limit ≤ 2 ^ 16 → more_at limit n bytes ≡ Some (m, rest) → Longer n m bytes rest × (m < limit)
 unfolding more_at
 more_takes limit n [] m rest pos lt small e =
-    let p = some_pair_parts n m [] rest e in (
+    let p = some_pair_parts _ _ _ _ e in (
       ([], p.1, ap decimal (sym p.0) ∙ sym (append-nil (decimal n))),
       subst (λ (k : ℕ). k < limit) p.0 lt,
     )
@@ -89,8 +89,7 @@ more_takes limit n (b ∷ bytes) m rest pos lt small e =
       | inl c ↦
           let d = digit_is b c.0 in
           let t =
-          test_some (nat_lt (10 * n + (b - 48)) limit) (more_at limit (10 * n + (b - 48)) bytes)
-          (m, rest) c.1 in
+          test_some c.1 in
           let below : 10 * n + (b - 48) < limit = ltb-true _ _ t.0 in
           let r = more_takes limit (10 * n + (b - 48)) bytes m rest (omega arith) below small t.1 in
           let step : decimal (10 * n + (b - 48)) ≡ decimal n ++ b ∷ [] =
@@ -105,7 +104,7 @@ more_takes limit n (b ∷ bytes) m rest pos lt small e =
             r.1,
           )
       | inr c ↦
-          let p = some_pair_parts n m (b ∷ bytes) rest c.1 in (
+          let p = some_pair_parts _ _ _ _ c.1 in (
             ([], p.1, ap decimal (sym p.0) ∙ sym (append-nil (decimal n))),
             subst (λ (k : ℕ). k < limit) p.0 lt,
           )
@@ -120,20 +119,18 @@ number_takes limit (b ∷ bytes) m rest low small e =
     (cond (is_digit b) (cond (nat_lt (b - 48) limit) (more_at limit (b - 48) bytes) None) None)
     (Some (m, rest)) e) [
       | inl c ↦
-          let p = some_pair_parts 0 m bytes rest c.1 in
+          let p = some_pair_parts _ _ _ _ c.1 in
           let zero : b ≡ 48 = eqb-true b 48 c.0 in
           let is : m ≡ 0 = sym p.0 in
           (rw (is, zero, p.1, decimal_digit 0 (omega arith)) refl, rw is low)
       | inr c ↦
           let digit =
-          test_some (is_digit b)
-          (cond (nat_lt (b - 48) limit) (more_at limit (b - 48) bytes) None) (m, rest) c.1 in
+          test_some c.1 in
           let d = digit_is b digit.0 in
-          let t = test_some (nat_lt (b - 48) limit) (more_at limit (b - 48) bytes) (m, rest) digit.1
+          let t = test_some digit.1
           in
           let below : b - 48 < limit = ltb-true _ _ t.0 in
-          let other : b ≢ 48 =
-          λ same. absurd (let clash : (b == 48) ≡ true = eq-eqb b 48 same in cc) in
+          let other : b ≢ 48 = eqb-false b 48 c.0 in
           let r = more_takes limit (b - 48) bytes m rest (omega arith) below small t.1 in
           let first : decimal (b - 48) ≡ b ∷ [] =
           decimal_digit (b - 48) (omega arith) ∙ ap (λ (x : ℕ). x ∷ []) d.2 in (

@@ -6,7 +6,7 @@ use Rattle.std.specs.List.{AllByRecursion, concat}
 use Rattle.std.proofs.lemmas.List.{take_at, drop_at}
 use Rattle.std.proofs.lemmas.Option.{some_pair_parts}
 use Rattle.certificate_text.specs.Spelling.{spaced}
-use Rattle.certificate_text.specs.Reading.{with_front, number_at, line_at, rows_at, rows_of}
+use Rattle.certificate_text.specs.Reading.{rows_at, rows_of}
 use Rattle.certificate_text.proofs.Numbers.{bind_some}
 use Rattle.certificate_text.proofs.Words.{numbers_reader, line_takes, line_again}
 
@@ -26,16 +26,13 @@ pub rows_take : (order n : ℕ) (bytes xs rest : List ℕ) → 0 < order → ord
     × AllByRecursion (RowFits order) (rows_of order n xs)
 unfolding rows_at
 rows_take order zero bytes xs rest low small e =
-    let p = some_pair_parts [] xs bytes rest e in (p.1, refl, tt)
+    let p = some_pair_parts _ _ _ _ e in (p.1, refl, tt)
 rows_take order (suc n) bytes xs rest low small e =
-    let a =
-    bind_some (line_at (codes "row") (number_at order) order bytes)
-    (λ row. with_front row.0 (rows_at order n row.1)) (xs, rest) e in
-    let b = bind_some (rows_at order n a.0.1) (λ y. Some (a.0.0 ++ y.0, y.1)) (xs, rest) a.2 in
-    let at_ = line_takes decimal (λ x. x < order) (number_at order) (numbers_reader order low small)
-    (codes "row") order bytes a.0.0 a.0.1 a.1 in
-    let bt = rows_take order n a.0.1 b.0.0 b.0.1 low small b.1 in
-    let p = some_pair_parts (a.0.0 ++ b.0.0) xs b.0.1 rest b.2 in
+    let a = bind_some e in
+    let b = bind_some a.2 in
+    let at_ = line_takes (numbers_reader order low small) _ _ _ _ _ a.1 in
+    let bt = rows_take order n _ _ _ low small b.1 in
+    let p = some_pair_parts _ _ _ _ b.2 in
     let front : take order (a.0.0 ++ b.0.0) ≡ a.0.0 = take_at a.0.0 b.0.0 order at_.1 in
     let back : drop order (a.0.0 ++ b.0.0) ≡ b.0.0 = drop_at a.0.0 b.0.0 order at_.1 in
     let split : rows_of order (suc n) (a.0.0 ++ b.0.0) ≡ a.0.0 ∷ rows_of order n b.0.0 =
@@ -56,7 +53,7 @@ unfolding rows_at
 rows_again order [] rest low small fits = refl
 rows_again order (row ∷ rows) rest low small fits =
     rw (
-      line_again decimal (λ x. x < order) (number_at order) (numbers_reader order low small)
+      line_again (numbers_reader order low small)
           (codes "row") order row (rows_text rows rest) fits.0.0 fits.0.1,
       rows_again order rows rest low small fits.1,
     ) refl
@@ -77,18 +74,15 @@ pub rows_are_all : (order n : ℕ) (bytes xs rest : List ℕ) → 0 < order → 
     × (concat (rows_of order n xs) ≡ xs)
 unfolding rows_at
 rows_are_all order zero bytes xs rest low small e =
-    let p = some_pair_parts [] xs bytes rest e in
+    let p = some_pair_parts _ _ _ _ e in
     let none : length xs ≡ 0 * order = ap length (sym p.0) ∙ omega arith in
     (none, p.0)
 rows_are_all order (suc n) bytes xs rest low small e =
-    let a =
-    bind_some (line_at (codes "row") (number_at order) order bytes)
-    (λ row. with_front row.0 (rows_at order n row.1)) (xs, rest) e in
-    let b = bind_some (rows_at order n a.0.1) (λ y. Some (a.0.0 ++ y.0, y.1)) (xs, rest) a.2 in
-    let at_ = line_takes decimal (λ x. x < order) (number_at order) (numbers_reader order low small)
-    (codes "row") order bytes a.0.0 a.0.1 a.1 in
-    let bt = rows_are_all order n a.0.1 b.0.0 b.0.1 low small b.1 in
-    let p = some_pair_parts (a.0.0 ++ b.0.0) xs b.0.1 rest b.2 in
+    let a = bind_some e in
+    let b = bind_some a.2 in
+    let at_ = line_takes (numbers_reader order low small) _ _ _ _ _ a.1 in
+    let bt = rows_are_all order n _ _ _ low small b.1 in
+    let p = some_pair_parts _ _ _ _ b.2 in
     let front : take order (a.0.0 ++ b.0.0) ≡ a.0.0 = take_at a.0.0 b.0.0 order at_.1 in
     let back : drop order (a.0.0 ++ b.0.0) ≡ b.0.0 = drop_at a.0.0 b.0.0 order at_.1 in
     let split : concat (rows_of order (suc n) (a.0.0 ++ b.0.0)) ≡ a.0.0 ++ b.0.0 =

@@ -151,6 +151,9 @@ code_only w x fits h = h.spelled
 code_is : (x : List ℕ) → IsCode x → IsCodeText (code_text x) x
 code_is x fits = record { code = fits; spelled = refl }
 
+joined : {l m : Line} {ls ms : List Line} → l ≡ m → ls ≡ ms → l ∷ ls ≡ m ∷ ms
+joined e rest = ap₂ (λ (l : Line) (ls : List Line). l ∷ ls) e rest
+
 pub from_lines : (b : List ℕ) (c : Certificate) → SpellsByLines b c → Spells b c
 from_lines b c s =
     let small = are_small c s.in_ranges in
@@ -172,20 +175,9 @@ from_lines b c s =
     in
     record {
       in_ranges = s.in_ranges;
-      bytes = s.bytes ∙ ap text (
-          ap (λ (l : Line). l ∷ s.code ∷ s.order ∷ s.start ∷ s.period ∷ s.phi ∷ s.portion ∷ s.words
-          ∷ (s.rows ++ s.apart ∷ s.end ∷ [])) e1
-          ∙ ap (λ (ls : List Line). record { name = codes "mqc"; words = decimal (format_of c) ∷ [] }
-          ∷ ls) (
-          ap₂ (λ (l : Line) (ls : List Line). l ∷ ls) e2
-          (ap₂ (λ (l : Line) (ls : List Line). l ∷ ls) e3
-          (ap₂ (λ (l : Line) (ls : List Line). l ∷ ls) e4
-          (ap₂ (λ (l : Line) (ls : List Line). l ∷ ls) e5
-          (ap₂ (λ (l : Line) (ls : List Line). l ∷ ls) e6
-          (ap₂ (λ (l : Line) (ls : List Line). l ∷ ls) e7
-          (ap₂ (λ (l : Line) (ls : List Line). l ∷ ls) e8
-          (ap₂ (λ (rs : List Line) (ls : List Line). rs ++ ls) e9
-          (ap₂ (λ (l : Line) (m : Line). l ∷ m ∷ []) e10 e11))))))))));
+      bytes = s.bytes ∙ ap text
+          (joined e1 (joined e2 (joined e3 (joined e4 (joined e5 (joined e6 (joined e7 (joined e8
+          (ap₂ (λ (rs : List Line) (ls : List Line). rs ++ ls) e9 (joined e10 (joined e11 refl)))))))))));
     }
 
 pub to_lines : (b : List ℕ) (c : Certificate) → Spells b c → SpellsByLines b c

@@ -1,11 +1,11 @@
 -- Words, lines and rising numbers: what is read stood there, and what stands there is read.
-use Rattle.std.proofs.Common.{◌≡◌, ℕ, zero, suc, ◌^◌, ◌<◌, ◌≤◌, true, false, cond, nat_lt, List, [], ◌∷◌, ◌++◌, map, length, Option, Some, None, refl, sym, ap, subst, ◌∙◌, append_assoc, arith}
+use Rattle.std.proofs.Common.{◌≡◌, ℕ, zero, suc, ◌^◌, ◌<◌, ◌≤◌, true, false, nat_lt, List, [], ◌∷◌, ◌++◌, map, length, Option, Some, refl, sym, ap, subst, ◌∙◌, append_assoc, arith}
 use Rattle.std.specs.Fmt.{decimal}
 use Rattle.std.specs.List.{AllByRecursion}
 use Rattle.std.proofs.lemmas.Bool.{ltb-true, lt-ltb}
 use Rattle.std.proofs.lemmas.Option.{some_pair_parts}
 use Rattle.certificate_text.specs.Spelling.{spaced, key_word}
-use Rattle.certificate_text.specs.Reading.{◌>>=◌, fixed_at, is_digit, number_at, key_at, words_at, line_at}
+use Rattle.certificate_text.specs.Reading.{is_digit, number_at, key_at, words_at, line_at}
 use Rattle.certificate_text.proofs.Numbers.{bind_some, some_is, test_some, fixed_takes, fixed_again, number_takes, number_again}
 
 -- A reader of words reads just the words that spell gives, of values that fit.
@@ -19,7 +19,7 @@ pub record IsReader (X : Type 0) (spell : X → List ℕ) (Fits : X → Type 0) 
 pub numbers_reader : (limit : ℕ) → 0 < limit → limit ≤ 2 ^ 16
     → IsReader ℕ decimal (λ x. x < limit) (number_at limit)
 numbers_reader limit low small = record {
-  takes = λ bytes x rest e. number_takes limit bytes x rest low small e;
+  takes = λ bytes x rest e. number_takes _ _ _ _ low small e;
   again = λ x s rest fits e. number_again limit x s rest fits small e;
 }
 
@@ -33,27 +33,19 @@ key_takes : (order heaps : ℕ) → 0 < order → order ≤ 2 ^ 16 → 0 < heaps
     → (bytes ≡ key_word k ++ rest) × KeyFits order heaps k
 unfolding key_at
 key_takes order heaps lo so lh sh bytes k rest e =
-    let f =
-    bind_some (number_at order bytes) (λ f. fixed_at (58 ∷ []) f.1 >>= λ colon.
-    number_at heaps colon >>= λ h. cond (nat_lt 0 h.0) (Some ((f.0, h.0), h.1)) None)
-    (k, rest) e in
-    let c =
-    bind_some (fixed_at (58 ∷ []) f.0.1) (λ colon. number_at heaps colon >>= λ h.
-    cond (nat_lt 0 h.0) (Some ((f.0.0, h.0), h.1)) None) (k, rest) f.2 in
-    let h =
-    bind_some (number_at heaps c.0) (λ h. cond (nat_lt 0 h.0) (Some ((f.0.0, h.0), h.1)) None)
-    (k, rest) c.2 in
-    let t = test_some (nat_lt 0 h.0.0) (Some ((f.0.0, h.0.0), h.0.1)) (k, rest) h.2 in
-    let ft = number_takes order bytes f.0.0 f.0.1 lo so f.1 in
-    let ct = fixed_takes (58 ∷ []) f.0.1 c.0 c.1 in
-    let ht = number_takes heaps c.0 h.0.0 h.0.1 lh sh h.1 in
+    let f = bind_some e in
+    let c = bind_some f.2 in
+    let h = bind_some c.2 in
+    let t = test_some h.2 in
+    let ft = number_takes _ _ _ _ lo so f.1 in
+    let ht = number_takes _ _ _ _ lh sh h.1 in
     let pos : 0 < h.0.0 = ltb-true _ _ t.0 in
     let whole : bytes ≡ key_word (f.0.0, h.0.0) ++ h.0.1 =
-    ft.0 ∙ ap (λ (x : List ℕ). decimal f.0.0 ++ x) (ct ∙ ap (λ (x : List ℕ). 58 ∷ x) ht.0)
+    ft.0 ∙ ap (λ (x : List ℕ). decimal f.0.0 ++ x)
+    (fixed_takes _ _ _ c.1 ∙ ap (λ (x : List ℕ). 58 ∷ x) ht.0)
     ∙ sym (append_assoc (decimal f.0.0) (58 ∷ decimal h.0.0) h.0.1) in
-    let made : (ℕ × ℕ) × List ℕ = ((f.0.0, h.0.0), h.0.1) in
     subst (λ (y : (ℕ × ℕ) × List ℕ). (bytes ≡ key_word y.0 ++ y.1) × KeyFits order heaps y.0)
-    (some_is made (k, rest) t.1) (whole, (ft.1, omega arith, ht.1))
+    (some_is t.1) (whole, (ft.1, omega arith, ht.1))
 
 key_again : (order heaps : ℕ) → order ≤ 2 ^ 16 → heaps ≤ 2 ^ 16
     → (k : ℕ × ℕ) (s : ℕ) (rest : List ℕ) → KeyFits order heaps k → is_digit s ≡ false
@@ -80,30 +72,27 @@ keys_reader order heaps lo so lh sh = record {
 
 -- ---- several words, and a line of them
 
-module _ {X : Type 0} (spell : X → List ℕ) (Fits : X → Type 0) (word : List ℕ → Option (X × List ℕ))
+module _ {X : Type 0} {spell : X → List ℕ} {Fits : X → Type 0} {word : List ℕ → Option (X × List ℕ)}
     (r : IsReader X spell Fits word) where
-  pub words_take : (n : ℕ) (bytes : List ℕ) (xs : List X) (rest : List ℕ)
+  words_take : (n : ℕ) (bytes : List ℕ) (xs : List X) (rest : List ℕ)
       → words_at word n bytes ≡ Some (xs, rest) → (bytes ≡ spaced (map spell xs) ++ rest)
       × (length xs ≡ n) × AllByRecursion Fits xs
   unfolding words_at
   words_take zero bytes xs rest e =
-      let p = some_pair_parts [] xs bytes rest e in
+      let p = some_pair_parts _ _ _ _ e in
       subst (λ (ys : List X). (bytes ≡ spaced (map spell ys) ++ rest) × (length ys ≡ 0)
       × AllByRecursion Fits ys) p.0 (p.1, refl, tt)
   words_take (suc n) bytes xs rest e =
-      let s =
-      bind_some (fixed_at (32 ∷ []) bytes) (λ space. word space >>= λ x. words_at word n x.1
-      >>= λ ys. Some (x.0 ∷ ys.0, ys.1)) (xs, rest) e in
-      let x = bind_some (word s.0) (λ x. words_at word n x.1 >>= λ ys. Some (x.0 ∷ ys.0, ys.1))
-      (xs, rest) s.2 in
-      let ys = bind_some (words_at word n x.0.1) (λ ys. Some (x.0.0 ∷ ys.0, ys.1)) (xs, rest) x.2 in
-      let st = fixed_takes (32 ∷ []) bytes s.0 s.1 in
-      let xt = r.takes s.0 x.0.0 x.0.1 x.1 in
-      let yt = words_take n x.0.1 ys.0.0 ys.0.1 ys.1 in
+      let space = bind_some e in
+      let x = bind_some space.2 in
+      let ys = bind_some x.2 in
+      let xt = r.takes _ _ _ x.1 in
+      let yt = words_take n _ _ _ ys.1 in
+      let p = some_pair_parts _ _ _ _ ys.2 in
       let whole : bytes ≡ spaced (map spell (x.0.0 ∷ ys.0.0)) ++ ys.0.1 =
-      st ∙ ap (λ (t : List ℕ). 32 ∷ t) (xt.0 ∙ ap (λ (t : List ℕ). spell x.0.0 ++ t) yt.0
+      fixed_takes _ _ _ space.1 ∙ ap (λ (t : List ℕ). 32 ∷ t)
+      (xt.0 ∙ ap (λ (t : List ℕ). spell x.0.0 ++ t) yt.0
       ∙ sym (append_assoc (spell x.0.0) (spaced (map spell ys.0.0)) ys.0.1)) in
-      let p = some_pair_parts (x.0.0 ∷ ys.0.0) xs ys.0.1 rest ys.2 in
       subst (λ (zs : List X). (bytes ≡ spaced (map spell zs) ++ rest) × (length zs ≡ suc n)
       × AllByRecursion Fits zs) p.0 (
         whole ∙ ap (λ (t : List ℕ). spaced (map spell (x.0.0 ∷ ys.0.0)) ++ t) p.1,
@@ -118,7 +107,7 @@ module _ {X : Type 0} (spell : X → List ℕ) (Fits : X → Type 0) (word : Lis
   next_again x (y ∷ ys) rest fits =
       r.again x 32 ((spell y ++ spaced (map spell ys)) ++ 10 ∷ rest) fits refl
 
-  pub words_again : (xs : List X) (rest : List ℕ) → AllByRecursion Fits xs
+  words_again : (xs : List X) (rest : List ℕ) → AllByRecursion Fits xs
       → words_at word (length xs) (spaced (map spell xs) ++ 10 ∷ rest) ≡ Some (xs, 10 ∷ rest)
   unfolding words_at
   words_again [] rest fits = refl
@@ -141,22 +130,15 @@ module _ {X : Type 0} (spell : X → List ℕ) (Fits : X → Type 0) (word : Lis
       × AllByRecursion Fits xs
   unfolding line_at
   line_takes name n bytes xs rest e =
-      let m =
-      bind_some (fixed_at name bytes) (λ named. words_at word n named >>= λ xs.
-      fixed_at (10 ∷ []) xs.1 >>= λ ended. Some (xs.0, ended)) (xs, rest) e in
-      let ys =
-      bind_some (words_at word n m.0) (λ xs. fixed_at (10 ∷ []) xs.1 >>= λ ended.
-      Some (xs.0, ended)) (xs, rest) m.2 in
-      let d = bind_some (fixed_at (10 ∷ []) ys.0.1) (λ ended. Some (ys.0.0, ended)) (xs, rest) ys.2
-      in
-      let mt = fixed_takes name bytes m.0 m.1 in
-      let yt = words_take n m.0 ys.0.0 ys.0.1 ys.1 in
-      let dt = fixed_takes (10 ∷ []) ys.0.1 d.0 d.1 in
-      let p = some_pair_parts ys.0.0 xs d.0 rest d.2 in
+      let named = bind_some e in
+      let ys = bind_some named.2 in
+      let ended = bind_some ys.2 in
+      let yt = words_take _ _ _ _ ys.1 in
+      let p = some_pair_parts _ _ _ _ ended.2 in
       let whole : bytes ≡ name ++ (spaced (map spell ys.0.0) ++ 10 ∷ rest) =
-      mt ∙ ap (λ (t : List ℕ). name ++ t)
+      fixed_takes _ _ _ named.1 ∙ ap (λ (t : List ℕ). name ++ t)
       (yt.0 ∙ ap (λ (t : List ℕ). spaced (map spell ys.0.0) ++ t)
-      (dt ∙ ap (λ (t : List ℕ). 10 ∷ t) p.1)) in
+      (fixed_takes _ _ _ ended.1 ∙ ap (λ (t : List ℕ). 10 ∷ t) p.1)) in
       subst (λ (zs : List X). (bytes ≡ name ++ (spaced (map spell zs) ++ 10 ∷ rest))
       × (length zs ≡ n) × AllByRecursion Fits zs) p.0 (whole, yt.1, yt.2)
 
