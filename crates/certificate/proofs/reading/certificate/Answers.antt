@@ -18,8 +18,8 @@ new-phi-requires g c =
       length_is = r.phi.0;
     }
 
-pub from_parts-requires : goal.from_parts-requires
-from_parts-requires g c =
+pub from_fields-requires : goal.from_fields-requires
+from_fields-requires g c =
     let r = c.reading_is_spelling.ensures.ranges c.args.reader.now _ c.fixed.new.self
     (lines_are_read c.args.reader.now _ _ _ _ _ _ _ _ _ _ _ _ _ _ _ _ c.in_ok-code.ensures.read
     c.in_ok-entries.ensures c.in_ok-portion.ensures c.in_ok-words.ensures c.in_ok-rows.ensures
