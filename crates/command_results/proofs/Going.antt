@@ -3,7 +3,6 @@ use Rattle.std.proofs.Common.{◌≡◌, ℕ, List, [], ◌∷◌, ◌++◌, Opt
 use Rattle.std.specs.Io.KnownBytes.{Appends}
 use Rattle.streams.specs.Stream.{AppendsSome, Counts, Puts}
 use Rattle.streams.proofs.StreamLaws as laws
-use Rattle.command_results.specs.Printers.{PrintsLine, printer}
 
 -- three pieces, of which each is given in another form
 module _ (a b c d : Option (List ℕ)) (x y z u v w : List ℕ) (ux : u ≡ x) (vy : v ≡ y) where
@@ -18,17 +17,3 @@ module _ (a b c d : Option (List ℕ)) (x y z u v w : List ℕ) (ux : u ≡ x) (
   some_of_three p q =
       laws.some_of_three a b c d x y z (subst (λ (t : List ℕ). Appends a b t) ux p)
       (subst (λ (t : List ℕ). AppendsSome b c t) vy q)
-
-take_all : (xs : List ℕ) → take (length xs) xs ≡ xs
-take_all [] = refl
-take_all (y ∷ ys) = ap (λ (t : List ℕ). y ∷ t) (take_all ys)
-
--- all of it is a beginning
-pub all_is_some : (a b : Option (List ℕ)) (x : List ℕ) → Appends a b x → AppendsSome a b x
-all_is_some a b x p =
-    (length x, omega arith, subst (λ (t : List ℕ). Appends a b t) (sym (take_all x)) p)
-
-pub tells : {T E : Type 0} (a b : Option (List ℕ)) (m n : ℕ) (r : Result T E) (x : List ℕ)
-    → Puts a b r x → Counts m n r → PrintsLine (printer a m) (printer b n) x
-tells a b m n (Ok t) x p q = (all_is_some a b x p, λ _. p)
-tells a b m n (Err e) x p q = (p, λ same. absurd (omega (arith, q, same)))

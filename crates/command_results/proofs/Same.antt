@@ -1,6 +1,7 @@
 -- What was printed, in another form.
 use Rattle.std.proofs.Common.{◌≡◌, subst, ℕ, List}
-use Rattle.command_results.specs.Printers.{Printed, Printer}
+use Rattle.streams.specs.Printers.{Printer}
+use Rattle.command_results.specs.Printed.{Printed}
 
 -- the same text, and the same status where it is printed whole
 pub printed_same : (out out' err err' : Printer) (t u : List ℕ) (m n s : ℕ) → t ≡ u → m ≡ n

@@ -1,2 +1,2 @@
-pub mod Printers
+pub mod Printed
 pub mod Stops

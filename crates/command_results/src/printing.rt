@@ -1,6 +1,7 @@
 //! Text on standard output.
 ghost use Rattle.std.specs.Prelude.{◌≡◌, ◌≤◌};
-ghost use Rattle.command_results.specs.Printers.{Printed, printer};
+ghost use Rattle.streams.specs.Printers.{printer};
+ghost use Rattle.command_results.specs.Printed.{Printed};
 
 use crate::stop::Stop;
 use streams::{Sink, write_whole};

@@ -1,7 +1,8 @@
 //! What a command says.
 ghost use Rattle.std.specs.Prelude.{◌≡◌, ◌≤◌, true, false};
 ghost use Rattle.std.specs.String.{string_bytes};
-ghost use Rattle.command_results.specs.Printers.{Printed, printer, status_if};
+ghost use Rattle.streams.specs.Printers.{printer};
+ghost use Rattle.command_results.specs.Printed.{Printed, status_if};
 
 use crate::printing::print;
 use streams::Sink;

@@ -1,7 +1,7 @@
 //! The words that a program is given, and its end where there are none.
 ghost use Rattle.std.specs.Prelude.{◌≡◌, ◌≢◌};
 ghost use Rattle.std.specs.Process.{exit_status};
-ghost use Rattle.command_results.specs.Printers.{PrintsLine, printer};
+ghost use Rattle.streams.specs.Printers.{PrintsLine, printer};
 ghost use Rattle.command_results.specs.Stops.{stop_line, stop_status};
 
 use crate::stop::Stop;

@@ -1,7 +1,7 @@
 //! What ends a run before anything is printed.
 ghost use Rattle.std.specs.Prelude.{◌≡◌, ◌≤◌, ◌++◌};
 ghost use Rattle.command_results.specs.Stops.{stop_line, stop_status};
-ghost use Rattle.command_results.specs.Printers.{PrintsLine, printer};
+ghost use Rattle.streams.specs.Printers.{PrintsLine, printer};
 ghost use Rattle.command_results.specs.declared.stop.Stop.TheVariants.{«Memory» as OutOfMemory};
 
 use crate::telling::tell;

@@ -1,7 +1,7 @@
 //! Lines on standard error. They take no memory.
 ghost use Rattle.std.specs.Prelude.{◌++◌};
 ghost use Rattle.streams.specs.Stream.{Counts, Puts};
-ghost use Rattle.command_results.specs.Printers.{PrintsLine, printer};
+ghost use Rattle.streams.specs.Printers.{PrintsLine, printer};
 
 use streams::{DeviceFault, Sink, write_whole};
 

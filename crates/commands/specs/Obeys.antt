@@ -1,7 +1,8 @@
 -- What a run did for a request, seen at its devices. This project's own.
 use Rattle.std.specs.Prelude.{◌≡◌, ℕ, Bool, List, Option}
 use Rattle.catalogue_command.specs.Tasks.{Leaves}
-use Rattle.command_results.specs.Printers.{Printed, Printer, PrintsLine, status_if}
+use Rattle.streams.specs.Printers.{Printer, PrintsLine}
+use Rattle.command_results.specs.Printed.{Printed, status_if}
 use Rattle.command_results.specs.Stops.{stop_line, stop_status}
 use Rattle.command_results.specs.declared.stop.Stop.{Stop}
 use Rattle.commands.specs.Causes.{Failed, IsCause}

@@ -1,6 +1,6 @@
 //! Plans run to their status.
 ghost use Rattle.std.specs.Prelude.{◌≡◌, ◌≤◌, Some, false};
-ghost use Rattle.command_results.specs.Printers.{printer};
+ghost use Rattle.streams.specs.Printers.{printer};
 ghost use Rattle.commands.specs.Causes.{failed, reads_input, runs_script, takes_files};
 ghost use Rattle.commands.specs.Obeys.{Obeys, scene};
 ghost use Rattle.requests.specs.Requests.{request_of};

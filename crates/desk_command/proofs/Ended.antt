@@ -1,7 +1,7 @@
 -- How the run of a script ends, from how its steps do.
 use Rattle.std.proofs.Common.{◌≡◌, ℕ, List, Option, refl, subst}
 use Rattle.folders.specs.Files.{Holds}
-use Rattle.command_results.specs.Printers.{Printer, PrintsLine}
+use Rattle.streams.specs.Printers.{Printer, PrintsLine}
 use Rattle.desk_command.specs.Ends.{EndsScript}
 use Rattle.desk_command.specs.Ends.EndsScript.{Whole, Broken}
 use Rattle.desk_command.specs.Scripts.{Runs}

@@ -8,7 +8,7 @@ use Rattle.desk_script.specs.Steps.{Step}
 use Rattle.desk_script.specs.Steps.Step.{Open, Work, Drop, Ask, Play}
 use Rattle.desk_command.specs.Scripts.{HaveClients, Takes}
 use Rattle.desk_command.specs.Stops.{Breaks, IsOpenOf, IsStepCause}
-use Rattle.command_results.specs.Printers.{Printer}
+use Rattle.streams.specs.Printers.{Printer}
 use Rattle.desk_command.specs.declared.stop.DeskStop.{DeskStop}
 use Rattle.desk_command.specs.declared.stop.DeskStop.TheVariants.{NotAStep, Read, Write, Memory}
 use Rattle.streams.proofs.StreamLaws.{appends_nothing, appends_then, some_then}

@@ -1,7 +1,7 @@
 -- How the run of a script ends: what was printed and told, and the status. This project's own.
 use Rattle.std.specs.Prelude.{◌≡◌, ℕ, List, Option}
 use Rattle.folders.specs.Files.{Holds}
-use Rattle.command_results.specs.Printers.{Printer, PrintsLine}
+use Rattle.streams.specs.Printers.{Printer, PrintsLine}
 use Rattle.command_results.specs.Stops.{IsFileCause, stop_line}
 use Rattle.command_results.specs.declared.stop.Stop.{Stop}
 use Rattle.desk_command.specs.Scripts.{Runs}

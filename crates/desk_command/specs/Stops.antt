@@ -2,7 +2,7 @@
 use Rattle.std.specs.Prelude.{◌≡◌, ◌<◌, ◌⊎◌, ℕ, List, ◌∷◌, ◌++◌, Option, codes, decimal}
 use Rattle.std.specs.Io.KnownBytes.{Appends}
 use Rattle.streams.specs.Stream.{AppendsSome}
-use Rattle.command_results.specs.Printers.{Printer}
+use Rattle.streams.specs.Printers.{Printer}
 use Rattle.command_results.specs.Stops.{stop_line}
 use Rattle.command_results.specs.declared.stop.Stop.TheVariants as stop
 use Rattle.desk_script.specs.Scripts.{AreSteps, IsFirstOther}

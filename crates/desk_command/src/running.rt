@@ -1,7 +1,7 @@
 //! A whole script.
 ghost use Rattle.std.specs.Prelude.{◌≡◌, ℕ, List, [], None, IfErr, IfOk};
 ghost use Rattle.std.specs.Io.KnownBytes.{Appends};
-ghost use Rattle.command_results.specs.Printers.{printer};
+ghost use Rattle.streams.specs.Printers.{printer};
 ghost use Rattle.desk.specs.Desks.{state_of};
 ghost use Rattle.desk_script.specs.Views.{steps_of};
 ghost use Rattle.desk_command.specs.Scripts.{HasRunTo, HaveClients, Runs};

@@ -1,6 +1,6 @@
 //! Why a script ends before its end, and the reading of files.
 ghost use Rattle.std.specs.Prelude.{◌≡◌, ◌≤◌, ◌++◌, IfErr, IfOk, codes, decimal};
-ghost use Rattle.command_results.specs.Printers.{PrintsLine, printer};
+ghost use Rattle.streams.specs.Printers.{PrintsLine, printer};
 ghost use Rattle.folders.specs.Files.{Holds};
 ghost use Rattle.desk_command.specs.Stops.{IsReadCause, desk_stop_line, desk_stop_status, stop_of};
 ghost use Rattle.desk_command.specs.declared.stop.DeskStop.TheVariants.{«Memory» as OutOfMemory, Write as NotWritten};

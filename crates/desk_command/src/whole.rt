@@ -1,6 +1,6 @@
 //! The script of a file.
 ghost use Rattle.std.specs.Prelude.{◌≡◌, ◌≤◌};
-ghost use Rattle.command_results.specs.Printers.{printer};
+ghost use Rattle.streams.specs.Printers.{printer};
 ghost use Rattle.desk_command.specs.Ends.{EndsScript};
 
 use crate::running::run_script;

@@ -1,25 +1,20 @@
 -- Why there is no verdict, and that it is told.
 use Rattle.std.proofs.Common.{◌≡◌, ◌<◌, ◌⊎◌, ℕ, Bool, List, Option, Result, Ok, Err, inl, inr, refl}
 use Rattle.std.specs.Prelude.{IsErrOf}
-use Rattle.streams.specs.Stream.{Counts, Puts}
+use Rattle.streams.specs.Printers.{Printer, PrintsLine}
 use Rattle.streams.specs.declared.fault.StreamFault.{StreamFault}
 use Rattle.streams.specs.declared.fault.StreamFault.TheVariants.{Read, Write, Memory}
 use Rattle.checker.specs.Turns.{verdict}
 use Rattle.verdict_texts.specs.Streams.{CountsReads, WritesSomeOfStream}
 use Rattle.requests.specs.Requests.{default_limit}
-use Rattle.misere_check.specs.Ends.{Device, Ends, PrintsLine, cause, device}
+use Rattle.misere_check.specs.Ends.{Ends, cause}
 use Rattle.misere_check.specs.Ends.Ends.{Unread, Unwritten, NoMemory}
-
-pub tells : {T E : Type 0} (a b : Option (List ℕ)) (m n : ℕ) (r : Result T E) (line : List ℕ)
-    → Puts a b r line → Counts m n r → PrintsLine (device a m) (device b n) line
-tells a b m n (Ok t) line p q = inl (q, p)
-tells a b m n (Err e) line p q = inr (q, p)
 
 -- the call of the check ended with the fault
 abbrev pub EndsWith : StreamFault → StreamFault → Type 0
 EndsWith fault which = IsErrOf {T = Bool} (Err fault) which
 
-module _ (left : Option (List ℕ)) (reads reads' : ℕ) (out out' err err' : Device) where
+module _ (left : Option (List ℕ)) (reads reads' : ℕ) (out out' err err' : Printer) where
   pub stopped : (fault : StreamFault)
       → (EndsWith fault Write → WritesSomeOfStream verdict left default_limit out.taken out'.taken)
       → (EndsWith fault Write → out.failures < out'.failures)

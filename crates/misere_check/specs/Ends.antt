@@ -1,22 +1,12 @@
 -- How the check of standard input ends: what was printed and told, and the status. This project's
 -- own.
-use Rattle.std.specs.Prelude.{◌≡◌, ◌<◌, ◌⊎◌, ℕ, Bool, List, Option, codes, if◌then◌else◌}
-use Rattle.std.specs.Io.KnownBytes.{Appends}
-use Rattle.streams.specs.Stream.{AppendsSome}
+use Rattle.std.specs.Prelude.{◌≡◌, ◌<◌, ℕ, Bool, List, Option, codes, if◌then◌else◌}
+use Rattle.streams.specs.Printers.{Printer, PrintsLine}
 use Rattle.streams.specs.declared.fault.StreamFault.{StreamFault}
 use Rattle.streams.specs.declared.fault.StreamFault.TheVariants.{Read, Write, Memory}
 use Rattle.checker.specs.Turns.{verdict}
 use Rattle.verdict_texts.specs.Streams.{WritesOfStream, WritesSomeOfStream}
 use Rattle.requests.specs.Requests.{default_limit}
-
--- Standard output or standard error: the bytes that it took, where they are known, and how often it
--- failed.
-pub record Device : Type 0 where
-  pub taken : Option (List ℕ)
-  pub failures : ℕ
-
-abbrev pub device : Option (List ℕ) → ℕ → Device
-device taken failures = record { taken = taken; failures = failures }
 
 -- the line that tells why there is no verdict
 abbrev pub cause : StreamFault → List ℕ
@@ -24,15 +14,9 @@ cause Read = codes "misere: cannot read standard input\n"
 cause Write = codes "misere: cannot write\n"
 cause Memory = codes "misere: out of memory\n"
 
--- the line went out; or the device failed, and a beginning of the line did
-abbrev pub PrintsLine : Device → Device → List ℕ → Type 0
-PrintsLine before after line =
-    ((after.failures ≡ before.failures) × Appends before.taken after.taken line)
-    ⊎ ((before.failures < after.failures) × AppendsSome before.taken after.taken line)
-
 -- No read failed, the verdict on all bytes that the input had left was printed, and the status is 0
 -- for yes and 1 for no; or a device failed or memory was wanting, which is told, with status 3.
-pub data Ends (left : Option (List ℕ)) (reads reads' : ℕ) (out out' err err' : Device)
+pub data Ends (left : Option (List ℕ)) (reads reads' : ℕ) (out out' err err' : Printer)
     (status : ℕ) : Type 0 where
   Checked : (accepted : Bool) → reads' ≡ reads
       → WritesOfStream verdict left default_limit out.taken out'.taken accepted → err' ≡ err

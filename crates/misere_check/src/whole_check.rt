@@ -1,6 +1,7 @@
 //! The check of standard input, from its bytes to the status.
 ghost use Rattle.std.specs.Prelude.{◌≡◌};
-ghost use Rattle.misere_check.specs.Ends.{Ends, cause, device};
+ghost use Rattle.misere_check.specs.Ends.{Ends, cause};
+ghost use Rattle.streams.specs.Printers.{printer};
 
 use checker::Checker;
 use requests::DEFAULT_LIMIT;
@@ -30,10 +31,10 @@ pub fn run<R: Source, W: Sink, E: Sink>(
     err: &mut E,
 ) -> u8
     ensures { Ends (R.left input.old) (R.failures input.old) (R.failures input.new)
-        (device (W.taken out.old) (W.failures out.old))
-        (device (W.taken out.new) (W.failures out.new))
-        (device (E.taken err.old) (E.failures err.old))
-        (device (E.taken err.new) (E.failures err.new)) result }
+        (printer (W.taken out.old) (W.failures out.old))
+        (printer (W.taken out.new) (W.failures out.new))
+        (printer (E.taken err.old) (E.failures err.old))
+        (printer (E.taken err.new) (E.failures err.new)) result }
 {
     match check_stream(&Checker, alloc, input, out, DEFAULT_LIMIT) {
         Ok(true) => 0,

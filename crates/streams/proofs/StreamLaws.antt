@@ -1,8 +1,9 @@
 -- Bytes that go out one behind the other, whole or a beginning of them.
-use Rattle.std.proofs.Common.{◌≡◌, ◌≤◌, ◌∙◌, ℕ, suc, ◌+◌, List, [], ◌∷◌, ◌++◌, Option, Some, None, Result, Ok, Err, append_assoc, append-nil, ap, arith, length, subst, sym, take}
+use Rattle.std.proofs.Common.{◌≡◌, inl, inr, ◌≤◌, ◌∙◌, ℕ, suc, ◌+◌, List, [], ◌∷◌, ◌++◌, Option, Some, None, Result, Ok, Err, append_assoc, append-nil, ap, arith, length, subst, sym, take}
 use Rattle.std.proofs.lemmas.List.{length-append, take-append-le}
 use Rattle.std.specs.Io.KnownBytes.{Appends}
-use Rattle.streams.specs.Stream.{AppendsSome, Puts}
+use Rattle.streams.specs.Stream.{AppendsSome, Counts, Puts}
+use Rattle.streams.specs.Printers.{PrintsLine, printer}
 
 pub appends_nothing : (a : Option (List ℕ)) → Appends a a []
 appends_nothing None = tt
@@ -60,3 +61,9 @@ module _ (a b c d : Option (List ℕ)) (x y z : List ℕ) where
 
   pub some_of_three : Appends a b x → AppendsSome b c y → AppendsSome a c (x ++ (y ++ z))
   some_of_three p q = some_then a b c x (y ++ z) p (some_more b c y z q)
+
+-- what a call put is a printed line
+pub prints_line : {T E : Type 0} (a b : Option (List ℕ)) (m n : ℕ) (r : Result T E) (x : List ℕ)
+    → Puts a b r x → Counts m n r → PrintsLine (printer a m) (printer b n) x
+prints_line a b m n (Ok t) x p q = inl (p, q)
+prints_line a b m n (Err e) x p q = inr (p, q)

@@ -5,7 +5,8 @@ use Rattle.command_line.specs.Refusals.{AsksForHelp, IsFaultOf}
 use Rattle.command_line.specs.Requests.{plan_of}
 use Rattle.command_line.specs.Status.{status_of, text_of}
 use Rattle.command_line.specs.declared.faults.UsageFault.{UsageFault}
-use Rattle.command_results.specs.Printers.{Printed, PrintsLine}
+use Rattle.streams.specs.Printers.{PrintsLine}
+use Rattle.command_results.specs.Printed.{Printed}
 use Rattle.command_results.specs.Stops.{stop_line}
 use Rattle.command_results.specs.declared.stop.Stop.TheVariants.{Memory}
 use Rattle.commands.specs.Obeys.{Obeys, Scene}

@@ -1,7 +1,7 @@
 //! The status that the program ends with.
 ghost use Rattle.std.specs.Prelude.{map};
 ghost use Rattle.std.specs.Process.{exit_status};
-ghost use Rattle.command_results.specs.Printers.{printer};
+ghost use Rattle.streams.specs.Printers.{printer};
 ghost use Rattle.commands.specs.Causes.{failed};
 ghost use Rattle.commands.specs.Obeys.{scene};
 ghost use Rattle.whole_runs.specs.Ends.{Ends};

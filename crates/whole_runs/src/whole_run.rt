@@ -2,7 +2,7 @@
 ghost use Rattle.std.specs.Prelude.{◌≡◌, ◌≤◌, false, IfOk, map};
 ghost use Rattle.command_line.specs.Requests.{plan_of};
 ghost use Rattle.command_line.specs.Status.{status_of, text_of};
-ghost use Rattle.command_results.specs.Printers.{PrintsLine, printer};
+ghost use Rattle.streams.specs.Printers.{PrintsLine, printer};
 ghost use Rattle.commands.specs.Causes.{failed, reads_input, runs_script, takes_files};
 ghost use Rattle.commands.specs.Obeys.{scene};
 ghost use Rattle.whole_runs.specs.Ends.{Ends};

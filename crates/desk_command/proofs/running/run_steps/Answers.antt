@@ -2,7 +2,7 @@ use Rattle.std.proofs.Common.{ap, arith}
 use Rattle.std.proofs.lemmas.Grind.{common_steps}
 use Rattle.std.proofs.lemmas.Result.{err_from_is_err_and, IfOk-from_err}
 use Rattle.desk_script.specs.Views.{steps_of}
-use Rattle.command_results.specs.Printers.{printer}
+use Rattle.streams.specs.Printers.{printer}
 use Rattle.desk_command.proofs.Going.{breaks_in_taking, breaks_in_writing, gone_nowhere, gone_on}
 use Rattle.desk_command.proofs.running.run_steps.Goals as goal
 

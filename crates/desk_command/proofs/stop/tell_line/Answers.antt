@@ -1,5 +1,5 @@
 use Rattle.std.proofs.Common.{◌++◌, List, ℕ, codes, subst}
-use Rattle.command_results.specs.Printers.{PrintsLine, printer}
+use Rattle.streams.specs.Printers.{PrintsLine, printer}
 use Rattle.desk_command.proofs.stop.tell_line.Goals as goal
 
 pub returns : goal.returns

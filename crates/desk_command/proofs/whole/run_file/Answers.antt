@@ -1,5 +1,5 @@
 use Rattle.std.proofs.Common.{refl}
-use Rattle.command_results.specs.Printers.{printer}
+use Rattle.streams.specs.Printers.{printer}
 use Rattle.desk_command.specs.Ends.EndsScript.{Unread}
 use Rattle.desk_command.proofs.Ended.{broken, whole}
 use Rattle.desk_command.proofs.whole.run_file.Goals as goal

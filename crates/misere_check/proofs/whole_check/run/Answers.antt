@@ -1,7 +1,8 @@
 use Rattle.std.proofs.Common.{rules, ap, refl, subst, ◌∙◌}
-use Rattle.misere_check.specs.Ends.{PrintsLine, device}
+use Rattle.streams.specs.Printers.{PrintsLine, printer}
+use Rattle.streams.proofs.StreamLaws.{prints_line}
 use Rattle.misere_check.specs.Ends.Ends.{Checked}
-use Rattle.misere_check.proofs.Told.{stopped, tells}
+use Rattle.misere_check.proofs.Told.{stopped}
 use Rattle.misere_check.proofs.whole_check.run.Goals as goal
 
 pub returns-in-Ok-true : goal.returns-in-Ok-true
@@ -16,6 +17,6 @@ pub returns-in-Err : goal.returns-in-Err
 returns-in-Err g c =
     stopped _ _ _ _ _ _ _ c.in-Err.fault c.in-Err.ensures.write c.in-Err.ensures.write_cause
     c.in-Err.ensures.read_cause
-    (λ u. ap (λ s. device (g.W.Sink.taken s) (g.W.Sink.failures s)) (c.in-Err.ensures.unwritten u))
+    (λ u. ap (λ s. printer (g.W.Sink.taken s) (g.W.Sink.failures s)) (c.in-Err.ensures.unwritten u))
     (subst (PrintsLine _ _) (c.as_bytes.ensures.value ∙ c.cause_of.ensures)
-    (tells _ _ _ _ c.write_whole.result _ c.write_whole.ensures.puts c.write_whole.ensures.cause))
+    (prints_line _ _ _ _ c.write_whole.result _ c.write_whole.ensures.puts c.write_whole.ensures.cause))

@@ -1,5 +1,5 @@
 use Rattle.std.proofs.Common.{rules}
 use Rattle.command_results.proofs.said.Said.done.Goals as goal
 
-pub returns-clause-well : goal.returns-clause-well
-returns-clause-well c = search rules
+pub returns-clause-succeeds : goal.returns-clause-succeeds
+returns-clause-succeeds c = search rules
