@@ -214,7 +214,6 @@ pub fn is_shown<A: Allocator>(
     ensures words { IfOk result (λ shown. IsTrue shown
         → AreNamed table.now elements.now words.now) }
 {
-    is_monoid(table);
     let letters = elements.len();
     if words.len() != table.order() as usize || !is_empty(letters, &words[0]) {
         return Ok(false);

@@ -10,7 +10,7 @@ returns-clause-presentation g c = λ t.
     let some : 0 < length c.args.words.now =
     omega (arith, c.if-words-order.false, c.order.ensures.range, c.order.ensures.value) in
     shown c.args.table.now c.args.elements.now c.args.relations.now c.as_slice.result.now
-    c.args.words.now c.is_monoid.ensures.monoid c.requires.elements (c.if-not-uses_first.ensures refl)
+    c.args.words.now c.order.ensures.monoid c.requires.elements (c.if-not-uses_first.ensures refl)
     (c.if-not-hold.ensures refl)
     (subst (λ w. (i : ℕ) → i < n → slice_index w i ≡ 0)
     (any-default c.args.words.now 0 _ [] some) (c.if-not-is_empty.ensures.0 refl))
