@@ -3,6 +3,7 @@ use Rattle.std.specs.Prelude.{◌≡◌, ◌≢◌, ℕ, ◌<◌, ◌≤◌, Lis
 use Rattle.std.specs.List.{AllZip}
 use Rattle.misere_theory.specs.Certificates.{Certificate, IsHeapOf, phi_at}
 use Rattle.certificate.specs.Fields.{grid_of}
+use Rattle.presentations.specs.declared.TheConstants.{LETTERS, LARGEST_BOX}
 use Rattle.presentations.specs.declared.read.Relation.{Relation}
 use Rattle.presentations.specs.declared.named.Generator.{Generator}
 use Rattle.presentations.specs.Powers.{IsAboveLimit}
@@ -37,7 +38,7 @@ pub record Describes (c : Certificate) (elements : List ℕ) (relations : List R
     (words : List (List ℕ)) (listing : List ℕ) : Type 0 where
   pub presentation : ArePresentation (grid_of c) elements relations
   pub named : AreNamed (grid_of c) elements words
-  pub letters : length elements ≤ 26
+  pub letters : length elements ≤ LETTERS
   pub listing_is : IsListing c.order listing
 
 -- the text of the heaps' words in rows, plain or for LaTeX
@@ -91,16 +92,12 @@ pub record AreFindings (c : Certificate) (f : Findings) : Type 0 where
   pub kernel_in : All (λ e. e < c.order) f.kernel.items
   pub is_tame : TellsTame c f.tame
 
--- Relations have a table that `present` makes: their box is within its limit.
+-- Relations have a table that `present` makes: their box is within LARGEST_BOX.
 pub record HasTable (relations : List Relation) : Type 0 where
   pub table : Grid
   pub generators : List Generator
   pub is_table : IsTableOf relations table generators
-  pub within : IsAboveLimit relations 65536 → ⊥
-
--- The text spells relations alone that have such a table.
-abbrev pub IsInBox : List ℕ → Type 0
-IsInBox text = (relations : List Relation) → SpellsPresentation text relations → HasTable relations
+  pub within : IsAboveLimit relations LARGEST_BOX → ⊥
 
 -- The line spells relations that present the certificate's monoid, and `present` makes their table.
 pub record IsPresentable (c : Certificate) (line : List ℕ) : Type 0 where

@@ -2,11 +2,13 @@
 ghost use Rattle.std.specs.Prelude.{◌≡◌, ◌<◌, ◌≤◌, ◌+◌, IfOk, length};
 ghost use Rattle.std.specs.String.{string_bytes};
 ghost use Rattle.misere_theory.specs.Certificates.{IsHeapOf};
+ghost use Rattle.presentations.specs.declared.TheConstants.{LETTERS};
 ghost use Rattle.descriptions.specs.Arrays.{array_rows, arrays_text, before_row, columns, entries, entry, entry_line, number, numbers, opening};
 ghost use Rattle.descriptions.specs.Rows.{last_heap};
 
 use crate::rows::row_width;
 use answers::Certified;
+use presentations::Word;
 use relations::{Notation, word_text};
 use std::alloc::{AllocError, Global};
 
@@ -82,10 +84,10 @@ fn entry(
     alloc: Global,
     certified: &Certified,
     letters: u8,
-    words: &[[u8; 26]],
+    words: &[Word],
     heap: u64,
 ) -> Result<String, AllocError>
-    requires letters { letters ≤ 26 }
+    requires letters { letters ≤ LETTERS }
     requires words { length words.now ≡ certified.now.order }
     requires counts { IsHeapOf certified.now heap }
     ensures { IfOk result
@@ -102,11 +104,11 @@ fn entries(
     alloc: Global,
     certified: &Certified,
     letters: u8,
-    words: &[[u8; 26]],
+    words: &[Word],
     from: u64,
     count: u64,
 ) -> Result<String, AllocError>
-    requires letters { letters ≤ 26 }
+    requires letters { letters ≤ LETTERS }
     requires words { length words.now ≡ certified.now.order }
     requires within { from + count ≤ last_heap certified.now }
     ensures { IfOk result
@@ -127,11 +129,11 @@ fn entry_row(
     alloc: Global,
     certified: &Certified,
     letters: u8,
-    words: &[[u8; 26]],
+    words: &[Word],
     from: u64,
     to: u64,
 ) -> Result<String, AllocError>
-    requires letters { letters ≤ 26 }
+    requires letters { letters ≤ LETTERS }
     requires words { length words.now ≡ certified.now.order }
     requires some { from < to }
     requires within { to ≤ last_heap certified.now }
@@ -148,9 +150,9 @@ fn array_rows(
     alloc: Global,
     certified: &Certified,
     letters: u8,
-    words: &[[u8; 26]],
+    words: &[Word],
 ) -> Result<String, AllocError>
-    requires letters { letters ≤ 26 }
+    requires letters { letters ≤ LETTERS }
     requires words { length words.now ≡ certified.now.order }
     ensures { IfOk result
         (λ t. string_bytes t ≡ array_rows certified.now letters words.now) }
@@ -174,9 +176,9 @@ pub fn arrays_text(
     alloc: Global,
     certified: &Certified,
     letters: u8,
-    words: &[[u8; 26]],
+    words: &[Word],
 ) -> Result<String, AllocError>
-    requires letters { letters ≤ 26 }
+    requires letters { letters ≤ LETTERS }
     requires words { length words.now ≡ certified.now.order }
     ensures { IfOk result
         (λ t. string_bytes t ≡ arrays_text certified.now letters words.now) }

@@ -1,7 +1,8 @@
 //! The text that describes a quotient.
 ghost use Rattle.std.specs.Prelude.{◌≡◌, ◌<◌, ◌≤◌, IfOk, IfSome, IsTrue, All, length, vec_len};
 ghost use Rattle.std.specs.String.{string_bytes};
-ghost use Rattle.descriptions.specs.Described.{AreFindings, AreRows, HasTable, IsDescription, IsInBox, IsPresentable};
+ghost use Rattle.presentations.specs.declared.TheConstants.{LETTERS};
+ghost use Rattle.descriptions.specs.Described.{AreFindings, AreRows, HasTable, IsDescription, IsPresentable};
 ghost use Rattle.descriptions.specs.Lines.{front_lines, list_lines, lists_end};
 
 use crate::arrays::arrays_text;
@@ -10,12 +11,9 @@ use crate::lines::{count_text, generators_text, head_text, list_text, portion_te
 use crate::rows::rows_text;
 use allocation::Memory;
 use answers::Certified;
-use presentations::{PresFault, Presentation};
+use presentations::{LARGEST_BOX, PresFault, Presentation, Word};
 use relations::{Form, Notation, Undescribed, presentable, relations_text, texts_spell};
 use std::alloc::{AllocError, Global};
-
-/// The most exponent vectors that `present` merges.
-const LIMIT: u32 = 65536;
 
 /// What ends the lists.
 fn lists_end(notation: Notation) -> &'static str
@@ -34,7 +32,7 @@ fn lists_text(
     letters: u8,
     findings: &Findings,
 ) -> Result<String, Memory>
-    requires letters { letters ≤ 26 }
+    requires letters { letters ≤ LETTERS }
     requires units { All (λ e. e < vec_len findings.now.description.words)
         findings.now.units.items }
     requires idempotents { All (λ e. e < vec_len findings.now.description.words)
@@ -69,7 +67,7 @@ fn front_text(
     letters: u8,
     findings: &Findings,
 ) -> Result<String, Memory>
-    requires letters { letters ≤ 26 }
+    requires letters { letters ≤ LETTERS }
     requires heaps { vec_len findings.now.heaps ≡ letters }
     requires portion { All (λ e. e < vec_len findings.now.description.words)
         findings.now.portion.items }
@@ -105,9 +103,9 @@ fn heaps_text(
     notation: Notation,
     certified: &Certified,
     letters: u8,
-    words: &[[u8; 26]],
+    words: &[Word],
 ) -> Result<String, AllocError>
-    requires letters { letters ≤ 26 }
+    requires letters { letters ≤ LETTERS }
     requires words { length words.now ≡ certified.now.order }
     ensures { IfOk result
         (λ t. AreRows notation certified.now letters words.now (string_bytes t)) }
@@ -154,22 +152,11 @@ pub fn description_text(
     Ok(text)
 }
 
-/// Whether `present` makes the table of the relations, in the box that it takes.
-fn is_presented(alloc: Global, text: &str) -> Result<bool, Memory>
-    ensures { IfOk result (λ is. IsTrue is → IsInBox text.now) }
-{
-    match Presentation::read(alloc, text.as_bytes()) {
-        Ok(presentation) => has_table(alloc, &presentation),
-        Err(PresFault::Memory) => Err(Memory),
-        Err(_) => Ok(false),
-    }
-}
-
 /// Whether the relations have a table in the box that `present` takes.
 fn has_table(alloc: Global, presentation: &Presentation) -> Result<bool, Memory>
     ensures { IfOk result (λ has. IsTrue has → HasTable presentation.now) }
 {
-    match presentations::table_of(alloc, presentation, LIMIT) {
+    match presentations::table_of(alloc, presentation, LARGEST_BOX) {
         Ok(_) => Ok(true),
         Err(PresFault::Memory) => Err(Memory),
         Err(_) => Ok(false),
@@ -177,7 +164,8 @@ fn has_table(alloc: Global, presentation: &Presentation) -> Result<bool, Memory>
 }
 
 /// The relations as one word that `present` takes, with one between two powers of each letter. None
-/// where there are more than 64, an exponent is above 64, or the box is too small.
+/// where there are more than `MOST_RELATIONS`, an exponent is above `LARGEST_EXPONENT`, or the box is
+/// above `LARGEST_BOX`.
 pub fn presentable_text(
     alloc: Global,
     certified: &Certified,
@@ -191,12 +179,13 @@ pub fn presentable_text(
     let Some(relations) = presentable(alloc, &table, &description)? else {
         return Ok(None);
     };
+    let presentation = Presentation::new(relations);
+    if !has_table(alloc, &presentation)? {
+        return Ok(None);
+    }
     texts_spell();
     let letters = description.elements.len() as u8;
-    let text = relations_text(alloc, Notation::Plain, letters, " ", &relations)?;
-    if is_presented(alloc, text.as_str())? {
-        Ok(Some(text))
-    } else {
-        Ok(None)
-    }
+    let relations = presentation.relations();
+    let text = relations_text(alloc, Notation::Plain, letters, " ", relations)?;
+    Ok(Some(text))
 }

@@ -2,16 +2,17 @@
 ghost use Rattle.std.specs.Prelude.{◌≡◌, ◌<◌, ◌≤◌, IfOk, All, length};
 ghost use Rattle.std.specs.String.{string_bytes};
 ghost use Rattle.misere_theory.specs.Certificates.{kind_of};
+ghost use Rattle.presentations.specs.declared.TheConstants.{LETTERS};
 ghost use Rattle.descriptions.specs.Lines.{count_line, generator_text, generators_line, generators_text, head_line, letter_text, letters_text, list_line, portion_line, tail_line, tame_text};
 
 use allocation::Memory;
 use certificate::Cert;
-use presentations::Relation;
+use presentations::{Relation, Word};
 use relations::{Notation, relations_text, words_text};
 use std::alloc::{AllocError, Global};
 
 fn letter_text(alloc: Global, letter: u8) -> Result<String, AllocError>
-    requires { letter < 26 }
+    requires { letter < LETTERS }
     ensures { IfOk result (λ t. string_bytes t ≡ letter_text letter) }
 {
     let name = (b'a' + letter) as char;
@@ -24,7 +25,7 @@ fn letter_text(alloc: Global, letter: u8) -> Result<String, AllocError>
 }
 
 fn letters_text(alloc: Global, letters: u8) -> Result<String, AllocError>
-    requires { letters ≤ 26 }
+    requires { letters ≤ LETTERS }
     ensures { IfOk result (λ t. string_bytes t ≡ letters_text letters) }
 {
     let mut text = String::new(alloc);
@@ -43,7 +44,7 @@ pub fn head_text(
     letters: u8,
     relations: &[Relation],
 ) -> Result<String, Memory>
-    requires { letters ≤ 26 }
+    requires { letters ≤ LETTERS }
     ensures { IfOk result
         (λ t. string_bytes t ≡ head_line notation cert.now letters relations.now) }
 {
@@ -70,10 +71,10 @@ pub fn portion_text(
     alloc: Global,
     notation: Notation,
     letters: u8,
-    words: &[[u8; 26]],
+    words: &[Word],
     elements: &[u16],
 ) -> Result<String, AllocError>
-    requires letters { letters ≤ 26 }
+    requires letters { letters ≤ LETTERS }
     requires elements { All (λ e. e < length words.now) elements.now }
     ensures { IfOk result
         (λ t. string_bytes t ≡ portion_line notation letters words.now elements.now) }
@@ -98,10 +99,10 @@ pub fn list_text(
     notation: Notation,
     name: &str,
     letters: u8,
-    words: &[[u8; 26]],
+    words: &[Word],
     elements: &[u16],
 ) -> Result<String, AllocError>
-    requires letters { letters ≤ 26 }
+    requires letters { letters ≤ LETTERS }
     requires elements { All (λ e. e < length words.now) elements.now }
     ensures { IfOk result
         (λ t. string_bytes t ≡ list_line notation name.now letters words.now elements.now) }
@@ -162,7 +163,7 @@ fn generator_text(
     heaps: &[u64],
     letter: u8,
 ) -> Result<String, AllocError>
-    requires letter { letter < 26 }
+    requires letter { letter < LETTERS }
     requires within { letter < length heaps.now }
     ensures { IfOk result (λ t. string_bytes t ≡ generator_text notation heaps.now letter) }
 {
@@ -181,7 +182,7 @@ fn generator_texts(
     heaps: &[u64],
     letters: u8,
 ) -> Result<String, AllocError>
-    requires letters { letters ≤ 26 }
+    requires letters { letters ≤ LETTERS }
     requires heaps { length heaps.now ≡ letters }
     ensures { IfOk result (λ t. string_bytes t ≡ generators_text notation heaps.now letters) }
 {
@@ -200,7 +201,7 @@ pub fn generators_text(
     heaps: &[u64],
     letters: u8,
 ) -> Result<String, AllocError>
-    requires letters { letters ≤ 26 }
+    requires letters { letters ≤ LETTERS }
     requires heaps { length heaps.now ≡ letters }
     ensures { IfOk result (λ t. string_bytes t ≡ generators_line notation heaps.now letters) }
 {

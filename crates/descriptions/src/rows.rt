@@ -2,9 +2,11 @@
 ghost use Rattle.std.specs.Prelude.{◌≡◌, ◌<◌, ◌≤◌, ◌+◌, ◌-◌, ◌*◌, IfOk, length};
 ghost use Rattle.std.specs.String.{string_bytes};
 ghost use Rattle.misere_theory.specs.Certificates.{IsHeapOf};
+ghost use Rattle.presentations.specs.declared.TheConstants.{LETTERS};
 ghost use Rattle.descriptions.specs.Rows.{cell, cells, heap_word, label, last_heap, padded, row_line, row_lines, row_width, rows_text, spaces, IsRowsText};
 
 use answers::Certified;
+use presentations::Word;
 use relations::{Notation, word_text};
 use std::alloc::{AllocError, Global};
 
@@ -45,10 +47,10 @@ pub fn heap_text(
     alloc: Global,
     certified: &Certified,
     letters: u8,
-    words: &[[u8; 26]],
+    words: &[Word],
     heap: u64,
 ) -> Result<String, AllocError>
-    requires letters { letters ≤ 26 }
+    requires letters { letters ≤ LETTERS }
     requires words { length words.now ≡ certified.now.order }
     requires counts { IsHeapOf certified.now heap }
     ensures { IfOk result
@@ -64,11 +66,11 @@ fn cell(
     alloc: Global,
     certified: &Certified,
     letters: u8,
-    words: &[[u8; 26]],
+    words: &[Word],
     width: usize,
     heap: u64,
 ) -> Result<String, AllocError>
-    requires letters { letters ≤ 26 }
+    requires letters { letters ≤ LETTERS }
     requires words { length words.now ≡ certified.now.order }
     requires counts { IsHeapOf certified.now heap }
     ensures { IfOk result
@@ -85,12 +87,12 @@ fn cells(
     alloc: Global,
     certified: &Certified,
     letters: u8,
-    words: &[[u8; 26]],
+    words: &[Word],
     width: usize,
     from: u64,
     count: u64,
 ) -> Result<String, AllocError>
-    requires letters { letters ≤ 26 }
+    requires letters { letters ≤ LETTERS }
     requires words { length words.now ≡ certified.now.order }
     requires within { from + count ≤ last_heap certified.now }
     ensures { IfOk result
@@ -120,12 +122,12 @@ fn row(
     alloc: Global,
     certified: &Certified,
     letters: u8,
-    words: &[[u8; 26]],
+    words: &[Word],
     widths: (usize, usize),
     from: u64,
     to: u64,
 ) -> Result<String, AllocError>
-    requires letters { letters ≤ 26 }
+    requires letters { letters ≤ LETTERS }
     requires words { length words.now ≡ certified.now.order }
     requires some { from < to }
     requires within { to ≤ last_heap certified.now }
@@ -148,10 +150,10 @@ fn rows(
     alloc: Global,
     certified: &Certified,
     letters: u8,
-    words: &[[u8; 26]],
+    words: &[Word],
     widths: (usize, usize),
 ) -> Result<String, AllocError>
-    requires letters { letters ≤ 26 }
+    requires letters { letters ≤ LETTERS }
     requires words { length words.now ≡ certified.now.order }
     ensures { IfOk result (λ t. string_bytes t
         ≡ rows_text certified.now letters words.now widths.0 widths.1) }
@@ -172,9 +174,9 @@ fn longest(
     alloc: Global,
     certified: &Certified,
     letters: u8,
-    words: &[[u8; 26]],
+    words: &[Word],
 ) -> Result<usize, AllocError>
-    requires letters { letters ≤ 26 }
+    requires letters { letters ≤ LETTERS }
     requires words { length words.now ≡ certified.now.order }
 {
     let cert = certified.cert();
@@ -191,9 +193,9 @@ pub fn rows_text(
     alloc: Global,
     certified: &Certified,
     letters: u8,
-    words: &[[u8; 26]],
+    words: &[Word],
 ) -> Result<String, AllocError>
-    requires letters { letters ≤ 26 }
+    requires letters { letters ≤ LETTERS }
     requires words { length words.now ≡ certified.now.order }
     ensures { IfOk result (λ t. IsRowsText certified.now letters words.now (string_bytes t)) }
 {
