@@ -9,7 +9,7 @@ use crate::invariants::lowest;
 use crate::tame::tame;
 use allocation::Memory;
 use answers::Certified;
-use certificate::{claims_agree, in_ranges};
+use certificate::claims_agree;
 use monoid_table::Table;
 use relations::{Description, Form, Undescribed, described};
 use std::alloc::Global;
@@ -32,7 +32,6 @@ pub fn table_of(alloc: Global, certified: &Certified) -> Result<Table, Memory>
 {
     claims_agree();
     let cert = certified.cert();
-    in_ranges(cert);
     let rows = cert.rows().to_vec(alloc)?;
     match Table::new(cert.order(), rows) {
         Ok(table) => Ok(table),
@@ -87,7 +86,6 @@ pub fn describe_table(
         (λ d. All (λ e. e < certified.now.order) d.elements.items) }
 {
     let cert = certified.cert();
-    in_ranges(cert);
     described(alloc, table, cert.phi().entries(), form)
 }
 

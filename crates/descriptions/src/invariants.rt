@@ -23,7 +23,6 @@ pub fn lowest(table: &Table) -> u16
     ensures within { result < table.now.order }
     ensures kernel { IsInKernel table.now result }
 {
-    is_monoid(table);
     let mut all = 0;
     for x in 0..table.order() {
         all = table.times(all, x);

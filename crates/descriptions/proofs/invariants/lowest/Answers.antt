@@ -12,6 +12,6 @@ loop-x-preserved c =
       within = c.times-all.ensures.within;
       each =
           subst (λ v. (y : ℕ) → y < x + 1 → Divides t y v) (sym c.times-all.ensures.value)
-          (divides-next t c.is_monoid.ensures.monoid c.loop-x.all x c.loop-x.invariant.within x_in
+          (divides-next t c.order-x-end.ensures.monoid c.loop-x.all x c.loop-x.invariant.within x_in
           c.loop-x.invariant.each);
     }
