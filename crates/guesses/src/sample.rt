@@ -13,7 +13,7 @@ use std::hash::{BuildHasherDefault, FoldHasher};
 /// The largest heap that is looked at.
 const LARGEST_HEAP: usize = 12;
 
-/// The most groups. Not more relations between words can be read either.
+/// The most groups.
 const MOST_GROUPS: usize = 64;
 
 /// Through how many positions one outcome is searched.

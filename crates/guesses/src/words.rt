@@ -1,18 +1,18 @@
 //! Relations between the words of groups, and the monoid that they present.
-use crate::groups::{Groups, LETTERS};
+use crate::groups::Groups;
 use crate::guess::Guess;
 use allocation::Memory;
 use monoid_table::Table;
 use octal_code::Code;
 use positions::Outcome;
-use presentations::{Generator, Named, PresFault, Presentation, table_of};
+use presentations::{
+    Generator, LARGEST_EXPONENT, LETTERS, MOST_RELATIONS, Named, PresFault, Presentation, Relation,
+    Word, table_of,
+};
 use std::alloc::Global;
 
 /// How many exponent vectors are merged.
 const MOST_VECTORS: u32 = 4096;
-
-/// The most letters of a power.
-const LARGEST_EXPONENT: usize = 64;
 
 /// The guess by the monoid that the groups' relations present, if there is one.
 pub(crate) fn guess_by_relations(
@@ -20,63 +20,53 @@ pub(crate) fn guess_by_relations(
     code: &Code,
     groups: &Groups,
 ) -> Result<Option<Guess>, Memory> {
-    let Some(text) = relations(alloc, groups)? else {
+    let Some(relations) = relations(alloc, groups)? else {
         return Ok(None);
     };
-    match presented(alloc, &text) {
+    match table_of(alloc, &Presentation::new(relations), MOST_VECTORS) {
         Ok(named) => Ok(Some(guess_by_table(alloc, code, groups, named)?)),
         Err(PresFault::Memory) => Err(Memory),
         Err(_) => Ok(None),
     }
 }
 
-/// The table of the relations.
-fn presented(alloc: Global, text: &[u8]) -> Result<Named, PresFault> {
-    let presentation = Presentation::read(alloc, text)?;
-    table_of(alloc, &presentation, MOST_VECTORS)
-}
-
-/// The relations between words that the groups suggest.
-fn relations(alloc: Global, groups: &Groups) -> Result<Option<Vec<u8>>, Memory> {
-    let mut text = Vec::new(alloc);
-    if !push_relations(alloc, &mut text, groups)? {
-        return Ok(None);
-    }
-    text.pop();
-    Ok(Some(text))
-}
-
-/// Adds the relations, each with a space behind. Answers whether each kind has two powers in one
-/// group.
-fn push_relations(alloc: Global, text: &mut Vec<u8>, groups: &Groups) -> Result<bool, Memory> {
+/// The relations between words that the groups suggest, where each kind has two powers in one group
+/// and there are at most `MOST_RELATIONS`, and some.
+fn relations(alloc: Global, groups: &Groups) -> Result<Option<Vec<Relation>>, Memory> {
+    let mut relations = Vec::new(alloc);
     for k in 0..groups.kinds.len() {
         let Some((more, less)) = powers(alloc, groups, k)? else {
-            return Ok(false);
+            return Ok(None);
         };
-        push_powers(text, k, more, less)?;
+        relations.push(Relation {
+            left: power(k, more),
+            right: power(k, less),
+        })?;
     }
-    push_products(alloc, text, groups)?;
-    Ok(true)
+    push_products(alloc, &mut relations, groups)?;
+    let fits = !relations.is_empty() && relations.len() <= MOST_RELATIONS;
+    Ok(if fits { Some(relations) } else { None })
 }
 
-/// Adds the relation of two powers of a letter.
-fn push_powers(text: &mut Vec<u8>, k: usize, more: usize, less: usize) -> Result<(), Memory> {
-    push_power(text, k, more)?;
-    text.push(b'=')?;
-    push_power(text, k, less)?;
-    text.push(b' ')?;
-    Ok(())
+/// A power of a kind's letter.
+fn power(k: usize, exponent: u8) -> Word {
+    let mut word = [0; LETTERS];
+    if let Some(count) = word.get_mut(k) {
+        *count = exponent;
+    }
+    word
 }
 
 /// The first two powers of a kind that are in one group, the larger first.
-fn powers(alloc: Global, groups: &Groups, k: usize) -> Result<Option<(usize, usize)>, Memory> {
+fn powers(alloc: Global, groups: &Groups, k: usize) -> Result<Option<(u8, u8)>, Memory> {
     let mut seen = vec![in alloc; 0usize]?;
     let mut group = 0;
-    for more in 1..LARGEST_EXPONENT + 1 {
+    for more in 1..=LARGEST_EXPONENT {
         let Some(next) = groups.with(group, k) else {
             return Ok(None);
         };
-        if let Some(less) = seen.iter().position(|g| *g == next) {
+        let less = (0..more).find(|less| seen.get(*less as usize).copied() == Some(next));
+        if let Some(less) = less {
             return Ok(Some((more, less)));
         }
         seen.push(next)?;
@@ -85,25 +75,15 @@ fn powers(alloc: Global, groups: &Groups, k: usize) -> Result<Option<(usize, usi
     Ok(None)
 }
 
-/// Adds a power of a letter.
-fn push_power(text: &mut Vec<u8>, k: usize, exponent: usize) -> Result<(), Memory> {
-    if exponent == 0 {
-        text.push(b'1')?;
-        return Ok(());
-    }
-    for _ in 0..exponent {
-        if let Some(letter) = LETTERS.get(k) {
-            text.push(*letter)?;
-        }
-    }
-    Ok(())
-}
-
-/// Adds the relations of each group's word with a letter more, each with a space behind.
-fn push_products(alloc: Global, text: &mut Vec<u8>, groups: &Groups) -> Result<(), Memory> {
+/// Adds the relations of each group's word with a letter more.
+fn push_products(
+    alloc: Global,
+    relations: &mut Vec<Relation>,
+    groups: &Groups,
+) -> Result<(), Memory> {
     for at in 0..groups.members.len() {
         for k in 0..groups.kinds.len() {
-            push_product(alloc, text, groups, at, k)?;
+            push_product(alloc, relations, groups, at, k)?;
         }
     }
     Ok(())
@@ -112,37 +92,33 @@ fn push_products(alloc: Global, text: &mut Vec<u8>, groups: &Groups) -> Result<(
 /// Adds the relation of a group's word with a letter more, where that isn't the word of its group.
 fn push_product(
     alloc: Global,
-    text: &mut Vec<u8>,
+    relations: &mut Vec<Relation>,
     groups: &Groups,
     at: usize,
     k: usize,
 ) -> Result<(), Memory> {
     let group = groups.with(at, k).unwrap_or(0);
     match (groups.longer_word(alloc, at, k)?, groups.members.get(group)) {
-        (Some(longer), Some(member)) => push_relation(text, &longer, &member.word),
+        (Some(longer), Some(member)) if longer != member.word => {
+            relations.push(Relation {
+                left: exponents(&longer),
+                right: exponents(&member.word),
+            })?;
+            Ok(())
+        }
         _ => Ok(()),
     }
 }
 
-/// Adds the relation of two words that differ.
-fn push_relation(text: &mut Vec<u8>, longer: &[u8], word: &[u8]) -> Result<(), Memory> {
-    if longer == word {
-        return Ok(());
+/// The exponents of a word.
+fn exponents(letters: &[u8]) -> Word {
+    let mut word: Word = [0; LETTERS];
+    for letter in letters {
+        if let Some(count) = word.get_mut(letter.saturating_sub(b'a') as usize) {
+            *count = count.saturating_add(1);
+        }
     }
-    push_word(text, longer)?;
-    text.push(b'=')?;
-    push_word(text, word)?;
-    text.push(b' ')?;
-    Ok(())
-}
-
-/// Adds a word.
-fn push_word(text: &mut Vec<u8>, word: &[u8]) -> Result<(), Memory> {
-    if word.is_empty() {
-        text.push(b'1')?;
-    }
-    text.extend_from_slice(word)?;
-    Ok(())
+    word
 }
 
 /// The guess by the table.
