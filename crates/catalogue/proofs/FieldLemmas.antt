@@ -9,7 +9,7 @@ use Rattle.catalogue.specs.Files.{IsEntry, NamesHeaps, written}
 use Rattle.catalogue.specs.Reading.{one_if, counted, AreOf, AreOnly, AreFields, EntryIs, entry_names, text_at, whole_of}
 use Rattle.catalogue.specs.declared.file.Texts.{Texts}
 use Rattle.catalogue.specs.declared.fields.Fields.{Fields}
-use Rattle.catalogue.proofs.NameLemmas.{IsAmong, some_of, map_some, map_none, at_most, put_named, put_outside}
+use Rattle.catalogue.proofs.NameLemmas.{some_of, map_some, map_none, at_most, put_named, put_outside}
 
 abbrev pub certificate : List ℕ
 certificate = codes "certificate"

@@ -6,6 +6,7 @@ ghost use Rattle.catalogue.specs.Reading.{AreFields, EntryIs, IsUnread, Passes, 
 
 use crate::fault::LoadFault;
 use crate::file::Texts;
+use crate::members::{Found, take_members};
 use crate::number::whole;
 use crate::passing::{pass_from, pass_value};
 use json::{Reader, Token};
@@ -58,14 +59,12 @@ pub(crate) fn whole_number(reader: &mut Reader<'_>, depth: usize) -> Result<Opti
     Ok(None)
 }
 
-impl<'a> Fields<'a> {
-    /// Takes the value of the member of this name.
-    fn take(&mut self, reader: &mut Reader<'a>, depth: usize, name: &str) -> Result<(), LoadFault>
-        ensures taken { OnOk result
-            (Puts depth name.now reader.old reader.new (AreFields self.old) (AreFields self.new)) }
-        ensures shorter { OnOk result (length reader.new < length reader.old) }
-        ensures err { IfErr result (IsUnread (ReadsValue depth reader.old None)) }
-    {
+impl<'a> Found<'a> for Fields<'a> {
+    ghost are = { AreFields };
+
+    ghost room = { 0 };
+
+    fn take(&mut self, reader: &mut Reader<'a>, depth: usize, name: &str) -> Result<(), LoadFault> {
         if name == "certificate" {
             self.certificate = text(reader, depth)?;
         } else if name == "code" {
@@ -78,7 +77,9 @@ impl<'a> Fields<'a> {
         }
         Ok(())
     }
+}
 
+impl<'a> Fields<'a> {
     /// The texts of the entry, if these are its members and there is no other.
     fn texts(&self) -> Option<Texts<'a>>
         ensures { (ms : Members) → AreFields self.now ms → EntryIs result (object ms) }
@@ -115,9 +116,7 @@ fn members<'a>(reader: &mut Reader<'a>, depth: usize) -> Result<Option<Texts<'a>
         heaps: None,
         others: false,
     };
-    while let Some(name) = reader.next_key()? {
-        fields.take(reader, depth, name)?;
-    }
+    take_members(&mut fields, reader, depth)?;
     Ok(fields.texts())
 }
 

@@ -6,6 +6,7 @@ ghost use Rattle.catalogue.specs.Reading.{AreParts, EntriesAre, FileIs, IsUnread
 use crate::fault::LoadFault;
 use crate::fields::{entry, whole_number};
 use crate::file::Texts;
+use crate::members::{Found, take_members};
 use crate::passing::{pass_from, pass_items, pass_value};
 use json::{Reader, Token};
 use std::alloc::Global;
@@ -19,6 +20,7 @@ const FIRST_VERSION: u64 = 1;
 /// What was found of a file's members so far. Of a member that stands twice the last counts.
 #[derive(Drop)]
 struct Frame<'a> {
+    alloc: Global,
     entries: Option<Vec<Texts<'a>>>,
     version: Option<u64>,
     others: bool,
@@ -70,23 +72,14 @@ fn entries<'a>(
     Ok(None)
 }
 
-impl<'a> Frame<'a> {
-    /// Takes the value of the member of this name.
-    fn take(
-        &mut self,
-        alloc: Global,
-        reader: &mut Reader<'a>,
-        depth: usize,
-        name: &str,
-    ) -> Result<(), LoadFault>
-        requires { 1 < depth }
-        ensures taken { OnOk result
-            (Puts depth name.now reader.old reader.new (AreParts self.old) (AreParts self.new)) }
-        ensures shorter { OnOk result (length reader.new < length reader.old) }
-        ensures err { IfErr result (IsUnread (ReadsValue depth reader.old None)) }
-    {
+impl<'a> Found<'a> for Frame<'a> {
+    ghost are = { AreParts };
+
+    ghost room = { 2 };
+
+    fn take(&mut self, reader: &mut Reader<'a>, depth: usize, name: &str) -> Result<(), LoadFault> {
         if name == "entries" {
-            self.entries = entries(alloc, reader, depth)?;
+            self.entries = entries(self.alloc, reader, depth)?;
         } else if name == "version" {
             self.version = whole_number(reader, depth)?;
         } else {
@@ -95,7 +88,9 @@ impl<'a> Frame<'a> {
         }
         Ok(())
     }
+}
 
+impl<'a> Frame<'a> {
     /// The entries of the file, if these are its members and there is no other.
     fn into_entries(self) -> Option<Vec<Texts<'a>>>
         ensures { (ms : Members) → AreParts self.entry ms → FileIs result (object ms) }
@@ -140,13 +135,12 @@ fn members<'a>(
     ensures err { IfErr result (IsUnread (ReadsMembers depth no_members reader.old None)) }
 {
     let mut frame = Frame {
+        alloc,
         entries: None,
         version: None,
         others: false,
     };
-    while let Some(name) = reader.next_key()? {
-        frame.take(alloc, reader, depth, name)?;
-    }
+    take_members(&mut frame, reader, depth)?;
     Ok(frame.into_entries())
 }
 

@@ -10,6 +10,7 @@ mod frame;
 mod key;
 mod laws;
 mod loading;
+mod members;
 mod number;
 mod passing;
 mod salvaging;

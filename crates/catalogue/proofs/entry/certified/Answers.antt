@@ -1,10 +1,9 @@
-use Rattle.std.proofs.Common.{◌≡◌, true, bytes_eq, inr, refl, sym, ap, subst, ◌∙◌, arith}
+use Rattle.std.proofs.Common.{◌≡◌, true, bytes_eq, inr, refl, sym, ap, subst, ◌∙◌}
 use Rattle.std.proofs.lemmas.Slice.Eq.{bytes_eq-Decides}
 use Rattle.octal_code.specs.Text.{code_text}
 use Rattle.answers.specs.ByteVerdicts.{answer_of}
 use Rattle.answers.proofs.Due.{is_due}
 use Rattle.misere_theory.specs.Certificates.{kind_of}
-use Rattle.catalogue.specs.Files.{heaps_named, written}
 use Rattle.catalogue.specs.Loads.{IsAcceptedText}
 use Rattle.catalogue.proofs.entry.certified.Goals as goal
 

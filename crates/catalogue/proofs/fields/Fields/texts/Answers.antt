@@ -1,5 +1,5 @@
 use Rattle.std.proofs.Common.{arith}
-use Rattle.catalogue.proofs.FieldLemmas.{no_entry, no_certificate, no_code, bad_heaps, entry_of}
+use Rattle.catalogue.proofs.FieldLemmas.{no_entry}
 use Rattle.catalogue.proofs.fields.Fields.texts.Goals as goal
 
 pub returns-then-self : goal.returns-then-self

@@ -1,6 +1,6 @@
-use Rattle.std.proofs.Common.{◌≡◌, ◌==◌, ◌⊎◌, ℕ, inl, inr, Some, All, is_some, true, false, refl, sym, ap, subst, ◌∙◌, arith}
+use Rattle.std.proofs.Common.{◌≡◌, ◌==◌, ◌⊎◌, inl, inr, Some, true, false, sym, subst, arith}
 use Rattle.catalogue.specs.Reading.{Name}
-use Rattle.catalogue.proofs.FrameLemmas.{other_no_file, version_no_file, entries_no_file, names_no_file, file_of}
+use Rattle.catalogue.proofs.FrameLemmas.{other_no_file, names_no_file, file_of}
 use Rattle.catalogue.proofs.frame.Frame.into_entries.Goals as goal
 
 pub returns-then-self : goal.returns-then-self

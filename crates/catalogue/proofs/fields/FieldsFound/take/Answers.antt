@@ -4,8 +4,8 @@ use Rattle.serde_json.specs.Data.{put}
 use Rattle.catalogue.specs.Reading.{ReadsValue, AreFields}
 use Rattle.catalogue.proofs.NameLemmas.{is_not}
 use Rattle.catalogue.proofs.FieldLemmas.{certificate, code, heaps, put_certificate, put_code, put_heaps, put_other}
-use Rattle.catalogue.proofs.fields.Fields.take.Goals as goal
-use Rattle.catalogue.proofs.fields.Fields.take.Goals.{then-eq+in_ok-self, else-eq+then-eq-2+in_ok-self-2, else-eq+else-eq-2+then-eq-3+in_ok-whole_number, else-eq+else-eq-2+else-eq-3+in_ok-pass_value}
+use Rattle.catalogue.proofs.fields.FieldsFound.take.Goals as goal
+use Rattle.catalogue.proofs.fields.FieldsFound.take.Goals.{then-eq+in_ok-self, else-eq+then-eq-2+in_ok-self-2, else-eq+else-eq-2+then-eq-3+in_ok-whole_number, else-eq+else-eq-2+else-eq-3+in_ok-pass_value}
 
 pub returns-clause-taken : goal.returns-clause-taken
 returns-clause-taken c =

@@ -4,8 +4,8 @@ use Rattle.serde_json.specs.Data.{put}
 use Rattle.catalogue.specs.Reading.{ReadsValue, AreParts, EntriesAre}
 use Rattle.catalogue.proofs.NameLemmas.{is_not}
 use Rattle.catalogue.proofs.FrameLemmas.{entries, version, put_entries, put_version, put_other}
-use Rattle.catalogue.proofs.frame.Frame.take.Goals as goal
-use Rattle.catalogue.proofs.frame.Frame.take.Goals.{then-eq+in_ok-self+in-Some-1, then-eq+in_ok-self+in-None-1, else-eq+then-eq-2+in_ok-self-2, else-eq+else-eq-2+in_ok-pass_value}
+use Rattle.catalogue.proofs.frame.FrameFound.take.Goals as goal
+use Rattle.catalogue.proofs.frame.FrameFound.take.Goals.{then-eq+in_ok-self+in-Some-1, then-eq+in_ok-self+in-None-1, else-eq+then-eq-2+in_ok-self-2, else-eq+else-eq-2+in_ok-pass_value}
 
 pub returns-clause-taken : goal.returns-clause-taken
 returns-clause-taken c =
