@@ -3,12 +3,11 @@ use Rattle.std.proofs.Common.{◌≡◌, ℕ, ◌*◌, ◌^◌, ◌≤◌, ◌�
 use Rattle.misere_theory.specs.Quotients.{Monoid, Represents}
 use Rattle.misere_theory.specs.Certificates.{Certificate, kind_of, IsHeapOf, Accepted, Canonical, claim_of, times_of}
 use Rattle.misere_theory.specs.Verdicts.{Verdict, IsAllowed}
-use Rattle.misere_theory.specs.Verdicts.Fault.{Law as law, Word as word, Order as order, Period as period, Apart as apart}
 use Rattle.misere_theory.specs.Verdicts.Verdict.{No as Faulty, Outcome as Fails, Limit as Over}
 use Rattle.misere_theory.proofs.Verdicts.{yes_or_limit, outcome_or_limit, never_past_all_pairs}
 use Rattle.certificate_text.specs.Spelling.{Spells}
 use Rattle.answers.specs.ByteVerdicts.{ByteVerdict, Fits, Holds, IsTrueOf}
-use Rattle.answers.specs.ByteVerdicts.ByteVerdict.{Yes, Text, Law, Word, Order, Period, Apart, Outcome, Limit, Memory}
+use Rattle.answers.specs.ByteVerdicts.ByteVerdict.{Yes, Text, No, Outcome, Limit, Memory}
 
 module _ (one : (b : List ℕ) (c d : Certificate) → Spells b c → Spells b d → c ≡ d) (bytes : List ℕ)
     (limit : ℕ) (c : Certificate) (s : Spells bytes c) where
@@ -22,20 +21,8 @@ module _ (one : (b : List ℕ) (c d : Certificate) → Spells b c → Spells b d
       → (a ≡ Yes c) ⊎ ((a ≡ Limit) ⊎ (a ≡ Memory))
   accepted_answers k (Yes d) t = inl (ap Yes (fits (Yes d) t).0)
   accepted_answers k Text t = absurd (t c s)
-  accepted_answers k Law t =
-      elim (yes_or_limit c k limit (Faulty law) (fits Law t))
-      [ inl e ↦ absurd (cc) | inr e ↦ absurd (cc) ]
-  accepted_answers k Word t =
-      elim (yes_or_limit c k limit (Faulty word) (fits Word t))
-      [ inl e ↦ absurd (cc) | inr e ↦ absurd (cc) ]
-  accepted_answers k Order t =
-      elim (yes_or_limit c k limit (Faulty order) (fits Order t))
-      [ inl e ↦ absurd (cc) | inr e ↦ absurd (cc) ]
-  accepted_answers k Period t =
-      elim (yes_or_limit c k limit (Faulty period) (fits Period t))
-      [ inl e ↦ absurd (cc) | inr e ↦ absurd (cc) ]
-  accepted_answers k Apart t =
-      elim (yes_or_limit c k limit (Faulty apart) (fits Apart t))
+  accepted_answers k (No fault) t =
+      elim (yes_or_limit c k limit (Faulty fault) (fits (No fault) t))
       [ inl e ↦ absurd (cc) | inr e ↦ absurd (cc) ]
   accepted_answers k (Outcome code X) t =
       elim (yes_or_limit c k limit (Fails X) (fits (Outcome code X) t).1)
@@ -55,11 +42,7 @@ module _ (one : (b : List ℕ) (c d : Certificate) → Spells b c → Spells b d
         ⊎ ((a ≡ Limit) ⊎ (a ≡ Memory))
     wrong_answers (Yes d) t = absurd (wrong (fits (Yes d) t).1.represents)
     wrong_answers Text t = absurd (t c s)
-    wrong_answers Law t = faulty_never (Faulty law) (λ X e. cc) (λ e. cc) (fits Law t)
-    wrong_answers Word t = faulty_never (Faulty word) (λ X e. cc) (λ e. cc) (fits Word t)
-    wrong_answers Order t = faulty_never (Faulty order) (λ X e. cc) (λ e. cc) (fits Order t)
-    wrong_answers Period t = faulty_never (Faulty period) (λ X e. cc) (λ e. cc) (fits Period t)
-    wrong_answers Apart t = faulty_never (Faulty apart) (λ X e. cc) (λ e. cc) (fits Apart t)
+    wrong_answers (No fault) t = faulty_never (Faulty fault) (λ X e. cc) (λ e. cc) (fits (No fault) t)
     wrong_answers (Outcome code X) t = inl (X, ap (λ d. Outcome d X) (fits (Outcome code X) t).0)
     wrong_answers Limit t = inr (inl refl)
     wrong_answers Memory t = inr (inr refl)

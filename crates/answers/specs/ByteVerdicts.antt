@@ -2,33 +2,30 @@
 use Rattle.std.specs.Prelude.{◌≡◌, ◌≢◌, ◌⊎◌, ℕ, ◌≤◌, ◌*◌, ◌^◌, List, Result, Ok, Err}
 use Rattle.misere_theory.specs.Quotients.{Monoid, Represents}
 use Rattle.misere_theory.specs.Certificates.{Certificate, kind_of, IsHeapOf, Accepted, Canonical, claim_of, times_of}
-use Rattle.misere_theory.specs.Verdicts.{IsAllowed}
-use Rattle.misere_theory.specs.Verdicts.Fault.{Law as law, Word as word, Order as order, Period as period, Apart as apart}
+use Rattle.misere_theory.specs.Verdicts.{Fault, IsAllowed}
+use Rattle.misere_theory.specs.Verdicts.Fault.{Law, Word, Order, Period, Apart}
 use Rattle.misere_theory.specs.Verdicts.Verdict.{Yes as Right, No as Faulty, Outcome as Fails, Limit as Over}
 use Rattle.certificate_text.specs.Spelling.{Spells}
 use Rattle.answers.specs.declared.refusal.Refusal.{Refusal}
 use Rattle.answers.specs.declared.refusal.Refusal.TheVariants as no
 
--- The verdict on bytes: yes with the certificate, or a refusal; with Outcome a code and a position.
+-- The verdict on bytes: yes with the certificate, or a refusal; with No a fault, and with Outcome a
+-- code and a position.
 pub data ByteVerdict : Type 0 where
   Yes : Certificate → ByteVerdict
   Text : ByteVerdict
-  Law : ByteVerdict
-  Word : ByteVerdict
-  Order : ByteVerdict
-  Period : ByteVerdict
-  Apart : ByteVerdict
+  No : Fault → ByteVerdict
   Outcome : List ℕ → List ℕ → ByteVerdict
   Limit : ByteVerdict
   Memory : ByteVerdict
 
 abbrev pub refused : {A : Type 0} → Refusal A → ByteVerdict
 refused no.Text = Text
-refused no.Law = Law
-refused no.Word = Word
-refused no.Order = Order
-refused no.Period = Period
-refused no.Apart = Apart
+refused no.Law = No Law
+refused no.Word = No Word
+refused no.Order = No Order
+refused no.Period = No Period
+refused no.Apart = No Apart
 refused (no.Outcome code X) = Outcome code X
 refused no.Limit = Limit
 refused no.Memory = Memory
@@ -41,11 +38,7 @@ answer_of (Err r) = refused r
 abbrev pub Fits : Certificate → ℕ → ByteVerdict → Type 0
 Fits c limit (Yes d) = (d ≡ c) × IsAllowed c limit Right
 Fits c limit Text = ⊥
-Fits c limit Law = IsAllowed c limit (Faulty law)
-Fits c limit Word = IsAllowed c limit (Faulty word)
-Fits c limit Order = IsAllowed c limit (Faulty order)
-Fits c limit Period = IsAllowed c limit (Faulty period)
-Fits c limit Apart = IsAllowed c limit (Faulty apart)
+Fits c limit (No fault) = IsAllowed c limit (Faulty fault)
 Fits c limit (Outcome code X) = (code ≡ c.code) × IsAllowed c limit (Fails X)
 Fits c limit Limit = IsAllowed c limit Over
 Fits c limit Memory = Unit {0}
@@ -59,14 +52,7 @@ SpellFitting bytes limit answer = (c : Certificate) × Spells bytes c × Fits c 
 abbrev pub Holds : List ℕ → ℕ → ByteVerdict → Type 0
 Holds bytes limit Text = (c : Certificate) → Spells bytes c → ⊥
 Holds bytes limit Memory = Unit {0}
-Holds bytes limit (Yes c) = SpellFitting bytes limit (Yes c)
-Holds bytes limit Law = SpellFitting bytes limit Law
-Holds bytes limit Word = SpellFitting bytes limit Word
-Holds bytes limit Order = SpellFitting bytes limit Order
-Holds bytes limit Period = SpellFitting bytes limit Period
-Holds bytes limit Apart = SpellFitting bytes limit Apart
-Holds bytes limit (Outcome code X) = SpellFitting bytes limit (Outcome code X)
-Holds bytes limit Limit = SpellFitting bytes limit Limit
+Holds bytes limit answer = SpellFitting bytes limit answer
 
 -- each accepted text of the certificate's code and kind is these bytes
 abbrev pub IsOnlyText : List ℕ → Certificate → Type 0

@@ -14,7 +14,7 @@ use Rattle.catalogue.specs.declared.fault.LoadFault.{LoadFault}
 use Rattle.catalogue.specs.Texts.{catalogue_text}
 use Rattle.answers.specs.ByteVerdicts.{ByteVerdict}
 use Rattle.checker.specs.Turns.{verdict}
-use Rattle.answers.specs.ByteVerdicts.ByteVerdict.{Yes, Text, Law, Word, Order, Period, Apart, Outcome, Limit, Memory}
+use Rattle.answers.specs.ByteVerdicts.ByteVerdict.{Yes, Memory}
 use Rattle.verdict_texts.specs.Lines.{IsTextOf}
 use Rattle.catalogue_command.specs.Lines.{added_line, entry_line, migrated_line, salvage_lines, IsFaultLine}
 
@@ -78,15 +78,8 @@ Takes cs c false new printed = HasEntry cs c.code (kind_of c)
 -- printed
 abbrev pub AddsTo : List Certificate → ByteVerdict → Bool → List Certificate → List ℕ → Type 0
 AddsTo cs (Yes c) succeeds new printed = Takes cs c succeeds new printed
-AddsTo cs Text succeeds new printed = (succeeds ≡ false) × IsTextOf Text printed
-AddsTo cs Law succeeds new printed = (succeeds ≡ false) × IsTextOf Law printed
-AddsTo cs Word succeeds new printed = (succeeds ≡ false) × IsTextOf Word printed
-AddsTo cs Order succeeds new printed = (succeeds ≡ false) × IsTextOf Order printed
-AddsTo cs Period succeeds new printed = (succeeds ≡ false) × IsTextOf Period printed
-AddsTo cs Apart succeeds new printed = (succeeds ≡ false) × IsTextOf Apart printed
-AddsTo cs (Outcome code X) succeeds new printed = (succeeds ≡ false) × IsTextOf (Outcome code X) printed
-AddsTo cs Limit succeeds new printed = (succeeds ≡ false) × IsTextOf Limit printed
 AddsTo cs Memory succeeds new printed = ⊥
+AddsTo cs answer succeeds new printed = (succeeds ≡ false) × IsTextOf answer printed
 
 -- what comes of the bytes of a certificate, by their verdict under this limit
 abbrev pub IsAddition : List Certificate → List ℕ → ℕ → Bool → List Certificate → List ℕ → Type 0

@@ -6,7 +6,8 @@ use Rattle.misere_theory.specs.Certificates.{Certificate, InRanges, pairs_from}
 use Rattle.monoid_table.specs.Turns.{JobState, triples, is_over, turn as turn_job}
 use Rattle.transition_algebra.specs.Work.{heap_cost}
 use Rattle.certificate.specs.Fields.{pretending_of}
-use Rattle.answers.specs.ByteVerdicts.ByteVerdict.{Law, Word, Order, Period, Apart}
+use Rattle.misere_theory.specs.Verdicts.Fault.{Law, Word, Order, Period, Apart}
+use Rattle.answers.specs.ByteVerdicts.ByteVerdict.{No}
 use Rattle.checker.specs.Bounds.{heaps_most}
 use Rattle.checker.specs.Units.{rest}
 use Rattle.checker.specs.Views.{LawsView, KeysView, ProductsView, PeriodsView, SeparatingView}
@@ -77,18 +78,18 @@ module _ (bytes : List ℕ) (limit : ℕ) where
       let z : s.z < c.order + 1 = omega arith in
       let k = some_rest (length c.apart) s.number (c.order + 1) s.z l z in
       by_test (Below bytes limit m) (not (tells_apart c s.x s.y s.z))
-      (if s.z == given then Ended Apart else separating_at limit c s.x s.y s.number (s.z + 1))
-      (if nat_lt s.z given then Ended Apart else if s.y + 1 == c.order then separating_at limit c
+      (if s.z == given then Ended (No Apart) else separating_at limit c s.x s.y s.number (s.z + 1))
+      (if nat_lt s.z given then Ended (No Apart) else if s.y + 1 == c.order then separating_at limit c
       (s.x + 1) (s.x + 2) (s.number + 1) 0 else separating_at limit c s.x (s.y + 1)
       (s.number + 1) 0)
-      (λ e. by_test (Below bytes limit m) (s.z == given) (Ended Apart)
+      (λ e. by_test (Below bytes limit m) (s.z == given) (Ended (No Apart))
       (separating_at limit c s.x s.y s.number (s.z + 1))
       (λ d. (omega arith, tt))
       (λ d. (let f : s.z + 1 ≤ given = grind (arith, tests) in
       separating_at-below costs c a.ranges s.x s.y s.number (s.z + 1) m (λ i. f)
       (λ i. let x = rest-place (length c.apart) s.number (c.order + 1) s.z l z in omega arith)
       (omega arith))))
-      (λ e. by_test (Below bytes limit m) (nat_lt s.z given) (Ended Apart)
+      (λ e. by_test (Below bytes limit m) (nat_lt s.z given) (Ended (No Apart))
       (if s.y + 1 == c.order then separating_at limit c (s.x + 1) (s.x + 2) (s.number + 1) 0
       else separating_at limit c s.x (s.y + 1) (s.number + 1) 0)
       (λ d. (omega arith, tt))
@@ -112,23 +113,23 @@ module _ (bytes : List ℕ) (limit : ℕ) where
       by_test (Below bytes limit m) (nat_lt p.shift c.period)
       (if not (comes_again c (c.start + p.count) p.shift) then Periods
       (record { certificate = c; shift = p.shift + 1; count = 0 }) else if p.count
-      + 1 == c.period then Ended Period else Periods
+      + 1 == c.period then Ended (No Period) else Periods
       (record { certificate = c; shift = p.shift; count = p.count + 1 }))
-      (if comes_again c (c.start - 1) c.period then Ended Period else separating_at limit c 0 1 0 0)
+      (if comes_again c (c.start - 1) c.period then Ended (No Period) else separating_at limit c 0 1 0 0)
       (λ e. (let l : p.shift < c.period = ltb-true _ _ e in
       by_test (Below bytes limit m) (not (comes_again c (c.start + p.count) p.shift))
       (Periods (record { certificate = c; shift = p.shift + 1; count = 0 }))
-      (if p.count + 1 == c.period then Ended Period else Periods
+      (if p.count + 1 == c.period then Ended (No Period) else Periods
       (record { certificate = c; shift = p.shift; count = p.count + 1 }))
       (λ d. (let x = rest-row c.period p.shift (c.period + 1) p.count l z 0 in
       (omega arith, record { ranges = a.ranges; shift = omega arith; count = omega arith })))
-      (λ d. by_test (Below bytes limit m) (p.count + 1 == c.period) (Ended Period)
+      (λ d. by_test (Below bytes limit m) (p.count + 1 == c.period) (Ended (No Period))
       (Periods (record { certificate = c; shift = p.shift; count = p.count + 1 }))
       (λ f. (omega arith, tt))
       (λ f. (let x = rest-place c.period p.shift (c.period + 1) p.count l z in
       let k : p.count + 1 < c.period = grind (arith, tests) in
       (omega arith, record { ranges = a.ranges; shift = omega arith; count = omega arith }))))))
-      (λ e. by_test (Below bytes limit m) (comes_again c (c.start - 1) c.period) (Ended Period)
+      (λ e. by_test (Below bytes limit m) (comes_again c (c.start - 1) c.period) (Ended (No Period))
       (separating_at limit c 0 1 0 0)
       (λ d. (omega arith, tt))
       (λ d. separating_begins costs c a.ranges m (omega arith)))
@@ -155,11 +156,11 @@ module _ (bytes : List ℕ) (limit : ℕ) where
         by_test (Below bytes limit most) (nat_lt next c.order)
         (Keys (record { certificate = c; next = next; rising = rise }))
         (if rise then Products (record { certificate = c; element = 0; heap = 1 }) else Ended
-        Order)
+        (No Order))
         (λ e. (let l : next < c.order = ltb-true _ _ e in
         (some l, record { ranges = r; more = l })))
         (λ e. by_test (Below bytes limit most) rise
-        (Products (record { certificate = c; element = 0; heap = 1 })) (Ended Order)
+        (Products (record { certificate = c; element = 0; heap = 1 })) (Ended (No Order))
         (λ t. (let o = r.order.0 in let p = r.period.0 in let s = r.start in
         let x = but_first c.order (c.start + c.period) in
         (omega arith, record { ranges = r; element = omega arith; heap = omega arith })))
@@ -172,7 +173,7 @@ module _ (bytes : List ℕ) (limit : ℕ) where
         → behind_laws limit c < most → Below bytes limit most (laws_at c s)
     unfolding laws_at
     laws_at-below s most same some none =
-        by_test (Below bytes limit most) s.refused (Ended Law)
+        by_test (Below bytes limit most) s.refused (Ended (No Law))
         (if s.spent == triples s.grid.order then Keys
         (record { certificate = c; next = 1; rising = true }) else Laws
         (record { certificate = c; job = s }))
@@ -196,7 +197,7 @@ module _ (bytes : List ℕ) (limit : ℕ) where
       let s = a.ranges.start in
       let t = a.ranges.period.0 in
       let k = some_rest c.order p.element (c.start + c.period) p.heap l h in
-      by_test (Below bytes limit m) (not (is_in_order c p.element p.heap)) (Ended Order)
+      by_test (Below bytes limit m) (not (is_in_order c p.element p.heap)) (Ended (No Order))
       (if p.heap + 1 == c.start + c.period then products_at c (p.element + 1) 1 else products_at
       c p.element (p.heap + 1))
       (λ e. (omega arith, tt))
@@ -218,7 +219,7 @@ module _ (bytes : List ℕ) (limit : ℕ) where
       let m = measure bytes limit (Keys k) in
       let l = a.more in
       by_test (Below bytes limit m) (is_keyed c k.next)
-      (keys_at c (k.next + 1) (k.rising && is_above_last c k.next)) (Ended Word)
+      (keys_at c (k.next + 1) (k.rising && is_above_last c k.next)) (Ended (No Word))
       (λ e. keys_at-below c a.ranges (k.next + 1) m (k.rising && is_above_last c k.next)
       (λ i. omega arith) (omega arith))
       (λ e. (omega arith, tt))

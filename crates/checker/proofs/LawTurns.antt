@@ -6,7 +6,8 @@ use Rattle.monoid_table.specs.Turns.{JobState, triples, turn, turns, is_over}
 use Rattle.monoid_table.specs.Faults.{answer_of}
 use Rattle.monoid_table.specs.declared.fault.LawFault.{LawFault}
 use Rattle.monoid_table.specs.declared.fault.LawFault.TheVariants.{Law as Broken}
-use Rattle.answers.specs.ByteVerdicts.ByteVerdict.{Law}
+use Rattle.misere_theory.specs.Verdicts.Fault.{Law}
+use Rattle.answers.specs.ByteVerdicts.ByteVerdict.{No}
 use Rattle.checker.specs.Turns.{Phase, stage_of, Works, laws_at, laws_turn}
 use Rattle.checker.specs.Turns as check
 use Rattle.checker.specs.Turns.Phase.{Laws, Keys, Ended}
@@ -92,7 +93,7 @@ held true b e = absurd (cc)
 held false b e = (refl, cc)
 
 pub laws_broken : (c : Certificate) (s : JobState) (f : LawFault) → answer_of s ≡ Err f
-    → laws_at c s ≡ Ended Law
+    → laws_at c s ≡ Ended (No Law)
 unfolding laws_at
 laws_broken c s f e = let a = broken s.refused (s.spent == triples s.grid.order) f e in rw a
 

@@ -12,7 +12,8 @@ use Rattle.certificate.specs.Fields.{grid_of, pretending_of}
 use Rattle.pair_closure.specs.ClosureViews.{ClosureView, begun, moved, is_over as closure_over, is_done}
 use Rattle.pair_closure.specs.Positions.{rising, word}
 use Rattle.answers.specs.ByteVerdicts.{ByteVerdict}
-use Rattle.answers.specs.ByteVerdicts.ByteVerdict.{Yes, Text, Law, Word, Order, Period, Apart, Outcome, Limit, Memory}
+use Rattle.misere_theory.specs.Verdicts.Fault.{Law, Word, Order, Period, Apart}
+use Rattle.answers.specs.ByteVerdicts.ByteVerdict.{Yes, No, Outcome, Limit}
 use Rattle.checker.specs.Views.{LawsView, KeysView, ProductsView, PeriodsView, SeparatingView, HeapsView, ElementsView, ClosingView}
 use Rattle.checker.specs.Turns.{Phase, turn, opened, laws_at, laws_turn, keys_at, keys_turn, is_keyed, is_above_last, products_at, products_turn, is_in_order, periods_turn, comes_again, separating_at, separating_turn, tells_apart, heaps_at, heaps_turn, elements_at, elements_turn, first_from, leads_in, keys_from, closing_at, closing_turn, keeps_more, obeys, newest}
 use Rattle.checker.specs.Turns.Phase.{Reading, Laws, Keys, Products, Periods, Separating, Heaps, Elements, Closing, Ended}
@@ -39,15 +40,7 @@ IsPaid n (Heaps h) = yes_least h.certificate ≤ n
 IsPaid n (Elements e) = yes_least e.certificate ≤ n
 IsPaid n (Closing s) = yes_least s.certificate ≤ n
 IsPaid n (Ended (Yes c)) = yes_least c ≤ n
-IsPaid n (Ended Text) = Unit {0}
-IsPaid n (Ended Law) = Unit {0}
-IsPaid n (Ended Word) = Unit {0}
-IsPaid n (Ended Order) = Unit {0}
-IsPaid n (Ended Period) = Unit {0}
-IsPaid n (Ended Apart) = Unit {0}
-IsPaid n (Ended (Outcome code x)) = Unit {0}
-IsPaid n (Ended Limit) = Unit {0}
-IsPaid n (Ended Memory) = Unit {0}
+IsPaid n (Ended answer) = Unit {0}
 
 module _ (n : ℕ) (c : Certificate) (l : yes_least c ≤ n) where
   closing_paid : (kept : Bool) (p : ClosureView) → IsPaid n (closing_at c kept p)
@@ -124,14 +117,14 @@ separating_turned n limit s l =
     let c = s.certificate in
     let given = slice_index c.apart s.number in
     by_test (IsPaid n) (not (tells_apart c s.x s.y s.z))
-    (if s.z == given then Ended Apart else separating_at limit c s.x s.y s.number (s.z + 1))
-    (if nat_lt s.z given then Ended Apart else if s.y + 1 == c.order then separating_at limit c
+    (if s.z == given then Ended (No Apart) else separating_at limit c s.x s.y s.number (s.z + 1))
+    (if nat_lt s.z given then Ended (No Apart) else if s.y + 1 == c.order then separating_at limit c
     (s.x + 1) (s.x + 2) (s.number + 1) 0 else separating_at limit c s.x (s.y + 1) (s.number + 1)
     0)
-    (λ e. by_test (IsPaid n) (s.z == given) (Ended Apart)
+    (λ e. by_test (IsPaid n) (s.z == given) (Ended (No Apart))
     (separating_at limit c s.x s.y s.number (s.z + 1)) (λ d. tt)
     (λ d. separating_paid n c l limit s.x s.y s.number (s.z + 1)))
-    (λ e. by_test (IsPaid n) (nat_lt s.z given) (Ended Apart)
+    (λ e. by_test (IsPaid n) (nat_lt s.z given) (Ended (No Apart))
     (if s.y + 1 == c.order then separating_at limit c (s.x + 1) (s.x + 2) (s.number + 1) 0 else
     separating_at limit c s.x (s.y + 1) (s.number + 1) 0) (λ d. tt)
     (λ d. by_test (IsPaid n) (s.y + 1 == c.order)
@@ -148,17 +141,17 @@ periods_turned n limit p l =
     by_test (IsPaid n) (nat_lt p.shift c.period)
     (if not (comes_again c (c.start + p.count) p.shift) then Periods
     (record { certificate = c; shift = p.shift + 1; count = 0 }) else if p.count
-    + 1 == c.period then Ended Period else Periods
+    + 1 == c.period then Ended (No Period) else Periods
     (record { certificate = c; shift = p.shift; count = p.count + 1 }))
-    (if comes_again c (c.start - 1) c.period then Ended Period else separating_at limit c 0 1 0 0)
+    (if comes_again c (c.start - 1) c.period then Ended (No Period) else separating_at limit c 0 1 0 0)
     (λ e. by_test (IsPaid n) (not (comes_again c (c.start + p.count) p.shift))
     (Periods (record { certificate = c; shift = p.shift + 1; count = 0 }))
-    (if p.count + 1 == c.period then Ended Period else Periods
+    (if p.count + 1 == c.period then Ended (No Period) else Periods
     (record { certificate = c; shift = p.shift; count = p.count + 1 })) (λ d. l)
-    (λ d. by_test (IsPaid n) (p.count + 1 == c.period) (Ended Period)
+    (λ d. by_test (IsPaid n) (p.count + 1 == c.period) (Ended (No Period))
     (Periods (record { certificate = c; shift = p.shift; count = p.count + 1 })) (λ f. tt)
     (λ f. l)))
-    (λ e. by_test (IsPaid n) (comes_again c (c.start - 1) c.period) (Ended Period)
+    (λ e. by_test (IsPaid n) (comes_again c (c.start - 1) c.period) (Ended (No Period))
     (separating_at limit c 0 1 0 0) (λ d. tt) (λ d. separating_paid n c l limit 0 1 0 0))
 
 -- all products
@@ -207,9 +200,9 @@ module _ (n : ℕ) (c : Certificate) (r : InRanges c) where
       by_test (IsPaid n) (nat_lt next c.order)
       (Keys (record { certificate = c; next = next; rising = rise }))
       (if rise then Products (record { certificate = c; element = 0; heap = 1 }) else Ended
-      Order) (λ e. l)
+      (No Order)) (λ e. l)
       (λ e. by_test (IsPaid n) rise (Products (record { certificate = c; element = 0; heap = 1 }))
-      (Ended Order) (λ t. (let a = ltb-false _ _ e in omega (arith, a))) (λ t. tt))
+      (Ended (No Order)) (λ t. (let a = ltb-false _ _ e in omega (arith, a))) (λ t. tt))
 
 keys_turned : (n : ℕ) (k : KeysView) → InRanges k.certificate → IsPaid n (Keys k)
     → IsPaid (n + 1) (keys_turn k)
@@ -217,7 +210,7 @@ unfolding keys_turn
 keys_turned n k r l =
     let c = k.certificate in
     by_test (IsPaid (n + 1)) (is_keyed c k.next)
-    (keys_at c (k.next + 1) (k.rising && is_above_last c k.next)) (Ended Word)
+    (keys_at c (k.next + 1) (k.rising && is_above_last c k.next)) (Ended (No Word))
     (λ e. keys_paid (n + 1) c r (k.next + 1) (k.rising && is_above_last c k.next) (omega arith))
     (λ e. tt)
 
@@ -226,7 +219,7 @@ products_turned : (n : ℕ) (p : ProductsView) → AreProducts p → IsPaid n (P
 unfolding products_turn
 products_turned n p a l =
     let c = p.certificate in
-    by_test (IsPaid (n + 1)) (not (is_in_order c p.element p.heap)) (Ended Order)
+    by_test (IsPaid (n + 1)) (not (is_in_order c p.element p.heap)) (Ended (No Order))
     (if p.heap + 1 == c.start + c.period then products_at c (p.element + 1) 1 else products_at c
     p.element (p.heap + 1)) (λ e. tt)
     (λ e. by_test (IsPaid (n + 1)) (p.heap + 1 == c.start + c.period)
@@ -240,7 +233,7 @@ laws_paid : (n : ℕ) (c : Certificate) (s : JobState) → s.grid.order ≡ c.or
     → IsPaid n (laws_at c s)
 unfolding laws_at
 laws_paid n c s same l =
-    by_test (IsPaid n) s.refused (Ended Law)
+    by_test (IsPaid n) s.refused (Ended (No Law))
     (if s.spent == triples s.grid.order then Keys
     (record { certificate = c; next = 1; rising = true }) else Laws
     (record { certificate = c; job = s })) (λ e. tt)
@@ -271,15 +264,7 @@ opened_paid n (Some (c, b ∷ rest)) = tt
 
 paid_more : (n : ℕ) (a : ByteVerdict) → IsPaid n (Ended a) → IsPaid (n + 1) (Ended a)
 paid_more n (Yes c) l = omega arith
-paid_more n Text l = tt
-paid_more n Law l = tt
-paid_more n Word l = tt
-paid_more n Order l = tt
-paid_more n Period l = tt
-paid_more n Apart l = tt
-paid_more n (Outcome code x) l = tt
-paid_more n Limit l = tt
-paid_more n Memory l = tt
+paid_more n answer l = tt
 
 heaps_turned : (n limit : ℕ) (h : HeapsView) → IsPaid n (Heaps h) → IsPaid n (heaps_turn limit h)
 unfolding heaps_turn

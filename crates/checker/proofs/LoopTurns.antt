@@ -1,7 +1,8 @@
 -- Turns of the stages that look at products, at periods and at separating elements.
 use Rattle.std.proofs.Common.{◌≡◌, ℕ, ◌+◌, ◌-◌, ◌<◌, ◌≤◌, Bool, true, false, ◌==◌, nat_lt, List, length, slice_index, refl, sym, ◌∙◌, subst, arith, tests}
 use Rattle.misere_theory.specs.Certificates.{Certificate}
-use Rattle.answers.specs.ByteVerdicts.ByteVerdict.{Order, Period, Apart}
+use Rattle.misere_theory.specs.Verdicts.Fault.{Order, Period, Apart}
+use Rattle.answers.specs.ByteVerdicts.ByteVerdict.{No}
 use Rattle.checker.specs.Views.{ProductsView, PeriodsView, SeparatingView}
 use Rattle.checker.specs.Turns.{Runs, products_at, products_turn, is_in_order, periods_turn, comes_again, separating_at, separating_turn, tells_apart, heaps_at}
 use Rattle.checker.specs.Turns.Phase.{Products, Periods, Separating, Ended}
@@ -32,7 +33,7 @@ products_more c f h e d = let g : (h + 1 == c.start + c.period) ≡ false = grin
     rw (e, g)
 
 products_stop : (c : Certificate) (f h : ℕ) → is_in_order c f h ≡ false
-    → products_turn (record { certificate = c; element = f; heap = h }) ≡ Ended Order
+    → products_turn (record { certificate = c; element = f; heap = h }) ≡ Ended (No Order)
 unfolding products_turn
 products_stop c f h e = rw e
 
@@ -62,7 +63,7 @@ module _ (bytes : List ℕ) (limit : ℕ) (p : ProductsView) (c : Certificate) (
           (products_row c f h (sym is ∙ t) m)
 
       pub products_missed : b ≡ false
-          → Runs bytes limit (Products p) before (after - 1) (Ended Order)
+          → Runs bytes limit (Products p) before (after - 1) (Ended (No Order))
       products_missed t =
           runs-to bytes limit before (after - 1) (Products p) _ _ (products_look some)
           (products_stop c f h (sym is ∙ t))
@@ -96,7 +97,7 @@ module _ (limit : ℕ) (c : Certificate) (s i : ℕ) where
 
   served : nat_lt s c.period ≡ true → comes_again c (c.start + i) s ≡ true
       → (i + 1 == c.period) ≡ true
-      → periods_turn limit (record { certificate = c; shift = s; count = i }) ≡ Ended Period
+      → periods_turn limit (record { certificate = c; shift = s; count = i }) ≡ Ended (No Period)
   unfolding periods_turn
   served l e d = rw (l, e, d)
 
@@ -108,7 +109,7 @@ module _ (limit : ℕ) (c : Certificate) (s i : ℕ) where
   counted l e d = rw (l, e, d)
 
   early : nat_lt s c.period ≡ false → comes_again c (c.start - 1) c.period ≡ true
-      → periods_turn limit (record { certificate = c; shift = s; count = i }) ≡ Ended Period
+      → periods_turn limit (record { certificate = c; shift = s; count = i }) ≡ Ended (No Period)
   unfolding periods_turn
   early l e = rw (l, e)
 
@@ -136,7 +137,7 @@ module _ (bytes : List ℕ) (limit : ℕ) (p : PeriodsView) (c : Certificate) (s
           (shifted limit c s i e (sym is ∙ t))
 
       pub periods_served : b ≡ true → i + 1 ≡ c.period
-          → Runs bytes limit (Periods p) before (after - 1) (Ended Period)
+          → Runs bytes limit (Periods p) before (after - 1) (Ended (No Period))
       periods_served t d =
           let e : nat_lt s c.period ≡ true = grind (arith, tests) in
           let g : (i + 1 == c.period) ≡ true = grind (arith, tests) in
@@ -153,7 +154,7 @@ module _ (bytes : List ℕ) (limit : ℕ) (p : PeriodsView) (c : Certificate) (s
           (counted limit c s i e (sym is ∙ t) g)
 
     module _ (l : c.period ≤ s) (is : b ≡ comes_again c (c.start - 1) c.period) where
-      pub periods_early : b ≡ true → Runs bytes limit (Periods p) before (after - 1) (Ended Period)
+      pub periods_early : b ≡ true → Runs bytes limit (Periods p) before (after - 1) (Ended (No Period))
       periods_early t = let e : nat_lt s c.period ≡ false = grind (arith, tests) in
           runs-to bytes limit before (after - 1) (Periods p) _ _ periods_look
           (early limit c s i e (sym is ∙ t))
@@ -169,7 +170,7 @@ module _ (bytes : List ℕ) (limit : ℕ) (p : PeriodsView) (c : Certificate) (s
 module _ (limit : ℕ) (c : Certificate) (x y n z : ℕ) where
   untold : tells_apart c x y z ≡ false → (z == slice_index c.apart n) ≡ true
       → separating_turn limit (record { certificate = c; x = x; y = y; number = n; z = z })
-      ≡ Ended Apart
+      ≡ Ended (No Apart)
   unfolding separating_turn
   untold e g = rw (e, g)
 
@@ -181,7 +182,7 @@ module _ (limit : ℕ) (c : Certificate) (x y n z : ℕ) where
 
   smaller : tells_apart c x y z ≡ true → nat_lt z (slice_index c.apart n) ≡ true
       → separating_turn limit (record { certificate = c; x = x; y = y; number = n; z = z })
-      ≡ Ended Apart
+      ≡ Ended (No Apart)
   unfolding separating_turn
   smaller e g = rw (e, g)
 
@@ -216,7 +217,7 @@ module _ (bytes : List ℕ) (limit : ℕ) (p : SeparatingView) (c : Certificate)
 
     module _ (b : Bool) (some : 0 < after) (is : b ≡ tells_apart c x y z) where
       pub separating_untold : b ≡ false → z ≡ slice_index c.apart n
-          → Runs bytes limit (Separating p) before (after - 1) (Ended Apart)
+          → Runs bytes limit (Separating p) before (after - 1) (Ended (No Apart))
       separating_untold t e = let g : (z == slice_index c.apart n) ≡ true = grind (arith, tests) in
           runs-to bytes limit before (after - 1) (Separating p) _ _ (separating_look some)
           (untold limit c x y n z (sym is ∙ t) g)
@@ -228,7 +229,7 @@ module _ (bytes : List ℕ) (limit : ℕ) (p : SeparatingView) (c : Certificate)
           (further limit c x y n z (sym is ∙ t) g)
 
       pub separating_smaller : b ≡ true → z < slice_index c.apart n
-          → Runs bytes limit (Separating p) before (after - 1) (Ended Apart)
+          → Runs bytes limit (Separating p) before (after - 1) (Ended (No Apart))
       separating_smaller t e = let g : nat_lt z (slice_index c.apart n) ≡ true =
           grind (arith, tests) in
           runs-to bytes limit before (after - 1) (Separating p) _ _ (separating_look some)

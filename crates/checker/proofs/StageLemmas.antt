@@ -3,7 +3,7 @@ use Rattle.std.proofs.Common.{◌≡◌, ℕ, List, Some, None, false, refl, sym
 use Rattle.misere_theory.specs.Certificates.{Certificate}
 use Rattle.certificate_text.specs.Spelling.{Spells}
 use Rattle.answers.specs.ByteVerdicts.{ByteVerdict, Fits, Holds, IsTrueOf, answer_of}
-use Rattle.answers.specs.ByteVerdicts.ByteVerdict.{Yes, Text, Law, Word, Order, Period, Apart, Outcome, Limit, Memory}
+use Rattle.answers.specs.ByteVerdicts.ByteVerdict.{Yes, Text, No, Outcome, Limit, Memory}
 use Rattle.checker.specs.JobViews.{IsEnding}
 use Rattle.checker.specs.Stages.{Carries, Stands, has_ended, ending}
 use Rattle.checker.specs.declared.stage.Stage.{Stage}
@@ -13,11 +13,7 @@ module _ (bytes : List ℕ) (c : Certificate) (spelled : Spells bytes c) (limit 
   pub fitting_is_true : (a : ByteVerdict) → Fits c limit a → Holds bytes limit a
   fitting_is_true (Yes d) f = (c, spelled, f)
   fitting_is_true Text f = absurd f
-  fitting_is_true Law f = (c, spelled, f)
-  fitting_is_true Word f = (c, spelled, f)
-  fitting_is_true Order f = (c, spelled, f)
-  fitting_is_true Period f = (c, spelled, f)
-  fitting_is_true Apart f = (c, spelled, f)
+  fitting_is_true (No fault) f = (c, spelled, f)
   fitting_is_true (Outcome code X) f = (c, spelled, f)
   fitting_is_true Limit f = (c, spelled, f)
   fitting_is_true Memory f = tt

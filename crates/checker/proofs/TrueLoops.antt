@@ -10,7 +10,9 @@ use Rattle.certificate.specs.Fields.{grid_of, pretending_of}
 use Rattle.monoid_table.specs.Grids.{IsShaped}
 use Rattle.monoid_table.specs.Turns.{JobState, triples, turn, turns, fresh}
 use Rattle.transition_algebra.specs.Heaps.{Agrees}
-use Rattle.answers.specs.ByteVerdicts.ByteVerdict.{Law, Word, Order, Period, Apart}
+use Rattle.misere_theory.specs.Verdicts.{Fault, IsFirstFault}
+use Rattle.misere_theory.specs.Verdicts.Fault.{Law, Word, Order, Period, Apart}
+use Rattle.answers.specs.ByteVerdicts.ByteVerdict.{No}
 use Rattle.checker.specs.SoFar.{IsKeyOf, KeysSoFar, ProductsSoFar, ApartSoFar, HasNoFaultBelow}
 use Rattle.checker.specs.Views.{LawsView, KeysView, ProductsView, PeriodsView, SeparatingView}
 use Rattle.checker.specs.Turns.{laws_at, laws_turn, keys_at, keys_turn, is_keyed, is_above_last, products_at, products_turn, is_in_order, periods_turn, comes_again, separating_at, separating_turn, tells_apart, heaps_at}
@@ -22,13 +24,17 @@ use Rattle.checker.proofs.ProductLemmas.{product_turn, row_turn, not_in_order, p
 use Rattle.checker.proofs.PeriodLemmas.{again_turn, serves_round, shift_turn, periods_end}
 use Rattle.checker.proofs.ApartLemmas.{apart_start, element_turn, apart_none, apart_smaller, pair_turn, last_pair_turn, apart_end}
 use Rattle.checker.proofs.TableLemmas.{turns-grid}
-use Rattle.checker.proofs.StageLemmas.{fitting_is_true}
 use Rattle.checker.proofs.TrueTests.{less_is, not_less, same_is, not_same, not_false, not_true, keyed_is, not_keyed, above_is, in_order_is, order_fails, again_is, not_again, apart_is, not_apart}
-use Rattle.checker.proofs.TrueEnds.{HeapsAreKnown, faulty, heaps_begin}
+use Rattle.checker.proofs.TrueEnds.{HeapsAreKnown, heaps_begin}
 use Rattle.checker.proofs.TrueTables.{TablesCost, refused_fails, all_hold}
 use Rattle.checker.proofs.TruePhases.{AreLaws, IsSpelled, AreKeys, AreProducts, ArePeriods, AreSeparating, IsRight}
 
 module _ (bytes : List ℕ) (limit : ℕ) where
+  -- the first fault is a true answer
+  faulty : (c : Certificate) → Spells bytes c → (fault : Fault) → IsFirstFault c fault
+      → IsRight bytes limit (Ended (No fault))
+  faulty c spelled fault f = ((c, spelled, f), λ q. cc)
+
   module _ (c : Certificate) (is : IsSpelled bytes limit c) where
     keys_free : ((e : ℕ) → 0 < e → e < c.order → IsKeyOf c e) → HasNoFaultBelow 4 c
     keys_free all = none_below_order c (none_below_word c is.lawful.monoid) (keys_fault_free c all)
@@ -60,11 +66,11 @@ module _ (bytes : List ℕ) (limit : ℕ) where
         by_test (IsRight bytes limit) (nat_lt n c.order)
         (Keys (record { certificate = c; next = n; rising = r }))
         (if r then Products (record { certificate = c; element = 0; heap = 1 }) else Ended
-        Order)
+        (No Order))
         (λ e. record { is = is; so_far = k; more = less_is n c.order e })
         (λ e. let l = not_less n c.order e in
         by_test (IsRight bytes limit) r
-        (Products (record { certificate = c; element = 0; heap = 1 })) (Ended Order)
+        (Products (record { certificate = c; element = 0; heap = 1 })) (Ended (No Order))
         (λ t. let keys = keys_end c n (subst (KeysSoFar c n) t k) l in let o =
         is.lawful.in_ranges.order.0 in let p = is.lawful.in_ranges.period.0 in let s =
         is.lawful.in_ranges.start in record {
@@ -79,11 +85,11 @@ module _ (bytes : List ℕ) (limit : ℕ) where
           };
           more = omega arith;
         })
-        (λ f. faulty bytes limit c is Order (
+        (λ f. faulty c is.spelled Order (
           keys_fall c n r k f,
           none_below_order c (none_below_word c is.lawful.monoid)
               (keys_word_free c n r k l),
-        ) (λ d. cc)))
+        )))
 
     keys_begin : IsRight bytes limit (Keys (record { certificate = c; next = 1; rising = true }))
     keys_begin = let o = is.lawful.in_ranges.order.0 in record {
@@ -117,14 +123,14 @@ module _ (bytes : List ℕ) (limit : ℕ) where
       let c = k.certificate in
       let o = a.so_far.from_one in
       by_test (IsRight bytes limit) (is_keyed c k.next)
-      (keys_at c (k.next + 1) (k.rising && is_above_last c k.next)) (Ended Word)
+      (keys_at c (k.next + 1) (k.rising && is_above_last c k.next)) (Ended (No Word))
       (λ e. keys_at-right c a.is (k.next + 1) (k.rising && is_above_last c k.next)
       (key_turn c k.next k.rising (is_above_last c k.next) a.so_far a.more (keyed_is c k.next e)
       (above_is c k.next o)))
-      (λ e. faulty bytes limit c a.is Word (
+      (λ e. faulty c a.is.spelled Word (
         not_a_key c k.next (omega arith) a.more (not_keyed c k.next e),
         none_below_word c a.is.lawful.monoid,
-      ) (λ d. cc))
+      ))
 
   pub products_right : (p : ProductsView) → AreProducts bytes limit p
       → IsRight bytes limit (products_turn p)
@@ -133,14 +139,14 @@ module _ (bytes : List ℕ) (limit : ℕ) where
       let c = p.certificate in
       let s = a.so_far in
       let b = s.heap in
-      by_test (IsRight bytes limit) (not (is_in_order c p.element p.heap)) (Ended Order)
+      by_test (IsRight bytes limit) (not (is_in_order c p.element p.heap)) (Ended (No Order))
       (if p.heap + 1 == c.start + c.period then products_at c (p.element + 1) 1 else products_at
       c p.element (p.heap + 1))
       (λ e. let f = not_true (is_in_order c p.element p.heap) e in
-      faulty bytes limit c a.is Order (
+      faulty c a.is.spelled Order (
         not_in_order c p.element p.heap a.more s.from_one b (order_fails c p.element p.heap f),
         keys_free c a.is s.keys.keyed,
-      ) (λ d. cc))
+      ))
       (λ e. let t : is_in_order c p.element p.heap ≡ true =
       not_false (is_in_order c p.element p.heap) e in
       let k = in_order_is c p.element p.heap t in
@@ -164,24 +170,23 @@ module _ (bytes : List ℕ) (limit : ℕ) where
       let w = k.element l in
       let g : given < c.order = All-get_or (λ x. x < c.order) c.apart s.number 0 l r.apart.1 in
       by_test (IsRight bytes limit) (not (tells_apart c s.x s.y s.z))
-      (if s.z == given then Ended Apart else separating_at limit c s.x s.y s.number (s.z + 1))
-      (if nat_lt s.z given then Ended Apart else if s.y + 1 == c.order then separating_at limit c
+      (if s.z == given then Ended (No Apart) else separating_at limit c s.x s.y s.number (s.z + 1))
+      (if nat_lt s.z given then Ended (No Apart) else if s.y + 1 == c.order then separating_at limit c
       (s.x + 1) (s.x + 2) (s.number + 1) 0 else separating_at limit c s.x (s.y + 1)
       (s.number + 1) 0)
       (λ e. let untold = not_apart c s.x s.y s.z (not_true _ e) in
-      by_test (IsRight bytes limit) (s.z == given) (Ended Apart)
+      by_test (IsRight bytes limit) (s.z == given) (Ended (No Apart))
       (separating_at limit c s.x s.y s.number (s.z + 1))
-      (λ d. faulty bytes limit c a.is Apart
-      (apart_none c r s.x s.y s.z s.number k l untold (same_is s.z given d), k.free) (λ q. cc))
+      (λ d. faulty c a.is.spelled Apart
+      (apart_none c r s.x s.y s.z s.number k l untold (same_is s.z given d), k.free))
       (λ d. separating_at-right c a.is known s.x s.y s.number (s.z + 1)
       (element_turn c r s.x s.y s.z s.number k l untold (not_same s.z given d))))
       (λ e. let tells = apart_is c s.x s.y s.z (not_false _ e) in
-      by_test (IsRight bytes limit) (nat_lt s.z given) (Ended Apart)
+      by_test (IsRight bytes limit) (nat_lt s.z given) (Ended (No Apart))
       (if s.y + 1 == c.order then separating_at limit c (s.x + 1) (s.x + 2) (s.number + 1) 0
       else separating_at limit c s.x (s.y + 1) (s.number + 1) 0)
-      (λ d. faulty bytes limit c a.is Apart
-      (apart_smaller c r s.x s.y s.z s.number k l tells (less_is s.z given d), k.free)
-      (λ q. cc))
+      (λ d. faulty c a.is.spelled Apart
+      (apart_smaller c r s.x s.y s.z s.number k l tells (less_is s.z given d), k.free))
       (λ d. let m = not_less s.z given d in
       let h : s.z ≡ given = omega arith in
       by_test (IsRight bytes limit) (s.y + 1 == c.order)
@@ -210,13 +215,13 @@ module _ (bytes : List ℕ) (limit : ℕ) where
       by_test (IsRight bytes limit) (nat_lt p.shift c.period)
       (if not (comes_again c (c.start + p.count) p.shift) then Periods
       (record { certificate = c; shift = p.shift + 1; count = 0 }) else if p.count
-      + 1 == c.period then Ended Period else Periods
+      + 1 == c.period then Ended (No Period) else Periods
       (record { certificate = c; shift = p.shift; count = p.count + 1 }))
-      (if comes_again c (c.start - 1) c.period then Ended Period else separating_at limit c 0 1 0 0)
+      (if comes_again c (c.start - 1) c.period then Ended (No Period) else separating_at limit c 0 1 0 0)
       (λ e. let l = less_is p.shift c.period e in
       by_test (IsRight bytes limit) (not (comes_again c (c.start + p.count) p.shift))
       (Periods (record { certificate = c; shift = p.shift + 1; count = 0 }))
-      (if p.count + 1 == c.period then Ended Period else Periods
+      (if p.count + 1 == c.period then Ended (No Period) else Periods
       (record { certificate = c; shift = p.shift; count = p.count + 1 }))
       (λ d. record {
         is = a.is;
@@ -224,18 +229,17 @@ module _ (bytes : List ℕ) (limit : ℕ) where
             (not_again c (c.start + p.count) p.shift (not_true _ d) (omega arith) (omega arith)) l;
       })
       (λ d. let k = (again_is c (c.start + p.count) p.shift (not_false _ d)).2 in
-      by_test (IsRight bytes limit) (p.count + 1 == c.period) (Ended Period)
+      by_test (IsRight bytes limit) (p.count + 1 == c.period) (Ended (No Period))
       (Periods (record { certificate = c; shift = p.shift; count = p.count + 1 }))
-      (λ f. faulty bytes limit c a.is Period
-      (serves_round c r p.shift p.count s k (same_is (p.count + 1) c.period f) l, s.free)
-      (λ q. cc))
+      (λ f. faulty c a.is.spelled Period
+      (serves_round c r p.shift p.count s k (same_is (p.count + 1) c.period f) l, s.free))
       (λ f. let n = not_same (p.count + 1) c.period f in
       record { is = a.is; so_far = again_turn c p.shift p.count s k (omega (arith, n)) })))
       (λ e. let l = not_less p.shift c.period e in
-      by_test (IsRight bytes limit) (comes_again c (c.start - 1) c.period) (Ended Period)
+      by_test (IsRight bytes limit) (comes_again c (c.start - 1) c.period) (Ended (No Period))
       (separating_at limit c 0 1 0 0)
       (λ d. let k = again_is c (c.start - 1) c.period d in let i = k.0 in
-      faulty bytes limit c a.is Period (inr (k.1, omega arith, k.2), s.free) (λ q. cc))
+      faulty c a.is.spelled Period (inr (k.1, omega arith, k.2), s.free))
       (λ d. let free =
       none_below_apart c s.free
       (periods_end c p.shift p.count s (omega arith) (λ k. let i = k.1 in
@@ -250,12 +254,12 @@ module _ (bytes : List ℕ) (limit : ℕ) where
       let g =
       ap (λ j. triples j.grid.order) e
       ∙ ap (λ t. triples t.order) (turns-grid n (fresh (grid_of c))) in
-      by_test (IsRight bytes limit) s.refused (Ended Law)
+      by_test (IsRight bytes limit) s.refused (Ended (No Law))
       (if s.spent == triples s.grid.order then Keys
       (record { certificate = c; next = 1; rising = true }) else Laws
       (record { certificate = c; job = s }))
       (λ t. let f = refused_fails known c r shaped agrees n (sym (ap (λ j. j.refused) e) ∙ t) in
-      (fitting_is_true bytes c spelled limit Law (f, none_below_law c), λ q. cc))
+      faulty c spelled Law (f, none_below_law c))
       (λ t. by_test (IsRight bytes limit) (s.spent == triples s.grid.order)
       (Keys (record { certificate = c; next = 1; rising = true }))
       (Laws (record { certificate = c; job = s }))

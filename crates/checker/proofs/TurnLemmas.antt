@@ -2,7 +2,8 @@
 use Rattle.std.proofs.Common.{◌≡◌, ℕ, suc, ◌+◌, ◌-◌, ◌<◌, ◌≤◌, Bool, true, false, ◌&&◌, nat_lt, List, refl, sym, ◌∙◌, ap, subst, arith, tests}
 use native.Mathlib.Decide.{dec_lt}
 use Rattle.misere_theory.specs.Certificates.{Certificate}
-use Rattle.answers.specs.ByteVerdicts.ByteVerdict.{Word, Order}
+use Rattle.misere_theory.specs.Verdicts.Fault.{Word, Order}
+use Rattle.answers.specs.ByteVerdicts.ByteVerdict.{No}
 use Rattle.checker.specs.Views.{KeysView}
 use Rattle.checker.specs.Turns.{Phase, stage_of, turn, turns, Runs, keys_at, keys_turn, is_keyed, is_above_last}
 use Rattle.checker.specs.Turns.Phase.{Keys, Products, Ended}
@@ -71,7 +72,7 @@ pub keys_out : (c : Certificate) (next : ℕ) → c.order ≤ next
 unfolding keys_at
 keys_out c next l = let e : nat_lt next c.order ≡ false = grind (arith, tests) in rw e
 
-pub keys_fallen : (c : Certificate) (next : ℕ) → c.order ≤ next → keys_at c next false ≡ Ended Order
+pub keys_fallen : (c : Certificate) (next : ℕ) → c.order ≤ next → keys_at c next false ≡ Ended (No Order)
 unfolding keys_at
 keys_fallen c next l = let e : nat_lt next c.order ≡ false = grind (arith, tests) in rw e
 
@@ -82,7 +83,7 @@ unfolding keys_turn
 keys_more c next rise e = rw e
 
 pub keys_stop : (c : Certificate) (next : ℕ) (rise : Bool) → is_keyed c next ≡ false
-    → keys_turn (record { certificate = c; next = next; rising = rise }) ≡ Ended Word
+    → keys_turn (record { certificate = c; next = next; rising = rise }) ≡ Ended (No Word)
 unfolding keys_turn
 keys_stop c next rise e = rw e
 
@@ -106,7 +107,7 @@ module _ (bytes : List ℕ) (limit : ℕ) (k : KeysView) (c : Certificate) (next
         (keys_more c next rise (sym e ∙ t) ∙ ap (λ v. keys_at c (next + 1) (rise && v)) (sym d))
 
     pub keys_missed : (b : Bool) → 0 < after → b ≡ false → b ≡ is_keyed c next
-        → Runs bytes limit (Keys k) before (after - 1) (Ended Word)
+        → Runs bytes limit (Keys k) before (after - 1) (Ended (No Word))
     keys_missed b some t e =
         runs-to bytes limit before (after - 1) (Keys k) _ _ (keys_look some)
         (keys_stop c next rise (sym e ∙ t))
@@ -118,6 +119,6 @@ module _ (bytes : List ℕ) (limit : ℕ) (k : KeysView) (c : Certificate) (next
       runs-to bytes limit before after (Keys k) _ _ r (ap (keys_at c next) t ∙ keys_out c next l)
 
   pub keys_fall_over : c.order ≤ next → rise ≡ false
-      → Runs bytes limit (Keys k) before after (Ended Order)
+      → Runs bytes limit (Keys k) before after (Ended (No Order))
   keys_fall_over l t =
       runs-to bytes limit before after (Keys k) _ _ r (ap (keys_at c next) t ∙ keys_fallen c next l)

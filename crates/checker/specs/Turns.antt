@@ -17,7 +17,8 @@ use Rattle.pair_closure.specs.ClosureViews as closure
 use Rattle.pair_closure.specs.Positions.{rising, word}
 use Rattle.checker.specs.Bounds.{most_turns}
 use Rattle.answers.specs.ByteVerdicts.{ByteVerdict}
-use Rattle.answers.specs.ByteVerdicts.ByteVerdict.{Yes, Text, Law, Word, Order, Period, Apart, Outcome, Limit, Memory}
+use Rattle.misere_theory.specs.Verdicts.Fault.{Law, Word, Order, Period, Apart}
+use Rattle.answers.specs.ByteVerdicts.ByteVerdict.{Yes, Text, No, Outcome, Limit, Memory}
 use Rattle.checker.specs.Views.{LawsView, KeysView, ProductsView, PeriodsView, SeparatingView, HeapsView, ElementsView, ClosingView}
 
 -- Where a check stands: at a stage with what it holds, or at its answer.
@@ -142,8 +143,8 @@ separating_turn limit s =
     let c = s.certificate in
     let given = slice_index c.apart s.number in
     if not (tells_apart c s.x s.y s.z) then
-    (if s.z == given then Ended Apart else separating_at limit c s.x s.y s.number (s.z + 1))
-    else if nat_lt s.z given then Ended Apart
+    (if s.z == given then Ended (No Apart) else separating_at limit c s.x s.y s.number (s.z + 1))
+    else if nat_lt s.z given then Ended (No Apart)
     else if s.y + 1 == c.order then separating_at limit c (s.x + 1) (s.x + 2) (s.number + 1) 0
     else separating_at limit c s.x (s.y + 1) (s.number + 1) 0
 
@@ -161,9 +162,9 @@ periods_turn limit p =
     then (
     if not (comes_again c (c.start + p.count) p.shift) then Periods
     (record { certificate = c; shift = p.shift + 1; count = 0 })
-    else if p.count + 1 == c.period then Ended Period
+    else if p.count + 1 == c.period then Ended (No Period)
     else Periods (record { certificate = c; shift = p.shift; count = p.count + 1 }))
-    else if comes_again c (c.start - 1) c.period then Ended Period
+    else if comes_again c (c.start - 1) c.period then Ended (No Period)
     else separating_at limit c 0 1 0 0
 
 unfoldable pub products_at : Certificate → ℕ → ℕ → Phase
@@ -184,14 +185,14 @@ is_in_order c f h =
 unfoldable pub products_turn : ProductsView → Phase
 products_turn p =
     let c = p.certificate in
-    if not (is_in_order c p.element p.heap) then Ended Order
+    if not (is_in_order c p.element p.heap) then Ended (No Order)
     else if p.heap + 1 == c.start + c.period then products_at c (p.element + 1) 1
     else products_at c p.element (p.heap + 1)
 
 unfoldable pub keys_at : Certificate → ℕ → Bool → Phase
 keys_at c next rise =
     if nat_lt next c.order then Keys (record { certificate = c; next = next; rising = rise })
-    else if rise then Products (record { certificate = c; element = 0; heap = 1 }) else Ended Order
+    else if rise then Products (record { certificate = c; element = 0; heap = 1 }) else Ended (No Order)
 
 abbrev pub is_keyed : Certificate → ℕ → Bool
 is_keyed c e = nat_lt (key_of c e).0 e && (times_of c (key_of c e).0 (phi_at c (key_of c e).1) == e)
@@ -203,11 +204,11 @@ unfoldable pub keys_turn : KeysView → Phase
 keys_turn k =
     let c = k.certificate in
     if is_keyed c k.next then keys_at c (k.next + 1) (k.rising && is_above_last c k.next) else Ended
-    Word
+    (No Word)
 
 unfoldable pub laws_at : Certificate → table.JobState → Phase
 laws_at c job =
-    if job.refused then Ended Law
+    if job.refused then Ended (No Law)
     else if job.spent == table.triples job.grid.order then Keys
     (record { certificate = c; next = 1; rising = true })
     else Laws (record { certificate = c; job = job })

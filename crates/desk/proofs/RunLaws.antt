@@ -6,7 +6,7 @@ use Rattle.positions.specs.Outcomes.{HasOutcome}
 use Rattle.positions.specs.declared.outcome.Outcome.{Outcome as PositionOutcome}
 use Rattle.positions.specs.declared.outcome.Outcome.TheVariants.{P, N}
 use Rattle.answers.specs.ByteVerdicts.{ByteVerdict}
-use Rattle.answers.specs.ByteVerdicts.ByteVerdict.{Yes, Text, Law, Word, Order, Period, Apart, Outcome, Limit, Memory}
+use Rattle.answers.specs.ByteVerdicts.ByteVerdict.{Yes}
 use Rattle.checker.specs.JobViews.{JobView}
 use Rattle.player.specs.Answers.{IsRightAnswer}
 use Rattle.player.specs.declared.answering.Answer.{Answer as PlayAnswer}
@@ -31,16 +31,7 @@ outcome_replies_one (Some (Yes c)) X a b (inl (p, f)) (inl (q, g)) =
 outcome_replies_one (Some (Yes c)) X a b (inl (p, f)) (inr g) = absurd (g.1 p)
 outcome_replies_one (Some (Yes c)) X a b (inr f) (inl (q, g)) = absurd (f.1 q)
 outcome_replies_one (Some (Yes c)) X a b (inr f) (inr g) = f.2 ∙ sym g.2
-outcome_replies_one (Some Text) X a b f g = f ∙ sym g
-outcome_replies_one (Some Law) X a b f g = f ∙ sym g
-outcome_replies_one (Some Word) X a b f g = f ∙ sym g
-outcome_replies_one (Some Order) X a b f g = f ∙ sym g
-outcome_replies_one (Some Period) X a b f g = f ∙ sym g
-outcome_replies_one (Some Apart) X a b f g = f ∙ sym g
-outcome_replies_one (Some (Outcome code Y)) X a b f g = f ∙ sym g
-outcome_replies_one (Some Limit) X a b f g = f ∙ sym g
-outcome_replies_one (Some Memory) X a b f g = f ∙ sym g
-outcome_replies_one None X a b f g = f ∙ sym g
+outcome_replies_one other X a b f g = f ∙ sym g
 
 opens_one : (old : Jobs) (bytes : List ℕ) (limit : ℕ) (o : Option ℕ) (a b : Reply) (m n : Jobs)
     → Opens old bytes limit o a m → Opens old bytes limit o b n → (a ≡ b) × (m ≡ n)
@@ -86,16 +77,7 @@ module _ (right_one : (code X : List ℕ) (a b : PlayAnswer) → IsRightAnswer c
   answer_replies_one (Some (Yes c)) X a b (inl (p, f)) (inr g) = absurd (g.1 p)
   answer_replies_one (Some (Yes c)) X a b (inr f) (inl (q, g)) = absurd (f.1 q)
   answer_replies_one (Some (Yes c)) X a b (inr f) (inr g) = f.2 ∙ sym g.2
-  answer_replies_one (Some Text) X a b f g = f ∙ sym g
-  answer_replies_one (Some Law) X a b f g = f ∙ sym g
-  answer_replies_one (Some Word) X a b f g = f ∙ sym g
-  answer_replies_one (Some Order) X a b f g = f ∙ sym g
-  answer_replies_one (Some Period) X a b f g = f ∙ sym g
-  answer_replies_one (Some Apart) X a b f g = f ∙ sym g
-  answer_replies_one (Some (Outcome code Y)) X a b f g = f ∙ sym g
-  answer_replies_one (Some Limit) X a b f g = f ∙ sym g
-  answer_replies_one (Some Memory) X a b f g = f ∙ sym g
-  answer_replies_one None X a b f g = f ∙ sym g
+  answer_replies_one other X a b f g = f ∙ sym g
 
   plays_one : (old : Jobs) (X : List ℕ) (o : Option JobView) (a b : Reply) (m n : Jobs)
       → Plays old X o a m → Plays old X o b n → (a ≡ b) × (m ≡ n)

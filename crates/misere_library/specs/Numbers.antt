@@ -1,7 +1,8 @@
 -- The numbers in which the calls of the library answer. This project's own.
 use Rattle.std.specs.Prelude.{◌≡◌, ℕ}
+use Rattle.misere_theory.specs.Verdicts.{fault_number}
 use Rattle.answers.specs.ByteVerdicts.{ByteVerdict as Verdict}
-use Rattle.answers.specs.ByteVerdicts.ByteVerdict.{Yes, Text, Law, Word, Order, Period, Apart, Outcome, Limit, Memory}
+use Rattle.answers.specs.ByteVerdicts.ByteVerdict.{Yes, Text, No, Outcome, Limit, Memory}
 use Rattle.heap_options.specs.declared.left.Left.{Left}
 use Rattle.heap_options.specs.declared.left.Left.TheVariants.{Nothing, One, Two, Three}
 use Rattle.positions.specs.declared.outcome.Outcome.{Outcome as Winner}
@@ -14,11 +15,7 @@ use Rattle.misere_library.specs.declared.numbers.MisereAnswer.{MisereAnswer}
 abbrev pub status_of : Verdict → ℕ
 status_of (Yes c) = 0
 status_of Text = 1
-status_of Law = 2
-status_of Word = 3
-status_of Order = 4
-status_of Period = 5
-status_of Apart = 6
+status_of (No fault) = fault_number fault
 status_of (Outcome code X) = 7
 status_of Limit = 8
 status_of Memory = 9

@@ -3,8 +3,10 @@ use Rattle.std.specs.Prelude.{◌≡◌, ℕ, refl, List, [], ◌∷◌, ◌⊎�
 use mathlib.Core.Logic.{inl, inr}
 use Rattle.std.specs.Coded.{Coded, code_by, coded×, coded⊎, coded_ℕ, coded_list}
 use Rattle.misere_theory.specs.Certificates.{Certificate}
+use Rattle.misere_theory.specs.Verdicts.{fault_number}
+use Rattle.misere_theory.specs.Verdicts.Fault.{Law, Word, Order, Period, Apart}
 use Rattle.answers.specs.ByteVerdicts.{ByteVerdict}
-use Rattle.answers.specs.ByteVerdicts.ByteVerdict.{Yes, Text, Law, Word, Order, Period, Apart, Outcome, Limit, Memory}
+use Rattle.answers.specs.ByteVerdicts.ByteVerdict.{Yes, Text, No, Outcome, Limit, Memory}
 
 -- It was asked, and gave this draft, or none, or memory was wanting; or it was told this refusal.
 pub data Event : Type 0 where
@@ -53,16 +55,12 @@ abbrev sum_of_answer : ByteVerdict → AnswerSum
 sum_of_answer (Yes c) = inl (inl c)
 sum_of_answer (Outcome code X) = inl (inr (code, X))
 sum_of_answer Text = inr 0
-sum_of_answer Law = inr 1
-sum_of_answer Word = inr 2
-sum_of_answer Order = inr 3
-sum_of_answer Period = inr 4
-sum_of_answer Apart = inr 5
-sum_of_answer Limit = inr 6
+sum_of_answer Limit = inr 1
+sum_of_answer (No fault) = inr (fault_number fault)
 sum_of_answer Memory = inr 7
 
 abbrev numbered : ℕ → ByteVerdict
-numbered n = slice_index_or (Text ∷ Law ∷ Word ∷ Order ∷ Period ∷ Apart ∷ Limit ∷ []) n Memory
+numbered n = slice_index_or (Text ∷ Limit ∷ No Law ∷ No Word ∷ No Order ∷ No Period ∷ No Apart ∷ []) n Memory
 
 abbrev answer_of_sum : AnswerSum → ByteVerdict
 answer_of_sum (inl (inl c)) = Yes c
@@ -73,11 +71,11 @@ pub answer_back : (a : ByteVerdict) → answer_of_sum (sum_of_answer a) ≡ a
 answer_back (Yes c) = refl
 answer_back (Outcome code X) = refl
 answer_back Text = refl
-answer_back Law = refl
-answer_back Word = refl
-answer_back Order = refl
-answer_back Period = refl
-answer_back Apart = refl
+answer_back (No Law) = refl
+answer_back (No Word) = refl
+answer_back (No Order) = refl
+answer_back (No Period) = refl
+answer_back (No Apart) = refl
 answer_back Limit = refl
 answer_back Memory = refl
 

@@ -4,12 +4,14 @@ use Rattle.std.specs.Borrow.{Bor}
 use Rattle.octal_code.specs.Text.{code_text}
 use Rattle.positions.specs.Text.{position_text}
 use Rattle.misere_theory.specs.Certificates.{Certificate, kind_of}
+use Rattle.misere_theory.specs.Verdicts.{Fault, fault_number}
+use Rattle.misere_theory.specs.Verdicts.Fault.{Law, Word, Order, Period, Apart}
 use Rattle.misere_theory.specs.Games.{IsP, IsN}
 use Rattle.misere_theory.specs.Plays.{MoreReachableThan}
 use Rattle.outcome_search.specs.Settled.{IsSettledBy}
 use Rattle.positions.specs.declared.outcome.Outcome.TheVariants.{P, N}
 use Rattle.answers.specs.ByteVerdicts.{ByteVerdict, refused}
-use Rattle.answers.specs.ByteVerdicts.ByteVerdict.{Yes, Text, Law, Word, Order, Period, Apart, Outcome, Limit, Memory}
+use Rattle.answers.specs.ByteVerdicts.ByteVerdict.{Yes, Text, No, Outcome, Limit, Memory}
 use Rattle.answers.specs.declared.refusal.Refusal.{Refusal}
 use Rattle.verdict_texts.specs.declared.lines.TheConstants.{OUTCOME_BUDGET}
 
@@ -35,16 +37,23 @@ yes_line c = if kind_of c == 0 then full_line c else partial_line c
 abbrev pub no_line : ℕ → List ℕ → List ℕ
 no_line number name = codes "no " ++ decimal number ++ codes " " ++ name ++ codes "\n"
 
+abbrev pub fault_name : Fault → List ℕ
+fault_name Law = codes "Law"
+fault_name Word = codes "Word"
+fault_name Order = codes "Order"
+fault_name Period = codes "Period"
+fault_name Apart = codes "Apart"
+
+-- the line of a fault
+abbrev pub fault_line : Fault → List ℕ
+fault_line fault = no_line (fault_number fault) (fault_name fault)
+
 -- The first line of an answer's text: yes with what was certified, or no with the number and the
 -- name.
 abbrev pub first_line : ByteVerdict → List ℕ
 first_line (Yes c) = yes_line c
 first_line Text = no_line 1 (codes "Text")
-first_line Law = no_line 2 (codes "Law")
-first_line Word = no_line 3 (codes "Word")
-first_line Order = no_line 4 (codes "Order")
-first_line Period = no_line 5 (codes "Period")
-first_line Apart = no_line 6 (codes "Apart")
+first_line (No fault) = fault_line fault
 first_line (Outcome code X) = no_line 7 (codes "Outcome")
 first_line Limit = no_line 8 (codes "Limit")
 first_line Memory = no_line 9 (codes "Memory")
@@ -63,11 +72,7 @@ pub data IsOutcomeLine (code X : List ℕ) : List ℕ → Type 0 where
 abbrev pub IsTextOf : ByteVerdict → List ℕ → Type 0
 IsTextOf (Yes c) text = text ≡ yes_line c
 IsTextOf Text text = text ≡ no_line 1 (codes "Text")
-IsTextOf Law text = text ≡ no_line 2 (codes "Law")
-IsTextOf Word text = text ≡ no_line 3 (codes "Word")
-IsTextOf Order text = text ≡ no_line 4 (codes "Order")
-IsTextOf Period text = text ≡ no_line 5 (codes "Period")
-IsTextOf Apart text = text ≡ no_line 6 (codes "Apart")
+IsTextOf (No fault) text = text ≡ fault_line fault
 IsTextOf (Outcome code X) text =
     (line : List ℕ) × IsOutcomeLine code X line
     × (text ≡ no_line 7 (codes "Outcome") ++ codes "rule fails at " ++ position_text X ++ codes "\n"
@@ -77,15 +82,7 @@ IsTextOf Memory text = ⊥
 
 abbrev pub is_yes : ByteVerdict → Bool
 is_yes (Yes c) = true
-is_yes Text = false
-is_yes Law = false
-is_yes Word = false
-is_yes Order = false
-is_yes Period = false
-is_yes Apart = false
-is_yes (Outcome code X) = false
-is_yes Limit = false
-is_yes Memory = false
+is_yes answer = false
 
 -- the answer that a result is
 abbrev pub lent_answer : {A : Type 0} → Result (Bor Certificate) (Bor (Refusal A)) → ByteVerdict

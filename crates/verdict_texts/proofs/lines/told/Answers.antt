@@ -4,7 +4,7 @@ use Rattle.std.specs.String.{string_bytes}
 use Rattle.misere_theory.specs.Certificates.{Certificate}
 use Rattle.answers.specs.ByteVerdicts.{ByteVerdict, answer_of}
 use Rattle.answers.specs.declared.refusal.Refusal.{Refusal}
-use Rattle.answers.specs.declared.refusal.Refusal.TheVariants.{Text, Law, Word, Order, Period, Apart, Outcome, Limit, Memory}
+use Rattle.answers.specs.declared.refusal.Refusal.TheVariants.{Text}
 use Rattle.verdict_texts.specs.Lines.{IsTextOf, is_yes, lent_answer}
 use Rattle.verdict_texts.proofs.lines.told.Goals as goal
 
@@ -17,14 +17,7 @@ lent_is A (Err r) v e = rw (← e) refl
 yes_is : (A : Type 0) (v : Result Certificate (Refusal A)) → is_ok v ≡ is_yes (answer_of v)
 yes_is A (Ok c) = refl
 yes_is A (Err Text) = refl
-yes_is A (Err Law) = refl
-yes_is A (Err Word) = refl
-yes_is A (Err Order) = refl
-yes_is A (Err Period) = refl
-yes_is A (Err Apart) = refl
-yes_is A (Err (Outcome code X)) = refl
-yes_is A (Err Limit) = refl
-yes_is A (Err Memory) = refl
+yes_is A other = refl
 
 pub returns-clause-yes : goal.returns-clause-yes
 returns-clause-yes g c = c.is_ok-accepted.ensures.value ∙ yes_is _ c.args.verdict

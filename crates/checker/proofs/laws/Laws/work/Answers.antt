@@ -8,7 +8,7 @@ use Rattle.checker.specs.LawfulCertificates.{fields_of, IsRead}
 use Rattle.checker.proofs.FaultLemmas.{none_below_law}
 use Rattle.monoid_table.specs.Turns.{JobState}
 use Rattle.monoid_table.specs.Grids.{Grid}
-use Rattle.answers.specs.ByteVerdicts.ByteVerdict.{Law as Broken}
+use Rattle.answers.specs.ByteVerdicts.ByteVerdict.{No}
 use Rattle.checker.specs.Views.{KeysView}
 use Rattle.checker.specs.Turns.{Phase, Works}
 use Rattle.checker.specs.Turns.Phase.{Laws, Keys, Ended}
@@ -171,6 +171,6 @@ returns-in-Err-clause-works g c = λ bytes limit.
     let d : c.work-looked.new.self.spent ≡ (turns U s.job).spent = ap (λ j. j.spent) st in
     let a = ap answer_of (sym st) ∙ (sym c.work-looked.ensures.answer ∙ c.in-Err.is) in
     subst (λ v. Works bytes limit (Laws v) U (U - (c.done.result - c.done-before.result))
-    (Ended Broken)) c.self.view_is
+    (Ended (No Law))) c.self.view_is
     (laws_works bytes limit _ s.job c.self.invariant.1 U _ _ (omega arith)
     (sym (laws_broken _ (turns U s.job) _ a)) (λ h. omega arith))
