@@ -146,7 +146,7 @@ module _ (depth : ℕ) (ts : List Token) where
   other_refused spelt.EndObject f g h i j l = end_object_refused
   other_refused spelt.BeginArray f g h i j l = absurd (g refl)
   other_refused spelt.EndArray f g h i j l = end_array_refused
-  other_refused (spelt.CodeAndKind s) f g h i j l = key_refused s.now
+  other_refused (spelt.Key s) f g h i j l = key_refused s.now
   other_refused (spelt.String s) f g h i j l = absurd (h s refl)
   other_refused (spelt.Number s) f g h i j l = absurd (i s refl)
   other_refused (spelt.Bool b) f g h i j l = absurd (j b refl)
@@ -188,7 +188,7 @@ module _ (ts : List Token) (P : Data → Type 0) (k : Spelt) (object_so : k ≡ 
         subst (IsSo P) (sym (converted_array (a ts)))
         (so_mapped P array (array_so e) (converted of_items (a ts)))
     so_with a o spelt.EndArray e = tt
-    so_with a o (spelt.CodeAndKind s) e = tt
+    so_with a o (spelt.Key s) e = tt
     so_with a o (spelt.String s) e = string_so s e
     so_with a o (spelt.Number s) e = so_number P ts (number_of s.now) (number_so s e)
     so_with a o (spelt.Bool b) e = boolean_so b
