@@ -1,7 +1,7 @@
 -- The numbers in which the calls of the library answer. This project's own.
 use Rattle.std.specs.Prelude.{◌≡◌, ℕ}
 use Rattle.misere_theory.specs.Verdicts.{fault_number}
-use Rattle.answers.specs.ByteVerdicts.{ByteVerdict as Verdict}
+use Rattle.answers.specs.ByteVerdicts.{ByteVerdict}
 use Rattle.answers.specs.ByteVerdicts.ByteVerdict.{Yes, Text, No, Outcome, Limit, Memory}
 use Rattle.heap_options.specs.declared.left.Left.{Left}
 use Rattle.heap_options.specs.declared.left.Left.TheVariants.{Nothing, One, Two, Three}
@@ -12,7 +12,7 @@ use Rattle.player.specs.declared.answering.Answer.TheVariants.{Ended, Lost, Wins
 use Rattle.misere_library.specs.declared.numbers.MisereAnswer.{MisereAnswer}
 
 -- 0 for yes, and the number of a refusal
-abbrev pub status_of : Verdict → ℕ
+abbrev pub status_of : ByteVerdict → ℕ
 status_of (Yes c) = 0
 status_of Text = 1
 status_of (No fault) = fault_number fault
@@ -48,7 +48,7 @@ abbrev pub without_move : ℕ → MisereAnswer
 without_move kind = record { kind = kind; heap = 0; first = 0; second = 0; third = 0 }
 
 -- the numbers tell the answer
-abbrev pub IsAnswerOf : ByteVerdict → MisereAnswer → Type 0
+abbrev pub IsAnswerOf : Answer → MisereAnswer → Type 0
 IsAnswerOf Ended n = n ≡ without_move 0
 IsAnswerOf Lost n = n ≡ without_move 1
 IsAnswerOf (Wins m) n =

@@ -4,7 +4,7 @@ use Rattle.std.specs.List.Sorted.{IsNonDecreasing}
 use Rattle.misere_theory.specs.Certificates.{Certificate, Accepted, claim_of}
 use Rattle.misere_theory.specs.Quotients.{value}
 use Rattle.certificate_text.specs.Spelling.{Spells}
-use Rattle.answers.specs.ByteVerdicts.{ByteVerdict as Verdict, IsTrueOf}
+use Rattle.answers.specs.ByteVerdicts.{ByteVerdict, IsTrueOf}
 use Rattle.answers.specs.ByteVerdicts.ByteVerdict.{Yes, Memory, Outcome as Fails}
 use Rattle.checker.specs.Turns.{verdict}
 use Rattle.positions.specs.Positions.{IsSize}
@@ -24,7 +24,7 @@ Certify bytes limit says =
 -- The status is that of an answer of a check under the limit, which is true of the bytes. It is
 -- the verdict, unless memory was refused.
 pub record IsStatus (bytes : List ℕ) (limit status : ℕ) : Type 0 where
-  pub answer : Verdict
+  pub answer : ByteVerdict
   pub number : status ≡ status_of answer
   pub true_of : IsTrueOf bytes limit answer
   pub decided : (answer ≡ verdict bytes limit) ⊎ (answer ≡ Memory)
