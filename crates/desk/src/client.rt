@@ -45,6 +45,15 @@ impl Client {
         Some(Client { number })
     }
 
+    /// The client of a number that is one's.
+    pub fn numbered(number: u8) -> Client
+        requires from { 1 ≤ number }
+        requires to { number ≤ 16 }
+        ensures { result ≡ number }
+    {
+        Client { number }
+    }
+
     /// Where the client's job of the number has its place.
     pub(crate) fn place(self, number: u8) -> Option<usize>
         ensures value { result ≡ place_of self number }

@@ -15,17 +15,6 @@ use desk_script::Step;
 use folders::Folder;
 use std::alloc::Global;
 
-/// The client of this number.
-fn client_numbered(number: u8) -> Client
-    requires { IsClient number }
-    ensures { result ≡ number }
-{
-    match Client::new(number) {
-        Some(client) => client,
-        None => unreachable!(),
-    }
-}
-
 /// Whose step it is, and what is asked: a file is read now.
 fn asked_by<'a, F: Folder>(folder: &mut F, step: Step<'a>) -> Result<(Client, Event), DeskStop<'a>>
     requires { IsClient (client_of (step_of step)) }
@@ -44,20 +33,23 @@ fn asked_by<'a, F: Folder>(folder: &mut F, step: Step<'a>) -> Result<(Client, Ev
             limit,
         } => {
             let bytes = read(folder, file)?;
-            Ok((client_numbered(client), Event::Open(bytes, limit)))
+            Ok((Client::numbered(client), Event::Open(bytes, limit)))
         }
-        Step::Work { client, job, units } => Ok((client_numbered(client), Event::Work(job, units))),
-        Step::Drop { client, job } => Ok((client_numbered(client), Event::Drop(job))),
+        Step::Work { client, job, units } => Ok((
+            Client::numbered(client),
+            Event::Work(job, units),
+        )),
+        Step::Drop { client, job } => Ok((Client::numbered(client), Event::Drop(job))),
         Step::Ask {
             client,
             job,
             position,
-        } => Ok((client_numbered(client), Event::Ask(job, position))),
+        } => Ok((Client::numbered(client), Event::Ask(job, position))),
         Step::Play {
             client,
             job,
             position,
-        } => Ok((client_numbered(client), Event::Play(job, position))),
+        } => Ok((Client::numbered(client), Event::Play(job, position))),
     }
 }
 
