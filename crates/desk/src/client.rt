@@ -48,7 +48,7 @@ impl Client {
     /// The client of a number that is one's.
     pub fn numbered(number: u8) -> Client
         requires from { 1 ≤ number }
-        requires to { number ≤ 16 }
+        requires to { number ≤ MOST_CLIENTS }
         ensures { result ≡ number }
     {
         Client { number }
