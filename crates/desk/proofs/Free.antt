@@ -2,6 +2,7 @@
 use Rattle.std.proofs.Common.{◌≡◌, ℕ, ◌≤◌, Bool, true, false, if◌then◌else◌, List, Option, Some, None, refl, sym, ◌∙◌, ap, arith, get_or, not}
 use Rattle.checker.specs.JobViews.{JobView}
 use Rattle.desk.specs.declared.slot.Slot.{Slot}
+use Rattle.desk.specs.declared.client.TheConstants.{MOST_JOBS}
 use Rattle.desk.specs.Places.{place_of}
 use Rattle.desk.specs.Machine.{is_free, least_free}
 use Rattle.desk.specs.Desks.{slot_at, seen, job_in, jobs_in, job_at, state_of, IsDesk, slot_of, slots_of}
@@ -22,20 +23,20 @@ least_alike f g e =
     ∙ (ap (λ c. pick (is_free (g 1)) (is_free (g 2)) c (is_free (f 4))) (e 3)
     ∙ ap (λ d. pick (is_free (g 1)) (is_free (g 2)) (is_free (g 3)) d) (e 4)))
 
-within_four : (k n : ℕ) → 1 ≤ k → k ≤ 4 → (let a : Option ℕ = Some k in a) ≡ Some n
-    → (1 ≤ n) × (n ≤ 4)
-within_four k n low high e = let is : k ≡ n = cc in (omega arith, omega arith)
+within_jobs : (k n : ℕ) → 1 ≤ k → k ≤ MOST_JOBS → (let a : Option ℕ = Some k in a) ≡ Some n
+    → (1 ≤ n) × (n ≤ MOST_JOBS)
+within_jobs k n low high e = let is : k ≡ n = cc in (omega arith, omega arith)
 
-range_case : (a b c d : Bool) (n : ℕ) → pick a b c d ≡ Some n → (1 ≤ n) × (n ≤ 4)
+range_case : (a b c d : Bool) (n : ℕ) → pick a b c d ≡ Some n → (1 ≤ n) × (n ≤ MOST_JOBS)
 unfolding pick
-range_case true b c d n e = within_four 1 n (omega arith) (omega arith) e
-range_case false true c d n e = within_four 2 n (omega arith) (omega arith) e
-range_case false false true d n e = within_four 3 n (omega arith) (omega arith) e
-range_case false false false true n e = within_four 4 n (omega arith) (omega arith) e
+range_case true b c d n e = within_jobs 1 n (omega arith) (omega arith) e
+range_case false true c d n e = within_jobs 2 n (omega arith) (omega arith) e
+range_case false false true d n e = within_jobs 3 n (omega arith) (omega arith) e
+range_case false false false true n e = within_jobs 4 n (omega arith) (omega arith) e
 range_case false false false false n e = absurd (cc)
 
 pub least_range : {X : Type 0} (f : ℕ → Option X) (n : ℕ) → least_free f ≡ Some n
-    → (1 ≤ n) × (n ≤ 4)
+    → (1 ≤ n) × (n ≤ MOST_JOBS)
 unfolding pick
 least_range f n e = range_case (is_free (f 1)) (is_free (f 2)) (is_free (f 3)) (is_free (f 4)) n e
 

@@ -4,15 +4,16 @@ use Rattle.std.proofs.lemmas.Bool.{eqb-true}
 use Rattle.std.proofs.lemmas.Grind.{common_steps}
 use mathlib.Core.Path.{fun_ext}
 use Rattle.checker.specs.JobViews.{JobView}
+use Rattle.desk.specs.declared.client.TheConstants.{MOST_CLIENTS, MOST_JOBS}
 use Rattle.desk.specs.Places.{place_of}
 use Rattle.desk.specs.Machine.{Jobs, with_job, with_jobs}
 use Rattle.desk.specs.Desks.{job_at, state_of, IsWith}
 use Rattle.desk.proofs.Lists.{eqb_false, eqb_no, with_here, with_other}
 
 pub record IsPlace (client number place : ℕ) : Type 0 where
-  pub client_in : (1 ≤ client) × (client ≤ 16)
-  pub number_in : (1 ≤ number) × (number ≤ 4)
-  pub place_is : place ≡ 4 * (client - 1) + (number - 1)
+  pub client_in : (1 ≤ client) × (client ≤ MOST_CLIENTS)
+  pub number_in : (1 ≤ number) × (number ≤ MOST_JOBS)
+  pub place_is : place ≡ MOST_JOBS * (client - 1) + (number - 1)
 
 pub place_is : (client number place : ℕ) → place_of client number ≡ Some place
     → IsPlace client number place

@@ -11,7 +11,7 @@ use Rattle.checker.specs.JobViews.{JobView}
 use Rattle.player.specs.Answers.{IsRightAnswer, SpeaksOf}
 use Rattle.player.specs.declared.answering.Answer.{Answer as PlayAnswer}
 
--- a client's open jobs, by their numbers 1 to 4
+-- a client's open jobs, by their numbers
 abbrev pub Jobs : Type 0
 Jobs = ℕ → Option JobView
 

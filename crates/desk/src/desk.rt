@@ -1,5 +1,5 @@
 //! The desk.
-use crate::client::Client;
+use crate::client::{Client, PLACES};
 use crate::deed::Deed;
 use crate::event::Event;
 use crate::jobs::{certified_at, free_number, give_up_at, nobody, open_at, show_at, work_at};
@@ -12,12 +12,12 @@ use positions::Position;
 use std::alloc::Global;
 use std::marker::Model;
 
-/// Jobs of sixteen clients, four each, seen as the machine's state. Open jobs of the same bytes and
+/// The jobs of the clients, seen as the machine's state. Open jobs of the same bytes and
 /// limit share one check, so the desk takes the memory of its different checks.
 #[derive(Drop)]
 pub struct Desk<A: SmallAllocator = Global> {
     alloc: A,
-    places: [Option<Slot>; 64],
+    places: [Option<Slot>; PLACES],
     cores: Vec<Option<Job<A>>, A>,
     memory: Refusal<A>,
 }

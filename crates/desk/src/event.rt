@@ -3,7 +3,8 @@ use allocation::SmallAllocator;
 use positions::Position;
 use std::alloc::Global;
 
-/// What a client asks of a desk. Jobs are named by their numbers, 1 to 4.
+/// What a client asks of a desk. Jobs are named by their numbers, counted from
+/// 1.
 #[derive(Drop)]
 pub enum Event<A: SmallAllocator = Global> {
     /// Opens a job: the check of these bytes under this limit.

@@ -7,7 +7,7 @@ ghost use Rattle.desk.specs.Deeds.{shown_reply, Certifies};
 ghost use Rattle.desk.specs.Replies.{reply_of};
 ghost use Rattle.desk.specs.Desks.{IsDesk, IsWith, NoneAsFarIn, HaveWorked, jobs_in, job_in, slot_at, slots_of};
 
-use crate::client::Client;
+use crate::client::{Client, PLACES};
 use crate::cores::{core_for, put};
 use crate::reply::{Reply, StepFault};
 use crate::slot::{Slot, Standing, furthest, go_on, is_held};
@@ -15,14 +15,14 @@ use allocation::{Memory, SmallAllocator};
 use checker::{Certified, Job, Progress, Refusal, checks_end};
 
 /// Places without a job.
-pub(crate) fn nobody() -> [Option<Slot>; 64]
+pub(crate) fn nobody() -> [Option<Slot>; PLACES]
     ensures { (i : ℕ) → slot_at result i ≡ None }
 {
-    [None; 64]
+    [None; PLACES]
 }
 
 /// The first number of the client's jobs that is free.
-pub(crate) fn free_number(places: &[Option<Slot>; 64], client: Client) -> Option<u8>
+pub(crate) fn free_number(places: &[Option<Slot>; PLACES], client: Client) -> Option<u8>
     ensures { result ≡ least_free (slots_of places.now client) }
 {
     if is_free(places, client, 1) {
@@ -41,7 +41,7 @@ pub(crate) fn free_number(places: &[Option<Slot>; 64], client: Client) -> Option
 }
 
 /// Whether the client has no job of the number.
-fn is_free(places: &[Option<Slot>; 64], client: Client, number: u8) -> bool
+fn is_free(places: &[Option<Slot>; PLACES], client: Client, number: u8) -> bool
     ensures { result ≡ is_free (slots_of places.now client number) }
 {
     match client.place(number) {

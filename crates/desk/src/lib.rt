@@ -1,4 +1,4 @@
-//! Many checks in progress at once: sixteen clients with four jobs each, one step at a time.
+//! Many checks in progress at once: the jobs of several clients, one step at a time.
 //!
 //! What a client is told depends on its own steps alone, but for want of memory:
 //! `own_calls_decide`. Open jobs of the same bytes and limit share one check, and each has a count
@@ -16,7 +16,7 @@ mod reply;
 mod saying;
 mod slot;
 
-pub use client::Client;
+pub use client::{Client, MOST_CLIENTS, MOST_JOBS, PLACES};
 pub use desk::Desk;
 pub use event::Event;
 pub use laws::{own_calls_decide, steps_are_the_clients_own};

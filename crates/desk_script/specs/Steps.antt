@@ -1,6 +1,7 @@
 -- The steps of a desk's script, and the lines that spell them. This project's own.
 use Rattle.std.specs.Prelude.{◌≡◌, ◌≢◌, ◌⊎◌, ◌≤◌, ◌<◌, ◌^◌, ℕ, List, [], ◌∷◌, ◌++◌, All, IsUtf8, codes, decimal}
 use Rattle.positions.specs.declared.position.TheConstants.{MOST_SIZES, LARGEST_HEAP}
+use Rattle.desk_script.specs.declared.step.TheConstants.{MOST_CLIENTS, MOST_JOBS}
 use Rattle.positions.specs.Text.{IsTextOf, IsNoPositionText, HasTooMany, HasTooLarge}
 
 -- Open client file limit, Work client job units, Drop client job, Ask client job position, Play
@@ -29,10 +30,10 @@ client_of (Ask client job position) = client
 client_of (Play client job position) = client
 
 abbrev pub IsClient : ℕ → Type 0
-IsClient client = (1 ≤ client) × (client ≤ 16)
+IsClient client = (1 ≤ client) × (client ≤ MOST_CLIENTS)
 
 abbrev pub IsJob : ℕ → Type 0
-IsJob job = (1 ≤ job) × (job ≤ 4)
+IsJob job = (1 ≤ job) × (job ≤ MOST_JOBS)
 
 -- these bytes don't stand in it
 abbrev pub Lacks : ℕ → List ℕ → Type 0
@@ -42,7 +43,7 @@ Lacks byte bytes = All (λ b. b ≢ byte) bytes
 abbrev pub IsFileName : List ℕ → Type 0
 IsFileName file = (file ≢ []) × Lacks 32 file
 
--- the text isn't that of at most 64 sizes up to 10^18
+-- the text isn't that of a position, or has too many sizes or a size that is too large
 abbrev pub IsNoPosition : List ℕ → Type 0
 IsNoPosition text = IsNoPositionText text ⊎ HasTooMany MOST_SIZES text
     ⊎ HasTooLarge MOST_SIZES LARGEST_HEAP text

@@ -4,6 +4,12 @@ use allocation::SmallAllocator;
 use positions::Position;
 use std::alloc::Global;
 
+/// How many clients a script may name.
+pub const MOST_CLIENTS: u8 = 16;
+
+/// How many jobs of a client it may name.
+pub const MOST_JOBS: u8 = 4;
+
 /// A step of a client at the desk.
 #[derive(Drop)]
 pub enum Step<'a, A: SmallAllocator = Global> {

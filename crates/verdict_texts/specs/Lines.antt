@@ -11,6 +11,7 @@ use Rattle.positions.specs.declared.outcome.Outcome.TheVariants.{P, N}
 use Rattle.answers.specs.ByteVerdicts.{ByteVerdict, refused}
 use Rattle.answers.specs.ByteVerdicts.ByteVerdict.{Yes, Text, Law, Word, Order, Period, Apart, Outcome, Limit, Memory}
 use Rattle.answers.specs.declared.refusal.Refusal.{Refusal}
+use Rattle.verdict_texts.specs.declared.lines.TheConstants.{OUTCOME_BUDGET}
 
 -- yes, with the code, the order, the start and the period that were certified
 abbrev pub full_line : Certificate → List ℕ
@@ -48,15 +49,14 @@ first_line (Outcome code X) = no_line 7 (codes "Outcome")
 first_line Limit = no_line 8 (codes "Limit")
 first_line Memory = no_line 9 (codes "Memory")
 
--- The third line of a refused outcome: the misère outcome of the position, where 65536 positions
--- settle it, or that it isn't known, which stands only where more than 65536 positions can be
--- reached.
+-- The third line of a refused outcome: the misère outcome of the position, where as many positions
+-- as are searched settle it, or that it isn't known, which stands only where more can be reached.
 pub data IsOutcomeLine (code X : List ℕ) : List ℕ → Type 0 where
-  LineP : {line : List ℕ} → IsP code X → IsSettledBy code X P 65536 → line ≡ codes "outcome P\n"
+  LineP : {line : List ℕ} → IsP code X → IsSettledBy code X P OUTCOME_BUDGET → line ≡ codes "outcome P\n"
       → IsOutcomeLine code X line
-  LineN : {line : List ℕ} → IsN code X → IsSettledBy code X N 65536 → line ≡ codes "outcome N\n"
+  LineN : {line : List ℕ} → IsN code X → IsSettledBy code X N OUTCOME_BUDGET → line ≡ codes "outcome N\n"
       → IsOutcomeLine code X line
-  LineUnknown : {line : List ℕ} → MoreReachableThan code X 65536 → line ≡ codes "outcome unknown\n"
+  LineUnknown : {line : List ℕ} → MoreReachableThan code X OUTCOME_BUDGET → line ≡ codes "outcome unknown\n"
       → IsOutcomeLine code X line
 
 -- The text of an answer. Want of memory has none.

@@ -4,5 +4,5 @@
 mod lines;
 mod stream;
 
-pub use lines::{VerdictText, verdict_line, verdict_text};
+pub use lines::{OUTCOME_BUDGET, VerdictText, verdict_line, verdict_text};
 pub use stream::{MOST_BYTES, check_stream, checked_bytes, checked_stream};

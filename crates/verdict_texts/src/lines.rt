@@ -14,7 +14,7 @@ use positions::{Outcome, Position};
 use std::alloc::{Allocator, Global};
 
 /// The most positions through which the outcome of a refused position is searched.
-const BUDGET: u32 = 65536;
+pub const OUTCOME_BUDGET: u32 = 65536;
 
 /// The line of a yes for the whole game.
 fn full_text<A: SmallAllocator + Copy>(alloc: A, cert: &Cert<A>) -> Result<String<A>, Memory>
@@ -63,7 +63,7 @@ fn outcome_line<A: SmallAllocator + Copy>(
 ) -> Result<&'static str, Memory>
     ensures { IfOk result (λ t. IsOutcomeLine code.now position.now t.now) }
 {
-    match outcome(alloc, code, position, BUDGET) {
+    match outcome(alloc, code, position, OUTCOME_BUDGET) {
         Ok(Outcome::P) => Ok("outcome P\n"),
         Ok(Outcome::N) => Ok("outcome N\n"),
         Err(SearchFault::Budget) => Ok("outcome unknown\n"),
