@@ -3,14 +3,16 @@ use Rattle.std.proofs.Common.{◌≡◌, ℕ, suc, ◌+◌, ◌-◌, ◌*◌, �
 use Rattle.std.specs.Prelude.{drop}
 use Rattle.std.proofs.Math.Nat.{mul-le-mul}
 use Rattle.std.proofs.Math.Seq.{drop-cons}
+use Rattle.misere_theory.specs.declared.TheConstants.{LARGEST_ORDER}
 use Rattle.misere_theory.specs.Quotients.{Claim, value}
 
 pub place_below : (q x y : ℕ) → x < q → y < q → x * q + y < q * q
 place_below q x y hx hy = grind arith
 
-pub place_small : (q x y : ℕ) → q ≤ 512 → x < q → y < q → x * q + y < 262144
+pub place_small : (q x y : ℕ) → q ≤ LARGEST_ORDER → x < q → y < q
+    → x * q + y < LARGEST_ORDER * LARGEST_ORDER
 place_small q x y small hx hy =
-    let p = place_below q x y hx hy in let m : q * q ≤ 512 * 512 = mul-le-mul small small in
+    let p = place_below q x y hx hy in let m : q * q ≤ LARGEST_ORDER * LARGEST_ORDER = mul-le-mul small small in
     omega arith
 
 -- one heap more in front
