@@ -1,11 +1,11 @@
--- What a search over proposers came to, and what it has not come to.
-use Rattle.std.proofs.Common.{◌≡◌, ◌≢◌, ◌≤◌, ◌<◌, ◌⊎◌, ◌∙◌, inl, inr, refl, sym, ap, subst, arith, ℕ, List, length, map, Result, Ok, Err, IfErr}
+-- What a search over proposers came to.
+use Rattle.std.proofs.Common.{◌≡◌, ◌≤◌, ◌⊎◌, ◌∙◌, inl, inr, sym, ap, subst, arith, ℕ, List, length, map, Result, Ok, Err}
 use Rattle.std.proofs.lemmas.List.{length-map}
 use Rattle.misere_theory.specs.Certificates.{Certificate}
 use Rattle.quotient_finder.specs.Histories.{Events}
 use Rattle.quotient_finder.specs.Rounds.{HasSearched}
 use Rattle.quotient_finder.specs.declared.gave_up.GaveUp.{GaveUp}
-use Rattle.quotient_finder.specs.declared.gave_up.GaveUp.TheVariants.{Rounds, Empty, Memory}
+use Rattle.quotient_finder.specs.declared.gave_up.GaveUp.TheVariants.{Memory}
 use Rattle.solve_command.specs.declared.bounds.SolveBounds.{SolveBounds}
 use Rattle.solve_command.specs.Solved.{HasAsked, IsSearched}
 
@@ -28,7 +28,7 @@ pub of_count : (code : List ℕ) (kind many count limit rounds : ℕ) (came : Re
 of_count code kind many count limit rounds came e h =
     let P : ℕ → Type 0 = λ n. HasAsked code kind n limit rounds came in subst P e h
 
--- What a search came to that found a certificate, or found none.
+-- What a search came to that found a certificate.
 pub came_to : (code : List ℕ) (bounds : SolveBounds) (came : Result Certificate GaveUp)
     (c : Certificate) → (came ≡ Err Memory) ⊎ IsSearched code bounds came → came ≡ Ok c
     → IsSearched code bounds (Ok c)
@@ -37,27 +37,6 @@ came_to code bounds came c (inl e) same =
 came_to code bounds came c (inr s) same =
     let P : Result Certificate GaveUp → Type 0 = λ x. IsSearched code bounds x in subst P same s
 
-pub came_to_none : (code : List ℕ) (bounds : SolveBounds) (came : Result Certificate GaveUp)
-    (why : GaveUp) → (came ≡ Err Memory) ⊎ IsSearched code bounds came → came ≡ Err why
-    → why ≢ Memory → IsSearched code bounds (Err why)
-came_to_none code bounds came why (inl e) same other =
-    let never : Err why ≡ Err Memory = sym same ∙ e in absurd (other cc)
-came_to_none code bounds came why (inr s) same other =
-    let P : Result Certificate GaveUp → Type 0 = λ x. IsSearched code bounds x in subst P same s
-
-pub empty_is_no_want : Empty ≢ Memory
-empty_is_no_want e = cc
-
-pub rounds_are_no_want : Rounds ≢ Memory
-rounds_are_no_want e = cc
-
-pub above : (c d : Certificate) (n m : ℕ) → d ≡ c → n ≡ d.order → m < n → m < c.order
-above c d n m e f h = let o : d.order ≡ c.order = ap (λ (x : Certificate). x.order) e in omega arith
-
 pub within : (c d : Certificate) (n m : ℕ) → d ≡ c → n ≡ d.order → n ≤ m → c.order ≤ m
 within c d n m e f h = let o : d.order ≡ c.order = ap (λ (x : Certificate). x.order) e in
     omega arith
-
-pub not_empty : (r : Result Certificate GaveUp) → r ≡ Err Empty → IfErr r (λ why. why ≢ Empty) → ⊥
-not_empty r e h = let P : Result Certificate GaveUp → Type 0 = λ x. IfErr x (λ why. why ≢ Empty) in
-    subst P e h refl
