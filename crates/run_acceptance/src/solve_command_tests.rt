@@ -31,7 +31,7 @@ fn bounds_of(limit: u32, bounds: Bounds) -> SolveBounds {
 /// says the text.
 fn solves(alloc: Global, code: &str, bounds: Bounds, finds: bool, text: &str) -> bool {
     match solve(alloc, code, bounds_of(100000, bounds)) {
-        Ok(said) => said.succeeds == finds && said.text == text.as_bytes(),
+        Ok(said) => said.succeeds == finds && said.text.as_slice() == text.as_bytes(),
         Err(_) => false,
     }
 }
