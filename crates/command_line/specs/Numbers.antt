@@ -8,11 +8,11 @@ use Rattle.misere_theory.specs.declared.TheConstants.{LARGEST_ORDER, LARGEST_FIR
 use Rattle.command_line.specs.declared.numbers.Bounds.{Bounds}
 use Rattle.command_line.specs.declared.numbers.Quantity.{Quantity}
 use Rattle.command_line.specs.declared.numbers.Quantity.TheVariants.{Limit, Rounds, Heaps, Order, Part, DeepOrder, Last, PartOrder, Furthest}
-use Rattle.requests.specs.Requests.{default_limit}
+use Rattle.requests.specs.declared.plans.TheConstants.{DEFAULT_LIMIT}
 
 -- the range of each number, and what it is where none is given
 abbrev pub bounds_of : Quantity → Bounds
-bounds_of Limit = record { least = 1; most = 1000000; default = default_limit }
+bounds_of Limit = record { least = 1; most = 1000000; default = DEFAULT_LIMIT }
 bounds_of Rounds = record { least = 1; most = 1000; default = 64 }
 bounds_of Heaps = record { least = 2; most = 64; default = 24 }
 bounds_of Order = record { least = 2; most = LARGEST_FIRST_ORDER; default = 64 }

@@ -1,8 +1,7 @@
 -- Plans whose numbers lie in their ranges. This project's own.
-use Rattle.std.specs.Prelude.{◌≡◌, ◌⊎◌, ⊤, ℕ}
+use Rattle.std.specs.Prelude.{⊤, ℕ}
 use Rattle.command_line.specs.Numbers.{IsWithin}
 use Rattle.command_line.specs.declared.numbers.Quantity.TheVariants.{Limit, Rounds, Heaps, Order, Part, DeepOrder, Last, PartOrder, Furthest}
-use Rattle.requests.specs.Requests.{deepest}
 use Rattle.requests.specs.declared.plans.Aim.{Aim}
 use Rattle.requests.specs.declared.plans.Aim.TheVariants as aim
 use Rattle.requests.specs.declared.plans.CatalogueTask.{CatalogueTask}
@@ -20,11 +19,10 @@ TaskHasNumbersWithin (task.Get code heaps) = IsWithin Part heaps
 TaskHasNumbersWithin task.Salvage = ⊤
 TaskHasNumbersWithin task.Migrate = ⊤
 
--- the heaps that are aimed at lie in their range, or are as many as a certificate can need, and so
--- does the order
+-- the number of heaps that are aimed at lies in its range, where one is given, and so does the order
 abbrev pub AimsWithin : Aim → ℕ → Type 0
-AimsWithin (aim.Whole heaps) order =
-    (IsWithin Heaps heaps × IsWithin Order order) ⊎ ((heaps ≡ deepest) × IsWithin DeepOrder order)
+AimsWithin (aim.Whole heaps) order = IsWithin Heaps heaps × IsWithin Order order
+AimsWithin aim.Deep order = IsWithin DeepOrder order
 AimsWithin (aim.Part last) order = IsWithin Last last × IsWithin PartOrder order
 AimsWithin aim.Furthest order = IsWithin Furthest order
 

@@ -14,7 +14,7 @@ use Rattle.command_line.specs.declared.faults.Exclusion.{Exclusion}
 use Rattle.command_line.specs.declared.faults.Exclusion.TheVariants as exclusion
 use Rattle.command_line.specs.declared.numbers.Quantity.{Quantity}
 use Rattle.command_line.specs.declared.numbers.Quantity.TheVariants.{Limit, Rounds, Heaps, Order, Part, DeepOrder, Last, PartOrder, Furthest}
-use Rattle.requests.specs.Requests.{CatalogueRequest, Request, deepest}
+use Rattle.requests.specs.Requests.{CatalogueRequest, Request}
 use Rattle.requests.specs.Requests.CatalogueRequest.{Print, New, Add, NewWith, Get, Salvage, Migrate}
 use Rattle.requests.specs.Requests.Request.{Check, Solve, Show, Describe, Play, Present, Catalogue, Desk}
 use Rattle.requests.specs.declared.plans.Aim.{Aim}
@@ -71,7 +71,7 @@ abbrev pub aim_of : (heaps : Option Text) (deep : Bool) (partial furthest order 
     → Option Aim
 aim_of heaps false None None order =
     option_map (λ n. aim.Whole n) (number_in (bounds_of Heaps) heaps)
-aim_of None true None None order = Some (aim.Whole deepest)
+aim_of None true None None order = Some aim.Deep
 aim_of None false (Some last) None order =
     option_map (λ n. aim.Part n) (number_in (bounds_of Last) (Some last))
 aim_of None false None (Some most) None = Some aim.Furthest

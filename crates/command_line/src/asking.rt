@@ -11,7 +11,7 @@ ghost use Rattle.requests.specs.Requests.{catalogue_request_of, request_of};
 use crate::faults::{Exclusion, UsageFault};
 use crate::numbers::{Quantity, number_given};
 use clap::ArgMatches;
-use requests::{Aim, CatalogueTask, DEEPEST, Output, Plan};
+use requests::{Aim, CatalogueTask, Output, Plan};
 
 /// The value that was given under this name.
 fn value<'a>(given: &ArgMatches<'a>, name: &str) -> Option<&'a str>
@@ -81,7 +81,7 @@ fn aim(given: &ArgMatches<'_>) -> Result<Aim, UsageFault>
             let heaps = number(given, Quantity::Heaps)?;
             Ok(Aim::Whole { heaps })
         }
-        (None, true, None, None, _) => Ok(Aim::Whole { heaps: DEEPEST }),
+        (None, true, None, None, _) => Ok(Aim::Deep),
         (None, false, Some(_), None, _) => {
             let last = number(given, Quantity::Last)?;
             Ok(Aim::Part { last })

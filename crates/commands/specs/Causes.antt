@@ -1,15 +1,14 @@
 -- Why each request may stop, and which devices it uses. This project's own.
-use Rattle.std.specs.Prelude.{◌≡◌, ⊤, ℕ, Bool, true, false, List, Option, Some, None}
+use Rattle.std.specs.Prelude.{ℕ, Bool, true, false, List, Option, Some, None}
 use Rattle.catalogue_command.specs.Stops as catalogue
 use Rattle.catalogue_command.specs.Tasks.{StopsTask}
 use Rattle.check_command.specs.Checks.{IsInputCause}
 use Rattle.command_results.specs.Stops.{IsFileCause, IsMemory}
 use Rattle.command_results.specs.declared.stop.Stop.{Stop}
-use Rattle.command_results.specs.declared.stop.Stop.TheVariants.{Memory, NotACode}
 use Rattle.play_command.specs.Plays.{IsPlayCause}
 use Rattle.requests.specs.Requests.{Request}
 use Rattle.requests.specs.Requests.Request.{Check, Solve, Show, Describe, Play, Present, Catalogue, Desk}
-use Rattle.solve_command.specs.Solved.{IsNoCode}
+use Rattle.solve_command.specs.Solved.{IsSolveCause}
 
 -- How often each device has failed that a command reads or changes.
 pub record Failed : Type 0 where
@@ -19,12 +18,6 @@ pub record Failed : Type 0 where
 
 abbrev pub failed : ℕ → ℕ → ℕ → Failed
 failed input reads writes = record { input = input; reads = reads; writes = writes }
-
--- the text isn't a code's, or memory was wanting
-abbrev pub IsSolveCause : List ℕ → Stop → Type 0
-IsSolveCause code Memory = ⊤
-IsSolveCause code NotACode = IsNoCode code
-IsSolveCause code _ = ⊥
 
 -- Why each request may stop before anything is printed, by the failures before and after. A script
 -- has an end of its own.

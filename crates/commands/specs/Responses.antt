@@ -1,21 +1,16 @@
 -- What is said for each request: the text that is printed, and whether it ends well. This project's
 -- own.
-use Rattle.std.specs.Prelude.{ℕ, Bool, List, [], Option, Some, None}
+use Rattle.std.specs.Prelude.{ℕ, Bool, List, Option, Some, None}
 use Rattle.catalogue_command.specs.Tasks.{KeepsCatalogue, catalogue_written}
 use Rattle.check_command.specs.Checks.{ChecksFile, ChecksStream}
 use Rattle.describe_command.specs.Described.{Describes}
 use Rattle.play_command.specs.Plays.{Plays}
 use Rattle.present_command.specs.Presented.{Presents}
-use Rattle.requests.specs.Requests.{Request, default_limit}
+use Rattle.requests.specs.Requests.{Request}
 use Rattle.requests.specs.Requests.Request.{Check, Solve, Show, Describe, Play, Present, Catalogue, Desk}
+use Rattle.requests.specs.declared.plans.TheConstants.{DEFAULT_LIMIT}
 use Rattle.show_command.specs.Shown.{Shows}
 use Rattle.solve_command.specs.Solved.{Solves}
-use Rattle.solve_command.specs.declared.bounds.SolveBounds.{SolveBounds}
-
--- the spelling of an accepted certificate of the code, within the bounds, or how the search for one
--- was given up
-abbrev pub SolvesTo : List ℕ → SolveBounds → List ℕ → Bool → Type 0
-SolvesTo code bounds text found = Solves code bounds (Some []) (Some text) found
 
 -- What is said for each request, by what is left of standard input and by the files. What files
 -- hold then is said here of a catalogue alone; the other requests leave every file as it is. A
@@ -25,17 +20,17 @@ abbrev pub RespondsWith : Option (List ℕ) → Option (List ℕ → Option (Lis
 RespondsWith input before after (Check None limit) text succeeds = ChecksStream input limit text succeeds
 RespondsWith input before after (Check (Some file) limit) text succeeds = ChecksFile before file limit text succeeds
 RespondsWith input before after (Solve code limit rounds order aim why) text succeeds =
-    SolvesTo code
+    Solves code
     (record { limit = limit; rounds = rounds; order = order; aim = aim; tells_why = why }) text
     succeeds
-RespondsWith input before after (Show file) text succeeds = Shows before file default_limit text succeeds
+RespondsWith input before after (Show file) text succeeds = Shows before file DEFAULT_LIMIT text succeeds
 RespondsWith input before after (Describe file output basis) text succeeds =
-    Describes before file default_limit output text succeeds
+    Describes before file DEFAULT_LIMIT output text succeeds
 RespondsWith input before after (Play file position) text succeeds =
-    Plays before file default_limit position text succeeds
+    Plays before file DEFAULT_LIMIT position text succeeds
 RespondsWith input before after (Present presentation) text succeeds = Presents presentation text succeeds
 RespondsWith input before after (Catalogue file task) text succeeds =
-    KeepsCatalogue default_limit before after file task text succeeds
+    KeepsCatalogue DEFAULT_LIMIT before after file task text succeeds
 RespondsWith input before after (Desk script) text succeeds = ⊥
 
 -- the one file that a request writes

@@ -6,7 +6,6 @@ ghost use Rattle.commands.specs.Causes.{IsCause, failed, reads_input, runs_scrip
 ghost use Rattle.commands.specs.Responses.{RespondsWith, file_written};
 ghost use Rattle.requests.specs.Requests.{request_of};
 
-use crate::solving::solve_text;
 use catalogue_command::act;
 use check_command::{check_file, check_input};
 use command_results::{Said, Stop};
@@ -17,7 +16,7 @@ use play_command::play;
 use present_command::present;
 use requests::{DEFAULT_LIMIT, Plan};
 use show_command::show;
-use solve_command::SolveBounds;
+use solve_command::{SolveBounds, solve};
 use std::alloc::Global;
 use streams::Source;
 
@@ -76,7 +75,7 @@ pub(crate) fn carry_out<'a, F: Folder, S: Source>(
                 aim,
                 tells_why,
             };
-            solve_text(alloc, code, bounds)
+            solve(alloc, code, bounds)
         }
         Plan::Catalogue { file, task } => act(alloc, folder, file, task, DEFAULT_LIMIT),
         Plan::Desk { .. } => unreachable!(),

@@ -3,6 +3,5 @@
 
 mod carrying_out;
 mod running;
-mod solving;
 
 pub use running::run_plan;

@@ -6,7 +6,7 @@ use Rattle.streams.specs.declared.fault.StreamFault.{StreamFault}
 use Rattle.streams.specs.declared.fault.StreamFault.TheVariants.{Read, Write, Memory}
 use Rattle.checker.specs.Turns.{verdict}
 use Rattle.verdict_texts.specs.Streams.{CountsReads, WritesSomeOfStream}
-use Rattle.requests.specs.Requests.{default_limit}
+use Rattle.requests.specs.declared.plans.TheConstants.{DEFAULT_LIMIT}
 use Rattle.misere_check.specs.Ends.{Ends, cause}
 use Rattle.misere_check.specs.Ends.Ends.{Unread, Unwritten, NoMemory}
 
@@ -16,7 +16,7 @@ EndsWith fault which = IsErrOf {T = Bool} (Err fault) which
 
 module _ (left : Option (List ℕ)) (reads reads' : ℕ) (out out' err err' : Printer) where
   pub stopped : (fault : StreamFault)
-      → (EndsWith fault Write → WritesSomeOfStream verdict left default_limit out.taken out'.taken)
+      → (EndsWith fault Write → WritesSomeOfStream verdict left DEFAULT_LIMIT out.taken out'.taken)
       → (EndsWith fault Write → out.failures < out'.failures)
       → CountsReads {T = Bool} reads reads' (Err fault)
       → (EndsWith fault Read ⊎ EndsWith fault Memory → out' ≡ out) → PrintsLine err err' (cause fault)

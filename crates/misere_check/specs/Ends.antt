@@ -6,7 +6,7 @@ use Rattle.streams.specs.declared.fault.StreamFault.{StreamFault}
 use Rattle.streams.specs.declared.fault.StreamFault.TheVariants.{Read, Write, Memory}
 use Rattle.checker.specs.Turns.{verdict}
 use Rattle.verdict_texts.specs.Streams.{WritesOfStream, WritesSomeOfStream}
-use Rattle.requests.specs.Requests.{default_limit}
+use Rattle.requests.specs.declared.plans.TheConstants.{DEFAULT_LIMIT}
 
 -- the line that tells why there is no verdict
 abbrev pub cause : StreamFault → List ℕ
@@ -19,11 +19,11 @@ cause Memory = codes "misere: out of memory\n"
 pub data Ends (left : Option (List ℕ)) (reads reads' : ℕ) (out out' err err' : Printer)
     (status : ℕ) : Type 0 where
   Checked : (accepted : Bool) → reads' ≡ reads
-      → WritesOfStream verdict left default_limit out.taken out'.taken accepted → err' ≡ err
+      → WritesOfStream verdict left DEFAULT_LIMIT out.taken out'.taken accepted → err' ≡ err
       → status ≡ (if accepted then 0 else 1) → Ends left reads reads' out out' err err' status
   Unread : reads < reads' → out' ≡ out → PrintsLine err err' (cause Read) → status ≡ 3
       → Ends left reads reads' out out' err err' status
-  Unwritten : reads' ≡ reads → WritesSomeOfStream verdict left default_limit out.taken out'.taken
+  Unwritten : reads' ≡ reads → WritesSomeOfStream verdict left DEFAULT_LIMIT out.taken out'.taken
       → out.failures < out'.failures → PrintsLine err err' (cause Write) → status ≡ 3
       → Ends left reads reads' out out' err err' status
   NoMemory : reads' ≡ reads → out' ≡ out → PrintsLine err err' (cause Memory) → status ≡ 3

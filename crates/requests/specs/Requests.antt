@@ -7,14 +7,6 @@ use Rattle.requests.specs.declared.plans.Output.{Output}
 use Rattle.requests.specs.declared.plans.Plan.{Plan}
 use Rattle.requests.specs.declared.plans.Plan.TheVariants as plan
 
--- the limit of a check for which none is given
-abbrev pub default_limit : ℕ
-default_limit = 100000
-
--- the largest heap of a search that goes as far as a certificate can
-abbrev pub deepest : ℕ
-deepest = 3090
-
 -- what is asked of a catalogue
 pub data CatalogueRequest : Type 0 where
   Print : CatalogueRequest

@@ -3,4 +3,4 @@
 
 mod plans;
 
-pub use plans::{Aim, CatalogueTask, DEEPEST, DEFAULT_LIMIT, Output, Plan};
+pub use plans::{Aim, CatalogueTask, DEFAULT_LIMIT, Output, Plan};

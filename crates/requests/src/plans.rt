@@ -3,15 +3,13 @@
 /// The limit of a check for which none is given.
 pub const DEFAULT_LIMIT: u32 = 100000;
 
-/// The largest heap of a search that goes as far as a certificate can: so many heaps show the
-/// period of each.
-pub const DEEPEST: u32 = 3090;
-
 /// Of which heaps a search is to find the quotient.
 #[derive(Clone, Copy, Debug, PartialEq, Eq)]
 pub enum Aim {
     /// Of all heaps; those up to `heaps` are looked at.
     Whole { heaps: u32 },
+    /// Of all heaps; as many are looked at as a certificate can need.
+    Deep,
     /// Of the heaps 1 to `last`.
     Part { last: u32 },
     /// Of the most first heaps that have so few elements as are allowed.

@@ -2,7 +2,7 @@
 use crate::rows::{Row, count_held};
 use crate::words::line_words;
 use command_line::{Exclusion, Quantity, UsageFault, VERSION, plan};
-use requests::{Aim, CatalogueTask, DEEPEST, Output, Plan};
+use requests::{Aim, CatalogueTask, Output, Plan};
 use std::alloc::Global;
 
 /// What words ask for.
@@ -66,8 +66,6 @@ fn is_asked(alloc: Global, words: &[&str], want: Plan<'_>) -> bool {
         Err(_) => false,
     }
 }
-
-const DEEP: Aim = Aim::Whole { heaps: DEEPEST };
 
 /// A command line, and what it asks for.
 struct Asks(&'static str, Asked);
@@ -170,8 +168,11 @@ static ASKED: [Asks; 42] = [
         "solve|0.3|--order|256|--heaps|9",
         Asked::Search(100000, 64, 9, 256),
     ),
-    Asks("solve|0.3|--deep", Asked::Aimed(256, DEEP, false)),
-    Asks("solve|--deep|--order|9|0.3", Asked::Aimed(9, DEEP, false)),
+    Asks("solve|0.3|--deep", Asked::Aimed(256, Aim::Deep, false)),
+    Asks(
+        "solve|--deep|--order|9|0.3",
+        Asked::Aimed(9, Aim::Deep, false),
+    ),
     Asks(
         "solve|0.3|--partial|1",
         Asked::Aimed(512, Aim::Part { last: 1 }, false),

@@ -2,10 +2,10 @@
 use crate::by_rule::{by_rule, digits_of};
 use crate::certificates::{OF_0_1, OF_0_3, OF_0_33, OF_0_75, OF_0_B};
 use crate::rows::{Row, count_held};
-use requests::{Aim, DEEPEST};
-use solve_command::{SolveBounds, SolveStop, solve};
+use command_results::Stop;
+use requests::Aim;
+use solve_command::{SolveBounds, solve};
 use std::alloc::Global;
-use streams::MemorySink;
 
 /// The rounds, the heaps and the order of a search.
 type Bounds = (u32, u32, u32);
@@ -27,76 +27,83 @@ fn bounds_of(limit: u32, bounds: Bounds) -> SolveBounds {
     }
 }
 
-/// Whether this is the answer.
-fn is_answer(found: Result<bool, SolveStop>, answer: Result<bool, SolveStop>) -> bool {
-    match (found, answer) {
-        (Ok(solved), Ok(wanted)) => solved == wanted,
-        (Err(stop), Err(wanted)) => stop == wanted,
-        _ => false,
+/// Whether a search for the code within the bounds finds a certificate or not, as is wanted, and
+/// says the text.
+fn solves(alloc: Global, code: &str, bounds: Bounds, finds: bool, text: &str) -> bool {
+    match solve(alloc, code, bounds_of(100000, bounds)) {
+        Ok(said) => said.succeeds == finds && said.text.as_slice() == text.as_bytes(),
+        Err(_) => false,
     }
 }
 
-/// Whether this is answered for a code, and printed.
-fn solves(
-    alloc: Global,
-    code: &str,
-    bounds: Bounds,
-    answer: Result<bool, SolveStop>,
-    printed: &str,
-) -> bool {
-    let mut sink = MemorySink::new(alloc);
-    let found = solve(alloc, code, bounds_of(100000, bounds), &mut sink);
-    is_answer(found, answer) && sink.bytes() == printed.as_bytes()
+/// Whether the text is told to be no code.
+fn is_no_code(alloc: Global, text: &str) -> bool {
+    match solve(alloc, text, bounds_of(100000, USUAL)) {
+        Err(Stop::NotACode) => true,
+        Ok(_) | Err(_) => false,
+    }
 }
 
-/// A code, the bounds, and what is answered and printed.
-struct Solved(&'static str, Bounds, Result<bool, SolveStop>, &'static str);
+/// A code, the bounds, whether a certificate is found, and what is said.
+struct Solved(&'static str, Bounds, bool, &'static str);
 
 impl Row for Solved {
     fn holds(&self, alloc: Global) -> bool {
-        let Solved(code, bounds, answer, text) = *self;
-        solves(alloc, code, bounds, answer, text)
+        let Solved(code, bounds, finds, text) = *self;
+        solves(alloc, code, bounds, finds, text)
     }
 }
 
-static ROWS: [Solved; 18] = [
-    Solved("0.1", USUAL, Ok(true), OF_0_1),
-    Solved("0.3", USUAL, Ok(true), OF_0_3),
-    Solved("0.33", USUAL, Ok(true), OF_0_33),
-    Solved("0.75", USUAL, Ok(true), OF_0_75),
-    Solved("0.b", USUAL, Ok(true), OF_0_B),
-    Solved("0.33", (64, 24, 6), Ok(true), OF_0_33),
+/// A text that is no code.
+struct NoCode(&'static str);
+
+impl Row for NoCode {
+    fn holds(&self, alloc: Global) -> bool {
+        is_no_code(alloc, self.0)
+    }
+}
+
+static ROWS: [Solved; 12] = [
+    Solved("0.1", USUAL, true, OF_0_1),
+    Solved("0.3", USUAL, true, OF_0_3),
+    Solved("0.33", USUAL, true, OF_0_33),
+    Solved("0.75", USUAL, true, OF_0_75),
+    Solved("0.b", USUAL, true, OF_0_B),
+    Solved("0.33", (64, 24, 6), true, OF_0_33),
     Solved(
         "0.03",
         FEW,
-        Ok(true),
+        true,
         "mqc 1\ncode 0.03\norder 2\nstart 1\nperiod 4\nphi 0 1 1 0\nportion 1\nwords 0:2\n\
 row 0 1\nrow 1 0\napart 0\nend\n",
     ),
     Solved(
         "0.003",
         FEW,
-        Ok(true),
+        true,
         "mqc 1\ncode 0.003\norder 2\nstart 1\nperiod 6\nphi 0 0 1 1 1 0\nportion 1\n\
 words 0:3\nrow 0 1\nrow 1 0\napart 0\nend\n",
     ),
     Solved(
         "0.0303",
         FEW,
-        Ok(true),
+        true,
         "mqc 1\ncode 0.0303\norder 6\nstart 1\nperiod 6\nphi 0 1 1 2 2 0\nportion 1 4\n\
 words 0:2 0:4 1:4 2:4 3:4\nrow 0 1 2 3 4 5\nrow 1 0 3 2 5 4\nrow 2 3 4 5 2 3\nrow 3 2 5 4 3 2\n\
 row 4 5 2 3 4 5\nrow 5 4 3 2 5 4\napart 0 1 1 0 4 0 0 4 0 2 0 1 0 1 0\nend\n",
     ),
-    Solved("0.x", USUAL, Err(SolveStop::NotACode), ""),
-    Solved("0.", USUAL, Err(SolveStop::NotACode), ""),
-    Solved("0.30", USUAL, Err(SolveStop::NotACode), ""),
-    Solved("", USUAL, Err(SolveStop::NotACode), ""),
-    Solved("0.B", USUAL, Err(SolveStop::NotACode), ""),
-    Solved("0.11111111111111111", USUAL, Err(SolveStop::NotACode), ""),
-    Solved("0.33", (0, 24, 64), Ok(false), "gave up 1 Rounds\n"),
-    Solved("0.33", (64, 24, 5), Ok(false), "gave up 2 Empty\n"),
-    Solved("0.33", (64, 2, 64), Ok(false), "gave up 2 Empty\n"),
+    Solved("0.33", (0, 24, 64), false, "gave up 1 Rounds\n"),
+    Solved("0.33", (64, 24, 5), false, "gave up 2 Empty\n"),
+    Solved("0.33", (64, 2, 64), false, "gave up 2 Empty\n"),
+];
+
+static NO_CODES: [NoCode; 6] = [
+    NoCode("0.x"),
+    NoCode("0."),
+    NoCode("0.30"),
+    NoCode(""),
+    NoCode("0.B"),
+    NoCode("0.11111111111111111"),
 ];
 
 /// What a search for a code is to find, with the reason told where it is given up, and how what it
@@ -117,29 +124,28 @@ impl Row for Aimed {
     }
 }
 
-/// Whether this is answered for a code, and what is printed begins so.
+/// Whether a certificate is found for a code or not, as is wanted, and what is said begins so.
 fn begins(alloc: Global, code: &str, bounds: SolveBounds, is_found: bool, head: &str) -> bool {
-    let mut sink = MemorySink::new(alloc);
-    let found = solve(alloc, code, bounds, &mut sink);
-    is_answer(found, Ok(is_found)) && sink.bytes().starts_with(head.as_bytes())
+    match solve(alloc, code, bounds) {
+        Ok(said) => said.succeeds == is_found && said.text.starts_with(head.as_bytes()),
+        Err(_) => false,
+    }
 }
-
-const DEEP: Aim = Aim::Whole { heaps: DEEPEST };
 
 /// Codes whose certificates need more than 64 heaps, and parts of games.
 static AIMED: [Aimed; 15] = [
     Aimed(
         "0.77",
-        DEEP,
+        Aim::Deep,
         256,
         true,
         "mqc 1\ncode 0.77\norder 40\nstart 71\nperiod 12\n",
     ),
-    Aimed("0.33", DEEP, 256, true, OF_0_33),
-    Aimed("0.b", DEEP, 256, true, OF_0_B),
+    Aimed("0.33", Aim::Deep, 256, true, OF_0_33),
+    Aimed("0.b", Aim::Deep, 256, true, OF_0_B),
     Aimed(
         "0.044",
-        DEEP,
+        Aim::Deep,
         256,
         true,
         "mqc 1\ncode 0.044\norder 40\nstart 214\nperiod 36\n",
@@ -193,7 +199,13 @@ static AIMED: [Aimed; 15] = [
         false,
         "gave up 2 Empty\nno period 64 40\n",
     ),
-    Aimed("0.07", DEEP, 64, false, "gave up 2 Empty\ntoo large 25\n"),
+    Aimed(
+        "0.07",
+        Aim::Deep,
+        64,
+        false,
+        "gave up 2 Empty\ntoo large 25\n",
+    ),
     Aimed(
         "0.0001",
         Aim::Part { last: 3 },
@@ -248,7 +260,7 @@ fn tells_members_and_rounds(alloc: Global) -> bool {
         limit,
         rounds,
         order: 64,
-        aim: DEEP,
+        aim: Aim::Deep,
         tells_why: true,
     };
     begins(
@@ -268,15 +280,13 @@ fn tells_members_and_rounds(alloc: Global) -> bool {
 
 /// Whether a search for the code is given up where each check is made under this limit.
 fn gives_up(alloc: Global, code: &str, limit: u32) -> bool {
-    let mut sink = MemorySink::new(alloc);
-    let found = solve(alloc, code, bounds_of(limit, USUAL), &mut sink);
-    is_answer(found, Ok(false)) && sink.bytes().starts_with(b"gave up ")
+    begins(alloc, code, bounds_of(limit, USUAL), false, "gave up ")
 }
 
 /// Whether the code of these digits has the certificate of this text.
 fn has_certificate(alloc: Global, digits: &str, text: &str) -> bool {
     match format!(in alloc; "0.{digits}") {
-        Ok(code) => solves(alloc, code.as_str(), FEW, Ok(true), text),
+        Ok(code) => solves(alloc, code.as_str(), FEW, true, text),
         Err(_) => false,
     }
 }
@@ -309,7 +319,8 @@ fn first_not_solved(alloc: Global) -> u16 {
 
 #[test]
 fn prints_the_certificates_of_codes(rt: HostRuntime) {
-    assert!(rt; count_held(rt.alloc(), &ROWS) == 18);
+    assert!(rt; count_held(rt.alloc(), &ROWS) == 12);
+    assert!(rt; count_held(rt.alloc(), &NO_CODES) == 6);
     assert!(rt; gives_up(rt.alloc(), "0.33", 2) && gives_up(rt.alloc(), "0.3", 1));
     assert!(rt; first_not_solved(rt.alloc()) == 256);
 }

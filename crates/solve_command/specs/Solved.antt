@@ -1,10 +1,11 @@
--- What a search prints. This project's own.
-use Rattle.std.specs.Prelude.{◌≡◌, ◌≢◌, ◌⊎◌, ◌≤◌, ◌<◌, ℕ, Bool, true, false, List, ◌++◌, length, Option, Result, Ok, Err, codes, decimal}
-use Rattle.std.specs.Io.KnownBytes.{Appends}
+-- What a search says. This project's own.
+use Rattle.std.specs.Prelude.{◌≡◌, ◌≢◌, ◌⊎◌, ⊤, ◌≤◌, ◌<◌, ℕ, Bool, true, false, List, ◌++◌, length, Result, Ok, Err, codes, decimal}
 use Rattle.misere_theory.specs.Certificates.{Certificate, Accepted, kind_of}
 use Rattle.misere_theory.specs.declared.TheConstants.{MOST_ENTRIES}
 use Rattle.octal_code.specs.Text.{IsCodeText}
 use Rattle.certificate_text.specs.Spelling.{Spells}
+use Rattle.command_results.specs.declared.stop.Stop.{Stop}
+use Rattle.command_results.specs.declared.stop.Stop.TheVariants.{Memory, NotACode}
 use Rattle.proposers.specs.declared.reasons.Reason.{Reason}
 use Rattle.proposers.specs.declared.reasons.Reason.TheVariants.{TooLarge, Repairs, Work, NoPeriod, OneElement, Members, Refused}
 use Rattle.quotient_finder.specs.Histories.{Events}
@@ -12,21 +13,24 @@ use Rattle.quotient_finder.specs.Rounds.{HasSearched}
 use Rattle.quotient_finder.specs.declared.gave_up.GaveUp.{GaveUp}
 use Rattle.quotient_finder.specs.declared.gave_up.GaveUp.TheVariants.{Rounds, Empty}
 use Rattle.requests.specs.declared.plans.Aim.{Aim}
-use Rattle.requests.specs.declared.plans.Aim.TheVariants.{Whole, Part, Furthest}
+use Rattle.requests.specs.declared.plans.Aim.TheVariants.{Whole, Deep, Part, Furthest}
 use Rattle.solve_command.specs.declared.bounds.SolveBounds.{SolveBounds}
 
 -- the text isn't a code's
 abbrev pub IsNoCode : List ℕ → Type 0
 IsNoCode text = (digits : List ℕ) → IsCodeText text digits → ⊥
 
--- the spelling of the certificate went out
-abbrev pub PrintsSpelling : Certificate → Option (List ℕ) → Option (List ℕ) → Type 0
-PrintsSpelling c before after = (bytes : List ℕ) × Spells bytes c × Appends before after bytes
+-- the text isn't a code's, or memory was wanting
+abbrev pub IsSolveCause : List ℕ → Stop → Type 0
+IsSolveCause text Memory = ⊤
+IsSolveCause text NotACode = IsNoCode text
+IsSolveCause text _ = ⊥
 
 -- a certificate of this kind is aimed at: a full one, that of the heaps 1 to M, or that of some first
 -- heaps
 abbrev pub IsAimedAt : Aim → ℕ → Type 0
 IsAimedAt (Whole heaps) kind = kind ≡ 0
+IsAimedAt Deep kind = kind ≡ 0
 IsAimedAt (Part last) kind = kind ≡ last
 IsAimedAt Furthest kind = (1 ≤ kind) × (kind ≤ MOST_ENTRIES)
 
@@ -39,6 +43,7 @@ pub record IsAskedFor (code : List ℕ) (aim : Aim) (c : Certificate) : Type 0 w
 -- how many proposers a search asks: two for the whole game, one for a part
 abbrev pub asked_by : Aim → ℕ
 asked_by (Whole heaps) = 2
+asked_by Deep = 2
 asked_by (Part last) = 1
 asked_by Furthest = 1
 
@@ -56,15 +61,14 @@ abbrev pub IsSearched : List ℕ → SolveBounds → Result Certificate GaveUp �
 IsSearched code bounds came = (kind : ℕ) × IsAimedAt bounds.aim kind
     × HasAsked code kind (asked_by bounds.aim) bounds.limit bounds.rounds came
 
--- An accepted certificate of the code was printed, of a kind that is aimed at and of at most so many
--- elements as are allowed, to which the search came.
-pub record PrintsCertificate (code : List ℕ) (bounds : SolveBounds)
-    (before after : Option (List ℕ)) : Type 0 where
+-- The text spells an accepted certificate of the code, of a kind that is aimed at and of at most so
+-- many elements as are allowed, to which the search came.
+pub record SpellsFound (code : List ℕ) (bounds : SolveBounds) (text : List ℕ) : Type 0 where
   pub c : Certificate
   pub asked_for : IsAskedFor code bounds.aim c
   pub small : c.order ≤ bounds.order
   pub searched : IsSearched code bounds (Ok c)
-  pub printed : PrintsSpelling c before after
+  pub spelled : Spells text c
 
 -- All rounds were spent, or the certificate that was found has more elements than are allowed.
 abbrev pub IsSpent : List ℕ → SolveBounds → Type 0
@@ -99,21 +103,19 @@ abbrev pub rounds_lines : Bool → List ℕ
 rounds_lines true = codes "gave up 1 Rounds\nrounds\n"
 rounds_lines false = codes "gave up 1 Rounds\n"
 
--- What says how the search was given up went out, with the reason where that is asked for. Where no
--- round was asked for, all rounds were spent.
-abbrev pub PrintsGivingUp : List ℕ → SolveBounds → Option (List ℕ) → Option (List ℕ) → Type 0
-PrintsGivingUp code bounds before after =
-    (IsSpent code bounds × Appends before after (rounds_lines bounds.tells_why))
-    ⊎ ((bounds.rounds ≢ 0) × IsSearched code bounds (Err Empty)
-    × ((text : List ℕ) × IsGivingUpText bounds.tells_why text × Appends before after text))
+-- The text says how the search was given up, with the reason where that is asked for. Where no round
+-- was asked for, all rounds were spent.
+abbrev pub TellsGivingUp : List ℕ → SolveBounds → List ℕ → Type 0
+TellsGivingUp code bounds text =
+    (IsSpent code bounds × (text ≡ rounds_lines bounds.tells_why))
+    ⊎ ((bounds.rounds ≢ 0) × IsSearched code bounds (Err Empty) × IsGivingUpText bounds.tells_why text)
 
--- what is printed for a code, and whether a certificate was found
-abbrev pub Finds : List ℕ → SolveBounds → Option (List ℕ) → Option (List ℕ) → Bool → Type 0
-Finds code bounds before after true = PrintsCertificate code bounds before after
-Finds code bounds before after false = PrintsGivingUp code bounds before after
+-- what is said of a code, and whether a certificate was found
+abbrev pub Finds : List ℕ → SolveBounds → List ℕ → Bool → Type 0
+Finds code bounds text true = SpellsFound code bounds text
+Finds code bounds text false = TellsGivingUp code bounds text
 
--- The text is a code's, and a certificate of it was printed, or how the search for one was given
--- up.
-abbrev pub Solves : List ℕ → SolveBounds → Option (List ℕ) → Option (List ℕ) → Bool → Type 0
-Solves text bounds before after found = (code : List ℕ) × IsCodeText text code
-    × Finds code bounds before after found
+-- The word is a code's, and the text is a certificate of it, or says how the search for one was
+-- given up.
+abbrev pub Solves : List ℕ → SolveBounds → List ℕ → Bool → Type 0
+Solves word bounds text found = (code : List ℕ) × IsCodeText word code × Finds code bounds text found

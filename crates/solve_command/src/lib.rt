@@ -1,12 +1,10 @@
-//! `solve`: the search for the certificate of a code, and what it prints.
+//! `solve`: the search for the certificate of a code, and what is said of it.
 #![tactic(auto)]
 
 mod bounds;
 mod search;
 mod solving;
-mod stop;
 mod told;
 
 pub use bounds::SolveBounds;
 pub use solving::solve;
-pub use stop::SolveStop;

@@ -10,6 +10,7 @@ use answers::Certified;
 use octal_code::Code;
 use proposers::{Refiner, Sampler, furthest};
 use quotient_finder::{GaveUp, Limits, Proposer, find};
+use quotient_search::DEEPEST;
 use requests::Aim;
 use std::alloc::Global;
 
@@ -29,7 +30,7 @@ fn add(proposers: &mut Vec<Box<dyn Proposer>>, proposer: Box<dyn Proposer>) -> R
 fn search_whole(
     alloc: Global,
     code: &Code,
-    heaps: u32,
+    heaps: usize,
     bounds: SolveBounds,
 ) -> Result<Certified, GaveUp>
     ensures found { IfOk result (IsFound code.now 0) }
@@ -38,7 +39,7 @@ fn search_whole(
     ensures no_round { bounds.rounds ≡ 0 → IfErr result (λ why. why ≢ GaveUp.Empty) }
 {
     let mut proposers: Vec<Box<dyn Proposer>> = Vec::new(alloc);
-    let (heaps, order) = (heaps as usize, bounds.order as usize);
+    let order = bounds.order as usize;
     let Ok(refiner) = Box::new(alloc, Refiner::new(alloc, heaps, order)) else {
         return Err(GaveUp::Memory);
     };
@@ -97,7 +98,8 @@ pub(crate) fn search(alloc: Global, code: &Code, bounds: SolveBounds) -> Result<
     ensures no_round { bounds.rounds ≡ 0 → IfErr result (λ why. why ≢ GaveUp.Empty) }
 {
     match bounds.aim {
-        Aim::Whole { heaps } => search_whole(alloc, code, heaps, bounds),
+        Aim::Whole { heaps } => search_whole(alloc, code, heaps as usize, bounds),
+        Aim::Deep => search_whole(alloc, code, DEEPEST, bounds),
         Aim::Part { last } => search_part(alloc, code, last, bounds),
         Aim::Furthest => {
             let last = last_of_furthest(alloc, code, bounds.order)?;

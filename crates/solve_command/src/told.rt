@@ -7,6 +7,7 @@ use crate::search::last_of_furthest;
 use allocation::Memory;
 use octal_code::Code;
 use proposers::{Reason, Sought, find_reason};
+use quotient_search::DEEPEST;
 use requests::Aim;
 use std::alloc::Global;
 
@@ -29,12 +30,13 @@ fn reason_text(alloc: Global, reason: Reason) -> Result<String, Memory>
 /// What the refiner was to search for.
 fn sought_of(alloc: Global, code: &Code, bounds: SolveBounds) -> Result<Sought, Memory> {
     let (heaps, is_part) = match bounds.aim {
-        Aim::Whole { heaps } => (heaps, false),
-        Aim::Part { last } => (last, true),
-        Aim::Furthest => (last_of_furthest(alloc, code, bounds.order)?, true),
+        Aim::Whole { heaps } => (heaps as usize, false),
+        Aim::Deep => (DEEPEST, false),
+        Aim::Part { last } => (last as usize, true),
+        Aim::Furthest => (last_of_furthest(alloc, code, bounds.order)? as usize, true),
     };
     Ok(Sought {
-        heaps: heaps as usize,
+        heaps,
         is_part,
         order: bounds.order as usize,
         members: bounds.limit,

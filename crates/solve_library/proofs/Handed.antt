@@ -1,24 +1,22 @@
--- What is handed over where a search printed a certificate.
-use Rattle.std.proofs.Common.{◌≡◌, ◌≤◌, sym, subst, ℕ, List, [], Some}
-use Rattle.misere_theory.specs.Certificates.{Certificate, kind_of}
+-- What is handed over where a search spells a certificate.
+use Rattle.std.proofs.Common.{◌≡◌, ◌≤◌, sym, subst, ℕ, Bool, true, false, List}
+use Rattle.misere_theory.specs.Certificates.{kind_of}
 use Rattle.octal_code.specs.Text.{IsCodeText}
-use Rattle.certificate_text.specs.Spelling.{Spells}
 use Rattle.solve_command.specs.declared.bounds.SolveBounds.{SolveBounds}
-use Rattle.solve_command.specs.Solved.{IsAimedAt, PrintsCertificate}
+use Rattle.solve_command.specs.Solved.{IsAimedAt, Solves}
 use Rattle.solve_library.specs.Found.{IsCertificateFor, IsOfKind}
 
-pub handed : (text code : List ℕ) (bounds : SolveBounds) (aim heaps order : ℕ) (bytes : List ℕ)
-    → bounds.order ≡ order
+pub handed : (word bytes : List ℕ) (bounds : SolveBounds) (aim heaps order : ℕ) (found : Bool)
+    → found ≡ true → bounds.order ≡ order
     → ((kind : ℕ) → IsAimedAt bounds.aim kind → IsOfKind aim heaps kind)
-    → IsCodeText text code → PrintsCertificate code bounds (Some []) (Some bytes)
-    → IsCertificateFor text aim heaps order bytes
-handed text code bounds aim heaps order bytes same kinds is p =
-    let bytes_are : p.printed.0 ≡ bytes = sym p.printed.2 in
+    → Solves word bounds bytes found → IsCertificateFor word aim heaps order bytes
+handed word bytes bounds aim heaps order true is same kinds (code, spells, p) =
     record {
       certificate = p.c;
-      of_code = subst (IsCodeText text) (sym p.asked_for.of_code) is;
+      of_code = subst (IsCodeText word) (sym p.asked_for.of_code) spells;
       of_kind = kinds (kind_of p.c) p.asked_for.of_kind;
-      spelled = subst (λ (b : List ℕ). Spells b p.c) bytes_are p.printed.1;
+      spelled = p.spelled;
       accepted = p.asked_for.accepted;
       small = subst (λ (n : ℕ). p.c.order ≤ n) same p.small;
     }
+handed word bytes bounds aim heaps order false is same kinds p = cc

@@ -38,7 +38,7 @@ pub extern "C" fn misere_solve(
         order,
     };
     match solved(alloc, code, asked) {
-        Ok(sink) => hand_over(sink.bytes(), told, count),
+        Ok(text) => hand_over(&text, told, count),
         Err(status) => status,
     }
 }

@@ -1,14 +1,15 @@
 //! The search for a certificate.
-ghost use Rattle.std.specs.Prelude.{◌≡◌, ◌≢◌, ℕ, List, Some, IfSome, IfOk, IfErr};
+ghost use Rattle.std.specs.Prelude.{◌≡◌, ◌≢◌, ℕ, IfSome, IfOk, IfErr};
 ghost use Rattle.solve_command.specs.Solved.{IsAimedAt};
 ghost use Rattle.solve_library.specs.Found.{IsCertificateFor, IsOfKind};
 
 use crate::numbers::{GAVE_UP, MEMORY, NOT_A_CODE, NOT_IN_RANGE};
+use command_results::Stop;
 use misere_theory::{LARGEST_FIRST_ORDER, LARGEST_ORDER, MOST_ENTRIES};
-use requests::{Aim, DEEPEST};
-use solve_command::{SolveBounds, SolveStop, solve};
+use quotient_search::DEEPEST;
+use requests::Aim;
+use solve_command::{SolveBounds, solve};
 use std::alloc::Global;
-use streams::{MemorySink, Sink};
 
 /// What is asked of a search. Each number has the range that it has on a command line; of a whole
 /// game as many heaps may be looked at as a certificate can need.
@@ -29,7 +30,7 @@ fn aim_of(asked: Asked) -> Option<Aim>
     let heaps = asked.heaps;
     let is_order = asked.order <= LARGEST_FIRST_ORDER as u32;
     match asked.aim {
-        0 if 2 <= heaps && heaps <= DEEPEST && is_order => Some(Aim::Whole { heaps }),
+        0 if 2 <= heaps && heaps <= DEEPEST as u32 && is_order => Some(Aim::Whole { heaps }),
         1 if 1 <= heaps && heaps <= MOST_ENTRIES as u32 => Some(Aim::Part { last: heaps }),
         2 => Some(Aim::Furthest),
         _ => None,
@@ -63,11 +64,10 @@ fn bounds_of(asked: Asked) -> Option<SolveBounds>
     })
 }
 
-/// The certificate that is found for the code that the bytes spell, in a sink; or the status.
-pub(crate) fn solved(alloc: Global, code: &[u8], asked: Asked) -> Result<MemorySink<Global>, u32>
-    ensures found { IfOk result (λ s. (bytes : List ℕ)
-        × (⟦<MemorySink<Global> as Sink>⟧.taken s ≡ Some bytes)
-        × IsCertificateFor code.now asked.aim asked.heaps asked.order bytes) }
+/// The text of the certificate that is found for the code that the bytes spell; or the status.
+pub(crate) fn solved(alloc: Global, code: &[u8], asked: Asked) -> Result<Vec<u8>, u32>
+    ensures found { IfOk result
+        (λ text. IsCertificateFor code.now asked.aim asked.heaps asked.order text.items) }
     ensures no { IfErr result (λ s. s ≢ 0 × s ≢ 14) }
 {
     let Ok(text) = str::from_utf8(code) else {
@@ -76,11 +76,10 @@ pub(crate) fn solved(alloc: Global, code: &[u8], asked: Asked) -> Result<MemoryS
     let Some(bounds) = bounds_of(asked) else {
         return Err(NOT_IN_RANGE);
     };
-    let mut sink = MemorySink::new(alloc);
-    match solve(alloc, text, bounds, &mut sink) {
-        Ok(true) => Ok(sink),
-        Ok(false) => Err(GAVE_UP),
-        Err(SolveStop::NotACode) => Err(NOT_A_CODE),
-        Err(SolveStop::Write | SolveStop::Memory) => Err(MEMORY),
+    match solve(alloc, text, bounds) {
+        Ok(said) if said.succeeds => Ok(said.text),
+        Ok(_) => Err(GAVE_UP),
+        Err(Stop::NotACode) => Err(NOT_A_CODE),
+        Err(_) => Err(MEMORY),
     }
 }

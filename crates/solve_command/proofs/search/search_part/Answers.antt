@@ -1,5 +1,5 @@
 use Rattle.std.proofs.Common.{inr, arith}
-use Rattle.solve_command.proofs.Printed.{asked, of_count}
+use Rattle.solve_command.proofs.Searched.{asked, of_count}
 use Rattle.solve_command.proofs.search.search_part.Goals as goal
 
 pub returns-clause-asked : goal.returns-clause-asked
