@@ -42,6 +42,7 @@ def load(file: pathlib.Path, name: str) -> Any:
     spec = importlib.util.spec_from_loader(name, loader)
     assert spec
     module = importlib.util.module_from_spec(spec)
+    sys.modules[name] = module
     loader.exec_module(module)
     return module
 

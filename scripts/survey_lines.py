@@ -7,9 +7,6 @@ import re
 from collections.abc import Iterable, Iterator
 from typing import Any
 
-# (scripts that read lines want these too)
-from certificate_lines import codes_of, heaps_of, place_of, words_of  # noqa: F401
-
 # The most heaps of which an entry of a catalogue may tell
 MOST_HEAPS = 1024
 CUT, NO_JSON, NO_LINE = "is cut short", "is no JSON", "is no survey's line"
