@@ -132,7 +132,14 @@ class Sources:
             records = {it: self.read(it) for it in below}
             record.over = {it: sum_of_file(self.made_of(it)) for it in below}
             record.all = sum_of_all([*((it.sources if it else "") for it in records.values()), sources])
-        self.record_of(name).write_text(json.dumps(asdict(record), indent=1, sort_keys=True) + "\n")
+        self.put(name, record)
+
+    def put(self, name: str, record: Record) -> None:
+        """Writes a record, where that can be done."""
+        try:
+            self.record_of(name).write_text(json.dumps(asdict(record), indent=1, sort_keys=True) + "\n")
+        except OSError:
+            pass
 
     def over(self, name: str, record: Record | None) -> dict[str, str]:
         """The sums of the libraries over which something was built."""
@@ -171,8 +178,17 @@ class Sources:
         if record:
             return record.all == sum_of_all(sums.values())
         if stands := self.is_newer():
+            for name in self.crates:
+                self.stands(name)
             told = Record(sums[self.program], sum_of_file(file), sum_of_all(sums.values()))
-            self.record_of(self.program).write_text(json.dumps(asdict(told), indent=1, sort_keys=True) + "\n")
+            self.put(self.program, told)
+        return stands
+
+    def stands(self, name: str) -> bool:
+        """Whether a crate is as it was built; where times alone say so of a library, it is recorded."""
+        stands = self.is_as_built(name)
+        if stands and name != self.program and not self.read(name):
+            self.write(name, self.sum_of(name))
         return stands
 
     def changed_crates(self) -> list[str]:
