@@ -1,5 +1,5 @@
-"""The page of the atlas: what atlas/page.md says, with the tables and descriptions that its lines in braces name, out of the
-catalogues and of `misere describe`."""
+"""The page of the atlas: what atlas/page.md says, with the tables and descriptions that its lines in braces name, out
+of the catalogues and of `misere describe`."""
 
 from __future__ import annotations
 
@@ -117,8 +117,8 @@ class Page:
                 entry.description = entry.description or group[0].description
 
     def families(self) -> Iterator[str]:
-        """A row for each family: its codes, how many have a full quotient, tame or wild, and a partial one, and how many
-        quotients these are."""
+        """A row for each family: its codes, how many have a full quotient, tame or wild, and a partial one, and how
+        many quotients these are."""
         yield row(["Codes", "In all", "Full", "of these tame", "wild", "Partial", "Different quotients"])
         yield "|---|---|---|---|---|---|---|"
         members: dict[str, list[Entry]] = collections.defaultdict(list)
@@ -141,14 +141,16 @@ class Page:
         yield from (quotient_row(group) for group in groups if group[0].heaps > 0)
 
     def described(self, code: str) -> Iterator[str]:
-        """The description of a code's entry, as the program prints it of the first code with the same quotient, under its own code."""
+        """The description of a code's entry, as the program prints it of the first code with the same quotient, under
+        its own code."""
         entry = next(entry for entry in self.entries if entry.code == code)
         yield "```text"
         yield re.sub(r"\AQ\(\S+\)", f"Q({code})", entry.description).rstrip("\n")
         yield "```"
 
     def furthest(self, code: str) -> Iterator[str]:
-        """How far a code goes with as many elements as a certificate can have, in the words with which a catalogue lists it."""
+        """How far a code goes with as many elements as a certificate can have, in the words with which a catalogue
+        lists it."""
         words = ["solve", code, "--furthest", str(MOST_ORDER)]
         found = words_of(subprocess.run([self.program, *words], capture_output=True, text=True, check=True).stdout)
         listed = f"{code} order {found['order']} heaps {int(found['start']) - 1}"

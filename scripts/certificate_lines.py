@@ -12,7 +12,8 @@ DIGITS = {"d": "01234567", "h": "0123456789abcdef"}
 
 
 def codes_of(shape: str) -> Iterator[str]:
-    """The codes of a shape such as `0.dd` or `8.h`, where d stands for an octal digit and h for a hexadecimal one; the last is not 0."""
+    """The codes of a shape such as `0.dd` or `8.h`, where d stands for an octal digit and h for a hexadecimal one; the
+    last is not 0."""
     first, places = shape.split(".")
     for digits in itertools.product(*(DIGITS[place] for place in places)):
         if digits[-1] != "0":
@@ -20,7 +21,8 @@ def codes_of(shape: str) -> Iterator[str]:
 
 
 def place_of(code: str) -> tuple[str, int, str]:
-    """Where a code stands in the literature's order: by the digit before the point, then by how many are behind it, then by these."""
+    """Where a code stands in the literature's order: by the digit before the point, then by how many are behind it,
+    then by these."""
     first, _, digits = code.partition(".")
     return first, len(digits), digits
 

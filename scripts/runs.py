@@ -20,7 +20,8 @@ SET_CHILD_SUBREAPER = 36  # of prctl: a process whose parent has ended becomes a
 
 @dataclass(frozen=True)
 class Run:
-    """What a run printed on standard output and standard error, and its status, which is None where it took too long."""
+    """What a run printed on standard output and standard error, and its status, which is None where it took too
+    long."""
 
     status: int | None
     printed: bytes
@@ -50,8 +51,8 @@ class Stopped(Exception):
 class Runs:
     """The runs of the program that are at work. All of them can be ended at once, and then none begins.
 
-    A run is begun out of a shell that ends first, and is then a child of this script, so that the memory of this script isn't counted
-    as its own. The group of its processes has the number of that shell, and stands for the run.
+    A run is begun out of a shell that ends first, and is then a child of this script, so that the memory of this script
+    isn't counted as its own. The group of its processes has the number of that shell, and stands for the run.
     """
 
     def __init__(self) -> None:
@@ -95,8 +96,8 @@ class Runs:
                 os.killpg(group, signal.SIGKILL)
 
     def reap(self, group: int) -> tuple[int, bool, resource.struct_rusage]:
-        """Its status, whether it took too long, and what it used. It is in the list until it is reaped, so that no other process is
-        killed in its place."""
+        """Its status, whether it took too long, and what it used. It is in the list until it is reaped, so that no
+        other process is killed in its place."""
         os.waitid(os.P_PGID, group, os.WEXITED | os.WNOWAIT)
         with self.lock:
             _, status, used = os.wait4(-group, 0)

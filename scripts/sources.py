@@ -1,8 +1,10 @@
 """The crates and what they are made of: which of them are as they were built, by sums of their sources.
 
-Beside what scripts/build makes of a crate it writes a record: the sum of the crate's sources, the sum of what was made, and, of a program, the sums of the libraries that
-it was built over, and that of all sources that it stands on. A library's own `format` says over which libraries it was built. So a copied clone, or one
-with sources as another checkout has them, is known for what it is, whatever the times of its files. Where no record stands, as behind `rt ci`, times decide.
+Beside what scripts/build makes of a crate it writes a record: the sum of the crate's sources, the sum of what was made,
+and, of a program, the sums of the libraries that it was built over, and that of all sources that it stands on. A
+library's own `format` says over which libraries it was built. So a copied clone, or one with sources as another
+checkout has them, is known for what it is, whatever the times of its files. Where no record stands, as behind `rt ci`,
+times decide.
 """
 
 from __future__ import annotations
@@ -101,7 +103,8 @@ class Sources:
         self.crates = stood_on(read_crates(), program)
 
     def made_of(self, name: str) -> pathlib.Path:
-        """The file that stands, and tells all of it, where the crate is built: the program, or the format of a library, which holds its sum."""
+        """The file that stands, and tells all of it, where the crate is built: the program, or the format of a library,
+        which holds its sum."""
         return target_of(name) if name == self.program else out_of(name) / f"rlib/{name}.rlib/format"
 
     def record_of(self, name: str) -> pathlib.Path:
@@ -117,7 +120,8 @@ class Sources:
         return total.hexdigest()
 
     def read(self, name: str) -> Record | None:
-        """The record of what stands there, if there is one; none that is of something else, as where rt was called by hand."""
+        """The record of what stands there, if there is one; none that is of something else, as where rt was called by
+        hand."""
         try:
             record = Record(**json.loads(self.record_of(name).read_text()))
         except (OSError, ValueError, TypeError):

@@ -38,7 +38,8 @@ def read_line(line: bytes) -> tuple[Any, str | None]:
 
 
 def lines_of(stream: Iterable[bytes]) -> Iterator[tuple[int, Any, str | None, bytes]]:
-    """Of each line that isn't blank its number, its value and None, or None and what is wrong with it, and its first bytes."""
+    """Of each line that isn't blank its number, its value and None, or None and what is wrong with it, and its first
+    bytes."""
     for number, line in enumerate(stream, 1):
         if line.strip():
             yield number, *read_line(line), line[:200]
