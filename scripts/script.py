@@ -7,7 +7,6 @@ import importlib.machinery
 import importlib.util
 import os
 import pathlib
-import shutil
 import sys
 from collections.abc import Callable
 from typing import Any
@@ -45,14 +44,6 @@ def load(file: pathlib.Path, name: str) -> Any:
     sys.modules[name] = module
     loader.exec_module(module)
     return module
-
-
-def load_rt() -> Any:
-    """rt as a module."""
-    found = shutil.which("rt")
-    if not found:
-        sys.exit("rt, which proves and builds, is not here; see README.md")
-    return load(pathlib.Path(found), "rt_main")
 
 
 def begin(main: Callable[[], int | None]) -> None:
