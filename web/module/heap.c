@@ -8,7 +8,7 @@ typedef struct Block { /* lies right before what is handed out, and is of 16 byt
 } Block;
 typedef struct {
     u64 ok;   /* 0 or 1, in all its bytes: the proved code may read one or all */
-    void *at; /* never null: where nothing was taken, a place that nobody uses */
+    void *at; /* never null: where nothing was taken, nowhere */
 } Tried;
 
 enum { LEAST = 5, POWERS = 40, PAGE = 16 }; /* powers of two: of the smallest block, past the largest, of a page */
@@ -19,6 +19,7 @@ static Block *unused[POWERS];
 static u64 top;          /* where what was never handed out begins; 0 before the first block */
 static u64 most = ~0ull; /* no block goes past this place */
 static u64 live, peak;   /* bytes of the blocks that are out, now and at most */
+static char nowhere[16];
 
 /* For tests: the bytes that are out, how many they ever were, and a bound for the heap. */
 EXPORT(heap_live) u64 heap_live(void) { return live; }
@@ -68,21 +69,14 @@ EXPORT(heap_give) void heap_give(void *at) {
     for (int power = 0; power < POWERS; power++) unused[power] = 0;
 }
 
-static Tried tried(void *at) {
-    static char nowhere[16];
-    return (Tried){at != 0, at ? at : nowhere};
-}
+static Tried tried(void *at) { return (Tried){at != 0, at ? at : nowhere}; }
 
-Tried rattle_alloc(u64 bytes, u64 align) {
-    (void)align;
-    return tried(heap_take(bytes));
-}
+Tried rattle_alloc(u64 bytes, u64 align) { return tried(heap_take(bytes)); }
 
 void rattle_dealloc(void *at) { heap_give(at); }
 
 /* A place for so many bytes, with those that were kept at the old one, which is then free; or the old one as it was. */
 Tried rattle_realloc(void *at, u64 kept, u64 bytes, u64 align) {
-    (void)align;
     if (power_of(bytes) == ((Block *)at)[-1].power) return tried(at);
     void *to = heap_take(bytes);
     if (to) {
