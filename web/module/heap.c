@@ -1,6 +1,6 @@
 /* The heap of the module: blocks of a power of two bytes, with a list of free ones for each power. Not proved.
- * It is to the proved code what the kit's liblibc_c.a is on x86-64, by the same three functions. Each
- * alignment that they are asked for divides 16: so their contracts require. */
+ * It is to the proved code what the kit's liblibc_c.a is on x86-64, by the same three functions. Each alignment that
+ * they are asked for divides 16: so their contracts require. */
 typedef unsigned long long u64;
 typedef struct Block { /* lies right before what is handed out, and is of 16 bytes */
     u64 power;
