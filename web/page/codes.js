@@ -81,7 +81,7 @@ export function moveTo(code, heap, left) {
   return allows(digit, left.length) ? {heap, taken, left: [...left].sort((a, b) => a - b)} : null;
 }
 
-const COUNTS = ["none", "one heap", "two heaps", "three heaps"];
+const COUNTS = ["no", "one", "two", "three"];
 
 /**
  * The rule of a code's game in words: a sentence for each number that may be taken.
@@ -96,9 +96,11 @@ export function ruleOf(code) {
  * @param {number} taken
  */
 function sentenceOf(digit, taken) {
-  const left = [1, 2, 3].filter((heaps) => allows(digit, heaps)).map((heaps) => COUNTS[heaps]).join(" or ");
+  const counts = [1, 2, 3].filter((heaps) => allows(digit, heaps));
+  const named = counts.map((heaps) => COUNTS[heaps]).join(" or ");
+  const left = `${named} ${named === "one" ? "heap" : "heaps"}`;
   if (taken === 0) return `Take nothing, and split a heap into ${left}.`;
-  if (!left) return `Take a whole heap of ${taken}.`;
+  if (!named) return `Take a whole heap of ${taken}.`;
   if (!allows(digit, 0)) return `Take ${taken} from a larger heap, and leave the rest as ${left}.`;
   return `Take ${taken}: the whole heap, or else leave the rest as ${left}.`;
 }

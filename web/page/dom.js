@@ -56,13 +56,13 @@ export function draw(name, attributes = {}, ...children) {
 }
 
 /**
- * The parts with something between each two.
+ * The parts with commas between them, at whose ends alone a line may break.
  * @param {Child[]} parts
- * @param {string} between
  * @returns {Child[]}
  */
-export function separated(parts, between = ", ") {
-  return parts.flatMap((it, at) => (at ? [between, it] : [it]));
+export function separated(parts) {
+  const last = parts.length - 1;
+  return parts.flatMap((it, at) => (at < last ? [make("span", {class: "item"}, it, ","), " "] : [it]));
 }
 
 /**

@@ -66,12 +66,12 @@ async function show(page) {
   }
   page.finder.stop();
   try {
-    await (VIEWS[view] ?? atlasView)(page, root, word);
+    const shown = (VIEWS[view] ?? atlasView)(page, root, word);
+    document.title = `${root.querySelector("h1")?.textContent} – Misère quotients`;
+    await shown;
   } catch (failure) {
     root.append(make("p", {class: "verdict none", role: "alert"}, told(failure)));
   }
-  const heading = root.querySelector("h1")?.textContent;
-  if (root.isConnected) document.title = heading ? `${heading} – Misère quotients` : "Misère quotients";
 }
 
 /** Makes a worker out of the program that the page holds. (One of `file://` may not read it from a file.) */
@@ -99,6 +99,10 @@ async function begin() {
     main.focus({preventScroll: true});
     window.scrollTo(0, 0);
     await show(page);
+  });
+  document.querySelector(".skip")?.addEventListener("click", (event) => {
+    event.preventDefault();
+    main.focus();
   });
   const shown = show(page);
   document.documentElement.dataset.ready = performance.now().toFixed(0);

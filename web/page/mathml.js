@@ -49,8 +49,14 @@ export function relation(text) {
  */
 export function ofGame(letter, last, code) {
   const symbol = node("mi", letter);
-  symbol.setAttribute("mathvariant", "normal");
   const named = last === null ? symbol : node("msub", symbol, node("mn", String(last)));
-  const behind = code ? [node("mo", "("), node("mn", code), node("mo", ")")] : [];
-  return node("math", named, ...behind, node("mo", "="));
+  return node("math", named, ...(code ? [bracket("("), node("mn", code), bracket(")")] : []));
+}
+
+/** @param {string} sign */
+function bracket(sign) {
+  const element = node("mo", sign);
+  for (const [name, value] of [["lspace", "0"], ["rspace", "0"], ["stretchy", "false"]])
+    element.setAttribute(name, value);
+  return element;
 }

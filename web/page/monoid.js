@@ -44,17 +44,20 @@ function spelled(letters) {
  */
 
 /**
- * The archimedean components. An idempotent e lies below f where ef = e.
+ * The archimedean components, the greater idempotents first. An idempotent e lies below f where ef = e.
  * @param {Certificate} certificate
  * @returns {Component[]}
  */
 export function componentsOf({table}) {
   const powers = table.map((row, x) => idempotentOf(table, row, x));
-  const idempotents = [...new Set(powers)].sort((a, b) => a - b);
+  const idempotents = [...new Set(powers)];
   const isBelow = (/** @type {number} */ e, /** @type {number} */ f) => e !== f && table[e][f] === e;
+  const belowOf = (/** @type {number} */ f) => idempotents.filter((e) => isBelow(e, f));
+  // (a greater idempotent has more below it)
+  idempotents.sort((e, f) => belowOf(f).length - belowOf(e).length || e - f);
   return idempotents.map((idempotent) => {
     const members = powers.flatMap((power, x) => (power === idempotent ? [x] : []));
-    const below = idempotents.filter((e) => isBelow(e, idempotent));
+    const below = belowOf(idempotent);
     return {
       idempotent,
       members,

@@ -77,8 +77,9 @@ export class Prover {
     this.#post({module: this.#bytes}).catch((failure) => this.#end(failure));
   }
 
+  /** Ends what is at work. */
   stop() {
-    this.#end(new Failure("stopped", "stopped"));
+    if (this.#askers.size) this.#end(new Failure("stopped", "stopped"));
   }
 
   /**

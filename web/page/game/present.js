@@ -44,24 +44,26 @@ export async function present(page, root, bytes) {
     const certificate = fieldsOf(new TextDecoder().decode(bytes));
     verdict.classList.add("yes");
     fill(verdict, verdictOf(certificate), make("span", {class: "soft"}, ` (checked here in ${time.toFixed(1)} ms)`));
-    const game = await gameOf(page, bytes, certificate);
-    fill(root, verdict, ...sectionsOf(page, game));
+    await presentGame(page, root, bytes, certificate);
   } catch (failure) {
-    root.append(failureLine(failure, verdict));
+    verdict.classList.add(isNo(failure) ? "no" : "none");
+    fill(verdict, told(failure));
   }
 }
 
 /**
- * What became of a certificate that wasn't accepted.
- * @param {unknown} failure
- * @param {HTMLElement} verdict
+ * Shows what is told of an accepted certificate. Where that fails, the verdict stays.
+ * @param {Page} page
+ * @param {HTMLElement} root
+ * @param {Uint8Array} bytes
+ * @param {import("../certificate.js").Certificate} certificate
  */
-function failureLine(failure, verdict) {
-  verdict.className = `verdict ${isNo(failure) ? "no" : "none"}`;
-  const heaps = failure instanceof Failure ? failure.heaps : null;
-  const position = heaps && (heaps.length ? `The position: ${heaps.join(" + ")}.` : "The position: no heap at all.");
-  fill(verdict, told(failure), position && make("span", {class: "position"}, ` ${position}`));
-  return verdict;
+async function presentGame(page, root, bytes, certificate) {
+  try {
+    root.append(...sectionsOf(page, await gameOf(page, bytes, certificate)));
+  } catch (failure) {
+    root.append(make("p", {class: "verdict none", role: "alert"}, told(failure)));
+  }
 }
 
 /**
@@ -97,9 +99,11 @@ async function descriptionOf(page, bytes) {
 function sectionsOf(page, game) {
   const last = lastHeap(game.certificate);
   const start = [3, 4, 5].filter((heap) => last === null || heap <= last);
-  const partial = last !== null &&
-      make("p", {class: "partial"},
-           `A partial quotient: all that is told here is of the positions whose heaps are at most ${last}.`);
+  const partial = last === null ?
+      "" :
+      make(
+          "p", {class: "partial"},
+          `A partial quotient: all that is told here is of the positions whose heaps are at most ${last}.`);
   return [
     partial,
     make("p", {class: "links"}, make("a", {href: playAddress(game.name, start)}, "Play against it")),
@@ -108,7 +112,7 @@ function sectionsOf(page, game) {
     heapSection(game),
     askSection(page, game),
     pictureSection(page, game),
-    relativesSection(page, game),
+    relativesSection(page, game) ?? "",
     certificateSection(page, game),
   ];
 }

@@ -40,9 +40,9 @@ function presentation({certificate}, {letters, relations, portion}) {
       [letters.map(word), relations.map(relation), portion.map(word)].map((it) => separated(it));
   return [
     make(
-        "p", {class: "presentation", id: "presentation"}, ofGame("𝒬", last, certificate.code), " ⟨ ", ...generators,
+        "p", {class: "presentation", id: "presentation"}, ofGame("𝒬", last, certificate.code), " = ⟨ ", ...generators,
         relations.length ? " ∣ " : "", ...equations, " ⟩"),
-    make("p", {class: "presentation", id: "portion"}, ofGame("𝒫", last), " { ", ...lost, " }"),
+    make("p", {class: "presentation", id: "portion"}, ofGame("𝒫", last), " = { ", ...lost, " }"),
   ];
 }
 

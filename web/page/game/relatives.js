@@ -1,7 +1,7 @@
 // Other codes of the atlas with the same quotient.
 
 import {gameAddress} from "../address.js";
-import {make, separated} from "../dom.js";
+import {make} from "../dom.js";
 
 /**
  * @param {import("../main.js").Page} page
@@ -26,7 +26,7 @@ export function relativesSection({atlas}, {name}) {
  * @param {string[]} codes
  */
 function listed(what, codes) {
-  const links = separated(codes.map((code) => make("a", {href: gameAddress(code)}, code)), " ");
+  const links = codes.flatMap((code) => [make("a", {href: gameAddress(code)}, code), " "]);
   return make(
       "details", {open: codes.length > 0 && codes.length <= 24},
       make("summary", {}, `${what}: ${codes.length || "none"}`), make("p", {class: "codes"}, links));

@@ -73,7 +73,7 @@ function boxOf({members, group}, {x, y, width, height}, {columns, column}, porti
  */
 function spans(text) {
   return [...text.matchAll(/([a-z]|\d+)(?:\^(\d+))?/g)].flatMap(([, base, power]) => {
-    const letter = draw("tspan", {class: /\d/.test(base) ? "" : "letter"}, base);
+    const letter = draw("tspan", {class: /\d/.test(base) ? "base" : "base letter"}, base);
     const raised = power ? [draw("tspan", {dy: -4, class: "power"}, power), draw("tspan", {dy: 4}, "\u200b")] : [];
     return [letter, ...raised];
   });

@@ -40,7 +40,7 @@ function drawn(side, outcomes) {
       draw("path", {class: "lost", d: cells.join("")})));
   const said = (/** @type {number} */ column, /** @type {number} */ row) => [`Heaps ${column} and ${row}: ${
       outcomes[row * side + column] === 0 ? "P, lost for whoever is to move." : "N, won."}`];
-  return gridPicture(svg, side, `Two heaps, each of 0 to ${side - 1}: dark where whoever is to move has lost.`, said);
+  return gridPicture(svg, side, `Two heaps, each of 0 to ${side - 1}: blue where whoever is to move has lost.`, said);
 }
 
 /**

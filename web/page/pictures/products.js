@@ -49,9 +49,9 @@ function coloursOf(components) {
   /** @type {string[]} */
   const colours = [];
   for (const [at, {members}] of components.entries()) {
-    const hue = Math.round(215 + (at * 360) / components.length) % 360;
+    const hue = Math.round(215 + (at * 300) / components.length) % 360;
     for (const [nth, x] of members.entries())
-      colours[x] = `hsl(${hue} 42% ${30 + Math.round((34 * nth) / members.length)}%)`;
+      colours[x] = `hsl(${hue} 30% ${36 + Math.round((36 * nth) / members.length)}%)`;
   }
   return colours;
 }

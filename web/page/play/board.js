@@ -1,6 +1,6 @@
 // The board of a play: it shows whose turn it is, takes moves and answers them.
 
-import {playAddress} from "../address.js";
+import {gameAddress, playAddress} from "../address.js";
 import {ruleOf} from "../codes.js";
 import {fill, focusOn, make} from "../dom.js";
 import {arrowOf} from "../positions.js";
@@ -22,6 +22,12 @@ export class Board {
   /** @type {Win} */
   #win = null;
   #isWinning = false;
+  // (what is told stays one element, so that it is read out where it changes)
+  #told = make("p", {class: "verdict", id: "told", role: "status"});
+  #heaps = make("div", {class: "heaps"});
+  #controls = make("div");
+  #log = make("ol", {class: "log", "aria-label": "Moves"});
+  #review = make("div");
 
   /**
    * @param {Page} page
@@ -31,22 +37,11 @@ export class Board {
    */
   constructor(page, root, bytes, session) {
     this.page = page;
-    this.root = root;
     this.bytes = bytes;
     this.session = session;
-  }
-
-  /** Lets the program move, and then it is your turn. */
-  async reply() {
-    return this.#try
-      (async () => {
-        if (this.session.isOver) return this.#keep();
-        const win = await this.#winOf();
-        this.#isWinning = win !== null;
-        this.session = this.session.after("program", win ?? this.session.smallestMove);
-        this.#keep();
-        await this.#turn();
-      });
+    const game = make("a", {href: gameAddress(session.name)}, session.name);
+    const rule = make("p", {class: "soft", id: "rule"}, game, `: ${ruleOf(session.code).join(" ")}`);
+    fill(root, rule, this.#told, this.#heaps, this.#controls, this.#log, this.#review);
   }
 
   /** It is your turn. */
@@ -55,23 +50,37 @@ export class Board {
       (() => this.#turn());
   }
 
+  /** Lets the program move, and then it is your turn. */
+  async reply() {
+    return this.#try
+      (async () => {
+        if (!this.session.isOver) {
+          const win = await this.#winOf();
+          this.#isWinning = win !== null;
+          this.session = this.session.after("program", win ?? this.session.smallestMove);
+        }
+        this.#keep();
+        await this.#turn();
+        focusOn(this.#heaps.querySelector(".token") ?? this.#controls.querySelector("select"));
+      });
+  }
+
   async #turn() {
     this.#chosen = null;
     this.#win = await this.#winOf();
     this.#show();
-    focusOn(this.root.querySelector(".token, #from, #moves"));
+    fill(this.#review, this.session.turns.length > 0 && review(this.page, this.bytes, this.session));
   }
 
   /**
-   * Shows what comes of it, also where the module fails.
-   * @param {() => Promise<void> | void} action
+   * Where the module fails, that is told.
+   * @param {() => Promise<void>} action
    */
   async #try(action) {
     try {
       await action();
-      if (this.session.isOver) this.#show();
     } catch (failure) {
-      this.root.append(make("p", {class: "verdict none", role: "alert"}, told(failure)));
+      fill(this.#told, told(failure));
     }
   }
 
@@ -84,11 +93,7 @@ export class Board {
   /** Gives the position an address, so that going back takes a move back. */
   #keep() {
     const {name, heaps, record} = this.session;
-    const address = playAddress(name, heaps);
-    if (location.hash === address)
-      history.replaceState(record, "", address);
-    else
-      history.pushState(record, "", address);
+    history.pushState(record, "", playAddress(name, heaps));
   }
 
   /** @param {Move} move */
@@ -104,21 +109,18 @@ export class Board {
   #choose(at, token) {
     this.#chosen = chosenWith(this.#chosen, at, token);
     this.#show();
-    const row = this.root.querySelectorAll(".heap")[at];
-    focusOn(row.querySelectorAll(".token")[token]);
+    focusOn(this.#heaps.children[at].querySelectorAll(".token")[token]);
   }
 
   #show() {
     const {session} = this;
-    const rows = session.heaps.map((heap, at) => heapRow(heap, at, this.#chosen, (token) => this.#choose(at, token)));
-    const said = make("p", {class: "verdict", id: "told", role: "status"}, this.#said());
-    const log = session.turns.map(
-        ({player, ...move}) => make("li", {}, `${player === "you" ? "You" : "Program"}: ${arrowOf(move)}`));
-    fill(
-        this.root, make("p", {class: "soft", id: "rule"}, ruleOf(session.code).join(" ")), said,
-        make("div", {class: "heaps"}, rows), !session.isOver && this.#controls(),
-        make("ol", {class: "log", "aria-label": "Moves"}, log),
-        session.turns.length > 0 && review(this.page, this.bytes, session));
+    const row = (/** @type {number} */ heap, /** @type {number} */ at) =>
+        heapRow(heap, at, this.#chosen, (token) => this.#choose(at, token));
+    const said = this.#said();
+    if (this.#told.textContent !== said) fill(this.#told, said);
+    fill(this.#heaps, ...session.heaps.map(row));
+    fill(this.#controls, ...(session.isOver ? [] : this.#ways()));
+    fill(this.#log, ...session.turns.map((turn) => make("li", {}, `${NAMES[turn.player]}: ${arrowOf(turn)}`)));
   }
 
   #said() {
@@ -130,20 +132,19 @@ export class Board {
                                    "The program made the last move: you have won!";
   }
 
-  #controls() {
-    const hint = make(
-        "button", {
-          type: "button",
-          id: "hint",
-          onclick: () => fill(hint, this.#win ? `${arrowOf(this.#win)} wins` : "No move wins")
-        },
-        "Hint");
-    const back = this.session.turns.length > 0 &&
-        make("button", {type: "button", id: "back", onclick: () => history.back()}, "Take back");
+  /** What you can do in your turn. */
+  #ways() {
     const play = (/** @type {Move} */ move) => this.#play(move);
-    return [
-      make("div", {class: "row"}, chosenButton(this.session, this.#chosen, play), hint, back),
-      otherMoves(this.session, play)
-    ];
+    const tell = () => fill(hint, this.#win ? `${arrowOf(this.#win)} wins` : "No move wins");
+    const hint = make("button", {type: "button", id: "hint", onclick: tell}, "Hint");
+    const onclick = () => history.back();
+    const back = this.session.turns.length > 0 && make("button", {type: "button", id: "back", onclick}, "Take back");
+    const row = make("div", {class: "row"}, chosenButton(this.session, this.#chosen, play), hint, back);
+    return [row, otherMoves(this.session, play)];
   }
 }
+
+const NAMES = {
+  you: "You",
+  program: "Program"
+};

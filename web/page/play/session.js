@@ -100,13 +100,3 @@ function behind(heaps, {heap, left}) {
   const at = heaps.indexOf(heap);
   return [...heaps.slice(0, at), ...left, ...heaps.slice(at + 1)];
 }
-
-/**
- * Whether something that the browser's history has kept is a play of the rule.
- * @param {any} record
- * @param {string} name
- * @returns {record is Record}
- */
-export function isRecord(record, name) {
-  return record?.name === name && Array.isArray(record.first) && Array.isArray(record.turns);
-}

@@ -15,7 +15,8 @@ export async function gameView(page, root, name) {
   if (!text) return fill(root, make("h1", {}, name || "Which game?"), unknown(code, last));
   const known = GAME_NAMES.get(code);
   const body = make("div");
-  fill(root, make("h1", {}, `The game ${code}`, known && make("span", {class: "soft"}, ` ${known}`)), body);
+  const heading = `The game ${code}${last ? `, to heap ${last}` : ""}`;
+  fill(root, make("h1", {}, heading, known && make("span", {class: "soft"}, ` ${known}`)), body);
   await present(page, body, new TextEncoder().encode(text));
 }
 

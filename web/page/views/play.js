@@ -5,7 +5,7 @@ import {fieldsOf, lastHeap} from "../certificate.js";
 import {choice, fill, labelled, make} from "../dom.js";
 import {Board} from "../play/board.js";
 import {LARGEST_HEAP_PLAYED, MOST_HEAPS_PLAYED} from "../play/bounds.js";
-import {isRecord, Session} from "../play/session.js";
+import {Session} from "../play/session.js";
 import {heapsOfText} from "../positions.js";
 
 /** @typedef {import("../main.js").Page} Page */
@@ -29,34 +29,48 @@ export async function playView(page, root, word) {
   setup.addEventListener("submit", (event) => {
     event.preventDefault();
     const {name, heaps, first} = Object.fromEntries(new FormData(setup));
-    return begin(page, board, String(name).trim(), String(heaps), first === "program");
+    return begin(page, board, String(name).trim(), String(heaps), first === "program" ? "program" : "you");
   });
-  const how =
-      make("p", {}, "Each in turn makes a move, and ", make("strong", {}, "whoever makes the last move loses"), HOW);
-  fill(root, make("h1", {}, "Play"), how, setup, board);
-  await begin(page, board, name, heaps, false);
+  const rule = make("strong", {}, "whoever makes the last move loses");
+  fill(root, make("h1", {}, "Play"), make("p", {}, "Each in turn makes a move, and ", rule, HOW), setup, board);
+  await begin(page, board, name, heaps, null);
 }
 
 /**
- * Begins a play, or goes on with the one that the browser's history has here.
+ * Begins a play; or, where nobody is said to move first, goes on with the one that the browser's history has here.
  * @param {Page} page
  * @param {HTMLElement} board
  * @param {string} name
  * @param {string} heaps
- * @param {boolean} isProgramFirst
+ * @param {import("../play/session.js").Player | null} first
  */
-async function begin(page, board, name, heaps, isProgramFirst) {
+async function begin(page, board, name, heaps, first) {
   const text = page.collection.find(name);
   const sizes = heapsOfText(heaps)?.map(Number);
   const fault = faultOf(text, sizes);
   if (!text || !sizes || fault) return fill(board, make("p", {class: "verdict none", role: "alert"}, fault));
   const address = playAddress(name, sizes);
-  const kept = history.state;
-  const isKept = location.hash === address && !isProgramFirst && isRecord(kept, name);
-  const session = new Session(fieldsOf(text).code, isKept ? kept : {name, first: sizes, turns: []});
-  if (location.hash !== address) history.pushState(null, "", address);
+  const {code} = fieldsOf(text);
+  const kept = first ? null : keptSession(code, history.state, address);
+  if (first && location.hash !== address)
+    history.pushState(null, "", address);
+  else
+    history.replaceState(kept?.record ?? null, "", address);
+  const session = kept ?? new Session(code, {name, first: sizes, turns: []});
   const it = new Board(page, board, new TextEncoder().encode(text), session);
-  await (isProgramFirst ? it.reply() : it.turn());
+  await (first === "program" ? it.reply() : it.turn());
+}
+
+/**
+ * The play that the browser's history has kept for an address, or null.
+ * @param {string} code
+ * @param {any} record
+ * @param {string} address
+ */
+function keptSession(code, record, address) {
+  if (!Array.isArray(record?.first) || !Array.isArray(record?.turns)) return null;
+  const session = new Session(code, record);
+  return playAddress(session.name, session.heaps) === address ? session : null;
 }
 
 /**
