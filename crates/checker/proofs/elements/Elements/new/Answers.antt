@@ -1,4 +1,4 @@
-use Rattle.std.proofs.Common.{◌<◌, ◌≤◌, length, arith}
+use Rattle.std.proofs.Common.{arith}
 use Rattle.checker.proofs.UnitLemmas.{bound_some}
 use Rattle.checker.proofs.elements.Elements.new.Goals as goal
 
