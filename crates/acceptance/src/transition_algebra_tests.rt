@@ -150,7 +150,7 @@ fn are_worked(heaps: Heaps, pairs: &[Pair]) -> bool {
 /// Works the job in pieces of so many units, and says whether its pairs are those worked out by
 /// hand; 9 is want of memory.
 fn ends_right<A: Allocator + Copy>(
-    job: &mut HeapJob<A>,
+    job: &mut HeapJob<8, A>,
     heaps: Heaps,
     units: u64,
 ) -> Result<bool, u8> {
