@@ -5,6 +5,8 @@ use crate::exports::{
     misere_value, misere_values,
 };
 use crate::numbers::MisereAnswer;
+use allocation::Memory;
+use std::alloc::Global;
 
 /// The certificate of 0.3, where a move takes one from a heap.
 const BYTES: &[u8] =
@@ -125,6 +127,96 @@ fn many_positions_are_told(rt: HostRuntime) {
 }
 
 #[test]
+fn elements_of_many_positions_are_told(rt: HostRuntime) {
+    let (alloc, mut told) = (rt.alloc(), [7; 3]);
+    let heaps = [1, 2, 1, 1, 2];
+    assert_eq!(&rt;
+        misere_values(alloc, BYTES, LIMIT, &heaps, &[1, 1, 4], &mut told),
+        0
+    );
+    assert_eq!(&rt; told[0], 1);
+    assert_eq!(&rt; told[1], 0);
+    assert_eq!(&rt; told[2], 0);
+    assert_eq!(&rt;
+        misere_values(alloc, PARTIAL, LIMIT, &[3], &[1], &mut told[..1]),
+        23
+    );
+    assert_eq!(&rt; told[0], 1);
+}
+
+/// Positions of one heap each, of 1 and of 2 in turn, and their ends.
+fn one_heap_each(alloc: Global, positions: u64) -> Result<(Vec<u64>, Vec<u64>), Memory> {
+    let (mut heaps, mut ends) = (Vec::new(alloc), Vec::new(alloc));
+    for position in 0..positions {
+        heaps.push(position % 2 + 1)?;
+        ends.push(position.saturating_add(1))?;
+    }
+    Ok((heaps, ends))
+}
+
+#[test]
+fn a_thousand_positions_are_told(rt: HostRuntime) -> Result<(), Memory> {
+    let untold = MisereAnswer {
+        kind: 7,
+        heap: 7,
+        first: 7,
+        second: 7,
+        third: 7,
+    };
+    let alloc = rt.alloc();
+    let (heaps, ends) = one_heap_each(alloc, 1000)?;
+    let (mut numbers, mut moves) = ([7; 1000], [untold; 1000]);
+    assert_eq!(&rt;
+        misere_outcomes(alloc, BYTES, LIMIT, &heaps, &ends, &mut numbers),
+        0
+    );
+    assert_eq!(&rt; numbers[998], 0);
+    assert_eq!(&rt; numbers[999], 1);
+    assert_eq!(&rt;
+        misere_values(alloc, BYTES, LIMIT, &heaps, &ends, &mut numbers),
+        0
+    );
+    assert_eq!(&rt; numbers[998], 1);
+    assert_eq!(&rt; numbers[999], 0);
+    assert_eq!(&rt;
+        misere_answers(alloc, BYTES, LIMIT, &heaps, &ends, &mut moves),
+        0
+    );
+    assert_eq!(&rt; moves[998].kind, 1);
+    assert_eq!(&rt; moves[999].heap, 2);
+    assert_eq!(&rt; moves[999].first, 1);
+    let (few, few_ends) = one_heap_each(alloc, 100)?;
+    assert_eq!(&rt;
+        misere_outcomes(alloc, BYTES, LIMIT, &few, &few_ends, &mut numbers[..100]),
+        0
+    );
+    assert_eq!(&rt;
+        misere_answers(alloc, BYTES, LIMIT, &few, &few_ends, &mut moves[..100]),
+        0
+    );
+    assert_eq!(&rt; moves[99].heap, 2);
+    Ok(())
+}
+
+#[test]
+fn a_hundred_heaps_are_one_position(rt: HostRuntime) {
+    let mut told = MisereAnswer {
+        kind: 7,
+        heap: 7,
+        first: 7,
+        second: 7,
+        third: 7,
+    };
+    let (alloc, heaps, mut number) = (rt.alloc(), [1; 100], 7);
+    assert_eq!(&rt; misere_outcome(alloc, BYTES, LIMIT, &heaps, &mut number), 0);
+    assert_eq!(&rt; number, 1);
+    assert_eq!(&rt; misere_answer(alloc, BYTES, LIMIT, &heaps, &mut told), 0);
+    assert_eq!(&rt; told.kind, 2);
+    assert_eq!(&rt; told.heap, 1);
+    assert_eq!(&rt; told.first, 0);
+}
+
+#[test]
 fn failures_are_told(rt: HostRuntime) {
     let (alloc, mut told, mut count) = (rt.alloc(), [7; 4], 9);
     assert_eq!(&rt;
@@ -140,4 +232,11 @@ fn failures_are_told(rt: HostRuntime) {
     assert_eq!(&rt; told[0], 1);
     assert_eq!(&rt; told[1], 1);
     assert_eq!(&rt; told[2], 7);
+    let mut short = [7; 1];
+    assert_eq!(&rt;
+        misere_failure(alloc, WRONG, LIMIT, &mut short, &mut count),
+        7
+    );
+    assert_eq!(&rt; count, 2);
+    assert_eq!(&rt; short[0], 7);
 }
