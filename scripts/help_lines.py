@@ -37,6 +37,8 @@ class Command:
         self.options = [Option(*row) for row in section(text, "Options")]
         self.own = [it for it in self.options if it.name not in ("help", "version")]
         self.commands = section(text, "Commands")
+        # what stands behind the options: notes and examples
+        self.notes = re.split(r"^Options:\n(?:  .*\n)*", text, maxsplit=1, flags=re.M)[-1].strip("\n")
 
 
 Commands = dict[str, Command]

@@ -49,8 +49,10 @@ def load(file: pathlib.Path, name: str) -> Any:
 def begin(main: Callable[[], int | None]) -> None:
     """Ends with the status of main; quietly where nobody reads what is printed, or at an interrupt."""
     try:
-        status = main() or 0
-        sys.stdout.flush()
+        try:
+            status = main() or 0
+        finally:
+            sys.stdout.flush()
     except BrokenPipeError:
         os.dup2(os.open(os.devnull, os.O_WRONLY), sys.stdout.fileno())
         status = 141

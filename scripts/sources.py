@@ -138,6 +138,12 @@ class Sources:
             record.all = sum_of_all([*((it.sources if it else "") for it in records.values()), sources])
         self.put(name, record)
 
+    def renew(self) -> None:
+        """Notes of a program that stands, over libraries that came out as they were, of which sources all of it is now."""
+        record = self.read(self.program)
+        if record:
+            self.write(self.program, record.sources)
+
     def put(self, name: str, record: Record) -> None:
         """Writes a record, where that can be done."""
         try:
