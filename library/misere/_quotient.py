@@ -7,7 +7,7 @@ import operator
 from collections.abc import Iterable, Sequence
 from typing import Any, Final, Literal, overload
 
-from . import _certificate, _description, _shown
+from . import _certificate, _description, _shown, _systems
 from ._answers import OUTCOMES, Answer, Move, Outcome, answer_of, array_of, letters_of
 from ._certified import Certified
 from ._faults import BEYOND, NOT_A_HEAP, NOT_IN_RANGE, NotDescribed, WrongType, fault
@@ -26,19 +26,29 @@ class Quotient:
 
     `code`, `order`, `start`, `period` (0 of a partial one), `portion` and `table` are those of its certificate."""
 
-    __slots__ = ("_bytes", "_certified", "_limit", "_phi", "code", "order", "start", "period", "portion", "table")
+    __slots__ = (
+        "_bytes",
+        "_certificate",
+        "_certified",
+        "_limit",
+        "code",
+        "order",
+        "start",
+        "period",
+        "portion",
+        "table",
+    )
 
     def __init__(self, certificate: bytes | str, limit: int = LIMIT) -> None:
         self._bytes, self._limit = _bytes_of(certificate), number_of(limit)
         self._certified = Certified(self._bytes, self._limit)
-        read = _certificate.read(self._bytes.decode("ascii"))
+        self._certificate = read = _certificate.read(self._bytes.decode("ascii"))
         self.code: Final = read.code
         self.order: Final = read.order
         self.start: Final = read.start
         self.period: Final = read.period
         self.portion: Final = frozenset(read.portion)
         self.table: Final = read.table
-        self._phi: Final = read.phi
 
     def outcome(self, heaps: Iterable[int]) -> Outcome:
         """'P' where the player who has just moved wins the position, 'N' where the next one does."""
@@ -103,6 +113,28 @@ class Quotient:
         words = OUTPUTS.index(output), int(bool(basis))
         return text_by(USUAL_TEXT, self._certified.describe, *self._certified.given, *words).decode("utf-8")
 
+    def to_dict(self, basis: bool = False) -> dict[str, Any]:
+        """The description in values that JSON has: numbers, words such as "ab^2", lists of them, and None as the n of a
+        wild quotient; or it raises NotDescribed. "heaps" has the words of the heaps 1, 2, .. to the end of the first
+        period, "period" is 0 of a partial quotient."""
+        return _systems.dict_of(self._certificate, self._described(basis))
+
+    def singular(self, basis: bool = False) -> str:
+        """Commands of Singular that make the ideal of the relations, or it raises NotDescribed. Its monomials are ordered
+        as those of `basis` are, so that this is the reduced Gröbner basis there too."""
+        return _systems.singular_of(self._title, self._described(basis))
+
+    def gap(self, basis: bool = False) -> str:
+        """Commands of GAP that make the monoid of the relations; or it raises NotDescribed."""
+        return _systems.gap_of(self._title, self._described(basis))
+
+    def _described(self, basis: bool = False) -> _description.Description:
+        return _description.read(self.describe(basis=basis))
+
+    @property
+    def _title(self) -> str:
+        return f"Q({self.code})" if self.period else f"Q_{self.last_heap}({self.code})"
+
     @property
     def last_heap(self) -> int | None:
         """The last heap of which a partial certificate speaks; None of a full one, which speaks of all."""
@@ -120,7 +152,7 @@ class Quotient:
             if not self.period:
                 raise refusal_of(BEYOND, [heap], self.last_heap)
             heap = self.start + (heap - self.start) % self.period
-        return self._phi[heap - 1]
+        return self._certificate.phi[heap - 1]
 
     @property
     def certificate(self) -> bytes:
@@ -166,7 +198,7 @@ class Quotient:
     def _repr_html_(self) -> str | None:
         """What a notebook shows."""
         try:
-            description = _description.read(self.describe())
+            description = self._described()
         except NotDescribed:
             return None
         title = "<i>Q</i>" if self.period else f"<i>Q</i><sub>{self.last_heap}</sub>"
