@@ -2,7 +2,8 @@
 
     python3 compare.py [PROGRAM]
 
-Over 1,000 positions of six quotients. The refused samples get the program's numbers and positions, and threads agree.
+Over 100,000 positions of six quotients, of which the program is asked 1,000. The refused samples get the program's
+numbers and positions, and threads agree.
 """
 
 from __future__ import annotations
@@ -23,7 +24,8 @@ here = pathlib.Path(__file__).resolve().parent
 samples = here.parent / "certificates"
 rust = "rust/target/release/misere_positions"
 SIX = ("0.3", "0.33", "0.75", "0.b", "0.75_heaps_8", "0.8_heaps_4")
-POSITIONS, SMALL, THREADS = 1000, 300, 8
+# Of each quotient: all positions, those that the program is asked, those that a search settles, those of each thread
+POSITIONS, PLAYED, SMALL, ASKED, THREADS = 16_700, 170, 50, 500, 8
 FOUND = ("0.3", "0.33", "0.75")
 
 Heaps = Sequence[int]
@@ -74,11 +76,11 @@ def value_of(quotient: misere.Quotient, heaps: Heaps) -> int:
     return value
 
 
-def positions_of(quotient: misere.Quotient, count: int, small: int) -> Iterator[list[int]]:
+def positions_of(quotient: misere.Quotient) -> Iterator[list[int]]:
     """Some positions: small ones, and ones of heaps of any size of which the certificate speaks."""
     last = quotient.last_heap or 10**18
-    yield from ([random.randint(1, min(last, 7)) for _ in range(random.randint(0, 4))] for _ in range(small))
-    for _ in range(count - small):
+    yield from ([random.randint(1, min(last, 7)) for _ in range(random.randint(0, 4))] for _ in range(SMALL))
+    for _ in range(POSITIONS - SMALL):
         mosts = (random.choice([last, min(last, 40)]) for _ in range(random.randint(1, 12)))
         yield [random.randint(1, most) for most in mosts]
 
@@ -105,10 +107,10 @@ def printed(*words: str | os.PathLike[str]) -> str:
     return subprocess.run(words, capture_output=True, text=True, check=False).stdout
 
 
-def compare_quotient(program: str, name: str, count: int, small: int) -> Compared:
+def compare_quotient(program: str, name: str) -> Compared:
     file = samples / f"{name}.mqc"
     quotient = misere.check(file.read_bytes())
-    positions = list(positions_of(quotient, count, small))
+    positions = list(positions_of(quotient))
     lines = lines_of(quotient, positions)
     many = zip(quotient.values(positions), quotient.outcomes(positions), quotient.answers(positions))
     assert lines == [line_of(*it) for it in many], name
@@ -119,9 +121,11 @@ def compare_quotient(program: str, name: str, count: int, small: int) -> Compare
         value, outcome, answer = line.split(" ", 2)
         assert int(value) == value_of(quotient, heaps), (name, heaps)
         assert outcome == "NP"[int(value) in quotient.portion], (name, heaps)
-        assert at >= small or outcome == search(heaps), (name, heaps)
+        assert at >= SMALL or outcome == search(heaps), (name, heaps)
         # (the program takes no position without heaps)
-        assert not heaps or printed(program, "play", file, " ".join(map(str, heaps))) == f"{answer}\n", (name, heaps)
+        assert (
+            at >= PLAYED or not heaps or printed(program, "play", file, " ".join(map(str, heaps))) == f"{answer}\n"
+        ), (name, heaps)
     return Compared(quotient, positions, lines)
 
 
@@ -155,12 +159,12 @@ def compare_finder(program: str) -> None:
 
 
 def compare_threads(compared: Sequence[Compared]) -> None:
-    """Each thread asks all positions of each quotient again."""
+    """Each thread asks some positions of each quotient again, at the same time."""
     wrong: list[Heaps] = []
 
     def ask() -> None:
         for quotient, positions, lines in compared:
-            again = lines_of(quotient, positions)
+            again = lines_of(quotient, positions[:ASKED])
             wrong.extend(it for it, line, other in zip(positions, lines, again) if line != other)
 
     threads = [threading.Thread(target=ask) for _ in range(THREADS)]
@@ -174,15 +178,13 @@ def compare_threads(compared: Sequence[Compared]) -> None:
 def main() -> None:
     random.seed(49)
     program = sys.argv[1] if len(sys.argv) > 1 else str(here.parent / "crates/misere/out/misere")
-    counts = [POSITIONS // len(SIX) + (at < POSITIONS % len(SIX)) for at in range(len(SIX))]
-    compared = [compare_quotient(program, name, count, SMALL // len(SIX)) for name, count in zip(SIX, counts)]
+    compared = [compare_quotient(program, name) for name in SIX]
     refused = sorted((samples / "refused").glob("*.mqc"))
     for file in refused:
         compare_refused(program, file)
     compare_finder(program)
     compare_threads(compared)
-    count = sum(len(it.positions) for it in compared)
-    asked = f"{count} positions of {len(SIX)} quotients by C, Python, Rust and the program"
+    asked = f"{POSITIONS * len(SIX)} positions of {len(SIX)} quotients by C, Python and Rust, {PLAYED * len(SIX)} by the program"
     print(f"{asked}, {len(refused)} refused samples, {THREADS} threads: all agree")
 
 

@@ -13,7 +13,7 @@ class Certificate(NamedTuple):
     start: int
     period: int
     phi: tuple[int, ...]
-    portion: tuple[int, ...]
+    portion: frozenset[int]
     table: tuple[tuple[int, ...], ...]
 
 
@@ -22,6 +22,6 @@ def read(text: str) -> Certificate:
     lines = [line.split(" ") for line in text.splitlines()]
     words = {name: words for name, *words in lines}
     order, start, period = (int(words[name][0]) for name in ("order", "start", "period"))
-    phi, portion = (tuple(map(int, words[name])) for name in ("phi", "portion"))
+    phi, portion = tuple(map(int, words["phi"])), frozenset(map(int, words["portion"]))
     table = tuple(tuple(map(int, row)) for name, *row in lines if name == "row")
     return Certificate(words["code"][0], order, start, period, phi, portion, table)

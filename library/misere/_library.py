@@ -52,11 +52,11 @@ def _load() -> ctypes.CDLL:
     except OSError as stop:
         told = "`make -C library` builds it, and MISERE_LIBRARY names a file elsewhere"
         raise ImportError(f"{named} can't be loaded ({stop}): {told}") from None
+    if loaded.misere_version() != VERSION:
+        raise ImportError(f"{named} has calls of version {loaded.misere_version()}, and not {VERSION}")
     for name, words in CALLS.items():
         call = getattr(loaded, name)
         call.argtypes, call.restype = words, _number
-    if loaded.misere_version() != VERSION:
-        raise ImportError(f"{named} has calls of version {loaded.misere_version()}, and not {VERSION}")
     return loaded
 
 

@@ -7,7 +7,7 @@ import operator
 from collections.abc import Iterable, Sequence
 from typing import Any, Final, Literal, overload
 
-from . import _certificate, _description, _shown
+from . import _certificate, _description, _shown, _systems
 from ._answers import OUTCOMES, Answer, Move, Outcome, answer_of, array_of, letters_of
 from ._certified import Certified
 from ._faults import BEYOND, NOT_A_HEAP, NOT_IN_RANGE, NotDescribed, WrongType, fault
@@ -22,23 +22,68 @@ USUAL_TEXT = 1 << 16
 
 
 class Quotient:
-    """A certified misère quotient. It is made by a check alone, and doesn't change. Any number of threads may ask it.
+    """A certified misère quotient. It is made by a check alone, and doesn't change. Any number of threads may ask it."""
 
-    `code`, `order`, `start`, `period` (0 of a partial one), `portion` and `table` are those of its certificate."""
-
-    __slots__ = ("_bytes", "_certified", "_limit", "_phi", "code", "order", "start", "period", "portion", "table")
+    __slots__ = ("_bytes", "_certificate", "_certified", "_limit", "__weakref__")
 
     def __init__(self, certificate: bytes | str, limit: int = LIMIT) -> None:
         self._bytes, self._limit = _bytes_of(certificate), number_of(limit)
         self._certified = Certified(self._bytes, self._limit)
-        read = _certificate.read(self._bytes.decode("ascii"))
-        self.code: Final = read.code
-        self.order: Final = read.order
-        self.start: Final = read.start
-        self.period: Final = read.period
-        self.portion: Final = frozenset(read.portion)
-        self.table: Final = read.table
-        self._phi: Final = read.phi
+        self._certificate = _certificate.read(self._bytes.decode("ascii"))
+
+    @property
+    def certificate(self) -> bytes:
+        """The certificate's bytes: the one accepted text of its code and kind."""
+        return self._bytes
+
+    @property
+    def code(self) -> str:
+        """The game's code, such as '0.33'."""
+        return self._certificate.code
+
+    @property
+    def order(self) -> int:
+        """How many elements there are: 0, which is the identity, to one less than the order."""
+        return self._certificate.order
+
+    @property
+    def start(self) -> int:
+        """From which heap on the elements repeat; of a partial quotient the heap behind the last one."""
+        return self._certificate.start
+
+    @property
+    def period(self) -> int:
+        """The period with which the elements of the heaps repeat; 0 of a partial quotient."""
+        return self._certificate.period
+
+    @property
+    def last_heap(self) -> int | None:
+        """The last heap of which a partial certificate speaks; None of a full one, which speaks of all."""
+        return None if self.period else self.start - 1
+
+    @property
+    def portion(self) -> frozenset[int]:
+        """The P-portion: the elements of the positions that the player who has just moved wins."""
+        return self._certificate.portion
+
+    @property
+    def table(self) -> tuple[tuple[int, ...], ...]:
+        """The products: that of the elements x and y is table[x][y]."""
+        return self._certificate.table
+
+    def phi(self, heap: int) -> int:
+        """The element of a heap."""
+        try:
+            heap = operator.index(heap)
+        except TypeError:
+            raise WrongType(NOT_A_HEAP, f"a heap is an integer, and not {heap!r}") from None
+        if not 1 <= heap <= LARGEST_HEAP:
+            raise refusal_of(NOT_A_HEAP, [heap], None)
+        if heap >= self.start + self.period:
+            if not self.period:
+                raise refusal_of(BEYOND, [heap], self.last_heap)
+            heap = self.start + (heap - self.start) % self.period
+        return self._certificate.phi[heap - 1]
 
     def outcome(self, heaps: Iterable[int]) -> Outcome:
         """'P' where the player who has just moved wins the position, 'N' where the next one does."""
@@ -103,29 +148,27 @@ class Quotient:
         words = OUTPUTS.index(output), int(bool(basis))
         return text_by(USUAL_TEXT, self._certified.describe, *self._certified.given, *words).decode("utf-8")
 
-    @property
-    def last_heap(self) -> int | None:
-        """The last heap of which a partial certificate speaks; None of a full one, which speaks of all."""
-        return None if self.period else self.start - 1
+    def to_dict(self, basis: bool = False) -> dict[str, Any]:
+        """The description in values that JSON has: numbers, words such as "ab^2", lists of them, and None as the n of a
+        wild quotient; or it raises NotDescribed. "heaps" has the words of the heaps 1, 2, .. to the end of the first
+        period, "period" is 0 of a partial quotient."""
+        return _systems.dict_of(self._certificate, self._described(basis))
 
-    def phi(self, heap: int) -> int:
-        """The element of a heap."""
-        try:
-            heap = operator.index(heap)
-        except TypeError:
-            raise WrongType(NOT_A_HEAP, f"a heap is an integer, and not {heap!r}") from None
-        if not 1 <= heap <= LARGEST_HEAP:
-            raise refusal_of(NOT_A_HEAP, [heap], None)
-        if heap >= self.start + self.period:
-            if not self.period:
-                raise refusal_of(BEYOND, [heap], self.last_heap)
-            heap = self.start + (heap - self.start) % self.period
-        return self._phi[heap - 1]
+    def singular(self, basis: bool = False) -> str:
+        """Commands of Singular that make the ideal of the relations, or it raises NotDescribed. Its monomials are ordered
+        as those of `basis` are, so that this is the reduced Gröbner basis there too."""
+        return _systems.singular_of(self._title, self._described(basis))
+
+    def gap(self, basis: bool = False) -> str:
+        """Commands of GAP that make the monoid of the relations; or it raises NotDescribed."""
+        return _systems.gap_of(self._title, self._described(basis))
+
+    def _described(self, basis: bool = False) -> _description.Description:
+        return _description.read(self.describe(basis=basis))
 
     @property
-    def certificate(self) -> bytes:
-        """The certificate's bytes: the one accepted text of its code and kind."""
-        return self._bytes
+    def _title(self) -> str:
+        return f"Q({self.code})" if self.period else f"Q_{self.last_heap}({self.code})"
 
     def _asked(self, call: Call, heaps: Iterable[int], told: Any) -> Any:
         given = heaps_of(heaps)
@@ -166,7 +209,7 @@ class Quotient:
     def _repr_html_(self) -> str | None:
         """What a notebook shows."""
         try:
-            description = _description.read(self.describe())
+            description = self._described()
         except NotDescribed:
             return None
         title = "<i>Q</i>" if self.period else f"<i>Q</i><sub>{self.last_heap}</sub>"

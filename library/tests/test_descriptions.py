@@ -82,6 +82,32 @@ class Descriptions(unittest.TestCase):
                 words = [word for word in it.text.split() if not re.fullmatch(r"\d+\+", word)]
                 self.assertEqual(words, written(it).split())
 
+    def test_a_dict_goes_through_json(self) -> None:
+        full = quotient("0.75").to_dict()
+        self.assertEqual(full, json.loads(json.dumps(full)))
+        self.assertEqual(
+            full,
+            {
+                "code": "0.75",
+                "kind": "full",
+                "order": 8,
+                "portion": ["a", "b^2"],
+                "tame": None,
+                "generators": {"a": 1, "b": 2, "c": 5},
+                "relations": [["a^2", "1"], ["bc", "ab"], ["c^2", "b^2"]],
+                "units": ["1", "a"],
+                "idempotents": ["1", "b^2"],
+                "kernel": ["b", "ab", "b^2", "ab^2"],
+                "heaps": ["a", "b", "a", "b", "c", "b", "c", "b", "ab^2"],
+                "start": 8,
+                "period": 2,
+            },
+        )
+        part = quotient("0.75_heaps_8").to_dict()
+        self.assertEqual((part["kind"], part["start"], part["period"], len(part["heaps"])), ("partial", 9, 0, 8))
+        self.assertEqual(quotient("0.33").to_dict()["tame"], 2)
+        self.assertEqual(quotient("0.75").to_dict(basis=True)["relations"][1], ["b^3", "b"])
+
     def test_another_text_is_none(self) -> None:
         text = quotient("0.33").describe()
         for wrong in (text + "\n", text.replace("order", "orders"), text.replace("a=1 ", ""), text[:-9], ""):

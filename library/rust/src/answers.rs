@@ -18,8 +18,13 @@ pub enum Answer {
     Ended,
     /// Each move loses.
     Lost,
-    /// The first winning move: the heap that it takes, and the heaps that it leaves of it, rising.
-    Wins { heap: u64, left: Vec<u64> },
+    /// The first winning move.
+    Wins {
+        /// The heap that it takes.
+        heap: u64,
+        /// The heaps that it leaves of it, rising.
+        left: Vec<u64>,
+    },
 }
 
 impl From<u32> for Outcome {

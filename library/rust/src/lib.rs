@@ -15,6 +15,8 @@
 //! text, which a yes makes the misère quotient. No call of the library asks for anything but pointers with their lengths, so nothing is
 //! left to be tested here. Any number of threads may ask at once.
 
+#![warn(missing_docs)]
+
 mod answers;
 mod certificate;
 mod certified;

@@ -21,7 +21,9 @@ const LARGEST_HEAP: u64 = 1_000_000_000_000_000_000;
 /// What is told of a quotient.
 #[derive(Clone, Copy, Debug, PartialEq, Eq)]
 pub enum Output {
+    /// Generators and relations, portion, invariants and heaps, in lines.
     Description,
+    /// The same for pdfLaTeX.
     Latex,
     /// The relations as one word.
     Relations,
