@@ -20,6 +20,9 @@ const COLUMNS = [
   {name: "Code", by: "place", kind: "code", cell: ({code}) => linkOf(code)},
   {name: "Order", by: "order", kind: "number", cell: ({order}) => String(order)},
   {name: "Portion", by: "portion", kind: "number", cell: ({portion}) => String(portion)},
+];
+/** @type {Column[]} */
+const DETAILS = [
   {name: "Period", by: "period", cell: periodOf},
   {name: "Kind", cell: ({quotient}) => quotient.kind},
 ];
@@ -31,9 +34,13 @@ const COUNTS = [
 /** @type {Column[]} */
 const CODES = [{name: "Other codes", kind: "codes", cell: (_, atlas, group) => group.slice(1).flatMap(spacedLink)}];
 
-/** @param {Chosen} chosen */
+/**
+ * (Where all codes are listed, a phone has no room for the details.)
+ * @param {Chosen} chosen
+ */
 function columnsOf({each}) {
-  return [...COLUMNS, ...(each === "game" ? COUNTS : CODES)];
+  if (each === "game") return [...COLUMNS, ...DETAILS, ...COUNTS];
+  return [...COLUMNS, ...DETAILS.map((it) => ({...it, kind: "wide"})), ...CODES];
 }
 
 /** @param {string} code */
