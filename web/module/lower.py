@@ -24,7 +24,8 @@ ALONE = {0x00, 0x01, 0x05, 0x0B, 0x0F, 0x1A, 0x1B, *range(0x45, 0xC5)}
 WITH_NUMBER = {0x02, 0x03, 0x04, 0x0C, 0x0D, 0x10, 0x20, 0x21, 0x22, 0x23, 0x24, 0x41, 0x42}
 # f32.const and f64.const, with the bytes that follow
 WITH_BYTES = {0x43: 4, 0x44: 8}
-CUSTOM, TYPE, FUNCTION, TABLE, MEMORY, GLOBAL, EXPORT, ELEMENT, CODE, DATA, DATA_COUNT = 0, 1, 3, 4, 5, 6, 7, 9, 10, 11, 12
+CUSTOM, TYPE, FUNCTION, TABLE, MEMORY, GLOBAL = 0, 1, 3, 4, 5, 6
+EXPORT, ELEMENT, CODE, DATA, DATA_COUNT = 7, 9, 10, 11, 12
 FLAG_OF_64_BITS = 4
 
 
@@ -151,7 +152,7 @@ class Body:
             stop(f"an instruction that it doesn't know: {op:#x}")
 
     def place(self):
-        """The alignment and the offset of a load or store. (The linker writes an offset in ten bytes, as for 64 bits.)"""
+        """The alignment and offset of a load or store. (The linker writes an offset in ten bytes, as for 64 bits.)"""
         align, offset = self.read.kept(), self.read.number()
         expect(offset < 1 << 32, "an offset of 32 bits")
         return align, leb(offset)

@@ -23,7 +23,7 @@ export const newMisere = (bytes = bytesOfModule) => new Misere(new WebAssembly.M
  * @returns {string}
  */
 export function printed(...words) {
-  const run = spawnSync(program, words, {encoding: "utf8", maxBuffer: 1 << 26});
+  const run = spawnSync(program, words, {encoding: "utf8", maxBuffer: 1 << 26, cwd: folder});
   if (run.error || run.status === null || run.status > 1)
     throw new Error(`misere ${words}: ${run.error ?? run.stderr}`);
   return run.stdout;

@@ -35,15 +35,16 @@ export function checkingOfAll(page) {
  * @param {HTMLElement} verdict
  * @param {HTMLProgressElement} bar
  */
-async function checkAll({atlas, prover}, verdict, bar) {
+async function checkAll({atlas, prover, finder}, verdict, bar) {
   const begin = performance.now();
   const encoder = new TextEncoder();
   /** @type {string[]} */
   const refused = [];
   let accepted = 0;
-  const check = async (/** @type {import("../atlas.js").Entry} */ {code}) => {
+  // (by both workers, side by side)
+  const check = async (/** @type {import("../atlas.js").Entry} */ {code}, /** @type {number} */ at) => {
     try {
-      await prover.ask("check", encoder.encode(atlas.text(code) ?? ""));
+      await (at % 2 ? finder : prover).ask("check", encoder.encode(atlas.text(code) ?? ""));
       accepted++;
     } catch (failure) {
       if (!isNo(failure)) throw failure;

@@ -73,20 +73,16 @@ export function wordOf(chosen) {
 }
 
 /**
- * The games that are chosen, in their order.
+ * The games that are chosen, in their order, by what has a row of its own: a list for each row.
  * @param {import("../atlas.js").Atlas} atlas
  * @param {Chosen} chosen
  */
 export function rowsOf(atlas, chosen) {
   const {each, by, down} = chosen;
   const key = KEYS[by];
-  const rows =
-      [...grouped(atlas.entries.filter((it) => isSought(it, chosen)), GROUPS[each]).values()].map(([first]) => first);
-  const compared = (/** @type {Entry} */ a, /** @type {Entry} */ b) =>
-      (key(a) === key(b)   ? 0 :
-           key(a) < key(b) ? -1 :
-                             1);
-  return rows.sort((a, b) => (down ? -1 : 1) * compared(a, b) || a.place - b.place);
+  const rows = [...grouped(atlas.entries.filter((it) => isSought(it, chosen)), GROUPS[each]).values()];
+  const compared = (/** @type {Entry} */ a, /** @type {Entry} */ b) => Math.sign(key(a) - key(b));
+  return rows.sort(([a], [b]) => (down ? -1 : 1) * compared(a, b) || a.place - b.place);
 }
 
 /**

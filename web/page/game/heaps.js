@@ -64,5 +64,5 @@ function keyOf(certificate) {
       [make("span", {class: "mark period"}, "Shaded:"), ` from heap ${start} on this repeats with period ${period}.`] :
       [`Of larger heaps than ${last} nothing is told.`];
   return make(
-      "p", {class: "key"}, make("span", {class: "mark p"}, "Bold:"), " in 𝒫, lost for whoever is to move. ", reach);
+      "p", {class: "key"}, make("span", {class: "mark p"}, "Blue:"), " in 𝒫, lost for whoever is to move. ", reach);
 }

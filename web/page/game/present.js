@@ -43,7 +43,8 @@ export async function present(page, root, bytes) {
     const {time} = await page.prover.ask("check", bytes);
     const certificate = fieldsOf(new TextDecoder().decode(bytes));
     verdict.classList.add("yes");
-    fill(verdict, verdictOf(certificate), make("span", {class: "soft"}, ` (checked here in ${time.toFixed(1)} ms)`));
+    const taken = time < 1 ? "less than 1 ms" : `${time.toFixed(0)} ms`;
+    fill(verdict, verdictOf(certificate), make("span", {class: "soft"}, ` (checked here in ${taken})`));
     await presentGame(page, root, bytes, certificate);
   } catch (failure) {
     verdict.classList.add(isNo(failure) ? "no" : "none");

@@ -30,7 +30,7 @@ export function componentPicture({certificate, words}) {
   svg.append(...lines.map((way) => draw("path", {class: "edge", d: pathOf(way)})));
   components.forEach((it, at) => svg.append(...boxOf(it, placed[at], measures[at], certificate.portion, words)));
   const caption = `The ${components.length} archimedean components, the greater idempotents above. ` +
-      "Underlined: the group of the component. Bold: in 𝒫.";
+      "Underlined: the group of the component. Blue: in 𝒫.";
   return make("figure", {class: "wide"}, make("div", {class: "scroll"}, svg), make("figcaption", {}, caption));
 }
 

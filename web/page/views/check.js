@@ -6,7 +6,7 @@ import {present} from "../game/present.js";
 /** @typedef {import("../main.js").Page} Page */
 
 /** A certificate to try, and how to spoil it. */
-const [SAMPLE, SOUND, SPOILT] = ["0.33", "portion 1 4", "portion 1 5"];
+const [SAMPLE, SOUND, SPOILT] = ["0.33", "phi 1 2 0", "phi 1 2 2"];
 /** Of longer files the text isn't shown. */
 const MOST_SHOWN = 100000;
 
@@ -29,8 +29,8 @@ export function checkView(page, root) {
     file.value = "";
     await present(page, out, bytes);
   };
-  const sample = (/** @type {string} */ portion) => () => {
-    text.value = (page.atlas.text(SAMPLE) ?? "").replace(SOUND, portion);
+  const sample = (/** @type {string} */ heaps) => () => {
+    text.value = (page.atlas.text(SAMPLE) ?? "").replace(SOUND, heaps);
     return judge();
   };
   const form = make(
@@ -41,7 +41,7 @@ export function checkView(page, root) {
       make(
           "div", {class: "row"}, make("span", {class: "soft"}, "Or try"),
           make("button", {type: "button", id: "sound", onclick: sample(SOUND)}, `that of ${SAMPLE}`),
-          make("button", {type: "button", id: "spoilt", onclick: sample(SPOILT)}, "the same with a wrong portion")));
+          make("button", {type: "button", id: "spoilt", onclick: sample(SPOILT)}, "the same with a wrong heap")));
   form.addEventListener("submit", (event) => {
     event.preventDefault();
     return judge();

@@ -31,7 +31,7 @@ def drive(it, program, steps):
         said = judged(it, lambda: it.one("#judge").click())
         steps.expect(f"a text that is pasted {name}", said.startswith("no " if change[0] else "yes 0.33"), said)
     said = judged(it, lambda: it.one("#spoilt").click())
-    steps.expect("the wrong one to try", said.startswith("no "), said)
+    steps.expect("the wrong one to try fails at a position", said.startswith("no 7 Outcome at [2, 3]"), said)
     it.picture("check")
     said = judged(it, lambda: it.one("#file").send_keys(str(program.certificate("0.75_heaps_8"))))
     it.one(".links a").click()
