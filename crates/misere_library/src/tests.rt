@@ -22,6 +22,15 @@ const WRONG: &[u8] =
 
 const LIMIT: u32 = 100;
 
+/// What stands in the place of an answer before it is told.
+const UNTOLD: MisereAnswer = MisereAnswer {
+    kind: 7,
+    heap: 7,
+    first: 7,
+    second: 7,
+    third: 7,
+};
+
 #[test]
 fn certificates_are_checked(rt: HostRuntime) {
     let alloc = rt.alloc();
@@ -45,13 +54,7 @@ fn positions_are_told(rt: HostRuntime) {
 
 #[test]
 fn moves_are_told(rt: HostRuntime) {
-    let mut told = MisereAnswer {
-        kind: 7,
-        heap: 7,
-        first: 7,
-        second: 7,
-        third: 7,
-    };
+    let mut told = UNTOLD;
     assert_eq!(&rt;
         misere_answer(rt.alloc(), BYTES, LIMIT, &[2, 3, 3], &mut told),
         0
@@ -65,14 +68,7 @@ fn moves_are_told(rt: HostRuntime) {
 
 #[test]
 fn moves_of_many_positions_are_told(rt: HostRuntime) {
-    let untold = MisereAnswer {
-        kind: 7,
-        heap: 7,
-        first: 7,
-        second: 7,
-        third: 7,
-    };
-    let (alloc, mut told) = (rt.alloc(), [untold; 3]);
+    let (alloc, mut told) = (rt.alloc(), [UNTOLD; 3]);
     assert_eq!(&rt;
         misere_answers(alloc, BYTES, LIMIT, &[2, 2, 1], &[0, 1, 3], &mut told),
         0
@@ -138,7 +134,7 @@ fn elements_of_many_positions_are_told(rt: HostRuntime) {
     assert_eq!(&rt; told[1], 0);
     assert_eq!(&rt; told[2], 0);
     assert_eq!(&rt;
-        misere_values(alloc, PARTIAL, LIMIT, &[3], &[1], &mut told[..1]),
+        misere_values(alloc, PARTIAL, LIMIT, &[3, 1, 1], &[1, 2, 3], &mut told),
         23
     );
     assert_eq!(&rt; told[0], 1);
@@ -155,17 +151,28 @@ fn one_heap_each(alloc: Global, positions: u64) -> Result<(Vec<u64>, Vec<u64>), 
 }
 
 #[test]
+fn a_hundred_positions_are_told(rt: HostRuntime) -> Result<(), Memory> {
+    let alloc = rt.alloc();
+    let (heaps, ends) = one_heap_each(alloc, 100)?;
+    let (mut numbers, mut moves) = ([7; 100], [UNTOLD; 100]);
+    assert_eq!(&rt;
+        misere_outcomes(alloc, BYTES, LIMIT, &heaps, &ends, &mut numbers),
+        0
+    );
+    assert_eq!(&rt; numbers[99], 1);
+    assert_eq!(&rt;
+        misere_answers(alloc, BYTES, LIMIT, &heaps, &ends, &mut moves),
+        0
+    );
+    assert_eq!(&rt; moves[99].heap, 2);
+    Ok(())
+}
+
+#[test]
 fn a_thousand_positions_are_told(rt: HostRuntime) -> Result<(), Memory> {
-    let untold = MisereAnswer {
-        kind: 7,
-        heap: 7,
-        first: 7,
-        second: 7,
-        third: 7,
-    };
     let alloc = rt.alloc();
     let (heaps, ends) = one_heap_each(alloc, 1000)?;
-    let (mut numbers, mut moves) = ([7; 1000], [untold; 1000]);
+    let (mut numbers, mut moves) = ([7; 1000], [UNTOLD; 1000]);
     assert_eq!(&rt;
         misere_outcomes(alloc, BYTES, LIMIT, &heaps, &ends, &mut numbers),
         0
@@ -185,28 +192,12 @@ fn a_thousand_positions_are_told(rt: HostRuntime) -> Result<(), Memory> {
     assert_eq!(&rt; moves[998].kind, 1);
     assert_eq!(&rt; moves[999].heap, 2);
     assert_eq!(&rt; moves[999].first, 1);
-    let (few, few_ends) = one_heap_each(alloc, 100)?;
-    assert_eq!(&rt;
-        misere_outcomes(alloc, BYTES, LIMIT, &few, &few_ends, &mut numbers[..100]),
-        0
-    );
-    assert_eq!(&rt;
-        misere_answers(alloc, BYTES, LIMIT, &few, &few_ends, &mut moves[..100]),
-        0
-    );
-    assert_eq!(&rt; moves[99].heap, 2);
     Ok(())
 }
 
 #[test]
 fn a_hundred_heaps_are_one_position(rt: HostRuntime) {
-    let mut told = MisereAnswer {
-        kind: 7,
-        heap: 7,
-        first: 7,
-        second: 7,
-        third: 7,
-    };
+    let mut told = UNTOLD;
     let (alloc, heaps, mut number) = (rt.alloc(), [1; 100], 7);
     assert_eq!(&rt; misere_outcome(alloc, BYTES, LIMIT, &heaps, &mut number), 0);
     assert_eq!(&rt; number, 1);
