@@ -52,6 +52,9 @@ fn pairs_of_all(alloc: Global) -> Option<Vec<Pair>>
 fn large(alloc: Global) -> Option<Closure<8>> {
     let table = exclusive_or(alloc)?;
     let pairs = pairs_of_all(alloc)?;
+    if pairs.len() != 24 {
+        return None;
+    }
     Some(Closure::new(alloc, table, pairs, 100_000))
 }
 

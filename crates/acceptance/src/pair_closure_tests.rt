@@ -22,8 +22,8 @@ fn three<A: SmallAllocator + Copy>(alloc: A, limit: u32) -> Option<Closure<8, A>
     };
     let phi = Phi::new(1, 2, entries);
     match heap_pairs(alloc, &code, &table, &phi) {
-        Ok(pairs) => Some(Closure::new(alloc, table, pairs, limit)),
-        Err(_) => None,
+        Ok(pairs) if pairs.len() == 7 => Some(Closure::new(alloc, table, pairs, limit)),
+        _ => None,
     }
 }
 
