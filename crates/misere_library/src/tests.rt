@@ -5,8 +5,6 @@ use crate::exports::{
     misere_value, misere_values,
 };
 use crate::numbers::MisereAnswer;
-use allocation::Memory;
-use std::alloc::Global;
 
 /// The certificate of 0.3, where a move takes one from a heap.
 const BYTES: &[u8] =
@@ -21,15 +19,6 @@ const WRONG: &[u8] =
     b"mqc 1\ncode 0.3\norder 2\nstart 1\nperiod 2\nphi 1 0\nportion 1\nwords 0:1\nrow 0 1\nrow 1 1\napart 0\nend\n";
 
 const LIMIT: u32 = 100;
-
-/// What stands in the place of an answer before it is told.
-const UNTOLD: MisereAnswer = MisereAnswer {
-    kind: 7,
-    heap: 7,
-    first: 7,
-    second: 7,
-    third: 7,
-};
 
 #[test]
 fn certificates_are_checked(rt: HostRuntime) {
@@ -54,7 +43,13 @@ fn positions_are_told(rt: HostRuntime) {
 
 #[test]
 fn moves_are_told(rt: HostRuntime) {
-    let mut told = UNTOLD;
+    let mut told = MisereAnswer {
+        kind: 7,
+        heap: 7,
+        first: 7,
+        second: 7,
+        third: 7,
+    };
     assert_eq!(&rt;
         misere_answer(rt.alloc(), BYTES, LIMIT, &[2, 3, 3], &mut told),
         0
@@ -68,7 +63,14 @@ fn moves_are_told(rt: HostRuntime) {
 
 #[test]
 fn moves_of_many_positions_are_told(rt: HostRuntime) {
-    let (alloc, mut told) = (rt.alloc(), [UNTOLD; 3]);
+    let untold = MisereAnswer {
+        kind: 7,
+        heap: 7,
+        first: 7,
+        second: 7,
+        third: 7,
+    };
+    let (alloc, mut told) = (rt.alloc(), [untold; 3]);
     assert_eq!(&rt;
         misere_answers(alloc, BYTES, LIMIT, &[2, 2, 1], &[0, 1, 3], &mut told),
         0
@@ -134,70 +136,21 @@ fn elements_of_many_positions_are_told(rt: HostRuntime) {
     assert_eq!(&rt; told[1], 0);
     assert_eq!(&rt; told[2], 0);
     assert_eq!(&rt;
-        misere_values(alloc, PARTIAL, LIMIT, &[3, 1, 1], &[1, 2, 3], &mut told),
+        misere_values(alloc, PARTIAL, LIMIT, &[3], &[1], &mut told[..1]),
         23
     );
     assert_eq!(&rt; told[0], 1);
 }
 
-/// Positions of one heap each, of 1 and of 2 in turn, and their ends.
-fn one_heap_each(alloc: Global, positions: u64) -> Result<(Vec<u64>, Vec<u64>), Memory> {
-    let (mut heaps, mut ends) = (Vec::new(alloc), Vec::new(alloc));
-    for position in 0..positions {
-        heaps.push(position % 2 + 1)?;
-        ends.push(position.saturating_add(1))?;
-    }
-    Ok((heaps, ends))
-}
-
-#[test]
-fn a_hundred_positions_are_told(rt: HostRuntime) -> Result<(), Memory> {
-    let alloc = rt.alloc();
-    let (heaps, ends) = one_heap_each(alloc, 100)?;
-    let (mut numbers, mut moves) = ([7; 100], [UNTOLD; 100]);
-    assert_eq!(&rt;
-        misere_outcomes(alloc, BYTES, LIMIT, &heaps, &ends, &mut numbers),
-        0
-    );
-    assert_eq!(&rt; numbers[99], 1);
-    assert_eq!(&rt;
-        misere_answers(alloc, BYTES, LIMIT, &heaps, &ends, &mut moves),
-        0
-    );
-    assert_eq!(&rt; moves[99].heap, 2);
-    Ok(())
-}
-
-#[test]
-fn a_thousand_positions_are_told(rt: HostRuntime) -> Result<(), Memory> {
-    let alloc = rt.alloc();
-    let (heaps, ends) = one_heap_each(alloc, 1000)?;
-    let (mut numbers, mut moves) = ([7; 1000], [UNTOLD; 1000]);
-    assert_eq!(&rt;
-        misere_outcomes(alloc, BYTES, LIMIT, &heaps, &ends, &mut numbers),
-        0
-    );
-    assert_eq!(&rt; numbers[998], 0);
-    assert_eq!(&rt; numbers[999], 1);
-    assert_eq!(&rt;
-        misere_values(alloc, BYTES, LIMIT, &heaps, &ends, &mut numbers),
-        0
-    );
-    assert_eq!(&rt; numbers[998], 1);
-    assert_eq!(&rt; numbers[999], 0);
-    assert_eq!(&rt;
-        misere_answers(alloc, BYTES, LIMIT, &heaps, &ends, &mut moves),
-        0
-    );
-    assert_eq!(&rt; moves[998].kind, 1);
-    assert_eq!(&rt; moves[999].heap, 2);
-    assert_eq!(&rt; moves[999].first, 1);
-    Ok(())
-}
-
 #[test]
 fn a_hundred_heaps_are_one_position(rt: HostRuntime) {
-    let mut told = UNTOLD;
+    let mut told = MisereAnswer {
+        kind: 7,
+        heap: 7,
+        first: 7,
+        second: 7,
+        third: 7,
+    };
     let (alloc, heaps, mut number) = (rt.alloc(), [1; 100], 7);
     assert_eq!(&rt; misere_outcome(alloc, BYTES, LIMIT, &heaps, &mut number), 0);
     assert_eq!(&rt; number, 1);

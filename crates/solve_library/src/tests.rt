@@ -6,13 +6,6 @@ use crate::exports::{misere_describe, misere_solve};
 const BYTES: &[u8] =
     b"mqc 1\ncode 0.3\norder 2\nstart 1\nperiod 2\nphi 1 0\nportion 1\nwords 0:1\nrow 0 1\nrow 1 0\napart 0\nend\n";
 
-/// One number of its table is another, so that it has no identity.
-const LAWLESS: &[u8] =
-    b"mqc 1\ncode 0.3\norder 2\nstart 1\nperiod 2\nphi 1 0\nportion 1\nwords 0:1\nrow 0 0\nrow 1 0\napart 0\nend\n";
-
-/// How the certificate of the heap 1 of 0.33 begins.
-const FIRST_OF_0_33: &[u8] = b"mqc 2\ncode 0.33\norder 2\nstart 2\nperiod 0\n";
-
 #[test]
 fn quotients_are_found(rt: HostRuntime) {
     let (alloc, mut told, mut count) = (rt.alloc(), [7; 96], 0);
@@ -42,21 +35,6 @@ fn quotients_are_found(rt: HostRuntime) {
     );
     assert_eq!(&rt; count, 96);
     assert_eq!(&rt; short[0], 7);
-}
-
-#[test]
-fn searches_keep_their_bounds(rt: HostRuntime) {
-    let (alloc, mut told, mut count) = (rt.alloc(), [7; 400], 0);
-    let part = misere_solve(alloc, b"0.33", 100000, 64, 2, 0, 4, &mut told, &mut count);
-    assert_eq!(&rt; part, 0);
-    assert!(rt; told.as_slice().starts_with(FIRST_OF_0_33));
-    let beyond = misere_solve(alloc, b"0.33", 2, 64, 0, 24, 64, &mut told, &mut count);
-    assert_eq!(&rt; beyond, 13);
-    let whole = misere_solve(alloc, b"0.33", 100000, 64, 0, 24, 64, &mut told, &mut count);
-    assert_eq!(&rt; whole, 0);
-    assert_eq!(&rt; told[22], b'6');
-    let no_text = misere_solve(alloc, b"0.3\xff", 100, 4, 0, 8, 8, &mut told, &mut count);
-    assert_eq!(&rt; no_text, 12);
 }
 
 #[test]
@@ -102,22 +80,6 @@ fn quotients_are_described(rt: HostRuntime) {
     assert_eq!(&rt;
         misere_describe(alloc, b"", 100, 0, 0, &mut told, &mut count),
         1
-    );
-    assert_eq!(&rt;
-        misere_describe(alloc, LAWLESS, 100, 0, 0, &mut told, &mut count),
-        2
-    );
-    assert_eq!(&rt;
-        misere_describe(alloc, BYTES, 0, 0, 0, &mut told, &mut count),
-        8
-    );
-    assert_eq!(&rt;
-        misere_describe(alloc, BYTES, 100, 1, 0, &mut told, &mut count),
-        0
-    );
-    assert!(rt;
-        told.as_slice()
-            .starts_with(b"\\begin{flushleft}\n$\\mathcal{Q}(\\mathbf{0.3})")
     );
     assert_eq!(&rt;
         misere_describe(alloc, BYTES, 100, 0, 0, &mut [7; 5], &mut count),
