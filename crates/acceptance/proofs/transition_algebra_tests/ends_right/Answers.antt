@@ -5,3 +5,7 @@ use Rattle.acceptance.proofs.transition_algebra_tests.ends_right.Goals as goal
 pub work-requires : goal.work-requires
 work-requires g c =
     heap_job_fits 8 g.row.A g.A.Allocator (omega arith) g.met.A.SmallAllocator.small
+
+pub pairs-requires : goal.pairs-requires
+pairs-requires g c =
+    heap_job_fits 8 g.row.A g.A.Allocator (omega arith) g.met.A.SmallAllocator.small
