@@ -133,7 +133,7 @@ class Page:
         """The description of a code's entry, as the program prints it of the first code with the same quotient, under its own code."""
         entry = next(entry for entry in self.entries if entry.code == code)
         yield "```text"
-        yield re.sub(r"\AQ\(\S+\)", f"Q({code})", entry.description).rstrip("\n")
+        yield re.sub(r"\AQ(_\d+)?\(\S+\)", rf"Q\1({code})", entry.description).rstrip("\n")
         yield "```"
 
     def furthest(self, code):
