@@ -145,7 +145,7 @@ class Page:
         its own code."""
         entry = next(entry for entry in self.entries if entry.code == code)
         yield "```text"
-        yield re.sub(r"\AQ\(\S+\)", f"Q({code})", entry.description).rstrip("\n")
+        yield re.sub(r"\AQ(_\d+)?\(\S+\)", rf"Q\1({code})", entry.description).rstrip("\n")
         yield "```"
 
     def furthest(self, code: str) -> Iterator[str]:
