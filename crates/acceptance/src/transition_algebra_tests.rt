@@ -148,13 +148,15 @@ fn are_worked(heaps: Heaps, pairs: &[Pair]) -> bool {
     n == heaps.count()
 }
 
-/// Works the job in pieces of so many units, and says whether its pairs are those worked out by
-/// hand; 9 is want of memory.
-fn ends_right<A: SmallAllocator + Copy>(
-    job: &mut HeapJob<8, A>,
-    heaps: Heaps,
-    units: u64,
-) -> Result<bool, u8> {
+/// A job in pieces of so many units, its pairs worked out by hand; 9 is want of memory.
+pub fn in_pieces<A: SmallAllocator + Copy>(alloc: A, heaps: Heaps, units: u64) -> Result<bool, u8> {
+    let Ok(code) = Code::read(heaps.code()) else {
+        return Err(0);
+    };
+    let Some((table, phi)) = heaps.quotient(alloc) else {
+        return Err(9);
+    };
+    let mut job: HeapJob<8, A> = HeapJob::new(alloc, code, table, phi);
     for _ in 0..1000usize {
         match job.work(units) {
             Ok(true) => return Ok(are_worked(heaps, job.pairs())),
@@ -163,17 +165,6 @@ fn ends_right<A: SmallAllocator + Copy>(
         }
     }
     Ok(false)
-}
-
-/// A job in pieces of so many units, its pairs worked out by hand; 9 is want of memory.
-pub fn in_pieces<A: SmallAllocator + Copy>(alloc: A, heaps: Heaps, units: u64) -> Result<bool, u8> {
-    let Ok(code) = Code::read(heaps.code()) else {
-        return Err(0);
-    };
-    match heaps.quotient(alloc) {
-        Some((table, phi)) => ends_right(&mut HeapJob::new(alloc, code, table, phi), heaps, units),
-        None => Err(9),
-    }
 }
 
 /// Whether these are the pairs of the heaps, the product of the heaps 1 and 9 beside each other is
