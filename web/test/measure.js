@@ -10,9 +10,17 @@ import {atlas, newMisere, program, root, sample} from "./setup.js";
 const RUNS = 5;
 const kayles = sample("0.77");
 const positions = Array.from({length: 4096}, (_, at) => [1 + at % 64, 1 + (at >> 6)]);
+const kaylesFile = `${root}/certificates/0.77.mqc`;
+/** @type {import("../calls.js").Search} */
 const deep = {
   heaps: 3090,
   order: 256
+};
+/** @type {import("../calls.js").Search} */
+const furthest = {
+  aim: "furthest",
+  heaps: 0,
+  order: 512
 };
 const catalogues = ["octal", "hexadecimal"].map((it) => `${root}/atlas/${it}.json`);
 
