@@ -84,8 +84,8 @@ fn settle<D: Disk>(disk: &mut D, staged: &str, name: &str) -> Result<(), FileFau
 
 /// Puts the bytes in place of the file's, whole or not at all: they are written to a new file
 /// beside it, in the same folder, which then takes its name. So the file holds what it held until
-/// all of the bytes lie on the device. Every other file stays as it is. Want of memory is never told
-/// as a device that failed.
+/// all of the bytes lie on the device. Every other file stays as it is. A device is told to have
+/// failed only where the disk counted a failure in this call, and memory only where it counted none.
 pub fn replace<D: Disk>(
     alloc: Global,
     disk: &mut D,
