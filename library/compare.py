@@ -1,26 +1,45 @@
-"""Compares what Python, C and Rust tell by libmisere with the program, with the certificates' own tables and with a search of all plays.
+"""Compares what Python, C and Rust tell with the program, with the certificates' tables and with a search of all plays.
 
     python3 compare.py [PROGRAM]
 
-Over 1,000 positions of six quotients; the refused samples get the program's numbers and positions; and threads at once agree.
+Over 100,000 positions of six quotients, of which the program is asked 1,000. The refused samples get the program's
+numbers and positions, and threads agree.
 """
+
+from __future__ import annotations
+
 import functools
+import os
 import pathlib
 import random
 import subprocess
 import sys
 import threading
+from collections.abc import Callable, Iterator, Sequence
+from typing import NamedTuple
 
 import misere
 
 here = pathlib.Path(__file__).resolve().parent
 samples = here.parent / "certificates"
+rust = "rust/target/release/misere_positions"
 SIX = ("0.3", "0.33", "0.75", "0.b", "0.75_heaps_8", "0.8_heaps_4")
-POSITIONS, SMALL, THREADS = 1000, 300, 4
+# Of each quotient: all positions, those that the program is asked, those that a search settles, those of each thread
+POSITIONS, PLAYED, SMALL, ASKED, THREADS = 16_700, 170, 50, 500, 8
 FOUND = ("0.3", "0.33", "0.75")
 
+Heaps = Sequence[int]
 
-def options(code, heap):
+
+class Compared(NamedTuple):
+    """Positions of a quotient, with the line of each."""
+
+    quotient: misere.Quotient
+    positions: list[list[int]]
+    lines: list[str]
+
+
+def options(code: str, heap: int) -> Iterator[tuple[int, ...]]:
     """What a move may leave of a heap, by the digits of the code."""
     for taken, digit in enumerate(int(it, 16) for it in code.replace(".", "")):
         left = heap - taken
@@ -34,22 +53,22 @@ def options(code, heap):
             yield from ((a, b, left - a - b) for a in range(1, left // 3 + 1) for b in range(a, (left - a) // 2 + 1))
 
 
-def search_of(code):
+def search_of(code: str) -> Callable[[Heaps], str]:
     """The outcome of small positions, by all plays."""
 
     @functools.lru_cache(None)
-    def moves(position):
-        rest = lambda at: position[:at] + position[at + 1 :]
-        return [tuple(sorted(rest(at) + left)) for at, heap in enumerate(position) for left in options(code, heap)]
+    def moves(position: tuple[int, ...]) -> list[tuple[int, ...]]:
+        rest = [position[:at] + position[at + 1 :] for at in range(len(position))]
+        return [tuple(sorted(rest[at] + left)) for at, heap in enumerate(position) for left in options(code, heap)]
 
     @functools.lru_cache(None)
-    def is_p(position):
+    def is_p(position: tuple[int, ...]) -> bool:
         return bool(moves(position)) and not any(map(is_p, moves(position)))
 
     return lambda heaps: "P" if is_p(tuple(sorted(heaps))) else "N"
 
 
-def value_of(quotient, heaps):
+def value_of(quotient: misere.Quotient, heaps: Heaps) -> int:
     """The element of a position, by the table of the certificate's text."""
     value = 0
     for heap in heaps:
@@ -57,53 +76,62 @@ def value_of(quotient, heaps):
     return value
 
 
-def positions_of(quotient, count, small):
+def positions_of(quotient: misere.Quotient) -> Iterator[list[int]]:
     """Some positions: small ones, and ones of heaps of any size of which the certificate speaks."""
     last = quotient.last_heap or 10**18
-    sizes = lambda: random.choice([random.randint(1, last), random.randint(1, min(last, 40))])
-    yield from ([random.randint(1, min(last, 7)) for _ in range(random.randint(0, 4))] for _ in range(small))
-    yield from ([sizes() for _ in range(random.randint(1, 12))] for _ in range(count - small))
+    yield from ([random.randint(1, min(last, 7)) for _ in range(random.randint(0, 4))] for _ in range(SMALL))
+    for _ in range(POSITIONS - SMALL):
+        mosts = (random.choice([last, min(last, 40)]) for _ in range(random.randint(1, 12)))
+        yield [random.randint(1, most) for most in mosts]
 
 
-def line_of(value, outcome, answer):
-    if not isinstance(answer, str):
-        answer = f"wins {answer.heap} -> {' '.join(map(str, answer.left)) or 0}"
-    return f"{value} {outcome} {answer}"
+def line_of(value: int, outcome: str, answer: misere.Answer) -> str:
+    if isinstance(answer, str):
+        return f"{value} {outcome} {answer}"
+    return f"{value} {outcome} wins {answer.heap} -> {' '.join(map(str, answer.left)) or 0}"
 
 
-def told_by(tool, file, positions):
+def lines_of(quotient: misere.Quotient, positions: Sequence[Heaps]) -> list[str]:
+    """The lines of the positions, each asked by itself."""
+    return [line_of(quotient.value(it), quotient.outcome(it), quotient.answer(it)) for it in positions]
+
+
+def told_by(tool: str, file: os.PathLike[str], positions: Sequence[Heaps]) -> list[str]:
     """The lines of C's or Rust's example."""
     text = "".join(" ".join(map(str, it)) + "\n" for it in positions)
-    return subprocess.run([here / tool, file], input=text, capture_output=True, text=True, check=True).stdout.splitlines()
+    run = subprocess.run([here / tool, file], input=text, capture_output=True, text=True, check=True)
+    return run.stdout.splitlines()
 
 
-def played_by(program, file, heaps):
-    """What the program answers in a position. (It takes none without heaps.)"""
-    words = [program, "play", file, " ".join(map(str, heaps))]
-    return subprocess.run(words, capture_output=True, text=True).stdout.strip()
+def printed(*words: str | os.PathLike[str]) -> str:
+    return subprocess.run(words, capture_output=True, text=True, check=False).stdout
 
 
-def compare_quotient(program, name, count, small):
+def compare_quotient(program: str, name: str) -> Compared:
     file = samples / f"{name}.mqc"
     quotient = misere.check(file.read_bytes())
-    positions = list(positions_of(quotient, count, small))
-    lines = [line_of(quotient.value(it), quotient.outcome(it), quotient.answer(it)) for it in positions]
-    at_once = [line_of(*it) for it in zip(quotient.values(positions), quotient.outcomes(positions), quotient.answers(positions))]
-    assert lines == at_once, name
-    for tool in ("example", "rust/target/release/misere_positions"):
+    positions = list(positions_of(quotient))
+    lines = lines_of(quotient, positions)
+    many = zip(quotient.values(positions), quotient.outcomes(positions), quotient.answers(positions))
+    assert lines == [line_of(*it) for it in many], name
+    for tool in ("example", rust):
         assert told_by(tool, file, positions) == lines, (tool, name)
     search = search_of(quotient.code)
     for at, (heaps, line) in enumerate(zip(positions, lines)):
         value, outcome, answer = line.split(" ", 2)
-        assert int(value) == value_of(quotient, heaps) and outcome == "NP"[int(value) in quotient.portion], (name, heaps)
-        assert at >= small or outcome == search(heaps), (name, heaps)
-        assert not heaps or played_by(program, file, heaps) == answer, (name, heaps)
-    return quotient, positions, lines
+        assert int(value) == value_of(quotient, heaps), (name, heaps)
+        assert outcome == "NP"[int(value) in quotient.portion], (name, heaps)
+        assert at >= SMALL or outcome == search(heaps), (name, heaps)
+        # (the program takes no position without heaps)
+        assert (
+            at >= PLAYED or not heaps or printed(program, "play", file, " ".join(map(str, heaps))) == f"{answer}\n"
+        ), (name, heaps)
+    return Compared(quotient, positions, lines)
 
 
-def compare_refused(program, file):
+def compare_refused(program: str, file: pathlib.Path) -> None:
     """What is told of a refused sample."""
-    text = subprocess.run([program, "check", file], capture_output=True, text=True).stdout
+    text = printed(program, "check", file)
     try:
         misere.check(file.read_bytes())
     except misere.Refused as refused:
@@ -115,62 +143,28 @@ def compare_refused(program, file):
     raise AssertionError(file)
 
 
-def refusal(call, *words):
-    """The number of what a call raises."""
-    try:
-        call(*words)
-    except misere.MisereError as stop:
-        return stop.number
-    return 0
-
-
-def compare_errors(full, partial):
-    beyond = partial.last_heap + 1
-    for quotient, heaps, number in ((full, [0], 10), (full, [10**18 + 1], 10), (full, [-1], 10), (full, ["2"], 10), (partial, [1, beyond], 23)):
-        for call in (quotient.outcome, quotient.value, quotient.answer):
-            assert refusal(call, heaps) == number, (heaps, number)
-        for call in (quotient.outcomes, quotient.values, quotient.answers):
-            assert refusal(call, [[1], heaps]) == number and call([]) == [] and len(call([[], [1]])) == 2, (heaps, number)
-    assert refusal(misere.check, full.certificate, 1) == 8 and refusal(misere.check, b"") == 1 and refusal(misere.check, b"", -1) == 15
-
-
-def compare_finder(program):
+def compare_finder(program: str) -> None:
     """What is found and described, and what the program prints."""
-    printed = lambda *words: subprocess.run([program, *words], capture_output=True, text=True).stdout
     for code in FOUND:
-        assert misere.solve(code).certificate.decode() == printed("solve", code), code
-        by_rust = subprocess.run([here / "rust/target/release/misere_positions", "--solve", code], capture_output=True, text=True, check=True).stdout
-        assert by_rust == misere.solve(code).describe(), code
+        found = misere.solve(code)
+        assert found.certificate.decode() == printed(program, "solve", code), code
+        assert found.describe() == printed(here / rust, "--solve", code), code
     for file in sorted(samples.glob("*.mqc")):
         quotient = misere.check(file.read_bytes())
-        for flags in ((), ("--basis",)):
-            assert quotient.describe(basis=bool(flags)) == printed("describe", file, *flags), (file, flags)
-            assert quotient.describe("latex", bool(flags)) == printed("describe", file, "--latex", *flags), (file, flags)
-            assert quotient.describe("relations", bool(flags)) + "\n" == printed("describe", file, "--relations", *flags), (file, flags)
-    for code, words, number in (("0.8.", {}, 12), ("é", {}, 12), ("0.3", {"heaps": 1}, 15), ("0.77", {"rounds": 1, "heaps": 8}, 13)):
-        assert refusal(lambda: misere.solve(code, **words)) == number, (code, number)
-    assert refusal(quotient.describe, "verse") == 15
+        for basis in ((), ("--basis",)):
+            words: tuple[str | os.PathLike[str], ...] = (program, "describe", file, *basis)
+            assert quotient.describe(basis=bool(basis)) == printed(*words), words
+            assert quotient.describe("latex", bool(basis)) == printed(*words, "--latex"), words
+            assert quotient.describe("relations", bool(basis)) + "\n" == printed(*words, "--relations"), words
 
 
-def compare_arrays(quotient):
-    """The rows of an array of numpy, where there is one."""
-    try:
-        import numpy
-    except ImportError:
-        return "no numpy here"
-    rows = numpy.array([[2, 0, 5], [0, 0, 0], [1, 1, 0]])
-    lists = [[2, 5], [], [1, 1]]
-    assert list(quotient.outcomes(rows)) == quotient.outcomes(lists) and list(quotient.values(rows)) == quotient.values(lists)
-    return "arrays of numpy agree"
+def compare_threads(compared: Sequence[Compared]) -> None:
+    """Each thread asks some positions of each quotient again, at the same time."""
+    wrong: list[Heaps] = []
 
-
-def compare_threads(compared):
-    """Each thread asks all positions of each quotient again."""
-    wrong = []
-
-    def ask():
+    def ask() -> None:
         for quotient, positions, lines in compared:
-            again = [line_of(quotient.value(it), quotient.outcome(it), quotient.answer(it)) for it in positions]
+            again = lines_of(quotient, positions[:ASKED])
             wrong.extend(it for it, line, other in zip(positions, lines, again) if line != other)
 
     threads = [threading.Thread(target=ask) for _ in range(THREADS)]
@@ -181,21 +175,18 @@ def compare_threads(compared):
     assert not wrong, wrong
 
 
-def main():
+def main() -> None:
     random.seed(49)
-    program = sys.argv[1] if len(sys.argv) > 1 else here.parent / "crates/misere/out/misere"
-    counts = [POSITIONS // len(SIX) + (at < POSITIONS % len(SIX)) for at in range(len(SIX))]
-    compared = [compare_quotient(program, name, count, SMALL // len(SIX)) for name, count in zip(SIX, counts)]
+    program = sys.argv[1] if len(sys.argv) > 1 else str(here.parent / "crates/misere/out/misere")
+    compared = [compare_quotient(program, name) for name in SIX]
     refused = sorted((samples / "refused").glob("*.mqc"))
     for file in refused:
         compare_refused(program, file)
-    compare_errors(compared[1][0], compared[4][0])
     compare_finder(program)
-    arrays = compare_arrays(compared[2][0])
     compare_threads(compared)
-    count = sum(len(positions) for _, positions, _ in compared)
-    asked = f"{count} positions of {len(SIX)} quotients by C, Python, Rust and the program, {len(refused)} refused samples, {THREADS} threads"
-    print(f"{asked}: all agree ({arrays})")
+    asked = f"{POSITIONS * len(SIX)} positions of {len(SIX)} quotients by C, Python and Rust, {PLAYED * len(SIX)} by the program"
+    print(f"{asked}, {len(refused)} refused samples, {THREADS} threads: all agree")
 
 
-main()
+if __name__ == "__main__":
+    main()

@@ -1,15 +1,22 @@
-"""The page of the atlas: what atlas/page.md says, with the tables and descriptions that its lines in braces name, out of the catalogues and of `misere describe`."""
+"""The page of the atlas: what atlas/page.md says, with the tables and descriptions that its lines in braces name, out
+of the catalogues and of `misere describe`."""
+
+from __future__ import annotations
+
 import collections
 import json
 import os
+import pathlib
 import re
 import subprocess
 import sys
 import tempfile
+from collections.abc import Iterable, Iterator
 from concurrent.futures import ThreadPoolExecutor
+from typing import Any
 
 sys.dont_write_bytecode = True
-from survey_lines import place_of, words_of
+from certificate_lines import is_hexadecimal, place_of, words_of
 
 MOST_ORDER = 512
 CATALOGUES = ("octal", "hexadecimal")
@@ -19,51 +26,53 @@ HEADS = ("Code", "Order", "Portion", "Period", "Generators", "Tame or wild", "Th
 class Entry:
     """An entry of a catalogue, and what describes it once that is asked for."""
 
-    def __init__(self, entry):
-        self.code, self.heaps, self.certificate = entry["code"], entry["heaps"], entry["certificate"]
+    def __init__(self, entry: dict[str, Any]) -> None:
+        self.code: str = entry["code"]
+        self.heaps: int = entry["heaps"]
+        self.certificate: str = entry["certificate"]
         # what follows the lines of the format and the code
         self.quotient = self.certificate.split("\n", 2)[2]
         self.words = words_of(self.certificate)
         self.order, self.portion = int(self.words["order"]), len(self.words["portion"].split())
-        self.description = None
+        self.description = ""
 
     @property
-    def period(self):
+    def period(self) -> str:
         """The period and its start, or the last heap."""
         return f"heaps to {self.heaps}" if self.heaps else f"{self.words['period']} from {self.words['start']}"
 
     @property
-    def family(self):
+    def family(self) -> str:
         """The shape of the code, such as `0.dd`, where d stands for an octal digit and h for a hexadecimal one."""
         first, digits = self.code.split(".")
-        return f"{first}.{('h' if max(self.code) > '7' else 'd') * len(digits)}"
+        return f"{first}.{('h' if is_hexadecimal(self.code) else 'd') * len(digits)}"
 
-    def described(self, name):
+    def described(self, name: str) -> list[str] | None:
         """The words of a line of the description, or None where the quotient isn't described."""
         line = next((line for line in self.description.splitlines() if line.split(" ")[0] == name), None)
-        return line and line.split(" ")[1:]
+        return line.split(" ")[1:] if line else None
 
     @property
-    def kind(self):
+    def kind(self) -> str:
         """Tame with its number, or wild."""
         words = self.described("order")
         return " ".join(words[3:]) if words else ""
 
     @property
-    def generators(self):
+    def generators(self) -> str:
         """The first heap of each generator."""
         words = self.described("generators")
         return " ".join(word.split("=")[1] for word in words) if words else ""
 
 
-def entries_of(root, name):
+def entries_of(root: pathlib.Path, name: str) -> list[Entry]:
     return [Entry(entry) for entry in json.loads((root / f"atlas/{name}.json").read_text())["entries"]]
 
 
-def describe(program, entries):
+def describe(program: str, entries: Iterable[Entry]) -> None:
     """Asks the program for the description of each entry, of as many side by side as there are processors."""
 
-    def described(entry):
+    def described(entry: Entry) -> None:
         with tempfile.NamedTemporaryFile("w", suffix=".mqc") as file:
             file.write(entry.certificate)
             file.flush()
@@ -76,19 +85,19 @@ def describe(program, entries):
         list(pool.map(described, entries))
 
 
-def groups_of(entries):
+def groups_of(entries: Iterable[Entry]) -> list[list[Entry]]:
     """The entries by quotient, in their order: octal codes first."""
-    groups = collections.defaultdict(list)
+    groups: dict[str, list[Entry]] = collections.defaultdict(list)
     for entry in entries:
         groups[entry.quotient].append(entry)
     return list(groups.values())
 
 
-def row(cells):
+def row(cells: Iterable[Any]) -> str:
     return f"| {' | '.join(str(cell) for cell in cells)} |"
 
 
-def quotient_row(group):
+def quotient_row(group: list[Entry]) -> str:
     """The row of a quotient: its first code, what it is, and the other codes that have it."""
     first, *others = group
     same = " ".join(f"`{it.code}`" for it in others)
@@ -98,7 +107,7 @@ def quotient_row(group):
 class Page:
     """What the lines in braces stand for, over all entries of the atlas."""
 
-    def __init__(self, root, program):
+    def __init__(self, root: pathlib.Path, program: str) -> None:
         self.root, self.program = root, program
         self.entries = [entry for name in CATALOGUES for entry in entries_of(root, name)]
         self.groups = groups_of(self.entries)
@@ -107,11 +116,12 @@ class Page:
             for entry in group:
                 entry.description = entry.description or group[0].description
 
-    def families(self):
-        """A row for each family: its codes, how many have a full quotient, tame or wild, and a partial one, and how many quotients these are."""
+    def families(self) -> Iterator[str]:
+        """A row for each family: its codes, how many have a full quotient, tame or wild, and a partial one, and how
+        many quotients these are."""
         yield row(["Codes", "In all", "Full", "of these tame", "wild", "Partial", "Different quotients"])
         yield "|---|---|---|---|---|---|---|"
-        members = collections.defaultdict(list)
+        members: dict[str, list[Entry]] = collections.defaultdict(list)
         for entry in self.entries:
             members[entry.family].append(entry)
         for family, entries in [*members.items(), ("all", self.entries)]:
@@ -119,9 +129,10 @@ class Page:
             tame = sum(entry.kind.startswith("tame") for entry in full)
             wild = sum(entry.kind == "wild" for entry in full)
             name = family if family == "all" else f"`{family}`"
-            yield row([name, len(entries), len(full), tame, wild, len(entries) - len(full), len({entry.quotient for entry in entries})])
+            quotients = len({entry.quotient for entry in entries})
+            yield row([name, len(entries), len(full), tame, wild, len(entries) - len(full), quotients])
 
-    def table(self, family):
+    def table(self, family: str) -> Iterator[str]:
         """The quotients whose first code is of this family: the full ones, and then the partial ones."""
         groups = [group for group in self.groups if group[0].family == family]
         yield row(HEADS)
@@ -129,24 +140,28 @@ class Page:
         yield from (quotient_row(group) for group in groups if group[0].heaps == 0)
         yield from (quotient_row(group) for group in groups if group[0].heaps > 0)
 
-    def described(self, code):
-        """The description of a code's entry, as the program prints it of the first code with the same quotient, under its own code."""
+    def described(self, code: str) -> Iterator[str]:
+        """The description of a code's entry, as the program prints it of the first code with the same quotient, under
+        its own code."""
         entry = next(entry for entry in self.entries if entry.code == code)
         yield "```text"
-        yield re.sub(r"\AQ\(\S+\)", f"Q({code})", entry.description).rstrip("\n")
+        yield re.sub(r"\AQ(_\d+)?\(\S+\)", rf"Q\1({code})", entry.description).rstrip("\n")
         yield "```"
 
-    def furthest(self, code):
-        """How far a code goes with as many elements as a certificate can have, in the words with which a catalogue lists it."""
+    def furthest(self, code: str) -> Iterator[str]:
+        """How far a code goes with as many elements as a certificate can have, in the words with which a catalogue
+        lists it."""
         words = ["solve", code, "--furthest", str(MOST_ORDER)]
         found = words_of(subprocess.run([self.program, *words], capture_output=True, text=True, check=True).stdout)
-        yield f"`misere {' '.join(words)}` finds `{code} order {found['order']} heaps {int(found['start']) - 1}`, with a portion of {len(found['portion'].split())}."
+        listed = f"{code} order {found['order']} heaps {int(found['start']) - 1}"
+        portion = len(found["portion"].split())
+        yield f"`misere {' '.join(words)}` finds `{listed}`, with a portion of {portion}."
 
-    def file(self, name):
+    def file(self, name: str) -> Iterator[str]:
         """What a file of the atlas says."""
         yield (self.root / "atlas" / name).read_text().rstrip("\n")
 
-    def rest(self):
+    def rest(self) -> Iterator[str]:
         """How far the partial quotients go."""
         bounds = [(1, 9), (10, 19), (20, 29), (30, 49), (50, 99), (100, 1023), (1024, 1024)]
         partial = [entry for entry in self.entries if entry.heaps]
@@ -155,9 +170,11 @@ class Page:
         for least, most in bounds:
             codes = [entry.code for entry in partial if least <= entry.heaps <= most]
             if codes:
-                yield row([f"{least} to {most}" if least < most else least, len(codes), f"`{min(codes, key=place_of)}`"])
+                yield row(
+                    [f"{least} to {most}" if least < most else least, len(codes), f"`{min(codes, key=place_of)}`"]
+                )
 
-    def lines(self):
+    def lines(self) -> Iterator[str]:
         """The lines of the page."""
         for line in (self.root / "atlas/page.md").read_text().splitlines():
             named = re.fullmatch(r"\{(families|table|described|furthest|file|rest)(?: (\S+))?\}", line)
@@ -166,5 +183,5 @@ class Page:
             else:
                 yield line
 
-    def text(self):
+    def text(self) -> str:
         return "\n".join(self.lines()) + "\n"

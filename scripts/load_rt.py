@@ -1,12 +1,17 @@
 """rt as a module, for scripts that call what it has."""
-import importlib.machinery
-import importlib.util
-import os
+
+from __future__ import annotations
+
+import pathlib
 import shutil
+import sys
+from typing import Any
+
+from script import load
 
 
-def load_rt():
-    loader = importlib.machinery.SourceFileLoader("rt_main", os.path.realpath(shutil.which("rt")))
-    module = importlib.util.module_from_spec(importlib.util.spec_from_loader("rt_main", loader))
-    loader.exec_module(module)
-    return module
+def load_rt() -> Any:
+    found = shutil.which("rt")
+    if not found:
+        sys.exit("rt, which proves and builds, is not here; see README.md")
+    return load(pathlib.Path(found), "rt_main")

@@ -17,7 +17,14 @@ _misere() {
         desk) options="--help" ;;
     esac
     COMPREPLY=()
-    case $before in --furthest | --get | --heaps | --limit | --order | --partial | --rounds) return ;; esac
+    case $before in
+        --furthest | --heaps | --limit | --order | --partial | --rounds) return ;;
+        --get)
+            # the codes that the file names, which nobody has checked
+            options=$(grep -o '"code":"[^"]*"' "${COMP_WORDS[i+1]}" 2> /dev/null | cut -d '"' -f 4)
+            COMPREPLY=($(compgen -W "$options" -- "$word"))
+            return ;;
+    esac
     if [[ -z $command || $command == help || $word == -* ]]; then
         COMPREPLY=($(compgen -W "$options" -- "$word"))
         return

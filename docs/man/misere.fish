@@ -1,4 +1,8 @@
 # Completions of misere for fish: to be put into a folder of $fish_complete_path.
+# The codes that the file names, which nobody has checked.
+function __misere_codes
+    grep -o '"code":"[^"]*"' (commandline -opc)[3] 2> /dev/null | cut -d '"' -f 4
+end
 complete -c misere -f
 complete -c misere -n __fish_use_subcommand -a check -d 'Check a certificate, and print the verdict'
 complete -c misere -n __fish_use_subcommand -a solve -d 'Look for the misère quotient of a code, and print its certificate'
@@ -9,37 +13,38 @@ complete -c misere -n __fish_use_subcommand -a present -d 'Print the table of th
 complete -c misere -n __fish_use_subcommand -a catalogue -d 'List the certificates in a catalogue, print one, or add to them'
 complete -c misere -n __fish_use_subcommand -a desk -d 'Take the steps of a script, many checks at one desk, and print a line for each'
 complete -c misere -n __fish_use_subcommand -a help -d 'Print this message or the help of the given subcommand(s)'
+complete -c misere -n '__fish_seen_subcommand_from help' -a 'check solve show describe play present catalogue desk'
 complete -c misere -n __fish_use_subcommand -l help -d 'Print help'
 complete -c misere -n __fish_use_subcommand -l version -d 'Print version'
-complete -c misere -n '__fish_seen_subcommand_from check' -F
-complete -c misere -n '__fish_seen_subcommand_from check' -l limit -x -d 'Keep at most N members of a closure: 1 to 1000000, by default 100000'
-complete -c misere -n '__fish_seen_subcommand_from check' -l help -d 'Print help'
-complete -c misere -n '__fish_seen_subcommand_from solve' -l limit -x -d 'Keep at most N members of a closure: 1 to 1000000, by default 100000'
-complete -c misere -n '__fish_seen_subcommand_from solve' -l rounds -x -d 'Give up after R rounds: 1 to 1000, by default 64'
-complete -c misere -n '__fish_seen_subcommand_from solve' -l heaps -x -d 'Look at the heaps up to M: 2 to 64, by default 24'
-complete -c misere -n '__fish_seen_subcommand_from solve' -l deep -d 'Look at as many heaps as a certificate can need, and orders to 256'
-complete -c misere -n '__fish_seen_subcommand_from solve' -l partial -x -d 'Look for the quotient of the heaps 1 to M alone: 1 to 1024'
-complete -c misere -n '__fish_seen_subcommand_from solve' -l furthest -x -d 'Look for the most heaps 1 to M whose quotient has at most Q elements: 2 to 512'
-complete -c misere -n '__fish_seen_subcommand_from solve' -l order -x -d 'Propose no quotient of more than Q elements: 2 to 256, by default 64, with --partial 2 to 512'
-complete -c misere -n '__fish_seen_subcommand_from solve' -l why -d 'Tell why the search is given up'
-complete -c misere -n '__fish_seen_subcommand_from solve' -l help -d 'Print help'
-complete -c misere -n '__fish_seen_subcommand_from show' -F
-complete -c misere -n '__fish_seen_subcommand_from show' -l help -d 'Print help'
-complete -c misere -n '__fish_seen_subcommand_from describe' -F
-complete -c misere -n '__fish_seen_subcommand_from describe' -l latex -d 'Print it for LaTeX'
-complete -c misere -n '__fish_seen_subcommand_from describe' -l basis -d 'Give the reduced basis of the relations, by which words are multiplied by hand'
-complete -c misere -n '__fish_seen_subcommand_from describe' -l relations -d 'Print the relations alone, in one word for \'misere present\''
-complete -c misere -n '__fish_seen_subcommand_from describe' -l help -d 'Print help'
-complete -c misere -n '__fish_seen_subcommand_from play' -F
-complete -c misere -n '__fish_seen_subcommand_from play' -l help -d 'Print help'
-complete -c misere -n '__fish_seen_subcommand_from present' -l help -d 'Print help'
-complete -c misere -n '__fish_seen_subcommand_from catalogue' -F
-complete -c misere -n '__fish_seen_subcommand_from catalogue' -l new -d 'Begin with an empty catalogue; FILE isn\'t read'
-complete -c misere -n '__fish_seen_subcommand_from catalogue' -l add -r -F -d 'Add the certificate in the file CERT, and write FILE'
-complete -c misere -n '__fish_seen_subcommand_from catalogue' -l get -x -d 'Print the certificate of CODE; without --new and --add'
-complete -c misere -n '__fish_seen_subcommand_from catalogue' -l heaps -x -d 'With --get, that of the heaps up to M: 0 to 1024, by default 0, for all heaps'
-complete -c misere -n '__fish_seen_subcommand_from catalogue' -l salvage -d 'Keep the entries without a fault, and write FILE; without another option'
-complete -c misere -n '__fish_seen_subcommand_from catalogue' -l migrate -d 'Write FILE in the newest form, with the same entries; without another option'
-complete -c misere -n '__fish_seen_subcommand_from catalogue' -l help -d 'Print help'
-complete -c misere -n '__fish_seen_subcommand_from desk' -F
-complete -c misere -n '__fish_seen_subcommand_from desk' -l help -d 'Print help'
+complete -c misere -n '__fish_seen_subcommand_from check; and not __fish_seen_subcommand_from help' -F
+complete -c misere -n '__fish_seen_subcommand_from check; and not __fish_seen_subcommand_from help' -l limit -x -d 'Keep at most N members of a closure: 1 to 1000000, by default 100000'
+complete -c misere -n '__fish_seen_subcommand_from check; and not __fish_seen_subcommand_from help' -l help -d 'Print help'
+complete -c misere -n '__fish_seen_subcommand_from solve; and not __fish_seen_subcommand_from help' -l limit -x -d 'Keep at most N members of a closure: 1 to 1000000, by default 100000'
+complete -c misere -n '__fish_seen_subcommand_from solve; and not __fish_seen_subcommand_from help' -l rounds -x -d 'Give up after R rounds: 1 to 1000, by default 64'
+complete -c misere -n '__fish_seen_subcommand_from solve; and not __fish_seen_subcommand_from help' -l heaps -x -d 'Look at the heaps up to M: 2 to 64, by default 24'
+complete -c misere -n '__fish_seen_subcommand_from solve; and not __fish_seen_subcommand_from help' -l deep -d 'Look at as many heaps as a certificate can need, and orders to 256'
+complete -c misere -n '__fish_seen_subcommand_from solve; and not __fish_seen_subcommand_from help' -l partial -x -d 'Look for the quotient of the heaps 1 to M alone: 1 to 1024'
+complete -c misere -n '__fish_seen_subcommand_from solve; and not __fish_seen_subcommand_from help' -l furthest -x -d 'Look for the most heaps 1 to M whose quotient has at most Q elements: 2 to 512'
+complete -c misere -n '__fish_seen_subcommand_from solve; and not __fish_seen_subcommand_from help' -l order -x -d 'Propose no quotient of more than Q elements: 2 to 256, by default 64, with --partial 2 to 512'
+complete -c misere -n '__fish_seen_subcommand_from solve; and not __fish_seen_subcommand_from help' -l why -d 'Tell why the search is given up'
+complete -c misere -n '__fish_seen_subcommand_from solve; and not __fish_seen_subcommand_from help' -l help -d 'Print help'
+complete -c misere -n '__fish_seen_subcommand_from show; and not __fish_seen_subcommand_from help' -F
+complete -c misere -n '__fish_seen_subcommand_from show; and not __fish_seen_subcommand_from help' -l help -d 'Print help'
+complete -c misere -n '__fish_seen_subcommand_from describe; and not __fish_seen_subcommand_from help' -F
+complete -c misere -n '__fish_seen_subcommand_from describe; and not __fish_seen_subcommand_from help' -l latex -d 'Print it for LaTeX'
+complete -c misere -n '__fish_seen_subcommand_from describe; and not __fish_seen_subcommand_from help' -l basis -d 'Give the reduced basis of the relations, by which words are multiplied by hand'
+complete -c misere -n '__fish_seen_subcommand_from describe; and not __fish_seen_subcommand_from help' -l relations -d 'Print the relations alone, in one word for \'misere present\''
+complete -c misere -n '__fish_seen_subcommand_from describe; and not __fish_seen_subcommand_from help' -l help -d 'Print help'
+complete -c misere -n '__fish_seen_subcommand_from play; and not __fish_seen_subcommand_from help' -F
+complete -c misere -n '__fish_seen_subcommand_from play; and not __fish_seen_subcommand_from help' -l help -d 'Print help'
+complete -c misere -n '__fish_seen_subcommand_from present; and not __fish_seen_subcommand_from help' -l help -d 'Print help'
+complete -c misere -n '__fish_seen_subcommand_from catalogue; and not __fish_seen_subcommand_from help' -F
+complete -c misere -n '__fish_seen_subcommand_from catalogue; and not __fish_seen_subcommand_from help' -l new -d 'Begin with an empty catalogue; FILE isn\'t read'
+complete -c misere -n '__fish_seen_subcommand_from catalogue; and not __fish_seen_subcommand_from help' -l add -r -F -d 'Add the certificate in the file CERT, and write FILE'
+complete -c misere -n '__fish_seen_subcommand_from catalogue; and not __fish_seen_subcommand_from help' -l get -x -a '(__misere_codes)' -d 'Print the certificate of CODE; without --new and --add'
+complete -c misere -n '__fish_seen_subcommand_from catalogue; and not __fish_seen_subcommand_from help' -l heaps -x -d 'With --get, that of the heaps up to M: 0 to 1024, by default 0, for all heaps'
+complete -c misere -n '__fish_seen_subcommand_from catalogue; and not __fish_seen_subcommand_from help' -l salvage -d 'Keep the entries without a fault, and write FILE; without another option'
+complete -c misere -n '__fish_seen_subcommand_from catalogue; and not __fish_seen_subcommand_from help' -l migrate -d 'Write FILE in the newest form, with the same entries; without another option'
+complete -c misere -n '__fish_seen_subcommand_from catalogue; and not __fish_seen_subcommand_from help' -l help -d 'Print help'
+complete -c misere -n '__fish_seen_subcommand_from desk; and not __fish_seen_subcommand_from help' -F
+complete -c misere -n '__fish_seen_subcommand_from desk; and not __fish_seen_subcommand_from help' -l help -d 'Print help'

@@ -1,16 +1,20 @@
 //! Sets at the edges of their lanes.
-use element_sets::{ElementSet, MOST_ELEMENTS, members_are_small};
+use element_sets::{ElementSet, LaneSet, MOST_ELEMENTS, members_are_small};
 use std::alloc::{AllocError, Global};
 
 /// The largest element.
 const LAST: u16 = MOST_ELEMENTS - 1;
 
-fn set_of(members: &[u16]) -> ElementSet {
-    let mut all = ElementSet::new();
+fn lane_set<const LANES: usize>(members: &[u16]) -> LaneSet<LANES> {
+    let mut all = LaneSet::new();
     for x in members {
         all.insert(*x);
     }
     all
+}
+
+fn set_of(members: &[u16]) -> ElementSet {
+    lane_set(members)
 }
 
 /// What holds of sets at the edges of lanes.
@@ -63,12 +67,30 @@ fn translates_from_the_other_end(alloc: Global) -> Result<bool, AllocError> {
     Ok(moved == set_of(&[0, LAST - 64, LAST - 63, LAST]))
 }
 
-/// A set is a bit for each of 512 elements.
+/// What holds of sets in four lanes, and of their translation by a row of 256 entries.
+fn four_lanes_hold(alloc: Global) -> Result<bool, AllocError> {
+    let mut row = Vec::new(alloc);
+    for x in 0..256u16 {
+        row.push(255 - x)?;
+    }
+    let edges: LaneSet<4> = lane_set(&[0, 63, 64, 255]);
+    members_are_small(&edges);
+    Ok(
+        edges.meets(&lane_set(&[255]))
+            && lane_set::<4>(&[0, 255]).subset(&edges)
+            && !edges.contains(256)
+            && edges.translate(&row) == lane_set(&[0, 191, 192, 255]),
+    )
+}
+
+/// A set is a bit for each of 512 elements, or of as many as its lanes have.
 #[test]
 fn sets(rt: HostRuntime) {
     assert!(rt; MOST_ELEMENTS == 512 && size_of::<ElementSet>() == 64);
+    assert!(rt; size_of::<LaneSet<1>>() == 8 && size_of::<LaneSet<4>>() == 32);
     assert!(rt; set_of(&[0, 255, 511]).meets(&set_of(&[511])));
     assert!(rt; edges_hold() == [true; 8]);
     assert!(rt; range_holds() == [true; 5]);
     assert!(rt; matches!(translates_from_the_other_end(rt.alloc()), Ok(true)));
+    assert!(rt; matches!(four_lanes_hold(rt.alloc()), Ok(true)));
 }

@@ -49,14 +49,17 @@ fn pairs_of_all(alloc: Global) -> Option<Vec<Pair>>
 }
 
 /// The closure of the pairs.
-fn large(alloc: Global) -> Option<Closure> {
+fn large(alloc: Global) -> Option<Closure<8>> {
     let table = exclusive_or(alloc)?;
     let pairs = pairs_of_all(alloc)?;
+    if pairs.len() != 24 {
+        return None;
+    }
     Some(Closure::new(alloc, table, pairs, 100_000))
 }
 
 /// How many members stand for no heap, for one heap, and so on to eight.
-fn count_by_length(closure: &Closure) -> [u32; 9] {
+fn count_by_length(closure: &Closure<8>) -> [u32; 9] {
     let mut counts = [0u32; 9];
     for i in 0..closure.kept() {
         let length = length_of(closure, i).unwrap_or(0).min(8);

@@ -7,7 +7,7 @@ use std::alloc::Global;
 use transition_algebra::{Pair, Phi, heap_pairs};
 
 /// The closure of 0.3 over its quotient of two elements.
-fn three<A: SmallAllocator + Copy>(alloc: A, limit: u32) -> Option<Closure<A>> {
+fn three<A: SmallAllocator + Copy>(alloc: A, limit: u32) -> Option<Closure<8, A>> {
     let Ok(code) = Code::read(b"0.3") else {
         return None;
     };
@@ -22,8 +22,8 @@ fn three<A: SmallAllocator + Copy>(alloc: A, limit: u32) -> Option<Closure<A>> {
     };
     let phi = Phi::new(1, 2, entries);
     match heap_pairs(alloc, &code, &table, &phi) {
-        Ok(pairs) => Some(Closure::new(alloc, table, pairs, limit)),
-        Err(_) => None,
+        Ok(pairs) if pairs.len() == 7 => Some(Closure::new(alloc, table, pairs, limit)),
+        _ => None,
     }
 }
 
@@ -38,7 +38,7 @@ fn is_pair(p: &Pair, value: u16, option: Option<u16>) -> bool {
 }
 
 /// How many heaps the position has that a member held stands for.
-pub fn length_of(closure: &Closure, i: usize) -> Option<usize> {
+pub fn length_of(closure: &Closure<8>, i: usize) -> Option<usize> {
     if i >= closure.kept() {
         return None;
     }
@@ -49,14 +49,14 @@ pub fn length_of(closure: &Closure, i: usize) -> Option<usize> {
 }
 
 /// Whether a member is of this value and option, and stands for as many heaps of 1 as came before.
-fn is_member(closure: &Closure, i: usize, value: u16, option: Option<u16>) -> bool {
+fn is_member(closure: &Closure<8>, i: usize, value: u16, option: Option<u16>) -> bool {
     i < closure.kept()
         && is_pair(closure.member(i), value, option)
         && length_of(closure, i) == Some(i)
 }
 
 /// What holds of a closure that grows by one member and then to the end.
-fn grows_to_three(closure: &mut Closure) -> [bool; 7] {
+fn grows_to_three(closure: &mut Closure<8>) -> [bool; 7] {
     [
         closure.grow(1) == Ok(Grown::More),
         (closure.ever(), closure.spent()) == (1, 1),
@@ -81,7 +81,7 @@ fn keeps_three(alloc: Global) -> bool {
 }
 
 /// Whether the closure grows by a member that stands for so many heaps, at a turn for each.
-fn grows_by_one(closure: &mut Closure, heaps: usize) -> bool {
+fn grows_by_one(closure: &mut Closure<8>, heaps: usize) -> bool {
     let turns = (heaps as u64).saturating_add(1);
     closure.grow_to_member(1000).is_ok()
         && (closure.ever(), closure.spent()) == (turns, turns as u128)
@@ -103,7 +103,7 @@ fn stops_at_each(alloc: Global) -> bool {
 }
 
 /// The last of eleven answers, each to so many units.
-fn grow_eleven(closure: &mut Closure, units: u64) -> Option<Grown> {
+fn grow_eleven(closure: &mut Closure<8>, units: u64) -> Option<Grown> {
     let mut grown = Grown::More;
     for _call in 0..11u8 {
         match closure.grow(units) {

@@ -3,8 +3,9 @@ ghost use Rattle.std.specs.Prelude.{◌≡◌, All, IfSome};
 ghost use Rattle.transition_algebra.specs.Heaps.{IsInto};
 ghost use Rattle.transition_algebra.specs.Pairs.{IsPair};
 
+use allocation::SmallAllocator;
 use element_sets::ElementSet;
-use monoid_table::{CommMonoid, Table};
+use monoid_table::{CommMonoid, Table, is_monoid};
 use octal_code::Code;
 use std::alloc::{Allocator, Global};
 use transition_algebra::{HeapJob, Pair, Pairs, Phi, heap_pairs};
@@ -147,13 +148,15 @@ fn are_worked(heaps: Heaps, pairs: &[Pair]) -> bool {
     n == heaps.count()
 }
 
-/// Works the job in pieces of so many units, and says whether its pairs are those worked out by
-/// hand; 9 is want of memory.
-fn ends_right<A: Allocator + Copy>(
-    job: &mut HeapJob<A>,
-    heaps: Heaps,
-    units: u64,
-) -> Result<bool, u8> {
+/// A job in pieces of so many units, its pairs worked out by hand; 9 is want of memory.
+pub fn in_pieces<A: SmallAllocator + Copy>(alloc: A, heaps: Heaps, units: u64) -> Result<bool, u8> {
+    let Ok(code) = Code::read(heaps.code()) else {
+        return Err(0);
+    };
+    let Some((table, phi)) = heaps.quotient(alloc) else {
+        return Err(9);
+    };
+    let mut job: HeapJob<8, A> = HeapJob::new(alloc, code, table, phi);
     for _ in 0..1000usize {
         match job.work(units) {
             Ok(true) => return Ok(are_worked(heaps, job.pairs())),
@@ -164,17 +167,6 @@ fn ends_right<A: Allocator + Copy>(
     Ok(false)
 }
 
-/// A job in pieces of so many units, its pairs worked out by hand; 9 is want of memory.
-pub fn in_pieces<A: Allocator + Copy>(alloc: A, heaps: Heaps, units: u64) -> Result<bool, u8> {
-    let Ok(code) = Code::read(heaps.code()) else {
-        return Err(0);
-    };
-    match heaps.quotient(alloc) {
-        Some((table, phi)) => ends_right(&mut HeapJob::new(alloc, code, table, phi), heaps, units),
-        None => Err(9),
-    }
-}
-
 /// Whether these are the pairs of the heaps, the product of the heaps 1 and 9 beside each other is
 /// right, and the identity.
 fn multiply(table: &Table, pairs: &[Pair]) -> bool
@@ -183,6 +175,7 @@ fn multiply(table: &Table, pairs: &[Pair]) -> bool
     if !are_worked(Heaps::OfEight, pairs) || pairs.len() != 22 {
         return false;
     }
+    is_monoid(table);
     let monoid = Pairs { table };
     monoid.times(&pairs[0], &pairs[8]) == pair(7, &[2, 3, 4, 5]) && monoid.one() == pair(0, &[])
 }
@@ -208,7 +201,12 @@ fn count_most(alloc: Global, code: &Code, table: &Table) -> usize
     requires { table.now.order ≡ 2 }
 {
     match vec![in alloc; 1u16; 1024] {
-        Ok(entries) => match heap_pairs(alloc, code, table, &Phi::new(1, 1024, entries)) {
+        Ok(entries) => match heap_pairs::<1, Global>(
+            alloc,
+            code,
+            table,
+            &Phi::new(1, 1024, entries),
+        ) {
             Ok(pairs) => pairs.len(),
             Err(_) => 0,
         },

@@ -2,7 +2,7 @@
 use Rattle.std.proofs.Common.{◌≡◌, ◌⊎◌, ℕ, ◌+◌, ◌-◌, ◌^◌, ◌<◌, ◌≤◌, Bool, true, false, List, refl, ◌∙◌, ap, inl, inr, arith}
 use native.Mathlib.Decide.{dec_lt}
 use Rattle.checker.specs.JobViews.{JobView, HasAdvanced}
-use Rattle.checker.specs.Stages.{has_ended, ending}
+use Rattle.checker.specs.Stages.{has_ended, ending, phase_of}
 use Rattle.checker.specs.declared.stage.Stage.{Stage}
 use Rattle.checker.proofs.StageLemmas.{going-none, none-going}
 
@@ -27,11 +27,11 @@ module _ (bytes : List ℕ) (limit : ℕ) where
     limit = refl;
     ended = λ f. elim (either (has_ended s)) [
       | inl e ↦ (let k = (stays e).1 in same _ _ t s (omega arith) (stays e).0)
-      | inr e ↦ absurd (f (going-none s e))
+      | inr e ↦ absurd (f (going-none (phase_of s) e))
     ];
     idle = λ n. same _ _ t s (omega arith) (idle n);
     spent = (omega arith, omega arith);
-    going = λ e. (let g = none-going t e in elim (dec_lt 0 left) [
+    going = λ e. (let g = none-going (phase_of t) e in elim (dec_lt 0 left) [
       | yes b ↦ absurd (let w = whole b in cc)
       | no f ↦ (omega (arith, f), few)
     ]);

@@ -6,8 +6,8 @@ use Rattle.std.specs.Ordering.{nat_cmp}
 use native.Mathlib.Decide.{dec_lt}
 use Rattle.misere_theory.specs.Certificates.{Certificate}
 use Rattle.monoid_table.specs.Grids.{Grid}
-use Rattle.transition_algebra.specs.declared.pair.Pair.{Pair}
-use Rattle.pair_closure.specs.declared.members.Member.{Member}
+use Rattle.transition_algebra.specs.OverSets.{Pair}
+use Rattle.pair_closure.specs.OverSets.{Member}
 use Rattle.pair_closure.proofs.OptionLaws.{some_or_empty}
 use Rattle.pair_closure.specs.Turns.{State, heap_turn, pending}
 use Rattle.pair_closure.specs.ClosureViews.{ClosureView, begun, turn, moved, step, steps, has_ended, is_over, is_done, blank_held}

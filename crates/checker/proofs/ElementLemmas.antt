@@ -11,7 +11,7 @@ use Rattle.misere_theory.specs.Quotients.{HeapOptionValue}
 use Rattle.misere_theory.specs.Pairs.{ElementsObey}
 use Rattle.misere_theory.specs.Certificates.{Certificate, InRanges, claim_of, times_of, phi_at}
 use Rattle.misere_theory.proofs.Written.{phi_in}
-use Rattle.transition_algebra.specs.declared.pair.Pair.{Pair}
+use Rattle.transition_algebra.specs.OverSets.{Pair}
 use Rattle.transition_algebra.specs.Pairs.{IsPair, one}
 use Rattle.checker.specs.Closings.{ObeysAt, LeadsIn, ElementsSoFar}
 use Rattle.checker.specs.Bounds.{bound_of}

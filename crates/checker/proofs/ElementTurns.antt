@@ -3,7 +3,7 @@ use Rattle.std.proofs.Common.{◌≡◌, ℕ, zero, suc, ◌+◌, ◌-◌, ◌<�
 use Rattle.std.specs.FinSet as set
 use Rattle.std.specs.Ordering.{nat_cmp}
 use Rattle.misere_theory.specs.Certificates.{Certificate, InRanges, times_of}
-use Rattle.transition_algebra.specs.declared.pair.Pair.{Pair}
+use Rattle.transition_algebra.specs.OverSets.{Pair}
 use Rattle.certificate.specs.Fields.{grid_of}
 use Rattle.pair_closure.specs.ClosureViews.{begun}
 use Rattle.answers.specs.ByteVerdicts.ByteVerdict.{Outcome}

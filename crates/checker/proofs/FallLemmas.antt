@@ -6,7 +6,7 @@ use Rattle.misere_theory.specs.Certificates.{Certificate, InRanges}
 use Rattle.certificate_text.specs.Reading.{certificate_at}
 use Rattle.monoid_table.specs.Turns.{triples}
 use Rattle.monoid_table.specs.Grids.{Grid}
-use Rattle.transition_algebra.specs.declared.pair.Pair.{Pair}
+use Rattle.transition_algebra.specs.OverSets.{Pair}
 use Rattle.pair_closure.specs.ClosureViews.{begun, steps, has_ended}
 use Rattle.pair_closure.specs.Calls.{cost as closure_cost}
 use Rattle.checker.specs.Bounds.{bound_of, heaps_most, most_turns}

@@ -13,10 +13,10 @@ use Rattle.misere_theory.proofs.Counting.{bound_counts, position_where, reaches_
 use Rattle.monoid_table.specs.Grids.{Grid}
 use Rattle.transition_algebra.specs.Heaps.{Agrees, AreAllHeapPairs, IsHeapPairs}
 use Rattle.transition_algebra.specs.Pairs.{IsPair}
-use Rattle.transition_algebra.specs.declared.pair.Pair.{Pair}
+use Rattle.transition_algebra.specs.OverSets.{Pair}
 use Rattle.pair_closure.specs.Positions.{as_pair, kept, IsClaimOver, IsClosedOver, IsExceeded, IsWordOf}
 use Rattle.pair_closure.specs.ClosureViews.{blank_held}
-use Rattle.pair_closure.specs.declared.settle.Held.{Held}
+use Rattle.pair_closure.specs.OverSets.{Held}
 use Rattle.pair_closure.specs.Turns.{State}
 use Rattle.pair_closure.proofs.OptionLaws.{items_have, has_items}
 use Rattle.certificate.specs.Fields.{Fields, certificate_of}

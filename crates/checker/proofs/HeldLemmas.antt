@@ -3,8 +3,8 @@ use Rattle.std.proofs.Common.{◌≡◌, ◌⊎◌, ℕ, ◌-◌, ◌<◌, Bool,
 use Rattle.std.specs.FinSet as set
 use Rattle.std.specs.Ordering.{nat_cmp}
 use Rattle.allocation.specs.declared.Memory.{Memory}
-use Rattle.transition_algebra.specs.declared.pair.Pair.{Pair}
-use Rattle.pair_closure.specs.declared.settle.Held.{Held}
+use Rattle.transition_algebra.specs.OverSets.{Pair}
+use Rattle.pair_closure.specs.OverSets.{Held}
 use Rattle.pair_closure.specs.ClosureViews.{blank_held}
 use Rattle.pair_closure.specs.Turns.{State}
 use Rattle.pair_closure.specs.Keeping.{KeepsOne}

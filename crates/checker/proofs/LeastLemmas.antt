@@ -6,7 +6,7 @@ use Rattle.misere_theory.specs.Certificates.{Certificate, InRanges}
 use Rattle.monoid_table.specs.Turns.{JobState, triples, is_over, turn as turn_job}
 use Rattle.transition_algebra.specs.Work.{heap_cost}
 use Rattle.transition_algebra.specs.Heaps.{all_heap_pairs}
-use Rattle.transition_algebra.specs.declared.pair.Pair.{Pair}
+use Rattle.transition_algebra.specs.OverSets.{Pair}
 use Rattle.certificate_text.specs.Reading.{certificate_at}
 use Rattle.certificate.specs.Fields.{grid_of, pretending_of}
 use Rattle.pair_closure.specs.ClosureViews.{ClosureView, begun, moved, is_over as closure_over, is_done}

@@ -1,3 +1,4 @@
+pub mod Fit
 pub mod Rows
 pub mod TableLemmas
 pub mod FaultLemmas

@@ -5,7 +5,7 @@ use Rattle.std.specs.Ordering.{nat_cmp}
 use Rattle.misere_theory.specs.Quotients.{Claim, RuleFails}
 use Rattle.misere_theory.specs.Pairs.{IsPairOf}
 use Rattle.misere_theory.proofs.Refusals.{fails_outside, fails_inside}
-use Rattle.transition_algebra.specs.declared.pair.Pair.{Pair}
+use Rattle.transition_algebra.specs.OverSets.{Pair}
 use Rattle.transition_algebra.specs.Pairs.{is_empty}
 use Rattle.pair_closure.specs.Positions.{as_pair}
 use Rattle.pair_closure.proofs.OptionLaws.{items_have, has_items, some_or_empty}

@@ -9,7 +9,7 @@ use Rattle.misere_theory.specs.Certificates.{IsHeapOf, Certificate, InRanges, Ca
 use Rattle.misere_theory.proofs.Written.{phi_in, key_counts}
 use Rattle.misere_theory.proofs.Shuffles.{Shuffled}
 use Rattle.misere_theory.proofs.Shuffles.Shuffled.{Same, Under, Flip, Then}
-use Rattle.transition_algebra.specs.declared.pair.Pair.{Pair}
+use Rattle.transition_algebra.specs.OverSets.{Pair}
 use Rattle.transition_algebra.specs.Pairs.{IsPair}
 use Rattle.pair_closure.specs.Positions.{put, rising}
 use Rattle.checker.specs.Closings.{ObeysAt, LeadsIn}

@@ -14,7 +14,7 @@ use Rattle.misere_theory.proofs.Counting.{reaches_where}
 use Rattle.misere_theory.proofs.Shuffles.{to_permutation, position_shuffled}
 use Rattle.monoid_table.specs.Grids.{Grid, IsShaped, entry}
 use Rattle.monoid_table.specs.Tables.{IsTableGrid}
-use Rattle.transition_algebra.specs.declared.pair.Pair.{Pair}
+use Rattle.transition_algebra.specs.OverSets.{Pair}
 use Rattle.transition_algebra.specs.Pairs.{IsPair, is_empty}
 use Rattle.transition_algebra.specs.Pretending.{Pretending, IsPretending}
 use Rattle.transition_algebra.specs.Heaps.{Agrees, IsInto, IsHeapPairs, AreAllHeapPairs, all_heap_pairs}

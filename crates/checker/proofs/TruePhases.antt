@@ -4,7 +4,7 @@ use Rattle.misere_theory.specs.Certificates.{Certificate, InRanges, Canonical}
 use Rattle.certificate_text.specs.Spelling.{Spells}
 use Rattle.certificate.specs.Fields.{grid_of}
 use Rattle.monoid_table.specs.Turns.{turns, fresh}
-use Rattle.transition_algebra.specs.declared.pair.Pair.{Pair}
+use Rattle.transition_algebra.specs.OverSets.{Pair}
 use Rattle.pair_closure.specs.ClosureViews as closing
 use Rattle.pair_closure.specs.Turns as turning
 use Rattle.misere_theory.specs.Games.{IsHeapUpTo}

@@ -7,7 +7,7 @@ use Rattle.misere_theory.specs.Quotients.{HeapOptionValue}
 use Rattle.misere_theory.specs.Pairs.{IsClosed, KeptObey, ElementsObey}
 use Rattle.misere_theory.specs.Pairs as theory
 use Rattle.misere_theory.specs.Certificates.{Certificate, Canonical, claim_of, times_of, phi_at}
-use Rattle.transition_algebra.specs.declared.pair.Pair.{Pair}
+use Rattle.transition_algebra.specs.OverSets.{Pair}
 use Rattle.transition_algebra.specs.Pairs.{IsPair}
 use Rattle.transition_algebra.specs.Heaps.{IsHeapPairs}
 use Rattle.certificate.specs.Fields.{Fields, certificate_of}

@@ -2,8 +2,8 @@
 use Rattle.std.specs.Prelude.{◌≡◌, ◌⊎◌, ℕ, ◌<◌, true, false, List, length, slice_index_or}
 use Rattle.std.specs.FinSet as set
 use Rattle.std.specs.Ordering.{nat_cmp}
-use Rattle.transition_algebra.specs.declared.pair.Pair.{Pair}
-use Rattle.pair_closure.specs.declared.settle.Held.{Held}
+use Rattle.transition_algebra.specs.OverSets.{Pair}
+use Rattle.pair_closure.specs.OverSets.{Held}
 use Rattle.pair_closure.specs.ClosureViews.{blank_held}
 
 -- inside the portion there is an option; outside, where there is one, there is one in the portion

@@ -3,7 +3,7 @@ use Rattle.std.specs.Prelude.{◌≡◌, ℕ, ◌+◌, ◌<◌, ◌≤◌, false
 use Rattle.misere_theory.specs.Certificates.{InRanges}
 use Rattle.monoid_table.specs.Grids.{Grid}
 use Rattle.monoid_table.specs.Turns.{triples}
-use Rattle.transition_algebra.specs.declared.pair.Pair.{Pair}
+use Rattle.transition_algebra.specs.OverSets.{Pair}
 use Rattle.transition_algebra.specs.Work.{heap_cost}
 use Rattle.certificate.specs.Fields.{pretending_of}
 use Rattle.pair_closure.specs.ClosureViews as closing

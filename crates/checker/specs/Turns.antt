@@ -7,12 +7,12 @@ use Rattle.misere_theory.specs.Certificates.{Certificate, claim_of, times_of, ph
 use Rattle.certificate_text.specs.Reading.{certificate_at}
 use Rattle.certificate.specs.Fields.{grid_of, pretending_of}
 use Rattle.monoid_table.specs.Turns as table
-use Rattle.transition_algebra.specs.declared.pair.Pair.{Pair}
+use Rattle.transition_algebra.specs.OverSets.{Pair}
 use Rattle.transition_algebra.specs.Pairs.{is_empty}
 use Rattle.transition_algebra.specs.Work.{heap_cost}
 use Rattle.transition_algebra.specs.Heaps.{all_heap_pairs}
 use Rattle.pair_closure.specs.Turns.{State}
-use Rattle.pair_closure.specs.declared.settle.Held.{Held}
+use Rattle.pair_closure.specs.OverSets.{Held}
 use Rattle.pair_closure.specs.ClosureViews as closure
 use Rattle.pair_closure.specs.Positions.{rising, word}
 use Rattle.checker.specs.Bounds.{most_turns}

@@ -2,7 +2,7 @@
 use Rattle.std.specs.Prelude.{ℕ, ◌+◌, ◌-◌, Bool, List, length}
 use Rattle.misere_theory.specs.Certificates.{Certificate}
 use Rattle.monoid_table.specs.Turns.{JobState, triples}
-use Rattle.transition_algebra.specs.declared.pair.Pair.{Pair}
+use Rattle.transition_algebra.specs.OverSets.{Pair}
 use Rattle.transition_algebra.specs.Work.{heap_cost}
 use Rattle.certificate.specs.Fields.{pretending_of}
 use Rattle.pair_closure.specs.ClosureViews as closing

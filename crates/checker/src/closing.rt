@@ -10,16 +10,16 @@ ghost use Rattle.checker.specs.Closings.{HavePairs};
 ghost use Rattle.checker.specs.Bounds.{bound_of};
 ghost use Rattle.checker.specs.Turns.Phase.{Closing as AtClosing};
 ghost use Rattle.checker.specs.Closes.{HasClosed, GoesOn};
-ghost use Rattle.checker.specs.Stages.{Carries, Comes, reached};
+ghost use Rattle.checker.specs.Stages.{Carries, Comes, arrived};
 
 use crate::lawful_certificate::LawfulCertificate;
-use crate::lines::Lines;
+use crate::lines::{Lines, set_of};
+use crate::paired::{Paired, Worked};
 use crate::rule::obeys;
-use crate::stage::Stage;
 use allocation::{Memory, SmallAllocator};
 use answers::{Certified, Refusal};
 use certificate::{Cert, Fields};
-use element_sets::ElementSet;
+use element_sets::LaneSet;
 use misere_theory::certificates::tested_certificates_are_accepted;
 use octal_code::Code;
 use pair_closure::{Closure, Grown};
@@ -29,27 +29,30 @@ use transition_algebra::{Pair, Phi};
 
 /// The pairs are closed, a product a turn, and each obeys the rule as it is kept.
 #[derive(Drop)]
-pub struct Closing<A: SmallAllocator = Global> {
+pub struct Closing<const LANES: usize, A: SmallAllocator = Global> {
     code: Code,
     phi: Phi<A>,
     lines: Lines<A>,
-    closure: Closure<A>,
+    /// The portion, in so many lanes.
+    inside: LaneSet<LANES>,
+    closure: Closure<LANES, A>,
 }
 
-impl<A: SmallAllocator> Model for Closing<A> {
+impl<const LANES: usize, A: SmallAllocator> Model for Closing<LANES, A> {
     ghost use Rattle.certificate.specs.Fields.{certificate_of};
     ghost use Rattle.checker.specs.LawfulCertificates.{fields_of};
-    ghost use Rattle.std.specs.Prelude.{◌≡◌, false};
+    ghost use Rattle.std.specs.Prelude.{◌≡◌, ◌≤◌, false};
     ghost use Rattle.pair_closure.specs.ClosureViews.{has_ended};
     ghost use Rattle.checker.specs.Views.{ClosingView};
     ghost use Rattle.checker.specs.Closings.{IsClosing};
     ghost use Rattle.checker.specs.Rules.{HeldObey};
-    ghost use Rattle.element_sets.specs.contracts.ElementSet as e;
-    ghost use Rattle.std.specs.Coded.{codes};
+    ghost use Rattle.std.specs.FinSet as set;
+    ghost use Rattle.std.specs.Ordering.{nat_cmp};
+    ghost use Rattle.std.specs.Coded.{codes, coded_ℕ};
 
     ghost Value = { ClosingView };
 
-    ghost coded = { Prim.hlevel (codes, e.the_row.coded) };
+    ghost coded = { Prim.hlevel (codes, set.code {R = nat_cmp} coded_ℕ) };
 
     ghost view = { λ s.
         record {
@@ -63,10 +66,12 @@ impl<A: SmallAllocator> Model for Closing<A> {
     ghost invariant = { λ s.
         IsClosing
         (fields_of s.code s.closure.state.table s.phi s.lines.portion.items s.lines.words.items
-        s.lines.apart.items) s.lines.inside s.closure.state.heaps
-        × HeldObey s.lines.inside s.closure.state.held
+        s.lines.apart.items) s.inside s.closure.state.heaps
+        × HeldObey s.inside s.closure.state.held
         × (has_ended s.closure.state ≡ false)
-        × (s.closure.failed ≡ false) };
+        × (s.closure.failed ≡ false)
+        × (s.inside ≡ s.lines.inside)
+        × (LANES ≤ 64) };
 }
 
 /// How far the pairs are closed.
@@ -83,9 +88,9 @@ enum Looked {
 }
 
 /// Closes the pairs, and looks at the rule at each member in the turn that keeps it.
-fn close<A: SmallAllocator + Copy>(
-    closure: &mut Closure<A>,
-    inside: &ElementSet,
+fn close<const LANES: usize, A: SmallAllocator + Copy>(
+    closure: &mut Closure<LANES, A>,
+    inside: &LaneSet<LANES>,
     left: &mut u64,
 ) -> Result<Looked, Memory>
     requires obey { HeldObey inside.now closure.old.state.held }
@@ -147,14 +152,16 @@ fn accepted<A: SmallAllocator>(certificate: LawfulCertificate<A>) -> Certified<A
     Certified::new(cert, inside)
 }
 
-impl<A: SmallAllocator + Copy> Closing<A> {
+impl<const LANES: usize, A: SmallAllocator + Copy> Closing<LANES, A> {
     /// No member is held.
     pub fn new(
         alloc: A,
         certificate: LawfulCertificate<A>,
-        pairs: Vec<Pair, A>,
+        pairs: Vec<Pair<LaneSet<LANES>>, A>,
         limit: u32,
-    ) -> Closing<A>
+    ) -> Self
+        requires fits { certificate.order ≤ 64 * LANES }
+        requires few { LANES ≤ 64 }
         requires canonical { Canonical certificate }
         requires pairs { HavePairs certificate pairs.items }
         requires elements { ElementsObey certificate.code (claim_of certificate) (IsHeapUpTo (bound_of certificate)) }
@@ -167,39 +174,43 @@ impl<A: SmallAllocator + Copy> Closing<A> {
             phi,
             lines,
         } = certificate;
+        let inside = set_of(&lines.portion);
         Closing {
             code,
             phi,
             lines,
+            inside,
             closure: Closure::new(alloc, table, pairs, limit),
         }
     }
 
     /// Spends units until there are none or the stage ends.
-    pub fn work(self, left: &mut u64) -> Result<Stage<A>, Refusal<A>>
-        ensures carries { Carries self.certificate self.closure.state.limit (reached result) }
+    pub fn work(self, left: &mut u64) -> Result<Worked<LANES, A>, Refusal<A>>
+        ensures carries { Carries self.certificate self.closure.state.limit (arrived result) }
         ensures comes { (bytes : List ℕ) (limit : ℕ)
-            → Comes bytes limit (AtClosing self) left.old left.new (reached result) }
+            → Comes bytes limit (AtClosing self) left.old left.new (arrived result) }
     {
         let Closing {
             code,
             phi,
             lines,
+            inside,
             mut closure,
         } = self;
-        let closed = close(&mut closure, &lines.inside, left);
+        let closed = close(&mut closure, &inside, left);
         closure.shows_pairs();
         match closed {
             Err(_) => {
                 drop((phi, lines, closure));
                 Err(Refusal::Memory)
             }
-            Ok(Looked::More) => Ok(Stage::Closing(Closing {
+            Ok(Looked::More) => Ok(Worked::On(Paired::Closing(Closing {
                 code,
                 phi,
                 lines,
+                inside,
                 closure,
-            })),
+            }))),
             Ok(Looked::Over) => {
                 drop((phi, lines, closure));
                 Err(Refusal::Limit)
@@ -217,12 +228,12 @@ impl<A: SmallAllocator + Copy> Closing<A> {
             Ok(Looked::Done) => {
                 let (table, _) = closure.finish();
                 tested_certificates_are_accepted();
-                Ok(Stage::Ended(Ok(accepted(LawfulCertificate {
+                Ok(Worked::Yes(accepted(LawfulCertificate {
                     code,
                     table,
                     phi,
                     lines,
-                }))))
+                })))
             }
         }
     }

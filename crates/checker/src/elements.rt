@@ -9,14 +9,14 @@ ghost use Rattle.answers.specs.ByteVerdicts.ByteVerdict.{Outcome};
 ghost use Rattle.pair_closure.specs.Positions.{rising};
 ghost use Rattle.checker.specs.Turns.{keys_from, Runs};
 ghost use Rattle.checker.specs.Turns.Phase.{Elements as AtElements, Ended as AtEnded};
-ghost use Rattle.checker.specs.Stages.{Carries, Comes, phase_of, reached};
+ghost use Rattle.checker.specs.Stages.{Carries, Comes, arrived};
 
 use crate::closing::Closing;
 use crate::lawful_certificate::{LawfulCertificate, is_lawful};
-use crate::stage::Stage;
+use crate::paired::{Paired, Worked};
 use allocation::{Memory, SmallAllocator};
 use answers::{Refusal, position_of, spelled_sizes_are_positions};
-use element_sets::ElementSet;
+use element_sets::LaneSet;
 use positions::Position;
 use std::alloc::Global;
 use std::marker::Model;
@@ -25,47 +25,54 @@ use transition_algebra::Pair;
 /// The heaps and the values of options are looked at, one of each a turn: no element beside both is
 /// in the portion with the heap and with its option.
 #[derive(Drop)]
-pub struct Elements<A: SmallAllocator = Global> {
+pub struct Elements<const LANES: usize, A: SmallAllocator = Global> {
     certificate: LawfulCertificate<A>,
-    pairs: Vec<Pair, A>,
+    pairs: Vec<Pair<LaneSet<LANES>>, A>,
     /// For each element those that take it into the portion.
-    contexts: Vec<ElementSet, A>,
+    contexts: Vec<LaneSet<LANES>, A>,
     /// The next heap, less one,
     heap: usize,
     /// and the next value.
     option: u16,
 }
 
-impl<A: SmallAllocator> Model for Elements<A> {
+impl<const LANES: usize, A: SmallAllocator> Model for Elements<LANES, A> {
     ghost use Rattle.misere_theory.specs.Games.{IsPosition};
     ghost use Rattle.misere_theory.specs.Quotients.{RuleFails};
-    ghost use Rattle.std.specs.Prelude.{◌<◌, length};
+    ghost use Rattle.std.specs.Prelude.{◌<◌, ◌≤◌, ◌*◌, length};
     ghost use Rattle.checker.specs.Views.{ElementsView};
     ghost use Rattle.checker.specs.Closings.{ElementsSoFar};
-    ghost use Rattle.element_sets.specs.contracts.ElementSet as e;
-    ghost use Rattle.std.specs.Coded.{codes};
+    ghost use Rattle.std.specs.FinSet as set;
+    ghost use Rattle.std.specs.Ordering.{nat_cmp};
+    ghost use Rattle.std.specs.Coded.{codes, coded_ℕ};
 
     ghost Value = { ElementsView };
 
-    ghost coded = { Prim.hlevel (codes, e.the_row.coded) };
+    ghost coded = { Prim.hlevel (codes, set.code {R = nat_cmp} coded_ℕ) };
 
     ghost view = { λ s.
         record { certificate = s.certificate; pairs = s.pairs.items; heap = s.heap; option = s.option } };
 
     ghost invariant = { λ s. ElementsSoFar s.certificate s.pairs.items s.contexts.items s.heap s.option
-        × (s.heap < length s.pairs.items) };
+        × (s.heap < length s.pairs.items)
+        × (s.certificate.order ≤ 64 * LANES)
+        × (LANES ≤ 64) };
 }
 
 /// The elements that take x into the portion.
-fn context<A: SmallAllocator>(certificate: &LawfulCertificate<A>, x: u16) -> ElementSet
-    requires { x < certificate.now.order }
+fn context<const LANES: usize, A: SmallAllocator>(
+    certificate: &LawfulCertificate<A>,
+    x: u16,
+) -> LaneSet<LANES>
+    requires fits { certificate.now.order ≤ 64 * LANES }
+    requires element { x < certificate.now.order }
     ensures each { (y : ℕ) → set.contains result y ≡ true → (y < certificate.now.order)
         × ((claim_of certificate.now).portion (times_of certificate.now x y) ≡ true) }
     ensures all { (y : ℕ) → y < certificate.now.order
         → (claim_of certificate.now).portion (times_of certificate.now x y) ≡ true
         → set.contains result y ≡ true }
 {
-    let mut all = ElementSet::new();
+    let mut all = LaneSet::new();
     for y in 0..certificate.order() {
         if !certificate.holds(certificate.times(x, y)) {
             continue;
@@ -76,10 +83,12 @@ fn context<A: SmallAllocator>(certificate: &LawfulCertificate<A>, x: u16) -> Ele
 }
 
 /// For each element those that take it into the portion.
-fn contexts<A: SmallAllocator + Copy>(
+fn contexts<const LANES: usize, A: SmallAllocator + Copy>(
     alloc: A,
     certificate: &LawfulCertificate<A>,
-) -> Result<Vec<ElementSet, A>, Memory>
+) -> Result<Vec<LaneSet<LANES>, A>, Memory>
+    requires fits { certificate.now.order ≤ 64 * LANES }
+    requires few { LANES ≤ 64 }
     ensures { IfOk result (λ all. AreContexts certificate.now all.items) }
 {
     let mut all = Vec::new(alloc);
@@ -90,7 +99,7 @@ fn contexts<A: SmallAllocator + Copy>(
 }
 
 /// The first element below the order that is in both sets.
-fn common(a: &ElementSet, b: &ElementSet, order: u16) -> Option<u16>
+fn common<const LANES: usize>(a: &LaneSet<LANES>, b: &LaneSet<LANES>, order: u16) -> Option<u16>
     ensures within { IfSome result (λ y. y < order) }
     ensures first { IfSome result (λ y. set.contains a.now y ≡ true) }
     ensures second { IfSome result (λ y. set.contains b.now y ≡ true) }
@@ -133,15 +142,15 @@ fn position_with<A: SmallAllocator + Copy>(
 }
 
 /// The rule fails at a position.
-fn rule_fails<A: SmallAllocator>(
+fn rule_fails<const LANES: usize, A: SmallAllocator>(
     certificate: LawfulCertificate<A>,
     position: Position<A>,
-) -> Result<Stage<A>, Refusal<A>>
+) -> Result<Worked<LANES, A>, Refusal<A>>
     requires canonical { Canonical certificate }
     requires position { IsPosition (IsHeapOf certificate) position }
     requires fails { RuleFails certificate.code (claim_of certificate) position }
-    ensures carries { (limit : ℕ) → Carries certificate limit (reached result) }
-    ensures shown { phase_of (reached result) ≡ AtEnded (Outcome certificate.code position) }
+    ensures carries { (limit : ℕ) → Carries certificate limit (arrived result) }
+    ensures shown { arrived result ≡ AtEnded (Outcome certificate.code position) }
 {
     is_lawful(&certificate);
     let code = certificate.code;
@@ -150,7 +159,12 @@ fn rule_fails<A: SmallAllocator>(
 }
 
 /// The first element that is in the portion beside the heap of the pair and beside its option.
-fn breach(pair: &Pair, contexts: &[ElementSet], option: u16, order: u16) -> Option<u16>
+fn breach<const LANES: usize>(
+    pair: &Pair<LaneSet<LANES>>,
+    contexts: &[LaneSet<LANES>],
+    option: u16,
+    order: u16,
+) -> Option<u16>
     requires value { pair.now.value < length contexts.now }
     requires option { option < length contexts.now }
     requires below { option < order }
@@ -177,13 +191,15 @@ fn breach(pair: &Pair, contexts: &[ElementSet], option: u16, order: u16) -> Opti
     )
 }
 
-impl<A: SmallAllocator + Copy> Elements<A> {
+impl<const LANES: usize, A: SmallAllocator + Copy> Elements<LANES, A> {
     /// Nothing was looked at.
     pub fn new(
         alloc: A,
         certificate: LawfulCertificate<A>,
-        pairs: Vec<Pair, A>,
-    ) -> Result<Elements<A>, Memory>
+        pairs: Vec<Pair<LaneSet<LANES>>, A>,
+    ) -> Result<Self, Memory>
+        requires fits { certificate.order ≤ 64 * LANES }
+        requires few { LANES ≤ 64 }
         requires canonical { Canonical certificate }
         requires pairs { HavePairs certificate pairs.items }
         ensures value { IfOk result
@@ -222,10 +238,10 @@ impl<A: SmallAllocator + Copy> Elements<A> {
     }
 
     /// Spends units until there are none or the stage ends.
-    pub fn work(self, alloc: A, limit: u32, left: &mut u64) -> Result<Stage<A>, Refusal<A>>
-        ensures carries { Carries self.certificate limit (reached result) }
+    pub fn work(self, alloc: A, limit: u32, left: &mut u64) -> Result<Worked<LANES, A>, Refusal<A>>
+        ensures carries { Carries self.certificate limit (arrived result) }
         ensures comes { (bytes : List ℕ)
-            → Comes bytes limit (AtElements self) left.old left.new (reached result) }
+            → Comes bytes limit (AtElements self) left.old left.new (arrived result) }
     {
         let Elements {
             certificate,
@@ -237,13 +253,13 @@ impl<A: SmallAllocator + Copy> Elements<A> {
         let order = certificate.order();
         'heaps: while heap < pairs.len() {
             if *left == 0 {
-                return Ok(Stage::Elements(Elements {
+                return Ok(Worked::On(Paired::Elements(Elements {
                     certificate,
                     pairs,
                     contexts,
                     heap,
                     option,
-                }));
+                })));
             }
             *left -= 1;
             if let Some(y) = breach(&pairs[heap], &contexts, option, order) {
@@ -262,6 +278,7 @@ impl<A: SmallAllocator + Copy> Elements<A> {
                 heap += 1;
             }
         }
-        Ok(Stage::Closing(Closing::new(alloc, certificate, pairs, limit)))
+        let closing = Closing::new(alloc, certificate, pairs, limit);
+        Ok(Worked::On(Paired::Closing(closing)))
     }
 }

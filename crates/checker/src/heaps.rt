@@ -1,14 +1,14 @@
 //! The stage that makes the pairs of the heaps.
-ghost use Rattle.std.specs.Prelude.{◌≡◌, ◌<◌, ◌+◌, ◌*◌, ℕ, List};
+ghost use Rattle.std.specs.Prelude.{◌≡◌, ◌<◌, ◌≤◌, ◌+◌, ◌*◌, ℕ, List};
 ghost use Rattle.misere_theory.specs.Certificates.{Canonical};
 ghost use Rattle.checker.specs.Turns.{Runs};
 ghost use Rattle.checker.specs.Turns.Phase.{Heaps as AtHeaps};
-ghost use Rattle.checker.specs.Stages.{Carries, Comes, reached};
+ghost use Rattle.checker.specs.Stages.{Carries, Comes, arrived};
 
 use crate::elements::Elements;
 use crate::lawful_certificate::LawfulCertificate;
 use crate::lines::Lines;
-use crate::stage::Stage;
+use crate::paired::{Paired, Worked};
 use allocation::SmallAllocator;
 use answers::Refusal;
 use std::alloc::Global;
@@ -17,13 +17,13 @@ use transition_algebra::{HeapJob, heap_jobs_end};
 
 /// The pairs of the heaps 1 to B are made, an option a turn.
 #[derive(Drop)]
-pub struct Heaps<A: SmallAllocator = Global> {
+pub struct Heaps<const LANES: usize, A: SmallAllocator = Global> {
     lines: Lines<A>,
-    job: HeapJob<A>,
+    job: HeapJob<LANES, A>,
 }
 
-impl<A: SmallAllocator> Model for Heaps<A> {
-    ghost use Rattle.std.specs.Prelude.{◌<◌};
+impl<const LANES: usize, A: SmallAllocator> Model for Heaps<LANES, A> {
+    ghost use Rattle.std.specs.Prelude.{◌<◌, ◌≤◌, ◌*◌};
     ghost use Rattle.transition_algebra.specs.Work.{heap_cost};
     ghost use Rattle.checker.specs.Views.{HeapsView};
     ghost use Rattle.certificate.specs.Fields.{certificate_of};
@@ -44,13 +44,17 @@ impl<A: SmallAllocator> Model for Heaps<A> {
         IsCanonicalCertificate
         (fields_of s.job.code s.job.table s.job.phi s.lines.portion.items s.lines.words.items
         s.lines.apart.items) s.lines.inside
-        × (s.job.spent < heap_cost s.job.code s.job.phi) };
+        × (s.job.spent < heap_cost s.job.code s.job.phi)
+        × (s.job.table.order ≤ 64 * LANES)
+        × (LANES ≤ 64) };
 }
 
-impl<A: SmallAllocator + Copy> Heaps<A> {
+impl<const LANES: usize, A: SmallAllocator + Copy> Heaps<LANES, A> {
     /// No option was tried.
-    pub fn new(alloc: A, certificate: LawfulCertificate<A>) -> Heaps<A>
-        requires { Canonical certificate }
+    pub fn new(alloc: A, certificate: LawfulCertificate<A>) -> Self
+        requires fits { certificate.order ≤ 64 * LANES }
+        requires few { LANES ≤ 64 }
+        requires canonical { Canonical certificate }
         ensures value { result ≡ record { certificate = certificate; spent = 0 } }
     {
         let LawfulCertificate {
@@ -78,10 +82,10 @@ impl<A: SmallAllocator + Copy> Heaps<A> {
     }
 
     /// Spends units until there are none or the stage ends.
-    pub fn work(self, alloc: A, left: &mut u64) -> Result<Stage<A>, Refusal<A>>
-        ensures carries { (limit : ℕ) → Carries self.certificate limit (reached result) }
+    pub fn work(self, alloc: A, left: &mut u64) -> Result<Worked<LANES, A>, Refusal<A>>
+        ensures carries { (limit : ℕ) → Carries self.certificate limit (arrived result) }
         ensures comes { (bytes : List ℕ) (limit : ℕ)
-            → Comes bytes limit (AtHeaps self) left.old left.new (reached result) }
+            → Comes bytes limit (AtHeaps self) left.old left.new (arrived result) }
     {
         let Heaps { lines, mut job } = self;
         let before = job.spent();
@@ -92,7 +96,7 @@ impl<A: SmallAllocator + Copy> Heaps<A> {
                 drop((lines, job));
                 Err(Refusal::Memory)
             }
-            Ok(false) => Ok(Stage::Heaps(Heaps { lines, job })),
+            Ok(false) => Ok(Worked::On(Paired::Heaps(Heaps { lines, job }))),
             Ok(true) => {
                 let (code, table, phi, pairs) = job.finish();
                 let certificate = LawfulCertificate {
@@ -102,7 +106,7 @@ impl<A: SmallAllocator + Copy> Heaps<A> {
                     lines,
                 };
                 match Elements::new(alloc, certificate, pairs) {
-                    Ok(elements) => Ok(Stage::Elements(elements)),
+                    Ok(elements) => Ok(Worked::On(Paired::Elements(elements))),
                     Err(_) => Err(Refusal::Memory),
                 }
             }

@@ -31,12 +31,12 @@ impl<A: SmallAllocator> Model for Job<A> {
 
     ghost Value = { JobView };
 
-    ghost use Rattle.checker.specs.Stages.{StandsAfter, ending};
+    ghost use Rattle.checker.specs.Stages.{StandsAfter, ending, phase_of};
 
     ghost view = { λ j.
         record { bytes = j.bytes.items; limit = j.limit; spent = j.spent; ended = ending j.stage } };
 
-    ghost invariant = { λ j. StandsAfter j.bytes.items j.limit j.spent j.stage };
+    ghost invariant = { λ j. StandsAfter j.bytes.items j.limit j.spent (phase_of j.stage) };
 }
 
 impl<A: SmallAllocator + Copy> Job<A> {

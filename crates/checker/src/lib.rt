@@ -14,6 +14,7 @@ mod keys;
 mod lawful_certificate;
 mod laws;
 mod lines;
+mod paired;
 mod periods;
 mod products;
 mod reading;

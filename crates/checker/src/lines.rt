@@ -1,11 +1,10 @@
 //! The lines of a certificate that no other stage takes over.
-ghost use Rattle.std.specs.Prelude.{◌≡◌, ◌==◌, ◌<◌, ℕ, All};
+ghost use Rattle.std.specs.Prelude.{◌≡◌, ◌==◌, ◌*◌, ◌<◌, ℕ, All};
 ghost use Rattle.std.specs.List.{list_any};
 ghost use Rattle.std.specs.FinSet as set;
-ghost use Rattle.element_sets.specs.declared.TheConstants.{MOST_ELEMENTS};
 
 use certificate::Key;
-use element_sets::ElementSet;
+use element_sets::{ElementSet, LaneSet};
 use std::alloc::{Allocator, Global};
 
 /// The portion, as a list and as a set, the keys, and the separating elements.
@@ -18,11 +17,11 @@ pub struct Lines<A: Allocator = Global> {
 }
 
 /// The set of the elements of a list.
-pub fn set_of(elements: &[u16]) -> ElementSet
-    requires { All (λ x. x < MOST_ELEMENTS) elements.now }
+pub fn set_of<const LANES: usize>(elements: &[u16]) -> LaneSet<LANES>
+    requires { All (λ x. x < 64 * LANES) elements.now }
     ensures { (x : ℕ) → set.contains result x ≡ list_any (λ y. y == x) elements.now }
 {
-    let mut all = ElementSet::new();
+    let mut all = LaneSet::new();
     for x in elements {
         all.insert(*x);
     }

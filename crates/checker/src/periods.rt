@@ -63,7 +63,7 @@ impl<A: SmallAllocator + Copy> Periods<A> {
 
     /// Spends units until there are none or the stage ends.
     pub fn work(self, left: &mut u64) -> Result<Stage<A>, Refusal<A>>
-        ensures carries { (limit : ℕ) → Carries self.certificate limit (reached result) }
+        ensures carries { (limit : ℕ) → Carries self.certificate limit (phase_of (reached result)) }
         ensures works { (bytes : List ℕ) (limit : ℕ)
             → Works bytes limit (AtPeriods self) left.old left.new (phase_of (reached result)) }
     {

@@ -1,7 +1,7 @@
 //! The stage that reads the bytes.
 ghost use Rattle.std.specs.Prelude.{◌*◌, ℕ};
 ghost use Rattle.checker.specs.Turns.Phase.{Reading as AtReading};
-ghost use Rattle.checker.specs.Stages.{Stands, Comes, reached};
+ghost use Rattle.checker.specs.Stages.{Stands, Comes, phase_of, reached};
 
 use crate::laws::Laws;
 use crate::stage::Stage;
@@ -15,9 +15,9 @@ pub fn work<A: SmallAllocator + Copy>(
     bytes: &[u8],
     left: &mut u64,
 ) -> Result<Stage<A>, Refusal<A>>
-    ensures stands { (limit : ℕ) → Stands bytes.now limit (reached result) }
+    ensures stands { (limit : ℕ) → Stands bytes.now limit (phase_of (reached result)) }
     ensures comes { (limit : ℕ)
-        → Comes bytes.now limit AtReading left.old left.new (reached result) }
+        → Comes bytes.now limit AtReading left.old left.new (phase_of (reached result)) }
 {
     certificate_text::reading_is_spelling();
     if *left == 0 {

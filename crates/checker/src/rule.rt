@@ -2,11 +2,11 @@
 ghost use Rattle.std.specs.Prelude.{◌⊎◌, IsTrue};
 ghost use Rattle.checker.specs.Rules.{Obeys, Breaks};
 
-use element_sets::ElementSet;
+use element_sets::LaneSet;
 use transition_algebra::Pair;
 
 /// Whether the pair obeys the rule, but for options in the portion of a value in the portion.
-pub fn obeys(inside: &ElementSet, pair: &Pair) -> bool
+pub fn obeys<const LANES: usize>(inside: &LaneSet<LANES>, pair: &Pair<LaneSet<LANES>>) -> bool
     ensures yes { IsTrue result → Obeys inside.now pair.now }
     ensures no { IsTrue result ⊎ Breaks inside.now pair.now }
 {

@@ -6,8 +6,8 @@ ghost use Rattle.checker.specs.Turns.{tells_apart, Runs, Works};
 ghost use Rattle.checker.specs.Turns.Phase.{Separating as AtSeparating};
 ghost use Rattle.checker.specs.Stages.{Carries, phase_of, reached};
 
-use crate::heaps::Heaps;
 use crate::lawful_certificate::{LawfulCertificate, is_lawful};
+use crate::paired::over_pairs;
 use crate::stage::Stage;
 use allocation::SmallAllocator;
 use answers::Refusal;
@@ -108,7 +108,7 @@ impl<A: SmallAllocator + Copy> Separating<A> {
 
     /// Spends units until there are none or the stage ends.
     pub fn work(self, alloc: A, left: &mut u64) -> Result<Stage<A>, Refusal<A>>
-        ensures carries { (limit : ℕ) → Carries self.certificate limit (reached result) }
+        ensures carries { (limit : ℕ) → Carries self.certificate limit (phase_of (reached result)) }
         ensures works { (bytes : List ℕ) (limit : ℕ)
             → Works bytes limit (AtSeparating self) left.old left.new (phase_of (reached result)) }
     {
@@ -153,6 +153,6 @@ impl<A: SmallAllocator + Copy> Separating<A> {
                 y = x + 1;
             }
         }
-        Ok(Stage::Heaps(Heaps::new(alloc, certificate)))
+        Ok(over_pairs(alloc, certificate))
     }
 }

@@ -3,11 +3,9 @@ ghost use Rattle.std.specs.Prelude.{◌≡◌, ◌*◌, ◌+◌, ◌-◌, ◌<�
 ghost use Rattle.answers.specs.ByteVerdicts.{answer_of};
 ghost use Rattle.checker.specs.Turns.{Runs, stage_of};
 
-use crate::closing::Closing;
-use crate::elements::Elements;
-use crate::heaps::Heaps;
 use crate::keys::Keys;
 use crate::laws::Laws;
+use crate::paired::{Paired, Worked};
 use crate::periods::Periods;
 use crate::products::Products;
 use crate::reading;
@@ -25,9 +23,9 @@ pub enum Stage<A: SmallAllocator = Global> {
     Products(Products<A>),
     Periods(Periods<A>),
     Separating(Separating<A>),
-    Heaps(Heaps<A>),
-    Elements(Elements<A>),
-    Closing(Closing<A>),
+    One(Paired<1, A>),
+    Four(Paired<4, A>),
+    Eight(Paired<8, A>),
     Ended(Result<Certified<A>, Refusal<A>>),
 }
 
@@ -63,8 +61,8 @@ impl<A: SmallAllocator + Copy> Stage<A> {
 
     /// Takes turns in place, while the stage surely goes on and there are units.
     fn go_on(&mut self, left: &mut u64)
-        ensures stands { (bytes : List ℕ) (limit : ℕ) → Stands bytes limit self.old
-            → Stands bytes limit self.new }
+        ensures stands { (bytes : List ℕ) (limit : ℕ) → Stands bytes limit (phase_of self.old)
+            → Stands bytes limit (phase_of self.new) }
         ensures runs { (bytes : List ℕ) (limit : ℕ)
             → Runs bytes limit (phase_of self.old) left.old left.new (phase_of self.new) }
         ensures same { stage_of (phase_of self.new) ≡ stage_of (phase_of self.old) }
@@ -74,8 +72,9 @@ impl<A: SmallAllocator + Copy> Stage<A> {
             Stage::Keys(keys) => keys.go_on(left),
             Stage::Products(products) => products.go_on(left),
             Stage::Separating(separating) => separating.go_on(left),
-            Stage::Heaps(heaps) => heaps.go_on(left),
-            Stage::Elements(elements) => elements.go_on(left),
+            Stage::One(paired) => paired.go_on(left),
+            Stage::Four(paired) => paired.go_on(left),
+            Stage::Eight(paired) => paired.go_on(left),
             _ => {}
         }
     }
@@ -83,10 +82,10 @@ impl<A: SmallAllocator + Copy> Stage<A> {
     /// Spends units until there are none or the answer stands. A stage that has ended stays as it
     /// is. It is moved only for what may end it.
     pub fn advance(&mut self, alloc: A, bytes: &[u8], limit: u32, left: &mut u64)
-        requires { Stands bytes.now limit self.old }
-        ensures stands { Stands bytes.now limit self.new }
-        ensures come { (spent : ℕ) → HasCome bytes.now limit spent self.old
-            → HasCome bytes.now limit (spent + (left.old - left.new)) self.new }
+        requires { Stands bytes.now limit (phase_of self.old) }
+        ensures stands { Stands bytes.now limit (phase_of self.new) }
+        ensures come { (spent : ℕ) → HasCome bytes.now limit spent (phase_of self.old)
+            → HasCome bytes.now limit (spent + (left.old - left.new)) (phase_of self.new) }
         ensures spends { left.new ≤ left.old }
         ensures whole { 0 < left.new → has_ended self.new ≡ true }
         ensures ended { has_ended self.old ≡ true → (self.new ≡ self.old) × (left.new ≡ left.old) }
@@ -104,10 +103,10 @@ impl<A: SmallAllocator + Copy> Stage<A> {
 
     /// Spends units until there are none or the answer stands.
     pub fn run(self, alloc: A, bytes: &[u8], limit: u32, left: &mut u64) -> Stage<A>
-        requires { Stands bytes.now limit self }
-        ensures stands { Stands bytes.now limit result }
-        ensures come { (spent : ℕ) → HasCome bytes.now limit spent self
-            → HasCome bytes.now limit (spent + (left.old - left.new)) result }
+        requires { Stands bytes.now limit (phase_of self) }
+        ensures stands { Stands bytes.now limit (phase_of result) }
+        ensures come { (spent : ℕ) → HasCome bytes.now limit spent (phase_of self)
+            → HasCome bytes.now limit (spent + (left.old - left.new)) (phase_of result) }
         ensures spends { left.new ≤ left.old }
         ensures whole { 0 < left.new → has_ended result ≡ true }
     {
@@ -129,10 +128,10 @@ impl<A: SmallAllocator + Copy> Stage<A> {
         limit: u32,
         left: &mut u64,
     ) -> Result<Stage<A>, Refusal<A>>
-        requires { Stands bytes.now limit self }
-        ensures stands { Stands bytes.now limit (reached result) }
+        requires { Stands bytes.now limit (phase_of self) }
+        ensures stands { Stands bytes.now limit (phase_of (reached result)) }
         ensures comes { has_ended self ≡ false
-            → Comes bytes.now limit (phase_of self) left.old left.new (reached result) }
+            → Comes bytes.now limit (phase_of self) left.old left.new (phase_of (reached result)) }
     {
         match self {
             Stage::Reading => reading::work(alloc, bytes, left),
@@ -141,9 +140,18 @@ impl<A: SmallAllocator + Copy> Stage<A> {
             Stage::Products(products) => products.work(left),
             Stage::Periods(periods) => periods.work(left),
             Stage::Separating(separating) => separating.work(alloc, left),
-            Stage::Heaps(heaps) => heaps.work(alloc, left),
-            Stage::Elements(elements) => elements.work(alloc, limit, left),
-            Stage::Closing(closing) => closing.work(left),
+            Stage::One(paired) => match paired.work(alloc, limit, left)? {
+                Worked::On(paired) => Ok(Stage::One(paired)),
+                Worked::Yes(certified) => Ok(Stage::Ended(Ok(certified))),
+            },
+            Stage::Four(paired) => match paired.work(alloc, limit, left)? {
+                Worked::On(paired) => Ok(Stage::Four(paired)),
+                Worked::Yes(certified) => Ok(Stage::Ended(Ok(certified))),
+            },
+            Stage::Eight(paired) => match paired.work(alloc, limit, left)? {
+                Worked::On(paired) => Ok(Stage::Eight(paired)),
+                Worked::Yes(certified) => Ok(Stage::Ended(Ok(certified))),
+            },
             Stage::Ended(answer) => Ok(Stage::Ended(answer)),
         }
     }

@@ -5,8 +5,17 @@ use Rattle.check_command.specs.Checks.{Certifies, ChecksFile}
 use Rattle.descriptions.specs.Described.{IsDescription, IsPresentable}
 use Rattle.relations.specs.declared.text.Notation.{Notation}
 use Rattle.relations.specs.declared.text.Notation.TheVariants as written
+use Rattle.relations.specs.declared.fault.Undescribed.{Undescribed}
+use Rattle.relations.specs.declared.fault.Undescribed.TheVariants as bound
 use Rattle.requests.specs.declared.plans.Output.{Output}
 use Rattle.requests.specs.declared.plans.Output.TheVariants.{Description, Latex, Relations}
+
+-- the line of each bound within which a quotient is not described
+abbrev pub bound_line : Undescribed → List ℕ
+bound_line bound.Letters = codes "not described within 26 generators\n"
+bound_line bound.Exponents = codes "not described within exponents of 64\n"
+bound_line bound.Unshown = codes "not described within 512 rules\n"
+bound_line bound.Memory = codes ""
 
 -- the line says within which bound a quotient is not described
 abbrev pub IsBoundLine : List ℕ → Type 0

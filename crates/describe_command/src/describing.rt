@@ -1,7 +1,7 @@
 //! `describe`: a certified quotient by generators and relations.
 ghost use Rattle.std.specs.Prelude.{◌≡◌, IfOk, IfErr, false};
 ghost use Rattle.command_results.specs.Stops.{IsFileCause};
-ghost use Rattle.describe_command.specs.Described.{Describes, DescribesFound, DescribesIn, DescribesQuotient, IsBoundLine};
+ghost use Rattle.describe_command.specs.Described.{Describes, DescribesFound, DescribesIn, DescribesQuotient, IsBoundLine, bound_line};
 ghost use Rattle.requests.specs.declared.plans.Output.TheVariants.{Relations};
 
 use allocation::Memory;
@@ -23,7 +23,8 @@ fn refuse(alloc: Global, line: &str) -> Result<Said, Memory>
 
 /// The line that says within which bound a quotient is not described.
 fn undescribed(alloc: Global, fault: Undescribed) -> Result<Said, Memory>
-    ensures { IfOk result (λ s. IsBoundLine s.text.items × (s.succeeds ≡ false)) }
+    ensures bound { IfOk result (λ s. IsBoundLine s.text.items × (s.succeeds ≡ false)) }
+    ensures line { IfOk result (λ s. s.text.items ≡ bound_line fault) }
 {
     match fault {
         Undescribed::Letters => refuse(alloc, "not described within 26 generators\n"),

@@ -10,7 +10,7 @@ use Rattle.presentations.specs.Powers.{IsAboveLimit}
 use Rattle.presentations.specs.Tables.{IsTableOf}
 use Rattle.monoid_table.specs.Grids.{Grid}
 use Rattle.presentations.specs.Text.{SpellsPresentation}
-use Rattle.relations.specs.Presented.{ArePresentation, AreNamed, IsListing}
+use Rattle.relations.specs.Presented.{ArePresentation, AreNamed, IsListing, LeadTo}
 use Rattle.relations.specs.declared.text.Notation.{Notation}
 use Rattle.relations.specs.declared.text.Notation.TheVariants.{Plain, Latex}
 use Rattle.descriptions.specs.declared.choosing.Part.TheVariants.{Portion, Units, Idempotents, Kernel}
@@ -33,11 +33,13 @@ TellsTame c (Some n) = IsTame c n
 TellsTame c None = (n : ℕ) → IsTame c n → ⊥
 
 -- The relations present the certificate's monoid, by the elements of the letters a, b, ..; each
--- element is the value of its word; and each element stands in the list once.
+-- element is the value of its word; each relation leads from a word that is none of these to one of
+-- them; and each element stands in the list once.
 pub record Describes (c : Certificate) (elements : List ℕ) (relations : List Relation)
     (words : List (List ℕ)) (listing : List ℕ) : Type 0 where
   pub presentation : ArePresentation (grid_of c) elements relations
   pub named : AreNamed (grid_of c) elements words
+  pub lead : LeadTo words relations
   pub letters : length elements ≤ LETTERS
   pub listing_is : IsListing c.order listing
 

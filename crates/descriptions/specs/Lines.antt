@@ -18,21 +18,27 @@ abbrev pub letters_text : ℕ → List ℕ
 letters_text zero = []
 letters_text (suc n) = letters_text n ++ letter_text n
 
--- the code, the letters and the relations
-abbrev pub head_line : Notation → Certificate → ℕ → List Relation → List ℕ
-head_line Plain c n relations = codes "Q(" ++ code_text c.code ++ codes ") = < " ++ letters_text n
-    ++ codes " | " ++ relations_text Plain n (codes ", ") relations ++ codes " >\n"
-head_line Latex c n relations = codes "\\begin{flushleft}\n$\\mathcal{Q}(\\mathbf{"
-    ++ code_text c.code ++ codes "})=\\langle " ++ letters_text n ++ codes "\\mid "
-    ++ relations_text Latex n (codes "$, $") relations ++ codes "\\rangle$"
+-- The index of a quotient and of its portion: none for that of all heaps, and the last heap M for that
+-- of the heaps 1 to M. Plambeck and Siegel.
+unfoldable pub index_text : Notation → Certificate → List ℕ
+index_text Plain c = if kind_of c == 0 then [] else codes "_" ++ decimal (kind_of c)
+index_text Latex c = if kind_of c == 0 then [] else codes "_{" ++ decimal (kind_of c) ++ codes "}"
 
--- the words of the portion
-abbrev pub portion_line : Notation → ℕ → List (List ℕ) → List ℕ → List ℕ
-portion_line Plain n words elements =
-    codes "P = { " ++ words_text Plain n (codes ", ") words elements ++ codes " }\n"
-portion_line Latex n words elements =
-    codes "\\\\\n$\\mathcal{P}=\\{" ++ words_text Latex n (codes "$, $") words elements
-    ++ codes "\\}$"
+-- the index, the code, the letters and the relations
+abbrev pub head_line : Notation → Certificate → ℕ → List Relation → List ℕ
+head_line Plain c n relations = codes "Q" ++ index_text Plain c ++ codes "(" ++ code_text c.code
+    ++ codes ") = < " ++ letters_text n ++ codes " | "
+    ++ relations_text Plain n (codes ", ") relations ++ codes " >\n"
+head_line Latex c n relations = codes "\\begin{flushleft}\n$\\mathcal{Q}" ++ index_text Latex c
+    ++ codes "(\\mathbf{" ++ code_text c.code ++ codes "})=\\langle " ++ letters_text n
+    ++ codes "\\mid " ++ relations_text Latex n (codes "$, $") relations ++ codes "\\rangle$"
+
+-- the index, and the words of the portion
+abbrev pub portion_line : Notation → Certificate → ℕ → List (List ℕ) → List ℕ → List ℕ
+portion_line Plain c n words elements = codes "P" ++ index_text Plain c ++ codes " = { "
+    ++ words_text Plain n (codes ", ") words elements ++ codes " }\n"
+portion_line Latex c n words elements = codes "\\\\\n$\\mathcal{P}" ++ index_text Latex c
+    ++ codes "=\\{" ++ words_text Latex n (codes "$, $") words elements ++ codes "\\}$"
 
 -- a letter and the first heap of its element
 abbrev pub generator_text : Notation → List ℕ → ℕ → List ℕ
@@ -57,11 +63,12 @@ tame_text Latex (Some n) = codes "tame $\\mathcal{T}_{" ++ decimal n ++ codes "}
 tame_text notation None = codes "wild"
 
 -- how many elements there are, and how many of them are in the portion; tame or wild
-abbrev pub count_line : Notation → ℕ → ℕ → Option ℕ → List ℕ
-count_line Plain order portion tame = codes "order " ++ decimal order ++ codes " portion "
+abbrev pub count_line : Notation → Certificate → ℕ → Option ℕ → List ℕ
+count_line Plain c portion tame = codes "order " ++ decimal c.order ++ codes " portion "
     ++ decimal portion ++ codes " " ++ tame_text Plain tame ++ codes "\n"
-count_line Latex order portion tame = codes "\\\\\n$|\\mathcal{Q}|=" ++ decimal order
-    ++ codes "$, $|\\mathcal{P}|=" ++ decimal portion ++ codes "$, " ++ tame_text Latex tame
+count_line Latex c portion tame = codes "\\\\\n$|\\mathcal{Q}" ++ index_text Latex c ++ codes "|="
+    ++ decimal c.order ++ codes "$, $|\\mathcal{P}" ++ index_text Latex c ++ codes "|="
+    ++ decimal portion ++ codes "$, " ++ tame_text Latex tame
 
 -- a name, and the words of elements
 abbrev pub list_line : Notation → List ℕ → ℕ → List (List ℕ) → List ℕ → List ℕ
@@ -84,8 +91,8 @@ tail_line Latex c = if kind_of c == 0
 abbrev pub front_lines : Notation → Certificate → List Relation → List (List ℕ) → List ℕ → Option ℕ
     → List ℕ → ℕ → List ℕ
 front_lines notation c relations words portion tame heaps n =
-    head_line notation c n relations ++ portion_line notation n words portion
-    ++ count_line notation c.order (length portion) tame ++ generators_line notation heaps n
+    head_line notation c n relations ++ portion_line notation c n words portion
+    ++ count_line notation c (length portion) tame ++ generators_line notation heaps n
 
 -- what ends the lists
 abbrev pub lists_end : Notation → List ℕ

@@ -7,7 +7,9 @@ ghost use Rattle.descriptions.specs.Lines.{front_lines, list_lines, lists_end};
 
 use crate::arrays::arrays_text;
 use crate::finding::{Findings, describe_table, find, table_of};
-use crate::lines::{count_text, generators_text, head_text, list_text, portion_text, tail_text};
+use crate::lines::{
+    count_text, generators_text, head_text, index_text, list_text, portion_text, tail_text,
+};
 use crate::rows::rows_text;
 use allocation::Memory;
 use answers::Certified;
@@ -77,18 +79,29 @@ fn front_text(
         findings.now.heaps.items letters) }
 {
     let (cert, words) = (certified.cert(), findings.description.words.as_slice());
+    let index = index_text(alloc, notation, cert)?;
     let head = head_text(
         alloc,
         notation,
         cert,
+        &index,
         letters,
         &findings.description.relations,
     )?;
-    let portion = portion_text(alloc, notation, letters, words, &findings.portion)?;
+    let portion = portion_text(
+        alloc,
+        notation,
+        cert,
+        &index,
+        letters,
+        words,
+        &findings.portion,
+    )?;
     let count = count_text(
         alloc,
         notation,
-        cert.order(),
+        cert,
+        &index,
         findings.portion.len(),
         findings.tame,
     )?;

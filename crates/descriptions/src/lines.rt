@@ -3,7 +3,7 @@ ghost use Rattle.std.specs.Prelude.{◌≡◌, ◌<◌, ◌≤◌, IfOk, All, le
 ghost use Rattle.std.specs.String.{string_bytes};
 ghost use Rattle.misere_theory.specs.Certificates.{kind_of};
 ghost use Rattle.presentations.specs.declared.TheConstants.{LETTERS};
-ghost use Rattle.descriptions.specs.Lines.{count_line, generator_text, generators_line, generators_text, head_line, letter_text, letters_text, list_line, portion_line, tail_line, tame_text};
+ghost use Rattle.descriptions.specs.Lines.{count_line, generator_text, generators_line, generators_text, head_line, index_text, letter_text, letters_text, list_line, portion_line, tail_line, tame_text};
 
 use allocation::Memory;
 use certificate::Cert;
@@ -36,15 +36,33 @@ fn letters_text(alloc: Global, letters: u8) -> Result<String, AllocError>
     Ok(text)
 }
 
+/// The index of a quotient: the last heap of a partial one.
+#[tactic(auto, unfolding(crate::specs::Lines::index_text))]
+pub fn index_text(alloc: Global, notation: Notation, cert: &Cert) -> Result<String, AllocError>
+    ensures { IfOk result (λ t. string_bytes t ≡ index_text notation cert.now) }
+{
+    let heaps = cert.heaps();
+    if heaps == 0 {
+        return Ok(String::new(alloc));
+    }
+    let text = match notation {
+        Notation::Plain => format!(in alloc; "_{heaps}")?,
+        Notation::Latex => format!(in alloc; "_{{{heaps}}}")?,
+    };
+    Ok(text)
+}
+
 /// The line of the relations.
 pub fn head_text(
     alloc: Global,
     notation: Notation,
     cert: &Cert,
+    index: &str,
     letters: u8,
     relations: &[Relation],
 ) -> Result<String, Memory>
-    requires { letters ≤ LETTERS }
+    requires letters { letters ≤ LETTERS }
+    requires index { index.now ≡ index_text notation cert.now }
     ensures { IfOk result
         (λ t. string_bytes t ≡ head_line notation cert.now letters relations.now) }
 {
@@ -53,13 +71,13 @@ pub fn head_text(
     match notation {
         Notation::Plain => {
             let list = relations_text(alloc, Notation::Plain, letters, ", ", relations)?;
-            let text = format!(in alloc; "Q({code}) = < {names} | {list} >\n")?;
+            let text = format!(in alloc; "Q{index}({code}) = < {names} | {list} >\n")?;
             Ok(text)
         }
         Notation::Latex => {
             let list = relations_text(alloc, Notation::Latex, letters, "$, $", relations)?;
             let text = format!(in alloc;
-                "\\begin{{flushleft}}\n$\\mathcal{{Q}}(\\mathbf{{{code}}})=\\langle {names}\\mid {list}\\rangle$"
+                "\\begin{{flushleft}}\n$\\mathcal{{Q}}{index}(\\mathbf{{{code}}})=\\langle {names}\\mid {list}\\rangle$"
             )?;
             Ok(text)
         }
@@ -70,24 +88,27 @@ pub fn head_text(
 pub fn portion_text(
     alloc: Global,
     notation: Notation,
+    cert: &Cert,
+    index: &str,
     letters: u8,
     words: &[Word],
     elements: &[u16],
 ) -> Result<String, AllocError>
     requires letters { letters ≤ LETTERS }
+    requires index { index.now ≡ index_text notation cert.now }
     requires elements { All (λ e. e < length words.now) elements.now }
-    ensures { IfOk result
-        (λ t. string_bytes t ≡ portion_line notation letters words.now elements.now) }
+    ensures { IfOk result (λ t. string_bytes t
+        ≡ portion_line notation cert.now letters words.now elements.now) }
 {
     match notation {
         Notation::Plain => {
             let list = words_text(alloc, Notation::Plain, letters, ", ", words, elements)?;
-            let text = format!(in alloc; "P = {{ {list} }}\n")?;
+            let text = format!(in alloc; "P{index} = {{ {list} }}\n")?;
             Ok(text)
         }
         Notation::Latex => {
             let list = words_text(alloc, Notation::Latex, letters, "$, $", words, elements)?;
-            let text = format!(in alloc; "\\\\\n$\\mathcal{{P}}=\\{{{list}\\}}$")?;
+            let text = format!(in alloc; "\\\\\n$\\mathcal{{P}}{index}=\\{{{list}\\}}$")?;
             Ok(text)
         }
     }
@@ -136,12 +157,15 @@ fn tame_text(alloc: Global, notation: Notation, tame: Option<u16>) -> Result<Str
 pub fn count_text(
     alloc: Global,
     notation: Notation,
-    order: u16,
+    cert: &Cert,
+    index: &str,
     portion: usize,
     tame: Option<u16>,
 ) -> Result<String, AllocError>
-    ensures { IfOk result (λ t. string_bytes t ≡ count_line notation order portion tame) }
+    requires { index.now ≡ index_text notation cert.now }
+    ensures { IfOk result (λ t. string_bytes t ≡ count_line notation cert.now portion tame) }
 {
+    let order = cert.order();
     let tame = tame_text(alloc, notation, tame)?;
     match notation {
         Notation::Plain => {
@@ -150,7 +174,7 @@ pub fn count_text(
         }
         Notation::Latex => {
             let text = format!(in alloc;
-                "\\\\\n$|\\mathcal{{Q}}|={order}$, $|\\mathcal{{P}}|={portion}$, {tame}"
+                "\\\\\n$|\\mathcal{{Q}}{index}|={order}$, $|\\mathcal{{P}}{index}|={portion}$, {tame}"
             )?;
             Ok(text)
         }

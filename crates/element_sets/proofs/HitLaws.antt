@@ -1,5 +1,5 @@
 -- Going over the ones of a lane, and over the lanes.
-use Rattle.std.proofs.Common.{◌≡◌, ◌≢◌, ◌⊎◌, ℕ, zero, suc, ◌+◌, ◌-◌, ◌*◌, ◌≤◌, ◌/◌, ◌%◌, ◌^◌, ◌<◌, Bool, true, false, eqb, List, [], ◌∷◌, length, map, bit_and, refl, sym, ap, ap₂, ◌∙◌, inl, inr, arith, w64}
+use Rattle.std.proofs.Common.{◌≡◌, ◌≢◌, ◌⊎◌, ℕ, zero, suc, ◌+◌, ◌-◌, ◌*◌, ◌≤◌, ◌/◌, ◌%◌, ◌^◌, ◌<◌, Bool, true, false, eqb, List, [], ◌∷◌, length, map, bit_and, refl, sym, subst, ap, ap₂, ◌∙◌, inl, inr, arith, w64}
 use Rattle.std.specs.Prelude.{◌↔◌, ◌||◌, ◌==◌, IsTrue, slice_index}
 use Rattle.std.specs.List.{list_any}
 use Rattle.std.specs.Int.{bit_at, trailing_zeros}
@@ -11,7 +11,6 @@ use Rattle.std.proofs.lemmas.Bool.{cases_lt, cases_eq}
 use Rattle.std.proofs.lemmas.Bool.Decides.{nat_tests}
 use Rattle.std.proofs.lemmas.Nat.{and_le_r}
 use Rattle.std.proofs.lemmas.Nat.Bits.{bit_at-trailing_zeros, bit_at_and, bit_at_lowest, bit_at-suc, bit_at-zero}
-use Rattle.element_sets.specs.declared.TheConstants.{MOST_ELEMENTS}
 use Rattle.element_sets.specs.Lanes.{has, set_of}
 use Rattle.element_sets.specs.LaneLaws.{contains-set_of, has_past}
 use Rattle.element_sets.specs.Hits.{Hits, CanTranslateLane}
@@ -93,9 +92,9 @@ kept_one n j some fits one =
 pub falls : (n : ℕ) → 0 < n → without_lowest n < n
 falls n some = let low = and_le_r n (n - 1) in omega arith
 
-pub can_still : (n base : ℕ) (row : List ℕ) → 0 < n → n < 2 ^ 64 → CanTranslateLane n base row
-    → CanTranslateLane (without_lowest n) base row
-can_still n base row some fits can j lt one = can j lt (kept_one n j some fits one).1
+pub can_still : (most n base : ℕ) (row : List ℕ) → 0 < n → n < 2 ^ 64 → CanTranslateLane most n base row
+    → CanTranslateLane most (without_lowest n) base row
+can_still most n base row some fits can j lt one = can j lt (kept_one n j some fits one).1
 
 contains_more : (s : fin.FinSet nat_cmp) (x q : ℕ)
     → fin.contains (fin.insert s x) q ≡ (eqb q x || fin.contains s q)
@@ -154,10 +153,10 @@ taken all n base row some fits q = (forth, back)
     ]
 
 -- what the code reads at the lowest one
-pub lowest_can : (n base : ℕ) (row : List ℕ) → 0 < n → n < 2 ^ 64 → CanTranslateLane n base row
+pub lowest_can : (most n base : ℕ) (row : List ℕ) → 0 < n → n < 2 ^ 64 → CanTranslateLane most n base row
     → (trailing_zeros w64 n < 64) × (base + trailing_zeros w64 n < length row)
-    × (slice_index row (base + trailing_zeros w64 n) < MOST_ELEMENTS)
-lowest_can n base row some fits can =
+    × (slice_index row (base + trailing_zeros w64 n) < most)
+lowest_can most n base row some fits can =
     let t = bit_at-trailing_zeros w64 n some fits in
     let here = can (trailing_zeros w64 n) t.0 t.1 in
     (t.0, here.0, here.1)
@@ -235,9 +234,9 @@ lane_more all new lanes i row before more q =
           )
     ]
 
-pub lane_can : (lanes row : List ℕ) (i : ℕ) → CanTranslate (set_of lanes) row
-    → CanTranslateLane (slice_index lanes i) (64 * i) row
-lane_can lanes row i can j below one =
+pub lane_can : (most : ℕ) (lanes row : List ℕ) (i : ℕ) → CanTranslate most (set_of lanes) row
+    → CanTranslateLane most (slice_index lanes i) (64 * i) row
+lane_can most lanes row i can j below one =
     can (64 * i + j) (contains-set_of lanes (64 * i + j) ∙ has_one lanes i j below one)
 
 -- ---- the image of a set
@@ -315,10 +314,22 @@ all_lanes all lanes row image =
     (λ x one. small_members lanes x (contains-set_of lanes x ∙ one))
 
 -- or a row that has no entry there
-pub short_row : (all : fin.FinSet nat_cmp) (lanes row : List ℕ) (n : ℕ)
-    → CanTranslate (set_of lanes) row
+pub short_row : (most : ℕ) (all : fin.FinSet nat_cmp) (lanes row : List ℕ) (n : ℕ)
+    → CanTranslate most (set_of lanes) row
     → ((q : ℕ) → IsTrue (fin.contains all q) ↔ IsImageBelow lanes n row q)
     → length row ≤ 64 * n → all ≡ translated (set_of lanes) row
-short_row all lanes row n can image short =
+short_row most all lanes row n can image short =
     lanes_so_far all lanes row n image
     (λ x one. let here = (can x (contains-set_of lanes x ∙ one)).0 in omega arith)
+
+-- as many lanes as there are, or as the row has entries for
+pub so_far : (most : ℕ) (all : fin.FinSet nat_cmp) (lanes row : List ℕ) (n : ℕ)
+    → CanTranslate most (set_of lanes) row
+    → ((q : ℕ) → IsTrue (fin.contains all q) ↔ IsImageBelow lanes n row q)
+    → (64 * n < length row → n ≡ length lanes) → all ≡ translated (set_of lanes) row
+so_far most all lanes row n can image end = elim (cases_lt (64 * n) (length row)) [
+  | inl more ↦
+      all_lanes all lanes row
+      (subst (λ i. (q : ℕ) → IsTrue (fin.contains all q) ↔ IsImageBelow lanes i row q) (end more) image)
+  | inr short ↦ short_row most all lanes row n can image short
+]

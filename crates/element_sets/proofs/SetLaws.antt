@@ -1,5 +1,5 @@
 -- What calls do with lanes is done with their sets, however many lanes there are.
-use Rattle.std.proofs.Common.{◌≡◌, ℕ, zero, suc, ◌+◌, ◌-◌, ◌*◌, ◌/◌, ◌%◌, ◌^◌, ◌<◌, ◌≤◌, min, max, ltb, Bool, true, false, not, eqb, List, [], ◌∷◌, length, get_or, set, bit_and, bit_or, refl, sym, ap, ap₂, ◌∙◌, inl, inr, arith, w64}
+use Rattle.std.proofs.Common.{◌≡◌, ℕ, zero, suc, ◌+◌, ◌-◌, ◌*◌, ◌/◌, ◌%◌, ◌^◌, ◌<◌, ◌≤◌, min, max, Bool, true, false, not, eqb, List, [], ◌∷◌, length, get_or, set, bit_and, bit_or, refl, sym, ap, ap₂, ◌∙◌, inl, inr, arith, w64}
 use Rattle.std.specs.Prelude.{◌&&◌, ◌||◌, IsTrue}
 use Rattle.std.specs.Int.{bit_at, trailing_zeros}
 use Rattle.std.specs.Ordering.{nat_cmp}
@@ -23,7 +23,7 @@ use Rattle.std.proofs.lemmas.Nat.Bits.{same_from_bits_below}
 use Rattle.element_sets.specs.Same.{same, same-is, same-itself}
 use Rattle.std.proofs.Common.{map}
 use Rattle.std.specs.Prelude.{replicate}
-use Rattle.std.proofs.Math.Nat.{eq-zero-or-pos, mod-eq_of_lt}
+use Rattle.std.proofs.Math.Nat.{eq-zero-or-pos}
 use Rattle.std.proofs.lemmas.List.{length-map, get_or-map}
 use Rattle.element_sets.specs.Lanes.{has, set_of}
 use Rattle.element_sets.specs.LaneLaws.{has_past, contains-set_of}
@@ -83,23 +83,13 @@ zeros zero i = refl
 zeros (suc n) zero = refl
 zeros (suc n) (suc i) = zeros n i
 
--- a number is looked up in some lane, and turned down where it is past the lanes
-pub looked_up : (xs : List ℕ) (n x : ℕ) → length xs ≡ n
-    → (ltb x (64 * n) && eqb (bit_and (get_or xs (x / 64 % n) 0 / 2 ^ (x % 64)) 1) 1)
-    ≡ fin.contains (set_of xs) x
-looked_up xs n x long = elim (cases_lt x (64 * n)) [
-  | inl low ↦
-      let same : x / 64 % n ≡ x / 64 = mod-eq_of_lt (omega arith) in
-      inside _ low ∙ ap (λ i. eqb (bit_and (get_or xs i 0 / 2 ^ (x % 64)) 1) 1) same
-      ∙ ap (λ m. eqb m 1) (shr_and_one _ _) ∙ sym (contains-set_of xs x)
-  | inr past ↦ outside _ past ∙ sym (contains-set_of xs x ∙ has_past xs x (omega arith))
-]
-  where
-    inside : (b : Bool) → x < 64 * n → (ltb x (64 * n) && b) ≡ b
-    inside b low = grind (arith, nat_tests)
+-- a number is looked up in its lane, and turned down where there is none
+pub looked_up : (xs : List ℕ) (x : ℕ)
+    → eqb (bit_and (get_or xs (x / 64) 0 / 2 ^ (x % 64)) 1) 1 ≡ fin.contains (set_of xs) x
+looked_up xs x = ap (λ m. eqb m 1) (shr_and_one _ _) ∙ sym (contains-set_of xs x)
 
-    outside : (b : Bool) → 64 * n ≤ x → (ltb x (64 * n) && b) ≡ false
-    outside b past = grind (arith, nat_tests)
+pub turned_down : (xs : List ℕ) (x : ℕ) → length xs ≤ x / 64 → false ≡ fin.contains (set_of xs) x
+turned_down xs x past = sym (contains-set_of xs x ∙ has_past xs x (omega arith))
 
 -- one bit more
 pub has-set : (xs : List ℕ) (x q : ℕ) → x / 64 < length xs

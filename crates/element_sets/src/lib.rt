@@ -1,7 +1,7 @@
-//! Sets of numbers below `MOST_ELEMENTS`, in lanes of 64 bits. No call takes memory; none fails.
+//! Sets of small numbers, in lanes of 64 bits. No call takes memory; none fails.
 #![tactic(auto)]
 
-ghost use Rattle.std.specs.Prelude.{◌≡◌, ℕ, ◌<◌, ◌≤◌, ◌↔◌, IsTrue, List, slice_index};
+ghost use Rattle.std.specs.Prelude.{◌≡◌, ℕ, ◌*◌, ◌<◌, ◌≤◌, ◌↔◌, IsTrue, List, slice_index};
 ghost use Rattle.std.specs.Ordering.{nat_cmp};
 ghost use Rattle.std.specs.FinSet as set;
 ghost use Rattle.element_sets.specs.Translation.{translated, CanTranslate};
@@ -12,27 +12,23 @@ use std::hash::{Hash, Hasher};
 use std::marker::Model;
 use std::simd::prelude::*;
 
-/// How many lanes a set has. All of this crate holds for other counts as well.
-const LANES: usize = 8;
-
-/// Elements are the numbers below this one.
-pub const MOST_ELEMENTS: u16 = 64 * LANES as u16;
-
-/// All lanes at once.
-type AllLanes = Simd<u64, LANES>;
-
-/// A set of numbers below `MOST_ELEMENTS`.
+/// A set of numbers below 64 times the number of its lanes.
 #[derive(Clone, Copy)]
-pub struct ElementSet {
+pub struct LaneSet<const LANES: usize> {
     lanes: [u64; LANES],
 }
 
-impl Model for ElementSet {
+/// A set of numbers below `MOST_ELEMENTS`.
+pub type ElementSet = LaneSet<8>;
+
+/// What an `ElementSet` has are numbers below this one.
+pub const MOST_ELEMENTS: u16 = 512;
+
+impl<const LANES: usize> Model for LaneSet<LANES> {
     ghost use Rattle.std.specs.Ordering.{nat_cmp};
     ghost use Rattle.std.specs.FinSet as set;
     ghost use Rattle.std.specs.Coded.{coded_ℕ};
     ghost use Rattle.element_sets.specs.Lanes.{set_of, AreLanes};
-    ghost use Rattle.element_sets.specs.declared.TheConstants.{LANES};
 
     ghost Value = { set.FinSet nat_cmp };
 
@@ -52,30 +48,33 @@ impl Model for ElementSet {
         (lanes_of-set_of LANES a.lanes h.length_is h.fits) };
 }
 
-impl ElementSet {
+impl<const LANES: usize> LaneSet<LANES> {
     /// The empty set.
     pub fn new() -> Self
         ensures { result ≡ set.empty }
     {
-        ElementSet { lanes: [0; LANES] }
+        LaneSet { lanes: [0; LANES] }
     }
 
     /// Whether `x` is a member.
     pub fn contains(&self, x: u16) -> bool
         ensures { result ≡ set.contains self.now x }
     {
-        // No branch: a number out of the range looks into some lane, and is then turned down.
-        let lane = self.lanes[(x / 64) as usize % LANES];
-        (x < MOST_ELEMENTS) & ((lane >> (x % 64)) & 1 == 1)
+        let lanes = &self.lanes;
+        let at = (x / 64) as usize;
+        if at >= LANES {
+            return false;
+        }
+        (lanes[at] >> (x % 64)) & 1 == 1
     }
 
-    /// Adds `x`, if it is below `MOST_ELEMENTS`. The answer is whether it is.
+    /// Adds `x`, if it is in the range. The answer is whether it is.
     pub fn insert(&mut self, x: u16) -> bool
-        ensures put { x < MOST_ELEMENTS → self.new ≡ set.insert self.old x }
-        ensures stays { MOST_ELEMENTS ≤ x → self.new ≡ self.old }
-        ensures answer { IsTrue result ↔ (x < MOST_ELEMENTS) }
+        ensures put { x < 64 * LANES → self.new ≡ set.insert self.old x }
+        ensures stays { 64 * LANES ≤ x → self.new ≡ self.old }
+        ensures answer { IsTrue result ↔ (x < 64 * LANES) }
     {
-        if x >= MOST_ELEMENTS {
+        if (x / 64) as usize >= LANES {
             return false;
         }
         self.put(x);
@@ -84,73 +83,71 @@ impl ElementSet {
 
     /// Adds `x`, which is in the range: nothing is tested.
     pub fn put(&mut self, x: u16)
-        requires { x < MOST_ELEMENTS }
+        requires { x < 64 * LANES }
         ensures { self.new ≡ set.insert self.old x }
     {
         self.lanes[(x / 64) as usize] |= 1u64 << (x % 64);
     }
 
     /// The members of either set.
-    pub fn union(&self, other: &ElementSet) -> ElementSet
+    pub fn union(&self, other: &Self) -> Self
         ensures { result ≡ set.union self.now other.now }
     {
-        let lanes = AllLanes::from_array(self.lanes) | AllLanes::from_array(other.lanes);
-        ElementSet {
+        let lanes = Simd::from_array(self.lanes) | Simd::from_array(other.lanes);
+        LaneSet {
             lanes: lanes.to_array(),
         }
     }
 
     /// Whether the sets have a member in common.
-    pub fn meets(&self, other: &ElementSet) -> bool
+    pub fn meets(&self, other: &Self) -> bool
         ensures { IsTrue result
             ↔ ((x : ℕ) × IsTrue (set.contains self.now x) × IsTrue (set.contains other.now x)) }
     {
-        let both = AllLanes::from_array(self.lanes) & AllLanes::from_array(other.lanes);
+        let both = Simd::from_array(self.lanes) & Simd::from_array(other.lanes);
         both.reduce_or() != 0
     }
 
     /// Whether each member is one of the other set.
-    pub fn subset(&self, other: &ElementSet) -> bool
+    pub fn subset(&self, other: &Self) -> bool
         ensures { result ≡ set.is_subset self.now other.now }
     {
-        let missing = AllLanes::from_array(self.lanes) & !AllLanes::from_array(other.lanes);
+        let missing = Simd::from_array(self.lanes) & !Simd::from_array(other.lanes);
         missing.reduce_or() == 0
     }
 }
 
-impl ElementSet {
+impl<const LANES: usize> LaneSet<LANES> {
     /// Whether there is no member.
     pub fn is_empty(&self) -> bool
         ensures { result ≡ set.is_subset self.now set.empty }
     {
-        self.subset(&ElementSet::new())
+        self.subset(&LaneSet::new())
     }
 
     /// Adds every member of the other set.
-    pub fn union_with(&mut self, other: &ElementSet)
+    pub fn union_with(&mut self, other: &Self)
         ensures { self.new ≡ set.union self.old other.now }
     {
         *self = self.union(other);
     }
 
     /// The row's entries at the members. Only members are visited.
-    pub fn translate(&self, row: &[u16]) -> ElementSet
-        requires { CanTranslate self.now row.now }
+    pub fn translate(&self, row: &[u16]) -> Self
+        requires { CanTranslate (64 * LANES) self.now row.now }
         ensures { result ≡ translated self.now row.now }
     {
-        let mut all = ElementSet::new();
-        for i in 0..LANES {
-            // No member of the later lanes has an entry in a short row.
-            if i == LANES / 2 && row.len() <= 64 * i {
-                return all;
-            }
+        let mut all = LaneSet::new();
+        // No member of the later lanes has an entry in a short row.
+        let reached = row.len().div_ceil(64).min(LANES);
+        for i in 0..reached {
             translate::add_lane(&mut all, self.lanes[i], 64 * i, row);
         }
         all
     }
 }
 
-impl PartialEq for ElementSet {
+impl<const LANES: usize> PartialEq for LaneSet<LANES> {
     ghost use Rattle.std.specs.FinSet as set;
     ghost use Rattle.element_sets.specs.Same.{same, same_partial};
 
@@ -158,20 +155,19 @@ impl PartialEq for ElementSet {
 
     ghost laws = { same_partial };
 
-    fn eq(&self, other: &ElementSet) -> bool {
+    fn eq(&self, other: &Self) -> bool {
         self.lanes == other.lanes
     }
 }
 
-impl Eq for ElementSet {
+impl<const LANES: usize> Eq for LaneSet<LANES> {
     ghost use Rattle.element_sets.specs.Same.{same_equiv};
 
     ghost laws = { same_equiv };
 }
 
-impl Hash for ElementSet {
+impl<const LANES: usize> Hash for LaneSet<LANES> {
     ghost use Rattle.element_sets.specs.Same.{lanes_of, same_hashes};
-    ghost use Rattle.element_sets.specs.declared.TheConstants.{LANES};
     ghost use Rattle.std.specs.Hash as fed;
 
     ghost hash_input = { λ s. fed.slice fed.u64 (lanes_of LANES s) };
@@ -184,15 +180,15 @@ impl Hash for ElementSet {
 }
 
 /// Holds of equal sets alone.
-pub fn equal(a: &ElementSet, b: &ElementSet) -> bool
+pub fn equal<const LANES: usize>(a: &LaneSet<LANES>, b: &LaneSet<LANES>) -> bool
     ensures { IsTrue result ↔ (a.now ≡ b.now) }
 {
     a == b
 }
 
-/// The members of a set are numbers below `MOST_ELEMENTS`.
-pub fn members_are_small(members: &ElementSet)
-    ensures { (x : ℕ) → IsTrue (set.contains members.now x) → x < MOST_ELEMENTS }
+/// The members of a set are numbers below 64 times the number of its lanes.
+pub fn members_are_small<const LANES: usize>(members: &LaneSet<LANES>)
+    ensures { (x : ℕ) → IsTrue (set.contains members.now x) → x < 64 * LANES }
 {
     let _ = &members.lanes;
 }

@@ -1,9 +1,10 @@
 -- What the calls by which a file is replaced do one after another.
-use Rattle.std.proofs.Common.{arith, ◌≡◌, ◌≢◌, ◌∙◌, ◌++◌, ap, sym, refl, subst, true≢false, Bool, true, false, ℕ, List, length, Option, Some, None, length-append, codes, decimal, Result, Ok, Err, OnErr}
+use native.Mathlib.Decide.{dec_lt}
+use Rattle.std.proofs.Common.{arith, ◌+◌, ◌<◌, ◌≤◌, ◌≡◌, ◌≢◌, ◌∙◌, ◌++◌, ap, sym, refl, subst, true≢false, Bool, true, false, ℕ, List, length, Option, Some, None, length-append, codes, decimal, Result, Ok, Err, OnErr}
 use Rattle.std.specs.Str.{bytes_eq}
 use Rattle.std.proofs.lemmas.Slice.Eq.{bytes_eq-Decides}
 use Rattle.folders.specs.Files.{Replaces}
-use Rattle.folders.specs.Disks.{Spares, IsFree, Makes, Moves, Leaves, Stages, name_beside}
+use Rattle.folders.specs.Disks.{Spares, IsFree, IsTaken, Makes, Moves, Leaves, Stages, CountsStage, name_beside}
 use Rattle.folders.specs.declared.replacing.StageFault.{StageFault}
 use Rattle.folders.specs.declared.replacing.StageFault.TheVariants.{Taken, Unmade, Unfilled}
 
@@ -34,6 +35,32 @@ pub keeps_where_taken : {T : Type 0} (before after : Option (List ℕ → Option
 keeps_where_taken before after r fault name bytes stages is taken =
     let told = subst (λ x. Stages before after x name bytes) (is ∙ ap Err taken) stages in
     told.1
+
+pub taken_where_taken : {T : Type 0} (before after : Option (List ℕ → Option (List ℕ)))
+    (r : Result T StageFault) (fault : StageFault) (name bytes : List ℕ)
+    → Stages before after r name bytes → r ≡ Err fault → fault ≡ Taken → IsTaken before name
+taken_where_taken before after r fault name bytes stages is taken =
+    let told = subst (λ x. Stages before after x name bytes) (is ∙ ap Err taken) stages in
+    told.0
+
+-- what a call that failed so counts
+pub counts_where : {T : Type 0} (before now : ℕ) (r : Result T StageFault) (fault kind : StageFault)
+    → CountsStage before now r → r ≡ Err fault → fault ≡ kind
+    → CountsStage {T = T} before now (Err kind)
+counts_where before now r fault kind counts is same =
+    subst (λ x. CountsStage before now x) (is ∙ ap Err same) counts
+
+-- one name more that is taken
+pub one_more_taken : (files : Option (List ℕ → Option (List ℕ))) (name : List ℕ) (n : ℕ)
+    → ((k : ℕ) → 1 ≤ k → k < n → IsTaken files (name_beside name k))
+    → IsTaken files (name_beside name n)
+    → (k : ℕ) → 1 ≤ k → k < n + 1 → IsTaken files (name_beside name k)
+one_more_taken files name n before here k some within = elim (dec_lt k n) [
+  | yes a ↦ before k some a
+  | no a ↦
+      let e : n ≡ k = omega arith in
+      subst (λ m. IsTaken files (name_beside name m)) e here
+]
 
 pub keeps_where_unmade : {T : Type 0} (before after : Option (List ℕ → Option (List ℕ)))
     (r : Result T StageFault) (fault : StageFault) (name bytes : List ℕ)

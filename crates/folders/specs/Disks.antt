@@ -1,9 +1,21 @@
 -- What the calls by which a file is replaced do to the files of a disk, where these are known.
 -- This project's own.
-use Rattle.std.specs.Prelude.{◌≡◌, ◌≢◌, ⊤, ℕ, List, ◌++◌, Option, Some, None, Result, Ok, Err, codes, decimal}
+use Rattle.std.specs.Prelude.{◌≡◌, ◌≢◌, ◌≤◌, ◌<◌, ⊤, ℕ, List, ◌++◌, Option, Some, None, Result, Ok, Err, codes, decimal}
 use Rattle.folders.specs.Files.{Replaces}
 use Rattle.folders.specs.declared.replacing.StageFault.{StageFault}
 use Rattle.folders.specs.declared.replacing.StageFault.TheVariants.{Taken, Unmade, Unfilled}
+
+-- failures rise where the device failed, and stay where it did not
+abbrev pub CountsStage : {T : Type 0} → ℕ → ℕ → Result T StageFault → Type 0
+CountsStage before now (Ok x) = now ≡ before
+CountsStage before now (Err Taken) = now ≡ before
+CountsStage before now (Err Unmade) = before < now
+CountsStage before now (Err Unfilled) = before < now
+
+-- failures rise where the call failed, and stay where it did not
+abbrev pub CountsCall : {T E : Type 0} → ℕ → ℕ → Result T E → Type 0
+CountsCall before now (Ok x) = now ≡ before
+CountsCall before now (Err e) = before < now
 
 -- a name for a file beside the file of this name
 abbrev pub name_beside : List ℕ → ℕ → List ℕ
@@ -24,6 +36,10 @@ IsFree (Some files) name = files name ≡ None
 abbrev pub IsTaken : Option (List ℕ → Option (List ℕ)) → List ℕ → Type 0
 IsTaken None name = ⊤
 IsTaken (Some files) name = files name ≢ None
+
+-- there was a file of each of the first n names beside this one
+abbrev pub AreTaken : Option (List ℕ → Option (List ℕ)) → List ℕ → ℕ → Type 0
+AreTaken files name n = (k : ℕ) → 1 ≤ k → k ≤ n → IsTaken files (name_beside name k)
 
 -- there was no file of this name, now there is one of these bytes, and each other is as it was
 abbrev pub Makes : Option (List ℕ → Option (List ℕ)) → Option (List ℕ → Option (List ℕ)) → List ℕ

@@ -1,5 +1,6 @@
 //! The files of the machine.
 ghost use Rattle.std.specs.Prelude.{None};
+ghost use Rattle.folders.specs.Disks.{CountsCall};
 
 use crate::replacing::{Disk, StageFault, replace};
 use crate::{FileFault, Folder};
@@ -13,11 +14,29 @@ use streams::{DeviceFault, Failures};
 #[derive(Drop)]
 pub struct HostDisk<'a, R> {
     rt: &'a R,
+    failures: Failures,
 }
 
 impl<'a, R: Files> HostDisk<'a, R> {
+    /// Nothing failed yet.
     pub fn new(rt: &'a R) -> HostDisk<'a, R> {
-        HostDisk { rt }
+        HostDisk {
+            rt,
+            failures: Failures::new(),
+        }
+    }
+
+    /// Counts a call that failed.
+    fn counted(&mut self, told: io::Result<()>) -> Result<(), DeviceFault>
+        ensures { CountsCall self.old.failures.count self.new.failures.count result }
+    {
+        match told {
+            Ok(()) => Ok(()),
+            Err(_) => {
+                self.failures.add();
+                Err(DeviceFault)
+            }
+        }
     }
 }
 
@@ -31,20 +50,37 @@ fn fill<W: Write + OpenFile + Drop>(file: W, bytes: &[u8]) -> io::Result<()> {
 impl<R: Files> Disk for HostDisk<'_, R> {
     ghost files = { λ _. None };
 
+    ghost failures = { λ s. s.failures.count };
+
     fn stage(&mut self, name: &str, bytes: &[u8]) -> Result<(), StageFault> {
         match File::create_new(self.rt, name) {
-            Ok(file) => fill(file, bytes).map_err(|_| StageFault::Unfilled),
+            Ok(file) => {
+                if fill(file, bytes).is_err() {
+                    self.failures.add();
+                    return Err(StageFault::Unfilled);
+                }
+                Ok(())
+            }
             Err(e) if e.kind() == ErrorKind::AlreadyExists => Err(StageFault::Taken),
-            Err(_) => Err(StageFault::Unmade),
+            Err(_) => {
+                self.failures.add();
+                Err(StageFault::Unmade)
+            }
         }
     }
 
     fn rename(&mut self, from: &str, to: &str) -> Result<(), DeviceFault> {
-        fs::rename(self.rt, from, to).map_err(|_| DeviceFault)
+        let told = fs::rename(self.rt, from, to);
+        self.counted(told)
     }
 
     fn remove(&mut self, name: &str) -> Result<(), DeviceFault> {
-        fs::remove_file(self.rt, name).map_err(|_| DeviceFault)
+        let told = fs::remove_file(self.rt, name);
+        self.counted(told)
+    }
+
+    fn crowd(&mut self, _name: &str) {
+        self.failures.add();
     }
 }
 
@@ -54,7 +90,7 @@ impl<R: Files> Disk for HostDisk<'_, R> {
 pub struct HostFolder<'a, R> {
     rt: &'a R,
     failed_reads: Failures,
-    failed_writes: Failures,
+    disk: HostDisk<'a, R>,
 }
 
 impl<'a, R: Files> HostFolder<'a, R> {
@@ -63,7 +99,7 @@ impl<'a, R: Files> HostFolder<'a, R> {
         HostFolder {
             rt,
             failed_reads: Failures::new(),
-            failed_writes: Failures::new(),
+            disk: HostDisk::new(rt),
         }
     }
 }
@@ -73,7 +109,7 @@ impl<R: Files + AllocGlobal> Folder for HostFolder<'_, R> {
 
     ghost failed_reads = { λ s. s.failed_reads.count };
 
-    ghost failed_writes = { λ s. s.failed_writes.count };
+    ghost failed_writes = { λ s. s.disk.failures.count };
 
     fn read(&mut self, name: &str) -> Result<Vec<u8>, FileFault> {
         match fs::read(self.rt, name) {
@@ -87,11 +123,6 @@ impl<R: Files + AllocGlobal> Folder for HostFolder<'_, R> {
     }
 
     fn write(&mut self, name: &str, bytes: &[u8]) -> Result<(), FileFault> {
-        let mut disk = HostDisk::new(self.rt);
-        let written = replace(self.rt.alloc(), &mut disk, name, bytes);
-        if written == Err(FileFault::Device) {
-            self.failed_writes.add();
-        }
-        written
+        replace(self.rt.alloc(), &mut self.disk, name, bytes)
     }
 }

@@ -16,4 +16,4 @@ pub use fault::FileFault;
 pub use folder::Folder;
 pub use host::{HostDisk, HostFolder};
 pub use memory::MemoryFolder;
-pub use replacing::{Disk, StageFault, replace};
+pub use replacing::{Disk, StageFault, TRIES, replace};

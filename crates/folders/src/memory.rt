@@ -87,6 +87,7 @@ impl MemoryFolder {
             result ≡ true → Replaces (files self.old) (files self.new) name.now bytes.now }
         ensures kept { let files = ⟦<MemoryFolder as Folder>⟧.files in
             result ≡ false → files self.new ≡ files self.old }
+        ensures writes { self.new.failed_writes ≡ self.old.failed_writes }
     {
         if self.calls.fails() {
             return false;
@@ -96,8 +97,9 @@ impl MemoryFolder {
 
     /// Takes the file away, if it is there.
     fn forget(&mut self, name: &str)
-        ensures { let files = ⟦<MemoryFolder as Folder>⟧.files in
+        ensures lost { let files = ⟦<MemoryFolder as Folder>⟧.files in
             Loses (files self.old) (files self.new) name.now }
+        ensures writes { self.new.failed_writes ≡ self.old.failed_writes }
     {
         let _ = self.files.remove(name);
     }
@@ -109,6 +111,7 @@ impl MemoryFolder {
             → IfOk result (λ _. Moves (files self.old) (files self.new) from.now to.now) }
         ensures kept { let files = ⟦<MemoryFolder as Folder>⟧.files in
             OnErr result (files self.new ≡ files self.old) }
+        ensures writes { self.new.failed_writes ≡ self.old.failed_writes }
     {
         if let Some(bytes) = self.files.get(from) {
             let bytes = bytes.clone()?;
@@ -125,6 +128,7 @@ impl MemoryFolder {
             result ≡ true → Replaces (files self.old) (files self.new) name.now bytes.now }
         ensures spared { let files = ⟦<MemoryFolder as Folder>⟧.files in
             Spares (files self.old) (files self.new) name.now }
+        ensures writes { self.new.failed_writes ≡ self.old.failed_writes }
     {
         if !self.puts(name, &bytes[..bytes.len() / 2]) {
             return false;
@@ -163,14 +167,18 @@ impl Folder for MemoryFolder {
 impl Disk for MemoryFolder {
     ghost files = { λ s. ⟦<MemoryFolder as Folder>⟧.files s };
 
+    ghost failures = { λ s. s.failed_writes.count };
+
     fn stage(&mut self, name: &str, bytes: &[u8]) -> Result<(), StageFault> {
         if self.files.get(name).is_some() {
             return Err(StageFault::Taken);
         }
         if !self.puts(name, b"") {
+            self.failed_writes.add();
             return Err(StageFault::Unmade);
         }
         if !self.fills(name, bytes) {
+            self.failed_writes.add();
             return Err(StageFault::Unfilled);
         }
         Ok(())
@@ -178,19 +186,31 @@ impl Disk for MemoryFolder {
 
     fn rename(&mut self, from: &str, to: &str) -> Result<(), DeviceFault> {
         if self.calls.fails() {
+            self.failed_writes.add();
             return Err(DeviceFault);
         }
         if from == to {
             return Ok(());
         }
-        self.give(from, to).map_err(|_| DeviceFault)
+        match self.give(from, to) {
+            Ok(()) => Ok(()),
+            Err(Memory) => {
+                self.failed_writes.add();
+                Err(DeviceFault)
+            }
+        }
     }
 
     fn remove(&mut self, name: &str) -> Result<(), DeviceFault> {
         if self.files.get(name).is_none() {
+            self.failed_writes.add();
             return Err(DeviceFault);
         }
         self.forget(name);
         Ok(())
+    }
+
+    fn crowd(&mut self, _name: &str) {
+        self.failed_writes.add();
     }
 }

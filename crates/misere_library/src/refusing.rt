@@ -1,5 +1,5 @@
 //! The position at which the rule of a code's game fails.
-ghost use Rattle.std.specs.Prelude.{◌≡◌, ◌≢◌, ◌≤◌, ◌<◌, length, take};
+ghost use Rattle.std.specs.Prelude.{◌≡◌, ◌≢◌, ◌≤◌, ◌<◌, ℕ, List, length, take};
 ghost use Rattle.misere_library.specs.Queries.{FailsAt, IsStatus};
 
 use crate::numbers::{DONE, OUTCOME, status};
@@ -29,6 +29,7 @@ pub(crate) fn refused(
     ensures status { IsStatus bytes.now limit result }
     ensures fails { result ≡ 7 → count.new ≤ length told.old
         → FailsAt bytes.now limit (take count.new told.new) }
+    ensures counts { result ≡ 7 → (X : List ℕ) × FailsAt bytes.now limit X × (count.new ≡ length X) }
     ensures no_room { length told.old < count.new → told.new ≡ told.old }
     ensures stays { result ≢ 7 → told.new ≡ told.old × count.new ≡ count.old }
 {

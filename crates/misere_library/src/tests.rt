@@ -125,6 +125,42 @@ fn many_positions_are_told(rt: HostRuntime) {
 }
 
 #[test]
+fn elements_of_many_positions_are_told(rt: HostRuntime) {
+    let (alloc, mut told) = (rt.alloc(), [7; 3]);
+    let heaps = [1, 2, 1, 1, 2];
+    assert_eq!(&rt;
+        misere_values(alloc, BYTES, LIMIT, &heaps, &[1, 1, 4], &mut told),
+        0
+    );
+    assert_eq!(&rt; told[0], 1);
+    assert_eq!(&rt; told[1], 0);
+    assert_eq!(&rt; told[2], 0);
+    assert_eq!(&rt;
+        misere_values(alloc, PARTIAL, LIMIT, &[3], &[1], &mut told[..1]),
+        23
+    );
+    assert_eq!(&rt; told[0], 1);
+}
+
+#[test]
+fn a_hundred_heaps_are_one_position(rt: HostRuntime) {
+    let mut told = MisereAnswer {
+        kind: 7,
+        heap: 7,
+        first: 7,
+        second: 7,
+        third: 7,
+    };
+    let (alloc, heaps, mut number) = (rt.alloc(), [1; 100], 7);
+    assert_eq!(&rt; misere_outcome(alloc, BYTES, LIMIT, &heaps, &mut number), 0);
+    assert_eq!(&rt; number, 1);
+    assert_eq!(&rt; misere_answer(alloc, BYTES, LIMIT, &heaps, &mut told), 0);
+    assert_eq!(&rt; told.kind, 2);
+    assert_eq!(&rt; told.heap, 1);
+    assert_eq!(&rt; told.first, 0);
+}
+
+#[test]
 fn failures_are_told(rt: HostRuntime) {
     let (alloc, mut told, mut count) = (rt.alloc(), [7; 4], 9);
     assert_eq!(&rt;
@@ -140,4 +176,11 @@ fn failures_are_told(rt: HostRuntime) {
     assert_eq!(&rt; told[0], 1);
     assert_eq!(&rt; told[1], 1);
     assert_eq!(&rt; told[2], 7);
+    let mut short = [7; 1];
+    assert_eq!(&rt;
+        misere_failure(alloc, WRONG, LIMIT, &mut short, &mut count),
+        7
+    );
+    assert_eq!(&rt; count, 2);
+    assert_eq!(&rt; short[0], 7);
 }

@@ -2,11 +2,11 @@
 use Rattle.std.proofs.Common.{◌≡◌, ℕ, zero, suc, ◌+◌, ◌-◌, ◌*◌, ◌<◌, ◌≤◌, Bool, true, false, cond, not, List, [], ◌∷◌, ◌++◌, length, get_or, set, refl, sym, ap, ◌∙◌, subst, inl, inr, ◌⊎◌, arith, nat_lt, lt-ltb, le-ltb, ltb-true, ltb-false, filter, length-append, suc-mul}
 use Rattle.std.proofs.lemmas.List.Sums.{passes_at_first}
 use Rattle.monoid_table.specs.Grids.{Grid}
-use Rattle.transition_algebra.specs.declared.pair.Pair.{Pair}
+use Rattle.transition_algebra.specs.OverSets.{Pair}
 use Rattle.transition_algebra.specs.Pairs.{one, covers}
-use Rattle.pair_closure.specs.declared.members.Member.{Member}
-use Rattle.pair_closure.specs.declared.settle.Held.{Held}
-use Rattle.pair_closure.specs.declared.settle.Generator.{Generator}
+use Rattle.pair_closure.specs.OverSets.{Member}
+use Rattle.pair_closure.specs.OverSets.{Held}
+use Rattle.pair_closure.specs.OverSets.{Generator}
 use Rattle.pair_closure.specs.Turns.{State, Multiplies, TriesHeap, start, blank_held, blank_generator, covered, multiplied, pending, is_over, is_done, has_ended, empty_turn, product_turn, heap_turn, turn, turns}
 use Rattle.pair_closure.proofs.WhichTurn.{kept_with, product_at, bumped, product_if, passed, widened, heap_if, turn_product, turn_heap, stays_put}
 use Rattle.pair_closure.proofs.Lists.{by_case, by_cond, either, if_true, if_false, true_or}

@@ -2,7 +2,7 @@
 use Rattle.std.proofs.Common.{◌≡◌, ℕ, zero, suc, ◌+◌, ◌*◌, ◌<◌, ◌≤◌, ◌↔◌, Bool, true, false, ◌||◌, List, length, refl, sym, ap, ◌∙◌, subst, inl, inr, arith, nat_lt, lt-ltb, le-ltb}
 use native.Mathlib.Decide.{dec_lt}
 use Rattle.monoid_table.specs.Grids.{Grid}
-use Rattle.transition_algebra.specs.declared.pair.Pair.{Pair}
+use Rattle.transition_algebra.specs.OverSets.{Pair}
 use Rattle.pair_closure.specs.Turns.{KeepsNext, has_ended, turn}
 use Rattle.pair_closure.specs.ClosureViews.{ClosureView, begun, steps, step, stopped, moved, retaken}
 use Rattle.pair_closure.specs.Calls.{Takes, IsRefused, ended, ended_or_kept, cost}

@@ -3,8 +3,8 @@ use Rattle.std.proofs.Common.{◌≡◌, ℕ, zero, suc, ◌+◌, ◌-◌, ◌<�
 use Rattle.std.specs.List.{list_any}
 use Rattle.std.proofs.lemmas.Bool.{cases_lt, cases_eq}
 use Rattle.std.proofs.lemmas.List.{get_or_append_left, get_or_push, get_or-set_same, get_or-set_other}
-use Rattle.transition_algebra.specs.declared.pair.Pair.{Pair}
-use Rattle.pair_closure.specs.declared.members.Member.{Member}
+use Rattle.transition_algebra.specs.OverSets.{Pair}
+use Rattle.pair_closure.specs.OverSets.{Member}
 use Rattle.pair_closure.specs.Chains.{AreChained, blank, last_with}
 use Rattle.transition_algebra.specs.Pairs.{covers}
 use Rattle.pair_closure.proofs.PairLaws.{covering}

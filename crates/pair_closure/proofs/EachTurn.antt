@@ -3,11 +3,11 @@ use Rattle.std.proofs.Common.{◌≡◌, ℕ, ◌+◌, ◌-◌, ◌<◌, ◌≤�
 use Rattle.std.proofs.lemmas.List.{get_or_append_left}
 use Rattle.std.proofs.lemmas.List.Sums.{passes_at_first}
 use Rattle.std.proofs.lemmas.Bool.{cases_lt}
-use Rattle.transition_algebra.specs.declared.pair.Pair.{Pair}
+use Rattle.transition_algebra.specs.OverSets.{Pair}
 use Rattle.transition_algebra.specs.Pairs.{IsPair, one, times, covers}
 use Rattle.transition_algebra.specs.PairLaws.{pair_laws}
-use Rattle.pair_closure.specs.declared.settle.Held.{Held}
-use Rattle.pair_closure.specs.declared.settle.Generator.{Generator}
+use Rattle.pair_closure.specs.OverSets.{Held}
+use Rattle.pair_closure.specs.OverSets.{Generator}
 use Rattle.pair_closure.specs.Chains.{blank}
 use Rattle.pair_closure.specs.Turns.{State, blank_held, blank_generator, covered, multiplied, pending, product_turn, heap_turn, turn}
 use Rattle.pair_closure.proofs.WhichTurn.{product_at, bumped, product_if, passed, widened, heap_if}

@@ -2,7 +2,7 @@
 use Rattle.std.proofs.Common.{◌≡◌, ℕ, zero, suc, true, List, [], ◌∷◌, refl, sym, ap, subst, inl, inr, ◌⊎◌, arith, nat_lt, ltb-true}
 use Rattle.monoid_table.specs.Grids.{Grid}
 use Rattle.monoid_table.specs.Tables.{IsTableGrid}
-use Rattle.transition_algebra.specs.declared.pair.Pair.{Pair}
+use Rattle.transition_algebra.specs.OverSets.{Pair}
 use Rattle.transition_algebra.specs.Pairs.{IsPair, one, covers}
 use Rattle.transition_algebra.specs.PairLaws.{pair_laws}
 use Rattle.pair_closure.specs.Turns.{start, empty_turn, turn, turns}

@@ -6,12 +6,12 @@ use Rattle.std.proofs.lemmas.List.Kept.{AllPairs-filter}
 use Rattle.std.proofs.lemmas.Bool.{cases_lt}
 use Rattle.monoid_table.specs.Grids.{Grid}
 use Rattle.monoid_table.specs.Tables.{IsTableGrid}
-use Rattle.transition_algebra.specs.declared.pair.Pair.{Pair}
+use Rattle.transition_algebra.specs.OverSets.{Pair}
 use Rattle.transition_algebra.specs.Pairs.{IsPair, one, times, covers}
 use Rattle.transition_algebra.specs.PairLaws.{pair_laws}
-use Rattle.pair_closure.specs.declared.members.Member.{Member}
-use Rattle.pair_closure.specs.declared.settle.Held.{Held}
-use Rattle.pair_closure.specs.declared.settle.Generator.{Generator}
+use Rattle.pair_closure.specs.OverSets.{Member}
+use Rattle.pair_closure.specs.OverSets.{Held}
+use Rattle.pair_closure.specs.OverSets.{Generator}
 use Rattle.pair_closure.specs.Chains.{blank}
 use Rattle.pair_closure.specs.Turns.{State, blank_generator, covered, held_with}
 use Rattle.pair_closure.proofs.Lists.{In, find_any, any_from, none_from, not_both, either, In-left, In-last, In-push, In-filter, In-filter_passes, In-filter_from, In-at}

@@ -2,10 +2,10 @@
 use Rattle.std.proofs.Common.{◌≡◌, ℕ, zero, suc, ◌-◌, ◌<◌, Bool, not, List, [], ◌∷◌, ◌++◌, length, length-append, get_or, set, filter, refl, sym, ap, ◌∙◌, subst, inl, inr, arith, nat_lt}
 use native.Mathlib.Decide.{dec_lt}
 use Rattle.std.proofs.lemmas.List.{get_or_append_left, length-set}
-use Rattle.transition_algebra.specs.declared.pair.Pair.{Pair}
+use Rattle.transition_algebra.specs.OverSets.{Pair}
 use Rattle.transition_algebra.specs.Pairs.{one, covers}
-use Rattle.pair_closure.specs.declared.members.Member.{Member}
-use Rattle.pair_closure.specs.declared.settle.Held.{Held}
+use Rattle.pair_closure.specs.OverSets.{Member}
+use Rattle.pair_closure.specs.OverSets.{Held}
 use Rattle.pair_closure.specs.Turns.{State, blank_held, covered, multiplied, pending, is_over, has_ended, turn}
 use Rattle.pair_closure.specs.ClosureViews.{ClosureView, moved, steps}
 use Rattle.pair_closure.specs.Keeping.{HasPair, KeepsOne}

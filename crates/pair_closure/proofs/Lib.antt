@@ -19,3 +19,5 @@ mod Keeping
 mod Taken
 mod Rising
 pub mod OptionLaws
+pub mod Fit
+mod Kept

@@ -3,8 +3,8 @@ use Rattle.std.proofs.Common.{◌≡◌, ℕ, zero, suc, ◌<◌, Bool, true, fa
 use Rattle.std.specs.List.{list_any}
 use Rattle.std.proofs.lemmas.List.Sums.{position_or_len_is}
 use Rattle.std.proofs.lemmas.List.{get_or_append_left, get_or-set_other, length-set}
-use Rattle.pair_closure.specs.declared.settle.Held.{Held}
-use Rattle.transition_algebra.specs.declared.pair.Pair.{Pair}
+use Rattle.pair_closure.specs.OverSets.{Held}
+use Rattle.transition_algebra.specs.OverSets.{Pair}
 use Rattle.transition_algebra.specs.Pairs.{covers}
 use Rattle.pair_closure.specs.Turns.{blank_held, first_pending, held_with, NoneBefore}
 

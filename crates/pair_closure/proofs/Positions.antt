@@ -10,9 +10,9 @@ use Rattle.misere_theory.specs.Quotients.{Claim, value, OptionValue, SamePair, R
 use Rattle.misere_theory.specs.Pairs as theory
 use Rattle.misere_theory.proofs.Sums.{first_or_rest, no_move_of_none, value-append, heaps_up_to_kept}
 use Rattle.monoid_table.specs.Grids.{Grid, times_in}
-use Rattle.transition_algebra.specs.declared.pair.Pair.{Pair}
-use Rattle.pair_closure.specs.declared.members.Member.{Member}
-use Rattle.pair_closure.specs.declared.settle.Held.{Held}
+use Rattle.transition_algebra.specs.OverSets.{Pair}
+use Rattle.pair_closure.specs.OverSets.{Member}
+use Rattle.pair_closure.specs.OverSets.{Held}
 use Rattle.transition_algebra.specs.Pairs.{one, times, IsPair, covers}
 use Rattle.transition_algebra.specs.Heaps.{IsHeapPair}
 use Rattle.transition_algebra.specs.PairLaws.{has, empty_has, same_pair, times_has, has_left, has_right}

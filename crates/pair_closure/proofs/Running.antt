@@ -1,7 +1,7 @@
 -- Turns one after another.
 use Rattle.std.proofs.Common.{◌≡◌, ℕ, zero, suc, ◌+◌, ◌-◌, ◌≤◌, Bool, true, false, cond, [], ◌∷◌, ◌++◌, length, length-append, get_or, refl, sym, ap, ◌∙◌, arith, nat_lt}
 use Rattle.transition_algebra.specs.Pairs.{one}
-use Rattle.pair_closure.specs.declared.members.Member.{Member}
+use Rattle.pair_closure.specs.OverSets.{Member}
 use Rattle.pair_closure.specs.Turns.{State, SameData, covered, is_over, has_ended, pending, turn, turns}
 use Rattle.pair_closure.specs.ClosureViews.{ClosureView, moved, step, steps, stopped}
 use Rattle.pair_closure.proofs.Lists.{by_cond, if_true, if_false}

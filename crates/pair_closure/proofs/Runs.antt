@@ -4,7 +4,7 @@ use Rattle.std.proofs.Math.Nat.{mul-le-mul}
 use native.Mathlib.Decide.{dec_lt}
 use Rattle.monoid_table.specs.Grids.{Grid}
 use Rattle.monoid_table.specs.Tables.{IsTableGrid}
-use Rattle.transition_algebra.specs.declared.pair.Pair.{Pair}
+use Rattle.transition_algebra.specs.OverSets.{Pair}
 use Rattle.transition_algebra.specs.Pairs.{IsPair, one}
 use Rattle.pair_closure.specs.Turns.{State, SameData, start, has_ended, turn, turns}
 use Rattle.pair_closure.specs.ClosureViews.{ClosureView, IsRun, moved}

@@ -1,6 +1,6 @@
 -- Which turn is next, and what it makes of a state.
 use Rattle.std.proofs.Common.{◌≡◌, ℕ, ◌+◌, ◌<◌, Bool, true, false, cond, not, ◌||◌, length, get_or, set, refl, sym, ap, ◌∙◌, subst, inl, inr, ◌⊎◌, arith, nat_lt, lt-ltb, le-ltb}
-use Rattle.transition_algebra.specs.declared.pair.Pair.{Pair}
+use Rattle.transition_algebra.specs.OverSets.{Pair}
 use Rattle.transition_algebra.specs.Pairs.{one, times}
 use Rattle.pair_closure.specs.Turns.{State, KeepsEmpty, Multiplies, TriesHeap, blank_held, blank_generator, members_with, held_with, generators_with, multiplied, pending, is_over, is_done, has_ended, empty_turn, product_turn, heap_turn, turn}
 use Rattle.pair_closure.proofs.Lists.{if_true, if_false, or_true}

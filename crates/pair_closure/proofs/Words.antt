@@ -10,8 +10,8 @@ use Rattle.misere_theory.proofs.Sums.{heaps_up_to_kept, move_kept}
 use Rattle.misere_theory.proofs.Shuffles.{Shuffled, back, from_permutation, move_shuffled, position_shuffled, value_shuffled}
 use Rattle.positions.specs.Positions.{IsSize}
 use Rattle.pair_closure.specs.Chains.{blank}
-use Rattle.pair_closure.specs.declared.members.Member.{Member}
-use Rattle.pair_closure.specs.declared.settle.Held.{Held}
+use Rattle.pair_closure.specs.OverSets.{Member}
+use Rattle.pair_closure.specs.OverSets.{Held}
 use Rattle.pair_closure.specs.Turns.{State, blank_held}
 use Rattle.pair_closure.specs.Positions.{word, as_pair, IsWordOf}
 use Rattle.pair_closure.proofs.Lists.{In-at, In-Contains}

@@ -1,7 +1,7 @@
 -- Which turns a call takes, and what it comes to.
 use Rattle.std.specs.Prelude.{◌≡◌, ◌⊎◌, ℕ, ◌+◌, ◌*◌, ◌<◌, ◌≤◌, Bool, true, false, ◌||◌, nat_lt, List, length, Result, OnOk, OnErr}
 use Rattle.monoid_table.specs.Grids.{Grid}
-use Rattle.transition_algebra.specs.declared.pair.Pair.{Pair}
+use Rattle.transition_algebra.specs.OverSets.{Pair}
 use Rattle.pair_closure.specs.Turns.{State, KeepsNext, has_ended, is_over}
 use Rattle.pair_closure.specs.ClosureViews.{ClosureView, begun, steps, stopped}
 

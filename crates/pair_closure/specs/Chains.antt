@@ -1,7 +1,7 @@
 -- How the members ever kept are chained by their values.
 use Rattle.std.specs.Prelude.{◌≡◌, ℕ, zero, suc, ◌<◌, cond, nat_eq, List, length, slice_index, slice_index_or}
 use Rattle.transition_algebra.specs.Pairs.{one}
-use Rattle.pair_closure.specs.declared.members.Member.{Member}
+use Rattle.pair_closure.specs.OverSets.{Member}
 
 abbrev pub blank : Member
 blank = record { pair = one; parent = 0; heap = 0 }

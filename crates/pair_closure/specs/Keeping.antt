@@ -1,7 +1,7 @@
 -- Turns up to one that keeps a member.
 use Rattle.std.specs.Prelude.{◌≡◌, ◌⊎◌, ℕ, ◌+◌, ◌-◌, ◌<◌, ◌≤◌, List, length, slice_index_or}
-use Rattle.transition_algebra.specs.declared.pair.Pair.{Pair}
-use Rattle.pair_closure.specs.declared.settle.Held.{Held}
+use Rattle.transition_algebra.specs.OverSets.{Pair}
+use Rattle.pair_closure.specs.OverSets.{Held}
 use Rattle.pair_closure.specs.Turns.{State, blank_held}
 use Rattle.pair_closure.specs.ClosureViews.{ClosureView, steps}
 

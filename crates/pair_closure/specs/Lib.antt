@@ -4,3 +4,4 @@ pub mod ClosureViews
 pub mod Positions
 pub mod Keeping
 pub mod Calls
+pub mod OverSets

@@ -5,9 +5,9 @@ use Rattle.misere_theory.specs.Quotients.{Claim, GivesElements, Monoid, ReachesM
 use Rattle.misere_theory.specs.Games.{IsHeapUpTo, IsPosition}
 use Rattle.misere_theory.specs.Pairs as theory
 use Rattle.monoid_table.specs.Grids.{Grid, times_in}
-use Rattle.transition_algebra.specs.declared.pair.Pair.{Pair}
+use Rattle.transition_algebra.specs.OverSets.{Pair}
 use Rattle.transition_algebra.specs.Heaps.{IsHeapPairs}
-use Rattle.pair_closure.specs.declared.settle.Held.{Held}
+use Rattle.pair_closure.specs.OverSets.{Held}
 use Rattle.pair_closure.specs.Turns.{State, is_done, is_over, word_of}
 use Rattle.pair_closure.specs.Chains.{blank}
 

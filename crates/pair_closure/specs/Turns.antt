@@ -4,10 +4,10 @@ use Rattle.std.specs.List.{list_any, position_or_len}
 use Rattle.monoid_table.specs.Grids.{Grid}
 use Rattle.transition_algebra.specs.Pairs.{one, times, covers}
 use Rattle.pair_closure.specs.Chains.{blank}
-pub use Rattle.transition_algebra.specs.declared.pair.Pair.{Pair}
-pub use Rattle.pair_closure.specs.declared.members.Member.{Member}
-pub use Rattle.pair_closure.specs.declared.settle.Held.{Held}
-pub use Rattle.pair_closure.specs.declared.settle.Generator.{Generator}
+pub use Rattle.transition_algebra.specs.OverSets.{Pair}
+pub use Rattle.pair_closure.specs.OverSets.{Member}
+pub use Rattle.pair_closure.specs.OverSets.{Held}
+pub use Rattle.pair_closure.specs.OverSets.{Generator}
 
 -- What doesn't change: the table, the pairs of the heaps and the limit. What does: the members ever
 -- kept, those held, the heaps that no member covered, and how many heaps were tried.

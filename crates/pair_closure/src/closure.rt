@@ -1,5 +1,5 @@
 //! The closure: members ever kept, and those held.
-ghost use Rattle.std.specs.Prelude.{◌≡◌, ◌≤◌, ◌<◌, ◌+◌, ◌*◌, length, All, IfOk, IsOk, slice_index_or};
+ghost use Rattle.std.specs.Prelude.{◌≡◌, ◌^◌, ◌≤◌, ◌<◌, ◌+◌, ◌*◌, length, All, IfOk, IsOk, slice_index_or};
 ghost use Rattle.transition_algebra.specs.Pairs.{IsPair};
 ghost use Rattle.pair_closure.specs.Turns.{blank_held};
 ghost use Rattle.pair_closure.specs.ClosureViews.{begun, retaken};
@@ -8,10 +8,10 @@ ghost use Rattle.pair_closure.specs.Positions.{word, IsWordOf, ShowsPairs, IsMin
 
 mod growing;
 
-use crate::fits::is_short;
 use crate::members::Members;
 use crate::settle::{Generator, Held};
 use allocation::{Memory, SmallAllocator};
+use element_sets::LaneSet;
 pub use growing::Grown;
 use monoid_table::Table;
 use positions::{INLINE, Position};
@@ -21,13 +21,13 @@ use transition_algebra::Pair;
 
 /// A minimal cover as far as it has grown.
 #[derive(Drop)]
-pub struct Closure<A: Allocator = Global> {
+pub struct Closure<const LANES: usize, A: Allocator = Global> {
     table: Table<A>,
-    heaps: Vec<Pair, A>,
+    heaps: Vec<Pair<LaneSet<LANES>>, A>,
     limit: u32,
-    members: Members<A>,
-    held: Vec<Held, A>,
-    generators: Vec<Generator, A>,
+    members: Members<LANES, A>,
+    held: Vec<Held<LaneSet<LANES>>, A>,
+    generators: Vec<Generator<LaneSet<LANES>>, A>,
     next: usize,
     // members held before this place were multiplied by all generators
     from: usize,
@@ -35,16 +35,17 @@ pub struct Closure<A: Allocator = Global> {
     failed: bool,
 }
 
-impl<A: Allocator> Model for Closure<A> {
-    ghost use Rattle.std.specs.Prelude.{length};
+impl<const LANES: usize, A: Allocator> Model for Closure<LANES, A> {
+    ghost use Rattle.std.specs.Prelude.{length, ◌≤◌, ◌*◌};
     ghost use Rattle.pair_closure.specs.ClosureViews.{ClosureView, closure_view, IsRun};
     ghost use Rattle.pair_closure.specs.Turns.{NoneBefore};
-    ghost use Rattle.element_sets.specs.contracts.ElementSet as e;
-    ghost use Rattle.std.specs.Coded.{codes};
+    ghost use Rattle.std.specs.FinSet as set;
+    ghost use Rattle.std.specs.Ordering.{nat_cmp};
+    ghost use Rattle.std.specs.Coded.{codes, coded_ℕ};
 
     ghost Value = { ClosureView };
 
-    ghost coded = { Prim.hlevel (codes, e.the_row.coded) };
+    ghost coded = { Prim.hlevel (codes, set.code {R = nat_cmp} coded_ℕ) };
 
     ghost view = { λ c. closure_view c.table c.heaps.items c.limit c.members c.held.items
         c.generators.items c.next c.spent c.failed };
@@ -52,18 +53,22 @@ impl<A: Allocator> Model for Closure<A> {
     ghost invariant = { λ c.
         IsRun (closure_view c.table c.heaps.items c.limit c.members c.held.items c.generators.items
         c.next c.spent c.failed)
-        × NoneBefore c.held.items (length c.generators.items) c.from };
+        × NoneBefore c.held.items (length c.generators.items) c.from
+        × (c.table.order ≤ 64 * LANES)
+        × (LANES ≤ 64) };
 }
 
-impl<A: SmallAllocator + Copy> Closure<A> {
+impl<const LANES: usize, A: SmallAllocator + Copy> Closure<LANES, A> {
     /// No member is held yet, and no memory is taken. Item h of the pairs, counted from 1, stands
     /// for a heap of size h. It ends within limit times their number, plus 2, turns.
-    pub fn new(alloc: A, table: Table<A>, heaps: Vec<Pair, A>, limit: u32) -> Closure<A>
+    pub fn new(alloc: A, table: Table<A>, heaps: Vec<Pair<LaneSet<LANES>>, A>, limit: u32) -> Self
+        requires fits { table.order ≤ 64 * LANES }
+        requires few { LANES ≤ 64 }
+        requires short { length heaps.items < 2 ^ 58 }
         requires pairs { All (IsPair table.order) heaps.items }
         ensures { result ≡ begun table heaps.items limit }
     {
         monoid_table::is_monoid(&table);
-        is_short(&heaps);
         Closure {
             table,
             heaps,
@@ -114,7 +119,7 @@ impl<A: SmallAllocator + Copy> Closure<A> {
     }
 
     /// A member held, counted from 0.
-    pub fn member(&self, i: usize) -> &Pair
+    pub fn member(&self, i: usize) -> &Pair<LaneSet<LANES>>
         requires { i < length self.now.state.held }
         ensures { result.now ≡ (slice_index_or self.now.state.held i blank_held).pair }
     {
@@ -143,7 +148,7 @@ impl<A: SmallAllocator + Copy> Closure<A> {
     }
 
     /// The table and the pairs, as they were given.
-    pub fn finish(self) -> (Table<A>, Vec<Pair, A>)
+    pub fn finish(self) -> (Table<A>, Vec<Pair<LaneSet<LANES>>, A>)
         ensures table { result.0 ≡ self.state.table }
         ensures heaps { result.1.items ≡ self.state.heaps }
     {

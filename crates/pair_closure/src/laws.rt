@@ -2,7 +2,7 @@
 ghost use Rattle.std.specs.Prelude.{◌≡◌, ◌↔◌, ◌<◌, ◌≤◌, ◌+◌, ◌*◌, Bool, false, true, ℕ, List, All, length};
 ghost use Rattle.monoid_table.specs.Grids.{Grid};
 ghost use Rattle.monoid_table.specs.Tables.{IsTableGrid};
-ghost use Rattle.transition_algebra.specs.declared.pair.Pair as the_pair;
+ghost use Rattle.transition_algebra.specs.OverSets as the_pair;
 ghost use Rattle.transition_algebra.specs.Pairs.{IsPair};
 ghost use Rattle.pair_closure.specs.Turns as turning;
 ghost use Rattle.pair_closure.specs.Turns.{SameData, turns, has_ended};

@@ -28,7 +28,6 @@
 mod closure;
 mod covering;
 mod covering_all;
-mod fits;
 mod laws;
 mod members;
 mod settle;

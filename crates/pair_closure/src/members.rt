@@ -5,6 +5,7 @@ ghost use Rattle.pair_closure.specs.Chains.{blank, last_with};
 ghost use Rattle.pair_closure.specs.Turns.{any_covers, covers_any};
 
 use crate::covering::covers;
+use element_sets::{ElementSet, LaneSet};
 use std::alloc::{AllocError, Allocator};
 use std::marker::Model;
 use transition_algebra::Pair;
@@ -12,8 +13,8 @@ use transition_algebra::Pair;
 /// A member ever kept: the pair of the one at the place `parent` times that of the heap. The first
 /// is the pair of the empty position.
 #[derive(Clone, Copy)]
-pub struct Member {
-    pub pair: Pair,
+pub struct Member<S = ElementSet> {
+    pub pair: Pair<S>,
     pub parent: usize,
     pub heap: usize,
 }
@@ -21,8 +22,8 @@ pub struct Member {
 /// The members ever kept, in their order. Those of one value are chained, so that a test looks at
 /// no others.
 #[derive(Drop)]
-pub(crate) struct Members<A: Allocator> {
-    list: Vec<Member, A>,
+pub(crate) struct Members<const LANES: usize, A: Allocator> {
+    list: Vec<Member<LaneSet<LANES>>, A>,
     // one more than the place of the one before with the same value, or 0
     older: Vec<usize, A>,
     // for each value one more than the place of its last member, or 0; values past the end have
@@ -30,16 +31,17 @@ pub(crate) struct Members<A: Allocator> {
     newest: Vec<usize, A>,
 }
 
-impl<A: Allocator> Model for Members<A> {
+impl<const LANES: usize, A: Allocator> Model for Members<LANES, A> {
     ghost use Rattle.std.specs.Prelude.{List};
-    ghost use Rattle.pair_closure.specs.declared.members.Member.{Member};
+    ghost use Rattle.pair_closure.specs.OverSets.{Member};
     ghost use Rattle.pair_closure.specs.Chains.{AreChained};
-    ghost use Rattle.element_sets.specs.contracts.ElementSet as e;
-    ghost use Rattle.std.specs.Coded.{codes};
+    ghost use Rattle.std.specs.FinSet as set;
+    ghost use Rattle.std.specs.Ordering.{nat_cmp};
+    ghost use Rattle.std.specs.Coded.{codes, coded_ℕ};
 
     ghost Value = { List Member };
 
-    ghost coded = { Prim.hlevel (codes, e.the_row.coded) };
+    ghost coded = { Prim.hlevel (codes, set.code {R = nat_cmp} coded_ℕ) };
 
     ghost view = { λ m. m.list.items };
 
@@ -57,7 +59,7 @@ fn reach<A: Allocator>(newest: &mut Vec<usize, A>, value: usize) -> Result<(), A
     Ok(())
 }
 
-impl<A: Allocator + Copy> Members<A> {
+impl<const LANES: usize, A: Allocator + Copy> Members<LANES, A> {
     pub(crate) fn new(alloc: A) -> Self
         ensures { result ≡ [] }
     {
@@ -74,7 +76,7 @@ impl<A: Allocator + Copy> Members<A> {
         self.list.len()
     }
 
-    pub(crate) fn get(&self, place: usize) -> Member
+    pub(crate) fn get(&self, place: usize) -> Member<LaneSet<LANES>>
         requires { place < length self.now }
         ensures { result ≡ slice_index_or self.now place blank }
     {
@@ -92,7 +94,7 @@ impl<A: Allocator + Copy> Members<A> {
     }
 
     /// Whether some member covers x.
-    pub(crate) fn any_covers(&self, x: &Pair) -> bool
+    pub(crate) fn any_covers(&self, x: &Pair<LaneSet<LANES>>) -> bool
         ensures { result ≡ any_covers self.now x.now }
     {
         let mut at = self.newest_with(x.value);
@@ -107,7 +109,7 @@ impl<A: Allocator + Copy> Members<A> {
     }
 
     /// Whether x covers some member.
-    pub(crate) fn covers_any(&self, x: &Pair) -> bool
+    pub(crate) fn covers_any(&self, x: &Pair<LaneSet<LANES>>) -> bool
         ensures { result ≡ covers_any x.now self.now }
     {
         let mut at = self.newest_with(x.value);
@@ -122,8 +124,8 @@ impl<A: Allocator + Copy> Members<A> {
     }
 
     /// Adds a member at the end, or changes nothing.
-    pub(crate) fn push(&mut self, member: Member) -> Result<(), AllocError>
-        ensures ok { OnOk result (self.new ≡ self.old ++ member ∷ []) }
+    pub(crate) fn push(&mut self, member: Member<LaneSet<LANES>>) -> Result<(), AllocError>
+        ensures ok { OnOk result (self.new ≡ self.old ++ member.entry ∷ []) }
         ensures err { OnErr result (self.new ≡ self.old) }
     {
         let value = member.pair.value as usize;

@@ -6,27 +6,32 @@ ghost use Rattle.pair_closure.specs.Turns.{Tell, covers_any, covers_held, member
 
 use crate::covering::covers;
 use crate::members::{Member, Members};
+use element_sets::{ElementSet, LaneSet};
 use std::alloc::{AllocError, Allocator};
 use transition_algebra::Pair;
 
 /// A member held: its place among those ever kept, and by how many generators it was multiplied.
 #[derive(Clone, Copy)]
-pub struct Held {
-    pub pair: Pair,
+pub struct Held<S = ElementSet> {
+    pub pair: Pair<S>,
     pub place: usize,
     pub by: usize,
 }
 
 /// A heap whose pair no member covered. Members are multiplied by these alone.
 #[derive(Clone, Copy)]
-pub struct Generator {
-    pub pair: Pair,
+pub struct Generator<S = ElementSet> {
+    pub pair: Pair<S>,
     pub heap: usize,
 }
 
 /// The first member held, from `from` on, that some generator hasn't multiplied, or how many are
 /// held.
-pub(crate) fn pending(held: &[Held], generators: usize, from: usize) -> usize
+pub(crate) fn pending<const LANES: usize>(
+    held: &[Held<LaneSet<LANES>>],
+    generators: usize,
+    from: usize,
+) -> usize
     requires before { NoneBefore held.now generators from }
     ensures value { result ≡ first_pending held.now generators }
     ensures within { result ≤ length held.now }
@@ -40,15 +45,15 @@ pub(crate) fn pending(held: &[Held], generators: usize, from: usize) -> usize
 
 /// Makes room for one more member, and adds it. The answer is true unless it covers no member at
 /// all.
-pub(crate) fn add<A: Allocator + Copy>(
-    members: &mut Members<A>,
-    held: &mut Vec<Held, A>,
-    member: Member,
+pub(crate) fn add<const LANES: usize, A: Allocator + Copy>(
+    members: &mut Members<LANES, A>,
+    held: &mut Vec<Held<LaneSet<LANES>>, A>,
+    member: Member<LaneSet<LANES>>,
 ) -> Result<bool, AllocError>
     ensures members { OnOk result
-        (members.new ≡ members_with members.old member.pair member.parent member.heap) }
+        (members.new ≡ members_with members.old member.entry.pair member.entry.parent member.entry.heap) }
     ensures room { OnOk result (vec_len held.new < vec_capacity held.new) }
-    ensures alone { result ≡ Ok false → covers_any member.pair members.old ≡ false }
+    ensures alone { result ≡ Ok false → covers_any member.entry.pair members.old ≡ false }
     ensures held { held.new.items ≡ held.old.items }
     ensures err { OnErr result (members.new ≡ members.old) }
 {
@@ -59,7 +64,11 @@ pub(crate) fn add<A: Allocator + Copy>(
 }
 
 /// Gives up the members that x covers.
-fn give_up<A: Allocator>(held: &mut Vec<Held, A>, x: &Pair, covers_some: bool)
+fn give_up<const LANES: usize, A: Allocator>(
+    held: &mut Vec<Held<LaneSet<LANES>>, A>,
+    x: &Pair<LaneSet<LANES>>,
+    covers_some: bool,
+)
     requires { covers_some ≡ false → covers_held x.now held.old.items ≡ false }
     ensures held { held.new.items ≡ filter (λ m. not (covering.covers x.now m.pair))
         held.old.items }
@@ -69,20 +78,24 @@ fn give_up<A: Allocator>(held: &mut Vec<Held, A>, x: &Pair, covers_some: bool)
     if !covers_some {
         return;
     }
-    held.retain(|member| !covers(x, &member.pair));
+    held.retain(
+        |member: &Held<LaneSet<LANES>>| -> bool
+            ensures { result ≡ not (covering.covers x.entry.now member.now.pair) }
+        { !covers(x, &member.pair) },
+    );
 }
 
 /// Holds x, and gives up the members that it covers.
-pub(crate) fn hold<A: Allocator>(
-    held: &mut Vec<Held, A>,
-    x: Pair,
+pub(crate) fn hold<const LANES: usize, A: Allocator>(
+    held: &mut Vec<Held<LaneSet<LANES>>, A>,
+    x: Pair<LaneSet<LANES>>,
     place: usize,
     by: usize,
     covers_some: bool,
 )
     requires room { vec_len held.old < vec_capacity held.old }
     requires some { covers_some ≡ false → covers_held x held.old.items ≡ false }
-    ensures { held.new.items ≡ held_with held.old.items x place by }
+    ensures { held.new.items ≡ held_with held.old.items x.entry place by }
 {
     give_up(held, &x, covers_some);
     held.push_reserved(Held { pair: x, place, by });
@@ -90,25 +103,25 @@ pub(crate) fn hold<A: Allocator>(
 
 /// The member held at the place was multiplied once more, by the generator of this heap. The answer
 /// is true unless all that are held before it stay.
-pub(crate) fn settle_product<A: Allocator + Copy>(
-    members: &mut Members<A>,
-    held: &mut Vec<Held, A>,
+pub(crate) fn settle_product<const LANES: usize, A: Allocator + Copy>(
+    members: &mut Members<LANES, A>,
+    held: &mut Vec<Held<LaneSet<LANES>>, A>,
     at: usize,
-    multiplied: Held,
-    product: Pair,
+    multiplied: Held<LaneSet<LANES>>,
+    product: Pair<LaneSet<LANES>>,
     heap: usize,
 ) -> Result<bool, AllocError>
     requires within { at < length held.old.items }
     requires same { multiplied.pair ≡ (slice_index_or held.old.items at blank_held).pair }
     requires tell { Tell members.old held.old.items product }
     ensures members { OnOk result
-        (members.new ≡ members_after members.old held.old.items product multiplied.place heap) }
+        (members.new ≡ members_after members.old held.old.items product.entry multiplied.entry.place heap) }
     ensures held { OnOk result
-        (held.new.items ≡ held_after held.old.items (slice_set held.old.items at multiplied) product
+        (held.new.items ≡ held_after held.old.items (slice_set held.old.items at multiplied.entry) product.entry
         (length members.old)) }
     ensures before { result ≡ Ok false → (k : ℕ) → k < at
         → slice_index_or held.new.items k blank_held ≡ slice_index_or held.old.items k blank_held }
-    ensures keeps { IsErr result → covered held.old.items product ≡ false }
+    ensures keeps { IsErr result → covered held.old.items product.entry ≡ false }
     ensures err_members { OnErr result (members.new ≡ members.old) }
     ensures err_held { OnErr result (held.new.items ≡ held.old.items) }
 {
@@ -129,23 +142,23 @@ pub(crate) fn settle_product<A: Allocator + Copy>(
 }
 
 /// A heap was tried. The answer is whether its pair was kept.
-pub(crate) fn settle_heap<A: Allocator + Copy>(
-    members: &mut Members<A>,
-    held: &mut Vec<Held, A>,
-    generators: &mut Vec<Generator, A>,
-    pair: Pair,
+pub(crate) fn settle_heap<const LANES: usize, A: Allocator + Copy>(
+    members: &mut Members<LANES, A>,
+    held: &mut Vec<Held<LaneSet<LANES>>, A>,
+    generators: &mut Vec<Generator<LaneSet<LANES>>, A>,
+    pair: Pair<LaneSet<LANES>>,
     heap: usize,
 ) -> Result<bool, AllocError>
     requires tell { Tell members.old held.old.items pair }
     ensures members { OnOk result
-        (members.new ≡ members_after members.old held.old.items pair 0 heap) }
+        (members.new ≡ members_after members.old held.old.items pair.entry 0 heap) }
     ensures held { OnOk result
-        (held.new.items ≡ held_after held.old.items held.old.items pair (length members.old)) }
+        (held.new.items ≡ held_after held.old.items held.old.items pair.entry (length members.old)) }
     ensures generators { OnOk result (generators.new.items
-        ≡ cond (covered held.old.items pair) generators.old.items
-        (generators_with generators.old.items pair heap)) }
-    ensures kept { result ≡ Ok false → covered held.old.items pair ≡ true }
-    ensures keeps { IsErr result → covered held.old.items pair ≡ false }
+        ≡ cond (covered held.old.items pair.entry) generators.old.items
+        (generators_with generators.old.items pair.entry heap)) }
+    ensures kept { result ≡ Ok false → covered held.old.items pair.entry ≡ true }
+    ensures keeps { IsErr result → covered held.old.items pair.entry ≡ false }
     ensures err_members { OnErr result (members.new ≡ members.old) }
     ensures err_held { OnErr result (held.new.items ≡ held.old.items) }
     ensures err_generators { OnErr result (generators.new.items ≡ generators.old.items) }

@@ -65,7 +65,8 @@ pub record IsTableText (relations : List Relation) (text : List ℕ) : Type 0 wh
 pub data RefusesTable (relations : List Relation) (text : List ℕ) : Type 0 where
   Unbounded : IsUnbounded relations → text ≡ codes "refused 2 Unbounded\n"
       → RefusesTable relations text
-  Limit : IsAboveLimit relations LARGEST_BOX ⊎ HasMoreElements relations LARGEST_FIRST_ORDER
+  Limit : (IsUnbounded relations → ⊥)
+      → IsAboveLimit relations LARGEST_BOX ⊎ HasMoreElements relations LARGEST_FIRST_ORDER
       → text ≡ codes "refused 3 Limit\n" → RefusesTable relations text
 
 -- the text is the table, or says why there is none

@@ -31,7 +31,8 @@ fn monoid_of(alloc: Global, text: &str) -> Result<Named, PresFault>
     ensures unbounded { (result ≡ Err PresFault.Unbounded) → (relations : List Relation)
         × SpellsPresentation text.now relations × IsUnbounded relations }
     ensures limit { (result ≡ Err PresFault.Limit) → (relations : List Relation)
-        × SpellsPresentation text.now relations × (IsAboveLimit relations LARGEST_BOX
+        × SpellsPresentation text.now relations × (IsUnbounded relations → ⊥)
+        × (IsAboveLimit relations LARGEST_BOX
         ⊎ HasMoreElements relations LARGEST_FIRST_ORDER) }
 {
     let presentation = Presentation::read(alloc, text.as_bytes())?;

@@ -87,6 +87,11 @@ pub record AreNamed (table : Grid) (elements : List ℕ) (words : List (List ℕ
       → product_at (times_in table) elements (vector_of (length elements) (slice_index_or words x d))
       ≡ x
 
+-- Each relation leads from a word that is not in the list to one that is. Half of what makes a basis a
+-- reduced one: Cox, Little and O'Shea, Ideals, Varieties, and Algorithms, chapter 2.
+abbrev pub LeadTo : List (List ℕ) → List Relation → Type 0
+LeadTo words relations = All (λ r. (Contains words r.left → ⊥) × Contains words r.right) relations
+
 -- each element of a table of this order, once
 pub record IsListing (order : ℕ) (listing : List ℕ) : Type 0 where
   pub long : length listing ≡ order

@@ -2,14 +2,14 @@
 //! what is checked in the end.
 ghost use Rattle.std.specs.Prelude.{◌≡◌, ◌<◌, ◌≤◌, IfOk, All, Contains, vec_len};
 ghost use Rattle.presentations.specs.declared.TheConstants.{LETTERS};
-ghost use Rattle.relations.specs.Presented.{AreNamed, ArePresentation, IsListing};
+ghost use Rattle.relations.specs.Presented.{AreNamed, ArePresentation, IsListing, LeadTo};
 ghost use Rattle.relations.specs.Printed.{ArePrintable};
 
 use crate::checking::is_shown;
 use crate::fault::Undescribed;
 use crate::generating::generators;
 use crate::least::{Least, least_words};
-use crate::listing::{are_printable, is_listing};
+use crate::listing::{are_printable, is_listing, lead_to};
 use crate::shortening::{independent, short, sort};
 use allocation::Memory;
 use monoid_table::Table;
@@ -82,6 +82,7 @@ pub fn described<A: Allocator + Copy>(
     ensures listing { IfOk result (λ d. IsListing table.now.order d.listing.items) }
     ensures printable { IfOk result
         (λ d. ArePrintable (vec_len d.elements) d.relations.items) }
+    ensures lead { IfOk result (λ d. LeadTo d.words.items d.relations.items) }
 {
     let found = generators(alloc, table, elements)?;
     let letters = found.len();
@@ -107,6 +108,9 @@ pub fn described<A: Allocator + Copy>(
         STEPS,
     )?;
     if !shown || !is_listing(table.order(), listing.as_slice()) {
+        return Err(Undescribed::Unshown);
+    }
+    if !lead_to(words.as_slice(), relations.as_slice()) {
         return Err(Undescribed::Unshown);
     }
     Ok(Description {

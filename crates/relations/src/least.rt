@@ -3,8 +3,8 @@ ghost use Rattle.std.specs.Prelude.{◌≡◌, ◌<◌, ◌≤◌, IfOk, All, le
 ghost use Rattle.presentations.specs.declared.TheConstants.{LETTERS};
 
 use crate::checking::{lengthened, value};
+use crate::fault::Undescribed;
 use crate::rewriting::is_same;
-use allocation::Memory;
 use monoid_table::Table;
 use presentations::{LETTERS, Relation, Word};
 use std::alloc::Allocator;
@@ -52,11 +52,12 @@ pub struct Least<A: Allocator> {
 
 /// The elements' least words: of fewest letters, and of these the first in the alphabet. The
 /// relations are those of the words that aren't least, but are so without any one of their letters.
+/// Refuses `Exponents` where an exponent gets above `u8::MAX`.
 pub fn least_words<A: Allocator + Copy>(
     alloc: A,
     table: &Table<A>,
     elements: &[u16],
-) -> Result<Least<A>, Memory>
+) -> Result<Least<A>, Undescribed>
     requires elements { All (λ e. e < table.now.order) elements.now }
     requires letters { length elements.now ≤ LETTERS }
 {
@@ -78,11 +79,7 @@ pub fn least_words<A: Allocator + Copy>(
         let from = words[found[at] as usize];
         for i in last_letter(elements.len(), &from)..elements.len() {
             let Some(word) = lengthened(elements.len(), &from, i) else {
-                return Ok(Least {
-                    words,
-                    listing: found,
-                    basis,
-                });
+                return Err(Undescribed::Exponents);
             };
             if is_corner(table, elements, words.as_slice(), &word) {
                 let e = value(table, elements, &word);

@@ -19,4 +19,4 @@ pub use finding::{Description, Form, described};
 pub use laws::{texts_spell, words_present};
 pub use powers::presentable;
 pub use rewriting::{completed, is_same, reduced};
-pub use text::{Notation, relation_text, relations_text, word_text, words_text};
+pub use text::{Notation, factor_text, relation_text, relations_text, word_text, words_text};

@@ -1,6 +1,7 @@
-//! Whether lists are what is printed: each element once, and words that `present` reads.
-ghost use Rattle.std.specs.Prelude.{◌≡◌, ◌<◌, ◌≤◌, ℕ, IsTrue, All, Contains};
-ghost use Rattle.relations.specs.Presented.{IsListing};
+//! Whether lists are what is printed: each element once, relations that lead to the elements' words, and
+//! words that `present` reads.
+ghost use Rattle.std.specs.Prelude.{◌≡◌, ◌<◌, ◌≤◌, ◌↔◌, ℕ, IsTrue, All, Contains};
+ghost use Rattle.relations.specs.Presented.{IsListing, LeadTo};
 ghost use Rattle.relations.specs.Printed.{ArePrintable, IsPrintable};
 
 use presentations::{LARGEST_EXPONENT, LETTERS, Relation, Word};
@@ -46,6 +47,30 @@ pub fn is_listing(order: u16, listing: &[u16]) -> bool
     ensures { IsTrue result → IsListing order listing.now }
 {
     listing.len() == order as usize && are_below(order, listing) && has_all(order, listing)
+}
+
+/// Whether the word is in the list.
+fn has_word(words: &[Word], word: &Word) -> bool
+    ensures { IsTrue result ↔ Contains words.now word.now }
+{
+    for other in words {
+        if *other == *word {
+            return true;
+        }
+    }
+    false
+}
+
+/// Whether each relation leads from a word that is not in the list to one that is.
+pub fn lead_to(words: &[Word], relations: &[Relation]) -> bool
+    ensures { IsTrue result → LeadTo words.now relations.now }
+{
+    for relation in relations {
+        if has_word(words, &relation.left) || !has_word(words, &relation.right) {
+            return false;
+        }
+    }
+    true
 }
 
 /// Whether the exponents are at most `LARGEST_EXPONENT`, and those after the first letters 0.

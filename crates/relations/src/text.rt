@@ -16,8 +16,8 @@ pub enum Notation {
     Latex,
 }
 
-/// A letter with its exponent.
-fn factor_text(
+/// A letter with its exponent, or nothing for the exponent 0.
+pub fn factor_text(
     alloc: Global,
     notation: Notation,
     letter: u8,

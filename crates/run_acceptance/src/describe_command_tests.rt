@@ -3,6 +3,7 @@ use crate::certificates::{OF_0_1, OF_0_33, OF_0_75, PART_OF_0_75};
 use crate::files::folder_with;
 use crate::rows::{Row, count_held};
 use crate::said::is_said;
+use crate::tame::tame;
 use describe_command::{Form, describe};
 use folders::MemoryFolder;
 use requests::Output;
@@ -42,7 +43,7 @@ impl Row for Described {
     }
 }
 
-static ROWS: [Described; 9] = [
+static ROWS: [Described; 12] = [
     Described(
         Asked(OF_0_1, LIMIT, Form::Short, Output::Description),
         true,
@@ -100,8 +101,8 @@ repeat 2 from 8\n",
     Described(
         Asked(PART_OF_0_75, LIMIT, Form::Short, Output::Description),
         true,
-        "Q(0.75) = < a,b,c | a^2=1, bc=ab, c^2=b^2 >\n\
-P = { a, b^2 }\n\
+        "Q_8(0.75) = < a,b,c | a^2=1, bc=ab, c^2=b^2 >\n\
+P_8 = { a, b^2 }\n\
 order 8 portion 2 wild\n\
 generators a=1 b=2 c=5\n\
 units 1 a\n\
@@ -109,6 +110,26 @@ idempotents 1 b^2\n\
 kernel b ab b^2 ab^2\n\
 0+ a b a b c b c b\n\
 heaps to 8\n",
+    ),
+    Described(
+        Asked(PART_OF_0_75, LIMIT, Form::Short, Output::Latex),
+        true,
+        "\\begin{flushleft}\n\
+$\\mathcal{Q}_{8}(\\mathbf{0.75})=\\langle a,b,c\\mid a^{2}=1$, $bc=ab$, $c^{2}=b^{2}\\rangle$\\\\\n\
+$\\mathcal{P}_{8}=\\{a$, $b^{2}\\}$\\\\\n\
+$|\\mathcal{Q}_{8}|=8$, $|\\mathcal{P}_{8}|=2$, wild\\\\\n\
+generators $a=\\Phi(1)$ $b=\\Phi(2)$ $c=\\Phi(5)$\\\\\n\
+units $1$, $a$\\\\\n\
+idempotents $1$, $b^{2}$\\\\\n\
+kernel $b$, $ab$, $b^{2}$, $ab^{2}$\n\
+\\end{flushleft}\n\
+\\begin{center}\n\
+\\makebox[0pt]{$\\begin{array}{r|cccccccc}\n\
+&1&2&3&4&5&6&7&8\\\\\\hline\n\
+0+&a&b&a&b&c&b&c&b\n\
+\\end{array}$}\n\
+\\end{center}\n\
+\\noindent heaps to $8$\n",
     ),
     Described(
         Asked(OF_0_33, LIMIT, Form::Short, Output::Latex),
@@ -136,6 +157,16 @@ kernel $b$, $ab$, $b^{2}$, $ab^{2}$\n\
         "a^2=1 b^3=b\n",
     ),
     Described(
+        Asked(OF_0_75, LIMIT, Form::Short, Output::Relations),
+        true,
+        "a^2=1 bc=ab c^2=b^2 b^3=b c^4=c^2\n",
+    ),
+    Described(
+        Asked(OF_0_75, LIMIT, Form::Basis, Output::Relations),
+        true,
+        "a^2=1 b^3=b bc=ab c^2=b^2 c^4=c^2\n",
+    ),
+    Described(
         Asked(OF_0_33, 1, Form::Short, Output::Description),
         false,
         "no 8 Limit\n",
@@ -147,7 +178,50 @@ kernel $b$, $ab$, $b^{2}$, $ab^{2}$\n\
     ),
 ];
 
+/// How the description of the quotient of order 258 begins: the presentation of T_8.
+const LARGE: &str =
+    "Q_256(0.e8) = < a,b,c,d,e,f,g,h | a^2=1, b^3=b, b^2c=c, c^2=b^2, b^2d=d, d^2=b^2, \
+b^2e=e, e^2=b^2, b^2f=f, f^2=b^2, b^2g=g, g^2=b^2, b^2h=h, h^2=b^2 >\n\
+P_256 = { a, b^2 }\n\
+order 258 portion 2 tame 8\n\
+generators a=2 b=3 c=5 d=9 e=17 f=33 g=65 h=129\n\
+units 1 a\n\
+idempotents 1 b^2\n\
+kernel b c d ";
+
+/// Whether the description of what the file holds begins and ends so.
+fn describes_from_to(alloc: Global, held: &str, beginning: &str, end: &str) -> bool {
+    match folder_with(alloc, &[], "a.mqc", held, 2) {
+        Ok(mut folder) => {
+            match describe(
+                alloc,
+                "a.mqc",
+                LIMIT,
+                Form::Short,
+                Output::Description,
+                &mut folder,
+            ) {
+                Ok(said) => {
+                    said.succeeds
+                        && said.text.as_slice().starts_with(beginning.as_bytes())
+                        && said.text.as_slice().ends_with(end.as_bytes())
+                }
+                Err(_) => false,
+            }
+        }
+        Err(_) => false,
+    }
+}
+
+/// Whether a quotient of order 258 is described.
+fn describes_the_large(alloc: Global) -> bool {
+    match tame(alloc) {
+        Ok(held) => describes_from_to(alloc, held.as_str(), LARGE, "\nheaps to 256\n"),
+        Err(_) => false,
+    }
+}
+
 #[test]
 fn describes_quotients(rt: HostRuntime) {
-    assert!(rt; count_held(rt.alloc(), &ROWS) == 9);
+    assert!(rt; count_held(rt.alloc(), &ROWS) == 12 && describes_the_large(rt.alloc()));
 }

@@ -25,6 +25,8 @@ mod proposers_tests;
 #[cfg(test)]
 mod quotient_finder_tests;
 #[cfg(test)]
+mod relations_tests;
+#[cfg(test)]
 mod rows;
 #[cfg(test)]
 mod said;

@@ -64,7 +64,7 @@ fn ends_with<S: Source>(alloc: Global, run: &Run, input: &mut S, held: &str) -> 
 const YES: &str = "yes 0.3 order 2 start 1 period 2\n";
 
 /// Of most a second call of the folder would fail.
-static ROWS: [Run; 53] = [
+static ROWS: [Run; 56] = [
     Run(
         "check|0.33.mqc",
         2,
@@ -88,6 +88,31 @@ static ROWS: [Run; 53] = [
         2,
         0,
         "code 0.3\norder 2\nelement 0 N 0\nelement 1 P 1\nheap 1 1\nheap 2 0\nrepeat 2 from 1\n",
+        "",
+    ),
+    Run(
+        "describe|0.75.mqc|--basis",
+        2,
+        0,
+        "Q(0.75) = < a,b,c | a^2=1, b^3=b, bc=ab, c^2=b^2 >\nP = { a, b^2 }\n\
+order 8 portion 2 wild\ngenerators a=1 b=2 c=5\nunits 1 a\nidempotents 1 b^2\n\
+kernel b ab b^2 ab^2\n0+ a    b    a    b    c    b    c    b\n8+ ab^2\nrepeat 2 from 8\n",
+        "",
+    ),
+    Run(
+        "describe|part.mqc",
+        2,
+        0,
+        "Q_8(0.75) = < a,b,c | a^2=1, bc=ab, c^2=b^2 >\nP_8 = { a, b^2 }\n\
+order 8 portion 2 wild\ngenerators a=1 b=2 c=5\nunits 1 a\nidempotents 1 b^2\n\
+kernel b ab b^2 ab^2\n0+ a b a b c b c b\nheaps to 8\n",
+        "",
+    ),
+    Run(
+        "describe|0.75.mqc|--relations",
+        2,
+        0,
+        "a^2=1 bc=ab c^2=b^2 b^3=b c^4=c^2\n",
         "",
     ),
     Run(
@@ -266,7 +291,7 @@ fn makes_anew(alloc: Global) -> bool {
 
 #[test]
 fn does_what_is_asked(rt: HostRuntime) {
-    assert!(rt; count_held(rt.alloc(), &ROWS) == 53 && makes_anew(rt.alloc()));
+    assert!(rt; count_held(rt.alloc(), &ROWS) == 56 && makes_anew(rt.alloc()));
     assert!(rt; reads_input(rt.alloc()) && tells_no_input(rt.alloc()));
 }
 

@@ -2,6 +2,7 @@
 use Rattle.std.specs.Prelude.{◌≡◌, ◌≢◌, ◌⊎◌, ⊤, ◌≤◌, ◌<◌, ℕ, Bool, true, false, List, ◌++◌, length, Result, Ok, Err, codes, decimal}
 use Rattle.misere_theory.specs.Certificates.{Certificate, Accepted, kind_of}
 use Rattle.misere_theory.specs.declared.TheConstants.{MOST_ENTRIES}
+use Rattle.quotient_search.specs.declared.aim.TheConstants.{DEEPEST}
 use Rattle.octal_code.specs.Text.{IsCodeText}
 use Rattle.certificate_text.specs.Spelling.{Spells}
 use Rattle.command_results.specs.declared.stop.Stop.{Stop}
@@ -88,6 +89,13 @@ reason_line (NoPeriod heaps order) =
 reason_line OneElement = codes "one element\n"
 reason_line Members = codes "members\n"
 reason_line Refused = codes "refused\n"
+
+-- what the search for the reason looks at: the heaps up to the largest, and whether they are a part
+abbrev pub LooksAt : Aim → ℕ → Bool → Type 0
+LooksAt (Whole heaps) most part = (most ≡ heaps) × (part ≡ false)
+LooksAt Deep most part = (most ≡ DEEPEST) × (part ≡ false)
+LooksAt (Part last) most part = (most ≡ last) × (part ≡ true)
+LooksAt Furthest most part = (1 ≤ most) × (most ≤ MOST_ENTRIES) × (part ≡ true)
 
 -- it is the line of some reason
 abbrev pub IsReasonLine : List ℕ → Type 0

@@ -7,4 +7,4 @@ mod solving;
 mod told;
 
 pub use bounds::SolveBounds;
-pub use solving::solve;
+pub use solving::{solve, solve_bytes};

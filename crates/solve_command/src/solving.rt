@@ -23,17 +23,26 @@ pub fn solve(alloc: Global, text: &str, bounds: SolveBounds) -> Result<Said, Sto
     ensures stops { IfErr result (IsSolveCause text.now) }
     ensures not_a_code { IsErrOf result Stop.NotACode ↔ IsNoCode text.now }
 {
-    let code = code_of(text)?;
+    solve_bytes(alloc, text.as_bytes(), bounds)
+}
+
+/// The same of bytes, which may be no text at all.
+pub fn solve_bytes(alloc: Global, word: &[u8], bounds: SolveBounds) -> Result<Said, Stop<'static>>
+    ensures says { IfOk result (λ s. Solves word.now bounds s.text.items s.succeeds) }
+    ensures stops { IfErr result (IsSolveCause word.now) }
+    ensures not_a_code { IsErrOf result Stop.NotACode ↔ IsNoCode word.now }
+{
+    let code = code_of(word)?;
     let said = answer(alloc, &code, bounds)?;
     Ok(said)
 }
 
-/// The code that the text spells.
-fn code_of(text: &str) -> Result<Code, Stop<'static>>
-    ensures code { IfOk result (IsCodeText text.now) }
-    ensures no_code { IfErr result (λ stop. (stop ≡ Stop.NotACode) × IsNoCode text.now) }
+/// The code that the bytes spell.
+fn code_of(word: &[u8]) -> Result<Code, Stop<'static>>
+    ensures code { IfOk result (IsCodeText word.now) }
+    ensures no_code { IfErr result (λ stop. (stop ≡ Stop.NotACode) × IsNoCode word.now) }
 {
-    match Code::read(text.as_bytes()) {
+    match Code::read(word) {
         Ok(code) => Ok(code),
         Err(_) => Err(Stop::NotACode),
     }

@@ -1,6 +1,6 @@
 //! What is told of a search that was given up.
 ghost use Rattle.std.specs.Prelude.{◌≡◌, IfOk, false, string_bytes, true};
-ghost use Rattle.solve_command.specs.Solved.{IsGivingUpText, IsReasonLine, reason_line};
+ghost use Rattle.solve_command.specs.Solved.{IsGivingUpText, IsReasonLine, LooksAt, reason_line};
 
 use crate::bounds::SolveBounds;
 use crate::search::last_of_furthest;
@@ -28,7 +28,11 @@ fn reason_text(alloc: Global, reason: Reason) -> Result<String, Memory>
 }
 
 /// What the refiner was to search for.
-fn sought_of(alloc: Global, code: &Code, bounds: SolveBounds) -> Result<Sought, Memory> {
+fn sought_of(alloc: Global, code: &Code, bounds: SolveBounds) -> Result<Sought, Memory>
+    ensures heaps { IfOk result (λ s. LooksAt bounds.aim s.heaps s.is_part) }
+    ensures order { IfOk result (λ s. s.order ≡ bounds.order) }
+    ensures members { IfOk result (λ s. s.members ≡ bounds.limit) }
+{
     let (heaps, is_part) = match bounds.aim {
         Aim::Whole { heaps } => (heaps as usize, false),
         Aim::Deep => (DEEPEST, false),

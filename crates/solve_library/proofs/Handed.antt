@@ -1,22 +1,37 @@
 -- What is handed over where a search spells a certificate.
-use Rattle.std.proofs.Common.{◌≡◌, ◌≤◌, sym, subst, ℕ, Bool, true, false, List}
+use Rattle.std.proofs.Common.{◌≡◌, ◌≤◌, ◌∙◌, sym, subst, ℕ, Bool, true, false, List, arith}
+use Rattle.std.specs.Prelude.{Ok}
 use Rattle.misere_theory.specs.Certificates.{kind_of}
 use Rattle.octal_code.specs.Text.{IsCodeText}
+use Rattle.requests.specs.declared.plans.Aim.{Aim}
+use Rattle.requests.specs.declared.plans.Aim.TheVariants.{Whole, Deep, Part, Furthest}
 use Rattle.solve_command.specs.declared.bounds.SolveBounds.{SolveBounds}
-use Rattle.solve_command.specs.Solved.{IsAimedAt, Solves}
-use Rattle.solve_library.specs.Found.{IsCertificateFor, IsOfKind}
+use Rattle.solve_command.specs.Solved.{IsAimedAt, IsSearched, Solves}
+use Rattle.solve_library.specs.Found.{AreBounds, IsAim, IsCertificateFor, IsOfKind}
+use Rattle.solve_library.specs.declared.solving.Asked.{Asked}
 
-pub handed : (word bytes : List ℕ) (bounds : SolveBounds) (aim heaps order : ℕ) (found : Bool)
-    → found ≡ true → bounds.order ≡ order
-    → ((kind : ℕ) → IsAimedAt bounds.aim kind → IsOfKind aim heaps kind)
-    → Solves word bounds bytes found → IsCertificateFor word aim heaps order bytes
-handed word bytes bounds aim heaps order true is same kinds (code, spells, p) =
+-- a certificate of a kind that is aimed at is of the kind that is asked
+of_aim : (aim heaps kind : ℕ) (a : Aim) → IsAim aim heaps a → IsAimedAt a kind → IsOfKind aim heaps kind
+of_aim aim heaps kind (Whole most) is at =
+    ((λ e. at), (λ e. absurd (let z = is.0 in omega arith)), (λ e. absurd (let z = is.0 in omega arith)))
+of_aim aim heaps kind Deep is at = absurd is
+of_aim aim heaps kind (Part last) is at =
+    ((λ e. absurd (let z = is.0 in omega arith)), (λ e. at ∙ is.1), (λ e. absurd (let z = is.0 in omega arith)))
+of_aim aim heaps kind Furthest is at =
+    ((λ e. absurd (omega arith)), (λ e. absurd (omega arith)), (λ e. at))
+
+pub handed : (word bytes : List ℕ) (a : Asked) (bounds : SolveBounds) (found : Bool)
+    → found ≡ true → AreBounds a bounds → Solves word bounds bytes found → IsCertificateFor word a bytes
+handed word bytes a bounds true is are (code, spells, p) =
     record {
       certificate = p.c;
       of_code = subst (IsCodeText word) (sym p.asked_for.of_code) spells;
-      of_kind = kinds (kind_of p.c) p.asked_for.of_kind;
+      of_kind = of_aim a.aim a.heaps (kind_of p.c) bounds.aim are.aim p.asked_for.of_kind;
       spelled = p.spelled;
       accepted = p.asked_for.accepted;
-      small = subst (λ (n : ℕ). p.c.order ≤ n) same p.small;
+      small = subst (λ (n : ℕ). p.c.order ≤ n) are.order p.small;
+      bounds = bounds;
+      are_bounds = are;
+      searched = subst (λ (d : List ℕ). IsSearched d bounds (Ok p.c)) (sym p.asked_for.of_code) p.searched;
     }
-handed word bytes bounds aim heaps order false is same kinds p = cc
+handed word bytes a bounds false is are p = cc

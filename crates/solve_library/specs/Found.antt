@@ -1,28 +1,84 @@
 -- What the search and the description of the library tell. This project's own.
-use Rattle.std.specs.Prelude.{◌≡◌, ℕ, ◌≤◌, List}
-use Rattle.misere_theory.specs.declared.TheConstants.{MOST_ENTRIES}
+use Rattle.std.specs.Prelude.{◌≡◌, ◌⊎◌, ℕ, ◌≤◌, List, false, Ok}
+use Rattle.std.specs.declared.alloc.Global.{Global}
+use Rattle.misere_theory.specs.declared.TheConstants.{MOST_ENTRIES, LARGEST_FIRST_ORDER, LARGEST_ORDER}
 use Rattle.misere_theory.specs.Certificates.{Certificate, Accepted, kind_of}
 use Rattle.octal_code.specs.Text.{IsCodeText}
 use Rattle.certificate_text.specs.Spelling.{Spells}
+use Rattle.answers.specs.ByteVerdicts.{IsTrueOf, refused}
 use Rattle.answers.specs.ByteVerdicts.ByteVerdict.{Yes}
+use Rattle.answers.specs.Refusals.{refusal_number}
+use Rattle.answers.specs.declared.refusal.Refusal.{Refusal}
 use Rattle.checker.specs.Turns.{verdict}
 use Rattle.descriptions.specs.Described.{IsDescription, IsPresentable}
+use Rattle.quotient_search.specs.declared.aim.TheConstants.{DEEPEST}
+use Rattle.relations.specs.declared.fault.Undescribed.{Undescribed}
+use Rattle.relations.specs.declared.fault.Undescribed.TheVariants.{Letters, Exponents, Unshown, Memory as NoMemory}
 use Rattle.relations.specs.declared.text.Notation.TheVariants.{Plain, Latex}
+use Rattle.requests.specs.declared.plans.Aim.{Aim}
+use Rattle.requests.specs.declared.plans.Aim.TheVariants.{Whole, Deep, Part, Furthest}
+use Rattle.solve_command.specs.Solved.{IsNoCode, IsSearched, Solves}
+use Rattle.solve_command.specs.declared.bounds.SolveBounds.{SolveBounds}
+use Rattle.solve_library.specs.declared.solving.Asked.{Asked}
 
 -- 0 aims at a full certificate, 1 at that of the heaps 1 to `heaps`, and 2 at that of some first heaps
 abbrev pub IsOfKind : ℕ → ℕ → ℕ → Type 0
 IsOfKind aim heaps kind = (aim ≡ 0 → kind ≡ 0) × (aim ≡ 1 → kind ≡ heaps)
     × (aim ≡ 2 → (1 ≤ kind) × (kind ≤ MOST_ENTRIES))
 
--- the bytes are an accepted certificate, of at most so many elements and of a kind that is aimed at,
--- of the code that the text spells
-pub record IsCertificateFor (text : List ℕ) (aim heaps order : ℕ) (bytes : List ℕ) : Type 0 where
+-- the aim of this number: 0 for the whole game, of which the heaps 1 to `heaps` are looked at, 1 for
+-- the part of the heaps 1 to `heaps`, 2 for that of the most first heaps
+abbrev pub IsAim : ℕ → ℕ → Aim → Type 0
+IsAim aim heaps (Whole most) = (aim ≡ 0) × (most ≡ heaps)
+IsAim aim heaps Deep = ⊥
+IsAim aim heaps (Part last) = (aim ≡ 1) × (last ≡ heaps)
+IsAim aim heaps Furthest = aim ≡ 2
+
+-- the aim, with its heaps and the order that it allows, is in its range
+abbrev pub IsAimInRange : Asked → Type 0
+IsAimInRange a =
+    ((a.aim ≡ 0) × (2 ≤ a.heaps) × (a.heaps ≤ DEEPEST) × (a.order ≤ LARGEST_FIRST_ORDER))
+    ⊎ (((a.aim ≡ 1) × (1 ≤ a.heaps) × (a.heaps ≤ MOST_ENTRIES)) ⊎ (a.aim ≡ 2))
+
+-- limit, rounds and order are in their ranges
+abbrev pub AreNumbersInRange : Asked → Type 0
+AreNumbersInRange a = ((1 ≤ a.limit) × (a.limit ≤ 1000000)) × ((1 ≤ a.rounds) × (a.rounds ≤ 1000))
+    × ((2 ≤ a.order) × (a.order ≤ LARGEST_ORDER))
+
+-- all that is asked is in its range
+abbrev pub IsInRange : Asked → Type 0
+IsInRange a = IsAimInRange a × AreNumbersInRange a
+
+-- the bounds are what is asked
+pub record AreBounds (a : Asked) (bounds : SolveBounds) : Type 0 where
+  pub aim : IsAim a.aim a.heaps bounds.aim
+  pub limit : bounds.limit ≡ a.limit
+  pub rounds : bounds.rounds ≡ a.rounds
+  pub order : bounds.order ≡ a.order
+
+-- the bytes are an accepted certificate of the code that the text spells, of at most so many elements
+-- and of a kind that is aimed at, to which a search within the bounds that are asked came
+pub record IsCertificateFor (text : List ℕ) (a : Asked) (bytes : List ℕ) : Type 0 where
   pub certificate : Certificate
   pub of_code : IsCodeText text certificate.code
-  pub of_kind : IsOfKind aim heaps (kind_of certificate)
+  pub of_kind : IsOfKind a.aim a.heaps (kind_of certificate)
   pub spelled : Spells bytes certificate
   pub accepted : Accepted certificate
-  pub small : certificate.order ≤ order
+  pub small : certificate.order ≤ a.order
+  pub bounds : SolveBounds
+  pub are_bounds : AreBounds a bounds
+  pub searched : IsSearched certificate.code bounds (Ok certificate)
+
+-- the search for a certificate of the code that the text spells was given up
+abbrev pub IsGivenUp : List ℕ → Asked → Type 0
+IsGivenUp text a = (bounds : SolveBounds) × AreBounds a bounds × ((said : List ℕ) × Solves text bounds said false)
+
+-- Why no certificate is told: the text is no code's, something that is asked is out of its range, the
+-- search was given up, or memory was refused.
+abbrev pub IsUnfound : List ℕ → Asked → ℕ → Type 0
+IsUnfound text a status = ((status ≡ 12) × IsNoCode text)
+    ⊎ (((status ≡ 15) × (IsInRange a → ⊥))
+    ⊎ (((status ≡ 13) × IsGivenUp text a) ⊎ (status ≡ 9)))
 
 -- The text is what is asked for of the quotient: 0 its description, 1 that for LaTeX, 2 its
 -- relations as one word.
@@ -31,8 +87,37 @@ pub data IsTextFor (output : ℕ) (c : Certificate) (text : List ℕ) : Type 0 w
   ForLatex : output ≡ 1 → IsDescription Latex c text → IsTextFor output c text
   Relations : output ≡ 2 → IsPresentable c text → IsTextFor output c text
 
--- the bytes are an accepted certificate, to which the verdict under the limit is yes, and the text
--- is what is asked for of its quotient
+-- the bytes are an accepted certificate, to which the verdict under the limit is yes, and of which the
+-- rest is true
+abbrev pub Certify : List ℕ → ℕ → (Certificate → Type 0) → Type 0
+Certify bytes limit says =
+    (c : Certificate) × Spells bytes c × Accepted c × (verdict bytes limit ≡ Yes c) × says c
+
+-- the bytes are certified, and the text is what is asked for of the quotient
 abbrev pub IsTextOf : List ℕ → ℕ → ℕ → List ℕ → Type 0
-IsTextOf bytes limit output text = (c : Certificate) × Spells bytes c × Accepted c
-    × (verdict bytes limit ≡ Yes c) × IsTextFor output c text
+IsTextOf bytes limit output text = Certify bytes limit (λ c. IsTextFor output c text)
+
+-- the number of a quotient that isn't described: 9 where memory was refused, else 16
+abbrev pub undescribed_number : Undescribed → ℕ
+undescribed_number Letters = 16
+undescribed_number Exponents = 16
+undescribed_number Unshown = 16
+undescribed_number NoMemory = 9
+
+-- The number is that of the verdict on the bytes under the limit, which refuses them, truly.
+abbrev pub IsRefusal : List ℕ → ℕ → ℕ → Type 0
+IsRefusal bytes limit status = (refusal : Refusal Global) × (status ≡ refusal_number refusal)
+    × IsTrueOf bytes limit (refused refusal) × (refused refusal ≡ verdict bytes limit)
+
+-- why no text of a certified quotient is told: there is no such output, or the quotient isn't
+-- described, or memory was refused
+abbrev pub IsUntoldOf : ℕ → ℕ → Type 0
+IsUntoldOf output status = ((status ≡ 15) × (3 ≤ output)) ⊎ ((status ≡ 16) ⊎ (status ≡ 9))
+
+-- Why no text is told: there is no such output or form; or the bytes are certified, and the quotient
+-- isn't described; or memory was refused; or the bytes are, by their verdict.
+abbrev pub IsUntold : List ℕ → ℕ → ℕ → ℕ → ℕ → Type 0
+IsUntold bytes limit output form status =
+    ((status ≡ 15) × ((3 ≤ output) ⊎ (2 ≤ form)))
+    ⊎ (((status ≡ 16) × Certify bytes limit (λ c. Unit {0}))
+    ⊎ ((status ≡ 9) ⊎ IsRefusal bytes limit status))

@@ -1,7 +1,7 @@
 //! The description of a certified quotient.
-ghost use Rattle.std.specs.Prelude.{◌≡◌, ◌≢◌, IfOk, IfErr};
+ghost use Rattle.std.specs.Prelude.{◌≡◌, ◌≢◌, ◌↔◌, ◌≤◌, ◌⊎◌, IfOk, IfErr, IsSome};
 ghost use Rattle.std.specs.String.{string_bytes};
-ghost use Rattle.solve_library.specs.Found.{IsTextFor, IsTextOf};
+ghost use Rattle.solve_library.specs.Found.{IsTextFor, IsTextOf, IsUntold, IsUntoldOf, undescribed_number};
 
 use crate::numbers::{MEMORY, NOT_DESCRIBED, NOT_IN_RANGE};
 use answers::Certified;
@@ -11,7 +11,7 @@ use std::alloc::Global;
 
 /// The status of a quotient that isn't described.
 fn undescribed(fault: Undescribed) -> u32
-    ensures { result ≢ 0 × result ≢ 14 }
+    ensures { result ≡ undescribed_number fault }
 {
     match fault {
         Undescribed::Letters | Undescribed::Exponents | Undescribed::Unshown => NOT_DESCRIBED,
@@ -22,7 +22,7 @@ fn undescribed(fault: Undescribed) -> u32
 /// The relations of the quotient, as one word.
 fn presentable(alloc: Global, certified: &Certified, form: Form) -> Result<String, u32>
     ensures told { IfOk result (λ t. IsTextFor 2 certified.now (string_bytes t)) }
-    ensures no { IfErr result (λ s. s ≢ 0 × s ≢ 14) }
+    ensures why { IfErr result (λ s. (s ≡ 16) ⊎ (s ≡ 9)) }
 {
     match presentable_text(alloc, certified, form) {
         Ok(Some(line)) => Ok(line),
@@ -34,7 +34,7 @@ fn presentable(alloc: Global, certified: &Certified, form: Form) -> Result<Strin
 /// The text that is asked for of the quotient.
 fn text_for(alloc: Global, certified: &Certified, output: u32, form: Form) -> Result<String, u32>
     ensures told { IfOk result (λ t. IsTextFor output certified.now (string_bytes t)) }
-    ensures no { IfErr result (λ s. s ≢ 0 × s ≢ 14) }
+    ensures why { IfErr result (IsUntoldOf output) }
 {
     let notation = match output {
         0 => Notation::Plain,
@@ -49,7 +49,9 @@ fn text_for(alloc: Global, certified: &Certified, output: u32, form: Form) -> Re
 }
 
 /// The form of relations of this number.
-fn form_of(form: u32) -> Option<Form> {
+fn form_of(form: u32) -> Option<Form>
+    ensures { IsSome result ↔ (form ≤ 1) }
+{
     match form {
         0 => Some(Form::Short),
         1 => Some(Form::Basis),
@@ -67,6 +69,7 @@ pub(crate) fn described(
 ) -> Result<String, u32>
     ensures told { IfOk result (λ t. IsTextOf bytes.now limit output (string_bytes t)) }
     ensures no { IfErr result (λ s. s ≢ 0 × s ≢ 14) }
+    ensures why { IfErr result (IsUntold bytes.now limit output form) }
 {
     let Some(form) = form_of(form) else {
         return Err(NOT_IN_RANGE);

@@ -1,6 +1,7 @@
 //! The calls.
-ghost use Rattle.std.specs.Prelude.{◌≡◌, ◌≢◌, ◌<◌, length, take};
-ghost use Rattle.solve_library.specs.Found.{IsCertificateFor, IsTextOf};
+ghost use Rattle.std.specs.Prelude.{◌≡◌, ◌≢◌, ◌<◌, ℕ, List, length, take};
+ghost use Rattle.solve_library.specs.Found.{IsCertificateFor, IsTextOf, IsUnfound, IsUntold};
+ghost use Rattle.solve_library.specs.declared.solving.Asked.{Asked};
 
 use crate::describing::described;
 use crate::numbers::hand_over;
@@ -25,9 +26,14 @@ pub extern "C" fn misere_solve(
     told: &mut [u8],
     count: &mut u64,
 ) -> u32
-    ensures found { result ≡ 0 → IsCertificateFor code.now aim heaps order (take count.new told.new) }
+    ensures found { let asked : Asked = record { limit = limit; rounds = rounds; aim = aim; heaps = heaps; order = order } in
+        result ≡ 0 → IsCertificateFor code.now asked (take count.new told.new) }
+    ensures no { let asked : Asked = record { limit = limit; rounds = rounds; aim = aim; heaps = heaps; order = order } in
+        result ≢ 0 → result ≢ 14 → IsUnfound code.now asked result }
     ensures stays { result ≢ 0 → told.new ≡ told.old }
     ensures room { result ≡ 14 → length told.old < count.new }
+    ensures counts { let asked : Asked = record { limit = limit; rounds = rounds; aim = aim; heaps = heaps; order = order } in
+        result ≡ 14 → (text : List ℕ) × IsCertificateFor code.now asked text × (count.new ≡ length text) }
     ensures untold { result ≢ 0 → result ≢ 14 → count.new ≡ count.old }
 {
     let asked = Asked {
@@ -59,8 +65,11 @@ pub extern "C" fn misere_describe(
 ) -> u32
     ensures described { result ≡ 0
         → IsTextOf bytes.now limit output (take count.new told.new) }
+    ensures no { result ≢ 0 → result ≢ 14 → IsUntold bytes.now limit output form result }
     ensures stays { result ≢ 0 → told.new ≡ told.old }
     ensures room { result ≡ 14 → length told.old < count.new }
+    ensures counts { result ≡ 14
+        → (text : List ℕ) × IsTextOf bytes.now limit output text × (count.new ≡ length text) }
     ensures untold { result ≢ 0 → result ≢ 14 → count.new ≡ count.old }
 {
     match described(alloc, bytes, limit, output, form) {

@@ -27,6 +27,7 @@ pub(crate) fn hand_over(bytes: &[u8], told: &mut [u8], count: &mut u64) -> u32
     ensures put { result ≡ 0 → take count.new told.new ≡ bytes.now }
     ensures stays { result ≢ 0 → told.new ≡ told.old }
     ensures room { result ≢ 0 → (result ≡ 14) × (length told.old < count.new) }
+    ensures counted { count.new ≡ length bytes.now }
 {
     *count = bytes.len() as u64;
     if bytes.len() > told.len() {

@@ -1,14 +1,13 @@
 //! The search for a certificate.
-ghost use Rattle.std.specs.Prelude.{◌≡◌, ◌≢◌, ℕ, IfSome, IfOk, IfErr};
-ghost use Rattle.solve_command.specs.Solved.{IsAimedAt};
-ghost use Rattle.solve_library.specs.Found.{IsCertificateFor, IsOfKind};
+ghost use Rattle.std.specs.Prelude.{◌≡◌, ◌≢◌, ◌↔◌, IfSome, IfOk, IfErr, IsSome, IsTrue};
+ghost use Rattle.solve_library.specs.Found.{AreBounds, AreNumbersInRange, IsAim, IsAimInRange, IsCertificateFor, IsInRange, IsUnfound};
 
 use crate::numbers::{GAVE_UP, MEMORY, NOT_A_CODE, NOT_IN_RANGE};
 use command_results::Stop;
 use misere_theory::{LARGEST_FIRST_ORDER, LARGEST_ORDER, MOST_ENTRIES};
 use quotient_search::DEEPEST;
 use requests::Aim;
-use solve_command::{SolveBounds, solve};
+use solve_command::{SolveBounds, solve_bytes};
 use std::alloc::Global;
 
 /// What is asked of a search. Each number has the range that it has on a command line; of a whole
@@ -24,8 +23,8 @@ pub(crate) struct Asked {
 
 /// What the search aims at, where the numbers of it are in their ranges.
 fn aim_of(asked: Asked) -> Option<Aim>
-    ensures { IfSome result (λ aim. (kind : ℕ) → IsAimedAt aim kind
-        → IsOfKind asked.aim asked.heaps kind) }
+    ensures aim { IfSome result (IsAim asked.aim asked.heaps) }
+    ensures range { IsSome result ↔ IsAimInRange asked }
 {
     let heaps = asked.heaps;
     let is_order = asked.order <= LARGEST_FIRST_ORDER as u32;
@@ -38,7 +37,9 @@ fn aim_of(asked: Asked) -> Option<Aim>
 }
 
 /// Whether the other numbers are in their ranges.
-fn are_in_range(asked: Asked) -> bool {
+fn are_in_range(asked: Asked) -> bool
+    ensures { IsTrue result ↔ AreNumbersInRange asked }
+{
     let is_limit = 1 <= asked.limit && asked.limit <= 1_000_000;
     let are_rounds = 1 <= asked.rounds && asked.rounds <= 1000;
     let is_order = 2 <= asked.order && asked.order <= LARGEST_ORDER as u32;
@@ -47,9 +48,8 @@ fn are_in_range(asked: Asked) -> bool {
 
 /// The bounds of the search, where all that is asked is in its range.
 fn bounds_of(asked: Asked) -> Option<SolveBounds>
-    ensures aim { IfSome result (λ bounds. (kind : ℕ) → IsAimedAt bounds.aim kind
-        → IsOfKind asked.aim asked.heaps kind) }
-    ensures order { IfSome result (λ bounds. bounds.order ≡ asked.order) }
+    ensures bounds { IfSome result (AreBounds asked) }
+    ensures range { IsSome result ↔ IsInRange asked }
 {
     let aim = aim_of(asked)?;
     if !are_in_range(asked) {
@@ -66,17 +66,14 @@ fn bounds_of(asked: Asked) -> Option<SolveBounds>
 
 /// The text of the certificate that is found for the code that the bytes spell; or the status.
 pub(crate) fn solved(alloc: Global, code: &[u8], asked: Asked) -> Result<Vec<u8>, u32>
-    ensures found { IfOk result
-        (λ text. IsCertificateFor code.now asked.aim asked.heaps asked.order text.items) }
+    ensures found { IfOk result (λ text. IsCertificateFor code.now asked text.items) }
     ensures no { IfErr result (λ s. s ≢ 0 × s ≢ 14) }
+    ensures why { IfErr result (IsUnfound code.now asked) }
 {
-    let Ok(text) = str::from_utf8(code) else {
-        return Err(NOT_A_CODE);
-    };
     let Some(bounds) = bounds_of(asked) else {
         return Err(NOT_IN_RANGE);
     };
-    match solve(alloc, text, bounds) {
+    match solve_bytes(alloc, code, bounds) {
         Ok(said) if said.succeeds => Ok(said.text),
         Ok(_) => Err(GAVE_UP),
         Err(Stop::NotACode) => Err(NOT_A_CODE),

@@ -1,9 +1,8 @@
 -- How many turns all pairs take.
-use Rattle.std.proofs.Common.{◌≡◌, ℕ, zero, suc, ◌+◌, ◌-◌, ◌*◌, ◌/◌, ◌<◌, ◌≤◌, ◌↔◌, Bool, true, false, List, [], ◌∷◌, ◌++◌, length, min, ◌&&◌, not, eqb, ltb, ne_eqb, le-ltb, refl, sym, subst, inl, inr, ◌∙◌, ap, arith}
+use Rattle.std.proofs.Common.{◌≡◌, ℕ, zero, suc, ◌+◌, ◌-◌, ◌*◌, ◌/◌, ◌<◌, ◌≤◌, ◌↔◌, Bool, true, false, List, [], ◌∷◌, ◌++◌, length, min, ◌&&◌, not, eqb, ltb, ne_eqb, le-ltb, refl, sym, subst, inl, inr, ap, arith}
 use Rattle.std.specs.Prelude.{if◌then◌else◌}
 use Rattle.std.specs.List.{sum_by, range_with_len}
 use Rattle.std.proofs.lemmas.List.{length-append}
-use Rattle.std.proofs.lemmas.List.Sums.{sum_by-cons}
 use Rattle.std.proofs.lemmas.List.Concat.{length-flat_map}
 use Rattle.std.proofs.lemmas.List.FromFn.{length-map-range_with_len}
 use native.Mathlib.Decide.{dec_le, dec_lt}
@@ -22,7 +21,7 @@ use Rattle.heap_options.specs.declared.left.Left.TheVariants.{Nothing, One, Two,
 use Rattle.transition_algebra.specs.Pretending.{Pretending}
 use Rattle.transition_algebra.specs.Heaps.{bound_of, largest_part}
 use Rattle.transition_algebra.specs.Work.{Trying, tries, opening, tried, turn, turns, heap_cost, most_turns}
-use Rattle.transition_algebra.specs.declared.pair.Pair.{Pair}
+use Rattle.transition_algebra.specs.OverSets.{Pair}
 use Rattle.transition_algebra.proofs.Turning.{cost_of, left, left_some, left_going, left_over, turn_going, turn_over}
 
 -- a turn for each heap at least

@@ -6,7 +6,7 @@ use Rattle.misere_theory.proofs.Counting.{shown_in}
 use Rattle.monoid_table.specs.Grids.{Grid}
 use Rattle.transition_algebra.specs.Pretending.{Pretending, IsPretending, kind_of, HasElement}
 use Rattle.transition_algebra.specs.Heaps.{Agrees, IsHeapPair, IsHeapPairs, bound_of}
-use Rattle.transition_algebra.specs.declared.pair.Pair.{Pair}
+use Rattle.transition_algebra.specs.OverSets.{Pair}
 use Rattle.transition_algebra.proofs.Claims.{periodic}
 
 same_pair : (code : List ℕ) (c : Claim) (n m : ℕ) (p : Pair) → SameHeapPair code c n m

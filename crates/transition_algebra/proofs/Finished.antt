@@ -15,8 +15,8 @@ use Rattle.transition_algebra.specs.Pretending.{Pretending, IsPretending}
 use Rattle.transition_algebra.specs.Heaps.{IsInto, bound_of, largest_part}
 use Rattle.transition_algebra.specs.Work.{opening, heap_cost, most_turns, HeapWork, IsDone, worked}
 use Rattle.transition_algebra.specs.Trials.{IsTrial}
-use Rattle.transition_algebra.specs.declared.pair.Pair.{Pair}
-use Rattle.transition_algebra.specs.declared.trial.Trial.{Trial}
+use Rattle.transition_algebra.specs.OverSets.{Pair}
+use Rattle.transition_algebra.specs.OverSets.{Trial}
 use Rattle.transition_algebra.proofs.Counted.{bound_small}
 use Rattle.transition_algebra.proofs.Cost.{cost_of_three, cost_short}
 use Rattle.transition_algebra.proofs.Steps.{AreFirstHeapPairs}

@@ -12,3 +12,6 @@ mod Running
 mod Finished
 mod Every
 mod OneList
+pub mod Results
+pub mod Layouts
+pub mod Fit

@@ -16,7 +16,7 @@ use Rattle.monoid_table.specs.Grids.{Grid, times_in}
 use Rattle.transition_algebra.specs.Pretending.{Pretending, IsPretending, HasElement}
 use Rattle.transition_algebra.specs.Heaps.{Agrees, IsInto, IsHeapPair, IsHeapPairs, AreAllHeapPairs, bound_of, largest_part, left_value, heap_pair, all_heap_pairs}
 use Rattle.transition_algebra.specs.PairLaws.{has, same_pair}
-use Rattle.transition_algebra.specs.declared.pair.Pair.{Pair}
+use Rattle.transition_algebra.specs.OverSets.{Pair}
 use Rattle.transition_algebra.proofs.Counted.{counted}
 use Rattle.transition_algebra.proofs.Claims.{tried_values, left_is, tried_heaps}
 use Rattle.transition_algebra.specs.Work.{opening, turns, heap_cost}

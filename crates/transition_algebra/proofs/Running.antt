@@ -27,8 +27,8 @@ use Rattle.transition_algebra.specs.Pairs.{IsPair, one}
 use Rattle.transition_algebra.specs.Heaps.{IsInto, bound_of, largest_part, left_value}
 use Rattle.transition_algebra.specs.Work.{tries, opening, turns, heap_cost}
 use Rattle.transition_algebra.specs.Trials.{HaveElements, split_value, with_values, values_of_splits, triples_before, seen_at, with_left, after_single, after_splits, after_triples, after_row, after_all, after_all_triples, after_heap, IsUntried, trying_of, IsTrial, IsRun}
-use Rattle.transition_algebra.specs.declared.pair.Pair.{Pair}
-use Rattle.transition_algebra.specs.declared.trial.Trial.{Trial}
+use Rattle.transition_algebra.specs.OverSets.{Pair}
+use Rattle.transition_algebra.specs.OverSets.{Trial}
 use Rattle.transition_algebra.proofs.Coming.{values_none, values_add, values_beside, left_add, left_beside}
 use Rattle.transition_algebra.proofs.Triples.{before_next_row, before_all, before_more, none_before}
 use Rattle.transition_algebra.proofs.Counted.{bound_small, counted}

@@ -15,7 +15,7 @@ use Rattle.transition_algebra.specs.Pretending.{Pretending, phi_at, IsPretending
 use Rattle.transition_algebra.specs.Heaps.{Agrees, IsInto, IsHeapPair, IsHeapPairs, left_value}
 use Rattle.transition_algebra.specs.PairLaws.{has, has_insert, insert_has, empty_has}
 use Rattle.transition_algebra.specs.Work.{tries}
-use Rattle.transition_algebra.specs.declared.pair.Pair.{Pair}
+use Rattle.transition_algebra.specs.OverSets.{Pair}
 use Rattle.transition_algebra.proofs.Claims.{tried_values}
 
 -- the set has the values of the options so far, and no others

@@ -14,7 +14,7 @@ use Rattle.transition_algebra.specs.Pretending.{Pretending, IsPretending, phi_at
 use Rattle.transition_algebra.specs.Heaps.{IsInto, IsHeapPair, bound_of, left_value}
 use Rattle.transition_algebra.specs.Work.{Trying, tries, opening, tried, turn, turns}
 use Rattle.transition_algebra.specs.Trials.{with_values}
-use Rattle.transition_algebra.specs.declared.pair.Pair.{Pair}
+use Rattle.transition_algebra.specs.OverSets.{Pair}
 use Rattle.transition_algebra.proofs.Counted.{counted}
 use Rattle.transition_algebra.proofs.Steps.{SeenSo, none_seen, one_more, the_pair, AreFirstHeapPairs, pairs_more, no_pairs}
 

@@ -8,7 +8,7 @@ use Rattle.monoid_table.specs.Grids.{Grid, times_in}
 use Rattle.transition_algebra.specs.Pretending.{Pretending, phi_at, kind_of, HasElement}
 use Rattle.transition_algebra.specs.Pairs.{IsPair}
 use Rattle.transition_algebra.specs.Heaps.{Agrees, IsInto, bound_of}
-use Rattle.transition_algebra.specs.declared.pair.Pair.{Pair}
+use Rattle.transition_algebra.specs.OverSets.{Pair}
 use Rattle.misere_theory.proofs.Counting.{kept_in}
 use Rattle.misere_theory.proofs.Sums.{value_in}
 use Rattle.transition_algebra.proofs.Counted.{counted}

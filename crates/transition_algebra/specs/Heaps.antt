@@ -1,5 +1,5 @@
 -- The pairs of heaps, as any claim that agrees with a table and a pretending function has them.
-use Rattle.std.specs.Prelude.{◌≡◌, ℕ, ◌+◌, ◌-◌, ◌<◌, ◌≤◌, ◌↔◌, List, length, map, slice_index_or, IsTrue, All}
+use Rattle.std.specs.Prelude.{◌≡◌, ℕ, ◌+◌, ◌-◌, ◌<◌, ◌↔◌, List, length, map, slice_index_or, IsTrue, All}
 use Rattle.std.specs.List.{range_with_len}
 use Rattle.std.specs.FinSet as set
 use Rattle.misere_theory.specs.Quotients.{Claim, HeapOptionValue}
@@ -9,7 +9,7 @@ use Rattle.heap_options.specs.Options.{options_of}
 use Rattle.heap_options.specs.declared.left.Left.{Left}
 use Rattle.heap_options.specs.declared.left.Left.TheVariants.{Nothing, One, Two, Three}
 use Rattle.transition_algebra.specs.Pretending.{Pretending, phi_at, kind_of, HasElement}
-use Rattle.transition_algebra.specs.declared.pair.Pair.{Pair}
+use Rattle.transition_algebra.specs.OverSets.{Pair}
 
 -- the claim's monoid is the table's, and it gives each heap that has an element the element of phi
 pub record Agrees (c : Claim) (table : Grid) (phi : Pretending) : Type 0 where

@@ -1,3 +1,4 @@
+pub mod OverSets
 pub mod Pretending
 pub mod Pairs
 pub mod Heaps

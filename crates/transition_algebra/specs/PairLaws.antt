@@ -8,7 +8,7 @@ use Rattle.std.specs.FinSet.{contains-insert, contains-union, contains-empty, sa
 use Rattle.monoid_table.specs.Laws.{CommMonoidLaws}
 use Rattle.monoid_table.specs.Grids.{Grid, times_in}
 use Rattle.monoid_table.specs.Tables.{table_laws, IsTableGrid}
-use Rattle.transition_algebra.specs.declared.pair.Pair.{Pair}
+use Rattle.transition_algebra.specs.OverSets.{Pair}
 use Rattle.transition_algebra.specs.Pairs.{IsPair, one, times}
 
 abbrev pub has : set.FinSet nat_cmp → ℕ → Type 0

@@ -17,8 +17,8 @@ use Rattle.transition_algebra.specs.Pretending.{Pretending, phi_at}
 use Rattle.transition_algebra.specs.Pairs.{one}
 use Rattle.transition_algebra.specs.Heaps.{bound_of, largest_part, left_value}
 use Rattle.transition_algebra.specs.Work.{Trying, opening, turns, heap_cost}
-use Rattle.transition_algebra.specs.declared.pair.Pair.{Pair}
-use Rattle.transition_algebra.specs.declared.trial.Trial.{Trial}
+use Rattle.transition_algebra.specs.OverSets.{Pair}
+use Rattle.transition_algebra.specs.OverSets.{Trial}
 
 -- the element of the heap n, by its pair
 abbrev pub value_at : List Pair → ℕ → ℕ

@@ -10,7 +10,7 @@ use Rattle.heap_options.specs.Options.{options_up_to}
 use Rattle.heap_options.specs.declared.left.Left.{Left}
 use Rattle.transition_algebra.specs.Pretending.{Pretending, phi_at}
 use Rattle.transition_algebra.specs.Heaps.{bound_of, largest_part, left_value}
-use Rattle.transition_algebra.specs.declared.pair.Pair.{Pair}
+use Rattle.transition_algebra.specs.OverSets.{Pair}
 
 -- the options of the heap n that are tried
 abbrev pub tries : List ℕ → Pretending → ℕ → List Left

@@ -1,5 +1,5 @@
 //! The pairs of the heaps, made in pieces.
-ghost use Rattle.std.specs.Prelude.{◌≡◌, ◌⊎◌, ◌+◌, ◌<◌, ◌≤◌, ◌↔◌, All, IsTrue, IsErr, IfOk, OnOk, OnErr, true, false};
+ghost use Rattle.std.specs.Prelude.{◌≡◌, ◌*◌, ◌⊎◌, ◌+◌, ◌<◌, ◌≤◌, ◌↔◌, All, IsTrue, IsErr, IfOk, OnOk, OnErr, true, false};
 ghost use Rattle.transition_algebra.specs.Pairs.{IsPair};
 ghost use Rattle.transition_algebra.specs.Heaps.{IsInto, AreAllHeapPairs, all_heap_pairs, bound_of};
 ghost use Rattle.transition_algebra.specs.Work.{IsDone, worked, heap_cost, turns, opening};
@@ -9,6 +9,7 @@ use crate::phi::{Phi, is_pretending};
 use crate::split_values::SplitValues;
 use crate::trial::Trial;
 use allocation::Memory;
+use element_sets::LaneSet;
 use monoid_table::{Table, is_monoid};
 use octal_code::Code;
 use std::alloc::{Allocator, Global};
@@ -17,17 +18,18 @@ use std::marker::Model;
 /// The pairs of the heaps 1 to B in pieces. A unit tries one option of a heap, or sets down the
 /// pair of a heap whose options are all tried.
 #[derive(Drop)]
-pub struct HeapJob<A: Allocator = Global> {
+pub struct HeapJob<const LANES: usize, A: Allocator = Global> {
     code: Code,
     table: Table<A>,
     phi: Phi<A>,
-    trial: Trial,
-    pairs: Vec<Pair, A>,
-    split_values: SplitValues<A>,
+    trial: Trial<LaneSet<LANES>>,
+    pairs: Vec<Pair<LaneSet<LANES>>, A>,
+    split_values: SplitValues<LaneSet<LANES>, A>,
     refused: bool,
 }
 
-impl<A: Allocator> Model for HeapJob<A> {
+impl<const LANES: usize, A: Allocator> Model for HeapJob<LANES, A> {
+    ghost use Rattle.std.specs.Prelude.{◌≤◌, ◌*◌};
     ghost use Rattle.transition_algebra.specs.Work.{HeapWork};
 
     ghost Value = { HeapWork };
@@ -43,16 +45,18 @@ impl<A: Allocator> Model for HeapJob<A> {
     ghost use Rattle.transition_algebra.specs.Heaps.{IsInto};
     ghost use Rattle.transition_algebra.specs.Trials.{IsTrial, AreSplitValues, AreTripleValues};
 
-    ghost invariant = { λ j. IsInto j.table j.phi
+    ghost invariant = { λ j. (j.table.order ≤ 64 * LANES)
+        × IsInto j.table j.phi
         × IsTrial j.code j.table j.phi j.trial j.pairs.items
         × AreSplitValues j.table j.phi j.split_values.splits.items
         × AreTripleValues j.table j.phi j.split_values.triples.items };
 }
 
-impl<A: Allocator + Copy> HeapJob<A> {
+impl<const LANES: usize, A: Allocator + Copy> HeapJob<LANES, A> {
     /// A job that has spent nothing. It holds no pair yet, and takes memory as it works.
-    pub fn new(alloc: A, code: Code, table: Table<A>, phi: Phi<A>) -> HeapJob<A>
-        requires { IsInto table phi }
+    pub fn new(alloc: A, code: Code, table: Table<A>, phi: Phi<A>) -> Self
+        requires fits { table.order ≤ 64 * LANES }
+        requires into { IsInto table phi }
         ensures { result
             ≡ record { code = code; table = table; phi = phi; spent = 0; refused = false } }
     {
@@ -69,7 +73,7 @@ impl<A: Allocator + Copy> HeapJob<A> {
     }
 }
 
-impl<A: Allocator> HeapJob<A> {
+impl<const LANES: usize, A: Allocator> HeapJob<LANES, A> {
     /// The units spent so far.
     pub fn spent(&self) -> u64
         ensures { result ≡ self.now.spent }
@@ -78,7 +82,7 @@ impl<A: Allocator> HeapJob<A> {
     }
 
     /// The pairs that stand so far: those of the first heaps.
-    pub fn pairs(&self) -> &[Pair]
+    pub fn pairs(&self) -> &[Pair<LaneSet<LANES>>]
         ensures { result.now
             ≡ (turns self.now.code self.now.table self.now.phi self.now.spent
             (opening self.now.code self.now.phi)).pairs }
@@ -151,7 +155,7 @@ impl<A: Allocator> HeapJob<A> {
     }
 
     /// The pairs, and what the job was opened with.
-    pub fn finish(self) -> (Code, Table<A>, Phi<A>, Vec<Pair, A>)
+    pub fn finish(self) -> (Code, Table<A>, Phi<A>, Vec<Pair<LaneSet<LANES>>, A>)
         requires { IsDone self }
         ensures code { result.0 ≡ self.code }
         ensures table { result.1 ≡ self.table }

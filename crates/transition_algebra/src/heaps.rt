@@ -1,7 +1,6 @@
 //! The pairs of heaps.
-ghost use Rattle.std.specs.Prelude.{◌≡◌, ◌+◌, ◌-◌, ◌<◌, IfOk, All};
+ghost use Rattle.std.specs.Prelude.{◌≡◌, ◌*◌, ◌≤◌, ◌+◌, ◌-◌, ◌<◌, IfOk, All};
 ghost use Rattle.misere_theory.specs.Games.{IsPosition};
-ghost use Rattle.element_sets.specs.declared.TheConstants.{MOST_ELEMENTS};
 ghost use Rattle.heap_options.specs.Exact.{heaps_of};
 ghost use Rattle.transition_algebra.specs.Pairs.{IsPair};
 ghost use Rattle.transition_algebra.specs.Pretending.{HasElement};
@@ -12,6 +11,7 @@ use crate::phi::{Phi, is_pretending};
 use crate::split_values::SplitValues;
 use crate::trial::Trial;
 use allocation::Memory;
+use element_sets::LaneSet;
 use heap_options::Left;
 use monoid_table::{Table, is_monoid};
 use octal_code::{Code, is_code};
@@ -46,7 +46,6 @@ pub(crate) fn left_value<A: Allocator>(table: &Table<A>, phi: &Phi<A>, left: Lef
     requires parts { IsPosition (HasElement phi.now) (heaps_of left) }
     ensures value { result ≡ left_value table.now phi.now left }
     ensures within { result < table.now.order }
-    ensures small { result < MOST_ELEMENTS }
 {
     is_monoid(table);
     match left {
@@ -68,13 +67,14 @@ pub(crate) fn left_value<A: Allocator>(table: &Table<A>, phi: &Phi<A>, left: Lef
 /// Every heap that has an element has its pair among them. Of a split or a triple only parts below
 /// start + period are tried but for the largest: from two parts of at least that, the period moved
 /// from one to the other keeps the value. `Memory` where a growth was refused.
-pub fn heap_pairs<A: Allocator + Copy>(
+pub fn heap_pairs<const LANES: usize, A: Allocator + Copy>(
     alloc: A,
     code: &Code,
     table: &Table<A>,
     phi: &Phi<A>,
-) -> Result<Vec<Pair, A>, Memory>
-    requires { IsInto table.now phi.now }
+) -> Result<Vec<Pair<LaneSet<LANES>>, A>, Memory>
+    requires fits { table.now.order ≤ 64 * LANES }
+    requires into { IsInto table.now phi.now }
     ensures made { IfOk result (λ pairs. pairs.items ≡ all_heap_pairs code.now table.now phi.now) }
     ensures exact { IfOk result (λ pairs. AreAllHeapPairs code.now table.now phi.now pairs.items) }
     ensures within { IfOk result (λ pairs. All (IsPair table.now.order) pairs.items) }

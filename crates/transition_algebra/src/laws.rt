@@ -8,7 +8,7 @@ ghost use Rattle.transition_algebra.specs.Pairs.{IsPair};
 ghost use Rattle.transition_algebra.specs.Pretending.{Pretending, IsPretending, HasElement};
 ghost use Rattle.transition_algebra.specs.Heaps.{Agrees, IsInto, IsHeapPair, IsHeapPairs, AreAllHeapPairs, all_heap_pairs, bound_of};
 ghost use Rattle.transition_algebra.specs.Work.{Trying, HeapWork, IsDone, heap_cost, most_turns, opening, turns, worked};
-ghost use Rattle.transition_algebra.specs.declared.pair.Pair.{Pair};
+ghost use Rattle.transition_algebra.specs.OverSets.{Pair};
 
 /// Every heap that has an element has its pair among those of the heaps 1 to B: every heap of any
 /// size where phi has a period, and where it has none the heaps 1 to B = start - 1 alone.

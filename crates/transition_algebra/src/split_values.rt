@@ -1,5 +1,5 @@
 //! The values of the splits and the triples of each whole heap, made once.
-ghost use Rattle.std.specs.Prelude.{◌≡◌, ◌+◌, ◌<◌, ◌≤◌, length, IfOk, All};
+ghost use Rattle.std.specs.Prelude.{◌≡◌, ◌*◌, ◌+◌, ◌<◌, ◌≤◌, length, IfOk, All};
 ghost use Rattle.monoid_table.specs.Grids.{Grid};
 ghost use Rattle.heap_options.specs.Options.{last_first, triples_at};
 ghost use Rattle.transition_algebra.specs.Heaps.{largest_part};
@@ -10,33 +10,34 @@ use crate::heaps::largest_part;
 use crate::pair::Pair;
 use crate::phi::Phi;
 use allocation::Memory;
-use element_sets::ElementSet;
+use element_sets::LaneSet;
 use monoid_table::Table;
 use std::alloc::Allocator;
 
 /// The values of the splits of the heaps 0, 1, and so on, and those of the triples. They don't depend
 /// on what was taken away before the split, so each set serves every larger heap.
 #[derive(Drop)]
-pub(crate) struct SplitValues<A: Allocator> {
-    pub(crate) splits: Vec<ElementSet, A>,
-    pub(crate) triples: Vec<ElementSet, A>,
+pub(crate) struct SplitValues<S, A: Allocator> {
+    pub(crate) splits: Vec<S, A>,
+    pub(crate) triples: Vec<S, A>,
 }
 
 /// The values of the splits of `whole` that are tried. The element of the heap n is that of pair n
 /// - 1.
-fn values_of_splits<A: Allocator>(
+fn values_of_splits<const LANES: usize, A: Allocator>(
     table: &Table<A>,
     phi: &Phi<A>,
-    pairs: &[Pair],
+    pairs: &[Pair<LaneSet<LANES>>],
     whole: u64,
-) -> ElementSet
+) -> LaneSet<LANES>
+    requires fits { table.now.order ≤ 64 * LANES }
     requires elements { HaveElements phi.now pairs.now }
     requires inside { All (λ p. p.value < table.now.order) pairs.now }
     requires within { whole ≤ length pairs.now + 1 }
     ensures { result ≡ values_of_splits table.now phi.now whole }
 {
     let last = (whole / 2).min(largest_part(phi));
-    let mut all = ElementSet::new();
+    let mut all = LaneSet::new();
     for part in 1..last + 1 {
         let x = pairs[(part - 1) as usize].value;
         let y = pairs[(whole - part - 1) as usize].value;
@@ -46,14 +47,15 @@ fn values_of_splits<A: Allocator>(
 }
 
 /// Puts the values of the triples of `whole` with this first part into the set.
-fn put_row<A: Allocator>(
+fn put_row<const LANES: usize, A: Allocator>(
     table: &Table<A>,
     phi: &Phi<A>,
-    pairs: &[Pair],
+    pairs: &[Pair<LaneSet<LANES>>],
     whole: u64,
     first: u64,
-    all: &mut ElementSet,
+    all: &mut LaneSet<LANES>,
 )
+    requires fits { table.now.order ≤ 64 * LANES }
     requires elements { HaveElements phi.now pairs.now }
     requires inside { All (λ p. p.value < table.now.order) pairs.now }
     requires within { whole ≤ length pairs.now + 1 }
@@ -73,28 +75,29 @@ fn put_row<A: Allocator>(
 }
 
 /// The values of the triples of `whole` that are tried.
-fn values_of_triples<A: Allocator>(
+fn values_of_triples<const LANES: usize, A: Allocator>(
     table: &Table<A>,
     phi: &Phi<A>,
-    pairs: &[Pair],
+    pairs: &[Pair<LaneSet<LANES>>],
     whole: u64,
-) -> ElementSet
+) -> LaneSet<LANES>
+    requires fits { table.now.order ≤ 64 * LANES }
     requires elements { HaveElements phi.now pairs.now }
     requires inside { All (λ p. p.value < table.now.order) pairs.now }
     requires within { whole ≤ length pairs.now + 1 }
     ensures { result ≡ values_of_triples table.now phi.now whole }
 {
     let last = (whole / 3).min(largest_part(phi));
-    let mut all = ElementSet::new();
+    let mut all = LaneSet::new();
     for first in 1..last + 1 {
         put_row(table, phi, pairs, whole, first, &mut all);
     }
     all
 }
 
-impl<A: Allocator + Copy> SplitValues<A> {
+impl<const LANES: usize, A: Allocator + Copy> SplitValues<LaneSet<LANES>, A> {
     /// None made yet.
-    pub(crate) fn new(alloc: A) -> SplitValues<A>
+    pub(crate) fn new(alloc: A) -> Self
         ensures splits { (table : Grid) (phi : Pretending) → AreSplitValues table phi result.splits.items }
         ensures triples { (table : Grid) (phi : Pretending)
             → AreTripleValues table phi result.triples.items }
@@ -106,16 +109,17 @@ impl<A: Allocator + Copy> SplitValues<A> {
     }
 }
 
-impl<A: Allocator> SplitValues<A> {
+impl<const LANES: usize, A: Allocator> SplitValues<LaneSet<LANES>, A> {
     /// The values of the triples of `whole`, made now where they aren't kept yet.
     pub(crate) fn triple_values(
         &mut self,
         table: &Table<A>,
         phi: &Phi<A>,
-        pairs: &[Pair],
+        pairs: &[Pair<LaneSet<LANES>>],
         whole: u64,
-    ) -> Result<ElementSet, Memory>
+    ) -> Result<LaneSet<LANES>, Memory>
         requires kept { AreTripleValues table.now phi.now self.old.triples.items }
+        requires fits { table.now.order ≤ 64 * LANES }
         requires elements { HaveElements phi.now pairs.now }
         requires inside { All (λ p. p.value < table.now.order) pairs.now }
         requires within { whole ≤ length pairs.now + 1 }
@@ -137,10 +141,11 @@ impl<A: Allocator> SplitValues<A> {
         &mut self,
         table: &Table<A>,
         phi: &Phi<A>,
-        pairs: &[Pair],
+        pairs: &[Pair<LaneSet<LANES>>],
         whole: u64,
-    ) -> Result<ElementSet, Memory>
+    ) -> Result<LaneSet<LANES>, Memory>
         requires kept { AreSplitValues table.now phi.now self.old.splits.items }
+        requires fits { table.now.order ≤ 64 * LANES }
         requires elements { HaveElements phi.now pairs.now }
         requires inside { All (λ p. p.value < table.now.order) pairs.now }
         requires within { whole ≤ length pairs.now + 1 }

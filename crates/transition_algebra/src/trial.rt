@@ -1,5 +1,5 @@
 //! The options of the heaps, tried one after another.
-ghost use Rattle.std.specs.Prelude.{◌≡◌, ◌⊎◌, ◌+◌, ◌-◌, ◌^◌, ◌<◌, ◌≤◌, ◌↔◌, [], ◌∷◌, ◌++◌, length, min, true, IsTrue, IfOk, OnErr, OnOk, All};
+ghost use Rattle.std.specs.Prelude.{◌≡◌, ◌*◌, ◌⊎◌, ◌+◌, ◌-◌, ◌^◌, ◌<◌, ◌≤◌, ◌↔◌, [], ◌∷◌, ◌++◌, length, min, true, IsTrue, IfOk, OnErr, OnOk, All};
 ghost use Rattle.monoid_table.specs.Grids.{Grid};
 ghost use Rattle.octal_code.specs.Bits.{allows};
 ghost use Rattle.octal_code.specs.declared.leaving.Leaving.TheVariants.{TwoHeaps, ThreeHeaps};
@@ -15,7 +15,7 @@ use crate::pair::Pair;
 use crate::phi::{Phi, is_pretending};
 use crate::split_values::SplitValues;
 use allocation::Memory;
-use element_sets::ElementSet;
+use element_sets::LaneSet;
 use heap_options::{Untried, Walk};
 use monoid_table::{Table, is_monoid};
 use octal_code::{Code, Leaving, is_code};
@@ -25,16 +25,16 @@ use std::alloc::Allocator;
 /// hand, the values of the options so far but the splits in hand, and the units spent. The pairs of
 /// the smaller heaps stand beside it.
 #[derive(Clone, Copy)]
-pub(crate) struct Trial {
+pub(crate) struct Trial<S> {
     pub(crate) bound: u64,
     pub(crate) walk: Walk,
-    pub(crate) seen: ElementSet,
+    pub(crate) seen: S,
     pub(crate) spent: u64,
 }
 
-impl Trial {
+impl<const LANES: usize> Trial<LaneSet<LANES>> {
     /// Nothing tried yet.
-    pub(crate) fn new<A: Allocator>(code: &Code, phi: &Phi<A>) -> Trial
+    pub(crate) fn new<A: Allocator>(code: &Code, phi: &Phi<A>) -> Self
         ensures trial { (table : Grid) → IsTrial code.now table phi.now result [] }
         ensures spent { result.spent ≡ 0 }
     {
@@ -42,7 +42,7 @@ impl Trial {
         Trial {
             bound: bound_of(code, phi),
             walk,
-            seen: ElementSet::new(),
+            seen: LaneSet::new(),
             spent: 0,
         }
     }
@@ -50,6 +50,7 @@ impl Trial {
     /// Tries the option that leaves one heap at most, if there is one.
     #[tactic(auto, unfolding(crate::specs::Trials::with_left))]
     fn try_single<A: Allocator>(&mut self, code: &Code, table: &Table<A>, phi: &Phi<A>) -> u64
+        requires fits { table.now.order ≤ 64 * LANES }
         requires into { IsInto table.now phi.now }
         requires counts { HasElement phi.now self.old.walk.heap }
         requires small { self.old.spent < 2 ^ 40 }
@@ -94,11 +95,12 @@ impl Trial {
         code: &Code,
         table: &Table<A>,
         phi: &Phi<A>,
-        pairs: &[Pair],
-        split_values: &mut SplitValues<A>,
+        pairs: &[Pair<LaneSet<LANES>>],
+        split_values: &mut SplitValues<LaneSet<LANES>, A>,
     ) -> Result<(), Memory>
         requires kept { AreSplitValues table.now phi.now split_values.old.splits.items }
         requires kept_triples { AreTripleValues table.now phi.now split_values.old.triples.items }
+        requires fits { table.now.order ≤ 64 * LANES }
         requires elements { HaveElements phi.now pairs.now }
         requires inside { All (λ p. p.value < table.now.order) pairs.now }
         requires within { self.old.walk.heap ≤ length pairs.now + 1 }
@@ -153,11 +155,12 @@ impl Trial {
         code: &Code,
         table: &Table<A>,
         phi: &Phi<A>,
-        pairs: &[Pair],
-        split_values: &mut SplitValues<A>,
+        pairs: &[Pair<LaneSet<LANES>>],
+        split_values: &mut SplitValues<LaneSet<LANES>, A>,
     ) -> Result<(), Memory>
         requires kept { AreSplitValues table.now phi.now split_values.old.splits.items }
         requires kept_triples { AreTripleValues table.now phi.now split_values.old.triples.items }
+        requires fits { table.now.order ≤ 64 * LANES }
         requires elements { HaveElements phi.now pairs.now }
         requires inside { All (λ p. p.value < table.now.order) pairs.now }
         requires within { self.old.walk.heap ≤ length pairs.now + 1 }
@@ -174,7 +177,11 @@ impl Trial {
     }
 
     /// Sets the heap's pair down and begins the next heap.
-    fn close<A: Allocator>(&mut self, phi: &Phi<A>, pairs: &mut Vec<Pair, A>) -> Result<(), Memory>
+    fn close<A: Allocator>(
+        &mut self,
+        phi: &Phi<A>,
+        pairs: &mut Vec<Pair<LaneSet<LANES>>, A>,
+    ) -> Result<(), Memory>
         requires counts { HasElement phi.now self.old.walk.heap }
         requires small { (self.old.walk.heap < 2 ^ 40) × (self.old.spent < 2 ^ 40) }
         ensures trial { OnOk result (self.new ≡ after_heap self.old) }
@@ -190,7 +197,7 @@ impl Trial {
             options: self.seen,
         })?;
         self.walk = Walk::new(self.walk.heap + 1, self.walk.most);
-        self.seen = ElementSet::new();
+        self.seen = LaneSet::new();
         self.spent += 1;
         Ok(())
     }
@@ -202,10 +209,11 @@ impl Trial {
         code: &Code,
         table: &Table<A>,
         phi: &Phi<A>,
-        pairs: &mut Vec<Pair, A>,
-        split_values: &mut SplitValues<A>,
+        pairs: &mut Vec<Pair<LaneSet<LANES>>, A>,
+        split_values: &mut SplitValues<LaneSet<LANES>, A>,
         units: u64,
     ) -> Result<u64, Memory>
+        requires fits { table.now.order ≤ 64 * LANES }
         requires into { IsInto table.now phi.now }
         requires trial { IsTrial code.now table.now phi.now self.old pairs.old.items }
         requires kept { AreSplitValues table.now phi.now split_values.old.splits.items }
@@ -256,10 +264,11 @@ impl Trial {
         code: &Code,
         table: &Table<A>,
         phi: &Phi<A>,
-        pairs: &mut Vec<Pair, A>,
-        split_values: &mut SplitValues<A>,
+        pairs: &mut Vec<Pair<LaneSet<LANES>>, A>,
+        split_values: &mut SplitValues<LaneSet<LANES>, A>,
         units: u64,
     ) -> Result<(), Memory>
+        requires fits { table.now.order ≤ 64 * LANES }
         requires into { IsInto table.now phi.now }
         requires trial { IsTrial code.now table.now phi.now self.old pairs.old.items }
         requires kept { AreSplitValues table.now phi.now split_values.old.splits.items }
@@ -288,10 +297,11 @@ impl Trial {
         code: &Code,
         table: &Table<A>,
         phi: &Phi<A>,
-        pairs: &mut Vec<Pair, A>,
-        split_values: &mut SplitValues<A>,
+        pairs: &mut Vec<Pair<LaneSet<LANES>>, A>,
+        split_values: &mut SplitValues<LaneSet<LANES>, A>,
         units: u64,
     ) -> Result<(), Memory>
+        requires fits { table.now.order ≤ 64 * LANES }
         requires into { IsInto table.now phi.now }
         requires trial { IsTrial code.now table.now phi.now self.old pairs.old.items }
         requires kept { AreSplitValues table.now phi.now split_values.old.splits.items }

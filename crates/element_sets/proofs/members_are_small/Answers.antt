@@ -5,7 +5,7 @@ use Rattle.element_sets.proofs.HitLaws.{small_members}
 use Rattle.element_sets.proofs.members_are_small.Goals as goal
 
 pub returns : goal.returns
-returns c = λ x member.
+returns g c = λ x member.
     let count = c.members.invariant.length_is in
     let low =
     small_members c.members.inside.lanes x

@@ -11,7 +11,7 @@ use crate::closure::Closure;
 use crate::members::Member;
 use crate::settle::{Held, add, begin, hold, pending, settle_heap, settle_product};
 use allocation::{Memory, SmallAllocator};
-use element_sets::ElementSet;
+use element_sets::LaneSet;
 use monoid_table::CommMonoid;
 use std::alloc::AllocError;
 use transition_algebra::{Pair, Pairs};
@@ -38,16 +38,16 @@ enum Task {
 }
 
 /// The pair of the empty position.
-fn empty() -> Pair
+fn empty<const LANES: usize>() -> Pair<LaneSet<LANES>>
     ensures { result ≡ one }
 {
     Pair {
         value: 0,
-        options: ElementSet::new(),
+        options: LaneSet::new(),
     }
 }
 
-impl<A: SmallAllocator + Copy> Closure<A> {
+impl<const LANES: usize, A: SmallAllocator + Copy> Closure<LANES, A> {
     /// What the next turn does.
     fn task(&self) -> Task
         ensures empty { result ≡ Task.KeepEmpty → KeepsEmpty self.now.state }
@@ -164,7 +164,8 @@ impl<A: SmallAllocator + Copy> Closure<A> {
                 self.try_heap()?;
                 Ok(true)
             }
-            Task::Done | Task::Over => Ok(false),
+            Task::Done => Ok(false),
+            Task::Over => Ok(false),
         }
     }
 
@@ -197,7 +198,9 @@ impl<A: SmallAllocator + Copy> Closure<A> {
             return Err(Memory);
         }
         match self.task() {
-            Task::KeepEmpty | Task::Multiply(_) | Task::TryHeap => Ok(Grown::More),
+            Task::KeepEmpty => Ok(Grown::More),
+            Task::Multiply(_at) => Ok(Grown::More),
+            Task::TryHeap => Ok(Grown::More),
             Task::Done => Ok(Grown::Done),
             Task::Over => Ok(Grown::Over),
         }

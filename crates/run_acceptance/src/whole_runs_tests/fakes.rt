@@ -1,14 +1,15 @@
 //! The files of the runs, and words that may be no text.
-use crate::certificates::{OF_0_3, OF_0_33, OF_0_B, PART_OF_0_75};
+use crate::certificates::{OF_0_3, OF_0_33, OF_0_75, OF_0_B, PART_OF_0_75};
 use crate::files::{FIRST_VERSION, ONE_ENTRY};
 use std::alloc::Global;
 use std::env::FillError;
 use std::rt::Env;
 
 /// Certificates, a text that is none, catalogues, and a script that checks one of the certificates.
-pub static SAMPLES: [(&str, &str); 8] = [
+pub static SAMPLES: [(&str, &str); 9] = [
     ("0.3.mqc", OF_0_3),
     ("0.33.mqc", OF_0_33),
+    ("0.75.mqc", OF_0_75),
     ("0.b.mqc", OF_0_B),
     ("part.mqc", PART_OF_0_75),
     ("first.json", FIRST_VERSION),

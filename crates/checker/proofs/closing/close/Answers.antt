@@ -115,7 +115,7 @@ returns-in-Ok-Over-clause-closed g c =
     let k =
     ok_takes c.grow_to_member-grown.result c.in-Ok-Over.field-0 p q c.members.left
     c.grow_to_member-grown.ensures.grows c.in-Ok-Over.is in (
-      search rules,
+      c.grow_to_member-grown.ensures.exceeded (search rules),
       λ d portion bytes limit. over_runs d c.args.inside.now portion bytes limit _ p q _
           c.members.left _ (i.runs d portion bytes limit) k (let b = c.spent.ensures in
           let e = c.spent-before.ensures in let f = k.spent in let w = k.within in omega arith) last i.going

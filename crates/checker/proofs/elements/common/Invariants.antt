@@ -3,4 +3,4 @@ use Rattle.std.specs.FinSet as set
 use Rattle.checker.proofs.elements.common.Given as goal
 
 abbrev pub invariant-loop-y : goal.invariant-loop-y
-invariant-loop-y l = (x : ℕ) → x < l.y → set.contains l.a x ≡ true → set.contains l.b x ≡ false
+invariant-loop-y g l = (x : ℕ) → x < l.y → set.contains l.a x ≡ true → set.contains l.b x ≡ false

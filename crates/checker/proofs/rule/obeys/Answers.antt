@@ -15,12 +15,12 @@ not_false true e = absurd (cc)
 not_false false e = refl
 
 pub returns-then-contains-clause-yes : goal.returns-then-contains-clause-yes
-returns-then-contains-clause-yes c = λ t.
+returns-then-contains-clause-yes g c = λ t.
     inside_some c.args.inside.now c.args.pair.now (sym c.contains.ensures ∙ c.if-contains.true)
     (sym c.is_empty.ensures ∙ not_true _ t)
 
 pub returns-then-contains-clause-no : goal.returns-then-contains-clause-no
-returns-then-contains-clause-no c =
+returns-then-contains-clause-no g c =
     elim (either c.is_empty.result) [
       | inl t ↦ inr
           (inside_none c.args.inside.now c.args.pair.now
@@ -29,12 +29,12 @@ returns-then-contains-clause-no c =
     ]
 
 pub returns-then-is_empty-clause-yes : goal.returns-then-is_empty-clause-yes
-returns-then-is_empty-clause-yes c = λ _.
+returns-then-is_empty-clause-yes g c = λ _.
     outside_none c.args.inside.now c.args.pair.now (sym c.contains.ensures ∙ c.if-contains.false)
     (sym c.is_empty-else-contains.ensures ∙ c.if-is_empty.true)
 
 pub returns-else-is_empty-clause-no : goal.returns-else-is_empty-clause-no
-returns-else-is_empty-clause-no c =
+returns-else-is_empty-clause-no g c =
     elim (either c.meets.result) [
       | inl t ↦ inl t
       | inr f ↦ inr

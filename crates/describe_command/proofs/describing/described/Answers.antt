@@ -15,4 +15,4 @@ returns-in-Ok c =
 pub returns-in-Err : goal.returns-in-Err
 returns-in-Err c =
     IfOk-weaker _ _ _ (λ (s : Said) (h : IsBoundLine s.text.items × (s.succeeds ≡ false)). inr h)
-    c.undescribed.ensures
+    c.undescribed.ensures.bound

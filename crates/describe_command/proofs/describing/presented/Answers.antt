@@ -17,7 +17,7 @@ pub returns-in-Err : goal.returns-in-Err
 returns-in-Err c =
     IfOk-weaker _ _ _
     (λ (s : Said) (h : IsBoundLine s.text.items × (s.succeeds ≡ false)). inr (inl h.0, h.1))
-    c.undescribed.ensures
+    c.undescribed.ensures.bound
 
 pub returns-in_ok-text-in-Ok-Some : goal.returns-in_ok-text-in-Ok-Some
 returns-in_ok-text-in-Ok-Some c =

@@ -8,6 +8,7 @@ returns-in-Plain c = rw (
   c.code.ensures,
   c.in_ok-names.ensures,
   c.in_ok-list-in-Plain.ensures,
+  c.requires.index,
   c.in-Plain.is,
 ) (simp append_assoc refl)
 
@@ -18,5 +19,6 @@ returns c = rw (
   c.code.ensures,
   c.in_ok-names.ensures,
   c.in_ok-list-in-Latex.ensures,
+  c.requires.index,
   c.in-Latex.is,
 ) (simp append_assoc refl)

@@ -1,37 +1,39 @@
-use Rattle.std.proofs.Common.{arith, sym, subst}
+use Rattle.std.proofs.Common.{◌*◌, arith, rules, sym, subst}
 use Rattle.std.specs.Prelude.{◌↔◌}
 use Rattle.element_sets.proofs.HitLaws.{Has, without_lowest, falls, can_still, taken, lowest_can, nothing_left}
 use Rattle.element_sets.proofs.translate.add_lane.Goals as goal
 
 pub overflow_add-base : goal.overflow_add-base
-overflow_add-base c =
+overflow_add-base g c =
     let here =
-    lowest_can c.loop-word.word c.args.base c.args.row.now (omega arith) (omega arith)
+    lowest_can (64 * g.row.LANES) c.loop-word.word c.args.base c.args.row.now (omega arith) (omega arith)
     c.loop-word.invariant.can in
     omega arith
 
 pub offset_bounds-row-base : goal.offset_bounds-row-base
-offset_bounds-row-base c =
+offset_bounds-row-base g c =
     let here =
-    lowest_can c.loop-word.word c.args.base c.args.row.now (omega arith) (omega arith)
+    lowest_can (64 * g.row.LANES) c.loop-word.word c.args.base c.args.row.now (omega arith) (omega arith)
     c.loop-word.invariant.can in
     omega arith
 
 pub bounds-row-base : goal.bounds-row-base
-bounds-row-base c =
-    (lowest_can c.loop-word.word c.args.base c.args.row.now (omega arith) (omega arith)
+bounds-row-base g c =
+    (lowest_can (64 * g.row.LANES) c.loop-word.word c.args.base c.args.row.now (omega arith) (omega arith)
     c.loop-word.invariant.can).1
 
 pub put-requires : goal.put-requires
-put-requires c =
-    (lowest_can c.loop-word.word c.args.base c.args.row.now (omega arith) (omega arith)
-    c.loop-word.invariant.can).2
+put-requires g c = (
+  search rules,
+  (lowest_can (64 * g.row.LANES) c.loop-word.word c.args.base c.args.row.now (omega arith)
+      (omega arith) c.loop-word.invariant.can).2,
+)
 
 pub loop-word-smaller : goal.loop-word-smaller
-loop-word-smaller c = falls c.loop-word.word (omega arith)
+loop-word-smaller g c = falls c.loop-word.word (omega arith)
 
 pub loop-word-preserved : goal.loop-word-preserved
-loop-word-preserved c = record {
+loop-word-preserved g c = record {
   same = λ q.
       let one = taken c.loop-word.all c.loop-word.word c.args.base c.args.row.now (omega arith)
       (omega arith) q in
@@ -39,12 +41,12 @@ loop-word-preserved c = record {
       subst (λ s. Has s (without_lowest c.loop-word.word) c.args.base c.args.row.now q
       ↔ Has c.args.all.now c.args.lane c.args.base c.args.row.now q) (sym c.put.ensures)
       (λ h. before.0 (one.0 h), λ h. one.1 (before.1 h));
-  can = can_still c.loop-word.word c.args.base c.args.row.now (omega arith) (omega arith)
+  can = can_still (64 * g.row.LANES) c.loop-word.word c.args.base c.args.row.now (omega arith) (omega arith)
       c.loop-word.invariant.can;
 }
 
 pub returns : goal.returns
-returns c = λ q.
+returns g c = λ q.
     let done = nothing_left c.loop-word.all c.loop-word.word c.args.base c.args.row.now q
     (omega arith) in
     let all = c.loop-word.invariant.same q in

@@ -4,16 +4,8 @@ use Rattle.std.proofs.Common.{set, get_or}
 use Rattle.std.specs.List.{list_any}
 use Rattle.transition_algebra.specs.Pairs.{covers}
 use Rattle.pair_closure.specs.Turns.{held_with, blank_held}
-use Rattle.pair_closure.specs.declared.settle.Held.{Held}
+use Rattle.pair_closure.specs.OverSets.{Held}
 use Rattle.pair_closure.proofs.settle.settle_product.Goals as goal
-
-pub hold-requires-clause-some : goal.hold-requires-clause-some
-hold-requires-clause-some g c = λ e.
-    let none = c.requires.tell.covered (c.in_ok-covers_some.ensures.alone (search rules)) in
-    ap (λ held. list_any (λ (m : Held). covers c.args.product m.pair)
-    (set held c.args.at c.args.multiplied)) c.in_ok-covers_some.ensures.held
-    ∙ any_write c.args.product c.args.held.now.items c.args.at c.args.multiplied c.requires.same
-    ∙ none
 
 pub returns-clause-before : goal.returns-clause-before
 returns-clause-before g c = λ e k l.
@@ -28,3 +20,17 @@ returns-clause-before g c = λ e k l.
     ∙ before_hold _ _ _ _ _ _ c.requires.within
     (any_write c.args.product c.args.held.now.items c.args.at c.args.multiplied c.requires.same
     ∙ none) k l
+
+pub hold-requires : goal.hold-requires
+hold-requires g c = (
+  search rules,
+  (
+    search rules,
+    (λ e.
+        let none = c.requires.tell.covered (c.in_ok-covers_some.ensures.alone (search rules)) in
+        ap (λ held. list_any (λ (m : Held). covers c.args.product m.pair)
+        (set held c.args.at c.args.multiplied)) c.in_ok-covers_some.ensures.held
+        ∙ any_write c.args.product c.args.held.now.items c.args.at c.args.multiplied c.requires.same
+        ∙ none),
+  ),
+)

@@ -46,4 +46,4 @@ returns-in-Err-Limit-clause-presents c =
     IfOk-weaker _ _ _
     (λ (s : Said) (h : (s.text.items ≡ codes "refused 3 Limit\n") × (s.succeeds ≡ false)).
     OfRelations found.0 found.1 (subst (λ (b : Bool). PresentsTable found.0 s.text.items b) (sym h.1)
-    (Limit found.2 h.0))) c.refuse-in-Err-Limit.ensures.no
+    (Limit found.2 found.3 h.0))) c.refuse-in-Err-Limit.ensures.no

@@ -1,4 +1,4 @@
-use Rattle.std.proofs.Common.{sym, subst, arith}
+use Rattle.std.proofs.Common.{rules, sym, subst, arith}
 use Rattle.transition_algebra.specs.Trials.{IsTrial}
 use Rattle.transition_algebra.specs.Heaps.{bound_of}
 use Rattle.transition_algebra.proofs.Finished.{all_units, finished}
@@ -12,7 +12,7 @@ returns-clause-exact g c =
     all_units c.args.code.now c.args.phi.now c.new-trial.result.spent c.work.new.self.spent
     c.is_code.ensures.code c.is_pretending.ensures c.in_ok-work.ensures.ok in
     finished c.args.code.now c.args.table.now c.is_monoid.ensures.monoid c.args.phi.now
-    c.is_pretending.ensures c.requires c.work.new.self c.work.new.pairs.items
+    c.is_pretending.ensures c.requires.into c.work.new.self c.work.new.pairs.items
     c.in_ok-work.ensures.trial all
 
 pub returns-clause-within : goal.returns-clause-within
@@ -20,16 +20,11 @@ returns-clause-within g c =
     let all =
     all_units c.args.code.now c.args.phi.now c.new-trial.result.spent c.work.new.self.spent
     c.is_code.ensures.code c.is_pretending.ensures c.in_ok-work.ensures.ok in
-    all_in c.args.table.now c.is_monoid.ensures.monoid c.args.phi.now c.requires c.args.code.now
+    all_in c.args.table.now c.is_monoid.ensures.monoid c.args.phi.now c.requires.into c.args.code.now
     (bound_of c.args.code.now c.args.phi.now) c.work.new.pairs.items (omega arith)
     (finished c.args.code.now c.args.table.now c.is_monoid.ensures.monoid c.args.phi.now
-    c.is_pretending.ensures c.requires c.work.new.self c.work.new.pairs.items
+    c.is_pretending.ensures c.requires.into c.work.new.self c.work.new.pairs.items
     c.in_ok-work.ensures.trial all)
-
-pub work-requires-clause-trial : goal.work-requires-clause-trial
-work-requires-clause-trial g c =
-    subst (IsTrial c.args.code.now c.args.table.now c.args.phi.now c.new-trial.result)
-    (sym c.new-pairs.ensures.items) (c.new-trial.ensures.trial c.args.table.now)
 
 pub returns-clause-made : goal.returns-clause-made
 returns-clause-made g c =
@@ -37,7 +32,23 @@ returns-clause-made g c =
     all_units c.args.code.now c.args.phi.now c.new-trial.result.spent c.work.new.self.spent
     c.is_code.ensures.code c.is_pretending.ensures c.in_ok-work.ensures.ok in
     all_pairs c.args.code.now c.args.table.now c.is_monoid.ensures.monoid c.args.phi.now
-    c.is_pretending.ensures c.requires c.work.new.pairs.items
+    c.is_pretending.ensures c.requires.into c.work.new.pairs.items
     (finished c.args.code.now c.args.table.now c.is_monoid.ensures.monoid c.args.phi.now
-    c.is_pretending.ensures c.requires c.work.new.self c.work.new.pairs.items
+    c.is_pretending.ensures c.requires.into c.work.new.self c.work.new.pairs.items
     c.in_ok-work.ensures.trial all)
+
+pub work-requires : goal.work-requires
+work-requires g c = (
+  search rules,
+  (
+    search rules,
+    (
+      search rules,
+      (
+        subst (IsTrial c.args.code.now c.args.table.now c.args.phi.now c.new-trial.result)
+            (sym c.new-pairs.ensures.items) (c.new-trial.ensures.trial c.args.table.now),
+        (search rules, search rules),
+      ),
+    ),
+  ),
+)

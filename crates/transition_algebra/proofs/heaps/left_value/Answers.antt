@@ -10,6 +10,3 @@ times-requires-clause-y_in c = grind (arith, common_steps)
 
 pub returns-in-One-clause-within : goal.returns-in-One-clause-within
 returns-in-One-clause-within c = grind (arith, common_steps)
-
-pub returns-in-One-clause-small : goal.returns-in-One-clause-small
-returns-in-One-clause-small c = grind (arith, common_steps)

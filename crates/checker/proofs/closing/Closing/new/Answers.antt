@@ -1,4 +1,10 @@
-use Rattle.std.proofs.Common.{◌≡◌, false, refl, arith, subst, sym, ap, ◌∙◌}
+use Rattle.std.proofs.Common.{◌≡◌, ◌<◌, ◌≤◌, ◌*◌, length, false, refl, arith, subst, sym, ap, ◌∙◌}
+use Rattle.std.specs.Cmp.{nat_cmp_total}
+use Rattle.std.specs.FinSet as set
+use Rattle.std.specs.FinSet.{nat_cmp-IsAntisymmetric, same_set}
+use Rattle.std.specs.Ordering.{nat_cmp}
+use Rattle.std.specs.List.{All}
+use Rattle.std.proofs.lemmas.List.Elements.{All-weaker}
 use Rattle.misere_theory.specs.Games.{IsHeapUpTo}
 use Rattle.misere_theory.specs.Pairs.{ElementsObey}
 use Rattle.misere_theory.specs.Certificates.{Certificate, Canonical, claim_of}
@@ -7,22 +13,34 @@ use Rattle.certificate.specs.Fields.{Fields, certificate_of, grid_of}
 use Rattle.checker.specs.Rules.{HeldObey}
 use Rattle.pair_closure.specs.ClosureViews.{ClosureView, begun, has_ended}
 use Rattle.checker.specs.Views.{ClosingView}
-use Rattle.checker.specs.LawfulCertificates.{fields_of}
+use Rattle.checker.specs.LawfulCertificates.{fields_of, IsLawfulCertificate}
 use Rattle.checker.specs.Closings.{HavePairs, IsClosing}
 use Rattle.checker.specs.Bounds.{bound_of}
+use Rattle.pair_closure.proofs.Fit.{closure_fits}
+use Rattle.transition_algebra.specs.Pairs.{IsPair}
 use Rattle.checker.proofs.CloseTurns.{begun_going}
+use Rattle.checker.proofs.UnitLemmas.{bound_few}
 use Rattle.checker.proofs.closing.Closing.new.Goals as goal
 
 pub invariant_of-result : goal.invariant_of-result
 invariant_of-result g c =
     let s = c.certificate.inside in
+    let f : Fields =
+    fields_of s.code s.table s.phi s.lines.portion.items s.lines.words.items s.lines.apart.items
+    in
+    let inside : set.FinSet nat_cmp = c.set_of-inside.result in
+    let same : inside ≡ s.lines.inside =
+    same_set nat_cmp_total nat_cmp-IsAntisymmetric inside s.lines.inside
+    (λ x. (rw c.deref.ensures.value at c.set_of-inside.ensures x) ∙ sym (c.certificate.invariant.portion x)) in
     subst (λ (p : ClosureView).
     IsClosing
     (fields_of s.code p.state.table s.phi s.lines.portion.items s.lines.words.items
-    s.lines.apart.items) s.lines.inside p.state.heaps × HeldObey s.lines.inside p.state.held
-    × (has_ended p.state ≡ false) × (p.failed ≡ false)) (sym c.new.ensures) (
+    s.lines.apart.items) inside p.state.heaps × HeldObey inside p.state.held
+    × (has_ended p.state ≡ false) × (p.failed ≡ false) × (inside ≡ s.lines.inside)
+    × (g.row.LANES ≤ 64))
+    (sym c.new.ensures) (
       record {
-        certificate = c.certificate.invariant;
+        certificate = subst (IsLawfulCertificate f) (sym same) c.certificate.invariant;
         canonical = subst Canonical (sym c.certificate.view_is) c.requires.canonical;
         exact = subst (λ d. HavePairs d c.args.pairs.items) (sym c.certificate.view_is) c.requires.pairs;
         elements =
@@ -32,6 +50,8 @@ invariant_of-result g c =
       λ i l. absurd (omega arith),
       begun_going s.table c.args.pairs.items c.args.limit,
       refl,
+      same,
+      c.requires.few,
     )
 
 pub returns : goal.returns
@@ -57,3 +77,38 @@ returns g c =
           ∙ (ap (with (certificate_of p)) (sym joined)
           ∙ ap (λ d. with d (grid_of d)) c.certificate.view_is);
     }
+
+pub set_of-inside-requires : goal.set_of-inside-requires
+set_of-inside-requires g c =
+    let s = c.certificate.inside in
+    let few = c.requires.few in
+    let fits : s.table.order ≤ 64 * g.row.LANES =
+    subst (λ d. d.order ≤ 64 * g.row.LANES) (sym c.certificate.view_is) c.requires.fits in (
+      omega arith,
+      rw c.deref.ensures.value
+          (All-weaker (λ x. x < s.table.order) (λ x. x < 64 * g.row.LANES) (λ x l. omega arith)
+          s.lines.portion.items c.certificate.invariant.whole.in_ranges.portion.1),
+    )
+
+pub new-requires : goal.new-requires
+new-requires g c =
+    let few = bound_few _ c.certificate.invariant.whole.in_ranges in
+    let long = subst (λ d. length c.args.pairs.items ≡ bound_of d) (sym c.certificate.view_is)
+    c.requires.pairs.exact.length_is in
+    let lanes = c.requires.few in (
+      omega arith,
+      (
+        closure_fits g.row.LANES g.row.A g.A.Allocator g.met.A.SmallAllocator.small,
+        (
+          subst (λ d. d.order ≤ 64 * g.row.LANES) (sym c.certificate.view_is) c.requires.fits,
+          (
+            c.requires.few,
+            (
+              omega arith,
+              subst (λ d. All (IsPair d.order) c.args.pairs.items) (sym c.certificate.view_is)
+                  c.requires.pairs.within,
+            ),
+          ),
+        ),
+      ),
+    )

@@ -20,6 +20,7 @@ use Rattle.monoid_table.specs.Grids.{Grid}
 use Rattle.pair_closure.specs.Positions.{rising, word}
 use Rattle.checker.specs.Turns.{Phase, Runs}
 use Rattle.checker.specs.Turns.Phase.{Closing, Ended}
+use Rattle.pair_closure.proofs.Fit.{closure_fits}
 use Rattle.checker.proofs.TurnLemmas.{runs-to}
 use Rattle.checker.proofs.HeapLemmas.{length_bound, over_reaches, member_fails, members_cover, position_within}
 use Rattle.checker.proofs.closing.Closing.work.Goals as goal
@@ -41,8 +42,8 @@ returns-in-Ok-Over-clause-carries g c =
     let t = c.close-closed.new.closure.state in
     let kept_data = c.close-closed.ensures.goes_on.same in
     let more =
-    over_reaches p s.lines.inside s.closure.state.heaps i t kept_data.table kept_data.heaps
-    ((come c.self.inside.lines.inside c.self.inside.closure c.close-closed.new.closure c.args.left.now
+    over_reaches p s.inside s.closure.state.heaps i t kept_data.table kept_data.heaps
+    ((come c.self.inside.inside c.self.inside.closure c.close-closed.new.closure c.args.left.now
     c.close-closed.new.left _ _ Over c.close-closed.ensures.closed c.in-Ok-Over.is
     (rw c.in-Ok-Over.is at c.in-Ok-Over.field-0-is)).0) in
     subst (λ v. Fits v.certificate v.closure.state.limit Limit) c.self.view_is (
@@ -63,11 +64,11 @@ returns-in-Ok-clause-carries g c =
     let kept_data = c.close-closed.ensures.goes_on.same in
     let n = c.in-Ok-Broken.i in
     let broken =
-    (come c.self.inside.lines.inside c.self.inside.closure c.close-closed.new.closure c.args.left.now
+    (come c.self.inside.inside c.self.inside.closure c.close-closed.new.closure c.args.left.now
     c.close-closed.new.left _ _ (Broken n) c.close-closed.ensures.closed c.in-Ok-Broken.is
     (rw c.in-Ok-Broken.is at c.in-Ok-Broken.field-0-is)) in
     let fails =
-    member_fails p s.lines.inside s.closure.state.heaps i t kept_data.table kept_data.heaps _
+    member_fails p s.inside s.closure.state.heaps i t kept_data.table kept_data.heaps _
     c.in-Ok.position c.in-Ok.ensures.is broken.1 in
     subst (λ v. Fits v.certificate v.closure.state.limit (Outcome s.code c.in-Ok.position))
     c.self.view_is (
@@ -77,7 +78,7 @@ returns-in-Ok-clause-carries g c =
         i.canonical,
         position_within (certificate_of p) c.in-Ok.position
             (subst (λ n. IsPosition (IsHeapUpTo n) c.in-Ok.position)
-            (length_bound p s.lines.inside s.closure.state.heaps i t kept_data.table kept_data.heaps)
+            (length_bound p s.inside s.closure.state.heaps i t kept_data.table kept_data.heaps)
             c.in-Ok.ensures.is.within),
         fails,
       ),
@@ -87,10 +88,10 @@ pub word-requires : goal.word-requires
 word-requires g c =
     let n = c.in-Ok-Broken.i in
     let broken =
-    (come c.self.inside.lines.inside c.self.inside.closure c.close-closed.new.closure c.args.left.now
+    (come c.self.inside.inside c.self.inside.closure c.close-closed.new.closure c.args.left.now
     c.close-closed.new.left _ _ (Broken n) c.close-closed.ensures.closed c.in-Ok-Broken.is
     (rw c.in-Ok-Broken.is at c.in-Ok-Broken.field-0-is)) in
-    broken.0
+    (closure_fits g.row.LANES g.row.A g.A.Allocator g.met.A.SmallAllocator.small, broken.0)
 
 pub invariant_of-result : goal.invariant_of-result
 invariant_of-result g c =
@@ -98,21 +99,23 @@ invariant_of-result g c =
     let t = c.close-closed.new.closure.state in
     let kept_data = c.close-closed.ensures.goes_on.same in
     let more =
-    come c.self.inside.lines.inside c.self.inside.closure c.close-closed.new.closure c.args.left.now
+    come c.self.inside.inside c.self.inside.closure c.close-closed.new.closure c.args.left.now
     c.close-closed.new.left _ _ More c.close-closed.ensures.closed c.in-Ok-More.is
     (rw c.in-Ok-More.is at c.in-Ok-More.field-0-is) in (
       subst (λ g.
           IsClosing
           (fields_of s.code g s.phi s.lines.portion.items s.lines.words.items s.lines.apart.items)
-          s.lines.inside t.heaps) (sym kept_data.table)
+          s.inside t.heaps) (sym kept_data.table)
           (subst
           (λ h. IsClosing
           (fields_of s.code s.closure.state.table s.phi s.lines.portion.items
-          s.lines.words.items s.lines.apart.items) s.lines.inside h) (sym kept_data.heaps)
+          s.lines.words.items s.lines.apart.items) s.inside h) (sym kept_data.heaps)
           c.self.invariant.0),
       more.1,
       more.2,
       more.3,
+      c.self.invariant.4,
+      c.self.invariant.5,
     )
 
 pub accepted-requires : goal.accepted-requires
@@ -125,11 +128,11 @@ accepted-requires g c =
     let t = c.close-closed.new.closure.state in
     let kept_data = c.close-closed.ensures.goes_on.same in
     let done =
-    (come c.self.inside.lines.inside c.self.inside.closure c.close-closed.new.closure c.args.left.now
+    (come c.self.inside.inside c.self.inside.closure c.close-closed.new.closure c.args.left.now
     c.close-closed.new.left _ _ Done c.close-closed.ensures.closed c.in-Ok-Done.is
     (rw c.in-Ok-Done.is at c.in-Ok-Done.field-0-is)) in
     let covered =
-    members_cover p s.lines.inside s.closure.state.heaps i t kept_data.table kept_data.heaps
+    members_cover p s.inside s.closure.state.heaps i t kept_data.table kept_data.heaps
     done.0 done.1 in
     let accepted =
     c.tested_certificates_are_accepted.ensures (certificate_of p) covered.kept
@@ -170,11 +173,11 @@ returns-in-Ok-More-clause-comes g c =
     let n = c.close-closed.new.closure in
     let a = c.close-closed.new.left in
     let r =
-    (come c.self.inside.lines.inside c.self.inside.closure c.close-closed.new.closure c.args.left.now
+    (come c.self.inside.inside c.self.inside.closure c.close-closed.new.closure c.args.left.now
     c.close-closed.new.left _ _ More c.close-closed.ensures.closed c.in-Ok-More.is
     (rw c.in-Ok-More.is at c.in-Ok-More.field-0-is)).4 in
     let m =
-    (come c.self.inside.lines.inside c.self.inside.closure c.close-closed.new.closure c.args.left.now
+    (come c.self.inside.inside c.self.inside.closure c.close-closed.new.closure c.args.left.now
     c.close-closed.new.left _ _ More c.close-closed.ensures.closed c.in-Ok-More.is
     (rw c.in-Ok-More.is at c.in-Ok-More.field-0-is)) in
     let at : Grid → Phase =
@@ -205,7 +208,7 @@ returns-in-Ok-Over-clause-comes g c =
     let n = c.close-closed.new.closure in
     let a = c.close-closed.new.left in
     let r =
-    (come c.self.inside.lines.inside c.self.inside.closure c.close-closed.new.closure c.args.left.now
+    (come c.self.inside.inside c.self.inside.closure c.close-closed.new.closure c.args.left.now
     c.close-closed.new.left _ _ Over c.close-closed.ensures.closed c.in-Ok-Over.is
     (rw c.in-Ok-Over.is at c.in-Ok-Over.field-0-is)).1 in
     λ bytes limit. record {
@@ -228,7 +231,7 @@ returns-in-Ok-clause-comes g c =
     let a = c.close-closed.new.left in
     let k = c.in-Ok-Broken.i in
     let r =
-    (come c.self.inside.lines.inside c.self.inside.closure c.close-closed.new.closure c.args.left.now
+    (come c.self.inside.inside c.self.inside.closure c.close-closed.new.closure c.args.left.now
     c.close-closed.new.left _ _ (Broken k) c.close-closed.ensures.closed c.in-Ok-Broken.is
     (rw c.in-Ok-Broken.is at c.in-Ok-Broken.field-0-is)).2 in
     let m = slice_index_or n.state.held k blank_held in
@@ -254,7 +257,7 @@ returns-in-Err-word-clause-comes g c =
     let a = c.close-closed.new.left in
     let k = c.in-Ok-Broken.i in
     let r =
-    (come c.self.inside.lines.inside c.self.inside.closure c.close-closed.new.closure c.args.left.now
+    (come c.self.inside.inside c.self.inside.closure c.close-closed.new.closure c.args.left.now
     c.close-closed.new.left _ _ (Broken k) c.close-closed.ensures.closed c.in-Ok-Broken.is
     (rw c.in-Ok-Broken.is at c.in-Ok-Broken.field-0-is)).2 in
     let m = slice_index_or n.state.held k blank_held in
@@ -278,7 +281,7 @@ returns-in-Ok-Done-clause-comes g c =
     let n = c.close-closed.new.closure in
     let a = c.close-closed.new.left in
     let r =
-    (come c.self.inside.lines.inside c.self.inside.closure c.close-closed.new.closure c.args.left.now
+    (come c.self.inside.inside c.self.inside.closure c.close-closed.new.closure c.args.left.now
     c.close-closed.new.left _ _ Done c.close-closed.ensures.closed c.in-Ok-Done.is
     (rw c.in-Ok-Done.is at c.in-Ok-Done.field-0-is)).2 in
     let e =
@@ -295,3 +298,40 @@ returns-in-Ok-Done-clause-comes g c =
       shown = inl (sym (ap (λ d. Ended (Yes d)) (c.accepted.ensures ∙ e)));
       exact = λ h. omega arith;
     }
+
+pub close-closed-requires : goal.close-closed-requires
+close-closed-requires g c =
+    let i = c.self.invariant in
+    let few = i.5 in (
+      closure_fits g.row.LANES g.row.A g.A.Allocator g.met.A.SmallAllocator.small,
+      (omega arith, (i.1, (i.2, i.3))),
+    )
+
+pub returns-in-Ok-Done-clause-carries : goal.returns-in-Ok-Done-clause-carries
+returns-in-Ok-Done-clause-carries g c =
+    let s = c.self.inside in
+    let p : Fields =
+    fields_of s.code s.closure.state.table s.phi s.lines.portion.items s.lines.words.items
+    s.lines.apart.items in
+    let i = c.self.invariant.0 in
+    let t = c.close-closed.new.closure.state in
+    let kept_data = c.close-closed.ensures.goes_on.same in
+    let done =
+    (come c.self.inside.inside c.self.inside.closure c.close-closed.new.closure c.args.left.now
+    c.close-closed.new.left _ _ Done c.close-closed.ensures.closed c.in-Ok-Done.is
+    (rw c.in-Ok-Done.is at c.in-Ok-Done.field-0-is)) in
+    let covered =
+    members_cover p s.inside s.closure.state.heaps i t kept_data.table kept_data.heaps
+    done.0 done.1 in
+    let accepted =
+    c.tested_certificates_are_accepted.ensures (certificate_of p) covered.kept
+    i.certificate.lawful.in_ranges i.certificate.lawful.monoid i.canonical covered.closed covered.obey
+    i.elements in
+    let whole = ap (λ v. v.certificate) c.self.view_is in (
+      c.accepted.ensures
+          ∙ (ap (λ t. certificate_of
+          (fields_of s.code t s.phi s.lines.portion.items s.lines.words.items s.lines.apart.items))
+          (c.finish-table.ensures.table ∙ kept_data.table)
+          ∙ whole),
+      subst Accepted whole accepted,
+    )

@@ -94,9 +94,19 @@ pub returns-then-is_some-clause-runs : goal.returns-then-is_some-clause-runs
 returns-then-is_some-clause-runs g c = let i = c.heaps.invariant in
     λ bytes limit. elements_going bytes limit _ _ _ _ _ _ _ (i.runs bytes limit) i.within
 
-pub breach-requires-clause-value : goal.breach-requires-clause-value
-breach-requires-clause-value g c =
+pub breach-requires : goal.breach-requires
+breach-requires g c =
     let i = c.heaps.invariant in
-    rw c.deref.ensures.value
-    (value_below c.heaps.self-inside.certificate i.lawful.in_ranges c.heaps.self-inside.pairs.items
-    c.heaps.self-inside.contexts.items _ _ c.index.result.now i.so_far i.within c.index.ensures)
+    let s = c.heaps.self-inside in
+    let few = c.self.invariant.3 in
+    let order = i.order in
+    let option = i.so_far.value in
+    let long = i.so_far.sets.length_is in (
+      omega arith,
+      (
+        rw c.deref.ensures.value
+            (value_below s.certificate i.lawful.in_ranges s.pairs.items s.contexts.items _ _
+            c.index.result.now i.so_far i.within c.index.ensures),
+        (rw c.deref.ensures.value (omega arith), omega arith),
+      ),
+    )

@@ -1,10 +1,13 @@
 use Rattle.std.proofs.Common.{rules, ◌<◌, ◌≤◌, ◌+◌, ◌∷◌, length, subst, sym, ap, refl, inl, inr, ◌∙◌, arith}
-use Rattle.checker.specs.Stages.{Carries, reached}
+use Rattle.checker.specs.Stages.{Carries, arrived}
 use Rattle.checker.proofs.ElementLemmas.{value_below, leads_in, obeys_at, value_turn, heap_turn, elements_end}
 use Rattle.answers.specs.ByteVerdicts.ByteVerdict.{Outcome}
 use Rattle.pair_closure.specs.Positions.{rising}
 use Rattle.checker.specs.Turns.{keys_from}
 use Rattle.checker.specs.Turns.Phase.{Elements, Closing, Ended}
+use Rattle.checker.proofs.Fit.{closing_fits}
+use Rattle.checker.proofs.HeapLemmas.{up_to_bound}
+use Rattle.checker.proofs.UnitLemmas.{bound_few}
 use Rattle.checker.proofs.TurnLemmas.{runs-none, runs-to}
 use Rattle.checker.proofs.ElementTurns.{elements_in, elements_going, elements_broken, elements_heap, elements_option, elements_over, leads_here, leads_nowhere}
 use Rattle.checker.proofs.elements.Elements.work.Goals as goal
@@ -90,22 +93,32 @@ pub returns-clause-comes : goal.returns-clause-comes
 returns-clause-comes g c =
     let i = c.heaps.invariant in
     λ bytes. record {
-      to = Closing c.new.result;
+      to = Closing c.new-closing.result;
       runs =
           runs-to bytes c.args.limit _ _ _ _ _
           (elements_over bytes c.args.limit _ _ _ _ _ _ _ (i.runs bytes) (search rules))
-          (ap Closing (sym c.new.ensures.value));
+          (ap Closing (sym c.new-closing.ensures.value));
       shown = inl refl;
       exact = λ h. omega arith;
     }
 
-pub breach-requires-clause-value : goal.breach-requires-clause-value
-breach-requires-clause-value g c =
+pub breach-requires : goal.breach-requires
+breach-requires g c =
     let i = c.heaps.invariant in
-    let l : c.heaps.heap < length c.self.inside.pairs.items = search rules in
-    rw c.deref.ensures.value
-    (value_below c.self.inside.certificate i.lawful.in_ranges c.self.inside.pairs.items
-    c.self.inside.contexts.items _ _ c.index.result.now i.so_far l c.index.ensures)
+    let s = c.self.inside in
+    let few = c.self.invariant.3 in
+    let order = i.order in
+    let option = i.so_far.value in
+    let long = i.so_far.sets.length_is in
+    let l : c.heaps.heap < length s.pairs.items = search rules in (
+      omega arith,
+      (
+        rw c.deref.ensures.value
+            (value_below s.certificate i.lawful.in_ranges s.pairs.items s.contexts.items _ _
+            c.index.result.now i.so_far l c.index.ensures),
+        (rw c.deref.ensures.value (omega arith), omega arith),
+      ),
+    )
 
 pub position_with-requires-clause-breach : goal.position_with-requires-clause-breach
 position_with-requires-clause-breach g c =
@@ -118,7 +131,7 @@ position_with-requires-clause-breach g c =
 
 pub returns-in-Ok-clause-carries : goal.returns-in-Ok-clause-carries
 returns-in-Ok-clause-carries g c =
-    subst (λ d. Carries d c.args.limit (reached c.rule_fails.result)) c.heaps.invariant.same
+    subst (λ d. Carries d c.args.limit (arrived c.rule_fails.result)) c.heaps.invariant.same
     (c.rule_fails.ensures.carries c.args.limit)
 
 pub heaps-preserved-then-option-order : goal.heaps-preserved-then-option-order
@@ -168,9 +181,36 @@ heaps-preserved g c =
           (λ m. absurd (omega arith));
     }
 
-pub new-requires-clause-elements : goal.new-requires-clause-elements
-new-requires-clause-elements g c =
+pub new-closing-requires : goal.new-closing-requires
+new-closing-requires g c =
     let i = c.heaps.invariant in
-    let l : length c.self.inside.pairs.items ≤ c.heaps.heap = search rules in
-    elements_end c.self.inside.certificate i.lawful.in_ranges c.self.inside.pairs.items
-    c.self.inside.contexts.items _ _ i.so_far l
+    let few = c.self.invariant.3 in
+    let l : length c.self.inside.pairs.items ≤ c.heaps.heap = search rules in (
+      omega arith,
+      (
+        closing_fits g.row.A g.A.Allocator g.met.A.SmallAllocator.small g.row.LANES few,
+        (
+          c.self.invariant.2,
+          (
+            few,
+            (
+              i.so_far.canonical,
+              (
+                i.so_far.exact,
+                elements_end c.self.inside.certificate i.lawful.in_ranges c.self.inside.pairs.items
+                    c.self.inside.contexts.items _ _ i.so_far l,
+              ),
+            ),
+          ),
+        ),
+      ),
+    )
+
+pub position_with-requires-clause-heap : goal.position_with-requires-clause-heap
+position_with-requires-clause-heap g c =
+    let i = c.heaps.invariant in
+    let s = c.self.inside in
+    let l : c.heaps.heap < length s.pairs.items = search rules in
+    let long = i.so_far.exact.exact.length_is in
+    let most = bound_few s.certificate i.lawful.in_ranges in
+    (up_to_bound s.certificate (c.heaps.heap + 1) (omega arith, omega arith), omega arith)

@@ -1,8 +1,9 @@
-use Rattle.std.proofs.Common.{◌-◌, ◌<◌, ◌≤◌, sym, ◌∙◌, ap, subst, arith}
+use Rattle.std.proofs.Common.{◌-◌, ◌<◌, ◌≤◌, ◌*◌, sym, ◌∙◌, ap, subst, arith}
 use Rattle.misere_theory.specs.Certificates.{Certificate}
 use Rattle.transition_algebra.specs.Work.{HeapWork, heap_cost}
 use Rattle.certificate.specs.Fields.{certificate_of}
 use Rattle.checker.specs.LawfulCertificates.{fields_of}
+use Rattle.checker.specs.Closings.{IsCanonicalCertificate}
 use Rattle.checker.specs.Turns.{Runs}
 use Rattle.checker.specs.Turns.Phase.{Heaps}
 use Rattle.checker.proofs.TurnLemmas.{runs-to}
@@ -35,3 +36,16 @@ returns-clause-runs g c = λ bytes limit.
     (runs-to bytes limit _ _ _ _ _ runs
     (heaps_in limit (of s.job) J.spent w
     ∙ ap (λ q. Heaps (record { certificate = of q; spent = J.spent })) (sym e)))) (omega arith)
+
+pub invariant_of-self : goal.invariant_of-self
+invariant_of-self g c =
+    let s = c.self.inside in
+    let i = c.self.invariant in
+    let of : HeapWork → Type 0 =
+    λ j. IsCanonicalCertificate
+    (fields_of j.code j.table j.phi s.lines.portion.items s.lines.words.items
+    s.lines.apart.items) s.lines.inside × (j.table.order ≤ 64 * g.row.LANES) in
+    let same = subst of (sym c.go_on.ensures.given) (i.0, i.2) in
+    let going = subst (λ (j : HeapWork). c.go_on.new.self.spent < heap_cost j.code j.phi)
+    (sym c.go_on.ensures.given) (c.go_on.ensures.going i.1) in
+    (same.0, going, same.1, i.3)

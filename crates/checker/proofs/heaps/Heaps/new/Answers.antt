@@ -1,4 +1,4 @@
-use Rattle.std.proofs.Common.{◌<◌, sym, subst}
+use Rattle.std.proofs.Common.{◌<◌, ◌≤◌, ◌*◌, sym, subst}
 use Rattle.misere_theory.specs.Certificates.{Canonical}
 use Rattle.transition_algebra.specs.Work.{HeapWork, heap_cost}
 use Rattle.checker.specs.LawfulCertificates.{fields_of}
@@ -14,12 +14,14 @@ invariant_of-result g c =
     subst (λ (j : HeapWork).
     IsCanonicalCertificate
     (fields_of j.code j.table j.phi s.lines.portion.items s.lines.words.items
-    s.lines.apart.items) s.lines.inside × (j.spent < heap_cost j.code j.phi))
+    s.lines.apart.items) s.lines.inside × (j.spent < heap_cost j.code j.phi) × (j.table.order ≤ 64 * g.row.LANES) × (g.row.LANES ≤ 64))
     (sym c.new.ensures) (
       record {
         certificate = c.certificate.invariant;
         canonical = subst Canonical (sym c.certificate.view_is)
-            c.requires;
+            c.requires.canonical;
       },
       some,
+      subst (λ d. d.order ≤ 64 * g.row.LANES) (sym c.certificate.view_is) c.requires.fits,
+      c.requires.few,
     )

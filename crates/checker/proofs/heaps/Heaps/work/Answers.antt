@@ -1,19 +1,22 @@
-use Rattle.std.proofs.Common.{◌≡◌, ◌⊎◌, ℕ, List, ◌+◌, ◌-◌, ◌<◌, ◌≤◌, Bool, true, false, refl, inl, inr, ap, ◌∙◌, subst, sym, arith}
+use Rattle.std.proofs.Common.{◌≡◌, ◌⊎◌, ℕ, List, ◌+◌, ◌-◌, ◌*◌, ◌<◌, ◌≤◌, Bool, true, false, refl, inl, inr, ap, ◌∙◌, subst, sym, arith}
 use Rattle.std.specs.List.{All}
 use Rattle.transition_algebra.specs.Heaps.{AreAllHeapPairs}
 use Rattle.transition_algebra.specs.Pairs.{IsPair}
 use Rattle.checker.specs.LawfulCertificates.{fields_of}
 use Rattle.checker.proofs.HeapLemmas.{heaps_have_pairs}
 use native.Mathlib.Decide.{dec_lt}
-use Rattle.misere_theory.specs.Certificates.{Certificate}
+use Rattle.misere_theory.specs.Certificates.{Certificate, Canonical}
 use Rattle.monoid_table.specs.Grids.{Grid}
 use Rattle.transition_algebra.specs.Pretending.{Pretending}
-use Rattle.transition_algebra.specs.declared.pair.Pair.{Pair}
+use Rattle.transition_algebra.specs.OverSets.{Pair}
 use Rattle.transition_algebra.specs.Heaps.{all_heap_pairs}
 use Rattle.transition_algebra.specs.Work.{HeapWork, IsDone, heap_cost}
 use Rattle.certificate.specs.Fields.{certificate_of, grid_of, pretending_of}
 use Rattle.checker.specs.Turns.{Phase, Runs}
 use Rattle.checker.specs.Turns.Phase.{Heaps, Elements}
+use Rattle.transition_algebra.proofs.Fit.{heap_job_fits}
+use Rattle.checker.specs.Closings.{IsCanonicalCertificate}
+use Rattle.checker.proofs.Fit.{elements_fits}
 use Rattle.checker.proofs.TurnLemmas.{runs-to}
 use Rattle.checker.proofs.CloseTurns.{runs-left}
 use Rattle.checker.proofs.HeapTurns.{heaps_in, heaps_runs, heaps_end}
@@ -206,16 +209,95 @@ returns-in-Ok-clause-comes g c = λ bytes limit.
       exact = λ _. omega arith;
     }
 
-pub new-requires-clause-pairs : goal.new-requires-clause-pairs
-new-requires-clause-pairs g c =
+pub new-requires : goal.new-requires
+new-requires g c =
     let s = c.self.inside in
+    let i = c.self.invariant in
     let r = c.finish-code.result in
     let e = c.finish-code.ensures in
     let j = c.work-made.new.self in
+    let of : List ℕ → Grid → Pretending → Certificate =
+    λ code table phi. certificate_of
+    (fields_of code table phi s.lines.portion.items s.lines.words.items s.lines.apart.items) in
+    let Keeps : List ℕ → Grid → Pretending → Type 0 =
+    λ code table phi. Canonical (of code table phi) × (table.order ≤ 64 * g.row.LANES) in
+    let kept : Keeps r.0 r.1 r.2 =
+    subst (Keeps r.0 r.1) (sym e.phi)
+    (subst (λ t. Keeps r.0 t j.phi) (sym e.table)
+    (subst (λ k. Keeps k j.table j.phi) (sym e.code)
+    (subst (λ (w : HeapWork). Keeps w.code w.table w.phi) (sym c.in-Ok-true.ensures.worked.1)
+    (i.0.canonical, i.2)))) in
     let a = subst (λ k. AreAllHeapPairs k j.table j.phi r.3.items) (sym e.code) e.exact in
     let b = subst (λ k. AreAllHeapPairs r.0 k j.phi r.3.items) (sym e.table) a in
     let d = subst (λ k. AreAllHeapPairs r.0 r.1 k r.3.items) (sym e.phi) b in
     let n = subst (λ k. All (IsPair k.order) r.3.items) (sym e.table) e.within in
-    heaps_have_pairs
-    (fields_of r.0 r.1 r.2 s.lines.portion.items s.lines.words.items s.lines.apart.items)
-    r.3.items d n
+    let few = i.3 in (
+      omega arith,
+      (
+        elements_fits g.row.A g.A.Allocator g.met.A.SmallAllocator.small g.row.LANES few,
+        (
+          kept.1,
+          (
+            few,
+            (
+              kept.0,
+              heaps_have_pairs
+                  (fields_of r.0 r.1 r.2 s.lines.portion.items s.lines.words.items
+                  s.lines.apart.items) r.3.items d n,
+            ),
+          ),
+        ),
+      ),
+    )
+
+pub finish-code-requires : goal.finish-code-requires
+finish-code-requires g c =
+    let few = c.self.invariant.3 in (
+      heap_job_fits g.row.LANES g.row.A g.A.Allocator few g.met.A.SmallAllocator.small,
+      (omega arith, c.in-Ok-true.ensures.done.0 c.in-Ok-true.field-0-test),
+    )
+
+pub invariant_of-result : goal.invariant_of-result
+invariant_of-result g c =
+    let s = c.self.inside in
+    let i = c.self.invariant in
+    let J = c.work-made.new.self in
+    let r = c.work-made.ensures.spent in
+    let Keeps : HeapWork → Type 0 =
+    λ j. IsCanonicalCertificate
+    (fields_of j.code j.table j.phi s.lines.portion.items s.lines.words.items
+    s.lines.apart.items) s.lines.inside × (j.table.order ≤ 64 * g.row.LANES) in
+    let kept : Keeps J = subst Keeps (sym c.in-Ok-false.ensures.worked.1) (i.0, i.2) in
+    let not : IsDone J → ⊥ =
+    λ d. (let t : c.in-Ok-false.field-0 ≡ true = c.in-Ok-false.ensures.done.1 d in cc) in
+    let going : J.spent < heap_cost J.code J.phi =
+    elim (dec_lt J.spent (heap_cost J.code J.phi)) [
+      | yes h ↦ h
+      | no f ↦ absurd
+          (not (let q : J.spent ≡ heap_cost J.code J.phi = omega arith in q))
+    ] in
+    (kept.0, going, kept.1, i.3)
+
+pub returns-in-Ok-false-clause-carries : goal.returns-in-Ok-false-clause-carries
+returns-in-Ok-false-clause-carries g c = λ limit.
+    let s = c.self.inside in
+    ap (λ (j : HeapWork). certificate_of
+    (fields_of j.code j.table j.phi s.lines.portion.items s.lines.words.items
+    s.lines.apart.items)) c.in-Ok-false.ensures.worked.1
+    ∙ ap (λ v. v.certificate) c.self.view_is
+
+pub returns-in-Ok-clause-carries : goal.returns-in-Ok-clause-carries
+returns-in-Ok-clause-carries g c = λ limit.
+    let s = c.self.inside in
+    let J = c.work-made.new.self in
+    let r = c.finish-code.result in
+    let f = c.finish-code.ensures in
+    let of : List ℕ → Grid → Pretending → Certificate =
+    λ code table phi. certificate_of
+    (fields_of code table phi s.lines.portion.items s.lines.words.items s.lines.apart.items) in
+    ap (λ v. v.certificate) c.in-Ok.ensures.value
+    ∙ (ap (λ k. of k r.1 r.2) f.code
+    ∙ (ap (λ t. of J.code t r.2) f.table
+    ∙ (ap (of J.code J.table) f.phi
+    ∙ (ap (λ (j : HeapWork). of j.code j.table j.phi) c.in-Ok-true.ensures.worked.1
+    ∙ ap (λ v. v.certificate) c.self.view_is))))

@@ -5,7 +5,8 @@ use Rattle.misere_theory.specs.Verdicts.Fault.{Apart}
 use Rattle.misere_theory.proofs.Verdicts.{faultless}
 use Rattle.checker.proofs.FaultLemmas.{none_at_all}
 use Rattle.checker.proofs.ApartLemmas.{apart_in, element_turn, apart_none, apart_smaller, pair_turn, last_pair_turn, apart_end}
-use Rattle.checker.specs.Turns.Phase.{Separating, Heaps}
+use Rattle.checker.specs.Stages.{Carries}
+use Rattle.checker.specs.Turns.Phase.{Separating}
 use Rattle.checker.proofs.TurnLemmas.{runs-none, runs-to}
 use Rattle.checker.proofs.LoopTurns.{separating_in, separating_going, separating_untold, separating_further, separating_smaller, separating_row, separating_pair, separating_over}
 use Rattle.checker.proofs.HeapTurns.{heaps_begin}
@@ -58,8 +59,8 @@ returns-clause-works g c =
       runs =
           runs-to bytes limit _ _ _ _ _
           (separating_over bytes limit _ _ _ _ _ _ _ _ (i.runs bytes limit) (search rules))
-          (heaps_begin limit _ i.lawful.in_ranges ∙ ap Heaps (sym c.new.ensures.value));
-      exact = λ h. omega arith;
+          (heaps_begin limit _ i.lawful.in_ranges ∙ sym c.over_pairs.ensures);
+      exact = let f = c.over_pairs.ensures in λ h. rw f (omega arith);
     }
 
 pub tells_apart-requires-clause-y_in : goal.tells_apart-requires-clause-y_in
@@ -156,8 +157,8 @@ pairs-preserved g c =
           (λ m. c.if-y-order.false (m ∙ sym i.order));
     }
 
-pub new-requires : goal.new-requires
-new-requires g c =
+pub over_pairs-requires : goal.over_pairs-requires
+over_pairs-requires g c =
     let i = c.pairs.invariant in
     let l : length c.self.inside.certificate.apart ≤ c.pairs.number = search rules in
     let free =
@@ -192,3 +193,7 @@ invariant_of-result g c =
 
 pub returns-then-left-eq0-clause-carries : goal.returns-then-left-eq0-clause-carries
 returns-then-left-eq0-clause-carries g c = λ _. c.pairs.invariant.same
+
+pub returns-clause-carries : goal.returns-clause-carries
+returns-clause-carries g c = λ limit.
+    subst (Carries c.args.self.certificate limit) (sym c.over_pairs.ensures) c.pairs.invariant.same

@@ -1,5 +1,6 @@
-use Rattle.std.proofs.Common.{refl, sym, subst}
+use Rattle.std.proofs.Common.{refl, sym, subst, arith}
 use Rattle.certificate_text.specs.Spelling.{Spells}
+use Rattle.checker.proofs.Fit.{paired_fits}
 use Rattle.checker.proofs.TurnLemmas.{runs-none}
 use Rattle.checker.proofs.stage.Stage.go_on.Goals as goal
 
@@ -17,14 +18,6 @@ returns-in-Products-clause-runs g c =
 pub returns-in-Separating-clause-runs : goal.returns-in-Separating-clause-runs
 returns-in-Separating-clause-runs g c =
     λ bytes limit. rw c.in-Separating.is (c.go_on-in-Separating.ensures.runs bytes limit)
-
-pub returns-in-Heaps-clause-runs : goal.returns-in-Heaps-clause-runs
-returns-in-Heaps-clause-runs g c =
-    λ bytes limit. rw c.in-Heaps.is (c.go_on-in-Heaps.ensures.runs bytes limit)
-
-pub returns-in-Elements-clause-runs : goal.returns-in-Elements-clause-runs
-returns-in-Elements-clause-runs g c =
-    λ bytes limit. rw c.in-Elements.is (c.go_on-in-Elements.ensures.runs bytes limit)
 
 pub returns-in_default-clause-runs : goal.returns-in_default-clause-runs
 returns-in_default-clause-runs g c = λ bytes limit. runs-none bytes limit _ _ _ refl
@@ -57,16 +50,44 @@ returns-in-Separating-clause-stands g c = λ bytes limit.
 pub returns-in-Separating-clause-same : goal.returns-in-Separating-clause-same
 returns-in-Separating-clause-same g c = rw c.in-Separating.is refl
 
-pub returns-in-Heaps-clause-stands : goal.returns-in-Heaps-clause-stands
-returns-in-Heaps-clause-stands g c = λ bytes limit.
-    rw c.in-Heaps.is (subst (Spells bytes) (sym c.go_on-in-Heaps.ensures.same))
+pub returns-in-One-clause-stands : goal.returns-in-One-clause-stands
+returns-in-One-clause-stands g c = λ bytes limit.
+    rw c.in-One.is (c.go_on-in-One.ensures.stands bytes limit)
 
-pub returns-in-Heaps-clause-same : goal.returns-in-Heaps-clause-same
-returns-in-Heaps-clause-same g c = rw c.in-Heaps.is refl
+pub returns-in-One-clause-runs : goal.returns-in-One-clause-runs
+returns-in-One-clause-runs g c = λ bytes limit.
+    rw c.in-One.is (c.go_on-in-One.ensures.runs bytes limit)
 
-pub returns-in-Elements-clause-stands : goal.returns-in-Elements-clause-stands
-returns-in-Elements-clause-stands g c = λ bytes limit.
-    rw c.in-Elements.is (subst (Spells bytes) (sym c.go_on-in-Elements.ensures.same))
+pub returns-in-One-clause-same : goal.returns-in-One-clause-same
+returns-in-One-clause-same g c = rw c.in-One.is c.go_on-in-One.ensures.same
 
-pub returns-in-Elements-clause-same : goal.returns-in-Elements-clause-same
-returns-in-Elements-clause-same g c = rw c.in-Elements.is refl
+pub returns-in-Four-clause-stands : goal.returns-in-Four-clause-stands
+returns-in-Four-clause-stands g c = λ bytes limit.
+    rw c.in-Four.is (c.go_on-in-Four.ensures.stands bytes limit)
+
+pub returns-in-Four-clause-runs : goal.returns-in-Four-clause-runs
+returns-in-Four-clause-runs g c = λ bytes limit.
+    rw c.in-Four.is (c.go_on-in-Four.ensures.runs bytes limit)
+
+pub returns-in-Four-clause-same : goal.returns-in-Four-clause-same
+returns-in-Four-clause-same g c = rw c.in-Four.is c.go_on-in-Four.ensures.same
+
+pub returns-in-Eight-clause-stands : goal.returns-in-Eight-clause-stands
+returns-in-Eight-clause-stands g c = λ bytes limit.
+    rw c.in-Eight.is (c.go_on-in-Eight.ensures.stands bytes limit)
+
+pub returns-in-Eight-clause-runs : goal.returns-in-Eight-clause-runs
+returns-in-Eight-clause-runs g c = λ bytes limit.
+    rw c.in-Eight.is (c.go_on-in-Eight.ensures.runs bytes limit)
+
+pub returns-in-Eight-clause-same : goal.returns-in-Eight-clause-same
+returns-in-Eight-clause-same g c = rw c.in-Eight.is c.go_on-in-Eight.ensures.same
+
+pub go_on-requires-in-One : goal.go_on-requires-in-One
+go_on-requires-in-One g c = (paired_fits g.row.A g.A.Allocator g.met.A.SmallAllocator.small 1 (omega arith), omega arith)
+
+pub go_on-requires-in-Four : goal.go_on-requires-in-Four
+go_on-requires-in-Four g c = (paired_fits g.row.A g.A.Allocator g.met.A.SmallAllocator.small 4 (omega arith), omega arith)
+
+pub go_on-requires-in-Eight : goal.go_on-requires-in-Eight
+go_on-requires-in-Eight g c = (paired_fits g.row.A g.A.Allocator g.met.A.SmallAllocator.small 8 (omega arith), omega arith)

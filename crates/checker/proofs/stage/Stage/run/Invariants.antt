@@ -5,9 +5,9 @@ use Rattle.checker.proofs.stage.Stage.run.Given as goal
 
 abbrev pub invariant-stages : goal.invariant-stages
 invariant-stages g l = record {
-  stands : Stands l.fn.bytes l.fn.limit l.stage;
-  come : (spent : ℕ) → HasCome l.fn.bytes l.fn.limit spent l.fn.self
-      → HasCome l.fn.bytes l.fn.limit (spent + (l.initial.left - l.left)) l.stage;
+  stands : Stands l.fn.bytes l.fn.limit (phase_of l.stage);
+  come : (spent : ℕ) → HasCome l.fn.bytes l.fn.limit spent (phase_of l.fn.self)
+      → HasCome l.fn.bytes l.fn.limit (spent + (l.initial.left - l.left)) (phase_of l.stage);
   spends : l.left ≤ l.initial.left;
 }
 

@@ -3,5 +3,5 @@ use Rattle.std.proofs.Common.{arith}
 use Rattle.std.proofs.lemmas.Map.Text.{text_keys}
 use Rattle.folders.proofs.memory.MemoryFolder.forget.Goals as goal
 
-pub returns : goal.returns
-returns c = (grind (arith, text_keys), λ other differs. grind (arith, text_keys))
+pub returns-clause-lost : goal.returns-clause-lost
+returns-clause-lost c = (grind (arith, text_keys), λ other differs. grind (arith, text_keys))

@@ -1,4 +1,4 @@
-use Rattle.std.proofs.Common.{◌∙◌, ap, sym}
+use Rattle.std.proofs.Common.{◌∙◌, ap, sym, ◌≡◌, true, arith}
 use Rattle.pair_closure.specs.Calls.{ended}
 use Rattle.pair_closure.proofs.Taken.{went, went_data, went_few, went_spent, grows_of, refused_of, spent_by, steps_of}
 use Rattle.pair_closure.proofs.closure.Closure.grow.Goals as goal
@@ -36,3 +36,9 @@ returns-clause-spent g c = λ e.
 pub returns-clause-spent_range : goal.returns-clause-spent_range
 returns-clause-spent_range g c =
     went_spent _ _ _ _ (went ended c.args.units _ _ c.take_turns.ensures)
+
+pub returns-then-self-clause-refused : goal.returns-then-self-clause-refused
+returns-then-self-clause-refused g c =
+    let p = c.args.self.now in
+    let failed : p.failed ≡ true = sym (ap (λ z. z.failed) c.self.view_is) ∙ c.if-self.true in
+    (0, omega arith, ap (λ b. record p { failed = b }) failed)

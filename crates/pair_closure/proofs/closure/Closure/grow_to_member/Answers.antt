@@ -1,4 +1,4 @@
-use Rattle.std.proofs.Common.{◌∙◌, ap, sym}
+use Rattle.std.proofs.Common.{◌∙◌, ap, sym, ◌≡◌, true, arith}
 use Rattle.pair_closure.specs.Calls.{ended_or_kept}
 use Rattle.pair_closure.proofs.Taken.{went, went_data, went_spent, went_costs, went_keeps, grows_of, refused_of, to_member_of, spent_to_member}
 use Rattle.pair_closure.proofs.Keeping.{keeps_none}
@@ -53,3 +53,9 @@ pub returns-clause-spent_range : goal.returns-clause-spent_range
 returns-clause-spent_range g c =
     went_spent _ _ _ _
     (went (ended_or_kept c.args.self.now) c.args.units _ _ c.turn_to_member.ensures)
+
+pub returns-then-self-clause-refused : goal.returns-then-self-clause-refused
+returns-then-self-clause-refused g c =
+    let p = c.args.self.now in
+    let failed : p.failed ≡ true = sym (ap (λ z. z.failed) c.self.view_is) ∙ c.if-self.true in
+    (0, omega arith, ap (λ b. record p { failed = b }) failed)

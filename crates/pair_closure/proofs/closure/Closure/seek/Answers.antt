@@ -11,4 +11,6 @@ invariant_of-self g c =
       c.self.invariant.0,
       λ k l _. none_before s.held.items (length s.generators.items) k blank_held
           (subst (λ n. k < n) first l),
+      c.self.invariant.2,
+      c.self.invariant.3,
     )

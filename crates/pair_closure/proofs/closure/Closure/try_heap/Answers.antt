@@ -2,12 +2,18 @@ use Rattle.std.proofs.Common.{◌+◌, ◌∙◌, sym, ap, subst, arith, rules, 
 use Rattle.pair_closure.specs.Turns.{State, KeepsNext, TriesHeap}
 use Rattle.pair_closure.specs.ClosureViews.{moved}
 use Rattle.pair_closure.proofs.Machine.{of_run, members_tell}
+use Rattle.pair_closure.proofs.Fit.{members_fit}
+use Rattle.pair_closure.proofs.Kept.{kept}
 use Rattle.pair_closure.proofs.Runs.{spent_fits}
 use Rattle.pair_closure.proofs.Turned.{heap_keeps, heap_next, heap_turned}
 use Rattle.pair_closure.proofs.closure.Closure.try_heap.Goals as goal
 
 pub settle_heap-requires : goal.settle_heap-requires
-settle_heap-requires g c = record { tell = members_tell _ (of_run _ c.self.invariant.0) _ }
+settle_heap-requires g c =
+    let few = c.self.invariant.3 in (
+      members_fit g.row.LANES g.row.A g.A.Allocator g.met.A.SmallAllocator.small,
+      (omega arith, members_tell _ (of_run _ c.self.invariant.0) _),
+    )
 
 pub returns-in_err-anew-clause-keeps : goal.returns-in_err-anew-clause-keeps
 returns-in_err-anew-clause-keeps g c = λ _.
@@ -21,6 +27,7 @@ overflow_add-self g c = let fits = spent_fits _ c.self.invariant.0 in omega arit
 
 pub invariant_of-self-2 : goal.invariant_of-self-2
 invariant_of-self-2 g c =
+    let next =
     heap_next _ _ _ _ _ _ c.in_ok-anew.anew _ c.self.invariant.0 (record {
       turns = subst (λ z. TriesHeap z.state) (sym c.self.view_is) c.requires;
       heap = c.index-pair.ensures;
@@ -28,7 +35,8 @@ invariant_of-self-2 g c =
       members_are = c.in_ok-anew.ensures.members;
       held_are = c.in_ok-anew.ensures.held;
       generators_are = c.in_ok-anew.ensures.generators;
-    }) (λ e. c.in_ok-anew.ensures.kept (search rules)) (search rules)
+    }) (λ e. c.in_ok-anew.ensures.kept (search rules)) (search rules) in
+    (next.0, next.1, c.self.invariant.2, c.self.invariant.3)
 
 pub returns-clause-ok : goal.returns-clause-ok
 returns-clause-ok g c =
@@ -43,3 +51,12 @@ returns-clause-ok g c =
       generators_are = c.in_ok-anew.ensures.generators;
     }))
     ∙ ap moved c.self.view_is
+
+pub invariant_of-self : goal.invariant_of-self
+invariant_of-self g c =
+    let j = c.self.inside in
+    let i = c.self.invariant in
+    let same =
+    kept j.table j.heaps.items j.limit j.members c.settle_heap.new.members j.held.items c.settle_heap.new.held.items j.generators.items c.settle_heap.new.generators.items j.next
+    j.spent j.from j.failed c.in_err-anew.ensures.err_members c.in_err-anew.ensures.err_held c.in_err-anew.ensures.err_generators (i.0, i.1) in
+    (same.0, same.1, i.2, i.3)

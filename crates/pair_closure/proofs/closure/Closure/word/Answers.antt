@@ -4,6 +4,8 @@ use Rattle.pair_closure.specs.Turns.{blank_held}
 use Rattle.pair_closure.specs.ClosureViews.{IsRun}
 use Rattle.pair_closure.proofs.ChainLaws.{same_default}
 use Rattle.pair_closure.proofs.Machine.{of_run, place_in}
+use Rattle.std.proofs.Common.{rules}
+use Rattle.pair_closure.proofs.Fit.{members_fit}
 use Rattle.pair_closure.proofs.Words.{Walking, walk_begins, walk_goes, walk_falls, walk_sizes, walk_room, walk_ends}
 use Rattle.pair_closure.proofs.closure.Closure.word.Goals as goal
 
@@ -60,3 +62,7 @@ returns-clause-is g c =
     walk_ends c.args.self.now.state (of_run _ run)
     (get_or c.args.self.now.state.held c.args.i blank_held) c.args.i c.loop-at.at c.loop-at.word
     c.requires refl c.loop-at.invariant c.loop-at-test.false c.heaps.ensures.rising
+
+pub get-member-requires : goal.get-member-requires
+get-member-requires g c =
+    (members_fit g.row.LANES g.row.A g.A.Allocator g.met.A.SmallAllocator.small, search rules)

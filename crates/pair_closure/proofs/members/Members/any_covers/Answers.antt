@@ -4,7 +4,7 @@ use Rattle.std.specs.List.{list_any}
 use Rattle.transition_algebra.specs.Pairs.{covers}
 use Rattle.pair_closure.specs.Chains.{last_with}
 use Rattle.pair_closure.proofs.ChainLaws.{walk_from, walk_on, walk_falls, walk_ends, read_member, read_older, covering_of}
-use Rattle.pair_closure.specs.declared.members.Member.{Member}
+use Rattle.pair_closure.specs.OverSets.{Member}
 use Rattle.pair_closure.proofs.members.Members.any_covers.Goals as goal
 
 pub loop-at-init : goal.loop-at-init

@@ -7,4 +7,4 @@ returns g c =
     let j = c.self.inside in
     c.deref.ensures.value
     ∙ subst (λ v. j.pairs.items ≡ (turns v.code v.table v.phi v.spent (opening v.code v.phi)).pairs)
-    c.self.view_is (ap (λ s. s.pairs) c.self.invariant.1.reached)
+    c.self.view_is (ap (λ s. s.pairs) c.self.invariant.2.reached)

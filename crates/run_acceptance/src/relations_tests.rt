@@ -1,0 +1,116 @@
+//! Tables that are described within the bounds, and others that are not.
+use crate::rows::{Row, count_held};
+use allocation::Memory;
+use monoid_table::Table;
+use relations::{Description, Form, Undescribed, described};
+use std::alloc::Global;
+
+/// A monoid, by its elements' numbers.
+enum Monoid {
+    /// The cyclic group of this order: x and y make their sum by it.
+    Cyclic(u16),
+    /// The identity, so many others, and one that is each product of two of these.
+    Null(u16),
+}
+
+/// How many elements it has.
+fn order_of(monoid: &Monoid) -> u16 {
+    match monoid {
+        Monoid::Cyclic(order) => *order,
+        Monoid::Null(others) => others.saturating_add(2),
+    }
+}
+
+/// The product of two elements of a cyclic group.
+fn sum(order: u16, x: u16, y: u16) -> u16 {
+    let all = x.saturating_add(y);
+    if all < order {
+        all
+    } else {
+        all.saturating_sub(order)
+    }
+}
+
+/// The product of two elements, of which the last is `last`, where the others than the identity make it.
+fn last_or_other(last: u16, x: u16, y: u16) -> u16 {
+    match (x, y) {
+        (0, other) | (other, 0) => other,
+        _ => last,
+    }
+}
+
+/// The product of two elements.
+fn times(monoid: &Monoid, x: u16, y: u16) -> u16 {
+    match monoid {
+        Monoid::Cyclic(order) => sum(*order, x, y),
+        Monoid::Null(others) => last_or_other(others.saturating_add(1), x, y),
+    }
+}
+
+/// The rows of its table.
+fn rows_of(alloc: Global, monoid: &Monoid) -> Result<Vec<u16>, Memory> {
+    let mut rows = Vec::new(alloc);
+    for x in 0..order_of(monoid) {
+        for y in 0..order_of(monoid) {
+            rows.push(times(monoid, x, y))?;
+        }
+    }
+    Ok(rows)
+}
+
+/// A monoid, whether its elements are given or none, and why it is not described by them, where it isn't.
+struct Told(Monoid, bool, Option<Undescribed>);
+
+/// Whether this is told of a table.
+fn is_told(
+    table: &Table,
+    told: Result<Description, Undescribed>,
+    fault: Option<Undescribed>,
+) -> bool {
+    match told {
+        Ok(found) => fault.is_none() && found.words.len() == table.order() as usize,
+        Err(told) => fault == Some(told),
+    }
+}
+
+/// What is told of the table by its elements.
+fn by_elements(alloc: Global, table: &Table) -> Result<Description, Undescribed> {
+    if table.order() == 0 {
+        return Err(Undescribed::Unshown);
+    }
+    described(alloc, table, table.row(0), Form::Basis)
+}
+
+impl Row for Told {
+    fn holds(&self, alloc: Global) -> bool {
+        let Told(monoid, given, fault) = self;
+        let Ok(rows) = rows_of(alloc, monoid) else {
+            return false;
+        };
+        let Ok(table) = Table::new(order_of(monoid), rows) else {
+            return false;
+        };
+        let told = if *given {
+            by_elements(alloc, &table)
+        } else {
+            described(alloc, &table, &[], Form::Basis)
+        };
+        is_told(&table, told, *fault)
+    }
+}
+
+static ROWS: [Told; 8] = [
+    Told(Monoid::Cyclic(2), true, None),
+    Told(Monoid::Cyclic(64), true, None),
+    Told(Monoid::Cyclic(65), true, Some(Undescribed::Exponents)),
+    Told(Monoid::Cyclic(70), true, Some(Undescribed::Exponents)),
+    Told(Monoid::Cyclic(300), true, Some(Undescribed::Exponents)),
+    Told(Monoid::Null(26), true, None),
+    Told(Monoid::Null(27), true, Some(Undescribed::Letters)),
+    Told(Monoid::Cyclic(2), false, Some(Undescribed::Unshown)),
+];
+
+#[test]
+fn describes_within_bounds(rt: HostRuntime) {
+    assert!(rt; count_held(rt.alloc(), &ROWS) == 8);
+}

@@ -1,0 +1,35 @@
+use Rattle.std.proofs.Common.{refl, arith}
+use Rattle.heap_options.specs.Walks.{stages_left}
+use Rattle.transition_algebra.proofs.Counted.{bound_small}
+use Rattle.transition_algebra.proofs.Running.{two_digits, room}
+use Rattle.transition_algebra.proofs.Finished.{measure_falls, stages_few}
+use Rattle.transition_algebra.proofs.trial.Trial+LaneSet+LANES.go_on.Goals as goal
+
+pub loop-left-smaller : goal.loop-left-smaller
+loop-left-smaller g c =
+    let code = c.args.code.now in
+    let r = c.in_ok-left.ensures.ok in
+    let two = two_digits code c.is_code.ensures.code in
+    let bound = bound_small c.args.phi.now c.is_pretending.ensures code two.1 in
+    let was = c.loop-left.invariant.0.bound_is in
+    let going = c.if-self.true in
+    let next = r.heap in
+    measure_falls c.loop-left.left c.in_ok-left.field-0 _
+    (stages_left code c.loop-left.self.walk) (stages_left code c.run.new.self.walk)
+    r.at_most (stages_few code c.loop-left.self.walk two.1 (omega arith))
+    (stages_few code c.run.new.self.walk two.1 (omega arith)) r.falls refl
+
+pub loop-left-preserved : goal.loop-left-preserved
+loop-left-preserved g c =
+    let i = c.loop-left.invariant in
+    let r = c.in_ok-left.ensures.ok in
+    let few = r.at_most in
+    let spent = r.spent_is in
+    let one = r.heap in
+    let smaller = c.if-self.true in
+    let bound = r.trial.bound_is in
+    let was = i.0.bound_is in
+    let all =
+    room c.args.code.now c.args.table.now c.args.phi.now c.run.new.self c.run.new.pairs.items
+    r.trial (omega arith) in
+    (r.trial, omega arith, omega arith, c.run.ensures.kept, λ _. omega arith, c.run.ensures.kept_triples)

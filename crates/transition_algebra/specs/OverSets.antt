@@ -1,0 +1,11 @@
+-- Pairs and trials whose sets are seen as finite sets, however many lanes they have.
+use Rattle.std.specs.Ordering.{nat_cmp}
+use Rattle.std.specs.FinSet as set
+use Rattle.transition_algebra.specs.declared.pair.Pair as pairs
+use Rattle.transition_algebra.specs.declared.trial.Trial as trials
+
+abbrev pub Pair : Type 0
+Pair = pairs.Pair (set.FinSet nat_cmp)
+
+abbrev pub Trial : Type 0
+Trial = trials.Trial (set.FinSet nat_cmp)

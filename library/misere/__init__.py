@@ -1,0 +1,63 @@
+"""Certified misère quotients of octal and hexadecimal games, by the proved library libmisere.
+
+    import misere
+    q = misere.solve("0.33")               # or misere.check(open("0.33.mqc", "rb").read())
+    q.code, q.order, q.start, q.period     # '0.33', 6, 1, 3
+    q.outcome([2, 10**12])                 # 'N': the next player wins under misère play
+    q.value([2, 10**12])                   # the element of the quotient
+    q.winning_move([2, 10**12])            # Move(heap=2, left=()): take the heap 2 whole; or None
+    q.table[2][3], q.phi(10**18), q.portion
+    print(q.describe())                    # generators and relations, as the literature prints them
+
+What outcome, value, answer and winning_move give is proved of every position, of any number of heaps of 1 to 10^18 (of
+a partial certificate: of its heaps): each call has the library check the certificate anew. outcomes, values and answers
+check once for many positions. describe's text is proved too. table, phi and portion are read off the certificate's
+text, which a yes makes the misère quotient.
+
+Whatever is raised is a MisereError, and a ValueError, TypeError, LookupError or MemoryError too.
+
+The library is looked for in this package, beside it, in the prefix into which it was installed, and where the system
+has its libraries; MISERE_LIBRARY names another file. Nothing else is needed. Any number of threads may ask at once.
+"""
+
+from ._answers import Answer, Move, Outcome
+from ._faults import (
+    Beyond,
+    MisereError,
+    NoMemory,
+    NotACode,
+    NotAHeap,
+    NotDescribed,
+    NotFound,
+    NotInRange,
+    Refused,
+    WrongType,
+)
+from ._finder import check, solve, solve_furthest, solve_part
+from ._library import version
+from ._quotient import LIMIT, Quotient
+from ._version import VERSION as __version__
+
+__all__ = [
+    "LIMIT",
+    "Answer",
+    "Beyond",
+    "MisereError",
+    "Move",
+    "NoMemory",
+    "NotACode",
+    "NotAHeap",
+    "NotDescribed",
+    "NotFound",
+    "NotInRange",
+    "Outcome",
+    "Quotient",
+    "Refused",
+    "WrongType",
+    "__version__",
+    "check",
+    "solve",
+    "solve_furthest",
+    "solve_part",
+    "version",
+]

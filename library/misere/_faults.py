@@ -1,0 +1,124 @@
+"""What a call raises. Each fault is a `MisereError`, and one of Python's own kinds too."""
+
+from __future__ import annotations
+
+from typing import Any
+
+#: The statuses of the library's calls. 1 to 9 and 23 are the program's numbers too.
+NAMES = {
+    0: "Yes",
+    1: "Text",
+    2: "Law",
+    3: "Word",
+    4: "Order",
+    5: "Period",
+    6: "Apart",
+    7: "Outcome",
+    8: "Limit",
+    9: "Memory",
+    10: "NotAHeap",
+    11: "NotEnds",
+    12: "NotACode",
+    13: "GaveUp",
+    14: "NoRoom",
+    15: "NotInRange",
+    16: "NotDescribed",
+    23: "Beyond",
+}
+OUTCOME, MEMORY, NOT_A_HEAP, NOT_A_CODE, GAVE_UP = 7, 9, 10, 12, 13
+NO_ROOM, NOT_IN_RANGE, NOT_DESCRIBED, BEYOND = 14, 15, 16, 23
+
+_MEANINGS = {
+    1: "the bytes spell no certificate",
+    2: "the table is no commutative monoid with the identity 0",
+    3: "a key has no smaller element, or another product than its element",
+    4: "the keys do not rise, or a product has a smaller key",
+    5: "a smaller period serves, or the period serves from an earlier start",
+    6: "a separating element is not the least one",
+    7: "the rule of the code's game fails at a position",
+    8: "more different transition pairs than the limit",
+    9: "memory was refused",
+    10: "a heap is an integer of 1 to 10^18",
+    12: (
+        "a code is such as '0.77', '4.56' or '0.b': 0, 4, 8 or c, a point, and 1 to 16 digits,"
+        " 0 to 9 and a to f, of which the last isn't 0"
+    ),
+    13: "no certificate was found",
+    15: "a bound or a choice is out of its range",
+    16: "the quotient is not described within the bounds",
+    23: "the certificate is partial, and does not speak of all the heaps",
+}
+
+
+class MisereError(Exception):
+    """A call told nothing. `number` and `name` say why, `said` says more, and of the refusal `Outcome` `position`
+    holds the heaps of a position at which the rule of the code's game fails."""
+
+    def __init__(self, number: int, said: str | None = None, position: list[int] | None = None) -> None:
+        super().__init__(number, said, position)
+        self.number = number
+        self.name = NAMES.get(number, "Unknown")
+        self.said = _MEANINGS.get(number, "") if said is None else said
+        self.position = position
+
+    def __str__(self) -> str:
+        where = "" if self.position is None else f": {self.position}"
+        return f"{self.number} {self.name}" + (f": {self.said}" if self.said else "") + where
+
+
+class Refused(MisereError, ValueError):
+    """The bytes are not an accepted certificate (1 to 8)."""
+
+
+class NoMemory(MisereError, MemoryError):
+    """Memory was refused (9)."""
+
+
+class NotAHeap(MisereError, ValueError):
+    """A heap is not of 1 to 10^18 (10)."""
+
+
+class NotACode(MisereError, ValueError):
+    """The text is no code (12)."""
+
+
+class NotFound(MisereError, LookupError):
+    """No certificate was found, by this search (13). `bounds` has the words of the search."""
+
+    bounds: dict[str, Any] = {}
+
+
+class NotInRange(MisereError, ValueError):
+    """A bound of a search, or a choice, is out of its range (15)."""
+
+
+class NotDescribed(MisereError, LookupError):
+    """The quotient is not described within the bounds (16)."""
+
+
+class Beyond(MisereError, ValueError):
+    """The certificate is partial, and doesn't speak of all the heaps (23)."""
+
+
+class WrongType(MisereError, TypeError):
+    """What is given is of a type of which no call can be asked. The number is that of a wrong value in its place."""
+
+    def __str__(self) -> str:
+        return self.said
+
+
+_KINDS: dict[int, type[MisereError]] = {
+    **dict.fromkeys(range(1, 9), Refused),
+    MEMORY: NoMemory,
+    NOT_A_HEAP: NotAHeap,
+    NOT_A_CODE: NotACode,
+    GAVE_UP: NotFound,
+    NOT_IN_RANGE: NotInRange,
+    NOT_DESCRIBED: NotDescribed,
+    BEYOND: Beyond,
+}
+
+
+def fault(status: int, said: str | None = None, position: list[int] | None = None) -> MisereError:
+    """The fault that a status is."""
+    return _KINDS.get(status, MisereError)(status, said, position)

@@ -1,0 +1,108 @@
+"""What is given to a call, as it takes it: heaps and the ends of positions as numbers of 64 bits, one after another."""
+
+from __future__ import annotations
+
+import array
+import operator
+from collections.abc import Iterable
+from typing import Any, NamedTuple
+
+from ._faults import BEYOND, NOT_A_HEAP, NOT_IN_RANGE, MisereError, WrongType, fault
+
+LARGEST_HEAP = 10**18
+# The address of what has no words: that of an empty array may be null, which no call takes
+NOWHERE = 8
+ROW, ROWS = "a position is a row of heaps, such as [2, 3]", "positions are rows of heaps, such as [[2, 3], [5]]"
+
+
+class Rows(NamedTuple):
+    """Many positions: their heaps one after another, and where each position ends."""
+
+    heaps: array.array[int]
+    ends: array.array[int]
+
+
+def words_of(numbers: array.array[int]) -> tuple[int, int]:
+    """The address and the length of an array."""
+    address, length = numbers.buffer_info()
+    return address or NOWHERE, length
+
+
+def number_of(number: int) -> int:
+    """A number of 32 bits, which ctypes would else cut off."""
+    try:
+        number = operator.index(number)
+    except TypeError:
+        raise WrongType(NOT_IN_RANGE, f"a bound is an integer, and not {number!r}") from None
+    if not 0 <= number < 1 << 32:
+        raise fault(NOT_IN_RANGE, f"{number} is no number of 32 bits")
+    return number
+
+
+def is_array(given: Any) -> bool:
+    """Whether it is an array of numpy. (One of objects is taken as a sequence of them.)"""
+    return hasattr(given, "dtype") and hasattr(given, "ndim") and given.dtype.kind != "O"
+
+
+def heaps_of(heaps: Iterable[int], meant: str = ROW) -> array.array[int]:
+    """The heaps of a position. Bytes are numbers, as each iterable of integers is. In an array of numpy a 0 is no heap,
+    so that a row of an array of positions is a position."""
+    if is_array(heaps):
+        return _array_of(heaps, 1, meant).heaps
+    # (out of bytes an array would be made as out of its memory)
+    listed = heaps if isinstance(heaps, (list, tuple)) else _listed(heaps, meant)
+    try:
+        return array.array("Q", listed)
+    except OverflowError:
+        raise refusal_of(NOT_A_HEAP, listed, None) from None
+    except TypeError:
+        wrong = next((it for it in listed if not hasattr(it, "__index__")), listed)
+        raise WrongType(NOT_A_HEAP, f"a heap is an integer, and not {wrong!r}") from None
+
+
+def rows_of(positions: Iterable[Iterable[int]]) -> Rows:
+    """The heaps of many positions. The rows of an array of numpy are positions; a 0 is no heap there, so that rows of
+    one length serve."""
+    if is_array(positions):
+        return _array_of(positions, 2, ROWS)
+    heaps, ends = array.array("Q"), array.array("Q")
+    for position in _listed(positions, ROWS):
+        heaps.extend(heaps_of(position, ROWS))
+        ends.append(len(heaps))
+    return Rows(heaps, ends)
+
+
+def refusal_of(status: int, heaps: Iterable[int], last: int | None) -> MisereError:
+    """The fault that a status is which was answered of these heaps, with the heap that it is about."""
+    if status == NOT_A_HEAP:
+        wrong = next((it for it in heaps if not 1 <= it <= LARGEST_HEAP), "one")
+        return fault(status, f"a heap is of 1 to 10^18, and {wrong} isn't")
+    if status == BEYOND and last is not None:
+        wrong = next((it for it in heaps if it > last), "one")
+        return fault(status, f"the certificate speaks of heaps to {last} alone, and not of {wrong}")
+    return fault(status)
+
+
+def _listed(given: Any, meant: str) -> list[Any]:
+    try:
+        items = iter(given)
+    except TypeError:
+        raise WrongType(NOT_A_HEAP, f"{meant}, and {given!r} is none") from None
+    return list(items)
+
+
+def _array_of(given: Any, dimensions: int, meant: str) -> Rows:
+    """The rows of an array of numpy, which is there, since this is one of its arrays."""
+    import numpy
+
+    table = numpy.asarray(given)
+    if table.dtype.kind not in "iu":
+        raise WrongType(NOT_A_HEAP, f"a heap is an integer, and no {table.dtype}")
+    if table.ndim != dimensions:
+        raise WrongType(NOT_A_HEAP, f"{meant}, and an array of {table.ndim} dimensions is none")
+    rows = numpy.atleast_2d(table)
+    there = rows != 0
+    heaps, ends = array.array("Q"), array.array("Q")
+    heaps.frombytes(rows[there].astype("u8").tobytes())
+    ends.frombytes(there.sum(axis=1).cumsum().astype("u8").tobytes())
+    return Rows(heaps, ends)

@@ -1,0 +1,79 @@
+"""The calls of libmisere as they are. `scripts/calls_stand` compares them with the exports."""
+
+from __future__ import annotations
+
+import ctypes
+import os
+import pathlib
+from typing import Any, Callable
+
+from ._faults import NO_ROOM, fault
+
+VERSION = 1
+FILE = "libmisere.so.1"
+
+_number, _size, _slice, _count = ctypes.c_uint32, ctypes.c_size_t, ctypes.c_void_p, ctypes.POINTER(ctypes.c_uint64)
+_bytes = [ctypes.c_char_p, _size]
+
+
+class _Move(ctypes.Structure):
+    _fields_ = [(name, ctypes.c_uint64) for name in ("kind", "heap", "first", "second", "third")]
+
+
+# What each call takes. A slice is a pointer and a length.
+CALLS: dict[str, list[Any]] = {
+    "misere_version": [],
+    "misere_check": [*_bytes, _number],
+    "misere_outcome": [*_bytes, _number, _slice, _size, ctypes.POINTER(_number)],
+    "misere_value": [*_bytes, _number, _slice, _size, ctypes.POINTER(_number)],
+    "misere_answer": [*_bytes, _number, _slice, _size, ctypes.POINTER(_Move)],
+    "misere_outcomes": [*_bytes, _number, _slice, _size, _slice, _size, _slice, _size],
+    "misere_values": [*_bytes, _number, _slice, _size, _slice, _size, _slice, _size],
+    "misere_answers": [*_bytes, _number, _slice, _size, _slice, _size, _slice, _size],
+    "misere_failure": [*_bytes, _number, _slice, _size, _count],
+    "misere_solve": [*_bytes, _number, _number, _number, _number, _number, _slice, _size, _count],
+    "misere_describe": [*_bytes, _number, _number, _number, _slice, _size, _count],
+}
+
+Call = Callable[..., int]
+
+
+def _places() -> list[pathlib.Path]:
+    """Where the library may be: in the package, as in a wheel; beside it, as in library/; and in the `lib` of the
+    prefix into which both were installed."""
+    package = pathlib.Path(__file__).resolve().parent
+    return [it / FILE for it in (package, package.parent, *list(package.parents)[2:3])]
+
+
+def _load() -> ctypes.CDLL:
+    named = os.environ.get("MISERE_LIBRARY") or next((str(it) for it in _places() if it.exists()), FILE)
+    try:
+        loaded = ctypes.CDLL(named)
+    except OSError as stop:
+        told = "`make -C library` builds it, and MISERE_LIBRARY names a file elsewhere"
+        raise ImportError(f"{named} can't be loaded ({stop}): {told}") from None
+    if loaded.misere_version() != VERSION:
+        raise ImportError(f"{named} has calls of version {loaded.misere_version()}, and not {VERSION}")
+    for name, words in CALLS.items():
+        call = getattr(loaded, name)
+        call.argtypes, call.restype = words, _number
+    return loaded
+
+
+library = _load()
+
+
+def version() -> int:
+    """The version of the library's calls."""
+    return int(library.misere_version())
+
+
+def text_by(room: int, call: Call, *words: Any) -> bytes:
+    """What a call tells that takes a room for it. If that is too small, the call says so, and is asked again."""
+    told, count = (ctypes.c_uint8 * room)(), ctypes.c_uint64()
+    status = call(*words, ctypes.addressof(told), room, ctypes.byref(count))
+    if status == NO_ROOM:
+        return text_by(count.value, call, *words)
+    if status:
+        raise fault(status)
+    return ctypes.string_at(told, count.value)

@@ -1,0 +1,225 @@
+"""A certified quotient, and what it is asked."""
+
+from __future__ import annotations
+
+import ctypes
+import operator
+from collections.abc import Iterable, Sequence
+from typing import Any, Final, Literal, overload
+
+from . import _certificate, _description, _shown, _systems
+from ._answers import OUTCOMES, Answer, Move, Outcome, answer_of, array_of, letters_of
+from ._certified import Certified
+from ._faults import BEYOND, NOT_A_HEAP, NOT_IN_RANGE, NotDescribed, WrongType, fault
+from ._given import LARGEST_HEAP, NOWHERE, Rows, heaps_of, is_array, number_of, refusal_of, rows_of, words_of
+from ._library import Call, _Move, text_by
+
+#: What the closure of a check may keep, where nobody asks for more or less.
+LIMIT: Final = 100_000
+OUTPUTS: Final = ("description", "latex", "relations")
+# As many bytes are room for most descriptions
+USUAL_TEXT = 1 << 16
+
+
+class Quotient:
+    """A certified misère quotient. It is made by a check alone, and doesn't change. Any number of threads may ask it."""
+
+    __slots__ = ("_bytes", "_certificate", "_certified", "_limit", "__weakref__")
+
+    def __init__(self, certificate: bytes | str, limit: int = LIMIT) -> None:
+        self._bytes, self._limit = _bytes_of(certificate), number_of(limit)
+        self._certified = Certified(self._bytes, self._limit)
+        self._certificate = _certificate.read(self._bytes.decode("ascii"))
+
+    @property
+    def certificate(self) -> bytes:
+        """The certificate's bytes: the one accepted text of its code and kind."""
+        return self._bytes
+
+    @property
+    def code(self) -> str:
+        """The game's code, such as '0.33'."""
+        return self._certificate.code
+
+    @property
+    def order(self) -> int:
+        """How many elements there are: 0, which is the identity, to one less than the order."""
+        return self._certificate.order
+
+    @property
+    def start(self) -> int:
+        """From which heap on the elements repeat; of a partial quotient the heap behind the last one."""
+        return self._certificate.start
+
+    @property
+    def period(self) -> int:
+        """The period with which the elements of the heaps repeat; 0 of a partial quotient."""
+        return self._certificate.period
+
+    @property
+    def last_heap(self) -> int | None:
+        """The last heap of which a partial certificate speaks; None of a full one, which speaks of all."""
+        return None if self.period else self.start - 1
+
+    @property
+    def portion(self) -> frozenset[int]:
+        """The P-portion: the elements of the positions that the player who has just moved wins."""
+        return self._certificate.portion
+
+    @property
+    def table(self) -> tuple[tuple[int, ...], ...]:
+        """The products: that of the elements x and y is table[x][y]."""
+        return self._certificate.table
+
+    def phi(self, heap: int) -> int:
+        """The element of a heap."""
+        try:
+            heap = operator.index(heap)
+        except TypeError:
+            raise WrongType(NOT_A_HEAP, f"a heap is an integer, and not {heap!r}") from None
+        if not 1 <= heap <= LARGEST_HEAP:
+            raise refusal_of(NOT_A_HEAP, [heap], None)
+        if heap >= self.start + self.period:
+            if not self.period:
+                raise refusal_of(BEYOND, [heap], self.last_heap)
+            heap = self.start + (heap - self.start) % self.period
+        return self._certificate.phi[heap - 1]
+
+    def outcome(self, heaps: Iterable[int]) -> Outcome:
+        """'P' where the player who has just moved wins the position, 'N' where the next one does."""
+        return OUTCOMES[self._asked(self._certified.outcome, heaps, ctypes.c_uint32()).value]
+
+    def value(self, heaps: Iterable[int]) -> int:
+        """The element of the quotient that is the position's."""
+        return int(self._asked(self._certified.value, heaps, ctypes.c_uint32()).value)
+
+    def answer(self, heaps: Iterable[int]) -> Answer:
+        """'ended', 'lost', or the first winning move."""
+        return answer_of(self._asked(self._certified.answer, heaps, _Move()))
+
+    def winning_move(self, heaps: Iterable[int]) -> Move | None:
+        """The first winning move, or None, where none wins."""
+        answer = self.answer(heaps)
+        return None if isinstance(answer, str) else answer
+
+    @overload
+    def outcomes(self, positions: Sequence[Iterable[int]]) -> list[Outcome]:
+        ...
+
+    @overload
+    def outcomes(self, positions: Iterable[Iterable[int]]) -> Any:
+        ...
+
+    def outcomes(self, positions: Iterable[Iterable[int]]) -> Any:
+        """The outcome of each position: a list of 'P' and 'N'.
+
+        The positions may be an array of numpy, a row each, where a 0 is no heap; then an array of letters is given.
+        """
+        told = self._asked_of_all(self._certified.outcomes, rows_of(positions), ctypes.c_uint32)
+        return letters_of(told) if is_array(positions) else [OUTCOMES[it] for it in told]
+
+    @overload
+    def values(self, positions: Sequence[Iterable[int]]) -> list[int]:
+        ...
+
+    @overload
+    def values(self, positions: Iterable[Iterable[int]]) -> Any:
+        ...
+
+    def values(self, positions: Iterable[Iterable[int]]) -> Any:
+        """The element of each position: a list, or an array for an array, as `outcomes`."""
+        told = self._asked_of_all(self._certified.values, rows_of(positions), ctypes.c_uint32)
+        return array_of(told) if is_array(positions) else list(told)
+
+    def answers(self, positions: Iterable[Iterable[int]]) -> list[Answer]:
+        """The answer in each position."""
+        return [answer_of(it) for it in self._asked_of_all(self._certified.answers, rows_of(positions), _Move)]
+
+    def describe(
+        self, output: Literal["description", "latex", "relations"] = "description", basis: bool = False
+    ) -> str:
+        """The quotient by generators and relations, with its portion, invariants and heaps; or it raises NotDescribed.
+
+        `output` is "description", "latex" or "relations" (one word). With `basis` the relations are the reduced
+        Gröbner basis.
+        """
+        if output not in OUTPUTS:
+            raise fault(NOT_IN_RANGE, f"an output is one of {', '.join(OUTPUTS)}, and {output!r} is none")
+        words = OUTPUTS.index(output), int(bool(basis))
+        return text_by(USUAL_TEXT, self._certified.describe, *self._certified.given, *words).decode("utf-8")
+
+    def to_dict(self, basis: bool = False) -> dict[str, Any]:
+        """The description in values that JSON has: numbers, words such as "ab^2", lists of them, and None as the n of a
+        wild quotient; or it raises NotDescribed. "heaps" has the words of the heaps 1, 2, .. to the end of the first
+        period, "period" is 0 of a partial quotient."""
+        return _systems.dict_of(self._certificate, self._described(basis))
+
+    def singular(self, basis: bool = False) -> str:
+        """Commands of Singular that make the ideal of the relations, or it raises NotDescribed. Its monomials are ordered
+        as those of `basis` are, so that this is the reduced Gröbner basis there too."""
+        return _systems.singular_of(self._title, self._described(basis))
+
+    def gap(self, basis: bool = False) -> str:
+        """Commands of GAP that make the monoid of the relations; or it raises NotDescribed."""
+        return _systems.gap_of(self._title, self._described(basis))
+
+    def _described(self, basis: bool = False) -> _description.Description:
+        return _description.read(self.describe(basis=basis))
+
+    @property
+    def _title(self) -> str:
+        return f"Q({self.code})" if self.period else f"Q_{self.last_heap}({self.code})"
+
+    def _asked(self, call: Call, heaps: Iterable[int], told: Any) -> Any:
+        given = heaps_of(heaps)
+        status = call(*self._certified.given, *words_of(given), ctypes.byref(told))
+        if status:
+            raise refusal_of(status, given, self.last_heap)
+        return told
+
+    def _asked_of_all(self, call: Call, rows: Rows, kind: Any) -> Any:
+        count = len(rows.ends)
+        told = (kind * count)()
+        room = ctypes.addressof(told) if count else NOWHERE
+        status = call(*self._certified.given, *words_of(rows.heaps), *words_of(rows.ends), room, count)
+        if status:
+            raise refusal_of(status, rows.heaps, self.last_heap)
+        return told
+
+    def __eq__(self, other: object) -> bool:
+        return isinstance(other, Quotient) and self._bytes == other._bytes
+
+    def __hash__(self) -> int:
+        return hash(self._bytes)
+
+    def __reduce__(self) -> tuple[type[Quotient], tuple[bytes, int]]:
+        return Quotient, (self._bytes, self._limit)
+
+    def __repr__(self) -> str:
+        kind = f"start {self.start}, period {self.period}" if self.period else f"to heap {self.last_heap}"
+        return f"<misère quotient of {self.code}: order {self.order}, {kind}>"
+
+    def _repr_latex_(self) -> str | None:
+        """What a notebook shows as a formula."""
+        try:
+            return _shown.latex_of(self.describe("latex"))
+        except NotDescribed:
+            return None
+
+    def _repr_html_(self) -> str | None:
+        """What a notebook shows."""
+        try:
+            description = self._described()
+        except NotDescribed:
+            return None
+        title = "<i>Q</i>" if self.period else f"<i>Q</i><sub>{self.last_heap}</sub>"
+        return _shown.html_of(title, self.code, description, self.start, self.period)
+
+
+def _bytes_of(certificate: bytes | str) -> bytes:
+    if isinstance(certificate, str):
+        # (what isn't UTF-8 is no certificate either)
+        return certificate.encode("utf-8", "surrogatepass")
+    if isinstance(certificate, (bytes, bytearray, memoryview)):
+        return bytes(certificate)
+    raise WrongType(NOT_IN_RANGE, f"a certificate is bytes or their text, and not {certificate!r}")

@@ -1,0 +1,70 @@
+"""A quotient as a notebook shows it."""
+
+from __future__ import annotations
+
+import html
+import re
+from collections.abc import Iterable, Sequence
+
+from ._description import Description, powers_of
+
+# How many heaps stand in a row, if a period doesn't say so
+COLUMNS, MOST_COLUMNS = 12, 16
+_LISTS = re.compile(r"\\begin\{flushleft\}\n(.*?)\n\\end\{flushleft\}", re.S)
+_ARRAYS = re.compile(r"\\begin\{array\}.*?\\end\{array\}", re.S)
+
+
+def latex_of(description: str) -> str:
+    """The description for pdfLaTeX in formulas alone, as MathJax sets it: its lists, its arrays, how it goes on."""
+    lists = _LISTS.findall(description)[0].split("\\\\\n")
+    *_, last = description.splitlines()
+    shown = [*map(_formula, lists), *_ARRAYS.findall(description), _formula(last.removeprefix("\\noindent "))]
+    return "\n".join(f"$$\\displaystyle {it}$$" for it in shown)
+
+
+def _formula(line: str) -> str:
+    """A line of words with formulas as one formula."""
+    pieces = line.split("$")
+    return "".join(piece if at % 2 else f"\\text{{{piece}}}" for at, piece in enumerate(pieces) if piece)
+
+
+def html_of(title: str, code: str, description: Description, start: int, period: int) -> str:
+    """The description in lines, with the heaps in a table."""
+    relations = (f"{_word(left)} = {_word(right)}" for left, right in description.relations)
+    tame = "wild" if description.tame is None else f"tame {description.tame}"
+    lines = [
+        f"{title}(<b>{html.escape(code)}</b>) = ⟨ {_row(description.generators)} | {', '.join(relations)} ⟩",
+        f"{title.replace('Q', 'P')} = {{ {_row(description.portion)} }}",
+        f"order {description.order}, portion {len(description.portion)}, {tame}",
+        f"units {_row(description.units)}; idempotents {_row(description.idempotents)}",
+        f"kernel {_row(description.kernel)}",
+    ]
+    ending = f"and so on from heap {start}, with period {period}" if period else f"heaps to {start - 1}"
+    return "<div>" + "<br>".join(lines) + _table(description.heaps, _columns(period)) + ending + "</div>"
+
+
+def _word(word: str) -> str:
+    if word == "1":
+        return word
+    return "".join(
+        f"<i>{letter}</i>" + (f"<sup>{power}</sup>" if power > 1 else "") for letter, power in powers_of(word)
+    )
+
+
+def _row(words: Iterable[str]) -> str:
+    return ", ".join(map(_word, words))
+
+
+def _columns(period: int) -> int:
+    """A row is a period, or its least multiple from 8 on, if that isn't too long."""
+    columns = period * -(-8 // period) if period else COLUMNS
+    return columns if columns <= MOST_COLUMNS else COLUMNS
+
+
+def _table(words: Sequence[str], columns: int) -> str:
+    heads = "".join(f"<th>{column}</th>" for column in range(1, min(columns, len(words)) + 1))
+    rows = [f"<tr><th></th>{heads}</tr>"]
+    for above in range(0, len(words), columns):
+        cells = "".join(f"<td>{_word(word)}</td>" for word in words[above : above + columns])
+        rows.append(f"<tr><th>{above}+</th>{cells}</tr>")
+    return f"<table>{''.join(rows)}</table>"

@@ -1,0 +1,185 @@
+//! A certified quotient, and what it is asked.
+
+use crate::answers::{Answer, Outcome};
+use crate::certificate::{Certificate, read};
+use crate::certified::Certified;
+use crate::finding::{Aim, Bounds};
+use crate::refusal::Refusal;
+use crate::{LIMIT, raw};
+use std::fmt;
+use std::sync::Arc;
+
+/// As many bytes are room for any certificate.
+const MOST: usize = 1 << 21;
+
+/// As many bytes are room for most descriptions.
+const USUAL: usize = 1 << 16;
+
+/// The largest heap.
+const LARGEST_HEAP: u64 = 1_000_000_000_000_000_000;
+
+/// What is told of a quotient.
+#[derive(Clone, Copy, Debug, PartialEq, Eq)]
+pub enum Output {
+    /// Generators and relations, portion, invariants and heaps, in lines.
+    Description,
+    /// The same for pdfLaTeX.
+    Latex,
+    /// The relations as one word.
+    Relations,
+}
+
+/// A certified misère quotient. It is made by a check alone, and doesn't change; a clone shares it.
+#[derive(Clone)]
+pub struct Quotient {
+    certified: Arc<Certified>,
+    certificate: Arc<Certificate>,
+}
+
+impl Quotient {
+    /// The quotient that the certificate is of. [`LIMIT`] is the limit where nobody asks for more or less.
+    pub fn check(bytes: impl Into<Vec<u8>>, limit: u32) -> Result<Quotient, Refusal> {
+        let certified = Certified::check(bytes.into(), limit)?;
+        let certificate = read(certified.bytes()).ok_or(Refusal(1))?;
+        Ok(Quotient { certified: Arc::new(certified), certificate: Arc::new(certificate) })
+    }
+
+    /// The quotient of the game of a code, such as `0.33`, or of a part of it.
+    pub fn solve(code: &str, bounds: Bounds) -> Result<Quotient, Refusal> {
+        let Bounds { limit, rounds, aim, order } = bounds;
+        let (aim, heaps) = match aim {
+            Aim::Whole(heaps) => (0, heaps),
+            Aim::Part(last) => (1, last),
+            Aim::Furthest => (2, 0),
+        };
+        let bytes = told_by(MOST, |told, count| {
+            // SAFETY: each pointer stands with the length of its slice, and `count` is borrowed for the call.
+            unsafe { raw::misere_solve(code.as_ptr(), code.len(), limit, rounds, aim, heaps, order, told.as_mut_ptr(), told.len(), count) }
+        })?;
+        Quotient::check(bytes, limit)
+    }
+
+    /// The certificate: the one accepted text of its code and kind.
+    pub fn certificate(&self) -> &[u8] {
+        self.certified.bytes()
+    }
+
+    /// The game's code, such as `0.33`.
+    pub fn code(&self) -> &str {
+        &self.certificate.code
+    }
+
+    /// How many elements there are: 0, which is the identity, to one less than the order.
+    pub fn order(&self) -> usize {
+        self.certificate.table.len()
+    }
+
+    /// From which heap on the elements repeat; of a partial quotient the heap behind the last one.
+    pub fn start(&self) -> u64 {
+        self.certificate.start
+    }
+
+    /// The period with which the elements of the heaps repeat; 0 of a partial quotient.
+    pub fn period(&self) -> u64 {
+        self.certificate.period
+    }
+
+    /// The last heap of which a partial certificate speaks. A full one speaks of all.
+    pub fn last_heap(&self) -> Option<u64> {
+        (self.period() == 0).then(|| self.start() - 1)
+    }
+
+    /// The element of a heap.
+    pub fn phi(&self, heap: u64) -> Result<u32, Refusal> {
+        let (start, period) = (self.start(), self.period());
+        if !(1..=LARGEST_HEAP).contains(&heap) {
+            return Err(Refusal::NOT_A_HEAP);
+        }
+        let shown = if heap < start + period { heap } else { start + (heap - start).checked_rem(period).ok_or(Refusal::BEYOND)? };
+        Ok(self.certificate.phi[shown as usize - 1])
+    }
+
+    /// The elements of the P-portion, rising: those of the positions that the player who has just moved wins.
+    pub fn portion(&self) -> &[u32] {
+        &self.certificate.portion
+    }
+
+    /// The products: that of the elements x and y is `table()[x][y]`.
+    pub fn table(&self) -> &[Vec<u32>] {
+        &self.certificate.table
+    }
+
+    /// Who wins the position.
+    pub fn outcome(&self, heaps: &[u64]) -> Result<Outcome, Refusal> {
+        self.certified.outcome(heaps).map(Outcome::from)
+    }
+
+    /// The element of the quotient that is the position's.
+    pub fn value(&self, heaps: &[u64]) -> Result<u32, Refusal> {
+        self.certified.value(heaps)
+    }
+
+    /// What to do in the position.
+    pub fn answer(&self, heaps: &[u64]) -> Result<Answer, Refusal> {
+        Ok(Answer::from(&self.certified.answer(heaps)?))
+    }
+
+    /// The outcome of each position.
+    pub fn outcomes(&self, positions: &[&[u64]]) -> Result<Vec<Outcome>, Refusal> {
+        Ok(self.certified.outcomes(positions)?.into_iter().map(Outcome::from).collect())
+    }
+
+    /// The element of each position.
+    pub fn values(&self, positions: &[&[u64]]) -> Result<Vec<u32>, Refusal> {
+        self.certified.values(positions)
+    }
+
+    /// What to do in each position.
+    pub fn answers(&self, positions: &[&[u64]]) -> Result<Vec<Answer>, Refusal> {
+        Ok(self.certified.answers(positions)?.iter().map(Answer::from).collect())
+    }
+
+    /// The description of the quotient, by a short list of relations or by their reduced Gröbner basis.
+    pub fn describe(&self, output: Output, basis: bool) -> Result<String, Refusal> {
+        let text = told_by(USUAL, |told, count| self.certified.describe(output as u32, basis as u32, told, count))?;
+        Ok(String::from_utf8_lossy(&text).into_owned())
+    }
+}
+
+impl PartialEq for Quotient {
+    fn eq(&self, other: &Quotient) -> bool {
+        self.certificate() == other.certificate()
+    }
+}
+
+impl Eq for Quotient {}
+
+impl fmt::Debug for Quotient {
+    fn fmt(&self, f: &mut fmt::Formatter) -> fmt::Result {
+        let (code, order, start, period) = (self.code(), self.order(), self.start(), self.period());
+        f.debug_struct("Quotient").field("code", &code).field("order", &order).field("start", &start).field("period", &period).finish()
+    }
+}
+
+impl TryFrom<&[u8]> for Quotient {
+    type Error = Refusal;
+
+    fn try_from(bytes: &[u8]) -> Result<Quotient, Refusal> {
+        Quotient::check(bytes, LIMIT)
+    }
+}
+
+/// What a call tells, which takes a room for it and says how long it is. It is asked again if the room is too small.
+fn told_by(mut room: usize, call: impl Fn(&mut [u8], &mut u64) -> u32) -> Result<Vec<u8>, Refusal> {
+    loop {
+        let (mut told, mut count) = (vec![0; room], 0);
+        match call(&mut told, &mut count) {
+            0 => {
+                told.truncate(count as usize);
+                return Ok(told);
+            }
+            14 => room = count as usize,
+            status => return Err(Refusal(status)),
+        }
+    }
+}

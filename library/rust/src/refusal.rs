@@ -1,0 +1,51 @@
+//! Why a call told nothing.
+
+use std::fmt;
+
+/// Why a call told nothing. 1 to 9 are the checker's refusals.
+#[derive(Clone, Copy, Debug, PartialEq, Eq)]
+pub struct Refusal(pub u32);
+
+impl Refusal {
+    /// A heap is not of 1 to 10^18.
+    pub const NOT_A_HEAP: Refusal = Refusal(10);
+    /// The certificate is partial, and does not speak of all the heaps.
+    pub const BEYOND: Refusal = Refusal(23);
+
+    /// The refusal's name, as the program prints it.
+    pub fn name(self) -> &'static str {
+        match self.0 {
+            1 => "Text",
+            2 => "Law",
+            3 => "Word",
+            4 => "Order",
+            5 => "Period",
+            6 => "Apart",
+            7 => "Outcome",
+            8 => "Limit",
+            9 => "Memory",
+            10 => "NotAHeap",
+            11 => "NotEnds",
+            12 => "NotACode",
+            13 => "GaveUp",
+            14 => "NoRoom",
+            15 => "NotInRange",
+            16 => "NotDescribed",
+            23 => "Beyond",
+            _ => "Unknown",
+        }
+    }
+}
+
+impl fmt::Display for Refusal {
+    fn fmt(&self, f: &mut fmt::Formatter) -> fmt::Result {
+        write!(f, "{} {}", self.0, self.name())
+    }
+}
+
+impl std::error::Error for Refusal {}
+
+/// What was told, if the status is a yes.
+pub(crate) fn done<T>(status: u32, told: T) -> Result<T, Refusal> {
+    if status == 0 { Ok(told) } else { Err(Refusal(status)) }
+}

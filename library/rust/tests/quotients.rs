@@ -1,0 +1,97 @@
+//! What the crate tells of samples, beside their texts.
+
+use misere::{Aim, Answer, Bounds, LIMIT, Outcome, Output, Quotient, Refusal};
+use std::path::Path;
+use std::thread;
+
+const SAMPLES: [&str; 6] = ["0.3", "0.33", "0.75", "0.b", "0.75_heaps_8", "0.8_heaps_4"];
+const THREADS: usize = 8;
+
+fn sample(name: &str) -> Vec<u8> {
+    let file = Path::new(env!("CARGO_MANIFEST_DIR")).join("../../certificates").join(format!("{name}.mqc"));
+    std::fs::read(file).unwrap()
+}
+
+fn quotient(name: &str) -> Quotient {
+    Quotient::check(sample(name), LIMIT).unwrap()
+}
+
+#[test]
+fn a_certificate_says_what_its_text_says() {
+    let full = quotient("0.33");
+    assert_eq!((full.code(), full.order(), full.start(), full.period(), full.last_heap()), ("0.33", 6, 1, 3, None));
+    assert_eq!((full.portion(), full.certificate()), ([1, 4].as_slice(), sample("0.33").as_slice()));
+    let elements: Vec<u32> = (1..=6).map(|heap| full.phi(heap).unwrap()).collect();
+    assert_eq!(elements, [1, 2, 0, 1, 2, 0]);
+    assert_eq!(full.phi(1_000_000_000_000_000_000), Ok(1));
+    assert_eq!((full.table()[1][1], full.table()[2][1]), (0, full.table()[1][2]));
+}
+
+#[test]
+fn a_partial_one_speaks_of_its_heaps() {
+    let partial = quotient("0.75_heaps_8");
+    assert_eq!((partial.period(), partial.last_heap()), (0, Some(8)));
+    for (heap, told) in [(0, Refusal::NOT_A_HEAP), (9, Refusal::BEYOND), (u64::MAX, Refusal::NOT_A_HEAP)] {
+        assert_eq!((partial.phi(heap), partial.outcome(&[1, heap])), (Err(told), Err(told)), "heap {heap}");
+    }
+}
+
+#[test]
+fn an_element_is_the_product_of_the_heaps_elements() {
+    for name in SAMPLES {
+        let quotient = quotient(name);
+        let last = quotient.last_heap().unwrap_or(40);
+        for heaps in (1..=last).flat_map(|n| (1..=last).map(move |m| [n, m])) {
+            let [one, other] = heaps.map(|heap| quotient.phi(heap).unwrap() as usize);
+            let value = quotient.table()[one][other];
+            let outcome = if quotient.portion().contains(&value) { Outcome::P } else { Outcome::N };
+            assert_eq!((quotient.value(&heaps), quotient.outcome(&heaps)), (Ok(value), Ok(outcome)), "{name} {heaps:?}");
+        }
+    }
+}
+
+#[test]
+fn many_are_told_as_one_by_one() {
+    let quotient = quotient("0.75");
+    let positions: [&[u64]; 4] = [&[], &[2, 5], &[1_000_000_000_000, 7, 7], &[1]];
+    let one_by_one: Vec<_> = positions.iter().map(|it| (quotient.value(it), quotient.outcome(it), quotient.answer(it))).collect();
+    let many = (quotient.values(&positions).unwrap(), quotient.outcomes(&positions).unwrap(), quotient.answers(&positions).unwrap());
+    for (at, told) in one_by_one.into_iter().enumerate() {
+        assert_eq!(told, (Ok(many.0[at]), Ok(many.1[at]), Ok(many.2[at].clone())), "{:?}", positions[at]);
+    }
+    assert_eq!((quotient.values(&[]), quotient.answer(&[])), (Ok(vec![]), Ok(Answer::Ended)));
+}
+
+#[test]
+fn what_is_found_is_checked() {
+    let found = Quotient::solve("0.33", Bounds::default()).unwrap();
+    assert_eq!((found.certificate(), &found), (sample("0.33").as_slice(), &quotient("0.33")));
+    assert!(found.describe(Output::Description, false).unwrap().starts_with("Q(0.33) = < a,b | a^2=1, b^3=b >\n"));
+    assert_eq!(found.describe(Output::Relations, false).unwrap(), "a^2=1 b^3=b");
+    let part = Quotient::solve("0.75", Bounds { aim: Aim::Part(8), ..Bounds::default() }).unwrap();
+    assert_eq!(part.certificate(), sample("0.75_heaps_8"));
+}
+
+#[test]
+fn refusals_have_their_numbers() {
+    let none = Bounds { aim: Aim::Whole(1), ..Bounds::default() };
+    assert_eq!(Quotient::check(*b"", LIMIT), Err(Refusal(1)));
+    assert_eq!(Quotient::check(sample("0.33"), 1), Err(Refusal(8)));
+    assert_eq!(Quotient::solve("0.33", none), Err(Refusal(15)));
+    assert_eq!(Quotient::solve("0.8.", Bounds::default()), Err(Refusal(12)));
+    assert_eq!(misere::failure(&sample("refused/outcome_at_two_ones"), LIMIT), Some(vec![1, 1]));
+    assert_eq!(misere::failure(&sample("0.33"), LIMIT), None);
+}
+
+#[test]
+fn threads_may_ask_at_once() {
+    let quotient = quotient("0.71");
+    let asked = || (1..200).map(|heap| quotient.answer(&[heap, 2 * heap, 77])).collect::<Vec<_>>();
+    let alone = asked();
+    thread::scope(|scope| {
+        let threads: Vec<_> = (0..THREADS).map(|_| scope.spawn(asked)).collect();
+        for thread in threads {
+            assert_eq!(thread.join().unwrap(), alone);
+        }
+    });
+}

@@ -1,0 +1,169 @@
+"""What is raised, as which of Python's own kinds, and in which words."""
+
+from __future__ import annotations
+
+import pickle
+import unittest
+from collections.abc import Callable
+from typing import Any, NamedTuple
+
+import misere
+from tests import quotient, raised, samples
+
+
+class Row(NamedTuple):
+    name: str
+    call: Callable[[], object]
+    kind: type[misere.MisereError]
+    own: type[Exception]
+    number: int
+    words: str
+
+
+full, partial = quotient("0.33"), quotient("0.75_heaps_8")
+
+
+def wrong(given: Any) -> Any:
+    """What is given of a type that the declarations don't allow."""
+    return given
+
+
+def of_a_position(
+    name: str,
+    heaps: Any,
+    kind: type[misere.MisereError],
+    own: type[Exception],
+    number: int,
+    words: str,
+    of: misere.Quotient = full,
+) -> list[Row]:
+    """A row for each call that takes a position, and for each that takes many."""
+    one: list[Callable[[Any], object]] = [of.outcome, of.value, of.answer, of.winning_move]
+    many: list[Callable[[Any], object]] = [of.outcomes, of.values, of.answers]
+    calls = [
+        *((it.__name__, lambda it=it: it(heaps)) for it in one),
+        *((it.__name__, lambda it=it: it([[1], heaps])) for it in many),
+    ]
+    return [Row(f"{name}, {called}", call, kind, own, number, words) for called, call in calls]
+
+
+ROWS = [
+    *of_a_position("no heap", [0], misere.NotAHeap, ValueError, 10, "0 isn't"),
+    *of_a_position("too large", [1, 10**18 + 1], misere.NotAHeap, ValueError, 10, "1000000000000000001 isn't"),
+    *of_a_position("wider than a word", [2**64], misere.NotAHeap, ValueError, 10, "18446744073709551616 isn't"),
+    *of_a_position("below nothing", [-1], misere.NotAHeap, ValueError, 10, "-1 isn't"),
+    *of_a_position("a zero of bytes", b"\1\0", misere.NotAHeap, ValueError, 10, "0 isn't"),
+    *of_a_position("a text", ["2"], misere.WrongType, TypeError, 10, "'2'"),
+    *of_a_position("a fraction", [1.5], misere.WrongType, TypeError, 10, "1.5"),
+    *of_a_position("one text", "22", misere.WrongType, TypeError, 10, "'2'"),
+    *of_a_position("one number", 7, misere.WrongType, TypeError, 10, "7 is none"),
+    *of_a_position("nothing", None, misere.WrongType, TypeError, 10, "None is none"),
+    *of_a_position("beyond", [1, 9], misere.Beyond, ValueError, 23, "heaps to 8 alone, and not of 9", partial),
+    Row(
+        "heaps for positions",
+        lambda: full.outcomes(wrong([2, 3])),
+        misere.WrongType,
+        TypeError,
+        10,
+        "positions are rows",
+    ),
+    Row(
+        "bytes for positions",
+        lambda: full.values(wrong(b"\2\3")),
+        misere.WrongType,
+        TypeError,
+        10,
+        "positions are rows",
+    ),
+    Row(
+        "a number for positions",
+        lambda: full.answers(wrong(5)),
+        misere.WrongType,
+        TypeError,
+        10,
+        "positions are rows",
+    ),
+    Row("a text for positions", lambda: full.answers(wrong("12")), misere.WrongType, TypeError, 10, "integer"),
+    Row("phi of no heap", lambda: full.phi(0), misere.NotAHeap, ValueError, 10, "0 isn't"),
+    Row("phi of a text", lambda: full.phi(wrong("1")), misere.WrongType, TypeError, 10, "'1'"),
+    Row("phi of a large heap", lambda: full.phi(10**18 + 1), misere.NotAHeap, ValueError, 10, "isn't"),
+    Row("phi beyond", lambda: partial.phi(9), misere.Beyond, ValueError, 23, "not of 9"),
+    Row("no text", lambda: misere.check(b""), misere.Refused, ValueError, 1, "1 Text: the bytes spell no certificate"),
+    Row("no UTF-8", lambda: misere.check("\ud800"), misere.Refused, ValueError, 1, "Text"),
+    Row("limit met", lambda: misere.check(full.certificate, 1), misere.Refused, ValueError, 8, "Limit"),
+    Row("limit below nothing", lambda: misere.check(b"", -1), misere.NotInRange, ValueError, 15, "-1"),
+    Row("limit of 33 bits", lambda: misere.check(b"", 1 << 32), misere.NotInRange, ValueError, 15, "32 bits"),
+    Row("limit in words", lambda: misere.check(b"", wrong("9")), misere.WrongType, TypeError, 15, "'9'"),
+    Row("a number for bytes", lambda: misere.check(wrong(33)), misere.WrongType, TypeError, 15, "not 33"),
+    Row(
+        "a code that ends in 0",
+        lambda: misere.solve("0.770"),
+        misere.NotACode,
+        ValueError,
+        12,
+        "'0.770' is none: a code is such as",
+    ),
+    Row("a code in capitals", lambda: misere.solve("0.A"), misere.NotACode, ValueError, 12, "'0.A' is none"),
+    Row("a code that isn't ASCII", lambda: misere.solve("é"), misere.NotACode, ValueError, 12, "'é' is none"),
+    Row("a code that isn't UTF-8", lambda: misere.solve("\ud800"), misere.NotACode, ValueError, 12, "none"),
+    Row(
+        "a number for a code",
+        lambda: misere.solve(wrong(33)),
+        misere.WrongType,
+        TypeError,
+        12,
+        "a code is a text such as '0.33', and not 33",
+    ),
+    Row(
+        "too few heaps",
+        lambda: misere.solve("0.3", heaps=1),
+        misere.NotInRange,
+        ValueError,
+        15,
+        "heaps is 2 to 3090, and 1 isn't",
+    ),
+    Row(
+        "too many elements",
+        lambda: misere.solve("0.3", order=257),
+        misere.NotInRange,
+        ValueError,
+        15,
+        "order is 2 to 256",
+    ),
+    Row("no rounds", lambda: misere.solve("0.3", rounds=0), misere.NotInRange, ValueError, 15, "rounds is 1 to 1000"),
+    Row("no last heap", lambda: misere.solve_part("0.3", 0), misere.NotInRange, ValueError, 15, "heaps is 1 to 1024"),
+    Row("one element", lambda: misere.solve_furthest("0.3", 1), misere.NotInRange, ValueError, 15, "order is 2 to 512"),
+    Row("heaps and deep", lambda: misere.solve("0.3", heaps=9, deep=True), misere.WrongType, TypeError, 15, "deep"),
+    Row("given up", lambda: misere.solve("0.77", heaps=8), misere.NotFound, LookupError, 13, "heaps to 8"),
+    Row("no output", lambda: full.describe(wrong("verse")), misere.NotInRange, ValueError, 15, "'verse' is none"),
+]
+
+
+class Faults(unittest.TestCase):
+    def test_each_is_of_its_kinds_and_says_why(self) -> None:
+        for row in ROWS:
+            with self.subTest(row.name):
+                stop = raised(row.call)
+                self.assertIsInstance(stop, row.kind)
+                self.assertIsInstance(stop, row.own)
+                self.assertEqual(stop and stop.number, row.number)
+                self.assertIn(row.words, str(stop))
+
+    def test_each_can_be_sent_to_another_process(self) -> None:
+        for row in ROWS:
+            with self.subTest(row.name):
+                stop = raised(row.call)
+                sent = pickle.loads(pickle.dumps(stop))
+                self.assertEqual((type(sent), str(sent), vars(sent)), (type(stop), str(stop), vars(stop)))
+
+    def test_a_refused_outcome_has_its_position(self) -> None:
+        wrong = (samples / "refused/outcome_at_two_ones.mqc").read_bytes()
+        stop = raised(lambda: misere.check(wrong))
+        self.assertEqual(stop and (stop.number, stop.name, stop.position), (7, "Outcome", [1, 1]))
+        self.assertTrue(str(stop).endswith("fails at a position: [1, 1]"))
+
+    def test_a_search_says_how_far_it_went(self) -> None:
+        stop = raised(lambda: misere.solve("0.77", heaps=8))
+        assert isinstance(stop, misere.NotFound)
+        self.assertEqual(stop.bounds, {"limit": misere.LIMIT, "rounds": 64, "heaps": 8, "order": 64})
+        self.assertIn("deep=True", str(stop))

@@ -1,0 +1,38 @@
+"""The wheel: the same bytes each time, with all that is needed and right sums."""
+
+from __future__ import annotations
+
+import base64
+import hashlib
+import pathlib
+import sys
+import tempfile
+import unittest
+import zipfile
+
+from tests import top
+
+sys.path.insert(0, str(top / "library/packaging"))
+import wheel_of_misere  # noqa: E402
+
+
+class Wheel(unittest.TestCase):
+    def test_it_is_the_same_each_time_and_holds_the_library(self) -> None:
+        with tempfile.TemporaryDirectory() as one, tempfile.TemporaryDirectory() as other:
+            name = wheel_of_misere.build_wheel(one)
+            self.assertEqual(wheel_of_misere.build_wheel(other), name)
+            file = pathlib.Path(one, name)
+            self.assertEqual(file.read_bytes(), pathlib.Path(other, name).read_bytes())
+            with zipfile.ZipFile(file) as wheel:
+                self.look_at({place: wheel.read(place) for place in wheel.namelist()})
+
+    def look_at(self, files: dict[str, bytes]) -> None:
+        self.assertEqual(files["misere/libmisere.so.1"], (top / "library/libmisere.so.1").read_bytes())
+        for file in (top / "library/misere").glob("*.*"):
+            self.assertEqual(files[f"misere/{file.name}"], file.read_bytes())
+        record = next(place for place in files if place.endswith("/RECORD"))
+        listed = [line.split(",") for line in files[record].decode().splitlines()]
+        self.assertEqual([place for place, _, _ in listed], list(files))
+        for place, told, size in listed[:-1]:
+            digest = base64.urlsafe_b64encode(hashlib.sha256(files[place]).digest()).rstrip(b"=").decode()
+            self.assertEqual((told, int(size)), (f"sha256={digest}", len(files[place])), place)

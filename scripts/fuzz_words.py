@@ -1,0 +1,99 @@
+"""Command lines for scripts/fuzz: some that are written here, and others of what the program's own --help names."""
+
+from __future__ import annotations
+
+import random
+import re
+from collections.abc import Iterator
+
+from fuzz_texts import CODES, POSITIONS, PRESENTATIONS, word
+from help_lines import Commands, Option
+
+Words = list[bytes]
+
+LIMITS = [b"1", b"3", b"100000", b"1000000"]
+HEAPS = [b"0", b"1", b"2", b"8", b"1024", b"1025", b"02", b""]
+# What an argument or an option takes, by the name of its value in the help
+VALUES = {
+    "CERT": [b"x.mqc"],
+    "CODE": CODES,
+    "FILE": [*[b"x.mqc"] * 6, b"-", b"nowhere"],
+    "POSITION": [*POSITIONS, b"-"],
+    "SCRIPT": [b"steps.txt"],
+    "TEXT": PRESENTATIONS,
+}
+# So many command lines of what the help names are tried beside those that are written here
+LINES = 6
+# The most that a search is asked for, since a longer one takes more than a run may
+MOST_OF_A_SEARCH = 16
+
+
+def values_of(command: str, name: str, about: str) -> list[bytes]:
+    """The words that an argument or an option is given: those of its name, or numbers at the ends of its range and
+    beyond."""
+    if name == "FILE" and command == "catalogue":
+        return [b"x.json", b"nowhere"]
+    if name in VALUES:
+        return VALUES[name]
+    ends = [int(it) for pair in re.findall(r"(\d+) to (\d+)", about) for it in pair]
+    numbers = {it + more for it in ends for more in (-1, 0, 1)} | {2, 3, 8, 16}
+    if command == "solve" and ends:
+        numbers = {it for it in numbers if not MOST_OF_A_SEARCH < it <= max(ends)}
+    return [b"%d" % it for it in sorted(numbers)]
+
+
+def words_of(command: str, option: Option, chance: random.Random) -> Words:
+    """An option with its value, as two words or as one."""
+    name = b"--" + option.name.encode()
+    if not option.value:
+        return [name]
+    value = word(values_of(command, option.value, option.about), chance)
+    return [name + b"=" + value] if chance.randrange(8) == 0 else [name, value]
+
+
+def line(commands: Commands, chance: random.Random) -> Words:
+    """A command line of what the help names, and sometimes with a word that is changed, left out or doubled."""
+    name = chance.choice(sorted(commands))
+    command = commands[name]
+    parts = [words_of(name, it, chance) for it in command.own if chance.randrange(3) == 0]
+    for argument, about in command.arguments:
+        if argument in command.needs or chance.randrange(2):
+            parts.insert(chance.randrange(len(parts) + 1), [word(values_of(name, argument, about), chance)])
+    words = [name.encode(), *(it for part in parts for it in part)]
+    heads: list[Words] = [words[:1]] * 30 + [[], [b"--help"], [b"--version"], [b"help", *words[:1]]]
+    words[:1] = chance.choice(heads)
+    if words and chance.randrange(4) == 0:
+        at, kind = chance.randrange(len(words)), chance.randrange(3)
+        instead: list[Words] = [[], words[at : at + 1] * 2, [word([words[at]], chance)]]
+        words[at : at + 1] = instead[kind]
+    return words
+
+
+def stdin_of(text: bytes, chance: random.Random) -> bytes:
+    """What stands on standard input: a certificate, positions or codes."""
+    kind = chance.randrange(4)
+    if kind < 2:
+        return text
+    return b"".join(word(POSITIONS if kind == 2 else CODES, chance) + b"\n" for _ in range(chance.randrange(6)))
+
+
+def tries(commands: Commands, chance: random.Random, text: bytes) -> Iterator[tuple[Words, bytes]]:
+    """The words of a run, and what stands on standard input."""
+    yield [b"check"], text
+    yield [b"check", b"x.mqc", b"--limit", word(LIMITS, chance)], b""
+    yield [b"show", b"x.mqc"], b""
+    yield [b"describe", b"x.mqc", *chance.sample([b"--latex", b"--basis", b"--relations"], chance.randrange(3))], b""
+    yield [b"play", b"x.mqc", word(POSITIONS, chance)], b""
+    yield [b"present", word(PRESENTATIONS, chance)], b""
+    yield [b"solve", word(CODES, chance), b"--heaps", b"12", b"--rounds", b"2"], b""
+    yield [b"catalogue", b"x.json"], b""
+    yield [b"catalogue", b"x.json", b"--get", word(CODES, chance)], b""
+    yield [b"catalogue", b"x.json", b"--get", word(CODES, chance), b"--heaps", word(HEAPS, chance)], b""
+    yield [b"catalogue", b"x.json", b"--migrate"], b""
+    yield [b"catalogue", b"x.json", b"--add", b"x.mqc"], b""
+    yield [b"catalogue", b"x.json", b"--new"], b""
+    yield [b"catalogue", b"x.json", b"--new", b"--add", b"x.mqc"], b""
+    yield [b"catalogue", b"x.json", b"--salvage"], b""
+    yield [b"desk", b"steps.txt"], b""
+    for _ in range(LINES):
+        yield line(commands, chance), stdin_of(text, chance)

@@ -1,0 +1,83 @@
+"""The man page, out of what the program prints on --help and of the tables of docs/MESSAGES.md."""
+
+from __future__ import annotations
+
+import re
+from collections.abc import Iterator
+
+from help_lines import Command, Commands
+from script import root
+
+MESSAGES = root / "docs/MESSAGES.md"
+# A heading, or a row of a table that begins with what is printed
+HEADING, ROW = re.compile(r"##+ (.+)"), re.compile(r"\| `([^`]+)` \|([^|]+)\|([^|]*)\|?")
+
+
+def roff(text: str) -> str:
+    return text.replace("\\", "\\\\").replace("-", "\\-").replace("'", "\\(aq").replace("è", "\\[`e]")
+
+
+def from_markdown(text: str) -> str:
+    """A cell of a table, without its links, with code and strong words in bold."""
+    text = re.sub(r"\[([^\]]*)\]\([^)]*\)", r"\1", text).replace("<sup>", "^").replace("</sup>", "")
+    return re.sub(r"`([^`]*)`|\*\*(.*?)\*\*", lambda it: f"\\fB{it[1] or it[2]}\\fR", roff(text))
+
+
+def sentence(text: str) -> str:
+    text = text[0].upper() + text[1:] if text[0].isalpha() else text
+    return text if text.endswith(".") else text + "."
+
+
+def messages() -> Iterator[str]:
+    """What the program says, by the rows of the tables that begin with a line."""
+    heading = None
+    for line in MESSAGES.read_text().splitlines() if MESSAGES.is_file() else []:
+        if found := HEADING.fullmatch(line):
+            heading = found[1]
+        elif found := ROW.fullmatch(line):
+            if heading:
+                yield f".SS {roff(heading)}"
+                heading = None
+            means, advice = found[2].strip(), found[3].strip()
+            yield from (".TP", f"\\fB{roff(found[1])}\\fR", from_markdown(sentence(means)))
+            if advice:
+                yield f"To try: {from_markdown(advice)}."
+
+
+def usage(name: str, command: Command) -> str:
+    options = "".join(f" [\\-\\-{it.name}" + (f" \\fI{it.value}\\fB" if it.value else "") + "]" for it in command.own)
+    words = "".join(f" \\fI{it}\\fR" if it in command.needs else f" [\\fI{it}\\fR]" for it, _ in command.arguments)
+    return f"\\fB{name}{options}\\fR{words}"
+
+
+def of_command(name: str, command: Command) -> Iterator[str]:
+    yield from (".TP", usage(name, command), roff(command.about) + ".")
+    for words, about in command.arguments:
+        yield from (".RS", ".TP", f"\\fI{words}\\fR", roff(about) + ".", ".RE")
+    for it in command.own:
+        value = f" \\fI{it.value}\\fR" if it.value else ""
+        yield from (".RS", ".TP", f"\\fB\\-\\-{it.name}\\fR{value}", roff(it.about) + ".", ".RE")
+    if command.notes:
+        yield from (".RS", ".PP", ".nf", *(f"\\&{roff(line)}" for line in command.notes.splitlines()), ".fi", ".RE")
+
+
+def page(top: Command, commands: Commands, version: str) -> str:
+    lines = [
+        f'.TH MISERE 1 "" "{version}"',
+        ".SH NAME",
+        f"misere \\- {roff(top.about[0].lower() + top.about[1:])}",
+        ".SH SYNOPSIS",
+        "\\fBmisere\\fR \\fICOMMAND\\fR [\\fIWORDS\\fR]",
+        ".SH DESCRIPTION",
+        "A certificate is a short text of a mis\\[`e]re quotient. Where \\fBmisere check\\fR says yes, its portion",
+        "predicts the mis\\[`e]re outcome of every position of the game of which it speaks, of any number of heaps,",
+        "and its monoid is the mis\\[`e]re quotient.",
+        "This is proved of the program.",
+        ".SH COMMANDS",
+    ]
+    for name, command in commands.items():
+        lines += of_command(name, command)
+    said = list(messages())
+    lines += [".SH WHAT THE PROGRAM SAYS", *said] if said else []
+    lines += [".SH EXIT STATUS", "0 for yes or done, 1 for no, 2 for usage, 3 where a device failed or memory ran out."]
+    return "\n".join(lines) + "\n"

@@ -1,0 +1,61 @@
+"""What the scripts share: where things stand, their options, and how they end."""
+
+from __future__ import annotations
+
+import argparse
+import importlib.machinery
+import importlib.util
+import os
+import pathlib
+import sys
+from collections.abc import Callable
+from typing import Any
+
+root = pathlib.Path(__file__).resolve().parent.parent
+BUILT = root / "crates/misere/out/misere"
+
+
+def parser_of(text: str, name: str, program: bool = True) -> argparse.ArgumentParser:
+    """A parser that prints a script's own text for --help, with --program where the script runs the program."""
+    parser = argparse.ArgumentParser(
+        prog=name,
+        description=text.strip(),
+        formatter_class=argparse.RawDescriptionHelpFormatter,
+        allow_abbrev=False,
+    )
+    if program:
+        parser.add_argument("--program", type=pathlib.Path, default=BUILT, help="by default the one that is built here")
+    return parser
+
+
+def program_of(asked: argparse.Namespace) -> str:
+    """The program's path, from whatever folder it is run."""
+    if not asked.program.is_file():
+        sys.exit(f"{asked.program} isn't built: ./misere builds it")
+    return str(asked.program.resolve())
+
+
+def load(file: pathlib.Path, name: str) -> Any:
+    """A script as a module, for another one that calls what it has."""
+    loader = importlib.machinery.SourceFileLoader(name, str(file.resolve()))
+    spec = importlib.util.spec_from_loader(name, loader)
+    assert spec
+    module = importlib.util.module_from_spec(spec)
+    sys.modules[name] = module
+    loader.exec_module(module)
+    return module
+
+
+def begin(main: Callable[[], int | None]) -> None:
+    """Ends with the status of main; quietly where nobody reads what is printed, or at an interrupt."""
+    try:
+        try:
+            status = main() or 0
+        finally:
+            sys.stdout.flush()
+    except BrokenPipeError:
+        os.dup2(os.open(os.devnull, os.O_WRONLY), sys.stdout.fileno())
+        status = 141
+    except KeyboardInterrupt:
+        status = 130
+    sys.exit(status)

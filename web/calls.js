@@ -1,0 +1,376 @@
+/**
+ * The calls of misere.h over misere.wasm, for a page's worker and for Node.
+ *
+ *     const misere = new Misere(new WebAssembly.Module(bytes));
+ *     misere.check(certificate);                     // throws Refused where it isn't accepted
+ *     misere.outcome(certificate, [2, 10n ** 12n]);  // 0: lost for whoever is to move; 1: won
+ *
+ * Each call checks the certificate anew, and keeps nothing. What is thrown as `Refused` is an answer of the library;
+ * whatever else is thrown is no verdict.
+ */
+
+/** What the closure of a check may keep, where nobody asks for more or less. */
+export const LIMIT = 100000;
+/** As many bytes are room for any certificate. */
+export const MOST = 1 << 21;
+/** The heaps of the longest position at which a certificate can be told to fail. */
+const MOST_HEAPS = 4096;
+/** Room for most descriptions. */
+const USUAL_TEXT = 1 << 16;
+
+/** The names of the statuses but 0, which is yes. */
+export const STATUSES = {
+  1: "Text",
+  2: "Law",
+  3: "Word",
+  4: "Order",
+  5: "Period",
+  6: "Apart",
+  7: "Outcome",
+  8: "Limit",
+  9: "Memory",
+  10: "NotAHeap",
+  11: "NotEnds",
+  12: "NotACode",
+  13: "GaveUp",
+  14: "NoRoom",
+  15: "NotInRange",
+  16: "NotDescribed",
+  23: "Beyond",
+};
+const [OUTCOME, MEMORY, NOT_A_HEAP, NO_ROOM, NOT_IN_RANGE] = [7, 9, 10, 14, 15];
+
+/**
+ * What each call is given, as the crates declare it (scripts/calls_stand compares). A slice is passed as a pointer and
+ * a length, a reference as a pointer.
+ */
+const CALLS = {
+  misere_version: [],
+  misere_check: ["&[u8]", "u32"],
+  misere_outcome: ["&[u8]", "u32", "&[u64]", "&mut u32"],
+  misere_value: ["&[u8]", "u32", "&[u64]", "&mut u32"],
+  misere_answer: ["&[u8]", "u32", "&[u64]", "&mut MisereAnswer"],
+  misere_outcomes: ["&[u8]", "u32", "&[u64]", "&[u64]", "&mut [u32]"],
+  misere_values: ["&[u8]", "u32", "&[u64]", "&[u64]", "&mut [u32]"],
+  misere_answers: ["&[u8]", "u32", "&[u64]", "&[u64]", "&mut [MisereAnswer]"],
+  misere_failure: ["&[u8]", "u32", "&mut [u64]", "&mut u64"],
+  misere_solve: ["&[u8]", "u32", "u32", "u32", "u32", "u32", "&mut [u8]", "&mut u64"],
+  misere_describe: ["&[u8]", "u32", "u32", "u32", "&mut [u8]", "&mut u64"],
+};
+/** The fields of a MisereAnswer, each a number of 64 bits. */
+const FIELDS = ["kind", "heap", "first", "second", "third"];
+
+const OUTPUTS = ["description", "latex", "relations"];
+const AIMS = ["whole", "part", "furthest"];
+
+/**
+ * @typedef {(number | bigint)[]} Position the sizes of its heaps, 1 to 10^18
+ * @typedef {{kind: "ended"} | {kind: "lost"} | {kind: "wins", heap: bigint, left: bigint[]}} Answer whether the game is
+ *     over, or every move loses, or which the first winning move is: the heap that it takes, and what it leaves of it
+ * @typedef {Uint8Array | Uint32Array | BigUint64Array} Numbers
+ * @typedef {object} Search how far a search goes
+ * @property {"whole" | "part" | "furthest"} [aim] of all heaps; of the heaps 1 to `heaps`; or of the most first ones
+ * @property {number} [heaps] the heaps that a search for the whole looks at, or those of the part
+ * @property {number} [order] the most elements of the quotient
+ * @property {number} [rounds] how often a guess is mended
+ * @property {number} [limit] what the closure of a check may keep
+ */
+
+/** An answer of the library that isn't yes. */
+export class Refused extends Error {
+  /**
+   * @param {number} status
+   * @param {bigint[] | null} heaps the position at which the rule of the code's game fails, where one is told
+   */
+  constructor(status, heaps = null) {
+    const name = STATUSES[/** @type {keyof STATUSES} */ (status)] ?? "Unknown";
+    super(`${status} ${name}` + (heaps ? ` at [${heaps.join(", ")}]` : ""));
+    this.name = "Refused";
+    this.status = status;
+    this.heaps = heaps;
+  }
+}
+
+/** The module failed, as with a stack that is full: no verdict. */
+export class Failed extends Error {
+  /** @param {unknown} cause */
+  constructor(cause) {
+    super(`the module failed: ${cause instanceof Error ? cause.message : cause}`, {cause});
+    this.name = "Failed";
+  }
+}
+
+/**
+ * The numbers of 64 bits in a list.
+ * @param {Position} numbers
+ */
+function heapsOf(numbers) {
+  return BigUint64Array.from(numbers, (it) => {
+    if (typeof it === "number" && !Number.isSafeInteger(it)) throw new Refused(NOT_A_HEAP);
+    const number = BigInt(it);
+    if (BigInt.asUintN(64, number) !== number) throw new Refused(NOT_A_HEAP);
+    return number;
+  });
+}
+
+/**
+ * A number of 32 bits, where it is one.
+ * @param {number} number
+ */
+function bounded(number) {
+  if (number >>> 0 !== number) throw new Refused(NOT_IN_RANGE);
+  return number;
+}
+
+/**
+ * @param {BigUint64Array} told the fields of an answer
+ * @returns {Answer}
+ */
+function answerOf([kind, heap, ...left]) {
+  if (kind === 0n) return {kind: "ended"};
+  return kind === 1n ? {kind: "lost"} : {kind: "wins", heap, left: left.filter((it) => it)};
+}
+
+/**
+ * The places of as many arrays in the module's memory, which hold what these hold; or null where memory is refused.
+ * @param {any} exports
+ * @param {Numbers[]} arrays
+ */
+function placesOf(exports, arrays) {
+  /** @type {bigint[]} */
+  const places = [];
+  for (const array of arrays) {
+    const place = exports.heap_take(BigInt(array.byteLength));
+    if (place === 0n) {
+      places.forEach(exports.heap_give);
+      return null;
+    }
+    places.push(place);
+    bytesAt(exports, place, array).set(new Uint8Array(array.buffer, array.byteOffset, array.byteLength));
+  }
+  return places;
+}
+
+/**
+ * The bytes of an array's place. (The memory is another buffer after each growth.)
+ * @param {any} exports
+ * @param {bigint} place
+ * @param {Numbers} array
+ */
+function bytesAt(exports, place, array) {
+  return new Uint8Array(exports.memory.buffer, Number(place), array.byteLength);
+}
+
+/**
+ * The words of a call in WebAssembly.
+ * @param {string[]} kinds
+ * @param {(number | Numbers)[]} words
+ * @param {bigint[]} places those of the arrays among the words
+ */
+function passed(kinds, words, places) {
+  let next = 0;
+  return kinds.flatMap(/** @returns {(number | bigint)[]} */ (kind, at) => {
+    const word = words[at];
+    if (typeof word === "number") return [word];
+    const place = places[next++];
+    if (!kind.endsWith("]")) return [place];
+    return [place, BigInt(word.length / (kind.includes("MisereAnswer") ? FIELDS.length : 1))];
+  });
+}
+
+/** The calls, over one instance of the module. */
+export class Misere {
+  /** @type {any} */
+  #exports = null;
+  #module;
+
+  /** @param {WebAssembly.Module} module */
+  constructor(module) {
+    this.#module = module;
+  }
+
+  /** The version of the calls. */
+  version() {
+    return this.#call("misere_version");
+  }
+
+  /**
+   * Whether the bytes are an accepted certificate: throws the refusal where they aren't.
+   * @param {Uint8Array} bytes
+   */
+  check(bytes, limit = LIMIT) {
+    const [told, count] = [new BigUint64Array(MOST_HEAPS), new BigUint64Array(1)];
+    const status = this.#call("misere_failure", bytes, bounded(limit), told, count);
+    if (status === 0) return;
+    const isTold = status === OUTCOME && count[0] <= MOST_HEAPS;
+    throw new Refused(status, isTold ? [...told.subarray(0, Number(count[0]))] : null);
+  }
+
+  /**
+   * Who wins the position under misère play: 0 (P) where the player who has just moved does, else 1 (N).
+   * @param {Uint8Array} bytes
+   * @param {Position} position
+   */
+  outcome(bytes, position, limit = LIMIT) {
+    return this.#one("misere_outcome", bytes, position, limit, new Uint32Array(1))[0];
+  }
+
+  /**
+   * The element of the quotient that is the position's.
+   * @param {Uint8Array} bytes
+   * @param {Position} position
+   */
+  value(bytes, position, limit = LIMIT) {
+    return this.#one("misere_value", bytes, position, limit, new Uint32Array(1))[0];
+  }
+
+  /**
+   * The first winning move in the position, if there is one.
+   * @param {Uint8Array} bytes
+   * @param {Position} position
+   */
+  answer(bytes, position, limit = LIMIT) {
+    return answerOf(this.#one("misere_answer", bytes, position, limit, new BigUint64Array(FIELDS.length)));
+  }
+
+  /**
+   * The outcome of each of many positions, by one check.
+   * @param {Uint8Array} bytes
+   * @param {Position[]} positions
+   */
+  outcomes(bytes, positions, limit = LIMIT) {
+    return this.#many("misere_outcomes", bytes, positions, limit, new Uint32Array(positions.length));
+  }
+
+  /**
+   * The element of each of many positions, by one check.
+   * @param {Uint8Array} bytes
+   * @param {Position[]} positions
+   */
+  values(bytes, positions, limit = LIMIT) {
+    return this.#many("misere_values", bytes, positions, limit, new Uint32Array(positions.length));
+  }
+
+  /**
+   * The first winning move in each of many positions, by one check.
+   * @param {Uint8Array} bytes
+   * @param {Position[]} positions
+   */
+  answers(bytes, positions, limit = LIMIT) {
+    const size = FIELDS.length;
+    const told = this.#many("misere_answers", bytes, positions, limit, new BigUint64Array(size * positions.length));
+    return positions.map((_, at) => answerOf(told.subarray(size * at, size * (at + 1))));
+  }
+
+  /**
+   * The description of the quotient that the bytes certify, as plain text or for LaTeX, or its relations as one word.
+   * @param {Uint8Array} bytes
+   * @param {{output?: "description" | "latex" | "relations", basis?: boolean, limit?: number}} how with `basis`, by the
+   *     relations of the reduced Gröbner basis
+   */
+  describe(bytes, {output = "description", basis = false, limit = LIMIT} = {}) {
+    return this.#text("misere_describe", [bytes, bounded(limit), bounded(OUTPUTS.indexOf(output)), Number(basis)]);
+  }
+
+  /**
+   * Looks for a quotient of the game of a code, and tells the text of its certificate, which is accepted.
+   * @param {string} code
+   * @param {Search} search
+   */
+  solve(code, {aim = "whole", heaps = 24, order = 64, rounds = 64, limit = LIMIT} = {}) {
+    const bounds = [limit, rounds, AIMS.indexOf(aim), heaps, order].map(bounded);
+    return this.#text("misere_solve", [new TextEncoder().encode(code), ...bounds], MOST);
+  }
+
+  /** The bytes of the heap that are taken, that ever were at most, and those of the whole memory. */
+  memory() {
+    const {heap_live, heap_peak, memory} = this.#instance();
+    return {live: Number(heap_live()), peak: Number(heap_peak()), size: memory.buffer.byteLength};
+  }
+
+  /**
+   * For tests: bounds the heap, which then refuses memory past that place.
+   * @param {number} place
+   */
+  bound(place) {
+    this.#instance().heap_most(BigInt(place));
+  }
+
+  /** The exports of the instance: of a new one where the last failed, since that stopped amid its work. */
+  #instance() {
+    return (this.#exports ??= new WebAssembly.Instance(this.#module).exports);
+  }
+
+  /**
+   * The status of a call. Behind it the arrays of what it may change hold what it told.
+   * @param {keyof CALLS} name
+   * @param {(number | Numbers)[]} words
+   * @returns {number}
+   */
+  #call(name, ...words) {
+    const kinds = CALLS[name];
+    try {
+      const exports = this.#instance();
+      const arrays = words.flatMap((it) => (typeof it === "number" ? [] : [it]));
+      const places = placesOf(exports, arrays);
+      if (!places) return MEMORY;
+      const status = exports[name](...passed(kinds, words, places)) >>> 0;
+      const isTold = kinds.filter((it) => it !== "u32").map((it) => it.startsWith("&mut"));
+      arrays.forEach((array, at) => {
+        if (isTold[at]) new Uint8Array(array.buffer, array.byteOffset).set(bytesAt(exports, places[at], array));
+      });
+      places.forEach(exports.heap_give);
+      return status;
+    } catch (cause) {
+      this.#exports = null;
+      throw new Failed(cause);
+    }
+  }
+
+  /**
+   * What a call tells of one position, in the array.
+   * @template {Numbers} T
+   * @param {keyof CALLS} name
+   * @param {Uint8Array} bytes
+   * @param {Position} position
+   * @param {number} limit
+   * @param {T} told
+   */
+  #one(name, bytes, position, limit, told) {
+    const status = this.#call(name, bytes, bounded(limit), heapsOf(position), told);
+    if (status) throw new Refused(status);
+    return told;
+  }
+
+  /**
+   * What a call tells of many positions, in the array.
+   * @template {Numbers} T
+   * @param {keyof CALLS} name
+   * @param {Uint8Array} bytes
+   * @param {Position[]} positions
+   * @param {number} limit
+   * @param {T} told
+   */
+  #many(name, bytes, positions, limit, told) {
+    let end = 0;
+    const ends = positions.map((it) => (end += it.length));
+    const status = this.#call(name, bytes, bounded(limit), heapsOf(positions.flat()), heapsOf(ends), told);
+    if (status) throw new Refused(status);
+    return told;
+  }
+
+  /**
+   * The text that a call tells, by a second call where it is longer than the room for it.
+   * @param {keyof CALLS} name
+   * @param {(number | Numbers)[]} words
+   * @returns {string}
+   */
+  #text(name, words, room = USUAL_TEXT) {
+    const [told, count] = [new Uint8Array(room), new BigUint64Array(1)];
+    const status = this.#call(name, ...words, told, count);
+    const length = Number(count[0]);
+    if (status === NO_ROOM && length > room) return this.#text(name, words, length);
+    if (status) throw new Refused(status);
+    return new TextDecoder().decode(told.subarray(0, length));
+  }
+}

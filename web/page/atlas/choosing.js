@@ -1,0 +1,109 @@
+// Which games of the atlas are shown, and in which order. The choice stands in the address.
+
+import {grouped} from "../atlas.js";
+
+/** @typedef {import("../atlas.js").Entry} Entry */
+
+/**
+ * @typedef {object} Chosen
+ * @property {string} code what the code has in it, or how it begins
+ * @property {string} speaks `full`, `partial`, or the empty text for both
+ * @property {string} kind `tame`, `wild`, or the empty text for both
+ * @property {string} order a number, or two such as `6-12`
+ * @property {string} portion the same
+ * @property {string} each `game`, `quotient` or `monoid`: what has a row of its own
+ * @property {string} by the column that sorts
+ * @property {boolean} down
+ */
+
+/** @type {Chosen} */
+const USUAL = {
+  code: "",
+  speaks: "",
+  kind: "",
+  order: "",
+  portion: "",
+  each: "game",
+  by: "place",
+  down: false
+};
+
+/** No period is longer. (By the period, partial quotients stand behind the full ones, by their last heaps.) */
+const MOST_PERIOD = 1024;
+
+/** @type {Record<string, (entry: Entry) => number>} */
+const KEYS = {
+  place: ({place}) => place,
+  order: ({order}) => order,
+  portion: ({portion}) => portion,
+  period: ({quotient: {period}, last}) => (last === null ? period : MOST_PERIOD + last),
+};
+
+/** @type {Record<string, (entry: Entry) => unknown>} */
+const GROUPS = {
+  game: (entry) => entry,
+  quotient: ({quotient}) => quotient,
+  monoid: ({quotient}) => quotient.class
+};
+
+/**
+ * @param {string} word what the address says, such as `kind=wild&by=order`
+ * @returns {Chosen}
+ */
+export function chosenOf(word) {
+  const said = Object.fromEntries(new URLSearchParams(word));
+  const {by, each, down} = said;
+  return {
+    ...USUAL,
+    ...said,
+    by: by in KEYS ? by : "place",
+    each: each in GROUPS ? each : "game",
+    down: down === "true"
+  };
+}
+
+/**
+ * The part of an address that says what isn't usual.
+ * @param {Chosen} chosen
+ */
+export function wordOf(chosen) {
+  const usual = new Map(Object.entries(USUAL));
+  const said = Object.entries(chosen).filter(([name, value]) => usual.has(name) && value !== usual.get(name));
+  return said.length ? `=${new URLSearchParams(said.map(([name, value]) => [name, String(value)]))}` : "";
+}
+
+/**
+ * The games that are chosen, in their order, by what has a row of its own: a list for each row.
+ * @param {import("../atlas.js").Atlas} atlas
+ * @param {Chosen} chosen
+ */
+export function rowsOf(atlas, chosen) {
+  const {each, by, down} = chosen;
+  const key = KEYS[by];
+  const rows = [...grouped(atlas.entries.filter((it) => isSought(it, chosen)), GROUPS[each]).values()];
+  const compared = (/** @type {Entry} */ a, /** @type {Entry} */ b) => Math.sign(key(a) - key(b));
+  return rows.sort(([a], [b]) => (down ? -1 : 1) * compared(a, b) || a.place - b.place);
+}
+
+/**
+ * @param {Entry} entry
+ * @param {Chosen} chosen
+ */
+function isSought(entry, {code, speaks, kind, order, portion}) {
+  const sought = code.trim();
+  return (sought.includes(".") ? entry.code.startsWith(sought) : entry.code.includes(sought)) &&
+      (!speaks || (speaks === "full") === (entry.last === null)) && (!kind || (kind === "tame") === entry.isTame) &&
+      isWithin(entry.order, order) && isWithin(entry.portion, portion);
+}
+
+/**
+ * Whether a number is the one that is sought, or between two. A text that says neither seeks all.
+ * @param {number} number
+ * @param {string} sought
+ */
+function isWithin(number, sought) {
+  const [, least, dash, most] = sought.match(/^\s*(\d*)\s*([-–]?)\s*(\d*)\s*$/) ?? [];
+  if (!least && !most) return true;
+  if (!dash) return number === Number(least);
+  return number >= Number(least || 0) && number <= Number(most || Infinity);
+}

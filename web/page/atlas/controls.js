@@ -1,0 +1,31 @@
+// The fields by which games are chosen.
+
+import {choice, labelled, make} from "../dom.js";
+
+/** @typedef {import("./choosing.js").Chosen} Chosen */
+
+/**
+ * @param {Chosen} chosen
+ * @param {(more: Partial<Chosen>) => void} choose
+ */
+export function controls(chosen, choose) {
+  const written = (/** @type {"code" | "order" | "portion"} */ name, /** @type {Record<string, any>} */ more) => {
+    const oninput = () => choose({[name]: field.value});
+    const field = make("input", {type: "search", id: name, value: chosen[name], autocomplete: "off", oninput, ...more});
+    return field;
+  };
+  const picked = (/** @type {"speaks" | "kind" | "each"} */ name, /** @type {[string, string][]} */ options) => {
+    const field = choice({id: name, onchange: () => choose({[name]: field.value})}, options, chosen[name]);
+    return field;
+  };
+  return make(
+      "form", {class: "row", role: "search", onsubmit: (/** @type {Event} */ event) => event.preventDefault()},
+      labelled("Code", written("code", {size: 8, placeholder: "0.7"})),
+      labelled("Quotient", picked("speaks", [["", "full or partial"], ["full", "full"], ["partial", "partial"]])),
+      labelled("Kind", picked("kind", [["", "tame or wild"], ["tame", "tame"], ["wild", "wild"]])),
+      labelled("Order", written("order", {size: 7, placeholder: "8 or 6-20"})),
+      labelled("Portion", written("portion", {size: 7, placeholder: "2 or 1-5"})),
+      labelled(
+          "A row for each",
+          picked("each", [["game", "game"], ["quotient", "quotient"], ["monoid", "bipartite monoid"]])));
+}

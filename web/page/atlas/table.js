@@ -1,0 +1,92 @@
+// The list of the atlas: its columns and rows.
+
+import {gameAddress} from "../address.js";
+import {make} from "../dom.js";
+
+/** @typedef {import("../atlas.js").Atlas} Atlas */
+/** @typedef {import("../atlas.js").Entry} Entry */
+/** @typedef {import("./choosing.js").Chosen} Chosen */
+
+/**
+ * @typedef {object} Column
+ * @property {string} name
+ * @property {string} [by] what is sorted by it
+ * @property {string} [kind] how its cells are set
+ * @property {(entry: Entry, atlas: Atlas, group: Entry[]) => import("../dom.js").Child} cell
+ */
+
+/** @type {Column[]} */
+const COLUMNS = [
+  {name: "Code", by: "place", kind: "code", cell: ({code}) => linkOf(code)},
+  {name: "Order", by: "order", kind: "number", cell: ({order}) => String(order)},
+  {name: "Portion", by: "portion", kind: "number", cell: ({portion}) => String(portion)},
+];
+/** @type {Column[]} */
+const DETAILS = [
+  {name: "Period", by: "period", cell: periodOf},
+  {name: "Kind", cell: ({quotient}) => quotient.kind},
+];
+/** @type {Column[]} */
+const COUNTS = [
+  {name: "Same quotient", kind: "wide", cell: ({quotient}) => othersOf(quotient.codes)},
+  {name: "Same monoid", kind: "wide", cell: ({quotient}, atlas) => othersOf(atlas.classes.get(quotient.class) ?? [])},
+];
+/** @type {Column[]} */
+const CODES = [{name: "Other codes", kind: "codes", cell: (_, atlas, group) => group.slice(1).flatMap(spacedLink)}];
+
+/**
+ * (Where all codes are listed, a phone has no room for the details.)
+ * @param {Chosen} chosen
+ */
+function columnsOf({each}) {
+  if (each === "game") return [...COLUMNS, ...DETAILS, ...COUNTS];
+  return [...COLUMNS, ...DETAILS.map((it) => ({...it, kind: "wide"})), ...CODES];
+}
+
+/** @param {string} code */
+function linkOf(code) {
+  return make("a", {href: gameAddress(code)}, code);
+}
+
+/** @param {Entry} entry */
+function spacedLink({code}) {
+  return [linkOf(code), " "];
+}
+
+/** @param {Entry} entry */
+function periodOf({last, quotient: {period, start}}) {
+  return last === null ? `${period} from ${start}` : `heaps to ${last}`;
+}
+
+/** @param {unknown[]} all */
+function othersOf(all) {
+  return all.length > 1 ? `${all.length - 1} more` : "";
+}
+
+/**
+ * The headings, by which the list is sorted.
+ * @param {Chosen} chosen
+ * @param {(more: Partial<Chosen>) => void} choose
+ */
+export function headOf(chosen, choose) {
+  return columnsOf(chosen).map(({name, by, kind = ""}) => {
+    if (!by) return make("th", {scope: "col", class: kind}, name);
+    const isSorted = by === chosen.by;
+    const sort = isSorted ? (chosen.down ? "descending" : "ascending") : "none";
+    const onclick = () => choose({by, down: isSorted && !chosen.down});
+    const button = make("button", {type: "button", onclick}, name);
+    return make("th", {scope: "col", class: kind, "data-by": by, "aria-sort": sort}, button);
+  });
+}
+
+/**
+ * The row of some games, of which the first is described.
+ * @param {Atlas} atlas
+ * @param {Chosen} chosen
+ * @param {Entry[]} group
+ */
+export function rowOf(atlas, chosen, group) {
+  const [first] = group;
+  return make(
+      "tr", {}, columnsOf(chosen).map(({kind = "", cell}) => make("td", {class: kind}, cell(first, atlas, group))));
+}

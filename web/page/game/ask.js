@@ -1,0 +1,64 @@
+// Questions about a position of heaps of any size.
+
+import {playAddress} from "../address.js";
+import {lastHeap} from "../certificate.js";
+import {fill, labelled, make} from "../dom.js";
+import {word} from "../mathml.js";
+import {LARGEST_HEAP_PLAYED, MOST_HEAPS_PLAYED} from "../play/bounds.js";
+import {arrowOf, heapsOfText} from "../positions.js";
+import {told} from "../refusals.js";
+
+/** @typedef {import("./present.js").Game} Game */
+/** @typedef {import("../main.js").Page} Page */
+
+/**
+ * @param {Page} page
+ * @param {Game} game
+ */
+export function askSection(page, game) {
+  const last = lastHeap(game.certificate);
+  const usual = last === null ? "2 1000000000000" : [2, 3, 5].map((heap) => Math.min(heap, last)).join(" ");
+  const field = make("input", {id: "heaps", value: usual, autocomplete: "off", inputmode: "text"});
+  const answer =
+      make("p", {class: "verdict", role: "status", id: "answer"}, "A position is a list of heaps, such as 2 5 7.");
+  const ask = async (/** @type {Event} */ event) => {
+    event.preventDefault();
+    const heaps = heapsOfText(field.value);
+    answer.className = `verdict ${heaps ? "" : "none"}`;
+    if (!heaps) return fill(answer, "A position is a list of heaps of 1 to 10^18, such as 2 5 7.");
+    try {
+      fill(answer, ...(await saidOf(page, game, heaps)));
+    } catch (failure) {
+      answer.classList.add("none");
+      fill(answer, told(failure));
+    }
+  };
+  const form = make(
+      "form", {class: "row", onsubmit: ask},
+      labelled(last === null ? "Heaps, of any size" : `Heaps, up to ${last}`, field), make("button", {}, "Who wins?"));
+  return make("section", {class: "screen"}, make("h2", {}, "Ask it"), form, answer);
+}
+
+/**
+ * @param {Page} page
+ * @param {Game} game
+ * @param {bigint[]} heaps
+ */
+async function saidOf(page, {name, bytes, words}, heaps) {
+  const {answer} = await page.prover.ask("answer", bytes, heaps);
+  const {answer: element} = await page.prover.ask("value", bytes, heaps);
+  const isPlayable = heaps.length <= MOST_HEAPS_PLAYED && heaps.every((heap) => heap <= LARGEST_HEAP_PLAYED);
+  return [
+    outcomeOf(answer),
+    " Its element is ",
+    word(words[element]),
+    ". ",
+    isPlayable && make("a", {href: playAddress(name, heaps)}, "Play it"),
+  ];
+}
+
+/** @param {{kind: string, heap: bigint, left: bigint[]}} answer */
+function outcomeOf(answer) {
+  if (answer.kind === "ended") return "N: no move is left, so whoever moved last has lost.";
+  return answer.kind === "lost" ? "P: lost for whoever is to move." : `N: won by ${arrowOf(answer)}.`;
+}

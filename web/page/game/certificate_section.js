@@ -1,0 +1,76 @@
+// The certificate and the description, to copy and to save.
+
+import {lastHeap} from "../certificate.js";
+import {fill, make} from "../dom.js";
+import {told} from "../refusals.js";
+
+/** @typedef {import("./present.js").Game} Game */
+/** @typedef {import("../main.js").Page} Page */
+
+/**
+ * @param {Page} page
+ * @param {Game} game
+ */
+export function certificateSection(page, game) {
+  const {bytes, certificate: {text}, description} = game;
+  const said = make("span", {role: "status", class: "soft"});
+  const copying = (/** @type {() => Promise<string>} */ textOf) => async () => {
+    try {
+      await copy(await textOf());
+      fill(said, "Copied.");
+    } catch (failure) {
+      fill(said, told(failure));
+    }
+  };
+  const described = (/** @type {string} */ output) => async () =>
+      (await page.prover.ask("describe", bytes, {output})).answer;
+  const button = (/** @type {string} */ id, /** @type {string} */ name, /** @type {() => void} */ onclick) =>
+      make("button", {type: "button", id, onclick}, name);
+  const buttons = [
+    button("copy", "Copy", copying(async () => text)),
+    button("save", "Save", () => save(text, fileNameOf(game))),
+    description && button("copy-description", "Copy the description", copying(described("description"))),
+    description && button("copy-latex", "Copy it for LaTeX", copying(described("latex"))),
+  ];
+  return make(
+      "section", {class: "screen"}, make("h2", {}, "The certificate"), make("div", {class: "row"}, buttons, said),
+      make(
+          "details", {}, make("summary", {}, `${text.length} bytes`),
+          make("textarea", {readonly: true, "aria-label": "The certificate"}, text)));
+}
+
+/** @param {Game} game */
+function fileNameOf({certificate}) {
+  const last = lastHeap(certificate);
+  return `${certificate.code}${last === null ? "" : `_heaps_${last}`}.mqc`;
+}
+
+/**
+ * @param {string} text
+ * @param {string} name
+ */
+function save(text, name) {
+  const place = URL.createObjectURL(new Blob([text], {type: "application/octet-stream"}));
+  make("a", {href: place, download: name}).click();
+  setTimeout(() => URL.revokeObjectURL(place), 1000);
+}
+
+/**
+ * (A page that isn't from a server may have no clipboard; there a selected text is copied.)
+ * @param {string} text
+ */
+async function copy(text) {
+  if (navigator.clipboard) {
+    try {
+      return await navigator.clipboard.writeText(text);
+    } catch {
+      // by a selection then
+    }
+  }
+  const field = make("textarea", {class: "aside"}, text);
+  document.body.append(field);
+  field.select();
+  const isDone = document.execCommand("copy");
+  field.remove();
+  if (!isDone) throw new Error("the browser doesn’t let it copy");
+}

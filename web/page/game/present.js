@@ -1,0 +1,119 @@
+// A certificate is checked, and where the checker accepts it, all that is told of it is shown.
+
+import {playAddress} from "../address.js";
+import {fieldsOf, lastHeap, verdictOf} from "../certificate.js";
+import {describedOf} from "../description.js";
+import {fill, make} from "../dom.js";
+import {wordsOf} from "../monoid.js";
+import {Failure} from "../prover.js";
+import {isNo, told} from "../refusals.js";
+
+import {askSection} from "./ask.js";
+import {certificateSection} from "./certificate_section.js";
+import {heapSection} from "./heaps.js";
+import {pictureSection} from "./picture_section.js";
+import {quotientSection, ruleSection} from "./quotient.js";
+import {relativesSection} from "./relatives.js";
+
+/** @typedef {import("../main.js").Page} Page */
+
+/**
+ * @typedef {object} Game an accepted certificate, and what the page reads out of it
+ * @property {string} name under which the page keeps it
+ * @property {Uint8Array} bytes
+ * @property {import("../certificate.js").Certificate} certificate
+ * @property {import("../description.js").Description | null} description null where it isn't described within the
+ * bounds
+ * @property {string[]} words one for each element
+ */
+
+/** The status of a quotient that isn't described within the bounds. */
+const NOT_DESCRIBED = 16;
+
+/**
+ * Shows the verdict on a certificate, and behind a yes its game.
+ * @param {Page} page
+ * @param {HTMLElement} root
+ * @param {Uint8Array} bytes
+ */
+export async function present(page, root, bytes) {
+  const verdict = make("p", {class: "verdict", id: "verdict", role: "status"}, "Checking …");
+  fill(root, verdict);
+  try {
+    const {time} = await page.prover.ask("check", bytes);
+    const certificate = fieldsOf(new TextDecoder().decode(bytes));
+    verdict.classList.add("yes");
+    const taken = time < 1 ? "less than 1 ms" : `${time.toFixed(0)} ms`;
+    fill(verdict, verdictOf(certificate), make("span", {class: "soft"}, ` (checked here in ${taken})`));
+    await presentGame(page, root, bytes, certificate);
+  } catch (failure) {
+    verdict.classList.add(isNo(failure) ? "no" : "none");
+    fill(verdict, told(failure));
+  }
+}
+
+/**
+ * Shows what is told of an accepted certificate. Where that fails, the verdict stays.
+ * @param {Page} page
+ * @param {HTMLElement} root
+ * @param {Uint8Array} bytes
+ * @param {import("../certificate.js").Certificate} certificate
+ */
+async function presentGame(page, root, bytes, certificate) {
+  try {
+    root.append(...sectionsOf(page, await gameOf(page, bytes, certificate)));
+  } catch (failure) {
+    root.append(make("p", {class: "verdict none", role: "alert"}, told(failure)));
+  }
+}
+
+/**
+ * @param {Page} page
+ * @param {Uint8Array} bytes
+ * @param {import("../certificate.js").Certificate} certificate
+ * @returns {Promise<Game>}
+ */
+async function gameOf(page, bytes, certificate) {
+  const name = page.collection.keep(certificate.text);
+  const description = await descriptionOf(page, bytes);
+  const words = description ? wordsOf(certificate, description.generators) : certificate.table.map((_, x) => `x${x}`);
+  return {name, bytes, certificate, description, words};
+}
+
+/**
+ * @param {Page} page
+ * @param {Uint8Array} bytes
+ */
+async function descriptionOf(page, bytes) {
+  try {
+    return describedOf((await page.prover.ask("describe", bytes)).answer);
+  } catch (failure) {
+    if (failure instanceof Failure && failure.status === NOT_DESCRIBED) return null;
+    throw failure;
+  }
+}
+
+/**
+ * @param {Page} page
+ * @param {Game} game
+ */
+function sectionsOf(page, game) {
+  const last = lastHeap(game.certificate);
+  const start = [3, 4, 5].filter((heap) => last === null || heap <= last);
+  const partial = last === null ?
+      "" :
+      make(
+          "p", {class: "partial"},
+          `A partial quotient: all that is told here is of the positions whose heaps are at most ${last}.`);
+  return [
+    partial,
+    make("p", {class: "links"}, make("a", {href: playAddress(game.name, start)}, "Play against it")),
+    ruleSection(game),
+    quotientSection(game),
+    heapSection(game),
+    askSection(page, game),
+    pictureSection(page, game),
+    relativesSection(page, game) ?? "",
+    certificateSection(page, game),
+  ];
+}

@@ -1,0 +1,112 @@
+// Begins, and shows the view that the address names.
+
+import {viewOf} from "./address.js";
+import {Atlas} from "./atlas.js";
+import {Collection} from "./collection.js";
+import {fill, make} from "./dom.js";
+import {Prover} from "./prover.js";
+import {told} from "./refusals.js";
+import {aboutView} from "./views/about.js";
+import {atlasView} from "./views/atlas.js";
+import {checkView} from "./views/check.js";
+import {findView} from "./views/find.js";
+import {gameView} from "./views/game.js";
+import {playView} from "./views/play.js";
+
+/**
+ * @typedef {object} Page what the views share
+ * @property {Atlas} atlas
+ * @property {Collection} collection
+ * @property {Prover} prover answers questions
+ * @property {Prover} finder searches, so that a search keeps nobody waiting
+ * @property {ArrayBuffer} module
+ */
+
+/** @type {Record<string, (page: Page, root: HTMLElement, word: string) => void | Promise<void>>} */
+const VIEWS = {
+  atlas: atlasView,
+  game: gameView,
+  play: playView,
+  check: checkView,
+  find: findView,
+  about: aboutView
+};
+
+const main = /** @type {HTMLElement} */ (document.getElementById("main"));
+
+/**
+ * The bytes that the page holds in an element.
+ * @param {string} id
+ */
+async function unpacked(id) {
+  const bytes = Uint8Array.from(atob(heldText(id).trim()), (letter) => letter.charCodeAt(0));
+  return new Response(new Blob([bytes]).stream().pipeThrough(new DecompressionStream("gzip"))).arrayBuffer();
+}
+
+/** @param {string} id */
+function heldText(id) {
+  return document.getElementById(id)?.textContent ?? "";
+}
+
+/**
+ * Shows the view of the address. Each has an element of its own, so that an answer that comes late changes no other
+ * view.
+ * @param {Page} page
+ */
+async function show(page) {
+  const {view, word} = viewOf(location.hash);
+  const root = make("div", {class: `view ${view}`});
+  fill(main, root);
+  for (const link of document.querySelectorAll("nav a")) {
+    const isHere = link.getAttribute("href") === `#${view}`;
+    if (isHere)
+      link.setAttribute("aria-current", "page");
+    else
+      link.removeAttribute("aria-current");
+  }
+  page.finder.stop();
+  try {
+    const shown = (VIEWS[view] ?? atlasView)(page, root, word);
+    document.title = `${root.querySelector("h1")?.textContent} – Misère quotients`;
+    await shown;
+  } catch (failure) {
+    root.append(make("p", {class: "verdict none", role: "alert"}, told(failure)));
+  }
+}
+
+/** Makes a worker out of the program that the page holds. (One of `file://` may not read it from a file.) */
+function makeWorker() {
+  const place = URL.createObjectURL(new Blob([heldText("worker")], {type: "text/javascript"}));
+  const worker = new Worker(place);
+  URL.revokeObjectURL(place);
+  return worker;
+}
+
+/** Whether the browser has what the page needs. Where it hasn't, the page goes on saying so. */
+function isAble() {
+  return typeof DecompressionStream === "function" && typeof WebAssembly === "object" &&
+      typeof BigInt64Array === "function";
+}
+
+async function begin() {
+  if (!isAble()) return document.getElementById("old")?.classList.add("shown");
+  const [module, quotients] = await Promise.all([unpacked("module"), unpacked("atlas")]);
+  const atlas = new Atlas(JSON.parse(new TextDecoder().decode(quotients)));
+  const [prover, finder] = [1, 2].map(() => new Prover(makeWorker, module));
+  prover.begin();
+  const page = {atlas, collection: new Collection(atlas), prover, finder, module};
+  window.addEventListener("hashchange", async () => {
+    main.focus({preventScroll: true});
+    window.scrollTo(0, 0);
+    await show(page);
+  });
+  document.querySelector(".skip")?.addEventListener("click", (event) => {
+    event.preventDefault();
+    main.focus();
+  });
+  const shown = show(page);
+  document.documentElement.dataset.ready = performance.now().toFixed(0);
+  await shown;
+}
+
+begin().catch((failure) => fill(main, make("p", {class: "verdict none", role: "alert"}, told(failure))));

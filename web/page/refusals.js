@@ -1,0 +1,43 @@
+// Refusals in words.
+
+import {Failure} from "./prover.js";
+
+/** @type {Record<number, string>} */
+const REASONS = {
+  1: "the bytes spell no certificate",
+  2: "the table is no commutative monoid with identity 0",
+  3: "a key has no smaller element, or another product than its element",
+  4: "the keys do not rise, or a product has a smaller key",
+  5: "a smaller period serves, or the period serves from an earlier start",
+  6: "a separating element is not the least one",
+  7: "the rule of the code’s game fails at this position",
+  8: "more different transition pairs than the limit of 100000",
+  9: "memory was refused, so there is no verdict",
+  10: "a heap is not of 1 to 10^18",
+  12: "the text is no code",
+  13: "no certificate was found within these bounds",
+  15: "a bound of the search is out of its range",
+  16: "the quotient is not described within the bounds",
+  23: "the certificate is partial, and does not speak of all these heaps",
+};
+const MEMORY = 9;
+
+/**
+ * Whether a failure is the checker's no.
+ * @param {unknown} failure
+ */
+export function isNo(failure) {
+  return failure instanceof Failure && failure.kind === "refused" && failure.status !== MEMORY;
+}
+
+/**
+ * @param {unknown} failure
+ * @returns {string}
+ */
+export function told(failure) {
+  if (!(failure instanceof Failure))
+    return `No verdict: this page failed (${failure instanceof Error ? failure.message : failure}).`;
+  if (failure.kind === "stopped") return "Stopped.";
+  if (failure.kind === "failed") return `No verdict: the module or its worker failed (${failure.message}).`;
+  return `no ${failure.message}: ${REASONS[failure.status ?? 0] ?? "refused"}`;
+}

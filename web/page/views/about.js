@@ -1,0 +1,64 @@
+// What is proved, and what is trusted.
+
+import {fill, make} from "../dom.js";
+
+const GAMES =
+    "In an octal or hexadecimal game each digit of the code says what may be left of a heap where as many tokens " +
+    "are taken. In misère play, whoever makes the last move loses. A misère quotient is a finite commutative monoid " +
+    "with an element for each heap and a portion 𝒫: a position is lost for whoever is to move exactly where the " +
+    "product of its heaps lies in 𝒫.";
+
+const PROVED = [
+  "Where the checker says yes to a full certificate, its portion predicts the misère outcome of every position of " +
+      "the game, of any number of heaps of any size, and its monoid is the misère quotient. There is no premise.",
+  "Of a partial one it says so of the positions whose heaps are at most its last one.",
+  "A no is true of the bytes: the fault that is named stands in them.",
+  "The relations, words, units, idempotents and kernel of a description are those of the certified quotient. The " +
+      "outcome of a position, its element and its first winning move are true.",
+  "What the finder hands out is accepted by the checker. Where it finds nothing, nothing is proved.",
+];
+
+const TRUSTED = [
+  "The prover, its compiler and its library, as for the program itself.",
+  "That the proved code, which is compiled for x86-64 up to the last step, means the same for WebAssembly; the last " +
+      "step; the module’s heap and its products of 128 bits, which are short C; and the step that makes its " +
+      "addresses 32 bits wide.",
+  "Your browser, and how the page passes bytes to the module and back.",
+  "What the page draws. Its rules in words, its moves, its words for elements beyond those of a description, its " +
+      "components and its pictures are its own reading of a certificate.",
+  "Which quotients are isomorphic, and which are tame in the list of the atlas: both were worked out when the page " +
+      "was made. (A game’s page works out anew whether it is tame.)",
+];
+
+/**
+ * @param {import("../main.js").Page} page
+ * @param {HTMLElement} root
+ */
+export async function aboutView({atlas, module}, root) {
+  const list = (/** @type {string[]} */ items) => make("ul", {}, items.map((it) => make("li", {}, it)));
+  const sum = make("code", {class: "sum"}, "…");
+  const checked = `The page holds the certificates of ${atlas.entries.length} small games. What it says of a game is ` +
+      "checked here by the proved checker, compiled for the browser. Nothing is asked of a server and nothing is sent.";
+  const size = `It has ${module.byteLength.toLocaleString("en")} bytes, and whoever builds it gets the same ones. `;
+  fill(
+      root, make("h1", {}, "What this page is"), make("p", {}, GAMES), make("p", {}, checked),
+      make("h2", {}, "What is proved"), list(PROVED), make("h2", {}, "What is trusted"), list(TRUSTED),
+      make("h2", {}, "The module"), make("p", {}, size, "Its SHA-256 is ", sum, "."),
+      make("h2", {}, "Where it comes from"), sources());
+  fill(sum, await sumOfBytes(module));
+}
+
+function sources() {
+  return make(
+      "p", {}, "T. E. Plambeck and A. N. Siegel, ", make("cite", {}, "Misère quotients for impartial games"),
+      ", Journal of Combinatorial Theory A 115 (2008). A. N. Siegel, ", make("cite", {}, "Combinatorial Game Theory"),
+      ", chapter V. The names of games are those of Berlekamp, Conway and Guy, ", make("cite", {}, "Winning Ways"),
+      ".");
+}
+
+/** @param {ArrayBuffer} bytes */
+async function sumOfBytes(bytes) {
+  if (!globalThis.crypto?.subtle) return "not computed by this browser for a page from this place";
+  const sum = new Uint8Array(await crypto.subtle.digest("SHA-256", bytes));
+  return [...sum].map((byte) => byte.toString(16).padStart(2, "0")).join("");
+}

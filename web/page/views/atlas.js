@@ -1,0 +1,62 @@
+// The games of the atlas: to search, to filter, to sort, to group, and to check all of them.
+
+import {checkingOfAll} from "../atlas/check_all.js";
+import {chosenOf, rowsOf, wordOf} from "../atlas/choosing.js";
+import {controls} from "../atlas/controls.js";
+import {headOf, rowOf} from "../atlas/table.js";
+import {fill, focusOn, make} from "../dom.js";
+
+/** @typedef {import("../atlas/choosing.js").Chosen} Chosen */
+
+/** So many rows are shown at once, and the others right behind them. */
+const FIRST_ROWS = 60;
+
+/**
+ * @param {import("../main.js").Page} page
+ * @param {HTMLElement} root
+ * @param {string} word
+ */
+export function atlasView(page, root, word) {
+  const {atlas} = page;
+  let chosen = chosenOf(word);
+  const [head, body, count] = [make("tr"), make("tbody"), make("p", {class: "count", role: "status"})];
+  const show = () => {
+    const now = chosen;
+    const groups = rowsOf(atlas, now);
+    fill(count, countOf(groups.length, now, atlas.entries.length));
+    fill(head, ...headOf(now, choose));
+    fill(body, ...groups.slice(0, FIRST_ROWS).map((it) => rowOf(atlas, now, it)));
+    const rest = () => chosen === now && body.append(...groups.slice(FIRST_ROWS).map((it) => rowOf(atlas, now, it)));
+    setTimeout(rest);
+  };
+  const choose = (/** @type {Partial<Chosen>} */ more) => {
+    chosen = {...chosen, ...more};
+    history.replaceState(history.state, "", `#atlas${wordOf(chosen)}`);
+    const isSorted = head.contains(document.activeElement);
+    show();
+    if (isSorted) focusOn(head.querySelector(`[data-by=${chosen.by}] button`));
+  };
+  const table = make("table", {class: "list"}, make("thead", {}, head), body);
+  fill(
+      root, make("h1", {}, "The atlas of small games"), make("p", {}, introductionOf(atlas)), checkingOfAll(page),
+      controls(chosen, choose), count, make("div", {class: "scroll"}, table));
+  show();
+}
+
+/** @param {import("../atlas.js").Atlas} atlas */
+function introductionOf({entries, quotients, classes}) {
+  return `The misère quotients of ${entries.length} octal and hexadecimal games. ` +
+      "In misère play, whoever makes the last move loses. " +
+      `There are ${quotients.length} quotients, told apart by the elements of their heaps too, ` +
+      `and ${classes.size} bipartite monoids up to isomorphism, as a script counted when this page was made.`;
+}
+
+/**
+ * @param {number} count
+ * @param {Chosen} chosen
+ * @param {number} all
+ */
+function countOf(count, {each}, all) {
+  if (each === "game") return `${count} of ${all} games`;
+  return `${count} ${each === "quotient" ? "quotients" : "bipartite monoids up to isomorphism"}`;
+}

@@ -1,0 +1,34 @@
+// A game: all that its certificate tells.
+
+import {GAME_NAMES, isCode} from "../codes.js";
+import {fill, make} from "../dom.js";
+import {present} from "../game/present.js";
+
+/**
+ * @param {import("../main.js").Page} page
+ * @param {HTMLElement} root
+ * @param {string} name
+ */
+export async function gameView(page, root, name) {
+  const [code, last] = name.split("/");
+  const text = page.collection.find(name);
+  if (!text) return fill(root, make("h1", {}, name || "Which game?"), unknown(code, last));
+  const known = GAME_NAMES.get(code);
+  const body = make("div");
+  const heading = `The game ${code}${last ? `, to heap ${last}` : ""}`;
+  fill(root, make("h1", {}, heading, known && make("span", {class: "soft"}, ` ${known}`)), body);
+  await present(page, body, new TextEncoder().encode(text));
+}
+
+/**
+ * @param {string} code
+ * @param {string | undefined} last
+ */
+function unknown(code, last) {
+  if (!isCode(code))
+    return make("p", {}, "This is no code of a game. ", make("a", {href: "#atlas"}, "The atlas"), " has some.");
+  const sought = last ? `${code}/${last}` : code;
+  return make(
+      "p", {}, "This page has no certificate of it. ", make("a", {href: `#find=${sought}`}, "Look for its quotient"),
+      ".");
+}

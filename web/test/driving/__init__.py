@@ -1,0 +1,1 @@
+"""What `drive` does in each view of the page."""

@@ -1,0 +1,39 @@
+"""The checking of certificates from elsewhere."""
+import base64
+
+# Drops a file where a certificate is put
+DROP = """const data = new DataTransfer();
+data.items.add(new File([Uint8Array.from(atob(arguments[0]), (it) => it.charCodeAt(0))], 'x.mqc'));
+const drop = new DragEvent('drop', {dataTransfer: data, bubbles: true, cancelable: true});
+document.querySelector('form.drop').dispatchEvent(drop);"""
+
+
+def judged(it, act):
+    """The verdict behind an act."""
+    it.run("document.querySelector('#verdict')?.remove()")
+    act()
+    return it.said("#verdict", "yes ", "no ", "No verdict")
+
+
+def drive(it, program, steps):
+    it.go("#check")
+    for file in program.samples():
+        said = judged(it, lambda: it.one("#file").send_keys(str(file)))
+        steps.expect(f"the file {file.name}", said.startswith(program.verdict(file)), said)
+    good = program.certificate("0.33")
+    said = judged(it, lambda: it.run(DROP, base64.b64encode(good.read_bytes()).decode()))
+    steps.expect("a file that is dropped", said.startswith(program.verdict(good)), said)
+    it.one("#presentation")
+    for name, change in {"as it is": ("", ""), "with a wrong portion": ("portion 1 4", "portion 1 5")}.items():
+        text = good.read_text().replace(*change) if change[0] else good.read_text()
+        it.run("document.querySelector('#text').value = ''")
+        it.one("#text").send_keys(text.rstrip("\n"))
+        said = judged(it, lambda: it.one("#judge").click())
+        steps.expect(f"a text that is pasted {name}", said.startswith("no " if change[0] else "yes 0.33"), said)
+    said = judged(it, lambda: it.one("#spoilt").click())
+    steps.expect("the wrong one to try fails at a position", said.startswith("no 7 Outcome at [2, 3]"), said)
+    it.picture("check")
+    said = judged(it, lambda: it.one("#file").send_keys(str(program.certificate("0.75_heaps_8"))))
+    it.one(".links a").click()
+    it.wait(lambda: it.all(".heap"))
+    steps.expect("a certificate from elsewhere is played", it.run("return location.hash") == "#play=0.75/8:3,4,5", said)

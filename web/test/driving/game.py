@@ -1,0 +1,84 @@
+"""The page of a game."""
+import pathlib
+import tempfile
+
+from selenium.webdriver.common.keys import Keys
+
+# The words of the heaps, as the description spells them
+WORDS = """const factor = (it) => it.localName === 'msup' ? [...it.children].map((part) => part.textContent).join('^') :
+    it.textContent;
+return [...document.querySelectorAll('.phi tbody td')].map((cell) =>
+    [...cell.querySelectorAll('math > *')].map(factor).join(''))"""
+RELATIVES = ".relatives details:nth-of-type({}) a"
+
+
+def drive(it, program, steps):
+    it.go("#game=0.77")
+    said = it.said("#verdict", "yes")
+    steps.expect("the verdict of 0.77", said.startswith(program.told("check", program.certificate("0.77"))), said)
+    it.one("#presentation")
+    steps.expect("its quotient is no partial one", it.text("#presentation").startswith("𝒬(0.77) = ⟨"))
+    lines = [line.split() for line in program.told("describe", program.certificate("0.77")).splitlines()]
+    described = [word for first, *words in lines if first.endswith("+") for word in words]
+    steps.expect("the words of its heaps are the program's", it.run(WORDS) == described, f"{len(described)} heaps")
+    asks(it, program, steps)
+    draws(it, steps)
+    it.picture("game")
+    keeps(it, program, steps)
+    parts(it, program, steps)
+    it.go("#game=0.123456")
+    it.wait(lambda: it.text("h1") == "0.123456")
+    link = it.one("main a").get_attribute("href")
+    steps.expect("a game that isn't here is to be looked for", link.endswith("#find=0.123456"))
+    it.driver.back()
+    it.wait(lambda: it.text("h1").startswith("The game 0.07"))
+    steps.expect("back goes back", it.said("#verdict", "yes").startswith("yes 0.07"))
+
+
+def asks(it, program, steps):
+    for position in ("2 1000000000000", "1", "1 1", "5 9 13"):
+        it.write("#heaps", position + Keys.ENTER)
+        wanted = program.move("0.77", position)
+        told = it.said("#answer", "N:", "P:")
+        holds = "P: lost" in told if wanted == "lost" else f"won by {wanted}." in told
+        steps.expect(f"who wins {position}", holds, told)
+        it.run("document.querySelector('#answer').textContent = ''")
+
+
+def draws(it, steps):
+    it.wait(lambda: len(it.all(".grid")) == 2)
+    steps.expect("two grids and the components", len(it.all("svg.components")) == 1)
+    for picture, first in ((it.one("svg.grid"), "Heaps 1 and 1"), (it.one("canvas.grid"), "a · a")):
+        picture.send_keys(Keys.ARROW_RIGHT, Keys.ARROW_DOWN)
+        said = it.run("return arguments[0].parentNode.querySelector('.said').textContent", picture)
+        steps.expect("a cell is told by the arrow keys", said.startswith(first), said)
+    steps.expect("its relatives are listed", len(it.all(RELATIVES.format(2))) > 0, it.texts(".relatives summary"))
+
+
+def keeps(it, program, steps):
+    wanted = program.certificate("0.77").read_text()
+    with tempfile.TemporaryDirectory() as folder:
+        it.command("Browser.setDownloadBehavior", behavior="allow", downloadPath=folder)
+        it.one("#save").click()
+        file = pathlib.Path(folder) / "0.77.mqc"
+        it.wait(file.exists)
+        it.wait(lambda: file.stat().st_size >= len(wanted))
+        steps.expect("the certificate is saved", file.read_text() == wanted, f"{file.name}, {len(wanted)} bytes")
+    for name in ("copy", "copy-description", "copy-latex"):
+        it.run("document.querySelector('#copy').parentNode.querySelector('[role=status]').textContent = ''")
+        it.one(f"#{name}").click()
+        said = it.said(".row [role=status]", "opied", "verdict")
+        steps.expect(f"{name} copies", said == "Copied.", said)
+
+
+def parts(it, program, steps):
+    it.go("#game=0.07")
+    said = it.said("#verdict", "yes 0.07")
+    it.one("#presentation")
+    named = [it.text(f"#{name} math") for name in ("presentation", "portion")]
+    steps.expect("a partial quotient has its last heap as an index", named == ["𝒬24(0.07)", "𝒫24"], named)
+    steps.expect("and is told as one", said.startswith("yes 0.07 order 24 heaps 24") and it.text(".partial"))
+    it.picture("partial")
+    it.write("#heaps", "25" + Keys.ENTER)
+    told = it.said("#answer", "no 23", "N:", "P:")
+    steps.expect("a heap of which it doesn't speak", told.startswith("no 23 Beyond"), told)

@@ -1,0 +1,86 @@
+"""Phones, darkness, rest, paper, the keyboard alone, and old browsers."""
+import base64
+import pathlib
+import subprocess
+import tempfile
+
+from selenium.webdriver.common.keys import Keys
+
+VIEWS = ("atlas", "game=0.77", "game=0.07", "play=0.77:3,14,40", "check", "find=0.75", "about")
+WIDTHS = "return [document.documentElement.scrollWidth, innerWidth]"
+UNNAMED = """return [...document.querySelectorAll('button, input, select, textarea, canvas, svg, a')].filter((it) =>
+    !(it.textContent.trim() && it.localName !== 'select') && !it.getAttribute('aria-label') && !it.labels?.length)
+    .map((it) => it.outerHTML.slice(0, 80))"""
+TRANSITIONS = """return [...document.querySelectorAll('.token')].filter((it) =>
+    getComputedStyle(it).transitionDuration !== '0s').length"""
+SHEETS = ("0.77", "0.07", "0.15", "0.75")
+
+
+def shown(it, view):
+    it.open(f"#{view}")
+    it.wait(lambda: it.text("h1"))
+    if view.startswith(("game", "find")):
+        it.wait(lambda: len(it.all(".grid")) == 2)
+    if view.startswith("play"):
+        it.wait(lambda: it.all(".token"))
+
+
+def drive(it, program, steps):
+    for scheme in ("light", "dark"):
+        it.emulate(phone=True, prefers_color_scheme=scheme)
+        for view in VIEWS:
+            shown(it, view)
+            wide, most = it.run(WIDTHS)
+            steps.expect(f"a phone of 360 pixels, {scheme}, {view}", wide <= most == 360, f"{wide} of {most}")
+            it.picture(f"phone-{scheme}-{view.split('=')[0]}")
+    it.emulate(prefers_color_scheme="dark", prefers_reduced_motion="reduce")
+    for view in VIEWS:
+        shown(it, view)
+        unnamed = it.run(UNNAMED)
+        steps.expect(f"each control of {view} has a name", not unnamed, unnamed)
+        it.picture(f"dark-{view.split('=')[0]}")
+    shown(it, "play=0.77:3,14,40")
+    steps.expect("nothing moves where that isn't wanted", it.run(TRANSITIONS) == 0)
+    it.emulate()
+    prints(it, steps)
+    keys(it, steps)
+    old(it, steps)
+
+
+def prints(it, steps):
+    for code in SHEETS:
+        shown(it, f"game={code}")
+        told = it.command("Page.printToPDF", printBackground=False, paperWidth=8.27, paperHeight=11.69)
+        with tempfile.TemporaryDirectory() as folder:
+            file = (it.pictures or pathlib.Path(folder)) / f"print-{code}.pdf"
+            file.write_bytes(base64.b64decode(told["data"]))
+            pages = file.read_bytes().count(b"/Type /Page\n")
+        steps.expect(f"{code} prints on one or two sheets", 1 <= pages <= 2, pages)
+
+
+def keys(it, steps):
+    """From the head of the page to a game, by the keyboard alone."""
+    it.open()
+    it.wait(lambda: len(it.all(".list tbody tr")) == 796)
+    focus = "return document.activeElement.textContent"
+    press = lambda key: it.driver.switch_to.active_element.send_keys(key)
+    press(Keys.TAB)
+    steps.expect("the first stop leads past the head", it.run(focus) == "To the content")
+    press(Keys.ENTER)
+    steps.expect("and goes there", it.run("return document.activeElement.id") == "main" and it.all(".list"))
+    for _ in range(20):
+        press(Keys.TAB)
+        if it.run(focus) == "0.1":
+            break
+    press(Keys.ENTER)
+    it.wait(lambda: it.text("h1") == "The game 0.1")
+    steps.expect("a game is opened by the keyboard", it.run("return document.activeElement.id") == "main")
+
+
+def old(it, steps):
+    script = it.command("Page.addScriptToEvaluateOnNewDocument", source="delete window.DecompressionStream")
+    it.open()
+    said = it.wait(lambda: it.text("#old"))
+    visible = it.run("return getComputedStyle(document.querySelector('#old')).visibility")
+    steps.expect("an old browser is told in a sentence", "cannot run" in said and visible == "visible", visible)
+    it.command("Page.removeScriptToEvaluateOnNewDocument", identifier=script["identifier"])

@@ -1,0 +1,122 @@
+/**
+ * What the page itself reads out of a code and a certificate, compared with what the module tells, over the whole
+ * atlas.
+ */
+import assert from "node:assert/strict";
+import {readFileSync} from "node:fs";
+import path from "node:path";
+import process from "node:process";
+import test from "node:test";
+
+import {Atlas} from "../page/atlas.js";
+import {fieldsOf, lastHeap, nameOf, verdictOf} from "../page/certificate.js";
+import {isCode, movesFrom, moveTo} from "../page/codes.js";
+import {describedOf} from "../page/description.js";
+import {componentsOf, wordsOf} from "../page/monoid.js";
+import {Session} from "../page/play/session.js";
+
+import {atlas, newMisere, printed, root, sample} from "./setup.js";
+
+const held = process.env.MISERE_ATLAS ?? path.join(root, "web/out/atlas.json");
+const misere = newMisere();
+
+/**
+ * The games of the atlas, each with what the page reads out of its certificate.
+ * @type {{code: string, bytes: Uint8Array, last: number | null, certificate:
+ *     import("../page/certificate.js").Certificate}[]}
+ */
+const games = atlas.map((it) => ({...it, certificate: fieldsOf(new TextDecoder().decode(it.bytes))}));
+
+/**
+ * Whether whoever is to move wins a position, by a search of all plays that knows the code alone.
+ * @param {string} code
+ */
+function searched(code) {
+  /** @type {Map<string, boolean>} */
+  const known = new Map();
+  /** @type {(heaps: number[]) => boolean} */
+  const isWon = (heaps) => {
+    const key = heaps.join();
+    const found = known.get(key) ?? (!heaps.some((it) => canMove(it)) || behind(heaps).some((it) => !isWon(it)));
+    known.set(key, found);
+    return found;
+  };
+  const canMove = (/** @type {number} */ heap) => !movesFrom(code, heap).next().done;
+  const behind = (/** @type {number[]} */ heaps) => heaps.flatMap((heap, at) => {
+    const others = heaps.filter((_, other) => other !== at);
+    return [...movesFrom(code, heap)].map(({left}) => [...others, ...left].sort((a, b) => a - b));
+  });
+  return isWon;
+}
+
+/**
+ * The small positions of heaps up to the last one.
+ * @param {number} last
+ */
+function smallPositions(last) {
+  const sizes = (/** @type {number} */ most) => Array.from({length: Math.min(most, last) + 1}, (_, heap) => heap);
+  return sizes(7).flatMap((a) => sizes(Math.min(a, 5)).map((b) => [b, a].filter((heap) => heap > 0)));
+}
+
+test("the texts that the page makes again are those of the catalogues", () => {
+  const made = new Atlas(JSON.parse(readFileSync(held, "utf8")));
+  assert.equal(made.entries.length, atlas.length);
+  for (const {code, bytes} of atlas) assert.equal(made.text(code), new TextDecoder().decode(bytes), code);
+});
+
+test("the verdict's line is the program's", () => {
+  for (const name of ["0.33", "0.77", "0.75_heaps_8"]) {
+    const certificate = fieldsOf(sample(name).toString());
+    assert.equal(verdictOf(certificate), printed("check", path.join(root, `certificates/${name}.mqc`)).trim());
+  }
+  assert.equal(nameOf(fieldsOf(sample("0.75_heaps_8").toString())), "0.75/8");
+});
+
+test("each element's word, and the kernel, are those of the description", () => {
+  for (const {code, bytes, certificate} of games) {
+    const {generators, heaps, kernel} = describedOf(misere.describe(bytes));
+    const words = wordsOf(certificate, generators);
+    assert.deepEqual(heaps, certificate.phi.map((x) => words[x]), code);
+    const [least] = componentsOf(certificate).filter(({covers}) => covers.length === 0);
+    assert.deepEqual([...least.group].map((x) => words[x]).sort(), [...kernel].sort(), code);
+  }
+});
+
+test("a description has all its parts, also with an index", () => {
+  const told =
+      describedOf("Q_3(0.33) = < a,b | a^2=1, b^3=b >\nP_3 = { a, b^2 }\norder 6 portion 2 tame 2\n0+ a b 1\n");
+  assert.deepEqual(told.letters, ["a", "b"]);
+  assert.deepEqual(told.relations, ["a^2=1", "b^3=b"]);
+  assert.deepEqual(told.portion, ["a", "b^2"]);
+  assert.deepEqual(told.heaps, ["a", "b", "1"]);
+  assert.equal(told.kind, "tame 2");
+});
+
+test("outcomes are those of a search of all plays", () => {
+  for (const {code, bytes, last} of games) {
+    const positions = smallPositions(last ?? Infinity), isWon = searched(code);
+    const outcomes = misere.outcomes(bytes, positions);
+    positions.forEach((position, at) => assert.equal(outcomes[at] === 1, isWon(position), `${code} ${position}`));
+  }
+});
+
+test("winning moves are moves of the page's list", () => {
+  for (const {code, bytes, last} of games) {
+    const positions = smallPositions(last ?? Infinity);
+    misere.answers(bytes, positions).forEach((answer, at) => {
+      const isOver = new Session(code, {name: code, first: positions[at], turns: []}).isOver;
+      assert.equal(answer.kind === "ended", isOver, `${code} ${positions[at]}`);
+      if (answer.kind !== "wins") return;
+      const [heap, left] = [Number(answer.heap), answer.left.map(Number)];
+      assert.ok(moveTo(code, heap, left), `${code} ${positions[at]}`);
+      assert.ok([...movesFrom(code, heap)].some((move) => `${move.left}` === `${left}`), `${code} ${positions[at]}`);
+    });
+  }
+});
+
+test("codes are those of the program", () => {
+  for (const code of ["0.3", "4.07", "c.f", "8.1", "0.0123456789abcdef"]) assert.ok(isCode(code), code);
+  for (const text of ["", "0.", "0.30", "1.3", "0.3G", "0.A", "00.3", "0.12345678123456781"])
+    assert.ok(!isCode(text), text);
+  assert.equal(lastHeap({start: 9, period: 0}), 8);
+});

@@ -1,0 +1,86 @@
+/** What the tests share: the module, the program, the samples and the atlas. */
+import {spawnSync} from "node:child_process";
+import {mkdtempSync, readdirSync, readFileSync, rmSync, writeFileSync} from "node:fs";
+import {tmpdir} from "node:os";
+import path from "node:path";
+import process from "node:process";
+import {fileURLToPath} from "node:url";
+
+import {Failed, Misere, Refused} from "../calls.js";
+
+export const root = fileURLToPath(new URL("../..", import.meta.url));
+export const bytesOfModule = readFileSync(process.env.MISERE_WASM ?? path.join(root, "web/out/misere.wasm"));
+const program = process.env.MISERE ?? path.join(root, "crates/misere/out/misere");
+const folder = mkdtempSync(path.join(tmpdir(), "misere-"));
+process.on("exit", () => rmSync(folder, {recursive: true}));
+
+/** The calls over a new instance of the module, or of another one. */
+export const newMisere = (bytes = bytesOfModule) => new Misere(new WebAssembly.Module(bytes));
+
+/**
+ * What the program prints.
+ * @param {string[]} words
+ * @returns {string}
+ */
+export function printed(...words) {
+  const run = spawnSync(program, words, {encoding: "utf8", maxBuffer: 1 << 26, cwd: folder});
+  if (run.error || run.status === null || run.status > 1)
+    throw new Error(`misere ${words}: ${run.error ?? run.stderr}`);
+  return run.stdout;
+}
+
+/**
+ * A file of these bytes, as the program reads it. It holds until the next.
+ * @param {Uint8Array | string} bytes
+ */
+export function fileOf(bytes, name = "x.mqc") {
+  const file = path.join(folder, name);
+  writeFileSync(file, bytes);
+  return file;
+}
+
+/** The samples, accepted and refused, by their names. */
+export const samples = ["certificates", "certificates/refused"].flatMap((it) => {
+  const files = readdirSync(path.join(root, it)).filter((name) => name.endsWith(".mqc"));
+  return files.map((name) => ({name: `${it}/${name}`, bytes: readFileSync(path.join(root, it, name))}));
+});
+
+/** The bytes of a sample. */
+export const sample = (/** @type {string} */ name) => readFileSync(path.join(root, `certificates/${name}.mqc`));
+
+/** All entries of both catalogues of the atlas. */
+export const atlas = ["octal", "hexadecimal"].flatMap((name) => {
+  const {entries} = JSON.parse(readFileSync(path.join(root, `atlas/${name}.json`), "utf8"));
+  return entries.map((/** @type {any} */ it) => {
+    const {code, certificate, heaps} = it;
+    return {code, bytes: new TextEncoder().encode(certificate), last: heaps || null};
+  });
+});
+
+/**
+ * Numbers that look random and are the same in each run (xorshift, of 32 bits).
+ * @param {number} seed
+ */
+export function numbersFrom(seed) {
+  let state = seed;
+  return (/** @type {number} */ below) => {
+    state ^= state << 13;
+    state ^= state >>> 17;
+    state ^= state << 5;
+    return (state >>> 0) % below;
+  };
+}
+
+/**
+ * What a call gives, or `refused` with the status; or `failed`, which is no verdict.
+ * @param {() => unknown} call
+ */
+export function told(call) {
+  try {
+    return call() ?? "yes";
+  } catch (stop) {
+    if (stop instanceof Failed) return "failed";
+    if (!(stop instanceof Refused)) throw stop;
+    return `refused ${stop.status}`;
+  }
+}
