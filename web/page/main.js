@@ -6,6 +6,7 @@ import {Collection} from "./collection.js";
 import {fill, make} from "./dom.js";
 import {Prover} from "./prover.js";
 import {told} from "./refusals.js";
+import {isKnownEntry, keepScrolling, scrollBack} from "./scrolling.js";
 import {aboutView} from "./views/about.js";
 import {atlasView} from "./views/atlas.js";
 import {checkView} from "./views/check.js";
@@ -95,10 +96,14 @@ async function begin() {
   const [prover, finder] = [1, 2].map(() => new Prover(makeWorker, module));
   prover.begin();
   const page = {atlas, collection: new Collection(atlas), prover, finder, module};
+  keepScrolling();
+  isKnownEntry();
   window.addEventListener("hashchange", async () => {
+    const isKnown = isKnownEntry();
     main.focus({preventScroll: true});
-    window.scrollTo(0, 0);
+    if (!isKnown) window.scrollTo(0, 0);
     await show(page);
+    if (isKnown) scrollBack();
   });
   document.querySelector(".skip")?.addEventListener("click", (event) => {
     event.preventDefault();

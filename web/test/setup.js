@@ -10,7 +10,7 @@ import {Failed, Misere, Refused} from "../calls.js";
 
 export const root = fileURLToPath(new URL("../..", import.meta.url));
 export const bytesOfModule = readFileSync(process.env.MISERE_WASM ?? path.join(root, "web/out/misere.wasm"));
-const program = process.env.MISERE ?? path.join(root, "crates/misere/out/misere");
+export const program = process.env.MISERE ?? path.join(root, "crates/misere/out/misere");
 const folder = mkdtempSync(path.join(tmpdir(), "misere-"));
 process.on("exit", () => rmSync(folder, {recursive: true}));
 

@@ -2,7 +2,6 @@
 
 import {lastHeap} from "../certificate.js";
 import {fill, make} from "../dom.js";
-import {told} from "../refusals.js";
 
 /** @typedef {import("./present.js").Game} Game */
 /** @typedef {import("../main.js").Page} Page */
@@ -19,7 +18,7 @@ export function certificateSection(page, game) {
       await copy(await textOf());
       fill(said, "Copied.");
     } catch (failure) {
-      fill(said, told(failure));
+      fill(said, `Not copied: ${/** @type {Error} */ (failure).message}.`);
     }
   };
   const described = (/** @type {string} */ output) => async () =>

@@ -31,7 +31,7 @@ import {relativesSection} from "./relatives.js";
 const NOT_DESCRIBED = 16;
 
 /**
- * Shows the verdict on a certificate, and behind a yes its game.
+ * Shows the verdict on a certificate, and behind a yes its game; nothing more once another verdict has its place.
  * @param {Page} page
  * @param {HTMLElement} root
  * @param {Uint8Array} bytes
@@ -41,11 +41,12 @@ export async function present(page, root, bytes) {
   fill(root, verdict);
   try {
     const {time} = await page.prover.ask("check", bytes);
+    if (root.firstChild !== verdict) return;
     const certificate = fieldsOf(new TextDecoder().decode(bytes));
     verdict.classList.add("yes");
     const taken = time < 1 ? "less than 1 ms" : `${time.toFixed(0)} ms`;
     fill(verdict, verdictOf(certificate), make("span", {class: "soft"}, ` (checked here in ${taken})`));
-    await presentGame(page, root, bytes, certificate);
+    await presentGame(page, root, bytes, certificate, verdict);
   } catch (failure) {
     verdict.classList.add(isNo(failure) ? "no" : "none");
     fill(verdict, told(failure));
@@ -58,12 +59,14 @@ export async function present(page, root, bytes) {
  * @param {HTMLElement} root
  * @param {Uint8Array} bytes
  * @param {import("../certificate.js").Certificate} certificate
+ * @param {Element} verdict
  */
-async function presentGame(page, root, bytes, certificate) {
+async function presentGame(page, root, bytes, certificate, verdict) {
   try {
-    root.append(...sectionsOf(page, await gameOf(page, bytes, certificate)));
+    const game = await gameOf(page, bytes, certificate);
+    if (root.firstChild === verdict) root.append(...sectionsOf(page, game));
   } catch (failure) {
-    root.append(make("p", {class: "verdict none", role: "alert"}, told(failure)));
+    if (root.firstChild === verdict) root.append(make("p", {class: "verdict none", role: "alert"}, told(failure)));
   }
 }
 

@@ -38,8 +38,10 @@ function drawn(side, outcomes) {
       "svg", {class: "grid outcomes", viewBox: `0 0 ${side} ${side}`, "shape-rendering": "crispEdges"},
       draw("rect", {class: "won", width: side, height: side}), draw("path", {class: "rule", d: rules(side)}),
       draw("path", {class: "lost", d: cells.join("")})));
-  const said = (/** @type {number} */ column, /** @type {number} */ row) => [`Heaps ${column} and ${row}: ${
-      outcomes[row * side + column] === 0 ? "P, lost for whoever is to move." : "N, won."}`];
+  const said = (/** @type {number} */ column, /** @type {number} */ row) => {
+    const isLost = outcomes[row * side + column] === 0;
+    return [`Heaps ${column} and ${row}: ${isLost ? "P, lost for whoever is to move." : "N, won."}`];
+  };
   return gridPicture(svg, side, `Two heaps, each of 0 to ${side - 1}: blue where whoever is to move has lost.`, said);
 }
 

@@ -28,6 +28,7 @@ export class Board {
   #controls = make("div");
   #log = make("ol", {class: "log", "aria-label": "Moves"});
   #review = make("div");
+  #isReplying = false;
 
   /**
    * @param {Page} page
@@ -46,23 +47,22 @@ export class Board {
 
   /** It is your turn. */
   async turn() {
-    return this.#try
-      (() => this.#turn());
+    return this.#attempt(() => this.#turn());
   }
 
-  /** Lets the program move, and then it is your turn. */
+  /** Lets the program move, and then it is your turn. Tells whether that came to pass. */
   async reply() {
-    return this.#try
-      (async () => {
-        if (!this.session.isOver) {
-          const win = await this.#winOf();
-          this.#isWinning = win !== null;
-          this.session = this.session.after("program", win ?? this.session.smallestMove);
-        }
-        this.#keep();
-        await this.#turn();
-        focusOn(this.#heaps.querySelector(".token") ?? this.#controls.querySelector("select"));
-      });
+    return this.#attempt(async () => {
+      if (!this.session.isOver) {
+        const win = await this.#winOf();
+        if (!this.#told.isConnected) return;
+        this.#isWinning = win !== null;
+        this.session = this.session.after("program", win ?? this.session.smallestMove);
+      }
+      this.#keep();
+      await this.#turn();
+      focusOn(this.#heaps.querySelector(".token") ?? this.#controls.querySelector("select"));
+    });
   }
 
   async #turn() {
@@ -76,11 +76,13 @@ export class Board {
    * Where the module fails, that is told.
    * @param {() => Promise<void>} action
    */
-  async #try(action) {
+  async #attempt(action) {
     try {
       await action();
+      return true;
     } catch (failure) {
       fill(this.#told, told(failure));
+      return false;
     }
   }
 
@@ -93,13 +95,20 @@ export class Board {
   /** Gives the position an address, so that going back takes a move back. */
   #keep() {
     const {name, heaps, record} = this.session;
-    history.pushState(record, "", playAddress(name, heaps));
+    history.pushState({play: record}, "", playAddress(name, heaps));
   }
 
-  /** @param {Move} move */
-  #play(move) {
-    this.session = this.session.after("you", move);
-    return this.reply();
+  /**
+   * Makes your move. Where no reply comes to it, it is taken back.
+   * @param {Move} move
+   */
+  async #play(move) {
+    if (this.#isReplying) return;
+    this.#isReplying = true;
+    const before = this.session;
+    this.session = before.after("you", move);
+    if (!(await this.reply())) this.session = before;
+    this.#isReplying = false;
   }
 
   /**

@@ -26,24 +26,31 @@ export function chosenWith(choice, at, token) {
  * @param {(token: number) => void} choose
  */
 export function heapRow(heap, at, choice, choose) {
-  const label = `Heap ${at + 1}, of ${heap}`;
   const size = make("span", {class: "size"}, String(heap));
-  if (heap > LARGEST_HEAP_DRAWN)
-    return make("div", {class: "heap", role: "group", "aria-label": label}, size, make("span", {class: "bar"}));
-  const isChosen = (/** @type {number} */ token) =>
-      choice !== null && choice.at === at && token >= choice.from && token <= choice.to;
-  const tokens = Array.from({length: heap}, (_, token) => make("button", {
-                                              type: "button",
-                                              class: "token",
-                                              tabindex: token ? "-1" : "0",
-                                              "aria-pressed": String(isChosen(token)),
-                                              "aria-label": `token ${token + 1} of ${heap}`,
-                                              onclick: () => choose(token)
-                                            }));
-  const row =
-      make("div", {class: "heap", role: "group", "aria-label": label}, size, make("span", {class: "tokens"}, tokens));
+  const row = make("div", {class: "heap", role: "group", "aria-label": `Heap ${at + 1}, of ${heap}`}, size);
+  if (heap > LARGEST_HEAP_DRAWN) {
+    row.append(make("span", {class: "bar"}));
+    return row;
+  }
+  const isChosen = (/** @type {number} */ token) => choice?.at === at && token >= choice.from && token <= choice.to;
+  const tokens = Array.from({length: heap}, (_, token) => tokenOf(token, heap, isChosen(token), () => choose(token)));
+  row.append(make("span", {class: "tokens"}, tokens));
   row.addEventListener("keydown", (event) => moveFocus(event, tokens));
   return row;
+}
+
+/**
+ * @param {number} token
+ * @param {number} heap
+ * @param {boolean} isChosen
+ * @param {() => void} onclick
+ */
+function tokenOf(token, heap, isChosen, onclick) {
+  const name = `token ${token + 1} of ${heap}`;
+  const stop = token ? "-1" : "0";
+  return make(
+      "button",
+      {type: "button", class: "token", tabindex: stop, "aria-pressed": String(isChosen), "aria-label": name, onclick});
 }
 
 /**

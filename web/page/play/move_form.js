@@ -53,7 +53,7 @@ function writtenMove(session, play) {
   const heaps = [...new Set(session.heaps)].sort((a, b) => b - a).map(String);
   const heap = choice({id: "from"}, heaps.map((size) => [size, size]), heaps[0]);
   const left = make("input", {id: "left", autocomplete: "off", placeholder: "3 5"});
-  const make_ = (/** @type {Event} */ event) => {
+  const submit = (/** @type {Event} */ event) => {
     event.preventDefault();
     const sizes = heapsOfText(left.value)?.map(Number);
     const move = sizes ? session.move(Number(heap.value), sizes) : null;
@@ -65,6 +65,6 @@ function writtenMove(session, play) {
   };
   left.addEventListener("input", () => left.setCustomValidity(""));
   return make(
-      "form", {class: "row", onsubmit: make_}, labelled("Of the heap", heap), labelled("leave the heaps", left),
+      "form", {class: "row", onsubmit: submit}, labelled("Of the heap", heap), labelled("leave the heaps", left),
       make("button", {id: "other"}, "Make that move"));
 }

@@ -16,18 +16,18 @@ const FIRST_ROWS = 60;
  * @param {HTMLElement} root
  * @param {string} word
  */
-export function atlasView(page, root, word) {
+export async function atlasView(page, root, word) {
   const {atlas} = page;
   let chosen = chosenOf(word);
   const [head, body, count] = [make("tr"), make("tbody"), make("p", {class: "count", role: "status"})];
-  const show = () => {
+  const show = async () => {
     const now = chosen;
     const groups = rowsOf(atlas, now);
     fill(count, countOf(groups.length, now, atlas.entries.length));
     fill(head, ...headOf(now, choose));
     fill(body, ...groups.slice(0, FIRST_ROWS).map((it) => rowOf(atlas, now, it)));
-    const rest = () => chosen === now && body.append(...groups.slice(FIRST_ROWS).map((it) => rowOf(atlas, now, it)));
-    setTimeout(rest);
+    await new Promise((done) => setTimeout(done));
+    if (chosen === now) body.append(...groups.slice(FIRST_ROWS).map((it) => rowOf(atlas, now, it)));
   };
   const choose = (/** @type {Partial<Chosen>} */ more) => {
     chosen = {...chosen, ...more};
@@ -40,7 +40,7 @@ export function atlasView(page, root, word) {
   fill(
       root, make("h1", {}, "The atlas of small games"), make("p", {}, introductionOf(atlas)), checkingOfAll(page),
       controls(chosen, choose), count, make("div", {class: "scroll"}, table));
-  show();
+  await show();
 }
 
 /** @param {import("../atlas.js").Atlas} atlas */

@@ -9,9 +9,11 @@ import {present} from "../game/present.js";
 const [SAMPLE, SOUND, SPOILT] = ["0.33", "phi 1 2 0", "phi 1 2 2"];
 /** Of longer files the text isn't shown. */
 const MOST_SHOWN = 100000;
+/** No certificate is longer, so that of a longer file the beginning is refused as the whole is. */
+const MOST_BYTES = 1 << 21;
 
 const HOW = "The proved checker says yes or no, and believes nothing. The certificate stays on this machine. " +
-    "Of a file each byte counts; behind a pasted text one line end is put.";
+    "Of a file each byte counts; behind a pasted text the last line end is put where it is missing.";
 
 /**
  * @param {Page} page
@@ -21,10 +23,13 @@ export function checkView(page, root) {
   const out = make("div", {class: "told"});
   const text = make("textarea", {id: "text", spellcheck: "false", placeholder: "mqc 1\ncode 0.33\n…"});
   // (what is pasted has lost what a text area doesn't keep: its line ends, and often the last of them)
-  const judge = () => present(page, out, new TextEncoder().encode(text.value.replace(/\n*$/, "\n")));
+  const judge = () => {
+    const pasted = text.value.endsWith("\n") ? text.value : `${text.value}\n`;
+    return present(page, out, new TextEncoder().encode(pasted));
+  };
   const file = make("input", {type: "file", id: "file", onchange: () => file.files?.[0] && take(file.files[0])});
   const take = async (/** @type {File} */ from) => {
-    const bytes = new Uint8Array(await from.arrayBuffer());
+    const bytes = new Uint8Array(await from.slice(0, MOST_BYTES + 1).arrayBuffer());
     text.value = bytes.length <= MOST_SHOWN ? new TextDecoder().decode(bytes) : "";
     file.value = "";
     await present(page, out, bytes);

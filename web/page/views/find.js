@@ -21,7 +21,7 @@ const HOW = "The finder guesses, and the proved checker decides: what is found i
  */
 export async function findView(page, root, word) {
   const [steps, bar, out] = [
-    make("ol", {id: "steps", role: "status"}), make("progress", {hidden: true, "aria-label": "searching"}),
+    make("ol", {id: "steps", "aria-live": "polite"}), make("progress", {hidden: true, "aria-label": "searching"}),
     make("div", {class: "told"})
   ];
   const form = searchForm(word, () => page.finder.stop());
@@ -30,11 +30,11 @@ export async function findView(page, root, word) {
     fill(out);
     fill(steps);
     if (!isCode(sought.code)) return fill(steps, make("li", {class: "missed"}, NO_CODE));
-    history.replaceState(null, "", `#find=${soughtWord(sought)}`);
-    form.isAtWork(true);
+    history.replaceState(history.state, "", `#find=${soughtWord(sought)}`);
+    form.atWork(true);
     bar.hidden = false;
     const found = await search(page, sought, steps);
-    form.isAtWork(false);
+    form.atWork(false);
     bar.hidden = true;
     if (found) await present(page, out, new TextEncoder().encode(found));
   };
@@ -72,7 +72,9 @@ function searchForm(word, stop) {
     element: make(
         "form", {class: "row"}, labelled("Code", code), labelled("What is sought", aim), numberLabel, seek, stopping),
     sought: () => ({code: code.value.trim(), aim: aim.value, number: Number(number.value)}),
-    isAtWork: (/** @type {boolean} */ is) =>
-        Object.assign(seek, {disabled: is}) && Object.assign(stopping, {disabled: !is}),
+    atWork: (/** @type {boolean} */ is) => {
+      seek.disabled = is;
+      stopping.disabled = !is;
+    },
   };
 }

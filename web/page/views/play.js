@@ -51,11 +51,11 @@ async function begin(page, board, name, heaps, first) {
   if (!text || !sizes || fault) return fill(board, make("p", {class: "verdict none", role: "alert"}, fault));
   const address = playAddress(name, sizes);
   const {code} = fieldsOf(text);
-  const kept = first ? null : keptSession(code, history.state, address);
+  const kept = first ? null : keptSession(code, history.state?.play, address);
   if (first && location.hash !== address)
     history.pushState(null, "", address);
   else
-    history.replaceState(kept?.record ?? null, "", address);
+    history.replaceState({...history.state, play: kept?.record}, "", address);
   const session = kept ?? new Session(code, {name, first: sizes, turns: []});
   const it = new Board(page, board, new TextEncoder().encode(text), session);
   await (first === "program" ? it.reply() : it.turn());

@@ -1,4 +1,6 @@
 """The list of the atlas."""
+import time
+
 from selenium.webdriver.common.keys import Keys
 from selenium.webdriver.support.ui import Select
 
@@ -25,6 +27,20 @@ def drive(it, program, steps):
     it.one("#all").click()
     said = it.said("#all-told", "accepted", "refused", "verdict")
     steps.expect("all certificates are accepted", "796 certificates accepted" in said, said)
+    returns(it, steps)
+
+
+def returns(it, steps):
+    it.go("#atlas")
+    it.wait(lambda: len(it.all(ROWS)) == 796)
+    it.run("window.scrollTo(0, 5000)")
+    time.sleep(0.5)
+    it.go("#game=0.33")
+    it.wait(lambda: it.text("h1") == "The game 0.33")
+    at_top = it.run("return scrollY") == 0
+    it.driver.back()
+    it.wait(lambda: len(it.all(ROWS)) == 796 and it.run("return scrollY") == 5000)
+    steps.expect("a game begins at its top, and back is where the list was", at_top)
 
 
 def searches(it, steps):

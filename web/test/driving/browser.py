@@ -46,7 +46,7 @@ class Browser:
     def command(self, name, **words):
         return self.driver.execute_cdp_cmd(name, words)
 
-    def wait(self, test, seconds=60):
+    def wait(self, test, seconds=180):
         return WebDriverWait(self.driver, seconds, 0.02).until(lambda _: test())
 
     def all(self, selector):

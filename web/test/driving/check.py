@@ -1,5 +1,6 @@
 """The checking of certificates from elsewhere."""
 import base64
+import time
 
 # Drops a file where a certificate is put
 DROP = """const data = new DataTransfer();
@@ -33,6 +34,10 @@ def drive(it, program, steps):
     said = judged(it, lambda: it.one("#spoilt").click())
     steps.expect("the wrong one to try fails at a position", said.startswith("no 7 Outcome at [2, 3]"), said)
     it.picture("check")
+    twice = "for (const name of ['sound', 'spoilt']) document.getElementById(name).click()"
+    said = judged(it, lambda: it.run(twice))
+    time.sleep(0.5)
+    steps.expect("of two checks at once the last one stands alone", "no 7" in said and not it.all(".told .links"), said)
     said = judged(it, lambda: it.one("#file").send_keys(str(program.certificate("0.75_heaps_8"))))
     it.one(".links a").click()
     it.wait(lambda: it.all(".heap"))

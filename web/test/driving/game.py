@@ -21,9 +21,10 @@ def drive(it, program, steps):
     lines = [line.split() for line in program.told("describe", program.certificate("0.77")).splitlines()]
     described = [word for first, *words in lines if first.endswith("+") for word in words]
     steps.expect("the words of its heaps are the program's", it.run(WORDS) == described, f"{len(described)} heaps")
+    it.wait(lambda: len(it.all(".grid")) == 2)
+    it.picture("game")
     asks(it, program, steps)
     draws(it, steps)
-    it.picture("game")
     keeps(it, program, steps)
     parts(it, program, steps)
     it.go("#game=0.123456")
@@ -46,7 +47,6 @@ def asks(it, program, steps):
 
 
 def draws(it, steps):
-    it.wait(lambda: len(it.all(".grid")) == 2)
     steps.expect("two grids and the components", len(it.all("svg.components")) == 1)
     for picture, first in ((it.one("svg.grid"), "Heaps 1 and 1"), (it.one("canvas.grid"), "a · a")):
         picture.send_keys(Keys.ARROW_RIGHT, Keys.ARROW_DOWN)

@@ -82,6 +82,11 @@ def reviewed(it, program, steps):
 
 
 def others(it, program, steps):
+    it.go("#play=0.77:5,6,7")
+    it.wait(lambda: len(it.all(".heap")) == 3)
+    it.run("const button = document.getElementById('other'); button.click(); button.click()")
+    it.wait(lambda: len(it.all(LOG)) >= 2)
+    steps.expect("a move that is made twice is one", len(it.all(LOG)) == 2, it.texts(LOG))
     it.go("#play=0.75:2,3")
     it.wait(lambda: len(it.all(".heap")) == 2)
     Select(it.one("#first")).select_by_value("program")
