@@ -2,6 +2,9 @@
 //! and `play`, by public names alone.
 #![tactic(auto)]
 
+use allocation::SmallAllocator;
+use checker::Job;
+
 #[cfg(test)]
 mod certificates;
 #[cfg(test)]
@@ -34,3 +37,9 @@ mod player_tests;
 mod units_tests;
 #[cfg(test)]
 mod verdicts_tests;
+
+/// Lets a job go. Tests let many go, and that what a stage of a check holds fits in memory is proved
+/// here once.
+pub fn let_go<A: SmallAllocator + Copy>(job: Job<A>) {
+    drop(job)
+}
