@@ -1,0 +1,3 @@
+pub mod Separators
+pub mod Rows
+pub mod Compact
