@@ -5,3 +5,5 @@ pub mod Phi
 pub mod Following
 pub mod Back
 pub mod Expanding
+pub mod Replaced
+pub mod FlatRows

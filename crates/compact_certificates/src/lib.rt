@@ -12,6 +12,8 @@
 //! | `specs/Compact` | what follows, what is left out, and how it is put back |
 #![tactic(auto)]
 
+pub mod products;
+
 ghost use Rattle.std.specs.Prelude.{◌≡◌, ◌↔◌, ◌+◌, ◌≤◌, ◌<◌, ℕ, List, true, length, All};
 ghost use Rattle.misere_theory.specs.Quotients.{Claim};
 ghost use Rattle.misere_theory.specs.Certificates.{Certificate, InRanges, Accepted, phi_at, key_of, pairs_from, TellsApart, LeastApart, IsHeapOf};
