@@ -1,0 +1,9 @@
+pub mod Firsts
+pub mod Least
+pub mod Made
+pub mod Phi
+pub mod Following
+pub mod Back
+pub mod Expanding
+pub mod Replaced
+pub mod FlatRows

@@ -1,0 +1,4 @@
+pub mod Separators
+pub mod Rows
+pub mod Compact
+pub mod Flat
