@@ -5,7 +5,7 @@ import {Atlas} from "./atlas.js";
 import {Collection} from "./collection.js";
 import {fill, make} from "./dom.js";
 import {Prover} from "./prover.js";
-import {told} from "./refusals.js";
+import {alertOf} from "./refusals.js";
 import {isKnownEntry, keepScrolling, scrollBack} from "./scrolling.js";
 import {aboutView} from "./views/about.js";
 import {atlasView} from "./views/atlas.js";
@@ -71,7 +71,7 @@ async function show(page) {
     document.title = `${root.querySelector("h1")?.textContent} – Misère quotients`;
     await shown;
   } catch (failure) {
-    root.append(make("p", {class: "verdict none", role: "alert"}, told(failure)));
+    root.append(alertOf(failure));
   }
 }
 
@@ -114,4 +114,4 @@ async function begin() {
   await shown;
 }
 
-begin().catch((failure) => fill(main, make("p", {class: "verdict none", role: "alert"}, told(failure))));
+begin().catch((failure) => fill(main, alertOf(failure)));
