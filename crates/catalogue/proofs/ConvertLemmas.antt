@@ -1,4 +1,5 @@
 -- What is read of values, items and members, in the terms of `serde_json`.
+-- A step of `json`'s parser, converted, is the same step on the data of `serde_json`.
 use Rattle.std.proofs.Common.{◌≡◌, ℕ, zero, suc, ◌-◌, ◌<◌, List, Option, Some, None, option_map, option_and_then, refl, ap, ◌∙◌}
 use Rattle.json.specs.Token.{Token}
 use Rattle.json.specs.Json as json

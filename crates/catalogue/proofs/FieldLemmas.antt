@@ -1,4 +1,6 @@
 -- The members of an entry, as they are read.
+-- After each member the fields hold what is found under their names; with another member the
+-- object is no entry.
 use Rattle.std.proofs.Common.{◌≡◌, ◌≢◌, ℕ, ◌≤◌, ◌<◌, inl, inr, List, codes, Option, Some, None, option_map, option_and_then, IfSome, true, false, Bor, refl, sym, ap, subst, ◌∙◌, arith}
 use Rattle.serde_json.specs.Data.{Data, Members, object, put}
 use Rattle.serde_json.specs.Events.{members_len}

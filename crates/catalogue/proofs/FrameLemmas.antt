@@ -1,4 +1,6 @@
 -- The members of a catalogue file, and the items among them, as they are read.
+-- After each member the frame holds what is found under its names; with another member, version or
+-- kind of entries the object is no file.
 use Rattle.std.proofs.Common.{◌≡◌, ◌≢◌, ℕ, zero, suc, ◌<◌, ◌==◌, ◌⊎◌, inl, inr, List, [], ◌∷◌, ◌++◌, get_or, map, codes, Option, Some, None, is_some, option_and_then, Bool, true, false, All, Vec, Global, refl, sym, ap, subst, ◌∙◌, arith}
 use Rattle.std.proofs.lemmas.List.{append_assoc, append-nil, map-append}
 use Rattle.serde_json.specs.Data.{Data, Items, no_items, item, Members, array, object, put}

@@ -1,4 +1,5 @@
 -- Looking a code and a kind up, and adding an entry.
+-- Entries stand under keys of their own: what is found there is the entry, and a new one goes last.
 use Rattle.std.proofs.Common.{◌≡◌, ◌≢◌, ℕ, Bool, true, false, cond, List, [], ◌∷◌, ◌++◌, get_or, Option, Some, None, MatchOption, IfSome, All, Contains, Bor, nat_eq, is_some, Result, Ok, Err, OnOk, OnErr, refl, sym, ap, subst, ◌∙◌, arith}
 use Rattle.std.specs.List.{AllByRecursion}
 use Rattle.std.specs.Map.{values_of, lookup}

@@ -1,4 +1,5 @@
 -- Certificates are ASCII, and the data of a catalogue has no float.
+-- So a certificate is a JSON string, and the text that `serde_json` writes is known.
 use Rattle.std.proofs.Common.{◌≡◌, ℕ, zero, suc, ◌+◌, ◌<◌, ◌≤◌, inl, inr, Bool, true, false, if◌then◌else◌, ◌||◌, List, [], ◌∷◌, ◌++◌, length, map, take, Option, Some, None, codes, decimal, All, refl, sym, ap, ◌∙◌, arith}
 use Rattle.std.specs.Str.{IsAscii, IsUtf8}
 use Rattle.std.specs.Io.KnownBytes.{Appends}

@@ -1,4 +1,5 @@
 -- How many pairs there are, and numbers that rise.
+-- q elements have q (q - 1) / 2 pairs; a list rises where each is above the one before.
 use Rattle.std.proofs.Common.{◌≡◌, ℕ, zero, suc, ◌+◌, ◌-◌, ◌*◌, ◌/◌, ◌<◌, ◌≤◌, List, [], ◌∷◌, length, get_or, refl, sym, ap, ◌∙◌, arith}
 use Rattle.std.specs.List.{AllByRecursion}
 use Rattle.std.proofs.Math.Nat.{mul-suc, suc-mul}

@@ -1,4 +1,5 @@
 -- The lines up to the period, read and written.
+-- Line by line: what is read is their text, and their text is read.
 use Rattle.std.proofs.Common.{◌≡◌, ℕ, ◌+◌, ◌-◌, ◌<◌, ◌≤◌, Bool, true, false, ◌&&◌, if◌then◌else◌, nat_lt, nat_le, List, ◌∷◌, ◌++◌, Some, refl, ap, ap₂, subst, ◌∙◌, arith, codes}
 use Rattle.std.specs.Fmt.{decimal}
 use Rattle.std.proofs.lemmas.Option.{some_pair_parts}

@@ -1,4 +1,5 @@
 -- Rows, read and written.
+-- Each row is a line; what is read of them lies one behind the other, with nothing besides.
 use Rattle.std.proofs.Common.{◌≡◌, ℕ, zero, suc, ◌+◌, ◌*◌, ◌^◌, ◌<◌, ◌≤◌, List, [], ◌∷◌, ◌++◌, map, length, take, drop, Some, refl, sym, ap, ap₂, subst, ◌∙◌, length-append, arith, codes}
 use Rattle.std.specs.Fmt.{decimal}
 use Rattle.std.proofs.Math.Nat.{suc-mul}

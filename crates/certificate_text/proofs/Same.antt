@@ -1,4 +1,5 @@
 -- The relation by lines and the one text are the same.
+-- The words of a number are its decimal text, so that the lines agree one by one.
 use Rattle.std.proofs.Common.{◌≡◌, ℕ, ◌+◌, ◌^◌, ◌<◌, ◌≤◌, List, [], ◌∷◌, ◌++◌, map, length, All, refl, ap, ap₂, ◌∙◌, arith, codes}
 use Rattle.std.specs.Fmt.{decimal}
 use Rattle.std.specs.List.{AllByRecursion}

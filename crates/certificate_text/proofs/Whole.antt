@@ -1,4 +1,5 @@
 -- The whole text: what is read is spelled so, and what is spelled so is read.
+-- Reading gives one answer, and so bytes spell one certificate, and no text begins another.
 use Rattle.std.proofs.Common.{◌≡◌, ℕ, suc, ◌+◌, ◌-◌, ◌*◌, ◌/◌, ◌^◌, ◌<◌, ◌≤◌, List, [], ◌∷◌, ◌++◌, map, length, get_or, Some, refl, sym, ap, subst, ◌∙◌, append_assoc, arith, codes, All, add-one}
 use Rattle.std.specs.Fmt.{decimal}
 use Rattle.std.specs.List.{AllByRecursion, concat}

@@ -1,4 +1,5 @@
 -- One separating element more is tried.
+-- Of a pair the elements are tried from 0 on: the first that tells it apart is the number given.
 use Rattle.std.proofs.Common.{◌≡◌, ℕ, suc, zero, ◌+◌, ◌-◌, ◌<◌, ◌≤◌, List, [], ◌∷◌, ◌++◌, refl, sym, ◌∙◌, ap, subst, arith, length, drop, get_or}
 use native.Mathlib.Decide.{dec_lt}
 use Rattle.misere_theory.specs.Certificates.{Certificate, InRanges, claim_of, pairs_with, pairs_from, TellsApart, LeastApart}

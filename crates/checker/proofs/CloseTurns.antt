@@ -1,4 +1,5 @@
 -- Turns of the stage that closes the pairs.
+-- They are the closure's own, and the one that keeps a member asks for the rule at it.
 use Rattle.std.proofs.Common.{◌≡◌, ℕ, zero, suc, ◌-◌, ◌<◌, ◌≤◌, Bool, true, false, not, cond, ◌&&◌, nat_lt, List, [], ◌∷◌, ◌++◌, length, length-append, slice_index_or, Result, Ok, Err, inl, inr, refl, sym, ◌∙◌, ap, subst, arith, tests}
 use Rattle.std.specs.List.{list_any}
 use Rattle.std.specs.FinSet as set

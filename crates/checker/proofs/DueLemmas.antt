@@ -1,4 +1,5 @@
 -- What a check has spent is due.
+-- Each stage spends a unit a turn, so that in the end as many were spent as there are turns.
 use Rattle.std.proofs.Common.{◌≡◌, ◌⊎◌, ℕ, ◌+◌, ◌-◌, ◌<◌, ◌≤◌, true, false, List, Some, refl, sym, ap, subst, inl, inr, arith}
 use Rattle.answers.specs.ByteVerdicts.{ByteVerdict}
 use Rattle.answers.specs.ByteVerdicts.ByteVerdict.{Memory}

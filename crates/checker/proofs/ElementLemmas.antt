@@ -1,4 +1,6 @@
 -- One more heap and value are looked at.
+-- Where the contexts of a value and of its option share an element, a move leads from the portion
+-- into it.
 use Rattle.std.proofs.Common.{◌≡◌, ℕ, ◌+◌, ◌<◌, ◌≤◌, ◌⊎◌, Bool, true, false, List, [], ◌∷◌, ◌++◌, length, get_or, refl, sym, ◌∙◌, ap, subst, arith, rules}
 use Rattle.std.specs.FinSet as set
 use Rattle.std.specs.FinSet.{members}

@@ -1,4 +1,5 @@
 -- Turns of the stage that looks at the options of values inside the portion.
+-- What the sets of elements say of a heap and a value is what the turn asks of the certificate.
 use Rattle.std.proofs.Common.{◌≡◌, ℕ, zero, suc, ◌+◌, ◌-◌, ◌<◌, ◌≤◌, Bool, true, false, ◌&&◌, ◌==◌, nat_lt, List, ◌∷◌, length, get_or, slice_index_or, refl, sym, ◌∙◌, subst, arith, tests}
 use Rattle.std.specs.FinSet as set
 use Rattle.std.specs.Ordering.{nat_cmp}

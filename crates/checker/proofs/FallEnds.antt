@@ -1,4 +1,5 @@
 -- A turn of the last stages lowers what a check takes at most, and keeps it sound.
+-- They are those over the pairs of the heaps, whose jobs end, as the crates below tell.
 use Rattle.std.proofs.Common.{◌≡◌, ℕ, suc, ◌+◌, ◌-◌, ◌*◌, ◌<◌, ◌≤◌, Bool, true, false, not, ◌&&◌, ◌||◌, ◌==◌, nat_lt, if◌then◌else◌, List, ◌∷◌, length, refl, sym, ◌∙◌, ap, arith, tests, ltb-true, slice_index_or}
 use Rattle.std.proofs.lemmas.List.FromFn.{length-map-range_with_len}
 use Rattle.std.specs.FinSet as set

@@ -1,4 +1,5 @@
 -- The stages over pairs fit in memory, at most 64 lanes wide and over a small allocator.
+-- A size is put together from the sizes of the parts.
 use Rattle.std.proofs.Common.{◌<◌, ◌≤◌, ◌^◌, ℕ, List, arith}
 use Rattle.std.specs.Borrow.{RattleType}
 use Rattle.std.specs.Mem.{type_size}

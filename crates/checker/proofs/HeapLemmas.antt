@@ -1,4 +1,5 @@
 -- The pairs of the heaps, and what a closure of them says of a certificate.
+-- Members that all obey the rule cover every position; one that breaks it shows where it fails.
 use Rattle.std.proofs.Common.{◌≡◌, ℕ, ◌-◌, ◌<◌, List, length, get_or, Contains, refl, sym, ◌∙◌, ap, subst, arith}
 use Rattle.std.specs.List.{All}
 use Rattle.std.specs.FinSet as set

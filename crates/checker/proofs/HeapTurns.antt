@@ -1,4 +1,5 @@
 -- Turns of the stage that makes the pairs of the heaps.
+-- Each turn tries an option, and once all were tried the pairs are made.
 use Rattle.std.proofs.Common.{◌≡◌, ℕ, zero, suc, ◌+◌, ◌-◌, ◌<◌, ◌≤◌, true, false, nat_lt, List, length, sym, ◌∙◌, ap, subst, arith, tests}
 use Rattle.std.specs.List.{sum_by, range_with_len}
 use Rattle.std.proofs.lemmas.List.Sums.{sum_by-cons}

@@ -1,4 +1,5 @@
 -- The rule at each member as it is kept.
+-- A turn keeps one member at most, so that who looks at the last each time has looked at all.
 use Rattle.std.proofs.Common.{◌≡◌, ◌⊎◌, ℕ, ◌-◌, ◌<◌, Bool, true, false, List, length, get_or, subst, sym, inl, inr, IsTrue, Result, Ok}
 use Rattle.std.specs.FinSet as set
 use Rattle.std.specs.Ordering.{nat_cmp}

@@ -1,4 +1,5 @@
 -- One key more is looked at.
+-- A key that isn't one is told at once; that keys don't rise is told in the end.
 use Rattle.std.proofs.Common.{◌≡◌, ℕ, ◌+◌, ◌-◌, ◌<◌, ◌≤◌, ◌⊎◌, ◌↔◌, Bool, true, false, IsTrue, ◌&&◌, refl, sym, subst, inl, inr, arith}
 use native.Mathlib.Decide.{dec_lt}
 use Rattle.misere_theory.specs.Numbering.{KeyBelow}

@@ -1,4 +1,5 @@
 -- One product more is looked at.
+-- The products before it, row by row, have no smaller key than their own.
 use Rattle.std.proofs.Common.{◌≡◌, ℕ, ◌+◌, ◌<◌, ◌≤◌, subst, inl, inr, arith}
 use native.Mathlib.Decide.{dec_lt, ℕ_discrete}
 use Rattle.misere_theory.specs.Numbering.{KeyBelow}

@@ -1,4 +1,5 @@
 -- The turn that reads.
+-- What is read to the end goes on to the laws, and bytes that spell nothing end the check.
 use Rattle.std.proofs.Common.{◌≡◌, ℕ, List, [], ◌∷◌, Option, Some, None, refl, sym, ap}
 use Rattle.misere_theory.specs.Certificates.{Certificate}
 use Rattle.certificate_text.specs.Reading.{certificate_at}

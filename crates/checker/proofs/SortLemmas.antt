@@ -1,4 +1,5 @@
 -- The same heaps, rising, are one list.
+-- So a position that the keys of an element spell is one list, in whatever order it was made.
 use Rattle.std.proofs.Common.{◌≡◌, ℕ, zero, suc, ◌<◌, ◌≤◌, true, false, nat_lt, List, [], ◌∷◌, IsPermutation, refl, sym, ◌∙◌, ap, arith, tests, ◌==◌}
 use Rattle.std.specs.List.Sorted.{IsNonDecreasing}
 use native.Mathlib.Decide.{dec_lt}

@@ -1,4 +1,5 @@
 -- The positions that keys spell.
+-- The order of heaps matters to nothing here: a move that leads in shows where the rule fails.
 use Rattle.std.proofs.Common.{◌≡◌, ℕ, ◌<◌, List, ◌∷◌, sym, ◌∙◌, ap, inl, inr, arith, IsPermutation}
 use Rattle.misere_theory.specs.Games.{IsPosition}
 use Rattle.misere_theory.specs.Quotients.{value, OptionValue, RuleFails}

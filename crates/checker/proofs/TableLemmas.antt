@@ -1,4 +1,5 @@
 -- What the looks at a table say of the certificate whose rows it has.
+-- The certificate's product is the table's at all elements, and so are its laws.
 use Rattle.std.proofs.Common.{◌≡◌, ℕ, suc, zero, ◌<◌, Bool, true, false, refl, sym, ◌∙◌, ap, subst, if◌then◌else◌, arith}
 use Rattle.misere_theory.specs.Quotients.{Monoid, LawFails}
 use Rattle.misere_theory.specs.Quotients.LawFails.{Identity, Commutativity, Associativity}

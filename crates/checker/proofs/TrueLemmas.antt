@@ -1,4 +1,5 @@
 -- What a check answers in the end is true of the bytes.
+-- Reading begins with it, each turn keeps it, and the verdict is where the turns end.
 use Rattle.std.proofs.Common.{◌≡◌, ◌≢◌, ℕ, zero, suc, ◌+◌, List, [], ◌∷◌, Option, Some, None, refl, sym, ◌∙◌, ap, subst}
 use Rattle.misere_theory.specs.Certificates.{Certificate, InRanges}
 use Rattle.certificate_text.specs.Spelling.{Spells}

@@ -1,4 +1,5 @@
 -- Turns of a stage.
+-- None, one, and one more after others; and the turns of the stage that looks at keys.
 use Rattle.std.proofs.Common.{◌≡◌, ℕ, suc, ◌+◌, ◌-◌, ◌<◌, ◌≤◌, Bool, true, false, ◌&&◌, nat_lt, List, refl, sym, ◌∙◌, ap, subst, arith, tests}
 use native.Mathlib.Decide.{dec_lt}
 use Rattle.misere_theory.specs.Certificates.{Certificate}

@@ -1,4 +1,5 @@
 -- Units that are left.
+-- A turn leaves fewer places to look at; and heaps, and the turns for their pairs, are few.
 use Rattle.std.proofs.Common.{◌≡◌, Ok, Err, List, [], ◌∷◌, length, length-append, ◌≢◌, ◌==◌, ◌||◌, eq-eqb, ℕ, suc, zero, ◌+◌, ◌-◌, ◌*◌, ◌<◌, ◌≤◌, Bool, true, false, not, refl, arith, inl, inr, eq-zero-or-pos, if◌then◌else◌}
 use Rattle.std.proofs.lemmas.Nat.{mul-le}
 use Rattle.monoid_table.specs.Turns.{JobState, triples, turn, turns, is_over, triple_holds}

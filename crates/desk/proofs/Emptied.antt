@@ -1,4 +1,5 @@
 -- A slot is emptied.
+-- Its core stays where another slot has it, and goes where none has.
 use Rattle.std.proofs.Common.{◌≡◌, ◌≢◌, ℕ, ◌≤◌, ◌==◌, Bool, true, false, if◌then◌else◌, List, length, Option, Some, None, refl, sym, ◌∙◌, ap, subst, get_or}
 use Rattle.std.proofs.lemmas.Bool.{eqb-true}
 use Rattle.checker.specs.JobViews.{JobView}

@@ -1,4 +1,5 @@
 -- A job whose core has ended.
+-- What is replied is the core's answer, and a yes gives its certificate.
 use Rattle.std.proofs.Common.{◌≡◌, ℕ, List, Option, Some, None, refl, sym, ◌∙◌, ap, subst, get_or, Ok, Err}
 use Rattle.answers.specs.ByteVerdicts.{ByteVerdict, refused}
 use Rattle.answers.specs.ByteVerdicts.ByteVerdict.{Yes}

@@ -1,4 +1,5 @@
 -- There are no more places for cores than for jobs.
+-- A place is added only where each has a core; a core has a slot, and a slot has one core.
 use Rattle.std.proofs.Common.{◌≡◌, ◌≢◌, ◌⊎◌, ℕ, ◌+◌, ◌<◌, ◌≤◌, ◌==◌, Bool, true, false, List, length, map, Option, Some, None, refl, sym, ◌∙◌, ap, inl, inr, arith, get_or, set, eqb}
 use Rattle.std.proofs.lemmas.Bool.{eqb-true, eq-eqb}
 use Rattle.std.proofs.lemmas.List.{get_or-map, length-map, length-set}

@@ -1,4 +1,5 @@
 -- A slot is filled.
+-- Its core, of the job's bytes and limit, is found or added; the other jobs are seen as before.
 use Rattle.std.proofs.Common.{◌≡◌, ◌≢◌, ◌⊎◌, ℕ, ◌<◌, ◌≤◌, ◌+◌, ◌==◌, Bool, true, false, if◌then◌else◌, List, length, Option, Some, None, refl, sym, ◌∙◌, ap, subst, inl, inr, arith, get_or, ◌++◌, ◌∷◌, []}
 use Rattle.std.proofs.lemmas.Bool.{eqb-true}
 use Rattle.std.proofs.lemmas.List.{get_or_past}

@@ -1,4 +1,5 @@
 -- The least free number.
+-- Slots and the jobs that are seen have the same numbers free.
 use Rattle.std.proofs.Common.{◌≡◌, ℕ, ◌≤◌, Bool, true, false, if◌then◌else◌, List, Option, Some, None, refl, sym, ◌∙◌, ap, arith, get_or, not}
 use Rattle.checker.specs.JobViews.{JobView}
 use Rattle.desk.specs.declared.slot.Slot.{Slot}

@@ -1,4 +1,5 @@
 -- What one client sees of a run depends on its own calls alone.
+-- A step of its own gives one reply and one state of its jobs; a step of another changes none.
 use Rattle.std.proofs.Common.{◌≡◌, ◌≢◌, ℕ, ◌==◌, Bool, true, false, if◌then◌else◌, List, [], ◌∷◌, Option, Some, None, refl, sym, ◌∙◌, ap, subst, inl, inr, arith, suc}
 use Rattle.std.proofs.lemmas.Bool.{eqb-true, eq-eqb}
 use Rattle.misere_theory.proofs.Outcomes.{not_both}

@@ -1,4 +1,5 @@
 -- Steps of the machine.
+-- What a call does to slots and cores is a step on the jobs that are seen.
 use Rattle.std.proofs.Common.{◌≡◌, ◌≢◌, ℕ, ◌+◌, ◌≤◌, ◌==◌, Bool, true, false, if◌then◌else◌, List, Option, Some, None, refl, sym, ◌∙◌, ap, subst, inl, inr, get_or, min}
 use Rattle.std.proofs.lemmas.Bool.{eqb-true}
 use mathlib.Core.Path.{fun_ext}

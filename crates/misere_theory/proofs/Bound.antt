@@ -1,4 +1,6 @@
 -- Heaps of any size have the pairs of the heaps 1 to B.
+-- From some size on, an option has a part to which a period can be added, or from which one can be
+-- taken: the value stays.
 use Rattle.std.proofs.Common.{◌≡◌, ℕ, suc, zero, ◌+◌, ◌-◌, ◌*◌, ◌<◌, ◌≤◌, List, [], ◌∷◌, refl, sym, ◌∙◌, ap, subst, inl, inr, true, false, arith, IsBitSet}
 use native.Mathlib.Decide.{dec_le}
 use Rattle.misere_theory.specs.Games.{digit, leaves_three, HeapOption, IsHeapUpTo}

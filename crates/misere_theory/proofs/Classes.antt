@@ -1,5 +1,7 @@
 -- Indistinguishable positions form classes that sums respect, and a game has one misère quotient,
 -- up to the numbering.
+-- Parts of sums are exchanged one at a time. An element's partner is the other claim's value of a
+-- position that has it.
 use Rattle.std.proofs.Common.{◌≡◌, ℕ, ◌<◌, List, [], ◌∷◌, ◌++◌, sym, ◌∙◌, ap, ap₂, subst, append_assoc}
 use Rattle.std.proofs.lemmas.List.Sorted.{IsPermutation-append_comm}
 use native.Mathlib.Decide.{dec_lt}

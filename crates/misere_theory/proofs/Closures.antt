@@ -1,5 +1,6 @@
 -- A closed set of pairs covers the pair of every position, and the rule need only be tested at its
 -- members.
+-- By induction on the position: one heap more, and a member that covers the product.
 use Rattle.std.proofs.Common.{◌≡◌, ℕ, ◌<◌, ◌⊎◌, true, false, List, [], ◌∷◌, ◌++◌, refl, sym, ◌∙◌, ap, subst, inl, inr}
 use Rattle.std.proofs.lemmas.Bool.{true≢false}
 use Rattle.misere_theory.specs.Games.{HeapOption, Move, IsPosition}

@@ -1,4 +1,5 @@
 -- Which codes have a digit with bit 8, and which are octal.
+-- By induction on the digits.
 use Rattle.std.proofs.Common.{◌≡◌, ◌↔◌, ℕ, zero, suc, ◌<◌, ◌≤◌, List, [], ◌∷◌, length, refl, sym, ap, ◌∙◌, subst, true, false, not, ◌||◌, eqb, nat_lt, bit_and, lt-ltb, le-ltb, arith, All, IsBitSet}
 use Rattle.std.specs.List.{list_any, AllByRecursion}
 use Rattle.std.proofs.lemmas.Bool.{true≢false}

@@ -1,4 +1,5 @@
 -- Whole games and their parts have the same facts: which heaps count, and which show all pairs.
+-- By the two cases: no last heap, or one.
 use Rattle.std.proofs.Common.{◌≡◌, ℕ, ◌-◌, ◌<◌, ◌≤◌, List, [], ◌∷◌, get_or, refl, inl, inr, arith, eq-zero-or-pos, eq-eqb, ne_eqb}
 use Rattle.misere_theory.specs.Games.{IsHeap, IsHeapUpTo, IsPosition}
 use Rattle.misere_theory.specs.Quotients.{Claim, Represents, ReachesMoreThan}

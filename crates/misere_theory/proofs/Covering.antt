@@ -1,4 +1,5 @@
 -- A list of members stays closed where a member gives way to one that covers it.
+-- Since a pair covers itself, and what covers a pair covers all that it covers.
 use Rattle.std.proofs.Common.{refl, ◌∙◌}
 use Rattle.misere_theory.specs.Pairs.{Pair, PairCovers}
 

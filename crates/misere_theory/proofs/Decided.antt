@@ -1,5 +1,6 @@
 -- The rule holds at every position, or fails at one: words of at most order * 2 ^ order heaps up to
 -- B show every pair.
+-- A longer word has two suffixes with one pair, and what stands between them can be left out.
 use Rattle.std.proofs.Common.{◌≡◌, ℕ, zero, suc, ◌+◌, ◌*◌, ◌^◌, ◌<◌, ◌≤◌, ◌⊎◌, List, [], ◌∷◌, ◌++◌, length, refl, sym, ◌∙◌, ap, ap₂, subst, inl, inr, arith, AllPairs, All}
 use Rattle.std.proofs.lemmas.List.Kept.{AllPairs-cons}
 use Rattle.std.proofs.lemmas.List.Elements.{All-cons}

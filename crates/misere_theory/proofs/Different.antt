@@ -1,4 +1,5 @@
 -- Exact pairs that differ are pairs of positions that differ.
+-- Were the pairs of the positions the same, so would the exact ones be.
 use Rattle.std.proofs.Common.{◌≡◌, ℕ, zero, suc, ◌+◌, ◌<◌, List, [], ◌∷◌, length, get_or, refl, sym, ◌∙◌, ap, subst, arith}
 use Rattle.misere_theory.specs.Games.{IsPosition}
 use Rattle.misere_theory.specs.Quotients.{Claim, SamePair, ReachesMoreThan}

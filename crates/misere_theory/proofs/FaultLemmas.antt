@@ -1,4 +1,5 @@
 -- A certificate is canonical exactly where it has none of the faults 3 to 6.
+-- Each part of the form can be tested, and where its test fails the certificate has that fault.
 use Rattle.std.proofs.Common.{◌≡◌, ◌≢◌, ℕ, suc, zero, ◌+◌, ◌-◌, ◌<◌, ◌≤◌, ◌⊎◌, Bool, true, false, List, [], ◌∷◌, refl, subst, inl, inr, arith, length, get_or}
 use Rattle.std.proofs.lemmas.List.Elements.{All-get_or}
 use Rattle.std.specs.List.{AllZip}

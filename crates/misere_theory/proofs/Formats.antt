@@ -1,4 +1,5 @@
 -- In which format a certificate is spelled.
+-- By cases of the three tests: the code, the order and the period.
 use Rattle.std.proofs.Common.{◌≡◌, ℕ, ◌<◌, ◌≤◌, ◌⊎◌, ◌↔◌, Bool, true, false, ◌&&◌, if◌then◌else◌, refl, inl, inr, arith, nat_lt, nat_le, lt-ltb, le-ltb, le-leb, leb-true, leb-false, ltb-true, ltb-false}
 use Rattle.std.proofs.lemmas.Bool.{lt-leb}
 use Rattle.misere_theory.specs.declared.TheConstants.{LARGEST_FIRST_ORDER}

@@ -1,4 +1,5 @@
 -- What an option leaves, put in order.
+-- Up to three parts are sorted by insertion.
 use Rattle.std.proofs.Common.{◌≡◌, ℕ, zero, suc, ◌+◌, ◌<◌, ◌≤◌, List, [], ◌∷◌, get_or, arith}
 use Rattle.std.specs.List.Sorted.{IsNonDecreasing}
 use native.Mathlib.Decide.{dec_le}

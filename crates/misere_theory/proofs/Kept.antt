@@ -1,4 +1,5 @@
 -- A closed list of kept pairs over the heaps 1 to B speaks for every position.
+-- The theorem of Closures, with each heap shown by one up to B that has its pair.
 use Rattle.std.proofs.Common.{◌≡◌, ℕ, ◌<◌, true, false, List, refl, sym, ◌∙◌, ap, inl, inr, Contains}
 use Rattle.misere_theory.specs.Games.{IsHeapUpTo, IsPosition}
 use Rattle.misere_theory.proofs.Sums.{heaps_up_to_kept, IsKept}

@@ -1,4 +1,5 @@
 -- A position less one heap, in any order; so a move of a heap leads to one position.
+-- By induction on how one order is made from the other.
 use Rattle.std.proofs.Common.{◌≡◌, ℕ, ◌⊎◌, List, [], ◌∷◌, ◌++◌, refl, inl, inr, IsPermutation}
 use native.Mathlib.Decide.{ℕ_discrete}
 use Rattle.misere_theory.specs.Games.{HeapMove}

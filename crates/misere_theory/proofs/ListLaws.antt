@@ -1,4 +1,5 @@
 -- Membership in lists over a range, and lists whose items are apart.
+-- By induction on the range or the list.
 use Rattle.std.proofs.Common.{◌≡◌, ℕ, zero, suc, ◌+◌, ◌<◌, ◌≤◌, inl, inr, List, [], ◌∷◌, ◌++◌, map, subst, arith, All}
 use Rattle.std.specs.List.{flat_map, range_with_len, Contains, AllPairs}
 use Rattle.std.proofs.lemmas.List.Elements.{Contains-append_left, Contains-append_right, Contains-append_cases, Contains-push, Contains-push_cases, All-weaker, All-append, All-contains_itself}

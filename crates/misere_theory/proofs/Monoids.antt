@@ -1,4 +1,5 @@
 -- A product below an order is a commutative monoid exactly where no law fails.
+-- Numbers are equal or not: a law that fails nowhere holds.
 use Rattle.std.proofs.Common.{◌≡◌, ℕ, ◌<◌, [], length, All, arith, get_or}
 use Rattle.std.proofs.lemmas.List.Elements.{All-get_or}
 use native.Mathlib.Decide.{ℕ_discrete}

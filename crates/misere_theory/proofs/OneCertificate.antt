@@ -1,4 +1,5 @@
 -- A code has one accepted certificate of a kind at most.
+-- Two such have the same numbers by SameClaims, and the numbers determine each line.
 use Rattle.std.proofs.Common.{◌≡◌, ℕ, suc, zero, ◌+◌, ◌-◌, ◌<◌, ◌≤◌, Bool, false, ◌||◌, ◌==◌, List, [], ◌∷◌, ◌++◌, refl, sym, ◌∙◌, ap, ap₂, subst, arith, length, get_or, eq-eqb, ne_eqb, All, inl, inr, eq-zero-or-pos}
 use Rattle.std.proofs.Math.Seq.{ext_get_or}
 use Rattle.std.proofs.lemmas.Grind.{same_number_lists}

@@ -1,4 +1,5 @@
 -- Each position is P or N, and none is both.
+-- By induction on the measure. A position has finitely many moves, and so they can be searched.
 use Rattle.std.proofs.Common.{◌≡◌, ℕ, suc, zero, ◌+◌, ◌-◌, ◌<◌, ◌≤◌, ◌⊎◌, List, [], ◌∷◌, ◌++◌, refl, sym, subst, inl, inr, arith, bit_and, ◌^◌, IsBitSet, eq-zero-or-pos, eq-or-lt_of_le, le_of_suc-le-suc}
 use native.Mathlib.Decide.{dec_le}
 use Rattle.misere_theory.specs.Games.{digit, HeapOption, Move, measure, IsP, IsN}

@@ -1,4 +1,6 @@
 -- Positions have at most order * 2 ^ order different pairs.
+-- A pair has a number: its value, and the values of its options as bits. Different pairs have
+-- different numbers.
 use Rattle.std.proofs.Common.{◌≡◌, ℕ, suc, zero, ◌+◌, ◌*◌, ◌^◌, ◌<◌, ◌≤◌, ◌↔◌, ◌⊎◌, Bool, true, false, cond, List, [], ◌∷◌, refl, sym, ◌∙◌, ap, ap₂, subst, inl, inr, arith, length, map, get_or, AllPairs, eqb, eqb-true, ne_eqb, ◌||◌, mul-le-mul_right, pow-suc}
 use Rattle.std.proofs.Math.ListN.{length-map}
 use Rattle.std.specs.List.{list_any, IsDistinct, AllByRecursion}

@@ -1,4 +1,5 @@
 -- The pair of a sum is the product of the pairs.
+-- A move of a sum is a move of one of the two.
 use Rattle.std.proofs.Common.{◌≡◌, ℕ, ◌↔◌, List, ◌++◌, refl, sym, ◌∙◌, ap, inl, inr}
 use Rattle.misere_theory.specs.Games.{IsPosition}
 use Rattle.misere_theory.specs.Quotients.{Claim, Monoid, GivesElements, value, OptionValue, SumOptionValue}

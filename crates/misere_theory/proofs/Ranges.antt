@@ -1,4 +1,5 @@
 -- Ranges of numbers, and sums over them.
+-- By induction on the length.
 use Rattle.std.proofs.Common.{◌≡◌, ℕ, zero, suc, ◌+◌, ◌*◌, ◌<◌, ◌≤◌, [], ◌∷◌, refl, ◌∙◌, ap, arith}
 use Rattle.std.specs.List.{sum_by, range_with_len}
 use Rattle.std.proofs.lemmas.List.Sums.{sum_by-cons}

@@ -1,4 +1,5 @@
 -- Which positions moves reach.
+-- By induction on the moves.
 use Rattle.std.proofs.Common.{ℕ, List, IsPermutation}
 use Rattle.std.proofs.lemmas.List.Sorted.{IsPermutation-refl, IsPermutation-trans}
 use Rattle.misere_theory.specs.Games.{Move, MultisetMove, IsPosition, IsHeap}

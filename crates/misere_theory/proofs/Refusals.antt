@@ -1,5 +1,6 @@
 -- Where a test of the checker fails, the rule fails at a position that can be handed out; where the
 -- rule holds everywhere, each test passes.
+-- A kept pair is exactly that of its word, and so the word is such a position.
 use Rattle.std.proofs.Common.{◌≡◌, ℕ, true, false, List, ◌∷◌, ◌++◌, refl, sym, ◌∙◌, ap, inl, inr, Contains}
 use Rattle.misere_theory.specs.Games.{IsPosition}
 use Rattle.misere_theory.specs.Games.Move.{Here}

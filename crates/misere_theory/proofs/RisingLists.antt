@@ -1,4 +1,6 @@
 -- Rising lists with the same elements are the same.
+-- A first element that is smaller than the other's is missing there; so the first ones are equal,
+-- and then the rests.
 use Rattle.std.proofs.Common.{◌≡◌, ℕ, suc, ◌+◌, ◌<◌, ⊎_elim, cond, eqb, List, [], ◌∷◌, refl, sym, ap, ap₂, ◌∙◌, arith, All, sum_by}
 use Rattle.std.specs.List.Sorted.{IsNonDecreasing, IsPermutation}
 use Rattle.std.proofs.lemmas.Bool.{cases_lt}

@@ -1,4 +1,6 @@
 -- Two claims that represent one code's game, with least periods and keys, are the same numbers.
+-- By induction on the elements: neither claim's next key is below the other's, since each is the
+-- least.
 use Rattle.std.proofs.Common.{◌≡◌, ℕ, suc, zero, ◌+◌, ◌-◌, ◌*◌, ◌<◌, ◌≤◌, List, [], ◌∷◌, ◌++◌, refl, sym, ◌∙◌, ap, ap₂, subst, inl, inr, arith, eq-zero-or-pos}
 use native.Mathlib.Decide.{dec_lt, dec_le}
 use Rattle.misere_theory.specs.Games.{IsHeap, IsPosition}

@@ -1,4 +1,5 @@
 -- The order of a position's heaps does not matter.
+-- By induction on how one order is made from the other, by exchanges of neighbours.
 use Rattle.std.proofs.Common.{◌≡◌, ℕ, suc, zero, ◌<◌, List, [], ◌∷◌, ◌++◌, refl, sym, ◌∙◌, ap, inl, inr, IsPermutation, swap, length, get_or, set, not-suc-le-zero, le_of_suc-le-suc}
 use Rattle.std.proofs.lemmas.List.Sorted.{IsPermutation-keeps, IsPermutation-refl, IsPermutation-sym, IsPermutation-cons, IsPermutation-trans, IsPermutation-middle}
 use Rattle.misere_theory.specs.Games.{HeapOption, Move, MultisetMove, IsP, IsN, IsPosition}

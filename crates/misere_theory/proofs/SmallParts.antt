@@ -1,5 +1,6 @@
 -- Of the splits of a heap those whose parts but the largest are below start + period show all
 -- values.
+-- A period is moved from a smaller part to the largest, again and again: the value stays.
 use Rattle.std.proofs.Common.{◌≡◌, ℕ, zero, suc, ◌+◌, ◌-◌, ◌<◌, ◌≤◌, ◌⊎◌, List, [], ◌∷◌, refl, sym, ◌∙◌, ap, ap₂, inl, inr, true, arith, eq-zero-or-pos, IsBitSet}
 use Rattle.std.specs.List.Sorted.{IsNonDecreasing}
 use native.Mathlib.Decide.{dec_le, ℕ_discrete}

@@ -1,4 +1,5 @@
 -- Elements are the values of what their keys spell; a period shows within its own length.
+-- By induction on the element, whose key has a smaller one, and on the heap, a period at a time.
 use Rattle.std.proofs.Common.{◌≡◌, ℕ, zero, suc, ◌+◌, ◌-◌, ◌<◌, ◌≤◌, List, [], ◌∷◌, refl, sym, ◌∙◌, ap, subst, inl, inr, arith, eq-zero-or-pos}
 use native.Mathlib.Decide.{dec_lt}
 use Rattle.misere_theory.specs.Games.{IsPosition}

@@ -1,4 +1,5 @@
 -- Moves, sizes and values of a sum of positions.
+-- By induction on the heaps of the first part.
 use Rattle.std.proofs.Common.{◌≡◌, ℕ, ◌+◌, ◌-◌, ◌*◌, ◌<◌, ◌⊎◌, List, [], ◌∷◌, ◌++◌, refl, sym, ◌∙◌, ap, inl, inr, append_assoc, arith}
 use Rattle.misere_theory.specs.Games.{HeapOption, Move, measure, IsPosition, IsHeap, IsHeapUpTo}
 use Rattle.misere_theory.specs.Games.HeapOption.{Nothing, One, Two, Three}

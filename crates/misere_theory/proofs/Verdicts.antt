@@ -1,5 +1,6 @@
 -- What each answer to a certificate says of the others, and of a certificate that is accepted or
 -- isn't.
+-- By cases of the answer.
 use Rattle.std.proofs.Common.{◌≡◌, ℕ, ◌*◌, ◌^◌, ◌<◌, ◌≤◌, ◌⊎◌, List, length, ◌-◌, refl, ap, inl, inr, arith}
 use Rattle.misere_theory.specs.Games.{IsPosition}
 use Rattle.misere_theory.specs.Quotients.{Monoid, Represents, RuleFails, GivesElements}

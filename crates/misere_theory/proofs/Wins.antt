@@ -1,4 +1,5 @@
 -- The first winning move: there is one wherever some move wins, and whoever answers by it wins.
+-- Among the winning moves of a heap one has the least numbers, in the order of the definition.
 use Rattle.std.proofs.Common.{◌≡◌, ℕ, zero, suc, ◌-◌, ◌<◌, ◌≤◌, ◌⊎◌, List, [], ◌∷◌, ◌++◌, length, get_or, sum, refl, sym, ap, ap₂, subst, inl, inr, arith}
 use Rattle.std.proofs.lemmas.List.Sorted.{IsPermutation-refl}
 use native.Mathlib.Decide.{dec_lt, ℕ_discrete}

@@ -1,4 +1,6 @@
 -- What the ranges and the canonical form of a certificate give its claim.
+-- A heap past the phi line has the entry of its place in the period. Keys lead from each element
+-- down to 0.
 use Rattle.std.proofs.Common.{◌≡◌, ℕ, suc, zero, ◌+◌, ◌-◌, ◌%◌, ◌<◌, ◌≤◌, List, [], ◌∷◌, ◌++◌, refl, sym, ◌∙◌, ap, ap₂, subst, inl, inr, arith, length, get_or, nat_lt, eq-zero-or-pos, lt-ltb, le-ltb, if◌then◌else◌}
 use Rattle.std.proofs.Math.Nat.{add-mod_left, mod-eq_of_lt}
 use Rattle.std.proofs.lemmas.List.{get_or_past}

@@ -1,4 +1,5 @@
 -- A closure ends: each turn lowers what is left to do.
+-- Left are the products of members still to come, those of members held, and the heaps not tried.
 use Rattle.std.proofs.Common.{◌≡◌, ℕ, zero, suc, ◌+◌, ◌-◌, ◌*◌, ◌<◌, ◌≤◌, Bool, true, false, cond, not, List, [], ◌∷◌, ◌++◌, length, get_or, set, refl, sym, ap, ◌∙◌, subst, inl, inr, ◌⊎◌, arith, nat_lt, lt-ltb, le-ltb, ltb-true, ltb-false, filter, length-append, suc-mul}
 use Rattle.std.proofs.lemmas.List.Sums.{passes_at_first}
 use Rattle.monoid_table.specs.Grids.{Grid}

@@ -1,4 +1,5 @@
 -- What calls come to, as the code goes.
+-- A call takes turns until it ends or its units are spent, and so it comes to one state.
 use Rattle.std.proofs.Common.{◌≡◌, ℕ, zero, suc, ◌+◌, ◌*◌, ◌<◌, ◌≤◌, ◌↔◌, Bool, true, false, ◌||◌, List, length, refl, sym, ap, ◌∙◌, subst, inl, inr, arith, nat_lt, lt-ltb, le-ltb}
 use native.Mathlib.Decide.{dec_lt}
 use Rattle.monoid_table.specs.Grids.{Grid}

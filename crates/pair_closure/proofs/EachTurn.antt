@@ -1,4 +1,5 @@
 -- Each turn keeps what the invariant says.
+-- By the kind of the turn: a product, or a heap.
 use Rattle.std.proofs.Common.{◌≡◌, ℕ, ◌+◌, ◌-◌, ◌<◌, ◌≤◌, true, false, [], ◌∷◌, ◌++◌, length, get_or, set, refl, sym, ap, ap₂, ◌∙◌, subst, inl, inr, arith, nat_lt, ltb-true, ltb-false, length-append}
 use Rattle.std.proofs.lemmas.List.{get_or_append_left}
 use Rattle.std.proofs.lemmas.List.Sums.{passes_at_first}

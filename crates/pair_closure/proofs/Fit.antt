@@ -1,4 +1,5 @@
 -- What is made of vectors over a small allocator fits in memory, however many lanes its sets have.
+-- Field by field, by the layouts of transition_algebra.
 use Rattle.std.proofs.Common.{◌<◌, ◌^◌, ℕ, arith}
 use Rattle.std.specs.Borrow.{RattleType}
 use Rattle.std.specs.Mem.{type_size}

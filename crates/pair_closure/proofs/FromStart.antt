@@ -1,4 +1,5 @@
 -- What every turn keeps holds after each number of turns.
+-- By induction on the turns, of which the first keeps the pair of the empty position.
 use Rattle.std.proofs.Common.{◌≡◌, ℕ, zero, suc, true, List, [], ◌∷◌, refl, sym, ap, subst, inl, inr, ◌⊎◌, arith, nat_lt, ltb-true}
 use Rattle.monoid_table.specs.Grids.{Grid}
 use Rattle.monoid_table.specs.Tables.{IsTableGrid}

@@ -1,4 +1,5 @@
 -- What turns up to one that keeps a member leave of those held.
+-- By induction on the turns, of which all but the last keep none.
 use Rattle.std.proofs.Common.{◌≡◌, ℕ, zero, suc, ◌-◌, ◌<◌, Bool, not, List, [], ◌∷◌, ◌++◌, length, length-append, get_or, set, filter, refl, sym, ap, ◌∙◌, subst, inl, inr, arith, nat_lt}
 use native.Mathlib.Decide.{dec_lt}
 use Rattle.std.proofs.lemmas.List.{get_or_append_left, length-set}

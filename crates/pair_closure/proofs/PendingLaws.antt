@@ -1,4 +1,5 @@
 -- The first member held that some generator hasn't multiplied.
+-- By what the first place that passes a test says of those before it.
 use Rattle.std.proofs.Common.{◌≡◌, ℕ, zero, suc, ◌<◌, Bool, true, false, cond, not, List, [], ◌∷◌, ◌++◌, length, get_or, set, refl, sym, ap, ◌∙◌, arith, ◌||◌, filter, nat_lt, lt-ltb, le-ltb}
 use Rattle.std.specs.List.{list_any}
 use Rattle.std.proofs.lemmas.List.Sums.{position_or_len_is}

@@ -1,4 +1,5 @@
 -- Heaps in their rising order.
+-- By insertion: in whatever order heaps are put in, the same list rises.
 use Rattle.std.proofs.Common.{◌≡◌, ℕ, suc, ◌<◌, ◌≤◌, true, false, cond, List, [], ◌∷◌, refl, sym, ap, ◌∙◌, inl, inr, arith, nat_lt, ltb-true, ltb-false, le-ltb, lt-ltb}
 use Rattle.std.specs.List.Sorted.{IsNonDecreasing, IsPermutation}
 use Rattle.misere_theory.proofs.Shuffles.{Shuffled, from_permutation}

@@ -1,4 +1,5 @@
 -- Turns one after another.
+-- By induction on their number.
 use Rattle.std.proofs.Common.{◌≡◌, ℕ, zero, suc, ◌+◌, ◌-◌, ◌≤◌, Bool, true, false, cond, [], ◌∷◌, ◌++◌, length, length-append, get_or, refl, sym, ap, ◌∙◌, arith, nat_lt}
 use Rattle.transition_algebra.specs.Pairs.{one}
 use Rattle.pair_closure.specs.OverSets.{Member}

@@ -1,4 +1,5 @@
 -- What follows from the turns that a call took.
+-- By cases: all units were spent, the call ended, or a growth was refused.
 use Rattle.std.proofs.Common.{◌≡◌, ℕ, zero, suc, ◌+◌, ◌<◌, ◌≤◌, ◌↔◌, Bool, true, false, length, refl, sym, ap, ◌∙◌, subst, inl, inr, arith, nat_lt, ltb-false, Result, Ok, Err, OnOk, OnErr, IsErr}
 use native.Mathlib.Decide.{dec_lt}
 use Rattle.pair_closure.specs.Turns.{SameData, has_ended}

@@ -1,5 +1,7 @@
 -- What a state reached by turns says: of its words, and, once it is done, of every product of
 -- heaps.
+-- A product by a generator keeps what is covered covered, and so does one by any product of
+-- generators.
 use Rattle.std.proofs.Common.{◌≡◌, ℕ, zero, suc, ◌-◌, ◌<◌, ◌≤◌, true, List, [], ◌∷◌, length, get_or, refl, sym, ap, ◌∙◌, subst, inl, inr, arith}
 use Rattle.std.specs.List.{AllByRecursion}
 use Rattle.monoid_table.specs.Laws.{CommMonoidLaws}

@@ -1,4 +1,5 @@
 -- What each kind of turn reads, and what it leaves.
+-- The empty position, a product and a heap, one after another.
 use Rattle.std.proofs.Common.{◌≡◌, ℕ, ◌+◌, ◌<◌, ◌≤◌, Bool, true, false, cond, List, [], ◌∷◌, length, get_or, set, refl, sym, ap, ap₂, ◌∙◌, subst, inl, inr, arith}
 use Rattle.std.proofs.lemmas.List.{length-append}
 use Rattle.transition_algebra.specs.OverSets.{Pair}

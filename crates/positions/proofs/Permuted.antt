@@ -1,4 +1,5 @@
 -- What a move leaves, added to the other heaps.
+-- Each heap that is added is one more of a permutation, so that no order matters.
 use Rattle.std.proofs.Common.{◌≡◌, ℕ, ◌<◌, ◌≤◌, List, [], ◌∷◌, ◌++◌, length, get_or, take, ◌+◌, sym, ◌∙◌, ap, subst, append_assoc, arith, All}
 use Rattle.std.specs.List.{Contains, remove}
 use Rattle.std.specs.List.Sorted.{IsPermutation}

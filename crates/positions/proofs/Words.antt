@@ -1,4 +1,5 @@
 -- Texts of sizes, word by word.
+-- The survey of the words before a place, and of one word more; a size too large is capped.
 use Rattle.std.proofs.Common.{◌≡◌, ◌≢◌, ℕ, suc, ◌+◌, ◌-◌, ◌*◌, ◌<◌, ◌≤◌, true, false, eqb, List, [], ◌∷◌, ◌++◌, length, get_or, take, drop, map, min, sym, ap, ◌∙◌, subst, arith, ⊎_elim, All, append_assoc}
 use Rattle.std.specs.Int.Digits.{number_from_digits}
 use Rattle.std.proofs.Math.Seq.{split_at, get_or-append_seam}

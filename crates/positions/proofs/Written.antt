@@ -1,4 +1,5 @@
 -- What is written reads as the text of the position.
+-- The decimal text of a size is a numeral without a space, so that spaces part it from the next.
 use Rattle.std.proofs.Common.{◌≡◌, ◌≢◌, ℕ, ◌+◌, ◌-◌, ◌*◌, ◌/◌, ◌%◌, ◌^◌, ◌<◌, ◌≤◌, eqb, false, List, [], ◌∷◌, ◌++◌, length, get_or, take, map, decimal, refl, sym, ap, ◌∙◌, subst, arith, append_assoc, All}
 use Rattle.std.specs.Int.Digits.{number_from_digits}
 use Rattle.std.specs.List.{AllZip}

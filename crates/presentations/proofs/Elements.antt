@@ -1,4 +1,5 @@
 -- The numbered classes and their rows are the monoid of the least congruence.
+-- A vector's element is the number of its class, and the rows add vectors.
 use Rattle.std.proofs.Common.{◌≡◌, ℕ, zero, suc, ◌+◌, ◌-◌, ◌*◌, ◌/◌, ◌%◌, ◌<◌, ◌≤◌, List, length, sym, ap, ap₂, ◌∙◌, inl, inr, arith, subst}
 use Rattle.std.specs.Prelude.{slice_index, ◌↔◌}
 use Rattle.std.proofs.lemmas.Bool.{cases_eq}

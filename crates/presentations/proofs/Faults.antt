@@ -1,4 +1,5 @@
 -- What the exit of a `?` answers.
+-- By cases of the result.
 use Rattle.std.proofs.Common.{◌≡◌, refl, sym, ap, ◌∙◌, subst}
 use Rattle.std.specs.Prelude.{◌≢◌, Result, Ok, Err, IsErrAnd, OnErr, IfOk}
 use Rattle.std.proofs.lemmas.Result.{err_from_is_err_and}

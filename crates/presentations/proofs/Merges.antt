@@ -1,4 +1,5 @@
 -- Pointers that go down.
+-- Each points to a related vector that doesn't stand behind it, and no merge raises their sum.
 use Rattle.std.proofs.Common.{◌≡◌, ◌≢◌, ℕ, zero, suc, ◌+◌, ◌<◌, ◌≤◌, List, [], ◌∷◌, length, get_or, set, refl, sym, ap, ◌∙◌, inl, inr, arith, subst}
 use Rattle.std.specs.Prelude.{slice_index, slice_index_or, sum, All}
 use Rattle.std.proofs.lemmas.Bool.{cases_eq}

@@ -1,4 +1,5 @@
 -- The least of the powers found.
+-- By induction on the relations, one looked at after another.
 use Rattle.std.proofs.Common.{◌≡◌, ℕ, zero, suc, ◌+◌, ◌<◌, ◌≤◌, Bool, true, false, List, [], ◌∷◌, length, refl, sym, ap, ◌∙◌, inl, inr, arith, subst}
 use Rattle.std.specs.Prelude.{Option, Some, None, nat_le, is_some, not, if◌then◌else◌, slice_index_or, IfSome, IfNone, IsTrue}
 use Rattle.std.proofs.lemmas.Bool.{cases_lt, cases_eq}

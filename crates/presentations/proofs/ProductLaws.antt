@@ -1,4 +1,5 @@
 -- Laws of products of powers: that of no letter, and of one letter more.
+-- By induction on the generators.
 use Rattle.std.proofs.Common.{◌≡◌, ℕ, zero, suc, ◌+◌, ◌<◌, List, [], ◌∷◌, length, get_or, refl, sym, ap, ◌∙◌, arith}
 use Rattle.misere_theory.specs.Quotients.{Monoid}
 use Rattle.monoid_table.specs.Laws.{power_of}

@@ -1,4 +1,6 @@
 -- Closed classes of related vectors are those of the least congruence.
+-- The classes are a congruence with the relations, so what is related is in one class. Each vector
+-- is related to the first of its class.
 use Rattle.std.proofs.Common.{◌≡◌, ℕ, zero, suc, ◌<◌, List, [], ◌∷◌, length, refl, sym, ap, ◌∙◌, arith, subst}
 use Rattle.std.specs.Prelude.{slice_index, slice_index_or, Contains, ◌↔◌}
 use Rattle.presentations.specs.declared.axes.Axis.{Axis}

@@ -1,4 +1,5 @@
 -- Factors and words at the front of bytes.
+-- What was read and what is left are the text: each factor more keeps this.
 use Rattle.std.proofs.Common.{◌≡◌, ℕ, zero, suc, ◌+◌, ◌*◌, ◌<◌, ◌≤◌, List, [], ◌∷◌, ◌++◌, length, get_or, set, refl, sym, ap, ap₂, ◌∙◌, inl, inr, arith, subst, append_assoc, length-append, All}
 use Rattle.std.specs.Prelude.{Option, Some, None as Nothing, Bool, true, is_some, IfSome}
 use Rattle.std.proofs.lemmas.Bool.{false≢true}

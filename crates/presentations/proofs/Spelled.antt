@@ -1,4 +1,5 @@
 -- Relations at the front of bytes, and all of them.
+-- What was read and what is left are the text: each relation more keeps this.
 use Rattle.std.proofs.Common.{◌≡◌, ◌⊎◌, ℕ, ◌<◌, List, [], ◌∷◌, ◌++◌, length, refl, sym, ap, ap₂, ◌∙◌, inl, inr, arith, subst, append_assoc, length-append}
 use Rattle.std.specs.Prelude.{◌↔◌}
 use Rattle.presentations.specs.declared.TheConstants.{MOST_RELATIONS}

@@ -1,4 +1,5 @@
 -- Laws of vectors: sums, one exponent at a time, and vectors entered letter by letter.
+-- By induction on the exponents.
 use Rattle.std.proofs.Common.{◌≡◌, ℕ, zero, suc, ◌+◌, ◌<◌, ◌≤◌, List, [], ◌∷◌, length, get_or, refl, sym, ap, ap₂, ◌∙◌, arith, subst}
 use Rattle.presentations.specs.Vectors.{plus, zeros, only, bump}
 

@@ -1,4 +1,5 @@
 -- Laws of words as vectors: each relation is one of the pairs.
+-- By induction on the relations.
 use Rattle.std.proofs.Common.{ℕ, zero, suc, ◌<◌, List, [], ◌∷◌, length, refl, arith}
 use Rattle.std.specs.Prelude.{slice_index_or, Contains}
 use Rattle.presentations.specs.declared.read.Relation.{Relation}

@@ -1,4 +1,5 @@
 -- Printed words and relations are read as what they are.
+-- Factor by factor, word by word, and relation by relation, as the reader goes.
 use Rattle.std.proofs.Common.{◌≡◌, ℕ, zero, suc, ◌+◌, ◌*◌, ◌/◌, ◌%◌, ◌<◌, ◌≤◌, List, [], ◌∷◌, ◌++◌, length, get_or, take, codes, decimal, refl, sym, ap, ap₂, ◌∙◌, inl, inr, arith, subst, length-append}
 use Rattle.std.specs.Prelude.{slice_index, slice_index_or, if◌then◌else◌, ◌==◌, encode_utf8, All}
 use Rattle.std.proofs.lemmas.Bool.{cases_lt}

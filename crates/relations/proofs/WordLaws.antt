@@ -1,4 +1,5 @@
 -- Every vector is related to the word of its element.
+-- By induction on the vector, one letter more at a time.
 use Rattle.std.proofs.Common.{◌≡◌, ℕ, ◌<◌, List, [], ◌∷◌, length, refl, sym, ap, ◌∙◌, arith, subst}
 use Rattle.std.specs.Prelude.{slice_index, All}
 use Rattle.std.proofs.lemmas.List.Elements.{All-contains, All-head, All-tail}

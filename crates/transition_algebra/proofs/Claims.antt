@@ -1,4 +1,6 @@
 -- Every claim that agrees with a table and a pretending function has the same pairs of heaps.
+-- An option's value is read from the table and phi alone, and every option has the value of one
+-- that is tried.
 use Rattle.std.proofs.Common.{◌≡◌, ℕ, ◌+◌, ◌-◌, ◌<◌, ◌≤◌, ◌↔◌, List, [], ◌∷◌, length, refl, sym, ◌∙◌, ap, ap₂, subst, arith}
 use Rattle.std.specs.List.{Contains}
 use Rattle.std.proofs.lemmas.List.{get_or_past}

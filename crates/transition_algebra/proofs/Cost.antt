@@ -1,4 +1,5 @@
 -- How many turns all pairs take.
+-- Each turn lessens by one what is left. The options of a heap are counted digit by digit.
 use Rattle.std.proofs.Common.{◌≡◌, ℕ, zero, suc, ◌+◌, ◌-◌, ◌*◌, ◌/◌, ◌<◌, ◌≤◌, ◌↔◌, Bool, true, false, List, [], ◌∷◌, ◌++◌, length, min, ◌&&◌, not, eqb, ltb, ne_eqb, le-ltb, refl, sym, subst, inl, inr, ap, arith}
 use Rattle.std.specs.Prelude.{if◌then◌else◌}
 use Rattle.std.specs.List.{sum_by, range_with_len}

@@ -1,4 +1,5 @@
 -- Which heaps have an element, and how large the bound is.
+-- By the two cases: all heaps, or those up to a last one.
 use Rattle.std.proofs.Common.{◌≡◌, ℕ, ◌+◌, ◌-◌, ◌*◌, ◌<◌, ◌≤◌, List, length, inl, inr, arith, eq-zero-or-pos}
 use Rattle.misere_theory.specs.Games.{leaves_three}
 use Rattle.misere_theory.specs.Pairs.{heap_bound}

@@ -1,4 +1,5 @@
 -- Heaps of any size have their pairs among the first.
+-- By the theory's bound: a heap has the pair of one up to it.
 use Rattle.std.proofs.Common.{◌≡◌, ℕ, ◌+◌, ◌-◌, ◌<◌, List, length, get_or, sym, ◌∙◌, subst, arith}
 use Rattle.misere_theory.specs.Pairs.{SameHeapPair}
 use Rattle.misere_theory.specs.Quotients.{Claim}

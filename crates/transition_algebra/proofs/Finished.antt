@@ -1,4 +1,5 @@
 -- When all turns were made, how many they are, and however they are cut.
+-- A trial is what the turns that it has spent make: no turn is left exactly where no heap is.
 use Rattle.std.proofs.Common.{◌≡◌, ℕ, ◌+◌, ◌-◌, ◌*◌, ◌<◌, ◌≤◌, ◌↔◌, ◌⊎◌, inl, inr, min, List, [], length, sym, ◌∙◌, ap, ap₂, subst, arith}
 use Rattle.std.specs.Prelude.{Result, Ok, Err, OnErr}
 use Rattle.std.specs.FinSet as set

@@ -1,4 +1,5 @@
 -- A job over sets of at most 64 lanes and a small allocator fits in memory.
+-- Field by field, by Layouts.
 use Rattle.std.proofs.Common.{◌<◌, ◌≤◌, ◌^◌, ℕ, arith}
 use Rattle.std.specs.Borrow.{RattleType}
 use Rattle.std.specs.Mem.{type_size}

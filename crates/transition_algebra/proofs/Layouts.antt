@@ -1,4 +1,5 @@
 -- How many bytes a type takes at most, put together from what its parts take, each aligned to at most 16.
+-- Before each field stand at most 16 bytes of padding.
 use Rattle.std.proofs.Common.{◌≤◌, ◌+◌, ◌*◌, ◌%◌, ◌-◌, ℕ, List, arith}
 use Rattle.std.proofs.Math.Nat.{mod-le}
 use prog.Memory.{size, align, aligns, alignss, end_of, endss, up}

@@ -1,4 +1,5 @@
 -- The pairs of the heaps are one list.
+-- Two pairs of one heap have the same value and the same options, and so are equal.
 use Rattle.std.proofs.Common.{◌≡◌, ◌⊎◌, ℕ, ◌+◌, ◌-◌, Bool, true, false, ◌||◌, List, [], ◌∷◌, map, get_or, inl, inr, refl, sym, ◌∙◌, ap, subst, arith, nat_eq, eqb-true, eq-eqb}
 use Rattle.std.specs.List.{Contains, list_any}
 use Rattle.std.specs.FinSet as set

@@ -1,4 +1,5 @@
 -- The elements of heaps repeat, and are elements of the table.
+-- A heap past start + period has the entry of its place in the period.
 use Rattle.std.proofs.Common.{◌≡◌, ℕ, zero, suc, ◌+◌, ◌-◌, ◌%◌, ◌<◌, ◌≤◌, ltb, cond, true, false, List, ◌∷◌, length, get_or, slice_index, sym, ◌∙◌, ap, arith}
 use Rattle.std.specs.List.{All}
 use Rattle.std.proofs.lemmas.Bool.Decides.{nat_tests}

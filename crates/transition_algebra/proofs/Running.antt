@@ -1,4 +1,6 @@
 -- A run of turns leaves a trial that the turns reached.
+-- Each case of a run makes some turns at once, or none: a single option, splits, triples, the end of
+-- a row, or that of the heap.
 use Rattle.std.proofs.Common.{◌≡◌, ℕ, ◌+◌, ◌-◌, ◌*◌, ◌^◌, ◌<◌, ◌≤◌, ◌↔◌, inl, inr, Bool, true, false, List, [], ◌∷◌, ◌++◌, length, refl, sym, ◌∙◌, ap, ap₂, subst, arith, append_assoc}
 use Rattle.std.specs.Prelude.{IsTrue, if◌then◌else◌}
 use Rattle.std.specs.List.{All, flat_map, range_with_len}

@@ -1,4 +1,6 @@
 -- The turns, and what stands after them.
+-- By induction on their number: the pairs of the heaps before stand, and some options of the next
+-- are tried.
 use Rattle.std.proofs.Common.{◌≡◌, ℕ, zero, suc, ◌+◌, ◌-◌, ◌<◌, ◌≤◌, Bool, true, false, List, [], ◌∷◌, ◌++◌, length, refl, sym, ◌∙◌, ap, subst, arith}
 use Rattle.std.specs.Prelude.{nat_lt, if◌then◌else◌}
 use Rattle.std.specs.List.{sum_by, range_with_len}

@@ -1,4 +1,5 @@
 -- The pairs of heaps are pairs of elements.
+-- Elements of heaps are elements of the table, and so are their products.
 use Rattle.std.proofs.Common.{ℕ, ◌+◌, ◌<◌, ◌≤◌, false, List, refl, sym, ◌∙◌, subst, arith}
 use Rattle.std.specs.List.{All}
 use Rattle.std.specs.FinSet as set

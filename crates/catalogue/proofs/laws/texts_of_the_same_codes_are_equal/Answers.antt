@@ -1,3 +1,4 @@
+-- Entry by entry: a code and a kind have one accepted certificate.
 use Rattle.std.proofs.Common.{◌≡◌, ℕ, suc, List, [], ◌∷◌, All, map, refl, ap, ap₂, arith}
 use Rattle.misere_theory.specs.Certificates.{Certificate, Accepted, kind_of}
 use Rattle.catalogue.specs.Texts.{catalogue_text}

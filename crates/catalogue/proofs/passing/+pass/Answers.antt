@@ -1,3 +1,4 @@
+-- The functions that pass over a value, its items and its members call each other.
 use Rattle.std.proofs.Common.{◌≡◌, ◌-◌, ◌<◌, ◌∷◌, length, Some, None, inl, inr, sym, subst, ap, arith}
 use Rattle.std.proofs.lemmas.Result.{on_ok_weaker}
 use Rattle.json.specs.Json.{parse_map, after_end_array, read_key}

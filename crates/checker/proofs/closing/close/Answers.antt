@@ -1,3 +1,4 @@
+-- As the loop goes on, each member held obeys the rule, and the turns taken are the closure's.
 use Rattle.std.proofs.Common.{rules, ◌≡◌, ◌<◌, ◌-◌, length, get_or, refl, arith, ◌∙◌}
 use Rattle.pair_closure.specs.ClosureViews.{blank_held}
 use Rattle.checker.specs.Rules.{Obeys}

@@ -1,3 +1,4 @@
+-- What is dropped of a check's stage over pairs fits in memory.
 use Rattle.std.proofs.Common.{rules}
 use Rattle.checker.proofs.Fit.{heaps_below, elements_below, closing_below}
 use Rattle.desk.proofs.checker++paired++Paired+Destruct.drop.Goals as goal

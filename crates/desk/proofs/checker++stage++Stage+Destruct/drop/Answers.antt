@@ -1,3 +1,4 @@
+-- What is dropped of a check's stage fits in memory, at each width of its sets.
 use Rattle.std.proofs.Common.{arith}
 use Rattle.checker.proofs.Fit.{paired_fits}
 use Rattle.desk.proofs.checker++stage++Stage+Destruct.drop.Goals as goal

@@ -1,3 +1,4 @@
+-- At each way out the clause of each fault is right: it is given, or its condition doesn't hold.
 use Rattle.std.proofs.Common.{◌≡◌, ◌+◌, ◌<◌, ◌≤◌, ◌∙◌, ℕ, List, length, get_or, refl, sym, subst, arith}
 use Rattle.std.specs.List.{Contains, remove}
 use Rattle.std.specs.Prelude.{Result, Ok, Err, IsErrAnd}

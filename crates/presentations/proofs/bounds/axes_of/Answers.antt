@@ -1,3 +1,5 @@
+-- A letter more keeps what AxisLaws says of the axes so far. Above the limit a box stays above it,
+-- by SizeLaws.
 use Rattle.std.proofs.Common.{List, Bool, true, false, ◌≡◌, ◌≤◌, ◌<◌, ℕ, refl, ◌+◌, ◌*◌, ◌++◌, ◌∷◌, [], ap, arith, subst, sym, ◌∙◌}
 use Rattle.std.proofs.lemmas.Result.{IfOk-from_err}
 use Rattle.std.proofs.lemmas.Nat.{mul-le}

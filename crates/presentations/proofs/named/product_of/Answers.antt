@@ -1,3 +1,4 @@
+-- The places that are read are those of earlier products, and their numbers stay small.
 use Rattle.std.proofs.Common.{◌≡◌, ℕ, List, ◌+◌, ◌*◌, ◌/◌, ◌%◌, ◌-◌, arith, ap, ap₂, refl, ◌∙◌, get_or}
 use Rattle.std.specs.Prelude.{slice_index}
 use Rattle.presentations.proofs.PowerLaws.{any-default}

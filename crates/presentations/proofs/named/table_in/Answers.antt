@@ -1,3 +1,4 @@
+-- The numbered classes with their rows are the table, by Whole.
 use Rattle.std.proofs.Common.{◌≡◌, arith, ap, ◌∙◌, sym, subst, length, take}
 use Rattle.std.specs.Prelude.{Err}
 use Rattle.std.proofs.lemmas.Result.{IfOk-from_err}

@@ -1,3 +1,4 @@
+-- A fault of one of the three steps is the answer, and no other is.
 use Rattle.std.proofs.Common.{◌≡◌, ◌≤◌, length, ap, ◌∙◌, sym, inl, inr, subst}
 use Rattle.std.specs.Prelude.{Err, IsErrAnd, IfOk}
 use Rattle.std.proofs.lemmas.Result.{IfOk-from_err, on_err_weaker}

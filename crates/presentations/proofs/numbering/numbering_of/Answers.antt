@@ -1,3 +1,4 @@
+-- A product more keeps the progress, by NumberLaws. With all products it is a numbering.
 use Rattle.std.proofs.Common.{◌≡◌, ◌<◌, ℕ, zero, suc, ◌+◌, ◌*◌, ◌/◌, ◌%◌, ap, ◌∙◌, arith, subst, length, get_or, ◌∷◌, []}
 use Rattle.std.specs.Prelude.{slice_index, Err}
 use Rattle.std.proofs.lemmas.Result.{IfOk-from_err}

@@ -1,3 +1,4 @@
+-- By what the closing came to: all closed, the limit, a breach, no memory, or turns left to take.
 use Rattle.std.proofs.Common.{◌≡◌, ℕ, arith, inl, inr, subst, sym, ◌∙◌, ap, Result, Ok, refl, slice_index_or}
 use Rattle.misere_theory.specs.Games.{IsHeapUpTo, IsPosition}
 use Rattle.misere_theory.specs.Certificates.{IsHeapOf}

@@ -1,3 +1,4 @@
+-- No option leads in before the heap and value in hand; the first that does gives a position.
 use Rattle.std.proofs.Common.{rules, ◌<◌, ◌≤◌, ◌+◌, ◌∷◌, length, subst, sym, ap, refl, inl, inr, ◌∙◌, arith}
 use Rattle.checker.specs.Stages.{Carries, arrived}
 use Rattle.checker.proofs.ElementLemmas.{value_below, leads_in, obeys_at, value_turn, heap_turn, elements_end}

@@ -1,3 +1,4 @@
+-- Stage by stage, and for each width of the sets: what comes next, and what it carries.
 use Rattle.std.proofs.Common.{Ok, ap, ◌∙◌, subst, arith}
 use Rattle.checker.specs.Stages.{Stands, Comes, arrived, phase_of, phase_of_paired, reached}
 use Rattle.checker.proofs.Fit.{paired_fits, worked_fits}

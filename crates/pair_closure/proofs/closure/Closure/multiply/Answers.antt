@@ -1,3 +1,5 @@
+-- What is written is what the turn of a product leaves, by Turned. A refused growth leaves all as
+-- it was.
 use Rattle.std.proofs.Common.{◌+◌, ◌<◌, ◌∙◌, sym, ap, subst, arith, rules, length, refl}
 use Rattle.pair_closure.specs.Turns.{State, KeepsNext, Multiplies}
 use Rattle.pair_closure.specs.ClosureViews.{moved}

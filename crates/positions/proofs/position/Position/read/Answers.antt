@@ -1,3 +1,4 @@
+-- At each way out the clause of each fault is right: it is given, or its condition doesn't hold.
 use Rattle.std.proofs.Common.{◌≢◌, codes, [], refl, sym, arith}
 use Rattle.std.proofs.lemmas.Bool.{iff_false}
 use Rattle.positions.specs.declared.fault.PositionFault.TheVariants.{Text, TooMany, TooLarge}

@@ -1,3 +1,5 @@
+-- The class has a number already, or gets the next one: numbers and classes stay each other's
+-- inverses.
 use Rattle.std.proofs.Common.{◌≡◌, ◌≢◌, ◌<◌, ◌+◌, ◌++◌, ◌∷◌, [], ℕ, List, ap, ap₂, refl, sym, ◌∙◌, inl, inr, subst, arith, length, get_or, set}
 use Rattle.std.specs.Prelude.{slice_index}
 use Rattle.std.proofs.lemmas.Result.{IfOk-from_err}

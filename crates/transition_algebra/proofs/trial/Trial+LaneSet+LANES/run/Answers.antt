@@ -1,3 +1,4 @@
+-- Case by case, each by its lemma of Running.
 use Rattle.std.proofs.Common.{rules, ◌≡◌, ◌-◌, ◌<◌, ◌≤◌, length, refl, sym, ◌∙◌, ap, subst, arith}
 use Rattle.std.specs.List.{All}
 use Rattle.transition_algebra.specs.Heaps.{bound_of}
