@@ -40,7 +40,10 @@ const main = /** @type {HTMLElement} */ (document.getElementById("main"));
  * @param {string} id
  */
 async function unpacked(id) {
-  const bytes = Uint8Array.from(atob(heldText(id).trim()), (letter) => letter.charCodeAt(0));
+  const letters = atob(heldText(id).trim());
+  const bytes = new Uint8Array(letters.length);
+  // (Uint8Array.from takes ten times as long)
+  for (let at = 0; at < letters.length; at++) bytes[at] = letters.charCodeAt(at);
   return new Response(new Blob([bytes]).stream().pipeThrough(new DecompressionStream("gzip"))).arrayBuffer();
 }
 
