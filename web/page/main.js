@@ -33,6 +33,9 @@ const VIEWS = {
   about: aboutView
 };
 
+/** What older browsers lack: without the last one formulas would be read wrongly. */
+const NEEDED = ["DecompressionStream", "WebAssembly", "BigInt64Array", "MathMLElement"];
+
 const main = /** @type {HTMLElement} */ (document.getElementById("main"));
 
 /**
@@ -88,8 +91,7 @@ function makeWorker() {
 
 /** Whether the browser has what the page needs. Where it hasn't, the page goes on saying so. */
 function isAble() {
-  return typeof DecompressionStream === "function" && typeof WebAssembly === "object" &&
-      typeof BigInt64Array === "function";
+  return NEEDED.every((it) => it in globalThis);
 }
 
 async function begin() {

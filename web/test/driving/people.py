@@ -24,7 +24,7 @@ UNREACHED = f"return {STOPS}.filter((it) => !it.hasAttribute('data-reached')).ma
 SILENT = """return [...document.querySelectorAll('.verdict, .said, .count, #steps')].filter((it) =>
     !['status', 'alert'].includes(it.getAttribute('role')) && it.getAttribute('aria-live') !== 'polite')
     .map((it) => it.outerHTML.slice(0, 80))"""
-LACKING = ("DecompressionStream", "WebAssembly", "BigInt64Array")
+LACKING = ("DecompressionStream", "WebAssembly", "BigInt64Array", "MathMLElement")
 
 
 def shown(it, view):
