@@ -5,7 +5,7 @@ import {Atlas} from "./atlas.js";
 import {Collection} from "./collection.js";
 import {fill, make} from "./dom.js";
 import {Prover} from "./prover.js";
-import {told} from "./refusals.js";
+import {alertOf} from "./refusals.js";
 import {isKnownEntry, keepScrolling, scrollBack} from "./scrolling.js";
 import {aboutView} from "./views/about.js";
 import {atlasView} from "./views/atlas.js";
@@ -33,6 +33,9 @@ const VIEWS = {
   about: aboutView
 };
 
+/** What older browsers lack: without the last one formulas would be read wrongly. */
+const NEEDED = ["DecompressionStream", "WebAssembly", "BigInt64Array", "MathMLElement"];
+
 const main = /** @type {HTMLElement} */ (document.getElementById("main"));
 
 /**
@@ -40,7 +43,10 @@ const main = /** @type {HTMLElement} */ (document.getElementById("main"));
  * @param {string} id
  */
 async function unpacked(id) {
-  const bytes = Uint8Array.from(atob(heldText(id).trim()), (letter) => letter.charCodeAt(0));
+  const letters = atob(heldText(id).trim());
+  const bytes = new Uint8Array(letters.length);
+  // (Uint8Array.from takes ten times as long)
+  for (let at = 0; at < letters.length; at++) bytes[at] = letters.charCodeAt(at);
   return new Response(new Blob([bytes]).stream().pipeThrough(new DecompressionStream("gzip"))).arrayBuffer();
 }
 
@@ -71,7 +77,7 @@ async function show(page) {
     document.title = `${root.querySelector("h1")?.textContent} – Misère quotients`;
     await shown;
   } catch (failure) {
-    root.append(make("p", {class: "verdict none", role: "alert"}, told(failure)));
+    root.append(alertOf(failure));
   }
 }
 
@@ -85,8 +91,7 @@ function makeWorker() {
 
 /** Whether the browser has what the page needs. Where it hasn't, the page goes on saying so. */
 function isAble() {
-  return typeof DecompressionStream === "function" && typeof WebAssembly === "object" &&
-      typeof BigInt64Array === "function";
+  return NEEDED.every((it) => it in globalThis);
 }
 
 async function begin() {
@@ -114,4 +119,4 @@ async function begin() {
   await shown;
 }
 
-begin().catch((failure) => fill(main, make("p", {class: "verdict none", role: "alert"}, told(failure))));
+begin().catch((failure) => fill(main, alertOf(failure)));

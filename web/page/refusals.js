@@ -1,5 +1,6 @@
 // Refusals in words.
 
+import {make} from "./dom.js";
 import {Failure} from "./prover.js";
 
 /** @type {Record<number, string>} */
@@ -40,4 +41,12 @@ export function told(failure) {
   if (failure.kind === "stopped") return "Stopped.";
   if (failure.kind === "failed") return `No verdict: the module or its worker failed (${failure.message}).`;
   return `no ${failure.message}: ${REASONS[failure.status ?? 0] ?? "refused"}`;
+}
+
+/**
+ * A paragraph that tells a failure, and is read out.
+ * @param {unknown} failure
+ */
+export function alertOf(failure) {
+  return make("p", {class: "verdict none", role: "alert"}, told(failure));
 }

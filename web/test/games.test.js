@@ -15,7 +15,7 @@ import {describedOf} from "../page/description.js";
 import {componentsOf, wordsOf} from "../page/monoid.js";
 import {Session} from "../page/play/session.js";
 
-import {atlas, newMisere, printed, root, sample} from "./setup.js";
+import {atlas, newMisere, printed, root, sample, told} from "./setup.js";
 
 const held = process.env.MISERE_ATLAS ?? path.join(root, "web/out/atlas.json");
 const misere = newMisere();
@@ -83,13 +83,15 @@ test("each element's word, and the kernel, are those of the description", () => 
 });
 
 test("a description has all its parts, also with an index", () => {
-  const told =
+  const {letters, relations, portion, heaps, kind} =
       describedOf("Q_3(0.33) = < a,b | a^2=1, b^3=b >\nP_3 = { a, b^2 }\norder 6 portion 2 tame 2\n0+ a b 1\n");
-  assert.deepEqual(told.letters, ["a", "b"]);
-  assert.deepEqual(told.relations, ["a^2=1", "b^3=b"]);
-  assert.deepEqual(told.portion, ["a", "b^2"]);
-  assert.deepEqual(told.heaps, ["a", "b", "1"]);
-  assert.equal(told.kind, "tame 2");
+  assert.deepEqual({letters, relations, portion, heaps, kind}, {
+    letters: ["a", "b"],
+    relations: ["a^2=1", "b^3=b"],
+    portion: ["a", "b^2"],
+    heaps: ["a", "b", "1"],
+    kind: "tame 2",
+  });
 });
 
 test("outcomes are those of a search of all plays", () => {
@@ -114,9 +116,33 @@ test("winning moves are moves of the page's list", () => {
   }
 });
 
-test("codes are those of the program", () => {
-  for (const code of ["0.3", "4.07", "c.f", "8.1", "0.0123456789abcdef"]) assert.ok(isCode(code), code);
-  for (const text of ["", "0.", "0.30", "1.3", "0.3G", "0.A", "00.3", "0.12345678123456781"])
-    assert.ok(!isCode(text), text);
+/** @type {[string, string][]} */
+const CODES = [
+  ["octal", "0.3"],
+  ["a first digit 4", "4.07"],
+  ["a first digit 8", "8.1"],
+  ["a first digit c", "c.f"],
+  ["16 digits", "0.0123456789abcdef"],
+  ["17 digits", "0.12345678123456781"],
+  ["a last digit 0", "0.30"],
+  ["a first digit 1", "1.3"],
+  ["two first digits", "00.3"],
+  ["an upper case", "0.A"],
+  ["a letter past f", "0.3g"],
+  ["no digit", "0."],
+  ["no point", "03"],
+  ["a line end", "0.3\n"],
+  ["nothing", ""],
+];
+
+test("what is a code is one to the module", async (t) => {
+  for (const [name, text] of CODES) {
+    const isOne = told(() => misere.solve(text, {heaps: 2, rounds: 1})) !== "refused 12";
+    await t.test(name, () => assert.equal(isCode(text), isOne));
+  }
+});
+
+test("the last heap of a partial certificate", () => {
   assert.equal(lastHeap({start: 9, period: 0}), 8);
+  assert.equal(lastHeap({start: 9, period: 2}), null);
 });

@@ -1,7 +1,6 @@
 // All certificates of the atlas, each by the proved checker.
 
 import {fill, make} from "../dom.js";
-import {Failure} from "../prover.js";
 import {isNo, told} from "../refusals.js";
 
 /** @typedef {import("../main.js").Page} Page */
@@ -58,7 +57,7 @@ async function checkAll({atlas, prover, finder}, verdict, bar) {
     }
   } catch (failure) {
     verdict.className = "verdict none";
-    return fill(verdict, failure instanceof Failure ? told(failure) : String(failure));
+    return fill(verdict, told(failure));
   }
   const time = ((performance.now() - begin) / 1000).toFixed(2);
   verdict.className = `verdict ${refused.length ? "no" : "yes"}`;

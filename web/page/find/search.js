@@ -8,7 +8,6 @@ import {told} from "../refusals.js";
 
 import {AIMS} from "./plan.js";
 
-
 /** @typedef {import("../main.js").Page} Page */
 /** @typedef {import("./plan.js").Sought} Sought */
 /** @typedef {import("./plan.js").Step} Step */

@@ -6,7 +6,7 @@ import {describedOf} from "../description.js";
 import {fill, make} from "../dom.js";
 import {wordsOf} from "../monoid.js";
 import {Failure} from "../prover.js";
-import {isNo, told} from "../refusals.js";
+import {alertOf, isNo, told} from "../refusals.js";
 
 import {askSection} from "./ask.js";
 import {certificateSection} from "./certificate_section.js";
@@ -66,7 +66,7 @@ async function presentGame(page, root, bytes, certificate, verdict) {
     const game = await gameOf(page, bytes, certificate);
     if (root.firstChild === verdict) root.append(...sectionsOf(page, game));
   } catch (failure) {
-    if (root.firstChild === verdict) root.append(make("p", {class: "verdict none", role: "alert"}, told(failure)));
+    if (root.firstChild === verdict) root.append(alertOf(failure));
   }
 }
 

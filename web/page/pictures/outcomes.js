@@ -2,7 +2,7 @@
 
 import {lastHeap} from "../certificate.js";
 import {draw, fill, make} from "../dom.js";
-import {told} from "../refusals.js";
+import {alertOf} from "../refusals.js";
 
 import {gridPicture} from "./grid.js";
 
@@ -20,9 +20,7 @@ export function outcomePicture(page, {bytes, certificate}) {
       Array.from({length: side * side}, (_, at) => [at % side, Math.floor(at / side)].filter((heap) => heap > 0));
   const place = make("div", {class: "picture"});
   page.prover.ask("outcomes", bytes, positions)
-      .then(
-          ({answer}) => fill(place, drawn(side, answer)),
-          (failure) => fill(place, make("p", {class: "verdict none"}, told(failure))));
+      .then(({answer}) => fill(place, drawn(side, answer)), (failure) => fill(place, alertOf(failure)));
   return place;
 }
 

@@ -3,7 +3,7 @@
 import {playAddress} from "../address.js";
 import {fill, make} from "../dom.js";
 import {arrowOf, sumOf} from "../positions.js";
-import {told} from "../refusals.js";
+import {alertOf} from "../refusals.js";
 
 /** @typedef {import("./session.js").Session} Session */
 
@@ -27,7 +27,7 @@ export function review(page, bytes, session) {
       const {answer} = await page.prover.ask("outcomes", bytes, session.positions);
       fill(place, tableOf(session, [...answer].map((outcome) => outcome === 0)));
     } catch (failure) {
-      fill(place, told(failure));
+      fill(place, alertOf(failure));
     }
   };
   details.addEventListener("toggle", () => details.open && show());

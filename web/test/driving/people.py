@@ -4,6 +4,7 @@ import pathlib
 import subprocess
 import tempfile
 
+from selenium.webdriver.common.action_chains import ActionChains
 from selenium.webdriver.common.keys import Keys
 
 VIEWS = ("atlas", "game=0.77", "game=0.07", "play=0.77:3,14,40", "check", "find=0.75", "about")
@@ -14,6 +15,16 @@ UNNAMED = """return [...document.querySelectorAll('button, input, select, textar
 TRANSITIONS = """return [...document.querySelectorAll('.token')].filter((it) =>
     getComputedStyle(it).transitionDuration !== '0s').length"""
 SHEETS = ("0.77", "0.07", "0.15", "0.75")
+# Views with few links
+TABBED = ("atlas=order=20-36", "game=0.33", "play=0.77:3,4", "check", "find=0.33", "about")
+STOPS = """[...document.querySelectorAll('a[href], button, input, select, textarea, summary, [tabindex]')]
+    .filter((it) => it.tabIndex >= 0 && !it.disabled && it.checkVisibility())"""
+MARK = "document.addEventListener('focusin', ({target}) => target.setAttribute('data-reached', ''))"
+UNREACHED = f"return {STOPS}.filter((it) => !it.hasAttribute('data-reached')).map((it) => it.outerHTML.slice(0, 80))"
+SILENT = """return [...document.querySelectorAll('.verdict, .said, .count, #steps')].filter((it) =>
+    !['status', 'alert'].includes(it.getAttribute('role')) && it.getAttribute('aria-live') !== 'polite')
+    .map((it) => it.outerHTML.slice(0, 80))"""
+LACKING = ("DecompressionStream", "WebAssembly", "BigInt64Array", "MathMLElement")
 
 
 def shown(it, view):
@@ -38,11 +49,14 @@ def drive(it, program, steps):
         shown(it, view)
         unnamed = it.run(UNNAMED)
         steps.expect(f"each control of {view} has a name", not unnamed, unnamed)
+        silent = it.run(SILENT)
+        steps.expect(f"what {view} tells is a live region", not silent, silent)
         it.picture(f"dark-{view.split('=')[0]}")
     shown(it, "play=0.77:3,14,40")
     steps.expect("nothing moves where that isn't wanted", it.run(TRANSITIONS) == 0)
     it.emulate()
     prints(it, steps)
+    tabs(it, steps)
     keys(it, steps)
     old(it, steps)
 
@@ -56,6 +70,16 @@ def prints(it, steps):
             file.write_bytes(base64.b64decode(told["data"]))
             pages = file.read_bytes().count(b"/Type /Page\n")
         steps.expect(f"{code} prints on one or two sheets", 1 <= pages <= 2, pages)
+
+
+def tabs(it, steps):
+    for view in TABBED:
+        shown(it, view)
+        it.run(MARK)
+        count = it.run(f"return {STOPS}.length")
+        ActionChains(it.driver).send_keys(Keys.TAB * (count + 2)).perform()
+        unreached = it.run(UNREACHED)
+        steps.expect(f"each control of {view} is reached by the keyboard", not unreached, unreached or f"{count} stops")
 
 
 def keys(it, steps):
@@ -78,9 +102,18 @@ def keys(it, steps):
 
 
 def old(it, steps):
-    script = it.command("Page.addScriptToEvaluateOnNewDocument", source="delete window.DecompressionStream")
+    for lacking in LACKING:
+        script = it.command("Page.addScriptToEvaluateOnNewDocument", source=f"delete window.{lacking}")
+        told_to_old(it, steps, f"without {lacking}")
+        it.command("Page.removeScriptToEvaluateOnNewDocument", identifier=script["identifier"])
+    it.command("Emulation.setScriptExecutionDisabled", value=True)
+    told_to_old(it, steps, "without scripts")
+    it.command("Emulation.setScriptExecutionDisabled", value=False)
+
+
+def told_to_old(it, steps, name):
     it.open()
-    said = it.wait(lambda: it.text("#old"))
-    visible = it.run("return getComputedStyle(document.querySelector('#old')).visibility")
-    steps.expect("an old browser is told in a sentence", "cannot run" in said and visible == "visible", visible)
-    it.command("Page.removeScriptToEvaluateOnNewDocument", identifier=script["identifier"])
+    visible = "return getComputedStyle(document.querySelector('#old')).visibility === 'visible'"
+    it.wait(lambda: it.all("#old") and it.run(visible))
+    said = it.text("#old").strip()
+    steps.expect(f"a browser {name} is told in a sentence", "cannot run" in said, said[:60])
