@@ -32,8 +32,12 @@ abbrev pub check_request : List Row → Option Request
 check_request rows =
     option_map (λ limit. Check (first_of (codes "file") rows) limit) (number_of Limit rows)
 
+abbrev pub show_with : Option Text → Option ℕ → Option Request
+show_with (Some file) (Some limit) = Some (Show file limit)
+show_with _ _ = None
+
 abbrev pub show_request : List Row → Option Request
-show_request rows = option_map Show (first_of (codes "file") rows)
+show_request rows = show_with (first_of (codes "file") rows) (number_of Limit rows)
 
 -- a flag was given
 abbrev pub is_set : Text → List Row → Bool
@@ -57,13 +61,15 @@ output_in rows = output_of (is_set (codes "latex") rows) (is_set (codes "relatio
 abbrev pub describe_conflicts : List Row → Bool
 describe_conflicts rows = is_set (codes "latex") rows && is_set (codes "relations") rows
 
-abbrev pub describe_with : Option Text → Option Output → Bool → Option Request
-describe_with (Some file) (Some output) basis = Some (Describe file output basis)
-describe_with _ _ _ = None
+abbrev pub describe_with : Option Text → Option Output → Bool → Option ℕ → Option Request
+describe_with (Some file) (Some output) basis (Some limit) =
+    Some (Describe file output basis limit)
+describe_with _ _ _ _ = None
 
 abbrev pub describe_request : List Row → Option Request
 describe_request rows =
     describe_with (first_of (codes "file") rows) (output_in rows) (is_set (codes "basis") rows)
+    (number_of Limit rows)
 
 -- the heaps that --heaps, --deep, --partial and --furthest aim at together, where a furthest search
 -- has no --order
@@ -116,12 +122,13 @@ solve_request rows =
     solve_with (first_of (codes "code") rows) (number_of Limit rows) (number_of Rounds rows)
     (order_in rows) (aim_in rows) (is_set (codes "why") rows)
 
-abbrev pub play_with : Option Text → Option Text → Option Request
-play_with (Some file) (Some position) = Some (Play file position)
-play_with _ _ = None
+abbrev pub play_with : Option Text → Option Text → Option ℕ → Option Request
+play_with (Some file) (Some position) (Some limit) = Some (Play file position limit)
+play_with _ _ _ = None
 
 abbrev pub play_request : List Row → Option Request
 play_request rows = play_with (first_of (codes "file") rows) (first_of (codes "position") rows)
+    (number_of Limit rows)
 
 abbrev pub present_request : List Row → Option Request
 present_request rows = option_map Present (first_of (codes "text") rows)
@@ -158,12 +165,13 @@ catalogue_conflicts rows =
     (get && (new || add)) || (heaps && not get)
     || ((salvage || migrate) && (new || add || get || heaps)) || (salvage && migrate)
 
-abbrev pub catalogue_with : Option Text → Option CatalogueRequest → Option Request
-catalogue_with (Some file) (Some task) = Some (Catalogue file task)
-catalogue_with _ _ = None
+abbrev pub catalogue_with : Option Text → Option CatalogueRequest → Option ℕ → Option Request
+catalogue_with (Some file) (Some task) (Some limit) = Some (Catalogue file task limit)
+catalogue_with _ _ _ = None
 
 abbrev pub catalogue_request : List Row → Option Request
 catalogue_request rows = catalogue_with (first_of (codes "file") rows) (task_in rows)
+    (number_of Limit rows)
 
 abbrev pub desk_request : List Row → Option Request
 desk_request rows = option_map Desk (first_of (codes "script") rows)
@@ -197,19 +205,19 @@ solve = record {
 }
 
 abbrev pub show : Asking
-show = record { app = Program.show; request = show_request; numbers = []; conflicts = never; exclusion = None }
+show = record { app = Program.show; request = show_request; numbers = Limit ∷ []; conflicts = never; exclusion = None }
 
 abbrev pub describe : Asking
 describe = record {
   app = Program.describe;
   request = describe_request;
-  numbers = [];
+  numbers = Limit ∷ [];
   conflicts = describe_conflicts;
   exclusion = Some exclusion.Description;
 }
 
 abbrev pub play : Asking
-play = record { app = Program.play; request = play_request; numbers = []; conflicts = never; exclusion = None }
+play = record { app = Program.play; request = play_request; numbers = Limit ∷ []; conflicts = never; exclusion = None }
 
 abbrev pub present : Asking
 present = record { app = Program.present; request = present_request; numbers = []; conflicts = never; exclusion = None }
@@ -218,7 +226,7 @@ abbrev pub catalogue : Asking
 catalogue = record {
   app = Program.catalogue;
   request = catalogue_request;
-  numbers = Part ∷ [];
+  numbers = Part ∷ Limit ∷ [];
   conflicts = catalogue_conflicts;
   exclusion = Some exclusion.Catalogue;
 }

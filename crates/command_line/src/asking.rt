@@ -136,7 +136,8 @@ fn show_plan<'a>(given: &ArgMatches<'a>) -> Result<Plan<'a>, UsageFault>
     ensures { Answers show (arguments_of given.now) result }
 {
     let file = needed(given, "file")?;
-    Ok(Plan::Show { file })
+    let limit = number(given, Quantity::Limit)?;
+    Ok(Plan::Show { file, limit })
 }
 
 /// What is to be printed of a quotient.
@@ -160,10 +161,12 @@ fn describe_plan<'a>(given: &ArgMatches<'a>) -> Result<Plan<'a>, UsageFault>
     let file = needed(given, "file")?;
     let output = output(given)?;
     let basis = flag(given, "basis");
+    let limit = number(given, Quantity::Limit)?;
     Ok(Plan::Describe {
         file,
         output,
         basis,
+        limit,
     })
 }
 
@@ -172,7 +175,12 @@ fn play_plan<'a>(given: &ArgMatches<'a>) -> Result<Plan<'a>, UsageFault>
 {
     let file = needed(given, "file")?;
     let position = needed(given, "position")?;
-    Ok(Plan::Play { file, position })
+    let limit = number(given, Quantity::Limit)?;
+    Ok(Plan::Play {
+        file,
+        position,
+        limit,
+    })
 }
 
 fn present_plan<'a>(given: &ArgMatches<'a>) -> Result<Plan<'a>, UsageFault>
@@ -224,7 +232,8 @@ fn catalogue_plan<'a>(given: &ArgMatches<'a>) -> Result<Plan<'a>, UsageFault>
 {
     let file = needed(given, "file")?;
     let task = catalogue_task(given)?;
-    Ok(Plan::Catalogue { file, task })
+    let limit = number(given, Quantity::Limit)?;
+    Ok(Plan::Catalogue { file, task, limit })
 }
 
 fn desk_plan<'a>(given: &ArgMatches<'a>) -> Result<Plan<'a>, UsageFault>

@@ -134,7 +134,12 @@ fn show_command<'a>(alloc: Global) -> Result<Command<'a>, AllocError>
     ensures { IfOk result (λ c. app_of c ≡ show) }
 {
     let about = "Check a certificate, and print the quotient that it certifies";
-    command(alloc, "show", about).arg(needed(alloc, "file", "FILE", "The file of the certificate"))
+    let made = Ok(command(alloc, "show", about));
+    let made = with_arg(
+        made,
+        needed(alloc, "file", "FILE", "The file of the certificate"),
+    );
+    with_arg(made, limit(alloc))
 }
 
 fn describe_command<'a>(alloc: Global) -> Result<Command<'a>, AllocError>
@@ -151,7 +156,8 @@ fn describe_command<'a>(alloc: Global) -> Result<Command<'a>, AllocError>
     );
     let made = with_arg(made, flag(alloc, "latex", latex));
     let made = with_arg(made, flag(alloc, "basis", basis));
-    with_arg(made, flag(alloc, "relations", relations))
+    let made = with_arg(made, flag(alloc, "relations", relations));
+    with_arg(made, limit(alloc))
 }
 
 fn play_command<'a>(alloc: Global) -> Result<Command<'a>, AllocError>
@@ -164,7 +170,8 @@ fn play_command<'a>(alloc: Global) -> Result<Command<'a>, AllocError>
         made,
         needed(alloc, "file", "FILE", "The file of the certificate"),
     );
-    with_arg(made, needed(alloc, "position", "POSITION", position))
+    let made = with_arg(made, needed(alloc, "position", "POSITION", position));
+    with_arg(made, limit(alloc))
 }
 
 fn present_command<'a>(alloc: Global) -> Result<Command<'a>, AllocError>
@@ -195,7 +202,8 @@ fn catalogue_command<'a>(alloc: Global) -> Result<Command<'a>, AllocError>
     let made = with_arg(made, option(alloc, "get", "CODE", get));
     let made = with_arg(made, option(alloc, "heaps", "M", heaps));
     let made = with_arg(made, flag(alloc, "salvage", salvage));
-    with_arg(made, flag(alloc, "migrate", migrate))
+    let made = with_arg(made, flag(alloc, "migrate", migrate));
+    with_arg(made, limit(alloc))
 }
 
 fn desk_command<'a>(alloc: Global) -> Result<Command<'a>, AllocError>
