@@ -39,11 +39,12 @@ solve = command (codes "solve")
 abbrev pub show : App
 show = command (codes "show") (needed (codes "file") ∷ option (codes "limit") ∷ [])
 
--- describe FILE [--latex] [--basis] [--relations] [--limit N]
+-- describe FILE [--latex] [--basis] [--relations] [--json] [--singular] [--gap] [--limit N]
 abbrev pub describe : App
 describe = command (codes "describe")
     (needed (codes "file") ∷ flag (codes "latex") ∷ flag (codes "basis")
-    ∷ flag (codes "relations") ∷ option (codes "limit") ∷ [])
+    ∷ flag (codes "relations") ∷ flag (codes "json") ∷ flag (codes "singular")
+    ∷ flag (codes "gap") ∷ option (codes "limit") ∷ [])
 
 -- play FILE POSITION [--limit N]
 abbrev pub play : App

@@ -147,11 +147,21 @@ fn output(given: &ArgMatches<'_>) -> Result<Output, UsageFault>
     ensures none { IfErr result (λ _. output_in (arguments_of given.now) ≡ None) }
     ensures mistake { IfErr result (IsMistake describe (arguments_of given.now)) }
 {
-    match (flag(given, "latex"), flag(given, "relations")) {
-        (false, false) => Ok(Output::Description),
-        (true, false) => Ok(Output::Latex),
-        (false, true) => Ok(Output::Relations),
-        (true, true) => Err(UsageFault::Exclusive(Exclusion::Description)),
+    match (
+        flag(given, "latex"),
+        flag(given, "relations"),
+        flag(given, "json"),
+        flag(given, "singular"),
+        flag(given, "gap"),
+    ) {
+        (false, false, false, false, false) => Ok(Output::Description),
+        (true, false, false, false, false) => Ok(Output::Latex),
+        (false, true, false, false, false) => Ok(Output::Relations),
+        (false, false, true, false, false) => Ok(Output::Json),
+        (false, false, false, true, false) => Ok(Output::Singular),
+        (false, false, false, false, true) => Ok(Output::Gap),
+        (true, true, false, false, false) => { Err(UsageFault::Exclusive(Exclusion::Description)) }
+        _ => Err(UsageFault::Exclusive(Exclusion::Outputs)),
     }
 }
 

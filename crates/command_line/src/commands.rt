@@ -149,6 +149,9 @@ fn describe_command<'a>(alloc: Global) -> Result<Command<'a>, AllocError>
     let latex = "Print it for LaTeX";
     let basis = "Give the reduced basis of the relations, by which words are multiplied by hand";
     let relations = "Print the relations alone, in one word for 'misere present'";
+    let json = "Print it as one object of JSON";
+    let singular = "Print the ideal of the relations, for Singular";
+    let gap = "Print the ideal of the relations, for GAP";
     let made = Ok(command(alloc, "describe", about));
     let made = with_arg(
         made,
@@ -157,6 +160,9 @@ fn describe_command<'a>(alloc: Global) -> Result<Command<'a>, AllocError>
     let made = with_arg(made, flag(alloc, "latex", latex));
     let made = with_arg(made, flag(alloc, "basis", basis));
     let made = with_arg(made, flag(alloc, "relations", relations));
+    let made = with_arg(made, flag(alloc, "json", json));
+    let made = with_arg(made, flag(alloc, "singular", singular));
+    let made = with_arg(made, flag(alloc, "gap", gap));
     with_arg(made, limit(alloc))
 }
 

@@ -78,8 +78,14 @@ pub enum Output {
     Description,
     /// The same for LaTeX.
     Latex,
+    /// The same as one object of JSON.
+    Json,
     /// Its relations alone, as one word that `present` takes.
     Relations,
+    /// The ideal of its relations, for Singular.
+    Singular,
+    /// The same for GAP.
+    Gap,
 }
 
 /// What is asked of a catalogue.

@@ -18,6 +18,15 @@ basis = flag (codes "basis")
 abbrev relations : Rule
 relations = flag (codes "relations")
 
+abbrev json : Rule
+json = flag (codes "json")
+
+abbrev singular : Rule
+singular = flag (codes "singular")
+
+abbrev gap : Rule
+gap = flag (codes "gap")
+
 abbrev limit : Rule
 limit = option (codes "limit")
 
@@ -31,5 +40,13 @@ returns c =
     c.flag-2.ensures.local in
     let four = c.with_arg-made-4.ensures name (file ∷ latex ∷ basis ∷ []) relations three
     c.flag-3.ensures.rule c.flag-3.ensures.local in
-    c.with_arg.ensures name (file ∷ latex ∷ basis ∷ relations ∷ []) limit four
+    let five = c.with_arg-made-5.ensures name (file ∷ latex ∷ basis ∷ relations ∷ []) json four
+    c.flag-4.ensures.rule c.flag-4.ensures.local in
+    let six = c.with_arg-made-6.ensures name (file ∷ latex ∷ basis ∷ relations ∷ json ∷ [])
+    singular five c.flag-5.ensures.rule c.flag-5.ensures.local in
+    let seven = c.with_arg-made-7.ensures name
+    (file ∷ latex ∷ basis ∷ relations ∷ json ∷ singular ∷ []) gap six
+    c.flag-6.ensures.rule c.flag-6.ensures.local in
+    c.with_arg.ensures name
+    (file ∷ latex ∷ basis ∷ relations ∷ json ∷ singular ∷ gap ∷ []) limit seven
     c.limit.ensures.rule c.limit.ensures.local
