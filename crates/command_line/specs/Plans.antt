@@ -31,9 +31,10 @@ abbrev pub HasNumbersWithin : Plan → Type 0
 HasNumbersWithin (plan.Check file limit) = IsWithin Limit limit
 HasNumbersWithin (plan.Solve code limit rounds order aimed why) =
     IsWithin Limit limit × IsWithin Rounds rounds × AimsWithin aimed order
-HasNumbersWithin (plan.Show file) = ⊤
-HasNumbersWithin (plan.Describe file output basis) = ⊤
-HasNumbersWithin (plan.Play file position) = ⊤
+HasNumbersWithin (plan.Show file limit) = IsWithin Limit limit
+HasNumbersWithin (plan.Describe file output basis limit) = IsWithin Limit limit
+HasNumbersWithin (plan.Play file position limit) = IsWithin Limit limit
 HasNumbersWithin (plan.Present text) = ⊤
-HasNumbersWithin (plan.Catalogue file asked) = TaskHasNumbersWithin asked
+HasNumbersWithin (plan.Catalogue file asked limit) =
+    TaskHasNumbersWithin asked × IsWithin Limit limit
 HasNumbersWithin (plan.Desk script) = ⊤

@@ -35,29 +35,33 @@ solve = command (codes "solve")
     ∷ option (codes "heaps") ∷ flag (codes "deep") ∷ option (codes "partial")
     ∷ option (codes "furthest") ∷ option (codes "order") ∷ flag (codes "why") ∷ [])
 
--- show FILE
+-- show FILE [--limit N]
 abbrev pub show : App
-show = command (codes "show") (needed (codes "file") ∷ [])
+show = command (codes "show") (needed (codes "file") ∷ option (codes "limit") ∷ [])
 
--- describe FILE [--latex] [--basis] [--relations]
+-- describe FILE [--latex] [--basis] [--relations] [--json] [--singular] [--gap] [--limit N]
 abbrev pub describe : App
 describe = command (codes "describe")
     (needed (codes "file") ∷ flag (codes "latex") ∷ flag (codes "basis")
-    ∷ flag (codes "relations") ∷ [])
+    ∷ flag (codes "relations") ∷ flag (codes "json") ∷ flag (codes "singular")
+    ∷ flag (codes "gap") ∷ option (codes "limit") ∷ [])
 
--- play FILE POSITION
+-- play FILE POSITION [--limit N]
 abbrev pub play : App
-play = command (codes "play") (needed (codes "file") ∷ needed (codes "position") ∷ [])
+play = command (codes "play")
+    (needed (codes "file") ∷ needed (codes "position") ∷ option (codes "limit") ∷ [])
 
 -- present TEXT
 abbrev pub present : App
 present = command (codes "present") (needed (codes "text") ∷ [])
 
 -- catalogue FILE [--new] [--add CERTIFICATE] [--get CODE] [--heaps M] [--salvage] [--migrate]
+-- [--limit N]
 abbrev pub catalogue : App
 catalogue = command (codes "catalogue")
     (needed (codes "file") ∷ flag (codes "new") ∷ option (codes "add") ∷ option (codes "get")
-    ∷ option (codes "heaps") ∷ flag (codes "salvage") ∷ flag (codes "migrate") ∷ [])
+    ∷ option (codes "heaps") ∷ flag (codes "salvage") ∷ flag (codes "migrate")
+    ∷ option (codes "limit") ∷ [])
 
 -- desk SCRIPT
 abbrev pub desk : App

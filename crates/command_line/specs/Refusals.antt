@@ -31,7 +31,7 @@ IsMistake command rows (Words text) = ⊥
 IsMistake command rows (Number quantity) =
     Contains command.numbers quantity × (number_of quantity rows ≡ None)
 IsMistake command rows (Exclusive which) =
-    (command.conflicts rows ≡ true) × (command.exclusion ≡ Some which)
+    (command.conflicts rows ≡ true) × (command.exclusion rows ≡ Some which)
 IsMistake command rows Incomplete = lacks command rows ≡ true
 
 -- the arguments ask for this, or else for nothing, for such a mistake

@@ -1,7 +1,7 @@
 -- What the words of a command line ask for, as a function. This project's own, over the words of
 -- `clap`.
 use Rattle.std.specs.Prelude.{ℕ, Bool, true, false, not, ◌&&◌, ◌||◌, List, [], ◌∷◌, Option, Some, None, codes, find, is_some}
-use Rattle.std.specs.Prelude.{option_map, option_and_then}
+use Rattle.std.specs.Prelude.{option_map, option_and_then, if◌then◌else◌}
 use Rattle.std.specs.Option.{option_map_or}
 use Rattle.std.specs.Str.{bytes_eq}
 use Rattle.clap.specs.Words.{App, Kinds, Row, Text, first_of, fault_of, found_of, rows_of}
@@ -20,7 +20,7 @@ use Rattle.requests.specs.Requests.Request.{Check, Solve, Show, Describe, Play, 
 use Rattle.requests.specs.declared.plans.Aim.{Aim}
 use Rattle.requests.specs.declared.plans.Aim.TheVariants as aim
 use Rattle.requests.specs.declared.plans.Output.{Output}
-use Rattle.requests.specs.declared.plans.Output.TheVariants.{Description, Latex, Relations}
+use Rattle.requests.specs.declared.plans.Output.TheVariants.{Description, Latex, Json, Relations, Singular, Gap}
 
 -- ---- what each command asks for with its arguments
 
@@ -32,8 +32,12 @@ abbrev pub check_request : List Row → Option Request
 check_request rows =
     option_map (λ limit. Check (first_of (codes "file") rows) limit) (number_of Limit rows)
 
+abbrev pub show_with : Option Text → Option ℕ → Option Request
+show_with (Some file) (Some limit) = Some (Show file limit)
+show_with _ _ = None
+
 abbrev pub show_request : List Row → Option Request
-show_request rows = option_map Show (first_of (codes "file") rows)
+show_request rows = show_with (first_of (codes "file") rows) (number_of Limit rows)
 
 -- a flag was given
 abbrev pub is_set : Text → List Row → Bool
@@ -43,27 +47,48 @@ is_set flag rows = option_map_or (λ text. bytes_eq text (codes "true")) (first_
 abbrev pub is_given : Text → List Row → Bool
 is_given name rows = is_some (first_of name rows)
 
--- what the flags --latex and --relations ask for together
-abbrev pub output_of : (latex relations : Bool) → Option Output
-output_of false false = Some Description
-output_of true false = Some Latex
-output_of false true = Some Relations
-output_of true true = None
+-- what the flags --latex, --relations, --json, --singular and --gap ask for together
+abbrev pub output_of : (latex relations json singular gap : Bool) → Option Output
+output_of false false false false false = Some Description
+output_of true false false false false = Some Latex
+output_of false true false false false = Some Relations
+output_of false false true false false = Some Json
+output_of false false false true false = Some Singular
+output_of false false false false true = Some Gap
+output_of _ _ _ _ _ = None
 
 abbrev pub output_in : List Row → Option Output
 output_in rows = output_of (is_set (codes "latex") rows) (is_set (codes "relations") rows)
+    (is_set (codes "json") rows) (is_set (codes "singular") rows) (is_set (codes "gap") rows)
 
--- --latex stands with --relations
+-- two of these stand together
 abbrev pub describe_conflicts : List Row → Bool
-describe_conflicts rows = is_set (codes "latex") rows && is_set (codes "relations") rows
+describe_conflicts rows =
+    let latex = is_set (codes "latex") rows in
+    let relations = is_set (codes "relations") rows in
+    let json = is_set (codes "json") rows in
+    let singular = is_set (codes "singular") rows in
+    let gap = is_set (codes "gap") rows in
+    (latex && (relations || json || singular || gap))
+    || (relations && (json || singular || gap)) || (json && (singular || gap))
+    || (singular && gap)
 
-abbrev pub describe_with : Option Text → Option Output → Bool → Option Request
-describe_with (Some file) (Some output) basis = Some (Describe file output basis)
-describe_with _ _ _ = None
+-- by which of the two faults it is told that they do
+abbrev pub describe_exclusion : List Row → Option Exclusion
+describe_exclusion rows =
+    if is_set (codes "json") rows || is_set (codes "singular") rows || is_set (codes "gap") rows
+    then Some exclusion.Outputs
+    else Some exclusion.Description
+
+abbrev pub describe_with : Option Text → Option Output → Bool → Option ℕ → Option Request
+describe_with (Some file) (Some output) basis (Some limit) =
+    Some (Describe file output basis limit)
+describe_with _ _ _ _ = None
 
 abbrev pub describe_request : List Row → Option Request
 describe_request rows =
     describe_with (first_of (codes "file") rows) (output_in rows) (is_set (codes "basis") rows)
+    (number_of Limit rows)
 
 -- the heaps that --heaps, --deep, --partial and --furthest aim at together, where a furthest search
 -- has no --order
@@ -116,12 +141,13 @@ solve_request rows =
     solve_with (first_of (codes "code") rows) (number_of Limit rows) (number_of Rounds rows)
     (order_in rows) (aim_in rows) (is_set (codes "why") rows)
 
-abbrev pub play_with : Option Text → Option Text → Option Request
-play_with (Some file) (Some position) = Some (Play file position)
-play_with _ _ = None
+abbrev pub play_with : Option Text → Option Text → Option ℕ → Option Request
+play_with (Some file) (Some position) (Some limit) = Some (Play file position limit)
+play_with _ _ _ = None
 
 abbrev pub play_request : List Row → Option Request
 play_request rows = play_with (first_of (codes "file") rows) (first_of (codes "position") rows)
+    (number_of Limit rows)
 
 abbrev pub present_request : List Row → Option Request
 present_request rows = option_map Present (first_of (codes "text") rows)
@@ -158,12 +184,13 @@ catalogue_conflicts rows =
     (get && (new || add)) || (heaps && not get)
     || ((salvage || migrate) && (new || add || get || heaps)) || (salvage && migrate)
 
-abbrev pub catalogue_with : Option Text → Option CatalogueRequest → Option Request
-catalogue_with (Some file) (Some task) = Some (Catalogue file task)
-catalogue_with _ _ = None
+abbrev pub catalogue_with : Option Text → Option CatalogueRequest → Option ℕ → Option Request
+catalogue_with (Some file) (Some task) (Some limit) = Some (Catalogue file task limit)
+catalogue_with _ _ _ = None
 
 abbrev pub catalogue_request : List Row → Option Request
 catalogue_request rows = catalogue_with (first_of (codes "file") rows) (task_in rows)
+    (number_of Limit rows)
 
 abbrev pub desk_request : List Row → Option Request
 desk_request rows = option_map Desk (first_of (codes "script") rows)
@@ -171,20 +198,23 @@ desk_request rows = option_map Desk (first_of (codes "script") rows)
 -- ---- the commands
 
 -- a command: what it is to `clap`, what it asks for, the numbers that it takes, whether options that
--- are given exclude each other, and by which fault that is told, where they may
+-- are given exclude each other, and by which fault that is told, if they do
 pub record Asking : Type 0 where
   pub app : App
   pub request : List Row → Option Request
   pub numbers : List Quantity
   pub conflicts : List Row → Bool
-  pub exclusion : Option Exclusion
+  pub exclusion : List Row → Option Exclusion
 
 -- no options exclude each other
 abbrev pub never : List Row → Bool
 never rows = false
 
+abbrev pub untold : List Row → Option Exclusion
+untold rows = None
+
 abbrev pub check : Asking
-check = record { app = Program.check; request = check_request; numbers = Limit ∷ []; conflicts = never; exclusion = None }
+check = record { app = Program.check; request = check_request; numbers = Limit ∷ []; conflicts = never; exclusion = untold }
 
 abbrev pub solve : Asking
 solve = record {
@@ -193,38 +223,38 @@ solve = record {
   numbers =
       Limit ∷ Rounds ∷ Heaps ∷ Order ∷ DeepOrder ∷ Last ∷ PartOrder ∷ Furthest ∷ [];
   conflicts = solve_conflicts;
-  exclusion = Some exclusion.Solve;
+  exclusion = λ rows. Some exclusion.Solve;
 }
 
 abbrev pub show : Asking
-show = record { app = Program.show; request = show_request; numbers = []; conflicts = never; exclusion = None }
+show = record { app = Program.show; request = show_request; numbers = Limit ∷ []; conflicts = never; exclusion = untold }
 
 abbrev pub describe : Asking
 describe = record {
   app = Program.describe;
   request = describe_request;
-  numbers = [];
+  numbers = Limit ∷ [];
   conflicts = describe_conflicts;
-  exclusion = Some exclusion.Description;
+  exclusion = describe_exclusion;
 }
 
 abbrev pub play : Asking
-play = record { app = Program.play; request = play_request; numbers = []; conflicts = never; exclusion = None }
+play = record { app = Program.play; request = play_request; numbers = Limit ∷ []; conflicts = never; exclusion = untold }
 
 abbrev pub present : Asking
-present = record { app = Program.present; request = present_request; numbers = []; conflicts = never; exclusion = None }
+present = record { app = Program.present; request = present_request; numbers = []; conflicts = never; exclusion = untold }
 
 abbrev pub catalogue : Asking
 catalogue = record {
   app = Program.catalogue;
   request = catalogue_request;
-  numbers = Part ∷ [];
+  numbers = Part ∷ Limit ∷ [];
   conflicts = catalogue_conflicts;
-  exclusion = Some exclusion.Catalogue;
+  exclusion = λ rows. Some exclusion.Catalogue;
 }
 
 abbrev pub desk : Asking
-desk = record { app = Program.desk; request = desk_request; numbers = []; conflicts = never; exclusion = None }
+desk = record { app = Program.desk; request = desk_request; numbers = []; conflicts = never; exclusion = untold }
 
 abbrev pub commands : List Asking
 commands = check ∷ solve ∷ show ∷ describe ∷ play ∷ present ∷ catalogue ∷ desk ∷ []

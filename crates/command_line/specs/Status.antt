@@ -33,6 +33,8 @@ abbrev pub exclusion_text : Exclusion → Text
 exclusion_text exclusion.Catalogue =
     codes "misere: --heaps goes with --get, --get without --new and --add, --salvage and --migrate alone\n"
 exclusion_text exclusion.Description = codes "misere: --latex goes without --relations\n"
+exclusion_text exclusion.Outputs =
+    codes "misere: one of --latex, --relations, --json, --singular and --gap\n"
 exclusion_text exclusion.Solve =
     codes "misere: one of --heaps, --deep, --partial and --furthest, and --furthest without --order\n"
 

@@ -136,7 +136,8 @@ fn show_plan<'a>(given: &ArgMatches<'a>) -> Result<Plan<'a>, UsageFault>
     ensures { Answers show (arguments_of given.now) result }
 {
     let file = needed(given, "file")?;
-    Ok(Plan::Show { file })
+    let limit = number(given, Quantity::Limit)?;
+    Ok(Plan::Show { file, limit })
 }
 
 /// What is to be printed of a quotient.
@@ -146,11 +147,21 @@ fn output(given: &ArgMatches<'_>) -> Result<Output, UsageFault>
     ensures none { IfErr result (λ _. output_in (arguments_of given.now) ≡ None) }
     ensures mistake { IfErr result (IsMistake describe (arguments_of given.now)) }
 {
-    match (flag(given, "latex"), flag(given, "relations")) {
-        (false, false) => Ok(Output::Description),
-        (true, false) => Ok(Output::Latex),
-        (false, true) => Ok(Output::Relations),
-        (true, true) => Err(UsageFault::Exclusive(Exclusion::Description)),
+    match (
+        flag(given, "latex"),
+        flag(given, "relations"),
+        flag(given, "json"),
+        flag(given, "singular"),
+        flag(given, "gap"),
+    ) {
+        (false, false, false, false, false) => Ok(Output::Description),
+        (true, false, false, false, false) => Ok(Output::Latex),
+        (false, true, false, false, false) => Ok(Output::Relations),
+        (false, false, true, false, false) => Ok(Output::Json),
+        (false, false, false, true, false) => Ok(Output::Singular),
+        (false, false, false, false, true) => Ok(Output::Gap),
+        (true, true, false, false, false) => { Err(UsageFault::Exclusive(Exclusion::Description)) }
+        _ => Err(UsageFault::Exclusive(Exclusion::Outputs)),
     }
 }
 
@@ -160,10 +171,12 @@ fn describe_plan<'a>(given: &ArgMatches<'a>) -> Result<Plan<'a>, UsageFault>
     let file = needed(given, "file")?;
     let output = output(given)?;
     let basis = flag(given, "basis");
+    let limit = number(given, Quantity::Limit)?;
     Ok(Plan::Describe {
         file,
         output,
         basis,
+        limit,
     })
 }
 
@@ -172,7 +185,12 @@ fn play_plan<'a>(given: &ArgMatches<'a>) -> Result<Plan<'a>, UsageFault>
 {
     let file = needed(given, "file")?;
     let position = needed(given, "position")?;
-    Ok(Plan::Play { file, position })
+    let limit = number(given, Quantity::Limit)?;
+    Ok(Plan::Play {
+        file,
+        position,
+        limit,
+    })
 }
 
 fn present_plan<'a>(given: &ArgMatches<'a>) -> Result<Plan<'a>, UsageFault>
@@ -224,7 +242,8 @@ fn catalogue_plan<'a>(given: &ArgMatches<'a>) -> Result<Plan<'a>, UsageFault>
 {
     let file = needed(given, "file")?;
     let task = catalogue_task(given)?;
-    Ok(Plan::Catalogue { file, task })
+    let limit = number(given, Quantity::Limit)?;
+    Ok(Plan::Catalogue { file, task, limit })
 }
 
 fn desk_plan<'a>(given: &ArgMatches<'a>) -> Result<Plan<'a>, UsageFault>

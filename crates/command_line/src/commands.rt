@@ -134,7 +134,12 @@ fn show_command<'a>(alloc: Global) -> Result<Command<'a>, AllocError>
     ensures { IfOk result (λ c. app_of c ≡ show) }
 {
     let about = "Check a certificate, and print the quotient that it certifies";
-    command(alloc, "show", about).arg(needed(alloc, "file", "FILE", "The file of the certificate"))
+    let made = Ok(command(alloc, "show", about));
+    let made = with_arg(
+        made,
+        needed(alloc, "file", "FILE", "The file of the certificate"),
+    );
+    with_arg(made, limit(alloc))
 }
 
 fn describe_command<'a>(alloc: Global) -> Result<Command<'a>, AllocError>
@@ -144,6 +149,9 @@ fn describe_command<'a>(alloc: Global) -> Result<Command<'a>, AllocError>
     let latex = "Print it for LaTeX";
     let basis = "Give the reduced basis of the relations, by which words are multiplied by hand";
     let relations = "Print the relations alone, in one word for 'misere present'";
+    let json = "Print it as one object of JSON";
+    let singular = "Print the ideal of the relations, for Singular";
+    let gap = "Print the ideal of the relations, for GAP";
     let made = Ok(command(alloc, "describe", about));
     let made = with_arg(
         made,
@@ -151,7 +159,11 @@ fn describe_command<'a>(alloc: Global) -> Result<Command<'a>, AllocError>
     );
     let made = with_arg(made, flag(alloc, "latex", latex));
     let made = with_arg(made, flag(alloc, "basis", basis));
-    with_arg(made, flag(alloc, "relations", relations))
+    let made = with_arg(made, flag(alloc, "relations", relations));
+    let made = with_arg(made, flag(alloc, "json", json));
+    let made = with_arg(made, flag(alloc, "singular", singular));
+    let made = with_arg(made, flag(alloc, "gap", gap));
+    with_arg(made, limit(alloc))
 }
 
 fn play_command<'a>(alloc: Global) -> Result<Command<'a>, AllocError>
@@ -164,7 +176,8 @@ fn play_command<'a>(alloc: Global) -> Result<Command<'a>, AllocError>
         made,
         needed(alloc, "file", "FILE", "The file of the certificate"),
     );
-    with_arg(made, needed(alloc, "position", "POSITION", position))
+    let made = with_arg(made, needed(alloc, "position", "POSITION", position));
+    with_arg(made, limit(alloc))
 }
 
 fn present_command<'a>(alloc: Global) -> Result<Command<'a>, AllocError>
@@ -195,7 +208,8 @@ fn catalogue_command<'a>(alloc: Global) -> Result<Command<'a>, AllocError>
     let made = with_arg(made, option(alloc, "get", "CODE", get));
     let made = with_arg(made, option(alloc, "heaps", "M", heaps));
     let made = with_arg(made, flag(alloc, "salvage", salvage));
-    with_arg(made, flag(alloc, "migrate", migrate))
+    let made = with_arg(made, flag(alloc, "migrate", migrate));
+    with_arg(made, limit(alloc))
 }
 
 fn desk_command<'a>(alloc: Global) -> Result<Command<'a>, AllocError>

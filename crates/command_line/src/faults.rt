@@ -9,8 +9,11 @@ use crate::numbers::Quantity;
 pub enum Exclusion {
     /// Those of `catalogue`, or one without that which it needs.
     Catalogue,
-    /// `--latex` and `--relations` of `describe`.
+    /// `--latex` and `--relations` of `describe`, without those of `Outputs`.
     Description,
+    /// The options of `describe` that say what is printed, one of `--json`, `--singular` and `--gap`
+    /// among them.
+    Outputs,
     /// The options of `solve` that say how far a search goes.
     Solve,
 }
@@ -58,6 +61,9 @@ fn exclusion_line(exclusion: Exclusion) -> &'static str
             "misere: --heaps goes with --get, --get without --new and --add, --salvage and --migrate alone\n"
         }
         Exclusion::Description => "misere: --latex goes without --relations\n",
+        Exclusion::Outputs => {
+            "misere: one of --latex, --relations, --json, --singular and --gap\n"
+        }
         Exclusion::Solve => {
             "misere: one of --heaps, --deep, --partial and --furthest, and --furthest without --order\n"
         }

@@ -25,13 +25,13 @@ abbrev pub IsCause : Request → Failed → Failed → Stop → Type 0
 IsCause (Check None limit) before after stop = IsInputCause before.input after.input stop
 IsCause (Check (Some file) limit) before after stop = IsFileCause file before.reads after.reads stop
 IsCause (Solve code limit rounds order aim why) before after stop = IsSolveCause code stop
-IsCause (Show file) before after stop = IsFileCause file before.reads after.reads stop
-IsCause (Describe file output basis) before after stop =
+IsCause (Show file limit) before after stop = IsFileCause file before.reads after.reads stop
+IsCause (Describe file output basis limit) before after stop =
     IsFileCause file before.reads after.reads stop
-IsCause (Play file position) before after stop =
+IsCause (Play file position limit) before after stop =
     IsPlayCause file position before.reads after.reads stop
 IsCause (Present text) before after stop = IsMemory stop
-IsCause (Catalogue file task) before after stop =
+IsCause (Catalogue file task limit) before after stop =
     StopsTask file task (catalogue.failed before.reads before.writes)
     (catalogue.failed after.reads after.writes) stop
 IsCause (Desk script) before after stop = ⊥
@@ -44,10 +44,10 @@ reads_input _ = false
 -- the request reads or writes files
 abbrev pub takes_files : Option Request → Bool
 takes_files (Some (Check (Some file) limit)) = true
-takes_files (Some (Show file)) = true
-takes_files (Some (Describe file output basis)) = true
-takes_files (Some (Play file position)) = true
-takes_files (Some (Catalogue file task)) = true
+takes_files (Some (Show file limit)) = true
+takes_files (Some (Describe file output basis limit)) = true
+takes_files (Some (Play file position limit)) = true
+takes_files (Some (Catalogue file task limit)) = true
 takes_files (Some (Desk script)) = true
 takes_files _ = false
 

@@ -8,7 +8,6 @@ use Rattle.play_command.specs.Plays.{Plays}
 use Rattle.present_command.specs.Presented.{Presents}
 use Rattle.requests.specs.Requests.{Request}
 use Rattle.requests.specs.Requests.Request.{Check, Solve, Show, Describe, Play, Present, Catalogue, Desk}
-use Rattle.requests.specs.declared.plans.TheConstants.{DEFAULT_LIMIT}
 use Rattle.show_command.specs.Shown.{Shows}
 use Rattle.solve_command.specs.Solved.{Solves}
 
@@ -23,17 +22,17 @@ RespondsWith input before after (Solve code limit rounds order aim why) text suc
     Solves code
     (record { limit = limit; rounds = rounds; order = order; aim = aim; tells_why = why }) text
     succeeds
-RespondsWith input before after (Show file) text succeeds = Shows before file DEFAULT_LIMIT text succeeds
-RespondsWith input before after (Describe file output basis) text succeeds =
-    Describes before file DEFAULT_LIMIT output text succeeds
-RespondsWith input before after (Play file position) text succeeds =
-    Plays before file DEFAULT_LIMIT position text succeeds
+RespondsWith input before after (Show file limit) text succeeds = Shows before file limit text succeeds
+RespondsWith input before after (Describe file output basis limit) text succeeds =
+    Describes before file limit output text succeeds
+RespondsWith input before after (Play file position limit) text succeeds =
+    Plays before file limit position text succeeds
 RespondsWith input before after (Present presentation) text succeeds = Presents presentation text succeeds
-RespondsWith input before after (Catalogue file task) text succeeds =
-    KeepsCatalogue DEFAULT_LIMIT before after file task text succeeds
+RespondsWith input before after (Catalogue file task limit) text succeeds =
+    KeepsCatalogue limit before after file task text succeeds
 RespondsWith input before after (Desk script) text succeeds = ⊥
 
 -- the one file that a request writes
 abbrev pub file_written : Request → Bool → Option (List ℕ)
-file_written (Catalogue file task) succeeds = catalogue_written file task succeeds
+file_written (Catalogue file task limit) succeeds = catalogue_written file task succeeds
 file_written _ succeeds = None

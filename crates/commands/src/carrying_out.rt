@@ -14,7 +14,7 @@ use descriptions::Form;
 use folders::Folder;
 use play_command::play;
 use present_command::present;
-use requests::{DEFAULT_LIMIT, Plan};
+use requests::Plan;
 use show_command::show;
 use solve_command::{SolveBounds, solve};
 use std::alloc::Global;
@@ -49,16 +49,21 @@ pub(crate) fn carry_out<'a, F: Folder, S: Source>(
             Some(name) => check_file(alloc, name, limit, folder),
             None => check_input(alloc, limit, input),
         },
-        Plan::Show { file } => show(alloc, file, DEFAULT_LIMIT, folder),
+        Plan::Show { file, limit } => show(alloc, file, limit, folder),
         Plan::Describe {
             file,
             output,
             basis,
+            limit,
         } => {
             let form = if basis { Form::Basis } else { Form::Short };
-            describe(alloc, file, DEFAULT_LIMIT, form, output, folder)
+            describe(alloc, file, limit, form, output, folder)
         }
-        Plan::Play { file, position } => play(alloc, file, position, DEFAULT_LIMIT, folder),
+        Plan::Play {
+            file,
+            position,
+            limit,
+        } => play(alloc, file, position, limit, folder),
         Plan::Present { text } => present(alloc, text),
         Plan::Solve {
             code,
@@ -77,7 +82,7 @@ pub(crate) fn carry_out<'a, F: Folder, S: Source>(
             };
             solve(alloc, code, bounds)
         }
-        Plan::Catalogue { file, task } => act(alloc, folder, file, task, DEFAULT_LIMIT),
+        Plan::Catalogue { file, task, limit } => act(alloc, folder, file, task, limit),
         Plan::Desk { .. } => unreachable!(),
     }
 }

@@ -2,13 +2,15 @@
 use Rattle.std.specs.Prelude.{◌≡◌, ◌⊎◌, ℕ, Bool, true, false, List, ◌++◌, Option, Result, Ok, Err, Vec, codes}
 use Rattle.misere_theory.specs.Certificates.{Certificate}
 use Rattle.check_command.specs.Checks.{Certifies, ChecksFile}
-use Rattle.descriptions.specs.Described.{IsDescription, IsPresentable}
+use Rattle.descriptions.specs.Described.{IsDescription, IsIdealText, IsPresentable}
+use Rattle.descriptions.specs.declared.systems.System.{System}
+use Rattle.descriptions.specs.declared.systems.System.TheVariants as system
 use Rattle.relations.specs.declared.text.Notation.{Notation}
 use Rattle.relations.specs.declared.text.Notation.TheVariants as written
 use Rattle.relations.specs.declared.fault.Undescribed.{Undescribed}
 use Rattle.relations.specs.declared.fault.Undescribed.TheVariants as bound
 use Rattle.requests.specs.declared.plans.Output.{Output}
-use Rattle.requests.specs.declared.plans.Output.TheVariants.{Description, Latex, Relations}
+use Rattle.requests.specs.declared.plans.Output.TheVariants.{Description, Latex, Json, Relations, Singular, Gap}
 
 -- the line of each bound within which a quotient is not described
 abbrev pub bound_line : Undescribed → List ℕ
@@ -33,15 +35,24 @@ abbrev pub IsNoRelationsLine : List ℕ → Type 0
 IsNoRelationsLine text =
     IsBoundLine text ⊎ (text ≡ codes "not described within the bounds of present\n")
 
--- the text describes the quotient, plain or for LaTeX, or says that it isn't described
+-- the text describes the quotient, plain, for LaTeX or in JSON, or says that it isn't described
 abbrev pub DescribesIn : Notation → Certificate → List ℕ → Bool → Type 0
 DescribesIn notation c text succeeds =
     (IsDescription notation c text × (succeeds ≡ true)) ⊎ (IsBoundLine text × (succeeds ≡ false))
 
--- The text describes the quotient, or is its relations as one word, or says that it isn't described.
+-- the text is the ideal of the quotient's relations, for a system, or says that it isn't described
+abbrev pub DescribesFor : System → Certificate → List ℕ → Bool → Type 0
+DescribesFor for c text succeeds =
+    (IsIdealText for c text × (succeeds ≡ true)) ⊎ (IsBoundLine text × (succeeds ≡ false))
+
+-- The text describes the quotient, or is its relations as one word or as an ideal, or says that it
+-- isn't described.
 abbrev pub DescribesQuotient : Certificate → Output → List ℕ → Bool → Type 0
 DescribesQuotient c Description text succeeds = DescribesIn written.Plain c text succeeds
 DescribesQuotient c Latex text succeeds = DescribesIn written.Latex c text succeeds
+DescribesQuotient c Json text succeeds = DescribesIn written.Json c text succeeds
+DescribesQuotient c Singular text succeeds = DescribesFor system.Singular c text succeeds
+DescribesQuotient c Gap text succeeds = DescribesFor system.Gap c text succeeds
 DescribesQuotient c Relations text succeeds =
     (IsRelationsText c text × (succeeds ≡ true)) ⊎ (IsNoRelationsLine text × (succeeds ≡ false))
 

@@ -1,14 +1,16 @@
 //! `describe`: a certified quotient by generators and relations.
 ghost use Rattle.std.specs.Prelude.{◌≡◌, IfOk, IfErr, false};
 ghost use Rattle.command_results.specs.Stops.{IsFileCause};
-ghost use Rattle.describe_command.specs.Described.{Describes, DescribesFound, DescribesIn, DescribesQuotient, IsBoundLine, bound_line};
+ghost use Rattle.describe_command.specs.Described.{Describes, DescribesFound, DescribesIn, DescribesFor, DescribesQuotient, IsBoundLine, bound_line};
 ghost use Rattle.requests.specs.declared.plans.Output.TheVariants.{Relations};
 
 use allocation::Memory;
 use answers::Certified;
 use check_command::certified;
 use command_results::{Said, Stop};
-use descriptions::{Form, Notation, Undescribed, description_text, presentable_text};
+use descriptions::{
+    Form, Notation, System, Undescribed, description_text, ideal_text, presentable_text,
+};
 use folders::Folder;
 use requests::Output;
 use std::alloc::Global;
@@ -34,7 +36,7 @@ fn undescribed(alloc: Global, fault: Undescribed) -> Result<Said, Memory>
     }
 }
 
-/// The description of the quotient, plain or for LaTeX.
+/// The description of the quotient, plain, for LaTeX or in JSON.
 fn described(
     alloc: Global,
     certified: &Certified,
@@ -44,6 +46,21 @@ fn described(
     ensures { IfOk result (λ s. DescribesIn notation certified.now s.text.items s.succeeds) }
 {
     match description_text(alloc, notation, certified, form) {
+        Ok(text) => Ok(Said::done(text)),
+        Err(fault) => undescribed(alloc, fault),
+    }
+}
+
+/// The ideal of the quotient's relations, for a system.
+fn computed(
+    alloc: Global,
+    certified: &Certified,
+    form: Form,
+    system: System,
+) -> Result<Said, Memory>
+    ensures { IfOk result (λ s. DescribesFor system certified.now s.text.items s.succeeds) }
+{
+    match ideal_text(alloc, system, certified, form) {
         Ok(text) => Ok(Said::done(text)),
         Err(fault) => undescribed(alloc, fault),
     }
@@ -77,7 +94,10 @@ fn said(
         Ok(certified) => match output {
             Output::Description => described(alloc, &certified, form, Notation::Plain),
             Output::Latex => described(alloc, &certified, form, Notation::Latex),
+            Output::Json => described(alloc, &certified, form, Notation::Json),
             Output::Relations => presented(alloc, &certified, form),
+            Output::Singular => computed(alloc, &certified, form, System::Singular),
+            Output::Gap => computed(alloc, &certified, form, System::Gap),
         },
         Err(no) => Ok(Said::no(no)),
     }
@@ -85,8 +105,9 @@ fn said(
 
 /// The quotient that the file certifies under the limit, described: by relations that present its
 /// monoid in this form, with its portion, orders, generators, standard invariants and the pretending
-/// function in words, plain or for LaTeX; or by its relations alone, as one word that `present`
-/// takes. Or else why it certifies none, or within which bound it is not described.
+/// function in words, plain, for LaTeX or in JSON; or by its relations alone, as one word that
+/// `present` takes, or as an ideal for Singular or GAP. Or else why it certifies none, or within which
+/// bound it is not described.
 pub fn describe<'a, F: Folder>(
     alloc: Global,
     file: &'a str,

@@ -4,3 +4,4 @@ pub mod Lists
 pub mod Tameness
 pub mod RowLaws
 pub mod Assembled
+pub mod Polynomials

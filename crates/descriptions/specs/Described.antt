@@ -1,5 +1,5 @@
 -- When a text describes the quotient of a certificate.
-use Rattle.std.specs.Prelude.{◌≡◌, ◌≢◌, ℕ, ◌<◌, ◌≤◌, List, ◌++◌, Option, Some, None, All, length, vec_len}
+use Rattle.std.specs.Prelude.{◌≡◌, ◌≢◌, ℕ, ◌<◌, ◌≤◌, List, ◌++◌, Option, Some, None, All, codes, length, vec_len}
 use Rattle.std.specs.List.{AllZip}
 use Rattle.misere_theory.specs.Certificates.{Certificate, IsHeapOf, phi_at}
 use Rattle.certificate.specs.Fields.{grid_of}
@@ -12,7 +12,8 @@ use Rattle.monoid_table.specs.Grids.{Grid}
 use Rattle.presentations.specs.Text.{SpellsPresentation}
 use Rattle.relations.specs.Presented.{ArePresentation, AreNamed, IsListing, LeadTo}
 use Rattle.relations.specs.declared.text.Notation.{Notation}
-use Rattle.relations.specs.declared.text.Notation.TheVariants.{Plain, Latex}
+use Rattle.relations.specs.Printed.{words_text}
+use Rattle.relations.specs.declared.text.Notation.TheVariants.{Plain, Latex, Json}
 use Rattle.descriptions.specs.declared.choosing.Part.TheVariants.{Portion, Units, Idempotents, Kernel}
 use Rattle.descriptions.specs.declared.finding.Findings.{Findings}
 use Rattle.descriptions.specs.Invariants.{IsOf, AreThose}
@@ -20,6 +21,8 @@ use Rattle.descriptions.specs.Tame.{IsTame}
 use Rattle.descriptions.specs.Lines.{front_lines, list_lines, tail_line}
 use Rattle.descriptions.specs.Rows.{IsRowsText}
 use Rattle.descriptions.specs.Arrays.{arrays_text}
+use Rattle.descriptions.specs.Systems.{system_text}
+use Rattle.descriptions.specs.declared.systems.System.{System}
 
 -- the first heap that has the element
 pub record IsFirstHeap (c : Certificate) (element heap : ℕ) : Type 0 where
@@ -43,10 +46,12 @@ pub record Describes (c : Certificate) (elements : List ℕ) (relations : List R
   pub letters : length elements ≤ LETTERS
   pub listing_is : IsListing c.order listing
 
--- the text of the heaps' words in rows, plain or for LaTeX
+-- the text of the words of the heaps 1, 2, .., plain or for LaTeX in rows, in JSON a list
 abbrev pub AreRows : Notation → Certificate → ℕ → List (List ℕ) → List ℕ → Type 0
 AreRows Plain c n words text = IsRowsText c n words text
 AreRows Latex c n words text = text ≡ arrays_text c n words
+AreRows Json c n words text =
+    text ≡ codes ",\"heaps\":[" ++ words_text Json n (codes ",") words c.phi ++ codes "]"
 
 -- The text describes the certificate's quotient: its monoid by relations, its portion by words, how
 -- many elements there are, the first heap of each generator, the standard invariants, the words of
@@ -75,6 +80,15 @@ pub record IsDescription (notation : Notation) (c : Certificate) (text : List �
       ≡ front_lines notation c relations words portion tame heaps (length elements)
       ++ list_lines notation words units idempotents kernel (length elements)
       ++ rows ++ tail_line notation c
+
+-- The text is the ideal, for Singular or for GAP, of relations that present the certificate's monoid.
+pub record IsIdealText (system : System) (c : Certificate) (text : List ℕ) : Type 0 where
+  pub elements : List ℕ
+  pub relations : List Relation
+  pub words : List (List ℕ)
+  pub listing : List ℕ
+  pub describes : Describes c elements relations words listing
+  pub lines : text ≡ system_text system c (length elements) relations
 
 -- all that is said of what was found
 pub record AreFindings (c : Certificate) (f : Findings) : Type 0 where

@@ -3,4 +3,5 @@ pub mod Tame
 pub mod Lines
 pub mod Rows
 pub mod Arrays
+pub mod Systems
 pub mod Described

@@ -2,8 +2,9 @@
 ghost use Rattle.std.specs.Prelude.{◌≡◌, ◌<◌, ◌≤◌, IfOk, IfSome, IsTrue, All, length, vec_len};
 ghost use Rattle.std.specs.String.{string_bytes};
 ghost use Rattle.presentations.specs.declared.TheConstants.{LETTERS};
-ghost use Rattle.descriptions.specs.Described.{AreFindings, AreRows, HasTable, IsDescription, IsPresentable};
+ghost use Rattle.descriptions.specs.Described.{AreFindings, AreRows, HasTable, IsDescription, IsIdealText, IsPresentable};
 ghost use Rattle.descriptions.specs.Lines.{front_lines, list_lines, lists_end};
+ghost use Rattle.relations.specs.declared.text.Notation.TheVariants.{Json};
 
 use crate::arrays::arrays_text;
 use crate::finding::{Findings, describe_table, find, table_of};
@@ -11,10 +12,13 @@ use crate::lines::{
     count_text, generators_text, head_text, index_text, list_text, portion_text, tail_text,
 };
 use crate::rows::rows_text;
+use crate::systems::{System, system_text};
 use allocation::Memory;
 use answers::Certified;
 use presentations::{LARGEST_BOX, PresFault, Presentation, Word};
-use relations::{Form, Notation, Undescribed, presentable, relations_text, texts_spell};
+use relations::{
+    Form, Notation, Undescribed, presentable, relations_text, texts_spell, words_text,
+};
 use std::alloc::{AllocError, Global};
 
 /// What ends the lists.
@@ -24,6 +28,7 @@ fn lists_end(notation: Notation) -> &'static str
     match notation {
         Notation::Plain => "",
         Notation::Latex => "\n\\end{flushleft}\n",
+        Notation::Json => "",
     }
 }
 
@@ -110,7 +115,32 @@ fn front_text(
     Ok(text)
 }
 
-/// The heaps' words in rows.
+/// The heaps' words in a list.
+fn words_list(
+    alloc: Global,
+    certified: &Certified,
+    letters: u8,
+    words: &[Word],
+) -> Result<String, AllocError>
+    requires letters { letters ≤ LETTERS }
+    requires words { length words.now ≡ certified.now.order }
+    ensures { IfOk result
+        (λ t. AreRows Json certified.now letters words.now (string_bytes t)) }
+{
+    let cert = certified.cert();
+    let list = words_text(
+        alloc,
+        Notation::Json,
+        letters,
+        ",",
+        words,
+        cert.phi().entries(),
+    )?;
+    let text = format!(in alloc; ",\"heaps\":[{list}]")?;
+    Ok(text)
+}
+
+/// The heaps' words, in rows or in a list.
 fn heaps_text(
     alloc: Global,
     notation: Notation,
@@ -126,6 +156,7 @@ fn heaps_text(
     match notation {
         Notation::Plain => rows_text(alloc, certified, letters, words),
         Notation::Latex => arrays_text(alloc, certified, letters, words),
+        Notation::Json => words_list(alloc, certified, letters, words),
     }
 }
 
@@ -149,8 +180,9 @@ fn findings_text(
     Ok(text)
 }
 
-/// The certified quotient as the literature prints it, plain or for LaTeX: its relations in this
-/// form, its portion, orders, generators, standard invariants, and the pretending function in words.
+/// The certified quotient as the literature prints it, plain or for LaTeX, or as one object of JSON:
+/// its relations in this form, its portion, orders, generators, standard invariants, and the
+/// pretending function in words.
 /// Refuses `Letters`, `Exponents` and `Unshown` where it isn't described.
 pub fn description_text(
     alloc: Global,
@@ -162,6 +194,25 @@ pub fn description_text(
 {
     let findings = find(alloc, certified, form)?;
     let text = findings_text(alloc, notation, certified, &findings)?;
+    Ok(text)
+}
+
+/// The ideal of the certified quotient's relations in this form, for Singular or GAP, with the
+/// ordering in which the reduced basis of the relations is the reduced Gröbner basis. Refuses
+/// `Letters`, `Exponents` and `Unshown` where the quotient isn't described.
+pub fn ideal_text(
+    alloc: Global,
+    system: System,
+    certified: &Certified,
+    form: Form,
+) -> Result<String, Undescribed>
+    ensures { IfOk result (λ t. IsIdealText system certified.now (string_bytes t)) }
+{
+    let table = table_of(alloc, certified)?;
+    let description = describe_table(alloc, certified, &table, form)?;
+    let letters = description.elements.len() as u8;
+    let relations = description.relations.as_slice();
+    let text = system_text(alloc, system, certified.cert(), letters, relations)?;
     Ok(text)
 }
 

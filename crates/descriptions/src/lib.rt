@@ -9,7 +9,9 @@ mod finding;
 mod invariants;
 mod lines;
 mod rows;
+mod systems;
 mod tame;
 
-pub use describing::{description_text, presentable_text};
+pub use describing::{description_text, ideal_text, presentable_text};
 pub use relations::{Form, Notation, Undescribed};
+pub use systems::System;

@@ -2,8 +2,9 @@
 ghost use Rattle.std.specs.Prelude.{◌≡◌, ◌<◌, ◌≤◌, IfOk, All, length};
 ghost use Rattle.std.specs.String.{string_bytes};
 ghost use Rattle.misere_theory.specs.Certificates.{kind_of};
+ghost use Rattle.relations.specs.declared.text.Notation.TheVariants.{Json};
 ghost use Rattle.presentations.specs.declared.TheConstants.{LETTERS};
-ghost use Rattle.descriptions.specs.Lines.{count_line, generator_text, generators_line, generators_text, head_line, index_text, letter_text, letters_text, list_line, portion_line, tail_line, tame_text};
+ghost use Rattle.descriptions.specs.Lines.{count_line, generator_text, generators_line, generators_text, head_line, index_text, kind_text, letter_text, letters_text, list_line, portion_line, tail_line, tame_text};
 
 use allocation::Memory;
 use certificate::Cert;
@@ -48,8 +49,16 @@ pub fn index_text(alloc: Global, notation: Notation, cert: &Cert) -> Result<Stri
     let text = match notation {
         Notation::Plain => format!(in alloc; "_{heaps}")?,
         Notation::Latex => format!(in alloc; "_{{{heaps}}}")?,
+        Notation::Json => String::new(alloc),
     };
     Ok(text)
+}
+
+/// Whether the quotient is that of all heaps or of the first ones.
+fn kind_text(cert: &Cert) -> &'static str
+    ensures { result.now ≡ kind_text cert.now }
+{
+    if cert.heaps() == 0 { "full" } else { "partial" }
 }
 
 /// The line of the relations.
@@ -78,6 +87,14 @@ pub fn head_text(
             let list = relations_text(alloc, Notation::Latex, letters, "$, $", relations)?;
             let text = format!(in alloc;
                 "\\begin{{flushleft}}\n$\\mathcal{{Q}}{index}(\\mathbf{{{code}}})=\\langle {names}\\mid {list}\\rangle$"
+            )?;
+            Ok(text)
+        }
+        Notation::Json => {
+            let kind = kind_text(cert);
+            let list = relations_text(alloc, Notation::Json, letters, ",", relations)?;
+            let text = format!(in alloc;
+                "{{\"code\":\"{code}\",\"kind\":\"{kind}\",\"relations\":[{list}]"
             )?;
             Ok(text)
         }
@@ -111,6 +128,11 @@ pub fn portion_text(
             let text = format!(in alloc; "\\\\\n$\\mathcal{{P}}{index}=\\{{{list}\\}}$")?;
             Ok(text)
         }
+        Notation::Json => {
+            let list = words_text(alloc, Notation::Json, letters, ",", words, elements)?;
+            let text = format!(in alloc; ",\"portion\":[{list}]")?;
+            Ok(text)
+        }
     }
 }
 
@@ -139,6 +161,11 @@ pub fn list_text(
             let text = format!(in alloc; "\\\\\n{name} ${list}$")?;
             Ok(text)
         }
+        Notation::Json => {
+            let list = words_text(alloc, Notation::Json, letters, ",", words, elements)?;
+            let text = format!(in alloc; ",\"{name}\":[{list}]")?;
+            Ok(text)
+        }
     }
 }
 
@@ -148,7 +175,10 @@ fn tame_text(alloc: Global, notation: Notation, tame: Option<u16>) -> Result<Str
     let text = match (notation, tame) {
         (Notation::Plain, Some(n)) => format!(in alloc; "tame {n}")?,
         (Notation::Latex, Some(n)) => format!(in alloc; "tame $\\mathcal{{T}}_{{{n}}}$")?,
-        (_, None) => format!(in alloc; "wild")?,
+        (Notation::Json, Some(n)) => format!(in alloc; "{n}")?,
+        (Notation::Plain, None) => format!(in alloc; "wild")?,
+        (Notation::Latex, None) => format!(in alloc; "wild")?,
+        (Notation::Json, None) => format!(in alloc; "null")?,
     };
     Ok(text)
 }
@@ -178,6 +208,10 @@ pub fn count_text(
             )?;
             Ok(text)
         }
+        Notation::Json => {
+            let text = format!(in alloc; ",\"order\":{order},\"tame\":{tame}")?;
+            Ok(text)
+        }
     }
 }
 
@@ -196,6 +230,8 @@ fn generator_text(
     let text = match notation {
         Notation::Plain => format!(in alloc; " {name}={heap}")?,
         Notation::Latex => format!(in alloc; " ${name}=\\Phi({heap})$")?,
+        Notation::Json if letter == 0 => format!(in alloc; "\"{name}\":{heap}")?,
+        Notation::Json => format!(in alloc; ",\"{name}\":{heap}")?,
     };
     Ok(text)
 }
@@ -233,6 +269,7 @@ pub fn generators_text(
     let text = match notation {
         Notation::Plain => format!(in alloc; "generators{list}\n")?,
         Notation::Latex => format!(in alloc; "\\\\\ngenerators{list}")?,
+        Notation::Json => format!(in alloc; ",\"generators\":{{{list}}}")?,
     };
     Ok(text)
 }
@@ -248,7 +285,20 @@ pub fn tail_text(alloc: Global, notation: Notation, cert: &Cert) -> Result<Strin
     let text = match notation {
         Notation::Plain => format!(in alloc; "heaps to {last}\n")?,
         Notation::Latex => format!(in alloc; "\\noindent heaps to ${last}$\n")?,
+        Notation::Json => period_text(alloc, cert)?,
     };
+    Ok(text)
+}
+
+/// The start and the period, at the end of an object of JSON.
+fn period_text(alloc: Global, cert: &Cert) -> Result<String, AllocError>
+    ensures { IfOk result (λ t. string_bytes t ≡ tail_line Json cert.now) }
+{
+    let (start, period) = (cert.start(), cert.period());
+    let text = format!(in alloc;
+        ",\"start\":{start},\"period\":{period}}}
+"
+    )?;
     Ok(text)
 }
 
@@ -268,5 +318,6 @@ fn repeat_text(alloc: Global, notation: Notation, cert: &Cert) -> Result<String,
             )?;
             Ok(text)
         }
+        Notation::Json => period_text(alloc, cert),
     }
 }

@@ -1,14 +1,15 @@
--- The texts of words and relations, as `present` reads them and for LaTeX. This project's own.
+-- The texts of words and relations, as `present` reads them, for LaTeX and in JSON. This project's own.
 use Rattle.std.specs.Prelude.{◌≡◌, ℕ, zero, suc, ◌+◌, ◌≤◌, ◌==◌, List, [], ◌∷◌, ◌++◌, length, slice_index, slice_index_or, All, if◌then◌else◌, codes, decimal, encode_utf8}
 use Rattle.presentations.specs.declared.TheConstants.{LETTERS, LARGEST_EXPONENT}
 use Rattle.presentations.specs.declared.read.Relation.{Relation}
 use Rattle.relations.specs.declared.text.Notation.{Notation}
-use Rattle.relations.specs.declared.text.Notation.TheVariants.{Plain, Latex}
+use Rattle.relations.specs.declared.text.Notation.TheVariants.{Plain, Latex, Json}
 
 -- a letter with its exponent, as `present` reads it or as LaTeX sets it
 abbrev pub raised_text : Notation → ℕ → ℕ → List ℕ
 raised_text Plain letter k = encode_utf8 (97 + letter) ++ codes "^" ++ decimal k
 raised_text Latex letter k = encode_utf8 (97 + letter) ++ codes "^{" ++ decimal k ++ codes "}"
+raised_text Json letter k = encode_utf8 (97 + letter) ++ codes "^" ++ decimal k
 
 -- nothing for the exponent 0, the letter alone for 1, else the letter with its exponent
 abbrev pub factor_text : Notation → ℕ → ℕ → List ℕ
@@ -25,11 +26,24 @@ abbrev pub or_one : List ℕ → List ℕ
 or_one [] = codes "1"
 or_one (b ∷ bytes) = b ∷ bytes
 
+-- a word is a string of JSON, and stands bare in the other notations
+abbrev pub quoted : Notation → List ℕ → List ℕ
+quoted Plain text = text
+quoted Latex text = text
+quoted Json text = codes "\"" ++ text ++ codes "\""
+
 abbrev pub word_text : Notation → ℕ → List ℕ → List ℕ
-word_text notation n word = or_one (factors_text notation n word)
+word_text notation n word = quoted notation (or_one (factors_text notation n word))
+
+-- two words with a sign between them, or in JSON a list of the two
+abbrev pub equal_text : Notation → List ℕ → List ℕ → List ℕ
+equal_text Plain left right = left ++ codes "=" ++ right
+equal_text Latex left right = left ++ codes "=" ++ right
+equal_text Json left right = codes "[" ++ left ++ codes "," ++ right ++ codes "]"
 
 abbrev pub relation_text : Notation → ℕ → Relation → List ℕ
-relation_text notation n r = word_text notation n r.left ++ codes "=" ++ word_text notation n r.right
+relation_text notation n r =
+    equal_text notation (word_text notation n r.left) (word_text notation n r.right)
 
 -- a text before each relation
 abbrev pub more_text : Notation → ℕ → List ℕ → List Relation → List ℕ

@@ -2,7 +2,7 @@
 ghost use Rattle.std.specs.Prelude.{◌≡◌, ◌<◌, ◌≤◌, [], IfOk, All, length, slice_index_or};
 ghost use Rattle.std.specs.String.{string_bytes};
 ghost use Rattle.presentations.specs.declared.TheConstants.{LETTERS};
-ghost use Rattle.relations.specs.Printed.{factor_text, factors_text, word_text, relation_text, more_text, relations_text, more_words, words_text};
+ghost use Rattle.relations.specs.Printed.{factor_text, factors_text, or_one, word_text, relation_text, more_text, relations_text, more_words, words_text};
 
 use presentations::{Relation, Word};
 use std::alloc::{AllocError, Global};
@@ -14,6 +14,8 @@ pub enum Notation {
     Plain,
     /// `a^{12}`, as LaTeX sets it in formulas.
     Latex,
+    /// `"a^12"`, a string of JSON.
+    Json,
 }
 
 /// A letter with its exponent, or nothing for the exponent 0.
@@ -37,6 +39,7 @@ pub fn factor_text(
     let text = match notation {
         Notation::Plain => format!(in alloc; "{name}^{exponent}")?,
         Notation::Latex => format!(in alloc; "{name}^{{{exponent}}}")?,
+        Notation::Json => format!(in alloc; "{name}^{exponent}")?,
     };
     Ok(text)
 }
@@ -59,6 +62,25 @@ fn factors_text(
     Ok(text)
 }
 
+/// The factors of the first letters, or 1 if there are none.
+fn product_text(
+    alloc: Global,
+    notation: Notation,
+    letters: u8,
+    word: &Word,
+) -> Result<String, AllocError>
+    requires { letters ≤ LETTERS }
+    ensures { IfOk result
+        (λ t. string_bytes t ≡ or_one (factors_text notation letters word.now)) }
+{
+    let text = factors_text(alloc, notation, letters, word)?;
+    if text.len() == 0 {
+        let one = format!(in alloc; "1")?;
+        return Ok(one);
+    }
+    Ok(text)
+}
+
 /// A word in the first letters.
 pub fn word_text(
     alloc: Global,
@@ -69,12 +91,14 @@ pub fn word_text(
     requires { letters ≤ LETTERS }
     ensures { IfOk result (λ t. string_bytes t ≡ word_text notation letters word.now) }
 {
-    let text = factors_text(alloc, notation, letters, word)?;
-    if text.len() == 0 {
-        let one = format!(in alloc; "1")?;
-        return Ok(one);
+    let product = product_text(alloc, notation, letters, word)?;
+    match notation {
+        Notation::Plain | Notation::Latex => Ok(product),
+        Notation::Json => {
+            let text = format!(in alloc; "\"{product}\"")?;
+            Ok(text)
+        }
     }
-    Ok(text)
 }
 
 /// A relation between words in the first letters.
@@ -91,7 +115,11 @@ pub fn relation_text(
         word_text(alloc, notation, letters, &r.left)?,
         word_text(alloc, notation, letters, &r.right)?,
     );
-    let text = format!(in alloc; "{left}={right}")?;
+    let text = match notation {
+        Notation::Plain => format!(in alloc; "{left}={right}")?,
+        Notation::Latex => format!(in alloc; "{left}={right}")?,
+        Notation::Json => format!(in alloc; "[{left},{right}]")?,
+    };
     Ok(text)
 }
 

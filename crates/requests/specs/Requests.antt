@@ -21,11 +21,11 @@ pub data CatalogueRequest : Type 0 where
 pub data Request : Type 0 where
   Check : Option (List ℕ) → ℕ → Request
   Solve : List ℕ → ℕ → ℕ → ℕ → Aim → Bool → Request
-  Show : List ℕ → Request
-  Describe : List ℕ → Output → Bool → Request
-  Play : List ℕ → List ℕ → Request
+  Show : List ℕ → ℕ → Request
+  Describe : List ℕ → Output → Bool → ℕ → Request
+  Play : List ℕ → List ℕ → ℕ → Request
   Present : List ℕ → Request
-  Catalogue : List ℕ → CatalogueRequest → Request
+  Catalogue : List ℕ → CatalogueRequest → ℕ → Request
   Desk : List ℕ → Request
 
 -- what a task asks for
@@ -43,9 +43,10 @@ abbrev pub request_of : Plan → Request
 request_of (plan.Check file limit) = Check (option_map (λ f. f.now) file) limit
 request_of (plan.Solve code limit rounds order aim why) =
     Solve code.now limit rounds order aim why
-request_of (plan.Show file) = Show file.now
-request_of (plan.Describe file output basis) = Describe file.now output basis
-request_of (plan.Play file position) = Play file.now position.now
+request_of (plan.Show file limit) = Show file.now limit
+request_of (plan.Describe file output basis limit) = Describe file.now output basis limit
+request_of (plan.Play file position limit) = Play file.now position.now limit
 request_of (plan.Present text) = Present text.now
-request_of (plan.Catalogue file asked) = Catalogue file.now (catalogue_request_of asked)
+request_of (plan.Catalogue file asked limit) =
+    Catalogue file.now (catalogue_request_of asked) limit
 request_of (plan.Desk script) = Desk script.now

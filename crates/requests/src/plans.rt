@@ -36,30 +36,34 @@ pub enum Plan<'a> {
         aim: Aim,
         tells_why: bool,
     },
-    /// Print the quotient that the file certifies.
+    /// Print the quotient that the file certifies under the limit.
     Show {
         file: &'a str,
+        limit: u32,
     },
-    /// Describe the quotient that the file certifies, by the reduced basis of its relations or else
-    /// by a short list.
+    /// Describe the quotient that the file certifies under the limit, by the reduced basis of its
+    /// relations or else by a short list.
     Describe {
         file: &'a str,
         output: Output,
         basis: bool,
+        limit: u32,
     },
-    /// Answer in a position by the quotient that the file certifies.
+    /// Answer in a position by the quotient that the file certifies under the limit.
     Play {
         file: &'a str,
         position: &'a str,
+        limit: u32,
     },
     /// Print the monoid that the text presents.
     Present {
         text: &'a str,
     },
-    /// Do something with the catalogue in the file.
+    /// Do something with the catalogue in the file; each certificate is checked under the limit.
     Catalogue {
         file: &'a str,
         task: CatalogueTask<'a>,
+        limit: u32,
     },
     /// Take the steps of the script in the file, one after another at one desk.
     Desk {
@@ -74,8 +78,14 @@ pub enum Output {
     Description,
     /// The same for LaTeX.
     Latex,
+    /// The same as one object of JSON.
+    Json,
     /// Its relations alone, as one word that `present` takes.
     Relations,
+    /// The ideal of its relations, for Singular.
+    Singular,
+    /// The same for GAP.
+    Gap,
 }
 
 /// What is asked of a catalogue.

@@ -50,11 +50,13 @@ fn plan_of(asked: &Asked) -> Plan<'static> {
         Asked::Task(task) => Plan::Catalogue {
             file: "x.json",
             task: *task,
+            limit: 100000,
         },
         Asked::Description(output, basis) => Plan::Describe {
             file: "a.mqc",
             output: *output,
             basis: *basis,
+            limit: 100000,
         },
     }
 }
@@ -79,7 +81,7 @@ impl Row for Asks {
     }
 }
 
-static ASKED: [Asks; 42] = [
+static ASKED: [Asks; 52] = [
     Asks(
         "check",
         Asked::Plan(Plan::Check {
@@ -115,7 +117,20 @@ static ASKED: [Asks; 42] = [
             limit: 8,
         }),
     ),
-    Asks("show|a.mqc", Asked::Plan(Plan::Show { file: "a.mqc" })),
+    Asks(
+        "show|a.mqc",
+        Asked::Plan(Plan::Show {
+            file: "a.mqc",
+            limit: 100000,
+        }),
+    ),
+    Asks(
+        "show|--limit|8|a.mqc",
+        Asked::Plan(Plan::Show {
+            file: "a.mqc",
+            limit: 8,
+        }),
+    ),
     Asks(
         "describe|a.mqc",
         Asked::Description(Output::Description, false),
@@ -127,6 +142,35 @@ static ASKED: [Asks; 42] = [
     Asks(
         "describe|--relations|a.mqc",
         Asked::Description(Output::Relations, false),
+    ),
+    Asks(
+        "describe|a.mqc|--json",
+        Asked::Description(Output::Json, false),
+    ),
+    Asks(
+        "describe|a.mqc|--basis|--json",
+        Asked::Description(Output::Json, true),
+    ),
+    Asks(
+        "describe|--singular|a.mqc",
+        Asked::Description(Output::Singular, false),
+    ),
+    Asks(
+        "describe|a.mqc|--gap",
+        Asked::Description(Output::Gap, false),
+    ),
+    Asks(
+        "describe|--gap|--basis|a.mqc",
+        Asked::Description(Output::Gap, true),
+    ),
+    Asks(
+        "describe|a.mqc|--limit|1|--json",
+        Asked::Plan(Plan::Describe {
+            file: "a.mqc",
+            output: Output::Json,
+            basis: false,
+            limit: 1,
+        }),
     ),
     Asks(
         "describe|a.mqc|--basis",
@@ -146,6 +190,15 @@ static ASKED: [Asks; 42] = [
         Asked::Plan(Plan::Play {
             file: "a.mqc",
             position: "1 2 2",
+            limit: 100000,
+        }),
+    ),
+    Asks(
+        "play|a.mqc|--limit=1000000|1 2 2",
+        Asked::Plan(Plan::Play {
+            file: "a.mqc",
+            position: "1 2 2",
+            limit: 1000000,
         }),
     ),
     Asks(
@@ -194,6 +247,22 @@ static ASKED: [Asks; 42] = [
         Asked::Aimed(64, Aim::Whole { heaps: 24 }, true),
     ),
     Asks("catalogue|x.json", Asked::Task(CatalogueTask::Print)),
+    Asks(
+        "catalogue|x.json|--limit|3",
+        Asked::Plan(Plan::Catalogue {
+            file: "x.json",
+            task: CatalogueTask::Print,
+            limit: 3,
+        }),
+    ),
+    Asks(
+        "catalogue|x.json|--add|a.mqc|--limit|1000000",
+        Asked::Plan(Plan::Catalogue {
+            file: "x.json",
+            task: CatalogueTask::Add("a.mqc"),
+            limit: 1000000,
+        }),
+    ),
     Asks("catalogue|x.json|--new", Asked::Task(CatalogueTask::New)),
     Asks(
         "catalogue|x.json|--add|a.mqc",
@@ -251,7 +320,7 @@ static ASKED: [Asks; 42] = [
 
 #[test]
 fn asks_for_plans(rt: HostRuntime) {
-    assert!(rt; count_held(rt.alloc(), &ASKED) == 42);
+    assert!(rt; count_held(rt.alloc(), &ASKED) == 52);
 }
 
 /// Whether the fault has this status, and a text with this part.
@@ -291,7 +360,7 @@ impl Row for Refuses {
     }
 }
 
-static REFUSED: [Refuses; 125] = [
+static REFUSED: [Refuses; 142] = [
     Refuses("check|--limit|0", Why::Number(Quantity::Limit)),
     Refuses("check|--limit|1000001", Why::Number(Quantity::Limit)),
     Refuses("check|--limit|08", Why::Number(Quantity::Limit)),
@@ -300,6 +369,13 @@ static REFUSED: [Refuses; 125] = [
     Refuses("check|--limit|", Why::Number(Quantity::Limit)),
     Refuses("check|--limit|4294967297", Why::Number(Quantity::Limit)),
     Refuses("solve|0.3|--limit|0", Why::Number(Quantity::Limit)),
+    Refuses("show|a.mqc|--limit|0", Why::Number(Quantity::Limit)),
+    Refuses(
+        "describe|a.mqc|--limit|1000001",
+        Why::Number(Quantity::Limit),
+    ),
+    Refuses("play|a.mqc|1|--limit|x", Why::Number(Quantity::Limit)),
+    Refuses("catalogue|x.json|--limit|0", Why::Number(Quantity::Limit)),
     Refuses("solve|0.3|--rounds|0", Why::Number(Quantity::Rounds)),
     Refuses("solve|0.3|--rounds|1001", Why::Number(Quantity::Rounds)),
     Refuses("solve|0.3|--heaps|1", Why::Number(Quantity::Heaps)),
@@ -432,6 +508,30 @@ static REFUSED: [Refuses; 125] = [
         "describe|--relations|--basis|--latex|a.mqc",
         Why::Exclusive(Exclusion::Description),
     ),
+    Refuses(
+        "describe|a.mqc|--json|--latex",
+        Why::Exclusive(Exclusion::Outputs),
+    ),
+    Refuses(
+        "describe|a.mqc|--singular|--relations",
+        Why::Exclusive(Exclusion::Outputs),
+    ),
+    Refuses(
+        "describe|a.mqc|--json|--singular",
+        Why::Exclusive(Exclusion::Outputs),
+    ),
+    Refuses(
+        "describe|a.mqc|--json|--gap",
+        Why::Exclusive(Exclusion::Outputs),
+    ),
+    Refuses(
+        "describe|a.mqc|--singular|--gap|--basis",
+        Why::Exclusive(Exclusion::Outputs),
+    ),
+    Refuses(
+        "describe|a.mqc|--latex|--relations|--gap",
+        Why::Exclusive(Exclusion::Outputs),
+    ),
     Refuses("describe", Why::Words),
     Refuses("describe|a.mqc|b.mqc", Why::Words),
     Refuses("describe|a.mqc|--basis|--basis", Why::Words),
@@ -442,6 +542,13 @@ static REFUSED: [Refuses; 125] = [
     Refuses("describe|--help", Why::Help("--latex")),
     Refuses("describe|--help", Why::Help("--basis")),
     Refuses("describe|--help", Why::Help("--relations")),
+    Refuses("describe|--help", Why::Help("--json")),
+    Refuses("describe|--help", Why::Help("--singular")),
+    Refuses("describe|--help", Why::Help("--gap")),
+    Refuses("describe|--help", Why::Help("--limit <N>")),
+    Refuses("show|--help", Why::Help("--limit <N>")),
+    Refuses("play|--help", Why::Help("--limit <N>")),
+    Refuses("catalogue|--help", Why::Help("--limit <N>")),
     Refuses(
         "check|--help",
         Why::Help("Check a certificate, and print the verdict"),
@@ -540,7 +647,7 @@ fn is_incomplete(alloc: Global) -> bool {
 
 #[test]
 fn tells_why_words_ask_for_nothing(rt: HostRuntime) {
-    assert!(rt; count_held(rt.alloc(), &REFUSED) == 125);
+    assert!(rt; count_held(rt.alloc(), &REFUSED) == 142);
     assert!(rt; is_incomplete(rt.alloc()));
 }
 
@@ -549,6 +656,7 @@ fn is_played(alloc: Global, word: &str) -> bool {
     let want = Plan::Play {
         file: word,
         position: word,
+        limit: 100000,
     };
     is_asked(alloc, &["misere", "play", word, word], want)
 }

@@ -43,7 +43,7 @@ impl Row for Described {
     }
 }
 
-static ROWS: [Described; 12] = [
+static ROWS: [Described; 17] = [
     Described(
         Asked(OF_0_1, LIMIT, Form::Short, Output::Description),
         true,
@@ -152,6 +152,44 @@ kernel $b$, $ab$, $b^{2}$, $ab^{2}$\n\
 \\noindent $\\Phi(n+3)=\\Phi(n)$ for $n\\ge1$\n",
     ),
     Described(
+        Asked(OF_0_75, LIMIT, Form::Short, Output::Json),
+        true,
+        "{\"code\":\"0.75\",\"kind\":\"full\",\"relations\":[[\"a^2\",\"1\"],[\"bc\",\"ab\"],[\"c^2\",\"b^2\"]],\
+\"portion\":[\"a\",\"b^2\"],\"order\":8,\"tame\":null,\"generators\":{\"a\":1,\"b\":2,\"c\":5},\
+\"units\":[\"1\",\"a\"],\"idempotents\":[\"1\",\"b^2\"],\"kernel\":[\"b\",\"ab\",\"b^2\",\"ab^2\"],\
+\"heaps\":[\"a\",\"b\",\"a\",\"b\",\"c\",\"b\",\"c\",\"b\",\"ab^2\"],\"start\":8,\"period\":2}\n",
+    ),
+    Described(
+        Asked(PART_OF_0_75, LIMIT, Form::Basis, Output::Json),
+        true,
+        "{\"code\":\"0.75\",\"kind\":\"partial\",\
+\"relations\":[[\"a^2\",\"1\"],[\"b^3\",\"b\"],[\"bc\",\"ab\"],[\"c^2\",\"b^2\"]],\
+\"portion\":[\"a\",\"b^2\"],\"order\":8,\"tame\":null,\"generators\":{\"a\":1,\"b\":2,\"c\":5},\
+\"units\":[\"1\",\"a\"],\"idempotents\":[\"1\",\"b^2\"],\"kernel\":[\"b\",\"ab\",\"b^2\",\"ab^2\"],\
+\"heaps\":[\"a\",\"b\",\"a\",\"b\",\"c\",\"b\",\"c\",\"b\"],\"start\":9,\"period\":0}\n",
+    ),
+    Described(
+        Asked(OF_0_33, LIMIT, Form::Short, Output::Singular),
+        true,
+        "// Q(0.33), of order 6: vdim(std(I))\nring R = 0,(b,a),dp;\n\
+ideal I =\n  a^2-1,\n  b^3-b;\n",
+    ),
+    Described(
+        Asked(PART_OF_0_75, LIMIT, Form::Short, Output::Gap),
+        true,
+        "# Q_8(0.75), of order 8: ReducedGroebnerBasis(I, O)\n\
+c := Indeterminate(Rationals, \"c\" : new);;\n\
+b := Indeterminate(Rationals, \"b\" : new);;\n\
+a := Indeterminate(Rationals, \"a\" : new);;\n\
+I := [\n  a^2-1,\n  b*c-a*b,\n  c^2-b^2];;\n\
+O := MonomialGrevlexOrdering(c,b,a);;\n",
+    ),
+    Described(
+        Asked(OF_0_33, 1, Form::Short, Output::Json),
+        false,
+        "no 8 Limit\n",
+    ),
+    Described(
         Asked(OF_0_33, LIMIT, Form::Short, Output::Relations),
         true,
         "a^2=1 b^3=b\n",
@@ -223,5 +261,5 @@ fn describes_the_large(alloc: Global) -> bool {
 
 #[test]
 fn describes_quotients(rt: HostRuntime) {
-    assert!(rt; count_held(rt.alloc(), &ROWS) == 12 && describes_the_large(rt.alloc()));
+    assert!(rt; count_held(rt.alloc(), &ROWS) == 17 && describes_the_large(rt.alloc()));
 }

@@ -64,7 +64,7 @@ fn ends_with<S: Source>(alloc: Global, run: &Run, input: &mut S, held: &str) -> 
 const YES: &str = "yes 0.3 order 2 start 1 period 2\n";
 
 /// Of most a second call of the folder would fail.
-static ROWS: [Run; 56] = [
+static ROWS: [Run; 66] = [
     Run(
         "check|0.33.mqc",
         2,
@@ -113,6 +113,55 @@ kernel b ab b^2 ab^2\n0+ a b a b c b c b\nheaps to 8\n",
         2,
         0,
         "a^2=1 bc=ab c^2=b^2 b^3=b c^4=c^2\n",
+        "",
+    ),
+    Run(
+        "describe|0.3.mqc|--json",
+        2,
+        0,
+        "{\"code\":\"0.3\",\"kind\":\"full\",\"relations\":[[\"a^2\",\"1\"]],\"portion\":[\"a\"],\"order\":2,\"tame\":1,\
+\"generators\":{\"a\":1},\"units\":[\"1\",\"a\"],\"idempotents\":[\"1\"],\"kernel\":[\"1\",\"a\"],\
+\"heaps\":[\"a\",\"1\"],\"start\":1,\"period\":2}\n",
+        "",
+    ),
+    Run(
+        "describe|0.75.mqc|--singular|--basis",
+        2,
+        0,
+        "// Q(0.75), of order 8: vdim(std(I))\nring R = 0,(c,b,a),dp;\n\
+ideal I =\n  a^2-1,\n  b^3-b,\n  b*c-a*b,\n  c^2-b^2;\n",
+        "",
+    ),
+    Run(
+        "describe|0.75.mqc|--json|--gap",
+        2,
+        2,
+        "",
+        "misere: one of --latex, --relations, --json, --singular and --gap\n",
+    ),
+    Run(
+        "describe|0.75.mqc|--latex|--relations",
+        2,
+        2,
+        "",
+        "misere: --latex goes without --relations\n",
+    ),
+    Run("show|0.3.mqc|--limit|2", 2, 1, "no 8 Limit\n", ""),
+    Run("describe|0.3.mqc|--limit|2", 2, 1, "no 8 Limit\n", ""),
+    Run("play|0.3.mqc|1|--limit|2", 2, 1, "no 8 Limit\n", ""),
+    Run("play|0.3.mqc|1 1|--limit|3", 2, 0, "wins 1 -> 0\n", ""),
+    Run(
+        "catalogue|x.json|--limit|2",
+        2,
+        1,
+        "refused 3 Entry 1 no 8 Limit\n",
+        "",
+    ),
+    Run(
+        "catalogue|x.json|--limit|3",
+        2,
+        0,
+        "0.3 order 2 start 1 period 2\n",
         "",
     ),
     Run(
@@ -291,7 +340,7 @@ fn makes_anew(alloc: Global) -> bool {
 
 #[test]
 fn does_what_is_asked(rt: HostRuntime) {
-    assert!(rt; count_held(rt.alloc(), &ROWS) == 56 && makes_anew(rt.alloc()));
+    assert!(rt; count_held(rt.alloc(), &ROWS) == 66 && makes_anew(rt.alloc()));
     assert!(rt; reads_input(rt.alloc()) && tells_no_input(rt.alloc()));
 }
 

@@ -27,6 +27,9 @@ salvage = flag (codes "salvage")
 abbrev migrate : Rule
 migrate = flag (codes "migrate")
 
+abbrev limit : Rule
+limit = option (codes "limit")
+
 pub returns : goal.returns
 returns c =
     let one = c.with_arg-made.ensures name [] file c.command.ensures c.needed.ensures.rule
@@ -41,5 +44,8 @@ returns c =
     c.option-3.ensures.rule c.option-3.ensures.local in
     let six = c.with_arg-made-6.ensures name (file ∷ new ∷ add ∷ get ∷ heaps ∷ []) salvage five
     c.flag-2.ensures.rule c.flag-2.ensures.local in
-    c.with_arg.ensures name (file ∷ new ∷ add ∷ get ∷ heaps ∷ salvage ∷ []) migrate six
-    c.flag-3.ensures.rule c.flag-3.ensures.local
+    let seven = c.with_arg-made-7.ensures name
+    (file ∷ new ∷ add ∷ get ∷ heaps ∷ salvage ∷ []) migrate six
+    c.flag-3.ensures.rule c.flag-3.ensures.local in
+    c.with_arg.ensures name (file ∷ new ∷ add ∷ get ∷ heaps ∷ salvage ∷ migrate ∷ []) limit seven
+    c.limit.ensures.rule c.limit.ensures.local

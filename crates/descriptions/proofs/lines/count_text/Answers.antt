@@ -9,11 +9,19 @@ returns-in-Plain c = rw (
   c.in-Plain.is,
 ) (simp append_assoc refl)
 
-pub returns : goal.returns
-returns c = rw (
+pub returns-in-Latex : goal.returns-in-Latex
+returns-in-Latex c = rw (
   c.in_ok-text-in-Latex.ensures.ok,
   c.in_ok-tame.ensures,
   c.order-order.ensures.value,
   c.requires,
   c.in-Latex.is,
+) (simp append_assoc refl)
+
+pub returns : goal.returns
+returns c = rw (
+  c.in_ok-text-in-Json.ensures.ok,
+  c.in_ok-tame.ensures,
+  c.order-order.ensures.value,
+  c.in-Json.is,
 ) (simp append_assoc refl)

@@ -12,8 +12,8 @@ returns-in-Plain c = rw (
   c.in-Plain.is,
 ) (simp append_assoc refl)
 
-pub returns : goal.returns
-returns c = rw (
+pub returns-in-Latex : goal.returns-in-Latex
+returns-in-Latex c = rw (
   c.in_ok-text-in-Latex.ensures.ok,
   c.in_ok-code.ensures,
   c.code.ensures,
@@ -21,4 +21,14 @@ returns c = rw (
   c.in_ok-list-in-Latex.ensures,
   c.requires.index,
   c.in-Latex.is,
+) (simp append_assoc refl)
+
+pub returns : goal.returns
+returns c = rw (
+  c.in_ok-text-in-Json.ensures.ok,
+  c.in_ok-code.ensures,
+  c.code.ensures,
+  c.in_ok-list-in-Json.ensures,
+  c.kind_text-kind.ensures,
+  c.in-Json.is,
 ) (simp append_assoc refl)

@@ -1,0 +1,7 @@
+use Rattle.std.proofs.Common.{◌≡◌}
+use Rattle.std.specs.String.{string_bytes}
+use Rattle.descriptions.specs.Systems.{indeterminates_text}
+use Rattle.descriptions.proofs.systems.indeterminates_text.Given as goal
+
+abbrev pub invariant-loop-k : goal.invariant-loop-k
+invariant-loop-k l = string_bytes l.text ≡ indeterminates_text l.letters l.k
