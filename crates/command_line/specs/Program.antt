@@ -39,10 +39,10 @@ solve = command (codes "solve")
 abbrev pub show : App
 show = command (codes "show") (needed (codes "file") ∷ option (codes "limit") ∷ [])
 
--- describe FILE [--latex] [--basis] [--relations] [--limit N]
+-- describe [FILE] [--latex] [--basis] [--relations] [--limit N]
 abbrev pub describe : App
 describe = command (codes "describe")
-    (needed (codes "file") ∷ flag (codes "latex") ∷ flag (codes "basis")
+    (optional (codes "file") ∷ flag (codes "latex") ∷ flag (codes "basis")
     ∷ flag (codes "relations") ∷ option (codes "limit") ∷ [])
 
 -- play FILE POSITION [--limit N]
