@@ -5,10 +5,11 @@ ghost use Rattle.catalogue.specs.Texts.{catalogue_text};
 ghost use Rattle.catalogue_command.specs.Answers.{Adds, AddsAnswer, Begins, Creates, IsAddition, Takes};
 ghost use Rattle.catalogue_command.specs.Stops.{StopsAdd, StopsCreate, StopsList, StopsSalvage, failed};
 
-use crate::files::{put, read};
+use crate::files::{put, read, read_front};
 use crate::lines::{added_line, last_line, line};
 use allocation::Memory;
 use catalogue::{AddFault, Catalogue, LoadFault};
+use check_command::fronts_decide;
 use checker::{Certified, check};
 use command_results::{Said, Stop};
 use folders::Folder;
@@ -134,7 +135,8 @@ fn extended<'a, F: Folder>(
         (failed (F.failed_reads folder.old) (F.failed_writes folder.old))
         (failed (F.failed_reads folder.new) (F.failed_writes folder.new))) }
 {
-    let bytes = read(folder, certificate)?;
+    fronts_decide();
+    let bytes = read_front(folder, certificate)?;
     let report = addition(alloc, catalogue, &bytes, limit)?;
     if report.succeeds {
         save(folder, file, catalogue)?;

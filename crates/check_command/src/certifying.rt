@@ -1,13 +1,14 @@
-//! Certified quotients out of files.
-ghost use Rattle.std.specs.Prelude.{◌≡◌, IfOk, IfErr};
-ghost use Rattle.check_command.specs.Checks.{Finds, Judges};
-ghost use Rattle.command_results.specs.Stops.{IsFileCause};
+//! Certified quotients, for other commands.
+ghost use Rattle.std.specs.Prelude.{◌≡◌, false, IfOk, IfErr, is_none, is_some, option_map};
+ghost use Rattle.check_command.specs.Checks.{AreGiven, Finds, IsGivenCause, Judges, failed};
 
+use crate::giving::given_bytes;
 use allocation::Memory;
-use checker::{Certified, check};
-use command_results::{Stop, read_file};
+use checker::{Certified, check, verdicts_are_true};
+use command_results::Stop;
 use folders::Folder;
 use std::alloc::Global;
+use streams::Source;
 use verdict_texts::verdict_text;
 
 /// Checks the bytes under the limit: their quotient, or else the text of a no.
@@ -22,21 +23,32 @@ fn judged(alloc: Global, bytes: &[u8], limit: u32) -> Result<Result<Certified, V
     Ok(Err(text.into_bytes()))
 }
 
-/// Checks the file under the limit: the quotient that it certifies, or else the text of a no.
-pub fn certified<'a, F: Folder>(
+/// Checks the certificate in the file, or on standard input where no file is named, under the
+/// limit: the quotient that it certifies, or else the text of a no. Whichever of the two isn't read
+/// is left alone.
+pub fn certified<'a, F: Folder, S: Source>(
     alloc: Global,
-    file: &'a str,
+    file: Option<&'a str>,
     limit: u32,
     folder: &mut F,
+    input: &mut S,
 ) -> Result<Result<Certified, Vec<u8>>, Stop<'a>>
-    ensures found { IfOk result (Finds (F.files folder.old) file.entry.now limit) }
+    ensures found { let named = option_map (λ f. f.now) file.entry in
+        IfOk result (Finds (AreGiven (S.left input.old) (F.files folder.old) named) limit) }
     ensures kept { F.files folder.new ≡ F.files folder.old }
-    ensures succeeds { IfOk result (λ _. F.failed_reads folder.new ≡ F.failed_reads folder.old) }
+    ensures succeeds { IfOk result
+        (λ _. failed (S.failures input.new) (F.failed_reads folder.new)
+        ≡ failed (S.failures input.old) (F.failed_reads folder.old)) }
+    ensures stops { IfErr result (IsGivenCause (option_map (λ f. f.now) file.entry)
+        (failed (S.failures input.old) (F.failed_reads folder.old))
+        (failed (S.failures input.new) (F.failed_reads folder.new))) }
     ensures writes { F.failed_writes folder.new ≡ F.failed_writes folder.old }
-    ensures stops { IfErr result
-        (IsFileCause file.entry.now (F.failed_reads folder.old) (F.failed_reads folder.new)) }
+    ensures input { is_none (option_map (λ f. f.now) file.entry) ≡ false → input.new ≡ input.old }
+    ensures folder { is_some (option_map (λ f. f.now) file.entry) ≡ false
+        → folder.new ≡ folder.old }
 {
-    let bytes = read_file(folder, file)?;
+    verdicts_are_true();
+    let bytes = given_bytes(alloc, file, folder, input)?;
     let found = judged(alloc, &bytes, limit)?;
     Ok(found)
 }

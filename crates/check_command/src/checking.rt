@@ -1,15 +1,15 @@
 //! `check`: the verdict on a certificate.
-ghost use Rattle.std.specs.Prelude.{◌≡◌, IfOk, IfErr};
+ghost use Rattle.std.specs.Prelude.{◌≡◌, false, IfOk, IfErr, is_none, is_some, option_map};
 ghost use Rattle.std.specs.String.{string_bytes};
-ghost use Rattle.check_command.specs.Checks.{IsInputCause, ChecksFile, ChecksStream};
-ghost use Rattle.command_results.specs.Stops.{IsFileCause};
+ghost use Rattle.check_command.specs.Checks.{AreGiven, Checks, IsGivenCause, failed};
 
-use checker::Checker;
-use command_results::{Said, Stop, read_file};
+use crate::giving::given_bytes;
+use checker::{Checker, verdicts_are_true};
+use command_results::{Said, Stop};
 use folders::Folder;
 use std::alloc::Global;
-use streams::{Source, StreamFault};
-use verdict_texts::{VerdictText, checked_bytes, checked_stream};
+use streams::Source;
+use verdict_texts::{VerdictText, checked_bytes};
 
 /// What is said of a verdict.
 fn said(verdict: VerdictText) -> Said
@@ -22,36 +22,28 @@ fn said(verdict: VerdictText) -> Said
     }
 }
 
-/// Checks the file.
-pub fn check_file<'a, F: Folder>(
+/// Checks the certificate in the file, or on standard input where no file is named. Whichever of
+/// the two isn't read is left alone.
+pub fn check<'a, F: Folder, S: Source>(
     alloc: Global,
-    name: &'a str,
+    file: Option<&'a str>,
     limit: u32,
     folder: &mut F,
+    input: &mut S,
 ) -> Result<Said, Stop<'a>>
-    ensures said { IfOk result
-        (λ s. ChecksFile (F.files folder.old) name.entry.now limit s.text.items s.succeeds) }
+    ensures said { let named = option_map (λ f. f.now) file.entry in
+        IfOk result (λ s. Checks (AreGiven (S.left input.old) (F.files folder.old) named) limit
+        s.text.items s.succeeds) }
     ensures kept { F.files folder.new ≡ F.files folder.old }
-    ensures stops { IfErr result
-        (IsFileCause name.entry.now (F.failed_reads folder.old) (F.failed_reads folder.new)) }
+    ensures stops { IfErr result (IsGivenCause (option_map (λ f. f.now) file.entry)
+        (failed (S.failures input.old) (F.failed_reads folder.old))
+        (failed (S.failures input.new) (F.failed_reads folder.new))) }
+    ensures input { is_none (option_map (λ f. f.now) file.entry) ≡ false → input.new ≡ input.old }
+    ensures folder { is_some (option_map (λ f. f.now) file.entry) ≡ false
+        → folder.new ≡ folder.old }
 {
-    let bytes = read_file(folder, name)?;
+    verdicts_are_true();
+    let bytes = given_bytes(alloc, file, folder, input)?;
     let verdict = checked_bytes(&Checker, alloc, &bytes, limit)?;
     Ok(said(verdict))
-}
-
-/// Checks standard input.
-pub fn check_input<S: Source>(
-    alloc: Global,
-    limit: u32,
-    input: &mut S,
-) -> Result<Said, Stop<'static>>
-    ensures said { IfOk result (λ s. ChecksStream (S.left input.old) limit s.text.items s.succeeds) }
-    ensures stops { IfErr result (IsInputCause (S.failures input.old) (S.failures input.new)) }
-{
-    match checked_stream(&Checker, alloc, input, limit) {
-        Ok(verdict) => Ok(said(verdict)),
-        Err(StreamFault::Read) => Err(Stop::Read("standard input")),
-        Err(StreamFault::Write | StreamFault::Memory) => Err(Stop::Memory),
-    }
 }

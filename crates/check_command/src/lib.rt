@@ -1,8 +1,12 @@
-//! `check`: what is said of a certificate, and the certified quotients of files for other commands.
+//! `check`: what is said of a certificate, and the certified quotients of files and of standard
+//! input for other commands.
 #![tactic(auto)]
 
 mod certifying;
 mod checking;
+mod giving;
+mod laws;
 
 pub use certifying::certified;
-pub use checking::{check_file, check_input};
+pub use checking::check;
+pub use laws::fronts_decide;

@@ -39,10 +39,10 @@ solve = command (codes "solve")
 abbrev pub show : App
 show = command (codes "show") (needed (codes "file") ∷ option (codes "limit") ∷ [])
 
--- describe FILE [--latex] [--basis] [--relations] [--json] [--singular] [--gap] [--limit N]
+-- describe [FILE] [--latex] [--basis] [--relations] [--json] [--singular] [--gap] [--limit N]
 abbrev pub describe : App
 describe = command (codes "describe")
-    (needed (codes "file") ∷ flag (codes "latex") ∷ flag (codes "basis")
+    (optional (codes "file") ∷ flag (codes "latex") ∷ flag (codes "basis")
     ∷ flag (codes "relations") ∷ flag (codes "json") ∷ flag (codes "singular")
     ∷ flag (codes "gap") ∷ option (codes "limit") ∷ [])
 

@@ -1,7 +1,7 @@
 -- What the words of a command line ask for, as a function. This project's own, over the words of
 -- `clap`.
-use Rattle.std.specs.Prelude.{ℕ, Bool, true, false, not, ◌&&◌, ◌||◌, List, [], ◌∷◌, Option, Some, None, codes, find, is_some}
-use Rattle.std.specs.Prelude.{option_map, option_and_then, if◌then◌else◌}
+use Rattle.std.specs.Prelude.{ℕ, Bool, true, false, not, ◌&&◌, ◌||◌, List, [], ◌∷◌, Option, Some, None, codes, find, if◌then◌else◌, is_some}
+use Rattle.std.specs.Prelude.{option_map, option_and_then}
 use Rattle.std.specs.Option.{option_map_or}
 use Rattle.std.specs.Str.{bytes_eq}
 use Rattle.clap.specs.Words.{App, Kinds, Row, Text, first_of, fault_of, found_of, rows_of}
@@ -28,12 +28,17 @@ use Rattle.requests.specs.declared.plans.Output.TheVariants.{Description, Latex,
 abbrev pub arguments_of : ArgMatches → List Row
 arguments_of given = rows_of (found_of given)
 
+-- the file that a word names, and none where there is no word or it stands for standard input
+abbrev pub named_by : Option Text → Option Text
+named_by None = None
+named_by (Some word) = if bytes_eq word (codes "-") then None else Some word
+
 abbrev pub check_request : List Row → Option Request
-check_request rows =
-    option_map (λ limit. Check (first_of (codes "file") rows) limit) (number_of Limit rows)
+check_request rows = option_map (λ limit. Check (named_by (first_of (codes "file") rows)) limit)
+    (number_of Limit rows)
 
 abbrev pub show_with : Option Text → Option ℕ → Option Request
-show_with (Some file) (Some limit) = Some (Show file limit)
+show_with (Some file) (Some limit) = Some (Show (named_by (Some file)) limit)
 show_with _ _ = None
 
 abbrev pub show_request : List Row → Option Request
@@ -81,8 +86,8 @@ describe_exclusion rows =
     else Some exclusion.Description
 
 abbrev pub describe_with : Option Text → Option Output → Bool → Option ℕ → Option Request
-describe_with (Some file) (Some output) basis (Some limit) =
-    Some (Describe file output basis limit)
+describe_with file (Some output) basis (Some limit) =
+    Some (Describe (named_by file) output basis limit)
 describe_with _ _ _ _ = None
 
 abbrev pub describe_request : List Row → Option Request
@@ -142,7 +147,8 @@ solve_request rows =
     (order_in rows) (aim_in rows) (is_set (codes "why") rows)
 
 abbrev pub play_with : Option Text → Option Text → Option ℕ → Option Request
-play_with (Some file) (Some position) (Some limit) = Some (Play file position limit)
+play_with (Some file) (Some position) (Some limit) =
+    Some (Play (named_by (Some file)) position limit)
 play_with _ _ _ = None
 
 abbrev pub play_request : List Row → Option Request

@@ -4,7 +4,7 @@ ghost use Rattle.clap.specs.Words.{first_of};
 ghost use Rattle.command_line.specs.Numbers.{IsWithin, number_of};
 ghost use Rattle.command_line.specs.Plans.{AimsWithin, HasNumbersWithin, TaskHasNumbersWithin};
 ghost use Rattle.command_line.specs.Refusals.{Answers, IsMistake, IsMistakeIn, conflicts_in};
-ghost use Rattle.command_line.specs.Requests.{arguments_of, catalogue, catalogue_conflicts, check, describe, describe_conflicts, desk, is_set, output_in, play};
+ghost use Rattle.command_line.specs.Requests.{arguments_of, catalogue, catalogue_conflicts, check, describe, describe_conflicts, desk, is_set, named_by, output_in, play};
 ghost use Rattle.command_line.specs.Requests.{aim_in, order_by, order_in, present, request_in, show, solve, solve_conflicts, task_in};
 ghost use Rattle.requests.specs.Requests.{catalogue_request_of, request_of};
 
@@ -50,10 +50,21 @@ fn flag(given: &ArgMatches<'_>, name: &str) -> bool
     }
 }
 
+/// The file that a word names, and none where there is no word or it is `-`, which stands for
+/// standard input.
+fn named_by<'a>(word: Option<&'a str>) -> Option<&'a str>
+    ensures { option_map (λ t. t.now) result ≡ named_by (option_map (λ t. t.now) word.entry) }
+{
+    match word {
+        Some("-") => None,
+        word => word,
+    }
+}
+
 fn check_plan<'a>(given: &ArgMatches<'a>) -> Result<Plan<'a>, UsageFault>
     ensures { Answers check (arguments_of given.now) result }
 {
-    let file = value(given, "file");
+    let file = named_by(value(given, "file"));
     let limit = number(given, Quantity::Limit)?;
     Ok(Plan::Check { file, limit })
 }
@@ -135,7 +146,7 @@ fn solve_plan<'a>(given: &ArgMatches<'a>) -> Result<Plan<'a>, UsageFault>
 fn show_plan<'a>(given: &ArgMatches<'a>) -> Result<Plan<'a>, UsageFault>
     ensures { Answers show (arguments_of given.now) result }
 {
-    let file = needed(given, "file")?;
+    let file = named_by(Some(needed(given, "file")?));
     let limit = number(given, Quantity::Limit)?;
     Ok(Plan::Show { file, limit })
 }
@@ -168,7 +179,7 @@ fn output(given: &ArgMatches<'_>) -> Result<Output, UsageFault>
 fn describe_plan<'a>(given: &ArgMatches<'a>) -> Result<Plan<'a>, UsageFault>
     ensures { Answers describe (arguments_of given.now) result }
 {
-    let file = needed(given, "file")?;
+    let file = named_by(value(given, "file"));
     let output = output(given)?;
     let basis = flag(given, "basis");
     let limit = number(given, Quantity::Limit)?;
@@ -183,7 +194,7 @@ fn describe_plan<'a>(given: &ArgMatches<'a>) -> Result<Plan<'a>, UsageFault>
 fn play_plan<'a>(given: &ArgMatches<'a>) -> Result<Plan<'a>, UsageFault>
     ensures { Answers play (arguments_of given.now) result }
 {
-    let file = needed(given, "file")?;
+    let file = named_by(Some(needed(given, "file")?));
     let position = needed(given, "position")?;
     let limit = number(given, Quantity::Limit)?;
     Ok(Plan::Play {

@@ -10,6 +10,12 @@ use std::alloc::{AllocError, Global};
 /// The program's version.
 pub const VERSION: &str = "0.1.0";
 
+/// Where a certificate is, if it may be left out.
+const GIVEN: &str = "The file of the certificate; without it, or as -, standard input";
+
+/// Where a certificate is.
+const NAMED: &str = "The file of the certificate; as - standard input";
+
 /// An argument that may be left out, told by its place.
 fn optional<'a>(alloc: Global, name: &'a str, shown: &'a str, help: &'a str) -> Arg<'a>
     ensures rule { rule_of result ≡ optional name.entry.now }
@@ -92,9 +98,8 @@ fn check_command<'a>(alloc: Global) -> Result<Command<'a>, AllocError>
     ensures { IfOk result (λ c. app_of c ≡ check) }
 {
     let about = "Check a certificate, and print the verdict";
-    let file = "The file of the certificate; by default standard input";
     let made = Ok(command(alloc, "check", about));
-    let made = with_arg(made, optional(alloc, "file", "FILE", file));
+    let made = with_arg(made, optional(alloc, "file", "FILE", GIVEN));
     with_arg(made, limit(alloc))
 }
 
@@ -135,10 +140,7 @@ fn show_command<'a>(alloc: Global) -> Result<Command<'a>, AllocError>
 {
     let about = "Check a certificate, and print the quotient that it certifies";
     let made = Ok(command(alloc, "show", about));
-    let made = with_arg(
-        made,
-        needed(alloc, "file", "FILE", "The file of the certificate"),
-    );
+    let made = with_arg(made, needed(alloc, "file", "FILE", NAMED));
     with_arg(made, limit(alloc))
 }
 
@@ -153,10 +155,7 @@ fn describe_command<'a>(alloc: Global) -> Result<Command<'a>, AllocError>
     let singular = "Print the ideal of the relations, for Singular";
     let gap = "Print the ideal of the relations, for GAP";
     let made = Ok(command(alloc, "describe", about));
-    let made = with_arg(
-        made,
-        needed(alloc, "file", "FILE", "The file of the certificate"),
-    );
+    let made = with_arg(made, optional(alloc, "file", "FILE", GIVEN));
     let made = with_arg(made, flag(alloc, "latex", latex));
     let made = with_arg(made, flag(alloc, "basis", basis));
     let made = with_arg(made, flag(alloc, "relations", relations));
@@ -172,10 +171,7 @@ fn play_command<'a>(alloc: Global) -> Result<Command<'a>, AllocError>
     let about = "Check a certificate, and print a winning move in a position";
     let position = "The sizes of the heaps in one word, as '1 2 2'; 0 for no heap";
     let made = Ok(command(alloc, "play", about));
-    let made = with_arg(
-        made,
-        needed(alloc, "file", "FILE", "The file of the certificate"),
-    );
+    let made = with_arg(made, needed(alloc, "file", "FILE", NAMED));
     let made = with_arg(made, needed(alloc, "position", "POSITION", position));
     with_arg(made, limit(alloc))
 }

@@ -9,7 +9,7 @@ mod starting;
 mod stop;
 mod telling;
 
-pub use files::read_file;
+pub use files::{read_file, read_front};
 pub use printing::print;
 pub use said::Said;
 pub use starting::{stopped, words_of};

@@ -1,9 +1,10 @@
 -- Why each request may stop, and which devices it uses. This project's own.
-use Rattle.std.specs.Prelude.{ℕ, Bool, true, false, List, Option, Some, None}
+use Rattle.std.specs.Prelude.{ℕ, Bool, true, false, List, Option, Some, None, is_none, is_some}
 use Rattle.catalogue_command.specs.Stops as catalogue
 use Rattle.catalogue_command.specs.Tasks.{StopsTask}
-use Rattle.check_command.specs.Checks.{IsInputCause}
-use Rattle.command_results.specs.Stops.{IsFileCause, IsMemory}
+use Rattle.check_command.specs.Checks as check
+use Rattle.check_command.specs.Checks.{IsGivenCause}
+use Rattle.command_results.specs.Stops.{IsMemory}
 use Rattle.command_results.specs.declared.stop.Stop.{Stop}
 use Rattle.play_command.specs.Plays.{IsPlayCause}
 use Rattle.requests.specs.Requests.{Request}
@@ -19,17 +20,20 @@ pub record Failed : Type 0 where
 abbrev pub failed : ℕ → ℕ → ℕ → Failed
 failed input reads writes = record { input = input; reads = reads; writes = writes }
 
+-- those of which certificates are read
+abbrev pub given : Failed → check.Failed
+given f = check.failed f.input f.reads
+
 -- Why each request may stop before anything is printed, by the failures before and after. A script
 -- has an end of its own.
 abbrev pub IsCause : Request → Failed → Failed → Stop → Type 0
-IsCause (Check None limit) before after stop = IsInputCause before.input after.input stop
-IsCause (Check (Some file) limit) before after stop = IsFileCause file before.reads after.reads stop
+IsCause (Check file limit) before after stop = IsGivenCause file (given before) (given after) stop
 IsCause (Solve code limit rounds order aim why) before after stop = IsSolveCause code stop
-IsCause (Show file limit) before after stop = IsFileCause file before.reads after.reads stop
+IsCause (Show file limit) before after stop = IsGivenCause file (given before) (given after) stop
 IsCause (Describe file output basis limit) before after stop =
-    IsFileCause file before.reads after.reads stop
+    IsGivenCause file (given before) (given after) stop
 IsCause (Play file position limit) before after stop =
-    IsPlayCause file position before.reads after.reads stop
+    IsPlayCause file position (given before) (given after) stop
 IsCause (Present text) before after stop = IsMemory stop
 IsCause (Catalogue file task limit) before after stop =
     StopsTask file task (catalogue.failed before.reads before.writes)
@@ -38,15 +42,18 @@ IsCause (Desk script) before after stop = ⊥
 
 -- the request reads standard input
 abbrev pub reads_input : Option Request → Bool
-reads_input (Some (Check None limit)) = true
+reads_input (Some (Check file limit)) = is_none file
+reads_input (Some (Show file limit)) = is_none file
+reads_input (Some (Describe file output basis limit)) = is_none file
+reads_input (Some (Play file position limit)) = is_none file
 reads_input _ = false
 
 -- the request reads or writes files
 abbrev pub takes_files : Option Request → Bool
-takes_files (Some (Check (Some file) limit)) = true
-takes_files (Some (Show file limit)) = true
-takes_files (Some (Describe file output basis limit)) = true
-takes_files (Some (Play file position limit)) = true
+takes_files (Some (Check file limit)) = is_some file
+takes_files (Some (Show file limit)) = is_some file
+takes_files (Some (Describe file output basis limit)) = is_some file
+takes_files (Some (Play file position limit)) = is_some file
 takes_files (Some (Catalogue file task limit)) = true
 takes_files (Some (Desk script)) = true
 takes_files _ = false

@@ -7,7 +7,7 @@ ghost use Rattle.commands.specs.Responses.{RespondsWith, file_written};
 ghost use Rattle.requests.specs.Requests.{request_of};
 
 use catalogue_command::act;
-use check_command::{check_file, check_input};
+use check_command::check;
 use command_results::{Said, Stop};
 use describe_command::describe;
 use descriptions::Form;
@@ -45,11 +45,8 @@ pub(crate) fn carry_out<'a, F: Folder, S: Source>(
     ensures folder { takes_files (Some (request_of plan.entry)) ≡ false → folder.new ≡ folder.old }
 {
     match plan {
-        Plan::Check { file, limit } => match file {
-            Some(name) => check_file(alloc, name, limit, folder),
-            None => check_input(alloc, limit, input),
-        },
-        Plan::Show { file, limit } => show(alloc, file, limit, folder),
+        Plan::Check { file, limit } => check(alloc, file, limit, folder, input),
+        Plan::Show { file, limit } => show(alloc, file, limit, folder, input),
         Plan::Describe {
             file,
             output,
@@ -57,13 +54,13 @@ pub(crate) fn carry_out<'a, F: Folder, S: Source>(
             limit,
         } => {
             let form = if basis { Form::Basis } else { Form::Short };
-            describe(alloc, file, limit, form, output, folder)
+            describe(alloc, file, limit, form, output, folder, input)
         }
         Plan::Play {
             file,
             position,
             limit,
-        } => play(alloc, file, position, limit, folder),
+        } => play(alloc, file, position, limit, folder, input),
         Plan::Present { text } => present(alloc, text),
         Plan::Solve {
             code,

@@ -1,7 +1,7 @@
 -- What `describe` prints. This project's own.
 use Rattle.std.specs.Prelude.{◌≡◌, ◌⊎◌, ℕ, Bool, true, false, List, ◌++◌, Option, Result, Ok, Err, Vec, codes}
 use Rattle.misere_theory.specs.Certificates.{Certificate}
-use Rattle.check_command.specs.Checks.{Certifies, ChecksFile}
+use Rattle.check_command.specs.Checks.{Certifies, Checks}
 use Rattle.descriptions.specs.Described.{IsDescription, IsIdealText, IsPresentable}
 use Rattle.descriptions.specs.declared.systems.System.{System}
 use Rattle.descriptions.specs.declared.systems.System.TheVariants as system
@@ -62,11 +62,11 @@ abbrev pub DescribesFound : {A : Type 0} → Result Certificate (Vec ℕ A) → 
 DescribesFound (Ok c) output text succeeds = DescribesQuotient c output text succeeds
 DescribesFound (Err said) output text succeeds = (text ≡ said.items) × (succeeds ≡ false)
 
--- The text describes the quotient that the file certifies under the limit, or says that it isn't
+-- The text describes the quotient that such bytes certify under the limit, or says that it isn't
 -- described; or it is that of a true no.
-pub data Describes (files : Option (List ℕ → Option (List ℕ))) (file : List ℕ) (limit : ℕ)
-    (output : Output) (text : List ℕ) (succeeds : Bool) : Type 0 where
-  Quotient : (c : Certificate) → Certifies files file limit c → DescribesQuotient c output text succeeds
-      → Describes files file limit output text succeeds
-  NoQuotient : ChecksFile files file limit text false → succeeds ≡ false
-      → Describes files file limit output text succeeds
+pub data Describes (Are : List ℕ → Type 0) (limit : ℕ) (output : Output) (text : List ℕ)
+    (succeeds : Bool) : Type 0 where
+  Quotient : (c : Certificate) → Certifies Are limit c → DescribesQuotient c output text succeeds
+      → Describes Are limit output text succeeds
+  NoQuotient : Checks Are limit text false → succeeds ≡ false
+      → Describes Are limit output text succeeds

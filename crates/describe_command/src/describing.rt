@@ -1,6 +1,6 @@
 //! `describe`: a certified quotient by generators and relations.
-ghost use Rattle.std.specs.Prelude.{◌≡◌, IfOk, IfErr, false};
-ghost use Rattle.command_results.specs.Stops.{IsFileCause};
+ghost use Rattle.std.specs.Prelude.{◌≡◌, IfOk, IfErr, false, is_none, is_some, option_map};
+ghost use Rattle.check_command.specs.Checks.{AreGiven, IsGivenCause, failed};
 ghost use Rattle.describe_command.specs.Described.{Describes, DescribesFound, DescribesIn, DescribesFor, DescribesQuotient, IsBoundLine, bound_line};
 ghost use Rattle.requests.specs.declared.plans.Output.TheVariants.{Relations};
 
@@ -14,6 +14,7 @@ use descriptions::{
 use folders::Folder;
 use requests::Output;
 use std::alloc::Global;
+use streams::Source;
 
 /// The line of a no.
 fn refuse(alloc: Global, line: &str) -> Result<Said, Memory>
@@ -103,26 +104,32 @@ fn said(
     }
 }
 
-/// The quotient that the file certifies under the limit, described: by relations that present its
-/// monoid in this form, with its portion, orders, generators, standard invariants and the pretending
-/// function in words, plain, for LaTeX or in JSON; or by its relations alone, as one word that
-/// `present` takes, or as an ideal for Singular or GAP. Or else why it certifies none, or within which
-/// bound it is not described.
-pub fn describe<'a, F: Folder>(
+/// The quotient that the file, or standard input where no file is named, certifies under the limit,
+/// described: by relations that present its monoid in this form, with its portion, orders,
+/// generators, standard invariants and the pretending function in words, plain, for LaTeX or in JSON;
+/// or by its relations alone, as one word that `present` takes, or as an ideal for Singular or GAP. Or
+/// else why it certifies none, or within which bound it is not described.
+pub fn describe<'a, F: Folder, S: Source>(
     alloc: Global,
-    file: &'a str,
+    file: Option<&'a str>,
     limit: u32,
     form: Form,
     output: Output,
     folder: &mut F,
+    input: &mut S,
 ) -> Result<Said, Stop<'a>>
-    ensures describes { IfOk result
-        (λ s. Describes (F.files folder.old) file.entry.now limit output s.text.items s.succeeds) }
+    ensures describes { let named = option_map (λ f. f.now) file.entry in
+        IfOk result (λ s. Describes (AreGiven (S.left input.old) (F.files folder.old) named) limit
+        output s.text.items s.succeeds) }
     ensures kept { F.files folder.new ≡ F.files folder.old }
-    ensures stops { IfErr result
-        (IsFileCause file.entry.now (F.failed_reads folder.old) (F.failed_reads folder.new)) }
+    ensures stops { IfErr result (IsGivenCause (option_map (λ f. f.now) file.entry)
+        (failed (S.failures input.old) (F.failed_reads folder.old))
+        (failed (S.failures input.new) (F.failed_reads folder.new))) }
+    ensures input { is_none (option_map (λ f. f.now) file.entry) ≡ false → input.new ≡ input.old }
+    ensures folder { is_some (option_map (λ f. f.now) file.entry) ≡ false
+        → folder.new ≡ folder.old }
 {
-    let quotient = certified(alloc, file, limit, folder)?;
+    let quotient = certified(alloc, file, limit, folder, input)?;
     match said(alloc, quotient, form, output) {
         Ok(said) => Ok(said),
         Err(Memory) => Err(Stop::Memory),

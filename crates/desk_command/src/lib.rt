@@ -9,4 +9,4 @@ mod whole;
 
 pub use running::run_script;
 pub use stop::DeskStop;
-pub use whole::run_file;
+pub use whole::{LARGEST_SCRIPT, run_file};

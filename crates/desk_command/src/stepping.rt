@@ -9,7 +9,7 @@ ghost use Rattle.desk_command.specs.Scripts.{Takes};
 ghost use Rattle.desk_command.specs.Stops.{IsStepCause};
 
 use crate::lines::reply_line;
-use crate::stop::{DeskStop, read};
+use crate::stop::{DeskStop, read_front};
 use desk::{Client, Desk, Event};
 use desk_script::Step;
 use folders::Folder;
@@ -32,7 +32,7 @@ fn asked_by<'a, F: Folder>(folder: &mut F, step: Step<'a>) -> Result<(Client, Ev
             file,
             limit,
         } => {
-            let bytes = read(folder, file)?;
+            let bytes = read_front(folder, file)?;
             Ok((Client::numbered(client), Event::Open(bytes, limit)))
         }
         Step::Work { client, job, units } => Ok((

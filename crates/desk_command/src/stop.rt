@@ -1,7 +1,8 @@
 //! Why a script ends before its end, and the reading of files.
-ghost use Rattle.std.specs.Prelude.{◌≡◌, ◌≤◌, ◌++◌, IfErr, IfOk, codes, decimal};
+ghost use Rattle.std.specs.Prelude.{◌≡◌, ◌≤◌, ◌+◌, ◌++◌, IfErr, IfOk, codes, decimal};
 ghost use Rattle.streams.specs.Printers.{PrintsLine, printer};
-ghost use Rattle.folders.specs.Files.{Holds};
+ghost use Rattle.folders.specs.Files.{BeginsWith};
+ghost use Rattle.verdict_texts.specs.declared.stream.TheConstants.{MOST_BYTES};
 ghost use Rattle.desk_command.specs.Stops.{IsReadCause, desk_stop_line, desk_stop_status, stop_of};
 ghost use Rattle.desk_command.specs.declared.stop.DeskStop.TheVariants.{«Memory» as OutOfMemory, Write as NotWritten};
 
@@ -11,6 +12,7 @@ use desk_script::ScriptFault;
 use folders::{FileFault, Folder};
 use itoa::Buffer;
 use streams::{DeviceFault, Sink};
+use verdict_texts::MOST_BYTES;
 
 /// Why a script ends before its end.
 #[derive(Clone, Copy, Debug, PartialEq, Eq)]
@@ -93,15 +95,19 @@ fn tell_line<E: Sink>(number: usize, err: &mut E)
     );
 }
 
-/// Reads a file.
-pub(crate) fn read<'a, F: Folder>(folder: &mut F, name: &'a str) -> Result<Vec<u8>, DeskStop<'a>>
-    ensures bytes { IfOk result (λ v. Holds (F.files folder.old) name.entry.now v.items) }
+/// The bytes with which a certificate's file begins: all of them, or one more than are read of one.
+pub(crate) fn read_front<'a, F: Folder>(
+    folder: &mut F,
+    name: &'a str,
+) -> Result<Vec<u8>, DeskStop<'a>>
+    ensures bytes { IfOk result
+        (λ v. BeginsWith (F.files folder.old) name.entry.now (MOST_BYTES + 1) v.items) }
     ensures kept { F.files folder.new ≡ F.files folder.old }
     ensures succeeds { IfOk result (λ _. F.failed_reads folder.new ≡ F.failed_reads folder.old) }
     ensures stops { IfErr result
         (IsReadCause name.entry.now (F.failed_reads folder.old) (F.failed_reads folder.new)) }
 {
-    match folder.read(name) {
+    match folder.read_front(name, MOST_BYTES) {
         Ok(bytes) => Ok(bytes),
         Err(FileFault::Device) => Err(DeskStop::Read(name)),
         Err(FileFault::Memory) => Err(DeskStop::Memory),

@@ -9,6 +9,9 @@ use folders::Folder;
 use std::alloc::Global;
 use streams::Sink;
 
+/// The most bytes of a script: 4 MiB.
+pub const LARGEST_SCRIPT: usize = 4194304;
+
 /// Takes the steps of the script in the file at one desk, prints a line for each, and answers the
 /// status: 0 where the script ran to its end, refusals among its replies or not; 2 where a line
 /// isn't a step, and then nothing is printed; 3 where a device failed or memory was wanting, and
@@ -29,7 +32,7 @@ pub fn run_file<F: Folder, W: Sink, E: Sink>(
     ensures kept { F.files folder.new ≡ F.files folder.old }
     ensures quiet { result ≤ 1 → err.new ≡ err.old }
 {
-    let bytes = match read_file(folder, script) {
+    let bytes = match read_file(folder, script, LARGEST_SCRIPT) {
         Ok(bytes) => bytes,
         Err(stop) => {
             stop.tell(err);

@@ -1,5 +1,5 @@
 -- What is known of named files, and what a call does to them. This project's own.
-use Rattle.std.specs.Prelude.{◌≡◌, ◌≢◌, ◌<◌, ⊤, ℕ, List, Option, Some, None, Result, Ok, Err}
+use Rattle.std.specs.Prelude.{◌≡◌, ◌≢◌, ◌<◌, ⊤, ℕ, List, Option, Some, None, Result, Ok, Err, length, take}
 use Rattle.folders.specs.declared.fault.FileFault.{FileFault}
 use Rattle.folders.specs.declared.fault.FileFault.TheVariants.{Device, Memory}
 
@@ -7,6 +7,19 @@ use Rattle.folders.specs.declared.fault.FileFault.TheVariants.{Device, Memory}
 abbrev pub Holds : Option (List ℕ → Option (List ℕ)) → List ℕ → List ℕ → Type 0
 Holds None name bytes = ⊤
 Holds (Some files) name bytes = files name ≡ Some bytes
+
+-- the file of this name begins with these bytes, which are all that it holds or so many, where the
+-- files are known
+abbrev pub BeginsWith : Option (List ℕ → Option (List ℕ)) → List ℕ → ℕ → List ℕ → Type 0
+BeginsWith None name many bytes = ⊤
+BeginsWith (Some files) name many bytes =
+    (all : List ℕ) × (files name ≡ Some all) × (bytes ≡ take many all)
+
+-- the file of this name holds more than so many bytes, where the files are known
+abbrev pub HoldsMore : Option (List ℕ → Option (List ℕ)) → List ℕ → ℕ → Type 0
+HoldsMore None name most = ⊤
+HoldsMore (Some files) name most =
+    (all : List ℕ) × (files name ≡ Some all) × (most < length all)
 
 -- what the file of this name holds, and nothing where there is none or it isn't known
 abbrev pub file_of : Option (List ℕ → Option (List ℕ)) → List ℕ → Option (List ℕ)

@@ -8,7 +8,7 @@ use std::alloc::{AllocError, AllocFailed};
 /// Why a file was not read or written.
 #[derive(Clone, Copy, Debug, PartialEq, Eq)]
 pub enum FileFault {
-    /// It isn't there, or isn't a file, or the device failed.
+    /// It isn't there, isn't a file, or holds more than is read of one; or the device failed.
     Device,
     /// A growth was refused.
     Memory,

@@ -1,5 +1,5 @@
 //! The files of the machine.
-ghost use Rattle.std.specs.Prelude.{None};
+ghost use Rattle.std.specs.Prelude.{◌+◌, ◌≤◌, None, IfOk, vec_len};
 ghost use Rattle.folders.specs.Disks.{CountsCall};
 
 use crate::replacing::{Disk, StageFault, replace};
@@ -8,7 +8,7 @@ use std::fs::{File, OpenFile};
 use std::io::{ErrorKind, Write};
 use std::rt::Files;
 use std::{fs, io};
-use streams::{DeviceFault, Failures};
+use streams::{DeviceFault, Failures, ReaderSource, StreamFault, read_whole};
 
 /// The disk of the machine.
 #[derive(Drop)]
@@ -84,6 +84,17 @@ impl<R: Files> Disk for HostDisk<'_, R> {
     }
 }
 
+/// Reads the file to its end, but no more than one byte past `most`.
+fn bytes_of<R: Files + AllocGlobal>(rt: &R, name: &str, most: usize) -> Result<Vec<u8>, StreamFault>
+    ensures { IfOk result (λ v. vec_len v ≤ most + 1) }
+{
+    match File::open(rt, name) {
+        Ok(file) => read_whole(rt.alloc(), &mut ReaderSource::new(file), most),
+        Err(e) if e.kind() == ErrorKind::OutOfMemory => Err(StreamFault::Memory),
+        Err(_) => Err(StreamFault::Read),
+    }
+}
+
 /// The files of the machine, of whose bytes nothing is claimed. A file is replaced whole or not at
 /// all.
 #[derive(Drop)]
@@ -111,15 +122,19 @@ impl<R: Files + AllocGlobal> Folder for HostFolder<'_, R> {
 
     ghost failed_writes = { λ s. s.disk.failures.count };
 
-    fn read(&mut self, name: &str) -> Result<Vec<u8>, FileFault> {
-        match fs::read(self.rt, name) {
+    fn read_front(&mut self, name: &str, most: usize) -> Result<Vec<u8>, FileFault> {
+        match bytes_of(self.rt, name, most) {
             Ok(bytes) => Ok(bytes),
-            Err(e) if e.kind() == ErrorKind::OutOfMemory => Err(FileFault::Memory),
-            Err(_) => {
+            Err(StreamFault::Memory) => Err(FileFault::Memory),
+            Err(StreamFault::Read | StreamFault::Write) => {
                 self.failed_reads.add();
                 Err(FileFault::Device)
             }
         }
+    }
+
+    fn exceed(&mut self, _name: &str, _most: usize) {
+        self.failed_reads.add();
     }
 
     fn write(&mut self, name: &str, bytes: &[u8]) -> Result<(), FileFault> {

@@ -1,5 +1,5 @@
 //! Files in memory.
-ghost use Rattle.std.specs.Prelude.{◌≡◌, ◌≢◌, Option, Some, None, IfOk, OnErr, option_map, true, false};
+ghost use Rattle.std.specs.Prelude.{◌≡◌, ◌≢◌, ◌+◌, Option, Some, None, IfOk, OnErr, option_map, take, true, false};
 ghost use Rattle.std.specs.BTreeMap.{get_by_text};
 ghost use Rattle.folders.specs.Files.{Replaces, file_of};
 ghost use Rattle.folders.specs.Disks.{Loses, Moves, Spares};
@@ -137,6 +137,17 @@ impl MemoryFolder {
     }
 }
 
+/// The first of the bytes, no more than one past `most`.
+fn front(bytes: &[u8], most: usize) -> &[u8]
+    ensures { result.now ≡ take (most + 1) bytes.now }
+{
+    if bytes.len() <= most {
+        bytes
+    } else {
+        &bytes[..=most]
+    }
+}
+
 impl Folder for MemoryFolder {
     ghost files = { λ s. Some (λ name. option_map (λ v. v.items) (get_by_text s.files name)) };
 
@@ -144,14 +155,18 @@ impl Folder for MemoryFolder {
 
     ghost failed_writes = { λ s. s.failed_writes.count };
 
-    fn read(&mut self, name: &str) -> Result<Vec<u8>, FileFault> {
+    fn read_front(&mut self, name: &str, most: usize) -> Result<Vec<u8>, FileFault> {
         if !self.calls.fails() {
             if let Some(bytes) = self.files.get(name) {
-                return Ok(bytes.clone()?);
+                return Ok(front(bytes, most).to_vec(self.alloc)?);
             }
         }
         self.failed_reads.add();
         Err(FileFault::Device)
+    }
+
+    fn exceed(&mut self, _name: &str, _most: usize) {
+        self.failed_reads.add();
     }
 
     fn write(&mut self, name: &str, bytes: &[u8]) -> Result<(), FileFault> {

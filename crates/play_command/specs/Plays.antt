@@ -6,9 +6,9 @@ use Rattle.positions.specs.declared.position.TheConstants.{MOST_SIZES, LARGEST_H
 use Rattle.positions.specs.Text.{IsNoPositionText, IsTextOf, HasTooMany, HasTooLarge}
 use Rattle.player.specs.Answers.{IsRightAnswer, SpeaksOf}
 use Rattle.player.specs.declared.answering.Answer.{Answer}
-use Rattle.check_command.specs.Checks.{Certifies, ChecksFile}
+use Rattle.check_command.specs.Checks.{Certifies, Checks, Failed, IsGivenCause}
 use Rattle.command_results.specs.declared.stop.Stop.{Stop}
-use Rattle.command_results.specs.declared.stop.Stop.TheVariants.{Read, Memory, NotAPosition}
+use Rattle.command_results.specs.declared.stop.Stop.TheVariants.{Memory, NotAPosition}
 use Rattle.play_command.specs.Lines.{answer_line, beyond_line}
 
 -- the line of the right answer in the position, in the game of the quotient
@@ -31,20 +31,20 @@ abbrev pub PlaysFound : {A : Type 0} → Result Certificate (Vec ℕ A) → List
 PlaysFound (Ok c) X text succeeds = PlaysIn c X text succeeds
 PlaysFound (Err said) X text succeeds = (text ≡ said.items) × (succeeds ≡ false)
 
--- a quotient that the file certifies under the limit doesn't speak of the position
-abbrev pub PlaysBeyond : Option (List ℕ → Option (List ℕ)) → List ℕ → ℕ → List ℕ → List ℕ → Type 0
-PlaysBeyond files file limit position text =
-    (c : Certificate) × Certifies files file limit c
+-- a quotient that such bytes certify under the limit doesn't speak of the position
+abbrev pub PlaysBeyond : (List ℕ → Type 0) → ℕ → List ℕ → List ℕ → Type 0
+PlaysBeyond Are limit position text =
+    (c : Certificate) × Certifies Are limit c
     × ((X : List ℕ) × IsTextOf position X × IsBeyond c X text)
 
--- The answer in the position, of which the quotient speaks that the file certifies under the limit,
+-- The answer in the position, of which the quotient speaks that such bytes certify under the limit,
 -- is right in its game; or the text says that it speaks not of it, or is that of a true no.
-abbrev pub Plays : Option (List ℕ → Option (List ℕ)) → List ℕ → ℕ → List ℕ → List ℕ → Bool → Type 0
-Plays files file limit position text true =
-    (c : Certificate) × Certifies files file limit c
+abbrev pub Plays : (List ℕ → Type 0) → ℕ → List ℕ → List ℕ → Bool → Type 0
+Plays Are limit position text true =
+    (c : Certificate) × Certifies Are limit c
     × ((X : List ℕ) × IsTextOf position X × SpeaksOf c X × AnswersIn c X text)
-Plays files file limit position text false =
-    ChecksFile files file limit text false ⊎ PlaysBeyond files file limit position text
+Plays Are limit position text false =
+    Checks Are limit text false ⊎ PlaysBeyond Are limit position text
 
 -- the text is not that of at most 64 sizes up to 10^18
 abbrev pub IsNoPosition : List ℕ → Type 0
@@ -57,10 +57,7 @@ IsPositionCause position Memory = ⊤
 IsPositionCause position NotAPosition = IsNoPosition position
 IsPositionCause position _ = ⊥
 
--- a read of the file failed, or none did and memory was wanting, or the text isn't that of a
--- position
-abbrev pub IsPlayCause : List ℕ → List ℕ → ℕ → ℕ → Stop → Type 0
-IsPlayCause file position before after (Read name) = (name.now ≡ file) × (before < after)
-IsPlayCause file position before after Memory = after ≡ before
+-- a certificate isn't read, for its own cause, or the text isn't that of a position
+abbrev pub IsPlayCause : Option (List ℕ) → List ℕ → Failed → Failed → Stop → Type 0
 IsPlayCause file position before after NotAPosition = IsNoPosition position
-IsPlayCause file position before after _ = ⊥
+IsPlayCause file position before after stop = IsGivenCause file before after stop

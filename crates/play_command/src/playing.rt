@@ -1,5 +1,6 @@
 //! The answer in a position, out of a file.
-ghost use Rattle.std.specs.Prelude.{◌≡◌, ◌≤◌, true, false, IfOk, IfErr, IsErrOf};
+ghost use Rattle.std.specs.Prelude.{◌≡◌, ◌≤◌, true, false, IfOk, IfErr, IsErrOf, is_none, is_some, option_map};
+ghost use Rattle.check_command.specs.Checks.{AreGiven, failed};
 ghost use Rattle.positions.specs.Text.{IsTextOf};
 ghost use Rattle.player.specs.Answers.{SpeaksOf};
 ghost use Rattle.play_command.specs.Lines.{beyond_line};
@@ -13,6 +14,7 @@ use folders::Folder;
 use player::{answer, fits};
 use positions::{Position, PositionFault};
 use std::alloc::{AllocError, Global};
+use streams::Source;
 
 /// The position of the text.
 fn position_of(alloc: Global, text: &str) -> Result<Position, Stop<'static>>
@@ -72,26 +74,32 @@ fn said_in(
     }
 }
 
-/// Answers in the position by the quotient that the file certifies under the limit: with the first
+/// Answers in the position by the quotient that the file, or standard input where no file is named,
+/// certifies under the limit: with the first
 /// winning move, that each move loses, or that there is none; or says that a partial quotient doesn't
-/// speak of the position, or why the file certifies none. The position is read first.
-pub fn play<'a, F: Folder>(
+/// speak of the position, or why there is none. The position is read first.
+pub fn play<'a, F: Folder, S: Source>(
     alloc: Global,
-    file: &'a str,
+    file: Option<&'a str>,
     position: &str,
     limit: u32,
     folder: &mut F,
+    input: &mut S,
 ) -> Result<Said, Stop<'a>>
-    ensures plays { IfOk result
-        (λ s. Plays (F.files folder.old) file.entry.now limit position.now s.text.items s.succeeds) }
+    ensures plays { let named = option_map (λ f. f.now) file.entry in
+        IfOk result (λ s. Plays (AreGiven (S.left input.old) (F.files folder.old) named) limit
+        position.now s.text.items s.succeeds) }
     ensures kept { F.files folder.new ≡ F.files folder.old }
     ensures usage { IsErrOf result Stop.NotAPosition → folder.new ≡ folder.old }
-    ensures stops { IfErr result
-        (IsPlayCause file.entry.now position.now (F.failed_reads folder.old)
-        (F.failed_reads folder.new)) }
+    ensures stops { IfErr result (IsPlayCause (option_map (λ f. f.now) file.entry) position.now
+        (failed (S.failures input.old) (F.failed_reads folder.old))
+        (failed (S.failures input.new) (F.failed_reads folder.new))) }
+    ensures input { is_none (option_map (λ f. f.now) file.entry) ≡ false → input.new ≡ input.old }
+    ensures folder { is_some (option_map (λ f. f.now) file.entry) ≡ false
+        → folder.new ≡ folder.old }
 {
     let position = position_of(alloc, position)?;
-    let quotient = certified(alloc, file, limit, folder)?;
+    let quotient = certified(alloc, file, limit, folder, input)?;
     match said_in(alloc, quotient, &position) {
         Ok(said) => Ok(said),
         Err(_) => Err(Stop::Memory),

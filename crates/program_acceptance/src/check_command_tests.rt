@@ -3,7 +3,7 @@ mod games;
 
 use crate::certificates::{ANSWERS, Answered, LIMIT, OF_0_3, folder_of, is_said};
 use crate::cyclic::cyclic;
-use check_command::{check_file, check_input};
+use check_command::check;
 use command_results::Said;
 use folders::MemoryFolder;
 use std::alloc::Global;
@@ -12,7 +12,10 @@ use streams::MemorySource;
 /// Checks a file. A second reading of it would fail.
 fn checked(alloc: Global, name: &str, held: &str, limit: u32) -> Option<Said> {
     match folder_of(alloc, name, held, 2) {
-        Some(mut folder) => check_file(alloc, name, limit, &mut folder).ok(),
+        Some(mut folder) => {
+            let mut input = MemorySource::new(b"");
+            check(alloc, Some(name), limit, &mut folder, &mut input).ok()
+        }
         None => None,
     }
 }
@@ -31,7 +34,9 @@ fn count_held(alloc: Global, rows: &[Answered]) -> usize {
 
 /// Whether this is said of standard input under the limit.
 fn says_of_input(alloc: Global, bytes: &[u8], limit: u32, text: &str) -> bool {
-    match check_input(alloc, limit, &mut MemorySource::new(bytes)) {
+    let mut folder = MemoryFolder::new(alloc);
+    let mut input = MemorySource::new(bytes);
+    match check(alloc, None, limit, &mut folder, &mut input) {
         Ok(said) => is_said(&said, text),
         Err(_) => false,
     }
@@ -58,7 +63,8 @@ fn begins_so(alloc: Global, bytes: &[u8], beginning: &[u8]) -> bool {
     if bytes.len() <= 65536 || folder.put("a.mqc", bytes).is_err() {
         return false;
     }
-    match check_file(alloc, "a.mqc", LIMIT, &mut folder) {
+    let mut input = MemorySource::new(b"");
+    match check(alloc, Some("a.mqc"), LIMIT, &mut folder, &mut input) {
         Ok(said) => said.text.as_slice().starts_with(beginning),
         Err(_) => false,
     }

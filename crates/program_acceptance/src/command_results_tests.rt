@@ -1,5 +1,5 @@
 //! Statuses, lines and files, each in a row.
-use command_results::{Said, Stop, print, read_file};
+use command_results::{Said, Stop, print, read_file, read_front};
 use folders::MemoryFolder;
 use std::alloc::Global;
 use streams::MemorySink;
@@ -57,30 +57,43 @@ fn prints_no(alloc: Global, text: &str) -> bool {
     }
 }
 
+/// The most bytes that are read: as many as the file has.
+const MOST: usize = 6;
+
 /// Whether the file is read as the bytes.
 fn reads(folder: &mut MemoryFolder, name: &str, bytes: &[u8]) -> bool {
-    match read_file(folder, name) {
+    match read_file(folder, name, MOST) {
         Ok(held) => held.as_slice() == bytes,
         Err(_) => false,
     }
 }
 
-/// Whether it is the file that can't be read.
-fn cannot_read(folder: &mut MemoryFolder, name: &str) -> bool {
-    match read_file(folder, name) {
+/// Whether the file begins with the bytes, where one less is read than it has.
+fn begins(folder: &mut MemoryFolder, name: &str, bytes: &[u8]) -> bool {
+    match read_front(folder, name, MOST - 2) {
+        Ok(held) => held.as_slice() == bytes,
+        Err(_) => false,
+    }
+}
+
+/// Whether it is the file that can't be read, of so many bytes at most.
+fn cannot_read(folder: &mut MemoryFolder, name: &str, most: usize) -> bool {
+    match read_file(folder, name, most) {
         Ok(_) => false,
         Err(stop) => stop == Stop::Read(name),
     }
 }
 
-/// Whether a file is read, one that isn't there can't be, and then the first can't be, as the third
-/// call fails.
+/// Whether a file is read, one that isn't there can't be, nor one that is too large, and then the
+/// first can't be, as the fifth call fails.
 fn reads_or_says_which_it_cannot(alloc: Global) -> bool {
-    let mut folder = MemoryFolder::failing(alloc, 3);
+    let mut folder = MemoryFolder::failing(alloc, 5);
     folder.put("a.mqc", b"mqc 1\n").is_ok()
         && reads(&mut folder, "a.mqc", b"mqc 1\n")
-        && cannot_read(&mut folder, "b.mqc")
-        && cannot_read(&mut folder, "a.mqc")
+        && begins(&mut folder, "a.mqc", b"mqc 1")
+        && cannot_read(&mut folder, "b.mqc", MOST)
+        && cannot_read(&mut folder, "a.mqc", MOST - 1)
+        && cannot_read(&mut folder, "a.mqc", MOST)
 }
 
 #[test]

@@ -1,5 +1,5 @@
 //! Files in memory, of which one call fails, also as a disk, and those of the machine.
-use folders::{FileFault, Folder, HostFolder, MemoryFolder, replace};
+use folders::{FileFault, Folder, HostFolder, MemoryFolder, read_all, replace};
 use std::alloc::Global;
 use std::fs;
 use std::test::Fail;
@@ -108,10 +108,48 @@ fn count_replaced(alloc: Global, rows: &[(u64, bool, &str)]) -> usize {
     count
 }
 
+/// The most bytes that are read, how the file of the text `abc` begins then, and whether it is read
+/// whole.
+static BOUNDS: [(usize, &str, bool); 6] = [
+    (0, "a", false),
+    (1, "ab", false),
+    (2, "abc", false),
+    (3, "abc", true),
+    (4, "abc", true),
+    (usize::MAX, "abc", true),
+];
+
+/// Whether so much is read of a file.
+fn reads_within<F: Folder>(folder: &mut F, name: &str, bound: (usize, &str, bool)) -> bool {
+    let (most, front, whole) = bound;
+    matches!(folder.read_front(name, most), Ok(bytes) if bytes.as_slice() == front.as_bytes())
+        && read_all(folder, name, most).is_ok() == whole
+}
+
+/// How many rows hold of a file of the text `abc`.
+fn count_within<F: Folder>(folder: &mut F, name: &str, rows: &[(usize, &str, bool)]) -> usize {
+    let mut count = 0usize;
+    for row in rows {
+        if reads_within(folder, name, *row) {
+            count = count.saturating_add(1);
+        }
+    }
+    count
+}
+
+/// How many rows hold of a file in memory.
+fn count_within_memory(alloc: Global) -> usize {
+    let mut folder = MemoryFolder::new(alloc);
+    match folder.put("a", b"abc") {
+        Ok(()) => count_within(&mut folder, "a", &BOUNDS),
+        Err(_) => 0,
+    }
+}
+
 #[test]
 fn files_in_memory(rt: HostRuntime) {
     assert!(rt; keeps_what_is_written(rt.alloc()) && count_failed(rt.alloc(), &CALLS) == 4);
-    assert!(rt; count_replaced(rt.alloc(), &STEPS) == 5);
+    assert!(rt; count_replaced(rt.alloc(), &STEPS) == 5 && count_within_memory(rt.alloc()) == 6);
 }
 
 /// Whether the text is written, and read again.
@@ -156,6 +194,9 @@ fn replaces_on_the_machine(rt: HostRuntime) -> Result<(), Fail> {
     let long = "0123456789".repeat(rt.alloc(), 7000)?;
     let mut folder = HostFolder::new(&rt);
     assert!(rt; is_replaced_beside(&mut folder, name.as_str(), other.as_str(), long.as_str()));
+    assert!(rt; keeps(&mut folder, name.as_str(), "abc"));
+    assert!(rt; count_within(&mut folder, name.as_str(), &BOUNDS) == 6);
+    assert!(rt; matches!(folder.read_front("/dev/zero", 9), Ok(bytes) if bytes.len() == 10));
     fs::remove_file(&rt, name.as_str())?;
     fs::remove_file(&rt, other.as_str())?;
     fs::create_dir(&rt, name.as_str())?;

@@ -3,8 +3,10 @@ use crate::certificates::{
     OF_0_1, OF_0_33, OF_0_75, OF_0_B, PART_OF_0_8, PART_OF_0_75, folder_of, is_said,
 };
 use command_results::Stop;
+use folders::MemoryFolder;
 use play_command::play;
 use std::alloc::Global;
+use streams::MemorySource;
 
 const LIMIT: u32 = 100000;
 
@@ -48,11 +50,31 @@ static ROWS: [(&str, &str, &str); 21] = [
 /// Whether this is said in the position. A second reading would fail.
 fn says(alloc: Global, held: &str, position: &str, text: &str) -> bool {
     match folder_of(alloc, "a.mqc", held, 2) {
-        Some(mut folder) => match play(alloc, "a.mqc", position, LIMIT, &mut folder) {
-            Ok(said) => is_said(&said, text),
-            Err(_) => false,
-        },
+        Some(mut folder) => {
+            let mut input = MemorySource::new(b"");
+            match play(
+                alloc,
+                Some("a.mqc"),
+                position,
+                LIMIT,
+                &mut folder,
+                &mut input,
+            ) {
+                Ok(said) => is_said(&said, text),
+                Err(_) => false,
+            }
+        }
         None => false,
+    }
+}
+
+/// Whether the same is said by a certificate on standard input.
+fn says_by_input(alloc: Global, held: &str, position: &str, text: &str) -> bool {
+    let mut folder = MemoryFolder::new(alloc);
+    let mut input = MemorySource::new(held.as_bytes());
+    match play(alloc, None, position, LIMIT, &mut folder, &mut input) {
+        Ok(said) => is_said(&said, text),
+        Err(_) => false,
     }
 }
 
@@ -60,7 +82,7 @@ fn says(alloc: Global, held: &str, position: &str, text: &str) -> bool {
 fn count_said(alloc: Global, rows: &[(&str, &str, &str)]) -> usize {
     let mut count = 0usize;
     for (held, position, text) in rows {
-        if says(alloc, held, position, text) {
+        if says(alloc, held, position, text) && says_by_input(alloc, held, position, text) {
             count = count.saturating_add(1);
         }
     }
@@ -79,10 +101,13 @@ static STOPS: [(&str, &str, Stop<'static>); 5] = [
 /// Whether this is the reason to stop.
 fn stops(alloc: Global, name: &str, position: &str, stop: Stop<'_>) -> bool {
     match folder_of(alloc, "a.mqc", OF_0_33, 0) {
-        Some(mut folder) => match play(alloc, name, position, LIMIT, &mut folder) {
-            Ok(_) => false,
-            Err(reason) => reason == stop,
-        },
+        Some(mut folder) => {
+            let mut input = MemorySource::new(b"");
+            match play(alloc, Some(name), position, LIMIT, &mut folder, &mut input) {
+                Ok(_) => false,
+                Err(reason) => reason == stop,
+            }
+        }
         None => false,
     }
 }

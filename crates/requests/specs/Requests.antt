@@ -21,9 +21,9 @@ pub data CatalogueRequest : Type 0 where
 pub data Request : Type 0 where
   Check : Option (List ℕ) → ℕ → Request
   Solve : List ℕ → ℕ → ℕ → ℕ → Aim → Bool → Request
-  Show : List ℕ → ℕ → Request
-  Describe : List ℕ → Output → Bool → ℕ → Request
-  Play : List ℕ → List ℕ → ℕ → Request
+  Show : Option (List ℕ) → ℕ → Request
+  Describe : Option (List ℕ) → Output → Bool → ℕ → Request
+  Play : Option (List ℕ) → List ℕ → ℕ → Request
   Present : List ℕ → Request
   Catalogue : List ℕ → CatalogueRequest → ℕ → Request
   Desk : List ℕ → Request
@@ -43,9 +43,11 @@ abbrev pub request_of : Plan → Request
 request_of (plan.Check file limit) = Check (option_map (λ f. f.now) file) limit
 request_of (plan.Solve code limit rounds order aim why) =
     Solve code.now limit rounds order aim why
-request_of (plan.Show file limit) = Show file.now limit
-request_of (plan.Describe file output basis limit) = Describe file.now output basis limit
-request_of (plan.Play file position limit) = Play file.now position.now limit
+request_of (plan.Show file limit) = Show (option_map (λ f. f.now) file) limit
+request_of (plan.Describe file output basis limit) =
+    Describe (option_map (λ f. f.now) file) output basis limit
+request_of (plan.Play file position limit) =
+    Play (option_map (λ f. f.now) file) position.now limit
 request_of (plan.Present text) = Present text.now
 request_of (plan.Catalogue file asked limit) =
     Catalogue file.now (catalogue_request_of asked) limit

@@ -36,22 +36,24 @@ pub enum Plan<'a> {
         aim: Aim,
         tells_why: bool,
     },
-    /// Print the quotient that the file certifies under the limit.
+    /// Print the quotient that the file certifies under the limit, or standard input where no file
+    /// is named.
     Show {
-        file: &'a str,
+        file: Option<&'a str>,
         limit: u32,
     },
-    /// Describe the quotient that the file certifies under the limit, by the reduced basis of its
-    /// relations or else by a short list.
+    /// Describe the quotient that the file certifies under the limit, or standard input where no file
+    /// is named, by the reduced basis of its relations or else by a short list.
     Describe {
-        file: &'a str,
+        file: Option<&'a str>,
         output: Output,
         basis: bool,
         limit: u32,
     },
-    /// Answer in a position by the quotient that the file certifies under the limit.
+    /// Answer in a position by the quotient that the file certifies under the limit, or standard
+    /// input where no file is named.
     Play {
-        file: &'a str,
+        file: Option<&'a str>,
         position: &'a str,
         limit: u32,
     },

@@ -53,7 +53,7 @@ fn plan_of(asked: &Asked) -> Plan<'static> {
             limit: 100000,
         },
         Asked::Description(output, basis) => Plan::Describe {
-            file: "a.mqc",
+            file: Some("a.mqc"),
             output: *output,
             basis: *basis,
             limit: 100000,
@@ -120,14 +120,14 @@ static ASKED: [Asks; 52] = [
     Asks(
         "show|a.mqc",
         Asked::Plan(Plan::Show {
-            file: "a.mqc",
+            file: Some("a.mqc"),
             limit: 100000,
         }),
     ),
     Asks(
         "show|--limit|8|a.mqc",
         Asked::Plan(Plan::Show {
-            file: "a.mqc",
+            file: Some("a.mqc"),
             limit: 8,
         }),
     ),
@@ -166,7 +166,7 @@ static ASKED: [Asks; 52] = [
     Asks(
         "describe|a.mqc|--limit|1|--json",
         Asked::Plan(Plan::Describe {
-            file: "a.mqc",
+            file: Some("a.mqc"),
             output: Output::Json,
             basis: false,
             limit: 1,
@@ -188,7 +188,7 @@ static ASKED: [Asks; 52] = [
     Asks(
         "play|a.mqc|1 2 2",
         Asked::Plan(Plan::Play {
-            file: "a.mqc",
+            file: Some("a.mqc"),
             position: "1 2 2",
             limit: 100000,
         }),
@@ -196,7 +196,7 @@ static ASKED: [Asks; 52] = [
     Asks(
         "play|a.mqc|--limit=1000000|1 2 2",
         Asked::Plan(Plan::Play {
-            file: "a.mqc",
+            file: Some("a.mqc"),
             position: "1 2 2",
             limit: 1000000,
         }),
@@ -318,9 +318,69 @@ static ASKED: [Asks; 52] = [
     ),
 ];
 
+/// `-` is standard input, where a certificate is asked for alone.
+static BY_INPUT: [Asks; 8] = [
+    Asks(
+        "check|-|--limit|8",
+        Asked::Plan(Plan::Check {
+            file: None,
+            limit: 8,
+        }),
+    ),
+    Asks(
+        "check|./-",
+        Asked::Plan(Plan::Check {
+            file: Some("./-"),
+            limit: 100000,
+        }),
+    ),
+    Asks(
+        "show|-",
+        Asked::Plan(Plan::Show {
+            file: None,
+            limit: 100000,
+        }),
+    ),
+    Asks(
+        "describe",
+        Asked::Plan(Plan::Describe {
+            file: None,
+            output: Output::Description,
+            basis: false,
+            limit: 100000,
+        }),
+    ),
+    Asks(
+        "describe|-|--basis",
+        Asked::Plan(Plan::Describe {
+            file: None,
+            output: Output::Description,
+            basis: true,
+            limit: 100000,
+        }),
+    ),
+    Asks(
+        "play|-|1 2 2",
+        Asked::Plan(Plan::Play {
+            file: None,
+            position: "1 2 2",
+            limit: 100000,
+        }),
+    ),
+    Asks(
+        "catalogue|-",
+        Asked::Plan(Plan::Catalogue {
+            file: "-",
+            task: CatalogueTask::Print,
+            limit: 100000,
+        }),
+    ),
+    Asks("desk|-", Asked::Plan(Plan::Desk { script: "-" })),
+];
+
 #[test]
 fn asks_for_plans(rt: HostRuntime) {
-    assert!(rt; count_held(rt.alloc(), &ASKED) == 52);
+    assert!(rt; count_held(rt.alloc(), &ASKED) == 52 && count_held(rt.alloc(), &BY_INPUT) == 8);
 }
 
 /// Whether the fault has this status, and a text with this part.
@@ -360,7 +420,7 @@ impl Row for Refuses {
     }
 }
 
-static REFUSED: [Refuses; 142] = [
+static REFUSED: [Refuses; 141] = [
     Refuses("check|--limit|0", Why::Number(Quantity::Limit)),
     Refuses("check|--limit|1000001", Why::Number(Quantity::Limit)),
     Refuses("check|--limit|08", Why::Number(Quantity::Limit)),
@@ -532,13 +592,12 @@ static REFUSED: [Refuses; 142] = [
         "describe|a.mqc|--latex|--relations|--gap",
         Why::Exclusive(Exclusion::Outputs),
     ),
-    Refuses("describe", Why::Words),
     Refuses("describe|a.mqc|b.mqc", Why::Words),
     Refuses("describe|a.mqc|--basis|--basis", Why::Words),
     Refuses("describe|a.mqc|--latex=1", Why::Words),
     Refuses("show|a.mqc|--latex", Why::Words),
     Refuses("--help", Why::Help("  describe ")),
-    Refuses("describe|--help", Why::Help("<FILE>")),
+    Refuses("describe|--help", Why::Help("[FILE]")),
     Refuses("describe|--help", Why::Help("--latex")),
     Refuses("describe|--help", Why::Help("--basis")),
     Refuses("describe|--help", Why::Help("--relations")),
@@ -647,7 +706,7 @@ fn is_incomplete(alloc: Global) -> bool {
 
 #[test]
 fn tells_why_words_ask_for_nothing(rt: HostRuntime) {
-    assert!(rt; count_held(rt.alloc(), &REFUSED) == 142);
+    assert!(rt; count_held(rt.alloc(), &REFUSED) == 141);
     assert!(rt; is_incomplete(rt.alloc()));
 }
 

@@ -8,6 +8,7 @@ use describe_command::{Form, describe};
 use folders::MemoryFolder;
 use requests::Output;
 use std::alloc::Global;
+use streams::MemorySource;
 
 const LIMIT: u32 = 100000;
 
@@ -23,7 +24,16 @@ fn describes(
     text: &str,
 ) -> bool {
     let Asked(_, limit, form, output) = *asked;
-    match describe(alloc, "a.mqc", limit, form, output, folder) {
+    let mut input = MemorySource::new(b"");
+    match describe(
+        alloc,
+        Some("a.mqc"),
+        limit,
+        form,
+        output,
+        folder,
+        &mut input,
+    ) {
         Ok(said) => is_said(&said, succeeds, text),
         Err(_) => false,
     }
@@ -231,13 +241,15 @@ kernel b c d ";
 fn describes_from_to(alloc: Global, held: &str, beginning: &str, end: &str) -> bool {
     match folder_with(alloc, &[], "a.mqc", held, 2) {
         Ok(mut folder) => {
+            let mut input = MemorySource::new(b"");
             match describe(
                 alloc,
-                "a.mqc",
+                Some("a.mqc"),
                 LIMIT,
                 Form::Short,
                 Output::Description,
                 &mut folder,
+                &mut input,
             ) {
                 Ok(said) => {
                     said.succeeds

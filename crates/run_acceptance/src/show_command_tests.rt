@@ -7,12 +7,24 @@ use crate::tame::tame;
 use folders::MemoryFolder;
 use show_command::show;
 use std::alloc::Global;
+use streams::MemorySource;
 
 const LIMIT: u32 = 100000;
 
 /// Whether this is said of the file a.mqc.
 fn shows(alloc: Global, folder: &mut MemoryFolder, limit: u32, succeeds: bool, text: &str) -> bool {
-    match show(alloc, "a.mqc", limit, folder) {
+    let mut input = MemorySource::new(b"");
+    match show(alloc, Some("a.mqc"), limit, folder, &mut input) {
+        Ok(said) => is_said(&said, succeeds, text),
+        Err(_) => false,
+    }
+}
+
+/// Whether the same is said of standard input, where there is no file.
+fn shows_input(alloc: Global, held: &str, limit: u32, succeeds: bool, text: &str) -> bool {
+    let mut folder = MemoryFolder::new(alloc);
+    let mut input = MemorySource::new(held.as_bytes());
+    match show(alloc, None, limit, &mut folder, &mut input) {
         Ok(said) => is_said(&said, succeeds, text),
         Err(_) => false,
     }
@@ -26,7 +38,10 @@ impl Row for Shown {
     fn holds(&self, alloc: Global) -> bool {
         let Shown(held, limit, succeeds, text) = *self;
         match folder_with(alloc, &[], "a.mqc", held, 2) {
-            Ok(mut folder) => shows(alloc, &mut folder, limit, succeeds, text),
+            Ok(mut folder) => {
+                shows(alloc, &mut folder, limit, succeeds, text)
+                    && shows_input(alloc, held, limit, succeeds, text)
+            }
             Err(_) => false,
         }
     }
@@ -66,14 +81,17 @@ element 4 P 2 2\nelement 5 N 1 2 2\nheap 1 1\nheap 2 2\nheap 3 0\nrepeat 3 from 
 /// Whether what is shown of a file's quotient begins and ends so.
 fn shows_from_to(alloc: Global, held: &str, beginning: &str, end: &str) -> bool {
     match folder_with(alloc, &[], "a.mqc", held, 2) {
-        Ok(mut folder) => match show(alloc, "a.mqc", LIMIT, &mut folder) {
-            Ok(said) => {
-                said.succeeds
-                    && said.text.as_slice().starts_with(beginning.as_bytes())
-                    && said.text.as_slice().ends_with(end.as_bytes())
+        Ok(mut folder) => {
+            let mut input = MemorySource::new(b"");
+            match show(alloc, Some("a.mqc"), LIMIT, &mut folder, &mut input) {
+                Ok(said) => {
+                    said.succeeds
+                        && said.text.as_slice().starts_with(beginning.as_bytes())
+                        && said.text.as_slice().ends_with(end.as_bytes())
+                }
+                Err(_) => false,
             }
-            Err(_) => false,
-        },
+        }
         Err(_) => false,
     }
 }

@@ -312,25 +312,49 @@ impl Row for Run {
 /// A run that makes the catalogue anew.
 static MADE: Run = Run("catalogue|x.json|--new", 2, 0, "", "");
 
-/// Runs that read standard input, as it is and where it fails.
-static READ: Run = Run("check", 2, 0, YES, "");
+/// A run with the certificate of 0.3 on standard input. Each read of a file would fail.
+struct Read(Run);
 
-static UNREAD: Run = Run("check", 2, 3, "", "misere: cannot read standard input\n");
+static READ: [Read; 6] = [
+    Read(Run("check", 1, 0, YES, "")),
+    Read(Run("check|-", 1, 0, YES, "")),
+    Read(Run(
+        "show|-",
+        1,
+        0,
+        "code 0.3\norder 2\nelement 0 N 0\nelement 1 P 1\nheap 1 1\nheap 2 0\nrepeat 2 from 1\n",
+        "",
+    )),
+    Read(Run("play|-|1 1", 1, 0, "wins 1 -> 0\n", "")),
+    Read(Run("describe|--relations", 1, 0, "a^2=1\n", "")),
+    Read(Run("describe|-|--relations", 1, 0, "a^2=1\n", "")),
+];
 
-/// Whether a run of a certificate on standard input ends so.
-fn reads_input(alloc: Global) -> bool {
-    ends_with(
-        alloc,
-        &READ,
-        &mut MemorySource::new(OF_0_3.as_bytes()),
-        ONE_ENTRY,
-    )
+impl Row for Read {
+    fn holds(&self, alloc: Global) -> bool {
+        let mut input = MemorySource::new(OF_0_3.as_bytes());
+        ends_with(alloc, &self.0, &mut input, ONE_ENTRY)
+    }
 }
 
-/// Whether a run with a standard input that fails ends so.
-fn tells_no_input(alloc: Global) -> bool {
-    let mut input = FailingSource::new(MemorySource::new(OF_0_3.as_bytes()), 1);
-    ends_with(alloc, &UNREAD, &mut input, ONE_ENTRY)
+/// A run with a standard input that fails.
+struct Unread(Run);
+
+const UNREAD_INPUT: &str = "misere: cannot read standard input\n";
+
+static UNREAD: [Unread; 5] = [
+    Unread(Run("check", 2, 3, "", UNREAD_INPUT)),
+    Unread(Run("check|-", 2, 3, "", UNREAD_INPUT)),
+    Unread(Run("show|-", 2, 3, "", UNREAD_INPUT)),
+    Unread(Run("describe", 2, 3, "", UNREAD_INPUT)),
+    Unread(Run("play|-|1", 2, 3, "", UNREAD_INPUT)),
+];
+
+impl Row for Unread {
+    fn holds(&self, alloc: Global) -> bool {
+        let mut input = FailingSource::new(MemorySource::new(OF_0_3.as_bytes()), 1);
+        ends_with(alloc, &self.0, &mut input, ONE_ENTRY)
+    }
 }
 
 /// Whether a run makes the catalogue anew.
@@ -341,7 +365,7 @@ fn makes_anew(alloc: Global) -> bool {
 #[test]
 fn does_what_is_asked(rt: HostRuntime) {
     assert!(rt; count_held(rt.alloc(), &ROWS) == 66 && makes_anew(rt.alloc()));
-    assert!(rt; reads_input(rt.alloc()) && tells_no_input(rt.alloc()));
+    assert!(rt; count_held(rt.alloc(), &READ) == 6 && count_held(rt.alloc(), &UNREAD) == 5);
 }
 
 /// A run whose output can't be written, which is told.

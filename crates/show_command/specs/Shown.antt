@@ -4,7 +4,7 @@ use Rattle.misere_theory.specs.Certificates.{Certificate, claim_of, kind_of, phi
 use Rattle.octal_code.specs.Text.{code_text}
 use Rattle.positions.specs.Text.{position_text}
 use Rattle.answers.specs.Spelled.{AreSpelled}
-use Rattle.check_command.specs.Checks.{Certifies, ChecksFile}
+use Rattle.check_command.specs.Checks.{Certifies, Checks}
 
 -- the first two lines
 abbrev pub head_lines : Certificate → List ℕ
@@ -64,8 +64,7 @@ abbrev pub ShowsFound : {A : Type 0} → Result Certificate (Vec ℕ A) → List
 ShowsFound (Ok c) text succeeds = IsQuotientText c text × (succeeds ≡ true)
 ShowsFound (Err said) text succeeds = (text ≡ said.items) × (succeeds ≡ false)
 
--- the text is that of the quotient that the file certifies under the limit, or of a true no
-abbrev pub Shows : Option (List ℕ → Option (List ℕ)) → List ℕ → ℕ → List ℕ → Bool → Type 0
-Shows files file limit text true = (c : Certificate) × Certifies files file limit c
-    × IsQuotientText c text
-Shows files file limit text false = ChecksFile files file limit text false
+-- the text is that of the quotient that such bytes certify under the limit, or of a true no
+abbrev pub Shows : (List ℕ → Type 0) → ℕ → List ℕ → Bool → Type 0
+Shows Are limit text true = (c : Certificate) × Certifies Are limit c × IsQuotientText c text
+Shows Are limit text false = Checks Are limit text false

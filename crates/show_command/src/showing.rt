@@ -1,7 +1,7 @@
 //! `show`: a certified quotient, line by line.
-ghost use Rattle.std.specs.Prelude.{◌≡◌, ◌<◌, ◌+◌, IfOk, IfErr};
+ghost use Rattle.std.specs.Prelude.{◌≡◌, ◌<◌, ◌+◌, false, IfOk, IfErr, is_none, is_some, option_map};
 ghost use Rattle.std.specs.String.{string_bytes};
-ghost use Rattle.command_results.specs.Stops.{IsFileCause};
+ghost use Rattle.check_command.specs.Checks.{AreGiven, IsGivenCause, failed};
 ghost use Rattle.show_command.specs.Shown.{AreElementLines, AreHeapLines, IsQuotientText, Shows, ShowsFound, element_line, head_lines, heap_line, letter_of, partial_tail_line, repeat_line, tail_line};
 
 use allocation::Memory;
@@ -11,6 +11,7 @@ use check_command::certified;
 use command_results::{Said, Stop};
 use folders::Folder;
 use std::alloc::{AllocError, Global};
+use streams::Source;
 
 fn letter(certified: &Certified, element: u16) -> &'static str
     requires { element < certified.now.order }
@@ -124,22 +125,29 @@ fn shown(alloc: Global, quotient: Result<Certified, Vec<u8>>) -> Result<Said, Me
     }
 }
 
-/// The quotient that the file certifies under the limit: its code and order, each element with its
+/// The quotient that the file, or standard input where no file is named, certifies under the limit:
+/// its code and order, each element with its
 /// outcome and a position of that value, each heap with its element, and how the heaps repeat or,
 /// of a partial quotient, which is the last; or else why it certifies none.
-pub fn show<'a, F: Folder>(
+pub fn show<'a, F: Folder, S: Source>(
     alloc: Global,
-    file: &'a str,
+    file: Option<&'a str>,
     limit: u32,
     folder: &mut F,
+    input: &mut S,
 ) -> Result<Said, Stop<'a>>
-    ensures shows { IfOk result
-        (λ s. Shows (F.files folder.old) file.entry.now limit s.text.items s.succeeds) }
+    ensures shows { let named = option_map (λ f. f.now) file.entry in
+        IfOk result (λ s. Shows (AreGiven (S.left input.old) (F.files folder.old) named) limit
+        s.text.items s.succeeds) }
     ensures kept { F.files folder.new ≡ F.files folder.old }
-    ensures stops { IfErr result
-        (IsFileCause file.entry.now (F.failed_reads folder.old) (F.failed_reads folder.new)) }
+    ensures stops { IfErr result (IsGivenCause (option_map (λ f. f.now) file.entry)
+        (failed (S.failures input.old) (F.failed_reads folder.old))
+        (failed (S.failures input.new) (F.failed_reads folder.new))) }
+    ensures input { is_none (option_map (λ f. f.now) file.entry) ≡ false → input.new ≡ input.old }
+    ensures folder { is_some (option_map (λ f. f.now) file.entry) ≡ false
+        → folder.new ≡ folder.old }
 {
-    let quotient = certified(alloc, file, limit, folder)?;
+    let quotient = certified(alloc, file, limit, folder, input)?;
     match shown(alloc, quotient) {
         Ok(said) => Ok(said),
         Err(Memory) => Err(Stop::Memory),

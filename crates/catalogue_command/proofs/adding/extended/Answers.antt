@@ -1,9 +1,11 @@
-use Rattle.std.proofs.Common.{◌≡◌, ℕ, List, Option, Bool, true, false, sym, subst}
+use Rattle.std.proofs.Common.{◌≡◌, ◌∙◌, ap, arith, ℕ, List, Option, Bool, true, false, sym, subst}
 use Rattle.std.proofs.lemmas.Result.{IfOk-from_err}
 use Rattle.folders.specs.Files.{Replaces}
+use Rattle.checker.specs.Turns.{verdict}
+use Rattle.catalogue_command.proofs.Fronts.{whole_of}
 use Rattle.misere_theory.specs.Certificates.{Certificate}
 use Rattle.catalogue.specs.Texts.{catalogue_text}
-use Rattle.catalogue_command.specs.Answers.{IsAddition, Saves}
+use Rattle.catalogue_command.specs.Answers.{AddsTo, Saves}
 use Rattle.catalogue_command.proofs.adding.extended.Goals as goal
 use Rattle.catalogue_command.proofs.adding.extended.Goals.{then-report+in_ok-save, else-report}
 
@@ -23,26 +25,29 @@ unsaved before after file succeeds new is same =
 pub returns-clause-told : goal.returns-clause-told
 returns-clause-told g c =
     let before = g.F.Folder.files c.args.folder.now in
-    let kept = c.read.ensures.kept in
+    let kept = c.read_front.ensures.kept in
     let report = c.in_ok-report.report in
     let file = c.args.file.now in
-    let new = c.addition.new.catalogue in (
-      c.in_ok-bytes.bytes.items,
+    let new = c.addition.new.catalogue in
+    let whole = whole_of before c.args.certificate.now 4194305 c.in_ok-bytes.bytes.items
+    c.in_ok-bytes.ensures.bytes (omega (arith, c.in_ok-bytes.ensures.bound, c.in_ok-bytes.bytes.ok)) in (
+      whole.0,
       new,
-      c.in_ok-bytes.ensures.bytes,
-      subst (λ b. IsAddition c.args.catalogue.now b c.args.limit report.succeeds new
-          report.text.items) c.deref.ensures.value c.in_ok-report.ensures,
+      whole.1,
+      subst (λ v. AddsTo c.args.catalogue.now v report.succeeds new report.text.items)
+          (ap (λ b. verdict b c.args.limit) (c.deref.ensures.value ∙ whole.2)
+          ∙ c.fronts_decide.ensures.same whole.0 c.args.limit) c.in_ok-report.ensures,
       elim c.if-report.branch [
         | then-report+in_ok-save w ↦
             subst (λ f. Saves before (g.F.Folder.files f) file report.succeeds new)
             (sym w.folder-is)
-            (saved before (g.F.Folder.files c.read.new.folder)
+            (saved before (g.F.Folder.files c.read_front.new.folder)
             (g.F.Folder.files w.save.new.folder) file report.succeeds new
             w.if-report.true kept w.in_ok-save.ensures.saved)
         | else-report w ↦
             subst (λ f. Saves before (g.F.Folder.files f) file report.succeeds new)
             (sym w.folder-is)
-            (unsaved before (g.F.Folder.files c.read.new.folder) file report.succeeds new
+            (unsaved before (g.F.Folder.files c.read_front.new.folder) file report.succeeds new
             w.if-report.false kept)
       ],
     )

@@ -1,13 +1,13 @@
 use Rattle.std.proofs.Common.{◌∷◌, [], codes}
 use Rattle.clap.specs.Words.{Rule, Text}
-use Rattle.command_line.specs.Program.{flag, needed, option}
+use Rattle.command_line.specs.Program.{flag, optional, option}
 use Rattle.command_line.proofs.commands.describe_command.Goals as goal
 
 abbrev name : Text
 name = codes "describe"
 
 abbrev file : Rule
-file = needed (codes "file")
+file = optional (codes "file")
 
 abbrev latex : Rule
 latex = flag (codes "latex")
@@ -32,8 +32,8 @@ limit = option (codes "limit")
 
 pub returns : goal.returns
 returns c =
-    let one = c.with_arg-made.ensures name [] file c.command.ensures c.needed.ensures.rule
-    c.needed.ensures.local in
+    let one = c.with_arg-made.ensures name [] file c.command.ensures c.optional.ensures.rule
+    c.optional.ensures.local in
     let two = c.with_arg-made-2.ensures name (file ∷ []) latex one c.flag.ensures.rule
     c.flag.ensures.local in
     let three = c.with_arg-made-3.ensures name (file ∷ latex ∷ []) basis two c.flag-2.ensures.rule

@@ -1,4 +1,4 @@
-use Rattle.std.proofs.Common.{refl}
+use Rattle.std.proofs.Common.{arith, refl}
 use Rattle.streams.specs.Printers.{printer}
 use Rattle.desk_command.specs.Ends.EndsScript.{Unread}
 use Rattle.desk_command.proofs.Ended.{broken, whole}
@@ -19,6 +19,7 @@ returns-in-Ok-run_script-clause-ends g c =
     (printer (g.E.Sink.taken c.args.err.now) (g.E.Sink.failures c.args.err.now))
     (printer (g.E.Sink.taken c.args.err.now) (g.E.Sink.failures c.args.err.now))
     c.read_file.ensures.kept c.in-Ok.ensures.succeeds c.deref.ensures.value c.in-Ok.ensures.bytes
+    (omega (arith, c.in-Ok.ensures.bound, c.in-Ok.bytes.ok))
     c.in-Ok-run_script.ensures.ran refl
 
 pub returns-clause-ends : goal.returns-clause-ends
@@ -33,5 +34,6 @@ returns-clause-ends g c =
     (printer (g.E.Sink.taken c.tell-in-Err-run_script.new.err)
     (g.E.Sink.failures c.tell-in-Err-run_script.new.err))
     c.read_file.ensures.kept c.in-Ok.ensures.succeeds c.deref.ensures.value c.in-Ok.ensures.bytes
+    (omega (arith, c.in-Ok.ensures.bound, c.in-Ok.bytes.ok))
     c.in-Err-run_script.stop c.status.result
     c.in-Err-run_script.ensures.stops c.tell-in-Err-run_script.ensures c.status.ensures.status

@@ -3,6 +3,5 @@ use Rattle.play_command.proofs.playing.play.Goals as goal
 
 pub returns-in-Ok-clause-plays : goal.returns-in-Ok-clause-plays
 returns-in-Ok-clause-plays g c =
-    plays_found (g.F.Folder.files c.args.folder.now) c.args.file.now c.args.limit
-    c.args.position.now _ _ _ _
+    plays_found _ c.args.limit c.args.position.now _ _ _ _
     c.in_ok-quotient.ensures.found c.in_ok-position.ensures.read c.in-Ok.ensures

@@ -3,5 +3,5 @@ use Rattle.show_command.proofs.showing.show.Goals as goal
 
 pub returns-in-Ok-clause-shows : goal.returns-in-Ok-clause-shows
 returns-in-Ok-clause-shows g c =
-    shows_found (g.F.Folder.files c.args.folder.now) c.args.file.now c.args.limit _ _ _
+    shows_found _ c.args.limit _ _ _
     c.in_ok-quotient.ensures.found c.in-Ok.ensures
