@@ -7,9 +7,11 @@ mod choosing;
 mod describing;
 mod finding;
 mod invariants;
+mod laws;
 mod lines;
 mod rows;
 mod tame;
 
 pub use describing::{description_text, presentable_text};
+pub use laws::tame_quotients_are_unique;
 pub use relations::{Form, Notation, Undescribed};
