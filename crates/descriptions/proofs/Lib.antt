@@ -2,6 +2,10 @@ pub mod Tables
 pub mod Orders
 pub mod Lists
 pub mod Tameness
+pub mod Counted
+pub mod Cosets
+pub mod NimMonoids
+pub mod TameMonoids
 pub mod RowLaws
 pub mod Assembled
 pub mod Polynomials

@@ -1,5 +1,6 @@
 -- Tame quotients: those of Nim, T_n. Plambeck and Siegel; Siegel, chapter V.
 use Rattle.std.specs.Prelude.{◌≡◌, ◌≢◌, ℕ, ◌+◌, ◌^◌, ◌<◌, ◌≤◌, ◌==◌, ◌&&◌, ◌||◌, Bool, true}
+use Rattle.misere_theory.specs.Quotients.{SameQuotient}
 use Rattle.misere_theory.specs.Certificates.{Certificate, claim_of}
 use Rattle.monoid_table.specs.Grids.{Grid, times_in}
 use Rattle.certificate.specs.Fields.{grid_of}
@@ -29,3 +30,9 @@ pub data IsTame (c : Certificate) : ℕ → Type 0 where
       → ((x : ℕ) → x < 2 → (claim_of c).portion x ≡ (x == 1))
       → IsTame c 1
   Next : (n : ℕ) → 2 ≤ n → c.order ≡ 2 ^ n + 2 → (a e : ℕ) → IsTameBy c a e → IsTame c n
+
+-- The same bipartite monoid up to the numbering: the same quotient where no heap counts. Plambeck
+-- and Siegel.
+abbrev pub AreIsomorphic : Certificate → Certificate → Type 0
+AreIsomorphic c d =
+    (f : ℕ → ℕ) × (g : ℕ → ℕ) × SameQuotient (λ n. ⊥) (claim_of c) (claim_of d) f g

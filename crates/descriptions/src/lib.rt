@@ -7,11 +7,13 @@ mod choosing;
 mod describing;
 mod finding;
 mod invariants;
+mod laws;
 mod lines;
 mod rows;
 mod systems;
 mod tame;
 
 pub use describing::{description_text, ideal_text, presentable_text};
+pub use laws::tame_quotients_are_unique;
 pub use relations::{Form, Notation, Undescribed};
 pub use systems::System;

@@ -8,6 +8,8 @@
 mod exports;
 mod heaps;
 mod many;
+#[cfg(test)]
+mod many_tests;
 mod numbers;
 mod queries;
 mod refusing;

@@ -7,7 +7,8 @@ use std::alloc::{AllocError, AllocFailed};
 pub enum Undescribed {
     /// More than `LETTERS` generators were found.
     Letters,
-    /// A relation that was found has an exponent above `LARGEST_EXPONENT`.
+    /// A relation that was found has an exponent above `LARGEST_EXPONENT`, or a word came to one above
+    /// 255 before relations were found.
     Exponents,
     /// The relations that were found weren't shown to present the table within the bounds.
     Unshown,

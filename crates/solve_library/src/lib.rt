@@ -5,6 +5,8 @@
 mod describing;
 mod exports;
 mod numbers;
+#[cfg(test)]
+mod rows_tests;
 mod solving;
 #[cfg(test)]
 mod tests;
