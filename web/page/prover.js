@@ -74,7 +74,7 @@ export class Prover {
       if (worker === this.#worker) this.#end(new Failure("failed", "an answer could not be read"));
     };
     this.#worker = worker;
-    this.#post({module: this.#bytes}).catch((failure) => this.#end(failure));
+    this.#post({module: this.#bytes}).catch((failure) => worker === this.#worker && this.#end(failure));
   }
 
   /** Ends what is at work. */

@@ -84,6 +84,15 @@ test("a search that is stopped", async () => {
   assert.match((await prover.ask("solve", "0.33")).answer, /^mqc 1\ncode 0\.33\n/);
 });
 
+test("a question right behind a stop, before the stopped worker had its module, is answered", async () => {
+  const [first, second] = [workerSilentFrom(0), workerSilentFrom()], prover = proverOver([first, second]);
+  const search = prover.ask("solve", "0.07");
+  prover.stop();
+  const question = prover.ask("check", wrong);
+  await assert.rejects(search, {kind: "stopped", status: undefined});
+  await assert.rejects(question, {kind: "refused", status: 7});
+});
+
 test("what an ended worker still says is no answer, and ends no other", async () => {
   const [first, second] = [workerSilentFrom(1), workerSilentFrom()], prover = proverOver([first, second]);
   const search = prover.ask("check", wrong);

@@ -1,6 +1,9 @@
 """The search for a quotient."""
 from selenium.webdriver.support.ui import Select
 
+# A code whose search up to 512 elements takes some ten seconds
+SLOW = "0.123456789abcdef"
+
 
 def sought(it, code, aim, number=None):
     """Searches, and tells what each step reached."""
@@ -42,7 +45,7 @@ def drive(it, program, steps):
 
 
 def stops(it, steps):
-    it.write("#sought", "0.07")
+    it.write("#sought", SLOW)
     Select(it.one("#aim")).select_by_value("furthest")
     it.write("#number", "512")
     it.one("#seek").click()
@@ -51,11 +54,10 @@ def stops(it, steps):
         """const begin = performance.now();
         return new Promise((done) => requestAnimationFrame(() => done(performance.now() - begin)))"""
     )
-    if it.one("#stop").is_enabled():
-        it.one("#stop").click()
+    steps.expect("a search keeps nobody waiting", waited < 200, f"a frame after {waited:.0f} ms")
+    it.one("#stop").click()
     it.wait(lambda: it.one("#seek").is_enabled())
     told = it.texts("#steps li")
-    steps.expect("a search is stopped, or done", "Stopped" in told[-1] or "order" in told[-1], told)
-    steps.expect("and keeps nobody waiting", waited < 200, f"a frame after {waited:.0f} ms")
-    said = it.said("#verdict", "yes 0.07")
+    steps.expect("and is stopped", told[-1].endswith("Stopped."), told)
+    said = it.said("#verdict", f"yes {SLOW}")
     steps.expect("what it reached is shown", "order" in said, said)
