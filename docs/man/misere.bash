@@ -9,11 +9,11 @@ _misere() {
         help) options="check solve show describe play present catalogue desk help" ;;
         check) options="--limit --help" ;;
         solve) options="--limit --rounds --heaps --deep --partial --furthest --order --why --help" ;;
-        show) options="--help" ;;
-        describe) options="--latex --basis --relations --help" ;;
-        play) options="--help" ;;
+        show) options="--limit --help" ;;
+        describe) options="--latex --basis --relations --limit --help" ;;
+        play) options="--limit --help" ;;
         present) options="--help" ;;
-        catalogue) options="--new --add --get --heaps --salvage --migrate --help" ;;
+        catalogue) options="--new --add --get --heaps --salvage --migrate --limit --help" ;;
         desk) options="--help" ;;
     esac
     COMPREPLY=()

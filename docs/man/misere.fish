@@ -29,13 +29,16 @@ complete -c misere -n '__fish_seen_subcommand_from solve; and not __fish_seen_su
 complete -c misere -n '__fish_seen_subcommand_from solve; and not __fish_seen_subcommand_from help' -l why -d 'Tell why the search is given up'
 complete -c misere -n '__fish_seen_subcommand_from solve; and not __fish_seen_subcommand_from help' -l help -d 'Print help'
 complete -c misere -n '__fish_seen_subcommand_from show; and not __fish_seen_subcommand_from help' -F
+complete -c misere -n '__fish_seen_subcommand_from show; and not __fish_seen_subcommand_from help' -l limit -x -d 'Keep at most N members of a closure: 1 to 1000000, by default 100000'
 complete -c misere -n '__fish_seen_subcommand_from show; and not __fish_seen_subcommand_from help' -l help -d 'Print help'
 complete -c misere -n '__fish_seen_subcommand_from describe; and not __fish_seen_subcommand_from help' -F
 complete -c misere -n '__fish_seen_subcommand_from describe; and not __fish_seen_subcommand_from help' -l latex -d 'Print it for LaTeX'
 complete -c misere -n '__fish_seen_subcommand_from describe; and not __fish_seen_subcommand_from help' -l basis -d 'Give the reduced basis of the relations, by which words are multiplied by hand'
 complete -c misere -n '__fish_seen_subcommand_from describe; and not __fish_seen_subcommand_from help' -l relations -d 'Print the relations alone, in one word for \'misere present\''
+complete -c misere -n '__fish_seen_subcommand_from describe; and not __fish_seen_subcommand_from help' -l limit -x -d 'Keep at most N members of a closure: 1 to 1000000, by default 100000'
 complete -c misere -n '__fish_seen_subcommand_from describe; and not __fish_seen_subcommand_from help' -l help -d 'Print help'
 complete -c misere -n '__fish_seen_subcommand_from play; and not __fish_seen_subcommand_from help' -F
+complete -c misere -n '__fish_seen_subcommand_from play; and not __fish_seen_subcommand_from help' -l limit -x -d 'Keep at most N members of a closure: 1 to 1000000, by default 100000'
 complete -c misere -n '__fish_seen_subcommand_from play; and not __fish_seen_subcommand_from help' -l help -d 'Print help'
 complete -c misere -n '__fish_seen_subcommand_from present; and not __fish_seen_subcommand_from help' -l help -d 'Print help'
 complete -c misere -n '__fish_seen_subcommand_from catalogue; and not __fish_seen_subcommand_from help' -F
@@ -45,6 +48,7 @@ complete -c misere -n '__fish_seen_subcommand_from catalogue; and not __fish_see
 complete -c misere -n '__fish_seen_subcommand_from catalogue; and not __fish_seen_subcommand_from help' -l heaps -x -d 'With --get, that of the heaps up to M: 0 to 1024, by default 0, for all heaps'
 complete -c misere -n '__fish_seen_subcommand_from catalogue; and not __fish_seen_subcommand_from help' -l salvage -d 'Keep the entries without a fault, and write FILE; without another option'
 complete -c misere -n '__fish_seen_subcommand_from catalogue; and not __fish_seen_subcommand_from help' -l migrate -d 'Write FILE in the newest form, with the same entries; without another option'
+complete -c misere -n '__fish_seen_subcommand_from catalogue; and not __fish_seen_subcommand_from help' -l limit -x -d 'Keep at most N members of a closure: 1 to 1000000, by default 100000'
 complete -c misere -n '__fish_seen_subcommand_from catalogue; and not __fish_seen_subcommand_from help' -l help -d 'Print help'
 complete -c misere -n '__fish_seen_subcommand_from desk; and not __fish_seen_subcommand_from help' -F
 complete -c misere -n '__fish_seen_subcommand_from desk; and not __fish_seen_subcommand_from help' -l help -d 'Print help'
