@@ -713,7 +713,7 @@ fn tells_why_words_ask_for_nothing(rt: HostRuntime) {
 /// Whether the word is asked for as a file and as a position.
 fn is_played(alloc: Global, word: &str) -> bool {
     let want = Plan::Play {
-        file: word,
+        file: Some(word),
         position: word,
         limit: 100000,
     };
