@@ -3,18 +3,13 @@ use Rattle.std.proofs.Common.{◌≡◌, ℕ, zero, suc, ◌+◌, ◌-◌, ◌*�
 use Rattle.std.specs.Prelude.{slice_index, slice_range}
 use Rattle.std.specs.List.{concat}
 use Rattle.std.proofs.Math.Nat.{suc-mul}
-use Rattle.std.proofs.lemmas.List.{append-nil, length-drop, length-take-le, take_at, take_more}
+use Rattle.std.proofs.lemmas.List.{append-nil, length-drop, length-take-le, take_at, take_more, get_or-take, get_or-drop}
 use Rattle.std.proofs.Math.Seq.{drop-append-add}
-use Rattle.std.proofs.lemmas.List.Elements.{All-take, All-drop, All-tail}
+use Rattle.std.proofs.lemmas.List.Elements.{All-tail}
 use Rattle.std.proofs.lemmas.List.Folds.{concat-append}
 use Rattle.std.proofs.lemmas.List.Sums.{fold-append}
 use Rattle.compact_certificates.specs.Flat.{row_in, product_in}
 use Rattle.compact_certificates.specs.Rows.{row_by, rows_by}
-
-pub part_below : (q a b : ℕ) (xs : List ℕ) → All (λ z. z < q) xs
-    → All (λ z. z < q) (slice_range xs a b)
-part_below q a b xs h =
-    All-take (λ z. z < q) (b - a) (drop a xs) (All-drop (λ z. z < q) a xs h)
 
 pub part_long : (a n : ℕ) (xs : List ℕ) → a + n ≤ length xs
     → length (slice_range xs a (a + n)) ≡ n
@@ -64,3 +59,12 @@ one_key_more phi rows keys i l =
     ap (λ ks. rows_by phi ks rows) (take_more keys i (0, 0) l)
     ∙ fold-append (λ (made : List (List ℕ)) (key : ℕ × ℕ). made ++ row_by phi made key ∷ []) rows
     (take i keys) (get_or keys i (0, 0) ∷ [])
+
+-- entry y of row x
+pub flat_entry : (q : ℕ) (rows : List (List ℕ)) (x y : ℕ) → All (λ row. length row ≡ q) rows
+    → x < length rows → y < q
+    → get_or (concat rows) (x * q + y) 0 ≡ get_or (get_or rows x []) y 0
+flat_entry q rows x y h l b =
+    sym (get_or-take (x * q + q - x * q) (drop (x * q) (concat rows)) y 0 (omega arith)
+    ∙ get_or-drop (x * q) (concat rows) y 0)
+    ∙ ap (λ (row : List ℕ). get_or row y 0) (row_lies q rows x h l)

@@ -7,3 +7,6 @@ pub mod Back
 pub mod Expanding
 pub mod Replaced
 pub mod FlatRows
+pub mod Bits
+pub mod Told
+pub mod Context

@@ -2,3 +2,4 @@ pub mod Separators
 pub mod Rows
 pub mod Compact
 pub mod Flat
+pub mod Lanes

@@ -1,5 +1,5 @@
-//! What a compact certificate leaves out, and that it follows from what it says: definitions, and
-//! their laws, each the contract of a function that does nothing.
+//! What a compact certificate leaves out, and that it follows from what it says: definitions, their
+//! laws, and how it is made.
 //!
 //! A compact certificate says of its table the rows of the elements that heaps have, and no
 //! separators. In an accepted certificate every other row is that of its key's product, and each
@@ -7,12 +7,15 @@
 //!
 //! | Folder | What stands there |
 //! |---|---|
-//! | `specs/Separators` | the least element that tells a pair apart |
 //! | `specs/Rows` | the first rows, and those made of them by keys |
+//! | `specs/Separators` | the least element that tells a pair apart |
 //! | `specs/Compact` | what follows, what is left out, and how it is put back |
+//! | `specs/Flat`, `specs/Lanes` | rows, and contexts, that lie one behind the other |
+//! | `src/` | the laws, each the contract of a function that does nothing; rows and separators made |
 #![tactic(auto)]
 
 pub mod products;
+pub mod separators;
 
 ghost use Rattle.std.specs.Prelude.{◌≡◌, ◌↔◌, ◌+◌, ◌≤◌, ◌<◌, ℕ, List, true, length, All};
 ghost use Rattle.misere_theory.specs.Quotients.{Claim};

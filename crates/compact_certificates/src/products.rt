@@ -1,5 +1,5 @@
 //! Rows of a table that lie one behind the other, and a row of products behind them.
-ghost use Rattle.std.specs.Prelude.{◌≡◌, ◌+◌, ◌*◌, ◌≤◌, ◌<◌, ◌++◌, ◌∷◌, [], ℕ, List, All, OnOk, OnErr, length, map, take, slice_index, slice_index_or};
+ghost use Rattle.std.specs.Prelude.{◌≡◌, ◌+◌, ◌*◌, ◌≤◌, ◌<◌, ◌++◌, ◌∷◌, [], ℕ, List, All, OnOk, OnErr, length, map, take, slice_index, slice_index_or, vec_capacity};
 ghost use Rattle.std.specs.List.{concat};
 ghost use Rattle.compact_certificates.specs.Rows.{row_by, rows_by};
 ghost use Rattle.compact_certificates.specs.Flat.{product_in};
@@ -22,6 +22,8 @@ pub fn push_product<A: Allocator>(
     ensures ok { OnOk result (rows.new.items
         ≡ rows.old.items ++ product_in order rows.old.items x y) }
     ensures err { OnErr result (rows.new.items ≡ rows.old.items) }
+    // Memory is wanting only where a growth was refused.
+    ensures full { OnErr result (vec_capacity rows.old < length rows.old.items + order) }
 {
     let order = order as usize;
     let known = rows.len();
