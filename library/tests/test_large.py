@@ -1,0 +1,48 @@
+"""A certificate of 304 elements, and a thousand positions of it, by each call."""
+
+from __future__ import annotations
+
+import random
+import unittest
+
+import misere
+from tests import raised
+
+
+class Large(unittest.TestCase):
+    of = misere.solve_part("0.6", 16)
+
+    def positions(self) -> list[list[int]]:
+        """A thousand positions, of up to a hundred heaps."""
+        chosen = random.Random(62)
+        return [[chosen.randint(1, 16) for _ in range(chosen.randint(0, 100))] for _ in range(1000)]
+
+    def element(self, heaps: list[int]) -> int:
+        product = 0
+        for heap in heaps:
+            product = self.of.table[self.of.phi(heap)][product]
+        return product
+
+    def test_it_is_checked(self) -> None:
+        again = misere.check(self.of.certificate)
+        self.assertEqual((again.order, again.last_heap), (304, 16))
+
+    def test_each_position_is_told(self) -> None:
+        positions = self.positions()
+        elements = [self.element(it) for it in positions]
+        outcomes = ["P" if it in self.of.portion else "N" for it in elements]
+        self.assertEqual(self.of.values(positions), elements)
+        self.assertEqual(self.of.outcomes(positions), outcomes)
+        for heaps, outcome, answer in zip(positions, outcomes, self.of.answers(positions)):
+            self.assertEqual(isinstance(answer, misere.Move), outcome == "N" and any(it > 1 for it in heaps), heaps)
+
+    def test_a_hundred_heaps_are_told(self) -> None:
+        heaps = [it % 16 + 1 for it in range(100)]
+        self.assertEqual(self.of.value(heaps), self.element(heaps))
+        self.assertEqual(self.of.outcome(heaps), "P" if self.element(heaps) in self.of.portion else "N")
+        self.assertEqual(self.of.answer(heaps), self.of.answers([heaps])[0])
+
+    def test_it_is_described_but_not_as_present_takes_relations(self) -> None:
+        self.assertTrue(self.of.describe().startswith("Q_16(0.6) = < a,"))
+        self.assertIn("\norder 304 portion ", self.of.describe(basis=True))
+        self.assertIsInstance(raised(lambda: self.of.describe("relations")), misere.NotDescribed)
