@@ -64,7 +64,7 @@ fn ends_with<S: Source>(alloc: Global, run: &Run, input: &mut S, held: &str) -> 
 const YES: &str = "yes 0.3 order 2 start 1 period 2\n";
 
 /// Of most a second call of the folder would fail.
-static ROWS: [Run; 56] = [
+static ROWS: [Run; 58] = [
     Run(
         "check|0.33.mqc",
         2,
@@ -130,6 +130,20 @@ kernel b ab b^2 ab^2\n0+ a b a b c b c b\nheaps to 8\n",
         2,
         0,
         OF_0_3,
+        "",
+    ),
+    Run(
+        "solve|0.33|--limit|2|--rounds|8|--heaps|12|--order|8|--why",
+        2,
+        1,
+        "gave up 2 Empty\nmembers\n",
+        "",
+    ),
+    Run(
+        "solve|0.33|--limit|100|--rounds|8|--heaps|12|--order|8|--why",
+        2,
+        0,
+        OF_0_33,
         "",
     ),
     Run("solve|0.33|--heaps|2", 2, 1, "gave up 2 Empty\n", ""),
@@ -291,7 +305,7 @@ fn makes_anew(alloc: Global) -> bool {
 
 #[test]
 fn does_what_is_asked(rt: HostRuntime) {
-    assert!(rt; count_held(rt.alloc(), &ROWS) == 56 && makes_anew(rt.alloc()));
+    assert!(rt; count_held(rt.alloc(), &ROWS) == 58 && makes_anew(rt.alloc()));
     assert!(rt; reads_input(rt.alloc()) && tells_no_input(rt.alloc()));
 }
 
