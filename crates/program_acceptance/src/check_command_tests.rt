@@ -2,7 +2,7 @@
 mod games;
 
 use crate::certificates::{ANSWERS, Answered, LIMIT, OF_0_3, folder_of, is_said};
-use crate::cyclic::cyclic;
+use crate::cyclic::{cyclic, part};
 use check_command::check;
 use command_results::Said;
 use folders::MemoryFolder;
@@ -78,6 +78,14 @@ fn reads_long_file(alloc: Global) -> bool {
     }
 }
 
+/// Whether a certificate of the heaps up to 100 is accepted.
+fn accepts_a_long_part(alloc: Global) -> bool {
+    match part(alloc) {
+        Some(text) => says_of_input(alloc, &text, LIMIT, "yes 0.3 order 2 heaps 100\n"),
+        None => false,
+    }
+}
+
 #[test]
 fn answers_of_certificates(rt: HostRuntime) {
     assert!(rt; count_held(rt.alloc(), &ANSWERS) == 31);
@@ -95,5 +103,5 @@ fn answers_of_certificates(rt: HostRuntime) {
     ] {
         assert!(rt; says_of_input(rt.alloc(), OF_0_3.as_bytes(), limit, text));
     }
-    assert!(rt; reads_long_file(rt.alloc()));
+    assert!(rt; reads_long_file(rt.alloc()) && accepts_a_long_part(rt.alloc()));
 }

@@ -127,3 +127,14 @@ pub fn longest(alloc: Global) -> Option<Vec<u8>> {
         && put_text(&mut text, back);
     if done { Some(text) } else { None }
 }
+
+/// The quotient of 0.3 for the heaps up to 100.
+pub fn part(alloc: Global) -> Option<Vec<u8>> {
+    let mut text = Vec::new(alloc);
+    let front = "mqc 2\ncode 0.3\norder 2\nstart 101\nperiod 0\nphi";
+    let back = "\nportion 1\nwords 0:1\nrow 0 1\nrow 1 0\napart 0\nend\n";
+    let done = put_text(&mut text, front)
+        && put_line(alloc, &mut text, Line::Phi, 1, 101)
+        && put_text(&mut text, back);
+    if done { Some(text) } else { None }
+}

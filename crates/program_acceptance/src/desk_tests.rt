@@ -8,7 +8,7 @@ use std::alloc::Global;
 
 /// What a client is told; of a refusal or a fault its number.
 #[derive(Clone, Copy, PartialEq, Eq)]
-enum Said {
+pub enum Said {
     Opened(u8),
     Going,
     Yes,
@@ -30,7 +30,7 @@ fn told<A: SmallAllocator>(reply: Reply<'_, A>) -> Said {
 }
 
 /// What the client is told at an event.
-fn take<A: SmallAllocator + Copy>(desk: &mut Desk<A>, client: u8, event: Event<A>) -> Said {
+pub fn take<A: SmallAllocator + Copy>(desk: &mut Desk<A>, client: u8, event: Event<A>) -> Said {
     match Client::new(client) {
         Some(client) => told(desk.step(client, event)),
         None => Said::Nothing,
@@ -38,7 +38,7 @@ fn take<A: SmallAllocator + Copy>(desk: &mut Desk<A>, client: u8, event: Event<A
 }
 
 /// A job of the client works.
-fn work<A: SmallAllocator + Copy>(desk: &mut Desk<A>, client: u8, job: u8, units: u64) -> Said {
+pub fn work<A: SmallAllocator + Copy>(desk: &mut Desk<A>, client: u8, job: u8, units: u64) -> Said {
     take(desk, client, Event::Work(job, units))
 }
 

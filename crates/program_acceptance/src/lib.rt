@@ -22,6 +22,8 @@ mod desk_script_tests;
 #[cfg(test)]
 mod desk_tests;
 #[cfg(test)]
+mod desk_time_tests;
+#[cfg(test)]
 mod devices_tests;
 #[cfg(test)]
 mod failing_files_tests;

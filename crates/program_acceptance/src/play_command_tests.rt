@@ -10,8 +10,15 @@ use streams::MemorySource;
 
 const LIMIT: u32 = 100000;
 
+/// As many sizes as a position may have, and one more.
+const MOST: &str =
+    "1 1 1 1 1 1 1 1 1 1 1 1 1 1 1 1 1 1 1 1 1 1 1 1 1 1 1 1 1 1 1 1 1 1 1 1 1 1 1 1 1 1 1 1 1 1 1 1 1 1 1 1 1 1 1 1 1 1 1 1 1 1 1 1";
+
+const TOO_MANY: &str =
+    "1 1 1 1 1 1 1 1 1 1 1 1 1 1 1 1 1 1 1 1 1 1 1 1 1 1 1 1 1 1 1 1 1 1 1 1 1 1 1 1 1 1 1 1 1 1 1 1 1 1 1 1 1 1 1 1 1 1 1 1 1 1 1 1 1";
+
 /// A heap of any size is answered at once: only its looks are tried.
-static ROWS: [(&str, &str, &str); 21] = [
+static ROWS: [(&str, &str, &str); 22] = [
     (OF_0_33, "2 1000000000000", "wins 2 -> 0\n"),
     (OF_0_33, "1 1", "wins 1 -> 0\n"),
     (OF_0_33, "0", "ended\n"),
@@ -45,6 +52,7 @@ static ROWS: [(&str, &str, &str); 21] = [
     (PART_OF_0_75, "9", "refused 23 Beyond\n"),
     (PART_OF_0_75, "1 8 9", "refused 23 Beyond\n"),
     (PART_OF_0_8, "4 4", "wins 4 -> 1 1 1\n"),
+    (OF_0_33, MOST, "wins 1 -> 0\n"),
 ];
 
 /// Whether this is said in the position. A second reading would fail.
@@ -90,10 +98,11 @@ fn count_said(alloc: Global, rows: &[(&str, &str, &str)]) -> usize {
 }
 
 /// The name of a file, a position, and the reason to stop where there is none of them.
-static STOPS: [(&str, &str, Stop<'static>); 5] = [
+static STOPS: [(&str, &str, Stop<'static>); 6] = [
     ("a.mqc", "01", Stop::NotAPosition),
     ("a.mqc", "1  2", Stop::NotAPosition),
     ("a.mqc", "1000000000000000001", Stop::NotAPosition),
+    ("a.mqc", TOO_MANY, Stop::NotAPosition),
     ("b.mqc", "", Stop::NotAPosition),
     ("b.mqc", "1", Stop::Read("b.mqc")),
 ];
@@ -125,6 +134,6 @@ fn count_stopped(alloc: Global, rows: &[(&str, &str, Stop<'static>)]) -> usize {
 
 #[test]
 fn answers_in_positions_or_stops(rt: HostRuntime) {
-    assert!(rt; count_said(rt.alloc(), &ROWS) == 21);
-    assert!(rt; count_stopped(rt.alloc(), &STOPS) == 5);
+    assert!(rt; count_said(rt.alloc(), &ROWS) == 22);
+    assert!(rt; count_stopped(rt.alloc(), &STOPS) == 6);
 }

@@ -1,5 +1,5 @@
 //! Worked quotients, described by generators and relations.
-use crate::certificates::{OF_0_1, OF_0_33, OF_0_75, PART_OF_0_75};
+use crate::certificates::{OF_0_1, OF_0_33, OF_0_75, OF_0_147, PART_OF_0_75};
 use crate::files::folder_with;
 use crate::rows::{Row, count_held};
 use crate::said::is_said;
@@ -53,7 +53,7 @@ impl Row for Described {
     }
 }
 
-static ROWS: [Described; 17] = [
+static ROWS: [Described; 18] = [
     Described(
         Asked(OF_0_1, LIMIT, Form::Short, Output::Description),
         true,
@@ -79,6 +79,21 @@ idempotents 1 b^2\n\
 kernel b ab b^2 ab^2\n\
 0+ a b 1\n\
 repeat 3 from 1\n",
+    ),
+    Described(
+        Asked(OF_0_147, LIMIT, Form::Short, Output::Description),
+        true,
+        "Q(0.147) = < a,b,c | a^2=1, b^3=b, b^2c=c, c^2=b^2 >\n\
+P = { a, b^2 }\n\
+order 10 portion 2 tame 3\n\
+generators a=1 b=4 c=7\n\
+units 1 a\n\
+idempotents 1 b^2\n\
+kernel b c ab ac b^2 bc ab^2 abc\n \
+0+ a    1    a    b    b    b    c    c\n \
+8+ a    ab^2 ab^2 b    b    b    c    c\n\
+16+ ab^2\n\
+repeat 8 from 10\n",
     ),
     Described(
         Asked(OF_0_75, LIMIT, Form::Short, Output::Description),
@@ -273,5 +288,5 @@ fn describes_the_large(alloc: Global) -> bool {
 
 #[test]
 fn describes_quotients(rt: HostRuntime) {
-    assert!(rt; count_held(rt.alloc(), &ROWS) == 17 && describes_the_large(rt.alloc()));
+    assert!(rt; count_held(rt.alloc(), &ROWS) == 18 && describes_the_large(rt.alloc()));
 }

@@ -19,6 +19,8 @@ mod desk_command_tests;
 #[cfg(test)]
 mod files;
 #[cfg(test)]
+mod large_tests;
+#[cfg(test)]
 mod present_command_tests;
 #[cfg(test)]
 mod proposers_tests;

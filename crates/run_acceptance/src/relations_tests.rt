@@ -2,7 +2,8 @@
 use crate::rows::{Row, count_held};
 use allocation::Memory;
 use monoid_table::Table;
-use relations::{Description, Form, Undescribed, described};
+use presentations::LETTERS;
+use relations::{Description, Form, Undescribed, described, presentable};
 use std::alloc::Global;
 
 /// A monoid, by its elements' numbers.
@@ -11,6 +12,8 @@ enum Monoid {
     Cyclic(u16),
     /// The identity, so many others, and one that is each product of two of these.
     Null(u16),
+    /// The cyclic group of a, of this order, and its coset of a b with b·b = a·a.
+    Double(u16),
 }
 
 /// How many elements it has.
@@ -18,6 +21,7 @@ fn order_of(monoid: &Monoid) -> u16 {
     match monoid {
         Monoid::Cyclic(order) => *order,
         Monoid::Null(others) => others.saturating_add(2),
+        Monoid::Double(order) => order.saturating_mul(2),
     }
 }
 
@@ -39,11 +43,23 @@ fn last_or_other(last: u16, x: u16, y: u16) -> u16 {
     }
 }
 
+/// The product of two elements of a cyclic group and its coset, which stands behind it: b·b = a·a.
+fn sum_or_coset(order: u16, x: u16, y: u16) -> u16 {
+    let order = order.max(1);
+    let all = sum(order, x % order, y % order);
+    match (x < order, y < order) {
+        (true, true) => all,
+        (false, false) => sum(order, all, 2),
+        _ => all.saturating_add(order),
+    }
+}
+
 /// The product of two elements.
 fn times(monoid: &Monoid, x: u16, y: u16) -> u16 {
     match monoid {
         Monoid::Cyclic(order) => sum(*order, x, y),
         Monoid::Null(others) => last_or_other(others.saturating_add(1), x, y),
+        Monoid::Double(order) => sum_or_coset(*order, x, y),
     }
 }
 
@@ -56,6 +72,14 @@ fn rows_of(alloc: Global, monoid: &Monoid) -> Result<Vec<u16>, Memory> {
         }
     }
     Ok(rows)
+}
+
+/// The table of a monoid.
+fn table_of(alloc: Global, monoid: &Monoid) -> Option<Table> {
+    match rows_of(alloc, monoid) {
+        Ok(rows) => Table::new(order_of(monoid), rows).ok(),
+        Err(_) => None,
+    }
 }
 
 /// A monoid, whether its elements are given or none, and why it is not described by them, where it isn't.
@@ -84,10 +108,7 @@ fn by_elements(alloc: Global, table: &Table) -> Result<Description, Undescribed>
 impl Row for Told {
     fn holds(&self, alloc: Global) -> bool {
         let Told(monoid, given, fault) = self;
-        let Ok(rows) = rows_of(alloc, monoid) else {
-            return false;
-        };
-        let Ok(table) = Table::new(order_of(monoid), rows) else {
+        let Some(table) = table_of(alloc, monoid) else {
             return false;
         };
         let told = if *given {
@@ -110,7 +131,39 @@ static ROWS: [Told; 8] = [
     Told(Monoid::Cyclic(2), false, Some(Undescribed::Unshown)),
 ];
 
+/// How many relations are given of the table as `present` takes them.
+fn count_presentable(alloc: Global, table: &Table, found: &Description) -> usize {
+    let order = table.order();
+    if found.elements.len() > LETTERS || !found.elements.iter().all(|e| *e < order) {
+        return 0;
+    }
+    match presentable(alloc, table, found) {
+        Ok(Some(relations)) => relations.len(),
+        _ => 0,
+    }
+}
+
+/// How many relations are given of the table, and how many as `present` takes them.
+fn counts(alloc: Global, table: &Table) -> (usize, usize) {
+    match by_elements(alloc, table) {
+        Ok(found) => (
+            found.relations.len(),
+            count_presentable(alloc, table, &found),
+        ),
+        Err(_) => (0, 0),
+    }
+}
+
+/// Whether of the group of a with a^20 = 1, and of b with b^2 = a^2, one relation more is given as
+/// `present` takes them: b^20 = 1, which is between powers of b alone.
+fn adds_a_power(alloc: Global) -> bool {
+    match table_of(alloc, &Monoid::Double(20)) {
+        Some(table) => counts(alloc, &table) == (2, 3),
+        None => false,
+    }
+}
+
 #[test]
 fn describes_within_bounds(rt: HostRuntime) {
-    assert!(rt; count_held(rt.alloc(), &ROWS) == 8);
+    assert!(rt; count_held(rt.alloc(), &ROWS) == 8 && adds_a_power(rt.alloc()));
 }

@@ -64,7 +64,7 @@ fn ends_with<S: Source>(alloc: Global, run: &Run, input: &mut S, held: &str) -> 
 const YES: &str = "yes 0.3 order 2 start 1 period 2\n";
 
 /// Of most a second call of the folder would fail.
-static ROWS: [Run; 66] = [
+static ROWS: [Run; 68] = [
     Run(
         "check|0.33.mqc",
         2,
@@ -179,6 +179,20 @@ ideal I =\n  a^2-1,\n  b^3-b,\n  b*c-a*b,\n  c^2-b^2;\n",
         2,
         0,
         OF_0_3,
+        "",
+    ),
+    Run(
+        "solve|0.33|--limit|2|--rounds|8|--heaps|12|--order|8|--why",
+        2,
+        1,
+        "gave up 2 Empty\nmembers\n",
+        "",
+    ),
+    Run(
+        "solve|0.33|--limit|100|--rounds|8|--heaps|12|--order|8|--why",
+        2,
+        0,
+        OF_0_33,
         "",
     ),
     Run("solve|0.33|--heaps|2", 2, 1, "gave up 2 Empty\n", ""),
@@ -364,7 +378,7 @@ fn makes_anew(alloc: Global) -> bool {
 
 #[test]
 fn does_what_is_asked(rt: HostRuntime) {
-    assert!(rt; count_held(rt.alloc(), &ROWS) == 66 && makes_anew(rt.alloc()));
+    assert!(rt; count_held(rt.alloc(), &ROWS) == 68 && makes_anew(rt.alloc()));
     assert!(rt; count_held(rt.alloc(), &READ) == 6 && count_held(rt.alloc(), &UNREAD) == 5);
 }
 
