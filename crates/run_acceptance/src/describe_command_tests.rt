@@ -1,9 +1,9 @@
 //! Worked quotients, described by generators and relations.
-use crate::certificates::{OF_0_1, OF_0_33, OF_0_75, OF_0_147, PART_OF_0_75};
+use crate::certificates::{OF_0_1, OF_0_33, OF_0_75, PART_OF_0_75};
 use crate::files::folder_with;
 use crate::rows::{Row, count_held};
 use crate::said::is_said;
-use crate::tame::tame;
+use crate::tame::{OF_0_147, tame};
 use describe_command::{Form, describe};
 use folders::MemoryFolder;
 use requests::Output;

@@ -1,6 +1,8 @@
 //! What each proposer finds alone, and where memory may be wanting.
-use crate::certificates::{OF_0_1, OF_0_03, OF_0_3, OF_0_33, OF_0_75, OF_0_147, is_spelled};
+use crate::certificates::{OF_0_1, OF_0_3, OF_0_33, OF_0_75, is_spelled};
 use crate::rows::{Row, count_held};
+use crate::solve_command_tests::OF_0_03;
+use crate::tame::OF_0_147;
 use allocation::Memory;
 use octal_code::Code;
 use proposers::{Refiner, Sampler};

@@ -7,6 +7,11 @@ use requests::Aim;
 use solve_command::{SolveBounds, solve};
 use std::alloc::Global;
 
+/// The quotient of 0.03, of order 2.
+pub const OF_0_03: &str =
+    "mqc 1\ncode 0.03\norder 2\nstart 1\nperiod 4\nphi 0 1 1 0\nportion 1\nwords 0:2\nrow 0 1\n\
+row 1 0\napart 0\nend\n";
+
 /// The rounds, the heaps and the order of a search.
 type Bounds = (u32, u32, u32);
 
@@ -70,13 +75,7 @@ static ROWS: [Solved; 12] = [
     Solved("0.75", USUAL, true, OF_0_75),
     Solved("0.b", USUAL, true, OF_0_B),
     Solved("0.33", (64, 24, 6), true, OF_0_33),
-    Solved(
-        "0.03",
-        FEW,
-        true,
-        "mqc 1\ncode 0.03\norder 2\nstart 1\nperiod 4\nphi 0 1 1 0\nportion 1\nwords 0:2\n\
-row 0 1\nrow 1 0\napart 0\nend\n",
-    ),
+    Solved("0.03", FEW, true, OF_0_03),
     Solved(
         "0.003",
         FEW,
