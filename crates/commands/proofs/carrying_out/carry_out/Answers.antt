@@ -4,9 +4,6 @@ use Rattle.commands.proofs.Usage.{usage}
 use Rattle.requests.specs.Requests.{catalogue_request_of}
 use Rattle.commands.proofs.carrying_out.carry_out.Goals as goal
 
-pub returns-in-Show-clause-says : goal.returns-in-Show-clause-says
-returns-in-Show-clause-says g c = rw (c.in-Show.is) c.show.ensures.shows
-
 pub returns-in-Play-clause-says : goal.returns-in-Play-clause-says
 returns-in-Play-clause-says g c = rw (c.in-Play.is) c.play.ensures.plays
 
