@@ -10,6 +10,9 @@ returns-in-Some-clause-says g c = rw (c.in-Check.is) (rw (c.in-Some.is) c.check_
 pub returns-in-None-clause-says : goal.returns-in-None-clause-says
 returns-in-None-clause-says g c = rw (c.in-Check.is) (rw (c.in-None.is) c.check_input.ensures.said)
 
+pub returns-in-Show-clause-says : goal.returns-in-Show-clause-says
+returns-in-Show-clause-says g c = rw (c.in-Show.is) c.show.ensures.shows
+
 pub returns-in-Play-clause-says : goal.returns-in-Play-clause-says
 returns-in-Play-clause-says g c = rw (c.in-Play.is) c.play.ensures.plays
 
