@@ -1,5 +1,4 @@
 -- What a handle owns: the box at its pointer, or nothing. This project's own.
-use mir.Syntax.{Ty}
 use base.Fml.{Fml, ftrue}
 use denote.RattleType.{RattleType}
 use denote.RawPtr.{Ptr}

@@ -5,6 +5,7 @@
 mod describing;
 mod exports;
 mod numbers;
+mod opened_texts;
 #[cfg(test)]
 mod rows_tests;
 mod solving;

@@ -1,5 +1,4 @@
 -- The box goes with the handle.
-use mathlib.Core.List.{◌∷◌}
 use mir.Raw.{raw}
 use base.Shift.{Keyless}
 use denote.Memory.{lone}

@@ -18,12 +18,11 @@ use denote.Steps.{nothing}
 use denote.Param.{layout}
 use denote.Triple.Walked.{Stays, stay_dropped, walk_of, Goes-dropped}
 use Rattle.core.proofs.cell.Inside.{Good, one}
-use Rattle.std.specs.declared.option.Option.{Option}
 use Rattle.std.specs.declared.option.Option.TheVariants.{None}
 use Rattle.std.proofs.raw_atomic.Walks.{proved_at, leaves}
 use Rattle.std.proofs.alloc.Global.TheLaws as heap_laws
 use Rattle.opened.proofs.Values.{both, both_tt}
-use Rattle.opened.proofs.Steps.{R, Z, H, handle_in}
+use Rattle.opened.proofs.Steps.{Z, H, handle_in}
 use Rattle.opened.specs.contracts.handle.Handle.none.{ended, clauses}
 use Rattle.opened.specs.contracts.handle.Handle.none.Key.{name as #self}
 use Rattle.opened.proofs.handle.Handle.none.Statement.{statement}
