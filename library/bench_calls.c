@@ -1,6 +1,6 @@
-/* What an outcome of three heaps takes: by a call of its own, and among many by one check.
+/* What an outcome of three heaps takes: by a call of its own, of what is opened, and among many by one check.
  * cc -O2 bench_calls.c libmisere.a -o bench_calls && ./bench_calls CERTIFICATE ..
- * For each certificate it prints these two, in microseconds of the processor. */
+ * For each certificate it prints these three, in microseconds of the processor. */
 #include "misere.h"
 #include <stdio.h>
 #include <stdlib.h>
@@ -16,6 +16,7 @@ static uint8_t bytes[1 << 22];
 static size_t length;
 static uint64_t heaps[HEAPS * POSITIONS], ends[POSITIONS];
 static uint32_t outcomes[POSITIONS];
+static misere_opened opened = MISERE_CLOSED;
 
 static void stop_unless(int right, const char *what) {
     if (right) return;
@@ -31,6 +32,10 @@ static double seconds(void) {
 
 static uint32_t alone(size_t at) {
     return misere_outcome(bytes, length, MISERE_LIMIT, heaps + HEAPS * at, HEAPS, outcomes + at);
+}
+
+static uint32_t of_opened(size_t at) {
+    return misere_opened_outcome(&opened, heaps + HEAPS * at, HEAPS, outcomes + at);
 }
 
 static uint32_t all(size_t at) {
@@ -53,7 +58,9 @@ static void measure(const char *name) {
     stop_unless(file != NULL, name);
     length = fread(bytes, 1, sizeof bytes, file);
     fclose(file);
-    printf("%.3f %.3f\n", microseconds(alone), microseconds(all) / POSITIONS);
+    stop_unless(!misere_open(bytes, length, MISERE_LIMIT, &opened), name);
+    printf("%.3f %.3f %.3f\n", microseconds(alone), microseconds(of_opened), microseconds(all) / POSITIONS);
+    misere_close(&opened);
 }
 
 int main(int argc, char **argv) {

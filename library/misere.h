@@ -1,13 +1,16 @@
 /* misere.h: certified misere quotients of octal and hexadecimal games.
  *
- * A certificate is a short text. Every call below that is given one checks it anew, so nothing has
- * to be opened, kept or closed: whatever a call tells has the checker's theorem behind it.
+ * A certificate is a short text. A call that is given one checks it anew, so nothing has to be kept:
+ * whatever it tells has the checker's theorem behind it. For many questions misere_open checks the
+ * bytes once, and what it opens keeps the theorem.
  *
  * Memory. The caller owns all that he passes; the library keeps no pointer after a call, and frees
- * all that it took (by malloc, realloc and free). A call that does not answer MISERE_YES leaves what
- * it could have told as it was, but for the two that say otherwise.
- * Threads. There is no state: any number of calls may run at once, in any threads. Not from a
- * signal handler, nor in a child forked off a process with threads.
+ * all that it took (by malloc, realloc and free), but for what is opened until it is closed. A call
+ * that does not answer MISERE_YES leaves what it could have told as it was, but for those that say
+ * otherwise.
+ * Threads. There is no state: any number of calls may run at once, in any threads, if no two of them
+ * are given the same misere_opened. Not from a signal handler, nor in a child forked off a process
+ * with threads.
  * Pointers. They are not null, also where the length is 0, and what is told into overlaps nothing
  * that is given. Nothing checks that a length is that of the memory. */
 #ifndef MISERE_H
@@ -45,6 +48,7 @@ enum {
     MISERE_NO_ROOM = 14,      /* what would be told is longer than the room for it */
     MISERE_NOT_IN_RANGE = 15, /* a bound of the search, or a choice, is out of its range */
     MISERE_NOT_DESCRIBED = 16, /* the quotient is not described within the bounds */
+    MISERE_NOT_OPEN = 17,     /* nothing is opened there */
     MISERE_BEYOND = 23        /* the certificate is partial, and does not speak of all the heaps */
 };
 
@@ -126,6 +130,54 @@ enum { MISERE_SHORT = 0, MISERE_BASIS = 1 };
  * *count how many bytes it has. With MISERE_NO_ROOM it tells *count alone. */
 uint32_t misere_describe(const uint8_t *bytes, size_t length, uint32_t limit, uint32_t output,
                          uint32_t form, uint8_t *told, size_t room, uint64_t *count);
+
+/* One owner of an opened quotient. It begins as MISERE_CLOSED, and the calls alone write in it. One
+ * call at a time is given it; it may go on to another thread. For a second thread misere_share makes
+ * a second owner: the certificate is kept once, and the last owner that is closed frees it.
+ *
+ * A call on what is closed answers MISERE_NOT_OPEN. But a copy of the struct owns nothing: whoever
+ * passes a copy after what it is of was given to misere_close, misere_open or misere_share as the one
+ * to be told, has what a pointer to freed memory has. */
+typedef struct {
+    uint64_t full; /* 0 where nothing is opened */
+    void *kept;
+} misere_opened;
+
+#define MISERE_CLOSED { 0, 0 }
+
+/* Checks the bytes as misere_check does, and opens the quotient that they certify, in *told. What was
+ * opened there is closed. The bytes are not needed any more. */
+uint32_t misere_open(const uint8_t *bytes, size_t length, uint32_t limit, misere_opened *told);
+
+/* Makes a second owner of the same quotient, in *told, which is another one. What was opened there is
+ * closed. MISERE_MEMORY or MISERE_NOT_OPEN, if not MISERE_YES. */
+uint32_t misere_share(misere_opened *opened, misere_opened *told);
+
+/* Closes it: it is as MISERE_CLOSED afterwards. MISERE_NOT_OPEN if it was so before. */
+uint32_t misere_close(misere_opened *opened);
+
+/* As misere_outcome, misere_value and misere_answer of the bytes that were opened. They take no memory,
+ * and answer MISERE_YES, MISERE_NOT_A_HEAP, MISERE_NOT_OPEN or MISERE_BEYOND. misere_opened_answer
+ * puts the heaps in rising order in their own memory, if it answers MISERE_YES. */
+uint32_t misere_opened_outcome(misere_opened *opened, const uint64_t *heaps, size_t count,
+                               uint32_t *told);
+uint32_t misere_opened_value(misere_opened *opened, const uint64_t *heaps, size_t count,
+                             uint32_t *told);
+uint32_t misere_opened_answer(misere_opened *opened, uint64_t *heaps, size_t count,
+                              misere_move *told);
+
+/* As misere_outcomes, misere_values and misere_answers of the bytes that were opened. The first two
+ * take no memory. They answer MISERE_NOT_ENDS too, and the third one MISERE_MEMORY. */
+uint32_t misere_opened_outcomes(misere_opened *opened, const uint64_t *heaps, size_t count,
+                                const uint64_t *ends, size_t positions, uint32_t *told, size_t room);
+uint32_t misere_opened_values(misere_opened *opened, const uint64_t *heaps, size_t count,
+                              const uint64_t *ends, size_t positions, uint32_t *told, size_t room);
+uint32_t misere_opened_answers(misere_opened *opened, const uint64_t *heaps, size_t count,
+                               const uint64_t *ends, size_t positions, misere_move *told, size_t room);
+
+/* As misere_describe of the bytes that were opened. */
+uint32_t misere_opened_describe(misere_opened *opened, uint32_t output, uint32_t form, uint8_t *told,
+                                size_t room, uint64_t *count);
 
 #ifdef __cplusplus
 }

@@ -36,6 +36,7 @@ export const STATUSES = {
   14: "NoRoom",
   15: "NotInRange",
   16: "NotDescribed",
+  17: "NotOpen",
   23: "Beyond",
 };
 const [OUTCOME, MEMORY, NOT_A_HEAP, NO_ROOM, NOT_IN_RANGE] = [7, 9, 10, 14, 15];

@@ -1,3 +1,4 @@
 pub mod Numbers
 pub mod Queries
 pub mod Many
+pub mod Asked

@@ -1,14 +1,17 @@
 //! The checker for C, and for whatever calls C: a static library of calls on numbers and bytes.
 //!
-//! It keeps nothing between calls. Whatever is asked of a certificate is asked with its bytes,
-//! which are checked anew, so that each answer has the checker's theorem behind it, and a caller
-//! owns all memory that he hands over or gets.
+//! It keeps nothing between calls but what is opened. Whatever is asked of a certificate is asked
+//! with its bytes, which are checked anew, or of an opened quotient, which was checked once. So each
+//! answer has the checker's theorem behind it. A caller owns all memory that he hands over or gets.
 #![tactic(auto)]
 
+mod asking;
 mod exports;
 mod heaps;
 mod many;
 mod numbers;
+mod opened_exports;
+mod opened_queries;
 mod queries;
 mod refusing;
 #[cfg(test)]

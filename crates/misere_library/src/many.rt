@@ -15,7 +15,7 @@ use answers::Certified;
 use std::alloc::Global;
 
 /// Whether the ends cut some of so many heaps into positions.
-fn are_ends(count: usize, ends: &[u64]) -> bool
+pub(crate) fn are_ends(count: usize, ends: &[u64]) -> bool
     ensures { IsTrue result ↔ AreEnds count ends.now }
 {
     let mut from = 0;
@@ -62,7 +62,7 @@ fn certified_of_all(
 }
 
 /// Tells the outcome of each position.
-fn fill_outcomes(certified: &Certified, heaps: &[u64], ends: &[u64], told: &mut [u32])
+pub(crate) fn fill_outcomes(certified: &Certified, heaps: &[u64], ends: &[u64], told: &mut [u32])
     requires speaks { All (IsHeapOf certified.now) heaps.now }
     requires ends { AreEnds (length heaps.now) ends.now }
     requires room { length told.old ≡ length ends.now }
@@ -75,7 +75,7 @@ fn fill_outcomes(certified: &Certified, heaps: &[u64], ends: &[u64], told: &mut 
 }
 
 /// Tells the element of each position.
-fn fill_values(certified: &Certified, heaps: &[u64], ends: &[u64], told: &mut [u32])
+pub(crate) fn fill_values(certified: &Certified, heaps: &[u64], ends: &[u64], told: &mut [u32])
     requires speaks { All (IsHeapOf certified.now) heaps.now }
     requires ends { AreEnds (length heaps.now) ends.now }
     requires room { length told.old ≡ length ends.now }
@@ -88,7 +88,7 @@ fn fill_values(certified: &Certified, heaps: &[u64], ends: &[u64], told: &mut [u
 }
 
 /// The answer in each position.
-fn all_answers(
+pub(crate) fn all_answers(
     alloc: Global,
     certified: &Certified,
     heaps: &[u64],

@@ -23,6 +23,9 @@ pub(crate) const NOT_A_HEAP: u32 = 10;
 /// The ends don't cut the heaps into as many positions as there is room for.
 pub(crate) const NOT_ENDS: u32 = 11;
 
+/// Nothing is opened.
+pub(crate) const NOT_OPEN: u32 = 17;
+
 /// The certificate is partial, and doesn't speak of all the heaps.
 pub(crate) const BEYOND: u32 = 23;
 

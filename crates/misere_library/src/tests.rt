@@ -5,6 +5,11 @@ use crate::exports::{
     misere_value, misere_values,
 };
 use crate::numbers::MisereAnswer;
+use crate::opened_exports::{
+    misere_close, misere_open, misere_opened_answer, misere_opened_answers, misere_opened_outcome,
+    misere_opened_outcomes, misere_opened_value, misere_opened_values, misere_share,
+};
+use opened::Opened;
 
 /// The certificate of 0.3, where a move takes one from a heap.
 const BYTES: &[u8] =
@@ -183,4 +188,98 @@ fn failures_are_told(rt: HostRuntime) {
     );
     assert_eq!(&rt; count, 2);
     assert_eq!(&rt; short[0], 7);
+}
+
+#[test]
+fn opened_quotients_are_asked(rt: HostRuntime) {
+    let (alloc, mut told) = (rt.alloc(), 7);
+    let mut opened = Opened::closed(alloc);
+    assert_eq!(&rt;
+        misere_opened_outcome(alloc, &mut opened, &[1], &mut told),
+        17
+    );
+    assert_eq!(&rt; misere_close(alloc, &mut opened), 17);
+    assert_eq!(&rt; misere_open(alloc, b"", LIMIT, &mut opened), 1);
+    assert_eq!(&rt; misere_open(alloc, BYTES, LIMIT, &mut opened), 0);
+    assert_eq!(&rt;
+        misere_opened_outcome(alloc, &mut opened, &[2, 1], &mut told),
+        0
+    );
+    assert_eq!(&rt; told, 0);
+    assert_eq!(&rt;
+        misere_opened_value(alloc, &mut opened, &[1, 2], &mut told),
+        0
+    );
+    assert_eq!(&rt; told, 1);
+    assert_eq!(&rt;
+        misere_opened_value(alloc, &mut opened, &[0], &mut told),
+        10
+    );
+    assert_eq!(&rt; told, 1);
+    assert_eq!(&rt; misere_open(alloc, PARTIAL, LIMIT, &mut opened), 0);
+    assert_eq!(&rt;
+        misere_opened_value(alloc, &mut opened, &[3], &mut told),
+        23
+    );
+    assert_eq!(&rt; misere_close(alloc, &mut opened), 0);
+}
+
+#[test]
+fn answers_of_opened_quotients_sort_the_heaps(rt: HostRuntime) {
+    let mut told = MisereAnswer {
+        kind: 7,
+        heap: 7,
+        first: 7,
+        second: 7,
+        third: 7,
+    };
+    let (alloc, mut heaps) = (rt.alloc(), [3, 2, 3]);
+    let mut opened = Opened::closed(alloc);
+    assert_eq!(&rt; misere_open(alloc, BYTES, LIMIT, &mut opened), 0);
+    assert_eq!(&rt;
+        misere_opened_answer(alloc, &mut opened, &mut heaps, &mut told),
+        0
+    );
+    assert_eq!(&rt; told.kind, 2);
+    assert_eq!(&rt; told.heap, 2);
+    assert_eq!(&rt; told.first, 1);
+    assert_eq!(&rt; heaps[0], 2);
+    assert_eq!(&rt; heaps[1], 3);
+}
+
+#[test]
+fn a_second_owner_keeps_the_quotient(rt: HostRuntime) {
+    let untold = MisereAnswer {
+        kind: 7,
+        heap: 7,
+        first: 7,
+        second: 7,
+        third: 7,
+    };
+    let (alloc, mut told, mut moves) = (rt.alloc(), [7; 3], [untold; 3]);
+    let (mut opened, mut other) = (Opened::closed(alloc), Opened::closed(alloc));
+    assert_eq!(&rt; misere_share(alloc, &mut opened, &mut other), 17);
+    assert_eq!(&rt; misere_open(alloc, BYTES, LIMIT, &mut opened), 0);
+    assert_eq!(&rt; misere_share(alloc, &mut opened, &mut other), 0);
+    assert_eq!(&rt; misere_close(alloc, &mut opened), 0);
+    assert_eq!(&rt;
+        misere_opened_outcomes(alloc, &mut other, &[1, 2, 1, 2], &[1, 1, 4], &mut told),
+        0
+    );
+    assert_eq!(&rt; told[1], 1);
+    assert_eq!(&rt; told[2], 0);
+    assert_eq!(&rt;
+        misere_opened_values(alloc, &mut other, &[1, 2, 1, 1, 2], &[1, 1, 4], &mut told),
+        0
+    );
+    assert_eq!(&rt; told[0], 1);
+    assert_eq!(&rt;
+        misere_opened_answers(alloc, &mut other, &[2, 2, 1], &[0, 1, 3], &mut moves),
+        0
+    );
+    assert_eq!(&rt; moves[1].heap, 2);
+    assert_eq!(&rt;
+        misere_opened_values(alloc, &mut other, &[1], &[2], &mut told),
+        11
+    );
 }

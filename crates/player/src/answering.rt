@@ -20,8 +20,9 @@ pub enum Answer {
     Wins(Move),
 }
 
-/// The answer in the position of these heaps, which stand rising.
-pub(crate) fn answer_at<A: Allocator>(certified: &Certified<A>, heaps: &[u64]) -> Answer
+/// The answer in the position of these heaps, which stand rising: as `answer`, of heaps in any
+/// memory. It takes none.
+pub fn answer_at<A: Allocator>(certified: &Certified<A>, heaps: &[u64]) -> Answer
     requires position { IsPosition (IsHeapOf certified.now) heaps.now }
     requires rising { IsNonDecreasing heaps.now }
     ensures { IsRightAnswer certified.now.code heaps.now result }

@@ -32,7 +32,12 @@ fn presentable(alloc: Global, certified: &Certified, form: Form) -> Result<Strin
 }
 
 /// The text that is asked for of the quotient.
-fn text_for(alloc: Global, certified: &Certified, output: u32, form: Form) -> Result<String, u32>
+pub(crate) fn text_for(
+    alloc: Global,
+    certified: &Certified,
+    output: u32,
+    form: Form,
+) -> Result<String, u32>
     ensures told { IfOk result (λ t. IsTextFor output certified.now (string_bytes t)) }
     ensures why { IfErr result (IsUntoldOf output) }
 {
@@ -49,7 +54,7 @@ fn text_for(alloc: Global, certified: &Certified, output: u32, form: Form) -> Re
 }
 
 /// The form of relations of this number.
-fn form_of(form: u32) -> Option<Form>
+pub(crate) fn form_of(form: u32) -> Option<Form>
     ensures { IsSome result ↔ (form ≤ 1) }
 {
     match form {

@@ -1,11 +1,14 @@
 //! The calls.
 ghost use Rattle.std.specs.Prelude.{◌≡◌, ◌≢◌, ◌<◌, ℕ, List, length, take};
 ghost use Rattle.solve_library.specs.Found.{IsCertificateFor, IsTextOf, IsUnfound, IsUntold};
+ghost use Rattle.solve_library.specs.Asked.{IsOpenedText, IsOpenedUntold};
 ghost use Rattle.solve_library.specs.declared.solving.Asked.{Asked};
 
 use crate::describing::described;
 use crate::numbers::hand_over;
+use crate::opened_texts::opened_text;
 use crate::solving::{Asked, solved};
+use opened::Opened;
 use std::alloc::Global;
 
 /// Looks for a quotient of the game of a code, and tells the bytes of its certificate, and how many
@@ -73,6 +76,31 @@ pub extern "C" fn misere_describe(
     ensures untold { result ≢ 0 → result ≢ 14 → count.new ≡ count.old }
 {
     match described(alloc, bytes, limit, output, form) {
+        Ok(text) => hand_over(text.as_bytes(), told, count),
+        Err(status) => status,
+    }
+}
+
+/// Describes the quotient that is opened, as `misere_describe` that of bytes.
+#[unsafe(no_mangle)]
+pub extern "C" fn misere_opened_describe(
+    alloc: Global,
+    opened: &mut Opened,
+    output: u32,
+    form: u32,
+    told: &mut [u8],
+    count: &mut u64,
+) -> u32
+    ensures described { result ≡ 0 → IsOpenedText opened.old.handle.value output (take count.new told.new) }
+    ensures no { result ≢ 0 → result ≢ 14 → IsOpenedUntold opened.old.handle.value output form result }
+    ensures same { opened.new.handle.value ≡ opened.old.handle.value }
+    ensures stays { result ≢ 0 → told.new ≡ told.old }
+    ensures room { result ≡ 14 → length told.old < count.new }
+    ensures counts { result ≡ 14
+        → (text : List ℕ) × IsOpenedText opened.old.handle.value output text × (count.new ≡ length text) }
+    ensures untold { result ≢ 0 → result ≢ 14 → count.new ≡ count.old }
+{
+    match opened_text(alloc, opened, output, form) {
         Ok(text) => hand_over(text.as_bytes(), told, count),
         Err(status) => status,
     }

@@ -5,6 +5,7 @@
 mod describing;
 mod exports;
 mod numbers;
+mod opened_texts;
 mod solving;
 #[cfg(test)]
 mod tests;

@@ -22,6 +22,9 @@ pub(crate) const NOT_IN_RANGE: u32 = 15;
 /// The quotient is not described within the bounds.
 pub(crate) const NOT_DESCRIBED: u32 = 16;
 
+/// Nothing is opened.
+pub(crate) const NOT_OPEN: u32 = 17;
+
 /// Tells how many bytes there are, and puts them in front, where there is room for them.
 pub(crate) fn hand_over(bytes: &[u8], told: &mut [u8], count: &mut u64) -> u32
     ensures put { result ≡ 0 → take count.new told.new ≡ bytes.now }

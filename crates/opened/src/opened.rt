@@ -1,0 +1,64 @@
+//! Opened quotients as C keeps them.
+ghost use Rattle.std.specs.Prelude.{◌≡◌};
+ghost use Rattle.std.specs.Option.{MatchOption};
+ghost use Rattle.std.specs.declared.option.Option.TheVariants.{None, Some};
+ghost use Rattle.opened.specs.Opening.{count_of};
+
+use crate::handle::Handle;
+use crate::quotient::Quotient;
+use std::alloc::Global;
+use std::mem;
+
+/// A quotient that was opened, or none. In a contract its `handle.value` is the certificate, if there
+/// is one.
+#[repr(C)]
+pub struct Opened {
+    /// 1, or 0 where nothing is opened.
+    full: u64,
+    pub handle: Handle,
+    pub ghost counts: { full ≡ count_of handle.value },
+}
+
+impl Opened {
+    /// Nothing is opened.
+    pub fn closed(alloc: Global) -> Opened
+        ensures { result.handle.value ≡ None }
+    {
+        Opened {
+            full: 0,
+            handle: Handle::none(alloc),
+        }
+    }
+
+    /// Takes the quotient out.
+    pub fn take(&mut self, alloc: Global) -> Option<Box<Quotient>>
+        ensures none { self.new.handle.value ≡ None }
+        ensures taken { MatchOption result (self.old.handle.value ≡ None)
+            (λ b. self.old.handle.value ≡ Some b.value) }
+    {
+        if self.full == 0 {
+            return None;
+        }
+        self.full = 0;
+        let handle = mem::replace(&mut self.handle, Handle::none(alloc));
+        Some(handle.into_box())
+    }
+
+    /// Puts a quotient in. One that is there is closed.
+    pub fn put(&mut self, alloc: Global, quotient: Box<Quotient>)
+        ensures { self.new.handle.value ≡ Some quotient.value }
+    {
+        drop(self.take(alloc));
+        self.full = 1;
+        self.handle = Handle::of(quotient);
+    }
+}
+
+impl Drop for Opened {
+    fn drop(self) {
+        let Opened { full, handle } = self;
+        if full != 0 {
+            drop(handle.into_box());
+        }
+    }
+}

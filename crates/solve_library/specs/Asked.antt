@@ -1,0 +1,16 @@
+-- What is told of an opened quotient. This project's own.
+use Rattle.std.specs.Prelude.{◌≡◌, ◌⊎◌, ℕ, ◌≤◌, List}
+use Rattle.std.specs.declared.option.Option.{Option}
+use Rattle.std.specs.declared.option.Option.TheVariants.{None, Some}
+use Rattle.misere_theory.specs.Certificates.{Certificate}
+use Rattle.solve_library.specs.Found.{IsTextFor, IsUntoldOf}
+
+-- a quotient is opened, and the text is what is asked for of it
+abbrev pub IsOpenedText : Option Certificate → ℕ → List ℕ → Type 0
+IsOpenedText opened output text = (c : Certificate) × (opened ≡ Some c) × IsTextFor output c text
+
+-- Why no text is told: there is no such form, or nothing is opened, or the text isn't told of the
+-- quotient.
+abbrev pub IsOpenedUntold : Option Certificate → ℕ → ℕ → ℕ → Type 0
+IsOpenedUntold opened output form status =
+    ((status ≡ 15) × (2 ≤ form)) ⊎ (((status ≡ 17) × (opened ≡ None)) ⊎ IsUntoldOf output status)
