@@ -1,9 +1,10 @@
-"""Compares what Python, C and Rust tell with the program, with the certificates' tables and with a search of all plays.
+"""Compares what Python, C and Rust tell of opened quotients with what the calls by bytes tell, with the program, with the
+certificates' tables and with a search of all plays.
 
     python3 compare.py [PROGRAM]
 
 Over 100,000 positions of six quotients, of which the program is asked 1,000. The refused samples get the program's
-numbers and positions, and threads agree.
+numbers and positions, and eight threads over each quotient agree.
 """
 
 from __future__ import annotations
@@ -96,6 +97,12 @@ def lines_of(quotient: misere.Quotient, positions: Sequence[Heaps]) -> list[str]
     return [line_of(quotient.value(it), quotient.outcome(it), quotient.answer(it)) for it in positions]
 
 
+def lines_of_all(quotient: misere.Quotient, positions: Sequence[Heaps]) -> list[str]:
+    """The lines of the positions, asked together."""
+    told = zip(quotient.values(positions), quotient.outcomes(positions), quotient.answers(positions))
+    return [line_of(*it) for it in told]
+
+
 def told_by(tool: str, file: os.PathLike[str], positions: Sequence[Heaps]) -> list[str]:
     """The lines of C's or Rust's example."""
     text = "".join(" ".join(map(str, it)) + "\n" for it in positions)
@@ -112,8 +119,9 @@ def compare_quotient(program: str, name: str) -> Compared:
     quotient = misere.check(file.read_bytes())
     positions = list(positions_of(quotient))
     lines = lines_of(quotient, positions)
-    many = zip(quotient.values(positions), quotient.outcomes(positions), quotient.answers(positions))
-    assert lines == [line_of(*it) for it in many], name
+    assert lines == lines_of_all(quotient, positions), name
+    anew = misere.check(file.read_bytes(), anew=True)
+    assert lines == lines_of(anew, positions) == lines_of_all(anew, positions), name
     for tool in ("example", rust):
         assert told_by(tool, file, positions) == lines, (tool, name)
     search = search_of(quotient.code)
@@ -150,12 +158,13 @@ def compare_finder(program: str) -> None:
         assert found.certificate.decode() == printed(program, "solve", code), code
         assert found.describe() == printed(here / rust, "--solve", code), code
     for file in sorted(samples.glob("*.mqc")):
-        quotient = misere.check(file.read_bytes())
+        quotient, anew = misere.check(file.read_bytes()), misere.check(file.read_bytes(), anew=True)
         for basis in ((), ("--basis",)):
             words: tuple[str | os.PathLike[str], ...] = (program, "describe", file, *basis)
-            assert quotient.describe(basis=bool(basis)) == printed(*words), words
-            assert quotient.describe("latex", bool(basis)) == printed(*words, "--latex"), words
-            assert quotient.describe("relations", bool(basis)) + "\n" == printed(*words, "--relations"), words
+            for it in (quotient, anew):
+                assert it.describe(basis=bool(basis)) == printed(*words), words
+                assert it.describe("latex", bool(basis)) == printed(*words, "--latex"), words
+                assert it.describe("relations", bool(basis)) + "\n" == printed(*words, "--relations"), words
 
 
 def compare_threads(compared: Sequence[Compared]) -> None:
@@ -164,8 +173,9 @@ def compare_threads(compared: Sequence[Compared]) -> None:
 
     def ask() -> None:
         for quotient, positions, lines in compared:
-            again = lines_of(quotient, positions[:ASKED])
-            wrong.extend(it for it, line, other in zip(positions, lines, again) if line != other)
+            for call in (lines_of, lines_of_all):
+                again = call(quotient, positions[:ASKED])
+                wrong.extend(it for it, line, other in zip(positions, lines, again) if line != other)
 
     threads = [threading.Thread(target=ask) for _ in range(THREADS)]
     for thread in threads:
@@ -185,7 +195,7 @@ def main() -> None:
     compare_finder(program)
     compare_threads(compared)
     asked = f"{POSITIONS * len(SIX)} positions of {len(SIX)} quotients by C, Python and Rust, {PLAYED * len(SIX)} by the program"
-    print(f"{asked}, {len(refused)} refused samples, {THREADS} threads: all agree")
+    print(f"{asked}, {len(refused)} refused samples, {THREADS} threads over each quotient: all agree")
 
 
 if __name__ == "__main__":

@@ -7,8 +7,17 @@
 
 #define MOST_HEAPS 64
 
-static uint8_t bytes[1 << 22];
-static size_t length;
+static misere_opened quotient = MISERE_CLOSED;
+
+/* Opens the quotient of the certificate in a file, and answers the status. */
+static uint32_t open_file(const char *name) {
+    static uint8_t bytes[1 << 22];
+    FILE *file = fopen(name, "rb");
+    if (!file) return MISERE_TEXT;
+    size_t length = fread(bytes, 1, sizeof bytes, file);
+    fclose(file);
+    return misere_open(bytes, length, MISERE_LIMIT, &quotient);
+}
 
 static void tell_answer(const misere_move *move) {
     if (move->kind == MISERE_ENDED) puts("ended");
@@ -22,12 +31,12 @@ static void tell_answer(const misere_move *move) {
 }
 
 /* Tells of one position, and answers the status. */
-static uint32_t tell(const uint64_t *heaps, size_t count) {
+static uint32_t tell(uint64_t *heaps, size_t count) {
     uint32_t outcome, value, status;
     misere_move move;
-    if ((status = misere_outcome(bytes, length, MISERE_LIMIT, heaps, count, &outcome))
-        || (status = misere_value(bytes, length, MISERE_LIMIT, heaps, count, &value))
-        || (status = misere_answer(bytes, length, MISERE_LIMIT, heaps, count, &move))) {
+    if ((status = misere_opened_outcome(&quotient, heaps, count, &outcome))
+        || (status = misere_opened_value(&quotient, heaps, count, &value))
+        || (status = misere_opened_answer(&quotient, heaps, count, &move))) {
         printf("no %" PRIu32 "\n", status);
         return status;
     }
@@ -50,15 +59,13 @@ int main(int argc, char **argv) {
     char line[2048];
     uint64_t heaps[MOST_HEAPS];
     uint32_t status;
-    FILE *file = argc == 2 ? fopen(argv[1], "rb") : NULL;
-    if (!file || misere_version() != MISERE_VERSION) return 2;
-    length = fread(bytes, 1, sizeof bytes, file);
-    fclose(file);
-    if ((status = misere_check(bytes, length, MISERE_LIMIT))) {
+    if (argc != 2 || misere_version() != MISERE_VERSION) return 2;
+    if ((status = open_file(argv[1]))) {
         printf("no %" PRIu32 "\n", status);
         return 1;
     }
-    while (fgets(line, sizeof line, stdin))
-        if (tell(heaps, read_heaps(line, heaps))) return 1;
-    return 0;
+    while (!status && fgets(line, sizeof line, stdin))
+        status = tell(heaps, read_heaps(line, heaps));
+    misere_close(&quotient);
+    return status != 0;
 }

@@ -1,4 +1,5 @@
-/* Refuses the nth growth, for each n in turn: every call then answers MISERE_MEMORY, tells nothing and keeps nothing.
+/* Refuses the nth growth, for each n in turn: every call then answers MISERE_MEMORY, tells nothing and keeps nothing. Of
+ * positions of an opened quotient a call takes no memory at all, but for the answers in many.
  * cc -Wl,--wrap=malloc,--wrap=realloc,--wrap=free starve.c libmisere.a -o starve && ./starve CERTIFICATE */
 #include "misere.h"
 #include <stdio.h>
@@ -34,70 +35,114 @@ static struct {
     uint8_t text[1 << 16];
 } told, untold;
 
-static const uint64_t heaps[12] = {2, 3, 1, 4, 2, 3, 1, 4, 2, 3, 1, 2}, ends[2] = {2, 12};
-static const char *names[] = {"check", "outcome", "value", "answer", "outcomes", "values", "answers", "failure", "solve", "describe",
-                              "open", "share", "opened_outcome", "opened_value", "opened_answer", "opened_outcomes",
-                              "opened_values", "opened_answers", "opened_describe"};
-#define CALLS (sizeof names / sizeof *names)
-
-/* Opened before any growth is refused, if the bytes are accepted. */
+/* That of the certificate, if it is accepted. Else every call on it answers MISERE_NOT_OPEN. */
 static misere_opened opened = MISERE_CLOSED;
 
-/* Opens one more owner and closes it again. One that isn't told stays closed. */
-static uint32_t ask_another(int shares) {
-    misere_opened other = MISERE_CLOSED;
-    uint32_t status = shares ? misere_share(&opened, &other) : misere_open(bytes, length, MISERE_LIMIT, &other);
-    uint32_t closed = misere_close(&other);
-    return closed == (status ? MISERE_NOT_OPEN : MISERE_YES) ? status : 77;
+static const uint64_t heaps[12] = {2, 3, 1, 4, 2, 3, 1, 4, 2, 3, 1, 2}, ends[2] = {2, 12};
+
+static uint32_t check(void) { return misere_check(bytes, length, MISERE_LIMIT); }
+static uint32_t outcome(void) { return misere_outcome(bytes, length, MISERE_LIMIT, heaps, 12, told.numbers); }
+static uint32_t value(void) { return misere_value(bytes, length, MISERE_LIMIT, heaps, 12, told.numbers); }
+static uint32_t answer(void) { return misere_answer(bytes, length, MISERE_LIMIT, heaps, 12, told.moves); }
+static uint32_t outcomes(void) { return misere_outcomes(bytes, length, MISERE_LIMIT, heaps, 12, ends, 2, told.numbers, 2); }
+static uint32_t values(void) { return misere_values(bytes, length, MISERE_LIMIT, heaps, 12, ends, 2, told.numbers, 2); }
+static uint32_t answers(void) { return misere_answers(bytes, length, MISERE_LIMIT, heaps, 12, ends, 2, told.moves, 2); }
+static uint32_t failure(void) { return misere_failure(bytes, length, MISERE_LIMIT, told.heaps, 8, &told.count); }
+static uint32_t solve(void) {
+    return misere_solve((const uint8_t *)"0.3", 3, 1000, 4, MISERE_WHOLE, 8, 8, told.text, sizeof told.text, &told.count);
+}
+static uint32_t describe(void) {
+    return misere_describe(bytes, length, MISERE_LIMIT, MISERE_LATEX, MISERE_SHORT, told.text, sizeof told.text, &told.count);
 }
 
-static uint32_t ask_opened_answer(void) {
-    uint64_t room[12];
-    memcpy(room, heaps, sizeof room);
-    return misere_opened_answer(&opened, room, 12, told.moves);
+static void stop_unless(int right, const char *what) {
+    if (right) return;
+    printf("%s\n", what);
+    exit(1);
 }
 
-static uint32_t ask(size_t call) {
-    switch (call) {
-    case 0: return misere_check(bytes, length, MISERE_LIMIT);
-    case 1: return misere_outcome(bytes, length, MISERE_LIMIT, heaps, 12, told.numbers);
-    case 2: return misere_value(bytes, length, MISERE_LIMIT, heaps, 12, told.numbers);
-    case 3: return misere_answer(bytes, length, MISERE_LIMIT, heaps, 12, told.moves);
-    case 4: return misere_outcomes(bytes, length, MISERE_LIMIT, heaps, 12, ends, 2, told.numbers, 2);
-    case 5: return misere_values(bytes, length, MISERE_LIMIT, heaps, 12, ends, 2, told.numbers, 2);
-    case 6: return misere_answers(bytes, length, MISERE_LIMIT, heaps, 12, ends, 2, told.moves, 2);
-    case 7: return misere_failure(bytes, length, MISERE_LIMIT, told.heaps, 8, &told.count);
-    case 8: return misere_solve((const uint8_t *)"0.3", 3, 1000, 4, MISERE_WHOLE, 8, 8, told.text, sizeof told.text, &told.count);
-    case 9: return misere_describe(bytes, length, MISERE_LIMIT, MISERE_LATEX, MISERE_SHORT, told.text, sizeof told.text, &told.count);
-    case 10: return ask_another(0);
-    case 11: return ask_another(1);
-    case 12: return misere_opened_outcome(&opened, heaps, 12, told.numbers);
-    case 13: return misere_opened_value(&opened, heaps, 12, told.numbers);
-    case 14: return ask_opened_answer();
-    case 15: return misere_opened_outcomes(&opened, heaps, 12, ends, 2, told.numbers, 2);
-    case 16: return misere_opened_values(&opened, heaps, 12, ends, 2, told.numbers, 2);
-    case 17: return misere_opened_answers(&opened, heaps, 12, ends, 2, told.moves, 2);
-    default: return misere_opened_describe(&opened, MISERE_LATEX, MISERE_SHORT, told.text, sizeof told.text, &told.count);
-    }
+/* Opens it, or makes another owner of it, and closes that. One that isn't told stays closed. */
+static uint32_t open_one(void) {
+    misere_opened one = MISERE_CLOSED;
+    uint32_t status = misere_open(bytes, length, MISERE_LIMIT, &one);
+    stop_unless(misere_close(&one) == (status ? MISERE_NOT_OPEN : MISERE_YES), "an owner isn't as its status says");
+    return status;
+}
+static uint32_t share(void) {
+    misere_opened one = MISERE_CLOSED;
+    uint32_t status = misere_share(&opened, &one);
+    stop_unless(misere_close(&one) == (status ? MISERE_NOT_OPEN : MISERE_YES), "an owner isn't as its status says");
+    return status;
 }
 
-/* These take no memory: outcome, value and answer, and many outcomes and values, of what is opened. */
-static int takes_none(size_t call) { return call >= 12 && call <= 16; }
+/* Opens it where there is another owner, which goes on if that is refused. */
+static uint32_t open_over(void) {
+    misere_opened one = MISERE_CLOSED;
+    uint32_t number, status = misere_share(&opened, &one);
+    if (status) return status;
+    status = misere_open(bytes, length, MISERE_LIMIT, &one);
+    stop_unless(!misere_opened_value(&one, heaps, 12, &number) && !misere_close(&one), "what stays open isn't told");
+    return status;
+}
+
+static uint32_t opened_outcome(void) { return misere_opened_outcome(&opened, heaps, 12, told.numbers); }
+static uint32_t opened_value(void) { return misere_opened_value(&opened, heaps, 12, told.numbers); }
+static uint32_t opened_answer(void) {
+    uint64_t mine[12];
+    memcpy(mine, heaps, sizeof mine);
+    return misere_opened_answer(&opened, mine, 12, told.moves);
+}
+static uint32_t opened_outcomes(void) { return misere_opened_outcomes(&opened, heaps, 12, ends, 2, told.numbers, 2); }
+static uint32_t opened_values(void) { return misere_opened_values(&opened, heaps, 12, ends, 2, told.numbers, 2); }
+static uint32_t opened_answers(void) { return misere_opened_answers(&opened, heaps, 12, ends, 2, told.moves, 2); }
+static uint32_t opened_describe(void) {
+    return misere_opened_describe(&opened, MISERE_LATEX, MISERE_SHORT, told.text, sizeof told.text, &told.count);
+}
+
+static const struct {
+    const char *name;
+    uint32_t (*ask)(void);
+    int takes_memory;
+} calls_of[] = {
+    {"check", check, 1},
+    {"outcome", outcome, 1},
+    {"value", value, 1},
+    {"answer", answer, 1},
+    {"outcomes", outcomes, 1},
+    {"values", values, 1},
+    {"answers", answers, 1},
+    {"failure", failure, 1},
+    {"solve", solve, 1},
+    {"describe", describe, 1},
+    {"open", open_one, 1},
+    {"share", share, 1},
+    {"open over another", open_over, 1},
+    {"opened_outcome", opened_outcome, 0},
+    {"opened_value", opened_value, 0},
+    {"opened_answer", opened_answer, 0},
+    {"opened_outcomes", opened_outcomes, 0},
+    {"opened_values", opened_values, 0},
+    {"opened_answers", opened_answers, 1},
+    {"opened_describe", opened_describe, 1},
+};
+#define CALLS (sizeof calls_of / sizeof *calls_of)
 
 /* Refuses each growth of a call in turn; answers whether it stood all. */
 static int starve(size_t call) {
+    const char *name = calls_of[call].name;
     for (refused = 1;; refused++) {
         long before = held;
         memset(&told, 77, sizeof told);
         calls = 0;
-        uint32_t status = ask(call);
-        if (held != before) return printf("%s keeps memory\n", names[call]), 0;
+        uint32_t status = calls_of[call].ask();
+        if (held != before) return printf("%s keeps memory\n", name), 0;
+        if (calls && !calls_of[call].takes_memory) return printf("%s takes memory\n", name), 0;
         if (calls < refused) {
-            printf("%s: each of %ld growths refused in turn, then status %u\n", names[call], refused - 1, status);
-            return status != MISERE_MEMORY && !(takes_none(call) && calls);
+            printf("%s: each of %ld growths refused in turn, then status %u\n", name, refused - 1, status);
+            return status != MISERE_MEMORY;
         }
         if (status != MISERE_MEMORY || memcmp(&told, &untold, sizeof told))
-            return printf("%s, growth %ld refused: %u\n", names[call], refused, status), 0;
+            return printf("%s, growth %ld refused: %u\n", name, refused, status), 0;
     }
 }
 
@@ -107,9 +152,12 @@ int main(int argc, char **argv) {
     length = fread(bytes, 1, sizeof bytes, file);
     fclose(file);
     memset(&untold, 77, sizeof untold);
+    long before = held;
     uint32_t status = misere_open(bytes, length, MISERE_LIMIT, &opened);
     for (size_t call = 0; call < CALLS; call++)
         if (!starve(call)) return 1;
-    if (misere_close(&opened) != (status ? MISERE_NOT_OPEN : MISERE_YES)) return 1;
-    return held ? printf("memory is kept\n"), 1 : 0;
+    stop_unless(misere_close(&opened) == (status ? MISERE_NOT_OPEN : MISERE_YES), "it isn't closed");
+    stop_unless(misere_close(&opened) == MISERE_NOT_OPEN, "it is closed twice");
+    stop_unless(held == before, "what is closed is kept");
+    return 0;
 }

@@ -10,14 +10,18 @@
     print(q.describe())                    # generators and relations, as the literature prints them
 
 What outcome, value, answer and winning_move give is proved of every position, of any number of heaps of 1 to 10^18 (of
-a partial certificate: of its heaps): each call has the library check the certificate anew. outcomes, values and answers
-check once for many positions. describe's text is proved too. table, phi and portion are read off the certificate's
-text, which a yes makes the misère quotient.
+a partial certificate: of its heaps), and so is what outcomes, values and answers give of many. describe's text is
+proved too. table, phi and portion are read off the certificate's text, which a yes makes the misère quotient.
+
+The library checks the certificate once, and keeps what it certifies as long as there is the quotient, or until it is
+closed: q.close(), or `with misere.check(..) as q:`. misere.check(.., anew=True) gives a quotient of which nothing is
+kept: each call checks the certificate anew.
 
 Whatever is raised is a MisereError, and a ValueError, TypeError, LookupError or MemoryError too.
 
 The library is looked for in this package, beside it, in the prefix into which it was installed, and where the system
-has its libraries; MISERE_LIBRARY names another file. Nothing else is needed. Any number of threads may ask at once.
+has its libraries; MISERE_LIBRARY names another file. Nothing else is needed. Any number of threads may ask at once. The
+child of a fork may go on asking, if the process had one thread alone.
 """
 
 from ._answers import Answer, Move, Outcome
@@ -30,6 +34,7 @@ from ._faults import (
     NotDescribed,
     NotFound,
     NotInRange,
+    NotOpen,
     Refused,
     WrongType,
 )
@@ -50,6 +55,7 @@ __all__ = [
     "NotDescribed",
     "NotFound",
     "NotInRange",
+    "NotOpen",
     "Outcome",
     "Quotient",
     "Refused",

@@ -5,7 +5,7 @@ from __future__ import annotations
 import ctypes
 from typing import Any, Literal, NamedTuple, Union
 
-from ._library import _Move
+from ._library import Told
 
 #: 'P' where the player who has just moved wins, 'N' where the next one does.
 Outcome = Literal["P", "N"]
@@ -23,7 +23,7 @@ class Move(NamedTuple):
 Answer = Union[Literal["ended", "lost"], Move]
 
 
-def answer_of(told: _Move) -> Answer:
+def answer_of(told: Told) -> Answer:
     """The answer that a call told."""
     if told.kind == 0:
         return "ended"

@@ -23,10 +23,11 @@ NAMES = {
     14: "NoRoom",
     15: "NotInRange",
     16: "NotDescribed",
+    17: "NotOpen",
     23: "Beyond",
 }
 OUTCOME, MEMORY, NOT_A_HEAP, NOT_A_CODE, GAVE_UP = 7, 9, 10, 12, 13
-NO_ROOM, NOT_IN_RANGE, NOT_DESCRIBED, BEYOND = 14, 15, 16, 23
+NO_ROOM, NOT_IN_RANGE, NOT_DESCRIBED, NOT_OPEN, BEYOND = 14, 15, 16, 17, 23
 
 _MEANINGS = {
     1: "the bytes spell no certificate",
@@ -46,6 +47,7 @@ _MEANINGS = {
     13: "no certificate was found",
     15: "a bound or a choice is out of its range",
     16: "the quotient is not described within the bounds",
+    17: "the quotient is closed",
     23: "the certificate is partial, and does not speak of all the heaps",
 }
 
@@ -96,6 +98,10 @@ class NotDescribed(MisereError, LookupError):
     """The quotient is not described within the bounds (16)."""
 
 
+class NotOpen(MisereError, ValueError):
+    """The quotient is closed (17)."""
+
+
 class Beyond(MisereError, ValueError):
     """The certificate is partial, and doesn't speak of all the heaps (23)."""
 
@@ -115,6 +121,7 @@ _KINDS: dict[int, type[MisereError]] = {
     GAVE_UP: NotFound,
     NOT_IN_RANGE: NotInRange,
     NOT_DESCRIBED: NotDescribed,
+    NOT_OPEN: NotOpen,
     BEYOND: Beyond,
 }
 

@@ -17,9 +17,9 @@ WHOLE, PART, FURTHEST = 0, 1, 2
 HEAPS, MOST_HEAPS = 24, 3090
 
 
-def check(certificate: bytes | str, limit: int = LIMIT) -> Quotient:
-    """The quotient that the certificate is of; or it raises Refused."""
-    return Quotient(certificate, limit)
+def check(certificate: bytes | str, limit: int = LIMIT, *, anew: bool = False) -> Quotient:
+    """The quotient that the certificate is of; or it raises Refused. It is checked once, or with `anew` at each call."""
+    return Quotient(certificate, limit, anew=anew)
 
 
 def solve(

@@ -47,10 +47,12 @@ def is_array(given: Any) -> bool:
 def heaps_of(heaps: Iterable[int], meant: str = ROW) -> array.array[int]:
     """The heaps of a position. Bytes are numbers, as each iterable of integers is. In an array of numpy a 0 is no heap,
     so that a row of an array of positions is a position."""
-    if is_array(heaps):
-        return _array_of(heaps, 1, meant).heaps
-    # (out of bytes an array would be made as out of its memory)
-    listed = heaps if isinstance(heaps, (list, tuple)) else _listed(heaps, meant)
+    listed = heaps
+    if not isinstance(listed, (list, tuple)):
+        if is_array(heaps):
+            return _array_of(heaps, 1, meant).heaps
+        # (out of bytes an array would be made as out of its memory)
+        listed = _listed(heaps, meant)
     try:
         return array.array("Q", listed)
     except OverflowError:

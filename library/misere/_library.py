@@ -12,27 +12,47 @@ from ._faults import NO_ROOM, fault
 VERSION = 1
 FILE = "libmisere.so.1"
 
-_number, _size, _slice, _count = ctypes.c_uint32, ctypes.c_size_t, ctypes.c_void_p, ctypes.POINTER(ctypes.c_uint64)
+_number, _size = ctypes.c_uint32, ctypes.c_size_t
+# Pointers are given as addresses: of a slice's words, of a number, of an answer, of how many, of an owner
+_slice = _word = _move = _count = _owner = ctypes.c_void_p
 _bytes = [ctypes.c_char_p, _size]
 
 
-class _Move(ctypes.Structure):
+class Told(ctypes.Structure):
+    """What to do in a position, as a call tells it."""
+
     _fields_ = [(name, ctypes.c_uint64) for name in ("kind", "heap", "first", "second", "third")]
+
+
+class Opened(ctypes.Structure):
+    """An owner of an opened quotient, or of none, as which it begins."""
+
+    _fields_ = [("full", ctypes.c_uint64), ("kept", ctypes.c_void_p)]
 
 
 # What each call takes. A slice is a pointer and a length.
 CALLS: dict[str, list[Any]] = {
     "misere_version": [],
     "misere_check": [*_bytes, _number],
-    "misere_outcome": [*_bytes, _number, _slice, _size, ctypes.POINTER(_number)],
-    "misere_value": [*_bytes, _number, _slice, _size, ctypes.POINTER(_number)],
-    "misere_answer": [*_bytes, _number, _slice, _size, ctypes.POINTER(_Move)],
+    "misere_outcome": [*_bytes, _number, _slice, _size, _word],
+    "misere_value": [*_bytes, _number, _slice, _size, _word],
+    "misere_answer": [*_bytes, _number, _slice, _size, _move],
     "misere_outcomes": [*_bytes, _number, _slice, _size, _slice, _size, _slice, _size],
     "misere_values": [*_bytes, _number, _slice, _size, _slice, _size, _slice, _size],
     "misere_answers": [*_bytes, _number, _slice, _size, _slice, _size, _slice, _size],
     "misere_failure": [*_bytes, _number, _slice, _size, _count],
     "misere_solve": [*_bytes, _number, _number, _number, _number, _number, _slice, _size, _count],
     "misere_describe": [*_bytes, _number, _number, _number, _slice, _size, _count],
+    "misere_open": [*_bytes, _number, _owner],
+    "misere_share": [_owner, _owner],
+    "misere_close": [_owner],
+    "misere_opened_outcome": [_owner, _slice, _size, _word],
+    "misere_opened_value": [_owner, _slice, _size, _word],
+    "misere_opened_answer": [_owner, _slice, _size, _move],
+    "misere_opened_outcomes": [_owner, _slice, _size, _slice, _size, _slice, _size],
+    "misere_opened_values": [_owner, _slice, _size, _slice, _size, _slice, _size],
+    "misere_opened_answers": [_owner, _slice, _size, _slice, _size, _slice, _size],
+    "misere_opened_describe": [_owner, _number, _number, _slice, _size, _count],
 }
 
 Call = Callable[..., int]
@@ -54,6 +74,8 @@ def _load() -> ctypes.CDLL:
         raise ImportError(f"{named} can't be loaded ({stop}): {told}") from None
     if loaded.misere_version() != VERSION:
         raise ImportError(f"{named} has calls of version {loaded.misere_version()}, and not {VERSION}")
+    if lacking := [name for name in CALLS if not hasattr(loaded, name)]:
+        raise ImportError(f"{named} is older than this module: it lacks {lacking[0]}")
     for name, words in CALLS.items():
         call = getattr(loaded, name)
         call.argtypes, call.restype = words, _number
@@ -71,7 +93,7 @@ def version() -> int:
 def text_by(room: int, call: Call, *words: Any) -> bytes:
     """What a call tells that takes a room for it. If that is too small, the call says so, and is asked again."""
     told, count = (ctypes.c_uint8 * room)(), ctypes.c_uint64()
-    status = call(*words, ctypes.addressof(told), room, ctypes.byref(count))
+    status = call(*words, ctypes.addressof(told), room, ctypes.addressof(count))
     if status == NO_ROOM:
         return text_by(count.value, call, *words)
     if status:

@@ -4,15 +4,15 @@ from __future__ import annotations
 
 import ctypes
 import operator
-from collections.abc import Iterable, Sequence
+from collections.abc import Callable, Iterable, Sequence
 from typing import Any, Final, Literal, overload
 
 from . import _certificate, _description, _shown, _systems
 from ._answers import OUTCOMES, Answer, Move, Outcome, answer_of, array_of, letters_of
-from ._certified import Certified
-from ._faults import BEYOND, NOT_A_HEAP, NOT_IN_RANGE, NotDescribed, WrongType, fault
+from ._certified import Anew, Certified, Kept
+from ._faults import BEYOND, NOT_A_HEAP, NOT_IN_RANGE, NOT_OPEN, NotDescribed, NotOpen, WrongType, fault
 from ._given import LARGEST_HEAP, NOWHERE, Rows, heaps_of, is_array, number_of, refusal_of, rows_of, words_of
-from ._library import Call, _Move, text_by
+from ._library import Call, Told, text_by
 
 #: What the closure of a check may keep, where nobody asks for more or less.
 LIMIT: Final = 100_000
@@ -22,14 +22,36 @@ USUAL_TEXT = 1 << 16
 
 
 class Quotient:
-    """A certified misère quotient. It is made by a check alone, and doesn't change. Any number of threads may ask it."""
+    """A certified misère quotient. It is made by a check alone, and doesn't change. Any number of threads may ask it.
 
-    __slots__ = ("_bytes", "_certificate", "_certified", "_limit", "__weakref__")
+    The library checks the certificate once, and keeps what it certifies to this object's end, or until it is closed:
+    by `close()`, or behind a block of `with`. With `anew` it keeps nothing, and checks the certificate at each call.
+    A copy is closed by itself. What is pickled is checked again where it is read."""
 
-    def __init__(self, certificate: bytes | str, limit: int = LIMIT) -> None:
-        self._bytes, self._limit = _bytes_of(certificate), number_of(limit)
-        self._certified = Certified(self._bytes, self._limit)
+    __slots__ = ("_anew", "_bytes", "_certificate", "_certified", "_limit", "__weakref__")
+
+    def __init__(self, certificate: bytes | str, limit: int = LIMIT, *, anew: bool = False) -> None:
+        self._bytes, self._limit, self._anew = _bytes_of(certificate), number_of(limit), bool(anew)
+        kind: type[Anew] | type[Kept] = Anew if anew else Kept
+        self._certified: Certified = kind.of(self._bytes, self._limit)
         self._certificate = _certificate.read(self._bytes.decode("ascii"))
+
+    def close(self) -> None:
+        """Closes it: the library keeps nothing of it any more, and no position can be asked, nor a description. What its
+        certificate says can be. It may be closed again."""
+        self._certified.close()
+
+    @property
+    def closed(self) -> bool:
+        """Whether it is closed."""
+        return self._certified.closed
+
+    def __enter__(self) -> Quotient:
+        self._stay_open()
+        return self
+
+    def __exit__(self, *_: object) -> None:
+        self.close()
 
     @property
     def certificate(self) -> bytes:
@@ -87,15 +109,21 @@ class Quotient:
 
     def outcome(self, heaps: Iterable[int]) -> Outcome:
         """'P' where the player who has just moved wins the position, 'N' where the next one does."""
-        return OUTCOMES[self._asked(self._certified.outcome, heaps, ctypes.c_uint32()).value]
+        return OUTCOMES[self._number(self._certified.outcome, heaps)]
 
     def value(self, heaps: Iterable[int]) -> int:
         """The element of the quotient that is the position's."""
-        return int(self._asked(self._certified.value, heaps, ctypes.c_uint32()).value)
+        return self._number(self._certified.value, heaps)
 
     def answer(self, heaps: Iterable[int]) -> Answer:
         """'ended', 'lost', or the first winning move."""
-        return answer_of(self._asked(self._certified.answer, heaps, _Move()))
+        given, certified = heaps_of(heaps), self._certified
+        with certified.lent() as asker:
+            status = certified.answer(*asker.words, *words_of(given), asker.move_at)
+            answer = answer_of(asker.move)
+        if status:
+            raise refusal_of(status, given, self.last_heap)
+        return answer
 
     def winning_move(self, heaps: Iterable[int]) -> Move | None:
         """The first winning move, or None, where none wins."""
@@ -133,7 +161,7 @@ class Quotient:
 
     def answers(self, positions: Iterable[Iterable[int]]) -> list[Answer]:
         """The answer in each position."""
-        return [answer_of(it) for it in self._asked_of_all(self._certified.answers, rows_of(positions), _Move)]
+        return [answer_of(it) for it in self._asked_of_all(self._certified.answers, rows_of(positions), Told)]
 
     def describe(
         self, output: Literal["description", "latex", "relations"] = "description", basis: bool = False
@@ -146,7 +174,8 @@ class Quotient:
         if output not in OUTPUTS:
             raise fault(NOT_IN_RANGE, f"an output is one of {', '.join(OUTPUTS)}, and {output!r} is none")
         words = OUTPUTS.index(output), int(bool(basis))
-        return text_by(USUAL_TEXT, self._certified.describe, *self._certified.given, *words).decode("utf-8")
+        with self._certified.lent() as asker:
+            return text_by(USUAL_TEXT, self._certified.describe, *asker.words, *words).decode("utf-8")
 
     def to_dict(self, basis: bool = False) -> dict[str, Any]:
         """The description in values that JSON has: numbers, words such as "ab^2", lists of them, and None as the n of a
@@ -170,9 +199,15 @@ class Quotient:
     def _title(self) -> str:
         return f"Q({self.code})" if self.period else f"Q_{self.last_heap}({self.code})"
 
-    def _asked(self, call: Call, heaps: Iterable[int], told: Any) -> Any:
-        given = heaps_of(heaps)
-        status = call(*self._certified.given, *words_of(given), ctypes.byref(told))
+    def _number(self, call: Call, heaps: Iterable[int]) -> int:
+        """What a call tells of a position in a number."""
+        given, certified = heaps_of(heaps), self._certified
+        # (as a block of `with`, which takes longer)
+        asker = certified.lend()
+        try:
+            status, told = call(*asker.words, *words_of(given), asker.number_at), asker.number.value
+        finally:
+            certified.take_back(asker)
         if status:
             raise refusal_of(status, given, self.last_heap)
         return told
@@ -181,10 +216,15 @@ class Quotient:
         count = len(rows.ends)
         told = (kind * count)()
         room = ctypes.addressof(told) if count else NOWHERE
-        status = call(*self._certified.given, *words_of(rows.heaps), *words_of(rows.ends), room, count)
+        with self._certified.lent() as asker:
+            status = call(*asker.words, *words_of(rows.heaps), *words_of(rows.ends), room, count)
         if status:
             raise refusal_of(status, rows.heaps, self.last_heap)
         return told
+
+    def _stay_open(self) -> None:
+        if self.closed:
+            raise fault(NOT_OPEN)
 
     def __eq__(self, other: object) -> bool:
         return isinstance(other, Quotient) and self._bytes == other._bytes
@@ -192,28 +232,45 @@ class Quotient:
     def __hash__(self) -> int:
         return hash(self._bytes)
 
-    def __reduce__(self) -> tuple[type[Quotient], tuple[bytes, int]]:
-        return Quotient, (self._bytes, self._limit)
+    def __reduce__(self) -> tuple[Callable[[bytes, int, bool], Quotient], tuple[bytes, int, bool]]:
+        self._stay_open()
+        return _checked, (self._bytes, self._limit, self._anew)
+
+    def __copy__(self) -> Quotient:
+        """Another object of the same quotient. Nothing is checked."""
+        self._stay_open()
+        other = object.__new__(Quotient)
+        other._bytes, other._limit, other._anew = self._bytes, self._limit, self._anew
+        other._certificate, other._certified = self._certificate, self._certified.copy()
+        return other
+
+    def __deepcopy__(self, _: object) -> Quotient:
+        return self.__copy__()
 
     def __repr__(self) -> str:
         kind = f"start {self.start}, period {self.period}" if self.period else f"to heap {self.last_heap}"
-        return f"<misère quotient of {self.code}: order {self.order}, {kind}>"
+        return f"<misère quotient of {self.code}: order {self.order}, {kind}{', closed' if self.closed else ''}>"
 
     def _repr_latex_(self) -> str | None:
         """What a notebook shows as a formula."""
         try:
             return _shown.latex_of(self.describe("latex"))
-        except NotDescribed:
+        except (NotDescribed, NotOpen):
             return None
 
     def _repr_html_(self) -> str | None:
         """What a notebook shows."""
         try:
             description = self._described()
-        except NotDescribed:
+        except (NotDescribed, NotOpen):
             return None
         title = "<i>Q</i>" if self.period else f"<i>Q</i><sub>{self.last_heap}</sub>"
         return _shown.html_of(title, self.code, description, self.start, self.period)
+
+
+def _checked(certificate: bytes, limit: int, anew: bool) -> Quotient:
+    """What is pickled, as it is read."""
+    return Quotient(certificate, limit, anew=anew)
 
 
 def _bytes_of(certificate: bytes | str) -> bytes:

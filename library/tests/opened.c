@@ -58,12 +58,15 @@ static int stands(misere_opened *opened) {
     return 1;
 }
 
+/* Asks by another owner, while the one that it is made of is closed. */
 static void *asks(void *opened) {
-    int right = stands(opened);
-    return misere_close(opened) || !right ? opened : NULL;
+    misere_opened other = MISERE_CLOSED;
+    if (misere_share(opened, &other) || misere_close(opened)) return opened;
+    int right = stands(&other);
+    return misere_close(&other) || !right ? opened : NULL;
 }
 
-/* Each thread has an owner of its own, and closes it; the first is closed while they ask. */
+/* Each thread has an owner of its own; the first is closed while they ask. */
 static void ask_by_threads(misere_opened *opened) {
     static misere_opened owners[THREADS];
     pthread_t threads[THREADS];

@@ -21,6 +21,8 @@ class Row(NamedTuple):
 
 
 full, partial = quotient("0.33"), quotient("0.75_heaps_8")
+closed = quotient("0.33")
+closed.close()
 
 
 def wrong(given: Any) -> Any:
@@ -59,6 +61,9 @@ ROWS = [
     *of_a_position("one number", 7, misere.WrongType, TypeError, 10, "7 is none"),
     *of_a_position("nothing", None, misere.WrongType, TypeError, 10, "None is none"),
     *of_a_position("beyond", [1, 9], misere.Beyond, ValueError, 23, "heaps to 8 alone, and not of 9", partial),
+    *of_a_position("closed", [2], misere.NotOpen, ValueError, 17, "17 NotOpen: the quotient is closed", closed),
+    Row("a text of a closed one", closed.describe, misere.NotOpen, ValueError, 17, "closed"),
+    Row("a block of a closed one", closed.__enter__, misere.NotOpen, ValueError, 17, "closed"),
     Row(
         "heaps for positions",
         lambda: full.outcomes(wrong([2, 3])),

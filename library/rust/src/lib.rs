@@ -12,8 +12,10 @@
 //!
 //! Where the library answers, its calls are proved: of every position of the game, of any number of heaps of 1 to 10^18 (of a
 //! partial certificate: of its heaps). [`Quotient::phi`], [`Quotient::portion`] and [`Quotient::table`] are read off the certificate's
-//! text, which a yes makes the misère quotient. No call of the library asks for anything but pointers with their lengths, so nothing is
-//! left to be tested here. Any number of threads may ask at once.
+//! text, which a yes makes the misère quotient.
+//!
+//! The certificate is checked once, and the library keeps the quotient until its last clone is dropped. A [`Quotient`] is sent from thread
+//! to thread, and each thread that asks at the same time has a clone; a [`Quotient<Anew>`] is checked at each call instead.
 
 #![warn(missing_docs)]
 
@@ -21,12 +23,15 @@ mod answers;
 mod certificate;
 mod certified;
 mod finding;
+mod opened;
 mod quotient;
 mod raw;
 mod refusal;
 
 pub use answers::{Answer, Outcome};
+pub use certified::{Anew, Certified};
 pub use finding::{Aim, Bounds};
+pub use opened::Opened;
 pub use quotient::{Output, Quotient};
 pub use refusal::Refusal;
 

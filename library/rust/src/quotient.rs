@@ -2,8 +2,9 @@
 
 use crate::answers::{Answer, Outcome};
 use crate::certificate::{Certificate, read};
-use crate::certified::Certified;
+use crate::certified::{Anew, Certified};
 use crate::finding::{Aim, Bounds};
+use crate::opened::Opened;
 use crate::refusal::Refusal;
 use crate::{LIMIT, raw};
 use std::fmt;
@@ -29,19 +30,27 @@ pub enum Output {
     Relations,
 }
 
-/// A certified misère quotient. It is made by a check alone, and doesn't change; a clone shares it.
+/// A certified misère quotient. It is made by a check alone, and doesn't change.
+///
+/// The library checks the certificate once, and keeps what it certifies as long as there is the quotient or a clone of it. One
+/// thread at a time asks it: each other thread is sent a clone, by which nothing is checked or copied. A `Quotient<Anew>` is
+/// checked at each call, and threads may share it.
 #[derive(Clone)]
-pub struct Quotient {
-    certified: Arc<Certified>,
+pub struct Quotient<C: Certified = Opened> {
+    certified: C,
+    bytes: Arc<[u8]>,
     certificate: Arc<Certificate>,
 }
 
 impl Quotient {
     /// The quotient that the certificate is of. [`LIMIT`] is the limit where nobody asks for more or less.
-    pub fn check(bytes: impl Into<Vec<u8>>, limit: u32) -> Result<Quotient, Refusal> {
-        let certified = Certified::check(bytes.into(), limit)?;
-        let certificate = read(certified.bytes()).ok_or(Refusal(1))?;
-        Ok(Quotient { certified: Arc::new(certified), certificate: Arc::new(certificate) })
+    pub fn check(bytes: impl AsRef<[u8]>, limit: u32) -> Result<Quotient, Refusal> {
+        Quotient::certified(bytes.as_ref(), limit)
+    }
+
+    /// A clone, or the refusal where memory is refused.
+    pub fn try_clone(&self) -> Result<Quotient, Refusal> {
+        Ok(Quotient { certified: self.certified.share()?, bytes: self.bytes.clone(), certificate: self.certificate.clone() })
     }
 
     /// The quotient of the game of a code, such as `0.33`, or of a part of it.
@@ -58,10 +67,26 @@ impl Quotient {
         })?;
         Quotient::check(bytes, limit)
     }
+}
+
+impl Quotient<Anew> {
+    /// The quotient that the certificate is of, which the library is to check at each call.
+    pub fn check_anew(bytes: impl AsRef<[u8]>, limit: u32) -> Result<Quotient<Anew>, Refusal> {
+        Quotient::certified(bytes.as_ref(), limit)
+    }
+}
+
+impl<C: Certified> Quotient<C> {
+    fn certified(bytes: &[u8], limit: u32) -> Result<Quotient<C>, Refusal> {
+        let bytes: Arc<[u8]> = bytes.into();
+        let certified = C::check(&bytes, limit)?;
+        let certificate = read(&bytes).ok_or(Refusal(1))?;
+        Ok(Quotient { certified, bytes, certificate: Arc::new(certificate) })
+    }
 
     /// The certificate: the one accepted text of its code and kind.
     pub fn certificate(&self) -> &[u8] {
-        self.certified.bytes()
+        &self.bytes
     }
 
     /// The game's code, such as `0.33`.
@@ -146,15 +171,15 @@ impl Quotient {
     }
 }
 
-impl PartialEq for Quotient {
-    fn eq(&self, other: &Quotient) -> bool {
+impl<C: Certified, D: Certified> PartialEq<Quotient<D>> for Quotient<C> {
+    fn eq(&self, other: &Quotient<D>) -> bool {
         self.certificate() == other.certificate()
     }
 }
 
-impl Eq for Quotient {}
+impl<C: Certified> Eq for Quotient<C> {}
 
-impl fmt::Debug for Quotient {
+impl<C: Certified> fmt::Debug for Quotient<C> {
     fn fmt(&self, f: &mut fmt::Formatter) -> fmt::Result {
         let (code, order, start, period) = (self.code(), self.order(), self.start(), self.period());
         f.debug_struct("Quotient").field("code", &code).field("order", &order).field("start", &start).field("period", &period).finish()

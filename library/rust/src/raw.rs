@@ -1,5 +1,8 @@
 //! The calls of libmisere as they are. `scripts/calls_stand` compares them with the exports.
 
+use std::ffi::c_void;
+use std::ptr::null_mut;
+
 #[repr(C)]
 #[derive(Clone, Default)]
 pub struct Told {
@@ -10,8 +13,21 @@ pub struct Told {
     pub third: u64,
 }
 
+/// An owner of an opened quotient, or of none.
+#[repr(C)]
+pub struct Opened {
+    pub full: u64,
+    pub kept: *mut c_void,
+}
+
+impl Opened {
+    pub const CLOSED: Opened = Opened { full: 0, kept: null_mut() };
+}
+
 pub type One<T> = unsafe extern "C" fn(*const u8, usize, u32, *const u64, usize, &mut T) -> u32;
 pub type Many<T> = unsafe extern "C" fn(*const u8, usize, u32, *const u64, usize, *const u64, usize, *mut T, usize) -> u32;
+pub type OneOpened<T> = unsafe extern "C" fn(&mut Opened, *const u64, usize, &mut T) -> u32;
+pub type ManyOpened<T> = unsafe extern "C" fn(&mut Opened, *const u64, usize, *const u64, usize, *mut T, usize) -> u32;
 
 unsafe extern "C" {
     pub fn misere_version() -> u32;
@@ -66,4 +82,38 @@ unsafe extern "C" {
         count: &mut u64,
     ) -> u32;
     pub fn misere_describe(bytes: *const u8, length: usize, limit: u32, output: u32, form: u32, told: *mut u8, room: usize, count: &mut u64) -> u32;
+    pub fn misere_open(bytes: *const u8, length: usize, limit: u32, told: &mut Opened) -> u32;
+    pub fn misere_share(opened: &mut Opened, told: &mut Opened) -> u32;
+    pub fn misere_close(opened: &mut Opened) -> u32;
+    pub fn misere_opened_outcome(opened: &mut Opened, heaps: *const u64, count: usize, told: &mut u32) -> u32;
+    pub fn misere_opened_value(opened: &mut Opened, heaps: *const u64, count: usize, told: &mut u32) -> u32;
+    pub fn misere_opened_answer(opened: &mut Opened, heaps: *mut u64, count: usize, told: &mut Told) -> u32;
+    pub fn misere_opened_outcomes(
+        opened: &mut Opened,
+        heaps: *const u64,
+        count: usize,
+        ends: *const u64,
+        positions: usize,
+        told: *mut u32,
+        room: usize,
+    ) -> u32;
+    pub fn misere_opened_values(
+        opened: &mut Opened,
+        heaps: *const u64,
+        count: usize,
+        ends: *const u64,
+        positions: usize,
+        told: *mut u32,
+        room: usize,
+    ) -> u32;
+    pub fn misere_opened_answers(
+        opened: &mut Opened,
+        heaps: *const u64,
+        count: usize,
+        ends: *const u64,
+        positions: usize,
+        told: *mut Told,
+        room: usize,
+    ) -> u32;
+    pub fn misere_opened_describe(opened: &mut Opened, output: u32, form: u32, told: *mut u8, room: usize, count: &mut u64) -> u32;
 }

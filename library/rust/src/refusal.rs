@@ -31,6 +31,7 @@ impl Refusal {
             14 => "NoRoom",
             15 => "NotInRange",
             16 => "NotDescribed",
+            17 => "NotOpen",
             23 => "Beyond",
             _ => "Unknown",
         }

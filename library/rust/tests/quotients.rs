@@ -1,6 +1,6 @@
 //! What the crate tells of samples, beside their texts.
 
-use misere::{Aim, Answer, Bounds, LIMIT, Outcome, Output, Quotient, Refusal};
+use misere::{Aim, Answer, Bounds, Certified, LIMIT, Outcome, Output, Quotient, Refusal};
 use std::path::Path;
 use std::thread;
 
@@ -84,12 +84,57 @@ fn refusals_have_their_numbers() {
 }
 
 #[test]
-fn threads_may_ask_at_once() {
+fn a_clone_lives_by_itself() {
+    let first = quotient("0.75");
+    let second = first.clone();
+    let third = second.try_clone().unwrap();
+    let told = first.answer(&[2, 5]);
+    drop(first);
+    assert_eq!((second.answer(&[2, 5]), &second), (told.clone(), &third));
+    drop(second);
+    assert_eq!(third.answer(&[2, 5]), told);
+}
+
+#[test]
+fn heaps_may_come_in_any_order() {
+    let (quotient, anew) = (quotient("0.75"), Quotient::check_anew(sample("0.75"), LIMIT).unwrap());
+    for heaps in [[5, 2, 7], [7, 5, 2], [2, 5, 7]] {
+        let told = (anew.value(&[2, 5, 7]), anew.outcome(&[2, 5, 7]), anew.answer(&[2, 5, 7]));
+        assert_eq!((quotient.value(&heaps), quotient.outcome(&heaps), quotient.answer(&heaps)), told, "{heaps:?}");
+    }
+}
+
+#[test]
+fn both_kinds_are_one_quotient() {
+    for name in SAMPLES {
+        let (opened, anew) = (quotient(name), Quotient::check_anew(sample(name), LIMIT).unwrap());
+        assert_eq!((&opened, opened.describe(Output::Latex, true)), (&opened, anew.describe(Output::Latex, true)), "{name}");
+        assert!(opened == anew && opened.outcome(&[0]) == anew.outcome(&[0]), "{name}");
+    }
+}
+
+/// What some positions are answered.
+fn asked<C: Certified>(quotient: &Quotient<C>) -> Vec<Result<Answer, Refusal>> {
+    (1..200).map(|heap| quotient.answer(&[heap, 2 * heap, 77])).collect()
+}
+
+#[test]
+fn each_thread_asks_a_clone() {
     let quotient = quotient("0.71");
-    let asked = || (1..200).map(|heap| quotient.answer(&[heap, 2 * heap, 77])).collect::<Vec<_>>();
-    let alone = asked();
+    let alone = asked(&quotient);
+    let threads: Vec<_> = (0..THREADS).map(|_| quotient.clone()).map(|it| thread::spawn(move || asked(&it))).collect();
+    drop(quotient);
+    for thread in threads {
+        assert_eq!(thread.join().unwrap(), alone);
+    }
+}
+
+#[test]
+fn threads_share_what_is_checked_anew() {
+    let quotient = Quotient::check_anew(sample("0.71"), LIMIT).unwrap();
+    let alone = asked(&quotient);
     thread::scope(|scope| {
-        let threads: Vec<_> = (0..THREADS).map(|_| scope.spawn(asked)).collect();
+        let threads: Vec<_> = (0..THREADS).map(|_| scope.spawn(|| asked(&quotient))).collect();
         for thread in threads {
             assert_eq!(thread.join().unwrap(), alone);
         }
