@@ -9,6 +9,7 @@ use requests::{Aim, CatalogueTask, Output};
 use show_command::show;
 use solve_command::{SolveBounds, solve};
 use std::alloc::{AllocError, Global};
+use streams::MemorySource;
 
 const LIMIT: u32 = 100000;
 
@@ -44,13 +45,15 @@ fn goes_from_to(said: &Said, beginning: &str, end: &str) -> bool {
 
 /// Whether the quotient is described.
 fn is_described(alloc: Global, folder: &mut MemoryFolder) -> bool {
+    let mut input = MemorySource::new(b"");
     match describe(
         alloc,
-        "a.mqc",
+        Some("a.mqc"),
         LIMIT,
         Form::Short,
         Output::Description,
         folder,
+        &mut input,
     ) {
         Ok(said) => goes_from_to(&said, "Q_16(0.6) = < a,", "\nheaps to 16\n"),
         Err(_) => false,
@@ -60,13 +63,15 @@ fn is_described(alloc: Global, folder: &mut MemoryFolder) -> bool {
 /// Whether its relations aren't given as `present` takes them: between two powers of each letter their
 /// exponents are so large that the box of all vectors below them is too.
 fn is_not_presented(alloc: Global, folder: &mut MemoryFolder) -> bool {
+    let mut input = MemorySource::new(b"");
     match describe(
         alloc,
-        "a.mqc",
+        Some("a.mqc"),
         LIMIT,
         Form::Short,
         Output::Relations,
         folder,
+        &mut input,
     ) {
         Ok(said) => is_said(&said, false, "not described within the bounds of present\n"),
         Err(_) => false,
@@ -75,7 +80,8 @@ fn is_not_presented(alloc: Global, folder: &mut MemoryFolder) -> bool {
 
 /// Whether the quotient is shown.
 fn is_shown(alloc: Global, folder: &mut MemoryFolder) -> bool {
-    match show(alloc, "a.mqc", LIMIT, folder) {
+    let mut input = MemorySource::new(b"");
+    match show(alloc, Some("a.mqc"), LIMIT, folder, &mut input) {
         Ok(said) => goes_from_to(
             &said,
             "code 0.6\norder 304\nelement 0 N 0\n",
