@@ -51,6 +51,9 @@ static uint32_t failure(void) { return misere_failure(bytes, length, MISERE_LIMI
 static uint32_t solve(void) {
     return misere_solve((const uint8_t *)"0.3", 3, 1000, 4, MISERE_WHOLE, 8, 8, told.text, sizeof told.text, &told.count);
 }
+static uint32_t solve_why(void) {
+    return misere_solve_why((const uint8_t *)"0.4", 3, 1000, 4, MISERE_WHOLE, 2, 8, told.text, sizeof told.text, &told.count);
+}
 static uint32_t describe(void) {
     return misere_describe(bytes, length, MISERE_LIMIT, MISERE_LATEX, MISERE_SHORT, told.text, sizeof told.text, &told.count);
 }
@@ -113,6 +116,7 @@ static const struct {
     {"answers", answers, 1},
     {"failure", failure, 1},
     {"solve", solve, 1},
+    {"solve_why", solve_why, 1},
     {"describe", describe, 1},
     {"open", open_one, 1},
     {"share", share, 1},

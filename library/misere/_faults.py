@@ -85,9 +85,11 @@ class NotACode(MisereError, ValueError):
 
 
 class NotFound(MisereError, LookupError):
-    """No certificate was found, by this search (13). `bounds` has the words of the search."""
+    """No certificate was found, by this search (13). `bounds` has the words of the search, and `why` the reason for which
+    it was given up, as `misere solve CODE --why` prints it: "no period 24 24", "too large 15", "rounds" and others."""
 
     bounds: dict[str, Any] = {}
+    why: str = ""
 
 
 class NotInRange(MisereError, ValueError):

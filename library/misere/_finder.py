@@ -6,7 +6,7 @@ from collections.abc import Iterator
 
 from ._faults import GAVE_UP, NOT_A_CODE, NOT_IN_RANGE, MisereError, NotACode, NotFound, NotInRange, WrongType, fault
 from ._given import number_of
-from ._library import library, text_by
+from ._library import library, told_by
 from ._quotient import LIMIT, Quotient
 
 # As many bytes are room for any certificate
@@ -64,11 +64,20 @@ def _found(code: str, aim: int, limit: int, rounds: int, heaps: int, order: int)
         "order": number_of(order),
     }
     words = bounds["limit"], bounds["rounds"], aim, bounds["heaps"], bounds["order"]
-    try:
-        certificate = text_by(MOST_BYTES, library.misere_solve, text, len(text), *words)
-    except MisereError as stop:
-        raise _explained(stop, code, aim, bounds) from None
-    return Quotient(certificate, limit)
+    status, told = told_by(MOST_BYTES, library.misere_solve_why, text, len(text), *words)
+    if status == GAVE_UP:
+        raise _not_found(code, aim, bounds, told.decode())
+    if status:
+        raise _explained(fault(status), code, aim, bounds)
+    return Quotient(told, limit)
+
+
+def _not_found(code: str, aim: int, bounds: dict[str, int], lines: str) -> NotFound:
+    """The fault of a search that was given up. The first line says that it was, the second one why."""
+    why = lines.splitlines()[1]
+    found_none = NotFound(GAVE_UP, f"no certificate of {code} was found, {_advice(aim, bounds)}; the reason is: {why}")
+    found_none.bounds, found_none.why = bounds, why
+    return found_none
 
 
 def _explained(stop: MisereError, code: str, aim: int, bounds: dict[str, int]) -> MisereError:
@@ -77,10 +86,6 @@ def _explained(stop: MisereError, code: str, aim: int, bounds: dict[str, int]) -
         return fault(NOT_A_CODE, f"{code!r} is none: {stop.said}")
     if isinstance(stop, NotInRange):
         return fault(NOT_IN_RANGE, "; ".join(_out_of_range(aim, bounds)))
-    if isinstance(stop, NotFound):
-        found_none = NotFound(GAVE_UP, f"no certificate of {code} was found, {_advice(aim, bounds)}")
-        found_none.bounds = bounds
-        return found_none
     return stop
 
 
@@ -103,4 +108,4 @@ def _advice(aim: int, bounds: dict[str, int]) -> str:
         further.append("deep=True looks at more heaps")
     if aim == WHOLE:
         further.append(f"solve_furthest({order}) finds a partial one")
-    return "; ".join([went, *further, "`misere solve CODE --why` tells the reason"])
+    return "; ".join([went, *further])

@@ -42,6 +42,7 @@ CALLS: dict[str, list[Any]] = {
     "misere_answers": [*_bytes, _number, _slice, _size, _slice, _size, _slice, _size],
     "misere_failure": [*_bytes, _number, _slice, _size, _count],
     "misere_solve": [*_bytes, _number, _number, _number, _number, _number, _slice, _size, _count],
+    "misere_solve_why": [*_bytes, _number, _number, _number, _number, _number, _slice, _size, _count],
     "misere_describe": [*_bytes, _number, _number, _number, _slice, _size, _count],
     "misere_open": [*_bytes, _number, _owner],
     "misere_share": [_owner, _owner],
@@ -90,12 +91,19 @@ def version() -> int:
     return int(library.misere_version())
 
 
-def text_by(room: int, call: Call, *words: Any) -> bytes:
-    """What a call tells that takes a room for it. If that is too small, the call says so, and is asked again."""
+def told_by(room: int, call: Call, *words: Any) -> tuple[int, bytes]:
+    """The status and the text of a call that takes a room for a text. If that is too small, the call says so, and is
+    asked again."""
     told, count = (ctypes.c_uint8 * room)(), ctypes.c_uint64()
     status = call(*words, ctypes.addressof(told), room, ctypes.addressof(count))
     if status == NO_ROOM:
-        return text_by(count.value, call, *words)
+        return told_by(count.value, call, *words)
+    return status, ctypes.string_at(told, count.value)
+
+
+def text_by(room: int, call: Call, *words: Any) -> bytes:
+    """What a call tells that takes a room for it."""
+    status, text = told_by(room, call, *words)
     if status:
         raise fault(status)
-    return ctypes.string_at(told, count.value)
+    return text

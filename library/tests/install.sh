@@ -31,7 +31,7 @@ assert misere._library.library._name.endswith("/prefix/lib/libmisere.so.1")'
 cargo init --quiet --vcs none --name asks asks
 printf 'misere = { path = "%s/share/misere/rust" }\n' "$prefix" >> asks/Cargo.toml
 cat > asks/src/main.rs << 'END'
-fn main() -> Result<(), misere::Refusal> {
+fn main() -> Result<(), Box<dyn std::error::Error>> {
     println!("{:?}", misere::Quotient::solve("0.33", misere::Bounds::default())?.outcome(&[2, 1_000_000_000_000])?);
     Ok(())
 }

@@ -172,3 +172,20 @@ class Faults(unittest.TestCase):
         assert isinstance(stop, misere.NotFound)
         self.assertEqual(stop.bounds, {"limit": misere.LIMIT, "rounds": 64, "heaps": 8, "order": 64})
         self.assertIn("deep=True", str(stop))
+
+    def test_a_search_says_why_it_was_given_up(self) -> None:
+        # (the lines of docs/MESSAGES.md)
+        rows: list[tuple[str, Callable[[], object], str]] = [
+            ("no period", lambda: misere.solve("0.77"), "no period 24 24"),
+            ("too large", lambda: misere.solve("0.6"), "too large 15"),
+            ("repairs", lambda: misere.solve("0.06"), "repairs 17 48"),
+            ("one element", lambda: misere.solve("0.4", heaps=2), "one element"),
+            ("members", lambda: misere.solve("0.33", limit=5), "members"),
+            ("rounds", lambda: misere.solve("0.07", rounds=1), "rounds"),
+        ]
+        for name, search, why in rows:
+            with self.subTest(name):
+                stop = raised(search)
+                assert isinstance(stop, misere.NotFound)
+                self.assertEqual(stop.why, why)
+                self.assertIn(why, str(stop))

@@ -1,5 +1,5 @@
 -- What is handed over where a search spells a certificate.
-use Rattle.std.proofs.Common.{◌≡◌, ◌≤◌, ◌∙◌, sym, subst, ℕ, Bool, true, false, List, arith}
+use Rattle.std.proofs.Common.{◌≡◌, ◌≤◌, ◌∙◌, refl, sym, subst, ℕ, Bool, true, false, List, arith}
 use Rattle.std.specs.Prelude.{Ok}
 use Rattle.misere_theory.specs.Certificates.{kind_of}
 use Rattle.octal_code.specs.Text.{IsCodeText}
@@ -7,7 +7,7 @@ use Rattle.requests.specs.declared.plans.Aim.{Aim}
 use Rattle.requests.specs.declared.plans.Aim.TheVariants.{Whole, Deep, Part, Furthest}
 use Rattle.solve_command.specs.declared.bounds.SolveBounds.{SolveBounds}
 use Rattle.solve_command.specs.Solved.{IsAimedAt, IsSearched, Solves}
-use Rattle.solve_library.specs.Found.{AreBounds, IsAim, IsCertificateFor, IsOfKind}
+use Rattle.solve_library.specs.Found.{AreBounds, IsAim, IsCertificateFor, IsOfKind, Tells}
 use Rattle.solve_library.specs.declared.solving.Asked.{Asked}
 
 -- a certificate of a kind that is aimed at is of the kind that is asked
@@ -35,3 +35,9 @@ handed word bytes a bounds true is are (code, spells, p) =
       searched = subst (λ (d : List ℕ). IsSearched d bounds (Ok p.c)) (sym p.asked_for.of_code) p.searched;
     }
 handed word bytes a bounds false is are p = cc
+
+-- what a search with the reasons says is what is told of it
+pub explained : (word bytes : List ℕ) (a : Asked) (bounds : SolveBounds) (found : Bool)
+    → AreBounds a bounds → bounds.tells_why ≡ true → Solves word bounds bytes found → Tells word a bytes found
+explained word bytes a bounds true are why p = handed word bytes a bounds true refl are p
+explained word bytes a bounds false are why p = (bounds, are, why, p)

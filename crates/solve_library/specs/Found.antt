@@ -1,5 +1,5 @@
 -- What the search and the description of the library tell. This project's own.
-use Rattle.std.specs.Prelude.{◌≡◌, ◌⊎◌, ℕ, ◌≤◌, List, false, Ok}
+use Rattle.std.specs.Prelude.{◌≡◌, ◌⊎◌, ℕ, ◌≤◌, List, Bool, true, false, Ok}
 use Rattle.std.specs.declared.alloc.Global.{Global}
 use Rattle.misere_theory.specs.declared.TheConstants.{MOST_ENTRIES, LARGEST_FIRST_ORDER, LARGEST_ORDER}
 use Rattle.misere_theory.specs.Certificates.{Certificate, Accepted, kind_of}
@@ -72,6 +72,17 @@ pub record IsCertificateFor (text : List ℕ) (a : Asked) (bytes : List ℕ) : T
 -- the search for a certificate of the code that the text spells was given up
 abbrev pub IsGivenUp : List ℕ → Asked → Type 0
 IsGivenUp text a = (bounds : SolveBounds) × AreBounds a bounds × ((said : List ℕ) × Solves text bounds said false)
+
+-- the text is what a search within the bounds that are asked says of the code where it is given up,
+-- with the reason
+abbrev pub IsGivenUpFor : List ℕ → Asked → List ℕ → Type 0
+IsGivenUpFor text a said =
+    (bounds : SolveBounds) × AreBounds a bounds × (bounds.tells_why ≡ true) × Solves text bounds said false
+
+-- what is told of a search: where it found a certificate, its bytes; else how it was given up
+abbrev pub Tells : List ℕ → Asked → List ℕ → Bool → Type 0
+Tells text a told true = IsCertificateFor text a told
+Tells text a told false = IsGivenUpFor text a told
 
 -- Why no certificate is told: the text is no code's, something that is asked is out of its range, the
 -- search was given up, or memory was refused.

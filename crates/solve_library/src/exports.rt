@@ -1,11 +1,12 @@
 //! The calls.
-ghost use Rattle.std.specs.Prelude.{◌≡◌, ◌≢◌, ◌<◌, ℕ, List, length, take};
-ghost use Rattle.solve_library.specs.Found.{IsCertificateFor, IsTextOf, IsUnfound, IsUntold};
+ghost use Rattle.std.specs.Prelude.{◌≡◌, ◌≢◌, ◌<◌, ℕ, Bool, List, length, take};
+ghost use Rattle.solve_library.specs.Found.{IsCertificateFor, IsGivenUpFor, IsTextOf, IsUnfound, IsUntold, Tells};
 ghost use Rattle.solve_library.specs.Asked.{IsOpenedText, IsOpenedUntold};
 ghost use Rattle.solve_library.specs.declared.solving.Asked.{Asked};
 
 use crate::describing::described;
-use crate::numbers::hand_over;
+use crate::explaining::explained;
+use crate::numbers::{DONE, GAVE_UP, hand_over};
 use crate::opened_texts::opened_text;
 use crate::solving::{Asked, solved};
 use opened::Opened;
@@ -49,6 +50,50 @@ pub extern "C" fn misere_solve(
     match solved(alloc, code, asked) {
         Ok(text) => hand_over(&text, told, count),
         Err(status) => status,
+    }
+}
+
+/// Looks for a quotient as `misere_solve` does. Where the search is given up it tells how, with the
+/// reason, in the lines of `misere solve CODE --why`, and how many bytes they are; they too need room.
+/// The reason takes a second search.
+#[unsafe(no_mangle)]
+pub extern "C" fn misere_solve_why(
+    alloc: Global,
+    code: &[u8],
+    limit: u32,
+    rounds: u32,
+    aim: u32,
+    heaps: u32,
+    order: u32,
+    told: &mut [u8],
+    count: &mut u64,
+) -> u32
+    ensures found { let asked : Asked = record { limit = limit; rounds = rounds; aim = aim; heaps = heaps; order = order } in
+        result ≡ 0 → IsCertificateFor code.now asked (take count.new told.new) }
+    ensures gave_up { let asked : Asked = record { limit = limit; rounds = rounds; aim = aim; heaps = heaps; order = order } in
+        result ≡ 13 → IsGivenUpFor code.now asked (take count.new told.new) }
+    ensures no { let asked : Asked = record { limit = limit; rounds = rounds; aim = aim; heaps = heaps; order = order } in
+        result ≢ 0 → result ≢ 13 → result ≢ 14 → IsUnfound code.now asked result }
+    ensures stays { result ≢ 0 → result ≢ 13 → told.new ≡ told.old }
+    ensures room { result ≡ 14 → length told.old < count.new }
+    ensures counts { let asked : Asked = record { limit = limit; rounds = rounds; aim = aim; heaps = heaps; order = order } in
+        result ≡ 14 → (text : List ℕ) × (found : Bool) × Tells code.now asked text found × (count.new ≡ length text) }
+    ensures untold { result ≢ 0 → result ≢ 13 → result ≢ 14 → count.new ≡ count.old }
+{
+    let asked = Asked {
+        limit,
+        rounds,
+        aim,
+        heaps,
+        order,
+    };
+    let said = match explained(alloc, code, asked) {
+        Ok(said) => said,
+        Err(status) => return status,
+    };
+    match hand_over(&said.text, told, count) {
+        DONE if !said.succeeds => GAVE_UP,
+        status => status,
     }
 }
 

@@ -1,8 +1,9 @@
-//! The finder and the descriptions for C: a static library of two calls, to be linked with those of
+//! The finder and the descriptions for C: a static library of calls, to be linked with those of
 //! the checker.
 #![tactic(auto)]
 
 mod describing;
+mod explaining;
 mod exports;
 mod numbers;
 mod opened_texts;
@@ -11,3 +12,5 @@ mod rows_tests;
 mod solving;
 #[cfg(test)]
 mod tests;
+#[cfg(test)]
+mod why_tests;

@@ -47,8 +47,9 @@ fn are_in_range(asked: Asked) -> bool
 }
 
 /// The bounds of the search, where all that is asked is in its range.
-fn bounds_of(asked: Asked) -> Option<SolveBounds>
+pub(crate) fn bounds_of(asked: Asked, tells_why: bool) -> Option<SolveBounds>
     ensures bounds { IfSome result (AreBounds asked) }
+    ensures why { IfSome result (λ bounds. bounds.tells_why ≡ tells_why) }
     ensures range { IsSome result ↔ IsInRange asked }
 {
     let aim = aim_of(asked)?;
@@ -60,7 +61,7 @@ fn bounds_of(asked: Asked) -> Option<SolveBounds>
         rounds: asked.rounds,
         order: asked.order,
         aim,
-        tells_why: false,
+        tells_why,
     })
 }
 
@@ -70,7 +71,7 @@ pub(crate) fn solved(alloc: Global, code: &[u8], asked: Asked) -> Result<Vec<u8>
     ensures no { IfErr result (λ s. s ≢ 0 × s ≢ 14) }
     ensures why { IfErr result (IsUnfound code.now asked) }
 {
-    let Some(bounds) = bounds_of(asked) else {
+    let Some(bounds) = bounds_of(asked, false) else {
         return Err(NOT_IN_RANGE);
     };
     match solve_bytes(alloc, code, bounds) {

@@ -1,6 +1,8 @@
 //! How far a search for a quotient goes.
 
 use crate::LIMIT;
+use crate::refusal::Refusal;
+use std::fmt;
 
 /// Of which heaps a search is to find the quotient.
 #[derive(Clone, Copy, Debug, PartialEq, Eq)]
@@ -36,3 +38,33 @@ impl Default for Bounds {
         Bounds { limit: LIMIT, rounds: 64, aim: Aim::Whole(24), order: 64 }
     }
 }
+
+/// Why a search told no quotient.
+#[derive(Clone, Debug, PartialEq, Eq)]
+pub enum NotFound {
+    /// The search was given up, for this reason, as `misere solve CODE --why` prints it: `no period 24 24`, `too large 15`, `rounds`
+    /// and others.
+    GaveUp {
+        /// The reason's line.
+        why: String,
+    },
+    /// There was no search, or memory was refused.
+    Refused(Refusal),
+}
+
+impl From<Refusal> for NotFound {
+    fn from(refusal: Refusal) -> NotFound {
+        NotFound::Refused(refusal)
+    }
+}
+
+impl fmt::Display for NotFound {
+    fn fmt(&self, f: &mut fmt::Formatter) -> fmt::Result {
+        match self {
+            NotFound::GaveUp { why } => write!(f, "{}: {why}", Refusal::GAVE_UP),
+            NotFound::Refused(refusal) => refusal.fmt(f),
+        }
+    }
+}
+
+impl std::error::Error for NotFound {}

@@ -7,7 +7,7 @@
 //! assert_eq!((quotient.order(), quotient.start(), quotient.period()), (6, 1, 3));
 //! assert_eq!(quotient.outcome(&[2, 1_000_000_000_000])?, Outcome::N);
 //! assert_eq!(quotient.answer(&[2, 1_000_000_000_000])?, Answer::Wins { heap: 2, left: vec![] });
-//! # Ok::<(), misere::Refusal>(())
+//! # Ok::<(), Box<dyn std::error::Error>>(())
 //! ```
 //!
 //! Where the library answers, its calls are proved: of every position of the game, of any number of heaps of 1 to 10^18 (of a
@@ -30,7 +30,7 @@ mod refusal;
 
 pub use answers::{Answer, Outcome};
 pub use certified::{Anew, Certified};
-pub use finding::{Aim, Bounds};
+pub use finding::{Aim, Bounds, NotFound};
 pub use opened::Opened;
 pub use quotient::{Output, Quotient};
 pub use refusal::Refusal;

@@ -3,9 +3,9 @@
 use crate::answers::{Answer, Outcome};
 use crate::certificate::{Certificate, read};
 use crate::certified::{Anew, Certified};
-use crate::finding::{Aim, Bounds};
+use crate::finding::{Aim, Bounds, NotFound};
 use crate::opened::Opened;
-use crate::refusal::Refusal;
+use crate::refusal::{Refusal, done};
 use crate::{LIMIT, raw};
 use std::fmt;
 use std::sync::Arc;
@@ -53,19 +53,23 @@ impl Quotient {
         Ok(Quotient { certified: self.certified.share()?, bytes: self.bytes.clone(), certificate: self.certificate.clone() })
     }
 
-    /// The quotient of the game of a code, such as `0.33`, or of a part of it.
-    pub fn solve(code: &str, bounds: Bounds) -> Result<Quotient, Refusal> {
+    /// The quotient of the game of a code, such as `0.33`, or of a part of it; or why none was found, which takes a second search.
+    pub fn solve(code: &str, bounds: Bounds) -> Result<Quotient, NotFound> {
         let Bounds { limit, rounds, aim, order } = bounds;
         let (aim, heaps) = match aim {
             Aim::Whole(heaps) => (0, heaps),
             Aim::Part(last) => (1, last),
             Aim::Furthest => (2, 0),
         };
-        let bytes = told_by(MOST, |told, count| {
+        let (status, told) = status_and_told(MOST, |told, count| {
             // SAFETY: each pointer stands with the length of its slice, and `count` is borrowed for the call.
-            unsafe { raw::misere_solve(code.as_ptr(), code.len(), limit, rounds, aim, heaps, order, told.as_mut_ptr(), told.len(), count) }
-        })?;
-        Quotient::check(bytes, limit)
+            unsafe { raw::misere_solve_why(code.as_ptr(), code.len(), limit, rounds, aim, heaps, order, told.as_mut_ptr(), told.len(), count) }
+        });
+        match Refusal(status) {
+            Refusal(0) => Ok(Quotient::check(told, limit)?),
+            Refusal::GAVE_UP => Err(NotFound::GaveUp { why: last_line(&told) }),
+            refusal => Err(NotFound::Refused(refusal)),
+        }
     }
 }
 
@@ -194,17 +198,27 @@ impl TryFrom<&[u8]> for Quotient {
     }
 }
 
-/// What a call tells, which takes a room for it and says how long it is. It is asked again if the room is too small.
-fn told_by(mut room: usize, call: impl Fn(&mut [u8], &mut u64) -> u32) -> Result<Vec<u8>, Refusal> {
+/// The status and what is told of a call that takes a room for it and says how long it is. It is asked again if the room is too small.
+fn status_and_told(mut room: usize, call: impl Fn(&mut [u8], &mut u64) -> u32) -> (u32, Vec<u8>) {
     loop {
         let (mut told, mut count) = (vec![0; room], 0);
         match call(&mut told, &mut count) {
-            0 => {
-                told.truncate(count as usize);
-                return Ok(told);
-            }
             14 => room = count as usize,
-            status => return Err(Refusal(status)),
+            status => {
+                told.truncate(count as usize);
+                return (status, told);
+            }
         }
     }
+}
+
+/// What a call tells that takes a room for it.
+fn told_by(room: usize, call: impl Fn(&mut [u8], &mut u64) -> u32) -> Result<Vec<u8>, Refusal> {
+    let (status, told) = status_and_told(room, call);
+    done(status, told)
+}
+
+/// The last line of a text. Of a search that was given up it is the reason.
+fn last_line(text: &[u8]) -> String {
+    String::from_utf8_lossy(text).lines().last().unwrap_or_default().to_owned()
 }

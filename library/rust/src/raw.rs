@@ -69,7 +69,21 @@ unsafe extern "C" {
         room: usize,
     ) -> u32;
     pub fn misere_failure(bytes: *const u8, length: usize, limit: u32, told: *mut u64, room: usize, count: &mut u64) -> u32;
+    // misere_solve_why tells all of it
+    #[allow(dead_code)]
     pub fn misere_solve(
+        code: *const u8,
+        length: usize,
+        limit: u32,
+        rounds: u32,
+        aim: u32,
+        heaps: u32,
+        order: u32,
+        told: *mut u8,
+        room: usize,
+        count: &mut u64,
+    ) -> u32;
+    pub fn misere_solve_why(
         code: *const u8,
         length: usize,
         limit: u32,

@@ -9,6 +9,8 @@ pub struct Refusal(pub u32);
 impl Refusal {
     /// A heap is not of 1 to 10^18.
     pub const NOT_A_HEAP: Refusal = Refusal(10);
+    /// No certificate was found.
+    pub const GAVE_UP: Refusal = Refusal(13);
     /// The certificate is partial, and does not speak of all the heaps.
     pub const BEYOND: Refusal = Refusal(23);
 

@@ -1,6 +1,6 @@
 //! What the crate tells of samples, beside their texts.
 
-use misere::{Aim, Answer, Bounds, Certified, LIMIT, Outcome, Output, Quotient, Refusal};
+use misere::{Aim, Answer, Bounds, Certified, LIMIT, NotFound, Outcome, Output, Quotient, Refusal};
 use std::path::Path;
 use std::thread;
 
@@ -77,10 +77,28 @@ fn refusals_have_their_numbers() {
     let none = Bounds { aim: Aim::Whole(1), ..Bounds::default() };
     assert_eq!(Quotient::check(*b"", LIMIT), Err(Refusal(1)));
     assert_eq!(Quotient::check(sample("0.33"), 1), Err(Refusal(8)));
-    assert_eq!(Quotient::solve("0.33", none), Err(Refusal(15)));
-    assert_eq!(Quotient::solve("0.8.", Bounds::default()), Err(Refusal(12)));
+    assert_eq!(Quotient::solve("0.33", none), Err(NotFound::Refused(Refusal(15))));
+    assert_eq!(Quotient::solve("0.8.", Bounds::default()), Err(NotFound::Refused(Refusal(12))));
     assert_eq!(misere::failure(&sample("refused/outcome_at_two_ones"), LIMIT), Some(vec![1, 1]));
     assert_eq!(misere::failure(&sample("0.33"), LIMIT), None);
+}
+
+#[test]
+fn a_search_says_why_it_was_given_up() {
+    let defaults = Bounds::default();
+    // the lines of docs/MESSAGES.md
+    let rows = [
+        ("0.77", defaults, "no period 24 24"),
+        ("0.06", defaults, "repairs 17 48"),
+        ("0.4", Bounds { aim: Aim::Whole(2), ..defaults }, "one element"),
+        ("0.33", Bounds { limit: 5, ..defaults }, "members"),
+        ("0.07", Bounds { rounds: 1, ..defaults }, "rounds"),
+    ];
+    for (code, bounds, why) in rows {
+        let told = Quotient::solve(code, bounds).unwrap_err();
+        assert_eq!(told, NotFound::GaveUp { why: why.to_owned() }, "{code}");
+        assert_eq!(told.to_string(), format!("13 GaveUp: {why}"));
+    }
 }
 
 #[test]
