@@ -3,7 +3,7 @@
 use Rattle.std.proofs.Common.{◌≡◌, ℕ, suc, zero, ◌<◌, ◌⊎◌, ◌↔◌, Bool, true, false, List, ◌++◌, refl, sym, ◌∙◌, ap, subst, inl, inr, arith}
 use Rattle.std.specs.Cmp.{both_ways}
 use Rattle.std.proofs.lemmas.Bool.{false_from_ne_true, true≢false}
-use Rattle.misere_theory.specs.Games.{Move, measure, Indistinguishable, IsP, IsN, IsPosition}
+use Rattle.misere_theory.specs.Games.{Move, measure, Indistinguishable, IsP, IsPosition}
 use Rattle.misere_theory.specs.Games.IsP.{AllLose}
 use Rattle.misere_theory.specs.Quotients.{Claim, Monoid, GivesElements, value, OptionValue, RuleHolds, RuleFails, Represents, AllApart}
 use native.Mathlib.Decide.{dec_lt}

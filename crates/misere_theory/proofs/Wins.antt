@@ -6,7 +6,6 @@ use native.Mathlib.Decide.{dec_lt, ℕ_discrete}
 use Rattle.misere_theory.specs.Games.{HeapOption, Move, HeapMove, IsP, IsN}
 use Rattle.misere_theory.specs.Games.HeapOption.{Nothing, One, Two, Three}
 use Rattle.misere_theory.specs.Games.Move.{Here}
-use Rattle.misere_theory.specs.Games.IsP.{AllLose}
 use Rattle.misere_theory.specs.Games.IsN.{Ended, Wins}
 use Rattle.misere_theory.specs.Plays.{LeftBefore, IsWinningMove, IsFirstWin, IsHanded, Keeps}
 use Rattle.misere_theory.specs.Plays.IsHanded.{AtOnce, Later}

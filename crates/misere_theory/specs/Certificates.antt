@@ -1,9 +1,9 @@
 -- The numbers of a certificate, their ranges, the claim that they make, and when it is canonical
 -- and right.
-use Rattle.std.specs.Prelude.{◌≡◌, ◌≢◌, ℕ, zero, suc, ◌+◌, ◌-◌, ◌%◌, ◌≤◌, ◌<◌, ◌==◌, nat_lt, nat_le, ◌&&◌, if◌then◌else◌, List, [], ◌∷◌, ◌++◌, length, slice_index, slice_index_or, All}
+use Rattle.std.specs.Prelude.{◌≡◌, ◌≢◌, ℕ, zero, suc, ◌+◌, ◌-◌, ◌%◌, ◌≤◌, ◌<◌, ◌==◌, nat_lt, nat_le, ◌&&◌, ◌||◌, if◌then◌else◌, List, [], ◌∷◌, ◌++◌, length, slice_index, slice_index_or, All}
 use Rattle.std.specs.List.{list_any, AllZip}
 use Rattle.std.specs.List.Sorted.{IsStrictlyIncreasing}
-use Rattle.misere_theory.specs.declared.TheConstants.{LARGEST_ORDER, LARGEST_FIRST_ORDER, MOST_ENTRIES}
+use Rattle.misere_theory.specs.declared.TheConstants.{LARGEST_ORDER, LARGEST_FIRST_ORDER, LARGEST_SECOND_ORDER, MOST_ENTRIES, MOST_SECOND_ENTRIES, LARGEST_PART}
 pub use Rattle.misere_theory.specs.Games.{IsCode, is_octal}
 use Rattle.misere_theory.specs.Quotients.{Claim, Represents}
 use Rattle.misere_theory.specs.Kinds.{IsHeapIn, kind_by, bound_in}
@@ -79,24 +79,27 @@ abbrev pub pairs_from : ℕ → ℕ → List (ℕ × ℕ)
 pairs_from x zero = []
 pairs_from x (suc n) = pairs_with x (x + 1) n ++ pairs_from (x + 1) n
 
--- The number of the format for a code, an order and a period: 2 where the code isn't octal, the
--- order is above the first format's largest or the period is 0, and else 1.
-abbrev pub format_by : List ℕ → ℕ → ℕ → ℕ
-format_by code order period =
-    if is_octal code && (nat_le order LARGEST_FIRST_ORDER && nat_lt 0 period) then 1 else 2
+-- The number of the format for a code, an order, a start and a period: 3 where the order or the
+-- entries are above the second format's; else 2 where the code isn't octal, the order is above the
+-- first format's or the period is 0; and else 1.
+abbrev pub format_by : List ℕ → ℕ → ℕ → ℕ → ℕ
+format_by code order start period =
+    if nat_lt LARGEST_SECOND_ORDER order || nat_lt (MOST_SECOND_ENTRIES + 1) (start + period) then 3
+    else if is_octal code && (nat_le order LARGEST_FIRST_ORDER && nat_lt 0 period) then 1 else 2
 
 -- The format in which the certificate is spelled.
 abbrev pub format_of : Certificate → ℕ
-format_of c = format_by c.code c.order c.period
+format_of c = format_by c.code c.order c.start c.period
 
 -- Each line has its count of numbers, and each number is in its range. Phi has 1 to MOST_ENTRIES
--- entries: so a full certificate's start and period are 1 to MOST_ENTRIES, and a partial one's
--- start is 2 to MOST_ENTRIES + 1.
+-- entries: so a full certificate's start and period are 1 to MOST_ENTRIES. A partial one's start is 2
+-- to LARGEST_PART + 1.
 pub record InRanges (c : Certificate) : Type 0 where
   pub code : IsCode c.code
   pub order : (2 ≤ c.order) × (c.order ≤ LARGEST_ORDER)
   pub start : 1 ≤ c.start
   pub period : (2 ≤ c.start + c.period) × (c.start + c.period ≤ MOST_ENTRIES + 1)
+  pub part : c.period ≡ 0 → c.start ≤ LARGEST_PART + 1
   pub phi : (length c.phi + 1 ≡ c.start + c.period) × All (λ x. x < c.order) c.phi
   pub portion : (1 ≤ length c.portion) × All (λ x. x < c.order) c.portion
       × IsStrictlyIncreasing c.portion

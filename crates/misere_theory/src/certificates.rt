@@ -2,7 +2,7 @@
 //! true of it.
 
 ghost use Rattle.std.specs.Prelude.{◌≡◌, ◌⊎◌, ◌↔◌, ◌<◌, ◌≤◌, ◌+◌, ◌-◌, ◌*◌, ◌^◌, List, ℕ, true, false, length, All};
-ghost use Rattle.misere_theory.specs.declared.TheConstants.{LARGEST_FIRST_ORDER};
+ghost use Rattle.misere_theory.specs.declared.TheConstants.{LARGEST_FIRST_ORDER, LARGEST_SECOND_ORDER, MOST_SECOND_ENTRIES, LARGEST_PART};
 ghost use Rattle.misere_theory.specs.Certificates.{Certificate, IsHeapOf, kind_of, certificate_bound, format_of, phi_at, times_of, IsSpelled, claim_of, InRanges, Canonical, Accepted};
 ghost use Rattle.misere_theory.specs.Faults.{WordFault, OrderFault, PeriodFault, ApartFault};
 ghost use Rattle.misere_theory.specs.Games.{is_octal, IsHeap, IsHeapUpTo, IsPosition};
@@ -155,18 +155,24 @@ pub fn kinds_are_told_by_the_period()
     ensures full { (c : Certificate) → 1 ≤ c.period → (kind_of c ≡ 0)
         × (certificate_bound c ≡ heap_bound c.code (length c.code - 1) c.start c.period) }
     ensures partial { (c : Certificate) → InRanges c → c.period ≡ 0 → (kind_of c ≡ c.start - 1)
-        × (0 < kind_of c) × (certificate_bound c ≡ c.start - 1) }
+        × (0 < kind_of c) × (kind_of c ≤ LARGEST_PART) × (certificate_bound c ≡ c.start - 1) }
     ensures written { (c : Certificate) → InRanges c → (h : ℕ) → 1 ≤ h
         → h < c.start + c.period → IsHeapOf c h }
     ensures bounded { (c : Certificate) → (h : ℕ) → IsHeapUpTo (certificate_bound c) h
         → IsHeapOf c h }
 {}
 
-/// The first format is that of octal codes, of orders up to its largest and of full certificates
-/// alone, and the second that of all others.
+/// The third format is that of orders or entries above the second format's; of the others the first
+/// is that of octal codes, of orders up to its largest and of full certificates alone, and the second
+/// that of all else.
 pub fn formats_are_told_by_the_numbers()
     ensures first { (c : Certificate) → (format_of c ≡ 1)
-        ↔ ((is_octal c.code ≡ true) × (c.order ≤ LARGEST_FIRST_ORDER) × (1 ≤ c.period)) }
+        ↔ ((is_octal c.code ≡ true) × (c.order ≤ LARGEST_FIRST_ORDER)
+        × (c.start + c.period ≤ MOST_SECOND_ENTRIES + 1) × (1 ≤ c.period)) }
     ensures second { (c : Certificate) → (format_of c ≡ 2)
-        ↔ ((is_octal c.code ≡ false) ⊎ ((LARGEST_FIRST_ORDER < c.order) ⊎ (c.period ≡ 0))) }
+        ↔ ((c.order ≤ LARGEST_SECOND_ORDER) × (c.start + c.period ≤ MOST_SECOND_ENTRIES + 1)
+        × ((is_octal c.code ≡ false) ⊎ ((LARGEST_FIRST_ORDER < c.order) ⊎ (c.period ≡ 0)))) }
+    ensures third { (c : Certificate) → (format_of c ≡ 3)
+        ↔ ((LARGEST_SECOND_ORDER < c.order)
+        ⊎ (MOST_SECOND_ENTRIES + 1 < c.start + c.period)) }
 {}

@@ -27,11 +27,20 @@ pub mod plays;
 pub mod quotients;
 
 /// The largest order of a certificate: how many elements a monoid has at most.
-pub const LARGEST_ORDER: u16 = 512;
+pub const LARGEST_ORDER: u16 = 4096;
 
 /// The largest order of a certificate in the first format, of a presentation's table, and of what is
 /// searched for.
 pub const LARGEST_FIRST_ORDER: u16 = 256;
 
+/// The largest order of a certificate in the second format.
+pub const LARGEST_SECOND_ORDER: u16 = 512;
+
 /// How many entries of its pretending function a certificate has at most: heap sizes from 1 on.
-pub const MOST_ENTRIES: u16 = 1024;
+pub const MOST_ENTRIES: u16 = 4096;
+
+/// How many entries a certificate in the first or the second format has at most.
+pub const MOST_SECOND_ENTRIES: u16 = 1024;
+
+/// The largest last heap of a partial certificate.
+pub const LARGEST_PART: u16 = 1024;

@@ -8,6 +8,7 @@ use Rattle.std.proofs.lemmas.Bool.Decides.{nat_tests}
 use Rattle.std.proofs.lemmas.Nat.{div-mul-add, mod-mul-add, mul-add-lt, div_below, mod_below, div-add-mod', mul-le}
 use Rattle.std.proofs.Math.Nat.{mul_comm}
 use Rattle.std.proofs.Common.{add-mul}
+use Rattle.misere_theory.specs.declared.TheConstants.{LARGEST_ORDER}
 use Rattle.misere_theory.specs.Quotients.{Monoid, LawFails}
 use Rattle.misere_theory.specs.Quotients.LawFails.{Identity, Commutativity, Associativity}
 use Rattle.monoid_table.specs.Grids.{entry, IsTable}
@@ -211,8 +212,10 @@ looked-at-failure q rows spent refused h e =
     is-breach q rows spent (subst (λ b. HasLookedAt q rows spent b) e h)
 
 -- the triples of the greatest order are counted in 64 bits
-pub triples-most : (q : ℕ) → q ≤ 512 → triples q ≤ 134217728
-triples-most q small = mul-le (q * q) q (512 * 512) 512 (mul-le q q 512 512 small small) small
+pub triples-most : (q : ℕ) → q ≤ LARGEST_ORDER → triples q ≤ 68719476736
+triples-most q small =
+    mul-le (q * q) q (LARGEST_ORDER * LARGEST_ORDER) LARGEST_ORDER
+    (mul-le q q LARGEST_ORDER LARGEST_ORDER small small) small
 
 -- a monoid passes at every triple
 pub monoid-holds : (q : ℕ) (rows : List ℕ) → Monoid q (entry q rows) → (i : ℕ) → i < triples q

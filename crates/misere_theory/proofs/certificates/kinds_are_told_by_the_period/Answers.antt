@@ -1,4 +1,5 @@
-use Rattle.std.proofs.Common.{◌-◌, ◌∙◌, ◌<◌, length, arith}
+use Rattle.std.proofs.Common.{◌-◌, ◌∙◌, ◌<◌, ◌≤◌, length, arith}
+use Rattle.misere_theory.specs.declared.TheConstants.{LARGEST_PART}
 use Rattle.misere_theory.specs.Certificates.{kind_of}
 use Rattle.misere_theory.proofs.Counting.{kind_full, kind_partial, bound_whole, bound_part, bound_counts}
 use Rattle.misere_theory.proofs.Written.{written_counts}
@@ -14,7 +15,8 @@ returns-clause-partial g c r part =
     let e = kind_partial c.start c.period part in
     let s = r.period.0 in
     let some : 0 < kind_of c = omega arith in
-    (e, some, bound_part (kind_of c) c.code (length c.code - 1) c.start c.period some ∙ e)
+    let small : kind_of c ≤ LARGEST_PART = let part = r.part part in omega arith in
+    (e, some, small, bound_part (kind_of c) c.code (length c.code - 1) c.start c.period some ∙ e)
 
 pub returns-clause-written : goal.returns-clause-written
 returns-clause-written g c r = written_counts c r
