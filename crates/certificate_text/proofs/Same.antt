@@ -119,7 +119,7 @@ are_small c h =
     let q : c.order ≤ 2 ^ 64 = omega (arith, h.order.1) in
     let p : c.start + c.period ≤ 2 ^ 64 = omega (arith, h.period.1) in
     record {
-      format = omega (arith, (format_in c.code c.order c.period).1);
+      format = omega (arith, (format_in c.code c.order c.start c.period).1);
       order = omega (arith, h.order.1);
       start = omega (arith, h.period.1);
       period = omega (arith, h.period.1);
@@ -157,11 +157,11 @@ joined e rest = ap₂ (λ (l : Line) (ls : List Line). l ∷ ls) e rest
 
 pub from_lines : (b : List ℕ) (c : Certificate) → SpellsByLines b c → Spells b c
 from_lines b c s =
-    let small = are_small c s.in_ranges in
+    let small = are_small c s.writable.in_ranges in
     let number = line_only IsNumber decimal Small number_only decimal_is in
     let e1 = number (codes "mqc") s.version (format_of c ∷ []) (small.format, tt) s.is_version in
     let e2 = line_only IsCodeText code_text IsCode code_only code_is (codes "code") s.code
-    (c.code ∷ []) (s.in_ranges.code, tt) s.is_code in
+    (c.code ∷ []) (s.writable.in_ranges.code, tt) s.is_code in
     let e3 = number (codes "order") s.order (c.order ∷ []) (small.order, tt) s.is_order in
     let e4 = number (codes "start") s.start (c.start ∷ []) (small.start, tt) s.is_start in
     let e5 = number (codes "period") s.period (c.period ∷ []) (small.period, tt) s.is_period in
@@ -175,7 +175,7 @@ from_lines b c s =
     let e11 = line_only IsFixed (λ w. w) Any fixed_only fixed_is (codes "end") s.end [] tt s.is_end
     in
     record {
-      in_ranges = s.in_ranges;
+      writable = s.writable;
       bytes = s.bytes ∙ ap text
           (joined e1 (joined e2 (joined e3 (joined e4 (joined e5 (joined e6 (joined e7 (joined e8
           (ap₂ (λ (rs : List Line) (ls : List Line). rs ++ ls) e9 (joined e10 (joined e11 refl)))))))))));
@@ -183,10 +183,10 @@ from_lines b c s =
 
 pub to_lines : (b : List ℕ) (c : Certificate) → Spells b c → SpellsByLines b c
 to_lines b c s =
-    let small = are_small c s.in_ranges in
+    let small = are_small c s.writable.in_ranges in
     let number = line_is IsNumber decimal Small number_only decimal_is in
     record {
-      in_ranges = s.in_ranges;
+      writable = s.writable;
       version = record { name = codes "mqc"; words = decimal (format_of c) ∷ [] };
       code = record { name = codes "code"; words = code_text c.code ∷ [] };
       order = record { name = codes "order"; words = decimal c.order ∷ [] };
@@ -202,7 +202,7 @@ to_lines b c s =
       is_version = number (codes "mqc") (format_of c ∷ []) (small.format, tt);
       is_code =
           line_is IsCodeText code_text IsCode code_only code_is (codes "code") (c.code ∷ [])
-          (s.in_ranges.code, tt);
+          (s.writable.in_ranges.code, tt);
       is_order = number (codes "order") (c.order ∷ []) (small.order, tt);
       is_start = number (codes "start") (c.start ∷ []) (small.start, tt);
       is_period = number (codes "period") (c.period ∷ []) (small.period, tt);

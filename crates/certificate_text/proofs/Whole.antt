@@ -16,7 +16,7 @@ use Rattle.certificate_text.proofs.Words.{numbers_reader, keys_reader, KeyFits, 
 use Rattle.certificate_text.proofs.Fields.{RisesFrom, portion_takes, portion_again}
 use Rattle.certificate_text.proofs.Rows.{rows_text, RowFits, rows_take, rows_again, rows_of_concat}
 use Rattle.certificate_text.proofs.Counts.{pairs_count, rises_below, rises_increasing, increasing_rises}
-use Rattle.certificate_text.proofs.Front.{numbers_text, front_text, FrontFits, front_takes, front_again}
+use Rattle.certificate_text.proofs.Front.{numbers_text, front_text, FrontFits, period_by, least_of, front_takes, front_again}
 
 -- ---- the text, grouped as it is read
 
@@ -91,7 +91,8 @@ ranges_of c f phi portion words rows apart =
       code = f.code_fits;
       order = (omega arith, omega arith);
       start = s1;
-      period = (omega arith, omega arith);
+      period = ((period_by c.start c.period s1 p1).0, omega arith);
+      part = (period_by c.start c.period s1 p1).1;
       phi = (omega (arith, phi.0), All-from_recursion (λ x. x < c.order) c.phi phi.1);
       portion = (
         portion.0,
@@ -168,7 +169,7 @@ certificate_again c rest h =
       order_below = omega (arith, h.order.1);
       start_from = h.start;
       start_below = omega (arith, h.period.1);
-      period_from = omega (arith, h.period.0);
+      period_from = least_of c.start c.period h.start h.period.0 h.part;
       period_below = omega (arith, h.start, h.period.1);
     } in
     let low : 0 < c.order = omega (arith, h.order.0) in
@@ -228,28 +229,28 @@ pub one_value : (b : List ℕ) (c d : Certificate) → Spells b c → Spells b d
 one_value b c d p q =
     let x : certificate_at b ≡ Some (c, []) =
     ap certificate_at (p.bytes ∙ sym (append-nil (text (lines c))))
-    ∙ certificate_again c [] p.in_ranges in
+    ∙ certificate_again c [] p.writable.in_ranges in
     let y : certificate_at b ≡ Some (d, []) =
     ap certificate_at (q.bytes ∙ sym (append-nil (text (lines d))))
-    ∙ certificate_again d [] q.in_ranges in
+    ∙ certificate_again d [] q.writable.in_ranges in
     (some_pair_parts _ _ _ _ (sym x ∙ y)).0
 
 pub no_beginning : (a x : List ℕ) (c d : Certificate) → Spells a c → Spells (a ++ x) d → x ≡ []
 no_beginning a x c d p q =
     let e : certificate_at (a ++ x) ≡ Some (c, x) =
-    ap (λ (t : List ℕ). certificate_at (t ++ x)) p.bytes ∙ certificate_again c x p.in_ranges in
+    ap (λ (t : List ℕ). certificate_at (t ++ x)) p.bytes ∙ certificate_again c x p.writable.in_ranges in
     let y : certificate_at (a ++ x) ≡ Some (d, []) =
     ap certificate_at (q.bytes ∙ sym (append-nil (text (lines d))))
-    ∙ certificate_again d [] q.in_ranges in
+    ∙ certificate_again d [] q.writable.in_ranges in
     (some_pair_parts _ _ _ _ (sym e ∙ y)).1
 
 pub spelled_takes : (b : List ℕ) (c : Certificate) → certificate_at b ≡ Some (c, []) → Spells b c
 spelled_takes b c e = let t = certificate_takes b c [] e in
-    record { in_ranges = t.0; bytes = t.1 ∙ append-nil (text (lines c)) }
+    record { writable = record { in_ranges = t.0 }; bytes = t.1 ∙ append-nil (text (lines c)) }
 
 pub spelled_again : (b : List ℕ) (c : Certificate) → Spells b c → certificate_at b ≡ Some (c, [])
 spelled_again b c p = ap certificate_at (p.bytes ∙ sym (append-nil (text (lines c))))
-    ∙ certificate_again c [] p.in_ranges
+    ∙ certificate_again c [] p.writable.in_ranges
 
 pub begins_with_format : (b : List ℕ) (c : Certificate) (format : ℕ) → Spells b c
     → format_of c ≡ format → format < 10

@@ -1,9 +1,9 @@
 -- The text of a certificate as a relation between bytes and the certificate's numbers, by cases on
 -- numbers, words and lines. The format is this project's own.
 use Rattle.std.specs.Prelude.{◌≡◌, ℕ, ◌+◌, ◌*◌, ◌<◌, List, [], ◌∷◌, ◌++◌, codes}
-use Rattle.misere_theory.specs.Certificates.{Certificate, InRanges, format_of}
+use Rattle.misere_theory.specs.Certificates.{Certificate, format_of}
 use Rattle.octal_code.specs.Text.{IsCodeText}
-use Rattle.certificate_text.specs.Spelling.{Line, text}
+use Rattle.certificate_text.specs.Spelling.{Line, text, IsWritable}
 
 -- The digits of a number, without leading zeros: one digit, or the digits of a number above 0 and
 -- one more digit.
@@ -46,7 +46,7 @@ AreRows (line ∷ lines) (row ∷ rows) = IsLine (codes "row") IsNumber line row
 
 -- The bytes are these lines, and each says its part of the certificate.
 pub record SpellsByLines (b : List ℕ) (c : Certificate) : Type 0 where
-  pub in_ranges : InRanges c
+  pub writable : IsWritable c
   pub version : Line
   pub code : Line
   pub order : Line

@@ -1,7 +1,7 @@
 -- Reading from left to right: a value and the bytes behind it, or nothing. It says what a reader
 -- does; that this is the spelling is the law `reading_is_spelling`. This project's own.
 use Rattle.std.specs.Prelude.{ℕ, zero, suc, ◌+◌, ◌-◌, ◌*◌, ◌/◌, List, [], ◌∷◌, ◌++◌, length, take, drop, slice_index, Option, Some, None, Bool, nat_lt, nat_le, ◌&&◌, ◌==◌, if◌then◌else◌, codes}
-use Rattle.misere_theory.specs.declared.TheConstants.{LARGEST_ORDER, MOST_ENTRIES}
+use Rattle.misere_theory.specs.declared.TheConstants.{LARGEST_ORDER, MOST_ENTRIES, LARGEST_PART}
 use Rattle.misere_theory.specs.Certificates.{Certificate, format_by}
 
 infixl 10 ◌>>=◌
@@ -146,22 +146,27 @@ abbrev pub rows_of : ℕ → ℕ → List ℕ → List (List ℕ)
 rows_of order zero xs = []
 rows_of order (suc n) xs = take order xs ∷ rows_of order n (drop order xs)
 
--- the lines from the code's to the period's: a start of 1 leaves no period of 0
+-- the least period beside a start: a start of 1 leaves no part, and neither does one above
+-- LARGEST_PART + 1
+abbrev pub least_period : ℕ → ℕ
+least_period start = if nat_lt (LARGEST_PART + 1) start then 1 else 2 - start
+
+-- the lines from the code's to the period's
 unfoldable pub numbers_at : List ℕ → Option ((List ℕ × ℕ × ℕ × ℕ) × List ℕ)
 numbers_at bytes = do
   named ← fixed_at (codes "code ") bytes
   code ← code_line_at named
   order ← field_at (codes "order") 2 (LARGEST_ORDER + 1) code.1
   start ← field_at (codes "start") 1 (MOST_ENTRIES + 2) order.1
-  period ← field_at (codes "period") (2 - start.0) (MOST_ENTRIES + 2 - start.0) start.1
+  period ← field_at (codes "period") (least_period start.0) (MOST_ENTRIES + 2 - start.0) start.1
   Some ((code.0, order.0, start.0, period.0), period.1)
 
--- the lines up to the period's, of the format that the code, the order and the period have
+-- the lines up to the period's, of the format that these numbers have
 unfoldable pub front_at : List ℕ → Option ((List ℕ × ℕ × ℕ × ℕ) × List ℕ)
 front_at bytes = do
-  format ← field_at (codes "mqc") 1 3 bytes
+  format ← field_at (codes "mqc") 1 4 bytes
   front ← numbers_at format.1
-  if format.0 == format_by front.0.0 front.0.1 front.0.3 then Some front else None
+  if format.0 == format_by front.0.0 front.0.1 front.0.2 front.0.3 then Some front else None
 
 -- all lines
 unfoldable pub certificate_at : List ℕ → Option (Certificate × List ℕ)

@@ -42,7 +42,11 @@ lines c =
     ∷ (map row_line c.rows ++ record { name = codes "apart"; words = map decimal c.apart }
     ∷ record { name = codes "end"; words = [] } ∷ [])
 
--- the bytes b are the text of the certificate c, whose numbers are in their ranges
-pub record Spells (b : List ℕ) (c : Certificate) : Type 0 where
+-- A text can say it: its numbers are in their ranges.
+pub record IsWritable (c : Certificate) : Type 0 where
   pub in_ranges : InRanges c
+
+-- the bytes b are the text of the certificate c, which a text can say
+pub record Spells (b : List ℕ) (c : Certificate) : Type 0 where
+  pub writable : IsWritable c
   pub bytes : b ≡ text (lines c)

@@ -8,9 +8,9 @@
 ghost use Rattle.std.specs.Prelude.{◌≡◌, ◌≢◌, ◌++◌, ◌∷◌, ◌*◌, ◌<◌, ◌≤◌, ◌^◌, ℕ, List, [], Some, All, length, codes};
 ghost use Rattle.std.specs.List.{concat};
 ghost use Rattle.std.specs.Fmt.{decimal};
-ghost use Rattle.misere_theory.specs.Certificates.{Certificate, InRanges, format_of};
+ghost use Rattle.misere_theory.specs.Certificates.{Certificate, format_of};
 ghost use Rattle.octal_code.specs.Text.{IsCodeText};
-ghost use Rattle.certificate_text.specs.Spelling.{Spells};
+ghost use Rattle.certificate_text.specs.Spelling.{Spells, IsWritable};
 ghost use Rattle.certificate_text.specs.Lines.{IsNumber, SpellsByLines};
 ghost use Rattle.certificate_text.specs.Reading.{certificate_at, code_line_at, rows_at, rows_of};
 
@@ -29,6 +29,8 @@ pub fn texts_begin_with_their_format()
         → (x : List ℕ) × (b ≡ codes "mqc 1\n" ++ x) }
     ensures second { (b : List ℕ) (c : Certificate) → Spells b c → format_of c ≡ 2
         → (x : List ℕ) × (b ≡ codes "mqc 2\n" ++ x) }
+    ensures third { (b : List ℕ) (c : Certificate) → Spells b c → format_of c ≡ 3
+        → (x : List ℕ) × (b ≡ codes "mqc 3\n" ++ x) }
 {}
 
 /// The text of a certificate is its lines, each with its words: the two ways to say it agree.
@@ -45,8 +47,8 @@ pub fn numbers_are_decimal()
 
 /// What is read from left to right to the end is spelled so, and what is spelled so is read.
 pub fn reading_is_spelling()
-    ensures ranges { (b : List ℕ) (c : Certificate) (rest : List ℕ)
-        → certificate_at b ≡ Some (c, rest) → InRanges c }
+    ensures writable { (b : List ℕ) (c : Certificate) (rest : List ℕ)
+        → certificate_at b ≡ Some (c, rest) → IsWritable c }
     ensures takes { (b : List ℕ) (c : Certificate) → certificate_at b ≡ Some (c, []) → Spells b c }
     ensures again { (b : List ℕ) (c : Certificate) → Spells b c → certificate_at b ≡ Some (c, []) }
 {}

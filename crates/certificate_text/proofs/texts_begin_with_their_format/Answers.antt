@@ -7,3 +7,6 @@ returns-clause-first g b c p e = begins_with_format b c 1 p e (omega arith)
 
 pub returns-clause-second : goal.returns-clause-second
 returns-clause-second g b c p e = begins_with_format b c 2 p e (omega arith)
+
+pub returns-clause-third : goal.returns-clause-third
+returns-clause-third g b c p e = begins_with_format b c 3 p e (omega arith)
