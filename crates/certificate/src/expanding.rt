@@ -41,11 +41,7 @@ fn all_rows<A: Allocator + Copy>(alloc: A, fields: &Fields<A>) -> Result<Vec<u16
 }
 
 /// Which elements are in the portion.
-fn marks<A: Allocator>(
-    alloc: A,
-    order: u16,
-    portion: &[u16],
-) -> Result<Vec<bool, A>, AllocError>
+fn marks<A: Allocator>(alloc: A, order: u16, portion: &[u16]) -> Result<Vec<bool, A>, AllocError>
     requires { All (λ x. x < order) portion.now }
     ensures long { IfOk result (λ marks. length marks.items ≡ order) }
     ensures marked { IfOk result (λ marks. (x : ℕ)
@@ -60,7 +56,8 @@ fn marks<A: Allocator>(
 
 /// The certificate with all that follows from its first rows.
 ///
-/// It reserves the whole table and all separators.
+/// It reserves the whole table and all separators, and for a while as many bits as the table has
+/// numbers.
 pub fn expanded<A: Allocator + Copy>(alloc: A, fields: Fields<A>) -> Result<Cert<A>, AllocError>
     requires { HasFirstRows fields }
     ensures { IfOk result (λ cert. cert ≡ expanded (compact_of fields)) }

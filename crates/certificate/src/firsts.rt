@@ -15,7 +15,8 @@ pub fn firsts(words: &[Key]) -> usize
     ensures within { result ≤ length words.now }
 {
     for i in 0..words.len() {
-        if words[i].element != 0 {
+        let key = words[i];
+        if key.element != 0 {
             return i;
         }
     }
@@ -35,7 +36,8 @@ fn keys_fall(keys: &[Key], element: usize) -> bool
     ensures { result ≡ keys_fall element keys.now }
 {
     for i in 0..keys.len() {
-        if keys[i].element as usize >= element + i {
+        let key = keys[i];
+        if key.element as usize >= element + i {
             return false;
         }
     }

@@ -50,7 +50,7 @@ impl<A: Allocator> Model for Lists<A> {
 }
 
 impl<A: Allocator> Lists<A> {
-    /// The number of their format.
+    /// The number of the format.
     pub fn format(&self) -> u16
         ensures { result ≡ format_of self.now }
     {
@@ -58,7 +58,7 @@ impl<A: Allocator> Lists<A> {
         format_by(&front.code, front.order, front.start, front.period)
     }
 
-    /// Them with a table and separators.
+    /// The fields with these rows and separators.
     pub fn with_table(self, rows: Vec<u16, A>, apart: Vec<u16, A>) -> Fields<A>
         requires { IsPretending (pretending_of self) }
         ensures { result ≡ fields_of self rows.items apart.items }

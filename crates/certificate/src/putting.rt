@@ -129,21 +129,22 @@ pub fn put_code_line<W: Sink>(sink: &mut W, code: &Code) -> Result<(), DeviceFau
     write_whole(sink, b"\n")
 }
 
-/// From which row on, and up to which, the text says the rows: all of them, or in the third format
-/// the first ones.
+/// The rows that the text says, from one on and up to another: all of them, or in the third format
+/// those of the first elements.
 fn said_rows<A: Allocator>(cert: &Cert<A>) -> (usize, usize)
     ensures rows { (said cert.now).rows ≡ slice_range cert.now.rows result.0 result.1 }
     ensures rising { result.0 ≤ result.1 }
     ensures within { result.1 ≤ cert.now.order }
 {
+    let order = cert.order() as usize;
     if format_of(cert) == 3 {
         (1, firsts(cert.words()) + 1)
     } else {
-        (0, cert.order() as usize)
+        (0, order)
     }
 }
 
-/// The lines of the rows.
+/// The lines of the rows that the text says.
 pub fn put_rows<A: Allocator, W: Sink>(sink: &mut W, cert: &Cert<A>) -> Result<(), DeviceFault>
     ensures puts { Puts (W.taken sink.old) (W.taken sink.new) result
         (text (map row_line (said cert.now).rows)) }

@@ -1,5 +1,5 @@
 //! How certificates are read.
-ghost use Rattle.std.specs.Prelude.{◌≡◌, ◌≤◌, ◌*◌, IfOk, Err, ℕ, List, Some, true, length};
+ghost use Rattle.std.specs.Prelude.{◌≡◌, ◌≤◌, ◌*◌, IfOk, Err, ℕ, List, [], Some, true, length};
 ghost use Rattle.std.specs.List.{concat};
 ghost use Rattle.misere_theory.specs.declared.TheConstants.{LARGEST_ORDER};
 ghost use Rattle.misere_theory.specs.Certificates.{Certificate};
@@ -41,7 +41,7 @@ fn table<A: Allocator + Copy>(
     Ok(Cert::from_fields(lists.with_table(rows, apart)))
 }
 
-/// The first rows behind the lists, from which all others can be made.
+/// The first rows behind the lists, where all others can be made of them.
 #[tactic(auto, unfolding(certificate_text::specs::Reading::first_rows_at))]
 fn first_rows<A: Allocator + Copy>(
     alloc: A,
@@ -79,7 +79,8 @@ fn certificate<A: Allocator + Copy>(alloc: A, reader: &mut Reader<'_>) -> Result
         return table(alloc, reader, lists);
     }
     let rows = first_rows(alloc, reader, &lists)?;
-    if before.saturating_sub(reader.left()) > LONGEST_TEXT {
+    let length = before.saturating_sub(reader.left());
+    if length > LONGEST_TEXT {
         return Err(TextFault::Text);
     }
     Ok(expanded(alloc, lists.with_table(rows, Vec::new(alloc)))?)
@@ -87,10 +88,11 @@ fn certificate<A: Allocator + Copy>(alloc: A, reader: &mut Reader<'_>) -> Result
 
 /// Reads all of the bytes as a certificate.
 ///
-/// Refuses `Text` where they spell none, and `Memory` only where a growth was refused. In the first
-/// two formats what it reserves grows with what it has read. In the third it reserves, as soon as
-/// all lines are read and the rows can be made, the whole table and all separators: 2 bytes for each
-/// of order² products and order·(order-1)/2 pairs.
+/// Refuses `Text` where they spell none, and `Memory` only where a growth was refused.
+///
+/// In the first two formats what it reserves grows with what it has read. In the third it reserves
+/// the whole table and all separators, order² and order·(order-1)/2 numbers of 2 bytes each, once
+/// all lines are read and it is known that the rows can be made.
 pub fn read<A: Allocator + Copy>(alloc: A, bytes: &[u8]) -> Result<Cert<A>, TextFault>
     // What is read is spelled so.
     ensures ok { IfOk result (λ c. Spells bytes.now c) }
