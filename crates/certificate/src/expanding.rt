@@ -56,8 +56,7 @@ fn marks<A: Allocator>(alloc: A, order: u16, portion: &[u16]) -> Result<Vec<bool
 
 /// The certificate with all that follows from its first rows.
 ///
-/// It reserves the whole table and all separators, and for a while as many bits as the table has
-/// numbers.
+/// It reserves the whole table and all separators, and for a while a bit for each product.
 pub fn expanded<A: Allocator + Copy>(alloc: A, fields: Fields<A>) -> Result<Cert<A>, AllocError>
     requires { HasFirstRows fields }
     ensures { IfOk result (λ cert. cert ≡ expanded (compact_of fields)) }
