@@ -2,7 +2,8 @@
 -- project's own.
 use Rattle.std.specs.Prelude.{◌≡◌, ℕ, ◌*◌, List, length}
 use Rattle.std.specs.List.{concat}
-use Rattle.misere_theory.specs.Certificates.{Certificate, InRanges}
+use Rattle.misere_theory.specs.Certificates.{Certificate}
+use Rattle.certificate_text.specs.Spelling.{IsWritable}
 use Rattle.certificate_text.specs.Reading.{rows_of}
 use Rattle.monoid_table.specs.Grids.{Grid}
 use Rattle.transition_algebra.specs.Pretending.{Pretending}
@@ -30,9 +31,9 @@ certificate_of p = record {
   apart = p.apart;
 }
 
--- the numbers lie in their ranges, and there is nothing behind the rows
+-- a text can say them, and there is nothing behind the rows
 pub record IsWhole (p : Fields) : Type 0 where
-  pub in_ranges : InRanges (certificate_of p)
+  pub writable : IsWritable (certificate_of p)
   pub rows_long : length p.rows ≡ p.order * p.order
   pub rows_joined : concat (rows_of p.order p.order p.rows) ≡ p.rows
 

@@ -3,6 +3,7 @@ ghost use Rattle.std.specs.Prelude.{◌≡◌, ◌≤◌, ◌+◌};
 ghost use Rattle.std.specs.List.{concat};
 ghost use Rattle.misere_theory.specs.declared.TheConstants.{LARGEST_ORDER, MOST_ENTRIES};
 ghost use Rattle.misere_theory.specs.Certificates.{InRanges, kind_of};
+ghost use Rattle.certificate_text.specs.Spelling.{IsWritable};
 ghost use Rattle.certificate.specs.Fields.{IsWhole, certificate_of, pretending_of};
 
 use crate::fields::Fields;
@@ -12,7 +13,8 @@ use std::alloc::{Allocator, Global};
 use std::marker::Model;
 use transition_algebra::Phi;
 
-/// A certificate: each number lies in its range, and each line has as many as it should.
+/// A certificate that a text can say: each number lies in its range, and each line has as many as it
+/// should.
 #[derive(Drop)]
 pub struct Cert<A: Allocator = Global> {
     fields: Fields<A>,
@@ -126,9 +128,10 @@ impl<A: Allocator> Cert<A> {
     }
 }
 
-/// Each number of a certificate lies in its range.
+/// A text can say a certificate, and so each of its numbers lies in its range.
 pub fn in_ranges<A: Allocator>(cert: &Cert<A>)
-    ensures { InRanges cert.now }
+    ensures ranges { InRanges cert.now }
+    ensures writable { IsWritable cert.now }
 {
     let _ = &cert.fields;
 }

@@ -1,14 +1,14 @@
 //! The lines up to the period.
 ghost use Rattle.std.specs.Prelude.{◌≤◌, ◌+◌, IfOk};
-ghost use Rattle.misere_theory.specs.declared.TheConstants.{LARGEST_ORDER, MOST_ENTRIES};
+ghost use Rattle.misere_theory.specs.declared.TheConstants.{LARGEST_ORDER, MOST_ENTRIES, LARGEST_PART};
 ghost use Rattle.certificate.specs.Given.{Gives};
-ghost use Rattle.certificate_text.specs.Reading.{code_line_at, numbers_at, front_at};
+ghost use Rattle.certificate_text.specs.Reading.{code_line_at, least_period, numbers_at, front_at};
 
 use crate::fault::TextFault;
 use crate::format::format_by;
 use crate::lines::field;
 use crate::reader::Reader;
-use misere_theory::{LARGEST_ORDER, MOST_ENTRIES};
+use misere_theory::{LARGEST_ORDER, LARGEST_PART, MOST_ENTRIES};
 use octal_code::Code;
 
 /// What the lines up to the period hold.
@@ -34,6 +34,18 @@ fn code_line(reader: &mut Reader<'_>) -> Result<Code, TextFault>
     }
 }
 
+/// The least period beside a start: there is no part where the start is 1, nor where it is above the
+/// largest part's.
+fn least_period(start: u16) -> u16
+    ensures { result ≡ least_period start }
+{
+    if LARGEST_PART + 1 < start {
+        1
+    } else {
+        2u16.saturating_sub(start)
+    }
+}
+
 /// The code, the order, the start and the period.
 #[tactic(auto, unfolding(certificate_text::specs::Reading::numbers_at))]
 fn number_lines(reader: &mut Reader<'_>) -> Result<Front, TextFault>
@@ -47,7 +59,7 @@ fn number_lines(reader: &mut Reader<'_>) -> Result<Front, TextFault>
     let code = code_line(reader)?;
     let order = field(reader, b"order", 2, LARGEST_ORDER + 1)?;
     let start = field(reader, b"start", 1, MOST_ENTRIES + 2)?;
-    let least = 2u16.saturating_sub(start);
+    let least = least_period(start);
     let period = field(reader, b"period", least, MOST_ENTRIES + 2 - start)?;
     Ok(Front {
         code,
@@ -66,9 +78,9 @@ pub fn front_lines(reader: &mut Reader<'_>) -> Result<Front, TextFault>
     ensures period { IfOk result (λ x. (1 ≤ x.start) × (2 ≤ x.start + x.period)
         × (x.start + x.period ≤ MOST_ENTRIES + 1)) }
 {
-    let format = field(reader, b"mqc", 1, 3)?;
+    let format = field(reader, b"mqc", 1, 4)?;
     let front = number_lines(reader)?;
-    if format == format_by(&front.code, front.order, front.period) {
+    if format == format_by(&front.code, front.order, front.start, front.period) {
         Ok(front)
     } else {
         Err(TextFault::Text)

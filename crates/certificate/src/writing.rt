@@ -53,7 +53,12 @@ fn put_lines<A: Allocator, W: Sink>(
 {
     match kind {
         LineKind::Version => {
-            let format = format_by(cert.code(), cert.order(), cert.period() as u16);
+            let format = format_by(
+                cert.code(),
+                cert.order(),
+                cert.start() as u16,
+                cert.period() as u16,
+            );
             put_line(sink, b"mqc", &[format])
         }
         LineKind::Code => put_code_line(sink, cert.code()),
