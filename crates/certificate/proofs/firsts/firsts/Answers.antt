@@ -1,4 +1,4 @@
-use Rattle.std.proofs.Common.{◌≢◌, ℕ, subst, arith}
+use Rattle.std.proofs.Common.{◌≢◌, ℕ, subst}
 use Rattle.certificate.proofs.KeyTests.{firsts_stop, all_are_first}
 use Rattle.certificate.proofs.firsts.firsts.Goals as goal
 
