@@ -1,15 +1,25 @@
 -- What is said in the positions of many lines, by the quotient that a file certifies, and why
 -- nothing is. This project's own.
-use Rattle.std.specs.Prelude.{◌≡◌, ◌≢◌, ◌<◌, ◌≤◌, ◌⊎◌, ◌&&◌, ℕ, Bool, true, false, List, [], ◌∷◌, ◌++◌, All, codes, length}
+use Rattle.std.specs.Prelude.{◌≡◌, ◌≢◌, ◌<◌, ◌≤◌, ◌⊎◌, ◌&&◌, ℕ, Bool, true, false, List, [], ◌∷◌, ◌++◌, Option, Some, None, All, codes, length}
 use Rattle.misere_theory.specs.Certificates.{Certificate}
 use Rattle.positions.specs.Text.{IsTextOf}
-use Rattle.check_command.specs.Checks.{Certifies, Checks, Failed}
+use Rattle.check_command.specs.Checks.{AreGiven, Certifies, Checks, Failed}
 use Rattle.command_results.specs.Stops.{IsFileCause}
 use Rattle.command_results.specs.declared.stop.Stop.{Stop}
 use Rattle.command_results.specs.declared.stop.Stop.TheVariants.{Read, Memory}
 use Rattle.play_command.specs.Lines.{no_position_line}
 use Rattle.play_command.specs.Plays.{IsNoPosition, PlaysIn}
 use Rattle.play_command.specs.declared.many.TheConstants.{LARGEST_INPUT}
+
+-- ---- what is given
+
+-- these are the lines: what is left of standard input, where that is known
+abbrev pub AreLinesOf : Option (List ℕ) → List ℕ → Type 0
+AreLinesOf left = AreGiven left None None
+
+-- these are the bytes of a certificate: what the file of this name holds, where that is known
+abbrev pub AreFileOf : Option (List ℕ → Option (List ℕ)) → List ℕ → List ℕ → Type 0
+AreFileOf files file = AreGiven None files (Some file)
 
 -- ---- what is said
 

@@ -1,10 +1,8 @@
 //! The answers in the positions of many lines.
 ghost use Rattle.std.specs.Prelude.{◌≡◌, ◌≤◌, false, IfOk, IfErr, vec_len};
-ghost use Rattle.folders.specs.Files.{Holds};
 ghost use Rattle.check_command.specs.Checks.{failed};
-ghost use Rattle.verdict_texts.specs.Streams.{AreKnownAs};
 ghost use Rattle.play_command.specs.Lines.{no_position_line};
-ghost use Rattle.play_command.specs.Many.{AnswersLine, AnswersLines, IsFirstLine, IsLinesCause, IsPlayLinesCause, PlaysLines};
+ghost use Rattle.play_command.specs.Many.{AnswersLine, AnswersLines, AreFileOf, AreLinesOf, IsFirstLine, IsLinesCause, IsPlayLinesCause, PlaysLines};
 
 use crate::playing::played;
 use answers::Certified;
@@ -69,10 +67,10 @@ fn lines_answers(alloc: Global, certified: &Certified, lines: &[u8]) -> Result<S
 
 /// All that is left of standard input, which is at most [`LARGEST_INPUT`] bytes: more can't be read.
 fn input_lines<S: Source>(alloc: Global, input: &mut S) -> Result<Vec<u8>, Stop<'static>>
-    ensures bytes { IfOk result (λ v. AreKnownAs (S.left input.old) v.items) }
+    ensures bytes { IfOk result (λ v. AreLinesOf (S.left input.old) v.items) }
     ensures bound { IfOk result (λ v. vec_len v ≤ LARGEST_INPUT) }
     ensures succeeds { IfOk result (λ _. S.failures input.new ≡ S.failures input.old) }
-    ensures stops { IfErr result (IsLinesCause (AreKnownAs (S.left input.old))
+    ensures stops { IfErr result (IsLinesCause (AreLinesOf (S.left input.old))
         (S.failures input.old) (S.failures input.new)) }
 {
     match read_whole(alloc, input, LARGEST_INPUT) {
@@ -99,10 +97,10 @@ pub fn play_lines<'a, F: Folder, S: Source>(
     folder: &mut F,
     input: &mut S,
 ) -> Result<Said, Stop<'a>>
-    ensures plays { IfOk result (λ s. PlaysLines (Holds (F.files folder.old) file.entry.now) limit
-        (AreKnownAs (S.left input.old)) s.text.items s.succeeds) }
+    ensures plays { IfOk result (λ s. PlaysLines (AreFileOf (F.files folder.old) file.entry.now) limit
+        (AreLinesOf (S.left input.old)) s.text.items s.succeeds) }
     ensures kept { F.files folder.new ≡ F.files folder.old }
-    ensures stops { IfErr result (IsPlayLinesCause file.entry.now (AreKnownAs (S.left input.old))
+    ensures stops { IfErr result (IsPlayLinesCause file.entry.now (AreLinesOf (S.left input.old))
         (failed (S.failures input.old) (F.failed_reads folder.old))
         (failed (S.failures input.new) (F.failed_reads folder.new))) }
 {
