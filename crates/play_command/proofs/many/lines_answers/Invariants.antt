@@ -1,5 +1,5 @@
 use Rattle.std.proofs.Common.{length}
-use Rattle.play_command.proofs.Lines.{Answered}
+use Rattle.play_command.proofs.Answered.{Answered}
 use Rattle.play_command.proofs.many.lines_answers.Given as goal
 
 abbrev pub invariant-loop-rest : goal.invariant-loop-rest

@@ -1,21 +1,20 @@
 -- Lines that are answered one after another.
-use Rattle.std.proofs.Common.{◌≡◌, ◌≢◌, ◌∙◌, ◌+◌, ◌<◌, ◌&&◌, ◌==◌, ℕ, Bool, true, false, List, [], ◌∷◌, ◌++◌, Option, Some, None, append_assoc, append-nil, ap, arith, inl, inr, length, refl, subst, sym}
-use Rattle.std.specs.Io.KnownBytes.{Consumes, IsAtEnd}
+use Rattle.std.proofs.Common.{◌≡◌, ◌≢◌, ◌∙◌, ◌<◌, ◌&&◌, ◌==◌, ◌↔◌, ℕ, Bool, true, false, List, [], ◌∷◌, ◌++◌, Option, Some, None, Result, Ok, Err, IfOk, append_assoc, append-nil, ap, arith, inl, inr, length, refl, subst, sym}
+use Rattle.std.specs.Io.KnownBytes.{Consumes}
 use Rattle.std.proofs.lemmas.Bool.{eqb-true}
 use Rattle.std.proofs.lemmas.List.{length-append}
 use Rattle.misere_theory.specs.Certificates.{Certificate}
+use Rattle.positions.specs.Text.{HasTooLarge, HasTooMany, IsNoPositionText, IsTextOf}
+use Rattle.positions.specs.declared.fault.PositionFault.{PositionFault}
+use Rattle.positions.specs.declared.fault.PositionFault.TheVariants.{Text, TooMany, TooLarge}
+use Rattle.positions.specs.declared.position.TheConstants.{MOST_SIZES, LARGEST_HEAP}
+use Rattle.command_results.specs.declared.said.Said.{Said}
+use Rattle.play_command.specs.Plays.{IsNoPosition, PlaysIn}
 use Rattle.play_command.specs.Many.{AnswersLine, AnswersLines, AreLinesOf, IsFirstLine, IsTooLong}
+use Rattle.play_command.specs.Many.AnswersLine.{InPosition}
 use Rattle.play_command.specs.Many.AnswersLines.{NoLine, Line}
 
 -- ---- what is read
-
--- a stream whose end was reached
-pub whole : (before after : Option (List ℕ)) (read : List ℕ) → Consumes before after read
-    → IsAtEnd after → AreLinesOf before read
-whole None after read consumed end = tt
-whole (Some bytes) None read consumed end = absurd consumed
-whole (Some bytes) (Some rest) read consumed end =
-    consumed ∙ ap (λ (r : List ℕ). read ++ r) end ∙ append-nil read
 
 longer : (bytes read rest : List ℕ) → bytes ≡ read ++ rest → 4194304 < length read
     → 4194304 < length bytes
@@ -42,29 +41,41 @@ is_nothing b (x ∷ xs) t h =
     absurd (let none : length (x ∷ xs) ≡ 0 = eqb-true (length (x ∷ xs)) 0 (sym h ∙ t) in
     omega arith)
 
-some_length : (xs : List ℕ) → xs ≢ [] → 0 < length xs
-some_length [] some = absurd (some refl)
-some_length (x ∷ xs) some = omega arith
-
--- fewer bytes are left behind a line
-pub fewer : (bytes line rest : List ℕ) → bytes ≢ [] → IsFirstLine bytes line rest
-    → length rest < length bytes
-fewer bytes line rest some (lacks, inl is) =
-    let long = ap length is ∙ length-append line (10 ∷ rest) in omega (arith, long)
-fewer bytes line rest some (lacks, inr is) =
-    let none = ap length is.1 in
-    let one = some_length bytes some in
-    omega (arith, none, one)
-
 -- ---- what is said
 
 and_assoc : (a b c : Bool) → ((a && b) && c) ≡ (a && (b && c))
 and_assoc true b c = refl
 and_assoc false b c = refl
 
+-- whether both are so
+pub if_so : (a b r : Bool) → a ≡ true → r ≡ b → r ≡ (a && b)
+if_so true b r e is = is
+if_so false b r e is = cc
+
+pub if_not : (a b r : Bool) → a ≡ false → r ≡ a → r ≡ (a && b)
+if_not true b r e is = cc
+if_not false b r e is = is
+
 and_true : (a : Bool) → (a && true) ≡ a
 and_true true = refl
 and_true false = refl
+
+-- a line that is read as a position isn't none
+pub is_position : {A : Type 0} (line : List ℕ) (r : Result A PositionFault) (X : A) → r ≡ Ok X
+    → ((r ≡ Err Text) ↔ IsNoPositionText line)
+    → ((r ≡ Err TooMany) ↔ HasTooMany MOST_SIZES line)
+    → ((r ≡ Err TooLarge) ↔ HasTooLarge MOST_SIZES LARGEST_HEAP line) → IsNoPosition line → ⊥
+is_position line r X is text many large (inl none) = let fails = text.1 none in cc
+is_position line r X is text many large (inr (inl none)) = let fails = many.1 none in cc
+is_position line r X is text many large (inr (inr none)) = let fails = large.1 none in cc
+
+-- what is said in a position is said of its line
+pub in_position : {E : Type 0} (c : Certificate) (line X : List ℕ) (r : Result Said E)
+    → IsTextOf line X → (IsNoPosition line → ⊥)
+    → IfOk r (λ s. PlaysIn c X s.text.items s.succeeds)
+    → IfOk r (λ s. AnswersLine c line s.text.items s.succeeds)
+in_position c line X (Ok s) read some plays = InPosition X read some plays
+in_position c line X (Err e) read some plays = tt
 
 -- The text is what is said of the lines before the rest: what is said of the rest goes on with it.
 abbrev pub Answered : Certificate → (bytes rest text : List ℕ) → Bool → Type 0
