@@ -158,7 +158,7 @@ static LINES: [(&str, &str, &str, bool); 14] = [
         "wins 5 -> 4\nrefused 23 Beyond\nlost\n",
         false,
     ),
-    (PART_OF_0_8, "4 4\n4\n", "wins 4 -> 1 1 1\nwins 4 -> 1 1 1\n", true),
+    (PART_OF_0_8, "4 4\n4\n", "wins 4 -> 1 1 1\nlost\n", true),
     ("mqc 1\n", "1\n", "no 1 Text\n", false),
 ];
 
