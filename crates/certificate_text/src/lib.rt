@@ -5,6 +5,9 @@
 //! (specs/Reading.antt) reads from left to right. Nothing here runs.
 #![tactic(auto)]
 
+/// How many bytes a text in the third format has at most.
+pub const LONGEST_TEXT: usize = 4194304;
+
 ghost use Rattle.std.specs.Prelude.{◌≡◌, ◌≢◌, ◌++◌, ◌∷◌, ◌*◌, ◌<◌, ◌≤◌, ◌^◌, ℕ, List, [], Some, All, length, codes};
 ghost use Rattle.std.specs.List.{concat};
 ghost use Rattle.std.specs.Fmt.{decimal};
