@@ -73,7 +73,6 @@ def format_by(code: str, order: int, start: int, period: int) -> int:
     return 1 if not is_hexadecimal(code) and order <= LARGEST_FIRST_ORDER and period else 2
 
 
-Row = array  # of numbers below 65536
 Key = tuple[int, int]
 
 
@@ -88,8 +87,8 @@ class Certificate:
     phi: list[int]
     portion: list[int]
     keys: list[Key]
-    rows: list[Row[int]] = field(default_factory=list)
-    apart: Row[int] = field(default_factory=lambda: array("H"))
+    rows: list[array[int]] = field(default_factory=list)
+    apart: array[int] = field(default_factory=lambda: array("H"))
 
     @property
     def format(self) -> int:
@@ -109,7 +108,7 @@ def contexts_of(rows: Sequence[Sequence[int]], portion: Sequence[int]) -> list[i
     return [int("".join([mark[it] for it in reversed(row)]), 2) for row in rows]
 
 
-def least_separators(rows: Sequence[Sequence[int]], portion: Sequence[int]) -> Row[int]:
+def least_separators(rows: Sequence[Sequence[int]], portion: Sequence[int]) -> array[int]:
     """For each pair of elements the least one that takes exactly one of them into the portion, or 0."""
     contexts, apart = contexts_of(rows, portion), array("H")
     # (what the first elements tell apart takes small numbers alone)
@@ -172,7 +171,7 @@ class Lines:
         return self.number(parts[0], 0, order - 1), self.number(parts[1], 1, heaps)
 
 
-def expanded(it: Certificate, firsts: list[Row[int]]) -> Certificate:
+def expanded(it: Certificate, firsts: list[array[int]]) -> Certificate:
     """The certificate with all rows and separators, as they follow from the rows of the first elements."""
     first, heaps = len(firsts), (0, *it.phi)
     is_so(max(it.phi) <= first, "a heap's element is none of the first ones")

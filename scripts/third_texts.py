@@ -45,7 +45,7 @@ def largest() -> Certificate:
 
 def long(size: int) -> str:
     """A text of the third format of so many bytes: rows to just below, and a portion and a code that fill the rest."""
-    it = certificate("0.3", cyclic(4096), range(1, 211), 1, 210, whole=False)
+    it = certificate("0.3", cyclic(4096), range(1, 215), 1, 214, whole=False)
     rest = size - len(text_of(dataclasses.replace(it, portion=[0])))
     # (an element of the portion takes 5 bytes from 1000 on, and a digit of the code one)
     it.code += "0" * (rest % 5 - 1) + "1" if rest % 5 else ""
@@ -154,6 +154,16 @@ def long_texts() -> Iterator[Named]:
     """Texts of the most bytes, and of one more."""
     yield f"{LONGEST_TEXT} bytes", long(LONGEST_TEXT), True
     yield f"{LONGEST_TEXT + 1} bytes", long(LONGEST_TEXT + 1), False
+
+
+def small() -> Iterator[str]:
+    """Some right texts that aren't long, to change at random."""
+    yield from (text_of(made()[name]) for name in ("order 513", "order 720", "1,025 entries"))
+
+
+def accepted() -> str:
+    """A text that is accepted: of the first heaps of a tame game, up to the one with which the order is above 512."""
+    return text_of(part("c.fedb", 137))
 
 
 def texts() -> Iterator[Named]:
