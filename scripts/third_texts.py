@@ -157,8 +157,9 @@ def long_texts() -> Iterator[Named]:
 
 
 def small() -> Iterator[str]:
-    """Some right texts that aren't long, to change at random."""
-    yield from (text_of(made()[name]) for name in ("order 513", "order 720", "1,025 entries"))
+    """Some right texts that aren't long, to change at random. (Of few heaps: with a code of many options the check of
+    one of many heaps would take long.)"""
+    yield from (text_of(made()[name]) for name in ("order 513", "order 720"))
 
 
 def accepted() -> str:
