@@ -64,10 +64,10 @@ fn is_refuted_at_length(alloc: Global, bytes: &[u8]) -> bool {
     }
 }
 
-/// Whether the certificate over the largest group has more than 2^16 bytes and is refuted.
-fn refutes_largest(alloc: Global, but_the_last: bool) -> bool {
-    match cyclic(alloc, 256, but_the_last) {
-        Some(text) => text.len() > 65536 && is_refuted_at_length(alloc, &text),
+/// Whether the certificate over a group has more than 2^13 bytes and is refuted.
+fn refutes(alloc: Global, order: u16, but_the_last: bool) -> bool {
+    match cyclic(alloc, order, but_the_last) {
+        Some(text) => text.len() > 8192 && is_refuted_at_length(alloc, &text),
         None => false,
     }
 }
@@ -80,12 +80,20 @@ fn number_of_longest(alloc: Global) -> u8 {
     }
 }
 
-/// More than 2^16 bytes, the largest order, more than 256 members, and words of more than 64 heaps:
-/// those of a member where the rule fails outside the portion, and those of an element's keys where
-/// it fails inside. Then the longest pretending function, and so the most heaps, of the code with
-/// the most digits.
+/// The first format's largest order, of a text of more than 2^16 bytes, more than 256 members, and
+/// words of more than 64 heaps: those of a member where the rule fails outside the portion, and those
+/// of an element's keys where it fails inside. Then the longest pretending function, and so the most
+/// heaps, of the code with the most digits.
 #[test]
 fn memory_suffices_for_the_largest(rt: HostRuntime) {
-    assert!(rt; refutes_largest(rt.alloc(), true) && refutes_largest(rt.alloc(), false));
+    assert!(rt; refutes(rt.alloc(), 256, true) && refutes(rt.alloc(), 256, false));
     assert!(rt; number_of_longest(rt.alloc()) == 7);
+}
+
+/// Sets of elements take more room from some orders on.
+#[test]
+fn orders_of_each_width(rt: HostRuntime) {
+    for order in [66, 258, 512, 514, 1024, 1026] {
+        assert!(rt; refutes(rt.alloc(), order, true), "{order}");
+    }
 }
