@@ -1,8 +1,8 @@
 //! The lines of a certificate in the third format, each changed in turn.
 use crate::certificate_tests::{comes_back, fault_of};
 use crate::texts::{Repeats, text_of};
-use certificate::{Cert, TextFault, read};
-use std::alloc::{AllocError, Allocator, Global};
+use certificate::{TextFault, read};
+use std::alloc::{Allocator, Global};
 
 /// The table of 0.33, and elements of 1,026 heaps.
 static OF_0_33: [(Repeats, usize); 1] = [(
@@ -185,11 +185,22 @@ fn count_refused(alloc: Global, text: &str) -> usize {
     held
 }
 
-/// How many changed texts are read, and how many are refused.
+/// How long the first beginning of the text is that is not refused as no certificate.
+fn first_read(alloc: Global, bytes: &[u8]) -> usize {
+    for n in 0..bytes.len() {
+        if fault_of(alloc, &bytes[..n]) != Err(TextFault::Text) {
+            return n;
+        }
+    }
+    bytes.len()
+}
+
+/// How many changed texts are read, and how many are refused, if the text itself is read, and none of
+/// its beginnings.
 fn counts(alloc: Global) -> Option<(usize, usize)> {
     let bytes = text_of(alloc, &OF_0_33).ok()?;
     let text = std::str::from_utf8(&bytes).ok()?;
-    if !has_table(alloc, &bytes, ROWS, APART) {
+    if !has_table(alloc, &bytes, ROWS, APART) || first_read(alloc, &bytes) != bytes.len() {
         return None;
     }
     Some((count_kept(alloc, text), count_refused(alloc, text)))
