@@ -64,11 +64,13 @@ fn is_refuted_at_length(alloc: Global, bytes: &[u8]) -> bool {
     }
 }
 
-/// Whether the certificate over a group has more than 2^13 bytes and is refuted.
-fn refutes(alloc: Global, order: u16, but_the_last: bool) -> bool {
-    match cyclic(alloc, order, but_the_last) {
-        Some(text) => text.len() > 8192 && is_refuted_at_length(alloc, &text),
-        None => false,
+/// How many bytes the certificate over a group has, if it is refuted.
+fn length_of_refuted(alloc: Global, order: u16, but_the_last: bool) -> Option<usize> {
+    let text = cyclic(alloc, order, but_the_last)?;
+    if is_refuted_at_length(alloc, &text) {
+        Some(text.len())
+    } else {
+        None
     }
 }
 
@@ -86,7 +88,8 @@ fn number_of_longest(alloc: Global) -> u8 {
 /// heaps, of the code with the most digits.
 #[test]
 fn memory_suffices_for_the_largest(rt: HostRuntime) {
-    assert!(rt; refutes(rt.alloc(), 256, true) && refutes(rt.alloc(), 256, false));
+    assert!(rt; length_of_refuted(rt.alloc(), 256, true) > Some(65536));
+    assert!(rt; length_of_refuted(rt.alloc(), 256, false) > Some(65536));
     assert!(rt; number_of_longest(rt.alloc()) == 7);
 }
 
@@ -94,6 +97,9 @@ fn memory_suffices_for_the_largest(rt: HostRuntime) {
 #[test]
 fn orders_of_each_width(rt: HostRuntime) {
     for order in [66, 258, 512, 514, 1024, 1026] {
-        assert!(rt; refutes(rt.alloc(), order, true), "{order}");
+        assert!(rt;
+            length_of_refuted(rt.alloc(), order, true).is_some(),
+            "{order}"
+        );
     }
 }
