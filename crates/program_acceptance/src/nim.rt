@@ -71,7 +71,7 @@ impl Numbered {
 }
 
 /// All elements by their least keys.
-fn numbered(alloc: Global) -> Result<Numbered, AllocError> {
+fn by_least_keys(alloc: Global) -> Result<Numbered, AllocError> {
     let mut numbered = Numbered {
         count: 1,
         names: vec![in alloc; 0u16]?,
@@ -107,7 +107,7 @@ fn put_row(
 
 /// The quotient of 0.e8 for the heaps up to the last.
 pub fn nim(alloc: Global) -> Result<String, AllocError> {
-    let numbered = numbered(alloc)?;
+    let numbered = by_least_keys(alloc)?;
     let mut text = format!(in alloc; "mqc 3\ncode 0.e8\norder {ORDER}\nstart 258\nperiod 0\nphi")?;
     for element in 0..LAST {
         put(alloc, &mut text, element)?;
