@@ -129,7 +129,15 @@ ROWS = [
     ),
     Row(
         "too many elements",
-        lambda: misere.solve("0.3", order=4097),
+        lambda: misere.solve("0.3", order=257),
+        misere.NotInRange,
+        ValueError,
+        15,
+        "order is 2 to 256",
+    ),
+    Row(
+        "too many elements by many heaps",
+        lambda: misere.solve("0.3", order=4097, deep=True),
         misere.NotInRange,
         ValueError,
         15,

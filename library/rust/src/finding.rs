@@ -29,7 +29,7 @@ pub struct Bounds {
     pub rounds: u32,
     /// Of which heaps the quotient is.
     pub aim: Aim,
-    /// The most elements of a quotient, 2 to 4096.
+    /// The most elements of a quotient, 2 to 4096, or to 256 of all heaps by at most 64.
     pub order: u32,
 }
 
