@@ -3,6 +3,7 @@ use Rattle.std.proofs.Common.{◌≡◌, ℕ, suc, ◌+◌, ◌<◌, List, [], �
 use Rattle.std.specs.List.{AllByRecursion}
 use Rattle.std.proofs.lemmas.List.Elements.{All-from_recursion, recursion_from_All}
 use Rattle.misere_theory.specs.Certificates.{Certificate, InRanges, pairs_from}
+use Rattle.compact_certificates.proofs.Made.{IsRow}
 use Rattle.certificate_text.proofs.Words.{KeyFits}
 use Rattle.certificate_text.proofs.Fields.{RisesFrom}
 use Rattle.certificate_text.proofs.Rows.{RowFits}
@@ -10,10 +11,6 @@ use Rattle.certificate_text.proofs.Counts.{pairs_count, rises_below, rises_incre
 use Rattle.certificate_text.proofs.Front.{period_by, least_of}
 use Rattle.certificate_text.proofs.Lists.{ListsFit}
 use Rattle.certificate_text.proofs.Tables.{TableFits}
-
--- a row of as many elements below q
-abbrev pub IsRow : ℕ → List ℕ → Type 0
-IsRow q row = (length row ≡ q) × All (λ x. x < q) row
 
 pub rows_all : (order : ℕ) (rows : List (List ℕ)) → AllByRecursion (RowFits order) rows
     → AllByRecursion (IsRow order) rows

@@ -8,11 +8,11 @@ use Rattle.std.proofs.lemmas.List.Elements.{recursion_from_All, All-take, All-dr
 use Rattle.misere_theory.specs.Certificates.{Certificate, InRanges, IsCode, format_of}
 use Rattle.compact_certificates.specs.Rows.{firsts_of}
 use Rattle.compact_certificates.specs.Compact.{compacted}
+use Rattle.compact_certificates.proofs.Made.{IsRow}
 use Rattle.octal_code.specs.Text.{code_text, IsCodeText}
 use Rattle.certificate_text.specs.Spelling.{Line, text, key_word, row_line, said, apart_lines, Spells}
 use Rattle.certificate_text.specs.Lines.{IsNumber, AreWords, IsKey, IsLine, AreRows, AreApart, IsFixed, SpellsByLines}
 use Rattle.certificate_text.proofs.Front.{format_in}
-use Rattle.certificate_text.proofs.Ranges.{IsRow}
 use Rattle.certificate_text.proofs.Digits.{is_decimal, decimal_is}
 
 module _ {X : Type 0} (IsWord : List ℕ → X → Type 0) (spell : X → List ℕ) (Fits : X → Type 0)

@@ -12,6 +12,7 @@ use Rattle.compact_certificates.specs.Rows.{firsts_of}
 use Rattle.compact_certificates.specs.Compact.{HasTable, IsCompact, compacted, expanded}
 use Rattle.compact_certificates.proofs.Firsts.{told_by_test, test_told}
 use Rattle.compact_certificates.proofs.Back.{comes_back, left_compact}
+use Rattle.compact_certificates.proofs.Made.{IsRow}
 use Rattle.compact_certificates.proofs.Expanding.{made_table, made_apart, made_follows, left_again}
 use Rattle.certificate_text.specs.declared.TheConstants.{LONGEST_TEXT}
 use Rattle.certificate_text.specs.Spelling.{text, lines, IsWritable, Spells}
@@ -20,14 +21,14 @@ use Rattle.certificate_text.proofs.Numbers.{bind_some, test_some}
 use Rattle.certificate_text.proofs.Front.{numbers_text}
 use Rattle.certificate_text.proofs.Lists.{behind_front, lists_text, bare, ListsFit, limits_of, lists_take, lists_again}
 use Rattle.certificate_text.proofs.Tables.{RowsFit, table_text, table_takes, table_again, first_rows_text, first_rows_take, first_rows_again}
-use Rattle.certificate_text.proofs.Ranges.{IsRow, rows_all, all_rows, rows_in, ranges_of, lists_fit, table_fits}
+use Rattle.certificate_text.proofs.Ranges.{rows_all, all_rows, rows_in, ranges_of, lists_fit, table_fits}
 use Rattle.certificate_text.proofs.Grouped.{text_then, table_lines, text_is, full_text, first_text}
 
 -- ---- reading, by the format
 
 -- the lists are read, and then all of the table
-record ReadsAll (bytes : List ℕ) (l : Certificate) (behind : List ℕ) (c : Certificate)
-    (rest : List ℕ) : Type 0 where
+record ReadsAll (l : Certificate) (behind : List ℕ) (c : Certificate) (rest : List ℕ)
+    : Type 0 where
   full : (format_of l == 3) ≡ false
   table : table_at l behind ≡ Some (c, rest)
 
@@ -45,7 +46,7 @@ by_format : (bytes : List ℕ) (l : Certificate) (behind : List ℕ) (c : Certif
     cond (nat_le (length bytes) (LONGEST_TEXT + length made.1)) (Some made) None)
     (table_at l behind)
     ≡ Some (c, rest)
-    → ReadsAll bytes l behind c rest ⊎ ReadsFirst bytes l behind c rest
+    → ReadsAll l behind c rest ⊎ ReadsFirst bytes l behind c rest
 by_format bytes l behind c rest e = elim (cases_Bool (format_of l == 3)) [
   | inl third ↦
       let made = bind_some (sym (cond-true _ _ _ third) ∙ e) in
@@ -64,7 +65,7 @@ by_format bytes l behind c rest e = elim (cases_Bool (format_of l == 3)) [
 read_by_parts : (bytes : List ℕ) (c : Certificate) (rest : List ℕ)
     → certificate_at bytes ≡ Some (c, rest)
     → (l : Certificate) × (behind : List ℕ) × (lists_at bytes ≡ Some (l, behind))
-    × (ReadsAll bytes l behind c rest ⊎ ReadsFirst bytes l behind c rest)
+    × (ReadsAll l behind c rest ⊎ ReadsFirst bytes l behind c rest)
 unfolding certificate_at
 read_by_parts bytes c rest e =
     let lists = bind_some e in (
@@ -75,7 +76,7 @@ read_by_parts bytes c rest e =
     )
 
 reads_all : (bytes : List ℕ) (l : Certificate) (behind : List ℕ) (c : Certificate)
-    (rest : List ℕ) → lists_at bytes ≡ Some (l, behind) → ReadsAll bytes l behind c rest
+    (rest : List ℕ) → lists_at bytes ≡ Some (l, behind) → ReadsAll l behind c rest
     → certificate_at bytes ≡ Some (c, rest)
 unfolding certificate_at
 reads_all bytes l behind c rest e r = rw (e, r.full, r.table) refl
@@ -94,7 +95,7 @@ IsSaid bytes c rest = IsWritable c × (bytes ≡ text (lines c) ++ rest)
 
 all_said : (bytes : List ℕ) (l : Certificate) (behind : List ℕ) (c : Certificate)
     (rest : List ℕ) → bytes ≡ lists_text l behind → ListsFit l
-    → ReadsAll bytes l behind c rest → IsSaid bytes c rest
+    → ReadsAll l behind c rest → IsSaid bytes c rest
 all_said bytes l behind c rest e fits r =
     let limits = limits_of l fits.front in
     let t = table_takes l behind c rest limits.low limits.small r.table in
