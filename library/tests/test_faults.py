@@ -125,7 +125,7 @@ ROWS = [
         misere.NotInRange,
         ValueError,
         15,
-        "heaps is 2 to 3090, and 1 isn't",
+        "heaps is 2 to 8210, and 1 isn't",
     ),
     Row(
         "too many elements",
@@ -137,7 +137,7 @@ ROWS = [
     ),
     Row("no rounds", lambda: misere.solve("0.3", rounds=0), misere.NotInRange, ValueError, 15, "rounds is 1 to 1000"),
     Row("no last heap", lambda: misere.solve_part("0.3", 0), misere.NotInRange, ValueError, 15, "heaps is 1 to 1024"),
-    Row("one element", lambda: misere.solve_furthest("0.3", 1), misere.NotInRange, ValueError, 15, "order is 2 to 512"),
+    Row("one element", lambda: misere.solve_furthest("0.3", 1), misere.NotInRange, ValueError, 15, "order is 2 to 4096"),
     Row("heaps and deep", lambda: misere.solve("0.3", heaps=9, deep=True), misere.WrongType, TypeError, 15, "deep"),
     Row("given up", lambda: misere.solve("0.77", heaps=8), misere.NotFound, LookupError, 13, "heaps to 8"),
     Row("no output", lambda: full.describe(wrong("verse")), misere.NotInRange, ValueError, 15, "'verse' is none"),

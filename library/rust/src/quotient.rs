@@ -11,7 +11,7 @@ use std::fmt;
 use std::sync::Arc;
 
 /// As many bytes are room for any certificate.
-const MOST: usize = 1 << 21;
+const MOST: usize = 1 << 22;
 
 /// As many bytes are room for most descriptions.
 const USUAL: usize = 1 << 16;
