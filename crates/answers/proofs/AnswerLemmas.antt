@@ -35,7 +35,7 @@ module _ (one : (b : List ℕ) (c d : Certificate) → Spells b c → Spells b d
     faulty_never : {A : Type 0} (v : Verdict) → ((X : List ℕ) → v ≡ Fails X → ⊥) → (v ≡ Over → ⊥)
         → IsAllowed c limit v → A
     faulty_never v n o h =
-        elim (outcome_or_limit c s.in_ranges m k wrong limit v h)
+        elim (outcome_or_limit c s.writable.in_ranges m k wrong limit v h)
         [ inl p ↦ absurd (n p.0 p.1) | inr e ↦ absurd (o e) ]
 
     pub wrong_answers : (a : ByteVerdict) → Holds bytes limit a → ((X : List ℕ) × (a ≡ Outcome c.code X))
@@ -48,7 +48,7 @@ module _ (one : (b : List ℕ) (c d : Certificate) → Spells b c → Spells b d
     wrong_answers Memory t = inr (inr refl)
 
   pub never_limit : c.order * 2 ^ c.order ≤ limit → Holds bytes limit Limit → ⊥
-  never_limit l t = never_past_all_pairs c s.in_ranges limit l (fits Limit t)
+  never_limit l t = never_past_all_pairs c s.writable.in_ranges limit l (fits Limit t)
 
 pub true_answer : (one : (b : List ℕ) (c d : Certificate) → Spells b c → Spells b d → c ≡ d)
     (text : (a b : List ℕ) (c d : Certificate) → Spells a c → Spells b d → Accepted c → Accepted d

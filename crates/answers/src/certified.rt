@@ -10,7 +10,7 @@ use crate::spelling::position_of;
 use crate::values::{element, product, times};
 use allocation::{Memory, SmallAllocator};
 use certificate::Cert;
-use element_sets::ElementSet;
+use element_sets::LaneSet;
 use positions::{INLINE, Position};
 use std::alloc::{Allocator, Global};
 use std::marker::Model;
@@ -23,8 +23,8 @@ use std::marker::Model;
 #[derive(Drop)]
 pub struct Certified<A: Allocator = Global> {
     cert: Cert<A>,
-    /// The portion.
-    inside: ElementSet,
+    /// The portion, in as many lanes as the largest order needs.
+    inside: LaneSet<64>,
 }
 
 impl<A: Allocator> Model for Certified<A> {
@@ -40,7 +40,7 @@ impl<A: Allocator> Model for Certified<A> {
 
 impl<A: Allocator> Certified<A> {
     /// Keeps a certificate that is accepted, with its portion as a set.
-    pub fn new(cert: Cert<A>, inside: ElementSet) -> Certified<A>
+    pub fn new(cert: Cert<A>, inside: LaneSet<64>) -> Certified<A>
         requires accepted { Accepted cert }
         requires portion { IsPortion cert inside }
         ensures { result ≡ cert }

@@ -6,7 +6,7 @@ use Rattle.serde_json.specs.Data.{Data, Members, object, put}
 use Rattle.serde_json.specs.Events.{members_len}
 use Rattle.serde_json.specs.Find.{get_member, as_str, as_number, as_u64}
 use Rattle.serde_json.proofs.Views.{get_member-put, get_member-put_other}
-use Rattle.misere_theory.specs.declared.TheConstants.{MOST_ENTRIES}
+use Rattle.misere_theory.specs.declared.TheConstants.{LARGEST_PART}
 use Rattle.catalogue.specs.Files.{IsEntry, NamesHeaps, written}
 use Rattle.catalogue.specs.Reading.{one_if, counted, AreOf, AreOnly, AreFields, EntryIs, entry_names, text_at, whole_of}
 use Rattle.catalogue.specs.declared.file.Texts.{Texts}
@@ -157,7 +157,7 @@ module _ (ms : Members) where
 
   -- nor is one whose heaps are no whole number, or too many
   pub bad_heaps : (f : Fields) (x : Option ℕ) → f.heaps ≡ Some x
-      → ((n : ℕ) → x ≡ Some n → n ≤ MOST_ENTRIES → ⊥) → AreFields f ms → EntryIs None (object ms)
+      → ((n : ℕ) → x ≡ Some n → n ≤ LARGEST_PART → ⊥) → AreFields f ms → EntryIs None (object ms)
   bad_heaps f x o bad h e is = by e.heaps is.heaps
     where
       there : (d : Data) × (get_member heaps ms ≡ Some d) × (whole_of d ≡ x)
@@ -177,7 +177,7 @@ module _ (ms : Members) where
   named : (f : Fields) (t : Texts) → AreOnly entry_names ms → one_if (get_member certificate ms) ≡ 1
       → one_if (get_member code ms) ≡ 1 → (q : Option ℕ)
       → option_map {U = Option ℕ} Some q ≡ option_map whole_of (get_member heaps ms)
-      → IfSome q (λ n. n ≤ MOST_ENTRIES) → NamesHeaps (object ms) q
+      → IfSome q (λ n. n ≤ LARGEST_PART) → NamesHeaps (object ms) q
   named f t only a b None e l =
       let c : one_if (get_member heaps ms) ≡ 0 =
       ap one_if (map_none whole_of (get_member heaps ms) e) in
@@ -194,7 +194,7 @@ module _ (ms : Members) where
 
   -- the members are those of an entry
   pub entry_of : (f : Fields) (t : Texts) → f.others ≡ false → f.certificate ≡ Some t.certificate
-      → f.code ≡ Some t.code → f.heaps ≡ option_map Some t.heaps → IfSome t.heaps (λ n. n ≤ MOST_ENTRIES)
+      → f.code ≡ Some t.code → f.heaps ≡ option_map Some t.heaps → IfSome t.heaps (λ n. n ≤ LARGEST_PART)
       → AreFields f ms → IsEntry (object ms) (written t)
   entry_of f t o c k n l h =
       let cs : text_at certificate ms ≡ Some t.certificate.now =

@@ -1,17 +1,21 @@
 -- Certificates are ASCII, and the data of a catalogue has no float.
 -- So a certificate is a JSON string, and the text that `serde_json` writes is known.
-use Rattle.std.proofs.Common.{◌≡◌, ℕ, zero, suc, ◌+◌, ◌<◌, ◌≤◌, inl, inr, Bool, true, false, if◌then◌else◌, ◌||◌, List, [], ◌∷◌, ◌++◌, length, map, take, Option, Some, None, codes, decimal, All, refl, sym, ap, ◌∙◌, arith}
+use Rattle.std.proofs.Common.{◌≡◌, ℕ, zero, suc, ◌+◌, ◌==◌, ◌<◌, ◌≤◌, inl, inr, Bool, true, false, if◌then◌else◌, ◌||◌, List, [], ◌∷◌, ◌++◌, length, map, take, drop, Option, Some, None, codes, decimal, All, refl, sym, ap, ◌∙◌, arith}
 use Rattle.std.specs.Str.{IsAscii, IsUtf8}
 use Rattle.std.specs.Io.KnownBytes.{Appends}
 use Rattle.std.specs.List.{AllByRecursion}
+use Rattle.std.proofs.lemmas.List.Elements.{All-take, All-drop}
 use Rattle.std.proofs.lemmas.Str.{IsAscii-append, IsUtf8-from_ascii}
 use Rattle.std.proofs.lemmas.Str.Ascii.{IsAscii-nil, IsAscii-cons}
 use Rattle.std.proofs.lemmas.Fmt.{IsAscii-decimal}
 use Rattle.octal_code.specs.Text.{code_text, digit_byte}
 use Rattle.octal_code.proofs.Spelled.{byte_is_ascii}
-use Rattle.certificate_text.specs.Spelling.{Line, spaced, text, key_word, row_line, lines}
+use Rattle.certificate_text.specs.Spelling.{Line, spaced, text, key_word, row_line, said, lines}
+use Rattle.misere_theory.specs.declared.TheConstants.{LARGEST_ORDER, MOST_ENTRIES}
 use Rattle.misere_theory.specs.Games.{IsCode, IsFirstDigit}
 use Rattle.misere_theory.specs.Certificates.{Certificate, InRanges, format_of}
+use Rattle.compact_certificates.specs.Compact.{compacted}
+use Rattle.compact_certificates.specs.Rows.{firsts_of}
 use Rattle.serde_json.specs.View.{items_of}
 use Rattle.serde_json.specs.Written.{has_float, items_have_float}
 use Rattle.catalogue.specs.Texts.{entry_data, catalogue_data}
@@ -36,10 +40,10 @@ text_ascii (line ∷ ls) h =
     (IsAscii-append (spaced line.words) (10 ∷ text ls) (spaced_ascii line.words h.0.1)
     (IsAscii-cons 10 (text ls) (omega arith) (text_ascii ls h.1)))
 
-small_decimal : (n : ℕ) → n ≤ 2048 → IsAscii (decimal n)
+small_decimal : (n : ℕ) → n ≤ 8192 → IsAscii (decimal n)
 small_decimal n h = IsAscii-decimal n (omega arith)
 
-decimals : (q : ℕ) (xs : List ℕ) → q ≤ 512 → All (λ x. x < q) xs
+decimals : (q : ℕ) (xs : List ℕ) → q ≤ LARGEST_ORDER → All (λ x. x < q) xs
     → AllByRecursion IsAscii (map decimal xs)
 decimals q [] l h = tt
 decimals q (x ∷ xs) l h = (
@@ -47,12 +51,12 @@ decimals q (x ∷ xs) l h = (
   decimals q xs l (λ i d m. h (suc i) d (omega arith)),
 )
 
-key_ascii : (k : ℕ × ℕ) → k.0 ≤ 2048 → k.1 ≤ 2048 → IsAscii (key_word k)
+key_ascii : (k : ℕ × ℕ) → k.0 ≤ 8192 → k.1 ≤ 8192 → IsAscii (key_word k)
 key_ascii k a b =
     IsAscii-append (decimal k.0) (58 ∷ decimal k.1) (small_decimal k.0 a)
     (IsAscii-cons 58 (decimal k.1) (omega arith) (small_decimal k.1 b))
 
-keys : (q s : ℕ) (ks : List (ℕ × ℕ)) → q ≤ 512 → s ≤ 1025
+keys : (q s : ℕ) (ks : List (ℕ × ℕ)) → q ≤ LARGEST_ORDER → s ≤ MOST_ENTRIES + 1
     → All (λ k. (k.0 < q) × (1 ≤ k.1) × (k.1 < s)) ks → AllByRecursion IsAscii (map key_word ks)
 keys q s [] l m h = tt
 keys q s (k ∷ ks) l m h =
@@ -61,7 +65,7 @@ keys q s (k ∷ ks) l m h =
     let b = w.2 in
     (key_ascii k (omega arith) (omega arith), keys q s ks l m (λ i d n. h (suc i) d (omega arith)))
 
-rows_plain : (q : ℕ) (rows : List (List ℕ)) (behind : List Line) → q ≤ 512
+rows_plain : (q : ℕ) (rows : List (List ℕ)) (behind : List Line) → q ≤ LARGEST_ORDER
     → All (λ row. (length row ≡ q) × All (λ x. x < q) row) rows → AllByRecursion IsPlain behind
     → AllByRecursion IsPlain (map row_line rows ++ behind)
 rows_plain q [] behind l h b = b
@@ -91,12 +95,40 @@ code_ascii (d ∷ ds) h =
     IsAscii-cons (digit_byte d) (46 ∷ map digit_byte ds) (byte_is_ascii d (first_small d h.0))
     (IsAscii-cons 46 (map digit_byte ds) (omega arith) (digits_ascii ds h.3))
 
-one_or_two : (b : Bool) → (if b then 1 else 2) ≤ 2048
-one_or_two true = omega arith
-one_or_two false = omega arith
+one_to_three : (third first : Bool) → (if third then 3 else if first then 1 else 2) ≤ 8192
+one_to_three true first = omega arith
+one_to_three false true = omega arith
+one_to_three false false = omega arith
 
-format_small : (c : Certificate) → format_of c ≤ 2048
-format_small c = one_or_two _
+format_small : (c : Certificate) → format_of c ≤ 8192
+format_small c = one_to_three _ _
+
+abbrev AreRowsIn : ℕ → List (List ℕ) → Type 0
+AreRowsIn q rows = All (λ row. (length row ≡ q) × All (λ x. x < q) row) rows
+
+-- the rows that the text says are some of the table's
+said_rows : (c : Certificate) (third : Bool) → AreRowsIn c.order c.rows
+    → AreRowsIn c.order (if third then compacted c else c).rows
+said_rows c true h = All-take _ (firsts_of c.words) (drop 1 c.rows) (All-drop _ 1 c.rows h)
+said_rows c false h = h
+
+end_plain : AllByRecursion IsPlain (record { name = codes "end"; words = [] } ∷ [])
+end_plain = ((ascii (codes "end") (omega arith, (omega arith, (omega arith, tt))), tt), tt)
+
+-- the separators' line, where it stands, and the last one
+apart_plain : (c : Certificate) (third : Bool) → InRanges c
+    → AllByRecursion IsPlain
+    ((if third then [] else record { name = codes "apart"; words = map decimal c.apart } ∷ [])
+    ++ record { name = codes "end"; words = [] } ∷ [])
+apart_plain c true r = end_plain
+apart_plain c false r = (
+  (
+    ascii (codes "apart")
+        (omega arith, (omega arith, (omega arith, (omega arith, (omega arith, tt))))),
+    decimals c.order c.apart r.order.1 r.apart.1,
+  ),
+  end_plain,
+)
 
 lines_plain : (c : Certificate) → InRanges c → AllByRecursion IsPlain (lines c)
 lines_plain c r =
@@ -158,19 +190,9 @@ lines_plain c r =
                       ),
                       keys c.order (c.start + c.period) c.words q sp r.words.1,
                     ),
-                    rows_plain c.order c.rows _ q r.rows.1 (
-                      (
-                        ascii (codes "apart") (
-                          omega arith,
-                          (omega arith, (omega arith, (omega arith, (omega arith, tt)))),
-                        ),
-                        decimals c.order c.apart q r.apart.1,
-                      ),
-                      (
-                        (ascii (codes "end") (omega arith, (omega arith, (omega arith, tt))), tt),
-                        tt,
-                      ),
-                    ),
+                    rows_plain c.order (said c).rows _ q
+                        (said_rows c (format_of c == 3) r.rows.1)
+                        (apart_plain c (format_of c == 3) r),
                   ),
                 ),
               ),

@@ -5,7 +5,7 @@ use Rattle.serde_json.specs.Data.{Data, Items, number, string, array, object, it
 use Rattle.serde_json.specs.Find.{get, as_str, as_array, as_number, as_u64}
 use Rattle.serde_json.specs.Events.{members_len}
 use Rattle.serde_json.specs.Read.{read}
-use Rattle.misere_theory.specs.declared.TheConstants.{MOST_ENTRIES}
+use Rattle.misere_theory.specs.declared.TheConstants.{LARGEST_PART}
 use Rattle.catalogue.specs.declared.file.Texts.{Texts}
 
 -- the bytes are JSON, and d is its value
@@ -45,10 +45,10 @@ abbrev pub whole_at : List ℕ → Data → Option ℕ
 whole_at k d = option_and_then as_u64 (option_and_then as_number (get k d))
 
 -- beside two others the object has no member, or the member `heaps` alone, a whole number to
--- MOST_ENTRIES
+-- LARGEST_PART
 abbrev pub NamesHeaps : Data → Option ℕ → Type 0
 NamesHeaps d None = member_count d ≡ 2
-NamesHeaps d (Some n) = (member_count d ≡ 3) × (whole_at (codes "heaps") d ≡ Some n) × (n ≤ MOST_ENTRIES)
+NamesHeaps d (Some n) = (member_count d ≡ 3) × (whole_at (codes "heaps") d ≡ Some n) × (n ≤ LARGEST_PART)
 
 -- an object with exactly the members `code` and `certificate`, both texts, and maybe `heaps`
 pub record IsEntry (d : Data) (e : Written) : Type 0 where

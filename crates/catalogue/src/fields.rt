@@ -10,10 +10,10 @@ use crate::members::{Found, take_members};
 use crate::number::whole;
 use crate::passing::{pass_from, pass_value};
 use json::{Reader, Token};
-use misere_theory::MOST_ENTRIES;
+use misere_theory::LARGEST_PART;
 
 /// The most heaps that an entry may name: as many as a certificate has entries.
-const MOST_HEAPS: u64 = MOST_ENTRIES as u64;
+const MOST_HEAPS: u64 = LARGEST_PART as u64;
 
 /// What was found of an entry's members so far. Of a member that stands twice the last counts.
 #[derive(Clone, Copy)]

@@ -7,4 +7,8 @@ pub mod Codes
 pub mod Rows
 pub mod Counts
 pub mod Front
+pub mod Lists
+pub mod Tables
+pub mod Ranges
+pub mod Grouped
 pub mod Whole

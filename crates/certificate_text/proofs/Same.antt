@@ -1,14 +1,17 @@
 -- The relation by lines and the one text are the same.
 -- The words of a number are its decimal text, so that the lines agree one by one.
-use Rattle.std.proofs.Common.{◌≡◌, ℕ, ◌+◌, ◌^◌, ◌<◌, ◌≤◌, List, [], ◌∷◌, ◌++◌, map, length, All, refl, ap, ap₂, ◌∙◌, arith, codes}
+use Rattle.std.proofs.Common.{◌≡◌, ℕ, ◌+◌, ◌^◌, ◌<◌, ◌≤◌, ◌==◌, Bool, true, false, if◌then◌else◌, List, [], ◌∷◌, ◌++◌, map, drop, All, refl, sym, ap, ap₂, ◌∙◌, arith, codes}
 use Rattle.std.specs.Fmt.{decimal}
 use Rattle.std.specs.List.{AllByRecursion}
-use Rattle.std.proofs.lemmas.List.Elements.{recursion_from_All}
+use Rattle.std.proofs.lemmas.Bool.{cond-true, cond-false, eq-eqb, ne_eqb, eqb-true, eqb-false}
+use Rattle.std.proofs.lemmas.List.Elements.{recursion_from_All, All-take, All-drop}
 use Rattle.misere_theory.specs.Certificates.{Certificate, InRanges, IsCode, format_of}
+use Rattle.compact_certificates.specs.Rows.{firsts_of}
+use Rattle.compact_certificates.specs.Compact.{compacted}
+use Rattle.compact_certificates.proofs.Made.{IsRow}
 use Rattle.octal_code.specs.Text.{code_text, IsCodeText}
-use Rattle.certificate_text.specs.Spelling.{Line, text, key_word, row_line, Spells}
-use Rattle.certificate_text.specs.Lines.{IsNumber}
-use Rattle.certificate_text.specs.Lines.{AreWords, IsKey, IsLine, AreRows, IsFixed, SpellsByLines}
+use Rattle.certificate_text.specs.Spelling.{Line, text, key_word, row_line, said, apart_lines, Spells}
+use Rattle.certificate_text.specs.Lines.{IsNumber, AreWords, IsKey, IsLine, AreRows, AreApart, IsFixed, SpellsByLines}
 use Rattle.certificate_text.proofs.Front.{format_in}
 use Rattle.certificate_text.proofs.Digits.{is_decimal, decimal_is}
 
@@ -97,11 +100,19 @@ smaller_keys m n lm ln (k ∷ ks) h =
     ((omega (arith, h.0.0), omega (arith, h.0.2)), smaller_keys m n lm ln ks h.1)
 
 smaller_rows : (m : ℕ) → m ≤ 2 ^ 64 → (rows : List (List ℕ))
-    → AllByRecursion (λ row. (length row ≡ m) × All (λ x. x < m) row) rows
+    → AllByRecursion (IsRow m) rows
     → AllByRecursion (AllByRecursion Small) rows
 smaller_rows m le [] h = tt
 smaller_rows m le (r ∷ rs) h =
     (smaller m le r (recursion_from_All (λ x. x < m) r h.0.1), smaller_rows m le rs h.1)
+
+-- the rows that are said are rows of the certificate
+rows_by : (c : Certificate) (third : Bool) → All (IsRow c.order) c.rows
+    → All (IsRow c.order) (if third then compacted c else c).rows
+rows_by c true h =
+    All-take (IsRow c.order) (firsts_of c.words) (drop 1 c.rows)
+    (All-drop (IsRow c.order) 1 c.rows h)
+rows_by c false h = h
 
 record AreSmall (c : Certificate) : Type 0 where
   format : Small (format_of c)
@@ -111,7 +122,7 @@ record AreSmall (c : Certificate) : Type 0 where
   phi : AllByRecursion Small c.phi
   portion : AllByRecursion Small c.portion
   words : AllByRecursion SmallKey c.words
-  rows : AllByRecursion (AllByRecursion Small) c.rows
+  rows : AllByRecursion (AllByRecursion Small) (said c).rows
   apart : AllByRecursion Small c.apart
 
 are_small : (c : Certificate) → InRanges c → AreSmall c
@@ -131,9 +142,9 @@ are_small c h =
           (recursion_from_All (λ k. (k.0 < c.order) × (1 ≤ k.1) × (k.1 < c.start + c.period))
           c.words h.words.1);
       rows =
-          smaller_rows c.order q c.rows
-          (recursion_from_All (λ row. (length row ≡ c.order) × All (λ x. x < c.order) row) c.rows
-          h.rows.1);
+          smaller_rows c.order q (said c).rows
+          (recursion_from_All (IsRow c.order) (said c).rows
+          (rows_by c (format_of c == 3) h.rows.1));
       apart = smaller c.order q c.apart (recursion_from_All (λ x. x < c.order) c.apart h.apart.1);
     }
 
@@ -152,8 +163,33 @@ code_only w x fits h = h.spelled
 code_is : (x : List ℕ) → IsCode x → IsCodeText (code_text x) x
 code_is x fits = record { code = fits; spelled = refl }
 
+-- ---- the line of the separators
+
+apart_only : (c : Certificate) (ls : List Line) → AllByRecursion Small c.apart → AreApart c ls
+    → ls ≡ apart_lines c
+apart_only c [] fits h = sym (cond-true _ _ _ (eq-eqb _ _ h))
+apart_only c (l ∷ []) fits h =
+    ap (λ (m : Line). m ∷ [])
+    (line_only IsNumber decimal Small number_only decimal_is (codes "apart") l c.apart fits h.1)
+    ∙ sym (cond-false _ _ _ (ne_eqb _ _ h.0))
+apart_only c (l ∷ m ∷ ls) fits h = absurd h
+
+apart_by : (c : Certificate) (third : Bool) → (format_of c == 3) ≡ third
+    → AllByRecursion Small c.apart
+    → AreApart c (if third then [] else record { name = codes "apart"; words = map decimal c.apart } ∷ [])
+apart_by c true e fits = eqb-true _ _ e
+apart_by c false e fits = (
+  eqb-false _ _ e,
+  line_is IsNumber decimal Small number_only decimal_is (codes "apart") c.apart fits,
+)
+
+-- ---- all lines
+
 joined : {l m : Line} {ls ms : List Line} → l ≡ m → ls ≡ ms → l ∷ ls ≡ m ∷ ms
 joined e rest = ap₂ (λ (l : Line) (ls : List Line). l ∷ ls) e rest
+
+behind : {ls ms ls2 ms2 : List Line} → ls ≡ ms → ls2 ≡ ms2 → ls ++ ls2 ≡ ms ++ ms2
+behind e rest = ap₂ (λ (ls : List Line) (more : List Line). ls ++ more) e rest
 
 pub from_lines : (b : List ℕ) (c : Certificate) → SpellsByLines b c → Spells b c
 from_lines b c s =
@@ -170,15 +206,15 @@ from_lines b c s =
     let e8 =
     line_only IsKey key_word SmallKey key_only key_is (codes "words") s.words c.words
     small.words s.is_words in
-    let e9 = rows_only s.rows c.rows small.rows s.are_rows in
-    let e10 = number (codes "apart") s.apart c.apart small.apart s.is_apart in
+    let e9 = rows_only s.rows (said c).rows small.rows s.are_rows in
+    let e10 = apart_only c s.apart small.apart s.are_apart in
     let e11 = line_only IsFixed (λ w. w) Any fixed_only fixed_is (codes "end") s.end [] tt s.is_end
     in
     record {
       writable = s.writable;
       bytes = s.bytes ∙ ap text
           (joined e1 (joined e2 (joined e3 (joined e4 (joined e5 (joined e6 (joined e7 (joined e8
-          (ap₂ (λ (rs : List Line) (ls : List Line). rs ++ ls) e9 (joined e10 (joined e11 refl)))))))))));
+          (behind e9 (behind e10 (joined e11 refl)))))))))));
     }
 
 pub to_lines : (b : List ℕ) (c : Certificate) → Spells b c → SpellsByLines b c
@@ -195,8 +231,8 @@ to_lines b c s =
       phi = record { name = codes "phi"; words = map decimal c.phi };
       portion = record { name = codes "portion"; words = map decimal c.portion };
       words = record { name = codes "words"; words = map key_word c.words };
-      rows = map row_line c.rows;
-      apart = record { name = codes "apart"; words = map decimal c.apart };
+      rows = map row_line (said c).rows;
+      apart = apart_lines c;
       end = record { name = codes "end"; words = [] };
       bytes = s.bytes;
       is_version = number (codes "mqc") (format_of c ∷ []) (small.format, tt);
@@ -210,7 +246,7 @@ to_lines b c s =
       is_portion = number (codes "portion") c.portion small.portion;
       is_words =
           line_is IsKey key_word SmallKey key_only key_is (codes "words") c.words small.words;
-      are_rows = rows_are c.rows small.rows;
-      is_apart = number (codes "apart") c.apart small.apart;
+      are_rows = rows_are (said c).rows small.rows;
+      are_apart = apart_by c (format_of c == 3) refl small.apart;
       is_end = record { named = refl; worded = tt };
     }

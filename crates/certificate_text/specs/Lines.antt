@@ -1,9 +1,9 @@
 -- The text of a certificate as a relation between bytes and the certificate's numbers, by cases on
 -- numbers, words and lines. The format is this project's own.
-use Rattle.std.specs.Prelude.{◌≡◌, ℕ, ◌+◌, ◌*◌, ◌<◌, List, [], ◌∷◌, ◌++◌, codes}
+use Rattle.std.specs.Prelude.{◌≡◌, ◌≢◌, ℕ, ◌+◌, ◌*◌, ◌<◌, List, [], ◌∷◌, ◌++◌, codes}
 use Rattle.misere_theory.specs.Certificates.{Certificate, format_of}
 use Rattle.octal_code.specs.Text.{IsCodeText}
-use Rattle.certificate_text.specs.Spelling.{Line, text, IsWritable}
+use Rattle.certificate_text.specs.Spelling.{Line, text, said, IsWritable}
 
 -- The digits of a number, without leading zeros: one digit, or the digits of a number above 0 and
 -- one more digit.
@@ -44,6 +44,12 @@ AreRows [] (row ∷ rows) = ⊥
 AreRows (line ∷ lines) [] = ⊥
 AreRows (line ∷ lines) (row ∷ rows) = IsLine (codes "row") IsNumber line row × AreRows lines rows
 
+-- the line of the separators, or in the third format no line
+abbrev pub AreApart : Certificate → List Line → Type 0
+AreApart c [] = format_of c ≡ 3
+AreApart c (line ∷ []) = (format_of c ≢ 3) × IsLine (codes "apart") IsNumber line c.apart
+AreApart c (line ∷ next ∷ lines) = ⊥
+
 -- The bytes are these lines, and each says its part of the certificate.
 pub record SpellsByLines (b : List ℕ) (c : Certificate) : Type 0 where
   pub writable : IsWritable c
@@ -56,11 +62,11 @@ pub record SpellsByLines (b : List ℕ) (c : Certificate) : Type 0 where
   pub portion : Line
   pub words : Line
   pub rows : List Line
-  pub apart : Line
+  pub apart : List Line
   pub end : Line
   pub bytes : b
       ≡ text (version ∷ code ∷ order ∷ start ∷ period ∷ phi ∷ portion ∷ words
-      ∷ (rows ++ apart ∷ end ∷ []))
+      ∷ (rows ++ (apart ++ end ∷ [])))
   pub is_version : IsLine (codes "mqc") IsNumber version (format_of c ∷ [])
   pub is_code : IsLine (codes "code") IsCodeText code (c.code ∷ [])
   pub is_order : IsLine (codes "order") IsNumber order (c.order ∷ [])
@@ -69,6 +75,6 @@ pub record SpellsByLines (b : List ℕ) (c : Certificate) : Type 0 where
   pub is_phi : IsLine (codes "phi") IsNumber phi c.phi
   pub is_portion : IsLine (codes "portion") IsNumber portion c.portion
   pub is_words : IsLine (codes "words") IsKey words c.words
-  pub are_rows : AreRows rows c.rows
-  pub is_apart : IsLine (codes "apart") IsNumber apart c.apart
+  pub are_rows : AreRows rows (said c).rows
+  pub are_apart : AreApart c apart
   pub is_end : IsLine {X = List ℕ} (codes "end") IsFixed end []

@@ -2,7 +2,10 @@
 -- does; that this is the spelling is the law `reading_is_spelling`. This project's own.
 use Rattle.std.specs.Prelude.{ℕ, zero, suc, ◌+◌, ◌-◌, ◌*◌, ◌/◌, List, [], ◌∷◌, ◌++◌, length, take, drop, slice_index, Option, Some, None, Bool, nat_lt, nat_le, ◌&&◌, ◌==◌, if◌then◌else◌, codes}
 use Rattle.misere_theory.specs.declared.TheConstants.{LARGEST_ORDER, MOST_ENTRIES, LARGEST_PART}
-use Rattle.misere_theory.specs.Certificates.{Certificate, format_by}
+use Rattle.misere_theory.specs.Certificates.{Certificate, format_by, format_of}
+use Rattle.compact_certificates.specs.Rows.{firsts_of}
+use Rattle.compact_certificates.specs.Compact.{expanded, is_expandable}
+use Rattle.certificate_text.specs.declared.TheConstants.{LONGEST_TEXT}
 
 infixl 10 ◌>>=◌
 abbrev pub ◌>>=◌ : {A B : Type 0} → Option A → (A → Option B) → Option B
@@ -168,17 +171,14 @@ front_at bytes = do
   front ← numbers_at format.1
   if format.0 == format_by front.0.0 front.0.1 front.0.2 front.0.3 then Some front else None
 
--- all lines
-unfoldable pub certificate_at : List ℕ → Option (Certificate × List ℕ)
-certificate_at bytes = do
+-- the lines before the table's: a certificate without rows and separators
+unfoldable pub lists_at : List ℕ → Option (Certificate × List ℕ)
+lists_at bytes = do
   front ← front_at bytes
   phi ← line_at (codes "phi") (number_at front.0.1) (front.0.2 + front.0.3 - 1) front.1
   portion ← portion_at front.0.1 phi.1
   words ← line_at (codes "words") (key_at front.0.1 (front.0.2 + front.0.3)) (front.0.1 - 1)
       portion.1
-  rows ← rows_at front.0.1 front.0.1 words.1
-  apart ← line_at (codes "apart") (number_at front.0.1) (front.0.1 * (front.0.1 - 1) / 2) rows.1
-  ended ← fixed_at (codes "end\n") apart.1
   Some (
     record {
       code = front.0.0;
@@ -188,8 +188,34 @@ certificate_at bytes = do
       phi = phi.0;
       portion = portion.0;
       words = words.0;
-      rows = rows_of front.0.1 front.0.1 rows.0;
-      apart = apart.0;
+      rows = [];
+      apart = [];
     },
-    ended,
+    words.1,
   )
+
+-- the rows and the separators
+unfoldable pub table_at : Certificate → List ℕ → Option (Certificate × List ℕ)
+table_at c bytes = do
+  rows ← rows_at c.order c.order bytes
+  apart ← line_at (codes "apart") (number_at c.order) (c.order * (c.order - 1) / 2) rows.1
+  ended ← fixed_at (codes "end\n") apart.1
+  Some (record c { rows = rows_of c.order c.order rows.0; apart = apart.0 }, ended)
+
+-- the first rows alone, and all that follows from them
+unfoldable pub first_rows_at : Certificate → List ℕ → Option (Certificate × List ℕ)
+first_rows_at c bytes = do
+  rows ← rows_at c.order (firsts_of c.words) bytes
+  ended ← fixed_at (codes "end\n") rows.1
+  if is_expandable c then
+      Some (expanded (record c { rows = rows_of c.order (firsts_of c.words) rows.0 }), ended)
+      else None
+
+-- all lines: in the third format the first rows alone, of a text that isn't too long
+unfoldable pub certificate_at : List ℕ → Option (Certificate × List ℕ)
+certificate_at bytes = do
+  lists ← lists_at bytes
+  if format_of lists.0 == 3 then (do
+    made ← first_rows_at lists.0 lists.1
+    if nat_le (length bytes) (LONGEST_TEXT + length made.1) then Some made else None)
+      else table_at lists.0 lists.1

@@ -5,12 +5,15 @@
 //! (specs/Reading.antt) reads from left to right. Nothing here runs.
 #![tactic(auto)]
 
+/// How many bytes a text in the third format has at most.
+pub const LONGEST_TEXT: usize = 4194304;
+
 ghost use Rattle.std.specs.Prelude.{◌≡◌, ◌≢◌, ◌++◌, ◌∷◌, ◌*◌, ◌<◌, ◌≤◌, ◌^◌, ℕ, List, [], Some, All, length, codes};
 ghost use Rattle.std.specs.List.{concat};
 ghost use Rattle.std.specs.Fmt.{decimal};
-ghost use Rattle.misere_theory.specs.Certificates.{Certificate, format_of};
+ghost use Rattle.misere_theory.specs.Certificates.{Certificate, InRanges, Accepted, format_of};
 ghost use Rattle.octal_code.specs.Text.{IsCodeText};
-ghost use Rattle.certificate_text.specs.Spelling.{Spells, IsWritable};
+ghost use Rattle.certificate_text.specs.Spelling.{text, lines, IsWritable, Spells};
 ghost use Rattle.certificate_text.specs.Lines.{IsNumber, SpellsByLines};
 ghost use Rattle.certificate_text.specs.Reading.{certificate_at, code_line_at, rows_at, rows_of};
 
@@ -51,6 +54,14 @@ pub fn reading_is_spelling()
         → certificate_at b ≡ Some (c, rest) → IsWritable c }
     ensures takes { (b : List ℕ) (c : Certificate) → certificate_at b ≡ Some (c, []) → Spells b c }
     ensures again { (b : List ℕ) (c : Certificate) → Spells b c → certificate_at b ≡ Some (c, []) }
+{}
+
+/// In the first two formats a text can say each certificate in its ranges, and in the third each
+/// accepted one whose text isn't too long.
+pub fn certificates_are_writable()
+    ensures full { (c : Certificate) → InRanges c → format_of c ≢ 3 → IsWritable c }
+    ensures accepted { (c : Certificate) → Accepted c → length (text (lines c)) ≤ LONGEST_TEXT
+        → IsWritable c }
 {}
 
 /// The code's line holds the text of a code, and ends at its first LF.

@@ -1,10 +1,13 @@
 -- How long the text of a certificate is at most.
-use Rattle.std.proofs.Common.{◌≡◌, ◌∙◌, ◌≤◌, ◌<◌, ◌+◌, ◌-◌, ◌*◌, ◌/◌, ◌^◌, ℕ, zero, suc, List, [], ◌∷◌, ◌++◌, All, ap, sym, subst, refl, arith, length, map, codes, decimal, slice_index, Bool, true, false, if◌then◌else◌}
+use Rattle.std.proofs.Common.{◌≡◌, ◌≢◌, inl, inr, ◌∙◌, ◌≤◌, ◌<◌, ◌+◌, ◌-◌, ◌*◌, ◌/◌, ◌^◌, ℕ, zero, suc, List, [], ◌∷◌, ◌++◌, All, ap, sym, subst, refl, arith, length, map, codes, decimal, slice_index, Bool, true, false, if◌then◌else◌}
 use Rattle.std.specs.List.Sorted.{IsStrictlyIncreasing}
 use Rattle.std.proofs.lemmas.Fmt.{length-decimal-le}
 use Rattle.std.proofs.lemmas.List.{length-append, length-map}
 use Rattle.std.proofs.lemmas.List.Elements.{All-tail}
 use Rattle.std.proofs.lemmas.Nat.{mul-le}
+use Rattle.std.proofs.lemmas.Bool.{cases_eq, cases_lt, ne_eqb}
+use Rattle.misere_theory.specs.declared.TheConstants.{LARGEST_SECOND_ORDER, MOST_SECOND_ENTRIES}
+use Rattle.misere_theory.proofs.Formats.{third_format}
 use Rattle.misere_theory.specs.Certificates.{Certificate, InRanges, format_of, pairs_from}
 use Rattle.misere_theory.specs.Games.{IsCode}
 use Rattle.octal_code.specs.Text.{code_text, digit_byte}
@@ -103,11 +106,25 @@ short_code [] is = absurd is
 short_code (d ∷ ds) is =
     let same = length-map ds digit_byte in omega (arith, is.2, same)
 
-small_format : (first : Bool) → (if first then 1 else 2) < 10000
-small_format true = omega arith
-small_format false = omega arith
+small_format : (third first : Bool) → (if third then 3 else if first then 1 else 2) < 10000
+small_format true first = omega arith
+small_format false true = omega arith
+small_format false false = omega arith
 
--- ---- the whole text
+-- ---- the whole text, where it isn't in the third format
+
+not_third_order : (c : Certificate) → format_of c ≢ 3 → c.order ≤ LARGEST_SECOND_ORDER
+not_third_order c other = elim (cases_lt LARGEST_SECOND_ORDER c.order) [
+  | inl above ↦ absurd (other ((third_format c).1 (inl above)))
+  | inr below ↦ below
+]
+
+not_third_entries : (c : Certificate) → format_of c ≢ 3
+    → c.start + c.period ≤ MOST_SECOND_ENTRIES + 1
+not_third_entries c other = elim (cases_lt (MOST_SECOND_ENTRIES + 1) (c.start + c.period)) [
+  | inl above ↦ absurd (other ((third_format c).1 (inr above)))
+  | inr below ↦ below
+]
 
 abbrev behind_rows : Certificate → List Line
 behind_rows c = record { name = codes "apart"; words = map decimal c.apart }
@@ -123,9 +140,8 @@ abbrev behind_phi : Certificate → List Line
 behind_phi c = record { name = codes "portion"; words = map decimal c.portion } ∷ behind_portion c
 
 -- the lines of the table and of what tells its elements apart
-table_within : (c : Certificate) → InRanges c → length (text (behind_words c)) ≤ 1980000
-table_within c r =
-    let small : c.order ≤ 512 = r.order.1 in
+table_within : (c : Certificate) → InRanges c → c.order ≤ 512 → length (text (behind_words c)) ≤ 1980000
+table_within c r small =
     let pairs = few_pairs c.order small in
     let width = numbers_width c.order c.apart (omega (arith, small)) r.apart.1 in
     let end = over 8 0 (codes "end") [] [] (omega arith) (omega arith) in
@@ -137,16 +153,15 @@ table_within c r =
     omega (arith, rows, r.rows.0, small)
 
 -- the same with those of the portion and the words
-back_within : (c : Certificate) → InRanges c → length (text (behind_phi c)) ≤ 2000000
-back_within c r =
-    let small : c.order ≤ 512 = r.order.1 in
+back_within : (c : Certificate) → InRanges c → c.order ≤ 512 → length (text (behind_phi c)) ≤ 2000000
+back_within c r small =
     let wide : c.order ≤ 10000 = omega (arith, small) in
     let heaps : c.start + c.period ≤ 10000 = omega (arith, r.period.1) in
     let risen = few_rise c.order c.portion r.portion.0 r.portion.2 r.portion.1 in
     let words_width = keys_width c.order (c.start + c.period) c.words wide heaps r.words.1 in
     let portion_width = numbers_width c.order c.portion wide r.portion.1 in
     let words = over 6000 1980000 (codes "words") (map key_word c.words) (behind_words c)
-    (omega (arith, words_width, r.words.0, small)) (table_within c r) in
+    (omega (arith, words_width, r.words.0, small)) (table_within c r small) in
     let portion = over 3000 1986000 (codes "portion") (map decimal c.portion) (behind_portion c)
     (omega (arith, portion_width, risen, small)) words in
     omega (arith, portion)
@@ -166,16 +181,26 @@ behind_code c = record { name = codes "order"; words = decimal c.order ∷ [] } 
 abbrev behind_format : Certificate → List Line
 behind_format c = record { name = codes "code"; words = code_text c.code ∷ [] } ∷ behind_code c
 
--- the text of a certificate has at most two and a half million bytes
-pub text_within : (c : Certificate) → InRanges c → length (text (lines c)) ≤ 2500000
-text_within c r =
-    let entries : c.start + c.period ≤ 1025 = r.period.1 in
-    let small : c.order ≤ 512 = r.order.1 in
+-- all lines, with all rows and the separators
+all_lines : Certificate → List Line
+all_lines c = record { name = codes "mqc"; words = decimal (format_of c) ∷ [] } ∷ behind_format c
+
+-- outside the third format they are the text
+are_all : (c : Certificate) → format_of c ≢ 3 → lines c ≡ all_lines c
+unfolding all_lines
+are_all c other = rw ne_eqb (format_of c) 3 other refl
+
+-- so it has at most two and a half million bytes
+all_within : (c : Certificate) → InRanges c → format_of c ≢ 3 → length (text (all_lines c)) ≤ 2500000
+unfolding all_lines
+all_within c r other =
+    let entries : c.start + c.period ≤ 1025 = not_third_entries c other in
+    let small : c.order ≤ 512 = not_third_order c other in
     let width = numbers_width c.order c.phi (omega (arith, small)) r.phi.1 in
     let digits = short_code c.code r.code in
     let code_width = length-append (code_text c.code) (spaced []) in
     let phi = over 6000 2000000 (codes "phi") (map decimal c.phi) (behind_phi c)
-    (omega (arith, width, r.phi.0, entries)) (back_within c r) in
+    (omega (arith, width, r.phi.0, entries)) (back_within c r small) in
     let period = over_number 2006000 c.period (codes "period") (behind_period c) (omega arith)
     (omega (arith, entries)) phi in
     let start = over_number 2006016 c.start (codes "start") (behind_start c) (omega arith)
@@ -185,14 +210,19 @@ text_within c r =
     let code = over 30 2006048 (codes "code") (code_text c.code ∷ []) (behind_code c)
     (omega (arith, digits, code_width)) order in
     let whole = over_number 2006078 (format_of c) (codes "mqc") (behind_format c) (omega arith)
-    (small_format _) code in
+    (small_format _ _) code in
     omega (arith, whole)
 
 -- no certificate has more bytes than are read of one
 pub short_texts : (bytes : List ℕ) (c : Certificate) → Spells bytes c → length bytes ≤ 4194304
 short_texts bytes c spells =
-    let within = text_within c spells.in_ranges in
-    let same = ap length spells.bytes in omega (arith, within, same)
+    let same = ap length spells.bytes in elim (cases_eq (format_of c) 3) [
+      | inl third ↦ let within = spells.writable.short third in omega (arith, within, same)
+      | inr other ↦
+          let within = all_within c spells.writable.in_ranges other in
+          let all = ap (λ ls. length (text ls)) (are_all c other) in
+          omega (arith, within, all, same)
+    ]
 
 -- more bytes spell none
 pub long_spells_none : (bytes : List ℕ) → 4194304 < length bytes → (c : Certificate)

@@ -4,6 +4,7 @@ use Rattle.std.proofs.lemmas.Nat.{mul-le}
 use native.Mathlib.Decide.{dec_lt}
 use Rattle.misere_theory.specs.Certificates.{Certificate, InRanges}
 use Rattle.certificate_text.specs.Reading.{certificate_at}
+use Rattle.certificate_text.specs.Spelling.{IsWritable}
 use Rattle.monoid_table.specs.Turns.{triples}
 use Rattle.monoid_table.specs.Grids.{Grid}
 use Rattle.transition_algebra.specs.OverSets.{Pair}
@@ -26,6 +27,11 @@ abbrev pub ReadsRanged : Type 0
 ReadsRanged = (b : List ℕ) (c : Certificate) (rest : List ℕ) → certificate_at b ≡ Some (c, rest)
     → InRanges c
 
+-- a text can say what is read, so it is in its ranges
+pub reads_ranged : ((b : List ℕ) (c : Certificate) (rest : List ℕ) → certificate_at b ≡ Some (c, rest)
+    → IsWritable c) → ReadsRanged
+reads_ranged writable b c rest e = (writable b c rest e).in_ranges
+
 fewer_than : (a n m : ℕ) → a ≤ m → (a ≤ n → ⊥) → n < m
 fewer_than a n m l f =
     elim (dec_lt n a) [ yes k ↦ omega arith | no k ↦ absurd (f (omega (arith, k))) ]
@@ -46,8 +52,9 @@ sums : (q qqq qq qn pp z kbb bq bqq bl : ℕ) → q ≤ qq → bq ≤ bqq → z 
     + bl + 16
 sums q qqq qq qn pp z kbb bq bqq bl h l o = omega arith
 
-total : (a b c d e f g : ℕ) → a ≤ 512 * 512 * 512 → b ≤ 512 * 512 → c ≤ 512 * 1025 → d ≤ 1024 * 1024
-    → e ≤ 502048803707 → f ≤ 3091 * (512 * 512) → g ≤ 3091 * 2 ^ 32
+total : (a b c d e f g : ℕ) → a ≤ 4096 * 4096 * 4096 → b ≤ 4096 * 4096 → c ≤ 4096 * 4097
+    → d ≤ 4096 * 4096
+    → e ≤ 31688780273531 → f ≤ 12307 * (4096 * 4096) → g ≤ 12307 * 2 ^ 32
     → 2 * a + b + c + d + e + f + g + 16 < 2 ^ 52
 total a b c d e f g ha hb hc hd he hf hg = omega arith
 
@@ -73,15 +80,15 @@ module _ (limit : ℕ) where
       let q = r.order.1 in
       let s = r.period.1 in
       let one = r.start in
-      let p : c.period ≤ 1024 = omega arith in
+      let p : c.period ≤ 4096 = omega arith in
       let b = bound_few c r in
-      let q2 = mul-le c.order c.order 512 512 q q in
-      let q3 = mul-le (c.order * c.order) c.order (512 * 512) 512 q2 q in
-      let n = mul-le c.order (c.start + c.period) 512 1025 q s in
-      let p2 = mul-le c.period c.period 1024 1024 p p in
+      let q2 = mul-le c.order c.order 4096 4096 q q in
+      let q3 = mul-le (c.order * c.order) c.order (4096 * 4096) 4096 q2 q in
+      let n = mul-le c.order (c.start + c.period) 4096 4097 q s in
+      let p2 = mul-le c.period c.period 4096 4096 p p in
       let k2 = heaps_few c r in
-      let bq = mul-le (bound_of c) (c.order * c.order) 3091 (512 * 512) b q2 in
-      let bl = mul-le (bound_of c) limit 3091 (2 ^ 32) b (omega arith) in
+      let bq = mul-le (bound_of c) (c.order * c.order) 12307 (4096 * 4096) b q2 in
+      let bl = mul-le (bound_of c) limit 12307 (2 ^ 32) b (omega arith) in
       total (c.order * c.order * c.order) (c.order * c.order) (c.order * (c.start + c.period))
       (c.period * c.period) (heaps_most c)
       (bound_of c * (c.order * c.order)) (bound_of c * limit) q3 q2 n p2 k2 bq bl

@@ -26,15 +26,15 @@ fitting τ n t l = let b = t.bytes in omega arith
 
 module _ (A : RattleType) (alloc : Allocator.Ghosts A.Denot) (small : IsSmall A) where
   -- the portion, as a list and as a set, the keys and the separating elements
-  lines_take : Takes 792 (layout (lines.the_row (param 0 A) alloc))
+  lines_take : Takes 1688 (layout (lines.the_row (param 0 A) alloc))
   lines_take =
       of_fields _ _ _
       (field _ _ _ _ (vector _ A small)
-      (field _ _ _ _ (of_fields _ _ _ (field _ _ _ _ (array w64 8) no_field))
+      (field _ _ _ _ (of_fields _ _ _ (field _ _ _ _ (array w64 64) no_field))
       (field _ _ _ _ (vector _ A small) (field _ _ _ _ (vector _ A small) no_field))))
 
   -- the code, the table, the pretending function and the lines
-  certificate_takes : Takes 1736 (layout (certificates.the_row (param 0 A) alloc))
+  certificate_takes : Takes 2632 (layout (certificates.the_row (param 0 A) alloc))
   certificate_takes =
       of_fields _ _ _
       (field _ _ _ _
@@ -48,7 +48,7 @@ module _ (A : RattleType) (alloc : Allocator.Ghosts A.Denot) (small : IsSmall A)
       (field _ _ _ _ lines_take no_field))))
 
   -- the fields of a certificate, and its portion as a set
-  certified_takes : Takes 1736 (layout (certified.the_row (param 0 A) alloc))
+  certified_takes : Takes 2632 (layout (certified.the_row (param 0 A) alloc))
   certified_takes =
       of_fields _ _ _
       (field _ _ _ _
@@ -66,16 +66,16 @@ module _ (A : RattleType) (alloc : Allocator.Ghosts A.Denot) (small : IsSmall A)
       (field _ _ _ _ (vector _ A small)
       (field _ _ _ _ (vector _ A small) (field _ _ _ _ (vector _ A small) no_field))))))))
       no_field))
-      (field _ _ _ _ (of_fields _ _ _ (field _ _ _ _ (array w64 8) no_field)) no_field))
+      (field _ _ _ _ (of_fields _ _ _ (field _ _ _ _ (array w64 64) no_field)) no_field))
 
   module _ (L : ℕ) (few : L ≤ 64) where
-    heaps_take : Takes 3845 (layout (heaps.the_row (param 0 (params.number L)) (param 1 A) alloc))
+    heaps_take : Takes 4741 (layout (heaps.the_row (param 0 (params.number L)) (param 1 A) alloc))
     heaps_take =
         of_fields _ _ _
         (field _ _ _ _ lines_take
         (field _ _ _ _ (heap_job_takes L A alloc few small) no_field))
 
-    elements_take : Takes 2232 (layout (elements.the_row (param 0 (params.number L)) (param 1 A) alloc))
+    elements_take : Takes 3128 (layout (elements.the_row (param 0 (params.number L)) (param 1 A) alloc))
     elements_take =
         of_fields _ _ _
         (field _ _ _ _ certificate_takes
@@ -83,7 +83,7 @@ module _ (A : RattleType) (alloc : Allocator.Ghosts A.Denot) (small : IsSmall A)
         (field _ _ _ _ (vector _ A small)
         (field _ _ _ _ (number w64) (field _ _ _ _ (number w16) no_field)))))
 
-    closing_takes : Takes 4217 (layout (closings.the_row (param 0 (params.number L)) (param 1 A) alloc))
+    closing_takes : Takes 5113 (layout (closings.the_row (param 0 (params.number L)) (param 1 A) alloc))
     closing_takes =
         of_fields _ _ _
         (field _ _ _ _
@@ -96,33 +96,33 @@ module _ (A : RattleType) (alloc : Allocator.Ghosts A.Denot) (small : IsSmall A)
         (field _ _ _ _ (of_fields _ _ _ (field _ _ _ _ (lanes L few) no_field))
         (field _ _ _ _ (closure_takes L A alloc small) no_field)))))
 
-    paired_takes : Takes 10362 (layout (paireds.the_row (param 0 (params.number L)) (param 1 A) alloc))
+    paired_takes : Takes 13050 (layout (paireds.the_row (param 0 (params.number L)) (param 1 A) alloc))
     paired_takes =
         of_variants _ _ _
         (variant _ _ _ _ (field _ _ _ _ heaps_take no_field)
         (variant _ _ _ _ (field _ _ _ _ elements_take no_field)
         (variant _ _ _ _ (field _ _ _ _ closing_takes no_field) no_variant)))
 
-    worked_takes : Takes 12149 (layout (workeds.the_row (param 0 (params.number L)) (param 1 A) alloc))
+    worked_takes : Takes 15733 (layout (workeds.the_row (param 0 (params.number L)) (param 1 A) alloc))
     worked_takes =
         of_variants _ _ _
         (variant _ _ _ _ (field _ _ _ _ paired_takes no_field)
         (variant _ _ _ _ (field _ _ _ _ certified_takes no_field) no_variant))
 
     pub heaps_fits : type_size (heaps.the_row (param 0 (params.number L)) (param 1 A) alloc) < 2 ^ 63
-    heaps_fits = fitting _ 3845 heaps_take (omega arith)
+    heaps_fits = fitting _ 4741 heaps_take (omega arith)
 
     pub elements_fits : type_size (elements.the_row (param 0 (params.number L)) (param 1 A) alloc) < 2 ^ 63
-    elements_fits = fitting _ 2232 elements_take (omega arith)
+    elements_fits = fitting _ 3128 elements_take (omega arith)
 
     pub closing_fits : type_size (closings.the_row (param 0 (params.number L)) (param 1 A) alloc) < 2 ^ 63
-    closing_fits = fitting _ 4217 closing_takes (omega arith)
+    closing_fits = fitting _ 5113 closing_takes (omega arith)
 
     pub paired_fits : type_size (paireds.the_row (param 0 (params.number L)) (param 1 A) alloc) < 2 ^ 63
-    paired_fits = fitting _ 10362 paired_takes (omega arith)
+    paired_fits = fitting _ 13050 paired_takes (omega arith)
 
     pub worked_fits : type_size (workeds.the_row (param 0 (params.number L)) (param 1 A) alloc) < 2 ^ 63
-    worked_fits = fitting _ 12149 worked_takes (omega arith)
+    worked_fits = fitting _ 15733 worked_takes (omega arith)
 
 -- What a variant holds is no larger than the whole.
 pub record Below (τ : Ty) : Type 0 where

@@ -59,14 +59,14 @@ module _ (p : Fields) (w : IsWhole p) where
 
   pub table_lawful : IsTable p.order p.rows → IsLawful (certificate_of p)
   table_lawful t = record {
-    in_ranges = w.in_ranges;
+    in_ranges = w.writable.in_ranges;
     monoid =
         monoid_along p.order (times_of (certificate_of p)) (entry p.order p.rows) products t.monoid;
   }
 
   pub law_fault : LawFails p.order (entry p.order p.rows) → LawFault (certificate_of p)
   law_fault f =
-      let r = w.in_ranges in
+      let r = w.writable.in_ranges in
       let c = certificate_of p in
       fails_along p.order (times_of c) (entry p.order p.rows) (let o = r.order.0 in
       omega arith) products

@@ -130,30 +130,30 @@ bound_range c r = elim (eq-zero-or-pos (kind_of c)) [
 pub bound_some : (c : Certificate) → InRanges c → 1 ≤ bound_of c
 bound_some c r = (bound_range c r).0
 
-pub bound_few : (c : Certificate) → InRanges c → bound_of c ≤ 3091
+pub bound_few : (c : Certificate) → InRanges c → bound_of c ≤ 12307
 bound_few c r = let l = code_short c.code r.code in let s = r.period.1 in
     let b = (bound_range c r).1 in omega arith
 
-cube_few : (k b : ℕ) → k ≤ 17 → b ≤ 3091 → k * (b * (b * b)) ≤ 502048803707
+cube_few : (k b : ℕ) → k ≤ 17 → b ≤ 12307 → k * (b * (b * b)) ≤ 31688780273531
 cube_few k b l m =
-    let b2 = mul-le b b 3091 3091 m m in
-    let b3 = mul-le b (b * b) 3091 9554281 m (omega arith) in
-    let k3 = mul-le k (b * (b * b)) 17 29532282571 l (omega arith) in
+    let b2 = mul-le b b 12307 12307 m m in
+    let b3 = mul-le b (b * b) 12307 151462249 m (omega arith) in
+    let k3 = mul-le k (b * (b * b)) 17 1864045898443 l (omega arith) in
     omega arith
 
-square_few : (k b : ℕ) → k ≤ 17 → b ≤ 3091 → k * (b * b) ≤ 502048803707
+square_few : (k b : ℕ) → k ≤ 17 → b ≤ 12307 → k * (b * b) ≤ 31688780273531
 square_few k b l m =
-    let b2 = mul-le b b 3091 3091 m m in
-    let k2 = mul-le k (b * b) 17 9554281 l (omega arith) in
+    let b2 = mul-le b b 12307 12307 m m in
+    let k2 = mul-le k (b * b) 17 151462249 l (omega arith) in
     omega arith
 
-either_few : (three : Bool) (k b : ℕ) → k ≤ 17 → b ≤ 3091
-    → (if three then k * (b * (b * b)) else k * (b * b)) ≤ 502048803707
+either_few : (three : Bool) (k b : ℕ) → k ≤ 17 → b ≤ 12307
+    → (if three then k * (b * (b * b)) else k * (b * b)) ≤ 31688780273531
 either_few true k b l m = cube_few k b l m
 either_few false k b l m = square_few k b l m
 
 -- the pairs of the heaps take few turns
-pub heaps_few : (c : Certificate) → InRanges c → heaps_most c ≤ 502048803707
+pub heaps_few : (c : Certificate) → InRanges c → heaps_most c ≤ 31688780273531
 heaps_few c r =
     either_few (leaves_three c.code) (length c.code) (bound_of c) (code_short c.code r.code)
     (bound_few c r)

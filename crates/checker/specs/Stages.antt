@@ -12,7 +12,7 @@ use Rattle.checker.specs.declared.paired.Paired.TheVariants.{Heaps, Elements, Cl
 use Rattle.checker.specs.declared.paired.Worked.{Worked}
 use Rattle.checker.specs.declared.paired.Worked.TheVariants.{On, Yes as Accepts}
 use Rattle.checker.specs.declared.stage.Stage.{Stage}
-use Rattle.checker.specs.declared.stage.Stage.TheVariants.{Reading, Laws, Keys, Products, Periods, Separating, One, Four, Eight, Ended}
+use Rattle.checker.specs.declared.stage.Stage.TheVariants.{Reading, Laws, Keys, Products, Periods, Separating, One, Four, Eight, Sixteen, SixtyFour, Ended}
 
 -- the stage in plain data, which tells nothing of the width of its sets
 abbrev pub phase_of_paired : {L : ℕ} {A : Type 0} → Paired L A → Phase
@@ -30,6 +30,8 @@ phase_of (Separating s) = AtSeparating s
 phase_of (One p) = phase_of_paired p
 phase_of (Four p) = phase_of_paired p
 phase_of (Eight p) = phase_of_paired p
+phase_of (Sixteen p) = phase_of_paired p
+phase_of (SixtyFour p) = phase_of_paired p
 phase_of (Ended r) = AtEnded (answer_of r)
 
 -- the stage holds the certificate, or has answered what is true of it

@@ -39,8 +39,12 @@ pub fn over_pairs<A: SmallAllocator + Copy>(alloc: A, certificate: LawfulCertifi
         Stage::One(Paired::Heaps(Heaps::new(alloc, certificate)))
     } else if order <= 256 {
         Stage::Four(Paired::Heaps(Heaps::new(alloc, certificate)))
-    } else {
+    } else if order <= 512 {
         Stage::Eight(Paired::Heaps(Heaps::new(alloc, certificate)))
+    } else if order <= 1024 {
+        Stage::Sixteen(Paired::Heaps(Heaps::new(alloc, certificate)))
+    } else {
+        Stage::SixtyFour(Paired::Heaps(Heaps::new(alloc, certificate)))
     }
 }
 

@@ -26,6 +26,8 @@ pub enum Stage<A: SmallAllocator = Global> {
     One(Paired<1, A>),
     Four(Paired<4, A>),
     Eight(Paired<8, A>),
+    Sixteen(Paired<16, A>),
+    SixtyFour(Paired<64, A>),
     Ended(Result<Certified<A>, Refusal<A>>),
 }
 
@@ -75,6 +77,8 @@ impl<A: SmallAllocator + Copy> Stage<A> {
             Stage::One(paired) => paired.go_on(left),
             Stage::Four(paired) => paired.go_on(left),
             Stage::Eight(paired) => paired.go_on(left),
+            Stage::Sixteen(paired) => paired.go_on(left),
+            Stage::SixtyFour(paired) => paired.go_on(left),
             _ => {}
         }
     }
@@ -150,6 +154,14 @@ impl<A: SmallAllocator + Copy> Stage<A> {
             },
             Stage::Eight(paired) => match paired.work(alloc, limit, left)? {
                 Worked::On(paired) => Ok(Stage::Eight(paired)),
+                Worked::Yes(certified) => Ok(Stage::Ended(Ok(certified))),
+            },
+            Stage::Sixteen(paired) => match paired.work(alloc, limit, left)? {
+                Worked::On(paired) => Ok(Stage::Sixteen(paired)),
+                Worked::Yes(certified) => Ok(Stage::Ended(Ok(certified))),
+            },
+            Stage::SixtyFour(paired) => match paired.work(alloc, limit, left)? {
+                Worked::On(paired) => Ok(Stage::SixtyFour(paired)),
                 Worked::Yes(certified) => Ok(Stage::Ended(Ok(certified))),
             },
             Stage::Ended(answer) => Ok(Stage::Ended(answer)),

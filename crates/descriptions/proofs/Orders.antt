@@ -2,15 +2,16 @@
 use Rattle.std.proofs.Common.{◌≡◌, ◌≢◌, ℕ, suc, ◌+◌, ◌*◌, ◌^◌, ◌<◌, ◌≤◌, sym, ap, ◌∙◌, inl, inr, arith, subst}
 use Rattle.std.proofs.lemmas.Bool.{cases_eq, cases_lt}
 use Rattle.std.proofs.Math.Nat.{pow-le-pow_right}
+use Rattle.misere_theory.specs.declared.TheConstants.{LARGEST_ORDER}
 
-large : (n : ℕ) → 9 ≤ n → 512 ≤ 2 ^ n
-large n le = let two : 0 < 2 = omega arith in pow-le-pow_right {n = 2} two {i = 9} {j = n} le
+large : (n : ℕ) → 12 ≤ n → 4096 ≤ 2 ^ n
+large n le = let two : 0 < 2 = omega arith in pow-le-pow_right {n = 2} two {i = 12} {j = n} le
 
-pub small : (n : ℕ) → n < 9 → 2 ^ n ≤ 256
+pub small : (n : ℕ) → n < 12 → 2 ^ n ≤ 2048
 small n lt =
     let two : 0 < 2 = omega arith in
-    let le : n ≤ 8 = omega (arith, lt) in
-    pow-le-pow_right {n = 2} two {i = n} {j = 8} le
+    let le : n ≤ 11 = omega (arith, lt) in
+    pow-le-pow_right {n = 2} two {i = n} {j = 11} le
 
 -- the next power
 pub twice : (n p : ℕ) → p ≡ 2 ^ n → p * 2 ≡ 2 ^ (n + 1)
@@ -29,11 +30,11 @@ one-more order n p is ne others k le lt e = elim (cases_eq k n) [
   | inr other ↦ others k le (omega (arith, other)) e
 ]
 
-pub all-other : (order n : ℕ) → order ≤ 512 → 9 ≤ n → AreOther order n
+pub all-other : (order n : ℕ) → order ≤ LARGEST_ORDER → 12 ≤ n → AreOther order n
     → (k : ℕ) → 2 ≤ k → order ≢ 2 ^ k + 2
 all-other order n most past others k le e = elim (cases_lt k n) [
   | inl low ↦ others k le low e
   | inr high ↦
-      let far : 9 ≤ k = omega (arith, high, past) in
+      let far : 12 ≤ k = omega (arith, high, past) in
       omega (arith, large k far, e, most)
 ]

@@ -1,6 +1,7 @@
 //! The rows of the pretending function in words.
 ghost use Rattle.std.specs.Prelude.{◌≡◌, ◌<◌, ◌≤◌, ◌+◌, ◌-◌, ◌*◌, IfOk, length};
 ghost use Rattle.std.specs.String.{string_bytes};
+ghost use Rattle.misere_theory.specs.declared.TheConstants.{MOST_ENTRIES};
 ghost use Rattle.misere_theory.specs.Certificates.{IsHeapOf};
 ghost use Rattle.presentations.specs.declared.TheConstants.{LETTERS};
 ghost use Rattle.descriptions.specs.Rows.{cell, cells, heap_word, label, last_heap, padded, row_line, row_lines, row_width, rows_text, spaces, IsRowsText};
@@ -12,7 +13,7 @@ use std::alloc::{AllocError, Global};
 
 /// How many heaps stand in a row.
 pub fn row_width(period: u64) -> u64
-    requires { period ≤ 1024 }
+    requires { period ≤ MOST_ENTRIES }
     ensures value { result ≡ row_width period }
     ensures some { 0 < result }
     ensures small { result ≤ 16 }

@@ -1,5 +1,6 @@
 //! Whether a quotient is one of Nim's.
 ghost use Rattle.std.specs.Prelude.{◌≡◌, ◌≢◌, ◌<◌, ◌≤◌, ◌+◌, ◌^◌, ◌↔◌, ◌||◌, ◌==◌, ℕ, true, IsTrue, IfSome, IfNone};
+ghost use Rattle.misere_theory.specs.declared.TheConstants.{LARGEST_ORDER};
 ghost use Rattle.misere_theory.specs.Certificates.{claim_of};
 ghost use Rattle.monoid_table.specs.Grids.{times_in};
 ghost use Rattle.certificate.specs.Fields.{grid_of};
@@ -94,12 +95,12 @@ fn has_group(certified: &Certified, table: &Table) -> bool
 
 /// The number n from 2 on with 2^n + 2 elements.
 fn exponent(order: u16) -> Option<u16>
-    requires { order ≤ 512 }
+    requires { order ≤ LARGEST_ORDER }
     ensures some { IfSome result (λ n. (2 ≤ n) × (order ≡ 2 ^ n + 2)) }
     ensures none { IfNone result ((n : ℕ) → 2 ≤ n → order ≢ 2 ^ n + 2) }
 {
     let mut power = 4;
-    for n in 2..9u16 {
+    for n in 2..12u16 {
         if order == power + 2 {
             return Some(n);
         }

@@ -67,5 +67,5 @@ module _ (phi : Pretending) (pretending : IsPretending phi) where
         omega arith
   ]
 
-  pub bound_small : (code : List ℕ) → length code ≤ 17 → bound_of code phi ≤ 3091
+  pub bound_small : (code : List ℕ) → length code ≤ 17 → bound_of code phi ≤ 12307
   bound_small code few = let r = bound_range code in let s = pretending.short in omega arith

@@ -79,17 +79,17 @@ new_trial code table phi b m w seen bound most at_first none =
     })
 
 -- a turn costs at least what the measure of stages gains
-pub measure_falls : (n r a s t : ℕ) → r ≤ n → s ≤ 65536 → t ≤ 65536
-    → (1 ≤ r) ⊎ (t < s) → a ≡ n - r → 100000 * a + t < 100000 * n + s
+pub measure_falls : (n r a s t : ℕ) → r ≤ n → s ≤ 262144 → t ≤ 262144
+    → (1 ≤ r) ⊎ (t < s) → a ≡ n - r → 1000000 * a + t < 1000000 * n + s
 measure_falls n r a s t l few few_too falls e = elim falls [
   | inl some ↦ omega arith
   | inr less ↦ omega arith
 ]
 
-pub stages_few : (code : List ℕ) (w : Walk) → length code ≤ 17 → w.heap ≤ 3092
-    → stages_left code w ≤ 65536
+pub stages_few : (code : List ℕ) (w : Walk) → length code ≤ 17 → w.heap ≤ 12308
+    → stages_left code w ≤ 262144
 stages_few code w short small =
-    let m : (w.heap + 3) * (length code - w.away) ≤ 3095 * 17 = grind arith in
+    let m : (w.heap + 3) * (length code - w.away) ≤ 12311 * 17 = grind arith in
     let s = few w.heap w.untried in
     omega arith
   where

@@ -47,7 +47,7 @@ pub record Ready (code : List ℕ) (table : Grid) (phi : Pretending) (t : Trial)
     Type 0 where
   pub from_one : 1 ≤ t.walk.heap
   pub at_most : t.walk.heap ≤ bound_of code phi + 1
-  pub small : t.spent + t.walk.heap < 2 ^ 40
+  pub small : t.spent + t.walk.heap < 2 ^ 48
   pub elements : All (λ p. p.value < table.order) pairs
   pub length_is : length pairs + 1 ≡ t.walk.heap
   pub values : HaveElements phi pairs
@@ -58,10 +58,10 @@ product_small a b c d l m =
     let g : c * b ≤ c * d = grind arith in
     omega arith
 
-pub cube_small : (L B : ℕ) → L ≤ 17 → B ≤ 3091 → L * (B * (B * B)) ≤ 502048803707
+pub cube_small : (L B : ℕ) → L ≤ 17 → B ≤ 12307 → L * (B * (B * B)) ≤ 31688780273531
 cube_small L B l b =
-    product_small L (B * (B * B)) 17 29532282571 l
-    (product_small B (B * B) 3091 9554281 b (product_small B B 3091 3091 b b))
+    product_small L (B * (B * B)) 17 1864045898443 l
+    (product_small B (B * B) 12307 151462249 b (product_small B B 12307 12307 b b))
 
 module _ (code : List ℕ) (table : Grid) (monoid : Monoid table.order (times_in table))
     (phi : Pretending) (pretending : IsPretending phi) (into : IsInto table phi) where

@@ -20,7 +20,7 @@ use std::alloc::Allocator;
 /// B: the heaps 1 to B show the pair of every heap that has an element.
 pub(crate) fn bound_of<A: Allocator>(code: &Code, phi: &Phi<A>) -> u64
     ensures value { result ≡ bound_of code.now phi.now }
-    ensures small { result < 4096 }
+    ensures small { result < 16384 }
 {
     if phi.heaps() == 0 {
         if code.leaves_three() {

@@ -53,7 +53,7 @@ impl<const LANES: usize> Trial<LaneSet<LANES>> {
         requires fits { table.now.order ≤ 64 * LANES }
         requires into { IsInto table.now phi.now }
         requires counts { HasElement phi.now self.old.walk.heap }
-        requires small { self.old.spent < 2 ^ 40 }
+        requires small { self.old.spent < 2 ^ 48 }
         ensures count { result
             ≡ length (single_left code.now self.old.walk.heap self.old.walk.away) }
         ensures trial { self.new ≡ after_single code.now table.now phi.now self.old }
@@ -72,7 +72,7 @@ impl<const LANES: usize> Trial<LaneSet<LANES>> {
     fn spend_splits(&mut self, code: &Code, part: u64, units: u64) -> u64
         requires some { 1 ≤ units }
         requires from_one { 1 ≤ part }
-        requires small { self.old.spent + self.old.walk.heap < 2 ^ 40 }
+        requires small { self.old.spent + self.old.walk.heap < 2 ^ 48 }
         ensures within { result ≤ units }
         ensures none { result ≡ 0
             → (allows code.now self.old.walk.away TwoHeaps ≡ true
@@ -123,7 +123,7 @@ impl<const LANES: usize> Trial<LaneSet<LANES>> {
     fn spend_triples(&mut self, code: &Code, first: u64, second: u64, units: u64) -> u64
         requires some { 1 ≤ units }
         requires from_one { 1 ≤ second }
-        requires small { self.old.spent + self.old.walk.heap < 2 ^ 40 }
+        requires small { self.old.spent + self.old.walk.heap < 2 ^ 48 }
         ensures within { result ≤ units }
         ensures none { result ≡ 0
             → (triples_to_try code.now self.old.walk.heap self.old.walk.most self.old.walk.away first
@@ -183,7 +183,7 @@ impl<const LANES: usize> Trial<LaneSet<LANES>> {
         pairs: &mut Vec<Pair<LaneSet<LANES>>, A>,
     ) -> Result<(), Memory>
         requires counts { HasElement phi.now self.old.walk.heap }
-        requires small { (self.old.walk.heap < 2 ^ 40) × (self.old.spent < 2 ^ 40) }
+        requires small { (self.old.walk.heap < 2 ^ 48) × (self.old.spent < 2 ^ 48) }
         ensures trial { OnOk result (self.new ≡ after_heap self.old) }
         ensures pair { OnOk result
             (pairs.new.items ≡ pairs.old.items

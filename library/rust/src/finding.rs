@@ -16,7 +16,7 @@ pub enum Aim {
 }
 
 impl Aim {
-    /// Of all heaps, by as many as a certificate can need.
+    /// Of all heaps, by as many as the certificate of an octal code can need.
     pub const DEEP: Aim = Aim::Whole(8210);
 }
 
@@ -29,7 +29,7 @@ pub struct Bounds {
     pub rounds: u32,
     /// Of which heaps the quotient is.
     pub aim: Aim,
-    /// The most elements of a quotient, 2 to 4096, but of the whole game by at most 64 heaps to 256.
+    /// The most elements of a quotient, 2 to 4096, or to 256 of all heaps by at most 64.
     pub order: u32,
 }
 

@@ -2,7 +2,7 @@ use Rattle.certificate_text.proofs.Whole.{certificate_takes, spelled_takes, spel
 use Rattle.certificate_text.proofs.reading_is_spelling.Goals as goal
 
 pub returns-clause-writable : goal.returns-clause-writable
-returns-clause-writable g b c rest e = record { in_ranges = (certificate_takes b c rest e).0 }
+returns-clause-writable g b c rest e = (certificate_takes b c rest e).0
 
 pub returns-clause-takes : goal.returns-clause-takes
 returns-clause-takes g = spelled_takes

@@ -1,3 +1,4 @@
+use Rattle.checker.proofs.FallLemmas.{reads_ranged}
 use Rattle.checker.proofs.TrueEnds.{HeapsAreKnown}
 use Rattle.checker.proofs.TrueLemmas.{TextsAreKnown, verdict_right}
 use Rattle.checker.proofs.turns.verdicts_are_true.Goals as goal
@@ -5,7 +6,7 @@ use Rattle.checker.proofs.turns.verdicts_are_true.Goals as goal
 pub returns : goal.returns
 returns c = λ bytes limit.
     let texts : TextsAreKnown = record {
-      ranges = c.reading_is_spelling.ensures.ranges;
+      ranges = reads_ranged c.reading_is_spelling.ensures.writable;
       takes = c.reading_is_spelling.ensures.takes;
       again = c.reading_is_spelling.ensures.again;
       tables = record {

@@ -87,12 +87,12 @@ set_of-inside-requires g c =
       omega arith,
       rw c.deref.ensures.value
           (All-weaker (λ x. x < s.table.order) (λ x. x < 64 * g.row.LANES) (λ x l. omega arith)
-          s.lines.portion.items c.certificate.invariant.whole.in_ranges.portion.1),
+          s.lines.portion.items c.certificate.invariant.whole.writable.in_ranges.portion.1),
     )
 
 pub new-requires : goal.new-requires
 new-requires g c =
-    let few = bound_few _ c.certificate.invariant.whole.in_ranges in
+    let few = bound_few _ c.certificate.invariant.whole.writable.in_ranges in
     let long = subst (λ d. length c.args.pairs.items ≡ bound_of d) (sym c.certificate.view_is)
     c.requires.pairs.exact.length_is in
     let lanes = c.requires.few in (

@@ -10,7 +10,7 @@ use Rattle.checker.proofs.heaps.Heaps.new.Goals as goal
 pub invariant_of-result : goal.invariant_of-result
 invariant_of-result g c =
     let s = c.certificate.inside in
-    let some = some_cost s.code s.phi (bound_some _ c.certificate.invariant.whole.in_ranges) in
+    let some = some_cost s.code s.phi (bound_some _ c.certificate.invariant.whole.writable.in_ranges) in
     subst (λ (j : HeapWork).
     IsCanonicalCertificate
     (fields_of j.code j.table j.phi s.lines.portion.items s.lines.words.items

@@ -144,7 +144,7 @@ returns-in-Err-new-clause-comes g c = λ bytes limit.
           runs-left bytes limit U (U - (J.spent - s.job.spent)) _ _ _
           (subst (λ v. Runs bytes limit (Heaps v) U (U - (J.spent - s.job.spent)) to) c.self.view_is
           (runs-to bytes limit _ _ _ _ _ runs
-          (heaps_end limit (of s.job) J.spent c.self.invariant.0.certificate.whole.in_ranges l)))
+          (heaps_end limit (of s.job) J.spent c.self.invariant.0.certificate.whole.writable.in_ranges l)))
           (omega arith);
       shown = inr refl;
       exact = λ _. omega arith;
@@ -202,7 +202,7 @@ returns-in-Ok-clause-comes g c = λ bytes limit.
           (λ v. Runs bytes limit (Heaps v) U (U - (J.spent - s.job.spent))
           (Elements c.in-Ok.elements)) c.self.view_is
           (runs-to bytes limit _ _ _ _ _ runs
-          (heaps_end limit (of s.job) J.spent c.self.invariant.0.certificate.whole.in_ranges l
+          (heaps_end limit (of s.job) J.spent c.self.invariant.0.certificate.whole.writable.in_ranges l
           ∙ (ap (λ t. at s.job.code s.job.table s.job.phi (all_heap_pairs s.job.code t s.job.phi))
           joined ∙ made)))) (omega arith);
       shown = inl refl;

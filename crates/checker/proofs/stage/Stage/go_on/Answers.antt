@@ -83,6 +83,28 @@ returns-in-Eight-clause-runs g c = λ bytes limit.
 pub returns-in-Eight-clause-same : goal.returns-in-Eight-clause-same
 returns-in-Eight-clause-same g c = rw c.in-Eight.is c.go_on-in-Eight.ensures.same
 
+pub returns-in-Sixteen-clause-stands : goal.returns-in-Sixteen-clause-stands
+returns-in-Sixteen-clause-stands g c = λ bytes limit.
+    rw c.in-Sixteen.is (c.go_on-in-Sixteen.ensures.stands bytes limit)
+
+pub returns-in-Sixteen-clause-runs : goal.returns-in-Sixteen-clause-runs
+returns-in-Sixteen-clause-runs g c = λ bytes limit.
+    rw c.in-Sixteen.is (c.go_on-in-Sixteen.ensures.runs bytes limit)
+
+pub returns-in-Sixteen-clause-same : goal.returns-in-Sixteen-clause-same
+returns-in-Sixteen-clause-same g c = rw c.in-Sixteen.is c.go_on-in-Sixteen.ensures.same
+
+pub returns-in-SixtyFour-clause-stands : goal.returns-in-SixtyFour-clause-stands
+returns-in-SixtyFour-clause-stands g c = λ bytes limit.
+    rw c.in-SixtyFour.is (c.go_on-in-SixtyFour.ensures.stands bytes limit)
+
+pub returns-in-SixtyFour-clause-runs : goal.returns-in-SixtyFour-clause-runs
+returns-in-SixtyFour-clause-runs g c = λ bytes limit.
+    rw c.in-SixtyFour.is (c.go_on-in-SixtyFour.ensures.runs bytes limit)
+
+pub returns-in-SixtyFour-clause-same : goal.returns-in-SixtyFour-clause-same
+returns-in-SixtyFour-clause-same g c = rw c.in-SixtyFour.is c.go_on-in-SixtyFour.ensures.same
+
 pub go_on-requires-in-One : goal.go_on-requires-in-One
 go_on-requires-in-One g c = (paired_fits g.row.A g.A.Allocator g.met.A.SmallAllocator.small 1 (omega arith), omega arith)
 
@@ -91,3 +113,9 @@ go_on-requires-in-Four g c = (paired_fits g.row.A g.A.Allocator g.met.A.SmallAll
 
 pub go_on-requires-in-Eight : goal.go_on-requires-in-Eight
 go_on-requires-in-Eight g c = (paired_fits g.row.A g.A.Allocator g.met.A.SmallAllocator.small 8 (omega arith), omega arith)
+
+pub go_on-requires-in-Sixteen : goal.go_on-requires-in-Sixteen
+go_on-requires-in-Sixteen g c = (paired_fits g.row.A g.A.Allocator g.met.A.SmallAllocator.small 16 (omega arith), omega arith)
+
+pub go_on-requires-in-SixtyFour : goal.go_on-requires-in-SixtyFour
+go_on-requires-in-SixtyFour g c = (paired_fits g.row.A g.A.Allocator g.met.A.SmallAllocator.small 64 (omega arith), omega arith)

@@ -89,6 +89,18 @@ work-requires-in-Eight g c = (
   (worked_fits g.row.A g.A.Allocator g.met.A.SmallAllocator.small 8 (omega arith), omega arith),
 )
 
+pub work-requires-in-Sixteen : goal.work-requires-in-Sixteen
+work-requires-in-Sixteen g c = (
+  paired_fits g.row.A g.A.Allocator g.met.A.SmallAllocator.small 16 (omega arith),
+  (worked_fits g.row.A g.A.Allocator g.met.A.SmallAllocator.small 16 (omega arith), omega arith),
+)
+
+pub work-requires-in-SixtyFour : goal.work-requires-in-SixtyFour
+work-requires-in-SixtyFour g c = (
+  paired_fits g.row.A g.A.Allocator g.met.A.SmallAllocator.small 64 (omega arith),
+  (worked_fits g.row.A g.A.Allocator g.met.A.SmallAllocator.small 64 (omega arith), omega arith),
+)
+
 pub returns-in_err-paired-in-One-clause-stands : goal.returns-in_err-paired-in-One-clause-stands
 returns-in_err-paired-in-One-clause-stands g c =
     let stands = c.work-in-One.ensures.stands c.args.bytes.now (rw c.in-One.is at c.requires) in
@@ -220,3 +232,91 @@ returns-in-Yes-3-clause-comes g c =
     (λ r. Comes c.args.bytes.now c.args.limit (phase_of_paired c.in-Eight.paired) c.args.left.now
     c.work-in-Eight.new.left (arrived r)) (c.in_ok-paired-in-Eight.was ∙ ap Ok c.in-Yes-3.is)
     (c.work-in-Eight.ensures.comes c.args.bytes.now))
+
+pub returns-in_err-paired-in-Sixteen-clause-stands : goal.returns-in_err-paired-in-Sixteen-clause-stands
+returns-in_err-paired-in-Sixteen-clause-stands g c =
+    let stands = c.work-in-Sixteen.ensures.stands c.args.bytes.now (rw c.in-Sixteen.is at c.requires) in
+    refused_reached c.from_residual-in_err-paired-in-Sixteen.result c.in_err-paired-in-Sixteen.field-0.0
+    c.from_residual-in_err-paired-in-Sixteen.ensures.1 (Stands c.args.bytes.now c.args.limit)
+    (rw c.in_err-paired-in-Sixteen.was at stands)
+
+pub returns-in_err-paired-in-Sixteen-clause-comes : goal.returns-in_err-paired-in-Sixteen-clause-comes
+returns-in_err-paired-in-Sixteen-clause-comes g c =
+    λ _. rw c.in-Sixteen.is
+    (refused_reached c.from_residual-in_err-paired-in-Sixteen.result c.in_err-paired-in-Sixteen.field-0.0
+    c.from_residual-in_err-paired-in-Sixteen.ensures.1
+    (Comes c.args.bytes.now c.args.limit (phase_of_paired c.in-Sixteen.paired) c.args.left.now
+    c.work-in-Sixteen.new.left)
+    (rw c.in_err-paired-in-Sixteen.was at (c.work-in-Sixteen.ensures.comes c.args.bytes.now)))
+
+pub returns-in-On-4-clause-stands : goal.returns-in-On-4-clause-stands
+returns-in-On-4-clause-stands g c =
+    let stands = c.work-in-Sixteen.ensures.stands c.args.bytes.now (rw c.in-Sixteen.is at c.requires) in
+    subst (λ r. Stands c.args.bytes.now c.args.limit (arrived r))
+    (c.in_ok-paired-in-Sixteen.was ∙ ap Ok c.in-On-4.is) stands
+
+pub returns-in-On-4-clause-comes : goal.returns-in-On-4-clause-comes
+returns-in-On-4-clause-comes g c =
+    λ _. rw c.in-Sixteen.is
+    (subst
+    (λ r. Comes c.args.bytes.now c.args.limit (phase_of_paired c.in-Sixteen.paired) c.args.left.now
+    c.work-in-Sixteen.new.left (arrived r)) (c.in_ok-paired-in-Sixteen.was ∙ ap Ok c.in-On-4.is)
+    (c.work-in-Sixteen.ensures.comes c.args.bytes.now))
+
+pub returns-in-Yes-4-clause-stands : goal.returns-in-Yes-4-clause-stands
+returns-in-Yes-4-clause-stands g c =
+    let stands = c.work-in-Sixteen.ensures.stands c.args.bytes.now (rw c.in-Sixteen.is at c.requires) in
+    subst (λ r. Stands c.args.bytes.now c.args.limit (arrived r))
+    (c.in_ok-paired-in-Sixteen.was ∙ ap Ok c.in-Yes-4.is) stands
+
+pub returns-in-Yes-4-clause-comes : goal.returns-in-Yes-4-clause-comes
+returns-in-Yes-4-clause-comes g c =
+    λ _. rw c.in-Sixteen.is
+    (subst
+    (λ r. Comes c.args.bytes.now c.args.limit (phase_of_paired c.in-Sixteen.paired) c.args.left.now
+    c.work-in-Sixteen.new.left (arrived r)) (c.in_ok-paired-in-Sixteen.was ∙ ap Ok c.in-Yes-4.is)
+    (c.work-in-Sixteen.ensures.comes c.args.bytes.now))
+
+pub returns-in_err-paired-in-SixtyFour-clause-stands : goal.returns-in_err-paired-in-SixtyFour-clause-stands
+returns-in_err-paired-in-SixtyFour-clause-stands g c =
+    let stands = c.work-in-SixtyFour.ensures.stands c.args.bytes.now (rw c.in-SixtyFour.is at c.requires) in
+    refused_reached c.from_residual-in_err-paired-in-SixtyFour.result c.in_err-paired-in-SixtyFour.field-0.0
+    c.from_residual-in_err-paired-in-SixtyFour.ensures.1 (Stands c.args.bytes.now c.args.limit)
+    (rw c.in_err-paired-in-SixtyFour.was at stands)
+
+pub returns-in_err-paired-in-SixtyFour-clause-comes : goal.returns-in_err-paired-in-SixtyFour-clause-comes
+returns-in_err-paired-in-SixtyFour-clause-comes g c =
+    λ _. rw c.in-SixtyFour.is
+    (refused_reached c.from_residual-in_err-paired-in-SixtyFour.result c.in_err-paired-in-SixtyFour.field-0.0
+    c.from_residual-in_err-paired-in-SixtyFour.ensures.1
+    (Comes c.args.bytes.now c.args.limit (phase_of_paired c.in-SixtyFour.paired) c.args.left.now
+    c.work-in-SixtyFour.new.left)
+    (rw c.in_err-paired-in-SixtyFour.was at (c.work-in-SixtyFour.ensures.comes c.args.bytes.now)))
+
+pub returns-in-On-5-clause-stands : goal.returns-in-On-5-clause-stands
+returns-in-On-5-clause-stands g c =
+    let stands = c.work-in-SixtyFour.ensures.stands c.args.bytes.now (rw c.in-SixtyFour.is at c.requires) in
+    subst (λ r. Stands c.args.bytes.now c.args.limit (arrived r))
+    (c.in_ok-paired-in-SixtyFour.was ∙ ap Ok c.in-On-5.is) stands
+
+pub returns-in-On-5-clause-comes : goal.returns-in-On-5-clause-comes
+returns-in-On-5-clause-comes g c =
+    λ _. rw c.in-SixtyFour.is
+    (subst
+    (λ r. Comes c.args.bytes.now c.args.limit (phase_of_paired c.in-SixtyFour.paired) c.args.left.now
+    c.work-in-SixtyFour.new.left (arrived r)) (c.in_ok-paired-in-SixtyFour.was ∙ ap Ok c.in-On-5.is)
+    (c.work-in-SixtyFour.ensures.comes c.args.bytes.now))
+
+pub returns-in-Yes-5-clause-stands : goal.returns-in-Yes-5-clause-stands
+returns-in-Yes-5-clause-stands g c =
+    let stands = c.work-in-SixtyFour.ensures.stands c.args.bytes.now (rw c.in-SixtyFour.is at c.requires) in
+    subst (λ r. Stands c.args.bytes.now c.args.limit (arrived r))
+    (c.in_ok-paired-in-SixtyFour.was ∙ ap Ok c.in-Yes-5.is) stands
+
+pub returns-in-Yes-5-clause-comes : goal.returns-in-Yes-5-clause-comes
+returns-in-Yes-5-clause-comes g c =
+    λ _. rw c.in-SixtyFour.is
+    (subst
+    (λ r. Comes c.args.bytes.now c.args.limit (phase_of_paired c.in-SixtyFour.paired) c.args.left.now
+    c.work-in-SixtyFour.new.left (arrived r)) (c.in_ok-paired-in-SixtyFour.was ∙ ap Ok c.in-Yes-5.is)
+    (c.work-in-SixtyFour.ensures.comes c.args.bytes.now))

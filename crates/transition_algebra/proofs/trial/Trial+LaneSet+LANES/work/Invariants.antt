@@ -10,4 +10,4 @@ invariant-loop-left g l = IsTrial l.code l.table l.phi l.self l.pairs.items
     × AreTripleValues l.table l.phi l.split_values.triples.items
 
 abbrev pub decreases-loop-left : goal.decreases-loop-left
-decreases-loop-left g l = 100000 * l.left + stages_left l.code l.self.walk
+decreases-loop-left g l = 1000000 * l.left + stages_left l.code l.self.walk
