@@ -20,7 +20,6 @@ use Rattle.requests.specs.declared.plans.Aim.TheVariants.{Whole, Deep, Part, Fur
 use Rattle.solve_command.specs.Solved.{IsNoCode, IsSearched, Solves}
 use Rattle.solve_command.specs.declared.bounds.SolveBounds.{SolveBounds}
 use Rattle.solve_library.specs.declared.solving.Asked.{Asked}
-use Rattle.solve_library.specs.declared.solving.TheConstants.{MOST_HEAPS}
 
 -- 0 aims at a full certificate, 1 at that of the heaps 1 to `heaps`, and 2 at that of some first heaps
 abbrev pub IsOfKind : ℕ → ℕ → ℕ → Type 0
@@ -39,7 +38,7 @@ IsAim aim heaps Furthest = aim ≡ 2
 abbrev pub IsAimInRange : Asked → Type 0
 IsAimInRange a =
     ((a.aim ≡ 0) × (2 ≤ a.heaps) × (a.heaps ≤ DEEPEST)
-        × ((MOST_HEAPS < a.heaps) ⊎ (a.order ≤ LARGEST_FIRST_ORDER)))
+        × ((64 < a.heaps) ⊎ (a.order ≤ LARGEST_FIRST_ORDER)))
     ⊎ (((a.aim ≡ 1) × (1 ≤ a.heaps) × (a.heaps ≤ LARGEST_PART)) ⊎ (a.aim ≡ 2))
 
 -- limit, rounds and order are in their ranges

@@ -10,12 +10,9 @@ use requests::Aim;
 use solve_command::{SolveBounds, solve_bytes};
 use std::alloc::Global;
 
-/// The most heaps with which a command line asks for a whole game, but for `--deep`.
-const MOST_HEAPS: u32 = 64;
-
 /// What is asked of a search. Each number has the range that it has on a command line; of a whole
-/// game as many heaps may be looked at as a certificate can need, and where they are more than
-/// `MOST_HEAPS`, the order has the range that it has with `--deep`.
+/// game as many heaps may be looked at as a certificate can need, and where they are more than 64,
+/// the order has the range that it has with `--deep`.
 #[derive(Clone, Copy)]
 pub(crate) struct Asked {
     pub limit: u32,
@@ -31,7 +28,7 @@ fn aim_of(asked: Asked) -> Option<Aim>
     ensures range { IsSome result ↔ IsAimInRange asked }
 {
     let heaps = asked.heaps;
-    let is_order = MOST_HEAPS < heaps || asked.order <= LARGEST_FIRST_ORDER as u32;
+    let is_order = 64 < heaps || asked.order <= LARGEST_FIRST_ORDER as u32;
     match asked.aim {
         0 if 2 <= heaps && heaps <= DEEPEST as u32 && is_order => Some(Aim::Whole { heaps }),
         1 if 1 <= heaps && heaps <= LARGEST_PART as u32 => Some(Aim::Part { last: heaps }),
