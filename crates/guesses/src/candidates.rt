@@ -1,7 +1,6 @@
 //! From where on, and after how many heaps, guessed elements may repeat.
 use crate::guess::Guess;
 use allocation::Memory;
-use misere_theory::MOST_ENTRIES;
 use periods::least_period;
 use std::alloc::Global;
 
@@ -14,18 +13,13 @@ const MOST_REPEATS: usize = 6;
 /// How many ends of the list are looked at.
 const ENDS: usize = 65;
 
-/// Whether a certificate has room for the entries of a start and a period.
-fn has_room(repeat: Repeat) -> bool {
-    repeat.0.saturating_add(repeat.1) <= MOST_ENTRIES as usize + 1
-}
-
 /// The starts and periods that a guess's heaps suggest, the likeliest first: its period where there
 /// are as many heaps as show that it goes on, if they are right, and the least ones by the ends of
-/// the list. Those that no certificate has room for are left out.
+/// the list.
 pub(crate) fn candidates(alloc: Global, guess: &Guess) -> Result<Vec<Repeat>, Memory> {
     let heaps = &guess.heaps;
     let mut all: Vec<Repeat> = Vec::new(alloc);
-    if guess.shown && has_room((guess.start, guess.period)) {
+    if guess.shown {
         all.push((guess.start, guess.period))?;
     }
     for end in (0..heaps.len() + 1).rev() {
@@ -33,7 +27,7 @@ pub(crate) fn candidates(alloc: Global, guess: &Guess) -> Result<Vec<Repeat>, Me
             break;
         }
         if let Some(repeat) = least_period(&heaps[..end]) {
-            if has_room(repeat) && !all.contains(&repeat) {
+            if !all.contains(&repeat) {
                 all.push(repeat)?;
             }
         }

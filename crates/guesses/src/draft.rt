@@ -5,20 +5,30 @@ use crate::format::format_by;
 use crate::guess::Guess;
 use crate::lines::{push_keys, push_line, push_pair};
 use allocation::Memory;
+use misere_theory::MOST_ENTRIES;
 use octal_code::Code;
+use quotient_search::DEEPEST;
 use std::alloc::Global;
 
 /// The most bytes of a certificate that the program reads.
 const MOST_BYTES: usize = 4_194_304;
 
+/// Whether a certificate has room for the entries of a start and a period, and no more heaps show them
+/// than are looked at.
+fn has_room(code: &Code, repeat: Repeat) -> bool {
+    let parts = if code.leaves_three() { 3 } else { 2 };
+    let entries = repeat.0.saturating_add(repeat.1);
+    entries <= MOST_ENTRIES as usize + 1 && entries.saturating_mul(parts) <= DEEPEST
+}
+
 /// The text of the certificate of the code that the guess makes, where its heaps repeat from a
 /// start on after a period, or of the heaps below the start alone where the period is 0: the
 /// elements that products of heaps reach, numbered by least keys, with least separating elements.
 ///
-/// There is none where the guess has no such heaps or products, where more than `most` elements are
-/// reached, or only one, where none of them is in the portion, where no element separates two of
-/// them, or where the text has more than `MOST_BYTES`. Whatever numbers the guess holds, the call
-/// ends.
+/// There is none where `has_room` says no, where the guess has no such heaps or products, where more
+/// than `most` elements are reached, or only one, where none of them is in the portion, where no
+/// element separates two of them, or where the text has more than `MOST_BYTES`. Whatever numbers the
+/// guess holds, the call ends.
 pub(crate) fn draft(
     alloc: Global,
     code: &Code,
@@ -27,6 +37,9 @@ pub(crate) fn draft(
     most: usize,
 ) -> Result<Option<Vec<u8>>, Memory> {
     let (start, period) = repeat;
+    if !has_room(code, repeat) {
+        return Ok(None);
+    }
     let Some(length) = start.saturating_add(period).checked_sub(1) else {
         return Ok(None);
     };

@@ -12,7 +12,11 @@ pub(crate) fn format_by(code: &Code, order: usize, start: usize, period: usize) 
     ensures { result ≡ format_by code.now order start period }
 {
     let heaps = start.saturating_add(period);
-    if LARGEST_SECOND_ORDER as usize < order || MOST_SECOND_ENTRIES as usize + 1 < heaps {
+    let (order_of_two, entries_of_two) = (
+        LARGEST_SECOND_ORDER as usize,
+        MOST_SECOND_ENTRIES as usize,
+    );
+    if order_of_two < order || entries_of_two + 1 < heaps {
         3
     } else if code.is_octal() && (order <= LARGEST_FIRST_ORDER as usize && 0 < period) {
         1
