@@ -152,7 +152,7 @@ static OWN: [(&[u8], u64); 9] = [
 
 /// Whether a certificate is read of the bytes that speaks of the heaps up to `heaps`, and written
 /// as the same bytes.
-fn comes_back(alloc: Global, bytes: &[u8], heaps: u64) -> bool {
+pub fn comes_back(alloc: Global, bytes: &[u8], heaps: u64) -> bool {
     match read(alloc, bytes) {
         Ok(cert) => {
             let mut sink = MemorySink::new(alloc);
@@ -174,7 +174,7 @@ fn count_back(alloc: Global, texts: &[(&[u8], u64)]) -> usize {
 }
 
 /// Whether a certificate is read of the bytes, or why none is.
-fn fault_of<A: Allocator + Copy>(alloc: A, bytes: &[u8]) -> Result<bool, TextFault> {
+pub fn fault_of<A: Allocator + Copy>(alloc: A, bytes: &[u8]) -> Result<bool, TextFault> {
     match read(alloc, bytes) {
         Ok(_) => Ok(true),
         Err(fault) => Err(fault),
@@ -190,6 +190,16 @@ fn count_refused(alloc: Global, texts: &[&[u8]]) -> usize {
         }
     }
     count
+}
+
+/// The length of the shortest beginning of the text that isn't refused as no certificate.
+fn first_not_refused(alloc: Global, text: &[u8]) -> usize {
+    for end in 0..text.len() {
+        if !matches!(fault_of(alloc, &text[..end]), Err(TextFault::Text)) {
+            return end;
+        }
+    }
+    text.len()
 }
 
 /// Whether the certificate of 0.75 is read, or the number of the fault.
@@ -265,8 +275,8 @@ fn first_wrong_write(alloc: Global) -> u64 {
 /// A text, its order, its number of separations, and the last heap of which it speaks.
 type Large = (&'static [(Repeats, usize)], usize, usize, u64);
 
-/// The most entries and the first format's largest order; one element more, for an octal code; and
-/// the most entries without a period, and the largest order.
+/// The first format's most entries and its largest order; one element more, for an octal code; and
+/// the second format's most entries without a period, and its largest order.
 static LARGE: [Large; 3] = [
     (
         &[
@@ -355,11 +365,12 @@ fn count_large(alloc: Global, rows: &[Large]) -> usize {
     count
 }
 
-/// The last have the most entries, the largest orders, and more than 2^16 bytes.
+/// The last have the first two formats' most entries and largest orders, and more than 2^16 bytes.
 #[test]
 fn texts_and_certificates(rt: HostRuntime) {
     assert!(rt; count_back(rt.alloc(), &OWN) == 9);
     assert!(rt; count_refused(rt.alloc(), &OTHERS) == 30);
+    assert!(rt; first_not_refused(rt.alloc(), OF_0_75) == OF_0_75.len());
     assert!(rt; lines_lent(rt.alloc()) == [true; 8]);
     assert!(rt; first_wrong_write(rt.alloc()) == 99);
     assert!(rt; count_large(rt.alloc(), &LARGE) == 3);

@@ -83,14 +83,42 @@ fn four_lanes_hold(alloc: Global) -> Result<bool, AllocError> {
     )
 }
 
+/// What holds of sets in sixteen lanes and in sixty-four, at the edges of the lanes and of the range.
+fn wide_sets_hold() -> [bool; 6] {
+    let sixteen: LaneSet<16> = lane_set(&[0, 511, 512, 1023]);
+    let mut all: LaneSet<64> = lane_set(&[0, 1023, 1024, 4095]);
+    [
+        sixteen.meets(&lane_set(&[1023])) && !sixteen.meets(&lane_set(&[1022])),
+        lane_set::<16>(&[512]).subset(&sixteen) && !sixteen.contains(1024),
+        all.meets(&lane_set(&[4095])) && !all.meets(&lane_set(&[4094])),
+        all.contains(1024) && !all.contains(4096) && !all.contains(u16::MAX),
+        !all.insert(4096) && all == lane_set(&[4095, 1024, 1023, 0]),
+        lane_set::<64>(&[1023, 4095]).union(&lane_set(&[0, 1024])) == all,
+    ]
+}
+
+/// Whether the translation of sets in sixty-four lanes from the other end is right.
+fn the_widest_translates(alloc: Global) -> Result<bool, AllocError> {
+    let mut row = Vec::new(alloc);
+    for x in 0..4096u16 {
+        row.push(4095 - x)?;
+    }
+    let edges: LaneSet<64> = lane_set(&[0, 63, 64, 4095]);
+    members_are_small(&edges);
+    Ok(edges.translate(&row) == lane_set(&[0, 4031, 4032, 4095]))
+}
+
 /// A set is a bit for each of 512 elements, or of as many as its lanes have.
 #[test]
 fn sets(rt: HostRuntime) {
     assert!(rt; MOST_ELEMENTS == 512 && size_of::<ElementSet>() == 64);
     assert!(rt; size_of::<LaneSet<1>>() == 8 && size_of::<LaneSet<4>>() == 32);
+    assert!(rt; size_of::<LaneSet<16>>() == 128 && size_of::<LaneSet<64>>() == 512);
     assert!(rt; set_of(&[0, 255, 511]).meets(&set_of(&[511])));
     assert!(rt; edges_hold() == [true; 8]);
     assert!(rt; range_holds() == [true; 5]);
+    assert!(rt; wide_sets_hold() == [true; 6]);
     assert!(rt; matches!(translates_from_the_other_end(rt.alloc()), Ok(true)));
     assert!(rt; matches!(four_lanes_hold(rt.alloc()), Ok(true)));
+    assert!(rt; matches!(the_widest_translates(rt.alloc()), Ok(true)));
 }

@@ -1,8 +1,9 @@
 //! Jobs with each growth of memory refused in turn.
 use crate::transition_algebra_tests::Heaps;
 use crate::{
-    certificate_tests, octal_code_tests, outcome_search_tests, pair_closure_tests, positions_tests,
-    presentations_tests, quotient_solver_tests, streams_tests, transition_algebra_tests,
+    certificate_tests, compact_certificates_tests, octal_code_tests, outcome_search_tests,
+    pair_closure_tests, positions_tests, presentations_tests, quotient_solver_tests, streams_tests,
+    third_format_lines_tests, transition_algebra_tests,
 };
 use allocation::SmallAllocator;
 use positions::Left;
@@ -25,6 +26,8 @@ pub enum Job {
     Quotient,
     Certificate,
     Order,
+    ThirdFormat,
+    Products,
     Stream,
     Heaps(Heaps),
     Closure,
@@ -72,6 +75,8 @@ fn answer<A: SmallAllocator + Copy>(alloc: A, job: Job) -> Result<bool, u8> {
         Job::Quotient => quotient_solver_tests::is_of_eight(alloc),
         Job::Certificate => certificate_tests::is_read(alloc),
         Job::Order => certificate_tests::is_refused(alloc),
+        Job::ThirdFormat => third_format_lines_tests::is_read(alloc),
+        Job::Products => compact_certificates_tests::of_nim_is_made(alloc),
         Job::Stream => streams_tests::is_read(alloc, b"abc", 100, b"abc"),
         Job::Heaps(heaps) => transition_algebra_tests::in_pieces(alloc, heaps, 7),
         Job::Closure => pair_closure_tests::ends(alloc),
@@ -117,6 +122,8 @@ fn each_growth_may_be_refused(rt: HostRuntime) {
         (Job::Quotient, 1, 100_000),
         (Job::Certificate, 6, 40),
         (Job::Order, 1, 2),
+        (Job::ThirdFormat, 20, 100),
+        (Job::Products, 5, 20),
         (Job::Stream, 2, 9),
         (Job::Heaps(Heaps::OfEight), 1, 1000),
         (Job::Heaps(Heaps::OfThreeParts), 1, 1000),

@@ -5,9 +5,13 @@
 #[cfg(test)]
 mod certificate_tests;
 #[cfg(test)]
+mod compact_certificates_tests;
+#[cfg(test)]
 mod element_sets_tests;
 #[cfg(test)]
 mod growths;
+#[cfg(test)]
+mod known_monoids;
 #[cfg(test)]
 mod large_closure_tests;
 #[cfg(test)]
@@ -32,5 +36,9 @@ mod ration_tests;
 mod streams_tests;
 #[cfg(test)]
 mod texts;
+#[cfg(test)]
+mod third_format_lines_tests;
+#[cfg(test)]
+mod third_format_tests;
 #[cfg(test)]
 mod transition_algebra_tests;

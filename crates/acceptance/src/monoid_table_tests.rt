@@ -134,14 +134,16 @@ fn last_squared(alloc: Global, order: u16) -> Result<u16, u8> {
     }
 }
 
-/// No table has more than 512 elements.
+/// No table has more than 4,096 elements.
 #[test]
 fn tables_of_many_elements(rt: HostRuntime) {
     for (order, product) in [
         (256, Ok(254)),
         (257, Ok(255)),
         (512, Ok(510)),
-        (513, Err(1)),
+        (513, Ok(511)),
+        (4096, Ok(4094)),
+        (4097, Err(1)),
     ] {
         assert!(rt; last_squared(rt.alloc(), order) == product);
     }

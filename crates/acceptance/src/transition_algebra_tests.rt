@@ -200,12 +200,12 @@ fn have_pairs(alloc: Global, code: &Code) -> bool {
 fn count_most(alloc: Global, code: &Code, table: &Table) -> usize
     requires { table.now.order ≡ 2 }
 {
-    match vec![in alloc; 1u16; 1024] {
+    match vec![in alloc; 1u16; 4096] {
         Ok(entries) => match heap_pairs::<1, Global>(
             alloc,
             code,
             table,
-            &Phi::new(1, 1024, entries),
+            &Phi::new(1, 4096, entries),
         ) {
             Ok(pairs) => pairs.len(),
             Err(_) => 0,
@@ -214,14 +214,14 @@ fn count_most(alloc: Global, code: &Code, table: &Table) -> usize
     }
 }
 
-/// The most entries, whose heaps are the most: of 2051 heaps each has its pair, with the splits of
+/// The most entries, whose heaps are the most: of 8195 heaps each has its pair, with the splits of
 /// each whole made once.
 fn most_have_pairs(alloc: Global, code: &Code) -> bool {
     let Ok(rows) = [0u16, 1, 1, 0].to_vec(alloc) else {
         return false;
     };
     match Table::new(2, rows) {
-        Ok(table) => count_most(alloc, code, &table) == 2051,
+        Ok(table) => count_most(alloc, code, &table) == 8195,
         Err(_) => false,
     }
 }

@@ -118,6 +118,14 @@ pub const TEXT_SECOND_FORMAT_OF_0_3: &str =
     "mqc 2\ncode 0.3\norder 2\nstart 1\nperiod 2\nphi 1 0\nportion 1\nwords 0:1\nrow 0 1\n\
 row 1 0\napart 0\nend\n";
 
+pub const TEXT_THIRD_FORMAT_OF_0_3: &str =
+    "mqc 3\ncode 0.3\norder 2\nstart 1\nperiod 2\nphi 1 0\nportion 1\nwords 0:1\nrow 0 1\n\
+row 1 0\napart 0\nend\n";
+
+/// The same without what the third format leaves out.
+pub const TEXT_FIRST_ROWS_OF_0_3: &str =
+    "mqc 3\ncode 0.3\norder 2\nstart 1\nperiod 2\nphi 1 0\nportion 1\nwords 0:1\nrow 1 0\nend\n";
+
 pub const TEXT_FIRST_FORMAT_OF_0_B: &str =
     "mqc 1\ncode 0.b\norder 2\nstart 1\nperiod 2\nphi 1 0\nportion 1\nwords 0:1\nrow 0 1\n\
 row 1 0\napart 0\nend\n";
@@ -156,7 +164,7 @@ pub const LIMIT: u32 = 100000;
 /// A name, what the file holds, a limit, and what is said.
 pub type Answered = (&'static str, &'static str, u32, &'static str);
 
-pub static ANSWERS: [Answered; 31] = [
+pub static ANSWERS: [Answered; 33] = [
     (
         "0.3.mqc",
         OF_0_3,
@@ -244,6 +252,18 @@ pub static ANSWERS: [Answered; 31] = [
     (
         "text_second_format_of_0.3.mqc",
         TEXT_SECOND_FORMAT_OF_0_3,
+        LIMIT,
+        "no 1 Text\n",
+    ),
+    (
+        "text_third_format_of_0.3.mqc",
+        TEXT_THIRD_FORMAT_OF_0_3,
+        LIMIT,
+        "no 1 Text\n",
+    ),
+    (
+        "text_first_rows_of_0.3.mqc",
+        TEXT_FIRST_ROWS_OF_0_3,
         LIMIT,
         "no 1 Text\n",
     ),

@@ -88,7 +88,7 @@ fn accepts_a_long_part(alloc: Global) -> bool {
 
 #[test]
 fn answers_of_certificates(rt: HostRuntime) {
-    assert!(rt; count_held(rt.alloc(), &ANSWERS) == 31);
+    assert!(rt; count_held(rt.alloc(), &ANSWERS) == 33);
     assert!(rt;
         reads_input(
             rt.alloc(),

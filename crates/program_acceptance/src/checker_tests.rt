@@ -64,11 +64,13 @@ fn is_refuted_at_length(alloc: Global, bytes: &[u8]) -> bool {
     }
 }
 
-/// Whether the certificate over the largest group has more than 2^16 bytes and is refuted.
-fn refutes_largest(alloc: Global, but_the_last: bool) -> bool {
-    match cyclic(alloc, 256, but_the_last) {
-        Some(text) => text.len() > 65536 && is_refuted_at_length(alloc, &text),
-        None => false,
+/// How many bytes the certificate over a group has, if it is refuted.
+fn length_of_refuted(alloc: Global, order: u16, but_the_last: bool) -> Option<usize> {
+    let text = cyclic(alloc, order, but_the_last)?;
+    if is_refuted_at_length(alloc, &text) {
+        Some(text.len())
+    } else {
+        None
     }
 }
 
@@ -80,12 +82,24 @@ fn number_of_longest(alloc: Global) -> u8 {
     }
 }
 
-/// More than 2^16 bytes, the largest order, more than 256 members, and words of more than 64 heaps:
-/// those of a member where the rule fails outside the portion, and those of an element's keys where
-/// it fails inside. Then the longest pretending function, and so the most heaps, of the code with
-/// the most digits.
+/// The first format's largest order, of a text of more than 2^16 bytes, more than 256 members, and
+/// words of more than 64 heaps: those of a member where the rule fails outside the portion, and those
+/// of an element's keys where it fails inside. Then the longest pretending function, and so the most
+/// heaps, of the code with the most digits.
 #[test]
 fn memory_suffices_for_the_largest(rt: HostRuntime) {
-    assert!(rt; refutes_largest(rt.alloc(), true) && refutes_largest(rt.alloc(), false));
+    assert!(rt; length_of_refuted(rt.alloc(), 256, true) > Some(65536));
+    assert!(rt; length_of_refuted(rt.alloc(), 256, false) > Some(65536));
     assert!(rt; number_of_longest(rt.alloc()) == 7);
+}
+
+/// Sets of elements take more room from some orders on.
+#[test]
+fn orders_of_each_width(rt: HostRuntime) {
+    for order in [66, 258, 512, 514, 1024, 1026] {
+        assert!(rt;
+            length_of_refuted(rt.alloc(), order, true).is_some(),
+            "{order}"
+        );
+    }
 }

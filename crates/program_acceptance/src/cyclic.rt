@@ -93,25 +93,41 @@ fn put_apart(alloc: Global, text: &mut Vec<u8>, order: u16, but_the_last: bool) 
     done
 }
 
+/// The format of an order.
+fn format_of(order: u16) -> u16 {
+    if order > 512 {
+        3
+    } else if order > 256 {
+        2
+    } else {
+        1
+    }
+}
+
+/// The rows and the separating elements, or in the third format the row of the heap 1's element.
+fn put_table(alloc: Global, text: &mut Vec<u8>, order: u16, but_the_last: bool) -> bool {
+    if format_of(order) == 3 {
+        return put_text(text, "\nrow") && put_line(alloc, text, Line::Row(order, 1), 0, order);
+    }
+    put_rows(alloc, text, order)
+        && put_text(text, "\napart")
+        && put_apart(alloc, text, order, but_the_last)
+}
+
 /// A certificate for 0.3 over a cyclic group of even order, in which a heap of odd size is 1 and
 /// one of even size 0. The rule fails first at positions of many heaps.
 pub fn cyclic(alloc: Global, order: u16, but_the_last: bool) -> Option<Vec<u8>> {
     let mut text = Vec::new(alloc);
-    let done = put_text(&mut text, "mqc 1\ncode 0.3\norder")
+    let portion = Line::Portion(order, but_the_last);
+    let done = put_text(&mut text, "mqc")
+        && put(alloc, &mut text, format_of(order))
+        && put_text(&mut text, "\ncode 0.3\norder")
         && put(alloc, &mut text, order)
         && put_text(&mut text, "\nstart 1\nperiod 2\nphi 1 0\nportion")
-        && put_line(
-            alloc,
-            &mut text,
-            Line::Portion(order, but_the_last),
-            0,
-            order,
-        )
+        && put_line(alloc, &mut text, portion, 0, order)
         && put_text(&mut text, "\nwords")
         && put_line(alloc, &mut text, Line::Words, 1, order)
-        && put_rows(alloc, &mut text, order)
-        && put_text(&mut text, "\napart")
-        && put_apart(alloc, &mut text, order, but_the_last)
+        && put_table(alloc, &mut text, order, but_the_last)
         && put_text(&mut text, "\nend\n");
     if done { Some(text) } else { None }
 }
@@ -120,10 +136,10 @@ pub fn cyclic(alloc: Global, order: u16, but_the_last: bool) -> Option<Vec<u8>> 
 /// the most heaps.
 pub fn longest(alloc: Global) -> Option<Vec<u8>> {
     let mut text = Vec::new(alloc);
-    let front = "mqc 1\ncode 0.3000000000000003\norder 2\nstart 1\nperiod 1024\nphi";
-    let back = " 1\nportion 1\nwords 0:1\nrow 0 1\nrow 1 0\napart 0\nend\n";
+    let front = "mqc 3\ncode 0.3000000000000003\norder 2\nstart 1\nperiod 4096\nphi";
+    let back = " 1\nportion 1\nwords 0:1\nrow 1 0\nend\n";
     let done = put_text(&mut text, front)
-        && put_line(alloc, &mut text, Line::Phi, 1, 1024)
+        && put_line(alloc, &mut text, Line::Phi, 1, 4096)
         && put_text(&mut text, back);
     if done { Some(text) } else { None }
 }

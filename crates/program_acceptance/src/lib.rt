@@ -32,9 +32,13 @@ mod folders_tests;
 #[cfg(test)]
 mod growths;
 #[cfg(test)]
+mod nim;
+#[cfg(test)]
 mod play_command_tests;
 #[cfg(test)]
 mod player_tests;
+#[cfg(test)]
+mod third_format_tests;
 #[cfg(test)]
 mod units_tests;
 #[cfg(test)]

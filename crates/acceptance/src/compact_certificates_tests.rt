@@ -1,0 +1,258 @@
+//! Rows and separators that a compact certificate leaves out, made of worked tables, and with memory
+//! refused.
+ghost use Rattle.std.specs.Prelude.{◌<◌, All, IsTrue};
+
+use compact_certificates::products::push_product;
+use compact_certificates::separators::least_separators;
+use presentations::{Named, Presentation, table_of};
+use std::alloc::{AllocError, Allocator, Global};
+
+/// Whether the numbers are below the limit.
+fn are_below(numbers: &[u16], limit: u16) -> bool
+    ensures { IsTrue result → All (λ z. z < limit) numbers.now }
+{
+    numbers.iter().all(|z| *z < limit)
+}
+
+/// Puts the row of a product behind the rows, and is whether these have rows for both.
+fn put_product<A: Allocator>(
+    rows: &mut Vec<u16, A>,
+    order: u16,
+    x: u16,
+    y: u16,
+) -> Result<bool, AllocError> {
+    let (from, until) = (order as usize, rows.len());
+    let there = x as usize * from + from <= until && y as usize * from + from <= until;
+    if !there || !are_below(rows, order) {
+        return Ok(false);
+    }
+    push_product(rows, order, x, y)?;
+    Ok(true)
+}
+
+/// Puts the row of each product behind those before it.
+fn put_products<A: Allocator>(
+    rows: &mut Vec<u16, A>,
+    order: u16,
+    products: &[(u16, u16)],
+) -> Result<bool, AllocError> {
+    for (x, y) in products {
+        if !put_product(rows, order, *x, *y)? {
+            return Ok(false);
+        }
+    }
+    Ok(true)
+}
+
+/// Which elements are in the portion.
+fn inside<A: Allocator>(alloc: A, order: u16, portion: &[u16]) -> Result<Vec<bool, A>, AllocError> {
+    let mut inside = Vec::new(alloc);
+    for x in 0..order {
+        inside.push(portion.contains(&x))?;
+    }
+    Ok(inside)
+}
+
+/// The least separators of the rows, or none where these have no entry below the order for each
+/// pair.
+fn separators<A: Allocator + Copy>(
+    alloc: A,
+    order: u16,
+    rows: &[u16],
+    portion: &[u16],
+) -> Result<Vec<u16, A>, AllocError> {
+    let inside = inside(alloc, order, portion)?;
+    if rows.len() != order as usize * order as usize
+        || inside.len() != order as usize
+        || !are_below(rows, order)
+    {
+        return Ok(Vec::new(alloc));
+    }
+    least_separators(alloc, order, rows, &inside)
+}
+
+/// A table: its order, the products behind the first rows, all rows, the portion, and the
+/// separators.
+type Worked = (
+    u16,
+    &'static [(u16, u16)],
+    &'static [u16],
+    &'static [u16],
+    &'static [u16],
+);
+
+/// Of Nim with heaps up to 2.
+const OF_NIM: Worked = (
+    6,
+    &[(1, 2), (2, 2), (3, 2)],
+    &[
+        0, 1, 2, 3, 4, 5, 1, 0, 3, 2, 5, 4, 2, 3, 4, 5, 2, 3, 3, 2, 5, 4, 3, 2, 4, 5, 2, 3, 4, 5,
+        5, 4, 3, 2, 5, 4,
+    ],
+    &[1, 4],
+    &[0, 1, 1, 0, 4, 0, 0, 4, 0, 2, 0, 1, 0, 1, 0],
+);
+
+/// The products of 0.75's elements.
+const EIGHT: &[u16] = &[
+    0, 1, 2, 3, 4, 5, 6, 7, 1, 0, 5, 6, 7, 2, 3, 4, 2, 5, 7, 5, 5, 4, 2, 2, 3, 6, 5, 7, 7, 2, 4, 4,
+    4, 7, 5, 7, 7, 2, 4, 4, 5, 2, 4, 2, 2, 7, 5, 5, 6, 3, 2, 4, 4, 5, 7, 7, 7, 4, 2, 4, 4, 5, 7, 7,
+];
+
+/// Of 0.75, whose later elements are the first four times the first.
+const BEHIND_FOUR: &[(u16, u16)] = &[(1, 2), (1, 3), (1, 4)];
+
+/// Where no portion tells two elements apart, the separators are 0.
+static WORKED: [Worked; 7] = [
+    OF_NIM,
+    (
+        8,
+        BEHIND_FOUR,
+        EIGHT,
+        &[1, 7],
+        &[
+            0, 1, 1, 3, 1, 1, 0, 0, 0, 0, 0, 0, 4, 2, 1, 2, 2, 0, 1, 3, 3, 0, 1, 1, 0, 5, 0, 0,
+        ],
+    ),
+    (8, BEHIND_FOUR, EIGHT, &[], &[0; 28]),
+    (8, BEHIND_FOUR, EIGHT, &[0, 1, 2, 3, 4, 5, 6, 7], &[0; 28]),
+    // the powers of an element whose third is its first
+    (3, &[(1, 1)], &[0, 1, 2, 1, 2, 1, 2, 1, 2], &[2], &[1, 0, 0]),
+    (1, &[], &[0], &[0], &[]),
+    (2, &[], &[0, 1, 1, 1], &[1], &[0]),
+];
+
+/// Whether the rows and the separators are made of the first rows, or the number of the fault. If
+/// memory is wanting, the rows stay as they were.
+fn is_made<A: Allocator + Copy>(alloc: A, worked: &Worked) -> Result<bool, u8> {
+    let (order, products, all, portion, apart) = *worked;
+    let made = products.len().saturating_mul(order as usize);
+    let Ok(mut rows) = all[..all.len().saturating_sub(made)].to_vec(alloc) else {
+        return Err(9);
+    };
+    let Ok(is_put) = put_products(&mut rows, order, products) else {
+        return Err(if all.starts_with(&rows) { 9 } else { 0 });
+    };
+    if is_put && rows.as_slice() == all {
+        are_separators(alloc, order, &rows, portion, apart)
+    } else {
+        Ok(false)
+    }
+}
+
+/// Whether these are the separators of the rows, or the number of the fault.
+fn are_separators<A: Allocator + Copy>(
+    alloc: A,
+    order: u16,
+    rows: &[u16],
+    portion: &[u16],
+    apart: &[u16],
+) -> Result<bool, u8> {
+    match separators(alloc, order, rows, portion) {
+        Ok(found) => Ok(found.as_slice() == apart),
+        Err(_) => Err(9),
+    }
+}
+
+/// Whether those of Nim are made, or the number of the fault.
+pub fn of_nim_is_made<A: Allocator + Copy>(alloc: A) -> Result<bool, u8> {
+    is_made(alloc, &OF_NIM)
+}
+
+/// How many rows hold.
+fn count_made(alloc: Global, rows: &[Worked]) -> usize {
+    let mut held = 0usize;
+    for worked in rows {
+        if is_made(alloc, worked) != Ok(true) {
+            return held;
+        }
+        held = held.saturating_add(1);
+    }
+    held
+}
+
+/// The quotient of Kayles: Plambeck and Siegel, 'Misère quotients for impartial games', with the
+/// fourth powers that follow.
+const OF_KAYLES: &str = "a^2=1 b^3=b bc^2=b c^3=c bd=bc cd=b^2 d^3=d be=bc ce=b^2 e^2=de e^4=e^2 \
+bf=ab cf=ab^2c d^2f=f f^2=b^2 f^4=f^2 b^2g=g c^2g=g dg=cg eg=cg fg=ag g^2=b^2 g^4=g^2";
+
+/// The products of Kayles, row after row, whose letters are its first elements.
+fn of_kayles(alloc: Global) -> Option<Vec<u16>> {
+    let presentation = Presentation::read(alloc, OF_KAYLES.as_bytes()).ok()?;
+    let Named { table, generators } = table_of(alloc, &presentation, 65536).ok()?;
+    let elements = generators.iter().map(|generator| generator.element);
+    if table.order() == 40 && elements.eq([1, 2, 3, 4, 5, 6, 7]) {
+        Some(table.into_rows())
+    } else {
+        None
+    }
+}
+
+/// The product of two of Kayles' elements.
+fn times(rows: &[u16], x: u16, y: u16) -> u16 {
+    let at = (x as usize).saturating_mul(40).saturating_add(y as usize);
+    match rows.get(at) {
+        Some(product) => *product,
+        None => 40,
+    }
+}
+
+/// A letter and a smaller element whose product is this element.
+fn key_of(rows: &[u16], element: u16) -> (u16, u16) {
+    for x in 0..element {
+        for letter in 1..8u16 {
+            if times(rows, x, letter) == element {
+                return (x, letter);
+            }
+        }
+    }
+    (40, 40)
+}
+
+/// Whether the rows behind those of the letters are made by letters.
+fn are_made_by_letters(alloc: Global, all: &[u16]) -> Result<bool, AllocError> {
+    let mut rows = all[..all.len().min(320)].to_vec(alloc)?;
+    for element in 8..40u16 {
+        let (x, letter) = key_of(all, element);
+        if !put_product(&mut rows, 40, x, letter)? {
+            return Ok(false);
+        }
+    }
+    Ok(rows.as_slice() == all)
+}
+
+/// The first element that takes just one of the two into the portion, or 0.
+fn first_apart(rows: &[u16], portion: &[u16], x: u16, y: u16) -> u16 {
+    for z in 0..40u16 {
+        if portion.contains(&times(rows, x, z)) != portion.contains(&times(rows, y, z)) {
+            return z;
+        }
+    }
+    0
+}
+
+/// The separators of Kayles' elements, pair by pair, found one by one.
+fn firsts_apart(alloc: Global, rows: &[u16], portion: &[u16]) -> Result<Vec<u16>, AllocError> {
+    let mut all = Vec::new(alloc);
+    for x in 0..40u16 {
+        for y in x.saturating_add(1)..40u16 {
+            all.push(first_apart(rows, portion, x, y))?;
+        }
+    }
+    Ok(all)
+}
+
+/// Whether the rows and the separators of Kayles are made, with a and b^2 as the portion.
+fn of_kayles_is_made(alloc: Global) -> Option<bool> {
+    let rows = of_kayles(alloc)?;
+    let portion = [1, times(&rows, 2, 2)];
+    let apart = firsts_apart(alloc, &rows, &portion).ok()?;
+    let made = are_made_by_letters(alloc, &rows).ok()?;
+    Some(made && are_separators(alloc, 40, &rows, &portion, &apart) == Ok(true))
+}
+
+#[test]
+fn rows_and_separators_are_made(rt: HostRuntime) {
+    assert!(rt; count_made(rt.alloc(), &WORKED) == 7);
+    assert!(rt; of_kayles_is_made(rt.alloc()) == Some(true));
+}
