@@ -210,7 +210,7 @@ fn much_is_read(alloc: Global, more: usize) -> bool {
         return false;
     };
     match play_lines(alloc, "a.mqc", LIMIT, &mut folder, &mut input) {
-        Ok(said) => more == 0 && said.text.as_slice() == b"not a position\n",
+        Ok(said) => more == 0 && said.text.as_slice() == "not a position\n".as_bytes(),
         Err(stop) => more > 0 && stop == Stop::Read("standard input"),
     }
 }
