@@ -3,10 +3,10 @@ use crate::certificates::{
     OF_0_1, OF_0_33, OF_0_75, OF_0_B, PART_OF_0_8, PART_OF_0_75, folder_of, is_said,
 };
 use command_results::Stop;
+use devices::FailingSource;
 use folders::MemoryFolder;
 use play_command::{LARGEST_INPUT, play, play_lines};
 use std::alloc::Global;
-use devices::FailingSource;
 use streams::{MemorySource, Source};
 
 const LIMIT: u32 = 100000;
@@ -169,9 +169,7 @@ fn says_of_lines(alloc: Global, row: &(&str, &str, &str, bool)) -> bool {
     match folder_of(alloc, "a.mqc", held, 2) {
         Some(mut folder) => {
             match play_lines(alloc, "a.mqc", LIMIT, &mut folder, &mut input) {
-                Ok(said) => {
-                    said.text.as_slice() == text.as_bytes() && said.succeeds == succeeds
-                }
+                Ok(said) => { said.text.as_slice() == text.as_bytes() && said.succeeds == succeeds }
                 Err(_) => false,
             }
         }
@@ -201,19 +199,19 @@ fn stops_on_lines<S: Source>(alloc: Global, name: &str, input: &mut S, stop: Sto
     }
 }
 
-/// So many times the line "1 1" but for the last byte: as much as is read, or some bytes more.
-fn much_is_read(alloc: Global, more: usize, succeeds: bool) -> bool {
-    let Ok(lines) = "1 1\n".repeat(alloc, LARGEST_INPUT / 4 + 1) else {
+/// Whether as much as is read is answered, as one line that is no position, and some bytes more
+/// can't be read.
+fn much_is_read(alloc: Global, more: usize) -> bool {
+    let Ok(line) = "x".repeat(alloc, LARGEST_INPUT.saturating_add(more)) else {
         return false;
     };
-    let bytes = &lines.as_bytes()[..LARGEST_INPUT.saturating_add(more)];
-    let mut input = MemorySource::new(bytes);
+    let mut input = MemorySource::new(line.as_bytes());
     let Some(mut folder) = folder_of(alloc, "a.mqc", OF_0_33, 0) else {
         return false;
     };
     match play_lines(alloc, "a.mqc", LIMIT, &mut folder, &mut input) {
-        Ok(said) => succeeds && said.text.len() == "wins 1 -> 0\n".len() * (LARGEST_INPUT / 4),
-        Err(stop) => !succeeds && stop == Stop::Read("standard input"),
+        Ok(said) => more == 0 && said.text.as_slice() == "not a position\n".as_bytes(),
+        Err(stop) => more > 0 && stop == Stop::Read("standard input"),
     }
 }
 
@@ -225,6 +223,6 @@ fn answers_in_the_positions_of_lines_or_stops(rt: HostRuntime) {
     assert!(rt; stops_on_lines(rt.alloc(), "a.mqc", &mut lines, unread));
     let mut lines = MemorySource::new(b"1\n");
     assert!(rt; stops_on_lines(rt.alloc(), "b.mqc", &mut lines, Stop::Read("b.mqc")));
-    assert!(rt; much_is_read(rt.alloc(), 0, true));
-    assert!(rt; much_is_read(rt.alloc(), 1, false));
+    assert!(rt; much_is_read(rt.alloc(), 0));
+    assert!(rt; much_is_read(rt.alloc(), 1));
 }

@@ -25,3 +25,6 @@ returns-in-Show-clause-says g c = rw (c.in-Show.is) c.show.ensures.shows
 
 pub returns-after-basis-clause-says : goal.returns-after-basis-clause-says
 returns-after-basis-clause-says g c = rw (c.in-Describe.is) c.describe.ensures.describes
+
+pub returns-in-PlayLines-clause-says : goal.returns-in-PlayLines-clause-says
+returns-in-PlayLines-clause-says g c = rw (c.in-PlayLines.is) c.play_lines.ensures.plays
