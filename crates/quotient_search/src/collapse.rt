@@ -9,8 +9,8 @@ use crate::work::{Halt, Work};
 use octal_code::Code;
 use std::alloc::Allocator;
 
-/// The most elements of a quotient on the way.
-const MOST_ELEMENTS: usize = 8192;
+/// The most elements of a quotient on the way, unless twice as many as before are more.
+const MOST_ELEMENTS: usize = 2048;
 
 /// The lightest member of a class: its weight, level and element.
 type First = (u64, usize, usize);
@@ -291,7 +291,8 @@ fn write_classes<A: Allocator + Copy>(
     next: &mut Quotient<A>,
     work: &mut Work,
 ) -> Result<(), Halt> {
-    if partition.count > MOST_ELEMENTS {
+    let most = MOST_ELEMENTS.max(merging.quotient.order.saturating_mul(2));
+    if partition.count > most {
         return Err(Halt::Work);
     }
     work.spend(partition.count.saturating_mul(partition.count))?;
