@@ -111,7 +111,8 @@ fn solve_command<'a>(alloc: Global) -> Result<Command<'a>, AllocError>
     let heaps = "Look at the heaps up to M: 2 to 64, by default 24";
     let deep = "Look at as many heaps as a certificate can need, and orders to 256 by default";
     let part = "Look for the quotient of the heaps 1 to M alone: 1 to 1024";
-    let furthest = "Look for the most heaps 1 to M whose quotient has at most Q elements: 2 to 4096";
+    let furthest =
+        "Look for the most heaps 1 to M whose quotient has at most Q elements: 2 to 4096";
     let order = "Propose no quotient of more than Q elements: 2 to 256, by default 64, with \
 --deep and --partial 2 to 4096";
     let why = "Tell why the search is given up";
@@ -169,7 +170,8 @@ fn play_command<'a>(alloc: Global) -> Result<Command<'a>, AllocError>
     ensures { IfOk result (λ c. app_of c ≡ play) }
 {
     let about = "Check a certificate, and print a winning move in a position";
-    let position = "The sizes of the heaps in one word, as '1 2 2'; 0 for no heap; as - each line of \
+    let position =
+        "The sizes of the heaps in one word, as '1 2 2'; 0 for no heap; as - each line of \
 standard input";
     let made = Ok(command(alloc, "play", about));
     let made = with_arg(made, needed(alloc, "file", "FILE", NAMED));

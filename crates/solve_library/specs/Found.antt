@@ -38,7 +38,7 @@ IsAim aim heaps Furthest = aim ≡ 2
 abbrev pub IsAimInRange : Asked → Type 0
 IsAimInRange a =
     ((a.aim ≡ 0) × (2 ≤ a.heaps) × (a.heaps ≤ DEEPEST)
-        × ((64 < a.heaps) ⊎ (a.order ≤ LARGEST_FIRST_ORDER)))
+    × ((64 < a.heaps) ⊎ (a.order ≤ LARGEST_FIRST_ORDER)))
     ⊎ (((a.aim ≡ 1) × (1 ≤ a.heaps) × (a.heaps ≤ LARGEST_PART)) ⊎ (a.aim ≡ 2))
 
 -- limit, rounds and order are in their ranges
