@@ -1,5 +1,5 @@
 -- The bytes that are read of a certificate decide as all of its bytes do.
-use Rattle.std.proofs.Common.{◌≡◌, ◌≢◌, ◌∙◌, ◌≤◌, ◌<◌, ◌+◌, ◌++◌, ℕ, Bool, List, [], Option, Some, None, Result, Ok, Err, Vec, IfOk, ap, sym, subst, refl, arith, false, length, take, vec_len}
+use Rattle.std.proofs.Common.{◌≡◌, ◌≢◌, ◌∙◌, ◌≤◌, ◌<◌, ◌++◌, ℕ, Bool, List, Option, Some, None, Result, Ok, Err, Vec, IfOk, ap, sym, subst, refl, arith, false, length, take, vec_len}
 use Rattle.std.specs.Io.KnownBytes.{Consumes, IsAtEnd}
 use Rattle.std.proofs.lemmas.List.{append-nil, length-take, take_all, take_at}
 use native.Mathlib.Decide.{dec_lt}

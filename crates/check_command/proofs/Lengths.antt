@@ -1,5 +1,5 @@
 -- How long the text of a certificate is at most.
-use Rattle.std.proofs.Common.{◌≡◌, ◌≢◌, inl, inr, ◌∙◌, ◌≤◌, ◌<◌, ◌+◌, ◌-◌, ◌*◌, ◌/◌, ◌^◌, ℕ, zero, suc, List, [], ◌∷◌, ◌++◌, All, ap, sym, subst, refl, arith, length, map, codes, decimal, slice_index, Bool, true, false, if◌then◌else◌}
+use Rattle.std.proofs.Common.{◌≡◌, ◌≢◌, inl, inr, ◌≤◌, ◌<◌, ◌+◌, ◌-◌, ◌*◌, ℕ, zero, suc, List, [], ◌∷◌, ◌++◌, All, ap, subst, refl, arith, length, map, codes, decimal, slice_index, Bool, true, false, if◌then◌else◌}
 use Rattle.std.specs.List.Sorted.{IsStrictlyIncreasing}
 use Rattle.std.proofs.lemmas.Fmt.{length-decimal-le}
 use Rattle.std.proofs.lemmas.List.{length-append, length-map}
@@ -188,7 +188,7 @@ all_lines c = record { name = codes "mqc"; words = decimal (format_of c) ∷ [] 
 -- outside the third format they are the text
 are_all : (c : Certificate) → format_of c ≢ 3 → lines c ≡ all_lines c
 unfolding all_lines
-are_all c other = rw ne_eqb (format_of c) 3 other refl
+are_all c other = rw (ne_eqb (format_of c) 3 other) refl
 
 -- so it has at most two and a half million bytes
 all_within : (c : Certificate) → InRanges c → format_of c ≢ 3 → length (text (all_lines c)) ≤ 2500000
