@@ -1,4 +1,5 @@
 use Rattle.std.proofs.Common.{◌≡◌, List, sym, subst}
+use Rattle.std.proofs.lemmas.Result.{err_from_is_err_and}
 use Rattle.misere_library.specs.Queries.{TellsAnswer}
 use Rattle.misere_library.specs.Many.{TellAll}
 use Rattle.misere_library.specs.declared.numbers.MisereAnswer.{MisereAnswer}
@@ -17,3 +18,8 @@ returns-clause-yes c =
       subst (λ (told : List MisereAnswer). TellAll TellsAnswer c.args.heaps.now c.args.ends.now told C)
           (sym same) c.in-Ok.ensures,
     )
+
+pub returns-in_err-certified-clause-no : goal.returns-in_err-certified-clause-no
+returns-in_err-certified-clause-no c =
+    let p = err_from_is_err_and c.from_residual.result c.from_residual.ensures.1 in
+    rw (p.1, p.2) c.in_err-certified.ensures.no
