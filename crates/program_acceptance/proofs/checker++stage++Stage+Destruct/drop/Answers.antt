@@ -10,3 +10,9 @@ drop-requires-7 g c = paired_fits g.row.A g.A.Allocator g.met.A.SmallAllocator.s
 
 pub drop-requires-8 : goal.drop-requires-8
 drop-requires-8 g c = paired_fits g.row.A g.A.Allocator g.met.A.SmallAllocator.small 8 (omega arith)
+
+pub drop-requires-9 : goal.drop-requires-9
+drop-requires-9 g c = paired_fits g.row.A g.A.Allocator g.met.A.SmallAllocator.small 16 (omega arith)
+
+pub drop-requires-10 : goal.drop-requires-10
+drop-requires-10 g c = paired_fits g.row.A g.A.Allocator g.met.A.SmallAllocator.small 64 (omega arith)
