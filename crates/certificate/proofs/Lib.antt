@@ -1,6 +1,9 @@
 pub mod Assembled
 pub mod FirstLine
+pub mod KeyTests
 pub mod Loop
 pub mod Rows
+pub mod MadeRows
+pub mod Said
 pub mod Out
 pub mod AllLines

@@ -8,6 +8,7 @@ use Rattle.misere_theory.specs.Certificates.{Certificate, InRanges, claim_of}
 use Rattle.monoid_table.specs.Grids.{IsShaped}
 use Rattle.transition_algebra.specs.Heaps.{Agrees}
 use Rattle.transition_algebra.specs.Pretending.{IsPretending}
+use Rattle.certificate_text.specs.Reading.{rows_of}
 use Rattle.certificate.specs.Fields.{grid_of, pretending_of}
 
 abbrev pub IsRow : ℕ → List ℕ → Type 0
@@ -37,18 +38,32 @@ entry_is order (row ∷ rows) (suc x) y fits lx ly =
     ∙ sym (ap (λ (i : ℕ). get_or (row ++ concat rows) i 0) place
     ∙ get_or-append-add row (concat rows) (x * order + y) 0)
 
-length_is : (order : ℕ) (rows : List (List ℕ)) → AllByRecursion (IsRow order) rows
+pub length_is : (order : ℕ) (rows : List (List ℕ)) → AllByRecursion (IsRow order) rows
     → length (concat rows) ≡ length rows * order
 length_is order [] fits = omega arith
 length_is order (row ∷ rows) fits =
     length-append row (concat rows) ∙ ap₂ (λ (i j : ℕ). i + j) fits.0.0
     (length_is order rows fits.1) ∙ sym (suc-mul (length rows) order ∙ omega arith)
 
-all_below : (order : ℕ) (rows : List (List ℕ)) → AllByRecursion (IsRow order) rows
+pub all_below : (order : ℕ) (rows : List (List ℕ)) → AllByRecursion (IsRow order) rows
     → All (λ x. x < order) (concat rows)
 all_below order [] fits = All-from_recursion (λ x. x < order) [] tt
 all_below order (row ∷ rows) fits =
     All-append (λ x. x < order) row (concat rows) fits.0.1 (all_below order rows fits.1)
+
+-- rows that lie one behind the other are cut again
+pub cut_again : (order : ℕ) (rows : List (List ℕ)) → AllByRecursion (IsRow order) rows
+    → rows_of order (length rows) (concat rows) ≡ rows
+cut_again order [] fits = refl
+cut_again order (row ∷ rows) fits =
+    ap₂ (λ (first : List ℕ) (later : List (List ℕ)). first ∷ later)
+    (take_at row (concat rows) order fits.0.0)
+    (ap (rows_of order (length rows)) (drop_at row (concat rows) order fits.0.0)
+    ∙ cut_again order rows fits.1)
+
+pub rows_count : (order n : ℕ) (xs : List ℕ) → length (rows_of order n xs) ≡ n
+rows_count order zero xs = refl
+rows_count order (suc n) xs = ap suc (rows_count order n (drop order xs))
 
 -- the place of row x
 pub row_is : (order : ℕ) (rows : List (List ℕ)) (x : ℕ) → AllByRecursion (IsRow order) rows

@@ -3,7 +3,7 @@ use Rattle.std.specs.Prelude.{List, [], ◌∷◌, map, codes}
 use Rattle.std.specs.Fmt.{decimal}
 use Rattle.misere_theory.specs.Certificates.{Certificate, format_of}
 use Rattle.octal_code.specs.Text.{code_text}
-use Rattle.certificate_text.specs.Spelling.{Line, key_word, row_line}
+use Rattle.certificate_text.specs.Spelling.{Line, key_word, row_line, said, apart_lines}
 use Rattle.certificate.specs.declared.writing.LineKind.{LineKind}
 use Rattle.certificate.specs.declared.writing.LineKind.TheVariants.{Version, Code, Order, Start, Period, Phi, Portion, Words, Rows, Apart, End}
 
@@ -16,6 +16,6 @@ lines_of c Period = record { name = codes "period"; words = decimal c.period ∷
 lines_of c Phi = record { name = codes "phi"; words = map decimal c.phi } ∷ []
 lines_of c Portion = record { name = codes "portion"; words = map decimal c.portion } ∷ []
 lines_of c Words = record { name = codes "words"; words = map key_word c.words } ∷ []
-lines_of c Rows = map row_line c.rows
-lines_of c Apart = record { name = codes "apart"; words = map decimal c.apart } ∷ []
+lines_of c Rows = map row_line (said c).rows
+lines_of c Apart = apart_lines c
 lines_of c End = record { name = codes "end"; words = [] } ∷ []

@@ -1,9 +1,11 @@
 //! The three formats.
 ghost use Rattle.std.specs.Prelude.{◌≡◌};
-ghost use Rattle.misere_theory.specs.Certificates.{format_by};
+ghost use Rattle.misere_theory.specs.Certificates.{format_by, format_of};
 
+use crate::cert::Cert;
 use misere_theory::{LARGEST_FIRST_ORDER, LARGEST_SECOND_ORDER, MOST_SECOND_ENTRIES};
 use octal_code::Code;
+use std::alloc::Allocator;
 
 /// The number of the format for a code, an order, a start and a period: 3 where the order or the
 /// entries are above the second format's; else 2 where the code isn't octal, the order is above the
@@ -19,4 +21,16 @@ pub fn format_by(code: &Code, order: u16, start: u16, period: u16) -> u16
     } else {
         2
     }
+}
+
+/// The number of a certificate's format.
+pub fn format_of<A: Allocator>(cert: &Cert<A>) -> u16
+    ensures { result ≡ format_of cert.now }
+{
+    format_by(
+        cert.code(),
+        cert.order(),
+        cert.start() as u16,
+        cert.period() as u16,
+    )
 }

@@ -1,5 +1,5 @@
 //! The lines up to the period.
-ghost use Rattle.std.specs.Prelude.{◌≤◌, ◌+◌, IfOk};
+ghost use Rattle.std.specs.Prelude.{◌≡◌, ◌≤◌, ◌+◌, IfOk};
 ghost use Rattle.misere_theory.specs.declared.TheConstants.{LARGEST_ORDER, MOST_ENTRIES, LARGEST_PART};
 ghost use Rattle.certificate.specs.Given.{Gives};
 ghost use Rattle.certificate_text.specs.Reading.{code_line_at, least_period, numbers_at, front_at};

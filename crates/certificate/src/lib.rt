@@ -4,14 +4,17 @@
 #![tactic(auto)]
 
 mod cert;
+mod expanding;
 mod fault;
 mod fields;
+mod firsts;
 mod format;
 mod front;
 mod key;
 mod keys;
 mod laws;
 mod lines;
+mod lists;
 mod numbers;
 mod portion;
 mod putting;

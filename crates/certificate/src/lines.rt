@@ -63,17 +63,18 @@ pub fn line<A: Allocator>(
     Ok(found)
 }
 
-/// The rows, one behind the other.
+/// So many rows, one behind the other.
 pub fn rows<A: Allocator>(
     alloc: A,
     reader: &mut Reader<'_>,
     order: u16,
+    count: usize,
 ) -> Result<Vec<u16, A>, TextFault>
     requires { 0 < order }
-    ensures { Gives (λ x. (x.items, reader.new)) result (rows_at order order reader.old) }
+    ensures { Gives (λ x. (x.items, reader.new)) result (rows_at order count reader.old) }
 {
     let mut found = Vec::new(alloc);
-    for _ in 0..order {
+    for _ in 0..count {
         line_behind(reader, &mut found, b"row", order as usize, order)?;
     }
     Ok(found)

@@ -1,11 +1,13 @@
 //! Words and lines that go out to a sink.
-ghost use Rattle.std.specs.Prelude.{◌++◌, ◌∷◌, [], map, drop, codes};
+ghost use Rattle.std.specs.Prelude.{◌≡◌, ◌≤◌, slice_range, ◌++◌, ◌∷◌, [], map, drop, codes};
 ghost use Rattle.std.specs.Fmt.{decimal};
 ghost use Rattle.octal_code.specs.Text.{code_text, digit_byte};
 ghost use Rattle.streams.specs.Stream.{Counts, Puts};
-ghost use Rattle.certificate_text.specs.Spelling.{spaced, key_word, row_line, text};
+ghost use Rattle.certificate_text.specs.Spelling.{spaced, key_word, row_line, text, said, apart_lines};
 
 use crate::cert::Cert;
+use crate::firsts::firsts;
+use crate::format::format_of;
 use crate::key::Key;
 use crate::laws::claims_agree;
 use itoa::Buffer;
@@ -127,17 +129,46 @@ pub fn put_code_line<W: Sink>(sink: &mut W, code: &Code) -> Result<(), DeviceFau
     write_whole(sink, b"\n")
 }
 
-/// The lines of the rows.
+/// The rows that the text says, from one on and up to another: all of them, or in the third format
+/// those of the first elements.
+fn said_rows<A: Allocator>(cert: &Cert<A>) -> (usize, usize)
+    ensures rows { (said cert.now).rows ≡ slice_range cert.now.rows result.0 result.1 }
+    ensures rising { result.0 ≤ result.1 }
+    ensures within { result.1 ≤ cert.now.order }
+{
+    let order = cert.order() as usize;
+    if format_of(cert) == 3 {
+        (1, firsts(cert.words()) + 1)
+    } else {
+        (0, order)
+    }
+}
+
+/// The lines of the rows that the text says.
 pub fn put_rows<A: Allocator, W: Sink>(sink: &mut W, cert: &Cert<A>) -> Result<(), DeviceFault>
     ensures puts { Puts (W.taken sink.old) (W.taken sink.new) result
-        (text (map row_line cert.now.rows)) }
+        (text (map row_line (said cert.now).rows)) }
     ensures cause { Counts (W.failures sink.old) (W.failures sink.new) result }
 {
     claims_agree();
     let order = cert.order() as usize;
     let rows = cert.rows();
-    for x in 0..order {
+    let (start, end) = said_rows(cert);
+    for x in start..end {
         put_line(sink, b"row", &rows[x * order..x * order + order])?;
     }
     Ok(())
+}
+
+/// The line of the separators, which the third format leaves out.
+pub fn put_apart<A: Allocator, W: Sink>(sink: &mut W, cert: &Cert<A>) -> Result<(), DeviceFault>
+    ensures puts { Puts (W.taken sink.old) (W.taken sink.new) result
+        (text (apart_lines cert.now)) }
+    ensures cause { Counts (W.failures sink.old) (W.failures sink.new) result }
+{
+    if format_of(cert) == 3 {
+        Ok(())
+    } else {
+        put_line(sink, b"apart", cert.apart())
+    }
 }

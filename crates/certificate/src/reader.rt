@@ -1,5 +1,5 @@
 //! Bytes that are read from the front.
-ghost use Rattle.std.specs.Prelude.{◌≡◌, ◌≢◌, ◌==◌, ◌<◌, ◌↔◌, ◌++◌, ◌∷◌, IfOk, IsTrue, MatchBool, MatchOption, All, Some, None, [], codes, position};
+ghost use Rattle.std.specs.Prelude.{length, ◌≡◌, ◌≢◌, ◌==◌, ◌<◌, ◌↔◌, ◌++◌, ◌∷◌, IfOk, IsTrue, MatchBool, MatchOption, All, Some, None, [], codes, position};
 ghost use Rattle.std.specs.Bool.{OnFalse};
 ghost use Rattle.certificate.specs.Given.{Gives};
 ghost use Rattle.certificate_text.specs.Reading.{fixed_at, number_at};
@@ -35,6 +35,13 @@ impl<'a> Reader<'a> {
         ensures { IsTrue result ↔ (self.now ≡ []) }
     {
         self.rest.is_empty()
+    }
+
+    /// How many bytes are left.
+    pub fn left(&self) -> usize
+        ensures { result ≡ length self.now }
+    {
+        self.rest.len()
     }
 
     /// Takes these bytes.

@@ -5,8 +5,8 @@ ghost use Rattle.certificate.specs.LineKinds.{lines_of};
 
 use crate::cert::{Cert, in_ranges};
 use crate::fault::WriteFault;
-use crate::format::format_by;
-use crate::putting::{put_code_line, put_key_line, put_line, put_rows};
+use crate::format::format_of;
+use crate::putting::{put_apart, put_code_line, put_key_line, put_line, put_rows};
 use std::alloc::Allocator;
 use streams::{DeviceFault, Sink, write_whole};
 
@@ -52,15 +52,7 @@ fn put_lines<A: Allocator, W: Sink>(
     ensures cause { Counts (W.failures sink.old) (W.failures sink.new) result }
 {
     match kind {
-        LineKind::Version => {
-            let format = format_by(
-                cert.code(),
-                cert.order(),
-                cert.start() as u16,
-                cert.period() as u16,
-            );
-            put_line(sink, b"mqc", &[format])
-        }
+        LineKind::Version => put_line(sink, b"mqc", &[format_of(cert)]),
         LineKind::Code => put_code_line(sink, cert.code()),
         LineKind::Order => put_line(sink, b"order", &[cert.order()]),
         LineKind::Start => put_line(sink, b"start", &[cert.start() as u16]),
@@ -69,7 +61,7 @@ fn put_lines<A: Allocator, W: Sink>(
         LineKind::Portion => put_line(sink, b"portion", cert.portion()),
         LineKind::Words => put_key_line(sink, cert.words()),
         LineKind::Rows => put_rows(sink, cert),
-        LineKind::Apart => put_line(sink, b"apart", cert.apart()),
+        LineKind::Apart => put_apart(sink, cert),
         LineKind::End => write_whole(sink, b"end\n"),
     }
 }

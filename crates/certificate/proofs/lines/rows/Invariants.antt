@@ -4,5 +4,5 @@ use Rattle.certificate.proofs.lines.rows.Given as goal
 
 abbrev pub invariant-loop : goal.invariant-loop
 invariant-loop g l =
-    with_front l.found.items (rows_at l.order (l.order - l.counter) l.reader)
-    ≡ rows_at l.order l.order l.initial.reader
+    with_front l.found.items (rows_at l.order (l.count - l.counter) l.reader)
+    ≡ rows_at l.order l.count l.initial.reader

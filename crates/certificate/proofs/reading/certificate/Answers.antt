@@ -1,52 +1,93 @@
-use Rattle.std.proofs.Common.{◌≤◌, ◌<◌, ◌^◌, sym, subst, arith}
-use Rattle.certificate_text.specs.Spelling.{IsWritable}
-use Rattle.transition_algebra.specs.Pretending.{Pretending}
-use Rattle.certificate.specs.Fields.{certificate_of}
-use Rattle.certificate.proofs.Assembled.{lines_are_read}
+use Rattle.std.proofs.Common.{◌≡◌, ◌≢◌, ◌≤◌, ◌-◌, [], length, Some, sym, subst, ap, ◌∙◌, arith}
+use Rattle.misere_theory.specs.Certificates.{Certificate, format_of}
+use Rattle.compact_certificates.specs.Compact.{expanded}
+use Rattle.certificate_text.specs.declared.TheConstants.{LONGEST_TEXT}
+use Rattle.certificate.specs.Fields.{Fields, HasFirstRows, compact_of, fields_of}
+use Rattle.certificate.proofs.Assembled.{by_table, by_first_rows}
+use Rattle.certificate.proofs.Rows.{pretending}
 use Rattle.certificate.proofs.reading.certificate.Goals as goal
 
-pub new-phi-requires : goal.new-phi-requires
-new-phi-requires g c =
-    let w = c.reading_is_spelling.ensures.writable c.args.reader.now _ c.fixed.new.self
-    (lines_are_read c.args.reader.now _ _ _ _ _ _ _ _ _ _ _ _ _ _ _ _ c.in_ok-code.ensures.read
-    c.in_ok-entries.ensures c.in_ok-portion.ensures c.in_ok-words.ensures c.in_ok-rows.ensures
-    c.in_ok-apart.ensures c.in_ok-fixed.ensures) in
-    let r = w.in_ranges in
-    record {
-      from_one = r.start;
-      some = r.period.0;
-      short = r.period.1;
-      length_is = r.phi.0;
-    }
+pub table-requires-clause-writable : goal.table-requires-clause-writable
+table-requires-clause-writable g c d rest e =
+    let other : format_of c.in_ok-lists.lists ≢ 3 =
+    λ third. c.if-format-ne3.true (c.format.ensures ∙ third) in
+    c.reading_is_spelling.ensures.writable c.args.reader.now d rest
+    (by_table c.args.reader.now c.in_ok-lists.lists c.list_lines.new.reader
+    c.in_ok-lists.ensures.read other ∙ e)
 
-pub from_fields-requires : goal.from_fields-requires
-from_fields-requires g c =
-    let w = c.reading_is_spelling.ensures.writable c.args.reader.now _ c.fixed.new.self
-    (lines_are_read c.args.reader.now _ _ _ _ _ _ _ _ _ _ _ _ _ _ _ _ c.in_ok-code.ensures.read
-    c.in_ok-entries.ensures c.in_ok-portion.ensures c.in_ok-words.ensures c.in_ok-rows.ensures
-    c.in_ok-apart.ensures c.in_ok-fixed.ensures) in
-    let r = w.in_ranges in
-    let low : 0 < c.in_ok-code.field-0.order = omega (arith, r.order.0) in
-    let small : c.in_ok-code.field-0.order ≤ 2 ^ 16 = omega (arith, r.order.1) in
-    record {
-      writable =
-          subst (λ (f : Pretending).
-          IsWritable
-          (certificate_of
-          (record {
-            code = c.in_ok-code.field-0.code;
-            order = c.in_ok-code.field-0.order;
-            phi = f;
-            portion = c.in_ok-portion.portion.items;
-            words = c.in_ok-words.words.items;
-            rows = c.in_ok-rows.rows.items;
-            apart = c.in_ok-apart.apart.items;
-          })))
-          (sym c.new-phi.ensures) w;
-      rows_long =
-          c.rows_lie_flat.ensures.count c.in_ok-code.field-0.order c.in_ok-code.field-0.order _ _ _
-          low small c.in_ok-rows.ensures;
-      rows_joined =
-          c.rows_lie_flat.ensures.whole c.in_ok-code.field-0.order c.in_ok-code.field-0.order _ _ _
-          low small c.in_ok-rows.ensures;
-    }
+pub with_table-requires : goal.with_table-requires
+with_table-requires g c =
+    let third : format_of c.in_ok-lists.lists ≡ 3 = sym c.format.ensures ∙ c.if-format-ne3.false in
+    let short : length c.args.reader.now - length c.first_rows.new.reader ≤ LONGEST_TEXT =
+    omega (
+      arith,
+      c.if-length-gt-LONGEST_TEXT.false,
+      c.saturating_sub-length.ensures,
+      c.left.ensures,
+      c.left-before.ensures,
+    ) in
+    let made =
+    by_first_rows c.args.reader.now c.in_ok-lists.lists c.list_lines.new.reader
+    c.in_ok-lists.ensures.read
+    (expanded (compact_of (fields_of c.in_ok-lists.lists c.in_ok-rows.rows.items [])))
+    c.first_rows.new.reader third c.in_ok-rows.ensures.read short in
+    let writable =
+    c.reading_is_spelling.ensures.writable c.args.reader.now
+    (expanded (compact_of (fields_of c.in_ok-lists.lists c.in_ok-rows.rows.items [])))
+    c.first_rows.new.reader made in
+    pretending (expanded (compact_of (fields_of c.in_ok-lists.lists c.in_ok-rows.rows.items [])))
+    writable.in_ranges
+
+pub expanded-requires : goal.expanded-requires
+expanded-requires g c =
+    let third : format_of c.in_ok-lists.lists ≡ 3 = sym c.format.ensures ∙ c.if-format-ne3.false in
+    let short : length c.args.reader.now - length c.first_rows.new.reader ≤ LONGEST_TEXT =
+    omega (
+      arith,
+      c.if-length-gt-LONGEST_TEXT.false,
+      c.saturating_sub-length.ensures,
+      c.left.ensures,
+      c.left-before.ensures,
+    ) in
+    let made =
+    by_first_rows c.args.reader.now c.in_ok-lists.lists c.list_lines.new.reader
+    c.in_ok-lists.ensures.read
+    (expanded (compact_of (fields_of c.in_ok-lists.lists c.in_ok-rows.rows.items [])))
+    c.first_rows.new.reader third c.in_ok-rows.ensures.read short in
+    let writable =
+    c.reading_is_spelling.ensures.writable c.args.reader.now
+    (expanded (compact_of (fields_of c.in_ok-lists.lists c.in_ok-rows.rows.items [])))
+    c.first_rows.new.reader made in
+    let is : c.with_table.result ≡ fields_of c.in_ok-lists.lists c.in_ok-rows.rows.items [] =
+    c.with_table.ensures
+    ∙ ap (fields_of c.in_ok-lists.lists c.in_ok-rows.rows.items) c.new.ensures.items in
+    subst HasFirstRows (sym is)
+    (record {
+      writable = writable;
+      expandable = c.in_ok-rows.ensures.expandable;
+      rows_long = c.in_ok-rows.ensures.long;
+      rows_joined = c.in_ok-rows.ensures.flat;
+    })
+
+pub returns : goal.returns
+returns g c =
+    let third : format_of c.in_ok-lists.lists ≡ 3 = sym c.format.ensures ∙ c.if-format-ne3.false in
+    let short : length c.args.reader.now - length c.first_rows.new.reader ≤ LONGEST_TEXT =
+    omega (
+      arith,
+      c.if-length-gt-LONGEST_TEXT.false,
+      c.saturating_sub-length.ensures,
+      c.left.ensures,
+      c.left-before.ensures,
+    ) in
+    let made =
+    by_first_rows c.args.reader.now c.in_ok-lists.lists c.list_lines.new.reader
+    c.in_ok-lists.ensures.read
+    (expanded (compact_of (fields_of c.in_ok-lists.lists c.in_ok-rows.rows.items [])))
+    c.first_rows.new.reader third c.in_ok-rows.ensures.read short in
+    let is : c.with_table.result ≡ fields_of c.in_ok-lists.lists c.in_ok-rows.rows.items [] =
+    c.with_table.ensures
+    ∙ ap (fields_of c.in_ok-lists.lists c.in_ok-rows.rows.items) c.new.ensures.items in
+    made
+    ∙ ap (λ (cert : Certificate). Some (cert, c.first_rows.new.reader))
+    (sym (c.in_ok-expanded.ensures ∙ ap (λ (f : Fields). expanded (compact_of f)) is))
