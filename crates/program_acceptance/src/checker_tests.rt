@@ -96,7 +96,7 @@ fn memory_suffices_for_the_largest(rt: HostRuntime) {
 /// Sets of elements take more room from some orders on.
 #[test]
 fn orders_of_each_width(rt: HostRuntime) {
-    for order in [66, 258, 512, 514, 1024, 1026] {
+    for order in [66, 258, 512, 514, 1026] {
         assert!(rt;
             length_of_refuted(rt.alloc(), order, true).is_some(),
             "{order}"
