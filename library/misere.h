@@ -109,15 +109,16 @@ uint32_t misere_failure(const uint8_t *bytes, size_t length, uint32_t limit,
 #define MISERE_ELEMENTS 64
 
 /* As many bytes are room for any certificate. */
-#define MISERE_MOST (1u << 21)
+#define MISERE_MOST (1u << 22)
 
 /* Of which heaps a search is to find the quotient: of all, and it looks at those up to `heaps`, 2 to
- * 3090; of the heaps 1 to `heaps`, 1 to 1024; or of the most first heaps, whatever `heaps`. */
+ * 8210; of the heaps 1 to `heaps`, 1 to 1024; or of the most first heaps, whatever `heaps`. */
 enum { MISERE_WHOLE = 0, MISERE_PART = 1, MISERE_FURTHEST = 2 };
 
 /* Looks for a quotient of the game of a code, such as "0.33", and tells the bytes of its certificate,
  * which is accepted, and in *count how many they are. With MISERE_NO_ROOM it tells *count alone. The
- * limit is 1 to 1000000, the rounds 1 to 1000, the order 2 to 256, or to 512 for a part. */
+ * limit is 1 to 1000000, the rounds 1 to 1000, the order 2 to 4096, but of the whole game by at most
+ * 64 heaps 2 to 256. */
 uint32_t misere_solve(const uint8_t *code, size_t length, uint32_t limit, uint32_t rounds,
                       uint32_t aim, uint32_t heaps, uint32_t order, uint8_t *told, size_t room,
                       uint64_t *count);

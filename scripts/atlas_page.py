@@ -16,9 +16,8 @@ from concurrent.futures import ThreadPoolExecutor
 from typing import Any
 
 sys.dont_write_bytecode = True
-from certificate_lines import is_hexadecimal, place_of, words_of
+from certificate_lines import LARGEST_ORDER, LARGEST_PART, is_hexadecimal, place_of, words_of
 
-MOST_ORDER = 512
 CATALOGUES = ("octal", "hexadecimal")
 HEADS = ("Code", "Order", "Portion", "Period", "Generators", "Tame or wild", "The same quotient")
 
@@ -40,6 +39,12 @@ class Entry:
     def period(self) -> str:
         """The period and its start, or the last heap."""
         return f"heaps to {self.heaps}" if self.heaps else f"{self.words['period']} from {self.words['start']}"
+
+    @property
+    def line(self) -> str:
+        """The line with which a catalogue lists it."""
+        end = f"heaps {self.heaps}" if self.heaps else f"start {self.words['start']} period {self.words['period']}"
+        return f"{self.code} order {self.order} {end}"
 
     @property
     def family(self) -> str:
@@ -151,11 +156,23 @@ class Page:
     def furthest(self, code: str) -> Iterator[str]:
         """How far a code goes with as many elements as a certificate can have, in the words with which a catalogue
         lists it."""
-        words = ["solve", code, "--furthest", str(MOST_ORDER)]
+        words = ["solve", code, "--furthest", str(LARGEST_ORDER)]
         found = words_of(subprocess.run([self.program, *words], capture_output=True, text=True, check=True).stdout)
         listed = f"{code} order {found['order']} heaps {int(found['start']) - 1}"
         portion = len(found["portion"].split())
         yield f"`misere {' '.join(words)}` finds `{listed}`, with a portion of {portion}."
+
+    def listed(self, code: str) -> Iterator[str]:
+        """A code's entry as a catalogue lists it, full or partial, with its portion."""
+        entry = next(entry for entry in self.entries if entry.code == code)
+        yield f"`{entry.line}`, with a portion of {entry.portion}."
+
+    def counted(self, line: str) -> str:
+        """A line with the counts of entries that it names."""
+        full = [entry for entry in self.entries if not entry.heaps]
+        counts = {"all": len(self.entries), "full": len(full), "partial": len(self.entries) - len(full)}
+        counts["octal"] = sum(not is_hexadecimal(entry.code) for entry in full)
+        return re.sub(r"\{count (\w+)\}", lambda named: f"{counts[named[1]]:,}", line)
 
     def file(self, name: str) -> Iterator[str]:
         """What a file of the atlas says."""
@@ -163,7 +180,7 @@ class Page:
 
     def rest(self) -> Iterator[str]:
         """How far the partial quotients go."""
-        bounds = [(1, 9), (10, 19), (20, 29), (30, 49), (50, 99), (100, 1023), (1024, 1024)]
+        bounds = [(1, 9), (10, 19), (20, 29), (30, 49), (50, 99), (100, LARGEST_PART - 1), (LARGEST_PART, LARGEST_PART)]
         partial = [entry for entry in self.entries if entry.heaps]
         yield row(["Last heap", "Codes", "The first"])
         yield "|---|---|---|"
@@ -177,11 +194,11 @@ class Page:
     def lines(self) -> Iterator[str]:
         """The lines of the page."""
         for line in (self.root / "atlas/page.md").read_text().splitlines():
-            named = re.fullmatch(r"\{(families|table|described|furthest|file|rest)(?: (\S+))?\}", line)
+            named = re.fullmatch(r"\{(families|table|described|furthest|listed|file|rest)(?: (\S+))?\}", line)
             if named:
                 yield from getattr(self, named[1])(*([named[2]] if named[2] else []))
             else:
-                yield line
+                yield self.counted(line)
 
     def text(self) -> str:
         return "\n".join(self.lines()) + "\n"

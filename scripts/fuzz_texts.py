@@ -8,7 +8,7 @@ import sys
 from collections.abc import Sequence
 
 sys.dont_write_bytecode = True
-from certificate_lines import samples
+from certificate_lines import format_by, samples
 
 NUMBERS = [
     b"0",
@@ -27,6 +27,10 @@ NUMBERS = [
     b"1024",
     b"1025",
     b"1026",
+    b"4095",
+    b"4096",
+    b"4097",
+    b"4098",
 ]
 NUMBERS += [b"65535", b"65536", b"18446744073709551616"]
 CODES = [
@@ -99,9 +103,7 @@ def kind_of(text: bytes) -> tuple[bytes, int]:
 
 def format_of(text: bytes) -> bytes:
     """The first line that a certificate has by its numbers."""
-    order, _, period = numbers_of(text)
-    is_octal = not re.search(rb"[89a-f]", code_of(text)[0][5:])
-    return b"mqc 1" if is_octal and order <= 256 and period else b"mqc 2"
+    return b"mqc %d" % format_by(code_of(text)[0][5:].decode(), *numbers_of(text))
 
 
 # The accepted sample of each code and kind.
@@ -131,7 +133,8 @@ def part_of(text: bytes, chance: random.Random) -> bytes:
     if numbers[2]:
         entries += 3 * entries[numbers[1] - 1 :]
     last = chance.randrange(1, len(entries) + 1)
-    lines = (b"mqc", b"2"), (b"start", b"%d" % (last + 1)), (b"period", b"0"), (b"phi", b" ".join(entries[:last]))
+    form = format_by("0.1", numbers[0], last + 1, 0)
+    lines = (b"mqc", b"%d" % form), (b"start", b"%d" % (last + 1)), (b"period", b"0"), (b"phi", b" ".join(entries[:last]))
     for name, words in lines:
         text = re.sub(rb"(?m)^%s .*$" % name, name + b" " + words, text, count=1)
     return text

@@ -69,12 +69,18 @@ def line(commands: Commands, chance: random.Random) -> Words:
     return words
 
 
+def lines_of(words: Words, chance: random.Random) -> bytes:
+    """Some of the words, each on a line; the last may have no LF."""
+    lines = b"".join(word(words, chance) + b"\n" for _ in range(chance.randrange(6)))
+    return lines if chance.randrange(2) else lines[:-1]
+
+
 def stdin_of(text: bytes, chance: random.Random) -> bytes:
     """What stands on standard input: a certificate, positions or codes."""
     kind = chance.randrange(4)
     if kind < 2:
         return text
-    return b"".join(word(POSITIONS if kind == 2 else CODES, chance) + b"\n" for _ in range(chance.randrange(6)))
+    return lines_of(POSITIONS if kind == 2 else CODES, chance)
 
 
 def tries(commands: Commands, chance: random.Random, text: bytes) -> Iterator[tuple[Words, bytes]]:
@@ -84,6 +90,7 @@ def tries(commands: Commands, chance: random.Random, text: bytes) -> Iterator[tu
     yield [b"show", b"x.mqc"], b""
     yield [b"describe", b"x.mqc", *chance.sample([b"--latex", b"--basis", b"--relations"], chance.randrange(3))], b""
     yield [b"play", b"x.mqc", word(POSITIONS, chance)], b""
+    yield [b"play", b"x.mqc", b"-"], lines_of(POSITIONS, chance)
     yield [b"present", word(PRESENTATIONS, chance)], b""
     yield [b"solve", word(CODES, chance), b"--heaps", b"12", b"--rounds", b"2"], b""
     yield [b"catalogue", b"x.json"], b""

@@ -13,9 +13,9 @@
 /** What the closure of a check may keep, where nobody asks for more or less. */
 export const LIMIT = 100000;
 /** As many bytes are room for any certificate. */
-export const MOST = 1 << 21;
+export const MOST = 1 << 22;
 /** The heaps of the longest position at which a certificate can be told to fail. */
-const MOST_HEAPS = 4096;
+const MOST_HEAPS = 32768;
 /** Room for most descriptions. */
 const USUAL_TEXT = 1 << 16;
 

@@ -2,26 +2,41 @@
 
 from __future__ import annotations
 
-from typing import NamedTuple
+from collections.abc import Iterable, Sequence
+
+Rows = tuple[tuple[int, ...], ...]
 
 
-class Certificate(NamedTuple):
+class Certificate:
     """What its lines say. `phi` has the elements of the heaps 1, 2, .., and `period` is 0 of a partial one."""
 
-    code: str
-    order: int
-    start: int
-    period: int
-    phi: tuple[int, ...]
-    portion: frozenset[int]
-    table: tuple[tuple[int, ...], ...]
+    __slots__ = ("code", "order", "period", "phi", "portion", "start", "_keys", "_rows", "_table")
+
+    def __init__(self, words: dict[str, list[str]], rows: Iterable[Sequence[str]]) -> None:
+        self.code = words["code"][0]
+        self.order, self.start, self.period = (int(words[name][0]) for name in ("order", "start", "period"))
+        self.phi, self.portion = tuple(map(int, words["phi"])), frozenset(map(int, words["portion"]))
+        self._keys, self._rows = words["words"], tuple(tuple(map(int, row)) for row in rows)
+        self._table: Rows | None = None
+
+    @property
+    def table(self) -> Rows:
+        """The products. Where the text leaves rows out they are made when they are first asked for."""
+        if self._table is None:
+            self._table = self._rows if len(self._rows) == self.order else self._made()
+        return self._table
+
+    def _made(self) -> Rows:
+        """All rows, of those of the elements that heaps have: each other element is the product of its key."""
+        rows = [tuple(range(self.order)), *self._rows]
+        for key in self._keys[len(self._rows) :]:
+            element, heap = map(int, key.split(":"))
+            row = rows[element]
+            rows.append(tuple([row[x] for x in rows[self.phi[heap - 1]]]))
+        return tuple(rows)
 
 
 def read(text: str) -> Certificate:
     """What an accepted text says."""
     lines = [line.split(" ") for line in text.splitlines()]
-    words = {name: words for name, *words in lines}
-    order, start, period = (int(words[name][0]) for name in ("order", "start", "period"))
-    phi, portion = tuple(map(int, words["phi"])), frozenset(map(int, words["portion"]))
-    table = tuple(tuple(map(int, row)) for name, *row in lines if name == "row")
-    return Certificate(words["code"][0], order, start, period, phi, portion, table)
+    return Certificate({name: words for name, *words in lines}, (row for name, *row in lines if name == "row"))

@@ -15,7 +15,7 @@ from ._given import words_of
 from ._library import Call, Opened, Told, library
 
 # How many heaps of a position at which the rule fails are told
-MOST_HEAPS = 4096
+MOST_HEAPS = 32768
 
 
 class Asker:

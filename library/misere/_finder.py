@@ -10,11 +10,13 @@ from ._library import library, told_by
 from ._quotient import LIMIT, Quotient
 
 # As many bytes are room for any certificate
-MOST_BYTES = 1 << 21
+MOST_BYTES = 1 << 22
+# The most elements of a quotient, and those of a whole one by few heaps
+MOST_ELEMENTS, MOST_BY_FEW, FEW_HEAPS = 4096, 256, 64
 # Of which heaps a search is to find the quotient
 WHOLE, PART, FURTHEST = 0, 1, 2
-#: How many heaps a search looks at, and at most: a certificate can need no more.
-HEAPS, MOST_HEAPS = 24, 3090
+#: How many heaps a search looks at, and at most: the certificate of an octal code can need no more.
+HEAPS, MOST_HEAPS = 24, 8210
 
 
 def check(certificate: bytes | str, limit: int = LIMIT, *, anew: bool = False) -> Quotient:
@@ -33,8 +35,9 @@ def solve(
 ) -> Quotient:
     """The quotient of the game of a code, such as "0.33"; or it raises NotFound, where the search is given up.
 
-    The heaps up to `heaps` are looked at, 2 to 3090, or 24 where none are named; with `deep` as many as a certificate
-    can need. The limit is 1 to 1000000, the rounds 1 to 1000, the order 2 to 256."""
+    The heaps up to `heaps` are looked at, 2 to 8210, or 24 where none are named; with `deep` all of these, as many as
+    the certificate of an octal code can need. The limit is 1 to 1000000, the rounds 1 to 1000, the order 2 to 4096, or
+    to 256 where at most 64 heaps are looked at."""
     if deep and heaps is not None:
         raise WrongType(NOT_IN_RANGE, "with deep the heaps aren't named")
     return _found(code, WHOLE, limit, rounds, MOST_HEAPS if deep else HEAPS if heaps is None else heaps, order)
@@ -43,13 +46,13 @@ def solve(
 def solve_part(code: str, last: int, limit: int = LIMIT, rounds: int = 64, order: int = 512) -> Quotient:
     """The quotient of the positions of a game whose heaps are at most `last`, 1 to 1024; or it raises NotFound.
 
-    The order is 2 to 512."""
+    The order is 2 to 4096."""
     return _found(code, PART, limit, rounds, last, order)
 
 
 def solve_furthest(code: str, order: int, limit: int = LIMIT, rounds: int = 64) -> Quotient:
-    """The quotient of the most first heaps of a game of which a search finds one of at most so many elements, 2 to 512;
-    or it raises NotFound."""
+    """The quotient of the most first heaps of a game of which a search finds one of at most so many elements, 2 to
+    4096; or it raises NotFound."""
     return _found(code, FURTHEST, limit, rounds, 0, order)
 
 
@@ -90,7 +93,7 @@ def _explained(stop: MisereError, code: str, aim: int, bounds: dict[str, int]) -
 
 
 def _out_of_range(aim: int, bounds: dict[str, int]) -> Iterator[str]:
-    most_order = 256 if aim == WHOLE else 512
+    most_order = MOST_BY_FEW if aim == WHOLE and bounds["heaps"] <= FEW_HEAPS else MOST_ELEMENTS
     ranges = {"limit": (1, 1_000_000), "rounds": (1, 1000), "order": (2, most_order)}
     if aim != FURTHEST:
         ranges["heaps"] = (2, MOST_HEAPS) if aim == WHOLE else (1, 1024)

@@ -1,4 +1,4 @@
-"""A certificate of 304 elements, and a thousand positions of it, by each call."""
+"""A certificate of 304 elements, and one in the third format, and a thousand positions of each, by each call."""
 
 from __future__ import annotations
 
@@ -46,3 +46,32 @@ class Large(unittest.TestCase):
         self.assertTrue(self.of.describe().startswith("Q_16(0.6) = < a,"))
         self.assertIn("\norder 304 portion ", self.of.describe(basis=True))
         self.assertIsInstance(raised(lambda: self.of.describe("relations")), misere.NotDescribed)
+
+
+class Third(unittest.TestCase):
+    """A certificate in the third format, whose text leaves rows out."""
+
+    of = misere.solve_furthest("0.07", 1024)
+
+    def test_it_is_in_the_third_format(self) -> None:
+        text = self.of.certificate.decode()
+        self.assertTrue(text.startswith("mqc 3\ncode 0.07\n"))
+        self.assertEqual((self.of.order, self.of.last_heap, "\napart " in text), (638, 33, False))
+        self.assertLess(text.count("\nrow "), 34)
+
+    def test_its_table_is_whole(self) -> None:
+        table, order = self.of.table, self.of.order
+        self.assertEqual((len(table), {len(row) for row in table}, table[0]), (order, {order}, tuple(range(order))))
+        self.assertEqual(table, tuple(zip(*table)))
+
+    def test_its_table_has_the_values(self) -> None:
+        chosen = random.Random(638)
+        positions = [[chosen.randint(1, 33) for _ in range(chosen.randint(0, 40))] for _ in range(1000)]
+        values = []
+        for heaps in positions:
+            product = 0
+            for heap in heaps:
+                product = self.of.table[product][self.of.phi(heap)]
+            values.append(product)
+        self.assertEqual(self.of.values(positions), values)
+        self.assertEqual(self.of.outcomes(positions), ["P" if it in self.of.portion else "N" for it in values])

@@ -20,7 +20,10 @@ def numbers(words):
 
 
 def rows_of(entry):
-    return [numbers(line.split(" ", 1)[1]) for line in entry.quotient.splitlines() if line.startswith("row ")]
+    """All rows, also of a text that leaves some out."""
+    from certificate_lines import certificate_of
+
+    return [list(row) for row in certificate_of(entry.certificate).rows]
 
 
 def generators(entry, rows, phi):

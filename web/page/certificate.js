@@ -10,7 +10,7 @@
  * @property {number} period 0 for a partial one
  * @property {number[]} phi the elements of the heaps 1, 2, ..
  * @property {Set<number>} portion
- * @property {number[][]} table the products
+ * @property {number[][]} table the products, made when they are first asked for
  */
 
 /**
@@ -22,17 +22,41 @@ export function fieldsOf(text) {
   const words = (/** @type {string} */ name) => lines.find(([first]) => first === name)?.slice(1) ?? [];
   const numbers = (/** @type {string} */ name) => words(name).map(Number);
   const [order, start, period] = ["order", "start", "period"].map((name) => numbers(name)[0]);
-  const table = lines.filter(([first]) => first === "row").map(([, ...row]) => row.map(Number));
+  const phi = numbers("phi");
+  /** @type {number[][] | undefined} */
+  let table;
   return {
     text,
     code: words("code")[0],
     order,
     start,
     period,
-    phi: numbers("phi"),
+    phi,
     portion: new Set(numbers("portion")),
-    table
+    get table() {
+      const rows = () => lines.filter(([first]) => first === "row").map(([, ...row]) => row.map(Number));
+      return table ??= allRows(order, phi, words("words"), rows());
+    }
   };
+}
+
+/**
+ * All rows of the table. A text in the third format has only those of the elements that heaps have; each other element
+ * is the product of its key.
+ * @param {number} order
+ * @param {number[]} phi
+ * @param {string[]} keys those of the elements 1, 2, ..
+ * @param {number[][]} rows
+ */
+function allRows(order, phi, keys, rows) {
+  if (rows.length === order) return rows;
+  const all = [Array.from({length: order}, (_, x) => x), ...rows];
+  for (const key of keys.slice(rows.length)) {
+    const [element, heap] = key.split(":").map(Number);
+    const row = all[element];
+    all.push(all[phi[heap - 1]].map((x) => row[x]));
+  }
+  return all;
 }
 
 /**

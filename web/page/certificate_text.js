@@ -22,21 +22,32 @@ const rests = /** @type {WeakMap<Quotient, string>} */ (new WeakMap());
  * @param {Quotient} quotient
  */
 export function certificateText(code, quotient) {
-  const {order, period} = quotient;
-  const format = period === 0 || order > 256 || /[89a-f]/.test(code) ? 2 : 1;
   const rest = rests.get(quotient) ?? restOf(quotient);
   rests.set(quotient, rest);
-  return `mqc ${format}\ncode ${code}\n${rest}`;
+  return `mqc ${formatOf(code, quotient)}\ncode ${code}\n${rest}`;
+}
+
+/**
+ * The format of a certificate, which its numbers tell.
+ * @param {string} code
+ * @param {Quotient} quotient
+ */
+function formatOf(code, {order, start, period}) {
+  if (order > 512 || start + period > 1025) return 3;
+  return period === 0 || order > 256 || /[89a-f]/.test(code) ? 2 : 1;
 }
 
 /** @param {Quotient} quotient */
 function restOf(quotient) {
   const {order, start, period, phi, portion} = quotient;
   const rows = rowsOf(quotient);
+  const keys = keysOf(rows, phi);
+  const leavesOut = formatOf("0.1", quotient) === 3;
+  const said = leavesOut ? rows.slice(1, keys.filter((key) => key.startsWith("0:")).length + 1) : rows;
   const lines = [
     `order ${order}`, `start ${start}`, `period ${period}`, `phi ${phi.join(" ")}`, `portion ${portion.join(" ")}`,
-    `words ${keysOf(rows, phi).join(" ")}`, ...rows.map((row) => `row ${row.join(" ")}`),
-    `apart ${separatingOf(rows, portion).join(" ")}`, "end"
+    `words ${keys.join(" ")}`, ...said.map((row) => `row ${row.join(" ")}`),
+    ...(leavesOut ? [] : [`apart ${separatingOf(rows, portion).join(" ")}`]), "end"
   ];
   return lines.join("\n") + "\n";
 }

@@ -163,8 +163,8 @@ test("positions: outcome and winning move, one by one and many at once", (t) => 
 const SEARCHES = [
   ["whole", "0.33", {}, []],
   ["hexadecimal", "0.b", {heaps: 16}, ["--heaps", "16"]],
-  ["deep", "0.77", {heaps: 3090, order: 256}, ["--deep"]],
-  ["deep and large", "0.423333", {heaps: 3090, order: 256}, ["--deep"]],
+  ["deep", "0.77", {heaps: 8210, order: 256}, ["--deep"]],
+  ["deep and large", "0.423333", {heaps: 8210, order: 256}, ["--deep"]],
   ["a part", "0.75", {aim: "part", heaps: 8, order: 512}, ["--partial", "8", "--order", "512"]],
   ["furthest", "0.07", {aim: "furthest", heaps: 0, order: 64}, ["--furthest", "64"]],
 ];

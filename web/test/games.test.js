@@ -10,6 +10,7 @@ import test from "node:test";
 
 import {Atlas} from "../page/atlas.js";
 import {fieldsOf, lastHeap, nameOf, verdictOf} from "../page/certificate.js";
+import {certificateText} from "../page/certificate_text.js";
 import {isCode, movesFrom, moveTo} from "../page/codes.js";
 import {describedOf} from "../page/description.js";
 import {componentsOf, wordsOf} from "../page/monoid.js";
@@ -62,6 +63,41 @@ test("the texts that the page makes again are those of the catalogues", () => {
   const made = new Atlas(JSON.parse(readFileSync(held, "utf8")));
   assert.equal(made.entries.length, atlas.length);
   for (const {code, bytes} of atlas) assert.equal(made.text(code), new TextDecoder().decode(bytes), code);
+});
+
+/**
+ * What a page would hold of the powers of one element, with a heap for each.
+ * @param {number} order
+ * @param {number} heaps
+ */
+function powers(order, heaps) {
+  const phi = Array.from({length: heaps}, (_, at) => (at + 1) % order);
+  const row = Array.from({length: order}, (_, x) => (x + 1) % order);
+  return {
+    order,
+    start: heaps,
+    period: 1,
+    phi,
+    portion: [1],
+    generators: [[1, ...row]],
+    kind: "wild",
+    class: 0,
+    codes: []
+  };
+}
+
+test("a text in the third format leaves rows out, which are read all the same", () => {
+  for (const [order, heaps, format, said] of [[512, 3, 2, 512], [513, 3, 3, 3], [3, 1024, 1, 3], [3, 1025, 3, 2]]) {
+    const quotient = powers(order, heaps);
+    const text = certificateText("0.3", quotient);
+    assert.ok(text.startsWith(`mqc ${format}\ncode 0.3\norder ${order}\n`), text.slice(0, 40));
+    assert.equal(text.match(/^row /gm)?.length, said);
+    assert.equal(text.includes("\napart "), format !== 3);
+    const {table, phi} = fieldsOf(text);
+    const sums = table.map((_, x) => Array.from({length: order}, (_, y) => (x + y) % order));
+    assert.deepEqual(table, sums);
+    assert.deepEqual(phi, quotient.phi);
+  }
 });
 
 test("the verdict's line is the program's", () => {

@@ -13,7 +13,7 @@ const positions = Array.from({length: 4096}, (_, at) => [1 + at % 64, 1 + (at >>
 const kaylesFile = `${root}/certificates/0.77.mqc`;
 /** @type {import("../calls.js").Search} */
 const deep = {
-  heaps: 3090,
+  heaps: 8210,
   order: 256
 };
 /** @type {import("../calls.js").Search} */

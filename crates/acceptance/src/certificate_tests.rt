@@ -192,6 +192,16 @@ fn count_refused(alloc: Global, texts: &[&[u8]]) -> usize {
     count
 }
 
+/// The length of the shortest beginning of the text that isn't refused as no certificate.
+fn first_not_refused(alloc: Global, text: &[u8]) -> usize {
+    for end in 0..text.len() {
+        if !matches!(fault_of(alloc, &text[..end]), Err(TextFault::Text)) {
+            return end;
+        }
+    }
+    text.len()
+}
+
 /// Whether the certificate of 0.75 is read, or the number of the fault.
 pub fn is_read<A: Allocator + Copy>(alloc: A) -> Result<bool, u8> {
     match fault_of(alloc, OF_0_75) {
@@ -360,6 +370,7 @@ fn count_large(alloc: Global, rows: &[Large]) -> usize {
 fn texts_and_certificates(rt: HostRuntime) {
     assert!(rt; count_back(rt.alloc(), &OWN) == 9);
     assert!(rt; count_refused(rt.alloc(), &OTHERS) == 30);
+    assert!(rt; first_not_refused(rt.alloc(), OF_0_75) == OF_0_75.len());
     assert!(rt; lines_lent(rt.alloc()) == [true; 8]);
     assert!(rt; first_wrong_write(rt.alloc()) == 99);
     assert!(rt; count_large(rt.alloc(), &LARGE) == 3);

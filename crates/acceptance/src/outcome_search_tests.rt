@@ -136,6 +136,29 @@ fn count_ones(alloc: Global) -> u64 {
     70
 }
 
+/// Whether a thousand heaps of 1 have their outcome.
+fn a_thousand_ones_have(alloc: Global) -> bool {
+    match Code::read(b"0.3") {
+        Ok(code) => ones_have(alloc, &code, 1000),
+        Err(_) => false,
+    }
+}
+
+/// Whether the heaps of 1 to 1,000 have their outcome within two positions: in 0.1 the only move
+/// takes the heap of 1, and then there is none.
+fn a_thousand_sizes_have(alloc: Global) -> bool {
+    let Ok(code) = Code::read(b"0.1") else {
+        return false;
+    };
+    let mut position = Position::new(alloc);
+    for heap in 1..1001u64 {
+        if position.push(heap).is_err() {
+            return false;
+        }
+    }
+    outcome(alloc, &code, &position, 2) == Ok(Outcome::P)
+}
+
 #[test]
 fn finds_outcomes(rt: HostRuntime) {
     assert!(rt; count_held(rt.alloc(), &ROWS) == 24);
@@ -144,4 +167,6 @@ fn finds_outcomes(rt: HostRuntime) {
 #[test]
 fn memory_suffices_for_many_heaps(rt: HostRuntime) {
     assert!(rt; count_ones(rt.alloc()) == 70);
+    assert!(rt; a_thousand_ones_have(rt.alloc()));
+    assert!(rt; a_thousand_sizes_have(rt.alloc()));
 }

@@ -5,7 +5,7 @@ use crate::texts::{Repeats, text_of};
 use presentations::{
     Generator, Named, PresFault, Presentation, Relation, VectorRelation, related_is_least, table_of,
 };
-use std::alloc::{Allocator, Global};
+use std::alloc::{AllocError, Allocator, Global};
 
 fn named<A: Allocator + Copy>(alloc: A, text: &str) -> Result<Named<A>, PresFault> {
     let presentation = Presentation::read(alloc, text.as_bytes())?;
@@ -194,34 +194,34 @@ impl VectorRelation for SameLength {
     ghost relates = { λ u v. length u ≡ length v };
 }
 
-/// The letters, each 64 times.
+/// Each letter 64 times, in as many bytes as can be.
 const WORD: Repeats = &[
-    (b"a", 64),
-    (b"b", 64),
-    (b"c", 64),
-    (b"d", 64),
-    (b"e", 64),
-    (b"f", 64),
-    (b"g", 64),
-    (b"h", 64),
-    (b"i", 64),
-    (b"j", 64),
-    (b"k", 64),
-    (b"l", 64),
-    (b"m", 64),
-    (b"n", 64),
-    (b"o", 64),
-    (b"p", 64),
-    (b"q", 64),
-    (b"r", 64),
-    (b"s", 64),
-    (b"t", 64),
-    (b"u", 64),
-    (b"v", 64),
-    (b"w", 64),
-    (b"x", 64),
-    (b"y", 64),
-    (b"z", 64),
+    (b"a^2", 32),
+    (b"b^2", 32),
+    (b"c^2", 32),
+    (b"d^2", 32),
+    (b"e^2", 32),
+    (b"f^2", 32),
+    (b"g^2", 32),
+    (b"h^2", 32),
+    (b"i^2", 32),
+    (b"j^2", 32),
+    (b"k^2", 32),
+    (b"l^2", 32),
+    (b"m^2", 32),
+    (b"n^2", 32),
+    (b"o^2", 32),
+    (b"p^2", 32),
+    (b"q^2", 32),
+    (b"r^2", 32),
+    (b"s^2", 32),
+    (b"t^2", 32),
+    (b"u^2", 32),
+    (b"v^2", 32),
+    (b"w^2", 32),
+    (b"x^2", 32),
+    (b"y^2", 32),
+    (b"z^2", 32),
 ];
 
 /// A relation between words of all letters.
@@ -245,7 +245,8 @@ fn is_full(alloc: Global, text: &[u8]) -> bool {
     }
 }
 
-/// Whether 64 times the relation, with a space between any two, is read so, of more than 2^16 bytes.
+/// Whether 64 times the relation, with a space between any two, is read so: no presentation has more
+/// bytes. With a space behind it is none.
 fn long_is_full(alloc: Global, relation: &[u8]) -> bool {
     let mut text = Vec::new(alloc);
     for _ in 0..64u8 {
@@ -253,13 +254,57 @@ fn long_is_full(alloc: Global, relation: &[u8]) -> bool {
             return false;
         }
     }
-    text.len() > 200_000 && is_full(alloc, &text[..text.len() - 1])
+    text.len() == 319_616
+        && is_full(alloc, &text[..text.len() - 1])
+        && count_of(alloc, &text) == Err(PresFault::Text.number())
 }
 
 fn memory_suffices(alloc: Global) -> bool {
     match text_of(alloc, &LONG) {
         Ok(relation) => long_is_full(alloc, &relation),
         Err(_) => false,
+    }
+}
+
+/// So many relations, each of which makes this power of a letter 1: of a to z, and of a again.
+fn powers(alloc: Global, count: usize, exponent: u8) -> Result<Vec<Relation>, AllocError> {
+    let mut relations = Vec::new(alloc);
+    for i in 0..count {
+        let mut left = [0u8; 26];
+        left[i % 26] = exponent;
+        relations.push(Relation {
+            left,
+            right: [0; 26],
+        })?;
+    }
+    Ok(relations)
+}
+
+/// How many elements such relations present within the limit, or the number of the fault.
+fn order_of(alloc: Global, count: usize, exponent: u8, limit: u32) -> Result<u16, u8> {
+    let Ok(relations) = powers(alloc, count, exponent) else {
+        return Err(0);
+    };
+    match table_of(alloc, &Presentation::new(relations), limit) {
+        Ok(named) => Ok(named.table.order()),
+        Err(fault) => Err(fault.number()),
+    }
+}
+
+/// Tables within every limit, of all letters, of many relations and of large exponents.
+#[test]
+fn tables_within_limits(rt: HostRuntime) {
+    for (count, exponent, limit, wanted) in [
+        (64, 1, 1, Ok(1)),
+        (300, 1, u32::MAX, Ok(1)),
+        (1, 1, 0, Err(3)),
+        (1, 255, 255, Ok(255)),
+        (1, 255, 254, Err(3)),
+        (3, 6, 216, Ok(216)),
+        (3, 6, 215, Err(3)),
+        (4, 4, u32::MAX, Ok(256)),
+    ] {
+        assert!(rt; order_of(rt.alloc(), count, exponent, limit) == wanted);
     }
 }
 

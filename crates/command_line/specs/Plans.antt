@@ -34,6 +34,7 @@ HasNumbersWithin (plan.Solve code limit rounds order aimed why) =
 HasNumbersWithin (plan.Show file limit) = IsWithin Limit limit
 HasNumbersWithin (plan.Describe file output basis limit) = IsWithin Limit limit
 HasNumbersWithin (plan.Play file position limit) = IsWithin Limit limit
+HasNumbersWithin (plan.PlayLines file limit) = IsWithin Limit limit
 HasNumbersWithin (plan.Present text) = ⊤
 HasNumbersWithin (plan.Catalogue file asked limit) =
     TaskHasNumbersWithin asked × IsWithin Limit limit

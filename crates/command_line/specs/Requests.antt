@@ -16,7 +16,7 @@ use Rattle.command_line.specs.declared.numbers.Quantity.{Quantity}
 use Rattle.command_line.specs.declared.numbers.Quantity.TheVariants.{Limit, Rounds, Heaps, Order, Part, DeepOrder, Last, PartOrder, Furthest}
 use Rattle.requests.specs.Requests.{CatalogueRequest, Request}
 use Rattle.requests.specs.Requests.CatalogueRequest.{Print, New, Add, NewWith, Get, Salvage, Migrate}
-use Rattle.requests.specs.Requests.Request.{Check, Solve, Show, Describe, Play, Present, Catalogue, Desk}
+use Rattle.requests.specs.Requests.Request.{Check, Solve, Show, Describe, Play, PlayLines, Present, Catalogue, Desk}
 use Rattle.requests.specs.declared.plans.Aim.{Aim}
 use Rattle.requests.specs.declared.plans.Aim.TheVariants as aim
 use Rattle.requests.specs.declared.plans.Output.{Output}
@@ -146,14 +146,30 @@ solve_request rows =
     solve_with (first_of (codes "code") rows) (number_of Limit rows) (number_of Rounds rows)
     (order_in rows) (aim_in rows) (is_set (codes "why") rows)
 
+-- the word stands for standard input
+abbrev pub is_input : Option Text → Bool
+is_input word = option_map_or (λ text. bytes_eq text (codes "-")) word false
+
+-- positions on standard input are played by a file's certificate
+abbrev pub play_lines_with : Option Text → ℕ → Option Request
+play_lines_with None limit = None
+play_lines_with (Some file) limit = Some (PlayLines file limit)
+
 abbrev pub play_with : Option Text → Option Text → Option ℕ → Option Request
 play_with (Some file) (Some position) (Some limit) =
-    Some (Play (named_by (Some file)) position limit)
+    if bytes_eq position (codes "-")
+    then play_lines_with (named_by (Some file)) limit
+    else Some (Play (named_by (Some file)) position limit)
 play_with _ _ _ = None
 
 abbrev pub play_request : List Row → Option Request
 play_request rows = play_with (first_of (codes "file") rows) (first_of (codes "position") rows)
     (number_of Limit rows)
+
+-- the certificate and the positions both stand on standard input
+abbrev pub play_conflicts : List Row → Bool
+play_conflicts rows =
+    is_input (first_of (codes "file") rows) && is_input (first_of (codes "position") rows)
 
 abbrev pub present_request : List Row → Option Request
 present_request rows = option_map Present (first_of (codes "text") rows)
@@ -245,7 +261,13 @@ describe = record {
 }
 
 abbrev pub play : Asking
-play = record { app = Program.play; request = play_request; numbers = Limit ∷ []; conflicts = never; exclusion = untold }
+play = record {
+  app = Program.play;
+  request = play_request;
+  numbers = Limit ∷ [];
+  conflicts = play_conflicts;
+  exclusion = λ rows. Some exclusion.Play;
+}
 
 abbrev pub present : Asking
 present = record { app = Program.present; request = present_request; numbers = []; conflicts = never; exclusion = untold }

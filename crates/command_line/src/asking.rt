@@ -197,11 +197,15 @@ fn play_plan<'a>(given: &ArgMatches<'a>) -> Result<Plan<'a>, UsageFault>
     let file = named_by(Some(needed(given, "file")?));
     let position = needed(given, "position")?;
     let limit = number(given, Quantity::Limit)?;
-    Ok(Plan::Play {
-        file,
-        position,
-        limit,
-    })
+    match (position, file) {
+        ("-", Some(file)) => Ok(Plan::PlayLines { file, limit }),
+        ("-", None) => Err(UsageFault::Exclusive(Exclusion::Play)),
+        (position, file) => Ok(Plan::Play {
+            file,
+            position,
+            limit,
+        }),
+    }
 }
 
 fn present_plan<'a>(given: &ArgMatches<'a>) -> Result<Plan<'a>, UsageFault>

@@ -169,7 +169,8 @@ fn play_command<'a>(alloc: Global) -> Result<Command<'a>, AllocError>
     ensures { IfOk result (λ c. app_of c ≡ play) }
 {
     let about = "Check a certificate, and print a winning move in a position";
-    let position = "The sizes of the heaps in one word, as '1 2 2'; 0 for no heap";
+    let position = "The sizes of the heaps in one word, as '1 2 2'; 0 for no heap; as - each line of \
+standard input";
     let made = Ok(command(alloc, "play", about));
     let made = with_arg(made, needed(alloc, "file", "FILE", NAMED));
     let made = with_arg(made, needed(alloc, "position", "POSITION", position));

@@ -6,9 +6,10 @@ use Rattle.check_command.specs.Checks as check
 use Rattle.check_command.specs.Checks.{IsGivenCause}
 use Rattle.command_results.specs.Stops.{IsMemory}
 use Rattle.command_results.specs.declared.stop.Stop.{Stop}
+use Rattle.play_command.specs.Many.{AreLinesOf, IsPlayLinesCause}
 use Rattle.play_command.specs.Plays.{IsPlayCause}
 use Rattle.requests.specs.Requests.{Request}
-use Rattle.requests.specs.Requests.Request.{Check, Solve, Show, Describe, Play, Present, Catalogue, Desk}
+use Rattle.requests.specs.Requests.Request.{Check, Solve, Show, Describe, Play, PlayLines, Present, Catalogue, Desk}
 use Rattle.solve_command.specs.Solved.{IsSolveCause}
 
 -- How often each device has failed that a command reads or changes.
@@ -24,21 +25,26 @@ failed input reads writes = record { input = input; reads = reads; writes = writ
 abbrev pub given : Failed → check.Failed
 given f = check.failed f.input f.reads
 
--- Why each request may stop before anything is printed, by the failures before and after. A script
--- has an end of its own.
-abbrev pub IsCause : Request → Failed → Failed → Stop → Type 0
-IsCause (Check file limit) before after stop = IsGivenCause file (given before) (given after) stop
-IsCause (Solve code limit rounds order aim why) before after stop = IsSolveCause code stop
-IsCause (Show file limit) before after stop = IsGivenCause file (given before) (given after) stop
-IsCause (Describe file output basis limit) before after stop =
+-- Why each request may stop before anything is printed, by what was left of standard input, and by
+-- the failures before and after. A script has an end of its own.
+abbrev pub IsCause : Option (List ℕ) → Request → Failed → Failed → Stop → Type 0
+IsCause input (Check file limit) before after stop =
     IsGivenCause file (given before) (given after) stop
-IsCause (Play file position limit) before after stop =
+IsCause input (Solve code limit rounds order aim why) before after stop =
+    IsSolveCause code stop
+IsCause input (Show file limit) before after stop =
+    IsGivenCause file (given before) (given after) stop
+IsCause input (Describe file output basis limit) before after stop =
+    IsGivenCause file (given before) (given after) stop
+IsCause input (Play file position limit) before after stop =
     IsPlayCause file position (given before) (given after) stop
-IsCause (Present text) before after stop = IsMemory stop
-IsCause (Catalogue file task limit) before after stop =
+IsCause input (PlayLines file limit) before after stop =
+    IsPlayLinesCause file (AreLinesOf input) (given before) (given after) stop
+IsCause input (Present text) before after stop = IsMemory stop
+IsCause input (Catalogue file task limit) before after stop =
     StopsTask file task (catalogue.failed before.reads before.writes)
     (catalogue.failed after.reads after.writes) stop
-IsCause (Desk script) before after stop = ⊥
+IsCause input (Desk script) before after stop = ⊥
 
 -- the request reads standard input
 abbrev pub reads_input : Option Request → Bool
@@ -46,6 +52,7 @@ reads_input (Some (Check file limit)) = is_none file
 reads_input (Some (Show file limit)) = is_none file
 reads_input (Some (Describe file output basis limit)) = is_none file
 reads_input (Some (Play file position limit)) = is_none file
+reads_input (Some (PlayLines file limit)) = true
 reads_input _ = false
 
 -- the request reads or writes files
@@ -54,6 +61,7 @@ takes_files (Some (Check file limit)) = is_some file
 takes_files (Some (Show file limit)) = is_some file
 takes_files (Some (Describe file output basis limit)) = is_some file
 takes_files (Some (Play file position limit)) = is_some file
+takes_files (Some (PlayLines file limit)) = true
 takes_files (Some (Catalogue file task limit)) = true
 takes_files (Some (Desk script)) = true
 takes_files _ = false

@@ -34,7 +34,8 @@ pub data Obeys (request : Request) (old new : Scene) (status : ℕ) : Type 0 whe
       → Leaves (file_written request succeeds) old.files new.files
       → Printed old.out new.out old.err new.err text (status_if succeeds) status
       → Obeys request old new status
-  Stopped : (stop : Stop) → IsCause request old.failed new.failed stop → new.files ≡ old.files
+  Stopped : (stop : Stop) → IsCause old.input request old.failed new.failed stop
+      → new.files ≡ old.files
       → new.out ≡ old.out
       → PrintsLine old.err new.err (stop_line stop) → status ≡ stop_status stop
       → Obeys request old new status

@@ -4,10 +4,11 @@ use Rattle.std.specs.Prelude.{ℕ, Bool, List, Option, None}
 use Rattle.catalogue_command.specs.Tasks.{KeepsCatalogue, catalogue_written}
 use Rattle.check_command.specs.Checks.{AreGiven, Checks}
 use Rattle.describe_command.specs.Described.{Describes}
+use Rattle.play_command.specs.Many.{AreFileOf, AreLinesOf, PlaysLines}
 use Rattle.play_command.specs.Plays.{Plays}
 use Rattle.present_command.specs.Presented.{Presents}
 use Rattle.requests.specs.Requests.{Request}
-use Rattle.requests.specs.Requests.Request.{Check, Solve, Show, Describe, Play, Present, Catalogue, Desk}
+use Rattle.requests.specs.Requests.Request.{Check, Solve, Show, Describe, Play, PlayLines, Present, Catalogue, Desk}
 use Rattle.show_command.specs.Shown.{Shows}
 use Rattle.solve_command.specs.Solved.{Solves}
 
@@ -28,6 +29,8 @@ RespondsWith input before after (Describe file output basis limit) text succeeds
     Describes (AreGiven input before file) limit output text succeeds
 RespondsWith input before after (Play file position limit) text succeeds =
     Plays (AreGiven input before file) limit position text succeeds
+RespondsWith input before after (PlayLines file limit) text succeeds =
+    PlaysLines (AreFileOf before file) limit (AreLinesOf input) text succeeds
 RespondsWith input before after (Present presentation) text succeeds = Presents presentation text succeeds
 RespondsWith input before after (Catalogue file task limit) text succeeds =
     KeepsCatalogue limit before after file task text succeeds

@@ -12,7 +12,7 @@ use command_results::{Said, Stop};
 use describe_command::describe;
 use descriptions::Form;
 use folders::Folder;
-use play_command::play;
+use play_command::{play, play_lines};
 use present_command::present;
 use requests::Plan;
 use show_command::show;
@@ -37,7 +37,7 @@ pub(crate) fn carry_out<'a, F: Folder, S: Source>(
         (λ s. Leaves (file_written (request_of plan.entry) s.succeeds) (F.files folder.old)
         (F.files folder.new)) }
     ensures kept { OnErr result (F.files folder.new ≡ F.files folder.old) }
-    ensures stops { IfErr result (IsCause (request_of plan.entry)
+    ensures stops { IfErr result (IsCause (S.left input.old) (request_of plan.entry)
         (failed (S.failures input.old) (F.failed_reads folder.old) (F.failed_writes folder.old))
         (failed (S.failures input.new) (F.failed_reads folder.new) (F.failed_writes folder.new))) }
     ensures usage { IfErr result (λ stop. stop_status stop ≡ 2 → folder.new ≡ folder.old) }
@@ -61,6 +61,7 @@ pub(crate) fn carry_out<'a, F: Folder, S: Source>(
             position,
             limit,
         } => play(alloc, file, position, limit, folder, input),
+        Plan::PlayLines { file, limit } => play_lines(alloc, file, limit, folder, input),
         Plan::Present { text } => present(alloc, text),
         Plan::Solve {
             code,

@@ -1,9 +1,12 @@
 -- What is said in a position, from what was found.
-use Rattle.std.proofs.Common.{sym, subst, ℕ, Bool, true, false, List, Option, Result, Ok, Err, Vec, inl, inr}
+use Rattle.std.proofs.Common.{◌≡◌, ◌≤◌, length, sym, subst, ℕ, Bool, true, false, List, Result, Ok, Err, Vec, inl, inr}
 use Rattle.misere_theory.specs.Certificates.{Certificate}
 use Rattle.positions.specs.Text.{IsTextOf}
 use Rattle.check_command.specs.Checks.{Finds, Checks}
+use Rattle.play_command.specs.Many.{AnswersLines, PlaysLines}
+use Rattle.play_command.specs.Many.PlaysLines.{Quotient}
 use Rattle.play_command.specs.Plays.{Plays, PlaysFound}
+use Rattle.play_command.specs.declared.many.TheConstants.{LARGEST_INPUT}
 
 pub plays_found : {A : Type 0} (Are : List ℕ → Type 0) (limit : ℕ) (position : List ℕ)
     (q : Result Certificate (Vec ℕ A)) (X text : List ℕ) (succeeds : Bool)
@@ -14,3 +17,13 @@ plays_found Are limit position (Ok c) X text false f read h = inr (c, f, (X, rea
 plays_found Are limit position (Err said) X text succeeds f read h =
     subst (λ (b : Bool). Plays Are limit position text b) (sym h.1)
     (inl (subst (λ (t : List ℕ). Checks Are limit t false) (sym h.0) f))
+
+pub plays_quotient : {A : Type 0} (Are AreLines : List ℕ → Type 0) (limit : ℕ)
+    (q : Result Certificate (Vec ℕ A)) (c : Certificate) (lines read text : List ℕ)
+    (succeeds : Bool)
+    → Finds Are limit q → q ≡ Ok c → AreLines lines → length lines ≤ LARGEST_INPUT → read ≡ lines
+    → AnswersLines c read text succeeds → PlaysLines Are limit AreLines text succeeds
+plays_quotient {A = A} Are AreLines limit q c lines read text succeeds found is given few same says =
+    Quotient c lines (subst (λ (r : Result Certificate (Vec ℕ A)). Finds Are limit r) is found) given
+    few
+    (subst (λ (l : List ℕ). AnswersLines c l text succeeds) same says)

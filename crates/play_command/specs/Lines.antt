@@ -35,3 +35,7 @@ answer_line (Wins m) = win_line m.heap m.left
 -- the line where a certificate doesn't speak of a position
 abbrev pub beyond_line : List ℕ
 beyond_line = codes "refused 23 Beyond\n"
+
+-- the line of a line that is no position
+abbrev pub no_position_line : List ℕ
+no_position_line = codes "not a position\n"

@@ -1,6 +1,6 @@
 -- What is said in a position, by the quotient that a file certifies, and why nothing is. This
 -- project's own.
-use Rattle.std.specs.Prelude.{◌≡◌, ◌<◌, ◌⊎◌, ⊤, ℕ, Bool, true, false, List, Option, Result, Ok, Err, Vec}
+use Rattle.std.specs.Prelude.{◌≡◌, ◌⊎◌, ⊤, ℕ, Bool, true, false, List, Option, Result, Ok, Err, Vec}
 use Rattle.misere_theory.specs.Certificates.{Certificate}
 use Rattle.positions.specs.declared.position.TheConstants.{MOST_SIZES, LARGEST_HEAP}
 use Rattle.positions.specs.Text.{IsNoPositionText, IsTextOf, HasTooMany, HasTooLarge}

@@ -1,8 +1,10 @@
-//! `play`: the answer in a position, by the quotient that a file certifies.
+//! `play`: the answers in positions, by the quotient that a file certifies.
 #![tactic(auto)]
 
 mod lines;
+mod many;
 mod playing;
 
 pub use lines::answer_text;
+pub use many::{LARGEST_INPUT, play_lines};
 pub use playing::play;

@@ -49,7 +49,11 @@ fn beyond(alloc: Global) -> Result<Said, AllocError>
 }
 
 /// The line of the answer in the position, or that the certificate doesn't speak of it.
-fn played(alloc: Global, certified: &Certified, position: &Position) -> Result<Said, AllocError>
+pub(crate) fn played(
+    alloc: Global,
+    certified: &Certified,
+    position: &Position,
+) -> Result<Said, AllocError>
     ensures plays { IfOk result (λ s. PlaysIn certified.now position.now s.text.items s.succeeds) }
     ensures full { 1 ≤ certified.now.period → IfOk result (λ s. s.succeeds ≡ true) }
 {

@@ -4,9 +4,10 @@ use crate::certificates::{
 };
 use command_results::Stop;
 use folders::MemoryFolder;
-use play_command::play;
+use play_command::{LARGEST_INPUT, play, play_lines};
 use std::alloc::Global;
-use streams::MemorySource;
+use devices::FailingSource;
+use streams::{MemorySource, Source};
 
 const LIMIT: u32 = 100000;
 
@@ -136,4 +137,94 @@ fn count_stopped(alloc: Global, rows: &[(&str, &str, Stop<'static>)]) -> usize {
 fn answers_in_positions_or_stops(rt: HostRuntime) {
     assert!(rt; count_said(rt.alloc(), &ROWS) == 22);
     assert!(rt; count_stopped(rt.alloc(), &STOPS) == 6);
+}
+
+/// A certificate, what stands on standard input, what is said, and whether it ends well.
+static LINES: [(&str, &str, &str, bool); 14] = [
+    (OF_0_33, "", "", true),
+    (OF_0_33, "2 2\n", "lost\n", true),
+    (OF_0_33, "2 2", "lost\n", true),
+    (OF_0_33, "0\n1 1\n2 2\n", "ended\nwins 1 -> 0\nlost\n", true),
+    (OF_0_33, "0\n1 1\n2 2", "ended\nwins 1 -> 0\nlost\n", true),
+    (OF_0_33, "\n", "not a position\n", false),
+    (OF_0_33, "01\n2 2\n", "not a position\nlost\n", false),
+    (OF_0_33, "2 2\n\n0", "lost\nnot a position\nended\n", false),
+    (OF_0_33, "2 2\r\n0\n", "not a position\nended\n", false),
+    (OF_0_33, "2 2\n1  2", "lost\nnot a position\n", false),
+    (OF_0_33, TOO_MANY, "not a position\n", false),
+    (
+        PART_OF_0_75,
+        "2 5\n9\n8 8\n",
+        "wins 5 -> 4\nrefused 23 Beyond\nlost\n",
+        false,
+    ),
+    (PART_OF_0_8, "4 4\n4\n", "wins 4 -> 1 1 1\nlost\n", true),
+    ("mqc 1\n", "1\n", "no 1 Text\n", false),
+];
+
+/// Whether this is said of what stands on standard input. A second reading of the file would fail.
+fn says_of_lines(alloc: Global, row: &(&str, &str, &str, bool)) -> bool {
+    let (held, lines, text, succeeds) = *row;
+    let mut input = MemorySource::new(lines.as_bytes());
+    match folder_of(alloc, "a.mqc", held, 2) {
+        Some(mut folder) => {
+            match play_lines(alloc, "a.mqc", LIMIT, &mut folder, &mut input) {
+                Ok(said) => {
+                    said.text.as_slice() == text.as_bytes() && said.succeeds == succeeds
+                }
+                Err(_) => false,
+            }
+        }
+        None => false,
+    }
+}
+
+/// How many rows hold.
+fn count_lines(alloc: Global, rows: &[(&str, &str, &str, bool)]) -> usize {
+    let mut count = 0usize;
+    for row in rows {
+        if says_of_lines(alloc, row) {
+            count = count.saturating_add(1);
+        }
+    }
+    count
+}
+
+/// Whether this is the reason to stop.
+fn stops_on_lines<S: Source>(alloc: Global, name: &str, input: &mut S, stop: Stop<'_>) -> bool {
+    match folder_of(alloc, "a.mqc", OF_0_33, 0) {
+        Some(mut folder) => match play_lines(alloc, name, LIMIT, &mut folder, input) {
+            Ok(_) => false,
+            Err(reason) => reason == stop,
+        },
+        None => false,
+    }
+}
+
+/// So many times the line "1 1" but for the last byte: as much as is read, or some bytes more.
+fn much_is_read(alloc: Global, more: usize, succeeds: bool) -> bool {
+    let Ok(lines) = "1 1\n".repeat(alloc, LARGEST_INPUT / 4 + 1) else {
+        return false;
+    };
+    let bytes = &lines.as_bytes()[..LARGEST_INPUT.saturating_add(more)];
+    let mut input = MemorySource::new(bytes);
+    let Some(mut folder) = folder_of(alloc, "a.mqc", OF_0_33, 0) else {
+        return false;
+    };
+    match play_lines(alloc, "a.mqc", LIMIT, &mut folder, &mut input) {
+        Ok(said) => succeeds && said.text.len() == "wins 1 -> 0\n".len() * (LARGEST_INPUT / 4),
+        Err(stop) => !succeeds && stop == Stop::Read("standard input"),
+    }
+}
+
+#[test]
+fn answers_in_the_positions_of_lines_or_stops(rt: HostRuntime) {
+    assert!(rt; count_lines(rt.alloc(), &LINES) == 14);
+    let unread = Stop::Read("standard input");
+    let mut lines = FailingSource::new(MemorySource::new(b"1\n"), 1);
+    assert!(rt; stops_on_lines(rt.alloc(), "a.mqc", &mut lines, unread));
+    let mut lines = MemorySource::new(b"1\n");
+    assert!(rt; stops_on_lines(rt.alloc(), "b.mqc", &mut lines, Stop::Read("b.mqc")));
+    assert!(rt; much_is_read(rt.alloc(), 0, true));
+    assert!(rt; much_is_read(rt.alloc(), 1, false));
 }

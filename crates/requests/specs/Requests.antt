@@ -24,6 +24,7 @@ pub data Request : Type 0 where
   Show : Option (List ℕ) → ℕ → Request
   Describe : Option (List ℕ) → Output → Bool → ℕ → Request
   Play : Option (List ℕ) → List ℕ → ℕ → Request
+  PlayLines : List ℕ → ℕ → Request
   Present : List ℕ → Request
   Catalogue : List ℕ → CatalogueRequest → ℕ → Request
   Desk : List ℕ → Request
@@ -48,6 +49,7 @@ request_of (plan.Describe file output basis limit) =
     Describe (option_map (λ f. f.now) file) output basis limit
 request_of (plan.Play file position limit) =
     Play (option_map (λ f. f.now) file) position.now limit
+request_of (plan.PlayLines file limit) = PlayLines file.now limit
 request_of (plan.Present text) = Present text.now
 request_of (plan.Catalogue file asked limit) =
     Catalogue file.now (catalogue_request_of asked) limit

@@ -57,6 +57,12 @@ pub enum Plan<'a> {
         position: &'a str,
         limit: u32,
     },
+    /// Answer in the position of each line of standard input by the quotient that the file certifies
+    /// under the limit.
+    PlayLines {
+        file: &'a str,
+        limit: u32,
+    },
     /// Print the monoid that the text presents.
     Present {
         text: &'a str,

@@ -81,7 +81,7 @@ impl Row for Asks {
     }
 }
 
-static ASKED: [Asks; 52] = [
+static ASKED: [Asks; 55] = [
     Asks(
         "check",
         Asked::Plan(Plan::Check {
@@ -199,6 +199,27 @@ static ASKED: [Asks; 52] = [
             file: Some("a.mqc"),
             position: "1 2 2",
             limit: 1000000,
+        }),
+    ),
+    Asks(
+        "play|a.mqc|-",
+        Asked::Plan(Plan::PlayLines {
+            file: "a.mqc",
+            limit: 100000,
+        }),
+    ),
+    Asks(
+        "play|--limit|7|a.mqc|-",
+        Asked::Plan(Plan::PlayLines {
+            file: "a.mqc",
+            limit: 7,
+        }),
+    ),
+    Asks(
+        "play|a.mqc|-|--limit=8",
+        Asked::Plan(Plan::PlayLines {
+            file: "a.mqc",
+            limit: 8,
         }),
     ),
     Asks(
@@ -380,7 +401,7 @@ static BY_INPUT: [Asks; 8] = [
 
 #[test]
 fn asks_for_plans(rt: HostRuntime) {
-    assert!(rt; count_held(rt.alloc(), &ASKED) == 52 && count_held(rt.alloc(), &BY_INPUT) == 8);
+    assert!(rt; count_held(rt.alloc(), &ASKED) == 55 && count_held(rt.alloc(), &BY_INPUT) == 8);
 }
 
 /// Whether the fault has this status, and a text with this part.
@@ -420,7 +441,10 @@ impl Row for Refuses {
     }
 }
 
-static REFUSED: [Refuses; 141] = [
+static REFUSED: [Refuses; 144] = [
+    Refuses("play|-|-", Why::Exclusive(Exclusion::Play)),
+    Refuses("play|--limit=3|-|-", Why::Exclusive(Exclusion::Play)),
+    Refuses("play|a.mqc|-|--limit|0", Why::Number(Quantity::Limit)),
     Refuses("check|--limit|0", Why::Number(Quantity::Limit)),
     Refuses("check|--limit|1000001", Why::Number(Quantity::Limit)),
     Refuses("check|--limit|08", Why::Number(Quantity::Limit)),
@@ -706,7 +730,7 @@ fn is_incomplete(alloc: Global) -> bool {
 
 #[test]
 fn tells_why_words_ask_for_nothing(rt: HostRuntime) {
-    assert!(rt; count_held(rt.alloc(), &REFUSED) == 141);
+    assert!(rt; count_held(rt.alloc(), &REFUSED) == 144);
     assert!(rt; is_incomplete(rt.alloc()));
 }
 

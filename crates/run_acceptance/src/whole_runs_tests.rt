@@ -64,7 +64,7 @@ fn ends_with<S: Source>(alloc: Global, run: &Run, input: &mut S, held: &str) -> 
 const YES: &str = "yes 0.3 order 2 start 1 period 2\n";
 
 /// Of most a second call of the folder would fail.
-static ROWS: [Run; 68] = [
+static ROWS: [Run; 73] = [
     Run(
         "check|0.33.mqc",
         2,
@@ -224,6 +224,23 @@ ideal I =\n  a^2-1,\n  b^3-b,\n  b*c-a*b,\n  c^2-b^2;\n",
     Run("play|0.b.mqc|1 1 1", 2, 0, "lost\n", ""),
     Run("play|part.mqc|2 5", 2, 0, "wins 5 -> 4\n", ""),
     Run("play|part.mqc|9", 2, 1, "refused 23 Beyond\n", ""),
+    Run("play|0.33.mqc|-", 2, 0, "", ""),
+    Run("play|text_crlf.mqc|-", 2, 1, "no 1 Text\n", ""),
+    Run("play|0.3.mqc|-|--limit|2", 2, 1, "no 8 Limit\n", ""),
+    Run(
+        "play|nowhere.mqc|-",
+        2,
+        3,
+        "",
+        "misere: cannot read nowhere.mqc\n",
+    ),
+    Run(
+        "play|-|-",
+        2,
+        2,
+        "",
+        "misere: standard input has the certificate or the positions\n",
+    ),
     Run("solve|0.b", 2, 0, OF_0_B, ""),
     Run(
         "solve|0.33|--limit|2|--rounds|0",
@@ -351,17 +368,45 @@ impl Row for Read {
     }
 }
 
+/// A run with positions on standard input. A second reading of a file would fail.
+struct Played(Run);
+
+static PLAYED: [Played; 2] = [
+    Played(Run(
+        "play|0.33.mqc|-",
+        2,
+        1,
+        "lost\nnot a position\nended\n",
+        "",
+    )),
+    Played(Run(
+        "play|part.mqc|-|--limit|1000000",
+        2,
+        1,
+        "lost\nnot a position\nended\n",
+        "",
+    )),
+];
+
+impl Row for Played {
+    fn holds(&self, alloc: Global) -> bool {
+        let mut input = MemorySource::new(b"2 2\n01\n0");
+        ends_with(alloc, &self.0, &mut input, ONE_ENTRY)
+    }
+}
+
 /// A run with a standard input that fails.
 struct Unread(Run);
 
 const UNREAD_INPUT: &str = "misere: cannot read standard input\n";
 
-static UNREAD: [Unread; 5] = [
+static UNREAD: [Unread; 6] = [
     Unread(Run("check", 2, 3, "", UNREAD_INPUT)),
     Unread(Run("check|-", 2, 3, "", UNREAD_INPUT)),
     Unread(Run("show|-", 2, 3, "", UNREAD_INPUT)),
     Unread(Run("describe", 2, 3, "", UNREAD_INPUT)),
     Unread(Run("play|-|1", 2, 3, "", UNREAD_INPUT)),
+    Unread(Run("play|0.3.mqc|-", 2, 3, "", UNREAD_INPUT)),
 ];
 
 impl Row for Unread {
@@ -378,8 +423,9 @@ fn makes_anew(alloc: Global) -> bool {
 
 #[test]
 fn does_what_is_asked(rt: HostRuntime) {
-    assert!(rt; count_held(rt.alloc(), &ROWS) == 68 && makes_anew(rt.alloc()));
-    assert!(rt; count_held(rt.alloc(), &READ) == 6 && count_held(rt.alloc(), &UNREAD) == 5);
+    assert!(rt; count_held(rt.alloc(), &ROWS) == 73 && makes_anew(rt.alloc()));
+    assert!(rt; count_held(rt.alloc(), &READ) == 6 && count_held(rt.alloc(), &UNREAD) == 6);
+    assert!(rt; count_held(rt.alloc(), &PLAYED) == 2);
 }
 
 /// A run whose output can't be written, which is told.

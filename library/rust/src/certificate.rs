@@ -1,11 +1,13 @@
 //! The text of a certificate, which the library has accepted before it is read here.
 
 use std::str::FromStr;
+use std::sync::OnceLock;
 
 /// What the lines of a certificate say.
 #[derive(Debug)]
 pub(crate) struct Certificate {
     pub code: String,
+    pub order: usize,
     pub start: u64,
     /// 0 of a partial one.
     pub period: u64,
@@ -13,7 +15,29 @@ pub(crate) struct Certificate {
     pub phi: Vec<u32>,
     /// Rising.
     pub portion: Vec<u32>,
-    pub table: Vec<Vec<u32>>,
+    /// An element and a heap, whose product is the element 1, 2, ..
+    keys: Vec<(usize, usize)>,
+    rows: Vec<Vec<u32>>,
+    /// All rows, where the text leaves some out, once they are asked for.
+    made: OnceLock<Vec<Vec<u32>>>,
+}
+
+impl Certificate {
+    /// The products.
+    pub fn table(&self) -> &[Vec<u32>] {
+        if self.rows.len() == self.order { &self.rows } else { self.made.get_or_init(|| self.all_rows()) }
+    }
+
+    /// All rows, of those of the elements that heaps have: each other element is the product of its key.
+    fn all_rows(&self) -> Vec<Vec<u32>> {
+        let mut rows = vec![(0..self.order as u32).collect()];
+        rows.extend_from_slice(&self.rows);
+        for &(element, heap) in &self.keys[self.rows.len()..] {
+            let of_heap = &rows[self.phi[heap - 1] as usize];
+            rows.push(of_heap.iter().map(|&x| rows[element][x as usize]).collect());
+        }
+        rows
+    }
 }
 
 /// The words of the lines of this name, a line each.
@@ -26,16 +50,25 @@ fn numbers<T: FromStr>(words: std::str::Split<char>) -> Option<Vec<T>> {
     words.map(|word| word.parse().ok()).collect()
 }
 
+/// The element and the heap of a key, or none where the word is none.
+fn key(word: &str) -> Option<(usize, usize)> {
+    let (element, heap) = word.split_once(':')?;
+    Some((element.parse().ok()?, heap.parse().ok()?))
+}
+
 /// What a text says; none of a text that is no certificate.
 pub(crate) fn read(bytes: &[u8]) -> Option<Certificate> {
     let text = std::str::from_utf8(bytes).ok()?;
     let number = |name| lines(text, name).next()?.next()?.parse().ok();
     Some(Certificate {
         code: lines(text, "code").next()?.collect(),
+        order: number("order")? as usize,
         start: number("start")?,
         period: number("period")?,
         phi: numbers(lines(text, "phi").next()?)?,
         portion: numbers(lines(text, "portion").next()?)?,
-        table: lines(text, "row").map(numbers).collect::<Option<_>>()?,
+        keys: lines(text, "words").next()?.map(key).collect::<Option<_>>()?,
+        rows: lines(text, "row").map(numbers).collect::<Option<_>>()?,
+        made: OnceLock::new(),
     })
 }

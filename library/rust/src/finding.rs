@@ -7,7 +7,7 @@ use std::fmt;
 /// Of which heaps a search is to find the quotient.
 #[derive(Clone, Copy, Debug, PartialEq, Eq)]
 pub enum Aim {
-    /// Of all heaps; those up to this one are looked at, 2 to 3090.
+    /// Of all heaps; those up to this one are looked at, 2 to 8210.
     Whole(u32),
     /// Of the heaps 1 to this one, 1 to 1024.
     Part(u32),
@@ -16,8 +16,8 @@ pub enum Aim {
 }
 
 impl Aim {
-    /// Of all heaps, by as many as a certificate can need.
-    pub const DEEP: Aim = Aim::Whole(3090);
+    /// Of all heaps, by as many as the certificate of an octal code can need.
+    pub const DEEP: Aim = Aim::Whole(8210);
 }
 
 /// How far a search goes.
@@ -29,7 +29,7 @@ pub struct Bounds {
     pub rounds: u32,
     /// Of which heaps the quotient is.
     pub aim: Aim,
-    /// The most elements of a quotient, 2 to 256, or to 512 of a part.
+    /// The most elements of a quotient, 2 to 4096, or to 256 of all heaps by at most 64.
     pub order: u32,
 }
 

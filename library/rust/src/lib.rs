@@ -39,7 +39,7 @@ pub use refusal::Refusal;
 pub const LIMIT: u32 = 100_000;
 
 /// How many heaps of a position at which the rule fails are told.
-const MOST_HEAPS: usize = 4096;
+const MOST_HEAPS: usize = 32768;
 
 /// The version of the library's calls.
 pub fn version() -> u32 {

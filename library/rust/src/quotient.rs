@@ -11,7 +11,7 @@ use std::fmt;
 use std::sync::Arc;
 
 /// As many bytes are room for any certificate.
-const MOST: usize = 1 << 21;
+const MOST: usize = 1 << 22;
 
 /// As many bytes are room for most descriptions.
 const USUAL: usize = 1 << 16;
@@ -100,7 +100,7 @@ impl<C: Certified> Quotient<C> {
 
     /// How many elements there are: 0, which is the identity, to one less than the order.
     pub fn order(&self) -> usize {
-        self.certificate.table.len()
+        self.certificate.order
     }
 
     /// From which heap on the elements repeat; of a partial quotient the heap behind the last one.
@@ -135,7 +135,7 @@ impl<C: Certified> Quotient<C> {
 
     /// The products: that of the elements x and y is `table()[x][y]`.
     pub fn table(&self) -> &[Vec<u32>] {
-        &self.certificate.table
+        self.certificate.table()
     }
 
     /// Who wins the position.

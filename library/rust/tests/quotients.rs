@@ -51,6 +51,22 @@ fn an_element_is_the_product_of_the_heaps_elements() {
 }
 
 #[test]
+fn a_text_that_leaves_rows_out_has_a_whole_table() {
+    let bounds = Bounds { aim: Aim::Furthest, order: 1024, ..Bounds::default() };
+    let quotient = Quotient::solve("0.07", bounds).unwrap();
+    assert_eq!((quotient.order(), quotient.last_heap()), (638, Some(33)));
+    assert!(quotient.certificate().starts_with(b"mqc 3\ncode 0.07\n"));
+    let table = quotient.table();
+    assert!(table.len() == 638 && table.iter().all(|row| row.len() == 638));
+    assert_eq!(table[0], (0..638).collect::<Vec<u32>>());
+    for heaps in (1..=33).flat_map(|n| (1..=33).map(move |m| [n, m, 33 - n / 2])) {
+        let elements = heaps.map(|heap| quotient.phi(heap).unwrap() as usize);
+        let value = elements.iter().fold(0, |product, &element| table[product][element] as usize);
+        assert_eq!(quotient.value(&heaps), Ok(value as u32), "{heaps:?}");
+    }
+}
+
+#[test]
 fn many_are_told_as_one_by_one() {
     let quotient = quotient("0.75");
     let positions: [&[u64]; 4] = [&[], &[2, 5], &[1_000_000_000_000, 7, 7], &[1]];

@@ -29,7 +29,7 @@ const USUAL = {
 };
 
 /** No period is longer. (By the period, partial quotients stand behind the full ones, by their last heaps.) */
-const MOST_PERIOD = 1024;
+const MOST_PERIOD = 4096;
 
 /** @type {Record<string, (entry: Entry) => number>} */
 const KEYS = {

@@ -13,8 +13,11 @@
  * @property {(number: number) => Step[]} steps
  */
 
-/** As many heaps as a certificate can need, and the most elements of a whole quotient and of a partial one. */
-const [DEEP_HEAPS, WHOLE_ORDER, PART_ORDER] = [3090, 256, 512];
+/**
+ * As many heaps as the certificate of an octal code can need, the elements of a whole quotient and of a partial one, and
+ * the most that there may be.
+ */
+const [DEEP_HEAPS, WHOLE_ORDER, PART_ORDER, MOST_ORDER] = [8210, 256, 512, 4096];
 
 /**
  * @param {number} heaps
@@ -72,7 +75,7 @@ export const AIMS = {
     name: "furthest",
     asks: "Most elements",
     least: 2,
-    most: PART_ORDER,
+    most: MOST_ORDER,
     usual: 64,
     steps: (order) => doubling(16, order).map(furthest)
   },

@@ -5,16 +5,18 @@ import {componentPicture} from "../pictures/components.js";
 import {outcomePicture} from "../pictures/outcomes.js";
 import {productPicture} from "../pictures/products.js";
 
-/** Of more elements the components are no legible picture. */
-const MOST_DRAWN = 160;
+/** Of more elements the components are no legible picture, and the products too large a one. */
+const [MOST_DRAWN, MOST_MULTIPLIED] = [160, 1024];
 
 /**
  * @param {import("../main.js").Page} page
  * @param {import("./present.js").Game} game
  */
 export function pictureSection(page, game) {
-  const components = game.certificate.order <= MOST_DRAWN && componentPicture(game);
+  const {order} = game.certificate;
+  const products = order <= MOST_MULTIPLIED && productPicture(game);
+  const components = order <= MOST_DRAWN && componentPicture(game);
   return make(
       "section", {}, make("h2", {}, "Pictures"),
-      make("div", {class: "pictures"}, outcomePicture(page, game), productPicture(game), components));
+      make("div", {class: "pictures"}, outcomePicture(page, game), products, components));
 }

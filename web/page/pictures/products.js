@@ -14,7 +14,7 @@ export function productPicture({certificate: {order, table, portion}, words, cer
   const components = componentsOf(certificate);
   const elements = components.flatMap(({members}) => members);
   const colours = coloursOf(components);
-  const size = Math.max(2, Math.floor(WIDTH / order));
+  const size = Math.max(order > WIDTH ? 1 : 2, Math.floor(WIDTH / order));
   const canvas = make("canvas", {class: "grid", width: order * size, height: order * size});
   const context = canvas.getContext("2d");
   const dot = Math.max(1, Math.round(size / 3));
