@@ -6,7 +6,7 @@ import itertools
 import pathlib
 import re
 from array import array
-from collections.abc import Iterator, Sequence
+from collections.abc import Iterable, Iterator, Sequence
 from dataclasses import dataclass, field
 
 from script import root
@@ -121,13 +121,19 @@ def least_separators(rows: Sequence[Sequence[int]], portion: Sequence[int]) -> a
     return apart
 
 
+def spaced(name: str, words: Iterable[int | str]) -> str:
+    return " ".join([name, *map(str, words)])
+
+
 def text_of(it: Certificate, form: int = 0) -> str:
     """The text of a certificate: in its own format, or written as if it had another one."""
-    form, first, words = form or it.format, firsts_of(it.keys), lambda numbers: " ".join(map(str, numbers))
+    form = form or it.format
+    said = it.rows[1 : firsts_of(it.keys) + 1] if form == 3 else it.rows
     lines = [f"mqc {form}", f"code {it.code}", f"order {it.order}", f"start {it.start}", f"period {it.period}"]
-    lines += [f"phi {words(it.phi)}", f"portion {words(it.portion)}", "words " + " ".join(f"{f}:{h}" for f, h in it.keys)]
-    lines += [f"row {words(row)}" for row in (it.rows[1 : first + 1] if form == 3 else it.rows)]
-    lines += [] if form == 3 else [f"apart {words(it.apart)}"]
+    lines += [spaced("phi", it.phi), spaced("portion", it.portion)]
+    lines += [spaced("words", (f"{element}:{heap}" for element, heap in it.keys))]
+    lines += [spaced("row", row) for row in said]
+    lines += [] if form == 3 else [spaced("apart", it.apart)]
     return "\n".join([*lines, "end", ""])
 
 

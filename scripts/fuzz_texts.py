@@ -134,7 +134,8 @@ def part_of(text: bytes, chance: random.Random) -> bytes:
         entries += 3 * entries[numbers[1] - 1 :]
     last = chance.randrange(1, len(entries) + 1)
     form = format_by("0.1", numbers[0], last + 1, 0)
-    lines = (b"mqc", b"%d" % form), (b"start", b"%d" % (last + 1)), (b"period", b"0"), (b"phi", b" ".join(entries[:last]))
+    kept = b" ".join(entries[:last])
+    lines = (b"mqc", b"%d" % form), (b"start", b"%d" % (last + 1)), (b"period", b"0"), (b"phi", kept)
     for name, words in lines:
         text = re.sub(rb"(?m)^%s .*$" % name, name + b" " + words, text, count=1)
     return text

@@ -9,13 +9,15 @@ missing, once under normal and once under misère play. That a game is tame is f
 
 from __future__ import annotations
 
+import itertools
+import operator
 import sys
 from array import array
 from collections.abc import Callable, Collection, Sequence
 from dataclasses import dataclass
 from typing import Generic, TypeVar
 
-from certificate_lines import Certificate, Key, firsts_of, least_separators
+from certificate_lines import Certificate, Key, firsts_of
 
 Element = TypeVar("Element")
 Tame = tuple[int, bool]
@@ -102,9 +104,7 @@ def heaps_of(code: str, last: int) -> list[Tame]:
     return phi[1:]
 
 
-def numbered(
-    monoid: Monoid[Element], phi: Sequence[Element]
-) -> tuple[list[Element], dict[Element, int], list[Key]]:
+def numbered(monoid: Monoid[Element], phi: Sequence[Element]) -> tuple[list[Element], dict[Element, int], list[Key]]:
     """The elements by number, and the keys of all but 0: pairs of an element and a heap, rising."""
     elements, numbers, f = [monoid.one], {monoid.one: 0}, 0
     keys: list[Key] = []
@@ -119,6 +119,13 @@ def numbered(
     return elements, numbers, keys
 
 
+def separators(rows: Sequence[Sequence[int]], inside: Sequence[bool]) -> array[int]:
+    """For each pair of elements the least one that tells it apart, or 0: looked for product by product."""
+    looks = [bytes([inside[it] for it in row]) for row in rows]
+    pairs = itertools.combinations(looks, 2)
+    return array("H", (next(itertools.compress(itertools.count(), map(operator.ne, *it)), 0) for it in pairs))
+
+
 def certificate(
     code: str, monoid: Monoid[Element], phi: Sequence[Element], start: int, period: int, whole: bool = True
 ) -> Certificate:
@@ -127,8 +134,9 @@ def certificate(
     elements, numbers, keys = numbered(monoid, phi)
     said = elements if whole else elements[: firsts_of(keys) + 1]
     rows = [array("H", [numbers[monoid.times(x, y)] for y in elements]) for x in said]
-    portion = [n for n, it in enumerate(elements) if monoid.holds(it)]
-    apart = least_separators(rows, portion) if whole else array("H")
+    inside = [monoid.holds(it) for it in elements]
+    portion = [n for n, holds in enumerate(inside) if holds]
+    apart = separators(rows, inside) if whole else array("H")
     return Certificate(code, len(elements), start, period, [numbers[it] for it in phi], portion, keys, rows, apart)
 
 

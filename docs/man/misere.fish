@@ -22,10 +22,10 @@ complete -c misere -n '__fish_seen_subcommand_from check; and not __fish_seen_su
 complete -c misere -n '__fish_seen_subcommand_from solve; and not __fish_seen_subcommand_from help' -l limit -x -d 'Keep at most N members of a closure: 1 to 1000000, by default 100000'
 complete -c misere -n '__fish_seen_subcommand_from solve; and not __fish_seen_subcommand_from help' -l rounds -x -d 'Give up after R rounds: 1 to 1000, by default 64'
 complete -c misere -n '__fish_seen_subcommand_from solve; and not __fish_seen_subcommand_from help' -l heaps -x -d 'Look at the heaps up to M: 2 to 64, by default 24'
-complete -c misere -n '__fish_seen_subcommand_from solve; and not __fish_seen_subcommand_from help' -l deep -d 'Look at as many heaps as a certificate can need, and orders to 256'
+complete -c misere -n '__fish_seen_subcommand_from solve; and not __fish_seen_subcommand_from help' -l deep -d 'Look at as many heaps as a certificate can need, and orders to 256 by default'
 complete -c misere -n '__fish_seen_subcommand_from solve; and not __fish_seen_subcommand_from help' -l partial -x -d 'Look for the quotient of the heaps 1 to M alone: 1 to 1024'
-complete -c misere -n '__fish_seen_subcommand_from solve; and not __fish_seen_subcommand_from help' -l furthest -x -d 'Look for the most heaps 1 to M whose quotient has at most Q elements: 2 to 512'
-complete -c misere -n '__fish_seen_subcommand_from solve; and not __fish_seen_subcommand_from help' -l order -x -d 'Propose no quotient of more than Q elements: 2 to 256, by default 64, with --partial 2 to 512'
+complete -c misere -n '__fish_seen_subcommand_from solve; and not __fish_seen_subcommand_from help' -l furthest -x -d 'Look for the most heaps 1 to M whose quotient has at most Q elements: 2 to 4096'
+complete -c misere -n '__fish_seen_subcommand_from solve; and not __fish_seen_subcommand_from help' -l order -x -d 'Propose no quotient of more than Q elements: 2 to 256, by default 64, with --deep and --partial 2 to 4096'
 complete -c misere -n '__fish_seen_subcommand_from solve; and not __fish_seen_subcommand_from help' -l why -d 'Tell why the search is given up'
 complete -c misere -n '__fish_seen_subcommand_from solve; and not __fish_seen_subcommand_from help' -l help -d 'Print help'
 complete -c misere -n '__fish_seen_subcommand_from show; and not __fish_seen_subcommand_from help' -F

@@ -31,7 +31,7 @@ fn guessed(alloc: Global, text: &[u8], heaps: usize) -> Option<(usize, usize, us
 #[test]
 fn finds_known_quotients(rt: HostRuntime) {
     let rows: [(&[u8], usize, (usize, usize, usize)); 7] = [
-        (b"0.77", 3090, (40, 71, 12)),
+        (b"0.77", 8210, (40, 71, 12)),
         (b"0.3", 64, (2, 1, 2)),
         (b"0.33", 64, (6, 1, 3)),
         (b"0.33", 9, (6, 1, 3)),
@@ -48,6 +48,21 @@ fn finds_known_quotients(rt: HostRuntime) {
     }
     let of_kayles = guessed(rt.alloc(), b"0.77", 64);
     assert!(rt; matches!(of_kayles, Some((40, _, _, false))));
+}
+
+/// Games of which more than 1,024 heaps come before their elements repeat.
+#[test]
+fn finds_long_periods(rt: HostRuntime) {
+    let rows: [(&[u8], (usize, usize, usize, bool)); 4] = [
+        (b"0.156", (34, 3479, 349, true)),
+        (b"0.644", (172, 3256, 442, true)),
+        (b"0.645", (172, 3256, 442, true)),
+        (b"0.677", (172, 3256, 442, true)),
+    ];
+    for (text, wanted) in rows {
+        assert!(rt; guessed(rt.alloc(), text, 8210) == Some(wanted));
+    }
+    assert!(rt; guessed(rt.alloc(), b"0.156", 7657) != Some((34, 3479, 349, true)));
 }
 
 /// How many elements the heaps 1 to `last` have, or where a search for them ends.
@@ -68,11 +83,14 @@ fn furthest_of(alloc: Global, text: &[u8], order: usize) -> Option<usize> {
     furthest(alloc, &code, order).ok()
 }
 
-/// Kayles to the heap 11 has 18 elements, and to the heap 20 it has 24.
+/// Kayles to the heap 11 has 18 elements, and to the heap 20 it has 24; Dawson's Kayles to the heap
+/// 33 has 638.
 #[test]
 fn finds_parts_of_games(rt: HostRuntime) {
     assert!(rt; of_part(rt.alloc(), b"0.77", 20, 512) == Ok(24));
     assert!(rt; of_part(rt.alloc(), b"0.77", 20, 23) == Err(12));
+    assert!(rt; of_part(rt.alloc(), b"0.07", 33, 4096) == Ok(638));
+    assert!(rt; furthest_of(rt.alloc(), b"0.07", 637) == Some(32));
     assert!(rt; furthest_of(rt.alloc(), b"0.3", 2) == Some(1024));
     assert!(rt; furthest_of(rt.alloc(), b"0.77", 23) == Some(11));
 }
@@ -117,7 +135,7 @@ pub fn is_of_eight<A: SmallAllocator + Copy>(alloc: A) -> Result<bool, u8> {
     let Ok(code) = Code::read(b"0.75") else {
         return Err(0);
     };
-    match Solver::new(alloc, 3090, 256).solve(&code) {
+    match Solver::new(alloc, 8210, 256).solve(&code) {
         Ok(Some(guess)) => Ok(guess.order == 8),
         Ok(None) => Ok(false),
         Err(memory) => Err(memory.number()),

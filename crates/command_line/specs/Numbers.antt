@@ -4,7 +4,7 @@ use Rattle.std.specs.Prelude.{if◌then◌else◌}
 use Rattle.std.specs.Str.{bytes_eq}
 use Rattle.std.specs.Str.Parse.{digits_value}
 use Rattle.clap.specs.Words.{Row, Text, first_of}
-use Rattle.misere_theory.specs.declared.TheConstants.{LARGEST_ORDER, LARGEST_FIRST_ORDER, MOST_ENTRIES}
+use Rattle.misere_theory.specs.declared.TheConstants.{LARGEST_ORDER, LARGEST_FIRST_ORDER, LARGEST_SECOND_ORDER, LARGEST_PART}
 use Rattle.command_line.specs.declared.numbers.Bounds.{Bounds}
 use Rattle.command_line.specs.declared.numbers.Quantity.{Quantity}
 use Rattle.command_line.specs.declared.numbers.Quantity.TheVariants.{Limit, Rounds, Heaps, Order, Part, DeepOrder, Last, PartOrder, Furthest}
@@ -16,11 +16,11 @@ bounds_of Limit = record { least = 1; most = 1000000; default = DEFAULT_LIMIT }
 bounds_of Rounds = record { least = 1; most = 1000; default = 64 }
 bounds_of Heaps = record { least = 2; most = 64; default = 24 }
 bounds_of Order = record { least = 2; most = LARGEST_FIRST_ORDER; default = 64 }
-bounds_of Part = record { least = 0; most = MOST_ENTRIES; default = 0 }
-bounds_of DeepOrder = record { least = 2; most = LARGEST_FIRST_ORDER; default = LARGEST_FIRST_ORDER }
-bounds_of Last = record { least = 1; most = MOST_ENTRIES; default = MOST_ENTRIES }
-bounds_of PartOrder = record { least = 2; most = LARGEST_ORDER; default = LARGEST_ORDER }
-bounds_of Furthest = record { least = 2; most = LARGEST_ORDER; default = LARGEST_ORDER }
+bounds_of Part = record { least = 0; most = LARGEST_PART; default = 0 }
+bounds_of DeepOrder = record { least = 2; most = LARGEST_ORDER; default = LARGEST_FIRST_ORDER }
+bounds_of Last = record { least = 1; most = LARGEST_PART; default = LARGEST_PART }
+bounds_of PartOrder = record { least = 2; most = LARGEST_ORDER; default = LARGEST_SECOND_ORDER }
+bounds_of Furthest = record { least = 2; most = LARGEST_ORDER; default = LARGEST_SECOND_ORDER }
 
 -- the number lies in its range
 abbrev pub IsWithin : Quantity → ℕ → Type 0

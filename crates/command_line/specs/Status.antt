@@ -24,10 +24,10 @@ range_text Rounds = codes "misere: the rounds are a number from 1 to 1000\n"
 range_text Heaps = codes "misere: the heaps are a number from 2 to 64\n"
 range_text Order = codes "misere: the order is a number from 2 to 256\n"
 range_text Part = codes "misere: the heaps are a number from 0 to 1024\n"
-range_text DeepOrder = codes "misere: the order is a number from 2 to 256\n"
+range_text DeepOrder = codes "misere: the order is a number from 2 to 4096\n"
 range_text Last = codes "misere: the heaps are a number from 1 to 1024\n"
-range_text PartOrder = codes "misere: the order is a number from 2 to 512\n"
-range_text Furthest = codes "misere: the order is a number from 2 to 512\n"
+range_text PartOrder = codes "misere: the order is a number from 2 to 4096\n"
+range_text Furthest = codes "misere: the order is a number from 2 to 4096\n"
 
 abbrev pub exclusion_text : Exclusion → Text
 exclusion_text exclusion.Catalogue =

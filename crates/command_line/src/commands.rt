@@ -109,11 +109,11 @@ fn solve_command<'a>(alloc: Global) -> Result<Command<'a>, AllocError>
     let about = "Look for the misère quotient of a code, and print its certificate";
     let rounds = "Give up after R rounds: 1 to 1000, by default 64";
     let heaps = "Look at the heaps up to M: 2 to 64, by default 24";
-    let deep = "Look at as many heaps as a certificate can need, and orders to 256";
+    let deep = "Look at as many heaps as a certificate can need, and orders to 256 by default";
     let part = "Look for the quotient of the heaps 1 to M alone: 1 to 1024";
-    let furthest = "Look for the most heaps 1 to M whose quotient has at most Q elements: 2 to 512";
+    let furthest = "Look for the most heaps 1 to M whose quotient has at most Q elements: 2 to 4096";
     let order = "Propose no quotient of more than Q elements: 2 to 256, by default 64, with \
---partial 2 to 512";
+--deep and --partial 2 to 4096";
     let why = "Tell why the search is given up";
     let made = Ok(command(alloc, "solve", about));
     let made = with_arg(

@@ -45,9 +45,9 @@ fn range_line(quantity: Quantity) -> &'static str
         Quantity::Limit => "misere: the limit is a number from 1 to 1000000\n",
         Quantity::Rounds => "misere: the rounds are a number from 1 to 1000\n",
         Quantity::Heaps => "misere: the heaps are a number from 2 to 64\n",
-        Quantity::Order | Quantity::DeepOrder => "misere: the order is a number from 2 to 256\n",
-        Quantity::PartOrder | Quantity::Furthest => {
-            "misere: the order is a number from 2 to 512\n"
+        Quantity::Order => "misere: the order is a number from 2 to 256\n",
+        Quantity::DeepOrder | Quantity::PartOrder | Quantity::Furthest => {
+            "misere: the order is a number from 2 to 4096\n"
         }
         Quantity::Last => "misere: the heaps are a number from 1 to 1024\n",
         Quantity::Part => "misere: the heaps are a number from 0 to 1024\n",

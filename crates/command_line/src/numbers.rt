@@ -5,7 +5,7 @@ ghost use Rattle.command_line.specs.Numbers.{IsWithin, bounds_of, name_of, numbe
 ghost use Rattle.command_line.specs.Numbers.{number_within};
 
 use decimals::number_between;
-use misere_theory::{LARGEST_FIRST_ORDER, LARGEST_ORDER, MOST_ENTRIES};
+use misere_theory::{LARGEST_FIRST_ORDER, LARGEST_ORDER, LARGEST_PART, LARGEST_SECOND_ORDER};
 use requests::DEFAULT_LIMIT;
 
 /// A number that an option takes.
@@ -46,16 +46,16 @@ impl Quantity {
         ensures { result ≡ bounds_of self }
     {
         let (first_order, order) = (LARGEST_FIRST_ORDER as u32, LARGEST_ORDER as u32);
-        let heaps = MOST_ENTRIES as u32;
+        let (second_order, heaps) = (LARGEST_SECOND_ORDER as u32, LARGEST_PART as u32);
         let (least, most, default) = match self {
             Quantity::Limit => (1, 1000000, DEFAULT_LIMIT),
             Quantity::Rounds => (1, 1000, 64),
             Quantity::Heaps => (2, 64, 24),
             Quantity::Order => (2, first_order, 64),
             Quantity::Part => (0, heaps, 0),
-            Quantity::DeepOrder => (2, first_order, first_order),
+            Quantity::DeepOrder => (2, order, first_order),
             Quantity::Last => (1, heaps, heaps),
-            Quantity::PartOrder | Quantity::Furthest => (2, order, order),
+            Quantity::PartOrder | Quantity::Furthest => (2, order, second_order),
         };
         Bounds {
             least,

@@ -120,6 +120,11 @@ impl Numbering {
         Ok(true)
     }
 
+    /// How many elements, from 1 on, have a key with the element 0.
+    pub fn firsts(&self) -> usize {
+        self.keys.iter().take_while(|key| key.element == 0).count()
+    }
+
     /// The number of a guessed element, if it has one.
     pub fn number(&self, element: u16) -> Option<u16> {
         match self.numbers.get(element as usize).copied() {

@@ -1,6 +1,6 @@
 //! The solver.
 ghost use Rattle.std.specs.Prelude.{◌≡◌, ◌≤◌, IfOk, IfSome, min, max};
-ghost use Rattle.misere_theory.specs.declared.TheConstants.{MOST_ENTRIES};
+ghost use Rattle.misere_theory.specs.declared.TheConstants.{LARGEST_PART};
 ghost use Rattle.quotient_search.specs.declared.aim.TheConstants.{DEEPEST};
 ghost use Rattle.guesses.specs.Guesses.{IsWellFormed, IsPeriodGuess};
 
@@ -83,7 +83,7 @@ pub fn furthest<A: SmallAllocator + Copy>(
     code: &Code,
     order: usize,
 ) -> Result<usize, Memory>
-    ensures { IfOk result (λ last. last ≤ MOST_ENTRIES) }
+    ensures { IfOk result (λ last. last ≤ LARGEST_PART) }
 {
     match find_quotient(alloc, code, Aim::Part(LONGEST_PART), order)? {
         Found::Quotient(_) => Ok(LONGEST_PART),
@@ -111,7 +111,7 @@ impl<A: SmallAllocator + Copy> Solver<A> {
     /// A solver of the quotient of just the heaps up to `heaps`, which is taken as 1 where it is
     /// less, and as `LONGEST_PART` where it is more.
     pub fn of_part(alloc: A, heaps: usize, order: usize) -> Solver<A>
-        ensures { result ≡ max 1 (min heaps MOST_ENTRIES) }
+        ensures { result ≡ max 1 (min heaps LARGEST_PART) }
     {
         Solver {
             alloc,

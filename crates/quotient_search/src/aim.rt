@@ -1,17 +1,14 @@
 //! What a search looks for, and what it comes to.
 use crate::quotient::Quotient;
-use misere_theory::MOST_ENTRIES;
+use misere_theory::LARGEST_PART;
 use std::alloc::Allocator;
 
-/// The most heaps whose pairs show those of every heap, for a code that leaves two heaps: a start
-/// and a period are 1025 together at most, and there are 16 digits after the point.
-const DEEPEST_OF_TWO: usize = 2065;
-
-/// The same for a code that leaves three.
-pub const DEEPEST: usize = 3090;
+/// The most heaps that are looked at for a period: a start and a period are 4097 together at most,
+/// and there are 16 digits after the point, so twice that and 16 show the pair of every heap.
+pub const DEEPEST: usize = 8210;
 
 /// The most heaps of a part of a game.
-pub const LONGEST_PART: usize = MOST_ENTRIES as usize;
+pub const LONGEST_PART: usize = LARGEST_PART as usize;
 
 /// How far a search goes.
 #[derive(Clone, Copy, Debug, PartialEq, Eq)]
@@ -32,14 +29,10 @@ impl Aim {
         }
     }
 
-    /// The last heap that is looked at, where a move may leave three heaps or not.
-    pub(crate) fn last(self, leaves_three: bool) -> usize {
+    /// The last heap that is looked at.
+    pub(crate) fn last(self) -> usize {
         match self {
-            Aim::Period(most) => most.min(if leaves_three {
-                DEEPEST
-            } else {
-                DEEPEST_OF_TWO
-            }),
+            Aim::Period(most) => most.min(DEEPEST),
             Aim::Part(last) => last.min(LONGEST_PART),
         }
     }

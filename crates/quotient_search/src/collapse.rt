@@ -10,7 +10,7 @@ use octal_code::Code;
 use std::alloc::Allocator;
 
 /// The most elements of a quotient on the way.
-const MOST_ELEMENTS: usize = 2048;
+const MOST_ELEMENTS: usize = 8192;
 
 /// The lightest member of a class: its weight, level and element.
 type First = (u64, usize, usize);

@@ -13,11 +13,11 @@ pub fn words_of<A: Allocator>(quotient: &Quotient<A>) -> usize {
 
 /// Whether the heap n beside an element is dead: it and its options are outside the portion.
 fn is_dead<A: Allocator>(quotient: &Quotient<A>, n: usize, element: usize) -> bool {
-    if quotient.is_in_portion(quotient.times(quotient.heap(n), element)) {
+    if quotient.is_in_portion(quotient.times(element, quotient.heap(n))) {
         return false;
     }
     for option in quotient.heap_moves(n) {
-        if quotient.is_in_portion(quotient.times(*option as usize, element)) {
+        if quotient.is_in_portion(quotient.times(element, *option as usize)) {
             return false;
         }
     }
@@ -109,11 +109,11 @@ pub fn leaves_portion<A: Allocator>(quotient: &Quotient<A>, n: usize) -> bool {
 
 /// Whether the heap n beside an element is in the portion, and so is an option of the heap.
 pub fn breaks_portion<A: Allocator>(quotient: &Quotient<A>, n: usize, element: usize) -> bool {
-    if !quotient.is_in_portion(quotient.times(quotient.heap(n), element)) {
+    if !quotient.is_in_portion(quotient.times(element, quotient.heap(n))) {
         return false;
     }
     for option in quotient.heap_moves(n) {
-        if quotient.is_in_portion(quotient.times(*option as usize, element)) {
+        if quotient.is_in_portion(quotient.times(element, *option as usize)) {
             return true;
         }
     }

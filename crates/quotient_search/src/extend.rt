@@ -10,7 +10,19 @@ use octal_code::Code;
 use std::alloc::Allocator;
 use std::mem;
 
-/// Adds the heap n, the next one. Answers whether the elements are others than before.
+/// What one heap more came to.
+#[derive(Clone, Copy, PartialEq, Eq)]
+pub enum Extended {
+    /// The elements are others than before.
+    Anew,
+    /// The elements are those from before.
+    Same,
+    /// The elements are those from before, and with them another heap was added whose options have
+    /// the same values.
+    Twin,
+}
+
+/// Adds the heap n, the next one.
 pub fn extend<A: Allocator + Copy>(
     alloc: A,
     code: &Code,
@@ -18,14 +30,22 @@ pub fn extend<A: Allocator + Copy>(
     quotient: &mut Quotient<A>,
     n: usize,
     work: &mut Work,
-) -> Result<bool, Halt> {
+) -> Result<Extended, Halt> {
     quotient.add_moves(code, n, work)?;
+    if quotient.add_as_twin(n, work)? {
+        return Ok(Extended::Twin);
+    }
     work.spend(quotient.rows.len())?;
     let mut levels = Levels::only(alloc, quotient)?;
-    extend_by(alloc, code, scene, quotient, &mut levels, n, work)
+    if extend_by(alloc, code, scene, quotient, &mut levels, n, work)? {
+        return Ok(Extended::Anew);
+    }
+    quotient.note_moves(n)?;
+    Ok(Extended::Same)
 }
 
-/// Adds the heap n, whose options have their values. The levels are level 0 alone.
+/// Adds the heap n, whose options have their values. The levels are level 0 alone. Answers whether
+/// the elements are others than before.
 fn extend_by<A: Allocator + Copy>(
     alloc: A,
     code: &Code,
@@ -53,7 +73,7 @@ fn extend_by<A: Allocator + Copy>(
     }
 }
 
-/// Adds the heap n, whose element is x.
+/// Adds the heap n, whose element is x. Answers whether the elements are others than before.
 fn add_as<A: Allocator + Copy>(
     alloc: A,
     code: &Code,
@@ -71,7 +91,7 @@ fn add_as<A: Allocator + Copy>(
     Ok(false)
 }
 
-/// Takes the elements that the levels of the heap n make.
+/// Takes the elements that the levels of the heap n make: others than before.
 fn grow<A: Allocator + Copy>(
     alloc: A,
     code: &Code,

@@ -68,7 +68,7 @@ fn cover_options<A: Allocator>(
 ) {
     clear(covered);
     for option in moves {
-        let beside = quotient.times(*option as usize, element);
+        let beside = quotient.times(element, *option as usize);
         cover(covered, rows, row_at(quotient, k.wrapping_sub(1), beside));
     }
     for option in quotient.options.list(element) {
@@ -86,6 +86,9 @@ pub fn raise<A: Allocator + Copy>(
     k: usize,
     work: &mut Work,
 ) -> Result<(), Halt> {
+    if scene.is_plain() {
+        return raise_alone(quotient, moves, levels, k, work);
+    }
     let covered: Vec<u64, A> = vec![in alloc; 0u64; quotient.words]?;
     let row: Vec<u64, A> = vec![in alloc; 0u64; quotient.words]?;
     let mut scratch = Scratch { covered, row };
@@ -97,6 +100,49 @@ pub fn raise<A: Allocator + Copy>(
 struct Scratch<A: Allocator> {
     covered: Vec<u64, A>,
     row: Vec<u64, A>,
+}
+
+/// Whether some option of k heaps beside an element is a P-position, where rows have a word.
+fn is_covered<A: Allocator>(
+    quotient: &Quotient<A>,
+    moves: &[u16],
+    rows: &[u64],
+    k: usize,
+    element: usize,
+) -> bool {
+    let below = row_at(quotient, k.wrapping_sub(1), 0);
+    for option in moves {
+        let beside = quotient.times(element, *option as usize);
+        if word(rows, below.wrapping_add(beside)) & 1 == 1 {
+            return true;
+        }
+    }
+    let level = row_at(quotient, k, 0);
+    for option in quotient.options.list(element) {
+        if word(rows, level.wrapping_add(*option as usize)) & 1 == 1 {
+            return true;
+        }
+    }
+    false
+}
+
+/// The same of a plain scene, where a row has a bit.
+fn raise_alone<A: Allocator>(
+    quotient: &Quotient<A>,
+    moves: &[u16],
+    levels: &mut Levels<A>,
+    k: usize,
+    work: &mut Work,
+) -> Result<(), Halt> {
+    for element in 0..quotient.order {
+        let options = moves
+            .len()
+            .saturating_add(quotient.options.list(element).len());
+        work.spend(options.saturating_add(1))?;
+        let is_lost = options > 0 && !is_covered(quotient, moves, &levels.rows, k, element);
+        levels.rows.push(is_lost as u64)?;
+    }
+    Ok(())
 }
 
 fn raise_with<A: Allocator>(

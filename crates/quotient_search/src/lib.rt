@@ -25,6 +25,7 @@ mod scene;
 mod search;
 mod sets;
 mod state;
+mod twins;
 mod work;
 
 pub use aim::{Aim, Cause, DEEPEST, Found, LONGEST_PART};

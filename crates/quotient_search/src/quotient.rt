@@ -1,8 +1,9 @@
 //! Quotients on the way: a finite commutative monoid for the heaps up to some size.
-use crate::cells::{at, part, word};
+use crate::cells::{at, part, small, word};
 use crate::lists::Lists;
 use crate::rests::{Rests, Values};
 use crate::scene::Scene;
+use crate::twins::Twins;
 use crate::work::{Halt, Work};
 use octal_code::Code;
 use std::alloc::Allocator;
@@ -30,6 +31,8 @@ pub struct Quotient<A: Allocator> {
     pub(crate) moves: Lists<A>,
     /// The values of the rests of heaps.
     rests: Rests<A>,
+    /// Heaps that were added beside these elements, by the values of their options.
+    twins: Twins<A>,
 }
 
 /// The weight of the heap n.
@@ -50,6 +53,7 @@ impl<A: Allocator + Copy> Quotient<A> {
             heaps: Vec::new(alloc),
             moves: Lists::new(alloc),
             rests: Rests::empty(alloc),
+            twins: Twins::empty(alloc),
         }
     }
 
@@ -134,5 +138,23 @@ impl<A: Allocator> Quotient<A> {
         };
         self.rests.add(values, code, n, work)?;
         self.moves.push_set(self.rests.set())
+    }
+
+    /// Adds the heap n, the next one, whose options have their values, with the element of a heap that
+    /// was added beside these elements and whose options have the same values. Answers whether there
+    /// is one.
+    pub(crate) fn add_as_twin(&mut self, n: usize, work: &mut Work) -> Result<bool, Halt> {
+        work.spend(self.twins.len())?;
+        let Some(twin) = self.twins.find(&self.moves, n.wrapping_sub(1)) else {
+            return Ok(false);
+        };
+        let element = at(&self.heaps, twin);
+        self.heaps.push(small(element))?;
+        Ok(true)
+    }
+
+    /// Takes note of the heap n, which was added beside these elements.
+    pub(crate) fn note_moves(&mut self, n: usize) -> Result<(), Halt> {
+        self.twins.note(&self.moves, n.wrapping_sub(1))
     }
 }

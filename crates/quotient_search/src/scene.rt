@@ -30,6 +30,11 @@ impl<A: Allocator + Copy> Scene<A> {
 }
 
 impl<A: Allocator> Scene<A> {
+    /// Whether it is the empty position alone.
+    pub fn is_plain(&self) -> bool {
+        self.count == 1 && self.words == 1
+    }
+
     /// Writes the row of a position: beside which contexts it is a P-position. `covered` has the
     /// contexts beside which some option of it is a P-position, and `movable` says whether it has
     /// an option.

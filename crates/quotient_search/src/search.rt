@@ -1,6 +1,7 @@
 //! The search for a quotient, heap by heap.
 use crate::aim::{Aim, Cause, Found};
-use crate::extend::extend;
+use crate::cells::at;
+use crate::extend::{Extended, extend};
 use crate::repair::repair;
 use crate::scene::Scene;
 use crate::state::State;
@@ -20,10 +21,10 @@ fn advance<A: Allocator + Copy>(
     order: usize,
     work: &mut Work,
 ) -> Result<(), Halt> {
-    if extend(alloc, code, scene, &mut state.quotient, n, work)? {
-        state.dead_contexts.renew(alloc, &state.quotient, work)?;
-    } else {
-        state.dead_contexts.add(alloc, &state.quotient, n, work)?;
+    match extend(alloc, code, scene, &mut state.quotient, n, work)? {
+        Extended::Anew => state.dead_contexts.renew(alloc, &state.quotient, work)?,
+        Extended::Same => state.dead_contexts.add(alloc, &state.quotient, n, work)?,
+        Extended::Twin => return Ok(()),
     }
     if state.dead_contexts.failed {
         repair(alloc, code, state, work)?;
@@ -36,15 +37,34 @@ fn advance<A: Allocator + Copy>(
 
 /// Whether the heaps show a period.
 fn has_period(code: &Code, heaps: &[u16], work: &mut Work) -> Result<bool, Halt> {
-    for period in 1..heaps.len() / 2 + 1 {
-        let start = repeats_from(heaps, period);
-        let looked_at = heaps.len().saturating_add(2).saturating_sub(start);
-        work.spend(looked_at.saturating_sub(period))?;
-        if is_shown(code, heaps, start, period) {
+    work.spend(heaps.len())?;
+    let parts = if code.leaves_three() { 3 } else { 2 };
+    let needed = heaps.len().saturating_sub(code.last() as usize);
+    let most = needed.saturating_add(1) / parts;
+    for period in 1..most {
+        if repeats_by(heaps, most.wrapping_sub(period), period, work)?
+            && is_shown(code, heaps, repeats_from(heaps, period), period)
+        {
             return Ok(true);
         }
     }
     Ok(false)
+}
+
+/// Whether the heaps from this one on repeat after so many.
+fn repeats_by(heaps: &[u16], start: usize, period: usize, work: &mut Work) -> Result<bool, Halt> {
+    let last = heaps.len().wrapping_sub(period);
+    if at(heaps, last.wrapping_sub(1)) != at(heaps, heaps.len().wrapping_sub(1)) {
+        return Ok(false);
+    }
+    for n in start..last {
+        if at(heaps, n.wrapping_sub(1)) != at(heaps, n.wrapping_add(period).wrapping_sub(1)) {
+            work.spend(n.wrapping_sub(start))?;
+            return Ok(false);
+        }
+    }
+    work.spend(last)?;
+    Ok(true)
 }
 
 /// A search on its way: the last heap that was begun with, and how many elements there were before
@@ -76,7 +96,7 @@ impl Search<'_> {
         let code = self.code;
         state.quotient.begin(scene)?;
         state.dead_contexts.begin(alloc, &state.quotient)?;
-        for n in 1..self.aim.last(code.leaves_three()).saturating_add(1) {
+        for n in 1..self.aim.last().saturating_add(1) {
             self.heap = n;
             self.before = state.quotient.order;
             advance(alloc, code, scene, state, n, self.order, &mut self.work)?;

@@ -81,7 +81,7 @@ impl Row for Asks {
     }
 }
 
-static ASKED: [Asks; 55] = [
+static ASKED: [Asks; 57] = [
     Asks(
         "check",
         Asked::Plan(Plan::Check {
@@ -248,12 +248,20 @@ static ASKED: [Asks; 55] = [
         Asked::Aimed(9, Aim::Deep, false),
     ),
     Asks(
+        "solve|--deep|--order|4096|0.3",
+        Asked::Aimed(4096, Aim::Deep, false),
+    ),
+    Asks(
+        "solve|0.3|--furthest|4096",
+        Asked::Aimed(4096, Aim::Furthest, false),
+    ),
+    Asks(
         "solve|0.3|--partial|1",
         Asked::Aimed(512, Aim::Part { last: 1 }, false),
     ),
     Asks(
-        "solve|0.3|--partial|1024|--order|512",
-        Asked::Aimed(512, Aim::Part { last: 1024 }, false),
+        "solve|0.3|--partial|1024|--order|4096",
+        Asked::Aimed(4096, Aim::Part { last: 1024 }, false),
     ),
     Asks(
         "solve|0.3|--furthest|2",
@@ -401,7 +409,7 @@ static BY_INPUT: [Asks; 8] = [
 
 #[test]
 fn asks_for_plans(rt: HostRuntime) {
-    assert!(rt; count_held(rt.alloc(), &ASKED) == 55 && count_held(rt.alloc(), &BY_INPUT) == 8);
+    assert!(rt; count_held(rt.alloc(), &ASKED) == 57 && count_held(rt.alloc(), &BY_INPUT) == 8);
 }
 
 /// Whether the fault has this status, and a text with this part.
@@ -441,7 +449,7 @@ impl Row for Refuses {
     }
 }
 
-static REFUSED: [Refuses; 144] = [
+static REFUSED: [Refuses; 145] = [
     Refuses("play|-|-", Why::Exclusive(Exclusion::Play)),
     Refuses("play|--limit=3|-|-", Why::Exclusive(Exclusion::Play)),
     Refuses("play|a.mqc|-|--limit|0", Why::Number(Quantity::Limit)),
@@ -467,17 +475,20 @@ static REFUSED: [Refuses; 144] = [
     Refuses("solve|0.3|--order|1", Why::Number(Quantity::Order)),
     Refuses("solve|0.3|--order|257", Why::Number(Quantity::Order)),
     Refuses(
-        "solve|0.3|--deep|--order|257",
+        "solve|0.3|--deep|--order|4097",
         Why::Number(Quantity::DeepOrder),
     ),
     Refuses("solve|0.3|--partial|0", Why::Number(Quantity::Last)),
     Refuses("solve|0.3|--partial|1025", Why::Number(Quantity::Last)),
     Refuses(
-        "solve|0.3|--partial|9|--order|513",
+        "solve|0.3|--partial|9|--order|4097",
         Why::Number(Quantity::PartOrder),
     ),
     Refuses("solve|0.3|--furthest|1", Why::Number(Quantity::Furthest)),
-    Refuses("solve|0.3|--furthest|513", Why::Number(Quantity::Furthest)),
+    Refuses(
+        "solve|0.3|--furthest|4097",
+        Why::Number(Quantity::Furthest),
+    ),
     Refuses(
         "solve|0.3|--deep|--heaps|9",
         Why::Exclusive(Exclusion::Solve),
@@ -709,6 +720,7 @@ static REFUSED: [Refuses; 144] = [
     Refuses("solve|--help", Why::Help("2 to 64, by default 24")),
     Refuses("solve|--help", Why::Help("--order <Q>")),
     Refuses("solve|--help", Why::Help("2 to 256, by default 64")),
+    Refuses("solve|--help", Why::Help("2 to 4096")),
     Refuses("show|--help", Why::Help("<FILE>")),
     Refuses("play|--help", Why::Help("<FILE> <POSITION>")),
     Refuses("present|--help", Why::Help("<TEXT>")),
@@ -730,7 +742,7 @@ fn is_incomplete(alloc: Global) -> bool {
 
 #[test]
 fn tells_why_words_ask_for_nothing(rt: HostRuntime) {
-    assert!(rt; count_held(rt.alloc(), &REFUSED) == 144);
+    assert!(rt; count_held(rt.alloc(), &REFUSED) == 145);
     assert!(rt; is_incomplete(rt.alloc()));
 }
 

@@ -1,7 +1,7 @@
 -- What a search says. This project's own.
 use Rattle.std.specs.Prelude.{◌≡◌, ◌≢◌, ◌⊎◌, ⊤, ◌≤◌, ◌<◌, ℕ, Bool, true, false, List, ◌++◌, length, Result, Ok, Err, codes, decimal}
 use Rattle.misere_theory.specs.Certificates.{Certificate, Accepted, kind_of}
-use Rattle.misere_theory.specs.declared.TheConstants.{MOST_ENTRIES}
+use Rattle.misere_theory.specs.declared.TheConstants.{LARGEST_PART}
 use Rattle.quotient_search.specs.declared.aim.TheConstants.{DEEPEST}
 use Rattle.octal_code.specs.Text.{IsCodeText}
 use Rattle.certificate_text.specs.Spelling.{Spells}
@@ -33,7 +33,7 @@ abbrev pub IsAimedAt : Aim → ℕ → Type 0
 IsAimedAt (Whole heaps) kind = kind ≡ 0
 IsAimedAt Deep kind = kind ≡ 0
 IsAimedAt (Part last) kind = kind ≡ last
-IsAimedAt Furthest kind = (1 ≤ kind) × (kind ≤ MOST_ENTRIES)
+IsAimedAt Furthest kind = (1 ≤ kind) × (kind ≤ LARGEST_PART)
 
 -- The certificate is accepted, and is one of this code and of a kind that is aimed at.
 pub record IsAskedFor (code : List ℕ) (aim : Aim) (c : Certificate) : Type 0 where
@@ -95,7 +95,7 @@ abbrev pub LooksAt : Aim → ℕ → Bool → Type 0
 LooksAt (Whole heaps) most part = (most ≡ heaps) × (part ≡ false)
 LooksAt Deep most part = (most ≡ DEEPEST) × (part ≡ false)
 LooksAt (Part last) most part = (most ≡ last) × (part ≡ true)
-LooksAt Furthest most part = (1 ≤ most) × (most ≤ MOST_ENTRIES) × (part ≡ true)
+LooksAt Furthest most part = (1 ≤ most) × (most ≤ LARGEST_PART) × (part ≡ true)
 
 -- it is the line of some reason
 abbrev pub IsReasonLine : List ℕ → Type 0

@@ -1,6 +1,6 @@
 //! The search for a certificate of the kind that is asked.
 ghost use Rattle.std.specs.Prelude.{◌≡◌, ◌≢◌, ◌⊎◌, ◌+◌, ◌≤◌, IfOk, IfErr, Err, vec_len};
-ghost use Rattle.misere_theory.specs.declared.TheConstants.{MOST_ENTRIES};
+ghost use Rattle.misere_theory.specs.declared.TheConstants.{LARGEST_PART};
 ghost use Rattle.quotient_finder.specs.Finding.{IsFound};
 ghost use Rattle.solve_command.specs.Solved.{HasAsked, IsAskedFor, IsSearched};
 
@@ -85,7 +85,7 @@ fn limits_of(bounds: SolveBounds) -> Limits
 
 /// The last of the most first heaps of which a search finds a quotient that is small enough.
 pub(crate) fn last_of_furthest(alloc: Global, code: &Code, order: u32) -> Result<u32, Memory>
-    ensures { IfOk result (λ last. (1 ≤ last) × (last ≤ MOST_ENTRIES)) }
+    ensures { IfOk result (λ last. (1 ≤ last) × (last ≤ LARGEST_PART)) }
 {
     let last = furthest(alloc, code, order as usize)?;
     Ok(last.max(1) as u32)

@@ -1,7 +1,7 @@
 -- What the search and the description of the library tell. This project's own.
-use Rattle.std.specs.Prelude.{◌≡◌, ◌⊎◌, ℕ, ◌≤◌, List, Bool, true, false, Ok}
+use Rattle.std.specs.Prelude.{◌≡◌, ◌⊎◌, ℕ, ◌<◌, ◌≤◌, List, Bool, true, false, Ok}
 use Rattle.std.specs.declared.alloc.Global.{Global}
-use Rattle.misere_theory.specs.declared.TheConstants.{MOST_ENTRIES, LARGEST_FIRST_ORDER, LARGEST_ORDER}
+use Rattle.misere_theory.specs.declared.TheConstants.{LARGEST_PART, LARGEST_FIRST_ORDER, LARGEST_ORDER}
 use Rattle.misere_theory.specs.Certificates.{Certificate, Accepted, kind_of}
 use Rattle.octal_code.specs.Text.{IsCodeText}
 use Rattle.certificate_text.specs.Spelling.{Spells}
@@ -24,7 +24,7 @@ use Rattle.solve_library.specs.declared.solving.Asked.{Asked}
 -- 0 aims at a full certificate, 1 at that of the heaps 1 to `heaps`, and 2 at that of some first heaps
 abbrev pub IsOfKind : ℕ → ℕ → ℕ → Type 0
 IsOfKind aim heaps kind = (aim ≡ 0 → kind ≡ 0) × (aim ≡ 1 → kind ≡ heaps)
-    × (aim ≡ 2 → (1 ≤ kind) × (kind ≤ MOST_ENTRIES))
+    × (aim ≡ 2 → (1 ≤ kind) × (kind ≤ LARGEST_PART))
 
 -- the aim of this number: 0 for the whole game, of which the heaps 1 to `heaps` are looked at, 1 for
 -- the part of the heaps 1 to `heaps`, 2 for that of the most first heaps
@@ -37,8 +37,9 @@ IsAim aim heaps Furthest = aim ≡ 2
 -- the aim, with its heaps and the order that it allows, is in its range
 abbrev pub IsAimInRange : Asked → Type 0
 IsAimInRange a =
-    ((a.aim ≡ 0) × (2 ≤ a.heaps) × (a.heaps ≤ DEEPEST) × (a.order ≤ LARGEST_FIRST_ORDER))
-    ⊎ (((a.aim ≡ 1) × (1 ≤ a.heaps) × (a.heaps ≤ MOST_ENTRIES)) ⊎ (a.aim ≡ 2))
+    ((a.aim ≡ 0) × (2 ≤ a.heaps) × (a.heaps ≤ DEEPEST)
+        × ((64 < a.heaps) ⊎ (a.order ≤ LARGEST_FIRST_ORDER)))
+    ⊎ (((a.aim ≡ 1) × (1 ≤ a.heaps) × (a.heaps ≤ LARGEST_PART)) ⊎ (a.aim ≡ 2))
 
 -- limit, rounds and order are in their ranges
 abbrev pub AreNumbersInRange : Asked → Type 0

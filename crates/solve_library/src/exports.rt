@@ -15,9 +15,9 @@ use std::alloc::Global;
 /// Looks for a quotient of the game of a code, and tells the bytes of its certificate, and how many
 /// they are. Where there is no room for them it tells how many they are alone.
 ///
-/// `aim` is 0 for the whole game, of which the heaps 1 to `heaps` are looked at, from 2 to 3090; 1 for
+/// `aim` is 0 for the whole game, of which the heaps 1 to `heaps` are looked at, from 2 to 8210; 1 for
 /// the part of the heaps 1 to `heaps`, from 1 to 1024; 2 for the part of the most first heaps, whatever
-/// `heaps`. The order is from 2 to 256, or to 512 for a part.
+/// `heaps`. The order is from 2 to 4096, but of the whole game by at most 64 heaps to 256.
 #[unsafe(no_mangle)]
 pub extern "C" fn misere_solve(
     alloc: Global,

@@ -24,7 +24,7 @@ const PART_OF_0_33: &[u8] =
 #[derive(Clone, Copy)]
 struct Search(&'static [u8], [u32; 5], u32);
 
-static SEARCHES: [Search; 24] = [
+static SEARCHES: [Search; 27] = [
     Search(b"0.3", [100, 4, 0, 8, 8], 0),
     Search(b"0.3", [1, 4, 0, 8, 8], 13),
     Search(b"0.3", [0, 4, 0, 8, 8], 15),
@@ -35,14 +35,17 @@ static SEARCHES: [Search; 24] = [
     Search(b"0.3", [100, 1001, 0, 8, 8], 15),
     Search(b"0.3", [100, 4, 0, 1, 8], 15),
     Search(b"0.33", [100, 4, 0, 2, 8], 13),
-    Search(b"0.3", [100, 4, 0, 3090, 8], 0),
-    Search(b"0.3", [100, 4, 0, 3091, 8], 15),
+    Search(b"0.3", [100, 4, 0, 8210, 8], 0),
+    Search(b"0.3", [100, 4, 0, 8211, 8], 15),
     Search(b"0.3", [100, 4, 0, 8, 1], 15),
     Search(b"0.3", [100, 4, 0, 8, 2], 0),
     Search(b"0.3", [100, 4, 0, 8, 256], 0),
     Search(b"0.3", [100, 4, 0, 8, 257], 15),
-    Search(b"0.3", [100, 4, 1, 8, 512], 0),
-    Search(b"0.3", [100, 4, 1, 8, 513], 15),
+    Search(b"0.3", [100, 4, 0, 64, 257], 15),
+    Search(b"0.3", [100, 4, 0, 65, 4096], 0),
+    Search(b"0.3", [100, 4, 0, 65, 4097], 15),
+    Search(b"0.3", [100, 4, 1, 8, 4096], 0),
+    Search(b"0.3", [100, 4, 1, 8, 4097], 15),
     Search(b"0.3", [100, 4, 1, 0, 8], 15),
     Search(b"0.3", [100, 4, 1, 1, 8], 0),
     Search(b"0.33", [2, 4, 0, 24, 8], 13),
@@ -83,7 +86,7 @@ fn finds_the_furthest(alloc: Global, heaps: u32) -> bool {
 
 #[test]
 fn searches_keep_within_what_is_asked(rt: HostRuntime) {
-    assert_eq!(&rt; count_searched(rt.alloc()), 24);
+    assert_eq!(&rt; count_searched(rt.alloc()), 27);
     assert!(&rt; finds_the_furthest(rt.alloc(), 0) && finds_the_furthest(rt.alloc(), 4000));
 }
 

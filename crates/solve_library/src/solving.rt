@@ -4,14 +4,15 @@ ghost use Rattle.solve_library.specs.Found.{AreBounds, AreNumbersInRange, IsAim,
 
 use crate::numbers::{GAVE_UP, MEMORY, NOT_A_CODE, NOT_IN_RANGE};
 use command_results::Stop;
-use misere_theory::{LARGEST_FIRST_ORDER, LARGEST_ORDER, MOST_ENTRIES};
+use misere_theory::{LARGEST_FIRST_ORDER, LARGEST_ORDER, LARGEST_PART};
 use quotient_search::DEEPEST;
 use requests::Aim;
 use solve_command::{SolveBounds, solve_bytes};
 use std::alloc::Global;
 
 /// What is asked of a search. Each number has the range that it has on a command line; of a whole
-/// game as many heaps may be looked at as a certificate can need.
+/// game as many heaps may be looked at as a certificate can need, and where they are more than 64,
+/// the order has the range that it has with `--deep`.
 #[derive(Clone, Copy)]
 pub(crate) struct Asked {
     pub limit: u32,
@@ -27,10 +28,10 @@ fn aim_of(asked: Asked) -> Option<Aim>
     ensures range { IsSome result ↔ IsAimInRange asked }
 {
     let heaps = asked.heaps;
-    let is_order = asked.order <= LARGEST_FIRST_ORDER as u32;
+    let is_order = 64 < heaps || asked.order <= LARGEST_FIRST_ORDER as u32;
     match asked.aim {
         0 if 2 <= heaps && heaps <= DEEPEST as u32 && is_order => Some(Aim::Whole { heaps }),
-        1 if 1 <= heaps && heaps <= MOST_ENTRIES as u32 => Some(Aim::Part { last: heaps }),
+        1 if 1 <= heaps && heaps <= LARGEST_PART as u32 => Some(Aim::Part { last: heaps }),
         2 => Some(Aim::Furthest),
         _ => None,
     }
