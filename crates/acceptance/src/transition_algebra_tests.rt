@@ -196,16 +196,16 @@ fn have_pairs(alloc: Global, code: &Code) -> bool {
     }
 }
 
-/// How many pairs there are for the most entries, over two elements.
+/// How many pairs there are for 1,024 entries, over two elements.
 fn count_most(alloc: Global, code: &Code, table: &Table) -> usize
     requires { table.now.order ≡ 2 }
 {
-    match vec![in alloc; 1u16; 4096] {
+    match vec![in alloc; 1u16; 1024] {
         Ok(entries) => match heap_pairs::<1, Global>(
             alloc,
             code,
             table,
-            &Phi::new(1, 4096, entries),
+            &Phi::new(1, 1024, entries),
         ) {
             Ok(pairs) => pairs.len(),
             Err(_) => 0,
@@ -214,14 +214,14 @@ fn count_most(alloc: Global, code: &Code, table: &Table) -> usize
     }
 }
 
-/// The most entries, whose heaps are the most: of 8195 heaps each has its pair, with the splits of
+/// The first two formats' most entries: of 2051 heaps each has its pair, with the splits of
 /// each whole made once.
 fn most_have_pairs(alloc: Global, code: &Code) -> bool {
     let Ok(rows) = [0u16, 1, 1, 0].to_vec(alloc) else {
         return false;
     };
     match Table::new(2, rows) {
-        Ok(table) => count_most(alloc, code, &table) == 8195,
+        Ok(table) => count_most(alloc, code, &table) == 2051,
         Err(_) => false,
     }
 }

@@ -485,10 +485,7 @@ static REFUSED: [Refuses; 145] = [
         Why::Number(Quantity::PartOrder),
     ),
     Refuses("solve|0.3|--furthest|1", Why::Number(Quantity::Furthest)),
-    Refuses(
-        "solve|0.3|--furthest|4097",
-        Why::Number(Quantity::Furthest),
-    ),
+    Refuses("solve|0.3|--furthest|4097", Why::Number(Quantity::Furthest)),
     Refuses(
         "solve|0.3|--deep|--heaps|9",
         Why::Exclusive(Exclusion::Solve),

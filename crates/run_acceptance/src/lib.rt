@@ -39,6 +39,8 @@ mod solve_command_tests;
 #[cfg(test)]
 mod tame;
 #[cfg(test)]
+mod third_format_tests;
+#[cfg(test)]
 mod whole_runs_tests;
 #[cfg(test)]
 mod words;

@@ -372,13 +372,7 @@ impl Row for Read {
 struct Played(Run);
 
 static PLAYED: [Played; 2] = [
-    Played(Run(
-        "play|0.33.mqc|-",
-        2,
-        1,
-        "lost\nnot a position\nended\n",
-        "",
-    )),
+    Played(Run("play|0.33.mqc|-", 2, 1, "lost\nnot a position\nended\n", "")),
     Played(Run(
         "play|part.mqc|-|--limit|1000000",
         2,
