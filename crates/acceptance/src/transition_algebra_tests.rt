@@ -1,5 +1,5 @@
 //! The pairs of the heaps of 0.75, of a game whose moves leave three heaps, and of a part of 0.3.
-ghost use Rattle.std.specs.Prelude.{◌≡◌, All, IfSome};
+ghost use Rattle.std.specs.Prelude.{◌≡◌, ◌≤◌, All, IfSome};
 ghost use Rattle.transition_algebra.specs.Heaps.{IsInto};
 ghost use Rattle.transition_algebra.specs.Pairs.{IsPair};
 
@@ -21,7 +21,8 @@ const ELEMENTS: [u16; 9] = [1, 2, 1, 2, 3, 2, 3, 2, 4];
 
 /// The quotient and the pretending function.
 fn quotient<A: Allocator + Copy>(alloc: A) -> Option<(Table<A>, Phi<A>)>
-    ensures { IfSome result (λ q. IsInto q.0 q.1) }
+    ensures into { IfSome result (λ q. IsInto q.0 q.1) }
+    ensures small { IfSome result (λ q. q.0.order ≤ 512) }
 {
     let Ok(rows) = ROWS.to_vec(alloc) else {
         return None;
@@ -68,7 +69,8 @@ fn worked(n: usize) -> Pair {
 /// The group of two elements, in which the heaps have 1 and 0 by turns: those of a part up to the
 /// heap 2, or all.
 fn by_turns<A: Allocator + Copy>(alloc: A, is_part: bool) -> Option<(Table<A>, Phi<A>)>
-    ensures { IfSome result (λ q. IsInto q.0 q.1) }
+    ensures into { IfSome result (λ q. IsInto q.0 q.1) }
+    ensures small { IfSome result (λ q. q.0.order ≤ 512) }
 {
     let Ok(rows) = [0u16, 1, 1, 0].to_vec(alloc) else {
         return None;
@@ -107,7 +109,8 @@ impl Heaps {
     }
 
     fn quotient<A: Allocator + Copy>(self, alloc: A) -> Option<(Table<A>, Phi<A>)>
-        ensures { IfSome result (λ q. IsInto q.0 q.1) }
+        ensures into { IfSome result (λ q. IsInto q.0 q.1) }
+        ensures small { IfSome result (λ q. q.0.order ≤ 512) }
     {
         match self {
             Heaps::OfEight => quotient(alloc),
