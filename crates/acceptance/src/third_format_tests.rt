@@ -216,6 +216,35 @@ static TOO_LONG: [(Repeats, usize); 4] = [
     ),
 ];
 
+/// All lines that the second format has, of an order above its largest.
+static OF_513: [(Repeats, usize); 3] = [
+    (
+        &[
+            (
+                b"mqc 2\ncode 0.3\norder 513\nstart 2\nperiod 0\nphi 512\nportion 512\nwords",
+                1,
+            ),
+            (b" 512:1", 512),
+        ],
+        1,
+    ),
+    (&[(b"\nrow", 1), (b" 512", 513)], 513),
+    (&[(b"\napart", 1), (b" 512", 131_328), (b"\nend\n", 1)], 1),
+];
+
+/// All lines that the first format has, with an entry more than it has at most.
+static OF_1025: [(Repeats, usize); 1] = [(
+    &[
+        (b"mqc 1\ncode 0.3\norder 2\nstart 1\nperiod 1025\nphi", 1),
+        (b" 1", 1025),
+        (
+            b"\nportion 1\nwords 0:1\nrow 0 1\nrow 1 0\napart 0\nend\n",
+            1,
+        ),
+    ],
+    1,
+)];
+
 /// How many bytes a text has, and whether it is read and written as it was, or the fault.
 fn long_text(alloc: Global, blocks: &[(Repeats, usize)]) -> (usize, Result<bool, TextFault>) {
     let Ok(text) = text_of(alloc, blocks) else {
@@ -235,6 +264,9 @@ fn products_and_separators_are_made_anew(rt: HostRuntime) {
 #[test]
 fn edges_of_the_third_format(rt: HostRuntime) {
     assert!(rt; count_not_kept(rt.alloc(), &NOT_KEPT) == 9);
+    for blocks in [OF_513.as_slice(), OF_1025.as_slice()] {
+        assert!(rt; long_text(rt.alloc(), blocks).1 == Err(TextFault::Text));
+    }
     assert!(rt; long_text(rt.alloc(), &LONGEST) == (4_194_304, Ok(true)));
     assert!(rt; long_text(rt.alloc(), &TOO_LONG) == (4_194_305, Err(TextFault::Text)));
 }

@@ -1,5 +1,5 @@
 //! The pairs of the heaps of 0.75, of a game whose moves leave three heaps, and of a part of 0.3.
-ghost use Rattle.std.specs.Prelude.{◌≡◌, All, IfSome};
+ghost use Rattle.std.specs.Prelude.{◌≡◌, ◌≤◌, All, IfSome};
 ghost use Rattle.transition_algebra.specs.Heaps.{IsInto};
 ghost use Rattle.transition_algebra.specs.Pairs.{IsPair};
 
@@ -21,7 +21,8 @@ const ELEMENTS: [u16; 9] = [1, 2, 1, 2, 3, 2, 3, 2, 4];
 
 /// The quotient and the pretending function.
 fn quotient<A: Allocator + Copy>(alloc: A) -> Option<(Table<A>, Phi<A>)>
-    ensures { IfSome result (λ q. IsInto q.0 q.1) }
+    ensures into { IfSome result (λ q. IsInto q.0 q.1) }
+    ensures small { IfSome result (λ q. q.0.order ≤ 512) }
 {
     let Ok(rows) = ROWS.to_vec(alloc) else {
         return None;
@@ -68,7 +69,8 @@ fn worked(n: usize) -> Pair {
 /// The group of two elements, in which the heaps have 1 and 0 by turns: those of a part up to the
 /// heap 2, or all.
 fn by_turns<A: Allocator + Copy>(alloc: A, is_part: bool) -> Option<(Table<A>, Phi<A>)>
-    ensures { IfSome result (λ q. IsInto q.0 q.1) }
+    ensures into { IfSome result (λ q. IsInto q.0 q.1) }
+    ensures small { IfSome result (λ q. q.0.order ≤ 512) }
 {
     let Ok(rows) = [0u16, 1, 1, 0].to_vec(alloc) else {
         return None;
@@ -107,7 +109,8 @@ impl Heaps {
     }
 
     fn quotient<A: Allocator + Copy>(self, alloc: A) -> Option<(Table<A>, Phi<A>)>
-        ensures { IfSome result (λ q. IsInto q.0 q.1) }
+        ensures into { IfSome result (λ q. IsInto q.0 q.1) }
+        ensures small { IfSome result (λ q. q.0.order ≤ 512) }
     {
         match self {
             Heaps::OfEight => quotient(alloc),
@@ -196,16 +199,16 @@ fn have_pairs(alloc: Global, code: &Code) -> bool {
     }
 }
 
-/// How many pairs there are for the most entries, over two elements.
+/// How many pairs there are for 1,024 entries, over two elements.
 fn count_most(alloc: Global, code: &Code, table: &Table) -> usize
     requires { table.now.order ≡ 2 }
 {
-    match vec![in alloc; 1u16; 4096] {
+    match vec![in alloc; 1u16; 1024] {
         Ok(entries) => match heap_pairs::<1, Global>(
             alloc,
             code,
             table,
-            &Phi::new(1, 4096, entries),
+            &Phi::new(1, 1024, entries),
         ) {
             Ok(pairs) => pairs.len(),
             Err(_) => 0,
@@ -214,14 +217,14 @@ fn count_most(alloc: Global, code: &Code, table: &Table) -> usize
     }
 }
 
-/// The most entries, whose heaps are the most: of 8195 heaps each has its pair, with the splits of
+/// The first two formats' most entries: of 2051 heaps each has its pair, with the splits of
 /// each whole made once.
 fn most_have_pairs(alloc: Global, code: &Code) -> bool {
     let Ok(rows) = [0u16, 1, 1, 0].to_vec(alloc) else {
         return false;
     };
     match Table::new(2, rows) {
-        Ok(table) => count_most(alloc, code, &table) == 8195,
+        Ok(table) => count_most(alloc, code, &table) == 2051,
         Err(_) => false,
     }
 }

@@ -93,13 +93,23 @@ fn memory_suffices_for_the_largest(rt: HostRuntime) {
     assert!(rt; number_of_longest(rt.alloc()) == 7);
 }
 
-/// Sets of elements take more room from some orders on.
+/// The number of the verdict on the certificate over a group, of which ten members are kept at most.
+fn number_of_ten(alloc: Global, order: u16) -> u8 {
+    match cyclic(alloc, order, true) {
+        Some(text) => checked(alloc, &text, 10).0,
+        None => 0,
+    }
+}
+
+/// Sets of elements take more room from some orders on. Of the largest order the check goes on up to
+/// the limit.
 #[test]
 fn orders_of_each_width(rt: HostRuntime) {
-    for order in [66, 258, 512, 514, 1024, 1026] {
+    for order in [66, 258, 512, 514, 1026] {
         assert!(rt;
             length_of_refuted(rt.alloc(), order, true).is_some(),
             "{order}"
         );
     }
+    assert!(rt; number_of_ten(rt.alloc(), 514) == 8 && number_of_ten(rt.alloc(), 4096) == 8);
 }
