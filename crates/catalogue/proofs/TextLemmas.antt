@@ -103,13 +103,15 @@ one_to_three false false = omega arith
 format_small : (c : Certificate) → format_of c ≤ 8192
 format_small c = one_to_three _ _
 
-abbrev AreRowsIn : ℕ → List (List ℕ) → Type 0
-AreRowsIn q rows = All (λ row. (length row ≡ q) × All (λ x. x < q) row) rows
+abbrev IsRowIn : ℕ → List ℕ → Type 0
+IsRowIn q row = (length row ≡ q) × All (λ x. x < q) row
 
 -- the rows that the text says are some of the table's
-said_rows : (c : Certificate) (third : Bool) → AreRowsIn c.order c.rows
-    → AreRowsIn c.order (if third then compacted c else c).rows
-said_rows c true h = All-take _ (firsts_of c.words) (drop 1 c.rows) (All-drop _ 1 c.rows h)
+said_rows : (c : Certificate) (third : Bool) → All (IsRowIn c.order) c.rows
+    → All (IsRowIn c.order) ((if third then compacted c else c).rows)
+said_rows c true h =
+    All-take (IsRowIn c.order) (firsts_of c.words) (drop 1 c.rows)
+    (All-drop (IsRowIn c.order) 1 c.rows h)
 said_rows c false h = h
 
 end_plain : AllByRecursion IsPlain (record { name = codes "end"; words = [] } ∷ [])

@@ -11,4 +11,4 @@ returns-in-Ok c =
     c.bytes.result.now (text (lines c.args.cert.now))
     c.new-sink.ensures.taken c.in-Ok.ensures.puts c.bytes.ensures in
     c.in_ok-from_utf8_lossy-in-Ok.ensures.ok
-    (subst IsUtf8 (sym same) (certificate_utf8 c.args.cert.now c.in_ranges.ensures)) ∙ same
+    (subst IsUtf8 (sym same) (certificate_utf8 c.args.cert.now c.in_ranges.ensures.ranges)) ∙ same
