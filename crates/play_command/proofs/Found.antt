@@ -4,7 +4,7 @@ use Rattle.misere_theory.specs.Certificates.{Certificate}
 use Rattle.positions.specs.Text.{IsTextOf}
 use Rattle.check_command.specs.Checks.{Finds, Checks}
 use Rattle.play_command.specs.Many.{AnswersLines, PlaysLines}
-use Rattle.play_command.specs.Many.PlaysLines.{Quotient}
+use Rattle.play_command.specs.Many.PlaysLines.{Quotient, NoQuotient}
 use Rattle.play_command.specs.Plays.{Plays, PlaysFound}
 use Rattle.play_command.specs.declared.many.TheConstants.{LARGEST_INPUT}
 
@@ -27,3 +27,13 @@ plays_quotient {A = A} Are AreLines limit q c lines read text succeeds found is 
     Quotient c lines (subst (λ (r : Result Certificate (Vec ℕ A)). Finds Are limit r) is found) given
     few
     (subst (λ (l : List ℕ). AnswersLines c l text succeeds) same says)
+
+pub plays_no : {A : Type 0} (Are AreLines : List ℕ → Type 0) (limit : ℕ)
+    (q : Result Certificate (Vec ℕ A)) (said : Vec ℕ A) (text : List ℕ) (succeeds : Bool)
+    → Finds Are limit q → q ≡ Err said → text ≡ said.items → succeeds ≡ false
+    → PlaysLines Are limit AreLines text succeeds
+plays_no {A = A} Are AreLines limit q said text succeeds found is same fails =
+    NoQuotient
+    (subst (λ (t : List ℕ). Checks Are limit t false) (sym same)
+    (subst (λ (r : Result Certificate (Vec ℕ A)). Finds Are limit r) is found))
+    fails

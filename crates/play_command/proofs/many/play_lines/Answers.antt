@@ -1,6 +1,6 @@
 use Rattle.std.proofs.Common.{ap, arith, refl, subst, ℕ, List, Option}
 use Rattle.play_command.specs.Many.{AreLinesOf}
-use Rattle.play_command.proofs.Found.{plays_quotient}
+use Rattle.play_command.proofs.Found.{plays_quotient, plays_no}
 use Rattle.play_command.proofs.many.play_lines.Goals as goal
 
 pub returns-in_ok-said-in-Ok-clause-plays : goal.returns-in_ok-said-in-Ok-clause-plays
@@ -16,3 +16,9 @@ returns-in_ok-said-in-Ok-clause-plays g c =
     let long = lines.ok in
     omega (arith, few, long))
     c.deref.ensures.value c.in_ok-said-in-Ok.ensures
+
+pub returns-in-Err-clause-plays : goal.returns-in-Err-clause-plays
+returns-in-Err-clause-plays g c =
+    plays_no _ (AreLinesOf (g.S.Source.left c.args.input.now)) c.args.limit
+    c.in_ok-certified.field-0 c.in-Err.no c.no.result.text.items c.no.result.succeeds
+    c.in_ok-certified.ensures.found c.in-Err.is (ap (λ t. t.items) c.no.ensures.text) c.no.ensures.succeeds
