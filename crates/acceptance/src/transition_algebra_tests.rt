@@ -173,7 +173,8 @@ pub fn in_pieces<A: SmallAllocator + Copy>(alloc: A, heaps: Heaps, units: u64) -
 /// Whether these are the pairs of the heaps, the product of the heaps 1 and 9 beside each other is
 /// right, and the identity.
 fn multiply(table: &Table, pairs: &[Pair]) -> bool
-    requires { All (IsPair table.now.order) pairs.now }
+    requires pairs { All (IsPair table.now.order) pairs.now }
+    requires small { table.now.order ≤ 512 }
 {
     if !are_worked(Heaps::OfEight, pairs) || pairs.len() != 22 {
         return false;
