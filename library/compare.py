@@ -151,6 +151,14 @@ def compare_refused(program: str, file: pathlib.Path) -> None:
     raise AssertionError(file)
 
 
+def relations_of(quotient: misere.Quotient, basis: bool) -> str:
+    """The line of its relations, or that they aren't taken by `present`."""
+    try:
+        return quotient.describe("relations", basis) + "\n"
+    except misere.NotDescribed:
+        return "not described within the bounds of present\n"
+
+
 def compare_finder(program: str) -> None:
     """What is found and described, and what the program prints."""
     for code in FOUND:
@@ -164,7 +172,7 @@ def compare_finder(program: str) -> None:
             for it in (quotient, anew):
                 assert it.describe(basis=bool(basis)) == printed(*words), words
                 assert it.describe("latex", bool(basis)) == printed(*words, "--latex"), words
-                assert it.describe("relations", bool(basis)) + "\n" == printed(*words, "--relations"), words
+                assert relations_of(it, bool(basis)) == printed(*words, "--relations"), words
 
 
 def compare_threads(compared: Sequence[Compared]) -> None:
