@@ -14,8 +14,8 @@
  */
 
 /**
- * As many heaps as the certificate of an octal code can need, the elements of a whole quotient and of a partial one, and
- * the most that there may be.
+ * As many heaps as the certificate of an octal code can need, the elements of a whole quotient and of a partial one,
+ * and the most that there may be.
  */
 const [DEEP_HEAPS, WHOLE_ORDER, PART_ORDER, MOST_ORDER] = [8210, 256, 512, 4096];
 
