@@ -78,8 +78,9 @@ test("samples: each form of a description", async (t) => {
         const words = [fileOf(bytes), ...basis ? ["--basis"] : []];
         assert.equal(misere.describe(bytes, {basis}), printed("describe", ...words));
         assert.equal(misere.describe(bytes, {basis, output: "latex"}), printed("describe", "--latex", ...words));
-        const relations = misere.describe(bytes, {basis, output: "relations"});
-        assert.equal(`${relations}\n`, printed("describe", "--relations", ...words));
+        const relations = told(() => misere.describe(bytes, {basis, output: "relations"}));
+        const said = relations === "refused 16" ? "not described within the bounds of present" : relations;
+        assert.equal(`${said}\n`, printed("describe", "--relations", ...words));
       }
     });
   }
