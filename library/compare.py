@@ -151,12 +151,14 @@ def compare_refused(program: str, file: pathlib.Path) -> None:
     raise AssertionError(file)
 
 
-def relations_of(quotient: misere.Quotient, basis: bool) -> str:
-    """The line of its relations, or that they aren't taken by `present`."""
+def compare_relations(quotient: misere.Quotient, basis: bool, *words: str | os.PathLike[str]) -> None:
+    """Its relations, where `present` takes them, and else the line that says that it refuses them."""
+    run = subprocess.run((*words, "--relations"), capture_output=True, text=True, check=False)
     try:
-        return quotient.describe("relations", basis) + "\n"
+        line = quotient.describe("relations", basis) + "\n"
+        assert (line, "") == (run.stdout, run.stderr), words
     except misere.NotDescribed:
-        return "not described within the bounds of present\n"
+        assert run.stderr.startswith("misere: present refuses these relations: "), words
 
 
 def compare_finder(program: str) -> None:
@@ -172,7 +174,7 @@ def compare_finder(program: str) -> None:
             for it in (quotient, anew):
                 assert it.describe(basis=bool(basis)) == printed(*words), words
                 assert it.describe("latex", bool(basis)) == printed(*words, "--latex"), words
-                assert relations_of(it, bool(basis)) == printed(*words, "--relations"), words
+                compare_relations(it, bool(basis), *words)
 
 
 def compare_threads(compared: Sequence[Compared]) -> None:

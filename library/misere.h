@@ -123,9 +123,9 @@ uint32_t misere_solve(const uint8_t *code, size_t length, uint32_t limit, uint32
                       uint32_t aim, uint32_t heaps, uint32_t order, uint8_t *told, size_t room,
                       uint64_t *count);
 
-/* As misere_solve. But with MISERE_GAVE_UP, which takes a second search, it tells how the search was
- * given up, with the reason: the lines of `misere solve CODE --why`, such as "gave up 2 Empty" and
- * "no period 24 24", each with its end, and in *count how many bytes they are. They too need room. */
+/* As misere_solve. But with MISERE_GAVE_UP it tells how the search was given up, with the reason: the
+ * lines of `misere solve CODE --why`, such as "gave up 2 Empty" and "no period 24 24", each with its
+ * end, and in *count how many bytes they are. They too need room. */
 uint32_t misere_solve_why(const uint8_t *code, size_t length, uint32_t limit, uint32_t rounds,
                           uint32_t aim, uint32_t heaps, uint32_t order, uint8_t *told, size_t room,
                           uint64_t *count);

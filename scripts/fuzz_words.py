@@ -16,7 +16,7 @@ HEAPS = [b"0", b"1", b"2", b"8", b"1024", b"1025", b"02", b""]
 # What an argument or an option takes, by the name of its value in the help
 VALUES = {
     "CERT": [b"x.mqc"],
-    "CODE": CODES,
+    "CODE": [*CODES, b"-"],
     "FILE": [*[b"x.mqc"] * 6, b"-", b"nowhere"],
     "POSITION": [*POSITIONS, b"-"],
     "SCRIPT": [b"steps.txt"],
@@ -58,7 +58,8 @@ def line(commands: Commands, chance: random.Random) -> Words:
     parts = [words_of(name, it, chance) for it in command.own if chance.randrange(3) == 0]
     for argument, about in command.arguments:
         if argument in command.needs or chance.randrange(2):
-            parts.insert(chance.randrange(len(parts) + 1), [word(values_of(name, argument, about), chance)])
+            for _ in range(chance.choice((1, 1, 2, 3)) if argument in command.repeated else 1):
+                parts.insert(chance.randrange(len(parts) + 1), [word(values_of(name, argument, about), chance)])
     words = [name.encode(), *(it for part in parts for it in part)]
     heads: list[Words] = [words[:1]] * 30 + [[], [b"--help"], [b"--version"], [b"help", *words[:1]]]
     words[:1] = chance.choice(heads)
@@ -93,6 +94,8 @@ def tries(commands: Commands, chance: random.Random, text: bytes) -> Iterator[tu
     yield [b"play", b"x.mqc", b"-"], lines_of(POSITIONS, chance)
     yield [b"present", word(PRESENTATIONS, chance)], b""
     yield [b"solve", word(CODES, chance), b"--heaps", b"12", b"--rounds", b"2"], b""
+    yield [b"solve", *(word(CODES, chance) for _ in range(3)), b"--heaps", b"12", b"--rounds", b"2"], b""
+    yield [b"solve", b"-", b"--heaps", b"12", b"--rounds", b"2"], lines_of(CODES, chance)
     yield [b"catalogue", b"x.json"], b""
     yield [b"catalogue", b"x.json", b"--get", word(CODES, chance)], b""
     yield [b"catalogue", b"x.json", b"--get", word(CODES, chance), b"--heaps", word(HEAPS, chance)], b""

@@ -34,6 +34,7 @@ class Command:
         self.about = text.partition("\n")[0]
         self.arguments = [(re.sub(r"[<\[\]>]|\.\.\.", "", name), about) for name, about in section(text, "Arguments")]
         self.needs = set(re.findall(r"<(\w+)>", usage[1])) if usage else set()
+        self.repeated = set(re.findall(r"<(\w+)>\.\.\.", usage[1])) if usage else set()
         self.options = [Option(*row) for row in section(text, "Options")]
         self.own = [it for it in self.options if it.name not in ("help", "version")]
         self.commands = section(text, "Commands")

@@ -46,7 +46,10 @@ def messages() -> Iterator[str]:
 
 def usage(name: str, command: Command) -> str:
     options = "".join(f" [\\-\\-{it.name}" + (f" \\fI{it.value}\\fB" if it.value else "") + "]" for it in command.own)
-    words = "".join(f" \\fI{it}\\fR" if it in command.needs else f" [\\fI{it}\\fR]" for it, _ in command.arguments)
+    words = "".join(
+        (f" \\fI{it}\\fR" if it in command.needs else f" [\\fI{it}\\fR]") + (".." if it in command.repeated else "")
+        for it, _ in command.arguments
+    )
     return f"\\fB{name}{options}\\fR{words}"
 
 

@@ -35,6 +35,13 @@ def program_of(asked: argparse.Namespace) -> str:
     return str(asked.program.resolve())
 
 
+def named_page(name: str) -> str:
+    """An argument that names a page from the top of the repository."""
+    if not (root / name).is_file():
+        raise argparse.ArgumentTypeError(f"there is no {name}")
+    return name
+
+
 def load(file: pathlib.Path, name: str) -> Any:
     """A script as a module, for another one that calls what it has."""
     loader = importlib.machinery.SourceFileLoader(name, str(file.resolve()))
@@ -44,6 +51,19 @@ def load(file: pathlib.Path, name: str) -> Any:
     sys.modules[name] = module
     loader.exec_module(module)
     return module
+
+
+class Looks:
+    """How often something was looked at, and how often it didn't stand, which is told."""
+
+    def __init__(self) -> None:
+        self.count, self.wrong = 0, 0
+
+    def at(self, name: str, stands: bool, *told: object) -> None:
+        self.count += 1
+        if not stands:
+            self.wrong += 1
+            print("does not stand so:", name, *told, flush=True)
 
 
 def begin(main: Callable[[], int | None]) -> None:

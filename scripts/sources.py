@@ -139,7 +139,7 @@ class Sources:
         self.put(name, record)
 
     def renew(self) -> None:
-        """Notes of a program that stands, over libraries that came out as they were, of which sources all of it is now."""
+        """Notes of which sources a program is now that stands over libraries that came out as they were."""
         record = self.read(self.program)
         if record:
             self.write(self.program, record.sources)

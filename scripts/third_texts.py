@@ -132,8 +132,8 @@ def of_other_formats() -> Iterator[Named]:
         for form in (1, 2, 3):
             if form != it.format:
                 yield f"{name} as mqc {form}", text_of(it, form), False
-        for form in ("0", "4", "03", "3.0", ""):
-            yield f"{name} as mqc {form}", text_of(it).replace(f"mqc {it.format}", f"mqc {form}", 1), False
+        for spelled in ("0", "4", "03", "3.0", ""):
+            yield f"{name} as mqc {spelled}", text_of(it).replace(f"mqc {it.format}", f"mqc {spelled}", 1), False
 
 
 def out_of_range() -> Iterator[Named]:

@@ -14,8 +14,8 @@
 export const LIMIT = 100000;
 /** As many bytes are room for any certificate. */
 export const MOST = 1 << 22;
-/** The heaps of the longest position at which a certificate can be told to fail. */
-const MOST_HEAPS = 32768;
+/** Room for most positions at which a certificate is told to fail. */
+const USUAL_HEAPS = 64;
 /** Room for most descriptions. */
 const USUAL_TEXT = 1 << 16;
 
@@ -201,11 +201,7 @@ export class Misere {
    * @param {Uint8Array} bytes
    */
   check(bytes, limit = LIMIT) {
-    const [told, count] = [new BigUint64Array(MOST_HEAPS), new BigUint64Array(1)];
-    const status = this.#call("misere_failure", bytes, bounded(limit), told, count);
-    if (status === 0) return;
-    const isTold = status === OUTCOME && count[0] <= MOST_HEAPS;
-    throw new Refused(status, isTold ? [...told.subarray(0, Number(count[0]))] : null);
+    this.#check(bytes, limit, USUAL_HEAPS);
   }
 
   /**
@@ -301,6 +297,21 @@ export class Misere {
   /** The exports of the instance: of a new one where the last failed, since that stopped amid its work. */
   #instance() {
     return (this.#exports ??= new WebAssembly.Instance(this.#module).exports);
+  }
+
+  /**
+   * A check, and a second one where the position at which the rule fails is longer than the room for it.
+   * @param {Uint8Array} bytes
+   * @param {number} limit
+   * @param {number} room
+   * @returns {void}
+   */
+  #check(bytes, limit, room) {
+    const [told, count] = [new BigUint64Array(room), new BigUint64Array(1)];
+    const status = this.#call("misere_failure", bytes, bounded(limit), told, count);
+    const length = Number(count[0]);
+    if (status === OUTCOME && length > room) return this.#check(bytes, limit, length);
+    if (status) throw new Refused(status, status === OUTCOME ? [...told.subarray(0, length)] : null);
   }
 
   /**

@@ -5,7 +5,7 @@ function __misere_codes
 end
 complete -c misere -f
 complete -c misere -n __fish_use_subcommand -a check -d 'Check a certificate, and print the verdict'
-complete -c misere -n __fish_use_subcommand -a solve -d 'Look for the misère quotient of a code, and print its certificate'
+complete -c misere -n __fish_use_subcommand -a solve -d 'Look for the misère quotient of each code, and print its certificate'
 complete -c misere -n __fish_use_subcommand -a show -d 'Check a certificate, and print the quotient that it certifies'
 complete -c misere -n __fish_use_subcommand -a describe -d 'Check a certificate, and print its quotient by generators and relations'
 complete -c misere -n __fish_use_subcommand -a play -d 'Check a certificate, and print a winning move in a position'

@@ -14,8 +14,8 @@ from ._faults import NOT_OPEN, OUTCOME, MisereError, fault
 from ._given import words_of
 from ._library import Call, Opened, Told, library
 
-# How many heaps of a position at which the rule fails are told
-MOST_HEAPS = 32768
+# Room for most positions at which the rule fails
+USUAL_HEAPS = 64
 
 
 class Asker:
@@ -209,7 +209,13 @@ def refusal(status: int, certificate: bytes, limit: int) -> MisereError:
     """Why a certificate is refused: with the position at which the rule of the game fails, if its heaps are told."""
     if status != OUTCOME:
         return fault(status)
-    told, count = array.array("Q", bytes(8 * MOST_HEAPS)), ctypes.c_uint64()
+    return _failing(certificate, limit, USUAL_HEAPS)
+
+
+def _failing(certificate: bytes, limit: int, room: int) -> MisereError:
+    """The fault with the position at which the rule fails, told by a second check if the room is too small for it."""
+    told, count = array.array("Q", bytes(8 * room)), ctypes.c_uint64()
     status = library.misere_failure(certificate, len(certificate), limit, *words_of(told), ctypes.addressof(count))
-    told_whole = status == OUTCOME and count.value <= MOST_HEAPS
-    return fault(status, position=told[: count.value].tolist() if told_whole else None)
+    if status == OUTCOME and count.value > room:
+        return _failing(certificate, limit, count.value)
+    return fault(status, position=told[: count.value].tolist() if status == OUTCOME else None)

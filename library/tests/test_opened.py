@@ -122,10 +122,10 @@ class Threads(unittest.TestCase):
             begun = threading.Barrier(THREADS)
 
             def ask() -> None:
-                begun.wait()
+                closes = begun.wait() == 0
                 try:
                     while it.outcome([5, 10, 77]) == told == it.outcomes([[5, 10, 77]])[0]:
-                        if threading.current_thread() is closing:
+                        if closes:
                             it.close()
                     others.append("told otherwise")
                 except misere.NotOpen:
@@ -133,12 +133,7 @@ class Threads(unittest.TestCase):
                 except Exception as stop:
                     others.append(stop)
 
-            threads = [threading.Thread(target=ask) for _ in range(THREADS)]
-            closing = threads[3]
-            for thread in threads:
-                thread.start()
-            for thread in threads:
-                thread.join()
+            run_in_threads(ask)
             self.assertEqual((others, it.closed, it._certified._idle), ([], True, []))
 
 

@@ -26,8 +26,9 @@ EXPORT(heap_live) u64 heap_live(void) { return live; }
 EXPORT(heap_peak) u64 heap_peak(void) { return peak; }
 EXPORT(heap_most) void heap_most(u64 place) { most = place; }
 
-/* The power of the smallest block that holds so many bytes. */
+/* The power of the smallest block that holds so many bytes, or POWERS where none does. */
 static u64 power_of(u64 bytes) {
+    if (bytes >> (POWERS - 2)) return POWERS;
     bytes += sizeof(Block);
     return bytes <= 1ull << LEAST ? LEAST : 64 - __builtin_clzll(bytes - 1);
 }
@@ -44,15 +45,44 @@ static Block *fresh(u64 power) {
     return block;
 }
 
-/* So many bytes, or null. JavaScript takes those for what it hands over by this, too. */
-EXPORT(heap_take) void *heap_take(u64 bytes) {
-    if (bytes >> (POWERS - 2)) return 0;
-    u64 power = power_of(bytes);
+/* The block becomes the first unused one of its power. */
+static void keep(Block *block) {
+    block->next = unused[block->power];
+    unused[block->power] = block;
+}
+
+/* A block that was given back, or null. */
+static Block *again(u64 power) {
     Block *block = unused[power];
-    if (block)
-        unused[power] = block->next;
-    else if (!(block = fresh(power)))
-        return 0;
+    if (block) unused[power] = block->next;
+    return block;
+}
+
+/* The first part of the smallest larger block that was given back, or null. Its other half is kept, and the other half
+ * of that half, and so on. */
+static Block *cut(u64 power) {
+    u64 larger = power;
+    Block *block = 0;
+    while (!block && ++larger < POWERS) block = again(larger);
+    if (!block) return 0;
+    while (larger-- > power) {
+        Block *half = (Block *)((u64)block + (1ull << larger));
+        half->power = larger;
+        keep(half);
+    }
+    block->power = power;
+    return block;
+}
+
+/* So many bytes, or null. JavaScript takes those for what it hands over by this, too. Larger blocks are cut only where
+ * the memory can't grow, since nothing puts their parts together again before all is given back. */
+EXPORT(heap_take) void *heap_take(u64 bytes) {
+    u64 power = power_of(bytes);
+    if (power == POWERS) return 0;
+    Block *block = again(power);
+    if (!block) block = fresh(power);
+    if (!block) block = cut(power);
+    if (!block) return 0;
     live += 1ull << power;
     if (live > peak) peak = live;
     return block + 1;
@@ -61,8 +91,7 @@ EXPORT(heap_take) void *heap_take(u64 bytes) {
 EXPORT(heap_give) void heap_give(void *at) {
     Block *block = (Block *)at - 1;
     live -= 1ull << block->power;
-    block->next = unused[block->power];
-    unused[block->power] = block;
+    keep(block);
     if (live) return;
     /* nothing is out: the whole heap is one unused part again */
     top = 0;

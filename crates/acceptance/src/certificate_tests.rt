@@ -1,4 +1,5 @@
 //! Certificates read and written, to sinks that fail too.
+use crate::comparing::compare;
 use crate::octal_code_tests::is_written_as;
 use crate::texts::{Repeats, text_of};
 use certificate::{Cert, TextFault, WriteFault, read, write};
@@ -162,13 +163,14 @@ pub fn comes_back(alloc: Global, bytes: &[u8], heaps: u64) -> bool {
     }
 }
 
-/// How many texts are written as they are read.
+/// How many texts are written as they are read, up to the first that isn't.
 fn count_back(alloc: Global, texts: &[(&[u8], u64)]) -> usize {
     let mut count = 0usize;
     for (bytes, heaps) in texts {
-        if comes_back(alloc, bytes, *heaps) {
-            count = count.saturating_add(1);
+        if !comes_back(alloc, bytes, *heaps) {
+            return count;
         }
+        count = count.saturating_add(1);
     }
     count
 }
@@ -181,13 +183,14 @@ pub fn fault_of<A: Allocator + Copy>(alloc: A, bytes: &[u8]) -> Result<bool, Tex
     }
 }
 
-/// How many texts are refused as no certificate.
+/// How many texts are refused as no certificate, up to the first that isn't.
 fn count_refused(alloc: Global, texts: &[&[u8]]) -> usize {
     let mut count = 0usize;
     for bytes in texts {
-        if matches!(fault_of(alloc, bytes), Err(TextFault::Text)) {
-            count = count.saturating_add(1);
+        if !matches!(fault_of(alloc, bytes), Err(TextFault::Text)) {
+            return count;
         }
+        count = count.saturating_add(1);
     }
     count
 }
@@ -351,16 +354,22 @@ fn is_large(alloc: Global, bytes: &[u8], row: &Large) -> bool {
     }
 }
 
-/// How many large texts have their sizes and come back.
+/// Whether the text of the row has its sizes and comes back.
+fn is_whole(alloc: Global, row: &Large) -> bool {
+    match text_of(alloc, row.0) {
+        Ok(text) => is_large(alloc, &text, row) && comes_back(alloc, &text, row.3),
+        Err(_) => false,
+    }
+}
+
+/// How many large texts have their sizes and come back, up to the first that doesn't.
 fn count_large(alloc: Global, rows: &[Large]) -> usize {
     let mut count = 0usize;
     for row in rows {
-        match text_of(alloc, row.0) {
-            Ok(text) if is_large(alloc, &text, row) && comes_back(alloc, &text, row.3) => {
-                count = count.saturating_add(1);
-            }
-            _ => return count,
+        if !is_whole(alloc, row) {
+            return count;
         }
+        count = count.saturating_add(1);
     }
     count
 }
@@ -368,10 +377,15 @@ fn count_large(alloc: Global, rows: &[Large]) -> usize {
 /// The last have the first two formats' most entries and largest orders, and more than 2^16 bytes.
 #[test]
 fn texts_and_certificates(rt: HostRuntime) {
-    assert!(rt; count_back(rt.alloc(), &OWN) == 9);
-    assert!(rt; count_refused(rt.alloc(), &OTHERS) == 30);
-    assert!(rt; first_not_refused(rt.alloc(), OF_0_75) == OF_0_75.len());
-    assert!(rt; lines_lent(rt.alloc()) == [true; 8]);
-    assert!(rt; first_wrong_write(rt.alloc()) == 99);
-    assert!(rt; count_large(rt.alloc(), &LARGE) == 3);
+    compare(&rt, "OWN", count_back(rt.alloc(), &OWN), 9);
+    compare(&rt, "OTHERS", count_refused(rt.alloc(), &OTHERS), 30);
+    compare(
+        &rt,
+        "beginnings",
+        first_not_refused(rt.alloc(), OF_0_75),
+        OF_0_75.len(),
+    );
+    compare(&rt, "lines", lines_lent(rt.alloc()), [true; 8]);
+    compare(&rt, "writes", first_wrong_write(rt.alloc()), 99);
+    compare(&rt, "LARGE", count_large(rt.alloc(), &LARGE), 3);
 }

@@ -2,6 +2,7 @@
 //! refused.
 ghost use Rattle.std.specs.Prelude.{◌<◌, All, IsTrue};
 
+use crate::comparing::compare;
 use compact_certificates::products::push_product;
 use compact_certificates::separators::least_separators;
 use presentations::{Named, Presentation, table_of};
@@ -159,7 +160,7 @@ pub fn of_nim_is_made<A: Allocator + Copy>(alloc: A) -> Result<bool, u8> {
     is_made(alloc, &OF_NIM)
 }
 
-/// How many rows hold.
+/// How many rows hold, up to the first that doesn't.
 fn count_made(alloc: Global, rows: &[Worked]) -> usize {
     let mut held = 0usize;
     for worked in rows {
@@ -253,6 +254,6 @@ fn of_kayles_is_made(alloc: Global) -> Option<bool> {
 
 #[test]
 fn rows_and_separators_are_made(rt: HostRuntime) {
-    assert!(rt; count_made(rt.alloc(), &WORKED) == 7);
-    assert!(rt; of_kayles_is_made(rt.alloc()) == Some(true));
+    compare(&rt, "WORKED", count_made(rt.alloc(), &WORKED), 7);
+    compare(&rt, "Kayles", of_kayles_is_made(rt.alloc()), Some(true));
 }

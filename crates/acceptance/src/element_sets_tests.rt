@@ -1,4 +1,5 @@
 //! Sets at the edges of their lanes.
+use crate::comparing::compare;
 use element_sets::{ElementSet, LaneSet, MOST_ELEMENTS, members_are_small};
 use std::alloc::{AllocError, Global};
 
@@ -108,17 +109,44 @@ fn the_widest_translates(alloc: Global) -> Result<bool, AllocError> {
     Ok(edges.translate(&row) == lane_set(&[0, 4031, 4032, 4095]))
 }
 
+/// How many bytes sets of 1, 4, 16 and 64 lanes have.
+fn sizes() -> [usize; 4] {
+    [
+        size_of::<LaneSet<1>>(),
+        size_of::<LaneSet<4>>(),
+        size_of::<LaneSet<16>>(),
+        size_of::<LaneSet<64>>(),
+    ]
+}
+
 /// A set is a bit for each of 512 elements, or of as many as its lanes have.
 #[test]
 fn sets(rt: HostRuntime) {
-    assert!(rt; MOST_ELEMENTS == 512 && size_of::<ElementSet>() == 64);
-    assert!(rt; size_of::<LaneSet<1>>() == 8 && size_of::<LaneSet<4>>() == 32);
-    assert!(rt; size_of::<LaneSet<16>>() == 128 && size_of::<LaneSet<64>>() == 512);
-    assert!(rt; set_of(&[0, 255, 511]).meets(&set_of(&[511])));
-    assert!(rt; edges_hold() == [true; 8]);
-    assert!(rt; range_holds() == [true; 5]);
-    assert!(rt; wide_sets_hold() == [true; 6]);
-    assert!(rt; matches!(translates_from_the_other_end(rt.alloc()), Ok(true)));
-    assert!(rt; matches!(four_lanes_hold(rt.alloc()), Ok(true)));
-    assert!(rt; matches!(the_widest_translates(rt.alloc()), Ok(true)));
+    compare(
+        &rt,
+        "elements and bytes",
+        (MOST_ELEMENTS, size_of::<ElementSet>()),
+        (512, 64),
+    );
+    compare(&rt, "bytes of lanes", sizes(), [8, 32, 128, 512]);
+    compare(
+        &rt,
+        "a set meets",
+        set_of(&[0, 255, 511]).meets(&set_of(&[511])),
+        true,
+    );
+    compare(&rt, "edges", edges_hold(), [true; 8]);
+    compare(&rt, "ranges", range_holds(), [true; 5]);
+    compare(&rt, "wide sets", wide_sets_hold(), [true; 6]);
+    let translated = [
+        matches!(translates_from_the_other_end(rt.alloc()), Ok(true)),
+        matches!(four_lanes_hold(rt.alloc()), Ok(true)),
+        matches!(the_widest_translates(rt.alloc()), Ok(true)),
+    ];
+    compare(
+        &rt,
+        "translations of 8, 4 and 64 lanes",
+        translated,
+        [true; 3],
+    );
 }

@@ -1,8 +1,9 @@
 //! Jobs with each growth of memory refused in turn.
+use crate::comparing::compare;
 use crate::transition_algebra_tests::Heaps;
 use crate::{
-    certificate_tests, compact_certificates_tests, octal_code_tests, outcome_search_tests,
-    pair_closure_tests, positions_tests, presentations_tests, quotient_solver_tests, streams_tests,
+    certificate_tests, compact_certificates_tests, guesses_tests, octal_code_tests,
+    outcome_search_tests, pair_closure_tests, positions_tests, presentations_tests, streams_tests,
     third_format_lines_tests, transition_algebra_tests,
 };
 use allocation::SmallAllocator;
@@ -72,7 +73,7 @@ fn answer<A: SmallAllocator + Copy>(alloc: A, job: Job) -> Result<bool, u8> {
             &[1, 1, 1, 1, 1, 1, 2, 2],
         ),
         Job::Table => presentations_tests::has_eight(alloc),
-        Job::Quotient => quotient_solver_tests::is_of_eight(alloc),
+        Job::Quotient => guesses_tests::is_of_eight(alloc),
         Job::Certificate => certificate_tests::is_read(alloc),
         Job::Order => certificate_tests::is_refused(alloc),
         Job::ThirdFormat => third_format_lines_tests::is_read(alloc),
@@ -106,37 +107,48 @@ fn first_not_needed(alloc: Global, job: Job, most: u64) -> Option<u64> {
 /// A job, the least growth that may not come, and the first that is too many. Up to eight heaps
 /// take no memory, nor does a move after which there are eight, nor an order with nothing behind
 /// it: in `FewHeaps` just the ninth heap does.
+static ROWS: [(Job, u64, u64); 19] = [
+    (Job::Code, 1, 9),
+    (Job::Outcome("1 2 2"), 1, 99),
+    (Job::Outcome("1 1 1 1 1 1 1 1 1 1 1 1"), 1, 99),
+    (Job::Sum, 2, 99),
+    (Job::Move, 2, 99),
+    (Job::Text, 1, 99),
+    (Job::FewHeaps, 2, 3),
+    (Job::MoveOfFew, 1, 2),
+    (Job::MoveToThree, 1, 2),
+    (Job::Table, 1, 999),
+    (Job::Quotient, 1, 100_000),
+    (Job::Certificate, 6, 40),
+    (Job::Order, 1, 2),
+    (Job::ThirdFormat, 20, 100),
+    (Job::Products, 5, 20),
+    (Job::Stream, 2, 9),
+    (Job::Heaps(Heaps::OfEight), 1, 1000),
+    (Job::Heaps(Heaps::OfThreeParts), 1, 1000),
+    (Job::Closure, 7, 100),
+];
+
+/// How many jobs need as many growths as they may, up to the first that doesn't.
+fn count_held(alloc: Global, rows: &[(Job, u64, u64)]) -> usize {
+    let mut count = 0usize;
+    for (job, least, most) in rows {
+        if first_not_needed(alloc, *job, *most) < Some(*least) {
+            return count;
+        }
+        count = count.saturating_add(1);
+    }
+    count
+}
+
 #[test]
 fn each_growth_may_be_refused(rt: HostRuntime) {
-    let rows = [
-        (Job::Code, 1, 9),
-        (Job::Outcome("1 2 2"), 1, 99),
-        (Job::Outcome("1 1 1 1 1 1 1 1 1 1 1 1"), 1, 99),
-        (Job::Sum, 2, 99),
-        (Job::Move, 2, 99),
-        (Job::Text, 1, 99),
-        (Job::FewHeaps, 2, 3),
-        (Job::MoveOfFew, 1, 2),
-        (Job::MoveToThree, 1, 2),
-        (Job::Table, 1, 999),
-        (Job::Quotient, 1, 100_000),
-        (Job::Certificate, 6, 40),
-        (Job::Order, 1, 2),
-        (Job::ThirdFormat, 20, 100),
-        (Job::Products, 5, 20),
-        (Job::Stream, 2, 9),
-        (Job::Heaps(Heaps::OfEight), 1, 1000),
-        (Job::Heaps(Heaps::OfThreeParts), 1, 1000),
-        (Job::Closure, 7, 100),
-    ];
-    for (job, least, most) in rows {
-        let n = first_not_needed(rt.alloc(), job, most);
-        assert!(rt; n >= Some(least), "{least} to {most}");
-    }
+    compare(&rt, "ROWS", count_held(rt.alloc(), &ROWS), 19);
 }
 
 /// Nine heaps, so that each position that waits takes memory of its own.
 #[test]
 fn says_memory_on_a_large_position(rt: HostRuntime) {
-    assert!(rt; answer_with(rt.alloc(), Job::LargeOutcome, 10000) == (Err(9), true));
+    let answer = answer_with(rt.alloc(), Job::LargeOutcome, 10000);
+    compare(&rt, "nine heaps", answer, (Err(9), true));
 }

@@ -2,6 +2,7 @@
 ghost use Rattle.std.specs.Prelude.{◌≡◌, All, IfSome};
 ghost use Rattle.transition_algebra.specs.Pairs.{IsPair};
 
+use crate::comparing::compare;
 use crate::pair_closure_tests::length_of;
 use element_sets::{ElementSet, members_are_small};
 use monoid_table::Table;
@@ -87,5 +88,5 @@ fn count_kept(alloc: Global) -> Option<[u32; 9]> {
 #[test]
 fn keeps_more_than_65536_members(rt: HostRuntime) {
     let wanted = [1, 24, 252 + 24, 1512, 5670, 13608, 20412, 17496, 6561];
-    assert!(rt; count_kept(rt.alloc()) == Some(wanted));
+    compare(&rt, "members", count_kept(rt.alloc()), Some(wanted));
 }

@@ -7,9 +7,13 @@ mod certificate_tests;
 #[cfg(test)]
 mod compact_certificates_tests;
 #[cfg(test)]
+mod comparing;
+#[cfg(test)]
 mod element_sets_tests;
 #[cfg(test)]
 mod growths;
+#[cfg(test)]
+mod guesses_tests;
 #[cfg(test)]
 mod known_monoids;
 #[cfg(test)]
@@ -28,8 +32,6 @@ mod periods_tests;
 mod positions_tests;
 #[cfg(test)]
 mod presentations_tests;
-#[cfg(test)]
-mod quotient_solver_tests;
 #[cfg(test)]
 mod ration_tests;
 #[cfg(test)]

@@ -1,6 +1,7 @@
 //! The monoid of a^3 = a, whose elements are 1, a and a^2, and rows that are no table.
 ghost use Rattle.std.specs.Prelude.{◌≡◌};
 
+use crate::comparing::compare;
 use monoid_table::{LawFault, Table, TableJob, power, product};
 use std::alloc::{AllocError, Global};
 
@@ -70,7 +71,7 @@ fn work_twice(
 
 #[test]
 fn products_and_powers(rt: HostRuntime) {
-    assert!(rt; has_products(rt.alloc()));
+    compare(&rt, "products", has_products(rt.alloc()), true);
 }
 
 /// The products of the second rows don't associate.
@@ -85,24 +86,37 @@ fn triples_in_pieces(rt: HostRuntime) {
             ([Ok(false), Err(LawFault::Law)], 15),
         ),
     ] {
-        assert!(rt; work_twice(rt.alloc(), rows, first, more) == Some(wanted));
+        compare(
+            &rt,
+            "triples",
+            work_twice(rt.alloc(), rows, first, more),
+            Some(wanted),
+        );
     }
 }
 
-/// Whether the rows of two elements are refused so.
-fn is_refused(alloc: Global, rows: &[u16], wanted: LawFault) -> bool {
+/// Why the rows of two elements are refused, if they are.
+fn refused(alloc: Global, rows: &[u16]) -> Option<LawFault> {
     match table_of(alloc, 2, rows) {
-        Ok(_) => false,
-        Err(fault) => fault == wanted,
+        Ok(_) => None,
+        Err(fault) => Some(fault),
     }
 }
 
 /// Rows that are short, of no commutative product, and of another identity.
 #[test]
 fn rows_that_are_no_table(rt: HostRuntime) {
-    assert!(rt; is_refused(rt.alloc(), &[0, 1, 1], LawFault::Shape));
-    assert!(rt; is_refused(rt.alloc(), &[0, 1, 0, 1], LawFault::Law));
-    assert!(rt; is_refused(rt.alloc(), &[1, 0, 0, 1], LawFault::Law));
+    let short = refused(rt.alloc(), &[0, 1, 1]);
+    compare(&rt, "short", short, Some(LawFault::Shape));
+    let not_commutative = refused(rt.alloc(), &[0, 1, 0, 1]);
+    compare(&rt, "not commutative", not_commutative, Some(LawFault::Law));
+    let of_another_identity = refused(rt.alloc(), &[1, 0, 0, 1]);
+    compare(
+        &rt,
+        "another identity",
+        of_another_identity,
+        Some(LawFault::Law),
+    );
 }
 
 /// The rows of the cyclic group of so many elements.
@@ -145,6 +159,11 @@ fn tables_of_many_elements(rt: HostRuntime) {
         (4096, Ok(4094)),
         (4097, Err(1)),
     ] {
-        assert!(rt; last_squared(rt.alloc(), order) == product);
+        compare(
+            &rt,
+            "order and product",
+            (order, last_squared(rt.alloc(), order)),
+            (order, product),
+        );
     }
 }

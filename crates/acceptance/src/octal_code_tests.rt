@@ -1,4 +1,5 @@
 //! Codes read and written.
+use crate::comparing::compare;
 use octal_code::{Code, CodeFault};
 use std::alloc::{Allocator, Global};
 
@@ -65,7 +66,7 @@ static ROWS: [(&[u8], Result<bool, u8>); 43] = [
     (b"8.", Err(1)),
 ];
 
-/// How many rows hold.
+/// How many rows hold, up to the first that doesn't.
 fn count_held(alloc: Global, rows: &[(&[u8], Result<bool, u8>)]) -> usize {
     let mut held = 0usize;
     for (bytes, wanted) in rows {
@@ -77,21 +78,22 @@ fn count_held(alloc: Global, rows: &[(&[u8], Result<bool, u8>)]) -> usize {
     held
 }
 
-/// Whether the code has two digits after the point, these are its digits, and whether it is octal.
-fn has_digits(bytes: &[u8], digits: [u8; 4], is_octal: bool) -> bool {
+/// How many digits the code has after the point, its first four, and whether it is octal.
+fn digits_of(bytes: &[u8]) -> Option<(u8, [u8; 4], bool)> {
     match Code::read(bytes) {
         Ok(code) => {
-            let found = [code.digit(0), code.digit(1), code.digit(2), code.digit(3)];
-            code.last() == 2 && found == digits && code.is_octal() == is_octal
+            let digits = [code.digit(0), code.digit(1), code.digit(2), code.digit(3)];
+            Some((code.last(), digits, code.is_octal()))
         }
-        Err(_) => false,
+        Err(_) => None,
     }
 }
 
 #[test]
 fn codes(rt: HostRuntime) {
-    assert!(rt; count_held(rt.alloc(), &ROWS) == 43);
-    assert!(rt; CodeFault::NotACode.number() == 1 && CodeFault::TooLong.number() == 2);
+    compare(&rt, "ROWS", count_held(rt.alloc(), &ROWS), 43);
+    let numbers = [CodeFault::NotACode.number(), CodeFault::TooLong.number()];
+    compare(&rt, "faults", numbers, [1, 2]);
     for (bytes, digits, is_octal) in [
         (b"4.07", [4, 0, 7, 0], true),
         (b"4.08", [4, 0, 8, 0], false),
@@ -99,6 +101,6 @@ fn codes(rt: HostRuntime) {
         (b"c.af", [12, 10, 15, 0], false),
         (b"0.9b", [0, 9, 11, 0], false),
     ] {
-        assert!(rt; has_digits(bytes, digits, is_octal));
+        compare(&rt, "digits", digits_of(bytes), Some((2, digits, is_octal)));
     }
 }

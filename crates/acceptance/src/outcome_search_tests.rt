@@ -1,4 +1,5 @@
 //! Outcomes of worked positions, and the budget.
+use crate::comparing::compare;
 use allocation::SmallAllocator;
 use octal_code::Code;
 use outcome_search::{Outcome, SearchFault, outcome};
@@ -72,7 +73,7 @@ static ROWS: [(&str, &str, u32, Result<Outcome, SearchFault>); 24] = [
     ("0.75", NINE, 65536, Err(SearchFault::Budget)),
 ];
 
-/// How many rows hold.
+/// How many rows hold, up to the first that doesn't.
 fn count_held(alloc: Global, rows: &[(&str, &str, u32, Result<Outcome, SearchFault>)]) -> usize {
     let mut held = 0usize;
     for (code, text, budget, wanted) in rows {
@@ -161,12 +162,17 @@ fn a_thousand_sizes_have(alloc: Global) -> bool {
 
 #[test]
 fn finds_outcomes(rt: HostRuntime) {
-    assert!(rt; count_held(rt.alloc(), &ROWS) == 24);
+    compare(&rt, "ROWS", count_held(rt.alloc(), &ROWS), 24);
 }
 
 #[test]
 fn memory_suffices_for_many_heaps(rt: HostRuntime) {
-    assert!(rt; count_ones(rt.alloc()) == 70);
-    assert!(rt; a_thousand_ones_have(rt.alloc()));
-    assert!(rt; a_thousand_sizes_have(rt.alloc()));
+    compare(&rt, "heaps of 1", count_ones(rt.alloc()), 70);
+    compare(
+        &rt,
+        "1000 heaps of 1",
+        a_thousand_ones_have(rt.alloc()),
+        true,
+    );
+    compare(&rt, "1000 sizes", a_thousand_sizes_have(rt.alloc()), true);
 }

@@ -1,10 +1,12 @@
 //! The closure of the game 0.3, whole and with growths refused.
+use crate::comparing::compare;
 use allocation::SmallAllocator;
 use monoid_table::Table;
 use octal_code::Code;
 use pair_closure::{Closure, Grown};
+use pretending::Phi;
 use std::alloc::Global;
-use transition_algebra::{Pair, Phi, heap_pairs};
+use transition_algebra::{Pair, heap_pairs};
 
 /// The closure of 0.3 over its quotient of two elements.
 fn three<A: SmallAllocator + Copy>(alloc: A, limit: u32) -> Option<Closure<8, A>> {
@@ -68,15 +70,15 @@ fn grows_to_three(closure: &mut Closure<8>) -> [bool; 7] {
     ]
 }
 
-/// Whether the closure grows so, and was given two elements and seven pairs.
-fn keeps_three(alloc: Global) -> bool {
+/// The same of the closure, and how many elements and pairs it was given.
+fn keeps_three(alloc: Global) -> Option<([bool; 7], (u16, usize))> {
     match three(alloc, 3) {
         Some(mut closure) => {
             let grows = grows_to_three(&mut closure);
             let (table, pairs) = closure.finish();
-            grows == [true; 7] && (table.order(), pairs.len()) == (2, 7)
+            Some((grows, (table.order(), pairs.len())))
         }
-        None => false,
+        None => None,
     }
 }
 
@@ -130,8 +132,13 @@ fn end_of(alloc: Global, limit: u32, units: u64) -> (Option<Grown>, u64, u128) {
 /// unless the limit comes first.
 #[test]
 fn members_and_turns(rt: HostRuntime) {
-    assert!(rt; keeps_three(rt.alloc()));
-    assert!(rt; stops_at_each(rt.alloc()));
+    compare(
+        &rt,
+        "three members",
+        keeps_three(rt.alloc()),
+        Some(([true; 7], (2, 7))),
+    );
+    compare(&rt, "one by one", stops_at_each(rt.alloc()), true);
     for (limit, end, ever, spent) in [
         (3, Grown::Done, 3, 10),
         (2, Grown::Over, 3, 3),
@@ -139,7 +146,13 @@ fn members_and_turns(rt: HostRuntime) {
         (0, Grown::Over, 1, 1),
     ] {
         for units in [1, 7, u64::MAX] {
-            assert!(rt; end_of(rt.alloc(), limit, units) == (Some(end), ever, spent));
+            let ends_so = end_of(rt.alloc(), limit, units) == (Some(end), ever, spent);
+            compare(
+                &rt,
+                "limit and units",
+                (limit, units, ends_so),
+                (limit, units, true),
+            );
         }
     }
 }

@@ -1,4 +1,5 @@
 //! Rows of numbers and their least periods.
+use crate::comparing::compare;
 use periods::least_period;
 
 #[test]
@@ -12,6 +13,11 @@ fn periods_are_least(rt: HostRuntime) {
         (&[7, 7], Some((1, 1))),
     ];
     for (entries, found) in rows {
-        assert!(rt; least_period(entries) == found);
+        compare(
+            &rt,
+            "entries and period",
+            (entries.len(), least_period(entries)),
+            (entries.len(), found),
+        );
     }
 }

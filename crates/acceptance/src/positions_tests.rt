@@ -1,4 +1,5 @@
 //! Options, moves, and the texts of positions.
+use crate::comparing::compare;
 use allocation::SmallAllocator;
 use octal_code::Code;
 use positions::{Left, Move, MoveFault, Position, apply, options};
@@ -58,7 +59,7 @@ static OPTIONS: [(&str, u64, &[Left]); 13] = [
     ("8.1", 2, &[]),
 ];
 
-/// How many rows hold.
+/// How many rows hold, up to the first that doesn't.
 fn count_listed(alloc: Global, rows: &[(&str, u64, &[Left])]) -> usize {
     let mut held = 0usize;
     for (text, heap, wanted) in rows {
@@ -83,7 +84,7 @@ fn far_options(text: &[u8]) -> [Option<Left>; 3] {
 
 #[test]
 fn lists_options(rt: HostRuntime) {
-    assert!(rt; count_listed(rt.alloc(), &OPTIONS) == 13);
+    compare(&rt, "OPTIONS", count_listed(rt.alloc(), &OPTIONS), 13);
     let one = Left::One(999_999_999_999_999_999);
     let two = [
         Left::Two(1, 999_999_999_999_999_998),
@@ -93,8 +94,18 @@ fn lists_options(rt: HostRuntime) {
         Left::Three(1, 1, 999_999_999_999_999_997),
         Left::Three(1, 2, 999_999_999_999_999_996),
     ];
-    assert!(rt; far_options(b"0.75") == [Some(one), Some(two[0]), Some(two[1])]);
-    assert!(rt; far_options(b"0.b") == [Some(one), Some(three[0]), Some(three[1])]);
+    compare(
+        &rt,
+        "0.75",
+        far_options(b"0.75"),
+        [Some(one), Some(two[0]), Some(two[1])],
+    );
+    compare(
+        &rt,
+        "0.b",
+        far_options(b"0.b"),
+        [Some(one), Some(three[0]), Some(three[1])],
+    );
 }
 
 /// 64 heaps of 1.
@@ -144,7 +155,7 @@ fn count_of(alloc: Global, bytes: &[u8]) -> Result<usize, u8> {
     }
 }
 
-/// How many rows hold.
+/// How many rows hold, up to the first that doesn't.
 fn count_read(alloc: Global, rows: &[(&[u8], Result<usize, u8>)]) -> usize {
     let mut held = 0usize;
     for (bytes, wanted) in rows {
@@ -163,9 +174,14 @@ fn reads_positions(rt: HostRuntime) {
         ("0", "0"),
         ("1000000000000000000 7", "7 1000000000000000000"),
     ] {
-        assert!(rt; is_read_as(rt.alloc(), text.as_bytes(), wanted) == Ok(true));
+        compare(
+            &rt,
+            text,
+            is_read_as(rt.alloc(), text.as_bytes(), wanted),
+            Ok(true),
+        );
     }
-    assert!(rt; count_read(rt.alloc(), &TEXTS) == 9);
+    compare(&rt, "TEXTS", count_read(rt.alloc(), &TEXTS), 9);
 }
 
 /// What the move from a heap leaves of the position.
@@ -228,7 +244,7 @@ static MOVES: [Made; 7] = [
     (b"0.b", b"6", (6, Left::Two(2, 3)), Err(2), &[]),
 ];
 
-/// How many rows hold.
+/// How many rows hold, up to the first that doesn't.
 fn count_made(alloc: Global, rows: &[Made]) -> usize {
     let mut held = 0usize;
     for (code, text, step, wanted, heaps) in rows {
@@ -242,8 +258,12 @@ fn count_made(alloc: Global, rows: &[Made]) -> usize {
 
 #[test]
 fn makes_moves(rt: HostRuntime) {
-    assert!(rt; MoveFault::NoSuchHeap.number() == 1 && MoveFault::NotAllowed.number() == 2);
-    assert!(rt; count_made(rt.alloc(), &MOVES) == 7);
+    let numbers = [
+        MoveFault::NoSuchHeap.number(),
+        MoveFault::NotAllowed.number(),
+    ];
+    compare(&rt, "faults", numbers, [1, 2]);
+    compare(&rt, "MOVES", count_made(rt.alloc(), &MOVES), 7);
 }
 
 /// Whether the position added to itself has these heaps, or the number of the fault.
@@ -314,7 +334,7 @@ fn count_doubled(alloc: Global) -> usize {
 /// and past 2^16 heaps.
 #[test]
 fn memory_suffices_for_many_heaps(rt: HostRuntime) {
-    assert!(rt; count_doubled(rt.alloc()) == 14);
+    compare(&rt, "doubled", count_doubled(rt.alloc()), 14);
 }
 
 /// Four heaps read, added to themselves, and copied.

@@ -1,9 +1,11 @@
 //! Worked presentations.
 ghost use Rattle.std.specs.Prelude.{◌≡◌, length};
 
+use crate::comparing::compare;
 use crate::texts::{Repeats, text_of};
 use presentations::{
-    Generator, Named, PresFault, Presentation, Relation, VectorRelation, related_is_least, table_of,
+    Named, NamedElement, PresFault, Presentation, Relation, VectorRelation, related_is_least,
+    table_of,
 };
 use std::alloc::{AllocError, Allocator, Global};
 
@@ -74,7 +76,7 @@ const EIGHT: &[u16] = &[
 ];
 
 /// Whether the letters have these elements.
-fn are_elements(generators: &[Generator], elements: &[u16]) -> bool {
+fn are_elements(generators: &[NamedElement], elements: &[u16]) -> bool {
     for (generator, element) in generators.iter().zip(elements) {
         if generator.element != *element {
             return false;
@@ -304,19 +306,23 @@ fn tables_within_limits(rt: HostRuntime) {
         (3, 6, 215, Err(3)),
         (4, 4, u32::MAX, Ok(256)),
     ] {
-        assert!(rt; order_of(rt.alloc(), count, exponent, limit) == wanted);
+        let row = (count, exponent, limit);
+        let order = order_of(rt.alloc(), count, exponent, limit);
+        compare(&rt, "row and order", (row, order), (row, wanted));
     }
 }
 
 /// At most 64 relations are read.
 #[test]
 fn texts_and_tables(rt: HostRuntime) {
-    assert!(rt; count_faults(rt.alloc(), &REFUSALS) == 28);
-    assert!(rt; count_tables(rt.alloc(), &TABLES) == 8);
-    assert!(rt; is_box(rt.alloc(), "a^16=a b^16=b c^16=c d^16=d a=b b=c c=d"));
-    assert!(rt; reads_words(rt.alloc()));
-    assert!(rt; count_in(rt.alloc(), &MOST) == Ok(64));
-    assert!(rt; count_in(rt.alloc(), &TOO_MANY) == Err(PresFault::Text.number()));
-    assert!(rt; memory_suffices(rt.alloc()));
+    compare(&rt, "REFUSALS", count_faults(rt.alloc(), &REFUSALS), 28);
+    compare(&rt, "TABLES", count_tables(rt.alloc(), &TABLES), 8);
+    let is_of_sixteen = is_box(rt.alloc(), "a^16=a b^16=b c^16=c d^16=d a=b b=c c=d");
+    compare(&rt, "four letters", is_of_sixteen, true);
+    compare(&rt, "words", reads_words(rt.alloc()), true);
+    compare(&rt, "MOST", count_in(rt.alloc(), &MOST), Ok(64));
+    let too_many = Err(PresFault::Text.number());
+    compare(&rt, "TOO_MANY", count_in(rt.alloc(), &TOO_MANY), too_many);
+    compare(&rt, "the longest", memory_suffices(rt.alloc()), true);
     related_is_least::<SameLength>();
 }

@@ -1,5 +1,6 @@
 //! The lines of a certificate in the third format, each changed in turn.
 use crate::certificate_tests::{comes_back, fault_of};
+use crate::comparing::compare;
 use crate::texts::{Repeats, text_of};
 use certificate::{TextFault, read};
 use std::alloc::{Allocator, Global};
@@ -157,30 +158,43 @@ static REFUSED: [(&str, &str); 66] = [
     ("\nend\n", "\nend\n\n"),
 ];
 
-/// How many changed texts are read and written.
+/// Whether the changed text is read and written.
+fn is_kept(alloc: Global, text: &str, row: &(&str, &str, &[u16], &[u16])) -> bool {
+    let (old, new, rows, apart) = *row;
+    match changed(alloc, text, old, new) {
+        Some(other) => has_table(alloc, other.as_bytes(), rows, apart),
+        None => false,
+    }
+}
+
+/// Whether the changed text is refused as no certificate.
+fn is_refused(alloc: Global, text: &str, old: &str, new: &str) -> bool {
+    match changed(alloc, text, old, new) {
+        Some(other) => fault_of(alloc, other.as_bytes()) == Err(TextFault::Text),
+        None => false,
+    }
+}
+
+/// How many changed texts are read and written, up to the first that isn't.
 fn count_kept(alloc: Global, text: &str) -> usize {
     let mut held = 0usize;
-    for (old, new, rows, apart) in &KEPT {
-        match changed(alloc, text, old, new) {
-            Some(other) if has_table(alloc, other.as_bytes(), rows, apart) => {
-                held = held.saturating_add(1);
-            }
-            _ => return held,
+    for row in &KEPT {
+        if !is_kept(alloc, text, row) {
+            return held;
         }
+        held = held.saturating_add(1);
     }
     held
 }
 
-/// How many changed texts are refused as no certificate.
+/// How many changed texts are refused as no certificate, up to the first that isn't.
 fn count_refused(alloc: Global, text: &str) -> usize {
     let mut held = 0usize;
     for (old, new) in &REFUSED {
-        match changed(alloc, text, old, new) {
-            Some(other) if fault_of(alloc, other.as_bytes()) == Err(TextFault::Text) => {
-                held = held.saturating_add(1);
-            }
-            _ => return held,
+        if !is_refused(alloc, text, old, new) {
+            return held;
         }
+        held = held.saturating_add(1);
     }
     held
 }
@@ -208,5 +222,5 @@ fn counts(alloc: Global) -> Option<(usize, usize)> {
 
 #[test]
 fn each_line_is_as_it_has_to_be(rt: HostRuntime) {
-    assert!(rt; counts(rt.alloc()) == Some((6, 66)));
+    compare(&rt, "KEPT and REFUSED", counts(rt.alloc()), Some((6, 66)));
 }

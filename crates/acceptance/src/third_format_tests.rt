@@ -1,6 +1,7 @@
 //! Certificates in the third format: of monoids that are known by rule, at the edges of the format,
 //! and of the most bytes.
 use crate::certificate_tests::{comes_back, fault_of};
+use crate::comparing::compare;
 use crate::known_monoids::{Known, Rule, Third, third_text};
 use crate::texts::{Repeats, text_of};
 use certificate::{Cert, TextFault, read};
@@ -121,7 +122,7 @@ static KEPT: [Third; 8] = [
     Third(Rule::Tame(8, 256), "c.f", 4096, 1),
 ];
 
-/// How many certificates are read and written.
+/// How many certificates are read and written, up to the first that isn't.
 fn count_kept(alloc: Global, rows: &[Third]) -> usize {
     let mut held = 0usize;
     for third in rows {
@@ -154,7 +155,7 @@ fn is_not_kept(alloc: Global, third: Third) -> Result<bool, AllocError> {
     Ok(fault_of(alloc, text.as_bytes()) == Err(TextFault::Text))
 }
 
-/// How many texts are refused.
+/// How many texts are refused, up to the first that isn't.
 fn count_not_kept(alloc: Global, rows: &[Third]) -> usize {
     let mut held = 0usize;
     for third in rows {
@@ -258,15 +259,25 @@ fn long_text(alloc: Global, blocks: &[(Repeats, usize)]) -> (usize, Result<bool,
 
 #[test]
 fn products_and_separators_are_made_anew(rt: HostRuntime) {
-    assert!(rt; count_kept(rt.alloc(), &KEPT) == 8);
+    compare(&rt, "KEPT", count_kept(rt.alloc(), &KEPT), 8);
 }
 
 #[test]
 fn edges_of_the_third_format(rt: HostRuntime) {
-    assert!(rt; count_not_kept(rt.alloc(), &NOT_KEPT) == 9);
-    for blocks in [OF_513.as_slice(), OF_1025.as_slice()] {
-        assert!(rt; long_text(rt.alloc(), blocks).1 == Err(TextFault::Text));
-    }
-    assert!(rt; long_text(rt.alloc(), &LONGEST) == (4_194_304, Ok(true)));
-    assert!(rt; long_text(rt.alloc(), &TOO_LONG) == (4_194_305, Err(TextFault::Text)));
+    compare(&rt, "NOT_KEPT", count_not_kept(rt.alloc(), &NOT_KEPT), 9);
+    let refused = Err(TextFault::Text);
+    compare(&rt, "OF_513", long_text(rt.alloc(), &OF_513).1, refused);
+    compare(&rt, "OF_1025", long_text(rt.alloc(), &OF_1025).1, refused);
+    compare(
+        &rt,
+        "LONGEST",
+        long_text(rt.alloc(), &LONGEST),
+        (4_194_304, Ok(true)),
+    );
+    compare(
+        &rt,
+        "TOO_LONG",
+        long_text(rt.alloc(), &TOO_LONG),
+        (4_194_305, refused),
+    );
 }

@@ -1,14 +1,16 @@
 //! The pairs of the heaps of 0.75, of a game whose moves leave three heaps, and of a part of 0.3.
 ghost use Rattle.std.specs.Prelude.{◌≡◌, ◌≤◌, All, IfSome};
-ghost use Rattle.transition_algebra.specs.Heaps.{IsInto};
+ghost use Rattle.pretending.specs.Tables.{IsInto};
 ghost use Rattle.transition_algebra.specs.Pairs.{IsPair};
 
+use crate::comparing::compare;
 use allocation::SmallAllocator;
 use element_sets::ElementSet;
 use monoid_table::{CommMonoid, Table, is_monoid};
 use octal_code::Code;
+use pretending::Phi;
 use std::alloc::{Allocator, Global};
-use transition_algebra::{HeapJob, Pair, Pairs, Phi, heap_pairs};
+use transition_algebra::{HeapJob, Pair, Pairs, heap_pairs};
 
 /// The elements 1, a, b, c, ab², ab, ac, b², for a² = 1, b³ = b, bc = ab, c² = b².
 const ROWS: [u16; 64] = [
@@ -184,8 +186,8 @@ fn multiply(table: &Table, pairs: &[Pair]) -> bool
     monoid.times(&pairs[0], &pairs[8]) == pair(7, &[2, 3, 4, 5]) && monoid.one() == pair(0, &[])
 }
 
-/// Whether the pairs of the heaps are those worked out by hand, and multiply, and the heap 10^18
-/// has the element 2.
+/// The pairs of the heaps under the code, by its quotient: whether they are those worked out by hand,
+/// and multiply, and the heap 10^18 has the element 2.
 fn have_pairs(alloc: Global, code: &Code) -> bool {
     match quotient(alloc) {
         Some((table, phi)) => match heap_pairs(alloc, code, &table, &phi) {
@@ -230,14 +232,33 @@ fn most_have_pairs(alloc: Global, code: &Code) -> bool {
     }
 }
 
+/// Whether the heaps of 0.75 have their pairs.
+fn of_75_have_pairs(alloc: Global) -> bool {
+    match Code::read(b"0.75") {
+        Ok(code) => have_pairs(alloc, &code),
+        Err(_) => false,
+    }
+}
+
+/// Whether the heaps of 0.7 have as many pairs as they may.
+fn of_7_have_pairs(alloc: Global) -> bool {
+    match Code::read(b"0.7") {
+        Ok(code) => most_have_pairs(alloc, &code),
+        Err(_) => false,
+    }
+}
+
 #[test]
 fn heaps_have_their_pairs(rt: HostRuntime) {
     for heaps in [Heaps::OfEight, Heaps::OfThreeParts, Heaps::OfPart] {
-        assert!(rt; in_pieces(rt.alloc(), heaps, 1) == Ok(true));
+        let in_units = in_pieces(rt.alloc(), heaps, 1);
+        compare(
+            &rt,
+            "heaps in units",
+            (heaps.count(), in_units),
+            (heaps.count(), Ok(true)),
+        );
     }
-    let (Ok(of_75), Ok(of_7)) = (Code::read(b"0.75"), Code::read(b"0.7")) else {
-        panic!(rt; "no code");
-    };
-    assert!(rt; have_pairs(rt.alloc(), &of_75));
-    assert!(rt; most_have_pairs(rt.alloc(), &of_7));
+    compare(&rt, "0.75", of_75_have_pairs(rt.alloc()), true);
+    compare(&rt, "0.7", of_7_have_pairs(rt.alloc()), true);
 }

@@ -3,8 +3,8 @@ use Rattle.std.proofs.Common.{◌≡◌, ℕ, ◌*◌, ◌^◌, ◌≤◌, ◌�
 use Rattle.misere_theory.specs.Quotients.{Monoid, Represents}
 use Rattle.misere_theory.specs.Certificates.{Certificate, kind_of, IsHeapOf, Accepted, Canonical, claim_of, times_of}
 use Rattle.misere_theory.specs.Verdicts.{Verdict, IsAllowed}
-use Rattle.misere_theory.specs.Verdicts.Verdict.{No as Faulty, Outcome as Fails, Limit as Over}
-use Rattle.misere_theory.proofs.Verdicts.{yes_or_limit, outcome_or_limit, never_past_all_pairs}
+use Rattle.misere_theory.specs.Verdicts.Verdict.{Faulty, Fails, Over}
+use Rattle.misere_theory.proofs.Verdicts.{right_or_over, fails_or_over, never_past_all_pairs}
 use Rattle.certificate_text.specs.Spelling.{Spells}
 use Rattle.answers.specs.ByteVerdicts.{ByteVerdict, Fits, Holds, IsTrueOf}
 use Rattle.answers.specs.ByteVerdicts.ByteVerdict.{Yes, Text, No, Outcome, Limit, Memory}
@@ -14,18 +14,15 @@ module _ (one : (b : List ℕ) (c d : Certificate) → Spells b c → Spells b d
   fits : (a : ByteVerdict) → (d : Certificate) × Spells bytes d × Fits d limit a → Fits c limit a
   fits a (d, t, f) = subst (λ e. Fits e limit a) (one bytes d c t s) f
 
-  clash : {A : Type 0} {v w : Verdict} → (v ≡ w → ⊥) → v ≡ w → A
-  clash n e = absurd (n e)
-
   pub accepted_answers : Accepted c → (a : ByteVerdict) → Holds bytes limit a
       → (a ≡ Yes c) ⊎ ((a ≡ Limit) ⊎ (a ≡ Memory))
   accepted_answers k (Yes d) t = inl (ap Yes (fits (Yes d) t).0)
   accepted_answers k Text t = absurd (t c s)
   accepted_answers k (No fault) t =
-      elim (yes_or_limit c k limit (Faulty fault) (fits (No fault) t))
+      elim (right_or_over c k limit (Faulty fault) (fits (No fault) t))
       [ inl e ↦ absurd (cc) | inr e ↦ absurd (cc) ]
   accepted_answers k (Outcome code X) t =
-      elim (yes_or_limit c k limit (Fails X) (fits (Outcome code X) t).1)
+      elim (right_or_over c k limit (Fails X) (fits (Outcome code X) t).1)
       [ inl e ↦ absurd (cc) | inr e ↦ absurd (cc) ]
   accepted_answers k Limit t = inr (inl refl)
   accepted_answers k Memory t = inr (inr refl)
@@ -35,7 +32,7 @@ module _ (one : (b : List ℕ) (c d : Certificate) → Spells b c → Spells b d
     faulty_never : {A : Type 0} (v : Verdict) → ((X : List ℕ) → v ≡ Fails X → ⊥) → (v ≡ Over → ⊥)
         → IsAllowed c limit v → A
     faulty_never v n o h =
-        elim (outcome_or_limit c s.writable.in_ranges m k wrong limit v h)
+        elim (fails_or_over c s.writable.in_ranges m k wrong limit v h)
         [ inl p ↦ absurd (n p.0 p.1) | inr e ↦ absurd (o e) ]
 
     pub wrong_answers : (a : ByteVerdict) → Holds bytes limit a → ((X : List ℕ) × (a ≡ Outcome c.code X))

@@ -31,12 +31,12 @@ go_down c words e r k =
       heap = λ x p l. (k.numbered.heap x p (omega arith)).0;
     })
 
--- a key read out of the list
-pub key_is : (ws : List (ℕ × ℕ)) (r : ℕ) (k : ℕ × ℕ) → 0 < r → r ≤ length ws
-    → k ≡ get_or ws (r - 1) k → k ≡ key_in ws r
-key_is ws r k some within is =
-    let short : r - 1 < length ws = omega arith in
-    is ∙ get_or_default ws (r - 1) k (0, 0) short
+-- a key read out of the list, by its parts
+pub key_is : (ws : List (ℕ × ℕ)) (r x h : ℕ) (k : ℕ × ℕ) → 0 < r → r ≤ length ws → (x, h) ≡ k
+    → k ≡ get_or ws (r - 1) k → (x ≡ (key_in ws r).0) × (h ≡ (key_in ws r).1)
+key_is ws r x h k some within parts is =
+    let all : (x, h) ≡ key_in ws r = parts ∙ is ∙ get_or_default ws (r - 1) k (0, 0) (omega arith) in
+    (ap (λ (p : ℕ × ℕ). p.0) all, ap (λ (p : ℕ × ℕ). p.1) all)
 
 -- a key further
 pub key_more : (c : Certificate) (ws : List (ℕ × ℕ)) → c.words ≡ ws → (e r : ℕ) (path : List ℕ)
@@ -44,19 +44,12 @@ pub key_more : (c : Certificate) (ws : List (ℕ × ℕ)) → c.words ≡ ws →
     → (Y : List ℕ) → IsSpelled c (key_in ws r).0 Y
     → IsSpelled c e ((path ++ (key_in ws r).1 ∷ []) ++ Y)
 key_more c ws same e r path some h Y s =
-    let k : key_in c.words r ≡ key_in ws r = ap (λ (xs : List (ℕ × ℕ)). key_in xs r) same in
-    let t : IsSpelled c (key_in c.words r).0 Y =
-    subst (λ (x : ℕ). IsSpelled c x Y) (sym (ap (λ (p : ℕ × ℕ). p.0) k)) s in
-    subst (λ (x : ℕ). IsSpelled c e ((path ++ x ∷ []) ++ Y)) (ap (λ (p : ℕ × ℕ). p.1) k)
-    (subst (λ (xs : List ℕ). IsSpelled c e xs)
-    (sym (append_assoc path ((key_in c.words r).1 ∷ []) Y))
-    (h ((key_in c.words r).1 ∷ Y) (Key r some t)))
+    let t = subst (λ (xs : List (ℕ × ℕ)). IsSpelled c (key_in xs r).0 Y) (sym same) s in
+    rw (← same, append_assoc) (h ((key_in c.words r).1 ∷ Y) (Key r some t))
 
 -- what an element's key spells is one heap more than what is spelled of the key's element
 pub key_less : (c : Certificate) (ws : List (ℕ × ℕ)) → c.words ≡ ws → (r : ℕ) (Y : List ℕ) → 0 < r
     → IsSpelled c r Y
     → (Z : List ℕ) × IsSpelled c (key_in ws r).0 Z × (length Y ≡ length Z + 1)
 key_less c ws same _ _ some Zero = absurd (omega arith)
-key_less c ws same _ _ some (Key {X} e pos w) =
-    let k : key_in c.words e ≡ key_in ws e = ap (λ (xs : List (ℕ × ℕ)). key_in xs e) same in
-    (X, subst (λ (x : ℕ). IsSpelled c x X) (ap (λ (p : ℕ × ℕ). p.0) k) w, omega arith)
+key_less c ws same _ _ some (Key {X} e pos w) = (X, rw (← same) w, omega arith)

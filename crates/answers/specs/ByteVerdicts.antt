@@ -4,7 +4,7 @@ use Rattle.misere_theory.specs.Quotients.{Monoid, Represents}
 use Rattle.misere_theory.specs.Certificates.{Certificate, kind_of, IsHeapOf, Accepted, Canonical, claim_of, times_of}
 use Rattle.misere_theory.specs.Verdicts.{Fault, IsAllowed}
 use Rattle.misere_theory.specs.Verdicts.Fault.{Law, Word, Order, Period, Apart}
-use Rattle.misere_theory.specs.Verdicts.Verdict.{Yes as Right, No as Faulty, Outcome as Fails, Limit as Over}
+use Rattle.misere_theory.specs.Verdicts.Verdict.{Right, Faulty, Fails, Over}
 use Rattle.certificate_text.specs.Spelling.{Spells}
 use Rattle.answers.specs.declared.refusal.Refusal.{Refusal}
 use Rattle.answers.specs.declared.refusal.Refusal.TheVariants as no

@@ -1,7 +1,7 @@
 -- The members of a catalogue file, and the items among them, as they are read.
 -- After each member the frame holds what is found under its names; with another member, version or
 -- kind of entries the object is no file.
-use Rattle.std.proofs.Common.{◌≡◌, ◌≢◌, ℕ, zero, suc, ◌<◌, ◌==◌, ◌⊎◌, inl, inr, List, [], ◌∷◌, ◌++◌, get_or, map, codes, Option, Some, None, is_some, option_and_then, Bool, true, false, All, Vec, Global, refl, sym, ap, subst, ◌∙◌, arith}
+use Rattle.std.proofs.Common.{◌≡◌, ◌≢◌, ℕ, zero, suc, ◌==◌, ◌⊎◌, inl, inr, List, [], ◌∷◌, ◌++◌, get_or, map, codes, Option, Some, None, is_some, option_and_then, Bool, true, false, All, Vec, Global, refl, sym, ap, subst, ◌∙◌, arith}
 use Rattle.std.proofs.lemmas.List.{append_assoc, append-nil, map-append}
 use Rattle.serde_json.specs.Data.{Data, Items, no_items, item, Members, array, object, put}
 use Rattle.serde_json.specs.Events.{members_len}
@@ -23,44 +23,42 @@ apart : entries ≢ version
 apart e = let h : get_or entries 0 0 ≡ get_or version 0 0 = ap (λ xs. get_or xs 0 0) e in
     omega (arith, h)
 
-module _ (f g : Frame) (d : Data) (found : Members) (h : AreParts f found) where
+module _ (f : Frame) (d : Data) (found : Members) (h : AreParts f found) where
   version_stays : (k : List ℕ) → version ≢ k → option_and_then whole_of (get_member version found)
       ≡ option_and_then whole_of (get_member version (put k d found))
   version_stays k other =
       sym (ap (option_and_then whole_of) (get_member-put_other version k d found other))
 
-  entries_stay : (k : List ℕ) → entries ≢ k → g.entries ≡ f.entries
-      → EntriesAre g.entries (get_member entries (put k d found))
-  entries_stay k other e =
-      subst (EntriesAre g.entries) (sym (get_member-put_other entries k d found other))
-      (subst (λ x. EntriesAre x (get_member entries found)) (sym e) h.entries)
+  entries_stay : (k : List ℕ) → entries ≢ k
+      → EntriesAre f.entries (get_member entries (put k d found))
+  entries_stay k other = rw (get_member-put_other entries k d found other) h.entries
 
-  pub put_entries : EntriesAre g.entries (Some d) → g.version ≡ f.version → g.others ≡ f.others
-      → AreParts g (put entries d found)
-  put_entries e v o = record {
-    names = subst (AreOf file_names (put entries d found)) (sym o)
-        (put_named entries d found file_names f.others (inl (refl, (apart, tt))) h.names);
-    entries = subst (EntriesAre g.entries) (sym (get_member-put entries d found)) e;
-    version = v ∙ h.version ∙ version_stays entries (λ s. apart (sym s));
+  pub put_entries : (es : Option (Vec Texts Global)) → EntriesAre es (Some d)
+      → AreParts (record { alloc = f.alloc; entries = es; version = f.version; others = f.others })
+      (put entries d found)
+  put_entries es e = record {
+    names = put_named entries d found file_names f.others (inl (refl, (apart, tt))) h.names;
+    entries = rw (get_member-put entries d found) e;
+    version = h.version ∙ version_stays entries (λ s. apart (sym s));
   }
 
-  pub put_version : g.version ≡ whole_of d → g.entries ≡ f.entries → g.others ≡ f.others
-      → AreParts g (put version d found)
-  put_version v e o = record {
-    names = subst (AreOf file_names (put version d found)) (sym o)
-        (put_named version d found file_names f.others
-        (inr ((λ s. apart (sym s)), inl (refl, tt))) h.names);
-    entries = entries_stay version apart e;
-    version = v ∙ sym (ap (option_and_then whole_of) (get_member-put version d found));
+  pub put_version : (n : Option ℕ) → n ≡ whole_of d
+      → AreParts (record { alloc = f.alloc; entries = f.entries; version = n; others = f.others })
+      (put version d found)
+  put_version n e = record {
+    names = put_named version d found file_names f.others
+        (inr ((λ s. apart (sym s)), inl (refl, tt))) h.names;
+    entries = entries_stay version apart;
+    version = e ∙ sym (ap (option_and_then whole_of) (get_member-put version d found));
   }
 
-  pub put_other : (k : List ℕ) → k ≢ entries → k ≢ version → g.entries ≡ f.entries
-      → g.version ≡ f.version → g.others ≡ true → AreParts g (put k d found)
-  put_other k ka kb e v o = record {
-    names = subst (AreOf file_names (put k d found)) (sym o)
-        (put_outside k d found file_names f.others (ka, (kb, tt)) h.names);
-    entries = entries_stay k (λ s. ka (sym s)) e;
-    version = v ∙ h.version ∙ version_stays k (λ s. kb (sym s));
+  pub put_other : (k : List ℕ) → k ≢ entries → k ≢ version
+      → AreParts (record { alloc = f.alloc; entries = f.entries; version = f.version; others = true })
+      (put k d found)
+  put_other k ka kb = record {
+    names = put_outside k d found file_names f.others (ka, (kb, tt)) h.names;
+    entries = entries_stay k (λ s. ka (sym s));
+    version = h.version ∙ version_stays k (λ s. kb (sym s));
   }
 
 as_whole : (o : Option Data)
@@ -100,41 +98,15 @@ of_written (t ∷ ts) b h zero d l = h.0
 of_written (t ∷ ts) b h (suc i) d l = of_written ts b h.1 i d (omega arith)
 
 module _ (f : Frame) (ms : Members) (h : AreParts f ms) where
-  has : (k : List ℕ) (d : Data) → get_member k ms ≡ Some d → one_if (get_member k ms) ≡ 1
-  has k d e = ap one_if e
-
   has_version : (n : ℕ) → option_and_then as_u64 (option_and_then as_number (get_member version ms))
       ≡ Some n → one_if (get_member version ms) ≡ 1
   has_version n e =
       let x = some_of as_u64 (option_and_then as_number (get_member version ms)) n e in
-      let y = some_of as_number (get_member version ms) x.0 x.1 in
-      has version y.0 y.1
+      ap one_if (some_of as_number (get_member version ms) x.0 x.1).1
 
   has_entries : (ds : Items) → option_and_then as_array (get_member entries ms) ≡ Some ds
       → one_if (get_member entries ms) ≡ 1
-  has_entries ds e = let x = some_of as_array (get_member entries ms) ds e in has entries x.0 x.1
-
-  -- an object with another member is no file
-  pub other_no_file : f.others ≡ true → FileIs None (object ms)
-  other_no_file o es is =
-      let a = has_entries is.items is.frame.entries in
-      let b = has_version is.version is.frame.version in
-      let m : counted file_names ms < members_len ms =
-      (subst (AreOf file_names ms) o h.names).rest in
-      let n = is.frame.count in
-      omega arith
-
-  -- nor is one of another version, or of none
-  pub version_no_file : ((v : ℕ) → f.version ≡ Some v → (v ≡ 1) ⊎ (v ≡ 2) → ⊥)
-      → FileIs None (object ms)
-  version_no_file other es is =
-      other is.version (h.version ∙ as_whole (get_member version ms) ∙ is.frame.version) is.known
-
-  -- nor one whose entries aren't any
-  pub entries_no_file : f.entries ≡ None → FileIs None (object ms)
-  entries_no_file e es is =
-      subst (λ x. EntriesAre x (get_member entries ms)) e h.entries is.items es is.frame.entries
-      is.entries
+  has_entries ds e = ap one_if (some_of as_array (get_member entries ms) ds e).1
 
   module _ (n : ℕ) (v : Vec Texts Global) (vs : f.version ≡ Some n) (are : f.entries ≡ Some v) where
     are_entries : EntriesAre (Some v) (get_member entries ms)

@@ -1,8 +1,8 @@
 -- Entries that stand, one after the other, and the first that doesn't.
 -- Those before the index stand and are what is held, as the index goes on.
-use Rattle.std.proofs.Common.{◌≡◌, ℕ, zero, suc, ◌+◌, ◌<◌, inl, inr, List, [], ◌∷◌, ◌++◌, length, take, drop, map, get_or, None, Err, refl, sym, ap, subst, ◌∙◌, arith}
+use Rattle.std.proofs.Common.{◌≡◌, ℕ, suc, ◌+◌, ◌<◌, inl, inr, List, [], ◌∷◌, ◌++◌, length, take, drop, map, get_or, None, Err, sym, ap, subst, ◌∙◌, arith}
+use Rattle.std.proofs.lemmas.List.{take-append-drop, take_more, length-take-le, length-map, get_or-map}
 use Rattle.std.specs.List.{AllZip}
-use Rattle.std.proofs.lemmas.List.{take-append-drop, take_more, length-take-le}
 use Rattle.std.proofs.Math.Seq.{drop-cons}
 use Rattle.misere_theory.specs.Certificates.{Certificate}
 use Rattle.catalogue.specs.Files.{Written, written}
@@ -38,30 +38,12 @@ blank =
       heaps = None;
     }
 
-pub itself_at : (ts : List Texts) (i : ℕ) (d e : Texts) → i < length ts
-    → get_or ts i d ≡ get_or ts i e
-itself_at [] i d e l = absurd (omega arith)
-itself_at (x ∷ ts) zero d e l = refl
-itself_at (x ∷ ts) (suc i) d e l = itself_at ts i d e (omega arith)
-
--- the item at a place is the entry there
-pub written_at : (ts : List Texts) (i : ℕ) (t : Texts) → i < length ts
-    → get_or (map written ts) i (written t) ≡ written (get_or ts i t)
-written_at [] i t l = refl
-written_at (x ∷ ts) zero t l = refl
-written_at (x ∷ ts) (suc i) t l = written_at ts i t (omega arith)
-
-pub written_length : (ts : List Texts) → length (map written ts) ≡ length ts
-written_length [] = refl
-written_length (t ∷ ts) = ap suc (written_length ts)
-
 pub written_more : (ts : List Texts) (i : ℕ) (t : Texts) → i < length ts → t ≡ get_or ts i t
     → take (i + 1) (map written ts) ≡ take i (map written ts) ++ written t ∷ []
 written_more ts i t l is =
-    let n = written_length ts in
-    let m : i < length (map written ts) = omega arith in
-    take_more (map written ts) i (written t) m ∙ ap (λ e. take i (map written ts) ++ e ∷ [])
-    (written_at ts i t l ∙ ap written (sym is))
+    take_more (map written ts) i (written t) (omega (arith, length-map ts written))
+    ∙ ap (λ e. take i (map written ts) ++ e ∷ [])
+    (get_or-map written ts i t (written t) l ∙ ap written (sym is))
 
 first_fault : (limit : ℕ) (ts : List Texts) (i : ℕ) (t : Texts) (cs : List Certificate)
     (f : LoadFault) → i < length ts → t ≡ get_or ts i t
@@ -69,10 +51,10 @@ first_fault : (limit : ℕ) (ts : List Texts) (i : ℕ) (t : Texts) (cs : List C
     → IsFirstFault limit (map written ts) f
 first_fault limit ts i t cs f l is stand h =
     let es = map written ts in
-    let n = written_length ts in
+    let n = length-map ts written in
     let m : i < length es = omega arith in
     let long : length (take i es) ≡ i = length-take-le i es (omega arith) in
-    let at : get_or es i (written t) ≡ written t = written_at ts i t l ∙ ap written (sym is) in
+    let at : get_or es i (written t) ≡ written t = get_or-map written ts i t (written t) l ∙ ap written (sym is) in
     let place : i + 1 ≡ suc (length (take i es)) = omega arith in
     record {
       before = take i es;

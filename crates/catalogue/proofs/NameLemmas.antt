@@ -1,7 +1,7 @@
 -- Objects of some names, as their members are put one after the other.
 -- How many of the names have a value, beside how many members there are, tells whether there are
 -- others.
-use Rattle.std.proofs.Common.{◌≡◌, ◌≢◌, ℕ, suc, ◌<◌, ◌≤◌, ◌⊎◌, inl, inr, List, [], ◌∷◌, Option, Some, None, option_map, option_and_then, Bool, true, false, true≢false, bytes_eq, Ordering, Less, Equal, Greater, nat_cmp, refl, sym, ap, ◌∙◌, arith}
+use Rattle.std.proofs.Common.{◌≡◌, ◌≢◌, ℕ, suc, ◌+◌, ◌<◌, ◌≤◌, ◌⊎◌, inl, inr, List, [], ◌∷◌, Option, Some, None, option_and_then, Bool, true, false, true≢false, bytes_eq, Ordering, Less, Equal, Greater, nat_cmp, refl, sym, ap, ◌∙◌, arith}
 use Rattle.std.proofs.lemmas.Cmp.{nat_list_cmp_total}
 use Rattle.std.proofs.lemmas.Slice.Eq.{bytes_eq-Decides}
 use Rattle.std.specs.Bool.{MatchBool}
@@ -17,15 +17,6 @@ pub some_of : {A B : Type 0} (f : A → Option B) (o : Option A) (b : B)
     → option_and_then f o ≡ Some b → (a : A) × (o ≡ Some a)
 some_of f None b e = absurd (cc)
 some_of f (Some a) b e = (a, refl)
-
-pub map_some : {A B : Type 0} (f : A → B) (o : Option A) (b : B) → Some b ≡ option_map f o
-    → (a : A) × (o ≡ Some a) × (f a ≡ b)
-map_some f None b e = absurd (cc)
-map_some f (Some a) b e = (a, refl, cc)
-
-pub map_none : {A B : Type 0} (f : A → B) (o : Option A) → None ≡ option_map f o → o ≡ None
-map_none f None e = refl
-map_none f (Some a) e = absurd (cc)
 
 -- ---- names in order
 
@@ -71,37 +62,22 @@ module _ (k : List ℕ) (d : Data) where
   sorted_put (member l e ms) h =
       sorted_at (slice_cmp nat_cmp k l) l e ms refl h (sorted_put ms h.1)
 
-  longer_at : (r : Ordering) (l : List ℕ) (e : Data) (ms : Members)
-      → match_ordering r (get_member k ms) (Some e) (get_member k ms) ≡ None
-      → (get_member k ms ≡ None → members_len (put k d ms) ≡ suc (members_len ms))
-      → members_len (put_at r l e ms) ≡ suc (members_len (member l e ms))
-  longer_at Less l e ms g later = refl
-  longer_at Equal l e ms g later = absurd (cc)
-  longer_at Greater l e ms g later = ap suc (later g)
-
-  -- a new name is a member more
-  longer : (ms : Members) → get_member k ms ≡ None → members_len (put k d ms) ≡ suc (members_len ms)
-  longer no_members g = refl
-  longer (member l e ms) g = longer_at (slice_cmp nat_cmp k l) l e ms g (longer ms)
-
-  no_some : (ms : Members) (x : Data) → IsBelow k ms → get_member k ms ≡ Some x → ⊥
-  no_some ms x h g = let n = none_below k ms h in cc
-
-  as_long_at : (r : Ordering) (l : List ℕ) (e x : Data) (ms : Members) → slice_cmp nat_cmp k l ≡ r
+  long_at : (r : Ordering) (l : List ℕ) (e : Data) (ms : Members) → slice_cmp nat_cmp k l ≡ r
       → AreSorted (member l e ms)
-      → match_ordering r (get_member k ms) (Some e) (get_member k ms) ≡ Some x
-      → (get_member k ms ≡ Some x → members_len (put k d ms) ≡ members_len ms)
-      → members_len (put_at r l e ms) ≡ members_len (member l e ms)
-  as_long_at Less l e x ms is h g later = absurd (no_some ms x (below_earlier k l ms is h.0) g)
-  as_long_at Equal l e x ms is h g later = refl
-  as_long_at Greater l e x ms is h g later = ap suc (later g)
+      → members_len (put k d ms) + one_if (get_member k ms) ≡ suc (members_len ms)
+      → members_len (put_at r l e ms)
+      + one_if (match_ordering r (get_member k ms) (Some e) (get_member k ms))
+      ≡ suc (members_len (member l e ms))
+  long_at Less l e ms is h later =
+      let none = ap one_if (none_below k ms (below_earlier k l ms is h.0)) in omega arith
+  long_at Equal l e ms is h later = omega arith
+  long_at Greater l e ms is h later = omega arith
 
-  -- and one that is there is none
-  as_long : (ms : Members) (x : Data) → AreSorted ms → get_member k ms ≡ Some x
-      → members_len (put k d ms) ≡ members_len ms
-  as_long no_members x h g = absurd (cc)
-  as_long (member l e ms) x h g =
-      as_long_at (slice_cmp nat_cmp k l) l e x ms refl h g (as_long ms x h.1)
+  -- a new name is a member more, and one that is there is none
+  long : (ms : Members) → AreSorted ms
+      → members_len (put k d ms) + one_if (get_member k ms) ≡ suc (members_len ms)
+  long no_members h = refl
+  long (member l e ms) h = long_at (slice_cmp nat_cmp k l) l e ms refl h (long ms h.1)
 
 -- ---- the names that have a value
 
@@ -122,14 +98,13 @@ counted_none (n ∷ ns) =
     let z : one_if (get_member n no_members) ≡ 0 = refl in
     omega arith
 
+at_most_one : (o : Option Data) → one_if o ≤ 1
+at_most_one None = omega arith
+at_most_one (Some d) = omega arith
+
 -- before anything is put
 pub none_found : (names : List (List ℕ)) → AreOf names no_members false
 none_found names = record { sorted = tt; rest = (sym (counted_none names), λ k out. refl) }
-
-pub at_most : (names : List (List ℕ)) (found : Members) (b : Bool) → AreOf names found b
-    → counted names found ≤ members_len found
-at_most names found true h = let r = h.rest in omega arith
-at_most names found false h = let r = h.rest.0 in omega arith
 
 module _ (k : List ℕ) (d : Data) (found : Members) where
   abbrev now : Members
@@ -150,32 +125,18 @@ module _ (k : List ℕ) (d : Data) (found : Members) where
       let b = outside_counted ns h.1 in
       omega arith
 
-  new_counted : (names : List (List ℕ)) → IsAmong k names → get_member k found ≡ None
-      → counted names now ≡ suc (counted names found)
-  new_counted [] h g = absurd h
-  new_counted (n ∷ ns) (inl h) g =
+  -- so is it among the names
+  among_counted : (names : List (List ℕ)) → IsAmong k names
+      → counted names now + one_if (get_member k found) ≡ suc (counted names found)
+  among_counted [] h = absurd h
+  among_counted (n ∷ ns) (inl h) =
       let a = this_put n h.0 in
-      let b : one_if (get_member n found) ≡ 0 =
-      ap (λ m. one_if (get_member m found)) (sym h.0) ∙ ap one_if g in
+      let b = ap (λ m. one_if (get_member m found)) h.0 in
       let c = outside_counted ns h.1 in
       omega arith
-  new_counted (n ∷ ns) (inr h) g =
+  among_counted (n ∷ ns) (inr h) =
       let a = other_kept n h.0 in
-      let b = new_counted ns h.1 g in
-      omega arith
-
-  old_counted : (names : List (List ℕ)) (x : Data) → IsAmong k names → get_member k found ≡ Some x
-      → counted names now ≡ counted names found
-  old_counted [] x h g = absurd h
-  old_counted (n ∷ ns) x (inl h) g =
-      let a = this_put n h.0 in
-      let b : one_if (get_member n found) ≡ 1 =
-      ap (λ m. one_if (get_member m found)) (sym h.0) ∙ ap one_if g in
-      let c = outside_counted ns h.1 in
-      omega arith
-  old_counted (n ∷ ns) x (inr h) g =
-      let a = other_kept n h.0 in
-      let b = old_counted ns x h.1 g in
+      let b = among_counted ns h.1 in
       omega arith
 
   module _ (names : List (List ℕ)) where
@@ -187,24 +148,12 @@ module _ (k : List ℕ) (d : Data) (found : Members) where
     others_none among h q out =
         get_member-put_other q k d found (not_both q k names among out) ∙ h.1 q out
 
-    named_rest : (o : Option Data) (b : Bool) → get_member k found ≡ o → IsAmong k names
-        → AreSorted found → Rest b found → Rest b now
-    named_rest None true g among s h =
-        let a = new_counted names among g in
-        let b = longer k d found g in
-        omega arith
-    named_rest None false g among s h =
-        let a = new_counted names among g in
-        let b = longer k d found g in
-        let c = h.0 in
-        (omega arith, others_none among h)
-    named_rest (Some x) true g among s h =
-        let a = old_counted names x among g in
-        let b = as_long k d found x s g in
-        omega arith
-    named_rest (Some x) false g among s h =
-        let a = old_counted names x among g in
-        let b = as_long k d found x s g in
+    named_rest : (b : Bool) → IsAmong k names → AreSorted found → Rest b found → Rest b now
+    named_rest true among s h =
+        let a = among_counted names among in let b = long k d found s in omega arith
+    named_rest false among s h =
+        let a = among_counted names among in
+        let b = long k d found s in
         let c = h.0 in
         (omega arith, others_none among h)
 
@@ -212,28 +161,28 @@ module _ (k : List ℕ) (d : Data) (found : Members) where
     pub put_named : (b : Bool) → IsAmong k names → AreOf names found b → AreOf names now b
     put_named b among h = record {
       sorted = sorted_put k d found h.sorted;
-      rest = named_rest (get_member k found) b refl among h.sorted h.rest;
+      rest = named_rest b among h.sorted h.rest;
     }
 
-    outside_rest : (o : Option Data) (b : Bool) → get_member k found ≡ o → IsOutside k names
-        → AreOf names found b → counted names now < members_len now
-    outside_rest None b g out h =
+    outside_rest : (b : Bool) → IsOutside k names → AreSorted found → Rest b found
+        → counted names now < members_len now
+    outside_rest true out s h =
         let a = outside_counted names out in
-        let l = longer k d found g in
-        let m = at_most names found b h in
+        let b = long k d found s in
+        let c = at_most_one (get_member k found) in
         omega arith
-    outside_rest (Some x) true g out h =
+    outside_rest false out s h =
         let a = outside_counted names out in
-        let l = as_long k d found x h.sorted g in
-        let m = h.rest in
+        let b = long k d found s in
+        let c = h.0 in
+        let none = ap one_if (h.1 k out) in
         omega arith
-    outside_rest (Some x) false g out h = let n = h.rest.1 k out in absurd (cc)
 
     -- a value at another name
     pub put_outside : (b : Bool) → IsOutside k names → AreOf names found b → AreOf names now true
     put_outside b out h = record {
       sorted = sorted_put k d found h.sorted;
-      rest = outside_rest (get_member k found) b refl out h;
+      rest = outside_rest b out h.sorted h.rest;
     }
 
 pub is_not : (xs ys : List ℕ) → bytes_eq xs ys ≡ false → xs ≢ ys

@@ -1,9 +1,11 @@
 -- Values, items and members of JSON, a step at a time.
 -- The first token tells which value begins, and each way on is one of the reader's.
-use Rattle.std.proofs.Common.{◌≡◌, ℕ, zero, suc, ◌-◌, ◌<◌, List, [], ◌∷◌, length, Option, Some, None, Result, IfErr, Bool, Bor, option_map, refl, sym, ap, subst, ◌∙◌, arith}
+use Rattle.std.proofs.Common.{◌≡◌, ℕ, zero, suc, ◌-◌, ◌<◌, List, [], ◌∷◌, length, Option, Some, None, Result, IfErr, IfOk, Bool, true, Bor, bytes_eq, option_map, refl, sym, ap, subst, ◌∙◌, arith}
 use Rattle.std.specs.Prelude.{⊤}
+use Rattle.std.specs.Option.{ok_or}
 use Rattle.std.specs.Result.{IsErrAnd}
-use Rattle.std.proofs.lemmas.Result.{err_from_is_err_and, IfErr-weaker}
+use Rattle.std.proofs.lemmas.Result.{err_from_is_err_and, IfErr-weaker, IfOk-weaker}
+use Rattle.std.proofs.lemmas.Slice.Eq.{bytes_eq-Decides}
 use Rattle.json.specs.Token.{Token}
 use Rattle.json.specs.declared.token.Token.{Token as Spelt}
 use Rattle.json.specs.declared.token.Token.TheVariants as spelt
@@ -15,7 +17,7 @@ use Rattle.serde_json.specs.Data.{Num, Data, null, boolean, number, string, arra
 use Rattle.serde_json.specs.Find.{as_u64}
 use Rattle.serde_json.specs.Read.{number_of, of_json, of_items, of_members, converted}
 use Rattle.catalogue.proofs.ConvertLemmas.{converted_array, converted_object, item_read, item_refused, member_read, member_refused}
-use Rattle.catalogue.specs.Reading.{ReadsValue, ReadsItems, ReadsMembers, IsUnread}
+use Rattle.catalogue.specs.Reading.{ReadsValue, ReadsItems, ReadsMembers, Passes, Puts, IsUnread, whole_of}
 use Rattle.catalogue.specs.declared.fault.LoadFault.{LoadFault}
 use Rattle.catalogue.specs.declared.fault.LoadFault.TheVariants as fault
 
@@ -38,12 +40,6 @@ module _ (depth : ℕ) (ts r : List Token) where
   pub items_close : after_end_array ts ≡ Some r → ReadsItems depth ts (Some (no_items, r))
   items_close e n enough = ap (converted of_items) (items_end (value depth) n ts r enough e)
 
-  pub items_step : (d : Data) (o : Those) → after_end_array ts ≡ None
-      → ReadsValue depth ts (Some (d, r)) → length r < length ts → ReadsItems depth r o
-      → ReadsItems depth ts (parse_map (item d) o)
-  items_step d o going e less rest n enough = item_read (value depth) n ts r d (omega arith) going e
-      ∙ ap (parse_map (item d)) (rest (n - 1) (omega arith))
-
   module _ (found : Members) where
     pub members_close : read_key ts ≡ Some (None, r) → ReadsMembers depth found ts (Some (found, r))
     members_close e n enough =
@@ -57,9 +53,6 @@ module _ (depth : ℕ) (ts r : List Token) where
         ∙ rest (n - 1) (omega arith)
 
 module _ (depth : ℕ) (ts : List Token) where
-  pub items_stop : after_end_array ts ≡ None → ReadsValue depth ts None → ReadsItems depth ts None
-  items_stop going e n enough = item_refused (value depth) n ts going e
-
   pub members_stop : (found : Members) (k : List ℕ) (s : List Token)
       → read_key ts ≡ Some (Some k, s) → ReadsValue depth s None → ReadsMembers depth found ts None
   members_stop found k s key e n enough = member_refused (value depth) found n k ts s key e
@@ -80,10 +73,35 @@ module _ (depth : ℕ) (ts : List Token) where
       ∙ converted_object (members (value (depth - 1)) (length ts) ts)
       ∙ ap (parse_map object) (rest (length ts) (omega arith))
 
+-- no bracket ends the items here
+abbrev pub GoOn : List Token → List Token → Type 0
+GoOn ts us = (after_end_array ts ≡ None) × (us ≡ ts)
+
+-- whatever the items from here on are becomes a part of all
+module _ (depth : ℕ) (all ts us : List Token) (f : Items → Items)
+    (goes : (o : Those) → ReadsItems depth ts o → ReadsItems depth all (parse_map f o))
+    (going : GoOn ts us) where
+  -- an item is read
+  pub one_read : (d : Data) (r : List Token) (o : Those) → ReadsValue depth us (Some (d, r))
+      → length r < length us → ReadsItems depth r o
+      → ReadsItems depth all (parse_map (λ ds. f (item d ds)) o)
+  one_read d r o e less rest =
+      let shorter : length r < length ts = rw (← going.1) less in
+      subst (ReadsItems depth all) (twice f (item d) o) (goes (parse_map (item d) o)
+      (λ n enough. item_read (value depth) n ts r d (omega arith) going.0 (rw (← going.1) e)
+      ∙ ap (parse_map (item d)) (rest (n - 1) (omega arith))))
+
+  -- none is
+  pub none_read : ReadsValue depth us None → ReadsItems depth all None
+  none_read e = goes None (λ n enough. item_refused (value depth) n ts going.0 (rw (← going.1) e))
+
 -- ---- the first token of a value
 
-nothing_reads : (depth : ℕ) → ReadsValue depth [] None
-nothing_reads depth = ap (converted of_json) (value_is depth [])
+-- a first token that opens nothing tells the value
+pub begun : (depth : ℕ) (ts : List Token) (x : Option (Data × List Token))
+    → ((a : Parse json.Items) (o : Parse json.Members) → converted of_json (value_with a o ts) ≡ x)
+    → ReadsValue depth ts x
+begun depth ts x h = ap (converted of_json) (value_is depth ts) ∙ h _ _
 
 pub number_some : (o : Option Num) (x : Option ℕ) → Some x ≡ option_map as_u64 o
     → (n : Num) × (o ≡ Some n) × (x ≡ as_u64 n)
@@ -95,28 +113,29 @@ number_none None e = refl
 number_none (Some n) e = absurd (cc)
 
 module _ (depth : ℕ) (ts : List Token) where
-  pub string_reads : (s : List ℕ) → ReadsValue depth (Token.string s ∷ ts) (Some (string s, ts))
-  string_reads s = ap (converted of_json) (value_is depth (Token.string s ∷ ts))
-
-  pub boolean_reads : (b : Bool) → ReadsValue depth (Token.boolean b ∷ ts) (Some (boolean b, ts))
-  boolean_reads b = ap (converted of_json) (value_is depth (Token.boolean b ∷ ts))
-
-  pub null_reads : ReadsValue depth (Token.null ∷ ts) (Some (null, ts))
-  null_reads = ap (converted of_json) (value_is depth (Token.null ∷ ts))
-
   as_number_reads : (s : List ℕ) → converted of_json (value depth (Token.number s ∷ ts))
       ≡ option_map (λ d. (d, ts)) (option_map number (number_of s))
-  as_number_reads s = ap (converted of_json) (value_is depth (Token.number s ∷ ts))
+  as_number_reads s = begun depth (Token.number s ∷ ts) _ (λ a o. refl)
 
-  pub number_reads : (s : List ℕ) (n : Num) → number_of s ≡ Some n
-      → ReadsValue depth (Token.number s ∷ ts) (Some (number n, ts))
-  number_reads s n e =
+  pub number_reads : (s : List ℕ) (o : Option Num) → number_of s ≡ o
+      → ReadsValue depth (Token.number s ∷ ts) (option_map (λ d. (d, ts)) (option_map number o))
+  number_reads s o e =
       as_number_reads s ∙ ap (λ o. option_map (λ d. (d, ts)) (option_map number o)) e
 
-  pub number_refused : (s : List ℕ) → number_of s ≡ None
-      → ReadsValue depth (Token.number s ∷ ts) None
-  number_refused s e =
-      as_number_reads s ∙ ap (λ o. option_map (λ d. (d, ts)) (option_map number o)) e
+  -- the whole number of a number's text, if it has one
+  pub whole_read : (s : List ℕ) (r : Result (Option ℕ) LoadFault)
+      → r ≡ ok_or (option_map as_u64 (number_of s)) fault.Json
+      → IfOk r (λ v. Passes depth (Token.number s ∷ ts) (λ d. v ≡ whole_of d) ts)
+      × IfErr r (IsUnread (ReadsValue depth (Token.number s ∷ ts) None))
+  whole_read s r e = rw e (by (number_of s) refl)
+    where
+      by : (o : Option Num) → number_of s ≡ o
+          → IfOk (ok_or (option_map as_u64 o) fault.Json)
+          (λ v. Passes depth (Token.number s ∷ ts) (λ d. v ≡ whole_of d) ts)
+          × IfErr (ok_or (option_map as_u64 o) fault.Json)
+          (IsUnread (ReadsValue depth (Token.number s ∷ ts) None))
+      by None e = (tt, number_reads s None e)
+      by (Some n) e = ((number n, number_reads s (Some n) e, refl), tt)
 
   pub too_deep : depth ≡ 0 → ReadsValue depth (Token.begin_array ∷ ts) None
       × ReadsValue depth (Token.begin_object ∷ ts) None
@@ -126,33 +145,21 @@ module _ (depth : ℕ) (ts : List Token) where
     ap (λ n. converted of_json (value n (Token.begin_object ∷ ts))) e,
   )
 
-  pub end_object_refused : ReadsValue depth (Token.end_object ∷ ts) None
-  end_object_refused = ap (converted of_json) (value_is depth (Token.end_object ∷ ts))
-
-  pub end_array_refused : ReadsValue depth (Token.end_array ∷ ts) None
-  end_array_refused = ap (converted of_json) (value_is depth (Token.end_array ∷ ts))
-
-  pub key_refused : (s : List ℕ) → ReadsValue depth (Token.key s ∷ ts) None
-  key_refused s = ap (converted of_json) (value_is depth (Token.key s ∷ ts))
-
-  pub bad_refused : ReadsValue depth (Token.bad ∷ ts) None
-  bad_refused = ap (converted of_json) (value_is depth (Token.bad ∷ ts))
-
   pub other_refused : (k : Spelt) → (k ≡ spelt.BeginObject → ⊥) → (k ≡ spelt.BeginArray → ⊥)
       → ((s : Bor (List ℕ)) → k ≡ spelt.String s → ⊥)
       → ((s : Bor (List ℕ)) → k ≡ spelt.Number s → ⊥)
       → ((b : Bool) → k ≡ spelt.Bool b → ⊥) → (k ≡ spelt.Null → ⊥)
       → ReadsValue depth (token_of k ∷ ts) None
   other_refused spelt.BeginObject f g h i j l = absurd (f refl)
-  other_refused spelt.EndObject f g h i j l = end_object_refused
+  other_refused spelt.EndObject f g h i j l = begun depth (Token.end_object ∷ ts) _ (λ a o. refl)
   other_refused spelt.BeginArray f g h i j l = absurd (g refl)
-  other_refused spelt.EndArray f g h i j l = end_array_refused
-  other_refused (spelt.Key s) f g h i j l = key_refused s.now
+  other_refused spelt.EndArray f g h i j l = begun depth (Token.end_array ∷ ts) _ (λ a o. refl)
+  other_refused (spelt.Key s) f g h i j l = begun depth (Token.key s.now ∷ ts) _ (λ a o. refl)
   other_refused (spelt.String s) f g h i j l = absurd (h s refl)
   other_refused (spelt.Number s) f g h i j l = absurd (i s refl)
   other_refused (spelt.Bool b) f g h i j l = absurd (j b refl)
   other_refused spelt.Null f g h i j l = absurd (l refl)
-  other_refused spelt.Bad f g h i j l = bad_refused
+  other_refused spelt.Bad f g h i j l = begun depth (Token.bad ∷ ts) _ (λ a o. refl)
 
 -- ---- what the first token tells of the value
 
@@ -202,9 +209,14 @@ module _ (ts : List Token) (P : Data → Type 0) (k : Spelt) (object_so : k ≡ 
     so_at (suc d) =
         so_with (λ r. items (value d) (length r) r) (λ r. members (value d) (length r) r) k refl
 
-    pub told : (depth : ℕ) (d : Data) (r : List Token)
-        → ReadsValue depth (token_of k ∷ ts) (Some (d, r)) → P d
+    told : (depth : ℕ) (d : Data) (r : List Token) → ReadsValue depth (token_of k ∷ ts) (Some (d, r))
+        → P d
     told depth d r e = subst (IsSo P) e (so_at depth)
+
+    -- a value that is passed is as its first token tells
+    pub passed_over : (depth : ℕ) (us r : List Token) → us ≡ token_of k ∷ ts
+        → Passes depth (token_of k ∷ ts) (λ d. ⊤) r → Passes depth us P r
+    passed_over depth us r first (d, read, so) = rw first (d, read, told depth d r read)
 
 -- ---- faults
 
@@ -233,4 +245,44 @@ no_json Q r e h = unread Q Q r fault.Json e (λ x. x) h
 
 -- no value begins
 pub no_start : (depth : ℕ) (ts : List Token) → ts ≡ [] → ReadsValue depth ts None
-no_start depth ts e = subst (λ us. ReadsValue depth us None) (sym e) (nothing_reads depth)
+no_start depth ts e = rw e (begun depth [] _ (λ a o. refl))
+
+-- ---- what brackets and braces hold
+
+module _ {T : Type 0} (depth : ℕ) (ts us : List Token) (some : 0 < depth) (result : Result T LoadFault) where
+  pub array_read : (r : List Token) (Q : T → Data → Type 0) → us ≡ Token.begin_array ∷ ts
+      → IfOk result (λ e. (ds : Items) × ReadsItems (depth - 1) ts (Some (ds, r)) × Q e (array ds))
+      → IfOk result (λ e. Passes depth us (Q e) r)
+  array_read r Q is h = rw is (IfOk-weaker result _ _
+      (λ e h. (array h.0, array_begins depth ts (Some (h.0, r)) some h.1, h.2)) h)
+
+  pub array_unread : us ≡ Token.begin_array ∷ ts
+      → IfErr result (IsUnread (ReadsItems (depth - 1) ts None))
+      → IfErr result (IsUnread (ReadsValue depth us None))
+  array_unread is h = rw is (unread_then _ _ result (array_begins depth ts None some) h)
+
+  pub object_read : (r : List Token) (Q : T → Data → Type 0) → us ≡ Token.begin_object ∷ ts
+      → IfOk result (λ e. (ms : Members) × ReadsMembers (depth - 1) no_members ts (Some (ms, r))
+      × Q e (object ms))
+      → IfOk result (λ e. Passes depth us (Q e) r)
+  object_read r Q is h = rw is (IfOk-weaker result _ _
+      (λ e h. (object h.0, object_begins depth ts (Some (h.0, r)) some h.1, h.2)) h)
+
+  pub object_unread : us ≡ Token.begin_object ∷ ts
+      → IfErr result (IsUnread (ReadsMembers (depth - 1) no_members ts None))
+      → IfErr result (IsUnread (ReadsValue depth us None))
+  object_unread is h = rw is (unread_then _ _ result (object_begins depth ts None some) h)
+
+-- a member's value is read, and put under the name that it has
+pub puts : (depth : ℕ) (old new r : List Token) (name key : List ℕ) (P : Data → Type 0)
+    (F G : Members → Type 0) → new ≡ r → bytes_eq name key ≡ true → Passes depth old P r
+    → ((d : Data) → P d → (found : Members) → F found → G (put key d found))
+    → Puts depth name old new F G
+puts depth old new r name key P F G e same (d, read, so) h =
+    rw (e, (bytes_eq-Decides name key).0 same) (d, read, h d so)
+
+-- or passed
+pub passed : (depth : ℕ) (old new r : List Token) (name : List ℕ) (F G : Members → Type 0) → new ≡ r
+    → Passes depth old (λ d. ⊤) r → ((d : Data) (found : Members) → F found → G (put name d found))
+    → Puts depth name old new F G
+passed depth old new r name F G e (d, read, so) h = rw e (d, read, h d)

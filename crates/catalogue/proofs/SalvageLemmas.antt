@@ -1,6 +1,6 @@
 -- What becomes of the entries, one after the other.
 use Rattle.std.proofs.Common.{◌≡◌, ℕ, suc, ◌+◌, ◌<◌, ◌≤◌, inl, inr, List, [], ◌∷◌, ◌++◌, length, drop, map, get_or, refl, sym, ap, subst, ◌∙◌, arith}
-use Rattle.std.proofs.lemmas.List.{append_assoc, append-nil}
+use Rattle.std.proofs.lemmas.List.{append_assoc, append-nil, length-map, get_or-map}
 use Rattle.std.proofs.Math.ListN.{drop_of_length-le}
 use Rattle.std.proofs.Math.Seq.{drop-cons}
 use Rattle.misere_theory.specs.Certificates.{Certificate}
@@ -10,7 +10,6 @@ use Rattle.catalogue.specs.LoadSteps.{IsTaken}
 use Rattle.catalogue.specs.Salvages.{Salvages}
 use Rattle.catalogue.specs.declared.file.Texts.{Texts}
 use Rattle.catalogue.specs.declared.fault.LoadFault.{LoadFault}
-use Rattle.catalogue.proofs.LoadLemmas.{written_at, written_length}
 
 -- whatever becomes of the entries from the place on becomes of all, behind the faults listed so far
 abbrev pub GoesOn : ℕ → List Certificate → ℕ → List Written → List LoadFault → Type 0
@@ -24,11 +23,10 @@ module _ (limit : ℕ) (ts : List Texts) (i : ℕ) (t : Texts) (l : i < length t
 
   here : drop i all ≡ written t ∷ drop (i + 1) all
   here =
-      let n = written_length ts in
-      let m : i < length all = omega arith in
+      let m : i < length all = omega (arith, length-map ts written) in
       let next : suc i ≡ i + 1 = omega arith in
       drop-cons all i (written t) m ∙ ap (λ e. e ∷ drop (suc i) all)
-      (written_at ts i t l ∙ ap written (sym is)) ∙ ap (λ j. written t ∷ drop j all) next
+      (get_or-map written ts i t (written t) l ∙ ap written (sym is)) ∙ ap (λ j. written t ∷ drop j all) next
 
   next_place : i + 1 + 1 ≡ suc (i + 1)
   next_place = omega arith
@@ -66,8 +64,7 @@ pub at_end : (limit : ℕ) (ts : List Texts) (i : ℕ) (held : List Certificate)
     (faults : List LoadFault) → length ts ≤ i → GoesOn limit held i (map written ts) faults
     → Salvages limit [] 1 (map written ts) held faults
 at_end limit ts i held faults l goes =
-    let n = written_length ts in
-    let m : length (map written ts) ≤ i = omega arith in
+    let m : length (map written ts) ≤ i = omega (arith, length-map ts written) in
     subst (Salvages limit [] 1 (map written ts) held) (append-nil faults)
     (goes held []
     (subst (λ es. Salvages limit held (i + 1) es held [])

@@ -8,7 +8,7 @@ use Rattle.std.specs.Cmp.Lexicographic.{pointwise}
 use Rattle.std.proofs.lemmas.Bool.Decides.{Decides-eqb}
 use Rattle.std.proofs.lemmas.Slice.Eq.{slice_eq-Decides}
 use Rattle.std.proofs.lemmas.List.{map-append}
-use Rattle.std.proofs.lemmas.List.Elements.{All-push, Contains-append_right, Contains-get_or}
+use Rattle.std.proofs.lemmas.List.Elements.{All-push, All-contains, Contains-append_right, Contains-get_or}
 use Rattle.std.proofs.lemmas.List.Quantifiers.{all_pairs_push}
 use Rattle.std.proofs.lemmas.Map.Made.{Contains-tail}
 use Rattle.indexmap.specs.IndexMap.{IndexMap, insert_entry}
@@ -21,16 +21,6 @@ use Rattle.catalogue.proofs.KeyLemmas.{code_from_key, one_key}
 
 abbrev pub Held : Type 0
 Held = List ℕ × Certificate
-
-contains_first : (c : Certificate) (cs : List Certificate) → Contains (c ∷ cs) c
-contains_first c cs = Contains-get_or (c ∷ cs) 0 c (omega arith)
-
-contains_later : (d c : Certificate) (cs : List Certificate) → Contains cs c → Contains (d ∷ cs) c
-contains_later d c cs h = Contains-append_right (d ∷ []) cs c h
-
-accepted_one : (cs : List Certificate) (c : Certificate) → All Accepted cs → Contains cs c
-    → Accepted c
-accepted_one cs c all h = subst Accepted h.2 (all h.0 c h.1)
 
 module _ (k code : List ℕ) (heaps : ℕ) (right : IsCode code) (key : IsCodeAndKind k code heaps) where
   abbrev pub IsFound : List Certificate → Option Certificate → Type 0
@@ -48,7 +38,7 @@ module _ (k code : List ℕ) (heaps : ℕ) (right : IsCode code) (key : IsCodeAn
         has.2,
         has.3,
       )
-  later d cs (Some c) other h = (contains_later d c cs h.0, h.1, h.2)
+  later d cs (Some c) other h = (Contains-append_right (d ∷ []) cs c h.0, h.1, h.2)
 
   here_or_later : (b : Bool) (e : Held) (cs : List Certificate) (o : Option Certificate) → IsKeyed e
       → pointwise nat_eq k e.0 ≡ b
@@ -59,7 +49,7 @@ module _ (k code : List ℕ) (heaps : ℕ) (right : IsCode code) (key : IsCodeAn
       let both =
       code_from_key k e.1.code code (kind_of e.1) heaps keyed.1 right
       (subst (λ l. IsCodeAndKind l e.1.code (kind_of e.1)) (sym same) keyed.0) key in
-      (contains_first e.1 cs, both.0, both.1)
+      (Contains-get_or (e.1 ∷ cs) 0 e.1 (omega arith), both.0, both.1)
   here_or_later false e cs o keyed is h =
       later e.1 cs o
       (λ eq kinds. differs is (one_key k e.0 code heaps key
@@ -81,18 +71,24 @@ module _ (k code : List ℕ) (heaps : ℕ) (right : IsCode code) (key : IsCodeAn
       here_or_later (pointwise nat_eq k e.0) e (values_of es) (lookup (pointwise nat_eq k) es) h.0
       refl (lookup_is es h.1)
 
-  pub found_some : (cs : List Certificate) (r : Option (Bor Certificate)) → All Accepted cs
-      → IsFound cs (option_copied r)
+  pub found : (es : List Held) (cs : List Certificate) (r : Option (Bor Certificate)) → AreKeyed es
+      → values_of es ≡ cs → option_copied r ≡ lookup (pointwise nat_eq k) es
+      → All Accepted cs × IsFound cs (option_copied r)
+  found es cs r keyed all got =
+      (rw (← all) keyed.accepted, rw (← all, got) (lookup_is es keyed.keyed))
+
+  pub found_some : (cs : List Certificate) (r : Option (Bor Certificate))
+      → All Accepted cs × IsFound cs (option_copied r)
       → IfSome r (λ x. Contains cs x.now × (x.now.code ≡ code) × (kind_of x.now ≡ heaps)
       × Accepted x.now)
-  found_some cs None all h = tt
-  found_some cs (Some x) all h = (h.0, h.1, h.2, accepted_one cs x.now all h.0)
+  found_some cs None h = tt
+  found_some cs (Some x) (all, h) = (h.0, h.1, h.2, All-contains Accepted cs x.now all h.0)
 
   pub found_none : (cs : List Certificate) (r : Option (Bor Certificate))
-      → IsFound cs (option_copied r)
+      → All Accepted cs × IsFound cs (option_copied r)
       → (r ≡ None → HasEntry cs code heaps → ⊥) × ((HasEntry cs code heaps → ⊥) → r ≡ None)
-  found_none cs None h = (λ e. h, λ n. refl)
-  found_none cs (Some x) h = (λ e. cc, λ n. absurd (n (x.now, h.0, h.1, h.2)))
+  found_none cs None (all, h) = (λ e. h, λ n. refl)
+  found_none cs (Some x) (all, h) = (λ e. cc, λ n. absurd (n (x.now, h.0, h.1, h.2)))
 
 keyed_push : (es : List Held) (e : Held) → AllByRecursion IsKeyed es → IsKeyed e
     → AllByRecursion IsKeyed (es ++ e ∷ [])
@@ -164,7 +160,3 @@ pub either : {T E : Type 0} (r : Result T E) (P : List Held → Type 0) (old mor
     → OnOk r (new ≡ more) → OnErr r (new ≡ old) → P old → P more → P new
 either (Ok x) P old more new e f p q = subst P (sym e) q
 either (Err x) P old more new e f p q = subst P (sym f) p
-
-pub within : {T E : Type 0} (r : Result T E) (A B : Type 0) → OnOk r A → (A → B) → OnOk r B
-within (Ok x) A B a f = f a
-within (Err x) A B a f = tt

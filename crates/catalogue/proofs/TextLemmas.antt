@@ -1,9 +1,10 @@
 -- Certificates are ASCII, and the data of a catalogue has no float.
 -- So a certificate is a JSON string, and the text that `serde_json` writes is known.
-use Rattle.std.proofs.Common.{◌≡◌, ℕ, zero, suc, ◌+◌, ◌==◌, ◌<◌, ◌≤◌, inl, inr, Bool, true, false, if◌then◌else◌, ◌||◌, List, [], ◌∷◌, ◌++◌, length, map, take, drop, Option, Some, None, codes, decimal, All, refl, sym, ap, ◌∙◌, arith}
+use Rattle.std.proofs.Common.{◌≡◌, ℕ, suc, ◌+◌, ◌==◌, ◌<◌, ◌≤◌, inl, inr, Bool, true, false, if◌then◌else◌, ◌||◌, List, [], ◌∷◌, ◌++◌, length, map, drop, Option, Some, None, codes, decimal, All, nat_lt, refl, sym, ap, ◌∙◌, arith}
 use Rattle.std.specs.Str.{IsAscii, IsUtf8}
 use Rattle.std.specs.Io.KnownBytes.{Appends}
 use Rattle.std.specs.List.{AllByRecursion}
+use Rattle.std.proofs.lemmas.Bool.Decides.{nat_tests}
 use Rattle.std.proofs.lemmas.List.Elements.{All-take, All-drop}
 use Rattle.std.proofs.lemmas.Str.{IsAscii-append, IsUtf8-from_ascii}
 use Rattle.std.proofs.lemmas.Str.Ascii.{IsAscii-nil, IsAscii-cons}
@@ -20,12 +21,26 @@ use Rattle.serde_json.specs.View.{items_of}
 use Rattle.serde_json.specs.Written.{has_float, items_have_float}
 use Rattle.catalogue.specs.Texts.{entry_data, catalogue_data}
 
-ascii : (bs : List ℕ) → AllByRecursion (λ b. b < 128) bs → IsAscii bs
-ascii [] h = IsAscii-nil
-ascii (b ∷ bs) h = IsAscii-cons b bs h.0 (ascii bs h.1)
+abbrev small_bytes : List ℕ → Bool
+small_bytes [] = true
+small_bytes (b ∷ bs) = if nat_lt b 128 then small_bytes bs else false
+
+-- a name is ASCII as computing tells
+ascii : (bs : List ℕ) → small_bytes bs ≡ true → IsAscii bs
+ascii [] e = IsAscii-nil
+ascii (b ∷ bs) e = by (nat_lt b 128) refl e (ascii bs)
+  where
+    by : (t : Bool) → nat_lt b 128 ≡ t → (if t then small_bytes bs else false) ≡ true
+        → (small_bytes bs ≡ true → IsAscii bs) → IsAscii (b ∷ bs)
+    by true l e more = IsAscii-cons b bs (grind (arith, nat_tests)) (more e)
+    by false l e more = absurd (cc)
 
 abbrev IsPlain : Line → Type 0
 IsPlain line = IsAscii line.name × AllByRecursion IsAscii line.words
+
+plain : (name : List ℕ) (ws : List (List ℕ)) → small_bytes name ≡ true → AllByRecursion IsAscii ws
+    → IsPlain (record { name = name; words = ws })
+plain name ws e h = (ascii name e, h)
 
 spaced_ascii : (ws : List (List ℕ)) → AllByRecursion IsAscii ws → IsAscii (spaced ws)
 spaced_ascii [] h = IsAscii-nil
@@ -70,10 +85,7 @@ rows_plain : (q : ℕ) (rows : List (List ℕ)) (behind : List Line) → q ≤ L
     → AllByRecursion IsPlain (map row_line rows ++ behind)
 rows_plain q [] behind l h b = b
 rows_plain q (row ∷ rows) behind l h b = (
-  (
-    ascii (codes "row") (omega arith, (omega arith, (omega arith, tt))),
-    decimals q row l ((h 0 row (omega arith)).1),
-  ),
+  plain (codes "row") (map decimal row) refl (decimals q row l (h 0 row (omega arith)).1),
   rows_plain q rows behind l (λ i d n. h (suc i) d (omega arith)) b,
 )
 
@@ -115,7 +127,7 @@ said_rows c true h =
 said_rows c false h = h
 
 end_plain : AllByRecursion IsPlain (record { name = codes "end"; words = [] } ∷ [])
-end_plain = ((ascii (codes "end") (omega arith, (omega arith, (omega arith, tt))), tt), tt)
+end_plain = (plain (codes "end") [] refl tt, tt)
 
 -- the separators' line, where it stands, and the last one
 apart_plain : (c : Certificate) (third : Bool) → InRanges c
@@ -123,86 +135,29 @@ apart_plain : (c : Certificate) (third : Bool) → InRanges c
     ((if third then [] else record { name = codes "apart"; words = map decimal c.apart } ∷ [])
     ++ record { name = codes "end"; words = [] } ∷ [])
 apart_plain c true r = end_plain
-apart_plain c false r = (
-  (
-    ascii (codes "apart")
-        (omega arith, (omega arith, (omega arith, (omega arith, (omega arith, tt))))),
-    decimals c.order c.apart r.order.1 r.apart.1,
-  ),
-  end_plain,
-)
+apart_plain c false r =
+    (plain (codes "apart") (map decimal c.apart) refl (decimals c.order c.apart r.order.1 r.apart.1), end_plain)
 
 lines_plain : (c : Certificate) → InRanges c → AllByRecursion IsPlain (lines c)
 lines_plain c r =
     let q = r.order.1 in
-    let sp = r.period.1 in (
-      (
-        ascii (codes "mqc") (omega arith, (omega arith, (omega arith, tt))),
-        (small_decimal (format_of c) (format_small c), tt),
-      ),
-      (
-        (
-          ascii (codes "code") (omega arith, (omega arith, (omega arith, (omega arith, tt)))),
-          (code_ascii c.code r.code, tt),
-        ),
-        (
-          (
-            ascii (codes "order")
-                (omega arith, (omega arith, (omega arith, (omega arith, (omega arith, tt))))),
-            (small_decimal c.order (omega arith), tt),
-          ),
-          (
-            (
-              ascii (codes "start")
-                  (omega arith, (omega arith, (omega arith, (omega arith, (omega arith, tt))))),
-              (small_decimal c.start (omega arith), tt),
-            ),
-            (
-              (
-                ascii (codes "period") (
-                  omega arith,
-                  (omega arith, (omega arith, (omega arith, (omega arith, (omega arith, tt))))),
-                ),
-                (small_decimal c.period (omega arith), tt),
-              ),
-              (
-                (
-                  ascii (codes "phi") (omega arith, (omega arith, (omega arith, tt))),
-                  decimals c.order c.phi q r.phi.1,
-                ),
-                (
-                  (
-                    ascii (codes "portion") (
-                      omega arith,
-                      (
-                        omega arith,
-                        (
-                          omega arith,
-                          (omega arith, (omega arith, (omega arith, (omega arith, tt)))),
-                        ),
-                      ),
-                    ),
-                    decimals c.order c.portion q r.portion.1,
-                  ),
-                  (
-                    (
-                      ascii (codes "words") (
-                        omega arith,
-                        (omega arith, (omega arith, (omega arith, (omega arith, tt)))),
-                      ),
-                      keys c.order (c.start + c.period) c.words q sp r.words.1,
-                    ),
-                    rows_plain c.order (said c).rows _ q
-                        (said_rows c (format_of c == 3) r.rows.1)
-                        (apart_plain c (format_of c == 3) r),
-                  ),
-                ),
-              ),
-            ),
-          ),
-        ),
-      ),
-    )
+    let sp = r.period.1 in
+    let one = λ (name w : List ℕ) (e : small_bytes name ≡ true) (a : IsAscii w). plain name (w ∷ []) e (a, tt) in
+    let mqc = one (codes "mqc") _ refl (small_decimal (format_of c) (format_small c)) in
+    let code = one (codes "code") _ refl (code_ascii c.code r.code) in
+    let order = one (codes "order") _ refl (small_decimal c.order (omega arith)) in
+    let start = one (codes "start") _ refl (small_decimal c.start (omega arith)) in
+    let period = one (codes "period") _ refl (small_decimal c.period (omega arith)) in
+    let phi = plain (codes "phi") (map decimal c.phi) refl (decimals c.order c.phi q r.phi.1) in
+    let portion =
+    plain (codes "portion") (map decimal c.portion) refl (decimals c.order c.portion q r.portion.1) in
+    let words =
+    plain (codes "words") (map key_word c.words) refl
+    (keys c.order (c.start + c.period) c.words q sp r.words.1) in
+    let rows =
+    rows_plain c.order (said c).rows _ q (said_rows c (format_of c == 3) r.rows.1)
+    (apart_plain c (format_of c == 3) r) in
+    (mqc, (code, (order, (start, (period, (phi, (portion, (words, rows))))))))
 
 -- the text of a certificate is UTF-8
 pub certificate_utf8 : (c : Certificate) → InRanges c → IsUtf8 (text (lines c))
@@ -214,12 +169,6 @@ entries_no_float (c ∷ cs) = entries_no_float cs
 
 pub no_float : (cs : List Certificate) → has_float (catalogue_data cs) ≡ false
 no_float cs = ap (λ b. b || (false || false)) (entries_no_float cs)
-
-pub take_past : {X : Type 0} (xs : List X) (i : ℕ) → length xs ≤ i → take i xs ≡ xs
-take_past [] zero l = refl
-take_past [] (suc i) l = refl
-take_past (x ∷ xs) zero l = absurd (omega arith)
-take_past (x ∷ xs) (suc i) l = ap (λ ys. x ∷ ys) (take_past xs i (omega arith))
 
 -- what an empty sink took is what went out
 pub taken_is : (a b : Option (List ℕ)) (bytes t : List ℕ) → a ≡ Some [] → Appends a b t

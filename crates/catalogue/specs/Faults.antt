@@ -4,8 +4,8 @@ use Rattle.catalogue.specs.declared.fault.LoadFault.{LoadFault}
 use Rattle.catalogue.specs.declared.fault.LoadFault.TheVariants as load
 use Rattle.catalogue.specs.declared.fault.AddFault.{AddFault}
 use Rattle.catalogue.specs.declared.fault.AddFault.TheVariants as add
-use Rattle.catalogue.specs.declared.fault.WriteFault.{WriteFault}
-use Rattle.catalogue.specs.declared.fault.WriteFault.TheVariants as out
+use Rattle.catalogue.specs.declared.fault.StoreFault.{StoreFault}
+use Rattle.catalogue.specs.declared.fault.StoreFault.TheVariants as out
 
 abbrev pub load_fault_number : LoadFault → ℕ
 load_fault_number load.Json = 1
@@ -20,6 +20,6 @@ abbrev pub add_fault_number : AddFault → ℕ
 add_fault_number add.Present = 1
 add_fault_number add.Memory = 9
 
-abbrev pub write_fault_number : WriteFault → ℕ
-write_fault_number out.Write = 1
-write_fault_number out.Memory = 9
+abbrev pub store_fault_number : StoreFault → ℕ
+store_fault_number out.Write = 1
+store_fault_number out.Memory = 9

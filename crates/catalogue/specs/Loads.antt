@@ -7,7 +7,7 @@ use Rattle.misere_theory.specs.Certificates.{Certificate, Accepted, kind_of}
 use Rattle.serde_json.specs.Data.{Data}
 use Rattle.answers.specs.ByteVerdicts.{IsTrueOf, refused}
 use Rattle.answers.specs.ByteVerdicts.ByteVerdict.{Yes, Memory as WantOfMemory}
-use Rattle.checker.specs.Turns.{verdict}
+use Rattle.check_machine.specs.Turns.{verdict}
 use Rattle.catalogue.specs.Entries.{HasEntry, HaveOtherKinds}
 use Rattle.catalogue.specs.Files.{IsJson, IsFile, Written, heaps_named}
 use Rattle.catalogue.specs.declared.fault.LoadFault.{LoadFault}

@@ -1,9 +1,9 @@
 //! Why a catalogue isn't loaded, and why an entry isn't added.
 ghost use Rattle.std.specs.Prelude.{◌≡◌};
-ghost use Rattle.catalogue.specs.Faults.{add_fault_number, load_fault_number, write_fault_number};
+ghost use Rattle.catalogue.specs.Faults.{add_fault_number, load_fault_number, store_fault_number};
 ghost use Rattle.catalogue.specs.declared.fault.AddFault.{AddFault};
 ghost use Rattle.catalogue.specs.declared.fault.LoadFault.{LoadFault};
-ghost use Rattle.catalogue.specs.declared.fault.WriteFault.{WriteFault};
+ghost use Rattle.catalogue.specs.declared.fault.StoreFault.{StoreFault};
 
 use allocation::Memory;
 use checker::Refusal;
@@ -102,29 +102,29 @@ impl AddFault {
 
 /// Why a catalogue isn't written.
 #[derive(Clone, Copy, Debug, PartialEq, Eq)]
-pub enum WriteFault {
+pub enum StoreFault {
     /// The sink failed.
     Write,
     /// A growth was refused.
     Memory,
 }
 
-impl WriteFault {
+impl StoreFault {
     /// The number under which the fault is printed.
     pub fn number(self) -> u8
-        ensures { result ≡ write_fault_number self }
+        ensures { result ≡ store_fault_number self }
     {
         match self {
-            WriteFault::Write => 1,
-            WriteFault::Memory => 9,
+            StoreFault::Write => 1,
+            StoreFault::Memory => 9,
         }
     }
 }
 
-impl From<Memory> for WriteFault {
-    ghost from_gives = { λ _ fault. fault ≡ WriteFault.Memory };
+impl From<Memory> for StoreFault {
+    ghost from_gives = { λ _ fault. fault ≡ StoreFault.Memory };
 
-    fn from(_: Memory) -> WriteFault {
-        WriteFault::Memory
+    fn from(_: Memory) -> StoreFault {
+        StoreFault::Memory
     }
 }

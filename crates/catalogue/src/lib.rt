@@ -17,7 +17,7 @@ mod salvaging;
 mod store;
 mod text;
 
-pub use fault::{AddFault, LoadFault, WriteFault};
+pub use fault::{AddFault, LoadFault, StoreFault};
 pub use laws::texts_of_the_same_codes_are_equal;
 pub use store::Catalogue;
 pub use text::certificate_text;

@@ -6,7 +6,7 @@ ghost use Rattle.serde_json.specs.View.{items_view, view};
 ghost use Rattle.streams.specs.Stream.{AppendsSome};
 ghost use Rattle.catalogue.specs.Texts.{catalogue_data, catalogue_text, entry_data, file_data};
 
-use crate::fault::WriteFault;
+use crate::fault::StoreFault;
 use crate::store::Catalogue;
 use allocation::Memory;
 use certificate::{Cert, in_ranges};
@@ -73,18 +73,18 @@ impl Catalogue {
     ///
     /// Refuses `Write` only where the sink fails in this call; what went out is then a beginning of
     /// the text. After want of memory nothing was written.
-    pub fn write<W: Sink>(&self, sink: &mut W) -> Result<(), WriteFault>
+    pub fn write<W: Sink>(&self, sink: &mut W) -> Result<(), StoreFault>
         ensures written { OnOk result
             (Appends (W.taken sink.old) (W.taken sink.new) (catalogue_text self.now)) }
-        ensures beginning { result ≡ Err WriteFault.Write
+        ensures beginning { result ≡ Err StoreFault.Write
             → AppendsSome (W.taken sink.old) (W.taken sink.new) (catalogue_text self.now) }
-        ensures cause { result ≡ Err WriteFault.Write → W.failures sink.old < W.failures sink.new }
-        ensures unwritten { result ≡ Err WriteFault.Memory → sink.new ≡ sink.old }
+        ensures cause { result ≡ Err StoreFault.Write → W.failures sink.old < W.failures sink.new }
+        ensures unwritten { result ≡ Err StoreFault.Memory → sink.new ≡ sink.old }
     {
         let text = self.text()?;
         match write_whole(sink, text.as_bytes()) {
             Ok(()) => Ok(()),
-            Err(_) => Err(WriteFault::Write),
+            Err(_) => Err(StoreFault::Write),
         }
     }
 }

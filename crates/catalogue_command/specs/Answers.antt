@@ -13,7 +13,7 @@ use Rattle.catalogue.specs.Salvages.{IsSalvaged}
 use Rattle.catalogue.specs.declared.fault.LoadFault.{LoadFault}
 use Rattle.catalogue.specs.Texts.{catalogue_text}
 use Rattle.answers.specs.ByteVerdicts.{ByteVerdict}
-use Rattle.checker.specs.Turns.{verdict}
+use Rattle.check_machine.specs.Turns.{verdict}
 use Rattle.answers.specs.ByteVerdicts.ByteVerdict.{Yes, Memory}
 use Rattle.verdict_texts.specs.Lines.{IsTextOf}
 use Rattle.catalogue_command.specs.Lines.{added_line, entry_line, migrated_line, salvage_lines, IsFaultLine}

@@ -1,8 +1,9 @@
 -- The bytes up to the first LF, and those behind it.
-use Rattle.std.proofs.Common.{◌≡◌, ◌≢◌, ◌==◌, ◌<◌, ◌≤◌, ◌+◌, ◌-◌, ◌⊎◌, inl, inr, ℕ, zero, suc, Bool, true, false, cond, nat_lt, List, [], ◌∷◌, ◌++◌, length, take, drop, get_or, Option, Some, None, All, refl, sym, ap, ◌∙◌, arith}
+use Rattle.std.proofs.Common.{◌≡◌, ◌≢◌, ◌==◌, ◌<◌, ◌≤◌, ◌+◌, ◌-◌, ◌⊎◌, inl, inr, ℕ, suc, Bool, true, false, cond, nat_lt, List, [], ◌∷◌, ◌++◌, length, take, drop, get_or, Option, Some, None, All, refl, sym, ap, subst, ◌∙◌, arith, drop-cons}
 use Rattle.std.specs.List.{AllByRecursion, position, position_or_len}
-use Rattle.std.proofs.lemmas.Bool.{eqb-true, eq-eqb, ltb-false}
+use Rattle.std.proofs.lemmas.Bool.{eqb-true, eqb-false, eq-eqb, ltb-false}
 use Rattle.std.proofs.lemmas.Grind.{common_steps}
+use Rattle.std.proofs.lemmas.List.{length-take-le, get_or-take, get_or_default, take-append-drop}
 use Rattle.std.proofs.lemmas.List.Elements.{All-from_recursion}
 use Rattle.std.proofs.lemmas.List.Quantifiers.{position-Some}
 
@@ -24,25 +25,21 @@ first_line (a ∷ u) (b ∷ v) x y p q e =
     let same : a ∷ u ≡ b ∷ v = (let h0 = h.0 in let r0 = r.0 in cc) in
     (same, r.1)
 
-pub cut : (xs : List ℕ) (i : ℕ) → i < length xs → get_or xs i 0 ≡ 10
-    → ((k : ℕ) → k < i → (get_or xs k 0 == 10) ≡ false)
-    → (xs ≡ take i xs ++ 10 ∷ drop (suc i) xs) × AllByRecursion IsNoLf (take i xs)
-cut [] i lt e before = absurd (omega arith)
-cut (x ∷ xs) zero lt e before = (ap (λ (y : ℕ). y ∷ xs) e, tt)
-cut (x ∷ xs) (suc i) lt e before =
-    let r = cut xs i (omega arith) e (λ k h. before (suc k) (omega arith)) in
-    let first : x ≢ 10 =
-    λ same. absurd (let f : (x == 10) ≡ false = before 0 (omega arith) in
-    let t : (10 == 10) ≡ false = ap (λ (y : ℕ). y == 10) (sym same) ∙ f in cc) in
-    (ap (λ (t : List ℕ). x ∷ t) r.0, (first, r.1))
-
 -- where the first LF stands the bytes are cut
 pub cut_at : (xs : List ℕ) (i : ℕ) → position (λ b. b == 10) xs ≡ Some i
     → (i < length xs) × (xs ≡ take i xs ++ 10 ∷ drop (suc i) xs) × All IsNoLf (take i xs)
 cut_at xs i e =
-    let p = position-Some (λ b. b == 10) xs i 0 e in
-    let r = cut xs i p.0 (eqb-true (get_or xs i 0) 10 p.1) p.2 in
-    (p.0, r.0, All-from_recursion IsNoLf (take i xs) r.1)
+    let (lt, here, before) = position-Some (λ b. b == 10) xs i 0 e in (
+      lt,
+      sym (take-append-drop i xs)
+          ∙ ap (λ (t : List ℕ). take i xs ++ t) (drop-cons xs i 0 lt
+          ∙ ap (λ (y : ℕ). y ∷ drop (suc i) xs) (eqb-true (get_or xs i 0) 10 here)),
+      λ k d l.
+          let n = length-take-le i xs (omega arith) in
+          let below : k < i = omega arith in
+          subst IsNoLf (get_or_default xs k 0 d (omega arith) ∙ sym (get_or-take i xs k d below))
+          (eqb-false (get_or xs k 0) 10 (before k below)),
+    )
 
 -- all that is left behind a place
 pub whole_drop : (i : ℕ) (xs : List ℕ)

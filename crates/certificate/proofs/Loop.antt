@@ -13,104 +13,78 @@ pub regroup : {X : Type 0} (front : List X) (x : X) (read : Option (List X × Li
 regroup front x (Some y) = ap (λ ys. Some (ys, y.1)) (sym (append_assoc front (x ∷ []) y.0))
 regroup front x None = refl
 
-pub goes_on : {X : Type 0} (word : List ℕ → Option (X × List ℕ)) (front : List X) (count i : ℕ)
-    (bytes space : List ℕ) (x : X) (after : List ℕ) (total : Option (List X × List ℕ)) → i < count
-    → fixed_at (32 ∷ []) bytes ≡ Some space → word space ≡ Some (x, after)
-    → with_front front (words_at word (count - i) bytes) ≡ total
-    → with_front (front ++ x ∷ []) (words_at word (count - (i + 1)) after) ≡ total
-unfolding words_at
-goes_on word front count i bytes space x after total lt s h so_far =
-    let k : count - i ≡ suc (count - (i + 1)) = omega arith in
-    let one : with_front front (words_at word (count - i) bytes)
-    ≡ with_front (front ++ x ∷ []) (words_at word (count - (i + 1)) after) =
-    rw (k, s, h) (regroup front x (words_at word (count - (i + 1)) after)) in
-    sym one ∙ so_far
+module _ {X : Type 0} (word : List ℕ → Option (X × List ℕ)) (front : List X) (count i : ℕ)
+    (bytes : List ℕ) (total : Option (List X × List ℕ))
+    (so_far : with_front front (words_at word (count - i) bytes) ≡ total) where
+  next_word : i < count → with_front front (words_at word (suc (count - (i + 1))) bytes) ≡ total
+  next_word lt = let k : count - i ≡ suc (count - (i + 1)) = omega arith in rw k at so_far
 
-pub no_space : {X : Type 0} (word : List ℕ → Option (X × List ℕ)) (e : TextFault) (front : List X)
-    (count i : ℕ) (bytes : List ℕ) (total : Option (List X × List ℕ)) → i < count
-    → Fails e (fixed_at (32 ∷ []) bytes)
-    → with_front front (words_at word (count - i) bytes) ≡ total → Fails e total
-unfolding words_at
-no_space word Memory front count i bytes total lt h so_far = tt
-no_space word Text front count i bytes total lt h so_far =
-    let k : count - i ≡ suc (count - (i + 1)) = omega arith in
-    let one : with_front front (words_at word (count - i) bytes) ≡ None = rw (k, h) refl in
-    sym so_far ∙ one
+  pub goes_on : (space : List ℕ) (x : X) (after : List ℕ) → i < count
+      → fixed_at (32 ∷ []) bytes ≡ Some space → word space ≡ Some (x, after)
+      → with_front (front ++ x ∷ []) (words_at word (count - (i + 1)) after) ≡ total
+  unfolding words_at
+  goes_on space x after lt s h =
+      sym (regroup front x (words_at word (count - (i + 1)) after)) ∙ (rw (s, h) at (next_word lt))
 
-pub no_word : {X : Type 0} (word : List ℕ → Option (X × List ℕ)) (e : TextFault) (front : List X)
-    (count i : ℕ) (bytes space : List ℕ) (total : Option (List X × List ℕ)) → i < count
-    → fixed_at (32 ∷ []) bytes ≡ Some space → Fails e (word space)
-    → with_front front (words_at word (count - i) bytes) ≡ total → Fails e total
-unfolding words_at
-no_word word Memory front count i bytes space total lt s h so_far = tt
-no_word word Text front count i bytes space total lt s h so_far =
-    let k : count - i ≡ suc (count - (i + 1)) = omega arith in
-    let one : with_front front (words_at word (count - i) bytes) ≡ None = rw (k, s, h) refl in
-    sym so_far ∙ one
+  pub no_space : (e : TextFault) → i < count → Fails e (fixed_at (32 ∷ []) bytes) → Fails e total
+  unfolding words_at
+  no_space Memory lt h = tt
+  no_space Text lt h = sym (rw h at (next_word lt))
 
-pub is_done : {X : Type 0} (word : List ℕ → Option (X × List ℕ)) (front : List X) (count i : ℕ)
-    (bytes : List ℕ) (total : Option (List X × List ℕ)) → count ≤ i
-    → with_front front (words_at word (count - i) bytes) ≡ total → total ≡ Some (front, bytes)
-unfolding words_at
-is_done word front count i bytes total le so_far =
-    let k : count - i ≡ 0 = omega arith in
-    let one : with_front front (words_at word (count - i) bytes) ≡ Some (front, bytes) =
-    rw k (ap (λ xs. Some (xs, bytes)) (append-nil front)) in
-    sym so_far ∙ one
+  pub no_word : (e : TextFault) (space : List ℕ) → i < count
+      → fixed_at (32 ∷ []) bytes ≡ Some space → Fails e (word space) → Fails e total
+  unfolding words_at
+  no_word Memory space lt s h = tt
+  no_word Text space lt s h = sym (rw (s, h) at (next_word lt))
+
+  pub is_done : count ≤ i → total ≡ Some (front, bytes)
+  unfolding words_at
+  is_done le =
+      let k : count - i ≡ 0 = omega arith in
+      sym (rw k at so_far) ∙ ap (λ (xs : List X). Some (xs, bytes)) (append-nil front)
 
 -- ---- rising numbers
 
 module _ (limit i : ℕ) (front : List ℕ) (least : ℕ) (bytes : List ℕ)
     (total : Option (List ℕ × List ℕ))
     (so_far : with_front front (rising_at limit (limit - i) least bytes) ≡ total) where
+  next_rising : i < limit
+      → with_front front (rising_at limit (suc (limit - (i + 1))) least bytes) ≡ total
+  next_rising lt = let k : limit - i ≡ suc (limit - (i + 1)) = omega arith in rw k at so_far
+
   pub rising_stops : i < limit → fixed_at (32 ∷ []) bytes ≡ None → total ≡ Some (front, bytes)
   unfolding rising_at
   rising_stops lt h =
-      let k : limit - i ≡ suc (limit - (i + 1)) = omega arith in
-      let one : with_front front (rising_at limit (limit - i) least bytes) ≡ Some (front, bytes) =
-      rw (k, h) (ap (λ (xs : List ℕ). Some (xs, bytes)) (append-nil front)) in
-      sym so_far ∙ one
+      sym (rw h at (next_rising lt)) ∙ ap (λ (xs : List ℕ). Some (xs, bytes)) (append-nil front)
 
   pub rising_fails : (e : TextFault) (space : List ℕ) → i < limit
       → fixed_at (32 ∷ []) bytes ≡ Some space → Fails e (number_at limit space) → Fails e total
   unfolding rising_at
   rising_fails Memory space lt s h = tt
-  rising_fails Text space lt s h =
-      let k : limit - i ≡ suc (limit - (i + 1)) = omega arith in
-      let one : with_front front (rising_at limit (limit - i) least bytes) ≡ None =
-      rw (k, s, h) refl in
-      sym so_far ∙ one
+  rising_fails Text space lt s h = sym (rw (s, h) at (next_rising lt))
 
   pub rising_falls : (space : List ℕ) (x : ℕ) (after : List ℕ) → i < limit
       → fixed_at (32 ∷ []) bytes ≡ Some space → number_at limit space ≡ Some (x, after) → x < least
       → total ≡ None
   unfolding rising_at
   rising_falls space x after lt s h low =
-      let k : limit - i ≡ suc (limit - (i + 1)) = omega arith in
       let t : nat_lt x least ≡ true = lt-ltb _ _ low in
-      let one : with_front front (rising_at limit (limit - i) least bytes) ≡ None =
-      rw (k, s, h, t) refl in
-      sym so_far ∙ one
+      sym (rw (s, h, t) at (next_rising lt))
 
   pub rising_goes_on : (space : List ℕ) (x : ℕ) (after : List ℕ) → i < limit
       → fixed_at (32 ∷ []) bytes ≡ Some space → number_at limit space ≡ Some (x, after) → least ≤ x
       → with_front (front ++ x ∷ []) (rising_at limit (limit - (i + 1)) (x + 1) after) ≡ total
   unfolding rising_at
   rising_goes_on space x after lt s h le =
-      let k : limit - i ≡ suc (limit - (i + 1)) = omega arith in
       let t : nat_lt x least ≡ false = le-ltb _ _ le in
-      let one : with_front front (rising_at limit (limit - i) least bytes)
-      ≡ with_front (front ++ x ∷ []) (rising_at limit (limit - (i + 1)) (x + 1) after) =
-      rw (k, s, h, t) (regroup front x (rising_at limit (limit - (i + 1)) (x + 1) after)) in
-      sym one ∙ so_far
+      sym (regroup front x (rising_at limit (limit - (i + 1)) (x + 1) after))
+      ∙ (rw (s, h, t) at (next_rising lt))
 
   pub rising_is_done : limit ≤ i → total ≡ Some (front, bytes)
   unfolding rising_at
   rising_is_done le =
       let k : limit - i ≡ 0 = omega arith in
-      let one : with_front front (rising_at limit (limit - i) least bytes) ≡ Some (front, bytes) =
-      rw k (ap (λ (xs : List ℕ). Some (xs, bytes)) (append-nil front)) in
-      sym so_far ∙ one
+      sym (rw k at so_far) ∙ ap (λ (xs : List ℕ). Some (xs, bytes)) (append-nil front)
 
 -- ---- a line behind what was found before
 
@@ -171,40 +145,32 @@ regroup_front front xs None = refl
 
 module _ (order count i : ℕ) (front bytes : List ℕ) (total : Option (List ℕ × List ℕ))
     (so_far : with_front front (rows_at order (count - i) bytes) ≡ total) where
+  next_rows : i < count → with_front front (rows_at order (suc (count - (i + 1))) bytes) ≡ total
+  next_rows lt = let k : count - i ≡ suc (count - (i + 1)) = omega arith in rw k at so_far
+
   pub rows_fail : (e : TextFault) → i < count
       → Fails e (with_front front (line_at (codes "row") (number_at order) order bytes))
       → Fails e total
   unfolding rows_at
   rows_fail Memory lt h = tt
   rows_fail Text lt h =
-      let k : count - i ≡ suc (count - (i + 1)) = omega arith in
       let none : line_at (codes "row") (number_at order) order bytes ≡ None =
       front_none front (line_at (codes "row") (number_at order) order bytes) h in
-      let one : with_front front (rows_at order (count - i) bytes) ≡ None = rw (k, none) refl in
-      sym so_far ∙ one
-
-  next_row : (xs after : List ℕ) → i < count → line_at (codes "row") (number_at order) order bytes
-      ≡ Some (xs, after) → with_front (front ++ xs) (rows_at order (count - (i + 1)) after) ≡ total
-  unfolding rows_at
-  next_row xs after lt h =
-      let k : count - i ≡ suc (count - (i + 1)) = omega arith in
-      let one : with_front front (rows_at order (count - i) bytes)
-      ≡ with_front (front ++ xs) (rows_at order (count - (i + 1)) after) =
-      rw (k, h) (regroup_front front xs (rows_at order (count - (i + 1)) after)) in
-      sym one ∙ so_far
+      sym (rw none at (next_rows lt))
 
   pub rows_go_on : (new after : List ℕ) → i < count
       → with_front front (line_at (codes "row") (number_at order) order bytes) ≡ Some (new, after)
       → with_front new (rows_at order (count - (i + 1)) after) ≡ total
+  unfolding rows_at
   rows_go_on new after lt h =
-      let t = front_some front (line_at (codes "row") (number_at order) order bytes) new after h in
-      ap (λ (xs : List ℕ). with_front xs (rows_at order (count - (i + 1)) after)) (sym t.2)
-      ∙ next_row t.0 after lt t.1
+      let (xs, line, is) =
+      front_some front (line_at (codes "row") (number_at order) order bytes) new after h in
+      ap (λ (ys : List ℕ). with_front ys (rows_at order (count - (i + 1)) after)) (sym is)
+      ∙ sym (regroup_front front xs (rows_at order (count - (i + 1)) after))
+      ∙ (rw line at (next_rows lt))
 
   pub rows_are_done : count ≤ i → total ≡ Some (front, bytes)
   unfolding rows_at
   rows_are_done le =
       let k : count - i ≡ 0 = omega arith in
-      let one : with_front front (rows_at order (count - i) bytes) ≡ Some (front, bytes) =
-      rw k (ap (λ (xs : List ℕ). Some (xs, bytes)) (append-nil front)) in
-      sym so_far ∙ one
+      sym (rw k at so_far) ∙ ap (λ (xs : List ℕ). Some (xs, bytes)) (append-nil front)

@@ -1,8 +1,8 @@
 -- The rows that are made of the first ones, as they lie in memory.
-use Rattle.std.proofs.Common.{◌≡◌, ℕ, zero, suc, ◌+◌, ◌-◌, ◌*◌, ◌≤◌, ◌<◌, ◌==◌, Bool, false, List, [], ◌∷◌, ◌++◌, refl, length, take, drop, get_or, All, sym, ap, subst, ◌∙◌, arith}
+use Rattle.std.proofs.Common.{◌≡◌, ℕ, suc, ◌+◌, ◌-◌, ◌*◌, ◌≤◌, ◌<◌, ◌==◌, Bool, false, List, [], ◌∷◌, ◌++◌, refl, length, take, drop, get_or, All, sym, ap, subst, ◌∙◌, arith}
 use Rattle.std.specs.List.{AllByRecursion, concat, list_any, range_with_len}
 use Rattle.std.proofs.Math.Nat.{suc-mul, mul-le-mul_right}
-use Rattle.std.proofs.lemmas.List.{take_all, length-take-le, length-drop, get_or-take, get_or-drop, get_or_default}
+use Rattle.std.proofs.lemmas.List.{length-take-le, length-drop, get_or-take, get_or-drop, get_or_default}
 use Rattle.std.proofs.lemmas.List.Elements.{recursion_from_All}
 use Rattle.misere_theory.specs.Certificates.{Certificate, InRanges, claim_of, phi_at}
 use Rattle.compact_certificates.specs.Flat.{product_in}
@@ -37,20 +37,14 @@ further_keys p = drop (firsts_of p.words) p.words
 abbrev pub rows_made : Fields → ℕ → List (List ℕ)
 rows_made p i = rows_by (phi_at (compact_of p)) (take i (further_keys p)) (known_rows p)
 
-range_from : (a n : ℕ) → range_with_len a (suc n) ≡ range_with_len a n ++ (a + n) ∷ []
-range_from a zero = let e : a ≡ a + 0 = omega arith in ap (λ (x : ℕ). x ∷ []) e
-range_from a (suc n) =
-    let e : a + 1 + n ≡ a + suc n = omega arith in
-    ap (λ (xs : List ℕ). a ∷ xs) (range_from (a + 1) n
-    ∙ ap (λ (x : ℕ). range_with_len (a + 1) n ++ x ∷ []) e)
-
--- one number more
-pub range_end : (n : ℕ) → range_with_len 0 (n + 1) ≡ range_with_len 0 n ++ n ∷ []
-range_end n =
-    let more : n + 1 ≡ suc n = omega arith in
-    let here : 0 + n ≡ n = omega arith in
-    ap (range_with_len 0) more ∙ range_from 0 n
-    ∙ ap (λ (x : ℕ). range_with_len 0 n ++ x ∷ []) here
+-- the element x and the value of a heap have their rows among those that lie, and the row of their
+-- product is the next
+pub record HasNextRow (p : Fields) (j x value : ℕ) (flat : List ℕ) : Type 0 where
+  pub element : x * p.order + p.order ≤ length flat
+  pub heap : value * p.order + p.order ≤ length flat
+  pub below : All (λ z. z < p.order) flat
+  pub joined : flat ++ product_in p.order flat x value
+      ≡ concat (rows_made p (j + 1 - firsts_of p.words))
 
 module _ (p : Fields) (h : HasFirstRows p) where
   ranges : InRanges (expanded (compact_of p))
@@ -117,7 +111,7 @@ module _ (p : Fields) (h : HasFirstRows p) where
         length_is p.order (rows_made p i) (recursion_from_All (IsRow p.order) (rows_made p i) fit)
         ∙ ap (λ (n : ℕ). n * p.order) count
 
-    pub row_there : (x : ℕ) → x < firsts_of p.words + 1 + i
+    row_there : (x : ℕ) → x < firsts_of p.words + 1 + i
         → x * p.order + p.order ≤ length (concat (rows_made p i))
     row_there x lt =
         let one = suc-mul x p.order in
@@ -126,16 +120,14 @@ module _ (p : Fields) (h : HasFirstRows p) where
         let n = long in
         omega arith
 
-    pub entries_below : All (λ x. x < p.order) (concat (rows_made p i))
+    entries_below : All (λ x. x < p.order) (concat (rows_made p i))
     entries_below =
         all_below p.order (rows_made p i)
         (recursion_from_All (IsRow p.order) (rows_made p i) fit)
 
   -- the key that stands at a place behind those of the first elements, and the rows so far
   module _ (j x heap : ℕ) (low : firsts_of p.words ≤ j) (high : j < length p.words)
-      (entry : ℕ × ℕ) (is : (x, heap) ≡ entry) (at : entry ≡ get_or p.words j entry) (value : ℕ)
-      (of_heap : value ≡ phi_at (compact_of p) heap) (flat : List ℕ)
-      (lies : flat ≡ concat (rows_made p (j - firsts_of p.words))) where
+      (entry : ℕ × ℕ) (is : (x, heap) ≡ entry) (at : entry ≡ get_or p.words j entry) where
     abbrev i : ℕ
     i = j - firsts_of p.words
 
@@ -149,7 +141,8 @@ module _ (p : Fields) (h : HasFirstRows p) where
         ∙ ap (λ (k : ℕ). get_or p.words k (0, 0)) place
         ∙ get_or_default p.words j (0, 0) entry high ∙ sym at ∙ sym is
 
-    before : (x < firsts_of p.words + 1 + i) × (value < firsts_of p.words + 1 + i)
+    before : (x < firsts_of p.words + 1 + i)
+        × (phi_at (compact_of p) heap < firsts_of p.words + 1 + i)
     before =
         let n = known_count in
         let b = subst
@@ -157,25 +150,10 @@ module _ (p : Fields) (h : HasFirstRows p) where
         × (phi_at (compact_of p) k.1 < length (known_rows p) + i)) here (precede i within) in
         let b0 = b.0 in
         let b1 = b.1 in
-        (omega arith, omega (arith, of_heap))
+        (omega arith, omega arith)
 
     at_most : i ≤ length (further_keys p)
     at_most = let w = within in omega arith
-
-    there : (y : ℕ) → y < firsts_of p.words + 1 + i → y * p.order + p.order ≤ length flat
-    there y lt =
-        subst (λ (rows : List ℕ). y * p.order + p.order ≤ length rows) (sym lies)
-        (row_there i at_most y lt)
-
-    pub element_there : x * p.order + p.order ≤ length flat
-    element_there = there x before.0
-
-    pub heap_there : value * p.order + p.order ≤ length flat
-    heap_there = there value before.1
-
-    pub all_there : All (λ z. z < p.order) flat
-    all_there =
-        subst (λ (rows : List ℕ). All (λ z. z < p.order) rows) (sym lies) (entries_below i at_most)
 
     joined : concat (rows_made p i)
         ++ product_in p.order (concat (rows_made p i)) x (phi_at (compact_of p) heap)
@@ -187,25 +165,22 @@ module _ (p : Fields) (h : HasFirstRows p) where
         let b1 = before.1 in
         let next : i + 1 ≡ j + 1 - firsts_of p.words = omega arith in
         product_lies p.order phi (rows_made p i) (x, heap) (λ k d l. (fit i at_most k d l).0)
-        (omega arith) (omega (arith, of_heap))
+        (omega arith) (omega arith)
         ∙ ap (λ (key : ℕ × ℕ). concat (rows_made p i ++ row_by phi (rows_made p i) key ∷ []))
         (sym here)
         ∙ ap concat (sym (one_key_more phi (known_rows p) (further_keys p) i within))
         ∙ ap (λ (k : ℕ). concat (rows_made p k)) next
 
-    pub one_row_made : flat ++ product_in p.order flat x value
-        ≡ concat (rows_made p (j + 1 - firsts_of p.words))
-    one_row_made =
-        ap (λ (v : ℕ). flat ++ product_in p.order flat x v) of_heap
-        ∙ ap (λ (rows : List ℕ). rows ++ product_in p.order rows x (phi_at (compact_of p) heap))
-        lies
-        ∙ joined
-
-  pub all_made : (i : ℕ) → length (further_keys p) ≤ i
-      → rows_made p i ≡ (expanded (compact_of p)).rows
-  all_made i le =
-      ap (λ (keys : List (ℕ × ℕ)). rows_by (phi_at (compact_of p)) keys (known_rows p))
-      (take_all i (further_keys p) le)
+    pub next_row : (value : ℕ) → value ≡ phi_at (compact_of p) heap → (flat : List ℕ)
+        → flat ≡ concat (rows_made p i) → HasNextRow p j x value flat
+    next_row value of_heap flat lies =
+        rw (of_heap, lies)
+        (record {
+          element = row_there i at_most x before.0;
+          heap = row_there i at_most _ before.1;
+          below = entries_below i at_most;
+          joined = joined;
+        })
 
   -- ---- the certificate with all of them
 

@@ -1,6 +1,8 @@
 -- Bytes that go out one after another.
-use Rattle.std.proofs.Common.{◌≡◌, ◌≤◌, ◌<◌, ℕ, zero, suc, get_or, ◌+◌, ◌-◌, List, [], ◌∷◌, ◌++◌, take, drop, length, map, Option, append_assoc, sym, ap, subst, ◌∙◌, arith, refl, codes}
-use Rattle.std.proofs.lemmas.List.{append-nil, length-drop}
+use Rattle.std.proofs.Common.{◌≡◌, ◌≤◌, ◌<◌, ℕ, suc, get_or, ◌+◌, ◌-◌, List, [], ◌∷◌, ◌++◌, take, drop, length, map, Option, append_assoc, sym, ap, subst, ◌∙◌, arith, refl, codes}
+use Rattle.std.proofs.Math.Seq.{take-suc}
+use Rattle.std.proofs.lemmas.List.{append-nil, length-drop, take_all, take-append-drop}
+use Rattle.std.proofs.lemmas.List.Concat.{flat_map-append}
 use Rattle.std.specs.Fmt.{decimal}
 use Rattle.std.specs.Io.KnownBytes.{Appends}
 use Rattle.std.specs.List.{flat_map}
@@ -15,46 +17,39 @@ use Rattle.certificate_text.specs.Spelling.{Line, spaced, row_line, text}
 module _ {X : Type 0} (f : X → List ℕ) where
   one_more : (xs : List X) (i : ℕ) (d : X) → i < length xs
       → flat_map f (take (suc i) xs) ≡ flat_map f (take i xs) ++ f (get_or xs i d)
-  one_more [] i d lt = absurd (omega arith)
-  one_more (x ∷ xs) zero d lt = append-nil (f x)
-  one_more (x ∷ xs) (suc i) d lt = ap (λ (t : List ℕ). f x ++ t) (one_more xs i d (omega arith))
-      ∙ sym (append_assoc (f x) (flat_map f (take i xs)) (f (get_or xs i d)))
+  one_more xs i d lt =
+      ap (flat_map f) (take-suc xs i d lt) ∙ flat_map-append f (take i xs) (get_or xs i d ∷ [])
+      ∙ ap (λ (t : List ℕ). flat_map f (take i xs) ++ t) (append-nil (f (get_or xs i d)))
 
   in_two : (xs : List X) (i : ℕ) → flat_map f xs ≡ flat_map f (take i xs) ++ flat_map f (drop i xs)
-  in_two [] zero = refl
-  in_two [] (suc i) = refl
-  in_two (x ∷ xs) zero = refl
-  in_two (x ∷ xs) (suc i) = ap (λ (t : List ℕ). f x ++ t) (in_two xs i)
-      ∙ sym (append_assoc (f x) (flat_map f (take i xs)) (flat_map f (drop i xs)))
+  in_two xs i =
+      ap (flat_map f) (sym (take-append-drop i xs)) ∙ flat_map-append f (take i xs) (drop i xs)
 
-  pub pieces_go_on : (a b c : Option (List ℕ)) (xs : List X) (i : ℕ) (d : X) → i < length xs
-      → Appends a b (flat_map f (take i xs)) → Appends b c (f (get_or xs i d))
-      → Appends a c (flat_map f (take (i + 1) xs))
-  pieces_go_on a b c xs i d lt p q =
-      let e : suc i ≡ i + 1 = omega arith in
-      subst (λ (k : ℕ). Appends a c (flat_map f (take k xs))) e
-      (subst (λ (t : List ℕ). Appends a c t) (sym (one_more xs i d lt))
-      (appends_then a b c (flat_map f (take i xs)) (f (get_or xs i d)) p q))
+  -- the piece of the next element goes out
+  module _ (a b c : Option (List ℕ)) (xs : List X) (i : ℕ) (d : X) (piece : List ℕ)
+      (lt : i < length xs) (p : Appends a b (flat_map f (take i xs))) where
+    pub pieces_go_on : Appends b c piece → piece ≡ f (get_or xs i d)
+        → Appends a c (flat_map f (take (i + 1) xs))
+    pieces_go_on q is =
+        let e : suc i ≡ i + 1 = omega arith in
+        subst (λ (k : ℕ). Appends a c (flat_map f (take k xs))) e
+        (subst (λ (t : List ℕ). Appends a c t) (sym (one_more xs i d lt))
+        (appends_then a b c (flat_map f (take i xs)) (f (get_or xs i d)) p
+        (subst (λ (t : List ℕ). Appends b c t) is q)))
 
-  pub pieces_stop : (a b c : Option (List ℕ)) (xs : List X) (i : ℕ) (d : X) → i < length xs
-      → Appends a b (flat_map f (take i xs)) → AppendsSome b c (f (get_or xs i d))
-      → AppendsSome a c (flat_map f xs)
-  pieces_stop a b c xs i d lt p q =
-      subst (λ (t : List ℕ). AppendsSome a c t) (sym (in_two xs (suc i)))
-      (some_more a c (flat_map f (take (suc i) xs)) (flat_map f (drop (suc i) xs))
-      (subst (λ (t : List ℕ). AppendsSome a c t) (sym (one_more xs i d lt))
-      (some_then a b c (flat_map f (take i xs)) (f (get_or xs i d)) p q)))
+    pub pieces_stop : (all : List ℕ) → AppendsSome b c piece → piece ≡ f (get_or xs i d)
+        → flat_map f xs ≡ all → AppendsSome a c all
+    pieces_stop all q is total =
+        subst (λ (t : List ℕ). AppendsSome a c t) (sym (in_two xs (suc i)) ∙ total)
+        (some_more a c (flat_map f (take (suc i) xs)) (flat_map f (drop (suc i) xs))
+        (subst (λ (t : List ℕ). AppendsSome a c t) (sym (one_more xs i d lt))
+        (some_then a b c (flat_map f (take i xs)) (f (get_or xs i d)) p
+        (subst (λ (t : List ℕ). AppendsSome b c t) is q))))
 
-  all_taken : (xs : List X) (i : ℕ) → length xs ≤ i → take i xs ≡ xs
-  all_taken [] zero le = refl
-  all_taken [] (suc i) le = refl
-  all_taken (x ∷ xs) zero le = absurd (omega arith)
-  all_taken (x ∷ xs) (suc i) le = ap (λ (t : List X). x ∷ t) (all_taken xs i (omega arith))
-
-  pub pieces_are_all : (a b : Option (List ℕ)) (xs : List X) (i : ℕ) → length xs ≤ i
-      → Appends a b (flat_map f (take i xs)) → Appends a b (flat_map f xs)
-  pieces_are_all a b xs i le p =
-      subst (λ (t : List X). Appends a b (flat_map f t)) (all_taken xs i le) p
+  pub pieces_are_all : (a b : Option (List ℕ)) (xs : List X) (i : ℕ) (all : List ℕ) → length xs ≤ i
+      → Appends a b (flat_map f (take i xs)) → flat_map f xs ≡ all → Appends a b all
+  pieces_are_all a b xs i all le p total =
+      subst (λ (t : List ℕ). Appends a b t) (ap (flat_map f) (take_all i xs le) ∙ total) p
 
   -- words, each behind a space
   pub spaced_is : (xs : List X) → flat_map (λ x. 32 ∷ f x) xs ≡ spaced (map f xs)

@@ -9,9 +9,9 @@ ghost use Rattle.certificate.specs.Fields.{IsWhole, certificate_of, pretending_o
 use crate::fields::Fields;
 use crate::key::Key;
 use octal_code::Code;
+use pretending::Phi;
 use std::alloc::{Allocator, Global};
 use std::marker::Model;
-use transition_algebra::Phi;
 
 /// A certificate that a text can say: each number lies in its range, and each line has as many as it
 /// should.

@@ -1,9 +1,9 @@
 //! The lines of a certificate, apart.
 use crate::key::Key;
 use octal_code::Code;
+use pretending::Phi;
 use std::alloc::{Allocator, Global};
 use std::marker::Model;
-use transition_algebra::Phi;
 
 /// What the lines of a certificate hold, apart from one another. The rows lie one behind the other.
 #[derive(Drop)]

@@ -2,7 +2,7 @@
 ghost use Rattle.std.specs.Prelude.{◌≡◌, ◌≤◌, ◌<◌, ◌+◌, IfOk};
 ghost use Rattle.misere_theory.specs.declared.TheConstants.{LARGEST_ORDER};
 ghost use Rattle.misere_theory.specs.Certificates.{format_of};
-ghost use Rattle.transition_algebra.specs.Pretending.{IsPretending};
+ghost use Rattle.pretending.specs.Pretending.{IsPretending};
 ghost use Rattle.certificate.specs.Fields.{pretending_of, fields_of};
 ghost use Rattle.certificate.specs.Given.{Gives};
 ghost use Rattle.certificate_text.specs.Reading.{lists_at};
@@ -16,9 +16,9 @@ use crate::keys::key_line;
 use crate::lines::line;
 use crate::portion::portion;
 use crate::reader::Reader;
+use pretending::Phi;
 use std::alloc::{Allocator, Global};
 use std::marker::Model;
-use transition_algebra::Phi;
 
 /// What the lines before those of the rows hold.
 #[derive(Drop)]

@@ -1,8 +1,7 @@
 -- How many pairs there are, and numbers that rise.
 -- q elements have q (q - 1) / 2 pairs; a list rises where each is above the one before.
-use Rattle.std.proofs.Common.{◌≡◌, ℕ, zero, suc, ◌+◌, ◌-◌, ◌*◌, ◌/◌, ◌<◌, ◌≤◌, List, [], ◌∷◌, length, get_or, refl, sym, ap, ◌∙◌, arith}
+use Rattle.std.proofs.Common.{◌≡◌, ℕ, zero, suc, ◌+◌, ◌-◌, ◌*◌, ◌/◌, ◌<◌, ◌≤◌, List, [], ◌∷◌, length, get_or, refl, ap, arith}
 use Rattle.std.specs.List.{AllByRecursion}
-use Rattle.std.proofs.Math.Nat.{mul-suc, suc-mul}
 use Rattle.std.proofs.lemmas.List.{length-append}
 use Rattle.misere_theory.specs.Certificates.{pairs_with, pairs_from}
 use Rattle.certificate_text.proofs.Fields.{RisesFrom}
@@ -15,27 +14,20 @@ with_length x y (suc n) = ap suc (with_length x (y + 1) n)
 
 square : (n : ℕ) → n * (n - 1) + n ≡ n * n
 square zero = refl
-square (suc n) =
-    let e : suc n - 1 ≡ n = omega arith in
-    ap (λ (k : ℕ). suc n * k + suc n) e ∙ sym (mul-suc (suc n) n)
-
-twice : (n a l : ℕ) → a + n ≡ n * n → 2 * l ≡ a → 2 * (n + l) ≡ n * n + n
-twice n a l p q = omega arith
+square (suc n) = let e : suc n - 1 ≡ n = omega arith in rw e (omega arith)
 
 pairs_twice : (x n : ℕ) → 2 * length (pairs_from x n) ≡ n * (n - 1)
 pairs_twice x zero = refl
 pairs_twice x (suc n) =
     let e : suc n - 1 ≡ n = omega arith in
-    ap (λ (k : ℕ). 2 * k) (length-append (pairs_with x (x + 1) n) (pairs_from (x + 1) n)
-    ∙ ap (λ (k : ℕ). k + length (pairs_from (x + 1) n)) (with_length x (x + 1) n))
-    ∙ twice n (n * (n - 1)) (length (pairs_from (x + 1) n)) (square n) (pairs_twice (x + 1) n)
-    ∙ sym (ap (λ (k : ℕ). suc n * k) e ∙ suc-mul n n)
-
-half : (l m : ℕ) → 2 * l ≡ m → m / 2 ≡ l
-half l m e = omega arith
+    let s = square n in
+    let l = length-append (pairs_with x (x + 1) n) (pairs_from (x + 1) n) in
+    let w = with_length x (x + 1) n in
+    let t = pairs_twice (x + 1) n in
+    rw e (omega arith)
 
 pub pairs_count : (q : ℕ) → q * (q - 1) / 2 ≡ length (pairs_from 0 q)
-pairs_count q = half _ _ (pairs_twice 0 q)
+pairs_count q = let t = pairs_twice 0 q in omega arith
 
 -- ---- rising numbers
 

@@ -1,6 +1,6 @@
 -- The lines before the table's, read and written: the front, phi, the portion and the keys.
 -- Line by line: what is read is their text, and their text is read.
-use Rattle.std.proofs.Common.{◌≡◌, ℕ, ◌+◌, ◌-◌, ◌^◌, ◌<◌, ◌≤◌, List, [], ◌∷◌, ◌++◌, map, length, Some, refl, ap, subst, ◌∙◌, arith, codes}
+use Rattle.std.proofs.Common.{◌≡◌, ℕ, ◌+◌, ◌-◌, ◌^◌, ◌<◌, ◌≤◌, List, [], ◌∷◌, ◌++◌, map, length, Some, refl, ap, ◌∙◌, arith, codes}
 use Rattle.std.specs.Fmt.{decimal}
 use Rattle.std.specs.List.{AllByRecursion}
 use Rattle.std.proofs.lemmas.Option.{some_pair_parts}
@@ -37,14 +37,15 @@ pub record ListsFit (c : Certificate) : Type 0 where
       × AllByRecursion (KeyFits c.order (c.start + c.period)) c.words
 
 -- an order and a number of heaps as the readers of numbers take them
-pub record HasLimits (c : Certificate) : Type 0 where
-  pub low : 0 < c.order
-  pub small : c.order ≤ 2 ^ 16
-  pub some_heaps : 0 < c.start + c.period
-  pub few_heaps : c.start + c.period ≤ 2 ^ 16
+pub record HasLimits (order start period : ℕ) : Type 0 where
+  pub low : 0 < order
+  pub small : order ≤ 2 ^ 16
+  pub some_heaps : 0 < start + period
+  pub few_heaps : start + period ≤ 2 ^ 16
 
-pub limits_of : (c : Certificate) → FrontFits c.code c.order c.start c.period → HasLimits c
-limits_of c f = record {
+pub limits_of : (code : List ℕ) (order start period : ℕ) → FrontFits code order start period
+    → HasLimits order start period
+limits_of code order start period f = record {
   low = omega (arith, f.order_from);
   small = omega (arith, f.order_below);
   some_heaps = omega (arith, f.start_from);
@@ -58,28 +59,22 @@ unfolding lists_at
 lists_take bytes c rest e =
     let front = bind_some e in
     let ft = front_takes _ _ _ front.1 in
-    let order = front.0.0.1 in
-    let heaps = front.0.0.2 + front.0.0.3 in
-    let f = ft.1 in
-    let low : 0 < order = omega (arith, f.order_from) in
-    let small : order ≤ 2 ^ 16 = omega (arith, f.order_below) in
-    let some_heaps : 0 < heaps = omega (arith, f.start_from) in
-    let few_heaps : heaps ≤ 2 ^ 16 = omega (arith, f.start_below, f.period_below) in
     let phi = bind_some front.2 in
-    let phi_t = line_takes (numbers_reader order low small) _ _ _ _ _ phi.1 in
     let portion = bind_some phi.2 in
-    let portion_t = portion_takes _ _ _ _ low small portion.1 in
     let words = bind_some portion.2 in
-    let words_t =
-    line_takes (keys_reader order heaps low small some_heaps few_heaps) _ _ _ _ _ words.1 in
     let p = some_pair_parts _ _ _ _ words.2 in
-    subst (λ (x : Certificate). (bytes ≡ lists_text x rest) × ListsFit x × (x.apart ≡ [])) p.0 (
-      ft.0 ∙ ap (front_text front.0.0.0 order front.0.0.2 front.0.0.3)
+    let l = limits_of _ _ _ _ ft.1 in
+    let phi_t = line_takes (numbers_reader _ l.low l.small) _ _ _ _ _ phi.1 in
+    let portion_t = portion_takes _ _ _ _ l.low l.small portion.1 in
+    let words_t =
+    line_takes (keys_reader _ _ l.low l.small l.some_heaps l.few_heaps) _ _ _ _ _ words.1 in
+    rw (← p.0) (
+      ft.0 ∙ ap (front_text front.0.0.0 front.0.0.1 front.0.0.2 front.0.0.3)
           (phi_t.0 ∙ ap (line_text (codes "phi") (map decimal phi.0.0))
           (portion_t.0 ∙ ap (line_text (codes "portion") (map decimal portion.0.0))
           (words_t.0 ∙ ap (line_text (codes "words") (map key_word words.0.0)) p.1))),
       record {
-        front = f;
+        front = ft.1;
         phi = (phi_t.1, phi_t.2);
         portion = (portion_t.1, portion_t.2);
         words = (words_t.1, words_t.2);
@@ -91,7 +86,7 @@ pub lists_again : (c : Certificate) (rest : List ℕ) → ListsFit c
     → lists_at (lists_text c rest) ≡ Some (bare c, rest)
 unfolding lists_at
 lists_again c rest fits =
-    let l = limits_of c fits.front in
+    let l = limits_of c.code c.order c.start c.period fits.front in
     let numbers = numbers_reader c.order l.low l.small in
     let keys = keys_reader c.order (c.start + c.period) l.low l.small l.some_heaps l.few_heaps in
     let words_ : List ℕ = line_text (codes "words") (map key_word c.words) rest in

@@ -1,11 +1,12 @@
 -- Reading fixed bytes and numbers: what is read stood there, and what stands there is read.
-use Rattle.std.proofs.Common.{◌≡◌, ◌≢◌, ℕ, zero, suc, ◌+◌, ◌-◌, ◌*◌, ◌/◌, ◌%◌, ◌^◌, ◌<◌, ◌≤◌, Bool, true, false, cond, nat_lt, ◌==◌, ◌⊎◌, List, [], ◌∷◌, ◌++◌, Option, Some, None, refl, sym, ap, subst, ◌∙◌, append_assoc, arith, inl, inr}
+use Rattle.std.proofs.Common.{◌≡◌, ◌≢◌, ℕ, zero, suc, ◌+◌, ◌-◌, ◌*◌, ◌/◌, ◌%◌, ◌^◌, ◌<◌, ◌≤◌, Bool, true, false, cond, nat_lt, ◌==◌, ◌⊎◌, List, [], ◌∷◌, ◌++◌, Option, Some, None, refl, sym, ap, ◌∙◌, append_assoc, arith, inl, inr}
 use Rattle.std.specs.Fmt.{decimal}
 use Rattle.std.proofs.lemmas.Fmt.{decimal_digit, decimal_step, decimal_by_steps}
 use Rattle.std.proofs.lemmas.Bool.{eqb-true, eqb-false, ltb-true, lt-ltb}
 use Rattle.std.proofs.lemmas.Option.{some_pair_parts}
 use Rattle.std.proofs.lemmas.Bool.Decides.{nat_tests}
 use Rattle.certificate_text.specs.Reading.{◌>>=◌, fixed_at, is_digit, more_at, number_at}
+use Rattle.std.proofs.lemmas.List.{append-nil}
 
 -- the value of a step that did not fail
 pub bind_some : {A B : Type 0} {r : Option A} {f : A → Option B} {y : B} → (r >>= f) ≡ Some y
@@ -42,6 +43,17 @@ fixed_takes (w ∷ ws) (b ∷ bytes) rest e =
     let same : w ≡ b = eqb-true w b t.0 in
     rw same (ap (λ (x : List ℕ). b ∷ x) (fixed_takes ws bytes rest t.1))
 
+-- fixed bytes, and what is read behind them
+pub fixed_then : {B : Type 0} (w bytes : List ℕ) {f : List ℕ → Option B} {y : B}
+    → (fixed_at w bytes >>= f) ≡ Some y
+    → (rest : List ℕ) × (bytes ≡ w ++ rest) × (f rest ≡ Some y)
+fixed_then w bytes e = let s = bind_some e in (s.0, fixed_takes w bytes s.0 s.1, s.2)
+
+-- what is read part by part
+pub behind : {bytes rest more : List ℕ} (w : List ℕ) → bytes ≡ w ++ rest → rest ≡ more
+    → bytes ≡ w ++ more
+behind w e f = e ∙ ap (λ (t : List ℕ). w ++ t) f
+
 pub same_byte : (b : ℕ) → (b == b) ≡ true
 same_byte b = grind (arith, nat_tests)
 
@@ -63,10 +75,6 @@ is_digit_again d lt = grind (arith, nat_tests)
 abbrev pub Longer : ℕ → ℕ → List ℕ → List ℕ → Type 0
 Longer n m bytes rest = (t : List ℕ) × (bytes ≡ t ++ rest) × (decimal m ≡ decimal n ++ t)
 
-append-nil : (xs : List ℕ) → xs ++ [] ≡ xs
-append-nil [] = refl
-append-nil (x ∷ xs) = ap (λ (ys : List ℕ). x ∷ ys) (append-nil xs)
-
 one_more : (n d : ℕ) → 0 < n → 10 * n + d < 2 ^ 64 → d < 10
     → decimal (10 * n + d) ≡ decimal n ++ (48 + d) ∷ []
 one_more n d pos fits lt =
@@ -74,40 +82,31 @@ one_more n d pos fits lt =
     let r : (10 * n + d) % 10 ≡ d = omega arith in
     decimal_step (10 * n + d) (omega arith) fits ∙ rw (q, r) refl
 
+-- no further digit
+no_more : (limit n m : ℕ) (bytes rest : List ℕ) → n < limit
+    → ◌≡◌ {A = Option (ℕ × List ℕ)} (Some (n, bytes)) (Some (m, rest))
+    → Longer n m bytes rest × (m < limit)
+no_more limit n m bytes rest lt e =
+    let p = some_pair_parts _ _ _ _ e in
+    rw (← p.0) (([], p.1, sym (append-nil (decimal n))), lt)
+
 more_takes : (limit n : ℕ) (bytes : List ℕ) (m : ℕ) (rest : List ℕ) → 0 < n → n < limit
     → limit ≤ 2 ^ 16 → more_at limit n bytes ≡ Some (m, rest) → Longer n m bytes rest × (m < limit)
 unfolding more_at
-more_takes limit n [] m rest pos lt small e =
-    let p = some_pair_parts _ _ _ _ e in (
-      ([], p.1, ap decimal (sym p.0) ∙ sym (append-nil (decimal n))),
-      subst (λ (k : ℕ). k < limit) p.0 lt,
-    )
+more_takes limit n [] m rest pos lt small e = no_more limit n m [] rest lt e
 more_takes limit n (b ∷ bytes) m rest pos lt small e =
     elim (chosen (is_digit b)
     (cond (nat_lt (10 * n + (b - 48)) limit) (more_at limit (10 * n + (b - 48)) bytes) None)
     (Some (n, b ∷ bytes)) (Some (m, rest)) e) [
       | inl c ↦
           let d = digit_is b c.0 in
-          let t =
-          test_some c.1 in
+          let t = test_some c.1 in
           let below : 10 * n + (b - 48) < limit = ltb-true _ _ t.0 in
           let r = more_takes limit (10 * n + (b - 48)) bytes m rest (omega arith) below small t.1 in
-          let step : decimal (10 * n + (b - 48)) ≡ decimal n ++ b ∷ [] =
-          one_more n (b - 48) pos (omega arith) (omega arith)
-          ∙ ap (λ (x : ℕ). decimal n ++ x ∷ []) d.2 in (
-            (
-              b ∷ r.0.0,
-              ap (λ (x : List ℕ). b ∷ x) r.0.1,
-              r.0.2
-                  ∙ ap (λ (x : List ℕ). x ++ r.0.0) step ∙ append_assoc (decimal n) (b ∷ []) r.0.0,
-            ),
-            r.1,
-          )
-      | inr c ↦
-          let p = some_pair_parts _ _ _ _ c.1 in (
-            ([], p.1, ap decimal (sym p.0) ∙ sym (append-nil (decimal n))),
-            subst (λ (k : ℕ). k < limit) p.0 lt,
-          )
+          let step = one_more n (b - 48) pos (omega arith) (omega arith) in
+          let grouped = append_assoc (decimal n) (b ∷ []) r.0.0 in
+          ((b ∷ r.0.0, cc, cc), r.1)
+      | inr c ↦ no_more limit n m (b ∷ bytes) rest lt c.1
     ]
 
 pub number_takes : (limit : ℕ) (bytes : List ℕ) (m : ℕ) (rest : List ℕ) → 0 < limit → limit ≤ 2 ^ 16
@@ -120,25 +119,17 @@ number_takes limit (b ∷ bytes) m rest low small e =
     (Some (m, rest)) e) [
       | inl c ↦
           let p = some_pair_parts _ _ _ _ c.1 in
-          let zero : b ≡ 48 = eqb-true b 48 c.0 in
-          let is : m ≡ 0 = sym p.0 in
-          (rw (is, zero, p.1, decimal_digit 0 (omega arith)) refl, rw is low)
+          rw (← p.0) (rw (eqb-true b 48 c.0, p.1, decimal_digit 0 (omega arith)) refl, low)
       | inr c ↦
-          let digit =
-          test_some c.1 in
+          let digit = test_some c.1 in
           let d = digit_is b digit.0 in
-          let t = test_some digit.1
-          in
+          let t = test_some digit.1 in
           let below : b - 48 < limit = ltb-true _ _ t.0 in
           let other : b ≢ 48 = eqb-false b 48 c.0 in
           let r = more_takes limit (b - 48) bytes m rest (omega arith) below small t.1 in
-          let first : decimal (b - 48) ≡ b ∷ [] =
-          decimal_digit (b - 48) (omega arith) ∙ ap (λ (x : ℕ). x ∷ []) d.2 in (
-            ap (λ (x : List ℕ). b ∷ x) r.0.1
-                ∙ sym (ap (λ (x : List ℕ). x ++ rest)
-                (r.0.2 ∙ ap (λ (x : List ℕ). x ++ r.0.0) first)),
-            r.1,
-          )
+          let first = decimal_digit (b - 48) (omega arith) in
+          let whole = rw (first, d.2) at r.0.2 in
+          (ap (λ x. b ∷ x) r.0.1 ∙ sym (ap (λ x. x ++ rest) whole), r.1)
     ]
 
 -- ---- and back
@@ -165,13 +156,9 @@ begins_more : (limit n : ℕ) (ds : List ℕ) → 10 ≤ n → Begins limit (n /
 unfolding more_at
 begins_more limit n ds le h pos small rest =
     let v : 48 + n % 10 - 48 ≡ n % 10 = omega arith in
-    let lt : n % 10 < 10 = omega arith in
     let whole : 10 * (n / 10) + n % 10 ≡ n = omega arith in
-    let fits : nat_lt n limit ≡ true = lt-ltb n limit small in
-    let step : more_at limit (n / 10) ((48 + n % 10) ∷ rest) ≡ more_at limit n rest =
-    rw (is_digit_again (n % 10) lt, v, whole, fits) refl in
-    ap (number_at limit) (append_assoc ds ((48 + n % 10) ∷ []) rest)
-    ∙ h (omega arith) (omega arith) ((48 + n % 10) ∷ rest) ∙ step
+    rw append_assoc (h (omega arith) (omega arith) ((48 + n % 10) ∷ rest)
+    ∙ rw (is_digit_again (n % 10) (omega arith), v, whole, lt-ltb n limit small) refl)
 
 number_zero : (limit : ℕ) (rest : List ℕ) → number_at limit (decimal 0 ++ rest) ≡ Some (0, rest)
 unfolding number_at

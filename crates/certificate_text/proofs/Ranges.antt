@@ -1,5 +1,5 @@
 -- The ranges of a certificate's numbers, and what its lines are read by.
-use Rattle.std.proofs.Common.{◌≡◌, ℕ, suc, ◌+◌, ◌<◌, List, [], ◌∷◌, length, get_or, sym, subst, ◌∙◌, arith, All, add-one}
+use Rattle.std.proofs.Common.{◌≡◌, ℕ, ◌+◌, ◌<◌, List, length, sym, ◌∙◌, arith, All, add-one, suc}
 use Rattle.std.specs.List.{AllByRecursion}
 use Rattle.std.proofs.lemmas.List.Elements.{All-from_recursion, recursion_from_All}
 use Rattle.misere_theory.specs.Certificates.{Certificate, InRanges, pairs_from}
@@ -13,16 +13,16 @@ use Rattle.certificate_text.proofs.Lists.{ListsFit}
 use Rattle.certificate_text.proofs.Tables.{TableFits}
 
 pub rows_all : (order : ℕ) (rows : List (List ℕ)) → AllByRecursion (RowFits order) rows
-    → AllByRecursion (IsRow order) rows
-rows_all order [] h = tt
-rows_all order (row ∷ rows) h =
-    ((h.0.0, All-from_recursion (λ x. x < order) row h.0.1), rows_all order rows h.1)
+    → All (IsRow order) rows
+rows_all order rows h =
+    let all = All-from_recursion (RowFits order) rows h in
+    λ i d l. ((all i d l).0, All-from_recursion (λ x. x < order) _ (all i d l).1)
 
-pub all_rows : (order : ℕ) (rows : List (List ℕ)) → AllByRecursion (IsRow order) rows
+pub all_rows : (order : ℕ) (rows : List (List ℕ)) → All (IsRow order) rows
     → AllByRecursion (RowFits order) rows
-all_rows order [] h = tt
-all_rows order (row ∷ rows) h =
-    ((h.0.0, recursion_from_All (λ x. x < order) row h.0.1), all_rows order rows h.1)
+all_rows order rows all =
+    recursion_from_All (RowFits order) rows
+    (λ i d l. ((all i d l).0, recursion_from_All (λ x. x < order) _ (all i d l).1))
 
 -- the rows and separators as the ranges have them
 abbrev pub HasRows : ℕ → List (List ℕ) → Type 0
@@ -35,10 +35,7 @@ HasApart order apart =
 pub rows_in : (order : ℕ) (rows : List (List ℕ)) (apart : List ℕ) → TableFits order rows apart
     → HasRows order rows × HasApart order apart
 rows_in order rows apart fits = (
-  (
-    fits.rows_fit.0,
-    All-from_recursion (IsRow order) rows (rows_all order rows fits.rows_fit.1),
-  ),
+  (fits.rows_fit.0, rows_all order rows fits.rows_fit.1),
   (
     fits.apart_fit.0 ∙ pairs_count order,
     All-from_recursion (λ x. x < order) apart fits.apart_fit.1,
@@ -80,8 +77,7 @@ module _ (c : Certificate) (h : InRanges c) where
       increasing_rises 0 c.order c.portion (λ some. omega arith)
       (recursion_from_All (λ x. x < c.order) c.portion h.portion.1)
       (λ k lt. let e : k + 1 ≡ suc k = omega arith in
-      subst (λ (j : ℕ). get_or c.portion k 0 < get_or c.portion j 0) e
-      (h.portion.2 k (omega arith)))
+      rw e at (h.portion.2 k (omega arith)))
 
   pub lists_fit : ListsFit c
   lists_fit = record {
@@ -104,10 +100,7 @@ module _ (c : Certificate) (h : InRanges c) where
 
   pub table_fits : TableFits c.order c.rows c.apart
   table_fits = record {
-    rows_fit = (
-      h.rows.0,
-      all_rows c.order c.rows (recursion_from_All (IsRow c.order) c.rows h.rows.1),
-    );
+    rows_fit = (h.rows.0, all_rows c.order c.rows h.rows.1);
     apart_fit = (
       h.apart.0 ∙ sym (pairs_count c.order),
       recursion_from_All (λ x. x < c.order) c.apart h.apart.1,

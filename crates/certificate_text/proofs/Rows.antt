@@ -1,6 +1,6 @@
 -- Rows, read and written.
 -- Each row is a line; what is read of them lies one behind the other, with nothing besides.
-use Rattle.std.proofs.Common.{◌≡◌, ℕ, zero, suc, ◌+◌, ◌*◌, ◌^◌, ◌<◌, ◌≤◌, List, [], ◌∷◌, ◌++◌, map, length, take, drop, Some, refl, sym, ap, ap₂, subst, ◌∙◌, length-append, arith, codes}
+use Rattle.std.proofs.Common.{◌≡◌, ℕ, zero, suc, ◌*◌, ◌^◌, ◌<◌, ◌≤◌, List, [], ◌∷◌, ◌++◌, map, length, Some, refl, ap, ◌∙◌, length-append, arith, codes}
 use Rattle.std.specs.Fmt.{decimal}
 use Rattle.std.proofs.Math.Nat.{suc-mul}
 use Rattle.std.specs.List.{AllByRecursion, concat}
@@ -21,31 +21,40 @@ rows_text (row ∷ rows) rest = codes "row" ++ (spaced (map decimal row) ++ 10 �
 abbrev pub RowFits : ℕ → List ℕ → Type 0
 RowFits order row = (length row ≡ order) × AllByRecursion (λ x. x < order) row
 
+-- a row and what lies behind it
+split_row : (order n : ℕ) (row xs : List ℕ) → length row ≡ order
+    → rows_of order (suc n) (row ++ xs) ≡ row ∷ rows_of order n xs
+split_row order n row xs e = rw (take_at row xs order e, drop_at row xs order e) refl
+
 pub rows_take : (order n : ℕ) (bytes xs rest : List ℕ) → 0 < order → order ≤ 2 ^ 16
     → rows_at order n bytes ≡ Some (xs, rest)
     → (bytes ≡ rows_text (rows_of order n xs) rest) × (length (rows_of order n xs) ≡ n)
-    × AllByRecursion (RowFits order) (rows_of order n xs)
+    × AllByRecursion (RowFits order) (rows_of order n xs) × (length xs ≡ n * order)
+    × (concat (rows_of order n xs) ≡ xs)
 unfolding rows_at
 rows_take order zero bytes xs rest low small e =
-    let p = some_pair_parts _ _ _ _ e in (p.1, refl, tt)
+    let p = some_pair_parts _ _ _ _ e in rw (← p.0) (p.1, refl, tt, omega arith, refl)
 rows_take order (suc n) bytes xs rest low small e =
     let a = bind_some e in
     let b = bind_some a.2 in
     let at_ = line_takes (numbers_reader order low small) _ _ _ _ _ a.1 in
     let bt = rows_take order n _ _ _ low small b.1 in
     let p = some_pair_parts _ _ _ _ b.2 in
-    let front : take order (a.0.0 ++ b.0.0) ≡ a.0.0 = take_at a.0.0 b.0.0 order at_.1 in
-    let back : drop order (a.0.0 ++ b.0.0) ≡ b.0.0 = drop_at a.0.0 b.0.0 order at_.1 in
-    let split : rows_of order (suc n) (a.0.0 ++ b.0.0) ≡ a.0.0 ∷ rows_of order n b.0.0 =
-    ap (λ (row : List ℕ). row ∷ rows_of order n (drop order (a.0.0 ++ b.0.0))) front
-    ∙ ap (λ (ys : List ℕ). a.0.0 ∷ rows_of order n ys) back in
-    let whole : bytes ≡ rows_text (a.0.0 ∷ rows_of order n b.0.0) rest =
-    at_.0 ∙ ap (λ (t : List ℕ). codes "row" ++ (spaced (map decimal a.0.0) ++ 10 ∷ t))
+    let whole = at_.0 ∙ ap (λ t. codes "row" ++ (spaced (map decimal a.0.0) ++ 10 ∷ t))
     (bt.0 ∙ ap (rows_text (rows_of order n b.0.0)) p.1) in
-    let P : List (List ℕ) → Type 0 = λ rows. (bytes ≡ rows_text rows rest) × (length rows ≡ suc n)
-    × AllByRecursion (RowFits order) rows in
-    subst (λ (ys : List ℕ). P (rows_of order (suc n) ys)) p.0
-    (subst P (sym split) (whole, ap suc bt.1, ((at_.1, at_.2), bt.2)))
+    let long = length-append a.0.0 b.0.0 in
+    let more = suc-mul n order in
+    rw (
+      ← p.0,
+      take_at a.0.0 b.0.0 order at_.1,
+      drop_at a.0.0 b.0.0 order at_.1,
+    ) (
+      whole,
+      ap suc bt.1,
+      ((at_.1, at_.2), bt.2),
+      omega arith,
+      ap (λ ys. a.0.0 ++ ys) bt.4,
+    )
 
 pub rows_again : (order : ℕ) (rows : List (List ℕ)) (rest : List ℕ) → 0 < order → order ≤ 2 ^ 16
     → AllByRecursion (RowFits order) rows → rows_at order (length rows) (rows_text rows rest)
@@ -63,35 +72,5 @@ pub rows_of_concat : (order : ℕ) (rows : List (List ℕ)) → AllByRecursion (
     → rows_of order (length rows) (concat rows) ≡ rows
 rows_of_concat order [] fits = refl
 rows_of_concat order (row ∷ rows) fits =
-    ap (λ (r : List ℕ). r ∷ rows_of order (length rows) (drop order (row ++ concat rows)))
-    (take_at row (concat rows) order fits.0.0)
-    ∙ ap (λ (ys : List ℕ). row ∷ rows_of order (length rows) ys)
-    (drop_at row (concat rows) order fits.0.0)
-    ∙ ap (λ (rs : List (List ℕ)). row ∷ rs) (rows_of_concat order rows fits.1)
-
--- what the rows hold, one behind the other, is all that was read
-pub rows_are_all : (order n : ℕ) (bytes xs rest : List ℕ) → 0 < order → order ≤ 2 ^ 16
-    → rows_at order n bytes ≡ Some (xs, rest) → (length xs ≡ n * order)
-    × (concat (rows_of order n xs) ≡ xs)
-unfolding rows_at
-rows_are_all order zero bytes xs rest low small e =
-    let p = some_pair_parts _ _ _ _ e in
-    let none : length xs ≡ 0 * order = ap length (sym p.0) ∙ omega arith in
-    (none, p.0)
-rows_are_all order (suc n) bytes xs rest low small e =
-    let a = bind_some e in
-    let b = bind_some a.2 in
-    let at_ = line_takes (numbers_reader order low small) _ _ _ _ _ a.1 in
-    let bt = rows_are_all order n _ _ _ low small b.1 in
-    let p = some_pair_parts _ _ _ _ b.2 in
-    let front : take order (a.0.0 ++ b.0.0) ≡ a.0.0 = take_at a.0.0 b.0.0 order at_.1 in
-    let back : drop order (a.0.0 ++ b.0.0) ≡ b.0.0 = drop_at a.0.0 b.0.0 order at_.1 in
-    let split : concat (rows_of order (suc n) (a.0.0 ++ b.0.0)) ≡ a.0.0 ++ b.0.0 =
-    ap (λ (row : List ℕ). row ++ concat (rows_of order n (drop order (a.0.0 ++ b.0.0)))) front
-    ∙ ap (λ (ys : List ℕ). a.0.0 ++ concat (rows_of order n ys)) back
-    ∙ ap (λ (ys : List ℕ). a.0.0 ++ ys) bt.1 in
-    let long : length (a.0.0 ++ b.0.0) ≡ suc n * order =
-    length-append a.0.0 b.0.0 ∙ ap₂ (λ (i j : ℕ). i + j) at_.1 bt.0
-    ∙ sym (suc-mul n order ∙ omega arith) in
-    subst (λ (ys : List ℕ). (length ys ≡ suc n * order) × (concat (rows_of order (suc n) ys) ≡ ys))
-    p.0 (long, split)
+    split_row order (length rows) row (concat rows) fits.0.0
+    ∙ ap (λ rs. row ∷ rs) (rows_of_concat order rows fits.1)

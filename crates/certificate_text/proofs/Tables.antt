@@ -1,6 +1,6 @@
 -- The lines of the table, read and written: all rows and the separators, or the first rows alone.
 -- Line by line: what is read is their text, and their text is read.
-use Rattle.std.proofs.Common.{◌≡◌, ℕ, ◌-◌, ◌*◌, ◌/◌, ◌^◌, ◌<◌, ◌≤◌, true, List, ◌++◌, map, length, Some, refl, ap, subst, ◌∙◌, codes}
+use Rattle.std.proofs.Common.{◌≡◌, ℕ, ◌-◌, ◌*◌, ◌/◌, ◌^◌, ◌<◌, ◌≤◌, true, List, ◌++◌, map, length, Some, refl, ap, ◌∙◌, codes}
 use Rattle.std.specs.Fmt.{decimal}
 use Rattle.std.specs.List.{AllByRecursion, concat}
 use Rattle.std.proofs.lemmas.Option.{some_pair_parts}
@@ -8,7 +8,7 @@ use Rattle.misere_theory.specs.Certificates.{Certificate}
 use Rattle.compact_certificates.specs.Rows.{firsts_of}
 use Rattle.compact_certificates.specs.Compact.{expanded, is_expandable}
 use Rattle.certificate_text.specs.Reading.{rows_at, rows_of, table_at, first_rows_at}
-use Rattle.certificate_text.proofs.Numbers.{bind_some, test_some, fixed_takes, fixed_again}
+use Rattle.certificate_text.proofs.Numbers.{bind_some, test_some, fixed_again, fixed_then}
 use Rattle.certificate_text.proofs.Words.{numbers_reader, line_takes, line_again}
 use Rattle.certificate_text.proofs.Rows.{rows_text, RowFits, rows_take, rows_again, rows_of_concat}
 use Rattle.certificate_text.proofs.Lists.{line_text}
@@ -23,9 +23,7 @@ counted_again : (order n : ℕ) (rows : List (List ℕ)) (rest : List ℕ) → 0
     → (rows_at order n (rows_text rows rest) ≡ Some (concat rows, rest))
     × (rows_of order n (concat rows) ≡ rows)
 counted_again order n rows rest low small fits =
-    subst (λ (m : ℕ). (rows_at order m (rows_text rows rest) ≡ Some (concat rows, rest))
-    × (rows_of order m (concat rows) ≡ rows)) fits.0
-    (rows_again order rows rest low small fits.1, rows_of_concat order rows fits.1)
+    rw (← fits.0) (rows_again order rows rest low small fits.1, rows_of_concat order rows fits.1)
 
 -- ---- all rows, and the separators
 
@@ -46,16 +44,14 @@ unfolding table_at
 table_takes l bytes c rest low small e =
     let rows = bind_some e in
     let apart = bind_some rows.2 in
-    let end = bind_some apart.2 in
+    let end = fixed_then _ _ apart.2 in
     let p = some_pair_parts _ _ _ _ end.2 in
     let rows_t = rows_take _ _ _ _ _ low small rows.1 in
     let apart_t = line_takes (numbers_reader l.order low small) _ _ _ _ _ apart.1 in (
       rows_of l.order l.order rows.0.0,
       apart.0.0,
       p.0,
-      rows_t.0 ∙ ap (rows_text (rows_of l.order l.order rows.0.0))
-          (apart_t.0 ∙ ap (line_text (codes "apart") (map decimal apart.0.0))
-          (fixed_takes _ _ _ end.1 ∙ ap (λ (t : List ℕ). codes "end\n" ++ t) p.1)),
+      rows_t.0 ∙ ap (rows_text (rows_of l.order l.order rows.0.0)) cc,
       record { rows_fit = (rows_t.1, rows_t.2); apart_fit = (apart_t.1, apart_t.2) },
     )
 
@@ -89,14 +85,13 @@ pub first_rows_take : (l : Certificate) (bytes : List ℕ) (c : Certificate) (re
 unfolding first_rows_at
 first_rows_take l bytes c rest low small e =
     let rows = bind_some e in
-    let end = bind_some rows.2 in
+    let end = fixed_then _ _ rows.2 in
     let t = test_some end.2 in
     let p = some_pair_parts _ _ _ _ t.1 in
     let rows_t = rows_take _ _ _ _ _ low small rows.1 in (
       rows_of l.order (firsts_of l.words) rows.0.0,
       p.0,
-      rows_t.0 ∙ ap (rows_text (rows_of l.order (firsts_of l.words) rows.0.0))
-          (fixed_takes _ _ _ end.1 ∙ ap (λ (t : List ℕ). codes "end\n" ++ t) p.1),
+      rows_t.0 ∙ ap (rows_text (rows_of l.order (firsts_of l.words) rows.0.0)) cc,
       (rows_t.1, rows_t.2),
       t.0,
     )

@@ -1,10 +1,9 @@
 -- The whole text: what is read is spelled so, and what is spelled so is read.
 -- Reading gives one answer, and so bytes spell one certificate, and no text begins another.
-use Rattle.std.proofs.Common.{◌≡◌, ℕ, ◌+◌, ◌<◌, ◌≤◌, ◌==◌, nat_le, true, false, cond, ◌⊎◌, List, [], ◌∷◌, ◌++◌, length, Some, None, refl, sym, ap, subst, ◌∙◌, inl, inr, arith, codes, le-leb, leb-true, length-append}
+use Rattle.std.proofs.Common.{◌≡◌, ℕ, ◌+◌, ◌<◌, ◌≤◌, ◌==◌, nat_le, true, false, cond, ◌⊎◌, List, [], ◌∷◌, ◌++◌, length, Some, None, refl, sym, ap, ◌∙◌, inl, inr, arith, codes, le-leb, leb-true, length-append}
 use Rattle.std.specs.Fmt.{decimal}
 use Rattle.std.proofs.lemmas.Bool.{cases_Bool, cond-true, cond-false, eqb-true, eqb-false}
 use Rattle.std.proofs.lemmas.List.{append-nil}
-use Rattle.std.proofs.lemmas.List.Elements.{All-from_recursion, recursion_from_All}
 use Rattle.std.proofs.lemmas.Option.{some_pair_parts}
 use Rattle.std.proofs.lemmas.Fmt.{decimal_digit}
 use Rattle.misere_theory.specs.Certificates.{Certificate, InRanges, format_of}
@@ -12,7 +11,6 @@ use Rattle.compact_certificates.specs.Rows.{firsts_of}
 use Rattle.compact_certificates.specs.Compact.{HasTable, IsCompact, compacted, expanded}
 use Rattle.compact_certificates.proofs.Firsts.{told_by_test, test_told}
 use Rattle.compact_certificates.proofs.Back.{comes_back, left_compact}
-use Rattle.compact_certificates.proofs.Made.{IsRow}
 use Rattle.compact_certificates.proofs.Expanding.{made_table, made_apart, made_follows, left_again}
 use Rattle.certificate_text.specs.declared.TheConstants.{LONGEST_TEXT}
 use Rattle.certificate_text.specs.Spelling.{text, lines, IsWritable, Spells}
@@ -55,8 +53,7 @@ by_format bytes l behind c rest e = elim (cases_Bool (format_of l == 3)) [
       inr (record {
         third = third;
         table = made.1 ∙ t.1;
-        short =
-            subst (λ (r : List ℕ). length bytes ≤ LONGEST_TEXT + length r) same.1 (leb-true _ _ t.0);
+        short = rw (← same.1) (leb-true _ _ t.0);
       })
   | inr full ↦
       inl (record { full = full; table = sym (cond-false _ _ _ full) ∙ e })
@@ -97,12 +94,12 @@ all_said : (bytes : List ℕ) (l : Certificate) (behind : List ℕ) (c : Certifi
     (rest : List ℕ) → bytes ≡ lists_text l behind → ListsFit l
     → ReadsAll l behind c rest → IsSaid bytes c rest
 all_said bytes l behind c rest e fits r =
-    let limits = limits_of l fits.front in
+    let limits = limits_of l.code l.order l.start l.period fits.front in
     let t = table_takes l behind c rest limits.low limits.small r.table in
     let made : Certificate = record l { rows = t.0; apart = t.1 } in
     let has = rows_in l.order t.0 t.1 t.4 in
     let not_third = eqb-false _ _ r.full in
-    subst (λ (x : Certificate). IsSaid bytes x rest) t.2 (
+    rw (← t.2) (
       record {
         in_ranges = ranges_of l t.0 t.1 fits has.0 has.1;
         follows = λ third. absurd (not_third third);
@@ -111,17 +108,11 @@ all_said bytes l behind c rest e fits r =
       e ∙ ap (lists_text l) t.3 ∙ sym (full_text made rest r.full),
     )
 
-short_text : (bytes t rest : List ℕ) → bytes ≡ t ++ rest
-    → length bytes ≤ LONGEST_TEXT + length rest → length t ≤ LONGEST_TEXT
-short_text bytes t rest e short =
-    let n : length bytes ≡ length t + length rest = ap length e ∙ length-append t rest in
-    omega arith
-
 first_said : (bytes : List ℕ) (l : Certificate) (behind : List ℕ) (c : Certificate)
     (rest : List ℕ) → bytes ≡ lists_text l behind → ListsFit l → l.apart ≡ []
     → ReadsFirst bytes l behind c rest → IsSaid bytes c rest
 first_said bytes l behind c rest e fits none r =
-    let limits = limits_of l fits.front in
+    let limits = limits_of l.code l.order l.start l.period fits.front in
     let t = first_rows_take l behind c rest limits.low limits.small r.table in
     let k : Certificate = record l { rows = t.0 } in
     let count : length l.words + 1 ≡ l.order =
@@ -130,21 +121,21 @@ first_said bytes l behind c rest e fits none r =
     record {
       words = count;
       expandable = told_by_test k count t.4;
-      rows = (t.3.0, All-from_recursion (IsRow l.order) t.0 (rows_all l.order t.0 t.3.1));
+      rows = (t.3.0, rows_all l.order t.0 t.3.1);
       apart = none;
     } in
+    let again = left_again k compact in
     let said : bytes ≡ text (lines (expanded k)) ++ rest =
-    e ∙ ap (lists_text l) t.2
-    ∙ ap (λ (x : Certificate). lists_text l (first_rows_text x.rows rest))
-    (sym (left_again k compact))
+    e ∙ ap (lists_text l) (t.2 ∙ ap (λ (x : Certificate). first_rows_text x.rows rest) (sym again))
     ∙ sym (first_text (expanded k) rest r.third) in
-    subst (λ (x : Certificate). IsSaid bytes x rest) t.1 (
+    let long = ap length said ∙ length-append (text (lines (expanded k))) rest in
+    rw (← t.1) (
       record {
         in_ranges =
             ranges_of l (expanded k).rows (expanded k).apart fits (made_table k compact).rows
             (made_apart k compact);
         follows = λ third. made_follows k compact;
-        short = λ third. short_text bytes (text (lines (expanded k))) rest said r.short;
+        short = λ third. let s = r.short in omega arith;
       },
       said,
     )
@@ -165,7 +156,7 @@ all_again : (c : Certificate) (rest : List ℕ) → InRanges c → (format_of c 
     → certificate_at (text (lines c) ++ rest) ≡ Some (c, rest)
 all_again c rest h full =
     let fits = lists_fit c h in
-    let limits = limits_of c fits.front in
+    let limits = limits_of c.code c.order c.start c.period fits.front in
     let behind : List ℕ = table_text c.rows c.apart rest in
     reads_all (text (lines c) ++ rest) (bare c) behind c rest
     (ap lists_at (full_text c rest full) ∙ lists_again c behind fits)
@@ -182,14 +173,11 @@ first_again c rest w third =
     let f = w.follows is_third in
     let table : HasTable c = record { words = h.words.0; rows = h.rows } in
     let fits = lists_fit c h in
-    let limits = limits_of c fits.front in
+    let limits = limits_of c.code c.order c.start c.period fits.front in
     let left = left_compact c table f in
     let behind : List ℕ = first_rows_text (compacted c).rows rest in
-    let rows_fit : RowsFit c.order (firsts_of c.words) (compacted c).rows = (
-      left.rows.0,
-      all_rows c.order (compacted c).rows
-          (recursion_from_All (IsRow c.order) (compacted c).rows left.rows.1),
-    ) in
+    let rows_fit : RowsFit c.order (firsts_of c.words) (compacted c).rows =
+    (left.rows.0, all_rows c.order (compacted c).rows left.rows.1) in
     let short = w.short is_third in
     let long = length-append (text (lines c)) rest in
     reads_first (text (lines c) ++ rest) (bare c) behind c rest

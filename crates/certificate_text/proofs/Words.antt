@@ -1,12 +1,12 @@
 -- Words, lines and rising numbers: what is read stood there, and what stands there is read.
-use Rattle.std.proofs.Common.{◌≡◌, ℕ, zero, suc, ◌^◌, ◌<◌, ◌≤◌, true, false, nat_lt, List, [], ◌∷◌, ◌++◌, map, length, Option, Some, refl, sym, ap, subst, ◌∙◌, append_assoc, arith}
+use Rattle.std.proofs.Common.{◌≡◌, ℕ, zero, suc, ◌^◌, ◌<◌, ◌≤◌, false, List, [], ◌∷◌, ◌++◌, map, length, Option, Some, refl, append_assoc, sym, ◌∙◌}
 use Rattle.std.specs.Fmt.{decimal}
 use Rattle.std.specs.List.{AllByRecursion}
 use Rattle.std.proofs.lemmas.Bool.{ltb-true, lt-ltb}
 use Rattle.std.proofs.lemmas.Option.{some_pair_parts}
 use Rattle.certificate_text.specs.Spelling.{spaced, key_word}
 use Rattle.certificate_text.specs.Reading.{is_digit, number_at, key_at, words_at, line_at}
-use Rattle.certificate_text.proofs.Numbers.{bind_some, some_is, test_some, fixed_takes, fixed_again, number_takes, number_again}
+use Rattle.certificate_text.proofs.Numbers.{bind_some, test_some, fixed_again, number_takes, number_again, fixed_then, behind}
 
 -- A reader of words reads just the words that spell gives, of values that fit.
 pub record IsReader (X : Type 0) (spell : X → List ℕ) (Fits : X → Type 0) (word : List ℕ
@@ -34,33 +34,30 @@ key_takes : (order heaps : ℕ) → 0 < order → order ≤ 2 ^ 16 → 0 < heaps
 unfolding key_at
 key_takes order heaps lo so lh sh bytes k rest e =
     let f = bind_some e in
-    let c = bind_some f.2 in
+    let c = fixed_then _ _ f.2 in
     let h = bind_some c.2 in
     let t = test_some h.2 in
     let ft = number_takes _ _ _ _ lo so f.1 in
     let ht = number_takes _ _ _ _ lh sh h.1 in
-    let pos : 0 < h.0.0 = ltb-true _ _ t.0 in
-    let whole : bytes ≡ key_word (f.0.0, h.0.0) ++ h.0.1 =
-    ft.0 ∙ ap (λ (x : List ℕ). decimal f.0.0 ++ x)
-    (fixed_takes _ _ _ c.1 ∙ ap (λ (x : List ℕ). 58 ∷ x) ht.0)
-    ∙ sym (append_assoc (decimal f.0.0) (58 ∷ decimal h.0.0) h.0.1) in
-    subst (λ (y : (ℕ × ℕ) × List ℕ). (bytes ≡ key_word y.0 ++ y.1) × KeyFits order heaps y.0)
-    (some_is t.1) (whole, (ft.1, omega arith, ht.1))
+    let p = some_pair_parts (f.0.0, h.0.0) k h.0.1 rest t.1 in
+    let grouped = append_assoc (decimal f.0.0) (58 ∷ decimal h.0.0) rest in
+    rw (← p.0) (
+      behind (decimal f.0.0) ft.0 (behind (58 ∷ []) c.1 (behind (decimal h.0.0) ht.0 p.1))
+          ∙ sym grouped,
+      (ft.1, ltb-true _ _ t.0, ht.1),
+    )
 
 key_again : (order heaps : ℕ) → order ≤ 2 ^ 16 → heaps ≤ 2 ^ 16
     → (k : ℕ × ℕ) (s : ℕ) (rest : List ℕ) → KeyFits order heaps k → is_digit s ≡ false
     → key_at order heaps (key_word k ++ s ∷ rest) ≡ Some (k, s ∷ rest)
 unfolding key_at
 key_again order heaps so sh k s rest fits e =
-    let regrouped : key_word k ++ s ∷ rest ≡ decimal k.0 ++ 58 ∷ (decimal k.1 ++ s ∷ rest) =
-    append_assoc (decimal k.0) (58 ∷ decimal k.1) (s ∷ rest) in
-    let pos : nat_lt 0 k.1 ≡ true = lt-ltb _ _ (omega (arith, fits.1)) in
-    ap (key_at order heaps) regrouped
-    ∙ rw (
+    rw (
+      append_assoc (decimal k.0) (58 ∷ decimal k.1) (s ∷ rest),
       number_again order k.0 58 (decimal k.1 ++ s ∷ rest) fits.0 so refl,
       fixed_again (58 ∷ []) (decimal k.1 ++ s ∷ rest),
       number_again heaps k.1 s rest fits.2 sh e,
-      pos,
+      lt-ltb 0 k.1 fits.1,
     ) refl
 
 pub keys_reader : (order heaps : ℕ) → 0 < order → order ≤ 2 ^ 16 → 0 < heaps → heaps ≤ 2 ^ 16
@@ -79,26 +76,16 @@ module _ {X : Type 0} {spell : X → List ℕ} {Fits : X → Type 0} {word : Lis
       × (length xs ≡ n) × AllByRecursion Fits xs
   unfolding words_at
   words_take zero bytes xs rest e =
-      let p = some_pair_parts _ _ _ _ e in
-      subst (λ (ys : List X). (bytes ≡ spaced (map spell ys) ++ rest) × (length ys ≡ 0)
-      × AllByRecursion Fits ys) p.0 (p.1, refl, tt)
+      let p = some_pair_parts _ _ _ _ e in rw (← p.0) (p.1, refl, tt)
   words_take (suc n) bytes xs rest e =
-      let space = bind_some e in
+      let space = fixed_then _ _ e in
       let x = bind_some space.2 in
       let ys = bind_some x.2 in
       let xt = r.takes _ _ _ x.1 in
       let yt = words_take n _ _ _ ys.1 in
       let p = some_pair_parts _ _ _ _ ys.2 in
-      let whole : bytes ≡ spaced (map spell (x.0.0 ∷ ys.0.0)) ++ ys.0.1 =
-      fixed_takes _ _ _ space.1 ∙ ap (λ (t : List ℕ). 32 ∷ t)
-      (xt.0 ∙ ap (λ (t : List ℕ). spell x.0.0 ++ t) yt.0
-      ∙ sym (append_assoc (spell x.0.0) (spaced (map spell ys.0.0)) ys.0.1)) in
-      subst (λ (zs : List X). (bytes ≡ spaced (map spell zs) ++ rest) × (length zs ≡ suc n)
-      × AllByRecursion Fits zs) p.0 (
-        whole ∙ ap (λ (t : List ℕ). spaced (map spell (x.0.0 ∷ ys.0.0)) ++ t) p.1,
-        ap suc yt.1,
-        (xt.1, yt.2),
-      )
+      let grouped = append_assoc (spell x.0.0) (spaced (map spell ys.0.0)) rest in
+      rw (← p.0) (cc, cc, (xt.1, yt.2))
 
   next_again : (x : X) (xs : List X) (rest : List ℕ) → Fits x
       → word (spell x ++ (spaced (map spell xs) ++ 10 ∷ rest))
@@ -112,15 +99,10 @@ module _ {X : Type 0} {spell : X → List ℕ} {Fits : X → Type 0} {word : Lis
   unfolding words_at
   words_again [] rest fits = refl
   words_again (x ∷ xs) rest fits =
-      let regrouped : (spell x ++ spaced (map spell xs)) ++ 10 ∷ rest ≡ spell x
-      ++ (spaced (map spell xs) ++ 10 ∷ rest) =
-      append_assoc (spell x) (spaced (map spell xs)) (10 ∷ rest) in
-      let first : word ((spell x ++ spaced (map spell xs)) ++ 10 ∷ rest)
-      ≡ Some (x, spaced (map spell xs) ++ 10 ∷ rest) =
-      ap word regrouped ∙ next_again x xs rest fits.0 in
       rw (
-        fixed_again (32 ∷ []) ((spell x ++ spaced (map spell xs)) ++ 10 ∷ rest),
-        first,
+        append_assoc (spell x) (spaced (map spell xs)) (10 ∷ rest),
+        fixed_again (32 ∷ []) (spell x ++ (spaced (map spell xs) ++ 10 ∷ rest)),
+        next_again x xs rest fits.0,
         words_again xs rest fits.1,
       ) refl
 
@@ -130,26 +112,21 @@ module _ {X : Type 0} {spell : X → List ℕ} {Fits : X → Type 0} {word : Lis
       × AllByRecursion Fits xs
   unfolding line_at
   line_takes name n bytes xs rest e =
-      let named = bind_some e in
+      let named = fixed_then _ _ e in
       let ys = bind_some named.2 in
-      let ended = bind_some ys.2 in
+      let ended = fixed_then _ _ ys.2 in
       let yt = words_take _ _ _ _ ys.1 in
       let p = some_pair_parts _ _ _ _ ended.2 in
-      let whole : bytes ≡ name ++ (spaced (map spell ys.0.0) ++ 10 ∷ rest) =
-      fixed_takes _ _ _ named.1 ∙ ap (λ (t : List ℕ). name ++ t)
-      (yt.0 ∙ ap (λ (t : List ℕ). spaced (map spell ys.0.0) ++ t)
-      (fixed_takes _ _ _ ended.1 ∙ ap (λ (t : List ℕ). 10 ∷ t) p.1)) in
-      subst (λ (zs : List X). (bytes ≡ name ++ (spaced (map spell zs) ++ 10 ∷ rest))
-      × (length zs ≡ n) × AllByRecursion Fits zs) p.0 (whole, yt.1, yt.2)
+      rw (← p.0) (cc, yt.1, yt.2)
 
   pub line_again : (name : List ℕ) (n : ℕ) (xs : List X) (rest : List ℕ) → length xs ≡ n
       → AllByRecursion Fits xs → line_at name word n (name ++ (spaced (map spell xs) ++ 10 ∷ rest))
       ≡ Some (xs, rest)
   unfolding line_at
   line_again name n xs rest len fits =
-      rw (← len)
-      (rw (
+      rw (
+        ← len,
         fixed_again name (spaced (map spell xs) ++ 10 ∷ rest),
         words_again xs rest fits,
         fixed_again (10 ∷ []) rest,
-      ) refl)
+      ) refl

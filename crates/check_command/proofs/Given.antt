@@ -8,7 +8,7 @@ use Rattle.certificate_text.specs.Spelling.{Spells}
 use Rattle.folders.specs.Files.{BeginsWith, Holds}
 use Rattle.answers.specs.ByteVerdicts.{ByteVerdict, IsTrueOf, Holds as HoldsOf}
 use Rattle.answers.specs.ByteVerdicts.ByteVerdict.{Yes, Text, No, Outcome, Limit, Memory}
-use Rattle.checker.specs.Turns.{verdict}
+use Rattle.check_machine.specs.Turns.{verdict}
 use Rattle.verdict_texts.specs.Streams.{AreKnownAs}
 use Rattle.check_command.specs.Checks.{Checks, Finds, IsFrontOf, Judges, SaysVerdict}
 use Rattle.check_command.proofs.Lengths.{long_spells_none}

@@ -5,7 +5,7 @@ use Rattle.misere_theory.specs.Certificates.{Certificate}
 use Rattle.folders.specs.Files.{Holds}
 use Rattle.answers.specs.ByteVerdicts.{IsTrueOf}
 use Rattle.answers.specs.ByteVerdicts.ByteVerdict.{Yes}
-use Rattle.checker.specs.Turns.{verdict}
+use Rattle.check_machine.specs.Turns.{verdict}
 use Rattle.verdict_texts.specs.Streams.{AreKnownAs, IsDueText}
 use Rattle.verdict_texts.specs.declared.stream.TheConstants.{MOST_BYTES}
 use Rattle.command_results.specs.Stops.{IsFileCause}

@@ -2,7 +2,7 @@
 ghost use Rattle.std.specs.Prelude.{◌≡◌, ◌+◌, ◌≤◌, ℕ, List, length, take};
 ghost use Rattle.misere_theory.specs.Certificates.{Certificate};
 ghost use Rattle.certificate_text.specs.Spelling.{Spells};
-ghost use Rattle.checker.specs.Turns.{verdict};
+ghost use Rattle.check_machine.specs.Turns.{verdict};
 ghost use Rattle.verdict_texts.specs.declared.stream.TheConstants.{MOST_BYTES};
 
 use checker::verdicts_are_true;

@@ -1,5 +1,5 @@
 -- One more heap and value are looked at.
--- Where the contexts of a value and of its option share an element, a move leads from the portion
+-- Where the contexts of a value and of its option share no element, no move leads from the portion
 -- into it.
 use Rattle.std.proofs.Common.{◌≡◌, ℕ, ◌+◌, ◌<◌, ◌≤◌, ◌⊎◌, Bool, true, false, List, [], ◌∷◌, ◌++◌, length, get_or, refl, sym, ◌∙◌, ap, subst, arith, rules}
 use Rattle.std.specs.FinSet as set
@@ -15,8 +15,8 @@ use Rattle.misere_theory.specs.Certificates.{Certificate, InRanges, claim_of, ti
 use Rattle.misere_theory.proofs.Written.{phi_in}
 use Rattle.transition_algebra.specs.OverSets.{Pair}
 use Rattle.transition_algebra.specs.Pairs.{IsPair, one}
-use Rattle.checker.specs.Closings.{ObeysAt, LeadsIn, ElementsSoFar}
-use Rattle.checker.specs.Bounds.{bound_of}
+use Rattle.check_machine.specs.Closings.{ObeysAt, ElementsSoFar}
+use Rattle.check_machine.specs.Bounds.{bound_of}
 
 pub insert_has : (s : set.FinSet nat_cmp) (k q : ℕ) → set.contains (set.insert s k) q ≡ true
     → (q ≡ k) ⊎ (set.contains s q ≡ true)
@@ -70,23 +70,6 @@ module _ (c : Certificate) (r : InRanges c) (pairs : List Pair) (ctx : List (set
         → HeapOptionValue c.code (claim_of c) (i + 1) x → x < c.order
     option_below i h x e l o =
         (All-get_or (IsPair c.order) pairs i one l e.exact.within).options x (option_in i h x e l o)
-
-    -- a common element of the contexts shows that an option leads in
-    pub leads_in : (i h y : ℕ) (p : Pair) → ElementsSoFar c pairs ctx i h → i < length pairs
-        → p ≡ get_or pairs i p → set.contains p.options h ≡ true
-        → set.contains (get_or ctx p.value set.empty) y ≡ true
-        → set.contains (get_or ctx h set.empty) y ≡ true → LeadsIn c (i + 1) y
-    leads_in i h y p e l is o a b =
-        let q = e.exact.exact.each i p l in
-        let v : p.value ≡ phi_at c (i + 1) = ap (λ q. q.value) is ∙ q.value_is in
-        let phi_below : phi_at c (i + 1) < c.order = phi_in c r (i + 1) in
-        let f = e.sets.each p.value y (subst (λ n. n < c.order) (sym v) phi_below) a in
-        let g = e.sets.each h y e.value b in (
-          h,
-          (q.options_are h).0 (subst (λ q. set.contains q.options h ≡ true) is o),
-          subst (λ n. (claim_of c).portion (times_of c n y) ≡ true) v f.1,
-          g.1,
-        )
 
     -- no common element
     pub obeys_at : (i h : ℕ) (p : Pair) → ElementsSoFar c pairs ctx i h → i < length pairs

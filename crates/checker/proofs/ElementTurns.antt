@@ -1,6 +1,6 @@
 -- Turns of the stage that looks at the options of values inside the portion.
 -- What the sets of elements say of a heap and a value is what the turn asks of the certificate.
-use Rattle.std.proofs.Common.{◌≡◌, ℕ, zero, suc, ◌+◌, ◌-◌, ◌<◌, ◌≤◌, Bool, true, false, ◌&&◌, ◌==◌, nat_lt, List, ◌∷◌, length, get_or, slice_index_or, refl, sym, ◌∙◌, subst, arith, tests}
+use Rattle.std.proofs.Common.{◌≡◌, ℕ, zero, suc, ◌+◌, ◌<◌, ◌≤◌, Bool, true, false, ◌&&◌, ◌==◌, nat_lt, List, ◌∷◌, length, get_or, slice_index_or, refl, sym, ◌∙◌, subst, arith, tests}
 use Rattle.std.specs.FinSet as set
 use Rattle.std.specs.Ordering.{nat_cmp}
 use Rattle.misere_theory.specs.Certificates.{Certificate, InRanges, times_of}
@@ -8,12 +8,10 @@ use Rattle.transition_algebra.specs.OverSets.{Pair}
 use Rattle.certificate.specs.Fields.{grid_of}
 use Rattle.pair_closure.specs.ClosureViews.{begun}
 use Rattle.answers.specs.ByteVerdicts.ByteVerdict.{Outcome}
-use Rattle.checker.specs.Closings.{AreContexts, ElementsSoFar}
+use Rattle.check_machine.specs.Closings.{AreContexts, ElementsSoFar}
 use Rattle.pair_closure.specs.Positions.{rising}
-use Rattle.checker.specs.Views.{ElementsView}
-use Rattle.checker.specs.Turns.{Runs, first_from, holds, leads_in, elements_at, elements_turn, keys_from}
-use Rattle.checker.specs.Turns.Phase.{Elements, Closing, Ended}
-use Rattle.checker.proofs.TurnLemmas.{runs-more, runs-to}
+use Rattle.check_machine.specs.Turns.{first_from, holds, leads_in, elements_at, elements_turn, keys_from}
+use Rattle.check_machine.specs.Turns.Phase.{Elements, Closing, Ended}
 use Rattle.checker.proofs.ElementLemmas.{value_below}
 use Rattle.std.proofs.lemmas.List.{get_or_default}
 
@@ -31,7 +29,7 @@ contrary {b = true} e f = cc
 contrary {b = false} e f = cc
 
 -- the first is the one before which there is none
-pub first_is : (has : ℕ → Bool) (a n y : ℕ) → a ≤ y → y < a + n → has y ≡ true
+first_is : (has : ℕ → Bool) (a n y : ℕ) → a ≤ y → y < a + n → has y ≡ true
     → ((x : ℕ) → a ≤ x → x < y → has x ≡ false) → first_from has a n ≡ y
 first_is has a zero y l b t none = absurd (omega arith)
 first_is has a (suc n) y l b t none =
@@ -41,7 +39,7 @@ first_is has a (suc n) y l b t none =
     first_is has (a + 1) n y (omega (arith, m)) (omega arith) t
     (λ x u v. none x (omega arith) v)))
 
-pub first_none : (has : ℕ → Bool) (a n : ℕ) → ((x : ℕ) → a ≤ x → x < a + n → has x ≡ false)
+first_none : (has : ℕ → Bool) (a n : ℕ) → ((x : ℕ) → a ≤ x → x < a + n → has x ≡ false)
     → first_from has a n ≡ a + n
 unfolding first_from
 first_none has a zero none = omega arith
@@ -122,79 +120,56 @@ unfolding elements_at
 elements_out limit c pairs i h l = let e : nat_lt i (length pairs) ≡ false = grind (arith, tests) in
     rw e
 
--- one turn
-module _ (limit : ℕ) (c : Certificate) (pairs : List Pair) (i h y : ℕ)
-    (first : first_from (leads_in c (slice_index_or pairs i blank) h) 0 c.order ≡ y) where
-  breaks : nat_lt y c.order ≡ true
+-- one turn: the first element that leads in is handed out
+module _ (limit : ℕ) (c : Certificate) (pairs : List Pair) (i h : ℕ) where
+  pub elements_broken : (y : ℕ) → y < c.order → leads_in c (slice_index_or pairs i blank) h y ≡ true
+      → ((x : ℕ) → x < y → leads_in c (slice_index_or pairs i blank) h x ≡ false)
       → elements_turn limit (record { certificate = c; pairs = pairs; heap = i; option = h })
       ≡ Ended (Outcome c.code (rising ((i + 1) ∷ keys_from c c.order y)))
   unfolding elements_turn
-  breaks e = rw (first, e)
+  elements_broken y b t none =
+      let first = first_is (leads_in c (slice_index_or pairs i blank) h) 0 c.order y (omega arith)
+      (omega arith) t (λ x u v. none x v) in
+      let e : nat_lt y c.order ≡ true = grind (arith, tests) in
+      rw (first, e)
 
-  next_heap : nat_lt y c.order ≡ false → (h + 1 == c.order) ≡ true
-      → elements_turn limit (record { certificate = c; pairs = pairs; heap = i; option = h })
-      ≡ elements_at limit c pairs (i + 1) 0
-  unfolding elements_turn
-  next_heap e d = rw (first, e, d)
-
-  next_option : nat_lt y c.order ≡ false → (h + 1 == c.order) ≡ false
-      → elements_turn limit (record { certificate = c; pairs = pairs; heap = i; option = h })
-      ≡ elements_at limit c pairs i (h + 1)
-  unfolding elements_turn
-  next_option e d = rw (first, e, d)
-
-module _ (bytes : List ℕ) (limit : ℕ) (p : ElementsView) (c : Certificate) (pairs : List Pair)
-    (i h : ℕ) (before after : ℕ)
-    (r : Runs bytes limit (Elements p) before after (elements_at limit c pairs i h)) where
-  module _ (l : i < length pairs) where
-    pub elements_going : Runs bytes limit (Elements p) before after
-        (Elements (record { certificate = c; pairs = pairs; heap = i; option = h }))
-    elements_going =
-        runs-to bytes limit before after (Elements p) _ _ r (elements_in limit c pairs i h l)
-
-    elements_look : 0 < after
-        → Runs bytes limit (Elements p) before (after - 1)
-        (elements_turn limit (record { certificate = c; pairs = pairs; heap = i; option = h }))
-    elements_look some = runs-more bytes limit before after (Elements p) _ elements_going some refl
-
-    pub elements_broken : (y : ℕ) → 0 < after → y < c.order
-        → leads_in c (slice_index_or pairs i blank) h y ≡ true
-        → ((x : ℕ) → x < y → leads_in c (slice_index_or pairs i blank) h x ≡ false)
-        → Runs bytes limit (Elements p) before (after - 1)
-        (Ended (Outcome c.code (rising ((i + 1) ∷ keys_from c c.order y))))
-    elements_broken y some b t none =
-        let first = first_is (leads_in c (slice_index_or pairs i blank) h) 0 c.order y (omega arith)
-        (omega arith) t (λ x u v. none x v) in
-        let e : nat_lt y c.order ≡ true = grind (arith, tests) in
-        runs-to bytes limit before (after - 1) (Elements p) _ _ (elements_look some)
-        (breaks limit c pairs i h y first e)
-
-    module _ (some : 0 < after) (none : (x : ℕ) → x < c.order
-        → leads_in c (slice_index_or pairs i blank) h x ≡ false) where
+  module _ (none : (x : ℕ) → x < c.order → leads_in c (slice_index_or pairs i blank) h x ≡ false)
+    where
       first : first_from (leads_in c (slice_index_or pairs i blank) h) 0 c.order ≡ c.order
       first =
-          (let d : 0 + c.order ≡ c.order = omega arith in
+          let d : 0 + c.order ≡ c.order = omega arith in
           first_none (leads_in c (slice_index_or pairs i blank) h) 0 c.order
-          (λ x u v. none x (omega arith)) ∙ d)
+          (λ x u v. none x (omega arith)) ∙ d
 
-      pub elements_heap : h + 1 ≡ c.order
-          → Runs bytes limit (Elements p) before (after - 1) (elements_at limit c pairs (i + 1) 0)
-      elements_heap d =
-          let e : nat_lt c.order c.order ≡ false = grind (arith, tests) in
-          let g : (h + 1 == c.order) ≡ true = grind (arith, tests) in
-          runs-to bytes limit before (after - 1) (Elements p) _ _ (elements_look some)
-          (next_heap limit c pairs i h c.order first e g)
+      no_less : nat_lt c.order c.order ≡ false
+      no_less = grind (arith, tests)
 
-      pub elements_option : (h + 1 ≡ c.order → ⊥)
-          → Runs bytes limit (Elements p) before (after - 1) (elements_at limit c pairs i (h + 1))
-      elements_option d =
-          let e : nat_lt c.order c.order ≡ false = grind (arith, tests) in
+      pub elements_option : h + 1 < c.order → i < length pairs
+          → elements_turn limit (record { certificate = c; pairs = pairs; heap = i; option = h })
+          ≡ Elements (record { certificate = c; pairs = pairs; heap = i; option = h + 1 })
+      unfolding elements_turn
+      elements_option d l =
+          let f = first in
+          let e = no_less in
           let g : (h + 1 == c.order) ≡ false = grind (arith, tests) in
-          runs-to bytes limit before (after - 1) (Elements p) _ _ (elements_look some)
-          (next_option limit c pairs i h c.order first e g)
+          rw (f, e, g) (elements_in limit c pairs i (h + 1) l)
 
-  pub elements_over : length pairs ≤ i
-      → Runs bytes limit (Elements p) before after
-      (Closing (record { certificate = c; closure = begun (grid_of c) pairs limit }))
-  elements_over l =
-      runs-to bytes limit before after (Elements p) _ _ r (elements_out limit c pairs i h l)
+      module _ (d : h + 1 ≡ c.order) where
+        past : elements_turn limit (record { certificate = c; pairs = pairs; heap = i; option = h })
+            ≡ elements_at limit c pairs (i + 1) 0
+        unfolding elements_turn
+        past =
+            let f = first in
+            let e = no_less in
+            let g : (h + 1 == c.order) ≡ true = grind (arith, tests) in
+            rw (f, e, g)
+
+        pub elements_heap : i + 1 < length pairs
+            → elements_turn limit (record { certificate = c; pairs = pairs; heap = i; option = h })
+            ≡ Elements (record { certificate = c; pairs = pairs; heap = i + 1; option = 0 })
+        elements_heap l = past ∙ elements_in limit c pairs (i + 1) 0 l
+
+        pub elements_over : length pairs ≤ i + 1
+            → elements_turn limit (record { certificate = c; pairs = pairs; heap = i; option = h })
+            ≡ Closing (record { certificate = c; closure = begun (grid_of c) pairs limit })
+        elements_over l = past ∙ elements_out limit c pairs (i + 1) 0 l

@@ -9,13 +9,11 @@ use Rattle.checker.specs.contracts.heaps.Heaps as heaps
 use Rattle.checker.specs.contracts.elements.Elements as elements
 use Rattle.checker.specs.contracts.closing.Closing as closings
 use Rattle.checker.specs.contracts.paired.Paired as paireds
-use Rattle.checker.specs.contracts.paired.Worked as workeds
 use Rattle.transition_algebra.proofs.Layouts.{Takes, field, no_field, of_fields, variant, no_variant, of_variants, number, array, lanes, vector}
 use Rattle.transition_algebra.proofs.Fit.{heap_job_takes}
 use Rattle.pair_closure.proofs.Fit.{closure_takes}
 use Rattle.checker.specs.contracts.lines.Lines as lines
 use Rattle.checker.specs.contracts.lawful_certificate.LawfulCertificate as certificates
-use Rattle.answers.specs.contracts.certified.Certified as certified
 use prog.Memory.{size, endss}
 use mir.Syntax.{Ty, Tys, Tyss, tcons, tnil, ttcons, ty_enum, w8, w16, w64}
 use denote.Param.{layout, param}
@@ -25,16 +23,15 @@ fitting : (τ : Ty) (n : ℕ) → Takes n τ → n < 2 ^ 63 → size τ < 2 ^ 63
 fitting τ n t l = let b = t.bytes in omega arith
 
 module _ (A : RattleType) (alloc : Allocator.Ghosts A.Denot) (small : IsSmall A) where
-  -- the portion, as a list and as a set, the keys and the separating elements
-  lines_take : Takes 1688 (layout (lines.the_row (param 0 A) alloc))
+  -- the portion, the keys and the separating elements
+  lines_take : Takes 616 (layout (lines.the_row (param 0 A) alloc))
   lines_take =
       of_fields _ _ _
       (field _ _ _ _ (vector _ A small)
-      (field _ _ _ _ (of_fields _ _ _ (field _ _ _ _ (array w64 64) no_field))
-      (field _ _ _ _ (vector _ A small) (field _ _ _ _ (vector _ A small) no_field))))
+      (field _ _ _ _ (vector _ A small) (field _ _ _ _ (vector _ A small) no_field)))
 
   -- the code, the table, the pretending function and the lines
-  certificate_takes : Takes 2632 (layout (certificates.the_row (param 0 A) alloc))
+  certificate_takes : Takes 1560 (layout (certificates.the_row (param 0 A) alloc))
   certificate_takes =
       of_fields _ _ _
       (field _ _ _ _
@@ -47,35 +44,14 @@ module _ (A : RattleType) (alloc : Allocator.Ghosts A.Denot) (small : IsSmall A)
       (field _ _ _ _ (number w64) (field _ _ _ _ (vector _ A small) no_field))))
       (field _ _ _ _ lines_take no_field))))
 
-  -- the fields of a certificate, and its portion as a set
-  certified_takes : Takes 2632 (layout (certified.the_row (param 0 A) alloc))
-  certified_takes =
-      of_fields _ _ _
-      (field _ _ _ _
-      (of_fields _ _ _
-      (field _ _ _ _
-      (of_fields _ _ _
-      (field _ _ _ _
-      (of_fields _ _ _ (field _ _ _ _ (array w8 17) (field _ _ _ _ (number w8) no_field)))
-      (field _ _ _ _ (number w16)
-      (field _ _ _ _
-      (of_fields _ _ _
-      (field _ _ _ _ (number w64)
-      (field _ _ _ _ (number w64) (field _ _ _ _ (vector _ A small) no_field))))
-      (field _ _ _ _ (vector _ A small)
-      (field _ _ _ _ (vector _ A small)
-      (field _ _ _ _ (vector _ A small) (field _ _ _ _ (vector _ A small) no_field))))))))
-      no_field))
-      (field _ _ _ _ (of_fields _ _ _ (field _ _ _ _ (array w64 64) no_field)) no_field))
-
   module _ (L : ℕ) (few : L ≤ 64) where
-    heaps_take : Takes 4741 (layout (heaps.the_row (param 0 (params.number L)) (param 1 A) alloc))
+    heaps_take : Takes 3669 (layout (heaps.the_row (param 0 (params.number L)) (param 1 A) alloc))
     heaps_take =
         of_fields _ _ _
         (field _ _ _ _ lines_take
         (field _ _ _ _ (heap_job_takes L A alloc few small) no_field))
 
-    elements_take : Takes 3128 (layout (elements.the_row (param 0 (params.number L)) (param 1 A) alloc))
+    elements_take : Takes 2056 (layout (elements.the_row (param 0 (params.number L)) (param 1 A) alloc))
     elements_take =
         of_fields _ _ _
         (field _ _ _ _ certificate_takes
@@ -83,7 +59,7 @@ module _ (A : RattleType) (alloc : Allocator.Ghosts A.Denot) (small : IsSmall A)
         (field _ _ _ _ (vector _ A small)
         (field _ _ _ _ (number w64) (field _ _ _ _ (number w16) no_field)))))
 
-    closing_takes : Takes 5113 (layout (closings.the_row (param 0 (params.number L)) (param 1 A) alloc))
+    closing_takes : Takes 4041 (layout (closings.the_row (param 0 (params.number L)) (param 1 A) alloc))
     closing_takes =
         of_fields _ _ _
         (field _ _ _ _
@@ -96,33 +72,24 @@ module _ (A : RattleType) (alloc : Allocator.Ghosts A.Denot) (small : IsSmall A)
         (field _ _ _ _ (of_fields _ _ _ (field _ _ _ _ (lanes L few) no_field))
         (field _ _ _ _ (closure_takes L A alloc small) no_field)))))
 
-    paired_takes : Takes 13050 (layout (paireds.the_row (param 0 (params.number L)) (param 1 A) alloc))
+    paired_takes : Takes 9834 (layout (paireds.the_row (param 0 (params.number L)) (param 1 A) alloc))
     paired_takes =
         of_variants _ _ _
         (variant _ _ _ _ (field _ _ _ _ heaps_take no_field)
         (variant _ _ _ _ (field _ _ _ _ elements_take no_field)
         (variant _ _ _ _ (field _ _ _ _ closing_takes no_field) no_variant)))
 
-    worked_takes : Takes 15733 (layout (workeds.the_row (param 0 (params.number L)) (param 1 A) alloc))
-    worked_takes =
-        of_variants _ _ _
-        (variant _ _ _ _ (field _ _ _ _ paired_takes no_field)
-        (variant _ _ _ _ (field _ _ _ _ certified_takes no_field) no_variant))
-
     pub heaps_fits : type_size (heaps.the_row (param 0 (params.number L)) (param 1 A) alloc) < 2 ^ 63
-    heaps_fits = fitting _ 4741 heaps_take (omega arith)
+    heaps_fits = fitting _ 3669 heaps_take (omega arith)
 
     pub elements_fits : type_size (elements.the_row (param 0 (params.number L)) (param 1 A) alloc) < 2 ^ 63
-    elements_fits = fitting _ 3128 elements_take (omega arith)
+    elements_fits = fitting _ 2056 elements_take (omega arith)
 
     pub closing_fits : type_size (closings.the_row (param 0 (params.number L)) (param 1 A) alloc) < 2 ^ 63
-    closing_fits = fitting _ 5113 closing_takes (omega arith)
+    closing_fits = fitting _ 4041 closing_takes (omega arith)
 
     pub paired_fits : type_size (paireds.the_row (param 0 (params.number L)) (param 1 A) alloc) < 2 ^ 63
-    paired_fits = fitting _ 13050 paired_takes (omega arith)
-
-    pub worked_fits : type_size (workeds.the_row (param 0 (params.number L)) (param 1 A) alloc) < 2 ^ 63
-    worked_fits = fitting _ 15733 worked_takes (omega arith)
+    paired_fits = fitting _ 9834 paired_takes (omega arith)
 
 -- What a variant holds is no larger than the whole.
 pub record Below (τ : Ty) : Type 0 where

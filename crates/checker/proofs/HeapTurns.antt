@@ -4,14 +4,14 @@ use Rattle.std.proofs.Common.{◌≡◌, ℕ, zero, suc, ◌+◌, ◌-◌, ◌<�
 use Rattle.std.specs.List.{sum_by, range_with_len}
 use Rattle.std.proofs.lemmas.List.Sums.{sum_by-cons}
 use Rattle.misere_theory.specs.Certificates.{Certificate, InRanges}
-use Rattle.transition_algebra.specs.Pretending.{Pretending}
+use Rattle.pretending.specs.Pretending.{Pretending}
 use Rattle.transition_algebra.specs.Work.{heap_cost, tries}
 use Rattle.transition_algebra.specs.Heaps.{bound_of, heap_pair, all_heap_pairs}
 use Rattle.certificate.specs.Fields.{grid_of, pretending_of}
-use Rattle.checker.specs.Turns.{stage_of, Runs, heaps_at, heaps_turn, elements_at}
-use Rattle.checker.specs.Turns as check
-use Rattle.checker.specs.Turns.Phase.{Heaps, Elements}
-use Rattle.checker.proofs.UnitLemmas.{bound_some}
+use Rattle.check_machine.specs.Turns.{stage_of, Runs, heaps_at, heaps_turn, elements_at}
+use Rattle.check_machine.specs.Turns as check
+use Rattle.check_machine.specs.Turns.Phase.{Heaps, Elements}
+use Rattle.check_machine.proofs.UnitLaws.{bound_some}
 use Rattle.checker.proofs.ElementTurns.{elements_in}
 use Rattle.monoid_table.specs.Grids.{Grid}
 use Rattle.std.proofs.lemmas.List.FromFn.{length-map-range_with_len}

@@ -1,262 +1,213 @@
--- Turns of the stages that look at products, at periods and at separating elements.
-use Rattle.std.proofs.Common.{◌≡◌, ℕ, ◌+◌, ◌-◌, ◌<◌, ◌≤◌, Bool, true, false, ◌==◌, nat_lt, List, length, slice_index, refl, sym, ◌∙◌, subst, arith, tests}
-use Rattle.misere_theory.specs.Certificates.{Certificate}
-use Rattle.misere_theory.specs.Verdicts.Fault.{Order, Period, Apart}
+-- Turns of the stages that look at keys, products, periods and separating elements.
+-- Each outcome of a turn is an equation, which a stage needs in place and at its end.
+use Rattle.std.proofs.Common.{◌≡◌, ℕ, ◌+◌, ◌-◌, ◌<◌, ◌≤◌, Bool, true, false, ◌==◌, ◌&&◌, nat_lt, length, slice_index, refl, sym, ◌∙◌, ap, arith, tests}
+use Rattle.misere_theory.specs.Certificates.{Certificate, InRanges}
+use Rattle.misere_theory.specs.Verdicts.Fault.{Word, Order, Period, Apart}
 use Rattle.answers.specs.ByteVerdicts.ByteVerdict.{No}
-use Rattle.checker.specs.Views.{ProductsView, PeriodsView, SeparatingView}
-use Rattle.checker.specs.Turns.{Runs, products_at, products_turn, is_in_order, periods_turn, comes_again, separating_at, separating_turn, tells_apart, heaps_at}
-use Rattle.checker.specs.Turns.Phase.{Products, Periods, Separating, Ended}
-use Rattle.checker.proofs.TurnLemmas.{runs-more, runs-to}
+use Rattle.check_machine.specs.Turns.{keys_at, keys_turn, is_keyed, is_above_last, products_at, products_turn, is_in_order, periods_turn, comes_again, separating_at, separating_turn, tells_apart}
+use Rattle.check_machine.specs.Turns.Phase.{Keys, Products, Periods, Separating, Heaps, Ended}
+use Rattle.check_machine.proofs.TurnLaws.{keys_in, keys_out, keys_fallen, keys_more, keys_stop}
+use Rattle.checker.proofs.HeapTurns.{heaps_begin}
 
--- products are left to look at
-pub products_in : (c : Certificate) (f h : ℕ) → f < c.order
-    → products_at c f h ≡ Products (record { certificate = c; element = f; heap = h })
-unfolding products_at
-products_in c f h l = let e : nat_lt f c.order ≡ true = grind (arith, tests) in rw e
+-- one turn at keys
+module _ (c : Certificate) (next : ℕ) (rise b : Bool) (is : b ≡ is_keyed c next) where
+  pub keys_missed : b ≡ false
+      → keys_turn (record { certificate = c; next = next; rising = rise }) ≡ Ended (No Word)
+  keys_missed t = keys_stop c next rise (sym is ∙ t)
 
--- none is left
-products_out : (c : Certificate) (f h : ℕ) → c.order ≤ f
-    → products_at c f h ≡ Periods (record { certificate = c; shift = 1; count = 0 })
-unfolding products_at
-products_out c f h l = let e : nat_lt f c.order ≡ false = grind (arith, tests) in rw e
+  module _ (t : b ≡ true) (s : Bool) (above : s ≡ is_above_last c next) where
+    seen : keys_turn (record { certificate = c; next = next; rising = rise })
+        ≡ keys_at c (next + 1) (rise && s)
+    seen =
+        keys_more c next rise (sym is ∙ t) ∙ ap (λ v. keys_at c (next + 1) (rise && v)) (sym above)
 
-products_row : (c : Certificate) (f h : ℕ) → is_in_order c f h ≡ true → h + 1 ≡ c.start + c.period
-    → products_turn (record { certificate = c; element = f; heap = h }) ≡ products_at c (f + 1) 1
-unfolding products_turn
-products_row c f h e d = let g : (h + 1 == c.start + c.period) ≡ true = grind (arith, tests) in
-    rw (e, g)
+    pub keys_next : next + 1 < c.order
+        → keys_turn (record { certificate = c; next = next; rising = rise })
+        ≡ Keys (record { certificate = c; next = next + 1; rising = rise && s })
+    keys_next l = seen ∙ keys_in c (next + 1) (rise && s) l
 
-products_more : (c : Certificate) (f h : ℕ) → is_in_order c f h ≡ true → h + 1 < c.start + c.period
-    → products_turn (record { certificate = c; element = f; heap = h }) ≡ products_at c f (h + 1)
-unfolding products_turn
-products_more c f h e d = let g : (h + 1 == c.start + c.period) ≡ false = grind (arith, tests) in
-    rw (e, g)
+    module _ (l : c.order ≤ next + 1) where
+      pub keys_fall : (rise && s) ≡ false
+          → keys_turn (record { certificate = c; next = next; rising = rise }) ≡ Ended (No Order)
+      keys_fall e = seen ∙ (ap (keys_at c (next + 1)) e ∙ keys_fallen c (next + 1) l)
 
-products_stop : (c : Certificate) (f h : ℕ) → is_in_order c f h ≡ false
-    → products_turn (record { certificate = c; element = f; heap = h }) ≡ Ended (No Order)
-unfolding products_turn
-products_stop c f h e = rw e
+      pub keys_over : (rise && s) ≡ true
+          → keys_turn (record { certificate = c; next = next; rising = rise })
+          ≡ Products (record { certificate = c; element = 0; heap = 1 })
+      keys_over e = seen ∙ (ap (keys_at c (next + 1)) e ∙ keys_out c (next + 1) l)
 
-module _ (bytes : List ℕ) (limit : ℕ) (p : ProductsView) (c : Certificate) (f h : ℕ)
-    (before after : ℕ) (r : Runs bytes limit (Products p) before after (products_at c f h)) where
-  module _ (l : f < c.order) where
-    pub products_going : Runs bytes limit (Products p) before after
-        (Products (record { certificate = c; element = f; heap = h }))
-    products_going = runs-to bytes limit before after (Products p) _ _ r (products_in c f h l)
+-- one turn at products
+module _ (c : Certificate) (f h : ℕ) (b : Bool) (is : b ≡ is_in_order c f h) where
+  pub products_missed : b ≡ false
+      → products_turn (record { certificate = c; element = f; heap = h }) ≡ Ended (No Order)
+  unfolding products_turn
+  products_missed t = let e : is_in_order c f h ≡ false = sym is ∙ t in rw e
 
-    products_look : 0 < after
-        → Runs bytes limit (Products p) before (after - 1)
-        (products_turn (record { certificate = c; element = f; heap = h }))
-    products_look some = runs-more bytes limit before after (Products p) _ products_going some refl
+  module _ (t : b ≡ true) where
+    in_order : is_in_order c f h ≡ true
+    in_order = sym is ∙ t
 
-    module _ (b : Bool) (some : 0 < after) (is : b ≡ is_in_order c f h) where
-      pub products_seen : b ≡ true → h + 1 < c.start + c.period
-          → Runs bytes limit (Products p) before (after - 1) (products_at c f (h + 1))
-      products_seen t m =
-          runs-to bytes limit before (after - 1) (Products p) _ _ (products_look some)
-          (products_more c f h (sym is ∙ t) m)
+    pub products_next : h + 1 < c.start + c.period → f < c.order
+        → products_turn (record { certificate = c; element = f; heap = h })
+        ≡ Products (record { certificate = c; element = f; heap = h + 1 })
+    unfolding products_turn products_at
+    products_next m l =
+        let e = in_order in
+        let g : (h + 1 == c.start + c.period) ≡ false = grind (arith, tests) in
+        let k : nat_lt f c.order ≡ true = grind (arith, tests) in
+        rw (e, g, k)
 
-      pub products_row_seen : b ≡ true → h + 1 ≡ c.start + c.period
-          → Runs bytes limit (Products p) before (after - 1) (products_at c (f + 1) 1)
-      products_row_seen t m =
-          runs-to bytes limit before (after - 1) (Products p) _ _ (products_look some)
-          (products_row c f h (sym is ∙ t) m)
+    module _ (m : h + 1 ≡ c.start + c.period) where
+      pub products_row : f + 1 < c.order
+          → products_turn (record { certificate = c; element = f; heap = h })
+          ≡ Products (record { certificate = c; element = f + 1; heap = 1 })
+      unfolding products_turn products_at
+      products_row l =
+          let e = in_order in
+          let g : (h + 1 == c.start + c.period) ≡ true = grind (arith, tests) in
+          let k : nat_lt (f + 1) c.order ≡ true = grind (arith, tests) in
+          rw (e, g, k)
 
-      pub products_missed : b ≡ false
-          → Runs bytes limit (Products p) before (after - 1) (Ended (No Order))
-      products_missed t =
-          runs-to bytes limit before (after - 1) (Products p) _ _ (products_look some)
-          (products_stop c f h (sym is ∙ t))
-
-  pub products_over : c.order ≤ f
-      → Runs bytes limit (Products p) before after
-      (Periods (record { certificate = c; shift = 1; count = 0 }))
-  products_over l = runs-to bytes limit before after (Products p) _ _ r (products_out c f h l)
-
--- pairs of elements are left to look at
-pub separating_in : (limit : ℕ) (c : Certificate) (x y n z : ℕ) → n < length c.apart
-    → separating_at limit c x y n z
-    ≡ Separating (record { certificate = c; x = x; y = y; number = n; z = z })
-unfolding separating_at
-separating_in limit c x y n z l = let e : nat_lt n (length c.apart) ≡ true = grind (arith, tests) in
-    rw e
-
-separating_out : (limit : ℕ) (c : Certificate) (x y n z : ℕ) → length c.apart ≤ n
-    → separating_at limit c x y n z ≡ heaps_at limit c 0
-unfolding separating_at
-separating_out limit c x y n z l = let e : nat_lt n (length c.apart) ≡ false = grind (arith, tests)
-    in rw e
+      pub products_over : c.order ≤ f + 1
+          → products_turn (record { certificate = c; element = f; heap = h })
+          ≡ Periods (record { certificate = c; shift = 1; count = 0 })
+      unfolding products_turn products_at
+      products_over l =
+          let e = in_order in
+          let g : (h + 1 == c.start + c.period) ≡ true = grind (arith, tests) in
+          let k : nat_lt (f + 1) c.order ≡ false = grind (arith, tests) in
+          rw (e, g, k)
 
 -- one turn at periods
-module _ (limit : ℕ) (c : Certificate) (s i : ℕ) where
-  shifted : nat_lt s c.period ≡ true → comes_again c (c.start + i) s ≡ false
-      → periods_turn limit (record { certificate = c; shift = s; count = i })
-      ≡ Periods (record { certificate = c; shift = s + 1; count = 0 })
-  unfolding periods_turn
-  shifted l e = rw (l, e)
+module _ (limit : ℕ) (c : Certificate) (s i : ℕ) (b : Bool) where
+  module _ (l : s < c.period) (is : b ≡ comes_again c (c.start + i) s) where
+    less : nat_lt s c.period ≡ true
+    less = grind (arith, tests)
 
-  served : nat_lt s c.period ≡ true → comes_again c (c.start + i) s ≡ true
-      → (i + 1 == c.period) ≡ true
-      → periods_turn limit (record { certificate = c; shift = s; count = i }) ≡ Ended (No Period)
-  unfolding periods_turn
-  served l e d = rw (l, e, d)
+    pub periods_shifted : b ≡ false
+        → periods_turn limit (record { certificate = c; shift = s; count = i })
+        ≡ Periods (record { certificate = c; shift = s + 1; count = 0 })
+    unfolding periods_turn
+    periods_shifted t = let k = less in let e : comes_again c (c.start + i) s ≡ false = sym is ∙ t in
+        rw (k, e)
 
-  counted : nat_lt s c.period ≡ true → comes_again c (c.start + i) s ≡ true
-      → (i + 1 == c.period) ≡ false
-      → periods_turn limit (record { certificate = c; shift = s; count = i })
-      ≡ Periods (record { certificate = c; shift = s; count = i + 1 })
-  unfolding periods_turn
-  counted l e d = rw (l, e, d)
+    module _ (t : b ≡ true) where
+      again : comes_again c (c.start + i) s ≡ true
+      again = sym is ∙ t
 
-  early : nat_lt s c.period ≡ false → comes_again c (c.start - 1) c.period ≡ true
-      → periods_turn limit (record { certificate = c; shift = s; count = i }) ≡ Ended (No Period)
-  unfolding periods_turn
-  early l e = rw (l, e)
-
-  through : nat_lt s c.period ≡ false → comes_again c (c.start - 1) c.period ≡ false
-      → periods_turn limit (record { certificate = c; shift = s; count = i })
-      ≡ separating_at limit c 0 1 0 0
-  unfolding periods_turn
-  through l e = rw (l, e)
-
-module _ (bytes : List ℕ) (limit : ℕ) (p : PeriodsView) (c : Certificate) (s i : ℕ)
-    (before after : ℕ)
-    (r : Runs bytes limit (Periods p) before after
-    (Periods (record { certificate = c; shift = s; count = i }))) (some : 0 < after) (b : Bool)
-  where
-    periods_look : Runs bytes limit (Periods p) before (after - 1)
-        (periods_turn limit (record { certificate = c; shift = s; count = i }))
-    periods_look = runs-more bytes limit before after (Periods p) _ r some refl
-
-    module _ (l : s < c.period) (is : b ≡ comes_again c (c.start + i) s) where
-      pub periods_shifted : b ≡ false
-          → Runs bytes limit (Periods p) before (after - 1)
-          (Periods (record { certificate = c; shift = s + 1; count = 0 }))
-      periods_shifted t = let e : nat_lt s c.period ≡ true = grind (arith, tests) in
-          runs-to bytes limit before (after - 1) (Periods p) _ _ periods_look
-          (shifted limit c s i e (sym is ∙ t))
-
-      pub periods_served : b ≡ true → i + 1 ≡ c.period
-          → Runs bytes limit (Periods p) before (after - 1) (Ended (No Period))
-      periods_served t d =
-          let e : nat_lt s c.period ≡ true = grind (arith, tests) in
+      pub periods_served : i + 1 ≡ c.period
+          → periods_turn limit (record { certificate = c; shift = s; count = i }) ≡ Ended (No Period)
+      unfolding periods_turn
+      periods_served d =
+          let k = less in
+          let e = again in
           let g : (i + 1 == c.period) ≡ true = grind (arith, tests) in
-          runs-to bytes limit before (after - 1) (Periods p) _ _ periods_look
-          (served limit c s i e (sym is ∙ t) g)
+          rw (k, e, g)
 
-      pub periods_counted : b ≡ true → i + 1 < c.period
-          → Runs bytes limit (Periods p) before (after - 1)
-          (Periods (record { certificate = c; shift = s; count = i + 1 }))
-      periods_counted t d =
-          let e : nat_lt s c.period ≡ true = grind (arith, tests) in
+      pub periods_counted : i + 1 < c.period
+          → periods_turn limit (record { certificate = c; shift = s; count = i })
+          ≡ Periods (record { certificate = c; shift = s; count = i + 1 })
+      unfolding periods_turn
+      periods_counted d =
+          let k = less in
+          let e = again in
           let g : (i + 1 == c.period) ≡ false = grind (arith, tests) in
-          runs-to bytes limit before (after - 1) (Periods p) _ _ periods_look
-          (counted limit c s i e (sym is ∙ t) g)
+          rw (k, e, g)
 
-    module _ (l : c.period ≤ s) (is : b ≡ comes_again c (c.start - 1) c.period) where
-      pub periods_early : b ≡ true → Runs bytes limit (Periods p) before (after - 1) (Ended (No Period))
-      periods_early t = let e : nat_lt s c.period ≡ false = grind (arith, tests) in
-          runs-to bytes limit before (after - 1) (Periods p) _ _ periods_look
-          (early limit c s i e (sym is ∙ t))
+  module _ (l : c.period ≤ s) (is : b ≡ comes_again c (c.start - 1) c.period) where
+    no_less : nat_lt s c.period ≡ false
+    no_less = grind (arith, tests)
 
-      pub periods_over : b ≡ false → 0 < length c.apart
-          → Runs bytes limit (Periods p) before (after - 1)
-          (Separating (record { certificate = c; x = 0; y = 1; number = 0; z = 0 }))
-      periods_over t some_pairs = let e : nat_lt s c.period ≡ false = grind (arith, tests) in
-          runs-to bytes limit before (after - 1) (Periods p) _ _ periods_look
-          (through limit c s i e (sym is ∙ t) ∙ separating_in limit c 0 1 0 0 some_pairs)
+    pub periods_early : b ≡ true
+        → periods_turn limit (record { certificate = c; shift = s; count = i }) ≡ Ended (No Period)
+    unfolding periods_turn
+    periods_early t =
+        let k = no_less in
+        let e : comes_again c (c.start - 1) c.period ≡ true = sym is ∙ t in
+        rw (k, e)
+
+    pub periods_over : b ≡ false → 0 < length c.apart
+        → periods_turn limit (record { certificate = c; shift = s; count = i })
+        ≡ Separating (record { certificate = c; x = 0; y = 1; number = 0; z = 0 })
+    unfolding periods_turn separating_at
+    periods_over t some =
+        let k = no_less in
+        let e : comes_again c (c.start - 1) c.period ≡ false = sym is ∙ t in
+        let g : nat_lt 0 (length c.apart) ≡ true = grind (arith, tests) in
+        rw (k, e, g)
 
 -- one turn at separating elements
 module _ (limit : ℕ) (c : Certificate) (x y n z : ℕ) where
-  untold : tells_apart c x y z ≡ false → (z == slice_index c.apart n) ≡ true
-      → separating_turn limit (record { certificate = c; x = x; y = y; number = n; z = z })
-      ≡ Ended (No Apart)
-  unfolding separating_turn
-  untold e g = rw (e, g)
+  -- z doesn't tell the two apart
+  module _ (e : tells_apart c x y z ≡ false) where
+    pub separating_further : n < length c.apart → z < slice_index c.apart n
+        → separating_turn limit (record { certificate = c; x = x; y = y; number = n; z = z })
+        ≡ Separating (record { certificate = c; x = x; y = y; number = n; z = z + 1 })
+    unfolding separating_turn separating_at
+    separating_further l m =
+        let g : (z == slice_index c.apart n) ≡ false = grind (arith, tests) in
+        let k : nat_lt n (length c.apart) ≡ true = grind (arith, tests) in
+        rw (e, g, k)
 
-  further : tells_apart c x y z ≡ false → (z == slice_index c.apart n) ≡ false
-      → separating_turn limit (record { certificate = c; x = x; y = y; number = n; z = z })
-      ≡ separating_at limit c x y n (z + 1)
-  unfolding separating_turn
-  further e g = rw (e, g)
+    pub separating_untold : z ≡ slice_index c.apart n
+        → separating_turn limit (record { certificate = c; x = x; y = y; number = n; z = z })
+        ≡ Ended (No Apart)
+    unfolding separating_turn
+    separating_untold m = let g : (z == slice_index c.apart n) ≡ true = grind (arith, tests) in
+        rw (e, g)
 
-  smaller : tells_apart c x y z ≡ true → nat_lt z (slice_index c.apart n) ≡ true
-      → separating_turn limit (record { certificate = c; x = x; y = y; number = n; z = z })
-      ≡ Ended (No Apart)
-  unfolding separating_turn
-  smaller e g = rw (e, g)
+  -- it does
+  module _ (e : tells_apart c x y z ≡ true) where
+    pub separating_smaller : z < slice_index c.apart n
+        → separating_turn limit (record { certificate = c; x = x; y = y; number = n; z = z })
+        ≡ Ended (No Apart)
+    unfolding separating_turn
+    separating_smaller m = let g : nat_lt z (slice_index c.apart n) ≡ true = grind (arith, tests) in
+        rw (e, g)
 
-  next_row : tells_apart c x y z ≡ true → nat_lt z (slice_index c.apart n) ≡ false
-      → (y + 1 == c.order) ≡ true
-      → separating_turn limit (record { certificate = c; x = x; y = y; number = n; z = z })
-      ≡ separating_at limit c (x + 1) (x + 2) (n + 1) 0
-  unfolding separating_turn
-  next_row e g d = rw (e, g, d)
+    module _ (m : z ≡ slice_index c.apart n) where
+      no_smaller : nat_lt z (slice_index c.apart n) ≡ false
+      no_smaller = grind (arith, tests)
 
-  next_pair : tells_apart c x y z ≡ true → nat_lt z (slice_index c.apart n) ≡ false
-      → (y + 1 == c.order) ≡ false
-      → separating_turn limit (record { certificate = c; x = x; y = y; number = n; z = z })
-      ≡ separating_at limit c x (y + 1) (n + 1) 0
-  unfolding separating_turn
-  next_pair e g d = rw (e, g, d)
+      module _ (l : n + 1 < length c.apart) where
+        more : nat_lt (n + 1) (length c.apart) ≡ true
+        more = grind (arith, tests)
 
-module _ (bytes : List ℕ) (limit : ℕ) (p : SeparatingView) (c : Certificate) (x y n z : ℕ)
-    (before after : ℕ)
-    (r : Runs bytes limit (Separating p) before after (separating_at limit c x y n z)) where
-  module _ (l : n < length c.apart) where
-    pub separating_going : Runs bytes limit (Separating p) before after
-        (Separating (record { certificate = c; x = x; y = y; number = n; z = z }))
-    separating_going =
-        runs-to bytes limit before after (Separating p) _ _ r (separating_in limit c x y n z l)
+        pub separating_row : y + 1 ≡ c.order
+            → separating_turn limit (record { certificate = c; x = x; y = y; number = n; z = z })
+            ≡ Separating (record { certificate = c; x = x + 1; y = x + 1 + 1; number = n + 1; z = 0 })
+        unfolding separating_turn separating_at
+        separating_row d =
+            let g = no_smaller in
+            let k = more in
+            let h : (y + 1 == c.order) ≡ true = grind (arith, tests) in
+            let w : x + 2 ≡ x + 1 + 1 = omega arith in
+            rw (e, g, h, k, w)
 
-    separating_look : 0 < after
-        → Runs bytes limit (Separating p) before (after - 1)
-        (separating_turn limit (record { certificate = c; x = x; y = y; number = n; z = z }))
-    separating_look some =
-        runs-more bytes limit before after (Separating p) _ separating_going some refl
+        pub separating_pair : (y + 1 ≡ c.order → ⊥)
+            → separating_turn limit (record { certificate = c; x = x; y = y; number = n; z = z })
+            ≡ Separating (record { certificate = c; x = x; y = y + 1; number = n + 1; z = 0 })
+        unfolding separating_turn separating_at
+        separating_pair d =
+            let g = no_smaller in
+            let k = more in
+            let h : (y + 1 == c.order) ≡ false = grind (arith, tests) in
+            rw (e, g, h, k)
 
-    module _ (b : Bool) (some : 0 < after) (is : b ≡ tells_apart c x y z) where
-      pub separating_untold : b ≡ false → z ≡ slice_index c.apart n
-          → Runs bytes limit (Separating p) before (after - 1) (Ended (No Apart))
-      separating_untold t e = let g : (z == slice_index c.apart n) ≡ true = grind (arith, tests) in
-          runs-to bytes limit before (after - 1) (Separating p) _ _ (separating_look some)
-          (untold limit c x y n z (sym is ∙ t) g)
-
-      pub separating_further : b ≡ false → (z ≡ slice_index c.apart n → ⊥)
-          → Runs bytes limit (Separating p) before (after - 1) (separating_at limit c x y n (z + 1))
-      separating_further t e = let g : (z == slice_index c.apart n) ≡ false = grind (arith, tests)
-          in runs-to bytes limit before (after - 1) (Separating p) _ _ (separating_look some)
-          (further limit c x y n z (sym is ∙ t) g)
-
-      pub separating_smaller : b ≡ true → z < slice_index c.apart n
-          → Runs bytes limit (Separating p) before (after - 1) (Ended (No Apart))
-      separating_smaller t e = let g : nat_lt z (slice_index c.apart n) ≡ true =
-          grind (arith, tests) in
-          runs-to bytes limit before (after - 1) (Separating p) _ _ (separating_look some)
-          (smaller limit c x y n z (sym is ∙ t) g)
-
-      pub separating_row : b ≡ true → slice_index c.apart n ≤ z → y + 1 ≡ c.order
-          → Runs bytes limit (Separating p) before (after - 1)
-          (separating_at limit c (x + 1) (x + 1 + 1) (n + 1) 0)
-      separating_row t e d =
-          let g : nat_lt z (slice_index c.apart n) ≡ false = grind (arith, tests) in
-          let h : (y + 1 == c.order) ≡ true = grind (arith, tests) in
-          let w : x + 2 ≡ x + 1 + 1 = omega arith in
-          subst (λ v. Runs bytes limit (Separating p) before (after - 1)
-          (separating_at limit c (x + 1) v (n + 1) 0)) w
-          (runs-to bytes limit before (after - 1) (Separating p) _ _ (separating_look some)
-          (next_row limit c x y n z (sym is ∙ t) g h))
-
-      pub separating_pair : b ≡ true → slice_index c.apart n ≤ z → (y + 1 ≡ c.order → ⊥)
-          → Runs bytes limit (Separating p) before (after - 1)
-          (separating_at limit c x (y + 1) (n + 1) 0)
-      separating_pair t e d =
-          let g : nat_lt z (slice_index c.apart n) ≡ false = grind (arith, tests) in
-          let h : (y + 1 == c.order) ≡ false = grind (arith, tests) in
-          runs-to bytes limit before (after - 1) (Separating p) _ _ (separating_look some)
-          (next_pair limit c x y n z (sym is ∙ t) g h)
-
-  pub separating_over : length c.apart ≤ n
-      → Runs bytes limit (Separating p) before after (heaps_at limit c 0)
-  separating_over l =
-      runs-to bytes limit before after (Separating p) _ _ r (separating_out limit c x y n z l)
+      pub separating_over : length c.apart ≤ n + 1 → InRanges c
+          → separating_turn limit (record { certificate = c; x = x; y = y; number = n; z = z })
+          ≡ Heaps (record { certificate = c; spent = 0 })
+      unfolding separating_turn separating_at
+      separating_over l r = last (y + 1 == c.order) refl
+        where
+          last : (v : Bool) → (y + 1 == c.order) ≡ v
+              → separating_turn limit (record { certificate = c; x = x; y = y; number = n; z = z })
+              ≡ Heaps (record { certificate = c; spent = 0 })
+          last true h =
+              let g = no_smaller in
+              let k : nat_lt (n + 1) (length c.apart) ≡ false = grind (arith, tests) in
+              rw (e, g, h, k) (heaps_begin limit c r)
+          last false h =
+              let g = no_smaller in
+              let k : nat_lt (n + 1) (length c.apart) ≡ false = grind (arith, tests) in
+              rw (e, g, h, k) (heaps_begin limit c r)

@@ -1,18 +1,12 @@
 -- The turn that reads.
 -- What is read to the end goes on to the laws, and bytes that spell nothing end the check.
-use Rattle.std.proofs.Common.{◌≡◌, ℕ, List, [], ◌∷◌, Option, Some, None, refl, sym, ap}
+use Rattle.std.proofs.Common.{◌≡◌, ℕ, List, [], ◌∷◌, Option, Some, None, refl}
 use Rattle.misere_theory.specs.Certificates.{Certificate}
 use Rattle.certificate_text.specs.Reading.{certificate_at}
 use Rattle.certificate_text.specs.Spelling.{Spells}
-use Rattle.certificate.specs.Fields.{grid_of}
-use Rattle.monoid_table.specs.Turns.{fresh}
 use Rattle.answers.specs.ByteVerdicts.ByteVerdict.{Text}
-use Rattle.checker.specs.Turns.{opened}
-use Rattle.checker.specs.Turns.Phase.{Laws, Ended}
-
-pub opened-read : (bytes : List ℕ) (c : Certificate) → certificate_at bytes ≡ Some (c, [])
-    → Laws (record { certificate = c; job = fresh (grid_of c) }) ≡ opened (certificate_at bytes)
-opened-read bytes c e = sym (ap opened e)
+use Rattle.check_machine.specs.Turns.{opened}
+use Rattle.check_machine.specs.Turns.Phase.{Ended}
 
 opened-none : (takes : (b : List ℕ) (c : Certificate) → certificate_at b ≡ Some (c, [])
     → Spells b c) (bytes : List ℕ) (none : (c : Certificate) → Spells bytes c → ⊥)

@@ -1,16 +1,16 @@
 -- What the turns of a closure come to. This project's own.
-use Rattle.std.specs.Prelude.{◌≡◌, ℕ, ◌+◌, ◌<◌, ◌≤◌, List, false, length, slice_index_or, Result, Ok, Err}
+use Rattle.std.specs.Prelude.{◌≡◌, ℕ, ◌-◌, ◌<◌, List, false, length, slice_index_or, Result, Ok, Err}
 use Rattle.std.specs.FinSet as set
 use Rattle.std.specs.Ordering.{nat_cmp}
 use Rattle.misere_theory.specs.Certificates.{Certificate}
 use Rattle.allocation.specs.declared.Memory.{Memory}
-use Rattle.pair_closure.specs.ClosureViews.{ClosureView, SameData, blank_held, has_ended}
-use Rattle.pair_closure.specs.Positions.{IsClosedOver, IsExceeded, rising, word}
+use Rattle.pair_closure.specs.ClosureViews.{ClosureView, State, blank_held, has_ended}
+use Rattle.pair_closure.specs.Positions.{IsClosedOver, rising, word}
 use Rattle.answers.specs.Portions.{IsPortion}
 use Rattle.answers.specs.ByteVerdicts.ByteVerdict.{Yes, Outcome, Limit}
-use Rattle.checker.specs.Rules.{Breaks, HeldObey}
-use Rattle.checker.specs.Turns.{Phase, Runs}
-use Rattle.checker.specs.Turns.Phase.{Closing, Ended}
+use Rattle.check_machine.specs.Rules.{Breaks, HeldObey}
+use Rattle.check_machine.specs.Turns.{Phase, Runs}
+use Rattle.check_machine.specs.Turns.Phase.{Closing, Ended}
 use Rattle.checker.specs.declared.closing.Looked.{Looked}
 use Rattle.checker.specs.declared.closing.Looked.TheVariants.{More, Done, Over, Broken}
 
@@ -24,8 +24,8 @@ Closes inside p before after to =
 -- What it means that the closing of the closure p has come so far with the closure q:
 --   more: no unit is left, no member held breaks the rule, and a turn is left to take;
 --   done: the members held cover every position, each obeys the rule, and the answer is yes;
---   over: positions have more pairs than the limit, which is the answer;
---   broken: the member held at this place breaks the rule, and its position is the answer;
+--   over: the answer is the limit;
+--   broken: a member is held at this place, and its position is the answer;
 --   want of memory: the turns have come somewhere.
 abbrev pub HasClosed : set.FinSet nat_cmp → ClosureView → ℕ → ℕ → ClosureView → Result Looked Memory
     → Type 0
@@ -35,18 +35,17 @@ HasClosed inside p before after q (Ok More) =
 HasClosed inside p before after q (Ok Done) =
     IsClosedOver q.state × HeldObey inside q.state.held
     × Closes inside p before after (λ c. Ended (Yes c))
-HasClosed inside p before after q (Ok Over) =
-    IsExceeded q.state × Closes inside p before after (λ c. Ended Limit)
+HasClosed inside p before after q (Ok Over) = Closes inside p before after (λ c. Ended Limit)
 HasClosed inside p before after q (Ok (Broken i)) =
-    (i < length q.state.held) × Breaks inside (slice_index_or q.state.held i blank_held).pair
-    × Closes inside p before after
+    (i < length q.state.held) × Closes inside p before after
     (λ c. Ended
     (Outcome c.code (rising (word q.state (slice_index_or q.state.held i blank_held).place))))
 HasClosed inside p before after q (Err m) =
     (to : Certificate → Phase) × Closes inside p before after to
 
--- What the closing of a closure keeps: its data, and the units with those that are left.
-pub record GoesOn (p : ClosureView) (before after : ℕ) (q : ClosureView) : Type 0 where
-  pub same : SameData p.state q.state
-  pub spends : after ≤ before
-  pub spent : after + q.spent ≡ before + p.spent
+-- More members were kept than so many, and this one, which is held last, breaks the rule.
+pub record IsBroken (inside : set.FinSet nat_cmp) (s : State) (ever i : ℕ) : Type 0 where
+  pub more : ever < length s.members
+  pub held : i < length s.held
+  pub last : length s.held - 1 ≡ i
+  pub breaks : Breaks inside (slice_index_or s.held i blank_held).pair

@@ -2,8 +2,8 @@
 use Rattle.std.specs.Prelude.{◌≡◌, ◌≢◌, ◌⊎◌, ℕ, ◌+◌, ◌^◌, ◌<◌, ◌≤◌, List, Option, Some, None}
 use Rattle.answers.specs.ByteVerdicts.{ByteVerdict, IsTrueOf}
 use Rattle.answers.specs.ByteVerdicts.ByteVerdict.{Memory}
-use Rattle.checker.specs.Bounds.{AreWithinBound}
-use Rattle.checker.specs.Turns.{cost, verdict}
+use Rattle.check_machine.specs.Bounds.{AreWithinBound}
+use Rattle.check_machine.specs.Turns.{cost, verdict}
 
 -- The bytes and the limit that a job was opened with, the units spent so far, and the answer, once
 -- it has ended.

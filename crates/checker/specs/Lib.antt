@@ -1,14 +1,5 @@
-pub mod Units
-pub mod LawfulCertificates
-pub mod SoFar
-pub mod Rules
-pub mod Bounds
-pub mod Closings
-pub mod Views
-pub mod Turns
+pub mod Parts
 pub mod Closes
-pub mod Measures
-pub mod Sound
 pub mod Stages
 pub mod JobViews
 pub mod Jobs

@@ -2,12 +2,12 @@
 ghost use Rattle.std.specs.Prelude.{◌≡◌, ◌⊎◌};
 ghost use Rattle.answers.specs.ByteVerdicts.{answer_of, IsTrueOf};
 ghost use Rattle.answers.specs.ByteVerdicts.ByteVerdict.{Memory};
-ghost use Rattle.checker.specs.Turns.{verdict};
+ghost use Rattle.check_machine.specs.Turns.{verdict};
 
 use crate::stage::Stage;
-use crate::turns::checks_end;
 use allocation::SmallAllocator;
 use answers::{Certified, Checks, Refusal, true_answers};
+use check_machine::{checks_end, verdicts_are_true};
 
 /// Whether the bytes are an accepted certificate. The answer is the verdict of the bytes and the
 /// limit, which is always the same, unless memory was refused.
@@ -20,10 +20,12 @@ pub fn check<A: SmallAllocator + Copy>(
     ensures decided { (answer_of result ≡ verdict bytes.now limit) ⊎ (answer_of result ≡ Memory) }
 {
     checks_end();
-    let mut left = u64::MAX;
-    let ended = Stage::Reading.run(alloc, bytes, limit, &mut left);
+    verdicts_are_true();
     true_answers();
-    ended.answer()
+    let mut left = u64::MAX;
+    let mut stage = Stage::Reading;
+    stage.advance(alloc, bytes, limit, &mut left);
+    stage.answer()
 }
 
 /// This check, for whatever takes one.

@@ -1,20 +1,21 @@
 //! The stage that closes the pairs under products with the heaps.
-ghost use Rattle.std.specs.Prelude.{◌≡◌, ◌≤◌, ◌+◌, ◌*◌, ℕ, List, false};
+ghost use Rattle.std.specs.Prelude.{◌≡◌, ◌<◌, ◌≤◌, ◌+◌, ◌*◌, ℕ, List, length, IfSome, IfNone, false};
 ghost use Rattle.misere_theory.specs.Games.{IsHeapUpTo};
 ghost use Rattle.misere_theory.specs.Pairs.{ElementsObey};
 ghost use Rattle.misere_theory.specs.Certificates.{Accepted, Canonical, claim_of};
-ghost use Rattle.pair_closure.specs.ClosureViews.{begun, has_ended};
+ghost use Rattle.pair_closure.specs.ClosureViews.{SameData, begun, has_ended};
 ghost use Rattle.certificate.specs.Fields.{grid_of};
-ghost use Rattle.checker.specs.Rules.{HeldObey};
-ghost use Rattle.checker.specs.Closings.{HavePairs};
-ghost use Rattle.checker.specs.Bounds.{bound_of};
-ghost use Rattle.checker.specs.Turns.Phase.{Closing as AtClosing};
-ghost use Rattle.checker.specs.Closes.{HasClosed, GoesOn};
-ghost use Rattle.checker.specs.Stages.{Carries, Comes, arrived};
+ghost use Rattle.check_machine.specs.Rules.{Obeys, HeldObey};
+ghost use Rattle.check_machine.specs.Closings.{HavePairs};
+ghost use Rattle.check_machine.specs.Bounds.{bound_of};
+ghost use Rattle.check_machine.specs.Turns.{newest};
+ghost use Rattle.check_machine.specs.Turns.Phase.{Closing as AtClosing};
+ghost use Rattle.checker.specs.Closes.{HasClosed, IsBroken};
+ghost use Rattle.checker.specs.Stages.{Comes, arrived};
 
 use crate::lawful_certificate::LawfulCertificate;
 use crate::lines::{Lines, set_of};
-use crate::paired::{Paired, Worked};
+use crate::paired::{Ending, Paired};
 use crate::rule::obeys;
 use allocation::{Memory, SmallAllocator};
 use answers::{Certified, Refusal};
@@ -23,9 +24,10 @@ use element_sets::LaneSet;
 use misere_theory::certificates::tested_certificates_are_accepted;
 use octal_code::Code;
 use pair_closure::{Closure, Grown};
+use pretending::Phi;
 use std::alloc::Global;
 use std::marker::Model;
-use transition_algebra::{Pair, Phi};
+use transition_algebra::Pair;
 
 /// The pairs are closed, a product a turn, and each obeys the rule as it is kept.
 #[derive(Drop)]
@@ -39,13 +41,12 @@ pub struct Closing<const LANES: usize, A: SmallAllocator = Global> {
 }
 
 impl<const LANES: usize, A: SmallAllocator> Model for Closing<LANES, A> {
-    ghost use Rattle.certificate.specs.Fields.{certificate_of};
-    ghost use Rattle.checker.specs.LawfulCertificates.{fields_of};
+    ghost use Rattle.checker.specs.Parts.{parts_of, whole_of};
     ghost use Rattle.std.specs.Prelude.{◌≡◌, ◌≤◌, false};
     ghost use Rattle.pair_closure.specs.ClosureViews.{has_ended};
-    ghost use Rattle.checker.specs.Views.{ClosingView};
-    ghost use Rattle.checker.specs.Closings.{IsClosing};
-    ghost use Rattle.checker.specs.Rules.{HeldObey};
+    ghost use Rattle.check_machine.specs.Views.{ClosingView};
+    ghost use Rattle.check_machine.specs.Closings.{IsClosing};
+    ghost use Rattle.check_machine.specs.Rules.{HeldObey};
     ghost use Rattle.std.specs.FinSet as set;
     ghost use Rattle.std.specs.Ordering.{nat_cmp};
     ghost use Rattle.std.specs.Coded.{codes, coded_ℕ};
@@ -56,21 +57,16 @@ impl<const LANES: usize, A: SmallAllocator> Model for Closing<LANES, A> {
 
     ghost view = { λ s.
         record {
-          certificate = certificate_of
-              (fields_of s.code s.closure.state.table s.phi s.lines.portion.items
-              s.lines.words.items
-              s.lines.apart.items);
+          certificate = whole_of s.lines s.code s.closure.state.table s.phi;
           closure = s.closure;
         } };
 
     ghost invariant = { λ s.
-        IsClosing
-        (fields_of s.code s.closure.state.table s.phi s.lines.portion.items s.lines.words.items
-        s.lines.apart.items) s.inside s.closure.state.heaps
+        IsClosing (parts_of s.lines s.code s.closure.state.table s.phi) s.inside
+        s.closure.state.heaps
         × HeldObey s.inside s.closure.state.held
         × (has_ended s.closure.state ≡ false)
         × (s.closure.failed ≡ false)
-        × (s.inside ≡ s.lines.inside)
         × (LANES ≤ 64) };
 }
 
@@ -87,6 +83,28 @@ enum Looked {
     Broken(usize),
 }
 
+/// The place of the member held last, if one was kept since there were so many, and it breaks the
+/// rule.
+fn broken<const LANES: usize, A: SmallAllocator + Copy>(
+    closure: &Closure<LANES, A>,
+    inside: &LaneSet<LANES>,
+    ever: u64,
+) -> Option<usize>
+    requires { ever < length closure.now.state.members → 0 < length closure.now.state.held }
+    ensures some { IfSome result (IsBroken inside.now closure.now.state ever) }
+    ensures none { IfNone result (ever < length closure.now.state.members
+        → Obeys inside.now (newest closure.now.state).pair) }
+{
+    if closure.ever() <= ever {
+        return None;
+    }
+    let newest = closure.kept() - 1;
+    if obeys(inside, closure.member(newest)) {
+        return None;
+    }
+    Some(newest)
+}
+
 /// Closes the pairs, and looks at the rule at each member in the turn that keeps it.
 fn close<const LANES: usize, A: SmallAllocator + Copy>(
     closure: &mut Closure<LANES, A>,
@@ -97,18 +115,15 @@ fn close<const LANES: usize, A: SmallAllocator + Copy>(
     requires going { has_ended closure.old.state ≡ false }
     requires fresh { closure.old.failed ≡ false }
     ensures closed { HasClosed inside.now closure.old left.old left.new closure.new result }
-    ensures goes_on { GoesOn closure.old left.old left.new closure.new }
+    ensures same { SameData closure.old.state closure.new.state }
 {
     'members: loop {
         let before = closure.spent();
         let ever = closure.ever();
         let grown = closure.grow_to_member(*left);
         *left -= (closure.spent() - before) as u64;
-        if closure.ever() > ever {
-            let newest = closure.kept() - 1;
-            if !obeys(inside, closure.member(newest)) {
-                return Ok(Looked::Broken(newest));
-            }
+        if let Some(newest) = broken(closure, inside, ever) {
+            return Ok(Looked::Broken(newest));
         }
         match grown {
             Err(_) => return Err(Memory),
@@ -136,10 +151,10 @@ fn accepted<A: SmallAllocator>(certificate: LawfulCertificate<A>) -> Certified<A
     } = certificate;
     let Lines {
         portion,
-        inside,
         words,
         apart,
     } = lines;
+    let inside = set_of(&portion);
     let cert = Cert::from_fields(Fields {
         code,
         order: table.order(),
@@ -185,9 +200,8 @@ impl<const LANES: usize, A: SmallAllocator + Copy> Closing<LANES, A> {
     }
 
     /// Spends units until there are none or the stage ends.
-    pub fn work(self, left: &mut u64) -> Result<Worked<LANES, A>, Refusal<A>>
-        ensures carries { Carries self.certificate self.closure.state.limit (arrived result) }
-        ensures comes { (bytes : List ℕ) (limit : ℕ)
+    pub fn work(self, left: &mut u64) -> Result<Paired<LANES, A>, Ending<A>>
+        ensures { (bytes : List ℕ) (limit : ℕ)
             → Comes bytes limit (AtClosing self) left.old left.new (arrived result) }
     {
         let Closing {
@@ -202,33 +216,31 @@ impl<const LANES: usize, A: SmallAllocator + Copy> Closing<LANES, A> {
         match closed {
             Err(_) => {
                 drop((phi, lines, closure));
-                Err(Refusal::Memory)
+                Err(Err(Refusal::Memory))
             }
-            Ok(Looked::More) => Ok(Worked::On(Paired::Closing(Closing {
+            Ok(Looked::More) => Ok(Paired::Closing(Closing {
                 code,
                 phi,
                 lines,
                 inside,
                 closure,
-            }))),
+            })),
             Ok(Looked::Over) => {
                 drop((phi, lines, closure));
-                Err(Refusal::Limit)
+                Err(Err(Refusal::Limit))
             }
-            Ok(Looked::Broken(i)) => match closure.word(i) {
-                Ok(position) => {
-                    drop((phi, lines, closure));
-                    Err(Refusal::Outcome(code, position))
+            Ok(Looked::Broken(i)) => {
+                let word = closure.word(i);
+                drop((phi, lines, closure));
+                match word {
+                    Ok(position) => Err(Err(Refusal::Outcome(code, position))),
+                    Err(_) => Err(Err(Refusal::Memory)),
                 }
-                Err(_) => {
-                    drop((phi, lines, closure));
-                    Err(Refusal::Memory)
-                }
-            },
+            }
             Ok(Looked::Done) => {
                 let (table, _) = closure.finish();
                 tested_certificates_are_accepted();
-                Ok(Worked::Yes(accepted(LawfulCertificate {
+                Err(Ok(accepted(LawfulCertificate {
                     code,
                     table,
                     phi,

@@ -1,19 +1,19 @@
 //! The stage that looks at the options of values inside the portion.
 ghost use Rattle.std.specs.Prelude.{◌≡◌, ◌<◌, ◌≤◌, ◌^◌, ◌+◌, ◌*◌, ◌∷◌, ℕ, List, length, IfOk, IfSome, IfNone, true, false, slice_index_or};
 ghost use Rattle.std.specs.FinSet as set;
-ghost use Rattle.misere_theory.specs.Games.{IsPosition};
-ghost use Rattle.misere_theory.specs.Quotients.{RuleFails};
-ghost use Rattle.misere_theory.specs.Certificates.{IsHeapOf, Canonical, claim_of, times_of};
-ghost use Rattle.checker.specs.Closings.{HavePairs, AreContexts, LeadsIn};
+ghost use Rattle.misere_theory.specs.Certificates.{IsHeapOf, Canonical};
+ghost use Rattle.check_machine.specs.Closings.{HavePairs};
+ghost use Rattle.answers.specs.ByteVerdicts.{refused};
 ghost use Rattle.answers.specs.ByteVerdicts.ByteVerdict.{Outcome};
 ghost use Rattle.pair_closure.specs.Positions.{rising};
-ghost use Rattle.checker.specs.Turns.{keys_from, Runs};
-ghost use Rattle.checker.specs.Turns.Phase.{Elements as AtElements, Ended as AtEnded};
-ghost use Rattle.checker.specs.Stages.{Carries, Comes, arrived};
+ghost use Rattle.check_machine.specs.Turns.{keys_from, elements_turn, Runs};
+ghost use Rattle.check_machine.specs.Turns.Phase.{Elements as AtElements, Ended as AtEnded};
+ghost use Rattle.checker.specs.Stages.{StandsAt, arrived};
 
 use crate::closing::Closing;
+use crate::contexts::contexts;
 use crate::lawful_certificate::{LawfulCertificate, is_lawful};
-use crate::paired::{Paired, Worked};
+use crate::paired::{Ending, Paired};
 use allocation::{Memory, SmallAllocator};
 use answers::{Refusal, position_of, spelled_sizes_are_positions};
 use element_sets::LaneSet;
@@ -37,11 +37,9 @@ pub struct Elements<const LANES: usize, A: SmallAllocator = Global> {
 }
 
 impl<const LANES: usize, A: SmallAllocator> Model for Elements<LANES, A> {
-    ghost use Rattle.misere_theory.specs.Games.{IsPosition};
-    ghost use Rattle.misere_theory.specs.Quotients.{RuleFails};
     ghost use Rattle.std.specs.Prelude.{◌<◌, ◌≤◌, ◌*◌, length};
-    ghost use Rattle.checker.specs.Views.{ElementsView};
-    ghost use Rattle.checker.specs.Closings.{ElementsSoFar};
+    ghost use Rattle.check_machine.specs.Views.{ElementsView};
+    ghost use Rattle.check_machine.specs.Closings.{ElementsSoFar};
     ghost use Rattle.std.specs.FinSet as set;
     ghost use Rattle.std.specs.Ordering.{nat_cmp};
     ghost use Rattle.std.specs.Coded.{codes, coded_ℕ};
@@ -57,45 +55,6 @@ impl<const LANES: usize, A: SmallAllocator> Model for Elements<LANES, A> {
         × (s.heap < length s.pairs.items)
         × (s.certificate.order ≤ 64 * LANES)
         × (LANES ≤ 64) };
-}
-
-/// The elements that take x into the portion.
-fn context<const LANES: usize, A: SmallAllocator>(
-    certificate: &LawfulCertificate<A>,
-    x: u16,
-) -> LaneSet<LANES>
-    requires fits { certificate.now.order ≤ 64 * LANES }
-    requires element { x < certificate.now.order }
-    ensures each { (y : ℕ) → set.contains result y ≡ true → (y < certificate.now.order)
-        × ((claim_of certificate.now).portion (times_of certificate.now x y) ≡ true) }
-    ensures all { (y : ℕ) → y < certificate.now.order
-        → (claim_of certificate.now).portion (times_of certificate.now x y) ≡ true
-        → set.contains result y ≡ true }
-{
-    let mut all = LaneSet::new();
-    for y in 0..certificate.order() {
-        if !certificate.holds(certificate.times(x, y)) {
-            continue;
-        }
-        all.insert(y);
-    }
-    all
-}
-
-/// For each element those that take it into the portion.
-fn contexts<const LANES: usize, A: SmallAllocator + Copy>(
-    alloc: A,
-    certificate: &LawfulCertificate<A>,
-) -> Result<Vec<LaneSet<LANES>, A>, Memory>
-    requires fits { certificate.now.order ≤ 64 * LANES }
-    requires few { LANES ≤ 64 }
-    ensures { IfOk result (λ all. AreContexts certificate.now all.items) }
-{
-    let mut all = Vec::new(alloc);
-    for x in 0..certificate.order() {
-        all.push(context(certificate, x))?;
-    }
-    Ok(all)
 }
 
 /// The first element below the order that is in both sets.
@@ -129,10 +88,7 @@ fn position_with<A: SmallAllocator + Copy>(
     requires canonical { Canonical certificate.now }
     requires heap { IsHeapOf certificate.now heap × (heap < 2 ^ 16) }
     requires element { y < certificate.now.order }
-    requires breach { LeadsIn certificate.now heap y }
-    ensures position { IfOk result (IsPosition (IsHeapOf certificate.now)) }
-    ensures fails { IfOk result (RuleFails certificate.now.code (claim_of certificate.now)) }
-    ensures exact { IfOk result (λ X. X ≡ rising (heap ∷ keys_from certificate.now certificate.now.order y)) }
+    ensures { IfOk result (λ X. X ≡ rising (heap ∷ keys_from certificate.now certificate.now.order y)) }
 {
     spelled_sizes_are_positions();
     let mut position = position_of(alloc, certificate.words(), y)?;
@@ -141,21 +97,32 @@ fn position_with<A: SmallAllocator + Copy>(
     Ok(position)
 }
 
-/// The rule fails at a position.
-fn rule_fails<const LANES: usize, A: SmallAllocator>(
+/// The rule fails at the heap beside the word of y.
+fn breaks_rule<A: SmallAllocator + Copy>(
+    alloc: A,
     certificate: LawfulCertificate<A>,
-    position: Position<A>,
-) -> Result<Worked<LANES, A>, Refusal<A>>
+    heap: u64,
+    y: u16,
+) -> Refusal<A>
     requires canonical { Canonical certificate }
-    requires position { IsPosition (IsHeapOf certificate) position }
-    requires fails { RuleFails certificate.code (claim_of certificate) position }
-    ensures carries { (limit : ℕ) → Carries certificate limit (arrived result) }
-    ensures shown { arrived result ≡ AtEnded (Outcome certificate.code position) }
+    requires heap { IsHeapOf certificate heap × (heap < 2 ^ 16) }
+    requires element { y < certificate.order }
+    ensures { StandsAt
+        (AtEnded
+        (Outcome certificate.code (rising (heap ∷ keys_from certificate certificate.order y))))
+        (AtEnded (refused result)) }
 {
-    is_lawful(&certificate);
-    let code = certificate.code;
-    drop(certificate);
-    Err(Refusal::Outcome(code, position))
+    match position_with(alloc, &certificate, heap, y) {
+        Ok(position) => {
+            let code = certificate.code;
+            drop(certificate);
+            Refusal::Outcome(code, position)
+        }
+        Err(_) => {
+            drop(certificate);
+            Refusal::Memory
+        }
+    }
 }
 
 /// The first element that is in the portion beside the heap of the pair and beside its option.
@@ -218,67 +185,64 @@ impl<const LANES: usize, A: SmallAllocator + Copy> Elements<LANES, A> {
 
     /// Takes turns in place, while the stage surely goes on and there are units.
     pub fn go_on(&mut self, left: &mut u64)
-        ensures same { self.new.certificate ≡ self.old.certificate }
-        ensures runs { (bytes : List ℕ) (limit : ℕ)
+        ensures { (bytes : List ℕ) (limit : ℕ)
             → Runs bytes limit (AtElements self.old) left.old left.new (AtElements self.new) }
     {
         let order = self.certificate.order();
         let last = self.pairs.len() - 1;
-        'heaps: while *left > 0 && self.heap < last {
+        'heaps: while *left > 0 {
             if breach(&self.pairs[self.heap], &self.contexts, self.option, order).is_some() {
-                break;
+                return;
+            }
+            if self.option + 1 < order {
+                *left -= 1;
+                self.option += 1;
+                continue;
+            }
+            if self.heap == last {
+                return;
             }
             *left -= 1;
-            self.option += 1;
-            if self.option == order {
-                self.option = 0;
-                self.heap += 1;
-            }
+            self.option = 0;
+            self.heap += 1;
         }
     }
 
-    /// Spends units until there are none or the stage ends.
-    pub fn work(self, alloc: A, limit: u32, left: &mut u64) -> Result<Worked<LANES, A>, Refusal<A>>
-        ensures carries { Carries self.certificate limit (arrived result) }
-        ensures comes { (bytes : List ℕ)
-            → Comes bytes limit (AtElements self) left.old left.new (arrived result) }
+    /// One turn, which may end the stage.
+    pub fn turn(self, alloc: A, limit: u32) -> Result<Paired<LANES, A>, Ending<A>>
+        ensures { StandsAt (elements_turn limit self) (arrived result) }
     {
         let Elements {
             certificate,
             pairs,
             contexts,
-            mut heap,
-            mut option,
+            heap,
+            option,
         } = self;
         let order = certificate.order();
-        'heaps: while heap < pairs.len() {
-            if *left == 0 {
-                return Ok(Worked::On(Paired::Elements(Elements {
-                    certificate,
-                    pairs,
-                    contexts,
-                    heap,
-                    option,
-                })));
-            }
-            *left -= 1;
-            if let Some(y) = breach(&pairs[heap], &contexts, option, order) {
-                drop((pairs, contexts));
-                return match position_with(alloc, &certificate, heap as u64 + 1, y) {
-                    Ok(position) => rule_fails(certificate, position),
-                    Err(_) => {
-                        drop(certificate);
-                        Err(Refusal::Memory)
-                    }
-                };
-            }
-            option += 1;
-            if option == order {
-                option = 0;
-                heap += 1;
-            }
+        if let Some(y) = breach(&pairs[heap], &contexts, option, order) {
+            drop((pairs, contexts));
+            return Err(Err(breaks_rule(alloc, certificate, heap as u64 + 1, y)));
+        }
+        if option + 1 < order {
+            return Ok(Paired::Elements(Elements {
+                certificate,
+                pairs,
+                contexts,
+                heap,
+                option: option + 1,
+            }));
+        }
+        if heap + 1 < pairs.len() {
+            return Ok(Paired::Elements(Elements {
+                certificate,
+                pairs,
+                contexts,
+                heap: heap + 1,
+                option: 0,
+            }));
         }
         let closing = Closing::new(alloc, certificate, pairs, limit);
-        Ok(Worked::On(Paired::Closing(closing)))
+        Ok(Paired::Closing(closing))
     }
 }

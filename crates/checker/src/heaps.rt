@@ -1,14 +1,14 @@
 //! The stage that makes the pairs of the heaps.
 ghost use Rattle.std.specs.Prelude.{◌≡◌, ◌<◌, ◌≤◌, ◌+◌, ◌*◌, ℕ, List};
 ghost use Rattle.misere_theory.specs.Certificates.{Canonical};
-ghost use Rattle.checker.specs.Turns.{Runs};
-ghost use Rattle.checker.specs.Turns.Phase.{Heaps as AtHeaps};
-ghost use Rattle.checker.specs.Stages.{Carries, Comes, arrived};
+ghost use Rattle.check_machine.specs.Turns.{Runs};
+ghost use Rattle.check_machine.specs.Turns.Phase.{Heaps as AtHeaps};
+ghost use Rattle.checker.specs.Stages.{Comes, arrived};
 
 use crate::elements::Elements;
 use crate::lawful_certificate::LawfulCertificate;
 use crate::lines::Lines;
-use crate::paired::{Paired, Worked};
+use crate::paired::{Ending, Paired};
 use allocation::SmallAllocator;
 use answers::Refusal;
 use std::alloc::Global;
@@ -25,25 +25,20 @@ pub struct Heaps<const LANES: usize, A: SmallAllocator = Global> {
 impl<const LANES: usize, A: SmallAllocator> Model for Heaps<LANES, A> {
     ghost use Rattle.std.specs.Prelude.{◌<◌, ◌≤◌, ◌*◌};
     ghost use Rattle.transition_algebra.specs.Work.{heap_cost};
-    ghost use Rattle.checker.specs.Views.{HeapsView};
-    ghost use Rattle.certificate.specs.Fields.{certificate_of};
-    ghost use Rattle.checker.specs.LawfulCertificates.{fields_of};
-    ghost use Rattle.checker.specs.Closings.{IsCanonicalCertificate};
+    ghost use Rattle.check_machine.specs.Views.{HeapsView};
+    ghost use Rattle.checker.specs.Parts.{parts_of, whole_of};
+    ghost use Rattle.check_machine.specs.Closings.{IsCanonicalCertificate};
 
     ghost Value = { HeapsView };
 
     ghost view = { λ s.
         record {
-          certificate = certificate_of
-              (fields_of s.job.code s.job.table s.job.phi s.lines.portion.items s.lines.words.items
-              s.lines.apart.items);
+          certificate = whole_of s.lines s.job.code s.job.table s.job.phi;
           spent = s.job.spent;
         } };
 
     ghost invariant = { λ s.
-        IsCanonicalCertificate
-        (fields_of s.job.code s.job.table s.job.phi s.lines.portion.items s.lines.words.items
-        s.lines.apart.items) s.lines.inside
+        IsCanonicalCertificate (parts_of s.lines s.job.code s.job.table s.job.phi)
         × (s.job.spent < heap_cost s.job.code s.job.phi)
         × (s.job.table.order ≤ 64 * LANES)
         × (LANES ≤ 64) };
@@ -72,8 +67,7 @@ impl<const LANES: usize, A: SmallAllocator + Copy> Heaps<LANES, A> {
 
     /// Takes turns in place, while the stage surely goes on and there are units.
     pub fn go_on(&mut self, left: &mut u64)
-        ensures same { self.new.certificate ≡ self.old.certificate }
-        ensures runs { (bytes : List ℕ) (limit : ℕ)
+        ensures { (bytes : List ℕ) (limit : ℕ)
             → Runs bytes limit (AtHeaps self.old) left.old left.new (AtHeaps self.new) }
     {
         let before = self.job.spent();
@@ -82,9 +76,8 @@ impl<const LANES: usize, A: SmallAllocator + Copy> Heaps<LANES, A> {
     }
 
     /// Spends units until there are none or the stage ends.
-    pub fn work(self, alloc: A, left: &mut u64) -> Result<Worked<LANES, A>, Refusal<A>>
-        ensures carries { (limit : ℕ) → Carries self.certificate limit (arrived result) }
-        ensures comes { (bytes : List ℕ) (limit : ℕ)
+    pub fn work(self, alloc: A, left: &mut u64) -> Result<Paired<LANES, A>, Ending<A>>
+        ensures { (bytes : List ℕ) (limit : ℕ)
             → Comes bytes limit (AtHeaps self) left.old left.new (arrived result) }
     {
         let Heaps { lines, mut job } = self;
@@ -94,9 +87,9 @@ impl<const LANES: usize, A: SmallAllocator + Copy> Heaps<LANES, A> {
         match made {
             Err(_) => {
                 drop((lines, job));
-                Err(Refusal::Memory)
+                Err(Err(Refusal::Memory))
             }
-            Ok(false) => Ok(Worked::On(Paired::Heaps(Heaps { lines, job }))),
+            Ok(false) => Ok(Paired::Heaps(Heaps { lines, job })),
             Ok(true) => {
                 let (code, table, phi, pairs) = job.finish();
                 let certificate = LawfulCertificate {
@@ -106,8 +99,8 @@ impl<const LANES: usize, A: SmallAllocator + Copy> Heaps<LANES, A> {
                     lines,
                 };
                 match Elements::new(alloc, certificate, pairs) {
-                    Ok(elements) => Ok(Worked::On(Paired::Elements(elements))),
-                    Err(_) => Err(Refusal::Memory),
+                    Ok(elements) => Ok(Paired::Elements(elements)),
+                    Err(_) => Err(Err(Refusal::Memory)),
                 }
             }
         }

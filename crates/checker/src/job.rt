@@ -2,9 +2,9 @@
 ghost use Rattle.std.specs.Prelude.{◌≡◌, ◌≢◌, None};
 
 use crate::stage::Stage;
-use crate::turns::checks_end;
 use allocation::SmallAllocator;
 use answers::{Certified, Refusal, true_answers};
+use check_machine::{checks_end, verdicts_are_true};
 use std::alloc::{Allocator, Global};
 use std::marker::Model;
 
@@ -31,12 +31,12 @@ impl<A: SmallAllocator> Model for Job<A> {
 
     ghost Value = { JobView };
 
-    ghost use Rattle.checker.specs.Stages.{StandsAfter, ending, phase_of};
+    ghost use Rattle.checker.specs.Stages.{HasCome, ending, phase_of};
 
     ghost view = { λ j.
         record { bytes = j.bytes.items; limit = j.limit; spent = j.spent; ended = ending j.stage } };
 
-    ghost invariant = { λ j. StandsAfter j.bytes.items j.limit j.spent (phase_of j.stage) };
+    ghost invariant = { λ j. HasCome j.bytes.items j.limit j.spent (phase_of j.stage) };
 }
 
 impl<A: SmallAllocator + Copy> Job<A> {
@@ -97,6 +97,8 @@ impl<A: SmallAllocator> Job<A> {
         ensures shown { Shows self.now result }
         ensures truthful { IsTruthful self.now }
     {
+        checks_end();
+        verdicts_are_true();
         true_answers();
         match &self.stage {
             Stage::Ended(Ok(certified)) => Progress::Yes(certified),

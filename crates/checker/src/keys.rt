@@ -1,12 +1,11 @@
 //! The stage that looks at the keys of the elements.
-ghost use Rattle.std.specs.Prelude.{◌≡◌, ◌<◌, ◌-◌, ◌↔◌, ◌⊎◌, ℕ, List, true, IsTrue};
+ghost use Rattle.std.specs.Prelude.{◌≡◌, ◌<◌, ◌-◌, ◌↔◌, ℕ, List, true, IsTrue};
 ghost use Rattle.misere_theory.specs.Numbering.{KeyBelow};
 ghost use Rattle.misere_theory.specs.Certificates.{key_of};
-ghost use Rattle.misere_theory.specs.Faults.{WordFault};
-ghost use Rattle.checker.specs.SoFar.{IsKeyOf};
-ghost use Rattle.checker.specs.Turns.{key_below, is_keyed, is_above_last, Runs, Works};
-ghost use Rattle.checker.specs.Turns.Phase.{Keys as AtKeys};
-ghost use Rattle.checker.specs.Stages.{Carries, phase_of, reached};
+ghost use Rattle.check_machine.specs.SoFar.{IsKeyOf};
+ghost use Rattle.check_machine.specs.Turns.{key_below, is_keyed, is_above_last, keys_turn, Runs};
+ghost use Rattle.check_machine.specs.Turns.Phase.{Keys as AtKeys};
+ghost use Rattle.checker.specs.Stages.{phase_of};
 
 use crate::lawful_certificate::{LawfulCertificate, is_lawful};
 use crate::products::Products;
@@ -30,8 +29,8 @@ pub struct Keys<A: SmallAllocator = Global> {
 
 impl<A: SmallAllocator> Model for Keys<A> {
     ghost use Rattle.std.specs.Prelude.{◌<◌};
-    ghost use Rattle.checker.specs.Views.{KeysView};
-    ghost use Rattle.checker.specs.SoFar.{KeysSoFar};
+    ghost use Rattle.check_machine.specs.Views.{KeysView};
+    ghost use Rattle.check_machine.specs.SoFar.{KeysSoFar};
 
     ghost Value = { KeysView };
 
@@ -45,7 +44,6 @@ fn is_keyed<A: SmallAllocator>(certificate: &LawfulCertificate<A>, e: u16) -> bo
     requires some { 0 < e }
     requires below { e < certificate.now.order }
     ensures keyed { IsTrue result → IsKeyOf certificate.now e }
-    ensures fault { IsTrue result ⊎ WordFault certificate.now }
     ensures same { result ≡ is_keyed certificate.now e }
 {
     let key = certificate.key(e);
@@ -86,8 +84,7 @@ impl<A: SmallAllocator + Copy> Keys<A> {
 
     /// Takes turns in place, while the stage surely goes on and there are units.
     pub fn go_on(&mut self, left: &mut u64)
-        ensures same { self.new.certificate ≡ self.old.certificate }
-        ensures runs { (bytes : List ℕ) (limit : ℕ)
+        ensures { (bytes : List ℕ) (limit : ℕ)
             → Runs bytes limit (AtKeys self.old) left.old left.new (AtKeys self.new) }
     {
         let last = self.certificate.order() - 1;
@@ -98,38 +95,31 @@ impl<A: SmallAllocator + Copy> Keys<A> {
         }
     }
 
-    /// Spends units until there are none or the stage ends.
-    pub fn work(self, left: &mut u64) -> Result<Stage<A>, Refusal<A>>
-        ensures carries { (limit : ℕ) → Carries self.certificate limit (phase_of (reached result)) }
-        ensures works { (bytes : List ℕ) (limit : ℕ)
-            → Works bytes limit (AtKeys self) left.old left.new (phase_of (reached result)) }
+    /// One turn, which may end the stage.
+    pub fn turn(self) -> Stage<A>
+        ensures { phase_of result ≡ keys_turn self }
     {
         let Keys {
             certificate,
-            mut next,
+            next,
             mut rising,
         } = self;
-        let order = certificate.order();
-        'keys: while next < order {
-            if *left == 0 {
-                return Ok(Stage::Keys(Keys {
-                    certificate,
-                    next,
-                    rising,
-                }));
-            }
-            *left -= 1;
-            if !is_keyed(&certificate, next) {
-                drop(certificate);
-                return Err(Refusal::Word);
-            }
-            rising &= is_above_last(&certificate, next);
-            next += 1;
+        if !is_keyed(&certificate, next) {
+            drop(certificate);
+            return Stage::Ended(Err(Refusal::Word));
+        }
+        rising &= is_above_last(&certificate, next);
+        if next + 1 < certificate.order() {
+            return Stage::Keys(Keys {
+                certificate,
+                next: next + 1,
+                rising,
+            });
         }
         if !rising {
             drop(certificate);
-            return Err(Refusal::Order);
+            return Stage::Ended(Err(Refusal::Order));
         }
-        Ok(Stage::Products(Products::new(certificate)))
+        Stage::Products(Products::new(certificate))
     }
 }

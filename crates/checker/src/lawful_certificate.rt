@@ -1,17 +1,17 @@
 //! A certificate under test.
 ghost use Rattle.std.specs.Prelude.{◌≡◌, ◌+◌, ◌-◌, ◌<◌, ◌≤◌, length, slice_index};
-ghost use Rattle.misere_theory.specs.Certificates.{IsHeapOf, times_of, phi_at, key_of, claim_of};
-ghost use Rattle.checker.specs.LawfulCertificates.{IsLawful};
+ghost use Rattle.misere_theory.specs.Certificates.{IsHeapOf, times_of, phi_at, key_of};
+ghost use Rattle.check_machine.specs.LawfulCertificates.{IsLawful};
 
 use crate::lines::Lines;
 use certificate::Key;
 use monoid_table::Table;
 use octal_code::Code;
+use pretending::Phi;
 use std::alloc::{Allocator, Global};
 use std::marker::Model;
-use transition_algebra::Phi;
 
-/// A certificate whose table has the laws, with its portion as a set.
+/// A certificate whose table has the laws.
 #[derive(Drop)]
 pub struct LawfulCertificate<A: Allocator = Global> {
     pub code: Code,
@@ -22,20 +22,14 @@ pub struct LawfulCertificate<A: Allocator = Global> {
 
 impl<A: Allocator> Model for LawfulCertificate<A> {
     ghost use Rattle.misere_theory.specs.Certificates.{Certificate};
-    ghost use Rattle.certificate.specs.Fields.{certificate_of};
-    ghost use Rattle.checker.specs.LawfulCertificates.{fields_of, IsLawfulCertificate};
+    ghost use Rattle.check_machine.specs.LawfulCertificates.{IsLawfulCertificate};
+    ghost use Rattle.checker.specs.Parts.{parts_of, whole_of};
 
     ghost Value = { Certificate };
 
-    ghost view = { λ s.
-        certificate_of
-        (fields_of s.code s.table s.phi s.lines.portion.items s.lines.words.items
-        s.lines.apart.items) };
+    ghost view = { λ s. whole_of s.lines s.code s.table s.phi };
 
-    ghost invariant = { λ s.
-        IsLawfulCertificate
-        (fields_of s.code s.table s.phi s.lines.portion.items s.lines.words.items
-        s.lines.apart.items) s.lines.inside };
+    ghost invariant = { λ s. IsLawfulCertificate (parts_of s.lines s.code s.table s.phi) };
 }
 
 impl<A: Allocator> LawfulCertificate<A> {
@@ -98,12 +92,12 @@ impl<A: Allocator> LawfulCertificate<A> {
         self.lines.words[e as usize - 1]
     }
 
-    /// Whether the element is in the portion.
-    pub fn holds(&self, x: u16) -> bool
-        requires { x < self.now.order }
-        ensures { result ≡ (claim_of self.now).portion x }
+    /// The elements of the portion, rising.
+    pub fn portion(&self) -> &[u16]
+        ensures value { result.now ≡ self.now.portion }
+        ensures lawful { IsLawful self.now }
     {
-        self.lines.inside.contains(x)
+        &self.lines.portion
     }
 
     /// The keys of the elements from 1 on.

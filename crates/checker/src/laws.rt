@@ -2,22 +2,22 @@
 ghost use Rattle.std.specs.Prelude.{◌≡◌, ◌<◌, ℕ, List};
 ghost use Rattle.monoid_table.specs.Turns.{fresh, triples};
 ghost use Rattle.certificate.specs.Fields.{grid_of};
-ghost use Rattle.checker.specs.Turns.{Runs, Works};
-ghost use Rattle.checker.specs.Turns.Phase.{Laws as AtLaws};
-ghost use Rattle.checker.specs.Stages.{Carries, phase_of, reached};
+ghost use Rattle.check_machine.specs.Turns.{Runs};
+ghost use Rattle.check_machine.specs.Turns.Phase.{Laws as AtLaws};
+ghost use Rattle.checker.specs.Stages.{Comes, phase_of};
 
 use crate::keys::Keys;
 use crate::lawful_certificate::LawfulCertificate;
-use crate::lines::{Lines, set_of};
+use crate::lines::Lines;
 use crate::stage::Stage;
 use allocation::SmallAllocator;
 use answers::Refusal;
 use certificate::{Cert, Fields};
 use monoid_table::{TableJob, turns_add_up};
 use octal_code::Code;
+use pretending::Phi;
 use std::alloc::Global;
 use std::marker::Model;
-use transition_algebra::Phi;
 
 /// The laws are looked at, a triple of elements a turn.
 #[derive(Drop)]
@@ -34,24 +34,21 @@ impl<A: SmallAllocator> Model for Laws<A> {
     ghost use Rattle.certificate.specs.Fields.{grid_of};
     ghost use Rattle.std.specs.Prelude.{◌≡◌, false};
     ghost use Rattle.monoid_table.specs.Turns.{is_over};
-    ghost use Rattle.checker.specs.Views.{LawsView};
-    ghost use Rattle.certificate.specs.Fields.{certificate_of};
-    ghost use Rattle.checker.specs.LawfulCertificates.{fields_of, IsUnderLaws};
+    ghost use Rattle.check_machine.specs.Views.{LawsView};
+    ghost use Rattle.check_machine.specs.LawfulCertificates.{IsUnderLaws};
+    ghost use Rattle.checker.specs.Parts.{parts_of, whole_of};
 
     ghost Value = { LawsView };
 
     ghost view = { λ s.
         record {
-          certificate = certificate_of
-              (fields_of s.code s.job.grid s.phi s.lines.portion.items s.lines.words.items
-              s.lines.apart.items);
+          certificate = whole_of s.lines s.code s.job.grid s.phi;
           job = s.job;
         } };
 
     ghost invariant = { λ s.
-        IsUnderLaws
-        (fields_of s.code s.job.grid s.phi s.lines.portion.items s.lines.words.items
-        s.lines.apart.items) s.lines.inside s.job.spent × (is_over s.job ≡ false) };
+        IsUnderLaws (parts_of s.lines s.code s.job.grid s.phi) s.job.spent
+        × (is_over s.job ≡ false) };
 }
 
 impl<A: SmallAllocator + Copy> Laws<A> {
@@ -69,7 +66,6 @@ impl<A: SmallAllocator + Copy> Laws<A> {
             rows,
             apart,
         } = cert.into_fields();
-        let inside = set_of(&portion);
         let Ok(job) = TableJob::new(order, rows) else {
             unreachable!()
         };
@@ -78,7 +74,6 @@ impl<A: SmallAllocator + Copy> Laws<A> {
             phi,
             lines: Lines {
                 portion,
-                inside,
                 words,
                 apart,
             },
@@ -88,8 +83,7 @@ impl<A: SmallAllocator + Copy> Laws<A> {
 
     /// Takes turns in place, while the stage surely goes on and there are units.
     pub fn go_on(&mut self, left: &mut u64)
-        ensures same { self.new.certificate ≡ self.old.certificate }
-        ensures runs { (bytes : List ℕ) (limit : ℕ)
+        ensures { (bytes : List ℕ) (limit : ℕ)
             → Runs bytes limit (AtLaws self.old) left.old left.new (AtLaws self.new) }
     {
         turns_add_up();
@@ -98,10 +92,9 @@ impl<A: SmallAllocator + Copy> Laws<A> {
     }
 
     /// Spends units until there are none or the stage ends.
-    pub fn work(self, left: &mut u64) -> Result<Stage<A>, Refusal<A>>
-        ensures carries { (limit : ℕ) → Carries self.certificate limit (phase_of (reached result)) }
-        ensures works { (bytes : List ℕ) (limit : ℕ)
-            → Works bytes limit (AtLaws self) left.old left.new (phase_of (reached result)) }
+    pub fn work(self, left: &mut u64) -> Stage<A>
+        ensures { (bytes : List ℕ) (limit : ℕ)
+            → Comes bytes limit (AtLaws self) left.old left.new (phase_of result) }
     {
         let Laws {
             code,
@@ -114,19 +107,19 @@ impl<A: SmallAllocator + Copy> Laws<A> {
         let looked = job.work(*left);
         *left -= job.done() - before;
         match looked {
-            Err(_) => Err(Refusal::Law),
-            Ok(false) => Ok(Stage::Laws(Laws {
+            Err(_) => Stage::Ended(Err(Refusal::Law)),
+            Ok(false) => Stage::Laws(Laws {
                 code,
                 phi,
                 lines,
                 job,
-            })),
-            Ok(true) => Ok(Stage::Keys(Keys::new(LawfulCertificate {
+            }),
+            Ok(true) => Stage::Keys(Keys::new(LawfulCertificate {
                 code,
                 table: job.finish(),
                 phi,
                 lines,
-            }))),
+            })),
         }
     }
 }

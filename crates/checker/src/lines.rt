@@ -7,12 +7,10 @@ use certificate::Key;
 use element_sets::LaneSet;
 use std::alloc::{Allocator, Global};
 
-/// The portion, as a list and as a set that is as wide as the largest order needs, the keys, and the
-/// separating elements.
+/// The portion, the keys, and the separating elements.
 #[derive(Drop)]
 pub struct Lines<A: Allocator = Global> {
     pub portion: Vec<u16, A>,
-    pub inside: LaneSet<64>,
     pub words: Vec<Key, A>,
     pub apart: Vec<u16, A>,
 }

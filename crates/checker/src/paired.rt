@@ -1,9 +1,8 @@
 //! The stages over the pairs of heaps, with sets as wide as the order needs.
 ghost use Rattle.std.specs.Prelude.{◌≡◌, ◌≤◌, ℕ, List};
 ghost use Rattle.misere_theory.specs.Certificates.{Canonical};
-ghost use Rattle.checker.specs.Turns.{Runs, stage_of};
-ghost use Rattle.checker.specs.Turns.Phase.{Heaps as AtHeaps};
-ghost use Rattle.checker.specs.Stages.{Comes, Stands, arrived, phase_of, phase_of_paired};
+ghost use Rattle.check_machine.specs.Turns.Phase.{Heaps as AtHeaps};
+ghost use Rattle.checker.specs.Stages.{Comes, Stays, arrived, phase_of, phase_of_paired};
 
 use crate::closing::Closing;
 use crate::elements::Elements;
@@ -22,12 +21,8 @@ pub enum Paired<const LANES: usize, A: SmallAllocator = Global> {
     Closing(Closing<LANES, A>),
 }
 
-/// What a stage over pairs came to, unless it was a refusal: a stage again, or yes.
-#[derive(Drop)]
-pub enum Worked<const LANES: usize, A: SmallAllocator = Global> {
-    On(Paired<LANES, A>),
-    Yes(Certified<A>),
-}
+/// How a check ends: its answer.
+pub type Ending<A> = Result<Certified<A>, Refusal<A>>;
 
 /// The first stage over pairs, with sets as wide as the order needs: no other place picks a width.
 pub fn over_pairs<A: SmallAllocator + Copy>(alloc: A, certificate: LawfulCertificate<A>) -> Stage<A>
@@ -52,13 +47,7 @@ impl<const LANES: usize, A: SmallAllocator + Copy> Paired<LANES, A> {
     /// Takes turns in place, while the stage surely goes on and there are units.
     pub fn go_on(&mut self, left: &mut u64)
         requires { LANES ≤ 64 }
-        ensures stands { (bytes : List ℕ) (limit : ℕ)
-            → Stands bytes limit (phase_of_paired self.old)
-            → Stands bytes limit (phase_of_paired self.new) }
-        ensures runs { (bytes : List ℕ) (limit : ℕ)
-            → Runs bytes limit (phase_of_paired self.old) left.old left.new
-            (phase_of_paired self.new) }
-        ensures same { stage_of (phase_of_paired self.new) ≡ stage_of (phase_of_paired self.old) }
+        ensures { Stays (phase_of_paired self.old) left.old left.new (phase_of_paired self.new) }
     {
         match self {
             Paired::Heaps(heaps) => heaps.go_on(left),
@@ -67,17 +56,21 @@ impl<const LANES: usize, A: SmallAllocator + Copy> Paired<LANES, A> {
         }
     }
 
-    /// Spends units until there are none or the stage ends.
-    pub fn work(self, alloc: A, limit: u32, left: &mut u64) -> Result<Worked<LANES, A>, Refusal<A>>
+    /// Spends units until there are none or the stage ends; an `Err` has the answer.
+    pub fn work(self, alloc: A, limit: u32, left: &mut u64) -> Result<Self, Ending<A>>
         requires { LANES ≤ 64 }
-        ensures stands { (bytes : List ℕ) → Stands bytes limit (phase_of_paired self)
-            → Stands bytes limit (arrived result) }
-        ensures comes { (bytes : List ℕ)
+        ensures { (bytes : List ℕ)
             → Comes bytes limit (phase_of_paired self) left.old left.new (arrived result) }
     {
+        if *left == 0 {
+            return Ok(self);
+        }
         match self {
             Paired::Heaps(heaps) => heaps.work(alloc, left),
-            Paired::Elements(elements) => elements.work(alloc, limit, left),
+            Paired::Elements(elements) => {
+                *left -= 1;
+                elements.turn(alloc, limit)
+            }
             Paired::Closing(closing) => closing.work(left),
         }
     }

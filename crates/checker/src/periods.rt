@@ -1,10 +1,10 @@
 //! The stage that compares the elements of heaps: start and period are the least.
 ghost use Rattle.std.specs.Prelude.{◌≡◌, ◌<◌, ◌+◌, ◌*◌, ◌≤◌, ◌↔◌, ℕ, List, IsTrue};
 ghost use Rattle.misere_theory.specs.Certificates.{phi_at};
-ghost use Rattle.checker.specs.SoFar.{HasNoFaultBelow};
-ghost use Rattle.checker.specs.Turns.{comes_again, Works};
-ghost use Rattle.checker.specs.Turns.Phase.{Periods as AtPeriods};
-ghost use Rattle.checker.specs.Stages.{Carries, phase_of, reached};
+ghost use Rattle.check_machine.specs.SoFar.{HasNoFaultBelow};
+ghost use Rattle.check_machine.specs.Turns.{comes_again};
+ghost use Rattle.check_machine.specs.Turns.Phase.{Periods as AtPeriods};
+ghost use Rattle.checker.specs.Stages.{Comes, phase_of};
 
 use crate::lawful_certificate::{LawfulCertificate, is_lawful};
 use crate::separating::Separating;
@@ -26,8 +26,8 @@ pub struct Periods<A: SmallAllocator = Global> {
 }
 
 impl<A: SmallAllocator> Model for Periods<A> {
-    ghost use Rattle.checker.specs.Views.{PeriodsView};
-    ghost use Rattle.checker.specs.SoFar.{PeriodsSoFar};
+    ghost use Rattle.check_machine.specs.Views.{PeriodsView};
+    ghost use Rattle.check_machine.specs.SoFar.{PeriodsSoFar};
 
     ghost Value = { PeriodsView };
 
@@ -62,10 +62,9 @@ impl<A: SmallAllocator + Copy> Periods<A> {
     }
 
     /// Spends units until there are none or the stage ends.
-    pub fn work(self, left: &mut u64) -> Result<Stage<A>, Refusal<A>>
-        ensures carries { (limit : ℕ) → Carries self.certificate limit (phase_of (reached result)) }
-        ensures works { (bytes : List ℕ) (limit : ℕ)
-            → Works bytes limit (AtPeriods self) left.old left.new (phase_of (reached result)) }
+    pub fn work(self, alloc: A, left: &mut u64) -> Stage<A>
+        ensures { (bytes : List ℕ) (limit : ℕ)
+            → Comes bytes limit (AtPeriods self) left.old left.new (phase_of result) }
     {
         let Periods {
             certificate,
@@ -76,11 +75,11 @@ impl<A: SmallAllocator + Copy> Periods<A> {
         let period = certificate.period();
         'shifts: while shift < period {
             if *left == 0 {
-                return Ok(Stage::Periods(Periods {
+                return Stage::Periods(Periods {
                     certificate,
                     shift,
                     count,
-                }));
+                });
             }
             *left -= 1;
             if !comes_again(&certificate, start + count, shift) {
@@ -91,21 +90,24 @@ impl<A: SmallAllocator + Copy> Periods<A> {
             count += 1;
             if count == period {
                 drop(certificate);
-                return Err(Refusal::Period);
+                return Stage::Ended(Err(Refusal::Period));
             }
         }
         if *left == 0 {
-            return Ok(Stage::Periods(Periods {
+            return Stage::Periods(Periods {
                 certificate,
                 shift,
                 count,
-            }));
+            });
         }
         *left -= 1;
         if comes_again(&certificate, start - 1, period) {
             drop(certificate);
-            return Err(Refusal::Period);
+            return Stage::Ended(Err(Refusal::Period));
         }
-        Ok(Stage::Separating(Separating::new(certificate)))
+        match Separating::new(alloc, certificate) {
+            Ok(separating) => Stage::Separating(separating),
+            Err(_) => Stage::Ended(Err(Refusal::Memory)),
+        }
     }
 }

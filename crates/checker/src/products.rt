@@ -1,10 +1,9 @@
 //! The stage that looks at the products of elements and heaps.
-ghost use Rattle.std.specs.Prelude.{◌≡◌, ◌<◌, ◌+◌, ◌*◌, ◌≤◌, ◌⊎◌, ℕ, List, IsTrue};
-ghost use Rattle.misere_theory.specs.Faults.{OrderFault};
-ghost use Rattle.checker.specs.SoFar.{IsInOrder, AreKeys};
-ghost use Rattle.checker.specs.Turns.{is_in_order, Runs, Works};
-ghost use Rattle.checker.specs.Turns.Phase.{Products as AtProducts};
-ghost use Rattle.checker.specs.Stages.{Carries, phase_of, reached};
+ghost use Rattle.std.specs.Prelude.{◌≡◌, ◌<◌, ◌+◌, ◌*◌, ◌≤◌, ℕ, List, IsTrue};
+ghost use Rattle.check_machine.specs.SoFar.{IsInOrder, AreKeys};
+ghost use Rattle.check_machine.specs.Turns.{is_in_order, products_turn, Runs};
+ghost use Rattle.check_machine.specs.Turns.Phase.{Products as AtProducts};
+ghost use Rattle.checker.specs.Stages.{phase_of};
 
 use crate::keys::is_below;
 use crate::lawful_certificate::{LawfulCertificate, is_lawful};
@@ -28,10 +27,9 @@ pub struct Products<A: SmallAllocator = Global> {
 }
 
 impl<A: SmallAllocator> Model for Products<A> {
-    ghost use Rattle.misere_theory.specs.Faults.{OrderFault};
     ghost use Rattle.std.specs.Prelude.{◌<◌};
-    ghost use Rattle.checker.specs.Views.{ProductsView};
-    ghost use Rattle.checker.specs.SoFar.{ProductsSoFar};
+    ghost use Rattle.check_machine.specs.Views.{ProductsView};
+    ghost use Rattle.check_machine.specs.SoFar.{ProductsSoFar};
 
     ghost Value = { ProductsView };
 
@@ -50,7 +48,6 @@ fn is_in_order<A: SmallAllocator>(
     requires from_one { 1 ≤ heap }
     requires heap { heap < certificate.now.start + certificate.now.period }
     ensures in_order { IsTrue result → IsInOrder certificate.now element heap }
-    ensures fault { IsTrue result ⊎ OrderFault certificate.now }
     ensures same { result ≡ is_in_order certificate.now element heap }
 {
     is_lawful(certificate);
@@ -74,57 +71,53 @@ impl<A: SmallAllocator + Copy> Products<A> {
 
     /// Takes turns in place, while the stage surely goes on and there are units.
     pub fn go_on(&mut self, left: &mut u64)
-        ensures same { self.new.certificate ≡ self.old.certificate }
-        ensures runs { (bytes : List ℕ) (limit : ℕ)
+        ensures { (bytes : List ℕ) (limit : ℕ)
             → Runs bytes limit (AtProducts self.old) left.old left.new (AtProducts self.new) }
     {
         let last = self.certificate.order() - 1;
         let heaps = self.certificate.start() + self.certificate.period();
-        'products: while *left > 0
-            && self.element < last
-            && is_in_order(&self.certificate, self.element, self.heap)
-        {
-            *left -= 1;
-            self.heap += 1;
-            if self.heap == heaps {
-                self.heap = 1;
-                self.element += 1;
+        'products: while *left > 0 && is_in_order(&self.certificate, self.element, self.heap) {
+            if self.heap + 1 < heaps {
+                *left -= 1;
+                self.heap += 1;
+                continue;
             }
+            if self.element == last {
+                return;
+            }
+            *left -= 1;
+            self.heap = 1;
+            self.element += 1;
         }
     }
 
-    /// Spends units until there are none or the stage ends.
-    pub fn work(self, left: &mut u64) -> Result<Stage<A>, Refusal<A>>
-        ensures carries { (limit : ℕ) → Carries self.certificate limit (phase_of (reached result)) }
-        ensures works { (bytes : List ℕ) (limit : ℕ)
-            → Works bytes limit (AtProducts self) left.old left.new (phase_of (reached result)) }
+    /// One turn, which may end the stage.
+    pub fn turn(self) -> Stage<A>
+        ensures { phase_of result ≡ products_turn self }
     {
         let Products {
             certificate,
-            mut element,
-            mut heap,
+            element,
+            heap,
         } = self;
-        let order = certificate.order();
-        let heaps = certificate.start() + certificate.period();
-        'products: while element < order {
-            if *left == 0 {
-                return Ok(Stage::Products(Products {
-                    certificate,
-                    element,
-                    heap,
-                }));
-            }
-            *left -= 1;
-            if !is_in_order(&certificate, element, heap) {
-                drop(certificate);
-                return Err(Refusal::Order);
-            }
-            heap += 1;
-            if heap == heaps {
-                heap = 1;
-                element += 1;
-            }
+        if !is_in_order(&certificate, element, heap) {
+            drop(certificate);
+            return Stage::Ended(Err(Refusal::Order));
         }
-        Ok(Stage::Periods(Periods::new(certificate)))
+        if heap + 1 < certificate.start() + certificate.period() {
+            return Stage::Products(Products {
+                certificate,
+                element,
+                heap: heap + 1,
+            });
+        }
+        if element + 1 < certificate.order() {
+            return Stage::Products(Products {
+                certificate,
+                element: element + 1,
+                heap: 1,
+            });
+        }
+        Stage::Periods(Periods::new(certificate))
     }
 }

@@ -1,7 +1,8 @@
 //! The stage that reads the bytes.
-ghost use Rattle.std.specs.Prelude.{◌*◌, ℕ};
-ghost use Rattle.checker.specs.Turns.Phase.{Reading as AtReading};
-ghost use Rattle.checker.specs.Stages.{Stands, Comes, phase_of, reached};
+ghost use Rattle.std.specs.Prelude.{◌*◌};
+ghost use Rattle.certificate_text.specs.Reading.{certificate_at};
+ghost use Rattle.check_machine.specs.Turns.{opened};
+ghost use Rattle.checker.specs.Stages.{StandsAt, phase_of};
 
 use crate::laws::Laws;
 use crate::stage::Stage;
@@ -9,24 +10,14 @@ use allocation::SmallAllocator;
 use answers::Refusal;
 use certificate::{TextFault, read};
 
-/// Reads the whole text, if there is a unit.
-pub fn work<A: SmallAllocator + Copy>(
-    alloc: A,
-    bytes: &[u8],
-    left: &mut u64,
-) -> Result<Stage<A>, Refusal<A>>
-    ensures stands { (limit : ℕ) → Stands bytes.now limit (phase_of (reached result)) }
-    ensures comes { (limit : ℕ)
-        → Comes bytes.now limit AtReading left.old left.new (phase_of (reached result)) }
+/// The one turn, which reads the whole text.
+pub fn turn<A: SmallAllocator + Copy>(alloc: A, bytes: &[u8]) -> Stage<A>
+    ensures { StandsAt (opened (certificate_at bytes.now)) (phase_of result) }
 {
     certificate_text::reading_is_spelling();
-    if *left == 0 {
-        return Ok(Stage::Reading);
-    }
-    *left -= 1;
     match read(alloc, bytes) {
-        Ok(cert) => Ok(Stage::Laws(Laws::new(cert))),
-        Err(TextFault::Text) => Err(Refusal::Text),
-        Err(TextFault::Memory) => Err(Refusal::Memory),
+        Ok(cert) => Stage::Laws(Laws::new(cert)),
+        Err(TextFault::Text) => Stage::Ended(Err(Refusal::Text)),
+        Err(TextFault::Memory) => Stage::Ended(Err(Refusal::Memory)),
     }
 }

@@ -1,6 +1,6 @@
 //! The local rule at a pair.
 ghost use Rattle.std.specs.Prelude.{◌⊎◌, IsTrue};
-ghost use Rattle.checker.specs.Rules.{Obeys, Breaks};
+ghost use Rattle.check_machine.specs.Rules.{Obeys, Breaks};
 
 use element_sets::LaneSet;
 use transition_algebra::Pair;

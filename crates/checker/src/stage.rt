@@ -1,11 +1,10 @@
 //! The stages of a check, in a row.
 ghost use Rattle.std.specs.Prelude.{◌≡◌, ◌*◌, ◌+◌, ◌-◌, ◌<◌, ◌≤◌, ℕ, List, Some, true, false};
 ghost use Rattle.answers.specs.ByteVerdicts.{answer_of};
-ghost use Rattle.checker.specs.Turns.{Runs, stage_of};
 
 use crate::keys::Keys;
 use crate::laws::Laws;
-use crate::paired::{Paired, Worked};
+use crate::paired::Paired;
 use crate::periods::Periods;
 use crate::products::Products;
 use crate::reading;
@@ -41,7 +40,7 @@ impl<A: SmallAllocator> Stage<A> {
 }
 
 impl<A: SmallAllocator + Copy> Stage<A> {
-    ghost use Rattle.checker.specs.Stages.{Stands, HasCome, Comes, phase_of, has_ended, ending, reached};
+    ghost use Rattle.checker.specs.Stages.{HasCome, Comes, Stays, phase_of, has_ended, ending};
 
     /// Whether the answer stands.
     pub fn has_ended(&self) -> bool
@@ -63,11 +62,7 @@ impl<A: SmallAllocator + Copy> Stage<A> {
 
     /// Takes turns in place, while the stage surely goes on and there are units.
     fn go_on(&mut self, left: &mut u64)
-        ensures stands { (bytes : List ℕ) (limit : ℕ) → Stands bytes limit (phase_of self.old)
-            → Stands bytes limit (phase_of self.new) }
-        ensures runs { (bytes : List ℕ) (limit : ℕ)
-            → Runs bytes limit (phase_of self.old) left.old left.new (phase_of self.new) }
-        ensures same { stage_of (phase_of self.new) ≡ stage_of (phase_of self.old) }
+        ensures { Stays (phase_of self.old) left.old left.new (phase_of self.new) }
     {
         match self {
             Stage::Laws(laws) => laws.go_on(left),
@@ -86,8 +81,6 @@ impl<A: SmallAllocator + Copy> Stage<A> {
     /// Spends units until there are none or the answer stands. A stage that has ended stays as it
     /// is. It is moved only for what may end it.
     pub fn advance(&mut self, alloc: A, bytes: &[u8], limit: u32, left: &mut u64)
-        requires { Stands bytes.now limit (phase_of self.old) }
-        ensures stands { Stands bytes.now limit (phase_of self.new) }
         ensures come { (spent : ℕ) → HasCome bytes.now limit spent (phase_of self.old)
             → HasCome bytes.now limit (spent + (left.old - left.new)) (phase_of self.new) }
         ensures spends { left.new ≤ left.old }
@@ -95,76 +88,63 @@ impl<A: SmallAllocator + Copy> Stage<A> {
         ensures ended { has_ended self.old ≡ true → (self.new ≡ self.old) × (left.new ≡ left.old) }
         ensures idle { left.old ≡ 0 → self.new ≡ self.old }
     {
-        if *left == 0 || self.has_ended() {
-            return;
-        }
-        self.go_on(left);
-        if *left > 0 {
-            let stage = std::mem::replace(self, Stage::Reading);
-            self.set(stage.run(alloc, bytes, limit, left));
-        }
-    }
-
-    /// Spends units until there are none or the answer stands.
-    pub fn run(self, alloc: A, bytes: &[u8], limit: u32, left: &mut u64) -> Stage<A>
-        requires { Stands bytes.now limit (phase_of self) }
-        ensures stands { Stands bytes.now limit (phase_of result) }
-        ensures come { (spent : ℕ) → HasCome bytes.now limit spent (phase_of self)
-            → HasCome bytes.now limit (spent + (left.old - left.new)) (phase_of result) }
-        ensures spends { left.new ≤ left.old }
-        ensures whole { 0 < left.new → has_ended result ≡ true }
-    {
-        let mut stage = self;
-        'stages: while *left > 0 && !stage.has_ended() {
-            match stage.work(alloc, bytes, limit, left) {
-                Ok(next) => stage = next,
-                Err(refusal) => return Stage::Ended(Err(refusal)),
+        'stages: while *left > 0 && !self.has_ended() {
+            self.go_on(left);
+            if *left > 0 {
+                let stage = std::mem::replace(self, Stage::Reading);
+                self.set(stage.work(alloc, bytes, limit, left));
             }
         }
-        stage
     }
 
-    /// Spends units until there are none or the stage ends.
-    fn work(
-        self,
-        alloc: A,
-        bytes: &[u8],
-        limit: u32,
-        left: &mut u64,
-    ) -> Result<Stage<A>, Refusal<A>>
-        requires { Stands bytes.now limit (phase_of self) }
-        ensures stands { Stands bytes.now limit (phase_of (reached result)) }
-        ensures comes { has_ended self ≡ false
-            → Comes bytes.now limit (phase_of self) left.old left.new (phase_of (reached result)) }
+    /// Spends units, a last turn of the stage at least, and no more than the stage takes.
+    fn work(self, alloc: A, bytes: &[u8], limit: u32, left: &mut u64) -> Stage<A>
+        ensures { has_ended self ≡ false
+            → Comes bytes.now limit (phase_of self) left.old left.new (phase_of result) }
     {
+        if *left == 0 {
+            return self;
+        }
         match self {
-            Stage::Reading => reading::work(alloc, bytes, left),
+            Stage::Reading => {
+                *left -= 1;
+                reading::turn(alloc, bytes)
+            }
             Stage::Laws(laws) => laws.work(left),
-            Stage::Keys(keys) => keys.work(left),
-            Stage::Products(products) => products.work(left),
-            Stage::Periods(periods) => periods.work(left),
-            Stage::Separating(separating) => separating.work(alloc, left),
-            Stage::One(paired) => match paired.work(alloc, limit, left)? {
-                Worked::On(paired) => Ok(Stage::One(paired)),
-                Worked::Yes(certified) => Ok(Stage::Ended(Ok(certified))),
+            Stage::Keys(keys) => {
+                *left -= 1;
+                keys.turn()
+            }
+            Stage::Products(products) => {
+                *left -= 1;
+                products.turn()
+            }
+            Stage::Periods(periods) => periods.work(alloc, left),
+            Stage::Separating(separating) => {
+                *left -= 1;
+                separating.turn(alloc)
+            }
+            Stage::One(paired) => match paired.work(alloc, limit, left) {
+                Ok(paired) => Stage::One(paired),
+                Err(answer) => Stage::Ended(answer),
             },
-            Stage::Four(paired) => match paired.work(alloc, limit, left)? {
-                Worked::On(paired) => Ok(Stage::Four(paired)),
-                Worked::Yes(certified) => Ok(Stage::Ended(Ok(certified))),
+            Stage::Four(paired) => match paired.work(alloc, limit, left) {
+                Ok(paired) => Stage::Four(paired),
+                Err(answer) => Stage::Ended(answer),
             },
-            Stage::Eight(paired) => match paired.work(alloc, limit, left)? {
-                Worked::On(paired) => Ok(Stage::Eight(paired)),
-                Worked::Yes(certified) => Ok(Stage::Ended(Ok(certified))),
+            Stage::Eight(paired) => match paired.work(alloc, limit, left) {
+                Ok(paired) => Stage::Eight(paired),
+                Err(answer) => Stage::Ended(answer),
             },
-            Stage::Sixteen(paired) => match paired.work(alloc, limit, left)? {
-                Worked::On(paired) => Ok(Stage::Sixteen(paired)),
-                Worked::Yes(certified) => Ok(Stage::Ended(Ok(certified))),
+            Stage::Sixteen(paired) => match paired.work(alloc, limit, left) {
+                Ok(paired) => Stage::Sixteen(paired),
+                Err(answer) => Stage::Ended(answer),
             },
-            Stage::SixtyFour(paired) => match paired.work(alloc, limit, left)? {
-                Worked::On(paired) => Ok(Stage::SixtyFour(paired)),
-                Worked::Yes(certified) => Ok(Stage::Ended(Ok(certified))),
+            Stage::SixtyFour(paired) => match paired.work(alloc, limit, left) {
+                Ok(paired) => Stage::SixtyFour(paired),
+                Err(answer) => Stage::Ended(answer),
             },
-            Stage::Ended(answer) => Ok(Stage::Ended(answer)),
+            Stage::Ended(answer) => Stage::Ended(answer),
         }
     }
 }

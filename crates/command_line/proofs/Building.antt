@@ -1,18 +1,9 @@
 -- What a command line is made of.
-use Rattle.std.proofs.Common.{◌≡◌, ◌∙◌, ◌++◌, ◌∷◌, [], ap, ap₂, Bool, List, true, false, not, ◌&&◌}
+use Rattle.std.proofs.Common.{◌≡◌, ◌∙◌, ap, ap₂, Bool, true, false, not, ◌&&◌}
 use Rattle.std.proofs.Common.{refl}
-use Rattle.clap.specs.Words.{AddsArg, AddsSubcommand, App, Rule, Text, app_of, rule_of, with_rule}
+use Rattle.clap.specs.Words.{AddsSubcommand, App, app_of}
 use Rattle.clap.specs.Words.{with_subcommand}
-use Rattle.clap.specs.declared.builder.arg.Arg.{Arg}
 use Rattle.clap.specs.declared.builder.command.Command.{Command}
-use Rattle.command_line.specs.Program.{command}
-
--- a command with one more argument
-pub with_argument : (old : Command) (arg : Arg) (new : Command) (name : Text) (rules : List Rule)
-    (r : Rule) → app_of old ≡ command name rules
-    → rule_of arg ≡ r → arg.global ≡ false → AddsArg old arg new
-    → app_of new ≡ command name (rules ++ r ∷ [])
-with_argument old arg new name rules r o i local h = h.shape local ∙ ap₂ with_rule o i
 
 -- a plain command has no global argument
 local_of_plain : (a b g rest : Bool) → (a && (not b && (not g && rest))) ≡ true → g ≡ false

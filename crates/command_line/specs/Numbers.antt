@@ -8,19 +8,19 @@ use Rattle.misere_theory.specs.declared.TheConstants.{LARGEST_ORDER, LARGEST_FIR
 use Rattle.command_line.specs.declared.numbers.Bounds.{Bounds}
 use Rattle.command_line.specs.declared.numbers.Quantity.{Quantity}
 use Rattle.command_line.specs.declared.numbers.Quantity.TheVariants.{Limit, Rounds, Heaps, Order, Part, DeepOrder, Last, PartOrder, Furthest}
-use Rattle.requests.specs.declared.plans.TheConstants.{DEFAULT_LIMIT}
+use Rattle.requests.specs.declared.ranges.TheConstants.{DEFAULT_HEAPS, DEFAULT_LIMIT, DEFAULT_ORDER, DEFAULT_ROUNDS, FEWEST_HEAPS, LARGEST_LIMIT, LEAST_ORDER, MOST_HEAPS, MOST_ROUNDS}
 
 -- the range of each number, and what it is where none is given
 abbrev pub bounds_of : Quantity → Bounds
-bounds_of Limit = record { least = 1; most = 1000000; default = DEFAULT_LIMIT }
-bounds_of Rounds = record { least = 1; most = 1000; default = 64 }
-bounds_of Heaps = record { least = 2; most = 64; default = 24 }
-bounds_of Order = record { least = 2; most = LARGEST_FIRST_ORDER; default = 64 }
+bounds_of Limit = record { least = 1; most = LARGEST_LIMIT; default = DEFAULT_LIMIT }
+bounds_of Rounds = record { least = 1; most = MOST_ROUNDS; default = DEFAULT_ROUNDS }
+bounds_of Heaps = record { least = FEWEST_HEAPS; most = MOST_HEAPS; default = DEFAULT_HEAPS }
+bounds_of Order = record { least = LEAST_ORDER; most = LARGEST_FIRST_ORDER; default = DEFAULT_ORDER }
 bounds_of Part = record { least = 0; most = LARGEST_PART; default = 0 }
-bounds_of DeepOrder = record { least = 2; most = LARGEST_ORDER; default = LARGEST_FIRST_ORDER }
+bounds_of DeepOrder = record { least = LEAST_ORDER; most = LARGEST_ORDER; default = LARGEST_FIRST_ORDER }
 bounds_of Last = record { least = 1; most = LARGEST_PART; default = LARGEST_PART }
-bounds_of PartOrder = record { least = 2; most = LARGEST_ORDER; default = LARGEST_SECOND_ORDER }
-bounds_of Furthest = record { least = 2; most = LARGEST_ORDER; default = LARGEST_SECOND_ORDER }
+bounds_of PartOrder = record { least = LEAST_ORDER; most = LARGEST_ORDER; default = LARGEST_SECOND_ORDER }
+bounds_of Furthest = record { least = LEAST_ORDER; most = LARGEST_ORDER; default = LARGEST_SECOND_ORDER }
 
 -- the number lies in its range
 abbrev pub IsWithin : Quantity → ℕ → Type 0

@@ -8,6 +8,7 @@ use Rattle.requests.specs.declared.plans.CatalogueTask.{CatalogueTask}
 use Rattle.requests.specs.declared.plans.CatalogueTask.TheVariants as task
 use Rattle.requests.specs.declared.plans.Plan.{Plan}
 use Rattle.requests.specs.declared.plans.Plan.TheVariants as plan
+use Rattle.requests.specs.declared.plans.SolveBounds.{SolveBounds}
 
 -- each number of a task lies in its range
 abbrev pub TaskHasNumbersWithin : CatalogueTask → Type 0
@@ -26,11 +27,17 @@ AimsWithin aim.Deep order = IsWithin DeepOrder order
 AimsWithin (aim.Part last) order = IsWithin Last last × IsWithin PartOrder order
 AimsWithin aim.Furthest order = IsWithin Furthest order
 
+-- each number of a search lies in its range
+abbrev pub AreWithin : SolveBounds → Type 0
+AreWithin bounds = IsWithin Limit bounds.limit × IsWithin Rounds bounds.rounds
+    × AimsWithin bounds.aim bounds.order
+
 -- each number lies in its range
 abbrev pub HasNumbersWithin : Plan → Type 0
 HasNumbersWithin (plan.Check file limit) = IsWithin Limit limit
-HasNumbersWithin (plan.Solve code limit rounds order aimed why) =
-    IsWithin Limit limit × IsWithin Rounds rounds × AimsWithin aimed order
+HasNumbersWithin (plan.Solve code bounds) = AreWithin bounds
+HasNumbersWithin (plan.SolveMany codes bounds) = AreWithin bounds
+HasNumbersWithin (plan.SolveLines bounds) = AreWithin bounds
 HasNumbersWithin (plan.Show file limit) = IsWithin Limit limit
 HasNumbersWithin (plan.Describe file output basis limit) = IsWithin Limit limit
 HasNumbersWithin (plan.Play file position limit) = IsWithin Limit limit

@@ -1,5 +1,6 @@
 -- The program's commands and their arguments, in the words of `clap`. This project's own.
 use Rattle.std.specs.Prelude.{List, [], ◌∷◌, Some, true, codes, fold}
+use Rattle.clap.specs.Lexer.{usize_max}
 use Rattle.clap.specs.Words.{App, Rule, Text, new_app, new_rule, with_subcommand}
 use Rattle.clap.specs.declared.builder.action.ArgAction.TheVariants.{Set, SetTrue}
 
@@ -10,6 +11,12 @@ optional id = record (new_rule id) { value_names = 1 }
 -- one that is needed
 abbrev pub needed : Text → Rule
 needed id = record (new_rule id) { value_names = 1; required = true }
+
+-- one or more that are needed
+abbrev pub several : Text → Rule
+several id = record (needed id) {
+  range = Some (record { start_inclusive = 1; end_inclusive = usize_max });
+}
 
 -- an option with a value
 abbrev pub option : Text → Rule
@@ -27,11 +34,11 @@ command name rules = record (new_app name) { top = record (new_app name).top { r
 abbrev pub check : App
 check = command (codes "check") (optional (codes "file") ∷ option (codes "limit") ∷ [])
 
--- solve CODE [--limit N] [--rounds R] [--heaps M] [--deep] [--partial M] [--furthest Q] [--order Q]
+-- solve CODE.. [--limit N] [--rounds R] [--heaps M] [--deep] [--partial M] [--furthest Q] [--order Q]
 -- [--why]
 abbrev pub solve : App
 solve = command (codes "solve")
-    (needed (codes "code") ∷ option (codes "limit") ∷ option (codes "rounds")
+    (several (codes "code") ∷ option (codes "limit") ∷ option (codes "rounds")
     ∷ option (codes "heaps") ∷ flag (codes "deep") ∷ option (codes "partial")
     ∷ option (codes "furthest") ∷ option (codes "order") ∷ flag (codes "why") ∷ [])
 

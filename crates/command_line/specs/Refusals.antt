@@ -34,11 +34,12 @@ IsMistake command rows (Exclusive which) =
     (command.conflicts rows ≡ true) × (command.exclusion rows ≡ Some which)
 IsMistake command rows Incomplete = lacks command rows ≡ true
 
--- the arguments ask for this, or else for nothing, for such a mistake
+-- the arguments ask for this, or else for nothing, for such a mistake; or memory was wanting
 abbrev pub Answers : Asking → List Row → Result Plan UsageFault → Type 0
 Answers command rows (Ok plan) =
     (command.request rows ≡ Some (request_of plan)) × HasNumbersWithin plan
     × (command.conflicts rows ≡ false)
+Answers command rows (Err Memory) = ⊤
 Answers command rows (Err fault) = (command.request rows ≡ None) × IsMistake command rows fault
 
 -- the fault is one of the command that was found; where none was, the words are incomplete

@@ -1,10 +1,10 @@
 -- What the words of a command line ask for, as a function. This project's own, over the words of
 -- `clap`.
-use Rattle.std.specs.Prelude.{ℕ, Bool, true, false, not, ◌&&◌, ◌||◌, List, [], ◌∷◌, Option, Some, None, codes, find, if◌then◌else◌, is_some}
+use Rattle.std.specs.Prelude.{ℕ, Bool, true, false, not, ◌&&◌, ◌||◌, List, [], ◌∷◌, Option, Some, None, codes, find, if◌then◌else◌, is_some, unwrap_or}
 use Rattle.std.specs.Prelude.{option_map, option_and_then}
 use Rattle.std.specs.Option.{option_map_or}
 use Rattle.std.specs.Str.{bytes_eq}
-use Rattle.clap.specs.Words.{App, Kinds, Row, Text, first_of, fault_of, found_of, rows_of}
+use Rattle.clap.specs.Words.{App, Kinds, Row, Text, all_of, first_of, fault_of, found_of, rows_of}
 use Rattle.clap.specs.Words.{subcommand_of}
 use Rattle.clap.specs.declared.parser.matches.ArgMatches.{ArgMatches}
 use Rattle.command_line.specs.Numbers.{bounds_of, number_in, number_of}
@@ -16,9 +16,10 @@ use Rattle.command_line.specs.declared.numbers.Quantity.{Quantity}
 use Rattle.command_line.specs.declared.numbers.Quantity.TheVariants.{Limit, Rounds, Heaps, Order, Part, DeepOrder, Last, PartOrder, Furthest}
 use Rattle.requests.specs.Requests.{CatalogueRequest, Request}
 use Rattle.requests.specs.Requests.CatalogueRequest.{Print, New, Add, NewWith, Get, Salvage, Migrate}
-use Rattle.requests.specs.Requests.Request.{Check, Solve, Show, Describe, Play, PlayLines, Present, Catalogue, Desk}
+use Rattle.requests.specs.Requests.Request.{Check, Solve, SolveMany, SolveLines, Show, Describe, Play, PlayLines, Present, Catalogue, Desk}
 use Rattle.requests.specs.declared.plans.Aim.{Aim}
 use Rattle.requests.specs.declared.plans.Aim.TheVariants as aim
+use Rattle.requests.specs.declared.plans.SolveBounds.{SolveBounds}
 use Rattle.requests.specs.declared.plans.Output.{Output}
 use Rattle.requests.specs.declared.plans.Output.TheVariants.{Description, Latex, Json, Relations, Singular, Gap}
 
@@ -135,16 +136,29 @@ solve_conflicts rows =
     (heaps && (deep || partial || furthest)) || (deep && (partial || furthest))
     || (partial && furthest) || (furthest && is_given (codes "order") rows)
 
-abbrev pub solve_with : Option Text → Option ℕ → Option ℕ → Option ℕ → Option Aim → Bool
-    → Option Request
-solve_with (Some code) (Some limit) (Some rounds) (Some order) (Some aimed) why =
-    Some (Solve code limit rounds order aimed why)
-solve_with _ _ _ _ _ _ = None
+-- how far the search goes
+abbrev pub bounds_with : Option ℕ → Option ℕ → Option ℕ → Option Aim → Bool → Option SolveBounds
+bounds_with (Some n) (Some most) (Some largest) (Some aimed) why =
+    Some (record { limit = n; rounds = most; order = largest; aim = aimed; tells_why = why })
+bounds_with _ _ _ _ _ = None
+
+abbrev pub bounds_in : List Row → Option SolveBounds
+bounds_in rows = bounds_with (number_of Limit rows) (number_of Rounds rows) (order_in rows)
+    (aim_in rows) (is_set (codes "why") rows)
+
+-- the codes that are given
+abbrev pub codes_in : List Row → List Text
+codes_in rows = unwrap_or (all_of (codes "code") rows) []
+
+-- one code is searched for, or in its place those of standard input; or several in turn
+abbrev pub solve_with : List Text → Option SolveBounds → Option Request
+solve_with (code ∷ []) (Some bounds) =
+    if bytes_eq code (codes "-") then Some (SolveLines bounds) else Some (Solve code bounds)
+solve_with (code ∷ next ∷ more) (Some bounds) = Some (SolveMany (code ∷ next ∷ more) bounds)
+solve_with _ _ = None
 
 abbrev pub solve_request : List Row → Option Request
-solve_request rows =
-    solve_with (first_of (codes "code") rows) (number_of Limit rows) (number_of Rounds rows)
-    (order_in rows) (aim_in rows) (is_set (codes "why") rows)
+solve_request rows = solve_with (codes_in rows) (bounds_in rows)
 
 -- the word stands for standard input
 abbrev pub is_input : Option Text → Bool

@@ -1,17 +1,19 @@
 //! What each command asks for with its arguments.
-ghost use Rattle.std.specs.Prelude.{◌≡◌, None, Some, false, true, IfOk, IfErr, ℕ, codes, option_map};
-ghost use Rattle.clap.specs.Words.{first_of};
+ghost use Rattle.std.specs.Prelude.{◌≡◌, ◌≢◌, ◌∷◌, [], None, Some, false, true, IfOk, IfErr, ℕ, codes, map, option_map};
+ghost use Rattle.clap.specs.Words.{all_of, first_of};
 ghost use Rattle.command_line.specs.Numbers.{IsWithin, number_of};
-ghost use Rattle.command_line.specs.Plans.{AimsWithin, HasNumbersWithin, TaskHasNumbersWithin};
+ghost use Rattle.command_line.specs.Plans.{AimsWithin, AreWithin, HasNumbersWithin, TaskHasNumbersWithin};
 ghost use Rattle.command_line.specs.Refusals.{Answers, IsMistake, IsMistakeIn, conflicts_in};
 ghost use Rattle.command_line.specs.Requests.{arguments_of, catalogue, catalogue_conflicts, check, describe, describe_conflicts, desk, is_set, named_by, output_in, play};
-ghost use Rattle.command_line.specs.Requests.{aim_in, order_by, order_in, present, request_in, show, solve, solve_conflicts, task_in};
+ghost use Rattle.command_line.specs.Requests.{aim_in, bounds_in, order_by, order_in, present, request_in, show, solve, solve_conflicts, solve_with, task_in};
 ghost use Rattle.requests.specs.Requests.{catalogue_request_of, request_of};
+ghost use Rattle.requests.specs.Requests.Request.{SolveMany};
 
 use crate::faults::{Exclusion, UsageFault};
 use crate::numbers::{Quantity, number_given};
 use clap::ArgMatches;
-use requests::{Aim, CatalogueTask, Output, Plan};
+use requests::{Aim, CatalogueTask, Output, Plan, SolveBounds};
+use std::alloc::Global;
 
 /// The value that was given under this name.
 fn value<'a>(given: &ArgMatches<'a>, name: &str) -> Option<&'a str>
@@ -124,23 +126,72 @@ fn order(given: &ArgMatches<'_>) -> Result<u32, UsageFault>
     }
 }
 
-fn solve_plan<'a>(given: &ArgMatches<'a>) -> Result<Plan<'a>, UsageFault>
-    ensures { Answers solve (arguments_of given.now) result }
+/// How far a search is to go.
+fn bounds(given: &ArgMatches<'_>) -> Result<SolveBounds, UsageFault>
+    ensures bounds { IfOk result (λ b. bounds_in (arguments_of given.now) ≡ Some b) }
+    ensures apart { IfOk result (λ _. solve_conflicts (arguments_of given.now) ≡ false) }
+    ensures within { IfOk result AreWithin }
+    ensures none { IfErr result (λ _. bounds_in (arguments_of given.now) ≡ None) }
+    ensures mistake { IfErr result (IsMistake solve (arguments_of given.now)) }
 {
-    let code = needed(given, "code")?;
     let limit = number(given, Quantity::Limit)?;
     let rounds = number(given, Quantity::Rounds)?;
     let aim = aim(given)?;
     let order = order(given)?;
-    let tells_why = flag(given, "why");
-    Ok(Plan::Solve {
-        code,
+    Ok(SolveBounds {
         limit,
         rounds,
         order,
         aim,
-        tells_why,
+        tells_why: flag(given, "why"),
     })
+}
+
+/// The codes that were given.
+fn codes_given<'a, 'b>(given: &'b ArgMatches<'a>) -> Option<&'b [&'a str]>
+    ensures { option_map (λ s. map (λ c. c.now) s.now) result
+        ≡ all_of (codes "code") (arguments_of given.now) }
+{
+    given.get_strs("code")
+}
+
+/// The plan for one code; `-` stands for those of standard input.
+fn code_plan<'a>(code: &'a str, bounds: SolveBounds) -> Plan<'a>
+    ensures asked { Some (request_of result) ≡ solve_with (code.entry.now ∷ []) (Some bounds) }
+    ensures within { AreWithin bounds → HasNumbersWithin result }
+{
+    match code {
+        "-" => Plan::SolveLines { bounds },
+        code => Plan::Solve { code, bounds },
+    }
+}
+
+/// The plan for several codes.
+fn codes_plan<'a>(
+    alloc: Global,
+    codes: &[&'a str],
+    bounds: SolveBounds,
+) -> Result<Plan<'a>, UsageFault>
+    ensures asked { IfOk result
+        (λ p. request_of p ≡ SolveMany (map (λ c. c.now) codes.now) bounds) }
+    ensures within { AreWithin bounds → IfOk result HasNumbersWithin }
+    ensures memory { IfErr result (λ fault. fault ≡ UsageFault.Memory) }
+{
+    match codes.to_vec(alloc) {
+        Ok(codes) => Ok(Plan::SolveMany { codes, bounds }),
+        Err(_) => Err(UsageFault::Memory),
+    }
+}
+
+fn solve_plan<'a>(alloc: Global, given: &ArgMatches<'a>) -> Result<Plan<'a>, UsageFault>
+    ensures { Answers solve (arguments_of given.now) result }
+{
+    let bounds = bounds(given)?;
+    match codes_given(given) {
+        None | Some([]) => Err(UsageFault::Incomplete),
+        Some([code]) => Ok(code_plan(code, bounds)),
+        Some(codes) => codes_plan(alloc, codes, bounds),
+    }
 }
 
 fn show_plan<'a>(given: &ArgMatches<'a>) -> Result<Plan<'a>, UsageFault>
@@ -269,19 +320,24 @@ fn desk_plan<'a>(given: &ArgMatches<'a>) -> Result<Plan<'a>, UsageFault>
 }
 
 /// What the command of this name asks for with its arguments.
-pub(crate) fn command_plan<'a>(name: &str, given: &ArgMatches<'a>) -> Result<Plan<'a>, UsageFault>
+pub(crate) fn command_plan<'a>(
+    alloc: Global,
+    name: &str,
+    given: &ArgMatches<'a>,
+) -> Result<Plan<'a>, UsageFault>
     ensures asked { IfOk result (λ plan. request_in (Some (name.now, arguments_of given.now))
         ≡ Some (request_of plan)) }
     ensures numbers { IfOk result HasNumbersWithin }
     ensures apart { IfOk result (λ _. conflicts_in (Some (name.now, arguments_of given.now))
         ≡ false) }
-    ensures nothing { IfErr result (λ _. request_in (Some (name.now, arguments_of given.now))
-        ≡ None) }
-    ensures fault { IfErr result (IsMistakeIn (Some (name.now, arguments_of given.now))) }
+    ensures nothing { IfErr result (λ fault. fault ≢ UsageFault.Memory
+        → request_in (Some (name.now, arguments_of given.now)) ≡ None) }
+    ensures fault { IfErr result (λ fault. fault ≢ UsageFault.Memory
+        → IsMistakeIn (Some (name.now, arguments_of given.now)) fault) }
 {
     match name {
         "check" => check_plan(given),
-        "solve" => solve_plan(given),
+        "solve" => solve_plan(alloc, given),
         "show" => show_plan(given),
         "describe" => describe_plan(given),
         "play" => play_plan(given),

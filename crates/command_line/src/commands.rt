@@ -2,7 +2,7 @@
 ghost use Rattle.std.specs.Prelude.{◌≡◌, ◌++◌, ◌∷◌, [], List, IfOk, codes, false, true};
 ghost use Rattle.clap.specs.Words.{App, Rule, Text, app_of, new_app, rule_of, with_subcommand};
 ghost use Rattle.command_line.specs.Program.{catalogue, check, command, describe, desk, flag, misere, needed};
-ghost use Rattle.command_line.specs.Program.{option, optional, play, present, program, show, solve};
+ghost use Rattle.command_line.specs.Program.{option, optional, play, present, program, several, show, solve};
 
 use clap::{Arg, ArgAction, Command};
 use std::alloc::{AllocError, Global};
@@ -33,6 +33,14 @@ fn needed<'a>(alloc: Global, name: &'a str, shown: &'a str, help: &'a str) -> Ar
         .value_name(shown)
         .help(help)
         .required(true)
+}
+
+/// One or more arguments that are needed, told by their places.
+fn several<'a>(alloc: Global, name: &'a str, shown: &'a str, help: &'a str) -> Arg<'a>
+    ensures rule { rule_of result ≡ several name.entry.now }
+    ensures local { result.global ≡ false }
+{
+    needed(alloc, name, shown, help).num_args(1..)
 }
 
 /// An option with a value.
@@ -106,7 +114,9 @@ fn check_command<'a>(alloc: Global) -> Result<Command<'a>, AllocError>
 fn solve_command<'a>(alloc: Global) -> Result<Command<'a>, AllocError>
     ensures { IfOk result (λ c. app_of c ≡ solve) }
 {
-    let about = "Look for the misère quotient of a code, and print its certificate";
+    let about = "Look for the misère quotient of each code, and print its certificate";
+    let code = "The code of a game, octal or hexadecimal, as 0.77; as - alone each line of \
+standard input";
     let rounds = "Give up after R rounds: 1 to 1000, by default 64";
     let heaps = "Look at the heaps up to M: 2 to 64, by default 24";
     let deep = "Look at as many heaps as a certificate can need, and orders to 256 by default";
@@ -117,15 +127,7 @@ fn solve_command<'a>(alloc: Global) -> Result<Command<'a>, AllocError>
 --deep and --partial 2 to 4096";
     let why = "Tell why the search is given up";
     let made = Ok(command(alloc, "solve", about));
-    let made = with_arg(
-        made,
-        needed(
-            alloc,
-            "code",
-            "CODE",
-            "The code of a game, octal or hexadecimal, as 0.77",
-        ),
-    );
+    let made = with_arg(made, several(alloc, "code", "CODE", code));
     let made = with_arg(made, limit(alloc));
     let made = with_arg(made, option(alloc, "rounds", "R", rounds));
     let made = with_arg(made, option(alloc, "heaps", "M", heaps));

@@ -6,7 +6,10 @@ ghost use Rattle.command_line.specs.Numbers.{number_within};
 
 use decimals::number_between;
 use misere_theory::{LARGEST_FIRST_ORDER, LARGEST_ORDER, LARGEST_PART, LARGEST_SECOND_ORDER};
-use requests::DEFAULT_LIMIT;
+use requests::{
+    DEFAULT_HEAPS, DEFAULT_LIMIT, DEFAULT_ORDER, DEFAULT_ROUNDS, FEWEST_HEAPS, LARGEST_LIMIT,
+    LEAST_ORDER, MOST_HEAPS, MOST_ROUNDS,
+};
 
 /// A number that an option takes.
 #[derive(Clone, Copy, Debug, PartialEq, Eq)]
@@ -48,14 +51,14 @@ impl Quantity {
         let (first_order, order) = (LARGEST_FIRST_ORDER as u32, LARGEST_ORDER as u32);
         let (second_order, heaps) = (LARGEST_SECOND_ORDER as u32, LARGEST_PART as u32);
         let (least, most, default) = match self {
-            Quantity::Limit => (1, 1000000, DEFAULT_LIMIT),
-            Quantity::Rounds => (1, 1000, 64),
-            Quantity::Heaps => (2, 64, 24),
-            Quantity::Order => (2, first_order, 64),
+            Quantity::Limit => (1, LARGEST_LIMIT, DEFAULT_LIMIT),
+            Quantity::Rounds => (1, MOST_ROUNDS, DEFAULT_ROUNDS),
+            Quantity::Heaps => (FEWEST_HEAPS, MOST_HEAPS, DEFAULT_HEAPS),
+            Quantity::Order => (LEAST_ORDER, first_order, DEFAULT_ORDER),
             Quantity::Part => (0, heaps, 0),
-            Quantity::DeepOrder => (2, order, first_order),
+            Quantity::DeepOrder => (LEAST_ORDER, order, first_order),
             Quantity::Last => (1, heaps, heaps),
-            Quantity::PartOrder | Quantity::Furthest => (2, order, second_order),
+            Quantity::PartOrder | Quantity::Furthest => (LEAST_ORDER, order, second_order),
         };
         Bounds {
             least,

@@ -66,7 +66,7 @@ pub fn plan<'a>(alloc: Global, words: &'a [&'a str]) -> Result<Plan<'a>, UsageFa
 {
     let matches = parsed(alloc, words)?;
     match matches.subcommand() {
-        Some((name, given)) => command_plan(name, given),
+        Some((name, given)) => command_plan(alloc, name, given),
         None => Err(UsageFault::Incomplete),
     }
 }

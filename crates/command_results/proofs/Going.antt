@@ -1,7 +1,7 @@
 -- Pieces that go out one behind the other.
-use Rattle.std.proofs.Common.{◌≡◌, ℕ, List, [], ◌∷◌, ◌++◌, Option, Result, Ok, Err, ap, arith, length, refl, subst, sym, take}
+use Rattle.std.proofs.Common.{◌≡◌, ℕ, List, ◌++◌, Option, Result, subst}
 use Rattle.std.specs.Io.KnownBytes.{Appends}
-use Rattle.streams.specs.Stream.{AppendsSome, Counts, Puts}
+use Rattle.streams.specs.Stream.{AppendsSome, Puts}
 use Rattle.streams.proofs.StreamLaws as laws
 
 -- three pieces, of which each is given in another form

@@ -1,2 +1,2 @@
 mod Going
-mod Same
+pub mod LineLaws

@@ -3,6 +3,8 @@
 #![tactic(auto)]
 
 mod files;
+mod lines;
+mod noted;
 mod printing;
 mod said;
 mod starting;
@@ -10,6 +12,8 @@ mod stop;
 mod telling;
 
 pub use files::{read_file, read_front};
+pub use lines::{LARGEST_INPUT, first_line, input_lines};
+pub use noted::Noted;
 pub use printing::print;
 pub use said::Said;
 pub use starting::{stopped, words_of};

@@ -1,1 +1,1 @@
-mod Usage
+mod Notes

@@ -4,12 +4,14 @@ use Rattle.catalogue_command.specs.Stops as catalogue
 use Rattle.catalogue_command.specs.Tasks.{StopsTask}
 use Rattle.check_command.specs.Checks as check
 use Rattle.check_command.specs.Checks.{IsGivenCause}
+use Rattle.command_results.specs.Lines.{AreLinesOf, IsLinesCause}
 use Rattle.command_results.specs.Stops.{IsMemory}
 use Rattle.command_results.specs.declared.stop.Stop.{Stop}
-use Rattle.play_command.specs.Many.{AreLinesOf, IsPlayLinesCause}
+use Rattle.play_command.specs.Many.{IsPlayLinesCause}
 use Rattle.play_command.specs.Plays.{IsPlayCause}
+use Rattle.requests.specs.declared.plans.Output.TheVariants.{Relations}
 use Rattle.requests.specs.Requests.{Request}
-use Rattle.requests.specs.Requests.Request.{Check, Solve, Show, Describe, Play, PlayLines, Present, Catalogue, Desk}
+use Rattle.requests.specs.Requests.Request.{Check, Solve, SolveMany, SolveLines, Show, Describe, Play, PlayLines, Present, Catalogue, Desk}
 use Rattle.solve_command.specs.Solved.{IsSolveCause}
 
 -- How often each device has failed that a command reads or changes.
@@ -30,8 +32,10 @@ given f = check.failed f.input f.reads
 abbrev pub IsCause : Option (List ℕ) → Request → Failed → Failed → Stop → Type 0
 IsCause input (Check file limit) before after stop =
     IsGivenCause file (given before) (given after) stop
-IsCause input (Solve code limit rounds order aim why) before after stop =
-    IsSolveCause code stop
+IsCause input (Solve code bounds) before after stop = IsSolveCause code stop
+IsCause input (SolveMany codes bounds) before after stop = IsMemory stop
+IsCause input (SolveLines bounds) before after stop =
+    IsLinesCause (AreLinesOf input) before.input after.input stop
 IsCause input (Show file limit) before after stop =
     IsGivenCause file (given before) (given after) stop
 IsCause input (Describe file output basis limit) before after stop =
@@ -53,6 +57,7 @@ reads_input (Some (Show file limit)) = is_none file
 reads_input (Some (Describe file output basis limit)) = is_none file
 reads_input (Some (Play file position limit)) = is_none file
 reads_input (Some (PlayLines file limit)) = true
+reads_input (Some (SolveLines bounds)) = true
 reads_input _ = false
 
 -- the request reads or writes files
@@ -65,6 +70,16 @@ takes_files (Some (PlayLines file limit)) = true
 takes_files (Some (Catalogue file task limit)) = true
 takes_files (Some (Desk script)) = true
 takes_files _ = false
+
+-- the request asks for a description, or for a quotient's relations
+abbrev pub describes : Option Request → Bool
+describes (Some (Describe file output basis limit)) = true
+describes _ = false
+
+-- the request may tell a line beside what it prints: it asks for a quotient's relations
+abbrev pub notes : Option Request → Bool
+notes (Some (Describe file Relations basis limit)) = true
+notes _ = false
 
 -- the request takes the steps of a script
 abbrev pub runs_script : Option Request → Bool

@@ -2,7 +2,7 @@
 use Rattle.std.specs.Prelude.{◌≡◌, ℕ, Bool, List, Option}
 use Rattle.catalogue_command.specs.Tasks.{Leaves}
 use Rattle.streams.specs.Printers.{Printer, PrintsLine}
-use Rattle.command_results.specs.Printed.{Printed, status_if}
+use Rattle.command_results.specs.Printed.{PrintedWith, status_if}
 use Rattle.command_results.specs.Stops.{stop_line, stop_status}
 use Rattle.command_results.specs.declared.stop.Stop.{Stop}
 use Rattle.commands.specs.Causes.{Failed, IsCause}
@@ -30,9 +30,10 @@ scene input files failed out err =
 -- printed, for a cause of this request, and every file is as it was; or it took the steps of a
 -- script, to its end or not, and every file is as it was.
 pub data Obeys (request : Request) (old new : Scene) (status : ℕ) : Type 0 where
-  Done : (text : List ℕ) (succeeds : Bool) → RespondsWith old.input old.files new.files request text succeeds
+  Done : (text : List ℕ) (succeeds : Bool) (note : Option (List ℕ))
+      → RespondsWith old.input old.files new.files request text succeeds note
       → Leaves (file_written request succeeds) old.files new.files
-      → Printed old.out new.out old.err new.err text (status_if succeeds) status
+      → PrintedWith old.out new.out old.err new.err text note (status_if succeeds) status
       → Obeys request old new status
   Stopped : (stop : Stop) → IsCause old.input request old.failed new.failed stop
       → new.files ≡ old.files

@@ -1,14 +1,14 @@
 //! Plans carried out.
-ghost use Rattle.std.specs.Prelude.{◌≡◌, Some, false, IfOk, IfErr, OnErr};
+ghost use Rattle.std.specs.Prelude.{◌≡◌, Some, false, IfOk, IfErr, OnErr, option_map};
 ghost use Rattle.catalogue_command.specs.Tasks.{Leaves};
 ghost use Rattle.command_results.specs.Stops.{stop_status};
-ghost use Rattle.commands.specs.Causes.{IsCause, failed, reads_input, runs_script, takes_files};
-ghost use Rattle.commands.specs.Responses.{RespondsWith, file_written};
+ghost use Rattle.commands.specs.Causes.{IsCause, describes, failed, reads_input, runs_script, takes_files};
+ghost use Rattle.commands.specs.Responses.{RespondsWith, Says, file_written};
 ghost use Rattle.requests.specs.Requests.{request_of};
 
 use catalogue_command::act;
 use check_command::check;
-use command_results::{Said, Stop};
+use command_results::{Noted, Said, Stop};
 use describe_command::describe;
 use descriptions::Form;
 use folders::Folder;
@@ -16,22 +16,62 @@ use play_command::{play, play_lines};
 use present_command::present;
 use requests::Plan;
 use show_command::show;
-use solve_command::{SolveBounds, solve};
+use solve_command::{solve, solve_lines, solve_many};
 use std::alloc::Global;
 use streams::Source;
 
-/// What is said of what is planned, which is no script. Every file stays as it is but the one that
-/// the plan writes where it ends well; standard input and the files are left alone by the plans
-/// that don't read them, and by words that are refused.
+/// What is said of what is planned, which is no script, and told beside it. Every file stays as it
+/// is but the one that the plan writes where it ends well; standard input and the files are left
+/// alone by the plans that don't read them, and by words that are refused.
 pub(crate) fn carry_out<'a, F: Folder, S: Source>(
+    alloc: Global,
+    plan: Plan<'a>,
+    folder: &mut F,
+    input: &mut S,
+) -> Result<Noted, Stop<'a>>
+    requires no_script { runs_script (Some (request_of plan)) ≡ false }
+    ensures responds { IfOk result
+        (λ n. RespondsWith (S.left input.old) (F.files folder.old) (F.files folder.new)
+        (request_of plan.entry) n.said.text.items n.said.succeeds
+        (option_map (λ line. line.now) n.note)) }
+    ensures leaves { IfOk result
+        (λ n. Leaves (file_written (request_of plan.entry) n.said.succeeds) (F.files folder.old)
+        (F.files folder.new)) }
+    ensures kept { OnErr result (F.files folder.new ≡ F.files folder.old) }
+    ensures stops { IfErr result (IsCause (S.left input.old) (request_of plan.entry)
+        (failed (S.failures input.old) (F.failed_reads folder.old) (F.failed_writes folder.old))
+        (failed (S.failures input.new) (F.failed_reads folder.new) (F.failed_writes folder.new))) }
+    ensures usage { IfErr result (λ stop. stop_status stop ≡ 2 → folder.new ≡ folder.old) }
+    ensures input { reads_input (Some (request_of plan.entry)) ≡ false → input.new ≡ input.old }
+    ensures folder { takes_files (Some (request_of plan.entry)) ≡ false → folder.new ≡ folder.old }
+{
+    if let Plan::Describe {
+        file,
+        output,
+        basis,
+        limit,
+    } = plan
+    {
+        let form = if basis { Form::Basis } else { Form::Short };
+        return describe(alloc, file, limit, form, output, folder, input);
+    }
+    match say(alloc, plan, folder, input) {
+        Ok(said) => Ok(Noted::plain(said)),
+        Err(stop) => Err(stop),
+    }
+}
+
+/// What is said of what is planned, which is no script and no description.
+fn say<'a, F: Folder, S: Source>(
     alloc: Global,
     plan: Plan<'a>,
     folder: &mut F,
     input: &mut S,
 ) -> Result<Said, Stop<'a>>
     requires no_script { runs_script (Some (request_of plan)) ≡ false }
+    requires no_description { describes (Some (request_of plan)) ≡ false }
     ensures says { IfOk result
-        (λ s. RespondsWith (S.left input.old) (F.files folder.old) (F.files folder.new)
+        (λ s. Says (S.left input.old) (F.files folder.old) (F.files folder.new)
         (request_of plan.entry) s.text.items s.succeeds) }
     ensures leaves { IfOk result
         (λ s. Leaves (file_written (request_of plan.entry) s.succeeds) (F.files folder.old)
@@ -47,15 +87,6 @@ pub(crate) fn carry_out<'a, F: Folder, S: Source>(
     match plan {
         Plan::Check { file, limit } => check(alloc, file, limit, folder, input),
         Plan::Show { file, limit } => show(alloc, file, limit, folder, input),
-        Plan::Describe {
-            file,
-            output,
-            basis,
-            limit,
-        } => {
-            let form = if basis { Form::Basis } else { Form::Short };
-            describe(alloc, file, limit, form, output, folder, input)
-        }
         Plan::Play {
             file,
             position,
@@ -63,24 +94,10 @@ pub(crate) fn carry_out<'a, F: Folder, S: Source>(
         } => play(alloc, file, position, limit, folder, input),
         Plan::PlayLines { file, limit } => play_lines(alloc, file, limit, folder, input),
         Plan::Present { text } => present(alloc, text),
-        Plan::Solve {
-            code,
-            limit,
-            rounds,
-            order,
-            aim,
-            tells_why,
-        } => {
-            let bounds = SolveBounds {
-                limit,
-                rounds,
-                order,
-                aim,
-                tells_why,
-            };
-            solve(alloc, code, bounds)
-        }
+        Plan::Solve { code, bounds } => solve(alloc, code, bounds),
+        Plan::SolveMany { codes, bounds } => solve_many(alloc, &codes, bounds),
+        Plan::SolveLines { bounds } => solve_lines(alloc, bounds, input),
         Plan::Catalogue { file, task, limit } => act(alloc, folder, file, task, limit),
-        Plan::Desk { .. } => unreachable!(),
+        Plan::Describe { .. } | Plan::Desk { .. } => unreachable!(),
     }
 }

@@ -1,7 +1,7 @@
 //! Plans run to their status.
 ghost use Rattle.std.specs.Prelude.{◌≡◌, ◌≤◌, Some, false};
 ghost use Rattle.streams.specs.Printers.{printer};
-ghost use Rattle.commands.specs.Causes.{failed, reads_input, runs_script, takes_files};
+ghost use Rattle.commands.specs.Causes.{failed, notes, reads_input, runs_script, takes_files};
 ghost use Rattle.commands.specs.Obeys.{Obeys, scene};
 ghost use Rattle.requests.specs.Requests.{request_of};
 
@@ -14,9 +14,10 @@ use streams::{Sink, Source};
 
 /// Does what is planned, prints what is said of it or tells why it stopped, and answers the status:
 /// 0 where it ends well, 1 for a no or a refusal, 2 for a text that can't be read or a script with
-/// a line that isn't a step, 3 where a device failed or memory was wanting. No file is changed but
-/// the one that the plan writes where it ends well; standard input and the files are left alone by
-/// the plans that don't read them.
+/// a line that isn't a step, 3 where a device failed or memory was wanting. With 0 and 1 nothing is
+/// told but beside relations that were asked for. No file is changed but the one that the plan
+/// writes where it ends well; standard input and the files are left alone by the plans that don't
+/// read them.
 pub fn run_plan<F: Folder, S: Source, W: Sink, E: Sink>(
     alloc: Global,
     plan: Plan<'_>,
@@ -34,7 +35,8 @@ pub fn run_plan<F: Folder, S: Source, W: Sink, E: Sink>(
         (failed (S.failures input.new) (F.failed_reads folder.new) (F.failed_writes folder.new))
         (printer (W.taken out.new) (W.failures out.new))
         (printer (E.taken err.new) (E.failures err.new))) result }
-    ensures quiet { result ≤ 1 → err.new ≡ err.old }
+    ensures quiet { notes (Some (request_of plan.entry)) ≡ false → result ≤ 1
+        → err.new ≡ err.old }
     ensures usage { runs_script (Some (request_of plan.entry)) ≡ false → result ≡ 2
         → folder.new ≡ folder.old }
     ensures input { reads_input (Some (request_of plan.entry)) ≡ false → input.new ≡ input.old }
@@ -44,7 +46,7 @@ pub fn run_plan<F: Folder, S: Source, W: Sink, E: Sink>(
         return run_file(alloc, script, folder, out, err);
     }
     match carry_out(alloc, plan, folder, input) {
-        Ok(said) => said.print(out, err),
+        Ok(noted) => noted.print(out, err),
         Err(stop) => {
             stop.tell(err);
             stop.status()

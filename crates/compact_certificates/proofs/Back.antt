@@ -1,5 +1,5 @@
 -- What is left out of a certificate comes back, and what is made follows.
-use Rattle.std.proofs.Common.{◌≡◌, ℕ, zero, suc, ◌+◌, ◌-◌, ◌<◌, ◌≤◌, List, [], ◌∷◌, ◌++◌, refl, ◌∙◌, sym, ap, ap₂, subst, arith, map, length, take, drop, get_or, add-one}
+use Rattle.std.proofs.Common.{◌≡◌, ℕ, zero, suc, ◌+◌, ◌-◌, ◌<◌, ◌≤◌, List, [], ◌∷◌, ◌++◌, refl, ◌∙◌, sym, ap, ap₂, arith, map, length, take, drop, get_or, add-one}
 use Rattle.std.specs.Prelude.{slice_index}
 use Rattle.std.specs.List.{range_with_len}
 use Rattle.std.proofs.lemmas.Grind.{same_number_lists}
@@ -18,8 +18,7 @@ head_again : (m : ℕ) (rows : List (List ℕ)) (row : List ℕ) → 0 < length 
     → row ≡ get_or rows 0 []
     → row ∷ take m (drop 1 rows) ≡ take (m + 1) rows
 head_again m [] row some e = absurd (omega arith)
-head_again m (r ∷ rs) row some e =
-    ap (λ (v : List ℕ). v ∷ take m rs) e ∙ ap (λ n. take n (r ∷ rs)) (sym (add-one m))
+head_again m (r ∷ rs) row some e = rw (e, add-one m) refl
 
 -- another's rows in the place of the certificate's, and the separators that follow
 abbrev with_rows : Certificate → List (List ℕ) → Certificate
@@ -38,8 +37,7 @@ module _ (c : Certificate) (t : HasTable c) (f : Follows c) where
       let k = get_or c.words j (0, 0) in
       let place : j + 1 - 1 ≡ j = omega arith in
       let is_key : key_of c (j + 1) ≡ k = ap (λ i. get_or c.words i (0, 0)) place in
-      let before : k.0 < j + 1 =
-      subst (λ (v : ℕ × ℕ). v.0 < j + 1) is_key (f.expandable.falls (j + 1) (omega arith) high) in
+      let before = rw is_key at (f.expandable.falls (j + 1) (omega arith) high) in
       let heap : phi_at c k.1 ≤ firsts_of c.words = phi_first c f.expandable.heaps k.1 in
       let at_element : get_or (take (j + 1) c.rows) k.0 [] ≡ get_or c.rows k.0 [] =
       get_or-take (j + 1) c.rows k.0 [] before in

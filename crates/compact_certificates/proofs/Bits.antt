@@ -1,28 +1,17 @@
 -- Lanes of 64 bits: how one is filled, and where two differ first.
-use Rattle.std.proofs.Common.{◌≡◌, ◌≢◌, ℕ, zero, suc, ◌+◌, ◌*◌, ◌/◌, ◌%◌, ◌^◌, ◌<◌, Bool, true, false, eqb, ltb, List, get_or, bit_or, max, refl, ◌∙◌, sym, ap, ap₂, inl, inr, arith, w64, lt-ltb, le-ltb}
+use Rattle.std.proofs.Common.{◌≡◌, ◌≢◌, ℕ, ◌+◌, ◌*◌, ◌/◌, ◌%◌, ◌^◌, ◌<◌, Bool, true, false, eqb, ltb, List, get_or, bit_or, max, refl, ◌∙◌, sym, ap, ap₂, inl, inr, arith, w64, lt-ltb}
 use Rattle.std.specs.Prelude.{◌&&◌, bit_xor}
 use Rattle.std.specs.Int.{bit_at, trailing_zeros, from_bool}
-use Rattle.std.proofs.lemmas.Bool.{cases_lt, cases_eq, true≢false}
-use Rattle.std.proofs.lemmas.Nat.Bits.{bit_at-lt, bit_at-zero, bit_at_xor, bit_at_or, bit_at-trailing_zeros, bit_at_set_same, bit_at_set_other, same_from_bits}
+use Rattle.std.proofs.lemmas.Bool.{cases_lt, cases_eq, false≢true, and_right}
+use Rattle.std.proofs.lemmas.Nat.Bits.{bit_at-lt, bit_at-zero, bit_at_xor, bit_at_or, bit_at-trailing_zeros, bit_at_set_same, bit_at_set_other}
 use Rattle.compact_certificates.specs.Lanes.{has}
+use Rattle.std.proofs.lemmas.Bool.Decides.{nat_tests}
 
 odd_differ : (m n : ℕ) → m < 2 → n < 2 → (m + n) % 2 ≡ 1 → eqb m 1 ≢ eqb n 1
-odd_differ zero zero a b h e = absurd (omega arith)
-odd_differ zero (suc zero) a b h e = true≢false (sym e)
-odd_differ zero (suc (suc n)) a b h e = absurd (omega arith)
-odd_differ (suc zero) zero a b h e = true≢false e
-odd_differ (suc zero) (suc zero) a b h e = absurd (omega arith)
-odd_differ (suc zero) (suc (suc n)) a b h e = absurd (omega arith)
-odd_differ (suc (suc m)) n a b h e = absurd (omega arith)
+odd_differ m n a b h = λ e. grind (arith, nat_tests)
 
 even_same : (m n : ℕ) → m < 2 → n < 2 → (m + n) % 2 ≡ 0 → m ≡ n
 even_same m n a b h = omega arith
-
-pub no_difference : (a b : ℕ) → bit_xor a b ≡ 0 → a ≡ b
-no_difference a b e =
-    same_from_bits a b (λ i.
-    even_same (bit_at a i) (bit_at b i) (bit_at-lt a i) (bit_at-lt b i)
-    (sym (bit_at_xor a b i) ∙ ap (λ n. bit_at n i) e ∙ bit_at-zero i))
 
 module _
     (xs ys : List ℕ) (i : ℕ) (same : (k : ℕ) → k < i → get_or xs k 0 ≡ get_or ys k 0)
@@ -60,30 +49,18 @@ module _
         let lane : w / 64 ≡ i = omega (arith, lowest.0) in
         let low : w % 64 < t = omega (arith, lowest.0) in
         let bit : bit_at (get_or xs i 0) (w % 64) ≡ bit_at (get_or ys i 0) (w % 64) =
-        even_same (bit_at (get_or xs i 0) (w % 64)) (bit_at (get_or ys i 0) (w % 64))
-        (bit_at-lt (get_or xs i 0) (w % 64)) (bit_at-lt (get_or ys i 0) (w % 64))
+        even_same _ _ (bit_at-lt (get_or xs i 0) (w % 64)) (bit_at-lt (get_or ys i 0) (w % 64))
         (sym (bit_at_xor (get_or xs i 0) (get_or ys i 0) (w % 64)) ∙ lowest.2 (w % 64) low) in
-        ap (λ n. eqb (bit_at (get_or xs n 0) (w % 64)) 1) lane ∙ ap (λ n. eqb n 1) bit
-        ∙ sym (ap (λ n. eqb (bit_at (get_or ys n 0) (w % 64)) 1) lane)
+        rw (lane, bit) refl
   ]
 
-and_none : (a : Bool) → (a && false) ≡ false
-and_none true = refl
-and_none false = refl
-
 not_here : (j i : ℕ) → (j ≡ i → ⊥) → ltb j i ≡ ltb j (i + 1)
-not_here j i f = elim (cases_lt j i) [
-  | inl low ↦ lt-ltb j i low ∙ sym (lt-ltb j (i + 1) (omega arith))
-  | inr high ↦ le-ltb j i high ∙ sym (le-ltb j (i + 1) (omega arith))
-]
+not_here j i f = grind (arith, nat_tests)
 
 nothing_more : (j i : ℕ) (before : Bool) → (j ≡ i → false ≡ before)
     → (ltb j i && before) ≡ (ltb j (i + 1) && before)
-nothing_more j i before same = elim (cases_eq j i) [
-  | inl here ↦ ap (λ (b : Bool). ltb j i && b) (sym (same here)) ∙ and_none (ltb j i)
-      ∙ sym (and_none (ltb j (i + 1))) ∙ ap (λ (b : Bool). ltb j (i + 1) && b) (same here)
-  | inr other ↦ ap (λ (c : Bool). c && before) (not_here j i other)
-]
+nothing_more j i true same = ap (λ c. c && true) (not_here j i (λ e. false≢true (same e)))
+nothing_more j i false same = and_right (ltb j i) false refl ∙ sym (and_right (ltb j (i + 1)) false refl)
 
 -- a bit is put at i, where none stood from i on
 pub one_mark_more : (b : Bool) (n i j : ℕ) (before : Bool) → i < 64 → j < 64
@@ -92,19 +69,13 @@ pub one_mark_more : (b : Bool) (n i j : ℕ) (before : Bool) → i < 64 → j < 
     → eqb (bit_at (bit_or n (from_bool b * 2 ^ i % 2 ^ 64)) j) 1 ≡ (ltb j (i + 1) && before)
 one_mark_more true n i j before l h e same = elim (cases_eq j i) [
   | inl here ↦
-      ap (λ k. eqb (bit_at (bit_or n (1 * 2 ^ i % 2 ^ 64)) k) 1) here
-      ∙ ap (λ k. eqb k 1) (bit_at_set_same w64 n i l)
-      ∙ same here
-      ∙ sym (ap (λ (c : Bool). c && before) (lt-ltb j (i + 1) (omega arith)))
+      rw (here, bit_at_set_same w64 n i l, lt-ltb i (i + 1) (omega arith)) (same here)
   | inr other ↦
-      ap (λ k. eqb k 1) (bit_at_set_other w64 n i l j other) ∙ e
-      ∙ ap (λ (c : Bool). c && before) (not_here j i other)
+      rw (bit_at_set_other w64 n i l j other) (e ∙ ap (λ c. c && before) (not_here j i other))
 ]
 one_mark_more false n i j before l h e same =
     ap (λ k. eqb k 1) (bit_at_or n (0 * 2 ^ i % 2 ^ 64) j ∙ nothing) ∙ e
     ∙ nothing_more j i before same
   where
     nothing : max (bit_at n j) (bit_at (0 * 2 ^ i % 2 ^ 64) j) ≡ bit_at n j
-    nothing = let z : 0 * 2 ^ i % 2 ^ 64 ≡ 0 = grind arith in
-        ap (λ k. max (bit_at n j) (bit_at k j)) z
-        ∙ ap (λ k. max (bit_at n j) k) (bit_at-zero j) ∙ omega arith
+    nothing = let z : 0 * 2 ^ i % 2 ^ 64 ≡ 0 = grind arith in rw (z, bit_at-zero j) (omega arith)

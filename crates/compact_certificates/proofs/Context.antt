@@ -1,13 +1,12 @@
 -- The contexts of elements, as their lanes are put together.
-use Rattle.std.proofs.Common.{◌≡◌, ℕ, suc, ◌+◌, ◌-◌, ◌*◌, ◌/◌, ◌%◌, ◌<◌, ◌≤◌, min, Bool, false, eqb, ltb, List, [], ◌∷◌, ◌++◌, length, take, drop, get_or, ◌∙◌, sym, ap, ap₂, inl, inr, arith, lt-ltb, le-ltb, length-append, subst, add-one}
+use Rattle.std.proofs.Common.{◌≡◌, ℕ, suc, ◌+◌, ◌-◌, ◌*◌, ◌/◌, ◌%◌, ◌<◌, ◌≤◌, min, Bool, false, eqb, ltb, List, [], ◌∷◌, ◌++◌, length, take, drop, get_or, ◌∙◌, sym, ap, ap₂, inl, inr, arith, lt-ltb, le-ltb, length-append, add-one, refl}
 use Rattle.std.specs.Prelude.{◌&&◌, slice_range, slice_index_or}
 use Rattle.std.specs.Int.{bit_at}
 use Rattle.std.proofs.Math.Nat.{mul-le-mul_right, suc-mul}
 use Rattle.std.proofs.Math.ListN.{get_or-append}
 use Rattle.std.proofs.Math.Seq.{get_or-append_seam}
 use Rattle.std.proofs.lemmas.Bool.{cases_lt}
-use Rattle.std.proofs.lemmas.List.{get_or-take, get_or-drop, get_or_past, length-drop, length-take, take-append-le, drop-append-le, take_all, drop_at}
-use Rattle.std.proofs.lemmas.Nat.Bits.{bit_at-zero}
+use Rattle.std.proofs.lemmas.List.{get_or-take, get_or-drop, length-drop, length-take, take-append-le, drop-append-le, take_all, drop_at}
 use Rattle.compact_certificates.specs.Lanes.{has, is_marked, AppendsContext}
 use Rattle.compact_certificates.proofs.FlatRows.{part_long}
 
@@ -29,13 +28,8 @@ part_marks row marked a n b j e l =
       | inl low ↦
           let here : get_or part j 0 ≡ get_or row (a + j) 0 =
           get_or-take (b - a) (drop a row) j 0 (omega arith) ∙ get_or-drop a row j 0 in
-          ap₂ (λ (t : Bool) v. t && slice_index_or marked v false)
-          (lt-ltb j (length part) (omega arith) ∙ sym (lt-ltb (a + j) (length row) low)) here
-      | inr past ↦
-          ap (λ (t : Bool). t && slice_index_or marked (get_or part j 0) false)
-          (le-ltb j (length part) (omega arith))
-          ∙ sym (ap (λ (t : Bool). t && slice_index_or marked (get_or row (a + j) 0) false)
-          (le-ltb (a + j) (length row) past))
+          rw (lt-ltb j (length part) (omega arith), lt-ltb (a + j) (length row) low, here) refl
+      | inr past ↦ rw (le-ltb j (length part) (omega arith), le-ltb (a + j) (length row) past) refl
     ]
 
 -- one lane more
@@ -58,16 +52,6 @@ one_lane_more row marked more lane i b long e before bits z l = elim (cases_lt z
       ∙ part_marks row marked (64 * i) 64 b (z % 64) e (omega arith)
       ∙ ap (is_marked row marked) place
 ]
-
--- past the lanes no bit is set, and past the row nothing is marked
-pub nothing_past : (row : List ℕ) (marked : List Bool) (more : List ℕ) (z : ℕ)
-    → length more ≡ (length row + 63) / 64 → 64 * length more ≤ z
-    → has more z ≡ is_marked row marked z
-nothing_past row marked more z long past =
-    ap (λ n. eqb (bit_at n (z % 64)) 1) (get_or_past more (z / 64) 0 (omega arith))
-    ∙ ap (λ n. eqb n 1) (bit_at-zero (z % 64))
-    ∙ sym (ap (λ (t : Bool). t && slice_index_or marked (get_or row z 0) false)
-    (le-ltb z (length row) (omega arith)))
 
 -- a context that stood stays where it was
 pub part_stays : (xs ys : List ℕ) (a n : ℕ) → a + n ≤ length xs
@@ -92,22 +76,15 @@ row_marks : (order : ℕ) (rows : List ℕ) (marked : List Bool) (x z : ℕ)
     → x * order + order ≤ length rows
     → is_marked (slice_range rows (x * order) (x * order + order)) marked z
     ≡ product_marked order rows marked x z
-row_marks order rows marked x z l =
-    let row = take (x * order + order - x * order) (drop (x * order) rows) in
-    let long : length row ≡ order = part_long (x * order) order rows l in
-    elim (cases_lt z order) [
-      | inl low ↦
-          let here : get_or row z 0 ≡ get_or rows (x * order + z) 0 =
-          get_or-take (x * order + order - x * order) (drop (x * order) rows) z 0 (omega arith)
-          ∙ get_or-drop (x * order) rows z 0 in
-          ap₂ (λ (t : Bool) v. t && slice_index_or marked v false)
-          (lt-ltb z (length row) (omega arith) ∙ sym (lt-ltb z order low)) here
-      | inr past ↦
-          ap (λ (t : Bool). t && slice_index_or marked (get_or row z 0) false)
-          (le-ltb z (length row) (omega arith))
-          ∙ sym (ap (λ (t : Bool). t && slice_index_or marked (get_or rows (x * order + z) 0) false)
-          (le-ltb z order past))
-    ]
+row_marks order rows marked x z l = elim (cases_lt z order) [
+  | inl low ↦
+      part_marks rows marked (x * order) order (x * order + order) z (omega arith) low
+      ∙ rw (lt-ltb (x * order + z) (length rows) (omega arith), lt-ltb z order low) refl
+  | inr past ↦
+      let row = take (x * order + order - x * order) (drop (x * order) rows) in
+      let long : length row ≡ order = part_long (x * order) order rows l in
+      rw (le-ltb z (length row) (omega arith), le-ltb z order past) refl
+]
 
 -- one element's context more
 module _
@@ -143,10 +120,8 @@ module _
           (let b = row_there w x count earlier in omega arith))
           ∙ bits w z earlier
       | inr late ↦
-          let e : x ≡ w = omega arith in
-          subst (λ v. has (slice_range after (v * count) (v * count + count)) z
-          ≡ product_marked order rows marked v z) e
-          (ap (λ (ls : List ℕ). has (slice_range ls (x * count) (x * count + count)) z) a.behind
+          let e : w ≡ x = omega arith in
+          rw e (ap (λ (ls : List ℕ). has (slice_range ls (x * count) (x * count + count)) z) a.behind
           ∙ ap (λ (ls : List ℕ). has ls z)
           (part_behind before a.more (x * count) count long more_long)
           ∙ a.bits z ∙ row_marks order rows marked x z row_within)

@@ -1,5 +1,5 @@
 -- What is made of a compact certificate.
-use Rattle.std.proofs.Common.{◌≡◌, ℕ, zero, suc, ◌+◌, ◌-◌, ◌<◌, ◌≤◌, List, [], ◌∷◌, refl, ◌∙◌, sym, ap, subst, arith, length, take, drop, get_or, All}
+use Rattle.std.proofs.Common.{◌≡◌, ℕ, zero, suc, ◌+◌, ◌-◌, ◌<◌, ◌≤◌, List, [], ◌∷◌, refl, ◌∙◌, sym, ap, arith, length, take, drop, get_or, All}
 use Rattle.std.specs.Prelude.{slice_index}
 use Rattle.std.specs.List.{range_with_len}
 use Rattle.std.proofs.lemmas.List.{get_or-map, length-map, length-drop, take_at}
@@ -51,9 +51,7 @@ module _ (c : Certificate) (h : IsCompact c) where
       let e = firsts_of c.words + 1 + i in
       let n = known_count in
       let m = keys_count in
-      let k = key_behind c i e refl in
-      let falls : (get_or keys i (0, 0)).0 < e =
-      subst (λ (v : ℕ × ℕ). v.0 < e) (sym k) (h.expandable.falls e (omega arith) (omega arith)) in
+      let falls = rw (← key_behind c i e refl) at (h.expandable.falls e (omega arith) (omega arith)) in
       let heap = phi_first c h.expandable.heaps (get_or keys i (0, 0)).1 in
       (omega arith, omega arith)
 

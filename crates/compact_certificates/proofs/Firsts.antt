@@ -1,5 +1,5 @@
 -- How many elements are first ones, and the test whether rows can be made.
-use Rattle.std.proofs.Common.{◌≡◌, ℕ, zero, suc, ◌+◌, ◌-◌, ◌<◌, ◌≤◌, ◌==◌, nat_lt, nat_le, true, List, [], ◌∷◌, refl, ◌∙◌, sym, ap, subst, arith, length, drop, get_or}
+use Rattle.std.proofs.Common.{◌≡◌, ℕ, zero, suc, ◌+◌, ◌-◌, ◌<◌, ◌≤◌, ◌==◌, nat_lt, nat_le, true, List, [], ◌∷◌, refl, ◌∙◌, sym, ap, arith, length, drop, get_or}
 use Rattle.std.specs.List.{list_all}
 use Rattle.std.proofs.lemmas.Bool.{true≢false, and_parts, eq-eqb, eqb-true, lt-ltb, ltb-true, le-leb, leb-true}
 use Rattle.std.specs.Cmp.Derive.{both_true}
@@ -77,8 +77,7 @@ module _ (c : Certificate) (count : length c.words + 1 ≡ c.order) where
             let b =
             fall_by_test (firsts_of c.words + 1) (drop (firsts_of c.words) c.words) p.1 i
             (omega arith) in
-            subst (λ (k : ℕ × ℕ). k.0 < e) (key_behind c i e place)
-            (subst (λ v. (get_or (drop (firsts_of c.words) c.words) i (0, 0)).0 < v) place b);
+            rw (place, key_behind c i e place) at b;
       }
 
   pub test_told : IsExpandable c → is_expandable c ≡ true
@@ -89,5 +88,4 @@ module _ (c : Certificate) (count : length c.words + 1 ≡ c.order) where
       (test_by_fall (firsts_of c.words + 1) (drop (firsts_of c.words) c.words) (λ i l.
       let n = keys_behind in
       let e = firsts_of c.words + 1 + i in
-      subst (λ (k : ℕ × ℕ). k.0 < e) (sym (key_behind c i e refl))
-      (h.falls e (omega arith) (omega arith))))
+      rw (key_behind c i e refl) (h.falls e (omega arith) (omega arith))))

@@ -23,19 +23,16 @@ pub row_lies : (q : ℕ) (rows : List (List ℕ)) (x : ℕ) → All (λ row. len
     → x < length rows → row_in q (concat rows) x ≡ get_or rows x []
 row_lies q [] x h l = absurd (omega arith)
 row_lies q (row ∷ rows) zero h l =
-    let long : length row ≡ q = h 0 [] (omega arith) in
-    let from : zero * q ≡ 0 = omega arith in
     let size : zero * q + q - zero * q ≡ q = omega arith in
-    ap₂ (λ n k. take n (drop k (row ++ concat rows))) size from
-    ∙ take_at row (concat rows) q long
+    let from : zero * q ≡ 0 = omega arith in
+    rw (size, from) (take_at row (concat rows) q (h 0 [] (omega arith)))
 row_lies q (row ∷ rows) (suc x) h l =
     let long : length row ≡ q = h 0 [] (omega arith) in
     let more : suc x * q ≡ x * q + q = suc-mul x q in
-    let from : suc x * q ≡ length row + x * q = omega arith in
     let size : suc x * q + q - suc x * q ≡ x * q + q - x * q = omega arith in
-    ap₂ (λ n k. take n (drop k (row ++ concat rows))) size from
-    ∙ ap (take (x * q + q - x * q)) (drop-append-add row (concat rows) (x * q))
-    ∙ row_lies q rows x (All-tail (λ r. length r ≡ q) row rows h) (omega arith)
+    let from : suc x * q ≡ length row + x * q = omega arith in
+    rw (size, from, drop-append-add row (concat rows) (x * q))
+    (row_lies q rows x (All-tail (λ r. length r ≡ q) row rows h) (omega arith))
 
 -- what is put behind them is the row of a key's product
 pub product_lies : (q : ℕ) (phi : ℕ → ℕ) (rows : List (List ℕ)) (key : ℕ × ℕ)

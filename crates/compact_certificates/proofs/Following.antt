@@ -1,5 +1,5 @@
 -- Of an accepted certificate all that a compact text leaves out follows.
-use Rattle.std.proofs.Common.{◌≡◌, ℕ, suc, ◌+◌, ◌-◌, ◌<◌, ◌≤◌, ◌∙◌, sym, ap, subst, arith, get_or, inl, inr, eq-zero-or-pos, All}
+use Rattle.std.proofs.Common.{◌≡◌, ℕ, suc, ◌+◌, ◌-◌, ◌<◌, ◌≤◌, ◌∙◌, sym, ap, arith, inl, inr, eq-zero-or-pos, All}
 use Rattle.std.proofs.lemmas.Grind.{get_or_default_zero}
 use native.Mathlib.Decide.{ℕ_discrete}
 use Rattle.misere_theory.specs.Certificates.{Certificate, phi_at, times_of, key_of, IsHeapOf, Accepted}
@@ -20,16 +20,15 @@ module _ (c : Certificate) (a : Accepted c) where
       elim (eq-zero-or-pos (key_of c (phi_at c h)).0) [
         | inl z ↦ z
         | inr pos ↦ absurd
-            (a.canonical.numbered.least 0 h a.represents.monoid.some one (omega arith)
-            (subst (λ v. 0 < v) (sym e) some)
-            (inl (subst (λ v. 0 < (key_of c v).0) (sym e) pos)))
+            (a.canonical.numbered.least 0 h a.represents.monoid.some one (omega arith) (rw e some)
+            (inl (rw e pos)))
       ]
 
   -- keys rise, so the keys before it have the element 0 too
   keys_are_first : (e d : ℕ) → 0 < d → d ≤ e → e < c.order → (key_of c e).0 ≡ 0
       → (key_of c d).0 ≡ 0
   keys_are_first e d some l high z = elim (ℕ_discrete d e) [
-    | yes same ↦ subst (λ v. (key_of c v).0 ≡ 0) (sym same) z
+    | yes same ↦ rw same z
     | no f ↦ elim (a.canonical.numbered.rising d e some (omega arith) high) [
       | inl below ↦ absurd (omega arith)
       | inr here ↦ here.0 ∙ z
@@ -44,17 +43,16 @@ module _ (c : Certificate) (a : Accepted c) where
         let n = a.in_ranges.words.0 in
         firsts_from c.words (phi_at c h) (omega arith) (λ i l.
         let place : suc i - 1 ≡ i = omega arith in
-        subst (λ j. (get_or c.words j (0, 0)).0 ≡ 0) place
-        (keys_are_first (phi_at c h) (suc i) (omega arith) l high
+        rw place at (keys_are_first (phi_at c h) (suc i) (omega arith) l high
         (key_is_first h one low some)))
   ]
 
   heaps_first : All (λ x. x ≤ firsts_of c.words) c.phi
   heaps_first k d l =
       let n = a.in_ranges.phi.0 in
-      subst (λ v. v ≤ firsts_of c.words)
-      (entry_at c a.in_ranges k l ∙ sym (get_or_default_zero c.phi k d l))
-      (entry_first (suc k) (omega arith) (omega arith))
+      let e = entry_first (suc k) (omega arith) (omega arith) in
+      let is = entry_at c a.in_ranges k l ∙ sym (get_or_default_zero c.phi k d l) in
+      omega arith
 
   pub accepted_follows : Follows c
   accepted_follows = record {

@@ -1,5 +1,5 @@
 -- The least element that tells a pair apart.
-use Rattle.std.proofs.Common.{◌≡◌, ◌≢◌, ℕ, zero, suc, ◌+◌, ◌<◌, ◌≤◌, Bool, true, false, cond, not, List, [], ◌∷◌, ◌++◌, refl, ◌∙◌, sym, ap, ap₂, arith, map, Option, Some, None}
+use Rattle.std.proofs.Common.{◌≡◌, ◌≢◌, ℕ, zero, suc, ◌+◌, ◌<◌, ◌≤◌, Bool, true, false, cond, not, List, [], ◌∷◌, ◌++◌, refl, ◌∙◌, sym, ap, ap₂, arith, map, Some, None}
 use Rattle.std.specs.Bool.{beq}
 use Rattle.std.specs.List.{find, range_with_len, AllZip}
 use Rattle.std.specs.Option.{unwrap_or}
@@ -89,8 +89,10 @@ module _
       → find p (range_with_len a n) ≡ find q (range_with_len a n)
   find_same p q a zero h = refl
   find_same p q a (suc n) h =
-      ap₂ (λ (b : Bool) (rest : Option ℕ). cond b (Some a) rest) (h a (omega arith) (omega arith))
-      (find_same p q (a + 1) n (λ z l b. h z (omega arith) (omega arith)))
+      rw (
+        h a (omega arith) (omega arith),
+        find_same p q (a + 1) n (λ z l b. h z (omega arith) (omega arith)),
+      ) refl
 
   same_side : (x z : ℕ) → x < c.order → z < c.order
       → c.portion (c.times x z) ≡ d.portion (d.times x z)

@@ -5,7 +5,6 @@ pub mod Phi
 pub mod Following
 pub mod Back
 pub mod Expanding
-pub mod Replaced
 pub mod FlatRows
 pub mod Bits
 pub mod Told

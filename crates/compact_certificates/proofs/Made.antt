@@ -1,5 +1,5 @@
 -- The rows that are made of the first ones.
-use Rattle.std.proofs.Common.{◌≡◌, ℕ, zero, suc, ◌+◌, ◌<◌, List, [], ◌∷◌, ◌++◌, refl, ◌∙◌, sym, ap, ap₂, subst, arith, map, length, get_or, length-append, append_assoc, All}
+use Rattle.std.proofs.Common.{◌≡◌, ℕ, zero, suc, ◌+◌, ◌<◌, List, [], ◌∷◌, ◌++◌, refl, ◌∙◌, sym, ap, ap₂, arith, map, length, get_or, length-append, append_assoc, All}
 use Rattle.std.specs.Prelude.{slice_index}
 use Rattle.std.proofs.Math.ListN.{get_or-append}
 use Rattle.std.proofs.Math.Seq.{get_or-append_seam}
@@ -73,7 +73,7 @@ module _ (phi : ℕ → ℕ) where
       let place : length rows + suc i ≡ length (rows ++ row ∷ []) + i = omega arith in
       ap (λ j. get_or (rows_by phi (k ∷ ks) rows) j []) place
       ∙ made_at ks (rows ++ row ∷ [])
-      (subst (Precede ks) (sym n) (precede_behind k ks (length rows) h)) i (omega arith)
+      (rw n (precede_behind k ks (length rows) h)) i (omega arith)
 
   row_fits : (q : ℕ) (rows : List (List ℕ)) (k : ℕ × ℕ) → All (IsRow q) rows
       → k.0 < length rows → phi k.1 < length rows → IsRow q (row_by phi rows k)
@@ -100,4 +100,4 @@ module _ (phi : ℕ → ℕ) where
       let high = b.1 in
       made_fit q ks (rows ++ row ∷ [])
       (All-push (IsRow q) rows row fits (row_fits q rows k fits (omega arith) (omega arith)))
-      (subst (Precede ks) (sym (one_more rows row)) (precede_behind k ks (length rows) h))
+      (rw (one_more rows row) (precede_behind k ks (length rows) h))

@@ -1,5 +1,5 @@
 -- The separators of a claim, told by the contexts of its elements.
-use Rattle.std.proofs.Common.{◌≡◌, ◌≢◌, ℕ, zero, suc, ◌+◌, ◌-◌, ◌*◌, ◌<◌, ◌≤◌, Bool, false, List, [], ◌∷◌, ◌++◌, ◌∙◌, sym, ap, inl, inr, arith, map, lt-ltb, le-ltb, append_assoc}
+use Rattle.std.proofs.Common.{◌≡◌, ◌≢◌, ℕ, zero, suc, ◌+◌, ◌-◌, ◌*◌, ◌<◌, ◌≤◌, Bool, false, List, [], ◌∷◌, ◌++◌, ◌∙◌, sym, ap, inl, inr, arith, map, lt-ltb, le-ltb, append_assoc, refl}
 use Rattle.std.specs.Prelude.{◌&&◌, slice_range}
 use Rattle.std.proofs.lemmas.Bool.{cases_lt}
 use Rattle.std.proofs.lemmas.List.{append-nil, map-append}
@@ -43,11 +43,10 @@ module _ (c : Claim) (count : ℕ) (lanes : List ℕ) (h : AreContexts c count l
 
 -- one pair more
 pub pairs_with_more : (x y n : ℕ) → pairs_with x y (suc n) ≡ pairs_with x y n ++ (x, y + n) ∷ []
-pairs_with_more x y zero = let e : y ≡ y + 0 = omega arith in ap (λ v. (x, v) ∷ []) e
+pairs_with_more x y zero = let e : y + 0 ≡ y = omega arith in rw e refl
 pairs_with_more x y (suc n) =
-    let e : y + 1 + n ≡ y + suc n = omega arith in
-    ap (λ (ps : List (ℕ × ℕ)). (x, y) ∷ ps) (pairs_with_more x (y + 1) n)
-    ∙ ap (λ v. (x, y) ∷ (pairs_with x (y + 1) n ++ (x, v) ∷ [])) e
+    let e : y + suc n ≡ y + 1 + n = omega arith in
+    rw e (ap (λ (ps : List (ℕ × ℕ)). (x, y) ∷ ps) (pairs_with_more x (y + 1) n))
 
 module _ (f : ℕ × ℕ → ℕ) where
   -- the pair of x and y is told as well
@@ -60,16 +59,12 @@ module _ (f : ℕ × ℕ → ℕ) where
       let n = y - (x + 1) in
       let count : y + 1 - (x + 1) ≡ suc n = omega arith in
       let place : x + 1 + n ≡ y = omega arith in
-      let longer : map f (pairs_with x (x + 1) n) ++ s ∷ []
-      ≡ map f (pairs_with x (x + 1) (y + 1 - (x + 1))) =
-      ap (λ v. map f (pairs_with x (x + 1) n) ++ v ∷ [])
-      (is ∙ ap (λ v. f (x, v)) (sym place))
-      ∙ sym (map-append f (pairs_with x (x + 1) n) ((x, x + 1 + n) ∷ []))
-      ∙ ap (map f) (sym (pairs_with_more x (x + 1) n))
-      ∙ ap (λ k. map f (pairs_with x (x + 1) k)) (sym count) in
-      g ∙ ap (λ (zs : List ℕ). zs ++ s ∷ []) e
-      ∙ append_assoc before (map f (pairs_with x (x + 1) n)) (s ∷ [])
-      ∙ ap (λ (zs : List ℕ). before ++ zs) longer
+      let more = rw place at (pairs_with_more x (x + 1) n) in
+      let longer : map f (pairs_with x (x + 1) (y + 1 - (x + 1)))
+      ≡ map f (pairs_with x (x + 1) n) ++ f (x, y) ∷ [] =
+      ap (λ k. map f (pairs_with x (x + 1) k)) count ∙ ap (map f) more
+      ∙ map-append f (pairs_with x (x + 1) n) ((x, y) ∷ []) in
+      rw (g, e, is, longer) (append_assoc before (map f (pairs_with x (x + 1) n)) (f (x, y) ∷ []))
 
   -- the pairs of x are told as well
   pub one_row_more : (told after whole : List ℕ) (x order : ℕ) → x < order
@@ -83,12 +78,10 @@ module _ (f : ℕ × ℕ → ℕ) where
       ∙ append_assoc told (map f (pairs_with x (x + 1) n)) (map f (pairs_from (x + 1) n))
       ∙ ap (λ (zs : List ℕ). told ++ zs)
       (sym (map-append f (pairs_with x (x + 1) n) (pairs_from (x + 1) n)))
-      ∙ ap (λ k. told ++ map f (pairs_from x k)) (sym count)
-      ∙ e
+      ∙ (rw count at e)
 
   -- no pair is left
   pub all_pairs_told : (told whole : List ℕ) (x order : ℕ) → order ≤ x
       → told ++ map f (pairs_from x (order - x)) ≡ whole → told ≡ whole
   all_pairs_told told whole x order l e =
-      let none : order - x ≡ 0 = omega arith in
-      sym (append-nil told) ∙ ap (λ k. told ++ map f (pairs_from x k)) (sym none) ∙ e
+      let none : order - x ≡ 0 = omega arith in sym (append-nil told) ∙ (rw none at e)

@@ -1,8 +1,11 @@
 -- What `describe` prints. This project's own.
-use Rattle.std.specs.Prelude.{◌≡◌, ◌⊎◌, ℕ, Bool, true, false, List, ◌++◌, Option, Result, Ok, Err, Vec, codes}
+use Rattle.std.specs.Prelude.{◌≡◌, ◌⊎◌, ℕ, Bool, true, false, List, ◌++◌, Option, None, option_map, Result, Ok, Err, Vec, codes}
 use Rattle.misere_theory.specs.Certificates.{Certificate}
 use Rattle.check_command.specs.Checks.{Certifies, Checks}
-use Rattle.descriptions.specs.Described.{IsDescription, IsIdealText, IsPresentable}
+use Rattle.descriptions.specs.Described.{IsDescription, IsIdealText}
+use Rattle.descriptions.specs.Presenting.{IsRelationsWord}
+use Rattle.descriptions.specs.declared.presenting.PresentBound.{PresentBound}
+use Rattle.descriptions.specs.declared.presenting.PresentBound.TheVariants as beyond
 use Rattle.descriptions.specs.declared.systems.System.{System}
 use Rattle.descriptions.specs.declared.systems.System.TheVariants as system
 use Rattle.relations.specs.declared.text.Notation.{Notation}
@@ -26,14 +29,19 @@ IsBoundLine text =
     ⊎ ((text ≡ codes "not described within exponents of 64\n")
     ⊎ (text ≡ codes "not described within 512 rules\n"))
 
--- the line of relations that `present` takes
-abbrev pub IsRelationsText : Certificate → List ℕ → Type 0
-IsRelationsText c text = (line : List ℕ) × IsPresentable c line × (text ≡ line ++ codes "\n")
+-- the line that names the bound of `present` that relations are above
+abbrev pub note_line : PresentBound → List ℕ
+note_line beyond.Relations =
+    codes "misere: present refuses these relations: more than 64 of them\n"
+note_line beyond.Powers =
+    codes "misere: present refuses these relations: a letter without a relation of its own powers\n"
+note_line beyond.Box =
+    codes "misere: present refuses these relations: a box above 65536, or more than 256 elements\n"
 
--- the box or the list is above the bounds of `present`, or the quotient isn't described
-abbrev pub IsNoRelationsLine : List ℕ → Type 0
-IsNoRelationsLine text =
-    IsBoundLine text ⊎ (text ≡ codes "not described within the bounds of present\n")
+-- the line of relations, and beside it the note of the bound of `present` that they are above
+abbrev pub IsRelationsText : Certificate → List ℕ → Option (List ℕ) → Type 0
+IsRelationsText c text note = (word : List ℕ) × (above : Option PresentBound)
+    × IsRelationsWord c word above × (text ≡ word ++ codes "\n") × (note ≡ option_map note_line above)
 
 -- the text describes the quotient, plain, for LaTeX or in JSON, or says that it isn't described
 abbrev pub DescribesIn : Notation → Certificate → List ℕ → Bool → Type 0
@@ -46,27 +54,35 @@ DescribesFor for c text succeeds =
     (IsIdealText for c text × (succeeds ≡ true)) ⊎ (IsBoundLine text × (succeeds ≡ false))
 
 -- The text describes the quotient, or is its relations as one word or as an ideal, or says that it
--- isn't described.
-abbrev pub DescribesQuotient : Certificate → Output → List ℕ → Bool → Type 0
-DescribesQuotient c Description text succeeds = DescribesIn written.Plain c text succeeds
-DescribesQuotient c Latex text succeeds = DescribesIn written.Latex c text succeeds
-DescribesQuotient c Json text succeeds = DescribesIn written.Json c text succeeds
-DescribesQuotient c Singular text succeeds = DescribesFor system.Singular c text succeeds
-DescribesQuotient c Gap text succeeds = DescribesFor system.Gap c text succeeds
-DescribesQuotient c Relations text succeeds =
-    (IsRelationsText c text × (succeeds ≡ true)) ⊎ (IsNoRelationsLine text × (succeeds ≡ false))
+-- isn't described. Beside relations that `present` refuses there is a note, and else none.
+abbrev pub DescribesQuotient : Certificate → Output → List ℕ → Bool → Option (List ℕ) → Type 0
+DescribesQuotient c Description text succeeds note =
+    DescribesIn written.Plain c text succeeds × (note ≡ None)
+DescribesQuotient c Latex text succeeds note =
+    DescribesIn written.Latex c text succeeds × (note ≡ None)
+DescribesQuotient c Json text succeeds note =
+    DescribesIn written.Json c text succeeds × (note ≡ None)
+DescribesQuotient c Singular text succeeds note =
+    DescribesFor system.Singular c text succeeds × (note ≡ None)
+DescribesQuotient c Gap text succeeds note =
+    DescribesFor system.Gap c text succeeds × (note ≡ None)
+DescribesQuotient c Relations text succeeds note =
+    (IsRelationsText c text note × (succeeds ≡ true))
+    ⊎ (IsBoundLine text × (succeeds ≡ false) × (note ≡ None))
 
 -- the same of the quotient that was found, and the text of a no where none was
 abbrev pub DescribesFound : {A : Type 0} → Result Certificate (Vec ℕ A) → Output → List ℕ → Bool
-    → Type 0
-DescribesFound (Ok c) output text succeeds = DescribesQuotient c output text succeeds
-DescribesFound (Err said) output text succeeds = (text ≡ said.items) × (succeeds ≡ false)
+    → Option (List ℕ) → Type 0
+DescribesFound (Ok c) output text succeeds note = DescribesQuotient c output text succeeds note
+DescribesFound (Err said) output text succeeds note =
+    (text ≡ said.items) × (succeeds ≡ false) × (note ≡ None)
 
 -- The text describes the quotient that such bytes certify under the limit, or says that it isn't
--- described; or it is that of a true no.
+-- described; or it is that of a true no. Beside relations that `present` refuses there is a note.
 pub data Describes (Are : List ℕ → Type 0) (limit : ℕ) (output : Output) (text : List ℕ)
-    (succeeds : Bool) : Type 0 where
-  Quotient : (c : Certificate) → Certifies Are limit c → DescribesQuotient c output text succeeds
-      → Describes Are limit output text succeeds
-  NoQuotient : Checks Are limit text false → succeeds ≡ false
-      → Describes Are limit output text succeeds
+    (succeeds : Bool) (note : Option (List ℕ)) : Type 0 where
+  Quotient : (c : Certificate) → Certifies Are limit c
+      → DescribesQuotient c output text succeeds note
+      → Describes Are limit output text succeeds note
+  NoQuotient : Checks Are limit text false → succeeds ≡ false → note ≡ None
+      → Describes Are limit output text succeeds note

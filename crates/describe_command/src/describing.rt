@@ -1,33 +1,45 @@
 //! `describe`: a certified quotient by generators and relations.
-ghost use Rattle.std.specs.Prelude.{◌≡◌, IfOk, IfErr, false, is_none, is_some, option_map};
+ghost use Rattle.std.specs.Prelude.{◌≡◌, ◌++◌, IfOk, IfErr, None, true, false, codes, is_none, is_some, option_map};
+ghost use Rattle.std.specs.String.{string_bytes};
 ghost use Rattle.check_command.specs.Checks.{AreGiven, IsGivenCause, failed};
-ghost use Rattle.describe_command.specs.Described.{Describes, DescribesFound, DescribesIn, DescribesFor, DescribesQuotient, IsBoundLine, bound_line};
+ghost use Rattle.describe_command.specs.Described.{Describes, DescribesFound, DescribesIn, DescribesFor, DescribesQuotient, IsBoundLine, bound_line, note_line};
 ghost use Rattle.requests.specs.declared.plans.Output.TheVariants.{Relations};
 
 use allocation::Memory;
 use answers::Certified;
 use check_command::certified;
-use command_results::{Said, Stop};
+use command_results::{Noted, Said, Stop};
 use descriptions::{
-    Form, Notation, System, Undescribed, description_text, ideal_text, presentable_text,
+    Form, Notation, PresentBound, RelationsWord, System, Undescribed, description_text, ideal_text,
+    relations_word,
 };
 use folders::Folder;
 use requests::Output;
 use std::alloc::Global;
 use streams::Source;
 
+/// What is said, with nothing told beside it.
+fn alone(said: Said) -> Noted
+    ensures said { result.said ≡ said }
+    ensures note { option_map (λ t. t.now) result.note ≡ None }
+{
+    Noted { said, note: None }
+}
+
 /// The line of a no.
-fn refuse(alloc: Global, line: &str) -> Result<Said, Memory>
-    ensures { IfOk result (λ s. (s.text.items ≡ line.now) × (s.succeeds ≡ false)) }
+fn refuse(alloc: Global, line: &str) -> Result<Noted, Memory>
+    ensures { IfOk result (λ n. (n.said.text.items ≡ line.now) × (n.said.succeeds ≡ false)
+        × (option_map (λ t. t.now) n.note ≡ None)) }
 {
     let text = line.as_bytes().to_vec(alloc)?;
-    Ok(Said::no(text))
+    Ok(alone(Said::no(text)))
 }
 
 /// The line that says within which bound a quotient is not described.
-fn undescribed(alloc: Global, fault: Undescribed) -> Result<Said, Memory>
-    ensures bound { IfOk result (λ s. IsBoundLine s.text.items × (s.succeeds ≡ false)) }
-    ensures line { IfOk result (λ s. s.text.items ≡ bound_line fault) }
+fn undescribed(alloc: Global, fault: Undescribed) -> Result<Noted, Memory>
+    ensures bound { IfOk result (λ n. IsBoundLine n.said.text.items × (n.said.succeeds ≡ false)
+        × (option_map (λ t. t.now) n.note ≡ None)) }
+    ensures line { IfOk result (λ n. n.said.text.items ≡ bound_line fault) }
 {
     match fault {
         Undescribed::Letters => refuse(alloc, "not described within 26 generators\n"),
@@ -43,11 +55,13 @@ fn described(
     certified: &Certified,
     form: Form,
     notation: Notation,
-) -> Result<Said, Memory>
-    ensures { IfOk result (λ s. DescribesIn notation certified.now s.text.items s.succeeds) }
+) -> Result<Noted, Memory>
+    ensures { IfOk result
+        (λ n. DescribesIn notation certified.now n.said.text.items n.said.succeeds
+        × (option_map (λ t. t.now) n.note ≡ None)) }
 {
     match description_text(alloc, notation, certified, form) {
-        Ok(text) => Ok(Said::done(text)),
+        Ok(text) => Ok(alone(Said::done(text))),
         Err(fault) => undescribed(alloc, fault),
     }
 }
@@ -58,38 +72,72 @@ fn computed(
     certified: &Certified,
     form: Form,
     system: System,
-) -> Result<Said, Memory>
-    ensures { IfOk result (λ s. DescribesFor system certified.now s.text.items s.succeeds) }
+) -> Result<Noted, Memory>
+    ensures { IfOk result
+        (λ n. DescribesFor system certified.now n.said.text.items n.said.succeeds
+        × (option_map (λ t. t.now) n.note ≡ None)) }
 {
     match ideal_text(alloc, system, certified, form) {
-        Ok(text) => Ok(Said::done(text)),
+        Ok(text) => Ok(alone(Said::done(text))),
         Err(fault) => undescribed(alloc, fault),
     }
 }
 
-/// The relations of the quotient, as `present` takes them.
-fn presented(alloc: Global, certified: &Certified, form: Form) -> Result<Said, Memory>
-    ensures { IfOk result
-        (λ s. DescribesQuotient certified.now Relations s.text.items s.succeeds) }
+/// The line that names the bound of `present` that relations are above, if they are above one.
+fn note_of(beyond: Option<PresentBound>) -> Option<&'static str>
+    ensures { option_map (λ t. t.now) result ≡ option_map note_line beyond }
 {
-    match presentable_text(alloc, certified, form) {
-        Ok(Some(line)) => {
-            let text = format!(in alloc; "{line}\n")?;
-            Ok(Said::done(text))
+    match beyond {
+        Some(PresentBound::Relations) => {
+            Some("misere: present refuses these relations: more than 64 of them\n")
         }
-        Ok(None) => refuse(alloc, "not described within the bounds of present\n"),
+        Some(PresentBound::Powers) => Some(
+            "misere: present refuses these relations: a letter without a relation of its own powers\n",
+        ),
+        Some(PresentBound::Box) => Some(
+            "misere: present refuses these relations: a box above 65536, or more than 256 elements\n",
+        ),
+        None => None,
+    }
+}
+
+/// The line of relations, and the note where `present` refuses them.
+fn line_of(alloc: Global, found: RelationsWord) -> Result<Noted, Memory>
+    ensures text { IfOk result
+        (λ n. n.said.text.items ≡ string_bytes found.word ++ codes "\n") }
+    ensures succeeds { IfOk result (λ n. n.said.succeeds ≡ true) }
+    ensures note { IfOk result
+        (λ n. option_map (λ t. t.now) n.note ≡ option_map note_line found.beyond) }
+{
+    let note = note_of(found.beyond);
+    let word = found.word;
+    let text = format!(in alloc; "{word}\n")?;
+    Ok(Noted {
+        said: Said::done(text),
+        note,
+    })
+}
+
+/// The relations of the quotient as one word for `present`, and the note where it refuses them.
+fn presented(alloc: Global, certified: &Certified, form: Form) -> Result<Noted, Memory>
+    ensures { IfOk result (λ n. DescribesQuotient certified.now Relations n.said.text.items
+        n.said.succeeds (option_map (λ t. t.now) n.note)) }
+{
+    match relations_word(alloc, certified, form) {
+        Ok(found) => line_of(alloc, found),
         Err(fault) => undescribed(alloc, fault),
     }
 }
 
-/// What is said of what was found.
-fn said(
+/// What is said of what was found, and told beside it.
+fn noted(
     alloc: Global,
     quotient: Result<Certified, Vec<u8>>,
     form: Form,
     output: Output,
-) -> Result<Said, Memory>
-    ensures { IfOk result (λ s. DescribesFound quotient output s.text.items s.succeeds) }
+) -> Result<Noted, Memory>
+    ensures { IfOk result (λ n. DescribesFound quotient output n.said.text.items n.said.succeeds
+        (option_map (λ t. t.now) n.note)) }
 {
     match quotient {
         Ok(certified) => match output {
@@ -100,15 +148,16 @@ fn said(
             Output::Singular => computed(alloc, &certified, form, System::Singular),
             Output::Gap => computed(alloc, &certified, form, System::Gap),
         },
-        Err(no) => Ok(Said::no(no)),
+        Err(no) => Ok(alone(Said::no(no))),
     }
 }
 
 /// The quotient that the file, or standard input where no file is named, certifies under the limit,
 /// described: by relations that present its monoid in this form, with its portion, orders,
 /// generators, standard invariants and the pretending function in words, plain, for LaTeX or in JSON;
-/// or by its relations alone, as one word that `present` takes, or as an ideal for Singular or GAP. Or
-/// else why it certifies none, or within which bound it is not described.
+/// or by its relations alone, as one word for `present`, or as an ideal for Singular or GAP. Or else why
+/// it certifies none, or within which bound it is not described. The note names the bound of `present`
+/// that the one word's relations are above.
 pub fn describe<'a, F: Folder, S: Source>(
     alloc: Global,
     file: Option<&'a str>,
@@ -117,10 +166,10 @@ pub fn describe<'a, F: Folder, S: Source>(
     output: Output,
     folder: &mut F,
     input: &mut S,
-) -> Result<Said, Stop<'a>>
+) -> Result<Noted, Stop<'a>>
     ensures describes { let named = option_map (λ f. f.now) file.entry in
-        IfOk result (λ s. Describes (AreGiven (S.left input.old) (F.files folder.old) named) limit
-        output s.text.items s.succeeds) }
+        IfOk result (λ n. Describes (AreGiven (S.left input.old) (F.files folder.old) named) limit
+        output n.said.text.items n.said.succeeds (option_map (λ t. t.now) n.note)) }
     ensures kept { F.files folder.new ≡ F.files folder.old }
     ensures stops { IfErr result (IsGivenCause (option_map (λ f. f.now) file.entry)
         (failed (S.failures input.old) (F.failed_reads folder.old))
@@ -130,8 +179,8 @@ pub fn describe<'a, F: Folder, S: Source>(
         → folder.new ≡ folder.old }
 {
     let quotient = certified(alloc, file, limit, folder, input)?;
-    match said(alloc, quotient, form, output) {
-        Ok(said) => Ok(said),
+    match noted(alloc, quotient, form, output) {
+        Ok(noted) => Ok(noted),
         Err(Memory) => Err(Stop::Memory),
     }
 }

@@ -1,6 +1,6 @@
 -- A group in which each square is its identity, a subgroup of it that is listed, and the subgroup
 -- with one of its cosets.
-use Rattle.std.proofs.Common.{◌≡◌, ◌∙◌, ℕ, ◌+◌, ◌-◌, ◌<◌, ◌≤◌, ◌⊎◌, inl, inr, refl, sym, ap, ap₂, subst, arith}
+use Rattle.std.proofs.Common.{◌≡◌, ◌∙◌, ℕ, if◌then◌else◌, nat_lt, lt-ltb, le-ltb, ◌+◌, ◌-◌, ◌<◌, ◌≤◌, ◌⊎◌, inl, inr, refl, sym, ap, ap₂, subst, arith}
 use Rattle.std.proofs.lemmas.Bool.{cases_lt}
 use Rattle.misere_theory.specs.Quotients.{Monoid}
 use Rattle.descriptions.proofs.Counted.{OnceBelow, Misses}
@@ -13,32 +13,18 @@ pub record InGroup (n : ℕ) (t : ℕ → ℕ → ℕ) (e x : ℕ) : Type 0 wher
 
 -- the first l, and behind them their products with b
 pub grown : (ℕ → ℕ → ℕ) → ℕ → ℕ → (ℕ → ℕ) → ℕ → ℕ
-grown t b l u i = elim (cases_lt i l) [ inl p ↦ u i | inr q ↦ t b (u (i - l)) ]
-
-grown-is : (t : ℕ → ℕ → ℕ) (b l : ℕ) (u : ℕ → ℕ) (i : ℕ)
-    → ((i < l) × (grown t b l u i ≡ u i)) ⊎ ((l ≤ i) × (grown t b l u i ≡ t b (u (i - l))))
-unfolding grown
-grown-is t b l u i =
-    elim (cases_lt i l) as
-    (λ s. ((i < l) × (elim s [ inl p ↦ u i | inr q ↦ t b (u (i - l)) ] ≡ u i))
-    ⊎ ((l ≤ i) × (elim s [ inl p ↦ u i | inr q ↦ t b (u (i - l)) ] ≡ t b (u (i - l))))) [
-      | inl p ↦ inl (p, refl)
-      | inr q ↦ inr (q, refl)
-    ]
+grown t b l u i = if nat_lt i l then u i else t b (u (i - l))
 
 pub grown-low : (t : ℕ → ℕ → ℕ) (b l : ℕ) (u : ℕ → ℕ) (i : ℕ) → i < l → grown t b l u i ≡ u i
-grown-low t b l u i lt = elim (grown-is t b l u i) [
-  | inl w ↦ w.1
-  | inr w ↦ absurd (omega (arith, w.0, lt))
-]
+unfolding grown
+grown-low t b l u i lt = rw (lt-ltb i l lt) refl
 
 pub grown-high : (t : ℕ → ℕ → ℕ) (b l : ℕ) (u : ℕ → ℕ) (j : ℕ) → grown t b l u (l + j) ≡ t b (u j)
-grown-high t b l u j = elim (grown-is t b l u (l + j)) [
-  | inl w ↦ absurd (omega (arith, w.0))
-  | inr w ↦
-      let back : (l + j) - l ≡ j = omega arith in
-      w.1 ∙ ap (λ k. t b (u k)) back
-]
+unfolding grown
+grown-high t b l u j =
+    let past : l ≤ l + j = omega arith in
+    let back : (l + j) - l ≡ j = omega arith in
+    rw (le-ltb (l + j) l past) (ap (λ k. t b (u k)) back)
 
 -- where number i of the grown ones stands
 abbrev pub Place : ℕ → ℕ → Type 0

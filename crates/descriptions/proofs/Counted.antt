@@ -1,7 +1,12 @@
 -- The pigeonhole principle for functions of numbers, and where a number stands among their first
 -- values.
-use Rattle.std.proofs.Common.{◌≡◌, ◌≢◌, ◌∙◌, ℕ, zero, suc, ◌<◌, ◌≤◌, ◌⊎◌, inl, inr, refl, sym, ap, subst, arith}
-use Rattle.std.proofs.lemmas.Bool.{cases_eq}
+use Rattle.std.proofs.Common.{◌≡◌, ◌≢◌, ◌∙◌, ℕ, zero, suc, ◌<◌, ◌≤◌, ◌⊎◌, inl, inr, List, get_or, map, eqb, refl, sym, ap, subst, arith}
+use Rattle.std.specs.List.{range_with_len}
+use Rattle.std.proofs.lemmas.Bool.{cases_eq, eqb-true, ne_eqb}
+use Rattle.std.proofs.lemmas.List.FromFn.{get_or-map-range_with_len, length-map-range_with_len}
+use Rattle.std.proofs.lemmas.Map.Keys.{IsDistinct-from_apart}
+use Rattle.std.proofs.lemmas.Map.Steps.{length-le_from_distinct_below}
+use Rattle.std.proofs.lemmas.Map.Views.{Contains-from_any}
 
 -- no two of the first l are equal
 abbrev pub OnceBelow : ℕ → (ℕ → ℕ) → Type 0
@@ -38,58 +43,28 @@ pub before-misses : (x y l : ℕ) (u : ℕ → ℕ) → x ≢ y → Misses l u y
 before-misses x y l u ne misses zero p = ne
 before-misses x y l u ne misses (suc i) p = misses i (omega (arith, p))
 
--- u with u m in place of n
-moved : ℕ → ℕ → (ℕ → ℕ) → ℕ → ℕ
-moved n m u i = elim (cases_eq (u i) n) [ inl e ↦ u m | inr f ↦ u i ]
+abbrev firsts : (ℕ → ℕ) → ℕ → List ℕ
+firsts u l = map u (range_with_len 0 l)
 
-moved-is : (n m : ℕ) (u : ℕ → ℕ) (i : ℕ)
-    → ((u i ≡ n) × (moved n m u i ≡ u m)) ⊎ ((u i ≢ n) × (moved n m u i ≡ u i))
-unfolding moved
-moved-is n m u i =
-    elim (cases_eq (u i) n) as
-    (λ s. ((u i ≡ n) × (elim s [ inl e ↦ u m | inr f ↦ u i ] ≡ u m))
-    ⊎ ((u i ≢ n) × (elim s [ inl e ↦ u m | inr f ↦ u i ] ≡ u i))) [
-      | inl e ↦ inl (e, refl)
-      | inr f ↦ inr (f, refl)
-    ]
-
-module _ (n m : ℕ) (u : ℕ → ℕ) (below : AllBelow (suc m) u (suc n)) (once : OnceBelow (suc m) u) where
-  last-other : (i : ℕ) → i < m → u i ≡ u m → ⊥
-  last-other i lt e =
-      let same : i ≡ m = once i m (omega (arith, lt)) (omega arith) e in omega (arith, same, lt)
-
-  moved-below : AllBelow m (moved n m u) n
-  moved-below i lt = elim (moved-is n m u i) [
-    | inl (e, is) ↦
-        let other : u m ≢ n = λ s. last-other i lt (e ∙ sym s) in
-        let low : u m < suc n = below m (omega arith) in
-        omega (arith, is, other, low)
-    | inr (ne, is) ↦
-        let low : u i < suc n = below i (omega (arith, lt)) in
-        omega (arith, is, ne, low)
-  ]
-
-  moved-once : OnceBelow m (moved n m u)
-  moved-once i j p q e = elim (moved-is n m u i) [
-    | inl (a, is) ↦ elim (moved-is n m u j) [
-      | inl (b, js) ↦ once i j (omega (arith, p)) (omega (arith, q)) (a ∙ sym b)
-      | inr (b, js) ↦ absurd (last-other j q (sym js ∙ (sym e ∙ is)))
-    ]
-    | inr (a, is) ↦ elim (moved-is n m u j) [
-      | inl (b, js) ↦ absurd (last-other i p (sym is ∙ (e ∙ js)))
-      | inr (b, js) ↦ once i j (omega (arith, p)) (omega (arith, q)) (sym is ∙ (e ∙ js))
-    ]
-  ]
+first-at : (u : ℕ → ℕ) (l i d : ℕ) → i < l → get_or (firsts u l) i d ≡ u i
+first-at u l i d lt = get_or-map-range_with_len u 0 l i i d lt (omega arith)
 
 -- the pigeonhole principle: m different numbers below n
 pub few : (n m : ℕ) (u : ℕ → ℕ) → AllBelow m u n → OnceBelow m u → m ≤ n
-few n zero u below once = omega arith
-few zero (suc m) u below once =
-    let low : u m < 0 = below m (omega arith) in absurd (omega (arith, low))
-few (suc n) (suc m) u below once =
-    let le : m ≤ n = few n m (moved n m u) (moved-below n m u below once) (moved-once n m u below once)
-    in
-    omega (arith, le)
+few n m u below once =
+    let long = length-map-range_with_len u 0 m in
+    let le =
+    length-le_from_distinct_below (firsts u m) n
+    (IsDistinct-from_apart eqb (firsts u m) (λ i j d lt l. ne_eqb _ _ (λ same.
+    let is =
+    once i j (omega arith) (omega arith)
+    (sym (first-at u m i d (omega arith)) ∙ (same ∙ first-at u m j d (omega arith))) in
+    omega arith)))
+    (λ q any.
+    let (k, l, is) = Contains-from_any eqb-true q (firsts u m) any in
+    let low = below k (omega arith) in
+    omega (arith, first-at u m k q (omega arith))) in
+    omega arith
 
 pub look : (l : ℕ) (u : ℕ → ℕ) (x : ℕ) → Finds l u x ⊎ Misses l u x
 look zero u x = inr (λ i lt. absurd (omega (arith, lt)))

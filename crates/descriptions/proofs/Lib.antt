@@ -9,3 +9,4 @@ pub mod TameMonoids
 pub mod RowLaws
 pub mod Assembled
 pub mod Polynomials
+pub mod Trivial

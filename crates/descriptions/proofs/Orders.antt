@@ -1,6 +1,6 @@
 -- Orders that are two more than a power of two.
-use Rattle.std.proofs.Common.{◌≡◌, ◌≢◌, ℕ, suc, ◌+◌, ◌*◌, ◌^◌, ◌<◌, ◌≤◌, sym, ap, ◌∙◌, inl, inr, arith, subst}
-use Rattle.std.proofs.lemmas.Bool.{cases_eq, cases_lt}
+use Rattle.std.proofs.Common.{◌≡◌, ◌≢◌, ℕ, suc, ◌+◌, ◌*◌, ◌^◌, ◌<◌, ◌≤◌, sym, ap, ◌∙◌, inl, inr, arith}
+use Rattle.std.proofs.lemmas.Bool.{cases_lt}
 use Rattle.std.proofs.Math.Nat.{pow-le-pow_right}
 use Rattle.misere_theory.specs.declared.TheConstants.{LARGEST_ORDER}
 
@@ -22,13 +22,6 @@ twice n p is =
 
 abbrev pub AreOther : ℕ → ℕ → Type 0
 AreOther order n = (k : ℕ) → 2 ≤ k → k < n → order ≢ 2 ^ k + 2
-
-pub one-more : (order n p : ℕ) → p ≡ 2 ^ n → order ≢ p + 2 → AreOther order n
-    → AreOther order (n + 1)
-one-more order n p is ne others k le lt e = elim (cases_eq k n) [
-  | inl same ↦ ne (subst (λ j. order ≡ 2 ^ j + 2) same e ∙ ap (λ x. x + 2) (sym is))
-  | inr other ↦ others k le (omega (arith, other)) e
-]
 
 pub all-other : (order n : ℕ) → order ≤ LARGEST_ORDER → 12 ≤ n → AreOther order n
     → (k : ℕ) → 2 ≤ k → order ≢ 2 ^ k + 2

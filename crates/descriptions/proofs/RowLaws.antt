@@ -1,5 +1,5 @@
 -- Rows one after another.
-use Rattle.std.proofs.Common.{◌≡◌, ℕ, suc, ◌+◌, ◌-◌, ◌*◌, ◌/◌, ◌<◌, ◌≤◌, List, ◌++◌, sym, ap, ap₂, ◌∙◌, arith}
+use Rattle.std.proofs.Common.{◌≡◌, ℕ, ◌+◌, ◌-◌, ◌*◌, ◌/◌, ◌<◌, ◌≤◌, List, ◌++◌, add-one, refl, arith}
 use Rattle.std.specs.Prelude.{min}
 use Rattle.std.proofs.lemmas.Nat.{mul-le, div-add-mod'}
 use Rattle.misere_theory.specs.Certificates.{Certificate}
@@ -24,9 +24,7 @@ pub row-next : (c : Certificate) (n : ℕ) (words : List (List ℕ)) (width wide
     → new ≡ text ++ line
     → new ≡ row_lines c n words width wide many last (k + 1)
 row-next c n words width wide many last k to text line new are is to_is e =
-    let next : k + 1 ≡ suc k = omega arith in
-    e ∙ ap₂ ◌++◌ are (is ∙ ap (row_line c n words width wide (k * many)) to_is)
-    ∙ sym (ap (row_lines c n words width wide many last) next)
+    rw (e, are, is, to_is, add-one) refl
 
 pub entry-next : (c : Certificate) (n : ℕ) (words : List (List ℕ)) (wide many last k to : ℕ)
     (text front line new : List ℕ) → text ≡ entry_lines c n words many last k
@@ -37,8 +35,4 @@ pub entry-next : (c : Certificate) (n : ℕ) (words : List (List ℕ)) (wide man
     → new ≡ (text ++ front) ++ line
     → new ≡ entry_lines c n words many last (k + 1)
 entry-next c n words wide many last k to text front line new are wide_is front_is is to_is e =
-    let next : k + 1 ≡ suc k = omega arith in
-    e
-    ∙ ap₂ ◌++◌ (ap₂ ◌++◌ are (front_is ∙ ap (λ (w : ℕ). before_row w k) wide_is))
-    (is ∙ ap (entry_line c n words (k * many)) to_is)
-    ∙ sym (ap (entry_lines c n words many last) next)
+    rw (e, are, front_is, wide_is, is, to_is, add-one) refl

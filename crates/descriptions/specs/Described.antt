@@ -5,7 +5,7 @@ use Rattle.misere_theory.specs.Certificates.{Certificate, IsHeapOf, phi_at}
 use Rattle.certificate.specs.Fields.{grid_of}
 use Rattle.presentations.specs.declared.TheConstants.{LETTERS, LARGEST_BOX}
 use Rattle.presentations.specs.declared.read.Relation.{Relation}
-use Rattle.presentations.specs.declared.named.Generator.{Generator}
+use Rattle.presentations.specs.declared.named.NamedElement.{NamedElement}
 use Rattle.presentations.specs.Powers.{IsAboveLimit}
 use Rattle.presentations.specs.Tables.{IsTableOf}
 use Rattle.monoid_table.specs.Grids.{Grid}
@@ -111,7 +111,7 @@ pub record AreFindings (c : Certificate) (f : Findings) : Type 0 where
 -- Relations have a table that `present` makes: their box is within LARGEST_BOX.
 pub record HasTable (relations : List Relation) : Type 0 where
   pub table : Grid
-  pub generators : List Generator
+  pub generators : List NamedElement
   pub is_table : IsTableOf relations table generators
   pub within : IsAboveLimit relations LARGEST_BOX → ⊥
 

@@ -5,3 +5,4 @@ pub mod Rows
 pub mod Arrays
 pub mod Systems
 pub mod Described
+pub mod Presenting

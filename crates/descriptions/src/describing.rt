@@ -1,8 +1,8 @@
 //! The text that describes a quotient.
-ghost use Rattle.std.specs.Prelude.{◌≡◌, ◌<◌, ◌≤◌, IfOk, IfSome, IsTrue, All, length, vec_len};
+ghost use Rattle.std.specs.Prelude.{◌≡◌, ◌<◌, ◌≤◌, IfOk, All, length, vec_len};
 ghost use Rattle.std.specs.String.{string_bytes};
 ghost use Rattle.presentations.specs.declared.TheConstants.{LETTERS};
-ghost use Rattle.descriptions.specs.Described.{AreFindings, AreRows, HasTable, IsDescription, IsIdealText, IsPresentable};
+ghost use Rattle.descriptions.specs.Described.{AreFindings, AreRows, IsDescription, IsIdealText};
 ghost use Rattle.descriptions.specs.Lines.{front_lines, list_lines, lists_end};
 ghost use Rattle.relations.specs.declared.text.Notation.TheVariants.{Json};
 
@@ -15,10 +15,8 @@ use crate::rows::rows_text;
 use crate::systems::{System, system_text};
 use allocation::Memory;
 use answers::Certified;
-use presentations::{LARGEST_BOX, PresFault, Presentation, Word};
-use relations::{
-    Form, Notation, Undescribed, presentable, relations_text, texts_spell, words_text,
-};
+use presentations::Word;
+use relations::{Form, Notation, Undescribed, words_text};
 use std::alloc::{AllocError, Global};
 
 /// What ends the lists.
@@ -214,42 +212,4 @@ pub fn ideal_text(
     let relations = description.relations.as_slice();
     let text = system_text(alloc, system, certified.cert(), letters, relations)?;
     Ok(text)
-}
-
-/// Whether the relations have a table in the box that `present` takes.
-fn has_table(alloc: Global, presentation: &Presentation) -> Result<bool, Memory>
-    ensures { IfOk result (λ has. IsTrue has → HasTable presentation.now) }
-{
-    match presentations::table_of(alloc, presentation, LARGEST_BOX) {
-        Ok(_) => Ok(true),
-        Err(PresFault::Memory) => Err(Memory),
-        Err(_) => Ok(false),
-    }
-}
-
-/// The relations as one word that `present` takes, with one between two powers of each letter. None
-/// where there are more than `MOST_RELATIONS`, an exponent is above `LARGEST_EXPONENT`, or the box is
-/// above `LARGEST_BOX`.
-pub fn presentable_text(
-    alloc: Global,
-    certified: &Certified,
-    form: Form,
-) -> Result<Option<String>, Undescribed>
-    ensures { IfOk result
-        (λ found. IfSome found (λ t. IsPresentable certified.now (string_bytes t))) }
-{
-    let table = table_of(alloc, certified)?;
-    let description = describe_table(alloc, certified, &table, form)?;
-    let Some(relations) = presentable(alloc, &table, &description)? else {
-        return Ok(None);
-    };
-    let presentation = Presentation::new(relations);
-    if !has_table(alloc, &presentation)? {
-        return Ok(None);
-    }
-    texts_spell();
-    let letters = description.elements.len() as u8;
-    let relations = presentation.relations();
-    let text = relations_text(alloc, Notation::Plain, letters, " ", relations)?;
-    Ok(Some(text))
 }

@@ -2,6 +2,7 @@
 ghost use Rattle.std.specs.Prelude.{◌≡◌, ◌<◌, IfOk, IfSome, All, length, vec_len};
 ghost use Rattle.std.specs.List.{AllZip};
 ghost use Rattle.certificate.specs.Fields.{grid_of};
+ghost use Rattle.relations.specs.Printed.{ArePrintable};
 ghost use Rattle.descriptions.specs.Described.{AreFindings, Describes, IsFirstHeap};
 
 use crate::choosing::{Part, those};
@@ -84,6 +85,8 @@ pub fn describe_table(
     ensures words { IfOk result (λ d. vec_len d.words ≡ certified.now.order) }
     ensures elements { IfOk result
         (λ d. All (λ e. e < certified.now.order) d.elements.items) }
+    ensures printable { IfOk result
+        (λ d. ArePrintable (vec_len d.elements) d.relations.items) }
 {
     let cert = certified.cert();
     described(alloc, table, cert.phi().entries(), form)

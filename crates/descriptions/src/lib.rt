@@ -9,11 +9,13 @@ mod finding;
 mod invariants;
 mod laws;
 mod lines;
+mod presenting;
 mod rows;
 mod systems;
 mod tame;
 
-pub use describing::{description_text, ideal_text, presentable_text};
+pub use describing::{description_text, ideal_text};
 pub use laws::tame_quotients_are_unique;
+pub use presenting::{PresentBound, RelationsWord, relations_word};
 pub use relations::{Form, Notation, Undescribed};
 pub use systems::System;

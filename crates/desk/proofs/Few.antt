@@ -1,15 +1,15 @@
 -- There are no more places for cores than for jobs.
 -- A place is added only where each has a core; a core has a slot, and a slot has one core.
-use Rattle.std.proofs.Common.{◌≡◌, ◌≢◌, ◌⊎◌, ℕ, ◌+◌, ◌<◌, ◌≤◌, ◌==◌, Bool, true, false, List, length, map, Option, Some, None, refl, sym, ◌∙◌, ap, inl, inr, arith, get_or, set, eqb}
-use Rattle.std.proofs.lemmas.Bool.{eqb-true, eq-eqb}
+use Rattle.std.proofs.Common.{◌≡◌, ◌≢◌, ℕ, ◌+◌, ◌<◌, ◌≤◌, List, length, map, Option, Some, None, refl, sym, ◌∙◌, ap, inl, inr, arith, get_or, set, eqb}
+use Rattle.std.proofs.lemmas.Bool.{eq-eqb}
 use Rattle.std.proofs.lemmas.List.{get_or-map, length-map, length-set}
 use Rattle.std.proofs.lemmas.List.Folds.{list_any_at}
 use Rattle.std.proofs.lemmas.Map.Steps.{le-length_from_below}
 use Rattle.checker.specs.JobViews.{JobView}
 use Rattle.desk.specs.declared.slot.Slot.{Slot}
 use Rattle.desk.specs.Machine.{fresh}
-use Rattle.desk.specs.Desks.{core_at, slot_at, HasSlot, HasNoCore, IsCoreFor, GrowsAtNeed, IsWith}
-use Rattle.desk.proofs.Lists.{some_within, with_here, with_other}
+use Rattle.desk.specs.Desks.{core_at, HasSlot, IsCoreFor}
+use Rattle.desk.proofs.Lists.{some_within, with_here, with_item}
 use native.Mathlib.Decide.{dec_lt}
 
 abbrev core_of : Option Slot → ℕ
@@ -45,30 +45,6 @@ module _ (cores cores' : List (Option JobView)) (bytes : List ℕ) (limit k : �
   some_core None some = absurd (some refl)
   some_core (Some a) some = (a, refl)
 
-  taken_case : core_at cores k ≡ None → IsWith cores k (Some (fresh bytes limit)) cores'
-      → (q : ℕ) → q < length cores' → (b : Bool) → (k == q) ≡ b
-      → (a : JobView) × (core_at cores' q ≡ Some a)
-  taken_case free added q l true e = (
-    fresh bytes limit,
-    ap (λ n. core_at cores' n) (sym (eqb-true k q e))
-        ∙ with_here cores cores' k (Some (fresh bytes limit)) added,
-  )
-  taken_case free added q l false e =
-      let other = with_other cores cores' k q (Some (fresh bytes limit)) added e in
-      elim (dec_lt q (length cores)) [
-        | yes within ↦ let (a, at) = some_core (core_at cores q) (more.1 q within) in (a, other ∙ at)
-        | no past ↦
-            let here : core_at cores' k ≡ Some (fresh bytes limit) =
-            with_here cores cores' k (Some (fresh bytes limit)) added in
-            let below : k < length cores' = some_within cores' k (fresh bytes limit) here in
-            let grown = more.0 in
-            elim (dec_lt k (length cores)) [
-              | yes inside ↦ absurd (more.1 k inside free)
-              | no outside ↦ let same : k ≡ q = omega arith in
-                  let t : (k == q) ≡ true = eq-eqb k q same in absurd (cc)
-            ]
-      ]
-
   -- each place has a core, where there is one more
   pub all_taken : IsCoreFor cores bytes limit k cores' → (q : ℕ) → q < length cores'
       → (a : JobView) × (core_at cores' q ≡ Some a)
@@ -76,4 +52,19 @@ module _ (cores cores' : List (Option JobView)) (bytes : List ℕ) (limit k : �
       let same : length cores' ≡ length cores = ap (λ (x : List (Option JobView)). length x) old.1 in
       let grown = more.0 in
       absurd (omega arith)
-  all_taken (inr new) q l = taken_case new.1 new.2 q l (k == q) refl
+  all_taken (inr (_, free, added)) q l =
+      elim (with_item cores cores' k (Some (fresh bytes limit)) added q) [
+        | inl (_, here) ↦ (fresh bytes limit, here)
+        | inr (apart, other) ↦ elim (dec_lt q (length cores)) [
+          | yes within ↦
+              let (a, at) = some_core (core_at cores q) (more.1 q within) in (a, other ∙ at)
+          | no past ↦
+              let here = with_here cores cores' k (Some (fresh bytes limit)) added in
+              let below : k < length cores' = some_within cores' k (fresh bytes limit) here in
+              let grown = more.0 in
+              elim (dec_lt k (length cores)) [
+                | yes inside ↦ absurd (more.1 k inside free)
+                | no outside ↦ absurd (apart (omega arith))
+              ]
+        ]
+      ]

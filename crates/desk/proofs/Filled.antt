@@ -1,10 +1,9 @@
 -- A slot is filled.
 -- Its core, of the job's bytes and limit, is found or added; the other jobs are seen as before.
-use Rattle.std.proofs.Common.{◌≡◌, ◌≢◌, ◌⊎◌, ℕ, ◌<◌, ◌≤◌, ◌+◌, ◌==◌, Bool, true, false, if◌then◌else◌, List, length, Option, Some, None, refl, sym, ◌∙◌, ap, subst, inl, inr, arith, get_or, ◌++◌, ◌∷◌, []}
-use Rattle.std.proofs.lemmas.Bool.{eqb-true}
+use Rattle.std.proofs.Common.{◌≡◌, ◌≢◌, ◌⊎◌, ℕ, ◌<◌, ◌≤◌, ◌+◌, List, length, Option, Some, None, refl, sym, ◌∙◌, ap, subst, inl, inr, arith, ◌++◌, ◌∷◌, []}
 use Rattle.std.proofs.lemmas.List.{get_or_past}
 use Rattle.answers.specs.ByteVerdicts.ByteVerdict.{Memory}
-use Rattle.checker.specs.Turns.{cost}
+use Rattle.check_machine.specs.Turns.{cost}
 use Rattle.checker.specs.JobViews.{JobView}
 use Rattle.desk.specs.declared.slot.Slot.{Slot}
 use Rattle.desk.specs.declared.slot.Standing.TheVariants.{Going}
@@ -13,7 +12,7 @@ use Rattle.desk.specs.Slots.{job_of, StandsBeside}
 use Rattle.desk.specs.Machine.{fresh}
 use Rattle.desk.specs.Desks.{core_at, slot_at, seen, job_in, jobs_in, job_at, state_of, IsDesk, HasSlot, IsWith, NoneAsFarIn, IsCoreOf, IsCoreFor, HasNoCore, GrowsAtNeed}
 use Rattle.desk.proofs.Few.{few_used, all_taken}
-use Rattle.desk.proofs.Lists.{push_case, with_here, with_other}
+use Rattle.desk.proofs.Lists.{is_with, push_with, with_here, with_item, with_other}
 use Rattle.desk.proofs.Seen.{is_seen, job_at_place}
 
 -- beside these cores, and the jobs that are seen are the same
@@ -34,37 +33,30 @@ module _ (places : List (Option Slot)) (cores cores' : List (Option JobView)) (b
     (limit k : ℕ) (desk : IsDesk places cores)
     (none : HasNoCore cores bytes limit) (free : core_at cores k ≡ None)
     (added : IsWith cores k (Some (fresh bytes limit)) cores') where
-  stay_case : (r : Slot) → (c : JobView) → core_at cores r.core ≡ Some c → (b : Bool)
-      → (k == r.core) ≡ b → core_at cores' r.core ≡ core_at cores r.core
-  stay_case r c at true e = let empty : core_at cores r.core ≡ None =
-      ap (λ n. core_at cores n) (sym (eqb-true k r.core e)) ∙ free in absurd (cc)
-  stay_case r c at false e = with_other cores cores' k r.core (Some (fresh bytes limit)) added e
-
   stay_added : (j : ℕ) (r : Slot) → slot_at places j ≡ Some r
       → core_at cores' r.core ≡ core_at cores r.core
-  stay_added j r at = let held = desk.held j r at in stay_case r held.0 held.1 (k == r.core) refl
+  stay_added j r at =
+      let (c, there, _) = desk.held j r at in
+      elim (with_item cores cores' k (Some (fresh bytes limit)) added r.core) [
+        | inl (same, _) ↦
+            let empty : core_at cores r.core ≡ None = ap (λ n. core_at cores n) (sym same) ∙ free in
+            absurd (cc)
+        | inr (_, other) ↦ other
+      ]
 
   -- a core is the new one or an old one
-  added_case : (l : ℕ) (a : JobView) → core_at cores' l ≡ Some a → (b : Bool) → (k == l) ≡ b
+  added_at : (l : ℕ) (a : JobView) → core_at cores' l ≡ Some a
       → ((k ≡ l) × (a ≡ fresh bytes limit)) ⊎ (core_at cores l ≡ Some a)
-  added_case l a at true e =
-      let here : core_at cores' l ≡ Some (fresh bytes limit) =
-      ap (λ n. core_at cores' n) (sym (eqb-true k l e))
-      ∙ with_here cores cores' k (Some (fresh bytes limit)) added in
-      inl (eqb-true k l e, cc)
-  added_case l a at false e =
-      inr (sym (with_other cores cores' k l (Some (fresh bytes limit)) added e) ∙ at)
+  added_at l a at = elim (with_item cores cores' k (Some (fresh bytes limit)) added l) [
+    | inl (same, here) ↦ inl (same, cc)
+    | inr (_, other) ↦ inr (sym other ∙ at)
+  ]
 
   sound_case : (l : ℕ) (a : JobView) → ((k ≡ l) × (a ≡ fresh bytes limit))
       ⊎ (core_at cores l ≡ Some a) → a.ended ≢ Some Memory
   sound_case l a (inl new) = λ e. let n : a.ended ≡ None = ap (λ (c : JobView). c.ended) new.1 in
       absurd (cc)
   sound_case l a (inr old) = desk.sound l a old
-
-  used_case : (l : ℕ) (a : JobView) → ((k ≡ l) × (a ≡ fresh bytes limit))
-      ⊎ (core_at cores l ≡ Some a) → (k ≡ l) ⊎ HasSlot places l
-  used_case l a (inl new) = inl new.0
-  used_case l a (inr old) = inr (desk.used l a old)
 
   apart_case : (l m : ℕ) (a b : JobView) → ((k ≡ l) × (a ≡ fresh bytes limit))
       ⊎ (core_at cores l ≡ Some a) → ((k ≡ m) × (b ≡ fresh bytes limit))
@@ -83,17 +75,18 @@ module _ (places : List (Option Slot)) (cores cores' : List (Option JobView)) (b
   pub desk_added : IsDeskFor places cores cores' bytes limit k
   desk_added = record {
     held = λ j r at. let held = desk.held j r at in (held.0, stay_added j r at ∙ held.1, held.2);
-    used = λ l a at. used_case l a (added_case l a at (k == l) refl);
-    sound = λ l a at. sound_case l a (added_case l a at (k == l) refl);
-    apart =
-        λ l m a b at bt. apart_case l m a b (added_case l a at (k == l) refl)
-        (added_case m b bt (k == m) refl);
+    used = λ l a at. elim (added_at l a at) [
+      | inl (same, _) ↦ inl same
+      | inr old ↦ inr (desk.used l a old)
+    ];
+    sound = λ l a at. sound_case l a (added_at l a at);
+    apart = λ l m a b at bt. apart_case l m a b (added_at l a at) (added_at m b bt);
     core =
         (fresh bytes limit, with_here cores cores' k (Some (fresh bytes limit)) added, refl, refl);
     stay = stay_added;
   }
 
-pub desk_for : (places : List (Option Slot)) (cores cores' : List (Option JobView)) (bytes : List ℕ)
+desk_for : (places : List (Option Slot)) (cores cores' : List (Option JobView)) (bytes : List ℕ)
     (limit k : ℕ) → IsDesk places cores
     → IsCoreFor cores bytes limit k cores' → IsDeskFor places cores cores' bytes limit k
 desk_for places cores cores' bytes limit k desk (inl old) =
@@ -109,91 +102,75 @@ desk_for places cores cores' bytes limit k desk (inl old) =
 desk_for places cores cores' bytes limit k desk (inr new) =
     desk_added places cores cores' bytes limit k desk new.0 new.1 new.2
 
-module _ (places places' : List (Option Slot)) (cores cores' : List (Option JobView))
-    (bytes : List ℕ) (limit k i : ℕ) (found : IsDeskFor places cores cores' bytes limit k)
-    (costs : (b : List ℕ) (l : ℕ) → 0 < cost b l) (free : slot_at places i ≡ None)
-    (filled : IsWith places i (Some (record { core = k; spent = 0; standing = Going })) places')
-  where
-    filled_case : (j : ℕ) (r : Slot) → slot_at places' j ≡ Some r → (b : Bool) → (i == j) ≡ b
-        → (c : JobView) × (core_at cores' r.core ≡ Some c) × StandsBeside r.standing r.spent c
-    filled_case j r at true e =
-        let new : Slot = record { core = k; spent = 0; standing = Going } in
-        let here : slot_at places' j ≡ Some new = ap (λ n. slot_at places' n) (sym (eqb-true i j e))
-        ∙ with_here places places' i (Some new) filled in
-        let is : new ≡ r = cc in
-        let below : 0 < cost found.core.0.bytes found.core.0.limit =
-        costs found.core.0.bytes found.core.0.limit in
-        subst (λ (x : Slot). (c : JobView) × (core_at cores' x.core ≡ Some c)
-        × StandsBeside x.standing x.spent c) is (found.core.0, found.core.1, below)
-    filled_case j r at false e =
-        found.held j r (sym (with_other places places' i j _ filled e) ∙ at)
+-- the slot of a job that begins
+abbrev begun : ℕ → Slot
+begun k = record { core = k; spent = 0; standing = Going }
 
-    kept_case : (l j : ℕ) (r : Slot) → slot_at places j ≡ Some r → r.core ≡ l → (b : Bool)
-        → (i == j) ≡ b → HasSlot places' l
-    kept_case l j r at has true e =
-        let none : slot_at places j ≡ None = ap (λ n. slot_at places n) (sym (eqb-true i j e))
-        ∙ free
-        in
-        absurd (cc)
-    kept_case l j r at has false e = (j, r, with_other places places' i j _ filled e ∙ at, has)
+module _ (places places' : List (Option Slot)) (cores cores' : List (Option JobView))
+    (bytes : List ℕ) (limit k i : ℕ) (desk : IsDesk places cores)
+    (is : IsCoreFor cores bytes limit k cores')
+    (costs : (b : List ℕ) (l : ℕ) → 0 < cost b l) (free : slot_at places i ≡ None)
+    (filled : IsWith places i (Some (begun k)) places')
+  where
+    found : IsDeskFor places cores cores' bytes limit k
+    found = desk_for places cores cores' bytes limit k desk is
+
+    held_filled : (j : ℕ) (r : Slot) → slot_at places' j ≡ Some r
+        → (c : JobView) × (core_at cores' r.core ≡ Some c) × StandsBeside r.standing r.spent c
+    held_filled j r at = elim (with_item places places' i (Some (begun k)) filled j) [
+      | inl (_, here) ↦
+          let is : begun k ≡ r = cc in
+          let below : 0 < cost found.core.0.bytes found.core.0.limit =
+          costs found.core.0.bytes found.core.0.limit in
+          subst (λ (x : Slot). (c : JobView) × (core_at cores' x.core ≡ Some c)
+          × StandsBeside x.standing x.spent c) is (found.core.0, found.core.1, below)
+      | inr (_, other) ↦ found.held j r (sym other ∙ at)
+    ]
 
     used_filled : (l : ℕ) → (k ≡ l) ⊎ HasSlot places l → HasSlot places' l
-    used_filled l (inl new) = (
-      i,
-      record { core = k; spent = 0; standing = Going },
-      with_here places places' i _ filled,
-      new,
-    )
-    used_filled l (inr old) = kept_case l old.0 old.1 old.2 old.3 (i == old.0) refl
+    used_filled l (inl new) = (i, begun k, with_here places places' i _ filled, new)
+    used_filled l (inr (j, r, at, has)) = elim (with_item places places' i (Some (begun k)) filled j) [
+      | inl (same, _) ↦
+          let none : slot_at places j ≡ None = ap (λ n. slot_at places n) (sym same) ∙ free in
+          absurd (cc)
+      | inr (_, other) ↦ (j, r, other ∙ at, has)
+    ]
 
-    pub desk_filled : length cores' ≤ length places' → IsDesk places' cores'
-    desk_filled few = record {
-      held = λ j r at. filled_case j r at (i == j) refl;
+    -- where the cores took a new place, each of their places has a core, and so a slot
+    few_filled : GrowsAtNeed cores cores' → length places' ≡ length places
+        → length cores' ≤ length places'
+    few_filled (inl same) long = let few = desk.few in omega arith
+    few_filled (inr more) long =
+        few_used places' cores' (λ q l. let (a, at) = all_taken cores cores' bytes limit k more is q l in
+        used_filled q (found.used q a at))
+
+    pub desk_filled : GrowsAtNeed cores cores' → length places' ≡ length places
+        → IsDesk places' cores'
+    desk_filled grows long = record {
+      held = held_filled;
       used = λ l a at. used_filled l (found.used l a at);
       sound = found.sound;
       apart = found.apart;
-      few = few;
+      few = few_filled grows long;
     }
-
-    -- where the cores took a new place, each of their places has a core, and so a slot
-    pub few_filled : IsCoreFor cores bytes limit k cores' → GrowsAtNeed cores cores'
-        → length cores ≤ length places → length places' ≡ length places
-        → length cores' ≤ length places'
-    few_filled is (inl same) few long = omega arith
-    few_filled is (inr more) few long =
-        few_used places' cores' (λ q l. let (a, at) = all_taken cores cores' bytes limit k more is q l in
-        used_filled q (found.used q a at))
 
     old_case : (j : ℕ) (o : Option Slot) → slot_at places j ≡ o → job_in cores' o ≡ job_in cores o
     old_case j None at = refl
     old_case j (Some r) at = ap (λ c. seen c r) (found.stay j r at)
 
-    new_job : job_of found.core.0 (record { core = k; spent = 0; standing = Going })
-        ≡ fresh bytes limit
-    new_job =
-        ap (λ (b : List ℕ).
-        record { bytes = b; limit = found.core.0.limit; spent = 0; ended = None })
-        found.core.2
-        ∙ ap (λ (l : ℕ). record { bytes = bytes; limit = l; spent = 0; ended = None }) found.core.3
-
-    filled_job_case : (j : ℕ) (b : Bool) → (i == j) ≡ b
-        → get_or (jobs_in places' cores') j None
-        ≡ (if b then Some (fresh bytes limit) else get_or (jobs_in places cores) j None)
-    filled_job_case j true e =
-        let new : Slot = record { core = k; spent = 0; standing = Going } in
-        job_at_place places' cores' j
-        ∙ (ap (job_in cores') (ap (λ n. slot_at places' n) (sym (eqb-true i j e))
-        ∙ with_here places places' i (Some new) filled)
-        ∙ (ap (λ c. seen c new) found.core.1 ∙ ap Some new_job))
-    filled_job_case j false e =
-        job_at_place places' cores' j
-        ∙ (ap (job_in cores') (with_other places places' i j _ filled e)
-        ∙ (old_case j (slot_at places j) refl
-        ∙ sym (job_at_place places cores j)))
+    new_job : job_of found.core.0 (begun k) ≡ fresh bytes limit
+    new_job = rw (found.core.2, found.core.3) refl
 
     pub jobs_filled : IsWith (jobs_in places cores) i (Some (fresh bytes limit))
         (jobs_in places' cores')
-    jobs_filled = λ j. filled_job_case j (i == j) refl
+    jobs_filled =
+        is_with (jobs_in places cores) (jobs_in places' cores') i (Some (fresh bytes limit))
+        (job_at_place places' cores' i
+        ∙ (ap (job_in cores') (with_here places places' i _ filled)
+        ∙ (ap (λ c. seen c (begun k)) found.core.1 ∙ ap Some new_job)))
+        (λ j apart. job_at_place places' cores' j
+        ∙ (ap (job_in cores') (with_other places places' i j _ filled apart)
+        ∙ (old_case j (slot_at places j) refl ∙ sym (job_at_place places cores j))))
 
 pub none_first : (places : List (Option Slot)) (cores : List (Option JobView)) (bytes : List ℕ)
     (limit : ℕ) → HasNoCore cores bytes limit → NoneAsFarIn (jobs_in places cores) bytes limit 0
@@ -211,27 +188,20 @@ core_for_push cores cores' k bytes limit new none at is e =
     inr (
       none,
       get_or_past cores k None (omega arith),
-      λ i.
-          push_case cores cores' k (Some (fresh bytes limit)) at (e ∙ ap (λ x. cores ++ x ∷ []) is)
-          i
-          (k == i) refl,
+      push_with cores cores' k (Some (fresh bytes limit)) at (e ∙ ap (λ x. cores ++ x ∷ []) is),
     )
 
 -- A desk without jobs
 
-nothing_in : (cores : List (Option JobView)) (k : ℕ) → cores ≡ [] → core_at cores k ≡ None
-nothing_in cores k none = ap (λ (l : List (Option JobView)). core_at l k) none
-
 pub empty_desk : (places : List (Option Slot)) (cores : List (Option JobView))
     → ((i : ℕ) → slot_at places i ≡ None) → cores ≡ [] → IsDesk places cores
-empty_desk places cores empty none = record {
+empty_desk places cores empty none = rw none (record {
   held = λ i s at. let e : slot_at places i ≡ None = empty i in absurd (cc);
-  used = λ k core at. let e : core_at cores k ≡ None = nothing_in cores k none in absurd (cc);
-  sound = λ k core at. let e : core_at cores k ≡ None = nothing_in cores k none in absurd (cc);
-  apart = λ k l a b at bt x y. let e : core_at cores k ≡ None = nothing_in cores k none in
-      absurd (cc);
-  few = let e : length cores ≡ 0 = ap (λ (l : List (Option JobView)). length l) none in omega arith;
-}
+  used = λ k core at. absurd (cc);
+  sound = λ k core at. absurd (cc);
+  apart = λ k l a b at bt x y. absurd (cc);
+  few = omega arith;
+})
 
 empty_at : (places : List (Option Slot)) (cores : List (Option JobView))
     → ((i : ℕ) → slot_at places i ≡ None) → (o : Option ℕ) → job_at (jobs_in places cores) o ≡ None

@@ -1,6 +1,6 @@
 -- The least free number.
 -- Slots and the jobs that are seen have the same numbers free.
-use Rattle.std.proofs.Common.{◌≡◌, ℕ, ◌≤◌, Bool, true, false, if◌then◌else◌, List, Option, Some, None, refl, sym, ◌∙◌, ap, arith, get_or, not}
+use Rattle.std.proofs.Common.{◌≡◌, ℕ, ◌≤◌, Bool, true, false, if◌then◌else◌, List, Option, Some, None, refl, sym, ◌∙◌, ap, subst, get_or, not}
 use Rattle.checker.specs.JobViews.{JobView}
 use Rattle.desk.specs.declared.slot.Slot.{Slot}
 use Rattle.desk.specs.declared.client.TheConstants.{MOST_JOBS}
@@ -23,23 +23,6 @@ least_alike f g e =
     ∙ (ap (λ b. pick (is_free (g 1)) b (is_free (f 3)) (is_free (f 4))) (e 2)
     ∙ (ap (λ c. pick (is_free (g 1)) (is_free (g 2)) c (is_free (f 4))) (e 3)
     ∙ ap (λ d. pick (is_free (g 1)) (is_free (g 2)) (is_free (g 3)) d) (e 4)))
-
-within_jobs : (k n : ℕ) → 1 ≤ k → k ≤ MOST_JOBS → (let a : Option ℕ = Some k in a) ≡ Some n
-    → (1 ≤ n) × (n ≤ MOST_JOBS)
-within_jobs k n low high e = let is : k ≡ n = cc in (omega arith, omega arith)
-
-range_case : (a b c d : Bool) (n : ℕ) → pick a b c d ≡ Some n → (1 ≤ n) × (n ≤ MOST_JOBS)
-unfolding pick
-range_case true b c d n e = within_jobs 1 n (omega arith) (omega arith) e
-range_case false true c d n e = within_jobs 2 n (omega arith) (omega arith) e
-range_case false false true d n e = within_jobs 3 n (omega arith) (omega arith) e
-range_case false false false true n e = within_jobs 4 n (omega arith) (omega arith) e
-range_case false false false false n e = absurd (cc)
-
-pub least_range : {X : Type 0} (f : ℕ → Option X) (n : ℕ) → least_free f ≡ Some n
-    → (1 ≤ n) × (n ≤ MOST_JOBS)
-unfolding pick
-least_range f n e = range_case (is_free (f 1)) (is_free (f 2)) (is_free (f 3)) (is_free (f 4)) n e
 
 free_slot : (places : List (Option Slot)) (cores : List (Option JobView)) (i : ℕ) (o : Option Slot)
     → slot_at places i ≡ o → IsDesk places cores → is_free o ≡ is_free (job_in cores o)
@@ -65,24 +48,12 @@ is_none : {X : Type 0} (o : Option X) → is_free o ≡ true → o ≡ None
 is_none None e = refl
 is_none (Some x) e = absurd (cc)
 
-free_case : {X : Type 0} (f : ℕ → Option X) (n : ℕ) (a b c d : Bool) → is_free (f 1) ≡ a
-    → is_free (f 2) ≡ b → is_free (f 3) ≡ c → is_free (f 4) ≡ d → pick a b c d ≡ Some n → f n ≡ None
-unfolding pick
-free_case f n true b c d p q r s e = let is : 1 ≡ n = cc in
-    is_none (f n) (ap (λ k. is_free (f k)) (sym is) ∙ p)
-free_case f n false true c d p q r s e = let is : 2 ≡ n = cc in
-    is_none (f n) (ap (λ k. is_free (f k)) (sym is) ∙ q)
-free_case f n false false true d p q r s e = let is : 3 ≡ n = cc in
-    is_none (f n) (ap (λ k. is_free (f k)) (sym is) ∙ r)
-free_case f n false false false true p q r s e = let is : 4 ≡ n = cc in
-    is_none (f n) (ap (λ k. is_free (f k)) (sym is) ∙ s)
-free_case f n false false false false p q r s e = absurd (cc)
-
-pub least_none : {X : Type 0} (f : ℕ → Option X) (n : ℕ) → least_free f ≡ Some n → f n ≡ None
-unfolding pick
-least_none f n e =
-    free_case f n (is_free (f 1)) (is_free (f 2)) (is_free (f 3)) (is_free (f 4)) refl refl refl
-    refl e
+numbered : {X : Type 0} (f : ℕ → Option X) (k n : ℕ) → 1 ≤ k → k ≤ MOST_JOBS
+    → is_free (f k) ≡ true → (let a : Option ℕ = Some k in a) ≡ Some n
+    → (1 ≤ n) × (n ≤ MOST_JOBS) × (f n ≡ None)
+numbered f k n low high free e =
+    let is : k ≡ n = cc in
+    subst (λ m. (1 ≤ m) × (m ≤ MOST_JOBS) × (f m ≡ None)) is (low, high, is_none (f k) free)
 
 -- a place with a slot has a job, and one without has none
 pub held_job : (places : List (Option Slot)) (cores : List (Option JobView)) (i : ℕ)
@@ -105,10 +76,8 @@ least_of places cores jobs c desk is =
     ∙ sym (least_slots places cores c desk)
 
 flip : (b r : Bool) → r ≡ not b → b ≡ not r
-flip true true e = absurd (cc)
-flip true false e = refl
-flip false true e = refl
-flip false false e = absurd (cc)
+flip true r e = ap not (sym e)
+flip false r e = ap not (sym e)
 
 pub nothing_at : (places : List (Option Slot)) (cores jobs : List (Option JobView)) (c n i : ℕ)
     → IsDesk places cores → jobs_in places cores ≡ jobs → place_of c n ≡ Some i

@@ -1,7 +1,7 @@
 -- Places of jobs, and the state after one job was changed.
 -- A client and a number have a place of their own, so that no other job changes.
-use Rattle.std.proofs.Common.{◌≡◌, ℕ, ◌+◌, ◌-◌, ◌*◌, ◌≤◌, ◌==◌, Bool, true, false, if◌then◌else◌, List, Option, Some, None, refl, sym, ◌∙◌, ap, arith}
-use Rattle.std.proofs.lemmas.Bool.{eqb-true}
+use Rattle.std.proofs.Common.{◌≡◌, ◌≢◌, ℕ, ◌+◌, ◌-◌, ◌*◌, ◌≤◌, ◌==◌, Bool, true, false, if◌then◌else◌, List, Option, Some, None, refl, sym, ◌∙◌, ap, arith}
+use Rattle.std.proofs.lemmas.Bool.{eq-eqb, eqb-true}
 use Rattle.std.proofs.lemmas.Grind.{common_steps}
 use mathlib.Core.Path.{fun_ext}
 use Rattle.checker.specs.JobViews.{JobView}
@@ -9,7 +9,7 @@ use Rattle.desk.specs.declared.client.TheConstants.{MOST_CLIENTS, MOST_JOBS}
 use Rattle.desk.specs.Places.{place_of}
 use Rattle.desk.specs.Machine.{Jobs, with_job, with_jobs}
 use Rattle.desk.specs.Desks.{job_at, state_of, IsWith}
-use Rattle.desk.proofs.Lists.{eqb_false, eqb_no, with_here, with_other}
+use Rattle.desk.proofs.Lists.{with_here, with_other}
 
 pub record IsPlace (client number place : ℕ) : Type 0 where
   pub client_in : (1 ≤ client) × (client ≤ MOST_CLIENTS)
@@ -32,6 +32,9 @@ places_differ c n d m place e f =
     let q = place_is d m place f in
     (omega arith, omega arith)
 
+differ : (i j : ℕ) → (i == j) ≡ false → i ≢ j
+differ i j e = λ same. let t : (i == j) ≡ true = eq-eqb i j same in absurd (cc)
+
 -- the machine's state after one job was changed
 state_case : (old new : List (Option JobView)) (c n place : ℕ) (job : Option JobView)
     → place_of c n ≡ Some place → IsWith old place job new
@@ -50,16 +53,13 @@ state_case old new c n place job at w d m None is true e false f =
     ap (λ k. job_at old k) (sym is ∙ ap (λ k. place_of k m) (sym same_c))
 state_case old new c n place job at w d m (Some i) is true e false f =
     let same_c : c ≡ d = eqb-true c d e in
-    let apart : (place == i) ≡ false =
-    eqb_no place i
-    (λ h. eqb_false n m f (sym (places_differ c n d m place at (is ∙ ap Some (sym h))).1)) in
-    with_other old new place i job w apart
+    with_other old new place i job w
+    (λ h. differ n m f (places_differ c n d m place at (is ∙ ap Some (sym h))).1)
     ∙ ap (λ k. job_at old k) (sym is ∙ ap (λ k. place_of k m) (sym same_c))
 state_case old new c n place job at w d m None is false e b f = refl
 state_case old new c n place job at w d m (Some i) is false e b f =
     with_other old new place i job w
-    (eqb_no place i
-    (λ h. eqb_false c d e (sym (places_differ c n d m place at (is ∙ ap Some (sym h))).0)))
+    (λ h. differ c d e (places_differ c n d m place at (is ∙ ap Some (sym h))).0)
 
 -- a choice of functions, at an argument
 choice_at : (a : Bool) (f g : Jobs) (m : ℕ) → (if a then f m else g m) ≡ (if a then f else g) m

@@ -1,7 +1,8 @@
 -- What one client sees of a run depends on its own calls alone.
 -- A step of its own gives one reply and one state of its jobs; a step of another changes none.
-use Rattle.std.proofs.Common.{◌≡◌, ◌≢◌, ℕ, ◌==◌, Bool, true, false, if◌then◌else◌, List, [], ◌∷◌, Option, Some, None, refl, sym, ◌∙◌, ap, subst, inl, inr, arith, suc}
-use Rattle.std.proofs.lemmas.Bool.{eqb-true, eq-eqb}
+use Rattle.std.proofs.Common.{◌≡◌, ℕ, ◌==◌, true, false, if◌then◌else◌, List, [], ◌∷◌, Option, Some, None, refl, sym, ◌∙◌, ap, subst, inl, inr, arith, suc}
+use Rattle.std.proofs.lemmas.Bool.{eq-eqb}
+use Rattle.std.proofs.lemmas.Bool.Decides.{eqb_tells}
 use Rattle.misere_theory.proofs.Outcomes.{not_both}
 use Rattle.positions.specs.Outcomes.{HasOutcome}
 use Rattle.positions.specs.declared.outcome.Outcome.{Outcome as PositionOutcome}
@@ -15,7 +16,6 @@ use Rattle.desk.specs.Machine.{Jobs, State, Event, Call, Reply, Step, AmpleStep,
 use Rattle.desk.specs.Machine.Event.{Open, Work, Drop, Ask, Play}
 use Rattle.desk.specs.Machine.Reply.{OutcomeIs, AnswerIs}
 use Rattle.desk.specs.Runs.{Run, AmpleRun, calls_of, replies_to, is_nine, is_refused, HasNoNine}
-use Rattle.desk.proofs.Lists.{eqb_no}
 use Rattle.desk.proofs.Steps.{with_same}
 
 -- a position has one outcome
@@ -142,12 +142,6 @@ module _ (right_one : (code X : List ℕ) (a b : PlayAnswer) → IsRightAnswer c
             ∙ sym (ap (λ (state : State). state call.client) g.2)))),
       )
 
-  pub others_step : (old new : State) (call : Call) (reply : Reply) (client : ℕ)
-      → Step cost verdict old call reply new → client ≢ call.client → new client ≡ old client
-  others_step old new call reply client step apart =
-      ap (λ (state : State). state client) step.2 ∙ others_stay old call.client client step.0
-      (eqb_no call.client client (λ e. apart (sym e)))
-
   -- what isn't done changes no job
   opens_kept : (old : Jobs) (bytes : List ℕ) (limit : ℕ) (o : Option ℕ) (a : Reply) (m : Jobs)
       → Opens old bytes limit o a m → is_refused a ≡ true → m ≡ old
@@ -230,51 +224,11 @@ module _ (right_one : (code X : List ℕ) (a b : PlayAnswer) → IsRightAnswer c
 
   -- the jobs of a client, after a step of any client, are those that the same step leaves where the
   -- client's jobs were the same
-  own_after : (s t : State) (client other : ℕ) (jobs : Jobs) → s other ≡ t other
-      → with_jobs s client jobs other ≡ with_jobs t client jobs other
-  own_after s t client other jobs e = ap (λ mine. if client == other then jobs else mine) e
-
-  own_case : (call : Call) (calls : List Call) (reply : Reply) (replies : List Reply)
-      (old alone end : State) (client : ℕ)
-      → old client ≡ alone client → Run (Step cost verdict) old (call ∷ calls) (reply ∷ replies) end
-      → ((mid other : State) → mid client ≡ other client
-      → Run (Step cost verdict) mid calls replies end
-      → HasNoNine (replies_to client calls replies)
-      → AmpleRun cost verdict other (calls_of client calls) (replies_to client calls replies))
-      → (b : Bool) → (call.client == client) ≡ b
-      → HasNoNine
-      (if b then reply ∷ replies_to client calls replies else replies_to client calls replies)
-      → AmpleRun cost verdict alone
-      (if b then call ∷ calls_of client calls else calls_of client calls)
-      (if b then reply ∷ replies_to client calls replies else replies_to client calls replies)
-  own_case call calls reply replies old alone end client same run further false e free =
-      further run.0 alone
-      (ap (λ s. s client) run.1.2 ∙ (others_stay old call.client client run.1.0 e ∙ same)) run.2
-      free
-  own_case call calls reply replies old alone end client same run further true e free =
-      let is : call.client ≡ client = eqb-true call.client client e in
-      let here : old call.client ≡ alone call.client =
-      subst (λ (c : ℕ). old c ≡ alone c) (sym is) same in
-      let step =
-      ample old run.0 call reply (none_head reply (replies_to client calls replies) free) run.1
-      in
-      let next : State = with_jobs alone call.client step.0 in
-      let rest =
-      further run.0 next
-      (ap (λ s. s client) step.2 ∙ own_after old alone call.client client step.0 same) run.2
-      (none_tail reply (replies_to client calls replies) free) in (
-        rest.0,
-        (
-          next,
-          (
-            step.0,
-            subst (λ (mine : Jobs). Serves cost verdict mine call.event reply step.0) here
-                step.1,
-            refl,
-          ),
-          rest.1,
-        ),
-      )
+  own_after : (s t mid : State) (client other : ℕ) (jobs : Jobs) → mid ≡ with_jobs s client jobs
+      → s other ≡ t other → mid other ≡ with_jobs t client jobs other
+  own_after s t mid client other jobs is e =
+      ap (λ (state : State). state other) is
+      ∙ ap (λ mine. if client == other then jobs else mine) e
 
   pub alone_from : (calls : List Call) (replies : List Reply) (old alone end : State) (client : ℕ)
       → old client ≡ alone client
@@ -284,6 +238,25 @@ module _ (right_one : (code X : List ℕ) (a b : PlayAnswer) → IsRightAnswer c
   alone_from [] (reply ∷ replies) old alone end client same run free = absurd run
   alone_from (call ∷ calls) [] old alone end client same run free = absurd run
   alone_from (call ∷ calls) (reply ∷ replies) old alone end client same run free =
-      own_case call calls reply replies old alone end client same run
-      (λ mid other s r f. alone_from calls replies mid other end client s r f)
-      (call.client == client) refl free
+      elim (eqb_tells call.client client) [
+        | inl (e, is) ↦
+            let none : HasNoNine (reply ∷ replies_to client calls replies) = rw e at free in
+            let here : old call.client ≡ alone call.client =
+            subst (λ (c : ℕ). old c ≡ alone c) (sym is) same in
+            let step =
+            ample old run.0 call reply (none_head reply (replies_to client calls replies) none) run.1
+            in
+            let next : State = with_jobs alone call.client step.0 in
+            let rest =
+            alone_from calls replies run.0 next end client
+            (own_after old alone run.0 call.client client step.0 step.2 same) run.2
+            (none_tail reply (replies_to client calls replies) none) in
+            let served = subst (λ (mine : Jobs). Serves cost verdict mine call.event reply step.0) here
+            step.1 in
+            rw e (rest.0, (next, (step.0, served, refl), rest.1))
+        | inr (e, _) ↦
+            rw e
+            (alone_from calls replies run.0 alone end client
+            (ap (λ s. s client) run.1.2 ∙ (others_stay old call.client client run.1.0 e ∙ same))
+            run.2 (rw e at free))
+      ]

@@ -4,7 +4,7 @@ use Rattle.std.proofs.Common.{◌≡◌, ◌≢◌, ℕ, ◌+◌, ◌≤◌, ◌
 use Rattle.std.proofs.lemmas.Bool.{eqb-true}
 use mathlib.Core.Path.{fun_ext}
 use Rattle.answers.specs.ByteVerdicts.ByteVerdict.{Memory}
-use Rattle.checker.specs.Turns.{cost, verdict}
+use Rattle.check_machine.specs.Turns.{cost, verdict}
 use Rattle.checker.specs.JobViews.{JobView}
 use Rattle.desk.specs.Places.{place_of}
 use Rattle.desk.specs.Machine.{Jobs, State, Event, Reply, Serves, Step, RunsOut, Works, Opens, Drops, NoneAsFar, is_free, least_free, with_job, with_jobs, fresh, worked, out_of_memory}
@@ -27,6 +27,16 @@ same_case s c d false e = refl
 pub with_same : (s : State) (c : ℕ) → s ≡ with_jobs s c (s c)
 with_same s c = fun_ext (λ d. same_case s c d (c == d) refl)
 
+-- a step that changes no job
+pub same_step : (s : State) (c : ℕ) (e f : Event) (reply : Reply) → e ≡ f
+    → Serves cost verdict (s c) f reply (s c)
+    → Step cost verdict s (record { client = c; event = e }) reply s
+same_step s c e f reply is serves = (
+  s c,
+  inl (subst (λ (g : Event). Serves cost verdict (s c) g reply (s c)) (sym is) serves),
+  with_same s c,
+)
+
 first_case : (jobs : List (Option JobView)) (bytes : List ℕ) (limit spent : ℕ)
     → NoneAsFarIn jobs bytes limit spent
     → (o : Option ℕ) (job : JobView) → job_at jobs o ≡ Some job → job.ended ≢ Some Memory
@@ -43,30 +53,20 @@ module _ (old new : List (Option JobView)) (c n units : ℕ) where
   pub work_nowhere : place_of c n ≡ None
       → Step cost verdict (state_of old) (record { client = c; event = Work n units })
       (shown_reply (state_of old c n)) (state_of old)
-  work_nowhere at =
-      let none : state_of old c n ≡ None = ap (job_at old) at in (
-        state_of old c,
-        inl (subst
-            (λ (q : Option JobView). Works cost verdict (state_of old c) n units q (shown_reply q)
-            (state_of old c)) (sym none) (refl, refl)),
-        with_same (state_of old) c,
-      )
+  work_nowhere at = same_step (state_of old) c _ (Work n units) _ refl
+      (subst (λ (o : Option ℕ). Works cost verdict (state_of old c) n units (job_at old o)
+      (shown_reply (job_at old o)) (state_of old c)) (sym at) (refl, refl))
 
   work_case : (place : ℕ) → place_of c n ≡ Some place → (o : Option JobView)
       → get_or old place None ≡ o → HaveWorked old place o units new
       → Step cost verdict (state_of old) (record { client = c; event = Work n units })
       (shown_reply (state_of new c n)) (state_of new)
   work_case place at None is same =
-      let none : state_of old c n ≡ None = state_at old c n place at ∙ is in
       subst (λ (jobs : List (Option JobView)). Step cost verdict (state_of old)
       (record { client = c; event = Work n units }) (shown_reply (state_of jobs c n))
-      (state_of jobs)) (sym same) (
-        state_of old c,
-        inl (subst
-            (λ (q : Option JobView). Works cost verdict (state_of old c) n units q (shown_reply q)
-            (state_of old c)) (sym none) (refl, refl)),
-        with_same (state_of old) c,
-      )
+      (state_of jobs)) (sym same) (same_step (state_of old) c _ (Work n units) _ refl
+      (subst (λ (q : Option JobView). Works cost verdict (state_of old c) n units q
+      (shown_reply q) (state_of old c)) (sym (state_at old c n place at ∙ is)) (refl, refl)))
   work_case place at (Some job) is (inl with) =
       let here : state_of old c n ≡ Some job = state_at old c n place at ∙ is in
       let now : state_of new c n ≡ Some (worked cost verdict job units) =
@@ -121,12 +121,9 @@ module _ (old new : List (Option JobView)) (c : ℕ) (bytes : List ℕ) (limit :
   pub open_full : least_free (state_of old c) ≡ None
       → Step cost verdict (state_of old) (record { client = c; event = Open bytes limit }) Full
       (state_of old)
-  open_full full = (
-    state_of old c,
-    inl (subst (λ (o : Option ℕ). Opens (state_of old c) bytes limit o Full (state_of old c))
-        (sym full) (refl, refl)),
-    with_same (state_of old) c,
-  )
+  open_full full = same_step (state_of old) c _ (Open bytes limit) Full refl
+      (subst (λ (o : Option ℕ). Opens (state_of old c) bytes limit o Full (state_of old c))
+      (sym full) (refl, refl))
 
   pub open_starved : (n : ℕ) → least_free (state_of old c) ≡ Some n → NoneAsFarIn old bytes limit 0
       → new ≡ old
@@ -163,20 +160,9 @@ module _ (old new : List (Option JobView)) (c n : ℕ) where
   pub drop_nothing : state_of old c n ≡ None → new ≡ old
       → Step cost verdict (state_of old) (record { client = c; event = Drop n }) NoJob
       (state_of new)
-  drop_nothing none same = (
-    state_of old c,
-    inl (subst (λ (q : Option JobView). Drops (state_of old c) n q NoJob (state_of old c))
-        (sym none) (refl, refl)),
-    ap state_of same ∙ with_same (state_of old) c,
-  )
-
--- a step that changes no job
-pub same_step : (jobs : List (Option JobView)) (c : ℕ) (e f : Event) (reply : Reply) → e ≡ f
-    → Serves cost verdict (state_of jobs c) f reply (state_of jobs c)
-    → Step cost verdict (state_of jobs) (record { client = c; event = e }) reply (state_of jobs)
-same_step jobs c e f reply is serves = (
-  state_of jobs c,
-  inl (subst (λ (g : Event). Serves cost verdict (state_of jobs c) g reply (state_of jobs c))
-      (sym is) serves),
-  with_same (state_of jobs) c,
-)
+  drop_nothing none same =
+      subst (λ (jobs : List (Option JobView)). Step cost verdict (state_of old)
+      (record { client = c; event = Drop n }) NoJob (state_of jobs)) (sym same)
+      (same_step (state_of old) c _ (Drop n) NoJob refl
+      (subst (λ (q : Option JobView). Drops (state_of old c) n q NoJob (state_of old c))
+      (sym none) (refl, refl)))

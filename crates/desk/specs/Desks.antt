@@ -2,7 +2,7 @@
 use Rattle.std.specs.Prelude.{◌≡◌, ◌≢◌, ◌⊎◌, ℕ, ◌+◌, ◌<◌, ◌≤◌, ◌==◌, if◌then◌else◌, List, length, Option, Some, None, slice_index_or, map, min}
 use Rattle.answers.specs.ByteVerdicts.ByteVerdict.{Memory}
 use Rattle.checker.specs.JobViews.{JobView}
-use Rattle.checker.specs.Turns.{cost, verdict}
+use Rattle.check_machine.specs.Turns.{cost, verdict}
 use Rattle.desk.specs.declared.slot.Slot.{Slot}
 use Rattle.desk.specs.Machine.{Jobs, State, Event, Reply, Serves, Step, fresh, out_of_memory, worked}
 use Rattle.desk.specs.Places.{place_of}

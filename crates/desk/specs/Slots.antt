@@ -3,7 +3,7 @@ use Rattle.std.specs.Prelude.{◌≡◌, ◌≢◌, ◌⊎◌, ℕ, ◌+◌, ◌
 use Rattle.answers.specs.ByteVerdicts.{ByteVerdict}
 use Rattle.answers.specs.ByteVerdicts.ByteVerdict.{Memory}
 use Rattle.checker.specs.JobViews.{JobView}
-use Rattle.checker.specs.Turns.{cost, verdict}
+use Rattle.check_machine.specs.Turns.{cost, verdict}
 use Rattle.desk.specs.declared.slot.Slot.{Slot}
 use Rattle.desk.specs.declared.slot.Standing.{Standing}
 use Rattle.desk.specs.declared.slot.Standing.TheVariants.{Going, Ended, OutOfMemory}

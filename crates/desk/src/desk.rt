@@ -40,7 +40,7 @@ impl<A: SmallAllocator + Copy> Desk<A> {
     ghost use Rattle.std.specs.Prelude.{◌≡◌, ℕ, None};
     ghost use Rattle.std.specs.Borrow.{sem};
     ghost use Rattle.std.specs.Io.BufRead.{Rests};
-    ghost use Rattle.checker.specs.Turns.{cost, verdict};
+    ghost use Rattle.check_machine.specs.Turns.{cost, verdict};
     ghost use Rattle.desk.specs.contracts.desk.Desk.{the_row};
     ghost use Rattle.desk.specs.Machine.{Step};
     ghost use Rattle.desk.specs.Machine.Event.{Open, Work, Drop, Ask, Play};

@@ -1,7 +1,7 @@
 //! Jobs on a desk, each with its core and its own count of units.
 ghost use Rattle.std.specs.Prelude.{◌≡◌, ◌≢◌, ◌<◌, ◌≤◌, None, Some, ℕ, IsTrue, false};
 ghost use Rattle.answers.specs.ByteVerdicts.ByteVerdict.{Memory as no_memory};
-ghost use Rattle.checker.specs.Turns.{cost};
+ghost use Rattle.check_machine.specs.Turns.{cost};
 ghost use Rattle.desk.specs.Desks.{slot_at};
 ghost use Rattle.desk.specs.Slots.{HasGoneOn, IsFurthest, standing_of};
 

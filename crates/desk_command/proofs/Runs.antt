@@ -1,7 +1,7 @@
 -- Runs that go one step further.
 use Rattle.std.proofs.Common.{◌≡◌, ◌∙◌, ℕ, List, [], ◌∷◌, ◌++◌, Option, None, append_assoc, append-nil, ap, refl, subst, sym}
 use Rattle.std.proofs.Math.Path.{fun_ext}
-use Rattle.checker.specs.Turns.{cost, verdict}
+use Rattle.check_machine.specs.Turns.{cost, verdict}
 use Rattle.desk.specs.Machine.{Call, Reply, State, Step as MachineStep}
 use Rattle.desk.specs.Runs.{Run, nothing_open}
 use Rattle.desk_script.specs.Scripts.{AreSteps}

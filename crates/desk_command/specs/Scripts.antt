@@ -1,7 +1,7 @@
 -- What is printed of a script: the lines of the machine's replies to its steps. This project's own.
 use Rattle.std.specs.Prelude.{◌≡◌, ⊤, ℕ, List, [], ◌∷◌, ◌++◌, Option}
 use Rattle.std.specs.Io.KnownBytes.{Appends}
-use Rattle.checker.specs.Turns.{cost, verdict}
+use Rattle.check_machine.specs.Turns.{cost, verdict}
 use Rattle.desk.specs.Machine.{Call, Reply, State, Step as MachineStep}
 use Rattle.desk.specs.Runs.{Run, nothing_open}
 use Rattle.desk_script.specs.Scripts.{AreSteps}

@@ -1,6 +1,6 @@
 -- What a line spells, and when it spells nothing.
 use Rattle.std.proofs.Common.{◌≡◌, ◌≢◌, ◌≤◌, ◌<◌, ◌∙◌, ℕ, List, Result, Err, ap, arith, codes, decimal, subst, sym}
-use Rattle.desk_script.specs.declared.step.TheConstants.{MOST_CLIENTS, MOST_JOBS}
+use Rattle.desk_script.specs.declared.step.TheConstants.{LARGEST_CLIENT, LARGEST_JOB}
 use Rattle.desk_script.specs.Steps.{IsFileName, IsJob, IsPosition, Lacks, Spells, SpellsPosition, SpellsTail, Step, client_of, spaced, word_of}
 use Rattle.desk_script.specs.Steps.Step.{Open, Work, Drop, Ask, Play}
 use Rattle.desk_script.proofs.Cuts.{cut_once, decimal_lacks, head_apart, three, four}
@@ -17,7 +17,7 @@ job_parts : (front back text : List ℕ) (job : ℕ) → Lacks 32 front → IsJo
     → spaced front back ≡ spaced (decimal job) text
     → (front ≡ decimal job) × (back ≡ text)
 job_parts front back text job lacks is e =
-    let small : job ≤ MOST_JOBS = is.1 in
+    let small : job ≤ LARGEST_JOB = is.1 in
     cut_once 32 front (decimal job) back text lacks (decimal_lacks job (omega (arith, small))) e
 
 pub no_job : (tail front back : List ℕ) → tail ≡ spaced front back → Lacks 32 front
@@ -72,7 +72,7 @@ pub clients : (line word rest client tail : List ℕ) (step : Step) → line ≡
     → Lacks 32 word → rest ≡ spaced client tail → Lacks 32 client
     → (s : Spells line step) → (client ≡ decimal (client_of step)) × (s.tail ≡ tail)
 clients line word rest client tail step is lacks rest_is lacks_too s =
-    let small : client_of step ≤ MOST_CLIENTS = s.client.1 in
+    let small : client_of step ≤ LARGEST_CLIENT = s.client.1 in
     let r =
     cut_once 32 (decimal (client_of step)) client s.tail tail
     (decimal_lacks (client_of step) (omega (arith, small))) lacks_too

@@ -1,7 +1,7 @@
 -- The steps of a desk's script, and the lines that spell them. This project's own.
 use Rattle.std.specs.Prelude.{◌≡◌, ◌≢◌, ◌⊎◌, ◌≤◌, ◌<◌, ◌^◌, ℕ, List, [], ◌∷◌, ◌++◌, All, IsUtf8, codes, decimal}
 use Rattle.positions.specs.declared.position.TheConstants.{MOST_SIZES, LARGEST_HEAP}
-use Rattle.desk_script.specs.declared.step.TheConstants.{MOST_CLIENTS, MOST_JOBS}
+use Rattle.desk_script.specs.declared.step.TheConstants.{LARGEST_CLIENT, LARGEST_JOB}
 use Rattle.positions.specs.Text.{IsTextOf, IsNoPositionText, HasTooMany, HasTooLarge}
 
 -- Open client file limit, Work client job units, Drop client job, Ask client job position, Play
@@ -30,10 +30,10 @@ client_of (Ask client job position) = client
 client_of (Play client job position) = client
 
 abbrev pub IsClient : ℕ → Type 0
-IsClient client = (1 ≤ client) × (client ≤ MOST_CLIENTS)
+IsClient client = (1 ≤ client) × (client ≤ LARGEST_CLIENT)
 
 abbrev pub IsJob : ℕ → Type 0
-IsJob job = (1 ≤ job) × (job ≤ MOST_JOBS)
+IsJob job = (1 ≤ job) × (job ≤ LARGEST_JOB)
 
 -- these bytes don't stand in it
 abbrev pub Lacks : ℕ → List ℕ → Type 0

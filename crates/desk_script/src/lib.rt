@@ -9,4 +9,4 @@ mod tail;
 
 pub use fault::ScriptFault;
 pub use script::read_script;
-pub use step::{MOST_CLIENTS, MOST_JOBS, Step};
+pub use step::{LARGEST_CLIENT, LARGEST_JOB, Step};

@@ -4,7 +4,7 @@ ghost use Rattle.desk_script.specs.Steps.{«Step» as StepSpelled, IsClient, Lac
 ghost use Rattle.desk_script.specs.Views.{step_of};
 
 use crate::fault::LineFault;
-use crate::step::{MOST_CLIENTS, Step};
+use crate::step::{LARGEST_CLIENT, Step};
 use crate::tail::step_behind;
 use allocation::SmallAllocator;
 use decimals::number_between;
@@ -22,7 +22,7 @@ fn client_of(text: &str) -> Option<u8>
     ensures { MatchOption result ((n : ℕ) → IsClient n → text.now ≢ decimal n)
         (λ n. IsClient n × (text.now ≡ decimal n)) }
 {
-    match number_between(1, MOST_CLIENTS as u64, text) {
+    match number_between(1, LARGEST_CLIENT as u64, text) {
         Some(number) => Some(number as u8),
         None => None,
     }

@@ -4,11 +4,11 @@ use allocation::SmallAllocator;
 use positions::Position;
 use std::alloc::Global;
 
-/// How many clients a script may name.
-pub const MOST_CLIENTS: u8 = 16;
+/// The largest number of a client in a script.
+pub const LARGEST_CLIENT: u8 = 16;
 
-/// How many jobs of a client it may name.
-pub const MOST_JOBS: u8 = 4;
+/// The largest number of a client's job in a script.
+pub const LARGEST_JOB: u8 = 4;
 
 /// A step of a client at the desk.
 #[derive(Drop)]

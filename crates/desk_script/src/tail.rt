@@ -5,7 +5,7 @@ ghost use Rattle.desk_script.specs.Views.{step_of};
 
 use crate::fault::LineFault;
 use crate::line::cut;
-use crate::step::{MOST_JOBS, Step};
+use crate::step::{LARGEST_JOB, Step};
 use allocation::SmallAllocator;
 use decimals::number_between;
 use positions::{Position, PositionFault};
@@ -15,7 +15,7 @@ fn job_of(text: &str) -> Option<u8>
     ensures { MatchOption result ((n : ℕ) → IsJob n → text.now ≢ decimal n)
         (λ n. IsJob n × (text.now ≡ decimal n)) }
 {
-    match number_between(1, MOST_JOBS as u64, text) {
+    match number_between(1, LARGEST_JOB as u64, text) {
         Some(number) => Some(number as u8),
         None => None,
     }

@@ -1,5 +1,5 @@
 -- Going over the ones of a lane, and over the lanes.
-use Rattle.std.proofs.Common.{◌≡◌, ◌≢◌, ◌⊎◌, ℕ, zero, suc, ◌+◌, ◌-◌, ◌*◌, ◌≤◌, ◌/◌, ◌%◌, ◌^◌, ◌<◌, Bool, true, false, eqb, List, [], ◌∷◌, length, map, bit_and, refl, sym, subst, ap, ap₂, ◌∙◌, inl, inr, arith, w64}
+use Rattle.std.proofs.Common.{◌≡◌, ◌≢◌, ◌⊎◌, ℕ, zero, suc, ◌+◌, ◌-◌, ◌*◌, ◌≤◌, ◌/◌, ◌%◌, ◌^◌, ◌<◌, Bool, true, eqb, List, [], ◌∷◌, length, map, bit_and, refl, sym, subst, ap, ◌∙◌, inl, inr, arith, w64}
 use Rattle.std.specs.Prelude.{◌↔◌, ◌||◌, ◌==◌, IsTrue, slice_index}
 use Rattle.std.specs.List.{list_any}
 use Rattle.std.specs.Int.{bit_at, trailing_zeros}
@@ -7,8 +7,7 @@ use Rattle.std.specs.Ordering.{nat_cmp, eq_by_cmp}
 use Rattle.std.specs.Cmp.{both_ways, nat_cmp_total, unsigned_tied}
 use Rattle.std.specs.FinSet as fin
 use Rattle.std.specs.FinSet.{contains-from_list_nat, nat_cmp-IsAntisymmetric, contains-insert, contains-empty, contains-items, same_set}
-use Rattle.std.proofs.lemmas.Bool.{cases_lt, cases_eq}
-use Rattle.std.proofs.lemmas.Bool.Decides.{nat_tests}
+use Rattle.std.proofs.lemmas.Bool.{cases_lt, cases_eq, eqb-true, eq-eqb, or_cases as either, or_left, or_right, true≢false, false≢true}
 use Rattle.std.proofs.lemmas.Nat.{and_le_r}
 use Rattle.std.proofs.lemmas.Nat.Bits.{bit_at-trailing_zeros, bit_at_and, bit_at_lowest, bit_at-suc, bit_at-zero}
 use Rattle.element_sets.specs.Lanes.{has, set_of}
@@ -81,13 +80,10 @@ others_stay n j some fits other =
 kept_one : (n j : ℕ) → 0 < n → n < 2 ^ 64 → bit_at (without_lowest n) j ≡ 1
     → (j ≢ trailing_zeros w64 n) × (bit_at n j ≡ 1)
 kept_one n j some fits one =
+    let gone = lowest_gone n some fits in
     let other : j ≢ trailing_zeros w64 n =
-    λ e. absurd
-    (differ (sym (lowest_gone n some fits) ∙ ap (bit_at (without_lowest n)) (sym e) ∙ one)) in
+    λ e. let same = ap (bit_at (without_lowest n)) e in omega arith in
     (other, sym (others_stay n j some fits other) ∙ one)
-  where
-    differ : ◌≡◌ {A = ℕ} 0 1 → ⊥
-    differ e = omega arith
 
 pub falls : (n : ℕ) → 0 < n → without_lowest n < n
 falls n some = let low = and_le_r n (n - 1) in omega arith
@@ -102,20 +98,8 @@ contains_more s x q =
     contains-insert nat_cmp_total s x q ∙ ap (λ b. b || fin.contains s q) (unsigned_tied q x)
 
 or_cases : (q x : ℕ) (b : Bool) → (eqb q x || b) ≡ true → (q ≡ x) ⊎ (b ≡ true)
-or_cases q x b e = elim (cases_eq q x) [
-  | inl same ↦ inl same
-  | inr other ↦ inr (rest q x b other e)
-]
-  where
-    rest : (q x : ℕ) (b : Bool) → q ≢ x → (eqb q x || b) ≡ true → b ≡ true
-    rest q x b other e = grind (arith, nat_tests)
-
-or_left : (q x : ℕ) (b : Bool) → q ≡ x → (eqb q x || b) ≡ true
-or_left q x b e = grind (arith, nat_tests)
-
-or_right : (a b : Bool) → b ≡ true → (a || b) ≡ true
-or_right true b e = refl
-or_right false b e = e
+or_cases q x b e =
+    elim (either _ _ e) [ inl same ↦ inl (eqb-true q x same) | inr other ↦ inr other ]
 
 -- one entry taken over
 pub taken : (all : fin.FinSet nat_cmp) (n base : ℕ) (row : List ℕ) → 0 < n → n < 2 ^ 64
@@ -147,7 +131,7 @@ taken all n base row some fits q = (forth, back)
           let e : q ≡ slice_index row (base + trailing_zeros w64 n) =
           sym hit.3 ∙ ap (λ j. slice_index row (base + j)) same in
           inl (contains_more all (slice_index row (base + trailing_zeros w64 n)) q
-          ∙ or_left q _ (fin.contains all q) e)
+          ∙ or_left _ (fin.contains all q) (eq-eqb q _ e))
       | inr other ↦
           inr (hit.0, hit.1, others_stay n hit.0 some fits other ∙ hit.2, hit.3)
     ]
@@ -164,46 +148,23 @@ lowest_can most n base row some fits can =
 pub no_image : (s : fin.FinSet nat_cmp) (lanes row : List ℕ) → s ≡ fin.empty → (q : ℕ)
     → IsTrue (fin.contains s q) ↔ IsImageBelow lanes 0 row q
 no_image s lanes row e q = (
-  λ member.
-      absurd
-      (differ (sym (contains-empty nat_cmp q) ∙ ap (λ t. fin.contains t q) (sym e) ∙ member)),
+  λ member. absurd
+      (false≢true (sym (contains-empty nat_cmp q) ∙ ap (λ t. fin.contains t q) (sym e) ∙ member)),
   λ image. absurd (omega (arith, image.1)),
 )
-  where
-    differ : false ≡ true → ⊥
-    differ e = cc
-
--- nothing is left
-pub nothing_left : (all : fin.FinSet nat_cmp) (n base : ℕ) (row : List ℕ) (q : ℕ) → n ≡ 0
-    → IsTrue (fin.contains all q) ↔ Has all n base row q
-nothing_left all n base row q none = (inl, back)
-  where
-    differ : ◌≡◌ {A = ℕ} 0 1 → ⊥
-    differ e = omega arith
-
-    back : Has all n base row q → IsTrue (fin.contains all q)
-    back (inl member) = member
-    back (inr hit) =
-        absurd (differ (sym (bit_at-zero hit.0) ∙ ap (λ m. bit_at m hit.0) (sym none) ∙ hit.2))
 
 -- ---- the lanes one after another
-
-is_one : (m : ℕ) → (m == 1) ≡ true → m ≡ 1
-is_one m e = grind (arith, nat_tests)
-
-one_is : (m : ℕ) → m ≡ 1 → (m == 1) ≡ true
-one_is m e = grind (arith, nat_tests)
 
 has_one : (lanes : List ℕ) (i j : ℕ) → j < 64 → bit_at (slice_index lanes i) j ≡ 1
     → has lanes (64 * i + j) ≡ true
 has_one lanes i j lt one =
     let row : (64 * i + j) / 64 ≡ i = omega arith in
     let col : (64 * i + j) % 64 ≡ j = omega arith in
-    ap₂ (λ k b. bit_at (slice_index lanes k) b == 1) row col ∙ one_is _ one
+    rw (row, col) (eq-eqb _ 1 one)
 
 one_has : (lanes : List ℕ) (x : ℕ) → has lanes x ≡ true
     → bit_at (slice_index lanes (x / 64)) (x % 64) ≡ 1
-one_has lanes x e = is_one _ e
+one_has lanes x e = eqb-true _ 1 e
 
 pub lane_more : (all new : fin.FinSet nat_cmp) (lanes : List ℕ) (i : ℕ) (row : List ℕ)
     → ((q : ℕ) → IsTrue (fin.contains all q) ↔ IsImageBelow lanes i row q)
@@ -245,26 +206,17 @@ any_from : (f : ℕ → ℕ) (xs : List ℕ) (q : ℕ) → list_any (λ y. y == 
     → (x : ℕ) × (list_any (eq_by_cmp nat_cmp x) xs ≡ true) × (f x ≡ q)
 any_from f [] q e = absurd (cc)
 any_from f (x ∷ xs) q e = elim (or_cases (f x) q (list_any (λ y. y == q) (map f xs)) e) [
-  | inl same ↦ (
-    x,
-    ap (λ b. b || list_any (eq_by_cmp nat_cmp x) xs) (unsigned_tied x x ∙ itself x),
-    same,
-  )
+  | inl same ↦ (x, or_left _ _ (unsigned_tied x x ∙ eq-eqb x x refl), same)
   | inr rest ↦ let r = any_from f xs q rest in (r.0, or_right _ _ r.1, r.2)
 ]
-  where
-    itself : (n : ℕ) → eqb n n ≡ true
-    itself n = grind (arith, nat_tests)
 
 any_to : (f : ℕ → ℕ) (xs : List ℕ) (x q : ℕ) → list_any (eq_by_cmp nat_cmp x) xs ≡ true → f x ≡ q
     → list_any (λ y. y == q) (map f xs) ≡ true
 any_to f [] x q e same = absurd (cc)
-any_to f (y ∷ xs) x q e same =
-    elim (or_cases x y (list_any (eq_by_cmp nat_cmp x) xs)
-    (ap (λ b. b || list_any (eq_by_cmp nat_cmp x) xs) (sym (unsigned_tied x y)) ∙ e)) [
-      | inl here ↦ or_left (f y) q _ (ap f (sym here) ∙ same)
-      | inr rest ↦ or_right _ _ (any_to f xs x q rest same)
-    ]
+any_to f (y ∷ xs) x q e same = elim (or_cases x y _ (rw unsigned_tied at e)) [
+  | inl here ↦ or_left _ _ (eq-eqb (f y) q (ap f (sym here) ∙ same))
+  | inr rest ↦ or_right _ _ (any_to f xs x q rest same)
+]
 
 -- the members of the image are the row's entries at the members
 pub translated_from : (s : fin.FinSet nat_cmp) (row : List ℕ) (q : ℕ)
@@ -287,11 +239,8 @@ pub small_members : (lanes : List ℕ) (x : ℕ) → IsTrue (fin.contains (set_o
 small_members lanes x member = elim (cases_lt x (64 * length lanes)) [
   | inl low ↦ low
   | inr past ↦ absurd
-      (differ (sym (sym (contains-set_of lanes x) ∙ member) ∙ has_past lanes x past))
+      (true≢false (sym (sym (contains-set_of lanes x) ∙ member) ∙ has_past lanes x past))
 ]
-  where
-    differ : true ≡ false → ⊥
-    differ e = cc
 
 -- where no member stands past the first lanes
 lanes_so_far : (all : fin.FinSet nat_cmp) (lanes row : List ℕ) (n : ℕ)

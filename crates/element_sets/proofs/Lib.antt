@@ -1,2 +1,3 @@
+mod ApartLaws
 pub mod HitLaws
 pub mod SetLaws

@@ -7,7 +7,7 @@ use Rattle.std.specs.Cmp.{both_ways, nat_cmp_total, unsigned_tied}
 use Rattle.std.specs.FinSet as fin
 use Rattle.std.specs.FinSet.{nat_cmp-IsAntisymmetric, contains-insert, contains-union, contains-empty, same_set, is_subset-contains, contains-is_subset}
 use Rattle.std.proofs.lemmas.Bool.Decides.{nat_tests}
-use Rattle.std.proofs.lemmas.Bool.{cases_lt, cases_eq}
+use Rattle.std.proofs.lemmas.Bool.{cases_lt, cases_eq, and_parts, ne_eqb, eq-eqb, true≢false, not-true, false_from_ne_true, both_ways as both_answers}
 use Rattle.std.proofs.lemmas.List.{get_or_past, get_or-set_same, get_or-set_other}
 use Rattle.std.proofs.lemmas.Nat.Bits.{bit_at_and, bit_at_or, bit_at_not, bit_at-lt, bit_at-zero, bit_at_set_same, bit_at_set_other, bit_at-trailing_zeros, shr_and_one}
 use Rattle.std.proofs.lemmas.Nat.{le_or_l, le_or_r, and_le_l, or_lt}
@@ -37,33 +37,30 @@ and_bit m n a b = grind (arith, nat_tests)
 not_bit : (m : ℕ) → m < 2 → eqb (1 - m) 1 ≡ not (eqb m 1)
 not_bit m a = grind (arith, nat_tests)
 
+-- a set by lanes, where one bit of the lanes' result comes from their bits there
+module _
+    (op : ℕ → ℕ → ℕ) (test : Bool → Bool → Bool) (none : test false false ≡ false)
+    (bits : (m n j : ℕ) → eqb (bit_at (op m n) j) 1 ≡ test (eqb (bit_at m j) 1) (eqb (bit_at n j) 1))
+    (xs ys : List ℕ) (q : ℕ) (same : length xs ≡ length ys) where
+  has-by : has (zip2 op xs ys) q ≡ test (has xs q) (has ys q)
+  has-by = elim (cases_lt q (64 * length xs)) [
+    | inl low ↦
+        ap (λ n. eqb (bit_at n (q % 64)) 1)
+        (get_or-zip2 op xs ys (q / 64) 0 0 0 (omega arith) (omega arith))
+        ∙ bits (get_or xs (q / 64) 0) (get_or ys (q / 64) 0) (q % 64)
+    | inr past ↦ has_past _ q (omega (arith, length-zip2 op xs ys same))
+        ∙ sym (ap₂ test (has_past xs q past) (has_past ys q (omega arith)) ∙ none)
+  ]
+
 pub has-or : (xs ys : List ℕ) (q : ℕ) → length xs ≡ length ys
     → has (zip2 bit_or xs ys) q ≡ (has xs q || has ys q)
-has-or xs ys q same = elim (cases_lt q (64 * length xs)) [
-  | inl low ↦
-      let i : q / 64 < length xs = omega arith in
-      let j : q / 64 < length ys = omega arith in
-      ap (λ n. eqb (bit_at n (q % 64)) 1) (get_or-zip2 bit_or xs ys (q / 64) 0 0 0 i j)
-      ∙ ap (λ n. eqb n 1) (bit_at_or (get_or xs (q / 64) 0) (get_or ys (q / 64) 0) (q % 64))
-      ∙ or_bit _ _ (bit_at-lt (get_or xs (q / 64) 0) (q % 64))
-      (bit_at-lt (get_or ys (q / 64) 0) (q % 64))
-  | inr past ↦ has_past _ q (omega (arith, length-zip2 bit_or xs ys same))
-      ∙ sym (ap₂ (λ a b. a || b) (has_past xs q past) (has_past ys q (omega arith)))
-]
+has-or = has-by bit_or (λ a b. a || b) refl
+    (λ m n j. ap (λ v. eqb v 1) (bit_at_or m n j) ∙ or_bit _ _ (bit_at-lt m j) (bit_at-lt n j))
 
 pub has-and : (xs ys : List ℕ) (q : ℕ) → length xs ≡ length ys
     → has (zip2 bit_and xs ys) q ≡ (has xs q && has ys q)
-has-and xs ys q same = elim (cases_lt q (64 * length xs)) [
-  | inl low ↦
-      let i : q / 64 < length xs = omega arith in
-      let j : q / 64 < length ys = omega arith in
-      ap (λ n. eqb (bit_at n (q % 64)) 1) (get_or-zip2 bit_and xs ys (q / 64) 0 0 0 i j)
-      ∙ ap (λ n. eqb n 1) (bit_at_and (get_or xs (q / 64) 0) (get_or ys (q / 64) 0) (q % 64))
-      ∙ and_bit _ _ (bit_at-lt (get_or xs (q / 64) 0) (q % 64))
-      (bit_at-lt (get_or ys (q / 64) 0) (q % 64))
-  | inr past ↦ has_past _ q (omega (arith, length-zip2 bit_and xs ys same))
-      ∙ sym (ap₂ (λ a b. a && b) (has_past xs q past) (has_past ys q (omega arith)))
-]
+has-and = has-by bit_and (λ a b. a && b) refl
+    (λ m n j. ap (λ v. eqb v 1) (bit_at_and m n j) ∙ and_bit _ _ (bit_at-lt m j) (bit_at-lt n j))
 
 pub set_of-or : (xs ys : List ℕ) → length xs ≡ length ys
     → set_of (zip2 bit_or xs ys) ≡ fin.union (set_of xs) (set_of ys)
@@ -100,33 +97,26 @@ has-set xs x q i =
     let m = get_or xs (x / 64) 0 in
     let v = bit_or m (1 * 2 ^ (x % 64) % 2 ^ 64) in
     elim (cases_eq (q / 64) (x / 64)) [
-      | inl same ↦ elim (cases_eq (q % 64) (x % 64)) [
-        | inl bit ↦
-            let is : q ≡ x = omega arith in
-            ap (λ n. eqb (bit_at (get_or (set xs (x / 64) v) n 0) (q % 64)) 1) same
-            ∙ ap (λ n. eqb (bit_at n (q % 64)) 1) (get_or-set_same xs (x / 64) v 0 i)
-            ∙ ap (λ n. eqb (bit_at v n) 1) bit
-            ∙ ap (λ n. eqb n 1) (bit_at_set_same w64 m (x % 64) k)
-            ∙ true_first q x (has xs q) is
-        | inr bit ↦
-            let other : q ≡ x → ⊥ = λ e. bit (ap (λ n. n % 64) e) in
-            ap (λ n. eqb (bit_at (get_or (set xs (x / 64) v) n 0) (q % 64)) 1) same
-            ∙ ap (λ n. eqb (bit_at n (q % 64)) 1) (get_or-set_same xs (x / 64) v 0 i)
-            ∙ ap (λ n. eqb n 1) (bit_at_set_other w64 m (x % 64) k (q % 64) bit)
-            ∙ ap (λ n. eqb (bit_at (get_or xs n 0) (q % 64)) 1) (sym same)
-            ∙ false_first q x (has xs q) other
+      | inl row ↦ elim (cases_eq (q % 64) (x % 64)) [
+        | inl col ↦ rw (
+          row,
+          col,
+          get_or-set_same xs (x / 64) v 0 i,
+          bit_at_set_same w64 m (x % 64) k,
+          eq-eqb q x (omega arith),
+        ) refl
+        | inr bit ↦ rw (
+          row,
+          get_or-set_same xs (x / 64) v 0 i,
+          bit_at_set_other w64 m (x % 64) k (q % 64) bit,
+          ne_eqb q x (λ e. bit (ap (λ n. n % 64) e)),
+        ) refl
       ]
-      | inr apart ↦
-          let other : q ≡ x → ⊥ = λ e. apart (ap (λ n. n / 64) e) in
-          ap (λ n. eqb (bit_at n (q % 64)) 1) (get_or-set_other xs (x / 64) (q / 64) v 0 apart)
-          ∙ false_first q x (has xs q) other
+      | inr apart ↦ rw (
+        get_or-set_other xs (x / 64) (q / 64) v 0 apart,
+        ne_eqb q x (λ e. apart (ap (λ n. n / 64) e)),
+      ) refl
     ]
-  where
-    true_first : (q x : ℕ) (b : Bool) → q ≡ x → true ≡ (eqb q x || b)
-    true_first q x b e = grind (arith, nat_tests)
-
-    false_first : (q x : ℕ) (b : Bool) → (q ≡ x → ⊥) → b ≡ (eqb q x || b)
-    false_first q x b e = grind (arith, nat_tests)
 
 pub set_of-set : (xs : List ℕ) (x : ℕ) → x / 64 < length xs
     → set_of (set xs (x / 64) (bit_or (get_or xs (x / 64) 0) (1 * 2 ^ (x % 64) % 2 ^ 64)))
@@ -185,11 +175,6 @@ some_has zs fits h = elim (nonzero_lane 0 zs h) [
 
 -- ---- what two sets have in common, and what one lacks
 
-both : (a b : Bool) → (a && b) ≡ true → (a ≡ true) × (b ≡ true)
-both true true e = (refl, refl)
-both true false e = absurd (cc)
-both false b e = absurd (cc)
-
 pub and_fits : (xs ys : List ℕ) → length xs ≡ length ys → ((i : ℕ) → get_or xs i 0 < 2 ^ 64)
     → (i : ℕ) → get_or (zip2 bit_and xs ys) i 0 < 2 ^ 64
 and_fits xs ys same fits i = elim (cases_lt i (length xs)) [
@@ -208,7 +193,7 @@ pub meets_when : (xs ys : List ℕ) → length xs ≡ length ys → ((i : ℕ) �
     → (q : ℕ) × (fin.contains (set_of xs) q ≡ true) × (fin.contains (set_of ys) q ≡ true)
 meets_when xs ys same fits h =
     let s = some_has (zip2 bit_and xs ys) (and_fits xs ys same fits) (positive _ h) in
-    let b = both _ _ (sym (has-and xs ys s.0 same) ∙ s.1) in
+    let b = and_parts _ _ (sym (has-and xs ys s.0 same) ∙ s.1) in
     (s.0, contains-set_of xs s.0 ∙ b.0, contains-set_of ys s.0 ∙ b.1)
   where
     positive : (n : ℕ) → IsTrue (not (eqb n 0)) → 0 < n
@@ -221,13 +206,7 @@ meets_from xs ys same q a b =
     let h : has (zip2 bit_and xs ys) q ≡ true =
     has-and xs ys q same ∙ ap₂ (λ x y. x && y) (sym (contains-set_of xs q) ∙ a)
     (sym (contains-set_of ys q) ∙ b) in
-    positive _ (λ e. absurd (differ (sym h ∙ none_has (zip2 bit_and xs ys) e q)))
-  where
-    differ : true ≡ false → ⊥
-    differ e = cc
-
-    positive : (n : ℕ) → (n ≡ 0 → ⊥) → IsTrue (not (eqb n 0))
-    positive n h = grind (arith, nat_tests)
+    rw (ne_eqb _ 0 (λ e. true≢false (sym h ∙ none_has (zip2 bit_and xs ys) e q))) refl
 
 pub set_fits : (xs : List ℕ) (k v : ℕ) → k < length xs → v < 2 ^ 64
     → ((i : ℕ) → get_or xs i 0 < 2 ^ 64) → (i : ℕ) → get_or (set xs k v) i 0 < 2 ^ 64
@@ -273,30 +252,18 @@ subset_is xs ys same fits fits2 =
           (sym (has-missing xs ys q same fits2) ∙ none_has zs none q)))
       | inr some ↦
           let s = some_has zs (and_fits xs (not64 ys) long fits) some in
-          let b = both _ _ (sym (has-missing xs ys s.0 same fits2) ∙ s.1) in
-          not_zero _ some
-          ∙ is_false _
-          (λ all.
-          clash (has ys s.0) b.1
+          let b = and_parts _ _ (sym (has-missing xs ys s.0 same fits2) ∙ s.1) in
+          ne_eqb _ 0 (λ e. omega arith)
+          ∙ sym (false_from_ne_true _ (λ all.
+          both_answers (has ys s.0) (not-true (has ys s.0) b.1)
           (sym (contains-set_of ys s.0) ∙ is_subset-contains nat_cmp_total (set_of xs)
-          (set_of ys) all s.0 (contains-set_of xs s.0 ∙ b.0)))
+          (set_of ys) all s.0 (contains-set_of xs s.0 ∙ b.0))))
     ]
   where
     kept : (a b : Bool) → a ≡ true → (a && not b) ≡ false → b ≡ true
     kept a true e h = refl
     kept true false e h = absurd (cc)
     kept false false e h = absurd (cc)
-
-    not_zero : (n : ℕ) → 0 < n → eqb n 0 ≡ false
-    not_zero n h = grind (arith, nat_tests)
-
-    is_false : (b : Bool) → (b ≡ true → ⊥) → false ≡ b
-    is_false true h = absurd (h refl)
-    is_false false h = refl
-
-    clash : (b : Bool) → not b ≡ true → b ≡ true → ⊥
-    clash true h e = cc
-    clash false h e = cc
 
 -- ---- equal sets
 
@@ -314,9 +281,7 @@ set_of-injective xs ys same_length fits fits2 e =
     let col : q % 64 ≡ j = omega arith in
     let h : has xs q ≡ has ys q = sym (contains-set_of xs q) ∙ ap (λ s. fin.contains s q) e
     ∙ contains-set_of ys q in
-    same_bit _ _ (bit_at-lt (get_or xs i 0) j) (bit_at-lt (get_or ys i 0) j)
-    (sym (ap₂ (λ k b. eqb (bit_at (get_or xs k 0) b) 1) row col) ∙ h
-    ∙ ap₂ (λ k b. eqb (bit_at (get_or ys k 0) b) 1) row col)))
+    same_bit _ _ (bit_at-lt (get_or xs i 0) j) (bit_at-lt (get_or ys i 0) j) (rw (row, col) at h)))
 
 pub eq_is : (xs ys : List ℕ) → length xs ≡ length ys → ((i : ℕ) → get_or xs i 0 < 2 ^ 64)
     → ((i : ℕ) → get_or ys i 0 < 2 ^ 64) → bytes_eq xs ys ≡ same (set_of xs) (set_of ys)

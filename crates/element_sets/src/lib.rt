@@ -1,7 +1,7 @@
 //! Sets of small numbers, in lanes of 64 bits. No call takes memory; none fails.
 #![tactic(auto)]
 
-ghost use Rattle.std.specs.Prelude.{◌≡◌, ℕ, ◌*◌, ◌<◌, ◌≤◌, ◌↔◌, IsTrue, List, slice_index};
+ghost use Rattle.std.specs.Prelude.{◌≡◌, ◌≢◌, ℕ, ◌*◌, ◌<◌, ◌≤◌, ◌↔◌, IsTrue, List, slice_index};
 ghost use Rattle.std.specs.Ordering.{nat_cmp};
 ghost use Rattle.std.specs.FinSet as set;
 ghost use Rattle.element_sets.specs.Translation.{translated, CanTranslate};
@@ -123,6 +123,25 @@ impl<const LANES: usize> LaneSet<LANES> {
         ensures { result ≡ set.is_subset self.now set.empty }
     {
         self.subset(&LaneSet::new())
+    }
+
+    /// The least number below the bound that is in exactly one of the sets, or the bound.
+    pub fn first_apart(&self, other: &Self, bound: u16) -> u16
+        ensures within { result ≤ bound }
+        ensures alike { (x : ℕ) → x < result → set.contains self.now x ≡ set.contains other.now x }
+        ensures apart { result < bound
+            → set.contains self.now result ≢ set.contains other.now result }
+    {
+        // No later lane has a number below the bound.
+        let reached = (bound as usize).div_ceil(64).min(LANES);
+        for i in 0..reached {
+            let differing = self.lanes[i] ^ other.lanes[i];
+            if differing != 0 {
+                let first = 64 * i + differing.trailing_zeros() as usize;
+                return first.min(bound as usize) as u16;
+            }
+        }
+        bound
     }
 
     /// Adds every member of the other set.

@@ -5,13 +5,11 @@ use crate::format::format_by;
 use crate::guess::Guess;
 use crate::lines::{push_keys, push_line, push_pair};
 use allocation::Memory;
+use certificate_text::LONGEST_TEXT;
 use misere_theory::MOST_ENTRIES;
 use octal_code::Code;
 use quotient_search::DEEPEST;
 use std::alloc::Global;
-
-/// The most bytes of a certificate that the program reads.
-const MOST_BYTES: usize = 4_194_304;
 
 /// Whether a certificate has room for the entries of a start and a period, and no more heaps show them
 /// than are looked at.
@@ -27,7 +25,7 @@ fn has_room(code: &Code, repeat: Repeat) -> bool {
 ///
 /// There is none where `has_room` says no, where the guess has no such heaps or products, where more
 /// than `most` elements are reached, or only one, where none of them is in the portion, where no
-/// element separates two of them, or where the text has more than `MOST_BYTES`. Whatever numbers the
+/// element separates two of them, or where the text has more than `LONGEST_TEXT`. Whatever numbers the
 /// guess holds, the call ends.
 pub(crate) fn draft(
     alloc: Global,
@@ -69,7 +67,7 @@ fn text(
     push_numbers(repeat, form, &mut text)?;
     push_table(form, format, &mut text)?;
     text.extend_from_slice(b"end\n")?;
-    Ok(if text.len() <= MOST_BYTES {
+    Ok(if text.len() <= LONGEST_TEXT {
         Some(text)
     } else {
         None

@@ -4,7 +4,7 @@ use positions::{Outcome, Position};
 use std::alloc::Global;
 
 /// The letters of the kinds of heaps.
-pub(crate) const LETTERS: &[u8] = b"abcdefghijklmnopqrstuvwxyz";
+pub(crate) const ALPHABET: &[u8] = b"abcdefghijklmnopqrstuvwxyz";
 
 /// What is known of the outcomes of a position beside each context.
 pub(crate) type Row = Vec<Option<Outcome>>;
@@ -95,7 +95,7 @@ impl Groups {
         at: usize,
         k: usize,
     ) -> Result<Option<Vec<u8>>, Memory> {
-        match (self.members.get(at), LETTERS.get(k)) {
+        match (self.members.get(at), ALPHABET.get(k)) {
             (Some(shorter), Some(letter)) => Ok(Some(lengthened(alloc, &shorter.word, *letter)?)),
             _ => Ok(None),
         }

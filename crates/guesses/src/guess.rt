@@ -5,7 +5,7 @@ ghost use Rattle.guesses.specs.Guesses.{IsWellFormed, IsPeriodOrNone, IsPeriodGu
 use allocation::Memory;
 use octal_code::Code;
 use periods::{is_shown, soonest_period};
-use quotient_search::Quotient;
+use quotient_search::HeapQuotient;
 use std::alloc::{Allocator, Global};
 
 /// A guessed quotient of a game restricted to the heaps 1 to `heaps.len()`, of which nothing is
@@ -92,7 +92,7 @@ fn numbers_below<A: Allocator + Copy>(
 /// The marks of the elements in the portion.
 fn marks<A: Allocator + Copy>(
     alloc: A,
-    quotient: &Quotient<A>,
+    quotient: &HeapQuotient<A>,
     order: usize,
 ) -> Result<Vec<bool, A>, Memory>
     ensures { IfOk result (λ v. length v.items ≡ order) }
@@ -119,7 +119,7 @@ fn period_of(heaps: &[u16]) -> (usize, usize)
 pub fn guess_of<A: Allocator + Copy>(
     alloc: A,
     code: &Code,
-    quotient: &Quotient<A>,
+    quotient: &HeapQuotient<A>,
     most: usize,
 ) -> Result<Option<Guess<A>>, Memory>
     ensures formed { IfOk result

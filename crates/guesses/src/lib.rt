@@ -11,14 +11,14 @@ mod drafts;
 mod format;
 mod groups;
 mod guess;
+mod guesser;
 mod lines;
 mod numbering;
 mod sample;
-mod solver;
 mod words;
 
 pub use drafts::Drafts;
 pub use guess::Guess;
-pub use quotient_search::Cause;
+pub use guesser::{Guesser, furthest};
+pub use quotient_search::Reason;
 pub use sample::sampled;
-pub use solver::{Solver, furthest};

@@ -5,10 +5,7 @@ use misere_theory::LARGEST_ORDER;
 use std::alloc::Global;
 
 /// The number of an element that has none yet.
-const NONE: u16 = u16::MAX;
-
-/// The most elements that a certificate may have.
-const MOST_ELEMENTS: usize = LARGEST_ORDER as usize;
+const UNNUMBERED: u16 = u16::MAX;
 
 /// How an element is made: a smaller one, times a heap's.
 #[derive(Clone, Copy)]
@@ -47,11 +44,11 @@ impl Numbering {
     /// Numbers the elements that products of these heaps' elements reach. Answers whether there are
     /// no more than `most` of them, and at least two.
     pub fn fill(&mut self, guess: &Guess, heaps: &[u16], most: usize) -> Result<bool, Memory> {
-        if guess.order >= NONE as usize {
+        if guess.order >= UNNUMBERED as usize {
             return Ok(false);
         }
-        self.numbers.resize(guess.order, NONE)?;
-        let most = most.min(MOST_ELEMENTS);
+        self.numbers.resize(guess.order, UNNUMBERED)?;
+        let most = most.min(LARGEST_ORDER as usize);
         if !self.add(0)? || !self.multiply_all(guess, heaps, most)? {
             return Ok(false);
         }
@@ -63,7 +60,7 @@ impl Numbering {
     fn add(&mut self, element: u16) -> Result<bool, Memory> {
         let next = self.elements.len();
         let at = element as usize;
-        if next > MOST_ELEMENTS || at >= self.numbers.len() {
+        if next > LARGEST_ORDER as usize || at >= self.numbers.len() {
             return Ok(false);
         }
         self.elements.push(element)?;
@@ -128,7 +125,7 @@ impl Numbering {
     /// The number of a guessed element, if it has one.
     pub fn number(&self, element: u16) -> Option<u16> {
         match self.numbers.get(element as usize).copied() {
-            Some(NONE) | None => None,
+            Some(UNNUMBERED) | None => None,
             found => found,
         }
     }

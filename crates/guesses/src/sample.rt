@@ -1,5 +1,5 @@
 //! A sample of positions, grouped by their outcomes beside others.
-use crate::groups::{Groups, LETTERS, Member, Row, position_of};
+use crate::groups::{ALPHABET, Groups, Member, Row, position_of};
 use crate::guess::Guess;
 use crate::words::guess_by_relations;
 use allocation::Memory;
@@ -251,7 +251,7 @@ impl Sample {
         row: Row,
         order: usize,
     ) -> Result<Added, Memory> {
-        let Some(letter) = LETTERS.get(groups.kinds.len()).copied() else {
+        let Some(letter) = ALPHABET.get(groups.kinds.len()).copied() else {
             return Ok(Added::No);
         };
         let word = vec![in self.alloc; letter]?;

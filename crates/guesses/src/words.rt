@@ -6,8 +6,8 @@ use monoid_table::Table;
 use octal_code::Code;
 use positions::Outcome;
 use presentations::{
-    Generator, LARGEST_EXPONENT, LETTERS, MOST_RELATIONS, Named, PresFault, Presentation, Relation,
-    Word, table_of,
+    LARGEST_EXPONENT, LETTERS, MOST_RELATIONS, Named, NamedElement, PresFault, Presentation,
+    Relation, Word, table_of,
 };
 use std::alloc::Global;
 
@@ -171,7 +171,7 @@ fn heaps_of(alloc: Global, groups: &Groups, elements: &[u16]) -> Result<Vec<u16>
 }
 
 /// The product of a word's letters.
-fn element_of(table: &Table, generators: &[Generator], word: &[u8]) -> u16 {
+fn element_of(table: &Table, generators: &[NamedElement], word: &[u8]) -> u16 {
     let mut element = 0;
     for letter in word {
         if let Some(generator) = generators.iter().find(|g| g.letter == *letter) {

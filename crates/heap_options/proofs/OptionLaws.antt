@@ -1,9 +1,7 @@
 -- What the lists of options hold: each option of the heap, and nothing else.
-use Rattle.std.proofs.Common.{◌≡◌, ◌↔◌, ℕ, ◌+◌, ◌-◌, ◌/◌, ◌<◌, ◌≤◌, inl, inr, Bool, true, false, List, [], ◌∷◌, ◌++◌, length, min, refl, sym, subst, arith, IsBitSet}
+use Rattle.std.proofs.Common.{◌≡◌, ◌↔◌, ℕ, ◌+◌, ◌-◌, ◌/◌, ◌<◌, ◌≤◌, inl, inr, Bool, true, false, List, [], ◌∷◌, ◌++◌, length, min, refl, sym, subst, arith}
 use Rattle.std.specs.List.{Contains}
-use Rattle.std.proofs.lemmas.List.{get_or_past}
 use Rattle.std.proofs.lemmas.List.Elements.{Contains-append_left, Contains-append_right, Contains-append_cases}
-use native.Mathlib.Decide.{dec_le}
 use Rattle.misere_theory.specs.Games.{digit, HeapOption}
 use Rattle.misere_theory.specs.Games.HeapOption.{Nothing as TakesAll, One as LeavesOne, Two as LeavesTwo, Three as LeavesThree}
 use Rattle.octal_code.specs.Bits.{allows, takes_all, leaves_one}
@@ -14,6 +12,7 @@ use Rattle.heap_options.specs.Exact.{heaps_of, IsInOrder, IsLeftAt, IsPartUpTo}
 use Rattle.misere_theory.proofs.ListLaws.{nothing_in, only_in, itself_in, in_flat, of_flat, in_map, of_map}
 use Rattle.heap_options.specs.declared.left.Left.{Left}
 use Rattle.heap_options.specs.declared.left.Left.TheVariants.{Nothing, One, Two, Three}
+use Rattle.misere_theory.proofs.Codes.{digit_within}
 
 in_where : (b : Bool) (xs : List Left) (L : Left) → b ≡ true → Contains xs L
     → Contains (where_holds b xs) L
@@ -138,20 +137,11 @@ module _ (code : List ℕ) (n most j : ℕ) where
       (Contains-append_right (two_left code n most j) (three_left code n most j) (Three a b c)
       (in_three a b c h u.0 u.1))
 
-no_bit_of_zero : (d b : ℕ) → d ≡ 0 → IsBitSet d b → ⊥
-no_bit_of_zero d b e h = let f = subst (λ i. IsBitSet i b) e h in f refl
-
-within : (code : List ℕ) (j b : ℕ) → IsBitSet (digit code j) b → j < length code
-within code j b h = elim (dec_le (length code) j) [
-  | yes past ↦ absurd (no_bit_of_zero (digit code j) b (get_or_past code j 0 past) h)
-  | no l ↦ omega arith
-]
-
 left_within : (code : List ℕ) (n j : ℕ) (L : Left) → IsLeftAt code n j L → j < length code
-left_within code n j Nothing (l, h, b) = within code j 0 b
-left_within code n j (One a) (l, p, h, b) = within code j 1 b
-left_within code n j (Two a c) (p, o, h, b) = within code j 2 b
-left_within code n j (Three a c d) (p, o, q, h, b) = within code j 3 b
+left_within code n j Nothing (l, h, b) = digit_within code j 0 b
+left_within code n j (One a) (l, p, h, b) = digit_within code j 1 b
+left_within code n j (Two a c) (p, o, h, b) = digit_within code j 2 b
+left_within code n j (Three a c d) (p, o, q, h, b) = digit_within code j 3 b
 
 pub in_options : (code : List ℕ) (n most j : ℕ) (L : Left) → IsLeftAt code n j L → IsPartUpTo most L
     → Contains (options_up_to code n most) L
@@ -159,10 +149,18 @@ in_options code n most j L h u =
     in_flat (options_at code n most) 0 (length code) j L (omega arith)
     (let l = left_within code n j L h in omega arith) (in_at code n most j L h u)
 
+-- what a list holds leaves so much for one number that is taken away, and no part too large
+pub listed_as : (code : List ℕ) (n most : ℕ) (L : Left) → Contains (options_up_to code n most) L
+    ↔ (((j : ℕ) × IsLeftAt code n j L) × IsPartUpTo most L)
+listed_as code n most L = (
+  λ c. let (j, l, h, i) = of_flat (options_at code n most) 0 (length code) L c in let (k, u) =
+      of_at code n most j L i in ((j, k), u),
+  λ h. in_options code n most h.0.0 L h.0.1 h.1,
+)
+
 pub of_options : (code : List ℕ) (n most : ℕ) (L : Left) → Contains (options_up_to code n most) L
     → (j : ℕ) × IsLeftAt code n j L
-of_options code n most L c = let (j, l, h, i) = of_flat (options_at code n most) 0 (length code) L c
-    in let (k, u) = of_at code n most j L i in (j, k)
+of_options code n most L c = ((listed_as code n most L).0 c).0
 
 pub in_all : (code : List ℕ) (n j : ℕ) (L : Left) → IsLeftAt code n j L
     → Contains (options_of code n) L
@@ -178,18 +176,8 @@ in_all code n j L h = in_options code n n j L h (small code n j L h)
 pub cut : (code : List ℕ) (n most : ℕ) (L : Left) → Contains (options_up_to code n most) L
     ↔ (Contains (options_of code n) L × IsPartUpTo most L)
 cut code n most L = (
-  λ c. let (j, l, h, i) = of_flat (options_at code n most) 0 (length code) L c in let (k, u) =
-      of_at code n most j L i in (in_all code n j L k, u),
+  λ c. let ((j, k), u) = (listed_as code n most L).0 c in (in_all code n j L k, u),
   λ h. let (j, k) = of_options code n n L h.0 in in_options code n most j L k h.1,
-)
-
--- what a list holds leaves so much for one number that is taken away, and no part too large
-pub listed_as : (code : List ℕ) (n most : ℕ) (L : Left) → Contains (options_up_to code n most) L
-    ↔ (((j : ℕ) × IsLeftAt code n j L) × IsPartUpTo most L)
-listed_as code n most L = (
-  λ c. let (j, l, h, i) = of_flat (options_at code n most) 0 (length code) L c in let (k, u) =
-      of_at code n most j L i in ((j, k), u),
-  λ h. in_options code n most h.0.0 L h.0.1 h.1,
 )
 
 option_of : (code : List ℕ) (n j : ℕ) (L : Left) → IsLeftAt code n j L

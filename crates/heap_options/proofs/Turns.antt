@@ -12,16 +12,10 @@ use Rattle.heap_options.specs.declared.left.Left.{Left}
 use Rattle.heap_options.specs.declared.walk.Untried.TheVariants.{Everything, Splits, Triples}
 use Rattle.heap_options.specs.declared.walk.Walk.{Walk}
 
--- where more is taken away, fewer stages are left, whatever was untried
-more_falls : (h e x : ℕ) → (h + 3) * e + (h + 2) < (h + 3) * (e + 1) + x
-more_falls h e x = omega arith
-
 pub after_all_falls : (code : List ℕ) (s : Walk) → s.away < length code
     → stages_left code (after_all s) < stages_left code s
 after_all_falls code s inside =
-    let e : length code - s.away ≡ length code - (s.away + 1) + 1 = omega arith in
-    subst (λ d. stages_left code (after_all s) < (s.heap + 3) * d + stages s.heap s.untried) (sym e)
-    (more_falls s.heap (length code - (s.away + 1)) (stages s.heap s.untried))
+    let e : length code - s.away ≡ length code - (s.away + 1) + 1 = omega arith in rw e (omega arith)
 
 -- a later stage of what takes the same number away
 pub stage_falls : (p a b : ℕ) → a < b → p + a < p + b

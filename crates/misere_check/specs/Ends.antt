@@ -4,9 +4,9 @@ use Rattle.std.specs.Prelude.{◌≡◌, ◌<◌, ℕ, Bool, List, Option, codes
 use Rattle.streams.specs.Printers.{Printer, PrintsLine}
 use Rattle.streams.specs.declared.fault.StreamFault.{StreamFault}
 use Rattle.streams.specs.declared.fault.StreamFault.TheVariants.{Read, Write, Memory}
-use Rattle.checker.specs.Turns.{verdict}
+use Rattle.check_machine.specs.Turns.{verdict}
 use Rattle.verdict_texts.specs.Streams.{WritesOfStream, WritesSomeOfStream}
-use Rattle.requests.specs.declared.plans.TheConstants.{DEFAULT_LIMIT}
+use Rattle.requests.specs.declared.ranges.TheConstants.{DEFAULT_LIMIT}
 
 -- the line that tells why there is no verdict
 abbrev pub cause : StreamFault → List ℕ

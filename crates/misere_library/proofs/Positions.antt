@@ -19,10 +19,6 @@ speaks_there heap [] p k d l = absurd (omega arith)
 speaks_there heap (n ∷ X) p zero d l = p.0
 speaks_there heap (n ∷ X) p (suc k) d l = speaks_there heap X p.1 k d (omega arith)
 
--- of a full certificate each size is a heap, and of a partial one each up to its last heap
-pub full_speaks : (M : ℕ) (X : List ℕ) → M ≡ 0 → All IsSize X → All (IsHeapIn M) X
-full_speaks M X z sizes k d l = ((sizes k d l).0, λ some. absurd (omega arith))
-
 pub small_speaks : (M : ℕ) (X : List ℕ) → All IsSize X → All (λ n. n ≤ M) X → All (IsHeapIn M) X
 small_speaks M X sizes small k d l = ((sizes k d l).0, λ some. small k d l)
 

@@ -6,7 +6,7 @@ use Rattle.misere_theory.specs.Quotients.{value}
 use Rattle.certificate_text.specs.Spelling.{Spells}
 use Rattle.answers.specs.ByteVerdicts.{ByteVerdict, IsTrueOf}
 use Rattle.answers.specs.ByteVerdicts.ByteVerdict.{Yes, Memory, Outcome as Fails}
-use Rattle.checker.specs.Turns.{verdict}
+use Rattle.check_machine.specs.Turns.{verdict}
 use Rattle.positions.specs.Positions.{IsSize}
 use Rattle.positions.specs.Outcomes.{HasOutcome}
 use Rattle.positions.specs.declared.outcome.Outcome.{Outcome}

@@ -3,7 +3,7 @@ ghost use Rattle.std.specs.Prelude.{◌≡◌, ◌≢◌, ◌↔◌, ◌<◌, Al
 ghost use Rattle.misere_theory.specs.Certificates.{Accepted, IsHeapOf};
 ghost use Rattle.certificate_text.specs.Spelling.{Spells};
 ghost use Rattle.answers.specs.ByteVerdicts.ByteVerdict.{Yes};
-ghost use Rattle.checker.specs.Turns.{verdict};
+ghost use Rattle.check_machine.specs.Turns.{verdict};
 ghost use Rattle.positions.specs.Positions.{IsSize};
 ghost use Rattle.misere_library.specs.Queries.{Certify, TellsOutcome, TellsValue, TellsAnswer};
 ghost use Rattle.misere_library.specs.Many.{AreEnds, IsNoToMany, TellAll, start_at};

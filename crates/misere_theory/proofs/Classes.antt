@@ -8,16 +8,9 @@ use native.Mathlib.Decide.{dec_lt}
 use Rattle.misere_theory.specs.Games.{IsP, IsPosition, Indistinguishable}
 use Rattle.misere_theory.specs.Quotients.{Claim, value, Represents, SameQuotient}
 use Rattle.misere_theory.proofs.Sums.{IsPosition-append, value_in, value-append}
-use Rattle.misere_theory.proofs.Shuffles.{Shuffled, p_shuffled, from_permutation}
-use Rattle.misere_theory.proofs.Shuffles.Shuffled.{Same, Under, Flip, Then}
+use Rattle.misere_theory.proofs.Shuffles.{p_shuffled, from_permutation, beside as put_beside}
 use Rattle.std.specs.Cmp.{both_ways}
 use Rattle.misere_theory.proofs.SameClaims.{value_of_heap}
-
-in_front : (X Y Z : List ℕ) → Shuffled X Y → Shuffled (X ++ Z) (Y ++ Z)
-in_front _ _ Z Same = Same
-in_front _ _ Z (Under s) = Under (in_front _ _ Z s)
-in_front _ _ Z Flip = Flip
-in_front _ _ Z (Then s t) = Then (in_front _ _ Z s) (in_front _ _ Z t)
 
 module _ (heap : ℕ → Type 0) (code : List ℕ) where
   pub alike-refl : (X : List ℕ) → Indistinguishable heap code X X
@@ -33,20 +26,13 @@ module _ (heap : ℕ → Type 0) (code : List ℕ) where
   turned : (X Y Z : List ℕ) → IsP code ((X ++ Y) ++ Z) → IsP code ((Y ++ X) ++ Z)
   turned X Y Z h =
       p_shuffled h
-      (in_front (X ++ Y) (Y ++ X) Z
-      (from_permutation (X ++ Y) (Y ++ X) (IsPermutation-append_comm X Y)))
+      (put_beside (from_permutation (X ++ Y) (Y ++ X) (IsPermutation-append_comm X Y)) Z)
 
   -- what stands beside Y may stand behind it
   pub beside : (X U Y : List ℕ) → IsPosition heap Y → Indistinguishable heap code X U
       → Indistinguishable heap code (X ++ Y) (U ++ Y)
   beside X U Y q a Z p =
-      let e : (X ++ Y) ++ Z ≡ X ++ (Y ++ Z) = append_assoc X Y Z in
-      let f : (U ++ Y) ++ Z ≡ U ++ (Y ++ Z) = append_assoc U Y Z in
-      let w = a (Y ++ Z) (IsPosition-append heap Y Z q p) in (
-        λ h. subst (IsP code) (sym f) (w.0 (subst (IsP code) e h)),
-        λ h.
-            subst (IsP code) (sym e) (w.1 (subst (IsP code) f h)),
-      )
+      rw (append_assoc X Y Z, append_assoc U Y Z) (a (Y ++ Z) (IsPosition-append heap Y Z q p))
 
   pub exchanged_parts : (X Y : List ℕ) → Indistinguishable heap code (X ++ Y) (Y ++ X)
   exchanged_parts X Y Z p = (λ h. turned X Y Z h, λ h. turned Y X Z h)

@@ -1,11 +1,10 @@
 -- Which codes have a digit with bit 8, and which are octal.
 -- By induction on the digits.
-use Rattle.std.proofs.Common.{◌≡◌, ◌↔◌, ℕ, zero, suc, ◌<◌, ◌≤◌, List, [], ◌∷◌, length, refl, sym, ap, ◌∙◌, subst, true, false, not, ◌||◌, eqb, nat_lt, bit_and, lt-ltb, le-ltb, arith, All, IsBitSet}
-use Rattle.std.specs.List.{list_any, AllByRecursion}
-use Rattle.std.proofs.lemmas.Bool.{true≢false}
+use Rattle.std.proofs.Common.{◌≡◌, ◌↔◌, ℕ, ◌<◌, ◌≤◌, List, length, refl, sym, ◌∙◌, subst, true, false, not, eqb, bit_and, lt-ltb, le-ltb, arith, All, IsBitSet, get_or, ap, nat_lt}
+use Rattle.std.proofs.lemmas.Bool.{true≢false, agree_below_at}
 use Rattle.std.proofs.lemmas.Bool.Decides.{nat_tests}
 use Rattle.std.proofs.lemmas.List.{get_or_past, get_or_default}
-use Rattle.std.proofs.lemmas.List.Elements.{All-weaker, All-from_recursion, recursion_from_All}
+use Rattle.std.proofs.lemmas.List.Elements.{All-weaker}
 use Rattle.std.proofs.lemmas.List.Folds.{list_any_at, list_any_none, Any-from_list_any}
 use native.Mathlib.Decide.{dec_le, dec_lt}
 use Rattle.misere_theory.specs.Games.{digit, leaves_three, is_octal, HeapOption}
@@ -46,36 +45,17 @@ pub three_is_seen : (code : List ℕ) → (leaves_three code ≡ true)
 three_is_seen code = (has_three code, λ h. seen_three code h.0 h.1)
 
 octal_digit : (d : ℕ) → d < 8 → not (eqb (bit_and d 8) 0) ≡ false
-octal_digit zero l = refl
-octal_digit (suc zero) l = refl
-octal_digit (suc (suc zero)) l = refl
-octal_digit (suc (suc (suc zero))) l = refl
-octal_digit (suc (suc (suc (suc zero)))) l = refl
-octal_digit (suc (suc (suc (suc (suc zero))))) l = refl
-octal_digit (suc (suc (suc (suc (suc (suc zero)))))) l = refl
-octal_digit (suc (suc (suc (suc (suc (suc (suc zero))))))) l = refl
-octal_digit (suc (suc (suc (suc (suc (suc (suc (suc d)))))))) l = absurd (omega arith)
-
-octal_digits : (ds : List ℕ) → is_octal ds ≡ true → AllByRecursion (λ d. d < 8) ds
-octal_digits [] e = tt
-octal_digits (d ∷ ds) e = elim (dec_lt 7 d) [
-  | yes l ↦ absurd (true≢false (sym e ∙ ap (λ b. not (b || list_any (λ d. nat_lt 7 d) ds))
-      (lt-ltb 7 d l)))
-  | no f ↦ (
-    omega arith,
-    octal_digits ds
-        (sym (ap (λ b. not (b || list_any (λ d. nat_lt 7 d) ds)) (le-ltb 7 d (omega arith))) ∙ e),
-  )
-]
-
-digits_octal : (ds : List ℕ) → AllByRecursion (λ d. d < 8) ds → is_octal ds ≡ true
-digits_octal [] h = refl
-digits_octal (d ∷ ds) h = rw (le-ltb 7 d (let l = h.0 in omega arith)) (digits_octal ds h.1)
+octal_digit d l = agree_below_at (λ d. not (eqb (bit_and d 8) 0)) (λ d. false) 8 d refl l
 
 pub octal_exactly : (code : List ℕ) → (is_octal code ≡ true) ↔ All (λ d. d < 8) code
 octal_exactly code = (
-  λ e. All-from_recursion (λ d. d < 8) code (octal_digits code e),
-  λ h. digits_octal code (recursion_from_All (λ d. d < 8) code h),
+  λ e k d l. elim (dec_lt 7 (get_or code k d)) [
+    | no f ↦ omega arith
+    | yes m ↦ absurd (true≢false (sym e
+        ∙ ap not (list_any_at (λ d. nat_lt 7 d) code k d l (lt-ltb 7 (get_or code k d) m))))
+  ],
+  λ h. ap not (list_any_none (λ d. nat_lt 7 d) code
+      (All-weaker (λ d. d < 8) (λ d. nat_lt 7 d ≡ false) (λ d l. le-ltb 7 d (omega arith)) code h)),
 )
 
 pub octal_leaves_no_three : (code : List ℕ) → is_octal code ≡ true → leaves_three code ≡ false

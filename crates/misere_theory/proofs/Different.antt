@@ -1,9 +1,12 @@
 -- Exact pairs that differ are pairs of positions that differ.
 -- Were the pairs of the positions the same, so would the exact ones be.
-use Rattle.std.proofs.Common.{◌≡◌, ℕ, zero, suc, ◌+◌, ◌<◌, List, [], ◌∷◌, length, get_or, refl, sym, ◌∙◌, ap, subst, arith}
+use Rattle.std.proofs.Common.{◌≡◌, ℕ, ◌<◌, List, get_or, sym, ◌∙◌, arith, map}
 use Rattle.misere_theory.specs.Games.{IsPosition}
 use Rattle.misere_theory.specs.Quotients.{Claim, SamePair, ReachesMoreThan}
 use Rattle.misere_theory.specs.Pairs.{Pair, IsSamePair, IsPairOf}
+use Rattle.std.specs.List.{range_with_len}
+use Rattle.std.proofs.lemmas.List.{length-map}
+use Rattle.std.proofs.lemmas.List.FromFn.{get_or-map-range_with_len, length-range_with_len}
 
 pub same_exactly : (code : List ℕ) (c : Claim) (p q : Pair) (X Y : List ℕ) → IsPairOf code c p X
     → IsPairOf code c q Y → SamePair code c X Y
@@ -17,24 +20,6 @@ same_exactly code c p q X Y a b s = (
   ),
 )
 
--- the words of the places below n
-words_of : (ℕ → List ℕ) → ℕ → ℕ → List (List ℕ)
-words_of word from zero = []
-words_of word from (suc n) = word from ∷ words_of word (from + 1) n
-
-length-words_of : (word : ℕ → List ℕ) (from n : ℕ) → length (words_of word from n) ≡ n
-unfolding words_of
-length-words_of word from zero = refl
-length-words_of word from (suc n) = ap suc (length-words_of word (from + 1) n)
-
-words_of-get : (word : ℕ → List ℕ) (from n i : ℕ) (d : List ℕ) → i < n
-    → get_or (words_of word from n) i d ≡ word (from + i)
-unfolding words_of
-words_of-get word from zero i d l = absurd (omega arith)
-words_of-get word from (suc n) zero d l = let e : from ≡ from + 0 = omega arith in ap word e
-words_of-get word from (suc n) (suc i) d l = let e : from + 1 + i ≡ from + suc i = omega arith in
-    words_of-get word (from + 1) n i d (omega arith) ∙ ap word e
-
 module _ (heap : ℕ → Type 0) (code : List ℕ) (c : Claim) (n : ℕ) (pair : ℕ → Pair) (word : ℕ
     → List ℕ) where
   pub more_from_different :
@@ -43,19 +28,17 @@ module _ (heap : ℕ → Type 0) (code : List ℕ) (c : Claim) (n : ℕ) (pair :
       → ((i j : ℕ) → i < j → j < n → IsSamePair (pair i) (pair j) → ⊥)
       → (limit : ℕ) → limit < n → ReachesMoreThan heap code c limit
   more_from_different exact positions differ limit l =
-      let e : length (words_of word 0 n) ≡ n = length-words_of word 0 n in
-      let at : (i : ℕ) (d : List ℕ) → i < n → get_or (words_of word 0 n) i d ≡ word i =
-      λ i d h. words_of-get word 0 n i d h ∙ (let f : 0 + i ≡ i = omega arith in ap word f) in (
-        words_of word 0 n,
+      let words = map word (range_with_len 0 n) in
+      let e = length-map (range_with_len 0 n) word ∙ length-range_with_len 0 n in
+      let at : (i : ℕ) (d : List ℕ) → i < n → get_or words i d ≡ word i =
+      λ i d h. get_or-map-range_with_len word 0 n i i d h (omega arith) in (
+        words,
         omega arith,
-        λ i d h. subst (IsPosition heap) (sym (at i d (omega arith))) (positions i (omega arith)),
+        λ i d h. rw (at i d (omega arith)) (positions i (omega arith)),
         λ i j d h k s.
             let i_in : i < n = omega arith in
             let j_in : j < n = omega arith in
-            let t : SamePair code c (word i) (word j) =
-            subst (λ v. SamePair code c v (word j)) (at i d i_in)
-            (subst (λ v. SamePair code c (get_or (words_of word 0 n) i d) v) (at j d j_in) s) in
             differ i j h j_in
-            (same_exactly code c (pair i) (pair j) (word i) (word j) (exact i i_in)
-            (exact j j_in) t),
+            (same_exactly code c (pair i) (pair j) (word i) (word j) (exact i i_in) (exact j j_in)
+            (rw (at i d i_in, at j d j_in) at s)),
       )

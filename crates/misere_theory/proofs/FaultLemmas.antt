@@ -1,14 +1,14 @@
 -- A certificate is canonical exactly where it has none of the faults 3 to 6.
 -- Each part of the form can be tested, and where its test fails the certificate has that fault.
-use Rattle.std.proofs.Common.{◌≡◌, ◌≢◌, ℕ, suc, zero, ◌+◌, ◌-◌, ◌<◌, ◌≤◌, ◌⊎◌, Bool, true, false, List, [], ◌∷◌, refl, subst, inl, inr, arith, length, get_or}
+use Rattle.std.proofs.Common.{◌≡◌, ◌≢◌, ℕ, suc, zero, ◌+◌, ◌-◌, ◌<◌, ◌≤◌, ◌⊎◌, Bool, true, false, List, [], ◌∷◌, refl, inl, inr, arith, length, get_or}
 use Rattle.std.proofs.lemmas.List.Elements.{All-get_or}
 use Rattle.std.specs.List.{AllZip}
 use native.Mathlib.Decide.{dec_lt, ℕ_discrete}
 use Rattle.misere_theory.specs.Numbering.{KeyBelow}
 use Rattle.misere_theory.specs.Quotients.{Claim}
-use Rattle.misere_theory.specs.Certificates.{Certificate, phi_at, times_of, claim_of, key_of, InRanges, Canonical, pairs_from, TellsApart, LeastApart}
+use Rattle.misere_theory.specs.Certificates.{Certificate, claim_of, key_of, InRanges, Canonical, pairs_from, TellsApart, LeastApart}
 use Rattle.misere_theory.specs.Faults.{WordFault, OrderFault, PeriodFault, ApartFault}
-use Rattle.misere_theory.proofs.Basics.{either_way}
+use Rattle.misere_theory.proofs.Basics.{either_way, both_dec, never_no}
 use Rattle.misere_theory.proofs.Outcomes.{some_or_all_below}
 use Rattle.misere_theory.proofs.SameClaims.{KeyBelow-trans}
 use Rattle.misere_theory.proofs.Written.{repeats}
@@ -17,13 +17,8 @@ key_below_dec : (a b : ℕ × ℕ) → Dec (KeyBelow a b)
 key_below_dec a b =
     elim (dec_lt a.0 b.0) [
       | yes l ↦ yes (inl l)
-      | no f ↦ elim (ℕ_discrete a.0 b.0) [
-        | no g ↦ no (λ h. elim h [ inl l ↦ f l | inr p ↦ g p.0 ])
-        | yes e ↦ elim (dec_lt a.1 b.1) [
-          | yes l ↦ yes (inr (e, l))
-          | no g ↦ no (λ h. elim h [ inl l ↦ f l | inr p ↦ g p.1 ])
-        ]
-      ]
+      | no f ↦ elim (both_dec (ℕ_discrete a.0 b.0) (dec_lt a.1 b.1))
+          [ yes p ↦ yes (inr p) | no g ↦ no (λ h. elim h [ inl l ↦ f l | inr p ↦ g p ]) ]
     ]
 
 same_or_not : (a b : Bool) → (a ≡ b) ⊎ (a ≢ b)
@@ -70,17 +65,14 @@ module _
     (period : PeriodFault c → ⊥)
     (apart : ApartFault c → ⊥) where
   next_key : (e : ℕ) → 0 < e → e + 1 < c.order → KeyBelow (key_of c e) (key_of c (e + 1))
-  next_key e p l =
-      elim (key_below_dec (key_of c e) (key_of c (e + 1)))
-      [ yes b ↦ b | no f ↦ absurd (order (inl (e, p, l, f))) ]
+  next_key e p l = never_no (key_below_dec _ _) (λ f. order (inl (e, p, l, f)))
 
   later_key : (d n : ℕ) → 0 < d → d + suc n < c.order → KeyBelow (key_of c d) (key_of c (d + suc n))
   later_key d zero p l = next_key d p l
   later_key d (suc n) p l =
       let e : d + suc n + 1 ≡ d + suc (suc n) = omega arith in
       KeyBelow-trans _ _ _ (later_key d n p (omega arith))
-      (subst (λ v. KeyBelow (key_of c (d + suc n)) (key_of c v)) e
-      (next_key (d + suc n) (omega arith) (omega arith)))
+      (rw e at (next_key (d + suc n) (omega arith) (omega arith)))
 
   key_range : (e : ℕ) → 0 < e → e < c.order → (1 ≤ (key_of c e).1)
       × ((key_of c e).1 < c.start + c.period)
@@ -93,17 +85,11 @@ module _
   pub canonical_from_none : Canonical c
   canonical_from_none = record {
     numbered = record {
-      parent =
-          λ e p l.
-          elim (dec_lt (key_of c e).0 e)
-          [ yes b ↦ b | no f ↦ absurd (word (e, p, l, inl (omega arith))) ];
+      parent = λ e p l. never_no (dec_lt _ _) (λ f. word (e, p, l, inl (omega arith)));
       heap = λ e p l. let k = key_range e p l in (k.0, let m = k.1 in omega arith);
-      product =
-          λ e p l. elim (ℕ_discrete (times_of c (key_of c e).0 (phi_at c (key_of c e).1)) e)
-          [ yes b ↦ b | no f ↦ absurd (word (e, p, l, inr f)) ];
+      product = λ e p l. never_no (ℕ_discrete _ _) (λ f. word (e, p, l, inr f));
       rising = λ d e p l b. let n : d + suc (e - d - 1) ≡ e = omega arith in
-          subst (λ v. KeyBelow (key_of c d) (key_of c v)) n
-          (later_key d (e - d - 1) p (omega arith));
+          rw n at (later_key d (e - d - 1) p (omega arith));
       least = λ f h l o b p k. order (inr (f, h, l, o, (let q = r.period.0 in omega arith), p, k));
     };
     period = λ full. record {
@@ -115,9 +101,7 @@ module _
     };
     apart =
         zip_from_places (LeastApart (claim_of c)) (0, 0) (pairs_from 0 c.order) c.apart r.apart.0
-        (λ i l.
-        elim (least_apart_dec (claim_of c) (get_or (pairs_from 0 c.order) i (0, 0))
-        (get_or c.apart i 0)) [ yes h ↦ h | no f ↦ absurd (apart (i, l, f)) ]);
+        (λ i l. never_no (least_apart_dec (claim_of c) _ _) (λ f. apart (i, l, f)));
   }
 
 -- each of the faults 3 to 6 is none that a canonical certificate has

@@ -1,9 +1,9 @@
 -- What an option leaves, put in order.
 -- Up to three parts are sorted by insertion.
-use Rattle.std.proofs.Common.{◌≡◌, ℕ, zero, suc, ◌+◌, ◌<◌, ◌≤◌, List, [], ◌∷◌, get_or, arith}
+use Rattle.std.proofs.Common.{◌≡◌, ℕ, zero, suc, ◌+◌, ◌≤◌, List, [], ◌∷◌, get_or, arith, length, refl}
 use Rattle.std.specs.List.Sorted.{IsNonDecreasing}
 use native.Mathlib.Decide.{dec_le}
-use Rattle.misere_theory.specs.Games.{HeapOption, IsHeap, IsPosition}
+use Rattle.misere_theory.specs.Games.{HeapOption, IsHeap}
 use Rattle.misere_theory.specs.Games.HeapOption.{Nothing, One, Two, Three}
 use Rattle.misere_theory.proofs.Shuffles.{Shuffled, position_shuffled}
 use Rattle.misere_theory.proofs.Shuffles.Shuffled.{Same, Under, Flip, Then}
@@ -11,87 +11,45 @@ use Rattle.misere_theory.proofs.Shuffles.Shuffled.{Same, Under, Flip, Then}
 pub in_order_none : IsNonDecreasing []
 in_order_none i j d h l = absurd (omega arith)
 
+-- one more number, no larger than the first
+in_order_cons : (x : ℕ) (xs : List ℕ) → (1 ≤ length xs → x ≤ get_or xs 0 0) → IsNonDecreasing xs
+    → IsNonDecreasing (x ∷ xs)
+in_order_cons x xs first up zero zero d h l = omega arith
+in_order_cons x xs first up (suc i) zero d h l = absurd (omega arith)
+in_order_cons x (y ∷ ys) first up zero (suc j) d h l =
+    let a = first (omega arith) in let b = up 0 j d (omega arith) (omega arith) in omega arith
+in_order_cons x [] first up zero (suc j) d h l = absurd (omega arith)
+in_order_cons x xs first up (suc i) (suc j) d h l = up i j d (omega arith) (omega arith)
+
 pub in_order_one : (a : ℕ) → IsNonDecreasing (a ∷ [])
-in_order_one a zero zero d h l = omega arith
-in_order_one a (suc i) zero d h l = absurd (omega arith)
-in_order_one a i (suc j) d h l = absurd (omega arith)
+in_order_one a = in_order_cons a [] (λ some. absurd (omega arith)) in_order_none
 
 pub in_order_two : (a b : ℕ) → a ≤ b → IsNonDecreasing (a ∷ b ∷ [])
-in_order_two a b h zero zero d k l = omega arith
-in_order_two a b h (suc i) zero d k l = absurd (omega arith)
-in_order_two a b h zero (suc zero) d k l = h
-in_order_two a b h (suc zero) (suc zero) d k l = omega arith
-in_order_two a b h (suc (suc i)) (suc zero) d k l = absurd (omega arith)
-in_order_two a b h i (suc (suc j)) d k l = absurd (omega arith)
+in_order_two a b h = in_order_cons a (b ∷ []) (λ some. h) (in_order_one b)
 
 pub in_order_three : (a b c : ℕ) → a ≤ b → b ≤ c → IsNonDecreasing (a ∷ b ∷ c ∷ [])
-in_order_three a b c h g zero zero d k l = omega arith
-in_order_three a b c h g (suc i) zero d k l = absurd (omega arith)
-in_order_three a b c h g zero (suc j) d k l = below_each j l
-  where
-    below_each : (j : ℕ) → suc j < 3 → a ≤ get_or (b ∷ c ∷ []) j d
-    below_each zero l = h
-    below_each (suc zero) l = omega arith
-    below_each (suc (suc j)) l = absurd (omega arith)
-in_order_three a b c h g (suc i) (suc j) d k l =
-    in_order_two b c g i j d (omega arith) (omega arith)
+in_order_three a b c h g = in_order_cons a (b ∷ c ∷ []) (λ some. h) (in_order_two b c g)
 
 -- three numbers, put in order
-pub record Rising (a b c : ℕ) : Type 0 where
-  pub first : ℕ
-  pub second : ℕ
-  pub third : ℕ
-  pub low : first ≤ second
-  pub high : second ≤ third
-  pub sum : first + second + third ≡ a + b + c
-  pub same : Shuffled (a ∷ b ∷ c ∷ []) (first ∷ second ∷ third ∷ [])
+abbrev Rising : ℕ → ℕ → ℕ → Type 0
+Rising a b c = (x : ℕ) × (y : ℕ) × (z : ℕ) × (x ≤ y) × (y ≤ z) × (x + y + z ≡ a + b + c)
+    × Shuffled (a ∷ b ∷ c ∷ []) (x ∷ y ∷ z ∷ [])
 
 -- the first number put between two others that are in order
 between : (a b c : ℕ) → b ≤ c → Rising a b c
 between a b c l = elim (dec_le a b) [
-  | yes h ↦ record {
-    first = a;
-    second = b;
-    third = c;
-    low = h;
-    high = l;
-    sum = omega arith;
-    same = Same;
-  }
+  | yes h ↦ (a, b, c, h, l, refl, Same)
   | no f ↦ elim (dec_le a c) [
-    | yes h ↦ record {
-      first = b;
-      second = a;
-      third = c;
-      low = omega arith;
-      high = h;
-      sum = omega arith;
-      same = Flip;
-    }
-    | no g ↦ record {
-      first = b;
-      second = c;
-      third = a;
-      low = l;
-      high = omega arith;
-      sum = omega arith;
-      same = Then Flip (Under Flip);
-    }
+    | yes h ↦ (b, a, c, omega arith, h, omega arith, Flip)
+    | no g ↦ (b, c, a, l, omega arith, omega arith, Then Flip (Under Flip))
   ]
 ]
 
 rising : (a b c : ℕ) → Rising a b c
 rising a b c = elim (dec_le b c) [
   | yes l ↦ between a b c l
-  | no f ↦ let r = between a c b (omega arith) in record {
-    first = r.first;
-    second = r.second;
-    third = r.third;
-    low = r.low;
-    high = r.high;
-    sum = let e = r.sum in omega arith;
-    same = Then (Under Flip) r.same;
-  }
+  | no f ↦ let (x, y, z, l, h, e, s) = between a c b (omega arith) in
+      (x, y, z, l, h, omega arith, Then (Under Flip) s)
 ]
 
 -- of what an option leaves, in order or not, there is an order in which the parts rise
@@ -104,14 +62,12 @@ put_in_order (Two j a b p q e s) = elim (dec_le a b) [
   | no f ↦ (b ∷ a ∷ [], Two j b a q p (omega arith) s, in_order_two b a (omega arith), Flip)
 ]
 put_in_order (Three j a b c p q r e s) =
-    let o = rising a b c in
-    let sum = o.sum in
-    let some : IsPosition IsHeap (o.first ∷ o.second ∷ o.third ∷ []) =
-    position_shuffled IsHeap o.same (p, (q, (r, tt))) in (
-      o.first ∷ o.second ∷ o.third ∷ [],
-      Three j o.first o.second o.third some.0 some.1.0 some.1.1.0 (omega arith) s,
-      in_order_three o.first o.second o.third o.low o.high,
-      o.same,
+    let (x, y, z, low, high, sum, same) = rising a b c in
+    let some = position_shuffled IsHeap same (p, (q, (r, tt))) in (
+      x ∷ y ∷ z ∷ [],
+      Three j x y z some.0 some.1.0 some.1.1.0 (omega arith) s,
+      in_order_three x y z low high,
+      same,
     )
 
 pub order_dec : {code : List ℕ} {n : ℕ} {H : List ℕ} → HeapOption code n H

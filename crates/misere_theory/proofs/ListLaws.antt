@@ -1,6 +1,6 @@
 -- Membership in lists over a range, and lists whose items are apart.
 -- By induction on the range or the list.
-use Rattle.std.proofs.Common.{◌≡◌, ℕ, zero, suc, ◌+◌, ◌<◌, ◌≤◌, inl, inr, List, [], ◌∷◌, ◌++◌, map, subst, arith, All}
+use Rattle.std.proofs.Common.{◌≡◌, ℕ, zero, suc, ◌+◌, ◌<◌, ◌≤◌, inl, inr, List, [], ◌∷◌, ◌++◌, map, subst, arith, All, refl, ap}
 use Rattle.std.specs.List.{flat_map, range_with_len, Contains, AllPairs}
 use Rattle.std.proofs.lemmas.List.Elements.{Contains-append_left, Contains-append_right, Contains-append_cases, Contains-push, Contains-push_cases, All-weaker, All-append, All-contains_itself}
 use Rattle.std.proofs.lemmas.List.Kept.{AllPairs-cons}
@@ -37,26 +37,22 @@ module _ {X : Type 0} (f : ℕ → List X) where
         | inr past ↦ let (j, l, h, i) = of_flat (a + 1) n x past in (j, omega arith, omega arith, i)
       ]
 
+-- a list of single values is one of lists of one
+map_is_flat : {X : Type 0} (f : ℕ → X) (js : List ℕ) → flat_map (λ j. f j ∷ []) js ≡ map f js
+map_is_flat f [] = refl
+map_is_flat f (j ∷ js) = ap (λ xs. f j ∷ xs) (map_is_flat f js)
+
 module _ {X : Type 0} (f : ℕ → X) where
   pub in_map : (a n j : ℕ) → a ≤ j → j < a + n → Contains (map f (range_with_len a n)) (f j)
-  in_map a zero j l h = absurd (omega arith)
-  in_map a (suc n) j l h = elim (dec_le (a + 1) j) [
-    | yes past ↦ Contains-append_right (f a ∷ []) (map f (range_with_len (a + 1) n)) (f j)
-        (in_map (a + 1) n j past (omega arith))
-    | no here ↦
-        let e : j ≡ a = omega arith in
-        Contains-append_left (f a ∷ []) (map f (range_with_len (a + 1) n)) (f j)
-        (subst (λ i. Contains (f i ∷ []) (f j)) e (itself_in (f j)))
-  ]
+  in_map a n j l h =
+      rw (map_is_flat f (range_with_len a n)) at
+      (in_flat (λ j. f j ∷ []) a n j (f j) l h (itself_in (f j)))
 
   pub of_map : (a n : ℕ) (x : X) → Contains (map f (range_with_len a n)) x
       → (j : ℕ) × (a ≤ j) × (j < a + n) × (f j ≡ x)
-  of_map a zero x c = absurd (nothing_in x c)
-  of_map a (suc n) x c =
-      elim (Contains-append_cases (f a ∷ []) (map f (range_with_len (a + 1) n)) x c) [
-        | inl here ↦ (a, omega arith, omega arith, only_in (f a) x here)
-        | inr past ↦ let (j, l, h, i) = of_map (a + 1) n x past in (j, omega arith, omega arith, i)
-      ]
+  of_map a n x c =
+      let (j, l, h, e) = of_flat (λ j. f j ∷ []) a n x (rw (map_is_flat f (range_with_len a n)) c) in
+      (j, l, h, only_in (f j) x e)
 
 module _ {X : Type 0} (R : X → X → Type 0) where
   pub AllPairs-append : (xs ys : List X) → AllPairs R xs → AllPairs R ys
@@ -95,12 +91,8 @@ module _ {X : Type 0} (R : X → X → Type 0) where
   pub AllPairs-range : (f : ℕ → X) (a n : ℕ)
       → ((i j : ℕ) → a ≤ i → i < j → j < a + n → R (f i) (f j))
       → AllPairs R (map f (range_with_len a n))
-  AllPairs-range f a zero across = AllPairs-none
-  AllPairs-range f a (suc n) across =
-      AllPairs-append (f a ∷ []) (map f (range_with_len (a + 1) n)) (AllPairs-one (f a))
-      (AllPairs-range f (a + 1) n (λ i j l m h. across i j (omega arith) m (omega arith)))
-      (λ x y c d.
-      let (j, l, h, e) = of_map f (a + 1) n y d in
-      let P : X → Type 0 = λ v. R v y in
-      subst P (only_in (f a) x c)
-      (subst (R (f a)) e (across a j (omega arith) (omega arith) (omega arith))))
+  AllPairs-range f a n across =
+      rw (map_is_flat f (range_with_len a n)) at
+      (AllPairs-flat (λ j. f j ∷ []) a n (λ j l h. AllPairs-one (f j))
+      (λ i j x y l m h c d.
+      rw (← only_in (f i) x c, ← only_in (f j) y d) (across i j l m h)))

@@ -6,6 +6,7 @@ use native.Mathlib.Decide.{ℕ_discrete}
 use Rattle.misere_theory.specs.Quotients.{Monoid, LawFails}
 use Rattle.misere_theory.specs.Quotients.LawFails.{Identity, Commutativity, Associativity}
 use Rattle.misere_theory.specs.Certificates.{Certificate, times_of, InRanges}
+use Rattle.misere_theory.proofs.Basics.{never_no}
 
 pub no_law_fails : {order : ℕ} {times : ℕ → ℕ → ℕ} → Monoid order times → LawFails order times → ⊥
 no_law_fails m (Identity x p f) = f (m.identity x p)
@@ -18,15 +19,9 @@ pub monoid_from_no_failure : (order : ℕ) (times : ℕ → ℕ → ℕ) → 0 <
 monoid_from_no_failure order times some closed none = record {
   some = some;
   closed = closed;
-  identity =
-      λ x p. elim (ℕ_discrete (times 0 x) x) [ yes e ↦ e | no f ↦ absurd (none (Identity x p f)) ];
-  commutes =
-      λ x y p q.
-      elim (ℕ_discrete (times x y) (times y x))
-      [ yes e ↦ e | no f ↦ absurd (none (Commutativity x y p q f)) ];
-  associates =
-      λ x y z p q r. elim (ℕ_discrete (times (times x y) z) (times x (times y z)))
-      [ yes e ↦ e | no f ↦ absurd (none (Associativity x y z p q r f)) ];
+  identity = λ x p. never_no (ℕ_discrete _ _) (λ f. none (Identity x p f));
+  commutes = λ x y p q. never_no (ℕ_discrete _ _) (λ f. none (Commutativity x y p q f));
+  associates = λ x y z p q r. never_no (ℕ_discrete _ _) (λ f. none (Associativity x y z p q r f));
 }
 
 -- the rows of a certificate in its ranges hold elements
@@ -44,18 +39,3 @@ pub monoid_in_ranges : (c : Certificate) → InRanges c → (LawFails c.order (t
 monoid_in_ranges c r none =
     monoid_from_no_failure c.order (times_of c) (let o = r.order in omega arith) (products_in c r)
     none
-
-pub monoid_from_tests :
-    (c : Certificate) → InRanges c
-    → ((x : ℕ) → x < c.order → times_of c 0 x ≡ x)
-    → ((x y : ℕ) → x < c.order → y < c.order → times_of c x y ≡ times_of c y x)
-    → ((x y z : ℕ) → x < c.order → y < c.order → z < c.order
-    → times_of c (times_of c x y) z ≡ times_of c x (times_of c y z))
-    → Monoid c.order (times_of c)
-monoid_from_tests c r one both three = record {
-  some = let o = r.order in omega arith;
-  closed = products_in c r;
-  identity = one;
-  commutes = both;
-  associates = three;
-}

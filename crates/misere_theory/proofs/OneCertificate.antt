@@ -1,90 +1,50 @@
 -- A code has one accepted certificate of a kind at most.
 -- Two such have the same numbers by SameClaims, and the numbers determine each line.
-use Rattle.std.proofs.Common.{◌≡◌, ℕ, suc, zero, ◌+◌, ◌-◌, ◌<◌, ◌≤◌, Bool, false, ◌||◌, ◌==◌, List, [], ◌∷◌, ◌++◌, refl, sym, ◌∙◌, ap, ap₂, subst, arith, length, get_or, eq-eqb, ne_eqb, All, inl, inr, eq-zero-or-pos}
+use Rattle.std.proofs.Common.{◌≡◌, ℕ, suc, zero, ◌+◌, ◌-◌, ◌<◌, ◌≤◌, false, ◌==◌, List, [], ◌∷◌, ◌++◌, refl, sym, ◌∙◌, ap, ap₂, arith, length, get_or, eq-eqb, ne_eqb, All, inl, inr, eq-zero-or-pos, true}
 use Rattle.std.proofs.Math.Seq.{ext_get_or}
 use Rattle.std.proofs.lemmas.Grind.{same_number_lists}
-use Rattle.std.proofs.lemmas.List.Elements.{All-get_or, All-tail}
+use Rattle.std.proofs.lemmas.List.Elements.{All-get_or}
 use Rattle.std.proofs.lemmas.Bool.{true≢false}
 use Rattle.std.specs.List.{list_any, AllZip, AllByRecursion}
-use Rattle.std.specs.List.Sorted.{IsStrictlyIncreasing}
 use native.Mathlib.Decide.{dec_lt}
 use Rattle.misere_theory.specs.Quotients.{Represents}
-use Rattle.misere_theory.specs.Kinds.{IsHeapIn}
-use Rattle.misere_theory.specs.Numbering.{IsNumbered}
 use Rattle.misere_theory.specs.Certificates.{Certificate, claim_of, key_of, kind_of, IsHeapOf, InRanges, Accepted, pairs_with, pairs_from, TellsApart, LeastApart}
+use Rattle.misere_theory.proofs.Basics.{neither_smaller}
+use Rattle.misere_theory.proofs.RisingLists.{RisesFrom, increasing_rises}
 use Rattle.misere_theory.proofs.SameClaims.{SameClaim, same_period, same_claim}
 use Rattle.misere_theory.proofs.Counting.{kind_full, kind_partial}
 use Rattle.misere_theory.proofs.Written.{entry_at, written_counts, is_full, is_partial}
 
--- The numbers rise from low on and stay below q.
-Rises : ℕ → ℕ → List ℕ → Type 0
-Rises low q [] = Unit {0}
-Rises low q (x ∷ xs) = (low ≤ x) × (x < q) × Rises (suc x) q xs
-
-rises_from_increasing : (low q x : ℕ) (xs : List ℕ) → low ≤ x → x < q
-    → IsStrictlyIncreasing (x ∷ xs) → All (λ y. y < q) xs
-    → Rises low q (x ∷ xs)
-unfolding Rises
-rises_from_increasing low q x [] l b up all = (l, b, tt)
-rises_from_increasing low q x (y ∷ ys) l b up all = (
-  l,
-  b,
-  rises_from_increasing (suc x) q y ys (up 0 (omega arith)) (all 0 0 (omega arith))
-      (λ k h. let e : suc k + 1 ≡ suc (k + 1) = omega arith in
-      subst (λ i. get_or (y ∷ ys) k 0 < get_or (x ∷ y ∷ ys) i 0) e (up (suc k) (omega arith)))
-      (All-tail (λ z. z < q) y ys all),
-)
-
-rises : (q : ℕ) (xs : List ℕ) → IsStrictlyIncreasing xs → All (λ y. y < q) xs → Rises 0 q xs
-unfolding Rises
-rises q [] up all = tt
-rises q (x ∷ xs) up all =
-    rises_from_increasing 0 q x xs (omega arith) (all 0 0 (omega arith)) up
-    (All-tail (λ z. z < q) x xs all)
-
-none_below : (low q v : ℕ) (xs : List ℕ) → Rises low q xs → v < low
+none_below : (low q v : ℕ) (xs : List ℕ) → RisesFrom low q xs → v < low
     → list_any (λ y. y == v) xs ≡ false
-unfolding Rises
 none_below low q v [] h l = refl
 none_below low q v (x ∷ xs) h l =
-    rw (ne_eqb x v (let a = h.0 in λ e. omega arith))
-    (none_below (suc x) q v xs h.2 (let a = h.0 in omega arith))
+    let a = h.0 in
+    rw (ne_eqb x v (λ e. omega arith)) (none_below (x + 1) q v xs h.2 (omega arith))
 
-passed_by : (x y v : ℕ) (a b : Bool) → (x ≡ v → ⊥) → (y ≡ v → ⊥) → ((x == v) || a) ≡ ((y == v) || b)
-    → a ≡ b
-passed_by x y v a b f g h = rw (ne_eqb x v f, ne_eqb y v g) at h
+first_in : (x : ℕ) (xs : List ℕ) → list_any (λ y. y == x) (x ∷ xs) ≡ true
+first_in x xs = rw (eq-eqb x x refl) refl
 
 -- rising lists with the same members are one list
-same_members : (low q : ℕ) (xs ys : List ℕ) → Rises low q xs → Rises low q ys
+same_members : (low q : ℕ) (xs ys : List ℕ) → RisesFrom low q xs → RisesFrom low q ys
     → ((v : ℕ) → v < q → list_any (λ y. y == v) xs ≡ list_any (λ y. y == v) ys) → xs ≡ ys
-unfolding Rises
 same_members low q [] [] h k same = refl
 same_members low q [] (y ∷ ys) h k same =
-    absurd
-    (true≢false (sym (same y k.1 ∙ ap (λ b. b || list_any (λ z. z == y) ys) (eq-eqb y y refl))))
+    absurd (true≢false (sym (same y k.1 ∙ first_in y ys)))
 same_members low q (x ∷ xs) [] h k same =
-    absurd
-    (true≢false (sym (ap (λ b. b || list_any (λ z. z == x) xs) (eq-eqb x x refl)) ∙ same x h.1))
+    absurd (true≢false (sym (first_in x xs) ∙ same x h.1))
 same_members low q (x ∷ xs) (y ∷ ys) h k same =
-    elim (dec_lt x y) [
-      | yes l ↦ absurd
-          (true≢false (sym (ap (λ b. b || list_any (λ z. z == x) xs) (eq-eqb x x refl)) ∙ same x h.1
-          ∙ none_below y q x (y ∷ ys) (omega arith, k.1, k.2) l))
-      | no f ↦ elim (dec_lt y x) [
-        | yes l ↦ absurd
-            (true≢false (sym (ap (λ b. b || list_any (λ z. z == y) ys) (eq-eqb y y refl))
-            ∙ sym (same y k.1) ∙ none_below x q y (x ∷ xs) (omega arith, h.1, h.2) l))
-        | no g ↦
-            let e : x ≡ y = omega arith in
-            ap₂ (λ a l. a ∷ l) e
-            (same_members (suc x) q xs ys h.2 (subst (λ v. Rises (suc v) q ys) (sym e) k.2)
-            (λ v b. elim (dec_lt x v) [
-              | yes l ↦ passed_by x y v _ _ (λ d. omega arith) (λ d. omega arith) (same v b)
-              | no i ↦ none_below (suc x) q v xs h.2 (omega arith)
-                  ∙ sym (none_below (suc y) q v ys k.2 (omega arith))
-            ]))
-      ]
-    ]
+    let e : x ≡ y = neither_smaller x y
+    (λ l. true≢false (sym (first_in x xs) ∙ same x h.1
+    ∙ none_below y q x (y ∷ ys) (omega arith, k.1, k.2) l))
+    (λ l. true≢false (sym (same y k.1 ∙ first_in y ys)
+    ∙ none_below x q y (x ∷ xs) (omega arith, h.1, h.2) l)) in
+    ap₂ (λ a l. a ∷ l) e
+    (same_members (x + 1) q xs ys h.2 (rw e k.2) (λ v b. elim (dec_lt x v) [
+      | yes l ↦ rw (ne_eqb x v (λ d. omega arith), ne_eqb y v (λ d. omega arith)) at (same v b)
+      | no i ↦ none_below (x + 1) q v xs h.2 (omega arith)
+          ∙ sym (none_below (y + 1) q v ys k.2 (omega arith))
+    ]))
 
 -- two lists that stand to one list by a relation that determines its answer are one
 zip_same : {A : Type 0} (P : A → Type 0) (R S : A → ℕ → Type 0)
@@ -123,8 +83,7 @@ module _
     (c d : Certificate) (a : Accepted c) (b : Accepted d) (same_code : c.code ≡ d.code)
     (same_kind : kind_of c ≡ kind_of d) where
   of_d : Represents (IsHeapOf c) c.code (claim_of d)
-  of_d = subst (λ k. Represents (IsHeapOf c) k (claim_of d)) (sym same_code)
-      (subst (λ M. Represents (IsHeapIn M) d.code (claim_of d)) (sym same_kind) b.represents)
+  of_d = rw (same_code, same_kind) b.represents
 
   -- full ones have the same least period, and partial ones the same last heap
   periods : (c.start ≡ d.start) × (c.period ≡ d.period)
@@ -150,10 +109,8 @@ module _
       let g : d.start + d.period - 1 ≡ c.start + c.period - 1 =
       let e = periods.0 in let f = periods.1 in omega arith in
       let s = a.in_ranges.start in
-      same_claim (IsHeapOf c) c.code (claim_of c) (claim_of d) a.represents of_d
-      (c.start + c.period - 1) (λ h one l. written_counts c a.in_ranges h one (omega arith))
-      (key_of c) (key_of d) a.canonical.numbered
-      (subst (λ n. IsNumbered (claim_of d) n (key_of d)) g b.canonical.numbered)
+      same_claim a.represents of_d (λ h one l. written_counts c a.in_ranges h one (omega arith))
+      a.canonical.numbered (rw g at b.canonical.numbered)
 
   same_order : c.order ≡ d.order
   same_order = numbers.order
@@ -171,11 +128,12 @@ module _
 
   same_portion_line : c.portion ≡ d.portion
   same_portion_line =
-      let up : Rises 0 d.order d.portion =
-      rises d.order d.portion b.in_ranges.portion.2 b.in_ranges.portion.1 in
+      let p = a.in_ranges.portion in
+      let q = b.in_ranges.portion in
       same_members 0 c.order c.portion d.portion
-      (rises c.order c.portion a.in_ranges.portion.2 a.in_ranges.portion.1)
-      (subst (λ q. Rises 0 q d.portion) (sym same_order) up) (λ v l. sym (numbers.portion v l))
+      (increasing_rises 0 c.order c.portion (λ some. omega arith) p.1 p.2)
+      (rw same_order (increasing_rises 0 d.order d.portion (λ some. omega arith) q.1 q.2))
+      (λ v l. sym (numbers.portion v l))
 
   key_at : (e : Certificate) (i : ℕ) → key_of e (suc i) ≡ get_or e.words i (0, 0)
   key_at e i = let f : suc i - 1 ≡ i = omega arith in ap (λ j. get_or e.words j (0, 0)) f
@@ -221,22 +179,15 @@ module _
       zip_same (InOrder c.order) (LeastApart (claim_of c)) (LeastApart (claim_of d)) least_same
       (pairs_from 0 c.order) c.apart d.apart
       (from_in c.order 0 c.order (omega arith)) a.canonical.apart
-      (subst (λ q. AllZip (LeastApart (claim_of d)) (pairs_from 0 q) d.apart) (sym same_order)
-      b.canonical.apart)
+      (rw same_order b.canonical.apart)
     where
       least_same : (p : ℕ × ℕ) (z w : ℕ) → InOrder c.order p → LeastApart (claim_of c) p z
           → LeastApart (claim_of d) p w → z ≡ w
       least_same p z w i h k =
           let g = same_order in
           let u = k.0 in
-          elim (dec_lt z w) [
-            | yes l ↦ absurd (k.2 z l ((same_telling p z i h.0).0 h.1))
-            | no f ↦ elim (dec_lt w z) [
-              | yes l ↦ absurd (h.2 w l ((same_telling p w i (omega arith)).1 k.1))
-              | no e ↦ omega
-                  arith
-            ]
-          ]
+          neither_smaller z w (λ l. k.2 z l ((same_telling p z i h.0).0 h.1))
+          (λ l. h.2 w l ((same_telling p w i (omega arith)).1 k.1))
 
   -- the two certificates are one
   pub accepted_once : c ≡ d

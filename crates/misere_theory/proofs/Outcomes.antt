@@ -8,6 +8,7 @@ use Rattle.misere_theory.specs.Games.Move.{Here, There}
 use Rattle.misere_theory.specs.Games.IsP.{AllLose}
 use Rattle.misere_theory.specs.Games.IsN.{Ended, Wins}
 use Rattle.misere_theory.proofs.Sums.{first_or_rest, no_move_of_none, move_smaller}
+use Rattle.misere_theory.proofs.Basics.{both_dec}
 
 -- no position is both
 mutual
@@ -40,11 +41,6 @@ some_or_all_below Q R test (suc n) =
             [ inl e ↦ subst R (sym e) r | inr l ↦ all k l ])
       ]
     ]
-
-both_dec : {A B : Type 0} → Dec A → Dec B → Dec (A × B)
-both_dec (yes a) (yes b) = yes (a, b)
-both_dec (no f) _ = no (λ p. f p.0)
-both_dec (yes a) (no g) = no (λ p. g p.1)
 
 bit_dec : (d k : ℕ) → Dec (IsBitSet d k)
 bit_dec d k =

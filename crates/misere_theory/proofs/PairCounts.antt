@@ -1,17 +1,20 @@
 -- Positions have at most order * 2 ^ order different pairs.
 -- A pair has a number: its value, and the values of its options as bits. Different pairs have
 -- different numbers.
-use Rattle.std.proofs.Common.{◌≡◌, ℕ, suc, zero, ◌+◌, ◌*◌, ◌^◌, ◌<◌, ◌≤◌, ◌↔◌, ◌⊎◌, Bool, true, false, cond, List, [], ◌∷◌, refl, sym, ◌∙◌, ap, ap₂, subst, inl, inr, arith, length, map, get_or, AllPairs, eqb, eqb-true, ne_eqb, ◌||◌, mul-le-mul_right, pow-suc}
+use Rattle.std.proofs.Common.{◌≡◌, ℕ, suc, zero, ◌+◌, ◌*◌, ◌^◌, ◌<◌, ◌≤◌, ◌↔◌, ◌⊎◌, Bool, true, false, cond, List, [], ◌∷◌, refl, sym, ◌∙◌, ap, ap₂, subst, inl, inr, arith, length, map, get_or, AllPairs, eqb, eqb-true, ne_eqb, mul-le-mul_right, pow-suc, All}
 use Rattle.std.proofs.Math.ListN.{length-map}
 use Rattle.std.specs.List.{list_any, IsDistinct, AllByRecursion}
 use Rattle.std.proofs.lemmas.Map.Steps.{length-le_from_distinct_below}
-use native.Mathlib.Decide.{dec_lt, ℕ_discrete}
-use Rattle.std.proofs.lemmas.List.Elements.{recursion_from_All}
+use native.Mathlib.Decide.{ℕ_discrete}
+use Rattle.std.proofs.lemmas.List.Elements.{recursion_from_All, All-map}
 use Rattle.misere_theory.specs.Games.{IsPosition}
 use Rattle.misere_theory.specs.Quotients.{Claim, Monoid, GivesElements, value, OptionValue, SamePair, ReachesMoreThan}
 use Rattle.misere_theory.proofs.Sums.{value_in, IsKept, move_kept}
 use Rattle.misere_theory.proofs.Outcomes.{some_or_all_moves}
 use Rattle.std.specs.Cmp.{both_ways}
+use Rattle.misere_theory.proofs.Basics.{neither_smaller}
+use Rattle.std.proofs.lemmas.Bool.{cases_eq}
+use Rattle.std.proofs.lemmas.List.Folds.{Any-from_list_any}
 
 -- the numbers below n that pass, as bits
 mask : (ℕ → Bool) → ℕ → ℕ
@@ -56,13 +59,9 @@ digits_below u v w m n h k = let l : suc u * w ≤ v * w = mul-le-mul_right w h 
 
 digits_same : (u v w m n : ℕ) → m < w → n < w → u * w + m ≡ v * w + n → (u ≡ v) × (m ≡ n)
 digits_same u v w m n h k e =
-    elim (dec_lt u v) [
-      | yes l ↦ absurd (let o = digits_below u v w m n l h in omega arith)
-      | no f ↦ elim (dec_lt v u) [
-        | yes l ↦ absurd (let o = digits_below v u w n m l k in omega arith)
-        | no g ↦ let d : u ≡ v = omega arith in (d, (let s = ap (λ z. z * w) d in omega arith))
-      ]
-    ]
+    let d = neither_smaller u v (λ l. let o = digits_below u v w m n l h in omega arith)
+    (λ l. let o = digits_below v u w n m l k in omega arith) in
+    (d, let s = ap (λ z. z * w) d in omega arith)
 
 module _
     (heap : ℕ → Type 0) (code : List ℕ) (kept : IsKept heap code) (c : Claim)
@@ -71,8 +70,7 @@ module _
   -- whether x is the value of an option of X
   tested : (X : List ℕ) (x : ℕ) → (b : Bool) × ((b ≡ true) ↔ OptionValue code c X x)
   tested X x =
-      elim (some_or_all_moves code (λ Y. value c Y ≡ x) (λ Y. value c Y ≡ x → ⊥) X
-      (λ Y i. elim (ℕ_discrete (value c Y) x) [ yes e ↦ inl e | no f ↦ inr f ])) [
+      elim (some_or_all_moves code _ _ X (λ Y i. cases_eq (value c Y) x)) [
         | inl (Y, i, e) ↦ (true, (λ _. (Y, i, e), λ _. refl))
         | inr all ↦ (false, (λ e. cc, λ o. absurd (all o.0 o.1 o.2)))
       ]
@@ -147,19 +145,15 @@ module _
     distinct_numbers Xs r.1 (λ i j d p q. h (suc i) (suc j) d (omega arith) (omega arith)),
   )
 
-  one_below : (X : List ℕ) → IsPosition heap X → (q : ℕ) (rest b : Bool) → eqb q (number_of X) ≡ b
-      → (b || rest) ≡ true
-      → (rest ≡ true → q < c.order * 2 ^ c.order) → q < c.order * 2 ^ c.order
-  one_below X w q rest true p _ _ = rw (eqb-true q (number_of X) p) (number-below X w)
-  one_below X w q rest false p h more = more h
-
-  all_below : (Xs : List (List ℕ)) → AllByRecursion (IsPosition heap) Xs → (q : ℕ)
+  all_below : (Xs : List (List ℕ)) → All (IsPosition heap) Xs → (q : ℕ)
       → list_any (eqb q) (map number_of Xs) ≡ true
       → q < c.order * 2 ^ c.order
-  all_below [] r q e = cc
-  all_below (X ∷ Xs) r q e =
-      one_below X r.0 q (list_any (eqb q) (map number_of Xs)) (eqb q (number_of X)) refl e
-      (all_below Xs r.1 q)
+  all_below Xs all q e =
+      let (j, d, l, at, h) = Any-from_list_any (eqb q) (map number_of Xs) e in
+      let below = All-map (λ n. n < c.order * 2 ^ c.order) number_of Xs
+      (λ k Y b. number-below _ (all k Y b)) j d l in
+      let is = eqb-true q d h in
+      omega (arith, at)
 
   -- so a closure with a limit of order * 2 ^ order never passes it
   pub reach_bound : (limit : ℕ) → ReachesMoreThan heap code c limit → limit < c.order * 2 ^ c.order
@@ -167,5 +161,5 @@ module _
       let r = recursion_from_All (IsPosition heap) Xs all in
       let l =
       length-le_from_distinct_below (map number_of Xs) (c.order * 2 ^ c.order)
-      (distinct_numbers Xs r apart) (all_below Xs r) in
+      (distinct_numbers Xs r apart) (all_below Xs all) in
       let same = length-map Xs number_of in omega arith

@@ -1,13 +1,29 @@
 -- Rising lists with the same elements are the same.
 -- A first element that is smaller than the other's is missing there; so the first ones are equal,
 -- and then the rests.
-use Rattle.std.proofs.Common.{◌≡◌, ℕ, suc, ◌+◌, ◌<◌, ⊎_elim, cond, eqb, List, [], ◌∷◌, refl, sym, ap, ap₂, ◌∙◌, arith, All, sum_by}
-use Rattle.std.specs.List.Sorted.{IsNonDecreasing, IsPermutation}
+use Rattle.std.proofs.Common.{◌≡◌, ℕ, suc, ◌+◌, ◌<◌, ⊎_elim, cond, eqb, List, [], ◌∷◌, refl, sym, ap, ap₂, ◌∙◌, arith, All, sum_by, length, get_or, ◌≤◌}
+use Rattle.std.specs.List.Sorted.{IsNonDecreasing, IsPermutation, IsStrictlyIncreasing}
 use Rattle.std.proofs.lemmas.Bool.{cases_lt}
 use Rattle.std.proofs.lemmas.Bool.Decides.{nat_tests}
 use Rattle.std.proofs.lemmas.List.Elements.{All-head, All-tail}
 use Rattle.std.proofs.lemmas.List.Sorted.{sum_by-IsPermutation}
 use Rattle.std.proofs.lemmas.List.Sums.{sum_by-cons}
+
+-- the numbers rise from low on and stay below q
+abbrev pub RisesFrom : ℕ → ℕ → List ℕ → Type 0
+RisesFrom low q [] = Unit {0}
+RisesFrom low q (x ∷ xs) = (low ≤ x) × (x < q) × RisesFrom (x + 1) q xs
+
+pub increasing_rises : (low q : ℕ) (xs : List ℕ) → (1 ≤ length xs → low ≤ get_or xs 0 0)
+    → All (λ x. x < q) xs → IsStrictlyIncreasing xs → RisesFrom low q xs
+increasing_rises low q [] from below up = tt
+increasing_rises low q (x ∷ xs) from below up = (
+  from (omega arith),
+  below 0 0 (omega arith),
+  increasing_rises (x + 1) q xs (λ some. let s = up 0 (omega arith) in omega arith)
+      (All-tail (λ y. y < q) x xs below)
+      (λ k l. let e : suc k + 1 ≡ suc (k + 1) = omega arith in rw e at (up (suc k) (omega arith))),
+)
 
 -- whatever the elements count, both lists have the same sum
 abbrev pub SameSums : List ℕ → List ℕ → Type 0

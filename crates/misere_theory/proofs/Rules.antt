@@ -2,17 +2,16 @@
 -- By induction on the measure of a position.
 use Rattle.std.proofs.Common.{◌≡◌, ℕ, suc, zero, ◌<◌, ◌⊎◌, ◌↔◌, Bool, true, false, List, ◌++◌, refl, sym, ◌∙◌, ap, subst, inl, inr, arith}
 use Rattle.std.specs.Cmp.{both_ways}
-use Rattle.std.proofs.lemmas.Bool.{false_from_ne_true, true≢false}
+use Rattle.std.proofs.lemmas.Bool.{false_from_ne_true, true≢false, cases_Bool}
 use Rattle.misere_theory.specs.Games.{Move, measure, Indistinguishable, IsP, IsPosition}
 use Rattle.misere_theory.specs.Games.IsP.{AllLose}
 use Rattle.misere_theory.specs.Quotients.{Claim, Monoid, GivesElements, value, OptionValue, RuleHolds, RuleFails, Represents, AllApart}
-use native.Mathlib.Decide.{dec_lt}
 use Rattle.misere_theory.proofs.Sums.{move_smaller, value_in, value-append, IsPosition-append, IsKept, move_kept}
 use Rattle.misere_theory.proofs.Outcomes.{not_both, determined, some_or_all_moves, movable, p_moves, p_leads_to_n}
+use Rattle.misere_theory.proofs.Basics.{neither_smaller}
 
 pub true_or_false : (b : Bool) → (b ≡ true) ⊎ (b ≡ false)
-true_or_false true = inl refl
-true_or_false false = inr refl
+true_or_false = cases_Bool
 
 module _ (code : List ℕ) (c : Claim) where
   -- a portion that predicts the outcomes of a position and of its options obeys the local rule
@@ -159,13 +158,8 @@ module _
       pub alike_same_value : (X Y : List ℕ) → IsPosition heap X → IsPosition heap Y
           → Indistinguishable heap code X Y → value c X ≡ value c Y
       alike_same_value X Y p q a =
-          elim (dec_lt (value c X) (value c Y)) [
-            | yes l ↦ absurd (not_below X Y p q a l)
-            | no f ↦ elim (dec_lt (value c Y) (value c X)) [
-              | yes l ↦ absurd (not_below Y X q p (λ Z r. ((a Z r).1, (a Z r).0)) l)
-              | no g ↦ omega arith
-            ]
-          ]
+          neither_smaller _ _ (not_below X Y p q a)
+          (not_below Y X q p (λ Z r. ((a Z r).1, (a Z r).0)))
 
       -- the whole claim, from what a checker tests
       pub represents : Represents heap code c

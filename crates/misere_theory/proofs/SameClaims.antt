@@ -1,11 +1,12 @@
 -- Two claims that represent one code's game, with least periods and keys, are the same numbers.
 -- By induction on the elements: neither claim's next key is below the other's, since each is the
 -- least.
-use Rattle.std.proofs.Common.{◌≡◌, ℕ, suc, zero, ◌+◌, ◌-◌, ◌*◌, ◌<◌, ◌≤◌, List, [], ◌∷◌, ◌++◌, refl, sym, ◌∙◌, ap, ap₂, subst, inl, inr, arith, eq-zero-or-pos}
+use Rattle.std.proofs.Common.{◌≡◌, ℕ, suc, zero, ◌+◌, ◌-◌, ◌*◌, ◌<◌, ◌≤◌, List, [], ◌∷◌, ◌++◌, sym, ◌∙◌, ap, ap₂, subst, inl, inr, arith, eq-zero-or-pos}
 use native.Mathlib.Decide.{dec_lt, dec_le}
 use Rattle.misere_theory.specs.Games.{IsHeap, IsPosition}
 use Rattle.misere_theory.specs.Quotients.{Claim, Monoid, value, Represents}
 use Rattle.misere_theory.specs.Numbering.{IsLeastPeriod, KeyBelow, IsNumbered}
+use Rattle.misere_theory.proofs.Basics.{neither_smaller}
 use Rattle.misere_theory.proofs.Sums.{value_in, value-append, IsPosition-append}
 use Rattle.std.specs.Cmp.{both_ways}
 
@@ -53,9 +54,8 @@ module _
     | yes q ↦ q
     | no f ↦ absurd
         (k.earliest (let o = l.from_one in omega arith)
-        (subst (λ v. c.phi (v + (s - 1)) ≡ c.phi (s - 1)) (sym e)
-        (same (r + (s - 1)) (s - 1) (let o = l.from_one in omega arith) (let o = l.from_one in
-        omega arith) (l.repeats (s - 1) (omega arith)))))
+        (let o = l.from_one in rw e (same (r + (s - 1)) (s - 1) (omega arith) (omega arith)
+        (l.repeats (s - 1) (omega arith)))))
   ]
 
 pub KeyBelow-trans : (a b z : ℕ × ℕ) → KeyBelow a b → KeyBelow b z → KeyBelow a z
@@ -66,46 +66,40 @@ KeyBelow-trans a b z (inr p) (inr q) = inr (omega arith, omega arith)
 
 same_keys : (a b : ℕ × ℕ) → (KeyBelow a b → ⊥) → (KeyBelow b a → ⊥) → (a.0 ≡ b.0) × (a.1 ≡ b.1)
 same_keys a b f g =
-    elim (dec_lt a.0 b.0) [
-      | yes l ↦ absurd (f (inl l))
-      | no i ↦ elim (dec_lt b.0 a.0) [
-        | yes l ↦ absurd (g (inl l))
-        | no j ↦ let e : a.0 ≡ b.0 = omega arith in elim (dec_lt a.1 b.1) [
-          | yes l ↦ absurd (f (inr (e, l)))
-          | no v ↦ elim (dec_lt b.1 a.1)
-              [ yes l ↦ absurd (g (inr (sym e, l))) | no w ↦ (e, omega arith) ]
-        ]
-      ]
-    ]
+    let e = neither_smaller a.0 b.0 (λ l. f (inl l)) (λ l. g (inl l)) in
+    (e, neither_smaller a.1 b.1 (λ l. f (inr (e, l))) (λ l. g (inr (sym e, l))))
 
 -- Numbers. What one claim's least keys say of the other's.
-module _ (heap : ℕ → Type 0) (code : List ℕ) (c d : Claim) (rc : Represents heap code c)
+module _ {heap : ℕ → Type 0} {code : List ℕ} {c d : Claim} (rc : Represents heap code c)
     (rd : Represents heap code d) where
-  pub carries : (X Y : List ℕ) → IsPosition heap X → IsPosition heap Y → value c X ≡ value c Y
+  carries : (X Y : List ℕ) → IsPosition heap X → IsPosition heap Y → value c X ≡ value c Y
       → value d X ≡ value d Y
   carries X Y p q e = (rd.indistinguishable X Y p q).0 ((rc.indistinguishable X Y p q).1 e)
 
-  abbrev pub Agree : ℕ → Type 0
+  -- heaps with one element in the one claim have one in the other
+  pub same_heaps : (n m : ℕ) → heap n → heap m → c.phi n ≡ c.phi m → d.phi n ≡ d.phi m
+  same_heaps n m h k e =
+      sym (value_of_heap d rd.monoid n (rd.elements n h))
+      ∙ carries (n ∷ []) (m ∷ []) (h, tt) (k, tt) (value_of_heap c rc.monoid n (rc.elements n h)
+      ∙ e ∙ sym (value_of_heap c rc.monoid m (rc.elements m k)))
+      ∙ value_of_heap d rd.monoid m (rd.elements m k)
+
+  abbrev Agree : ℕ → Type 0
   Agree e = (X : List ℕ) × IsPosition heap X × (value c X ≡ e) × (value d X ≡ e)
 
-  pub agree_at : (e : ℕ) → Agree e → (X : List ℕ) → IsPosition heap X → value c X ≡ e
-      → value d X ≡ e
-  agree_at e (Y, y, p, q) X x h = carries X Y x y (h ∙ sym p) ∙ q
-
   module _
-      (heaps : ℕ) (fits : (h : ℕ) → 1 ≤ h → h ≤ heaps → heap h)
-      (key_c key_d : ℕ → ℕ × ℕ) (nc : IsNumbered c heaps key_c)
-      (nd : IsNumbered d heaps key_d) where
+      {heaps : ℕ} (fits : (h : ℕ) → 1 ≤ h → h ≤ heaps → heap h) {key_c key_d : ℕ → ℕ × ℕ}
+      (nc : IsNumbered c heaps key_c) (nd : IsNumbered d heaps key_d) where
     -- the position that e's key names, with e's value on the one side and no less on the other
-    pub record Side (e : ℕ) : Type 0 where
-      pub position : List ℕ
-      pub counts : IsPosition heap position
-      pub here : value c position ≡ e
-      pub there : value d position ≡ d.times (key_c e).0 (d.phi (key_c e).1)
-      pub above : e ≤ value d position
-      pub parent : (key_c e).0 < d.order
+    record Side (e : ℕ) : Type 0 where
+      position : List ℕ
+      counts : IsPosition heap position
+      here : value c position ≡ e
+      there : value d position ≡ d.times (key_c e).0 (d.phi (key_c e).1)
+      above : e ≤ value d position
+      parent : (key_c e).0 < d.order
 
-    pub one_side : (e : ℕ) → 0 < e → e < c.order → ((i : ℕ) → i < e → Agree i) → Side e
+    one_side : (e : ℕ) → 0 < e → e < c.order → ((i : ℕ) → i < e → Agree i) → Side e
     one_side e pos l agree =
         let f = (key_c e).0 in
         let h = (key_c e).1 in
@@ -115,14 +109,12 @@ module _ (heap : ℕ → Type 0) (code : List ℕ) (c d : Claim) (rc : Represent
         let here : value c (h ∷ F) ≡ e =
         rc.monoid.commutes _ _ (rc.elements h one) (value_in heap c rc.monoid rc.elements F w)
         ∙ ap (λ v. c.times v (c.phi h)) p ∙ nc.product e pos l in
-        let there : value d (h ∷ F) ≡ d.times f (d.phi h) =
-        rd.monoid.commutes _ _ (rd.elements h one) (value_in heap d rd.monoid rd.elements F w)
-        ∙ ap (λ v. d.times v (d.phi h)) q in
         record {
           position = h ∷ F;
           counts = (one, w);
           here = here;
-          there = there;
+          there = rd.monoid.commutes _ _ (rd.elements h one) (value_in heap d rd.monoid rd.elements F w)
+              ∙ ap (λ v. d.times v (d.phi h)) q;
           above = elim (dec_le e (value d (h ∷ F))) [
             | yes i ↦ i
             | no g ↦
@@ -132,15 +124,15 @@ module _ (heap : ℕ → Type 0) (code : List ℕ) (c d : Claim) (rc : Represent
                 ((rd.indistinguishable (h ∷ F) Y (one, w) y).1 (sym b)) in
                 absurd (omega arith)
           ];
-          parent = subst (λ v. v < d.order) q (value_in heap d rd.monoid rd.elements F w);
+          parent = rw q at (value_in heap d rd.monoid rd.elements F w);
         }
 
-    pub key_not_below : (e : ℕ) → 0 < e → e < c.order → Side e → KeyBelow (key_c e) (key_d e) → ⊥
+    key_not_below : (e : ℕ) → 0 < e → e < c.order → Side e → KeyBelow (key_c e) (key_d e) → ⊥
     key_not_below e pos l w b =
         let f = (key_c e).0 in
         let h = (key_c e).1 in
         let v = d.times f (d.phi h) in
-        let high : e ≤ v = subst (λ z. e ≤ z) w.there w.above in
+        let high : e ≤ v = rw w.there at w.above in
         let range = nc.heap e pos l in
         let low : v < d.order =
         rd.monoid.closed f (d.phi h) w.parent (rd.elements h (fits h range.0 range.1)) in
@@ -154,99 +146,70 @@ module _ (heap : ℕ → Type 0) (code : List ℕ) (c d : Claim) (rc : Represent
 
 -- Both at once.
 module _
-    (heap : ℕ → Type 0) (code : List ℕ) (c d : Claim) (rc : Represents heap code c)
-    (rd : Represents heap code d) (heaps : ℕ)
-    (fits : (h : ℕ) → 1 ≤ h → h ≤ heaps → heap h) (key_c key_d : ℕ → ℕ × ℕ)
-    (nc : IsNumbered c heaps key_c) (nd : IsNumbered d heaps key_d) where
-  swap_sides : {e : ℕ} → Agree heap code c d rc rd e → Agree heap code d c rd rc e
-  swap_sides (X, w, p, q) = (X, w, q, p)
+    {heap : ℕ → Type 0} {code : List ℕ} {c d : Claim} (rc : Represents heap code c)
+    (rd : Represents heap code d) {heaps : ℕ} (fits : (h : ℕ) → 1 ≤ h → h ≤ heaps → heap h)
+    {key_c key_d : ℕ → ℕ × ℕ} (nc : IsNumbered c heaps key_c) (nd : IsNumbered d heaps key_d) where
+  -- where the two agree below e, they have e's key in common
+  both_sides : (e : ℕ) → 0 < e → e < c.order → ((i : ℕ) → i < e → Agree rc rd i)
+      → Side rc rd fits nc nd e × (e < d.order)
+      × ((key_c e).0 ≡ (key_d e).0) × ((key_c e).1 ≡ (key_d e).1)
+  both_sides e pos l smaller =
+      let a = one_side rc rd fits nc nd e pos l smaller in
+      let v = value_in heap d rd.monoid rd.elements a.position a.counts in
+      let below : e < d.order = let u = a.above in omega arith in
+      let b = one_side rd rc fits nd nc e pos below
+      (λ i g. let (X, w, p, q) = smaller i g in (X, w, q, p)) in
+      let (k, h) = same_keys (key_c e) (key_d e) (key_not_below rc rd fits nc nd e pos l a)
+      (key_not_below rd rc fits nd nc e pos below b) in
+      (a, below, k, h)
 
-  pub agree_within : (t e : ℕ) → e < t → e < c.order → Agree heap code c d rc rd e
+  agree_within : (t e : ℕ) → e < t → e < c.order → Agree rc rd e
   agree_within zero e h l = absurd (omega arith)
   agree_within (suc t) e h l = elim (eq-zero-or-pos e) [
     | inl z ↦ ([], tt, sym z, sym z)
     | inr pos ↦
-        let smaller : (i : ℕ) → i < e → Agree heap code c d rc rd i =
-        λ i g. agree_within t i (omega arith) (omega arith) in
-        let a = one_side heap code c d rc rd heaps fits key_c key_d nc nd e pos l smaller in
-        let below : e < d.order = let v =
-        value_in heap d rd.monoid rd.elements a.position a.counts in let u = a.above in
-        omega arith in
-        let b =
-        one_side heap code d c rd rc heaps fits key_d key_c nd nc e pos below
-        (λ i g. swap_sides (smaller i g)) in
-        let keys = same_keys (key_c e) (key_d e)
-        (key_not_below heap code c d rc rd heaps fits key_c key_d nc nd e pos l a)
-        (key_not_below heap code d c rd rc heaps fits key_d key_c nd nc e pos below b) in (
+        let (a, below, k, h) =
+        both_sides e pos l (λ i g. agree_within t i (omega arith) (omega arith)) in (
           a.position,
           a.counts,
           a.here,
-          a.there ∙ ap₂ (λ x y. d.times x (d.phi y)) keys.0 keys.1
-              ∙ nd.product e pos below,
+          a.there ∙ ap₂ (λ x y. d.times x (d.phi y)) k h ∙ nd.product e pos below,
         )
   ]
 
-  pub agree : (e : ℕ) → e < c.order → Agree heap code c d rc rd e
+  agree : (e : ℕ) → e < c.order → Agree rc rd e
   agree e l = agree_within (suc e) e (omega arith) l
 
-  pub order_le : c.order ≤ d.order
+  order_le : c.order ≤ d.order
   order_le = elim (dec_le c.order d.order) [
     | yes i ↦ i
     | no f ↦ let (X, w, p, q) = agree d.order (omega arith) in let v =
         value_in heap d rd.monoid rd.elements X w in absurd (omega arith)
   ]
 
-  pub same_value : (X : List ℕ) → IsPosition heap X → value d X ≡ value c X
+  same_value : (X : List ℕ) → IsPosition heap X → value d X ≡ value c X
   same_value X w =
-      agree_at heap code c d rc rd (value c X)
-      (agree (value c X) (value_in heap c rc.monoid rc.elements X w)) X w refl
+      let (Y, y, p, q) = agree (value c X) (value_in heap c rc.monoid rc.elements X w) in
+      carries rc rd X Y w y (sym p) ∙ q
 
-  pub same_phi : (n : ℕ) → heap n → d.phi n ≡ c.phi n
+  same_phi : (n : ℕ) → heap n → d.phi n ≡ c.phi n
   same_phi n h = sym (value_of_heap d rd.monoid n (rd.elements n h)) ∙ same_value (n ∷ []) (h, tt)
       ∙ value_of_heap c rc.monoid n (rc.elements n h)
 
-  pub same_portion : (e : ℕ) → e < c.order → d.portion e ≡ c.portion e
+  same_portion : (e : ℕ) → e < c.order → d.portion e ≡ c.portion e
   same_portion e l =
       let (X, w, p, q) = agree e l in
       both_ways _ _
       (λ t. ap c.portion (sym p) ∙ (rc.predicts X w).0 ((rd.predicts X w).1 (ap d.portion q ∙ t)))
       (λ t. ap d.portion (sym q) ∙ (rd.predicts X w).0 ((rc.predicts X w).1 (ap c.portion p ∙ t)))
 
-  pub same_times : (x y : ℕ) → x < c.order → y < c.order → d.times x y ≡ c.times x y
+  same_times : (x y : ℕ) → x < c.order → y < c.order → d.times x y ≡ c.times x y
   same_times x y i j =
       let (X, w, p, q) = agree x i in
       let (Y, v, r, s) = agree y j in
       ap₂ d.times (sym q) (sym s) ∙ sym (value-append heap d rd.monoid rd.elements X Y w v)
       ∙ same_value (X ++ Y) (IsPosition-append heap X Y w v)
       ∙ value-append heap c rc.monoid rc.elements X Y w v ∙ ap₂ c.times p r
-
-  pub same_word : (e : ℕ) → 0 < e → e < c.order
-      → (e < d.order) × (((key_c e).0 ≡ (key_d e).0) × ((key_c e).1 ≡ (key_d e).1))
-  same_word e pos l =
-      let smaller : (i : ℕ) → i < e → Agree heap code c d rc rd i = λ i g. agree i (omega arith) in
-      let a = one_side heap code c d rc rd heaps fits key_c key_d nc nd e pos l smaller in
-      let below : e < d.order = let o = order_le in omega arith in
-      let b =
-      one_side heap code d c rd rc heaps fits key_d key_c nd nc e pos below
-      (λ i g. swap_sides (smaller i g)) in (
-        below,
-        same_keys (key_c e) (key_d e)
-            (key_not_below heap code c d rc rd heaps fits key_c key_d nc nd e pos l a)
-            (key_not_below heap code d c rd rc heaps fits key_d key_c nd nc e pos below b),
-      )
-
--- heaps with one element in the one claim have one in the other
-pub same_heaps : (heap : ℕ → Type 0) (code : List ℕ) (c d : Claim) → Represents heap code c
-    → Represents heap code d
-    → (n m : ℕ) → heap n → heap m
-    → d.phi n ≡ d.phi m → c.phi n ≡ c.phi m
-same_heaps heap code c d rc rd n m h k e =
-    sym (value_of_heap c rc.monoid n (rc.elements n h))
-    ∙ (rc.indistinguishable (n ∷ []) (m ∷ []) (h, tt) (k, tt)).0
-    ((rd.indistinguishable (n ∷ []) (m ∷ []) (h, tt) (k, tt)).1
-    (value_of_heap d rd.monoid n (rd.elements n h) ∙ e
-    ∙ sym (value_of_heap d rd.monoid m (rd.elements m k))))
-    ∙ value_of_heap c rc.monoid m (rc.elements m k)
 
 -- start and period are the same, where all heaps count
 pub same_period : (heap : ℕ → Type 0) → ((n : ℕ) → IsHeap n → heap n) → (code : List ℕ)
@@ -255,9 +218,9 @@ pub same_period : (heap : ℕ → Type 0) → ((n : ℕ) → IsHeap n → heap n
     → IsLeastPeriod d t r → (s ≡ t) × (p ≡ r)
 same_period heap all code c d rc rd s p t r k l =
     let one : (n m : ℕ) → IsHeap n → IsHeap m → d.phi n ≡ d.phi m → c.phi n ≡ c.phi m =
-    λ n m h i. same_heaps heap code c d rc rd n m (all n h) (all m i) in
+    λ n m h i. same_heaps rd rc n m (all n h) (all m i) in
     let two : (n m : ℕ) → IsHeap n → IsHeap m → c.phi n ≡ c.phi m → d.phi n ≡ d.phi m =
-    λ n m h i. same_heaps heap code d c rd rc n m (all n h) (all m i) in
+    λ n m h i. same_heaps rc rd n m (all n h) (all m i) in
     let a : p ≤ r = no_shorter c d one s p t r k l in
     let b : r ≤ p = no_shorter d c two t r s p l k in
     let e : p ≡ r = omega arith in
@@ -266,17 +229,18 @@ same_period heap all code c d rc rd s p t r k l =
     (omega arith, e)
 
 -- the elements, phi, portion, product and keys are the same
-pub same_claim : (heap : ℕ → Type 0) (code : List ℕ) (c d : Claim) → Represents heap code c
-    → Represents heap code d → (heaps : ℕ) → ((h : ℕ) → 1 ≤ h → h ≤ heaps → heap h)
-    → (key_c key_d : ℕ → ℕ × ℕ) → IsNumbered c heaps key_c → IsNumbered d heaps key_d
+pub same_claim : {heap : ℕ → Type 0} {code : List ℕ} {c d : Claim} → Represents heap code c
+    → Represents heap code d → {heaps : ℕ} → ((h : ℕ) → 1 ≤ h → h ≤ heaps → heap h)
+    → {key_c key_d : ℕ → ℕ × ℕ} → IsNumbered c heaps key_c → IsNumbered d heaps key_d
     → SameClaim heap c d key_c key_d
-same_claim heap code c d rc rd heaps fits key_c key_d nc nd =
-    let a : c.order ≤ d.order = order_le heap code c d rc rd heaps fits key_c key_d nc nd in
-    let b : d.order ≤ c.order = order_le heap code d c rd rc heaps fits key_d key_c nd nc in
+same_claim rc rd fits nc nd =
+    let a = order_le rc rd fits nc nd in
+    let b = order_le rd rc fits nd nc in
     record {
       order = omega arith;
-      phi = same_phi heap code c d rc rd heaps fits key_c key_d nc nd;
-      portion = same_portion heap code c d rc rd heaps fits key_c key_d nc nd;
-      times = same_times heap code c d rc rd heaps fits key_c key_d nc nd;
-      words = λ e pos h. (same_word heap code c d rc rd heaps fits key_c key_d nc nd e pos h).1;
+      phi = same_phi rc rd fits nc nd;
+      portion = same_portion rc rd fits nc nd;
+      times = same_times rc rd fits nc nd;
+      words = λ e pos l. let (_, _, k, h) = both_sides rc rd fits nc nd e pos l
+          (λ i g. agree rc rd fits nc nd i (omega arith)) in (k, h);
     }

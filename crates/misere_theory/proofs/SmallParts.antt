@@ -11,8 +11,10 @@ use Rattle.misere_theory.specs.Pairs.{IsPeriodic, IsSmallSplit}
 use Rattle.misere_theory.specs.Kinds.{IsHeapIn, IsPeriodicIn}
 use Rattle.misere_theory.specs.Plays.{LeftBefore}
 use Rattle.misere_theory.proofs.Codes.{seen_three}
+use Rattle.misere_theory.proofs.Sums.{option_smaller}
+use Rattle.misere_theory.proofs.Counting.{kept_in}
 use Rattle.misere_theory.proofs.InOrder.{put_in_order}
-use Rattle.misere_theory.proofs.Shuffles.{Shuffled, back, value_shuffled}
+use Rattle.misere_theory.proofs.Shuffles.{back, value_shuffled, Shuffled}
 use Rattle.misere_theory.proofs.Shuffles.Shuffled.{Flip}
 
 module _
@@ -25,6 +27,9 @@ module _
       | inl z ↦ ok z
       | inr some ↦ absurd (let m = counts some in omega arith)
     ]
+
+    kept : {H : List ℕ} → HeapOption code n H → IsPosition (IsHeapIn M) H
+    kept {H = H} o = kept_in M code n H (let s = option_smaller o in omega arith, counts) o
 
     -- the period, moved from the smaller part to the other until the smaller is small
     lowered : (t a b : ℕ) → a < t → 1 ≤ a → a ≤ b → a + b ≤ n
@@ -101,15 +106,14 @@ module _
             ],
           )
           | no f ↦
-              let part : (v : ℕ) → 1 ≤ v → v ≤ n → IsHeapIn M v =
-              λ v some l. (some, λ i. let t = counts i in omega arith) in (
+              let rising : x ≤ w = omega arith in
+              let flip : Shuffled (y ∷ x ∷ w ∷ []) (x ∷ y ∷ w ∷ []) = Flip in
+              let o : HeapOption code n (y ∷ x ∷ w ∷ []) =
+              Three j y x w y_some x_some (omega arith) (omega arith) s in (
                 y ∷ x ∷ w ∷ [],
-                Three j y x w y_some x_some (omega arith) (omega arith) s,
-                (omega arith, omega arith, y_small, x_small),
-                (let flip : Shuffled (y ∷ x ∷ w ∷ []) (x ∷ y ∷ w ∷ []) = Flip in
-                    value_shuffled (IsHeapIn M) c m phi_in flip
-                    (part y y_some (omega arith), (part x x_some (omega arith), (part w (omega arith) (omega arith), tt)))
-                    ∙ same),
+                o,
+                (omega arith, rising, y_small, x_small),
+                value_shuffled (IsHeapIn M) c m phi_in flip (kept o) ∙ same,
                 inr (inr (omega arith, inr (refl, inl (omega arith)))),
               )
         ]
@@ -141,15 +145,5 @@ module _
           L,
           k,
           small,
-          e ∙ value_shuffled (IsHeapIn M) c m phi_in (back u) (kept K i),
+          e ∙ value_shuffled (IsHeapIn M) c m phi_in (back u) (kept i),
         )
-      where
-        part : (v : ℕ) → 1 ≤ v → v ≤ n → IsHeapIn M v
-        part v some l = (some, λ i. let t = counts i in omega arith)
-
-        kept : (K : List ℕ) → HeapOption code n K → IsPosition (IsHeapIn M) K
-        kept K (Nothing j p e b) = tt
-        kept K (One j a p q e b) = (part a q (omega arith), tt)
-        kept K (Two j a b p q e s) = (part a p (omega arith), (part b q (omega arith), tt))
-        kept K (Three j a b d p q r e s) =
-            (part a p (omega arith), (part b q (omega arith), (part d r (omega arith), tt)))

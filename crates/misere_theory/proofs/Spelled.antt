@@ -35,6 +35,14 @@ spelled_value c _ _ r m k l (Key e pos w) =
           ∙ k.numbered.product e pos l,
     )
 
+-- so all elements are values
+pub reached : (c : Certificate) → InRanges c → Monoid c.order (times_of c) → Canonical c → (x : ℕ)
+    → x < c.order → (X : List ℕ) × IsPosition (IsHeapOf c) X × (value (claim_of c) X ≡ x)
+reached c r m k x l =
+    let (X, w) = spelled c k x l in
+    let (p, e) = spelled_value c x X r m k l w in
+    (X, p, e)
+
 module _
     (c : Certificate) (r : InRanges c) (q : ℕ) (once : (n : ℕ) → c.start ≤ n
     → n < c.start + c.period → phi_at c (q + n) ≡ phi_at c n) where

@@ -1,6 +1,6 @@
 -- The first winning move: there is one wherever some move wins, and whoever answers by it wins.
 -- Among the winning moves of a heap one has the least numbers, in the order of the definition.
-use Rattle.std.proofs.Common.{◌≡◌, ℕ, zero, suc, ◌-◌, ◌<◌, ◌≤◌, ◌⊎◌, List, [], ◌∷◌, ◌++◌, length, get_or, sum, refl, sym, ap, ap₂, subst, inl, inr, arith}
+use Rattle.std.proofs.Common.{◌≡◌, ℕ, zero, suc, ◌-◌, ◌<◌, ◌≤◌, ◌⊎◌, List, [], ◌∷◌, ◌++◌, length, get_or, sum, refl, sym, ap, ap₂, subst, inl, inr, arith, ◌∙◌}
 use Rattle.std.proofs.lemmas.List.Sorted.{IsPermutation-refl}
 use native.Mathlib.Decide.{dec_lt, ℕ_discrete}
 use Rattle.misere_theory.specs.Games.{HeapOption, Move, HeapMove, IsP, IsN}
@@ -9,7 +9,7 @@ use Rattle.misere_theory.specs.Games.Move.{Here}
 use Rattle.misere_theory.specs.Games.IsN.{Ended, Wins}
 use Rattle.misere_theory.specs.Plays.{LeftBefore, IsWinningMove, IsFirstWin, IsHanded, Keeps}
 use Rattle.misere_theory.specs.Plays.IsHanded.{AtOnce, Later}
-use Rattle.misere_theory.proofs.Basics.{neither_smaller}
+use Rattle.misere_theory.proofs.Basics.{neither_smaller, both_dec, decided}
 use Rattle.misere_theory.proofs.Outcomes.{determined, not_both, p_moves, p_leads_to_n, some_or_all_below, some_or_all_options}
 use Rattle.misere_theory.proofs.Shuffles.{back, beside, from_permutation, to_permutation, move_shuffled, p_shuffled, one_heap_moves}
 use Rattle.misere_theory.proofs.Shuffles.Shuffled.{Then}
@@ -45,12 +45,11 @@ pub winning_leads : {code X : List ℕ} {n : ℕ} {H Z : List ℕ} → IsWinning
 winning_leads w m = p_shuffled w.1.2 (moved_once w.1.1 m)
 
 module _ (code X : List ℕ) where
-  winning_dec : (n : ℕ) (H : List ℕ) → HeapOption code n H → IsWinningMove code X n H
-      ⊎ (IsWinningMove code X n H → ⊥)
+  winning_dec : (n : ℕ) (H : List ℕ) → HeapOption code n H → Dec (IsWinningMove code X n H)
   winning_dec n H o = elim (order_dec o) [
-    | no f ↦ inr (λ w. f w.0)
+    | no f ↦ no (λ w. f w.0)
     | yes ordered ↦ elim (less_or_none n X) [
-      | inr none ↦ inr
+      | inr none ↦ no
           (λ w. let (S, i, _) =
           less_in_order (back (from_permutation X (n ∷ w.1.1.others) w.1.1.before)) n w.1.1.others
           (inl (refl, refl)) in none S i)
@@ -63,8 +62,8 @@ module _ (code X : List ℕ) where
             after = IsPermutation-refl (H ++ R);
           } in
           elim (determined code (H ++ R)) [
-            | inl p ↦ inl (ordered, (H ++ R, m, p))
-            | inr q ↦ inr (λ w. not_both (winning_leads w m) q)
+            | inl p ↦ yes (ordered, (H ++ R, m, p))
+            | inr q ↦ no (λ w. not_both (winning_leads w m) q)
           ]
     ]
   ]
@@ -73,45 +72,55 @@ module _ (code X : List ℕ) where
   allowed_of w = w.1.1.allowed
 
   -- a winning move with a property that can be tested, or none
-  winning_with : (n : ℕ) (T : List ℕ → Type 0) → ((H : List ℕ) → T H ⊎ (T H → ⊥))
+  winning_with : (n : ℕ) (T : List ℕ → Type 0) → ((H : List ℕ) → Dec (T H))
       → ((H : List ℕ) × IsWinningMove code X n H × T H)
       ⊎ (((H : List ℕ) × IsWinningMove code X n H × T H) → ⊥)
   winning_with n T test =
       elim (some_or_all_options code n (λ H. IsWinningMove code X n H × T H)
-      (λ H. IsWinningMove code X n H × T H → ⊥) both) [
+      (λ H. IsWinningMove code X n H × T H → ⊥)
+      (λ H o. decided (both_dec (winning_dec n H o) (test H)))) [
         | inl (H, o, (w, t)) ↦ inl (H, w, t)
         | inr none ↦ inr (λ (H, w, t). none H (allowed_of w) (w, t))
       ]
-    where
-      both : (H : List ℕ) → HeapOption code n H → (IsWinningMove code X n H × T H)
-          ⊎ (IsWinningMove code X n H × T H → ⊥)
-      both H o = elim (winning_dec n H o) [
-        | inr f ↦ inr (λ p. f p.0)
-        | inl w ↦ elim (test H) [ inl t ↦ inl (w, t) | inr f ↦ inr (λ p. f p.1) ]
-      ]
 
   -- of the winning moves of the heap n with such numbers, one with the least
-  least_number : (n : ℕ) (T : List ℕ → Type 0) (test : (H : List ℕ) → T H ⊎ (T H → ⊥))
+  least_number : (n : ℕ) (T : List ℕ → Type 0) (test : (H : List ℕ) → Dec (T H))
       (number : List ℕ → ℕ) (t : ℕ) (H : List ℕ)
       → number H < t → IsWinningMove code X n H → T H
       → (L : List ℕ) × IsWinningMove code X n L × T L
       × ((K : List ℕ) → IsWinningMove code X n K → T K → number K < number L → ⊥)
   least_number n T test number zero H l w h = absurd (omega arith)
   least_number n T test number (suc t) H l w h =
-      elim (winning_with n (λ K. T K × (number K < number H)) both) [
+      elim (winning_with n (λ K. T K × (number K < number H))
+      (λ K. both_dec (test K) (dec_lt (number K) (number H)))) [
         | inl (K, v, (k, less)) ↦ least_number n T test number t K (omega arith) v k
         | inr none ↦ (H, w, h, λ K v k less. none (K, v, (k, less)))
       ]
-    where
-      both : (K : List ℕ) → (T K × (number K < number H)) ⊎ (T K × (number K < number H) → ⊥)
-      both K = elim (test K) [
-        | inr f ↦ inr (λ p. f p.0)
-        | inl k ↦ elim (dec_lt (number K) (number H))
-            [ yes less ↦ inl (k, less) | no g ↦ inr (λ p. g p.1) ]
-      ]
 
-  equal_test : (m n : ℕ) → (m ≡ n) ⊎ (m ≡ n → ⊥)
-  equal_test m n = elim (ℕ_discrete m n) [ yes e ↦ inl e | no f ↦ inr f ]
+  -- K comes before L by such numbers: the first of them that differs is the smaller
+  abbrev Earlier : List (List ℕ → ℕ) → List ℕ → List ℕ → Type 0
+  Earlier [] K L = ⊥
+  Earlier (f ∷ fs) K L = (f K < f L) ⊎ ((f K ≡ f L) × Earlier fs K L)
+
+  -- of the winning moves of the heap n with a property one comes first
+  least_by : (n : ℕ) (fs : List (List ℕ → ℕ)) (T : List ℕ → Type 0)
+      (test : (H : List ℕ) → Dec (T H)) (H : List ℕ) → IsWinningMove code X n H → T H
+      → (L : List ℕ) × IsWinningMove code X n L × T L
+      × ((K : List ℕ) → IsWinningMove code X n K → T K → Earlier fs K L → ⊥)
+  least_by n [] T test H w h = (H, w, h, λ K v k e. e)
+  least_by n (f ∷ fs) T test H w h =
+      let (A, a, t, least) = least_number n T test f (suc (f H)) H (omega arith) w h in
+      let (L, v, (u, same), first) =
+      least_by n fs (λ K. T K × (f K ≡ f A))
+      (λ K. both_dec (test K) (ℕ_discrete (f K) (f A))) A a (t, refl) in (
+        L,
+        v,
+        u,
+        λ K k i before. elim before [
+          | inl less ↦ least K k i (omega arith)
+          | inr (e, later) ↦ first K k (i, e ∙ same) later
+        ],
+      )
 
   option_sum : {n : ℕ} {K : List ℕ} → HeapOption code n K → sum K ≤ n
   option_sum (Nothing j p e b) = omega arith
@@ -119,70 +128,27 @@ module _ (code X : List ℕ) where
   option_sum (Two j a b p q e s) = omega arith
   option_sum (Three j a b c p q r e s) = omega arith
 
-  -- with the least taken away A, of those the fewest heaps B, of those the least first part D, and
-  -- of those the least second part L: none comes before L
-  none_before : (n : ℕ) (A B D L : List ℕ)
-      → ((K : List ℕ) → IsWinningMove code X n K → Unit {0} → n - sum K < n - sum A → ⊥)
-      → sum B ≡ sum A
-      → ((K : List ℕ) → IsWinningMove code X n K → sum K ≡ sum A → length K < length B → ⊥)
-      → (sum D ≡ sum B) × (length D ≡ length B)
-      → ((K : List ℕ) → IsWinningMove code X n K → (sum K ≡ sum B) × (length K ≡ length B)
-      → get_or K 0 0 < get_or D 0 0 → ⊥)
-      → (sum L ≡ sum D) × (length L ≡ length D) × (get_or L 0 0 ≡ get_or D 0 0)
-      → ((K : List ℕ) → IsWinningMove code X n K
-      → (sum K ≡ sum D) × (length K ≡ length D) × (get_or K 0 0 ≡ get_or D 0 0)
-      → get_or K 1 0 < get_or L 1 0 → ⊥)
-      → (K : List ℕ) → IsWinningMove code X n K → LeftBefore K L → ⊥
-  none_before n A B D L least_a same_b least_b same_d least_d same_l least_l K k before =
-      let (p, q) = same_d in
-      let (e, f, g) = same_l in
-      elim before [
-        | inl more ↦ least_a K k tt (let s = option_sum (allowed_of k) in omega arith)
-        | inr (h, rest) ↦ elim rest [
-          | inl shorter ↦ least_b K k (omega arith) (omega arith)
-          | inr (i, part) ↦ elim part [
-            | inl smaller ↦ least_d K k (omega arith, omega arith) (omega arith)
-            | inr (j, smaller) ↦ least_l K k (omega arith, omega arith, omega arith) smaller
-          ]
-        ]
-      ]
-
-  both_equal : (B K : List ℕ) → ((sum K ≡ sum B) × (length K ≡ length B))
-      ⊎ ((sum K ≡ sum B) × (length K ≡ length B) → ⊥)
-  both_equal B K = elim (equal_test (sum K) (sum B)) [
-    | inr f ↦ inr (λ p. f p.0)
-    | inl e ↦ elim (equal_test (length K) (length B))
-        [ inl f ↦ inl (e, f) | inr g ↦ inr (λ p. g p.1) ]
-  ]
-
-  all_equal : (D K : List ℕ)
-      → ((sum K ≡ sum D) × (length K ≡ length D) × (get_or K 0 0 ≡ get_or D 0 0))
-      ⊎ ((sum K ≡ sum D) × (length K ≡ length D) × (get_or K 0 0 ≡ get_or D 0 0) → ⊥)
-  all_equal D K = elim (both_equal D K) [
-    | inr f ↦ inr (λ p. f (p.0, p.1))
-    | inl e ↦ elim (equal_test (get_or K 0 0) (get_or D 0 0))
-        [ inl f ↦ inl (e.0, e.1, f) | inr g ↦ inr (λ p. g p.2) ]
-  ]
-
   -- the first winning move of the heap n, where it has one
   pub first_of_heap : (n : ℕ) (H : List ℕ) → IsWinningMove code X n H
       → (L : List ℕ) × IsWinningMove code X n L
       × ((K : List ℕ) → IsWinningMove code X n K → LeftBefore K L → ⊥)
   first_of_heap n H w =
-      let (A, a, _, least_a) =
-      least_number n (λ K. Unit {0}) (λ K. inl tt) (λ K. n - sum K) (suc (n - sum H)) H (omega arith)
-      w tt in
-      let (B, b, same_b, least_b) =
-      least_number n (λ K. sum K ≡ sum A) (λ K. equal_test (sum K) (sum A)) (λ K. length K)
-      (suc (length A)) A (omega arith) a refl in
-      let (D, d, same_d, least_d) =
-      least_number n (λ K. (sum K ≡ sum B) × (length K ≡ length B)) (both_equal B)
-      (λ K. get_or K 0 0) (suc (get_or B 0 0)) B (omega arith) b (refl, refl) in
-      let (L, v, same_l, least_l) =
-      least_number n
-      (λ K. (sum K ≡ sum D) × (length K ≡ length D) × (get_or K 0 0 ≡ get_or D 0 0)) (all_equal D)
-      (λ K. get_or K 1 0) (suc (get_or D 1 0)) D (omega arith) d (refl, refl, refl) in
-      (L, v, none_before n A B D L least_a same_b least_b same_d least_d same_l least_l)
+      let (L, v, _, first) =
+      least_by n ((λ K. n - sum K) ∷ length ∷ (λ K. get_or K 0 0) ∷ (λ K. get_or K 1 0) ∷ [])
+      (λ K. Unit {0}) (λ K. yes tt) H w tt in (
+        L,
+        v,
+        λ K k before. let s = option_sum (allowed_of k) in first K k tt (elim before [
+          | inl more ↦ inl (omega arith)
+          | inr (e, more) ↦ inr (
+            omega arith,
+            elim more [
+              | inl shorter ↦ inl shorter
+              | inr (f, more) ↦ inr (f, elim more [ inl less ↦ inl less | inr (g, less) ↦ inr (g, inl less) ])
+            ],
+          )
+        ]),
+      )
 
   -- the smallest heap with a winning move, among those up to n
   smallest_heap : (t n : ℕ) (H : List ℕ) → n < t → IsWinningMove code X n H
@@ -190,17 +156,10 @@ module _ (code X : List ℕ) where
       × ((i : ℕ) (K : List ℕ) → i < m → IsWinningMove code X i K → ⊥)
   smallest_heap zero n H l w = absurd (omega arith)
   smallest_heap (suc t) n H l w =
-      elim (some_or_all_below (λ i. (K : List ℕ) × IsWinningMove code X i K)
-      (λ i. ((K : List ℕ) × IsWinningMove code X i K) → ⊥) some_of n) [
-        | inl (i, less, (K, k)) ↦ smallest_heap t i K (omega arith) k
-        | inr none ↦ (n, H, w, λ i K less k. none i less (K, k))
+      elim (some_or_all_below _ _ (λ i. winning_with i (λ K. Unit {0}) (λ K. yes tt)) n) [
+        | inl (i, less, (K, k, _)) ↦ smallest_heap t i K (omega arith) k
+        | inr none ↦ (n, H, w, λ i K less k. none i less (K, k, tt))
       ]
-    where
-      some_of : (i : ℕ) → ((K : List ℕ) × IsWinningMove code X i K)
-          ⊎ (((K : List ℕ) × IsWinningMove code X i K) → ⊥)
-      some_of i =
-          elim (winning_with i (λ K. Unit {0}) (λ K. inl tt))
-          [ inl (K, k, _) ↦ inl (K, k) | inr none ↦ inr (λ (K, k). none (K, k, tt)) ]
 
   pub first_win_from : (n : ℕ) (H : List ℕ) → IsWinningMove code X n H → (m : ℕ) × (L : List ℕ)
       × IsFirstWin code X m L
@@ -237,16 +196,7 @@ same_left (a ∷ b ∷ []) (c ∷ d ∷ []) o i e f g h = ap₂ (λ x y. x ∷ y
 same_left (a ∷ b ∷ c ∷ []) (x ∷ y ∷ z ∷ []) o i e f g h = let k : c ≡ z = omega arith in
     ap₂ (λ v K. v ∷ K) g (ap₂ (λ v w. v ∷ w ∷ []) h k)
 same_left (a ∷ b ∷ c ∷ d ∷ H) L o i e f g h = absurd (no_four o)
-same_left [] (b ∷ L) o i e f g h = absurd (omega arith)
-same_left (a ∷ []) [] o i e f g h = absurd (omega arith)
-same_left (a ∷ []) (b ∷ d ∷ L) o i e f g h = absurd (omega arith)
-same_left (a ∷ b ∷ []) [] o i e f g h = absurd (omega arith)
-same_left (a ∷ b ∷ []) (c ∷ []) o i e f g h = absurd (omega arith)
-same_left (a ∷ b ∷ []) (d ∷ e ∷ c ∷ L) o i p f g h = absurd (omega arith)
-same_left (a ∷ b ∷ c ∷ []) [] o i e f g h = absurd (omega arith)
-same_left (a ∷ b ∷ c ∷ []) (x ∷ []) o i e f g h = absurd (omega arith)
-same_left (a ∷ b ∷ c ∷ []) (x ∷ y ∷ []) o i e f g h = absurd (omega arith)
-same_left (a ∷ b ∷ c ∷ []) (x ∷ y ∷ z ∷ v ∷ L) o i e f g h = absurd (omega arith)
+same_left H L o i e f g h = absurd (omega arith)
 
 -- there is one first winning move
 pub first_win_once : (code X : List ℕ) (n m : ℕ) (H L : List ℕ) → IsFirstWin code X n H

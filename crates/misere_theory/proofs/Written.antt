@@ -1,17 +1,16 @@
 -- What the ranges and the canonical form of a certificate give its claim.
 -- A heap past the phi line has the entry of its place in the period. Keys lead from each element
 -- down to 0.
-use Rattle.std.proofs.Common.{◌≡◌, ℕ, suc, zero, ◌+◌, ◌-◌, ◌%◌, ◌<◌, ◌≤◌, List, [], ◌∷◌, ◌++◌, refl, sym, ◌∙◌, ap, ap₂, subst, inl, inr, arith, length, get_or, nat_lt, eq-zero-or-pos, lt-ltb, le-ltb, if◌then◌else◌}
+use Rattle.std.proofs.Common.{◌≡◌, ℕ, suc, zero, ◌+◌, ◌-◌, ◌%◌, ◌<◌, ◌≤◌, List, [], ◌∷◌, ◌++◌, refl, sym, ◌∙◌, ap, inl, inr, arith, length, get_or, nat_lt, eq-zero-or-pos, lt-ltb, le-ltb, if◌then◌else◌, subst, ap₂}
 use Rattle.std.proofs.Math.Nat.{add-mod_left, mod-eq_of_lt}
 use Rattle.std.proofs.lemmas.List.{get_or_past}
 use Rattle.std.proofs.lemmas.List.Elements.{All-get_or}
 use Rattle.std.specs.List.{AllZip}
 use native.Mathlib.Decide.{dec_lt, dec_le}
-use Rattle.misere_theory.specs.Games.{IsPosition}
-use Rattle.misere_theory.specs.Quotients.{Monoid, value, AllApart}
+use Rattle.misere_theory.specs.Quotients.{AllApart}
 use Rattle.misere_theory.specs.Kinds.{IsPeriodicIn}
 use Rattle.misere_theory.specs.Numbering.{IsNumbered}
-use Rattle.misere_theory.specs.Certificates.{Certificate, phi_at, times_of, claim_of, key_of, kind_of, IsHeapOf, InRanges, pairs_with, pairs_from, LeastApart}
+use Rattle.misere_theory.specs.Certificates.{Certificate, phi_at, claim_of, key_of, kind_of, IsHeapOf, InRanges, pairs_with, pairs_from, LeastApart}
 use Rattle.misere_theory.proofs.Counting.{kind_full, kind_partial}
 
 place : ℕ → ℕ → ℕ → ℕ
@@ -51,8 +50,7 @@ module _ (c : Certificate) (r : InRanges c) where
   ]
 
   pub phi_in : (n : ℕ) → (claim_of c).phi n < (claim_of c).order
-  phi_in n =
-      subst (λ v. v < c.order) (sym (phi_by_place n)) (entry_in (place c.start c.period n))
+  phi_in n = rw (phi_by_place n) (entry_in (place c.start c.period n))
 
   -- an entry of the phi line is phi of its heap
   pub entry_at : (i : ℕ) → i < length c.phi → phi_at c (suc i) ≡ get_or c.phi i 0
@@ -119,28 +117,6 @@ module _ (c : Certificate) (r : InRanges c) where
       let s = r.start in
       written_counts (key_of c e).1 a (omega arith)
 
-  -- by their keys all elements are values
-  pub reached_within : (m : Monoid c.order (times_of c))
-      → IsNumbered (claim_of c) (c.start + c.period - 1) (key_of c) → (t x : ℕ) → x < t
-      → x < c.order → (X : List ℕ) × IsPosition (IsHeapOf c) X × (value (claim_of c) X ≡ x)
-  reached_within m k zero x h l = absurd (omega arith)
-  reached_within m k (suc t) x h l = elim (eq-zero-or-pos x) [
-    | inl z ↦ ([], tt, sym z)
-    | inr pos ↦
-        let up = k.parent x pos l in
-        let (F, w, e) = reached_within m k t (key_of c x).0 (omega arith) (omega arith) in (
-          (key_of c x).1 ∷ F,
-          (key_counts x k pos l, w),
-          ap (times_of c (phi_at c (key_of c x).1)) e ∙ m.commutes _ _ (phi_in _) (omega arith)
-              ∙ k.product x pos l,
-        )
-  ]
-
-  pub reached : (m : Monoid c.order (times_of c))
-      → IsNumbered (claim_of c) (c.start + c.period - 1) (key_of c) → (x : ℕ) → x < c.order
-      → (X : List ℕ) × IsPosition (IsHeapOf c) X × (value (claim_of c) X ≡ x)
-  reached m k x l = reached_within m k (suc x) x (omega arith) l
-
 -- the parts of a list of pairs that is joined
 zip_split : {A B : Type 0} (R : A → B → Type 0) (xs ys : List A) (zs : List B)
     → AllZip R (xs ++ ys) zs
@@ -155,12 +131,11 @@ module _ (R : ℕ × ℕ → ℕ → Type 0) where
       → (z : ℕ) × R (x, y + k) z
   pair_at x y zero zs h k l = absurd (omega arith)
   pair_at x y (suc n) [] h k l = absurd h
-  pair_at x y (suc n) (z ∷ zs) h zero l = let e : y ≡ y + 0 = omega arith in
-      (z, subst (λ v. R (x, v) z) e h.0)
+  pair_at x y (suc n) (z ∷ zs) h zero l = let e : y + 0 ≡ y = omega arith in (z, rw e h.0)
   pair_at x y (suc n) (z ∷ zs) h (suc k) l =
       let (w, g) = pair_at x (y + 1) n zs h.1 k (omega arith) in
-      let e : y + 1 + k ≡ y + suc k = omega arith in
-      (w, subst (λ v. R (x, v) w) e g)
+      let e : y + suc k ≡ y + 1 + k = omega arith in
+      (w, rw e g)
 
   -- each two numbers from x on stand in the list of pairs
   pub pair_of : (x n : ℕ) (zs : List ℕ) → AllZip R (pairs_from x n) zs → (a b : ℕ) → x ≤ a → a < b

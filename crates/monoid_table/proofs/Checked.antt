@@ -1,9 +1,9 @@
 -- What the triples that were looked at say of the laws.
 -- The triple x, y, z has the number (x q + y) q + z, and the triples looked at are those below a
 -- number.
-use Rattle.std.proofs.Common.{◌≡◌, ℕ, ◌+◌, ◌-◌, ◌*◌, ◌/◌, ◌%◌, ◌<◌, ◌≤◌, Bool, true, false, List, refl, sym, ap, ap₂, ◌∙◌, inl, inr, arith, subst}
+use Rattle.std.proofs.Common.{◌≡◌, ℕ, ◌+◌, ◌-◌, ◌*◌, ◌/◌, ◌%◌, ◌<◌, ◌≤◌, Bool, true, false, List, refl, sym, ap, ap₂, ◌∙◌, inl, inr, arith}
 use Rattle.std.specs.Prelude.{◌&&◌, ◌==◌}
-use Rattle.std.proofs.lemmas.Bool.{cases_lt, cases_eq}
+use Rattle.std.proofs.lemmas.Bool.{cases_lt, cases_eq, and_parts, eqb-true, and_right}
 use Rattle.std.proofs.lemmas.Bool.Decides.{nat_tests}
 use Rattle.std.proofs.lemmas.Nat.{div-mul-add, mod-mul-add, mul-add-lt, div_below, mod_below, div-add-mod', mul-le}
 use Rattle.std.proofs.Math.Nat.{mul_comm}
@@ -16,14 +16,6 @@ use Rattle.monoid_table.specs.Turns.{triples, pair_holds, groups_alike, triple_h
 use Rattle.monoid_table.specs.Jobs.{HasLookedAt}
 use Rattle.monoid_table.specs.Faults.{answer_of}
 use Rattle.std.specs.Prelude.{Ok}
-
-and-true : (a b : Bool) → (a && b) ≡ true → (a ≡ true) × (b ≡ true)
-and-true true true e = (refl, refl)
-and-true true false e = absurd (cc)
-and-true false b e = absurd (cc)
-
-same : (m n : ℕ) → (m == n) ≡ true → m ≡ n
-same m n e = grind (arith, nat_tests)
 
 -- the number of the triple x, y, z
 pub holds-at : (q : ℕ) (rows : List ℕ) (x y z : ℕ) → y < q → z < q
@@ -40,8 +32,7 @@ holds-at q rows x y z hy hz =
 
 pub number-below : (q x y z : ℕ) → x < q → y < q → z < q → (x * q + y) * q + z < triples q
 number-below q x y z hx hy hz =
-    subst (λ n. (x * q + y) * q + z < n) (mul_comm q (q * q))
-    (mul-add-lt (x * q + y) q z (q * q) (mul-add-lt x q y q hx hy) hz)
+    rw (mul_comm q (q * q)) at (mul-add-lt (x * q + y) q z (q * q) (mul-add-lt x q y q hx hy) hz)
 
 record Holding (q : ℕ) (rows : List ℕ) (x y z : ℕ) : Type 0 where
   identity : entry q rows 0 x ≡ x
@@ -53,19 +44,22 @@ all-below : (q : ℕ) (rows : List ℕ) (spent : ℕ) → HasLookedAt q rows spe
 all-below q rows spent h i lt = elim (cases_lt (i + 1) spent) [
   | inl less ↦ h.passed i less
   | inr past ↦
-      let e : spent - 1 ≡ i = omega arith in
-      subst (λ n. triple_holds q rows n ≡ true) e (h.last refl (omega arith))
+      let e : spent - 1 ≡ i = omega arith in rw e at (h.last refl (omega arith))
 ]
 
 holding : (q : ℕ) (rows : List ℕ) → HasLookedAt q rows (triples q) false → (x y z : ℕ) → x < q
     → y < q → z < q → Holding q rows x y z
 holding q rows h x y z hx hy hz =
     let all =
-    and-true _ _
+    and_parts _ _
     (sym (holds-at q rows x y z hy hz) ∙ all-below q rows (triples q) h _
     (number-below q x y z hx hy hz)) in
-    let pair = and-true _ _ all.0 in
-    record { identity = same _ _ pair.0; commutes = same _ _ pair.1; associates = same _ _ all.1 }
+    let pair = and_parts _ _ all.0 in
+    record {
+      identity = eqb-true _ _ pair.0;
+      commutes = eqb-true _ _ pair.1;
+      associates = eqb-true _ _ all.1;
+    }
 
 -- every law held
 pub is-table : (q : ℕ) (rows : List ℕ) → HasLookedAt q rows (triples q) false → IsTable q rows
@@ -170,14 +164,7 @@ pub run-breach : (q : ℕ) (rows : List ℕ) (spent stop : ℕ) → 0 < q → st
 run-breach q rows spent stop some stop_in from breach =
     let e : spent % q + (spent + (stop - spent % q) - spent) ≡ stop = omega arith in
     holds-in-run q rows spent (spent + (stop - spent % q)) some (omega arith) (omega arith)
-    ∙ ap (λ z. pair_holds q rows (spent / q / q) (spent / q % q)
-    && groups_alike q rows (spent / q / q) (spent / q % q) z) e
-    ∙ ap (λ b. pair_holds q rows (spent / q / q) (spent / q % q) && b) breach
-    ∙ and-false (pair_holds q rows (spent / q / q) (spent / q % q))
-  where
-    and-false : (b : Bool) → (b && false) ≡ false
-    and-false true = refl
-    and-false false = refl
+    ∙ rw e (and_right (pair_holds q rows (spent / q / q) (spent / q % q)) _ breach)
 
 pub pair-breach : (q : ℕ) (rows : List ℕ) (spent : ℕ)
     → pair_holds q rows (spent / q / q) (spent / q % q) ≡ false → triple_holds q rows spent ≡ false
@@ -193,23 +180,20 @@ pub finished : (q : ℕ) (rows : List ℕ) (spent : ℕ) (refused : Bool)
     ≡ Ok true → IsTable q rows
 finished q rows spent true h e = absurd (cc)
 finished q rows spent false h e =
-    let all : spent ≡ triples q = same spent (triples q) (cc) in
-    is-table q rows (subst (λ n. HasLookedAt q rows n false) all h)
+    let all : spent ≡ triples q = eqb-true spent (triples q) (cc) in
+    is-table q rows (rw all at h)
 
 -- all triples looked at, none failed
 pub looked-at-all : (q : ℕ) (rows : List ℕ) (spent : ℕ) (refused : Bool) (all : ℕ)
     → HasLookedAt q rows spent refused
     → refused ≡ false → all ≡ triples q → (spent == all) ≡ true → IsTable q rows
 looked-at-all q rows spent refused all h going e over =
-    is-table q rows
-    (subst (λ n. HasLookedAt q rows n false) (same spent all over ∙ e)
-    (subst (λ b. HasLookedAt q rows spent b) going h))
+    is-table q rows (rw (going, eqb-true spent all over, e) at h)
 
 -- a failure was seen
 pub looked-at-failure : (q : ℕ) (rows : List ℕ) (spent : ℕ) (refused : Bool)
     → HasLookedAt q rows spent refused → refused ≡ true → LawFails q (entry q rows)
-looked-at-failure q rows spent refused h e =
-    is-breach q rows spent (subst (λ b. HasLookedAt q rows spent b) e h)
+looked-at-failure q rows spent refused h e = is-breach q rows spent (rw e at h)
 
 -- the triples of the greatest order are counted in 64 bits
 pub triples-most : (q : ℕ) → q ≤ LARGEST_ORDER → triples q ≤ 68719476736

@@ -1,6 +1,6 @@
 -- How many turns there are to the end.
 -- A job ends with the first triple where a law fails, or with the last one.
-use Rattle.std.proofs.Common.{◌≡◌, ℕ, zero, suc, ◌+◌, ◌-◌, ◌*◌, ◌<◌, ◌≤◌, ◌↔◌, Bool, true, false, not, min, refl, sym, ap, subst, ◌∙◌, inl, inr, arith}
+use Rattle.std.proofs.Common.{◌≡◌, ℕ, zero, suc, ◌+◌, ◌-◌, ◌*◌, ◌<◌, ◌≤◌, ◌↔◌, Bool, true, false, not, min, refl, sym, ap, ◌∙◌, inl, inr, arith}
 use Rattle.std.proofs.lemmas.Bool.Decides.{nat_tests}
 use native.Mathlib.Decide.{dec_lt}
 use Rattle.misere_theory.specs.Quotients.{LawFails}
@@ -8,7 +8,8 @@ use Rattle.monoid_table.specs.Grids.{Grid, IsShaped, IsTable, entry}
 use Rattle.monoid_table.specs.Jobs.{HasLookedAt}
 use Rattle.monoid_table.specs.Turns.{JobState, triples, triple_holds, is_over, turn, turns, fresh, first_failing, passing, table_cost}
 use Rattle.monoid_table.proofs.Checked.{is-table, is-breach, monoid-holds}
-use Rattle.monoid_table.proofs.TurnLaws.{state, turns-add, turns-over, turns-run, turns-spend, turn-over, turn-going, over-or-not, going, clash}
+use Rattle.monoid_table.proofs.TurnLaws.{state, turns-add, turns-over, turns-run, turns-spend, turn-over, turn-going, over-or-not, going, clash, turns-split}
+use Rattle.std.proofs.lemmas.Bool.{cases_Bool}
 
 -- the last of so many turns
 pub turns-next : (n : ℕ) (s : JobState) → turns (n + 1) s ≡ turn (turns n s)
@@ -49,11 +50,8 @@ turns-not-over n k s l = elim (over-or-not (turns k s)) [
   | inr on ↦ on
   | inl over ↦ elim (dec_lt k n) [
     | yes b ↦
-        let d : k + (n - k) ≡ n = omega arith in
-        let e : turns n s ≡ turns k s =
-        ap (λ m. turns m s) (sym d)
-        ∙ (turns-add k (n - k) s ∙ turns-over (n - k) (turns k s) over) in
-        let f = ap (λ t. t.spent) e in
+        let e = turns-split k (n - k) n s (omega arith) in
+        let f = ap (λ t. t.spent) (sym e ∙ turns-over (n - k) (turns k s) over) in
         let m = (turns-spend k s).0 in
         absurd (omega arith)
     | no b ↦ let m = (turns-spend n s).0 in absurd (omega arith)
@@ -74,26 +72,11 @@ run-first : (n : ℕ) (g : Grid) (broken : Bool) → 0 < n → n ≤ triples g.o
     → turns n (fresh g) ≡ state g n broken
 run-first n g broken some within passed last =
     let e : 0 + n ≡ n = omega arith in
-    let d : 0 + n - 1 ≡ n - 1 = omega arith in
-    turns-run n g 0 broken some (omega arith) (λ i a b. passed i (omega arith))
-    (ap (triple_holds g.order g.entries) d ∙ last)
-    ∙ ap (λ k. state g k broken) e
+    rw e at (turns-run n g 0 broken some (omega arith) (λ i a b. passed i (omega arith)) (rw e last))
 
 module _ (g : Grid) where
   abbrev holds : ℕ → Bool
   holds i = triple_holds g.order g.entries i
-
-  held-on : (i n : ℕ) → holds i ≡ true → first_failing g i (suc n) ≡ first_failing g (i + 1) n
-  unfolding first_failing
-  held-on i n e = rw e
-
-  failed-here : (i n : ℕ) → holds i ≡ false → first_failing g i (suc n) ≡ i
-  unfolding first_failing
-  failed-here i n e = rw e
-
-  none-there : (i : ℕ) → first_failing g i zero ≡ i
-  unfolding first_failing
-  none-there i = refl
 
   -- each triple before it passes, and it fails, if it is one
   record IsFirst (i n first : ℕ) : Type 0 where
@@ -102,42 +85,35 @@ module _ (g : Grid) where
     passed : (k : ℕ) → i ≤ k → k < first → holds k ≡ true
     failed : first < i + n → holds first ≡ false
 
-  first-none : (i : ℕ) → IsFirst i 0 (first_failing g i 0)
-  first-none i =
-      subst (IsFirst i 0) (sym (none-there i))
-      (record {
-        from = omega arith;
-        within = omega arith;
-        passed = λ k a b. absurd (omega arith);
-        failed = λ l. absurd (omega arith);
-      })
-
-  first-more : (i n : ℕ) → IsFirst (i + 1) n (first_failing g (i + 1) n) → (b : Bool) → holds i ≡ b
-      → IsFirst i (suc n) (first_failing g i (suc n))
-  first-more i n h false e =
-      subst (IsFirst i (suc n)) (sym (failed-here i n e))
-      (record {
-        from = omega arith;
-        within = omega arith;
-        passed = λ k a b. absurd (omega arith);
-        failed = λ l. e;
-      })
-  first-more i n h true e =
-      let a = h.from in
-      let b = h.within in
-      subst (IsFirst i (suc n)) (sym (held-on i n e)) (record {
-        from = omega arith;
-        within = omega arith;
-        passed = λ k p l. elim (dec_lt i k) [
-          | yes m ↦ h.passed k (omega arith) l
-          | no m ↦ (let d : i ≡ k = omega arith in subst (λ j. holds j ≡ true) d e)
-        ];
-        failed = λ l. h.failed (omega arith);
-      })
-
   is-first : (i n : ℕ) → IsFirst i n (first_failing g i n)
-  is-first i zero = first-none i
-  is-first i (suc n) = first-more i n (is-first (i + 1) n) (holds i) refl
+  unfolding first_failing
+  is-first i zero = record {
+    from = omega arith;
+    within = omega arith;
+    passed = λ k a b. absurd (omega arith);
+    failed = λ l. absurd (omega arith);
+  }
+  is-first i (suc n) = elim (cases_Bool (holds i)) [
+    | inr fails ↦ rw fails (record {
+      from = omega arith;
+      within = omega arith;
+      passed = λ k a b. absurd (omega arith);
+      failed = λ l. fails;
+    })
+    | inl passes ↦
+        let h = is-first (i + 1) n in
+        let a = h.from in
+        let b = h.within in
+        rw passes (record {
+          from = omega arith;
+          within = omega arith;
+          passed = λ k p l. elim (dec_lt i k) [
+            | yes m ↦ h.passed k (omega arith) l
+            | no m ↦ (let d : i ≡ k = omega arith in rw d at passes)
+          ];
+          failed = λ l. h.failed (omega arith);
+        })
+  ]
 
   passing-first : IsFirst 0 (triples g.order) (passing g)
   passing-first = is-first 0 (triples g.order)
@@ -205,18 +181,17 @@ module _ (g : Grid) where
   behind-the-end : (n : ℕ) → ending.count ≤ n
       → turns n (fresh g) ≡ state g ending.count ending.broken
   behind-the-end n l =
-      let d : ending.count + (n - ending.count) ≡ n = omega arith in
-      ap (λ m. turns m (fresh g)) (sym d) ∙ (turns-add ending.count (n - ending.count) (fresh g)
-      ∙ (ap (turns (n - ending.count)) ending.reached
-      ∙ turns-over (n - ending.count) (state g ending.count ending.broken) ending.over))
+      sym (turns-split ending.count (n - ending.count) n (fresh g) (omega arith))
+      ∙ ap (turns (n - ending.count)) ending.reached
+      ∙ turns-over (n - ending.count) (state g ending.count ending.broken) ending.over
 
   pub cost-spent : (n : ℕ) → (turns n (fresh g)).spent ≡ min n (table_cost g)
-  cost-spent n = elim (dec_lt n ending.count) [
-    | yes l ↦ (let a = ap (λ t. t.spent) (before-the-end n l).0 in let e = ending.count_is in
-        omega arith)
-    | no l ↦ (let a = ap (λ t. t.spent) (behind-the-end n (omega arith)) in let e = ending.count_is
-        in omega arith)
-  ]
+  cost-spent n =
+      let e = ending.count_is in
+      elim (dec_lt n ending.count) [
+        | yes l ↦ (let a = ap (λ t. t.spent) (before-the-end n l).0 in omega arith)
+        | no l ↦ (let a = ap (λ t. t.spent) (behind-the-end n (omega arith)) in omega arith)
+      ]
 
   pub cost-over : (n : ℕ) → (is_over (turns n (fresh g)) ≡ true) ↔ (table_cost g ≤ n)
   cost-over n = elim (dec_lt n ending.count) [

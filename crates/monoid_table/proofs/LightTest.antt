@@ -6,6 +6,7 @@ use Rattle.std.proofs.lemmas.Nat.{mul-add-lt}
 use Rattle.misere_theory.specs.Quotients.{Monoid}
 use Rattle.monoid_table.specs.Grids.{IsShaped, entry}
 use Rattle.monoid_table.specs.Light.{StaysBelow, AssociatesAt, IsComposite, IsGenerator, HoldsAtPairs, GeneratorsAssociate}
+use Rattle.misere_theory.proofs.Outcomes.{some_or_all_below}
 
 pub product-associates : (q : ℕ) (times : ℕ → ℕ → ℕ) → StaysBelow q times → (v w : ℕ) → v < q
     → w < q
@@ -14,23 +15,9 @@ product-associates q times stays v w hv hw at_v at_w = λ x z hx hz.
     ap (λ u. times u z) (sym (at_v x w hx hw)) ∙ at_w (times x v) z (stays x v hx hv) hz
     ∙ at_v x (times w z) hx (stays w z hw hz) ∙ ap (times x) (sym (at_w v z hv hz))
 
-some-or-none : (P : ℕ → Type 0) → ((k : ℕ) → P k ⊎ (P k → ⊥)) → (n : ℕ) → ((k : ℕ) × (k < n) × P k)
-    ⊎ ((k : ℕ) → k < n → P k → ⊥)
-some-or-none P each zero = inr (λ k less p. absurd (omega arith))
-some-or-none P each (suc n) = elim (some-or-none P each n) [
-  | inl some ↦ let less : some.0 < suc n = omega arith in inl (some.0, less, some.2)
-  | inr none ↦ elim (each n) [
-    | inl here ↦ let less : n < suc n = omega arith in inl (n, less, here)
-    | inr away ↦ inr (λ k less p. elim (cases_eq k n) [
-      | inl same ↦ away (subst P same p)
-      | inr other ↦ let before : k < n = omega arith in none k before p
-    ])
-  ]
-]
-
 composite-or-generator : (times : ℕ → ℕ → ℕ) (y : ℕ) → IsComposite times y ⊎ IsGenerator times y
 composite-or-generator times y =
-    elim (some-or-none (λ u. (v : ℕ) × (v < y) × (times u v ≡ y)) in_row y) [
+    elim (some_or_all_below _ _ in_row y) [
       | inl s ↦ inl
           (record { left = s.0; right = s.2.0; left_less = s.1; right_less = s.2.1; is = s.2.2 })
       | inr none ↦ inr (λ c. none c.left c.left_less (c.right, c.right_less, c.is))
@@ -38,7 +25,7 @@ composite-or-generator times y =
   where
     in_row : (u : ℕ) → ((v : ℕ) × (v < y) × (times u v ≡ y))
         ⊎ (((v : ℕ) × (v < y) × (times u v ≡ y)) → ⊥)
-    in_row u = elim (some-or-none (λ v. times u v ≡ y) (λ v. cases_eq (times u v) y) y) [
+    in_row u = elim (some_or_all_below _ _ (λ v. cases_eq (times u v) y) y) [
       | inl some ↦ inl some
       | inr none ↦ inr (λ s. none s.0 s.1 s.2)
     ]

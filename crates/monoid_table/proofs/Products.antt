@@ -4,7 +4,7 @@ use Rattle.std.proofs.Common.{◌≡◌, ◌≢◌, ℕ, zero, suc, ◌+◌, ◌
 use Rattle.std.specs.List.{All, AllByRecursion}
 use Rattle.std.specs.List.Sorted.{IsPermutation}
 use Rattle.std.proofs.lemmas.Bool.{cases_eq}
-use Rattle.std.proofs.lemmas.List.Elements.{recursion_from_All, All-take}
+use Rattle.std.proofs.lemmas.List.Elements.{recursion_from_All, All-take, All-get_or, All-from_recursion, All-set}
 use Rattle.std.proofs.lemmas.List.{take_more, length-set, get_or-set_same}
 use Rattle.std.proofs.lemmas.List.Sorted.{IsPermutation-keeps}
 use Rattle.std.proofs.lemmas.List.Edits.{swap_is}
@@ -115,9 +115,7 @@ module _ {E : Type 0} (IsIn : E → Type 0) (one : E) (times : E → E → E)
 
   get_in : (xs : List E) (i : ℕ) (d : E) → i < length xs → AllByRecursion IsIn xs
       → IsIn (get_or xs i d)
-  get_in [] i d lt h = absurd (omega arith)
-  get_in (x ∷ xs) zero d lt h = h.0
-  get_in (x ∷ xs) (suc i) d lt h = get_in xs i d (omega arith) h.1
+  get_in xs i d lt h = All-get_or IsIn xs i d lt (All-from_recursion IsIn xs h)
 
   -- two factors trade places
   past : (x y z : E) → IsIn x → IsIn y → IsIn z → times x (times y z) ≡ times y (times x z)
@@ -158,9 +156,8 @@ module _ {E : Type 0} (IsIn : E → Type 0) (one : E) (times : E → E → E)
 
   all-set : (xs : List E) (i : ℕ) (v : E) → AllByRecursion IsIn xs → IsIn v
       → AllByRecursion IsIn (set xs i v)
-  all-set [] i v h hv = h
-  all-set (x ∷ xs) zero v h hv = (hv, h.1)
-  all-set (x ∷ xs) (suc i) v h hv = (h.0, all-set xs i v h.1 hv)
+  all-set xs i v h hv =
+      recursion_from_All IsIn (set xs i v) (All-set IsIn xs i v hv (All-from_recursion IsIn xs h))
 
   product-swapped : (xs : List E) (i j : ℕ) (d : E) → i ≢ j → i < length xs → j < length xs
       → AllByRecursion IsIn xs

@@ -3,8 +3,7 @@
 -- last.
 use Rattle.std.proofs.Common.{◌≡◌, ◌⊎◌, ℕ, zero, suc, ◌+◌, ◌-◌, ◌<◌, ◌≤◌, Bool, true, false, not, refl, sym, ap, ◌∙◌, inl, inr, arith}
 use Rattle.std.specs.Prelude.{◌||◌, ◌==◌, if◌then◌else◌}
-use Rattle.std.proofs.lemmas.Bool.Decides.{nat_tests}
-use Rattle.std.proofs.lemmas.Bool.{cases_lt}
+use Rattle.std.proofs.lemmas.Bool.{cases_lt, cases_Bool, eq-eqb, ne_eqb, eqb-false, or_parts, or_right}
 use Rattle.std.specs.Prelude.{Result, Ok, Err}
 use Rattle.monoid_table.specs.declared.fault.LawFault.{LawFault}
 use Rattle.monoid_table.specs.declared.fault.LawFault.TheVariants.{Law}
@@ -23,23 +22,11 @@ turns-add (suc m) n s =
     ap (λ k. turns k s) e ∙ turns-add m n (turn s)
 
 pub turn-over : (s : JobState) → is_over s ≡ true → turn s ≡ s
-turn-over s over =
-    ap (λ b.
-    if b then s else record {
-      grid = s.grid;
-      spent = s.spent + 1;
-      refused = not (triple_holds s.grid.order s.grid.entries s.spent);
-    }) over
+turn-over s over = rw over refl
 
 pub turn-going : (s : JobState) → is_over s ≡ false
     → turn s ≡ state s.grid (s.spent + 1) (not (triple_holds s.grid.order s.grid.entries s.spent))
-turn-going s over =
-    ap (λ b.
-    if b then s else record {
-      grid = s.grid;
-      spent = s.spent + 1;
-      refused = not (triple_holds s.grid.order s.grid.entries s.spent);
-    }) over
+turn-going s over = rw over refl
 
 -- nothing happens after the end
 pub turns-over : (n : ℕ) (s : JobState) → is_over s ≡ true → turns n s ≡ s
@@ -48,10 +35,7 @@ turns-over zero s over = refl
 turns-over (suc n) s over = ap (turns n) (turn-over s over) ∙ turns-over n s over
 
 pub going : (g : Grid) (spent : ℕ) → spent < triples g.order → is_over (state g spent false) ≡ false
-going g spent lt = differs spent (triples g.order) lt
-  where
-    differs : (m n : ℕ) → m < n → (m == n) ≡ false
-    differs m n lt = grind (arith, nat_tests)
+going g spent lt = ne_eqb spent (triples g.order) (λ e. omega arith)
 
 not-not : (b : Bool) → not (not b) ≡ b
 not-not true = refl
@@ -78,14 +62,11 @@ turns-run (suc (suc n)) g spent broken some within passed last =
     (ap (λ k. triple_holds g.order g.entries (k - 1)) at ∙ last)
     ∙ ap (λ k. state g k broken) at
 
-eqb_is : (m n : ℕ) → m ≡ n → (m == n) ≡ true
-eqb_is m n e = grind (arith, nat_tests)
-
 -- enough turns come to an end
 pub turns-end : (n : ℕ) (g : Grid) (spent : ℕ) → spent ≤ triples g.order
     → triples g.order ≤ spent + n → is_over (turns n (state g spent false)) ≡ true
 unfolding turns
-turns-end zero g spent within enough = eqb_is spent (triples g.order) (omega arith)
+turns-end zero g spent within enough = eq-eqb spent (triples g.order) (omega arith)
 turns-end (suc n) g spent within enough = elim (cases_lt spent (triples g.order)) [
   | inl less ↦
       ap (λ s. is_over (turns n s)) (turn-going (state g spent false) (going g spent less))
@@ -95,10 +76,8 @@ turns-end (suc n) g spent within enough = elim (cases_lt spent (triples g.order)
         | false ↦ ap is_over (turns-over n (state g (spent + 1) true) refl)
       ]
   | inr past ↦
-      let over : is_over (state g spent false) ≡ true = eqb_is spent (triples g.order) (omega arith)
-      in
-      ap (λ s. is_over (turns n s)) (turn-over (state g spent false) over)
-      ∙ ap is_over (turns-over n (state g spent false) over) ∙ over
+      let over = eq-eqb spent (triples g.order) (omega arith) in
+      ap is_over (turns-over (suc n) (state g spent false) over) ∙ over
 ]
 
 -- the rows stay
@@ -117,8 +96,7 @@ turns-grid (suc n) s = turns-grid n (turn s) ∙ one (is_over s)
     one false = refl
 
 still : (s : JobState) → is_over s ≡ false → s.refused ≡ false
-still s e = elim s.refused as (λ b. (b || (s.spent == triples s.grid.order)) ≡ false
-    → b ≡ false) [ true ↦ λ f. absurd (cc) | false ↦ λ f. refl ] e
+still s e = (or_parts _ _ e).0
 
 -- a run of triples, from any state that isn't over
 pub ran : (n : ℕ) (s : JobState) (broken : Bool) → is_over s ≡ false → 0 < n
@@ -172,8 +150,7 @@ over-answers s b over ok =
     ] over ok
 
 pub over-or-not : (s : JobState) → (is_over s ≡ true) ⊎ (is_over s ≡ false)
-over-or-not s =
-    elim (is_over s) as (λ b. (b ≡ true) ⊎ (b ≡ false)) [ true ↦ inl refl | false ↦ inr refl ]
+over-or-not s = cases_Bool (is_over s)
 
 pub clash : (b : Bool) → b ≡ true → b ≡ false → ⊥
 clash b e f = cc
@@ -207,32 +184,19 @@ turns-spend (suc n) s =
       ],
     )
 
-over-where-refused : (b : Bool) (m n : ℕ) → b ≡ false → (not b || (m == n)) ≡ true
-over-where-refused true m n e = cc
-over-where-refused false m n e = refl
-
-over-where-last : (b : Bool) (m n : ℕ) → m ≡ n → (b || (m == n)) ≡ true
-over-where-last true m n e = refl
-over-where-last false m n e = grind (arith, nat_tests)
-
 -- the turn at a triple where a law fails, and that at the last one, end the job
 pub turn-ends : (s : JobState) → is_over s ≡ false
     → (triple_holds s.grid.order s.grid.entries s.spent ≡ false)
     ⊎ (s.spent + 1 ≡ triples s.grid.order)
     → is_over (turns 1 s) ≡ true
 unfolding turns
-turn-ends s on (inl fails) = ap is_over (turn-going s on)
-    ∙ over-where-refused (triple_holds s.grid.order s.grid.entries s.spent) (s.spent + 1)
-    (triples s.grid.order) fails
-turn-ends s on (inr last) = ap is_over (turn-going s on)
-    ∙ over-where-last (not (triple_holds s.grid.order s.grid.entries s.spent)) (s.spent + 1)
-    (triples s.grid.order) last
+turn-ends s on (inl fails) = ap is_over (turn-going s on) ∙ rw fails refl
+turn-ends s on (inr last) =
+    ap is_over (turn-going s on) ∙ or_right _ _ (eq-eqb (s.spent + 1) (triples s.grid.order) last)
 
 -- before the end some triple is left
 pub some-left : (s : JobState) → is_over s ≡ false → s.spent ≤ triples s.grid.order
     → s.spent < triples s.grid.order
-some-left s on within = below s.refused s.spent (triples s.grid.order) on within
-  where
-    below : (r : Bool) (m n : ℕ) → (r || (m == n)) ≡ false → m ≤ n → m < n
-    below true m n e l = cc
-    below false m n e l = grind (arith, nat_tests)
+some-left s on within =
+    let still_on = or_parts s.refused (s.spent == triples s.grid.order) on in
+    let apart = eqb-false s.spent (triples s.grid.order) still_on.1 in omega arith

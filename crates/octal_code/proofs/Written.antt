@@ -1,6 +1,6 @@
 -- The text of a code, written digit by digit.
 use Rattle.std.proofs.Common.{◌≡◌, ℕ, zero, suc, ◌+◌, ◌<◌, ◌≤◌, List, [], ◌∷◌, ◌++◌, length, get_or, take, sym, ap, ◌∙◌, arith}
-use Rattle.std.proofs.lemmas.List.{length-map, get_or-map, take_more, take_all}
+use Rattle.std.proofs.lemmas.List.{length-map, get_or-map, take_more}
 use Rattle.octal_code.specs.Text.{digit_byte, code_text}
 
 pub text_length : (code : List ℕ) → 1 ≤ length code → length (code_text code) ≡ length code + 1
@@ -21,7 +21,3 @@ pub text_more : (code : List ℕ) (j : ℕ) → 1 ≤ j → j < length code
 text_more code j l h =
     sym (take_more (code_text code) (j + 1) 0 (let n = text_length code (omega arith) in
     omega arith) ∙ ap (λ b. take (j + 1) (code_text code) ++ b ∷ []) (text_at code j l h))
-
-pub text_whole : (code : List ℕ) (n : ℕ) → 1 ≤ length code → n ≡ length code + 1
-    → take n (code_text code) ≡ code_text code
-text_whole code n l e = take_all n (code_text code) (let m = text_length code l in omega arith)

@@ -37,6 +37,27 @@ impl Model for Code {
     ghost inverse_ok = { λ a h. padded-take a.digits a.count h };
 }
 
+/// Codes are equal where their digits are.
+impl PartialEq for Code {
+    ghost use Rattle.std.specs.Prelude.{nat_eq};
+    ghost use Rattle.std.specs.Cmp.{partial_equiv_from_equiv};
+    ghost use Rattle.std.specs.Cmp.Lexicographic.{pointwise, nat_list_eq_equiv};
+
+    ghost eq = { pointwise nat_eq };
+
+    ghost laws = { partial_equiv_from_equiv nat_list_eq_equiv };
+
+    fn eq(&self, other: &Code) -> bool {
+        self.digits[..self.count as usize] == other.digits[..other.count as usize]
+    }
+}
+
+impl Eq for Code {
+    ghost use Rattle.std.specs.Cmp.Lexicographic.{nat_list_eq_equiv};
+
+    ghost laws = { nat_list_eq_equiv };
+}
+
 impl Code {
     /// Reads the text of a code: each code has one.
     pub fn read(text: &[u8]) -> Result<Code, CodeFault>

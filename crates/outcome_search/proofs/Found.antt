@@ -208,8 +208,7 @@ module _ (code X : List ℕ) (budget : ℕ) (memo : List (List ℕ × Outcome)) 
     pub settled : (o : Outcome) → last ≡ 0 → Follows code memo top o → IsSettledBy code X o budget
     settled o e f = record {
       list = memo ++ (top, o) ∷ [];
-      few = let n = length-append memo ((top, o) ∷ []) in let l = s.within in let m = s.some in
-          omega arith;
+      few = omega (arith, length-append memo ((top, o) ∷ []), s.within, s.some);
       here =
           subst (λ Y. Contains (memo ++ (top, o) ∷ []) (Y, o)) (alone e)
           (Contains-append_right memo ((top, o) ∷ []) (top, o) (itself_in (top, o)));
@@ -232,14 +231,15 @@ module _ (code X : List ℕ) (budget : ℕ) (memo : List (List ℕ × Outcome)) 
           (at_top (IsOnTheWay code X) waiting last top t s.waiting_reached);
       waiting_reached = All-without (IsOnTheWay code X) waiting last s.waiting_reached;
       new = still_new o;
-      falls = all_pairs_remove (λ Z W. measure W < measure Z) waiting last (let e = t.place in
-          omega arith) s.falls;
-      first = get_or-remove_below waiting last [] 0 l (let e = t.place in omega arith) ∙ s.first;
-      some = let n = length-remove waiting last (let e = t.place in omega arith) in let e = t.place
-          in
-          omega arith;
-      within = let n = length-remove waiting last (let e = t.place in omega arith) in let m =
-          length-append memo ((top, o) ∷ []) in let w = s.within in omega arith;
+      falls = all_pairs_remove (λ Z W. measure W < measure Z) waiting last (omega arith) s.falls;
+      first = get_or-remove_below waiting last [] 0 l (omega arith) ∙ s.first;
+      some = omega (arith, length-remove waiting last (omega arith));
+      within = omega (
+        arith,
+        s.within,
+        length-remove waiting last (omega arith),
+        length-append memo ((top, o) ∷ []),
+      );
     }
 
     keys_on_the_way : All (IsOnTheWay code X) (keys_of memo)

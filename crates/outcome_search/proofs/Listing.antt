@@ -1,6 +1,6 @@
 -- Lists of positions that grow by moves.
 use Rattle.std.proofs.Common.{◌≡◌, ℕ, ◌<◌, ◌≤◌, Bool, true, false, List, [], ◌∷◌, ◌++◌, length, get_or, refl, sym, ap, ◌∙◌, subst, arith, All, append_assoc, remove, if◌then◌else◌}
-use Rattle.std.proofs.lemmas.List.{append-nil, length-append}
+use Rattle.std.proofs.lemmas.List.{length-append}
 use Rattle.std.proofs.Math.ListN.{get_or-append}
 use Rattle.std.proofs.lemmas.List.Elements.{All-cons, All-nil, All-push, All-append, All-weaker}
 use Rattle.std.proofs.lemmas.Bool.Decides.{Decides-eqb}
@@ -26,10 +26,6 @@ pub same_place : (code : List ℕ) (number : ℕ) (old new : List (List ℕ)) �
     → AddsMoves code number old new → get_or new number [] ≡ get_or old number []
 same_place code number old new l (more, e, all) =
     ap (λ ys. get_or ys number []) e ∙ get_or-append old more [] number l
-
-pub adds_none : (code : List ℕ) (number : ℕ) (old : List (List ℕ)) → AddsMoves code number old old
-adds_none code number old =
-    ([], sym (append-nil old), All-nil (IsNext code (get_or old number [])))
 
 pub no_shorter : (code : List ℕ) (number : ℕ) (old new : List (List ℕ))
     → AddsMoves code number old new → length old ≤ length new

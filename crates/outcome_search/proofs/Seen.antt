@@ -153,8 +153,7 @@ mistakes_before : (memo : List (List ℕ × Outcome)) (X : List ℕ) (at : ℕ) 
 mistakes_before memo X at lefts Nothing h =
     λ left c. absurd (nothing_in left (subst (λ xs. Contains xs left) h c))
 mistakes_before memo X at lefts Loses h = h.0
-mistakes_before memo X at lefts Wins h = absurd h
-mistakes_before memo X at lefts Unknown h = absurd h
+mistakes_before memo X at lefts over h = absurd h
 
 pub one_more : (memo : List (List ℕ × Outcome)) (X : List ℕ) (at : ℕ) (lefts : List Left)
     (seen : Seen) (left : Left) (Y : List ℕ) → IsOn memo X at lefts seen
@@ -181,8 +180,7 @@ pub seen_all : (code X : List ℕ) (memo : List (List ℕ × Outcome)) (at : ℕ
 seen_all code X memo at lefts all Nothing next e h = sym e ∙ h
 seen_all code X memo at lefts all Loses next e h =
     subst (λ v. AreMistakes memo X at v × ((left : Left) × Contains v left)) e h
-seen_all code X memo at lefts all Wins next e h = absurd h
-seen_all code X memo at lefts all Unknown next e h = absurd h
+seen_all code X memo at lefts all over next e h = absurd h
 
 -- whether a move was seen at the first n heaps
 abbrev pub CanMove : List ℕ → List ℕ → ℕ → Bool → Type 0
@@ -241,10 +239,21 @@ module _ (code X : List ℕ) (memo : List (List ℕ × Outcome)) where
         moves = again_moves code X k can_move e' h.moves;
       }
 
-  pub looked_all : HasEach → (can_move : Bool) → HasLooked code X memo (length X) can_move
+  looked_all_case : HasEach → (can_move : Bool) → HasLooked code X memo (length X) can_move
       → Follows code memo X (cond can_move P N)
-  looked_all each true h = (h.moves, all_mistakes each code X memo h.mistakes)
-  looked_all each false h = inl (no_options each code X h.moves)
+  looked_all_case each true h = (h.moves, all_mistakes each code X memo h.mistakes)
+  looked_all_case each false h = inl (no_options each code X h.moves)
+
+  pub looked_all : HasEach → (n : ℕ) (can_move b : Bool) → HasLooked code X memo n can_move
+      → n ≡ length X → can_move ≡ b → Follows code memo X (cond b P N)
+  looked_all each n can_move b h over is =
+      looked_all_case each b (subst (λ c. HasLooked code X memo (length X) c) is
+      (subst (λ m. HasLooked code X memo m can_move) over h))
+
+listed_right : (code : List ℕ) (memo : List (List ℕ × Outcome)) (e : List ℕ × Outcome)
+    → All (λ e. HasOutcome code e.0 e.1) memo → Contains memo e → HasOutcome code e.0 e.1
+listed_right code memo e right (k, l, is) =
+    subst (λ v. HasOutcome code v.0 v.1) is (right k e l)
 
 -- what follows from outcomes that are right is right
 pub follows_right : (code : List ℕ) (memo : List (List ℕ × Outcome)) (X : List ℕ) (o : Outcome)
@@ -252,16 +261,9 @@ pub follows_right : (code : List ℕ) (memo : List (List ℕ × Outcome)) (X : L
 follows_right code memo X P right ((Y, m), all) =
     AllLose m (λ Z k. let (W, c, s) = all Z k in
     n_shuffled (listed_right code memo (W, N) right c) (from_permutation W Z s))
-  where
-    listed_right : (code : List ℕ) (memo : List (List ℕ × Outcome)) (e : List ℕ × Outcome)
-        → All (λ e. HasOutcome code e.0 e.1) memo → Contains memo e → HasOutcome code e.0 e.1
-    listed_right code memo e right (k, l, is) =
-        subst (λ v. HasOutcome code v.0 v.1) is (right k e l)
 follows_right code memo X N right (inl none) = Ended none
 follows_right code memo X N right (inr (Y, m, (Z, c, s))) =
-    ByMove m
-    (p_shuffled (let (k, l, is) = c in subst (λ v. HasOutcome code v.0 v.1) is (right k (Z, P) l))
-    (from_permutation Z Y s))
+    ByMove m (p_shuffled (listed_right code memo (Z, P) right c) (from_permutation Z Y s))
 
 -- what follows from a list follows from a longer one
 pub follows_on : (code : List ℕ) (memo more : List (List ℕ × Outcome)) (X : List ℕ) (o : Outcome)

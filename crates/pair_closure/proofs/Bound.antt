@@ -1,16 +1,16 @@
 -- A closure ends: each turn lowers what is left to do.
 -- Left are the products of members still to come, those of members held, and the heaps not tried.
-use Rattle.std.proofs.Common.{◌≡◌, ℕ, zero, suc, ◌+◌, ◌-◌, ◌*◌, ◌<◌, ◌≤◌, Bool, true, false, cond, not, List, [], ◌∷◌, ◌++◌, length, get_or, set, refl, sym, ap, ◌∙◌, subst, inl, inr, ◌⊎◌, arith, nat_lt, lt-ltb, le-ltb, ltb-true, ltb-false, filter, length-append, suc-mul}
-use Rattle.std.proofs.lemmas.List.Sums.{passes_at_first}
+use Rattle.std.proofs.Common.{◌≡◌, ℕ, zero, suc, ◌+◌, ◌-◌, ◌*◌, ◌<◌, ◌≤◌, Bool, true, false, cond, not, List, [], ◌∷◌, ◌++◌, length, get_or, set, refl, sym, ap, ◌∙◌, subst, inl, inr, ◌⊎◌, arith, nat_lt, le-ltb, ltb-false, filter, length-append, suc-mul}
+use Rattle.std.proofs.lemmas.Bool.{cond_both, cond-false}
 use Rattle.monoid_table.specs.Grids.{Grid}
 use Rattle.transition_algebra.specs.OverSets.{Pair}
 use Rattle.transition_algebra.specs.Pairs.{one, covers}
 use Rattle.pair_closure.specs.OverSets.{Member}
 use Rattle.pair_closure.specs.OverSets.{Held}
 use Rattle.pair_closure.specs.OverSets.{Generator}
-use Rattle.pair_closure.specs.Turns.{State, Multiplies, TriesHeap, start, blank_held, blank_generator, covered, multiplied, pending, is_over, is_done, has_ended, empty_turn, product_turn, heap_turn, turn, turns}
-use Rattle.pair_closure.proofs.WhichTurn.{kept_with, product_at, bumped, product_if, passed, widened, heap_if, turn_product, turn_heap, stays_put}
-use Rattle.pair_closure.proofs.Lists.{by_case, by_cond, either, if_true, if_false, true_or}
+use Rattle.pair_closure.specs.Turns.{State, start, blank_held, blank_generator, covered, multiplied, is_over, has_ended, empty_turn, product_turn, heap_turn, turn, turns}
+use Rattle.pair_closure.proofs.WhichTurn.{kept_with, product_at, bumped, product_if, passed, widened, heap_if, by_turn, has_turns, stays_put}
+use Rattle.pair_closure.proofs.Lists.{by_case}
 
 -- the heaps past those that each member was multiplied by
 left : ℕ → List Held → ℕ
@@ -26,9 +26,9 @@ left-filter : (B : ℕ) (p : Held → Bool) (ms : List Held) → left B (filter 
 unfolding left
 left-filter B p [] = omega arith
 left-filter B p (m ∷ ms) =
-    by_cond (λ z. left B z ≤ (B - m.by) + left B ms) (p m) (m ∷ filter p ms) (filter p ms)
-    (λ _. let h = left-filter B p ms in omega arith) (λ _. let h = left-filter B p ms in
-    omega arith)
+    let h = left-filter B p ms in
+    cond_both (p m) (m ∷ filter p ms) (filter p ms) (λ z. left B z ≤ (B - m.by) + left B ms)
+    (λ _. omega arith) (λ _. omega arith)
 
 left-set : (B : ℕ) (ms : List Held) (i : ℕ) (n d : Held) → i < length ms → (get_or ms i d).by < B
     → n.by ≡ (get_or ms i d).by + 1 → left B (set ms i n) + 1 ≡ left B ms
@@ -59,7 +59,7 @@ Falls n t = (measure t < n) × Few t
 
 measure-le : (s : State) (n : ℕ) → pot s ≤ n → measure s ≤ n
 unfolding measure
-measure-le s n h = by_cond (λ z. z ≤ n) (is_over s) 0 (pot s) (λ _. omega arith) (λ _. h)
+measure-le s n h = cond_both (is_over s) 0 (pot s) (λ z. z ≤ n) (λ _. omega arith) (λ _. h)
 
 measure_of-keep : (t : State) (x : Pair) (parent heap : ℕ)
     → measure (kept_with t x parent heap) ≤ pot t
@@ -69,8 +69,9 @@ measure_of-keep t x parent heap =
     let e : Member = record { pair = x; parent = parent; heap = heap } in
     let len = length-append t.members (e ∷ []) in
     let B = length t.heaps in
-    by_cond (λ z. z ≤ (t.limit - length t.members) * B + left B t.held + (B - t.next))
-    (is_over (kept_with t x parent heap)) 0 _ (λ _. omega arith) (λ room.
+    cond_both (is_over (kept_with t x parent heap)) 0 _
+    (λ z. z ≤ (t.limit - length t.members) * B + left B t.held + (B - t.next)) (λ _. omega arith)
+    (λ room.
     let less : length (t.members ++ e ∷ []) ≤ t.limit = ltb-false _ _ room in
     let a = room_step t.limit (length t.members) B (omega arith) in
     let b = left-push B (filter (λ m. not (covers x m.pair)) t.held) n in
@@ -125,47 +126,17 @@ heap_falls s few l =
       ),
     ))
 
-same_measure : (s : State) → is_over s ≡ false → measure s ≡ pot s
-unfolding measure
-same_measure s room = if_false (is_over s) 0 (pot s) room
-
 -- a turn that isn't the end lowers the measure
 falls : (s : State) → Few s → (has_ended s ≡ true) ⊎ Falls (measure s) (turn s)
-falls s few = elim (either (is_over s)) [
-  | inl o ↦ inl (true_or (is_over s) (is_done s) (inl o))
-  | inr room ↦
-      let is : measure s ≡ pot s = same_measure s room in
-      elim (either (nat_lt (pending s) (length s.held))) [
-        | inl more ↦
-            let lt = ltb-true _ _ more in
-            let k : Multiplies s (pending s) =
-            record { room = ltb-false _ _ room; some = few.2; first = refl; within = lt } in
-            let r =
-            product_falls s few (pending s) lt
-            (ltb-true _ _
-            (passes_at_first (λ m. nat_lt m.by (length s.generators)) s.held blank_held lt)) in
-            inr (subst (Falls (measure s)) (sym (turn_product s (pending s) k))
-            (subst (λ n. Falls n (product_turn s (pending s))) (sym is) r))
-        | inr none ↦ elim (either (nat_lt s.next (length s.heaps))) [
-          | inl more ↦
-              let k : TriesHeap s =
-              record {
-                room = ltb-false _ _ room;
-                some = few.2;
-                all = ltb-false _ _ none;
-                more = ltb-true _ _ more;
-              } in
-              inr (subst (Falls (measure s)) (sym (turn_heap s k))
-              (subst (λ n. Falls n (heap_turn s)) (sym is)
-              (heap_falls s few (ltb-true _ _ more))))
-          | inr last ↦
-              inl (true_or (is_over s) (is_done s)
-              (inr (if_false (is_over s) false _ room
-              ∙ if_true (nat_lt 0 (length s.members)) _ false (lt-ltb _ _ few.2)
-              ∙ if_false (nat_lt (pending s) (length s.held)) false _ none ∙ ap not last)))
-        ]
-      ]
-]
+unfolding measure
+falls s few =
+    let is : length s.members ≤ s.limit → pot s ≡ measure s =
+    λ room. sym (cond-false (is_over s) 0 (pot s) (le-ltb _ _ room)) in
+    by_turn (λ t. (has_ended s ≡ true) ⊎ Falls (measure s) t) s inl
+    (λ k. let (_, _, some) = few in let none = k.none in absurd (omega arith))
+    (λ at k. inr (rw (is k.room) at (product_falls s few at k.within
+    (has_turns s.held (length s.generators) at blank_held k.first k.within))))
+    (λ k. inr (rw (is k.room) at (heap_falls s few k.more)))
 
 module _ (table : Grid) (heaps : List Pair) (limit : ℕ) where
   abbrev first : State
@@ -175,11 +146,11 @@ module _ (table : Grid) (heaps : List Pair) (limit : ℕ) where
   after n = turns n (start table heaps limit)
 
   first_is : turn (start table heaps limit) ≡ first
-  first_is = if_false (nat_lt limit 0) _ first (le-ltb _ _ (omega arith))
+  first_is = cond-false (nat_lt limit 0) _ first (le-ltb _ _ (omega arith))
 
   first_measure : measure first ≤ limit * length heaps
   unfolding measure pot left
-  first_measure = by_cond (λ z. z ≤ limit * length heaps) (is_over first) 0 _ (λ _. omega arith)
+  first_measure = cond_both (is_over first) 0 _ (λ z. z ≤ limit * length heaps) (λ _. omega arith)
       (λ room.
       let more : 1 ≤ limit = ltb-false _ _ room in
       let a = room_step limit 0 (length heaps) (omega arith) in

@@ -3,14 +3,14 @@
 -- passes the test.
 use Rattle.std.proofs.Common.{◌≡◌, ℕ, zero, suc, ◌+◌, ◌-◌, ◌<◌, ◌≤◌, Bool, true, false, cond, List, [], ◌∷◌, ◌++◌, length, get_or, set, refl, sym, ap, ◌∙◌, subst, inl, inr, arith, nat_eq, eqb-true, eq-eqb, length-append}
 use Rattle.std.specs.List.{list_any}
-use Rattle.std.proofs.lemmas.Bool.{cases_lt, cases_eq}
-use Rattle.std.proofs.lemmas.List.{get_or_append_left, get_or_push, get_or-set_same, get_or-set_other}
+use Rattle.std.proofs.lemmas.Bool.{cases_lt, cases_eq, cond_both, cond-true, cond-false, false_from_ne_true}
+use Rattle.std.proofs.lemmas.List.{get_or_append_left, get_or_default, get_or_push, get_or-set_same, get_or-set_other}
 use Rattle.transition_algebra.specs.OverSets.{Pair}
 use Rattle.pair_closure.specs.OverSets.{Member}
 use Rattle.pair_closure.specs.Chains.{AreChained, blank, last_with}
 use Rattle.transition_algebra.specs.Pairs.{covers}
 use Rattle.pair_closure.proofs.PairLaws.{covering}
-use Rattle.pair_closure.proofs.Lists.{place_of, find_any, either, not_both, by_cond}
+use Rattle.pair_closure.proofs.Lists.{find_any, not_both}
 
 abbrev value_at : List Member → ℕ → ℕ
 value_at ms i = (get_or ms i blank).pair.value
@@ -18,37 +18,31 @@ value_at ms i = (get_or ms i blank).pair.value
 pub last-le : (ms : List Member) (v n : ℕ) → last_with ms v n ≤ n
 last-le ms v zero = omega arith
 last-le ms v (suc n) =
-    by_cond (λ z. z ≤ suc n) (nat_eq (value_at ms n) v) (suc n) (last_with ms v n)
-    (λ _. omega arith) (λ _. let h = last-le ms v n in omega arith)
+    let h = last-le ms v n in
+    cond_both (nat_eq (value_at ms n) v) (suc n) (last_with ms v n) (λ z. z ≤ suc n)
+    (λ _. omega arith) (λ _. omega arith)
 
 -- the member there has the value
 pub last-is : (ms : List Member) (v n : ℕ) → 0 < last_with ms v n
     → value_at ms (last_with ms v n - 1) ≡ v
-last-is ms v zero h = absurd (omega arith)
-last-is ms v (suc n) h = split (last-is ms v n) (nat_eq (value_at ms n) v) refl h
-  where
-    split : (0 < last_with ms v n → value_at ms (last_with ms v n - 1) ≡ v) → (b : Bool)
-        → nat_eq (value_at ms n) v ≡ b → 0 < cond b (suc n) (last_with ms v n)
-        → value_at ms (cond b (suc n) (last_with ms v n) - 1) ≡ v
-    split r true e h = let q : n ≡ suc n - 1 = omega arith in
-        subst (λ k. value_at ms k ≡ v) q (eqb-true _ _ e)
-    split r false e h = r h
+last-is ms v zero = λ h. absurd (omega arith)
+last-is ms v (suc n) =
+    cond_both (nat_eq (value_at ms n) v) (suc n) (last_with ms v n)
+    (λ z. 0 < z → value_at ms (z - 1) ≡ v)
+    (λ e h. let q : n ≡ suc n - 1 = omega arith in rw q at (eqb-true _ _ e))
+    (λ _. last-is ms v n)
 
 -- no later one has it
 pub last-skips : (ms : List Member) (v n k : ℕ) → last_with ms v n ≤ k → k < n → value_at ms k ≡ v
     → ⊥
 last-skips ms v zero k a l e = omega arith
 last-skips ms v (suc n) k a l e =
-    split (λ a h. last-skips ms v n k a h e) (nat_eq (value_at ms n) v) refl a
-  where
-    split : (last_with ms v n ≤ k → k < n → ⊥) → (b : Bool) → nat_eq (value_at ms n) v ≡ b
-        → cond b (suc n) (last_with ms v n) ≤ k → ⊥
-    split r true q a = omega arith
-    split r false q a = elim (cases_lt k n) [
-      | inl h ↦ r a h
-      | inr h ↦ let r : k ≡ n = omega arith in
-          not_both (eq-eqb _ _ (ap (value_at ms) (sym r) ∙ e)) q
-    ]
+    cond_both (nat_eq (value_at ms n) v) (suc n) (last_with ms v n) (λ z. z ≤ k → ⊥)
+    (λ _ a. omega arith)
+    (λ q a. elim (cases_lt k n) [
+      | inl h ↦ last-skips ms v n k a h e
+      | inr h ↦ let r : n ≡ k = omega arith in not_both (eq-eqb _ _ (ap (value_at ms) r ∙ e)) q
+    ]) a
 
 -- places that are the same below n
 pub last-same : (ms ns : List Member) (v n : ℕ) → ((k : ℕ) → k < n → value_at ms k ≡ value_at ns k)
@@ -77,7 +71,7 @@ covered_of x p e = sym (covering x p e).value
 
 fails_off : (test : Pair → Bool) (v : ℕ) → OfValue test v → (p : Pair) → (p.value ≡ v → ⊥)
     → test p ≡ false
-fails_off test v of p h = elim (either (test p)) [ inl t ↦ absurd (h (of p t)) | inr f ↦ f ]
+fails_off test v of p h = false_from_ne_true (test p) (λ t. h (of p t))
 
 pub walk_from : (ms : List Member) (v : ℕ) (test : Pair → Bool) (at : ℕ) → OfValue test v
     → at ≡ last_with ms v (length ms) → IsAt ms v test at
@@ -87,7 +81,7 @@ walk_from ms v test at of e = subst (IsAt ms v test) (sym e) (record {
   passed = λ k a l. fails_off test v of _ (last-skips ms v (length ms) k a l);
 })
 
-pub walk_on : (ms : List Member) (v : ℕ) (test : Pair → Bool) (at next : ℕ) → OfValue test v
+walk_on : (ms : List Member) (v : ℕ) (test : Pair → Bool) (at next : ℕ) → OfValue test v
     → IsAt ms v test at → 0 < at → test (get_or ms (at - 1) blank).pair ≡ false
     → next ≡ last_with ms (value_at ms (at - 1)) (at - 1) → IsAt ms v test next
 walk_on ms v test at next of w some fails e =
@@ -105,19 +99,11 @@ walk_on ms v test at next of w some fails e =
       ];
     })
 
-pub walk_falls : (ms : List Member) (v at next : ℕ) → 0 < at → next ≡ last_with ms v (at - 1)
-    → next < at
-walk_falls ms v at next some e = let h = last-le ms v (at - 1) in omega arith
-
 pub walk_ends : (ms : List Member) (v : ℕ) (test : Pair → Bool) (at : ℕ) → IsAt ms v test at
     → at ≡ 0 → false ≡ list_any (λ m. test m.pair) ms
-walk_ends ms v test at w e = elim (either (list_any (λ m. test m.pair) ms)) [
-  | inl t ↦
-      let (m, i, p) = find_any (λ m. test m.pair) ms t in
-      let (k, l, f) = place_of ms m i in
-      absurd (not_both (ap (λ z. test z.pair) (f blank) ∙ p) (w.passed k (omega arith) l))
-  | inr f ↦ sym f
-]
+walk_ends ms v test at w e =
+    sym (false_from_ne_true _ (λ t. let (k, l, p) = find_any (λ m. test m.pair) ms blank t in
+    not_both p (w.passed k (omega arith) l)))
 
 -- one member more
 pub chained_push : (ms : List Member) (older newest : List ℕ) (m : Member)
@@ -152,34 +138,20 @@ chained_push ms older newest m w l =
       ];
       last = λ v. elim (cases_eq v m.pair.value) [
         | inl q ↦
+            let one : n + 1 ≡ suc n = omega arith in
             ap (λ z. get_or (set newest m.pair.value (n + 1)) z 0) q
-            ∙ get_or-set_same newest m.pair.value (n + 1) 0 l ∙ plus_one n
-            ∙ sym (pick (nat_eq (value_at (ms ++ m ∷ []) n) v) _ _
+            ∙ get_or-set_same newest m.pair.value (n + 1) 0 l ∙ one
+            ∙ sym (cond-true (nat_eq (value_at (ms ++ m ∷ []) n) v) _ _
             (eq-eqb _ _ (ap (λ z. z.pair.value) new ∙ sym q))) ∙ ap (last_with (ms ++ m ∷ []) v)
             (sym more)
         | inr q ↦
             get_or-set_other newest m.pair.value v (n + 1) 0 q ∙ w.last v
             ∙ last-same ms (ms ++ m ∷ []) v n same
-            ∙ sym (drop_to (nat_eq (value_at (ms ++ m ∷ []) n) v) (suc n) _
-            (differs _ (λ e. q (sym e ∙ ap (λ z. z.pair.value) new))))
+            ∙ sym (cond-false (nat_eq (value_at (ms ++ m ∷ []) n) v) (suc n) _
+            (false_from_ne_true _ (λ t. q (sym (eqb-true _ _ t) ∙ ap (λ z. z.pair.value) new))))
             ∙ ap (last_with (ms ++ m ∷ []) v) (sym more)
       ];
     }
-  where
-    plus_one : (n : ℕ) → n + 1 ≡ suc n
-    plus_one n = omega arith
-
-    pick : (b : Bool) (x y : ℕ) → b ≡ true → cond b x y ≡ x
-    pick true x y e = refl
-    pick false x y e = absurd (cc)
-
-    drop_to : (b : Bool) (x y : ℕ) → b ≡ false → cond b x y ≡ y
-    drop_to true x y e = absurd (cc)
-    drop_to false x y e = refl
-
-    differs : {a : ℕ} (b : ℕ) → (a ≡ b → ⊥) → nat_eq a b ≡ false
-    differs {a = a} b h =
-        elim (either (nat_eq a b)) [ inl t ↦ absurd (h (eqb-true a b t)) | inr f ↦ f ]
 
 -- longer heads with nothing in them
 pub chained_reach : (ms : List Member) (older newest others : List ℕ)
@@ -188,25 +160,20 @@ pub chained_reach : (ms : List Member) (older newest others : List ℕ)
 chained_reach ms older newest others h w =
     record { length_is = w.length_is; before = w.before; last = λ v. h v ∙ w.last v }
 
-pub same_default : {A : Type 0} (xs : List A) (i : ℕ) (d e : A) → i < length xs
-    → get_or xs i d ≡ get_or xs i e
-same_default [] i d e l = absurd (omega arith)
-same_default (x ∷ xs) zero d e l = refl
-same_default (x ∷ xs) (suc i) d e l = same_default xs i d e (omega arith)
-
--- what a step of a walk reads
-pub read_member : (ms : List Member) (v : ℕ) (test : Pair → Bool) (at : ℕ) (m : Member)
-    → IsAt ms v test at → 0 < at → m ≡ get_or ms (at - 1) m → m ≡ get_or ms (at - 1) blank
-read_member ms v test at m w some e = let l = w.within in
-    e ∙ same_default ms (at - 1) m blank (omega arith)
-
-pub read_older : (ms : List Member) (older newest : List ℕ) (v : ℕ) (test : Pair → Bool) (at r : ℕ)
-    → AreChained ms older newest → IsAt ms v test at → 0 < at → r ≡ get_or older (at - 1) r
-    → r ≡ last_with ms (value_at ms (at - 1)) (at - 1)
-read_older ms older newest v test at r chain w some e =
+-- a step of a walk, by what it reads: it goes on, to an earlier member
+pub walk_step : {ms : List Member} {older newest : List ℕ} {v : ℕ} {test : Pair → Bool} {at : ℕ}
+    (m : Member) (next : ℕ) → OfValue test v → AreChained ms older newest → IsAt ms v test at
+    → 0 < at → m ≡ get_or ms (at - 1) m → test m.pair ≡ false → next ≡ get_or older (at - 1) next
+    → IsAt ms v test next × (next < at)
+walk_step {ms = ms} {older = older} {v = v} {test = test} {at = at} m next of chain w some e fails f =
     let l = w.within in
     let k = chain.length_is in
-    e ∙ same_default older (at - 1) r 0 (omega arith) ∙ chain.before (at - 1) (omega arith)
+    let here : m ≡ get_or ms (at - 1) blank = e ∙ get_or_default ms (at - 1) m blank (omega arith) in
+    let is : next ≡ last_with ms (value_at ms (at - 1)) (at - 1) =
+    f ∙ get_or_default older (at - 1) next 0 (omega arith) ∙ chain.before (at - 1) (omega arith) in (
+      walk_on ms v test at next of w some (subst (λ z. test z.pair ≡ false) here fails) is,
+      (let h = last-le ms (value_at ms (at - 1)) (at - 1) in omega arith),
+    )
 
 -- what a push writes
 pub pushed : (ms : List Member) (older newest : List ℕ) (m : Member) (ms2 : List Member)
@@ -215,11 +182,4 @@ pub pushed : (ms : List Member) (older newest : List ℕ) (m : Member) (ms2 : Li
     → before ≡ get_or newest m.pair.value before
     → AreChained ms2 older2 (set newest m.pair.value (n + 1))
 pushed ms older newest m ms2 older2 n before w l a b d e =
-    let f : before ≡ get_or newest m.pair.value 0 = e ∙ same_default newest m.pair.value before 0 l
-    in
-    subst (λ z. AreChained z older2 (set newest m.pair.value (n + 1))) (sym a)
-    (subst (λ z. AreChained (ms ++ m ∷ []) z (set newest m.pair.value (n + 1))) (sym b)
-    (subst (λ z. AreChained (ms ++ m ∷ []) (older ++ z ∷ []) (set newest m.pair.value (n + 1)))
-    (sym f)
-    (subst (λ z. AreChained (ms ++ m ∷ []) (older ++ get_or newest m.pair.value 0 ∷ [])
-    (set newest m.pair.value (z + 1))) (sym d) (chained_push ms older newest m w l))))
+    rw (a, b, e ∙ get_or_default newest m.pair.value before 0 l, d) (chained_push ms older newest m w l)

@@ -1,6 +1,6 @@
 -- Where nothing was written, what held holds.
 use Rattle.std.proofs.Common.{◌≡◌, ◌∙◌, ℕ, Bool, true, false, cond, List, length, sym, ap}
-use Rattle.std.specs.Prelude.{◌||◌}
+use Rattle.std.proofs.lemmas.Bool.{or_left, or_right}
 use Rattle.monoid_table.specs.Grids.{Grid}
 use Rattle.transition_algebra.specs.OverSets.{Pair}
 use Rattle.pair_closure.specs.OverSets.{Member, Held, Generator}
@@ -20,12 +20,8 @@ stepped p q e m = m ∙ sym (ap (λ b. cond b p (moved p)) e)
 pub stays : (p : ClosureView) → has_ended p.state ≡ true → p ≡ step p
 stays p e = sym (ap (λ b. cond b p (moved p)) e)
 
-or_right : (a b : Bool) → b ≡ true → (a || b) ≡ true
-or_right true b e = ap (λ _. true) e
-or_right false b e = e
-
 pub ended_done : (s : State) → is_done s ≡ true → has_ended s ≡ true
 ended_done s e = or_right (is_over s) (is_done s) e
 
 pub ended_over : (s : State) → is_over s ≡ true → has_ended s ≡ true
-ended_over s e = ap (λ b. b || is_done s) e
+ended_over s e = or_left (is_over s) (is_done s) e

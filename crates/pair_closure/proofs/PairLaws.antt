@@ -1,5 +1,6 @@
 -- Covering, number by number; products respect it.
-use Rattle.std.proofs.Common.{◌≡◌, ℕ, Bool, true, false, not, refl, sym, ap, ◌∙◌, subst, inl, inr, ◌&&◌, eqb-true, eq-eqb}
+use Rattle.std.proofs.Common.{◌≡◌, ℕ, Bool, true, false, not, refl, sym, ap, ◌∙◌, subst, inl, inr, eqb-true, eq-eqb}
+use Rattle.std.proofs.lemmas.Bool.{and_from, and_parts, or_cases, or_left, or_right}
 use Rattle.std.specs.Cmp.{nat_cmp_total}
 use Rattle.std.specs.FinSet as set
 use Rattle.std.specs.FinSet.{is_subset-contains, contains-is_subset}
@@ -9,17 +10,7 @@ use Rattle.transition_algebra.specs.OverSets.{Pair}
 use Rattle.transition_algebra.specs.Pairs.{IsPair, times, covers}
 use Rattle.transition_algebra.specs.PairLaws.{has, empty_has, times_has, has_left, has_right}
 use Rattle.pair_closure.proofs.OptionLaws.{some_or_empty}
-use Rattle.pair_closure.proofs.Lists.{or_true, true_or, not_both}
-
-both : (a b : Bool) → (a && b) ≡ true → (a ≡ true) × (b ≡ true)
-both true true e = (refl, refl)
-both true false e = absurd (cc)
-both false b e = absurd (cc)
-
-both_from : (a b : Bool) → a ≡ true → b ≡ true → (a && b) ≡ true
-both_from true true e f = refl
-both_from true false e f = absurd (cc)
-both_from false b e f = absurd (cc)
+use Rattle.pair_closure.proofs.Lists.{not_both}
 
 pub record Covering (p r : Pair) : Type 0 where
   pub value : p.value ≡ r.value
@@ -28,14 +19,14 @@ pub record Covering (p r : Pair) : Type 0 where
 
 pub covering : (p r : Pair) → covers p r ≡ true → Covering p r
 covering p r e =
-    let a = both _ _ e in
-    let b = both _ _ a.1 in
+    let a = and_parts _ _ e in
+    let b = and_parts _ _ a.1 in
     record {
       value = eqb-true _ _ a.0;
       among = is_subset-contains nat_cmp_total p.options r.options b.0;
       some = λ q h. elim (some_or_empty p.options) [
         | inl w ↦ w.1
-        | inr w ↦ elim (or_true _ _ b.1) [
+        | inr w ↦ elim (or_cases _ _ b.1) [
           | inl t ↦ absurd
               (empty_has q (is_subset-contains nat_cmp_total r.options set.empty t q h))
           | inr t ↦ absurd (not_both (sym (ap not w.0) ∙ t) refl)
@@ -45,14 +36,14 @@ covering p r e =
 
 pub covers_from : (p r : Pair) → Covering p r → covers p r ≡ true
 covers_from p r c =
-    both_from _ _ (eq-eqb _ _ c.value)
-    (both_from _ _ (contains-is_subset nat_cmp_total p.options r.options c.among)
-    (true_or _ _ (elim (some_or_empty r.options) [
-      | inr w ↦ inl w.0
-      | inl w ↦
-          let (x, h) = c.some w.1.0 w.1.1 in
-          inr (elim (some_or_empty p.options) [ inl u ↦ ap not u.0 | inr u ↦ absurd (u.1 x h) ])
-    ])))
+    and_from _ _ (eq-eqb _ _ c.value)
+    (and_from _ _ (contains-is_subset nat_cmp_total p.options r.options c.among)
+    (elim (some_or_empty r.options) [
+      | inr w ↦ or_left _ _ w.0
+      | inl w ↦ let (x, h) = c.some w.1.0 w.1.1 in
+          or_right _ _
+          (elim (some_or_empty p.options) [ inl u ↦ ap not u.0 | inr u ↦ absurd (u.1 x h) ])
+    ]))
 
 pub covers_itself : (p : Pair) → covers p p ≡ true
 covers_itself p = covers_from p p (record { value = refl; among = λ y h. h; some = λ y h. (y, h) })

@@ -2,6 +2,7 @@
 -- By what the first place that passes a test says of those before it.
 use Rattle.std.proofs.Common.{◌≡◌, ℕ, zero, suc, ◌<◌, Bool, true, false, cond, not, List, [], ◌∷◌, ◌++◌, length, get_or, set, refl, sym, ap, ◌∙◌, arith, ◌||◌, filter, nat_lt, lt-ltb, le-ltb}
 use Rattle.std.specs.List.{list_any}
+use Rattle.std.proofs.lemmas.Bool.{or_parts}
 use Rattle.std.proofs.lemmas.List.Sums.{position_or_len_is}
 use Rattle.std.proofs.lemmas.List.{get_or_append_left, get_or-set_other, length-set}
 use Rattle.pair_closure.specs.OverSets.{Held}
@@ -21,31 +22,12 @@ pending_none held n at before e =
     sym (position_or_len_is (λ m. nat_lt m.by n) held at blank_held (omega arith)
     (λ k h. le-ltb _ _ (before k h (omega arith))) (λ l. absurd (omega arith)))
 
-first_none : (a b : Bool) → (a || b) ≡ false → (a ≡ false) × (b ≡ false)
-first_none true b e = absurd (cc)
-first_none false b e = (refl, e)
-
 -- where x covers none, none is given up
 pub filter_none : {A : Type 0} (p : A → Bool) (xs : List A) → list_any p xs ≡ false
     → filter (λ m. not (p m)) xs ≡ xs
 filter_none p [] e = refl
-filter_none p (x ∷ xs) e =
-    let (a, b) = first_none (p x) (list_any p xs) e in
-    keep (p x) a ∙ ap (λ ys. x ∷ ys) (filter_none p xs b)
-  where
-    keep : (b : Bool) → b ≡ false
-        → cond (not b) (x ∷ filter (λ m. not (p m)) xs) (filter (λ m. not (p m)) xs)
-        ≡ x ∷ filter (λ m. not (p m)) xs
-    keep true e = absurd (cc)
-    keep false e = refl
-
--- a write at a place that keeps what the test reads
-pub any_write : (x : Pair) (held : List Held) (at : ℕ) (m : Held)
-    → m.pair ≡ (get_or held at blank_held).pair → list_any (λ n. covers x n.pair) (set held at m)
-    ≡ list_any (λ n. covers x n.pair) held
-any_write x [] at m e = refl
-any_write x (h ∷ hs) zero m e = ap (λ p. covers x p || list_any (λ n. covers x n.pair) hs) e
-any_write x (h ∷ hs) (suc at) m e = ap (λ b. covers x h.pair || b) (any_write x hs at m e)
+filter_none p (x ∷ xs) e = let (a, b) = or_parts (p x) (list_any p xs) e in
+    rw (a, filter_none p xs b) refl
 
 -- what stands before the place stays
 pub before_write : (held : List Held) (at : ℕ) (m : Held) (k : ℕ) → k < at

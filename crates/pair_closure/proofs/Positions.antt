@@ -2,18 +2,17 @@
 -- By induction on the heaps of a word: the product of their pairs is exactly the position's pair.
 use Rattle.std.proofs.Common.{◌≡◌, ℕ, zero, suc, ◌+◌, ◌-◌, ◌<◌, ◌≤◌, Bool, true, false, cond, List, [], ◌∷◌, ◌++◌, length, get_or, refl, sym, ap, ap₂, ◌∙◌, subst, inl, inr, arith, length-append, nat_lt, ltb-true, ltb-false}
 use Rattle.std.specs.List.{AllByRecursion}
-use Rattle.std.proofs.lemmas.Bool.{cases_lt}
-use Rattle.std.proofs.lemmas.List.Sums.{fails_before_first}
-use Rattle.std.proofs.lemmas.List.{get_or_append_left, get_or_push}
+use Rattle.std.proofs.lemmas.List.{get_or-map, length-map}
+use Rattle.std.proofs.lemmas.List.Elements.{All-contains}
 use Rattle.misere_theory.specs.Games.{IsHeapUpTo, IsPosition}
 use Rattle.misere_theory.specs.Games.Move.{Here, There}
-use Rattle.misere_theory.specs.Quotients.{Claim, value, OptionValue, SamePair, ReachesMoreThan}
+use Rattle.misere_theory.specs.Quotients.{Claim, value, OptionValue, ReachesMoreThan}
 use Rattle.misere_theory.specs.Pairs as theory
+use Rattle.misere_theory.proofs.Different.{more_from_different}
 use Rattle.misere_theory.proofs.Sums.{first_or_rest, no_move_of_none, value-append, heaps_up_to_kept}
 use Rattle.monoid_table.specs.Grids.{Grid, times_in}
 use Rattle.transition_algebra.specs.OverSets.{Pair}
 use Rattle.pair_closure.specs.OverSets.{Member}
-use Rattle.pair_closure.specs.OverSets.{Held}
 use Rattle.transition_algebra.specs.Pairs.{one, times, IsPair, covers}
 use Rattle.transition_algebra.specs.Heaps.{IsHeapPair}
 use Rattle.transition_algebra.specs.PairLaws.{has, empty_has, same_pair, times_has, has_left, has_right}
@@ -21,9 +20,9 @@ use Rattle.pair_closure.specs.Chains.{blank}
 use Rattle.pair_closure.proofs.OptionLaws.{items_have, has_items}
 use Rattle.pair_closure.specs.Turns.{State, start, blank_held, pending, is_done, product_of_heaps, word_of}
 use Rattle.pair_closure.specs.Positions.{as_pair, kept, IsClaimOver, DescribesPositions, ShowsPairs, IsMinimal}
-use Rattle.pair_closure.proofs.Invariant.{Holds}
-use Rattle.pair_closure.proofs.WhichTurn.{done_parts}
-use Rattle.pair_closure.proofs.Lists.{In, In-at, In-map, from_map, find_any, In-Contains, Contains-In, place_of, not_both}
+use Rattle.pair_closure.proofs.Invariant.{Holds, HasPlace}
+use Rattle.pair_closure.proofs.WhichTurn.{done_parts, none_before}
+use Rattle.pair_closure.proofs.Lists.{find_any, not_both}
 use Rattle.pair_closure.proofs.Machine.{Reached, kept_by_turns}
 use Rattle.pair_closure.proofs.PairLaws.{covering, covers_from}
 use Rattle.pair_closure.proofs.Theorem as reached
@@ -54,7 +53,7 @@ module _ (code : List ℕ) (c : Claim) (s : State) (v : Holds s)
       subst (λ k. IsHeapPair code c k (heap n)) q (g.heaps_are.each (n - 1) one (omega arith))
 
   heap_in : (n : ℕ) → 1 ≤ n → n ≤ length s.heaps → IsPair s.table.order (heap n)
-  heap_in n a b = v.heaps_in (heap n) (In-at s.heaps (n - 1) one (omega arith))
+  heap_in n a b = v.heaps_in (n - 1) one (omega arith)
 
   abbrev product : List ℕ → Pair
   product w = product_of_heaps s.table s.heaps w
@@ -182,84 +181,55 @@ module _ (code : List ℕ) (c : Claim) (s : State) (v : Holds s)
         ];
       }
 
-  finished : (m : Held) → In m s.held → length s.held ≤ pending s → length s.generators ≤ m.by
-  finished m i none =
-      let (k, l, e) = place_of s.held m i in
-      let d = blank_held in
-      let f = fails_before_first (λ m. nat_lt m.by (length s.generators)) s.held k d (omega arith)
-      in
-      ltb-false m.by (length s.generators)
-      (subst (λ z. nat_lt z.by (length s.generators) ≡ false) (e d) f)
+  abbrev pair_at : ℕ → Pair
+  pair_at k = (get_or s.held k blank_held).pair
+
+  kept_at : (k : ℕ) (p : theory.Pair) → k < length s.held → get_or (kept s) k p ≡ as_pair (pair_at k)
+  kept_at k p l = get_or-map (λ m. as_pair m.pair) s.held k blank_held p l
 
   pub closed : length s.held ≤ pending s → length s.heaps ≤ s.next
       → theory.IsClosed code c (IsHeapUpTo (length s.heaps)) (kept s)
   closed none all =
-      let words = reached.words_covered s v (λ m i. finished m i none) all in
+      let words =
+      reached.words_covered s v (λ k l. none_before _ _ k blank_held (omega arith)) all in
+      let same = length-map s.held (λ m. as_pair m.pair) in
       record {
         start =
-            let (m, i, k) = find_any (λ m. covers m.pair one) s.held v.one_held in (
-              as_pair m.pair,
-              In-Contains _ _ (In-map (λ m. as_pair m.pair) s.held m i),
-              covers_position m.pair one [] k (word_exact [] tt),
+            let (k, l, d) = find_any (λ m. covers m.pair one) s.held blank_held v.one_held in (
+              as_pair (pair_at k),
+              (k, omega arith, kept_at k _ l),
+              covers_position (pair_at k) one [] d (word_exact [] tt),
             );
         step = λ q h n up.
-            let (m, i, e) = from_map (λ m. as_pair m.pair) s.held q (Contains-In _ _ h) in
-            let (l, f) = v.held_members m i in
-            let (w, g) = table_words m.place l in
-            let (m2, j, k) =
-            find_any (λ u. covers u.pair (product (n ∷ word_at m.place))) s.held
-            (words (n ∷ word_at m.place) (up, w)) in
-            let k2 : covers m2.pair (times s.table (heap n) m.pair) ≡ true =
-            subst (λ z. covers m2.pair (times s.table (heap n) z) ≡ true) (sym g ∙ f) k in (
-              as_pair m2.pair,
-              In-Contains _ _ (In-map (λ m. as_pair m.pair) s.held m2 j),
-              subst (theory.CoversProduct code c (as_pair m2.pair) n) (sym e)
-                  (covers_product m2.pair m.pair n up (v.held_in m i) k2),
+            let (k, long, e) = h in
+            let l : k < length s.held = omega arith in
+            let (i, f) = v.held_members k blank_held l in
+            let place = (get_or s.held k blank_held).place in
+            let (w, g) = table_words place i in
+            let (j, m, d) =
+            find_any (λ u. covers u.pair (product (n ∷ word_at place))) s.held blank_held
+            (words (n ∷ word_at place) (up, w)) in
+            let covered : covers (pair_at j) (times s.table (heap n) (pair_at k)) ≡ true =
+            rw (sym f ∙ g) d in (
+              as_pair (pair_at j),
+              (j, omega arith, kept_at j _ m),
+              rw (sym e ∙ kept_at k q l)
+                  (covers_product (pair_at j) (pair_at k) n up (v.held_in k blank_held l) covered),
             );
       }
 
-  -- the words of the first n members ever kept
-  words_below : ℕ → List (List ℕ)
-  words_below zero = []
-  words_below (suc n) = words_below n ++ word_at n ∷ []
-
-  length_words : (n : ℕ) → length (words_below n) ≡ n
-  unfolding words_below
-  length_words zero = refl
-  length_words (suc n) =
-      omega (arith, length-append (words_below n) (word_at n ∷ []), length_words n)
-
-  word_below : (n k : ℕ) (d : List ℕ) → k < n → get_or (words_below n) k d ≡ word_at k
-  unfolding words_below
-  word_below zero k d l = absurd (omega arith)
-  word_below (suc n) k d l = elim (cases_lt k n) [
-    | inl h ↦ get_or_append_left (words_below n) (word_at n ∷ []) d k
-        (omega (arith, length_words n)) ∙ word_below n k d h
-    | inr h ↦ let q : k ≡ n = omega arith in
-        get_or_push (words_below n) (word_at n) d k (length_words n ∙ sym q) ∙ ap word_at (sym q)
-  ]
-
-  pub differ : (X Y : List ℕ) (p r : Pair) → Exact p X → Exact r Y → SamePair code c X Y → p ≡ r
-  differ X Y p r a b same = same_pair p r (a.value ∙ same.0 ∙ sym b.value)
-      (λ x h. b.from x ((same.1 x).0 (a.to x h)))
-      (λ x h. a.from x ((same.1 x).1 (b.to x h)))
+  -- pairs that have the same numbers are the same
+  same_members : (p r : Pair) → theory.IsSamePair (as_pair p) (as_pair r) → p ≡ r
+  same_members p r same =
+      same_pair p r same.0 (λ x h. items_have r.options x ((same.1 x).0 (has_items p.options x h)))
+      (λ x h. items_have p.options x ((same.1 x).1 (has_items r.options x h)))
 
   pub more_than : (limit : ℕ) → limit < length s.members → ReachesMoreThan IsGiven code c limit
   more_than limit l =
-      let n = length s.members in (
-        words_below n,
-        omega (arith, length_words n),
-        λ k d h. let lt : k < n = omega (arith, length_words n) in
-            subst (IsPosition IsGiven) (sym (word_below n k d lt)) (table_words k lt).0,
-        λ i j d h k same.
-            let lj : j < n = omega (arith, length_words n) in
-            let li : i < n = omega arith in
-            let e = differ (word_at i) (word_at j) _ _ (member_exact i li) (member_exact j lj)
-            (subst (λ z. SamePair code c z (word_at j)) (word_below n i d li)
-            (subst (SamePair code c (get_or (words_below n) i d)) (word_below n j d lj) same))
-            in
-            v.apart i j _ h lj e,
-      )
+      more_from_different IsGiven code c (length s.members) (λ i. as_pair (member_at i).pair) word_at
+      (λ i h. pair_of (member_at i).pair (word_at i) (member_exact i h)) (λ i h. (table_words i h).0)
+      (λ i j h k same.
+      v.apart i j blank h k (same_members (member_at i).pair (member_at j).pair same)) limit l
 
   ended : is_done s ≡ true → theory.IsClosed code c (IsHeapUpTo (length s.heaps)) (kept s)
   ended e = let (a, b) = done_parts s e in closed (ltb-false _ _ a) (ltb-false _ _ b)
@@ -285,7 +255,7 @@ shows s r code c g = elim (kept_by_turns s r) [
   | inr v ↦ record {
     words = λ i l. pair_of code c s v g _ _ (member_exact code c s v g i l);
     positions = λ i l. (table_words code c s v g i l).0;
-    held = λ m h. v.held_members m (Contains-In _ m h);
+    held = λ m h. All-contains (HasPlace s.members) s.held m v.held_members h;
     done = λ e. ended code c s v g e;
     over = λ e. more_than code c s v g s.limit (ltb-true _ _ e);
   }

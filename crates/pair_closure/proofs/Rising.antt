@@ -1,79 +1,54 @@
 -- Heaps in their rising order.
--- By insertion: in whatever order heaps are put in, the same list rises.
-use Rattle.std.proofs.Common.{◌≡◌, ℕ, suc, ◌<◌, ◌≤◌, true, false, cond, List, [], ◌∷◌, refl, sym, ap, ◌∙◌, inl, inr, arith, nat_lt, ltb-true, ltb-false, le-ltb, lt-ltb}
+-- By insertion: a heap is put before the first that isn't smaller, so that the heaps rise. Lists
+-- that rise and have the same heaps are one.
+use Rattle.std.proofs.Common.{◌≡◌, ℕ, suc, ◌+◌, ◌<◌, ◌≤◌, true, false, cond, List, [], ◌∷◌, refl, ap, ◌∙◌, arith, nat_lt, ltb-true, ltb-false}
+use Rattle.std.specs.List.{insert, prefix_len}
 use Rattle.std.specs.List.Sorted.{IsNonDecreasing, IsPermutation}
-use Rattle.misere_theory.proofs.Shuffles.{Shuffled, from_permutation}
-use Rattle.misere_theory.proofs.Shuffles.Shuffled.{Same, Under, Flip, Then}
+use Rattle.std.proofs.lemmas.List.Sorted.{IsNonDecreasingBy-insert, IsPermutation-cons, IsPermutation-insert, IsPermutation-refl, IsPermutation-sym, IsPermutation-trans}
+use Rattle.std.proofs.lemmas.List.Sums.{prefix_len-le-length, prefix_len_passes, prefix_len_stops}
+use Rattle.misere_theory.proofs.RisingLists.{rising_same}
 use Rattle.pair_closure.specs.Positions.{put, rising}
-use Rattle.pair_closure.proofs.Lists.{either}
 
-goes_past : (x y : ℕ) (xs : List ℕ) → nat_lt x y ≡ true → put y (x ∷ xs) ≡ x ∷ put y xs
-goes_past x y xs e = ap (λ c. cond c (x ∷ put y xs) (y ∷ x ∷ xs)) e
+-- how many heaps from the first on are smaller
+abbrev smaller : ℕ → List ℕ → ℕ
+smaller h xs = prefix_len (λ x. nat_lt x h) xs
 
-stands_first : (x y : ℕ) (xs : List ℕ) → nat_lt x y ≡ false → put y (x ∷ xs) ≡ y ∷ x ∷ xs
-stands_first x y xs e = ap (λ c. cond c (x ∷ put y xs) (y ∷ x ∷ xs)) e
+put_is : (h : ℕ) (xs : List ℕ) → put h xs ≡ insert xs (smaller h xs) h
+put_is h [] = refl
+put_is h (x ∷ xs) =
+    elim (nat_lt x h) as (λ b. cond b (x ∷ put h xs) (h ∷ x ∷ xs)
+    ≡ insert (x ∷ xs) (cond b (1 + smaller h xs) 0) h) [
+      | true ↦ ap (λ ys. x ∷ ys) (put_is h xs) ∙ ap (λ k. insert (x ∷ xs) k h) (next (smaller h xs))
+      | false ↦ refl
+    ]
+  where
+    next : (n : ℕ) → suc n ≡ 1 + n
+    next n = omega arith
 
--- two heaps that come before all others
-both_first : (a b : ℕ) (xs : List ℕ) → put a xs ≡ a ∷ xs → put b xs ≡ b ∷ xs
-    → put a (b ∷ xs) ≡ put b (a ∷ xs)
-both_first a b xs h k = elim (either (nat_lt b a)) [
-  | inl e ↦ (let l : b < a = ltb-true b a e in
-      goes_past b a xs e ∙ ap (λ z. b ∷ z) h ∙ sym (stands_first a b xs (le-ltb _ _ (omega arith))))
-  | inr e ↦ elim (either (nat_lt a b)) [
-    | inl f ↦ stands_first b a xs e ∙ ap (λ z. a ∷ z) (sym k) ∙ sym (goes_past a b xs f)
-    | inr f ↦ (
-        let l : a ≤ b = ltb-false b a e in
-        let m : b ≤ a = ltb-false a b f in
-        let d : a ≡ b = omega arith in
-        ap (λ z. put z (b ∷ xs)) d ∙ ap (λ z. put b (z ∷ xs)) (sym d))
-  ]
-]
+put_rises : (h : ℕ) (xs : List ℕ) → IsNonDecreasing xs → IsNonDecreasing (put h xs)
+put_rises h xs up =
+    rw (put_is h xs)
+    (IsNonDecreasingBy-insert (λ x. x) xs (smaller h xs) h up
+    (prefix_len-le-length (λ x. nat_lt x h) xs)
+    (λ k d l. let b = ltb-true _ _ (prefix_len_passes (λ x. nat_lt x h) xs k d l) in omega arith)
+    (λ k d l m.
+    let b = ltb-false _ _ (prefix_len_stops (λ x. nat_lt x h) xs d (omega arith)) in
+    let c = up (smaller h xs) k d l m in
+    omega arith))
 
--- heaps are put in any order
-puts : (a b : ℕ) (xs : List ℕ) → put a (put b xs) ≡ put b (put a xs)
-puts a b [] = both_first a b [] refl refl
-puts a b (x ∷ xs) = elim (either (nat_lt x a)) [
-  | inl e ↦ elim (either (nat_lt x b)) [
-    | inl f ↦ ap (put a) (goes_past x b xs f) ∙ goes_past x a (put b xs) e
-        ∙ ap (λ z. x ∷ z) (puts a b xs) ∙ sym (goes_past x b (put a xs) f)
-        ∙ ap (put b) (sym (goes_past x a xs e))
-    | inr f ↦ (
-        let l : x < a = ltb-true x a e in
-        let m : b ≤ x = ltb-false x b f in
-        ap (put a) (stands_first x b xs f) ∙ goes_past b a (x ∷ xs) (lt-ltb _ _ (omega arith))
-        ∙ ap (λ z. b ∷ z) (goes_past x a xs e) ∙ sym (stands_first x b (put a xs) f)
-        ∙ ap (put b) (sym (goes_past x a xs e)))
-  ]
-  | inr e ↦ elim (either (nat_lt x b)) [
-    | inl f ↦ (
-        let l : a ≤ x = ltb-false x a e in
-        let m : x < b = ltb-true x b f in
-        ap (put a) (goes_past x b xs f) ∙ stands_first x a (put b xs) e
-        ∙ ap (λ z. a ∷ z) (sym (goes_past x b xs f))
-        ∙ sym (goes_past a b (x ∷ xs) (lt-ltb _ _ (omega arith)))
-        ∙ ap (put b) (sym (stands_first x a xs e)))
-    | inr f ↦ ap (put a) (stands_first x b xs f) ∙ both_first a b (x ∷ xs) (stands_first x a xs e)
-        (stands_first x b xs f) ∙ ap (put b) (sym (stands_first x a xs e))
-  ]
-]
+rising_rises : (xs : List ℕ) → IsNonDecreasing (rising xs)
+rising_rises [] = λ i j d l m. absurd (omega arith)
+rising_rises (x ∷ xs) = put_rises x (rising xs) (rising_rises xs)
 
-rising_shuffled : {X Y : List ℕ} → Shuffled X Y → rising X ≡ rising Y
-rising_shuffled Same = refl
-rising_shuffled (Under {n = n} s) = ap (put n) (rising_shuffled s)
-rising_shuffled (Flip {a = a} {b = b} {X = X}) = puts a b (rising X)
-rising_shuffled (Then s t) = rising_shuffled s ∙ rising_shuffled t
-
-put_first : (x : ℕ) (xs : List ℕ) → IsNonDecreasing (x ∷ xs) → put x xs ≡ x ∷ xs
-put_first x [] h = refl
-put_first x (y ∷ xs) h = stands_first y x xs (let l : x ≤ y = h 0 1 0 (omega arith) (omega arith) in
-    le-ltb _ _ l)
-
-rising_rests : (xs : List ℕ) → IsNonDecreasing xs → rising xs ≡ xs
-rising_rests [] h = refl
-rising_rests (x ∷ xs) h =
-    ap (put x) (rising_rests xs (λ i j d l m. h (suc i) (suc j) d (omega arith) (omega arith)))
-    ∙ put_first x xs h
+rising_has : (xs : List ℕ) → IsPermutation xs (rising xs)
+rising_has [] = IsPermutation-refl []
+rising_has (x ∷ xs) =
+    IsPermutation-trans (x ∷ xs) (x ∷ rising xs) (put x (rising xs))
+    (IsPermutation-cons x xs (rising xs) (rising_has xs))
+    (rw (put_is x (rising xs)) (IsPermutation-insert (rising xs) (smaller x (rising xs)) x))
 
 -- of all orders one rises
 pub one_rises : (X Y : List ℕ) → IsPermutation X Y → IsNonDecreasing Y → Y ≡ rising X
-one_rises X Y s h = sym (rising_rests Y h) ∙ sym (rising_shuffled (from_permutation X Y s))
+one_rises X Y s h =
+    rising_same Y (rising X) h (rising_rises X)
+    (IsPermutation-trans Y X (rising X) (IsPermutation-sym X Y s) (rising_has X))

@@ -1,23 +1,22 @@
 -- Turns one after another.
 -- By induction on their number.
-use Rattle.std.proofs.Common.{◌≡◌, ℕ, zero, suc, ◌+◌, ◌-◌, ◌≤◌, Bool, true, false, cond, [], ◌∷◌, ◌++◌, length, length-append, get_or, refl, sym, ap, ◌∙◌, arith, nat_lt}
+use Rattle.std.proofs.Common.{◌≡◌, ℕ, zero, suc, ◌+◌, ◌-◌, ◌≤◌, Bool, true, false, cond, List, [], ◌∷◌, ◌++◌, length, length-append, get_or, refl, sym, ap, ◌∙◌, arith}
 use Rattle.transition_algebra.specs.Pairs.{one}
 use Rattle.pair_closure.specs.OverSets.{Member}
-use Rattle.pair_closure.specs.Turns.{State, SameData, covered, is_over, has_ended, pending, turn, turns}
+use Rattle.pair_closure.specs.OverSets.{Held}
+use Rattle.pair_closure.specs.OverSets.{Generator}
+use Rattle.pair_closure.specs.Turns.{State, SameData, covered, has_ended, turn, turns}
 use Rattle.pair_closure.specs.ClosureViews.{ClosureView, moved, step, steps, stopped}
-use Rattle.pair_closure.proofs.Lists.{by_cond, if_true, if_false}
-use Rattle.pair_closure.proofs.WhichTurn.{product_at, stays_put}
+use Rattle.std.proofs.lemmas.Bool.{cond_both, cond-true, cond-false}
+use Rattle.pair_closure.proofs.WhichTurn.{product_at, by_turn, stays_put}
 
 pub same_after : (s : State) → SameData s (turn s)
-same_after s =
-    let same : SameData s s = record { table = refl; heaps = refl; limit = refl } in
-    by_cond (SameData s) (is_over s) _ _ (λ _. same) (λ _.
-    by_cond (SameData s) (nat_lt 0 (length s.members)) _ _
-    (λ _. by_cond (SameData s) (nat_lt (pending s) (length s.held)) _ _
-    (λ _. record { table = refl; heaps = refl; limit = refl })
-    (λ _. by_cond (SameData s) (nat_lt s.next (length s.heaps)) _ _
-    (λ _. record { table = refl; heaps = refl; limit = refl }) (λ _. same)))
-    (λ _. record { table = refl; heaps = refl; limit = refl }))
+same_after s = by_turn (SameData s) s (λ _. same) (λ _. same) (λ at k. same) (λ _. same)
+  where
+    same : {members : List Member} {held : List Held} {gens : List Generator} {next : ℕ}
+        → SameData s
+        (record s { members = members; held = held; generators = gens; next = next })
+    same = record { table = refl; heaps = refl; limit = refl }
 
 pub same_turns : (n : ℕ) (s : State) → SameData s (turns n s)
 same_turns zero s = record { table = refl; heaps = refl; limit = refl }
@@ -32,10 +31,10 @@ steps_add m (suc n) p = let q : m + suc n ≡ suc (m + n) = omega arith in
     ap (λ k. steps k p) q ∙ ap step (steps_add m n p)
 
 pub step_stays : (p : ClosureView) → has_ended p.state ≡ true → step p ≡ p
-step_stays p e = if_true (has_ended p.state) p (moved p) e
+step_stays p e = cond-true (has_ended p.state) p (moved p) e
 
 pub step_moves : (p : ClosureView) → has_ended p.state ≡ false → moved p ≡ step p
-step_moves p e = sym (if_false (has_ended p.state) p (moved p) e)
+step_moves p e = sym (cond-false (has_ended p.state) p (moved p) e)
 
 steps_stay : (n : ℕ) (p : ClosureView) → has_ended p.state ≡ true → steps n p ≡ p
 steps_stay zero p e = refl
@@ -54,7 +53,7 @@ same_steps zero p = record { table = refl; heaps = refl; limit = refl }
 same_steps (suc n) p =
     let a = same_steps n p in
     let q = steps n p in
-    by_cond (λ z. SameData p.state z.state) (has_ended q.state) q (moved q) (λ _. a)
+    cond_both (has_ended q.state) q (moved q) (λ z. SameData p.state z.state) (λ _. a)
     (λ _. let b = same_after q.state in
     record { table = b.table ∙ a.table; heaps = b.heaps ∙ a.heaps; limit = b.limit ∙ a.limit })
 
@@ -63,7 +62,7 @@ pub state_steps : (n : ℕ) (p : ClosureView) → (steps n p).state ≡ turns n 
 state_steps zero p = refl
 state_steps (suc n) p =
     let q = steps n p in
-    by_cond (λ z. z.state ≡ turns (suc n) p.state) (has_ended q.state) q (moved q)
+    cond_both (has_ended q.state) q (moved q) (λ z. z.state ≡ turns (suc n) p.state)
     (λ e. sym (stays_put q.state e) ∙ ap turn (state_steps n p))
     (λ _. ap turn (state_steps n p))
 
@@ -73,13 +72,9 @@ OneMore s t = length t.members ≤ length s.members + 1
 
 few_after : (s : State) → OneMore s (turn s)
 few_after s =
-    by_cond (OneMore s) (is_over s) _ _ (λ _. omega arith) (λ _.
-    by_cond (OneMore s) (nat_lt 0 (length s.members)) _ _
-    (λ _. by_cond (OneMore s) (nat_lt (pending s) (length s.held)) _ _
-    (λ _. at_most (covered s.held (product_at s (pending s))) _)
-    (λ _. by_cond (OneMore s) (nat_lt s.next (length s.heaps)) _ _
-    (λ _. at_most (covered s.held (get_or s.heaps s.next one)) _) (λ _. omega arith)))
-    (λ _. at_most false _))
+    by_turn (OneMore s) s (λ _. omega arith) (λ _. at_most false _)
+    (λ at k. at_most (covered s.held (product_at s at)) _)
+    (λ _. at_most (covered s.held (get_or s.heaps s.next one)) _)
   where
     at_most : (b : Bool) (m : Member) → length (cond b s.members (s.members ++ m ∷ []))
         ≤ length s.members + 1
@@ -92,12 +87,6 @@ few_steps zero p = omega arith
 few_steps (suc n) p =
     let a = few_steps n p in
     let q = steps n p in
-    by_cond (λ z. length z.state.members ≤ length p.state.members + suc n) (has_ended q.state) q
-    (moved q) (λ _. omega arith) (λ _. let b = few_after q.state in omega arith)
-
-pub stopped_is : (p : ClosureView) → p.failed ≡ true → p ≡ stopped p
-stopped_is p e = ap (λ b. record { state = p.state; spent = p.spent; failed = b }) e
-
-pub next_steps : (n : ℕ) (p q t : ClosureView) → q ≡ steps n p → t ≡ step q → t ≡ steps (n + 1) p
-next_steps n p q t e f = let k : suc n ≡ n + 1 = omega arith in
-    f ∙ ap step e ∙ ap (λ j. steps j p) k
+    cond_both (has_ended q.state) q (moved q)
+    (λ z. length z.state.members ≤ length p.state.members + suc n) (λ _. omega arith)
+    (λ _. let b = few_after q.state in omega arith)

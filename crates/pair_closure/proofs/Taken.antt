@@ -2,24 +2,25 @@
 -- By cases: all units were spent, the call ended, or a growth was refused.
 use Rattle.std.proofs.Common.{◌≡◌, ℕ, zero, suc, ◌+◌, ◌<◌, ◌≤◌, ◌↔◌, Bool, true, false, length, refl, sym, ap, ◌∙◌, subst, inl, inr, arith, nat_lt, ltb-false, Result, Ok, Err, OnOk, OnErr, IsErr}
 use native.Mathlib.Decide.{dec_lt}
+use Rattle.std.proofs.lemmas.Bool.{cond_both, or_parts}
 use Rattle.pair_closure.specs.Turns.{SameData, has_ended}
 use Rattle.pair_closure.specs.ClosureViews.{ClosureView, moved, step, steps, stopped}
 use Rattle.pair_closure.specs.Calls.{Takes, Goes, Grows, ended, ended_or_kept}
 use Rattle.pair_closure.specs.Keeping.{KeepsOne, GrowsToMember}
-use Rattle.pair_closure.proofs.Lists.{by_cond, not_both}
-use Rattle.pair_closure.proofs.Running.{same_steps, few_steps, ended_steps, stopped_is}
-use Rattle.pair_closure.proofs.Calls.{or_false, goes_on, same_failed}
+use Rattle.pair_closure.proofs.Lists.{not_both}
+use Rattle.pair_closure.proofs.Running.{same_steps, few_steps, ended_steps}
+use Rattle.pair_closure.proofs.Calls.{goes_on, same_failed}
 use Rattle.pair_closure.proofs.Keeping.{keeps_after, keeps_one}
 
 -- the turns of a call, whether the next was refused or not
-pub record Went (ends : ClosureView → Bool) (units : ℕ) (p q : ClosureView) : Type 0 where
+record Went (ends : ClosureView → Bool) (units : ℕ) (p q : ClosureView) : Type 0 where
   pub turns : ℕ
   pub within : turns ≤ units
   pub state : q.state ≡ (steps turns p).state
   pub spent : q.spent ≡ p.spent + turns
   pub going : (n : ℕ) → n < turns → ends (steps n p) ≡ false
 
-pub went : (ends : ClosureView → Bool) (units : ℕ) (p q : ClosureView) → Goes ends units p q
+went : (ends : ClosureView → Bool) (units : ℕ) (p q : ClosureView) → Goes ends units p q
     → Went ends units p q
 went ends units p q (inl t) = record {
   turns = t.turns;
@@ -36,62 +37,52 @@ went ends units p q (inr t) = record {
   going = λ n l. t.going n (omega arith);
 }
 
-module _ (ends : ClosureView → Bool) (units : ℕ) (p q : ClosureView) (w : Went ends units p q) where
-  pub went_data : SameData p.state q.state
-  went_data = subst (SameData p.state) (sym w.state) (same_steps w.turns p)
+-- what a call answers, and what it comes to
+pub record Answered {X E : Type 0} (ends : ClosureView → Bool) (units : ℕ) (r : Result X E)
+    (p q : ClosureView) : Type 0 where
+  pub grows : Grows ends units r p q
+  pub refused : OnErr r ((n : ℕ) × (n ≤ units) × (q ≡ stopped (steps n p)))
+  pub same_data : SameData p.state q.state
+  pub few : length q.state.members ≤ length p.state.members + units
+  pub spent_range : (p.spent ≤ q.spent) × (q.spent ≤ p.spent + units)
+  pub costs : length p.state.members < length q.state.members → p.spent < q.spent
 
-  pub went_few : length q.state.members ≤ length p.state.members + units
-  went_few =
-      let l = w.within in
-      let h = few_steps w.turns p in
-      let e = ap (λ z. length z.members) w.state in
-      omega arith
-
-  pub went_spent : (p.spent ≤ q.spent) × (q.spent ≤ p.spent + units)
-  went_spent = let l = w.within in let e = w.spent in (omega arith, omega arith)
-
-  pub went_costs : length p.state.members < length q.state.members → p.spent < q.spent
-  went_costs l =
-      let e = w.spent in
-      elim (dec_lt 0 w.turns) [
-        | yes b ↦ omega arith
-        | no b ↦
-            let none : w.turns ≡ 0 = omega arith in
-            let same = ap (λ z. length z.members) (w.state ∙ ap (λ n. (steps n p).state) none) in
-            absurd (omega arith)
-      ]
-
--- ---- answers
-
-module _ {X E : Type 0} (ends : ClosureView → Bool) (units : ℕ) (p q : ClosureView) where
-  pub grows_of : (r : Result X E) → p.failed ≡ false → Goes ends units p q
-      → (IsErr r ↔ (q.failed ≡ true)) → Grows ends units r p q
-  grows_of (Ok x) f (inl t) h = (t, tt)
-  grows_of (Err x) f (inl t) h =
-      (tt, absurd (not_both (h.0 refl) (ap (λ z. z.failed) t.reached ∙ same_failed t.turns p ∙ f)))
-  grows_of (Ok x) f (inr t) h = let e = h.1 (ap (λ z. z.failed) t.reached) in absurd (cc)
-  grows_of (Err x) f (inr t) h = (tt, inr t)
-
-  pub refused_of : (r : Result X E) → Grows ends units r p q
-      → OnErr r ((n : ℕ) × (n ≤ units) × (q ≡ stopped (steps n p)))
-  refused_of (Ok x) g = tt
-  refused_of (Err e) g = elim g.1 [
-    | inl (f, same) ↦ (0, omega arith, same ∙ stopped_is p f)
-    | inr t ↦ (let l = t.within in (t.turns, omega arith, t.reached))
-  ]
+pub answers : {X E : Type 0} (ends : ClosureView → Bool) (units : ℕ) (p q : ClosureView)
+    (r : Result X E) → p.failed ≡ false → Goes ends units p q → (IsErr r ↔ (q.failed ≡ true))
+    → Answered ends units r p q
+answers {X = X} {E = E} ends units p q r f goes h =
+    let w = went ends units p q goes in
+    let within = w.within in
+    let spent = w.spent in
+    let kept = ap (λ z. length z.members) w.state in
+    let all = both r goes h in
+    record {
+      grows = all.0;
+      refused = all.1;
+      same_data = subst (SameData p.state) (sym w.state) (same_steps w.turns p);
+      few = (let few = few_steps w.turns p in omega arith);
+      spent_range = (omega arith, omega arith);
+      costs = λ l. let some : w.turns ≡ 0 → ⊥ = λ none.
+          let same = ap (λ n. length (steps n p).state.members) none in omega arith in omega arith;
+    }
+  where
+    both : (r : Result X E) → Goes ends units p q → (IsErr r ↔ (q.failed ≡ true))
+        → Grows ends units r p q × OnErr r ((n : ℕ) × (n ≤ units) × (q ≡ stopped (steps n p)))
+    both (Ok x) (inl t) h = ((t, tt), tt)
+    both (Err x) (inl t) h =
+        absurd (not_both (h.0 refl) (ap (λ z. z.failed) t.reached ∙ same_failed t.turns p ∙ f))
+    both (Ok x) (inr t) h = let e = h.1 (ap (λ z. z.failed) t.reached) in absurd (cc)
+    both (Err x) (inr t) h = let l = t.within in ((tt, inr t), (t.turns, omega arith, t.reached))
 
 -- all units were taken where a turn is left
-spent_of : (ends : ClosureView → Bool) (units : ℕ) (p q : ClosureView) → Takes ends units p q
-    → ends q ≡ false → q.spent ≡ p.spent + units
-spent_of ends units p q t h =
-    let l = t.within in
-    let e = t.spent in
-    elim (dec_lt t.turns units) [ yes b ↦ absurd (not_both (t.last b) h) | no b ↦ omega arith ]
-
 pub spent_by : {X E : Type 0} (ends : ClosureView → Bool) (units : ℕ) (p q : ClosureView) (r : Result X E)
     (x : X) → Grows ends units r p q → r ≡ Ok x → ends q ≡ false → q.spent ≡ p.spent + units
 spent_by ends units p q r x g e h =
-    spent_of ends units p q (subst (λ z. Grows ends units z p q) e g).0 h
+    let t = (rw e at g.0) in
+    let l = t.within in
+    let s = t.spent in
+    let all : t.turns < units → ⊥ = λ b. not_both (t.last b) h in
+    omega arith
 
 all_steps : (units : ℕ) (p q : ClosureView) → Takes ended units p q → q ≡ steps units p
 all_steps units p q t =
@@ -110,8 +101,8 @@ steps_of units p q (Err e) g = tt
 
 more_after : (p : ClosureView) → length p.state.members ≤ length (step p).state.members
 more_after p =
-    by_cond (λ z. length p.state.members ≤ length z.state.members) (has_ended p.state) p (moved p)
-    (λ _. omega arith) (λ _. (keeps_after p.state).few.0)
+    cond_both (has_ended p.state) p (moved p)
+    (λ z. length p.state.members ≤ length z.state.members) (λ _. omega arith) (λ _. (keeps_after p.state).few.0)
 
 pub more_after_step : (p q : ClosureView) → q ≡ step p
     → length p.state.members ≤ length q.state.members
@@ -126,15 +117,13 @@ none_kept : (p : ClosureView) (n : ℕ) → ended_or_kept p (steps n p) ≡ fals
     → length (steps n p).state.members ≡ length p.state.members
 none_kept p n e =
     let a = more_steps n p in
-    let b =
-    ltb-false _ _
-    (or_false (has_ended (steps n p).state)
-    (nat_lt (length p.state.members) (length (steps n p).state.members)) e).1 in
+    let b : length (steps n p).state.members ≤ length p.state.members =
+    ltb-false _ _ (or_parts _ _ e).1 in
     omega arith
 
-pub went_keeps : (units : ℕ) (p q : ClosureView) → Went (ended_or_kept p) units p q
+pub goes_keeps : (units : ℕ) (p q : ClosureView) → Goes (ended_or_kept p) units p q
     → KeepsOne p.state q.state
-went_keeps units p q w =
+goes_keeps units p q goes = let w = went (ended_or_kept p) units p q goes in
     subst (KeepsOne p.state) (sym w.state)
     (keeps_one p w.turns (λ n l. none_kept p n (w.going n l)))
 

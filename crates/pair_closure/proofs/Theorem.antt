@@ -4,16 +4,15 @@
 -- generators.
 use Rattle.std.proofs.Common.{◌≡◌, ℕ, zero, suc, ◌-◌, ◌<◌, ◌≤◌, true, List, [], ◌∷◌, length, get_or, refl, sym, ap, ◌∙◌, subst, inl, inr, arith}
 use Rattle.std.specs.List.{AllByRecursion}
+use Rattle.std.proofs.lemmas.List.Folds.{list_any_at}
 use Rattle.monoid_table.specs.Laws.{CommMonoidLaws}
 use Rattle.transition_algebra.specs.OverSets.{Pair}
 use Rattle.transition_algebra.specs.Pairs.{IsPair, one, times, covers}
 use Rattle.transition_algebra.specs.PairLaws.{pair_laws}
 use Rattle.pair_closure.specs.OverSets.{Member}
-use Rattle.pair_closure.specs.OverSets.{Held}
-use Rattle.pair_closure.specs.OverSets.{Generator}
 use Rattle.pair_closure.specs.Chains.{blank}
-use Rattle.pair_closure.specs.Turns.{State, covered, product_of_heaps, word_of}
-use Rattle.pair_closure.proofs.Lists.{In, find_any, any_from, In-at, place_of}
+use Rattle.pair_closure.specs.Turns.{State, blank_held, blank_generator, covered, product_of_heaps, word_of}
+use Rattle.pair_closure.proofs.Lists.{find_any}
 use Rattle.pair_closure.proofs.PairLaws.{covers_trans, covers_grows}
 use Rattle.pair_closure.proofs.Invariant.{Made, Holds, generator_in, made_in}
 use Rattle.pair_closure.proofs.Invariant.Made.{Empty, More}
@@ -31,10 +30,10 @@ module _ (s : State) (v : Holds s) where
   abbrev cov : Pair → Type 0
   cov y = covered s.held y ≡ true
 
-  cov_trans : (x y : Pair) → cov x → covers x y ≡ true → cov y
+  pub cov_trans : (x y : Pair) → cov x → covers x y ≡ true → cov y
   cov_trans x y c k =
-      let (m, i, d) = find_any (λ m. covers m.pair x) s.held c in
-      any_from (λ m. covers m.pair y) s.held m i (covers_trans _ x y d k)
+      let (i, l, d) = find_any (λ m. covers m.pair x) s.held blank_held c in
+      list_any_at (λ m. covers m.pair y) s.held i blank_held l (covers_trans _ x y d k)
 
   grows : (x y z : Pair) → IsIn x → IsIn y → IsIn z → covers x y ≡ true
       → covers (dot x z) (dot y z) ≡ true
@@ -47,42 +46,40 @@ module _ (s : State) (v : Holds s) where
   product w = product_of_heaps s.table s.heaps w
 
   heap_in : (h : ℕ) → (1 ≤ h) × (h ≤ length s.heaps) → IsIn (get_or s.heaps (h - 1) one)
-  heap_in h (a, b) = v.heaps_in _ (In-at s.heaps (h - 1) one (omega arith))
+  heap_in h (a, b) = v.heaps_in (h - 1) one (omega arith)
 
   pub word_in : (w : List ℕ) → IsWord w → IsIn (product w)
   word_in [] p = laws.one_in
   word_in (h ∷ w) p = laws.times_in _ _ (heap_in h p.0) (word_in w p.1)
 
-  module _ (finished : (m : Held) → In m s.held → length s.generators ≤ m.by)
-      (all_heaps : length s.heaps ≤ s.next) where
+  module _ (finished : (k : ℕ) → k < length s.held
+      → length s.generators ≤ (get_or s.held k blank_held).by) (all_heaps : length s.heaps ≤ s.next) where
     -- products by x keep what is covered covered
     abbrev Good : Pair → Type 0
     Good x = (y : Pair) → IsIn y → cov y → cov (dot y x)
 
-    generator_good : (g : Generator) → In g s.generators → Good g.pair
-    generator_good g i y hy c =
-        let (m, k, d) = find_any (λ m. covers m.pair y) s.held c in
-        let hm = v.held_in m k in
-        let hg = generator_in s v g i in
-        cov_trans (dot m.pair g.pair) (dot y g.pair)
-        (elim (v.products m k) [
+    generator_good : (j : ℕ) → j < length s.generators
+        → Good (get_or s.generators j blank_generator).pair
+    generator_good j l y hy c =
+        let (k, i, d) = find_any (λ m. covers m.pair y) s.held blank_held c in
+        let g = get_or s.generators j blank_generator in
+        let hg = generator_in s v j blank_generator l in
+        cov_trans (dot (get_or s.held k blank_held).pair g.pair) (dot y g.pair)
+        (elim (v.products k blank_held i) [
           | inl e ↦ subst cov (sym (ap (λ z. dot z g.pair) e ∙ laws.identity _ hg))
-              (v.gens_held g i)
-          | inr (b, all) ↦
-              let (j, l, at) = place_of s.generators g i in
-              let f = finished m k in
-              subst (λ z. cov (dot m.pair z.pair)) (at _) (all j (omega arith))
+              (v.gens_held j blank_generator l)
+          | inr (b, all) ↦ let f = finished k i in all j (omega arith)
         ])
-        (grows _ _ _ hm hy hg d)
+        (grows _ _ _ (v.held_in k blank_held i) hy hg d)
 
     made_good : {x : Pair} → Made s.table s.generators x → Good x
     made_good (Empty e) y hy c =
         subst cov (sym (ap (dot y) e ∙ laws.comm _ _ hy laws.one_in ∙ laws.identity y hy)) c
-    made_good (More g w i e) y hy c =
+    made_good (More j l w e) y hy c =
         let hx = made_in s v w in
-        let hg = generator_in s v g i in
+        let hg = generator_in s v j blank_generator l in
         subst cov (sym (ap (dot y) e ∙ sym (laws.assoc y _ _ hy hx hg)))
-        (generator_good g i (dot y _) (laws.times_in _ _ hy hx) (made_good w y hy c))
+        (generator_good j l (dot y _) (laws.times_in _ _ hy hx) (made_good w y hy c))
 
     heap_good : (h : ℕ) → (1 ≤ h) × (h ≤ length s.heaps) → Good (get_or s.heaps (h - 1) one)
     heap_good h (a, b) y hy c =

@@ -1,7 +1,8 @@
 -- What each kind of turn reads, and what it leaves.
 -- The empty position, a product and a heap, one after another.
 use Rattle.std.proofs.Common.{◌≡◌, ℕ, ◌+◌, ◌<◌, ◌≤◌, Bool, true, false, cond, List, [], ◌∷◌, length, get_or, set, refl, sym, ap, ap₂, ◌∙◌, subst, inl, inr, arith}
-use Rattle.std.proofs.lemmas.List.{length-append}
+use Rattle.std.proofs.lemmas.Bool.{cond-true, cond-false}
+use Rattle.std.proofs.lemmas.List.{get_or_default, length-append}
 use Rattle.transition_algebra.specs.OverSets.{Pair}
 use Rattle.transition_algebra.specs.Pairs.{IsPair, one, times}
 use Rattle.pair_closure.specs.OverSets.{Member}
@@ -9,10 +10,8 @@ use Rattle.pair_closure.specs.OverSets.{Held}
 use Rattle.pair_closure.specs.OverSets.{Generator}
 use Rattle.pair_closure.specs.Turns.{State, KeepsNext, turn, covered, members_with, held_with, members_after, held_after, generators_with, multiplied, blank_held, blank_generator, NoneBefore, KeepsEmpty, Multiplies, TriesHeap}
 use Rattle.pair_closure.specs.ClosureViews.{ClosureView, IsRun}
-use Rattle.pair_closure.proofs.ChainLaws.{same_default}
-use Rattle.pair_closure.proofs.Lists.{if_false}
-use Rattle.pair_closure.proofs.WhichTurn.{turn_empty, turn_product, turn_heap, goes_empty, goes_product, goes_heap}
-use Rattle.pair_closure.proofs.Machine.{Reached, of_run, held_in, generator_in, kept_by_turns, has_turns, none_before}
+use Rattle.pair_closure.proofs.WhichTurn.{turn_empty, turn_product, turn_heap, goes_empty, goes_product, goes_heap, has_turns, none_before}
+use Rattle.pair_closure.proofs.Machine.{Reached, of_run, held_in, generator_in, kept_by_turns}
 use Rattle.pair_closure.proofs.Runs.{next_run}
 
 -- the state with other lists
@@ -75,12 +74,14 @@ empty_keeps s k =
     omega arith
 
 -- x is a member more where none that is held covers it
-more_members : (members : List Member) (held : List Held) (x : Pair) (parent heap : ℕ)
-    → covered held x ≡ false
-    → length (members_after members held x parent heap) ≡ length members + 1
-more_members members held x parent heap e =
-    ap length (if_false (covered held x) members (members_with members x parent heap) e)
-    ∙ length-append members (record { pair = x; parent = parent; heap = heap } ∷ [])
+more_members : (s : State) (x : Pair) (parent heap : ℕ) → covered s.held x ≡ false
+    → (turn s).members ≡ members_after s.members s.held x parent heap → KeepsNext s
+more_members s x parent heap none e =
+    let kept =
+    ap length (e ∙ cond-false (covered s.held x) s.members (members_with s.members x parent heap) none)
+    in
+    let more = length-append s.members (record { pair = x; parent = parent; heap = heap } ∷ []) in
+    omega arith
 
 -- what a product's turn was given and what it wrote
 pub record Product (s : State) (members : List Member) (held : List Held) (at : ℕ) (m : Held)
@@ -97,31 +98,20 @@ pub product_turned : (s : State) (members : List Member) (held : List Held) (at 
     → with s members held s.generators s.next ≡ turn s
 product_turned s members held at m g x w =
     let k = w.turns in
-    let l = read_by s at m k w.member in
-    let same_member : m ≡ get_or s.held at blank_held =
-    w.member ∙ same_default s.held at m blank_held k.within in
-    let same_generator : g ≡ get_or s.generators m.by blank_generator =
-    w.generator ∙ same_default s.generators m.by g blank_generator l in
-    ap₂ (λ e h. with s e h s.generators s.next) w.members_are w.held_are
-    ∙ ap (state_of m g) w.product
-    ∙ ap (λ z. state_of m z (times s.table m.pair z.pair)) same_generator
-    ∙ ap (λ z. state_of z (get_or s.generators z.by blank_generator)
-    (times s.table z.pair (get_or s.generators z.by blank_generator).pair)) same_member
-    ∙ sym (turn_product s at k)
-  where
-    state_of : Held → Generator → Pair → State
-    state_of m g x =
-        with s (members_after s.members s.held x m.place g.heap)
-        (held_after s.held (set s.held at (multiplied m)) x (length s.members)) s.generators s.next
+    let same_member = w.member ∙ get_or_default s.held at m blank_held k.within in
+    let same_generator =
+    w.generator ∙ get_or_default s.generators m.by g blank_generator (read_by s at m k w.member) in
+    cc (w.members_are, w.held_are, w.product, same_generator, same_member, turn_product s at k)
 
 -- a product that none held covers is kept
 pub product_keeps : (s : State) (at : ℕ) (m : Held) (g : Generator) (x : Pair) → Multiplies s at
     → m ≡ get_or s.held at m → g ≡ get_or s.generators m.by g → x ≡ times s.table m.pair g.pair
     → covered s.held x ≡ false → KeepsNext s
 product_keeps s at m g x k a b p e =
-    let same =
-    product_turned s (members_after s.members s.held x m.place g.heap)
-    (held_after s.held (set s.held at (multiplied m)) x (length s.members)) at m g x
+    more_members s x m.place g.heap e
+    (sym (ap (λ z. z.members)
+    (product_turned s _ (held_after s.held (set s.held at (multiplied m)) x (length s.members)) at m
+    g x
     (record {
       turns = k;
       member = a;
@@ -129,10 +119,7 @@ product_keeps s at m g x k a b p e =
       product = p;
       members_are = refl;
       held_are = refl;
-    }) in
-    let kept = ap (λ z. length z.members) same in
-    let more = more_members s.members s.held x m.place g.heap e in
-    omega arith
+    }))))
 
 pub product_next : (p : ClosureView) (members : List Member) (held : List Held) (at : ℕ) (m : Held)
     (g : Generator) (x : Pair) (anew : Bool) (from : ℕ) → IsRun p
@@ -151,9 +138,8 @@ product_next p members held at m g x anew from r w before e = (
         → get_or held k blank_held ≡ get_or p.state.held k blank_held) → from ≡ cond b 0 at
         → NoneBefore held (length p.state.generators) from
     none true h e k l1 l2 = absurd (omega arith)
-    none false h e k l1 l2 =
-        let first = w.turns.first in
-        subst (λ z. length p.state.generators ≤ z.by) (sym (h refl k (omega arith)))
+    none false h e k l1 l2 = let first = w.turns.first in
+        rw (h refl k (omega arith))
         (none_before p.state.held (length p.state.generators) k blank_held (omega arith))
 
 -- what a heap's turn was given and what it wrote
@@ -171,22 +157,16 @@ pub heap_turned : (s : State) (members : List Member) (held : List Held) (gens :
     (n : ℕ) (x : Pair) → Tried s members held gens n x → with s members held gens n ≡ turn s
 heap_turned s members held gens n x w =
     let k = w.turns in
-    let same : x ≡ get_or s.heaps s.next one = w.heap ∙ same_default s.heaps s.next x one k.more in
-    ap₂ (λ e h. with s e h gens n) w.members_are w.held_are
-    ∙ ap (λ z. with s (members_after s.members s.held x 0 n)
-    (held_after s.held s.held x (length s.members)) z n) w.generators_are
-    ∙ ap₂ (λ z k. with s (members_after s.members s.held z 0 k)
-    (held_after s.held s.held z (length s.members))
-    (cond (covered s.held z) s.generators (generators_with s.generators z k)) k) same w.number
-    ∙ sym (turn_heap s k)
+    let same = w.heap ∙ get_or_default s.heaps s.next x one k.more in
+    cc (w.members_are, w.held_are, w.generators_are, same, w.number, turn_heap s k)
 
 -- a heap's pair that none held covers is kept
 pub heap_keeps : (s : State) (x : Pair) → TriesHeap s → x ≡ get_or s.heaps s.next x
     → covered s.held x ≡ false → KeepsNext s
 heap_keeps s x k a e =
-    let same =
-    heap_turned s (members_after s.members s.held x 0 (s.next + 1))
-    (held_after s.held s.held x (length s.members))
+    more_members s x 0 (s.next + 1) e
+    (sym (ap (λ z. z.members)
+    (heap_turned s _ (held_after s.held s.held x (length s.members))
     (cond (covered s.held x) s.generators (generators_with s.generators x (s.next + 1)))
     (s.next + 1) x
     (record {
@@ -196,10 +176,7 @@ heap_keeps s x k a e =
       members_are = refl;
       held_are = refl;
       generators_are = refl;
-    }) in
-    let kept = ap (λ z. length z.members) same in
-    let more = more_members s.members s.held x 0 (s.next + 1) e in
-    omega arith
+    }))))
 
 pub heap_next : (p : ClosureView) (members : List Member) (held : List Held) (gens : List Generator)
     (n : ℕ) (x : Pair) (anew : Bool) (from : ℕ) → IsRun p → Tried p.state members held gens n x
@@ -215,15 +192,11 @@ heap_next p members held gens n x anew from r w kept e = (
     none true h e k l1 l2 = absurd (omega arith)
     none false h e k l1 l2 =
         let c = h refl in
-        let same_held : held ≡ p.state.held =
-        w.held_are
-        ∙ ap (λ b. cond b p.state.held (held_with p.state.held x (length p.state.members) 0)) c
-        in
-        let same_gens : gens ≡ p.state.generators =
-        w.generators_are
-        ∙ ap (λ b. cond b p.state.generators (generators_with p.state.generators x n)) c in
         let all = w.turns.all in
-        let inside : k < length p.state.held = subst (λ z. k < length z) same_held l2 in
-        subst (λ z. length z ≤ (get_or held k blank_held).by) (sym same_gens)
-        (subst (λ z. length p.state.generators ≤ (get_or z k blank_held).by) (sym same_held)
-        (none_before p.state.held (length p.state.generators) k blank_held (omega arith)))
+        let held_same : held ≡ p.state.held =
+        w.held_are ∙ cond-true (covered p.state.held x) p.state.held _ c in
+        let gens_same : gens ≡ p.state.generators =
+        w.generators_are ∙ cond-true (covered p.state.held x) p.state.generators _ c in
+        let inside : k < length p.state.held = rw held_same at l2 in
+        rw (held_same, gens_same)
+        (none_before p.state.held (length p.state.generators) k blank_held (omega arith))

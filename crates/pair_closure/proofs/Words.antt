@@ -3,7 +3,7 @@
 use Rattle.std.proofs.Common.{◌≡◌, ℕ, zero, suc, ◌^◌, ◌<◌, ◌≤◌, List, [], ◌∷◌, ◌++◌, length, get_or, refl, sym, ap, ◌∙◌, subst, inl, inr, arith, Contains}
 use Rattle.std.specs.List.Sorted.{IsNonDecreasing, IsPermutation}
 use Rattle.std.proofs.lemmas.List.Sorted.{length_permutation, IsPermutation-refl, IsPermutation-append_left, IsPermutation-middle, IsPermutation-trans}
-use Rattle.std.proofs.lemmas.List.{length-append}
+use Rattle.std.proofs.lemmas.List.{append-nil, length-append}
 use Rattle.misere_theory.specs.Games.{IsHeapUpTo, IsPosition}
 use Rattle.misere_theory.specs.Quotients.{Claim, Monoid, GivesElements}
 use Rattle.misere_theory.specs.Pairs as theory
@@ -15,9 +15,9 @@ use Rattle.pair_closure.specs.OverSets.{Member}
 use Rattle.pair_closure.specs.OverSets.{Held}
 use Rattle.pair_closure.specs.Turns.{State, blank_held}
 use Rattle.pair_closure.specs.Positions.{word, as_pair, IsWordOf}
-use Rattle.pair_closure.proofs.Lists.{In-at, In-Contains}
+use Rattle.std.proofs.lemmas.List.Elements.{Contains-get_or}
 use Rattle.pair_closure.proofs.Theorem as reached
-use Rattle.pair_closure.proofs.Machine.{Reached, kept_by_turns, place_in}
+use Rattle.pair_closure.proofs.Machine.{Reached, member_holds, place_in}
 use Rattle.pair_closure.proofs.Positions.{shows}
 use Rattle.pair_closure.proofs.Rising.{one_rises}
 
@@ -50,10 +50,7 @@ pair_shuffled B code c m phi_in p X Y inside s e = record {
 
 word_within : (s : State) → Reached s → (i : ℕ) → i < length s.members
     → IsPosition (IsHeapUpTo (length s.heaps)) (word s i)
-word_within s r i l = elim (kept_by_turns s r) [
-  | inl e ↦ absurd (let none = ap (λ z. length z.members) e in omega arith)
-  | inr v ↦ (reached.word_is s v i i (omega arith) l).0
-]
+word_within s r i l = (reached.word_is s (member_holds s r i l) i i (omega arith) l).0
 
 -- a word is its last heap and the word of the member before
 pub record Unfolds (s : State) (at : ℕ) : Type 0 where
@@ -63,20 +60,18 @@ pub record Unfolds (s : State) (at : ℕ) : Type 0 where
 
 pub unfolds : (s : State) → Reached s → (at : ℕ) → 0 < at → at < length s.members → Unfolds s at
 unfolds s r zero some l = absurd (omega arith)
-unfolds s r (suc k) some l = elim (kept_by_turns s r) [
-  | inl e ↦ absurd (let none = ap (λ z. length z.members) e in omega arith)
-  | inr v ↦
-      let step = v.steps (suc k) some l in
-      let before = step.earlier in
-      let same =
-      reached.word_bound s v k (get_or s.members (suc k) blank).parent
-      (get_or s.members (suc k) blank).parent (omega arith) (omega arith) (omega arith) in
-      record {
-        is = ap (λ w. (get_or s.members (suc k) blank).heap ∷ w) same;
-        earlier = before;
-        heap = step.heap;
-      }
-]
+unfolds s r (suc k) some l =
+    let v = member_holds s r (suc k) l in
+    let m = get_or s.members (suc k) blank in
+    let step = v.steps (suc k) some l in
+    let before = step.earlier in
+    record {
+      is =
+          ap (λ w. m.heap ∷ w)
+          (reached.word_bound s v k m.parent m.parent (omega arith) (omega arith) (omega arith));
+      earlier = before;
+      heap = step.heap;
+    }
 
 -- the heaps read so far, and the word of the member that is next
 pub record Walking (s : State) (place at : ℕ) (heaps : List ℕ) : Type 0 where
@@ -131,17 +126,13 @@ walk_room s r place at heaps w some =
     let same = length_permutation _ _ w.rest in
     omega arith
 
-no_more : (heaps : List ℕ) → heaps ++ [] ≡ heaps
-no_more [] = refl
-no_more (x ∷ xs) = ap (λ ys. x ∷ ys) (no_more xs)
-
 pub walk_ends : (s : State) → Reached s → (m : Held) (i : ℕ) (at : ℕ) (heaps : List ℕ)
     → i < length s.held → m ≡ get_or s.held i blank_held → Walking s m.place at heaps → at ≤ 0
     → IsNonDecreasing heaps → IsWordOf s m heaps
 walk_ends s r m i at heaps l e w last rise =
     let none : at ≡ 0 = omega arith in
     let same : IsPermutation (word s m.place) heaps =
-    subst (IsPermutation (word s m.place)) (no_more heaps)
+    subst (IsPermutation (word s m.place)) (append-nil heaps)
     (subst (λ z. IsPermutation (word s m.place) (heaps ++ word s z)) none w.rest) in
     let inside : m.place < length s.members =
     subst (λ z. z.place < length s.members) (sym e) (place_in s r i blank_held l) in
@@ -155,7 +146,7 @@ walk_ends s r m i at heaps l e w last rise =
           let says = shows s r code c g in
           let held =
           says.held m
-          (subst (Contains s.held) (sym e) (In-Contains _ _ (In-at s.held i blank_held l))) in
+          (subst (Contains s.held) (sym e) (Contains-get_or s.held i blank_held l)) in
           pair_shuffled (length s.heaps) code c g.monoid g.elements (as_pair m.pair)
           (word s m.place) heaps (says.positions m.place inside) shuffled
           (subst (λ p. theory.IsPairOf code c (as_pair p) (word s m.place)) held.1

@@ -3,10 +3,11 @@ use Rattle.std.proofs.Common.{◌≡◌, ◌≤◌, length, sym, subst, ℕ, Boo
 use Rattle.misere_theory.specs.Certificates.{Certificate}
 use Rattle.positions.specs.Text.{IsTextOf}
 use Rattle.check_command.specs.Checks.{Finds, Checks}
-use Rattle.play_command.specs.Many.{AnswersLines, PlaysLines}
+use Rattle.command_results.specs.Lines.{AnswersLines}
+use Rattle.command_results.specs.declared.lines.TheConstants.{LARGEST_INPUT}
+use Rattle.play_command.specs.Many.{AnswersLine, PlaysLines}
 use Rattle.play_command.specs.Many.PlaysLines.{Quotient, NoQuotient}
 use Rattle.play_command.specs.Plays.{Plays, PlaysFound}
-use Rattle.play_command.specs.declared.many.TheConstants.{LARGEST_INPUT}
 
 pub plays_found : {A : Type 0} (Are : List ℕ → Type 0) (limit : ℕ) (position : List ℕ)
     (q : Result Certificate (Vec ℕ A)) (X text : List ℕ) (succeeds : Bool)
@@ -22,11 +23,11 @@ pub plays_quotient : {A : Type 0} (Are AreLines : List ℕ → Type 0) (limit : 
     (q : Result Certificate (Vec ℕ A)) (c : Certificate) (lines read text : List ℕ)
     (succeeds : Bool)
     → Finds Are limit q → q ≡ Ok c → AreLines lines → length lines ≤ LARGEST_INPUT → read ≡ lines
-    → AnswersLines c read text succeeds → PlaysLines Are limit AreLines text succeeds
+    → AnswersLines (AnswersLine c) read text succeeds → PlaysLines Are limit AreLines text succeeds
 plays_quotient {A = A} Are AreLines limit q c lines read text succeeds found is given few same says =
     Quotient c lines (subst (λ (r : Result Certificate (Vec ℕ A)). Finds Are limit r) is found) given
     few
-    (subst (λ (l : List ℕ). AnswersLines c l text succeeds) same says)
+    (subst (λ (l : List ℕ). AnswersLines (AnswersLine c) l text succeeds) same says)
 
 pub plays_no : {A : Type 0} (Are AreLines : List ℕ → Type 0) (limit : ℕ)
     (q : Result Certificate (Vec ℕ A)) (said : Vec ℕ A) (text : List ℕ) (succeeds : Bool)

@@ -1,21 +1,17 @@
 -- What is said in the positions of many lines, by the quotient that a file certifies, and why
 -- nothing is. This project's own.
-use Rattle.std.specs.Prelude.{◌≡◌, ◌≢◌, ◌<◌, ◌≤◌, ◌⊎◌, ◌&&◌, ℕ, Bool, true, false, List, [], ◌∷◌, ◌++◌, Option, Some, None, All, codes, length}
+use Rattle.std.specs.Prelude.{◌≡◌, ◌≤◌, ◌⊎◌, ℕ, Bool, false, List, Option, Some, None, length}
 use Rattle.misere_theory.specs.Certificates.{Certificate}
 use Rattle.positions.specs.Text.{IsTextOf}
 use Rattle.check_command.specs.Checks.{AreGiven, Certifies, Checks, Failed}
+use Rattle.command_results.specs.Lines.{AnswersLines, IsLinesCause}
 use Rattle.command_results.specs.Stops.{IsFileCause}
+use Rattle.command_results.specs.declared.lines.TheConstants.{LARGEST_INPUT}
 use Rattle.command_results.specs.declared.stop.Stop.{Stop}
-use Rattle.command_results.specs.declared.stop.Stop.TheVariants.{Read, Memory}
 use Rattle.play_command.specs.Lines.{no_position_line}
 use Rattle.play_command.specs.Plays.{IsNoPosition, PlaysIn}
-use Rattle.play_command.specs.declared.many.TheConstants.{LARGEST_INPUT}
 
 -- ---- what is given
-
--- these are the lines: what is left of standard input, where that is known
-abbrev pub AreLinesOf : Option (List ℕ) → List ℕ → Type 0
-AreLinesOf left = AreGiven left None None
 
 -- these are the bytes of a certificate: what the file of this name holds, where that is known
 abbrev pub AreFileOf : Option (List ℕ → Option (List ℕ)) → List ℕ → List ℕ → Type 0
@@ -31,43 +27,17 @@ pub data AnswersLine (c : Certificate) (line text : List ℕ) (succeeds : Bool) 
   NoPosition : IsNoPosition line → text ≡ no_position_line → succeeds ≡ false
       → AnswersLine c line text succeeds
 
--- The bytes begin with this line: an LF ends it, and the rest stands behind that; or it is all of
--- them, and no LF stands in them.
-abbrev pub IsFirstLine : (bytes line rest : List ℕ) → Type 0
-IsFirstLine bytes line rest =
-    All (λ b. b ≢ 10) line × ((bytes ≡ line ++ 10 ∷ rest) ⊎ ((bytes ≡ line) × (rest ≡ [])))
-
--- What is said of each line, one behind the other, and whether each has an answer.
-pub data AnswersLines (c : Certificate) : (bytes text : List ℕ) → Bool → Type 0 where
-  NoLine : AnswersLines c [] [] true
-  Line : {bytes rest said text : List ℕ} {answered all : Bool} (line : List ℕ) → bytes ≢ []
-      → IsFirstLine bytes line rest → AnswersLine c line said answered
-      → AnswersLines c rest text all
-      → AnswersLines c bytes (said ++ text) (answered && all)
-
 -- What is said of the lines that are given, by the quotient that such bytes certify under the
 -- limit; or that of a true no, whatever the lines are.
 pub data PlaysLines (Are : List ℕ → Type 0) (limit : ℕ) (AreLines : List ℕ → Type 0)
     (text : List ℕ) (succeeds : Bool) : Type 0 where
   Quotient : (c : Certificate) (lines : List ℕ) → Certifies Are limit c → AreLines lines
-      → length lines ≤ LARGEST_INPUT → AnswersLines c lines text succeeds
+      → length lines ≤ LARGEST_INPUT → AnswersLines (AnswersLine c) lines text succeeds
       → PlaysLines Are limit AreLines text succeeds
   NoQuotient : Checks Are limit text false → succeeds ≡ false
       → PlaysLines Are limit AreLines text succeeds
 
 -- ---- why nothing is said
-
--- there are more bytes than are read of lines
-abbrev pub IsTooLong : (List ℕ → Type 0) → Type 0
-IsTooLong AreLines = (lines : List ℕ) × AreLines lines × (LARGEST_INPUT < length lines)
-
--- a read of standard input failed, or there is too much of it; or no read failed and memory was
--- wanting
-abbrev pub IsLinesCause : (List ℕ → Type 0) → ℕ → ℕ → Stop → Type 0
-IsLinesCause AreLines before after (Read name) =
-    (name.now ≡ codes "standard input") × ((before < after) ⊎ IsTooLong AreLines)
-IsLinesCause AreLines before after Memory = after ≡ before
-IsLinesCause AreLines before after _ = ⊥
 
 -- the certificate isn't read, for its own cause; or it is, and the lines aren't
 abbrev pub IsPlayLinesCause : List ℕ → (List ℕ → Type 0) → Failed → Failed → Stop → Type 0

@@ -6,5 +6,5 @@ mod many;
 mod playing;
 
 pub use lines::answer_text;
-pub use many::{LARGEST_INPUT, play_lines};
+pub use many::play_lines;
 pub use playing::play;

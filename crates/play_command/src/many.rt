@@ -1,20 +1,18 @@
 //! The answers in the positions of many lines.
-ghost use Rattle.std.specs.Prelude.{◌≡◌, ◌≤◌, false, IfOk, IfErr, vec_len};
+ghost use Rattle.std.specs.Prelude.{◌≡◌, false, IfOk, IfErr};
 ghost use Rattle.check_command.specs.Checks.{failed};
+ghost use Rattle.command_results.specs.Lines.{AnswersLines, AreLinesOf};
 ghost use Rattle.play_command.specs.Lines.{no_position_line};
-ghost use Rattle.play_command.specs.Many.{AnswersLine, AnswersLines, AreFileOf, AreLinesOf, IsFirstLine, IsLinesCause, IsPlayLinesCause, PlaysLines};
+ghost use Rattle.play_command.specs.Many.{AnswersLine, AreFileOf, IsPlayLinesCause, PlaysLines};
 
 use crate::playing::played;
 use answers::Certified;
 use check_command::certified;
-use command_results::{Said, Stop};
+use command_results::{Said, Stop, first_line, input_lines};
 use folders::Folder;
 use positions::{Position, PositionFault};
 use std::alloc::{AllocError, Global};
-use streams::{Source, StreamFault, read_whole};
-
-/// The most bytes of positions on standard input: 4 MiB.
-pub const LARGEST_INPUT: usize = 4194304;
+use streams::Source;
 
 /// That a line is no position.
 fn no_position(alloc: Global) -> Result<Said, AllocError>
@@ -38,19 +36,9 @@ fn line_answer(alloc: Global, certified: &Certified, line: &[u8]) -> Result<Said
     }
 }
 
-/// The bytes up to the first LF, and those behind it; all of them and none where there is no LF.
-fn first_line(bytes: &[u8]) -> (&[u8], &[u8])
-    ensures { IsFirstLine bytes.now result.0.now result.1.now }
-{
-    match bytes.iter().position(|b| *b == b'\n') {
-        Some(end) => (&bytes[..end], &bytes[end + 1..]),
-        None => (bytes, &[]),
-    }
-}
-
 /// What is said of each line, one behind the other; it ends well where each line has an answer.
 fn lines_answers(alloc: Global, certified: &Certified, lines: &[u8]) -> Result<Said, AllocError>
-    ensures { IfOk result (λ s. AnswersLines certified.now lines.now s.text.items s.succeeds) }
+    ensures { IfOk result (λ s. AnswersLines (AnswersLine certified.now) lines.now s.text.items s.succeeds) }
 {
     let mut text = Vec::new(alloc);
     let mut succeeds = true;
@@ -63,27 +51,6 @@ fn lines_answers(alloc: Global, certified: &Certified, lines: &[u8]) -> Result<S
         rest = behind;
     }
     Ok(Said { text, succeeds })
-}
-
-/// All that is left of standard input, which is at most [`LARGEST_INPUT`] bytes: more can't be read.
-fn input_lines<S: Source>(alloc: Global, input: &mut S) -> Result<Vec<u8>, Stop<'static>>
-    ensures bytes { IfOk result (λ v. AreLinesOf (S.left input.old) v.items) }
-    ensures bound { IfOk result (λ v. vec_len v ≤ LARGEST_INPUT) }
-    ensures succeeds { IfOk result (λ _. S.failures input.new ≡ S.failures input.old) }
-    ensures stops { IfErr result (IsLinesCause (AreLinesOf (S.left input.old))
-        (S.failures input.old) (S.failures input.new)) }
-{
-    match read_whole(alloc, input, LARGEST_INPUT) {
-        Ok(bytes) => {
-            if bytes.len() <= LARGEST_INPUT {
-                Ok(bytes)
-            } else {
-                Err(Stop::Read("standard input"))
-            }
-        }
-        Err(StreamFault::Read) => Err(Stop::Read("standard input")),
-        Err(StreamFault::Write | StreamFault::Memory) => Err(Stop::Memory),
-    }
 }
 
 /// Answers in the position of each line of standard input by the quotient that the file certifies

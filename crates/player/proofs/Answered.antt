@@ -76,11 +76,7 @@ pub not_p_here : (c : Certificate) → Accepted c → (X : List ℕ) → IsPosit
     → (v : ℕ) (b : Bool) → v ≡ value (claim_of c) X → b ≡ (claim_of c).portion v → b ≡ false
     → IsP c.code X → ⊥
 not_p_here c yes_to X position v b e f out p =
-    clash b (f ∙ ap (claim_of c).portion e ∙ (yes_to.represents.predicts X position).0 p) out
-  where
-    clash : (b : Bool) → b ≡ true → b ≡ false → ⊥
-    clash true p q = cc
-    clash false p q = cc
+    let here = f ∙ ap (claim_of c).portion e ∙ (yes_to.represents.predicts X position).0 p in cc
 
 pub n_here : (c : Certificate) → Accepted c → (X : List ℕ) → IsPosition (IsHeapOf c) X
     → (v : ℕ) (b : Bool) → v ≡ value (claim_of c) X → b ≡ (claim_of c).portion v → b ≡ false

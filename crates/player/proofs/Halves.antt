@@ -1,9 +1,9 @@
 -- Winning moves of the heaps from one place to before another, by the value of the heaps beside
 -- them.
-use Rattle.std.proofs.Common.{◌≡◌, ℕ, ◌+◌, ◌-◌, ◌<◌, ◌≤◌, List, [], ◌++◌, length, get_or, append_assoc, sym, ◌∙◌, ap, ap₂, subst, arith}
+use Rattle.std.proofs.Common.{◌≡◌, ℕ, ◌+◌, ◌-◌, ◌/◌, ◌<◌, ◌≤◌, List, ◌++◌, length, get_or, append_assoc, sym, ◌∙◌, ap, ap₂, subst, arith}
 use Rattle.std.specs.Prelude.{take, drop}
 use Rattle.std.specs.List.Sorted.{IsNonDecreasing}
-use Rattle.std.proofs.Math.Seq.{drop-length, take-add}
+use Rattle.std.proofs.Math.Seq.{take-add}
 use Rattle.std.proofs.lemmas.List.{drop-drop, take-append-drop}
 use native.Mathlib.Decide.{dec_lt}
 use Rattle.misere_theory.specs.Certificates.{Certificate, IsHeapOf, Accepted, claim_of}
@@ -64,10 +64,9 @@ module _ (c : Certificate) (yes_to : Accepted c) where
         ∙ ap (value C) (sym (append_assoc (take from X) M (drop to X))
         ∙ ap (λ Z. Z ++ drop to X) joined)))
 
--- beside all heaps stands none
-pub none_beside : (c : Claim) (X : List ℕ) (y : ℕ) → y ≡ value c []
-    → y ≡ value c (other_heaps X 0 (length X))
-none_beside c X y e = e ∙ ap (value c) (sym (drop-length X))
+pub halves : (from to : ℕ) → from < to → (from + 1 ≡ to → ⊥)
+    → (from < from + (to - from) / 2) × (from + (to - from) / 2 < to)
+halves from to some n = (omega arith, omega arith)
 
 -- where the last heap is as large as one that was tried, all between are
 pub none_of_equal : (code X : List ℕ) → IsNonDecreasing X → (from to : ℕ) → 0 < from → from < to

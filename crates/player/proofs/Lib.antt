@@ -2,7 +2,7 @@ mod Rests
 mod Order
 mod Others
 mod Halves
-mod Answered
+pub mod Answered
 mod Few
 mod Inside
 mod OneAnswer

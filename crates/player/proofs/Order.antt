@@ -1,53 +1,25 @@
 -- The order of what moves leave, and the options whose smaller part is small.
-use Rattle.std.proofs.Common.{◌≡◌, ◌↔◌, ℕ, suc, ◌-◌, ◌≤◌, inl, inr, sym, List, [], ◌∷◌, ◌++◌, ◌∙◌, subst, arith}
+use Rattle.std.proofs.Common.{◌≡◌, ℕ, suc, ◌-◌, ◌≤◌, sym, List, [], ◌∷◌, ◌++◌, subst, arith}
 use Rattle.std.specs.List.{Contains, AllPairs}
-use Rattle.std.specs.List.Sorted.{IsNonDecreasing, IsPermutation}
+use Rattle.std.specs.List.Sorted.{IsNonDecreasing}
 use Rattle.misere_theory.specs.Games.{HeapOption}
 use Rattle.misere_theory.specs.Games.HeapOption.{Nothing as TakesAll, One as LeavesOne, Two as LeavesTwo, Three as LeavesThree}
 use Rattle.misere_theory.specs.Pairs.{IsSmallSplit}
-use Rattle.misere_theory.specs.Plays.{PartsBefore, LeftBefore}
+use Rattle.misere_theory.specs.Plays.{LeftBefore}
 use Rattle.misere_theory.proofs.InOrder.{in_order_none, in_order_one, in_order_two, in_order_three}
-use Rattle.heap_options.specs.Options.{options_of, options_up_to}
+use Rattle.heap_options.specs.Options.{options_up_to}
 use Rattle.heap_options.specs.Exact.{heaps_of, IsInOrder, IsPartUpTo}
 use Rattle.heap_options.specs.declared.left.Left.{Left}
+use Rattle.heap_options.proofs.Exact.{each}
+use Rattle.heap_options.proofs.OptionLaws.{only, cut}
 use Rattle.heap_options.specs.declared.left.Left.TheVariants.{Nothing, One, Two, Three}
 use Rattle.misere_theory.proofs.RisingLists.{rising_same}
 
-parts_trans : (H L M : List ℕ) → PartsBefore H L → PartsBefore L M → PartsBefore H M
-parts_trans H L M a b = elim a [
-  | inl p ↦ elim b [ inl q ↦ inl (omega arith) | inr q ↦ inl (let s = q.0 in omega arith) ]
-  | inr p ↦ elim b [
-    | inl q ↦ inl (let s = p.0 in omega arith)
-    | inr q ↦ inr (p.0 ∙ q.0, (let s = p.1 in let t = q.1 in omega arith))
-  ]
-]
-
 pub before_trans : (H L M : List ℕ) → LeftBefore H L → LeftBefore L M → LeftBefore H M
-before_trans H L M a b = elim a [
-  | inl p ↦ elim b [ inl q ↦ inl (omega arith) | inr q ↦ inl (let s = q.0 in omega arith) ]
-  | inr p ↦ elim b [
-    | inl q ↦ inl (let s = p.0 in omega arith)
-    | inr q ↦ inr (
-      p.0 ∙ q.0,
-      elim p.1 [
-        | inl r ↦ elim q.1 [ inl s ↦ inl (omega arith) | inr s ↦ inl (let t = s.0 in omega arith) ]
-        | inr r ↦ elim q.1 [
-          | inl s ↦ inl (let t = r.0 in omega arith)
-          | inr s ↦ inr (r.0 ∙ s.0, parts_trans H L M r.1 s.1)
-        ]
-      ],
-    )
-  ]
-]
+before_trans H L M a b = grind arith
 
 pub not_before_itself : (H : List ℕ) → LeftBefore H H → ⊥
-not_before_itself H a = elim a [
-  | inl p ↦ omega arith
-  | inr p ↦ elim p.1 [
-    | inl q ↦ omega arith
-    | inr q ↦ elim q.1 [ inl r ↦ omega arith | inr r ↦ let t = r.1 in omega arith ]
-  ]
-]
+not_before_itself H a = grind arith
 
 -- an element before the cut comes before one behind it
 pub cut_before : {X : Type 0} (R : X → X → Type 0) (ys zs : List X) (x y : X)
@@ -62,21 +34,6 @@ in_order Nothing h = in_order_none
 in_order (One a) h = in_order_one a
 in_order (Two a b) h = in_order_two a b h
 in_order (Three a b c) h = in_order_three a b c h.0 h.1
-
--- what the one leaves comes before what the other leaves
-abbrev pub Before : Left → Left → Type 0
-Before L M = LeftBefore (heaps_of L) (heaps_of M)
-
--- what the contract of options says
-pub record AreExact : Type 0 where
-  pub each : (code : List ℕ) (n : ℕ) (H : List ℕ) → HeapOption code n H
-      → (left : Left) × Contains (options_of code n) left × IsPermutation (heaps_of left) H
-  pub only : (code : List ℕ) (n most : ℕ) (left : Left) → Contains (options_up_to code n most) left
-      → HeapOption code n (heaps_of left) × IsInOrder left
-  pub cut : (code : List ℕ) (n most : ℕ) (left : Left) → Contains (options_up_to code n most) left
-      ↔ (Contains (options_of code n) left × IsPartUpTo most left)
-  pub order : (code : List ℕ) (n most : ℕ)
-      → AllPairs (λ x y. LeftBefore (heaps_of x) (heaps_of y)) (options_up_to code n most)
 
 small_rises : (code : List ℕ) (n bound : ℕ) (H : List ℕ) → HeapOption code n H
     → IsSmallSplit bound H → IsNonDecreasing H
@@ -102,16 +59,15 @@ up_to_small bound some (Three a b c) o w =
     (o.0, o.1, let l = w.0 in omega arith, let l = w.1 in omega arith)
 
 -- an option whose smaller part is small is listed
-pub small_in : AreExact → (code : List ℕ) (n bound : ℕ) (H : List ℕ) → HeapOption code n H
+pub small_in : (code : List ℕ) (n bound : ℕ) (H : List ℕ) → HeapOption code n H
     → IsSmallSplit bound H
     → (L : Left) × Contains (options_up_to code n (bound - 1)) L × (heaps_of L ≡ H)
-small_in exact code n bound H o w =
-    let (L, i, s) = exact.each code n H o in
+small_in code n bound H o w =
+    let (L, i, s) = each code n H o in
     let same =
-    rising_same (heaps_of L) H (in_order L (exact.only code n n L i).1)
+    rising_same (heaps_of L) H (in_order L (only code n n L i).1)
     (small_rises code n bound H o w) s in (
       L,
-      (exact.cut code n (bound - 1) L).1
-          (i, small_up_to bound L (subst (IsSmallSplit bound) (sym same) w)),
+      (cut code n (bound - 1) L).1 (i, small_up_to bound L (subst (IsSmallSplit bound) (sym same) w)),
       same,
     )

@@ -7,7 +7,7 @@ use Rattle.std.proofs.lemmas.List.Elements.{Contains-append_left, Contains-appen
 use Rattle.std.proofs.lemmas.List.Sorted.{IsPermutation-refl, IsPermutation-sym, IsPermutation-remove, Contains-permutation}
 use Rattle.std.proofs.lemmas.List.{get_or_default}
 use native.Mathlib.Decide.{dec_lt}
-use Rattle.misere_theory.specs.Certificates.{Certificate, InRanges, kind_of, IsHeapOf, Accepted, claim_of}
+use Rattle.misere_theory.specs.Certificates.{Certificate, InRanges, kind_of, IsHeapOf, Accepted, claim_of, times_of}
 use Rattle.misere_theory.specs.Games.{HeapOption, HeapMove, IsPosition}
 use Rattle.misere_theory.specs.Kinds.{IsPeriodicIn}
 use Rattle.misere_theory.specs.Plays.{LeftBefore, IsWinningMove, IsFirstWin}
@@ -20,16 +20,14 @@ use Rattle.misere_theory.proofs.Written.{periodic}
 use Rattle.heap_options.specs.Options.{options_up_to}
 use Rattle.heap_options.specs.Exact.{heaps_of}
 use Rattle.heap_options.specs.declared.left.Left.{Left}
+use Rattle.heap_options.proofs.OptionLaws.{only}
+use Rattle.heap_options.proofs.Rising.{Before, rising}
 use Rattle.misere_theory.proofs.ListLaws.{only_in, itself_in}
 use Rattle.player.specs.Looks.{puts, IsFirstInto}
-use Rattle.player.proofs.Order.{AreExact, Before, before_trans, not_before_itself, cut_before, small_in, in_order}
+use Rattle.player.proofs.Order.{before_trans, not_before_itself, cut_before, small_in, in_order}
 use Rattle.player.proofs.Rests.{heap_at, dropped, taken}
 
-clash : (b : Bool) → b ≡ true → b ≡ false → ⊥
-clash true p q = cc
-clash false p q = cc
-
-module _ (c : Certificate) (yes_to : Accepted c) (exact : AreExact) where
+module _ (c : Certificate) (yes_to : Accepted c) where
   ranges : InRanges c
   ranges = yes_to.in_ranges
 
@@ -55,7 +53,7 @@ module _ (c : Certificate) (yes_to : Accepted c) (exact : AreExact) where
       small_or_earlier (kind_of c) c.code (claim_of c) (length c.code - 1) c.start c.period repeats
       past n counts (λ _. (yes_to.represents.monoid, yes_to.represents.elements)) H o w
       in
-      let (L, there, same) = small_in exact c.code n (c.start + c.period) S i small in (
+      let (L, there, same) = small_in c.code n (c.start + c.period) S i small in (
         L,
         there,
         ap (value (claim_of c)) same ∙ e,
@@ -90,7 +88,7 @@ module _ (c : Certificate) (yes_to : Accepted c) (exact : AreExact) where
       subst (λ xs. Contains xs L) e
       (Contains-append_right seen (L ∷ rest) L
       (Contains-append_left (L ∷ []) rest L (itself_in L))) in
-      let o = exact.only c.code n (c.start + c.period - 1) L there in
+      let o = only c.code n (c.start + c.period - 1) L there in
       record {
         option = o.0;
         in_order = in_order L o.1;
@@ -103,7 +101,7 @@ module _ (c : Certificate) (yes_to : Accepted c) (exact : AreExact) where
               | inr less ↦ before_trans (heaps_of S) M (heaps_of L) less before
             ] in
             elim (Contains-append_cases seen (L ∷ rest) S (subst (λ xs. Contains xs S) (sym e) i)) [
-              | inl k ↦ clash (puts c y (heaps_of S)) good (fails S k)
+              | inl k ↦ let bad = fails S k in cc
               | inr k ↦ elim (Contains-append_cases (L ∷ []) rest S k) [
                 | inl h ↦ not_before_itself (heaps_of L)
                     (subst (λ u. LeftBefore (heaps_of u) (heaps_of L)) (sym (only_in L S h))
@@ -112,7 +110,7 @@ module _ (c : Certificate) (yes_to : Accepted c) (exact : AreExact) where
                     let after =
                     cut_before Before seen rest L S
                     (subst (AllPairs Before) (sym e)
-                    (exact.order c.code n (c.start + c.period - 1))) h in
+                    (rising c.code n (c.start + c.period - 1))) h in
                     not_before_itself (heaps_of L)
                     (before_trans (heaps_of L) (heaps_of S) (heaps_of L) after earlier)
               ]
@@ -124,7 +122,7 @@ module _ (c : Certificate) (yes_to : Accepted c) (exact : AreExact) where
       → (L : Left) × Contains (looked n) L × (heaps_of L ≡ H)
   first_among n y H counts into =
       let (L, i, v, b) = look_for n counts H into.option into.in_order in
-      let o = exact.only c.code n (c.start + c.period - 1) L i in (
+      let o = only c.code n (c.start + c.period - 1) L i in (
         L,
         i,
         elim b [
@@ -136,16 +134,22 @@ module _ (c : Certificate) (yes_to : Accepted c) (exact : AreExact) where
       )
 
 -- the next look is an option, so its parts are heaps
-pub parts_are_heaps : AreExact → (c : Certificate) (n : ℕ) → IsHeapOf c n
+pub parts_are_heaps : (c : Certificate) (n : ℕ) → IsHeapOf c n
     → (seen rest : List Left) (L : Left)
     → seen ++ (L ∷ rest) ≡ options_up_to c.code n (c.start + c.period - 1)
     → IsPosition (IsHeapOf c) (heaps_of L)
-parts_are_heaps exact c n counts seen rest L e =
+parts_are_heaps c n counts seen rest L e =
     let i : Contains (seen ++ (L ∷ rest)) L =
     Contains-append_right seen (L ∷ rest) L (Contains-append_left (L ∷ []) rest L (itself_in L))
     in
     kept_in (kind_of c) c.code n (heaps_of L) counts
-    (exact.only c.code n (c.start + c.period - 1) L (subst (λ xs. Contains xs L) e i)).0
+    (only c.code n (c.start + c.period - 1) L (subst (λ xs. Contains xs L) e i)).0
+
+-- whether a look passes, by the values that are computed
+pub passes_by : (c : Certificate) (y v w : ℕ) (b : Bool) (L : Left) → v ≡ value (claim_of c) (heaps_of L)
+    → w ≡ times_of c y v → b ≡ (claim_of c).portion w → puts c y (heaps_of L) ≡ b
+passes_by c y v w b L e f g =
+    ap (claim_of c).portion (ap (times_of c y) (sym e) ∙ sym f) ∙ sym g
 
 -- one look more that doesn't pass
 pub seen_more : (c : Certificate) (y : ℕ) (seen : List Left) (L : Left)
@@ -278,5 +282,6 @@ none_more c yes_to X position i y there others fails none k l H w = elim (dec_lt
       let w2 = subst (λ v. IsWinningMove c.code X (get_or X v 0) H) e w in
       let passes =
       winning_puts c yes_to X position i n y there (get_or_default X i 0 n there) others H w2 in
-      clash (puts c y H) passes (fails H w2.1.1.allowed w2.0)
+      let bad = fails H w2.1.1.allowed w2.0 in
+      cc
 ]

@@ -4,7 +4,7 @@ use Rattle.std.proofs.Common.{◌≡◌, ℕ, ◌<◌, ◌≤◌, List, [], ◌�
 use Rattle.std.specs.List.{Contains, remove}
 use Rattle.std.specs.List.Sorted.{IsPermutation}
 use Rattle.std.proofs.lemmas.Grind.{take_at_read}
-use Rattle.std.proofs.lemmas.List.{get_or_default, take_all}
+use Rattle.std.proofs.lemmas.List.{get_or_default}
 use Rattle.std.proofs.lemmas.List.Elements.{All-cons, All-nil}
 use Rattle.std.proofs.lemmas.List.Sorted.{IsPermutation-cons, IsPermutation-trans, IsPermutation-middle, IsPermutation-remove, IsPermutation-sym}
 use Rattle.misere_theory.specs.Games.{HeapMove}
@@ -26,11 +26,6 @@ added_more H xs ys zs i l p q =
     (IsPermutation-middle (take i H) h xs)
     (IsPermutation-trans (h ∷ (take i H ++ xs)) (h ∷ ys) zs
     (IsPermutation-cons h (take i H ++ xs) ys p) q))
-
--- all heaps that are left are added
-pub added_all : (H xs ys : List ℕ) (i : ℕ) → length H ≤ i → IsPermutation (take i H ++ xs) ys
-    → IsPermutation (H ++ xs) ys
-added_all H xs ys i l p = subst (λ us. IsPermutation (us ++ xs) ys) (take_all i H l) p
 
 -- the parts of a heap up to M are heaps up to M
 pub parts_fit : (code : List ℕ) (n M : ℕ) (L : Left) → Contains (options_of code n) L → n ≤ M

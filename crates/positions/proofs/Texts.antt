@@ -63,9 +63,6 @@ at_least_one (b ∷ bs) h =
     let g = number_after_ge 10 (0 * 10 + (b - 48)) (map (λ b. b - 48) bs) (omega arith) in
     omega arith
 
-largest : ℕ
-largest = 1000000000000000000
-
 -- no number is too large
 small : (ws : List (List ℕ)) → All IsNumeral ws
     → list_any (λ n. nat_lt 1000000000000000000 n) (map (λ w. capped (number_of w)) ws) ≡ false

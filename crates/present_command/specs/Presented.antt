@@ -3,7 +3,7 @@ use Rattle.std.specs.Prelude.{◌≡◌, ◌⊎◌, ℕ, zero, suc, Bool, true, 
 use Rattle.misere_theory.specs.declared.TheConstants.{LARGEST_FIRST_ORDER}
 use Rattle.monoid_table.specs.Grids.{Grid, IsTable, times_in}
 use Rattle.presentations.specs.declared.TheConstants.{LARGEST_BOX}
-use Rattle.presentations.specs.declared.named.Generator.{Generator}
+use Rattle.presentations.specs.declared.named.NamedElement.{NamedElement}
 use Rattle.presentations.specs.declared.read.Relation.{Relation}
 use Rattle.presentations.specs.Powers.{IsAboveLimit, IsUnbounded}
 use Rattle.presentations.specs.Tables.{HasMoreElements, IsTableOf}
@@ -14,10 +14,10 @@ abbrev pub element_word : ℕ → List ℕ
 element_word e = codes " " ++ decimal e
 
 -- a letter and its element, behind a space
-abbrev pub generator_word : Generator → List ℕ
+abbrev pub generator_word : NamedElement → List ℕ
 generator_word g = codes " " ++ encode_utf8 g.letter ++ codes "=" ++ decimal g.element
 
-abbrev pub generator_words : List Generator → List ℕ
+abbrev pub generator_words : List NamedElement → List ℕ
 generator_words [] = []
 generator_words (g ∷ gs) = generator_word g ++ generator_words gs
 
@@ -34,18 +34,18 @@ abbrev pub row_lines : Grid → ℕ → List ℕ
 row_lines table zero = []
 row_lines table (suc n) = row_lines table n ++ row_line table n
 
-abbrev pub generators_line : List Generator → List ℕ
+abbrev pub generators_line : List NamedElement → List ℕ
 generators_line generators = (codes "generators" ++ generator_words generators) ++ codes "\n"
 
 -- the order, the elements of the generators, and the rows
-abbrev pub monoid_lines : Grid → List Generator → List ℕ
+abbrev pub monoid_lines : Grid → List NamedElement → List ℕ
 monoid_lines table generators =
     (codes "order " ++ decimal table.order ++ codes "\n" ++ generators_line generators)
     ++ row_lines table table.order
 
 -- The bytes spell relations that have this table, and their box is within the limit.
-pub record PresentsMonoid (presentation : List ℕ) (table : Grid) (generators : List Generator) : Type
-    0 where
+pub record PresentsMonoid (presentation : List ℕ) (table : Grid)
+    (generators : List NamedElement) : Type 0 where
   pub relations : List Relation
   pub spelled : SpellsPresentation presentation relations
   pub is_table : IsTableOf relations table generators
@@ -55,7 +55,7 @@ pub record PresentsMonoid (presentation : List ℕ) (table : Grid) (generators :
 -- monoid, and the box is within the limit.
 pub record IsTableText (relations : List Relation) (text : List ℕ) : Type 0 where
   pub table : Grid
-  pub generators : List Generator
+  pub generators : List NamedElement
   pub monoid : IsTable table.order table.entries
   pub is_table : IsTableOf relations table generators
   pub within : IsAboveLimit relations LARGEST_BOX → ⊥

@@ -4,11 +4,11 @@ ghost use Rattle.std.specs.String.{string_bytes};
 ghost use Rattle.present_command.specs.Presented.{element_word, generator_word, generators_line, monoid_lines, row_line};
 
 use monoid_table::Table;
-use presentations::{Generator, Named};
+use presentations::{Named, NamedElement};
 use std::alloc::{AllocError, Global};
 
 /// A letter and its element.
-fn generator_text(alloc: Global, generator: Generator) -> Result<String, AllocError>
+fn generator_text(alloc: Global, generator: NamedElement) -> Result<String, AllocError>
     ensures { IfOk result (λ t. string_bytes t ≡ generator_word generator) }
 {
     let (letter, element) = (generator.letter as char, generator.element);
@@ -17,7 +17,7 @@ fn generator_text(alloc: Global, generator: Generator) -> Result<String, AllocEr
 }
 
 /// The line of the generators.
-fn generators_text(alloc: Global, generators: &[Generator]) -> Result<String, AllocError>
+fn generators_text(alloc: Global, generators: &[NamedElement]) -> Result<String, AllocError>
     ensures { IfOk result (λ t. string_bytes t ≡ generators_line generators.now) }
 {
     let mut text = format!(in alloc; "generators")?;

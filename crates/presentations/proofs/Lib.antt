@@ -8,7 +8,6 @@ pub mod PowerLaws
 pub mod NumberLaws
 pub mod RowLaws
 pub mod Elements
-pub mod Whole
 pub mod Faults
 pub mod SizeLaws
 pub mod Reading
@@ -16,3 +15,4 @@ pub mod Spelled
 pub mod VectorLaws
 pub mod WordLaws
 pub mod ProductLaws
+pub mod CongruenceLaws

@@ -1,31 +1,69 @@
 -- One product more.
 -- The product's class has a number already, or gets the next one, and this product as its key.
-use Rattle.std.proofs.Common.{◌≡◌, ◌≢◌, ◌⊎◌, ℕ, zero, suc, ◌+◌, ◌-◌, ◌*◌, ◌/◌, ◌%◌, ◌<◌, ◌≤◌, List, [], ◌∷◌, ◌++◌, length, get_or, refl, sym, ap, ◌∙◌, inl, inr, arith}
+use Rattle.std.proofs.Common.{◌≡◌, ◌≢◌, ◌⊎◌, ℕ, ◌+◌, ◌-◌, ◌*◌, ◌/◌, ◌%◌, ◌<◌, ◌≤◌, List, [], ◌∷◌, ◌++◌, length, get_or, refl, ◌∙◌, inl, inr, arith}
 use Rattle.std.specs.Prelude.{slice_index}
+use Rattle.std.proofs.Math.Seq.{get_or-append_seam}
 use Rattle.std.proofs.lemmas.Bool.{cases_lt}
-use Rattle.std.proofs.lemmas.List.{length-append}
+use Rattle.std.proofs.lemmas.List.{length-append, get_or_append_left}
 use Rattle.std.proofs.lemmas.Nat.{div_below, mul-le}
 use Rattle.presentations.specs.declared.axes.Axis.{Axis}
 use Rattle.presentations.specs.Boxes.{size_of, next_of}
-use Rattle.presentations.specs.Numberings.{IsProgress, IsNumbering, AreKeys, HasManyClasses}
-use Rattle.presentations.proofs.AxisLaws.{get-push, get-last}
+use Rattle.presentations.specs.Numberings.{IsProgress, HasManyClasses}
+use Rattle.presentations.proofs.BoxLaws.{some-factor}
 
--- the lists so far, and those with one more
-record Grown (old new : List ℕ) : Type 0 where
+-- the same numbers, or these and one more
+record Grown (old new : List ℕ) (x : ℕ) : Type 0 where
   longer : length old ≤ length new
+  most : length new ≤ length old + 1
   same : (i : ℕ) → i < length old → get_or new i 0 ≡ get_or old i 0
+  last : length old < length new → get_or new (length old) 0 ≡ x
 
-grown-push : (old new : List ℕ) (x : ℕ) → new ≡ old ++ x ∷ [] → Grown old new
-grown-push old new x e = record {
-  longer = omega (arith, ap length e, length-append old (x ∷ []));
-  same = λ i lt. ap (λ l. get_or l i 0) e ∙ get-push old x i lt;
+unchanged : (xs : List ℕ) (x : ℕ) → Grown xs xs x
+unchanged xs x = record {
+  longer = omega arith;
+  most = omega arith;
+  same = λ i lt. refl;
+  last = λ lt. absurd (omega arith);
 }
 
-len-push : (old new : List ℕ) (x : ℕ) → new ≡ old ++ x ∷ [] → length new ≡ length old + 1
-len-push old new x e = ap length e ∙ length-append old (x ∷ [])
+pushed : (xs : List ℕ) (x : ℕ) → Grown xs (xs ++ x ∷ []) x
+pushed xs x =
+    let len = length-append xs (x ∷ []) in
+    record {
+      longer = omega (arith, len);
+      most = omega (arith, len);
+      same = get_or_append_left xs (x ∷ []) 0;
+      last = λ lt. get_or-append_seam xs x [] 0;
+    }
 
-pub progress-more : (axes : List Axis)
-    (classes firsts keys products firsts2 keys2 products2 : List ℕ) (class p : ℕ)
+-- the class has the number p, its own or the next one
+record Assigned (firsts keys firsts2 keys2 : List ℕ) (class key p : ℕ) : Type 0 where
+  f : Grown firsts firsts2 class
+  k : Grown keys keys2 key
+  even : length firsts2 + length keys ≡ length firsts + length keys2
+  next : length keys < length keys2 → p ≡ length firsts
+
+assigned : {firsts keys firsts2 keys2 : List ℕ} {class key p : ℕ}
+    → ((firsts2 ≡ firsts) × (keys2 ≡ keys))
+    ⊎ ((firsts2 ≡ firsts ++ class ∷ []) × (keys2 ≡ keys ++ key ∷ []) × (p ≡ length firsts))
+    → Assigned firsts keys firsts2 keys2 class key p
+assigned {firsts} {keys} {class = class} {key = key} (inl same) =
+    rw (same.0, same.1) (record {
+      f = unchanged firsts class;
+      k = unchanged keys key;
+      even = refl;
+      next = λ lt. absurd (omega arith);
+    })
+assigned {firsts} {keys} {class = class} {key = key} (inr new) =
+    rw (new.0, new.1) (record {
+      f = pushed firsts class;
+      k = pushed keys key;
+      even = omega (arith, length-append firsts (class ∷ []), length-append keys (key ∷ []));
+      next = λ lt. new.2;
+    })
+
+pub progress-more : {axes : List Axis} {classes firsts keys products firsts2 keys2 : List ℕ}
+    {class p : ℕ}
     → IsProgress axes classes firsts keys products → length products < length firsts * length axes
     → class
     ≡ slice_index classes
@@ -36,192 +74,102 @@ pub progress-more : (axes : List Axis)
     → ((firsts2 ≡ firsts) × (keys2 ≡ keys))
     ⊎ ((firsts2 ≡ firsts ++ class ∷ []) × (keys2 ≡ keys ++ length products ∷ [])
     × (p ≡ length firsts))
-    → products2 ≡ products ++ p ∷ []
-    → IsProgress axes classes firsts2 keys2 products2
-progress-more axes classes firsts keys products firsts2 keys2 products2 class p old room is low root
-    within there either more =
-    let len = len-push products products2 p more in
-    let gp = grown-push products products2 p more in
-    let last : get_or products2 (length products) 0 ≡ p =
-    ap (λ l. get_or l (length products) 0) more ∙ get-last products p (length products) refl in
-    elim either [
-      | inl same ↦
-          let f = same.0 in
-          let k = same.1 in
-          let lf : length firsts2 ≡ length firsts = ap length f in
-          let lk : length keys2 ≡ length keys = ap length k in
-          record {
-            start = ap (λ l. get_or l 0 0) f ∙ old.start;
-            some = omega (arith, old.some);
-            keys_are = omega (arith, old.keys_are);
-            roots = λ e lt. rw f (old.roots e (omega arith));
-            covers = omega (arith, ap (λ n. n * length axes) lf);
-            steps = λ j lt. elim (cases_lt j (length products)) [
-              | inl before ↦ rw (f, gp.same j before) (old.steps j before)
-              | inr here ↦
-                  let e : j ≡ length products = omega arith in
-                  rw (e, last) (
-                    within,
-                    there ∙ is
-                        ∙ ap (λ l.
-                        slice_index classes
-                        (next_of axes (length products % length axes)
-                        (get_or l (length products / length axes) 0))) (sym f),
-                  )
-            ];
-            keys_in =
-                λ j lt. rw k (let h = old.keys_in j (omega arith) in
-                (omega (arith, h.0), gp.same (get_or keys j 0) h.0 ∙ h.1, h.2));
-            rising = λ i j lt jn. rw k (old.rising i j lt (omega arith));
-            least = λ j lt some. elim (cases_lt j (length products)) [
-              | inl before ↦
-                  let e = gp.same j before in
-                  rw (k, e) (old.least j before (omega (arith, e)))
-              | inr here ↦
-                  let e : get_or products2 j 0 ≡ p =
-                  ap (λ i. get_or products2 i 0) (here_is j here lt len) ∙ last in
-                  let h = old.keys_in (p - 1) (omega (arith, old.keys_are, e)) in
-                  rw (k, e) (omega (arith, h.0))
-            ];
-          }
-      | inr new ↦
-          let gf = grown-push firsts firsts2 class new.0 in
-          let gk = grown-push keys keys2 (length products) new.1 in
-          let lf = len-push firsts firsts2 class new.0 in
-          let lk = len-push keys keys2 (length products) new.1 in
-          let lastf : get_or firsts2 (length firsts) 0 ≡ class =
-          ap (λ l. get_or l (length firsts) 0) new.0
-          ∙ get-last firsts class (length firsts) refl in
-          let lastk : get_or keys2 (length keys) 0 ≡ length products =
-          ap (λ l. get_or l (length keys) 0) new.1 ∙ get-last keys (length products)
-          (length keys) refl in
-          record {
-            start = gf.same 0 old.some ∙ old.start;
-            some = omega (arith, lf);
-            keys_are = omega (arith, lf, lk, old.keys_are);
-            roots = λ e lt. elim (cases_lt e (length firsts)) [
-              | inl before ↦ rw (gf.same e before) (old.roots e before)
-              | inr here ↦ let at : e ≡ length firsts = omega (arith, lf) in
-                  rw (at, lastf) (low, root)
-            ];
-            covers =
-                omega (
-                  arith,
-                  len,
-                  wider (length firsts) (length firsts2) (length axes)
-                      (omega (arith, lf)),
-                );
-            steps = λ j lt. elim (cases_lt j (length products)) [
-              | inl before ↦
-                  let h = old.steps j before in
-                  let row =
-                  div_below j (length axes) (length firsts)
-                  (wide (length products) (length firsts) (length axes) room) (omega arith) in
-                  rw (gp.same j before) (
-                    omega (arith, h.0, lf),
-                    gf.same (get_or products j 0) h.0
-                        ∙ h.1 ∙ ap (λ f. slice_index classes (next_of axes (j % length axes) f))
-                        (sym (gf.same (j / length axes) row)),
-                  )
-              | inr here ↦
-                  let at : j ≡ length products = here_is j here lt len in
-                  let row =
-                  div_below (length products) (length axes) (length firsts)
-                  (wide (length products) (length firsts) (length axes) room) room in
-                  rw (at, last) (
-                    within,
-                    there ∙ is
-                        ∙ ap (λ f.
-                        slice_index classes (next_of axes (length products % length axes) f))
-                        (sym (gf.same (length products / length axes) row)),
-                  )
-            ];
-            keys_in = λ j lt. elim (cases_lt j (length keys)) [
-              | inl before ↦
-                  let h = old.keys_in j before in
-                  rw (gk.same j before) (
-                    omega (arith, h.0, len),
-                    gp.same (get_or keys j 0) h.0
-                        ∙ h.1,
-                    h.2,
-                  )
-              | inr here ↦
-                  let at : j ≡ length keys = omega (arith, lk) in
-                  let row =
-                  div_below (length products) (length axes) (length firsts)
-                  (wide (length products) (length firsts) (length axes) room) room in
-                  rw (at, lastk) (
-                    omega (arith, len),
-                    last ∙ new.2 ∙ sym old.keys_are,
-                    omega (arith, row, old.keys_are),
-                  )
-            ];
-            rising = λ i j lt jn. elim (cases_lt j (length keys)) [
-              | inl before ↦ rw (gk.same i (omega arith), gk.same j before)
-                  (old.rising i j lt before)
-              | inr here ↦
-                  let at : j ≡ length keys = omega (arith, lk) in
-                  rw (gk.same i (omega arith)) (rw (at, lastk) ((old.keys_in i (omega arith)).0))
-            ];
-            least = λ j lt some. elim (cases_lt j (length products)) [
-              | inl before ↦
-                  let e = gp.same j before in
-                  let h = old.steps j before in
-                  rw e (rw (gk.same (get_or products j 0 - 1) (omega (arith, h.0, old.keys_are, e)))
-                  (old.least j before (omega (arith, e))))
-              | inr here ↦
-                  let at : j ≡ length products = here_is j here lt len in
-                  let e : get_or products2 j 0 ≡ p = ap (λ i. get_or products2 i 0) at ∙ last in
-                  let top : p - 1 ≡ length keys = omega (arith, new.2, old.keys_are) in
-                  rw (e, top, lastk) (omega (arith, at))
-            ];
-          }
-    ]
-  where
-    here_is : (j : ℕ) → length products ≤ j → j < length products2
-        → length products2 ≡ length products + 1 → j ≡ length products
-    here_is j a b c = omega arith
-
-    wide : (l f n : ℕ) → l < f * n → 0 < n
-    wide l f zero lt = absurd (omega arith)
-    wide l f (suc n) lt = omega arith
-
-    wider : (f g n : ℕ) → f ≤ g → f * n ≤ g * n
-    wider f g n le = mul-le f n g n le (omega arith)
-
-pub keys-of : (axes : List Axis) (classes firsts keys products : List ℕ)
-    → IsNumbering axes classes firsts keys products
-    → AreKeys (length axes) (length firsts) keys products
-keys-of axes classes firsts keys products n = record {
-  some = n.progress.some;
-  most = n.most;
-  keys_are = n.progress.keys_are;
-  whole = n.whole;
-  below = λ k lt. (n.progress.steps k lt).0;
-  parents = λ j lt. let h = n.progress.keys_in j lt in (h.0, h.2);
-}
+    → IsProgress axes classes firsts2 keys2 (products ++ p ∷ [])
+progress-more {axes} {classes} {firsts} {keys} {products} {firsts2} {keys2} {p = p} old room is low
+    root within there either =
+    let a = assigned either in
+    let n = length axes in
+    let len = length-append products (p ∷ []) in
+    let before =
+    λ (j : ℕ) (lt : j < length products). get_or_append_left products (p ∷ []) 0 j lt in
+    let last = get_or-append_seam products p [] 0 in
+    let row = λ (j : ℕ) (le : j ≤ length products).
+    div_below j n (length firsts) (some-factor (length products) (length firsts) n room)
+    (omega arith) in
+    record {
+      start = a.f.same 0 old.some ∙ old.start;
+      some = omega (arith, a.f.longer, old.some);
+      keys_are = omega (arith, a.even, old.keys_are);
+      roots = λ e lt. elim (cases_lt e (length firsts)) [
+        | inl early ↦ rw (a.f.same e early) (old.roots e early)
+        | inr late ↦
+            let at : e ≡ length firsts = omega (arith, a.f.most) in
+            rw (at, a.f.last (omega arith)) (low, root)
+      ];
+      covers =
+          omega (arith, len, mul-le (length firsts) n (length firsts2) n a.f.longer (omega arith));
+      steps = λ j lt.
+          rw (a.f.same (j / n) (row j (omega (arith, len)))) (elim (cases_lt j (length products)) [
+            | inl early ↦
+                let h = old.steps j early in
+                rw (before j early) (omega (arith, h.0, a.f.longer), a.f.same _ h.0 ∙ h.1)
+            | inr late ↦
+                let at : j ≡ length products = omega (arith, len) in
+                rw (at, last) (within, there ∙ is)
+          ]);
+      keys_in = λ j lt. elim (cases_lt j (length keys)) [
+        | inl early ↦
+            let h = old.keys_in j early in
+            rw (a.k.same j early) (omega (arith, h.0, len), before _ h.0 ∙ h.1, h.2)
+        | inr late ↦
+            let at : j ≡ length keys = omega (arith, a.k.most) in
+            rw (at, a.k.last (omega arith), last) (
+              omega (arith, len),
+              omega (arith, a.next (omega arith), old.keys_are),
+              omega (arith, row (length products) (omega arith), old.keys_are),
+            )
+      ];
+      rising = λ i j lt jn. elim (cases_lt j (length keys)) [
+        | inl early ↦ rw (a.k.same i (omega arith), a.k.same j early) (old.rising i j lt early)
+        | inr late ↦
+            let at : j ≡ length keys = omega (arith, a.k.most) in
+            rw (a.k.same i (omega arith), at, a.k.last (omega arith))
+            ((old.keys_in i (omega arith)).0)
+      ];
+      least = λ j lt some. elim (cases_lt j (length products)) [
+        | inl early ↦
+            let e = before j early in
+            let h = old.steps j early in
+            rw (e, a.k.same (get_or products j 0 - 1) (omega (arith, h.0, old.keys_are, e)))
+            (old.least j early (omega (arith, e)))
+        | inr late ↦
+            let at : j ≡ length products = omega (arith, len) in
+            let one : 0 < p = rw (at, last) at some in
+            rw (at, last) (elim (cases_lt (p - 1) (length keys)) [
+              | inl early ↦ rw (a.k.same (p - 1) early) (omega (arith, (old.keys_in (p - 1) early).0))
+              | inr new ↦
+                  let top : p - 1 ≡ length keys =
+                  omega (arith, within, a.even, old.keys_are, a.k.most) in
+                  rw (top, a.k.last (omega (arith, within, a.even, old.keys_are))) (omega arith)
+            ])
+      ];
+    }
 
 -- 256 numbered classes and one without a number are more than 256
-pub many-classes : (axes : List Axis) (classes firsts keys products : List ℕ) (class : ℕ)
+pub many-classes : {axes : List Axis} {classes firsts keys products : List ℕ} (class : ℕ)
     → IsProgress axes classes firsts keys products
     → length firsts ≡ 256
     → ((d e : ℕ) → d < 256 → e < 256 → slice_index firsts d ≡ slice_index firsts e → d ≡ e)
     → ((e : ℕ) → e < 256 → slice_index firsts e ≢ class) → class < size_of axes
     → slice_index classes class ≡ class
     → HasManyClasses axes classes
-many-classes axes classes firsts keys products class p full apart new low root = record {
-  first = λ i. slice_index (firsts ++ class ∷ []) i;
-  is = λ i le. elim (cases_lt i 256) [
-    | inl before ↦ rw (get-push firsts class i (omega arith)) (p.roots i (omega arith))
-    | inr last ↦ rw (get-last firsts class i (omega arith)) (low, root)
-  ];
-  apart = λ i j lt le same. elim (cases_lt j 256) [
-    | inl before ↦
-        let e =
-        apart i j (omega arith) before (sym (get-push firsts class i (omega arith)) ∙ same
-        ∙ get-push firsts class j (omega arith)) in
-        absurd (omega (arith, e))
-    | inr last ↦ new i (omega arith) (sym (get-push firsts class i (omega arith)) ∙ same
-        ∙ get-last firsts class j (omega arith))
-  ];
-}
+many-classes {firsts = firsts} class p full apart new low root =
+    let more = firsts ++ class ∷ [] in
+    let old = λ (i : ℕ) (lt : i < length firsts). get_or_append_left firsts (class ∷ []) 0 i lt in
+    let last : get_or more 256 0 ≡ class = rw full at (get_or-append_seam firsts class [] 0) in
+    record {
+      first = slice_index more;
+      is = λ i le. elim (cases_lt i 256) [
+        | inl early ↦ rw (old i (omega arith)) (p.roots i (omega arith))
+        | inr late ↦ let at : i ≡ 256 = omega arith in rw (at, last) (low, root)
+      ];
+      apart = λ i j lt le same. elim (cases_lt j 256) [
+        | inl early ↦
+            let e =
+            apart i j (omega arith) early (rw (old i (omega arith), old j (omega arith)) at same) in
+            absurd (omega (arith, e))
+        | inr late ↦
+            let at : j ≡ 256 = omega arith in
+            new i (omega arith) (rw (old i (omega arith), at, last) at same)
+      ];
+    }

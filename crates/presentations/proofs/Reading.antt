@@ -3,6 +3,7 @@
 use Rattle.std.proofs.Common.{◌≡◌, ℕ, zero, suc, ◌+◌, ◌*◌, ◌<◌, ◌≤◌, List, [], ◌∷◌, ◌++◌, length, get_or, set, refl, sym, ap, ap₂, ◌∙◌, inl, inr, arith, subst, append_assoc, length-append, All}
 use Rattle.std.specs.Prelude.{Option, Some, None as Nothing, Bool, true, is_some, IfSome}
 use Rattle.std.proofs.lemmas.Bool.{false≢true}
+use Rattle.std.proofs.lemmas.List.{append-nil}
 use Rattle.presentations.specs.declared.TheConstants.{LETTERS, LARGEST_EXPONENT}
 use Rattle.presentations.specs.Vectors.{plus, zeros, only}
 use Rattle.presentations.specs.Text.{IsPower, IsFactor, AreFactors, AreFewFactors, IsWord}
@@ -11,7 +12,7 @@ use Rattle.presentations.specs.Text.IsFactor.{Alone, Raised}
 use Rattle.presentations.specs.Text.AreFactors.{None, More}
 use Rattle.presentations.specs.Text.IsWord.{Empty, Product}
 use Rattle.presentations.specs.Fronts.{EndsFactor, EndsWord, EndsDigits, StartsWith, IsFront, IsNoFront}
-use Rattle.presentations.proofs.VectorLaws.{length-only, length-plus, plus-zeros, zeros-plus, plus-assoc}
+use Rattle.presentations.proofs.VectorLaws.{cons-same, only-here, length-only, length-plus, plus-zeros, zeros-plus, plus-assoc}
 
 pub head-same : {b c : ℕ} {bs cs : List ℕ} → ◌≡◌ {A = List ℕ} (b ∷ bs) (c ∷ cs) → b ≡ c
 head-same e = cc
@@ -22,121 +23,76 @@ tail-same e = cc
 pub nothing-there : {b : ℕ} {bs : List ℕ} → ◌≡◌ {A = List ℕ} [] (b ∷ bs) → ⊥
 nothing-there e = cc
 
-pub append-none : (xs : List ℕ) → xs ++ [] ≡ xs
-append-none [] = refl
-append-none (x ∷ xs) = ap (λ ys. x ∷ ys) (append-none xs)
-
 -- one digit, from 2 on
-pub one-digit : (bytes rest : List ℕ) (d : ℕ) → bytes ≡ (48 + d) ∷ rest → 2 ≤ d → d < 10
-    → EndsDigits rest → IsFront IsPower EndsFactor bytes d rest
-one-digit bytes rest d e two ten ends = record {
-  word = (48 + d) ∷ [];
-  is = One d two ten;
-  joined = e;
-  only = same;
-}
+pub one-digit : (rest : List ℕ) (d : ℕ) → 2 ≤ d → d < 10 → EndsDigits rest
+    → IsFront IsPower EndsFactor ((48 + d) ∷ rest) d rest
+one-digit rest d two ten ends =
+    record { word = (48 + d) ∷ []; is = One d two ten; joined = refl; only = same }
   where
     same : (other : List ℕ) (y : ℕ) (tail : List ℕ) → IsPower other y → EndsFactor tail
-        → bytes ≡ other ++ tail → (y ≡ d) × (tail ≡ rest)
-    same other y tail (One c c2 c10) ok f = let g = sym f ∙ e in
-        (omega (arith, head-same g), tail-same g)
+        → (48 + d) ∷ rest ≡ other ++ tail → (y ≡ d) × (tail ≡ rest)
+    same other y tail (One c c2 c10) ok f = (omega (arith, head-same f), sym (tail-same f))
     same other y tail (Two b c b1 b10 c10 few) ok f =
-        absurd (digit rest c tail ends c10 (tail-same (sym e ∙ f)))
-      where
-        digit : (rest : List ℕ) (c : ℕ) (tail : List ℕ) → EndsDigits rest → c < 10
-            → rest ≡ (48 + c) ∷ tail → ⊥
-        digit [] c tail ends lt e = nothing-there e
-        digit (r ∷ rest) c tail (inl low) lt e = absurd (omega (arith, head-same e))
-        digit (r ∷ rest) c tail (inr high) lt e = absurd (omega (arith, head-same e))
+        absurd (omega (arith, c10, rw (tail-same f) at ends))
 
 -- two digits, the first not 0
-pub two-digits : (bytes rest : List ℕ) (d e : ℕ) → bytes ≡ (48 + d) ∷ (48 + e) ∷ rest → 1 ≤ d
-    → d < 10 → e < 10 → 10 * d + e ≤ LARGEST_EXPONENT → IsFront IsPower EndsFactor bytes (10 * d + e) rest
-two-digits bytes rest d e is one ten nine few = record {
+pub two-digits : (rest : List ℕ) (d e : ℕ) → 1 ≤ d → d < 10 → e < 10
+    → 10 * d + e ≤ LARGEST_EXPONENT
+    → IsFront IsPower EndsFactor ((48 + d) ∷ (48 + e) ∷ rest) (10 * d + e) rest
+two-digits rest d e one ten nine few = record {
   word = (48 + d) ∷ (48 + e) ∷ [];
   is = Two d e one ten nine few;
-  joined = is;
+  joined = refl;
   only = same;
 }
   where
     same : (other : List ℕ) (y : ℕ) (tail : List ℕ) → IsPower other y → EndsFactor tail
-        → bytes ≡ other ++ tail → (y ≡ 10 * d + e) × (tail ≡ rest)
-    same other y tail (One c c2 c10) ok f = absurd (digit tail ok (tail-same (sym f ∙ is)))
-      where
-        digit : (tail : List ℕ) → EndsFactor tail → tail ≡ (48 + e) ∷ rest → ⊥
-        digit [] ok g = nothing-there g
-        digit (t ∷ tail) ok g =
-            elim ok.0 [
-              | inl low ↦ absurd (omega (arith, head-same g))
-              | inr high ↦ absurd
-                  (omega (arith, head-same g))
-            ]
+        → (48 + d) ∷ (48 + e) ∷ rest ≡ other ++ tail → (y ≡ 10 * d + e) × (tail ≡ rest)
+    same other y tail (One c c2 c10) ok f =
+        absurd (omega (arith, nine, (rw (← tail-same f) at ok).0))
     same other y tail (Two b c b1 b10 c10 less) ok f =
-        let g = sym f ∙ is in
-        let b_d : b ≡ d = omega (arith, head-same g) in
-        let c_e : c ≡ e = omega (arith, head-same (tail-same g)) in
-        (ap₂ (λ x y. 10 * x + y) b_d c_e, tail-same (tail-same g))
+        (omega (arith, head-same f, head-same (tail-same f)), sym (tail-same (tail-same f)))
 
 -- two digits that don't make an exponent, or three
-pub no-exponent : (bytes rest : List ℕ) (d e : ℕ) → bytes ≡ (48 + d) ∷ (48 + e) ∷ rest → e < 10
-    → ((10 * d + e ≤ LARGEST_EXPONENT) → (EndsFactor rest → ⊥)) → IsNoFront IsPower EndsFactor bytes
-no-exponent bytes rest d e is nine bad other y tail (One c c2 c10) ok f =
-    digit tail ok (tail-same (sym f ∙ is))
-  where
-    digit : (tail : List ℕ) → EndsFactor tail → tail ≡ (48 + e) ∷ rest → ⊥
-    digit [] ok g = nothing-there g
-    digit (t ∷ tail) ok g =
-        elim ok.0 [
-          | inl low ↦ absurd (omega (arith, head-same g))
-          | inr high ↦ absurd
-              (omega (arith, head-same g))
-        ]
-no-exponent bytes rest d e is nine bad other y tail (Two b c b1 b10 c10 few) ok f =
-    let g = sym f ∙ is in
-    bad (omega (arith, head-same g, head-same (tail-same g)))
-    (subst EndsFactor (tail-same (tail-same g)) ok)
+pub no-exponent : (rest : List ℕ) (d e : ℕ) → e < 10
+    → ((10 * d + e ≤ LARGEST_EXPONENT) → (EndsFactor rest → ⊥))
+    → IsNoFront IsPower EndsFactor ((48 + d) ∷ (48 + e) ∷ rest)
+no-exponent rest d e nine bad other y tail (One c c2 c10) ok f =
+    absurd (omega (arith, nine, (rw (← tail-same f) at ok).0))
+no-exponent rest d e nine bad other y tail (Two b c b1 b10 c10 few) ok f =
+    bad (omega (arith, few, head-same f, head-same (tail-same f)))
+    (rw (← tail-same (tail-same f)) at ok)
 
 -- a letter alone
-pub letter-alone : (bytes rest : List ℕ) (letter : ℕ) → bytes ≡ (97 + letter) ∷ rest → letter < LETTERS
-    → (StartsWith 94 rest → ⊥) → IsFront IsFactor EndsFactor bytes (letter, 1) rest
-letter-alone bytes rest letter is low bare = record {
-  word = (97 + letter) ∷ [];
-  is = Alone letter low;
-  joined = is;
-  only = same;
-}
+pub letter-alone : (rest : List ℕ) (letter : ℕ) → letter < LETTERS → (StartsWith 94 rest → ⊥)
+    → IsFront IsFactor EndsFactor ((97 + letter) ∷ rest) (letter, 1) rest
+letter-alone rest letter low bare =
+    record { word = (97 + letter) ∷ []; is = Alone letter low; joined = refl; only = same }
   where
     same : (other : List ℕ) (y : ℕ × ℕ) (tail : List ℕ) → IsFactor other y → EndsFactor tail
-        → bytes ≡ other ++ tail → (y ≡ (letter, 1)) × (tail ≡ rest)
+        → (97 + letter) ∷ rest ≡ other ++ tail → (y ≡ (letter, 1)) × (tail ≡ rest)
     same other y tail (Alone l lt) ok f =
-        let g = sym f ∙ is in
-        let l_is : l ≡ letter = omega (arith, head-same g) in
-        (ap (λ k. (k, 1)) l_is, tail-same g)
-    same other y tail (Raised l n digits lt p) ok f =
-        absurd (bare (subst (StartsWith 94) (sym (sym (tail-same (sym f ∙ is)))) refl))
+        let l_is : l ≡ letter = omega (arith, head-same f) in
+        (ap (λ k. (k, 1)) l_is, sym (tail-same f))
+    same other y tail (Raised l n digits lt p) ok f = absurd (bare (rw (tail-same f) refl))
 
 -- a letter with an exponent
-pub letter-raised : (bytes rest behind : List ℕ) (letter n : ℕ) → bytes ≡ (97 + letter) ∷ 94 ∷ rest
-    → letter < LETTERS → IsFront IsPower EndsFactor rest n behind
-    → IsFront IsFactor EndsFactor bytes (letter, n) behind
-letter-raised bytes rest behind letter n is low p = record {
+pub letter-raised : (rest behind : List ℕ) (letter n : ℕ) → letter < LETTERS
+    → IsFront IsPower EndsFactor rest n behind
+    → IsFront IsFactor EndsFactor ((97 + letter) ∷ 94 ∷ rest) (letter, n) behind
+letter-raised rest behind letter n low p = record {
   word = (97 + letter) ∷ 94 ∷ p.word;
   is = Raised letter n p.word low p.is;
-  joined = is ∙ ap (λ t. (97 + letter) ∷ 94 ∷ t) p.joined;
+  joined = ap (λ t. (97 + letter) ∷ 94 ∷ t) p.joined;
   only = same;
 }
   where
     same : (other : List ℕ) (y : ℕ × ℕ) (tail : List ℕ) → IsFactor other y → EndsFactor tail
-        → bytes ≡ other ++ tail → (y ≡ (letter, n)) × (tail ≡ behind)
-    same other y tail (Alone l lt) ok f = absurd (caret tail ok (tail-same (sym f ∙ is)))
-      where
-        caret : (tail : List ℕ) → EndsFactor tail → tail ≡ 94 ∷ rest → ⊥
-        caret [] ok g = nothing-there g
-        caret (t ∷ tail) ok g = ok.1 (head-same g)
+        → (97 + letter) ∷ 94 ∷ rest ≡ other ++ tail → (y ≡ (letter, n)) × (tail ≡ behind)
+    same other y tail (Alone l lt) ok f = absurd ((rw (← tail-same f) at ok).1 refl)
     same other y tail (Raised l m digits lt q) ok f =
-        let g = sym f ∙ is in
-        let l_is : l ≡ letter = omega (arith, head-same g) in
-        let r = p.only digits m tail q ok (sym (tail-same (tail-same g))) in
+        let l_is : l ≡ letter = omega (arith, head-same f) in
+        let r = p.only digits m tail q ok (tail-same (tail-same f)) in
         (ap₂ (λ k m. (k, m)) l_is r.0, r.1)
 
 -- a factor begins with a letter
@@ -151,10 +107,6 @@ factors-letter bytes v None some = absurd (omega arith)
 factors-letter bytes v (More first rest factor w is are) some =
     let l = factor-letter first factor is in (l.0, l.1 ++ rest, ap (λ t. t ++ rest) l.2, l.3)
 
-ends-letter : (bytes : List ℕ) (b : ℕ) (bs : List ℕ) → bytes ≡ b ∷ bs → 97 ≤ b → EndsFactor bytes
-ends-letter bytes b bs e high =
-    subst EndsFactor (sym e) (inr (omega arith), λ same. absurd (omega (arith, same)))
-
 ends-word : (tail : List ℕ) → EndsWord tail → EndsFactor tail
 ends-word [] ok = tt
 ends-word (t ∷ tail) (inl e) = (inr (omega arith), λ same. absurd (omega (arith, same, e)))
@@ -162,9 +114,7 @@ ends-word (t ∷ tail) (inr e) = (inl (omega arith), λ same. absurd (omega (ari
 
 pub word-no-letter : (tail : List ℕ) (b : ℕ) (bs : List ℕ) → EndsWord tail → tail ≡ b ∷ bs → 97 ≤ b
     → ⊥
-word-no-letter [] b bs ok e high = nothing-there e
-word-no-letter (t ∷ tail) b bs (inl is) e high = absurd (omega (arith, head-same e, is))
-word-no-letter (t ∷ tail) b bs (inr is) e high = absurd (omega (arith, head-same e, is))
+word-no-letter tail b bs ok e high = omega (arith, rw e at ok, high)
 
 -- behind factors comes a letter, or what may come behind a word
 ends-more : (bytes v tail : List ℕ) → AreFactors bytes v → EndsWord tail
@@ -172,8 +122,7 @@ ends-more : (bytes v tail : List ℕ) → AreFactors bytes v → EndsWord tail
 ends-more bytes v tail None ok = ends-word tail ok
 ends-more bytes v tail (More first rest factor w is are) ok =
     let l = factor-letter first factor is in
-    ends-letter ((first ++ rest) ++ tail) l.0 ((l.1 ++ rest) ++ tail)
-    (ap (λ t. (t ++ rest) ++ tail) l.2) l.3
+    rw l.2 (inr (omega (arith, l.3)), λ same. absurd (omega (arith, same, l.3)))
 
 -- Factors were read from the front on, with these exponents, and the rest is still to be read.
 pub record IsReadSoFar (front rest v : List ℕ) : Type 0 where
@@ -184,7 +133,7 @@ pub record IsReadSoFar (front rest v : List ℕ) : Type 0 where
       → (later : List ℕ) × (u : List ℕ) × AreFactors later u × (rest ≡ later ++ tail)
       × (w ≡ plus v u)
 
-length-factors : (bytes v : List ℕ) → AreFactors bytes v → length v ≡ LETTERS
+pub length-factors : (bytes v : List ℕ) → AreFactors bytes v → length v ≡ LETTERS
 length-factors bytes v None = refl
 length-factors bytes v (More first rest factor w is are) =
     length-plus (only LETTERS factor.0 factor.1) w
@@ -194,8 +143,7 @@ pub read-none : (front : List ℕ) → IsReadSoFar front front (zeros LETTERS)
 read-none front = record {
   read = [];
   joined = refl;
-  sound = λ word w are. subst (AreFactors word) (sym (zeros-plus w LETTERS (length-factors word w are)))
-      are;
+  sound = λ word w are. rw (zeros-plus w LETTERS (length-factors word w are)) are;
   whole =
       λ word w tail are ok e. (word, w, are, e, sym (zeros-plus w LETTERS (length-factors word w are)));
 }
@@ -207,11 +155,9 @@ read-more front rest behind v letter n so f = record {
   read = so.read ++ f.word;
   joined = so.joined ∙ ap (λ t. so.read ++ t) f.joined ∙ sym (append_assoc so.read f.word behind);
   sound = λ word w are.
-      subst (λ b. AreFactors b (plus (plus v (only LETTERS letter n)) w))
-      (sym (append_assoc so.read f.word word))
-      (subst (AreFactors (so.read ++ (f.word ++ word))) (sym (plus-assoc v (only LETTERS letter n) w))
+      rw (append_assoc so.read f.word word, plus-assoc v (only LETTERS letter n) w)
       (so.sound (f.word ++ word) (plus (only LETTERS letter n) w)
-      (More f.word word (letter, n) w f.is are)));
+      (More f.word word (letter, n) w f.is are));
   whole = λ word w tail are ok e. let l = so.whole word w tail are ok e in
       later l.0 l.1 tail w l.2 ok l.3 l.4;
 }
@@ -244,8 +190,7 @@ pub read-all : (front rest v : List ℕ) → IsReadSoFar front rest v
 read-all front rest v so none long few = record {
   word = so.read;
   is = record {
-    are = subst (λ b. AreFactors b v) (append-none so.read)
-        (subst (AreFactors (so.read ++ [])) (plus-zeros v LETTERS long) (so.sound [] (zeros LETTERS) None));
+    are = rw (append-nil so.read, plus-zeros v LETTERS long) at (so.sound [] (zeros LETTERS) None);
     few = few;
   };
   joined = so.joined;
@@ -261,37 +206,28 @@ read-all front rest v so none long few = record {
         (none first factor (after ++ tail) one (ends-more after x tail are ok)
         (e ∙ append_assoc first after tail))
 
+plus-at : (u w : List ℕ) (i : ℕ) → get_or (plus u w) i 0 ≡ get_or u i 0 + get_or w i 0
+plus-at [] w i = omega arith
+plus-at (x ∷ u) [] i = omega arith
+plus-at (x ∷ u) (y ∷ w) zero = refl
+plus-at (x ∷ u) (y ∷ w) (suc i) = plus-at u w i
+
 -- an exponent that is too large stays too large
 pub read-much : (front rest behind v : List ℕ) (letter n : ℕ) → IsReadSoFar front rest v
     → IsFront IsFactor EndsFactor rest (letter, n) behind
-    → length v ≡ LETTERS → letter < LETTERS → LARGEST_EXPONENT < get_or v letter 0 + n
+    → letter < LETTERS → LARGEST_EXPONENT < get_or v letter 0 + n
     → IsNoFront AreFewFactors EndsWord front
-read-much front rest behind v letter n so f long low much other y tail is ok e =
+read-much front rest behind v letter n so f low much other y tail is ok e =
     let l = (read-more front rest behind v letter n so f).whole other y tail is.are ok e in
-    let at : get_or (plus (plus v (only LETTERS letter n)) l.1) letter 0 ≡ get_or v letter 0 + n
-    + get_or l.1 letter 0 =
-    plus-at (plus v (only LETTERS letter n)) l.1 letter
-    (length-plus v (only LETTERS letter n) (long ∙ sym (length-only LETTERS letter n))
-    ∙ length-only LETTERS letter n ∙ sym (length-factors l.0 l.1 l.2))
-    ∙ ap (λ k. k + get_or l.1 letter 0)
-    (plus-at v (only LETTERS letter n) letter (long ∙ sym (length-only LETTERS letter n))
-    ∙ ap (λ k. get_or v letter 0 + k) (only-here LETTERS letter n low)) in
-    let y_at : get_or y letter 0 ≡ get_or v letter 0 + n + get_or l.1 letter 0 =
-    ap (λ w. get_or w letter 0) l.4 ∙ at in
-    absurd (omega (arith, y_at, is.few letter 0 (omega (arith, length-factors other y is.are))))
-  where
-    plus-at : (u w : List ℕ) (i : ℕ) → length u ≡ length w
-        → get_or (plus u w) i 0 ≡ get_or u i 0 + get_or w i 0
-    plus-at [] [] i len = refl
-    plus-at [] (y ∷ w) i len = absurd (omega arith)
-    plus-at (x ∷ u) [] i len = absurd (omega arith)
-    plus-at (x ∷ u) (y ∷ w) zero len = refl
-    plus-at (x ∷ u) (y ∷ w) (suc i) len = plus-at u w i (omega arith)
-
-    only-here : (n i k : ℕ) → i < n → get_or (only n i k) i 0 ≡ k
-    only-here zero i k lt = absurd (omega arith)
-    only-here (suc n) zero k lt = refl
-    only-here (suc n) (suc i) k lt = only-here n i k (omega arith)
+    let one = only LETTERS letter n in
+    omega (
+      arith,
+      ap (λ w. get_or w letter 0) l.4,
+      plus-at (plus v one) l.1 letter,
+      plus-at v one letter,
+      only-here LETTERS letter n low,
+      is.few letter 0 (omega (arith, length-factors other y is.are)),
+    )
 
 -- what the code writes
 pub set-only : (v : List ℕ) (m letter n whole : ℕ) → length v ≡ m → letter < m
@@ -299,29 +235,20 @@ pub set-only : (v : List ℕ) (m letter n whole : ℕ) → length v ≡ m → le
 set-only v zero letter n whole len lt e = absurd (omega arith)
 set-only [] (suc m) letter n whole len lt e = absurd (omega arith)
 set-only (x ∷ v) (suc m) zero n whole len lt e =
-    ap₂ (λ a b. a ∷ b) e (sym (plus-zeros v m (omega arith)))
+    cons-same e (sym (plus-zeros v m (omega arith)))
 set-only (x ∷ v) (suc m) (suc letter) n whole len lt e =
-    ap₂ (λ a b. a ∷ b) (zero_right x) (set-only v m letter n whole (omega arith) (omega arith) e)
-  where
-    zero_right : (x : ℕ) → x ≡ x + 0
-    zero_right x = omega arith
+    cons-same (omega arith) (set-only v m letter n whole (omega arith) (omega arith) e)
 
 -- the word 1
-pub word-one : (bytes rest : List ℕ) → bytes ≡ 49 ∷ rest
-    → IsFront IsWord EndsWord bytes (zeros LETTERS) rest
-word-one bytes rest is = record {
-  word = 49 ∷ [];
-  is = Empty;
-  joined = is;
-  only = same;
-}
+pub word-one : (rest : List ℕ) → IsFront IsWord EndsWord (49 ∷ rest) (zeros LETTERS) rest
+word-one rest = record { word = 49 ∷ []; is = Empty; joined = refl; only = same }
   where
-    same : (other y tail : List ℕ) → IsWord other y → EndsWord tail → bytes ≡ other ++ tail
+    same : (other y tail : List ℕ) → IsWord other y → EndsWord tail → 49 ∷ rest ≡ other ++ tail
         → (y ≡ zeros LETTERS) × (tail ≡ rest)
-    same other y tail Empty ok e = (refl, tail-same (sym e ∙ is))
+    same other y tail Empty ok e = (refl, sym (tail-same e))
     same other y tail (Product b v some f) ok e =
         let l = factors-letter b v f.are some in
-        absurd (omega (arith, l.3, head-same (sym is ∙ e ∙ ap (λ t. t ++ tail) l.2)))
+        absurd (omega (arith, l.3, head-same (e ∙ ap (λ t. t ++ tail) l.2)))
 
 -- a word of factors
 pub word-product : (bytes rest v : List ℕ) → (StartsWith 49 bytes → ⊥)
@@ -336,13 +263,13 @@ word-product bytes rest v other_one f less = record {
   where
     same : (other y tail : List ℕ) → IsWord other y → EndsWord tail → bytes ≡ other ++ tail
         → (y ≡ v) × (tail ≡ rest)
-    same other y tail Empty ok e = absurd (other_one (subst (StartsWith 49) (sym e) refl))
+    same other y tail Empty ok e = absurd (other_one (rw e refl))
     same other y tail (Product b w some g) ok e = f.only b w tail g ok e
 
 pub no-factors : (bytes rest v : List ℕ) → (StartsWith 49 bytes → ⊥)
     → IsFront AreFewFactors EndsWord bytes v rest → rest ≡ bytes → IsNoFront IsWord EndsWord bytes
 no-factors bytes rest v other_one f same other y tail Empty ok e =
-    other_one (subst (StartsWith 49) (sym e) refl)
+    other_one (rw e refl)
 no-factors bytes rest v other_one f same other y tail (Product b w some g) ok e =
     let t = f.only b w tail g ok e in
     absurd (omega (arith, ap length t.1, ap length same, ap length e, length-append b tail))
@@ -352,16 +279,7 @@ pub digit-goes-on : (At : Type 0) (o : Option ℕ) (b : Bool) (rest behind : Lis
     → b ≡ true
     → IfSome o (λ d. (d < 10) × At × (rest ≡ (48 + d) ∷ behind)) → EndsFactor rest → ⊥
 digit-goes-on At Nothing b rest behind e t h ok = false≢true (sym e ∙ t)
-digit-goes-on At (Some d) b rest behind e t h ok = digit rest ok h.2
-  where
-    digit : (rest : List ℕ) → EndsFactor rest → rest ≡ (48 + d) ∷ behind → ⊥
-    digit [] ok g = nothing-there g
-    digit (r ∷ rest) ok g =
-        elim ok.0 [
-          | inl low ↦ absurd (omega (arith, head-same g, h.0))
-          | inr high ↦ absurd
-              (omega (arith, head-same g, h.0))
-        ]
+digit-goes-on At (Some d) b rest behind e t h ok = omega (arith, h.0, (rw h.2 at ok).0)
 
 pub all-zeros : (n : ℕ) → All (λ x. x ≤ LARGEST_EXPONENT) (zeros n)
 all-zeros zero k d lt = absurd (omega arith)

@@ -1,9 +1,10 @@
 -- How large the box of the letters' least powers is.
 -- By induction on the letters: each multiplies the size by its least power, and none lessens it.
-use Rattle.std.proofs.Common.{◌≡◌, ℕ, zero, suc, ◌+◌, ◌*◌, ◌<◌, ◌≤◌, Bool, true, false, List, [], ◌∷◌, ◌++◌, length, refl, sym, ap, ◌∙◌, inl, inr, arith, subst}
+use Rattle.std.proofs.Common.{◌≡◌, ℕ, zero, suc, ◌+◌, ◌*◌, ◌<◌, ◌≤◌, Bool, true, false, List, [], ◌∷◌, ◌++◌, length, refl, sym, ap, ap₂, ◌∙◌, inl, inr, add-one, arith, subst}
 use Rattle.std.specs.Prelude.{Some, IsTrue, if◌then◌else◌}
 use Rattle.std.proofs.lemmas.Bool.{cases_eq}
 use Rattle.std.proofs.lemmas.Nat.{mul-le}
+use Rattle.std.proofs.Math.Nat.{mul_assoc}
 use Rattle.presentations.specs.declared.TheConstants.{LETTERS}
 use Rattle.presentations.specs.declared.read.Relation.{Relation}
 use Rattle.presentations.specs.Words.{occurs, letters_of, letters_below}
@@ -16,11 +17,8 @@ least-larger relations letter p h = record {
   least = λ n larger. h.2 n larger.0 larger.1 larger.2.within larger.2;
 }
 
-none : Relation
-none = record { left = []; right = [] }
-
 positive : (relations : List Relation) (letter m : ℕ) → IsLeastLarger relations letter m → 1 ≤ m
-positive relations letter m h = omega (arith, (h.is.2.is none).less)
+positive relations letter m h = omega (arith, (h.is.2.is (record { left = []; right = [] })).less)
 
 one-least : (relations : List Relation) (letter m n : ℕ) → IsLeastLarger relations letter m
     → IsLeastLarger relations letter n → m ≡ n
@@ -29,52 +27,40 @@ one-least relations letter m n h k = omega (arith, h.least n k.is, k.least m h.i
 box-push : (relations : List Relation) (letters : List ℕ) (letter n m : ℕ)
     → IsBoxSize relations letters n → IsLeastLarger relations letter m
     → IsBoxSize relations (letters ++ letter ∷ []) (n * m)
-box-push relations [] letter n m b h = (m, 1, h, refl, ap (λ k. k * m) b ∙ plain m)
-  where
-    plain : (m : ℕ) → 1 * m ≡ m * 1
-    plain m = omega arith
+box-push relations [] letter n m b h = (m, 1, h, refl, rw b (omega arith))
 box-push relations (first ∷ letters) letter n m b h = (
   b.0,
   b.1 * m,
   b.2,
   box-push relations letters letter b.1 m b.3 h,
-  ap (λ k. k * m) b.4
-      ∙ plain b.0 b.1 m,
+  ap (λ k. k * m) b.4 ∙ mul_assoc b.0 b.1 m,
 )
-  where
-    plain : (x y z : ℕ) → x * y * z ≡ x * (y * z)
-    plain x y z = grind arith
 
 -- the letters have one box size
 box-one : (relations : List Relation) (letters : List ℕ) (m n : ℕ) → IsBoxSize relations letters m
     → IsBoxSize relations letters n → m ≡ n
 box-one relations [] m n b c = b ∙ sym c
 box-one relations (letter ∷ letters) m n b c =
-    b.4 ∙ ap (λ k. k * b.1) (one-least relations letter b.0 c.0 b.2 c.2)
-    ∙ ap (λ k. c.0 * k) (box-one relations letters b.1 c.1 b.3 c.3) ∙ sym c.4
+    b.4 ∙ ap₂ (λ k l. k * l) (one-least relations letter b.0 c.0 b.2 c.2)
+    (box-one relations letters b.1 c.1 b.3 c.3) ∙ sym c.4
 
-next : (relations : List Relation) (n : ℕ) (b : Bool) → occurs relations n ≡ b
-    → letters_below relations (suc n)
+pub next-letters : (relations : List Relation) (n : ℕ) (b : Bool) → occurs relations n ≡ b
+    → letters_below relations (n + 1)
     ≡ (if b then letters_below relations n ++ n ∷ [] else letters_below relations n)
-next relations n b e =
-    ap (λ t. if t then letters_below relations n ++ n ∷ [] else letters_below relations n) e
+next-letters relations n b e =
+    ap (letters_below relations) (add-one n)
+    ∙ ap (λ t. if t then letters_below relations n ++ n ∷ [] else letters_below relations n) e
 
 pub box-more : (relations : List Relation) (n s m : ℕ)
     → IsBoxSize relations (letters_below relations n) s → occurs relations n ≡ true
     → IsLeastLarger relations n m → IsBoxSize relations (letters_below relations (n + 1)) (s * m)
 box-more relations n s m b e h =
-    let one : suc n ≡ n + 1 = omega arith in
-    subst (λ k. IsBoxSize relations (letters_below relations k) (s * m)) one
-    (subst (λ ls. IsBoxSize relations ls (s * m)) (sym (next relations n true e))
-    (box-push relations (letters_below relations n) n s m b h))
+    rw (next-letters relations n true e) (box-push relations (letters_below relations n) n s m b h)
 
 pub box-skip : (relations : List Relation) (n s : ℕ)
     → IsBoxSize relations (letters_below relations n) s → occurs relations n ≡ false
     → IsBoxSize relations (letters_below relations (n + 1)) s
-box-skip relations n s b e =
-    let one : suc n ≡ n + 1 = omega arith in
-    subst (λ k. IsBoxSize relations (letters_below relations k) s) one
-    (subst (λ ls. IsBoxSize relations ls s) (sym (next relations n false e)) b)
+box-skip relations n s b e = rw (next-letters relations n false e) b
 
 module _ (relations : List Relation) (limit : ℕ) (least : (letter : ℕ) → letter < LETTERS
     → IsTrue (occurs relations letter) → HasLeastPower relations letter) where
@@ -101,15 +87,10 @@ module _ (relations : List Relation) (limit : ℕ) (least : (letter : ℕ) → l
       with false e = (a.0, box-skip relations n a.0 a.1 e, a.2)
 
   above-up : (n t : ℕ) → n ≤ t → t ≤ LETTERS → Above n → Above t
-  above-up n zero le low a = subst Above (none_below n le) a
-    where
-      none_below : (n : ℕ) → n ≤ 0 → n ≡ 0
-      none_below n le = omega arith
+  above-up n zero le low a = let none : n ≡ 0 = omega arith in subst Above none a
   above-up n (suc t) le low a = elim (cases_eq n (suc t)) [
     | inl same ↦ subst Above same a
-    | inr other ↦
-        let one : t + 1 ≡ suc t = omega arith in
-        subst Above one
+    | inr other ↦ subst Above (add-one t)
         (above-next t (omega arith) (above-up n t (omega (arith, other)) (omega arith) a))
   ]
 

@@ -2,39 +2,35 @@
 -- What was read and what is left are the text: each relation more keeps this.
 use Rattle.std.proofs.Common.{◌≡◌, ◌⊎◌, ℕ, ◌<◌, List, [], ◌∷◌, ◌++◌, length, refl, sym, ap, ap₂, ◌∙◌, inl, inr, arith, subst, append_assoc, length-append}
 use Rattle.std.specs.Prelude.{◌↔◌}
+use Rattle.std.proofs.lemmas.List.{append-nil}
 use Rattle.presentations.specs.declared.TheConstants.{MOST_RELATIONS}
 use Rattle.presentations.specs.declared.read.Relation.{Relation}
 use Rattle.presentations.specs.Text.{IsWord, IsRelation, AreRelations, SpellsPresentation}
 use Rattle.presentations.specs.Text.IsRelation.{Equal}
 use Rattle.presentations.specs.Text.AreRelations.{Last, Next}
 use Rattle.presentations.specs.Fronts.{EndsWord, EndsRelation, StartsWith, IsFront, IsNoFront}
-use Rattle.presentations.proofs.Reading.{tail-same, nothing-there, append-none}
+use Rattle.presentations.proofs.Reading.{tail-same, nothing-there}
 
 ends : (tail : List ℕ) → EndsRelation tail → EndsWord tail
 ends [] ok = tt
 ends (t ∷ tail) ok = inr ok
 
--- the bytes behind the left word
-behind-left : (left right tail : List ℕ)
-    → (left ++ 61 ∷ right) ++ tail ≡ left ++ 61 ∷ (right ++ tail)
-behind-left left right tail = append_assoc left (61 ∷ right) tail
-
 pub no-left : (bytes : List ℕ) → IsNoFront IsWord EndsWord bytes
     → IsNoFront IsRelation EndsRelation bytes
 no-left bytes none other y tail (Equal left right r l k) ok e =
-    none left r.left (61 ∷ (right ++ tail)) l (inl refl) (e ∙ behind-left left right tail)
+    none left r.left (61 ∷ (right ++ tail)) l (inl refl) (e ∙ append_assoc left (61 ∷ right) tail)
 
 pub no-equals : (bytes middle v : List ℕ) → IsFront IsWord EndsWord bytes v middle
     → (StartsWith 61 middle → ⊥) → IsNoFront IsRelation EndsRelation bytes
 no-equals bytes middle v f bare other y tail (Equal left right r l k) ok e =
-    let s = f.only left r.left (61 ∷ (right ++ tail)) l (inl refl) (e ∙ behind-left left right tail)
+    let s = f.only left r.left (61 ∷ (right ++ tail)) l (inl refl) (e ∙ append_assoc left (61 ∷ right) tail)
     in
-    bare (subst (StartsWith 61) s.1 refl)
+    bare (rw (← s.1) refl)
 
 pub no-right : (bytes middle v rest : List ℕ) → IsFront IsWord EndsWord bytes v middle
     → middle ≡ 61 ∷ rest → IsNoFront IsWord EndsWord rest → IsNoFront IsRelation EndsRelation bytes
 no-right bytes middle v rest f is none other y tail (Equal left right r l k) ok e =
-    let s = f.only left r.left (61 ∷ (right ++ tail)) l (inl refl) (e ∙ behind-left left right tail)
+    let s = f.only left r.left (61 ∷ (right ++ tail)) l (inl refl) (e ∙ append_assoc left (61 ∷ right) tail)
     in
     none right r.right tail k (ends tail ok) (sym (tail-same (s.1 ∙ is)))
 
@@ -46,7 +42,7 @@ both-sides bytes middle rest behind r f is g = record {
   word = f.word ++ 61 ∷ g.word;
   is = Equal f.word g.word r f.is g.is;
   joined = f.joined ∙ ap (λ t. f.word ++ t) (is ∙ ap (λ t. 61 ∷ t) g.joined)
-      ∙ sym (behind-left f.word g.word behind);
+      ∙ sym (append_assoc f.word (61 ∷ g.word) behind);
   only = same;
 }
   where
@@ -54,7 +50,7 @@ both-sides bytes middle rest behind r f is g = record {
         → bytes ≡ other ++ tail → (y ≡ r) × (tail ≡ behind)
     same other y tail (Equal left right q l k) ok e =
         let s =
-        f.only left q.left (61 ∷ (right ++ tail)) l (inl refl) (e ∙ behind-left left right tail)
+        f.only left q.left (61 ∷ (right ++ tail)) l (inl refl) (e ∙ append_assoc left (61 ∷ right) tail)
         in
         let t = g.only right q.right tail k (ends tail ok) (sym (tail-same (s.1 ∙ is))) in
         (ap₂ (λ a b. record { left = a; right = b }) s.0 t.0, t.1)
@@ -69,8 +65,8 @@ pub record AreReadSoFar (text rest : List ℕ) (relations : List Relation) : Typ
 pub start : (text rest : List ℕ) (relations : List Relation) → rest ≡ text → relations ≡ []
     → AreReadSoFar text rest relations
 start text rest relations e none = record {
-  sound = λ bytes more is are. rw none (subst (λ b. AreRelations b more) (sym is ∙ e) are);
-  whole = λ all are. (all, subst (λ b. AreRelations b all) (sym e) are, rw none refl);
+  sound = λ bytes more is are. rw (none, ← e, is) are;
+  whole = λ all are. (all, rw e are, rw none refl);
 }
 
 -- what the first relation is, and what comes then
@@ -80,7 +76,7 @@ first-of : (rest behind : List ℕ) (r : Relation) (more : List Relation)
     ⊎ ((later : List ℕ) × (others : List Relation) × (behind ≡ 32 ∷ later)
     × AreRelations later others × (more ≡ r ∷ others))
 first-of rest behind r more f (Last bytes q is) =
-    let s = f.only bytes q [] is tt (sym (append-none bytes)) in
+    let s = f.only bytes q [] is tt (sym (append-nil bytes)) in
     inl (sym s.1, ap (λ p. p ∷ []) s.0)
 first-of rest behind r more f (Next first later q others is are) =
     let s = f.only first q (32 ∷ later) is refl refl in
@@ -93,7 +89,7 @@ one-more text rest behind later relations r so f space = record {
   sound = λ bytes more is are.
       let next : AreRelations (f.word ++ 32 ∷ bytes) (r ∷ more) = Next f.word bytes r more f.is are
       in
-      subst (AreRelations text) (sym (append_assoc relations (r ∷ []) more))
+      rw (append_assoc relations (r ∷ []) more)
       (so.sound (f.word ++ 32 ∷ bytes) (r ∷ more)
       (f.joined ∙ ap (λ t. f.word ++ t) (space ∙ ap (λ t. 32 ∷ t) is)) next);
   whole = λ all are.
@@ -102,7 +98,7 @@ one-more text rest behind later relations r so f space = record {
         | inl last ↦ absurd (nothing-there (sym last.0 ∙ space))
         | inr next ↦ (
           next.1,
-          subst (λ b. AreRelations b next.1) (tail-same (sym next.2 ∙ space)) next.3,
+          rw (tail-same (sym next.2 ∙ space)) at next.3,
           w.2 ∙ ap (λ m. relations ++ m) next.4 ∙ sym (append_assoc relations (r ∷ []) next.1),
         )
       ];
@@ -120,8 +116,8 @@ all-read text rest behind relations all r so f end few is q = (
         | inl last ↦ is ∙ ap (λ m. relations ++ m) (sym last.1) ∙ sym w.2
         | inr next ↦ absurd (nothing-there (sym end ∙ next.2))
       ],
-  λ same. subst (SpellsPresentation text) (sym is ∙ same) (record {
-    are = so.sound f.word (r ∷ []) (f.joined ∙ ap (λ t. f.word ++ t) end ∙ append-none f.word)
+  λ same. rw (← same, is) (record {
+    are = so.sound f.word (r ∷ []) (f.joined ∙ ap (λ t. f.word ++ t) end ∙ append-nil f.word)
         (Last f.word r f.is);
     most = omega (arith, length-append relations (r ∷ []));
   }),
@@ -135,7 +131,7 @@ no-relation text rest relations so none q spells = let w = so.whole q spells.are
   where
     nothing : (rest : List ℕ) (more : List Relation) → IsNoFront IsRelation EndsRelation rest
         → AreRelations rest more → ⊥
-    nothing rest more none (Last bytes r is) = none bytes r [] is tt (sym (append-none bytes))
+    nothing rest more none (Last bytes r is) = none bytes r [] is tt (sym (append-nil bytes))
     nothing rest more none (Next first later r others is are) =
         none first r (32 ∷ later) is refl refl
 
@@ -147,7 +143,7 @@ no-space text rest behind relations r so f some bare q spells =
     let w = so.whole q spells.are in
     elim (first-of rest behind r w.0 f w.1) [
       | inl last ↦ absurd (omega (arith, ap length last.0))
-      | inr next ↦ bare (subst (StartsWith 32) (sym next.2) refl)
+      | inr next ↦ bare (rw next.2 refl)
     ]
 
 pub too-many : (text rest : List ℕ) (relations : List Relation) → AreReadSoFar text rest relations

@@ -51,6 +51,7 @@ pub record IsPointed (old new : MergeState) (at to : ℕ) : Type 0 where
   pub axes : new.axes ≡ old.axes
   pub relations : new.relations ≡ old.relations
   pub parents : new.parents ≡ slice_set old.parents at to
+  pub pending : new.pending ≡ old.pending
 
 -- the box stays, and pointers only go down
 pub record Shrinks (old new : MergeState) : Type 0 where

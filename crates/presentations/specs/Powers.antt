@@ -40,6 +40,16 @@ IsLeastPower relations letter n (Some p) =
     ((k : ℕ) × HasPower relations letter p.0 p.1 k) × (p.0 < 256)
     × ((most back k : ℕ) → k < n → HasPower relations letter most back k → p.0 ≤ most)
 
+-- the letter has a least larger exponent
+abbrev pub HasLeastPower : List Relation → ℕ → Type 0
+HasLeastPower relations letter =
+    (p : ℕ × ℕ) × IsLeastPower relations letter (length relations) (Some p)
+
+-- each letter that occurs has a least larger exponent
+abbrev pub AreBounded : List Relation → Type 0
+AreBounded relations = (letter : ℕ) → letter < LETTERS → IsTrue (occurs relations letter)
+    → HasLeastPower relations letter
+
 -- some letter that occurs has no relation between two different powers of it alone
 pub record IsUnbounded (relations : List Relation) : Type 0 where
   pub letter : ℕ
@@ -67,8 +77,3 @@ pub record IsAboveLimit (relations : List Relation) (limit : ℕ) : Type 0 where
   pub size : ℕ
   pub is : IsBoxSize relations (letters_of relations) size
   pub above : limit < size
-
--- the letter has a least larger exponent
-abbrev pub HasLeastPower : List Relation → ℕ → Type 0
-HasLeastPower relations letter =
-    (p : ℕ × ℕ) × IsLeastPower relations letter (length relations) (Some p)

@@ -4,7 +4,7 @@ use Rattle.misere_theory.specs.Quotients.{Claim, Monoid}
 use Rattle.misere_theory.specs.Numbering.{IsNumbered}
 use Rattle.monoid_table.specs.Grids.{Grid, times_in}
 use Rattle.monoid_table.specs.Laws.{power_of}
-use Rattle.presentations.specs.declared.named.Generator.{Generator}
+use Rattle.presentations.specs.declared.named.NamedElement.{NamedElement}
 use Rattle.presentations.specs.declared.read.Relation.{Relation}
 use Rattle.presentations.specs.Congruences.{Related}
 use Rattle.presentations.specs.Words.{letters_of, pairs_on}
@@ -34,8 +34,8 @@ IsNumberedByLeastKeys table elements =
 -- The table is a commutative monoid; each letter that occurs has an element of it; products of
 -- powers are equal exactly where the least congruence relates their exponents; each element is such
 -- a product; and the elements are numbered by least keys.
-pub record IsTableOf (relations : List Relation) (table : Grid) (generators : List Generator) : Type
-    0 where
+pub record IsTableOf (relations : List Relation) (table : Grid)
+    (generators : List NamedElement) : Type 0 where
   pub monoid : Monoid table.order (times_in table)
   pub letters : map (λ g. g.letter) generators ≡ map (λ a. 97 + a) (letters_of relations)
   pub elements : All (λ g. g.element < table.order) generators

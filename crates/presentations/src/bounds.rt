@@ -1,8 +1,8 @@
 //! Letters that occur, and their least powers that come back.
-ghost use Rattle.std.specs.Prelude.{◌≡◌, ◌≢◌, ◌<◌, ◌≤◌, ◌↔◌, ℕ, IfOk, IfSome, IfNone, OnErr, Err, IsTrue, length};
+ghost use Rattle.std.specs.Prelude.{◌≡◌, ◌≢◌, ◌<◌, ◌≤◌, ◌↔◌, ℕ, IfOk, IfSome, IfNone, OnErr, Err, IsTrue, MatchBool, length};
 ghost use Rattle.presentations.specs.declared.TheConstants.{LETTERS};
 ghost use Rattle.presentations.specs.Words.{occurs, letters_of};
-ghost use Rattle.presentations.specs.Powers.{IsPowerOf, IsPowerRelation, IsLeastPower, IsUnbounded, IsAboveLimit, HasLeastPower, lower_of};
+ghost use Rattle.presentations.specs.Powers.{IsPowerOf, IsPowerRelation, IsLeastPower, AreBounded, IsUnbounded, IsAboveLimit, lower_of};
 ghost use Rattle.presentations.specs.Boxes.{size_of};
 ghost use Rattle.presentations.specs.Merging.{letters_in, IsBox};
 
@@ -90,18 +90,16 @@ fn least_power(relations: &[Relation], letter: u8) -> Option<(usize, usize)>
     least
 }
 
-/// A letter that occurs and has no relation between two different powers of it.
-fn unbounded(relations: &[Relation]) -> Option<u8>
-    ensures some { IfSome result (λ letter. IsUnbounded relations.now) }
-    ensures none { IfNone result ((letter : ℕ) → letter < LETTERS → IsTrue (occurs relations.now letter)
-        → HasLeastPower relations.now letter) }
+/// Whether some letter that occurs has no relation between two different powers of it.
+fn is_unbounded(relations: &[Relation]) -> bool
+    ensures { MatchBool result (IsUnbounded relations.now) (AreBounded relations.now) }
 {
     for letter in 0..LETTERS as u8 {
         if occurs(relations, letter) && least_power(relations, letter).is_none() {
-            return Some(letter);
+            return true;
         }
     }
-    None
+    false
 }
 
 /// The axes of all letters that occur, in the order of the alphabet, and how many vectors their box
@@ -120,7 +118,7 @@ pub fn axes_of<A: Allocator>(
     ensures limit { (result ≡ Err PresFault.Limit) → IsAboveLimit relations.now limit }
     ensures not_text { OnErr result (result ≢ Err PresFault.Text) }
 {
-    if unbounded(relations).is_some() {
+    if is_unbounded(relations) {
         return Err(PresFault::Unbounded);
     }
     if limit == 0 {

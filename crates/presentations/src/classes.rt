@@ -16,6 +16,9 @@ fn first_of<A: Allocator>(merging: &mut Merging<'_, A>, from: usize) -> usize
     requires { from < size_of merging.old.axes }
     ensures within { result < size_of merging.old.axes }
     ensures related { AreRelated merging.old.axes merging.old.relations from result }
+    ensures first { slice_index merging.new.parents result ≡ result }
+    ensures stay { (u : ℕ) → slice_index merging.old.parents u ≡ u
+        → slice_index merging.new.parents u ≡ u }
     ensures kept { Shrinks merging.old merging.new }
 {
     let mut at = from;
@@ -60,7 +63,7 @@ fn join<A: Allocator>(merging: &mut Merging<'_, A>, u: usize, v: usize) -> Resul
 {
     let x = first_of(merging, u);
     let y = first_of(merging, v);
-    if merging.parent(x) == x && merging.parent(y) == y && x != y {
+    if x != y {
         link(merging, x, y)?;
     }
     Ok(())

@@ -28,5 +28,5 @@ mod read;
 
 pub use fault::PresFault;
 pub use laws::{VectorRelation, classes_are_exact, related_is_least, rows_are_a_table};
-pub use named::{Generator, Named, table_of};
+pub use named::{Named, NamedElement, table_of};
 pub use read::{Presentation, Relation};

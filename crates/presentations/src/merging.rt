@@ -48,6 +48,8 @@ impl<'a, A: Allocator> Merging<'a, A> {
         requires { IsMerging axes.now relations.now parents.items pending.items }
         ensures axes { result.axes ≡ axes.entry.now }
         ensures relations { result.relations ≡ relations.entry.now }
+        ensures parents { result.parents ≡ parents.items }
+        ensures pending { result.pending ≡ pending.items }
     {
         Merging {
             axes,

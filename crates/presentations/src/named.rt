@@ -19,7 +19,7 @@ use std::alloc::{Allocator, Global};
 
 /// A letter and its element.
 #[derive(Clone, Copy, Debug, PartialEq, Eq)]
-pub struct Generator {
+pub struct NamedElement {
     pub letter: u8,
     pub element: u16,
 }
@@ -28,7 +28,7 @@ pub struct Generator {
 #[derive(Drop)]
 pub struct Named<A: Allocator = Global> {
     pub table: Table<A>,
-    pub generators: Vec<Generator, A>,
+    pub generators: Vec<NamedElement, A>,
 }
 
 /// The table of the least congruence that holds every relation.
@@ -87,7 +87,7 @@ fn generators_of<A: Allocator + Copy>(
     alloc: A,
     axes: &[Axis],
     products: &[u16],
-) -> Result<Vec<Generator, A>, PresFault>
+) -> Result<Vec<NamedElement, A>, PresFault>
     requires letters { All (λ a. a.letter < LETTERS) axes.now }
     requires products { length axes.now ≤ length products.now }
     ensures letters { IfOk result
@@ -98,7 +98,7 @@ fn generators_of<A: Allocator + Copy>(
 {
     let mut generators = Vec::new(alloc);
     for i in 0..axes.len() {
-        generators.push(Generator {
+        generators.push(NamedElement {
             letter: b'a' + axes[i].letter,
             element: products[i],
         })?;

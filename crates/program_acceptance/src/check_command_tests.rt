@@ -2,6 +2,7 @@
 mod games;
 
 use crate::certificates::{ANSWERS, Answered, LIMIT, OF_0_3, folder_of, is_said};
+use crate::comparing::compare;
 use crate::cyclic::{cyclic, part};
 use check_command::check;
 use command_results::Said;
@@ -20,14 +21,23 @@ fn checked(alloc: Global, name: &str, held: &str, limit: u32) -> Option<Said> {
     }
 }
 
-/// How many rows hold.
+/// Whether the row holds.
+fn is_held(alloc: Global, row: &Answered) -> bool {
+    let (name, held, limit, text) = *row;
+    match checked(alloc, name, held, limit) {
+        Some(said) => is_said(&said, text),
+        None => false,
+    }
+}
+
+/// How many rows hold, up to the first that doesn't.
 fn count_held(alloc: Global, rows: &[Answered]) -> usize {
     let mut count = 0usize;
-    for (name, held, limit, text) in rows {
-        match checked(alloc, name, held, *limit) {
-            Some(said) if is_said(&said, text) => count = count.saturating_add(1),
-            _ => return count,
+    for row in rows {
+        if !is_held(alloc, row) {
+            return count;
         }
+        count = count.saturating_add(1);
     }
     count
 }
@@ -42,7 +52,27 @@ fn says_of_input(alloc: Global, bytes: &[u8], limit: u32, text: &str) -> bool {
     }
 }
 
-/// How many bytes the first beginning has that isn't refused as no text.
+/// A limit, and what is said under it of the quotient of 0.3 on standard input.
+static BY_INPUT: [(u32, &str); 4] = [
+    (LIMIT, "yes 0.3 order 2 start 1 period 2\n"),
+    (3, "yes 0.3 order 2 start 1 period 2\n"),
+    (2, "no 8 Limit\n"),
+    (1, "no 8 Limit\n"),
+];
+
+/// How many rows hold of the bytes, up to the first that doesn't.
+fn count_said(alloc: Global, bytes: &[u8], rows: &[(u32, &str)]) -> usize {
+    let mut count = 0usize;
+    for (limit, text) in rows {
+        if !says_of_input(alloc, bytes, *limit, text) {
+            return count;
+        }
+        count = count.saturating_add(1);
+    }
+    count
+}
+
+/// How many bytes the first beginning has that isn't refused as no text, or else the whole.
 fn first_read(alloc: Global, bytes: &[u8]) -> usize {
     for n in 0..bytes.len() {
         if !says_of_input(alloc, &bytes[..n], LIMIT, "no 1 Text\n") {
@@ -50,11 +80,6 @@ fn first_read(alloc: Global, bytes: &[u8]) -> usize {
         }
     }
     bytes.len()
-}
-
-/// Whether this is said of the bytes, and of each of their beginnings that they are no text.
-fn reads_input(alloc: Global, bytes: &[u8], text: &str) -> bool {
-    first_read(alloc, bytes) == bytes.len() && says_of_input(alloc, bytes, LIMIT, text)
 }
 
 /// Whether the check of a file of the bytes, which holds more than 2^16, begins so.
@@ -88,20 +113,19 @@ fn accepts_a_long_part(alloc: Global) -> bool {
 
 #[test]
 fn answers_of_certificates(rt: HostRuntime) {
-    assert!(rt; count_held(rt.alloc(), &ANSWERS) == 33);
-    assert!(rt;
-        reads_input(
-            rt.alloc(),
-            OF_0_3.as_bytes(),
-            "yes 0.3 order 2 start 1 period 2\n"
-        )
+    compare(&rt, "ANSWERS", count_held(rt.alloc(), &ANSWERS), 33);
+    compare(
+        &rt,
+        "BY_INPUT",
+        count_said(rt.alloc(), OF_0_3.as_bytes(), &BY_INPUT),
+        4,
     );
-    for (limit, text) in [
-        (3, "yes 0.3 order 2 start 1 period 2\n"),
-        (2, "no 8 Limit\n"),
-        (1, "no 8 Limit\n"),
-    ] {
-        assert!(rt; says_of_input(rt.alloc(), OF_0_3.as_bytes(), limit, text));
-    }
-    assert!(rt; reads_long_file(rt.alloc()) && accepts_a_long_part(rt.alloc()));
+    compare(
+        &rt,
+        "beginnings",
+        first_read(rt.alloc(), OF_0_3.as_bytes()),
+        OF_0_3.len(),
+    );
+    compare(&rt, "a long file", reads_long_file(rt.alloc()), true);
+    compare(&rt, "a long part", accepts_a_long_part(rt.alloc()), true);
 }

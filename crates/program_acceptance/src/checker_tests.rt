@@ -1,9 +1,10 @@
 //! Refusals at positions of many heaps, and the largest certificates.
+use crate::comparing::{bound, compare};
 use crate::cyclic::{cyclic, longest};
 use allocation::SmallAllocator;
 use checker::{Refusal, check};
 use std::alloc::Global;
-use verdict_texts::verdict_text;
+use verdict_texts::{MOST_BYTES, verdict_text};
 
 /// How many heaps the position has that a refusal hands out, or 0.
 fn heaps_of<A: SmallAllocator>(refusal: &Refusal<A>) -> usize {
@@ -64,13 +65,11 @@ fn is_refuted_at_length(alloc: Global, bytes: &[u8]) -> bool {
     }
 }
 
-/// How many bytes the certificate over a group has, if it is refuted.
-fn length_of_refuted(alloc: Global, order: u16, but_the_last: bool) -> Option<usize> {
-    let text = cyclic(alloc, order, but_the_last)?;
-    if is_refuted_at_length(alloc, &text) {
-        Some(text.len())
-    } else {
-        None
+/// How many bytes the certificate over a group has, if it is refuted, and else 0.
+fn length_of_refuted(alloc: Global, order: u16, but_the_last: bool) -> u64 {
+    match cyclic(alloc, order, but_the_last) {
+        Some(text) if is_refuted_at_length(alloc, &text) => text.len() as u64,
+        _ => 0,
     }
 }
 
@@ -88,9 +87,37 @@ fn number_of_longest(alloc: Global) -> u8 {
 /// heaps, of the code with the most digits.
 #[test]
 fn memory_suffices_for_the_largest(rt: HostRuntime) {
-    assert!(rt; length_of_refuted(rt.alloc(), 256, true) > Some(65536));
-    assert!(rt; length_of_refuted(rt.alloc(), 256, false) > Some(65536));
-    assert!(rt; number_of_longest(rt.alloc()) == 7);
+    let most = MOST_BYTES as u64;
+    bound(
+        &rt,
+        "outside",
+        length_of_refuted(rt.alloc(), 256, true),
+        65537,
+        most,
+    );
+    bound(
+        &rt,
+        "inside",
+        length_of_refuted(rt.alloc(), 256, false),
+        65537,
+        most,
+    );
+    compare(&rt, "the longest", number_of_longest(rt.alloc()), 7);
+}
+
+/// The least even orders above 64, 256, 512 and 1024, and the greatest of eight lanes.
+static ORDERS: [u16; 5] = [66, 258, 512, 514, 1026];
+
+/// How many certificates over groups are refuted, up to the first that isn't.
+fn count_refuted(alloc: Global, orders: &[u16]) -> usize {
+    let mut count = 0usize;
+    for order in orders {
+        if length_of_refuted(alloc, *order, true) == 0 {
+            return count;
+        }
+        count = count.saturating_add(1);
+    }
+    count
 }
 
 /// The number of the verdict on the certificate over a group, of which ten members are kept at most.
@@ -105,11 +132,7 @@ fn number_of_ten(alloc: Global, order: u16) -> u8 {
 /// the limit.
 #[test]
 fn orders_of_each_width(rt: HostRuntime) {
-    for order in [66, 258, 512, 514, 1026] {
-        assert!(rt;
-            length_of_refuted(rt.alloc(), order, true).is_some(),
-            "{order}"
-        );
-    }
-    assert!(rt; number_of_ten(rt.alloc(), 514) == 8 && number_of_ten(rt.alloc(), 4096) == 8);
+    compare(&rt, "ORDERS", count_refuted(rt.alloc(), &ORDERS), 5);
+    compare(&rt, "514", number_of_ten(rt.alloc(), 514), 8);
+    compare(&rt, "4096", number_of_ten(rt.alloc(), 4096), 8);
 }

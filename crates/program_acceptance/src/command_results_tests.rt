@@ -1,4 +1,5 @@
 //! Statuses, lines and files, each in a row.
+use crate::comparing::compare;
 use command_results::{Said, Stop, print, read_file, read_front};
 use folders::MemoryFolder;
 use std::alloc::Global;
@@ -20,7 +21,7 @@ fn is_told(alloc: Global, stop: Stop<'_>, line: &str) -> bool {
     err.bytes() == line.as_bytes()
 }
 
-/// How many stops have their status and their line.
+/// How many stops have their status and their line, up to the first that hasn't.
 fn count_told(alloc: Global, rows: &[(Stop<'static>, u8, &str)]) -> usize {
     let mut count = 0usize;
     for (stop, status, line) in rows {
@@ -98,6 +99,13 @@ fn reads_or_says_which_it_cannot(alloc: Global) -> bool {
 
 #[test]
 fn tells_prints_and_reads(rt: HostRuntime) {
-    assert!(rt; count_told(rt.alloc(), &STOPS) == 6 && reads_or_says_which_it_cannot(rt.alloc()));
-    assert!(rt; prints_done(rt.alloc(), "lost\n") && prints_no(rt.alloc(), "no 2 Law\n"));
+    compare(&rt, "STOPS", count_told(rt.alloc(), &STOPS), 6);
+    compare(
+        &rt,
+        "files",
+        reads_or_says_which_it_cannot(rt.alloc()),
+        true,
+    );
+    compare(&rt, "what is done", prints_done(rt.alloc(), "lost\n"), true);
+    compare(&rt, "a no", prints_no(rt.alloc(), "no 2 Law\n"), true);
 }

@@ -114,22 +114,34 @@ fn put_table(alloc: Global, text: &mut Vec<u8>, order: u16, but_the_last: bool) 
         && put_apart(alloc, text, order, but_the_last)
 }
 
+/// The lines up to the portion's first word.
+fn put_front(alloc: Global, text: &mut Vec<u8>, order: u16) -> bool {
+    put_text(text, "mqc")
+        && put(alloc, text, format_of(order))
+        && put_text(text, "\ncode 0.3\norder")
+        && put(alloc, text, order)
+        && put_text(text, "\nstart 1\nperiod 2\nphi 1 0\nportion")
+}
+
+/// The portion and the lines behind it.
+fn put_back(alloc: Global, text: &mut Vec<u8>, order: u16, but_the_last: bool) -> bool {
+    let portion = Line::Portion(order, but_the_last);
+    put_line(alloc, text, portion, 0, order)
+        && put_text(text, "\nwords")
+        && put_line(alloc, text, Line::Words, 1, order)
+        && put_table(alloc, text, order, but_the_last)
+        && put_text(text, "\nend\n")
+}
+
 /// A certificate for 0.3 over a cyclic group of even order, in which a heap of odd size is 1 and
 /// one of even size 0. The rule fails first at positions of many heaps.
 pub fn cyclic(alloc: Global, order: u16, but_the_last: bool) -> Option<Vec<u8>> {
     let mut text = Vec::new(alloc);
-    let portion = Line::Portion(order, but_the_last);
-    let done = put_text(&mut text, "mqc")
-        && put(alloc, &mut text, format_of(order))
-        && put_text(&mut text, "\ncode 0.3\norder")
-        && put(alloc, &mut text, order)
-        && put_text(&mut text, "\nstart 1\nperiod 2\nphi 1 0\nportion")
-        && put_line(alloc, &mut text, portion, 0, order)
-        && put_text(&mut text, "\nwords")
-        && put_line(alloc, &mut text, Line::Words, 1, order)
-        && put_table(alloc, &mut text, order, but_the_last)
-        && put_text(&mut text, "\nend\n");
-    if done { Some(text) } else { None }
+    if put_front(alloc, &mut text, order) && put_back(alloc, &mut text, order, but_the_last) {
+        Some(text)
+    } else {
+        None
+    }
 }
 
 /// A certificate for the code with the most digits, with the longest pretending function, and so

@@ -1,5 +1,6 @@
 //! A worked script of two clients at a desk, with each growth refused in turn.
 use crate::certificates::{OF_0_75, RIGHT_UP_TO_8};
+use crate::comparing::bound;
 use allocation::SmallAllocator;
 use desk::{Client, Desk, Event, Reply};
 use desk_script::{Step, read_script};
@@ -76,22 +77,35 @@ fn kind_of<A: SmallAllocator>(step: &Step<'_, A>) -> (u8, Kind) {
     }
 }
 
+/// What is asked to open the file, if there is memory for its bytes.
+fn opening<A: SmallAllocator + Copy>(alloc: A, file: &str, limit: u32) -> Option<Event<A>> {
+    let text = if file == "c.mqc" {
+        OF_0_75
+    } else {
+        RIGHT_UP_TO_8
+    };
+    match text.as_bytes().to_vec(alloc) {
+        Ok(bytes) => Some(Event::Open(bytes, limit)),
+        Err(_) => None,
+    }
+}
+
 /// What the step asks of the desk, if there is memory for the bytes of the file.
 fn event_of<A: SmallAllocator + Copy>(alloc: A, step: Step<'_, A>) -> Option<Event<A>> {
     match step {
-        Step::Open { file, limit, .. } => {
-            let text = if file == "c.mqc" {
-                OF_0_75
-            } else {
-                RIGHT_UP_TO_8
-            };
-            let bytes = text.as_bytes().to_vec(alloc).ok()?;
-            Some(Event::Open(bytes, limit))
-        }
+        Step::Open { file, limit, .. } => opening(alloc, file, limit),
         Step::Work { job, units, .. } => Some(Event::Work(job, units)),
         Step::Drop { job, .. } => Some(Event::Drop(job)),
         Step::Ask { job, position, .. } => Some(Event::Ask(job, position)),
         Step::Play { job, position, .. } => Some(Event::Play(job, position)),
+    }
+}
+
+/// What the client is told at the event.
+fn told_at<A: SmallAllocator + Copy>(desk: &mut Desk<A>, client: u8, event: Event<A>) -> Said {
+    match Client::new(client) {
+        Some(client) => told(desk.step(client, event)),
+        None => Said::Other,
     }
 }
 
@@ -102,9 +116,9 @@ fn take<A: SmallAllocator + Copy>(
     client: u8,
     step: Step<'_, A>,
 ) -> Said {
-    match (Client::new(client), event_of(alloc, step)) {
-        (Some(client), Some(event)) => told(desk.step(client, event)),
-        _ => Said::Other,
+    match event_of(alloc, step) {
+        Some(event) => told_at(desk, client, event),
+        None => Said::Other,
     }
 }
 
@@ -126,50 +140,78 @@ fn told_in_want(kind: Kind, has_job: bool) -> Said {
     }
 }
 
-/// Whether the replies are those of ample memory, but for a client to whom a growth was refused:
-/// its job isn't opened, or ends for want of memory and keeps its number.
-fn are_told<'a>(
+impl Want {
+    /// What the client is told of its step, if this is its reply in ample memory: the same, unless a
+    /// growth was refused to it. Then its job isn't opened, or ends for want of memory and keeps its
+    /// number.
+    fn wanted(&mut self, client: u8, kind: Kind, reply: Said, has_refused: bool) -> Said {
+        if self.client == 0 && has_refused {
+            self.client = client;
+        }
+        if self.client != client {
+            return reply;
+        }
+        let said = told_in_want(kind, self.has_job);
+        self.has_job = self.has_job && (kind == Kind::Work || kind == Kind::Ask);
+        said
+    }
+}
+
+/// The memory of a desk, of which a growth may be refused, and ample memory for what steps hold.
+#[derive(Clone, Copy)]
+struct Room<'a> {
     ample: &'a Ration<Global>,
     ration: &'a Ration<Global>,
+}
+
+/// Whether the client is told of the step what is wanted, if this is its reply in ample memory.
+fn is_told<'a>(
+    room: Room<'a>,
+    desk: &mut Desk<&'a Ration<Global>>,
+    want: &mut Want,
+    step: Step<'_, &'a Ration<Global>>,
+    reply: Said,
+) -> bool {
+    let (client, kind) = kind_of(&step);
+    let said = take(room.ample, desk, client, step);
+    said == want.wanted(client, kind, reply, room.ration.has_refused())
+}
+
+/// Whether all are told what is wanted.
+fn are_told<'a>(
+    room: Room<'a>,
+    desk: &mut Desk<&'a Ration<Global>>,
     steps: Vec<Step<'_, &'a Ration<Global>>, &'a Ration<Global>>,
 ) -> bool {
-    let mut desk = Desk::new(ration);
     let mut want = Want {
         client: 0,
         has_job: true,
     };
-    let mut replies = REPLIES.iter();
-    for step in steps {
-        let (client, kind) = kind_of(&step);
-        let said = take(ample, &mut desk, client, step);
-        if want.client == 0 && ration.has_refused() {
-            want.client = client;
-        }
-        let in_want = want.client == client;
-        let wanted = if in_want {
-            Some(told_in_want(kind, want.has_job))
-        } else {
-            replies.as_slice().first().copied()
-        };
-        if in_want && (kind == Kind::Drop || kind == Kind::Open) {
-            want.has_job = false;
-        }
-        replies.next();
-        if Some(said) != wanted {
-            return false;
-        }
+    let mut are_so = steps.len() == REPLIES.len();
+    for (step, reply) in steps.into_iter().zip(&REPLIES) {
+        are_so &= is_told(room, desk, &mut want, step, *reply);
     }
-    replies.as_slice().is_empty()
+    are_so
+}
+
+/// Whether a desk answers the script so.
+fn is_answered(room: Room<'_>) -> bool {
+    let mut desk = Desk::new(room.ration);
+    match read_script(room.ample, SCRIPT) {
+        Ok(steps) => are_told(room, &mut desk, steps),
+        Err(_) => false,
+    }
 }
 
 /// Whether the script is answered so where the growth of this number is refused, and whether it
 /// was.
 fn answers_with(alloc: Global, refused: u64) -> (bool, bool) {
     let (ample, ration) = (Ration::new(alloc, 0), Ration::new(alloc, refused));
-    match read_script(&ample, SCRIPT) {
-        Ok(steps) => (are_told(&ample, &ration, steps), ration.has_refused()),
-        Err(_) => (false, false),
-    }
+    let is_answered = is_answered(Room {
+        ample: &ample,
+        ration: &ration,
+    });
+    (is_answered, ration.has_refused())
 }
 
 /// The first growth that the script doesn't need, if it is answered so at each before, and else 0.
@@ -186,5 +228,5 @@ fn first_not_needed(alloc: Global) -> u64 {
 
 #[test]
 fn answers_the_worked_script_in_want_of_memory(rt: HostRuntime) {
-    assert!(rt; first_not_needed(rt.alloc()) > 20);
+    bound(&rt, "growths", first_not_needed(rt.alloc()), 21, 10000);
 }

@@ -1,4 +1,5 @@
 //! Scripts that are read whole, and lines that aren't steps.
+use crate::comparing::compare;
 use allocation::SmallAllocator;
 use desk_script::{ScriptFault, Step, read_script};
 use std::alloc::Global;
@@ -55,21 +56,27 @@ fn is_row(step: &Step<'_>, row: &Row) -> bool {
         && heaps == row.5
 }
 
-/// Whether the steps are these.
-fn are_rows(steps: &[Step<'_>], rows: &[Row]) -> bool {
+/// How many of the steps are these, up to the first that isn't. If there are not as many, how many
+/// there are.
+fn count_rows(steps: &[Step<'_>], rows: &[Row]) -> usize {
+    if steps.len() != rows.len() {
+        return steps.len();
+    }
+    let mut count = 0usize;
     for (step, row) in steps.iter().zip(rows) {
         if !is_row(step, row) {
-            return false;
+            return count;
         }
+        count = count.saturating_add(1);
     }
-    steps.len() == rows.len()
+    count
 }
 
-/// Whether the script is read as these steps.
-fn is_read_as(alloc: Global, script: &[u8], rows: &[Row]) -> bool {
+/// The same of the script's steps, or none if it has a line that is no step.
+fn count_read(alloc: Global, script: &[u8], rows: &[Row]) -> Option<usize> {
     match read_script(alloc, script) {
-        Ok(steps) => are_rows(&steps, rows),
-        Err(_) => false,
+        Ok(steps) => Some(count_rows(&steps, rows)),
+        Err(_) => None,
     }
 }
 
@@ -116,7 +123,7 @@ fn faulty_line(alloc: Global, script: &[u8]) -> Option<usize> {
     }
 }
 
-/// How many rows hold.
+/// How many rows hold, up to the first that doesn't.
 fn count_held(alloc: Global, rows: &[(&[u8], usize)]) -> usize {
     let mut count = 0usize;
     for (script, line) in rows {
@@ -128,22 +135,33 @@ fn count_held(alloc: Global, rows: &[(&[u8], usize)]) -> usize {
     count
 }
 
+/// How many steps the script has, and 0 if it has a line that is no step.
+fn count_of_steps(alloc: Global, script: &[u8]) -> usize {
+    match read_script(alloc, script) {
+        Ok(steps) => steps.len(),
+        Err(_) => 0,
+    }
+}
+
 /// How many steps a script has of so many lines.
-fn count_of_lines(alloc: Global, lines: usize) -> Option<usize> {
-    let Ok(script) = "drop 1 1\n".repeat(alloc, lines) else {
-        return None;
-    };
-    match read_script(alloc, script.as_bytes()) {
-        Ok(steps) => Some(steps.len()),
-        Err(_) => None,
+fn count_of_lines(alloc: Global, lines: usize) -> usize {
+    match "drop 1 1\n".repeat(alloc, lines) {
+        Ok(script) => count_of_steps(alloc, script.as_bytes()),
+        Err(_) => 0,
     }
 }
 
 #[test]
 fn reads_scripts(rt: HostRuntime) {
-    assert!(rt; count_of_lines(rt.alloc(), 2000) == Some(2000));
-    assert!(rt; is_read_as(rt.alloc(), ALL_KINDS, &ROWS) && is_read_as(rt.alloc(), b"", &[]));
-    assert!(rt; count_held(rt.alloc(), &FAULTS) == 31);
+    compare(&rt, "many lines", count_of_lines(rt.alloc(), 2000), 2000);
+    compare(
+        &rt,
+        "ROWS",
+        count_read(rt.alloc(), ALL_KINDS, &ROWS),
+        Some(7),
+    );
+    compare(&rt, "no line", count_read(rt.alloc(), b"", &[]), Some(0));
+    compare(&rt, "FAULTS", count_held(rt.alloc(), &FAULTS), 31);
 }
 
 /// Whether a script is read as six steps, or 9 for want of memory.

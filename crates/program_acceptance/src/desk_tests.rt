@@ -1,9 +1,9 @@
-//! Two clients in turn, sixteen clients on one certificate, and want of memory at each growth.
+//! Two clients in turn, and sixteen clients on one certificate and on many.
 use crate::certificates::{OF_0_3, OF_0_33, OF_0_75, RIGHT_UP_TO_8};
+use crate::comparing::{bound, compare};
 use allocation::SmallAllocator;
 use checker::check;
 use desk::{Client, Desk, Event, Reply};
-use ration::Ration;
 use std::alloc::Global;
 
 /// What a client is told; of a refusal or a fault its number.
@@ -43,10 +43,15 @@ pub fn work<A: SmallAllocator + Copy>(desk: &mut Desk<A>, client: u8, job: u8, u
 }
 
 /// A certificate, and the limit of its check.
-type Claim = (&'static str, u32);
+pub type Claim = (&'static str, u32);
 
 /// The client opens a job, with memory of its own for the bytes.
-fn open<A: SmallAllocator + Copy>(alloc: A, desk: &mut Desk<A>, client: u8, claim: Claim) -> Said {
+pub fn open<A: SmallAllocator + Copy>(
+    alloc: A,
+    desk: &mut Desk<A>,
+    client: u8,
+    claim: Claim,
+) -> Said {
     match claim.0.as_bytes().to_vec(alloc) {
         Ok(bytes) => take(desk, client, Event::Open(bytes, claim.1)),
         Err(_) => Said::Nothing,
@@ -64,7 +69,7 @@ fn fills(alloc: Global, desk: &mut Desk, client: u8, claim: Claim, from: u8) -> 
 }
 
 /// After how many steps a job ended, and what was said then; or that it is going.
-type End = (u64, Said);
+pub type End = (u64, Said);
 
 /// The first job of the client works once more, unless it has ended.
 fn work_on<A: SmallAllocator + Copy>(desk: &mut Desk<A>, client: u8, units: u64, end: End) -> End {
@@ -76,7 +81,7 @@ fn work_on<A: SmallAllocator + Copy>(desk: &mut Desk<A>, client: u8, units: u64,
 }
 
 /// The first jobs of the clients 1 and 2 work in turn, each by its units, to their ends.
-fn in_turn<A: SmallAllocator + Copy>(
+pub fn in_turn<A: SmallAllocator + Copy>(
     desk: &mut Desk<A>,
     units: u64,
     units_of_two: u64,
@@ -93,14 +98,14 @@ fn in_turn<A: SmallAllocator + Copy>(
     (one, two)
 }
 
-/// Whether just the numbers from 1 to 16 are of clients.
-fn are_sixteen() -> bool {
+/// How many numbers are of clients just if they are from 1 to 16, from 0 on.
+fn count_of_clients() -> u16 {
     for number in 0..=255u8 {
         if Client::new(number).is_some() != (number >= 1 && number <= 16) {
-            return false;
+            return number as u16;
         }
     }
-    true
+    256
 }
 
 const FIRST: Claim = (OF_0_75, 2048);
@@ -134,22 +139,21 @@ fn opens_no_fifth(alloc: Global, desk: &mut Desk) -> bool {
 }
 
 /// Whether two clients get what each gets alone, and no fifth job.
-fn work_in_turn(alloc: Global, alone: End) -> bool {
+fn work_in_turn(alloc: Global, alone: End) -> [bool; 2] {
     let mut desk = Desk::new(alloc);
-    ends_as_alone(alloc, &mut desk, alone) && opens_no_fifth(alloc, &mut desk)
+    let as_alone = ends_as_alone(alloc, &mut desk, alone);
+    [as_alone, opens_no_fifth(alloc, &mut desk)]
 }
 
-/// Whether a job that is alone says yes, within the bounds on what such a check costs.
-fn is_within(alone: End) -> bool {
-    alone.1 == Said::Yes && alone.0 >= 592 && alone.0 <= 49104
-}
-
-/// Each gets what it gets alone.
+/// Each gets what it gets alone: a yes, within the bounds on what such a check costs.
 #[test]
 fn works_in_turn(rt: HostRuntime) {
+    compare(&rt, "clients", count_of_clients(), 256);
     let (opened, alone) = end_alone(rt.alloc());
-    assert!(rt; are_sixteen() && opened == Said::Opened(1) && is_within(alone));
-    assert!(rt; work_in_turn(rt.alloc(), alone));
+    let says_yes = [opened == Said::Opened(1), alone.1 == Said::Yes];
+    compare(&rt, "alone", says_yes, [true; 2]);
+    bound(&rt, "units", alone.0, 592, 49104);
+    compare(&rt, "in turn", work_in_turn(rt.alloc(), alone), [true; 2]);
 }
 
 /// What each of the 64 jobs says to one more unit, if all say the same.
@@ -174,21 +178,34 @@ fn units_of_all(desk: &mut Desk) -> u64 {
     0
 }
 
+/// Whether each of 16 clients opens four jobs of the same bytes and limit.
+fn fill_all(alloc: Global, desk: &mut Desk) -> bool {
+    for client in 1..=16u8 {
+        if !fills(alloc, desk, client, (OF_0_33, 100_000), 1) {
+            return false;
+        }
+    }
+    true
+}
+
 /// After how many units four jobs of each of 16 clients end with yes, and 0 if they don't.
 fn units_of_sixteen(alloc: Global) -> u64 {
     let mut desk = Desk::new(alloc);
-    for client in 1..=16u8 {
-        if !fills(alloc, &mut desk, client, (OF_0_33, 100_000), 1) {
-            return 0;
-        }
-    }
-    units_of_all(&mut desk)
+    let are_open = fill_all(alloc, &mut desk);
+    let units = units_of_all(&mut desk);
+    if are_open { units } else { 0 }
 }
 
 /// All jobs of the same bytes and limit say the same after as many units.
 #[test]
 fn counts_each_jobs_units(rt: HostRuntime) {
-    assert!(rt; units_of_sixteen(rt.alloc()) >= 6 * 6 * 6 + 6 * 4);
+    bound(
+        &rt,
+        "units",
+        units_of_sixteen(rt.alloc()),
+        6 * 6 * 6 + 6 * 4,
+        100_000,
+    );
 }
 
 /// What a check alone says of the claim.
@@ -257,137 +274,24 @@ fn count_told(alloc: Global, desk: &mut Desk) -> u8 {
     count
 }
 
-/// How many jobs of 64 different claims, worked in turn, are told what a check alone says.
-fn count_of_different(alloc: Global) -> u8 {
-    let mut desk = Desk::new(alloc);
-    if opens_all(alloc, &mut desk) && all_end(&mut desk) {
-        count_told(alloc, &mut desk)
+/// How many jobs of 64 different claims, worked in turn, are told what a check alone says, and 0 if
+/// one isn't opened or doesn't end.
+fn count_at(alloc: Global, desk: &mut Desk) -> u8 {
+    if opens_all(alloc, desk) && all_end(desk) {
+        count_told(alloc, desk)
     } else {
         0
     }
+}
+
+/// The same at a desk of their own.
+fn count_of_different(alloc: Global) -> u8 {
+    let mut desk = Desk::new(alloc);
+    count_at(alloc, &mut desk)
 }
 
 /// Checks of different bytes or limits stand beside each other.
 #[test]
 fn works_different_checks_to_their_verdicts(rt: HostRuntime) {
-    assert!(rt; count_of_different(rt.alloc()) == 64);
-}
-
-const SMALL: Claim = (OF_0_33, 1000);
-
-/// Whether each other client is told yes.
-fn others_go_on<A: SmallAllocator + Copy>(alloc: A, desk: &mut Desk<A>) -> bool {
-    for client in 2..=16u8 {
-        if open(alloc, desk, client, SMALL) != Said::Opened(1)
-            || work(desk, client, 1, u64::MAX) != Said::Yes
-        {
-            return false;
-        }
-    }
-    true
-}
-
-/// Whether the first client may be told so, of its open and of its work, where a growth was refused
-/// to it or none was.
-fn may_be_told(opened: Said, worked: Said, has_refused: bool) -> bool {
-    if !has_refused {
-        worked == Said::Yes
-    } else if opened == Said::Opened(1) {
-        worked == Said::No(9)
-    } else {
-        opened == Said::Refused(9) && worked == Said::Refused(21)
-    }
-}
-
-/// Whether all are told what they may be, and whether the growth of this number was refused, to the
-/// first and at all.
-fn share_with(alloc: Global, refused: u64) -> (bool, bool, bool) {
-    let (ample, ration) = (Ration::new(alloc, 0), Ration::new(alloc, refused));
-    let mut desk = Desk::new(&ration);
-    let opened = open(&ample, &mut desk, 1, SMALL);
-    let worked = work(&mut desk, 1, 1, u64::MAX);
-    let has_refused = ration.has_refused();
-    let is_fair = may_be_told(opened, worked, has_refused)
-        && others_go_on(&ample, &mut desk)
-        && work(&mut desk, 1, 1, 0) == worked;
-    (is_fair, has_refused, ration.has_refused())
-}
-
-/// The first growth that the first client doesn't need, if the others need none then, and all are
-/// told what they may be, and else 0.
-fn first_unshared(alloc: Global) -> u64 {
-    for n in 1..400u64 {
-        match share_with(alloc, n) {
-            (true, false, false) => return n,
-            (true, true, _) => {}
-            _ => return 0,
-        }
-    }
-    0
-}
-
-/// After the yes of one client's job the others' equal jobs take no memory; and where a growth was
-/// refused to that one, they say yes.
-#[test]
-fn shares_a_check(rt: HostRuntime) {
-    assert!(rt; first_unshared(rt.alloc()) > 5);
-}
-
-/// What two clients are told that open equal jobs, how these end, and whether the growth of this
-/// number was refused.
-fn end_with(alloc: Global, refused: u64) -> ((Said, Said), (End, End), bool) {
-    let (ample, ration) = (Ration::new(alloc, 0), Ration::new(alloc, refused));
-    let mut desk = Desk::new(&ration);
-    let first = open(&ample, &mut desk, 1, SMALL);
-    let second = open(&ample, &mut desk, 2, SMALL);
-    let ends = in_turn(&mut desk, 50, 70);
-    ((first, second), ends, ration.has_refused())
-}
-
-/// Whether one of the jobs ended for want of memory, and the other as it should.
-fn is_kept_to_one(ends: (End, End), wanted: (End, End)) -> bool {
-    let is_to_one = ends.0.1 == Said::No(9) && ends.1 == wanted.1;
-    is_to_one || ends.1.1 == Said::No(9) && ends.0 == wanted.0
-}
-
-/// Whether the jobs end as they should where the growth of this number is refused, and whether it
-/// was.
-fn are_kept(alloc: Global, refused: u64, wanted: (End, End)) -> (bool, bool) {
-    let (opened, ends, has_refused) = end_with(alloc, refused);
-    let are_kept = if has_refused {
-        opened.0 == Said::Refused(9) || is_kept_to_one(ends, wanted)
-    } else {
-        ends.0 == wanted.0 && ends.1 == wanted.1
-    };
-    (are_kept && opened.1 == Said::Opened(1), has_refused)
-}
-
-/// The first growth that two equal jobs don't need, if they are kept apart at each before, and
-/// else 0.
-fn first_kept(alloc: Global, wanted: (End, End)) -> u64 {
-    for n in 1..400u64 {
-        match are_kept(alloc, n, wanted) {
-            (true, false) => return n,
-            (true, true) => {}
-            _ => return 0,
-        }
-    }
-    0
-}
-
-/// The same, if they say yes where none is refused.
-fn first_not_needed(alloc: Global) -> u64 {
-    let (opened, wanted, _) = end_with(alloc, 0);
-    let are_opened = opened.0 == Said::Opened(1) && opened.1 == Said::Opened(1);
-    if are_opened && wanted.0.1 == Said::Yes && wanted.1.1 == Said::Yes {
-        first_kept(alloc, wanted)
-    } else {
-        0
-    }
-}
-
-/// Want of memory in one client's work leaves the other's job its units and its answer.
-#[test]
-fn keeps_want_of_memory_to_one_job(rt: HostRuntime) {
-    assert!(rt; first_not_needed(rt.alloc()) > 5);
+    compare(&rt, "jobs", count_of_different(rt.alloc()), 64);
 }

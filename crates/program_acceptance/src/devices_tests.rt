@@ -1,4 +1,5 @@
 //! Streams read and written whole, byte by byte, and with a failure at each call in turn.
+use crate::comparing::compare;
 use devices::{FailingSink, FailingSource, SlowSink, SlowSource};
 use ration::Ration;
 use std::alloc::Global;
@@ -49,7 +50,7 @@ static WRITES: [(u64, usize); 8] = [
     (7, 5),
 ];
 
-/// How many rows hold.
+/// How many rows hold, up to the first that doesn't.
 fn count_held(alloc: Global, rows: &[(u64, usize)]) -> usize {
     let mut held = 0usize;
     for (n, count) in rows {
@@ -92,7 +93,13 @@ fn many_pass(alloc: Global) -> bool {
 
 #[test]
 fn reads_and_writes_or_fails(rt: HostRuntime) {
-    assert!(rt; count_of_reads(rt.alloc()) == 9 && StreamFault::Read.number() == 1);
-    assert!(rt; count_held(rt.alloc(), &WRITES) == 8 && fails_without_memory(rt.alloc()));
-    assert!(rt; many_pass(rt.alloc()));
+    compare(
+        &rt,
+        "reads",
+        (count_of_reads(rt.alloc()), StreamFault::Read.number()),
+        (9, 1),
+    );
+    compare(&rt, "WRITES", count_held(rt.alloc(), &WRITES), 8);
+    compare(&rt, "no memory", fails_without_memory(rt.alloc()), true);
+    compare(&rt, "many bytes", many_pass(rt.alloc()), true);
 }

@@ -1,11 +1,11 @@
 //! Files of the machine, of which one kind of call fails.
-use crate::folders_tests::{is_absent, is_read_as};
+use crate::comparing::compare;
+use crate::folders_tests::{is_absent, is_read_as, temporary};
 use folders::{FileFault, Folder, HostFolder};
 use std::alloc::{Allocator, Global};
 use std::fs::{File, Metadata, OpenFile, OpenOptions};
 use std::io::{ErrorKind, Read, Seek, SeekFrom, Write};
 use std::rt::Files;
-use std::test::Fail;
 use std::{fs, io};
 
 /// A kind of call.
@@ -173,28 +173,36 @@ fn replaces(
         && is_absent(&mut folder, beside)
 }
 
-/// How many rows hold.
+/// How many rows hold, up to the first that doesn't.
 fn count_replaced(rt: &HostRuntime, name: &str, beside: &str) -> usize {
     let mut count = 0usize;
     for row in &ROWS {
-        if replaces(rt, name, beside, row) {
-            count = count.saturating_add(1);
+        if !replaces(rt, name, beside, row) {
+            return count;
         }
+        count = count.saturating_add(1);
     }
     count
 }
 
+/// How many rows hold of the file, which is removed then.
+fn count_of(rt: &HostRuntime, name: &str, beside: &str) -> usize {
+    let count = count_replaced(rt, name, beside);
+    match fs::remove_file(rt, name) {
+        Ok(()) => count,
+        Err(_) => 0,
+    }
+}
+
+/// How many rows hold of a file of the machine.
+fn count_on_the_machine(rt: &HostRuntime) -> usize {
+    match temporary(rt, "failing_files") {
+        Some((name, beside)) => count_of(rt, name.as_str(), beside.as_str()),
+        None => 0,
+    }
+}
+
 #[test]
-fn replaces_whole_where_a_call_fails(rt: HostRuntime) -> Result<(), Fail> {
-    let place = std::env::temp_dir(&rt)?;
-    let name = format!(in rt.alloc();
-        "{}/failing_files_{}",
-        place.as_str(),
-        std::process::id(rt.process())
-    )?;
-    let beside = format!(in rt.alloc(); "{}.1.new", name.as_str())?;
-    let count = count_replaced(&rt, name.as_str(), beside.as_str());
-    fs::remove_file(&rt, name.as_str())?;
-    assert!(rt; count == 5);
-    Ok(())
+fn replaces_whole_where_a_call_fails(rt: HostRuntime) {
+    compare(&rt, "ROWS", count_on_the_machine(&rt), 5);
 }

@@ -1,4 +1,5 @@
 //! Files in memory, of which one call fails, also as a disk, and those of the machine.
+use crate::comparing::compare;
 use folders::{FileFault, Folder, HostFolder, MemoryFolder, read_all, replace};
 use std::alloc::Global;
 use std::fs;
@@ -31,15 +32,18 @@ fn fills(folder: &mut MemoryFolder) -> bool {
         && folder.write("c", b"").is_ok()
 }
 
+/// Whether just these files are held.
+fn is_filled(folder: &mut MemoryFolder) -> bool {
+    holds(folder, "a", "three")
+        && holds(folder, "b", "two")
+        && holds(folder, "c", "")
+        && folder.bytes("d").is_none()
+}
+
 /// Whether what is written is kept, and nothing else.
 fn keeps_what_is_written(alloc: Global) -> bool {
     let mut folder = MemoryFolder::new(alloc);
-    is_absent(&mut folder, "a")
-        && fills(&mut folder)
-        && holds(&mut folder, "a", "three")
-        && holds(&mut folder, "b", "two")
-        && holds(&mut folder, "c", "")
-        && folder.bytes("d").is_none()
+    is_absent(&mut folder, "a") && fills(&mut folder) && is_filled(&mut folder)
 }
 
 /// The call that fails, which of three calls fail then, and what the file holds behind them.
@@ -60,13 +64,14 @@ fn fails_so(alloc: Global, number: u64, failed: &[bool; 3], held: &str) -> bool 
         && folder.bytes("a") == Some(held.as_bytes())
 }
 
-/// How many rows hold.
+/// How many rows hold, up to the first that doesn't.
 fn count_failed(alloc: Global, rows: &[(u64, [bool; 3], &str)]) -> usize {
     let mut count = 0usize;
     for (number, failed, held) in rows {
-        if fails_so(alloc, *number, failed, held) {
-            count = count.saturating_add(1);
+        if !fails_so(alloc, *number, failed, held) {
+            return count;
         }
+        count = count.saturating_add(1);
     }
     count
 }
@@ -97,13 +102,14 @@ fn replaces(alloc: Global, number: u64, done: bool, held: &str) -> bool {
         && holds_both(&disk, held)
 }
 
-/// How many rows hold.
+/// How many rows hold, up to the first that doesn't.
 fn count_replaced(alloc: Global, rows: &[(u64, bool, &str)]) -> usize {
     let mut count = 0usize;
     for (number, done, held) in rows {
-        if replaces(alloc, *number, *done, held) {
-            count = count.saturating_add(1);
+        if !replaces(alloc, *number, *done, held) {
+            return count;
         }
+        count = count.saturating_add(1);
     }
     count
 }
@@ -126,13 +132,14 @@ fn reads_within<F: Folder>(folder: &mut F, name: &str, bound: (usize, &str, bool
         && read_all(folder, name, most).is_ok() == whole
 }
 
-/// How many rows hold of a file of the text `abc`.
+/// How many rows hold of a file of the text `abc`, up to the first that doesn't.
 fn count_within<F: Folder>(folder: &mut F, name: &str, rows: &[(usize, &str, bool)]) -> usize {
     let mut count = 0usize;
     for row in rows {
-        if reads_within(folder, name, *row) {
-            count = count.saturating_add(1);
+        if !reads_within(folder, name, *row) {
+            return count;
         }
+        count = count.saturating_add(1);
     }
     count
 }
@@ -148,8 +155,15 @@ fn count_within_memory(alloc: Global) -> usize {
 
 #[test]
 fn files_in_memory(rt: HostRuntime) {
-    assert!(rt; keeps_what_is_written(rt.alloc()) && count_failed(rt.alloc(), &CALLS) == 4);
-    assert!(rt; count_replaced(rt.alloc(), &STEPS) == 5 && count_within_memory(rt.alloc()) == 6);
+    compare(
+        &rt,
+        "what is written",
+        keeps_what_is_written(rt.alloc()),
+        true,
+    );
+    compare(&rt, "CALLS", count_failed(rt.alloc(), &CALLS), 4);
+    compare(&rt, "STEPS", count_replaced(rt.alloc(), &STEPS), 5);
+    compare(&rt, "BOUNDS", count_within_memory(rt.alloc()), 6);
 }
 
 /// Whether the text is written, and read again.
@@ -182,6 +196,20 @@ fn is_no_file<F: Folder>(folder: &mut F, name: &str, beside: &str) -> bool {
     matches!(folder.write(name, b"x"), Err(FileFault::Device)) && is_absent(folder, beside)
 }
 
+/// The name of a file of this run, and the first that is tried beside it.
+pub fn temporary(rt: &HostRuntime, name: &str) -> Option<(String, String)> {
+    let name = name_of(rt, name)?;
+    let beside = format!(in rt.alloc(); "{}.1.new", name.as_str()).ok()?;
+    Some((name, beside))
+}
+
+/// The name of a file of this run.
+fn name_of(rt: &HostRuntime, name: &str) -> Option<String> {
+    let place = std::env::temp_dir(rt).ok()?;
+    let number = std::process::id(rt.process());
+    format!(in rt.alloc(); "{}/{name}_{number}", place.as_str()).ok()
+}
+
 #[test]
 fn replaces_on_the_machine(rt: HostRuntime) -> Result<(), Fail> {
     let place = std::env::temp_dir(&rt)?;
@@ -195,7 +223,7 @@ fn replaces_on_the_machine(rt: HostRuntime) -> Result<(), Fail> {
     let mut folder = HostFolder::new(&rt);
     assert!(rt; is_replaced_beside(&mut folder, name.as_str(), other.as_str(), long.as_str()));
     assert!(rt; keeps(&mut folder, name.as_str(), "abc"));
-    assert!(rt; count_within(&mut folder, name.as_str(), &BOUNDS) == 6);
+    assert_eq!(rt; count_within(&mut folder, name.as_str(), &BOUNDS), 6);
     assert!(rt; matches!(folder.read_front("/dev/zero", 9), Ok(bytes) if bytes.len() == 10));
     fs::remove_file(&rt, name.as_str())?;
     fs::remove_file(&rt, other.as_str())?;

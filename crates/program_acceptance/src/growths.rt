@@ -1,5 +1,6 @@
 //! Jobs with each growth of memory refused in turn.
 use crate::certificates::OF_0_33;
+use crate::comparing::bound;
 use crate::cyclic::cyclic;
 use crate::{checker_tests, desk_script_tests, verdicts_tests};
 use allocation::SmallAllocator;
@@ -58,8 +59,27 @@ fn first_of_group(alloc: Global, but_the_last: bool) -> u64 {
 
 #[test]
 fn each_growth_may_be_refused(rt: HostRuntime) {
-    assert!(rt; first_not_needed(rt.alloc(), Job::Yes, 200) > 5);
-    assert!(rt; first_of_group(rt.alloc(), true) > 20 && first_of_group(rt.alloc(), false) > 20);
-    assert!(rt; first_not_needed(rt.alloc(), Job::Script, 100) > 0);
-    assert!(rt; first_not_needed(rt.alloc(), Job::Streams, 2000) > 0);
+    bound(
+        &rt,
+        "a yes",
+        first_not_needed(rt.alloc(), Job::Yes, 200),
+        6,
+        200,
+    );
+    bound(&rt, "outside", first_of_group(rt.alloc(), true), 21, 400);
+    bound(&rt, "inside", first_of_group(rt.alloc(), false), 21, 400);
+    bound(
+        &rt,
+        "a script",
+        first_not_needed(rt.alloc(), Job::Script, 100),
+        1,
+        100,
+    );
+    bound(
+        &rt,
+        "streams",
+        first_not_needed(rt.alloc(), Job::Streams, 2000),
+        1,
+        2000,
+    );
 }

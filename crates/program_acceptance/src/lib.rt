@@ -14,6 +14,8 @@ mod checker_tests;
 #[cfg(test)]
 mod command_results_tests;
 #[cfg(test)]
+mod comparing;
+#[cfg(test)]
 mod cyclic;
 #[cfg(test)]
 mod desk_growths_tests;
@@ -23,6 +25,8 @@ mod desk_script_tests;
 mod desk_tests;
 #[cfg(test)]
 mod desk_time_tests;
+#[cfg(test)]
+mod desk_want_tests;
 #[cfg(test)]
 mod devices_tests;
 #[cfg(test)]

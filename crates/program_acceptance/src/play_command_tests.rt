@@ -2,10 +2,11 @@
 use crate::certificates::{
     OF_0_1, OF_0_33, OF_0_75, OF_0_B, PART_OF_0_8, PART_OF_0_75, folder_of, is_said,
 };
-use command_results::Stop;
+use crate::comparing::compare;
+use command_results::{LARGEST_INPUT, Stop};
 use devices::FailingSource;
 use folders::MemoryFolder;
-use play_command::{LARGEST_INPUT, play, play_lines};
+use play_command::{play, play_lines};
 use std::alloc::Global;
 use streams::{MemorySource, Source};
 
@@ -56,23 +57,26 @@ static ROWS: [(&str, &str, &str); 22] = [
     (OF_0_33, MOST, "wins 1 -> 0\n"),
 ];
 
+/// Whether this is said in the position by a certificate in a file, or on standard input.
+fn is_played(
+    alloc: Global,
+    folder: &mut MemoryFolder,
+    input: &[u8],
+    name: Option<&str>,
+    position: &str,
+    text: &str,
+) -> bool {
+    let mut input = MemorySource::new(input);
+    match play(alloc, name, position, LIMIT, folder, &mut input) {
+        Ok(said) => is_said(&said, text),
+        Err(_) => false,
+    }
+}
+
 /// Whether this is said in the position. A second reading would fail.
 fn says(alloc: Global, held: &str, position: &str, text: &str) -> bool {
     match folder_of(alloc, "a.mqc", held, 2) {
-        Some(mut folder) => {
-            let mut input = MemorySource::new(b"");
-            match play(
-                alloc,
-                Some("a.mqc"),
-                position,
-                LIMIT,
-                &mut folder,
-                &mut input,
-            ) {
-                Ok(said) => is_said(&said, text),
-                Err(_) => false,
-            }
-        }
+        Some(mut folder) => is_played(alloc, &mut folder, b"", Some("a.mqc"), position, text),
         None => false,
     }
 }
@@ -80,20 +84,17 @@ fn says(alloc: Global, held: &str, position: &str, text: &str) -> bool {
 /// Whether the same is said by a certificate on standard input.
 fn says_by_input(alloc: Global, held: &str, position: &str, text: &str) -> bool {
     let mut folder = MemoryFolder::new(alloc);
-    let mut input = MemorySource::new(held.as_bytes());
-    match play(alloc, None, position, LIMIT, &mut folder, &mut input) {
-        Ok(said) => is_said(&said, text),
-        Err(_) => false,
-    }
+    is_played(alloc, &mut folder, held.as_bytes(), None, position, text)
 }
 
-/// How many rows hold.
+/// How many rows hold, up to the first that doesn't.
 fn count_said(alloc: Global, rows: &[(&str, &str, &str)]) -> usize {
     let mut count = 0usize;
     for (held, position, text) in rows {
-        if says(alloc, held, position, text) && says_by_input(alloc, held, position, text) {
-            count = count.saturating_add(1);
+        if !says(alloc, held, position, text) || !says_by_input(alloc, held, position, text) {
+            return count;
         }
+        count = count.saturating_add(1);
     }
     count
 }
@@ -108,35 +109,45 @@ static STOPS: [(&str, &str, Stop<'static>); 6] = [
     ("b.mqc", "1", Stop::Read("b.mqc")),
 ];
 
+/// Whether this is the reason to stop in the folder.
+fn stops_in(
+    alloc: Global,
+    folder: &mut MemoryFolder,
+    name: &str,
+    position: &str,
+    stop: Stop<'_>,
+) -> bool {
+    let mut input = MemorySource::new(b"");
+    match play(alloc, Some(name), position, LIMIT, folder, &mut input) {
+        Ok(_) => false,
+        Err(reason) => reason == stop,
+    }
+}
+
 /// Whether this is the reason to stop.
 fn stops(alloc: Global, name: &str, position: &str, stop: Stop<'_>) -> bool {
     match folder_of(alloc, "a.mqc", OF_0_33, 0) {
-        Some(mut folder) => {
-            let mut input = MemorySource::new(b"");
-            match play(alloc, Some(name), position, LIMIT, &mut folder, &mut input) {
-                Ok(_) => false,
-                Err(reason) => reason == stop,
-            }
-        }
+        Some(mut folder) => stops_in(alloc, &mut folder, name, position, stop),
         None => false,
     }
 }
 
-/// How many rows hold.
+/// How many rows hold, up to the first that doesn't.
 fn count_stopped(alloc: Global, rows: &[(&str, &str, Stop<'static>)]) -> usize {
     let mut count = 0usize;
     for (name, position, stop) in rows {
-        if stops(alloc, name, position, *stop) {
-            count = count.saturating_add(1);
+        if !stops(alloc, name, position, *stop) {
+            return count;
         }
+        count = count.saturating_add(1);
     }
     count
 }
 
 #[test]
 fn answers_in_positions_or_stops(rt: HostRuntime) {
-    assert!(rt; count_said(rt.alloc(), &ROWS) == 22);
-    assert!(rt; count_stopped(rt.alloc(), &STOPS) == 6);
+    compare(&rt, "ROWS", count_said(rt.alloc(), &ROWS), 22);
+    compare(&rt, "STOPS", count_stopped(rt.alloc(), &STOPS), 6);
 }
 
 /// A certificate, what stands on standard input, what is said, and whether it ends well.
@@ -162,39 +173,80 @@ static LINES: [(&str, &str, &str, bool); 14] = [
     ("mqc 1\n", "1\n", "no 1 Text\n", false),
 ];
 
+/// Whether this is said of the lines, and it ends so.
+fn answers_lines(
+    alloc: Global,
+    folder: &mut MemoryFolder,
+    lines: &[u8],
+    text: &str,
+    succeeds: bool,
+) -> bool {
+    let mut input = MemorySource::new(lines);
+    match play_lines(alloc, "a.mqc", LIMIT, folder, &mut input) {
+        Ok(said) => said.text.as_slice() == text.as_bytes() && said.succeeds == succeeds,
+        Err(_) => false,
+    }
+}
+
 /// Whether this is said of what stands on standard input. A second reading of the file would fail.
 fn says_of_lines(alloc: Global, row: &(&str, &str, &str, bool)) -> bool {
     let (held, lines, text, succeeds) = *row;
-    let mut input = MemorySource::new(lines.as_bytes());
     match folder_of(alloc, "a.mqc", held, 2) {
-        Some(mut folder) => {
-            match play_lines(alloc, "a.mqc", LIMIT, &mut folder, &mut input) {
-                Ok(said) => { said.text.as_slice() == text.as_bytes() && said.succeeds == succeeds }
-                Err(_) => false,
-            }
-        }
+        Some(mut folder) => answers_lines(alloc, &mut folder, lines.as_bytes(), text, succeeds),
         None => false,
     }
 }
 
-/// How many rows hold.
+/// How many rows hold, up to the first that doesn't.
 fn count_lines(alloc: Global, rows: &[(&str, &str, &str, bool)]) -> usize {
     let mut count = 0usize;
     for row in rows {
-        if says_of_lines(alloc, row) {
-            count = count.saturating_add(1);
+        if !says_of_lines(alloc, row) {
+            return count;
         }
+        count = count.saturating_add(1);
     }
     count
+}
+
+/// Whether this is the reason to stop in the folder.
+fn stops_on_lines_in<S: Source>(
+    alloc: Global,
+    folder: &mut MemoryFolder,
+    name: &str,
+    input: &mut S,
+    stop: Stop<'_>,
+) -> bool {
+    match play_lines(alloc, name, LIMIT, folder, input) {
+        Ok(_) => false,
+        Err(reason) => reason == stop,
+    }
 }
 
 /// Whether this is the reason to stop.
 fn stops_on_lines<S: Source>(alloc: Global, name: &str, input: &mut S, stop: Stop<'_>) -> bool {
     match folder_of(alloc, "a.mqc", OF_0_33, 0) {
-        Some(mut folder) => match play_lines(alloc, name, LIMIT, &mut folder, input) {
-            Ok(_) => false,
-            Err(reason) => reason == stop,
-        },
+        Some(mut folder) => stops_on_lines_in(alloc, &mut folder, name, input, stop),
+        None => false,
+    }
+}
+
+/// Whether standard input can't be read.
+fn stops_without_input(alloc: Global) -> bool {
+    let mut lines = FailingSource::new(MemorySource::new(b"1\n"), 1);
+    stops_on_lines(alloc, "a.mqc", &mut lines, Stop::Read("standard input"))
+}
+
+/// Whether a file that isn't there can't be read.
+fn stops_without_file(alloc: Global) -> bool {
+    let mut lines = MemorySource::new(b"1\n");
+    stops_on_lines(alloc, "b.mqc", &mut lines, Stop::Read("b.mqc"))
+}
+
+/// Whether the bytes are answered as one line that is no position.
+fn is_one_line(alloc: Global, bytes: &[u8]) -> bool {
+    match folder_of(alloc, "a.mqc", OF_0_33, 0) {
+        Some(mut folder) => answers_lines(alloc, &mut folder, bytes, "not a position\n", false),
         None => false,
     }
 }
@@ -202,27 +254,21 @@ fn stops_on_lines<S: Source>(alloc: Global, name: &str, input: &mut S, stop: Sto
 /// Whether as much as is read is answered, as one line that is no position, and some bytes more
 /// can't be read.
 fn much_is_read(alloc: Global, more: usize) -> bool {
-    let Ok(line) = "x".repeat(alloc, LARGEST_INPUT.saturating_add(more)) else {
-        return false;
-    };
-    let mut input = MemorySource::new(line.as_bytes());
-    let Some(mut folder) = folder_of(alloc, "a.mqc", OF_0_33, 0) else {
-        return false;
-    };
-    match play_lines(alloc, "a.mqc", LIMIT, &mut folder, &mut input) {
-        Ok(said) => more == 0 && said.text.as_slice() == "not a position\n".as_bytes(),
-        Err(stop) => more > 0 && stop == Stop::Read("standard input"),
+    match "x".repeat(alloc, LARGEST_INPUT.saturating_add(more)) {
+        Ok(line) if more == 0 => is_one_line(alloc, line.as_bytes()),
+        Ok(line) => {
+            let mut lines = MemorySource::new(line.as_bytes());
+            stops_on_lines(alloc, "a.mqc", &mut lines, Stop::Read("standard input"))
+        }
+        Err(_) => false,
     }
 }
 
 #[test]
 fn answers_in_the_positions_of_lines_or_stops(rt: HostRuntime) {
-    assert!(rt; count_lines(rt.alloc(), &LINES) == 14);
-    let unread = Stop::Read("standard input");
-    let mut lines = FailingSource::new(MemorySource::new(b"1\n"), 1);
-    assert!(rt; stops_on_lines(rt.alloc(), "a.mqc", &mut lines, unread));
-    let mut lines = MemorySource::new(b"1\n");
-    assert!(rt; stops_on_lines(rt.alloc(), "b.mqc", &mut lines, Stop::Read("b.mqc")));
-    assert!(rt; much_is_read(rt.alloc(), 0));
-    assert!(rt; much_is_read(rt.alloc(), 1));
+    compare(&rt, "LINES", count_lines(rt.alloc(), &LINES), 14);
+    compare(&rt, "no input", stops_without_input(rt.alloc()), true);
+    compare(&rt, "no file", stops_without_file(rt.alloc()), true);
+    compare(&rt, "as much as is read", much_is_read(rt.alloc(), 0), true);
+    compare(&rt, "a byte more", much_is_read(rt.alloc(), 1), true);
 }

@@ -1,5 +1,6 @@
 //! What certified quotients say of positions, also of those with heaps of any size.
 use crate::certificates::{OF_0_75, OF_0_B, PART_OF_0_75};
+use crate::comparing::compare;
 use checker::{Certified, check};
 use player::{Outcome, fits, looks, outcome, value};
 use positions::{Left, Position};
@@ -55,7 +56,7 @@ fn is_held(alloc: Global, row: &Row) -> bool {
     }
 }
 
-/// How many rows hold.
+/// How many rows hold, up to the first that doesn't.
 fn count_held(alloc: Global, rows: &[Row]) -> usize {
     let mut count = 0usize;
     for row in rows {
@@ -113,6 +114,7 @@ fn looks_at_four(alloc: Global) -> bool {
 
 #[test]
 fn has_values_and_outcomes(rt: HostRuntime) {
-    assert!(rt; looks_at_few(rt.alloc()) && looks_at_four(rt.alloc()));
-    assert!(rt; count_held(rt.alloc(), &ROWS) == 12);
+    compare(&rt, "0.75", looks_at_few(rt.alloc()), true);
+    compare(&rt, "0.b", looks_at_four(rt.alloc()), true);
+    compare(&rt, "ROWS", count_held(rt.alloc(), &ROWS), 12);
 }

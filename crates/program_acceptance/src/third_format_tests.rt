@@ -1,4 +1,6 @@
 //! Checks of certificates in the third format: each verdict, what a check costs, and orders above 512.
+use crate::comparing::{bound, compare};
+use crate::let_go;
 use crate::nim::nim;
 use checker::{Checker, Job, Progress};
 use std::alloc::{AllocError, Global};
@@ -89,18 +91,25 @@ fn text_of(alloc: Global, row: &Row) -> Result<String, AllocError> {
     Ok(text)
 }
 
-/// Whether what is said of the row's text begins so.
-fn is_held(alloc: Global, row: &Row) -> bool {
-    let Ok(text) = text_of(alloc, row) else {
-        return false;
-    };
-    match checked_bytes(&Checker, alloc, text.as_bytes(), 100000) {
-        Ok(verdict) => !verdict.accepted && verdict.text.as_bytes().starts_with(row.3.as_bytes()),
+/// Whether the bytes are refused, and what is said of them begins so.
+fn is_refused(alloc: Global, bytes: &[u8], beginning: &str) -> bool {
+    match checked_bytes(&Checker, alloc, bytes, 100000) {
+        Ok(verdict) => {
+            !verdict.accepted && verdict.text.as_bytes().starts_with(beginning.as_bytes())
+        }
         Err(_) => false,
     }
 }
 
-/// How many rows hold.
+/// Whether the row holds.
+fn is_held(alloc: Global, row: &Row) -> bool {
+    match text_of(alloc, row) {
+        Ok(text) => is_refused(alloc, text.as_bytes(), row.3),
+        Err(_) => false,
+    }
+}
+
+/// How many rows hold, up to the first that doesn't.
 fn count_held(alloc: Global, rows: &[Row]) -> usize {
     let mut count = 0usize;
     for row in rows {
@@ -112,35 +121,46 @@ fn count_held(alloc: Global, rows: &[Row]) -> usize {
     count
 }
 
-/// The order and the last heap of a yes, and what the check cost.
-fn checked(mut job: Job) -> Option<(u16, u64, u64)> {
-    let numbers = match job.work(u64::MAX) {
-        Progress::Yes(certified) => Some((certified.cert().order(), certified.cert().heaps())),
-        Progress::Going | Progress::No(_) => None,
-    };
-    let (order, heaps) = numbers?;
-    Some((order, heaps, job.spent()))
+/// The order and the last heap of a yes, and else 0.
+fn sizes_of(progress: Progress<'_>) -> (u16, u64) {
+    match progress {
+        Progress::Yes(certified) => (certified.cert().order(), certified.cert().heaps()),
+        Progress::Going | Progress::No(_) => (0, 0),
+    }
 }
 
-/// The numbers of the check of the game that is played as Nim is.
-fn checked_nim(alloc: Global) -> Option<(u16, u64, u64)> {
+/// The order and the last heap of a yes, and what the check cost.
+fn checked(mut job: Job) -> (u16, u64, u64) {
+    let (order, heaps) = sizes_of(job.work(u64::MAX));
+    let spent = job.spent();
+    let_go(job);
+    (order, heaps, spent)
+}
+
+/// The bytes of the certificate of the game that is played as Nim is.
+fn bytes_of_nim(alloc: Global) -> Option<Vec<u8>> {
     let text = nim(alloc).ok()?;
-    let bytes = text.as_bytes().to_vec(alloc).ok()?;
-    checked(Job::open(alloc, bytes, 100000))
+    text.as_bytes().to_vec(alloc).ok()
+}
+
+/// The numbers of its check.
+fn checked_nim(alloc: Global) -> (u16, u64, u64) {
+    match bytes_of_nim(alloc) {
+        Some(bytes) => checked(Job::open(alloc, bytes, 100000)),
+        None => (0, 0, 0),
+    }
 }
 
 #[test]
 fn each_verdict_of_the_third_format(rt: HostRuntime) {
-    assert!(rt; count_held(rt.alloc(), &ROWS) == 10);
+    compare(&rt, "ROWS", count_held(rt.alloc(), &ROWS), 10);
 }
 
 /// What a yes costs at least and at most, with the order q = 514 and B = 257 heaps: q³ + 258q, and
 /// 2q³ + q² + 258q + 3B³ + Bq² + 100000B + 16.
 #[test]
 fn accepts_an_order_above_512(rt: HostRuntime) {
-    let Some((order, heaps, spent)) = checked_nim(rt.alloc()) else {
-        panic!(rt; "not accepted");
-    };
-    assert!(rt; (order, heaps) == (514, 257));
-    assert!(rt; 135_929_356 <= spent && spent <= 416_512_463);
+    let (order, heaps, spent) = checked_nim(rt.alloc());
+    compare(&rt, "order and heaps", (order, heaps), (514, 257));
+    bound(&rt, "units", spent, 135_929_356, 416_512_463);
 }

@@ -1,6 +1,7 @@
 //! Checks from stream to stream: byte by byte, with devices that fail at one call, and of damaged
 //! texts.
 use crate::certificates::{OF_0_3, OF_0_33, OF_0_75};
+use crate::comparing::compare;
 use allocation::SmallAllocator;
 use checker::Checker;
 use devices::{FailingSink, FailingSource, SlowSink, SlowSource};
@@ -94,7 +95,8 @@ fn first_wrong_byte(alloc: Global) -> u64 {
 
 #[test]
 fn fails_where_a_device_does(rt: HostRuntime) {
-    assert!(rt; first_wrong_read(rt.alloc()) == 240 && first_wrong_byte(rt.alloc()) == 40);
+    compare(&rt, "reads", first_wrong_read(rt.alloc()), 240);
+    compare(&rt, "writes", first_wrong_byte(rt.alloc()), 40);
 }
 
 /// Whether a check says yes, or 9 where it wants memory and nothing was written. The sink takes from
@@ -137,11 +139,6 @@ fn first_read(alloc: Global, text: &[u8]) -> usize {
     text.len()
 }
 
-/// Whether each proper beginning of a certificate is no certificate.
-fn refuses_beginnings(alloc: Global, text: &[u8]) -> bool {
-    first_read(alloc, text) == text.len() && begins_so(alloc, text, b"yes 0.")
-}
-
 /// Whether a text is refused with each change of one byte.
 fn is_refused_at(alloc: Global, text: &mut [u8], at: usize) -> bool {
     for bits in 1..=255u8 {
@@ -173,26 +170,33 @@ fn first_accepted(alloc: Global, text: &mut [u8], from: usize, until: usize) -> 
     until
 }
 
-/// Whether a change of a byte is refused but in the second line, from byte 6 to before `behind`. It
-/// has the code: only such a change could make the certificate of another game.
-fn refuses_changes(alloc: Global, text: &[u8], behind: usize) -> bool {
-    let Ok(mut changed) = text.to_vec(alloc) else {
-        return false;
-    };
-    (first_accepted(alloc, &mut changed, 0, 6) == 6)
-        && first_accepted(alloc, &mut changed, behind, text.len()) == text.len()
+/// The first byte before the second line of a text at which a change is not refused, or else 6, and
+/// the first from `behind` on, or else the text's length. The second line has the code: only a
+/// change there could make the certificate of another game.
+fn first_changes(alloc: Global, text: &[u8], behind: usize) -> (usize, usize) {
+    match text.to_vec(alloc) {
+        Ok(mut changed) => {
+            let before = first_accepted(alloc, &mut changed, 0, 6);
+            (
+                before,
+                first_accepted(alloc, &mut changed, behind, text.len()),
+            )
+        }
+        Err(_) => (0, 0),
+    }
 }
 
 #[test]
 fn refuses_beginnings_and_changes(rt: HostRuntime) {
-    assert!(rt;
-        refuses_beginnings(rt.alloc(), OF_0_33.as_bytes())
-            && refuses_beginnings(rt.alloc(), OF_0_75.as_bytes())
-    );
-    assert!(rt;
-        refuses_changes(rt.alloc(), OF_0_3.as_bytes(), 15)
-            && refuses_changes(rt.alloc(), OF_0_33.as_bytes(), 16)
-    );
+    for (name, text) in [("0.33", OF_0_33), ("0.75", OF_0_75)] {
+        let bytes = text.as_bytes();
+        compare(&rt, name, first_read(rt.alloc(), bytes), bytes.len());
+        compare(&rt, name, begins_so(rt.alloc(), bytes, b"yes 0."), true);
+    }
+    for (name, text, behind) in [("0.3", OF_0_3, 15), ("0.33", OF_0_33, 16)] {
+        let first = first_changes(rt.alloc(), text.as_bytes(), behind);
+        compare(&rt, name, first, (6, text.len()));
+    }
 }
 
 /// Whether the bytes are refused as no text, and just so many are left once a check has answered.
@@ -205,23 +209,36 @@ fn leaves(alloc: Global, bytes: &[u8], left: usize) -> bool {
     }
 }
 
+/// The same of so many bytes.
+fn leaves_of_many(alloc: Global, count: usize, left: usize) -> bool {
+    match vec![in alloc; b'x'; count] {
+        Ok(bytes) => leaves(alloc, &bytes, left),
+        Err(_) => false,
+    }
+}
+
 /// How many bytes there are, and how many are left of them. More than 2^16 bytes; as many as are
 /// read, with none left then; and more, of which one more is read.
 static LONG: [(usize, usize); 4] = [(70000, 0), (4_194_304, 0), (4_194_305, 0), (4_194_307, 2)];
 
-/// How many rows hold.
+/// How many rows hold, up to the first that doesn't.
 fn count_held(alloc: Global, rows: &[(usize, usize)]) -> usize {
     let mut held = 0usize;
     for (count, left) in rows {
-        match vec![in alloc; b'x'; *count] {
-            Ok(bytes) if leaves(alloc, &bytes, *left) => held = held.saturating_add(1),
-            _ => return held,
+        if !leaves_of_many(alloc, *count, *left) {
+            return held;
         }
+        held = held.saturating_add(1);
     }
     held
 }
 
 #[test]
 fn long_streams_are_no_text(rt: HostRuntime) {
-    assert!(rt; MOST_BYTES == 4_194_304 && count_held(rt.alloc(), &LONG) == 4);
+    compare(
+        &rt,
+        "LONG",
+        (MOST_BYTES, count_held(rt.alloc(), &LONG)),
+        (4_194_304, 4),
+    );
 }

@@ -3,12 +3,12 @@
 //! Nothing is promised of a draft: the checker decides.
 #![tactic(auto)]
 
-mod reasons;
+mod either;
 mod refiner;
 mod sampler;
 
-pub use guesses::furthest;
+pub use either::AnyProposer;
+pub use guesses::{Reason, furthest};
 pub use periods::least_period;
-pub use reasons::{Reason, Sought, find_reason};
 pub use refiner::Refiner;
 pub use sampler::Sampler;

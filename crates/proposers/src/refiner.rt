@@ -1,23 +1,24 @@
-//! The proposer that solves heap by heap.
+//! The proposer that guesses heap by heap.
 ghost use Rattle.std.specs.Prelude.{◌≡◌, []};
 
 use allocation::Memory;
 use answers::Refusal;
-use guesses::{Drafts, Guess, Solver};
+use guesses::{Drafts, Guess, Guesser, Reason};
 use octal_code::Code;
 use quotient_finder::{History, Proposer};
 use std::alloc::Global;
 
-/// Drafts what a solver guesses of the heaps up to some size, for a whole game or for the part of
-/// just these heaps. It solves once: the guess would be the same again.
+/// Drafts what is guessed of the heaps up to some size, for a whole game or for the part of just
+/// these heaps. It guesses once: the guess would be the same again.
 #[derive(Drop)]
 pub struct Refiner {
     alloc: Global,
     order: usize,
-    solver: Solver,
+    guesser: Guesser,
     is_part: bool,
     drafts: Option<Drafts>,
-    has_solved: bool,
+    has_guessed: bool,
+    reason: Option<Reason>,
     history: History,
 }
 
@@ -30,10 +31,11 @@ impl Refiner {
         Refiner {
             alloc,
             order,
-            solver: Solver::new(alloc, heaps, order),
+            guesser: Guesser::new(alloc, heaps, order),
             is_part: false,
             drafts: None,
-            has_solved: false,
+            has_guessed: false,
+            reason: None,
             history: History::new(),
         }
     }
@@ -46,22 +48,32 @@ impl Refiner {
         Refiner {
             alloc,
             order,
-            solver: Solver::of_part(alloc, last, order),
+            guesser: Guesser::of_part(alloc, last, order),
             is_part: true,
             drafts: None,
-            has_solved: false,
+            has_guessed: false,
+            reason: None,
             history: History::new(),
         }
     }
 
+    /// Why its drafts came to nothing, once none is left.
+    pub fn reason(&self) -> Reason {
+        self.reason.unwrap_or(Reason::Refused)
+    }
+
     /// Guesses, unless it did.
-    fn solve(&mut self, code: &Code) -> Result<(), Memory>
+    fn guess(&mut self, code: &Code) -> Result<(), Memory>
         ensures { self.new.history ≡ self.old.history }
     {
-        if !self.has_solved {
-            self.has_solved = true;
-            if let Some(guess) = self.solver.solve(code)? {
-                self.drafts = Some(drafts_of(self.alloc, guess, self.is_part)?);
+        if !self.has_guessed {
+            self.has_guessed = true;
+            match self.guesser.guess(code)? {
+                Ok(guess) => {
+                    self.reason = flaw_of(&guess, self.is_part);
+                    self.drafts = Some(drafts_of(self.alloc, guess, self.is_part)?);
+                }
+                Err(reason) => self.reason = Some(reason),
             }
         }
         Ok(())
@@ -71,7 +83,7 @@ impl Refiner {
     fn left(&mut self, code: &Code) -> Result<Option<Vec<u8>>, Memory>
         ensures { self.new.history ≡ self.old.history }
     {
-        self.solve(code)?;
+        self.guess(code)?;
         match &mut self.drafts {
             Some(drafts) => drafts.next(code, self.order),
             None => Ok(None),
@@ -79,8 +91,20 @@ impl Refiner {
     }
 }
 
+/// The reason that a guess itself gives for drafts that come to nothing, if it gives one.
+fn flaw_of(guess: &Guess, is_part: bool) -> Option<Reason> {
+    let (heaps, order) = (guess.heaps.len(), guess.order);
+    if order < 2 {
+        Some(Reason::OneElement)
+    } else if !is_part && !guess.shown {
+        Some(Reason::NoPeriod { heaps, order })
+    } else {
+        None
+    }
+}
+
 /// The drafts of a guess, of a whole game or of a part.
-pub(crate) fn drafts_of(alloc: Global, guess: Guess, is_part: bool) -> Result<Drafts, Memory> {
+fn drafts_of(alloc: Global, guess: Guess, is_part: bool) -> Result<Drafts, Memory> {
     if is_part {
         Drafts::of_part(alloc, guess)
     } else {
@@ -99,6 +123,13 @@ impl Proposer for Refiner {
 
     fn learn(&mut self, refusal: &Refusal) -> Result<(), Memory> {
         self.history.told(refusal);
+        // its first draft was the likeliest
+        if self.reason.is_none() {
+            self.reason = Some(match refusal {
+                Refusal::Limit => Reason::Members,
+                _ => Reason::Refused,
+            });
+        }
         Ok(())
     }
 }

@@ -7,8 +7,8 @@ use Rattle.quotient_finder.specs.Rounds.{said, HasMissed, HasComeTo, HasStopped,
 use Rattle.misere_theory.specs.Certificates.{Certificate}
 use Rattle.quotient_finder.specs.declared.gave_up.GaveUp.{GaveUp}
 use Rattle.quotient_finder.specs.declared.gave_up.GaveUp.TheVariants.{Memory}
-use Rattle.quotient_finder.specs.declared.reply.Reply.{Reply}
-use Rattle.quotient_finder.specs.declared.reply.Reply.TheVariants.{Drafted, Nothing}
+use Rattle.quotient_finder.specs.declared.reply.ProposerReply.{ProposerReply}
+use Rattle.quotient_finder.specs.declared.reply.ProposerReply.TheVariants.{Drafted, Nothing}
 
 module _ (code : List ℕ) (kind members : ℕ) (olds : List Events) where
   pub begun : HasComeTo code kind members 0 false olds olds
@@ -113,12 +113,12 @@ module _ (code : List ℕ) (kind members : ℕ) (olds : List Events) {B : Type 0
       subst (λ news. HasStopped code kind members Last olds news) (sym made)
       (stopped code kind members olds (map h items) i b come lies (h new) Last (at Last p))
 
-  module _ (reply : Reply)
+  module _ (reply : ProposerReply)
       (replied : HasReplied code kind members reply (h (get_or items i d)) (h new)) where
-    turned : (r : Reply) → reply ≡ r → HasReplied code kind members r (h (get_or items i d)) (h new)
+    turned : (r : ProposerReply) → reply ≡ r → HasReplied code kind members r (h (get_or items i d)) (h new)
     turned r e = subst (λ x. HasReplied code kind members x (h (get_or items i d)) (h new)) e replied
 
-    pub box_found : (r : Reply) → reply ≡ r
+    pub box_found : (r : ProposerReply) → reply ≡ r
         → HasStopped code kind members (HasReplied code kind members r) olds (map h (set items i new))
     box_found r e = box_stopped (HasReplied code kind members r) (turned r e)
 
@@ -139,7 +139,7 @@ module _ (code : List ℕ) (kind members : ℕ) (olds : List Events) {B : Type 0
         (at (HasReplied code kind members Nothing) (turned Nothing e))))
 
 -- One round more, told by what came of it.
-pub more : (code : List ℕ) (kind members n : ℕ) (olds middle news : List Events) (reply : Reply)
+pub more : (code : List ℕ) (kind members n : ℕ) (olds middle news : List Events) (reply : ProposerReply)
     → HasRounds code kind members n olds middle → IsRound code kind members reply middle news
     → reply ≡ Drafted → HasRounds code kind members (n + 1) olds news
 more code kind members n olds middle news reply r d is =
@@ -155,7 +155,7 @@ over code kind members n rounds olds news r l m =
 
 -- A last round, told by what came of it.
 pub ended : (code : List ℕ) (kind members rounds n : ℕ) (olds middle news : List Events)
-    (reply r : Reply) → n < rounds → HasRounds code kind members n olds middle
+    (reply r : ProposerReply) → n < rounds → HasRounds code kind members n olds middle
     → IsRound code kind members reply middle news → reply ≡ r
     → HasEnded code kind members rounds (IsRound code kind members r) olds news
 ended code kind members rounds n olds middle news reply r l before last e = record {

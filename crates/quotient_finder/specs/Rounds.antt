@@ -5,15 +5,15 @@ use Rattle.quotient_finder.specs.Histories.{Events}
 use Rattle.quotient_finder.specs.Turns.{HasReplied, HasWanted}
 use Rattle.quotient_finder.specs.declared.gave_up.GaveUp.{GaveUp}
 use Rattle.quotient_finder.specs.declared.gave_up.GaveUp.TheVariants.{Rounds, Empty, Memory}
-use Rattle.quotient_finder.specs.declared.reply.Reply.{Reply}
-use Rattle.quotient_finder.specs.declared.reply.Reply.TheVariants.{Found, Drafted, Nothing}
+use Rattle.quotient_finder.specs.declared.reply.ProposerReply.{ProposerReply}
+use Rattle.quotient_finder.specs.declared.reply.ProposerReply.TheVariants.{Found, Drafted, Nothing}
 
 -- what was said to the proposer at a place
 abbrev pub said : List Events → ℕ → Events
 said all place = slice_index_or all place []
 
 -- the reply of a proposer that had a draft, or had none
-abbrev pub missed : Bool → Reply
+abbrev pub missed : Bool → ProposerReply
 missed true = Drafted
 missed false = Nothing
 
@@ -45,7 +45,7 @@ module _ (code : List ℕ) (kind members : ℕ) where
     pub others : (k : ℕ) → place < k → said news k ≡ said olds k
 
   -- a round in which each proposer was asked once, but none behind one that found a certificate
-  abbrev pub IsRound : Reply → List Events → List Events → Type 0
+  abbrev pub IsRound : ProposerReply → List Events → List Events → Type 0
   IsRound (Found c) olds news = HasStopped (HasReplied code kind members (Found c)) olds news
   IsRound Drafted olds news = HasComeTo (length olds) true olds news
   IsRound Nothing olds news = HasComeTo (length olds) false olds news

@@ -10,11 +10,10 @@ mod limits;
 mod proposer;
 mod reply;
 mod rounds;
-mod same;
 mod turn;
 
 pub use gave_up::GaveUp;
 pub use history::History;
 pub use limits::Limits;
 pub use proposer::Proposer;
-pub use rounds::find;
+pub use rounds::{ask_rounds, find};

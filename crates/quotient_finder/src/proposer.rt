@@ -22,3 +22,16 @@ pub trait Proposer: Drop {
     fn learn(&mut self, refusal: &Refusal) -> Result<(), Memory>
         ensures { history self.new ≡ Told (refused refusal.now) ∷ history self.old };
 }
+
+/// A call goes to the proposer in the box.
+impl Proposer for Box<dyn Proposer> {
+    ghost history = { λ b. (Proposer-box b).history b.value };
+
+    fn propose(&mut self, code: &Code) -> Result<Option<Vec<u8>>, Memory> {
+        (**self).propose(code)
+    }
+
+    fn learn(&mut self, refusal: &Refusal) -> Result<(), Memory> {
+        (**self).learn(refusal)
+    }
+}

@@ -6,59 +6,59 @@ ghost use Rattle.quotient_finder.specs.Rounds.{IsRound, IsBroken, HasSearched};
 use crate::gave_up::GaveUp;
 use crate::limits::Limits;
 use crate::proposer::Proposer;
-use crate::reply::Reply;
+use crate::reply::ProposerReply;
 use crate::turn::ask;
 use checker::Certified;
 use octal_code::Code;
 use std::alloc::Global;
 
 /// Asks each proposer once, in order, until a certificate of the code and kind is found.
-fn round(
+fn ask_each<P: Proposer>(
     alloc: Global,
     code: &Code,
     heaps: u64,
-    proposers: &mut [Box<dyn Proposer>],
+    proposers: &mut [P],
     members: u32,
-) -> Result<Reply, GaveUp>
+) -> Result<ProposerReply, GaveUp>
     ensures found { IfOk result (FindsOnly code.now heaps) }
     ensures round { IfOk result (λ reply. IsRound code.now heaps members reply
-        (map history proposers.old) (map history proposers.new)) }
+        (map P.history proposers.old) (map P.history proposers.new)) }
     ensures memory { IfErr result (λ why. (why ≡ GaveUp.Memory) × IsBroken code.now heaps members
-        (map history proposers.old) (map history proposers.new)) }
+        (map P.history proposers.old) (map P.history proposers.new)) }
 {
     let mut has_drafted = false;
     for proposer in proposers.iter_mut() {
         match ask(alloc, code, heaps, proposer, members)? {
-            Reply::Found(certified) => return Ok(Reply::Found(certified)),
-            Reply::Drafted => has_drafted = true,
-            Reply::Nothing => {}
+            ProposerReply::Found(certified) => return Ok(ProposerReply::Found(certified)),
+            ProposerReply::Drafted => has_drafted = true,
+            ProposerReply::Nothing => {}
         }
     }
     if has_drafted {
-        Ok(Reply::Drafted)
+        Ok(ProposerReply::Drafted)
     } else {
-        Ok(Reply::Nothing)
+        Ok(ProposerReply::Nothing)
     }
 }
 
-/// Goes round after round, until a certificate of the code and kind is found, or a round gives no
-/// draft.
-fn search(
+/// Searches as [`find`] does, over proposers of one type, of which there is one at least.
+pub fn ask_rounds<P: Proposer>(
     alloc: Global,
     code: &Code,
     heaps: u64,
-    proposers: &mut [Box<dyn Proposer>],
+    proposers: &mut [P],
     limits: Limits,
 ) -> Result<Certified, GaveUp>
     ensures found { IfOk result (IsFound code.now heaps) }
     ensures searched { HasSearched code.now heaps limits.members limits.rounds
-        (map history proposers.old) (map history proposers.new) result }
+        (map P.history proposers.old) (map P.history proposers.new) result }
+    ensures no_round { limits.rounds ≡ 0 → result ≡ Err GaveUp.Rounds }
 {
     for _ in 0..limits.rounds {
-        match round(alloc, code, heaps, proposers, limits.members)? {
-            Reply::Found(certified) => return Ok(certified),
-            Reply::Drafted => {}
-            Reply::Nothing => return Err(GaveUp::Empty),
+        match ask_each(alloc, code, heaps, proposers, limits.members)? {
+            ProposerReply::Found(certified) => return Ok(certified),
+            ProposerReply::Drafted => {}
+            ProposerReply::Nothing => return Err(GaveUp::Empty),
         }
     }
     Err(GaveUp::Rounds)
@@ -90,5 +90,5 @@ pub fn find(
     if proposers.is_empty() {
         return Err(GaveUp::Empty);
     }
-    search(alloc, code, heaps, proposers, limits)
+    ask_rounds(alloc, code, heaps, proposers, limits)
 }

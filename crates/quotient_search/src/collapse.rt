@@ -2,18 +2,36 @@
 use crate::cells::{at, clear, index, put, put_index, set_bit, small, word, words_for};
 use crate::congruence::congruence;
 use crate::levels::Levels;
-use crate::lists::Lists;
+use crate::lists::ElementLists;
 use crate::partition::Partition;
-use crate::quotient::{Quotient, heap_weight};
-use crate::work::{Halt, Work};
-use octal_code::Code;
+use crate::quotient::{HeapQuotient, heap_weight};
+use crate::work::{Halt, Means, Work};
 use std::alloc::Allocator;
 
 /// The most elements of a quotient on the way, unless twice as many as before are more.
-const MOST_ELEMENTS: usize = 2048;
+const MOST_CLASSES: usize = 2048;
 
-/// The lightest member of a class: its weight, level and element.
-type First = (u64, usize, usize);
+/// The lightest member of a class.
+#[derive(Clone, Copy, PartialEq, Eq, PartialOrd, Ord)]
+struct First {
+    weight: u64,
+    level: usize,
+    element: usize,
+}
+
+impl First {
+    /// Heavier than all members.
+    const HEAVIEST: First = First {
+        weight: u64::MAX,
+        level: 0,
+        element: 0,
+    };
+
+    /// The place of its pair, where there are so many elements.
+    fn place(self, order: usize) -> usize {
+        self.level.wrapping_mul(order).wrapping_add(self.element)
+    }
+}
 
 /// The classes of pairs, numbered by their lightest members.
 #[derive(Drop)]
@@ -26,9 +44,8 @@ struct Merged<A: Allocator> {
 /// What is merged: the pairs of a level and an element, and the values of the options of the heap
 /// that the levels count.
 #[derive(Drop)]
-pub struct Merging<'a, A: Allocator> {
-    pub code: &'a Code,
-    pub quotient: &'a Quotient<A>,
+pub struct LevelPairs<'a, A: Allocator> {
+    pub quotient: &'a HeapQuotient<A>,
     pub levels: &'a Levels<A>,
     /// The heap that is added, or 0 where none is.
     pub heap: usize,
@@ -52,12 +69,12 @@ impl<A: Allocator> Merged<A> {
 /// The lightest member of each class, by weights.
 fn firsts_of<A: Allocator + Copy>(
     alloc: A,
-    merging: &Merging<'_, A>,
+    pairs: &LevelPairs<'_, A>,
     partition: &Partition<A>,
 ) -> Result<Vec<First, A>, Halt> {
-    let mut firsts: Vec<First, A> = vec![in alloc; (u64::MAX, 0usize, 0usize); partition.count]?;
-    for k in 0..merging.levels.count {
-        lighten_level(merging, partition, k, &mut firsts);
+    let mut firsts: Vec<First, A> = vec![in alloc; First::HEAVIEST; partition.count]?;
+    for k in 0..pairs.levels.count {
+        lighten_level(pairs, partition, k, &mut firsts);
     }
     firsts.sort_unstable();
     Ok(firsts)
@@ -65,23 +82,30 @@ fn firsts_of<A: Allocator + Copy>(
 
 /// Takes the pairs of a level for the lightest members of their classes, where they are.
 fn lighten_level<A: Allocator>(
-    merging: &Merging<'_, A>,
+    pairs: &LevelPairs<'_, A>,
     partition: &Partition<A>,
     k: usize,
     firsts: &mut Vec<First, A>,
 ) {
-    let order = merging.quotient.order;
-    let heaps = heap_weight(merging.heap).saturating_mul(k as u64);
-    for y in 0..order {
-        let weight = word(&merging.quotient.weights, y).saturating_add(heaps);
-        let class = index(&partition.classes, k.wrapping_mul(order).wrapping_add(y));
-        lighten_first(firsts, class, (weight, k, y));
+    let order = pairs.quotient.order;
+    let heaps = heap_weight(pairs.heap).saturating_mul(k as u64);
+    for element in 0..order {
+        let member = First {
+            weight: word(&pairs.quotient.weights, element).saturating_add(heaps),
+            level: k,
+            element,
+        };
+        lighten_first(
+            firsts,
+            index(&partition.classes, member.place(order)),
+            member,
+        );
     }
 }
 
 /// Takes a member for the lightest one of a class, where it is.
 fn lighten_first<A: Allocator>(firsts: &mut Vec<First, A>, class: usize, member: First) {
-    if class < firsts.len() && member.0 < firsts[class].0 {
+    if class < firsts.len() && member.weight < firsts[class].weight {
         firsts[class] = member;
     }
 }
@@ -95,8 +119,11 @@ fn places_of<A: Allocator + Copy>(
 ) -> Result<Vec<usize, A>, Halt> {
     let mut places: Vec<usize, A> = vec![in alloc; 0usize; partition.count]?;
     for (place, first) in firsts.iter().enumerate() {
-        let member = first.1.wrapping_mul(order).wrapping_add(first.2);
-        put_index(&mut places, index(&partition.classes, member), place);
+        put_index(
+            &mut places,
+            index(&partition.classes, first.place(order)),
+            place,
+        );
     }
     Ok(places)
 }
@@ -117,11 +144,11 @@ fn names_of<A: Allocator + Copy>(
 /// Numbers the classes by the weights of their lightest members.
 fn merge<A: Allocator + Copy>(
     alloc: A,
-    merging: &Merging<'_, A>,
+    pairs: &LevelPairs<'_, A>,
     partition: &Partition<A>,
 ) -> Result<Merged<A>, Halt> {
-    let order = merging.quotient.order;
-    let firsts = firsts_of(alloc, merging, partition)?;
+    let order = pairs.quotient.order;
+    let firsts = firsts_of(alloc, pairs, partition)?;
     let places = places_of(alloc, order, partition, &firsts)?;
     let names = names_of(alloc, partition, &places)?;
     Ok(Merged {
@@ -133,18 +160,18 @@ fn merge<A: Allocator + Copy>(
 
 /// The class of the product of two classes' lightest members.
 fn product_of<A: Allocator>(
-    merging: &Merging<'_, A>,
+    pairs: &LevelPairs<'_, A>,
     merged: &Merged<A>,
     one: First,
     other: First,
 ) -> usize {
-    let y = merging.quotient.times(one.2, other.2);
-    merged.name(merging.levels, one.1.wrapping_add(other.1), y)
+    let y = pairs.quotient.times(one.element, other.element);
+    merged.name(pairs.levels, one.level.wrapping_add(other.level), y)
 }
 
 /// Writes the products of the class a with those up to it.
 fn write_row_of_products<A: Allocator>(
-    merging: &Merging<'_, A>,
+    pairs: &LevelPairs<'_, A>,
     merged: &Merged<A>,
     a: usize,
     one: First,
@@ -155,7 +182,7 @@ fn write_row_of_products<A: Allocator>(
         if b > a {
             break;
         }
-        let product = product_of(merging, merged, one, *other);
+        let product = product_of(pairs, merged, one, *other);
         put(products, a.wrapping_mul(order).wrapping_add(b), product);
         put(products, b.wrapping_mul(order).wrapping_add(a), product);
     }
@@ -163,151 +190,152 @@ fn write_row_of_products<A: Allocator>(
 
 /// Writes the products of the classes.
 fn write_products<A: Allocator>(
-    merging: &Merging<'_, A>,
+    pairs: &LevelPairs<'_, A>,
     merged: &Merged<A>,
     products: &mut Vec<u16, A>,
 ) -> Result<(), Halt> {
     let order = merged.firsts.len();
     products.resize(order.saturating_mul(order), 0)?;
     for (a, one) in merged.firsts.iter().enumerate() {
-        write_row_of_products(merging, merged, a, *one, products);
+        write_row_of_products(pairs, merged, a, *one, products);
     }
     Ok(())
 }
 
 /// Adds the values of the options of a member's element.
 fn add_element_options<A: Allocator>(
-    merging: &Merging<'_, A>,
+    pairs: &LevelPairs<'_, A>,
     merged: &Merged<A>,
     first: First,
     set: &mut Vec<u64, A>,
 ) {
-    for option in merging.quotient.options.list(first.2) {
-        set_bit(set, merged.name(merging.levels, first.1, *option as usize));
+    for option in pairs.quotient.options.list(first.element) {
+        set_bit(
+            set,
+            merged.name(pairs.levels, first.level, *option as usize),
+        );
     }
 }
 
 /// Adds the values of the options of a member's heaps, where it has any.
 fn add_heap_options<A: Allocator>(
-    merging: &Merging<'_, A>,
+    pairs: &LevelPairs<'_, A>,
     merged: &Merged<A>,
     first: First,
     set: &mut Vec<u64, A>,
 ) {
-    let Some(below) = first.1.checked_sub(1) else {
+    let Some(below) = first.level.checked_sub(1) else {
         return;
     };
-    for option in merging.quotient.heap_moves(merging.heap) {
-        let y = merging.quotient.times(*option as usize, first.2);
-        set_bit(set, merged.name(merging.levels, below, y));
+    for option in pairs.quotient.heap_moves(pairs.heap) {
+        let y = pairs.quotient.times(*option as usize, first.element);
+        set_bit(set, merged.name(pairs.levels, below, y));
     }
 }
 
 /// Writes the option values of the classes' lightest members.
 fn write_options<A: Allocator>(
-    merging: &Merging<'_, A>,
+    pairs: &LevelPairs<'_, A>,
     merged: &Merged<A>,
     set: &mut Vec<u64, A>,
-    options: &mut Lists<A>,
+    options: &mut ElementLists<A>,
     work: &mut Work,
 ) -> Result<(), Halt> {
     for first in merged.firsts.iter() {
         clear(set);
-        add_element_options(merging, merged, *first, set);
-        add_heap_options(merging, merged, *first, set);
+        add_element_options(pairs, merged, *first, set);
+        add_heap_options(pairs, merged, *first, set);
         options.push_set(set)?;
-        work.spend(merging.quotient.order.saturating_add(set.len()))?;
+        work.spend(pairs.quotient.order.saturating_add(set.len()))?;
     }
     Ok(())
 }
 
 /// Writes the weights of the classes, and their rows, cut to so many words.
 fn write_rows<A: Allocator>(
-    merging: &Merging<'_, A>,
+    pairs: &LevelPairs<'_, A>,
     merged: &Merged<A>,
-    next: &mut Quotient<A>,
+    next: &mut HeapQuotient<A>,
 ) -> Result<(), Halt> {
     for first in merged.firsts.iter() {
-        next.weights.push(first.0)?;
-        let member = first.1.wrapping_mul(merged.order).wrapping_add(first.2);
-        push_row(merging, member, &mut next.rows)?;
+        next.weights.push(first.weight)?;
+        push_row(pairs, first.place(merged.order), &mut next.rows)?;
     }
     Ok(())
 }
 
 /// Adds the row of a pair.
 fn push_row<A: Allocator>(
-    merging: &Merging<'_, A>,
+    pairs: &LevelPairs<'_, A>,
     member: usize,
     rows: &mut Vec<u64, A>,
 ) -> Result<(), Halt> {
-    let words = merging.quotient.words;
-    let mask = if merging.words < words { 1 } else { u64::MAX };
-    for place in 0..merging.words {
+    let words = pairs.quotient.words;
+    let mask = if pairs.words < words { 1 } else { u64::MAX };
+    for place in 0..pairs.words {
         let from = member.wrapping_mul(words).wrapping_add(place);
-        rows.push(word(&merging.levels.rows, from) & mask)?;
+        rows.push(word(&pairs.levels.rows, from) & mask)?;
     }
     Ok(())
 }
 
 /// Writes the elements of the heaps.
 fn write_heaps<A: Allocator>(
-    merging: &Merging<'_, A>,
+    pairs: &LevelPairs<'_, A>,
     merged: &Merged<A>,
     heaps: &mut Vec<u16, A>,
 ) -> Result<(), Halt> {
-    for heap in merging.quotient.heaps.iter() {
-        heaps.push(small(merged.name(merging.levels, 0, *heap as usize)))?;
+    for heap in pairs.quotient.heaps.iter() {
+        heaps.push(small(merged.name(pairs.levels, 0, *heap as usize)))?;
     }
-    if merging.heap > 0 {
-        heaps.push(small(merged.name(merging.levels, 1, 0)))?;
+    if pairs.heap > 0 {
+        heaps.push(small(merged.name(pairs.levels, 1, 0)))?;
     }
     Ok(())
 }
 
 /// Writes the quotient by the classes into an empty one.
 fn write<A: Allocator + Copy>(
-    alloc: A,
-    merging: &Merging<'_, A>,
+    means: &mut Means<'_, A>,
+    pairs: &LevelPairs<'_, A>,
     merged: &Merged<A>,
-    next: &mut Quotient<A>,
-    work: &mut Work,
+    next: &mut HeapQuotient<A>,
 ) -> Result<(), Halt> {
     next.order = merged.firsts.len();
-    next.words = merging.words;
-    write_rows(merging, merged, next)?;
-    write_products(merging, merged, &mut next.products)?;
-    let mut set: Vec<u64, A> = vec![in alloc; 0u64; words_for(next.order)]?;
-    write_options(merging, merged, &mut set, &mut next.options, work)?;
-    write_heaps(merging, merged, &mut next.heaps)?;
-    next.renew_moves(alloc, merging.code, work)
+    next.words = pairs.words;
+    write_rows(pairs, merged, next)?;
+    write_products(pairs, merged, &mut next.products)?;
+    let mut set: Vec<u64, A> = vec![in means.alloc; 0u64; words_for(next.order)]?;
+    write_options(pairs, merged, &mut set, &mut next.options, &mut means.work)?;
+    write_heaps(pairs, merged, &mut next.heaps)?;
+    next.renew_moves(means)
 }
 
 /// Writes the quotient by a partition's classes into an empty one.
 fn write_classes<A: Allocator + Copy>(
-    alloc: A,
-    merging: &Merging<'_, A>,
+    means: &mut Means<'_, A>,
+    pairs: &LevelPairs<'_, A>,
     partition: &Partition<A>,
-    next: &mut Quotient<A>,
-    work: &mut Work,
+    next: &mut HeapQuotient<A>,
 ) -> Result<(), Halt> {
-    let most = MOST_ELEMENTS.max(merging.quotient.order.saturating_mul(2));
+    let most = MOST_CLASSES.max(pairs.quotient.order.saturating_mul(2));
     if partition.count > most {
         return Err(Halt::Work);
     }
-    work.spend(partition.count.saturating_mul(partition.count))?;
-    let merged = merge(alloc, merging, partition)?;
-    write(alloc, merging, &merged, next, work)
+    means
+        .work
+        .spend(partition.count.saturating_mul(partition.count))?;
+    let merged = merge(means.alloc, pairs, partition)?;
+    write(means, pairs, &merged, next)
 }
 
 /// Writes the quotient of the pairs by the coarsest congruence that keeps their rows into an empty
 /// one.
 pub fn collapse<A: Allocator + Copy>(
-    alloc: A,
-    merging: &Merging<'_, A>,
-    next: &mut Quotient<A>,
-    work: &mut Work,
+    means: &mut Means<'_, A>,
+    pairs: &LevelPairs<'_, A>,
+    next: &mut HeapQuotient<A>,
 ) -> Result<(), Halt> {
-    let partition = congruence(alloc, merging.quotient, merging.levels, merging.kept, work)?;
-    write_classes(alloc, merging, &partition, next, work)
+    let partition = congruence(means, pairs.quotient, pairs.levels, pairs.kept)?;
+    write_classes(means, pairs, &partition, next)
 }

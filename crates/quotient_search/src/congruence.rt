@@ -2,19 +2,18 @@
 use crate::cells::{bit, index, put_word, set_bit, word, words_for};
 use crate::levels::Levels;
 use crate::partition::Partition;
-use crate::quotient::Quotient;
-use crate::work::{Halt, Work};
+use crate::quotient::HeapQuotient;
+use crate::work::{Halt, Means, Work};
 use std::alloc::Allocator;
 
 /// The elements of the heaps but the identity, each once.
 pub fn generators<A: Allocator + Copy>(
-    alloc: A,
-    quotient: &Quotient<A>,
-    work: &mut Work,
+    means: &mut Means<'_, A>,
+    quotient: &HeapQuotient<A>,
 ) -> Result<Vec<usize, A>, Halt> {
-    let mut found: Vec<usize, A> = Vec::new(alloc);
-    let mut seen: Vec<u64, A> = vec![in alloc; 0u64; words_for(quotient.order)]?;
-    work.spend(quotient.heaps.len())?;
+    let mut found: Vec<usize, A> = Vec::new(means.alloc);
+    let mut seen: Vec<u64, A> = vec![in means.alloc; 0u64; words_for(quotient.order)]?;
+    means.work.spend(quotient.heaps.len())?;
     for heap in quotient.heaps.iter() {
         let x = *heap as usize;
         if x != 0 && !bit(&seen, x) {
@@ -46,7 +45,7 @@ fn part_by_rows<A: Allocator>(
 /// Takes the classes of the products with an element for keys.
 fn key_by_element<A: Allocator>(
     partition: &mut Partition<A>,
-    quotient: &Quotient<A>,
+    quotient: &HeapQuotient<A>,
     levels: usize,
     element: usize,
 ) {
@@ -75,24 +74,29 @@ fn key_by_level<A: Allocator>(partition: &mut Partition<A>, order: usize, levels
 
 /// The coarsest congruence that keeps the rows, as far as the mask `kept` shows them.
 pub fn congruence<A: Allocator + Copy>(
-    alloc: A,
-    quotient: &Quotient<A>,
+    means: &mut Means<'_, A>,
+    quotient: &HeapQuotient<A>,
     levels: &Levels<A>,
     kept: &[u64],
-    work: &mut Work,
 ) -> Result<Partition<A>, Halt> {
     let size = quotient.order.saturating_mul(levels.count);
-    let elements = generators(alloc, quotient, work)?;
-    let mut partition = Partition::new(alloc, size)?;
-    part_by_rows(&mut partition, quotient.words, &levels.rows, kept, work)?;
-    loop_until_quiet(&mut partition, quotient, levels, &elements, work)?;
+    let elements = generators(means, quotient)?;
+    let mut partition = Partition::new(means.alloc, size)?;
+    part_by_rows(
+        &mut partition,
+        quotient.words,
+        &levels.rows,
+        kept,
+        &mut means.work,
+    )?;
+    loop_until_quiet(&mut partition, quotient, levels, &elements, &mut means.work)?;
     Ok(partition)
 }
 
 /// Splits by each generator in turn, until none splits a class.
 fn loop_until_quiet<A: Allocator>(
     partition: &mut Partition<A>,
-    quotient: &Quotient<A>,
+    quotient: &HeapQuotient<A>,
     levels: &Levels<A>,
     elements: &[usize],
     work: &mut Work,

@@ -2,9 +2,9 @@
 //! summands of the position.
 use crate::cells::{WORD_BITS, clear, index, part, put_index, set_bit, words_for};
 use crate::dead::{is_empty, is_within};
-use crate::quotient::Quotient;
+use crate::quotient::HeapQuotient;
 use crate::scene::Scene;
-use crate::work::{Halt, Work};
+use crate::work::{Halt, Means};
 use std::alloc::Allocator;
 
 /// The most summands of a position that are looked at.
@@ -101,7 +101,7 @@ impl<A: Allocator> Summand<A> {
     }
 
     /// About how many steps its options take.
-    fn cost(&self, quotient: &Quotient<A>) -> usize {
+    fn cost(&self, quotient: &HeapQuotient<A>) -> usize {
         let mut heaps = 0usize;
         for taken in self.taken.iter() {
             heaps = heaps.saturating_add(*taken);
@@ -120,7 +120,7 @@ impl<A: Allocator> Summand<A> {
     }
 
     /// The value without one of the heaps at a place.
-    fn value_without(&self, quotient: &Quotient<A>, without: usize) -> usize {
+    fn value_without(&self, quotient: &HeapQuotient<A>, without: usize) -> usize {
         let mut value = 0;
         for (place, size) in self.sizes.iter().enumerate() {
             let taken = index(&self.taken, place);
@@ -138,7 +138,7 @@ impl<A: Allocator> Summand<A> {
 
     /// Sets the bits of the values of the summand's options. Answers whether there is one and all are
     /// below `elements`.
-    fn mask(&self, quotient: &Quotient<A>, elements: usize, mask: &mut Vec<u64, A>) -> bool {
+    fn mask(&self, quotient: &HeapQuotient<A>, elements: usize, mask: &mut Vec<u64, A>) -> bool {
         for (place, size) in self.sizes.iter().enumerate() {
             if index(&self.taken, place) == 0 {
                 continue;
@@ -169,32 +169,31 @@ fn context_with<A: Allocator>(scene: &Scene<A>, mask: &[u64]) -> Option<usize> {
 
 /// The first elements of a quotient, each by the values of its representative's options.
 fn scene_of_elements<A: Allocator + Copy>(
-    alloc: A,
-    quotient: &Quotient<A>,
+    means: &mut Means<'_, A>,
+    quotient: &HeapQuotient<A>,
     elements: usize,
     words: usize,
-    work: &mut Work,
 ) -> Result<Scene<A>, Halt> {
     let steps = words
         .saturating_mul(WORD_BITS)
         .saturating_mul(words.saturating_add(1));
-    work.spend(steps)?;
-    let mut kept: Vec<u64, A> = vec![in alloc; 0u64; words]?;
+    means.work.spend(steps)?;
+    let mut kept: Vec<u64, A> = vec![in means.alloc; 0u64; words]?;
     set_bit(&mut kept, 0);
     let mut scene = Scene {
         count: elements,
         words,
-        masks: Vec::new(alloc),
+        masks: Vec::new(means.alloc),
         kept,
     };
-    add_elements(alloc, quotient, &mut scene)?;
+    add_elements(means.alloc, quotient, &mut scene)?;
     Ok(scene)
 }
 
 /// Adds the rows of the elements.
 fn add_elements<A: Allocator + Copy>(
     alloc: A,
-    quotient: &Quotient<A>,
+    quotient: &HeapQuotient<A>,
     scene: &mut Scene<A>,
 ) -> Result<(), Halt> {
     let mut mask: Vec<u64, A> = vec![in alloc; 0u64; scene.words]?;
@@ -206,7 +205,7 @@ fn add_elements<A: Allocator + Copy>(
 }
 
 /// Writes the row of the options of an element's representative.
-fn write_options<A: Allocator>(quotient: &Quotient<A>, element: usize, mask: &mut Vec<u64, A>) {
+fn write_options<A: Allocator>(quotient: &HeapQuotient<A>, element: usize, mask: &mut Vec<u64, A>) {
     clear(mask);
     for option in quotient.options.list(element) {
         set_bit(mask, *option as usize);
@@ -237,21 +236,22 @@ fn add_summand<A: Allocator>(
 
 /// Adds the summands, and notes those that are kept. Answers how many no element stands for.
 fn add_summands<A: Allocator + Copy>(
-    alloc: A,
-    quotient: &Quotient<A>,
+    means: &mut Means<'_, A>,
+    quotient: &HeapQuotient<A>,
     summand: &mut Summand<A>,
     kept: Kept,
     scene: &mut Scene<A>,
-    work: &mut Work,
 ) -> Result<usize, Halt> {
     let elements = scene.count;
-    let mut mask: Vec<u64, A> = vec![in alloc; 0u64; scene.words]?;
+    let mut mask: Vec<u64, A> = vec![in means.alloc; 0u64; scene.words]?;
     let mut added = 0usize;
     for _ in 0..MOST_SUMMANDS {
         if !summand.advance() {
             break;
         }
-        work.spend(summand.cost(quotient).saturating_add(scene.cost()))?;
+        means
+            .work
+            .spend(summand.cost(quotient).saturating_add(scene.cost()))?;
         clear(&mut mask);
         if summand.mask(quotient, elements, &mut mask) {
             added = add_summand(&mask, kept, added, scene)?;
@@ -277,17 +277,16 @@ fn keep<A: Allocator>(kept: Kept, added: usize, scene: &mut Scene<A>) -> bool {
 /// The contexts for a failing position, with the first elements of the wrong guess. `None` where
 /// there is no such summand as is to be kept.
 pub fn contexts<A: Allocator + Copy>(
-    alloc: A,
-    quotient: &Quotient<A>,
+    means: &mut Means<'_, A>,
+    quotient: &HeapQuotient<A>,
     heaps: &[usize],
     elements: usize,
     kept: Kept,
-    work: &mut Work,
 ) -> Result<Option<Scene<A>>, Halt> {
-    let mut summand = Summand::of(alloc, heaps)?;
+    let mut summand = Summand::of(means.alloc, heaps)?;
     let words = words_for(elements.saturating_add(summand.variety()));
-    let mut scene = scene_of_elements(alloc, quotient, elements, words, work)?;
-    let added = add_summands(alloc, quotient, &mut summand, kept, &mut scene, work)?;
+    let mut scene = scene_of_elements(means, quotient, elements, words)?;
+    let added = add_summands(means, quotient, &mut summand, kept, &mut scene)?;
     if keep(kept, added, &mut scene) {
         Ok(Some(scene))
     } else {

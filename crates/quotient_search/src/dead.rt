@@ -2,17 +2,17 @@
 //! that of each of its options. There the rule that a position without a P-option is a P-position
 //! would fail.
 use crate::cells::{WORD_BITS, at, bit, put_word, set_bit, word, words_for};
-use crate::quotient::Quotient;
+use crate::quotient::HeapQuotient;
 use crate::work::Halt;
 use std::alloc::Allocator;
 
 /// How many words a set of elements has.
-pub fn words_of<A: Allocator>(quotient: &Quotient<A>) -> usize {
+pub fn words_of<A: Allocator>(quotient: &HeapQuotient<A>) -> usize {
     words_for(quotient.order)
 }
 
 /// Whether the heap n beside an element is dead: it and its options are outside the portion.
-fn is_dead<A: Allocator>(quotient: &Quotient<A>, n: usize, element: usize) -> bool {
+fn is_dead<A: Allocator>(quotient: &HeapQuotient<A>, n: usize, element: usize) -> bool {
     if quotient.is_in_portion(quotient.times(element, quotient.heap(n))) {
         return false;
     }
@@ -27,7 +27,7 @@ fn is_dead<A: Allocator>(quotient: &Quotient<A>, n: usize, element: usize) -> bo
 /// The dead contexts of the heap n.
 pub fn dead_of_heap<A: Allocator + Copy>(
     alloc: A,
-    quotient: &Quotient<A>,
+    quotient: &HeapQuotient<A>,
     n: usize,
 ) -> Result<Vec<u64, A>, Halt> {
     let mut set: Vec<u64, A> = vec![in alloc; 0u64; words_of(quotient)]?;
@@ -68,7 +68,7 @@ fn word_of_sum(products: &[u16], order: usize, x: Dead<'_>, y: Dead<'_>, place: 
 
 /// Writes the dead contexts of the sum of two positions. Answers whether there is any.
 pub fn dead_of_sum<A: Allocator>(
-    quotient: &Quotient<A>,
+    quotient: &HeapQuotient<A>,
     x: Dead<'_>,
     y: Dead<'_>,
     sum: &mut Vec<u64, A>,
@@ -98,7 +98,7 @@ pub fn is_within(one: &[u64], other: &[u64]) -> bool {
 }
 
 /// Whether, beside each element with which the heap n is in the portion, its options are outside.
-pub fn leaves_portion<A: Allocator>(quotient: &Quotient<A>, n: usize) -> bool {
+pub fn leaves_portion<A: Allocator>(quotient: &HeapQuotient<A>, n: usize) -> bool {
     for element in 0..quotient.order {
         if breaks_portion(quotient, n, element) {
             return false;
@@ -108,7 +108,7 @@ pub fn leaves_portion<A: Allocator>(quotient: &Quotient<A>, n: usize) -> bool {
 }
 
 /// Whether the heap n beside an element is in the portion, and so is an option of the heap.
-pub fn breaks_portion<A: Allocator>(quotient: &Quotient<A>, n: usize, element: usize) -> bool {
+pub fn breaks_portion<A: Allocator>(quotient: &HeapQuotient<A>, n: usize, element: usize) -> bool {
     if !quotient.is_in_portion(quotient.times(element, quotient.heap(n))) {
         return false;
     }

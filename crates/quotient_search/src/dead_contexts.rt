@@ -2,18 +2,16 @@
 use crate::cells::{index, put_index, word};
 use crate::chains::{Chains, NONE};
 use crate::dead::{Dead, dead_of_heap, dead_of_sum, is_empty, is_within, leaves_portion, words_of};
-use crate::quotient::Quotient;
-use crate::sets::Sets;
-use crate::work::{Halt, Work};
+use crate::quotient::HeapQuotient;
+use crate::sets::{MOST_WORDS, Sets};
+use crate::work::{Halt, Means, Work};
 use std::alloc::Allocator;
 
 /// As a count of generators: a member that isn't needed any more.
 const GONE: usize = usize::MAX;
 
-/// The most members, and the most words of their sets.
+/// The most members.
 const MOST_MEMBERS: usize = 500_000;
-
-const MOST_WORDS: usize = 4_000_000;
 
 /// For each value the largest sets of dead contexts that positions have. Those within others aren't
 /// needed, nor are empty ones: with more heaps they stay within, or empty.
@@ -42,7 +40,7 @@ impl<A: Allocator + Copy> DeadContexts<A> {
     }
 
     /// Begins anew with no heap, for a quotient.
-    pub fn begin(&mut self, alloc: A, quotient: &Quotient<A>) -> Result<(), Halt> {
+    pub fn begin(&mut self, alloc: A, quotient: &HeapQuotient<A>) -> Result<(), Halt> {
         let chains = Chains::new(alloc, quotient.order)?;
         let words = words_of(quotient);
         *self = DeadContexts {
@@ -56,10 +54,14 @@ impl<A: Allocator + Copy> DeadContexts<A> {
     }
 
     /// Begins anew with all heaps of a quotient, up to the first one by which the rule fails.
-    pub fn renew(&mut self, alloc: A, quotient: &Quotient<A>, work: &mut Work) -> Result<(), Halt> {
-        self.begin(alloc, quotient)?;
+    pub fn renew(
+        &mut self,
+        means: &mut Means<'_, A>,
+        quotient: &HeapQuotient<A>,
+    ) -> Result<(), Halt> {
+        self.begin(means.alloc, quotient)?;
         for n in 1..quotient.heaps.len().saturating_add(1) {
-            self.add(alloc, quotient, n, work)?;
+            self.add(means, quotient, n)?;
             if self.failed {
                 break;
             }
@@ -70,53 +72,53 @@ impl<A: Allocator + Copy> DeadContexts<A> {
     /// Adds the heap n, and what follows with it.
     pub fn add(
         &mut self,
-        alloc: A,
-        quotient: &Quotient<A>,
+        means: &mut Means<'_, A>,
+        quotient: &HeapQuotient<A>,
         n: usize,
-        work: &mut Work,
     ) -> Result<(), Halt> {
         let options = quotient.heap_moves(n).len();
         if options == 0 {
             return Ok(());
         }
-        work.spend(quotient.order.saturating_mul(options.saturating_add(1)))?;
+        means
+            .work
+            .spend(quotient.order.saturating_mul(options.saturating_add(1)))?;
         if !leaves_portion(quotient, n) {
             self.failed = true;
             return Ok(());
         }
-        let set = dead_of_heap(alloc, quotient, n)?;
-        self.add_generator(alloc, quotient, quotient.heap(n), &set, work)
+        let set = dead_of_heap(means.alloc, quotient, n)?;
+        self.add_generator(means, quotient, quotient.heap(n), &set)
     }
 
     /// Adds a generator with its dead contexts, where it brings any.
     fn add_generator(
         &mut self,
-        alloc: A,
-        quotient: &Quotient<A>,
+        means: &mut Means<'_, A>,
+        quotient: &HeapQuotient<A>,
         value: usize,
         set: &[u64],
-        work: &mut Work,
     ) -> Result<(), Halt> {
-        work.spend(self.generators.size())?;
+        means.work.spend(self.generators.size())?;
         if is_empty(set) || self.has_generator(value, set) {
             return Ok(());
         }
         self.generators.push(value, set)?;
-        self.keep(value, set, work)?;
-        self.close(alloc, quotient, work)
+        self.keep(value, set, &mut means.work)?;
+        self.close(means, quotient)
     }
 
     /// Multiplies the members with the generators, until nothing is new.
-    fn close(&mut self, alloc: A, quotient: &Quotient<A>, work: &mut Work) -> Result<(), Halt> {
-        let mut sum: Vec<u64, A> = vec![in alloc; 0u64; self.members.words()]?;
-        self.close_with(quotient, &mut sum, work)
+    fn close(&mut self, means: &mut Means<'_, A>, quotient: &HeapQuotient<A>) -> Result<(), Halt> {
+        let mut sum: Vec<u64, A> = vec![in means.alloc; 0u64; self.members.words()]?;
+        self.close_with(quotient, &mut sum, &mut means.work)
     }
 }
 
 impl<A: Allocator> DeadContexts<A> {
     fn close_with(
         &mut self,
-        quotient: &Quotient<A>,
+        quotient: &HeapQuotient<A>,
         sum: &mut Vec<u64, A>,
         work: &mut Work,
     ) -> Result<(), Halt> {
@@ -144,7 +146,7 @@ impl<A: Allocator> DeadContexts<A> {
     /// Multiplies a member with the generators that it wasn't multiplied with.
     fn multiply(
         &mut self,
-        quotient: &Quotient<A>,
+        quotient: &HeapQuotient<A>,
         member: usize,
         sum: &mut Vec<u64, A>,
         work: &mut Work,
@@ -162,7 +164,7 @@ impl<A: Allocator> DeadContexts<A> {
     /// Multiplies a member with a generator.
     fn multiply_by(
         &mut self,
-        quotient: &Quotient<A>,
+        quotient: &HeapQuotient<A>,
         member: usize,
         generator: usize,
         sum: &mut Vec<u64, A>,

@@ -1,12 +1,11 @@
 //! One heap more.
 use crate::cells::{small, word};
-use crate::collapse::{Merging, collapse};
+use crate::collapse::{LevelPairs, collapse};
 use crate::levels::{Levels, finish, identify, raise};
 use crate::lightest::lighten;
-use crate::quotient::{Quotient, heap_weight};
+use crate::quotient::{HeapQuotient, heap_weight};
 use crate::scene::Scene;
-use crate::work::{Halt, Work};
-use octal_code::Code;
+use crate::work::{Halt, Means};
 use std::alloc::Allocator;
 use std::mem;
 
@@ -24,20 +23,18 @@ pub enum Extended {
 
 /// Adds the heap n, the next one.
 pub fn extend<A: Allocator + Copy>(
-    alloc: A,
-    code: &Code,
+    means: &mut Means<'_, A>,
     scene: &Scene<A>,
-    quotient: &mut Quotient<A>,
+    quotient: &mut HeapQuotient<A>,
     n: usize,
-    work: &mut Work,
 ) -> Result<Extended, Halt> {
-    quotient.add_moves(code, n, work)?;
-    if quotient.add_as_twin(n, work)? {
+    quotient.add_moves(means.code, n, &mut means.work)?;
+    if quotient.add_as_twin(n, &mut means.work)? {
         return Ok(Extended::Twin);
     }
-    work.spend(quotient.rows.len())?;
-    let mut levels = Levels::only(alloc, quotient)?;
-    if extend_by(alloc, code, scene, quotient, &mut levels, n, work)? {
+    means.work.spend(quotient.rows.len())?;
+    let mut levels = Levels::only(means.alloc, quotient)?;
+    if extend_by(means, scene, quotient, &mut levels, n)? {
         return Ok(Extended::Anew);
     }
     quotient.note_moves(n)?;
@@ -47,45 +44,33 @@ pub fn extend<A: Allocator + Copy>(
 /// Adds the heap n, whose options have their values. The levels are level 0 alone. Answers whether
 /// the elements are others than before.
 fn extend_by<A: Allocator + Copy>(
-    alloc: A,
-    code: &Code,
+    means: &mut Means<'_, A>,
     scene: &Scene<A>,
-    quotient: &mut Quotient<A>,
+    quotient: &mut HeapQuotient<A>,
     levels: &mut Levels<A>,
     n: usize,
-    work: &mut Work,
 ) -> Result<bool, Halt> {
-    raise(
-        alloc,
-        scene,
-        quotient,
-        quotient.heap_moves(n),
-        levels,
-        1,
-        work,
-    )?;
-    match identify(scene, quotient, levels, work)? {
-        Some(x) => add_as(alloc, code, quotient, n, x, work),
+    raise(means, scene, quotient, quotient.heap_moves(n), levels, 1)?;
+    match identify(scene, quotient, levels, &mut means.work)? {
+        Some(x) => add_as(means, quotient, n, x),
         None => {
-            finish(alloc, scene, quotient, quotient.heap_moves(n), levels, work)?;
-            grow(alloc, code, scene, quotient, levels, n, work)
+            finish(means, scene, quotient, quotient.heap_moves(n), levels)?;
+            grow(means, scene, quotient, levels, n)
         }
     }
 }
 
 /// Adds the heap n, whose element is x. Answers whether the elements are others than before.
 fn add_as<A: Allocator + Copy>(
-    alloc: A,
-    code: &Code,
-    quotient: &mut Quotient<A>,
+    means: &mut Means<'_, A>,
+    quotient: &mut HeapQuotient<A>,
     n: usize,
     x: usize,
-    work: &mut Work,
 ) -> Result<bool, Halt> {
     quotient.heaps.push(small(x))?;
     let is_lighter = heap_weight(n) < word(&quotient.weights, x);
     if is_lighter && !quotient.heap_moves(n).is_empty() {
-        lighten(alloc, code, quotient, work)?;
+        lighten(means, quotient)?;
         return Ok(true);
     }
     Ok(false)
@@ -93,24 +78,21 @@ fn add_as<A: Allocator + Copy>(
 
 /// Takes the elements that the levels of the heap n make: others than before.
 fn grow<A: Allocator + Copy>(
-    alloc: A,
-    code: &Code,
+    means: &mut Means<'_, A>,
     scene: &Scene<A>,
-    quotient: &mut Quotient<A>,
+    quotient: &mut HeapQuotient<A>,
     levels: &Levels<A>,
     n: usize,
-    work: &mut Work,
 ) -> Result<bool, Halt> {
-    let mut next = Quotient::empty(alloc);
-    let merging = Merging {
-        code,
+    let mut next = HeapQuotient::empty(means.alloc);
+    let pairs = LevelPairs {
         quotient,
         levels,
         heap: n,
         kept: &scene.kept,
         words: quotient.words,
     };
-    let collapsed = collapse(alloc, &merging, &mut next, work);
+    let collapsed = collapse(means, &pairs, &mut next);
     if collapsed.is_ok() {
         mem::swap(quotient, &mut next);
     }

@@ -3,17 +3,15 @@ use crate::cells::bit;
 use crate::chains::{Chains, NONE};
 use crate::dead::{Dead, dead_of_heap, dead_of_sum, is_empty, is_within, words_of};
 use crate::inside::{cost_of_heap, lightest_inside};
-use crate::quotient::{Quotient, heap_weight};
-use crate::sets::Sets;
-use crate::work::{Halt, Work};
+use crate::quotient::{HeapQuotient, heap_weight};
+use crate::sets::{MOST_WORDS, Sets};
+use crate::work::{Halt, Means, Work};
 use std::alloc::Allocator;
 
-/// The most weight that is looked at, the most positions and the most words of their sets.
+/// The most weight that is looked at, and the most positions.
 pub const MOST_WEIGHT: usize = 2000;
 
 const MOST_POSITIONS: usize = 300_000;
-
-const MOST_WORDS: usize = 4_000_000;
 
 /// A position, its heaps in any order, and its weight.
 #[derive(Drop)]
@@ -45,7 +43,7 @@ struct Scratch<A: Allocator> {
 
 impl<A: Allocator + Copy> SearchByWeight<A> {
     /// The single heaps, for weights below `most`.
-    fn new(alloc: A, quotient: &Quotient<A>, most: usize) -> Result<SearchByWeight<A>, Halt> {
+    fn new(alloc: A, quotient: &HeapQuotient<A>, most: usize) -> Result<SearchByWeight<A>, Halt> {
         let waiting = Chains::new(alloc, most)?;
         let seen = Chains::new(alloc, quotient.order)?;
         let words = words_of(quotient);
@@ -59,11 +57,11 @@ impl<A: Allocator + Copy> SearchByWeight<A> {
     }
 
     /// Adds the heaps that have options.
-    fn begin(&mut self, alloc: A, quotient: &Quotient<A>, work: &mut Work) -> Result<(), Halt> {
+    fn begin(&mut self, means: &mut Means<'_, A>, quotient: &HeapQuotient<A>) -> Result<(), Halt> {
         for n in 1..quotient.heaps.len().saturating_add(1) {
-            work.spend(cost_of_heap(quotient, n).saturating_add(self.generators.size()))?;
+            means.work.spend(cost_of_heap(quotient, n).saturating_add(self.generators.size()))?;
             if !quotient.heap_moves(n).is_empty() {
-                let set = dead_of_heap(alloc, quotient, n)?;
+                let set = dead_of_heap(means.alloc, quotient, n)?;
                 self.add_heap(quotient, n, &set)?;
             }
         }
@@ -80,23 +78,22 @@ impl<A: Allocator + Copy> SearchByWeight<A> {
     /// The lightest position at which the rule fails, and its weight.
     fn find(
         &mut self,
-        alloc: A,
-        quotient: &Quotient<A>,
-        work: &mut Work,
+        means: &mut Means<'_, A>,
+        quotient: &HeapQuotient<A>,
     ) -> Result<Option<(usize, usize)>, Halt> {
-        let sum: Vec<u64, A> = vec![in alloc; 0u64; self.positions.words()]?;
+        let sum: Vec<u64, A> = vec![in means.alloc; 0u64; self.positions.words()]?;
         let mut scratch = Scratch {
-            set: Vec::new(alloc),
+            set: Vec::new(means.alloc),
             sum,
         };
-        self.find_with(quotient, &mut scratch, work)
+        self.find_with(quotient, &mut scratch, &mut means.work)
     }
 }
 
 impl<A: Allocator> SearchByWeight<A> {
     fn find_with(
         &mut self,
-        quotient: &Quotient<A>,
+        quotient: &HeapQuotient<A>,
         scratch: &mut Scratch<A>,
         work: &mut Work,
     ) -> Result<Option<(usize, usize)>, Halt> {
@@ -111,7 +108,7 @@ impl<A: Allocator> SearchByWeight<A> {
     /// Looks at the positions of one weight. Answers the first one at which the rule fails.
     fn look(
         &mut self,
-        quotient: &Quotient<A>,
+        quotient: &HeapQuotient<A>,
         weight: usize,
         scratch: &mut Scratch<A>,
         work: &mut Work,
@@ -132,7 +129,7 @@ impl<A: Allocator> SearchByWeight<A> {
     /// Looks at a position. Answers whether the rule fails at it.
     fn look_at(
         &mut self,
-        quotient: &Quotient<A>,
+        quotient: &HeapQuotient<A>,
         weight: usize,
         position: usize,
         scratch: &mut Scratch<A>,
@@ -153,7 +150,7 @@ impl<A: Allocator> SearchByWeight<A> {
     }
 
     /// Adds the heap n with its dead contexts, unless another one does as well.
-    fn add_heap(&mut self, quotient: &Quotient<A>, n: usize, set: &[u64]) -> Result<(), Halt> {
+    fn add_heap(&mut self, quotient: &HeapQuotient<A>, n: usize, set: &[u64]) -> Result<(), Halt> {
         let value = quotient.heap(n);
         if is_empty(set) || self.has_generator(quotient, value, set) {
             return Ok(());
@@ -163,7 +160,7 @@ impl<A: Allocator> SearchByWeight<A> {
     }
 
     /// Whether one of the heaps that are added has this value and as many dead contexts.
-    fn has_generator(&self, quotient: &Quotient<A>, value: usize, set: &[u64]) -> bool {
+    fn has_generator(&self, quotient: &HeapQuotient<A>, value: usize, set: &[u64]) -> bool {
         for generator in 0..self.generators.len() {
             if quotient.heap(self.generators.number(generator)) == value
                 && is_within(set, self.generators.set(generator))
@@ -228,7 +225,7 @@ impl<A: Allocator> SearchByWeight<A> {
     /// Adds each heap to a position, whose set is written.
     fn add_heaps(
         &mut self,
-        quotient: &Quotient<A>,
+        quotient: &HeapQuotient<A>,
         weight: usize,
         position: usize,
         scratch: &mut Scratch<A>,
@@ -249,7 +246,7 @@ impl<A: Allocator> SearchByWeight<A> {
     /// Adds a heap to a position, where the sum has dead contexts that no other one has.
     fn add_sum(
         &mut self,
-        quotient: &Quotient<A>,
+        quotient: &HeapQuotient<A>,
         above: usize,
         position: usize,
         generator: usize,
@@ -280,29 +277,27 @@ impl<A: Allocator> SearchByWeight<A> {
 
 /// The lightest position that is dead with nothing beside it, of those that weigh less than `most`.
 fn lightest_dead<A: Allocator + Copy>(
-    alloc: A,
-    quotient: &Quotient<A>,
+    means: &mut Means<'_, A>,
+    quotient: &HeapQuotient<A>,
     most: usize,
-    work: &mut Work,
 ) -> Result<Option<Failing<A>>, Halt> {
-    let mut search = SearchByWeight::new(alloc, quotient, most)?;
-    let found = found_by(alloc, quotient, &mut search, work);
+    let mut search = SearchByWeight::new(means.alloc, quotient, most)?;
+    let found = found_by(means, quotient, &mut search);
     drop(search);
     found
 }
 
 /// The lightest position that a search finds.
 fn found_by<A: Allocator + Copy>(
-    alloc: A,
-    quotient: &Quotient<A>,
+    means: &mut Means<'_, A>,
+    quotient: &HeapQuotient<A>,
     search: &mut SearchByWeight<A>,
-    work: &mut Work,
 ) -> Result<Option<Failing<A>>, Halt> {
-    search.begin(alloc, quotient, work)?;
-    match search.find(alloc, quotient, work)? {
+    search.begin(means, quotient)?;
+    match search.find(means, quotient)? {
         Some((weight, position)) => Ok(Some(Failing {
             weight,
-            heaps: search.heaps_of(alloc, position)?,
+            heaps: search.heaps_of(means.alloc, position)?,
         })),
         None => Ok(None),
     }
@@ -310,16 +305,15 @@ fn found_by<A: Allocator + Copy>(
 
 /// The lightest position at which the rule fails, where one was found.
 pub fn lightest_failing<A: Allocator + Copy>(
-    alloc: A,
-    quotient: &Quotient<A>,
-    work: &mut Work,
+    means: &mut Means<'_, A>,
+    quotient: &HeapQuotient<A>,
 ) -> Result<Option<Failing<A>>, Halt> {
-    let inside = lightest_inside(alloc, quotient, work)?;
+    let inside = lightest_inside(means, quotient)?;
     let most = match &inside {
         Some(failing) => failing.weight,
         None => MOST_WEIGHT,
     };
-    match lightest_dead(alloc, quotient, most, work)? {
+    match lightest_dead(means, quotient, most)? {
         None => Ok(inside),
         found => Ok(found),
     }

@@ -3,8 +3,8 @@ use crate::cells::{index, word};
 use crate::dead::breaks_portion;
 use crate::failing::{Failing, MOST_WEIGHT};
 use crate::lightest::{Words, lightest_words};
-use crate::quotient::{Quotient, heap_weight};
-use crate::work::{Halt, Work};
+use crate::quotient::{HeapQuotient, heap_weight};
+use crate::work::{Halt, Means, Work};
 use std::alloc::Allocator;
 
 /// A heap beside an element, and its weight. No heap is 0.
@@ -16,14 +16,14 @@ struct Beside {
 }
 
 /// About how many steps it takes to look at the heap n beside each element.
-pub fn cost_of_heap<A: Allocator>(quotient: &Quotient<A>, n: usize) -> usize {
+pub fn cost_of_heap<A: Allocator>(quotient: &HeapQuotient<A>, n: usize) -> usize {
     let options = quotient.heap_moves(n).len();
     quotient.order.saturating_mul(options.saturating_add(1))
 }
 
 /// The lightest heap and element beside which the rule fails inside the portion.
 fn lightest_breaking<A: Allocator>(
-    quotient: &Quotient<A>,
+    quotient: &HeapQuotient<A>,
     weights: &[u64],
     work: &mut Work,
 ) -> Result<Beside, Halt> {
@@ -41,7 +41,7 @@ fn lightest_breaking<A: Allocator>(
 
 /// Takes the heap n beside the lightest element by which the rule fails, where it is lighter.
 fn lighten_breaking<A: Allocator>(
-    quotient: &Quotient<A>,
+    quotient: &HeapQuotient<A>,
     weights: &[u64],
     n: usize,
     best: &mut Beside,
@@ -78,16 +78,15 @@ fn push_word<A: Allocator>(
 
 /// The lightest position in the portion with an option in the portion.
 pub fn lightest_inside<A: Allocator + Copy>(
-    alloc: A,
-    quotient: &Quotient<A>,
-    work: &mut Work,
+    means: &mut Means<'_, A>,
+    quotient: &HeapQuotient<A>,
 ) -> Result<Option<Failing<A>>, Halt> {
-    let words = lightest_words(alloc, quotient, work)?;
-    let best = lightest_breaking(quotient, &words.weights, work)?;
+    let words = lightest_words(means, quotient)?;
+    let best = lightest_breaking(quotient, &words.weights, &mut means.work)?;
     if best.heap == 0 || best.weight > MOST_WEIGHT as u64 {
         return Ok(None);
     }
-    failing_beside(alloc, &words, best, quotient.order)
+    failing_beside(means.alloc, &words, best, quotient.order)
 }
 
 /// A heap and an element's lightest word as a position.

@@ -1,8 +1,8 @@
 //! Levels: how so many heaps of one size do beside each element.
 use crate::cells::{clear, part, put_word, word};
-use crate::quotient::Quotient;
+use crate::quotient::HeapQuotient;
 use crate::scene::Scene;
-use crate::work::{Halt, Work};
+use crate::work::{Halt, Means, Work};
 use std::alloc::Allocator;
 
 /// The most pairs of a level and an element.
@@ -19,7 +19,7 @@ pub struct Levels<A: Allocator> {
 
 impl<A: Allocator + Copy> Levels<A> {
     /// Level 0 alone.
-    pub fn only(alloc: A, quotient: &Quotient<A>) -> Result<Levels<A>, Halt> {
+    pub fn only(alloc: A, quotient: &HeapQuotient<A>) -> Result<Levels<A>, Halt> {
         let mut rows = Vec::new(alloc);
         rows.extend_from_slice(&quotient.rows)?;
         Ok(Levels {
@@ -43,7 +43,7 @@ impl<A: Allocator> Levels<A> {
 }
 
 /// Where the row of k heaps beside an element begins.
-fn row_at<A: Allocator>(quotient: &Quotient<A>, k: usize, element: usize) -> usize {
+fn row_at<A: Allocator>(quotient: &HeapQuotient<A>, k: usize, element: usize) -> usize {
     k.wrapping_mul(quotient.order)
         .wrapping_add(element)
         .wrapping_mul(quotient.words)
@@ -59,7 +59,7 @@ fn cover<A: Allocator>(covered: &mut Vec<u64, A>, rows: &[u64], from: usize) {
 
 /// Covers what the options of k heaps beside an element cover.
 fn cover_options<A: Allocator>(
-    quotient: &Quotient<A>,
+    quotient: &HeapQuotient<A>,
     moves: &[u16],
     rows: &[u64],
     k: usize,
@@ -78,21 +78,28 @@ fn cover_options<A: Allocator>(
 
 /// Adds level k, the next one, of a heap whose options have the values `moves`.
 pub fn raise<A: Allocator + Copy>(
-    alloc: A,
+    means: &mut Means<'_, A>,
     scene: &Scene<A>,
-    quotient: &Quotient<A>,
+    quotient: &HeapQuotient<A>,
     moves: &[u16],
     levels: &mut Levels<A>,
     k: usize,
-    work: &mut Work,
 ) -> Result<(), Halt> {
     if scene.is_plain() {
-        return raise_alone(quotient, moves, levels, k, work);
+        return raise_alone(quotient, moves, levels, k, &mut means.work);
     }
-    let covered: Vec<u64, A> = vec![in alloc; 0u64; quotient.words]?;
-    let row: Vec<u64, A> = vec![in alloc; 0u64; quotient.words]?;
+    let covered: Vec<u64, A> = vec![in means.alloc; 0u64; quotient.words]?;
+    let row: Vec<u64, A> = vec![in means.alloc; 0u64; quotient.words]?;
     let mut scratch = Scratch { covered, row };
-    raise_with(scene, quotient, moves, levels, k, &mut scratch, work)
+    raise_with(
+        scene,
+        quotient,
+        moves,
+        levels,
+        k,
+        &mut scratch,
+        &mut means.work,
+    )
 }
 
 /// Rows that are written anew for each element.
@@ -104,7 +111,7 @@ struct Scratch<A: Allocator> {
 
 /// Whether some option of k heaps beside an element is a P-position, where rows have a word.
 fn is_covered<A: Allocator>(
-    quotient: &Quotient<A>,
+    quotient: &HeapQuotient<A>,
     moves: &[u16],
     rows: &[u64],
     k: usize,
@@ -128,7 +135,7 @@ fn is_covered<A: Allocator>(
 
 /// The same of a plain scene, where a row has a bit.
 fn raise_alone<A: Allocator>(
-    quotient: &Quotient<A>,
+    quotient: &HeapQuotient<A>,
     moves: &[u16],
     levels: &mut Levels<A>,
     k: usize,
@@ -147,7 +154,7 @@ fn raise_alone<A: Allocator>(
 
 fn raise_with<A: Allocator>(
     scene: &Scene<A>,
-    quotient: &Quotient<A>,
+    quotient: &HeapQuotient<A>,
     moves: &[u16],
     levels: &mut Levels<A>,
     k: usize,
@@ -205,19 +212,18 @@ fn same_before(
 
 /// Adds levels behind level 1 until they come round.
 pub fn finish<A: Allocator + Copy>(
-    alloc: A,
+    means: &mut Means<'_, A>,
     scene: &Scene<A>,
-    quotient: &Quotient<A>,
+    quotient: &HeapQuotient<A>,
     moves: &[u16],
     levels: &mut Levels<A>,
-    work: &mut Work,
 ) -> Result<(), Halt> {
     let words = quotient.order.saturating_mul(quotient.words);
     for k in 1..MOST_PAIRS {
         if k > 1 {
-            raise(alloc, scene, quotient, moves, levels, k, work)?;
+            raise(means, scene, quotient, moves, levels, k)?;
         }
-        if let Some(lead) = same_before(&levels.rows, words, k, work)? {
+        if let Some(lead) = same_before(&levels.rows, words, k, &mut means.work)? {
             levels.count = k;
             levels.lead = lead;
             return Ok(());
@@ -232,7 +238,7 @@ pub fn finish<A: Allocator + Copy>(
 /// Whether level 1 is what the element x does.
 fn shows<A: Allocator>(
     scene: &Scene<A>,
-    quotient: &Quotient<A>,
+    quotient: &HeapQuotient<A>,
     levels: &Levels<A>,
     x: usize,
     work: &mut Work,
@@ -250,7 +256,7 @@ fn shows<A: Allocator>(
 /// The element that level 1 shows.
 pub fn identify<A: Allocator>(
     scene: &Scene<A>,
-    quotient: &Quotient<A>,
+    quotient: &HeapQuotient<A>,
     levels: &Levels<A>,
     work: &mut Work,
 ) -> Result<Option<usize>, Halt> {

@@ -28,6 +28,6 @@ mod state;
 mod twins;
 mod work;
 
-pub use aim::{Aim, Cause, DEEPEST, Found, LONGEST_PART};
-pub use quotient::Quotient;
-pub use search::find_quotient;
+pub use aim::{DEEPEST, Extent, Found, LONGEST_PART, Reason};
+pub use quotient::HeapQuotient;
+pub use search::search_quotient;

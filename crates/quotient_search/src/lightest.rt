@@ -1,10 +1,9 @@
 //! Lightest words of heaps for the elements of a quotient, and representatives found anew.
 use crate::cells::{clear, index, put_index, put_word, set_bit, small, word, words_for};
 use crate::congruence::generators;
-use crate::lists::Lists;
-use crate::quotient::{Quotient, heap_weight};
-use crate::work::{Halt, Work};
-use octal_code::Code;
+use crate::lists::ElementLists;
+use crate::quotient::{HeapQuotient, heap_weight};
+use crate::work::{Halt, Means, Work};
 use std::alloc::Allocator;
 use std::mem;
 
@@ -18,7 +17,7 @@ pub struct Words<A: Allocator> {
 }
 
 /// The first heap of an element.
-fn first_heap<A: Allocator>(quotient: &Quotient<A>, x: usize) -> usize {
+fn first_heap<A: Allocator>(quotient: &HeapQuotient<A>, x: usize) -> usize {
     for n in 1..quotient.heaps.len().saturating_add(1) {
         if quotient.heap(n) == x {
             return n;
@@ -29,13 +28,12 @@ fn first_heap<A: Allocator>(quotient: &Quotient<A>, x: usize) -> usize {
 
 /// The lightest heap of each element of a heap but the identity.
 fn light_heaps<A: Allocator + Copy>(
-    alloc: A,
-    quotient: &Quotient<A>,
-    work: &mut Work,
+    means: &mut Means<'_, A>,
+    quotient: &HeapQuotient<A>,
 ) -> Result<Vec<usize, A>, Halt> {
-    let mut heaps = generators(alloc, quotient, work)?;
+    let mut heaps = generators(means, quotient)?;
     for place in 0..heaps.len() {
-        work.spend(quotient.heaps.len())?;
+        means.work.spend(quotient.heaps.len())?;
         let heap = first_heap(quotient, index(&heaps, place));
         put_index(&mut heaps, place, heap);
     }
@@ -67,7 +65,7 @@ impl<A: Allocator> Words<A> {
     /// Takes lighter words until there are none.
     fn lighten(
         &mut self,
-        quotient: &Quotient<A>,
+        quotient: &HeapQuotient<A>,
         heaps: &[usize],
         work: &mut Work,
     ) -> Result<(), Halt> {
@@ -83,7 +81,7 @@ impl<A: Allocator> Words<A> {
     /// was.
     fn relax_all(
         &mut self,
-        quotient: &Quotient<A>,
+        quotient: &HeapQuotient<A>,
         heaps: &[usize],
         work: &mut Work,
     ) -> Result<bool, Halt> {
@@ -97,7 +95,7 @@ impl<A: Allocator> Words<A> {
 
     /// Takes the words of the elements, each with one more heap, where these are lighter. Answers
     /// whether one was.
-    fn relax(&mut self, quotient: &Quotient<A>, heap: usize) -> bool {
+    fn relax(&mut self, quotient: &HeapQuotient<A>, heap: usize) -> bool {
         let mut lighter = false;
         let element = quotient.heap(heap);
         for y in 0..quotient.order {
@@ -116,13 +114,12 @@ impl<A: Allocator> Words<A> {
 
 /// The lightest words.
 pub fn lightest_words<A: Allocator + Copy>(
-    alloc: A,
-    quotient: &Quotient<A>,
-    work: &mut Work,
+    means: &mut Means<'_, A>,
+    quotient: &HeapQuotient<A>,
 ) -> Result<Words<A>, Halt> {
-    let heaps = light_heaps(alloc, quotient, work)?;
-    let mut words = Words::new(alloc, quotient.order)?;
-    words.lighten(quotient, &heaps, work)?;
+    let heaps = light_heaps(means, quotient)?;
+    let mut words = Words::new(means.alloc, quotient.order)?;
+    words.lighten(quotient, &heaps, &mut means.work)?;
     Ok(words)
 }
 
@@ -135,13 +132,12 @@ struct Renumbering<A: Allocator> {
 }
 
 fn renumber<A: Allocator + Copy>(
-    alloc: A,
-    quotient: &Quotient<A>,
-    work: &mut Work,
+    means: &mut Means<'_, A>,
+    quotient: &HeapQuotient<A>,
 ) -> Result<Renumbering<A>, Halt> {
-    let words = lightest_words(alloc, quotient, work)?;
-    let list = by_weight(alloc, &words.weights)?;
-    let places = places_of(alloc, &list)?;
+    let words = lightest_words(means, quotient)?;
+    let list = by_weight(means.alloc, &words.weights)?;
+    let places = places_of(means.alloc, &list)?;
     Ok(Renumbering {
         words,
         list,
@@ -162,28 +158,28 @@ fn by_weight<A: Allocator + Copy>(alloc: A, weights: &[u64]) -> Result<Vec<(u64,
 /// The place of each element in a list.
 fn places_of<A: Allocator + Copy>(alloc: A, list: &[(u64, usize)]) -> Result<Vec<usize, A>, Halt> {
     let mut places: Vec<usize, A> = vec![in alloc; 0usize; list.len()]?;
-    for (place, item) in list.iter().enumerate() {
-        put_index(&mut places, item.1, place);
+    for (place, (_, element)) in list.iter().enumerate() {
+        put_index(&mut places, *element, place);
     }
     Ok(places)
 }
 
 /// Writes the weights and the rows.
 fn write_rows<A: Allocator>(
-    old: &Quotient<A>,
+    old: &HeapQuotient<A>,
     numbers: &Renumbering<A>,
-    new: &mut Quotient<A>,
+    new: &mut HeapQuotient<A>,
 ) -> Result<(), Halt> {
-    for item in numbers.list.iter() {
-        new.weights.push(item.0)?;
-        new.rows.extend_from_slice(old.row(item.1))?;
+    for (weight, element) in numbers.list.iter() {
+        new.weights.push(*weight)?;
+        new.rows.extend_from_slice(old.row(*element))?;
     }
     Ok(())
 }
 
 /// Writes the elements of the heaps.
 fn write_heaps<A: Allocator>(
-    old: &Quotient<A>,
+    old: &HeapQuotient<A>,
     numbers: &Renumbering<A>,
     heaps: &mut Vec<u16, A>,
 ) -> Result<(), Halt> {
@@ -195,14 +191,14 @@ fn write_heaps<A: Allocator>(
 
 /// Writes the products.
 fn write_products<A: Allocator>(
-    old: &Quotient<A>,
+    old: &HeapQuotient<A>,
     numbers: &Renumbering<A>,
     products: &mut Vec<u16, A>,
 ) -> Result<(), Halt> {
     products.reserve(old.order.saturating_mul(old.order))?;
-    for one in numbers.list.iter() {
-        for other in numbers.list.iter() {
-            let product = index(&numbers.places, old.times(one.1, other.1));
+    for (_, one) in numbers.list.iter() {
+        for (_, other) in numbers.list.iter() {
+            let product = index(&numbers.places, old.times(*one, *other));
             products.push(small(product))?;
         }
     }
@@ -211,7 +207,7 @@ fn write_products<A: Allocator>(
 
 /// Adds the products of an element with those of a list.
 fn add_products<A: Allocator>(
-    quotient: &Quotient<A>,
+    quotient: &HeapQuotient<A>,
     x: usize,
     list: &[u16],
     set: &mut Vec<u64, A>,
@@ -224,17 +220,17 @@ fn add_products<A: Allocator>(
 /// Writes the option values of the representatives: those of a word without its last heap, beside
 /// that heap, and those of that heap, beside the word without it.
 fn write_options<A: Allocator>(
-    quotient: &Quotient<A>,
+    quotient: &HeapQuotient<A>,
     numbers: &Renumbering<A>,
     set: &mut Vec<u64, A>,
-    options: &mut Lists<A>,
+    options: &mut ElementLists<A>,
     work: &mut Work,
 ) -> Result<(), Halt> {
-    for (place, item) in numbers.list.iter().enumerate() {
+    for (place, (_, element)) in numbers.list.iter().enumerate() {
         clear(set);
         if place > 0 {
-            let heap = index(&numbers.words.heaps, item.1);
-            let before = index(&numbers.places, index(&numbers.words.before, item.1));
+            let heap = index(&numbers.words.heaps, *element);
+            let before = index(&numbers.places, index(&numbers.words.before, *element));
             add_products(quotient, quotient.heap(heap), options.list(before), set);
             add_products(quotient, before, quotient.heap_moves(heap), set);
         }
@@ -246,46 +242,41 @@ fn write_options<A: Allocator>(
 
 /// The option values of the representatives, once the products and the heaps are there.
 fn options_of<A: Allocator + Copy>(
-    alloc: A,
-    quotient: &Quotient<A>,
+    means: &mut Means<'_, A>,
+    quotient: &HeapQuotient<A>,
     numbers: &Renumbering<A>,
-    work: &mut Work,
-) -> Result<Lists<A>, Halt> {
-    let mut options: Lists<A> = Lists::new(alloc);
-    let mut set: Vec<u64, A> = vec![in alloc; 0u64; words_for(quotient.order)]?;
-    write_options(quotient, numbers, &mut set, &mut options, work)?;
+) -> Result<ElementLists<A>, Halt> {
+    let mut options: ElementLists<A> = ElementLists::new(means.alloc);
+    let mut set: Vec<u64, A> = vec![in means.alloc; 0u64; words_for(quotient.order)]?;
+    write_options(quotient, numbers, &mut set, &mut options, &mut means.work)?;
     Ok(options)
 }
 
 /// Writes a quotient in the new numbers into an empty one.
 fn renew<A: Allocator + Copy>(
-    alloc: A,
-    code: &Code,
-    old: &Quotient<A>,
+    means: &mut Means<'_, A>,
+    old: &HeapQuotient<A>,
     numbers: &Renumbering<A>,
-    new: &mut Quotient<A>,
-    work: &mut Work,
+    new: &mut HeapQuotient<A>,
 ) -> Result<(), Halt> {
     new.order = old.order;
     new.words = old.words;
     write_rows(old, numbers, new)?;
     write_heaps(old, numbers, &mut new.heaps)?;
     write_products(old, numbers, &mut new.products)?;
-    new.renew_moves(alloc, code, work)?;
-    new.options = options_of(alloc, new, numbers, work)?;
+    new.renew_moves(means)?;
+    new.options = options_of(means, new, numbers)?;
     Ok(())
 }
 
 /// Takes the new numbers.
 fn take_numbers<A: Allocator + Copy>(
-    alloc: A,
-    code: &Code,
-    quotient: &mut Quotient<A>,
+    means: &mut Means<'_, A>,
+    quotient: &mut HeapQuotient<A>,
     numbers: &Renumbering<A>,
-    work: &mut Work,
 ) -> Result<(), Halt> {
-    let mut new = Quotient::empty(alloc);
-    let renewed = renew(alloc, code, quotient, numbers, &mut new, work);
+    let mut new = HeapQuotient::empty(means.alloc);
+    let renewed = renew(means, quotient, numbers, &mut new);
     if renewed.is_ok() {
         mem::swap(quotient, &mut new);
     }
@@ -295,14 +286,14 @@ fn take_numbers<A: Allocator + Copy>(
 
 /// Finds the representatives of a quotient anew, and numbers the elements by their weights.
 pub fn lighten<A: Allocator + Copy>(
-    alloc: A,
-    code: &Code,
-    quotient: &mut Quotient<A>,
-    work: &mut Work,
+    means: &mut Means<'_, A>,
+    quotient: &mut HeapQuotient<A>,
 ) -> Result<(), Halt> {
-    work.spend(quotient.order.saturating_mul(quotient.order))?;
-    let numbers = renumber(alloc, quotient, work)?;
-    let taken = take_numbers(alloc, code, quotient, &numbers, work);
+    means
+        .work
+        .spend(quotient.order.saturating_mul(quotient.order))?;
+    let numbers = renumber(means, quotient)?;
+    let taken = take_numbers(means, quotient, &numbers);
     drop(numbers);
     taken
 }

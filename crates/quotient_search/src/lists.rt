@@ -1,26 +1,26 @@
-//! Lists of elements, one after another in one memory.
+//! ElementLists of elements, one after another in one memory.
 use crate::cells::{WORD_BITS, index, small};
 use crate::work::Halt;
 use std::alloc::Allocator;
 
-/// Lists, which have numbers from 0 on.
+/// ElementLists, which have numbers from 0 on.
 #[derive(Drop)]
-pub struct Lists<A: Allocator> {
+pub struct ElementLists<A: Allocator> {
     ends: Vec<usize, A>,
     items: Vec<u16, A>,
 }
 
-impl<A: Allocator + Copy> Lists<A> {
+impl<A: Allocator + Copy> ElementLists<A> {
     /// No list yet.
-    pub fn new(alloc: A) -> Lists<A> {
-        Lists {
+    pub fn new(alloc: A) -> ElementLists<A> {
+        ElementLists {
             ends: Vec::new(alloc),
             items: Vec::new(alloc),
         }
     }
 }
 
-impl<A: Allocator> Lists<A> {
+impl<A: Allocator> ElementLists<A> {
     fn start(&self, list: usize) -> usize {
         if list == 0 {
             0

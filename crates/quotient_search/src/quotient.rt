@@ -1,10 +1,10 @@
 //! Quotients on the way: a finite commutative monoid for the heaps up to some size.
 use crate::cells::{at, part, small, word};
-use crate::lists::Lists;
+use crate::lists::ElementLists;
 use crate::rests::{Rests, Values};
 use crate::scene::Scene;
 use crate::twins::Twins;
-use crate::work::{Halt, Work};
+use crate::work::{Halt, Means, Work};
 use octal_code::Code;
 use std::alloc::Allocator;
 
@@ -12,7 +12,7 @@ use std::alloc::Allocator;
 /// lightest representative, where a heap n weighs 2n - 1, and the elements are numbered by that
 /// weight.
 #[derive(Drop)]
-pub struct Quotient<A: Allocator> {
+pub struct HeapQuotient<A: Allocator> {
     /// How many elements there are.
     pub(crate) order: usize,
     /// How many words a row has.
@@ -24,11 +24,11 @@ pub struct Quotient<A: Allocator> {
     /// The weights of the representatives.
     pub(crate) weights: Vec<u64, A>,
     /// The values of the representatives' options.
-    pub(crate) options: Lists<A>,
+    pub(crate) options: ElementLists<A>,
     /// The elements of the heaps 1, 2, ..
     pub(crate) heaps: Vec<u16, A>,
     /// The values of the heaps' options.
-    pub(crate) moves: Lists<A>,
+    pub(crate) moves: ElementLists<A>,
     /// The values of the rests of heaps.
     rests: Rests<A>,
     /// Heaps that were added beside these elements, by the values of their options.
@@ -40,41 +40,36 @@ pub fn heap_weight(n: usize) -> u64 {
     (n as u64).saturating_mul(2).saturating_sub(1)
 }
 
-impl<A: Allocator + Copy> Quotient<A> {
+impl<A: Allocator + Copy> HeapQuotient<A> {
     /// No element yet, and no memory.
-    pub(crate) fn empty(alloc: A) -> Quotient<A> {
-        Quotient {
+    pub(crate) fn empty(alloc: A) -> HeapQuotient<A> {
+        HeapQuotient {
             order: 0,
             words: 0,
             products: Vec::new(alloc),
             rows: Vec::new(alloc),
             weights: Vec::new(alloc),
-            options: Lists::new(alloc),
+            options: ElementLists::new(alloc),
             heaps: Vec::new(alloc),
-            moves: Lists::new(alloc),
+            moves: ElementLists::new(alloc),
             rests: Rests::empty(alloc),
             twins: Twins::empty(alloc),
         }
     }
 
     /// Finds the values of all heaps' options anew.
-    pub(crate) fn renew_moves(
-        &mut self,
-        alloc: A,
-        code: &Code,
-        work: &mut Work,
-    ) -> Result<(), Halt> {
-        self.moves = Lists::new(alloc);
-        self.rests = Rests::empty(alloc);
+    pub(crate) fn renew_moves(&mut self, means: &mut Means<'_, A>) -> Result<(), Halt> {
+        self.moves = ElementLists::new(means.alloc);
+        self.rests = Rests::empty(means.alloc);
         self.rests.begin(self.order)?;
         for n in 1..self.heaps.len().saturating_add(1) {
-            self.add_moves(code, n, work)?;
+            self.add_moves(means.code, n, &mut means.work)?;
         }
         Ok(())
     }
 }
 
-impl<A: Allocator> Quotient<A> {
+impl<A: Allocator> HeapQuotient<A> {
     /// Makes an empty one the quotient without any heap.
     pub(crate) fn begin(&mut self, scene: &Scene<A>) -> Result<(), Halt> {
         self.order = 1;

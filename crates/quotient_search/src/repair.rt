@@ -1,28 +1,26 @@
 //! Repair of a wrong quotient, which had merged what it should not have.
 use crate::cells::word;
-use crate::collapse::{Merging, collapse};
+use crate::collapse::{LevelPairs, collapse};
 use crate::contexts::{Kept, contexts};
 use crate::extend::extend;
 use crate::failing::{Failing, lightest_failing};
 use crate::levels::Levels;
-use crate::quotient::Quotient;
+use crate::quotient::HeapQuotient;
 use crate::scene::Scene;
 use crate::state::State;
-use crate::work::{Halt, Work};
-use octal_code::Code;
+use crate::work::{Halt, Means};
 use std::alloc::Allocator;
 use std::mem;
 
-/// The most repairs for one heap, and the most tries at each.
+/// The most repairs for one heap, the most tries at each, and the most work of a try.
 const MOST_REPAIRS: usize = 30;
 
 const MOST_TRIES: usize = 200;
 
-/// The most work of a try.
-const TRY: u64 = 200_000_000;
+const MOST_WORK: u64 = 200_000_000;
 
 /// How many elements weigh no more than so much.
-fn lighter_elements<A: Allocator>(quotient: &Quotient<A>, weight: usize) -> usize {
+fn lighter_elements<A: Allocator>(quotient: &HeapQuotient<A>, weight: usize) -> usize {
     let mut count = 0usize;
     for element in 0..quotient.order {
         if word(&quotient.weights, element) <= weight as u64 {
@@ -34,62 +32,54 @@ fn lighter_elements<A: Allocator>(quotient: &Quotient<A>, weight: usize) -> usiz
 
 /// Makes an empty quotient that of the heaps 1 to `heaps`, beside contexts.
 fn build<A: Allocator + Copy>(
-    alloc: A,
-    code: &Code,
+    means: &mut Means<'_, A>,
     scene: &Scene<A>,
     heaps: usize,
-    quotient: &mut Quotient<A>,
-    work: &mut Work,
+    quotient: &mut HeapQuotient<A>,
 ) -> Result<(), Halt> {
     quotient.begin(scene)?;
     for n in 1..heaps.saturating_add(1) {
-        extend(alloc, code, scene, quotient, n, work)?;
+        extend(means, scene, quotient, n)?;
     }
     Ok(())
 }
 
 /// Writes a quotient beside the empty context alone into an empty one.
 fn without_contexts<A: Allocator + Copy>(
-    alloc: A,
-    code: &Code,
-    quotient: &Quotient<A>,
-    next: &mut Quotient<A>,
-    work: &mut Work,
+    means: &mut Means<'_, A>,
+    quotient: &HeapQuotient<A>,
+    next: &mut HeapQuotient<A>,
 ) -> Result<(), Halt> {
-    let levels = Levels::only(alloc, quotient)?;
-    let merging = Merging {
-        code,
+    let levels = Levels::only(means.alloc, quotient)?;
+    let pairs = LevelPairs {
         quotient,
         levels: &levels,
         heap: 0,
         kept: &[1u64],
         words: 1,
     };
-    collapse(alloc, &merging, next, work)
+    collapse(means, &pairs, next)
 }
 
 /// Writes the quotient of the heaps 1 to `heaps`, made anew beside contexts, into an empty one.
 fn rebuild<A: Allocator + Copy>(
-    alloc: A,
-    code: &Code,
+    means: &mut Means<'_, A>,
     scene: &Scene<A>,
     heaps: usize,
-    next: &mut Quotient<A>,
-    work: &mut Work,
+    next: &mut HeapQuotient<A>,
 ) -> Result<(), Halt> {
-    let mut beside = Quotient::empty(alloc);
-    build(alloc, code, scene, heaps, &mut beside, work)?;
-    without_contexts(alloc, code, &beside, next, work)
+    let mut beside = HeapQuotient::empty(means.alloc);
+    build(means, scene, heaps, &mut beside)?;
+    without_contexts(means, &beside, next)
 }
 
 /// The contexts of one try to make a quotient right at a position. `None` where there is no try of
 /// this number.
 fn contexts_of_try<A: Allocator + Copy>(
-    alloc: A,
-    quotient: &Quotient<A>,
+    means: &mut Means<'_, A>,
+    quotient: &HeapQuotient<A>,
     failing: &Failing<A>,
     number: usize,
-    work: &mut Work,
 ) -> Result<Option<Scene<A>>, Halt> {
     let lighter = lighter_elements(quotient, failing.weight);
     let (elements, kept) = match number {
@@ -99,7 +89,7 @@ fn contexts_of_try<A: Allocator + Copy>(
         3 => (quotient.order, Kept::Summands),
         more => (quotient.order, Kept::Summand(more.wrapping_sub(4))),
     };
-    contexts(alloc, quotient, &failing.heaps, elements, kept, work)
+    contexts(means, quotient, &failing.heaps, elements, kept)
 }
 
 /// What a try came to.
@@ -118,26 +108,17 @@ enum Tried {
 
 /// Makes the quotient anew beside contexts, in an empty state, and looks what it came to.
 fn judge<A: Allocator + Copy>(
-    alloc: A,
-    code: &Code,
+    means: &mut Means<'_, A>,
     state: &State<A>,
     scene: &Scene<A>,
     next: &mut State<A>,
-    work: &mut Work,
 ) -> Result<Tried, Halt> {
-    rebuild(
-        alloc,
-        code,
-        scene,
-        state.quotient.heaps.len(),
-        &mut next.quotient,
-        work,
-    )?;
-    next.dead_contexts.renew(alloc, &next.quotient, work)?;
+    rebuild(means, scene, state.quotient.heaps.len(), &mut next.quotient)?;
+    next.dead_contexts.renew(means, &next.quotient)?;
     if !next.dead_contexts.failed {
         return Ok(Tried::Right);
     }
-    if let Some(failing) = lightest_failing(alloc, &next.quotient, work)? {
+    if let Some(failing) = lightest_failing(means, &next.quotient)? {
         next.failing = failing;
         if next.failing.weight > state.failing.weight {
             return Ok(Tried::Better);
@@ -148,14 +129,12 @@ fn judge<A: Allocator + Copy>(
 
 /// Makes the quotient anew beside contexts, and takes it where it is better.
 fn improve<A: Allocator + Copy>(
-    alloc: A,
-    code: &Code,
+    means: &mut Means<'_, A>,
     state: &mut State<A>,
     scene: &Scene<A>,
-    work: &mut Work,
 ) -> Result<Tried, Halt> {
-    let mut next = State::empty(alloc);
-    let tried = judge(alloc, code, state, scene, &mut next, work);
+    let mut next = State::empty(means.alloc);
+    let tried = judge(means, state, scene, &mut next);
     if matches!(tried, Ok(Tried::Better | Tried::Right)) {
         mem::swap(state, &mut next);
     }
@@ -165,29 +144,25 @@ fn improve<A: Allocator + Copy>(
 
 /// Makes a try.
 fn attempt<A: Allocator + Copy>(
-    alloc: A,
-    code: &Code,
+    means: &mut Means<'_, A>,
     state: &mut State<A>,
     number: usize,
-    work: &mut Work,
 ) -> Result<Tried, Halt> {
-    match contexts_of_try(alloc, &state.quotient, &state.failing, number, work)? {
-        Some(scene) => improve(alloc, code, state, &scene, work),
+    match contexts_of_try(means, &state.quotient, &state.failing, number)? {
+        Some(scene) => improve(means, state, &scene),
         None => Ok(Tried::Nothing),
     }
 }
 
-/// Makes a try with no more than a share of the work.
+/// Makes a try with no more than so much work.
 fn within_share<A: Allocator + Copy>(
-    alloc: A,
-    code: &Code,
+    means: &mut Means<'_, A>,
     state: &mut State<A>,
     number: usize,
-    work: &mut Work,
 ) -> Result<Tried, Halt> {
-    let mut share = work.lend(TRY);
-    let tried = attempt(alloc, code, state, number, &mut share);
-    work.take_back(share);
+    let held = means.work.hold_back(MOST_WORK);
+    let tried = attempt(means, state, number);
+    means.work.take_back(held);
     match tried {
         Err(Halt::Work) => Ok(Tried::Worse),
         other => other,
@@ -196,14 +171,12 @@ fn within_share<A: Allocator + Copy>(
 
 /// Takes the first try that comes to something better.
 fn first_better<A: Allocator + Copy>(
-    alloc: A,
-    code: &Code,
+    means: &mut Means<'_, A>,
     state: &mut State<A>,
-    work: &mut Work,
 ) -> Result<Tried, Halt> {
     for number in 0..MOST_TRIES {
-        work.spend(1)?;
-        let tried = within_share(alloc, code, state, number, work)?;
+        means.work.spend(1)?;
+        let tried = within_share(means, state, number)?;
         if tried != Tried::Worse {
             return Ok(tried);
         }
@@ -213,17 +186,15 @@ fn first_better<A: Allocator + Copy>(
 
 /// Makes a wrong quotient right, with the dead contexts that show it, where a repair does.
 pub fn repair<A: Allocator + Copy>(
-    alloc: A,
-    code: &Code,
+    means: &mut Means<'_, A>,
     state: &mut State<A>,
-    work: &mut Work,
 ) -> Result<(), Halt> {
-    let Some(failing) = lightest_failing(alloc, &state.quotient, work)? else {
+    let Some(failing) = lightest_failing(means, &state.quotient)? else {
         return Err(Halt::Repairs);
     };
     state.failing = failing;
     for _ in 0..MOST_REPAIRS {
-        match first_better(alloc, code, state, work)? {
+        match first_better(means, state)? {
             Tried::Right => return Ok(()),
             Tried::Better => {}
             Tried::Worse | Tried::Nothing => return Err(Halt::Repairs),

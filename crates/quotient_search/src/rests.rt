@@ -4,9 +4,6 @@ use crate::work::{Halt, Work};
 use octal_code::{Code, Leaving};
 use std::alloc::Allocator;
 
-/// How many digits a code has at most, the one before the point too.
-const MOST_DIGITS: usize = 17;
-
 /// The elements of the heaps 1, 2, .. and the products, row after row.
 #[derive(Clone, Copy)]
 pub struct Values<'a> {
@@ -51,7 +48,7 @@ impl<A: Allocator + Copy> Rests<A> {
 
 /// Whether some digit of the code allows so much to stay.
 fn leaves(code: &Code, leaving: Leaving) -> bool {
-    (0..MOST_DIGITS as u64).any(|j| code.allows(j, leaving))
+    (0..code.last() as u64 + 1).any(|j| code.allows(j, leaving))
 }
 
 /// Adds the values of the two heaps that make up a rest.
@@ -141,10 +138,8 @@ impl<A: Allocator> Rests<A> {
     /// Writes the values of the options of the heap n.
     fn write(&mut self, values: Values<'_>, code: &Code, n: usize) {
         clear(&mut self.set);
-        for j in 0..MOST_DIGITS {
-            if j <= n {
-                self.write_digit(values, code, n, j);
-            }
+        for j in 0..n.min(code.last() as usize) + 1 {
+            self.write_digit(values, code, n, j);
         }
     }
 

@@ -1,36 +1,31 @@
 //! The search for a quotient, heap by heap.
-use crate::aim::{Aim, Cause, Found};
+use crate::aim::{Extent, Found, Reason};
 use crate::cells::at;
 use crate::extend::{Extended, extend};
+use crate::quotient::HeapQuotient;
 use crate::repair::repair;
 use crate::scene::Scene;
 use crate::state::State;
-use crate::work::{Halt, Work};
+use crate::work::{Halt, Means, Work};
 use allocation::Memory;
 use octal_code::Code;
 use periods::{is_shown, repeats_from};
 use std::alloc::Allocator;
 
-/// Adds the heap n, and makes the quotient right, of at most `order` elements.
-fn advance<A: Allocator + Copy>(
-    alloc: A,
-    code: &Code,
+/// Adds the heap n, and makes the quotient right.
+fn extend_rightly<A: Allocator + Copy>(
+    means: &mut Means<'_, A>,
     scene: &Scene<A>,
     state: &mut State<A>,
     n: usize,
-    order: usize,
-    work: &mut Work,
 ) -> Result<(), Halt> {
-    match extend(alloc, code, scene, &mut state.quotient, n, work)? {
-        Extended::Anew => state.dead_contexts.renew(alloc, &state.quotient, work)?,
-        Extended::Same => state.dead_contexts.add(alloc, &state.quotient, n, work)?,
+    match extend(means, scene, &mut state.quotient, n)? {
+        Extended::Anew => state.dead_contexts.renew(means, &state.quotient)?,
+        Extended::Same => state.dead_contexts.add(means, &state.quotient, n)?,
         Extended::Twin => return Ok(()),
     }
     if state.dead_contexts.failed {
-        repair(alloc, code, state, work)?;
-    }
-    if state.quotient.order > order {
-        return Err(Halt::TooLarge);
+        repair(means, state)?;
     }
     Ok(())
 }
@@ -70,85 +65,95 @@ fn repeats_by(heaps: &[u16], start: usize, period: usize, work: &mut Work) -> Re
 /// A search on its way: the last heap that was begun with, and how many elements there were before
 /// it.
 #[derive(Drop)]
-struct Search<'a> {
-    code: &'a Code,
-    aim: Aim,
+struct Search<'a, A: Allocator> {
+    means: Means<'a, A>,
+    extent: Extent,
     order: usize,
     heap: usize,
     before: usize,
-    work: Work,
 }
 
-impl Search<'_> {
-    /// Brings an empty state to the quotient that is aimed at.
-    fn run<A: Allocator + Copy>(&mut self, alloc: A, state: &mut State<A>) -> Result<(), Halt> {
-        let scene = Scene::plain(alloc)?;
-        self.run_beside(alloc, &scene, state)
+impl<A: Allocator + Copy> Search<'_, A> {
+    /// Brings an empty state to the quotient that is searched for.
+    fn extend_all(&mut self, state: &mut State<A>) -> Result<(), Halt> {
+        let scene = Scene::plain(self.means.alloc)?;
+        self.extend_beside(&scene, state)
     }
 
-    /// Searches beside contexts.
-    fn run_beside<A: Allocator + Copy>(
-        &mut self,
-        alloc: A,
-        scene: &Scene<A>,
-        state: &mut State<A>,
-    ) -> Result<(), Halt> {
-        let code = self.code;
+    /// The same beside contexts.
+    fn extend_beside(&mut self, scene: &Scene<A>, state: &mut State<A>) -> Result<(), Halt> {
         state.quotient.begin(scene)?;
-        state.dead_contexts.begin(alloc, &state.quotient)?;
-        for n in 1..self.aim.last().saturating_add(1) {
+        state
+            .dead_contexts
+            .begin(self.means.alloc, &state.quotient)?;
+        for n in 1..self.extent.last().saturating_add(1) {
             self.heap = n;
             self.before = state.quotient.order;
-            advance(alloc, code, scene, state, n, self.order, &mut self.work)?;
-            if self.is_met(&state.quotient.heaps)? {
+            extend_rightly(&mut self.means, scene, state, n)?;
+            if self.is_met(&state.quotient)? {
                 break;
             }
         }
         Ok(())
     }
 
-    /// Whether the search is at its end with these heaps.
-    fn is_met(&mut self, heaps: &[u16]) -> Result<bool, Halt> {
-        match self.aim {
-            Aim::Period(_) => has_period(self.code, heaps, &mut self.work),
-            Aim::Part(_) => Ok(false),
+    /// Whether the search is at its end with this quotient.
+    fn is_met(&mut self, quotient: &HeapQuotient<A>) -> Result<bool, Halt> {
+        if quotient.order > self.order {
+            return Err(Halt::TooLarge);
         }
-    }
-
-    /// What ended it early.
-    fn cause(&self, halt: Halt) -> Result<Cause, Memory> {
-        let (heap, order) = (self.heap, self.before);
-        match halt {
-            Halt::Memory => Err(Memory),
-            Halt::TooLarge => Ok(Cause::TooLarge { heap }),
-            Halt::Repairs => Ok(Cause::Repairs { heap, order }),
-            Halt::Work => Ok(Cause::Work { heap, order }),
+        match self.extent {
+            Extent::Period(_) => has_period(self.means.code, &quotient.heaps, &mut self.means.work),
+            Extent::Part(_) => Ok(false),
         }
     }
 }
 
-/// A guess of the quotient of a code's heaps that is aimed at, of at most `order` elements, or why
-/// there is none. The work is bounded.
-pub fn find_quotient<A: Allocator + Copy>(
+impl<A: Allocator> Search<'_, A> {
+    /// What ended it early.
+    fn reason(&self, halt: Halt) -> Result<Reason, Memory> {
+        let (heap, order) = (self.heap, self.before);
+        match halt {
+            Halt::Memory => Err(Memory),
+            Halt::TooLarge => Ok(Reason::TooLarge { heap }),
+            Halt::Repairs => Ok(Reason::Repairs { heap, order }),
+            Halt::Work => Ok(Reason::Work { heap, order }),
+        }
+    }
+}
+
+/// A guess of the quotient of as many of a code's heaps as `extent` says, of at most `order`
+/// elements, or why there is none. The work is bounded.
+pub fn search_quotient<A: Allocator + Copy>(
     alloc: A,
     code: &Code,
-    aim: Aim,
+    extent: Extent,
     order: usize,
 ) -> Result<Found<A>, Memory> {
-    let mut search = Search {
+    let means = Means {
+        alloc,
         code,
-        aim,
+        work: Work::new(extent.work()),
+    };
+    let mut search = Search {
+        means,
+        extent,
         order,
         heap: 0,
         before: 1,
-        work: Work::new(aim.work()),
     };
     let mut state = State::empty(alloc);
-    match search.run(alloc, &mut state) {
-        Ok(()) => Ok(Found::Quotient(state.into_quotient())),
+    match search.extend_all(&mut state) {
+        Ok(()) => Ok(Found {
+            heaps: search.heap,
+            quotient: Ok(state.into_quotient()),
+        }),
         Err(halt) => {
             drop(state);
-            Ok(Found::Nothing(search.cause(halt)?))
+            Ok(Found {
+                heaps: search.heap.saturating_sub(1),
+                quotient: Err(search.reason(halt)?),
+            })
         }
     }
 }

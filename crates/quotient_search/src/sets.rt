@@ -3,6 +3,9 @@ use crate::cells::{index, part};
 use crate::work::Halt;
 use std::alloc::Allocator;
 
+/// The most words that sets have together.
+pub const MOST_WORDS: usize = 4_000_000;
+
 /// Numbers, each with a set of elements of so many words.
 #[derive(Drop)]
 pub struct Sets<A: Allocator> {

@@ -1,10 +1,10 @@
 //! Heaps whose options have the same values: each does what the other does.
 use crate::cells::at;
-use crate::lists::Lists;
+use crate::lists::ElementLists;
 use crate::work::Halt;
 use std::alloc::Allocator;
 
-/// Lists of values, each with a mark by which it is found.
+/// ElementLists of values, each with a mark by which it is found.
 #[derive(Drop)]
 pub struct Twins<A: Allocator> {
     marks: Vec<u64, A>,
@@ -50,13 +50,13 @@ impl<A: Allocator> Twins<A> {
     }
 
     /// Takes note of a list.
-    pub fn note(&mut self, lists: &Lists<A>, list: usize) -> Result<(), Halt> {
+    pub fn note(&mut self, lists: &ElementLists<A>, list: usize) -> Result<(), Halt> {
         self.marks.push(mark_of(lists.list(list)))?;
         self.lists.push(list).map_err(Halt::from)
     }
 
     /// A list that was noted with the values of this one.
-    pub fn find(&self, lists: &Lists<A>, list: usize) -> Option<usize> {
+    pub fn find(&self, lists: &ElementLists<A>, list: usize) -> Option<usize> {
         let values = lists.list(list);
         let mark = mark_of(values);
         let place = self.marks.iter().position(|noted| *noted == mark)?;

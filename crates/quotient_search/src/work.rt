@@ -1,6 +1,7 @@
 //! Work, counted so that every search comes to an end, and the ways in which one ends early.
 use allocation::Memory;
-use std::alloc::{AllocError, AllocFailed};
+use octal_code::Code;
+use std::alloc::{AllocError, AllocFailed, Allocator};
 
 /// Why a search ended early.
 #[derive(Clone, Copy, Debug, PartialEq, Eq)]
@@ -57,15 +58,24 @@ impl Work {
         Ok(())
     }
 
-    /// Takes a share of what is left, for a part of the search.
-    pub fn lend(&mut self, most: u64) -> Work {
-        let left = if self.left < most { self.left } else { most };
+    /// Holds back all but so much of what is left, for a part of the search.
+    pub fn hold_back(&mut self, most: u64) -> Work {
+        let left = self.left.saturating_sub(most);
         self.left -= left;
         Work { left }
     }
 
-    /// Takes back what is left of a share.
-    pub fn take_back(&mut self, share: Work) {
-        self.left = self.left.saturating_add(share.left);
+    /// Takes back what was held back.
+    pub fn take_back(&mut self, held: Work) {
+        self.left = self.left.saturating_add(held.left);
     }
+}
+
+/// What every part of a search works with: where memory comes from, the code, and the work that is
+/// left.
+#[derive(Drop)]
+pub struct Means<'a, A: Allocator> {
+    pub alloc: A,
+    pub code: &'a Code,
+    pub work: Work,
 }

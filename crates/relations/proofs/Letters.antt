@@ -3,18 +3,17 @@
 use Rattle.std.proofs.Common.{◌≡◌, ◌≢◌, ℕ, zero, suc, ◌+◌, ◌-◌, ◌<◌, ◌≤◌, List, [], ◌∷◌, ◌++◌, length, get_or, drop, true, false, refl, sym, ap, ap₂, ◌∙◌, inl, inr, arith, subst, get_or-set_other, get_or-set_same}
 use Rattle.std.specs.Prelude.{slice_index, slice_set, nat_lt, if◌then◌else◌, All}
 use Rattle.std.proofs.lemmas.Bool.{cases_lt, cases_eq, lt-ltb, le-ltb}
-use Rattle.std.proofs.lemmas.List.{ext_get_or}
-use Rattle.std.proofs.lemmas.List.Elements.{All-head, All-tail}
-use Rattle.std.proofs.Math.Seq.{drop-cons}
+use Rattle.std.proofs.lemmas.List.{ext_get_or, get_or-map, get_or_append_left}
+use Rattle.std.proofs.Math.Seq.{drop-cons, get_or-append_seam}
 use Rattle.monoid_table.specs.Laws.{power_of}
 use Rattle.presentations.specs.declared.TheConstants.{LETTERS}
 use Rattle.presentations.specs.declared.read.Relation.{Relation}
 use Rattle.presentations.specs.Vectors.{zeros, bump}
 use Rattle.presentations.specs.Words.{vector_on, occurs, letters_below, letters_of}
 use Rattle.presentations.specs.Tables.{product_at}
-use Rattle.presentations.proofs.VectorLaws.{length-bump}
+use Rattle.presentations.proofs.VectorLaws.{length-zeros, length-bump, zeros-at}
 use Rattle.relations.specs.Presented.{first_letters, vector_of}
-use Rattle.relations.proofs.Rewritings.{length-letters, length-vector, letters-below}
+use Rattle.relations.proofs.Rewritings.{length-letters, length-vector}
 
 -- the letters that occur are the first ones
 below-first : (relations : List Relation) (n m : ℕ) → m ≤ n
@@ -23,28 +22,19 @@ below-first : (relations : List Relation) (n m : ℕ) → m ≤ n
 below-first relations n zero le is = refl
 below-first relations n (suc m) le is =
     let e : occurs relations m ≡ true = is m (omega arith) ∙ lt-ltb m n (omega arith) in
-    subst
-    (λ b. (if b then letters_below relations m ++ m ∷ [] else letters_below relations m)
-    ≡ first_letters (suc m)) (sym e)
-    (ap (λ xs. xs ++ m ∷ []) (below-first relations n m (omega arith) (λ k h. is k (omega arith))))
+    rw (e, below-first relations n m (omega arith) (λ k h. is k (omega arith))) refl
 
 above-first : (relations : List Relation) (n m : ℕ)
     → ((k : ℕ) → k < n + m → occurs relations k ≡ nat_lt k n)
     → letters_below relations (n + m) ≡ first_letters n
 above-first relations n zero is =
     let e : n + 0 ≡ n = omega arith in
-    subst (λ j. letters_below relations j ≡ first_letters n) (sym e)
-    (below-first relations n n (omega arith) (λ k h. is k (omega arith)))
+    rw e (below-first relations n n (omega arith) (λ k h. is k (omega arith)))
 above-first relations n (suc m) is =
     let next : n + suc m ≡ suc (n + m) = omega arith in
-    let e : occurs relations (n + m) ≡ false = is (n + m) (omega arith)
-    ∙ le-ltb (n + m) n (omega arith)
-    in
-    subst (λ j. letters_below relations j ≡ first_letters n) (sym next)
-    (subst
-    (λ b. (if b then letters_below relations (n + m) ++ (n + m) ∷ [] else letters_below relations
-    (n + m)) ≡ first_letters n) (sym e)
-    (above-first relations n m (λ k h. is k (omega arith))))
+    let e : occurs relations (n + m) ≡ false =
+    is (n + m) (omega arith) ∙ le-ltb (n + m) n (omega arith) in
+    rw (next, e) (above-first relations n m (λ k h. is k (omega arith)))
 
 pub letters-exact : (relations : List Relation) (n : ℕ) → n ≤ LETTERS
     → ((k : ℕ) → k < LETTERS → occurs relations k ≡ nat_lt k n)
@@ -54,38 +44,22 @@ letters-exact relations n le is =
     subst (λ j. letters_below relations j ≡ first_letters n) e
     (above-first relations n (LETTERS - n) (λ k h. is k (omega arith)))
 
-push-before : (xs : List ℕ) (x i : ℕ) → i < length xs → get_or (xs ++ x ∷ []) i 0 ≡ get_or xs i 0
-push-before [] x i lt = absurd (omega arith)
-push-before (y ∷ xs) x zero lt = refl
-push-before (y ∷ xs) x (suc i) lt = push-before xs x i (omega arith)
-
-push-at : (xs : List ℕ) (x i : ℕ) → i ≡ length xs → get_or (xs ++ x ∷ []) i 0 ≡ x
-push-at [] x zero e = refl
-push-at [] x (suc i) e = absurd (omega arith)
-push-at (y ∷ xs) x zero e = absurd (omega arith)
-push-at (y ∷ xs) x (suc i) e = push-at xs x i (omega arith)
-
 letter-at : (n i : ℕ) → i < n → get_or (first_letters n) i 0 ≡ i
 letter-at zero i lt = absurd (omega arith)
 letter-at (suc n) i lt = elim (cases_lt i n) [
-  | inl low ↦ push-before (first_letters n) n i (omega (arith, length-letters n))
+  | inl low ↦
+      get_or_append_left (first_letters n) (n ∷ []) 0 i (omega (arith, length-letters n))
       ∙ letter-at n i low
   | inr high ↦
       let e : i ≡ n = omega arith in
-      push-at (first_letters n) n i (e ∙ sym (length-letters n)) ∙ sym e
+      rw (e) (rw (length-letters n) at (get_or-append_seam (first_letters n) n [] 0))
 ]
-
-on-at : (letters word : List ℕ) (i : ℕ) → i < length letters
-    → get_or (vector_on letters word) i 0 ≡ slice_index word (get_or letters i 0)
-on-at [] word i lt = absurd (omega arith)
-on-at (a ∷ letters) word zero lt = refl
-on-at (a ∷ letters) word (suc i) lt = on-at letters word i (omega arith)
 
 -- an exponent of a word's vector
 pub vector-at : (n : ℕ) (word : List ℕ) (i : ℕ) → i < n
     → get_or (vector_of n word) i 0 ≡ slice_index word i
 vector-at n word i lt =
-    on-at (first_letters n) word i (omega (arith, length-letters n))
+    get_or-map (slice_index word) (first_letters n) i 0 0 (omega (arith, length-letters n))
     ∙ ap (slice_index word) (letter-at n i lt)
 
 pub vector-same : (n : ℕ) (v w : List ℕ)
@@ -96,18 +70,12 @@ vector-same n v w same =
     let i_in : i < n = omega (arith, length-vector n v) in
     vector-at n v i i_in ∙ same i i_in ∙ sym (vector-at n w i i_in))
 
-on-zeros : (letters word : List ℕ) (n : ℕ) → All (λ a. a < n) letters
-    → ((i : ℕ) → i < n → slice_index word i ≡ 0)
-    → vector_on letters word ≡ zeros (length letters)
-on-zeros [] word n within none = refl
-on-zeros (a ∷ letters) word n within none =
-    ap₂ (λ x v. x ∷ v) (none a (All-head (λ a. a < n) a letters within))
-    (on-zeros letters word n (All-tail (λ a. a < n) a letters within) none)
-
 pub vector-zeros : (n : ℕ) (word : List ℕ) → ((i : ℕ) → i < n → slice_index word i ≡ 0)
     → vector_of n word ≡ zeros n
 vector-zeros n word none =
-    on-zeros (first_letters n) word n (letters-below n) none ∙ ap zeros (length-letters n)
+    ext_get_or 0 (vector_of n word) (zeros n) (length-vector n word ∙ sym (length-zeros n)) (λ i lt.
+    let i_in : i < n = omega (arith, length-vector n word) in
+    vector-at n word i i_in ∙ none i i_in ∙ sym (zeros-at n i))
 
 bump-at : (v : List ℕ) (i : ℕ) → i < length v → get_or (bump v i) i 0 ≡ get_or v i 0 + 1
 bump-at [] i lt = absurd (omega arith)
@@ -137,15 +105,18 @@ vector-bump n word i x lt long is =
         → slice_index (slice_set word i x) k ≡ get_or (bump (vector_of n word) i) k 0
     entry k k_in = elim (cases_eq k i) [
       | inl same ↦
-          subst (λ j. slice_index (slice_set word i x) j ≡ get_or (bump (vector_of n word) i) j 0)
-          (sym same)
-          (rw get_or-set_same
-          (is ∙ sym (bump-at (vector_of n word) i (omega (arith, length-vector n word))
-          ∙ ap (λ y. y + 1) (vector-at n word i lt))))
+          rw (
+            same,
+            get_or-set_same word i x 0 long,
+            bump-at (vector_of n word) i (omega (arith, length-vector n word)),
+            vector-at n word i lt,
+          ) is
       | inr other ↦
-          let differ : k ≢ i = other in
-          rw get_or-set_other
-          (sym (bump-other (vector_of n word) i k differ ∙ vector-at n word k k_in))
+          rw (
+            get_or-set_other word i k x 0 other,
+            bump-other (vector_of n word) i k other,
+            vector-at n word k k_in,
+          ) refl
     ]
 
 -- a product of powers from the one at i on

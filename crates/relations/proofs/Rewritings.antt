@@ -1,23 +1,21 @@
 -- Rewriting a word by a rule gives a word that the rules relate to it.
 use Rattle.std.proofs.Common.{◌≡◌, ◌⊎◌, ℕ, zero, suc, ◌+◌, ◌-◌, ◌<◌, ◌≤◌, List, [], ◌∷◌, ◌++◌, length, map, refl, sym, ap, ap₂, ◌∙◌, inl, inr, arith, subst}
 use Rattle.std.specs.Prelude.{slice_index, slice_index_or, All}
-use Rattle.std.proofs.lemmas.List.{length-map}
+use Rattle.std.proofs.lemmas.List.{length-map, length-append}
 use Rattle.std.proofs.lemmas.List.Elements.{All-contains, All-head, All-tail, All-cons, All-nil, All-append, All-map, All-weaker, All-push}
 use Rattle.presentations.specs.declared.read.Relation.{Relation}
 use Rattle.presentations.specs.Vectors.{plus}
 use Rattle.presentations.specs.Congruences.{Related}
 use Rattle.presentations.specs.Congruences.Related.{Given, Same, Turned, Chained, Beside}
 use Rattle.presentations.specs.Words.{vector_on}
+use Rattle.presentations.proofs.VectorLaws.{cons-same}
 use Rattle.presentations.proofs.WordLaws.{pair-of}
 use Rattle.relations.specs.Presented.{first_letters, vector_of, pairs_of, AreRelatedWords, IsRewritten}
 
-length-push : (xs : List ℕ) (x : ℕ) → length (xs ++ x ∷ []) ≡ suc (length xs)
-length-push [] x = refl
-length-push (y ∷ xs) x = ap suc (length-push xs x)
-
 pub length-letters : (n : ℕ) → length (first_letters n) ≡ n
 length-letters zero = refl
-length-letters (suc n) = length-push (first_letters n) n ∙ ap suc (length-letters n)
+length-letters (suc n) =
+    omega (arith, length-append (first_letters n) (n ∷ []), length-letters n)
 
 pub letters-below : (n : ℕ) → All (λ a. a < n) (first_letters n)
 letters-below zero = All-nil (λ a. a < 0)
@@ -41,13 +39,8 @@ sum-on : (letters : List ℕ) (n : ℕ) (part left word whole : List ℕ) → Al
     → plus (vector_on letters part) (rest_on letters left word) ≡ vector_on letters whole
 sum-on [] n part left word whole within is = refl
 sum-on (a ∷ letters) n part left word whole within is =
-    ap₂ (λ x v. x ∷ v)
-    (turned (slice_index part a) (slice_index word a - slice_index left a) (slice_index whole a)
-    (is a (All-head (λ a. a < n) a letters within)))
+    cons-same (omega (arith, is a (All-head (λ a. a < n) a letters within)))
     (sum-on letters n part left word whole (All-tail (λ a. a < n) a letters within) is)
-  where
-    turned : (x y z : ℕ) → z ≡ y + x → x + y ≡ z
-    turned x y z e = omega arith
 
 -- a rule relates the word that it rewrites to what it makes of it
 pub rewritten-related : (n : ℕ) (rules : List Relation) (k : ℕ) (d : Relation) (word after : List ℕ)
@@ -58,27 +51,16 @@ rewritten-related n rules k d word after lt is =
     let letters = first_letters n in
     let rest = rest_on letters r.left word in
     let rest_length : length rest ≡ n = length-map letters _ ∙ length-letters n in
-    subst (λ v. Related n (pairs_of n rules) v (vector_of n after))
-    (sum-on letters n r.left r.left word word (letters-below n)
-    (λ i i_in. back (slice_index word i) (slice_index r.left i) (is i i_in).0))
-    (subst (λ v. Related n (pairs_of n rules) (plus (vector_of n r.left) rest) v)
-    (sum-on letters n r.right r.left word after (letters-below n) (λ i i_in. (is i i_in).1))
+    rw (
+      sum-on letters n r.left r.left word word (letters-below n)
+          (λ i i_in. omega (arith, (is i i_in).0)),
+      sum-on letters n r.right r.left word after (letters-below n) (λ i i_in. (is i i_in).1),
+    ) at
     (Beside (vector_of n r.left) (vector_of n r.right) rest rest_length
-    (Given (vector_of n r.left, vector_of n r.right) (pair-of letters rules k d lt))))
-  where
-    back : (x y : ℕ) → y ≤ x → x ≡ x - y + y
-    back x y h = omega arith
+    (Given (vector_of n r.left, vector_of n r.right) (pair-of letters rules k d lt)))
 
 pub same-related : (n : ℕ) (rules : List Relation) (word : List ℕ) → AreRelatedWords n rules word word
 same-related n rules word = Same (vector_of n word) (length-vector n word)
-
-pub chained-related : (n : ℕ) (rules : List Relation) (u v w : List ℕ) → AreRelatedWords n rules u v
-    → AreRelatedWords n rules v w → AreRelatedWords n rules u w
-chained-related n rules u v w r s = Chained (vector_of n u) (vector_of n v) (vector_of n w) r s
-
-pub turned-related : (n : ℕ) (rules : List Relation) (u v : List ℕ) → AreRelatedWords n rules u v
-    → AreRelatedWords n rules v u
-turned-related n rules u v r = Turned (vector_of n u) (vector_of n v) r
 
 -- pairs that are related relate no more
 within : (n : ℕ) (pairs others : List (List ℕ × List ℕ)) (u v : List ℕ)
@@ -118,11 +100,9 @@ IsBetween r v w = ((r.left ≡ v) × (r.right ≡ w)) ⊎ ((r.left ≡ w) × (r.
 pub oriented-related : (n : ℕ) (rules : List Relation) (r : Relation) (v w : List ℕ)
     → IsBetween r v w → AreRelatedWords n rules v w → AreRelatedWords n rules r.left r.right
 oriented-related n rules r v w (inl same) related =
-    subst (λ a. AreRelatedWords n rules a r.right) (sym same.0)
-    (subst (λ a. AreRelatedWords n rules v a) (sym same.1) related)
+    rw (same.0, same.1) related
 oriented-related n rules r v w (inr turned) related =
-    subst (λ a. AreRelatedWords n rules a r.right) (sym turned.0)
-    (subst (λ a. AreRelatedWords n rules w a) (sym turned.1) (turned-related n rules v w related))
+    rw (turned.0, turned.1) (Turned _ _ related)
 
 -- two words that come from one are related
 pub forked-related : (n : ℕ) (rules : List Relation) (both u v x y : List ℕ)
@@ -130,9 +110,7 @@ pub forked-related : (n : ℕ) (rules : List Relation) (both u v x y : List ℕ)
     → AreRelatedWords n rules v y
     → AreRelatedWords n rules x y
 forked-related n rules both u v x y bu bv ux vy =
-    chained-related n rules x u y (turned-related n rules u x ux)
-    (chained-related n rules u both y (turned-related n rules both u bu)
-    (chained-related n rules both v y bv vy))
+    Chained _ _ _ (Turned _ _ ux) (Chained _ _ _ (Turned _ _ bu) (Chained _ _ _ bv vy))
 
 -- each of the rules is one that the relations give
 abbrev pub Follow : ℕ → List Relation → List Relation → Type 0

@@ -2,6 +2,7 @@
 -- A word with a letter more is related to the product's word, and so each vector to its element's.
 use Rattle.std.proofs.Common.{◌≡◌, ℕ, zero, suc, ◌<◌, List, [], ◌∷◌, length, get_or, refl, sym, ap, ◌∙◌, arith, subst}
 use Rattle.std.specs.Prelude.{slice_index, slice_index_or, All}
+use Rattle.std.proofs.lemmas.List.{get_or_default}
 use Rattle.std.proofs.lemmas.List.Elements.{All-map, All-weaker}
 use Rattle.misere_theory.specs.Quotients.{Monoid}
 use Rattle.monoid_table.specs.Grids.{Grid, times_in}
@@ -62,13 +63,6 @@ shown table elements relations rules words m within letters hold none named foll
           } (pairs-hold table elements relations hold));
     }
 
--- an entry of a list doesn't depend on the default
-pub any-default : (xs : List (List ℕ)) (i : ℕ) (d e : List ℕ) → i < length xs
-    → get_or xs i d ≡ get_or xs i e
-any-default [] i d e lt = absurd (omega arith)
-any-default (x ∷ xs) zero d e lt = refl
-any-default (x ∷ xs) (suc i) d e lt = any-default xs i d e (omega arith)
-
 -- the rules lead both words to one
 pub step-shown : (n : ℕ) (rules : List Relation) (words : List (List ℕ)) (x y z i : ℕ)
     (d e more left right : List ℕ)
@@ -81,16 +75,7 @@ pub step-shown : (n : ℕ) (rules : List Relation) (words : List (List ℕ)) (x 
     → Related n (pairs_of n rules) (bump (vector_of n (slice_index_or words x [])) i)
     (vector_of n (slice_index_or words z []))
 step-shown n rules words x y z i d e more left right x_in y_in longer to_left to_right same is =
-    let target = vector_of n (get_or words y []) in
-    let back : Related n (pairs_of n rules) (vector_of n right) target =
-    subst (λ w. Related n (pairs_of n rules) (vector_of n right) (vector_of n w))
-    (any-default words y e [] y_in)
-    (Turned (vector_of n (get_or words y e)) (vector_of n right) to_right)
-    in
-    subst
-    (λ j. Related n (pairs_of n rules) (bump (vector_of n (get_or words x [])) i)
-    (vector_of n (get_or words j []))) is
-    (subst (λ v. Related n (pairs_of n rules) v target)
-    (longer ∙ ap (λ w. bump (vector_of n w) i) (any-default words x d [] x_in))
-    (Chained (vector_of n more) (vector_of n left) target to_left
-    (subst (λ v. Related n (pairs_of n rules) v target) (sym (vector-same n left right same)) back)))
+    rw (get_or_default words x [] d x_in, ← longer, ← is, get_or_default words y [] e y_in)
+    (Chained (vector_of n more) (vector_of n left) (vector_of n (get_or words y e)) to_left
+    (rw (vector-same n left right same)
+    (Turned (vector_of n (get_or words y e)) (vector_of n right) to_right)))

@@ -1,11 +1,11 @@
 -- What can be asked of the program, with texts as lists of codes. This project's own.
-use Rattle.std.specs.Prelude.{ℕ, Bool, List, Option, option_map}
-use Rattle.requests.specs.declared.plans.Aim.{Aim}
+use Rattle.std.specs.Prelude.{ℕ, Bool, List, Option, map, option_map}
 use Rattle.requests.specs.declared.plans.CatalogueTask.{CatalogueTask}
 use Rattle.requests.specs.declared.plans.CatalogueTask.TheVariants as task
 use Rattle.requests.specs.declared.plans.Output.{Output}
 use Rattle.requests.specs.declared.plans.Plan.{Plan}
 use Rattle.requests.specs.declared.plans.Plan.TheVariants as plan
+use Rattle.requests.specs.declared.plans.SolveBounds.{SolveBounds}
 
 -- what is asked of a catalogue
 pub data CatalogueRequest : Type 0 where
@@ -20,7 +20,9 @@ pub data CatalogueRequest : Type 0 where
 -- what is asked of the program
 pub data Request : Type 0 where
   Check : Option (List ℕ) → ℕ → Request
-  Solve : List ℕ → ℕ → ℕ → ℕ → Aim → Bool → Request
+  Solve : List ℕ → SolveBounds → Request
+  SolveMany : List (List ℕ) → SolveBounds → Request
+  SolveLines : SolveBounds → Request
   Show : Option (List ℕ) → ℕ → Request
   Describe : Option (List ℕ) → Output → Bool → ℕ → Request
   Play : Option (List ℕ) → List ℕ → ℕ → Request
@@ -42,8 +44,9 @@ catalogue_request_of task.Migrate = Migrate
 -- what a plan asks for
 abbrev pub request_of : Plan → Request
 request_of (plan.Check file limit) = Check (option_map (λ f. f.now) file) limit
-request_of (plan.Solve code limit rounds order aim why) =
-    Solve code.now limit rounds order aim why
+request_of (plan.Solve code bounds) = Solve code.now bounds
+request_of (plan.SolveMany codes bounds) = SolveMany (map (λ c. c.now) codes.items) bounds
+request_of (plan.SolveLines bounds) = SolveLines bounds
 request_of (plan.Show file limit) = Show (option_map (λ f. f.now) file) limit
 request_of (plan.Describe file output basis limit) =
     Describe (option_map (λ f. f.now) file) output basis limit

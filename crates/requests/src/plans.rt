@@ -1,8 +1,5 @@
 //! Plans: what is asked for, with the texts as they were given.
 
-/// The limit of a check for which none is given.
-pub const DEFAULT_LIMIT: u32 = 100000;
-
 /// Of which heaps a search is to find the quotient.
 #[derive(Clone, Copy, Debug, PartialEq, Eq)]
 pub enum Aim {
@@ -16,8 +13,23 @@ pub enum Aim {
     Furthest,
 }
 
+/// How far a search goes.
+#[derive(Clone, Copy, Debug, PartialEq, Eq)]
+pub struct SolveBounds {
+    /// How many members the closure of each check may ever keep.
+    pub limit: u32,
+    /// How often the proposers are asked at most.
+    pub rounds: u32,
+    /// The most elements that a certificate may have.
+    pub order: u32,
+    /// Of which heaps the quotient is searched for.
+    pub aim: Aim,
+    /// Whether the cause is told where the search is given up.
+    pub tells_why: bool,
+}
+
 /// What the program is asked to do.
-#[derive(Clone, Copy, PartialEq, Eq)]
+#[derive(PartialEq, Eq, Drop)]
 pub enum Plan<'a> {
     /// Check the certificate in the file, or on standard input where no file is named, and keep
     /// at most so many members of its closure.
@@ -25,16 +37,19 @@ pub enum Plan<'a> {
         file: Option<&'a str>,
         limit: u32,
     },
-    /// Look for a quotient of the code, of the heaps that are aimed at and of at most `order`
-    /// elements, in at most so many rounds; each proposal is checked under the limit. Where the
-    /// search is given up, the cause may be told.
+    /// Look for a quotient of the code.
     Solve {
         code: &'a str,
-        limit: u32,
-        rounds: u32,
-        order: u32,
-        aim: Aim,
-        tells_why: bool,
+        bounds: SolveBounds,
+    },
+    /// Look for a quotient of each of these codes in turn.
+    SolveMany {
+        codes: Vec<&'a str>,
+        bounds: SolveBounds,
+    },
+    /// Look for a quotient of the code of each line of standard input.
+    SolveLines {
+        bounds: SolveBounds,
     },
     /// Print the quotient that the file certifies under the limit, or standard input where no file
     /// is named.

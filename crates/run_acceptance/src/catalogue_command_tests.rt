@@ -4,6 +4,7 @@ mod tasks;
 use crate::by_rule::{by_rule, digits_of};
 use crate::catalogue_tests::file_of;
 use crate::certificates::{OF_0_3, OF_0_33, OF_0_75, OF_0_B, PART_OF_0_3};
+use crate::comparing::compare;
 use crate::files::{Entry, FIRST_VERSION, ONE_ENTRY, catalogue_of, folder_with, holds};
 use crate::rows::{Row, count_held};
 use crate::said::is_said;
@@ -341,6 +342,12 @@ fn gives_of_many(alloc: Global) -> Result<bool, AllocError> {
 
 #[test]
 fn lists_or_keeps_what_stands_of_a_file(rt: HostRuntime) {
-    assert!(rt; count_held(rt.alloc(), &LISTS) == 27);
-    assert!(rt; count_held(rt.alloc(), &DAMAGES) == 3 && gives_of_many(rt.alloc()) == Ok(true));
+    compare(&rt, "LISTS", count_held(rt.alloc(), &LISTS), 27);
+    compare(&rt, "DAMAGES", count_held(rt.alloc(), &DAMAGES), 3);
+    compare(
+        &rt,
+        "100 entries",
+        gives_of_many(rt.alloc()) == Ok(true),
+        true,
+    );
 }

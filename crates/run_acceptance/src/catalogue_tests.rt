@@ -1,5 +1,6 @@
 //! Catalogues of no entry, of a few, and of many: past each size at which what holds them grows.
 use crate::by_rule::{by_rule, digits_of};
+use crate::comparing::compare;
 use crate::rows::{Row, count_held};
 use catalogue::{Catalogue, LoadFault, certificate_text};
 use checker::{Certified, check};
@@ -262,7 +263,8 @@ static MIGRATED: [Migrated; 3] = [Migrated(1), Migrated(9), Migrated(65)];
 /// The last file that is read back has more than 2^16 bytes.
 #[test]
 fn reads_back_and_keeps_once(rt: HostRuntime) {
-    assert!(rt; length_of_grown(rt.alloc()) > 65536);
-    assert!(rt; count_held(rt.alloc(), &TWICE) == 4);
-    assert!(rt; count_held(rt.alloc(), &MIGRATED) == 3);
+    let length = length_of_grown(rt.alloc());
+    assert!(rt; length > 65536, "{length}");
+    compare(&rt, "TWICE", count_held(rt.alloc(), &TWICE), 4);
+    compare(&rt, "MIGRATED", count_held(rt.alloc(), &MIGRATED), 3);
 }

@@ -1,17 +1,27 @@
 //! Command lines, what they ask for and what is told of them.
+use crate::comparing::compare;
 use crate::rows::{Row, count_held};
 use crate::words::line_words;
 use command_line::{Exclusion, Quantity, UsageFault, VERSION, plan};
-use requests::{Aim, CatalogueTask, Output, Plan};
+use requests::{Aim, CatalogueTask, Output, Plan, SolveBounds};
 use std::alloc::Global;
 
 /// What words ask for.
 enum Asked {
-    Plan(Plan<'static>),
+    Check(Option<&'static str>, u32),
+    Show(Option<&'static str>, u32),
+    Describe(Option<&'static str>, Output, bool, u32),
+    Play(Option<&'static str>, &'static str, u32),
+    PlayLines(&'static str, u32),
+    Present(&'static str),
+    Catalogue(&'static str, CatalogueTask<'static>, u32),
+    Desk(&'static str),
     /// A search for 0.3: the limit, the rounds, the heaps and the order.
     Search(u32, u32, u32, u32),
     /// A search for 0.3: the order, the aim, and whether the cause is told.
     Aimed(u32, Aim, bool),
+    /// A search for the codes of standard input: the limit and the order.
+    SolveLines(u32, u32),
     /// A task on the catalogue x.json.
     Task(CatalogueTask<'static>),
     /// A description of the certificate in a.mqc, and whether by the reduced basis.
@@ -27,37 +37,80 @@ enum Why {
     Help(&'static str),
 }
 
+/// The bounds of a search by so many rounds in so many heaps.
+fn bounds_of(limit: u32, rounds: u32, heaps: u32, order: u32) -> SolveBounds {
+    SolveBounds {
+        limit,
+        rounds,
+        order,
+        aim: Aim::Whole { heaps },
+        tells_why: false,
+    }
+}
+
+/// The bounds of a search with the usual limit and rounds.
+fn aimed(order: u32, aim: Aim, tells_why: bool) -> SolveBounds {
+    SolveBounds {
+        limit: 100000,
+        rounds: 64,
+        order,
+        aim,
+        tells_why,
+    }
+}
+
+/// A search for 0.3.
+fn search(bounds: SolveBounds) -> Plan<'static> {
+    Plan::Solve {
+        code: "0.3",
+        bounds,
+    }
+}
+
+/// A task on a catalogue.
+fn task_of(file: &'static str, task: CatalogueTask<'static>, limit: u32) -> Plan<'static> {
+    Plan::Catalogue { file, task, limit }
+}
+
+/// A description.
+fn description_of(
+    file: Option<&'static str>,
+    output: Output,
+    basis: bool,
+    limit: u32,
+) -> Plan<'static> {
+    Plan::Describe {
+        file,
+        output,
+        basis,
+        limit,
+    }
+}
+
 /// What is asked for, as a plan.
 fn plan_of(asked: &Asked) -> Plan<'static> {
-    match asked {
-        Asked::Plan(whole) => *whole,
-        Asked::Search(limit, rounds, heaps, order) => Plan::Solve {
-            code: "0.3",
-            limit: *limit,
-            rounds: *rounds,
-            order: *order,
-            aim: Aim::Whole { heaps: *heaps },
-            tells_why: false,
+    match *asked {
+        Asked::Check(file, limit) => Plan::Check { file, limit },
+        Asked::Show(file, limit) => Plan::Show { file, limit },
+        Asked::Describe(file, output, basis, limit) => description_of(file, output, basis, limit),
+        Asked::Play(file, position, limit) => Plan::Play {
+            file,
+            position,
+            limit,
         },
-        Asked::Aimed(order, aim, tells_why) => Plan::Solve {
-            code: "0.3",
-            limit: 100000,
-            rounds: 64,
-            order: *order,
-            aim: *aim,
-            tells_why: *tells_why,
+        Asked::PlayLines(file, limit) => Plan::PlayLines { file, limit },
+        Asked::Present(text) => Plan::Present { text },
+        Asked::Catalogue(file, task, limit) => task_of(file, task, limit),
+        Asked::Desk(script) => Plan::Desk { script },
+        Asked::Search(limit, rounds, heaps, order) => search(bounds_of(
+            limit, rounds, heaps, order,
+        )),
+        Asked::Aimed(order, aim, tells_why) => search(aimed(order, aim, tells_why)),
+        Asked::SolveLines(limit, order) => Plan::SolveLines {
+            bounds: bounds_of(limit, 64, 24, order),
         },
-        Asked::Task(task) => Plan::Catalogue {
-            file: "x.json",
-            task: *task,
-            limit: 100000,
-        },
-        Asked::Description(output, basis) => Plan::Describe {
-            file: Some("a.mqc"),
-            output: *output,
-            basis: *basis,
-            limit: 100000,
-        },
+        Asked::Task(task) => task_of("x.json", task, 100000),
+        Asked::Description(output, basis) => description_of(Some("a.mqc"), output, basis, 100000),
     }
 }
 
@@ -81,56 +134,17 @@ impl Row for Asks {
     }
 }
 
-static ASKED: [Asks; 57] = [
-    Asks(
-        "check",
-        Asked::Plan(Plan::Check {
-            file: None,
-            limit: 100000,
-        }),
-    ),
-    Asks(
-        "check|a.mqc",
-        Asked::Plan(Plan::Check {
-            file: Some("a.mqc"),
-            limit: 100000,
-        }),
-    ),
-    Asks(
-        "check|--limit|1",
-        Asked::Plan(Plan::Check {
-            file: None,
-            limit: 1,
-        }),
-    ),
+static ASKED: [Asks; 60] = [
+    Asks("check", Asked::Check(None, 100000)),
+    Asks("check|a.mqc", Asked::Check(Some("a.mqc"), 100000)),
+    Asks("check|--limit|1", Asked::Check(None, 1)),
     Asks(
         "check|--limit=1000000|a.mqc",
-        Asked::Plan(Plan::Check {
-            file: Some("a.mqc"),
-            limit: 1000000,
-        }),
+        Asked::Check(Some("a.mqc"), 1000000),
     ),
-    Asks(
-        "check|a.mqc|--limit|8",
-        Asked::Plan(Plan::Check {
-            file: Some("a.mqc"),
-            limit: 8,
-        }),
-    ),
-    Asks(
-        "show|a.mqc",
-        Asked::Plan(Plan::Show {
-            file: Some("a.mqc"),
-            limit: 100000,
-        }),
-    ),
-    Asks(
-        "show|--limit|8|a.mqc",
-        Asked::Plan(Plan::Show {
-            file: Some("a.mqc"),
-            limit: 8,
-        }),
-    ),
+    Asks("check|a.mqc|--limit|8", Asked::Check(Some("a.mqc"), 8)),
+    Asks("show|a.mqc", Asked::Show(Some("a.mqc"), 100000)),
+    Asks("show|--limit|8|a.mqc", Asked::Show(Some("a.mqc"), 8)),
     Asks(
         "describe|a.mqc",
         Asked::Description(Output::Description, false),
@@ -165,12 +179,7 @@ static ASKED: [Asks; 57] = [
     ),
     Asks(
         "describe|a.mqc|--limit|1|--json",
-        Asked::Plan(Plan::Describe {
-            file: Some("a.mqc"),
-            output: Output::Json,
-            basis: false,
-            limit: 1,
-        }),
+        Asked::Describe(Some("a.mqc"), Output::Json, false, 1),
     ),
     Asks(
         "describe|a.mqc|--basis",
@@ -184,50 +193,19 @@ static ASKED: [Asks; 57] = [
         "describe|--relations|--basis|a.mqc",
         Asked::Description(Output::Relations, true),
     ),
-    Asks("desk|x.txt", Asked::Plan(Plan::Desk { script: "x.txt" })),
+    Asks("desk|x.txt", Asked::Desk("x.txt")),
     Asks(
         "play|a.mqc|1 2 2",
-        Asked::Plan(Plan::Play {
-            file: Some("a.mqc"),
-            position: "1 2 2",
-            limit: 100000,
-        }),
+        Asked::Play(Some("a.mqc"), "1 2 2", 100000),
     ),
     Asks(
         "play|a.mqc|--limit=1000000|1 2 2",
-        Asked::Plan(Plan::Play {
-            file: Some("a.mqc"),
-            position: "1 2 2",
-            limit: 1000000,
-        }),
+        Asked::Play(Some("a.mqc"), "1 2 2", 1000000),
     ),
-    Asks(
-        "play|a.mqc|-",
-        Asked::Plan(Plan::PlayLines {
-            file: "a.mqc",
-            limit: 100000,
-        }),
-    ),
-    Asks(
-        "play|--limit|7|a.mqc|-",
-        Asked::Plan(Plan::PlayLines {
-            file: "a.mqc",
-            limit: 7,
-        }),
-    ),
-    Asks(
-        "play|a.mqc|-|--limit=8",
-        Asked::Plan(Plan::PlayLines {
-            file: "a.mqc",
-            limit: 8,
-        }),
-    ),
-    Asks(
-        "present|a^2=1 b^3=b",
-        Asked::Plan(Plan::Present {
-            text: "a^2=1 b^3=b",
-        }),
-    ),
+    Asks("play|a.mqc|-", Asked::PlayLines("a.mqc", 100000)),
+    Asks("play|--limit|7|a.mqc|-", Asked::PlayLines("a.mqc", 7)),
+    Asks("play|a.mqc|-|--limit=8", Asked::PlayLines("a.mqc", 8)),
+    Asks("present|a^2=1 b^3=b", Asked::Present("a^2=1 b^3=b")),
     Asks("solve|0.3", Asked::Search(100000, 64, 24, 64)),
     Asks("solve|0.3|--limit|2", Asked::Search(2, 64, 24, 64)),
     Asks("solve|--rounds|1|0.3", Asked::Search(100000, 1, 24, 64)),
@@ -275,22 +253,17 @@ static ASKED: [Asks; 57] = [
         "solve|--why|0.3",
         Asked::Aimed(64, Aim::Whole { heaps: 24 }, true),
     ),
+    Asks("solve|-", Asked::SolveLines(100000, 64)),
+    Asks("solve|--limit|7|-", Asked::SolveLines(7, 64)),
+    Asks("solve|-|--order=9", Asked::SolveLines(100000, 9)),
     Asks("catalogue|x.json", Asked::Task(CatalogueTask::Print)),
     Asks(
         "catalogue|x.json|--limit|3",
-        Asked::Plan(Plan::Catalogue {
-            file: "x.json",
-            task: CatalogueTask::Print,
-            limit: 3,
-        }),
+        Asked::Catalogue("x.json", CatalogueTask::Print, 3),
     ),
     Asks(
         "catalogue|x.json|--add|a.mqc|--limit|1000000",
-        Asked::Plan(Plan::Catalogue {
-            file: "x.json",
-            task: CatalogueTask::Add("a.mqc"),
-            limit: 1000000,
-        }),
+        Asked::Catalogue("x.json", CatalogueTask::Add("a.mqc"), 1000000),
     ),
     Asks("catalogue|x.json|--new", Asked::Task(CatalogueTask::New)),
     Asks(
@@ -347,69 +320,80 @@ static ASKED: [Asks; 57] = [
     ),
 ];
 
+/// A command line, and the three codes for which it asks in turn, within these bounds.
+struct AsksMany(&'static str, [&'static str; 3], SolveBounds);
+
+/// Whether the words ask for these codes.
+fn asks_many(alloc: Global, words: &[&str], want: &[&str], within: SolveBounds) -> bool {
+    match plan(alloc, words) {
+        Ok(Plan::SolveMany { codes, bounds }) => codes.as_slice() == want && bounds == within,
+        Ok(_) | Err(_) => false,
+    }
+}
+
+impl Row for AsksMany {
+    fn holds(&self, alloc: Global) -> bool {
+        match line_words(alloc, self.0) {
+            Ok(words) => asks_many(alloc, words.as_slice(), &self.1, self.2),
+            Err(_) => false,
+        }
+    }
+}
+
+static ASKED_MANY: [AsksMany; 5] = [
+    AsksMany("solve|0.3|0.33|0.75", ["0.3", "0.33", "0.75"], USUAL),
+    AsksMany("solve|0.3|0.3|0.1", ["0.3", "0.3", "0.1"], USUAL),
+    AsksMany("solve|-|0.x|", ["-", "0.x", ""], USUAL),
+    AsksMany("solve|0.3|--deep|0.33|0.75", ["0.3", "0.33", "0.75"], DEEP),
+    AsksMany(
+        "solve|--deep|--|0.3|--why|0.75",
+        ["0.3", "--why", "0.75"],
+        DEEP,
+    ),
+];
+
+const USUAL: SolveBounds = SolveBounds {
+    limit: 100000,
+    rounds: 64,
+    order: 64,
+    aim: Aim::Whole { heaps: 24 },
+    tells_why: false,
+};
+
+const DEEP: SolveBounds = SolveBounds {
+    limit: 100000,
+    rounds: 64,
+    order: 256,
+    aim: Aim::Deep,
+    tells_why: false,
+};
+
 /// `-` is standard input, where a certificate is asked for alone.
 static BY_INPUT: [Asks; 8] = [
-    Asks(
-        "check|-|--limit|8",
-        Asked::Plan(Plan::Check {
-            file: None,
-            limit: 8,
-        }),
-    ),
-    Asks(
-        "check|./-",
-        Asked::Plan(Plan::Check {
-            file: Some("./-"),
-            limit: 100000,
-        }),
-    ),
-    Asks(
-        "show|-",
-        Asked::Plan(Plan::Show {
-            file: None,
-            limit: 100000,
-        }),
-    ),
+    Asks("check|-|--limit|8", Asked::Check(None, 8)),
+    Asks("check|./-", Asked::Check(Some("./-"), 100000)),
+    Asks("show|-", Asked::Show(None, 100000)),
     Asks(
         "describe",
-        Asked::Plan(Plan::Describe {
-            file: None,
-            output: Output::Description,
-            basis: false,
-            limit: 100000,
-        }),
+        Asked::Describe(None, Output::Description, false, 100000),
     ),
     Asks(
         "describe|-|--basis",
-        Asked::Plan(Plan::Describe {
-            file: None,
-            output: Output::Description,
-            basis: true,
-            limit: 100000,
-        }),
+        Asked::Describe(None, Output::Description, true, 100000),
     ),
-    Asks(
-        "play|-|1 2 2",
-        Asked::Plan(Plan::Play {
-            file: None,
-            position: "1 2 2",
-            limit: 100000,
-        }),
-    ),
+    Asks("play|-|1 2 2", Asked::Play(None, "1 2 2", 100000)),
     Asks(
         "catalogue|-",
-        Asked::Plan(Plan::Catalogue {
-            file: "-",
-            task: CatalogueTask::Print,
-            limit: 100000,
-        }),
+        Asked::Catalogue("-", CatalogueTask::Print, 100000),
     ),
-    Asks("desk|-", Asked::Plan(Plan::Desk { script: "-" })),
+    Asks("desk|-", Asked::Desk("-")),
 ];
 
 #[test]
 fn asks_for_plans(rt: HostRuntime) {
-    assert!(rt; count_held(rt.alloc(), &ASKED) == 57 && count_held(rt.alloc(), &BY_INPUT) == 8);
+    compare(&rt, "ASKED", count_held(rt.alloc(), &ASKED), 60);
+    compare(&rt, "BY_INPUT", count_held(rt.alloc(), &BY_INPUT), 8);
+    compare(&rt, "ASKED_MANY", count_held(rt.alloc(), &ASKED_MANY), 5);
 }
 
 /// Whether the fault has this status, and a text with this part.
@@ -449,7 +433,7 @@ impl Row for Refuses {
     }
 }
 
-static REFUSED: [Refuses; 145] = [
+static REFUSED: [Refuses; 146] = [
     Refuses("play|-|-", Why::Exclusive(Exclusion::Play)),
     Refuses("play|--limit=3|-|-", Why::Exclusive(Exclusion::Play)),
     Refuses("play|a.mqc|-|--limit|0", Why::Number(Quantity::Limit)),
@@ -468,6 +452,7 @@ static REFUSED: [Refuses; 145] = [
     ),
     Refuses("play|a.mqc|1|--limit|x", Why::Number(Quantity::Limit)),
     Refuses("catalogue|x.json|--limit|0", Why::Number(Quantity::Limit)),
+    Refuses("solve|0.3|0.33|--limit|0", Why::Number(Quantity::Limit)),
     Refuses("solve|0.3|--rounds|0", Why::Number(Quantity::Rounds)),
     Refuses("solve|0.3|--rounds|1001", Why::Number(Quantity::Rounds)),
     Refuses("solve|0.3|--heaps|1", Why::Number(Quantity::Heaps)),
@@ -646,7 +631,7 @@ static REFUSED: [Refuses; 145] = [
     ),
     Refuses(
         "solve|--help",
-        Why::Help("Look for the misère quotient of a code, and print its certificate"),
+        Why::Help("Look for the misère quotient of each code, and print its certificate"),
     ),
     Refuses(
         "show|--help",
@@ -708,7 +693,7 @@ static REFUSED: [Refuses; 145] = [
     Refuses("check|--help", Why::Help("[FILE]")),
     Refuses("check|--help", Why::Help("1 to 1000000, by default 100000")),
     Refuses("help|check", Why::Help("1 to 1000000, by default 100000")),
-    Refuses("solve|--help", Why::Help("<CODE>")),
+    Refuses("solve|--help", Why::Help("<CODE>...")),
     Refuses("solve|--help", Why::Help("--limit <N>")),
     Refuses("solve|--help", Why::Help("1 to 1000000, by default 100000")),
     Refuses("solve|--help", Why::Help("--rounds <R>")),
@@ -739,8 +724,8 @@ fn is_incomplete(alloc: Global) -> bool {
 
 #[test]
 fn tells_why_words_ask_for_nothing(rt: HostRuntime) {
-    assert!(rt; count_held(rt.alloc(), &REFUSED) == 145);
-    assert!(rt; is_incomplete(rt.alloc()));
+    compare(&rt, "REFUSED", count_held(rt.alloc(), &REFUSED), 146);
+    compare(&rt, "no command", is_incomplete(rt.alloc()), true);
 }
 
 /// Whether the word is asked for as a file and as a position.
@@ -772,6 +757,6 @@ fn refuses_many(alloc: Global, count: usize) -> bool {
 /// A word of more than 2^16 bytes, twice, and more words than any command takes.
 #[test]
 fn memory_suffices_for_long_words(rt: HostRuntime) {
-    assert!(rt; takes_long_words(rt.alloc()));
-    assert!(rt; refuses_many(rt.alloc(), 300));
+    compare(&rt, "long words", takes_long_words(rt.alloc()), true);
+    compare(&rt, "many words", refuses_many(rt.alloc(), 300), true);
 }

@@ -15,7 +15,7 @@ const LIMIT: u32 = 100000;
 /// What is asked of a description.
 struct Asked(&'static str, u32, Form, Output);
 
-/// Whether this is said of the file a.mqc.
+/// Whether this is said of the file a.mqc, and nothing beside it.
 fn describes(
     alloc: Global,
     folder: &mut MemoryFolder,
@@ -34,7 +34,7 @@ fn describes(
         folder,
         &mut input,
     ) {
-        Ok(said) => is_said(&said, succeeds, text),
+        Ok(noted) => is_said(&noted.said, succeeds, text) && noted.note.is_none(),
         Err(_) => false,
     }
 }
@@ -266,10 +266,10 @@ fn describes_from_to(alloc: Global, held: &str, beginning: &str, end: &str) -> b
                 &mut folder,
                 &mut input,
             ) {
-                Ok(said) => {
-                    said.succeeds
-                        && said.text.as_slice().starts_with(beginning.as_bytes())
-                        && said.text.as_slice().ends_with(end.as_bytes())
+                Ok(noted) => {
+                    noted.said.succeeds
+                        && noted.said.text.as_slice().starts_with(beginning.as_bytes())
+                        && noted.said.text.as_slice().ends_with(end.as_bytes())
                 }
                 Err(_) => false,
             }

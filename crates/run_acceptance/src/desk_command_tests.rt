@@ -1,5 +1,6 @@
 //! Worked scripts: the status, the lines that are printed, and what is told.
 use crate::certificates::{OF_0_3, OF_0_33, OF_0_75, OF_0_B, PART_OF_0_75, RIGHT_UP_TO_8};
+use crate::comparing::compare;
 use crate::files::folder_with;
 use crate::rows::{Row, count_held};
 use desk_command::run_file;
@@ -162,23 +163,28 @@ refused 20 Full\nrefused 20 Full\n";
 /// A script that opens one job too many, twice.
 static FULL: Script = Script(FILLING, 0, FILLED, "");
 
-/// Whether a script of 2,000 steps ends well, and each of them is answered.
+/// Whether a script of these steps ends well, and these lines answer them.
+fn answers(alloc: Global, steps: &str, lines: &str) -> bool {
+    let mut out = MemorySink::new(alloc);
+    ends(alloc, steps, &mut out, 0, "") && out.bytes() == lines.as_bytes()
+}
+
+/// Whether a script of 2,000 steps is answered by as many lines.
 fn answers_each(alloc: Global) -> bool {
-    let steps = "drop 1 1\n".repeat(alloc, 2000);
-    let lines = "refused 21 NoJob\n".repeat(alloc, 2000);
-    match (steps, lines) {
-        (Ok(steps), Ok(lines)) => {
-            let mut out = MemorySink::new(alloc);
-            ends(alloc, steps.as_str(), &mut out, 0, "") && out.bytes() == lines.as_bytes()
-        }
-        _ => false,
+    match "drop 1 1\n".repeat(alloc, 2000) {
+        Ok(steps) => match "refused 21 NoJob\n".repeat(alloc, 2000) {
+            Ok(lines) => answers(alloc, steps.as_str(), lines.as_str()),
+            Err(_) => false,
+        },
+        Err(_) => false,
     }
 }
 
 #[test]
 fn ends_as_worked_out(rt: HostRuntime) {
-    assert!(rt; count_held(rt.alloc(), &ROWS) == 14 && FULL.holds(rt.alloc()));
-    assert!(rt; answers_each(rt.alloc()));
+    compare(&rt, "ROWS", count_held(rt.alloc(), &ROWS), 14);
+    compare(&rt, "FULL", FULL.holds(rt.alloc()), true);
+    compare(&rt, "2000 steps", answers_each(rt.alloc()), true);
 }
 
 /// Whether a script stops where its line of this number can't be written, which is told, and what
@@ -202,5 +208,5 @@ fn first_not_cut(alloc: Global, script: &Script) -> u64 {
 
 #[test]
 fn stops_where_a_line_can_not_be_written(rt: HostRuntime) {
-    assert!(rt; first_not_cut(rt.alloc(), &ROWS[0]) == 12);
+    compare(&rt, "lines", first_not_cut(rt.alloc(), &ROWS[0]), 12);
 }

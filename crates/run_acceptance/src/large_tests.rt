@@ -1,5 +1,5 @@
 //! A certificate of 304 elements, given to each command that reads one, and a catalogue of 600 entries.
-use crate::said::is_said;
+use crate::comparing::compare;
 use allocation::Memory;
 use catalogue_command::act;
 use command_results::Said;
@@ -55,14 +55,20 @@ fn is_described(alloc: Global, folder: &mut MemoryFolder) -> bool {
         folder,
         &mut input,
     ) {
-        Ok(said) => goes_from_to(&said, "Q_16(0.6) = < a,", "\nheaps to 16\n"),
+        Ok(noted) => {
+            goes_from_to(&noted.said, "Q_16(0.6) = < a,", "\nheaps to 16\n") && noted.note.is_none()
+        }
         Err(_) => false,
     }
 }
 
-/// Whether its relations aren't given as `present` takes them: between two powers of each letter their
-/// exponents are so large that the box of all vectors below them is too.
-fn is_not_presented(alloc: Global, folder: &mut MemoryFolder) -> bool {
+/// The line beside relations whose box `present` doesn't take.
+const BOX: &str =
+    "misere: present refuses these relations: a box above 65536, or more than 256 elements\n";
+
+/// Whether its relations are given, and beside them that `present` refuses them: between two powers of
+/// each letter their exponents are so large that the box of all vectors below them is too.
+fn is_beyond_present(alloc: Global, folder: &mut MemoryFolder) -> bool {
     let mut input = MemorySource::new(b"");
     match describe(
         alloc,
@@ -73,7 +79,7 @@ fn is_not_presented(alloc: Global, folder: &mut MemoryFolder) -> bool {
         folder,
         &mut input,
     ) {
-        Ok(said) => is_said(&said, false, "not described within the bounds of present\n"),
+        Ok(noted) => goes_from_to(&noted.said, "a^2=1 ", "\n") && noted.note == Some(BOX),
         Err(_) => false,
     }
 }
@@ -126,16 +132,16 @@ fn is_kept(alloc: Global, folder: &mut MemoryFolder) -> bool {
         && gives(alloc, folder)
 }
 
-/// Whether all commands do as they should with the certificate.
-fn is_taken(alloc: Global) -> bool {
+/// Which commands do as they should with the certificate.
+fn is_taken(alloc: Global) -> [bool; 4] {
     match folder(alloc) {
-        Some(mut folder) => {
-            is_described(alloc, &mut folder)
-                && is_not_presented(alloc, &mut folder)
-                && is_shown(alloc, &mut folder)
-                && is_kept(alloc, &mut folder)
-        }
-        None => false,
+        Some(mut folder) => [
+            is_described(alloc, &mut folder),
+            is_beyond_present(alloc, &mut folder),
+            is_shown(alloc, &mut folder),
+            is_kept(alloc, &mut folder),
+        ],
+        None => [false; 4],
     }
 }
 
@@ -199,10 +205,15 @@ fn lists(alloc: Global, count: u16) -> bool {
 
 #[test]
 fn takes_large_certificates(rt: HostRuntime) {
-    assert!(rt; is_taken(rt.alloc()));
+    compare(
+        &rt,
+        "described, presented, shown, kept",
+        is_taken(rt.alloc()),
+        [true; 4],
+    );
 }
 
 #[test]
 fn lists_many_entries(rt: HostRuntime) {
-    assert!(rt; lists(rt.alloc(), 600));
+    compare(&rt, "600 parts", lists(rt.alloc(), 600), true);
 }

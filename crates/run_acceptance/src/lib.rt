@@ -13,6 +13,8 @@ mod certificates;
 #[cfg(test)]
 mod command_line_tests;
 #[cfg(test)]
+mod comparing;
+#[cfg(test)]
 mod describe_command_tests;
 #[cfg(test)]
 mod desk_command_tests;

@@ -1,4 +1,5 @@
 //! Worked presentations, and texts that present no finite monoid.
+use crate::comparing::compare;
 use crate::rows::{Row, count_held};
 use crate::said::is_said;
 use present_command::present;
@@ -54,5 +55,5 @@ row 6 7 2 7 4 6 6 7\nrow 7 6 4 6 2 7 7 6\n",
 
 #[test]
 fn presents_monoids(rt: HostRuntime) {
-    assert!(rt; count_held(rt.alloc(), &ROWS) == 16);
+    compare(&rt, "ROWS", count_held(rt.alloc(), &ROWS), 16);
 }

@@ -1,4 +1,5 @@
 //! Tables that are described within the bounds, and others that are not.
+use crate::comparing::compare;
 use crate::rows::{Row, count_held};
 use allocation::Memory;
 use monoid_table::Table;
@@ -154,16 +155,17 @@ fn counts(alloc: Global, table: &Table) -> (usize, usize) {
     }
 }
 
-/// Whether of the group of a with a^20 = 1, and of b with b^2 = a^2, one relation more is given as
-/// `present` takes them: b^20 = 1, which is between powers of b alone.
-fn adds_a_power(alloc: Global) -> bool {
+/// The same of the group of a with a^20 = 1, and of b with b^2 = a^2. One more is given as `present`
+/// takes them: b^20 = 1, which is between powers of b alone.
+fn counts_of_double(alloc: Global) -> (usize, usize) {
     match table_of(alloc, &Monoid::Double(20)) {
-        Some(table) => counts(alloc, &table) == (2, 3),
-        None => false,
+        Some(table) => counts(alloc, &table),
+        None => (0, 0),
     }
 }
 
 #[test]
 fn describes_within_bounds(rt: HostRuntime) {
-    assert!(rt; count_held(rt.alloc(), &ROWS) == 8 && adds_a_power(rt.alloc()));
+    compare(&rt, "ROWS", count_held(rt.alloc(), &ROWS), 8);
+    compare(&rt, "relations", counts_of_double(rt.alloc()), (2, 3));
 }

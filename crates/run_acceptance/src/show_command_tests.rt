@@ -1,5 +1,6 @@
 //! Worked quotients, shown line by line.
 use crate::certificates::{OF_0_1, OF_0_33, OF_0_B, PART_OF_0_3};
+use crate::comparing::compare;
 use crate::files::folder_with;
 use crate::rows::{Row, count_held};
 use crate::said::is_said;
@@ -114,5 +115,6 @@ fn shows_the_large(alloc: Global) -> bool {
 
 #[test]
 fn shows_quotients(rt: HostRuntime) {
-    assert!(rt; count_held(rt.alloc(), &ROWS) == 6 && shows_the_large(rt.alloc()));
+    compare(&rt, "ROWS", count_held(rt.alloc(), &ROWS), 6);
+    compare(&rt, "of order 258", shows_the_large(rt.alloc()), true);
 }

@@ -2,10 +2,12 @@
 use crate::by_rule::{by_rule, digits_of};
 use crate::certificates::{OF_0_1, OF_0_3, OF_0_33, OF_0_75, OF_0_B};
 use crate::rows::{Row, count_held};
-use command_results::Stop;
+use command_results::{LARGEST_INPUT, Stop};
+use devices::FailingSource;
 use requests::Aim;
-use solve_command::{SolveBounds, solve};
+use solve_command::{SolveBounds, solve, solve_lines, solve_many};
 use std::alloc::Global;
+use streams::{MemorySource, Source};
 
 /// The quotient of 0.03, of order 2.
 pub const OF_0_03: &str =
@@ -252,6 +254,98 @@ static LARGE: [Aimed; 3] = [
         "mqc 2\ncode 0.4\norder 360\nstart 32\nperiod 0\n",
     ),
 ];
+
+/// The certificates of 0.3 and of 0.1, with a word between them that is no code.
+const AROUND: &str =
+    "mqc 1\ncode 0.3\norder 2\nstart 1\nperiod 2\nphi 1 0\nportion 1\nwords 0:1\nrow 0 1\n\
+row 1 0\napart 0\nend\n0.x: not a code\nmqc 1\ncode 0.1\norder 2\nstart 2\nperiod 1\nphi 1 0\n\
+portion 1\nwords 0:1\nrow 0 1\nrow 1 0\napart 0\nend\n";
+
+/// Three words, the bounds, whether a certificate of each is found, and what is said.
+struct Many([&'static str; 3], Bounds, bool, &'static str);
+
+impl Row for Many {
+    fn holds(&self, alloc: Global) -> bool {
+        let Many(words, bounds, finds, text) = *self;
+        match solve_many(alloc, &words, bounds_of(100000, bounds)) {
+            Ok(said) => said.succeeds == finds && said.text.as_slice() == text.as_bytes(),
+            Err(_) => false,
+        }
+    }
+}
+
+static MANY: [Many; 3] = [
+    Many(["0.3", "0.x", "0.1"], USUAL, false, AROUND),
+    Many(
+        ["0.33", "-", ""],
+        (64, 2, 64),
+        false,
+        "0.33: gave up 2 Empty\n-: not a code\n: not a code\n",
+    ),
+    Many(
+        ["0.33", "0.30", "0.33"],
+        (0, 24, 64),
+        false,
+        "0.33: gave up 1 Rounds\n0.30: not a code\n0.33: gave up 1 Rounds\n",
+    ),
+];
+
+/// Lines on standard input, the bounds, whether a certificate of each is found, and what is said.
+struct Lines(&'static str, Bounds, bool, &'static str);
+
+impl Row for Lines {
+    fn holds(&self, alloc: Global) -> bool {
+        let Lines(lines, bounds, finds, text) = *self;
+        let mut input = MemorySource::new(lines.as_bytes());
+        match solve_lines(alloc, bounds_of(100000, bounds), &mut input) {
+            Ok(said) => said.succeeds == finds && said.text.as_slice() == text.as_bytes(),
+            Err(_) => false,
+        }
+    }
+}
+
+static LINES: [Lines; 7] = [
+    Lines("", USUAL, true, ""),
+    Lines("0.3", USUAL, true, OF_0_3),
+    Lines("0.3\n", USUAL, true, OF_0_3),
+    Lines("0.3\n0.x\n0.1\n", USUAL, false, AROUND),
+    Lines("0.3\n0.x\n0.1", USUAL, false, AROUND),
+    Lines(
+        "0.33\n\n0.3\r\n",
+        (64, 2, 64),
+        false,
+        "0.33: gave up 2 Empty\n: not a code\n0.3\r: not a code\n",
+    ),
+    Lines("\n", USUAL, false, ": not a code\n"),
+];
+
+/// Whether this is why nothing is said of the lines.
+fn stops_on_lines<S: Source>(alloc: Global, input: &mut S, stop: Stop<'_>) -> bool {
+    match solve_lines(alloc, bounds_of(100000, USUAL), input) {
+        Ok(_) => false,
+        Err(reason) => reason == stop,
+    }
+}
+
+/// Whether more than is read can't be read.
+fn too_much_is_not_read(alloc: Global) -> bool {
+    match "\n".repeat(alloc, LARGEST_INPUT + 1) {
+        Ok(lines) => {
+            let mut input = MemorySource::new(lines.as_bytes());
+            stops_on_lines(alloc, &mut input, Stop::Read("standard input"))
+        }
+        Err(_) => false,
+    }
+}
+
+#[test]
+fn says_of_each_code_what_there_is_to_say(rt: HostRuntime) {
+    assert!(rt; count_held(rt.alloc(), &MANY) == 3);
+    assert!(rt; count_held(rt.alloc(), &LINES) == 7);
+    let mut lines = FailingSource::new(MemorySource::new(b"0.3\n"), 1);
+    assert!(rt; stops_on_lines(rt.alloc(), &mut lines, Stop::Read("standard input")));
+    assert!(rt; too_much_is_not_read(rt.alloc()));
+}
 
 /// How the two ends that depend on other bounds are told.
 fn tells_members_and_rounds(alloc: Global) -> bool {

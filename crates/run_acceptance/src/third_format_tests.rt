@@ -1,4 +1,5 @@
 //! Quotients whose certificates are in the third format: found, and kept in a catalogue.
+use crate::comparing::compare;
 use allocation::Memory;
 use catalogue_command::act;
 use folders::MemoryFolder;
@@ -52,7 +53,7 @@ fn found(alloc: Global, wanted: &Found) -> Option<Vec<u8>> {
     }
 }
 
-/// How many quotients are found.
+/// How many quotients are found, up to the first that isn't.
 fn count_found(alloc: Global, rows: &[Found]) -> usize {
     let mut count = 0usize;
     for row in rows {
@@ -99,10 +100,10 @@ fn is_kept(alloc: Global) -> Option<bool> {
 
 #[test]
 fn finds_and_keeps_an_order_above_512(rt: HostRuntime) {
-    assert!(rt; is_kept(rt.alloc()) == Some(true));
+    compare(&rt, "0.07 to 33", is_kept(rt.alloc()), Some(true));
 }
 
 #[test]
 fn finds_games_of_large_starts(rt: HostRuntime) {
-    assert!(rt; count_found(rt.alloc(), &WHOLE) == 2);
+    compare(&rt, "WHOLE", count_found(rt.alloc(), &WHOLE), 2);
 }

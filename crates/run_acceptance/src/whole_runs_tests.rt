@@ -3,6 +3,7 @@ mod fakes;
 
 use self::fakes::{SAMPLES, Words};
 use crate::certificates::{OF_0_3, OF_0_33, OF_0_B};
+use crate::comparing::compare;
 use crate::files::{EMPTY, ONE_ENTRY, folder_of, holds};
 use crate::rows::{Row, Step, count_held, count_steps};
 use crate::words::line_words;
@@ -64,7 +65,7 @@ fn ends_with<S: Source>(alloc: Global, run: &Run, input: &mut S, held: &str) -> 
 const YES: &str = "yes 0.3 order 2 start 1 period 2\n";
 
 /// Of most a second call of the folder would fail.
-static ROWS: [Run; 73] = [
+static ROWS: [Run; 75] = [
     Run(
         "check|0.33.mqc",
         2,
@@ -271,6 +272,14 @@ ideal I =\n  a^2-1,\n  b^3-b,\n  b*c-a*b,\n  c^2-b^2;\n",
     Run("play|nowhere.mqc|01", 2, 2, "", "misere: not a position\n"),
     Run("solve|0.x", 2, 2, "", "misere: not a code\n"),
     Run(
+        "solve|0.x|0.33|--heaps|2",
+        2,
+        1,
+        "0.x: not a code\n0.33: gave up 2 Empty\n",
+        "",
+    ),
+    Run("solve|-", 2, 0, "", ""),
+    Run(
         "catalogue|nowhere.json|--get|0.x",
         2,
         2,
@@ -394,13 +403,14 @@ struct Unread(Run);
 
 const UNREAD_INPUT: &str = "misere: cannot read standard input\n";
 
-static UNREAD: [Unread; 6] = [
+static UNREAD: [Unread; 7] = [
     Unread(Run("check", 2, 3, "", UNREAD_INPUT)),
     Unread(Run("check|-", 2, 3, "", UNREAD_INPUT)),
     Unread(Run("show|-", 2, 3, "", UNREAD_INPUT)),
     Unread(Run("describe", 2, 3, "", UNREAD_INPUT)),
     Unread(Run("play|-|1", 2, 3, "", UNREAD_INPUT)),
     Unread(Run("play|0.3.mqc|-", 2, 3, "", UNREAD_INPUT)),
+    Unread(Run("solve|-", 2, 3, "", UNREAD_INPUT)),
 ];
 
 impl Row for Unread {
@@ -417,9 +427,11 @@ fn makes_anew(alloc: Global) -> bool {
 
 #[test]
 fn does_what_is_asked(rt: HostRuntime) {
-    assert!(rt; count_held(rt.alloc(), &ROWS) == 73 && makes_anew(rt.alloc()));
-    assert!(rt; count_held(rt.alloc(), &READ) == 6 && count_held(rt.alloc(), &UNREAD) == 6);
-    assert!(rt; count_held(rt.alloc(), &PLAYED) == 2);
+    compare(&rt, "ROWS", count_held(rt.alloc(), &ROWS), 75);
+    compare(&rt, "MADE", makes_anew(rt.alloc()), true);
+    compare(&rt, "READ", count_held(rt.alloc(), &READ), 6);
+    compare(&rt, "UNREAD", count_held(rt.alloc(), &UNREAD), 7);
+    compare(&rt, "PLAYED", count_held(rt.alloc(), &PLAYED), 2);
 }
 
 /// A run whose output can't be written, which is told.
@@ -486,7 +498,7 @@ impl Step for Change {
     }
 }
 
-/// How many runs leave the samples so.
+/// How many runs leave the samples so, up to the first that doesn't.
 fn count_changed(alloc: Global) -> usize {
     match folder_of(alloc, &SAMPLES, 0) {
         Ok(mut folder) => count_steps(alloc, &mut folder, &CHANGES),
@@ -496,8 +508,8 @@ fn count_changed(alloc: Global) -> usize {
 
 #[test]
 fn writes_what_it_can_and_the_catalogue_alone(rt: HostRuntime) {
-    assert!(rt; count_held(rt.alloc(), &UNWRITTEN) == 4);
-    assert!(rt; count_changed(rt.alloc()) == 10);
+    compare(&rt, "UNWRITTEN", count_held(rt.alloc(), &UNWRITTEN), 4);
+    compare(&rt, "CHANGES", count_changed(rt.alloc()), 10);
 }
 
 /// Six words, and one that is no text behind two.
@@ -608,6 +620,6 @@ static USAGES: [Used; 8] = [
 
 #[test]
 fn tells_usage_and_words_that_are_no_text(rt: HostRuntime) {
-    assert!(rt; count_held(rt.alloc(), &USAGES) == 8);
-    assert!(rt; takes_texts_alone(rt.alloc()));
+    compare(&rt, "USAGES", count_held(rt.alloc(), &USAGES), 8);
+    compare(&rt, "no text", takes_texts_alone(rt.alloc()), true);
 }

@@ -2,20 +2,19 @@
 use Rattle.std.specs.Prelude.{◌≡◌, ◌≢◌, ◌⊎◌, ⊤, ◌≤◌, ◌<◌, ℕ, Bool, true, false, List, ◌++◌, length, Result, Ok, Err, codes, decimal}
 use Rattle.misere_theory.specs.Certificates.{Certificate, Accepted, kind_of}
 use Rattle.misere_theory.specs.declared.TheConstants.{LARGEST_PART}
-use Rattle.quotient_search.specs.declared.aim.TheConstants.{DEEPEST}
 use Rattle.octal_code.specs.Text.{IsCodeText}
 use Rattle.certificate_text.specs.Spelling.{Spells}
 use Rattle.command_results.specs.declared.stop.Stop.{Stop}
 use Rattle.command_results.specs.declared.stop.Stop.TheVariants.{Memory, NotACode}
-use Rattle.proposers.specs.declared.reasons.Reason.{Reason}
-use Rattle.proposers.specs.declared.reasons.Reason.TheVariants.{TooLarge, Repairs, Work, NoPeriod, OneElement, Members, Refused}
+use Rattle.quotient_search.specs.declared.aim.Reason.{Reason}
+use Rattle.quotient_search.specs.declared.aim.Reason.TheVariants.{TooLarge, Repairs, Work, NoPeriod, OneElement, Members, Refused}
 use Rattle.quotient_finder.specs.Histories.{Events}
 use Rattle.quotient_finder.specs.Rounds.{HasSearched}
 use Rattle.quotient_finder.specs.declared.gave_up.GaveUp.{GaveUp}
 use Rattle.quotient_finder.specs.declared.gave_up.GaveUp.TheVariants.{Rounds, Empty}
 use Rattle.requests.specs.declared.plans.Aim.{Aim}
 use Rattle.requests.specs.declared.plans.Aim.TheVariants.{Whole, Deep, Part, Furthest}
-use Rattle.solve_command.specs.declared.bounds.SolveBounds.{SolveBounds}
+use Rattle.requests.specs.declared.plans.SolveBounds.{SolveBounds}
 
 -- the text isn't a code's
 abbrev pub IsNoCode : List ℕ → Type 0
@@ -89,13 +88,6 @@ reason_line (NoPeriod heaps order) =
 reason_line OneElement = codes "one element\n"
 reason_line Members = codes "members\n"
 reason_line Refused = codes "refused\n"
-
--- what the search for the reason looks at: the heaps up to the largest, and whether they are a part
-abbrev pub LooksAt : Aim → ℕ → Bool → Type 0
-LooksAt (Whole heaps) most part = (most ≡ heaps) × (part ≡ false)
-LooksAt Deep most part = (most ≡ DEEPEST) × (part ≡ false)
-LooksAt (Part last) most part = (most ≡ last) × (part ≡ true)
-LooksAt Furthest most part = (1 ≤ most) × (most ≤ LARGEST_PART) × (part ≡ true)
 
 -- it is the line of some reason
 abbrev pub IsReasonLine : List ℕ → Type 0

@@ -1,10 +1,11 @@
 //! `solve`: the search for the certificate of a code, and what is said of it.
 #![tactic(auto)]
 
-mod bounds;
+mod many;
 mod search;
 mod solving;
 mod told;
 
-pub use bounds::SolveBounds;
+pub use many::{solve_lines, solve_many};
+pub use requests::SolveBounds;
 pub use solving::{solve, solve_bytes};

@@ -4,8 +4,7 @@ ghost use Rattle.octal_code.specs.Text.{IsCodeText};
 ghost use Rattle.certificate_text.specs.Spelling.{Spells};
 ghost use Rattle.solve_command.specs.Solved.{Finds, IsNoCode, IsSolveCause, Solves, rounds_lines};
 
-use crate::bounds::SolveBounds;
-use crate::search::search;
+use crate::search::{Searched, search};
 use crate::told::empty_text;
 use allocation::Memory;
 use answers::Certified;
@@ -13,6 +12,7 @@ use certificate::write;
 use command_results::{Said, Stop};
 use octal_code::Code;
 use quotient_finder::GaveUp;
+use requests::SolveBounds;
 use std::alloc::Global;
 use streams::MemorySink;
 
@@ -52,13 +52,17 @@ fn code_of(word: &[u8]) -> Result<Code, Stop<'static>>
 fn answer(alloc: Global, code: &Code, bounds: SolveBounds) -> Result<Said, Memory>
     ensures { IfOk result (λ s. Finds code.now bounds s.text.items s.succeeds) }
 {
-    match search(alloc, code, bounds) {
+    let Searched { came, reason } = search(alloc, code, bounds)?;
+    match came {
         Ok(certified) if certified.cert().order() as u32 <= bounds.order => Ok(Said {
             text: spelling(alloc, &certified)?,
             succeeds: true,
         }),
         Err(GaveUp::Memory) => Err(Memory),
-        Err(GaveUp::Empty) => Ok(Said::no(empty_text(alloc, code, bounds)?.into_bytes())),
+        Err(GaveUp::Empty) => {
+            let text = empty_text(alloc, reason, bounds.tells_why)?;
+            Ok(Said::no(text.into_bytes()))
+        }
         // no proposer drafts a larger order
         Ok(_) => Ok(Said::no(rounds_text(alloc, bounds.tells_why)?)),
         Err(GaveUp::Rounds) => Ok(Said::no(rounds_text(alloc, bounds.tells_why)?)),

@@ -1,13 +1,13 @@
 -- What is handed over where a search spells a certificate.
-use Rattle.std.proofs.Common.{◌≡◌, ◌≤◌, ◌∙◌, refl, sym, subst, ℕ, Bool, true, false, List, arith}
+use Rattle.std.proofs.Common.{◌≡◌, ◌≤◌, ◌∙◌, sym, subst, ℕ, Bool, true, false, List, arith}
 use Rattle.std.specs.Prelude.{Ok}
 use Rattle.misere_theory.specs.Certificates.{kind_of}
 use Rattle.octal_code.specs.Text.{IsCodeText}
 use Rattle.requests.specs.declared.plans.Aim.{Aim}
 use Rattle.requests.specs.declared.plans.Aim.TheVariants.{Whole, Deep, Part, Furthest}
-use Rattle.solve_command.specs.declared.bounds.SolveBounds.{SolveBounds}
+use Rattle.requests.specs.declared.plans.SolveBounds.{SolveBounds}
 use Rattle.solve_command.specs.Solved.{IsAimedAt, IsSearched, Solves}
-use Rattle.solve_library.specs.Found.{AreBounds, IsAim, IsCertificateFor, IsOfKind, Tells}
+use Rattle.solve_library.specs.Found.{AreBounds, IsAim, IsOfKind, Tells}
 use Rattle.solve_library.specs.declared.solving.Asked.{Asked}
 
 -- a certificate of a kind that is aimed at is of the kind that is asked
@@ -20,9 +20,10 @@ of_aim aim heaps kind (Part last) is at =
 of_aim aim heaps kind Furthest is at =
     ((λ e. absurd (omega arith)), (λ e. absurd (omega arith)), (λ e. at))
 
-pub handed : (word bytes : List ℕ) (a : Asked) (bounds : SolveBounds) (found : Bool)
-    → found ≡ true → AreBounds a bounds → Solves word bounds bytes found → IsCertificateFor word a bytes
-handed word bytes a bounds true is are (code, spells, p) =
+-- what a search with the reasons says is what is told of it
+pub explained : (word bytes : List ℕ) (a : Asked) (bounds : SolveBounds) (found : Bool)
+    → AreBounds a bounds → bounds.tells_why ≡ true → Solves word bounds bytes found → Tells word a bytes found
+explained word bytes a bounds true are why (code, spells, p) =
     record {
       certificate = p.c;
       of_code = subst (IsCodeText word) (sym p.asked_for.of_code) spells;
@@ -34,10 +35,4 @@ handed word bytes a bounds true is are (code, spells, p) =
       are_bounds = are;
       searched = subst (λ (d : List ℕ). IsSearched d bounds (Ok p.c)) (sym p.asked_for.of_code) p.searched;
     }
-handed word bytes a bounds false is are p = cc
-
--- what a search with the reasons says is what is told of it
-pub explained : (word bytes : List ℕ) (a : Asked) (bounds : SolveBounds) (found : Bool)
-    → AreBounds a bounds → bounds.tells_why ≡ true → Solves word bounds bytes found → Tells word a bytes found
-explained word bytes a bounds true are why p = handed word bytes a bounds true refl are p
 explained word bytes a bounds false are why p = (bounds, are, why, p)

@@ -9,7 +9,7 @@ use Rattle.answers.specs.ByteVerdicts.{IsTrueOf, refused}
 use Rattle.answers.specs.ByteVerdicts.ByteVerdict.{Yes}
 use Rattle.answers.specs.Refusals.{refusal_number}
 use Rattle.answers.specs.declared.refusal.Refusal.{Refusal}
-use Rattle.checker.specs.Turns.{verdict}
+use Rattle.check_machine.specs.Turns.{verdict}
 use Rattle.descriptions.specs.Described.{IsDescription, IsPresentable}
 use Rattle.quotient_search.specs.declared.aim.TheConstants.{DEEPEST}
 use Rattle.relations.specs.declared.fault.Undescribed.{Undescribed}
@@ -17,8 +17,9 @@ use Rattle.relations.specs.declared.fault.Undescribed.TheVariants.{Letters, Expo
 use Rattle.relations.specs.declared.text.Notation.TheVariants.{Plain, Latex}
 use Rattle.requests.specs.declared.plans.Aim.{Aim}
 use Rattle.requests.specs.declared.plans.Aim.TheVariants.{Whole, Deep, Part, Furthest}
+use Rattle.requests.specs.declared.plans.SolveBounds.{SolveBounds}
+use Rattle.requests.specs.declared.ranges.TheConstants.{FEWEST_HEAPS, LARGEST_LIMIT, LEAST_ORDER, MOST_HEAPS, MOST_ROUNDS}
 use Rattle.solve_command.specs.Solved.{IsNoCode, IsSearched, Solves}
-use Rattle.solve_command.specs.declared.bounds.SolveBounds.{SolveBounds}
 use Rattle.solve_library.specs.declared.solving.Asked.{Asked}
 
 -- 0 aims at a full certificate, 1 at that of the heaps 1 to `heaps`, and 2 at that of some first heaps
@@ -37,14 +38,15 @@ IsAim aim heaps Furthest = aim ≡ 2
 -- the aim, with its heaps and the order that it allows, is in its range
 abbrev pub IsAimInRange : Asked → Type 0
 IsAimInRange a =
-    ((a.aim ≡ 0) × (2 ≤ a.heaps) × (a.heaps ≤ DEEPEST)
-    × ((64 < a.heaps) ⊎ (a.order ≤ LARGEST_FIRST_ORDER)))
+    ((a.aim ≡ 0) × (FEWEST_HEAPS ≤ a.heaps) × (a.heaps ≤ DEEPEST)
+    × ((MOST_HEAPS < a.heaps) ⊎ (a.order ≤ LARGEST_FIRST_ORDER)))
     ⊎ (((a.aim ≡ 1) × (1 ≤ a.heaps) × (a.heaps ≤ LARGEST_PART)) ⊎ (a.aim ≡ 2))
 
 -- limit, rounds and order are in their ranges
 abbrev pub AreNumbersInRange : Asked → Type 0
-AreNumbersInRange a = ((1 ≤ a.limit) × (a.limit ≤ 1000000)) × ((1 ≤ a.rounds) × (a.rounds ≤ 1000))
-    × ((2 ≤ a.order) × (a.order ≤ LARGEST_ORDER))
+AreNumbersInRange a = ((1 ≤ a.limit) × (a.limit ≤ LARGEST_LIMIT))
+    × ((1 ≤ a.rounds) × (a.rounds ≤ MOST_ROUNDS))
+    × ((LEAST_ORDER ≤ a.order) × (a.order ≤ LARGEST_ORDER))
 
 -- all that is asked is in its range
 abbrev pub IsInRange : Asked → Type 0

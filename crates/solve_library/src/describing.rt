@@ -1,12 +1,12 @@
 //! The description of a certified quotient.
-ghost use Rattle.std.specs.Prelude.{◌≡◌, ◌≢◌, ◌↔◌, ◌≤◌, ◌⊎◌, IfOk, IfErr, IsSome};
+ghost use Rattle.std.specs.Prelude.{◌≡◌, ◌≢◌, ◌↔◌, ◌≤◌, ◌⊎◌, IfOk, IfErr, IsSome, None};
 ghost use Rattle.std.specs.String.{string_bytes};
 ghost use Rattle.solve_library.specs.Found.{IsTextFor, IsTextOf, IsUntold, IsUntoldOf, undescribed_number};
 
 use crate::numbers::{MEMORY, NOT_DESCRIBED, NOT_IN_RANGE};
 use answers::Certified;
 use checker::check;
-use descriptions::{Form, Notation, Undescribed, description_text, presentable_text};
+use descriptions::{Form, Notation, RelationsWord, Undescribed, description_text, relations_word};
 use std::alloc::Global;
 
 /// The status of a quotient that isn't described.
@@ -19,14 +19,24 @@ fn undescribed(fault: Undescribed) -> u32
     }
 }
 
-/// The relations of the quotient, as one word.
+/// The word, where `present` takes it.
+fn taken(found: RelationsWord) -> Result<String, u32>
+    ensures word { IfOk result (λ t. (t ≡ found.word) × (found.beyond ≡ None)) }
+    ensures why { IfErr result (λ s. s ≡ 16) }
+{
+    match found.beyond {
+        None => Ok(found.word),
+        Some(_) => Err(NOT_DESCRIBED),
+    }
+}
+
+/// The relations of the quotient, as one word that `present` takes.
 fn presentable(alloc: Global, certified: &Certified, form: Form) -> Result<String, u32>
     ensures told { IfOk result (λ t. IsTextFor 2 certified.now (string_bytes t)) }
     ensures why { IfErr result (λ s. (s ≡ 16) ⊎ (s ≡ 9)) }
 {
-    match presentable_text(alloc, certified, form) {
-        Ok(Some(line)) => Ok(line),
-        Ok(None) => Err(NOT_DESCRIBED),
+    match relations_word(alloc, certified, form) {
+        Ok(found) => taken(found),
         Err(fault) => Err(undescribed(fault)),
     }
 }

@@ -5,7 +5,6 @@ ghost use Rattle.solve_library.specs.Asked.{IsOpenedText, IsOpenedUntold};
 ghost use Rattle.solve_library.specs.declared.solving.Asked.{Asked};
 
 use crate::describing::described;
-use crate::explaining::explained;
 use crate::numbers::{DONE, GAVE_UP, hand_over};
 use crate::opened_texts::opened_text;
 use crate::solving::{Asked, solved};
@@ -48,14 +47,14 @@ pub extern "C" fn misere_solve(
         order,
     };
     match solved(alloc, code, asked) {
-        Ok(text) => hand_over(&text, told, count),
+        Ok(said) if said.succeeds => hand_over(&said.text, told, count),
+        Ok(_) => GAVE_UP,
         Err(status) => status,
     }
 }
 
 /// Looks for a quotient as `misere_solve` does. Where the search is given up it tells how, with the
 /// reason, in the lines of `misere solve CODE --why`, and how many bytes they are; they too need room.
-/// The reason takes a second search.
 #[unsafe(no_mangle)]
 pub extern "C" fn misere_solve_why(
     alloc: Global,
@@ -87,7 +86,7 @@ pub extern "C" fn misere_solve_why(
         heaps,
         order,
     };
-    let said = match explained(alloc, code, asked) {
+    let said = match solved(alloc, code, asked) {
         Ok(said) => said,
         Err(status) => return status,
     };

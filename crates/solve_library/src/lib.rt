@@ -3,7 +3,6 @@
 #![tactic(auto)]
 
 mod describing;
-mod explaining;
 mod exports;
 mod numbers;
 mod opened_texts;

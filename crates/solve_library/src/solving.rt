@@ -1,12 +1,12 @@
 //! The search for a certificate.
-ghost use Rattle.std.specs.Prelude.{◌≡◌, ◌≢◌, ◌↔◌, IfSome, IfOk, IfErr, IsSome, IsTrue};
-ghost use Rattle.solve_library.specs.Found.{AreBounds, AreNumbersInRange, IsAim, IsAimInRange, IsCertificateFor, IsInRange, IsUnfound};
+ghost use Rattle.std.specs.Prelude.{◌≡◌, ◌≢◌, ◌↔◌, true, IfSome, IfOk, IfErr, IsSome, IsTrue};
+ghost use Rattle.solve_library.specs.Found.{AreBounds, AreNumbersInRange, IsAim, IsAimInRange, IsInRange, IsUnfound, Tells};
 
-use crate::numbers::{GAVE_UP, MEMORY, NOT_A_CODE, NOT_IN_RANGE};
-use command_results::Stop;
+use crate::numbers::{MEMORY, NOT_A_CODE, NOT_IN_RANGE};
+use command_results::{Said, Stop};
 use misere_theory::{LARGEST_FIRST_ORDER, LARGEST_ORDER, LARGEST_PART};
 use quotient_search::DEEPEST;
-use requests::Aim;
+use requests::{Aim, FEWEST_HEAPS, LARGEST_LIMIT, LEAST_ORDER, MOST_HEAPS, MOST_ROUNDS};
 use solve_command::{SolveBounds, solve_bytes};
 use std::alloc::Global;
 
@@ -28,9 +28,11 @@ fn aim_of(asked: Asked) -> Option<Aim>
     ensures range { IsSome result ↔ IsAimInRange asked }
 {
     let heaps = asked.heaps;
-    let is_order = 64 < heaps || asked.order <= LARGEST_FIRST_ORDER as u32;
+    let is_order = MOST_HEAPS < heaps || asked.order <= LARGEST_FIRST_ORDER as u32;
     match asked.aim {
-        0 if 2 <= heaps && heaps <= DEEPEST as u32 && is_order => Some(Aim::Whole { heaps }),
+        0 if FEWEST_HEAPS <= heaps && heaps <= DEEPEST as u32 && is_order => Some(Aim::Whole {
+            heaps,
+        }),
         1 if 1 <= heaps && heaps <= LARGEST_PART as u32 => Some(Aim::Part { last: heaps }),
         2 => Some(Aim::Furthest),
         _ => None,
@@ -41,16 +43,16 @@ fn aim_of(asked: Asked) -> Option<Aim>
 fn are_in_range(asked: Asked) -> bool
     ensures { IsTrue result ↔ AreNumbersInRange asked }
 {
-    let is_limit = 1 <= asked.limit && asked.limit <= 1_000_000;
-    let are_rounds = 1 <= asked.rounds && asked.rounds <= 1000;
-    let is_order = 2 <= asked.order && asked.order <= LARGEST_ORDER as u32;
+    let is_limit = 1 <= asked.limit && asked.limit <= LARGEST_LIMIT;
+    let are_rounds = 1 <= asked.rounds && asked.rounds <= MOST_ROUNDS;
+    let is_order = LEAST_ORDER <= asked.order && asked.order <= LARGEST_ORDER as u32;
     is_limit && are_rounds && is_order
 }
 
-/// The bounds of the search, where all that is asked is in its range.
-pub(crate) fn bounds_of(asked: Asked, tells_why: bool) -> Option<SolveBounds>
+/// The bounds of the search, which tells why it is given up, where all that is asked is in its range.
+fn bounds_of(asked: Asked) -> Option<SolveBounds>
     ensures bounds { IfSome result (AreBounds asked) }
-    ensures why { IfSome result (λ bounds. bounds.tells_why ≡ tells_why) }
+    ensures why { IfSome result (λ bounds. bounds.tells_why ≡ true) }
     ensures range { IsSome result ↔ IsInRange asked }
 {
     let aim = aim_of(asked)?;
@@ -62,22 +64,22 @@ pub(crate) fn bounds_of(asked: Asked, tells_why: bool) -> Option<SolveBounds>
         rounds: asked.rounds,
         order: asked.order,
         aim,
-        tells_why,
+        tells_why: true,
     })
 }
 
-/// The text of the certificate that is found for the code that the bytes spell; or the status.
-pub(crate) fn solved(alloc: Global, code: &[u8], asked: Asked) -> Result<Vec<u8>, u32>
-    ensures found { IfOk result (λ text. IsCertificateFor code.now asked text.items) }
-    ensures no { IfErr result (λ s. s ≢ 0 × s ≢ 14) }
+/// The text of the certificate that is found for the code that the bytes spell, or that which says
+/// how the search was given up, with the reason; or the status.
+pub(crate) fn solved(alloc: Global, code: &[u8], asked: Asked) -> Result<Said, u32>
+    ensures says { IfOk result (λ said. Tells code.now asked said.text.items said.succeeds) }
+    ensures no { IfErr result (λ s. s ≢ 0 × s ≢ 13 × s ≢ 14) }
     ensures why { IfErr result (IsUnfound code.now asked) }
 {
-    let Some(bounds) = bounds_of(asked, false) else {
+    let Some(bounds) = bounds_of(asked) else {
         return Err(NOT_IN_RANGE);
     };
     match solve_bytes(alloc, code, bounds) {
-        Ok(said) if said.succeeds => Ok(said.text),
-        Ok(_) => Err(GAVE_UP),
+        Ok(said) => Ok(said),
         Err(Stop::NotACode) => Err(NOT_A_CODE),
         Err(_) => Err(MEMORY),
     }

@@ -11,7 +11,7 @@ use Rattle.heap_options.specs.declared.left.Left.{Left}
 use Rattle.heap_options.specs.declared.left.Left.TheVariants.{Three}
 use Rattle.std.specs.List.{flat_map, range_with_len}
 use Rattle.transition_algebra.specs.Heaps.{left_value}
-use Rattle.transition_algebra.specs.Pretending.{Pretending}
+use Rattle.pretending.specs.Pretending.{Pretending}
 use Rattle.transition_algebra.specs.Trials.{with_values, with_left}
 
 -- a value more

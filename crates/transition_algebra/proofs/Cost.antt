@@ -1,13 +1,14 @@
 -- How many turns all pairs take.
 -- Each turn lessens by one what is left. The options of a heap are counted digit by digit.
-use Rattle.std.proofs.Common.{◌≡◌, ℕ, zero, suc, ◌+◌, ◌-◌, ◌*◌, ◌/◌, ◌<◌, ◌≤◌, ◌↔◌, Bool, true, false, List, [], ◌∷◌, ◌++◌, length, min, ◌&&◌, not, eqb, ltb, ne_eqb, le-ltb, refl, sym, subst, inl, inr, ap, arith}
+use Rattle.std.proofs.Common.{◌≡◌, ℕ, zero, suc, ◌+◌, ◌-◌, ◌*◌, ◌/◌, ◌^◌, ◌<◌, ◌≤◌, ◌↔◌, Bool, true, false, List, [], ◌∷◌, ◌++◌, length, min, ◌&&◌, not, eqb, ltb, ne_eqb, le-ltb, refl, sym, subst, inl, inr, ap, arith}
 use Rattle.std.specs.Prelude.{if◌then◌else◌}
 use Rattle.std.specs.List.{sum_by, range_with_len}
 use Rattle.std.proofs.lemmas.List.{length-append}
 use Rattle.std.proofs.lemmas.List.Concat.{length-flat_map}
 use Rattle.std.proofs.lemmas.List.FromFn.{length-map-range_with_len}
+use Rattle.std.proofs.Math.Nat.{mul-le-mul, mul-le-mul_left}
 use native.Mathlib.Decide.{dec_le, dec_lt}
-use Rattle.misere_theory.specs.Games.{leaves_three}
+use Rattle.misere_theory.specs.Games.{IsCode, leaves_three}
 use Rattle.misere_theory.proofs.Codes.{no_three}
 use Rattle.misere_theory.proofs.Ranges.{sum_more, sum_none, sum_at_most, sum_at_least}
 use Rattle.misere_theory.proofs.Rules.{true_or_false}
@@ -19,10 +20,11 @@ use Rattle.octal_code.specs.declared.leaving.Leaving.TheVariants.{NoHeap, OneHea
 use Rattle.heap_options.specs.Options.{options_at, nothing_left, one_left, two_left, three_left, where_holds, splits, last_first, last_second, triples_at, triples}
 use Rattle.heap_options.specs.declared.left.Left.{Left}
 use Rattle.heap_options.specs.declared.left.Left.TheVariants.{Nothing, One, Two, Three}
-use Rattle.transition_algebra.specs.Pretending.{Pretending}
+use Rattle.pretending.specs.Pretending.{Pretending, IsPretending}
 use Rattle.transition_algebra.specs.Heaps.{bound_of, largest_part}
 use Rattle.transition_algebra.specs.Work.{Trying, tries, opening, tried, turn, turns, heap_cost, most_turns}
 use Rattle.transition_algebra.specs.OverSets.{Pair}
+use Rattle.transition_algebra.proofs.Counted.{bound_small}
 use Rattle.transition_algebra.proofs.Turning.{cost_of, left, left_some, left_going, left_over, turn_going, turn_over}
 
 -- a turn for each heap at least
@@ -111,10 +113,6 @@ where_short false xs = omega arith
 where_none : (b : Bool) (xs : List Left) → b ≡ false → length (where_holds b xs) ≡ 0
 where_none true xs e = absurd cc
 where_none false xs e = refl
-
-and_false : (a b : Bool) → b ≡ false → (a && b) ≡ false
-and_false true b e = e
-and_false false b e = refl
 
 false_and : (a b d : Bool) → b ≡ false → (a && b && d) ≡ false
 false_and true true d e = absurd cc
@@ -226,13 +224,10 @@ tries_at_most : (code : List ℕ) (phi : Pretending) (n k : ℕ) → length code
 tries_at_most code phi n k long =
     tries_by code phi n k (n / 3 * (n / 2)) long (triples_at_most code n (largest_part phi))
 
-times_less : (k x y : ℕ) → x ≤ y → k * x ≤ k * y
-times_less k x y l = grind arith
-
 -- one digit's options and one turn more, k + 1 times
 one_heap : (k x y t R : ℕ) → x + t + 1 ≤ R → y + t ≤ R → x + t + k * (y + t) + 1 ≤ suc k * R
 one_heap k x y t R h l =
-    let d = times_less k (y + t) R l in
+    let d = mul-le-mul_left k l in
     let e : suc k * R ≡ k * R + R = grind arith in
     omega arith
 
@@ -262,7 +257,7 @@ cost_of_two code phi none some =
     omega arith
 
 -- at most (k + 1) B³ turns
-pub cost_of_three : (code : List ℕ) (phi : Pretending) → 2 ≤ length code
+cost_of_three : (code : List ℕ) (phi : Pretending) → 2 ≤ length code
     → heap_cost code phi
     ≤ length code * (bound_of code phi * (bound_of code phi * bound_of code phi))
 unfolding heap_cost
@@ -296,3 +291,18 @@ cost_short code phi some = elim (true_or_false (leaves_three code)) [
         subst (λ v. heap_cost code phi
         ≤ (if v then length code * (bound_of code phi * (bound_of code phi * bound_of code phi))
         else length code * (bound_of code phi * bound_of code phi))) (sym e) h
+
+pub two_digits : (code : List ℕ) → IsCode code → (2 ≤ length code) × (length code ≤ 17)
+two_digits [] h = absurd h
+two_digits (d ∷ ds) h = let a = h.1 in let b = h.2 in (omega arith, omega arith)
+
+-- so few that they can be counted
+pub cost_small : (code : List ℕ) (phi : Pretending) → IsCode code → IsPretending phi
+    → heap_cost code phi < 2 ^ 45
+cost_small code phi octal pretending =
+    let k = two_digits code octal in
+    let B = bound_of code phi in
+    let b = bound_small phi pretending code k.1 in
+    let r = cost_of_three code phi k.0 in
+    let m = mul-le-mul k.1 (mul-le-mul b (mul-le-mul b b)) in
+    omega arith

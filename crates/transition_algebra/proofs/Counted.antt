@@ -6,7 +6,7 @@ use Rattle.misere_theory.specs.Pairs.{heap_bound}
 use Rattle.misere_theory.proofs.Bound.{bound_with, bound_without}
 use Rattle.misere_theory.proofs.Rules.{true_or_false}
 use Rattle.misere_theory.proofs.Counting.{kind_full, kind_partial, bound_whole, bound_part, bound_counts}
-use Rattle.transition_algebra.specs.Pretending.{Pretending, IsPretending, kind_of, HasElement}
+use Rattle.pretending.specs.Pretending.{Pretending, IsPretending, kind_of, HasElement}
 use Rattle.transition_algebra.specs.Heaps.{bound_of}
 
 -- the heaps up to the bound have elements
@@ -32,14 +32,6 @@ module _ (phi : Pretending) (pretending : IsPretending phi) where
     | inl z ↦ (z, kind_partial phi.start phi.period z)
     | inr pos ↦ let k = kind_full phi.start phi.period pos in absurd (omega arith)
   ]
-
-  -- where no heap repeats each has an entry
-  pub entry_below : (n : ℕ) → HasElement phi n → phi.period ≡ 0 → n < phi.start
-  entry_below n h z =
-      let k = kind_partial phi.start phi.period z in
-      let s = pretending.some in
-      let b = h.1 (omega arith) in
-      omega arith
 
   pub kind_short : kind_of phi < phi.start + phi.period
   kind_short = elim (eq-zero-or-pos (kind_of phi)) [

@@ -1,6 +1,6 @@
 -- When all turns were made, how many they are, and however they are cut.
 -- A trial is what the turns that it has spent make: no turn is left exactly where no heap is.
-use Rattle.std.proofs.Common.{◌≡◌, ℕ, ◌+◌, ◌-◌, ◌*◌, ◌<◌, ◌≤◌, ◌↔◌, ◌⊎◌, inl, inr, min, List, [], length, sym, ◌∙◌, ap, ap₂, subst, arith}
+use Rattle.std.proofs.Common.{◌≡◌, ℕ, ◌+◌, ◌-◌, ◌*◌, ◌<◌, ◌≤◌, ◌↔◌, ◌⊎◌, inl, inr, min, List, [], length, sym, ◌∙◌, ap₂, subst, arith}
 use Rattle.std.specs.Prelude.{Result, Ok, Err, OnErr}
 use Rattle.std.specs.FinSet as set
 use Rattle.std.specs.Ordering.{nat_cmp}
@@ -12,17 +12,18 @@ use Rattle.heap_options.specs.Walks.{begun, stages, stages_left}
 use Rattle.heap_options.specs.declared.walk.Untried.{Untried}
 use Rattle.heap_options.specs.declared.walk.Untried.TheVariants.{Everything, Splits, Triples}
 use Rattle.heap_options.specs.declared.walk.Walk.{Walk}
-use Rattle.transition_algebra.specs.Pretending.{Pretending, IsPretending}
-use Rattle.transition_algebra.specs.Heaps.{IsInto, bound_of, largest_part}
+use Rattle.pretending.specs.Pretending.{Pretending, IsPretending}
+use Rattle.pretending.specs.Tables.{IsInto}
+use Rattle.transition_algebra.specs.Heaps.{bound_of, largest_part}
 use Rattle.transition_algebra.specs.Work.{opening, heap_cost, most_turns, HeapWork, IsDone, worked}
 use Rattle.transition_algebra.specs.Trials.{IsTrial}
-use Rattle.transition_algebra.specs.OverSets.{Pair}
-use Rattle.transition_algebra.specs.OverSets.{Trial}
-use Rattle.transition_algebra.proofs.Counted.{bound_small}
-use Rattle.transition_algebra.proofs.Cost.{cost_of_three, cost_short}
+use Rattle.transition_algebra.specs.OverSets.{Pair, Trial}
+use Rattle.transition_algebra.proofs.Cost.{two_digits, cost_short, cost_small}
 use Rattle.transition_algebra.proofs.Steps.{AreFirstHeapPairs}
 use Rattle.transition_algebra.proofs.Turning.{no_turn}
-use Rattle.transition_algebra.proofs.Running.{two_digits, cube_small, stands_now, room, all_spent, all_to_come}
+use Rattle.transition_algebra.proofs.Ready.{stands_now}
+use Rattle.transition_algebra.proofs.Running.{room, all_spent}
+use Rattle.transition_algebra.proofs.HeapRuns.{all_to_come}
 
 -- all turns were made exactly where no heap is left
 pub done_over : (code : List ℕ) (table : Grid) (phi : Pretending) (t : Trial) (pairs : List Pair)
@@ -53,10 +54,7 @@ finished code table monoid phi pretending into t pairs is done =
 pub all_units : (code : List ℕ) (phi : Pretending) (a s : ℕ) → IsCode code → IsPretending phi
     → s ≡ min (a + 18446744073709551615) (heap_cost code phi) → s ≡ heap_cost code phi
 all_units code phi a s octal pretending e =
-    let k = two_digits code octal in
-    let B = bound_small phi pretending code k.1 in
-    let r = cost_of_three code phi k.0 in
-    let m = cube_small (length code) (bound_of code phi) k.1 B in
+    let few = cost_small code phi octal pretending in
     omega arith
 
 -- nothing tried yet
@@ -102,14 +100,6 @@ stages_few code w short small =
 pub on_err : {T E P : Type 0} (r : Result T E) → P → OnErr r P
 on_err (Ok v) p = tt
 on_err (Err e) p = p
-
-worked_at : (job : HeapWork) (m n : ℕ) → m ≡ n
-    → ◌≡◌ {A = HeapWork} (record job { spent = m }) (record job { spent = n })
-worked_at job m n e = ap (λ k. record job { spent = k }) e
-
--- however the units are cut
-pub worked-add : (job : HeapWork) (m n : ℕ) → worked job (m + n) ≡ worked (worked job m) n
-worked-add job m n = worked_at job _ _ (omega arith)
 
 pub ends : (job : HeapWork) (units : ℕ) → IsCode job.code → IsPretending job.phi
     → most_turns job.code job.phi ≤ units

@@ -8,7 +8,11 @@ mod Coming
 mod Triples
 mod Turning
 mod Cost
+mod Ready
 mod Running
+mod SplitRuns
+mod TripleRuns
+mod HeapRuns
 mod Finished
 mod Every
 mod OneList

@@ -12,8 +12,9 @@ use Rattle.misere_theory.specs.Quotients.{Monoid}
 use Rattle.heap_options.specs.declared.left.Left.{Left}
 use Rattle.heap_options.specs.declared.left.Left.TheVariants.{Nothing, One, Two, Three}
 use Rattle.monoid_table.specs.Grids.{Grid, times_in}
-use Rattle.transition_algebra.specs.Pretending.{Pretending, phi_at}
-use Rattle.transition_algebra.specs.Heaps.{IsInto, left_value}
+use Rattle.pretending.specs.Pretending.{Pretending, phi_at}
+use Rattle.pretending.specs.Tables.{IsInto}
+use Rattle.transition_algebra.specs.Heaps.{left_value}
 
 below : (m n : ℕ) → m < n → ltb m n ≡ true
 below m n l = grind (arith, nat_tests)

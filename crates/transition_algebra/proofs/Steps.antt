@@ -12,8 +12,9 @@ use Rattle.misere_theory.specs.Quotients.{Claim, Monoid, HeapOptionValue}
 use Rattle.heap_options.specs.declared.left.Left.{Left}
 use Rattle.misere_theory.proofs.ListLaws.{nothing_in}
 use Rattle.monoid_table.specs.Grids.{Grid, times_in}
-use Rattle.transition_algebra.specs.Pretending.{Pretending, phi_at, IsPretending, HasElement}
-use Rattle.transition_algebra.specs.Heaps.{Agrees, IsInto, IsHeapPair, IsHeapPairs, left_value}
+use Rattle.pretending.specs.Pretending.{Pretending, phi_at, IsPretending, HasElement}
+use Rattle.pretending.specs.Tables.{Agrees, IsInto}
+use Rattle.transition_algebra.specs.Heaps.{IsHeapPair, IsHeapPairs, left_value}
 use Rattle.transition_algebra.specs.PairLaws.{has, has_insert, insert_has, empty_has}
 use Rattle.transition_algebra.specs.Work.{tries}
 use Rattle.transition_algebra.specs.OverSets.{Pair}

@@ -12,8 +12,9 @@ use Rattle.monoid_table.specs.Grids.{Grid, times_in}
 use Rattle.heap_options.specs.Options.{splits}
 use Rattle.heap_options.specs.declared.left.Left.{Left}
 use Rattle.heap_options.specs.declared.left.Left.TheVariants.{Two}
-use Rattle.transition_algebra.specs.Pretending.{Pretending, IsPretending, phi_at}
-use Rattle.transition_algebra.specs.Heaps.{IsInto, IsHeapPair, bound_of, left_value}
+use Rattle.pretending.specs.Pretending.{Pretending, IsPretending, phi_at}
+use Rattle.pretending.specs.Tables.{IsInto}
+use Rattle.transition_algebra.specs.Heaps.{IsHeapPair, bound_of, left_value}
 use Rattle.transition_algebra.specs.Work.{Trying, tries, opening, tried, turn, turns}
 use Rattle.transition_algebra.specs.Trials.{with_values}
 use Rattle.transition_algebra.specs.OverSets.{Pair}

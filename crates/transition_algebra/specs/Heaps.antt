@@ -1,5 +1,5 @@
 -- The pairs of heaps, as any claim that agrees with a table and a pretending function has them.
-use Rattle.std.specs.Prelude.{◌≡◌, ℕ, ◌+◌, ◌-◌, ◌<◌, ◌↔◌, List, length, map, slice_index_or, IsTrue, All}
+use Rattle.std.specs.Prelude.{◌≡◌, ℕ, ◌+◌, ◌-◌, ◌<◌, ◌↔◌, List, length, map, slice_index_or, IsTrue}
 use Rattle.std.specs.List.{range_with_len}
 use Rattle.std.specs.FinSet as set
 use Rattle.misere_theory.specs.Quotients.{Claim, HeapOptionValue}
@@ -8,18 +8,9 @@ use Rattle.monoid_table.specs.Grids.{Grid, times_in}
 use Rattle.heap_options.specs.Options.{options_of}
 use Rattle.heap_options.specs.declared.left.Left.{Left}
 use Rattle.heap_options.specs.declared.left.Left.TheVariants.{Nothing, One, Two, Three}
-use Rattle.transition_algebra.specs.Pretending.{Pretending, phi_at, kind_of, HasElement}
+use Rattle.pretending.specs.Pretending.{Pretending, phi_at, kind_of}
+use Rattle.pretending.specs.Tables.{Agrees}
 use Rattle.transition_algebra.specs.OverSets.{Pair}
-
--- the claim's monoid is the table's, and it gives each heap that has an element the element of phi
-pub record Agrees (c : Claim) (table : Grid) (phi : Pretending) : Type 0 where
-  pub order_is : c.order ≡ table.order
-  pub times_is : (x y : ℕ) → x < table.order → y < table.order → c.times x y ≡ times_in table x y
-  pub phi_is : (n : ℕ) → HasElement phi n → c.phi n ≡ phi_at phi n
-
--- the entries are elements of the table
-abbrev pub IsInto : Grid → Pretending → Type 0
-IsInto table phi = All (λ x. x < table.order) phi.entries
 
 -- the pair has the heap's element and exactly the values of its options
 pub record IsHeapPair (code : List ℕ) (c : Claim) (n : ℕ) (p : Pair) : Type 0 where

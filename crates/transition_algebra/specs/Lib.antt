@@ -1,5 +1,4 @@
 pub mod OverSets
-pub mod Pretending
 pub mod Pairs
 pub mod Heaps
 pub mod Work

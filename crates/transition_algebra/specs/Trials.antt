@@ -1,5 +1,5 @@
 -- How far the options of the heaps are tried.
-use Rattle.std.specs.Prelude.{◌≡◌, true, if◌then◌else◌, ℕ, zero, suc, ◌+◌, ◌-◌, ◌/◌, ◌<◌, ◌≤◌, ◌⊎◌, List, [], ◌∷◌, ◌++◌, length, min, slice_index_or}
+use Rattle.std.specs.Prelude.{◌≡◌, true, if◌then◌else◌, ℕ, zero, suc, ◌+◌, ◌-◌, ◌/◌, ◌^◌, ◌<◌, ◌≤◌, ◌⊎◌, List, [], ◌∷◌, ◌++◌, length, min, slice_index_or, All}
 use Rattle.std.specs.List.{flat_map, range_with_len}
 use Rattle.std.specs.FinSet as set
 use Rattle.std.specs.Ordering.{nat_cmp}
@@ -13,12 +13,11 @@ use Rattle.heap_options.specs.declared.left.Left.{Left}
 use Rattle.heap_options.specs.declared.left.Left.TheVariants.{Two}
 use Rattle.heap_options.specs.declared.walk.Untried.{Untried}
 use Rattle.heap_options.specs.declared.walk.Untried.TheVariants.{Everything, Splits, Triples}
-use Rattle.transition_algebra.specs.Pretending.{Pretending, phi_at}
+use Rattle.pretending.specs.Pretending.{Pretending, HasElement, phi_at}
 use Rattle.transition_algebra.specs.Pairs.{one}
 use Rattle.transition_algebra.specs.Heaps.{bound_of, largest_part, left_value}
 use Rattle.transition_algebra.specs.Work.{Trying, opening, turns, heap_cost}
-use Rattle.transition_algebra.specs.OverSets.{Pair}
-use Rattle.transition_algebra.specs.OverSets.{Trial}
+use Rattle.transition_algebra.specs.OverSets.{Pair, Trial}
 
 -- the element of the heap n, by its pair
 abbrev pub value_at : List Pair → ℕ → ℕ
@@ -157,6 +156,17 @@ pub record IsTrial (code : List ℕ) (table : Grid) (phi : Pretending) (t : Tria
   pub untried_in : IsUntried code t.walk.heap (largest_part phi) t.walk.away t.walk.untried
   pub within : t.spent ≤ heap_cost code phi
   pub reached : trying_of code table phi t pairs ≡ turns code table phi t.spent (opening code phi)
+
+-- What the next turn needs: the heap in hand has an element, and the pairs are those of the smaller
+-- heaps.
+pub record IsReady (code : List ℕ) (table : Grid) (phi : Pretending) (t : Trial)
+    (pairs : List Pair) : Type 0 where
+  pub going : t.walk.heap ≤ bound_of code phi
+  pub counts : HasElement phi t.walk.heap
+  pub small : t.spent + t.walk.heap < 2 ^ 48
+  pub elements : HaveElements phi pairs
+  pub inside : All (λ p. p.value < table.order) pairs
+  pub within : t.walk.heap ≤ length pairs + 1
 
 -- at most so many turns more, none of which begins a second heap, and where none, a stage less
 pub record IsRun (code : List ℕ) (table : Grid) (phi : Pretending) (s t : Trial) (pairs : List Pair)

@@ -1,17 +1,18 @@
 //! The pairs of the heaps, made in pieces.
 ghost use Rattle.std.specs.Prelude.{◌≡◌, ◌*◌, ◌⊎◌, ◌+◌, ◌<◌, ◌≤◌, ◌↔◌, All, IsTrue, IsErr, IfOk, OnOk, OnErr, true, false};
 ghost use Rattle.transition_algebra.specs.Pairs.{IsPair};
-ghost use Rattle.transition_algebra.specs.Heaps.{IsInto, AreAllHeapPairs, all_heap_pairs, bound_of};
+ghost use Rattle.pretending.specs.Tables.{IsInto};
+ghost use Rattle.transition_algebra.specs.Heaps.{AreAllHeapPairs, all_heap_pairs, bound_of};
 ghost use Rattle.transition_algebra.specs.Work.{IsDone, worked, heap_cost, turns, opening};
 
 use crate::pair::Pair;
-use crate::phi::{Phi, is_pretending};
 use crate::split_values::SplitValues;
 use crate::trial::Trial;
 use allocation::Memory;
 use element_sets::LaneSet;
 use monoid_table::{Table, is_monoid};
 use octal_code::Code;
+use pretending::{Phi, is_pretending};
 use std::alloc::{Allocator, Global};
 use std::marker::Model;
 
@@ -42,7 +43,7 @@ impl<const LANES: usize, A: Allocator> Model for HeapJob<LANES, A> {
       refused = j.refused;
     } };
 
-    ghost use Rattle.transition_algebra.specs.Heaps.{IsInto};
+    ghost use Rattle.pretending.specs.Tables.{IsInto};
     ghost use Rattle.transition_algebra.specs.Trials.{IsTrial, AreSplitValues, AreTripleValues};
 
     ghost invariant = { λ j. (j.table.order ≤ 64 * LANES)
@@ -124,8 +125,8 @@ impl<const LANES: usize, A: Allocator> HeapJob<LANES, A> {
     }
 
     /// Spends units as `work` does, at most so many, but none at the last heap, which is left to
-    /// `work`: fewer only where the last heap is in hand. Where a growth is refused it spends no
-    /// more, and `work` tells so.
+    /// `work`: fewer only where the last heap is in hand. Where a growth is refused, before all are
+    /// spent and at a heap before the last, it spends no more, and `work` tells so.
     #[inline(never)]
     pub fn go_on(&mut self, most: u64)
         ensures given { self.new
@@ -134,10 +135,19 @@ impl<const LANES: usize, A: Allocator> HeapJob<LANES, A> {
             × (self.new.spent ≤ self.old.spent + most) }
         ensures going { self.old.spent < heap_cost self.old.code self.old.phi
             → self.new.spent < heap_cost self.old.code self.old.phi }
+        ensures last { bound_of self.old.code self.old.phi
+            ≤ (turns self.old.code self.old.table self.old.phi self.old.spent
+            (opening self.old.code self.old.phi)).heap
+            → self.new.spent ≡ self.old.spent }
         ensures taken { self.new.refused ≡ false → (self.new.spent ≡ self.old.spent + most)
             ⊎ (bound_of self.new.code self.new.phi
             ≤ (turns self.new.code self.new.table self.new.phi self.new.spent
             (opening self.new.code self.new.phi)).heap) }
+        ensures short { self.new.refused ≡ true → self.old.refused ≡ false
+            → (self.new.spent < self.old.spent + most)
+            × ((turns self.new.code self.new.table self.new.phi self.new.spent
+            (opening self.new.code self.new.phi)).heap
+            < bound_of self.new.code self.new.phi) }
         ensures stays { IsTrue self.old.refused → self.new ≡ self.old }
     {
         if self.refused {

@@ -3,11 +3,11 @@ ghost use Rattle.std.specs.Prelude.{◌≡◌, ◌*◌, ◌≤◌, ◌+◌, ◌-
 ghost use Rattle.misere_theory.specs.Games.{IsPosition};
 ghost use Rattle.heap_options.specs.Exact.{heaps_of};
 ghost use Rattle.transition_algebra.specs.Pairs.{IsPair};
-ghost use Rattle.transition_algebra.specs.Pretending.{HasElement};
-ghost use Rattle.transition_algebra.specs.Heaps.{IsInto, AreAllHeapPairs, all_heap_pairs, bound_of, left_value};
+ghost use Rattle.pretending.specs.Pretending.{HasElement};
+ghost use Rattle.pretending.specs.Tables.{IsInto};
+ghost use Rattle.transition_algebra.specs.Heaps.{AreAllHeapPairs, all_heap_pairs, bound_of, left_value};
 
 use crate::pair::Pair;
-use crate::phi::{Phi, is_pretending};
 use crate::split_values::SplitValues;
 use crate::trial::Trial;
 use allocation::Memory;
@@ -15,6 +15,7 @@ use element_sets::LaneSet;
 use heap_options::Left;
 use monoid_table::{Table, is_monoid};
 use octal_code::{Code, is_code};
+use pretending::{Phi, is_pretending};
 use std::alloc::Allocator;
 
 /// B: the heaps 1 to B show the pair of every heap that has an element.

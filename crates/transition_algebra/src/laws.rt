@@ -5,8 +5,9 @@ ghost use Rattle.misere_theory.specs.Quotients.{Claim};
 ghost use Rattle.monoid_table.specs.Grids.{Grid};
 ghost use Rattle.monoid_table.specs.Tables.{IsTableGrid};
 ghost use Rattle.transition_algebra.specs.Pairs.{IsPair};
-ghost use Rattle.transition_algebra.specs.Pretending.{Pretending, IsPretending, HasElement};
-ghost use Rattle.transition_algebra.specs.Heaps.{Agrees, IsInto, IsHeapPair, IsHeapPairs, AreAllHeapPairs, all_heap_pairs, bound_of};
+ghost use Rattle.pretending.specs.Pretending.{Pretending, IsPretending, HasElement};
+ghost use Rattle.pretending.specs.Tables.{Agrees, IsInto};
+ghost use Rattle.transition_algebra.specs.Heaps.{IsHeapPair, IsHeapPairs, AreAllHeapPairs, all_heap_pairs, bound_of};
 ghost use Rattle.transition_algebra.specs.Work.{Trying, HeapWork, IsDone, heap_cost, most_turns, opening, turns, worked};
 ghost use Rattle.transition_algebra.specs.OverSets.{Pair};
 

@@ -3,15 +3,15 @@ ghost use Rattle.std.specs.Prelude.{◌≡◌, ◌*◌, ◌+◌, ◌<◌, ◌≤
 ghost use Rattle.monoid_table.specs.Grids.{Grid};
 ghost use Rattle.heap_options.specs.Options.{last_first, triples_at};
 ghost use Rattle.transition_algebra.specs.Heaps.{largest_part};
-ghost use Rattle.transition_algebra.specs.Pretending.{Pretending};
+ghost use Rattle.pretending.specs.Pretending.{Pretending};
 ghost use Rattle.transition_algebra.specs.Trials.{AreSplitValues, AreTripleValues, HaveElements, values_of_splits, values_of_triples, with_left};
 
 use crate::heaps::largest_part;
 use crate::pair::Pair;
-use crate::phi::Phi;
 use allocation::Memory;
 use element_sets::LaneSet;
 use monoid_table::Table;
+use pretending::Phi;
 use std::alloc::Allocator;
 
 /// The values of the splits of the heaps 0, 1, and so on, and those of the triples. They don't depend

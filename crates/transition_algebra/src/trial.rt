@@ -5,20 +5,21 @@ ghost use Rattle.octal_code.specs.Bits.{allows};
 ghost use Rattle.octal_code.specs.declared.leaving.Leaving.TheVariants.{TwoHeaps, ThreeHeaps};
 ghost use Rattle.heap_options.specs.Options.{last_first, last_second};
 ghost use Rattle.heap_options.specs.Walks.{single_left, last_part, triples_to_try};
-ghost use Rattle.transition_algebra.specs.Pretending.{phi_at, HasElement};
-ghost use Rattle.transition_algebra.specs.Heaps.{IsInto, bound_of};
+ghost use Rattle.pretending.specs.Pretending.{phi_at, HasElement};
+ghost use Rattle.pretending.specs.Tables.{IsInto};
+ghost use Rattle.transition_algebra.specs.Heaps.{bound_of};
 ghost use Rattle.transition_algebra.specs.Work.{heap_cost};
-ghost use Rattle.transition_algebra.specs.Trials.{IsTrial, IsRun, AreSplitValues, AreTripleValues, HaveElements, after_single, after_splits, after_triples, after_row, after_all, after_all_triples, after_heap};
+ghost use Rattle.transition_algebra.specs.Trials.{IsTrial, IsReady, IsRun, AreSplitValues, AreTripleValues, HaveElements, after_single, after_splits, after_triples, after_row, after_all, after_all_triples, after_heap};
 
 use crate::heaps::{bound_of, largest_part, left_value};
 use crate::pair::Pair;
-use crate::phi::{Phi, is_pretending};
 use crate::split_values::SplitValues;
 use allocation::Memory;
 use element_sets::LaneSet;
 use heap_options::{Untried, Walk};
 use monoid_table::{Table, is_monoid};
 use octal_code::{Code, Leaving, is_code};
+use pretending::{Phi, is_pretending};
 use std::alloc::Allocator;
 
 /// How far the options of the heaps 1 to `bound` are tried: the walk over those of the heap in
@@ -53,7 +54,7 @@ impl<const LANES: usize> Trial<LaneSet<LANES>> {
         requires fits { table.now.order ≤ 64 * LANES }
         requires into { IsInto table.now phi.now }
         requires counts { HasElement phi.now self.old.walk.heap }
-        requires small { self.old.spent < 2 ^ 48 }
+        requires small { self.old.spent + self.old.walk.heap < 2 ^ 48 }
         ensures count { result
             ≡ length (single_left code.now self.old.walk.heap self.old.walk.away) }
         ensures trial { self.new ≡ after_single code.now table.now phi.now self.old }
@@ -183,7 +184,7 @@ impl<const LANES: usize> Trial<LaneSet<LANES>> {
         pairs: &mut Vec<Pair<LaneSet<LANES>>, A>,
     ) -> Result<(), Memory>
         requires counts { HasElement phi.now self.old.walk.heap }
-        requires small { (self.old.walk.heap < 2 ^ 48) × (self.old.spent < 2 ^ 48) }
+        requires small { self.old.spent + self.old.walk.heap < 2 ^ 48 }
         ensures trial { OnOk result (self.new ≡ after_heap self.old) }
         ensures pair { OnOk result
             (pairs.new.items ≡ pairs.old.items
@@ -200,6 +201,26 @@ impl<const LANES: usize> Trial<LaneSet<LANES>> {
         self.seen = LaneSet::new();
         self.spent += 1;
         Ok(())
+    }
+
+    /// What the next turn needs: the heap in hand has an element, and the pairs are those of the
+    /// smaller heaps.
+    #[inline(always)]
+    fn is_ready<A: Allocator>(
+        &self,
+        code: &Code,
+        table: &Table<A>,
+        phi: &Phi<A>,
+        pairs: &Vec<Pair<LaneSet<LANES>>, A>,
+    )
+        requires into { IsInto table.now phi.now }
+        requires trial { IsTrial code.now table.now phi.now self.now pairs.now.items }
+        requires going { self.now.walk.heap ≤ self.now.bound }
+        ensures { IsReady code.now table.now phi.now self.now pairs.now.items }
+    {
+        is_code(code);
+        is_monoid(table);
+        is_pretending(phi);
     }
 
     /// Some turns more, at most `units`; where none was made, a stage less is left of the heap.
@@ -228,8 +249,7 @@ impl<const LANES: usize> Trial<LaneSet<LANES>> {
         ensures err { OnErr result (self.new ≡ self.old) }
         ensures err_pairs { OnErr result (pairs.new.items ≡ pairs.old.items) }
     {
-        is_monoid(table);
-        is_pretending(phi);
+        self.is_ready(code, table, phi, pairs);
         if self.walk.is_over(code) {
             self.close(phi, pairs)?;
             return Ok(1);
@@ -313,8 +333,11 @@ impl<const LANES: usize> Trial<LaneSet<LANES>> {
             × (self.new.spent ≤ self.old.spent + units) }
         ensures going { self.old.spent < heap_cost code.now phi.now
             → self.new.spent < heap_cost code.now phi.now }
+        ensures last { bound_of code.now phi.now ≤ self.old.walk.heap → self.new ≡ self.old }
         ensures taken { OnOk result ((self.new.spent ≡ self.old.spent + units)
             ⊎ (bound_of code.now phi.now ≤ self.new.walk.heap)) }
+        ensures err { OnErr result ((self.new.spent < self.old.spent + units)
+            × (self.new.walk.heap < bound_of code.now phi.now)) }
     {
         is_pretending(phi);
         is_code(code);

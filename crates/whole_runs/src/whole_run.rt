@@ -3,7 +3,7 @@ ghost use Rattle.std.specs.Prelude.{◌≡◌, ◌≤◌, false, IfOk, map};
 ghost use Rattle.command_line.specs.Requests.{plan_of};
 ghost use Rattle.command_line.specs.Status.{status_of, text_of};
 ghost use Rattle.streams.specs.Printers.{PrintsLine, printer};
-ghost use Rattle.commands.specs.Causes.{failed, reads_input, runs_script, takes_files};
+ghost use Rattle.commands.specs.Causes.{failed, notes, reads_input, runs_script, takes_files};
 ghost use Rattle.commands.specs.Obeys.{scene};
 ghost use Rattle.whole_runs.specs.Ends.{Ends};
 
@@ -43,7 +43,8 @@ fn run_words<F: Folder, S: Source, W: Sink, E: Sink>(
         (failed (S.failures input.new) (F.failed_reads folder.new) (F.failed_writes folder.new))
         (printer (W.taken out.new) (W.failures out.new))
         (printer (E.taken err.new) (E.failures err.new))) result }
-    ensures quiet { result ≤ 1 → err.new ≡ err.old }
+    ensures quiet { notes (plan_of (map (λ w. w.now) words.entry.now)) ≡ false → result ≤ 1
+        → err.new ≡ err.old }
     ensures usage { runs_script (plan_of (map (λ w. w.now) words.entry.now)) ≡ false → result ≡ 2
         → folder.new ≡ folder.old }
     ensures input { reads_input (plan_of (map (λ w. w.now) words.entry.now)) ≡ false
@@ -77,10 +78,11 @@ fn texts_of<'a, T: AsStr>(alloc: Global, words: &'a [T]) -> Result<Vec<&'a str>,
 /// done or help, 1 for no or a refusal, 2 for words that are no request, a position that can't be
 /// read or a script with a line that isn't a step, 3 where a device failed or memory was wanting.
 /// What is asked for is printed whole on standard output, or a beginning of it where that fails or
-/// a script breaks off; why a run ended with 2 or 3 is told on standard error, where nothing is
-/// told with 0 and 1. No file is changed but the catalogue file by what is asked to write it: where
-/// that ends well it holds the new text, and else what it held. Standard input and the files are
-/// left alone by the commands that don't read them, and the files by words that are refused.
+/// a script breaks off; why a run ended with 2 or 3 is told on standard error. With 0 and 1 nothing
+/// is told there but beside `describe --relations`: the bound for which `present` would refuse the
+/// relations. No file is changed but the catalogue file by what is asked to write it: where that
+/// ends well it holds the new text, and else what it held. Standard input and the files are left
+/// alone by the commands that don't read them, and the files by words that are refused.
 pub fn run<F: Folder, S: Source, W: Sink, E: Sink, T: AsStr>(
     alloc: Global,
     words: &[T],
@@ -98,7 +100,8 @@ pub fn run<F: Folder, S: Source, W: Sink, E: Sink, T: AsStr>(
         (failed (S.failures input.new) (F.failed_reads folder.new) (F.failed_writes folder.new))
         (printer (W.taken out.new) (W.failures out.new))
         (printer (E.taken err.new) (E.failures err.new))) result }
-    ensures quiet { result ≤ 1 → err.new ≡ err.old }
+    ensures quiet { notes (plan_of (map T.text words.now)) ≡ false → result ≤ 1
+        → err.new ≡ err.old }
     ensures usage { runs_script (plan_of (map T.text words.now)) ≡ false → result ≡ 2
         → folder.new ≡ folder.old }
     ensures input { reads_input (plan_of (map T.text words.now)) ≡ false → input.new ≡ input.old }

@@ -38,8 +38,8 @@ pub use refusal::Refusal;
 /// What the closure of a check may keep, where nobody asks for more or less.
 pub const LIMIT: u32 = 100_000;
 
-/// How many heaps of a position at which the rule fails are told.
-const MOST_HEAPS: usize = 32768;
+/// Room for most positions at which the rule fails.
+const USUAL_HEAPS: usize = 64;
 
 /// The version of the library's calls.
 pub fn version() -> u32 {
@@ -49,9 +49,17 @@ pub fn version() -> u32 {
 
 /// The heaps of a position at which the rule of the code's game fails, if the bytes are refused for that.
 pub fn failure(bytes: &[u8], limit: u32) -> Option<Vec<u64>> {
-    let (mut told, mut count) = (vec![0; MOST_HEAPS], 0);
-    // SAFETY: each pointer stands with the length of its slice, and `count` is borrowed for the call.
-    let status = unsafe { raw::misere_failure(bytes.as_ptr(), bytes.len(), limit, told.as_mut_ptr(), told.len(), &mut count) };
-    told.truncate(count as usize);
-    (status == 7 && count <= MOST_HEAPS as u64).then_some(told)
+    let mut told = vec![0; USUAL_HEAPS];
+    loop {
+        let (room, mut count) = (told.len(), 0);
+        // SAFETY: each pointer stands with the length of its slice, and `count` is borrowed for the call.
+        let status = unsafe { raw::misere_failure(bytes.as_ptr(), bytes.len(), limit, told.as_mut_ptr(), room, &mut count) };
+        if Refusal(status) != Refusal::OUTCOME {
+            return None;
+        }
+        told.resize(count as usize, 0);
+        if told.len() <= room {
+            return Some(told);
+        }
+    }
 }

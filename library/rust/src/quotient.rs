@@ -53,7 +53,7 @@ impl Quotient {
         Ok(Quotient { certified: self.certified.share()?, bytes: self.bytes.clone(), certificate: self.certificate.clone() })
     }
 
-    /// The quotient of the game of a code, such as `0.33`, or of a part of it; or why none was found, which takes a second search.
+    /// The quotient of the game of a code, such as `0.33`, or of a part of it; or why none was found.
     pub fn solve(code: &str, bounds: Bounds) -> Result<Quotient, NotFound> {
         let Bounds { limit, rounds, aim, order } = bounds;
         let (aim, heaps) = match aim {
@@ -84,7 +84,7 @@ impl<C: Certified> Quotient<C> {
     fn certified(bytes: &[u8], limit: u32) -> Result<Quotient<C>, Refusal> {
         let bytes: Arc<[u8]> = bytes.into();
         let certified = C::check(&bytes, limit)?;
-        let certificate = read(&bytes).ok_or(Refusal(1))?;
+        let certificate = read(&bytes).ok_or(Refusal::TEXT)?;
         Ok(Quotient { certified, bytes, certificate: Arc::new(certificate) })
     }
 
@@ -202,13 +202,12 @@ impl TryFrom<&[u8]> for Quotient {
 fn status_and_told(mut room: usize, call: impl Fn(&mut [u8], &mut u64) -> u32) -> (u32, Vec<u8>) {
     loop {
         let (mut told, mut count) = (vec![0; room], 0);
-        match call(&mut told, &mut count) {
-            14 => room = count as usize,
-            status => {
-                told.truncate(count as usize);
-                return (status, told);
-            }
+        let status = call(&mut told, &mut count);
+        if Refusal(status) != Refusal::NO_ROOM {
+            told.truncate(count as usize);
+            return (status, told);
         }
+        room = count as usize;
     }
 }
 

@@ -7,10 +7,16 @@ use std::fmt;
 pub struct Refusal(pub u32);
 
 impl Refusal {
+    /// The bytes spell no certificate.
+    pub const TEXT: Refusal = Refusal(1);
+    /// The rule of the code's game fails at a position: [`failure`](crate::failure) tells it.
+    pub const OUTCOME: Refusal = Refusal(7);
     /// A heap is not of 1 to 10^18.
     pub const NOT_A_HEAP: Refusal = Refusal(10);
     /// No certificate was found.
     pub const GAVE_UP: Refusal = Refusal(13);
+    /// There is no room for a text.
+    pub(crate) const NO_ROOM: Refusal = Refusal(14);
     /// The certificate is partial, and does not speak of all the heaps.
     pub const BEYOND: Refusal = Refusal(23);
 

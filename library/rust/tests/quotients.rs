@@ -99,6 +99,32 @@ fn refusals_have_their_numbers() {
     assert_eq!(misere::failure(&sample("0.33"), LIMIT), None);
 }
 
+/// The words of a line, behind its name.
+fn line(name: &str, words: impl Iterator<Item = impl ToString>) -> String {
+    let words: Vec<String> = words.map(|it| it.to_string()).collect();
+    format!("{name} {}\n", words.join(" "))
+}
+
+/// A certificate of 0.1, where a position of ones is P if they are odd in number: it says so, but of that many.
+fn wrong_at(ones: usize) -> String {
+    let order = ones + 3;
+    let is_in = |it: usize| it % order % 2 == 1 && it % order != ones;
+    let pairs = (0..order).flat_map(|x| (x + 1..order).map(move |y| (x, y)));
+    let mut text = format!("mqc 1\ncode 0.1\norder {order}\nstart 2\nperiod 1\nphi 1 0\n");
+    text += &line("portion", (0..order).filter(|&it| is_in(it)));
+    text += &line("words", (1..order).map(|it| format!("{}:1", it - 1)));
+    text.extend((0..order).map(|x| line("row", (0..order).map(|y| (x + y) % order))));
+    text += &line("apart", pairs.map(|(x, y)| (0..order).find(|z| is_in(x + z) != is_in(y + z)).unwrap()));
+    text + "end\n"
+}
+
+#[test]
+fn more_heaps_are_told_than_there_is_room_for_at_first() {
+    for ones in [63, 65, 99] {
+        assert_eq!(misere::failure(wrong_at(ones).as_bytes(), LIMIT), Some(vec![1; ones]));
+    }
+}
+
 #[test]
 fn a_search_says_why_it_was_given_up() {
     let defaults = Bounds::default();

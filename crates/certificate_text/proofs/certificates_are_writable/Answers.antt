@@ -1,13 +1,6 @@
 use Rattle.compact_certificates.proofs.Following.{accepted_follows}
 use Rattle.certificate_text.proofs.certificates_are_writable.Goals as goal
 
-pub returns-clause-full : goal.returns-clause-full
-returns-clause-full g c h full = record {
-  in_ranges = h;
-  follows = λ third. absurd (full third);
-  short = λ third. absurd (full third);
-}
-
 pub returns-clause-accepted : goal.returns-clause-accepted
 returns-clause-accepted g c a short = record {
   in_ranges = a.in_ranges;

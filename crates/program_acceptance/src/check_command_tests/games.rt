@@ -3,6 +3,7 @@ use super::checked;
 use crate::certificates::{
     LIMIT, OF_0_1, OF_0_3, OF_0_33, OF_0_75, OF_0_B, PART_OF_0_3, PART_OF_0_75, REFUTED,
 };
+use crate::comparing::compare;
 use certificate::{Cert, read};
 use checker::{Certified, check};
 use command_results::Said;
@@ -111,8 +112,8 @@ fn agree(alloc: Global, certified: &Certified, heaps: &[u64]) -> bool {
     push_all(&mut position, heaps) && find(alloc, certified, &position, wanted)
 }
 
-/// How many positions there are of heaps up to `most` and up to `room` in all, from the empty list
-/// on, if all agree at each, and else 0.
+/// How many positions there are of heaps up to `most` and up to `room` in all, from the list on, if
+/// all agree at each, and else 0.
 fn count_from(
     alloc: Global,
     certified: &Certified,
@@ -132,11 +133,16 @@ fn count_from(
     0
 }
 
-/// How many positions there are of heaps up to `most` and up to `room` in all, if all agree at each,
-/// and else 0.
+/// The same from the empty list on.
+fn count_all(alloc: Global, certified: &Certified, most: u64, room: u64) -> usize {
+    let mut heaps = Vec::new(alloc);
+    count_from(alloc, certified, &mut heaps, most, room)
+}
+
+/// The same of the quotient that the file has, and 0 if it has none.
 fn count_of(alloc: Global, held: &str, most: u64, room: u64) -> usize {
     match check(alloc, held.as_bytes(), LIMIT) {
-        Ok(certified) => count_from(alloc, &certified, &mut Vec::new(alloc), most, room),
+        Ok(certified) => count_all(alloc, &certified, most, room),
         Err(_) => 0,
     }
 }
@@ -144,13 +150,15 @@ fn count_of(alloc: Global, held: &str, most: u64, room: u64) -> usize {
 /// A certificate, the last heap, the most heaps in all, and how many positions there are of them.
 type Right = (&'static str, u64, u64, usize);
 
-/// How many certificates the search and the player agree with at each position.
+/// How many certificates the search and the player agree with at each position, up to the first that
+/// they don't agree with.
 fn count_agreed(alloc: Global, rows: &[Right]) -> usize {
     let mut count = 0usize;
     for (held, most, room, positions) in rows {
-        if count_of(alloc, held, *most, *room) == *positions {
-            count = count.saturating_add(1);
+        if count_of(alloc, held, *most, *room) != *positions {
+            return count;
         }
+        count = count.saturating_add(1);
     }
     count
 }
@@ -193,14 +201,22 @@ fn is_refutation(alloc: Global, held: &str, said: &Said) -> bool {
     !said.succeeds && file_fails_at(alloc, held, place_in(&said.text))
 }
 
-/// How many certificates are refuted, each at a place where its rule fails.
+/// Whether the file is refuted at a place where its rule fails.
+fn is_refuted(alloc: Global, name: &str, held: &str) -> bool {
+    match checked(alloc, name, held, LIMIT) {
+        Some(said) => is_refutation(alloc, held, &said),
+        None => false,
+    }
+}
+
+/// How many certificates are refuted so, up to the first that isn't.
 fn count_refuted(alloc: Global, rows: &[(&str, &str)]) -> usize {
     let mut count = 0usize;
     for (name, held) in rows {
-        match checked(alloc, name, held, LIMIT) {
-            Some(said) if is_refutation(alloc, held, &said) => count = count.saturating_add(1),
-            _ => return count,
+        if !is_refuted(alloc, name, held) {
+            return count;
         }
+        count = count.saturating_add(1);
     }
     count
 }
@@ -217,10 +233,10 @@ static RIGHT: [Right; 7] = [
 
 #[test]
 fn searches_agree_with_values(rt: HostRuntime) {
-    assert!(rt; count_agreed(rt.alloc(), &RIGHT) == 7);
+    compare(&rt, "RIGHT", count_agreed(rt.alloc(), &RIGHT), 7);
 }
 
 #[test]
 fn refuting_positions_refute(rt: HostRuntime) {
-    assert!(rt; count_refuted(rt.alloc(), &REFUTED) == 6);
+    compare(&rt, "REFUTED", count_refuted(rt.alloc(), &REFUTED), 6);
 }

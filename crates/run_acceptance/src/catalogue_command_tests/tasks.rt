@@ -1,6 +1,7 @@
 //! Tasks one after the other, and with each call of the folder failing.
 use super::{LIMIT, prints, prints_under};
 use crate::certificates::{OF_0_1, OF_0_3, OF_0_33, OF_0_75, PART_OF_0_3};
+use crate::comparing::compare;
 use crate::files::{
     EMPTY, Entry, FIRST_VERSION, ONE_ENTRY, TWO_KINDS, catalogue_of, folder_of, folder_with, holds,
 };
@@ -476,8 +477,10 @@ fn keeps_the_file(
 
 #[test]
 fn acts_on_a_catalogue(rt: HostRuntime) {
-    assert!(rt; acts_on_files(rt.alloc()) && count_given_back(rt.alloc()) == 4);
-    assert!(rt; count_kinds(rt.alloc()) == 9 && keeps_its_entries(rt.alloc()));
-    assert!(rt; count_held(rt.alloc(), &FAILURES) == 12);
-    assert!(rt; count_held(rt.alloc(), &LIMITED) == 6);
+    compare(&rt, "files", acts_on_files(rt.alloc()), true);
+    compare(&rt, "ADDED", count_given_back(rt.alloc()), 4);
+    compare(&rt, "KINDS", count_kinds(rt.alloc()), 9);
+    compare(&rt, "entries", keeps_its_entries(rt.alloc()), true);
+    compare(&rt, "FAILURES", count_held(rt.alloc(), &FAILURES), 12);
+    compare(&rt, "LIMITED", count_held(rt.alloc(), &LIMITED), 6);
 }

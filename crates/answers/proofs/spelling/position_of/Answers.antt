@@ -1,4 +1,4 @@
-use Rattle.std.proofs.Common.{◌≡◌, ◌∙◌, true≢false, ℕ, List, [], ◌∷◌, ◌++◌, IsPermutation, append-nil, subst, sym, ap, arith}
+use Rattle.std.proofs.Common.{◌≡◌, true≢false, ℕ, List, [], ◌∷◌, ◌++◌, IsPermutation, append-nil, subst, sym, arith}
 use Rattle.std.proofs.lemmas.List.Sorted.{length_permutation, IsPermutation-push_more}
 use Rattle.misere_theory.specs.Certificates.{IsSpelled}
 use Rattle.misere_theory.specs.Certificates.IsSpelled.{Zero}
@@ -6,38 +6,14 @@ use Rattle.answers.specs.Spelled.{key_in}
 use Rattle.answers.proofs.SpellLemmas.{key_is, key_less, key_more}
 use Rattle.answers.proofs.spelling.position_of.Goals as goal
 
-pub push-requires : goal.push-requires
-push-requires g c =
-    let ws = c.args.words.now in
-    let r = c.loop-reached.reached in
-    let k : (c.key.inside.element, c.key.inside.heap) ≡ key_in ws r =
-    c.key.view_is ∙ key_is ws r c.index-words-reached.result c.loop-reached-test.true
-    c.loop-reached.invariant.0 c.index-words-reached.is in
-    let e : c.key.inside.heap ≡ (key_in ws r).1 = ap (λ (p : ℕ × ℕ). p.1) k in
-    let one = c.requires.down.heap r c.loop-reached-test.true c.loop-reached.invariant.0 in
-    (omega arith, omega arith)
-
-pub loop-reached-smaller : goal.loop-reached-smaller
-loop-reached-smaller g c =
-    let ws = c.args.words.now in
-    let r = c.loop-reached.reached in
-    let k : (c.key.inside.element, c.key.inside.heap) ≡ key_in ws r =
-    c.key.view_is ∙ key_is ws r c.index-words-reached.result c.loop-reached-test.true
-    c.loop-reached.invariant.0 c.index-words-reached.is in
-    let e : c.key.inside.element ≡ (key_in ws r).0 = ap (λ (p : ℕ × ℕ). p.0) k in
-    let down = c.requires.down.parent r c.loop-reached-test.true c.loop-reached.invariant.0 in
-    omega (arith, e, down)
-
 pub loop-reached-preserved : goal.loop-reached-preserved
 loop-reached-preserved g c =
     let ws = c.args.words.now in
     let r = c.loop-reached.reached in
     let i = c.loop-reached.invariant in
-    let k : (c.key.inside.element, c.key.inside.heap) ≡ key_in ws r =
-    c.key.view_is ∙ key_is ws r c.index-words-reached.result c.loop-reached-test.true i.0
-    c.index-words-reached.is in
-    let e : c.key.inside.element ≡ (key_in ws r).0 = ap (λ (p : ℕ × ℕ). p.0) k in
-    let h : c.key.inside.heap ≡ (key_in ws r).1 = ap (λ (p : ℕ × ℕ). p.1) k in
+    let (e, h) =
+    key_is ws r c.key.inside.element c.key.inside.heap c.index-words-reached.result
+    c.loop-reached-test.true i.0 c.key.view_is c.index-words-reached.is in
     let down = c.requires.down.parent r c.loop-reached-test.true i.0 in
     let path : List ℕ = i.1.0 in (
       omega (arith, e, down, i.0),

@@ -1,5 +1,5 @@
 use Rattle.std.proofs.Common.{◌≡◌, ◌*◌, length, sym, ap, arith}
-use Rattle.answers.proofs.ValueLemmas.{place_below, place_small}
+use Rattle.answers.proofs.ValueLemmas.{place_below}
 use Rattle.answers.proofs.values.times.Goals as goal
 
 pub bounds-rows-x : goal.bounds-rows-x
@@ -13,30 +13,14 @@ bounds-rows-x g c =
     in
     omega arith
 
-pub overflow_mul-result : goal.overflow_mul-result
-overflow_mul-result g c =
-    let p = place_small c.order.result c.args.x c.args.y c.order.ensures.range.1
-    (rw c.order.ensures.value c.requires.x_in) (rw c.order.ensures.value c.requires.y_in) in
-    omega arith
-
-pub overflow_add-result : goal.overflow_add-result
-overflow_add-result g c =
-    let p = place_small c.order.result c.args.x c.args.y c.order.ensures.range.1
-    (rw c.order.ensures.value c.requires.x_in) (rw c.order.ensures.value c.requires.y_in) in
-    omega arith
-
-pub returns-clause-value : goal.returns-clause-value
-returns-clause-value g c =
-    let same = c.claims_agree.ensures.agrees c.args.cert.now c.requires.accepted.in_ranges in
-    rw (c.rows.ensures, c.order.ensures.value)
-    (sym (same.times_is c.args.x c.args.y c.requires.x_in c.requires.y_in))
-
-pub returns-clause-within : goal.returns-clause-within
-returns-clause-within g c =
-    let same = c.claims_agree.ensures.agrees c.args.cert.now c.requires.accepted.in_ranges in
-    rw (
-      c.rows.ensures,
-      c.order.ensures.value,
-      ← same.times_is c.args.x c.args.y c.requires.x_in c.requires.y_in,
-    ) (c.requires.accepted.represents.monoid.closed c.args.x c.args.y c.requires.x_in
-    c.requires.y_in)
+pub returns : goal.returns
+returns g c =
+    let is =
+    (c.claims_agree.ensures.agrees c.args.cert.now c.requires.accepted.in_ranges).times_is c.args.x
+    c.args.y c.requires.x_in c.requires.y_in in
+    record {
+      value = rw (c.rows.ensures, c.order.ensures.value) (sym is);
+      within = rw (c.rows.ensures, c.order.ensures.value, ← is)
+          (c.requires.accepted.represents.monoid.closed c.args.x c.args.y c.requires.x_in
+          c.requires.y_in);
+    }

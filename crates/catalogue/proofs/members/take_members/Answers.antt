@@ -1,19 +1,14 @@
 use Rattle.std.proofs.Common.{◌≡◌, ◌<◌, length, Some, None, arith}
 use Rattle.json.specs.Json.{read_key}
 use Rattle.json.proofs.Grammar.{read_key-shorter}
-use Rattle.serde_json.specs.Data.{no_members, put}
-use Rattle.catalogue.specs.Reading.{ReadsMembers, ReadsValue}
+use Rattle.serde_json.specs.Data.{put}
 use Rattle.catalogue.proofs.ReadLemmas.{members_close, members_step, members_stop, members_no_key, unread, no_json}
 use Rattle.catalogue.proofs.members.take_members.Goals as goal
-
-pub loop-name-init : goal.loop-name-init
-loop-name-init g c = (no_members, c.requires.none, (λ o h. h), omega arith)
 
 pub returns-in_err-name-clause-err : goal.returns-in_err-name-clause-err
 returns-in_err-name-clause-err g c =
     let l = c.loop-name in
-    no_json (ReadsMembers c.args.depth no_members c.args.reader.now None) c.from_residual.result
-    c.from_residual.ensures.1
+    no_json _ c.from_residual.result c.from_residual.ensures.1
     (l.invariant.2 None
     (members_no_key c.args.depth l.reader l.invariant.0 c.in_err-name.ensures.value))
 
@@ -41,12 +36,9 @@ returns-in_err-take-clause-err g c =
     let k = c.in-Some.name.now in
     let s = c.next_key.new.self in
     let named : read_key l.reader ≡ Some (Some k, s) = grind arith in
-    unread (ReadsValue c.args.depth s None)
-    (ReadsMembers c.args.depth no_members c.args.reader.now None)
-    c.from_residual-in_err-take.result c.in_err-take.field-0.0
+    unread _ _ c.from_residual-in_err-take.result c.in_err-take.field-0.0
     c.from_residual-in_err-take.ensures.1
-    (λ none.
-    l.invariant.2 None (members_stop c.args.depth l.reader l.invariant.0 k s named none))
+    (λ none. l.invariant.2 None (members_stop c.args.depth l.reader l.invariant.0 k s named none))
     c.in_err-take.ensures.err
 
 pub returns-clause-read : goal.returns-clause-read

@@ -1,7 +1,6 @@
 use Rattle.std.proofs.Common.{◌≡◌, ◌∙◌, ap, arith, ℕ, List, Option, Bool, true, false, sym, subst}
-use Rattle.std.proofs.lemmas.Result.{IfOk-from_err}
 use Rattle.folders.specs.Files.{Replaces}
-use Rattle.checker.specs.Turns.{verdict}
+use Rattle.check_machine.specs.Turns.{verdict}
 use Rattle.catalogue_command.proofs.Fronts.{whole_of}
 use Rattle.misere_theory.specs.Certificates.{Certificate}
 use Rattle.catalogue.specs.Texts.{catalogue_text}
@@ -51,12 +50,3 @@ returns-clause-told g c =
             w.if-report.false kept)
       ],
     )
-
-pub returns-in_err-bytes-clause-told : goal.returns-in_err-bytes-clause-told
-returns-in_err-bytes-clause-told g c = IfOk-from_err _ _ c.from_residual.ensures.0
-
-pub returns-in_err-report-clause-told : goal.returns-in_err-report-clause-told
-returns-in_err-report-clause-told g c = IfOk-from_err _ _ c.from_residual-in_err-report.ensures.0
-
-pub returns-in_err-save-clause-told : goal.returns-in_err-save-clause-told
-returns-in_err-save-clause-told g c = IfOk-from_err _ _ c.from_residual-in_err-save.ensures.0

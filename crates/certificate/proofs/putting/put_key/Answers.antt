@@ -10,8 +10,7 @@ pub returns-clause-puts : goal.returns-clause-puts
 returns-clause-puts g c =
     subst (λ (k : ℕ × ℕ). Puts (g.W.Sink.taken c.args.sink.now) (g.W.Sink.taken c.put_heap.new.sink)
     c.put_heap.result (32 ∷ key_word k)) c.key.view_is
-    (puts_then (g.W.Sink.taken c.args.sink.now) (g.W.Sink.taken c.put_word.new.sink)
-    (g.W.Sink.taken c.put_heap.new.sink) c.put_heap.result (32 ∷ decimal c.key.inside.element)
+    (puts_then _ _ _ c.put_heap.result (32 ∷ decimal c.key.inside.element)
     (58 ∷ decimal c.key.inside.heap) c.in_ok-put_word.ensures.puts c.put_heap.ensures.puts)
 
 pub returns-in_err-put_word-clause-puts : goal.returns-in_err-put_word-clause-puts
@@ -21,6 +20,5 @@ returns-in_err-put_word-clause-puts g c =
     (subst
     (λ (k : ℕ × ℕ). AppendsSome (g.W.Sink.taken c.args.sink.now)
     (g.W.Sink.taken c.put_word.new.sink) (32 ∷ key_word k)) c.key.view_is
-    (some_more (g.W.Sink.taken c.args.sink.now) (g.W.Sink.taken c.put_word.new.sink)
-    (32 ∷ decimal c.key.inside.element) (58 ∷ decimal c.key.inside.heap)
+    (some_more _ _ (32 ∷ decimal c.key.inside.element) (58 ∷ decimal c.key.inside.heap)
     c.in_err-put_word.ensures.puts))

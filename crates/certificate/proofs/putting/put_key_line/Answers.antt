@@ -7,8 +7,7 @@ use Rattle.certificate.proofs.putting.put_key_line.Goals as goal
 pub returns-in_err-write_whole-clause-puts : goal.returns-in_err-write_whole-clause-puts
 returns-in_err-write_whole-clause-puts g c =
     let p = err_from_is_err_and c.from_residual.result c.from_residual.ensures.1 in
-    rw (p.1) (some_more (g.W.Sink.taken c.args.sink.now) (g.W.Sink.taken c.write_whole.new.sink)
-    (codes "words") (spaced (map key_word c.args.keys.now) ++ 10 ∷ [])
+    rw (p.1) (some_more _ _ (codes "words") (spaced (map key_word c.args.keys.now) ++ 10 ∷ [])
     c.in_err-write_whole.ensures.puts)
 
 pub returns-in_err-put_keys-clause-puts : goal.returns-in_err-put_keys-clause-puts
@@ -16,14 +15,12 @@ returns-in_err-put_keys-clause-puts g c =
     let p =
     err_from_is_err_and c.from_residual-in_err-put_keys.result
     c.from_residual-in_err-put_keys.ensures.1 in
-    rw (p.1) (some_of_three (g.W.Sink.taken c.args.sink.now) (g.W.Sink.taken c.write_whole.new.sink)
-    (g.W.Sink.taken c.put_keys.new.sink) (g.W.Sink.taken c.put_keys.new.sink) (codes "words")
+    rw (p.1) (some_of_three _ _ _ (g.W.Sink.taken c.put_keys.new.sink) (codes "words")
     (spaced (map key_word c.args.keys.now)) (10 ∷ []) c.in_ok-write_whole.ensures.puts
     c.in_err-put_keys.ensures.puts)
 
 pub returns-clause-puts : goal.returns-clause-puts
 returns-clause-puts g c =
-    puts_three (g.W.Sink.taken c.args.sink.now) (g.W.Sink.taken c.write_whole.new.sink)
-    (g.W.Sink.taken c.put_keys.new.sink) (g.W.Sink.taken c.write_whole-2.new.sink) (codes "words")
-    (spaced (map key_word c.args.keys.now)) (10 ∷ []) c.write_whole-2.result
-    c.in_ok-write_whole.ensures.puts c.in_ok-put_keys.ensures.puts c.write_whole-2.ensures.puts
+    puts_three _ _ _ _ (codes "words") (spaced (map key_word c.args.keys.now)) (10 ∷ [])
+    c.write_whole-2.result c.in_ok-write_whole.ensures.puts c.in_ok-put_keys.ensures.puts
+    c.write_whole-2.ensures.puts

@@ -1,16 +1,9 @@
-use Rattle.std.proofs.Common.{rules, ◌≡◌, sym}
+use Rattle.std.proofs.Common.{rules, ◌≡◌}
 use Rattle.std.specs.String.{string_bytes}
 use Rattle.answers.specs.ByteVerdicts.{refused}
-use Rattle.answers.proofs.Due.{is_due}
 use Rattle.verdict_texts.proofs.Due.{told_is_due}
 use Rattle.check_command.proofs.Answered.{refused_is_no}
 use Rattle.check_command.proofs.certifying.judged.Goals as goal
-
-pub returns-in-Ok : goal.returns-in-Ok
-returns-in-Ok c = (
-  c.in-Ok.ensures.true_of,
-  sym (is_due _ _ c.in-Ok.ensures.decided (λ none. cc)),
-)
 
 pub returns : goal.returns
 returns c =

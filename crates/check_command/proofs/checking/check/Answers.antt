@@ -1,6 +1,6 @@
-use Rattle.std.proofs.Common.{rules, ◌∙◌, subst, ℕ, List}
+use Rattle.std.proofs.Common.{◌∙◌, subst, ℕ, List}
 use Rattle.std.specs.String.{string_bytes}
-use Rattle.checker.specs.Turns.{verdict}
+use Rattle.check_machine.specs.Turns.{verdict}
 use Rattle.verdict_texts.specs.Streams.{IsDueText}
 use Rattle.check_command.proofs.Given.{checks_all}
 use Rattle.check_command.proofs.checking.check.Goals as goal
@@ -14,6 +14,3 @@ returns-clause-said g c =
     checks_all c.verdicts_are_true.ensures _ c.in_ok-bytes.bytes.items c.args.limit _ _
     c.in_ok-bytes.ensures.bytes
     (w.0, c.said.ensures.text ∙ w.1, c.said.ensures.succeeds ∙ w.2)
-
-pub returns-clause-kept : goal.returns-clause-kept
-returns-clause-kept g c = search rules

@@ -1,7 +1,7 @@
-use Rattle.std.proofs.Common.{◌≡◌, ◌≤◌, ◌+◌, false}
+use Rattle.std.proofs.Common.{◌≡◌, false}
 use Rattle.pair_closure.specs.ClosureViews.{SameData, has_ended}
-use Rattle.checker.specs.Rules.{HeldObey}
-use Rattle.checker.specs.Turns.Phase.{Closing}
+use Rattle.check_machine.specs.Rules.{HeldObey}
+use Rattle.check_machine.specs.Turns.Phase.{Closing}
 use Rattle.checker.specs.Closes.{Closes}
 use Rattle.checker.proofs.closing.close.Given as goal
 
@@ -9,8 +9,6 @@ abbrev pub invariant-members : goal.invariant-members
 invariant-members g l = record {
   obey : HeldObey l.inside l.closure.state.held;
   same : SameData l.initial.closure.state l.closure.state;
-  spends : l.left ≤ l.initial.left;
-  spent : l.left + l.closure.spent ≡ l.initial.left + l.initial.closure.spent;
   going : has_ended l.closure.state ≡ false;
   fresh : l.closure.failed ≡ false;
   runs : Closes l.inside l.initial.closure l.initial.left l.left

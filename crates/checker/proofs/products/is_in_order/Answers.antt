@@ -4,8 +4,5 @@ use Rattle.checker.proofs.products.is_in_order.Goals as goal
 pub returns-else-product-eq0-clause-in_order : goal.returns-else-product-eq0-clause-in_order
 returns-else-product-eq0-clause-in_order g c = search rules
 
-pub returns-else-product-eq0-clause-fault : goal.returns-else-product-eq0-clause-fault
-returns-else-product-eq0-clause-fault g c = search rules
-
 pub returns-else-product-eq0-clause-same : goal.returns-else-product-eq0-clause-same
 returns-else-product-eq0-clause-same g c = search rules

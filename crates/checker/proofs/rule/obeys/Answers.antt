@@ -1,5 +1,5 @@
 use Rattle.std.proofs.Common.{◌≡◌, ◌⊎◌, Bool, true, false, not, refl, inl, inr, sym, ◌∙◌}
-use Rattle.checker.proofs.RuleLemmas.{inside_some, inside_none, outside_none, outside_stays}
+use Rattle.check_machine.proofs.RuleLaws.{inside_some, inside_none, outside_none, outside_stays}
 use Rattle.checker.proofs.rule.obeys.Goals as goal
 
 either : (b : Bool) → (b ≡ true) ⊎ (b ≡ false)

@@ -6,8 +6,7 @@ use Rattle.clap.proofs.OnLiterals.{clap_on_literals}
 use Rattle.command_line.specs.Program.{program}
 use Rattle.command_line.specs.Refusals.{IsOfKind, IsFaultOf}
 use Rattle.command_line.specs.declared.faults.UsageFault.{UsageFault}
-use Rattle.command_line.specs.declared.faults.UsageFault.TheVariants.{Memory, Help, Words, Number}
-use Rattle.command_line.specs.declared.faults.UsageFault.TheVariants.{Exclusive, Incomplete}
+use Rattle.command_line.specs.declared.faults.UsageFault.TheVariants.{Memory, Help, Words}
 use Rattle.command_line.proofs.Reading.{plan_of-refused}
 use Rattle.command_line.proofs.words.parsed.Goals as goal
 
@@ -25,9 +24,7 @@ tells : (words : List Text) (kind : ErrorKind) (fault : UsageFault)
 tells words kind Memory among own = tt
 tells words kind (Help text) among own = (kind, among, own)
 tells words kind (Words text) among own = (kind, among, own)
-tells words kind (Number quantity) among own = absurd own
-tells words kind (Exclusive which) among own = absurd own
-tells words kind Incomplete among own = absurd own
+tells words kind fault among own = absurd own
 
 pub returns-in-Err-clause-nothing : goal.returns-in-Err-clause-nothing
 returns-in-Err-clause-nothing c =

@@ -1,4 +1,4 @@
-use Rattle.std.proofs.Common.{◌≡◌, ◌<◌, ◌+◌, [], take, refl, sym, subst, false, true}
+use Rattle.std.proofs.Common.{◌≡◌, ◌<◌, [], refl, sym, subst, false, true}
 use Rattle.std.specs.Prelude.{All}
 use Rattle.std.proofs.lemmas.List.{take_all}
 use Rattle.std.proofs.lemmas.List.Elements.{All-nil, All-push, All-get_or}
@@ -27,12 +27,7 @@ loop-e-preserved c =
     let P = IsOf C c.args.part in
     elim c.if-is_of.branch [
       | then-is_of+in_ok-push w ↦
-          subst
-          (λ v. record {
-            those : AreThose P (take (i + 1) all) v.items;
-            within : All (λ e. e < C.order) v.items;
-          }) (sym w.found-is)
-          record {
+          rw w.found-is record {
             those =
                 taken-next P all c.loop-e.found.items w.push.new.self.items i 0 c.loop-e-test.true
                 c.loop-e.invariant.those (w.if-is_of.ensures.0 refl) w.in_ok-push.ensures.items;
@@ -42,12 +37,7 @@ loop-e-preserved c =
                 (All-get_or (λ e. e < C.order) all i 0 c.loop-e-test.true c.requires.listing));
           }
       | else-is_of w ↦
-          subst
-          (λ v. record {
-            those : AreThose P (take (i + 1) all) v.items;
-            within : All (λ e. e < C.order) v.items;
-          }) (sym w.found-is)
-          record {
+          rw w.found-is record {
             those =
                 left-next P all c.loop-e.found.items i 0 c.loop-e-test.true
                 c.loop-e.invariant.those

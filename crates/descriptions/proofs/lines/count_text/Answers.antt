@@ -17,11 +17,3 @@ returns-in-Latex c = rw (
   c.requires,
   c.in-Latex.is,
 ) (simp append_assoc refl)
-
-pub returns : goal.returns
-returns c = rw (
-  c.in_ok-text-in-Json.ensures.ok,
-  c.in_ok-tame.ensures,
-  c.order-order.ensures.value,
-  c.in-Json.is,
-) (simp append_assoc refl)

@@ -1,18 +1,10 @@
 use Rattle.std.proofs.Common.{arith}
-use Rattle.descriptions.proofs.Orders.{small, twice, one-more, all-other}
+use Rattle.descriptions.proofs.Orders.{small, all-other}
 use Rattle.descriptions.proofs.tame.exponent.Goals as goal
 
 pub returns-clause-none : goal.returns-clause-none
 returns-clause-none c =
     all-other c.args.order c.loop-n.n c.requires c.loop-n-test.false c.loop-n.invariant.others
-
-pub loop-n-preserved : goal.loop-n-preserved
-loop-n-preserved c = record {
-  power = twice c.loop-n.n c.loop-n.power c.loop-n.invariant.power;
-  others =
-      one-more c.args.order c.loop-n.n c.loop-n.power c.loop-n.invariant.power
-      c.if-order-power.false c.loop-n.invariant.others;
-}
 
 pub overflow_mul-power : goal.overflow_mul-power
 overflow_mul-power c =

@@ -1,6 +1,5 @@
-use Rattle.std.proofs.Common.{◌≡◌, ap, inr, Option, subst, Some, List, ℕ, length, arith}
-use Rattle.checker.specs.JobViews.{JobView}
-use Rattle.desk.specs.Desks.{HasNoCore, IsWith}
+use Rattle.std.proofs.Common.{◌≡◌, ap, subst, Some, List, ℕ, length, arith}
+use Rattle.desk.specs.Desks.{HasNoCore}
 use Rattle.desk.proofs.Filled.{core_for_push}
 use Rattle.desk.proofs.Lists.{on_err}
 use Rattle.desk.proofs.cores.core_for.Goals as goal
@@ -13,16 +12,6 @@ returns-in_err-push-clause-err g c =
     on_err ((c.push.new.self.items ≡ c.args.cores.now.items)
     × HasNoCore c.args.cores.now.items c.args.bytes.items c.args.limit) c.from_residual.result
     (c.in_err-push.ensures.items, none)
-
-pub returns-in-Some-vacancy-clause-ok : goal.returns-in-Some-vacancy-clause-ok
-returns-in-Some-vacancy-clause-ok g c =
-    let cores = c.args.cores.now.items in
-    let k = c.in-Some-vacancy.core in
-    let none : HasNoCore cores c.args.bytes.items c.args.limit =
-    subst (λ (b : List ℕ). HasNoCore cores b c.args.limit) c.deref.ensures.value
-    c.in_default.ensures.none in
-    let P : Option JobView → Type 0 = λ new. IsWith cores k new c.put.new.cores.items in
-    inr (none, c.in-Some-vacancy.ensures.some.1, subst P (ap Some c.open.ensures) c.put.ensures.placed)
 
 pub returns-clause-ok : goal.returns-clause-ok
 returns-clause-ok g c =

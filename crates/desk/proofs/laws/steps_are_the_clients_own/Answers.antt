@@ -1,8 +1,5 @@
-use Rattle.desk.proofs.RunLaws.{own_step, others_step, refused_step}
+use Rattle.desk.proofs.RunLaws.{own_step, refused_step}
 use Rattle.desk.proofs.laws.steps_are_the_clients_own.Goals as goal
-
-pub returns-clause-others : goal.returns-clause-others
-returns-clause-others c = others_step c.right_answers_are_one.ensures
 
 pub returns-clause-own : goal.returns-clause-own
 returns-clause-own c = own_step c.right_answers_are_one.ensures

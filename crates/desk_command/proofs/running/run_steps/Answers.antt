@@ -1,9 +1,8 @@
-use Rattle.std.proofs.Common.{ap, arith}
-use Rattle.std.proofs.lemmas.Grind.{common_steps}
-use Rattle.std.proofs.lemmas.Result.{err_from_is_err_and, IfOk-from_err}
+use Rattle.std.proofs.Common.{ap}
+use Rattle.std.proofs.lemmas.Result.{err_from_is_err_and}
 use Rattle.desk_script.specs.Views.{steps_of}
 use Rattle.streams.specs.Printers.{printer}
-use Rattle.desk_command.proofs.Going.{breaks_in_taking, breaks_in_writing, gone_nowhere, gone_on}
+use Rattle.desk_command.proofs.Going.{breaks_in_writing, gone_nowhere, gone_on}
 use Rattle.desk_command.proofs.running.run_steps.Goals as goal
 
 pub loop-step-init : goal.loop-step-init
@@ -17,17 +16,6 @@ loop-step-preserved g c =
     c.as_bytes.ensures.value c.loop-step.invariant c.in_ok-line.ensures.line
     _ _ _ c.take_step.ensures.kept c.in_ok-line.ensures.succeeds c.in_ok-write_whole.ensures.puts
     c.in_ok-write_whole.ensures.cause
-
-pub returns-in_err-line-clause-breaks : goal.returns-in_err-line-clause-breaks
-returns-in_err-line-clause-breaks g c =
-    let p = err_from_is_err_and c.from_residual.result c.from_residual.ensures.1 in
-    rw (p.1, p.2)
-    (breaks_in_taking (g.F.Folder.files c.args.folder.now) (g.F.Folder.files c.loop-step.folder)
-    (steps_of c.args.steps.items) _ _ _ _ _ (g.F.Folder.failed_reads c.loop-step.folder)
-    (g.F.Folder.failed_reads c.take_step.new.folder)
-    (printer (g.W.Sink.taken c.args.sink.now) (g.W.Sink.failures c.args.sink.now))
-    (printer (g.W.Sink.taken c.loop-step.sink) (g.W.Sink.failures c.loop-step.sink))
-    (ap steps_of c.in-Some.ensures.steps.0) c.loop-step.invariant _ c.in_err-line.ensures.stops)
 
 pub returns-in_err-write_whole-clause-breaks : goal.returns-in_err-write_whole-clause-breaks
 returns-in_err-write_whole-clause-breaks g c =
@@ -44,13 +32,3 @@ returns-in_err-write_whole-clause-breaks g c =
     (g.F.Folder.failed_reads c.take_step.new.folder)
     (printer (g.W.Sink.taken c.write_whole.new.sink) (g.W.Sink.failures c.write_whole.new.sink))
     c.in_err-write_whole.ensures.puts c.in_err-write_whole.ensures.cause)
-
-pub returns-in_err-line-clause-ran : goal.returns-in_err-line-clause-ran
-returns-in_err-line-clause-ran g c = IfOk-from_err _ _ c.from_residual.ensures.0
-
-pub returns-in_err-write_whole-clause-ran : goal.returns-in_err-write_whole-clause-ran
-returns-in_err-write_whole-clause-ran g c =
-    IfOk-from_err _ _ c.from_residual-in_err-write_whole.ensures.0
-
-pub returns-clause-ran : goal.returns-clause-ran
-returns-clause-ran g c = grind (arith, common_steps)

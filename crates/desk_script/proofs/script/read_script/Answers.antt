@@ -1,6 +1,4 @@
 use Rattle.std.proofs.Common.{Err, ap, arith, ◌+◌}
-use Rattle.std.proofs.lemmas.Result.{IfOk-from_err}
-use Rattle.std.proofs.lemmas.Grind.{common_steps}
 use Rattle.std.proofs.lemmas.List.{length-map}
 use Rattle.desk_script.specs.Views.{step_of, steps_of}
 use Rattle.desk_script.proofs.ReadLines.{all_read, first_other, is_nothing, none_read, not_empty, one_more_read, steps_more}
@@ -31,9 +29,3 @@ returns-clause-steps g c =
     all_read c.args.script.now c.loop-rest.rest.now (steps_of c.loop-rest.steps.items)
     c.loop-rest.invariant
     (is_nothing c.is_empty.result c.loop-rest.rest.now c.loop-rest-test.false c.is_empty.ensures)
-
-pub returns-in_err-push-in-Ok-clause-steps : goal.returns-in_err-push-in-Ok-clause-steps
-returns-in_err-push-in-Ok-clause-steps g c = IfOk-from_err _ _ c.from_residual.ensures.0
-
-pub loop-rest-smaller : goal.loop-rest-smaller
-loop-rest-smaller g c = grind (arith, common_steps)

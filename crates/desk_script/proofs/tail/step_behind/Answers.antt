@@ -1,4 +1,4 @@
-use Rattle.std.proofs.lemmas.Result.{err_from_is_err_and, IfOk-from_err}
+use Rattle.std.proofs.lemmas.Result.{err_from_is_err_and}
 use Rattle.desk_script.proofs.Lines.{no_ask, no_play, same_fault}
 use Rattle.desk_script.proofs.tail.step_behind.Goals as goal
 
@@ -17,24 +17,3 @@ returns-in_err-job-in-play-clause-other g c =
     rw (p.1, p.2)
     (λ e. no_play c.args.tail.now c.args.word.now c.in-play.is
     (c.in_err-job-in-play.ensures.other (same_fault _ _ e)))
-
-pub returns-in_err-job-in-ask-clause-word : goal.returns-in_err-job-in-ask-clause-word
-returns-in_err-job-in-ask-clause-word g c = IfOk-from_err _ _ c.from_residual.ensures.0
-
-pub returns-in_err-job-in-ask-clause-client : goal.returns-in_err-job-in-ask-clause-client
-returns-in_err-job-in-ask-clause-client g c = IfOk-from_err _ _ c.from_residual.ensures.0
-
-pub returns-in_err-job-in-ask-clause-tail : goal.returns-in_err-job-in-ask-clause-tail
-returns-in_err-job-in-ask-clause-tail g c = IfOk-from_err _ _ c.from_residual.ensures.0
-
-pub returns-in_err-job-in-play-clause-word : goal.returns-in_err-job-in-play-clause-word
-returns-in_err-job-in-play-clause-word g c =
-    IfOk-from_err _ _ c.from_residual-in_err-job-in-play.ensures.0
-
-pub returns-in_err-job-in-play-clause-client : goal.returns-in_err-job-in-play-clause-client
-returns-in_err-job-in-play-clause-client g c =
-    IfOk-from_err _ _ c.from_residual-in_err-job-in-play.ensures.0
-
-pub returns-in_err-job-in-play-clause-tail : goal.returns-in_err-job-in-play-clause-tail
-returns-in_err-job-in-play-clause-tail g c =
-    IfOk-from_err _ _ c.from_residual-in_err-job-in-play.ensures.0

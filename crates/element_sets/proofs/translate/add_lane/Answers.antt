@@ -1,6 +1,6 @@
 use Rattle.std.proofs.Common.{◌*◌, arith, rules, sym, subst}
 use Rattle.std.specs.Prelude.{◌↔◌}
-use Rattle.element_sets.proofs.HitLaws.{Has, without_lowest, falls, can_still, taken, lowest_can, nothing_left}
+use Rattle.element_sets.proofs.HitLaws.{Has, without_lowest, can_still, taken, lowest_can}
 use Rattle.element_sets.proofs.translate.add_lane.Goals as goal
 
 pub overflow_add-base : goal.overflow_add-base
@@ -29,9 +29,6 @@ put-requires g c = (
       (omega arith) c.loop-word.invariant.can).2,
 )
 
-pub loop-word-smaller : goal.loop-word-smaller
-loop-word-smaller g c = falls c.loop-word.word (omega arith)
-
 pub loop-word-preserved : goal.loop-word-preserved
 loop-word-preserved g c = record {
   same = λ q.
@@ -44,10 +41,3 @@ loop-word-preserved g c = record {
   can = can_still (64 * g.row.LANES) c.loop-word.word c.args.base c.args.row.now (omega arith) (omega arith)
       c.loop-word.invariant.can;
 }
-
-pub returns : goal.returns
-returns g c = λ q.
-    let done = nothing_left c.loop-word.all c.loop-word.word c.args.base c.args.row.now q
-    (omega arith) in
-    let all = c.loop-word.invariant.same q in
-    (λ h. all.0 (done.0 h), λ h. done.1 (all.1 h))

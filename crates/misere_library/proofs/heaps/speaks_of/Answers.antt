@@ -1,16 +1,8 @@
-use Rattle.std.proofs.Common.{◌≡◌, ◌<◌, ◌≤◌, ℕ, refl, sym, subst, arith}
+use Rattle.std.proofs.Common.{◌≡◌, ◌<◌, ◌≤◌, ℕ, sym, subst, arith}
 use Rattle.std.specs.List.{All}
 use Rattle.misere_theory.specs.Certificates.{kind_of}
-use Rattle.misere_library.proofs.Positions.{full_speaks, small_speaks, speaks_small}
+use Rattle.misere_library.proofs.Positions.{small_speaks, speaks_small}
 use Rattle.misere_library.proofs.heaps.speaks_of.Goals as goal
-
-pub returns-then-last-eq0 : goal.returns-then-last-eq0
-returns-then-last-eq0 c = (
-  λ t. full_speaks (kind_of c.args.certified.now) c.args.heaps.now
-      (let e = c.heaps-last.ensures.value in let s = c.cert.ensures.same in let z = c.if-last-eq0.true in cc)
-      c.requires,
-  λ p. refl,
-)
 
 pub returns-else-last-eq0 : goal.returns-else-last-eq0
 returns-else-last-eq0 c =

@@ -4,7 +4,8 @@ use Rattle.misere_theory.specs.Certificates.{claim_of, kind_of, IsHeapOf}
 use Rattle.misere_theory.proofs.Counting.{kept_in}
 use Rattle.misere_theory.proofs.Kept.{rule_everywhere}
 use Rattle.misere_theory.proofs.Rules.{predicts_from_rule, represents}
-use Rattle.misere_theory.proofs.Written.{phi_in, periodic, reached, all_apart}
+use Rattle.misere_theory.proofs.Written.{phi_in, periodic, all_apart}
+use Rattle.misere_theory.proofs.Spelled.{reached}
 use Rattle.misere_theory.proofs.certificates.tested_certificates_are_accepted.Goals as goal
 
 pub returns : goal.returns
@@ -19,5 +20,5 @@ returns g c kept ranges monoid canonical closed members elements =
       represents =
           represents (IsHeapOf c) c.code claim monoid inside
           (predicts_from_rule (IsHeapOf c) c.code claim (kept_in (kind_of c) c.code) rule)
-          (reached c ranges monoid canonical.numbered) (all_apart c canonical.apart);
+          (reached c ranges monoid canonical) (all_apart c canonical.apart);
     }

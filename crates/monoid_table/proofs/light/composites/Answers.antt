@@ -1,4 +1,4 @@
-use Rattle.std.proofs.Common.{rules, ◌≡◌, ℕ, zero, suc, true, false, get_or, replicate}
+use Rattle.std.proofs.Common.{◌≡◌, ℕ, zero, suc, true, false, get_or, replicate}
 use Rattle.misere_theory.specs.declared.TheConstants.{LARGEST_ORDER}
 use Rattle.monoid_table.proofs.light.composites.Goals as goal
 
@@ -9,6 +9,3 @@ none-marked (suc n) (suc k) e = none-marked n k e
 
 pub loop-x-init : goal.loop-x-init
 loop-x-init c = λ k marked. absurd (none-marked LARGEST_ORDER k marked)
-
-pub loop-y-preserved : goal.loop-y-preserved
-loop-y-preserved c = search rules

@@ -1,5 +1,4 @@
-use Rattle.std.proofs.Common.{◌≡◌, ◌+◌, ◌∙◌, sym, ap, subst, take, arith}
-use Rattle.std.proofs.lemmas.Grind.{common_steps}
+use Rattle.std.proofs.Common.{◌≡◌, ◌+◌, ◌∙◌, sym, ap, subst, take}
 use Rattle.std.proofs.lemmas.List.{take_all}
 use Rattle.std.proofs.lemmas.List.Elements.{recursion_from_All}
 use Rattle.monoid_table.specs.Laws.{product_of}
@@ -33,6 +32,3 @@ loop-x-preserved g c =
           (product-take_in _ _ _ (g.met.M.CommMonoid.laws m c.one-all.ensures.lawful)
           c.args.elements.now (c.loop-x.x-index + 1) c.requires);
     }
-
-pub returns-clause-value : goal.returns-clause-value
-returns-clause-value c = grind (arith, common_steps)

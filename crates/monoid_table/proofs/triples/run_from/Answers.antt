@@ -1,5 +1,4 @@
 use Rattle.std.proofs.Common.{◌≡◌, ◌+◌, ◌-◌, ◌%◌, ap, ◌∙◌, sym, arith}
-use Rattle.std.proofs.lemmas.Grind.{common_steps}
 use Rattle.monoid_table.specs.Turns.{triple_holds}
 use Rattle.monoid_table.proofs.Checked.{run-passed, run-breach, pair-breach, run-within}
 use Rattle.monoid_table.proofs.triples.run_from.Goals as goal
@@ -45,6 +44,3 @@ returns-clause-last c =
     run-passed _ _ c.args.spent c.first_breach-stop.result c.requires.shaped.positive (omega arith)
     (sym c.holds_at_pair.ensures ∙ c.if-not-holds_at_pair.false) c.first_breach-stop.ensures.alike _
     (omega arith) (omega arith)
-
-pub first_breach-stop-requires-clause-x_in : goal.first_breach-stop-requires-clause-x_in
-first_breach-stop-requires-clause-x_in c = grind (arith, common_steps)

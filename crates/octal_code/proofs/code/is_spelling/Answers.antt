@@ -1,13 +1,9 @@
 use Rattle.std.proofs.Common.{◌≡◌, ◌-◌, length, take, drop, sym, subst, ◌∙◌, arith}
 use Rattle.std.proofs.lemmas.Bool.{iff_false, true≢false}
-use Rattle.std.proofs.lemmas.Grind.{common_steps}
 use Rattle.std.proofs.lemmas.List.{length-drop, take_all}
 use Rattle.std.specs.List.{All}
 use Rattle.octal_code.specs.Spelling.{IsDigitByte}
 use Rattle.octal_code.proofs.code.is_spelling.Goals as goal
-
-pub returns-then-are_digits : goal.returns-then-are_digits
-returns-then-are_digits c = grind (arith, common_steps)
 
 pub returns-else-are_digits : goal.returns-else-are_digits
 returns-else-are_digits c =

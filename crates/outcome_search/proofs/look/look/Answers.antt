@@ -1,5 +1,4 @@
-use Rattle.std.proofs.Common.{rules, ◌≡◌, ◌<◌, ◌+◌, ◌-◌, ℕ, List, Bool, length, get_or, true, false, inr, ap, sym, subst, arith}
-use Rattle.std.proofs.lemmas.Result.{IfOk-from_err}
+use Rattle.std.proofs.Common.{◌≡◌, ◌<◌, ◌+◌, ◌-◌, ℕ, List, Bool, length, get_or, true, false, ap, sym, subst, arith}
 use Rattle.heap_options.specs.Exact.{heaps_of}
 use Rattle.heap_options.specs.Options.{options_of}
 use Rattle.outcome_search.specs.Known.{HasSeen}
@@ -43,35 +42,14 @@ loop-at-preserved g c =
 
 pub returns-then-can_move : goal.returns-then-can_move
 returns-then-can_move g c =
-    let X = c.args.position.now in
     let l = ap length c.heaps-heaps.ensures.value in
-    let over : c.loop-at.at ≡ length X = let end = c.loop-at.auto.at-end in omega arith in
-    let all = subst (λ (n : ℕ). HasLooked c.args.code.now X c.args.memo.now n true) over
-    (subst (λ b. HasLooked c.args.code.now X c.args.memo.now c.loop-at.at b) c.if-can_move.true
-    c.loop-at.invariant) in
-    looked_all c.args.code.now X c.args.memo.now c.options_are_exact.ensures.each true all
+    let end = c.loop-at.auto.at-end in
+    looked_all c.args.code.now c.args.position.now c.args.memo.now c.options_are_exact.ensures.each
+    c.loop-at.at c.loop-at.can_move true c.loop-at.invariant (omega arith) c.if-can_move.true
 
 pub returns-else-can_move : goal.returns-else-can_move
 returns-else-can_move g c =
-    let X = c.args.position.now in
     let l = ap length c.heaps-heaps.ensures.value in
-    let over : c.loop-at.at ≡ length X = let end = c.loop-at.auto.at-end in omega arith in
-    let all = subst (λ (n : ℕ). HasLooked c.args.code.now X c.args.memo.now n false) over
-    (subst (λ b. HasLooked c.args.code.now X c.args.memo.now c.loop-at.at b) c.if-can_move.false
-    c.loop-at.invariant) in
-    looked_all c.args.code.now X c.args.memo.now c.options_are_exact.ensures.each false all
-
-pub look_at-requires : goal.look_at-requires
-look_at-requires g c = rw (← c.heaps-heaps.ensures.value) c.loop-at-test.true
-
-pub returns-in_err-look_at : goal.returns-in_err-look_at
-returns-in_err-look_at g c = IfOk-from_err _ _ c.from_residual.ensures.0
-
-pub returns-in-Wins : goal.returns-in-Wins
-returns-in-Wins g c = inr (rw c.in-Wins.is at c.in_ok-look_at.ensures)
-
-pub returns-in-Unknown : goal.returns-in-Unknown
-returns-in-Unknown g c = rw c.in-Unknown.is at c.in_ok-look_at.ensures
-
-pub loop-at-init : goal.loop-at-init
-loop-at-init g c = search rules
+    let end = c.loop-at.auto.at-end in
+    looked_all c.args.code.now c.args.position.now c.args.memo.now c.options_are_exact.ensures.each
+    c.loop-at.at c.loop-at.can_move false c.loop-at.invariant (omega arith) c.if-can_move.false

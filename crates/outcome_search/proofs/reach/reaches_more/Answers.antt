@@ -1,11 +1,7 @@
-use Rattle.std.proofs.Common.{◌≡◌, ◌∷◌, [], get_or, IfOk, IsTrue, ap, refl, sym, subst}
+use Rattle.std.proofs.Common.{[], get_or, IfOk, IsTrue, ap, sym, subst}
 use Rattle.std.specs.List.Sorted.{IsNonDecreasing}
 use Rattle.misere_theory.specs.Plays.{MoreReachableThan}
 use Rattle.outcome_search.proofs.reach.reaches_more.Goals as goal
-
-pub list-requires-clause-alone : goal.list-requires-clause-alone
-list-requires-clause-alone g c =
-    subst (λ r. r ≡ get_or r 0 [] ∷ []) (sym c.in_ok-reached.ensures.alone) refl
 
 pub list-requires-clause-rising : goal.list-requires-clause-rising
 list-requires-clause-rising g c =

@@ -1,13 +1,9 @@
 use Rattle.pair_closure.proofs.Calls.{retaken_on, left_of}
-use Rattle.pair_closure.proofs.Running.{same_after}
 use Rattle.pair_closure.proofs.Keeping.{keeps_after}
 use Rattle.pair_closure.proofs.laws.closures_go_on.Goals as goal
 
 pub returns-clause-on : goal.returns-clause-on
 returns-clause-on c = retaken_on
-
-pub returns-clause-data : goal.returns-clause-data
-returns-clause-data c = λ p. same_after p.state
 
 pub returns-clause-left : goal.returns-clause-left
 returns-clause-left c = left_of

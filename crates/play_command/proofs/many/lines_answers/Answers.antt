@@ -1,16 +1,21 @@
-use Rattle.std.proofs.Common.{◌∙◌, ◌++◌, ap, ℕ, List}
-use Rattle.play_command.proofs.Answered.{all_answered, if_not, if_so, is_nothing, not_empty, one_more_answered}
+use Rattle.std.proofs.Common.{◌∙◌, ◌++◌, ap, subst, sym, ℕ, List, true, []}
+use Rattle.command_results.proofs.LineLaws.{all_answered, if_not, if_so, is_nothing, not_empty, one_more_answered}
+use Rattle.command_results.specs.Lines.{AnswersLines}
+use Rattle.command_results.specs.Lines.AnswersLines.{Line, NoLine}
+use Rattle.play_command.specs.Many.{AnswersLine}
 use Rattle.play_command.proofs.many.lines_answers.Goals as goal
 use Rattle.play_command.proofs.many.lines_answers.Goals.{then-succeeds, else-succeeds}
 
 pub loop-rest-preserved : goal.loop-rest-preserved
 loop-rest-preserved c =
-    one_more_answered c.args.certified.now c.args.lines.now c.loop-rest.rest.now
-    c.first_line.result.0.now c.first_line.result.1.now c.loop-rest.text.items
+    let some = not_empty c.is_empty.result c.loop-rest.rest.now c.loop-rest-test.true
+    c.is_empty.ensures in
+    one_more_answered (AnswersLines (AnswersLine c.args.certified.now)) c.args.lines.now
+    c.loop-rest.rest.now c.first_line.result.1.now c.loop-rest.text.items
     c.in_ok-said.said.text.items c.extend_from_slice.new.self.items c.loop-rest.succeeds
     c.in_ok-said.said.succeeds c.if-succeeds.succeeds c.loop-rest.invariant
-    (not_empty c.is_empty.result c.loop-rest.rest.now c.loop-rest-test.true c.is_empty.ensures)
-    c.first_line.ensures c.in_ok-said.ensures
+    (λ later well after. Line c.first_line.result.0.now some c.first_line.ensures
+    c.in_ok-said.ensures after)
     (c.in_ok-extend_from_slice.ensures.items
     ∙ ap (λ (t : List ℕ). c.loop-rest.text.items ++ t) c.deref.ensures.value)
     (elim c.if-succeeds.branch [
@@ -22,6 +27,9 @@ loop-rest-preserved c =
 
 pub returns : goal.returns
 returns c =
-    all_answered c.args.certified.now c.args.lines.now c.loop-rest.rest.now c.loop-rest.text.items
-    c.loop-rest.succeeds c.loop-rest.invariant
-    (is_nothing c.is_empty.result c.loop-rest.rest.now c.loop-rest-test.false c.is_empty.ensures)
+    let none = is_nothing c.is_empty.result c.loop-rest.rest.now c.loop-rest-test.false
+    c.is_empty.ensures in
+    all_answered (AnswersLines (AnswersLine c.args.certified.now)) c.args.lines.now
+    c.loop-rest.rest.now c.loop-rest.text.items c.loop-rest.succeeds c.loop-rest.invariant
+    (subst (λ (r : List ℕ). AnswersLines (AnswersLine c.args.certified.now) r [] true) (sym none)
+    NoLine)

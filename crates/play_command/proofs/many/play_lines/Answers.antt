@@ -1,5 +1,5 @@
 use Rattle.std.proofs.Common.{ap, arith, refl, subst, ℕ, List, Option}
-use Rattle.play_command.specs.Many.{AreLinesOf}
+use Rattle.command_results.specs.Lines.{AreLinesOf}
 use Rattle.play_command.proofs.Found.{plays_quotient, plays_no}
 use Rattle.play_command.proofs.many.play_lines.Goals as goal
 

@@ -1,7 +1,6 @@
-use Rattle.std.proofs.Common.{◌≡◌, ◌<◌, ◌≤◌, ℕ, List, refl, sym, ◌∙◌, subst, arith}
+use Rattle.std.proofs.Common.{◌≡◌, ◌<◌, ◌≤◌, ℕ, List, refl, sym, subst, arith}
 use Rattle.std.specs.List.{All}
 use Rattle.misere_theory.specs.Certificates.{kind_of}
-use Rattle.misere_theory.proofs.Counting.{kind_full}
 use Rattle.player.proofs.Rests.{all_fit, small_fit, fit_small}
 use Rattle.player.proofs.play.fits.Goals as goal
 
@@ -26,11 +25,3 @@ returns-else-last-eq0-clause-fits g c =
           (subst (up c.heaps-heaps.result.now) (sym is)
           (subst (λ X. up X M) (sym c.heaps-heaps.ensures.value) (fit_small M c.args.position.now some p))),
     )
-
-pub returns-else-last-eq0-clause-full : goal.returns-else-last-eq0-clause-full
-returns-else-last-eq0-clause-full g c = λ full.
-    let C = c.args.certified.now in
-    let is : c.heaps-last.result ≡ kind_of C =
-    (let e = c.heaps-last.ensures.value in let s = c.cert.ensures.same in cc) in
-    let z = kind_full C.start C.period full in
-    absurd (let f = c.if-last-eq0.false in f (is ∙ z))

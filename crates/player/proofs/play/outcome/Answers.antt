@@ -1,23 +1,8 @@
 use Rattle.std.proofs.Common.{◌∙◌, ap}
-use Rattle.misere_theory.specs.Certificates.{IsHeapOf, claim_of}
+use Rattle.misere_theory.specs.Certificates.{claim_of}
 use Rattle.misere_theory.specs.Quotients.{value}
-use Rattle.player.proofs.Answered.{p_here, n_here}
-use Rattle.player.proofs.Rests.{moved_fit}
+use Rattle.player.proofs.Answered.{n_here}
 use Rattle.player.proofs.play.outcome.Goals as goal
-
-pub value-requires : goal.value-requires
-value-requires g c =
-    moved_fit (IsHeapOf c.args.certified.now) c.args.position.now c.heaps.result.now
-    c.heaps.ensures.value c.requires.fits
-
-pub returns-then-holds : goal.returns-then-holds
-returns-then-holds g c =
-    let C = c.args.certified.now in
-    let X = c.args.position.now in
-    p_here C c.value.ensures.accepted X c.requires.fits
-    c.value.result c.holds.result
-    (c.value.ensures.value ∙ ap (value (claim_of C)) c.heaps.ensures.value) c.holds.ensures
-    c.if-holds.true
 
 pub returns-else-holds : goal.returns-else-holds
 returns-else-holds g c =

@@ -1,12 +1,11 @@
-use Rattle.std.proofs.Common.{rules, ◌≡◌, ◌+◌, ◌-◌, ◌/◌, ◌<◌, suc, ◌++◌, ◌∙◌, ap, subst, arith, drop, take}
-use Rattle.std.proofs.lemmas.Grind.{common_steps}
+use Rattle.std.proofs.Common.{rules, ◌≡◌, suc, ◌++◌, ◌∙◌, ap, subst, arith, drop, take}
 use Rattle.std.specs.Option.{MatchOption}
 use Rattle.misere_theory.specs.Certificates.{claim_of}
 use Rattle.misere_theory.specs.Plays.{IsFirstWin}
 use Rattle.misere_theory.specs.Quotients.{value}
 use Rattle.heap_options.specs.Exact.{heaps_of}
 use Rattle.player.specs.Wins.{NoneWinsBelow}
-use Rattle.player.proofs.Halves.{beside_first, beside_second, none_of_equal}
+use Rattle.player.proofs.Halves.{beside_first, beside_second, halves, none_of_equal}
 use Rattle.player.proofs.wins.+first_win_within.Goals as goal
 
 pub returns-then-heaps-from : goal.returns-then-heaps-from
@@ -32,63 +31,18 @@ returns-then-from-to g t c =
 pub first_win_within-requires : goal.first_win_within-requires
 first_win_within-requires g t c κs within =
     let q = c.requires in
-    let from = c.args.from in
-    let to = c.args.to in
-    let middle = from + (to - from) / 2 in
-    let up = q.some in
-    let n : from + 1 ≡ to → ⊥ = c.if-from-to.false in
-    let a : from < middle = omega arith in
-    let z : middle < to = omega arith in
-    let r = c.times-behind.ensures.value in
-    let b = beside_first c.args.certified.now q.accepted c.args.heaps.now q.position from middle to
-    c.args.others c.value.result c.times-behind.result (omega arith) (omega arith) q.others r
-    c.value.ensures.value in
-    let l = q.to_in in (
-      search rules,
-      (
-        within,
-        (
-          q.accepted,
-          (
-            q.position,
-            (q.rising, (a, (omega arith, (c.times-behind.ensures.within, (b, q.none))))),
-          ),
-        ),
-      ),
-    )
+    let (a, z) = halves c.args.from c.args.to q.some c.if-from-to.false in
+    let l = q.to_in in
+    let b = beside_first c.args.certified.now q.accepted c.args.heaps.now q.position c.args.from _ c.args.to
+    c.args.others c.value.result c.times-behind.result (omega arith) (omega arith) q.others
+    c.times-behind.ensures.value c.value.ensures.value in
+    (search rules, (within, (q.accepted, (q.position, (q.rising, (a, (omega arith, (c.times-behind.ensures.within, (b, q.none)))))))))
 
 pub first_win_within-requires-2 : goal.first_win_within-requires-2
 first_win_within-requires-2 g t c κs within =
     let q = c.requires in
-    let from = c.args.from in
-    let to = c.args.to in
-    let middle = from + (to - from) / 2 in
-    let up = q.some in
-    let n : from + 1 ≡ to → ⊥ = c.if-from-to.false in
-    let a : from < middle = omega arith in
-    let z : middle < to = omega arith in
-    let r = c.times-before.ensures.value in
-    let b = beside_second c.args.certified.now q.accepted c.args.heaps.now q.position from middle to
-    c.args.others c.value-2.result c.times-before.result (omega arith) (omega arith) q.others r
-    c.value-2.ensures.value in (
-      search rules,
-      (
-        within,
-        (
-          q.accepted,
-          (
-            q.position,
-            (q.rising, (z, (q.to_in, (c.times-before.ensures.within, (b, c.in_default.ensures))))),
-          ),
-        ),
-      ),
-    )
-
-pub value-requires : goal.value-requires
-value-requires c = grind (arith, common_steps)
-
-pub value-requires-2 : goal.value-requires-2
-value-requires-2 c = grind (arith, common_steps)
-
-pub times-before-requires-clause-x_in : goal.times-before-requires-clause-x_in
-times-before-requires-clause-x_in c = grind (arith, common_steps)
+    let (a, z) = halves c.args.from c.args.to q.some c.if-from-to.false in
+    let b = beside_second c.args.certified.now q.accepted c.args.heaps.now q.position c.args.from _ c.args.to
+    c.args.others c.value-2.result c.times-before.result (omega arith) (omega arith) q.others
+    c.times-before.ensures.value c.value-2.ensures.value in
+    (search rules, (within, (q.accepted, (q.position, (q.rising, (z, (q.to_in, (c.times-before.ensures.within, (b, c.in_default.ensures)))))))))

@@ -1,9 +1,7 @@
 use Rattle.std.proofs.Common.{rules, length, Option, Some, None, arith}
 use Rattle.std.specs.Option.{MatchOption}
-use Rattle.misere_theory.specs.Certificates.{claim_of}
 use Rattle.positions.specs.declared.moves.Move.{Move}
 use Rattle.player.proofs.Others.{none_at_all}
-use Rattle.player.proofs.Halves.{none_beside}
 use Rattle.player.proofs.wins.first_win.Goals as goal
 
 mapped : {P Q : Type 0} (R : Move → Type 0) (r : Option Move) → (P → Q) → MatchOption r P R
@@ -14,11 +12,6 @@ mapped R (Some m) f p = p
 pub returns-then-is_empty : goal.returns-then-is_empty
 returns-then-is_empty g c =
     none_at_all c.args.certified.now c.args.heaps.now 0 (search rules) (λ k l. absurd (omega arith))
-
-pub first_win_within-requires-clause-others : goal.first_win_within-requires-clause-others
-first_win_within-requires-clause-others g c =
-    none_beside (claim_of c.args.certified.now) c.args.heaps.now c.value.result
-    c.value.ensures.value
 
 pub returns : goal.returns
 returns g c =

@@ -1,9 +1,7 @@
 use Rattle.std.proofs.Common.{get_or}
 use Rattle.std.proofs.lemmas.List.{get_or_default}
 use Rattle.heap_options.specs.Exact.{heaps_of}
-use Rattle.misere_theory.specs.Certificates.{IsHeapOf}
 use Rattle.player.proofs.Others.{first_of_all, none_more}
-use Rattle.player.proofs.Rests.{heap_at}
 use Rattle.player.proofs.wins.first_win_at.Goals as goal
 
 pub returns-in-Some : goal.returns-in-Some
@@ -20,8 +18,3 @@ pub returns : goal.returns
 returns g c =
     none_more c.args.certified.now c.requires.accepted c.args.heaps.now c.requires.position
     c.args.at c.args.others c.requires.there c.requires.others c.in_default.ensures c.requires.none
-
-pub first_into-requires-clause-heap : goal.first_into-requires-clause-heap
-first_into-requires-clause-heap g c =
-    heap_at (IsHeapOf c.args.certified.now) c.args.heaps.now c.args.at 0 c.requires.there
-    c.requires.position

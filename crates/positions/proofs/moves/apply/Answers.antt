@@ -1,12 +1,10 @@
 -- At each way out the clause of each fault is right: it is given, or its condition doesn't hold.
 use Rattle.std.proofs.Common.{◌≡◌, ◌+◌, ◌<◌, ◌≤◌, ◌∙◌, ℕ, List, length, get_or, refl, sym, subst, arith}
 use Rattle.std.specs.List.{Contains, remove}
-use Rattle.std.specs.Prelude.{Result, Ok, Err, IsErrAnd}
+use Rattle.std.specs.Prelude.{Result, Err, IsErrAnd}
 use Rattle.std.proofs.lemmas.Bool.{iff_false}
 use Rattle.std.proofs.lemmas.List.{get_or_default}
 use Rattle.std.proofs.lemmas.List.Edits.{length-remove}
-use Rattle.std.proofs.lemmas.Result.{IfOk-from_err}
-use native.Mathlib.Decide.{dec_le}
 use Rattle.positions.specs.declared.moves.MoveFault.{MoveFault}
 use Rattle.positions.specs.declared.moves.MoveFault.TheVariants.{NoSuchHeap, NotAllowed, Memory}
 use Rattle.heap_options.specs.Exact.{heaps_of}
@@ -22,16 +20,6 @@ contained : {H X : List ℕ} (i n : ℕ) → H ≡ X → IsAt H i n → Contains
 contained {H} {X} i n e h =
     subst (λ hs. Contains hs n) e (i, h.0, sym (get_or_default H i 0 n h.0) ∙ h.1)
 
--- no heap of size n stands anywhere: smaller ones stand before a place, and larger ones from it on
-missing : (X : List ℕ) (i n : ℕ) → ((k : ℕ) → k < i → get_or X k 0 < n)
-    → ((k : ℕ) → i ≤ k → k < length X → n < get_or X k 0) → Contains X n → ⊥
-missing X i n below above (k, l, e) =
-    let same = get_or_default X k 0 n l in
-    elim (dec_le (k + 1) i) [
-      | yes p ↦ omega (arith, below k (omega arith))
-      | no p ↦ omega (arith, above k (omega arith) l)
-    ]
-
 -- the faults differ
 no_heap_or_not_allowed : NoSuchHeap ≡ NotAllowed → ⊥
 no_heap_or_not_allowed e = absurd (cc)
@@ -46,41 +34,9 @@ other_fault : {X : Type 0} {f g : MoveFault} → (f ≡ g → ⊥)
     → ◌≡◌ {A = Result X MoveFault} (Err f) (Err g) → ⊥
 other_fault differ e = differ (cc)
 
-ok_is_no_fault : {X : Type 0} {x : X} {fault : MoveFault} → Ok x ≡ Err fault → ⊥
-ok_is_no_fault e = absurd (cc)
-
 is_memory : {X : Type 0} (r : Result X MoveFault) (fault : MoveFault)
     → IsErrAnd r (λ f. f ≡ Memory) → r ≡ Err fault → fault ≡ Memory
 is_memory r fault m e = subst (λ r. IsErrAnd r (λ f. f ≡ Memory)) e m
-
-pub place_of-requires : goal.place_of-requires
-place_of-requires g c = rw c.heaps.ensures.value c.heaps.ensures.rising
-
-pub returns-in_default-clause-ok : goal.returns-in_default-clause-ok
-returns-in_default-clause-ok g c = tt
-
-pub returns-in_default-clause-no_such_heap : goal.returns-in_default-clause-no_such_heap
-returns-in_default-clause-no_such_heap g c = (
-  λ e. rw (← c.heaps.ensures.value)
-      (missing c.heaps.result.now c.in_default.field-0 c.args.step.heap c.in_default.ensures.1
-      c.in_default.ensures.2),
-  λ h. refl,
-)
-
-pub returns-in_default-clause-memory : goal.returns-in_default-clause-memory
-returns-in_default-clause-memory g c = λ e. absurd (other_fault no_heap_or_memory e)
-
-pub returns-in_default-clause-not_allowed : goal.returns-in_default-clause-not_allowed
-returns-in_default-clause-not_allowed g c = (
-  λ e. absurd (other_fault no_heap_or_not_allowed e),
-  λ h.
-      absurd
-      (missing c.heaps.result.now c.in_default.field-0 c.args.step.heap c.in_default.ensures.1
-      c.in_default.ensures.2 (rw c.heaps.ensures.value h.0)),
-)
-
-pub returns-then-not-is_option-clause-ok : goal.returns-then-not-is_option-clause-ok
-returns-then-not-is_option-clause-ok g c = tt
 
 pub returns-then-not-is_option-clause-no_such_heap :
     goal.returns-then-not-is_option-clause-no_such_heap
@@ -88,17 +44,11 @@ returns-then-not-is_option-clause-no_such_heap g c =
     let there = contained c.in-Ok.at c.args.step.heap c.heaps.ensures.value c.in-Ok.ensures in
     (λ e. absurd (other_fault (λ d. no_heap_or_not_allowed (sym d)) e), λ h. absurd (h there))
 
-pub returns-then-not-is_option-clause-memory : goal.returns-then-not-is_option-clause-memory
-returns-then-not-is_option-clause-memory g c = λ e. absurd (other_fault not_allowed_or_memory e)
-
 pub returns-then-not-is_option-clause-not_allowed :
     goal.returns-then-not-is_option-clause-not_allowed
 returns-then-not-is_option-clause-not_allowed g c =
     let there = contained c.in-Ok.at c.args.step.heap c.heaps.ensures.value c.in-Ok.ensures in
     (λ e. (there, iff_false c.is_option.ensures c.if-not-is_option.true), λ h. refl)
-
-pub set_moved-requires-clause-there : goal.set_moved-requires-clause-there
-set_moved-requires-clause-there g c = rw (← c.heaps.ensures.value) c.in-Ok.ensures.0
 
 pub set_moved-requires-clause-sizes : goal.set_moved-requires-clause-sizes
 set_moved-requires-clause-sizes g c =
@@ -107,10 +57,6 @@ set_moved-requires-clause-sizes g c =
     let fits = c.heaps.ensures.sizes c.in-Ok.at 0 here.0 in
     parts_fit c.args.code.now c.args.step.heap 1000000000000000000 c.args.step.left
     (c.is_option.ensures.0 c.if-not-is_option.false) (let e = here.1 in omega arith)
-
-pub returns-in_err-set_moved-clause-ok : goal.returns-in_err-set_moved-clause-ok
-returns-in_err-set_moved-clause-ok g c =
-    IfOk-from_err c.from_residual.result _ c.from_residual.ensures.0
 
 pub returns-in_err-set_moved-clause-no_such_heap :
     goal.returns-in_err-set_moved-clause-no_such_heap
@@ -142,17 +88,3 @@ returns-clause-ok g c =
     moved_to c.args.code.now c.args.position.now c.args.step.heap c.in-Ok.at c.args.step.left
     c.set_moved.new.self here.0 here.1 (c.is_option.ensures.0 c.if-not-is_option.false)
     c.in_ok-set_moved.ensures.moved
-
-pub returns-clause-no_such_heap : goal.returns-clause-no_such_heap
-returns-clause-no_such_heap g c =
-    let there = contained c.in-Ok.at c.args.step.heap c.heaps.ensures.value c.in-Ok.ensures in
-    (λ e. absurd (ok_is_no_fault e), λ h. absurd (h there))
-
-pub returns-clause-memory : goal.returns-clause-memory
-returns-clause-memory g c = λ e. absurd (ok_is_no_fault e)
-
-pub returns-clause-not_allowed : goal.returns-clause-not_allowed
-returns-clause-not_allowed g c = (
-  λ e. absurd (ok_is_no_fault e),
-  λ h. absurd (h.1 (c.is_option.ensures.0 c.if-not-is_option.false)),
-)

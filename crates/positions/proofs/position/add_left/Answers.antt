@@ -1,23 +1,8 @@
 use Rattle.std.proofs.Common.{◌∷◌, ◌∙◌, length, slice_index, ap, subst, arith}
 use Rattle.std.specs.List.Sorted.{IsPermutation}
-use Rattle.std.proofs.lemmas.List.Sorted.{IsPermutation-refl}
 use Rattle.heap_options.specs.Exact.{heaps_of}
-use Rattle.positions.proofs.Permuted.{added_more, added_all}
-use Rattle.positions.proofs.HeapsFit.{heaps_fit}
+use Rattle.positions.proofs.Permuted.{added_more}
 use Rattle.positions.proofs.position.add_left.Goals as goal
-
-pub loop-heap-init : goal.loop-heap-init
-loop-heap-init g c =
-    (IsPermutation-refl c.args.heaps.now.items, c.requires.rising, omega arith, omega arith)
-
-pub add_heap-requires : goal.add_heap-requires
-add_heap-requires g c =
-    let same = ap length (c.as_slice-heap-items.ensures ∙ c.heaps-added.ensures) in
-    let inside = c.loop-heap-test.true in
-    let room = c.requires.room in
-    let count = c.loop-heap.invariant.2 in
-    let capacity = c.loop-heap.invariant.3 in
-    (heaps_fit g.row.A g.A.Allocator g.met.A.SmallAllocator.small, (omega arith, c.loop-heap.invariant.1))
 
 pub loop-heap-preserved : goal.loop-heap-preserved
 loop-heap-preserved g c =
@@ -37,13 +22,3 @@ loop-heap-preserved g c =
       omega arith,
       omega arith,
     )
-
-pub returns-clause-same : goal.returns-clause-same
-returns-clause-same g c =
-    let len = ap length (c.as_slice-heap-items.ensures ∙ c.heaps-added.ensures) in
-    let over = c.loop-heap-test.false in
-    added_all (heaps_of c.args.left) c.args.heaps.now.items c.loop-heap.heaps.items
-    c.loop-heap.heap-index (omega arith) c.loop-heap.invariant.0
-
-pub returns-clause-rising : goal.returns-clause-rising
-returns-clause-rising g c = c.loop-heap.invariant.1

@@ -1,14 +1,8 @@
 use Rattle.std.proofs.Common.{◌≡◌, ◌+◌, ◌++◌, ◌∙◌, suc, length, take, drop, ap, ap₂, arith}
 use Rattle.std.proofs.lemmas.List.{length-take, length-drop, take_rest}
 use Rattle.std.proofs.lemmas.List.Edits.{length-remove}
-use Rattle.positions.proofs.HeapsFit.{heaps_fit, on_success}
+use Rattle.positions.proofs.HeapsFit.{on_success}
 use Rattle.positions.proofs.position.set_others.Goals as goal
-
-pub clear-requires : goal.clear-requires
-clear-requires g c = heaps_fit g.row.A g.A.Allocator g.met.A.SmallAllocator.small
-
-pub extend_from_slice-requires : goal.extend_from_slice-requires
-extend_from_slice-requires g c = heaps_fit g.row.A g.A.Allocator g.met.A.SmallAllocator.small
 
 pub returns-clause-items : goal.returns-clause-items
 returns-clause-items g c =
@@ -32,10 +26,3 @@ returns-clause-items g c =
     c.extend_from_slice-2.ensures.ok
     ∙ ap (λ ys. c.extend_from_slice.new.self.items ++ ys) tail
     ∙ ap₂ (λ xs i. xs ++ drop i c.args.from.now) first next
-
-pub returns-clause-capacity : goal.returns-clause-capacity
-returns-clause-capacity g c =
-    let same = c.clear.ensures.capacity in
-    let first = c.extend_from_slice.ensures.capacity in
-    let second = c.extend_from_slice-2.ensures.capacity in
-    omega arith

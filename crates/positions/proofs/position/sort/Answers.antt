@@ -1,17 +1,7 @@
 use Rattle.std.proofs.Common.{◌∙◌, length, ap}
 use Rattle.std.proofs.lemmas.List.Sorted.{IsNonDecreasingBy-from_sort}
 use Rattle.smallvec.proofs.SmallVecLemmas.{items-with_items}
-use Rattle.positions.proofs.HeapsFit.{heaps_fit}
 use Rattle.positions.proofs.position.sort.Goals as goal
-
-pub deref_mut-requires : goal.deref_mut-requires
-deref_mut-requires g c = heaps_fit g.row.A g.A.Allocator g.met.A.SmallAllocator.small
-
-pub returns-clause-same : goal.returns-clause-same
-returns-clause-same g c =
-    let len = c.sort_unstable.ensures.len ∙ ap length c.deref_mut.ensures.value in
-    rw (items-with_items c.args.heaps.now c.sort_unstable.new.self len, ← c.deref_mut.ensures.value)
-    c.sort_unstable.ensures.permutation
 
 pub returns-clause-rising : goal.returns-clause-rising
 returns-clause-rising g c =

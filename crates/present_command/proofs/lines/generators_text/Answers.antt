@@ -1,6 +1,4 @@
-use Rattle.std.proofs.Common.{rules, ◌∙◌, ℕ, List, ◌++◌, ap, ap₂, append_assoc, codes, sym, take, arith}
-use Rattle.std.proofs.lemmas.Result.{IfOk-from_err}
-use Rattle.std.proofs.lemmas.Grind.{common_steps}
+use Rattle.std.proofs.Common.{rules, ◌∙◌, ℕ, List, ◌++◌, ap, ap₂, append_assoc, codes, sym, take}
 use Rattle.present_command.specs.Presented.{generator_word, generator_words}
 use Rattle.present_command.proofs.Monoid.{next_generator}
 use Rattle.present_command.proofs.lines.generators_text.Goals as goal
@@ -15,18 +13,3 @@ loop-generator-preserved c =
     ∙ append_assoc (codes "generators") (generator_words (take i gs)) (generator_word _)
     ∙ ap (λ (t : List ℕ). codes "generators" ++ t)
     (sym (next_generator gs i _ c.loop-generator-test.true (search rules)))
-
-pub returns-in_err-text : goal.returns-in_err-text
-returns-in_err-text c = IfOk-from_err _ _ c.from_residual.ensures.0
-
-pub returns-in_err-word : goal.returns-in_err-word
-returns-in_err-word c = IfOk-from_err _ _ c.from_residual-in_err-word.ensures.0
-
-pub returns-in_err-push_str : goal.returns-in_err-push_str
-returns-in_err-push_str c = IfOk-from_err _ _ c.from_residual-in_err-push_str.ensures.0
-
-pub returns-in_err-push_str-2 : goal.returns-in_err-push_str-2
-returns-in_err-push_str-2 c = IfOk-from_err _ _ c.from_residual-in_err-push_str-2.ensures.0
-
-pub returns : goal.returns
-returns c = grind (arith, common_steps)

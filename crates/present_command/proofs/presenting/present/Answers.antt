@@ -4,7 +4,7 @@ use Rattle.std.proofs.lemmas.Result.{IfOk-weaker}
 use Rattle.monoid_table.specs.Grids.{Grid, IsTable}
 use Rattle.command_results.specs.declared.said.Said.{Said}
 use Rattle.present_command.specs.Presented.{PresentsTable}
-use Rattle.present_command.specs.Presented.Presents.{NoText, OfRelations}
+use Rattle.present_command.specs.Presented.Presents.{OfRelations}
 use Rattle.present_command.specs.Presented.RefusesTable.{Unbounded, Limit}
 use Rattle.present_command.proofs.presenting.present.Goals as goal
 
@@ -25,12 +25,6 @@ returns-in_ok-monoid_text-in-Ok-clause-presents c =
       within = found.within;
       lines = c.done.ensures.text ∙ c.in_ok-monoid_text-in-Ok.ensures;
     })
-
-pub returns-in-Err-Text-clause-presents : goal.returns-in-Err-Text-clause-presents
-returns-in-Err-Text-clause-presents c =
-    IfOk-weaker _ _ _
-    (λ s h. NoText (c.in-Err-Text.ensures.text (ap Err c.in-Err-Text.field-0-is)) h.0 h.1)
-    c.refuse.ensures.no
 
 pub returns-in-Err-Unbounded-clause-presents : goal.returns-in-Err-Unbounded-clause-presents
 returns-in-Err-Unbounded-clause-presents c =

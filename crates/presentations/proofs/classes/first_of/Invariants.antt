@@ -1,4 +1,4 @@
-use Rattle.std.proofs.Common.{◌≡◌, ◌<◌, ◌≤◌}
+use Rattle.std.proofs.Common.{◌≡◌, ℕ, ◌<◌, ◌≤◌}
 use Rattle.std.specs.Prelude.{slice_index}
 use Rattle.presentations.specs.Boxes.{size_of}
 use Rattle.presentations.specs.Merging.{AreRelated, Shrinks}
@@ -11,6 +11,7 @@ invariant-loop-parent g l = record {
   here : l.parent ≡ slice_index l.merging.parents l.at;
   on : AreRelated l.initial.merging.axes l.initial.merging.relations l.at l.parent;
   related : AreRelated l.initial.merging.axes l.initial.merging.relations l.from l.at;
+  stay : (u : ℕ) → slice_index l.initial.merging.parents u ≡ u → slice_index l.merging.parents u ≡ u;
   kept : Shrinks l.initial.merging l.merging;
 }
 

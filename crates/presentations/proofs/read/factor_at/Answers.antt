@@ -1,4 +1,4 @@
-use Rattle.std.proofs.Common.{◌≡◌, ◌+◌, ◌∷◌, ℕ, refl, ap, ◌∙◌, arith, drop}
+use Rattle.std.proofs.Common.{◌≡◌, ◌+◌, ℕ, refl, arith}
 use Rattle.std.proofs.lemmas.Bool.{false≢true}
 use Rattle.presentations.proofs.Reading.{letter-alone, letter-raised}
 use Rattle.presentations.proofs.read.factor_at.Goals as goal
@@ -8,15 +8,12 @@ two-on n = omega arith
 
 pub returns-then-not-is_byte-clause-some : goal.returns-then-not-is_byte-clause-some
 returns-then-not-is_byte-clause-some c =
-    letter-alone _ _ c.in_ok-letter.letter c.in_ok-letter.ensures.some.2
-    c.in_ok-letter.ensures.some.0
-    (λ caret. false≢true (c.if-not-is_byte.ensures.value.1 caret))
+    rw c.in_ok-letter.ensures.some.2
+    (letter-alone _ c.in_ok-letter.letter c.in_ok-letter.ensures.some.0
+    (λ caret. false≢true (c.if-not-is_byte.ensures.value.1 caret)))
 
 pub returns-clause-some : goal.returns-clause-some
 returns-clause-some c =
-    letter-raised _ (drop (c.args.at + 2) c.args.text.now) _ c.in_ok-letter.letter
-    c.in_ok-power.power
-    (c.in_ok-letter.ensures.some.2 ∙ ap (λ t. (97 + c.in_ok-letter.letter) ∷ t)
-    (c.if-not-is_byte.ensures.behind refl ∙ ap (λ n. 94 ∷ drop n c.args.text.now)
-    (two-on c.args.at)))
-    c.in_ok-letter.ensures.some.0 c.in_ok-power.ensures.some
+    rw (c.in_ok-letter.ensures.some.2, c.if-not-is_byte.ensures.behind refl, two-on c.args.at)
+    (letter-raised _ _ c.in_ok-letter.letter c.in_ok-power.power c.in_ok-letter.ensures.some.0
+    c.in_ok-power.ensures.some)

@@ -18,8 +18,8 @@ loop-letter-init c =
 pub returns-then-whole-clause-none : goal.returns-then-whole-clause-none
 returns-then-whole-clause-none c =
     read-much _ _ _ c.loop-letter.exponents c.in-Some.letter c.in-Some.power
-    c.loop-letter.invariant.so_far c.in-Some.ensures.some c.loop-letter.invariant.long
-    c.in-Some.ensures.within.0 c.if-whole.true
+    c.loop-letter.invariant.so_far c.in-Some.ensures.some c.in-Some.ensures.within.0
+    c.if-whole.true
 
 pub loop-letter-preserved : goal.loop-letter-preserved
 loop-letter-preserved c =
@@ -31,9 +31,8 @@ loop-letter-preserved c =
       long = length-set v c.in-Some.letter _ ∙ so.long;
       few = All-set (λ x. x ≤ LARGEST_EXPONENT) v c.in-Some.letter _ c.if-whole.false so.few;
       so_far =
-          subst (IsReadSoFar (drop c.args.at c.args.text.now) (drop c.in-Some.next c.args.text.now))
-          (sym (set-only v LETTERS c.in-Some.letter c.in-Some.power _ so.long
-          c.in-Some.ensures.within.0 refl))
+          rw (set-only v LETTERS c.in-Some.letter c.in-Some.power _ so.long
+          c.in-Some.ensures.within.0 refl)
           (read-more _ _ _ v c.in-Some.letter c.in-Some.power so.so_far c.in-Some.ensures.some);
     }
 

@@ -5,7 +5,7 @@ use Rattle.presentations.proofs.Reading.{word-one, word-product, no-factors}
 use Rattle.presentations.proofs.read.word_at.Goals as goal
 
 pub returns-then-is_byte-clause-some : goal.returns-then-is_byte-clause-some
-returns-then-is_byte-clause-some c = word-one _ _ (c.if-is_byte.ensures.behind refl)
+returns-then-is_byte-clause-some c = rw (c.if-is_byte.ensures.behind refl) (word-one _)
 
 pub returns-then-end-at-clause-none : goal.returns-then-end-at-clause-none
 returns-then-end-at-clause-none c =

@@ -1,5 +1,4 @@
-use Rattle.std.proofs.Common.{◌<◌, All, sym, subst}
-use Rattle.relations.proofs.Among.{AreAmong, among-self, among-trans}
+use Rattle.relations.proofs.Among.{among-self, among-trans}
 use Rattle.relations.proofs.generating.needed.Goals as goal
 use Rattle.relations.proofs.generating.needed.Goals.{then-i-len+in_ok-others+in_ok-marks+then-index, then-i-len+in_ok-others+in_ok-marks+else-index, else-i-len}
 
@@ -10,31 +9,13 @@ pub loop-k-preserved : goal.loop-k-preserved
 loop-k-preserved g c =
     elim c.if-i-len.branch [
       | then-i-len+in_ok-others+in_ok-marks+then-index w ↦
-          subst
-          (λ v. record {
-            below : All (λ e. e < c.args.table.now.order) v.items;
-            among : AreAmong c.args.elements.items v.items;
-          }) (sym w.kept-is)
-          record {
-            below =
-                subst (λ n. All (λ e. e < n) w.in_ok-others.others.items) w.order.ensures.value
-                w.in_ok-others.ensures.below;
+          rw w.kept-is (record {
+            below = rw w.order.ensures.value at w.in_ok-others.ensures.below;
             among =
                 among-trans c.args.elements.items c.loop-k.kept.items w.in_ok-others.others.items
                 c.loop-k.invariant.among
-                (subst (λ s. AreAmong s w.in_ok-others.others.items) w.as_slice.ensures.value
-                w.in_ok-others.ensures.among);
-          }
-      | then-i-len+in_ok-others+in_ok-marks+else-index w ↦
-          subst
-          (λ v. record {
-            below : All (λ e. e < c.args.table.now.order) v.items;
-            among : AreAmong c.args.elements.items v.items;
-          }) (sym w.kept-is) c.loop-k.invariant
-      | else-i-len w ↦
-          subst
-          (λ v. record {
-            below : All (λ e. e < c.args.table.now.order) v.items;
-            among : AreAmong c.args.elements.items v.items;
-          }) (sym w.kept-is) c.loop-k.invariant
+                (rw w.as_slice.ensures.value at w.in_ok-others.ensures.among);
+          })
+      | then-i-len+in_ok-others+in_ok-marks+else-index w ↦ rw w.kept-is c.loop-k.invariant
+      | else-i-len w ↦ rw w.kept-is c.loop-k.invariant
     ]

@@ -1,4 +1,4 @@
-use Rattle.std.proofs.Common.{◌≡◌, ◌≢◌, ◌<◌, ◌∙◌, ℕ, List, [], inl, inr, arith, sym, subst}
+use Rattle.std.proofs.Common.{◌≡◌, ◌≢◌, ◌<◌, ◌∙◌, ℕ, List, [], inl, inr, arith, sym}
 use Rattle.std.specs.Prelude.{slice_index_or}
 use Rattle.std.specs.Cmp.Lexicographic.{other_text}
 use Rattle.std.proofs.lemmas.Bool.{cases_eq}
@@ -15,7 +15,6 @@ loop-other-preserved c = λ k d lt same.
     in
     elim (cases_eq k i) [
       | inl is ↦ differs
-          (get_or_default words i [] d c.loop-other-test.true
-          ∙ subst (λ (j : ℕ). slice_index_or words j d ≡ word) is same)
+          (get_or_default words i [] d c.loop-other-test.true ∙ rw is at same)
       | inr other ↦ c.loop-other.invariant k d (omega (arith, other)) same
     ]

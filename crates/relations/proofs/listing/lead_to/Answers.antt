@@ -1,4 +1,4 @@
-use Rattle.std.proofs.Common.{◌≡◌, ◌<◌, ◌+◌, ℕ, List, [], inl, inr, arith, refl, subst, sym}
+use Rattle.std.proofs.Common.{◌≡◌, ◌<◌, ◌+◌, ℕ, List, [], inl, inr, arith, refl}
 use Rattle.std.specs.Prelude.{Contains, length, slice_index_or}
 use Rattle.std.proofs.lemmas.Bool.{cases_eq}
 use Rattle.std.proofs.lemmas.List.{get_or_default}
@@ -13,8 +13,7 @@ next : (P : Relation → Type 0) (relations : List Relation) (i : ℕ) → i < l
     → P (slice_index_or relations i none)
     → (k : ℕ) (d : Relation) → k < i + 1 → P (slice_index_or relations k d)
 next P relations i within before here k d lt = elim (cases_eq k i) [
-  | inl is ↦ subst (λ (j : ℕ). P (slice_index_or relations j d)) (sym is)
-      (subst P (get_or_default relations i none d within) here)
+  | inl is ↦ rw (is, ← get_or_default relations i none d within) here
   | inr other ↦ before k d (omega (arith, other))
 ]
 

@@ -1,14 +1,13 @@
-use Rattle.std.proofs.Common.{sym, subst}
 use Rattle.std.proofs.lemmas.List.Elements.{All-push}
 use Rattle.relations.specs.Presented.{AreRelatedWords}
-use Rattle.relations.proofs.Rewritings.{Follow, follow-trans, given-related, oriented-related}
+use Rattle.relations.proofs.Rewritings.{follow-trans, given-related, oriented-related}
 use Rattle.relations.proofs.rewriting.completed.Goals as goal
 
 pub loop-relation-preserved : goal.loop-relation-preserved
 loop-relation-preserved g c =
     let n = c.args.letters in
     let relations = c.args.relations.now in
-    subst (Follow n relations) (sym c.in_ok-push.ensures.items)
+    rw c.in_ok-push.ensures.items
     (All-push (λ r. AreRelatedWords n relations r.left r.right) c.loop-relation.rules.items
     c.oriented.result c.loop-relation.invariant
     (oriented-related n relations c.oriented.result _ _ c.oriented.ensures

@@ -1,4 +1,5 @@
-use Rattle.relations.proofs.Rewritings.{same-related, chained-related}
+use Rattle.presentations.specs.Congruences.Related.{Chained}
+use Rattle.relations.proofs.Rewritings.{same-related}
 use Rattle.relations.proofs.rewriting.reduced.Goals as goal
 
 pub loop-step-init : goal.loop-step-init
@@ -6,5 +7,4 @@ loop-step-init c = same-related c.args.letters c.args.rules.now c.args.word.now
 
 pub loop-step-preserved : goal.loop-step-preserved
 loop-step-preserved c =
-    chained-related c.args.letters c.args.rules.now c.args.word.now c.loop-step.reduced
-    c.in-Some.changed c.loop-step.invariant c.in-Some.ensures
+    Chained _ _ _ c.loop-step.invariant c.in-Some.ensures

@@ -1,8 +1,8 @@
-use Rattle.solve_library.proofs.Handed.{handed}
+use Rattle.solve_library.proofs.Handed.{explained}
 use Rattle.solve_library.proofs.solving.solved.Goals as goal
 
-pub returns-in-Ok-clause-found : goal.returns-in-Ok-clause-found
-returns-in-Ok-clause-found c =
+pub returns-in-Ok-clause-says : goal.returns-in-Ok-clause-says
+returns-in-Ok-clause-says c =
     let said = c.in-Ok.said in
-    handed c.args.code.now said.text.items c.args.asked c.in-Some.bounds said.succeeds c.if-solve_bytes.true
-    c.in-Some.ensures.bounds c.in-Ok.ensures.says
+    explained c.args.code.now said.text.items c.args.asked c.in-Some.bounds said.succeeds c.in-Some.ensures.bounds
+    c.in-Some.ensures.why c.in-Ok.ensures.says

@@ -1,4 +1,4 @@
-use Rattle.std.proofs.Common.{rules, ◌≡◌, ◌+◌, ◌-◌, ◌∙◌, ap, ap₂, sym, arith}
+use Rattle.std.proofs.Common.{◌≡◌, ◌+◌, ◌-◌, ◌∙◌, ap, ap₂, sym, arith}
 use Rattle.std.proofs.lemmas.List.{get_or_default}
 use Rattle.monoid_table.specs.Grids.{times_in}
 use Rattle.transition_algebra.specs.Trials.{split_value}
@@ -31,6 +31,3 @@ returns g c =
     let f = split_value c.args.table.now c.args.phi.now c.args.whole in
     sym (values_none f c.loop-part.all c.loop-part.part (c.min-last.result + 1 - c.loop-part.part)
     (let b = c.loop-part-test.false in omega arith)) ∙ c.loop-part.invariant
-
-pub loop-part-init : goal.loop-part-init
-loop-part-init g c = search rules

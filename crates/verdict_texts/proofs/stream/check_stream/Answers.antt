@@ -1,6 +1,5 @@
-use Rattle.std.proofs.Common.{◌∙◌, refl, subst, List, ℕ}
+use Rattle.std.proofs.Common.{◌∙◌, subst, List, ℕ}
 use Rattle.std.specs.Io.KnownBytes.{Appends}
-use Rattle.std.proofs.lemmas.Result.{IfOk-from_err}
 use Rattle.streams.specs.Stream.{AppendsSome}
 use Rattle.verdict_texts.proofs.stream.check_stream.Goals as goal
 
@@ -28,12 +27,3 @@ returns-clause-write g c = λ is.
           (λ (t : List ℕ). AppendsSome (g.W.Sink.taken c.args.sink.now)
           (g.W.Sink.taken c.write_whole.new.sink) t) text puts,
     )
-
-pub returns-in_err-verdict-clause-read : goal.returns-in_err-verdict-clause-read
-returns-in_err-verdict-clause-read g c = IfOk-from_err _ _ c.from_residual.ensures.0
-
-pub returns-in_err-verdict-clause-ok : goal.returns-in_err-verdict-clause-ok
-returns-in_err-verdict-clause-ok g c = IfOk-from_err _ _ c.from_residual.ensures.0
-
-pub returns-in_err-verdict-clause-unwritten : goal.returns-in_err-verdict-clause-unwritten
-returns-in_err-verdict-clause-unwritten g c = λ _. refl

@@ -1,7 +1,6 @@
 use Rattle.std.proofs.Common.{rules, ◌≡◌, ◌≤◌, refl, subst, ℕ, Bool, List, Option, length}
 use Rattle.std.specs.Io.KnownBytes.{Consumes, IsAtEnd}
 use Rattle.std.specs.String.{string_bytes}
-use Rattle.std.proofs.lemmas.Result.{IfOk-from_err}
 use Rattle.answers.specs.ByteVerdicts.{ByteVerdict}
 use Rattle.verdict_texts.specs.Streams.{IsDueText, IsDueTextOfStream}
 use Rattle.verdict_texts.proofs.Streamed.{streamed, long_stream}
@@ -34,23 +33,3 @@ returns-clause-text g c =
     c.args.limit c.in_ok-bytes.ensures.bytes (c.in_ok-bytes.ensures.end (search rules)) short
     c.deref.ensures.value (string_bytes c.in_ok-checked_bytes.field-0.text)
     c.in_ok-checked_bytes.field-0.accepted c.in_ok-checked_bytes.ensures
-
-pub returns-then-len-gt-MOST_BYTES-clause-read : goal.returns-then-len-gt-MOST_BYTES-clause-read
-returns-then-len-gt-MOST_BYTES-clause-read g c = (
-  c.in_ok-bytes.bytes.items,
-  c.in_ok-bytes.ensures.bytes,
-  search (rules, c.in_ok-bytes.ensures.bound),
-)
-
-pub returns-clause-read : goal.returns-clause-read
-returns-clause-read g c = (
-  c.in_ok-bytes.bytes.items,
-  c.in_ok-bytes.ensures.bytes,
-  search (rules, c.in_ok-bytes.ensures.bound),
-)
-
-pub returns-in_err-bytes-clause-read : goal.returns-in_err-bytes-clause-read
-returns-in_err-bytes-clause-read g c = IfOk-from_err _ _ c.from_residual.ensures.0
-
-pub returns-in_err-bytes-clause-text : goal.returns-in_err-bytes-clause-text
-returns-in_err-bytes-clause-text g c = IfOk-from_err _ _ c.from_residual.ensures.0

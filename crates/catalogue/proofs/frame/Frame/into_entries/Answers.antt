@@ -1,10 +1,7 @@
 use Rattle.std.proofs.Common.{◌≡◌, ◌==◌, ◌⊎◌, inl, inr, Some, true, false, sym, subst, arith}
 use Rattle.catalogue.specs.Reading.{Name}
-use Rattle.catalogue.proofs.FrameLemmas.{other_no_file, names_no_file, file_of}
+use Rattle.catalogue.proofs.FrameLemmas.{names_no_file, file_of}
 use Rattle.catalogue.proofs.frame.Frame.into_entries.Goals as goal
-
-pub returns-then-self : goal.returns-then-self
-returns-then-self c ms h = other_no_file c.args.self ms h c.if-self.true
 
 pub returns-then-not-all_name : goal.returns-then-not-all_name
 returns-then-not-all_name c ms h =

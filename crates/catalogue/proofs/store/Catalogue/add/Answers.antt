@@ -40,30 +40,23 @@ returns-then-is_some-clause-present c =
 
 pub push-requires : goal.push-requires
 push-requires c =
-    absent c.args.self.now c.code.result.now c.args.certified.code c.heaps.result
-    (kind_of c.args.certified) (c.code.ensures ∙ ap (λ x. x.code) c.cert.ensures.same)
+    absent c.args.self.now _ _ _ _ (c.code.ensures ∙ ap (λ x. x.code) c.cert.ensures.same)
     (c.heaps.ensures.value ∙ ap kind_of c.cert-2.ensures.same)
-    (not_there (HasEntry c.args.self.now c.code.result.now c.heaps.result → ⊥) c.get.result
-    c.get.ensures.none (sym c.is_some.ensures ∙ c.if-is_some.false))
+    (not_there _ c.get.result c.get.ensures.none (sym c.is_some.ensures ∙ c.if-is_some.false))
 
 pub returns-clause-present : goal.returns-clause-present
 returns-clause-present c =
-    let none : HasEntry c.args.self.now c.args.certified.code (kind_of c.args.certified) → ⊥
-    = absent c.args.self.now c.code.result.now c.args.certified.code c.heaps.result
-    (kind_of c.args.certified) (c.code.ensures ∙ ap (λ x. x.code) c.cert.ensures.same)
+    let none =
+    absent c.args.self.now _ _ _ _ (c.code.ensures ∙ ap (λ x. x.code) c.cert.ensures.same)
     (c.heaps.ensures.value ∙ ap kind_of c.cert-2.ensures.same)
-    (not_there (HasEntry c.args.self.now c.code.result.now c.heaps.result → ⊥) c.get.result
-    c.get.ensures.none (sym c.is_some.ensures ∙ c.if-is_some.false)) in (
+    (not_there _ c.get.result c.get.ensures.none (sym c.is_some.ensures ∙ c.if-is_some.false)) in (
       λ e. absurd (differ (subst (λ r. IfErr r (λ f. f ≡ Memory)) e c.push.ensures.memory)),
-      λ has.
-          absurd (none has),
+      λ has. absurd (none has),
     )
 
 pub returns-clause-absent : goal.returns-clause-absent
 returns-clause-absent c =
-    on_ok c.push.result (HasEntry c.args.self.now c.args.certified.code (kind_of c.args.certified) → ⊥)
-    (absent c.args.self.now c.code.result.now c.args.certified.code c.heaps.result
-    (kind_of c.args.certified) (c.code.ensures ∙ ap (λ x. x.code) c.cert.ensures.same)
+    on_ok c.push.result _
+    (absent c.args.self.now _ _ _ _ (c.code.ensures ∙ ap (λ x. x.code) c.cert.ensures.same)
     (c.heaps.ensures.value ∙ ap kind_of c.cert-2.ensures.same)
-    (not_there (HasEntry c.args.self.now c.code.result.now c.heaps.result → ⊥) c.get.result
-    c.get.ensures.none (sym c.is_some.ensures ∙ c.if-is_some.false)))
+    (not_there _ c.get.result c.get.ensures.none (sym c.is_some.ensures ∙ c.if-is_some.false)))

@@ -1,7 +1,8 @@
 use Rattle.std.proofs.Common.{◌+◌, map, get_or, inl, inr, sym, subst}
+use Rattle.std.proofs.lemmas.List.{get_or_default}
 use Rattle.catalogue.specs.Files.{written}
 use Rattle.catalogue.specs.Loads.{Holds}
-use Rattle.catalogue.proofs.LoadLemmas.{blank, itself_at}
+use Rattle.catalogue.proofs.LoadLemmas.{blank}
 use Rattle.catalogue.proofs.SalvageLemmas.{GoesOn, kept, listed, at_end}
 use Rattle.catalogue.proofs.store.Catalogue.salvage.Goals as goal
 use Rattle.catalogue.proofs.store.Catalogue.salvage.Goals.{in-Ok, in-Err+in_ok-list-in-Err}
@@ -11,7 +12,7 @@ loop-at-preserved c =
     let items = c.deref-entry-items.result.now in
     let i = c.loop-at.at in
     let t = get_or items i blank in
-    let is = itself_at items i blank t c.loop-at-test.true in
+    let is = get_or_default items i blank t c.loop-at-test.true in
     elim c.match-take.branch [
       | in-Ok w ↦ subst
           (λ v. GoesOn c.args.limit c.take.new.self (i + 1) (map written items) v.items)

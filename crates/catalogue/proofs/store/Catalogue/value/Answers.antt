@@ -1,8 +1,7 @@
 use Rattle.std.proofs.Common.{◌≡◌, ◌+◌, [], ◌∷◌, ◌++◌, IfOk, map, take, sym, ap, ap₂, subst, ◌∙◌}
-use Rattle.std.proofs.lemmas.List.{map-append, take_more}
+use Rattle.std.proofs.lemmas.List.{map-append, take_more, take_all}
 use Rattle.serde_json.specs.View.{view, items_of}
 use Rattle.catalogue.specs.Texts.{entry_data, file_data}
-use Rattle.catalogue.proofs.TextLemmas.{take_past}
 use Rattle.catalogue.proofs.store.Catalogue.value.Goals as goal
 
 pub loop-certified-preserved : goal.loop-certified-preserved
@@ -25,7 +24,7 @@ returns c =
     let same =
     c.loop-certified.invariant
     ∙ ap (map entry_data)
-    (take_past items c.loop-certified.certified-index c.loop-certified-test.false
+    (take_all c.loop-certified.certified-index items c.loop-certified-test.false
     ∙ c.entries-certified-items.ensures.all) in
     subst (λ ds. IfOk c.file_value.result (λ v. view v ≡ file_data (items_of ds))) same
     c.file_value.ensures

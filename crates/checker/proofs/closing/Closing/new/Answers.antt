@@ -1,7 +1,5 @@
 use Rattle.std.proofs.Common.{◌≡◌, ◌<◌, ◌≤◌, ◌*◌, length, false, refl, arith, subst, sym, ap, ◌∙◌}
-use Rattle.std.specs.Cmp.{nat_cmp_total}
 use Rattle.std.specs.FinSet as set
-use Rattle.std.specs.FinSet.{nat_cmp-IsAntisymmetric, same_set}
 use Rattle.std.specs.Ordering.{nat_cmp}
 use Rattle.std.specs.List.{All}
 use Rattle.std.proofs.lemmas.List.Elements.{All-weaker}
@@ -9,38 +7,31 @@ use Rattle.misere_theory.specs.Games.{IsHeapUpTo}
 use Rattle.misere_theory.specs.Pairs.{ElementsObey}
 use Rattle.misere_theory.specs.Certificates.{Certificate, Canonical, claim_of}
 use Rattle.monoid_table.specs.Grids.{Grid}
-use Rattle.certificate.specs.Fields.{Fields, certificate_of, grid_of}
-use Rattle.checker.specs.Rules.{HeldObey}
+use Rattle.certificate.specs.Fields.{grid_of}
+use Rattle.check_machine.specs.Rules.{HeldObey}
 use Rattle.pair_closure.specs.ClosureViews.{ClosureView, begun, has_ended}
-use Rattle.checker.specs.Views.{ClosingView}
-use Rattle.checker.specs.LawfulCertificates.{fields_of, IsLawfulCertificate}
-use Rattle.checker.specs.Closings.{HavePairs, IsClosing}
-use Rattle.checker.specs.Bounds.{bound_of}
+use Rattle.check_machine.specs.Views.{ClosingView}
+use Rattle.check_machine.specs.Closings.{HavePairs, IsClosing}
+use Rattle.check_machine.specs.Bounds.{bound_of}
 use Rattle.pair_closure.proofs.Fit.{closure_fits}
 use Rattle.transition_algebra.specs.Pairs.{IsPair}
-use Rattle.checker.proofs.CloseTurns.{begun_going}
-use Rattle.checker.proofs.UnitLemmas.{bound_few}
+use Rattle.check_machine.proofs.CloseTurns.{begun_going}
+use Rattle.check_machine.proofs.UnitLaws.{bound_few}
+use Rattle.checker.specs.Parts.{parts_of, whole_of}
 use Rattle.checker.proofs.closing.Closing.new.Goals as goal
 
 pub invariant_of-result : goal.invariant_of-result
 invariant_of-result g c =
     let s = c.certificate.inside in
-    let f : Fields =
-    fields_of s.code s.table s.phi s.lines.portion.items s.lines.words.items s.lines.apart.items
-    in
     let inside : set.FinSet nat_cmp = c.set_of-inside.result in
-    let same : inside ≡ s.lines.inside =
-    same_set nat_cmp_total nat_cmp-IsAntisymmetric inside s.lines.inside
-    (λ x. (rw c.deref.ensures.value at c.set_of-inside.ensures x) ∙ sym (c.certificate.invariant.portion x)) in
     subst (λ (p : ClosureView).
-    IsClosing
-    (fields_of s.code p.state.table s.phi s.lines.portion.items s.lines.words.items
-    s.lines.apart.items) inside p.state.heaps × HeldObey inside p.state.held
-    × (has_ended p.state ≡ false) × (p.failed ≡ false) × (inside ≡ s.lines.inside)
-    × (g.row.LANES ≤ 64))
+    IsClosing (parts_of s.lines s.code p.state.table s.phi) inside p.state.heaps
+    × HeldObey inside p.state.held
+    × (has_ended p.state ≡ false) × (p.failed ≡ false) × (g.row.LANES ≤ 64))
     (sym c.new.ensures) (
       record {
-        certificate = subst (IsLawfulCertificate f) (sym same) c.certificate.invariant;
+        certificate = c.certificate.invariant;
+        portion = λ x. rw c.deref.ensures.value at c.set_of-inside.ensures x;
         canonical = subst Canonical (sym c.certificate.view_is) c.requires.canonical;
         exact = subst (λ d. HavePairs d c.args.pairs.items) (sym c.certificate.view_is) c.requires.pairs;
         elements =
@@ -50,31 +41,23 @@ invariant_of-result g c =
       λ i l. absurd (omega arith),
       begun_going s.table c.args.pairs.items c.args.limit,
       refl,
-      same,
       c.requires.few,
     )
 
 pub returns : goal.returns
 returns g c =
     let s = c.certificate.inside in
-    let p : Fields =
-    fields_of s.code s.table s.phi s.lines.portion.items s.lines.words.items s.lines.apart.items
-    in
+    let whole = whole_of s.lines s.code s.table s.phi in
     let with : Certificate → Grid → ClosingView =
     λ d t. record { certificate = d; closure = begun t c.args.pairs.items c.args.limit } in
     let over : ClosureView → ClosingView =
-    λ q. record {
-      certificate = certificate_of
-          (fields_of s.code q.state.table s.phi s.lines.portion.items s.lines.words.items
-          s.lines.apart.items);
-      closure = q;
-    } in
-    let joined : grid_of (certificate_of p) ≡ s.table =
+    λ q. record { certificate = whole_of s.lines s.code q.state.table s.phi; closure = q } in
+    let joined : grid_of whole ≡ s.table =
     ap (λ es. record { order = s.table.order; entries = es })
     c.certificate.invariant.whole.rows_joined in
     record {
       value = ap over c.new.ensures
-          ∙ (ap (with (certificate_of p)) (sym joined)
+          ∙ (ap (with whole) (sym joined)
           ∙ ap (λ d. with d (grid_of d)) c.certificate.view_is);
     }
 

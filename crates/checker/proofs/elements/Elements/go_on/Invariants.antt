@@ -1,15 +1,14 @@
 use Rattle.std.proofs.Common.{◌≡◌, ℕ, List, ◌+◌, ◌<◌, length}
-use Rattle.checker.specs.LawfulCertificates.{IsLawful}
-use Rattle.checker.specs.Closings.{ElementsSoFar}
-use Rattle.checker.specs.Turns.{Runs, elements_at}
-use Rattle.checker.specs.Turns.Phase.{Elements as AtElements}
+use Rattle.check_machine.specs.LawfulCertificates.{IsLawful}
+use Rattle.check_machine.specs.Closings.{ElementsSoFar}
+use Rattle.check_machine.specs.Turns.{Runs}
+use Rattle.check_machine.specs.Turns.Phase.{Elements as AtElements}
 use Rattle.checker.proofs.elements.Elements.go_on.Given as goal
 
 abbrev pub invariant-heaps : goal.invariant-heaps
 invariant-heaps g l =
     let s = l.self-inside in
     record {
-      same : s.certificate ≡ l.fn.self.certificate;
       order : l.order ≡ s.certificate.order;
       last : l.last + 1 ≡ length s.pairs.items;
       lawful : IsLawful s.certificate;
@@ -17,7 +16,8 @@ invariant-heaps g l =
       within : s.heap < length s.pairs.items;
       runs : (bytes : List ℕ) (limit : ℕ)
           → Runs bytes limit (AtElements l.fn.self) l.initial.left l.left
-          (elements_at limit s.certificate s.pairs.items s.heap s.option);
+          (AtElements
+          (record { certificate = s.certificate; pairs = s.pairs.items; heap = s.heap; option = s.option }));
     }
 
 abbrev pub decreases-heaps : goal.decreases-heaps

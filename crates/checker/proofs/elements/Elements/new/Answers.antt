@@ -1,5 +1,5 @@
 use Rattle.std.proofs.Common.{arith}
-use Rattle.checker.proofs.UnitLemmas.{bound_some}
+use Rattle.check_machine.proofs.UnitLaws.{bound_some}
 use Rattle.checker.proofs.elements.Elements.new.Goals as goal
 
 pub invariant_of-result : goal.invariant_of-result

@@ -7,7 +7,7 @@ pub overflow_add-self : goal.overflow_add-self
 overflow_add-self g c =
     let j = c.self.inside in
     let e = c.checks_end.ensures in
-    let h = rw c.deref.ensures.value at c.advance.ensures.come j.spent c.self.invariant.come in
+    let h = rw c.deref.ensures.value at c.advance.ensures.come j.spent c.self.invariant in
     let w = e.before j.bytes.items j.limit _ h.to h.reaches in
     let b = e.few j.bytes.items j.limit (omega arith) in
     let s = c.advance.ensures.spends in
@@ -18,7 +18,7 @@ returns g c =
     let j = c.self.inside in
     let r = c.advance.ensures in
     let e = c.checks_end.ensures in
-    let h = rw c.deref.ensures.value at r.come j.spent c.self.invariant.come in
+    let h = rw c.deref.ensures.value at r.come j.spent c.self.invariant in
     let w = e.before j.bytes.items j.limit _ h.to h.reaches in
     let b = e.few j.bytes.items j.limit (omega arith) in
     let f : j.spent + (c.args.units - c.advance.new.left) < 2 ^ 52 = omega arith in

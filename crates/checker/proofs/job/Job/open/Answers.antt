@@ -2,4 +2,4 @@ use Rattle.checker.proofs.DueLemmas.{come_first}
 use Rattle.checker.proofs.job.Job.open.Goals as goal
 
 pub invariant_of-result : goal.invariant_of-result
-invariant_of-result g c = record { stands = tt; come = come_first _ _ }
+invariant_of-result g c = come_first _ _

@@ -1,7 +1,7 @@
-use Rattle.std.proofs.Common.{rules, subst}
+use Rattle.std.proofs.Common.{subst}
 use Rattle.checker.specs.JobViews.{IsDue, IsBounded}
 use Rattle.checker.specs.Stages.{phase_of}
-use Rattle.checker.proofs.BoundLemmas.{due_bounded}
+use Rattle.checker.proofs.BoundedLemmas.{due_bounded}
 use Rattle.checker.proofs.DueLemmas.{come_due}
 use Rattle.checker.proofs.job.Job.spent.Goals as goal
 
@@ -11,7 +11,7 @@ returns-clause-due g c =
     let e = c.checks_end.ensures in
     subst IsDue c.self.view_is
     (come_due j.bytes.items j.limit (e.spent j.bytes.items j.limit)
-    (e.before j.bytes.items j.limit) j.spent (phase_of j.stage) c.self.invariant.come)
+    (e.before j.bytes.items j.limit) j.spent (phase_of j.stage) c.self.invariant)
 
 pub returns-clause-bounded : goal.returns-clause-bounded
 returns-clause-bounded g c =
@@ -19,8 +19,5 @@ returns-clause-bounded g c =
     let e = c.checks_end.ensures in
     let due =
     come_due j.bytes.items j.limit (e.spent j.bytes.items j.limit)
-    (e.before j.bytes.items j.limit) j.spent (phase_of j.stage) c.self.invariant.come in
+    (e.before j.bytes.items j.limit) j.spent (phase_of j.stage) c.self.invariant in
     subst IsBounded c.self.view_is (due_bounded _ (e.most j.bytes.items j.limit) due)
-
-pub returns-clause-value : goal.returns-clause-value
-returns-clause-value g c = search rules

@@ -1,6 +1,6 @@
 use Rattle.std.proofs.Common.{rules, ◌≡◌, ◌<◌, subst, sym, ◌∙◌}
 use Rattle.misere_theory.specs.Certificates.{times_of}
-use Rattle.checker.proofs.Rows.{rows_of-entry}
+use Rattle.check_machine.proofs.Rows.{rows_of-entry}
 use Rattle.checker.proofs.lawful_certificate.LawfulCertificate.times.Goals as goal
 
 pub returns-clause-value : goal.returns-clause-value

@@ -1,13 +1,12 @@
 use Rattle.std.proofs.Common.{◌≡◌, ℕ, List}
-use Rattle.checker.specs.LawfulCertificates.{IsLawful}
-use Rattle.checker.specs.SoFar.{PeriodsSoFar}
-use Rattle.checker.specs.Turns.{Runs}
-use Rattle.checker.specs.Turns.Phase.{Periods as AtPeriods}
+use Rattle.check_machine.specs.LawfulCertificates.{IsLawful}
+use Rattle.check_machine.specs.SoFar.{PeriodsSoFar}
+use Rattle.check_machine.specs.Turns.{Runs}
+use Rattle.check_machine.specs.Turns.Phase.{Periods as AtPeriods}
 use Rattle.checker.proofs.periods.Periods.work.Given as goal
 
 abbrev pub invariant-shifts : goal.invariant-shifts
 invariant-shifts g l = record {
-  same : l.certificate ≡ l.fn.self.certificate;
   start : l.start ≡ l.certificate.start;
   period : l.period ≡ l.certificate.period;
   lawful : IsLawful l.certificate;

@@ -1,15 +1,14 @@
 use Rattle.std.proofs.Common.{◌≡◌, ℕ, List, ◌+◌, ◌<◌}
-use Rattle.checker.specs.LawfulCertificates.{IsLawful}
-use Rattle.checker.specs.SoFar.{ProductsSoFar}
-use Rattle.checker.specs.Turns.{Runs, products_at}
-use Rattle.checker.specs.Turns.Phase.{Products as AtProducts}
+use Rattle.check_machine.specs.LawfulCertificates.{IsLawful}
+use Rattle.check_machine.specs.SoFar.{ProductsSoFar}
+use Rattle.check_machine.specs.Turns.{Runs}
+use Rattle.check_machine.specs.Turns.Phase.{Products as AtProducts}
 use Rattle.checker.proofs.products.Products.go_on.Given as goal
 
 abbrev pub invariant-products : goal.invariant-products
 invariant-products g l =
     let s = l.self-inside in
     record {
-      same : s.certificate ≡ l.fn.self.certificate;
       last : l.last + 1 ≡ s.certificate.order;
       heaps : l.heaps ≡ s.certificate.start + s.certificate.period;
       lawful : IsLawful s.certificate;
@@ -17,7 +16,7 @@ invariant-products g l =
       within : s.element < s.certificate.order;
       runs : (bytes : List ℕ) (limit : ℕ)
           → Runs bytes limit (AtProducts l.fn.self) l.initial.left l.left
-          (products_at s.certificate s.element s.heap);
+          (AtProducts (record { certificate = s.certificate; element = s.element; heap = s.heap }));
     }
 
 abbrev pub decreases-products : goal.decreases-products

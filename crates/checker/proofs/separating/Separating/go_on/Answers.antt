@@ -1,9 +1,11 @@
-use Rattle.std.proofs.Common.{slice_index, ◌∙◌, ap, arith, ◌<◌, ◌≡◌, sym, true≢false}
-use Rattle.misere_theory.specs.Certificates.{claim_of, TellsApart}
-use Rattle.checker.proofs.ApartLemmas.{apart_in, element_turn, pair_turn, last_pair_turn}
-use Rattle.checker.specs.Turns.Phase.{Separating}
-use Rattle.checker.proofs.TurnLemmas.{runs-none}
-use Rattle.checker.proofs.LoopTurns.{separating_in, separating_going, separating_further, separating_row, separating_pair}
+-- The turns of a pair are taken at once, as far as there are units.
+use Rattle.std.proofs.Common.{slice_index, ◌∙◌, ap, refl, arith, ◌+◌, ◌≡◌, sym}
+use Rattle.check_machine.specs.Turns.Phase.{Separating}
+use Rattle.check_machine.proofs.TurnLaws.{runs-none}
+use Rattle.check_machine.proofs.ApartLaws.{apart_in}
+use Rattle.checker.proofs.ComeLemmas.{runs_turn}
+use Rattle.checker.proofs.LoopTurns.{separating_pair, separating_row}
+use Rattle.checker.proofs.PairTurns.{told, tried, part_turn, told_pair, told_row, part_runs}
 use Rattle.checker.proofs.separating.Separating.go_on.Goals as goal
 
 pub pairs-init : goal.pairs-init
@@ -11,146 +13,154 @@ pairs-init g c =
     let v = c.pairs-last.ensures.value in
     let w = c.self.invariant.1 in
     record {
-      same = ap (λ v. v.certificate) c.self.view_is;
       order = c.order-order.ensures.value;
       last = omega arith;
       lawful = c.order-order.ensures.lawful;
       so_far = c.self.invariant.0;
       within = c.self.invariant.1;
-      runs =
-          λ bytes limit.
-          runs-none bytes limit _ _ _ (separating_in limit _ _ _ _ _ c.self.invariant.1
-          ∙ ap Separating c.self.view_is);
+      contexts = c.self.invariant.2;
+      runs = λ bytes limit. runs-none bytes limit _ _ _ (ap Separating c.self.view_is);
     }
 
-pub tells_apart-requires-clause-y_in : goal.tells_apart-requires-clause-y_in
-tells_apart-requires-clause-y_in g c =
+pub least_apart-least-requires : goal.least_apart-least-requires
+least_apart-least-requires g c =
     let i = c.pairs.invariant in
-    apart_in c.pairs.self-inside.certificate i.lawful.in_ranges _ _ _ _ i.so_far i.within
+    let r = i.so_far.rises in
+    let y = apart_in c.pairs.self-inside.certificate i.lawful.in_ranges _ _ _ _ i.so_far i.within in
+    (omega arith, (rw c.deref.ensures.value i.contexts, (omega arith, y)))
 
-pub pairs-preserved-then-not-tells_apart : goal.pairs-preserved-then-not-tells_apart
-pairs-preserved-then-not-tells_apart g c =
+pub overflow_sub-min : goal.overflow_sub-min
+overflow_sub-min g c =
     let i = c.pairs.invariant in
     let s = c.pairs.self-inside in
-    let not = λ (t : TellsApart (claim_of s.certificate) (s.x, s.y) s.z).
-    true≢false (sym (c.tells_apart.ensures.tells.1 t) ∙ c.if-not-tells_apart.true) in
-    let other = λ (e : s.z ≡ slice_index s.certificate.apart s.number).
-    c.if-self-given.false (e ∙ sym c.apart-given.ensures.value) in
-    record {
-      same = i.same;
-      order = i.order;
-      last = i.last;
-      lawful = i.lawful;
-      so_far = element_turn s.certificate i.lawful.in_ranges _ _ _ _ i.so_far i.within not other;
-      within = i.within;
-      runs =
-          λ bytes limit. separating_further bytes limit _ _ _ _ _ _ _ _ (i.runs bytes limit)
-          i.within _ (omega arith) c.tells_apart.ensures.same c.if-not-tells_apart.true other;
-    }
+    let v = c.apart-given.ensures.value in
+    let w = c.apart-given.ensures.within in
+    let h = i.so_far.element i.within in
+    let t = c.least_apart-least.ensures in
+    let z = tried s.certificate _ _ _ _ _ i.within t.below t.tells (omega arith) i.so_far in
+    let m = c.min.ensures in
+    omega arith
+
+pub returns-then-left-eq0 : goal.returns-then-left-eq0
+returns-then-left-eq0 g c =
+    let i = c.pairs.invariant in
+    let s = c.pairs.self-inside in
+    let v = c.apart-given.ensures.value in
+    let w = c.apart-given.ensures.within in
+    let h = i.so_far.element i.within in
+    let t = c.least_apart-least.ensures in
+    let z = tried s.certificate _ _ _ _ _ i.within t.below t.tells (omega arith) i.so_far in
+    let m = c.min.ensures in
+    let b = c.min-before.ensures in
+    λ bytes limit. part_runs s.certificate _ _ _ _ _ i.within t.below t.tells (omega arith) bytes limit _ _ _
+    (i.runs bytes limit) _ _ (omega arith) (omega arith) (omega arith) (omega arith)
+
+pub invariant_of-self-then-left-eq0 : goal.invariant_of-self-then-left-eq0
+invariant_of-self-then-left-eq0 g c =
+    let i = c.pairs.invariant in
+    let s = c.pairs.self-inside in
+    let v = c.apart-given.ensures.value in
+    let w = c.apart-given.ensures.within in
+    let h = i.so_far.element i.within in
+    let t = c.least_apart-least.ensures in
+    let z = tried s.certificate _ _ _ _ _ i.within t.below t.tells (omega arith) i.so_far in
+    let m = c.min.ensures in
+    let b = c.min-before.ensures in (
+      part_turn s.certificate _ _ _ _ _ i.within t.below t.tells (omega arith) i.lawful.in_ranges
+          i.so_far _ (omega arith) (omega arith),
+      i.within,
+      i.contexts,
+    )
+
+pub returns-then-self-last : goal.returns-then-self-last
+returns-then-self-last g c =
+    let i = c.pairs.invariant in
+    let s = c.pairs.self-inside in
+    let v = c.apart-given.ensures.value in
+    let w = c.apart-given.ensures.within in
+    let h = i.so_far.element i.within in
+    let t = c.least_apart-least.ensures in
+    let z = tried s.certificate _ _ _ _ _ i.within t.below t.tells (omega arith) i.so_far in
+    let m = c.min.ensures in
+    let b = c.min-before.ensures in
+    λ bytes limit. part_runs s.certificate _ _ _ _ _ i.within t.below t.tells (omega arith) bytes limit _ _ _
+    (i.runs bytes limit) _ _ (omega arith) (omega arith) (omega arith) (omega arith)
+
+pub invariant_of-self-then-self-last : goal.invariant_of-self-then-self-last
+invariant_of-self-then-self-last g c =
+    let i = c.pairs.invariant in
+    let s = c.pairs.self-inside in
+    let v = c.apart-given.ensures.value in
+    let w = c.apart-given.ensures.within in
+    let h = i.so_far.element i.within in
+    let t = c.least_apart-least.ensures in
+    let z = tried s.certificate _ _ _ _ _ i.within t.below t.tells (omega arith) i.so_far in
+    let m = c.min.ensures in
+    let b = c.min-before.ensures in (
+      part_turn s.certificate _ _ _ _ _ i.within t.below t.tells (omega arith) i.lawful.in_ranges
+          i.so_far _ (omega arith) (omega arith),
+      i.within,
+      i.contexts,
+    )
 
 pub pairs-preserved-then-self-order : goal.pairs-preserved-then-self-order
 pairs-preserved-then-self-order g c =
     let i = c.pairs.invariant in
     let s = c.pairs.self-inside in
-    let l = i.last in
     let v = c.apart-given.ensures.value in
-    let e : s.z ≡ slice_index s.certificate.apart s.number =
-    (let h = i.so_far.element i.within in omega arith) in
     let w = c.apart-given.ensures.within in
-    let b : s.z < s.certificate.order = omega arith in
-    let t = c.tells_apart.ensures.tells.0 c.if-not-tells_apart.false in
+    let h = i.so_far.element i.within in
+    let t = c.least_apart-least.ensures in
+    let z = tried s.certificate _ _ _ _ _ i.within t.below t.tells (omega arith) i.so_far in
+    let m = c.min.ensures in
+    let b = c.min-before.ensures in
+    let l = i.last in
+    let e : c.least_apart-least.result ≡ slice_index s.certificate.apart s.number = omega arith in
     let d = c.if-self-order.true ∙ i.order in
     record {
-      same = i.same;
       order = i.order;
       last = i.last;
       lawful = i.lawful;
-      so_far = last_pair_turn s.certificate i.lawful.in_ranges _ _ _ _ i.so_far i.within b t e d;
+      so_far = told_row s.certificate _ _ _ _ _ i.within t.below t.tells (omega arith)
+          i.lawful.in_ranges i.so_far e d;
       within = omega arith;
-      runs = λ bytes limit. separating_row bytes limit _ _ _ _ _ _ _ _ (i.runs bytes limit) i.within
-          _ (omega arith) c.tells_apart.ensures.same c.if-not-tells_apart.false (omega arith) d;
+      contexts = i.contexts;
+      runs = λ bytes limit. runs_turn bytes limit _ _ _ _ _
+          (part_runs s.certificate _ _ _ _ _ i.within t.below t.tells (omega arith) bytes limit _ _ _
+          (i.runs bytes limit) (slice_index s.certificate.apart s.number) _ (omega arith) (omega arith)
+          (omega arith) (omega arith)) (omega arith) refl
+          (separating_row limit s.certificate _ _ _ _
+          (told s.certificate _ _ s.z _ _ i.within t.below t.tells (omega arith) _ (sym e) (omega arith))
+          refl (omega arith) d);
     }
 
 pub pairs-preserved : goal.pairs-preserved
 pairs-preserved g c =
     let i = c.pairs.invariant in
     let s = c.pairs.self-inside in
-    let l = i.last in
     let v = c.apart-given.ensures.value in
-    let e : s.z ≡ slice_index s.certificate.apart s.number =
-    (let h = i.so_far.element i.within in omega arith) in
     let w = c.apart-given.ensures.within in
-    let b : s.z < s.certificate.order = omega arith in
-    let t = c.tells_apart.ensures.tells.0 c.if-not-tells_apart.false in
+    let h = i.so_far.element i.within in
+    let t = c.least_apart-least.ensures in
+    let z = tried s.certificate _ _ _ _ _ i.within t.below t.tells (omega arith) i.so_far in
+    let m = c.min.ensures in
+    let b = c.min-before.ensures in
+    let l = i.last in
+    let e : c.least_apart-least.result ≡ slice_index s.certificate.apart s.number = omega arith in
+    let d = λ (m : s.y + 1 ≡ s.certificate.order). c.if-self-order.false (m ∙ sym i.order) in
     record {
-      same = i.same;
       order = i.order;
       last = i.last;
       lawful = i.lawful;
-      so_far =
-          pair_turn s.certificate i.lawful.in_ranges _ _ _ _ i.so_far i.within b t e
-          (λ m. c.if-self-order.false (m ∙ sym i.order));
+      so_far = told_pair s.certificate _ _ _ _ _ i.within t.below t.tells (omega arith)
+          i.lawful.in_ranges i.so_far e d;
       within = omega arith;
-      runs =
-          λ bytes limit. separating_pair bytes limit _ _ _ _ _ _ _ _ (i.runs bytes limit) i.within _
-          (omega arith) c.tells_apart.ensures.same c.if-not-tells_apart.false (omega arith)
-          (λ m. c.if-self-order.false (m ∙ sym i.order));
+      contexts = i.contexts;
+      runs = λ bytes limit. runs_turn bytes limit _ _ _ _ _
+          (part_runs s.certificate _ _ _ _ _ i.within t.below t.tells (omega arith) bytes limit _ _ _
+          (i.runs bytes limit) (slice_index s.certificate.apart s.number) _ (omega arith) (omega arith)
+          (omega arith) (omega arith)) (omega arith) refl
+          (separating_pair limit s.certificate _ _ _ _
+          (told s.certificate _ _ s.z _ _ i.within t.below t.tells (omega arith) _ (sym e) (omega arith))
+          refl (omega arith) d);
     }
-
-pub returns-else-self-last-clause-runs : goal.returns-else-self-last-clause-runs
-returns-else-self-last-clause-runs g c = let i = c.pairs.invariant in
-    λ bytes limit. separating_going bytes limit _ _ _ _ _ _ _ _ (i.runs bytes limit) i.within
-
-pub returns-after-pairs-clause-runs : goal.returns-after-pairs-clause-runs
-returns-after-pairs-clause-runs g c = let i = c.pairs.invariant in
-    λ bytes limit. separating_going bytes limit _ _ _ _ _ _ _ _ (i.runs bytes limit) i.within
-
-pub returns-then-self-given-clause-runs : goal.returns-then-self-given-clause-runs
-returns-then-self-given-clause-runs g c = let i = c.pairs.invariant in
-    λ bytes limit. separating_going bytes limit _ _ _ _ _ _ _ _ (i.runs bytes limit) i.within
-
-pub returns-then-self-given-2-clause-runs : goal.returns-then-self-given-2-clause-runs
-returns-then-self-given-2-clause-runs g c = let i = c.pairs.invariant in
-    λ bytes limit. separating_going bytes limit _ _ _ _ _ _ _ _ (i.runs bytes limit) i.within
-
-pub invariant_of-self : goal.invariant_of-self
-invariant_of-self g c = (c.pairs.invariant.so_far, c.pairs.invariant.within)
-
-pub invariant_of-self-in-pairs : goal.invariant_of-self-in-pairs
-invariant_of-self-in-pairs g c = (c.pairs.invariant.so_far, c.pairs.invariant.within)
-
-pub invariant_of-self-then-self-given : goal.invariant_of-self-then-self-given
-invariant_of-self-then-self-given g c = (c.pairs.invariant.so_far, c.pairs.invariant.within)
-
-pub invariant_of-self-then-self-given-2 : goal.invariant_of-self-then-self-given-2
-invariant_of-self-then-self-given-2 g c = (c.pairs.invariant.so_far, c.pairs.invariant.within)
-
-pub returns-then-self-given-clause-same : goal.returns-then-self-given-clause-same
-returns-then-self-given-clause-same g c = c.pairs.invariant.same
-
-pub returns-then-self-given-2-clause-same : goal.returns-then-self-given-2-clause-same
-returns-then-self-given-2-clause-same g c = c.pairs.invariant.same
-
-pub returns-else-self-last-clause-same : goal.returns-else-self-last-clause-same
-returns-else-self-last-clause-same g c = c.pairs.invariant.same
-
-pub returns-after-pairs-clause-same : goal.returns-after-pairs-clause-same
-returns-after-pairs-clause-same g c = c.pairs.invariant.same
-
-pub apart-given-requires : goal.apart-given-requires
-apart-given-requires g c = c.pairs.invariant.within
-
-pub tells_apart-requires-clause-x_in : goal.tells_apart-requires-clause-x_in
-tells_apart-requires-clause-x_in g c =
-    let i = c.pairs.invariant in
-    let r = i.so_far.rises in
-    let w = i.so_far.within in
-    omega arith
-
-pub tells_apart-requires-clause-z_in : goal.tells_apart-requires-clause-z_in
-tells_apart-requires-clause-z_in g c =
-    let i = c.pairs.invariant in
-    let e = i.so_far.element i.within in
-    let v = c.apart-given.ensures.value in
-    let w = c.apart-given.ensures.within in
-    omega arith

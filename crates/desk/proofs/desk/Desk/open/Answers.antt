@@ -1,8 +1,8 @@
-use Rattle.std.proofs.Common.{◌≡◌, sym, ◌∙◌, ap, subst, false, true, List, Option, Some}
+use Rattle.std.proofs.Common.{sym, ◌∙◌, subst, List, Option, Some}
 use Rattle.checker.specs.JobViews.{JobView}
 use Rattle.desk.specs.Machine.{fresh}
-use Rattle.desk.specs.Desks.{IsWith, NoneAsFarIn, jobs_in, slot_of, slots_of}
-use Rattle.desk.proofs.Free.{least_none, least_of, least_range}
+use Rattle.desk.specs.Desks.{IsWith, NoneAsFarIn, jobs_in}
+use Rattle.desk.proofs.Free.{least_of}
 use Rattle.desk.proofs.Steps.{open_step, open_full, open_starved}
 use Rattle.desk.proofs.desk.Desk.open.Goals as goal
 
@@ -11,30 +11,6 @@ returns-in_default g c =
     open_full c.args.self.now c.args.self.now c.args.client c.args.bytes.items c.args.limit
     (least_of c.self.inside.places c.self.inside.cores.items c.args.self.now c.args.client
     c.self.invariant.0 c.self.view_is ∙ sym c.in_default.ensures)
-
-never : false ≡ true → ⊥
-never e = cc
-
-pub returns-in_default-place : goal.returns-in_default-place
-returns-in_default-place g c =
-    let range = least_range (slots_of c.self.inside.places c.args.client) c.in-Some.number
-    (sym c.in-Some.ensures) in
-    absurd (never (c.in_default-place.ensures.some range.0 range.1))
-
-pub open_at-requires-clause-desk : goal.open_at-requires-clause-desk
-open_at-requires-clause-desk g c = c.self.invariant.0
-
-pub open_at-requires-clause-free : goal.open_at-requires-clause-free
-open_at-requires-clause-free g c =
-    ap (slot_of c.self.inside.places) c.in-Some-place.ensures.value
-    ∙ least_none (slots_of c.self.inside.places c.args.client) c.in-Some.number
-    (sym c.in-Some.ensures)
-
-pub invariant_of-self : goal.invariant_of-self
-invariant_of-self g c = (c.in-Ok.ensures.desk, c.self.invariant.1)
-
-pub invariant_of-self-in-Err : goal.invariant_of-self-in-Err
-invariant_of-self-in-Err g c = (c.in-Err.ensures.desk, c.self.invariant.1)
 
 pub returns-in-Ok : goal.returns-in-Ok
 returns-in-Ok g c =

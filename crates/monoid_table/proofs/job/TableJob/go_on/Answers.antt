@@ -1,7 +1,7 @@
 use Rattle.std.proofs.Common.{◌≡◌, ◌+◌, ◌-◌, ◌≤◌, ◌<◌, true, false, not, inl, inr, ap, sym, ◌∙◌, subst, refl, arith}
 use native.Mathlib.Decide.{dec_lt}
-use Rattle.monoid_table.specs.Turns.{JobState, is_over, turns, triples, triple_holds}
-use Rattle.monoid_table.proofs.TurnLaws.{passing-on, turns-none, turn-ends, some-left}
+use Rattle.monoid_table.specs.Turns.{is_over, turns, triples, triple_holds}
+use Rattle.monoid_table.proofs.TurnLaws.{passing-on, turns-none, turn-ends, some-left, state}
 use Rattle.monoid_table.proofs.job.TableJob.go_on.Goals as goal
 use Rattle.monoid_table.proofs.job.TableJob.go_on.Goals.{then-run, else-run}
 
@@ -10,12 +10,9 @@ returns-then-most-eq0-clause-state g c = sym (turns-none 0 c.args.self.now refl)
 
 pub returns-clause-state : goal.returns-clause-state
 returns-clause-state g c =
-    let s : JobState =
-    record {
-      grid = record { order = c.self.inside.order; entries = c.self.inside.rows.items };
-      spent = c.self.inside.spent;
-      refused = c.self.inside.refused;
-    } in
+    let s =
+    state (record { order = c.self.inside.order; entries = c.self.inside.rows.items })
+    c.self.inside.spent c.self.inside.refused in
     let over : is_over s ≡ false = ap is_over c.self.view_is ∙ c.requires in
     let rows = sym c.deref-2.ensures.value in
     let run = c.next_run-run in
@@ -43,12 +40,9 @@ returns-clause-state g c =
 
 pub returns-then-most-eq0-clause-some : goal.returns-then-most-eq0-clause-some
 returns-then-most-eq0-clause-some g c = λ _.
-    let s : JobState =
-    record {
-      grid = record { order = c.self.inside.order; entries = c.self.inside.rows.items };
-      spent = c.self.inside.spent;
-      refused = c.self.inside.refused;
-    } in
+    let s =
+    state (record { order = c.self.inside.order; entries = c.self.inside.rows.items })
+    c.self.inside.spent c.self.inside.refused in
     let over : is_over s ≡ false = ap is_over c.self.view_is ∙ c.requires in
     let all : c.all.result ≡ triples c.self.inside.order =
     c.all.ensures ∙ ap (λ v. triples v.grid.order) (sym c.self.view_is) in
@@ -63,12 +57,9 @@ returns-then-most-eq0-clause-some g c = λ _.
 
 pub returns-clause-some : goal.returns-clause-some
 returns-clause-some g c = λ e.
-    let s : JobState =
-    record {
-      grid = record { order = c.self.inside.order; entries = c.self.inside.rows.items };
-      spent = c.self.inside.spent;
-      refused = c.self.inside.refused;
-    } in
+    let s =
+    state (record { order = c.self.inside.order; entries = c.self.inside.rows.items })
+    c.self.inside.spent c.self.inside.refused in
     let over : is_over s ≡ false = ap is_over c.self.view_is ∙ c.requires in
     let rows = sym c.deref-2.ensures.value in
     let run = c.next_run-run in

@@ -1,16 +1,13 @@
 use Rattle.std.proofs.Common.{◌≡◌, ◌+◌, ◌-◌, ap, sym, ◌∙◌, false}
-use Rattle.monoid_table.specs.Turns.{JobState, turns, is_over, triple_holds}
-use Rattle.monoid_table.proofs.TurnLaws.{ran}
+use Rattle.monoid_table.specs.Turns.{turns, is_over, triple_holds}
+use Rattle.monoid_table.proofs.TurnLaws.{ran, state}
 use Rattle.monoid_table.proofs.job.TableJob.run.Goals as goal
 
 pub returns-clause-state : goal.returns-clause-state
 returns-clause-state g c =
-    let s : JobState =
-    record {
-      grid = record { order = c.self.inside.order; entries = c.self.inside.rows.items };
-      spent = c.self.inside.spent;
-      refused = c.self.inside.refused;
-    } in
+    let s =
+    state (record { order = c.self.inside.order; entries = c.self.inside.rows.items })
+    c.self.inside.spent c.self.inside.refused in
     let over : is_over s ≡ false = ap is_over c.self.view_is ∙ c.requires.going in
     ran c.next_run-run.result.units s c.next_run-run.result.broken over
     c.next_run-run.ensures.within.0 c.next_run-run.ensures.within.2

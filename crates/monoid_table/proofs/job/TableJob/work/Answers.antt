@@ -1,4 +1,4 @@
-use Rattle.std.proofs.Common.{rules, ◌≡◌, ◌+◌, ◌-◌, ap, ◌∙◌, sym, subst, arith}
+use Rattle.std.proofs.Common.{◌≡◌, ◌+◌, ◌-◌, ap, ◌∙◌, sym, subst, arith}
 use Rattle.std.specs.Prelude.{OnErr}
 use Rattle.misere_theory.specs.Quotients.{LawFails}
 use Rattle.monoid_table.specs.Grids.{entry, IsTable}
@@ -39,6 +39,3 @@ returns-clause-law g c =
 pub returns-clause-table : goal.returns-clause-table
 returns-clause-table g c =
     λ e. subst (λ rows. IsTable rows.order rows.entries) (same-rows g c) (c.answer.ensures.table e)
-
-pub loop-left-init : goal.loop-left-init
-loop-left-init g c = search rules

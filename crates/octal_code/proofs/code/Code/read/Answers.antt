@@ -30,14 +30,6 @@ returns-then-not-is_spelling-clause-not_a_code c = (
   λ h. refl,
 )
 
-pub returns-then-text-gt-LONGEST-clause-code : goal.returns-then-text-gt-LONGEST-clause-code
-returns-then-text-gt-LONGEST-clause-code c =
-    λ ds. (
-      λ e. absurd (fault_is_no_code e),
-      λ h. absurd (let l = (read_code c.args.text.now ds h).1 in
-          omega arith),
-    )
-
 pub returns-then-text-gt-LONGEST-clause-too_long : goal.returns-then-text-gt-LONGEST-clause-too_long
 returns-then-text-gt-LONGEST-clause-too_long c = (
   λ e. long_read c.args.text.now (c.is_spelling.ensures.0 c.if-not-is_spelling.false)
@@ -61,13 +53,6 @@ returns-clause-code c = λ ds. (
       (code_read c.args.text.now (c.is_spelling.ensures.0 c.if-not-is_spelling.false)
       (omega arith)),
   λ h. let s = (read_code c.args.text.now ds h).2 in ap Ok (c.from_text.ensures ∙ s),
-)
-
-pub returns-clause-too_long : goal.returns-clause-too_long
-returns-clause-too_long c = (
-  λ e. absurd (code_is_no_fault e),
-  λ h. absurd (let l = (read_long c.args.text.now h).1 in
-      omega arith),
 )
 
 pub returns-clause-not_a_code : goal.returns-clause-not_a_code

@@ -11,19 +11,15 @@ loop-number-init g c =
 
 pub returns-then-branch : goal.returns-then-branch
 returns-then-branch g c = λ yes.
-    let first = get_or c.args.self.now 0 [] in
     let here : c.loop-number.number < length c.loop-number.self = let v = c.len.ensures.value in
     omega arith in
     let more = c.in_ok-add_moves.ensures.more c.if-branch.true in
-    many_reached c.args.code.now first c.args.most c.add_moves.new.self
-    (on_the_way_on c.args.code.now first c.loop-number.number c.loop-number.self
-    c.add_moves.new.self here c.loop-number.invariant c.in_ok-add_moves.ensures.adds)
+    many_reached _ _ _ _
+    (on_the_way_on _ _ _ _ _ here c.loop-number.invariant c.in_ok-add_moves.ensures.adds)
     more.0 more.1
 
 pub loop-number-preserved : goal.loop-number-preserved
 loop-number-preserved g c =
     let here : c.loop-number.number < length c.loop-number.self = let v = c.len.ensures.value in
     omega arith in
-    on_the_way_on c.args.code.now (get_or c.args.self.now 0 []) c.loop-number.number
-    c.loop-number.self c.add_moves.new.self here c.loop-number.invariant
-    c.in_ok-add_moves.ensures.adds
+    on_the_way_on _ _ _ _ _ here c.loop-number.invariant c.in_ok-add_moves.ensures.adds

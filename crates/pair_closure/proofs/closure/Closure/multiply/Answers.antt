@@ -6,7 +6,7 @@ use Rattle.pair_closure.specs.ClosureViews.{moved}
 use Rattle.pair_closure.proofs.Machine.{of_run, members_tell}
 use Rattle.pair_closure.specs.OverSets.{Held}
 use Rattle.pair_closure.specs.Turns.{blank_held}
-use Rattle.pair_closure.proofs.ChainLaws.{same_default}
+use Rattle.std.proofs.lemmas.List.{get_or_default}
 use Rattle.pair_closure.proofs.Fit.{members_fit}
 use Rattle.pair_closure.proofs.Kept.{kept}
 use Rattle.pair_closure.proofs.Runs.{spent_fits}
@@ -95,7 +95,7 @@ settle_product-requires g c =
           (
             ap (λ (m : Held). m.pair)
                 (c.index-member.ensures
-                ∙ same_default c.self.inside.held.items c.args.at _ blank_held within),
+                ∙ get_or_default c.self.inside.held.items c.args.at _ blank_held within),
             members_tell _ (of_run _ c.self.invariant.0) _,
           ),
         ),

@@ -1,6 +1,6 @@
 use Rattle.std.proofs.Common.{◌≡◌, ◌<◌, length, subst, rules}
 use Rattle.pair_closure.specs.Turns.{blank_held, first_pending}
-use Rattle.pair_closure.proofs.Machine.{none_before}
+use Rattle.pair_closure.proofs.WhichTurn.{none_before}
 use Rattle.pair_closure.proofs.closure.Closure.seek.Goals as goal
 
 pub invariant_of-self : goal.invariant_of-self

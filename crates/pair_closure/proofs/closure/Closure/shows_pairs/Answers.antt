@@ -1,8 +1,7 @@
-use Rattle.std.proofs.Common.{◌≡◌, ◌≤◌, ◌+◌, ◌*◌, length, subst}
+use Rattle.std.proofs.Common.{◌≤◌, ◌+◌, ◌*◌, length, subst}
 use Rattle.pair_closure.specs.Positions.{ShowsPairs, IsMinimal}
 use Rattle.pair_closure.proofs.Machine.{of_run}
 use Rattle.pair_closure.proofs.Positions.{shows, minimal}
-use Rattle.pair_closure.specs.ClosureViews.{retaken}
 use Rattle.pair_closure.specs.Calls.{IsLimited}
 use Rattle.pair_closure.proofs.Runs.{spent_le, limited}
 use Rattle.pair_closure.proofs.closure.Closure.shows_pairs.Goals as goal
@@ -23,6 +22,3 @@ returns-clause-bound g c =
 pub returns-clause-limit : goal.returns-clause-limit
 returns-clause-limit g c =
     subst (λ z. IsLimited z.state) c.self.view_is (limited _ c.self.invariant.0)
-
-pub returns-clause-run : goal.returns-clause-run
-returns-clause-run g c = subst (λ z. z ≡ retaken z) c.self.view_is c.self.invariant.0.run

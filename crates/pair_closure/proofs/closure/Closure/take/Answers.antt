@@ -52,6 +52,3 @@ returns-in-Done-clause-last g c = λ _. ended_done c.args.self.now.state (c.task
 
 pub returns-in-Over-clause-ok : goal.returns-in-Over-clause-ok
 returns-in-Over-clause-ok g c = stays c.args.self.now (ended_over c.args.self.now.state (c.task.ensures.over c.in-Over.is))
-
-pub returns-in-Over-clause-last : goal.returns-in-Over-clause-last
-returns-in-Over-clause-last g c = λ _. ended_over c.args.self.now.state (c.task.ensures.over c.in-Over.is)

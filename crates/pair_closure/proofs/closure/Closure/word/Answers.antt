@@ -2,10 +2,8 @@ use Rattle.std.proofs.Common.{◌≡◌, ◌<◌, ◌∙◌, true≢false, sym, 
 use Rattle.pair_closure.specs.Chains.{blank}
 use Rattle.pair_closure.specs.Turns.{blank_held}
 use Rattle.pair_closure.specs.ClosureViews.{IsRun}
-use Rattle.pair_closure.proofs.ChainLaws.{same_default}
+use Rattle.std.proofs.lemmas.List.{get_or_default}
 use Rattle.pair_closure.proofs.Machine.{of_run, place_in}
-use Rattle.std.proofs.Common.{rules}
-use Rattle.pair_closure.proofs.Fit.{members_fit}
 use Rattle.pair_closure.proofs.Words.{Walking, walk_begins, walk_goes, walk_falls, walk_sizes, walk_room, walk_ends}
 use Rattle.pair_closure.proofs.closure.Closure.word.Goals as goal
 
@@ -17,7 +15,7 @@ loop-at-init g c =
     subst (λ z. c.args.i < length z.state.held) (sym c.self.view_is) c.requires in
     let at : c.index.result.now.place ≡ (get_or s.held c.args.i blank_held).place =
     ap (λ z. z.place)
-    (c.index.ensures ∙ same_default c.self.inside.held.items c.args.i _ blank_held inside)
+    (c.index.ensures ∙ get_or_default c.self.inside.held.items c.args.i _ blank_held inside)
     ∙ ap (λ z. (get_or z.state.held c.args.i blank_held).place) c.self.view_is in
     subst (λ n. Walking s (get_or s.held c.args.i blank_held).place n c.new-word.result) (sym at)
     (walk_begins s (get_or s.held c.args.i blank_held).place c.new-word.result
@@ -53,16 +51,9 @@ returns-in_err-push-clause-inline g c = λ few.
     c.loop-at.invariant c.loop-at-test.true in
     absurd (true≢false (sym (c.in_err-push.ensures.inline (omega arith))))
 
-pub returns-clause-inline : goal.returns-clause-inline
-returns-clause-inline g c = λ few. refl
-
 pub returns-clause-is : goal.returns-clause-is
 returns-clause-is g c =
     let run : IsRun c.args.self.now = subst IsRun c.self.view_is c.self.invariant.0 in
     walk_ends c.args.self.now.state (of_run _ run)
     (get_or c.args.self.now.state.held c.args.i blank_held) c.args.i c.loop-at.at c.loop-at.word
     c.requires refl c.loop-at.invariant c.loop-at-test.false c.heaps.ensures.rising
-
-pub get-member-requires : goal.get-member-requires
-get-member-requires g c =
-    (members_fit g.row.LANES g.row.A g.A.Allocator g.met.A.SmallAllocator.small, search rules)

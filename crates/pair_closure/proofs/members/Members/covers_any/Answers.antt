@@ -2,8 +2,7 @@ use Rattle.std.proofs.Common.{◌≡◌, sym, ◌∙◌, subst, arith, rules, le
 use Rattle.std.specs.List.{list_any}
 use Rattle.transition_algebra.specs.Pairs.{covers}
 use Rattle.pair_closure.specs.Chains.{last_with}
-use Rattle.pair_closure.proofs.ChainLaws.{walk_from, walk_on, walk_falls, walk_ends, read_member, read_older, covered_of}
-use Rattle.pair_closure.specs.OverSets.{Member}
+use Rattle.pair_closure.proofs.ChainLaws.{walk_from, walk_step, walk_ends, covered_of}
 use Rattle.pair_closure.proofs.members.Members.covers_any.Goals as goal
 
 pub loop-at-init : goal.loop-at-init
@@ -14,18 +13,13 @@ loop-at-init g c =
 
 pub loop-at-smaller : goal.loop-at-smaller
 loop-at-smaller g c =
-    walk_falls _ _ _ _ c.loop-at-test.true
-    (read_older _ _ _ _ _ _ _ c.self.invariant c.loop-at.invariant c.loop-at-test.true
-    c.index-at.ensures)
+    (walk_step _ _ (covered_of c.args.x.now) c.self.invariant c.loop-at.invariant c.loop-at-test.true
+    c.index.ensures (sym c.covers.ensures ∙ c.if-covers.false) c.index-at.ensures).1
 
 pub loop-at-preserved : goal.loop-at-preserved
 loop-at-preserved g c =
-    let e = read_member _ _ _ _ _ c.loop-at.invariant c.loop-at-test.true c.index.ensures in
-    let off = sym c.covers.ensures ∙ c.if-covers.false in
-    walk_on _ _ _ _ _ (covered_of _) c.loop-at.invariant c.loop-at-test.true
-    (subst (λ (m : Member). covers c.args.x.now m.pair ≡ false) e off)
-    (read_older _ _ _ _ _ _ _ c.self.invariant c.loop-at.invariant c.loop-at-test.true
-    c.index-at.ensures)
+    (walk_step _ _ (covered_of c.args.x.now) c.self.invariant c.loop-at.invariant c.loop-at-test.true
+    c.index.ensures (sym c.covers.ensures ∙ c.if-covers.false) c.index-at.ensures).0
 
 pub returns : goal.returns
 returns g c =

@@ -1,19 +1,7 @@
 use Rattle.std.proofs.Common.{◌≡◌, ◌+◌, ◌++◌, [], ◌∷◌, ◌∙◌, ℕ, List, get_or, take, decimal, string_bytes, sym, ap, subst, arith}
-use Rattle.std.proofs.lemmas.List.{append-nil}
 use Rattle.positions.specs.Text.{text_behind, IsPositionText}
 use Rattle.positions.proofs.Written.{written, one_more, all_written}
 use Rattle.positions.proofs.position.Position.text.Goals as goal
-
-pub loop-heap-init : goal.loop-heap-init
-loop-heap-init g c =
-    let whole : c.args.self.now ≡ c.in-Some.first.now ∷ c.in-Some.others.now =
-    sym c.heaps.ensures.value ∙ c.in-Some.ensures.cases.0 in
-    let bytes : string_bytes c.push_number.new.text ≡ decimal (get_or c.args.self.now 0 0)
-    ++ text_behind (take 0 c.in-Some.others.now) =
-    c.in_ok-push_number.ensures ∙ ap (λ bs. bs ++ decimal c.in-Some.first.now)
-    c.new-text.ensures.bytes ∙ sym (append-nil (decimal c.in-Some.first.now))
-    ∙ ap (λ n. decimal n ++ []) (sym (ap (λ h. get_or h 0 0) whole)) in
-    bytes
 
 pub loop-heap-preserved : goal.loop-heap-preserved
 loop-heap-preserved g c =
@@ -28,15 +16,6 @@ loop-heap-preserved g c =
     ∙ one_more (get_or c.args.self.now 0 0) c.in-Some.others.now c.loop-heap.heap-index
     (string_bytes c.loop-heap.text) c.loop-heap-test.true c.loop-heap.invariant in
     bytes
-
-pub returns-clause-bytes : goal.returns-clause-bytes
-returns-clause-bytes g c =
-    let whole : c.args.self.now ≡ c.in-Some.first.now ∷ c.in-Some.others.now =
-    sym c.heaps.ensures.value ∙ c.in-Some.ensures.cases.0 in
-    let same : c.args.self.now ≡ get_or c.args.self.now 0 0 ∷ c.in-Some.others.now =
-    whole ∙ ap (λ n. n ∷ c.in-Some.others.now) (sym (ap (λ h. get_or h 0 0) whole)) in
-    all_written (get_or c.args.self.now 0 0) c.in-Some.others.now (string_bytes c.loop-heap.text)
-    c.args.self.now c.loop-heap.heap-index c.loop-heap-test.false c.loop-heap.invariant same
 
 pub returns-clause-reads : goal.returns-clause-reads
 returns-clause-reads g c =

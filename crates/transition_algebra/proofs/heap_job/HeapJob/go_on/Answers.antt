@@ -1,7 +1,7 @@
-use Rattle.std.proofs.Common.{◌+◌, ◌<◌, ◌≤◌, ◌∙◌, sym, subst, ap, inl, inr}
+use Rattle.std.proofs.Common.{◌≡◌, ◌+◌, ◌<◌, ◌≤◌, ◌∙◌, sym, subst, ap, inl, inr}
 use Rattle.transition_algebra.specs.Heaps.{bound_of}
-use Rattle.transition_algebra.specs.Work.{heap_cost}
-use Rattle.transition_algebra.proofs.Results.{of_ok}
+use Rattle.transition_algebra.specs.Work.{heap_cost, opening, turns}
+use Rattle.transition_algebra.proofs.Results.{of_ok, of_err}
 use Rattle.transition_algebra.proofs.heap_job.HeapJob.go_on.Goals as goal
 
 pub returns-clause-going : goal.returns-clause-going
@@ -18,3 +18,22 @@ returns-clause-taken g c = λ fine.
       | inl all ↦ inl (all ∙ ap (λ v. v.spent + c.args.most) c.self.view_is)
       | inr last ↦ inr (subst (λ h. bound_of j.code j.phi ≤ h) (ap (λ s. s.heap) t.trial.reached) last)
     ]
+
+pub returns-clause-last : goal.returns-clause-last
+returns-clause-last g c =
+    let j = c.self.inside in
+    subst (λ v. bound_of v.code v.phi
+    ≤ (turns v.code v.table v.phi v.spent (opening v.code v.phi)).heap
+    → c.go_on-tried.new.self.spent ≡ v.spent) c.self.view_is
+    (λ late. ap (λ t. t.spent)
+    (c.go_on-tried.ensures.last
+    (subst (λ s. bound_of j.code j.phi ≤ s.heap) (sym c.self.invariant.2.reached) late)))
+
+pub returns-clause-short : goal.returns-clause-short
+returns-clause-short g c = λ failed. λ _.
+    let j = c.self.inside in
+    let t = c.go_on-tried.ensures in
+    let e = of_err c.go_on-tried.result t.err (sym c.is_err-self-inside.ensures.value ∙ failed) in (
+      subst (λ v. c.go_on-tried.new.self.spent < v.spent + c.args.most) c.self.view_is e.0,
+      subst (λ h. h < bound_of j.code j.phi) (ap (λ s. s.heap) t.trial.reached) e.1,
+    )

@@ -1,8 +1,9 @@
-use Rattle.std.proofs.Common.{refl, arith}
+use Rattle.std.proofs.Common.{refl, ap, arith}
 use Rattle.heap_options.specs.Walks.{stages_left}
 use Rattle.transition_algebra.proofs.Counted.{bound_small}
-use Rattle.transition_algebra.proofs.Running.{two_digits, room}
-use Rattle.transition_algebra.proofs.Finished.{measure_falls, stages_few}
+use Rattle.transition_algebra.proofs.Cost.{two_digits}
+use Rattle.transition_algebra.proofs.Running.{room}
+use Rattle.transition_algebra.proofs.Finished.{measure_falls, stages_few, on_err}
 use Rattle.transition_algebra.proofs.trial.Trial+LaneSet+LANES.go_on.Goals as goal
 
 pub loop-left-smaller : goal.loop-left-smaller
@@ -31,5 +32,23 @@ loop-left-preserved g c =
     let was = i.0.bound_is in
     let all =
     room c.args.code.now c.args.table.now c.args.phi.now c.run.new.self c.run.new.pairs.items
-    r.trial (omega arith) in
-    (r.trial, omega arith, omega arith, c.run.ensures.kept, λ _. omega arith, c.run.ensures.kept_triples)
+    r.trial (omega arith) in (
+      r.trial,
+      omega arith,
+      omega arith,
+      c.run.ensures.kept,
+      λ _. omega arith,
+      c.run.ensures.kept_triples,
+      λ late. absurd (let same = ap (λ t. t.walk.heap) (i.6 late) in omega arith),
+    )
+
+pub returns-in_err-left-clause-err : goal.returns-in_err-left-clause-err
+returns-in_err-left-clause-err g c =
+    let spent = ap (λ t. t.spent) c.in_err-left.ensures.err in
+    let heap = ap (λ t. t.walk.heap) c.in_err-left.ensures.err in
+    let sum = c.loop-left.invariant.1 in
+    let few = c.loop-left.invariant.2 in
+    let some = c.loop-left-test.true in
+    let smaller = c.if-self.true in
+    let bound = c.loop-left.invariant.0.bound_is in
+    on_err c.from_residual.result (omega arith, omega arith)

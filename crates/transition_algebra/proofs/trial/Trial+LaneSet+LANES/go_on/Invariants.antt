@@ -1,4 +1,5 @@
 use Rattle.std.proofs.Common.{◌≡◌, ◌+◌, ◌*◌, ◌<◌, ◌≤◌}
+use Rattle.transition_algebra.specs.Heaps.{bound_of}
 use Rattle.transition_algebra.specs.Work.{heap_cost}
 use Rattle.heap_options.specs.Walks.{stages_left}
 use Rattle.transition_algebra.specs.Trials.{IsTrial, AreSplitValues, AreTripleValues}
@@ -11,6 +12,7 @@ invariant-loop-left g l =
     × (l.left ≤ l.initial.left) × AreSplitValues l.table l.phi l.split_values.splits.items
     × (l.initial.self.spent < heap_cost l.code l.phi → l.self.spent < heap_cost l.code l.phi)
     × AreTripleValues l.table l.phi l.split_values.triples.items
+    × (bound_of l.code l.phi ≤ l.initial.self.walk.heap → l.self ≡ l.initial.self)
 
 abbrev pub decreases-loop-left : goal.decreases-loop-left
 decreases-loop-left g l = 1000000 * l.left + stages_left l.code l.self.walk

@@ -2,7 +2,8 @@ use Rattle.std.proofs.Common.{◌<◌, ◌≤◌, refl, ap, arith}
 use Rattle.transition_algebra.specs.Heaps.{bound_of}
 use Rattle.heap_options.specs.Walks.{stages_left}
 use Rattle.transition_algebra.proofs.Counted.{bound_small}
-use Rattle.transition_algebra.proofs.Running.{two_digits, room, all_spent}
+use Rattle.transition_algebra.proofs.Cost.{two_digits}
+use Rattle.transition_algebra.proofs.Running.{room, all_spent}
 use Rattle.transition_algebra.proofs.Finished.{measure_falls, stages_few, on_err}
 use Rattle.transition_algebra.proofs.trial.Trial+LaneSet+LANES.work.Goals as goal
 

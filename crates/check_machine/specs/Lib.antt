@@ -1,0 +1,10 @@
+pub mod Units
+pub mod LawfulCertificates
+pub mod SoFar
+pub mod Rules
+pub mod Bounds
+pub mod Closings
+pub mod Views
+pub mod Turns
+pub mod Measures
+pub mod Sound

@@ -1,5 +1,0 @@
-use Rattle.std.proofs.Common.{rules}
-use Rattle.command_results.proofs.printing.print.Goals as goal
-
-pub returns-in-Err-clause-printed : goal.returns-in-Err-clause-printed
-returns-in-Err-clause-printed g c = search rules

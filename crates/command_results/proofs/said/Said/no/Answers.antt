@@ -1,5 +1,0 @@
-use Rattle.std.proofs.Common.{rules}
-use Rattle.command_results.proofs.said.Said.no.Goals as goal
-
-pub returns-clause-succeeds : goal.returns-clause-succeeds
-returns-clause-succeeds c = search rules

@@ -1,0 +1,63 @@
+-- Lines that are told beside what is said.
+use Rattle.std.proofs.Common.{◌≡◌, refl, ℕ, Bool, Bor, false, List, Option, Some, None}
+use Rattle.std.specs.Prelude.{option_map}
+use Rattle.commands.specs.Causes.{notes}
+use Rattle.commands.specs.Responses.{RespondsWith, Says}
+use Rattle.describe_command.specs.Described.{Describes}
+use Rattle.describe_command.specs.Described.Describes.{Quotient, NoQuotient}
+use Rattle.requests.specs.declared.plans.Output.{Output}
+use Rattle.requests.specs.declared.plans.Output.TheVariants.{Description, Latex, Json, Relations, Singular, Gap}
+use Rattle.requests.specs.Requests.{Request}
+use Rattle.requests.specs.Requests.Request.{Check, Solve, SolveMany, SolveLines, Show, Describe, Play, PlayLines, Present, Catalogue, Desk}
+
+-- what has no text is nothing
+pub option_none : (told : Option (Bor (List ℕ)))
+    → option_map (λ (line : Bor (List ℕ)). line.now) told ≡ None → told ≡ None
+option_none None is = refl
+option_none (Some line) is = cc
+
+silent_description : (Are : List ℕ → Type 0) (file : Option (List ℕ)) (output : Output)
+    (basis : Bool) (limit : ℕ) (text : List ℕ) (succeeds : Bool) (told : Option (List ℕ))
+    → notes (Some (Describe file output basis limit)) ≡ false
+    → Describes Are limit output text succeeds told → told ≡ None
+silent_description Are file output basis limit text succeeds told e (NoQuotient checked ill is) = is
+silent_description Are file Description basis limit text succeeds told e (Quotient c f h) = h.1
+silent_description Are file Latex basis limit text succeeds told e (Quotient c f h) = h.1
+silent_description Are file Json basis limit text succeeds told e (Quotient c f h) = h.1
+silent_description Are file Singular basis limit text succeeds told e (Quotient c f h) = h.1
+silent_description Are file Gap basis limit text succeeds told e (Quotient c f h) = h.1
+silent_description Are file Relations basis limit text succeeds told e (Quotient c f h) = cc
+
+module _ (input : Option (List ℕ)) (before after : Option (List ℕ → Option (List ℕ))) where
+  -- what is said of a request that asks for no description has no line beside it
+  pub plainly : (request : Request) (text : List ℕ) (succeeds : Bool)
+      → Says input before after request text succeeds
+      → RespondsWith input before after request text succeeds None
+  plainly (Check file limit) text succeeds h = (h, refl)
+  plainly (Solve code bounds) text succeeds h = (h, refl)
+  plainly (SolveMany codes bounds) text succeeds h = (h, refl)
+  plainly (SolveLines bounds) text succeeds h = (h, refl)
+  plainly (Show file limit) text succeeds h = (h, refl)
+  plainly (Describe file output basis limit) text succeeds h = absurd h
+  plainly (Play file position limit) text succeeds h = (h, refl)
+  plainly (PlayLines file limit) text succeeds h = (h, refl)
+  plainly (Present presentation) text succeeds h = (h, refl)
+  plainly (Catalogue file task limit) text succeeds h = (h, refl)
+  plainly (Desk script) text succeeds h = (h, refl)
+
+  -- no line stands beside what is said of a request that asks for no relations
+  pub silent : (request : Request) (text : List ℕ) (succeeds : Bool) (told : Option (List ℕ))
+      → notes (Some request) ≡ false
+      → RespondsWith input before after request text succeeds told → told ≡ None
+  silent (Check file limit) text succeeds told e h = h.1
+  silent (Solve code bounds) text succeeds told e h = h.1
+  silent (SolveMany codes bounds) text succeeds told e h = h.1
+  silent (SolveLines bounds) text succeeds told e h = h.1
+  silent (Show file limit) text succeeds told e h = h.1
+  silent (Describe file output basis limit) text succeeds told e h =
+      silent_description _ file output basis limit text succeeds told e h
+  silent (Play file position limit) text succeeds told e h = h.1
+  silent (PlayLines file limit) text succeeds told e h = h.1
+  silent (Present presentation) text succeeds told e h = h.1
+  silent (Catalogue file task limit) text succeeds told e h = h.1
+  silent (Desk script) text succeeds told e h = h.1

@@ -1,8 +1,0 @@
-use Rattle.std.proofs.Common.{rules}
-use Rattle.desk.proofs.client.Client.new.Goals as goal
-
-pub invariant_of-result : goal.invariant_of-result
-invariant_of-result c = search rules
-
-pub returns-clause-some : goal.returns-clause-some
-returns-clause-some c = search rules

@@ -1,5 +1,0 @@
-use Rattle.std.proofs.Common.{rules}
-use Rattle.pair_closure.proofs.closure.Closure.kept.Goals as goal
-
-pub returns : goal.returns
-returns g c = search rules

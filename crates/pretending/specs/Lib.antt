@@ -1,0 +1,2 @@
+pub mod Pretending
+pub mod Tables
