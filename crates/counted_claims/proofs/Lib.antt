@@ -1,0 +1,11 @@
+pub mod Vectors
+pub mod Values
+pub mod LocalRule
+pub mod Covering
+pub mod Everywhere
+pub mod Windows
+pub mod Tried
+pub mod Rays
+pub mod RaysInWindows
+pub mod NoQuotient
+pub mod Certificates
