@@ -4,8 +4,17 @@ pub mod LocalRule
 pub mod Covering
 pub mod Everywhere
 pub mod Windows
+pub mod Folds
+pub mod Settled
+pub mod AllTracks
+pub mod FewPlaces
+pub mod Onward
+pub mod TriedOnTracks
+pub mod RaysOnTracks
+pub mod Reached
 pub mod Tried
 pub mod Rays
 pub mod RaysInWindows
 pub mod NoQuotient
 pub mod Certificates
+pub mod Tracked

@@ -11,13 +11,13 @@ use Rattle.counted_claims.proofs.Values.{counted-append, counted_are}
 use Rattle.counted_claims.proofs.Windows.{same_below, same_above, cells_settled, cells_kept, cells_twice, length-cells}
 use Rattle.counted_claims.proofs.Tried.{by_cells, same_length}
 
-nowhere : (x d : ℤ) → x +ℤ pos 0 *ℤ d ≡ x
+pub nowhere : (x d : ℤ) → x +ℤ pos 0 *ℤ d ≡ x
 nowhere x d = omega (arith, ints)
 
 once_more : (x d : ℤ) (n : ℕ) → (x +ℤ pos n *ℤ d) +ℤ d ≡ x +ℤ pos (suc n) *ℤ d
 once_more x d n = omega (arith, ints)
 
-along-more : (v e : List ℤ) (n : ℕ) → plus (along v e (pos n)) e ≡ along v e (pos (suc n))
+pub along-more : (v e : List ℤ) (n : ℕ) → plus (along v e (pos n)) e ≡ along v e (pos (suc n))
 along-more [] e n = refl
 along-more (x ∷ v) [] n = refl
 along-more (x ∷ v) (d ∷ e) n = ap₂ (λ a l. a ∷ l) (once_more x d n) (along-more v e n)
@@ -41,7 +41,7 @@ along-origin step far (k ∷ ks) [] e r = absurd r
 along-origin step far (k ∷ ks) (x ∷ v) [] r = absurd r
 
 -- steps more are multiples of the modulus more
-grown : (t far step n q m : ℕ) → far ≤ t → step ≡ q * m
+pub grown : (t far step n q m : ℕ) → far ≤ t → step ≡ q * m
     → t * step * n ≡ far * step * n + (t - far) * q * n * m
 grown t far step n q m l e =
     let a : t ≡ far + (t - far) = omega arith in
@@ -103,7 +103,7 @@ module _ (c : CountedClaim) (base up down : List ℕ) where
       counted-append c base (repeated a up ++ repeated b down)
       ∙ ap (plus (counted c base)) (counted-append c (repeated a up) (repeated b down))
 
-  one_up : (a b : ℕ) → counted_on c base up down (suc a) b
+  pub one_up : (a b : ℕ) → counted_on c base up down (suc a) b
       ≡ plus (counted_on c base up down a b) (counted c up)
   one_up a b =
       counted_parts (suc a) b
@@ -126,14 +126,14 @@ module _ (c : CountedClaim) (base up down : List ℕ) where
       (ap (plus (counted c base)) (plus-comm (counted c (repeated b down)) (counted c (repeated a up)))
       ∙ sym (counted_parts a b))
 
-  up_and_down : (a b : ℕ) → counted_on c base up down (suc a) (suc b)
+  pub up_and_down : (a b : ℕ) → counted_on c base up down (suc a) (suc b)
       ≡ plus (plus (counted_on c base up down a b) (counted c down)) (counted c up)
   up_and_down a b = one_up a (suc b) ∙ ap (λ v. plus v (counted c up)) (one_down a b)
 
   on_are : (a b : ℕ) → AreCounts c (counted_on c base up down a b)
   on_are a b = counted_are c (base ++ (repeated a up ++ repeated b down))
 
-  at_base : counted_on c base up down 0 0 ≡ counted c base
+  pub at_base : counted_on c base up down 0 0 ≡ counted c base
   at_base = ap (counted c) (append-nil base)
 
   ups_along : (step far : ℕ) (ks : List Window) → AreFarOut step far ks (counted c base) (counted c up)

@@ -7,17 +7,17 @@ use Rattle.counted_claims.specs.Places.{plus}
 use Rattle.counted_claims.specs.Windows.{Window, cell, cells, IsWider, AreWider, AreWithin}
 
 -- the remainder of a distance, by any of its representatives
-same_rest : (a b m i j : ℕ) → a + i * m ≡ b + j * m → a % m ≡ b % m
+pub same_rest : (a b m i j : ℕ) → a + i * m ≡ b + j * m → a % m ≡ b % m
 same_rest a b m i j e =
     sym (add-mul-mod_self_right a i m) ∙ ap (λ x. x % m) e ∙ add-mul-mod_self_right b j m
 
-distance : (x y : ℤ) → y ≤ℤ x → y +ℤ pos (nat_abs (x -ℤ y)) ≡ x
+pub distance : (x y : ℤ) → y ≤ℤ x → y +ℤ pos (nat_abs (x -ℤ y)) ≡ x
 distance x y l = omega (arith, ints)
 
-lt_is_true : (x y : ℤ) → x <ℤ y → int_lt x y ≡ true
+pub lt_is_true : (x y : ℤ) → x <ℤ y → int_lt x y ≡ true
 lt_is_true x y l = grind (arith, ints)
 
-lt_is_false : (x y : ℤ) → y ≤ℤ x → int_lt x y ≡ false
+pub lt_is_false : (x y : ℤ) → y ≤ℤ x → int_lt x y ≡ false
 lt_is_false x y l = grind (arith, ints)
 
 cell_in : (k : Window) (x : ℤ) → k.low ≤ℤ x → x ≤ℤ k.high → cell k x ≡ x
