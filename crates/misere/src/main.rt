@@ -4,14 +4,14 @@
 
 use command_results::{stopped, words_of};
 use folders::HostFolder;
-use std::io;
 use std::process::ExitCode;
+use std::{env, io};
 use streams::{ReaderSource, WriterSink};
 use whole_runs::ended;
 
 fn main(rt: HostRuntime) -> ExitCode {
     let mut err = WriterSink::new(rt.stderr());
-    let words = match words_of(&rt) {
+    let words = match words_of(rt.alloc(), env::args(&rt)) {
         Ok(words) => words,
         Err(stop) => return stopped(stop, &mut err),
     };

@@ -1,10 +1,11 @@
 -- Heaps of which a certificate speaks, and what the value of a position says of its outcome.
-use Rattle.std.proofs.Common.{◌≡◌, ℕ, zero, suc, ◌<◌, ◌≤◌, inl, inr, Bool, true, false, List, [], ◌∷◌, sym, ◌∙◌, ap, arith}
+use Rattle.std.proofs.Common.{◌≡◌, ℕ, zero, suc, ◌<◌, ◌≤◌, inl, inr, Bool, true, false, List, [], ◌∷◌, refl, sym, ◌∙◌, ap, arith}
 use Rattle.std.specs.List.{All}
 use Rattle.misere_theory.specs.Certificates.{Certificate, Accepted, IsHeapOf, claim_of}
 use Rattle.misere_theory.specs.Games.{IsP, IsN, IsPosition}
-use Rattle.misere_theory.specs.Kinds.{IsHeapIn}
+use Rattle.misere_theory.specs.Kinds.{IsHeapIn, kind_by}
 use Rattle.misere_theory.specs.Quotients.{value}
+use Rattle.misere_theory.proofs.Counting.{kind_full}
 use Rattle.misere_theory.proofs.Outcomes.{determined}
 use Rattle.positions.specs.Positions.{IsSize}
 
@@ -18,6 +19,12 @@ pub speaks_there : (heap : ℕ → Type 0) (X : List ℕ) → IsPosition heap X 
 speaks_there heap [] p k d l = absurd (omega arith)
 speaks_there heap (n ∷ X) p zero d l = p.0
 speaks_there heap (n ∷ X) p (suc k) d l = speaks_there heap X p.1 k d (omega arith)
+
+-- a certificate that has a last heap is partial
+pub is_partial : (start period : ℕ) → 0 < kind_by start period → period ≡ 0
+is_partial start zero some = refl
+is_partial start (suc period) some =
+    absurd (let full = kind_full start (suc period) (omega arith) in omega (arith, full, some))
 
 pub small_speaks : (M : ℕ) (X : List ℕ) → All IsSize X → All (λ n. n ≤ M) X → All (IsHeapIn M) X
 small_speaks M X sizes small k d l = ((sizes k d l).0, λ some. small k d l)

@@ -37,10 +37,13 @@ IsNoPosition heaps status = (status ≡ 10) × (All IsSize heaps → ⊥)
 abbrev pub IsNoQuotient : List ℕ → ℕ → ℕ → Type 0
 IsNoQuotient bytes limit status = (status ≢ 0) × IsStatus bytes limit status
 
+-- These are heaps, and the certificate, which is partial, doesn't speak of them all.
+abbrev pub LeavesOut : List ℕ → Certificate → Type 0
+LeavesOut heaps c = (c.period ≡ 0) × All IsSize heaps × (SpeaksOf c heaps → ⊥)
+
 -- The certificate doesn't speak of all these heaps.
 abbrev pub IsBeyond : List ℕ → ℕ → List ℕ → ℕ → Type 0
-IsBeyond bytes limit heaps status =
-    (status ≡ 23) × Certify bytes limit (λ c. SpeaksOf c heaps → ⊥)
+IsBeyond bytes limit heaps status = (status ≡ 23) × Certify bytes limit (LeavesOut heaps)
 
 -- Why nothing is told of a position: one of these, or memory was refused.
 abbrev pub IsNo : List ℕ → ℕ → List ℕ → ℕ → Type 0

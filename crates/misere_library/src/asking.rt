@@ -5,7 +5,7 @@ ghost use Rattle.misere_theory.specs.Certificates.{IsHeapOf};
 ghost use Rattle.positions.specs.Positions.{IsSize};
 ghost use Rattle.misere_library.specs.Queries.{TellsOutcome, TellsValue, TellsAnswer};
 ghost use Rattle.misere_library.specs.Many.{AreEnds, TellAll};
-ghost use Rattle.misere_library.specs.Asked.{IsUnanswered, AreNoEnds};
+ghost use Rattle.misere_library.specs.Asked.{AreUnanswered, IsUnanswered};
 
 use crate::heaps::{are_sizes, speaks_of};
 use crate::many::{are_ends, fill_outcomes, fill_values};
@@ -42,7 +42,7 @@ pub(crate) fn all_fit(
     ensures ends { OnOk result (AreEnds (length heaps.now) ends.now) }
     ensures room { OnOk result (room ≡ length ends.now) }
     ensures no { IfErr result (λ s. s ≢ 0
-        × (IsUnanswered certified.now heaps.now s ⊎ AreNoEnds heaps.now ends.now room s)) }
+        × AreUnanswered certified.now heaps.now ends.now room s) }
 {
     if room != ends.len() || !are_ends(heaps.len(), ends) {
         return Err(NOT_ENDS);
@@ -76,8 +76,8 @@ pub(crate) fn outcomes_in(
     told: &mut [u32],
 ) -> u32
     ensures yes { result ≡ 0 → TellAll TellsOutcome heaps.now ends.now told.new certified.now }
-    ensures no { result ≢ 0 → IsUnanswered certified.now heaps.now result
-        ⊎ AreNoEnds heaps.now ends.now (length told.old) result }
+    ensures no { result ≢ 0
+        → AreUnanswered certified.now heaps.now ends.now (length told.old) result }
     ensures stays { result ≢ 0 → told.new ≡ told.old }
 {
     match all_fit(certified, heaps, ends, told.len()) {
@@ -92,8 +92,8 @@ pub(crate) fn outcomes_in(
 /// Tells the element of each position; else why not.
 pub(crate) fn values_in(certified: &Certified, heaps: &[u64], ends: &[u64], told: &mut [u32]) -> u32
     ensures yes { result ≡ 0 → TellAll TellsValue heaps.now ends.now told.new certified.now }
-    ensures no { result ≢ 0 → IsUnanswered certified.now heaps.now result
-        ⊎ AreNoEnds heaps.now ends.now (length told.old) result }
+    ensures no { result ≢ 0
+        → AreUnanswered certified.now heaps.now ends.now (length told.old) result }
     ensures stays { result ≢ 0 → told.new ≡ told.old }
 {
     match all_fit(certified, heaps, ends, told.len()) {

@@ -1,5 +1,5 @@
 //! Heaps as they come.
-ghost use Rattle.std.specs.Prelude.{◌↔◌, ◌≤◌, IsTrue, All, IfOk, IsPermutation};
+ghost use Rattle.std.specs.Prelude.{◌≡◌, ◌↔◌, ◌≤◌, IsTrue, All, IfOk, IsPermutation, false};
 ghost use Rattle.misere_theory.specs.Certificates.{IsHeapOf};
 ghost use Rattle.positions.specs.Positions.{IsSize};
 
@@ -25,7 +25,8 @@ fn are_up_to(heaps: &[u64], last: u64) -> bool
 /// Whether the certificate speaks of each of the heaps. A full one speaks of all.
 pub(crate) fn speaks_of(certified: &Certified, heaps: &[u64]) -> bool
     requires { All IsSize heaps.now }
-    ensures { IsTrue result ↔ All (IsHeapOf certified.now) heaps.now }
+    ensures speaks { IsTrue result ↔ All (IsHeapOf certified.now) heaps.now }
+    ensures partial { result ≡ false → certified.now.period ≡ 0 }
 {
     let last = certified.cert().heaps();
     if last == 0 {

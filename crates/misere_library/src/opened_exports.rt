@@ -1,10 +1,10 @@
 //! The calls on opened quotients.
 ghost use Rattle.std.specs.List.Sorted.{IsNonDecreasing, IsPermutation};
-ghost use Rattle.std.specs.Prelude.{◌≡◌, ◌≢◌, ◌⊎◌, length};
+ghost use Rattle.std.specs.Prelude.{◌≡◌, ◌≢◌, length};
 ghost use Rattle.std.specs.declared.option.Option.TheVariants.{None, Some};
 ghost use Rattle.misere_library.specs.Queries.{Certify, IsStatus, TellsOutcome, TellsValue, TellsAnswer};
 ghost use Rattle.misere_library.specs.Many.{TellAll};
-ghost use Rattle.misere_library.specs.Asked.{IsOpened, IsUnopened, IsNoAnswer, IsNoAnswerToMany};
+ghost use Rattle.misere_library.specs.Asked.{AreNoAnswers, IsOpened, IsUnopened, IsNoAnswer, IsNoAnswerToMany, IsUnshared};
 
 use crate::numbers::{DONE, MisereAnswer};
 use crate::opened_queries::{
@@ -28,7 +28,7 @@ pub extern "C" fn misere_open(alloc: Global, bytes: &[u8], limit: u32, told: &mu
 #[unsafe(no_mangle)]
 pub extern "C" fn misere_share(alloc: Global, opened: &mut Opened, told: &mut Opened) -> u32
     ensures yes { result ≡ 0 → IsOpened opened.old.handle.value (λ c. told.new.handle.value ≡ Some c) }
-    ensures no { result ≢ 0 → IsUnopened opened.old.handle.value result ⊎ (result ≡ 9) }
+    ensures no { result ≢ 0 → IsUnshared opened.old.handle.value result }
     ensures same { opened.new.handle.value ≡ opened.old.handle.value }
     ensures stays { result ≢ 0 → told.new ≡ told.old }
 {
@@ -166,7 +166,7 @@ pub extern "C" fn misere_opened_answers(
     ensures yes { result ≡ 0
         → IsOpened opened.old.handle.value (TellAll TellsAnswer heaps.now ends.now told.new) }
     ensures no { result ≢ 0
-        → IsNoAnswerToMany opened.old.handle.value heaps.now ends.now (length told.old) result ⊎ (result ≡ 9) }
+        → AreNoAnswers opened.old.handle.value heaps.now ends.now (length told.old) result }
     ensures same { opened.new.handle.value ≡ opened.old.handle.value }
     ensures stays { result ≢ 0 → told.new ≡ told.old }
 {

@@ -3,7 +3,7 @@ ghost use Rattle.std.specs.List.Sorted.{IsNonDecreasing, IsPermutation};
 ghost use Rattle.std.specs.Prelude.{◌≡◌, ◌≢◌, ◌⊎◌, IfOk, IfErr, OnOk, OnErr, length};
 ghost use Rattle.misere_library.specs.Queries.{Certify, IsStatus, TellsOutcome, TellsValue, TellsAnswer};
 ghost use Rattle.misere_library.specs.Many.{TellAll};
-ghost use Rattle.misere_library.specs.Asked.{AreNoEnds, IsOpened, IsUnanswered, IsUnopened, IsNoAnswer, IsNoAnswerToMany};
+ghost use Rattle.misere_library.specs.Asked.{AreNoAnswers, AreUnanswered, IsOpened, IsUnopened, IsNoAnswer, IsNoAnswerToMany, IsUnshared};
 ghost use Rattle.std.specs.declared.option.Option.TheVariants.{None, Some};
 
 use crate::asking::{all_fit, answer_in, outcome_in, outcomes_in, value_in, values_in};
@@ -56,7 +56,7 @@ pub(crate) fn open_quotient(alloc: Global, bytes: &[u8], limit: u32, told: &mut 
 /// Makes a second owner of what is opened.
 pub(crate) fn share(alloc: Global, opened: &mut Opened, told: &mut Opened) -> u32
     ensures yes { result ≡ 0 → IsOpened opened.old.handle.value (λ c. told.new.handle.value ≡ Some c) }
-    ensures no { result ≢ 0 → IsUnopened opened.old.handle.value result ⊎ (result ≡ 9) }
+    ensures no { result ≢ 0 → IsUnshared opened.old.handle.value result }
     ensures same { opened.new.handle.value ≡ opened.old.handle.value }
     ensures stays { result ≢ 0 → told.new ≡ told.old }
 {
@@ -201,7 +201,7 @@ pub(crate) fn answers(
     ensures yes { result ≡ 0
         → IsOpened opened.old.handle.value (TellAll TellsAnswer heaps.now ends.now told.new) }
     ensures no { result ≢ 0
-        → IsNoAnswerToMany opened.old.handle.value heaps.now ends.now (length told.old) result ⊎ (result ≡ 9) }
+        → AreNoAnswers opened.old.handle.value heaps.now ends.now (length told.old) result }
     ensures same { opened.new.handle.value ≡ opened.old.handle.value }
     ensures stays { result ≢ 0 → told.new ≡ told.old }
 {
@@ -231,7 +231,7 @@ fn answers_in(
         (λ made. TellAll TellsAnswer heaps.now ends.now made.items certified.now) }
     ensures room { IfOk result (λ made. room ≡ length ends.now) }
     ensures no { IfErr result (λ s. s ≢ 0
-        × ((IsUnanswered certified.now heaps.now s ⊎ AreNoEnds heaps.now ends.now room s) ⊎ (s ≡ 9))) }
+        × (AreUnanswered certified.now heaps.now ends.now room s ⊎ (s ≡ 9))) }
 {
     all_fit(certified, heaps, ends, room)?;
     match all_answers(alloc, certified, heaps, ends) {

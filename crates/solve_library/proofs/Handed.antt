@@ -1,5 +1,5 @@
 -- What is handed over where a search spells a certificate.
-use Rattle.std.proofs.Common.{◌≡◌, ◌≤◌, ◌∙◌, sym, subst, ℕ, Bool, true, false, List, arith}
+use Rattle.std.proofs.Common.{◌≡◌, ◌≤◌, ◌∙◌, inl, inr, refl, sym, subst, ℕ, Bool, true, false, List, arith}
 use Rattle.std.specs.Prelude.{Ok}
 use Rattle.misere_theory.specs.Certificates.{kind_of}
 use Rattle.octal_code.specs.Text.{IsCodeText}
@@ -7,7 +7,7 @@ use Rattle.requests.specs.declared.plans.Aim.{Aim}
 use Rattle.requests.specs.declared.plans.Aim.TheVariants.{Whole, Deep, Part, Furthest}
 use Rattle.requests.specs.declared.plans.SolveBounds.{SolveBounds}
 use Rattle.solve_command.specs.Solved.{IsAimedAt, IsSearched, Solves}
-use Rattle.solve_library.specs.Found.{AreBounds, IsAim, IsOfKind, Tells}
+use Rattle.solve_library.specs.Found.{AreBounds, IsAim, IsInRange, IsOfKind, IsUnfound, Tells}
 use Rattle.solve_library.specs.declared.solving.Asked.{Asked}
 
 -- a certificate of a kind that is aimed at is of the kind that is asked
@@ -36,3 +36,10 @@ explained word bytes a bounds true are why (code, spells, p) =
       searched = subst (λ (d : List ℕ). IsSearched d bounds (Ok p.c)) (sym p.asked_for.of_code) p.searched;
     }
 explained word bytes a bounds false are why p = (bounds, are, why, p)
+
+-- a search that is given up tells no certificate
+pub unfound : (word : List ℕ) (a : Asked) (said : List ℕ) (found : Bool) → found ≡ false → IsInRange a
+    → Tells word a said found → IsUnfound word a 13
+unfound word a said true e range told = absurd cc
+unfound word a said false e range (bounds, are, why, p) =
+    inr (range, inr (inl (refl, (bounds, are, (said, p)))))

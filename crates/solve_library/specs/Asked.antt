@@ -9,8 +9,10 @@ use Rattle.solve_library.specs.Found.{IsTextFor, IsUntoldOf}
 abbrev pub IsOpenedText : Option Certificate → ℕ → List ℕ → Type 0
 IsOpenedText opened output text = (c : Certificate) × (opened ≡ Some c) × IsTextFor output c text
 
--- Why no text is told: there is no such form, or nothing is opened, or the text isn't told of the
--- quotient.
+-- Why no text is told: nothing is opened; or something is, and there is no such output or form, or its
+-- text isn't told.
 abbrev pub IsOpenedUntold : Option Certificate → ℕ → ℕ → ℕ → Type 0
 IsOpenedUntold opened output form status =
-    ((status ≡ 15) × (2 ≤ form)) ⊎ (((status ≡ 17) × (opened ≡ None)) ⊎ IsUntoldOf output status)
+    ((status ≡ 17) × (opened ≡ None))
+    ⊎ ((c : Certificate) × (opened ≡ Some c)
+    × (((status ≡ 15) × (2 ≤ form)) ⊎ IsUntoldOf output status))

@@ -87,12 +87,12 @@ abbrev pub Tells : List ℕ → Asked → List ℕ → Bool → Type 0
 Tells text a told true = IsCertificateFor text a told
 Tells text a told false = IsGivenUpFor text a told
 
--- Why no certificate is told: the text is no code's, something that is asked is out of its range, the
--- search was given up, or memory was refused.
+-- Why no certificate is told: something that is asked is out of its range; or all is in its range, and
+-- the text is no code's, the search was given up, or memory was refused.
 abbrev pub IsUnfound : List ℕ → Asked → ℕ → Type 0
-IsUnfound text a status = ((status ≡ 12) × IsNoCode text)
-    ⊎ (((status ≡ 15) × (IsInRange a → ⊥))
-    ⊎ (((status ≡ 13) × IsGivenUp text a) ⊎ (status ≡ 9)))
+IsUnfound text a status = ((status ≡ 15) × (IsInRange a → ⊥))
+    ⊎ (IsInRange a
+    × (((status ≡ 12) × IsNoCode text) ⊎ (((status ≡ 13) × IsGivenUp text a) ⊎ (status ≡ 9))))
 
 -- The text is what is asked for of the quotient: 0 its description, 1 that for LaTeX, 2 its
 -- relations as one word.

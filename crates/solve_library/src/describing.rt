@@ -42,12 +42,7 @@ fn presentable(alloc: Global, certified: &Certified, form: Form) -> Result<Strin
 }
 
 /// The text that is asked for of the quotient.
-pub(crate) fn text_for(
-    alloc: Global,
-    certified: &Certified,
-    output: u32,
-    form: Form,
-) -> Result<String, u32>
+fn text_for(alloc: Global, certified: &Certified, output: u32, form: Form) -> Result<String, u32>
     ensures told { IfOk result (λ t. IsTextFor output certified.now (string_bytes t)) }
     ensures why { IfErr result (IsUntoldOf output) }
 {
@@ -64,13 +59,29 @@ pub(crate) fn text_for(
 }
 
 /// The form of relations of this number.
-pub(crate) fn form_of(form: u32) -> Option<Form>
+fn form_of(form: u32) -> Option<Form>
     ensures { IsSome result ↔ (form ≤ 1) }
 {
     match form {
         0 => Some(Form::Short),
         1 => Some(Form::Basis),
         _ => None,
+    }
+}
+
+/// The text that is asked for of the quotient in the form of this number; or the status.
+pub(crate) fn text_by(
+    alloc: Global,
+    certified: &Certified,
+    output: u32,
+    form: u32,
+) -> Result<String, u32>
+    ensures told { IfOk result (λ t. IsTextFor output certified.now (string_bytes t)) }
+    ensures why { IfErr result (λ s. ((s ≡ 15) × (2 ≤ form)) ⊎ IsUntoldOf output s) }
+{
+    match form_of(form) {
+        Some(form) => text_for(alloc, certified, output, form),
+        None => Err(NOT_IN_RANGE),
     }
 }
 

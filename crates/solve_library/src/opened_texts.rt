@@ -3,8 +3,8 @@ ghost use Rattle.std.specs.Prelude.{◌≡◌, ◌≢◌, IfOk, IfErr};
 ghost use Rattle.std.specs.String.{string_bytes};
 ghost use Rattle.solve_library.specs.Asked.{IsOpenedText, IsOpenedUntold};
 
-use crate::describing::{form_of, text_for};
-use crate::numbers::{NOT_IN_RANGE, NOT_OPEN};
+use crate::describing::text_by;
+use crate::numbers::NOT_OPEN;
 use opened::Opened;
 use std::alloc::Global;
 
@@ -20,13 +20,10 @@ pub(crate) fn opened_text(
     ensures why { IfErr result (IsOpenedUntold opened.old.handle.value output form) }
     ensures same { opened.new.handle.value ≡ opened.old.handle.value }
 {
-    let Some(form) = form_of(form) else {
-        return Err(NOT_IN_RANGE);
-    };
     let Some(quotient) = opened.take(alloc) else {
         return Err(NOT_OPEN);
     };
-    let text = text_for(alloc, quotient.certified(), output, form);
+    let text = text_by(alloc, quotient.certified(), output, form);
     opened.put(alloc, quotient);
     text
 }

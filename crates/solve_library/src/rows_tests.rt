@@ -1,6 +1,8 @@
 //! What is told of each range, each aim and each bound, by rows.
 
-use crate::exports::{misere_describe, misere_solve};
+use crate::exports::{misere_describe, misere_opened_describe, misere_solve};
+use checker::check;
+use opened::{Opened, Quotient};
 use std::alloc::Global;
 
 const LIMIT: u32 = 100000;
@@ -144,6 +146,60 @@ fn count_described(alloc: Global) -> usize {
         count = count.saturating_add(1);
     }
     count
+}
+
+/// What is opened where the bytes are certified.
+fn opened_of(alloc: Global, bytes: &[u8]) -> Option<Opened> {
+    let certified = check(alloc, bytes, LIMIT).ok()?;
+    let quotient = Quotient::new(alloc, certified).ok()?;
+    let owner = Box::new(alloc, quotient).ok()?;
+    let mut opened = Opened::closed(alloc);
+    opened.put(alloc, owner);
+    Some(opened)
+}
+
+/// Whether this output in this form is told of what is opened as of the bytes.
+fn is_told_alike(alloc: Global, opened: &mut Opened, output: u32, form: u32) -> bool {
+    let (mut told, mut count) = ([7; 2000], 7);
+    let (mut other, mut length) = ([7; 2000], 7);
+    let status = misere_describe(alloc, OF_0_75, LIMIT, output, form, &mut told, &mut count);
+    misere_opened_describe(alloc, opened, output, form, &mut other, &mut length) == status
+        && count == length
+        && told == other
+}
+
+/// How many outputs, each in three forms, are told alike, up to the first that isn't.
+fn count_told_alike(alloc: Global) -> Option<u32> {
+    let mut opened = opened_of(alloc, OF_0_75)?;
+    for output in 0..4 {
+        for form in 0..3 {
+            if !is_told_alike(alloc, &mut opened, output, form) {
+                return Some(output);
+            }
+        }
+    }
+    Some(4)
+}
+
+/// The status of a description of what is opened in a room of 5 bytes, and how many it has.
+fn described_without_room(alloc: Global) -> Option<(u32, u64)> {
+    let (mut opened, mut count) = (opened_of(alloc, OF_0_75)?, 7);
+    let status = misere_opened_describe(alloc, &mut opened, 2, 0, &mut [7; 5], &mut count);
+    Some((status, count))
+}
+
+/// The status of a description of what is closed.
+fn described_closed(alloc: Global, output: u32, form: u32) -> u32 {
+    let mut opened = Opened::closed(alloc);
+    misere_opened_describe(alloc, &mut opened, output, form, &mut [7; 5], &mut 7)
+}
+
+#[test]
+fn opened_quotients_are_described_as_their_bytes(rt: HostRuntime) {
+    assert_eq!(&rt; count_told_alike(rt.alloc()), Some(4));
+    assert!(&rt; described_without_room(rt.alloc()) == Some((14, 33)));
+    assert_eq!(&rt; described_closed(rt.alloc(), 0, 0), 17);
+    assert_eq!(&rt; described_closed(rt.alloc(), 3, 2), 17);
 }
 
 /// The status of a description of the part of 0.6 to heap 16, which has 304 elements, and whether it

@@ -72,6 +72,7 @@ fn bounds_of(asked: Asked) -> Option<SolveBounds>
 /// how the search was given up, with the reason; or the status.
 pub(crate) fn solved(alloc: Global, code: &[u8], asked: Asked) -> Result<Said, u32>
     ensures says { IfOk result (λ said. Tells code.now asked said.text.items said.succeeds) }
+    ensures range { IfOk result (λ _. IsInRange asked) }
     ensures no { IfErr result (λ s. s ≢ 0 × s ≢ 13 × s ≢ 14) }
     ensures why { IfErr result (IsUnfound code.now asked) }
 {

@@ -10,12 +10,14 @@ speaks_of-requires c = c.are_sizes.ensures.0 c.if-not-are_sizes.false
 pub returns-then-not-speaks_of-clause-no : goal.returns-then-not-speaks_of-clause-no
 returns-then-not-speaks_of-clause-no c =
     let C = c.args.certified.now in
-    let no : SpeaksOf C c.args.heaps.now → ⊥ = λ speaks. (let t = c.speaks_of.ensures.1
+    let no : SpeaksOf C c.args.heaps.now → ⊥ = λ speaks. (let t = c.speaks_of.ensures.speaks.1
     (speaks_there (IsHeapOf C) c.args.heaps.now speaks) in let f = c.if-not-speaks_of.true in cc) in
-    (λ e. absurd (omega (arith, e)), inr (refl, no))
+    let partial = c.speaks_of.ensures.partial (let f = c.if-not-speaks_of.true in cc) in
+    let sizes = c.are_sizes.ensures.0 c.if-not-are_sizes.false in
+    (λ e. absurd (omega (arith, e)), inr (refl, (partial, sizes, no)))
 
 pub returns-clause-sizes : goal.returns-clause-sizes
 returns-clause-sizes c = c.are_sizes.ensures.0 c.if-not-are_sizes.false
 
 pub returns-clause-speaks : goal.returns-clause-speaks
-returns-clause-speaks c = c.speaks_of.ensures.0 c.if-not-speaks_of.false
+returns-clause-speaks c = c.speaks_of.ensures.speaks.0 c.if-not-speaks_of.false

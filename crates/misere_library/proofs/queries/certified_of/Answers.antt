@@ -1,6 +1,7 @@
 use Rattle.std.proofs.Common.{inl, inr, refl, arith}
 use Rattle.misere_theory.specs.Certificates.{IsHeapOf}
 use Rattle.player.specs.Answers.{SpeaksOf}
+use Rattle.misere_library.specs.Queries.{LeavesOut}
 use Rattle.misere_library.proofs.Positions.{speaks_there}
 use Rattle.misere_library.proofs.queries.certified_of.Goals as goal
 
@@ -11,12 +12,15 @@ pub returns-then-not-speaks_of-clause-no : goal.returns-then-not-speaks_of-claus
 returns-then-not-speaks_of-clause-no c =
     let C = c.in_ok-certified.certified in
     let yes = c.in_ok-certified.ensures.yes in
-    let no : SpeaksOf C c.args.heaps.now → ⊥ = λ speaks. (let t = c.speaks_of.ensures.1
+    let no : SpeaksOf C c.args.heaps.now → ⊥ = λ speaks. (let t = c.speaks_of.ensures.speaks.1
     (speaks_there (IsHeapOf C) c.args.heaps.now speaks) in let f = c.if-not-speaks_of.true in cc) in
-    (λ e. absurd (omega (arith, e)), inr (inr (inl (refl, (C, yes.0, yes.1, c.in_ok-certified.ensures.verdict, no)))))
+    let partial = c.speaks_of.ensures.partial (let f = c.if-not-speaks_of.true in cc) in
+    let sizes = c.are_sizes.ensures.0 c.if-not-are_sizes.false in
+    let out : LeavesOut c.args.heaps.now C = (partial, sizes, no) in
+    (λ e. absurd (omega (arith, e)), inr (inr (inl (refl, (C, yes.0, yes.1, c.in_ok-certified.ensures.verdict, out)))))
 
 pub returns-clause-sizes : goal.returns-clause-sizes
 returns-clause-sizes c = c.are_sizes.ensures.0 c.if-not-are_sizes.false
 
 pub returns-clause-speaks : goal.returns-clause-speaks
-returns-clause-speaks c = c.speaks_of.ensures.0 c.if-not-speaks_of.false
+returns-clause-speaks c = c.speaks_of.ensures.speaks.0 c.if-not-speaks_of.false
