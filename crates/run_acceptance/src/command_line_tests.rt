@@ -712,7 +712,7 @@ static REFUSED: [Refuses; 146] = [
     Refuses("catalogue|--help", Why::Help("--salvage")),
     Refuses("catalogue|--help", Why::Help("--heaps <M>")),
     Refuses("catalogue|--help", Why::Help("--migrate")),
-    Refuses("-V", Why::Help("misere 0.1.0")),
+    Refuses("-V", Why::Help("misere 0.2.0")),
     Refuses("--version", Why::Help("misere ")),
     Refuses("-V", Why::Help(VERSION)),
 ];
