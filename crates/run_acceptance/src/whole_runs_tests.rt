@@ -11,6 +11,7 @@ use command_results::{Stop, words_of};
 use devices::{FailingSink, FailingSource};
 use folders::MemoryFolder;
 use std::alloc::Global;
+use std::env;
 use streams::{MemorySink, MemorySource, Sink, Source};
 use whole_runs::run as run_whole;
 
@@ -536,7 +537,7 @@ fn are_words(given: &[String], words: &[&[u8]]) -> bool {
 
 /// Whether the words are given as they are.
 fn are_given(alloc: Global, words: &[&[u8]]) -> bool {
-    match words_of(&Words { alloc, words }) {
+    match words_of(alloc, env::args(&Words { alloc, words })) {
         Ok(given) => are_words(&given, words),
         Err(_) => false,
     }
@@ -544,15 +545,23 @@ fn are_given(alloc: Global, words: &[&[u8]]) -> bool {
 
 /// Whether the words are refused, since one is no text.
 fn is_no_text(alloc: Global, words: &[&[u8]]) -> bool {
-    match words_of(&Words { alloc, words }) {
+    match words_of(alloc, env::args(&Words { alloc, words })) {
         Ok(_) => false,
         Err(stop) => matches!(stop, Stop::NotUtf8),
     }
 }
 
-/// Whether the six texts are given, and the words with another are refused.
+/// Whether so many words are given.
+fn are_many_given(alloc: Global, count: usize) -> bool {
+    match vec![in alloc; WORDS[0]; count] {
+        Ok(words) => are_given(alloc, &words),
+        Err(_) => false,
+    }
+}
+
+/// Whether the six texts and 1,000 are given, and the words with another are refused.
 fn takes_texts_alone(alloc: Global) -> bool {
-    is_no_text(alloc, &NO_TEXT) && are_given(alloc, &WORDS)
+    is_no_text(alloc, &NO_TEXT) && are_given(alloc, &WORDS) && are_many_given(alloc, 1000)
 }
 
 /// Whether the text says how the program is used.
