@@ -16,9 +16,9 @@ use std::ptr::null_mut;
 /// A box with a quotient, or none, as a pointer that goes out to C and comes back. In a contract its
 /// `value` is the certificate.
 ///
-/// A drop forgets the pointer, and frees nothing. So what has a box goes `into_box` first.
+/// It can't be dropped, so that no box is forgotten: what has one goes `into_box`, and what has none
+/// is `spent`.
 #[repr(C)]
-#[derive(Drop)]
 pub struct Handle {
     at: *mut u8,
     alloc: Global,
@@ -53,6 +53,13 @@ impl Handle {
         ensures { self.value ≡ Some result.value }
     {
         self.into_loose().into_box()
+    }
+
+    /// The end of a handle that has none.
+    pub(crate) fn spent(self)
+        requires { self.value ≡ None }
+    {
+        let Handle { at: _, alloc: _ } = self;
     }
 
     fn of_loose(loose: Loose<Quotient, Global>) -> Handle

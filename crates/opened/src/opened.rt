@@ -50,7 +50,7 @@ impl Opened {
     {
         drop(self.take(alloc));
         self.full = 1;
-        self.handle = Handle::of(quotient);
+        mem::replace(&mut self.handle, Handle::of(quotient)).spent();
     }
 }
 
@@ -59,6 +59,8 @@ impl Drop for Opened {
         let Opened { full, handle } = self;
         if full != 0 {
             drop(handle.into_box());
+        } else {
+            handle.spent();
         }
     }
 }
