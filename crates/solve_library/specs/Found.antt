@@ -14,6 +14,8 @@ use Rattle.descriptions.specs.Described.{IsDescription, IsPresentable}
 use Rattle.quotient_search.specs.declared.aim.TheConstants.{DEEPEST}
 use Rattle.relations.specs.declared.fault.Undescribed.{Undescribed}
 use Rattle.relations.specs.declared.fault.Undescribed.TheVariants.{Letters, Exponents, Unshown, Memory as NoMemory}
+use Rattle.relations.specs.declared.finding.Form.{Form}
+use Rattle.relations.specs.declared.finding.Form.TheVariants.{Short, Basis}
 use Rattle.relations.specs.declared.text.Notation.TheVariants.{Plain, Latex}
 use Rattle.requests.specs.declared.plans.Aim.{Aim}
 use Rattle.requests.specs.declared.plans.Aim.TheVariants.{Whole, Deep, Part, Furthest}
@@ -117,6 +119,11 @@ undescribed_number Letters = 16
 undescribed_number Exponents = 16
 undescribed_number Unshown = 16
 undescribed_number NoMemory = 9
+
+-- the number of a form of relations
+abbrev pub form_number : Form → ℕ
+form_number Short = 0
+form_number Basis = 1
 
 -- The number is that of the verdict on the bytes under the limit, which refuses them, truly.
 abbrev pub IsRefusal : List ℕ → ℕ → ℕ → Type 0

@@ -1,7 +1,7 @@
 //! The description of a certified quotient.
-ghost use Rattle.std.specs.Prelude.{◌≡◌, ◌≢◌, ◌↔◌, ◌≤◌, ◌⊎◌, IfOk, IfErr, IsSome, None};
+ghost use Rattle.std.specs.Prelude.{◌≡◌, ◌≢◌, ◌↔◌, ◌≤◌, ◌⊎◌, IfOk, IfErr, IfSome, IsSome, None};
 ghost use Rattle.std.specs.String.{string_bytes};
-ghost use Rattle.solve_library.specs.Found.{IsTextFor, IsTextOf, IsUntold, IsUntoldOf, undescribed_number};
+ghost use Rattle.solve_library.specs.Found.{IsTextFor, IsTextOf, IsUntold, IsUntoldOf, form_number, undescribed_number};
 
 use crate::numbers::{MEMORY, NOT_DESCRIBED, NOT_IN_RANGE};
 use answers::Certified;
@@ -22,7 +22,7 @@ fn undescribed(fault: Undescribed) -> u32
 /// The word, where `present` takes it.
 fn taken(found: RelationsWord) -> Result<String, u32>
     ensures word { IfOk result (λ t. (t ≡ found.word) × (found.beyond ≡ None)) }
-    ensures why { IfErr result (λ s. s ≡ 16) }
+    ensures why { IfErr result (λ s. (s ≡ 16) × (found.beyond ≢ None)) }
 {
     match found.beyond {
         None => Ok(found.word),
@@ -60,7 +60,8 @@ fn text_for(alloc: Global, certified: &Certified, output: u32, form: Form) -> Re
 
 /// The form of relations of this number.
 fn form_of(form: u32) -> Option<Form>
-    ensures { IsSome result ↔ (form ≤ 1) }
+    ensures some { IsSome result ↔ (form ≤ 1) }
+    ensures form { IfSome result (λ f. form ≡ form_number f) }
 {
     match form {
         0 => Some(Form::Short),
