@@ -8,6 +8,10 @@
 mod asking;
 mod exports;
 mod heaps;
+#[cfg(test)]
+mod large_tests;
+#[cfg(test)]
+mod made_texts;
 mod many;
 #[cfg(test)]
 mod many_tests;
