@@ -4,6 +4,8 @@
 
 mod describing;
 mod exports;
+#[cfg(test)]
+mod forms_tests;
 mod numbers;
 mod opened_texts;
 #[cfg(test)]

@@ -1,14 +1,12 @@
 //! What is told of each range, each aim and each bound, by rows.
 
-use crate::exports::{misere_describe, misere_opened_describe, misere_solve};
-use checker::check;
-use opened::{Opened, Quotient};
+use crate::exports::{misere_describe, misere_solve};
 use std::alloc::Global;
 
 const LIMIT: u32 = 100000;
 
 /// The certificate of 0.75.
-const OF_0_75: &[u8] =
+pub(crate) const OF_0_75: &[u8] =
     b"mqc 1\ncode 0.75\norder 8\nstart 8\nperiod 2\nphi 1 2 1 2 3 2 3 2 4\nportion 1 7\n\
 words 0:1 0:2 0:5 0:9 1:2 1:5 1:9\nrow 0 1 2 3 4 5 6 7\nrow 1 0 5 6 7 2 3 4\nrow 2 5 7 5 5 4 2 2\n\
 row 3 6 5 7 7 2 4 4\nrow 4 7 5 7 7 2 4 4\nrow 5 2 4 2 2 7 5 5\nrow 6 3 2 4 4 5 7 7\n\
@@ -26,7 +24,7 @@ const PART_OF_0_33: &[u8] =
 #[derive(Clone, Copy)]
 struct Search(&'static [u8], [u32; 5], u32);
 
-static SEARCHES: [Search; 27] = [
+static SEARCHES: [Search; 29] = [
     Search(b"0.3", [100, 4, 0, 8, 8], 0),
     Search(b"0.3", [1, 4, 0, 8, 8], 13),
     Search(b"0.3", [0, 4, 0, 8, 8], 15),
@@ -54,6 +52,8 @@ static SEARCHES: [Search; 27] = [
     Search(b"0.33", [LIMIT, 4, 0, 24, 5], 13),
     Search(b"0.30", [100, 4, 0, 8, 8], 12),
     Search(b"\xff", [100, 4, 0, 8, 8], 12),
+    Search(b"0.30", [0, 4, 0, 8, 8], 15),
+    Search(b"\xff", [100, 4, 3, 8, 8], 15),
 ];
 
 /// Searches for a quotient: the status.
@@ -88,7 +88,7 @@ fn finds_the_furthest(alloc: Global, heaps: u32) -> bool {
 
 #[test]
 fn searches_keep_within_what_is_asked(rt: HostRuntime) {
-    assert_eq!(&rt; count_searched(rt.alloc()), 27);
+    assert_eq!(&rt; count_searched(rt.alloc()), 29);
     assert!(&rt; finds_the_furthest(rt.alloc(), 0) && finds_the_furthest(rt.alloc(), 4000));
 }
 
@@ -148,77 +148,7 @@ fn count_described(alloc: Global) -> usize {
     count
 }
 
-/// What is opened where the bytes are certified.
-fn opened_of(alloc: Global, bytes: &[u8]) -> Option<Opened> {
-    let certified = check(alloc, bytes, LIMIT).ok()?;
-    let quotient = Quotient::new(alloc, certified).ok()?;
-    let owner = Box::new(alloc, quotient).ok()?;
-    let mut opened = Opened::closed(alloc);
-    opened.put(alloc, owner);
-    Some(opened)
-}
-
-/// Whether this output in this form is told of what is opened as of the bytes.
-fn is_told_alike(alloc: Global, opened: &mut Opened, output: u32, form: u32) -> bool {
-    let (mut told, mut count) = ([7; 2000], 7);
-    let (mut other, mut length) = ([7; 2000], 7);
-    let status = misere_describe(alloc, OF_0_75, LIMIT, output, form, &mut told, &mut count);
-    misere_opened_describe(alloc, opened, output, form, &mut other, &mut length) == status
-        && count == length
-        && told == other
-}
-
-/// How many outputs, each in three forms, are told alike, up to the first that isn't.
-fn count_told_alike(alloc: Global) -> Option<u32> {
-    let mut opened = opened_of(alloc, OF_0_75)?;
-    for output in 0..4 {
-        for form in 0..3 {
-            if !is_told_alike(alloc, &mut opened, output, form) {
-                return Some(output);
-            }
-        }
-    }
-    Some(4)
-}
-
-/// The status of a description of what is opened in a room of 5 bytes, and how many it has.
-fn described_without_room(alloc: Global) -> Option<(u32, u64)> {
-    let (mut opened, mut count) = (opened_of(alloc, OF_0_75)?, 7);
-    let status = misere_opened_describe(alloc, &mut opened, 2, 0, &mut [7; 5], &mut count);
-    Some((status, count))
-}
-
-/// The status of a description of what is closed.
-fn described_closed(alloc: Global, output: u32, form: u32) -> u32 {
-    let mut opened = Opened::closed(alloc);
-    misere_opened_describe(alloc, &mut opened, output, form, &mut [7; 5], &mut 7)
-}
-
-#[test]
-fn opened_quotients_are_described_as_their_bytes(rt: HostRuntime) {
-    assert_eq!(&rt; count_told_alike(rt.alloc()), Some(4));
-    assert!(&rt; described_without_room(rt.alloc()) == Some((14, 33)));
-    assert_eq!(&rt; described_closed(rt.alloc(), 0, 0), 17);
-    assert_eq!(&rt; described_closed(rt.alloc(), 3, 2), 17);
-}
-
-/// The status of a description of the part of 0.6 to heap 16, which has 304 elements, and whether it
-/// begins so. Its relations have no table within the box of `present`.
-fn described_large(alloc: Global, output: u32, beginning: &str) -> Option<(u32, bool)> {
-    let (mut found, mut count) = (vec![in alloc; 0u8; 1 << 20].ok()?, 0);
-    let search = Search(b"0.6", [LIMIT, 64, 1, 16, 512], 0);
-    if searched(alloc, &search, &mut found, &mut count) != 0 {
-        return None;
-    }
-    found.truncate(count as usize);
-    let mut told = vec![in alloc; 0u8; 1 << 16].ok()?;
-    let status = misere_describe(alloc, &found, LIMIT, output, 0, &mut told, &mut count);
-    Some((status, told.starts_with(beginning.as_bytes())))
-}
-
 #[test]
 fn descriptions_keep_within_what_is_asked(rt: HostRuntime) {
     assert_eq!(&rt; count_described(rt.alloc()), 9);
-    assert!(&rt; described_large(rt.alloc(), 0, "Q_16(0.6) = < a,") == Some((0, true)));
-    assert!(&rt; described_large(rt.alloc(), 2, "") == Some((16, true)));
 }
