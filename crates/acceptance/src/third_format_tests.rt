@@ -110,8 +110,9 @@ fn is_kept(alloc: Global, third: Third) -> Result<bool, AllocError> {
 }
 
 /// The least order, and where heaps have many first elements; the most heaps of a part; the largest
-/// order, with the most entries; and small orders, with the fewest entries and the most.
-static KEPT: [Third; 8] = [
+/// order, with the most entries; small orders, with the fewest entries and the most; and orders
+/// between the powers of 2.
+static KEPT: [Third; 10] = [
     Third(Rule::Powers(513), "0.b", 2, 0),
     Third(Rule::Tame(9, 512), "0.3", 1025, 0),
     Third(Rule::Tame(11, 2048), "0.3", 1, 11),
@@ -120,6 +121,8 @@ static KEPT: [Third; 8] = [
     Third(Rule::Powers(2), "0.3", 1, 1025),
     Third(Rule::Tame(2, 4), "0.33", 1025, 1),
     Third(Rule::Tame(8, 256), "c.f", 4096, 1),
+    Third(Rule::Powers(3000), "0.3", 2, 0),
+    Third(Rule::Powers(4095), "0.3", 2, 0),
 ];
 
 /// How many certificates are read and written, up to the first that isn't.
@@ -217,6 +220,21 @@ static TOO_LONG: [(Repeats, usize); 4] = [
     ),
 ];
 
+/// A text of the most first elements that go into the most bytes, which are all but the identity.
+static MOST_FIRSTS: [(Repeats, usize); 3] = [
+    (
+        &[
+            (b"mqc 3\ncode 0.3\norder 1446\nstart 1025\nperiod 0\nphi", 1),
+            (b" 1", 1024),
+            (b"\nportion 1\nwords", 1),
+            (b" 0:1", 1445),
+        ],
+        1,
+    ),
+    (&[(b"\nrow", 1), (b" 1", 1446)], 1445),
+    (&[(b"\nend\n", 1)], 1),
+];
+
 /// All lines that the second format has, of an order above its largest.
 static OF_513: [(Repeats, usize); 3] = [
     (
@@ -259,7 +277,7 @@ fn long_text(alloc: Global, blocks: &[(Repeats, usize)]) -> (usize, Result<bool,
 
 #[test]
 fn products_and_separators_are_made_anew(rt: HostRuntime) {
-    compare(&rt, "KEPT", count_kept(rt.alloc(), &KEPT), 8);
+    compare(&rt, "KEPT", count_kept(rt.alloc(), &KEPT), 10);
 }
 
 #[test]
@@ -273,6 +291,12 @@ fn edges_of_the_third_format(rt: HostRuntime) {
         "LONGEST",
         long_text(rt.alloc(), &LONGEST),
         (4_194_304, Ok(true)),
+    );
+    compare(
+        &rt,
+        "MOST_FIRSTS",
+        long_text(rt.alloc(), &MOST_FIRSTS),
+        (4_192_618, Ok(true)),
     );
     compare(
         &rt,

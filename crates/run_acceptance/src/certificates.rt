@@ -1,5 +1,7 @@
 //! Certificates that several modules put into folders.
 use certificate::{Cert, write};
+use requests::Aim;
+use solve_command::{SolveBounds, solve};
 use std::alloc::Global;
 use streams::MemorySink;
 
@@ -53,4 +55,19 @@ row 7 6 4 6 2 7 7 6\napart 0 1 1 1 1 0 3 0 0 0 0 5 0 2 2 2 0 1 3 3 0 1 4 0 1 0 1
 pub fn is_spelled(alloc: Global, cert: &Cert, text: &str) -> bool {
     let mut sink = MemorySink::new(alloc);
     write(cert, &mut sink).is_ok() && sink.bytes() == text.as_bytes()
+}
+
+/// The certificate of a game up to this heap, of at most 1,024 elements, that a search finds.
+pub fn found_part(alloc: Global, code: &str, last: u32) -> Option<Vec<u8>> {
+    let bounds = SolveBounds {
+        limit: 1_000_000,
+        rounds: 64,
+        order: 1024,
+        aim: Aim::Part { last },
+        tells_why: false,
+    };
+    match solve(alloc, code, bounds) {
+        Ok(said) if said.succeeds => Some(said.text),
+        _ => None,
+    }
 }

@@ -759,4 +759,5 @@ fn refuses_many(alloc: Global, count: usize) -> bool {
 fn memory_suffices_for_long_words(rt: HostRuntime) {
     compare(&rt, "long words", takes_long_words(rt.alloc()), true);
     compare(&rt, "many words", refuses_many(rt.alloc(), 300), true);
+    compare(&rt, "more words", refuses_many(rt.alloc(), 5000), true);
 }

@@ -1,13 +1,13 @@
 //! A certificate of 304 elements, given to each command that reads one, and a catalogue of 600 entries.
+use crate::certificates::found_part;
 use crate::comparing::compare;
 use allocation::Memory;
 use catalogue_command::act;
 use command_results::Said;
 use describe_command::{Form, describe};
 use folders::MemoryFolder;
-use requests::{Aim, CatalogueTask, Output};
+use requests::{CatalogueTask, Output};
 use show_command::show;
-use solve_command::{SolveBounds, solve};
 use std::alloc::{AllocError, Global};
 use streams::MemorySource;
 
@@ -15,17 +15,8 @@ const LIMIT: u32 = 100000;
 
 /// A folder with the quotient of 0.6 for the heaps up to 16 in a.mqc, and an empty catalogue in x.json.
 fn folder(alloc: Global) -> Option<MemoryFolder> {
-    let bounds = SolveBounds {
-        limit: LIMIT,
-        rounds: 64,
-        order: 512,
-        aim: Aim::Part { last: 16 },
-        tells_why: false,
-    };
-    match solve(alloc, "0.6", bounds) {
-        Ok(said) if said.succeeds => folder_with(alloc, said.text.as_slice()).ok(),
-        _ => None,
-    }
+    let bytes = found_part(alloc, "0.6", 16)?;
+    folder_with(alloc, &bytes).ok()
 }
 
 /// A folder with these bytes in a.mqc, and an empty catalogue in x.json.
@@ -188,11 +179,14 @@ fn parts(alloc: Global, count: u16) -> Result<(String, String), AllocError> {
     Ok((text, lines))
 }
 
-/// Whether the list of this catalogue is this.
+/// Whether the list of this catalogue is this, and each of its 600 entries is kept.
 fn is_listed(alloc: Global, text: &str, lines: &str) -> bool {
     let mut folder = MemoryFolder::new(alloc);
+    let listed = lines.as_bytes();
     folder.put("x.json", text.as_bytes()).is_ok()
-        && says(alloc, &mut folder, CatalogueTask::Print, lines.as_bytes())
+        && says(alloc, &mut folder, CatalogueTask::Print, listed)
+        && says(alloc, &mut folder, CatalogueTask::Salvage, b"kept 600\n")
+        && says(alloc, &mut folder, CatalogueTask::Print, listed)
 }
 
 /// Whether a catalogue of so many parts is listed.

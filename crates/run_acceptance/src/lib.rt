@@ -17,6 +17,8 @@ mod comparing;
 #[cfg(test)]
 mod describe_command_tests;
 #[cfg(test)]
+mod describe_forms_tests;
+#[cfg(test)]
 mod desk_command_tests;
 #[cfg(test)]
 mod files;

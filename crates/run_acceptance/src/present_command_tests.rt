@@ -53,7 +53,19 @@ row 6 7 2 7 4 6 6 7\nrow 7 6 4 6 2 7 7 6\n",
     Presented("a^2=1  b^2=1", "refused 1 Text\n"),
 ];
 
+/// Whether the table of the group of two letters, of orders 64 and 4, is told.
+fn is_large_presented(alloc: Global) -> bool {
+    match present(alloc, "a^64=1 b^4=1") {
+        Ok(said) => said.succeeds
+            && said
+                .text
+                .starts_with(b"order 256\ngenerators a=1 b=2\nrow 0 1 "),
+        Err(_) => false,
+    }
+}
+
 #[test]
 fn presents_monoids(rt: HostRuntime) {
     compare(&rt, "ROWS", count_held(rt.alloc(), &ROWS), 16);
+    compare(&rt, "256", is_large_presented(rt.alloc()), true);
 }

@@ -290,6 +290,18 @@ static MANY: [Many; 3] = [
     ),
 ];
 
+/// Whether so many words, and as many lines, have a certificate each.
+fn are_told(alloc: Global, count: usize) -> Option<bool> {
+    let words = vec![in alloc; "0.3"; count].ok()?;
+    let lines = "0.3\n".repeat(alloc, count).ok()?;
+    let text = OF_0_3.repeat(alloc, count).ok()?;
+    let mut input = MemorySource::new(lines.as_bytes());
+    let of_words = solve_many(alloc, &words, bounds_of(100000, FEW)).ok()?;
+    let of_lines = solve_lines(alloc, bounds_of(100000, FEW), &mut input).ok()?;
+    let is = of_words.succeeds && of_words.text.as_slice() == text.as_bytes();
+    Some(is && of_lines.succeeds && of_lines.text.as_slice() == text.as_bytes())
+}
+
 /// Lines on standard input, the bounds, whether a certificate of each is found, and what is said.
 struct Lines(&'static str, Bounds, bool, &'static str);
 
@@ -342,6 +354,7 @@ fn too_much_is_not_read(alloc: Global) -> bool {
 fn says_of_each_code_what_there_is_to_say(rt: HostRuntime) {
     assert!(rt; count_held(rt.alloc(), &MANY) == 3);
     assert!(rt; count_held(rt.alloc(), &LINES) == 7);
+    assert!(rt; are_told(rt.alloc(), 400) == Some(true));
     let mut lines = FailingSource::new(MemorySource::new(b"0.3\n"), 1);
     assert!(rt; stops_on_lines(rt.alloc(), &mut lines, Stop::Read("standard input")));
     assert!(rt; too_much_is_not_read(rt.alloc()));
