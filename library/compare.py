@@ -1,5 +1,5 @@
-"""Compares what Python, C and Rust tell of opened quotients with what the calls by bytes tell, with the program, with the
-certificates' tables and with a search of all plays.
+"""Compares what Python, C and Rust tell of opened quotients with the program, with the certificates' tables and with a
+search of all plays. (tests/opened.c compares them with what the calls by bytes tell.)
 
     python3 compare.py [PROGRAM]
 
@@ -120,8 +120,6 @@ def compare_quotient(program: str, name: str) -> Compared:
     positions = list(positions_of(quotient))
     lines = lines_of(quotient, positions)
     assert lines == lines_of_all(quotient, positions), name
-    anew = misere.check(file.read_bytes(), anew=True)
-    assert lines == lines_of(anew, positions) == lines_of_all(anew, positions), name
     for tool in ("example", rust):
         assert told_by(tool, file, positions) == lines, (tool, name)
     search = search_of(quotient.code)
@@ -168,13 +166,12 @@ def compare_finder(program: str) -> None:
         assert found.certificate.decode() == printed(program, "solve", code), code
         assert found.describe() == printed(here / rust, "--solve", code), code
     for file in sorted(samples.glob("*.mqc")):
-        quotient, anew = misere.check(file.read_bytes()), misere.check(file.read_bytes(), anew=True)
+        quotient = misere.check(file)
         for basis in ((), ("--basis",)):
             words: tuple[str | os.PathLike[str], ...] = (program, "describe", file, *basis)
-            for it in (quotient, anew):
-                assert it.describe(basis=bool(basis)) == printed(*words), words
-                assert it.describe("latex", bool(basis)) == printed(*words, "--latex"), words
-                compare_relations(it, bool(basis), *words)
+            assert quotient.describe(basis=bool(basis)) == printed(*words), words
+            assert quotient.describe("latex", bool(basis)) == printed(*words, "--latex"), words
+            compare_relations(quotient, bool(basis), *words)
 
 
 def compare_threads(compared: Sequence[Compared]) -> None:

@@ -1,23 +1,24 @@
 """Certified misère quotients of octal and hexadecimal games, by the proved library libmisere.
 
     import misere
-    q = misere.solve("0.33")               # or misere.check(open("0.33.mqc", "rb").read())
+    q = misere.solve("0.33")               # or misere.check(pathlib.Path("0.33.mqc"))
     q.code, q.order, q.start, q.period     # '0.33', 6, 1, 3
     q.outcome([2, 10**12])                 # 'N': the next player wins under misère play
     q.value([2, 10**12])                   # the element of the quotient
     q.winning_move([2, 10**12])            # Move(heap=2, left=()): take the heap 2 whole; or None
     q.table[2][3], q.phi(10**18), q.portion
     print(q.describe())                    # generators and relations, as the literature prints them
+    misere.Catalogue()["Kayles"]           # that of the atlas, by its code or its name
 
 What outcome, value, answer and winning_move give is proved of every position, of any number of heaps of 1 to 10^18 (of
 a partial certificate: of its heaps), and so is what outcomes, values and answers give of many. describe's text is
 proved too. table, phi and portion are read off the certificate's text, which a yes makes the misère quotient.
 
 The library checks the certificate once, and keeps what it certifies as long as there is the quotient, or until it is
-closed: q.close(), or `with misere.check(..) as q:`. misere.check(.., anew=True) gives a quotient of which nothing is
-kept: each call checks the certificate anew.
+closed: q.close(), or `with misere.check(..) as q:`.
 
-Whatever is raised is a MisereError, and a ValueError, TypeError, LookupError or MemoryError too.
+Whatever is raised is a MisereError, and a ValueError, TypeError, LookupError or MemoryError too; but an OSError of a file
+that can't be read.
 
 The library is looked for in this package, beside it, in the prefix into which it was installed, and where the system
 has its libraries; MISERE_LIBRARY names another file. Nothing else is needed. Any number of threads may ask at once. The
@@ -25,7 +26,10 @@ child of a fork may go on asking, if the process had one thread alone.
 """
 
 from ._answers import Answer, Move, Outcome
+from ._bounds import LIMIT
+from ._catalogue import NAMES, Catalogue
 from ._faults import (
+    Absent,
     Beyond,
     MisereError,
     NoMemory,
@@ -40,13 +44,17 @@ from ._faults import (
 )
 from ._finder import check, solve, solve_furthest, solve_part
 from ._library import version
-from ._quotient import LIMIT, Quotient
+from ._quotient import Given, Quotient
 from ._version import VERSION as __version__
 
 __all__ = [
     "LIMIT",
+    "NAMES",
+    "Absent",
     "Answer",
     "Beyond",
+    "Catalogue",
+    "Given",
     "MisereError",
     "Move",
     "NoMemory",

@@ -8,9 +8,8 @@ import os
 import threading
 from collections.abc import Iterator
 from contextlib import contextmanager
-from typing import Any
 
-from ._faults import NOT_OPEN, OUTCOME, MisereError, fault
+from ._faults import OUTCOME, MisereError, fault
 from ._given import words_of
 from ._library import Call, Opened, Told, library
 
@@ -18,28 +17,16 @@ from ._library import Call, Opened, Told, library
 USUAL_HEAPS = 64
 
 
-class Asker:
-    """The words by which a call is asked, and the room for what it tells of a position. One call at a time has it."""
+class Owner:
+    """An owner of an opened quotient, which the library keeps as long as there is one: the word by which a call is asked,
+    and the room for what it tells of a position. One call at a time has it."""
 
-    __slots__ = ("move", "move_at", "number", "number_at", "words")
-
-    def __init__(self, *words: Any) -> None:
-        self.words = words
-        self.number, self.move = ctypes.c_uint32(), Told()
-        self.number_at, self.move_at = ctypes.addressof(self.number), ctypes.addressof(self.move)
-
-    def close(self) -> None:
-        """Gives up what it holds in the library."""
-
-
-class Owner(Asker):
-    """An owner of an opened quotient, which the library keeps as long as there is one."""
-
-    __slots__ = ("opened",)
+    __slots__ = ("move", "move_at", "number", "number_at", "opened", "words")
 
     def __init__(self) -> None:
-        self.opened = Opened()
-        super().__init__(ctypes.addressof(self.opened))
+        self.opened, self.number, self.move = Opened(), ctypes.c_uint32(), Told()
+        self.words = (ctypes.addressof(self.opened),)
+        self.number_at, self.move_at = ctypes.addressof(self.number), ctypes.addressof(self.move)
 
     def close(self, close: Call = library.misere_close) -> None:
         close(*self.words)
@@ -49,74 +36,11 @@ class Owner(Asker):
 
 
 class Certified:
-    """A certificate that was accepted, and who asks about it: as many askers as there are calls at once, each of which is
-    lent to one call. (To take one off a list or put one there is a step of the interpreter.)"""
+    """A certificate that was accepted: it is checked once, and the library keeps its quotient. It has as many owners as
+    there are calls at once, each of which is lent to one call. (To take one off a list or put one there is a step of the
+    interpreter.)"""
 
-    __slots__ = ("_closed", "_idle")
-
-    outcome: Call
-    value: Call
-    answer: Call
-    outcomes: Call
-    values: Call
-    answers: Call
-    describe: Call
-
-    def __init__(self) -> None:
-        self._idle: list[Asker] = []
-        self._closed = False
-
-    def lend(self) -> Asker:
-        """An asker that no other call has."""
-        try:
-            return self._idle.pop()
-        except IndexError:
-            return self._another()
-
-    def take_back(self, asker: Asker) -> None:
-        """An asker that a call no longer has."""
-        self._idle.append(asker)
-        if self._closed:
-            self._let_go()
-
-    @contextmanager
-    def lent(self) -> Iterator[Asker]:
-        """The same as a block."""
-        asker = self.lend()
-        try:
-            yield asker
-        finally:
-            self.take_back(asker)
-
-    @property
-    def closed(self) -> bool:
-        return self._closed
-
-    def close(self) -> None:
-        """No call is asked any more. What is asked just now is told yet, and lets go of the quotient then."""
-        self._closed = True
-        self._let_go()
-
-    def copy(self) -> Certified:
-        """One that is closed by itself."""
-        raise NotImplementedError
-
-    def _another(self) -> Asker:
-        raise NotImplementedError
-
-    def _let_go(self) -> None:
-        while self._idle:
-            try:
-                self._idle.pop().close()
-            except IndexError:
-                # (another thread was faster)
-                return
-
-
-class Kept(Certified):
-    """One that is checked once: the library keeps its quotient, and each asker is one of the owners."""
-
-    __slots__ = ("_first",)
+    __slots__ = ("_closed", "_first", "_idle")
 
     outcome = library.misere_opened_outcome
     value = library.misere_opened_value
@@ -128,25 +52,54 @@ class Kept(Certified):
 
     def __init__(self, first: Owner) -> None:
         """Of an owner, of which the others are made. No call has it but for that."""
-        super().__init__()
-        self._first = first
+        self._first, self._closed = first, False
+        self._idle: list[Owner] = []
 
     @staticmethod
-    def of(certificate: bytes, limit: int) -> Kept:
+    def of(certificate: bytes, limit: int) -> Certified:
         """That of an accepted certificate."""
         first = Owner()
         status = library.misere_open(certificate, len(certificate), limit, *first.words)
         if status:
             raise refusal(status, certificate, limit)
-        return Kept(first)
+        return Certified(first)
+
+    def lend(self) -> Owner:
+        """An owner that no other call has."""
+        try:
+            return self._idle.pop()
+        except IndexError:
+            return self._another()
+
+    def take_back(self, owner: Owner) -> None:
+        """An owner that a call no longer has."""
+        self._idle.append(owner)
+        if self._closed:
+            self._let_go()
+
+    @contextmanager
+    def lent(self) -> Iterator[Owner]:
+        """The same as a block."""
+        owner = self.lend()
+        try:
+            yield owner
+        finally:
+            self.take_back(owner)
+
+    @property
+    def closed(self) -> bool:
+        return self._closed
 
     def close(self) -> None:
-        super().close()
+        """No call is asked any more. What is asked just now is told yet, and lets go of the quotient then."""
+        self._closed = True
+        self._let_go()
         with _sharing:
             self._first.close()
 
-    def copy(self) -> Kept:
-        return Kept(self._another())
+    def copy(self) -> Certified:
+        """One that is closed by itself."""
+        return Certified(self._another())
 
     def _another(self) -> Owner:
         other = Owner()
@@ -156,40 +109,13 @@ class Kept(Certified):
             raise fault(status)
         return other
 
-
-class Anew(Certified):
-    """One of which the library keeps nothing: each call is given the bytes, and checks them anew."""
-
-    __slots__ = ("_words",)
-
-    outcome = library.misere_outcome
-    value = library.misere_value
-    answer = library.misere_answer
-    outcomes = library.misere_outcomes
-    values = library.misere_values
-    answers = library.misere_answers
-    describe = library.misere_describe
-
-    def __init__(self, *words: Any) -> None:
-        super().__init__()
-        self._words = words
-
-    @staticmethod
-    def of(certificate: bytes, limit: int) -> Anew:
-        """That of an accepted certificate."""
-        words = certificate, len(certificate), limit
-        status = library.misere_check(*words)
-        if status:
-            raise refusal(status, certificate, limit)
-        return Anew(*words)
-
-    def copy(self) -> Anew:
-        return Anew(*self._words)
-
-    def _another(self) -> Asker:
-        if self._closed:
-            raise fault(NOT_OPEN)
-        return Asker(*self._words)
+    def _let_go(self) -> None:
+        while self._idle:
+            try:
+                self._idle.pop().close()
+            except IndexError:
+                # (another thread was faster)
+                return
 
 
 # First owners are shared by one thread at a time. (A thread that a handler of signals interrupts may share again, and the

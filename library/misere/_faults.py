@@ -26,7 +26,7 @@ NAMES = {
     17: "NotOpen",
     23: "Beyond",
 }
-OUTCOME, MEMORY, NOT_A_HEAP, NOT_A_CODE, GAVE_UP = 7, 9, 10, 12, 13
+TEXT, OUTCOME, MEMORY, NOT_A_HEAP, NOT_A_CODE, GAVE_UP = 1, 7, 9, 10, 12, 13
 NO_ROOM, NOT_IN_RANGE, NOT_DESCRIBED, NOT_OPEN, BEYOND = 14, 15, 16, 17, 23
 
 _MEANINGS = {
@@ -106,6 +106,13 @@ class NotOpen(MisereError, ValueError):
 
 class Beyond(MisereError, ValueError):
     """The certificate is partial, and doesn't speak of all the heaps (23)."""
+
+
+class Absent(MisereError, KeyError):
+    """A catalogue has no entry of that code. The number is 0, as no call was asked."""
+
+    def __str__(self) -> str:
+        return self.said
 
 
 class WrongType(MisereError, TypeError):

@@ -4,32 +4,42 @@ from __future__ import annotations
 
 from collections.abc import Iterator
 
+from ._bounds import (
+    ELEMENTS,
+    FEW_HEAPS,
+    HEAPS,
+    LARGEST_LIMIT,
+    LIMIT,
+    MOST_BY_FEW,
+    MOST_BYTES,
+    MOST_ELEMENTS,
+    MOST_HEAPS,
+    MOST_PART,
+    MOST_ROUNDS,
+    PART_ELEMENTS,
+    ROUNDS,
+)
 from ._faults import GAVE_UP, NOT_A_CODE, NOT_IN_RANGE, MisereError, NotACode, NotFound, NotInRange, WrongType, fault
 from ._given import number_of
 from ._library import library, told_by
-from ._quotient import LIMIT, Quotient
+from ._quotient import Given, Quotient
 
-# As many bytes are room for any certificate
-MOST_BYTES = 1 << 22
-# The most elements of a quotient, and those of a whole one by few heaps
-MOST_ELEMENTS, MOST_BY_FEW, FEW_HEAPS = 4096, 256, 64
 # Of which heaps a search is to find the quotient
 WHOLE, PART, FURTHEST = 0, 1, 2
-#: How many heaps a search looks at, and at most: the certificate of an octal code can need no more.
-HEAPS, MOST_HEAPS = 24, 8210
 
 
-def check(certificate: bytes | str, limit: int = LIMIT, *, anew: bool = False) -> Quotient:
-    """The quotient that the certificate is of; or it raises Refused. It is checked once, or with `anew` at each call."""
-    return Quotient(certificate, limit, anew=anew)
+def check(certificate: Given, limit: int = LIMIT) -> Quotient:
+    """The quotient that the certificate is of; or it raises Refused. The certificate is its bytes, their text, or the
+    path of its file, as pathlib.Path("0.33.mqc"): a str is the text itself."""
+    return Quotient(certificate, limit)
 
 
 def solve(
     code: str,
     limit: int = LIMIT,
-    rounds: int = 64,
+    rounds: int = ROUNDS,
     heaps: int | None = None,
-    order: int = 64,
+    order: int | None = None,
     *,
     deep: bool = False,
 ) -> Quotient:
@@ -37,20 +47,22 @@ def solve(
 
     The heaps up to `heaps` are looked at, 2 to 8210, or 24 where none are named; with `deep` all of these, as many as
     the certificate of an octal code can need. The limit is 1 to 1000000, the rounds 1 to 1000, the order 2 to 4096, or
-    to 256 where at most 64 heaps are looked at."""
+    to 256 where at most 64 heaps are looked at. Where none is named the order is 64, or 256 with `deep`."""
     if deep and heaps is not None:
         raise WrongType(NOT_IN_RANGE, "with deep the heaps aren't named")
+    if order is None:
+        order = MOST_BY_FEW if deep else ELEMENTS
     return _found(code, WHOLE, limit, rounds, MOST_HEAPS if deep else HEAPS if heaps is None else heaps, order)
 
 
-def solve_part(code: str, last: int, limit: int = LIMIT, rounds: int = 64, order: int = 512) -> Quotient:
+def solve_part(code: str, last: int, limit: int = LIMIT, rounds: int = ROUNDS, order: int = PART_ELEMENTS) -> Quotient:
     """The quotient of the positions of a game whose heaps are at most `last`, 1 to 1024; or it raises NotFound.
 
     The order is 2 to 4096."""
     return _found(code, PART, limit, rounds, last, order)
 
 
-def solve_furthest(code: str, order: int, limit: int = LIMIT, rounds: int = 64) -> Quotient:
+def solve_furthest(code: str, order: int, limit: int = LIMIT, rounds: int = ROUNDS) -> Quotient:
     """The quotient of the most first heaps of a game of which a search finds one of at most so many elements, 2 to
     4096; or it raises NotFound."""
     return _found(code, FURTHEST, limit, rounds, 0, order)
@@ -78,7 +90,9 @@ def _found(code: str, aim: int, limit: int, rounds: int, heaps: int, order: int)
 def _not_found(code: str, aim: int, bounds: dict[str, int], lines: str) -> NotFound:
     """The fault of a search that was given up. The first line says that it was, the second one why."""
     why = lines.splitlines()[1]
-    found_none = NotFound(GAVE_UP, f"no certificate of {code} was found, {_advice(aim, bounds)}; the reason is: {why}")
+    further = " or ".join(_further(code, aim, bounds, why))
+    said = f"no certificate of {code} was found, {_reach(aim, bounds)}; the reason is: {why}"
+    found_none = NotFound(GAVE_UP, f"{said}; go on by {further}" if further else said)
     found_none.bounds, found_none.why = bounds, why
     return found_none
 
@@ -94,21 +108,44 @@ def _explained(stop: MisereError, code: str, aim: int, bounds: dict[str, int]) -
 
 def _out_of_range(aim: int, bounds: dict[str, int]) -> Iterator[str]:
     most_order = MOST_BY_FEW if aim == WHOLE and bounds["heaps"] <= FEW_HEAPS else MOST_ELEMENTS
-    ranges = {"limit": (1, 1_000_000), "rounds": (1, 1000), "order": (2, most_order)}
+    ranges = {"limit": (1, LARGEST_LIMIT), "rounds": (1, MOST_ROUNDS), "order": (2, most_order)}
     if aim != FURTHEST:
-        ranges["heaps"] = (2, MOST_HEAPS) if aim == WHOLE else (1, 1024)
+        ranges["heaps"] = (2, MOST_HEAPS) if aim == WHOLE else (1, MOST_PART)
     for name, (least, most) in ranges.items():
         if not least <= bounds[name] <= most:
             yield f"{name} is {least} to {most}, and {bounds[name]} isn't"
 
 
-def _advice(aim: int, bounds: dict[str, int]) -> str:
-    """How far the search went, and what goes further."""
+def _reach(aim: int, bounds: dict[str, int]) -> str:
+    """How far the search went."""
     heaps, order = bounds["heaps"], bounds["order"]
-    went = f"of at most {order} elements" if aim == FURTHEST else f"with heaps to {heaps} and at most {order} elements"
-    further = []
-    if aim == WHOLE and heaps < MOST_HEAPS:
-        further.append("deep=True looks at more heaps")
-    if aim == WHOLE:
-        further.append(f"solve_furthest({order}) finds a partial one")
-    return "; ".join([went, *further])
+    return f"of at most {order} elements" if aim == FURTHEST else f"with heaps to {heaps} and at most {order} elements"
+
+
+def _further(code: str, aim: int, bounds: dict[str, int], why: str) -> Iterator[str]:
+    """The calls that go further, as they can be typed."""
+    heaps, order = bounds["heaps"], bounds["order"]
+    more = _more(bounds, why)
+    if aim == WHOLE and (heaps, order) < (MOST_HEAPS, MOST_BY_FEW):
+        yield f'misere.solve("{code}", deep=True{more})'
+    elif aim == WHOLE and order < MOST_ELEMENTS:
+        yield f'misere.solve("{code}", deep=True, order={MOST_ELEMENTS}{more})'
+    elif aim == PART and order < MOST_ELEMENTS:
+        yield f'misere.solve_part("{code}", {heaps}, order={MOST_ELEMENTS}{more})'
+    elif more:
+        last = {WHOLE: f"deep=True, order={order}", PART: f"{heaps}, order={order}", FURTHEST: f"{order}"}[aim]
+        yield f'misere.{_NAMES[aim]}("{code}", {last}{more})'
+    if aim != FURTHEST:
+        yield f'misere.solve_furthest("{code}", {max(order, ELEMENTS)}{more}), which finds a partial one'
+
+
+_NAMES = {WHOLE: "solve", PART: "solve_part", FURTHEST: "solve_furthest"}
+
+
+def _more(bounds: dict[str, int], why: str) -> str:
+    """The words for a larger limit, or more rounds, where these ended the search."""
+    if why == "members" and bounds["limit"] < LARGEST_LIMIT:
+        return f", limit={LARGEST_LIMIT}"
+    if why == "rounds" and bounds["rounds"] < MOST_ROUNDS:
+        return f", rounds={MOST_ROUNDS}"
+    return ""

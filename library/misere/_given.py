@@ -3,13 +3,14 @@
 from __future__ import annotations
 
 import array
+import bisect
 import operator
-from collections.abc import Iterable
+from collections.abc import Iterable, Sequence
 from typing import Any, NamedTuple
 
+from ._bounds import LARGEST_HEAP
 from ._faults import BEYOND, NOT_A_HEAP, NOT_IN_RANGE, MisereError, WrongType, fault
 
-LARGEST_HEAP = 10**18
 # The address of what has no words: that of an empty array may be null, which no call takes
 NOWHERE = 8
 ROW, ROWS = "a position is a row of heaps, such as [2, 3]", "positions are rows of heaps, such as [[2, 3], [5]]"
@@ -44,9 +45,9 @@ def is_array(given: Any) -> bool:
     return hasattr(given, "dtype") and hasattr(given, "ndim") and given.dtype.kind != "O"
 
 
-def heaps_of(heaps: Iterable[int], meant: str = ROW) -> array.array[int]:
+def heaps_of(heaps: Iterable[int], meant: str = ROW, before: tuple[int, ...] = ()) -> array.array[int]:
     """The heaps of a position. Bytes are numbers, as each iterable of integers is. In an array of numpy a 0 is no heap,
-    so that a row of an array of positions is a position."""
+    so that a row of an array of positions is a position. Of many positions `before` has the place of this one."""
     listed = heaps
     if not isinstance(listed, (list, tuple)):
         if is_array(heaps):
@@ -56,7 +57,8 @@ def heaps_of(heaps: Iterable[int], meant: str = ROW) -> array.array[int]:
     try:
         return array.array("Q", listed)
     except OverflowError:
-        raise refusal_of(NOT_A_HEAP, listed, None) from None
+        at = next(at for at, it in enumerate(listed) if not is_heap(it))
+        raise no_heap(listed[at], (*before, at)) from None
     except TypeError:
         wrong = next((it for it in listed if not hasattr(it, "__index__")), listed)
         raise WrongType(NOT_A_HEAP, f"a heap is an integer, and not {wrong!r}") from None
@@ -68,21 +70,41 @@ def rows_of(positions: Iterable[Iterable[int]]) -> Rows:
     if is_array(positions):
         return _array_of(positions, 2, ROWS)
     heaps, ends = array.array("Q"), array.array("Q")
-    for position in _listed(positions, ROWS):
-        heaps.extend(heaps_of(position, ROWS))
+    for at, position in enumerate(_listed(positions, ROWS)):
+        heaps.extend(heaps_of(position, ROWS, (at,)))
         ends.append(len(heaps))
     return Rows(heaps, ends)
 
 
-def refusal_of(status: int, heaps: Iterable[int], last: int | None) -> MisereError:
-    """The fault that a status is which was answered of these heaps, with the heap that it is about."""
+def is_heap(number: int) -> bool:
+    return 1 <= number <= LARGEST_HEAP
+
+
+def no_heap(number: int, place: Sequence[int]) -> MisereError:
+    """The fault of a number that is no heap, at its place: its index, behind that of its position among many."""
+    more = "; where a 0 is to be no heap, an array of numpy serves" if number == 0 else ""
+    at = f", at {list(place)}" if place else ""
+    return fault(NOT_A_HEAP, f"a heap is of 1 to 10^18, and {number} isn't{at}{more}")
+
+
+def refusal_of(status: int, heaps: Sequence[int], last: int | None, ends: Sequence[int] | None = None) -> MisereError:
+    """The fault that a status is which was answered of these heaps, with the heap that it is about. Those of many
+    positions stand one after another, with the ends of these."""
     if status == NOT_A_HEAP:
-        wrong = next((it for it in heaps if not 1 <= it <= LARGEST_HEAP), "one")
-        return fault(status, f"a heap is of 1 to 10^18, and {wrong} isn't")
+        at = next((at for at, it in enumerate(heaps) if not is_heap(it)), None)
+        return fault(status) if at is None else no_heap(heaps[at], _place_of(at, ends))
     if status == BEYOND and last is not None:
         wrong = next((it for it in heaps if it > last), "one")
         return fault(status, f"the certificate speaks of heaps to {last} alone, and not of {wrong}")
     return fault(status)
+
+
+def _place_of(at: int, ends: Sequence[int] | None) -> tuple[int, ...]:
+    """The index of a heap in its position, behind that of the position among many."""
+    if ends is None:
+        return (at,)
+    row = bisect.bisect_right(ends, at)
+    return (row, at - (ends[row - 1] if row else 0))
 
 
 def _listed(given: Any, meant: str) -> list[Any]:
@@ -102,6 +124,13 @@ def _array_of(given: Any, dimensions: int, meant: str) -> Rows:
         raise WrongType(NOT_A_HEAP, f"a heap is an integer, and no {table.dtype}")
     if table.ndim != dimensions:
         raise WrongType(NOT_A_HEAP, f"{meant}, and an array of {table.ndim} dimensions is none")
+    masks: Any = numpy.ma
+    if masks.is_masked(given):
+        at = numpy.argwhere(masks.getmaskarray(given))[0].tolist()
+        raise WrongType(NOT_A_HEAP, f"a masked entry is no heap, as that at {at}; filled(0) makes them none at all")
+    if table.size and not 0 <= int(table.min()) <= int(table.max()) <= LARGEST_HEAP:
+        wrong = int(table.min()) if table.min() < 0 else int(table.max())
+        raise no_heap(wrong, numpy.argwhere(table == wrong)[0].tolist())
     rows = numpy.atleast_2d(table)
     there = rows != 0
     heaps, ends = array.array("Q"), array.array("Q")

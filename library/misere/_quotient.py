@@ -4,18 +4,20 @@ from __future__ import annotations
 
 import ctypes
 import operator
+import os
 from collections.abc import Callable, Iterable, Sequence
-from typing import Any, Final, Literal, overload
+from typing import Any, Final, Literal, Union, overload
 
 from . import _certificate, _description, _shown, _systems
 from ._answers import OUTCOMES, Answer, Move, Outcome, answer_of, array_of, letters_of
-from ._certified import Anew, Certified, Kept
-from ._faults import BEYOND, NOT_A_HEAP, NOT_IN_RANGE, NOT_OPEN, NotDescribed, NotOpen, WrongType, fault
-from ._given import LARGEST_HEAP, NOWHERE, Rows, heaps_of, is_array, number_of, refusal_of, rows_of, words_of
+from ._bounds import LARGEST_HEAP, LIMIT, MOST_BYTES
+from ._certified import Certified
+from ._faults import BEYOND, NOT_A_HEAP, NOT_IN_RANGE, NOT_OPEN, TEXT, NotDescribed, NotOpen, Refused, WrongType, fault
+from ._given import NOWHERE, Rows, heaps_of, is_array, no_heap, number_of, refusal_of, rows_of, words_of
 from ._library import Call, Told, text_by
 
-#: What the closure of a check may keep, where nobody asks for more or less.
-LIMIT: Final = 100_000
+#: A certificate: its bytes, their text, or the path of its file.
+Given = Union[bytes, str, "os.PathLike[str]"]
 OUTPUTS: Final = ("description", "latex", "relations")
 # As many bytes are room for most descriptions
 USUAL_TEXT = 1 << 16
@@ -25,15 +27,17 @@ class Quotient:
     """A certified misère quotient. It is made by a check alone, and doesn't change. Any number of threads may ask it.
 
     The library checks the certificate once, and keeps what it certifies to this object's end, or until it is closed:
-    by `close()`, or behind a block of `with`. With `anew` it keeps nothing, and checks the certificate at each call.
-    A copy is closed by itself. What is pickled is checked again where it is read."""
+    by `close()`, or behind a block of `with`. A copy is closed by itself. What is pickled is checked again where it is
+    read."""
 
-    __slots__ = ("_anew", "_bytes", "_certificate", "_certified", "_limit", "__weakref__")
+    __slots__ = ("_bytes", "_certificate", "_certified", "_limit", "__weakref__")
 
-    def __init__(self, certificate: bytes | str, limit: int = LIMIT, *, anew: bool = False) -> None:
-        self._bytes, self._limit, self._anew = _bytes_of(certificate), number_of(limit), bool(anew)
-        kind: type[Anew] | type[Kept] = Anew if anew else Kept
-        self._certified: Certified = kind.of(self._bytes, self._limit)
+    def __init__(self, certificate: Given, limit: int = LIMIT) -> None:
+        self._bytes, self._limit = _bytes_of(certificate), number_of(limit)
+        try:
+            self._certified = Certified.of(self._bytes, self._limit)
+        except Refused as stop:
+            raise _named(stop, certificate) from None
         self._certificate = _certificate.read(self._bytes.decode("ascii"))
 
     def close(self) -> None:
@@ -100,7 +104,7 @@ class Quotient:
         except TypeError:
             raise WrongType(NOT_A_HEAP, f"a heap is an integer, and not {heap!r}") from None
         if not 1 <= heap <= LARGEST_HEAP:
-            raise refusal_of(NOT_A_HEAP, [heap], None)
+            raise no_heap(heap, ())
         if heap >= self.start + self.period:
             if not self.period:
                 raise refusal_of(BEYOND, [heap], self.last_heap)
@@ -118,9 +122,9 @@ class Quotient:
     def answer(self, heaps: Iterable[int]) -> Answer:
         """'ended', 'lost', or the first winning move."""
         given, certified = heaps_of(heaps), self._certified
-        with certified.lent() as asker:
-            status = certified.answer(*asker.words, *words_of(given), asker.move_at)
-            answer = answer_of(asker.move)
+        with certified.lent() as owner:
+            status = certified.answer(*owner.words, *words_of(given), owner.move_at)
+            answer = answer_of(owner.move)
         if status:
             raise refusal_of(status, given, self.last_heap)
         return answer
@@ -174,8 +178,8 @@ class Quotient:
         if output not in OUTPUTS:
             raise fault(NOT_IN_RANGE, f"an output is one of {', '.join(OUTPUTS)}, and {output!r} is none")
         words = OUTPUTS.index(output), int(bool(basis))
-        with self._certified.lent() as asker:
-            return text_by(USUAL_TEXT, self._certified.describe, *asker.words, *words).decode("utf-8")
+        with self._certified.lent() as owner:
+            return text_by(USUAL_TEXT, self._certified.describe, *owner.words, *words).decode("utf-8")
 
     def to_dict(self, basis: bool = False) -> dict[str, Any]:
         """The description in values that JSON has: numbers, words such as "ab^2", lists of them, and None as the n of a
@@ -203,11 +207,11 @@ class Quotient:
         """What a call tells of a position in a number."""
         given, certified = heaps_of(heaps), self._certified
         # (as a block of `with`, which takes longer)
-        asker = certified.lend()
+        owner = certified.lend()
         try:
-            status, told = call(*asker.words, *words_of(given), asker.number_at), asker.number.value
+            status, told = call(*owner.words, *words_of(given), owner.number_at), owner.number.value
         finally:
-            certified.take_back(asker)
+            certified.take_back(owner)
         if status:
             raise refusal_of(status, given, self.last_heap)
         return told
@@ -216,10 +220,10 @@ class Quotient:
         count = len(rows.ends)
         told = (kind * count)()
         room = ctypes.addressof(told) if count else NOWHERE
-        with self._certified.lent() as asker:
-            status = call(*asker.words, *words_of(rows.heaps), *words_of(rows.ends), room, count)
+        with self._certified.lent() as owner:
+            status = call(*owner.words, *words_of(rows.heaps), *words_of(rows.ends), room, count)
         if status:
-            raise refusal_of(status, rows.heaps, self.last_heap)
+            raise refusal_of(status, rows.heaps, self.last_heap, rows.ends)
         return told
 
     def _stay_open(self) -> None:
@@ -232,15 +236,15 @@ class Quotient:
     def __hash__(self) -> int:
         return hash(self._bytes)
 
-    def __reduce__(self) -> tuple[Callable[[bytes, int, bool], Quotient], tuple[bytes, int, bool]]:
+    def __reduce__(self) -> tuple[Callable[[bytes, int], Quotient], tuple[bytes, int]]:
         self._stay_open()
-        return _checked, (self._bytes, self._limit, self._anew)
+        return Quotient, (self._bytes, self._limit)
 
     def __copy__(self) -> Quotient:
         """Another object of the same quotient. Nothing is checked."""
         self._stay_open()
         other = object.__new__(Quotient)
-        other._bytes, other._limit, other._anew = self._bytes, self._limit, self._anew
+        other._bytes, other._limit = self._bytes, self._limit
         other._certificate, other._certified = self._certificate, self._certified.copy()
         return other
 
@@ -268,15 +272,29 @@ class Quotient:
         return _shown.html_of(title, self.code, description, self.start, self.period)
 
 
-def _checked(certificate: bytes, limit: int, anew: bool) -> Quotient:
-    """What is pickled, as it is read."""
-    return Quotient(certificate, limit, anew=anew)
-
-
-def _bytes_of(certificate: bytes | str) -> bytes:
+def _bytes_of(certificate: Given) -> bytes:
     if isinstance(certificate, str):
         # (what isn't UTF-8 is no certificate either)
         return certificate.encode("utf-8", "surrogatepass")
     if isinstance(certificate, (bytes, bytearray, memoryview)):
         return bytes(certificate)
-    raise WrongType(NOT_IN_RANGE, f"a certificate is bytes or their text, and not {certificate!r}")
+    if isinstance(certificate, os.PathLike):
+        with open(certificate, "rb") as file:
+            # (no certificate is longer, so that the beginning of a longer file is refused as the whole is)
+            return file.read(MOST_BYTES + 1)
+    raise WrongType(NOT_IN_RANGE, f"a certificate is bytes, their text or the path of a file, and not {certificate!r}")
+
+
+def _named(stop: Refused, certificate: Given) -> Refused:
+    """The refusal, which says so where a text is the name of a file."""
+    if stop.number != TEXT or not isinstance(certificate, str) or not _is_file(certificate):
+        return stop
+    advice = f"misere.check(pathlib.Path({certificate!r})) reads it"
+    return Refused(TEXT, f"{stop.said}; this text is the name of a file: {advice}")
+
+
+def _is_file(name: str) -> bool:
+    try:
+        return os.path.isfile(name)
+    except ValueError:
+        return False

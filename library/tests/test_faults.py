@@ -3,12 +3,13 @@
 from __future__ import annotations
 
 import pickle
+import re
 import unittest
 from collections.abc import Callable
 from typing import Any, NamedTuple
 
 import misere
-from tests import quotient, raised, samples
+from tests import quotient, raised, samples, top
 
 
 class Row(NamedTuple):
@@ -51,6 +52,8 @@ def of_a_position(
 
 ROWS = [
     *of_a_position("no heap", [0], misere.NotAHeap, ValueError, 10, "0 isn't"),
+    *of_a_position("no heap among others", [7, 0, 0], misere.NotAHeap, ValueError, 10, "0 isn't, at "),
+    *of_a_position("below nothing behind others", [7, -2], misere.NotAHeap, ValueError, 10, "-2 isn't, at "),
     *of_a_position("too large", [1, 10**18 + 1], misere.NotAHeap, ValueError, 10, "1000000000000000001 isn't"),
     *of_a_position("wider than a word", [2**64], misere.NotAHeap, ValueError, 10, "18446744073709551616 isn't"),
     *of_a_position("below nothing", [-1], misere.NotAHeap, ValueError, 10, "-1 isn't"),
@@ -68,11 +71,36 @@ ROWS = [
     Row("bytes for positions", lambda: full.values(wrong(b"\2\3")), misere.WrongType, TypeError, 10, "are rows"),
     Row("a number for positions", lambda: full.answers(wrong(5)), misere.WrongType, TypeError, 10, "are rows"),
     Row("a text for positions", lambda: full.answers(wrong("12")), misere.WrongType, TypeError, 10, "integer"),
+    Row("the place", lambda: full.outcome([7, 0, 5]), misere.NotAHeap, ValueError, 10, "0 isn't, at [1]; where a 0"),
+    Row("the place of many", lambda: full.values([[7], [], [1, 0]]), misere.NotAHeap, ValueError, 10, "at [2, 1]"),
+    Row(
+        "the place below 0",
+        lambda: full.answers([[7], [1, 2, -5]]),
+        misere.NotAHeap,
+        ValueError,
+        10,
+        "-5 isn't, at [1, 2]",
+    ),
     Row("phi of no heap", lambda: full.phi(0), misere.NotAHeap, ValueError, 10, "0 isn't"),
     Row("phi of a text", lambda: full.phi(wrong("1")), misere.WrongType, TypeError, 10, "'1'"),
     Row("phi of a large heap", lambda: full.phi(10**18 + 1), misere.NotAHeap, ValueError, 10, "isn't"),
     Row("phi beyond", lambda: partial.phi(9), misere.Beyond, ValueError, 23, "not of 9"),
     Row("no text", lambda: misere.check(b""), misere.Refused, ValueError, 1, "1 Text: the bytes spell no certificate"),
+    Row("no file of that name", lambda: misere.check("0.33.mqc"), misere.Refused, ValueError, 1, "no certificate"),
+    Row(
+        "a file's name",
+        lambda: misere.check(str(samples / "0.33.mqc")),
+        misere.Refused,
+        ValueError,
+        1,
+        "this text is the name of a file: misere.check(pathlib.Path(",
+    ),
+    Row("a catalogue's file", lambda: misere.check(top / "atlas/octal.json"), misere.Refused, ValueError, 1, "Text"),
+    Row(
+        "no catalogue", lambda: misere.Catalogue(samples / "0.33.mqc"), misere.Refused, ValueError, 1, "is no catalogue"
+    ),
+    Row("no entry", lambda: misere.Catalogue()["0.70"], misere.Absent, KeyError, 0, "no entry of '0.70'"),
+    Row("no such part", lambda: misere.Catalogue()["0.07", 23], misere.Absent, KeyError, 0, "no entry of ('0.07', 23)"),
     Row("no UTF-8", lambda: misere.check("\ud800"), misere.Refused, ValueError, 1, "Text"),
     Row("limit met", lambda: misere.check(full.certificate, 1), misere.Refused, ValueError, 8, "Limit"),
     Row("limit below nothing", lambda: misere.check(b"", -1), misere.NotInRange, ValueError, 15, "-1"),
@@ -158,7 +186,34 @@ class Faults(unittest.TestCase):
         stop = raised(lambda: misere.solve("0.77", heaps=8))
         assert isinstance(stop, misere.NotFound)
         self.assertEqual(stop.bounds, {"limit": misere.LIMIT, "rounds": 64, "heaps": 8, "order": 64})
-        self.assertIn("deep=True", str(stop))
+
+    def test_a_search_names_calls_that_go_further(self) -> None:
+        """Each stands there as it runs, and finds something."""
+        rows: list[tuple[str, Callable[[], object], list[str]]] = [
+            ("few heaps", lambda: misere.solve("0.77"), ['solve("0.77", deep=True)', 'solve_furthest("0.77", 64)']),
+            (
+                "an order",
+                lambda: misere.solve("0.677", deep=True, order=64),
+                ['solve("0.677", deep=True)', 'solve_furthest("0.677", 64)'],
+            ),
+            (
+                "members",
+                lambda: misere.solve("0.33", limit=5),
+                ['solve("0.33", deep=True, limit=1000000)', 'solve_furthest("0.33", 64, limit=1000000)'],
+            ),
+            (
+                "a part",
+                lambda: misere.solve_part("0.07", 33),
+                ['solve_part("0.07", 33, order=4096)', 'solve_furthest("0.07", 512)'],
+            ),
+        ]
+        for name, search, calls in rows:
+            with self.subTest(name):
+                said = str(raised(search))
+                named = re.findall(r"misere\.(\w+\([^)]*\))", said)
+                self.assertEqual(named, calls, said)
+                for call in named:
+                    self.assertIsInstance(eval(f"misere.{call}"), misere.Quotient)
 
     def test_a_search_says_why_it_was_given_up(self) -> None:
         # (the lines of docs/MESSAGES.md)

@@ -37,19 +37,14 @@ def run_in_threads(call: Callable[[], None]) -> None:
 
 class Closing(unittest.TestCase):
     def test_what_the_certificate_says_stays(self) -> None:
-        for anew in (False, True):
-            with self.subTest(anew=anew), misere.check(quotient("0.33").certificate, anew=anew) as it:
-                self.assertEqual((it.closed, it.outcome([2])), (False, "N"))
-                it.close()
-                it.close()
-                self.assertEqual(
-                    (it.closed, it.code, it.order, it.phi(10**18), it.portion), (True, "0.33", 6, 1, {1, 4})
-                )
-                self.assertEqual(
-                    (it.table[1][1], it.certificate, it), (0, quotient("0.33").certificate, quotient("0.33"))
-                )
-                self.assertEqual((it._repr_html_(), it._repr_latex_()), (None, None))
-                self.assertTrue(repr(it).endswith("period 3, closed>"))
+        with quotient("0.33") as it:
+            self.assertEqual((it.closed, it.outcome([2])), (False, "N"))
+            it.close()
+            it.close()
+            self.assertEqual((it.closed, it.code, it.order, it.phi(10**18), it.portion), (True, "0.33", 6, 1, {1, 4}))
+            self.assertEqual((it.table[1][1], it.certificate, it), (0, quotient("0.33").certificate, quotient("0.33")))
+            self.assertEqual((it._repr_html_(), it._repr_latex_()), (None, None))
+            self.assertTrue(repr(it).endswith("period 3, closed>"))
 
     def test_a_block_closes(self) -> None:
         with quotient("0.75") as it:
@@ -59,29 +54,21 @@ class Closing(unittest.TestCase):
             pass
 
     def test_a_copy_is_closed_by_itself(self) -> None:
-        for anew in (False, True):
-            with self.subTest(anew=anew):
-                it = misere.check(quotient("0.75").certificate, anew=anew)
-                others = [copy.copy(it), copy.deepcopy(it), pickle.loads(pickle.dumps(it))]
-                told = asked(it)
-                it.close()
-                self.assertEqual([(other, asked(other)) for other in others], [(it, told)] * 3)
+        it = quotient("0.75")
+        others = [copy.copy(it), copy.deepcopy(it), pickle.loads(pickle.dumps(it))]
+        told = asked(it)
+        it.close()
+        self.assertEqual([(other, asked(other)) for other in others], [(it, told)] * 3)
 
     def test_a_closed_one_is_not_copied(self) -> None:
-        for anew in (False, True):
-            it = misere.check(quotient("0.33").certificate, anew=anew)
-            it.close()
-            calls: list[Callable[[object], object]] = [copy.copy, copy.deepcopy, pickle.dumps]
-            for call in calls:
-                with self.subTest(call.__name__, anew=anew):
-                    stop = raised(lambda: call(it))
-                    self.assertIsInstance(stop, misere.NotOpen)
-                    self.assertIsInstance(stop, ValueError)
-
-    def test_both_kinds_are_told_the_same(self) -> None:
-        for name in ("0.33", "0.71", "0.75"):
-            with self.subTest(name):
-                self.assertEqual(asked(quotient(name)), asked(misere.check(quotient(name).certificate, anew=True)))
+        it = quotient("0.33")
+        it.close()
+        calls: list[Callable[[object], object]] = [copy.copy, copy.deepcopy, pickle.dumps]
+        for call in calls:
+            with self.subTest(call.__name__):
+                stop = raised(lambda: call(it))
+                self.assertIsInstance(stop, misere.NotOpen)
+                self.assertIsInstance(stop, ValueError)
 
     def test_nothing_is_left(self) -> None:
         """Neither of those that are closed nor of those that are dropped."""
@@ -101,18 +88,16 @@ class Closing(unittest.TestCase):
 
 class Threads(unittest.TestCase):
     def test_each_is_told_as_one_alone(self) -> None:
-        for anew in (False, True):
-            with self.subTest(anew=anew):
-                it = misere.check(quotient("0.71").certificate, anew=anew)
-                told, wrong = asked(it), []
+        it = quotient("0.71")
+        told, wrong = asked(it), []
 
-                def ask() -> None:
-                    for _ in range(5):
-                        if asked(it) != told:
-                            wrong.append(it)
+        def ask() -> None:
+            for _ in range(5):
+                if asked(it) != told:
+                    wrong.append(it)
 
-                run_in_threads(ask)
-                self.assertEqual(wrong, [])
+        run_in_threads(ask)
+        self.assertEqual(wrong, [])
 
     def test_one_may_close_what_others_ask(self) -> None:
         """Each call is told rightly, or that the quotient is closed."""

@@ -13,6 +13,13 @@ try:
 except ImportError:
     numpy = None  # type: ignore[assignment]
 
+
+def masked(table: Any, **mask: Any) -> Any:
+    """A masked array."""
+    make: Any = numpy.ma.array
+    return make(table, **mask)
+
+
 # A position of 0.33 whose bytes, as the memory of one number, would be another
 HEAPS = [1, 1, 1, 1, 2, 2, 2, 2]
 FORMS: dict[str, Any] = {
@@ -107,6 +114,8 @@ class Arrays(unittest.TestCase):
             "rows for a row": lambda: asked.outcome(numpy.array([[1, 2]])),
             "a number": lambda: asked.outcome(numpy.array(1)),
             "three dimensions": lambda: asked.values(numpy.zeros((1, 1, 1), dtype="i8")),
+            "a masked row": lambda: asked.outcome(masked([1, 2], mask=[0, 1])),
+            "masked rows": lambda: asked.outcomes(masked([[1, 2]], mask=[[0, 1]])),
             "fractions": lambda: asked.value(numpy.array([1.0])),
             "truths": lambda: asked.value(numpy.array([True])),
         }
@@ -120,3 +129,24 @@ class Arrays(unittest.TestCase):
             with self.subTest(heap):
                 stop = raised(lambda: asked.outcomes(numpy.array([[1, heap]])))
                 self.assertEqual(stop and stop.number, number)
+
+    def test_a_wrong_entry_of_an_array_is_named(self) -> None:
+        asked = quotient("0.75")
+        rows: list[tuple[str, Any, str]] = [
+            ("below nothing", numpy.array([[3, 1], [1, -2]]), "-2 isn't, at [1, 1]"),
+            ("of a byte below nothing", numpy.array([[3, -1]], dtype="i1"), "-1 isn't, at [0, 1]"),
+            ("too large", numpy.array([[3], [10**18 + 1]]), "1000000000000000001 isn't, at [1, 0]"),
+            ("all bits", numpy.array([[2**64 - 1]], dtype="u8"), "18446744073709551615 isn't, at [0, 0]"),
+            ("masked", masked([[1, 2], [3, 4]], mask=[[0, 0], [0, 1]]), "no heap, as that at [1, 1]"),
+        ]
+        for name, table, words in rows:
+            for call in (asked.values, asked.outcomes, asked.answers):
+                with self.subTest(name, call=call.__name__):
+                    self.assertIn(words, str(raised(lambda: call(table))))
+        self.assertIn("-7 isn't, at [1]", str(raised(lambda: asked.value(numpy.array([1, -7])))))
+
+    def test_a_mask_that_hides_nothing_is_none(self) -> None:
+        asked, table = quotient("0.75"), numpy.array([[2, 5], [1, 0]])
+        self.assertEqual(asked.values(masked(table)).tolist(), asked.values(table).tolist())
+        filled = masked(table, mask=[[0, 1], [0, 0]]).filled(0)
+        self.assertEqual(asked.values(filled).tolist(), asked.values([[2], [1]]))

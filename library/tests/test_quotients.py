@@ -29,7 +29,7 @@ class Quotients(unittest.TestCase):
 
     def test_a_certificate_comes_as_bytes_or_text(self) -> None:
         text = (samples / "0.33.mqc").read_bytes()
-        forms: list[bytes | str] = [text, text.decode(), bytearray(text), memoryview(text)]
+        forms: list[misere.Given] = [text, text.decode(), bytearray(text), memoryview(text), samples / "0.33.mqc"]
         for form in forms:
             with self.subTest(type(form)):
                 self.assertEqual((misere.check(form).certificate, misere.check(form)), (text, quotient("0.33")))
@@ -62,6 +62,10 @@ class Found(unittest.TestCase):
         for name, it in found.items():
             with self.subTest(name):
                 self.assertEqual(it, quotient(name))
+
+    def test_a_deep_search_is_that_of_the_program(self) -> None:
+        found = misere.solve("0.677", deep=True)
+        self.assertEqual((found.order, found.last_heap), (172, None))
 
     def test_the_furthest_is_partial(self) -> None:
         furthest = misere.solve_furthest("0.07", 24)

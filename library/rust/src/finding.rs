@@ -1,6 +1,6 @@
 //! How far a search for a quotient goes.
 
-use crate::LIMIT;
+use crate::bounds::{ELEMENTS, HEAPS, LIMIT, MOST_BY_FEW, MOST_HEAPS, ROUNDS};
 use crate::refusal::Refusal;
 use std::fmt;
 
@@ -17,7 +17,7 @@ pub enum Aim {
 
 impl Aim {
     /// Of all heaps, by as many as the certificate of an octal code can need.
-    pub const DEEP: Aim = Aim::Whole(8210);
+    pub const DEEP: Aim = Aim::Whole(MOST_HEAPS);
 }
 
 /// How far a search goes.
@@ -33,9 +33,14 @@ pub struct Bounds {
     pub order: u32,
 }
 
+impl Bounds {
+    /// Those of `misere solve CODE --deep`: of all heaps, by as many as can be needed, with at most 256 elements.
+    pub const DEEP: Bounds = Bounds { limit: LIMIT, rounds: ROUNDS, aim: Aim::DEEP, order: MOST_BY_FEW };
+}
+
 impl Default for Bounds {
     fn default() -> Bounds {
-        Bounds { limit: LIMIT, rounds: 64, aim: Aim::Whole(24), order: 64 }
+        Bounds { limit: LIMIT, rounds: ROUNDS, aim: Aim::Whole(HEAPS), order: ELEMENTS }
     }
 }
 

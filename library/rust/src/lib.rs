@@ -15,13 +15,13 @@
 //! text, which a yes makes the misère quotient.
 //!
 //! The certificate is checked once, and the library keeps the quotient until its last clone is dropped. A [`Quotient`] is sent from thread
-//! to thread, and each thread that asks at the same time has a clone; a [`Quotient<Anew>`] is checked at each call instead.
+//! to thread, and each thread that asks at the same time has a clone.
 
 #![warn(missing_docs)]
 
 mod answers;
+mod bounds;
 mod certificate;
-mod certified;
 mod finding;
 mod opened;
 mod quotient;
@@ -29,14 +29,10 @@ mod raw;
 mod refusal;
 
 pub use answers::{Answer, Outcome};
-pub use certified::{Anew, Certified};
+pub use bounds::LIMIT;
 pub use finding::{Aim, Bounds, NotFound};
-pub use opened::Opened;
 pub use quotient::{Output, Quotient};
 pub use refusal::Refusal;
-
-/// What the closure of a check may keep, where nobody asks for more or less.
-pub const LIMIT: u32 = 100_000;
 
 /// Room for most positions at which the rule fails.
 const USUAL_HEAPS: usize = 64;

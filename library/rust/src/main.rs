@@ -1,6 +1,6 @@
 //! misere_positions CERTIFICATE: of each line of standard input, a position of heaps, it prints value, outcome and answer.
 //! misere_positions --solve CODE: it prints the description of the quotient that is found.
-use misere::{Answer, Bounds, Certified, LIMIT, Output, Quotient, Refusal};
+use misere::{Answer, Bounds, LIMIT, Output, Quotient, Refusal};
 use std::io::{Read, stdin};
 
 fn told(answer: &Answer) -> String {
@@ -13,7 +13,7 @@ fn told(answer: &Answer) -> String {
 }
 
 /// The lines of the positions, each asked by itself and then all together.
-fn lines<C: Certified>(quotient: &Quotient<C>, positions: &[&[u64]]) -> Result<Vec<String>, Refusal> {
+fn lines(quotient: &Quotient, positions: &[&[u64]]) -> Result<Vec<String>, Refusal> {
     let (values, outcomes, answers) = (quotient.values(positions)?, quotient.outcomes(positions)?, quotient.answers(positions)?);
     for (at, heaps) in positions.iter().enumerate() {
         assert_eq!((quotient.value(heaps)?, quotient.outcome(heaps)?, quotient.answer(heaps)?), (values[at], outcomes[at], answers[at].clone()));
@@ -27,9 +27,7 @@ fn print_positions(file: &str) -> Result<(), Box<dyn std::error::Error>> {
     stdin().read_to_string(&mut text)?;
     let positions = text.lines().map(|line| line.split_whitespace().map(str::parse).collect()).collect::<Result<Vec<Vec<u64>>, _>>()?;
     let positions: Vec<&[u64]> = positions.iter().map(Vec::as_slice).collect();
-    let told = lines(&Quotient::check(&bytes, LIMIT)?, &positions)?;
-    assert_eq!(told, lines(&Quotient::check_anew(&bytes, LIMIT)?, &positions)?);
-    for line in told {
+    for line in lines(&Quotient::check(&bytes, LIMIT)?, &positions)? {
         println!("{line}");
     }
     Ok(())

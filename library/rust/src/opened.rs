@@ -1,22 +1,14 @@
 //! A quotient that the library keeps.
 
-use crate::certified::{Certified, ends_of};
 use crate::raw;
 use crate::refusal::{Refusal, done};
 use std::alloc::{Layout, handle_alloc_error};
 use std::cell::UnsafeCell;
-use std::fmt;
-use std::sync::Arc;
 
 /// An owner of a quotient that the library keeps: it was checked once, and the last owner that is dropped frees it.
 ///
-/// One thread at a time asks an owner. A clone is another owner of the same quotient, as for another thread:
-///
-/// ```compile_fail
-/// fn is_shared<T: Sync>() {}
-/// is_shared::<misere::Opened>();
-/// ```
-pub struct Opened(UnsafeCell<raw::Opened>);
+/// One thread at a time asks an owner. A clone is another owner of the same quotient, as for another thread.
+pub(crate) struct Opened(UnsafeCell<raw::Opened>);
 
 // SAFETY: a call is given an owner alone, from whatever thread. What owners share is the library's, which lets their threads
 // call at once.
@@ -27,8 +19,16 @@ impl Opened {
         Opened(UnsafeCell::new(raw::Opened::CLOSED))
     }
 
+    /// An owner of what the bytes certify, or the refusal.
+    pub fn check(bytes: &[u8], limit: u32) -> Result<Opened, Refusal> {
+        let mut opened = Opened::closed();
+        // SAFETY: the pointer and the length are those of one slice, and the owner is borrowed for the call.
+        let status = unsafe { raw::misere_open(bytes.as_ptr(), bytes.len(), limit, opened.0.get_mut()) };
+        done(status, opened)
+    }
+
     /// Another owner of the same quotient. It is refused if memory is.
-    pub(crate) fn share(&self) -> Result<Opened, Refusal> {
+    pub fn share(&self) -> Result<Opened, Refusal> {
         let mut other = Opened::closed();
         // SAFETY: both are owners or closed ones, each borrowed for the call alone.
         let status = unsafe { raw::misere_share(self.alone(), other.0.get_mut()) };
@@ -59,47 +59,47 @@ impl Opened {
         let status = unsafe { call(self.alone(), heaps.as_ptr(), heaps.len(), ends.as_ptr(), ends.len(), told.as_mut_ptr(), told.len()) };
         done(status, told)
     }
-}
 
-impl Certified for Opened {
-    fn check(bytes: &Arc<[u8]>, limit: u32) -> Result<Opened, Refusal> {
-        let mut opened = Opened::closed();
-        // SAFETY: the pointer and the length are those of one slice, and the owner is borrowed for the call.
-        let status = unsafe { raw::misere_open(bytes.as_ptr(), bytes.len(), limit, opened.0.get_mut()) };
-        done(status, opened)
-    }
-
-    fn outcome(&self, heaps: &[u64]) -> Result<u32, Refusal> {
+    pub fn outcome(&self, heaps: &[u64]) -> Result<u32, Refusal> {
         self.asked(raw::misere_opened_outcome, heaps)
     }
 
-    fn value(&self, heaps: &[u64]) -> Result<u32, Refusal> {
+    pub fn value(&self, heaps: &[u64]) -> Result<u32, Refusal> {
         self.asked(raw::misere_opened_value, heaps)
     }
 
-    fn answer(&self, heaps: &[u64]) -> Result<raw::Told, Refusal> {
+    pub fn answer(&self, heaps: &[u64]) -> Result<raw::Told, Refusal> {
         let (mut heaps, mut told) = (heaps.to_vec(), raw::Told::default());
         // SAFETY: the pointer stands with the length of its slice, and the rest is borrowed for the call.
         let status = unsafe { raw::misere_opened_answer(self.alone(), heaps.as_mut_ptr(), heaps.len(), &mut told) };
         done(status, told)
     }
 
-    fn outcomes(&self, positions: &[&[u64]]) -> Result<Vec<u32>, Refusal> {
+    pub fn outcomes(&self, positions: &[&[u64]]) -> Result<Vec<u32>, Refusal> {
         self.asked_of_all(raw::misere_opened_outcomes, positions)
     }
 
-    fn values(&self, positions: &[&[u64]]) -> Result<Vec<u32>, Refusal> {
+    pub fn values(&self, positions: &[&[u64]]) -> Result<Vec<u32>, Refusal> {
         self.asked_of_all(raw::misere_opened_values, positions)
     }
 
-    fn answers(&self, positions: &[&[u64]]) -> Result<Vec<raw::Told>, Refusal> {
+    pub fn answers(&self, positions: &[&[u64]]) -> Result<Vec<raw::Told>, Refusal> {
         self.asked_of_all(raw::misere_opened_answers, positions)
     }
 
-    fn describe(&self, output: u32, form: u32, told: &mut [u8], count: &mut u64) -> u32 {
+    pub fn describe(&self, output: u32, form: u32, told: &mut [u8], count: &mut u64) -> u32 {
         // SAFETY: the pointer stands with the length of its slice, and the rest is borrowed for the call.
         unsafe { raw::misere_opened_describe(self.alone(), output, form, told.as_mut_ptr(), told.len(), count) }
     }
+}
+
+/// Where each of the positions ends, if they stand one after another.
+fn ends_of(positions: &[&[u64]]) -> Vec<u64> {
+    let ends = positions.iter().scan(0, |end, heaps| {
+        *end += heaps.len() as u64;
+        Some(*end)
+    });
+    ends.collect()
 }
 
 impl Clone for Opened {
@@ -113,11 +113,5 @@ impl Drop for Opened {
     fn drop(&mut self) {
         // SAFETY: it is an owner or a closed one, and nobody has it any more.
         unsafe { raw::misere_close(self.0.get_mut()) };
-    }
-}
-
-impl fmt::Debug for Opened {
-    fn fmt(&self, f: &mut fmt::Formatter) -> fmt::Result {
-        f.write_str("Opened")
     }
 }

@@ -1,23 +1,17 @@
 //! A certified quotient, and what it is asked.
 
 use crate::answers::{Answer, Outcome};
+use crate::bounds::{LARGEST_HEAP, LIMIT, MOST_BYTES};
 use crate::certificate::{Certificate, read};
-use crate::certified::{Anew, Certified};
 use crate::finding::{Aim, Bounds, NotFound};
 use crate::opened::Opened;
+use crate::raw;
 use crate::refusal::{Refusal, done};
-use crate::{LIMIT, raw};
 use std::fmt;
 use std::sync::Arc;
 
-/// As many bytes are room for any certificate.
-const MOST: usize = 1 << 22;
-
 /// As many bytes are room for most descriptions.
 const USUAL: usize = 1 << 16;
-
-/// The largest heap.
-const LARGEST_HEAP: u64 = 1_000_000_000_000_000_000;
 
 /// What is told of a quotient.
 #[derive(Clone, Copy, Debug, PartialEq, Eq)]
@@ -33,11 +27,15 @@ pub enum Output {
 /// A certified misère quotient. It is made by a check alone, and doesn't change.
 ///
 /// The library checks the certificate once, and keeps what it certifies as long as there is the quotient or a clone of it. One
-/// thread at a time asks it: each other thread is sent a clone, by which nothing is checked or copied. A `Quotient<Anew>` is
-/// checked at each call, and threads may share it.
+/// thread at a time asks it: each other thread is sent a clone, by which nothing is checked or copied.
+///
+/// ```compile_fail
+/// fn is_shared<T: Sync>() {}
+/// is_shared::<misere::Quotient>();
+/// ```
 #[derive(Clone)]
-pub struct Quotient<C: Certified = Opened> {
-    certified: C,
+pub struct Quotient {
+    opened: Opened,
     bytes: Arc<[u8]>,
     certificate: Arc<Certificate>,
 }
@@ -45,12 +43,15 @@ pub struct Quotient<C: Certified = Opened> {
 impl Quotient {
     /// The quotient that the certificate is of. [`LIMIT`] is the limit where nobody asks for more or less.
     pub fn check(bytes: impl AsRef<[u8]>, limit: u32) -> Result<Quotient, Refusal> {
-        Quotient::certified(bytes.as_ref(), limit)
+        let bytes: Arc<[u8]> = bytes.as_ref().into();
+        let opened = Opened::check(&bytes, limit)?;
+        let certificate = read(&bytes).ok_or(Refusal::TEXT)?;
+        Ok(Quotient { opened, bytes, certificate: Arc::new(certificate) })
     }
 
     /// A clone, or the refusal where memory is refused.
     pub fn try_clone(&self) -> Result<Quotient, Refusal> {
-        Ok(Quotient { certified: self.certified.share()?, bytes: self.bytes.clone(), certificate: self.certificate.clone() })
+        Ok(Quotient { opened: self.opened.share()?, bytes: self.bytes.clone(), certificate: self.certificate.clone() })
     }
 
     /// The quotient of the game of a code, such as `0.33`, or of a part of it; or why none was found.
@@ -61,7 +62,7 @@ impl Quotient {
             Aim::Part(last) => (1, last),
             Aim::Furthest => (2, 0),
         };
-        let (status, told) = status_and_told(MOST, |told, count| {
+        let (status, told) = status_and_told(MOST_BYTES, |told, count| {
             // SAFETY: each pointer stands with the length of its slice, and `count` is borrowed for the call.
             unsafe { raw::misere_solve_why(code.as_ptr(), code.len(), limit, rounds, aim, heaps, order, told.as_mut_ptr(), told.len(), count) }
         });
@@ -70,22 +71,6 @@ impl Quotient {
             Refusal::GAVE_UP => Err(NotFound::GaveUp { why: last_line(&told) }),
             refusal => Err(NotFound::Refused(refusal)),
         }
-    }
-}
-
-impl Quotient<Anew> {
-    /// The quotient that the certificate is of, which the library is to check at each call.
-    pub fn check_anew(bytes: impl AsRef<[u8]>, limit: u32) -> Result<Quotient<Anew>, Refusal> {
-        Quotient::certified(bytes.as_ref(), limit)
-    }
-}
-
-impl<C: Certified> Quotient<C> {
-    fn certified(bytes: &[u8], limit: u32) -> Result<Quotient<C>, Refusal> {
-        let bytes: Arc<[u8]> = bytes.into();
-        let certified = C::check(&bytes, limit)?;
-        let certificate = read(&bytes).ok_or(Refusal::TEXT)?;
-        Ok(Quotient { certified, bytes, certificate: Arc::new(certificate) })
     }
 
     /// The certificate: the one accepted text of its code and kind.
@@ -140,50 +125,50 @@ impl<C: Certified> Quotient<C> {
 
     /// Who wins the position.
     pub fn outcome(&self, heaps: &[u64]) -> Result<Outcome, Refusal> {
-        self.certified.outcome(heaps).map(Outcome::from)
+        self.opened.outcome(heaps).map(Outcome::from)
     }
 
     /// The element of the quotient that is the position's.
     pub fn value(&self, heaps: &[u64]) -> Result<u32, Refusal> {
-        self.certified.value(heaps)
+        self.opened.value(heaps)
     }
 
     /// What to do in the position.
     pub fn answer(&self, heaps: &[u64]) -> Result<Answer, Refusal> {
-        Ok(Answer::from(&self.certified.answer(heaps)?))
+        Ok(Answer::from(&self.opened.answer(heaps)?))
     }
 
     /// The outcome of each position.
     pub fn outcomes(&self, positions: &[&[u64]]) -> Result<Vec<Outcome>, Refusal> {
-        Ok(self.certified.outcomes(positions)?.into_iter().map(Outcome::from).collect())
+        Ok(self.opened.outcomes(positions)?.into_iter().map(Outcome::from).collect())
     }
 
     /// The element of each position.
     pub fn values(&self, positions: &[&[u64]]) -> Result<Vec<u32>, Refusal> {
-        self.certified.values(positions)
+        self.opened.values(positions)
     }
 
     /// What to do in each position.
     pub fn answers(&self, positions: &[&[u64]]) -> Result<Vec<Answer>, Refusal> {
-        Ok(self.certified.answers(positions)?.iter().map(Answer::from).collect())
+        Ok(self.opened.answers(positions)?.iter().map(Answer::from).collect())
     }
 
     /// The description of the quotient, by a short list of relations or by their reduced Gröbner basis.
     pub fn describe(&self, output: Output, basis: bool) -> Result<String, Refusal> {
-        let text = told_by(USUAL, |told, count| self.certified.describe(output as u32, basis as u32, told, count))?;
+        let text = told_by(USUAL, |told, count| self.opened.describe(output as u32, basis as u32, told, count))?;
         Ok(String::from_utf8_lossy(&text).into_owned())
     }
 }
 
-impl<C: Certified, D: Certified> PartialEq<Quotient<D>> for Quotient<C> {
-    fn eq(&self, other: &Quotient<D>) -> bool {
+impl PartialEq for Quotient {
+    fn eq(&self, other: &Quotient) -> bool {
         self.certificate() == other.certificate()
     }
 }
 
-impl<C: Certified> Eq for Quotient<C> {}
+impl Eq for Quotient {}
 
-impl<C: Certified> fmt::Debug for Quotient<C> {
+impl fmt::Debug for Quotient {
     fn fmt(&self, f: &mut fmt::Formatter) -> fmt::Result {
         let (code, order, start, period) = (self.code(), self.order(), self.start(), self.period());
         f.debug_struct("Quotient").field("code", &code).field("order", &order).field("start", &start).field("period", &period).finish()

@@ -1,4 +1,7 @@
-//! The calls of libmisere as they are. `scripts/calls_stand` compares them with the exports.
+//! The calls of libmisere as they are. `scripts/calls_stand` compares them with the exports. Those that are given a certificate's bytes
+//! stand here too, though what is opened serves in their place.
+
+#![allow(dead_code)]
 
 use std::ffi::c_void;
 use std::ptr::null_mut;
@@ -24,8 +27,6 @@ impl Opened {
     pub const CLOSED: Opened = Opened { full: 0, kept: null_mut() };
 }
 
-pub type One<T> = unsafe extern "C" fn(*const u8, usize, u32, *const u64, usize, &mut T) -> u32;
-pub type Many<T> = unsafe extern "C" fn(*const u8, usize, u32, *const u64, usize, *const u64, usize, *mut T, usize) -> u32;
 pub type OneOpened<T> = unsafe extern "C" fn(&mut Opened, *const u64, usize, &mut T) -> u32;
 pub type ManyOpened<T> = unsafe extern "C" fn(&mut Opened, *const u64, usize, *const u64, usize, *mut T, usize) -> u32;
 
@@ -69,8 +70,6 @@ unsafe extern "C" {
         room: usize,
     ) -> u32;
     pub fn misere_failure(bytes: *const u8, length: usize, limit: u32, told: *mut u64, room: usize, count: &mut u64) -> u32;
-    // misere_solve_why tells all of it
-    #[allow(dead_code)]
     pub fn misere_solve(
         code: *const u8,
         length: usize,

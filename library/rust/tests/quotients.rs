@@ -1,6 +1,6 @@
 //! What the crate tells of samples, beside their texts.
 
-use misere::{Aim, Answer, Bounds, Certified, LIMIT, NotFound, Outcome, Output, Quotient, Refusal};
+use misere::{Aim, Answer, Bounds, LIMIT, NotFound, Outcome, Output, Quotient, Refusal};
 use std::path::Path;
 use std::thread;
 
@@ -89,6 +89,13 @@ fn what_is_found_is_checked() {
 }
 
 #[test]
+fn a_deep_search_finds_what_the_program_finds() {
+    let found = Quotient::solve("0.677", Bounds::DEEP).unwrap();
+    assert_eq!((found.order(), found.last_heap()), (172, None));
+    assert_eq!(Quotient::solve("0.77", Bounds::DEEP).unwrap().certificate(), sample("0.77"));
+}
+
+#[test]
 fn refusals_have_their_numbers() {
     let none = Bounds { aim: Aim::Whole(1), ..Bounds::default() };
     assert_eq!(Quotient::check(*b"", LIMIT), Err(Refusal(1)));
@@ -157,24 +164,16 @@ fn a_clone_lives_by_itself() {
 
 #[test]
 fn heaps_may_come_in_any_order() {
-    let (quotient, anew) = (quotient("0.75"), Quotient::check_anew(sample("0.75"), LIMIT).unwrap());
+    let quotient = quotient("0.75");
+    let told = |heaps: [u64; 3]| (quotient.value(&heaps), quotient.outcome(&heaps), quotient.answer(&heaps));
+    let rising = told([2, 5, 7]);
     for heaps in [[5, 2, 7], [7, 5, 2], [2, 5, 7]] {
-        let told = (anew.value(&[2, 5, 7]), anew.outcome(&[2, 5, 7]), anew.answer(&[2, 5, 7]));
-        assert_eq!((quotient.value(&heaps), quotient.outcome(&heaps), quotient.answer(&heaps)), told, "{heaps:?}");
-    }
-}
-
-#[test]
-fn both_kinds_are_one_quotient() {
-    for name in SAMPLES {
-        let (opened, anew) = (quotient(name), Quotient::check_anew(sample(name), LIMIT).unwrap());
-        assert_eq!((&opened, opened.describe(Output::Latex, true)), (&opened, anew.describe(Output::Latex, true)), "{name}");
-        assert!(opened == anew && opened.outcome(&[0]) == anew.outcome(&[0]), "{name}");
+        assert_eq!(told(heaps), rising, "{heaps:?}");
     }
 }
 
 /// What some positions are answered.
-fn asked<C: Certified>(quotient: &Quotient<C>) -> Vec<Result<Answer, Refusal>> {
+fn asked(quotient: &Quotient) -> Vec<Result<Answer, Refusal>> {
     (1..200).map(|heap| quotient.answer(&[heap, 2 * heap, 77])).collect()
 }
 
@@ -187,16 +186,4 @@ fn each_thread_asks_a_clone() {
     for thread in threads {
         assert_eq!(thread.join().unwrap(), alone);
     }
-}
-
-#[test]
-fn threads_share_what_is_checked_anew() {
-    let quotient = Quotient::check_anew(sample("0.71"), LIMIT).unwrap();
-    let alone = asked(&quotient);
-    thread::scope(|scope| {
-        let threads: Vec<_> = (0..THREADS).map(|_| scope.spawn(|| asked(&quotient))).collect();
-        for thread in threads {
-            assert_eq!(thread.join().unwrap(), alone);
-        }
-    });
 }

@@ -1,0 +1,99 @@
+"""Catalogues of certificates, such as those of the atlas."""
+
+from __future__ import annotations
+
+import json
+import os
+import pathlib
+from collections.abc import Iterator, Mapping
+from typing import Any, Final, Union
+
+from ._bounds import LIMIT
+from ._faults import TEXT, Absent, Refused
+from ._quotient import Quotient
+
+#: The codes of games by their names in Winning Ways.
+NAMES: Final = {
+    "Kayles": "0.77",
+    "Dawson's Kayles": "0.07",
+    "Dawson's Chess": "0.137",
+    "Guiles": "0.15",
+    "Officers": "0.6",
+}
+ATLAS = ("octal.json", "hexadecimal.json")
+# A code or a name; or a code with the last heap of a partial certificate, which is 0 of a full one
+Key = Union[str, "tuple[str, int]"]
+
+
+class Catalogue(Mapping[Key, Quotient]):
+    """The quotients of a catalogue file, such as `misere catalogue FILE --add` writes, or without a path those of the
+    atlas. A certificate is checked when its quotient is asked for, and nothing is believed of the file.
+
+    catalogue["0.77"] is the quotient of a code, the full one where there is one, else the partial one of the most
+    heaps; catalogue["Kayles"] that of a name; catalogue["0.07", 24] that of the heaps to 24. What isn't there raises
+    Absent, a KeyError."""
+
+    def __init__(self, path: str | os.PathLike[str] | None = None, limit: int = LIMIT) -> None:
+        self._limit = limit
+        files = [pathlib.Path(path)] if path is not None else [_atlas() / name for name in ATLAS]
+        self._texts: dict[tuple[str, int], str] = {}
+        for file in files:
+            self._texts.update(_entries_of(file))
+        self._kinds: dict[str, int] = {}
+        for code, heaps in self._texts:
+            self._kinds[code] = _further(heaps, self._kinds.get(code))
+
+    def __getitem__(self, key: Key) -> Quotient:
+        return Quotient(self.certificate(key), self._limit)
+
+    def certificate(self, key: Key) -> str:
+        """The text of a certificate, which nobody has checked yet."""
+        code, heaps = (key, None) if isinstance(key, str) else key
+        code = NAMES.get(code, code)
+        if heaps is None:
+            heaps = self._kinds.get(code, 0)
+        if (code, heaps) not in self._texts:
+            raise Absent(0, f"the catalogue has no entry of {key!r}")
+        return self._texts[code, heaps]
+
+    def __iter__(self) -> Iterator[str]:
+        """The codes, each once."""
+        return iter(self._kinds)
+
+    def __len__(self) -> int:
+        return len(self._kinds)
+
+    def __contains__(self, key: object) -> bool:
+        try:
+            self.certificate(key)  # type: ignore[arg-type]
+        except (Absent, TypeError, ValueError):
+            return False
+        return True
+
+    def __repr__(self) -> str:
+        return f"<catalogue of {len(self)} codes>"
+
+
+def _further(heaps: int, known: int | None) -> int:
+    """Which of two kinds of a code is told: the full one, else that of the most heaps."""
+    return heaps if known is None else 0 if 0 in (heaps, known) else max(heaps, known)
+
+
+def _entries_of(file: pathlib.Path) -> dict[tuple[str, int], str]:
+    """The certificates of a file, by their codes and last heaps."""
+    try:
+        read: Any = json.loads(file.read_bytes())
+        return {(it["code"], int(it.get("heaps", 0))): str(it["certificate"]) for it in read["entries"]}
+    except (ValueError, KeyError, TypeError, AttributeError):
+        raise Refused(TEXT, f"{file} is no catalogue") from None
+
+
+def _atlas() -> pathlib.Path:
+    """The folder of the atlas: in the package, as in a wheel; at the top, as in the sources; or where the package of the
+    system or a prefix has it."""
+    package = pathlib.Path(__file__).resolve().parent
+    places = [package / "atlas", package.parents[1] / "atlas", *(it / "share/misere/atlas" for it in package.parents)]
+    found = next((it for it in places if all((it / name).is_file() for name in ATLAS)), None)
+    if found is None:
+        raise FileNotFoundError(f"the atlas is in none of {', '.join(map(str, places[:3]))}; name a catalogue's file")
+    return found
