@@ -13,7 +13,7 @@
 #define LARGEST 24
 #define LONG_ENOUGH 0.1
 
-static uint8_t bytes[1 << 22];
+static uint8_t bytes[MISERE_MOST];
 static size_t length;
 static uint64_t heaps[HEAPS * POSITIONS], ends[POSITIONS];
 static uint32_t outcomes[POSITIONS];

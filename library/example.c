@@ -11,7 +11,7 @@ static misere_opened quotient = MISERE_CLOSED;
 
 /* Opens the quotient of the certificate in a file, and answers the status. */
 static uint32_t open_file(const char *name) {
-    static uint8_t bytes[1 << 22];
+    static uint8_t bytes[MISERE_MOST];
     FILE *file = fopen(name, "rb");
     if (!file) return MISERE_TEXT;
     size_t length = fread(bytes, 1, sizeof bytes, file);

@@ -108,6 +108,11 @@ uint32_t misere_failure(const uint8_t *bytes, size_t length, uint32_t limit,
 #define MISERE_HEAPS 24
 #define MISERE_ELEMENTS 64
 
+/* The most heaps that a search for the whole game looks at, as the certificate of an octal code can
+ * need no more; and the most elements of a quotient. */
+#define MISERE_MOST_HEAPS 8210
+#define MISERE_MOST_ELEMENTS 4096
+
 /* As many bytes are room for any certificate. */
 #define MISERE_MOST (1u << 22)
 

@@ -24,7 +24,7 @@ void *__wrap_realloc(void *old, size_t n) {
 }
 void __wrap_free(void *at) { held -= at != NULL; __real_free(at); }
 
-static uint8_t bytes[1 << 22];
+static uint8_t bytes[MISERE_MOST];
 static size_t length;
 
 /* All that a call may tell. Before each call it is filled with one byte. */

@@ -10,10 +10,22 @@
  * library; whatever else is thrown is no verdict.
  */
 
+// The bounds of the calls, of which each has its one place in JavaScript here (scripts/calls_stand compares them).
+
 /** What the closure of a check may keep, where nobody asks for more or less. */
 export const LIMIT = 100000;
 /** As many bytes are room for any certificate. */
 export const MOST = 1 << 22;
+/** How far a search goes, where nobody asks for more or less: its rounds, heaps and elements. */
+export const [ROUNDS, HEAPS, ELEMENTS] = [64, 24, 64];
+/** The most heaps that a search for a whole quotient looks at: an octal code's certificate can need no more. */
+export const MOST_HEAPS = 8210;
+/** The most elements of a quotient, and those of a whole one that is sought by at most 64 heaps. */
+export const [MOST_ELEMENTS, MOST_BY_FEW] = [4096, 256];
+/** The largest last heap of a part that is sought. */
+export const MOST_PART = 1024;
+/** The largest heap. */
+export const LARGEST_HEAP = 10n ** 18n;
 /** Room for most positions at which a certificate is told to fail. */
 const USUAL_HEAPS = 64;
 /** Room for most descriptions. */
@@ -275,7 +287,7 @@ export class Misere {
    * @param {string} code
    * @param {Search} search
    */
-  solve(code, {aim = "whole", heaps = 24, order = 64, rounds = 64, limit = LIMIT} = {}) {
+  solve(code, {aim = "whole", heaps = HEAPS, order = ELEMENTS, rounds = ROUNDS, limit = LIMIT} = {}) {
     const bounds = [limit, rounds, AIMS.indexOf(aim), heaps, order].map(bounded);
     return this.#text("misere_solve", [new TextEncoder().encode(code), ...bounds], MOST);
   }

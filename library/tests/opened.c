@@ -10,7 +10,7 @@
 #define MOST 12
 #define THREADS 8
 
-static uint8_t bytes[1 << 22];
+static uint8_t bytes[MISERE_MOST];
 static size_t length;
 static uint64_t heaps[MOST * POSITIONS], ends[POSITIONS];
 static uint32_t values[POSITIONS], outcomes[POSITIONS];

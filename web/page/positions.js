@@ -1,7 +1,6 @@
 // Positions, as lists of heaps.
 
-/** The largest heap of which the calls speak. */
-const LARGEST = 10n ** 18n;
+import {LARGEST_HEAP} from "../calls.js";
 
 /**
  * The heaps of a text such as `2 5 7`, `2,5,7` or `2 + 5 + 7`, or null where it is none.
@@ -10,7 +9,7 @@ const LARGEST = 10n ** 18n;
 export function heapsOfText(text) {
   const words = text.split(/[\s,+]+/).filter((word) => word && word !== "0");
   const isHeap = (/** @type {string} */ word) =>
-      /^\d{1,19}$/.test(word) && BigInt(word) >= 1n && BigInt(word) <= LARGEST;
+      /^\d{1,19}$/.test(word) && BigInt(word) >= 1n && BigInt(word) <= LARGEST_HEAP;
   return words.every(isHeap) ? words.map(BigInt) : null;
 }
 

@@ -1,5 +1,7 @@
 // Refusals in words.
 
+import {LIMIT} from "../calls.js";
+
 import {make} from "./dom.js";
 import {Failure} from "./prover.js";
 
@@ -12,7 +14,7 @@ const REASONS = {
   5: "a smaller period serves, or the period serves from an earlier start",
   6: "a separating element is not the least one",
   7: "the rule of the code’s game fails at this position",
-  8: "more different transition pairs than the limit of 100000",
+  8: `more different transition pairs than the limit of ${LIMIT}`,
   9: "memory was refused, so there is no verdict",
   10: "a heap is not of 1 to 10^18",
   12: "the text is no code",

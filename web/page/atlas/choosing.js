@@ -1,5 +1,6 @@
 // Which games of the atlas are shown, and in which order. The choice stands in the address.
 
+import {MOST_HEAPS} from "../../calls.js";
 import {grouped} from "../atlas.js";
 
 /** @typedef {import("../atlas.js").Entry} Entry */
@@ -28,15 +29,14 @@ const USUAL = {
   down: false
 };
 
-/** No period is longer. (By the period, partial quotients stand behind the full ones, by their last heaps.) */
-const MOST_PERIOD = 4096;
 
 /** @type {Record<string, (entry: Entry) => number>} */
 const KEYS = {
+  // (by the period, partial quotients stand behind the full ones, by their last heaps)
   place: ({place}) => place,
   order: ({order}) => order,
   portion: ({portion}) => portion,
-  period: ({quotient: {period}, last}) => (last === null ? period : MOST_PERIOD + last),
+  period: ({quotient: {period}, last}) => (last === null ? period : MOST_HEAPS + last),
 };
 
 /** @type {Record<string, (entry: Entry) => unknown>} */

@@ -1,5 +1,7 @@
 // The searches of one after another, each with its bounds.
 
+import {ELEMENTS, HEAPS, MOST_BY_FEW, MOST_ELEMENTS, MOST_HEAPS, MOST_PART} from "../../calls.js";
+
 /**
  * @typedef {{aim: "whole" | "part" | "furthest", heaps: number, order: number}} Search
  * @typedef {{name: string, search: Search}} Step
@@ -12,12 +14,6 @@
  * @property {number} [usual]
  * @property {(number: number) => Step[]} steps
  */
-
-/**
- * As many heaps as the certificate of an octal code can need, the elements of a whole quotient and of a partial one,
- * and the most that there may be.
- */
-const [DEEP_HEAPS, WHOLE_ORDER, PART_ORDER, MOST_ORDER] = [8210, 256, 512, 4096];
 
 /**
  * @param {number} heaps
@@ -33,7 +29,7 @@ function whole(heaps, order) {
  * @returns {Step}
  */
 function part(heaps) {
-  return {name: `partial, to heap ${heaps}`, search: {aim: "part", heaps, order: PART_ORDER}};
+  return {name: `partial, to heap ${heaps}`, search: {aim: "part", heaps, order: MOST_ELEMENTS}};
 }
 
 /**
@@ -59,15 +55,15 @@ function doubling(least, last) {
 export const AIMS = {
   all: {
     name: "whole, then deep, then partial",
-    steps: () => [whole(24, 64), whole(DEEP_HEAPS, WHOLE_ORDER), furthest(16), furthest(64)]
+    steps: () => [whole(HEAPS, ELEMENTS), whole(MOST_HEAPS, MOST_BY_FEW), furthest(16), furthest(64)]
   },
-  whole: {name: "whole", steps: () => [whole(24, 64)]},
-  deep: {name: "whole, deep", steps: () => [whole(DEEP_HEAPS, WHOLE_ORDER)]},
+  whole: {name: "whole", steps: () => [whole(HEAPS, ELEMENTS)]},
+  deep: {name: "whole, deep", steps: () => [whole(MOST_HEAPS, MOST_BY_FEW)]},
   partial: {
     name: "partial, to a heap",
     asks: "Last heap",
     least: 1,
-    most: 1024,
+    most: MOST_PART,
     usual: 12,
     steps: (last) => doubling(4, last).map(part)
   },
@@ -75,7 +71,7 @@ export const AIMS = {
     name: "furthest",
     asks: "Most elements",
     least: 2,
-    most: MOST_ORDER,
+    most: MOST_ELEMENTS,
     usual: 64,
     steps: (order) => doubling(16, order).map(furthest)
   },

@@ -1,5 +1,6 @@
 // A certificate from elsewhere: pasted, dropped, or chosen as a file.
 
+import {MOST} from "../../calls.js";
 import {fill, labelled, make} from "../dom.js";
 import {present} from "../game/present.js";
 
@@ -8,9 +9,7 @@ import {present} from "../game/present.js";
 /** A certificate to try, and how to spoil it. */
 const [SAMPLE, SOUND, SPOILT] = ["0.33", "phi 1 2 0", "phi 1 2 2"];
 /** Of longer files the text isn't shown. */
-const MOST_SHOWN = 100000;
-/** No certificate is longer, so that of a longer file the beginning is refused as the whole is. */
-const MOST_BYTES = 1 << 21;
+const MOST_SHOWN = 1 << 17;
 
 const HOW = "The proved checker says yes or no, and believes nothing. The certificate stays on this machine. " +
     "Of a file each byte counts; behind a pasted text the last line end is put where it is missing.";
@@ -29,7 +28,8 @@ export function checkView(page, root) {
   };
   const file = make("input", {type: "file", id: "file", onchange: () => file.files?.[0] && take(file.files[0])});
   const take = async (/** @type {File} */ from) => {
-    const bytes = new Uint8Array(await from.slice(0, MOST_BYTES + 1).arrayBuffer());
+    // (no certificate is longer, so that of a longer file the beginning is refused as the whole is)
+    const bytes = new Uint8Array(await from.slice(0, MOST + 1).arrayBuffer());
     text.value = bytes.length <= MOST_SHOWN ? new TextDecoder().decode(bytes) : "";
     file.value = "";
     await present(page, out, bytes);

@@ -1,6 +1,11 @@
 """The checking of certificates from elsewhere."""
 import base64
+import pathlib
+import tempfile
 import time
+
+# As many bytes as a certificate can have
+MOST = 1 << 22
 
 # Drops a file where a certificate is put
 DROP = """const data = new DataTransfer();
@@ -21,6 +26,7 @@ def drive(it, program, steps):
     for file in program.samples():
         said = judged(it, lambda: it.one("#file").send_keys(str(file)))
         steps.expect(f"the file {file.name}", said.startswith(program.verdict(file)), said)
+    large(it, program, steps)
     good = program.certificate("0.33")
     said = judged(it, lambda: it.run(DROP, base64.b64encode(good.read_bytes()).decode()))
     steps.expect("a file that is dropped", said.startswith(program.verdict(good)), said)
@@ -42,3 +48,16 @@ def drive(it, program, steps):
     it.one(".links a").click()
     it.wait(lambda: it.all(".heap"))
     steps.expect("a certificate from elsewhere is played", it.run("return location.hash") == "#play=0.75/8:3,4,5", said)
+
+
+def large(it, program, steps):
+    """Files of more than 2 MiB, as they are and with a byte too many."""
+    text = program.script("large_certificates").long_text().encode()
+    steps.expect("a text has more than 2 MiB", 1 << 21 < len(text) < MOST, len(text))
+    texts = {"that is right": text, "with a byte more": text + b"0", "longer than any": text.ljust(MOST + 1, b"\n")}
+    with tempfile.TemporaryDirectory() as folder:
+        file = pathlib.Path(folder, "large.mqc")
+        for name, these in texts.items():
+            file.write_bytes(these)
+            said = judged(it, lambda: it.one("#file").send_keys(str(file)))
+            steps.expect(f"a large file {name}", said.startswith(program.verdict(file)), said)

@@ -1,6 +1,8 @@
 """The steps of a drive, told one by one; and the program, with which answers are compared."""
+import importlib
 import pathlib
 import subprocess
+import sys
 
 
 class Steps:
@@ -16,6 +18,11 @@ class Steps:
 class Program:
     def __init__(self, root):
         self.root = pathlib.Path(root).resolve()
+
+    def script(self, name):
+        """A script of scripts/ as a module."""
+        sys.path.insert(0, str(self.root / "scripts"))
+        return importlib.import_module("script").load(self.root / "scripts" / name, name)
 
     def certificate(self, name):
         return self.root / f"certificates/{name}.mqc"
