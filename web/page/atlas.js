@@ -13,7 +13,7 @@ import {certificateText} from "./certificate_text.js";
  * @property {number} order
  * @property {number} portion
  * @property {number | null} last the last heap of a partial quotient
- * @property {boolean} isTame
+ * @property {number | null} tame the n of T_n, or null of a wild quotient
  */
 
 export class Atlas {
@@ -60,9 +60,9 @@ export class Atlas {
 function entriesOf(quotient) {
   const {order, portion, kind, codes} = quotient;
   const last = lastHeap(quotient);
-  return codes.map(
-      ([code, place]) =>
-          ({code, place, quotient, order, portion: portion.length, last, isTame: kind.startsWith("tame")}));
+  const [, number] = kind.match(/^tame (\d+)$/) ?? [];
+  const tame = number ? Number(number) : null;
+  return codes.map(([code, place]) => ({code, place, quotient, order, portion: portion.length, last, tame}));
 }
 
 /**

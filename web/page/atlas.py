@@ -1,11 +1,11 @@
 #!/usr/bin/env python3
 """Writes what the page holds of the atlas.
 
-    atlas.py ROOT TO.json
+    atlas.py ROOT TO.json [PROGRAM]
 
-ROOT is the project, with its program built: `misere describe` says which quotients are tame, and which elements
-generate. A certificate stands here as its heaps, its portion and the rows of its generators, out of which the page
-makes all of its lines again (certificate_text.js). Nothing is believed of that: the page has each text checked.
+ROOT is the project, with its program built, if no other is named: `misere describe` says which quotients are tame, and
+which elements generate. A certificate stands here as its heaps, its portion and the rows of its generators, out of which
+the page makes all of its lines again (certificate_text.js). Nothing is believed of that: the page has each text checked.
 """
 import json
 import pathlib
@@ -50,11 +50,11 @@ def quotient(group, number, place):
 
 
 def main():
-    root, to = map(pathlib.Path, sys.argv[1:])
+    root, to, *named = map(pathlib.Path, sys.argv[1:])
     sys.path.insert(0, str(root / "scripts"))
     from atlas_page import Page
 
-    page = Page(root, root / "crates/misere/out/misere")
+    page = Page(root, *(named or [root / "crates/misere/out/misere"]))
     place = {entry.code: at for at, entry in enumerate(page.entries)}
     classes = classes_of([(rows_of(group[0]), numbers(group[0].words["portion"])) for group in page.groups])
     quotients = [quotient(group, number, place) for group, number in zip(page.groups, classes)]

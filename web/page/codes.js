@@ -15,6 +15,29 @@ export const GAME_NAMES = new Map([
   ["0.6", "Officers"],
 ]);
 
+/**
+ * The code of a name such as `Kayles`, or else the text.
+ * @param {string} text
+ */
+export function codeOfName(text) {
+  const named = [...GAME_NAMES].find(([, name]) => plain(name) === plain(text));
+  return named ? named[0] : text;
+}
+
+/**
+ * Whether the name of a code has such a text in it.
+ * @param {string} code
+ * @param {string} text
+ */
+export function isNamed(code, text) {
+  return text !== "" && plain(GAME_NAMES.get(code) ?? "").includes(plain(text));
+}
+
+/** @param {string} name */
+function plain(name) {
+  return name.toLowerCase().replace(/[^a-z]/g, "");
+}
+
 /** @param {string} text */
 export function isCode(text) {
   return /^[048c]\.[0-9a-f]{0,15}[1-9a-f]$/.test(text);

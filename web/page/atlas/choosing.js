@@ -2,16 +2,19 @@
 
 import {MOST_HEAPS} from "../../calls.js";
 import {grouped} from "../atlas.js";
+import {isNamed} from "../codes.js";
 
 /** @typedef {import("../atlas.js").Entry} Entry */
 
 /**
  * @typedef {object} Chosen
- * @property {string} code what the code has in it, or how it begins
+ * @property {string} code what the code has in it, or how it begins; or a part of a name
  * @property {string} speaks `full`, `partial`, or the empty text for both
  * @property {string} kind `tame`, `wild`, or the empty text for both
  * @property {string} order a number, or two such as `6-12`
  * @property {string} portion the same
+ * @property {string} period the same, of full quotients
+ * @property {string} tame the same of n, where the quotient is T_n
  * @property {string} each `game`, `quotient` or `monoid`: what has a row of its own
  * @property {string} by the column that sorts
  * @property {boolean} down
@@ -24,6 +27,8 @@ const USUAL = {
   kind: "",
   order: "",
   portion: "",
+  period: "",
+  tame: "",
   each: "game",
   by: "place",
   down: false
@@ -89,21 +94,33 @@ export function rowsOf(atlas, chosen) {
  * @param {Entry} entry
  * @param {Chosen} chosen
  */
-function isSought(entry, {code, speaks, kind, order, portion}) {
-  const sought = code.trim();
-  return (sought.includes(".") ? entry.code.startsWith(sought) : entry.code.includes(sought)) &&
-      (!speaks || (speaks === "full") === (entry.last === null)) && (!kind || (kind === "tame") === entry.isTame) &&
-      isWithin(entry.order, order) && isWithin(entry.portion, portion);
+function isSought(entry, {code, speaks, kind, order, portion, period, tame}) {
+  const isFull = entry.last === null, isTame = entry.tame !== null;
+  return isMeant(entry.code, code.trim()) && (!speaks || (speaks === "full") === isFull) &&
+      (!kind || (kind === "tame") === isTame) && isWithin(entry.order, order) && isWithin(entry.portion, portion) &&
+      isWithin(isFull ? entry.quotient.period : null, period) && isWithin(entry.tame, tame);
 }
 
 /**
- * Whether a number is the one that is sought, or between two. A text that says neither seeks all.
- * @param {number} number
+ * Whether a code is meant by what is written: its beginning, if that has a point; a part of its name, if that has other
+ * letters than codes have; else some of its digits.
+ * @param {string} code
+ * @param {string} sought
+ */
+function isMeant(code, sought) {
+  if (sought.includes(".")) return code.startsWith(sought);
+  return /[^0-9a-f]/.test(sought) ? isNamed(code, sought) : code.includes(sought);
+}
+
+/**
+ * Whether a number is the one that is sought, or between two; null is never. A text that says neither seeks all.
+ * @param {number | null} number
  * @param {string} sought
  */
 function isWithin(number, sought) {
   const [, least, dash, most] = sought.match(/^\s*(\d*)\s*([-–]?)\s*(\d*)\s*$/) ?? [];
   if (!least && !most) return true;
+  if (number === null) return false;
   if (!dash) return number === Number(least);
   return number >= Number(least || 0) && number <= Number(most || Infinity);
 }

@@ -9,7 +9,9 @@ import {choice, labelled, make} from "../dom.js";
  * @param {(more: Partial<Chosen>) => void} choose
  */
 export function controls(chosen, choose) {
-  const written = (/** @type {"code" | "order" | "portion"} */ name, /** @type {Record<string, any>} */ more) => {
+  const written = (
+      /** @type {"code" | "order" | "portion" | "period" | "tame"} */ name,
+      /** @type {Record<string, any>} */ more) => {
     const oninput = () => choose({[name]: field.value});
     const field = make("input", {type: "search", id: name, value: chosen[name], autocomplete: "off", oninput, ...more});
     return field;
@@ -20,11 +22,13 @@ export function controls(chosen, choose) {
   };
   return make(
       "form", {class: "row", role: "search", onsubmit: (/** @type {Event} */ event) => event.preventDefault()},
-      labelled("Code", written("code", {size: 8, placeholder: "0.7"})),
+      labelled("Code or name", written("code", {size: 9, placeholder: "0.7, Kayles"})),
       labelled("Quotient", picked("speaks", [["", "full or partial"], ["full", "full"], ["partial", "partial"]])),
       labelled("Kind", picked("kind", [["", "tame or wild"], ["tame", "tame"], ["wild", "wild"]])),
       labelled("Order", written("order", {size: 7, placeholder: "8 or 6-20"})),
       labelled("Portion", written("portion", {size: 7, placeholder: "2 or 1-5"})),
+      labelled("Period", written("period", {size: 7, placeholder: "1-19"})),
+      labelled("Tame, Tₙ", written("tame", {size: 5, placeholder: "2 or 0-1"})),
       labelled(
           "A row for each",
           picked("each", [["game", "game"], ["quotient", "quotient"], ["monoid", "bipartite monoid"]])));

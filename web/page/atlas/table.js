@@ -1,6 +1,7 @@
 // The list of the atlas: its columns and rows.
 
 import {gameAddress} from "../address.js";
+import {GAME_NAMES} from "../codes.js";
 import {make} from "../dom.js";
 
 /** @typedef {import("../atlas.js").Atlas} Atlas */
@@ -17,7 +18,7 @@ import {make} from "../dom.js";
 
 /** @type {Column[]} */
 const COLUMNS = [
-  {name: "Code", by: "place", kind: "code", cell: ({code}) => linkOf(code)},
+  {name: "Code", by: "place", kind: "code", cell: ({code}) => [linkOf(code), nameOf(code)]},
   {name: "Order", by: "order", kind: "number", cell: ({order}) => String(order)},
   {name: "Portion", by: "portion", kind: "number", cell: ({portion}) => String(portion)},
 ];
@@ -46,6 +47,12 @@ function columnsOf({each}) {
 /** @param {string} code */
 function linkOf(code) {
   return make("a", {href: gameAddress(code)}, code);
+}
+
+/** @param {string} code */
+function nameOf(code) {
+  const name = GAME_NAMES.get(code);
+  return name && make("span", {class: "soft name"}, ` ${name}`);
 }
 
 /** @param {Entry} entry */

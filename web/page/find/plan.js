@@ -1,6 +1,7 @@
 // The searches of one after another, each with its bounds.
 
 import {ELEMENTS, HEAPS, MOST_BY_FEW, MOST_ELEMENTS, MOST_HEAPS, MOST_PART} from "../../calls.js";
+import {codeOfName} from "../codes.js";
 
 /**
  * @typedef {{aim: "whole" | "part" | "furthest", heaps: number, order: number}} Search
@@ -91,7 +92,8 @@ export const AIMS = {
  */
 export function soughtOf(word) {
   const [name, said = "", number] = word.split(":");
-  const [code, last] = name.split("/");
+  const [named, last] = name.split("/");
+  const code = codeOfName(named);
   const aim = last ? "partial" : said in AIMS ? said : "all";
   return {code, aim, number: Number(last ?? number) || (AIMS[aim].usual ?? 0)};
 }

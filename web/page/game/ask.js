@@ -19,10 +19,8 @@ export function askSection(page, game) {
   const last = lastHeap(game.certificate);
   const usual = last === null ? "2 1000000000000" : [2, 3, 5].map((heap) => Math.min(heap, last)).join(" ");
   const field = make("input", {id: "heaps", value: usual, autocomplete: "off", inputmode: "text"});
-  const answer =
-      make("p", {class: "verdict", role: "status", id: "answer"}, "A position is a list of heaps, such as 2 5 7.");
-  const ask = async (/** @type {Event} */ event) => {
-    event.preventDefault();
+  const answer = make("p", {class: "verdict", role: "status", id: "answer"});
+  const ask = async () => {
     const heaps = heapsOfText(field.value);
     answer.className = `verdict ${heaps ? "" : "none"}`;
     if (!heaps) return fill(answer, "A position is a list of heaps of 1 to 10^18, such as 2 5 7.");
@@ -33,9 +31,15 @@ export function askSection(page, game) {
       fill(answer, told(failure));
     }
   };
+  const onsubmit = (/** @type {Event} */ event) => {
+    event.preventDefault();
+    return ask();
+  };
   const form = make(
-      "form", {class: "row", onsubmit: ask},
-      labelled(last === null ? "Heaps, of any size" : `Heaps, up to ${last}`, field), make("button", {}, "Who wins?"));
+      "form", {class: "row", onsubmit}, labelled(last === null ? "Heaps, of any size" : `Heaps, up to ${last}`, field),
+      make("button", {}, "Who wins?"));
+  // (what stands in the field is asked at once, so that an answer stands under it)
+  ask();
   return make("section", {class: "screen"}, make("h2", {}, "Ask it"), form, answer);
 }
 

@@ -2,6 +2,7 @@
 
 import {lastHeap} from "../certificate.js";
 import {fill, make} from "../dom.js";
+import {save} from "../saving.js";
 
 /** @typedef {import("./present.js").Game} Game */
 /** @typedef {import("../main.js").Page} Page */
@@ -42,16 +43,6 @@ export function certificateSection(page, game) {
 function fileNameOf({certificate}) {
   const last = lastHeap(certificate);
   return `${certificate.code}${last === null ? "" : `_heaps_${last}`}.mqc`;
-}
-
-/**
- * @param {string} text
- * @param {string} name
- */
-function save(text, name) {
-  const place = URL.createObjectURL(new Blob([text], {type: "application/octet-stream"}));
-  make("a", {href: place, download: name}).click();
-  setTimeout(() => URL.revokeObjectURL(place), 1000);
 }
 
 /**

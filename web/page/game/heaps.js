@@ -3,6 +3,7 @@
 import {lastHeap} from "../certificate.js";
 import {make} from "../dom.js";
 import {word} from "../mathml.js";
+import {explained} from "../terms.js";
 
 /** @typedef {import("./present.js").Game} Game */
 
@@ -61,7 +62,10 @@ function keyOf(certificate) {
   const {start, period} = certificate;
   const last = lastHeap(certificate);
   const reach = last === null ?
-      [make("span", {class: "mark period"}, "Shaded:"), ` from heap ${start} on this repeats with period ${period}.`] :
+      [
+        make("span", {class: "mark period"}, "Shaded:"), ` from heap ${start} on this repeats with `,
+        explained("Period", `period ${period}`), "."
+      ] :
       [`Of larger heaps than ${last} nothing is told.`];
   return make(
       "p", {class: "key"}, make("span", {class: "mark p"}, "Blue:"), " in 𝒫, lost for whoever is to move. ", reach);

@@ -16,7 +16,12 @@ export function pictureSection(page, game) {
   const {order} = game.certificate;
   const products = order <= MOST_MULTIPLIED && productPicture(game);
   const components = order <= MOST_DRAWN && componentPicture(game);
+  const left = [
+    !products && `the products, of more than ${MOST_MULTIPLIED} elements`,
+    !components && `the archimedean components, of more than ${MOST_DRAWN}`
+  ].filter(Boolean);
   return make(
       "section", {}, make("h2", {}, "Pictures"),
-      make("div", {class: "pictures"}, outcomePicture(page, game), products, components));
+      make("div", {class: "pictures"}, outcomePicture(page, game), products, components),
+      left.length > 0 && make("p", {class: "soft undrawn"}, `Not drawn: ${left.join("; ")}.`));
 }

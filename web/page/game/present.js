@@ -62,11 +62,15 @@ export async function present(page, root, bytes) {
  * @param {Element} verdict
  */
 async function presentGame(page, root, bytes, certificate, verdict) {
+  const describing = make("p", {class: "soft", id: "describing", role: "status"}, "Describing …");
+  root.append(describing);
   try {
     const game = await gameOf(page, bytes, certificate);
     if (root.firstChild === verdict) root.append(...sectionsOf(page, game));
   } catch (failure) {
     if (root.firstChild === verdict) root.append(alertOf(failure));
+  } finally {
+    describing.remove();
   }
 }
 

@@ -4,6 +4,7 @@ import {lastHeap} from "../certificate.js";
 import {ruleOf} from "../codes.js";
 import {make, separated} from "../dom.js";
 import {ofGame, relation, word} from "../mathml.js";
+import {explained} from "../terms.js";
 
 /** @typedef {import("./present.js").Game} Game */
 /** @typedef {import("../description.js").Description} Description */
@@ -63,7 +64,8 @@ function factTable({order, portion}, {kind, generators, units, idempotents, kern
     ["Idempotents", separated(idempotents.map(word))],
     ["Kernel", separated(kernel.map(word))],
   ];
-  const rows = facts.map(([name, value]) => make("tr", {}, make("th", {scope: "row"}, name), make("td", {}, value)));
+  const rows =
+      facts.map(([name, value]) => make("tr", {}, make("th", {scope: "row"}, explained(name)), make("td", {}, value)));
   return make("table", {class: "facts"}, make("tbody", {}, rows));
 }
 

@@ -2,6 +2,7 @@
 
 import {draw, make} from "../dom.js";
 import {componentsOf} from "../monoid.js";
+import {explained} from "../terms.js";
 
 import {layered} from "./layers.js";
 
@@ -29,8 +30,10 @@ export function componentPicture({certificate, words}) {
   });
   svg.append(...lines.map((way) => draw("path", {class: "edge", d: pathOf(way)})));
   components.forEach((it, at) => svg.append(...boxOf(it, placed[at], measures[at], certificate.portion, words)));
-  const caption = `The ${components.length} archimedean components, the greater idempotents above. ` +
-      "Underlined: the group of the component. Blue: in 𝒫.";
+  const caption = [
+    `The ${components.length} `, explained("Components", "archimedean components"),
+    ", the greater idempotents above. Underlined: the group of the component. Blue: in 𝒫."
+  ];
   return make("figure", {class: "wide"}, make("div", {class: "scroll"}, svg), make("figcaption", {}, caption));
 }
 

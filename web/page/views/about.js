@@ -39,12 +39,14 @@ export async function aboutView({atlas, module}, root) {
   const sum = make("code", {class: "sum"}, "…");
   const checked = `The page holds the certificates of ${atlas.entries.length} small games. What it says of a game is ` +
       "checked here by the proved checker, compiled for the browser. Nothing is asked of a server and nothing is sent.";
-  const size = `It has ${module.byteLength.toLocaleString("en")} bytes, and whoever builds it gets the same ones. `;
+  const version = document.querySelector("meta[name=version]")?.getAttribute("content");
+  const bytes = module.byteLength.toLocaleString("en");
+  const size = `This is version ${version}. The module has ${bytes} bytes, and whoever builds it gets the same ones. `;
   fill(
       root, make("h1", {}, "What this page is"), make("p", {}, GAMES), make("p", {}, checked),
       make("h2", {}, "What is proved"), list(PROVED), make("h2", {}, "What is trusted"), list(TRUSTED),
       make("h2", {}, "The module"), make("p", {}, size, "Its SHA-256 is ", sum, "."),
-      make("h2", {}, "Where it comes from"), sources());
+      make("h2", {}, "Where it comes from"), sources(), make("h2", {}, "Its licence"), licence());
   fill(sum, await sumOfBytes(module));
 }
 
@@ -54,6 +56,15 @@ function sources() {
       ", Journal of Combinatorial Theory A 115 (2008). A. N. Siegel, ", make("cite", {}, "Combinatorial Game Theory"),
       ", chapter V. The names of games are those of Berlekamp, Conway and Guy, ", make("cite", {}, "Winning Ways"),
       ".");
+}
+
+/** (Whoever passes the page on passes this text on with it.) */
+function licence() {
+  const text = document.getElementById("licence")?.textContent ?? "";
+  return [
+    make("p", {}, "MIT or Apache 2.0, as you choose. You may use, change and pass on this page under either of them."),
+    make("details", {}, make("summary", {}, "The MIT licence"), make("pre", {class: "licence"}, text.trim())),
+  ];
 }
 
 /** @param {ArrayBuffer} bytes */

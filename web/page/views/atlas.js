@@ -3,13 +3,17 @@
 import {checkingOfAll} from "../atlas/check_all.js";
 import {chosenOf, rowsOf, wordOf} from "../atlas/choosing.js";
 import {controls} from "../atlas/controls.js";
+import {csvOf, jsonOf, listedOf} from "../atlas/listing.js";
 import {headOf, rowOf} from "../atlas/table.js";
 import {fill, focusOn, make} from "../dom.js";
+import {save} from "../saving.js";
+import {glossary} from "../terms.js";
 
 /** @typedef {import("../atlas/choosing.js").Chosen} Chosen */
 
 /** So many rows are shown at once, and the others right behind them. */
 const FIRST_ROWS = 60;
+const WORDS = ["Order", "Portion", "Period", "Kind", "Same quotient", "Same monoid"];
 
 /**
  * @param {import("../main.js").Page} page
@@ -36,10 +40,18 @@ export async function atlasView(page, root, word) {
     show();
     if (isSorted) focusOn(head.querySelector(`[data-by=${chosen.by}] button`));
   };
+  const saving = (/** @type {string} */ id, /** @type {string} */ name, /** @type {() => void} */ onclick) =>
+      make("button", {type: "button", id, onclick}, name);
+  const listed = () => listedOf(rowsOf(atlas, chosen));
+  const savings = [
+    saving("save-csv", "Save as CSV", () => save(csvOf(listed()), "misere.csv")),
+    saving("save-json", "Save as JSON", () => save(jsonOf(listed()), "misere.json"))
+  ];
   const table = make("table", {class: "list"}, make("thead", {}, head), body);
   fill(
       root, make("h1", {}, "The atlas of small games"), make("p", {}, introductionOf(atlas)), checkingOfAll(page),
-      controls(chosen, choose), count, make("div", {class: "scroll"}, table));
+      controls(chosen, choose), glossary(WORDS), make("div", {class: "row"}, count, savings),
+      make("div", {class: "scroll"}, table));
   await show();
 }
 

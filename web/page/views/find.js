@@ -1,6 +1,6 @@
 // A search for the quotient of a code.
 
-import {isCode} from "../codes.js";
+import {codeOfName, isCode} from "../codes.js";
 import {choice, fill, labelled, make} from "../dom.js";
 import {AIMS, soughtOf, soughtWord} from "../find/plan.js";
 import {search} from "../find/search.js";
@@ -71,7 +71,7 @@ function searchForm(word, stop) {
   return {
     element: make(
         "form", {class: "row"}, labelled("Code", code), labelled("What is sought", aim), numberLabel, seek, stopping),
-    sought: () => ({code: code.value.trim(), aim: aim.value, number: Number(number.value)}),
+    sought: () => ({code: codeOfName(code.value.trim()), aim: aim.value, number: Number(number.value)}),
     atWork: (/** @type {boolean} */ is) => {
       seek.disabled = is;
       stopping.disabled = !is;

@@ -1,16 +1,17 @@
 // A game: all that its certificate tells.
 
-import {GAME_NAMES, isCode} from "../codes.js";
+import {codeOfName, GAME_NAMES, isCode} from "../codes.js";
 import {fill, make} from "../dom.js";
 import {present} from "../game/present.js";
 
 /**
  * @param {import("../main.js").Page} page
  * @param {HTMLElement} root
- * @param {string} name
+ * @param {string} named a code, or a name such as `Kayles`; behind a slash the last heap of a part
  */
-export async function gameView(page, root, name) {
-  const [code, last] = name.split("/");
+export async function gameView(page, root, named) {
+  const [said, last] = named.split("/");
+  const code = codeOfName(said), name = last ? `${code}/${last}` : code;
   const text = page.collection.find(name);
   if (!text) return fill(root, make("h1", {}, name || "Which game?"), unknown(code, last));
   const known = GAME_NAMES.get(code);
