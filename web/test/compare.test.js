@@ -4,7 +4,8 @@ import test from "node:test";
 
 import {Refused} from "../calls.js";
 
-import {atlas, fileOf, newMisere, numbersFrom, printed, sample, samples, told} from "./setup.js";
+import {newMisere} from "./module.js";
+import {atlas, fileOf, numbersFrom, printed, sample, samples, told} from "./setup.js";
 
 const misere = newMisere();
 const CHANGED = 1500;

@@ -5,7 +5,8 @@ import test from "node:test";
 import {Failed, Misere} from "../calls.js";
 
 import {withoutCode, withStack} from "./altered.js";
-import {bytesOfModule, newMisere, sample, told} from "./setup.js";
+import {bytesOfModule, newMisere} from "./module.js";
+import {sample, told} from "./setup.js";
 
 const dense = sample("0.77"), wrong = sample("refused/outcome_at_two_ones");
 /** @type {[string, (misere: Misere) => unknown][]} */

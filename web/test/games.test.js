@@ -3,22 +3,17 @@
  * atlas.
  */
 import assert from "node:assert/strict";
-import {readFileSync} from "node:fs";
-import path from "node:path";
-import process from "node:process";
 import test from "node:test";
 
-import {Atlas} from "../page/atlas.js";
-import {fieldsOf, lastHeap, nameOf, verdictOf} from "../page/certificate.js";
-import {certificateText} from "../page/certificate_text.js";
+import {fieldsOf} from "../page/certificate.js";
 import {isCode, movesFrom, moveTo} from "../page/codes.js";
 import {describedOf} from "../page/description.js";
 import {componentsOf, wordsOf} from "../page/monoid.js";
 import {Session} from "../page/play/session.js";
 
-import {atlas, newMisere, printed, root, sample, told} from "./setup.js";
+import {newMisere} from "./module.js";
+import {atlas, told} from "./setup.js";
 
-const held = process.env.MISERE_ATLAS ?? path.join(root, "web/out/atlas.json");
 const misere = newMisere();
 
 /**
@@ -59,55 +54,6 @@ function smallPositions(last) {
   return sizes(7).flatMap((a) => sizes(Math.min(a, 5)).map((b) => [b, a].filter((heap) => heap > 0)));
 }
 
-test("the texts that the page makes again are those of the catalogues", () => {
-  const made = new Atlas(JSON.parse(readFileSync(held, "utf8")));
-  assert.equal(made.entries.length, atlas.length);
-  for (const {code, bytes} of atlas) assert.equal(made.text(code), new TextDecoder().decode(bytes), code);
-});
-
-/**
- * What a page would hold of the powers of one element, with a heap for each.
- * @param {number} order
- * @param {number} heaps
- */
-function powers(order, heaps) {
-  const phi = Array.from({length: heaps}, (_, at) => (at + 1) % order);
-  const row = Array.from({length: order}, (_, x) => (x + 1) % order);
-  return {
-    order,
-    start: heaps,
-    period: 1,
-    phi,
-    portion: [1],
-    generators: [[1, ...row]],
-    kind: "wild",
-    class: 0,
-    codes: []
-  };
-}
-
-test("a text in the third format leaves rows out, which are read all the same", () => {
-  for (const [order, heaps, format, said] of [[512, 3, 2, 512], [513, 3, 3, 3], [3, 1024, 1, 3], [3, 1025, 3, 2]]) {
-    const quotient = powers(order, heaps);
-    const text = certificateText("0.3", quotient);
-    assert.ok(text.startsWith(`mqc ${format}\ncode 0.3\norder ${order}\n`), text.slice(0, 40));
-    assert.equal(text.match(/^row /gm)?.length, said);
-    assert.equal(text.includes("\napart "), format !== 3);
-    const {table, phi} = fieldsOf(text);
-    const sums = table.map((_, x) => Array.from({length: order}, (_, y) => (x + y) % order));
-    assert.deepEqual(table, sums);
-    assert.deepEqual(phi, quotient.phi);
-  }
-});
-
-test("the verdict's line is the program's", () => {
-  for (const name of ["0.33", "0.77", "0.75_heaps_8"]) {
-    const certificate = fieldsOf(sample(name).toString());
-    assert.equal(verdictOf(certificate), printed("check", path.join(root, `certificates/${name}.mqc`)).trim());
-  }
-  assert.equal(nameOf(fieldsOf(sample("0.75_heaps_8").toString())), "0.75/8");
-});
-
 test("each element's word, and the kernel, are those of the description", () => {
   for (const {code, bytes, certificate} of games) {
     const {generators, heaps, kernel} = describedOf(misere.describe(bytes));
@@ -116,18 +62,6 @@ test("each element's word, and the kernel, are those of the description", () => 
     const [least] = componentsOf(certificate).filter(({covers}) => covers.length === 0);
     assert.deepEqual([...least.group].map((x) => words[x]).sort(), [...kernel].sort(), code);
   }
-});
-
-test("a description has all its parts, also with an index", () => {
-  const {letters, relations, portion, heaps, kind} =
-      describedOf("Q_3(0.33) = < a,b | a^2=1, b^3=b >\nP_3 = { a, b^2 }\norder 6 portion 2 tame 2\n0+ a b 1\n");
-  assert.deepEqual({letters, relations, portion, heaps, kind}, {
-    letters: ["a", "b"],
-    relations: ["a^2=1", "b^3=b"],
-    portion: ["a", "b^2"],
-    heaps: ["a", "b", "1"],
-    kind: "tame 2",
-  });
 });
 
 test("outcomes are those of a search of all plays", () => {
@@ -176,9 +110,4 @@ test("what is a code is one to the module", async (t) => {
     const isOne = told(() => misere.solve(text, {heaps: 2, rounds: 1})) !== "refused 12";
     await t.test(name, () => assert.equal(isCode(text), isOne));
   }
-});
-
-test("the last heap of a partial certificate", () => {
-  assert.equal(lastHeap({start: 9, period: 0}), 8);
-  assert.equal(lastHeap({start: 9, period: 2}), null);
 });

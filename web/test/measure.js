@@ -5,7 +5,8 @@
 import {spawnSync} from "node:child_process";
 import process from "node:process";
 
-import {atlas, newMisere, program, root, sample} from "./setup.js";
+import {newMisere} from "./module.js";
+import {atlas, program, root, sample} from "./setup.js";
 
 const RUNS = 5;
 const kayles = sample("0.77");

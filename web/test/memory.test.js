@@ -3,7 +3,8 @@ import assert from "node:assert/strict";
 import test from "node:test";
 
 import {withPages} from "./altered.js";
-import {bytesOfModule, newMisere, numbersFrom, sample, told} from "./setup.js";
+import {bytesOfModule, newMisere} from "./module.js";
+import {numbersFrom, sample, told} from "./setup.js";
 
 /** @typedef {import("../calls.js").Misere} Misere */
 

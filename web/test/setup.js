@@ -1,4 +1,4 @@
-/** What the tests share: the module, the program, the samples and the atlas. */
+/** What the tests share: the program, the samples and the atlas. Those of the module take it from module.js. */
 import {spawnSync} from "node:child_process";
 import {mkdtempSync, readdirSync, readFileSync, rmSync, writeFileSync} from "node:fs";
 import {tmpdir} from "node:os";
@@ -6,16 +6,12 @@ import path from "node:path";
 import process from "node:process";
 import {fileURLToPath} from "node:url";
 
-import {Failed, Misere, Refused} from "../calls.js";
+import {Failed, Refused} from "../calls.js";
 
 export const root = fileURLToPath(new URL("../..", import.meta.url));
-export const bytesOfModule = readFileSync(process.env.MISERE_WASM ?? path.join(root, "web/out/misere.wasm"));
 export const program = process.env.MISERE ?? path.join(root, "crates/misere/out/misere");
 const folder = mkdtempSync(path.join(tmpdir(), "misere-"));
 process.on("exit", () => rmSync(folder, {recursive: true}));
-
-/** The calls over a new instance of the module, or of another one. */
-export const newMisere = (bytes = bytesOfModule) => new Misere(new WebAssembly.Module(bytes));
 
 /**
  * What the program prints.

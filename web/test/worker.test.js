@@ -6,7 +6,8 @@ import {setImmediate} from "node:timers";
 import {Prover} from "../page/prover.js";
 
 import {withoutCode, withStack} from "./altered.js";
-import {bytesOfModule, sample} from "./setup.js";
+import {bytesOfModule} from "./module.js";
+import {sample} from "./setup.js";
 
 const kayles = sample("0.77"), wrong = sample("refused/outcome_at_two_ones");
 

@@ -1,4 +1,8 @@
 """The list of the atlas."""
+import csv
+import json
+import pathlib
+import tempfile
 import time
 
 from selenium.webdriver.common.keys import Keys
@@ -13,44 +17,60 @@ def column(it, number):
 
 
 def drive(it, program, steps):
+    counts = program.counts
     it.open()
-    it.wait(lambda: len(it.all(ROWS)) == 796)
+    it.listed(counts.all)
     ready = float(it.run("return document.documentElement.dataset.ready"))
-    steps.expect("all games are listed", len(it.all(ROWS)) == 796, f"ready after {ready:.0f} ms")
+    steps.expect("all games are listed", len(it.all(ROWS)) == counts.all, f"ready after {ready:.0f} ms")
     it.picture("atlas")
-    searches(it, steps)
-    sorts(it, steps)
+    searches(it, counts, steps)
+    saves(it, counts, steps)
+    sorts(it, counts, steps)
     it.open("#atlas=kind=wild&speaks=full&by=order&down=true")
-    it.wait(lambda: len(it.all(ROWS)) == 67)
+    it.listed(counts.kinds["wild"])
     orders = [int(order) for order in column(it, 2)]
     steps.expect("a choice has an address", orders == sorted(orders, reverse=True), f"{len(orders)} wild and full ones")
     it.one("#all").click()
     said = it.said("#all-told", "accepted", "refused", "verdict")
-    steps.expect("all certificates are accepted", "796 certificates accepted" in said, said)
-    returns(it, steps)
+    steps.expect("all certificates are accepted", f"{counts.all} certificates accepted" in said, said)
+    returns(it, counts, steps)
 
 
-def returns(it, steps):
+def returns(it, counts, steps):
     it.go("#atlas")
-    it.wait(lambda: len(it.all(ROWS)) == 796)
+    it.listed(counts.all)
     it.run("window.scrollTo(0, 5000)")
     time.sleep(0.5)
     it.go("#game=0.33")
     it.wait(lambda: it.text("h1") == "The game 0.33")
     at_top = it.run("return scrollY") == 0
     it.driver.back()
-    it.wait(lambda: len(it.all(ROWS)) == 796 and it.run("return scrollY") == 5000)
+    it.wait(lambda: len(it.all(ROWS)) == counts.all and it.run("return scrollY") == 5000)
     steps.expect("a game begins at its top, and back is where the list was", at_top)
 
 
-def searches(it, steps):
+def searches(it, counts, steps):
     it.write("#code", "0.77")
-    wanted = ["0.77", *(f"0.77{digit}" for digit in range(1, 8))]
+    wanted = ["0.77 Kayles", *(f"0.77{digit}" for digit in range(1, 8))]
     it.wait(lambda: it.texts(CODES) == wanted)
     steps.expect("games are sought by their code", True, it.text(".count"))
     it.one("#code").send_keys(Keys.BACKSPACE * 4)
+    it.write("#code", "kayles")
+    it.listed(2)
+    steps.expect("and by their name", it.texts(CODES) == ["0.07 Dawson’s Kayles", "0.77 Kayles"], it.texts(CODES))
+    it.one("#code").send_keys(Keys.BACKSPACE * 6)
+    it.write("#period", "1-19")
+    Select(it.one("#kind")).select_by_value("tame")
+    it.listed(counts.short)
+    steps.expect("by their period", True, it.text(".count"))
+    it.one("#period").send_keys(Keys.BACKSPACE * 4)
+    Select(it.one("#kind")).select_by_value("")
+    it.write("#tame", "2")
+    it.wait(lambda: set(column(it, 5)) == {"tame 2"})
+    steps.expect("by the number of a tame quotient", True, it.text(".count"))
+    it.one("#tame").send_keys(Keys.BACKSPACE)
     it.write("#order", "20-36")
-    it.wait(lambda: len(it.all(ROWS)) < 796)
+    it.wait(lambda: len(it.all(ROWS)) < counts.all)
     orders = {int(order) for order in column(it, 2)}
     steps.expect("by their order", min(orders) == 20 and max(orders) == 36, sorted(orders))
     it.one("#order").send_keys(Keys.BACKSPACE * 5)
@@ -58,26 +78,41 @@ def searches(it, steps):
     it.wait(lambda: set(column(it, 3)) == {"9"})
     steps.expect("by their portion", True, it.text(".count"))
     it.one("#portion").send_keys(Keys.BACKSPACE)
-    for kind, count in {"tame": 167, "wild": 67}.items():
+    for kind, count in counts.kinds.items():
         Select(it.one("#speaks")).select_by_value("full")
         Select(it.one("#kind")).select_by_value(kind)
         it.wait(lambda: all(it.startswith(kind) for it in column(it, 5)))
-        it.wait(lambda: len(it.all(ROWS)) == count)
+        it.listed(count)
         steps.expect(f"by their kind: {kind}", True, it.text(".count"))
     for field in ("speaks", "kind"):
         Select(it.one(f"#{field}")).select_by_value("")
-    for each, count in {"quotient": 340, "monoid": 138, "game": 796}.items():
+    for each, count in {"quotient": counts.quotients, "monoid": counts.monoids, "game": counts.all}.items():
         Select(it.one("#each")).select_by_value(each)
-        it.wait(lambda: len(it.all(ROWS)) == count)
+        it.listed(count)
         steps.expect(f"a row for each {each}", True, it.text(".count"))
 
 
-def sorts(it, steps):
+def saves(it, counts, steps):
+    """What is listed, as files."""
+    with tempfile.TemporaryDirectory() as folder:
+        it.command("Browser.setDownloadBehavior", behavior="allow", downloadPath=folder)
+        files = {name: pathlib.Path(folder, f"misere.{name}") for name in ("csv", "json")}
+        for name, file in files.items():
+            it.one(f"#save-{name}").click()
+            it.wait(lambda: file.exists() and file.stat().st_size)
+        rows = list(csv.DictReader(files["csv"].read_text().splitlines()))
+        told = json.loads(files["json"].read_text())
+    steps.expect("what is listed is saved", len(rows) == len(told) == counts.all, f"{len(rows)}, {len(told)} rows")
+    shown = [text.split()[0] for text in it.texts(CODES)]
+    steps.expect("as it stands there", [row["code"] for row in rows] == [row["code"] for row in told] == shown, rows[0])
+
+
+def sorts(it, counts, steps):
     it.one("[data-by=order] button").send_keys(Keys.ENTER)
     it.wait(lambda: it.one("[data-by=order]").get_attribute("aria-sort") == "ascending")
     focus = it.run("return document.activeElement.closest('th')?.dataset.by")
     it.driver.switch_to.active_element.send_keys(Keys.ENTER)
-    it.wait(lambda: len(it.all(ROWS)) == 796)
+    it.listed(counts.all)
     orders = [int(order) for order in column(it, 2)]
     steps.expect(
         "rows are sorted by the keyboard", focus == "order" and orders == sorted(orders, reverse=True), orders[:3]

@@ -8,6 +8,7 @@ import threading
 import time
 
 from selenium import webdriver
+from selenium.common.exceptions import TimeoutException
 from selenium.webdriver.common.by import By
 from selenium.webdriver.support.ui import WebDriverWait
 
@@ -66,6 +67,13 @@ class Browser:
     def said(self, selector, *words):
         """The text of an element, once it has one of the words in it."""
         return self.wait(lambda: (said := self.text(selector)) and any(word in said for word in words) and said)
+
+    def listed(self, count):
+        """Waits until the atlas lists so many rows, and says how many it lists if they stay others."""
+        try:
+            self.wait(lambda: len(self.all(".list tbody tr")) == count, 30)
+        except TimeoutException:
+            raise AssertionError(f"{len(self.all('.list tbody tr'))} rows are listed, and not {count}") from None
 
     def write(self, selector, text):
         field = self.one(selector)

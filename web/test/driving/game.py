@@ -27,6 +27,11 @@ def drive(it, program, steps):
     draws(it, steps)
     keeps(it, program, steps)
     parts(it, program, steps)
+    it.go("#game=Kayles")
+    it.wait(lambda: it.text("h1").startswith("The game 0.77"))
+    steps.expect("a game has the address of its name", it.said("#verdict", "yes").startswith("yes 0.77"))
+    it.driver.back()
+    it.wait(lambda: it.text("h1").startswith("The game 0.07"))
     it.go("#game=0.123456")
     it.wait(lambda: it.text("h1") == "0.123456")
     link = it.one("main a").get_attribute("href")
@@ -37,13 +42,32 @@ def drive(it, program, steps):
 
 
 def asks(it, program, steps):
+    example = it.run("return document.querySelector('#heaps').value")
+    told = it.said("#answer", "N:", "P:")
+    steps.expect("its own example is answered", f"won by {program.move('0.77', example)}." in told, told)
     for position in ("2 1000000000000", "1", "1 1", "5 9 13"):
-        it.write("#heaps", position + Keys.ENTER)
+        told = answered(it, position)
         wanted = program.move("0.77", position)
-        told = it.said("#answer", "N:", "P:")
         holds = "P: lost" in told if wanted == "lost" else f"won by {wanted}." in told
         steps.expect(f"who wins {position}", holds, told)
-        it.run("document.querySelector('#answer').textContent = ''")
+    explains(it, steps)
+
+
+def answered(it, position):
+    """What is answered of a position, behind the answer that stands there."""
+    it.said("#answer", "N:", "P:", "no ")
+    it.run("document.querySelector('#answer').textContent = ''")
+    it.write("#heaps", position + Keys.ENTER)
+    return it.said("#answer", "N:", "P:", "no ")
+
+
+def explains(it, steps):
+    shown = lambda: [said.text for said in it.all(".explanation:not([hidden])")]
+    term = next(term for term in it.all(".facts .term") if term.text == "Kernel")
+    term.send_keys(Keys.ENTER)
+    steps.expect("a word is explained where it stands", [it[:15] for it in shown()] == ["The least ideal"], shown())
+    term.send_keys(Keys.ENTER)
+    steps.expect("and no more once it is asked for again", not shown())
 
 
 def draws(it, steps):
@@ -79,6 +103,5 @@ def parts(it, program, steps):
     steps.expect("a partial quotient has its last heap as an index", named == ["𝒬24(0.07)", "𝒫24"], named)
     steps.expect("and is told as one", said.startswith("yes 0.07 order 24 heaps 24") and it.text(".partial"))
     it.picture("partial")
-    it.write("#heaps", "25" + Keys.ENTER)
-    told = it.said("#answer", "no 23", "N:", "P:")
+    told = answered(it, "25")
     steps.expect("a heap of which it doesn't speak", told.startswith("no 23 Beyond"), told)

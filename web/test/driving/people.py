@@ -57,7 +57,7 @@ def drive(it, program, steps):
     it.emulate()
     prints(it, steps)
     tabs(it, steps)
-    keys(it, steps)
+    keys(it, program, steps)
     old(it, steps)
 
 
@@ -82,10 +82,10 @@ def tabs(it, steps):
         steps.expect(f"each control of {view} is reached by the keyboard", not unreached, unreached or f"{count} stops")
 
 
-def keys(it, steps):
+def keys(it, program, steps):
     """From the head of the page to a game, by the keyboard alone."""
     it.open()
-    it.wait(lambda: len(it.all(".list tbody tr")) == 796)
+    it.listed(program.counts.all)
     focus = "return document.activeElement.textContent"
     press = lambda key: it.driver.switch_to.active_element.send_keys(key)
     press(Keys.TAB)

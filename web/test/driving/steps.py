@@ -1,4 +1,5 @@
 """The steps of a drive, told one by one; and the program, with which answers are compared."""
+import functools
 import importlib
 import pathlib
 import subprocess
@@ -15,14 +16,38 @@ class Steps:
         print(f"{'ok  ' if holds else 'FAIL'} {self.where}: {name}", more, flush=True)
 
 
+class Counts:
+    """How many games and quotients the catalogues of the atlas have, as the program describes them."""
+
+    def __init__(self, program):
+        page = program.module("atlas_page").Page(program.root, program.file)
+        certificate_of = program.module("certificate_lines").certificate_of
+        firsts = [certificate_of(group[0].certificate) for group in page.groups]
+        monoids = [([list(row) for row in it.rows], list(it.portion)) for it in firsts]
+        full = [it for it in page.entries if not it.heaps]
+        self.all, self.quotients = len(page.entries), len(page.groups)
+        self.monoids = len(set(program.module("isomorphism").classes_of(monoids)))
+        self.kinds = {name: sum(it.kind.startswith(name) for it in full) for name in ("tame", "wild")}
+        self.short = sum(it.kind.startswith("tame") and int(it.words["period"]) < 20 for it in full)
+
+
 class Program:
     def __init__(self, root):
         self.root = pathlib.Path(root).resolve()
+        self.file = self.root / "crates/misere/out/misere"
+
+    @functools.cached_property
+    def counts(self):
+        return Counts(self)
+
+    def module(self, name):
+        """A module of scripts/ or of the page."""
+        sys.path[:0] = [it for it in (str(self.root / "scripts"), str(self.root / "web/page")) if it not in sys.path]
+        return importlib.import_module(name)
 
     def script(self, name):
         """A script of scripts/ as a module."""
-        sys.path.insert(0, str(self.root / "scripts"))
-        return importlib.import_module("script").load(self.root / "scripts" / name, name)
+        return self.module("script").load(self.root / "scripts" / name, name)
 
     def certificate(self, name):
         return self.root / f"certificates/{name}.mqc"
@@ -33,8 +58,7 @@ class Program:
 
     def told(self, *words):
         """What the program prints."""
-        program = self.root / "crates/misere/out/misere"
-        return subprocess.run([program, *words], capture_output=True, text=True, check=False).stdout.strip()
+        return subprocess.run([self.file, *words], capture_output=True, text=True, check=False).stdout.strip()
 
     def move(self, name, position):
         """The first winning move in a position, as the page writes it, or `lost`, or `ended`."""

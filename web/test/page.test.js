@@ -1,0 +1,186 @@
+/**
+ * What the page does by itself with what it holds: the texts of certificates, what is listed, addresses. No module and
+ * no browser are needed (test/quick).
+ */
+import assert from "node:assert/strict";
+import {readFileSync} from "node:fs";
+import path from "node:path";
+import process from "node:process";
+import test from "node:test";
+
+import {Atlas} from "../page/atlas.js";
+import {chosenOf, rowsOf, wordOf} from "../page/atlas/choosing.js";
+import {csvOf, jsonOf, listedOf} from "../page/atlas/listing.js";
+import {fieldsOf, lastHeap, nameOf, verdictOf} from "../page/certificate.js";
+import {certificateText} from "../page/certificate_text.js";
+import {codeOfName, GAME_NAMES, isCode} from "../page/codes.js";
+import {describedOf} from "../page/description.js";
+import {AIMS, soughtOf, soughtWord} from "../page/find/plan.js";
+import {heapsOfText} from "../page/positions.js";
+import {TERMS} from "../page/terms.js";
+
+import {atlas, printed, root, sample} from "./setup.js";
+
+const held = process.env.MISERE_ATLAS ?? path.join(root, "web/out/atlas.json");
+const made = new Atlas(JSON.parse(readFileSync(held, "utf8")));
+
+test("the texts that the page makes again are those of the catalogues", () => {
+  assert.equal(made.entries.length, atlas.length);
+  for (const {code, bytes} of atlas) assert.equal(made.text(code), new TextDecoder().decode(bytes), code);
+});
+
+/**
+ * What a page would hold of the powers of one element, with a heap for each.
+ * @param {number} order
+ * @param {number} heaps
+ */
+function powers(order, heaps) {
+  const phi = Array.from({length: heaps}, (_, at) => (at + 1) % order);
+  const row = Array.from({length: order}, (_, x) => (x + 1) % order);
+  return {
+    order,
+    start: heaps,
+    period: 1,
+    phi,
+    portion: [1],
+    generators: [[1, ...row]],
+    kind: "wild",
+    class: 0,
+    codes: []
+  };
+}
+
+test("a text in the third format leaves rows out, which are read all the same", () => {
+  for (const [order, heaps, format, said] of [[512, 3, 2, 512], [513, 3, 3, 3], [3, 1024, 1, 3], [3, 1025, 3, 2]]) {
+    const quotient = powers(order, heaps);
+    const text = certificateText("0.3", quotient);
+    assert.ok(text.startsWith(`mqc ${format}\ncode 0.3\norder ${order}\n`), text.slice(0, 40));
+    assert.equal(text.match(/^row /gm)?.length, said);
+    assert.equal(text.includes("\napart "), format !== 3);
+    const {table, phi} = fieldsOf(text);
+    const sums = table.map((_, x) => Array.from({length: order}, (_, y) => (x + y) % order));
+    assert.deepEqual(table, sums);
+    assert.deepEqual(phi, quotient.phi);
+  }
+});
+
+test("the verdict's line is the program's", () => {
+  for (const name of ["0.33", "0.77", "0.75_heaps_8"]) {
+    const certificate = fieldsOf(sample(name).toString());
+    assert.equal(verdictOf(certificate), printed("check", path.join(root, `certificates/${name}.mqc`)).trim());
+  }
+  assert.equal(nameOf(fieldsOf(sample("0.75_heaps_8").toString())), "0.75/8");
+});
+
+test("a description has all its parts, also with an index", () => {
+  const {letters, relations, portion, heaps, kind} =
+      describedOf("Q_3(0.33) = < a,b | a^2=1, b^3=b >\nP_3 = { a, b^2 }\norder 6 portion 2 tame 2\n0+ a b 1\n");
+  assert.deepEqual({letters, relations, portion, heaps, kind}, {
+    letters: ["a", "b"],
+    relations: ["a^2=1", "b^3=b"],
+    portion: ["a", "b^2"],
+    heaps: ["a", "b", "1"],
+    kind: "tame 2",
+  });
+});
+
+test("the last heap of a partial certificate", () => {
+  assert.equal(lastHeap({start: 9, period: 0}), 8);
+  assert.equal(lastHeap({start: 9, period: 2}), null);
+});
+
+/** The games that an address lists, row by row. */
+const listed = (/** @type {string} */ word) => rowsOf(made, chosenOf(word));
+
+test("as many games are listed as docs/ATLAS.md counts", () => {
+  const page = readFileSync(path.join(root, "docs/ATLAS.md"), "utf8");
+  const counts = (page.match(/^\| all \| (.*) \|$/m)?.[1] ?? "").split(" | ");
+  const words =
+      ["", "speaks=full", "speaks=full&kind=tame", "speaks=full&kind=wild", "speaks=partial", "each=quotient"];
+  assert.deepEqual(words.map((it) => listed(it).length), counts.map((it) => Number(it.replaceAll(",", ""))));
+  assert.equal(made.entries.length, atlas.length);
+});
+
+/** @type {[string, string, (entry: import("../page/atlas.js").Entry) => boolean][]} */
+const CHOICES = [
+  ["a beginning", "code=0.77", ({code}) => code.startsWith("0.77")],
+  ["digits anywhere", "code=77", ({code}) => code.includes("77")],
+  ["digits that are letters", "code=ff", ({code}) => code.includes("ff")],
+  ["a name", "code=kayles", ({code}) => ["0.77", "0.07"].includes(code)],
+  ["a name with its sign", "code=Dawson's c", ({code}) => code === "0.137"],
+  ["a period", "period=3", ({last, quotient}) => last === null && quotient.period === 3],
+  ["periods", "period=1-19", ({last, quotient}) => last === null && quotient.period < 20],
+  ["a tame index", "tame=2", ({tame}) => tame === 2],
+  ["tame indices", "tame=0-1", ({tame}) => tame !== null && tame <= 1],
+  ["orders", "order=20-36", ({order}) => order >= 20 && order <= 36],
+];
+
+test("games are chosen by what the fields say", async (t) => {
+  for (const [name, word, holds] of CHOICES) {
+    await t.test(name, () => {
+      const codes = listed(word).map(([{code}]) => code);
+      assert.deepEqual(codes, made.entries.filter(holds).map(({code}) => code));
+      assert.ok(codes.length > 0 && codes.length < made.entries.length);
+      assert.deepEqual(chosenOf(wordOf(chosenOf(word)).slice(1)), chosenOf(word));
+    });
+  }
+});
+
+/** The fields of a line of CSV in which no field has a comma. */
+const fieldsOfLine = (/** @type {string} */ line) => line.split(",");
+
+test("what is listed is saved, as CSV and as JSON", () => {
+  const names = ["code", "name", "order", "portion", "start", "period", "last_heap", "tame", "same"];
+  for (const word of ["", "code=0.0", "each=quotient&kind=wild", "each=monoid", "code=none"]) {
+    const rows = listed(word), data = listedOf(rows);
+    assert.deepEqual(JSON.parse(jsonOf(data)), data);
+    assert.deepEqual(data.map(({code, same}) => [code, ...same]), rows.map((row) => row.map(({code}) => code)));
+    const [head, ...lines] = csvOf(data).trimEnd().split("\r\n").map(fieldsOfLine);
+    assert.deepEqual(head, names);
+    const told = data.map((it) => Object.values({...it, same: it.same.join(" ")}).map((value) => String(value ?? "")));
+    assert.deepEqual(lines, told);
+  }
+  const quoted = csvOf([{...listedOf(listed("code=0.77"))[0], name: "a \"b\", c"}]);
+  assert.match(quoted, /^0\.77,"a ""b"", c",40,/m);
+});
+
+test("a row is told by its numbers", () => {
+  const {same, ...kayles} = listedOf(listed("code=kayles"))[1];
+  assert.deepEqual(kayles, {
+    code: "0.77",
+    name: "Kayles",
+    order: 40,
+    portion: fieldsOf(sample("0.77").toString()).portion.size,
+    start: 71,
+    period: 12,
+    last_heap: null,
+    tame: null,
+  });
+  const {start, period, last_heap} = listedOf(listed("code=0.07"))[0];
+  assert.deepEqual({start, period, last_heap}, {start: null, period: null, last_heap: 24});
+});
+
+test("a name is that of a code", () => {
+  for (const [code, name] of GAME_NAMES) {
+    assert.ok(isCode(code));
+    for (const said of [name, name.toLowerCase(), name.replace("’", "'")]) assert.equal(codeOfName(said), code);
+  }
+  assert.deepEqual(["0.77", "0.123456", "nothing", ""].map(codeOfName), ["0.77", "0.123456", "nothing", ""]);
+});
+
+test("an address of a search says what is sought", () => {
+  for (const word of ["0.75", "0.75/8", "0.07:deep", "0.07:furthest:64", "0.07:whole"])
+    assert.equal(soughtWord(soughtOf(word)), word);
+  assert.deepEqual(soughtOf("Kayles:deep"), {code: "0.77", aim: "deep", number: 0});
+  assert.deepEqual(AIMS.partial.steps(33).at(-1)?.search, {aim: "part", heaps: 33, order: 4096});
+});
+
+test("a position is a list of heaps", () => {
+  assert.deepEqual(heapsOfText("2, 5+7 0"), [2n, 5n, 7n]);
+  assert.deepEqual(heapsOfText("1000000000000000000"), [10n ** 18n]);
+  for (const none of ["1000000000000000001", "-1", "2.5", "two"]) assert.equal(heapsOfText(none), null);
+});
+
+test("each explanation is told in sentences", () => {
+  for (const [term, text] of Object.entries(TERMS)) assert.match(text, /^[A-Z].*\.$/su, term);
+});
