@@ -18,9 +18,10 @@ def roff(text: str) -> str:
 
 
 def from_markdown(text: str) -> str:
-    """A cell of a table, without its links, with code and strong words in bold."""
+    """A cell of a table, without its links, with code and strong words in bold, and with terms in italics."""
     text = re.sub(r"\[([^\]]*)\]\([^)]*\)", r"\1", text).replace("<sup>", "^").replace("</sup>", "")
-    return re.sub(r"`([^`]*)`|\*\*(.*?)\*\*", lambda it: f"\\fB{it[1] or it[2]}\\fR", roff(text))
+    text = re.sub(r"`([^`]*)`|\*\*(.*?)\*\*", lambda it: f"\\fB{it[1] or it[2]}\\fR", roff(text))
+    return re.sub(r"\*(\w[^*]*)\*", r"\\fI\1\\fR", text)
 
 
 def sentence(text: str) -> str:
@@ -64,6 +65,34 @@ def of_command(name: str, command: Command) -> Iterator[str]:
         yield from (".RS", ".PP", ".nf", *(f"\\&{roff(line)}" for line in command.notes.splitlines()), ".fi", ".RE")
 
 
+# Where things stand once they are installed. (A tarball has share/, and scripts/install the share/ of its prefix, in
+# the place of /usr/share/.)
+FILES = {
+    "/usr/share/misere/certificates": "Certificates of some games, and in the folder refused such as are refused.",
+    "/usr/share/misere/atlas": "The catalogues octal.json and hexadecimal.json of small games.",
+    "/usr/share/misere/misere.html": "A page for browsers that shows these games, plays and checks, in one file.",
+    "/usr/share/misere/scripts": "Scripts that search many codes, survey, merge, codes and survey_table, for Python 3.",
+    "/usr/share/doc/misere": "The pages: README.md, docs/TUTORIAL.md to begin with, and the licences.",
+}
+EXAMPLES = {
+    "misere solve 0.33 > own.mqc": "Find the quotient of a game, and keep its certificate.",
+    "misere check own.mqc": "Have the certificate checked.",
+    "misere solve 0.77 --deep | misere describe": "Find that of Kayles, and print it by generators and relations.",
+    'misere play own.mqc "2 1000000000000"': "Print the first winning move in a position.",
+    "misere catalogue /usr/share/misere/atlas/octal.json --get 0.77": "Print a certificate of the atlas.",
+}
+SEE_ALSO = (
+    "/usr/share/doc/misere/docs/TUTORIAL.md tells what misère quotients are, MESSAGES.md beside it each printed line.",
+    "T. E. Plambeck and A. N. Siegel, Misère quotients for impartial games, "
+    "Journal of Combinatorial Theory A 115 (2008).",
+)
+
+
+def paragraphs(rows: dict[str, str]) -> Iterator[str]:
+    for name, about in rows.items():
+        yield from (".TP", f"\\fB{roff(name)}\\fR", roff(about))
+
+
 def page(top: Command, commands: Commands, version: str) -> str:
     lines = [
         f'.TH MISERE 1 "" "{version}"',
@@ -83,4 +112,6 @@ def page(top: Command, commands: Commands, version: str) -> str:
     said = list(messages())
     lines += [".SH WHAT THE PROGRAM SAYS", *said] if said else []
     lines += [".SH EXIT STATUS", "0 for yes or done, 1 for no, 2 for usage, 3 where a device failed or memory ran out."]
+    lines += [".SH FILES", *paragraphs(FILES), ".SH EXAMPLES", *paragraphs(EXAMPLES)]
+    lines += [".SH SEE ALSO", *(line for text in SEE_ALSO for line in (".PP", roff(text)))]
     return "\n".join(lines) + "\n"

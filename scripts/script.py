@@ -12,7 +12,9 @@ from collections.abc import Callable
 from typing import Any
 
 root = pathlib.Path(__file__).resolve().parent.parent
-BUILT = root / "crates/misere/out/misere"
+# The program that is built here; where scripts are installed, as in /usr/share/misere/scripts, that of their prefix
+IS_INSTALLED = not (root / "crates").is_dir()
+BUILT = root.parent.parent / "bin/misere" if IS_INSTALLED else root / "crates/misere/out/misere"
 
 
 def parser_of(text: str, name: str, program: bool = True) -> argparse.ArgumentParser:
@@ -24,7 +26,8 @@ def parser_of(text: str, name: str, program: bool = True) -> argparse.ArgumentPa
         allow_abbrev=False,
     )
     if program:
-        parser.add_argument("--program", type=pathlib.Path, default=BUILT, help="by default the one that is built here")
+        which = "installed" if IS_INSTALLED else "built here"
+        parser.add_argument("--program", type=pathlib.Path, default=BUILT, help=f"by default the one that is {which}")
     return parser
 
 

@@ -15,6 +15,7 @@ from typing import Any, NoReturn
 
 here = pathlib.Path(__file__).resolve().parent.parent
 LIBRARY = "libmisere.so.1"
+LICENCES = ("LICENSE-MIT", "LICENSE-APACHE")
 # The oldest C library for which Debian's pip and others look by this name
 OLDEST_GLIBC = 17
 EARLIEST_TIME = 315532800
@@ -25,6 +26,11 @@ Name: misere
 Version: {version}
 Summary: Certified misère quotients of octal and hexadecimal games, by a proved library
 Keywords: combinatorial games,misère quotients,octal games,formal verification
+License: MIT OR Apache-2.0
+License-File: LICENSE-MIT
+License-File: LICENSE-APACHE
+Classifier: License :: OSI Approved :: MIT License
+Classifier: License :: OSI Approved :: Apache Software License
 Classifier: Intended Audience :: Science/Research
 Classifier: Operating System :: POSIX :: Linux
 Classifier: Programming Language :: Python :: 3
@@ -72,9 +78,11 @@ def files_of(version: str, tag: str) -> dict[str, bytes]:
     files = {f"misere/{it.name}": it.read_bytes() for it in sorted((here / "misere").iterdir()) if it.is_file()}
     files[f"misere/{LIBRARY}"] = (here / LIBRARY).read_bytes()
     files["misere/VERSION"] = (here.parent / "VERSION").read_bytes()
+    files.update({f"misere/atlas/{it.name}": it.read_bytes() for it in sorted((here.parent / "atlas").glob("*.json"))})
     about = f"misere-{version}.dist-info"
     metadata = METADATA.format(version=version, description=(here / "README.md").read_text())
     files[f"{about}/METADATA"] = metadata.encode()
+    files.update({f"{about}/{name}": (here.parent / name).read_bytes() for name in LICENCES})
     files[f"{about}/WHEEL"] = WHEEL.format(tag=tag).encode()
     record = [f"{place},sha256={_sum(text)},{len(text)}\n" for place, text in files.items()]
     files[f"{about}/RECORD"] = "".join([*record, f"{about}/RECORD,,\n"]).encode()

@@ -13,7 +13,7 @@ export PKG_CONFIG_PATH="$prefix/lib/pkgconfig"
 # C, over the shared library and over the archive
 flags=$(pkg-config --cflags --libs misere)
 # shellcheck disable=SC2086
-cc "$library/example.c" $flags -Wl,-rpath,"$prefix/lib" -o shared
+cc "$library/example.c" $flags -o shared
 # shellcheck disable=SC2086
 cc "$library/example.c" $flags -static -o static
 for tool in ./shared ./static; do
@@ -25,6 +25,7 @@ folder=$(cd "$prefix"/lib/python*/*-packages && pwd)
 grep -q "set PYTHONPATH=$folder" said
 PYTHONPATH=$folder "${PYTHON:-python3}" -B -c 'import misere
 assert misere.solve("0.33").outcome([2, 10**12]) == "N" and misere.__version__ != "unknown"
+assert misere.Catalogue()["Kayles"].code == "0.77"
 assert misere._library.library._name.endswith("/prefix/lib/libmisere.so.1")'
 
 # Rust, by pkg-config

@@ -30,6 +30,10 @@ class Wheel(unittest.TestCase):
         self.assertEqual(files["misere/libmisere.so.1"], (top / "library/libmisere.so.1").read_bytes())
         for file in (top / "library/misere").glob("*.*"):
             self.assertEqual(files[f"misere/{file.name}"], file.read_bytes())
+        for name in ("octal.json", "hexadecimal.json"):
+            self.assertEqual(files[f"misere/atlas/{name}"], (top / "atlas" / name).read_bytes())
+        licences = {place.rpartition("/")[2]: text for place, text in files.items() if "LICENSE-" in place}
+        self.assertEqual(licences, {name: (top / name).read_bytes() for name in ("LICENSE-MIT", "LICENSE-APACHE")})
         record = next(place for place in files if place.endswith("/RECORD"))
         listed = [line.split(",") for line in files[record].decode().splitlines()]
         self.assertEqual([place for place, _, _ in listed], list(files))
