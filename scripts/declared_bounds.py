@@ -23,7 +23,11 @@ PLACES = {
 # Each bound: the constants of the crates that are it, and its name in each language, or none where it isn't needed
 BOUNDS: list[tuple[dict[str, str], tuple[str, str, str, str]]] = [
     (
-        {"certificate_text/src/lib": "LONGEST_TEXT", "verdict_texts/src/stream": "MOST_BYTES", "command_results/src/lines": "LARGEST_INPUT"},
+        {
+            "certificate_text/src/lib": "LONGEST_TEXT",
+            "verdict_texts/src/stream": "MOST_BYTES",
+            "command_results/src/lines": "LARGEST_INPUT",
+        },
         ("MOST", "MOST_BYTES", "MOST_BYTES", "MOST"),
     ),
     ({"requests/src/ranges": "DEFAULT_LIMIT"}, ("LIMIT", "LIMIT", "LIMIT", "LIMIT")),
@@ -58,7 +62,7 @@ def value_of(text: str, others: str) -> int | None:
         if not found:
             return None
         text = re.sub(rf"\b{name}\b", f"({value_of(found[1], others)})", text)
-    text = re.sub(r" as \w+", "", re.sub(NUMBER, lambda it: it[1].replace("_", ""), text))
+    text = re.sub(r" as \w+", "", re.sub(NUMBER, lambda it: str(it[1]).replace("_", ""), text))
     return int(eval(text)) if re.fullmatch(SUM, text) else None  # (digits and signs alone)
 
 
