@@ -52,7 +52,7 @@ export const STATUSES = {
   17: "NotOpen",
   23: "Beyond",
 };
-const [OUTCOME, MEMORY, NOT_A_HEAP, NO_ROOM, NOT_IN_RANGE] = [7, 9, 10, 14, 15];
+const [OUTCOME, MEMORY, NOT_A_HEAP, GAVE_UP, NO_ROOM, NOT_IN_RANGE] = [7, 9, 10, 13, 14, 15];
 
 /**
  * What each call is given, as the crates declare it (scripts/calls_stand compares). A slice is passed as a pointer and
@@ -69,6 +69,7 @@ const CALLS = {
   misere_answers: ["&[u8]", "u32", "&[u64]", "&[u64]", "&mut [MisereAnswer]"],
   misere_failure: ["&[u8]", "u32", "&mut [u64]", "&mut u64"],
   misere_solve: ["&[u8]", "u32", "u32", "u32", "u32", "u32", "&mut [u8]", "&mut u64"],
+  misere_solve_why: ["&[u8]", "u32", "u32", "u32", "u32", "u32", "&mut [u8]", "&mut u64"],
   misere_describe: ["&[u8]", "u32", "u32", "u32", "&mut [u8]", "&mut u64"],
 };
 /** The fields of a MisereAnswer, each a number of 64 bits. */
@@ -95,13 +96,15 @@ export class Refused extends Error {
   /**
    * @param {number} status
    * @param {bigint[] | null} heaps the position at which the rule of the code's game fails, where one is told
+   * @param {string} why why a search was given up, as `misere solve CODE --why` prints it, such as `no period 24 24`
    */
-  constructor(status, heaps = null) {
+  constructor(status, heaps = null, why = "") {
     const name = STATUSES[/** @type {keyof STATUSES} */ (status)] ?? "Unknown";
-    super(`${status} ${name}` + (heaps ? ` at [${heaps.join(", ")}]` : ""));
+    super(`${status} ${name}` + (heaps ? ` at [${heaps.join(", ")}]` : "") + (why ? `: ${why}` : ""));
     this.name = "Refused";
     this.status = status;
     this.heaps = heaps;
+    this.why = why;
   }
 }
 
@@ -283,13 +286,14 @@ export class Misere {
   }
 
   /**
-   * Looks for a quotient of the game of a code, and tells the text of its certificate, which is accepted.
+   * Looks for a quotient of the game of a code, and tells the text of its certificate, which is accepted. Where the
+   * search is given up, `why` of the refusal says for which reason.
    * @param {string} code
    * @param {Search} search
    */
   solve(code, {aim = "whole", heaps = HEAPS, order = ELEMENTS, rounds = ROUNDS, limit = LIMIT} = {}) {
     const bounds = [limit, rounds, AIMS.indexOf(aim), heaps, order].map(bounded);
-    return this.#text("misere_solve", [new TextEncoder().encode(code), ...bounds], MOST);
+    return this.#text("misere_solve_why", [new TextEncoder().encode(code), ...bounds], MOST);
   }
 
   /** The bytes of the heap that are taken, that ever were at most, and those of the whole memory. */
@@ -395,7 +399,10 @@ export class Misere {
     const status = this.#call(name, ...words, told, count);
     const length = Number(count[0]);
     if (status === NO_ROOM && length > room) return this.#text(name, words, length);
+    const text = new TextDecoder().decode(told.subarray(0, length));
+    // (of a search that was given up the second line says why)
+    if (status === GAVE_UP) throw new Refused(status, null, text.split("\n")[1]);
     if (status) throw new Refused(status);
-    return new TextDecoder().decode(told.subarray(0, length));
+    return text;
   }
 }

@@ -4,8 +4,9 @@
     atlas.py ROOT TO.json [PROGRAM]
 
 ROOT is the project, with its program built, if no other is named: `misere describe` says which quotients are tame, and
-which elements generate. A certificate stands here as its heaps, its portion and the rows of its generators, out of which
-the page makes all of its lines again (certificate_text.js). Nothing is believed of that: the page has each text checked.
+which elements generate. A certificate stands here as its heaps, its portion and the rows of its generators, out of
+which the page makes all of its lines again (certificate_text.js). Nothing is believed of that: the page has each text
+checked.
 """
 import json
 import pathlib

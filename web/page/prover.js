@@ -11,12 +11,14 @@ export class Failure extends Error {
    * @param {string} message
    * @param {number} [status]
    * @param {bigint[] | null} heaps the position at which a rule fails
+   * @param {string} why why a search was given up
    */
-  constructor(kind, message, status, heaps = null) {
+  constructor(kind, message, status, heaps = null, why = "") {
     super(message);
     this.kind = kind;
     this.status = status;
     this.heaps = heaps;
+    this.why = why;
   }
 }
 
@@ -95,8 +97,8 @@ export class Prover {
   }
 
   /**
-   * @param {{id: number, answer: any, time: number, failure?: {message: string, status?: number, heaps?: bigint[]}}}
-   *     told
+   * @param {{id: number, answer: any, time: number,
+   *     failure?: {message: string, status?: number, heaps?: bigint[], why?: string}}} told
    */
   #hear({id, answer, time, failure}) {
     const asker = this.#askers.get(id);
@@ -104,7 +106,7 @@ export class Prover {
     if (!failure)
       asker?.done({answer, time});
     else if (failure.status)
-      asker?.failed(new Failure("refused", failure.message, failure.status, failure.heaps));
+      asker?.failed(new Failure("refused", failure.message, failure.status, failure.heaps, failure.why));
     else
       asker?.failed(new Failure("failed", failure.message));
   }

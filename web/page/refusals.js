@@ -25,6 +25,27 @@ const REASONS = {
 };
 const MEMORY = 9;
 
+/** @type {[RegExp, string][]} */
+const SEARCHES = [
+  [/^too large (\d+)$/, "since up to heap $1 there are more elements than are allowed"],
+  [/^repairs (\d+) (\d+)$/, "since with heap $1 the rule failed, and no repair came to something better"],
+  [/^work (\d+) (\d+)$/, "since at heap $1 it had done or kept as much as it may"],
+  [/^no period (\d+) (\d+)$/, "since $1 heaps, with $2 elements, show no period that goes on"],
+  [/^one element$/, "since all these heaps have one element, and a certificate has two at least"],
+  [/^members$/, "since the check of the likeliest guess met the limit"],
+  [/^rounds$/, "since as many guesses were made as are allowed"],
+  [/^refused$/, "since the likeliest guess was refused"],
+];
+
+/**
+ * Why a search was given up, in words.
+ * @param {string} why as `misere solve CODE --why` prints it
+ */
+export function reasonOf(why) {
+  const [pattern, words] = SEARCHES.find(([pattern]) => pattern.test(why)) ?? [/^.*$/, "$&"];
+  return why.replace(pattern, words);
+}
+
 /**
  * Whether a failure is the checker's no.
  * @param {unknown} failure

@@ -28,7 +28,7 @@ self.onmessage = ({data}) => {
     self.postMessage({id, answer, time: performance.now() - begin});
   } catch (failure) {
     const {message} = /** @type {Error} */ (failure);
-    const refusal = failure instanceof Refused ? {status: failure.status, heaps: failure.heaps} : {};
+    const refusal = failure instanceof Refused ? {status: failure.status, heaps: failure.heaps, why: failure.why} : {};
     self.postMessage({id, failure: {message, ...refusal}});
   }
 };

@@ -200,6 +200,18 @@ test("searches: the bytes that are found", async (t) => {
   }
 });
 
+test("searches that are given up: for which reason", async (t) => {
+  for (const [code, search, words] of /** @type {[string, import("../calls.js").Search, string[]][]} */ ([
+         ["0.77", {}, []],
+         ["0.6", {}, []],
+         ["0.07", {rounds: 1}, ["--rounds", "1"]],
+         ["0.33", {limit: 5}, ["--limit", "5"]],
+       ])) {
+    const why = printed("solve", code, ...words, "--why").split("\n")[1];
+    await t.test(`${code}: ${why}`, () => assert.throws(() => misere.solve(code, search), {status: 13, why}));
+  }
+});
+
 const kayles = sample("0.77");
 /** @type {[string, () => unknown, number][]} */
 const REFUSALS = [

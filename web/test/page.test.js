@@ -17,6 +17,7 @@ import {codeOfName, GAME_NAMES, isCode} from "../page/codes.js";
 import {describedOf} from "../page/description.js";
 import {AIMS, soughtOf, soughtWord} from "../page/find/plan.js";
 import {heapsOfText} from "../page/positions.js";
+import {reasonOf} from "../page/refusals.js";
 import {TERMS} from "../page/terms.js";
 
 import {atlas, printed, root, sample} from "./setup.js";
@@ -179,6 +180,15 @@ test("a position is a list of heaps", () => {
   assert.deepEqual(heapsOfText("2, 5+7 0"), [2n, 5n, 7n]);
   assert.deepEqual(heapsOfText("1000000000000000000"), [10n ** 18n]);
   for (const none of ["1000000000000000001", "-1", "2.5", "two"]) assert.equal(heapsOfText(none), null);
+});
+
+test("the reason of a search is told in words", () => {
+  const page = readFileSync(path.join(root, "docs/MESSAGES.md"), "utf8").split("### Reasons")[1].split("```")[0];
+  const reasons = [...page.matchAll(/^\| `([^`]+)` \|/gm)].map(([, it]) => it.replace(/[A-Z]+/g, "24"));
+  assert.ok(reasons.length > 5);
+  for (const reason of reasons) assert.match(reasonOf(reason), /^since /, reason);
+  assert.equal(reasonOf("no period 24 40"), "since 24 heaps, with 40 elements, show no period that goes on");
+  assert.equal(reasonOf("a new reason"), "a new reason");
 });
 
 test("each explanation is told in sentences", () => {

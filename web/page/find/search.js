@@ -4,7 +4,7 @@ import {gameAddress} from "../address.js";
 import {fieldsOf, verdictOf} from "../certificate.js";
 import {fill, make} from "../dom.js";
 import {Failure} from "../prover.js";
-import {told} from "../refusals.js";
+import {reasonOf, told} from "../refusals.js";
 
 import {AIMS} from "./plan.js";
 
@@ -56,7 +56,7 @@ async function tried(page, code, {name, search}, line) {
   } catch (failure) {
     const gaveUp = failure instanceof Failure && failure.status === GAVE_UP;
     line.className = "missed";
-    fill(line, `${name}: ${gaveUp ? `nothing found in ${seconds()} s` : told(failure)}`);
+    fill(line, `${name}: ${gaveUp ? `nothing found in ${seconds()} s, ${reasonOf(failure.why)}` : told(failure)}`);
     return {text: null, isLast: !gaveUp};
   } finally {
     clearInterval(timer);
