@@ -52,7 +52,7 @@ function linkOf(code) {
 /** @param {string} code */
 function nameOf(code) {
   const name = GAME_NAMES.get(code);
-  return name && make("span", {class: "soft name"}, ` ${name}`);
+  return name && make("span", {class: "soft known"}, ` ${name}`);
 }
 
 /** @param {Entry} entry */
