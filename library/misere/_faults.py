@@ -111,6 +111,10 @@ class Beyond(MisereError, ValueError):
 class Absent(MisereError, KeyError):
     """A catalogue has no entry of that code. The number is 0, as no call was asked."""
 
+    def __init__(self, number: int, said: str | None = None, position: list[int] | None = None) -> None:
+        super().__init__(number, said, position)
+        self.name = "Absent"
+
     def __str__(self) -> str:
         return self.said
 
