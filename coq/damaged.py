@@ -1,0 +1,46 @@
+"""Two hundred wrong certificates: samples in which one line is changed, each line of them in turn."""
+
+from __future__ import annotations
+
+import re
+from collections.abc import Iterator
+
+from theorems import Text
+from script import root
+
+SAMPLES = ("0.33", "0.75", "0.75_heaps_8", "0.b", "0.77", "0.71")
+COUNT = 200
+
+
+def bumped(line: str, at: int) -> str:
+    """The line with one of its numbers, chosen by `at`, one larger."""
+    numbers = list(re.finditer(r"\d+", line))
+    if not numbers:
+        return line + " 0"
+    number = numbers[at % len(numbers)]
+    return line[: number.start()] + str(int(number[0]) + 1) + line[number.end() :]
+
+
+def changes(lines: list[str], at: int) -> Iterator[list[str]]:
+    """The lines with number `at` changed in some ways: a number one larger, a number lost, the line lost."""
+    before, line, after = lines[:at], lines[at], lines[at + 1 :]
+    yield [*before, bumped(line, at), *after]
+    yield [*before, *after]
+    if " " in line:
+        yield [*before, line.rsplit(" ", 1)[0], *after]
+
+
+def damaged_texts() -> list[Text]:
+    made: list[Text] = []
+    rounds = [
+        [list(changes(lines, at)) for at in range(len(lines))]
+        for lines in ((root / f"certificates/{name}.mqc").read_text().splitlines() for name in SAMPLES)
+    ]
+    for way in range(3):
+        for name, lines in zip(SAMPLES, rounds):
+            for at, ways in enumerate(lines):
+                if way < len(ways) and len(made) < COUNT:
+                    text = "\n".join(ways[way]) + "\n"
+                    told = re.sub(r"\W", "_", name) + f"_line_{at + 1}_{way}"
+                    made.append(Text(told, text.encode(), False))
+    return made

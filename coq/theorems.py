@@ -1,0 +1,150 @@
+"""Coq files with a theorem about the bytes of each certificate, and what Coq says of them.
+
+Nothing of this is trusted: the bytes, the code and the heaps of which it speaks stand in each theorem, and Coq refuses
+one that isn't so.
+"""
+
+from __future__ import annotations
+
+import dataclasses
+import json
+import pathlib
+import re
+import resource
+import subprocess
+import sys
+from collections.abc import Iterable, Iterator
+
+here = pathlib.Path(__file__).resolve().parent
+sys.path.insert(0, str(here.parent / "scripts"))
+
+HEAD = "From Ravenargent Require Import Main.\nOpen Scope N_scope.\n"
+CLOSED = "Closed under the global context"
+
+
+@dataclasses.dataclass(frozen=True)
+class Text:
+    """A text, the name that it has in Coq, and whether the theorem is that it is accepted, or that it is refused."""
+
+    name: str
+    text: bytes
+    right: bool = True
+
+    @property
+    def theorem(self) -> str:
+        return ("quotient_of_" if self.right else "refused_") + self.name
+
+    def line(self, name: str, otherwise: str) -> str:
+        found = re.search(rf"^{name} (.*)$", self.text.decode("latin-1"), re.M)
+        return found[1].strip() if found else otherwise
+
+    @property
+    def code(self) -> str:
+        return self.line("code", "")
+
+    @property
+    def last_heap(self) -> int:
+        """0 for a full certificate."""
+        start, period = self.line("start", "0"), self.line("period", "1")
+        return int(start) - 1 if period == "0" and start.isdecimal() else 0
+
+    def source(self) -> str:
+        """The text as Coq has it, and the theorem."""
+        text = f"\nDefinition text_of_{self.name} : text := {literal(self.text)}.\n\n"
+        if not self.right:
+            said = f"Theorem {self.theorem} : accepts text_of_{self.name} = false.\n"
+            return text + said + "Proof. vm_cast_no_check (eq_refl false). Time Qed.\n"
+        kind = f"(UpTo {self.last_heap})" if self.last_heap else "Whole"
+        digits = "; ".join(str(int(digit, 16)) for digit in re.sub(r"[^0-9a-f]", "", self.code))
+        said = f"Theorem {self.theorem} : certifies text_of_{self.name} {kind} [{digits}].\n"
+        return text + said + "Proof. apply check_sound. vm_cast_no_check (eq_refl true). Time Qed.\n"
+
+
+def literal(text: bytes) -> str:
+    """A literal of Coq; byte by byte where some byte is neither LF nor printable ASCII."""
+    if all(byte == 10 or 32 <= byte < 127 for byte in text):
+        return '"' + text.decode().replace('"', '""') + '"%text'
+    return "text_of_bytes [" + "; ".join(f"x{byte:02x}" for byte in text) + "]"
+
+
+def name_of(code: str, last_heap: int, tail: str = "") -> str:
+    return re.sub(r"\W", "_", code) + (f"_heaps_{last_heap}" if last_heap else "") + tail
+
+
+def certificate(text: bytes) -> Text:
+    it = Text("", text)
+    return Text(name_of(it.code, it.last_heap), text)
+
+
+def in_folder(folder: pathlib.Path, right: bool) -> list[Text]:
+    """The texts of a folder by the names of their files."""
+    return [
+        Text(re.sub(r"\W", "_", file.stem), file.read_bytes(), right)
+        for file in sorted(folder.iterdir())
+        if file.suffix == ".mqc"
+    ]
+
+
+def in_catalogue(file: pathlib.Path) -> list[Text]:
+    entries = json.loads(file.read_text())["entries"]
+    return [certificate(entry["certificate"].encode()) for entry in entries]
+
+
+def source_of(texts: Iterable[Text]) -> str:
+    """A file with the theorems of these texts, at whose end Coq says which axioms they stand on."""
+    texts = list(texts)
+    all_of_them = ",\n  ".join(it.theorem for it in texts)
+    told = f"\nDefinition all_of_them := ({all_of_them}).\nPrint Assumptions all_of_them.\n"
+    return HEAD + "".join(it.source() for it in texts) + told
+
+
+def batches(texts: Iterable[Text], size: int) -> Iterator[list[Text]]:
+    """Texts in turn, about so many bytes together."""
+    batch: list[Text] = []
+    for it in texts:
+        if batch and sum(len(other.text) for other in batch) + len(it.text) > size:
+            yield batch
+            batch = []
+        batch.append(it)
+    if batch:
+        yield batch
+
+
+@dataclasses.dataclass(frozen=True)
+class Said:
+    """What coqc said of a file: its status, its lines, and the seconds of each Qed."""
+
+    status: int
+    lines: str
+    seconds: list[float]
+
+    @property
+    def is_closed(self) -> bool:
+        return self.status == 0 and CLOSED in self.lines
+
+
+def grow_stack() -> None:
+    """As much stack as the system gives: Coq reads long literals by recursion."""
+    hard = resource.getrlimit(resource.RLIMIT_STACK)[1]
+    resource.setrlimit(resource.RLIMIT_STACK, (hard, hard))
+
+
+def compile_file(file: pathlib.Path) -> Said:
+    words = ["coqc", "-q", "-Q", str(here), "Ravenargent", file.name]
+    run = subprocess.run(
+        words, cwd=file.parent, text=True, stdout=subprocess.PIPE, stderr=subprocess.STDOUT, preexec_fn=grow_stack
+    )
+    times = re.findall(r"^Finished transaction in [\d.]+ secs \(([\d.]+)u", run.stdout, re.M)
+    return Said(run.returncode, run.stdout, [float(time) for time in times])
+
+
+def prove(name: str, texts: list[Text], folder: pathlib.Path) -> Said:
+    """Writes a file of this name with the theorems of some texts, and has Coq prove it."""
+    folder.mkdir(parents=True, exist_ok=True)
+    file = folder / f"{name}.v"
+    file.write_text(source_of(texts))
+    said = compile_file(file)
+    for tail in (".vo", ".vok", ".vos", ".glob"):
+        file.with_suffix(tail).unlink(missing_ok=True)
+    (folder / f".{name}.aux").unlink(missing_ok=True)
+    return said
