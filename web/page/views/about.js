@@ -16,6 +16,7 @@ const PROVED = [
   "The relations, words, units, idempotents and kernel of a description are those of the certified quotient. The " +
       "outcome of a position, its element and its first winning move are true.",
   "What the finder hands out is accepted by the checker. Where it finds nothing, nothing is proved.",
+  "For each certificate of the atlas Coq, another prover, has proved the same, without axioms; the page doesn’t run it.",
 ];
 
 const TRUSTED = [
