@@ -1,7 +1,7 @@
 -- What is tested of a claim with counters, in numbers: heaps, changes, points (the counts at which
 -- states are tried), places and cells are numbered, and the tables say what they come to. This
 -- project's own.
-use Rattle.std.specs.Prelude.{◌≡◌, ℕ, ◌+◌, ◌*◌, ◌<◌, ◌⊎◌, Bool, true, false, List, slice_index, slice_index_or}
+use Rattle.std.specs.Prelude.{◌≡◌, ℕ, ◌+◌, ◌*◌, ◌<◌, ◌≤◌, ◌⊎◌, nat_lt, ◌&&◌, Bool, true, false, List, slice_index, slice_index_or}
 
 -- Entry y of row x, the rows being so wide and lying one after another.
 abbrev pub entry : List ℕ → ℕ → ℕ → ℕ → ℕ
@@ -10,11 +10,12 @@ entry xs width x y = slice_index xs (x * width + y)
 abbrev pub is_marked : List Bool → ℕ → ℕ → ℕ → Bool
 is_marked xs width x y = slice_index_or xs (x * width + y) false
 
--- How many elements, changes, heaps, points and places there are; the products; of each heap its
--- element, and which elements with which changes its options have; of each point its place, and the
--- place with a heap more; which elements are possible at which points; the region, by cells; the
--- cells of a point, behind a change, with a heap more, and behind a change then; and the place of
--- the empty position.
+-- How many elements, changes, heaps, points, places and cells there are; the products; of each heap its
+-- element; the options of all heaps, of each the element and the change, those of heap i from number
+-- `first` i on up to that of the next heap; of each point its place, and the place with a heap more;
+-- which elements can be at which places; the region, by cells; the cells of a point, behind a change,
+-- with a heap more, and behind a change then; and the place of the empty position. A cell that isn't
+-- below their number is in no region.
 pub record Tables : Type 0 where
   pub order : ℕ
   pub changes : ℕ
@@ -24,10 +25,12 @@ pub record Tables : Type 0 where
   pub cells : ℕ
   pub rows : List ℕ
   pub phi : List ℕ
-  pub made : List Bool
+  pub first : List ℕ
+  pub option_elements : List ℕ
+  pub option_changes : List ℕ
   pub place_of : List ℕ
   pub onward : List ℕ
-  pub likely : List Bool
+  pub reach : List Bool
   pub region : List Bool
   pub here : List ℕ
   pub changed : List ℕ
@@ -35,139 +38,165 @@ pub record Tables : Type 0 where
   pub both : List ℕ
   pub start : ℕ
 
--- Kept states: the element, the place, and which elements with which changes the options have.
-pub record Kept : Type 0 where
+-- KeptPairs pairs, each with places: of each pair the element; the options of all pairs, of each the element and
+-- the change, those of pair p from number `first` p on up to that of the next pair; and at which places
+-- it is. A pair at one of its places is a state.
+pub record KeptPairs : Type 0 where
   pub count : ℕ
   pub values : List ℕ
-  pub places : List ℕ
-  pub options : List Bool
+  pub first : List ℕ
+  pub elements : List ℕ
+  pub changes : List ℕ
+  pub places : List Bool
 
 abbrev pub times : Tables → ℕ → ℕ → ℕ
 times t f g = entry t.rows t.order f g
 
 -- Some option of heap i has element h and change d.
-abbrev pub makes : Tables → ℕ → ℕ → ℕ → Bool
-makes t i h d = is_marked t.made t.changes (i * t.order + h) d
+abbrev pub Makes : Tables → ℕ → ℕ → ℕ → Type 0
+Makes t i h d =
+    (j : ℕ) × (slice_index t.first i ≤ j) × (j < slice_index t.first (i + 1))
+    × (slice_index t.option_elements j ≡ h) × (slice_index t.option_changes j ≡ d)
 
--- State p has an option of element f and change d.
-abbrev pub has : Tables → Kept → ℕ → ℕ → ℕ → Bool
-has t k p f d = is_marked k.options t.changes (p * t.order + f) d
+-- Heap i has options.
+abbrev pub MakesSome : Tables → ℕ → Type 0
+MakesSome t i = slice_index t.first i < slice_index t.first (i + 1)
 
-abbrev pub value_at : Kept → ℕ → ℕ
-value_at k p = slice_index k.values p
-
-abbrev pub place_at : Kept → ℕ → ℕ
-place_at k p = slice_index k.places p
+-- Element f can be at place a.
+abbrev pub is_reached : Tables → ℕ → ℕ → Bool
+is_reached t f a = is_marked t.reach t.places f a
 
 -- Element f is in the region at a cell.
 abbrev pub is_inside : Tables → ℕ → ℕ → Bool
-is_inside t f z = is_marked t.region t.cells f z
+is_inside t f z = nat_lt z t.cells && is_marked t.region t.cells f z
 
--- State p is tried at point s.
-pub record IsTriedIn (t : Tables) (k : Kept) (p s : ℕ) : Type 0 where
-  pub at_place : slice_index t.place_of s ≡ place_at k p
-  pub possible_there : is_marked t.likely t.points (value_at k p) s ≡ true
+abbrev pub value_at : KeptPairs → ℕ → ℕ
+value_at k p = slice_index k.values p
 
-pub record HeapMakes (t : Tables) (i : ℕ) : Type 0 where
-  pub element : ℕ
-  pub change : ℕ
-  pub element_in : element < t.order
-  pub change_in : change < t.changes
-  pub is : makes t i element change ≡ true
+-- Number o is one of an option of pair p.
+abbrev pub IsOptionOf : KeptPairs → ℕ → ℕ → Type 0
+IsOptionOf k p o = (slice_index k.first p ≤ o) × (o < slice_index k.first (p + 1))
 
-pub record StateHas (t : Tables) (k : Kept) (p : ℕ) : Type 0 where
-  pub element : ℕ
-  pub change : ℕ
-  pub element_in : element < t.order
-  pub change_in : change < t.changes
-  pub is : has t k p element change ≡ true
+-- Pair p has options.
+abbrev pub HasSome : KeptPairs → ℕ → Type 0
+HasSome k p = slice_index k.first p < slice_index k.first (p + 1)
 
--- An option of heap i beside state q has element f and change d.
-abbrev pub IsProduct : Tables → Kept → ℕ → ℕ → ℕ → ℕ → Type 0
-IsProduct t k i q f d =
-    ((h : ℕ) × (h < t.order) × (makes t i h d ≡ true) × (f ≡ times t h (value_at k q)))
-    ⊎ ((g : ℕ) × (g < t.order) × (has t k q g d ≡ true) × (f ≡ times t (slice_index t.phi i) g))
+-- Pair p is at place a.
+abbrev pub is_at : Tables → KeptPairs → ℕ → ℕ → Bool
+is_at t k p a = is_marked k.places t.places p a
 
--- Heap i has no option of element h and change d.
-pub record MakesNot (t : Tables) (i h d : ℕ) : Type 0 where
-  pub not : makes t i h d ≡ false
+-- Element f with whatever is tried at point s.
+abbrev pub IsReachedAt : Tables → ℕ → ℕ → Type 0
+IsReachedAt t f s = is_reached t f (slice_index t.place_of s) ≡ true
 
--- State p has none of element f and change d.
-pub record HasNot (t : Tables) (k : Kept) (p f d : ℕ) : Type 0 where
-  pub not : has t k p f d ≡ false
+-- Pair p is tried at point s: it is at its place, where its element can be.
+pub record IsTriedIn (t : Tables) (k : KeptPairs) (p s : ℕ) : Type 0 where
+  pub at_place : is_at t k p (slice_index t.place_of s) ≡ true
+  pub possible_there : IsReachedAt t (value_at k p) s
 
--- If state p has an option of element f and change d, heap i beside state q has.
-pub record IsAmong (t : Tables) (k : Kept) (p i q f d : ℕ) : Type 0 where
-  pub made : has t k p f d ≡ true → IsProduct t k i q f d
+-- Option j is one of heap i, and beside pair q has element f and change d.
+pub record IsOfHeap (t : Tables) (k : KeptPairs) (i q f d j : ℕ) : Type 0 where
+  pub from : slice_index t.first i ≤ j
+  pub to : j < slice_index t.first (i + 1)
+  pub change : slice_index t.option_changes j ≡ d
+  pub element : times t (value_at k q) (slice_index t.option_elements j) ≡ f
 
--- State p covers heap i beside state q at point s.
-pub record CoversIn (t : Tables) (k : Kept) (p i q s : ℕ) : Type 0 where
+-- Option o is one of pair q, and beside heap i has element f and change d.
+pub record IsOfPair (t : Tables) (k : KeptPairs) (i q f d o : ℕ) : Type 0 where
+  pub from : slice_index k.first q ≤ o
+  pub to : o < slice_index k.first (q + 1)
+  pub change : slice_index k.changes o ≡ d
+  pub element : times t (slice_index t.phi i) (slice_index k.elements o) ≡ f
+
+-- An option of heap i beside pair q has element f and change d.
+pub record IsProduct (t : Tables) (k : KeptPairs) (i q f d : ℕ) : Type 0 where
+  pub option : ℕ
+  pub is : IsOfHeap t k i q f d option ⊎ IsOfPair t k i q f d option
+
+-- Heap i beside pair q has option o, of some pair.
+abbrev pub IsAmong : Tables → KeptPairs → ℕ → ℕ → ℕ → Type 0
+IsAmong t k i q o = IsProduct t k i q (slice_index k.elements o) (slice_index k.changes o)
+
+-- Pair p covers heap i beside pair q, wherever both are.
+pub record CoversIn (t : Tables) (k : KeptPairs) (p i q : ℕ) : Type 0 where
   pub same_value : value_at k p ≡ times t (slice_index t.phi i) (value_at k q)
-  pub same_place : place_at k p ≡ entry t.onward t.points i s
-  pub among : (f d : ℕ) → f < t.order → d < t.changes → IsAmong t k p i q f d
-  pub some_heap : HeapMakes t i → StateHas t k p
-  pub some_rest : StateHas t k q → StateHas t k p
+  pub among : (o : ℕ) → IsOptionOf k p o → IsAmong t k i q o
+  pub some_heap : MakesSome t i → HasSome k p
+  pub some_rest : HasSome k q → HasSome k p
 
-abbrev pub SomeCovers : Tables → Kept → ℕ → ℕ → ℕ → Type 0
-SomeCovers t k i q s = (p : ℕ) × (p < k.count) × CoversIn t k p i q s
+-- A pair covers heap i beside pair q, and is where the heap leads to from point s.
+pub record IsCoveredAt (t : Tables) (k : KeptPairs) (i q s : ℕ) : Type 0 where
+  pub cover : ℕ
+  pub cover_in : cover < k.count
+  pub covers : CoversIn t k cover i q
+  pub there : is_at t k cover (entry t.onward t.points i s) ≡ true
 
-pub record CoversStart (t : Tables) (k : Kept) (p : ℕ) : Type 0 where
+pub record CoversStart (t : Tables) (k : KeptPairs) (p : ℕ) : Type 0 where
   pub value : value_at k p ≡ 0
-  pub place : place_at k p ≡ t.start
-  pub options : StateHas t k p → ⊥
+  pub there : is_at t k p t.start ≡ true
+  pub none : HasSome k p → ⊥
 
--- State p's element and place are among the elements and places.
-pub record IsWithin (t : Tables) (k : Kept) (p : ℕ) : Type 0 where
+-- The element and the change of option o are an element and a change.
+pub record IsOptionIn (t : Tables) (k : KeptPairs) (o : ℕ) : Type 0 where
+  pub element : slice_index k.elements o < t.order
+  pub change : slice_index k.changes o < t.changes
+
+-- Pair p's element is an element, and its options are options.
+pub record IsWithin (t : Tables) (k : KeptPairs) (p : ℕ) : Type 0 where
   pub value : value_at k p < t.order
-  pub place : place_at k p < t.places
+  pub options : (o : ℕ) → IsOptionOf k p o → IsOptionIn t k o
 
-abbrev pub AreWithin : Tables → Kept → Type 0
-AreWithin t k = (p : ℕ) → p < k.count → IsWithin t k p
+abbrev pub IsClosedAt : Tables → KeptPairs → ℕ → Type 0
+IsClosedAt t k q = (i s : ℕ) → i < t.heaps → s < t.points → IsTriedIn t k q s → IsCoveredAt t k i q s
 
-abbrev pub IsClosedAt : Tables → Kept → ℕ → Type 0
-IsClosedAt t k q = (i s : ℕ) → i < t.heaps → s < t.points → IsTriedIn t k q s → SomeCovers t k i q s
+-- From point s option o leads into the region.
+abbrev pub LeadsInside : Tables → KeptPairs → ℕ → ℕ → Type 0
+LeadsInside t k s o =
+    is_inside t (slice_index k.elements o) (entry t.changed t.changes s (slice_index k.changes o)) ≡ true
 
-abbrev pub AreClosedIn : Tables → Kept → Type 0
-AreClosedIn t k =
-    ((p : ℕ) × (p < k.count) × CoversStart t k p) × ((q : ℕ) → q < k.count → IsClosedAt t k q)
+-- Some option of pair p leads into the region from point s.
+pub record Reaches (t : Tables) (k : KeptPairs) (p s : ℕ) : Type 0 where
+  pub option : ℕ
+  pub is : IsOptionOf k p option
+  pub leads : LeadsInside t k s option
 
--- Behind some option state p is in the region, from point s on.
-pub record Reaches (t : Tables) (k : Kept) (p s : ℕ) : Type 0 where
-  pub element : ℕ
-  pub change : ℕ
-  pub element_in : element < t.order
-  pub change_in : change < t.changes
-  pub is : has t k p element change ≡ true
-  pub there : is_inside t element (entry t.changed t.changes s change) ≡ true
-
--- State p obeys the rule at point s.
-pub record ObeysAt (t : Tables) (k : Kept) (p s : ℕ) : Type 0 where
-  pub outside : is_inside t (value_at k p) (slice_index t.here s) ≡ false → StateHas t k p
+-- Pair p obeys the rule at point s: outside the region an option, if it has any, leads inside; inside it has
+-- one.
+pub record ObeysAt (t : Tables) (k : KeptPairs) (p s : ℕ) : Type 0 where
+  pub outside : is_inside t (value_at k p) (slice_index t.here s) ≡ false → HasSome k p
       → Reaches t k p s
-  pub inside : is_inside t (value_at k p) (slice_index t.here s) ≡ true → StateHas t k p
+  pub inside : is_inside t (value_at k p) (slice_index t.here s) ≡ true → HasSome k p
 
--- If heap i has an option of element h and change d, it leads out of the region beside state p at
--- point s.
-pub record LeadsOut (t : Tables) (k : Kept) (i p s h d : ℕ) : Type 0 where
-  pub out : makes t i h d ≡ true
-      → is_inside t (times t h (value_at k p)) (entry t.both t.changes (i * t.points + s) d) ≡ false
+-- It does, wherever it is tried.
+abbrev pub ObeysIn : Tables → KeptPairs → ℕ → Type 0
+ObeysIn t k p = (s : ℕ) → s < t.points → IsTriedIn t k p s → ObeysAt t k p s
 
--- No option of heap i leads from the region into it, beside state p at point s.
-abbrev pub KeepsOutAt : Tables → Kept → ℕ → ℕ → ℕ → Type 0
-KeepsOutAt t k i p s =
-    is_inside t (times t (slice_index t.phi i) (value_at k p)) (entry t.beside t.points i s) ≡ true
-    → (h d : ℕ) → h < t.order → d < t.changes → LeadsOut t k i p s h d
+-- Option j of heap i, beside element f at point s, leads out of the region.
+pub record LeadsOut (t : Tables) (f s i j : ℕ) : Type 0 where
+  pub out : is_inside t (times t f (slice_index t.option_elements j))
+      (entry t.both t.changes (i * t.points + s) (slice_index t.option_changes j)) ≡ false
 
--- If state p is tried at point s, it obeys the rule, and so do the options of each heap beside it.
-pub record ObeysTried (t : Tables) (k : Kept) (p s : ℕ) : Type 0 where
-  pub obeyed : IsTriedIn t k p s → ObeysAt t k p s
-  pub kept_out : IsTriedIn t k p s → (i : ℕ) → i < t.heaps → KeepsOutAt t k i p s
+-- With heap i more, element f at point s comes to what is reached; and no option of the heap leads from the
+-- region into it.
+pub record IsSoundBeside (t : Tables) (f s i : ℕ) : Type 0 where
+  pub onward : is_reached t (times t (slice_index t.phi i) f) (entry t.onward t.points i s) ≡ true
+  pub kept_out : is_inside t (times t (slice_index t.phi i) f) (entry t.beside t.points i s) ≡ true
+      → (j : ℕ) → slice_index t.first i ≤ j → j < slice_index t.first (i + 1) → LeadsOut t f s i j
 
-abbrev pub ObeysIn : Tables → Kept → ℕ → Type 0
-ObeysIn t k p = (s : ℕ) → s < t.points → ObeysTried t k p s
+-- So with each heap, if element f can be at point s.
+abbrev pub IsSoundAt : Tables → ℕ → ℕ → Type 0
+IsSoundAt t f s = IsReachedAt t f s → (i : ℕ) → i < t.heaps → IsSoundBeside t f s i
+
+-- The tables alone pass: what is reached holds the start and goes on, and no option leads from the region
+-- into it.
+pub record AreSound (t : Tables) : Type 0 where
+  pub start : is_reached t 0 t.start ≡ true
+  pub sound : (f s : ℕ) → f < t.order → s < t.points → IsSoundAt t f s
 
 -- All that is tested.
-pub record AreTestedIn (t : Tables) (k : Kept) : Type 0 where
-  pub within : AreWithin t k
-  pub closed : AreClosedIn t k
+pub record AreTestedIn (t : Tables) (k : KeptPairs) : Type 0 where
+  pub sound : AreSound t
+  pub within : (p : ℕ) → p < k.count → IsWithin t k p
+  pub start : (p : ℕ) × (p < k.count) × CoversStart t k p
+  pub closed : (q : ℕ) → q < k.count → IsClosedAt t k q
   pub obeyed : (p : ℕ) → p < k.count → ObeysIn t k p

@@ -1,228 +1,146 @@
-//! Whether a state covers a heap beside another.
-ghost use Rattle.std.specs.Prelude.{◌≡◌, ◌*◌, ◌+◌, ◌<◌, ℕ, IsTrue, IfSome, true, false, slice_index};
-ghost use Rattle.counted_states.specs.Numbers.{StateHas, MakesNot, HasNot, IsProduct, IsAmong, CoversIn, SomeCovers, entry, makes, has, value_at, place_at, times, is_inside};
+//! Whether a pair covers a heap beside another.
+ghost use Rattle.std.specs.Prelude.{◌≡◌, ◌<◌, ◌≤◌, ◌+◌, ℕ, IsTrue, slice_index};
+ghost use Rattle.counted_states.specs.Numbers.{MakesSome, HasSome, IsOfHeap, IsOfPair, IsAmong, CoversIn, value_at, times};
+ghost use Rattle.counted_states.specs.Listed.{IsCover};
 
-use crate::reads::{deep_mark, mark_at, number, number_at};
-use crate::tables::{Kept, Tables};
+use crate::reads::{bounds, number, number_at, product};
+use crate::tables::{KeptPairs, Tables};
 use std::alloc::Allocator;
-
-/// The product of two elements.
-pub(crate) fn product<A: Allocator>(t: &Tables<A>, f: usize, g: usize) -> Option<usize>
-    ensures { IfSome result (λ v. v ≡ times t.now f g) }
-{
-    number_at(&t.rows, t.order, f, g)
-}
-
-/// Whether some option of heap `i` has this element and change.
-pub(crate) fn makes<A: Allocator>(t: &Tables<A>, i: usize, h: usize, d: usize) -> Option<bool>
-    ensures { IfSome result (λ v. v ≡ makes t.now i h d) }
-{
-    deep_mark(&t.made, t.order, t.changes, i, h, d)
-}
-
-/// Whether state `p` has an option of this element and change.
-pub(crate) fn has<A: Allocator>(
-    t: &Tables<A>,
-    k: &Kept<A>,
-    p: usize,
-    f: usize,
-    d: usize,
-) -> Option<bool>
-    ensures { IfSome result (λ v. v ≡ has t.now k.now p f d) }
-{
-    deep_mark(&k.options, t.order, t.changes, p, f, d)
-}
-
-/// Whether an element is in the region at a cell.
-pub(crate) fn is_inside<A: Allocator>(t: &Tables<A>, f: usize, z: usize) -> Option<bool>
-    ensures { IfSome result (λ v. v ≡ is_inside t.now f z) }
-{
-    mark_at(&t.region, t.cells, f, z)
-}
-
-/// Whether heap `i` is seen to have no option of this element and change.
-fn makes_not<A: Allocator>(t: &Tables<A>, i: usize, h: usize, d: usize) -> bool
-    ensures { IsTrue result → MakesNot t.now i h d }
-{
-    makes(t, i, h, d) == Some(false)
-}
-
-/// Whether heap `i` is seen to have no option of element `h`.
-fn heap_row_is_bare<A: Allocator>(t: &Tables<A>, i: usize, h: usize) -> bool
-    ensures { IsTrue result → (d : ℕ) → d < t.now.changes → MakesNot t.now i h d }
-{
-    for d in 0..t.changes {
-        if !makes_not(t, i, h, d) {
-            return false;
-        }
-    }
-    true
-}
 
 /// Whether heap `i` is seen to have no option.
 fn heap_is_bare<A: Allocator>(t: &Tables<A>, i: usize) -> bool
-    ensures { IsTrue result → (h d : ℕ) → h < t.now.order → d < t.now.changes
-        → MakesNot t.now i h d }
+    ensures { IsTrue result → MakesSome t.now i → ⊥ }
 {
-    for h in 0..t.order {
-        if !heap_row_is_bare(t, i, h) {
-            return false;
-        }
-    }
-    true
+    let Some((from, to)) = bounds(&t.first, i) else {
+        return false;
+    };
+    to <= from
 }
 
-/// Whether state `p` is seen to have no option of this element and change.
-fn has_not<A: Allocator>(t: &Tables<A>, k: &Kept<A>, p: usize, f: usize, d: usize) -> bool
-    ensures { IsTrue result → HasNot t.now k.now p f d }
+/// Whether pair `p` is seen to have no option.
+pub(crate) fn pair_is_bare<A: Allocator>(k: &KeptPairs<A>, p: usize) -> bool
+    ensures { IsTrue result → HasSome k.now p → ⊥ }
 {
-    has(t, k, p, f, d) == Some(false)
+    let Some((from, to)) = bounds(&k.first, p) else {
+        return false;
+    };
+    to <= from
 }
 
-/// Whether state `p` is seen to have no option of element `f`.
-fn state_row_is_bare<A: Allocator>(t: &Tables<A>, k: &Kept<A>, p: usize, f: usize) -> bool
-    ensures { IsTrue result → (d : ℕ) → d < t.now.changes → HasNot t.now k.now p f d }
+/// Whether pair `p` is seen to have an option.
+pub(crate) fn pair_has_some<A: Allocator>(k: &KeptPairs<A>, p: usize) -> bool
+    ensures { IsTrue result → HasSome k.now p }
 {
-    for d in 0..t.changes {
-        if !has_not(t, k, p, f, d) {
-            return false;
-        }
-    }
-    true
+    let Some((from, to)) = bounds(&k.first, p) else {
+        return false;
+    };
+    from < to
 }
 
-/// Whether state `p` is seen to have no option.
-pub(crate) fn state_is_bare<A: Allocator>(t: &Tables<A>, k: &Kept<A>, p: usize) -> bool
-    ensures { IsTrue result → (f d : ℕ) → f < t.now.order → d < t.now.changes
-        → HasNot t.now k.now p f d }
-{
-    for f in 0..t.order {
-        if !state_row_is_bare(t, k, p, f) {
-            return false;
-        }
-    }
-    true
-}
-
-/// Whether state `p` is seen to have an option.
-pub(crate) fn state_has<A: Allocator>(t: &Tables<A>, k: &Kept<A>, p: usize) -> bool
-    ensures { IsTrue result → StateHas t.now k.now p }
-{
-    for f in 0..t.order {
-        for d in 0..t.changes {
-            if has(t, k, p, f, d) == Some(true) {
-                return true;
-            }
-        }
-    }
-    false
-}
-
-/// Whether an option of heap `i` beside state `q` is seen to have this element and change, by a hint:
-/// an element of the heap's option, or the order and an element of the state's.
-fn is_product<A: Allocator>(
+/// Whether option `j` is one of heap `i`, and beside pair `q` has this element and change.
+fn is_of_heap<A: Allocator>(
     t: &Tables<A>,
-    k: &Kept<A>,
+    k: &KeptPairs<A>,
     i: usize,
     q: usize,
     f: usize,
     d: usize,
-    hint: usize,
+    j: usize,
 ) -> bool
-    ensures { IsTrue result → IsProduct t.now k.now i q f d }
+    ensures { IsTrue result → IsOfHeap t.now k.now i q f d j }
 {
-    if hint < t.order {
-        let Some(value) = number(&k.values, q) else {
-            return false;
-        };
-        return makes(t, i, hint, d) == Some(true) && product(t, hint, value) == Some(f);
-    }
-    let g = hint - t.order;
+    let Some((from, to)) = bounds(&t.first, i) else {
+        return false;
+    };
+    let Some(value) = number(&k.values, q) else {
+        return false;
+    };
+    let Some(h) = number(&t.option_elements, j) else {
+        return false;
+    };
+    from <= j
+        && j < to
+        && number(&t.option_changes, j) == Some(d)
+        && product(t, value, h) == Some(f)
+}
+
+/// Whether option `o` is one of pair `q`, and beside heap `i` has this element and change.
+fn is_of_pair<A: Allocator>(
+    t: &Tables<A>,
+    k: &KeptPairs<A>,
+    i: usize,
+    q: usize,
+    f: usize,
+    d: usize,
+    o: usize,
+) -> bool
+    ensures { IsTrue result → IsOfPair t.now k.now i q f d o }
+{
+    let Some((from, to)) = bounds(&k.first, q) else {
+        return false;
+    };
     let Some(x) = number(&t.phi, i) else {
         return false;
     };
-    g < t.order && has(t, k, q, g, d) == Some(true) && product(t, x, g) == Some(f)
-}
-
-/// Whether this option, if state `p` has it, is seen to be one of heap `i` beside state `q`.
-fn is_option_among<A: Allocator>(
-    t: &Tables<A>,
-    k: &Kept<A>,
-    p: usize,
-    i: usize,
-    q: usize,
-    f: usize,
-    d: usize,
-    hints: &[u32],
-) -> bool
-    ensures { IsTrue result → IsAmong t.now k.now p i q f d }
-{
-    if has(t, k, p, f, d) == Some(false) {
-        return true;
-    }
-    let hint = number_at(hints, t.changes, f, d).unwrap_or(0);
-    is_product(t, k, i, q, f, d, hint)
-}
-
-/// Whether all options of state `p` of element `f` are seen to be among those of heap `i` beside state
-/// `q`.
-fn is_row_among<A: Allocator>(
-    t: &Tables<A>,
-    k: &Kept<A>,
-    p: usize,
-    i: usize,
-    q: usize,
-    f: usize,
-    hints: &[u32],
-) -> bool
-    ensures { IsTrue result → (d : ℕ) → d < t.now.changes
-        → IsAmong t.now k.now p i q f d }
-{
-    for d in 0..t.changes {
-        if !is_option_among(t, k, p, i, q, f, d, hints) {
-            return false;
-        }
-    }
-    true
-}
-
-/// Whether all options of state `p` are seen to be among those of heap `i` beside state `q`.
-fn is_among<A: Allocator>(
-    t: &Tables<A>,
-    k: &Kept<A>,
-    p: usize,
-    i: usize,
-    q: usize,
-    hints: &[u32],
-) -> bool
-    ensures { IsTrue result → (f d : ℕ) → f < t.now.order → d < t.now.changes
-        → IsAmong t.now k.now p i q f d }
-{
-    for f in 0..t.order {
-        if !is_row_among(t, k, p, i, q, f, hints) {
-            return false;
-        }
-    }
-    true
-}
-
-/// Whether state `p` has the element and place of heap `i` beside state `q` at point `s`.
-fn is_there<A: Allocator>(
-    t: &Tables<A>,
-    k: &Kept<A>,
-    p: usize,
-    i: usize,
-    q: usize,
-    s: usize,
-) -> bool
-    ensures value { IsTrue result
-        → value_at k.now p ≡ times t.now (slice_index t.now.phi i) (value_at k.now q) }
-    ensures place { IsTrue result → place_at k.now p ≡ entry t.now.onward t.now.points i s }
-{
-    let Some(value) = number(&k.values, p) else {
+    let Some(g) = number(&k.elements, o) else {
         return false;
     };
-    let Some(place) = number(&k.places, p) else {
+    from <= o && o < to && number(&k.changes, o) == Some(d) && product(t, x, g) == Some(f)
+}
+
+/// Whether heap `i` beside pair `q` is seen to have option `o`, by a hint: the number of an option of the
+/// heap's, or that of all heaps' options and the number of one of the pair's.
+fn is_among<A: Allocator>(
+    t: &Tables<A>,
+    k: &KeptPairs<A>,
+    i: usize,
+    q: usize,
+    o: usize,
+    hints: &[u32],
+) -> bool
+    ensures { IsTrue result → IsAmong t.now k.now i q o }
+{
+    let Some(f) = number(&k.elements, o) else {
+        return false;
+    };
+    let Some(d) = number(&k.changes, o) else {
+        return false;
+    };
+    let hint = number_at(hints, t.changes, f, d).unwrap_or(0);
+    let made = t.option_elements.len();
+    if hint < made {
+        is_of_heap(t, k, i, q, f, d, hint)
+    } else {
+        is_of_pair(t, k, i, q, f, d, hint - made)
+    }
+}
+
+/// Whether it is seen to have each of these options.
+fn are_among<A: Allocator>(
+    t: &Tables<A>,
+    k: &KeptPairs<A>,
+    i: usize,
+    q: usize,
+    from: usize,
+    to: usize,
+    hints: &[u32],
+) -> bool
+    ensures { IsTrue result → (o : ℕ) → from ≤ o → o < to → IsAmong t.now k.now i q o }
+{
+    for o in from..to {
+        if !is_among(t, k, i, q, o, hints) {
+            return false;
+        }
+    }
+    true
+}
+
+/// Whether pair `p` has the element of heap `i` beside pair `q`.
+fn has_value<A: Allocator>(t: &Tables<A>, k: &KeptPairs<A>, p: usize, i: usize, q: usize) -> bool
+    ensures { IsTrue result
+        → value_at k.now p ≡ times t.now (slice_index t.now.phi i) (value_at k.now q) }
+{
+    let Some(value) = number(&k.values, p) else {
         return false;
     };
     let Some(rest) = number(&k.values, q) else {
@@ -231,50 +149,62 @@ fn is_there<A: Allocator>(
     let Some(x) = number(&t.phi, i) else {
         return false;
     };
-    product(t, x, rest) == Some(value) && number_at(&t.onward, t.points, i, s) == Some(place)
+    product(t, x, rest) == Some(value)
 }
 
-/// Whether state `p` is seen to cover heap `i` beside state `q` at point `s`.
-pub(crate) fn covers<A: Allocator>(
+/// Whether pair `p` is seen to cover heap `i` beside pair `q`.
+fn covers<A: Allocator>(
     t: &Tables<A>,
-    k: &Kept<A>,
+    k: &KeptPairs<A>,
     p: usize,
     i: usize,
     q: usize,
-    s: usize,
     hints: &[u32],
 ) -> bool
-    ensures { IsTrue result → CoversIn t.now k.now p i q s }
+    ensures { IsTrue result → CoversIn t.now k.now p i q }
 {
-    is_there(t, k, p, i, q, s)
-        && is_among(t, k, p, i, q, hints)
-        && (state_has(t, k, p) || (heap_is_bare(t, i) && state_is_bare(t, k, q)))
+    let Some((from, to)) = bounds(&k.first, p) else {
+        return false;
+    };
+    has_value(t, k, p, i, q)
+        && are_among(t, k, i, q, from, to, hints)
+        && (pair_has_some(k, p) || (heap_is_bare(t, i) && pair_is_bare(k, q)))
 }
 
-/// Whether a state is seen to cover heap `i` beside state `q` at point `s`, among those of a list: `first`
-/// and `next` have the number behind each state's own, and 0 at the end.
-pub(crate) fn some_covers<A: Allocator>(
+/// Whether number `c` of the list is a pair that is seen to cover heap `i` beside pair `q`.
+fn is_cover<A: Allocator>(
     t: &Tables<A>,
-    k: &Kept<A>,
+    k: &KeptPairs<A>,
     i: usize,
     q: usize,
-    s: usize,
-    first: usize,
-    next: &[u32],
+    list: &[u32],
+    c: usize,
     hints: &[u32],
 ) -> bool
-    ensures { IsTrue result → SomeCovers t.now k.now i q s }
+    ensures { IsTrue result → IsCover t.now k.now i q list.now c }
 {
-    let mut at = first;
-    for _ in 0..k.count {
-        if at == 0 {
+    let Some(p) = number(list, c) else {
+        return false;
+    };
+    p < k.count && covers(t, k, p, i, q, hints)
+}
+
+/// Whether the first `n` numbers of the list are such pairs.
+pub(crate) fn are_covers<A: Allocator>(
+    t: &Tables<A>,
+    k: &KeptPairs<A>,
+    i: usize,
+    q: usize,
+    list: &[u32],
+    n: usize,
+    hints: &[u32],
+) -> bool
+    ensures { IsTrue result → (c : ℕ) → c < n → IsCover t.now k.now i q list.now c }
+{
+    for c in 0..n {
+        if !is_cover(t, k, i, q, list, c, hints) {
             return false;
         }
-        let p = at - 1;
-        if p < k.count && covers(t, k, p, i, q, s, hints) {
-            return true;
-        }
-        at = number(next, p).unwrap_or(0);
     }
-    false
+    true
 }

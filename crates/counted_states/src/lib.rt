@@ -1,14 +1,27 @@
-//! The states of a certificate with counters: an unproved search, and a proved test of what it found.
+//! The states of a certificate with tracks: an unproved search, and a proved test of what it found.
 #![tactic(auto)]
 
+mod closing;
 mod covers;
-mod hints;
+mod explore;
+mod finder;
 mod laws;
+mod onward;
+mod product;
 mod reads;
+mod rooms;
 mod search;
+mod slots;
+mod sound;
+mod standing;
 mod tables;
+mod testing;
+#[cfg(test)]
+mod tests;
+mod tried;
 mod verify;
 
-pub use laws::{tested_numbers_are_accepted, tested_numbers_are_tested_states};
-pub use search::tested_states;
-pub use tables::{Kept, Tables};
+pub use explore::reach_of;
+pub use laws::{tested_numbers_are_tested_states, tested_numbers_predict};
+pub use tables::{KeptPairs, Tables};
+pub use testing::{Untested, tested_states};

@@ -13,10 +13,12 @@ pub struct Tables<A: Allocator = Global> {
     pub cells: usize,
     pub rows: Vec<u32, A>,
     pub phi: Vec<u32, A>,
-    pub made: Vec<bool, A>,
+    pub first: Vec<u32, A>,
+    pub option_elements: Vec<u32, A>,
+    pub option_changes: Vec<u32, A>,
     pub place_of: Vec<u32, A>,
     pub onward: Vec<u32, A>,
-    pub likely: Vec<bool, A>,
+    pub reach: Vec<bool, A>,
     pub region: Vec<bool, A>,
     pub here: Vec<u32, A>,
     pub changed: Vec<u32, A>,
@@ -39,10 +41,12 @@ impl<A: Allocator> Model for Tables<A> {
       cells = t.cells;
       rows = t.rows.items;
       phi = t.phi.items;
-      made = t.made.items;
+      first = t.first.items;
+      option_elements = t.option_elements.items;
+      option_changes = t.option_changes.items;
       place_of = t.place_of.items;
       onward = t.onward.items;
-      likely = t.likely.items;
+      reach = t.reach.items;
       region = t.region.items;
       here = t.here.items;
       changed = t.changed.items;
@@ -52,24 +56,30 @@ impl<A: Allocator> Model for Tables<A> {
     } };
 }
 
-/// States: of each the element, the place, and by elements and changes which options it has.
+/// Pairs, each an element with options, at places: of each pair the element; the options of all pairs, of
+/// each the element and the change, those of pair `p` from number `first[p]` on up to that of the next
+/// pair; and of each pair at which places it is.
 #[derive(Drop)]
-pub struct Kept<A: Allocator = Global> {
+pub struct KeptPairs<A: Allocator = Global> {
     pub count: usize,
     pub values: Vec<u32, A>,
-    pub places: Vec<u32, A>,
-    pub options: Vec<bool, A>,
+    pub first: Vec<u32, A>,
+    pub elements: Vec<u32, A>,
+    pub changes: Vec<u32, A>,
+    pub places: Vec<bool, A>,
 }
 
-impl<A: Allocator> Model for Kept<A> {
+impl<A: Allocator> Model for KeptPairs<A> {
     ghost use Rattle.counted_states.specs.Numbers as numbers;
 
-    ghost Value = { numbers.Kept };
+    ghost Value = { numbers.KeptPairs };
 
     ghost view = { λ k. record {
       count = k.count;
       values = k.values.items;
+      first = k.first.items;
+      elements = k.elements.items;
+      changes = k.changes.items;
       places = k.places.items;
-      options = k.options.items;
     } };
 }

@@ -1,0 +1,5 @@
+pub mod Keys
+pub mod Shown
+pub mod Kept
+pub mod Answers
+pub mod Refusals

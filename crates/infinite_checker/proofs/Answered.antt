@@ -1,0 +1,84 @@
+-- What is judged of a text is true of what the text says, and so of its bytes.
+use Rattle.std.proofs.Common.{◌≡◌, ℕ, List, refl, sym, ◌∙◌, ap, subst}
+use Rattle.misere_theory.specs.Quotients.{Monoid, LawFails}
+use Rattle.tracked_claims.specs.Fields.{Fields}
+use Rattle.tracked_claims.specs.Reads.{claim_in}
+use Rattle.tracked_text.specs.Said.{Said, InRanges, fields_of}
+use Rattle.tracked_text.specs.Shape.{AreShaped}
+use Rattle.tracked_text.specs.Spelling.{Spells}
+use Rattle.tracked_certificate.specs.Told.{Told, told_of}
+use Rattle.infinite_answers.specs.Answers.{Why, Text, Law, Order, Outcome, Limit, Memory, Part, Idle, Undecided, Ray, FitsIn, Fits, IsTrueOf}
+use Rattle.infinite_answers.specs.Kept.{Kept, IsKeptOf, IsRight}
+use Rattle.infinite_answers.specs.Shown.{IsShown}
+use Rattle.infinite_checker.specs.Right.{IsRightIn}
+use Rattle.infinite_checker.specs.Ray.{IsRayIn}
+
+abbrev pub kept_of : Told → Kept
+kept_of t = record { claim = t.fields; base = t.base; up = t.up; down = t.down }
+
+-- All that is judged of a text with a yes.
+pub record IsJudged (t : Told) : Type 0 where
+  pub monoid : Monoid t.fields.order (claim_in t.fields).times
+  pub right : IsRightIn t.fields
+  pub ray : (step : ℕ) × (far : ℕ) × IsRayIn t.fields t.base t.up t.down step far
+
+module _ (law : (c : Said) (step far : ℕ) → InRanges c
+    → Monoid c.order (claim_in (fields_of c)).times → IsRightIn (fields_of c)
+    → IsRayIn (fields_of c) c.base c.up c.down step far → IsShown c) where
+  shown_told : (c : Said) → InRanges c → IsJudged (told_of c) → IsShown c
+  shown_told c ranges j =
+      let (step, far, ray) = j.ray in law c step far ranges j.monoid j.right ray
+
+  pub kept_and_shown : (t : Told) (c : Said) → InRanges c → t ≡ told_of c → IsJudged t
+      → IsKeptOf (kept_of t) c × IsShown c
+  kept_and_shown t c ranges e j =
+      subst (λ t. IsJudged t → IsKeptOf (kept_of t) c × IsShown c) (sym e)
+      (λ j. (record { claim = refl; base = refl; up = refl; down = refl }, shown_told c ranges j)) j
+
+  pub is_right : (t : Told) (c : Said) → InRanges c → t ≡ told_of c → IsJudged t → IsRight (kept_of t)
+  is_right t c ranges e j = let (kept, shown) = kept_and_shown t c ranges e j in (c, kept, shown)
+
+  -- the same of parts that are those of the text
+  pub answered_yes : (t : Told) (u : Fields) (base up down : List ℕ) (k : Kept) (c : Said)
+      → InRanges c → t ≡ told_of c → Monoid t.fields.order (claim_in t.fields).times → u ≡ t.fields
+      → IsRightIn u → ((step : ℕ) × (far : ℕ) × IsRayIn u base up down step far)
+      → base ≡ t.base → up ≡ t.up → down ≡ t.down
+      → k ≡ record { claim = u; base = t.base; up = t.up; down = t.down }
+      → IsKeptOf k c × IsShown c
+  answered_yes t u base up down k c ranges e m same right ray b p d is =
+      let judged : IsJudged t =
+      record {
+        monoid = m;
+        right = subst IsRightIn same right;
+        ray =
+            subst (λ d. (step : ℕ) × (far : ℕ) × IsRayIn t.fields t.base t.up d step far) d
+            (subst (λ p. (step : ℕ) × (far : ℕ) × IsRayIn t.fields t.base p down step far) p
+            (subst (λ b. (step : ℕ) × (far : ℕ) × IsRayIn t.fields b up down step far) b
+            (subst (λ u. (step : ℕ) × (far : ℕ) × IsRayIn u base up down step far) same ray)));
+      } in
+      let (kept, shown) = kept_and_shown t c ranges e judged in
+      let eq : k ≡ kept_of t =
+      is ∙ ap (λ u. record { claim = u; base = t.base; up = t.up; down = t.down }) same in
+      (subst (λ k. IsKeptOf k c) (sym eq) kept, shown)
+
+pub fits_said : (t : Told) (c : Said) → t ≡ told_of c → (why : Why) → FitsIn t.fields t.words why
+    → Fits c why
+fits_said t c e why f = subst (λ t. FitsIn t.fields t.words why) e f
+
+pub law_fails : (t : Told) (c : Said) → t ≡ told_of c → AreShaped (fields_of c)
+    → (AreShaped t.fields → LawFails t.fields.order (claim_in t.fields).times) → Fits c Law
+law_fails t c e shaped f =
+    (subst (λ t. (AreShaped t.fields → LawFails t.fields.order (claim_in t.fields).times)) e f) shaped
+
+pub true_of : (bytes : List ℕ) (c : Said) → Spells bytes c → (why : Why) → Fits c why
+    → IsTrueOf bytes why
+true_of bytes c s Text f = absurd f
+true_of bytes c s Law f = (c, s, f)
+true_of bytes c s Order f = (c, s, f)
+true_of bytes c s (Outcome code X) f = (c, s, f)
+true_of bytes c s Limit f = (c, s, f)
+true_of bytes c s Memory f = tt
+true_of bytes c s (Part n) f = (c, s, f)
+true_of bytes c s Idle f = (c, s, f)
+true_of bytes c s Undecided f = (c, s, f)
+true_of bytes c s Ray f = (c, s, f)

@@ -1,0 +1,9 @@
+mod Below
+mod Counts
+mod Rows
+mod Shown
+mod Answered
+mod Words
+mod Numbered
+mod Flat
+mod Described

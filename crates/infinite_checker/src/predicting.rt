@@ -1,0 +1,130 @@
+//! Whether a claim is seen to be right.
+ghost use Rattle.std.specs.Prelude.{◌≡◌, IsOk, IfOk, IfErr, ℕ, List};
+ghost use Rattle.misere_theory.specs.Quotients.{Monoid};
+ghost use Rattle.counted_states.specs.Numbers.{AreTestedIn};
+ghost use Rattle.tracked_claims.specs.Reads.{claim_in};
+ghost use Rattle.tracked_moves.specs.Moves.{AreMoves};
+ghost use Rattle.tracked_places.specs.Points.{ArePoints};
+ghost use Rattle.infinite_answers.specs.Answers.{FitsIn};
+ghost use Rattle.infinite_answers.specs.Refusals.{refused};
+ghost use Rattle.infinite_checker.specs.Joined.{axes_of, tables_of};
+ghost use Rattle.infinite_checker.specs.Right.{IsRightIn};
+
+use crate::joining::{axes, tables};
+use crate::laws::right_by_tables;
+use allocation::{Memory, SmallAllocator};
+use counted_states::{KeptPairs, Tables, Untested, tested_states};
+use infinite_answers::InfiniteRefusal;
+use tracked_claims::Tracked;
+use tracked_moves::{Moves, MovesFault, moves_of};
+use tracked_places::{Axes, Points, PointsFault, points_of};
+
+/// The most points, and the most places.
+const MOST_POINTS: usize = 65536;
+
+/// The most turns of the search for states.
+const MOST_TURNS: usize = 100_000_000;
+
+/// The moves of the heaps, or why there are none.
+fn listed<A: SmallAllocator + Copy>(
+    alloc: A,
+    t: &Tracked<A>,
+) -> Result<Moves<A>, InfiniteRefusal<A>>
+    ensures moves { IfOk result (λ m. Monoid t.now.order (claim_in t.now).times
+        → AreMoves t.now.code (claim_in t.now) m) }
+    ensures refused { IfErr result (λ r. (words : List (ℕ × ℕ)) → FitsIn t.now words (refused r)) }
+{
+    match moves_of(alloc, t) {
+        Ok(moves) => Ok(moves),
+        Err(MovesFault::Leaves(n)) => Err(InfiniteRefusal::Part(n)),
+        Err(MovesFault::Limit) => Err(InfiniteRefusal::Limit),
+        Err(MovesFault::Memory) => Err(InfiniteRefusal::Memory),
+    }
+}
+
+/// What the places are made of.
+fn spanned<A: SmallAllocator + Copy>(
+    alloc: A,
+    t: &Tracked<A>,
+    moves: &Moves<A>,
+) -> Result<Axes<A>, InfiniteRefusal<A>>
+    ensures axes { IfOk result (λ a. a ≡ axes_of t.now a.periods moves.now) }
+    ensures refused { IfErr result (λ r. (words : List (ℕ × ℕ)) → FitsIn t.now words (refused r)) }
+{
+    match axes(alloc, t, moves) {
+        Ok(found) => Ok(found),
+        Err(Memory) => Err(InfiniteRefusal::Memory),
+    }
+}
+
+/// The points and places.
+fn placed<A: SmallAllocator + Copy>(
+    alloc: A,
+    t: &Tracked<A>,
+    axes: &Axes<A>,
+) -> Result<Points<A>, InfiniteRefusal<A>>
+    ensures points { IfOk result (λ p. ArePoints axes.now p) }
+    ensures refused { IfErr result (λ r. (words : List (ℕ × ℕ)) → FitsIn t.now words (refused r)) }
+{
+    let _ = t;
+    match points_of(alloc, axes, MOST_POINTS) {
+        Ok(points) => Ok(points),
+        Err(PointsFault::Limit) => Err(InfiniteRefusal::Limit),
+        Err(PointsFault::Memory) => Err(InfiniteRefusal::Memory),
+    }
+}
+
+/// All tables together.
+fn joined<A: SmallAllocator + Copy>(
+    alloc: A,
+    t: &Tracked<A>,
+    moves: Moves<A>,
+    points: Points<A>,
+) -> Result<Tables<A>, InfiniteRefusal<A>>
+    ensures tables { IfOk result (λ u. u ≡ tables_of t.now moves points u.reach) }
+    ensures refused { IfErr result (λ r. (words : List (ℕ × ℕ)) → FitsIn t.now words (refused r)) }
+{
+    match tables(alloc, t, moves, points) {
+        Ok(Some(made)) => Ok(made),
+        Ok(None) => Err(InfiniteRefusal::Limit),
+        Err(Memory) => Err(InfiniteRefusal::Memory),
+    }
+}
+
+/// States that pass the test.
+fn kept<A: SmallAllocator + Copy>(
+    alloc: A,
+    t: &Tracked<A>,
+    tables: &Tables<A>,
+    limit: u32,
+) -> Result<KeptPairs<A>, InfiniteRefusal<A>>
+    ensures kept { IfOk result (λ k. AreTestedIn tables.now k) }
+    ensures refused { IfErr result (λ r. (words : List (ℕ × ℕ)) → FitsIn t.now words (refused r)) }
+{
+    let _ = t;
+    match tested_states(alloc, tables, limit as usize, MOST_TURNS) {
+        Ok(kept) => Ok(kept),
+        Err(Untested::Limit) => Err(InfiniteRefusal::Limit),
+        Err(Untested::Memory(_)) => Err(InfiniteRefusal::Memory),
+        Err(_) => Err(InfiniteRefusal::Undecided),
+    }
+}
+
+/// Whether the claim is seen to be right: at most so many pairs are kept.
+pub(crate) fn predicted<A: SmallAllocator + Copy>(
+    alloc: A,
+    t: &Tracked<A>,
+    limit: u32,
+) -> Result<(), InfiniteRefusal<A>>
+    requires { Monoid t.now.order (claim_in t.now).times }
+    ensures right { IsOk result → IsRightIn t.now }
+    ensures refused { IfErr result (λ r. (words : List (ℕ × ℕ)) → FitsIn t.now words (refused r)) }
+{
+    right_by_tables();
+    let moves = listed(alloc, t)?;
+    let axes = spanned(alloc, t, &moves)?;
+    let points = placed(alloc, t, &axes)?;
+    let tables = joined(alloc, t, moves, points)?;
+    kept(alloc, t, &tables, limit)?;
+    Ok(())
+}

@@ -1,0 +1,4 @@
+pub mod Loop
+pub mod Elements
+pub mod MadeRows
+pub mod Assembled

@@ -1,0 +1,73 @@
+//! The lines before the tracks.
+ghost use Rattle.std.specs.Prelude.{◌≡◌, ◌≤◌, ◌<◌, IfOk, length};
+ghost use Rattle.misere_theory.specs.declared.TheConstants.{LARGEST_ORDER};
+ghost use Rattle.certificate.specs.Given.{Gives};
+ghost use Rattle.certificate_text.specs.Reading.{code_line_at};
+ghost use Rattle.tracked_text.specs.declared.TheConstants.{MOST_HEAPS};
+ghost use Rattle.tracked_text.specs.Reading.{numbers_at, elements_at};
+
+use crate::heaps::has_element;
+use crate::lines::{element_line, field};
+use crate::reader::Reader;
+use certificate::TextFault;
+use misere_theory::LARGEST_ORDER;
+use octal_code::Code;
+use std::alloc::Allocator;
+use tracked_text::MOST_HEAPS;
+
+/// The code, the number of heaps and the order.
+#[derive(Clone, Copy)]
+pub struct Front {
+    pub code: Code,
+    pub heaps: u16,
+    pub order: u16,
+}
+
+/// The code up to the end of its line.
+fn code_line(reader: &mut Reader<'_>) -> Result<Code, TextFault>
+    ensures { Gives (λ x. (x, reader.new)) result (code_line_at reader.old) }
+{
+    certificate_text::code_lines_are_codes();
+    let Some(line) = reader.line() else {
+        return Err(TextFault::Text);
+    };
+    match Code::read(line) {
+        Ok(code) => Ok(code),
+        Err(_) => Err(TextFault::Text),
+    }
+}
+
+/// The lines up to the order.
+#[tactic(auto, unfolding(tracked_text::specs::Reading::numbers_at))]
+pub fn number_lines(reader: &mut Reader<'_>) -> Result<Front, TextFault>
+    ensures read { Gives (λ x. ((x.code, x.heaps, x.order), reader.new)) result
+        (numbers_at reader.old) }
+    ensures heaps { IfOk result (λ x. (1 ≤ x.heaps) × (x.heaps ≤ MOST_HEAPS)) }
+    ensures order { IfOk result (λ x. (1 ≤ x.order) × (x.order ≤ LARGEST_ORDER)) }
+{
+    reader.fixed(b"mqi 1\ncode ")?;
+    let code = code_line(reader)?;
+    let heaps = field(reader, b"heaps", 1, MOST_HEAPS + 1)?;
+    let order = field(reader, b"order", 1, LARGEST_ORDER + 1)?;
+    Ok(Front { code, heaps, order })
+}
+
+/// The elements of the heaps, of which the last has one.
+#[tactic(auto, unfolding(tracked_text::specs::Reading::elements_at))]
+pub fn elements<A: Allocator>(
+    alloc: A,
+    reader: &mut Reader<'_>,
+    order: u16,
+    heaps: u16,
+) -> Result<Vec<Option<u16>, A>, TextFault>
+    requires { 0 < order }
+    ensures read { Gives (λ x. (x.items, reader.new)) result (elements_at order heaps reader.old) }
+    ensures long { IfOk result (λ x. length x.items ≡ heaps) }
+{
+    let found = element_line(alloc, reader, heaps, order)?;
+    if has_element(&found, heaps) {
+        Ok(found)
+    } else {
+        Err(TextFault::Text)
+    }
+}

@@ -1,0 +1,27 @@
+//! Certificates with tracks: how they are read from bytes.
+//!
+//! Which bytes spell which certificate is said in the crate tracked_text.
+#![tactic(auto)]
+
+mod complete;
+mod front;
+mod heaps;
+mod lines;
+mod listing;
+mod numbers;
+mod parts;
+mod places;
+mod reader;
+mod reading;
+mod regions;
+mod rows;
+#[cfg(test)]
+mod tests;
+mod text;
+mod tracks;
+mod weight;
+mod words;
+
+pub use certificate::{Key, TextFault};
+pub use reading::read;
+pub use text::TrackedText;

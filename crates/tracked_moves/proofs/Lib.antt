@@ -1,0 +1,5 @@
+mod Below
+mod Lists
+mod Rows
+mod Spoken
+mod Walked

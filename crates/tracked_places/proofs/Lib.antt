@@ -1,0 +1,5 @@
+pub mod Below
+pub mod Listed
+pub mod OneTrack
+pub mod Pieces
+pub mod Right

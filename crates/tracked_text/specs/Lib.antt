@@ -1,0 +1,4 @@
+pub mod Said
+pub mod Shape
+pub mod Spelling
+pub mod Reading
