@@ -26,6 +26,11 @@ fn numbers() -> [u64; 1000] {
     numbers
 }
 
+/// The first hundred of the numbers.
+fn hundred(numbers: &[u64]) -> &[u64] {
+    numbers.get(..100).unwrap_or(numbers)
+}
+
 /// What is told before a call.
 const UNTOLD: MisereAnswer = MisereAnswer {
     kind: 7,
@@ -123,7 +128,7 @@ fn by_opened(alloc: Global, opened: &mut Opened, numbers: &[u64]) -> [usize; 6] 
 #[test]
 fn a_thousand_positions_are_told(rt: HostRuntime) {
     let (alloc, numbers) = (rt.alloc(), numbers());
-    assert!(&rt; by_bytes(alloc, &numbers[..100]) == [0, 0, 0, 100, 100, 100]);
+    assert!(&rt; by_bytes(alloc, hundred(&numbers)) == [0, 0, 0, 100, 100, 100]);
     assert!(&rt; by_bytes(alloc, &numbers) == [0, 0, 0, 1000, 1000, 1000]);
 }
 
@@ -132,6 +137,6 @@ fn a_thousand_positions_are_told_of_what_is_opened(rt: HostRuntime) {
     let (alloc, numbers) = (rt.alloc(), numbers());
     let mut opened = Opened::closed(alloc);
     assert_eq!(&rt; misere_open(alloc, BYTES, LIMIT, &mut opened), 0);
-    assert!(&rt; by_opened(alloc, &mut opened, &numbers[..100]) == [0, 0, 0, 100, 100, 100]);
+    assert!(&rt; by_opened(alloc, &mut opened, hundred(&numbers)) == [0, 0, 0, 100, 100, 100]);
     assert!(&rt; by_opened(alloc, &mut opened, &numbers) == [0, 0, 0, 1000, 1000, 1000]);
 }
