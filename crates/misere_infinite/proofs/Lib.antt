@@ -1,0 +1,3 @@
+mod LeftOut
+mod Told
+mod Whole
