@@ -18,7 +18,7 @@ from collections.abc import Iterable, Iterator
 here = pathlib.Path(__file__).resolve().parent
 sys.path.insert(0, str(here.parent / "scripts"))
 
-HEAD = "From Ravenargent Require Import Main.\nOpen Scope N_scope.\n"
+HEAD = "From Ravenargent Require Import Main InfiniteRight.\nOpen Scope N_scope.\n"
 CLOSED = "Closed under the global context"
 
 
@@ -31,8 +31,15 @@ class Text:
     right: bool = True
 
     @property
+    def is_infinite(self) -> bool:
+        """A text with tracks: what it shows is that a quotient is infinite."""
+        return self.text.startswith(b"mqi ")
+
+    @property
     def theorem(self) -> str:
-        return ("quotient_of_" if self.right else "refused_") + self.name
+        if not self.right:
+            return "refused_" + self.name
+        return ("infinite_" if self.is_infinite else "quotient_of_") + self.name
 
     def line(self, name: str, otherwise: str) -> str:
         found = re.search(rf"^{name} (.*)$", self.text.decode("latin-1"), re.M)
@@ -45,6 +52,9 @@ class Text:
     @property
     def last_heap(self) -> int:
         """0 for a full certificate."""
+        if self.is_infinite:
+            heaps = self.line("heaps", "0")
+            return int(heaps) if heaps.isdecimal() else 0
         start, period = self.line("start", "0"), self.line("period", "1")
         return int(start) - 1 if period == "0" and start.isdecimal() else 0
 
@@ -52,10 +62,16 @@ class Text:
         """The text as Coq has it, and the theorem."""
         text = f"\nDefinition text_of_{self.name} : text := {literal(self.text)}.\n\n"
         if not self.right:
-            said = f"Theorem {self.theorem} : accepts text_of_{self.name} = false.\n"
+            accepts = "accepts_infinite" if self.is_infinite else "accepts"
+            said = f"Theorem {self.theorem} : {accepts} text_of_{self.name} = false.\n"
             return text + said + "Proof. vm_cast_no_check (eq_refl false). Time Qed.\n"
-        kind = f"(UpTo {self.last_heap})" if self.last_heap else "Whole"
         digits = "; ".join(str(int(digit, 16)) for digit in re.sub(r"[^0-9a-f]", "", self.code))
+        if self.is_infinite:
+            game = f"[{digits}] {self.last_heap}"
+            said = f"Theorem {self.theorem} : infinite {game} /\\ no_finite_quotient {game}.\n"
+            proof = f"apply (check_infinite_sound text_of_{self.name}). vm_cast_no_check (eq_refl true)"
+            return text + said + f"Proof. {proof}. Time Qed.\n"
+        kind = f"(UpTo {self.last_heap})" if self.last_heap else "Whole"
         said = f"Theorem {self.theorem} : certifies text_of_{self.name} {kind} [{digits}].\n"
         return text + said + "Proof. apply check_sound. vm_cast_no_check (eq_refl true). Time Qed.\n"
 
@@ -81,7 +97,7 @@ def in_folder(folder: pathlib.Path, right: bool) -> list[Text]:
     return [
         Text(re.sub(r"\W", "_", file.stem), file.read_bytes(), right)
         for file in sorted(folder.iterdir())
-        if file.suffix == ".mqc"
+        if file.suffix in (".mqc", ".mqi")
     ]
 
 
