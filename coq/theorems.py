@@ -1,4 +1,4 @@
-"""Coq files with a theorem about the bytes of each certificate, and what Coq says of them.
+"""Coq files with a theorem of each certificate, and what Coq says of them.
 
 Nothing of this is trusted: the bytes, the code and the heaps of which it speaks stand in each theorem, and Coq refuses
 one that isn't so.
@@ -92,12 +92,12 @@ def certificate(text: bytes) -> Text:
     return Text(name_of(it.code, it.last_heap), text)
 
 
-def in_folder(folder: pathlib.Path, right: bool) -> list[Text]:
-    """The texts of a folder by the names of their files."""
+def in_folder(folder: pathlib.Path, right: bool, tails: tuple[str, ...]) -> list[Text]:
+    """The texts of a folder whose files' names end so, by these names."""
     return [
         Text(re.sub(r"\W", "_", file.stem), file.read_bytes(), right)
         for file in sorted(folder.iterdir())
-        if file.suffix in (".mqc", ".mqi")
+        if file.suffix in tails
     ]
 
 
