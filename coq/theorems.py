@@ -18,13 +18,13 @@ from collections.abc import Iterable, Iterator
 here = pathlib.Path(__file__).resolve().parent
 sys.path.insert(0, str(here.parent / "scripts"))
 
-HEAD = "From Ravenargent Require Import Main InfiniteRight.\nOpen Scope N_scope.\n"
+HEAD = "From Ravenargent Require Import Main Converse InfiniteRight.\nOpen Scope N_scope.\n"
 CLOSED = "Closed under the global context"
 
 
 @dataclasses.dataclass(frozen=True)
 class Text:
-    """A text, the name that it has in Coq, and whether the theorem is that it is accepted, or that it is refused."""
+    """A text, the name that it has in Coq, and whether the theorem is that it certifies a game, or that it doesn't."""
 
     name: str
     text: bytes
@@ -61,10 +61,12 @@ class Text:
     def source(self) -> str:
         """The text as Coq has it, and the theorem."""
         text = f"\nDefinition text_of_{self.name} : text := {literal(self.text)}.\n\n"
-        if not self.right:
-            accepts = "accepts_infinite" if self.is_infinite else "accepts"
-            said = f"Theorem {self.theorem} : {accepts} text_of_{self.name} = false.\n"
+        if not self.right and self.is_infinite:
+            said = f"Theorem {self.theorem} : accepts_infinite text_of_{self.name} = false.\n"
             return text + said + "Proof. vm_cast_no_check (eq_refl false). Time Qed.\n"
+        if not self.right:
+            said = f"Theorem {self.theorem} : forall k g, ~ certifies text_of_{self.name} k g.\n"
+            return text + said + "Proof. apply refused_right. vm_cast_no_check (eq_refl false). Time Qed.\n"
         digits = "; ".join(str(int(digit, 16)) for digit in re.sub(r"[^0-9a-f]", "", self.code))
         if self.is_infinite:
             game = f"[{digits}] {self.last_heap}"
