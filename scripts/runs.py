@@ -135,9 +135,18 @@ def run(words: Sequence[str], stdin: bytes = b"", folder: str = ".", seconds: fl
     return Runs().run(words, stdin, folder, seconds)
 
 
-def best(words: Sequence[str], count: int, stdin: bytes = b"", folder: str = ".") -> Run:
-    """Of so many runs the least times and the most memory, with what the last one printed."""
-    made = [run(words, stdin, folder) for _ in range(count)]
+def best_of(made: Sequence[Run]) -> Run:
+    """Of some runs of one command the least times and the most memory, with what the last one printed."""
     last = made[-1]
     wall, seconds = min(it.wall for it in made), min(it.seconds for it in made)
     return Run(last.status, last.printed, last.told, wall, seconds, max(it.peak for it in made))
+
+
+def best(words: Sequence[str], count: int, stdin: bytes = b"", folder: str = ".") -> Run:
+    """The best of so many runs."""
+    return best_of([run(words, stdin, folder) for _ in range(count)])
+
+
+def best_in_turn(commands: Sequence[Sequence[str]], count: int) -> list[Run]:
+    """The best of so many runs of each command. They take turns, so that what else the machine does falls on all."""
+    return [best_of(made) for made in zip(*([run(words) for words in commands] for _ in range(count)))]
