@@ -3,20 +3,21 @@
 import {fill, make} from "../dom.js";
 
 const GAMES =
-    "In an octal or hexadecimal game each digit of the code says what may be left of a heap where as many tokens " +
-    "are taken. In misère play, whoever makes the last move loses. A misère quotient is a finite commutative monoid " +
-    "with an element for each heap and a portion 𝒫: a position is lost for whoever is to move exactly where the " +
+    "In an octal or hexadecimal game each digit of the code says what may be left of a heap if as many tokens are " +
+    "taken. In misère play the player who makes the last move loses. A misère quotient is a finite commutative " +
+    "monoid with an element for each heap and a portion 𝒫: a position is lost for the player to move exactly if the " +
     "product of its heaps lies in 𝒫.";
 
 const PROVED = [
   "Where the checker says yes to a full certificate, its portion predicts the misère outcome of every position of " +
       "the game, of any number of heaps of any size, and its monoid is the misère quotient. There is no premise.",
   "Of a partial one it says so of the positions whose heaps are at most its last one.",
-  "A no is true of the bytes: the fault that is named stands in them.",
+  "A no is true of the bytes: the fault that is named is there.",
   "The relations, words, units, idempotents and kernel of a description are those of the certified quotient. The " +
       "outcome of a position, its element and its first winning move are true.",
-  "What the finder hands out is accepted by the checker. Where it finds nothing, nothing is proved.",
-  "For each certificate of the atlas Coq, another prover, has proved the same, without axioms; the page doesn’t run it.",
+  "What the finder hands out is accepted by the checker. If it finds nothing, nothing is proved.",
+  "For each certificate of the atlas Coq, another prover, has proved the same, without axioms; the page doesn’t run " +
+      "it.",
 ];
 
 const TRUSTED = [
@@ -28,7 +29,7 @@ const TRUSTED = [
   "What the page draws. Its rules in words, its moves, its words for elements beyond those of a description, its " +
       "components and its pictures are its own reading of a certificate.",
   "Which quotients are isomorphic, and which are tame in the list of the atlas: both were worked out when the page " +
-      "was made. (A game’s page works out anew whether it is tame.)",
+      "was made. (A game’s page works out again whether it is tame.)",
 ];
 
 /**
