@@ -1,18 +1,18 @@
 /* misere.h: certified misere quotients of octal and hexadecimal games.
  *
- * A certificate is a short text. A call that is given one checks it anew, so nothing has to be kept:
- * whatever it tells has the checker's theorem behind it. For many questions misere_open checks the
- * bytes once, and what it opens keeps the theorem.
+ * A certificate is a short text. A call that is given one checks it first, so nothing has to be kept,
+ * and the checker's theorem holds for all that the call writes. For many questions misere_open checks
+ * the bytes once, and what it opens keeps the theorem.
  *
  * Memory. The caller owns all that he passes; the library keeps no pointer after a call, and frees
- * all that it took (by malloc, realloc and free), but for what is opened until it is closed. A call
- * that does not answer MISERE_YES leaves what it could have told as it was, but for those that say
- * otherwise.
+ * all that it took (by malloc, realloc and free), but for what is opened until it is closed. Results
+ * are written where `told` points. A call that does not answer MISERE_YES writes nothing there, but
+ * for those that say otherwise.
  * Threads. There is no state: any number of calls may run at once, in any threads, if no two of them
  * are given the same misere_opened. Not from a signal handler, nor in a child forked off a process
  * with threads.
- * Pointers. They are not null, also where the length is 0, and what is told into overlaps nothing
- * that is given. Nothing checks that a length is that of the memory. */
+ * Pointers. They are not null, also if the length is 0, and what is written overlaps nothing that is
+ * given. Nothing checks that a length is that of the memory. */
 #ifndef MISERE_H
 #define MISERE_H
 
@@ -23,10 +23,10 @@
 extern "C" {
 #endif
 
-/* The version of these calls, which misere_version answers. It rises where one of them changes. */
+/* The version of these calls, which misere_version answers. It rises if one of them changes. */
 #define MISERE_VERSION 1
 
-/* What the closure of a check may keep, where nobody asks for more or less. */
+/* What the closure of a check may keep, if nobody asks for more or less. */
 #define MISERE_LIMIT 100000
 
 /* A status. 1 to 9 are the checker's refusals, each true of the bytes (LIMIT_MET: of the limit). */
@@ -45,7 +45,7 @@ enum {
     MISERE_NOT_ENDS = 11,     /* the ends do not cut the heaps into as many positions as there is room for */
     MISERE_NOT_A_CODE = 12,   /* the text is no code */
     MISERE_GAVE_UP = 13,      /* no certificate was found */
-    MISERE_NO_ROOM = 14,      /* what would be told is longer than the room for it */
+    MISERE_NO_ROOM = 14,      /* the result is longer than the room for it */
     MISERE_NOT_IN_RANGE = 15, /* a bound of the search, or a choice, is out of its range */
     MISERE_NOT_DESCRIBED = 16, /* the quotient is not described within the bounds */
     MISERE_NOT_OPEN = 17,     /* nothing is opened there */
@@ -68,8 +68,8 @@ uint32_t misere_version(void);
 /* Whether the bytes are an accepted certificate. */
 uint32_t misere_check(const uint8_t *bytes, size_t length, uint32_t limit);
 
-/* Who wins the position of these heaps under misere play, in *told: MISERE_P where the player who
- * has just moved does, MISERE_N where the next one does. */
+/* Who wins the position of these heaps under misere play, in *told: MISERE_P if the player who has
+ * just moved does, MISERE_N if the next one does. */
 uint32_t misere_outcome(const uint8_t *bytes, size_t length, uint32_t limit,
                         const uint64_t *heaps, size_t count, uint32_t *told);
 
@@ -83,27 +83,27 @@ uint32_t misere_answer(const uint8_t *bytes, size_t length, uint32_t limit,
 
 /* The outcome of each of many positions, by one check: of the heaps before ends[0], of those from
  * there to before ends[1], and so on. There is room for `room` outcomes, which is as many as ends.
- * All the heaps are looked at, also those behind the last end. */
+ * All the heaps are looked at, also those after the last end. */
 uint32_t misere_outcomes(const uint8_t *bytes, size_t length, uint32_t limit,
                          const uint64_t *heaps, size_t count, const uint64_t *ends, size_t positions,
                          uint32_t *told, size_t room);
 
-/* The element of each of many positions, which stand in the same way. */
+/* The element of each of many positions, which are given in the same way. */
 uint32_t misere_values(const uint8_t *bytes, size_t length, uint32_t limit,
                        const uint64_t *heaps, size_t count, const uint64_t *ends, size_t positions,
                        uint32_t *told, size_t room);
 
-/* The first winning move in each of many positions, which stand in the same way. */
+/* The first winning move in each of many positions, which are given in the same way. */
 uint32_t misere_answers(const uint8_t *bytes, size_t length, uint32_t limit,
                         const uint64_t *heaps, size_t count, const uint64_t *ends, size_t positions,
                         misere_move *told, size_t room);
 
-/* Checks the bytes as misere_check does. With MISERE_OUTCOME it tells in *count how many heaps the
- * position has at which the rule fails, and, if there is room for them, which. */
+/* Checks the bytes as misere_check does. With MISERE_OUTCOME it writes to *count how many heaps the
+ * position has at which the rule fails, and, if there is room for them, to told which. */
 uint32_t misere_failure(const uint8_t *bytes, size_t length, uint32_t limit,
                         uint64_t *told, size_t room, uint64_t *count);
 
-/* How far a search goes, where nobody asks for more or less. */
+/* How far a search goes, if nobody asks for more or less. */
 #define MISERE_ROUNDS 64
 #define MISERE_HEAPS 24
 #define MISERE_ELEMENTS 64
@@ -120,37 +120,37 @@ uint32_t misere_failure(const uint8_t *bytes, size_t length, uint32_t limit,
  * 8210; of the heaps 1 to `heaps`, 1 to 1024; or of the most first heaps, whatever `heaps`. */
 enum { MISERE_WHOLE = 0, MISERE_PART = 1, MISERE_FURTHEST = 2 };
 
-/* Looks for a quotient of the game of a code, such as "0.33", and tells the bytes of its certificate,
- * which is accepted, and in *count how many they are. With MISERE_NO_ROOM it tells *count alone. The
- * limit is 1 to 1000000, the rounds 1 to 1000, the order 2 to 4096, but of the whole game by at most
+/* Looks for a quotient of the game of a code, such as "0.33". It writes the bytes of its certificate,
+ * which is accepted, and to *count how many they are; with MISERE_NO_ROOM *count alone. The limit is
+ * 1 to 1000000, the rounds 1 to 1000, the order 2 to 4096, but of the whole game by at most
  * 64 heaps 2 to 256. */
 uint32_t misere_solve(const uint8_t *code, size_t length, uint32_t limit, uint32_t rounds,
                       uint32_t aim, uint32_t heaps, uint32_t order, uint8_t *told, size_t room,
                       uint64_t *count);
 
-/* As misere_solve. But with MISERE_GAVE_UP it tells how the search was given up, with the reason: the
+/* As misere_solve. But with MISERE_GAVE_UP it writes how the search was given up, with the reason: the
  * lines of `misere solve CODE --why`, such as "gave up 2 Empty" and "no period 24 24", each with its
- * end, and in *count how many bytes they are. They too need room. */
+ * end, and to *count how many bytes they are. They need room too. */
 uint32_t misere_solve_why(const uint8_t *code, size_t length, uint32_t limit, uint32_t rounds,
                           uint32_t aim, uint32_t heaps, uint32_t order, uint8_t *told, size_t room,
                           uint64_t *count);
 
-/* What is told of a quotient, and by which relations. */
+/* What is written of a quotient, and by which relations. */
 enum { MISERE_DESCRIPTION = 0, MISERE_LATEX = 1, MISERE_RELATIONS = 2 };
 enum { MISERE_SHORT = 0, MISERE_BASIS = 1 };
 
-/* Tells the description of the quotient that the bytes certify, or its relations as one word, and in
- * *count how many bytes it has. With MISERE_NO_ROOM it tells *count alone. */
+/* Writes the description of the quotient that the bytes certify, or its relations as one word, and to
+ * *count how many bytes it has; with MISERE_NO_ROOM *count alone. */
 uint32_t misere_describe(const uint8_t *bytes, size_t length, uint32_t limit, uint32_t output,
                          uint32_t form, uint8_t *told, size_t room, uint64_t *count);
 
-/* One owner of an opened quotient. It begins as MISERE_CLOSED, and the calls alone write in it. One
- * call at a time is given it; it may go on to another thread. For a second thread misere_share makes
- * a second owner: the certificate is kept once, and the last owner that is closed frees it.
+/* One owner of an opened quotient. It begins as MISERE_CLOSED, and only the calls write to it. It may
+ * be passed to one call at a time, and may go on to another thread. For a second thread misere_share
+ * makes a second owner: the certificate is kept once, and the last owner that is closed frees it.
  *
- * A call on what is closed answers MISERE_NOT_OPEN. But a copy of the struct owns nothing: whoever
- * passes a copy after what it is of was given to misere_close, misere_open or misere_share as the one
- * to be told, has what a pointer to freed memory has. */
+ * A call on what is closed answers MISERE_NOT_OPEN. Do not copy the struct. A copy is not an owner:
+ * once the original was closed, or passed as `told` to misere_open or misere_share again, to use the
+ * copy is to use freed memory. */
 typedef struct {
     uint64_t full; /* 0 where nothing is opened */
     void *kept;

@@ -3,7 +3,7 @@
  *
  *     const misere = new Misere(new WebAssembly.Module(bytes));
  *     misere.check(certificate);                     // throws Refused where it isn't accepted
- *     misere.outcome(certificate, [2, 10n ** 12n]);  // 0: lost for whoever is to move; 1: won
+ *     misere.outcome(certificate, [2, 10n ** 12n]);  // 0: lost for the player to move; 1: won
  *
  * Each call checks the certificate anew, and keeps nothing: what misere_open opens would be lost with an instance that
  * failed, so that call and its kin stand in the module and not here. What is thrown as `Refused` is an answer of the

@@ -2,7 +2,7 @@
 // question.
 
 /**
- * No answer: `stopped` by whoever asked; `refused` by a call of the library, with its status; or `failed`, which is
+ * No answer: `stopped` by the one who asked; `refused` by a call of the library, with its status; or `failed`, which is
  * never a verdict.
  */
 export class Failure extends Error {

@@ -6,7 +6,7 @@ import {make} from "./dom.js";
 export const TERMS = {
   "Order":
       "How many elements the quotient has. Each is a class of positions that behave alike beside any other position.",
-  "Portion": "The 𝒫-portion: the elements whose positions are lost for whoever is to move (P-positions).",
+  "Portion": "The 𝒫-portion: the elements whose positions are lost for the player to move (P-positions).",
   "Kind":
       "Tame 𝑛: the quotient is T𝑛, which is one of Nim’s: of Nim with heaps of up to 1 for T1, up to 3 for T2, up to " +
       "7 for T3, and so on. Wild: it is none of these.",

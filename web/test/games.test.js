@@ -24,7 +24,7 @@ const misere = newMisere();
 const games = atlas.map((it) => ({...it, certificate: fieldsOf(new TextDecoder().decode(it.bytes))}));
 
 /**
- * Whether whoever is to move wins a position, by a search of all plays that knows the code alone.
+ * Whether the player to move wins a position, by a search of all plays that knows the code alone.
  * @param {string} code
  */
 function searched(code) {

@@ -63,6 +63,6 @@ async function saidOf(page, {name, bytes, words}, heaps) {
 
 /** @param {{kind: string, heap: bigint, left: bigint[]}} answer */
 function outcomeOf(answer) {
-  if (answer.kind === "ended") return "N: no move is left, so whoever moved last has lost.";
-  return answer.kind === "lost" ? "P: lost for whoever is to move." : `N: won by ${arrowOf(answer)}.`;
+  if (answer.kind === "ended") return "N: no move is left, so the player to move wins.";
+  return answer.kind === "lost" ? "P: lost for the player to move." : `N: won by ${arrowOf(answer)}.`;
 }

@@ -44,7 +44,7 @@ function tableOf({certificate, words}, columns, count) {
   const cell = (/** @type {number} */ element, /** @type {number} */ at) => {
     const isLost = portion.has(element);
     const kinds = [isLost && "p", period && at + 1 >= start && "period"].filter(Boolean).join(" ");
-    const title = `heap ${at + 1}${isLost ? ", lost for whoever is to move" : ""}`;
+    const title = `heap ${at + 1}${isLost ? ", lost for the player to move" : ""}`;
     return make("td", {class: kinds, title}, word(words[element]));
   };
   const cells = phi.slice(0, count).map(cell);
@@ -68,5 +68,5 @@ function keyOf(certificate) {
       ] :
       [`Of larger heaps than ${last} nothing is told.`];
   return make(
-      "p", {class: "key"}, make("span", {class: "mark p"}, "Blue:"), " in 𝒫, lost for whoever is to move. ", reach);
+      "p", {class: "key"}, make("span", {class: "mark p"}, "Blue:"), " in 𝒫, lost for the player to move. ", reach);
 }

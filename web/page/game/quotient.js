@@ -14,7 +14,7 @@ export function ruleSection({certificate: {code}}) {
   const rule = ruleOf(code).map((it) => make("li", {}, it));
   return make(
       "section", {}, make("h2", {}, "The rule"), make("ul", {class: "rule"}, rule),
-      make("p", {}, "Whoever makes the last move loses."));
+      make("p", {}, "The player who makes the last move loses."));
 }
 
 /** @param {Game} game */

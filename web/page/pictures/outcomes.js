@@ -26,7 +26,7 @@ export function outcomePicture(page, {bytes, certificate}) {
 
 /**
  * @param {number} side
- * @param {Uint32Array} outcomes 0 where the position is lost for whoever is to move
+ * @param {Uint32Array} outcomes 0 where the position is lost for the player to move
  */
 function drawn(side, outcomes) {
   const cells = [...outcomes.keys()]
@@ -38,9 +38,9 @@ function drawn(side, outcomes) {
       draw("path", {class: "lost", d: cells.join("")})));
   const said = (/** @type {number} */ column, /** @type {number} */ row) => {
     const isLost = outcomes[row * side + column] === 0;
-    return [`Heaps ${column} and ${row}: ${isLost ? "P, lost for whoever is to move." : "N, won."}`];
+    return [`Heaps ${column} and ${row}: ${isLost ? "P, lost for the player to move." : "N, won."}`];
   };
-  return gridPicture(svg, side, `Two heaps, each of 0 to ${side - 1}: blue where whoever is to move has lost.`, said);
+  return gridPicture(svg, side, `Two heaps, each of 0 to ${side - 1}: blue if the player to move loses.`, said);
 }
 
 /**

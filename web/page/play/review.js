@@ -37,7 +37,7 @@ export function review(page, bytes, session) {
 
 /**
  * @param {Session} session
- * @param {boolean[]} areLost whether each position is lost for whoever is to move there
+ * @param {boolean[]} areLost whether each position is lost for the player to move there
  */
 function tableOf({name, turns, positions}, areLost) {
   const heads = ["", "Who", "Move", "Position", "Outcome", ""].map((text) => make("th", {scope: "col"}, text));
@@ -50,12 +50,12 @@ function tableOf({name, turns, positions}, areLost) {
     ];
     return make("tr", {class: areLost[at] ? "p" : ""}, cells.map((cell) => make("td", {}, cell)));
   });
-  const key = make("p", {class: "soft"}, "P: lost for whoever is to move there. N: won.");
+  const key = make("p", {class: "soft"}, "P: lost for the player to move there. N: won.");
   return make("div", {}, make("table", {}, make("thead", {}, make("tr", {}, heads)), make("tbody", {}, rows)), key);
 }
 
 /**
- * @param {boolean} wasLost whether the position before the move was lost for whoever made it
+ * @param {boolean} wasLost whether the position before the move was lost for the player who made it
  * @param {boolean} isLost whether the one behind it is for the other
  */
 function remark(wasLost, isLost) {

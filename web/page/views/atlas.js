@@ -58,7 +58,7 @@ export async function atlasView(page, root, word) {
 /** @param {import("../atlas.js").Atlas} atlas */
 function introductionOf({entries, quotients, classes}) {
   return `The misère quotients of ${entries.length} octal and hexadecimal games. ` +
-      "In misère play, whoever makes the last move loses. " +
+      "In misère play the player who makes the last move loses. " +
       `There are ${quotients.length} quotients, told apart by the elements of their heaps too, ` +
       `and ${classes.size} bipartite monoids up to isomorphism, as a script counted when this page was made.`;
 }

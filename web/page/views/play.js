@@ -31,7 +31,7 @@ export async function playView(page, root, word) {
     const {name, heaps, first} = Object.fromEntries(new FormData(setup));
     return begin(page, board, String(name).trim(), String(heaps), first === "program" ? "program" : "you");
   });
-  const rule = make("strong", {}, "whoever makes the last move loses");
+  const rule = make("strong", {}, "the player who makes the last move loses");
   fill(root, make("h1", {}, "Play"), make("p", {}, "Each in turn makes a move, and ", rule, HOW), setup, board);
   await begin(page, board, name, heaps, null);
 }

@@ -34,7 +34,7 @@ def drive(it, program, steps):
     said = to_its_end(it)
     moves = it.texts(LOG)
     loser = "You" if "the program has won" in said else "Program"
-    steps.expect("whoever makes the last move loses", moves[-1].startswith(loser), f"{said} {'; '.join(moves)}")
+    steps.expect("the player who makes the last move loses", moves[-1].startswith(loser), f"{said} {'; '.join(moves)}")
     reviewed(it, program, steps)
     it.go("#play=0.33:2,3")
     said = to_its_end(it, by_hints=True)
