@@ -189,11 +189,13 @@ class Quotient:
 
     def singular(self, basis: bool = False) -> str:
         """Commands of Singular that make the ideal of the relations, or it raises NotDescribed. Its monomials are ordered
-        as those of `basis` are, so that this is the reduced Gröbner basis there too."""
+        as those of `basis` are, so that this is the reduced Gröbner basis there too. (`misere describe --singular`
+        prints the same ideal, in other words.)"""
         return _systems.singular_of(self._title, self._described(basis))
 
     def gap(self, basis: bool = False) -> str:
-        """Commands of GAP that make the monoid of the relations; or it raises NotDescribed."""
+        """Commands of GAP that make the monoid of the relations; or it raises NotDescribed. (`misere describe --gap`
+        prints the ideal of the relations.)"""
         return _systems.gap_of(self._title, self._described(basis))
 
     def _described(self, basis: bool = False) -> _description.Description:
