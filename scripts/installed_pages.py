@@ -28,7 +28,8 @@ def installed(text: str, source: str, places: Mapping[str, str], data: str) -> s
         leads = posixpath.relpath(place, posixpath.dirname(places[source]))
         return f"{image}[{name}]({leads}{mark}{heading})"
 
-    text = LINK.sub(linked, text).replace("./misere ", "misere ")
+    # (what a clone alone has stays as it is)
+    text = re.sub(r"\./misere (?!infinite)", "misere ", LINK.sub(linked, text))
     text = re.sub(r'src="([^":]+)"', lambda it: f'src="{leading(it[1], source, places)}"', text)
     # (what a command sends to other hosts stands there as in the repository)
     lines = (line if "--pipe" in line else NAMED.sub(lambda it: f"{data}/{it[1]}", line) for line in text.split("\n"))
