@@ -43,7 +43,7 @@ export async function aboutView({atlas, module}, root) {
       "checked here by the proved checker, compiled for the browser. Nothing is asked of a server and nothing is sent.";
   const version = document.querySelector("meta[name=version]")?.getAttribute("content");
   const bytes = module.byteLength.toLocaleString("en");
-  const size = `This is version ${version}. The module has ${bytes} bytes, and anybody who builds it gets the same ones. `;
+  const size = `This is version ${version}. The module has ${bytes} bytes, and everybody who builds it gets the same. `;
   fill(
       root, make("h1", {}, "What this page is"), make("p", {}, GAMES), make("p", {}, checked),
       make("h2", {}, "What is proved"), list(PROVED), make("h2", {}, "What is trusted"), list(TRUSTED),

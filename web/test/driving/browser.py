@@ -33,7 +33,7 @@ class Browser:
         self.driver.quit()
 
     def open(self, address="", place=None):
-        """Loads the page anew."""
+        """Loads the page again."""
         self.driver.get("about:blank")
         self.driver.get(f"{place or self.place}{address}")
 
@@ -82,13 +82,16 @@ class Browser:
 
     def picture(self, name):
         """Keeps a picture of the whole view."""
-        if not self.pictures:
-            return
+        if self.pictures:
+            (self.pictures / f"{name}.png").write_bytes(self.shot())
+
+    def shot(self, most=5000):
+        """A picture of the view, of at most so many pixels from its top."""
         time.sleep(0.4)
         wide, high = self.run("return [innerWidth, document.documentElement.scrollHeight]")
-        clip = {"x": 0, "y": 0, "width": wide, "height": min(high, 5000), "scale": 1}
+        clip = {"x": 0, "y": 0, "width": wide, "height": min(high, most), "scale": 1}
         told = self.command("Page.captureScreenshot", captureBeyondViewport=True, clip=clip)
-        (self.pictures / f"{name}.png").write_bytes(base64.b64decode(told["data"]))
+        return base64.b64decode(told["data"])
 
     def emulate(self, phone=False, **features):
         """A phone of 360 pixels, and what its user prefers, such as `prefers_color_scheme="dark"`."""

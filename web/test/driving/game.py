@@ -22,6 +22,7 @@ def drive(it, program, steps):
     described = [word for first, *words in lines if first.endswith("+") for word in words]
     steps.expect("the words of its heaps are the program's", it.run(WORDS) == described, f"{len(described)} heaps")
     it.wait(lambda: len(it.all(".grid")) == 2)
+    it.said("#answer", "N:", "P:")
     it.picture("game")
     asks(it, program, steps)
     draws(it, steps)
