@@ -18,8 +18,9 @@ from collections.abc import Iterable, Iterator
 here = pathlib.Path(__file__).resolve().parent
 sys.path.insert(0, str(here.parent / "scripts"))
 
-HEAD = "From Ravenargent Require Import Main Converse InfiniteRight.\nOpen Scope N_scope.\n"
+HEAD = "From Ravenargent Require Import Main Converse Faults Answers InfiniteRight.\nOpen Scope N_scope.\n"
 CLOSED = "Closed under the global context"
+FAULTS = ("Text", "Law", "Word", "Order", "Period", "Apart", "Outcome")  # as coq/Faults.v names what a text has
 
 
 @dataclasses.dataclass(frozen=True)
@@ -29,6 +30,7 @@ class Text:
     name: str
     text: bytes
     right: bool = True
+    fault: str = ""  # of a text that is refused, where it is said
 
     @property
     def is_infinite(self) -> bool:
@@ -64,6 +66,9 @@ class Text:
         if not self.right and self.is_infinite:
             said = f"Theorem {self.theorem} : accepts_infinite text_of_{self.name} = false.\n"
             return text + said + "Proof. vm_cast_no_check (eq_refl false). Time Qed.\n"
+        if self.fault:
+            said = f"Theorem {self.theorem} : is_true_of text_of_{self.name} {self.fault}.\n"
+            return text + said + f"Proof. apply verdict_right. vm_cast_no_check (eq_refl {self.fault}). Time Qed.\n"
         if not self.right:
             said = f"Theorem {self.theorem} : forall k g, ~ certifies text_of_{self.name} k g.\n"
             return text + said + "Proof. apply refused_right. vm_cast_no_check (eq_refl false). Time Qed.\n"
@@ -94,10 +99,15 @@ def certificate(text: bytes) -> Text:
     return Text(name_of(it.code, it.last_heap), text)
 
 
+def fault_of(name: str) -> str:
+    begin = name.split("_")[0].capitalize()
+    return begin if begin in FAULTS else ""
+
+
 def in_folder(folder: pathlib.Path, right: bool, tails: tuple[str, ...]) -> list[Text]:
-    """The texts of a folder whose files' names end so, by these names."""
+    """The texts of a folder whose files' names end so, by these names. Those of refused ones begin with their fault."""
     return [
-        Text(re.sub(r"\W", "_", file.stem), file.read_bytes(), right)
+        Text(re.sub(r"\W", "_", file.stem), file.read_bytes(), right, "" if right else fault_of(file.stem))
         for file in sorted(folder.iterdir())
         if file.suffix in tails
     ]
