@@ -1,14 +1,15 @@
-"""Two hundred wrong certificates: samples in which one line is changed, each line of them in turn."""
+"""Wrong certificates: samples in which one line is changed, each line of them in turn."""
 
 from __future__ import annotations
 
 import re
-from collections.abc import Iterator
+from collections.abc import Iterator, Sequence
 
 from theorems import Text
 from script import root
 
-SAMPLES = ("0.33", "0.75", "0.75_heaps_8", "0.b", "0.77", "0.71")
+SAMPLES = [f"certificates/{name}.mqc" for name in ("0.33", "0.75", "0.75_heaps_8", "0.b", "0.77", "0.71")]
+INFINITE_SAMPLES = [f"atlas/infinite/{name}.mqi" for name in ("0.354_heaps_5", "4.77_heaps_6", "0.005_heaps_18")]
 COUNT = 200
 
 
@@ -30,17 +31,19 @@ def changes(lines: list[str], at: int) -> Iterator[list[str]]:
         yield [*before, line.rsplit(" ", 1)[0], *after]
 
 
-def damaged_texts() -> list[Text]:
+def damaged_texts(samples: Sequence[str] = SAMPLES) -> list[Text]:
+    """Two hundred of some samples."""
     made: list[Text] = []
+    files = [root / sample for sample in samples]
     rounds = [
         [list(changes(lines, at)) for at in range(len(lines))]
-        for lines in ((root / f"certificates/{name}.mqc").read_text().splitlines() for name in SAMPLES)
+        for lines in (file.read_text().splitlines() for file in files)
     ]
     for way in range(3):
-        for name, lines in zip(SAMPLES, rounds):
+        for file, lines in zip(files, rounds):
             for at, ways in enumerate(lines):
                 if way < len(ways) and len(made) < COUNT:
                     text = "\n".join(ways[way]) + "\n"
-                    told = re.sub(r"\W", "_", name) + f"_line_{at + 1}_{way}"
+                    told = re.sub(r"\W", "_", file.stem) + f"_line_{at + 1}_{way}"
                     made.append(Text(told, text.encode(), False))
     return made

@@ -104,12 +104,12 @@ def fault_of(name: str) -> str:
     return begin if begin in FAULTS else ""
 
 
-def in_folder(folder: pathlib.Path, right: bool, tails: tuple[str, ...]) -> list[Text]:
-    """The texts of a folder whose files' names end so, by these names. Those of refused ones begin with their fault."""
+def in_folder(folder: pathlib.Path, right: bool = True) -> list[Text]:
+    """The certificates of a folder, by their files' names. Those of refused ones begin with their fault."""
     return [
         Text(re.sub(r"\W", "_", file.stem), file.read_bytes(), right, "" if right else fault_of(file.stem))
         for file in sorted(folder.iterdir())
-        if file.suffix in tails
+        if file.suffix in (".mqc", ".mqi")
     ]
 
 
