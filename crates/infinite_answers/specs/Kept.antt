@@ -1,7 +1,7 @@
 -- What is kept of an accepted certificate with tracks. This project's own.
 use Rattle.std.specs.Prelude.{◌≡◌, ℕ, List}
 use Rattle.tracked_claims.specs.Fields.{Fields}
-use Rattle.tracked_text.specs.Said.{Said, fields_of}
+use Rattle.tracked_text.specs.Said.{Said, InRanges, fields_of}
 use Rattle.infinite_answers.specs.Shown.{IsShown}
 
 -- The certificate's flat lists, and the three positions of its ray.
@@ -18,6 +18,6 @@ pub record IsKeptOf (k : Kept) (c : Said) : Type 0 where
   pub up : k.up ≡ c.up
   pub down : k.down ≡ c.down
 
--- They are those of something that is right.
+-- They are those of something that a text can say, and that is right.
 abbrev pub IsRight : Kept → Type 0
-IsRight k = (c : Said) × IsKeptOf k c × IsShown c
+IsRight k = (c : Said) × InRanges c × IsKeptOf k c × IsShown c

@@ -36,7 +36,7 @@ module _ (law : (c : Said) (step far : ℕ) → InRanges c
       (λ j. (record { claim = refl; base = refl; up = refl; down = refl }, shown_told c ranges j)) j
 
   pub is_right : (t : Told) (c : Said) → InRanges c → t ≡ told_of c → IsJudged t → IsRight (kept_of t)
-  is_right t c ranges e j = let (kept, shown) = kept_and_shown t c ranges e j in (c, kept, shown)
+  is_right t c ranges e j = let (kept, shown) = kept_and_shown t c ranges e j in (c, ranges, kept, shown)
 
   -- the same of parts that are those of the text
   pub answered_yes : (t : Told) (u : Fields) (base up down : List ℕ) (k : Kept) (c : Said)
