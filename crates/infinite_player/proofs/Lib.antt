@@ -1,0 +1,5 @@
+mod Folded
+mod InPlane
+mod Options
+mod Winning
+mod Inside
